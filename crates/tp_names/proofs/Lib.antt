@@ -1,0 +1,16 @@
+pub mod Draws
+pub mod Names
+pub mod Keeping
+pub mod Sequences
+pub mod Numbers
+pub mod Codes
+pub mod Choices
+pub mod Sites
+pub mod Counts
+pub mod Written
+pub mod Values
+pub mod Texts
+pub mod First
+pub mod Passing
+pub mod Plain
+pub mod Sames

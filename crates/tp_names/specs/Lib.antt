@@ -1,0 +1,10 @@
+pub mod Names
+pub mod Same
+pub mod Reports
+pub mod Marks
+pub mod Bytes
+pub mod Reading
+pub mod Grammar
+pub mod Scanning
+pub mod Writing
+pub mod Places
