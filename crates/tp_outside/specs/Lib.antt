@@ -1,0 +1,11 @@
+pub mod Faults
+pub mod Source
+pub mod Sink
+pub mod MemSource
+pub mod MemSink
+pub mod Story
+pub mod Disk
+pub mod Changes
+pub mod MemDisk
+pub mod Fill
+pub mod FuseDisk
