@@ -1,0 +1,85 @@
+//! The texts of bodies and of peer records: what is appended, and what is found in front of bytes.
+ghost use Rattle.std.specs.Prelude.{◌≡◌, ◌≤◌, ◌++◌, ℕ, length, IfOk, IfErr, OnOk, OnErr};
+ghost use Rattle.tp_names.specs.Grammar.{HasText, Begins, IsFaultOf, IsGrammar};
+ghost use Rattle.tp_records.specs.Bodies.{peer_bytes, body_bytes};
+ghost use Rattle.tp_records.specs.BodyReading.{peer_grammar, body_grammar};
+ghost use Rattle.tp_records.specs.Faults.{IsBodyFault};
+
+use crate::body::bytes::{read_body, write_body};
+use crate::peer::bytes::{read_peer, write_peer_record};
+use crate::{Body, PeerRecord};
+use std::alloc::Global;
+use tp_names::{Cursor, NoMemory, Octets, ReadFault, RecordFault};
+
+/// Appends the text of a body, which it must have. Without memory `out` is as it was.
+pub fn encode_body(alloc: Global, v: &Body, out: &mut Octets) -> Result<(), NoMemory>
+    requires { HasText body_grammar v.now }
+    ensures ok { OnOk result (out.new ≡ out.old ++ body_bytes v.now) }
+    ensures err { OnErr result (out.new ≡ out.old) }
+{
+    let len = out.len();
+    let written = write_body(alloc, v, out);
+    if written.is_err() {
+        out.truncate(len);
+    }
+    written
+}
+
+/// Appends the text of a peer record, which it must have. Without memory `out` is as it was.
+pub fn encode_peer(alloc: Global, v: &PeerRecord, out: &mut Octets) -> Result<(), NoMemory>
+    requires { HasText peer_grammar v.now }
+    ensures ok { OnOk result (out.new ≡ out.old ++ peer_bytes v.now) }
+    ensures err { OnErr result (out.new ≡ out.old) }
+{
+    let len = out.len();
+    let written = write_peer_record(alloc, v, out);
+    if written.is_err() {
+        out.truncate(len);
+    }
+    written
+}
+
+/// The body whose text stands in front of the bytes, and that text's length.
+pub fn decode_body(alloc: Global, bytes: &[u8]) -> Result<(Body, usize), RecordFault>
+    ensures ok { IfOk result (λ found. Begins body_grammar found.0 found.1 bytes.now) }
+    ensures bad { IfErr result (λ fault. IsBodyFault bytes.now fault) }
+{
+    let mut from = Cursor::new(bytes);
+    match read_body(alloc, &mut from) {
+        Ok(v) => {
+            let left = from.left();
+            Ok((v, bytes.len() - left))
+        }
+        Err(ReadFault::Bad(bad)) => Err(RecordFault::BadRecord {
+            at: bytes.len() - bad.left,
+        }),
+        Err(ReadFault::NoMemory) => Err(RecordFault::NoMemory),
+    }
+}
+
+/// The peer record whose text stands in front of the bytes, and that text's length.
+///
+/// A fault is told at the length of the longest front of the bytes that some text begins with.
+pub fn decode_peer(alloc: Global, bytes: &[u8]) -> Result<(PeerRecord, usize), RecordFault>
+    ensures ok { IfOk result (λ found. Begins peer_grammar found.0 found.1 bytes.now) }
+    ensures bad { IfErr result (λ fault. IsFaultOf peer_grammar bytes.now fault) }
+{
+    let mut from = Cursor::new(bytes);
+    match read_peer(alloc, &mut from) {
+        Ok(v) => {
+            let left = from.left();
+            Ok((v, bytes.len() - left))
+        }
+        Err(ReadFault::Bad(bad)) => Err(RecordFault::BadRecord {
+            at: bytes.len() - bad.left,
+        }),
+        Err(ReadFault::NoMemory) => Err(RecordFault::NoMemory),
+    }
+}
+
+/// A value is read back from its text, whatever follows; what is read of bytes is a text; and no
+/// text is a proper front of another.
+pub fn texts_are_grammars()
+    ensures bodies { IsGrammar body_grammar }
+    ensures peers { IsGrammar peer_grammar }
+{}
