@@ -1,0 +1,12 @@
+pub mod Sames
+pub mod Frees
+pub mod Removals
+pub mod Stands
+pub mod Scans
+pub mod RecordScans
+pub mod RecordWritten
+pub mod Decodes
+pub mod Writes
+pub mod Logs
+pub mod ReadLogs
+pub mod Briefs

@@ -1,0 +1,11 @@
+pub mod RecordText
+pub mod RecordReading
+pub mod RecordScanning
+pub mod LogText
+pub mod Order
+pub mod Standing
+pub mod Places
+pub mod Kinds
+pub mod Decoding
+pub mod Seen
+pub mod Binding

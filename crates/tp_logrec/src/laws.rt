@@ -1,0 +1,50 @@
+//! Laws of the order of records. The bodies are empty: each contract is the law.
+ghost use Rattle.std.specs.Prelude.{◌≡◌, ◌<◌, ◌^◌, ◌++◌, ℕ, List, [], ◌∷◌, length};
+ghost use Rattle.tp_logrec.specs.declared.record.LogRec.{LogRec};
+ghost use Rattle.tp_logrec.specs.declared.record.LogVersion.{LogVersion};
+ghost use Rattle.tp_names.specs.Grammar.{IsGrammar};
+ghost use Rattle.tp_names.specs.Places.{AreBytes};
+ghost use Rattle.tp_logrec.specs.RecordReading.{record_grammar};
+ghost use Rattle.tp_logrec.specs.LogText.{IsLog, Foreign, Reads, Placed, recs, read_log, IsReadAs};
+ghost use Rattle.tp_logrec.specs.Order.{follows, brief, IsStandingAlike};
+ghost use Rattle.tp_logrec.specs.Standing.{standing_of, taken, follows_in, brief_of};
+
+/// What stands of a list tells which record may follow it and what its brief is, and it grows by
+/// one record at a time.
+pub fn what_stands_tells_the_order()
+    ensures follows { (rs : List LogRec) (r : LogRec) → follows_in (standing_of rs) r ≡ follows rs r }
+    ensures grows { (rs : List LogRec) (r : LogRec) → standing_of (rs ++ r ∷ []) ≡ taken (standing_of rs) r }
+    ensures brief { (rs : List LogRec) → brief_of (standing_of rs) ≡ brief rs }
+{}
+
+/// The texts of records, in each version: a text has one record, what is read is a text, and no
+/// text is a proper front of another.
+pub fn records_have_texts()
+    ensures { (ver : LogVersion) → IsGrammar (record_grammar ver) }
+{}
+
+/// A log of records is read as that log.
+pub fn a_log_is_read()
+    ensures { (bytes : List ℕ) (rs : List LogRec) → length bytes < 2 ^ 64 → IsLog bytes rs → IsReadAs bytes rs }
+{}
+
+/// No bytes are a log of two lists of records.
+pub fn a_log_stands_for_one_list()
+    ensures { (bytes : List ℕ) (rs qs : List LogRec) → length bytes < 2 ^ 64 → IsLog bytes rs → IsLog bytes qs → rs ≡ qs }
+{}
+
+/// What is read as foreign is a log of no records.
+pub fn foreign_bytes_are_no_log()
+    ensures { (bytes : List ℕ) (at : ℕ) (rs : List LogRec) → length bytes < 2 ^ 64 → read_log bytes ≡ Foreign at → IsLog bytes rs → ⊥ }
+{}
+
+/// A brief has the standing of its list, whatever the list, and is its own brief.
+pub fn a_brief_stands_alike()
+    ensures standing { (rs : List LogRec) → IsStandingAlike (brief rs) rs }
+    ensures again { (rs : List LogRec) → brief (brief rs) ≡ brief rs }
+{}
+
+/// What is read of bytes as a log is a log of those records.
+pub fn what_is_read_is_a_log()
+    ensures { (bytes : List ℕ) (version : LogVersion) (placed : List Placed) (gate : ℕ) → AreBytes bytes → read_log bytes ≡ Reads version placed gate → IsLog bytes (recs placed) }
+{}

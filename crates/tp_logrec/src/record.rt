@@ -1,0 +1,167 @@
+//! One record of a log.
+ghost use Rattle.std.specs.Prelude.{◌≡◌, IfOk};
+ghost use Rattle.tp_logrec.specs.Order.{owner_of, is_ready, is_heuristic, is_commit, is_damage, is_end, is_bound};
+
+use crate::Owner;
+use std::alloc::Global;
+use tp_names::{Addr, Children, NoMemory, NodeKey, Outcome, Report};
+
+/// How the texts of a log count children: in one byte, up to 32, or in two, up to 256.
+#[derive(Clone, Copy, Debug, PartialEq, Eq)]
+pub enum LogVersion {
+    One,
+    Two,
+}
+
+/// A record. All but `Boot` speak of one key of one node.
+#[derive(Debug, Drop)]
+pub enum LogRec {
+    Boot {
+        boot: u64,
+    },
+    Ready {
+        node: u16,
+        key: NodeKey,
+        superior: Addr,
+        children: Children,
+    },
+    Heuristic {
+        node: u16,
+        key: NodeKey,
+        outcome: Outcome,
+    },
+    Commit {
+        node: u16,
+        key: NodeKey,
+        superior: Option<Addr>,
+        children: Children,
+    },
+    Damage {
+        node: u16,
+        key: NodeKey,
+        superior: Option<Addr>,
+        side: Outcome,
+        report: Report,
+        owed: Children,
+    },
+    End {
+        node: u16,
+        key: NodeKey,
+        outcome: Outcome,
+    },
+}
+
+impl LogRec {
+    /// The key of which the record speaks.
+    pub fn owner(&self) -> Option<Owner>
+        ensures { result ≡ owner_of self.now }
+    {
+        match self {
+            LogRec::Boot { .. } => None,
+            LogRec::Ready { node, key, .. }
+            | LogRec::Heuristic { node, key, .. }
+            | LogRec::Commit { node, key, .. }
+            | LogRec::Damage { node, key, .. }
+            | LogRec::End { node, key, .. } => Some(Owner {
+                node: *node,
+                key: *key,
+            }),
+        }
+    }
+
+    pub fn is_ready(&self) -> bool
+        ensures { result ≡ is_ready self.now }
+    {
+        matches!(self, LogRec::Ready { .. })
+    }
+
+    pub fn is_heuristic(&self) -> bool
+        ensures { result ≡ is_heuristic self.now }
+    {
+        matches!(self, LogRec::Heuristic { .. })
+    }
+
+    pub fn is_commit(&self) -> bool
+        ensures { result ≡ is_commit self.now }
+    {
+        matches!(self, LogRec::Commit { .. })
+    }
+
+    pub fn is_damage(&self) -> bool
+        ensures { result ≡ is_damage self.now }
+    {
+        matches!(self, LogRec::Damage { .. })
+    }
+
+    pub fn is_end(&self) -> bool
+        ensures { result ≡ is_end self.now }
+    {
+        matches!(self, LogRec::End { .. })
+    }
+
+    /// A record behind which its key stays bound: Ready, Heuristic and Commit.
+    pub fn is_bound(&self) -> bool
+        ensures { result ≡ is_bound self.now }
+    {
+        matches!(
+            self,
+            LogRec::Ready { .. } | LogRec::Heuristic { .. } | LogRec::Commit { .. }
+        )
+    }
+
+    /// An equal record.
+    pub fn copy(&self, alloc: Global) -> Result<LogRec, NoMemory>
+        ensures { IfOk result (λ copy. copy ≡ self.now) }
+    {
+        Ok(match self {
+            LogRec::Boot { boot } => LogRec::Boot { boot: *boot },
+            LogRec::Ready {
+                node,
+                key,
+                superior,
+                children,
+            } => LogRec::Ready {
+                node: *node,
+                key: *key,
+                superior: *superior,
+                children: Children::from_slice(alloc, children.as_slice())?,
+            },
+            LogRec::Heuristic { node, key, outcome } => LogRec::Heuristic {
+                node: *node,
+                key: *key,
+                outcome: *outcome,
+            },
+            LogRec::Commit {
+                node,
+                key,
+                superior,
+                children,
+            } => LogRec::Commit {
+                node: *node,
+                key: *key,
+                superior: *superior,
+                children: Children::from_slice(alloc, children.as_slice())?,
+            },
+            LogRec::Damage {
+                node,
+                key,
+                superior,
+                side,
+                report,
+                owed,
+            } => LogRec::Damage {
+                node: *node,
+                key: *key,
+                superior: *superior,
+                side: *side,
+                report: *report,
+                owed: Children::from_slice(alloc, owed.as_slice())?,
+            },
+            LogRec::End { node, key, outcome } => LogRec::End {
+                node: *node,
+                key: *key,
+                outcome: *outcome,
+            },
+        })
+    }
+}
