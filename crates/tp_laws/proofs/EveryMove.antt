@@ -1,0 +1,287 @@
+-- Every event of a node is its prelude and then small steps.
+use Rattle.std.proofs.Common.{if◌then◌else◌, ◌≡◌, ◌⊎◌, inl, inr, ℕ, Bool, true, false, refl, ap, sym, ◌∙◌, arith, Option, Some, None, List, [], ◌∷◌, ◌&&◌, ◌||◌, not}
+use Rattle.std.proofs.lemmas.Bool.Decides.{nat_tests}
+use Rattle.tp_names.specs.declared.identifiers.Addr.{Addr}
+use Rattle.tp_records.specs.declared.request.Request.{Request}
+use Rattle.tp_records.specs.declared.indication.Indication.{Indication}
+use Rattle.tp_records.specs.declared.dialogue.DialogueRecord.{DialogueRecord}
+use Rattle.tp_records.specs.declared.peer.PeerRecord.{PeerRecord}
+use Rattle.tp_model.specs.declared.arc.Phase.{Phase}
+use Rattle.tp_model.specs.declared.arc.Side.{Side}
+use Rattle.tp_model.specs.declared.transaction.TxEvent.{TxEvent}
+use Rattle.tp_model.specs.declared.transaction.TxOut.{TxOut}
+use Rattle.tp_model.specs.Parts.{Who, Event, Link, Idle, Opening, Offered, Live, Arc, Root, Branch, Current, Digest}
+use Rattle.tp_model.specs.Dialogues.{is_nil, is_active, Asked, Ask_data, Ask_error, Ask_abort, Ask_grant, Ask_control, Ask_handshake, Ask_respond, Ask_handshake_grant, Ask_defer_end, Ask_defer_grant, said, refused_on_arc, fresh_dialogue}
+use Rattle.tp_model.specs.Arcs.{find_arc, link_with, put_arc, without_arc, with_dialogue}
+use Rattle.tp_model.specs.Transactions.{is_under_at, row_holds, transacted, refused_tx, situation_of}
+use Rattle.tp_model.specs.Node.{Move, move, followed, perform, next_mark, with_mark_drawn, superior_arc, may_root, phase_of, seen_rows, seen, situation_at, Passage, passage, is_leaving, is_over, fresh_current, begin_on, begin_each, chained_peers, begin_chained, start_root, has_none, try_start, restarted, transact}
+use Rattle.tp_model.specs.Requests.{has_branch_at, refused_request, refused_at, call, accept, reject, abort, begin_transaction, do_request}
+use Rattle.tp_model.specs.Arrivals.{lose}
+use Rattle.tp_laws.specs.Turns.{loses}
+use Rattle.tp_laws.proofs.Links.{link_without}
+use Rattle.tp_model.specs.Node.{turned}
+use Rattle.tp_laws.specs.Moves.{IsLate, is_peer, prelude, called, accepted_by, accepted_on, IsAsked, IsPut, is_took, are_spoken, Moves}
+
+-- ---- starts log nothing
+
+quiet_begin : (who : Who) (p : ℕ) (d : Digest) → (begin_on who p d).rec ≡ None
+unfolding begin_on
+quiet_begin who p d = grind arith
+
+quiet_followed : (a : Move) (f : Digest → Move) → a.rec ≡ None → (f a.next).rec ≡ None → (followed a f).rec ≡ None
+quiet_followed a f h i = rw (i, followed) h
+
+pub quiet_each : (who : Who) (ps : List ℕ) (d : Digest) → (begin_each who ps d).rec ≡ None
+quiet_each who [] d = refl
+quiet_each who (p ∷ ps) d = quiet_followed (begin_on who p d) (begin_each who ps) (quiet_begin who p d) (quiet_each who ps (begin_on who p d).next)
+
+quiet_root : (who : Who) (named : List ℕ) (d : Digest) → (start_root who named d).rec ≡ None
+unfolding start_root
+quiet_root who named d =
+    let g : Digest = record (with_mark_drawn d) { current = Some (fresh_current (Root (record { owner = who.site; mark = next_mark who d }))) } in
+    let a : Move = begin_each who named g in
+    quiet_followed a (begin_chained who) (quiet_each who named g) (quiet_each who (chained_peers who a.next) a.next)
+
+pub quiet_start : (who : Who) (d : Digest) → (try_start who d).rec ≡ None
+unfolding try_start
+quiet_start who d = grind (arith, quiet_root who [] d)
+
+-- ---- rules that several events share
+
+pub every_begin : (who : Who) (e : Event) (s : Digest) (R : Digest → Move → Type 0) → Moves who e s R → (ps : List ℕ) (d : Digest) → R d (begin_each who ps d)
+every_begin who e s R k [] d = k.still d
+every_begin who e s R k (p ∷ ps) d =
+    let a : Move = begin_on who p d in
+    k.chain d a (begin_each who ps) (k.begins d p) (every_begin who e s R k ps a.next) (inr (quiet_each who ps a.next))
+
+every_root : (who : Who) (e : Event) (s : Digest) (R : Digest → Move → Type 0) → Moves who e s R → (named : List ℕ) (d : Digest) → is_nil (phase_of d) ≡ true → may_root d ≡ true
+    → R d (start_root who named d)
+unfolding start_root
+every_root who e s R k named d nil may =
+    let g : Digest = record (with_mark_drawn d) { current = Some (fresh_current (Root (record { owner = who.site; mark = next_mark who d }))) } in
+    let a : Move = begin_each who named g in
+    k.roots d (followed a (begin_chained who)) nil may
+    (k.chain g a (begin_chained who) (every_begin who e s R k named g) (every_begin who e s R k (chained_peers who a.next) a.next) (inr (quiet_each who (chained_peers who a.next) a.next)))
+
+pub every_start : (who : Who) (e : Event) (s : Digest) (R : Digest → Move → Type 0) → Moves who e s R → (d : Digest) → R d (try_start who d)
+unfolding try_start
+every_start who e s R k d = go (is_nil (phase_of d) && may_root d && not (has_none (chained_peers who d))) refl
+  where
+    go : (b : Bool) → (is_nil (phase_of d) && may_root d && not (has_none (chained_peers who d))) ≡ b → R d (if b then start_root who [] d else move [] d)
+    go true i = every_root who e s R k [] d (grind arith) (grind arith)
+    go false i = k.still d
+
+pub every_transact : (who : Who) (e : Event) (s : Digest) (R : Digest → Move → Type 0) → Moves who e s R → (f : TxEvent) (d : Digest) → d.current ≡ s.current
+    → ((c : Current) → s.current ≡ Some c → IsAsked e c f) → ((c : Current) → s.current ≡ Some c → IsPut f (seen who d.arcs c)) → ((p : ℕ) → loses f p ≡ true → link_with d.arcs p ≡ Idle) → R d (transact who f d)
+unfolding transact
+every_transact who e s R k f d same asked put gone = go d.current refl
+  where
+    over : (c : Current) (w : Passage) → R d (turned who f d c) → (b : Bool) → is_over w ≡ b → R d (if b then followed (turned who f d c) (try_start who) else turned who f d c)
+    over c w one true i = k.chain d (turned who f d c) (try_start who) one (every_start who e s R k (turned who f d c).next) (inr (quiet_start who (turned who f d c).next))
+    over c w one false i = one
+
+    go : (o : Option Current) → d.current ≡ o
+        → R d (elim o as (λ _. Move) [
+          | None ↦ move [] d
+          | Some c ↦ restarted who (passage (is_leaving f) (seen who d.arcs c).phase (transacted f (seen who d.arcs c)).next.phase) (turned who f d c)
+        ])
+    go None i = k.still d
+    go (Some c) i =
+        let at : s.current ≡ Some c = sym same ∙ i in
+        let w : Passage = passage (is_leaving f) (seen who d.arcs c).phase (transacted f (seen who d.arcs c)).next.phase in
+        over c w (k.turns d c f i at (asked c at) (put c at) gone) (is_over w) refl
+
+-- an event that needs no more than a transaction that is not over
+pub put_plain : (who : Who) (d : Digest) (c : Current) (f : TxEvent) → is_nil c.phase ≡ false → (is_took f ≡ false → refused_tx f (seen who d.arcs c) ≡ None)
+    → ((p : ℕ) → f ≡ TxEvent.User (Request.UAbort p) → ⊥) → (f ≡ TxEvent.Ordered → ⊥) → ((arcs : _) → f ≡ TxEvent.Begun arcs → ⊥) → IsPut f (seen who d.arcs c)
+put_plain who d c f late ok a o b = record { late = late; ok = ok; abort = λ p i. absurd (a p i); ordered = λ i. absurd (o i); not_begun = b }
+
+pub every_lose : (who : Who) (e : Event) (s : Digest) (R : Digest → Move → Type 0) → Moves who e s R → IsLate s → (p : ℕ) (d : Digest) → d.current ≡ s.current
+    → ((c : Current) → IsAsked e c (TxEvent.Lost p)) → R d (lose who p d)
+unfolding lose refused_tx
+every_lose who e s R k late p d same asked = k.drops_arc d p (lose who p d) (go d.current refl)
+  where
+    g : Digest
+    g = record d { arcs = without_arc d.arcs p }
+
+    gone_arc : (n : ℕ) → p ≡ n → link_with g.arcs n ≡ Idle
+    gone_arc n same = link_without d.arcs p n ∙ grind (arith, nat_tests, same)
+
+    go : (o : Option Current) → d.current ≡ o → R g (elim o as (λ _. Move) [ None ↦ perform (TxOut.Tell (Indication.PAbort p) ∷ []) g | Some c ↦ transact who (TxEvent.Lost p) g ])
+    go None i = k.speaks g (TxOut.Tell (Indication.PAbort p) ∷ []) refl (λ u h. absurd (cc (h)))
+    go (Some c) i =
+        every_transact who e s R k (TxEvent.Lost p) g same (λ b j. asked b)
+        (λ b j. put_plain who g b (TxEvent.Lost p) (late b j) (λ t. refl) (λ q h. cc (h)) (λ h. cc (h)) (λ arcs h. cc (h)))
+        (λ n i. gone_arc n (grind (arith, nat_tests, i)))
+
+-- ---- requests
+
+abort_active : (who : Who) (d : Digest) (p : ℕ) (c : Current) → refused_request who d (Request.UAbort p) ≡ None → (situation_at who d p).branch ≡ true → d.current ≡ Some c
+    → is_nil c.phase ≡ false → is_active c.phase ≡ true
+unfolding refused_request refused_on_arc situation_of
+abort_active who d p c ok b i late = phase c.phase refl
+  where
+    one : refused_at who d p 0 Ask_abort None ≡ None
+    one = ok
+
+    phase : (q : Phase) → c.phase ≡ q → is_active c.phase ≡ true
+    phase Phase.Active j = ap is_active j
+    phase Phase.Nil j = absurd (cc (late, ap is_nil j))
+    phase q j = absurd (grind (arith, one, b, i, j))
+
+every_call : (who : Who) (d : Digest) (a : Addr) (u : ℕ) (R : Digest → Move → Type 0) → Moves who (Event.Do (Request.BeginDialogue a u)) (called who a u d) R → R (called who a u d) (call who a u d)
+unfolding call
+every_call who d a u R k = k.speaks (called who a u d) (TxOut.Recovery a (PeerRecord.OpenAssoc (next_mark who d) u) ∷ []) refl (λ u h. absurd (cc (h)))
+
+every_accept : (who : Who) (e : Event) (s d : Digest) (u : ℕ) (R : Digest → Move → Type 0) → Moves who e s R → (o : Option Arc) → superior_arc d ≡ o → R (accepted_by who u o d) (accept who u d)
+unfolding accept
+every_accept who e s d u R k None i = rw (i, accept) (k.still d)
+every_accept who e s d u R k (Some a) i = rw (i, accept) (go a.link)
+  where
+    go : (l : Link) → R (accepted_on who u a l d) (elim l as (λ _. Move) [
+      | Idle ↦ move [] d
+      | Opening x ↦ move [] d
+      | Offered x ↦
+          perform
+          (TxOut.Recovery a.peer (PeerRecord.AcceptAssoc x (next_mark who d) u) ∷ [])
+          (record (with_mark_drawn d) { arcs = put_arc d.arcs (record a { link = Live x (next_mark who d) 0 0; dialogue = fresh_dialogue u Side.Subordinate }) })
+      | Live x y sent taken ↦ move [] d
+    ])
+    go Idle = k.still d
+    go (Opening x) = k.still d
+    go (Offered x) = k.speaks (accepted_on who u a (Offered x) d) (TxOut.Recovery a.peer (PeerRecord.AcceptAssoc x (next_mark who d) u) ∷ []) refl (λ u h. absurd (cc (h)))
+    go (Live x y v w) = k.still d
+
+every_reject : (who : Who) (e : Event) (s d : Digest) (R : Digest → Move → Type 0) → Moves who e s R → R d (reject d)
+unfolding reject
+every_reject who e s d R k = go (superior_arc d)
+  where
+    on : (a : Arc) (l : Link) → R d (elim l as (λ _. Move) [
+      | Idle ↦ move [] d
+      | Opening x ↦ move [] d
+      | Offered x ↦ perform (TxOut.Recovery a.peer (PeerRecord.ShutAssoc x None) ∷ TxOut.Close a.peer.node ∷ []) d
+      | Live x y sent taken ↦ move [] d
+    ])
+    on a Idle = k.still d
+    on a (Opening x) = k.still d
+    on a (Offered x) = k.speaks d (TxOut.Recovery a.peer (PeerRecord.ShutAssoc x None) ∷ TxOut.Close a.peer.node ∷ []) refl (λ u h. absurd (cc (h)))
+    on a (Live x y v w) = k.still d
+
+    go : (o : Option Arc) → R d (elim o as (λ _. Move) [
+      | None ↦ move [] d
+      | Some a ↦ elim a.link [
+        | Idle ↦ move [] d
+        | Opening x ↦ move [] d
+        | Offered x ↦ perform (TxOut.Recovery a.peer (PeerRecord.ShutAssoc x None) ∷ TxOut.Close a.peer.node ∷ []) d
+        | Live x y sent taken ↦ move [] d
+      ]
+    ])
+    go None = k.still d
+    go (Some a) = on a a.link
+
+every_speak : (who : Who) (e : Event) (s d : Digest) (R : Digest → Move → Type 0) → Moves who e s R → (p : ℕ) (a : Asked) (r : DialogueRecord) → are_spoken (TxOut.Carry p r ∷ []) ≡ true
+    → R d (perform (TxOut.Carry p r ∷ []) (record d { arcs = with_dialogue d.arcs p (said a) }))
+every_speak who e s d R k p a r ok =
+    k.changes_dialogue d p (said a) (perform (TxOut.Carry p r ∷ []) (record d { arcs = with_dialogue d.arcs p (said a) }))
+    (k.speaks (record d { arcs = with_dialogue d.arcs p (said a) }) (TxOut.Carry p r ∷ []) ok (λ u h. absurd (cc (h))))
+
+pub seen_branch : (arcs : List Arc) (bs : List Branch) (p : ℕ) → row_holds (seen_rows arcs bs) p (λ b. true) ≡ has_branch_at bs p
+seen_branch arcs [] p = refl
+seen_branch arcs (b ∷ bs) p = grind (arith, seen_branch arcs bs p)
+
+abort_peer : (who : Who) (d : Digest) (p : ℕ) (c : Current) → (situation_at who d p).branch ≡ true → d.current ≡ Some c → is_peer c p ≡ true
+unfolding situation_of
+abort_peer who d p c b i =
+    let one : (is_under_at c.key p || row_holds (seen_rows d.arcs c.branches) p (λ b. true)) ≡ true = rw (i, situation_at) at b in
+    let two = seen_branch d.arcs c.branches p in
+    grind (arith, one, two)
+
+every_abort : (who : Who) (d : Digest) (p : ℕ) (R : Digest → Move → Type 0) → Moves who (Event.Do (Request.UAbort p)) d R → IsLate d → refused_request who d (Request.UAbort p) ≡ None → R d (abort who p d)
+unfolding abort refused_tx
+every_abort who d p R k late ok = go (situation_at who d p).branch refl
+  where
+    go : (b : Bool) → (situation_at who d p).branch ≡ b
+        → R d (if b then transact who (TxEvent.User (Request.UAbort p)) d else perform (TxOut.Carry p DialogueRecord.UAbort ∷ TxOut.Close p ∷ []) d)
+    go false i = k.speaks d (TxOut.Carry p DialogueRecord.UAbort ∷ TxOut.Close p ∷ []) refl (λ u h. absurd (cc (h)))
+    go true i =
+        every_transact who (Event.Do (Request.UAbort p)) d R k (TxEvent.User (Request.UAbort p)) d refl (λ c j. (refl, abort_peer who d p c i j))
+        (λ c j. record {
+          late = late c j;
+          ok = λ t. refl;
+          abort = λ q h. abort_active who d p c ok i j (late c j);
+          ordered = λ h. cc (h);
+          not_begun = λ arcs h. cc (h);
+        })
+        (λ n i. absurd (cc (i)))
+
+-- a request that speaks of the transaction as a whole
+every_user_request : (who : Who) (d : Digest) (r : Request) (R : Digest → Move → Type 0) → Moves who (Event.Do r) d R → IsLate d → ((c : Current) → IsAsked (Event.Do r) c (TxEvent.User r)) → ((p : ℕ) → r ≡ Request.UAbort p → ⊥)
+    → ((c : Current) → d.current ≡ Some c → refused_tx (TxEvent.User r) (seen who d.arcs c) ≡ None) → R d (transact who (TxEvent.User r) d)
+every_user_request who d r R k late asked a ok =
+    every_transact who (Event.Do r) d R k (TxEvent.User r) d refl (λ c j. asked c)
+    (λ c j. put_plain who d c (TxEvent.User r) (late c j) (λ t. ok c j) (λ p h. absurd (a p (cc (h)))) (λ h. cc (h)) (λ arcs h. cc (h))) (λ n i. absurd (cc (i)))
+
+every_defer : (who : Who) (d : Digest) (r : Request) (p : ℕ) (a : Asked) (R : Digest → Move → Type 0) → Moves who (Event.Do r) d R → IsLate d → ((c : Current) → IsAsked (Event.Do r) c (TxEvent.User r)) → ((q : ℕ) → r ≡ Request.UAbort q → ⊥)
+    → ((g : Digest) (c : Current) → refused_tx (TxEvent.User r) (seen who g.arcs c) ≡ None) → R d (transact who (TxEvent.User r) (record d { arcs = with_dialogue d.arcs p (said a) }))
+every_defer who d r p a R k late asked b ok =
+    let g : Digest = record d { arcs = with_dialogue d.arcs p (said a) } in
+    k.changes_dialogue d p (said a) (transact who (TxEvent.User r) g)
+    (every_transact who (Event.Do r) d R k (TxEvent.User r) g refl (λ c j. asked c)
+    (λ c j. put_plain who g c (TxEvent.User r) (late c j) (λ t. ok g c) (λ q h. absurd (b q (cc (h)))) (λ h. cc (h)) (λ arcs h. cc (h))) (λ n i. absurd (cc (i))))
+
+root_may : (who : Who) (d : Digest) (p : ℕ) → refused_request who d (Request.BeginTransaction p) ≡ None → d.current ≡ None → may_root d ≡ true
+unfolding refused_request refused_on_arc situation_of
+root_may who d p ok none = go (find_arc d.arcs p) refl
+  where
+    go : (o : Option Arc) → find_arc d.arcs p ≡ o → may_root d ≡ true
+    go None i = absurd (grind (arith, i, none, ok))
+    go (Some a) i = grind (arith, i, none, ok)
+
+every_begin_request : (who : Who) (d : Digest) (p : ℕ) (R : Digest → Move → Type 0) → Moves who (Event.Do (Request.BeginTransaction p)) d R → refused_request who d (Request.BeginTransaction p) ≡ None
+    → R d (begin_transaction who p d)
+unfolding begin_transaction
+every_begin_request who d p R k ok = go d.current refl
+  where
+    go : (o : Option Current) → d.current ≡ o → R d (elim o as (λ _. Move) [ None ↦ start_root who (p ∷ []) d | Some c ↦ begin_on who p d ])
+    go None i = every_root who (Event.Do (Request.BeginTransaction p)) d R k (p ∷ []) d (rw (i, phase_of) refl) (root_may who d p ok i)
+    go (Some c) i = k.begins d p
+
+user_ok : (who : Who) (d : Digest) (r : Request) → refused_request who d r ≡ None → (r ≡ Request.Commit) ⊎ (r ≡ Request.Done) ⊎ (r ≡ Request.Rollback) ⊎ (r ≡ Request.Unchanged)
+    → (c : Current) → d.current ≡ Some c → refused_tx (TxEvent.User r) (seen who d.arcs c) ≡ None
+unfolding refused_request refused_tx
+user_ok who d Request.Commit ok w c i = rw i at ok
+user_ok who d Request.Done ok w c i = rw i at ok
+user_ok who d Request.Rollback ok w c i = rw i at ok
+user_ok who d Request.Unchanged ok w c i = rw i at ok
+user_ok who d r ok w c i = absurd (grind (arith, w))
+
+defer_ok : (who : Who) (r : Request) → (p : ℕ) → (r ≡ Request.DeferEnd p) ⊎ (r ≡ Request.DeferGrant p) ⊎ (r ≡ Request.Prepare p) → (g : Digest) (c : Current)
+    → refused_tx (TxEvent.User r) (seen who g.arcs c) ≡ None
+unfolding refused_tx
+defer_ok who (Request.DeferEnd q) p w g c = refl
+defer_ok who (Request.DeferGrant q) p w g c = refl
+defer_ok who (Request.Prepare q) p w g c = refl
+defer_ok who r p w g c = absurd (grind (arith, w))
+
+pub every_request : (who : Who) (d : Digest) (r : Request) (R : Digest → Move → Type 0) → Moves who (Event.Do r) (prelude who d (Event.Do r)) R → IsLate d → refused_request who d r ≡ None
+    → R (prelude who d (Event.Do r)) (do_request who r d)
+every_request who d (Request.BeginDialogue a u) R k late ok = every_call who d a u R k
+every_request who d (Request.Accept u) R k late ok = every_accept who (Event.Do (Request.Accept u)) (prelude who d (Event.Do (Request.Accept u))) d u R k (superior_arc d) refl
+every_request who d Request.Reject R k late ok = every_reject who (Event.Do Request.Reject) d d R k
+every_request who d (Request.EndDialogue p) R k late ok = k.speaks d (TxOut.Carry p DialogueRecord.EndDialogue ∷ TxOut.Close p ∷ []) refl (λ u h. absurd (cc (h)))
+every_request who d (Request.UserData p xs) R k late ok = every_speak who _ d d R k p Ask_data (DialogueRecord.UserData xs) refl
+every_request who d (Request.UError p) R k late ok = every_speak who _ d d R k p Ask_error DialogueRecord.UError refl
+every_request who d (Request.UAbort p) R k late ok = every_abort who d p R k late ok
+every_request who d (Request.Grant p) R k late ok = every_speak who _ d d R k p Ask_grant DialogueRecord.Grant refl
+every_request who d (Request.AskControl p) R k late ok = every_speak who _ d d R k p Ask_control DialogueRecord.AskControl refl
+every_request who d (Request.Handshake p) R k late ok = every_speak who _ d d R k p Ask_handshake DialogueRecord.Handshake refl
+every_request who d (Request.Respond p) R k late ok = every_speak who _ d d R k p Ask_respond DialogueRecord.Response refl
+every_request who d (Request.HandshakeGrant p) R k late ok = every_speak who _ d d R k p Ask_handshake_grant DialogueRecord.HandshakeGrant refl
+every_request who d (Request.BeginTransaction p) R k late ok = every_begin_request who d p R k ok
+every_request who d (Request.DeferEnd p) R k late ok = every_defer who d (Request.DeferEnd p) p Ask_defer_end R k late (λ c. refl) (λ q h. cc (h)) (λ g c. defer_ok who (Request.DeferEnd p) p (inl refl) g c)
+every_request who d (Request.DeferGrant p) R k late ok = every_defer who d (Request.DeferGrant p) p Ask_defer_grant R k late (λ c. refl) (λ q h. cc (h)) (λ g c. defer_ok who (Request.DeferGrant p) p (inr (inl refl)) g c)
+every_request who d (Request.Prepare p) R k late ok = every_user_request who d (Request.Prepare p) R k late (λ c. refl) (λ q h. cc (h)) (λ c j. defer_ok who (Request.Prepare p) p (inr (inr refl)) d c)
+every_request who d Request.Commit R k late ok = every_user_request who d Request.Commit R k late (λ c. refl) (λ q h. cc (h)) (λ c j. user_ok who d Request.Commit ok (inl refl) c j)
+every_request who d Request.Done R k late ok = every_user_request who d Request.Done R k late (λ c. refl) (λ q h. cc (h)) (λ c j. user_ok who d Request.Done ok (inr (inl refl)) c j)
+every_request who d Request.Rollback R k late ok = every_user_request who d Request.Rollback R k late (λ c. refl) (λ q h. cc (h)) (λ c j. user_ok who d Request.Rollback ok (inr (inr (inl refl))) c j)
+every_request who d Request.Unchanged R k late ok = every_user_request who d Request.Unchanged R k late (λ c. refl) (λ q h. cc (h)) (λ c j. user_ok who d Request.Unchanged ok (inr (inr (inr refl))) c j)

@@ -1,0 +1,18 @@
+-- In every run, every node's history is one that it can have: its log was empty when it was declared.
+use Rattle.std.proofs.Common.{◌≡◌, ℕ, Bool, true, refl, ap, sym, subst, ◌∙◌, List, []}
+use Rattle.tp_logrec.specs.declared.record.LogRec.{LogRec}
+use Rattle.tp_model.specs.Parts.{Origin, Who, Start}
+use Rattle.tp_model.specs.Legal.{is_start, IsLegal, are_own_records}
+use Rattle.tp_logrec.specs.Order.{all_follow}
+use Rattle.tp_model.specs.World.{Node, number_of}
+use Rattle.tp_model.specs.Happenings.{Happening, run}
+use Rattle.tp_model.specs.Promises.{AllLegal}
+use Rattle.tp_laws.proofs.Good.{good_run}
+
+fresh_start : (o : Origin) → o.start.records ≡ [] → is_start o ≡ true
+fresh_start o h = rw (h, is_start) (refl)
+
+pub all_legal : (es : List Happening) → AllLegal (run es)
+all_legal es n here =
+    let good = good_run es in
+    record { start = fresh_start n.origin (good.fresh (number_of n) n here); grown = good.legal (number_of n) n here }

@@ -1,0 +1,58 @@
+-- What the outputs of a rule tell the user is told, whatever becomes of them at the arcs.
+use Rattle.std.proofs.Common.{◌≡◌, ℕ, Bool, false, refl, ap, sym, ◌∙◌, arith, List, [], ◌∷◌, ◌++◌, ◌||◌}
+use Rattle.tp_records.specs.declared.indication.Indication.{Indication}
+use Rattle.tp_records.specs.declared.dialogue.DialogueRecord.{DialogueRecord}
+use Rattle.tp_model.specs.declared.transaction.TxOut.{TxOut}
+use Rattle.tp_model.specs.Parts.{Out, Arc, Digest}
+use Rattle.tp_model.specs.Arcs.{carried, performed_one, performed}
+use Rattle.tp_model.specs.Transactions.{Transaction}
+use Rattle.tp_model.specs.Node.{Passage, Stays, Enters, Falls, Falls_at_once, Commits, Rolls_back, Leaves, played, split_at_completion, perform_commit, committed_arcs, grants}
+use Rattle.tp_laws.specs.Passages.{asks_tell}
+use Rattle.tp_laws.specs.Trees.{out_tells}
+use Rattle.tp_laws.proofs.Phases.{tell_append}
+use Rattle.tp_laws.proofs.Wrapped.{split_joins}
+
+pub told_append : (f : Indication → Bool) (xs ys : List Out) → out_tells f (xs ++ ys) ≡ (out_tells f xs || out_tells f ys)
+told_append f [] ys = refl
+told_append f (x ∷ xs) ys = grind (arith, told_append f xs ys)
+
+told_carried : (f : Indication → Bool) (arcs : List Arc) (q : ℕ) (r : DialogueRecord) → out_tells f (carried arcs q r).1 ≡ false
+told_carried f [] q r = refl
+told_carried f (a ∷ arcs) q r = grind (arith, told_carried f arcs q r)
+
+told_one : (f : Indication → Bool) (arcs : List Arc) (o : TxOut) → out_tells f (performed_one arcs o).1 ≡ asks_tell f (o ∷ [])
+told_one f arcs (TxOut.Tell i) = refl
+told_one f arcs (TxOut.Carry q r) = told_carried f arcs q r
+told_one f arcs (TxOut.Shut q) = grind arith
+told_one f arcs (TxOut.Recovery a r) = refl
+told_one f arcs (TxOut.Close q) = refl
+
+pub told_performed : (f : Indication → Bool) (arcs : List Arc) (outs : List TxOut) → out_tells f (performed arcs outs).1 ≡ asks_tell f outs
+told_performed f arcs [] = refl
+told_performed f arcs (o ∷ outs) =
+    let next : List Arc = (performed_one arcs o).0 in
+    told_append f (performed_one arcs o).1 (performed next outs).1 ∙ rw (told_one f arcs o, told_performed f next outs) (sym (tell_append f (o ∷ []) outs))
+
+told_grants : (f : Indication → Bool) (t : Transaction) (arcs : List Arc) → asks_tell f (grants t arcs) ≡ false
+told_grants f t [] = refl
+told_grants f t (a ∷ arcs) = grind (arith, told_grants f t arcs)
+
+told_commit : (f : Indication → Bool) (d : Digest) (t : Transaction) (outs : List TxOut) (arcs : List Arc) → out_tells f (perform_commit d t outs arcs).1 ≡ asks_tell f outs
+told_commit f d t outs arcs =
+    let s = split_at_completion outs in
+    let one = performed arcs s.0 in
+    let two = performed (committed_arcs d t one.0) (grants t one.0) in
+    let three = performed two.0 s.1 in
+    let joined : asks_tell f outs ≡ (asks_tell f s.0 || asks_tell f s.1) = ap (asks_tell f) (sym (split_joins outs)) ∙ tell_append f s.0 s.1 in
+    let none : out_tells f two.1 ≡ false = told_performed f (committed_arcs d t one.0) (grants t one.0) ∙ told_grants f t one.0 in
+    told_append f (one.1 ++ two.1) three.1 ∙ rw (told_append f one.1 two.1, none, told_performed f arcs s.0, told_performed f two.0 s.1, joined) (grind arith)
+
+pub told_played : (f : Indication → Bool) (d : Digest) (t : Transaction) (w : Passage) (outs : List TxOut) (arcs : List Arc) → out_tells f (played d t w outs arcs).1 ≡ asks_tell f outs
+unfolding played
+told_played f d t Stays outs arcs = told_performed f arcs outs
+told_played f d t Enters outs arcs = told_performed f arcs outs
+told_played f d t Falls outs arcs = told_performed f arcs outs
+told_played f d t Falls_at_once outs arcs = told_performed f arcs outs
+told_played f d t Commits outs arcs = told_commit f d t outs arcs
+told_played f d t Rolls_back outs arcs = told_performed f arcs outs
+told_played f d t Leaves outs arcs = told_performed f arcs outs

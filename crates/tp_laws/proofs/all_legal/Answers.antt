@@ -1,0 +1,5 @@
+use Rattle.tp_laws.proofs.Starts.{all_legal}
+use Rattle.tp_laws.proofs.all_legal.Goals as goal
+
+pub returns : goal.returns
+returns c = all_legal

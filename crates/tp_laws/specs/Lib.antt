@@ -1,0 +1,16 @@
+pub mod Histories
+pub mod Worlds
+pub mod Turns
+pub mod Moves
+pub mod Traces
+pub mod Breaks
+pub mod Facts
+pub mod Passages
+pub mod Standing
+pub mod Trees
+pub mod Members
+pub mod Fates
+pub mod Keyed
+pub mod Pairs
+pub mod Orders
+pub mod Trials

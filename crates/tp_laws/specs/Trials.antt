@@ -1,0 +1,100 @@
+-- Runs of two nodes for worked examples of the laws: one that commits, one whose branch recovers, one that rolls back, one
+-- that is mixed by a decision, and one whose branch leaves.
+use Rattle.std.specs.Prelude.{ℕ, Bool, true, false, Option, Some, None, List, [], ◌∷◌, ◌++◌, reverse, codes}
+use Rattle.tp_names.specs.declared.identifiers.Aaid.{Aaid}
+use Rattle.tp_names.specs.declared.identifiers.BranchId.{BranchId}
+use Rattle.tp_names.specs.declared.outcome.Outcome.{Outcome}
+use Rattle.tp_records.specs.declared.dialogue.DialogueRecord.{DialogueRecord}
+use Rattle.tp_model.specs.declared.line.LineRequest.{LineRequest}
+use Rattle.tp_model.specs.Arcs.{is_live_with_peer}
+use Rattle.tp_model.specs.History.{digest}
+use Rattle.tp_model.specs.Outcomes.{is_member, decided, rolled, decision, has_left, told}
+use Rattle.tp_model.specs.World.{Node, find_node, addr_of}
+use Rattle.tp_model.specs.Happenings.{Happening, Declare, Does, Crash, Ask, Deliver, Decide, Retry, run}
+use Rattle.tp_model.specs.Promises.{has_begun}
+use Rattle.tp_laws.specs.Facts.{is_order}
+use Rattle.tp_laws.specs.Traces.{taken_on}
+
+-- ---- the runs, oldest first
+
+-- a root with one branch, in a transaction
+abbrev pub begun : List Happening
+begun =
+    Declare 1 (codes "a") None
+    ∷ Declare 2 (codes "b") (Some 1)
+    ∷ Does (Ask 1 (LineRequest.BeginDialogue 2 41))
+    ∷ Does (Deliver 1)
+    ∷ Does (Ask 2 (LineRequest.Accept 41))
+    ∷ Does (Deliver 2)
+    ∷ Does (Ask 1 (LineRequest.BeginTransaction 2))
+    ∷ Does (Deliver 3)
+    ∷ []
+
+-- both asked for commitment, and the branch is ready
+abbrev pub readied : List Happening
+readied = begun ++ (Does (Ask 1 LineRequest.Commit) ∷ Does (Deliver 4) ∷ Does (Ask 2 LineRequest.Commit) ∷ [])
+
+abbrev pub committed : List Happening
+committed = readied ++ (Does (Deliver 5) ∷ Does (Deliver 6) ∷ [])
+
+-- the branch's site stops when it is ready; the order comes as a reply
+abbrev pub recovered : List Happening
+recovered = readied ++ (Crash (codes "b") ∷ Does (Deliver 5) ∷ Does (Retry 2) ∷ Does (Deliver 7) ∷ Does (Deliver 8) ∷ [])
+
+abbrev pub rolled_back : List Happening
+rolled_back = readied ++ (Does (Ask 1 LineRequest.Rollback) ∷ Does (Deliver 6) ∷ [])
+
+-- the branch decided to roll back by itself
+abbrev pub mixed : List Happening
+mixed = readied ++ (Does (Decide 2 Outcome.Rollback) ∷ Does (Deliver 5) ∷ Does (Deliver 6) ∷ [])
+
+-- the branch changed nothing
+abbrev pub departed : List Happening
+departed = begun ++ (Does (Ask 1 LineRequest.Commit) ∷ Does (Deliver 4) ∷ Does (Ask 2 LineRequest.Unchanged) ∷ [])
+
+-- ---- what is asked of them
+
+abbrev pub tree : Aaid
+tree = record { owner = codes "a"; mark = record { boot = 1; node = 1; count = 2 } }
+
+abbrev pub branch : BranchId
+branch = record { superior = codes "a"; mark = record { boot = 1; node = 1; count = 3 } }
+
+abbrev pub node_after : List Happening → ℕ → Option Node
+node_after es n = find_node (run (reverse es)).nodes n
+
+abbrev pub holds : (Node → Bool) → List Happening → ℕ → Bool
+holds f es n = elim (node_after es n) [ None ↦ false | Some x ↦ f x ]
+
+abbrev pub in_tree : Node → Bool
+in_tree x = is_member x.origin tree x.history
+
+abbrev pub has_committed : Node → Bool
+has_committed x = decided x.origin tree x.history
+
+abbrev pub has_rolled : Node → Bool
+has_rolled x = rolled x.origin tree x.history
+
+abbrev pub has_gone : Node → Bool
+has_gone x = has_left x.origin tree x.history
+
+abbrev pub is_linked : ℕ → Node → Bool
+is_linked p x = is_live_with_peer (digest x.origin x.history).arcs p
+
+-- the second node is the first one's branch
+abbrev pub is_branch_of_first : List Happening → Bool
+is_branch_of_first es = elim (node_after es 1) [ None ↦ false | Some x ↦ holds (λ y. has_begun tree branch (addr_of x) y.history) es 2 ]
+
+-- the order was taken over the association
+abbrev pub some_order : List DialogueRecord → Bool
+some_order [] = false
+some_order (r ∷ rs) = elim (is_order r) [ true ↦ true | false ↦ some_order rs ]
+
+abbrev pub took_order : Node → Bool
+took_order x = some_order (taken_on (record { boot = 1; node = 1; count = 1 }) (record { boot = 1; node = 2; count = 1 }) 1 x.history)
+
+abbrev pub told_after : List Happening → ℕ → Option Outcome
+told_after es n = elim (node_after es n) [ None ↦ None | Some x ↦ told x.origin tree x.history ]
+
+abbrev pub decision_after : List Happening → ℕ → Option Outcome
+decision_after es n = elim (node_after es n) [ None ↦ None | Some x ↦ decision x.origin tree x.history ]

@@ -1,0 +1,139 @@
+//! Laws over whole runs of the service: of one node's legal history, and of every run of a world.
+//! Each is the contract of a function with an empty body. No code stands here.
+#![tactic(auto)]
+
+pub mod trials;
+
+ghost use Rattle.std.specs.Prelude.{ℕ, ◌≡◌, Option, List, [], length, true, Bool, None, false};
+ghost use Rattle.tp_names.specs.declared.identifiers.Mark.{Mark};
+ghost use Rattle.tp_names.specs.declared.identifiers.Addr.{Addr};
+ghost use Rattle.tp_names.specs.declared.identifiers.Aaid.{Aaid};
+ghost use Rattle.tp_names.specs.declared.identifiers.BranchId.{BranchId};
+ghost use Rattle.tp_records.specs.declared.dialogue.DialogueRecord.{DialogueRecord};
+ghost use Rattle.tp_model.specs.Parts.{Origin, Entry, Live, Who, Event, Digest, Current};
+ghost use Rattle.tp_model.specs.Arcs.{link_with};
+ghost use Rattle.tp_model.specs.History.{digest, again, crashed};
+ghost use Rattle.tp_records.specs.declared.body.Event.{Event as Given};
+ghost use Rattle.tp_model.specs.NodeRun.{Opening};
+ghost use Rattle.tp_model.specs.Lanes.{IsOwnHistory};
+ghost use Rattle.tp_model.specs.Happenings.{Happening, run};
+ghost use Rattle.tp_model.specs.declared.transaction.TxEvent.{TxEvent};
+ghost use Rattle.tp_model.specs.Transactions.{Transaction, transacted};
+ghost use Rattle.tp_model.specs.Events.{refusal, action};
+ghost use Rattle.tp_model.specs.Promises.{AllLegal, PrefixTaken, WhatUsersSee, IsOf, IsBranchOf};
+ghost use Rattle.tp_model.specs.World.{Node};
+ghost use Rattle.tp_model.specs.Outcomes.{decided, rolled, has_left};
+ghost use Rattle.tp_model.specs.Legal.{IsGrown};
+ghost use Rattle.tp_laws.specs.Worlds.{IsGood};
+ghost use Rattle.tp_laws.specs.Moves.{IsPut, IsLate, IsAmong, prelude};
+ghost use Rattle.tp_laws.specs.Facts.{IsFair, IsHeard, Reads};
+ghost use Rattle.tp_laws.specs.Members.{IsUnique, IsOnce};
+ghost use Rattle.tp_laws.specs.Fates.{IsFated};
+ghost use Rattle.tp_laws.specs.Pairs.{IsPaired};
+ghost use Rattle.tp_laws.specs.Standing.{IsUndecided, IsTold, current_after, IsApart};
+ghost use Rattle.tp_model.specs.Events.{recovered_current};
+ghost use Rattle.tp_model.specs.Node.{seen, turned, keep};
+ghost use Rattle.tp_model.specs.Recovery.{settled};
+ghost use Rattle.tp_model.specs.declared.recovery.Kept.{Kept};
+ghost use Rattle.tp_model.specs.declared.recovery.KeptEvent.{KeptEvent};
+ghost use Rattle.tp_laws.specs.Traces.{IsTraced, sent_on, taken_on};
+
+/// In every run, every node's history is legal, every frame was sent by the history of the node that it is from, and
+/// every record that was taken is a frame; a superior stands before its subordinates.
+pub fn world_laws()
+    ensures { (es : List Happening) → IsGood (run es).nodes (run es).frames }
+{}
+
+/// In every legal history a live link counts what was sent and taken with its pair of marks, and a mark that is not yet
+/// drawn is in no record.
+pub fn traces()
+    ensures counts { (o : Origin) (up : Option Addr) (h : List Entry) (p : ℕ) (x y : Mark) (s t : ℕ) → IsGrown o up h → link_with (digest o h).arcs p ≡ Live x y s t
+        → (length (sent_on x y p h) ≡ s) × (length (taken_on x y p h) ≡ t) }
+    ensures marks { (o : Origin) (up : Option Addr) (h : List Entry) → IsGrown o up h → IsTraced o.who up (digest o h) h }
+{}
+
+/// In every run, what one end took with a pair of marks, with what it answered out of phase, is a prefix of what the other
+/// end sent with it.
+pub fn prefix_taken()
+    ensures { (es : List Happening) → PrefixTaken (run es) }
+{}
+
+/// What every event says to a peer, counted: votes behind their record, orders and rollbacks under the branch's key, as
+/// many ends as transactions of the superior end, and at most one Begin more than branches that closed.
+pub fn words_of_events()
+    ensures turn { (e : TxEvent) (s : Transaction) (p : ℕ) → IsPut e s → IsFair e s p s (transacted e s) }
+    ensures node { (who : Who) (d : Digest) (e : Event) (p : ℕ) (sup fall : Bool) (shut : ℕ) → IsLate d → refusal who d e ≡ None → Reads who e p sup fall shut (prelude who d e)
+        → IsHeard p sup fall shut (prelude who d e) (prelude who d e) (action who d e) }
+{}
+
+/// In every run, a node takes the Begin of a tree at most once and never that of a tree of its own, and the node that drew
+/// a tree's identifier was declared no later than each node that knows it.
+pub fn trees_are_entered_once()
+    ensures { (es : List Happening) → IsUnique (run es).nodes }
+{}
+
+/// In every run, a user is told commit only where Commit is logged, is told rollback only where the node rolled, and no
+/// node both logs Commit and rolls in one tree.
+pub fn users_see()
+    ensures { (es : List Happening) → WhatUsersSee (run es) }
+{}
+
+/// In every legal history of a node whose log was empty at first, the records on each pair of marks are paired with the
+/// transactions that they belong to: as many Begins were taken as have ended, but for the current one, which stands at its
+/// place; a branch's key is that of the last Begin; Ready was logged for the Begin that it answers, Commit for the tree of
+/// the last Begin, and a Rollback went only to a branch of a tree that rolled.
+pub fn records_are_paired()
+    ensures { (o : Origin) (up : Option Addr) (h : List Entry) → o.start.records ≡ [] → IsGrown o up h → IsPaired o up h }
+{}
+
+/// In every legal history that enters each tree once, the phase of a tree is what its records and its rolling say, and
+/// nothing is both committed and rolled back.
+pub fn fates_are_one()
+    ensures { (o : Origin) (up : Option Addr) (h : List Entry) (t : Aaid) → o.start.records ≡ [] → IsGrown o up h → IsOnce o h → IsFated o h t }
+{}
+
+/// In every run, Commit goes up: a branch that logged Commit has a superior that logged it in the same tree, whether the
+/// order came over an association, as a question of recovery or as a reply.
+pub fn commits_go_up()
+    ensures { (es : List Happening) (t : Aaid) (b : BranchId) (x y : Node) → IsBranchOf (run es) t b x y → decided y.origin t y.history ≡ true → decided x.origin t x.history ≡ true }
+{}
+
+/// In every run, a node that left a tree did not roll in it.
+pub fn leaving_is_not_rolling()
+    ensures { (es : List Happening) (t : Aaid) (x : Node) → IsOf (run es) t x → has_left x.origin t x.history ≡ true → rolled x.origin t x.history ≡ false }
+{}
+
+/// In every run, every node's history is one that grew from an empty log by events that were accepted.
+pub fn all_legal()
+    ensures { (es : List Happening) → AllLegal (run es) }
+{}
+
+/// Of the events that a site is given, dealt to any number of workers: a worker that has its events alone writes what it
+/// writes in a run of all, and forces the same records in the same order. So what a node answers depends on its own history
+/// alone.
+pub fn own_history()
+    ensures { (o : Opening) (es : List Given) (i w : ℕ) → IsOwnHistory o es i w }
+{}
+
+/// In every legal history, a start on the records of the log knows of the same kept transactions, each as it was but for
+/// the Forgets that were noted, as the crash leaves; its boot number is the next one and the log's version stays.
+pub fn kept_is_in_the_log()
+    ensures kept { (o : Origin) (up : Option Addr) (h : List Entry) → IsGrown o up h → (digest (again o h) []).kept ≡ (digest o (crashed h)).kept }
+    ensures boot { (o : Origin) (h : List Entry) → (digest (again o h) []).boot ≡ (digest o (crashed h)).boot }
+    ensures version { (o : Origin) (up : Option Addr) (h : List Entry) → IsGrown o up h → (digest (again o h) []).version ≡ (digest o (crashed h)).version }
+{}
+
+/// Every event of a transaction forces the record that tells what it makes of it: what of a ready or committing transaction
+/// stands in the log (its key, its phase, the branches that did not leave, its decision), with the record of the event, is
+/// what stands there behind it; and of a node, what a crash would leave of
+/// its current transaction goes with the record over to what a crash leaves behind the event. Nothing stands there before
+/// ready, in a rollback, and behind the end. A record of a kept transaction leaves what stands there of the current one,
+/// where no kept key is its key; and an event of the current one keeps that so.
+pub fn turns_are_in_the_log()
+    ensures turn { (e : TxEvent) (s : Transaction) → IsPut e s → IsUndecided s → IsTold s (transacted e s) }
+    ensures node { (who : Who) (f : TxEvent) (d : Digest) (c : Current) → d.current ≡ Some c → IsPut f (seen who d.arcs c) → IsUndecided (seen who d.arcs c)
+        → current_after (turned who f d c).rec (recovered_current d.current) ≡ recovered_current (turned who f d c).next.current }
+    ensures apart { (who : Who) (f : TxEvent) (d : Digest) (c : Current) → d.current ≡ Some c → IsPut f (seen who d.arcs c) → IsUndecided (seen who d.arcs c) → IsApart d → IsApart (turned who f d c).next }
+    ensures kept { (d : Digest) (k : Kept) (f : KeptEvent) → IsApart d → IsAmong d.kept k
+        → current_after (keep (settled k f) d).rec (recovered_current d.current) ≡ recovered_current (keep (settled k f) d).next.current }
+{}
