@@ -1,0 +1,79 @@
+-- What a keeper of records tells of itself, and what an answer of `force` says.
+-- It names no journal and no lock: a journal and a share of a locked log both meet it.
+use Rattle.std.specs.Prelude.{ℕ, ◌≡◌, ◌≤◌, ◌<◌, ◌+◌, ◌⊎◌, Bool, List, [], ◌∷◌, ◌++◌, length, Option, Some, None, Result, Ok, Err}
+use Rattle.tp_outside.specs.Faults.{HasRisen}
+use Rattle.tp_logrec.specs.declared.record.LogRec.{LogRec}
+use Rattle.tp_journal.specs.Log.{most_bytes}
+use Rattle.tp_journal.specs.Records.{text}
+use Rattle.tp_journal.specs.declared.receipts.Receipt.{Receipt}
+use Rattle.tp_journal.specs.declared.faults.ForceFault.{ForceFault}
+use Rattle.tp_journal.specs.declared.faults.ForceFault.TheVariants as force
+
+pub record Standing : Type 0 where
+  -- what count, rec and place tell
+  pub told : List Receipt
+  -- the keeper's own records in order: those that it told when it was made, and each that it has forced since
+  pub kept : List Receipt
+  -- the log's bytes up to its closing gate, that one included, where the keeper tells them
+  pub length_told : Option ℕ
+  -- the count that every further `force` answers with
+  pub shut : Option ℕ
+  pub faults : ℕ
+  -- is the log of version 2?
+  pub wide : Bool
+  -- numbers that no call changes: what a generic caller hands back of a keeper that it took
+  pub lasting : List ℕ
+
+-- the length behind a record: an open gate's place is the closing gate's, then the text behind its length, and a gate
+abbrev pub longer : ℕ → Bool → LogRec → ℕ
+longer n wide rec = n + 3 + length (text wide rec)
+
+abbrev pub longer_told : Option ℕ → Bool → LogRec → Option ℕ
+longer_told None wide rec = None
+longer_told (Some n) wide rec = Some (longer n wide rec)
+
+-- the record has room, where the length is told
+abbrev pub HasRoom : Option ℕ → Bool → LogRec → Type 0
+HasRoom None wide rec = Unit {0}
+HasRoom (Some n) wide rec = longer n wide rec ≤ most_bytes
+
+-- Full comes exactly where the record has no room, or, of a keeper that tells no length, only with a fault counted
+abbrev pub IsFull : Option ℕ → Bool → LogRec → ℕ → ℕ → Type 0
+IsFull None wide rec size faults = 0 < faults
+IsFull (Some n) wide rec size faults = (size ≡ longer n wide rec) × (most_bytes < size)
+
+-- Shut comes exactly where the keeper was shut with that count, or, of a keeper that tells no length, only with a fault
+-- counted
+abbrev pub IsShut : Option ℕ → Option ℕ → ℕ → ℕ → Type 0
+IsShut None shut n faults = 0 < faults
+IsShut (Some length) shut n faults = shut ≡ Some n
+
+-- the record is the keeper's last one, and the receipt tells it
+pub record Stored (old : Standing) (rec : LogRec) (r : Receipt) (new : Standing) : Type 0 where
+  pub same : r.rec ≡ rec
+  pub kept : new.kept ≡ old.kept ++ r ∷ []
+  pub told : (new.told ≡ old.told) ⊎ (new.told ≡ new.kept)
+  pub length_told : new.length_told ≡ longer_told old.length_told old.wide rec
+  pub room : HasRoom old.length_told old.wide rec
+  pub open_before : old.shut ≡ None
+  pub open_after : new.shut ≡ None
+  pub faults : old.faults ≤ new.faults
+  pub wide : new.wide ≡ old.wide
+  pub lasting : new.lasting ≡ old.lasting
+
+-- nothing is kept or told that was not before
+pub record Refused (old new : Standing) : Type 0 where
+  pub kept : new.kept ≡ old.kept
+  pub told : new.told ≡ old.told
+  pub length_told : new.length_told ≡ old.length_told
+  pub faults : old.faults ≤ new.faults
+  pub wide : new.wide ≡ old.wide
+  pub lasting : new.lasting ≡ old.lasting
+
+-- what an answer says
+abbrev pub Forces : Standing → LogRec → Result Receipt ForceFault → Standing → Type 0
+Forces old rec (Ok r) new = Stored old rec r new
+Forces old rec (Err (force.Full size)) new = Refused old new × IsFull old.length_told old.wide rec size new.faults × (old.shut ≡ None) × (new.shut ≡ None)
+Forces old rec (Err (force.DiskFault n)) new = Refused old new × HasRisen old.faults new.faults × (old.shut ≡ None) × (new.shut ≡ Some n)
+Forces old rec (Err (force.Shut n)) new = Refused old new × IsShut old.length_told old.shut n new.faults × (new.shut ≡ Some n)
+Forces old rec (Err force.NoMemory) new = new ≡ old

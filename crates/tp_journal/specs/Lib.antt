@@ -1,0 +1,10 @@
+pub mod Log
+pub mod Foreign
+pub mod Told
+pub mod Read
+pub mod Start
+pub mod Started
+pub mod Gates
+pub mod Records
+pub mod Keeping
+pub mod Journals

@@ -1,0 +1,193 @@
+//! The journal: the records of a site on its disk.
+ghost use Rattle.std.specs.Prelude.{◌≡◌, ◌≤◌, ◌<◌, ◌++◌, true, ◌∷◌, [], ℕ, List, length, Some, None, IfOk, IfErr, OnOk, OnErr, slice_index_or};
+ghost use Rattle.std.specs.List.{AllByRecursion};
+ghost use Rattle.tp_outside.specs.Faults.{HasRisen};
+ghost use Rattle.tp_outside.specs.Story.{Story};
+ghost use Rattle.tp_journal.specs.Log.{head, blocks, most_bytes, StandsForEither};
+ghost use Rattle.tp_journal.specs.Told.{IsOn, LeavesOnly};
+ghost use Rattle.tp_journal.specs.Start.{Starts, RefusesStart};
+ghost use Rattle.tp_journal.specs.Started.{IsStarted, KeepsDisk, KeepsDiskInReplace};
+ghost use Rattle.tp_logrec.specs.Order.{all_follow, brief};
+ghost use Rattle.tp_journal.specs.Records.{HasText, bodies_of, record_body};
+ghost use Rattle.tp_journal.specs.Journals.{bodies_in, standing_of, Becomes, RefusesCompact, RefusesMigrate, size_of};
+ghost use Rattle.tp_journal.specs.Keeping.{Forces};
+
+use crate::log::{Log, MOST_BYTES};
+use crate::records::{Records, generation, write_text};
+use crate::{CompactFault, ForceFault, Keeper, Receipt, StartFault, tape};
+use std::alloc::Global;
+use std::marker::Model;
+use tp_logrec::{LogRec, brief};
+use tp_outside::{Disk, Failed};
+
+// A log of version 2 with no records: four letters, the selector, the mark behind an open gate, and a closed gate.
+const EMPTY: [u8; 11] = [79, 84, 80, 76, 1, 1, 0, 2, 7, 2, 0];
+
+/// Makes the disk hold a log of version 2 with no records alone, whatever it held.
+pub fn format<D: Disk>(disk: &mut D) -> Result<(), Failed>
+    ensures formatted { OnOk result ((s : Story) → D.told disk.old ≡ Some s → IsOn (D.told disk.new) (head 1 ++ blocks (bodies_of true []) ++ 0 ∷ [])) }
+    ensures untold { D.told disk.old ≡ None → D.told disk.new ≡ None }
+    ensures kept { D.fault_count disk.old ≤ D.fault_count disk.new }
+    ensures risen { OnErr result (HasRisen (D.fault_count disk.old) (D.fault_count disk.new)) }
+{
+    tape::overwrite(disk, &EMPTY)
+}
+
+/// A started log of records.
+#[derive(Drop)]
+pub struct Journal<D: Disk> {
+    log: Log<D, Records>,
+}
+
+impl<D: Disk> Model for Journal<D> {
+    ghost use Rattle.tp_journal.specs.Journals.{Kept, kept_of};
+    ghost use Rattle.tp_journal.specs.Records.{AreRecords};
+
+    ghost Value = { Kept D };
+
+    ghost view = { λ j. kept_of j.log };
+
+    ghost invariant = { λ j. AreRecords j.log.shelf };
+}
+
+impl<D: Disk> Journal<D> {
+    /// Reads the records of a log, and ends a change of generation that was cut short.
+    pub fn start(alloc: Global, disk: D) -> Result<Journal<D>, (D, StartFault)>
+        ensures started { IfOk result (λ j. Starts (D.told disk) (D.told j.disk) j.gate (bodies_in j) × (j.shut ≡ None)) }
+        ensures texts { IfOk result (λ j. AllByRecursion (HasText j.wide) j.list) }
+        ensures refused { IfErr result (λ e. RefusesStart record_body (D.told disk) (D.told e.0) (D.fault_count disk) (D.fault_count e.0) e.1) }
+    {
+        let log = Log::start(alloc, disk, Records::new(alloc))?;
+        let _records = log.shelf().list();
+        Ok(Journal { log })
+    }
+
+    /// Forces one record: with the receipt it is on the disk, behind all earlier ones.
+    pub fn force(&mut self, alloc: Global, rec: &LogRec) -> Result<Receipt, ForceFault>
+        requires { HasText self.old.wide rec.now }
+        ensures forces { Forces (standing_of self.old (D.fault_count self.old.disk)) rec.now result (standing_of self.new (D.fault_count self.new.disk)) }
+        ensures untouched { IfErr result (KeepsDisk self.old.disk self.new.disk) }
+        // A crash at any moment of the call leaves the records from before it, with the new one or without.
+        ensures moments { self.old.shut ≡ None → (s : Story) → D.told self.old.disk ≡ Some s
+            → LeavesOnly (StandsForEither (bodies_in self.old) (bodies_of self.old.wide (self.old.list ++ rec.now ∷ []))) (D.told self.old.disk) (D.told self.new.disk) }
+    {
+        if let Some(faults) = self.log.shut() {
+            return Err(ForceFault::Shut { faults });
+        }
+        let body = write_text(alloc, self.log.shelf().wide(), rec)?;
+        let copy = rec.copy(alloc)?;
+        let place = self.log.append(alloc, body.as_slice())?;
+        Ok(Receipt { place, rec: copy })
+    }
+
+    /// Puts the brief of the list in its place, in the version that the log has.
+    pub fn compact(&mut self, alloc: Global) -> Result<(), CompactFault>
+        requires { all_follow self.old.list ≡ true }
+        ensures compacted { OnOk result (Becomes self.old.wide (brief self.old.list) self.old (D.fault_count self.old.disk) self.new (D.fault_count self.new.disk)) }
+        ensures refused { IfErr result (RefusesCompact self.old (D.fault_count self.old.disk) self.new (D.fault_count self.new.disk)) }
+        ensures untouched { IfErr result (KeepsDiskInReplace self.old.disk self.new.disk) }
+        // A crash at any moment of the call leaves the records from before it, or their brief.
+        ensures moments { self.old.shut ≡ None → (s : Story) → D.told self.old.disk ≡ Some s
+            → LeavesOnly (StandsForEither (bodies_in self.old) (bodies_of self.old.wide (brief self.old.list))) (D.told self.old.disk) (D.told self.new.disk) }
+    {
+        if let Some(faults) = self.log.shut() {
+            return Err(CompactFault::Shut { faults });
+        }
+        let shelf = self.log.shelf();
+        let short = brief(alloc, shelf.list())?;
+        let (records, text) = generation(alloc, shelf.wide(), short.as_slice())?;
+        self.log.replace(alloc, records, text.as_slice())?;
+        Ok(())
+    }
+
+    /// Makes the log of version 2, and puts the brief of the list in its place. Where that log would have more than
+    /// `MOST_BYTES` up to its closing gate, `Full` says how many, and nothing changes.
+    pub fn migrate(&mut self, alloc: Global) -> Result<(), ForceFault>
+        requires { all_follow self.old.list ≡ true }
+        ensures migrated { OnOk result (Becomes true (brief self.old.list) self.old (D.fault_count self.old.disk) self.new (D.fault_count self.new.disk)) }
+        ensures room { OnOk result (size_of true (brief self.old.list) ≤ most_bytes) }
+        ensures refused { IfErr result (RefusesMigrate self.old (D.fault_count self.old.disk) self.new (D.fault_count self.new.disk)) }
+        ensures untouched { IfErr result (KeepsDisk self.old.disk self.new.disk) }
+        // A crash at any moment of the call leaves the records from before it, or their brief in version 2.
+        ensures moments { self.old.shut ≡ None → (s : Story) → D.told self.old.disk ≡ Some s
+            → LeavesOnly (StandsForEither (bodies_in self.old) (bodies_of true (brief self.old.list))) (D.told self.old.disk) (D.told self.new.disk) }
+    {
+        if let Some(faults) = self.log.shut() {
+            return Err(ForceFault::Shut { faults });
+        }
+        let short = brief(alloc, self.log.shelf().list())?;
+        let (records, text) = generation(alloc, true, short.as_slice())?;
+        let size = 5 + text.len() as u64;
+        if size > MOST_BYTES {
+            return Err(ForceFault::Full { size });
+        }
+        match self.log.replace(alloc, records, text.as_slice()) {
+            Ok(()) => Ok(()),
+            Err(CompactFault::DiskFault { faults }) => Err(ForceFault::DiskFault { faults }),
+            Err(CompactFault::Shut { faults }) => Err(ForceFault::Shut { faults }),
+            Err(CompactFault::NoMemory) => Err(ForceFault::NoMemory),
+        }
+    }
+
+    /// The whole list, oldest first.
+    pub fn list(&self) -> &[LogRec]
+        ensures is { result.now ≡ self.now.list }
+        ensures texts { AllByRecursion (HasText self.now.wide) self.now.list }
+    {
+        self.log.shelf().list()
+    }
+
+    /// The count of faults that every further call answers with, once a call has answered with a fault of the disk.
+    /// Until then the bytes stand for the list.
+    pub fn shut(&self) -> Option<u64>
+        ensures is { result ≡ self.now.shut }
+        ensures started { IsStarted (D.told self.now.disk) self.now.gate (bodies_in self.now) result }
+    {
+        self.log.shut()
+    }
+
+    /// The disk, which is let go of.
+    pub fn disk(self) -> D
+        ensures { result ≡ self.disk }
+    {
+        let Journal { log } = self;
+        log.into_disk()
+    }
+
+    /// The disk, lent.
+    pub fn lent(&self) -> &D
+        ensures { result.now ≡ self.now.disk }
+    {
+        self.log.disk()
+    }
+}
+
+impl<D: Disk> Keeper for Journal<D> {
+    ghost use Rattle.tp_journal.specs.Journals.{standing_of};
+
+    ghost standing = { λ j. standing_of j (D.fault_count j.disk) };
+
+    fn force(&mut self, alloc: Global, rec: &LogRec) -> Result<Receipt, ForceFault> {
+        Journal::force(self, alloc, rec)
+    }
+
+    fn count(&self) -> usize {
+        self.log.shelf().list().len()
+    }
+
+    fn rec(&self, i: usize) -> &LogRec {
+        self.log.shelf().rec(i)
+    }
+
+    fn place(&self, i: usize) -> u64 {
+        self.log.shelf().place(i)
+    }
+
+    fn faults(&self) -> u64 {
+        self.log.disk().faults()
+    }
+
+    fn wide(&self) -> bool {
+        self.log.shelf().wide()
+    }
+}

@@ -1,0 +1,41 @@
+//! What keeps the records of a log.
+use crate::{ForceFault, Receipt};
+use std::alloc::Global;
+use tp_logrec::LogRec;
+
+/// What keeps the records of a log: a journal, or a share of a log under a lock.
+pub trait Keeper {
+    ghost use Rattle.std.specs.Prelude.{◌≡◌, ◌<◌, length, slice_index_or};
+    ghost use Rattle.tp_journal.specs.Keeping.{Standing, Forces};
+    ghost use Rattle.tp_journal.specs.Records.{HasText};
+
+    /// What the keeper tells, and its own records.
+    ghost standing: { Self → Standing };
+
+    /// Forces one record. With the receipt it is on the disk, behind all of this keeper's earlier ones.
+    fn force(&mut self, alloc: Global, rec: &LogRec) -> Result<Receipt, ForceFault>
+        requires { HasText (standing self.old).wide rec.now }
+        ensures { Forces (standing self.old) rec.now result (standing self.new) };
+
+    /// How many records stood when the keeper was made, or the log that it shares.
+    fn count(&self) -> usize
+        ensures { result ≡ length (standing self.now).told };
+
+    /// One of those records.
+    fn rec(&self, i: usize) -> &LogRec
+        requires { i < length (standing self.now).told }
+        ensures { (d : _) → result.now ≡ (slice_index_or (standing self.now).told i d).rec };
+
+    /// Its place: that of its gate in the file, in bytes.
+    fn place(&self, i: usize) -> u64
+        requires { i < length (standing self.now).told }
+        ensures { (d : _) → result ≡ (slice_index_or (standing self.now).told i d).place };
+
+    /// The count of faults, which never falls.
+    fn faults(&self) -> u64
+        ensures { result ≡ (standing self.now).faults };
+
+    /// Is the log of version 2?
+    fn wide(&self) -> bool
+        ensures { result ≡ (standing self.now).wide };
+}

@@ -1,0 +1,27 @@
+//! A log on a disk: bodies behind gates that are opened one at a time, once what they guard is on the disk.
+//!
+//! `Gates` keeps bodies of any bytes; the records of a site stand above it.
+#![tactic(auto)]
+
+mod faults;
+mod gates;
+mod journal;
+mod keeper;
+mod laws;
+mod log;
+mod opening;
+mod read;
+mod receipts;
+mod records;
+mod shelf;
+mod tape;
+#[cfg(test)]
+mod tests;
+
+pub use faults::{CompactFault, ForceFault, StartFault};
+pub use gates::Gates;
+pub use journal::{Journal, format};
+pub use keeper::Keeper;
+pub use laws::{a_log_stands_for_one_list, foreign_bytes_stand_for_nothing};
+pub use log::MOST_BYTES;
+pub use receipts::{Receipt, Receipts};
