@@ -1,0 +1,72 @@
+//! How a run ends: the status, its exit code, and its text.
+use std::fmt;
+use tp_model::What;
+
+/// Why a line is bad.
+#[derive(Clone, Copy, Debug, PartialEq, Eq)]
+pub enum BadLine {
+    /// The program does not do this yet.
+    Unbuilt,
+}
+
+impl fmt::Display for BadLine {
+    fn fmt<W: fmt::Write>(&self, f: &mut fmt::Formatter<W>) -> fmt::Result {
+        match self {
+            BadLine::Unbuilt => write!(f, "unbuilt"),
+        }
+    }
+}
+
+/// The ending of a run. Lines are numbered from 1, comments too; `faults` is the count of the object
+/// that failed, right after the call that failed.
+#[derive(Clone, Copy, Debug, PartialEq, Eq)]
+pub enum Status {
+    /// The input was read to its end, and its whole transcript is written.
+    Ok,
+    /// The words are not those of a command.
+    Usage,
+    /// The line at that number is the first that is bad.
+    BadInput { at: u64, why: BadLine },
+    /// A count would pass its limit in the line at that number.
+    Limit { what: What, at: u64 },
+    /// The source failed.
+    ReadFault { faults: u64 },
+    /// The sink failed.
+    WriteFault { faults: u64 },
+    /// No memory could be had.
+    NoMemory,
+}
+
+impl Status {
+    ghost use Rattle.std.specs.Prelude.{◌≡◌};
+    ghost use Rattle.tpnode.specs.Status.{code_of};
+
+    /// The exit code of a program that ends so.
+    pub fn code(self) -> u8
+        ensures { result ≡ code_of self }
+    {
+        match self {
+            Status::Ok => 0,
+            Status::Usage => 2,
+            Status::BadInput { .. } => 3,
+            Status::Limit { .. } => 4,
+            Status::ReadFault { .. } => 6,
+            Status::WriteFault { .. } => 7,
+            Status::NoMemory => 9,
+        }
+    }
+}
+
+impl fmt::Display for Status {
+    fn fmt<W: fmt::Write>(&self, f: &mut fmt::Formatter<W>) -> fmt::Result {
+        match self {
+            Status::Ok => write!(f, "ok"),
+            Status::Usage => write!(f, "usage"),
+            Status::BadInput { at, why } => write!(f, "bad input at {at}: {why}"),
+            Status::Limit { what, at } => write!(f, "limit {what} at {at}"),
+            Status::ReadFault { .. } => write!(f, "read fault"),
+            Status::WriteFault { .. } => write!(f, "write fault"),
+            Status::NoMemory => write!(f, "no memory"),
+        }
+    }
+}
