@@ -1,5 +1,5 @@
 -- Texts that are written in pieces.
-use Rattle.std.proofs.Common.{◌≡◌, ℕ, List, ◌∷◌, ◌++◌, refl, ap, ◌∙◌, append_assoc}
+use Rattle.std.proofs.Common.{◌≡◌, ℕ, List, ◌++◌, refl, ap, ◌∙◌, append_assoc}
 use Rattle.tp_names.specs.Bytes.{byte_bytes, long_bytes, maybe_bytes, mark_bytes}
 use Rattle.tp_names.specs.declared.identifiers.Mark.{Mark}
 use Rattle.std.specs.Prelude.{Option}

@@ -5,3 +5,15 @@ pub mod Sent
 pub mod Whole
 pub mod Short
 pub mod Decoding
+pub mod Agreeing
+pub mod Choosing
+pub mod Parts
+pub mod NamesOf
+pub mod StateOf
+pub mod ReplyOf
+pub mod OctetsOf
+pub mod DialogueOf
+pub mod PeerOf
+pub mod CountOf
+pub mod Following
+pub mod Walking

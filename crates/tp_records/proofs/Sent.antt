@@ -1,22 +1,21 @@
 -- The octets of what is sent: what their scan finds and refuses.
-use Rattle.std.proofs.Common.{◌≡◌, ℕ, ◌≤◌, Bool, true, false, Option, Some, None, Result, Ok, Err, List, [], ◌∷◌, ◌++◌, length, ◌==◌, refl, sym, ap, subst, ◌∙◌, arith}
+use Rattle.std.proofs.Common.{◌≡◌, ℕ, Bool, true, false, Option, Some, None, Result, Ok, Err, List, [], ◌∷◌, length, ◌==◌, refl, sym, ap, subst, ◌∙◌, arith}
 use Rattle.std.proofs.lemmas.Bool.Decides.{nat_tests}
 use Rattle.tp_names.specs.Reading.{Reader, that, if_passes, read_octets}
-use Rattle.tp_names.specs.Scanning.{Scan, scan_octets, GivesUnlessFull}
+use Rattle.tp_names.specs.Scanning.{scan_octets, GivesUnlessFull}
 use Rattle.tp_names.specs.declared.bad_bytes.BadBytes.{BadBytes}
 use Rattle.tp_names.specs.declared.bad_bytes.ReadFault.{ReadFault}
-use Rattle.tp_names.specs.Places.{AreBytes, IsSteady, IsScan}
-use Rattle.tp_names.proofs.Sequences.{some_of, some_pair, ok_pair}
+use Rattle.tp_names.specs.Places.{AreBytes, IsSteady}
+use Rattle.tp_names.proofs.Sequences.{some_of, ok_pair}
 use Rattle.tp_names.proofs.Counts.{octets_scan, octets_none}
 use Rattle.tp_names.proofs.Passing.{that_steady, that_read}
-use Rattle.tp_names.proofs.Plain.{IsPlain}
 use Rattle.tp_records.specs.declared.peer.PeerRecord.{PeerRecord}
-use Rattle.tp_records.specs.BodyReading.{whole, peer_in, is_peer_text, read_peer}
+use Rattle.tp_records.specs.BodyReading.{whole, is_peer_text}
 use Rattle.tp_records.specs.BodyScanning.{scan_peer}
 use Rattle.tp_records.specs.SentScanning.{sent_place, scan_sent}
 use Rattle.tp_records.proofs.Scans.{peer_scan}
 
-abbrev read_sent : Reader (List ℕ)
+abbrev pub read_sent : Reader (List ℕ)
 read_sent = that is_peer_text (read_octets 2000)
 
 abbrev sent_from : List ℕ → Option (List ℕ × List ℕ) → Result (List ℕ × List ℕ) ℕ
@@ -26,26 +25,23 @@ sent_is : (bytes : List ℕ) → scan_sent bytes ≡ sent_from bytes (read_sent 
 unfolding scan_sent
 sent_is bytes = refl
 
-place_within : (bytes : List ℕ) → sent_place bytes ≤ length bytes
-unfolding sent_place
-place_within bytes = omega arith
+pub sent_steady : IsSteady read_sent
+sent_steady = that_steady is_peer_text (read_octets 2000) (octets_scan 2000).steady
 
-pub sent_plain : IsPlain read_sent scan_sent
-sent_plain = record { steady = that_steady is_peer_text (read_octets 2000) (octets_scan 2000).steady; found = found; refused = refused }
+pub sent_found : (bytes v rest : List ℕ) → scan_sent bytes ≡ Ok (v, rest) → read_sent bytes ≡ Some (v, rest)
+sent_found bytes v rest h = go (read_sent bytes) refl (sym (sent_is bytes) ∙ h)
   where
-    found : (bytes v rest : List ℕ) → scan_sent bytes ≡ Ok (v, rest) → read_sent bytes ≡ Some (v, rest)
-    found bytes v rest h = go (read_sent bytes) refl (sym (sent_is bytes) ∙ h)
-      where
-        go : (o : Option (List ℕ × List ℕ)) → read_sent bytes ≡ o → sent_from bytes o ≡ Ok (v, rest) → read_sent bytes ≡ Some (v, rest)
-        go None e k = absurd cc
-        go (Some p) e k = let same = ok_pair p.0 v p.1 rest k in e ∙ ap (λ (w : List ℕ). some_of w p.1) same.0 ∙ ap (λ (w : List ℕ). some_of v w) same.1
+    go : (o : Option (List ℕ × List ℕ)) → read_sent bytes ≡ o → sent_from bytes o ≡ Ok (v, rest) → read_sent bytes ≡ Some (v, rest)
+    go None e k = absurd cc
+    go (Some p) e k = let same = ok_pair p.0 v p.1 rest k in e ∙ ap (λ (w : List ℕ). some_of w p.1) same.0 ∙ ap (λ (w : List ℕ). some_of v w) same.1
 
-    refused : (bytes : List ℕ) (left : ℕ) → AreBytes bytes → scan_sent bytes ≡ Err left → (read_sent bytes ≡ None) × (left ≤ length bytes)
-    refused bytes left fits h = go (read_sent bytes) refl (sym (sent_is bytes) ∙ h)
-      where
-        go : (o : Option (List ℕ × List ℕ)) → read_sent bytes ≡ o → sent_from bytes o ≡ Err left → (read_sent bytes ≡ None) × (left ≤ length bytes)
-        go None e k = let place : sent_place bytes ≡ left = cc in (e, omega (arith, place_within bytes, place))
-        go (Some p) e k = absurd cc
+-- octets that are refused are told at the place
+pub sent_refused : (bytes : List ℕ) (left : ℕ) → scan_sent bytes ≡ Err left → (read_sent bytes ≡ None) × (sent_place bytes ≡ left)
+sent_refused bytes left h = go (read_sent bytes) refl (sym (sent_is bytes) ∙ h)
+  where
+    go : (o : Option (List ℕ × List ℕ)) → read_sent bytes ≡ o → sent_from bytes o ≡ Err left → (read_sent bytes ≡ None) × (sent_place bytes ≡ left)
+    go None e k = (e, cc)
+    go (Some p) e k = absurd cc
 
 pub sent_taken : (bytes v rest : List ℕ) → scan_octets 2000 bytes ≡ Ok (v, rest) → is_peer_text v ≡ true → scan_sent bytes ≡ Ok (v, rest)
 sent_taken bytes v rest h text =

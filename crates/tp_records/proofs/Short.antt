@@ -1,12 +1,10 @@
 -- Octets that are read back are few enough for a count of two bytes.
-use Rattle.std.proofs.Common.{◌≡◌, ℕ, ◌≤◌, ◌<◌, ◌^◌, Option, Some, None, List, [], ◌∷◌, ◌++◌, length, ◌*◌, ◌+◌, ◌==◌, Bool, true, false, refl, sym, ap, subst, ◌∙◌, arith}
+use Rattle.std.proofs.Common.{◌≡◌, ℕ, ◌<◌, ◌^◌, Option, Some, List, [], ◌∷◌, ◌*◌, ◌+◌, ◌==◌, Bool, true, false, sym, subst, arith}
 use Rattle.tp_names.specs.Reading.{Reader, make, ◌and◌, that, read_byte, read_short, read_long, read_maybe, read_mark, read_addr, read_aaid, read_branch, read_report, read_outcome, read_octets, read_kind, read_by_code}
 use Rattle.tp_names.specs.Grammar.{HasText}
-use Rattle.tp_names.proofs.Sequences.{some_of, some_pair, Both, both_parts}
+use Rattle.tp_names.proofs.Sequences.{some_pair, Both, both_parts}
 use Rattle.tp_names.proofs.Counts.{OctetsParts, octets_parts}
-use Rattle.tp_names.proofs.Passing.{Passed, that_parts}
-use Rattle.tp_names.specs.declared.identifiers.Mark.{Mark}
-use Rattle.tp_names.specs.declared.identifiers.Addr.{Addr}
+use Rattle.tp_names.proofs.Passing.{that_parts}
 use Rattle.tp_records.specs.declared.request.Request.{Request}
 use Rattle.tp_records.specs.declared.indication.Indication.{Indication}
 use Rattle.tp_records.specs.declared.dialogue.DialogueRecord.{DialogueRecord}
@@ -14,10 +12,9 @@ use Rattle.tp_records.specs.declared.peer.PeerRecord.{PeerRecord}
 use Rattle.tp_records.specs.declared.body.Event.{Event}
 use Rattle.tp_records.specs.declared.body.Output.{Output}
 use Rattle.tp_records.specs.declared.body.Body.{Body}
-use Rattle.tp_records.specs.declared.dialogue.Holder.{Holder}
-use Rattle.tp_records.specs.BodyReading.{of_peer, is_refusal, read_units, read_holder, read_state, request_kinds, read_request, indication_kinds, read_indication, dialogue_kinds, read_dialogue, peer_kinds, read_peer, body_kinds, read_body, is_peer_text, peer_grammar, body_grammar}
-use Rattle.tp_records.specs.Bodies.{request_bytes, indication_bytes, dialogue_bytes, peer_bytes, body_bytes}
-use Rattle.tp_records.specs.Octets.{IsShort, IsShortRequest, IsShortIndication, IsShortDialogue, IsShortPeer, IsShortEvent, IsShortOutput, IsShortBody}
+use Rattle.tp_records.specs.BodyReading.{is_refusal, read_units, read_holder, read_state, request_kinds, read_request, indication_kinds, read_indication, dialogue_kinds, read_dialogue, peer_kinds, read_peer, body_kinds, read_body, is_peer_text, peer_grammar, body_grammar}
+use Rattle.tp_records.specs.Bodies.{peer_bytes, body_bytes}
+use Rattle.tp_records.specs.Octets.{IsShort, IsShortRequest, IsShortIndication, IsShortDialogue, IsShortPeer, IsShortBody}
 
 -- what is read always has a property
 pub record Makes {A : Type 0} (P : A → Type 0) (r : Reader A) : Type 0 where

@@ -1,14 +1,11 @@
 -- What is read of requests, indications, records and bodies is written so, row by row.
-use Rattle.std.proofs.Common.{◌≡◌, ℕ, ◌<◌, Bool, true, false, Option, Some, None, List, [], ◌∷◌, ◌++◌, refl, ap, ◌∙◌, arith}
+use Rattle.std.proofs.Common.{[], ◌∷◌, refl}
 use Rattle.tp_names.specs.Bytes.{byte_bytes, short_bytes, long_bytes, mark_bytes, aaid_bytes, branch_bytes, maybe_bytes, addr_bytes, outcome_bytes, report_bytes, octets_bytes}
-use Rattle.tp_names.specs.Reading.{Reader, make, ◌and◌, that, read_byte, read_short, read_long, read_maybe, read_mark, read_aaid, read_branch, read_addr, read_outcome, read_report, read_octets}
-use Rattle.tp_names.specs.Scanning.{Scan, scan_make, ◌with◌, scan_byte, scan_byte_that, scan_short, scan_long, scan_maybe, scan_mark, scan_aaid, scan_branch, scan_addr, scan_outcome, scan_report, scan_octets}
-use Rattle.tp_names.specs.Places.{AreBytes, IsScan, IsWrittenBy}
-use Rattle.tp_names.proofs.Sequences.{scan_made, scan_both}
-use Rattle.tp_names.proofs.Numbers.{byte_scan, short_scan, long_scan, byte_written, short_written, long_written}
-use Rattle.tp_names.proofs.Codes.{byte_that_scan, code_scan, maybe_scan}
-use Rattle.tp_names.proofs.Counts.{octets_scan, octets_written}
-use Rattle.tp_names.proofs.Values.{mark_scan, aaid_scan, branch_scan, addr_scan, outcome_scan, report_scan, mark_written, aaid_written, branch_written, addr_written, outcome_written, report_written}
+use Rattle.tp_names.specs.Reading.{that, read_byte, read_short, read_long, read_maybe, read_mark, read_aaid, read_branch, read_addr, read_outcome, read_report, read_octets}
+use Rattle.tp_names.specs.Places.{IsWrittenBy}
+use Rattle.tp_names.proofs.Numbers.{byte_written, short_written, long_written}
+use Rattle.tp_names.proofs.Counts.{octets_written}
+use Rattle.tp_names.proofs.Values.{mark_written, aaid_written, branch_written, addr_written, outcome_written, report_written}
 use Rattle.tp_names.proofs.Written.{row_0, row_1, row_2, row_3, row_4, code_written, maybe_written}
 use Rattle.tp_units.specs.Units.{is_permitted}
 use Rattle.tp_records.specs.declared.request.Request.{Request}
@@ -21,7 +18,7 @@ use Rattle.tp_records.specs.declared.body.Event.{Event}
 use Rattle.tp_records.specs.declared.body.Output.{Output}
 use Rattle.tp_records.specs.declared.body.Body.{Body}
 use Rattle.tp_records.specs.Bodies.{request_bytes, indication_bytes, holder_bytes, dialogue_bytes, state_bytes, peer_bytes, body_bytes}
-use Rattle.tp_records.specs.BodyReading.{of_peer, read_units, request_kinds, read_request, indication_kinds, read_indication, holder_kinds, read_holder, dialogue_kinds, read_dialogue, state_kinds, read_state, peer_kinds, read_peer, body_kinds, read_body, is_refusal, is_peer_text}
+use Rattle.tp_records.specs.BodyReading.{read_units, request_kinds, read_request, indication_kinds, read_indication, holder_kinds, read_holder, dialogue_kinds, read_dialogue, state_kinds, read_state, peer_kinds, read_peer, body_kinds, read_body, is_refusal, is_peer_text}
 use Rattle.tp_names.proofs.Passing.{that_written}
 
 units_written : IsWrittenBy byte_bytes read_units

@@ -1,7 +1,7 @@
 -- How the code reads requests, indications, records and bodies: the tables of BodyReading with scans in place of readers.
 -- What a scan is, and what it means that it is right, stands beside the small values.
-use Rattle.std.specs.Prelude.{ℕ, Option, Some, None, List, [], ◌∷◌}
-use Rattle.tp_names.specs.Scanning.{Scan, scan_make, ◌with◌, scan_byte, scan_byte_that, scan_short, scan_long, scan_by_code, scan_maybe, scan_mark, scan_aaid, scan_branch, scan_addr, scan_outcome, scan_report, scan_octets}
+use Rattle.std.specs.Prelude.{ℕ, List, [], ◌∷◌}
+use Rattle.tp_names.specs.Scanning.{Scan, scan_make, ◌with◌, scan_byte, scan_byte_that, scan_short, scan_long, scan_by_code, scan_maybe, scan_mark, scan_aaid, scan_branch, scan_addr, scan_report, scan_octets}
 use Rattle.tp_units.specs.Units.{is_permitted}
 use Rattle.tp_records.specs.declared.request.Request.{Request}
 use Rattle.tp_records.specs.declared.indication.Indication.{Indication}

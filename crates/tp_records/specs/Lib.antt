@@ -6,4 +6,3 @@ pub mod BodyScanning
 pub mod SentScanning
 pub mod WholeScanning
 pub mod Answers
-pub mod Faults

@@ -1,6 +1,6 @@
 -- How the code reads the octets of what is sent: a count, and the text of one peer record of exactly so many bytes.
 -- A byte is refused where no record of that length goes on with it; so here stands how long the text of each kind can be.
-use Rattle.std.specs.Prelude.{ℕ, suc, ◌-◌, ◌/◌, ◌%◌, ◌*◌, ◌+◌, ◌==◌, ◌&&◌, ◌||◌, nat_le, Bool, if◌then◌else◌, Option, Some, None, Result, Ok, Err, min, List, [], ◌∷◌, length}
+use Rattle.std.specs.Prelude.{ℕ, suc, ◌-◌, ◌/◌, ◌%◌, ◌*◌, ◌+◌, ◌==◌, ◌&&◌, ◌||◌, nat_le, Bool, if◌then◌else◌, Some, None, Result, Ok, Err, min, List, [], ◌∷◌, length}
 use Rattle.tp_names.specs.Scanning.{Scan, scan_make, ◌with◌, with_value, then_scan, scan_byte_that, scan_this, scan_skip, scan_long, scan_mark, scan_site_within, scan_report}
 use Rattle.tp_names.specs.Reading.{that, read_octets}
 use Rattle.tp_records.specs.BodyReading.{is_peer_text}

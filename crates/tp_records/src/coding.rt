@@ -3,7 +3,6 @@ ghost use Rattle.std.specs.Prelude.{◌≡◌, ◌≤◌, ◌++◌, ℕ, length,
 ghost use Rattle.tp_names.specs.Grammar.{HasText, Begins, IsFaultOf, IsGrammar};
 ghost use Rattle.tp_records.specs.Bodies.{peer_bytes, body_bytes};
 ghost use Rattle.tp_records.specs.BodyReading.{peer_grammar, body_grammar};
-ghost use Rattle.tp_records.specs.Faults.{IsBodyFault};
 
 use crate::body::bytes::{read_body, write_body};
 use crate::peer::bytes::{read_peer, write_peer_record};
@@ -40,9 +39,11 @@ pub fn encode_peer(alloc: Global, v: &PeerRecord, out: &mut Octets) -> Result<()
 }
 
 /// The body whose text stands in front of the bytes, and that text's length.
+///
+/// A fault is told at the length of the longest front of the bytes that some text begins with.
 pub fn decode_body(alloc: Global, bytes: &[u8]) -> Result<(Body, usize), RecordFault>
     ensures ok { IfOk result (λ found. Begins body_grammar found.0 found.1 bytes.now) }
-    ensures bad { IfErr result (λ fault. IsBodyFault bytes.now fault) }
+    ensures bad { IfErr result (λ fault. IsFaultOf body_grammar bytes.now fault) }
 {
     let mut from = Cursor::new(bytes);
     match read_body(alloc, &mut from) {

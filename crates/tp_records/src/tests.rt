@@ -1,7 +1,7 @@
 use super::*;
 use std::alloc::Global;
 use std::test::Fail;
-use tp_names::{Octets, RecordFault};
+use tp_names::{Addr, Octets, RecordFault};
 
 // Declare node 2 under node 1 of site a.
 const DECLARE: &[u8] = b"\x01\x00\x02\x01\x01a\x00\x01";
@@ -144,20 +144,37 @@ fn peer_returns(alloc: Global, bytes: &[u8]) -> Result<bool, Fail> {
     Ok(len == bytes.len() && out.as_slice() == bytes)
 }
 
+fn is_node(addr: &Addr, site: &[u8], node: u16) -> bool {
+    addr.site.bytes() == site && addr.node == node
+}
+
 #[test]
-fn worked_frames_are_read(rt: HostRuntime) -> Result<(), Fail> {
-    let (body, len) = decode_body(rt.alloc(), TELL)?;
-    assert_eq!(rt; len, 7);
+fn worked_events_are_read(rt: HostRuntime) -> Result<(), Fail> {
+    let (body, len) = decode_body(rt.alloc(), DECLARE)?;
+    assert_eq!(rt; len, 8);
     assert!(rt;
-        matches!(
-            &body,
-            Body::Output(Output::Tell {
-                node: 2,
-                indication: Indication::BeginDialogue { peer: 1, .. },
-            })
-        )
+        match &body {
+            Body::Event(
+                Event::Declare {
+                    node: 2,
+                    superior: Some(above),
+                }
+            ) => is_node(above, b"a", 1),
+            _ => false,
+        }
     );
-    let (body, _) = decode_body(rt.alloc(), ACCEPT)?;
+    let (body, len) = decode_body(rt.alloc(), ARRIVE)?;
+    assert_eq!(rt; len, 31);
+    assert!(rt;
+        match &body {
+            Body::Event(Event::Arrive { from, to, octets }) => {
+                is_node(from, b"a", 1) && is_node(to, b"b", 2) && octets.as_slice() == OPEN
+            }
+            _ => false,
+        }
+    );
+    let (body, len) = decode_body(rt.alloc(), ACCEPT)?;
+    assert_eq!(rt; len, 5);
     assert!(rt;
         matches!(
             &body,
@@ -167,6 +184,42 @@ fn worked_frames_are_read(rt: HostRuntime) -> Result<(), Fail> {
             })
         )
     );
+    Ok(())
+}
+
+#[test]
+fn worked_outputs_are_read(rt: HostRuntime) -> Result<(), Fail> {
+    let (body, len) = decode_body(rt.alloc(), TELL)?;
+    assert_eq!(rt; len, 7);
+    assert!(rt;
+        match &body {
+            Body::Output(
+                Output::Tell {
+                    node: 2,
+                    indication: Indication::BeginDialogue { peer: 1, units },
+                }
+            ) => units.bits() == 41,
+            _ => false,
+        }
+    );
+    let (body, len) = decode_body(rt.alloc(), SEND)?;
+    assert_eq!(rt; len, 49);
+    assert!(rt;
+        match &body {
+            Body::Output(Output::Send { from, to, octets }) => {
+                is_node(from, b"b", 2) && is_node(to, b"a", 1) && octets.as_slice() == &SEND[11..]
+            }
+            _ => false,
+        }
+    );
+    let (body, len) = decode_body(rt.alloc(), OVER)?;
+    assert_eq!(rt; len, 1);
+    assert!(rt; matches!(&body, Body::Output(Output::Over)));
+    Ok(())
+}
+
+#[test]
+fn worked_records_are_read(rt: HostRuntime) -> Result<(), Fail> {
     let (rec, len) = decode_peer(rt.alloc(), OPEN)?;
     assert_eq!(rt; len, 20);
     assert!(rt; matches!(&rec, PeerRecord::OpenAssoc { .. }));
@@ -174,7 +227,16 @@ fn worked_frames_are_read(rt: HostRuntime) -> Result<(), Fail> {
         assert_eq!(rt; (x.boot, x.node, x.count), (1, 1, 1));
         assert_eq!(rt; units.bits(), 41);
     }
+    let (rec, len) = decode_peer(rt.alloc(), &SEND[11..])?;
+    assert_eq!(rt; len, 38);
+    assert!(rt; matches!(&rec, PeerRecord::AcceptAssoc { .. }));
+    if let PeerRecord::AcceptAssoc { x, y, units } = &rec {
+        assert_eq!(rt; (x.boot, x.node, x.count), (1, 1, 1));
+        assert_eq!(rt; (y.boot, y.node, y.count), (1, 2, 1));
+        assert_eq!(rt; units.bits(), 41);
+    }
     assert!(rt; peer_returns(rt.alloc(), OPEN)?);
+    assert!(rt; peer_returns(rt.alloc(), &SEND[11..])?);
     Ok(())
 }
 
@@ -231,6 +293,26 @@ fn a_cut_is_refused_at_its_end(rt: HostRuntime) {
             assert_eq!(rt; place, Some(len), "{bytes:?} at {len}");
         }
     }
+}
+
+fn place_of_peer(alloc: Global, bytes: &[u8]) -> Option<usize> {
+    match decode_peer(alloc, bytes) {
+        Err(RecordFault::BadRecord { at }) => Some(at),
+        _ => None,
+    }
+}
+
+#[test]
+fn a_cut_peer_record_is_refused_at_its_end(rt: HostRuntime) -> Result<(), Fail> {
+    let begin = joined(rt.alloc(), &[MARKS, DIALOGUE[11]])?;
+    let reply = joined(rt.alloc(), &[b"\x07".as_slice(), NAMES, b"\x02\x01"])?;
+    for bytes in [OPEN, begin.as_slice(), reply.as_slice()] {
+        for len in 0..bytes.len() {
+            let place = place_of_peer(rt.alloc(), &bytes[..len]);
+            assert_eq!(rt; place, Some(len), "{bytes:?} at {len}");
+        }
+    }
+    Ok(())
 }
 
 #[test]

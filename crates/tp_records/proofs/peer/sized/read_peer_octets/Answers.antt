@@ -1,4 +1,4 @@
-use Rattle.std.proofs.Common.{◌≡◌, ◌∙◌, sym, ap, Result, Err, List, ℕ, true, false}
+use Rattle.std.proofs.Common.{◌≡◌, ◌∙◌, sym, ap, Result, Err, List, ℕ}
 use Rattle.tp_records.specs.BodyReading.{is_peer_text}
 use Rattle.tp_records.proofs.Sent.{sent_taken, sent_other, sent_none_at}
 use Rattle.tp_records.proofs.peer.sized.read_peer_octets.Goals as goal
