@@ -10,3 +10,7 @@ pub mod Writes
 pub mod Logs
 pub mod ReadLogs
 pub mod Briefs
+pub mod BoundKeys
+pub mod LifeOrders
+pub mod LivesInOrder
+pub mod BriefOrders

@@ -1,12 +1,12 @@
 //! Laws of the order of records. The bodies are empty: each contract is the law.
-ghost use Rattle.std.specs.Prelude.{◌≡◌, ◌<◌, ◌^◌, ◌++◌, ℕ, List, [], ◌∷◌, length};
+ghost use Rattle.std.specs.Prelude.{◌≡◌, ◌<◌, ◌^◌, ◌++◌, ℕ, List, [], ◌∷◌, length, true};
 ghost use Rattle.tp_logrec.specs.declared.record.LogRec.{LogRec};
 ghost use Rattle.tp_logrec.specs.declared.record.LogVersion.{LogVersion};
 ghost use Rattle.tp_names.specs.Grammar.{IsGrammar};
 ghost use Rattle.tp_names.specs.Places.{AreBytes};
 ghost use Rattle.tp_logrec.specs.RecordReading.{record_grammar};
 ghost use Rattle.tp_logrec.specs.LogText.{IsLog, Foreign, Reads, Placed, recs, read_log, IsReadAs};
-ghost use Rattle.tp_logrec.specs.Order.{follows, brief, IsStandingAlike};
+ghost use Rattle.tp_logrec.specs.Order.{follows, all_follow, brief, IsStandingAlike};
 ghost use Rattle.tp_logrec.specs.Standing.{standing_of, taken, follows_in, brief_of};
 
 /// What stands of a list tells which record may follow it and what its brief is, and it grows by
@@ -42,6 +42,11 @@ pub fn foreign_bytes_are_no_log()
 pub fn a_brief_stands_alike()
     ensures standing { (rs : List LogRec) → IsStandingAlike (brief rs) rs }
     ensures again { (rs : List LogRec) → brief (brief rs) ≡ brief rs }
+{}
+
+/// The brief of a list in order is in order: each of its records follows those before it.
+pub fn a_brief_is_in_order()
+    ensures { (rs : List LogRec) → all_follow rs ≡ true → all_follow (brief rs) ≡ true }
 {}
 
 /// What is read of bytes as a log is a log of those records.

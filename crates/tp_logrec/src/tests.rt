@@ -309,6 +309,21 @@ fn a_ready_needs_a_free_node(rt: HostRuntime) -> Result<(), Fail> {
     Ok(())
 }
 
+/// A key that is not at its end does not begin again, though it no longer binds its node.
+#[test]
+fn a_key_begins_again_behind_its_end(rt: HostRuntime) -> Result<(), Fail> {
+    let alloc = rt.alloc();
+    let mut log = Log::new(alloc);
+    assert!(rt; log.takes(alloc, boot(1))?);
+    assert!(rt; log.takes(alloc, ready(alloc, 1, &[3]))?);
+    assert!(rt; log.takes(alloc, commit(alloc, 1, &[3]))?);
+    assert!(rt; log.takes(alloc, damage(alloc, 1, Outcome::Commit, &[]))?);
+    assert!(rt; !log.takes(alloc, ready(alloc, 1, &[3]))?);
+    assert!(rt; log.takes(alloc, end(1, Outcome::Commit))?);
+    assert!(rt; log.takes(alloc, ready(alloc, 1, &[3]))?);
+    Ok(())
+}
+
 #[test]
 fn a_decision_needs_a_ready(rt: HostRuntime) -> Result<(), Fail> {
     let alloc = rt.alloc();
@@ -338,6 +353,20 @@ fn a_root_commits_in_a_boot_that_was(rt: HostRuntime) -> Result<(), Fail> {
     assert!(rt; log.takes(alloc, boot(1))?);
     assert!(rt; !log.takes(alloc, root_commit(alloc, 2, &[3]))?);
     assert!(rt; log.takes(alloc, root_commit(alloc, 1, &[3]))?);
+    Ok(())
+}
+
+#[test]
+fn damage_and_end_with_commit_need_a_commit(rt: HostRuntime) -> Result<(), Fail> {
+    let alloc = rt.alloc();
+    let mut log = Log::new(alloc);
+    assert!(rt; log.takes(alloc, boot(1))?);
+    assert!(rt; log.takes(alloc, ready(alloc, 1, &[3]))?);
+    assert!(rt; !log.takes(alloc, damage(alloc, 1, Outcome::Commit, &[]))?);
+    assert!(rt; !log.takes(alloc, end(1, Outcome::Commit))?);
+    assert!(rt; log.takes(alloc, commit(alloc, 1, &[3]))?);
+    assert!(rt; log.takes(alloc, damage(alloc, 1, Outcome::Commit, &[]))?);
+    assert!(rt; log.takes(alloc, end(1, Outcome::Commit))?);
     Ok(())
 }
 
@@ -402,6 +431,7 @@ fn a_brief(rt: HostRuntime) -> Result<(), Fail> {
     assert!(rt; log.takes(alloc, damage(alloc, 2, Outcome::Commit, &[4]))?);
     assert!(rt; is_what_is_left(alloc, &log.standing)?);
     assert_eq!(rt; brief(alloc, &[])?.len(), 0);
+    assert_eq!(rt; brief(alloc, &[LogRec::Boot { boot: 3 }])?.len(), 1);
     Ok(())
 }
 
