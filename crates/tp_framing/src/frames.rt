@@ -1,5 +1,5 @@
 //! A reader of frames.
-ghost use Rattle.std.specs.Prelude.{◌≡◌, ◌+◌, ◌^◌, ◌<◌, ◌≤◌, length, drop, vec_len, OnOk, OnErr, IfOk, IfSome};
+ghost use Rattle.std.specs.Prelude.{◌≡◌, ◌+◌, ◌-◌, ◌*◌, ◌^◌, ◌<◌, ◌≤◌, length, drop, vec_len, OnOk, OnErr, IfOk, IfSome};
 ghost use Rattle.std.specs.Borrow.{sem};
 ghost use Rattle.std.specs.Io.BufRead.{Rests};
 ghost use Rattle.tp_framing.specs.Frames.{BeginsBad};
@@ -56,10 +56,7 @@ impl Frames {
         ensures ok { OnOk result (self.new ≡ with_piece self.old piece.now) }
         ensures err { OnErr result (self.new ≡ self.old) }
     {
-        if 2 * self.start >= self.bytes.len() {
-            let_go(&mut self.bytes, self.start);
-            self.start = 0;
-        }
+        self.start = let_go(&mut self.bytes, self.start);
         self.bytes.extend_from_slice(piece)?;
         Ok(())
     }
@@ -94,12 +91,19 @@ impl Frames {
     }
 }
 
-/// Takes the bytes before the place away.
-fn let_go(bytes: &mut Vec<u8>, start: usize)
+/// Takes the bytes before the place away, once they are as many as those behind it, and tells the
+/// place of these from then on. So what stays is at most twice what is pending.
+fn let_go(bytes: &mut Vec<u8>, start: usize) -> usize
     requires { start ≤ vec_len bytes.old }
-    ensures { bytes.new.items ≡ drop start bytes.old.items }
+    ensures within { result ≤ vec_len bytes.new }
+    ensures pending { drop result bytes.new.items ≡ drop start bytes.old.items }
+    ensures few { vec_len bytes.new ≤ 2 * (vec_len bytes.old - start) }
 {
     let rest = bytes.len() - start;
+    if start < rest {
+        return start;
+    }
     bytes.copy_within(start.., 0);
     bytes.truncate(rest);
+    0
 }
