@@ -1,10 +1,12 @@
 pub mod Appends
+pub mod AsLogs
 pub mod Behind
 pub mod Appending
 pub mod Boots
 pub mod Briefs
 pub mod Compacting
 pub mod Decoded
+pub mod Disorders
 pub mod Exclusion
 pub mod Finishing
 pub mod Forcing

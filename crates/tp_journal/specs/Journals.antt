@@ -10,7 +10,7 @@ use Rattle.tp_logrec.specs.Order.{brief}
 use Rattle.tp_journal.specs.Log.{place_behind, most_bytes}
 use Rattle.tp_journal.specs.Records.{wide_of, recs_of, placed, bodies_of}
 use Rattle.tp_journal.specs.Started.{Started}
-use Rattle.tp_journal.specs.Keeping.{Standing}
+use Rattle.tp_journal.specs.Keeping.{Standing, longer}
 
 pub record Kept (D : Type 0) : Type 0 where
   pub disk : D
@@ -43,6 +43,13 @@ standing_of j faults = record {
   lasting = [];
 }
 
+-- the causes of a refusal in order: Shut before each other, Full before a fault of the disk
+abbrev pub ComesInOrder : {D : Type 0} → Kept D → LogRec → ForceFault → Type 0
+ComesInOrder old rec (force.Full size) = old.shut ≡ None
+ComesInOrder old rec (force.DiskFault faults) = (old.shut ≡ None) × (longer (old.gate + 1) old.wide rec ≤ most_bytes)
+ComesInOrder old rec (force.Shut faults) = Unit {0}
+ComesInOrder old rec force.NoMemory = old.shut ≡ None
+
 -- the log has become of that version, with these records
 pub record Becomes {D : Type 0} (version : Bool) (records : List LogRec) (old : Kept D) (before : ℕ) (new : Kept D) (after : ℕ) : Type 0 where
   pub open_before : old.shut ≡ None
@@ -68,9 +75,10 @@ RefusesCompact old before new after compact.NoMemory = Tells old before new afte
 abbrev pub size_of : Bool → List LogRec → ℕ
 size_of version records = place_behind (bodies_of version records) + 1
 
--- Full comes exactly where the brief has no room as a log of version 2
+-- Full comes exactly where the brief has no room as a log of version 2, and before a fault of the disk
 abbrev pub RefusesMigrate : {D : Type 0} → Kept D → ℕ → Kept D → ℕ → ForceFault → Type 0
 RefusesMigrate old before new after (force.Full size) = Tells old before new after × (old.shut ≡ None) × (new.shut ≡ None) × (size ≡ size_of true (brief old.list)) × (most_bytes < size)
-RefusesMigrate old before new after (force.DiskFault faults) = Tells old before new after × (old.shut ≡ None) × (new.shut ≡ Some faults) × (faults ≡ after) × HasRisen before after
+RefusesMigrate old before new after (force.DiskFault faults) =
+    Tells old before new after × (old.shut ≡ None) × (new.shut ≡ Some faults) × (faults ≡ after) × HasRisen before after × (size_of true (brief old.list) ≤ most_bytes)
 RefusesMigrate old before new after (force.Shut faults) = Tells old before new after × (old.shut ≡ Some faults) × (new.shut ≡ Some faults)
 RefusesMigrate old before new after force.NoMemory = Tells old before new after × (old.shut ≡ None) × (new.shut ≡ None)

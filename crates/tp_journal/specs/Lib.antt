@@ -7,4 +7,5 @@ pub mod Started
 pub mod Gates
 pub mod Records
 pub mod Keeping
+pub mod Disorder
 pub mod Journals

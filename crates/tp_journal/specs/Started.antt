@@ -51,11 +51,13 @@ pub record Stays (old new : Face) : Type 0 where
   pub gate : new.gate ≡ old.gate
   pub faults : old.faults ≤ new.faults
 
+-- Full comes exactly where the body has no room, and before want of memory and a fault of the disk
 abbrev pub RefusesAppend : Face → List ℕ → Face → ForceFault → Type 0
 RefusesAppend old body new (Full size) = Stays old new × (old.shut ≡ None) × (new.shut ≡ None) × (size ≡ size_with old body) × (most_bytes < size)
-RefusesAppend old body new (DiskFault faults) = Stays old new × (old.shut ≡ None) × (new.shut ≡ Some faults) × (faults ≡ new.faults) × HasRisen old.faults new.faults
+RefusesAppend old body new (DiskFault faults) =
+    Stays old new × (old.shut ≡ None) × (new.shut ≡ Some faults) × (faults ≡ new.faults) × HasRisen old.faults new.faults × (size_with old body ≤ most_bytes)
 RefusesAppend old body new (Shut faults) = Stays old new × (old.shut ≡ Some faults) × (new.shut ≡ Some faults)
-RefusesAppend old body new NoMemory = Stays old new × (old.shut ≡ None) × (new.shut ≡ None)
+RefusesAppend old body new NoMemory = Stays old new × (old.shut ≡ None) × (new.shut ≡ None) × (size_with old body ≤ most_bytes)
 
 -- other bodies stand in the place of the old
 pub record Replaces (old : Face) (bodies : List (List ℕ)) (size : ℕ) (new : Face) : Type 0 where

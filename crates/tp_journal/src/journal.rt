@@ -9,15 +9,17 @@ ghost use Rattle.tp_journal.specs.Start.{Starts, RefusesStart};
 ghost use Rattle.tp_journal.specs.Started.{IsStarted, KeepsDisk, KeepsDiskInReplace};
 ghost use Rattle.tp_logrec.specs.Order.{all_follow, brief};
 ghost use Rattle.tp_journal.specs.Records.{HasText, bodies_of, record_body};
-ghost use Rattle.tp_journal.specs.Journals.{bodies_in, standing_of, Becomes, RefusesCompact, RefusesMigrate, size_of};
+ghost use Rattle.tp_journal.specs.Journals.{bodies_in, standing_of, ComesInOrder, Becomes, RefusesCompact, RefusesMigrate, size_of};
 ghost use Rattle.tp_journal.specs.Keeping.{Forces};
+ghost use Rattle.tp_journal.specs.Disorder.{IsFirstOutOfOrder};
 
 use crate::log::{Log, MOST_BYTES};
 use crate::records::{Records, generation, write_text};
-use crate::{CompactFault, ForceFault, Keeper, Receipt, StartFault, tape};
+use crate::{CompactFault, ForceFault, Keeper, Receipt, StartFault, disorder, tape};
 use std::alloc::Global;
 use std::marker::Model;
 use tp_logrec::{LogRec, brief};
+use tp_names::NoMemory;
 use tp_outside::{Disk, Failed};
 
 // A log of version 2 with no records: four letters, the selector, the mark behind an open gate, and a closed gate.
@@ -66,6 +68,7 @@ impl<D: Disk> Journal<D> {
     pub fn force(&mut self, alloc: Global, rec: &LogRec) -> Result<Receipt, ForceFault>
         requires { HasText self.old.wide rec.now }
         ensures forces { Forces (standing_of self.old (D.fault_count self.old.disk)) rec.now result (standing_of self.new (D.fault_count self.new.disk)) }
+        ensures order { IfErr result (ComesInOrder self.old rec.now) }
         ensures untouched { IfErr result (KeepsDisk self.old.disk self.new.disk) }
         // A crash at any moment of the call leaves the records from before it, with the new one or without.
         ensures moments { self.old.shut ≡ None → (s : Story) → D.told self.old.disk ≡ Some s
@@ -135,6 +138,14 @@ impl<D: Disk> Journal<D> {
         ensures texts { AllByRecursion (HasText self.now.wide) self.now.list }
     {
         self.log.shelf().list()
+    }
+
+    /// The index of the first record that may not follow those before it. There is none exactly where the list is in
+    /// order, as `compact` and `migrate` ask.
+    pub fn first_out_of_order(&self, alloc: Global) -> Result<Option<usize>, NoMemory>
+        ensures { IfOk result (IsFirstOutOfOrder self.now.list) }
+    {
+        disorder::first_out_of_order(alloc, self.log.shelf().list())
     }
 
     /// The count of faults that every further call answers with, once a call has answered with a fault of the disk.

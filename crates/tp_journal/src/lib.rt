@@ -3,6 +3,7 @@
 //! `Gates` keeps bodies of any bytes; the records of a site stand above it.
 #![tactic(auto)]
 
+mod disorder;
 mod faults;
 mod gates;
 mod journal;
@@ -22,6 +23,8 @@ pub use faults::{CompactFault, ForceFault, StartFault};
 pub use gates::Gates;
 pub use journal::{Journal, format};
 pub use keeper::Keeper;
-pub use laws::{a_log_stands_for_one_list, foreign_bytes_stand_for_nothing};
+pub use laws::{
+    a_log_stands_for_its_records, a_log_stands_for_one_list, foreign_bytes_stand_for_nothing,
+};
 pub use log::MOST_BYTES;
 pub use receipts::{Receipt, Receipts};

@@ -15,6 +15,17 @@ const BOOT_2: [u8; 18] = [
     0x4f, 0x54, 0x50, 0x4c, 1, 1, 0, 9, 1, 0, 0, 0, 0, 0, 0, 0, 2, 0,
 ];
 
+// One of version 1 with the records `boot 1` and `boot 2`, of which the brief is the second.
+const TWO_BOOTS: [u8; 30] = [
+    0x4f, 0x54, 0x50, 0x4c, 1, 1, 0, 9, 1, 0, 0, 0, 0, 0, 0, 0, 1, 1, 0, 9, 1, 0, 0, 0, 0, 0, 0, 0,
+    2, 0,
+];
+
+// A log of version 2 with the record `boot 2`.
+const WIDE_BOOT_2: [u8; 23] = [
+    0x4f, 0x54, 0x50, 0x4c, 1, 1, 0, 2, 7, 2, 1, 0, 9, 1, 0, 0, 0, 0, 0, 0, 0, 2, 0,
+];
+
 fn disk_of(alloc: Global, bytes: &[u8]) -> Result<MemDisk, NoMemory> {
     Ok(MemDisk::from(alloc, Octets::from_slice(alloc, bytes)?))
 }
@@ -37,6 +48,14 @@ fn foreign_record_at(alloc: Global, bytes: &[u8]) -> Result<Option<u64>, Fail> {
     }
 }
 
+// How many records a log has.
+fn records_in(alloc: Global, bytes: &[u8]) -> Result<usize, Fail> {
+    match Journal::start(alloc, disk_of(alloc, bytes)?) {
+        Ok(journal) => Ok(journal.count()),
+        Err((_, fault)) => Err(fault.into()),
+    }
+}
+
 #[test]
 fn places_of_foreign_bytes(rt: HostRuntime) -> Result<(), Fail> {
     let alloc = rt.alloc();
@@ -46,7 +65,7 @@ fn places_of_foreign_bytes(rt: HostRuntime) -> Result<(), Fail> {
     assert_eq!(rt; foreign_record_at(alloc, &HEAD)?, Some(5));
     let loose = [0x4f, 0x54, 0x50, 0x4c, 1, 0, 0xff, 0xff];
     assert_eq!(rt; foreign_at(alloc, &loose)?, None);
-    assert_eq!(rt; foreign_record_at(alloc, &loose)?, None);
+    assert_eq!(rt; records_in(alloc, &loose)?, 0);
     assert_eq!(rt; foreign_record_at(alloc, &[])?, Some(0));
     let no_place = [0x4f, 0x54, 0x50, 0x4c, 2, 0];
     assert_eq!(rt; foreign_record_at(alloc, &no_place)?, Some(4));
@@ -117,6 +136,7 @@ fn a_stop_at_each_call(rt: HostRuntime) -> Result<(), Fail> {
                 left[6..].iter().all(|b| *b == fill),
                 "call {k}, fill {fill}"
             );
+            assert_eq!(rt; records_in(alloc, &left)?, 0, "call {k}, fill {fill}");
         }
         for k in [3, 4, 5] {
             let left = stopped_at(alloc, k, fill)?;
@@ -125,8 +145,91 @@ fn a_stop_at_each_call(rt: HostRuntime) -> Result<(), Fail> {
                 0x4f, 0x54, 0x50, 0x4c, 1, gate, 0, 9, 1, 0, 0, 0, 0, 0, 0, 0, 1, 0,
             ];
             assert_eq!(rt; left.as_slice(), whole.as_slice(), "call {k}, fill {fill}");
+            let kept = usize::from(gate == 1);
+            assert_eq!(rt; records_in(alloc, &left)?, kept, "call {k}, fill {fill}");
         }
     }
+    Ok(())
+}
+
+// Migrates a log, or compacts it, and answers whether that was done.
+fn change<D: Disk>(alloc: Global, journal: &mut Journal<D>, migrates: bool) -> Result<bool, Fail> {
+    let None = journal.first_out_of_order(alloc)? else {
+        return Err("out of order".into());
+    };
+    if migrates {
+        return Ok(journal.migrate(alloc).is_ok());
+    }
+    Ok(journal.compact(alloc).is_ok())
+}
+
+#[test]
+fn a_changed_log_has_the_brief_alone(rt: HostRuntime) -> Result<(), Fail> {
+    let alloc = rt.alloc();
+    for migrates in [false, true] {
+        let Ok(mut journal) = Journal::start(alloc, disk_of(alloc, &TWO_BOOTS)?) else {
+            return Err("not started".into());
+        };
+        assert!(rt; change(alloc, &mut journal, migrates)?);
+        assert_eq!(rt; journal.count(), 1);
+        let left = journal.disk();
+        let whole = if migrates {
+            WIDE_BOOT_2.as_slice()
+        } else {
+            BOOT_2.as_slice()
+        };
+        assert_eq!(rt; left.bytes(), whole);
+    }
+    Ok(())
+}
+
+// Whether a change of two boots was done on a machine that stops at its k-th call, and what is on the disk then.
+fn changed_up_to(alloc: Global, k: u64, fill: u8, migrates: bool) -> Result<(bool, MemDisk), Fail> {
+    // The start makes one call.
+    let disk = FuseDisk::new(disk_of(alloc, &TWO_BOOTS)?, k.saturating_add(1), fill);
+    let Ok(mut journal) = Journal::start(alloc, disk) else {
+        return Err("not started".into());
+    };
+    let done = change(alloc, &mut journal, migrates)?;
+    Ok((done, journal.disk().image()))
+}
+
+#[test]
+fn a_stop_in_a_change_leaves_the_list_or_its_brief(rt: HostRuntime) -> Result<(), Fail> {
+    let alloc = rt.alloc();
+    for migrates in [false, true] {
+        for fill in [0, 1, 255] {
+            for k in 1..=13 {
+                let (done, left) = changed_up_to(alloc, k, fill, migrates)?;
+                assert!(rt; done == (k == 13), "call {k}, fill {fill}");
+                let Ok(journal) = Journal::start(alloc, left) else {
+                    return Err("not started again".into());
+                };
+                // The sixth call syncs the selector of the new text.
+                let brief = k > 6;
+                assert!(rt;
+                    journal.wide() == (migrates && brief),
+                    "call {k}, fill {fill}"
+                );
+                let count = if brief { 1 } else { 2 };
+                assert_eq!(rt; journal.count(), count, "call {k}, fill {fill}");
+                assert!(rt; matches!(journal.list().last(), Some(LogRec::Boot { boot: 2 })));
+            }
+        }
+    }
+    Ok(())
+}
+
+#[test]
+fn a_list_out_of_order_is_told(rt: HostRuntime) -> Result<(), Fail> {
+    let alloc = rt.alloc();
+    let mut twice = BOOT_2.to_vec(alloc)?;
+    twice.truncate(17);
+    twice.extend_from_slice(&BOOT_2[5..])?;
+    let Ok(journal) = Journal::start(alloc, disk_of(alloc, &twice)?) else {
+        return Err("not started".into());
+    };
+    assert_eq!(rt; journal.first_out_of_order(alloc)?, Some(1));
     Ok(())
 }
 
