@@ -18,6 +18,7 @@ pub mod OneMore
 pub mod RecordBodies
 pub mod Openings
 pub mod Staging
+pub mod Shorter
 pub mod Sizes
 pub mod Steps
 pub mod Turning

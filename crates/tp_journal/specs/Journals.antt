@@ -43,12 +43,12 @@ standing_of j faults = record {
   lasting = [];
 }
 
--- the causes of a refusal in order: Shut before each other, Full before a fault of the disk
+-- the causes of a refusal in order: shut, full, no memory, a fault of the disk
 abbrev pub ComesInOrder : {D : Type 0} → Kept D → LogRec → ForceFault → Type 0
 ComesInOrder old rec (force.Full size) = old.shut ≡ None
 ComesInOrder old rec (force.DiskFault faults) = (old.shut ≡ None) × (longer (old.gate + 1) old.wide rec ≤ most_bytes)
 ComesInOrder old rec (force.Shut faults) = Unit {0}
-ComesInOrder old rec force.NoMemory = old.shut ≡ None
+ComesInOrder old rec force.NoMemory = (old.shut ≡ None) × (longer (old.gate + 1) old.wide rec ≤ most_bytes)
 
 -- the log has become of that version, with these records
 pub record Becomes {D : Type 0} (version : Bool) (records : List LogRec) (old : Kept D) (before : ℕ) (new : Kept D) (after : ℕ) : Type 0 where

@@ -13,6 +13,7 @@ ghost use Rattle.tp_journal.specs.Journals.{bodies_in, standing_of, ComesInOrder
 ghost use Rattle.tp_journal.specs.Keeping.{Forces};
 ghost use Rattle.tp_journal.specs.Disorder.{IsFirstOutOfOrder};
 
+use crate::lengths::text_len;
 use crate::log::{Log, MOST_BYTES};
 use crate::records::{Records, generation, write_text};
 use crate::{CompactFault, ForceFault, Keeper, Receipt, StartFault, disorder, tape};
@@ -64,7 +65,8 @@ impl<D: Disk> Journal<D> {
         Ok(Journal { log })
     }
 
-    /// Forces one record: with the receipt it is on the disk, behind all earlier ones.
+    /// Forces one record: with the receipt it is on the disk, behind all earlier ones. Where the log would have more than
+    /// `MOST_BYTES` up to its closing gate, `Full` says how many, and nothing changes.
     pub fn force(&mut self, alloc: Global, rec: &LogRec) -> Result<Receipt, ForceFault>
         requires { HasText self.old.wide rec.now }
         ensures forces { Forces (standing_of self.old (D.fault_count self.old.disk)) rec.now result (standing_of self.new (D.fault_count self.new.disk)) }
@@ -77,13 +79,19 @@ impl<D: Disk> Journal<D> {
         if let Some(faults) = self.log.shut() {
             return Err(ForceFault::Shut { faults });
         }
-        let body = write_text(alloc, self.log.shelf().wide(), rec)?;
+        let wide = self.log.shelf().wide();
+        let size = self.log.gate() + 4 + text_len(wide, rec) as u64;
+        if size > MOST_BYTES {
+            return Err(ForceFault::Full { size });
+        }
+        let body = write_text(alloc, wide, rec)?;
         let copy = rec.copy(alloc)?;
         let place = self.log.append(alloc, body.as_slice())?;
         Ok(Receipt { place, rec: copy })
     }
 
-    /// Puts the brief of the list in its place, in the version that the log has.
+    /// Puts the brief of the list in its place, in the version that the log has. `first_out_of_order` tells whether the
+    /// list is in order.
     pub fn compact(&mut self, alloc: Global) -> Result<(), CompactFault>
         requires { all_follow self.old.list ≡ true }
         ensures compacted { OnOk result (Becomes self.old.wide (brief self.old.list) self.old (D.fault_count self.old.disk) self.new (D.fault_count self.new.disk)) }
@@ -103,8 +111,8 @@ impl<D: Disk> Journal<D> {
         Ok(())
     }
 
-    /// Makes the log of version 2, and puts the brief of the list in its place. Where that log would have more than
-    /// `MOST_BYTES` up to its closing gate, `Full` says how many, and nothing changes.
+    /// Makes the log of version 2, and puts the brief of the list in its place, which is in order as for `compact`. Where
+    /// that log would have more than `MOST_BYTES` up to its closing gate, `Full` says how many, and nothing changes.
     pub fn migrate(&mut self, alloc: Global) -> Result<(), ForceFault>
         requires { all_follow self.old.list ≡ true }
         ensures migrated { OnOk result (Becomes true (brief self.old.list) self.old (D.fault_count self.old.disk) self.new (D.fault_count self.new.disk)) }

@@ -9,6 +9,7 @@ mod gates;
 mod journal;
 mod keeper;
 mod laws;
+mod lengths;
 mod log;
 mod opening;
 mod read;

@@ -9,6 +9,12 @@ use Rattle.tp_journal.proofs.Forcing.{face_of, stored, said, said_unmoved, recor
 use Rattle.tp_journal.proofs.Sizes.{text_is_body}
 use Rattle.tp_journal.proofs.journal.Journal.force.Goals as goal
 
+pub returns-then-size-gt-MOST_BYTES-clause-moments : goal.returns-then-size-gt-MOST_BYTES-clause-moments
+returns-then-size-gt-MOST_BYTES-clause-moments g c open_now s is =
+    let log = c.self.inside.log in
+    let has : HasText (wide_of log.shelf) c.args.rec.now = subst (λ (v : Kept _). HasText v.wide c.args.rec.now) (sym c.self.view_is) c.requires in
+    said_unmoved g.D.Disk.told log c.args.self.now c.args.rec.now c.shut.result c.self.view_is c.self.invariant has c.shut.ensures.started (c.shut.ensures.is ∙ ap (λ (v : Kept _). v.shut) c.self.view_is ∙ open_now) s is
+
 pub returns-in_err-body-clause-moments : goal.returns-in_err-body-clause-moments
 returns-in_err-body-clause-moments g c open_now s is =
     let log = c.self.inside.log in
@@ -25,7 +31,7 @@ pub append-requires-clause-body : goal.append-requires-clause-body
 append-requires-clause-body g c =
     let log = c.self.inside.log in
     let has : HasText (wide_of log.shelf) c.args.rec.now = subst (λ (v : Kept _). HasText v.wide c.args.rec.now) (sym c.self.view_is) c.requires in
-    let version : c.wide.result ≡ wide_of log.shelf = c.wide.ensures ∙ ap wide_of c.shelf.ensures in
+    let version : c.wide-wide.result ≡ wide_of log.shelf = c.wide-wide.ensures ∙ ap wide_of c.shelf.ensures in
     let body : c.as_slice.result.now ≡ text (wide_of log.shelf) c.args.rec.now = c.as_slice.ensures ∙ (c.in_ok-body.ensures {u = tt}) ∙ ap (λ w. text w c.args.rec.now) version in
     subst IsBody (sym body) (text_is_body (wide_of log.shelf) c.args.rec.now has)
 
@@ -34,7 +40,7 @@ returns-in_err-place-clause-moments g c open_now s is =
     let log = c.self.inside.log in
     let rec = c.args.rec.now in
     let has : HasText (wide_of log.shelf) rec = subst (λ (v : Kept _). HasText v.wide rec) (sym c.self.view_is) c.requires in
-    let version : c.wide.result ≡ wide_of log.shelf = c.wide.ensures ∙ ap wide_of c.shelf.ensures in
+    let version : c.wide-wide.result ≡ wide_of log.shelf = c.wide-wide.ensures ∙ ap wide_of c.shelf.ensures in
     let body : c.as_slice.result.now ≡ text (wide_of log.shelf) rec = c.as_slice.ensures ∙ (c.in_ok-body.ensures {u = tt}) ∙ ap (λ w. text w rec) version in
     said g.D.Disk.told log c.args.self.now rec (g.D.Disk.told c.append.new.self.disk) c.self.view_is c.self.invariant has
     (subst (λ b. LeavesOnly (StandsForEither log.shelf (log.shelf ++ b ∷ [])) (g.D.Disk.told log.disk) (g.D.Disk.told c.append.new.self.disk)) body
@@ -45,7 +51,7 @@ invariant_of-self-2 g c =
     let log = c.self.inside.log in
     let rec = c.args.rec.now in
     let has : HasText (wide_of log.shelf) rec = subst (λ (v : Kept _). HasText v.wide rec) (sym c.self.view_is) c.requires in
-    let version : c.wide.result ≡ wide_of log.shelf = c.wide.ensures ∙ ap wide_of c.shelf.ensures in
+    let version : c.wide-wide.result ≡ wide_of log.shelf = c.wide-wide.ensures ∙ ap wide_of c.shelf.ensures in
     let body : c.as_slice.result.now ≡ text (wide_of log.shelf) rec = c.as_slice.ensures ∙ (c.in_ok-body.ensures {u = tt}) ∙ ap (λ w. text w rec) version in
     records_now log.shelf rec c.self.invariant has c.append.new.self.shelf (((c.in_ok-place.ensures {u = tt}).appended).bodies ∙ ap (λ b. log.shelf ++ b ∷ []) body)
 
@@ -55,7 +61,7 @@ returns-clause-forces g c =
     let rec = c.args.rec.now in
     let faults = g.D.Disk.fault_count in
     let has : HasText (wide_of log.shelf) rec = subst (λ (v : Kept _). HasText v.wide rec) (sym c.self.view_is) c.requires in
-    let version : c.wide.result ≡ wide_of log.shelf = c.wide.ensures ∙ ap wide_of c.shelf.ensures in
+    let version : c.wide-wide.result ≡ wide_of log.shelf = c.wide-wide.ensures ∙ ap wide_of c.shelf.ensures in
     let body : c.as_slice.result.now ≡ text (wide_of log.shelf) rec = c.as_slice.ensures ∙ (c.in_ok-body.ensures {u = tt}) ∙ ap (λ w. text w rec) version in
     let appends : Appends (face_of log (faults log.disk)) (text (wide_of log.shelf) rec) c.in_ok-place.place (face_of c.append.new.self (faults c.append.new.self.disk)) =
     subst (λ b. Appends (face_of log (faults log.disk)) b c.in_ok-place.place (face_of c.append.new.self (faults c.append.new.self.disk))) body ((c.in_ok-place.ensures {u = tt}).appended) in
@@ -69,7 +75,7 @@ returns-clause-moments g c open_now s is =
     let log = c.self.inside.log in
     let rec = c.args.rec.now in
     let has : HasText (wide_of log.shelf) rec = subst (λ (v : Kept _). HasText v.wide rec) (sym c.self.view_is) c.requires in
-    let version : c.wide.result ≡ wide_of log.shelf = c.wide.ensures ∙ ap wide_of c.shelf.ensures in
+    let version : c.wide-wide.result ≡ wide_of log.shelf = c.wide-wide.ensures ∙ ap wide_of c.shelf.ensures in
     let body : c.as_slice.result.now ≡ text (wide_of log.shelf) rec = c.as_slice.ensures ∙ (c.in_ok-body.ensures {u = tt}) ∙ ap (λ w. text w rec) version in
     said g.D.Disk.told log c.args.self.now rec (g.D.Disk.told c.append.new.self.disk) c.self.view_is c.self.invariant has
     (subst (λ b. LeavesOnly (StandsForEither log.shelf (log.shelf ++ b ∷ [])) (g.D.Disk.told log.disk) (g.D.Disk.told c.append.new.self.disk)) body
