@@ -1,10 +1,11 @@
 -- What stands of a list says which record may follow, and grows by one record at a time.
-use Rattle.std.proofs.Common.{◌≡◌, ℕ, Option, Some, None, List, [], ◌∷◌, ◌++◌, refl, sym, ◌∙◌, ap, arith, append-nil, Bool, true, false}
-use Rattle.std.specs.Prelude.{◌&&◌, nat_lt, max}
+use Rattle.std.proofs.Common.{◌≡◌, ◌-◌, ◌<◌, ℕ, zero, suc, Option, Some, None, List, [], ◌∷◌, ◌++◌, length, length-append, refl, sym, subst, ◌∙◌, ap, arith, append-nil, Bool, true, false}
+use Rattle.std.specs.Prelude.{◌&&◌, nat_lt, max, slice_get}
 use Rattle.std.proofs.lemmas.Bool.Decides.{nat_tests}
 use Rattle.tp_logrec.specs.declared.record.LogRec.{LogRec}
 use Rattle.tp_logrec.specs.Order.{Owner, owner, is_owner, is_ready, Life, with_record, without, lives_after, lives_from, lives, records_of, last_or, last, those, bound_after, bound_from, bound, boots, all_below, greatest, is_begun, boot_by, last_boot_from, last_by, last_from, ready_by, ready_from, Before, is_free, before, may_follow, follows}
 use Rattle.tp_logrec.specs.Standing.{Standing, standing_of, greatest_by, greatest_after, taken, is_above, before_in, follows_in}
+use Rattle.tp_logrec.specs.Places.{IsReadyPlace}
 use Rattle.tp_logrec.proofs.Sames.{owner_same}
 
 -- ---- boots
@@ -217,3 +218,39 @@ standing_grows rs r =
     ∙ ap (λ x. let s : Standing = record { begun = true; greatest = greatest_after (greatest (boots rs)) r; boot = x; lives = lives (rs ++ r ∷ []); bound = bound (rs ++ r ∷ []) } in s) (boot_after_is 0 rs r)
     ∙ ap (λ x. let s : Standing = record { begun = true; greatest = greatest_after (greatest (boots rs)) r; boot = boot_by (last_boot_from 0 rs) r; lives = x; bound = bound (rs ++ r ∷ []) } in s) (lives_after_is [] rs r)
     ∙ ap (λ x. let s : Standing = record { begun = true; greatest = greatest_after (greatest (boots rs)) r; boot = boot_by (last_boot_from 0 rs) r; lives = lives_after (lives rs) r; bound = x } in s) (bound_after_is [] rs r)
+
+-- ---- the place of the last record, and of the last Ready
+
+pub last_got : (rs : List LogRec) → slice_get rs (length rs - 1) ≡ last rs
+last_got [] = refl
+last_got (r ∷ rs) = ap (λ i. slice_get (r ∷ rs) i) less ∙ go r rs
+  where
+    less : suc (length rs) - 1 ≡ length rs
+    less = omega arith
+
+    go : (q : LogRec) (qs : List LogRec) → slice_get (q ∷ qs) (length qs) ≡ last_or (Some q) qs
+    go q [] = refl
+    go q (p ∷ ps) = go p ps
+
+pub got_end : (rs : List LogRec) (r : LogRec) → slice_get (rs ++ r ∷ []) (length rs) ≡ Some r
+got_end [] r = refl
+got_end (q ∷ qs) r = got_end qs r
+
+pub got_before : (rs : List LogRec) (r : LogRec) (i : ℕ) → i < length rs → slice_get (rs ++ r ∷ []) i ≡ slice_get rs i
+got_before [] r i h = absurd (omega arith)
+got_before (q ∷ qs) r zero h = refl
+got_before (q ∷ qs) r (suc i) h = got_before qs r i (omega arith)
+
+-- a Ready more, or another record
+pub place_ready : (rs : List LogRec) (r : LogRec) → is_ready r ≡ true → IsReadyPlace (rs ++ r ∷ []) (Some (length rs))
+place_ready rs r e = (rw length-append (omega arith), ready_more rs r e ∙ sym (got_end rs r))
+
+pub place_other : (rs : List LogRec) (r : LogRec) (at : Option ℕ) → is_ready r ≡ false → IsReadyPlace rs at → IsReadyPlace (rs ++ r ∷ []) at
+place_other rs r None e is = ready_same rs r e ∙ is
+place_other rs r (Some i) e is = (rw length-append (let h : i < length rs = is.0 in omega arith), ready_same rs r e ∙ is.1 ∙ sym (got_before rs r i is.0))
+
+pub pushed_ready : (rs ns : List LogRec) (r : LogRec) (n : ℕ) → ns ≡ rs ++ r ∷ [] → n ≡ length rs → is_ready r ≡ true → IsReadyPlace ns (Some n)
+pushed_ready rs ns r n e f g = rw (e, f) (place_ready rs r g)
+
+pub pushed_other : (rs ns : List LogRec) (r : LogRec) (at : Option ℕ) → ns ≡ rs ++ r ∷ [] → is_ready r ≡ false → IsReadyPlace rs at → IsReadyPlace ns at
+pushed_other rs ns r at e g is = subst (λ (w : List LogRec). IsReadyPlace w at) (sym e) (place_other rs r at g is)

@@ -8,6 +8,7 @@
 mod decode;
 mod encode;
 pub mod laws;
+mod life;
 mod order;
 mod owner;
 mod record;

@@ -3,32 +3,18 @@ ghost use Rattle.std.specs.Prelude.{◌≡◌, ◌++◌, List, [], ◌∷◌, �
 ghost use Rattle.std.specs.Option.{option_copied};
 ghost use Rattle.tp_logrec.specs.declared.record.LogRec.{LogRec};
 ghost use Rattle.tp_logrec.specs.Order.{is_damage, last_only, brief_lives, owner, is_owner, last, those, is_ready, with_record, without, others, lives_by, bound_by, records_of, follows, is_free};
-ghost use Rattle.tp_logrec.specs.Places.{IsPlace};
+ghost use Rattle.tp_logrec.specs.Places.{IsPlace, records_in};
 ghost use Rattle.tp_logrec.specs.Standing.{standing_of, taken, greatest_by, is_above, before_in, follows_in, brief_of};
 ghost use Rattle.tp_logrec.specs.Kinds.{is_kind};
 ghost use Rattle.tp_logrec.specs.Seen.{before_of};
 
+use crate::life::Life;
 use crate::rules::Seen;
 use crate::same::is_owner;
 use crate::{LogRec, Owner};
 use std::alloc::Global;
 use std::marker::Model;
 use tp_names::{NoMemory, NodeKey};
-
-/// A key of a node that is not at its end, and its records since its last End.
-#[derive(Debug, Drop)]
-struct Life {
-    owner: Owner,
-    records: Vec<LogRec>,
-}
-
-impl Model for Life {
-    ghost use Rattle.tp_logrec.specs.Order as order;
-
-    ghost Value = { order.Life };
-
-    ghost view = { λ l. record { owner = l.owner; records = l.records.items } };
-}
 
 /// A key whose last record is a Ready, a Heuristic or a Commit.
 #[derive(Debug, Drop)]
@@ -45,7 +31,8 @@ impl Model for Bound {
 }
 
 /// What of a list of records the rules read, and what stands of it: for a reader of a long log,
-/// which takes one record after the other. It keeps copies of the records that stand.
+/// which takes one record after the other. It keeps copies of the records that stand. A question
+/// goes over the keys that stand, and not over their records or the list.
 #[derive(Debug, Drop)]
 pub struct Standing {
     begun: bool,
@@ -103,13 +90,16 @@ impl Standing {
         ensures { before_of result ≡ before_in self.now (owner node key) }
     {
         let owner = Owner { node, key };
-        let records = records_of(self.lives.as_slice(), &owner);
+        let (last, ready) = match life_of(self.lives.as_slice(), &owner) {
+            None => (None, None),
+            Some(life) => (life.last_record(), life.last_ready()),
+        };
         Seen {
             begun: self.begun,
             boot: self.boot,
             free: is_free(self.bound.as_slice(), node),
-            last: last_record(records),
-            ready: last_ready(records),
+            last,
+            ready,
         }
     }
 
@@ -217,40 +207,16 @@ fn is_free(bound: &[Bound], node: u16) -> bool
     true
 }
 
-/// The key's records since its last End.
-fn records_of<'a>(lives: &'a [Life], owner: &Owner) -> &'a [LogRec]
-    ensures { result.now ≡ records_of lives.now owner.now }
+/// The key's life, if it has one.
+fn life_of<'a>(lives: &'a [Life], owner: &Owner) -> Option<&'a Life>
+    ensures { records_in (option_copied result) ≡ records_of lives.now owner.now }
 {
     for life in lives {
         if is_owner(&life.owner, owner) {
-            return life.records.as_slice();
+            return Some(life);
         }
     }
-    &[]
-}
-
-/// The last of the records.
-fn last_record(records: &[LogRec]) -> Option<&LogRec>
-    ensures { option_copied result ≡ last records.now }
-{
-    let mut last = None;
-    for rec in records {
-        last = Some(rec);
-    }
-    last
-}
-
-/// The last Ready among the records.
-fn last_ready(records: &[LogRec]) -> Option<&LogRec>
-    ensures { option_copied result ≡ last (those is_ready records.now) }
-{
-    let mut ready = None;
-    for rec in records {
-        if rec.is_ready() {
-            ready = Some(rec);
-        }
-    }
-    ready
+    None
 }
 
 /// Takes the lives of the key away.
@@ -308,19 +274,11 @@ fn add_to_life(
     ensures ok { OnOk result (lives.new.items ≡ with_record lives.old.items owner.now rec.now) }
     ensures err { OnErr result (lives.new.items ≡ lives.old.items) }
 {
-    let copy = rec.copy(alloc)?;
     match place_of(lives.as_slice(), owner) {
-        None => {
-            let mut records = Vec::new(alloc);
-            records.push(copy)?;
-            lives.push(Life {
-                owner: *owner,
-                records,
-            })?;
-        }
+        None => lives.push(Life::begin(alloc, *owner, rec)?)?,
         Some(at) => {
             let life = &mut lives[at];
-            life.records.push(copy)?;
+            life.push(alloc, rec)?;
         }
     }
     Ok(())
