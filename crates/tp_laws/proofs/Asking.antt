@@ -1,11 +1,10 @@
 -- What a transaction orders in recovery is its own commitment.
-use Rattle.std.proofs.Common.{◌≡◌, inl, inr, ℕ, Bool, true, false, refl, sym, ◌∙◌, arith, List, [], ◌∷◌, ◌++◌, ◌&&◌, ◌||◌}
+use Rattle.std.proofs.Common.{◌≡◌, inl, inr, ℕ, Bool, true, false, refl, sym, ◌∙◌, arith, List, [], ◌∷◌, ◌&&◌}
 use Rattle.tp_names.specs.declared.identifiers.Aaid.{Aaid}
 use Rattle.tp_names.specs.declared.outcome.Report.{Report}
 use Rattle.tp_names.specs.Same.{is_aaid}
 use Rattle.tp_records.specs.declared.dialogue.DialogueRecord.{DialogueRecord}
 use Rattle.tp_model.specs.declared.transaction.TxEvent.{TxEvent}
-use Rattle.tp_model.specs.declared.transaction.TxOut.{TxOut}
 use Rattle.tp_model.specs.Parts.{Arc}
 use Rattle.tp_model.specs.Dialogues.{is_committing}
 use Rattle.tp_model.specs.Transactions.{Row, Transaction, Turn, aaid_of, carry_up, carry_down, forgets, ends_down, complete_commit, complete_rollback, begin_rolling, order, prepare_each, ask_commit, leave, count_branch, end_branch, branch_left, ask_each, retried, transacted}

@@ -260,7 +260,7 @@ heard_arcs p sup fall shut s d g m up same live one = record {
     off false i h = i
     off true i h = absurd (cc (h, live i))
 
-dropped_live : (arcs : List Arc) (q p : ℕ) → is_live (link_with (without_arc arcs q) p) ≡ true → is_live (link_with arcs p) ≡ true
+pub dropped_live : (arcs : List Arc) (q p : ℕ) → is_live (link_with (without_arc arcs q) p) ≡ true → is_live (link_with arcs p) ≡ true
 dropped_live arcs q p h = go (q == p) refl
   where
     go : (b : Bool) → (q == p) ≡ b → is_live (link_with arcs p) ≡ true

@@ -71,7 +71,7 @@ left_transact who d c t now old =
       | inr x ↦ drawn_new who g (try_start who g).next t x old
     ]
 
-left_active : (who : Who) (d : Digest) (c : Current) → d.current ≡ Some c → is_nil c.phase ≡ false → refusal who d (Event.Do Request.Unchanged) ≡ None → is_active c.phase ≡ true
+pub left_active : (who : Who) (d : Digest) (c : Current) → d.current ≡ Some c → is_nil c.phase ≡ false → refusal who d (Event.Do Request.Unchanged) ≡ None → is_active c.phase ≡ true
 unfolding refusal refused_request
 left_active who d c now late ok = grind (arith, ok, now, late)
 
@@ -85,10 +85,10 @@ falsely false h = refl
 falsely true h = absurd (h refl)
 
 -- the tree that was left is current no more, and did not roll
-record HasGone (o : Origin) (h : List Entry) (t : Aaid) : Type 0 where
-  gone : is_now t (digest o h).current ≡ true → ⊥
-  known : is_known o t h ≡ true
-  whole : rolled o t h ≡ true → ⊥
+pub record HasGone (o : Origin) (h : List Entry) (t : Aaid) : Type 0 where
+  pub gone : is_now t (digest o h).current ≡ true → ⊥
+  pub known : is_known o t h ≡ true
+  pub whole : rolled o t h ≡ true → ⊥
 
 left_here : (o : Origin) (up : Option Addr) (e : Entry) (h : List Entry) (t : Aaid) → o.start.records ≡ [] → IsGrown o up (e ∷ h) → IsOnce o (e ∷ h) → is_now t (digest o h).current ≡ true → is_unchanged e.event ≡ true
     → HasGone o (e ∷ h) t
@@ -123,7 +123,7 @@ left_here o up e h t empty legal once n un = at e.event refl un
         active = ap is_active (phase_at d cur.0 cur.1) ∙ left_active o.who d cur.0 cur.1 (late cur.0 cur.1) (ap (refusal o.who d) (sym i) ∙ legal.0)
     at f i u = absurd (cc (u))
 
-left_law : (o : Origin) (up : Option Addr) (h : List Entry) (t : Aaid) → o.start.records ≡ [] → IsGrown o up h → IsOnce o h → has_left o t h ≡ true → HasGone o h t
+pub left_law : (o : Origin) (up : Option Addr) (h : List Entry) (t : Aaid) → o.start.records ≡ [] → IsGrown o up h → IsOnce o h → has_left o t h ≡ true → HasGone o h t
 left_law o up [] t empty legal once l = absurd cc
 left_law o up (e ∷ h) t empty legal once l = go (or_case (is_now t (digest o h).current && is_unchanged e.event) (has_left o t h) l) (left_law o up h t empty legal.3 once.1)
   where

@@ -45,6 +45,11 @@ pub mod Behind
 pub mod Fated
 pub mod Users
 pub mod Left
+pub mod Bare
+pub mod Upwords
+pub mod Rising
+pub mod Risen
+pub mod SpeaksUp
 pub mod Keyed
 pub mod Above
 pub mod Folds

@@ -48,7 +48,7 @@ under_above : (who : Who) (up : Option Addr) (p : ℕ) (k : Key) → IsKeyOf who
 under_above who up p (Root t) f under = absurd cc
 under_above who up p (Under t b a) f under = let eq : a.node ≡ p = grind (arith, nat_tests, under) in subst (λ (q : ℕ). is_at up q ≡ true) eq f
 
-reads_event : (o : Origin) (up : Option Addr) (e : Event) (h : List Entry) (p : ℕ) → refusal o.who (digest o h) e ≡ None → Placed o up (prelude o.who (digest o h) e) p
+pub reads_event : (o : Origin) (up : Option Addr) (e : Event) (h : List Entry) (p : ℕ) → refusal o.who (digest o h) e ≡ None → Placed o up (prelude o.who (digest o h) e) p
     → Reads o.who e p (is_at up p) (rolls o.who (digest o h) e) 1 (prelude o.who (digest o h) e)
 reads_event o up e h p ok placed = record {
   falls_so = λ c f arcs at asked fall. rolls_so o.who (digest o h) e ok c f arcs at asked fall;
@@ -107,6 +107,24 @@ pub heard_entry : (o : Origin) (up : Option Addr) (e : Entry) (h : List Entry) (
 heard_entry o up e h p empty legal =
     heard_event o.who (digest o h) e.event p (is_at up p) (rolls o.who (digest o h) e.event) 1 (late_law o up h legal.3) legal.0 (reads_event o up e.event h p legal.0 (placed_event o up e h p empty legal))
 
+-- an event that rolls what is current behind its prelude
+pub fallen_rolled : (o : Origin) (up : Option Addr) (e : Entry) (h : List Entry) → IsGrown o up (e ∷ h) → rolls o.who (digest o h) e.event ≡ true → (c : Current) → (prelude o.who (digest o h) e.event).current ≡ Some c
+    → rolled o (aaid_of c.key) (e ∷ h) ≡ true
+fallen_rolled o up e h legal r c at = go (came_by o.who d e.event legal.0)
+  where
+    d : Digest
+    d = digest o h
+
+    go : Came o.who d e.event → rolled o (aaid_of c.key) (e ∷ h) ≡ true
+    go (As_it_was i) =
+        let now : is_now (aaid_of c.key) d.current ≡ true = ap (is_now (aaid_of c.key)) (sym i ∙ at) ∙ aaid_same (aaid_of c.key) in
+        here (is_now (aaid_of c.key) d.current) (rolls o.who d e.event) (is_crash_in_active d e.event) (rolled o (aaid_of c.key) h) now r
+      where
+        here : (w x y z : Bool) → w ≡ true → x ≡ true → ((w && (x || y)) || z) ≡ true
+        here w x y z i j = rw (i, j) refl
+    go (By_begin from x y q t b g a is found cur nil above) = absurd (cc (r, ap (rolls o.who d) is))
+    go (By_crash is cur) = absurd (cc (r, ap (rolls o.who d) is))
+
 -- ---- numbers
 
 sums : (a b c v w : ℕ) → a ≡ b + v → c + w ≡ v → a ≡ b + c + w
@@ -121,6 +139,40 @@ find_none (b ∷ bs) p h = grind (arith, h, find_none bs p)
 
 none_in : (c : Current) (p : ℕ) → has_branch_at c.branches p ≡ false → key_at (Some c) p ≡ None
 none_in c p h = let f = find_none c.branches p h in grind (arith, f)
+
+-- ---- what goes out
+
+pub told_entry : (o : Origin) (up : Option Addr) (e : Entry) (h : List Entry) → IsGrown o up (e ∷ h) → (p : ℕ) → Told o.who up p (digest o h) e.event
+told_entry o up e h legal p = let traced = traced_law o up h legal.3 in told o.who up p (digest o h) e.event (late_law o up h legal.3) traced.under traced.declared legal.0
+
+-- over a live link goes what is said to the peer
+pub sent_said : (o : Origin) (up : Option Addr) (e : Entry) (h : List Entry) → IsGrown o up (e ∷ h) → (p : ℕ) (x y : Mark) (v k : ℕ) → link_with (prelude o.who (digest o h) e.event).arcs p ≡ Live x y v k
+    → sent_of x y p e.outs ≡ said_to p (action o.who (digest o h) e.event).outs
+sent_said o up e h legal p x y v k is =
+    let d : Digest = digest o h in
+    let fit : fits p (Live x y v k) (action o.who d e.event).outs ≡ true = subst (λ (m : Link). fits p m (action o.who d e.event).outs ≡ true) is (told_entry o up e h legal p).linked.over.numbered in
+    ap (sent_of x y p) (ap (λ (f : Entry). f.outs) (sym legal.1)) ∙ sent_is_said x y p v k (action o.who d e.event).outs fit
+
+-- on a pair that the link has not nothing goes out
+pub sent_over : (o : Origin) (up : Option Addr) (e : Entry) (h : List Entry) → IsGrown o up (e ∷ h) → (p : ℕ) (x y : Mark) → (sent_of x y p e.outs ≡ []) ⊎ (v : ℕ) × (k : ℕ) × (link_with (prelude o.who (digest o h) e.event).arcs p ≡ Live x y v k)
+sent_over o up e h legal p x y = go l refl (has_pair l x y) refl
+  where
+    l : Link
+    l = link_with (prelude o.who (digest o h) e.event).arcs p
+
+    go : (m : Link) → l ≡ m → (b : Bool) → has_pair l x y ≡ b → (sent_of x y p e.outs ≡ []) ⊎ (v : ℕ) × (k : ℕ) × (l ≡ Live x y v k)
+    go m i false j = inl (ap (sent_of x y p) (ap (λ (f : Entry). f.outs) (sym legal.1)) ∙ sent_none x y p l (action o.who (digest o h) e.event).outs (told_entry o up e h legal p).linked.over.numbered j)
+    go (Live z w v k) i true j =
+        let pair : (is_mark x z && is_mark y w) ≡ true = sym (ap (λ (m : Link). has_pair m x y) i) ∙ j in
+        let ez = marks_same x z (and_left (is_mark x z) (is_mark y w) pair) in
+        let ew = marks_same y w (and_right (is_mark x z) (is_mark y w) pair) in
+        inr (v, k, i ∙ made z x w y v k (sym ez) (sym ew))
+      where
+        made : (z x w y : Mark) (v k : ℕ) → z ≡ x → w ≡ y → Live z w v k ≡ Live x y v k
+        made z x w y v k a b = rw (a, b) refl
+    go Idle i true j = absurd (cc (ap (λ (m : Link). has_pair m x y) i, j))
+    go (Opening z) i true j = absurd (cc (ap (λ (m : Link). has_pair m x y) i, j))
+    go (Offered z) i true j = absurd (cc (ap (λ (m : Link). has_pair m x y) i, j))
 
 -- ---- the step
 
@@ -200,7 +252,7 @@ paired_step o up e h empty legal paired = record {
     l p = link_with s.arcs p
 
     k_of : (p : ℕ) → Told o.who up p d e.event
-    k_of p = let traced = traced_law o up h legal.3 in told o.who up p d e.event (late_law o up h legal.3) traced.under traced.declared legal.0
+    k_of p = told_entry o up e h legal p
 
     heard : (p : ℕ) → IsHeard p (is_at up p) (rolls o.who d e.event) 1 s s (action o.who d e.event)
     heard p = heard_entry o up e h p empty legal
@@ -208,17 +260,11 @@ paired_step o up e h empty legal paired = record {
     words : ℕ → List DialogueRecord
     words p = words_to p (action o.who d e.event).outs
 
-    outs : e.outs ≡ (action o.who d e.event).outs
-    outs = ap (λ (f : Entry). f.outs) (sym legal.1)
-
     recs : e.rec ≡ (action o.who d e.event).rec
     recs = ap (λ (f : Entry). f.rec) (sym legal.1)
 
-    -- over a live link goes what is said to the peer
     said : (p : ℕ) (x y : Mark) (v k : ℕ) → l p ≡ Live x y v k → sent_of x y p e.outs ≡ said_to p (action o.who d e.event).outs
-    said p x y v k is =
-        let fit : fits p (Live x y v k) (action o.who d e.event).outs ≡ true = subst (λ (m : Link). fits p m (action o.who d e.event).outs ≡ true) is (k_of p).linked.over.numbered in
-        ap (sent_of x y p) outs ∙ sent_is_said x y p v k (action o.who d e.event).outs fit
+    said p x y v k is = sent_said o up e h legal p x y v k is
 
     sent_ends : (p : ℕ) (x y : Mark) (v k : ℕ) → l p ≡ Live x y v k → ends_in (sent_on x y p h ++ sent_of x y p e.outs) ≡ ends_in (sent_on x y p h) + ends_in (words p)
     sent_ends p x y v k is =
@@ -230,23 +276,8 @@ paired_step o up e h empty legal paired = record {
         last_append None (sent_on x y p h) (sent_of x y p e.outs) ∙ ap (last_from (last_from None (sent_on x y p h))) (said p x y v k is)
         ∙ sym (words_last (last_from None (sent_on x y p h)) (said_to p (action o.who d e.event).outs))
 
-    -- on a pair that the link has not nothing goes out
     sent_is : (p : ℕ) (x y : Mark) → (sent_of x y p e.outs ≡ []) ⊎ (v : ℕ) × (k : ℕ) × (l p ≡ Live x y v k)
-    sent_is p x y = go (l p) refl (has_pair (l p) x y) refl
-      where
-        go : (m : Link) → l p ≡ m → (b : Bool) → has_pair (l p) x y ≡ b → (sent_of x y p e.outs ≡ []) ⊎ (v : ℕ) × (k : ℕ) × (l p ≡ Live x y v k)
-        go m i false j = inl (ap (sent_of x y p) outs ∙ sent_none x y p (l p) (action o.who d e.event).outs (k_of p).linked.over.numbered j)
-        go (Live z w v k) i true j =
-            let pair : (is_mark x z && is_mark y w) ≡ true = sym (ap (λ (m : Link). has_pair m x y) i) ∙ j in
-            let ez = marks_same x z (and_left (is_mark x z) (is_mark y w) pair) in
-            let ew = marks_same y w (and_right (is_mark x z) (is_mark y w) pair) in
-            inr (v, k, i ∙ made z x w y v k (sym ez) (sym ew))
-          where
-            made : (z x w y : Mark) (v k : ℕ) → z ≡ x → w ≡ y → Live z w v k ≡ Live x y v k
-            made z x w y v k a b = rw (a, b) refl
-        go Idle i true j = absurd (cc (ap (λ (m : Link). has_pair m x y) i, j))
-        go (Opening z) i true j = absurd (cc (ap (λ (m : Link). has_pair m x y) i, j))
-        go (Offered z) i true j = absurd (cc (ap (λ (m : Link). has_pair m x y) i, j))
+    sent_is p x y = sent_over o up e h legal p x y
 
     no_more : (n : ℕ) → n + 0 ≡ n
     no_more n = omega arith
@@ -267,17 +298,7 @@ paired_step o up e h empty legal paired = record {
     rolled_wider (Some k) i = let r : rolled o k.0 h ≡ true = i in rw r (grind arith)
 
     fallen : rolls o.who d e.event ≡ true → (c : Current) → s.current ≡ Some c → rolled o (aaid_of c.key) (e ∷ h) ≡ true
-    fallen r c at = go (came_by o.who d e.event legal.0)
-      where
-        go : Came o.who d e.event → rolled o (aaid_of c.key) (e ∷ h) ≡ true
-        go (As_it_was i) =
-            let now : is_now (aaid_of c.key) d.current ≡ true = ap (is_now (aaid_of c.key)) (sym i ∙ at) ∙ aaid_same (aaid_of c.key) in
-            here (is_now (aaid_of c.key) d.current) (rolls o.who d e.event) (is_crash_in_active d e.event) (rolled o (aaid_of c.key) h) now r
-          where
-            here : (w x y z : Bool) → w ≡ true → x ≡ true → ((w && (x || y)) || z) ≡ true
-            here w x y z i j = rw (i, j) refl
-        go (By_begin from x y q t b g a is found cur nil above) = absurd (cc (r, ap (rolls o.who d) is))
-        go (By_crash is cur) = absurd (cc (r, ap (rolls o.who d) is))
+    fallen r c at = fallen_rolled o up e h legal r c at
 
     closed_now : (p : ℕ) (x : Mark) → link_with next.arcs p ≡ Opening x → key_at next.current p ≡ None
     closed_now p x is = (heard p).dead_rows (ap is_live pre) (key_s (l p) pre (k_of p).pre)

@@ -11,7 +11,7 @@ use Rattle.tp_model.specs.Transactions.{Row, Transaction, find_row, put_row, wit
 use Rattle.tp_laws.specs.Turns.{row_dead}
 use Rattle.tp_laws.specs.Facts.{is_begin}
 use Rattle.tp_laws.specs.Passages.{begins_none, asks_tell, may_move}
-use Rattle.tp_laws.proofs.Fair.{row_is, row_key, row_phase}
+use Rattle.tp_laws.proofs.Fair.{row_is, row_key}
 
 -- ---- outputs
 

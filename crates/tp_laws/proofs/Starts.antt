@@ -1,10 +1,8 @@
 -- In every run, every node's history is one that it can have: its log was empty when it was declared.
-use Rattle.std.proofs.Common.{◌≡◌, ℕ, Bool, true, refl, ap, sym, subst, ◌∙◌, List, []}
-use Rattle.tp_logrec.specs.declared.record.LogRec.{LogRec}
-use Rattle.tp_model.specs.Parts.{Origin, Who, Start}
-use Rattle.tp_model.specs.Legal.{is_start, IsLegal, are_own_records}
-use Rattle.tp_logrec.specs.Order.{all_follow}
-use Rattle.tp_model.specs.World.{Node, number_of}
+use Rattle.std.proofs.Common.{◌≡◌, true, refl, List, []}
+use Rattle.tp_model.specs.Parts.{Origin}
+use Rattle.tp_model.specs.Legal.{is_start}
+use Rattle.tp_model.specs.World.{number_of}
 use Rattle.tp_model.specs.Happenings.{Happening, run}
 use Rattle.tp_model.specs.Promises.{AllLegal}
 use Rattle.tp_laws.proofs.Good.{good_run}

@@ -2,7 +2,7 @@
 use Rattle.std.specs.Prelude.{◌≡◌, Option, Some, None, List, [], ◌∷◌, ◌⊎◌}
 use Rattle.tp_names.specs.declared.identifiers.Addr.{Addr}
 use Rattle.tp_records.specs.declared.peer.PeerRecord.{PeerRecord}
-use Rattle.tp_model.specs.Parts.{Origin, Event, Out, Entry}
+use Rattle.tp_model.specs.Parts.{Event, Out, Entry}
 
 -- the record that an event brings, and whether it is taken or only breaks its association
 abbrev pub brought : Event → Option (Addr × PeerRecord)

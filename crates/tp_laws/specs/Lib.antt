@@ -10,6 +10,8 @@ pub mod Standing
 pub mod Trees
 pub mod Members
 pub mod Fates
+pub mod Bare
+pub mod Upward
 pub mod Keyed
 pub mod Pairs
 pub mod Orders

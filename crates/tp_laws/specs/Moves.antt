@@ -20,11 +20,11 @@ use Rattle.tp_model.specs.Parts.{Who, Event, Link, Idle, Opening, Offered, Live,
 use Rattle.tp_model.specs.Links.{with_one_taken}
 use Rattle.tp_model.specs.Dialogues.{is_nil, is_active, is_ready, is_committing, fresh_dialogue}
 use Rattle.tp_model.specs.Arcs.{find_arc, link_with, put_arc, without_arc, with_dialogue, with_link}
-use Rattle.tp_model.specs.Transactions.{Transaction, Turn, node_key, is_under_at, transacted, refused_tx}
+use Rattle.tp_model.specs.Transactions.{Transaction, node_key, is_under_at, refused_tx}
 use Rattle.tp_model.specs.Requests.{has_branch_at}
-use Rattle.tp_model.specs.Recovery.{is_commit, settled, kept_after, not_forgotten}
+use Rattle.tp_model.specs.Recovery.{is_commit, settled, not_forgotten}
 use Rattle.tp_model.specs.Outcomes.{is_now}
-use Rattle.tp_model.specs.Node.{turned, Move, move, followed, perform, next_mark, with_mark_drawn, superior_arc, may_root, phase_of, seen, remaining, Passage, passage, is_leaving, entered, played, fresh_current, begin_on, keep}
+use Rattle.tp_model.specs.Node.{turned, Move, move, followed, perform, next_mark, with_mark_drawn, superior_arc, may_root, phase_of, seen, fresh_current, begin_on, keep}
 use Rattle.tp_model.specs.Events.{after_crash}
 use Rattle.tp_laws.specs.Turns.{loses, is_outcome_told}
 

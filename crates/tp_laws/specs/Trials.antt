@@ -2,6 +2,7 @@
 -- that is mixed by a decision, and one whose branch leaves.
 use Rattle.std.specs.Prelude.{ℕ, Bool, true, false, Option, Some, None, List, [], ◌∷◌, ◌++◌, reverse, codes}
 use Rattle.tp_names.specs.declared.identifiers.Aaid.{Aaid}
+use Rattle.tp_names.specs.declared.identifiers.Mark.{Mark}
 use Rattle.tp_names.specs.declared.identifiers.BranchId.{BranchId}
 use Rattle.tp_names.specs.declared.outcome.Outcome.{Outcome}
 use Rattle.tp_records.specs.declared.dialogue.DialogueRecord.{DialogueRecord}
@@ -11,9 +12,9 @@ use Rattle.tp_model.specs.History.{digest}
 use Rattle.tp_model.specs.Outcomes.{is_member, decided, rolled, decision, has_left, told}
 use Rattle.tp_model.specs.World.{Node, find_node, addr_of}
 use Rattle.tp_model.specs.Happenings.{Happening, Declare, Does, Crash, Ask, Deliver, Decide, Retry, run}
-use Rattle.tp_model.specs.Promises.{has_begun}
-use Rattle.tp_laws.specs.Facts.{is_order}
-use Rattle.tp_laws.specs.Traces.{taken_on}
+use Rattle.tp_model.specs.Promises.{has_begun, is_of_tree, has_logged}
+use Rattle.tp_laws.specs.Facts.{is_order, is_vote, is_end}
+use Rattle.tp_laws.specs.Traces.{sent_on, taken_on}
 
 -- ---- the runs, oldest first
 
@@ -85,13 +86,25 @@ is_linked p x = is_live_with_peer (digest x.origin x.history).arcs p
 abbrev pub is_branch_of_first : List Happening → Bool
 is_branch_of_first es = elim (node_after es 1) [ None ↦ false | Some x ↦ holds (λ y. has_begun tree branch (addr_of x) y.history) es 2 ]
 
--- the order was taken over the association
-abbrev pub some_order : List DialogueRecord → Bool
-some_order [] = false
-some_order (r ∷ rs) = elim (is_order r) [ true ↦ true | false ↦ some_order rs ]
+abbrev pub has_logs : Node → Bool
+has_logs x = has_logged (is_of_tree tree) x
+
+-- the order was taken over the association; a vote, and an end, were sent on it
+abbrev pub some_word : (DialogueRecord → Bool) → List DialogueRecord → Bool
+some_word f [] = false
+some_word f (r ∷ rs) = elim (f r) [ true ↦ true | false ↦ some_word f rs ]
+
+abbrev pub first_mark : ℕ → Mark
+first_mark n = record { boot = 1; node = n; count = 1 }
 
 abbrev pub took_order : Node → Bool
-took_order x = some_order (taken_on (record { boot = 1; node = 1; count = 1 }) (record { boot = 1; node = 2; count = 1 }) 1 x.history)
+took_order x = some_word is_order (taken_on (first_mark 1) (first_mark 2) 1 x.history)
+
+abbrev pub sent_vote : Node → Bool
+sent_vote x = some_word is_vote (sent_on (first_mark 1) (first_mark 2) 1 x.history)
+
+abbrev pub sent_end : Node → Bool
+sent_end x = some_word is_end (sent_on (first_mark 1) (first_mark 2) 1 x.history)
 
 abbrev pub told_after : List Happening → ℕ → Option Outcome
 told_after es n = elim (node_after es n) [ None ↦ None | Some x ↦ told x.origin tree x.history ]

@@ -20,7 +20,7 @@ ghost use Rattle.tp_model.specs.Happenings.{Happening, run};
 ghost use Rattle.tp_model.specs.declared.transaction.TxEvent.{TxEvent};
 ghost use Rattle.tp_model.specs.Transactions.{Transaction, transacted};
 ghost use Rattle.tp_model.specs.Events.{refusal, action};
-ghost use Rattle.tp_model.specs.Promises.{AllLegal, PrefixTaken, WhatUsersSee, IsOf, IsBranchOf};
+ghost use Rattle.tp_model.specs.Promises.{AllLegal, PrefixTaken, WhatUsersSee, IsOf, IsBranchOf, is_of_tree, has_logged};
 ghost use Rattle.tp_model.specs.World.{Node};
 ghost use Rattle.tp_model.specs.Outcomes.{decided, rolled, has_left};
 ghost use Rattle.tp_model.specs.Legal.{IsGrown};
@@ -30,6 +30,7 @@ ghost use Rattle.tp_laws.specs.Facts.{IsFair, IsHeard, Reads};
 ghost use Rattle.tp_laws.specs.Members.{IsUnique, IsOnce};
 ghost use Rattle.tp_laws.specs.Fates.{IsFated};
 ghost use Rattle.tp_laws.specs.Pairs.{IsPaired};
+ghost use Rattle.tp_laws.specs.Upward.{IsRising, IsRisen, SpeaksUp};
 ghost use Rattle.tp_laws.specs.Standing.{IsUndecided, IsTold, current_after, IsApart};
 ghost use Rattle.tp_model.specs.Events.{recovered_current};
 ghost use Rattle.tp_model.specs.Node.{seen, turned, keep};
@@ -101,6 +102,21 @@ pub fn commits_go_up()
 /// In every run, a node that left a tree did not roll in it.
 pub fn leaving_is_not_rolling()
     ensures { (es : List Happening) (t : Aaid) (x : Node) → IsOf (run es) t x → has_left x.origin t x.history ≡ true → rolled x.origin t x.history ≡ false }
+{}
+
+/// What a subordinate says to its superior stands in order, of every event and in every legal history that enters each tree
+/// once: between two ends at most one Ready and no Left behind it; Done ends a tree that committed, RolledBack one that
+/// rolled, Left one that was left.
+pub fn words_upward()
+    ensures turn { (e : TxEvent) (s : Transaction) (p : ℕ) → IsPut e s → IsRising e s p s (transacted e s) }
+    ensures node { (who : Who) (d : Digest) (e : Event) (p : ℕ) (sup fall : Bool) (shut : ℕ) → IsLate d → refusal who d e ≡ None → Reads who e p sup fall shut (prelude who d e)
+        → IsRisen e p fall (prelude who d e) (prelude who d e) (action who d e) }
+    ensures history { (o : Origin) (up : Option Addr) (h : List Entry) → o.start.records ≡ [] → IsGrown o up h → IsOnce o h → SpeaksUp o up h }
+{}
+
+/// In every run, a node that left a tree has logged nothing of it: no vote, decision, order, damage or end.
+pub fn leaving_is_silent()
+    ensures { (es : List Happening) (t : Aaid) (x : Node) → IsOf (run es) t x → has_left x.origin t x.history ≡ true → has_logged (is_of_tree t) x ≡ false }
 {}
 
 /// In every run, every node's history is one that grew from an empty log by events that were accepted.

@@ -1,9 +1,9 @@
 //! Worked examples of the laws: runs in which they say something.
 //!
 //! Each function has an empty body; its clauses are the example.
-ghost use Rattle.std.specs.Prelude.{◌≡◌, ◌&&◌, true, false, Some, None};
+ghost use Rattle.std.specs.Prelude.{◌≡◌, ◌&&◌, not, true, false, Some, None};
 ghost use Rattle.tp_names.specs.declared.outcome.Outcome.{Outcome};
-ghost use Rattle.tp_laws.specs.Trials.{committed, recovered, rolled_back, mixed, departed, holds, in_tree, has_committed, has_rolled, has_gone, is_linked, is_branch_of_first, took_order, told_after, decision_after};
+ghost use Rattle.tp_laws.specs.Trials.{committed, recovered, rolled_back, mixed, departed, holds, in_tree, has_committed, has_rolled, has_gone, has_logs, is_linked, is_branch_of_first, took_order, sent_vote, sent_end, told_after, decision_after};
 
 /// Both ends are live, and the branch commits by an order that came over the association.
 pub fn a_branch_commits()
@@ -11,6 +11,8 @@ pub fn a_branch_commits()
     ensures family { (is_branch_of_first committed && holds in_tree committed 1 && holds in_tree committed 2) ≡ true }
     ensures commits { (holds has_committed committed 1 && holds has_committed committed 2) ≡ true }
     ensures ordered { holds took_order committed 2 ≡ true }
+    ensures voted { holds sent_vote committed 2 ≡ true }
+    ensures logs { holds has_logs committed 2 ≡ true }
     ensures told { told_after committed 2 ≡ Some Outcome.Commit }
 {}
 
@@ -41,5 +43,7 @@ pub fn a_branch_leaves()
     ensures leaves { (holds in_tree departed 2 && holds has_gone departed 2) ≡ true }
     ensures commits { holds has_committed departed 2 ≡ false }
     ensures rolls { holds has_rolled departed 2 ≡ false }
+    ensures silent { holds has_logs departed 2 ≡ false }
+    ensures ended { (holds sent_end departed 2 && not (holds sent_vote departed 2)) ≡ true }
     ensures told { told_after departed 2 ≡ None }
 {}

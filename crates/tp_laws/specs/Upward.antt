@@ -1,0 +1,106 @@
+-- What a subordinate says to its superior, in order: between two ends at most one Ready, and behind it no Left; and what
+-- each end tells of the transaction that it ends. A word stands behind so many ends: the key of the Begin at that place is
+-- that of its transaction.
+use Rattle.std.specs.Prelude.{ℕ, ◌+◌, ◌≡◌, ◌&&◌, ◌||◌, not, Bool, true, false, Option, Some, None, List, [], ◌∷◌, slice_get}
+use Rattle.tp_names.specs.declared.identifiers.Aaid.{Aaid}
+use Rattle.tp_names.specs.declared.identifiers.Mark.{Mark}
+use Rattle.tp_names.specs.declared.identifiers.Addr.{Addr}
+use Rattle.tp_records.specs.declared.request.Request.{Request}
+use Rattle.tp_records.specs.declared.dialogue.DialogueRecord.{DialogueRecord}
+use Rattle.tp_model.specs.declared.transaction.TxEvent.{TxEvent}
+use Rattle.tp_model.specs.Parts.{Live, Origin, Entry, Event, Current, Digest}
+use Rattle.tp_model.specs.Links.{is_live}
+use Rattle.tp_model.specs.Arcs.{link_with}
+use Rattle.tp_model.specs.Dialogues.{is_nil, is_active, is_committing, is_rolling}
+use Rattle.tp_model.specs.Transactions.{Transaction, Turn, aaid_of, is_under_at}
+use Rattle.tp_model.specs.Node.{Move}
+use Rattle.tp_model.specs.History.{digest}
+use Rattle.tp_model.specs.Outcomes.{decided, rolled, has_left, is_unchanged}
+use Rattle.tp_model.specs.Questions.{is_at}
+use Rattle.tp_laws.specs.Turns.{falls, loses}
+use Rattle.tp_laws.specs.Traces.{sent_on, taken_on}
+use Rattle.tp_laws.specs.Passages.{is_commit_rec, IsPassed}
+use Rattle.tp_laws.specs.Trees.{commits_tree}
+use Rattle.tp_laws.specs.Facts.{is_vote, is_end, ends, BranchKey, begun_keys, spoken, stays, sees, HasPlace, HasPlaceAt, words_to, IsFair}
+
+-- ---- words in order
+
+-- Ready was said since the last end
+abbrev pub voting : Bool → DialogueRecord → Bool
+voting v r = not (is_end r) && (v || is_vote r)
+
+abbrev pub voting_from : Bool → List DialogueRecord → Bool
+voting_from v [] = v
+voting_from v (r ∷ rs) = voting_from (voting v r) rs
+
+-- of each word, what holds of the number of ends before it, and of whether Ready was said since
+abbrev pub each_up : (ℕ → Bool → DialogueRecord → Bool) → ℕ → Bool → List DialogueRecord → Bool
+each_up f n v [] = true
+each_up f n v (r ∷ rs) = f n v r && each_up f (ends r + n) (voting v r) rs
+
+-- what became of a tree at the node
+pub record Deeds : Type 0 where
+  pub committed : Aaid → Bool
+  pub rolled : Aaid → Bool
+  pub left : Aaid → Bool
+
+-- it holds of the tree whose Begin stands at that place
+abbrev pub holds_at : List BranchKey → ℕ → (Aaid → Bool) → Bool
+holds_at ks n g = elim (slice_get ks n) [ None ↦ false | Some k ↦ g k.0 ]
+
+abbrev pub may_say : List BranchKey → Deeds → ℕ → Bool → DialogueRecord → Bool
+may_say ks g n v DialogueRecord.Ready = not v
+may_say ks g n v (DialogueRecord.Done r) = holds_at ks n g.committed
+may_say ks g n v (DialogueRecord.RolledBack r) = holds_at ks n g.rolled
+may_say ks g n v DialogueRecord.Left = not v && holds_at ks n g.left
+may_say ks g n v DialogueRecord.LeftEnd = not v && holds_at ks n g.left
+may_say ks g n v _ = true
+
+-- ---- an event e at a transaction s, from t on, and the superior p
+
+-- where Ready was said, the transaction came from the peer and is no longer active
+abbrev pub Votes : Bool → Transaction → ℕ → Type 0
+Votes v t p = v ≡ true → (is_nil t.phase ≡ false) × (is_under_at t.key p ≡ true) × (is_active t.phase ≡ false)
+
+-- what the phase, the record and the event say of the tree
+pub record Tells (g : Deeds) (e : TxEvent) (s t : Transaction) (a : Turn) : Type 0 where
+  pub committing : is_committing t.phase ≡ true → g.committed (aaid_of t.key) ≡ true
+  pub commits : is_commit_rec a.rec ≡ true → g.committed (aaid_of t.key) ≡ true
+  pub rolling : is_rolling t.phase ≡ true → g.rolled (aaid_of t.key) ≡ true
+  pub falls : falls e s ≡ true → g.rolled (aaid_of t.key) ≡ true
+  pub leaves : e ≡ TxEvent.User Request.Unchanged → g.left (aaid_of t.key) ≡ true
+
+pub record Rises (e : TxEvent) (s : Transaction) (p : ℕ) (t : Transaction) (a : Turn) : Type 0 where
+  pub words : (ks : List BranchKey) (g : Deeds) (n : ℕ) (v : Bool) → HasPlace ks n t p → Votes v t p → Tells g e s t a → each_up (may_say ks g) n v (spoken true p a.outs) ≡ true
+  pub votes : (v : Bool) → Votes v t p → stays true p a.outs ≡ true → Votes (voting_from v (spoken true p a.outs)) a.next p
+
+pub record IsRising (e : TxEvent) (s : Transaction) (p : ℕ) (t : Transaction) (a : Turn) : Type 0 where
+  pub fair : IsFair e s p t a
+  pub passed : IsPassed e s t a
+  pub rises : sees t p ≡ true → loses e p ≡ false → Rises e s p t a
+
+-- ---- the same of a node: an event e whose prelude left s, from d on
+
+abbrev pub VotesAt : Bool → Option Current → ℕ → Type 0
+VotesAt v o p = v ≡ true → (c : Current) × (o ≡ Some c) × (is_nil c.phase ≡ false) × (is_under_at c.key p ≡ true) × (is_active c.phase ≡ false)
+
+pub record TellsAt (g : Deeds) (e : Event) (fall : Bool) (s : Digest) (m : Move) : Type 0 where
+  pub committing : (c : Current) → s.current ≡ Some c → is_committing c.phase ≡ true → g.committed (aaid_of c.key) ≡ true
+  pub commits : (c : Current) → s.current ≡ Some c → commits_tree (aaid_of c.key) m.rec ≡ true → g.committed (aaid_of c.key) ≡ true
+  pub rolling : (c : Current) → s.current ≡ Some c → is_rolling c.phase ≡ true → g.rolled (aaid_of c.key) ≡ true
+  pub falls : (c : Current) → s.current ≡ Some c → fall ≡ true → g.rolled (aaid_of c.key) ≡ true
+  pub leaves : (c : Current) → s.current ≡ Some c → is_unchanged e ≡ true → g.left (aaid_of c.key) ≡ true
+
+pub record IsRisen (e : Event) (p : ℕ) (fall : Bool) (s d : Digest) (m : Move) : Type 0 where
+  pub words : (ks : List BranchKey) (g : Deeds) (n : ℕ) (v : Bool) → HasPlaceAt ks n d.current p → VotesAt v d.current p → TellsAt g e fall s m → each_up (may_say ks g) n v (words_to p m.outs) ≡ true
+  pub votes : (v : Bool) → is_live (link_with m.next.arcs p) ≡ true → VotesAt v d.current p → VotesAt (voting_from v (words_to p m.outs)) m.next.current p
+
+-- ---- of a history
+
+abbrev pub deeds_of : Origin → List Entry → Deeds
+deeds_of o h = record { committed = λ t. decided o t h; rolled = λ t. rolled o t h; left = λ t. has_left o t h }
+
+-- to the superior, on each pair
+pub record SpeaksUp (o : Origin) (up : Option Addr) (h : List Entry) : Type 0 where
+  pub words : (p : ℕ) (x y : Mark) → is_at up p ≡ true → each_up (may_say (begun_keys (taken_on x y p h)) (deeds_of o h)) 0 false (sent_on x y p h) ≡ true
+  pub votes : (p : ℕ) (x y : Mark) (s k : ℕ) → is_at up p ≡ true → link_with (digest o h).arcs p ≡ Live x y s k → VotesAt (voting_from false (sent_on x y p h)) (digest o h).current p
