@@ -92,7 +92,7 @@ abbrev pub IsKeyOf : Who → Option Addr → Key → Type 0
 IsKeyOf who up (Root t) = (t.owner ≡ who.site) × (t.mark.node ≡ who.node)
 IsKeyOf who up (Under t b a) = is_at up a.node ≡ true
 
-recovered_key : (o : Option Current) (u : Current) → recovered_current o ≡ Some u → (c : Current) × (o ≡ Some c) × (u.key ≡ c.key)
+pub recovered_key : (o : Option Current) (u : Current) → recovered_current o ≡ Some u → (c : Current) × (o ≡ Some c) × (u.key ≡ c.key)
 recovered_key None u h = absurd cc
 recovered_key (Some c) u h = (c, refl, grind (arith, h))
 

@@ -38,7 +38,7 @@ use Rattle.tp_laws.proofs.EveryEvent.{every_move}
 use Rattle.tp_laws.proofs.Late.{late_law, late_prelude, late_fresh}
 use Rattle.tp_laws.proofs.Fair.{row_phase}
 use Rattle.tp_laws.proofs.FairTurns.{lost_phase}
-use Rattle.tp_laws.proofs.Passed.{passed_turn}
+use Rattle.tp_laws.proofs.Passed.{passed_turn, later_rec}
 use Rattle.tp_laws.proofs.Equal.{or_case, and_left, and_right}
 use Rattle.tp_laws.proofs.Treed.{now_some, now_left, phase_left, old_kept, drawn_new}
 use Rattle.tp_laws.proofs.TreedMoves.{treed_moves}
@@ -46,7 +46,7 @@ use Rattle.tp_laws.proofs.Knowing.{treed_event, known_more, known_begun, now_kno
 use Rattle.tp_laws.proofs.Members.{known_old, prelude_old, now_before}
 use Rattle.tp_laws.proofs.Behind.{key_tree, stays_past, same_phase}
 use Rattle.tp_laws.proofs.Rolls.{phase_at}
-use Rattle.tp_laws.proofs.Left.{left_law, left_active}
+use Rattle.tp_laws.proofs.Left.{left_law, left_active, falsely}
 use Rattle.tp_laws.proofs.Good.{good_run}
 use Rattle.tp_laws.proofs.Unique.{unique_run}
 
@@ -260,15 +260,6 @@ bare_keep who t s d k f among = record {
   past = λ late old h none n. absurd (cc (none, among_tree t d.kept k among (settled_tree t k f h)));
 }
 
-abbrev after_rec : Option LogRec → Option LogRec → Option LogRec
-after_rec a b = elim b as (λ _. Option LogRec) [ None ↦ a | Some r ↦ Some r ]
-
-which_rec : (a b : Option LogRec) → (a ≡ None) ⊎ (b ≡ None) → (a ≡ None) × (after_rec a b ≡ b) ⊎ (b ≡ None) × (after_rec a b ≡ a)
-which_rec a None (inl i) = inl (i, i)
-which_rec a (Some r) (inl i) = inl (i, refl)
-which_rec a None (inr i) = inr (refl, refl)
-which_rec a (Some r) (inr i) = absurd (cc (i))
-
 bare_then : (who : Who) (t : Aaid) (s d : Digest) (fall : Bool) (a : Move) (f : Digest → Move) → IsBareMove who t s fall d a → IsBareMove who t s fall a.next (f a.next) → (a.rec ≡ None) ⊎ ((f a.next).rec ≡ None)
     → IsLoggedMove who t s d (followed a f)
 bare_then who t s d fall a f one two quiet = record {
@@ -284,7 +275,7 @@ bare_then who t s d fall a f one two quiet = record {
     m = followed a f
 
     which : (a.rec ≡ None) × (m.rec ≡ b.rec) ⊎ (b.rec ≡ None) × (m.rec ≡ a.rec)
-    which = which_rec a.rec b.rec quiet
+    which = later_rec a.rec b.rec quiet
 
     none_a : a.rec ≡ None → rec_of_tree t a.rec ≡ true → ⊥
     none_a i h = cc (ap (rec_of_tree t) i, h)
@@ -517,10 +508,6 @@ left_nothing o up (e ∷ h) t empty legal once l r =
         cc (act, bare.active before n)
 
 -- ---- every run
-
-falsely : (b : Bool) → (b ≡ true → ⊥) → b ≡ false
-falsely false h = refl
-falsely true h = absurd (h refl)
 
 pub left_is_bare : (es : List Happening) (t : Aaid) (x : Node) → IsOf (run es) t x → has_left x.origin t x.history ≡ true → has_logged (is_of_tree t) x ≡ false
 left_is_bare es t x of l =

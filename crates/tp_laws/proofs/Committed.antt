@@ -143,7 +143,7 @@ taken_later up e h t (Over_association p x y b before rest at taken last) =
 taken_later up e h t (In_recovery a r at k took) = In_recovery a r at k (inr took)
 
 -- the current key is that of the last Begin that was taken
-last_taken : (o : Origin) (up : Option Addr) (h : List Entry) (p : ℕ) (x y : Mark) (s k : ℕ) (c : Current) (u : Aaid) (b : BranchId) (a : Addr) → IsPaired o up h → IsLate (digest o h) → link_with (digest o h).arcs p ≡ Live x y s k → (digest o h).current ≡ Some c
+pub last_taken : (o : Origin) (up : Option Addr) (h : List Entry) (p : ℕ) (x y : Mark) (s k : ℕ) (c : Current) (u : Aaid) (b : BranchId) (a : Addr) → IsPaired o up h → IsLate (digest o h) → link_with (digest o h).arcs p ≡ Live x y s k → (digest o h).current ≡ Some c
     → c.key ≡ Under u b a → is_under_at c.key p ≡ true → last_from None (taken_on x y p h) ≡ Some (u, b)
 last_taken o up h p x y s k c u b a paired late live now key under =
     let place = paired.places p x y s k live c u b a now (late c now) key under in
@@ -167,7 +167,7 @@ reply_from who d from t b c u v a ok now key under =
     let one : superior_of c.key ≡ Some a = ap superior_of under in
     grind (arith, ok, now, key, one)
 
-key_of_tree : (c : Current) (u : Aaid) (v : BranchId) (a : Addr) (t : Aaid) (b : BranchId) → c.key ≡ Under u v a → is_key (node_key c.key) (branch_key t b) ≡ true → u ≡ t
+pub key_of_tree : (c : Current) (u : Aaid) (v : BranchId) (a : Addr) (t : Aaid) (b : BranchId) → c.key ≡ Under u v a → is_key (node_key c.key) (branch_key t b) ≡ true → u ≡ t
 key_of_tree c u v a t b under key =
     let one : is_key (node_key (Under u v a)) (branch_key t b) ≡ true = subst (λ (k : Key). is_key (node_key k) (branch_key t b) ≡ true) under key in
     aaids_equal u t (grind (arith, one))

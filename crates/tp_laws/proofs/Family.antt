@@ -1,5 +1,5 @@
 -- In every run, Commit goes up: a branch that logged Commit has a superior that did.
-use Rattle.std.proofs.Common.{◌≡◌, ◌⊎◌, inl, inr, ℕ, true, refl, ap, sym, subst, ◌∙◌, arith, Option, Some, None, List, [], ◌∷◌, ◌++◌, ◌&&◌, append_assoc}
+use Rattle.std.proofs.Common.{◌≡◌, ◌⊎◌, inl, inr, ℕ, true, refl, ap, sym, subst, ◌∙◌, arith, Option, Some, None, List, [], ◌∷◌, ◌++◌, ◌&&◌, ◌||◌, not, Bool, append_assoc}
 use Rattle.std.proofs.lemmas.Bool.Decides.{nat_tests}
 use Rattle.tp_names.specs.declared.identifiers.Mark.{Mark}
 use Rattle.tp_names.specs.declared.identifiers.Aaid.{Aaid}
@@ -7,10 +7,9 @@ use Rattle.tp_names.specs.declared.identifiers.BranchId.{BranchId}
 use Rattle.tp_names.specs.declared.identifiers.Addr.{Addr}
 use Rattle.tp_records.specs.declared.dialogue.DialogueRecord.{DialogueRecord}
 use Rattle.tp_records.specs.declared.peer.PeerRecord.{PeerRecord}
-use Rattle.tp_logrec.specs.declared.record.LogRec.{LogRec}
 use Rattle.tp_model.specs.Parts.{Origin, Event, Entry}
 use Rattle.tp_model.specs.History.{records}
-use Rattle.tp_model.specs.Outcomes.{decided, has_commit_of}
+use Rattle.tp_model.specs.Outcomes.{decided}
 use Rattle.tp_model.specs.Questions.{is_at}
 use Rattle.tp_model.specs.World.{Node, number_of, addr_of, find_node}
 use Rattle.tp_model.specs.Happenings.{Happening, run}
@@ -19,7 +18,7 @@ use Rattle.tp_model.specs.Legal.{IsGrown}
 use Rattle.tp_laws.specs.Histories.{HasSent}
 use Rattle.tp_laws.specs.Worlds.{IsGood}
 use Rattle.tp_laws.specs.Traces.{sent_on, taken_on, history_at}
-use Rattle.tp_laws.specs.Facts.{is_order, BranchKey, last_from, each_under, is_ordered}
+use Rattle.tp_laws.specs.Facts.{is_order, BranchKey, begins_by, last_from, each_under, is_ordered}
 use Rattle.tp_laws.specs.Members.{is_begun_by, has_taken_begin, is_own}
 use Rattle.tp_laws.proofs.Good.{good_run, Sender, was_sent}
 use Rattle.tp_laws.proofs.Equal.{or_case, and_left, and_right, addrs_equal}
@@ -32,9 +31,9 @@ use Rattle.tp_laws.proofs.Committed.{OrderTaken, Over_association, In_recovery, 
 
 -- ---- a Begin comes from the superior
 
-record Begun (up : Option Addr) (t : Aaid) (a : Addr) (h : List Entry) : Type 0 where
-  above : is_at up a.node ≡ true
-  taken : has_taken_begin t h ≡ true
+pub record Begun (up : Option Addr) (t : Aaid) (a : Addr) (h : List Entry) : Type 0 where
+  pub above : is_at up a.node ≡ true
+  pub taken : has_taken_begin t h ≡ true
 
 begin_is : (t : Aaid) (b : BranchId) (a : Addr) (e : Event) → is_begin_of t b a e ≡ true → is_begun_by t e ≡ true
 begin_is t b a (Event.Arrive from (PeerRecord.OnAssoc x y s (DialogueRecord.Begin u c k))) h = grind (arith, h)
@@ -48,7 +47,7 @@ begin_from t b a from x y s u c k e is h =
 up_at : (up : Option Addr) (a : Addr) → up ≡ Some a → is_at up a.node ≡ true
 up_at up a h = ap (λ (v : Option Addr). is_at v a.node) h ∙ grind (arith, nat_tests)
 
-begun_up : (o : Origin) (up : Option Addr) (h : List Entry) (t : Aaid) (b : BranchId) (a : Addr) → IsGrown o up h → has_begun t b a h ≡ true → Begun up t a h
+pub begun_up : (o : Origin) (up : Option Addr) (h : List Entry) (t : Aaid) (b : BranchId) (a : Addr) → IsGrown o up h → has_begun t b a h ≡ true → Begun up t a h
 begun_up o up [] t b a legal k = absurd cc
 begun_up o up (e ∷ h) t b a legal k = go (or_case (is_begin_of t b a e.event) (has_begun t b a h) k) (begun_up o up h t b a legal.3)
   where
@@ -63,22 +62,23 @@ begun_up o up (e ∷ h) t b a legal k = go (or_case (is_begin_of t b a e.event) 
 
 -- ---- the superior's half
 
--- the order stands among what it sent, under a Begin of the tree
-order_logged : (rs : List LogRec) (t : Aaid) (b : BranchId) (before rest more sent : List DialogueRecord) → sent ≡ (before ++ DialogueRecord.Commit ∷ rest) ++ more → last_from None before ≡ Some (t, b)
-    → each_under is_order (is_ordered rs) None sent ≡ true → has_commit_of t rs ≡ true
-order_logged rs t b before rest more sent is last each =
-    let split : sent ≡ before ++ (DialogueRecord.Commit ∷ (rest ++ more)) = is ∙ append_assoc before (DialogueRecord.Commit ∷ rest) more in
-    let all : (each_under is_order (is_ordered rs) None before && each_under is_order (is_ordered rs) (last_from None before) (DialogueRecord.Commit ∷ (rest ++ more))) ≡ true =
-    sym (under_append is_order (is_ordered rs) None before (DialogueRecord.Commit ∷ (rest ++ more))) ∙ sym (ap (each_under is_order (is_ordered rs) None) split) ∙ each in
-    let tail = and_right (each_under is_order (is_ordered rs) None before) (each_under is_order (is_ordered rs) (last_from None before) (DialogueRecord.Commit ∷ (rest ++ more))) all in
-    let here : each_under is_order (is_ordered rs) (Some (t, b)) (DialogueRecord.Commit ∷ (rest ++ more)) ≡ true = sym (ap (λ (k : Option BranchKey). each_under is_order (is_ordered rs) k (DialogueRecord.Commit ∷ (rest ++ more))) last) ∙ tail in
-    and_left (is_ordered rs (Some (t, b))) (each_under is_order (is_ordered rs) (Some (t, b)) (rest ++ more)) here
+-- a record stands among what it sent, under the last Begin before it
+pub placed_under : (f : DialogueRecord → Bool) (g : Option BranchKey → Bool) (k : Option BranchKey) (r : DialogueRecord) (before rest more sent : List DialogueRecord) → sent ≡ (before ++ r ∷ rest) ++ more → last_from None before ≡ k → f r ≡ true
+    → each_under f g None sent ≡ true → g k ≡ true
+placed_under f g k r before rest more sent is last kind each =
+    let split : sent ≡ before ++ (r ∷ (rest ++ more)) = is ∙ append_assoc before (r ∷ rest) more in
+    let all : (each_under f g None before && each_under f g (last_from None before) (r ∷ (rest ++ more))) ≡ true =
+    sym (under_append f g None before (r ∷ (rest ++ more))) ∙ sym (ap (each_under f g None) split) ∙ each in
+    let tail = and_right (each_under f g None before) (each_under f g (last_from None before) (r ∷ (rest ++ more))) all in
+    let here : ((not (f r) || g k) && each_under f g (begins_by k r) (rest ++ more)) ≡ true = sym (ap (λ (j : Option BranchKey). each_under f g j (r ∷ (rest ++ more))) last) ∙ tail in
+    let one : (not (f r) || g k) ≡ true = and_left (not (f r) || g k) (each_under f g (begins_by k r) (rest ++ more)) here in
+    rw kind at one
 
-at_same : (up : Option Addr) (p q : ℕ) → is_at up p ≡ true → is_at up q ≡ true → p ≡ q
+pub at_same : (up : Option Addr) (p q : ℕ) → is_at up p ≡ true → is_at up q ≡ true → p ≡ q
 at_same None p q h i = absurd cc
 at_same (Some a) p q h i = grind (arith, nat_tests, h, i)
 
-history_is : (ns : List Node) (n : ℕ) (x : Node) → find_node ns n ≡ Some x → history_at ns n ≡ x.history
+pub history_is : (ns : List Node) (n : ℕ) (x : Node) → find_node ns n ≡ Some x → history_at ns n ≡ x.history
 history_is ns n x h = rw (h, history_at) refl
 
 pub commits_up : (es : List Happening) (t : Aaid) (b : BranchId) (x y : Node) → IsBranchOf (run es) t b x y → decided y.origin t y.history ≡ true → decided x.origin t x.history ≡ true
@@ -116,7 +116,7 @@ commits_up es t b x y branch done = go (commit_taken y.origin y.superior y.histo
         let sent : sent_on m k (number_of y) x.history ≡ (before ++ DialogueRecord.Commit ∷ rest) ++ pre.0 =
         ap (sent_on m k (number_of y)) (sym (history_is ns p x there)) ∙ pre.1
         ∙ ap (λ (h : List Entry). taken_on m k p h ++ pre.0) (history_is ns (number_of y) y branch.child.here) ∙ ap (λ (rs : List DialogueRecord). rs ++ pre.0) taken in
-        order_logged (records x.origin x.history) t c before rest pre.0 (sent_on m k (number_of y) x.history) sent last ((paired_law x.origin x.superior x.history fresh_x legal_x).orders (number_of y) m k)
+        placed_under is_order (is_ordered (records x.origin x.history)) (Some (t, c)) DialogueRecord.Commit before rest pre.0 (sent_on m k (number_of y) x.history) sent last refl ((paired_law x.origin x.superior x.history fresh_x legal_x).orders (number_of y) m k)
     go (inr (In_recovery a r at orders took)) =
         let same : a.node ≡ number_of x = at_same y.superior a.node (number_of x) at begun.above in
         let s : Sender ns a (number_of y) r = was_sent ns (run es).frames a (number_of y) r good.sent (good.taken (number_of y) y a r branch.child.here took) in

@@ -97,7 +97,7 @@ recovered_now : (t : Aaid) (o : Option Current) → is_now t (recovered_current 
 recovered_now t None h = h
 recovered_now t (Some c) h = grind (arith, h)
 
-begun_is : (t u : Aaid) (from : Addr) (x y : Mark) (q : ℕ) (b : BranchId) (h : Holder) (e : Event) → e ≡ Event.Arrive from (PeerRecord.OnAssoc x y q (DialogueRecord.Begin u b h)) → is_aaid t u ≡ true → is_begun_by t e ≡ true
+pub begun_is : (t u : Aaid) (from : Addr) (x y : Mark) (q : ℕ) (b : BranchId) (h : Holder) (e : Event) → e ≡ Event.Arrive from (PeerRecord.OnAssoc x y q (DialogueRecord.Begin u b h)) → is_aaid t u ≡ true → is_begun_by t e ≡ true
 begun_is t u from x y q b h e is same = ap (is_begun_by t) is ∙ same
 
 -- a tree that is current behind the prelude was so, or its Begin is taken

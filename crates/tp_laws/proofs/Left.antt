@@ -80,7 +80,7 @@ left_active who d c now late ok = grind (arith, ok, now, late)
 no_active_rolling : (p : Phase) → is_active p ≡ true → is_rolling p ≡ true → ⊥
 no_active_rolling p h i = absurd (grind (arith, h, i))
 
-falsely : (b : Bool) → (b ≡ true → ⊥) → b ≡ false
+pub falsely : (b : Bool) → (b ≡ true → ⊥) → b ≡ false
 falsely false h = refl
 falsely true h = absurd (h refl)
 

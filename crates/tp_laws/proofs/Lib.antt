@@ -50,6 +50,9 @@ pub mod Upwords
 pub mod Rising
 pub mod Risen
 pub mod SpeaksUp
+pub mod Hanging
+pub mod Agreed
+pub mod ReadyRolls
 pub mod Keyed
 pub mod Above
 pub mod Folds

@@ -31,7 +31,7 @@ use Rattle.tp_laws.proofs.Treed.{drawn_new}
 use Rattle.tp_laws.proofs.Knowing.{Came, As_it_was, By_begin, By_crash, came_by, old_prelude, foreign_old, treed_event, nil_now, now_prelude, known_more, known_drawn, known_begun, now_known}
 
 -- a Begin among outputs is a word to its peer
-sent_counts : (t : Aaid) (p : ℕ) (outs : List Out) (a : Addr) (x y : Mark) (q : ℕ) (b : BranchId) (i : Holder) → a.node ≡ p → IsSentIn outs a (PeerRecord.OnAssoc x y q (DialogueRecord.Begin t b i)) → suc 0 ≤ begins_of t (words_to p outs)
+pub sent_counts : (t : Aaid) (p : ℕ) (outs : List Out) (a : Addr) (x y : Mark) (q : ℕ) (b : BranchId) (i : Holder) → a.node ≡ p → IsSentIn outs a (PeerRecord.OnAssoc x y q (DialogueRecord.Begin t b i)) → suc 0 ≤ begins_of t (words_to p outs)
 sent_counts t p [] a x y q b i at s = absurd s
 sent_counts t p (Out.Tell j ∷ outs) a x y q b i at s = sent_counts t p outs a x y q b i at s
 sent_counts t p (Out.Send c (PeerRecord.OnAssoc z w n r) ∷ outs) a x y q b i at (inl s) =

@@ -203,7 +203,7 @@ risen_turned who e f d s c p sup fall shut reads now at asked put gone = go (is_
 
 -- ---- a transaction begins on an arc
 
-begun_current : (who : Who) (d : Digest) (c : Current) (child : _) → is_nil c.phase ≡ false → (u : Current) × ((with_begun who d c child).current ≡ Some u) × (u.key ≡ c.key) × (u.phase ≡ c.phase)
+pub begun_current : (who : Who) (d : Digest) (c : Current) (child : _) → is_nil c.phase ≡ false → (u : Current) × ((with_begun who d c child).current ≡ Some u) × (u.key ≡ c.key) × (u.phase ≡ c.phase)
 begun_current who d c child late = (
   record {
     key = t.key;

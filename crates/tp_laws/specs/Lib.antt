@@ -12,6 +12,7 @@ pub mod Members
 pub mod Fates
 pub mod Bare
 pub mod Upward
+pub mod Hanging
 pub mod Keyed
 pub mod Pairs
 pub mod Orders

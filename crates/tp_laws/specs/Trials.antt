@@ -12,7 +12,7 @@ use Rattle.tp_model.specs.History.{digest}
 use Rattle.tp_model.specs.Outcomes.{is_member, decided, rolled, decision, has_left, told}
 use Rattle.tp_model.specs.World.{Node, find_node, addr_of}
 use Rattle.tp_model.specs.Happenings.{Happening, Declare, Does, Crash, Ask, Deliver, Decide, Retry, run}
-use Rattle.tp_model.specs.Promises.{has_begun, is_of_tree, has_logged}
+use Rattle.tp_model.specs.Promises.{has_begun, is_of_tree, is_ready_of, has_logged}
 use Rattle.tp_laws.specs.Facts.{is_order, is_vote, is_end}
 use Rattle.tp_laws.specs.Traces.{sent_on, taken_on}
 
@@ -85,6 +85,9 @@ is_linked p x = is_live_with_peer (digest x.origin x.history).arcs p
 -- the second node is the first one's branch
 abbrev pub is_branch_of_first : List Happening → Bool
 is_branch_of_first es = elim (node_after es 1) [ None ↦ false | Some x ↦ holds (λ y. has_begun tree branch (addr_of x) y.history) es 2 ]
+
+abbrev pub has_voted : Node → Bool
+has_voted x = has_logged (is_ready_of tree branch) x
 
 abbrev pub has_logs : Node → Bool
 has_logs x = has_logged (is_of_tree tree) x

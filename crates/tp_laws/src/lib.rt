@@ -20,7 +20,7 @@ ghost use Rattle.tp_model.specs.Happenings.{Happening, run};
 ghost use Rattle.tp_model.specs.declared.transaction.TxEvent.{TxEvent};
 ghost use Rattle.tp_model.specs.Transactions.{Transaction, transacted};
 ghost use Rattle.tp_model.specs.Events.{refusal, action};
-ghost use Rattle.tp_model.specs.Promises.{AllLegal, PrefixTaken, WhatUsersSee, IsOf, IsBranchOf, is_of_tree, has_logged};
+ghost use Rattle.tp_model.specs.Promises.{AllLegal, PrefixTaken, WhatUsersSee, OneOutcome, IsOf, IsBranchOf, is_of_tree, has_logged};
 ghost use Rattle.tp_model.specs.World.{Node};
 ghost use Rattle.tp_model.specs.Outcomes.{decided, rolled, has_left};
 ghost use Rattle.tp_model.specs.Legal.{IsGrown};
@@ -30,6 +30,7 @@ ghost use Rattle.tp_laws.specs.Facts.{IsFair, IsHeard, Reads};
 ghost use Rattle.tp_laws.specs.Members.{IsUnique, IsOnce};
 ghost use Rattle.tp_laws.specs.Fates.{IsFated};
 ghost use Rattle.tp_laws.specs.Pairs.{IsPaired};
+ghost use Rattle.tp_laws.specs.Hanging.{HangsTogether, ReadyDown, LeftDown, RolledOrUnknown, UnknownIsRolled};
 ghost use Rattle.tp_laws.specs.Upward.{IsRising, IsRisen, SpeaksUp};
 ghost use Rattle.tp_laws.specs.Standing.{IsUndecided, IsTold, current_after, IsApart};
 ghost use Rattle.tp_model.specs.Events.{recovered_current};
@@ -71,6 +72,11 @@ pub fn words_of_events()
 /// a tree's identifier was declared no later than each node that knows it.
 pub fn trees_are_entered_once()
     ensures { (es : List Happening) → IsUnique (run es).nodes }
+{}
+
+/// In every run, each node of a tree but its root took its Begin from a node of the tree: it is a branch of it.
+pub fn trees_hang_together()
+    ensures { (es : List Happening) → HangsTogether (run es) }
 {}
 
 /// In every run, a user is told commit only where Commit is logged, is told rollback only where the node rolled, and no
@@ -117,6 +123,19 @@ pub fn words_upward()
 /// In every run, a node that left a tree has logged nothing of it: no vote, decision, order, damage or end.
 pub fn leaving_is_silent()
     ensures { (es : List Happening) (t : Aaid) (x : Node) → IsOf (run es) t x → has_left x.origin t x.history ≡ true → has_logged (is_of_tree t) x ≡ false }
+{}
+
+/// In every run, a ready branch that rolls has a superior that rolled in the same tree, or that told it that it knows of
+/// nothing.
+pub fn ready_rolls_by_its_superior()
+    ensures { (es : List Happening) → RolledOrUnknown (run es) }
+{}
+
+/// In every run in which Ready and leaving go down to a branch, and a superior that told a branch which was ready, and
+/// rolled, that it knows of nothing rolled itself, of two nodes of one tree told different outcomes at least one logged a
+/// decision.
+pub fn outcomes_rest_on_the_family()
+    ensures { (es : List Happening) → ReadyDown (run es) → LeftDown (run es) → UnknownIsRolled (run es) → OneOutcome (run es) }
 {}
 
 /// In every run, every node's history is one that grew from an empty log by events that were accepted.

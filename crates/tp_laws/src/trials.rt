@@ -3,7 +3,7 @@
 //! Each function has an empty body; its clauses are the example.
 ghost use Rattle.std.specs.Prelude.{◌≡◌, ◌&&◌, not, true, false, Some, None};
 ghost use Rattle.tp_names.specs.declared.outcome.Outcome.{Outcome};
-ghost use Rattle.tp_laws.specs.Trials.{committed, recovered, rolled_back, mixed, departed, holds, in_tree, has_committed, has_rolled, has_gone, has_logs, is_linked, is_branch_of_first, took_order, sent_vote, sent_end, told_after, decision_after};
+ghost use Rattle.tp_laws.specs.Trials.{committed, recovered, rolled_back, mixed, departed, holds, in_tree, has_committed, has_rolled, has_gone, has_voted, has_logs, is_linked, is_branch_of_first, took_order, sent_vote, sent_end, told_after, decision_after};
 
 /// Both ends are live, and the branch commits by an order that came over the association.
 pub fn a_branch_commits()
@@ -25,6 +25,7 @@ pub fn a_branch_recovers()
 
 /// The root rolls back, and the ready branch with it.
 pub fn a_tree_rolls_back()
+    ensures voted { (is_branch_of_first rolled_back && holds has_voted rolled_back 2) ≡ true }
     ensures rolls { (holds has_rolled rolled_back 1 && holds has_rolled rolled_back 2) ≡ true }
     ensures commits { holds has_committed rolled_back 2 ≡ false }
     ensures told { told_after rolled_back 2 ≡ Some Outcome.Rollback }

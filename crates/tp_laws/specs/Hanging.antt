@@ -1,0 +1,51 @@
+-- How the nodes of a tree hang together, and what agreement rests on.
+use Rattle.std.specs.Prelude.{ℕ, suc, ◌≡◌, ◌≤◌, ◌⊎◌, true, false}
+use Rattle.tp_names.specs.declared.identifiers.Aaid.{Aaid}
+use Rattle.tp_names.specs.declared.identifiers.BranchId.{BranchId}
+use Rattle.tp_names.specs.declared.identifiers.Addr.{Addr}
+use Rattle.tp_records.specs.declared.peer.PeerRecord.{PeerRecord}
+use Rattle.tp_records.specs.declared.peer.RecState.{RecState}
+use Rattle.tp_model.specs.Parts.{Event, Digest}
+use Rattle.tp_model.specs.Node.{Move}
+use Rattle.tp_model.specs.Outcomes.{is_now, rolled, has_left}
+use Rattle.tp_model.specs.World.{World, Node, number_of}
+use Rattle.tp_model.specs.Promises.{IsOf, IsBranchOf, is_root, has_logged, is_ready_of, is_bound_of}
+use Rattle.tp_laws.specs.Histories.{HasSent}
+use Rattle.tp_laws.specs.Moves.{IsLate}
+use Rattle.tp_laws.specs.Facts.{words_to}
+use Rattle.tp_laws.specs.Trees.{begins_of}
+use Rattle.tp_laws.specs.Members.{is_begun_by}
+
+-- an event e whose prelude left s, from d on: what begins in it is current to its end, and Begin goes out of such a tree or
+-- of the one that was current at first
+pub record IsStaying (e : Event) (t : Aaid) (p : ℕ) (s d : Digest) (m : Move) : Type 0 where
+  pub late : IsLate d → IsLate m.next
+  pub stays : IsLate d → is_now t d.current ≡ true → (is_now t s.current ≡ false) ⊎ (is_begun_by t e ≡ true) → is_now t m.next.current ≡ true
+  pub begins : IsLate d → suc 0 ≤ begins_of t (words_to p m.outs) → (is_now t m.next.current ≡ true) ⊎ (is_now t s.current ≡ true)
+
+-- each node of a tree but its root is a branch of a node of the tree
+abbrev pub HangsTogether : World → Type 0
+HangsTogether w = (t : Aaid) (y : Node) → IsOf w t y → is_root t y ≡ false → (x : Node) × (b : BranchId) × IsBranchOf w t b x y
+
+-- ---- what agreement rests on, between a node and its branch
+
+abbrev pub ReadyDown : World → Type 0
+ReadyDown w = (t : Aaid) (b : BranchId) (x y : Node) → IsBranchOf w t b x y → has_logged (is_bound_of t) x ≡ true → (has_left y.origin t y.history ≡ true) ⊎ (has_logged (is_ready_of t b) y ≡ true)
+
+abbrev pub LeftDown : World → Type 0
+LeftDown w = (t : Aaid) (b : BranchId) (x y : Node) → IsBranchOf w t b x y → has_left x.origin t x.history ≡ true → has_left y.origin t y.history ≡ true
+
+-- a ready branch that rolled has a superior that rolled, or that told it that it knows of nothing
+abbrev pub HasToldUnknown : Aaid → Node → Node → Type 0
+HasToldUnknown t x y = (a : Addr) × (c : BranchId) × (a.node ≡ number_of y) × HasSent x.history a (PeerRecord.RecReply t c RecState.Unknown)
+
+abbrev pub RolledOrUnknown : World → Type 0
+RolledOrUnknown w =
+    (t : Aaid) (b : BranchId) (x y : Node) → IsBranchOf w t b x y → has_logged (is_ready_of t b) y ≡ true → rolled y.origin t y.history ≡ true
+    → (rolled x.origin t x.history ≡ true) ⊎ HasToldUnknown t x y
+
+-- and where it told so, it rolled
+abbrev pub UnknownIsRolled : World → Type 0
+UnknownIsRolled w =
+    (t : Aaid) (b : BranchId) (x y : Node) → IsBranchOf w t b x y → has_logged (is_ready_of t b) y ≡ true → rolled y.origin t y.history ≡ true → HasToldUnknown t x y
+    → rolled x.origin t x.history ≡ true
