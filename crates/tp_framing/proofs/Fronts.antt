@@ -8,7 +8,8 @@ use Rattle.tp_names.specs.Bytes.{short_bytes}
 use Rattle.tp_names.specs.Reading.{read_short, read_bytes}
 use Rattle.tp_framing.specs.Frames.{Next, Part, Whole, Bad, next_in, is_frame_length, frame_bytes, IsBody, BeginsBad}
 use Rattle.tp_framing.specs.Front.{HasWhole}
-use Rattle.tp_framing.proofs.Numbers.{read_short_is, short_bytes_of, read_short_back, read_bytes_all, read_bytes_few}
+use Rattle.tp_names.proofs.Numbers.{short_back}
+use Rattle.tp_framing.proofs.Numbers.{read_short_is, short_bytes_of, read_bytes_all, read_bytes_few}
 
 -- what comes next where the body has this reading
 abbrev pub next_by : Option (List ℕ × List ℕ) → Next
@@ -90,12 +91,12 @@ next_frame body rest sound =
     let most : n ≤ 2048 = frame_length_most n sound in
     let small : n < 2 ^ 16 = omega arith in
     let fits : n ≤ length (body ++ rest) = omega (arith, length-append body rest) in
-    next_whole (frame_bytes body ++ rest) n (body ++ rest) (read_short_back n (body ++ rest) small) sound fits
+    next_whole (frame_bytes body ++ rest) n (body ++ rest) (short_back n (body ++ rest) small) sound fits
     ∙ ap (λ w. Whole w (drop n (body ++ rest))) (take_at body rest n refl)
     ∙ ap (λ w. Whole body w) (drop_at body rest n refl)
 
 pub next_begins_bad : (bytes : List ℕ) → BeginsBad bytes → next_in bytes ≡ Bad
-next_begins_bad bytes b = next_bad bytes b.number b.rest (ap read_short b.is ∙ read_short_back b.number b.rest b.small) b.bad
+next_begins_bad bytes b = next_bad bytes b.number b.rest (ap read_short b.is ∙ short_back b.number b.rest b.small) b.bad
 
 -- ---- what follows from what comes next
 

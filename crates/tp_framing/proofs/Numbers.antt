@@ -37,9 +37,3 @@ short_bytes_of high low h l =
     let e : n / 256 % 256 ≡ high = omega arith in
     let f : n % 256 ≡ low = omega arith in
     rw (e, f) refl
-
--- a short number is read back, whatever follows it
-pub read_short_back : (n : ℕ) (bs : List ℕ) → n < 2 ^ 16 → read_short (short_bytes n ++ bs) ≡ Some (n, bs)
-read_short_back n bs h =
-    let e : n / 256 % 256 * 256 + n % 256 ≡ n = omega arith in
-    read_short_is (n / 256 % 256) (n % 256) bs ∙ ap (λ m. Some (m, bs)) e

@@ -10,13 +10,12 @@ use Rattle.tp_names.specs.Places.{Front, IsSteady}
 use Rattle.tp_names.proofs.Sequences.{some_pair, steady_make, steady_and, Both, both_parts, both_read}
 use Rattle.tp_names.proofs.Choices.{Chosen, chosen_parts, bytes_parts}
 use Rattle.tp_names.proofs.Passing.{Passed, that_parts, that_read}
-use Rattle.tp_names.proofs.Numbers.{short_scan}
+use Rattle.tp_names.proofs.Numbers.{short_back, short_scan}
 use Rattle.tp_names.proofs.Values.{addr_scan}
 use Rattle.tp_logrec.specs.declared.record.LogRec.{LogRec}
 use Rattle.tp_logrec.specs.declared.record.LogVersion.{LogVersion}
 use Rattle.tp_logrec.specs.RecordText.{children_bytes, superior_bytes}
 use Rattle.tp_logrec.specs.RecordReading.{read_children, read_branch_key, read_key_and_superior, read_judgement, ready_of, commit_of, damage_of}
-use Rattle.tp_logrec.proofs.Logs.{short_back}
 use Rattle.tp_logrec.proofs.RecordScans.{branch_key_scan, key_and_superior_scan, judgement_scan}
 use Rattle.tp_names.specs.Bytes.{key_bytes, outcome_bytes, report_bytes}
 use Rattle.tp_journal.specs.Records.{HasText}

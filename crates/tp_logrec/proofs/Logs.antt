@@ -1,13 +1,14 @@
 -- What is a log is read as one.
-use Rattle.std.proofs.Common.{◌≡◌, ◌≢◌, ℕ, zero, suc, ◌+◌, ◌-◌, ◌*◌, ◌/◌, ◌%◌, ◌<◌, ◌≤◌, ◌^◌, inl, inr, Option, Some, None, List, [], ◌∷◌, ◌++◌, length, take, drop, Bool, true, false, refl, sym, ◌∙◌, ap, arith, append_assoc, length-append}
+use Rattle.std.proofs.Common.{◌≡◌, ◌≢◌, ℕ, zero, suc, ◌+◌, ◌-◌, ◌*◌, ◌<◌, ◌≤◌, ◌^◌, inl, inr, Option, Some, None, List, [], ◌∷◌, ◌++◌, length, take, drop, Bool, true, false, refl, sym, ◌∙◌, ap, arith, append_assoc, length-append}
 use Rattle.std.specs.Prelude.{◌==◌, ◌&&◌, nat_le}
 use Rattle.std.specs.Int.{byte_at, from_be_bytes, w64}
 use Rattle.std.proofs.lemmas.List.{take_at, drop_at, append-nil}
 use Rattle.std.proofs.lemmas.Nat.{from_be_bytes-to_be_bytes_8}
 use Rattle.std.proofs.lemmas.Bool.Decides.{nat_tests}
 use Rattle.tp_names.specs.Same.{is_name}
-use Rattle.tp_names.specs.Bytes.{short_bytes, long_bytes}
-use Rattle.tp_names.specs.Reading.{read_short, read_bytes, number_from, then_read}
+use Rattle.tp_names.specs.Bytes.{long_bytes}
+use Rattle.tp_names.specs.Reading.{read_bytes, number_from, then_read}
+use Rattle.tp_names.proofs.Numbers.{short_back}
 use Rattle.tp_names.proofs.Choices.{bytes_taken}
 use Rattle.tp_logrec.specs.declared.record.LogRec.{LogRec}
 use Rattle.tp_logrec.specs.declared.record.LogVersion.{LogVersion}
@@ -16,11 +17,6 @@ use Rattle.tp_logrec.specs.RecordReading.{record_in, whole}
 use Rattle.tp_logrec.specs.LogText.{framed, records_text, log_text, HasBody, HaveBodies, log_name, IsFront, IsBack, IsLog, Placed, recs, LogReading, Foreign, Reads, with_record, body_in, records_from, is_marked, listed_from, fitting, last_place, back_reading, selected, read_log, IsReadAs}
 
 -- ---- numbers
-
-pub short_back : (n : ℕ) (bs : List ℕ) → n < 2 ^ 16 → read_short (short_bytes n ++ bs) ≡ Some (n, bs)
-short_back n bs h =
-    let e : (0 * 256 + n / 256 % 256) * 256 + n % 256 ≡ n = omega arith in
-    ap (λ m. Some (m, bs)) e
 
 pub long_back : (n : ℕ) (bs : List ℕ) → n < 2 ^ 64 → number_from 8 0 (long_bytes n ++ bs) ≡ Some (n, bs)
 long_back n bs h =

@@ -138,7 +138,7 @@ row_of {A} (k ∷ ks) (s ∷ ss) code rows = go (k.0 == code) refl (row_of ks ss
       scanned = λ bytes. scans_by false e bytes ∙ none.scanned bytes;
     })
 
-by_code : {A : Type 0} (ks : List (ℕ × Reader A)) (code : ℕ) (bytes : List ℕ) → read_by_code ks (code ∷ bytes) ≡ read_kind ks code bytes
+pub by_code : {A : Type 0} (ks : List (ℕ × Reader A)) (code : ℕ) (bytes : List ℕ) → read_by_code ks (code ∷ bytes) ≡ read_kind ks code bytes
 by_code ks code bytes = ap (λ (n : ℕ). read_kind ks n bytes) (zero-add code)
 
 code_front : {A : Type 0} (ks : List (ℕ × Reader A)) (ss : List (ℕ × Scan A)) → RowsScan ks ss → (bytes : List ℕ) (v : A) (rest : List ℕ) → read_by_code ks bytes ≡ Some (v, rest) → Front (read_by_code ks) bytes v rest

@@ -1,5 +1,5 @@
 -- Numbers of so many bytes: their scans, and that what is read is written so.
-use Rattle.std.proofs.Common.{◌≡◌, ℕ, zero, suc, ◌<◌, ◌+◌, ◌*◌, ◌/◌, ◌%◌, Option, Some, None, Ok, Err, List, [], ◌∷◌, ◌++◌, length, get_or, refl, sym, ap, ◌∙◌, arith}
+use Rattle.std.proofs.Common.{◌≡◌, ℕ, zero, suc, ◌<◌, ◌+◌, ◌*◌, ◌/◌, ◌%◌, ◌^◌, Option, Some, None, Ok, Err, List, [], ◌∷◌, ◌++◌, length, get_or, refl, sym, ap, ◌∙◌, arith}
 use Rattle.std.proofs.lemmas.List.{append-nil}
 use Rattle.std.proofs.lemmas.Nat.{be_bytes_8}
 use Rattle.std.specs.Int.{w64, from_be_bytes, to_be_bytes}
@@ -92,6 +92,13 @@ short_scan = number_scan 2
 pub long_scan : IsScan read_long scan_long
 unfolding scan_long
 long_scan = number_scan 8
+
+-- ---- what is written is read back, whatever follows it
+
+pub short_back : (n : ℕ) (bs : List ℕ) → n < 2 ^ 16 → read_short (short_bytes n ++ bs) ≡ Some (n, bs)
+short_back n bs h =
+    let e : (0 * 256 + n / 256 % 256) * 256 + n % 256 ≡ n = omega arith in
+    ap (λ m. Some (m, bs)) e
 
 -- ---- what is read is written so
 

@@ -1,10 +1,10 @@
 -- Scans that find what is read, and refuse what is not: what stands of a sort whose places are told in part alone.
-use Rattle.std.proofs.Common.{◌≡◌, ℕ, suc, ◌≤◌, ◌==◌, Bool, true, false, Option, Some, None, Result, Ok, Err, List, [], ◌∷◌, ◌++◌, length, ◌⊎◌, inl, inr, refl, sym, ap, ◌∙◌, zero-add, length-append, arith}
+use Rattle.std.proofs.Common.{◌≡◌, ℕ, suc, ◌≤◌, ◌==◌, Bool, true, false, Option, Some, None, Result, Ok, Err, List, [], ◌∷◌, ◌++◌, length, ◌⊎◌, inl, inr, refl, sym, ap, ◌∙◌, length-append, arith}
 use Rattle.tp_names.specs.Reading.{Reader, ◌and◌, applied, read_kind, read_by_code}
 use Rattle.tp_names.specs.Scanning.{Scan, ◌with◌, scan_kind, scan_by_code}
 use Rattle.tp_names.specs.Places.{AreBytes, Front, IsSteady, IsStuck, IsScan}
 use Rattle.tp_names.proofs.Sequences.{some_of, steady_and, behind_bytes, both_read, BothScanned, both_scanned, both_refused}
-use Rattle.tp_names.proofs.Codes.{NoRow}
+use Rattle.tp_names.proofs.Codes.{NoRow, by_code}
 
 pub record IsPlain {A : Type 0} (r : Reader A) (s : Scan A) : Type 0 where
   pub steady : IsSteady r
@@ -81,9 +81,6 @@ plain_row {A} (k ∷ ks) (s ∷ ss) code rows = go (k.0 == code) refl (plain_row
       reads = λ bytes. reads_by false e bytes ∙ none.reads bytes;
       scanned = λ bytes. scans_by false e bytes ∙ none.scanned bytes;
     })
-
-by_code : {A : Type 0} (ks : List (ℕ × Reader A)) (code : ℕ) (bytes : List ℕ) → read_by_code ks (code ∷ bytes) ≡ read_kind ks code bytes
-by_code ks code bytes = ap (λ (n : ℕ). read_kind ks n bytes) (zero-add code)
 
 pub plain_code : {A : Type 0} (ks : List (ℕ × Reader A)) (ss : List (ℕ × Scan A)) → RowsPlain ks ss → IsPlain (read_by_code ks) (scan_by_code ss)
 plain_code {A} ks ss rows = record { steady = record { fronts = fronts }; found = found; refused = refused }
