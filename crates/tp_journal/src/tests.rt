@@ -166,27 +166,33 @@ fn change<D: Disk>(alloc: Global, journal: &mut Journal<D>, migrates: bool) -> R
 #[test]
 fn a_changed_log_has_the_brief_alone(rt: HostRuntime) -> Result<(), Fail> {
     let alloc = rt.alloc();
-    for migrates in [false, true] {
-        let Ok(mut journal) = Journal::start(alloc, disk_of(alloc, &TWO_BOOTS)?) else {
+    let rows: [(&[u8], bool, &[u8]); 3] = [
+        (&TWO_BOOTS, false, &BOOT_2),
+        (&TWO_BOOTS, true, &WIDE_BOOT_2),
+        // The new text is longer than what stands, and zeros stand before it.
+        (&BOOT_2, true, &WIDE_BOOT_2),
+    ];
+    for (old, migrates, new) in rows {
+        let Ok(mut journal) = Journal::start(alloc, disk_of(alloc, old)?) else {
             return Err("not started".into());
         };
         assert!(rt; change(alloc, &mut journal, migrates)?);
         assert_eq!(rt; journal.count(), 1);
-        let left = journal.disk();
-        let whole = if migrates {
-            WIDE_BOOT_2.as_slice()
-        } else {
-            BOOT_2.as_slice()
-        };
-        assert_eq!(rt; left.bytes(), whole);
+        assert_eq!(rt; journal.disk().bytes(), new);
     }
     Ok(())
 }
 
-// Whether a change of two boots was done on a machine that stops at its k-th call, and what is on the disk then.
-fn changed_up_to(alloc: Global, k: u64, fill: u8, migrates: bool) -> Result<(bool, MemDisk), Fail> {
+// Whether a log was changed on a machine that stops at the k-th call of that, and what is on the disk then.
+fn changed_up_to(
+    alloc: Global,
+    old: &[u8],
+    k: u64,
+    fill: u8,
+    migrates: bool,
+) -> Result<(bool, MemDisk), Fail> {
     // The start makes one call.
-    let disk = FuseDisk::new(disk_of(alloc, &TWO_BOOTS)?, k.saturating_add(1), fill);
+    let disk = FuseDisk::new(disk_of(alloc, old)?, k.saturating_add(1), fill);
     let Ok(mut journal) = Journal::start(alloc, disk) else {
         return Err("not started".into());
     };
@@ -197,10 +203,15 @@ fn changed_up_to(alloc: Global, k: u64, fill: u8, migrates: bool) -> Result<(boo
 #[test]
 fn a_stop_in_a_change_leaves_the_list_or_its_brief(rt: HostRuntime) -> Result<(), Fail> {
     let alloc = rt.alloc();
-    for migrates in [false, true] {
+    let rows: [(&[u8], bool, usize); 3] = [
+        (&TWO_BOOTS, false, 2),
+        (&TWO_BOOTS, true, 2),
+        (&BOOT_2, true, 1),
+    ];
+    for (old, migrates, old_count) in rows {
         for fill in [0, 1, 255] {
             for k in 1..=13 {
-                let (done, left) = changed_up_to(alloc, k, fill, migrates)?;
+                let (done, left) = changed_up_to(alloc, old, k, fill, migrates)?;
                 assert!(rt; done == (k == 13), "call {k}, fill {fill}");
                 let Ok(journal) = Journal::start(alloc, left) else {
                     return Err("not started again".into());
@@ -211,7 +222,7 @@ fn a_stop_in_a_change_leaves_the_list_or_its_brief(rt: HostRuntime) -> Result<()
                     journal.wide() == (migrates && brief),
                     "call {k}, fill {fill}"
                 );
-                let count = if brief { 1 } else { 2 };
+                let count = if brief { 1 } else { old_count };
                 assert_eq!(rt; journal.count(), count, "call {k}, fill {fill}");
                 assert!(rt; matches!(journal.list().last(), Some(LogRec::Boot { boot: 2 })));
             }
