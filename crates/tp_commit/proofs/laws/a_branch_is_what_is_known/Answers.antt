@@ -1,0 +1,10 @@
+use Rattle.tp_commit.proofs.Known.{begun_known, ready_known, committing_known, known_stands}
+use Rattle.tp_commit.proofs.laws.a_branch_is_what_is_known.Goals as goal
+
+pub returns : goal.returns
+returns c = record {
+  begun = begun_known;
+  ready = ready_known;
+  committing = committing_known;
+  stands = known_stands;
+}

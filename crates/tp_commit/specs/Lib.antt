@@ -1,0 +1,4 @@
+pub mod Row
+pub mod Branch
+pub mod Rules
+pub mod Sight

@@ -1,0 +1,255 @@
+//! The current transaction of a node.
+ghost use Rattle.std.specs.Prelude.{◌≡◌, ◌≤◌, ◌++◌, [], IsTrue, IfOk, OnOk, Some, length, vec_capacity};
+ghost use Rattle.tp_model.specs.Transactions.{node_key, superior_of, situation_of, row_holds, is_under, is_under_at};
+ghost use Rattle.tp_commit.specs.Branch.{key_from, has_superior, begun, found, found_by, tells_transaction, idle_rows, child_at};
+
+use crate::row::Row;
+use crate::rows;
+use std::alloc::Global;
+use std::marker::Model;
+use tp_logrec::LogRec;
+use tp_model::{Phase, Situation};
+use tp_names::{Addr, BranchId, Child, NoMemory, NodeKey, Outcome, Report};
+
+/// As many branches as a transaction may have.
+const ROOM: usize = 256;
+
+/// The current transaction of a node, which contracts see as the transaction of the definitions.
+#[derive(Debug, Drop)]
+pub struct Branch {
+    pub(crate) node: u16,
+    pub(crate) key: NodeKey,
+    pub(crate) superior: Option<Addr>,
+    pub(crate) phase: Phase,
+    pub(crate) up: bool,
+    pub(crate) up_ends: bool,
+    pub(crate) rows: Vec<Row>,
+    pub(crate) told_prepare: bool,
+    pub(crate) asked: bool,
+    pub(crate) owes: bool,
+    pub(crate) superior_rolled: bool,
+    pub(crate) decision: Option<Outcome>,
+    pub(crate) own: Report,
+}
+
+impl Model for Branch {
+    ghost use Rattle.tp_model.specs.Transactions.{Transaction};
+
+    ghost Value = { Transaction };
+
+    ghost use Rattle.tp_commit.specs.Branch.{transaction_of, IsKept};
+
+    ghost view = { transaction_of };
+
+    ghost invariant = { IsKept };
+}
+
+// Room for every branch.
+fn room(alloc: Global) -> Result<Vec<Row>, NoMemory>
+    ensures empty { IfOk result (λ rows. rows.items ≡ []) }
+    ensures room { IfOk result (λ rows. 256 ≤ vec_capacity rows) }
+{
+    Ok(Vec::with_capacity(alloc, ROOM)?)
+}
+
+// Branches that a record of the log names.
+fn idle_rows(alloc: Global, children: &[Child]) -> Result<Vec<Row>, NoMemory>
+    ensures rows { IfOk result (λ rows. rows.items ≡ idle_rows children.now) }
+    ensures room { IfOk result (λ rows. 256 ≤ vec_capacity rows) }
+{
+    let mut rows = room(alloc)?;
+    for child in children {
+        rows.push(Row::fresh(child, false))?;
+    }
+    Ok(rows)
+}
+
+// A transaction as the log tells it.
+fn found(
+    node: u16,
+    key: NodeKey,
+    superior: Option<Addr>,
+    phase: Phase,
+    rows: Vec<Row>,
+    decision: Option<Outcome>,
+) -> Branch
+    requires key { IsTrue (has_superior key superior) }
+    requires room { 256 ≤ vec_capacity rows }
+    ensures { result ≡ record (found node (key_from key superior) phase [] decision) { rows = rows.items } }
+{
+    Branch {
+        node,
+        key,
+        superior,
+        phase,
+        up: false,
+        up_ends: false,
+        rows,
+        told_prepare: false,
+        asked: false,
+        owes: phase == Phase::Committing,
+        superior_rolled: false,
+        decision,
+        own: Report::None,
+    }
+}
+
+impl Branch {
+    /// A transaction of that node begins: active, without a branch. The superior is given where the key
+    /// has a branch; a root's transaction has none, whatever is given. Takes the room for its branches.
+    pub fn begin(
+        alloc: Global,
+        node: u16,
+        key: NodeKey,
+        superior: Option<Addr>,
+    ) -> Result<Branch, NoMemory>
+        requires { IsTrue (has_superior key superior) }
+        ensures { IfOk result (λ branch. branch ≡ begun node (key_from key superior)) }
+    {
+        let is_under = key.branch.is_some();
+        Ok(Branch {
+            node,
+            key,
+            superior,
+            phase: Phase::Active,
+            up: is_under,
+            up_ends: false,
+            rows: room(alloc)?,
+            told_prepare: false,
+            asked: false,
+            owes: false,
+            superior_rolled: false,
+            decision: None,
+            own: Report::None,
+        })
+    }
+
+    /// The transaction that a Ready or a Commit of the log tells, with the node's own decision: no arc of
+    /// it is live, and where commit was ordered the user owes done. Takes the room for its branches. Where
+    /// the key of a Commit has a branch, the record names the superior.
+    pub fn again(alloc: Global, rec: &LogRec, decision: Option<Outcome>) -> Result<Branch, NoMemory>
+        requires { IsTrue (tells_transaction rec.now) }
+        ensures { IfOk result (λ branch. Some branch ≡ found_by rec.now decision) }
+    {
+        match rec {
+            LogRec::Ready {
+                node,
+                key,
+                superior,
+                children,
+            } => Ok(found(
+                *node,
+                *key,
+                Some(*superior),
+                Phase::Ready,
+                idle_rows(alloc, children.as_slice())?,
+                decision,
+            )),
+            LogRec::Commit {
+                node,
+                key,
+                superior,
+                children,
+            } => Ok(found(
+                *node,
+                *key,
+                *superior,
+                Phase::Committing,
+                idle_rows(alloc, children.as_slice())?,
+                decision,
+            )),
+            LogRec::Boot { .. }
+            | LogRec::Heuristic { .. }
+            | LogRec::Damage { .. }
+            | LogRec::End { .. } => unreachable!(),
+        }
+    }
+
+    // An equal transaction, with its own room.
+    pub(crate) fn copy(&self, alloc: Global) -> Result<Branch, NoMemory>
+        ensures { IfOk result (λ branch. branch ≡ self.now) }
+    {
+        let mut rows = room(alloc)?;
+        rows.extend_from_slice(self.rows.as_slice())?;
+        Ok(Branch {
+            node: self.node,
+            key: self.key,
+            superior: self.superior,
+            phase: self.phase,
+            up: self.up,
+            up_ends: self.up_ends,
+            rows,
+            told_prepare: self.told_prepare,
+            asked: self.asked,
+            owes: self.owes,
+            superior_rolled: self.superior_rolled,
+            decision: self.decision,
+            own: self.own,
+        })
+    }
+
+    /// Where the transaction stands; `Nil` once it is over.
+    pub fn phase(&self) -> Phase
+        ensures { result ≡ self.now.phase }
+    {
+        self.phase
+    }
+
+    /// The node's place in its tree.
+    pub fn key(&self) -> &NodeKey
+        ensures { result.now ≡ node_key self.now.key }
+    {
+        &self.key
+    }
+
+    /// The superior's address: none exactly where the key has no branch.
+    pub fn superior(&self) -> Option<Addr>
+        ensures { result ≡ superior_of self.now.key }
+    {
+        match self.key.branch {
+            None => None,
+            Some(_) => self.superior,
+        }
+    }
+
+    /// How many branches it has.
+    pub fn branches(&self) -> usize
+        ensures { result ≡ length self.now.rows }
+    {
+        self.rows.len()
+    }
+
+    /// The transaction came over the arc with that peer.
+    pub(crate) fn is_under_at(&self, arc: u16) -> bool
+        ensures { result ≡ is_under_at self.now.key arc }
+    {
+        match (self.key.branch, self.superior) {
+            (Some(_), Some(superior)) => superior.node == arc,
+            _ => false,
+        }
+    }
+
+    /// What the dialogue with that peer is to know of the transaction.
+    #[tactic(auto, unfolding(tp_model::specs::Transactions::situation_of))]
+    pub fn situation(&self, arc: u16) -> Situation
+        ensures { result ≡ situation_of self.now arc }
+    {
+        let row = rows::find(self.rows.as_slice(), arc);
+        Situation {
+            branch: self.is_under_at(arc) || row.is_some(),
+            phase: self.phase,
+            asked: self.asked,
+            prepared: row.is_some_and(|row| row.prepared),
+            done: row.is_some_and(|row| row.ended),
+            left: row.is_some_and(|row| row.left),
+        }
+    }
+
+    /// The address of that branch: none exactly where it is no branch of the transaction.
+    pub fn child(&self, branch: &BranchId) -> Option<Addr>
+        ensures { result ≡ child_at self.now.rows branch.now }
+    {
+        let row = rows::find_by_id(self.rows.as_slice(), branch)?;
+        Some(row.peer)
+    }
+}
