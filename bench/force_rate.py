@@ -4,8 +4,8 @@
 Usage: bench/force_rate.py [FOLDER [RECORDS [ROUNDS]]]
 
 FOLDER is where the two logs are written (default: the current folder), RECORDS how many records a round forces
-(default 1000), ROUNDS how many rounds there are (default 5). The rounds of the two take turns. What is printed is the
-median of each, and the ratio of the two. No proof and no test depends on it.
+(default 200), ROUNDS how many rounds there are (default 20). The rounds of the two take turns, since other work on the
+machine disturbs both. What is printed is the median of each, and the ratio of the two. No proof and no test depends on it.
 
 The program that forces the records is written, proved and built in a temporary folder over this repository's crates.
 Where they have not been built, the first run takes minutes.
@@ -122,8 +122,8 @@ def seconds(program, where):
 
 def main():
     where = pathlib.Path(sys.argv[1] if len(sys.argv) > 1 else ".").resolve()
-    records = int(sys.argv[2]) if len(sys.argv) > 2 else 1000
-    rounds = int(sys.argv[3]) if len(sys.argv) > 3 else 5
+    records = int(sys.argv[2]) if len(sys.argv) > 2 else 200
+    rounds = int(sys.argv[3]) if len(sys.argv) > 3 else 20
     with tempfile.TemporaryDirectory() as temporary:
         journal, loop = build(pathlib.Path(temporary), records)
         times = {"journal": [], "loop": []}
@@ -135,10 +135,10 @@ def main():
             sys.exit("the two files differ")
         os.remove(where / "force_rate.journal")
         os.remove(where / "force_rate.loop")
-    rates = {name: records / statistics.median(taken) for name, taken in times.items()}
-    print(f"journal: {rates['journal']:.0f} records a second")
-    print(f"C loop:  {rates['loop']:.0f} records a second")
-    print(f"ratio:   {rates['journal'] / rates['loop']:.2f}")
+    journal_rate, loop_rate = (records / statistics.median(times[name]) for name in ("journal", "loop"))
+    print(f"journal: {journal_rate:.0f} records a second")
+    print(f"C loop:  {loop_rate:.0f} records a second")
+    print(f"ratio:   {journal_rate / loop_rate:.2f}")
 
 
 main()
