@@ -53,6 +53,7 @@ pub mod SpeaksUp
 pub mod Hanging
 pub mod Agreed
 pub mod ReadyRolls
+pub mod Rowed
 pub mod Keyed
 pub mod Above
 pub mod Folds

@@ -13,6 +13,7 @@ pub mod Fates
 pub mod Bare
 pub mod Upward
 pub mod Hanging
+pub mod Branches
 pub mod Keyed
 pub mod Pairs
 pub mod Orders

@@ -1,0 +1,38 @@
+-- What an event makes of a branch: it is counted by its Ready alone, has left by its Left alone, and has ended by its end or
+-- by a reply.
+use Rattle.std.specs.Prelude.{ℕ, ◌≡◌, ◌==◌, ◌&&◌, ◌||◌, not, Bool, true, false, Some, None}
+use Rattle.tp_records.specs.declared.dialogue.DialogueRecord.{DialogueRecord}
+use Rattle.tp_records.specs.declared.peer.RecState.{RecState}
+use Rattle.tp_model.specs.declared.transaction.TxEvent.{TxEvent}
+use Rattle.tp_model.specs.Parts.{Branch}
+use Rattle.tp_model.specs.Dialogues.{is_active, is_committing, is_rolling}
+use Rattle.tp_model.specs.Transactions.{Row, Transaction, Turn, find_row, find_row_by_id, row_holds, is_open_in_commit}
+
+-- of the event e at the transaction s, and the branch with the peer p
+abbrev pub may_count : TxEvent → Transaction → ℕ → Bool
+may_count (TxEvent.Took q DialogueRecord.Ready) s p = (q == p) && is_active s.phase && row_holds s.rows p (λ b. b.prepared && not b.counted)
+may_count _ s p = false
+
+abbrev pub may_leave : TxEvent → Transaction → ℕ → Bool
+may_leave (TxEvent.Took q DialogueRecord.Left) s p = (q == p) && is_active s.phase
+may_leave (TxEvent.Took q DialogueRecord.LeftEnd) s p = (q == p) && is_active s.phase
+may_leave _ s p = false
+
+abbrev pub may_end : TxEvent → Transaction → ℕ → Bool
+may_end (TxEvent.Took q (DialogueRecord.Done r)) s p = (q == p) && is_committing s.phase
+may_end (TxEvent.Took q (DialogueRecord.RolledBack r)) s p = (q == p) && is_rolling s.phase
+may_end (TxEvent.Took q DialogueRecord.Left) s p = (q == p) && is_rolling s.phase
+may_end (TxEvent.Took q DialogueRecord.LeftEnd) s p = (q == p) && is_rolling s.phase
+may_end (TxEvent.Reply b (RecState.Done r)) s p = elim (find_row_by_id s.rows b) [ None ↦ false | Some w ↦ (w.branch.peer.node == p) && is_open_in_commit s w.branch ]
+may_end _ s p = false
+
+-- a branch before, and behind
+pub record IsMoved (e : TxEvent) (s : Transaction) (p : ℕ) (b n : Branch) : Type 0 where
+  pub id : n.id ≡ b.id
+  pub counted : n.counted ≡ true → (b.counted || may_count e s p) ≡ true
+  pub left : n.left ≡ true → (b.left || may_leave e s p) ≡ true
+  pub ended : n.ended ≡ true → (b.ended || may_end e s p) ≡ true
+
+-- each row behind was there before
+pub record IsRowed (e : TxEvent) (s t : Transaction) (a : Turn) : Type 0 where
+  pub rows : (p : ℕ) (n : Row) → find_row a.next.rows p ≡ Some n → (r : Row) × (find_row t.rows p ≡ Some r) × IsMoved e s p r.branch n.branch
