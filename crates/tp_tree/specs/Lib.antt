@@ -1,0 +1,3 @@
+pub mod Tie
+pub mod Invocation
+pub mod Lends

@@ -1,0 +1,225 @@
+//! The arcs of one node.
+ghost use Rattle.std.specs.Prelude.{◌≡◌, ◌⊎◌, Option, None, Some, [], IfOk, IsNone, IsTrue};
+ghost use Rattle.std.specs.Borrow.{sem};
+ghost use Rattle.std.specs.Option.{option_copied, option_copied_mut, option_map};
+ghost use Rattle.std.specs.Vec.{vec_capacity};
+ghost use Rattle.tp_model.specs.Parts.{Digest};
+ghost use Rattle.tp_model.specs.Arcs.{find_arc, put_arc, without_arc};
+ghost use Rattle.tp_model.specs.Node.{may_root};
+ghost use Rattle.tp_tree.specs.declared.tie.Tie.{Tie};
+ghost use Rattle.tp_tree.specs.Tie.{arc_of, dialogue_of, said_on, dialogue_with, is_with, unless_with, find_tie, place_of, without_ties, fresh_tie, fresh_arc};
+ghost use Rattle.tp_tree.specs.Invocation.{ties_of, arcs_of, has_room, with_added, with_arc, with_tie, without_tie, WritesLink, WritesDialogue};
+ghost use Rattle.tp_tree.specs.Lends.{LendsTie};
+
+use crate::Tie;
+use std::alloc::Global;
+use std::marker::Model;
+use tp_dialogue::Dialogue;
+use tp_model::Side;
+use tp_names::{Addr, NoMemory};
+use tp_units::Units;
+
+/// The arcs of one node, which contracts see as the superior's, where there is one, and the
+/// subordinates' in the order in which they were added.
+#[derive(Debug, Drop)]
+pub struct Invocation {
+    node: u16,
+    superior: Option<Addr>,
+    room: u16,
+    above: Option<Tie>,
+    below: Vec<Tie>,
+}
+
+impl Model for Invocation {
+    ghost use Rattle.std.specs.Prelude.{◌≤◌};
+    ghost use Rattle.std.specs.Vec.{vec_capacity};
+    ghost use Rattle.tp_tree.specs.Invocation.{Invocation as InvocationValue, value_of};
+
+    ghost Value = { InvocationValue };
+
+    ghost view = { value_of };
+
+    ghost invariant = { λ v. v.room ≤ vec_capacity v.below };
+}
+
+impl Invocation {
+    /// A node with no arcs. Memory for `room` subordinates, 32 or 256, is taken here, and none later.
+    pub fn new(
+        alloc: Global,
+        node: u16,
+        superior: Option<Addr>,
+        room: u16,
+    ) -> Result<Invocation, NoMemory>
+        requires { (room ≡ 32) ⊎ (room ≡ 256) }
+        ensures { IfOk result (λ v. v ≡ record { node = node; superior = superior; room = room; above = None; below = [] }) }
+    {
+        let below = Vec::with_capacity(alloc, usize::from(room))?;
+        Ok(Invocation {
+            node,
+            superior,
+            room,
+            above: None,
+            below,
+        })
+    }
+
+    /// The node's number.
+    pub fn node(&self) -> u16
+        ensures { result ≡ self.now.node }
+    {
+        self.node
+    }
+
+    /// The address of the superior, as it was declared.
+    pub fn superior(&self) -> Option<Addr>
+        ensures { result ≡ self.now.superior }
+    {
+        self.superior
+    }
+
+    /// Whether the node may be the root of a transaction: it has no live dialogue with Commit to its
+    /// superior.
+    pub fn may_root(&self) -> bool
+        ensures { (d : Digest) → d.superior ≡ self.now.superior → d.arcs ≡ arcs_of self.now → result ≡ may_root d }
+    {
+        let Some(superior) = self.superior else {
+            return true;
+        };
+        match self.get(superior.node) {
+            None => true,
+            Some(tie) => !tie.is_live_with_commit(),
+        }
+    }
+
+    /// The arc with the peer of that number.
+    #[tactic(auto, using(crate::proofs::Arcs::arc_found))]
+    pub fn get(&self, peer: u16) -> Option<&Tie>
+        ensures tie { option_copied result ≡ find_tie (ties_of self.now) peer }
+        ensures arc { option_map arc_of (option_copied result) ≡ find_arc (arcs_of self.now) peer }
+    {
+        if is_with(&self.above, peer) {
+            return self.above.as_ref();
+        }
+        find(self.below.as_slice(), peer)
+    }
+
+    /// The dialogue with the peer of that number.
+    pub fn find(&self, peer: u16) -> Option<&Dialogue>
+        ensures tie { option_copied result ≡ option_map dialogue_of (find_tie (ties_of self.now) peer) }
+        ensures arc { option_map said_on (option_copied result) ≡ dialogue_with (arcs_of self.now) peer }
+    {
+        let tie = self.get(peer)?;
+        Some(&tie.dialogue)
+    }
+
+    /// The arc with the peer of that number, to be changed; none where `find` has none. What is written
+    /// there takes its place.
+    #[tactic(auto, using(crate::proofs::Ties::found_mut, crate::proofs::Arcs::arc_found, crate::proofs::Arcs::arcs_put, crate::proofs::Arcs::writes_dialogue, crate::proofs::Arcs::writes_link))]
+    pub fn tie(&mut self, peer: u16) -> Option<&mut Tie>
+        ensures* written { sem 𝓛 (LendsTie self.entry peer result) }
+        ensures tie { option_copied_mut result ≡ find_tie (ties_of self.old) peer }
+        ensures arc { option_map arc_of (option_copied_mut result) ≡ find_arc (arcs_of self.old) peer }
+        ensures put { (t : Tie) → (arc_of t).peer.node ≡ peer → arcs_of (with_tie self.old peer t) ≡ put_arc (arcs_of self.old) (arc_of t) }
+        ensures dialogue { WritesDialogue self.old peer }
+        ensures link { WritesLink self.old peer }
+    {
+        if is_with(&self.above, peer) {
+            return self.above.as_mut();
+        }
+        let place = place_of(self.below.as_slice(), peer);
+        self.below.get_mut(place)
+    }
+
+    /// The arcs to subordinates, in the order in which they were added.
+    pub fn subordinates(&self) -> &[Tie]
+        ensures { result.now ≡ self.now.below }
+    {
+        self.below.as_slice()
+    }
+
+    /// Whether an arc on that side can be added: one to the superior where there is none, and one to a
+    /// subordinate where fewer than the room are there.
+    pub fn has_room(&self, side: Side) -> bool
+        ensures { result ≡ has_room side self.now }
+    {
+        match side {
+            Side::Superior => self.below.len() < usize::from(self.room),
+            Side::Subordinate => self.above.is_none(),
+        }
+    }
+
+    /// Adds an arc with no association, on which the node is that side: an arc to a subordinate stands
+    /// behind the others, and the one to the superior before them. It takes no memory.
+    pub fn add(&mut self, addr: Addr, units: Units, side: Side)
+        requires other { IsNone (find_arc (arcs_of self.old) addr.node) }
+        requires room { IsTrue (has_room side self.old) }
+        ensures value { self.new ≡ with_added side (fresh_tie addr units side) self.old }
+        ensures arcs { arcs_of self.new ≡ with_arc side (fresh_arc addr units side) (arcs_of self.old) }
+    {
+        let tie = Tie::new(addr, units, side);
+        match side {
+            Side::Subordinate => self.above = Some(tie),
+            Side::Superior => {
+                if self.below.push(tie).is_err() {
+                    unreachable!()
+                }
+            }
+        }
+    }
+
+    /// Takes away the arc with the peer of that number, where there is one.
+    #[tactic(auto, using(crate::proofs::Arcs::arcs_without))]
+    pub fn remove(&mut self, peer: u16)
+        ensures value { self.new ≡ without_tie self.old peer }
+        ensures arcs { arcs_of self.new ≡ without_arc (arcs_of self.old) peer }
+    {
+        self.above = unless_with(self.above, peer);
+        remove_all(&mut self.below, peer);
+    }
+}
+
+fn is_with(tie: &Option<Tie>, peer: u16) -> bool
+    ensures { result ≡ is_with tie.now peer }
+{
+    match tie {
+        None => false,
+        Some(tie) => tie.addr().node == peer,
+    }
+}
+
+fn unless_with(tie: Option<Tie>, peer: u16) -> Option<Tie>
+    ensures { result ≡ unless_with tie peer }
+{
+    if is_with(&tie, peer) { None } else { tie }
+}
+
+// The first arc with the peer.
+fn find(ties: &[Tie], peer: u16) -> Option<&Tie>
+    ensures { option_copied result ≡ find_tie ties.now peer }
+{
+    for tie in ties {
+        if tie.addr().node == peer {
+            return Some(tie);
+        }
+    }
+    None
+}
+
+// Where it stands; behind the others where there is none.
+fn place_of(ties: &[Tie], peer: u16) -> usize
+    ensures { result ≡ place_of ties.now peer }
+{
+    for i in 0..ties.len() {
+        if ties[i].addr().node == peer {
+            return i;
+        }
+    }
+    ties.len()
+}
+
+fn remove_all(ties: &mut Vec<Tie>, peer: u16)
+    ensures items { ties.new.items ≡ without_ties ties.old.items peer }
+    ensures capacity { vec_capacity ties.new ≡ vec_capacity ties.old }
+{
+    ties.retain(|tie| tie.addr().node != peer);
+}

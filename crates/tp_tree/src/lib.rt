@@ -1,0 +1,14 @@
+//! The dialogues of one node: its superior, its arcs in the order in which they were asked for, and
+//! their associations.
+//!
+//! Room for every subordinate is taken at the start, and none later. It finds, adds and takes away arcs;
+//! what is said on them, and when an arc goes, it is told by its caller.
+#![tactic(auto)]
+
+mod invocation;
+#[cfg(test)]
+mod tests;
+mod tie;
+
+pub use invocation::Invocation;
+pub use tie::Tie;
