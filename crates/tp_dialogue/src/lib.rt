@@ -9,6 +9,8 @@ mod dialogue;
 mod kinds;
 mod refused;
 #[cfg(test)]
+mod table;
+#[cfg(test)]
 mod tests;
 
 pub use dialogue::{Dialogue, Seen};
