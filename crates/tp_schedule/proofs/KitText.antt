@@ -1,0 +1,47 @@
+-- That the kit writes numbers and octets as the definitions say.
+use Rattle.std.proofs.Common.{◌≡◌, ℕ, zero, suc, ◌+◌, ◌/◌, ◌%◌, ◌^◌, ◌<◌, ◌≤◌, ◌==◌, Bool, true, List, [], ◌∷◌, slice_index, refl, sym, ◌∙◌, arith, eqb-true}
+use Rattle.std.proofs.lemmas.Bool.{agree_below_at}
+use Rattle.std.proofs.lemmas.Bool.Decides.{nat_tests}
+use Rattle.std.proofs.lemmas.Fmt.{PrependsLastDigit, decimal_from_prepends, length-decimal-le_succ}
+use Rattle.std.proofs.lemmas.List.{append-nil}
+use Rattle.std.specs.Fmt.{decimal as std_decimal}
+use Rattle.hex.specs.Hex.{encode_with, lower_digits}
+use Rattle.tp_model.specs.Words.{digits_before, decimal, hex, hex_digit}
+
+-- the same with one more for the first number, which is the count of digits at most
+abbrev prepended : ℕ → ℕ → List ℕ → List ℕ
+prepended zero n text = text
+prepended (suc k) n text = digits_before k n text
+
+prepends_one : (k n : ℕ) (text : List ℕ) → n < 10 → digits_before k n text ≡ (48 + n) ∷ text
+prepends_one zero n text small = grind (arith, nat_tests)
+prepends_one (suc k) n text small = grind (arith, nat_tests)
+
+prepends_more : (k n : ℕ) (text : List ℕ) → 10 ≤ n → digits_before k n text ≡ prepended k (n / 10) ((48 + n % 10) ∷ text)
+prepends_more zero n text large = refl
+prepends_more (suc k) n text large = grind (arith, nat_tests)
+
+prepends : PrependsLastDigit prepended
+prepends = record { one = prepends_one; more = prepends_more }
+
+pub decimal_same : (n : ℕ) → n < 2 ^ 64 → std_decimal n ≡ decimal n
+decimal_same n small =
+    sym (decimal_from_prepends prepended prepends (suc n) n [] small (omega (arith, length-decimal-le_succ n small)) ∙ append-nil (std_decimal n))
+
+-- ---- octets
+
+abbrev agrees : ℕ → Bool
+agrees d = slice_index lower_digits d == hex_digit d
+
+digit_same : (d : ℕ) → d < 16 → slice_index lower_digits d ≡ hex_digit d
+digit_same d small = eqb-true _ _ (agree_below_at agrees (λ _. true) 16 d refl small)
+
+pub hex_same : (xs : List ℕ) → ((k : ℕ) → slice_index xs k < 256) → encode_with lower_digits xs ≡ hex xs
+unfolding encode_with
+hex_same [] small = refl
+hex_same (x ∷ xs) small =
+    let here : x < 256 = small 0 in
+    let high : slice_index lower_digits (x / 16) ≡ hex_digit (x / 16) = digit_same (x / 16) (omega arith) in
+    let low : slice_index lower_digits (x % 16) ≡ hex_digit (x % 16) = digit_same (x % 16) (omega arith) in
+    let rest : encode_with lower_digits xs ≡ hex xs = hex_same xs (λ k. small (suc k)) in
+    cc

@@ -1,0 +1,189 @@
+//! The words of a line, which one space parts.
+ghost use Rattle.std.specs.Prelude.{◌≡◌, ◌++◌, ◌∷◌, [], OnErr, OnOk};
+ghost use Rattle.tp_names.specs.Writing.{Keeps};
+ghost use Rattle.tp_model.specs.Words.{words, decimal, mark_word, aaid_word, outcome_word, report_word, holder_word};
+ghost use Rattle.tp_model.specs.OutText.{phase_word, fate_word};
+ghost use Rattle.tp_schedule.specs.WordText.{word_text, word_texts};
+
+use crate::digits;
+use std::alloc::Global;
+use tp_model::{NodeNumbers, PhaseWord, RecordFate};
+use tp_names::{Aaid, BranchId, Mark, NoMemory, Octets, Outcome, Report, SiteName};
+use tp_records::Holder;
+
+/// What a word is written for.
+#[derive(Clone, Copy)]
+pub(crate) enum Word<'a> {
+    Text(&'a str),
+    Short(u16),
+    Long(u64),
+    Site(SiteName),
+    /// `-` where there are none.
+    Octets(&'a Octets),
+    Hex(&'a Octets),
+    Octet(u8),
+    Units(u8),
+    Mark(Mark),
+    Aaid(Aaid),
+    Branch(BranchId),
+    Outcome(Outcome),
+    Report(Report),
+    Holder(Holder),
+    Phase(PhaseWord),
+    Fate(RecordFate),
+    Numbers(&'a NodeNumbers),
+}
+
+/// Words with a space between them.
+pub(crate) fn write_words(alloc: Global, list: &[Word], out: &mut Octets) -> Result<(), NoMemory>
+    ensures ok { OnOk result (out.new ≡ out.old ++ words (word_texts list.now)) }
+    ensures err { OnErr result (Keeps out.old out.new) }
+{
+    match list {
+        [] => Ok(()),
+        [last] => write_word(alloc, last, out),
+        [first, rest @ ..] => {
+            write_word(alloc, first, out)?;
+            out.push(alloc, b' ')?;
+            write_words(alloc, rest, out)?;
+            Ok(())
+        }
+    }
+}
+
+/// A word alone.
+pub(crate) fn write_alone(alloc: Global, word: &str, out: &mut Octets) -> Result<(), NoMemory>
+    ensures ok { OnOk result (out.new ≡ out.old ++ words (word.now ∷ [])) }
+    ensures err { OnErr result (Keeps out.old out.new) }
+{
+    write_words(alloc, &[Word::Text(word)], out)
+}
+
+/// A word, and one number.
+pub(crate) fn write_one(alloc: Global, word: &str, n: u16, out: &mut Octets) -> Result<(), NoMemory>
+    ensures ok { OnOk result (out.new ≡ out.old ++ words (word.now ∷ decimal n ∷ [])) }
+    ensures err { OnErr result (Keeps out.old out.new) }
+{
+    write_words(alloc, &[Word::Text(word), Word::Short(n)], out)
+}
+
+/// A word, and two numbers.
+pub(crate) fn write_two(
+    alloc: Global,
+    word: &str,
+    m: u16,
+    n: u16,
+    out: &mut Octets,
+) -> Result<(), NoMemory>
+    ensures ok { OnOk result (out.new ≡ out.old ++ words (word.now ∷ decimal m ∷ decimal n ∷ [])) }
+    ensures err { OnErr result (Keeps out.old out.new) }
+{
+    write_words(
+        alloc,
+        &[Word::Text(word), Word::Short(m), Word::Short(n)],
+        out,
+    )
+}
+
+fn write_word(alloc: Global, word: &Word, out: &mut Octets) -> Result<(), NoMemory>
+    ensures ok { OnOk result (out.new ≡ out.old ++ word_text word.now) }
+    ensures err { OnErr result (Keeps out.old out.new) }
+{
+    match word {
+        Word::Text(text) => out.extend_from_slice(alloc, text.as_bytes()),
+        Word::Short(n) => digits::write_decimal(alloc, u64::from(*n), out),
+        Word::Long(n) => digits::write_decimal(alloc, *n, out),
+        Word::Site(site) => out.extend_from_slice(alloc, site.bytes()),
+        Word::Octets(octets) => digits::write_octets(alloc, octets.as_slice(), out),
+        Word::Hex(octets) => digits::write_hex(alloc, octets.as_slice(), out),
+        Word::Octet(octet) => digits::write_hex(alloc, &[*octet], out),
+        Word::Units(units) => digits::write_units(alloc, *units, out),
+        Word::Mark(mark) => digits::write_mark(alloc, *mark, out),
+        Word::Aaid(aaid) => write_marked(alloc, aaid.owner, aaid.mark, out),
+        Word::Branch(branch) => write_marked(alloc, branch.superior, branch.mark, out),
+        Word::Outcome(outcome) => put(alloc, outcome_text(*outcome), out),
+        Word::Report(report) => put(alloc, report_text(*report), out),
+        Word::Holder(holder) => put(alloc, holder_text(*holder), out),
+        Word::Phase(phase) => put(alloc, phase_text(*phase), out),
+        Word::Fate(fate) => put(alloc, fate_text(*fate), out),
+        Word::Numbers(numbers) => digits::write_numbers(alloc, numbers.as_slice(), out),
+    }
+}
+
+fn put(alloc: Global, text: &str, out: &mut Octets) -> Result<(), NoMemory>
+    ensures ok { OnOk result (out.new ≡ out.old ++ text.now) }
+    ensures err { OnErr result (Keeps out.old out.new) }
+{
+    out.extend_from_slice(alloc, text.as_bytes())
+}
+
+// A site and a mark with a dot between them.
+fn write_marked(alloc: Global, site: SiteName, mark: Mark, out: &mut Octets) -> Result<(), NoMemory>
+    ensures ok { OnOk result (out.new ≡ out.old ++ aaid_word (record { owner = site; mark = mark })) }
+    ensures err { OnErr result (Keeps out.old out.new) }
+{
+    out.extend_from_slice(alloc, site.bytes())?;
+    write_behind_dot(alloc, mark, out)?;
+    Ok(())
+}
+
+fn write_behind_dot(alloc: Global, mark: Mark, out: &mut Octets) -> Result<(), NoMemory>
+    ensures ok { OnOk result (out.new ≡ out.old ++ (46 ∷ mark_word mark)) }
+    ensures err { OnErr result (Keeps out.old out.new) }
+{
+    out.push(alloc, b'.')?;
+    digits::write_mark(alloc, mark, out)?;
+    Ok(())
+}
+
+fn outcome_text(outcome: Outcome) -> &'static str
+    ensures { result.now ≡ outcome_word outcome }
+{
+    match outcome {
+        Outcome::Commit => "commit",
+        Outcome::Rollback => "rollback",
+    }
+}
+
+fn report_text(report: Report) -> &'static str
+    ensures { result.now ≡ report_word report }
+{
+    match report {
+        Report::None => "none",
+        Report::Hazard => "hazard",
+        Report::Mix => "mix",
+    }
+}
+
+fn holder_text(holder: Holder) -> &'static str
+    ensures { result.now ≡ holder_word holder }
+{
+    match holder {
+        Holder::None => "none",
+        Holder::Superior => "superior",
+        Holder::Subordinate => "subordinate",
+    }
+}
+
+fn phase_text(phase: PhaseWord) -> &'static str
+    ensures { result.now ≡ phase_word phase }
+{
+    match phase {
+        PhaseWord::Nil => "nil",
+        PhaseWord::Active => "active",
+        PhaseWord::Asked => "asked",
+        PhaseWord::Ready => "ready",
+        PhaseWord::Committing => "committing",
+        PhaseWord::Rolling => "rolling",
+    }
+}
+
+fn fate_text(fate: RecordFate) -> &'static str
+    ensures { result.now ≡ fate_word fate }
+{
+    match fate {
+        RecordFate::Kept => "kept",
+        RecordFate::Lost => "lost",
+        RecordFate::None => "none",
+    }
+}
