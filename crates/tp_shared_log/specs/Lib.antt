@@ -1,0 +1,5 @@
+pub mod Images
+pub mod Locks
+pub mod Shares
+pub mod Spends
+pub mod Unfits

@@ -1,0 +1,89 @@
+//! A journal under a lock, with the records that stood when it was put there.
+ghost use Rattle.std.specs.Prelude.{◌≡◌, ◌<◌, ◌≤◌, ◌||◌, true, length, is_some, None, IfOk, IfErr};
+ghost use Rattle.tp_journal.specs.Records.{placed};
+ghost use Rattle.tp_shared_log.specs.Locks.{Extends, ShutRose, HadNoRoom};
+ghost use Rattle.tp_shared_log.specs.Images.{Leaves};
+
+use crate::locked::Locked;
+use crate::{Stood, Unfit};
+use std::alloc::Global;
+use std::sync::Mutex;
+use std::sync::ledger::{Blank, Ledger, Share};
+use tp_journal::{Journal, Keeper, Receipt};
+use tp_names::NoMemory;
+use tp_outside::Disk;
+
+/// A journal under a lock. The records that stood when it was put there are kept beside the lock and never change.
+#[derive(Drop)]
+pub struct SharedLog<D: Disk, L: Stood, M: Ledger> {
+    pub(crate) stood: Vec<Receipt>,
+    pub(crate) wide: bool,
+    pub(crate) lock: Mutex<Locked<D, L, M>>,
+    pub ghost stood_is: { stood.items ≡ L.stood },
+    pub ghost wide_is: { wide ≡ L.wide },
+}
+
+impl<D: Disk, L: Stood, M: Ledger> SharedLog<D, L, M> {
+    /// Puts a journal under a lock, and opens both ledgers. Each share has every part.
+    pub fn new(
+        alloc: Global,
+        journal: Journal<D>,
+        first: Blank,
+        second: Blank,
+        shares: u16,
+    ) -> Result<(SharedLog<D, L, M>, Share<L>, Share<M>), (Journal<D>, NoMemory)>
+        requires open { journal.shut ≡ None }
+        requires shares { (1 ≤ shares) × (shares ≤ 16) }
+        requires stood { (L.stood ≡ placed journal.wide journal.list) × (L.faults ≡ D.fault_count journal.disk) × (L.wide ≡ journal.wide) × (L.shares ≡ shares) × (L.story ≡ D.told journal.disk) }
+        requires first { (first.name ≡ L.name) × (first.parts ≡ L.parts) }
+        requires second { (second.name ≡ M.name) × (second.parts ≡ M.parts) × (0 < second.parts) }
+        ensures part { IfOk result (λ made. (made.1.parts ≡ L.parts) × (made.1.amount ≡ 0)) }
+        ensures stake { IfOk result (λ made. (made.2.parts ≡ M.parts) × (made.2.amount ≡ shares)) }
+        ensures err { IfErr result (λ e. e.0 ≡ journal) }
+    {
+        let Ok(stood) = receipts_told(alloc, &journal) else {
+            return Err((journal, NoMemory));
+        };
+        let wide = journal.wide();
+        let (locked, part, stake) = Locked::<D, L, M>::new(journal, first, second, shares);
+        let lock = Mutex::new(locked);
+        Ok((SharedLog { stood, wide, lock }, part, stake))
+    }
+
+    /// The journal, and the first record that had no room, from whoever has all parts again. The journal has the records
+    /// that stood and as many more as the amount of the parts. Where the amount of the stakes is below the number of
+    /// shares, the journal is shut, or a record had no room. A crash now leaves the journal's records; of a shut one
+    /// perhaps also the one that was being forced.
+    pub fn close(self, all: Share<L>, stakes: Share<M>) -> (Journal<D>, Option<Unfit>)
+        requires all { all.parts ≡ L.parts }
+        requires stakes { stakes.parts ≡ M.parts }
+        ensures list { Extends L.stood all.amount (placed result.0.wide result.0.list) }
+        ensures wide { result.0.wide ≡ L.wide }
+        ensures shut { ShutRose L.faults result.0.shut (D.fault_count result.0.disk) }
+        ensures images { Leaves L.story (length L.stood) result.0.wide result.0.list result.0.shut (D.told result.0.disk) }
+        ensures spent { stakes.amount < L.shares → (is_some result.0.shut || is_some result.1) ≡ true }
+        ensures unfit { HadNoRoom result.0.gate result.1 }
+    {
+        let SharedLog {
+            stood: _,
+            wide: _,
+            lock,
+        } = self;
+        lock.into_inner().close(all, stakes)
+    }
+}
+
+// The records that a keeper tells, with their places.
+fn receipts_told<K: Keeper>(alloc: Global, keeper: &K) -> Result<Vec<Receipt>, NoMemory>
+    ensures { IfOk result (λ told. told.items ≡ (K.standing keeper.now).told) }
+{
+    let mut told = Vec::new(alloc);
+    for i in 0..keeper.count() {
+        let rec = keeper.rec(i).copy(alloc)?;
+        told.push(Receipt {
+            place: keeper.place(i),
+            rec,
+        })?;
+    }
+    Ok(told)
+}
