@@ -54,6 +54,7 @@ pub mod Hanging
 pub mod Agreed
 pub mod ReadyRolls
 pub mod Rowed
+pub mod Branched
 pub mod Keyed
 pub mod Above
 pub mod Folds

@@ -1,12 +1,15 @@
 -- What an event makes of a branch: it is counted by its Ready alone, has left by its Left alone, and has ended by its end or
 -- by a reply.
-use Rattle.std.specs.Prelude.{ℕ, ◌≡◌, ◌==◌, ◌&&◌, ◌||◌, not, Bool, true, false, Some, None}
+use Rattle.std.specs.Prelude.{ℕ, ◌≡◌, ◌==◌, ◌&&◌, ◌||◌, ◌⊎◌, not, Bool, true, false, Some, None, List}
 use Rattle.tp_records.specs.declared.dialogue.DialogueRecord.{DialogueRecord}
 use Rattle.tp_records.specs.declared.peer.RecState.{RecState}
 use Rattle.tp_model.specs.declared.transaction.TxEvent.{TxEvent}
-use Rattle.tp_model.specs.Parts.{Branch}
+use Rattle.tp_model.specs.Parts.{Who, Event, Arc, Branch, Current, Digest}
 use Rattle.tp_model.specs.Dialogues.{is_active, is_committing, is_rolling}
 use Rattle.tp_model.specs.Transactions.{Row, Transaction, Turn, find_row, find_row_by_id, row_holds, is_open_in_commit}
+use Rattle.tp_model.specs.Node.{Move, seen}
+use Rattle.tp_laws.specs.Moves.{IsAsked}
+use Rattle.tp_laws.specs.Facts.{find_branch}
 
 -- of the event e at the transaction s, and the branch with the peer p
 abbrev pub may_count : TxEvent → Transaction → ℕ → Bool
@@ -36,3 +39,24 @@ pub record IsMoved (e : TxEvent) (s : Transaction) (p : ℕ) (b n : Branch) : Ty
 -- each row behind was there before
 pub record IsRowed (e : TxEvent) (s t : Transaction) (a : Turn) : Type 0 where
   pub rows : (p : ℕ) (n : Row) → find_row a.next.rows p ≡ Some n → (r : Row) × (find_row t.rows p ≡ Some r) × IsMoved e s p r.branch n.branch
+
+-- ---- the same of a node: an event e whose prelude left s, from d on
+
+-- the event may do so to the branch of what was current
+abbrev pub May : Who → Event → Digest → (TxEvent → Transaction → ℕ → Bool) → ℕ → Type 0
+May who e s g p = (c : Current) × (s.current ≡ Some c) × (f : TxEvent) × (arcs : List Arc) × IsAsked e c f × (g f (seen who arcs c) p ≡ true)
+
+pub record IsMovedAt (who : Who) (e : Event) (s : Digest) (p : ℕ) (b n : Branch) : Type 0 where
+  pub counted : n.counted ≡ true → (b.counted ≡ true) ⊎ May who e s may_count p
+  pub left : n.left ≡ true → (b.left ≡ true) ⊎ May who e s may_leave p
+  pub ended : n.ended ≡ true → (b.ended ≡ true) ⊎ May who e s may_end p
+
+-- it was a branch of the current transaction, or is new
+abbrev pub Stood : Digest → ℕ → Branch → Type 0
+Stood d p b = (c : Current) × (d.current ≡ Some c) × (find_branch c.branches p ≡ Some b)
+
+abbrev pub IsNew : Branch → Type 0
+IsNew b = (b.counted ≡ false) × (b.left ≡ false) × (b.ended ≡ false)
+
+pub record IsBranched (who : Who) (e : Event) (s d : Digest) (m : Move) : Type 0 where
+  pub branches : (p : ℕ) (n : Branch) → Stood m.next p n → (b : Branch) × (Stood d p b ⊎ IsNew b) × IsMovedAt who e s p b n

@@ -31,7 +31,7 @@ ghost use Rattle.tp_laws.specs.Members.{IsUnique, IsOnce};
 ghost use Rattle.tp_laws.specs.Fates.{IsFated};
 ghost use Rattle.tp_laws.specs.Pairs.{IsPaired};
 ghost use Rattle.tp_laws.specs.Hanging.{HangsTogether, ReadyDown, LeftDown, RolledOrUnknown, UnknownIsRolled};
-ghost use Rattle.tp_laws.specs.Branches.{IsRowed};
+ghost use Rattle.tp_laws.specs.Branches.{IsRowed, IsBranched};
 ghost use Rattle.tp_laws.specs.Upward.{IsRising, IsRisen, SpeaksUp};
 ghost use Rattle.tp_laws.specs.Standing.{IsUndecided, IsTold, current_after, IsApart};
 ghost use Rattle.tp_model.specs.Events.{recovered_current};
@@ -121,10 +121,12 @@ pub fn words_upward()
     ensures history { (o : Origin) (up : Option Addr) (h : List Entry) → o.start.records ≡ [] → IsGrown o up h → IsOnce o h → SpeaksUp o up h }
 {}
 
-/// What every event of a transaction makes of its branches: one is counted only by its Ready, in active; it has left only by
-/// its Left, in active; and it has ended only by its Done or a reply in committing, or by its RolledBack or Left in rolling.
+/// What every event of a transaction, and of a node, makes of the branches: one is counted only by its Ready, in active; it
+/// has left only by its Left, in active; and it has ended only by its Done or a reply in committing, or by its RolledBack or
+/// Left in rolling. A branch that an event begins starts with none of these marks.
 pub fn marks_of_branches()
-    ensures { (e : TxEvent) (s : Transaction) → IsPut e s → IsRowed e s s (transacted e s) }
+    ensures turn { (e : TxEvent) (s : Transaction) → IsPut e s → IsRowed e s s (transacted e s) }
+    ensures node { (who : Who) (d : Digest) (e : Event) → IsLate d → refusal who d e ≡ None → IsBranched who e (prelude who d e) (prelude who d e) (action who d e) }
 {}
 
 /// In every run, a node that left a tree has logged nothing of it: no vote, decision, order, damage or end.

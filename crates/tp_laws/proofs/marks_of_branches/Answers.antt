@@ -1,5 +1,6 @@
 use Rattle.tp_laws.proofs.Rowed.{rowed_turn}
+use Rattle.tp_laws.proofs.Branched.{branched_event}
 use Rattle.tp_laws.proofs.marks_of_branches.Goals as goal
 
 pub returns : goal.returns
-returns c = rowed_turn
+returns c = record { turn = rowed_turn; node = branched_event }
