@@ -1,7 +1,6 @@
 //! What an event asks for, and what it leaves.
-ghost use Rattle.std.specs.Prelude.{◌≡◌, ◌+◌, ◌≤◌, ◌++◌, ◌&&◌, not, IfOk, length};
+ghost use Rattle.std.specs.Prelude.{◌≡◌, ◌+◌, ◌≤◌, ◌++◌, IfOk, length};
 ghost use Rattle.tp_model.specs.Transactions.{transacted, refused_tx, step_of, fresh_rows};
-ghost use Rattle.tp_model.specs.Dialogues.{is_rolling};
 ghost use Rattle.tp_commit.specs.Branch.{IsRefusedAs, standing, begins};
 ghost use Rattle.tp_commit.specs.Rules.{run, set_off, later};
 
