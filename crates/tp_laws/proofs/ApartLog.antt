@@ -32,13 +32,13 @@ options_equal (Some a) (Some b) h = ap (λ (c : BranchId). Some c) (branches_equ
 pub keys_equal : (a b : NodeKey) → is_key a b ≡ true → a ≡ b
 keys_equal a b h = key_made a.aaid b.aaid a.branch b.branch (aaids_equal a.aaid b.aaid (and_left _ _ h)) (options_equal a.branch b.branch (and_right _ _ h))
 
-apart_among : (k : NodeKey) (ks : List Kept) (x : Kept) → AreApart k ks → IsAmong ks x → x.key ≡ k → ⊥
+pub apart_among : (k : NodeKey) (ks : List Kept) (x : Kept) → AreApart k ks → IsAmong ks x → x.key ≡ k → ⊥
 apart_among k [] x h i = absurd i
 apart_among k (y ∷ ys) x h (inl i) = λ j. h.0 (i.1 ∙ j)
 apart_among k (y ∷ ys) x h (inr i) = apart_among k ys x h.1 i
 
 -- a record of a kept transaction, or none
-abbrev IsOfKept : NodeKey → Option LogRec → Type 0
+abbrev pub IsOfKept : NodeKey → Option LogRec → Type 0
 IsOfKept k None = Unit {0}
 IsOfKept k (Some (LogRec.Boot n)) = ⊥
 IsOfKept k (Some (LogRec.Ready n j s cs)) = ⊥
@@ -47,7 +47,7 @@ IsOfKept k (Some (LogRec.Commit n j s cs)) = ⊥
 IsOfKept k (Some (LogRec.Damage n j s o r cs)) = j ≡ k
 IsOfKept k (Some (LogRec.End n j o)) = j ≡ k
 
-settled_of : (k : Kept) (f : KeptEvent) → IsOfKept k.key (settled k f).rec
+pub settled_of : (k : Kept) (f : KeptEvent) → IsOfKept k.key (settled k f).rec
 unfolding settled
 settled_of k (KeptEvent.Done a b r) = grind arith
 settled_of k KeptEvent.Forget = grind arith
@@ -72,7 +72,7 @@ stays k (Some (LogRec.Damage n j s u r cs)) o h i = not_let_go j o (λ c e f. i 
 stays k (Some (LogRec.End n j u)) o h i = not_let_go j o (λ c e f. i c e (sym h ∙ f))
 
 -- what stands in the log has the key of what is current, which does not roll
-logged_key : (o : Option Current) (c : Current) → recovered_current o ≡ Some c → (u : Current) × (o ≡ Some u) × (c.key ≡ u.key) × (is_rolling u.phase ≡ false)
+pub logged_key : (o : Option Current) (c : Current) → recovered_current o ≡ Some c → (u : Current) × (o ≡ Some u) × (c.key ≡ u.key) × (is_rolling u.phase ≡ false)
 logged_key None c h = absurd (cc (h))
 logged_key (Some u) c h = (u, refl, key u.phase h, phase u.phase h)
   where

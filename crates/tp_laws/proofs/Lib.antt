@@ -72,3 +72,7 @@ pub mod TurnLog
 pub mod CurrentLog
 pub mod ApartLog
 pub mod Sound
+pub mod SoundMoves
+pub mod SoundLog
+pub mod SoundStart
+pub mod RestartLog

@@ -18,7 +18,7 @@ use Rattle.tp_laws.specs.Standing.{standing, in_log, current_after, AreApart, Is
 use Rattle.tp_laws.proofs.Passed.{passed_turn}
 use Rattle.tp_laws.proofs.TurnLog.{gone, told_turn}
 
-apart_put : (k : NodeKey) (ks : List Kept) (x : Kept) → AreApart k ks → (x.key ≡ k → ⊥) → AreApart k (put_kept ks x)
+pub apart_put : (k : NodeKey) (ks : List Kept) (x : Kept) → AreApart k ks → (x.key ≡ k → ⊥) → AreApart k (put_kept ks x)
 apart_put k [] x h i = (i, tt)
 apart_put k (y ∷ ys) x h i = go (is_key y.key x.key) refl (apart_put k ys x h.1 i)
   where
@@ -26,7 +26,7 @@ apart_put k (y ∷ ys) x h i = go (is_key y.key x.key) refl (apart_put k ys x h.
     go true j rest = rw (j, put_kept) (i, h.1)
     go false j rest = rw (j, put_kept) (h.0, rest)
 
-apart_without : (k : NodeKey) (ks : List Kept) (j : NodeKey) → AreApart k ks → AreApart k (without_kept ks j)
+pub apart_without : (k : NodeKey) (ks : List Kept) (j : NodeKey) → AreApart k ks → AreApart k (without_kept ks j)
 apart_without k [] j h = tt
 apart_without k (y ∷ ys) j h = go (is_key y.key j) refl (apart_without k ys j h.1)
   where
@@ -71,7 +71,7 @@ unlogged t h i j = go t.phase h i j
     go Phase.Committing h i j = absurd (cc (h))
     go Phase.Rolling h i j = absurd (cc (i))
 
-left_is : (t : Transaction) (u : Current) → remaining t ≡ Some u → (u.key ≡ t.key) × (u.phase ≡ t.phase) × (u.decision ≡ t.decision) × (is_nil t.phase ≡ false)
+pub left_is : (t : Transaction) (u : Current) → remaining t ≡ Some u → (u.key ≡ t.key) × (u.phase ≡ t.phase) × (u.decision ≡ t.decision) × (is_nil t.phase ≡ false)
 left_is t u i = go (is_nil t.phase) refl
   where
     go : (b : Bool) → is_nil t.phase ≡ b → (u.key ≡ t.key) × (u.phase ≡ t.phase) × (u.decision ≡ t.decision) × (is_nil t.phase ≡ false)

@@ -7,6 +7,7 @@ pub mod Breaks
 pub mod Facts
 pub mod Passages
 pub mod Standing
+pub mod Restart
 pub mod Trees
 pub mod Members
 pub mod Fates

@@ -20,7 +20,7 @@ ghost use Rattle.tp_model.specs.Happenings.{Happening, run};
 ghost use Rattle.tp_model.specs.declared.transaction.TxEvent.{TxEvent};
 ghost use Rattle.tp_model.specs.Transactions.{Transaction, transacted};
 ghost use Rattle.tp_model.specs.Events.{refusal, action};
-ghost use Rattle.tp_model.specs.Promises.{AllLegal, PrefixTaken, WhatUsersSee, OneOutcome, IsOf, IsBranchOf, is_of_tree, has_logged};
+ghost use Rattle.tp_model.specs.Promises.{AllLegal, IsIn, PrefixTaken, WhatUsersSee, OneOutcome, IsOf, IsBranchOf, is_of_tree, has_logged};
 ghost use Rattle.tp_model.specs.World.{Node};
 ghost use Rattle.tp_model.specs.Outcomes.{decided, rolled, has_left};
 ghost use Rattle.tp_model.specs.Legal.{IsGrown};
@@ -33,6 +33,7 @@ ghost use Rattle.tp_laws.specs.Pairs.{IsPaired};
 ghost use Rattle.tp_laws.specs.Hanging.{HangsTogether, ReadyDown, LeftDown, RolledOrUnknown, UnknownIsRolled};
 ghost use Rattle.tp_laws.specs.Branches.{IsRowed, IsBranched};
 ghost use Rattle.tp_laws.specs.Upward.{IsRising, IsRisen, SpeaksUp};
+ghost use Rattle.tp_laws.specs.Restart.{IsFounded};
 ghost use Rattle.tp_laws.specs.Standing.{IsUndecided, IsTold, current_after, IsApart};
 ghost use Rattle.tp_model.specs.Events.{recovered_current};
 ghost use Rattle.tp_model.specs.Node.{seen, turned, keep};
@@ -180,4 +181,11 @@ pub fn turns_are_in_the_log()
     ensures apart { (who : Who) (f : TxEvent) (d : Digest) (c : Current) → d.current ≡ Some c → IsPut f (seen who d.arcs c) → IsUndecided (seen who d.arcs c) → IsApart d → IsApart (turned who f d c).next }
     ensures kept { (d : Digest) (k : Kept) (f : KeptEvent) → IsApart d → IsAmong d.kept k
         → current_after (keep (settled k f) d).rec (recovered_current d.current) ≡ recovered_current (keep (settled k f) d).next.current }
+{}
+
+/// A start over the records of a log, with the next boot number, leaves the same as a crash: in every run, and in every
+/// legal history whose log held no root of a later boot at first.
+pub fn restart_is_a_crash()
+    ensures history { (o : Origin) (up : Option Addr) (h : List Entry) → IsFounded o up h → digest (again o h) [] ≡ digest o (crashed h) }
+    ensures run { (es : List Happening) (x : Node) → IsIn (run es) x → digest (again x.origin x.history) [] ≡ digest x.origin (crashed x.history) }
 {}
