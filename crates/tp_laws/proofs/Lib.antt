@@ -64,6 +64,7 @@ pub mod Asking
 pub mod Orders
 pub mod Committed
 pub mod Family
+pub mod Heeded
 pub mod Lanes
 pub mod KeptLog
 pub mod OwnRecords

@@ -155,7 +155,7 @@ no_place q r l m h i j k = absurd (omega (arith, h, i, j, k))
 
 -- ---- a node comes
 
-unique_comes : (ns : List Node) (fs : List Frame) (x : Node) → Comes ns x → IsGood ns fs → IsUnique ns → IsUnique (ns ++ x ∷ [])
+pub unique_comes : (ns : List Node) (fs : List Frame) (x : Node) → Comes ns x → IsGood ns fs → IsUnique ns → IsUnique (ns ++ x ∷ [])
 unique_comes ns fs x c g p = record {
   once = λ n y i. once n y (number_of x == n) refl i;
   drawn = λ n y t i k. drawn n y t (number_of x == n) refl i k;
@@ -211,7 +211,7 @@ unique_comes ns fs x c g p = record {
 
 -- ---- an event
 
-unique_event : (ns : List Node) (fs : List Frame) (x : Node) (e : Event) → Step ns fs x e → IsUnique ns → IsUnique (put_node ns (grown_node x e))
+pub unique_event : (ns : List Node) (fs : List Frame) (x : Node) (e : Event) → Step ns fs x e → IsUnique ns → IsUnique (put_node ns (grown_node x e))
 unique_event ns fs x e st p = record {
   once = λ n z i. once n z (number_of x == n) refl i;
   drawn = λ n z t i k. drawn n z t (number_of x == n) refl i k;

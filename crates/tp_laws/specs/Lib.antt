@@ -15,6 +15,7 @@ pub mod Bare
 pub mod Upward
 pub mod Hanging
 pub mod Branches
+pub mod Heeded
 pub mod Keyed
 pub mod Pairs
 pub mod Orders

@@ -32,6 +32,7 @@ ghost use Rattle.tp_laws.specs.Fates.{IsFated};
 ghost use Rattle.tp_laws.specs.Pairs.{IsPaired};
 ghost use Rattle.tp_laws.specs.Hanging.{HangsTogether, ReadyDown, LeftDown, RolledOrUnknown, UnknownIsRolled};
 ghost use Rattle.tp_laws.specs.Branches.{IsRowed, IsBranched};
+ghost use Rattle.tp_laws.specs.Heeded.{HeedsBranches};
 ghost use Rattle.tp_laws.specs.Upward.{IsRising, IsRisen, SpeaksUp};
 ghost use Rattle.tp_laws.specs.Restart.{IsFounded};
 ghost use Rattle.tp_laws.specs.Standing.{IsUndecided, IsTold, current_after, IsApart};
@@ -120,6 +121,13 @@ pub fn words_upward()
     ensures node { (who : Who) (d : Digest) (e : Event) (p : ℕ) (sup fall : Bool) (shut : ℕ) → IsLate d → refusal who d e ≡ None → Reads who e p sup fall shut (prelude who d e)
         → IsRisen e p fall (prelude who d e) (prelude who d e) (action who d e) }
     ensures history { (o : Origin) (up : Option Addr) (h : List Entry) → o.start.records ≡ [] → IsGrown o up h → IsOnce o h → SpeaksUp o up h }
+{}
+
+/// In every run, what a superior takes from a node below it was said of a Begin that it had sent by then: Ready is logged for
+/// it, Done ends a tree that committed there, RolledBack one that rolled, Left one that was left; and between two ends at
+/// most one Ready is taken, and no Left behind it.
+pub fn branches_are_heeded()
+    ensures { (es : List Happening) → HeedsBranches (run es).nodes }
 {}
 
 /// What every event of a transaction, and of a node, makes of the branches: one is counted only by its Ready, in active; it
