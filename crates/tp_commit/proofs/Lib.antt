@@ -3,3 +3,13 @@ pub mod Notes
 pub mod Courses
 pub mod Events
 pub mod Known
+pub mod Arcs
+pub mod Marks
+pub mod Still
+pub mod Passages
+pub mod Lasting
+pub mod Shown
+pub mod Shut
+pub mod Reached
+pub mod Behind
+pub mod Touched

@@ -2,3 +2,4 @@ pub mod Row
 pub mod Branch
 pub mod Rules
 pub mod Sight
+pub mod Standing
