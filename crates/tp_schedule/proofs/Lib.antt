@@ -1,2 +1,5 @@
 pub mod KitText
 pub mod Joins
+pub mod Cut
+pub mod Readings
+pub mod Values

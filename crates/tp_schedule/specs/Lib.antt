@@ -1,1 +1,3 @@
 pub mod WordText
+pub mod Answers
+pub mod Keywords

@@ -9,7 +9,7 @@ use std::alloc::Global;
 use tp_names::{Mark, NoMemory, Octets};
 
 /// The bit of each unit and its letter, in the order in which they are written.
-const UNIT_LETTERS: [(u8, u8); 6] = [
+pub(crate) const UNIT_LETTERS: [(u8, u8); 6] = [
     (1, b's'),
     (2, b'p'),
     (4, b'h'),

@@ -1,0 +1,425 @@
+//! Reading a line of a schedule.
+ghost use Rattle.std.specs.Prelude.{◌≡◌, ◌∷◌, length, IfSome};
+ghost use Rattle.tp_model.specs.LineReading.{words_in, number, outcome, two_words, one_word, do_from, node_from, node_under, crash_from, crash_in, read_by, request_readers, stop_readers, line_readers, is_comment, read_line};
+ghost use Rattle.tp_schedule.specs.Answers.{read_as, Reads, pair, same, answered};
+ghost use Rattle.tp_schedule.specs.Keywords.{request_reader, stop_reader, line_reader};
+ghost use Rattle.tp_schedule.specs.declared.schedule_words.LineWord.{LineWord};
+ghost use Rattle.tp_schedule.specs.declared.schedule_words.RequestWord.{RequestWord};
+
+use crate::LineFault;
+use crate::cutting::{next_word, no_word, only_pair, only_word};
+use crate::schedule_words::{LineWord, RequestWord, StopWord, line_word, request_word, stop_word};
+use crate::value::{
+    both, is_word, read_call, read_fill, read_number, read_octets, read_outcome, read_site,
+    read_units,
+};
+use std::alloc::Global;
+use tp_model::{Line, LineRequest, StopLine};
+use tp_names::Outcome;
+
+/// The most bytes that a line may have, without its end.
+const MAX_LINE: usize = 8192;
+
+/// The line whose text these bytes are, without an end: None for a line with no words and for a
+/// comment. The first fault that applies is given: more than 8,192 bytes, for a comment too; a word
+/// of a wrong form, wherever it stands; a numeral outside its range.
+pub fn read_line(alloc: Global, bytes: &[u8]) -> Result<Option<Line>, LineFault>
+    ensures { IfSome (answered result) (λ reading. reading ≡ read_line bytes.now) }
+{
+    if bytes.len() > MAX_LINE {
+        return Err(LineFault::Long);
+    }
+    if is_comment(bytes) {
+        return Ok(None);
+    }
+    let Some((word, rest)) = next_word(bytes) else {
+        return Ok(None);
+    };
+    let line = read_words(alloc, word, rest)?;
+    Ok(Some(line))
+}
+
+fn is_comment(bytes: &[u8]) -> bool
+    ensures { result ≡ is_comment bytes.now }
+{
+    matches!(bytes, [b'#', ..])
+}
+
+fn read_words(alloc: Global, word: &[u8], rest: &[u8]) -> Result<Line, LineFault>
+    ensures { Reads (read_by line_readers (word.now ∷ words_in rest.now)) result }
+{
+    match line_word(word) {
+        None => Err(LineFault::Word),
+        Some(kind) => read_line_of(alloc, kind, rest),
+    }
+}
+
+fn read_line_of(alloc: Global, kind: LineWord, rest: &[u8]) -> Result<Line, LineFault>
+    ensures { Reads (line_reader kind (words_in rest.now)) result }
+{
+    match kind {
+        LineWord::Node => read_node(rest),
+        LineWord::Do => {
+            let (node, request) = read_do(alloc, rest)?;
+            Ok(Line::Do { node, request })
+        }
+        LineWord::Pass => {
+            let (from, to) = two_numbers(rest)?;
+            Ok(Line::Pass { from, to })
+        }
+        LineWord::Skip => {
+            let (from, to) = two_numbers(rest)?;
+            Ok(Line::Skip { from, to })
+        }
+        LineWord::Again => {
+            let frame = one_number(rest)?;
+            Ok(Line::Again { frame })
+        }
+        LineWord::Drain => {
+            no_word(rest)?;
+            Ok(Line::Drain)
+        }
+        LineWord::Lose => {
+            let (node, peer) = two_numbers(rest)?;
+            Ok(Line::Lose { node, peer })
+        }
+        LineWord::Heur => {
+            let (node, outcome) = number_and_outcome(rest)?;
+            Ok(Line::Heur { node, outcome })
+        }
+        LineWord::GiveUp => {
+            let (node, peer) = two_numbers(rest)?;
+            Ok(Line::GiveUp { node, peer })
+        }
+        LineWord::Retry => {
+            let node = one_number(rest)?;
+            Ok(Line::Retry { node })
+        }
+        LineWord::Purge => {
+            let node = one_number(rest)?;
+            Ok(Line::Purge { node })
+        }
+        LineWord::Crash => read_crash(alloc, rest),
+        LineWord::Show => {
+            let node = one_number(rest)?;
+            Ok(Line::Show { node })
+        }
+        LineWord::Image => read_image(rest),
+        LineWord::Auto => {
+            let (node, member) = two_numbers(rest)?;
+            Ok(Line::Auto { node, member })
+        }
+        LineWord::Leave => {
+            let member = one_number(rest)?;
+            Ok(Line::Leave { member })
+        }
+    }
+}
+
+fn read_stop(alloc: Global, bytes: &[u8]) -> Result<StopLine, LineFault>
+    ensures { Reads (read_by stop_readers (words_in bytes.now)) result }
+{
+    let Some((word, rest)) = next_word(bytes) else {
+        return Err(LineFault::Word);
+    };
+    match stop_word(word) {
+        None => Err(LineFault::Word),
+        Some(kind) => read_stop_of(alloc, kind, rest),
+    }
+}
+
+fn read_stop_of(alloc: Global, kind: StopWord, rest: &[u8]) -> Result<StopLine, LineFault>
+    ensures { Reads (stop_reader kind (words_in rest.now)) result }
+{
+    match kind {
+        StopWord::Do => {
+            let (node, request) = read_do(alloc, rest)?;
+            Ok(StopLine::Do { node, request })
+        }
+        StopWord::Pass => {
+            let (from, to) = two_numbers(rest)?;
+            Ok(StopLine::Pass { from, to })
+        }
+        StopWord::Again => {
+            let frame = one_number(rest)?;
+            Ok(StopLine::Again { frame })
+        }
+        StopWord::Lose => {
+            let (node, peer) = two_numbers(rest)?;
+            Ok(StopLine::Lose { node, peer })
+        }
+        StopWord::Heur => {
+            let (node, outcome) = number_and_outcome(rest)?;
+            Ok(StopLine::Heur { node, outcome })
+        }
+        StopWord::GiveUp => {
+            let (node, peer) = two_numbers(rest)?;
+            Ok(StopLine::GiveUp { node, peer })
+        }
+        StopWord::Retry => {
+            let node = one_number(rest)?;
+            Ok(StopLine::Retry { node })
+        }
+        StopWord::Purge => {
+            let node = one_number(rest)?;
+            Ok(StopLine::Purge { node })
+        }
+    }
+}
+
+// A node, and a request of its user.
+fn read_do(alloc: Global, bytes: &[u8]) -> Result<(u16, LineRequest), LineFault>
+    ensures { Reads (do_from pair (words_in bytes.now)) result }
+{
+    let Some((node, rest)) = next_word(bytes) else {
+        return Err(LineFault::Word);
+    };
+    let request = read_request(alloc, rest);
+    both(read_number(node), request)
+}
+
+fn read_request(alloc: Global, bytes: &[u8]) -> Result<LineRequest, LineFault>
+    ensures { Reads (read_by request_readers (words_in bytes.now)) result }
+{
+    let Some((word, rest)) = next_word(bytes) else {
+        return Err(LineFault::Word);
+    };
+    match request_word(word) {
+        None => Err(LineFault::Word),
+        Some(kind) => read_request_of(alloc, kind, rest),
+    }
+}
+
+fn read_request_of(alloc: Global, kind: RequestWord, rest: &[u8]) -> Result<LineRequest, LineFault>
+    ensures { Reads (request_reader kind (words_in rest.now)) result }
+{
+    match kind {
+        RequestWord::BeginDialogue => read_begin(rest),
+        RequestWord::Accept => read_accept(rest),
+        RequestWord::Reject => {
+            no_word(rest)?;
+            Ok(LineRequest::Reject)
+        }
+        RequestWord::EndDialogue => {
+            let peer = one_number(rest)?;
+            Ok(LineRequest::EndDialogue { peer })
+        }
+        RequestWord::UserData => read_data(alloc, rest),
+        RequestWord::UError => {
+            let peer = one_number(rest)?;
+            Ok(LineRequest::UError { peer })
+        }
+        RequestWord::UAbort => {
+            let peer = one_number(rest)?;
+            Ok(LineRequest::UAbort { peer })
+        }
+        RequestWord::Grant => {
+            let peer = one_number(rest)?;
+            Ok(LineRequest::Grant { peer })
+        }
+        RequestWord::AskControl => {
+            let peer = one_number(rest)?;
+            Ok(LineRequest::AskControl { peer })
+        }
+        RequestWord::Handshake => {
+            let peer = one_number(rest)?;
+            Ok(LineRequest::Handshake { peer })
+        }
+        RequestWord::Respond => {
+            let peer = one_number(rest)?;
+            Ok(LineRequest::Respond { peer })
+        }
+        RequestWord::HandshakeGrant => {
+            let peer = one_number(rest)?;
+            Ok(LineRequest::HandshakeGrant { peer })
+        }
+        RequestWord::BeginTransaction => {
+            let peer = one_number(rest)?;
+            Ok(LineRequest::BeginTransaction { peer })
+        }
+        RequestWord::DeferEnd => {
+            let peer = one_number(rest)?;
+            Ok(LineRequest::DeferEnd { peer })
+        }
+        RequestWord::DeferGrant => {
+            let peer = one_number(rest)?;
+            Ok(LineRequest::DeferGrant { peer })
+        }
+        RequestWord::Prepare => {
+            let peer = one_number(rest)?;
+            Ok(LineRequest::Prepare { peer })
+        }
+        RequestWord::Commit => {
+            no_word(rest)?;
+            Ok(LineRequest::Commit)
+        }
+        RequestWord::Done => {
+            no_word(rest)?;
+            Ok(LineRequest::Done)
+        }
+        RequestWord::Rollback => {
+            no_word(rest)?;
+            Ok(LineRequest::Rollback)
+        }
+        RequestWord::Unchanged => {
+            no_word(rest)?;
+            Ok(LineRequest::Unchanged)
+        }
+    }
+}
+
+fn one_number(rest: &[u8]) -> Result<u16, LineFault>
+    ensures { result ≡ read_as (one_word same number (words_in rest.now)) }
+{
+    match only_word(rest) {
+        None => Err(LineFault::Word),
+        Some(word) => read_number(word),
+    }
+}
+
+fn two_numbers(rest: &[u8]) -> Result<(u16, u16), LineFault>
+    ensures { result ≡ read_as (two_words pair number number (words_in rest.now)) }
+{
+    match only_pair(rest) {
+        None => Err(LineFault::Word),
+        Some((first, second)) => both(read_number(first), read_number(second)),
+    }
+}
+
+fn number_and_outcome(rest: &[u8]) -> Result<(u16, Outcome), LineFault>
+    ensures { result ≡ read_as (two_words pair number outcome (words_in rest.now)) }
+{
+    match only_pair(rest) {
+        None => Err(LineFault::Word),
+        Some((first, second)) => both(read_number(first), read_outcome(second)),
+    }
+}
+
+fn read_begin(rest: &[u8]) -> Result<LineRequest, LineFault>
+    ensures { Reads (request_reader RequestWord.BeginDialogue (words_in rest.now)) result }
+{
+    let Some((peer, units)) = only_pair(rest) else {
+        return Err(LineFault::Word);
+    };
+    let (peer, units) = both(read_number(peer), read_units(units))?;
+    Ok(LineRequest::BeginDialogue { peer, units })
+}
+
+fn read_accept(rest: &[u8]) -> Result<LineRequest, LineFault>
+    ensures { Reads (request_reader RequestWord.Accept (words_in rest.now)) result }
+{
+    let Some(word) = only_word(rest) else {
+        return Err(LineFault::Word);
+    };
+    let units = read_units(word)?;
+    Ok(LineRequest::Accept { units })
+}
+
+fn read_data(alloc: Global, rest: &[u8]) -> Result<LineRequest, LineFault>
+    ensures { Reads (request_reader RequestWord.UserData (words_in rest.now)) result }
+{
+    let Some((peer, octets)) = only_pair(rest) else {
+        return Err(LineFault::Word);
+    };
+    let octets = read_octets(alloc, octets);
+    let (peer, octets) = both(read_number(peer), octets)?;
+    Ok(LineRequest::UserData { peer, octets })
+}
+
+fn read_image(rest: &[u8]) -> Result<Line, LineFault>
+    ensures { Reads (line_reader LineWord.Image (words_in rest.now)) result }
+{
+    let Some(word) = only_word(rest) else {
+        return Err(LineFault::Word);
+    };
+    let site = read_site(word)?;
+    Ok(Line::Image { site })
+}
+
+fn read_node(bytes: &[u8]) -> Result<Line, LineFault>
+    ensures { Reads (node_from (words_in bytes.now)) result }
+{
+    let Some((node, rest)) = next_word(bytes) else {
+        return Err(LineFault::Word);
+    };
+    let Some((site, rest)) = next_word(rest) else {
+        return Err(LineFault::Word);
+    };
+    let Some((under, rest)) = next_word(rest) else {
+        let (node, site) = both(read_number(node), read_site(site))?;
+        return Ok(Line::Node {
+            node,
+            site,
+            under: None,
+        });
+    };
+    let Some(superior) = only_word(rest) else {
+        return Err(LineFault::Word);
+    };
+    if !is_word(under, "under") {
+        return Err(LineFault::Word);
+    }
+    read_under(node, site, superior)
+}
+
+fn read_under(node: &[u8], site: &[u8], superior: &[u8]) -> Result<Line, LineFault>
+    ensures { Reads (node_under node.now site.now superior.now) result }
+{
+    let named = both(read_number(node), read_site(site));
+    let ((node, site), superior) = both(named, read_number(superior))?;
+    Ok(Line::Node {
+        node,
+        site,
+        under: Some(superior),
+    })
+}
+
+fn read_crash(alloc: Global, bytes: &[u8]) -> Result<Line, LineFault>
+    ensures { Reads (crash_from (words_in bytes.now)) result }
+{
+    let Some((site, rest)) = next_word(bytes) else {
+        return Err(LineFault::Word);
+    };
+    let Some((at, rest)) = next_word(rest) else {
+        let site = read_site(site)?;
+        return Ok(Line::Crash { site });
+    };
+    let Some((call, rest)) = next_word(rest) else {
+        return Err(LineFault::Word);
+    };
+    let Some((fill, rest)) = next_word(rest) else {
+        return Err(LineFault::Word);
+    };
+    let Some((octet, rest)) = next_word(rest) else {
+        return Err(LineFault::Word);
+    };
+    let Some((within, rest)) = next_word(rest) else {
+        return Err(LineFault::Word);
+    };
+    if !is_word(at, "at") || !is_word(fill, "fill") || !is_word(within, "in") {
+        return Err(LineFault::Word);
+    }
+    read_crash_in(alloc, site, call, octet, rest)
+}
+
+// A stop at a site, in a changing call, with an octet for what was not written, and the line in
+// which it comes.
+fn read_crash_in(
+    alloc: Global,
+    site: &[u8],
+    call: &[u8],
+    octet: &[u8],
+    rest: &[u8],
+) -> Result<Line, LineFault>
+    ensures { Reads (crash_in site.now call.now octet.now (words_in rest.now)) result }
+{
+    let place = both(read_site(site), read_call(call));
+    let line = read_stop(alloc, rest);
+    let (((site, at), fill), line) = both(both(place, read_fill(octet)), line)?;
+    Ok(Line::CrashIn {
+        site,
+        at,
+        fill,
+        line,
+    })
+}
