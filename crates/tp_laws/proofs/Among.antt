@@ -5,7 +5,7 @@ use Rattle.tp_names.specs.Same.{is_key}
 use Rattle.tp_model.specs.declared.recovery.Kept.{Kept}
 use Rattle.tp_model.specs.declared.recovery.KeptEvent.{KeptEvent}
 use Rattle.tp_model.specs.Recovery.{is_commit, noted, find_kept, with_forget, not_forgotten}
-use Rattle.tp_laws.specs.Moves.{IsAmong}
+use Rattle.tp_laws.specs.Moves.{IsAmong, StandsIn}
 
 pub found_among : (ks : List Kept) (j : NodeKey) (x : Kept) → find_kept ks j ≡ Some x → IsAmong ks x
 found_among [] j x h = absurd cc
@@ -58,3 +58,26 @@ noted_forgotten (k ∷ ks) j = go (is_key k.key j) refl (noted_forgotten ks j)
         → not_forgotten (with_forget (k ∷ ks) j (λ y. noted y KeptEvent.Forget)) ≡ not_forgotten (k ∷ ks)
     go true m rest = rw (m, with_forget) (same_first _ _ (not_forgotten ks) (noted_is k))
     go false m rest = rw (m, with_forget) (same_rest _ _ _ rest)
+
+pub found_stands : (ks : List Kept) (j : NodeKey) (x : Kept) → find_kept ks j ≡ Some x → StandsIn ks x
+found_stands [] j x h = absurd cc
+found_stands (k ∷ ks) j x h = go (is_key k.key j) refl (found_stands ks j x)
+  where
+    go : (b : Bool) → is_key k.key j ≡ b → (find_kept ks j ≡ Some x → StandsIn ks x) → StandsIn (k ∷ ks) x
+    go true m rest =
+        let one : Some k ≡ Some x = rw (m, find_kept) at h in
+        let same : k ≡ x = cc (one) in
+        inl (ap (λ (y : Kept). record y { forgot = false }) same)
+    go false m rest = inr (rest (rw (m, find_kept) at h))
+
+pub noted_stands : (ks : List Kept) (j : NodeKey) (x : Kept) → find_kept ks j ≡ Some x → StandsIn (with_forget ks j (λ y. noted y KeptEvent.Forget)) x
+noted_stands [] j x h = absurd cc
+noted_stands (k ∷ ks) j x h = go (is_key k.key j) refl (noted_stands ks j x)
+  where
+    go : (b : Bool) → is_key k.key j ≡ b → (find_kept ks j ≡ Some x → StandsIn (with_forget ks j (λ y. noted y KeptEvent.Forget)) x)
+        → StandsIn (with_forget (k ∷ ks) j (λ y. noted y KeptEvent.Forget)) x
+    go true m rest =
+        let one : Some k ≡ Some x = rw (m, find_kept) at h in
+        let same : k ≡ x = cc (one) in
+        rw (m, with_forget) (inl (noted_is k ∙ ap (λ (y : Kept). record y { forgot = false }) same))
+    go false m rest = rw (m, with_forget) (inr (rest (rw (m, find_kept) at h)))

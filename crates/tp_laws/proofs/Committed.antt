@@ -172,11 +172,11 @@ key_of_tree c u v a t b under key =
     let one : is_key (node_key (Under u v a)) (branch_key t b) ≡ true = subst (λ (k : Key). is_key (node_key k) (branch_key t b) ≡ true) under key in
     aaids_equal u t (grind (arith, one))
 
-order_record : (r : DialogueRecord) (p : ℕ) (c : _) → is_order_for (TxEvent.Took p r) c ≡ true → r ≡ DialogueRecord.Commit
+pub order_record : (r : DialogueRecord) (p : ℕ) (c : _) → is_order_for (TxEvent.Took p r) c ≡ true → r ≡ DialogueRecord.Commit
 order_record DialogueRecord.Commit p c h = refl
 order_record r p c h = absurd (grind (arith, h))
 
-no_request : (r : Request) (c : Current) (f : TxEvent) (t : Transaction) → IsAskedByRequest r c f → is_order_for f t ≡ true → ⊥
+pub no_request : (r : Request) (c : Current) (f : TxEvent) (t : Transaction) → IsAskedByRequest r c f → is_order_for f t ≡ true → ⊥
 no_request (Request.UAbort p) c f t asked ord = absurd (cc (ap (λ (g : TxEvent). is_order_for g t) asked.0, ord))
 no_request (Request.DeferEnd p) c f t asked ord = absurd (cc (ap (λ (g : TxEvent). is_order_for g t) asked, ord))
 no_request (Request.DeferGrant p) c f t asked ord = absurd (cc (ap (λ (g : TxEvent). is_order_for g t) asked, ord))

@@ -29,8 +29,8 @@ use Rattle.tp_model.specs.Arrivals.{Named, branch_key, key_of_branch, named_by_k
 use Rattle.tp_model.specs.Requests.{refused_request}
 use Rattle.tp_model.specs.Events.{retry_each, retry, purge, action, refusal}
 use Rattle.tp_laws.specs.Moves.{prelude, linked, IsAsked, Moves}
-use Rattle.tp_laws.specs.Moves.{IsAmong, IsLate, orders_in, keeps_commit, is_committed_in, IsOwned}
-use Rattle.tp_laws.proofs.Among.{found_among, noted_among, noted_forgotten}
+use Rattle.tp_laws.specs.Moves.{IsAmong, StandsIn, IsLate, orders_in, keeps_commit, is_committed_in, IsOwned}
+use Rattle.tp_laws.proofs.Among.{found_among, noted_among, noted_forgotten, found_stands, noted_stands}
 use Rattle.tp_laws.proofs.Owned.{found_kept, noted_kept, noted_found, owed_orders, commit_commit, reply_owned}
 use Rattle.tp_laws.proofs.EveryMove.{every_start, every_transact, every_lose, every_request}
 use Rattle.tp_laws.proofs.EveryRecord.{spoken_owed, spoken_forget, every_on_begin, every_on_other}
@@ -118,18 +118,18 @@ every_done_reply who d from t b r R k late =
         on None j = absurd (cc (rw (j, named_by_branch) at i))
         on (Some k) j = found_kept d.kept k x (rw (j, named_by_branch) at i) u m
 
-    among : (x : Kept) → (named_by_branch d t b).kept ≡ Some x → IsAmong d.kept x
+    among : (x : Kept) → (named_by_branch d t b).kept ≡ Some x → IsAmong d.kept x × StandsIn d.kept x
     among x i = on (key_of_branch d t b) refl
       where
-        on : (o : Option NodeKey) → key_of_branch d t b ≡ o → IsAmong d.kept x
+        on : (o : Option NodeKey) → key_of_branch d t b ≡ o → IsAmong d.kept x × StandsIn d.kept x
         on None j = absurd (cc (rw (j, named_by_branch) at i))
-        on (Some k) j = found_among d.kept k x (rw (j, named_by_branch) at i)
+        on (Some k) j = (found_among d.kept k x (rw (j, named_by_branch) at i), found_stands d.kept k x (rw (j, named_by_branch) at i))
 
     go : (v : Bool) (o : Option Kept) → (named_by_branch d t b).kept ≡ o → (c : Option Current)
         → R d (if v then transact who (TxEvent.Reply b (RecState.Done r)) d
         else elim o as (λ _. Move) [ Some k ↦ keep (settled k (KeptEvent.Done from b r)) d | None ↦ elim c as (λ _. Move) [ Some u ↦ move [] d | None ↦ perform (forget_to from (branch_key t b) b r) d ] ])
     go true o i c = every_replied who _ d b (RecState.Done r) R k late (λ u j. refl)
-    go false (Some x) i c = k.keeps d x (KeptEvent.Done from b r) (held x i, among x i)
+    go false (Some x) i c = k.keeps d x (KeptEvent.Done from b r) (held x i, (among x i).0, (among x i).1)
     go false None i (Some u) = k.still d
     go false None i None = k.speaks d (forget_to from (branch_key t b) b r) (spoken_forget from (branch_key t b) b r) (λ u h. absurd (cc (h, forget_orders u from (branch_key t b) b r)))
 
@@ -148,7 +148,7 @@ every_forget who e s R k j d = go (find_kept d.kept j) refl
     go (Some x) i =
         let g : Digest = record d { kept = with_forget d.kept j (λ y. noted y KeptEvent.Forget) } in
         k.notes_kept d g.kept (keep (settled x KeptEvent.Forget) g) (λ u h. sym (noted_kept u d.kept j) ∙ h, noted_forgotten d.kept j)
-        (k.keeps g x KeptEvent.Forget (λ u m. noted_found d.kept j x i u m, noted_among d.kept j x i))
+        (k.keeps g x KeptEvent.Forget (λ u m. noted_found d.kept j x i u m, noted_among d.kept j x i, noted_stands d.kept j x i))
 
 every_arrival : (who : Who) (d : Digest) (from : Addr) (r : PeerRecord) (R : Digest → Move → Type 0) → Moves who (Event.Arrive from r) (prelude who d (Event.Arrive from r)) R → IsLate d → refused_arrival who d from r ≡ None
     → R (prelude who d (Event.Arrive from r)) (do_arrival who from r d)
@@ -221,7 +221,7 @@ every_purge who e s R k d = go d.kept refl
   where
     go : (ks : List Kept) → d.kept ≡ ks → R d (elim ks as (λ _. Move) [ [] ↦ move [] d | x ∷ xs ↦ keep (settled x KeptEvent.Purge) d ])
     go [] i = k.still d
-    go (x ∷ xs) i = k.keeps d x KeptEvent.Purge (λ u m. ap (keeps_commit u) i ∙ rw m refl, rw i (inl (refl, refl)))
+    go (x ∷ xs) i = k.keeps d x KeptEvent.Purge (λ u m. ap (keeps_commit u) i ∙ rw m refl, rw i (inl (refl, refl)), rw i (inl refl))
 
 -- ---- what an accepted event is not refused for
 

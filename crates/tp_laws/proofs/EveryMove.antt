@@ -24,7 +24,7 @@ use Rattle.tp_laws.specs.Moves.{IsLate, is_peer, prelude, called, accepted_by, a
 
 -- ---- starts log nothing
 
-quiet_begin : (who : Who) (p : ℕ) (d : Digest) → (begin_on who p d).rec ≡ None
+pub quiet_begin : (who : Who) (p : ℕ) (d : Digest) → (begin_on who p d).rec ≡ None
 unfolding begin_on
 quiet_begin who p d = grind arith
 

@@ -63,7 +63,7 @@ twice_unnoted : (ks : List Kept) → not_forgotten (not_forgotten ks) ≡ not_fo
 twice_unnoted [] = refl
 twice_unnoted (k ∷ ks) = same_rest _ _ _ (twice_unnoted ks)
 
-from_unnoted : (ks : List Kept) (rs : List LogRec) → not_forgotten (kept_from ks rs) ≡ kept_from (not_forgotten ks) rs
+pub from_unnoted : (ks : List Kept) (rs : List LogRec) → not_forgotten (kept_from ks rs) ≡ kept_from (not_forgotten ks) rs
 from_unnoted ks [] = refl
 from_unnoted ks (r ∷ rs) = from_unnoted (kept_by r ks) rs ∙ ap (λ (x : List Kept). kept_from x rs) (by_unnoted r ks)
 
@@ -73,7 +73,7 @@ from_last : (ks : List Kept) (rs : List LogRec) (r : LogRec) → kept_from ks (r
 from_last ks [] r = refl
 from_last ks (x ∷ rs) r = from_last (kept_by x ks) rs r
 
-from_newest : (o : Option LogRec) (rs : List LogRec) → kept_from [] (reverse (with_rec o rs)) ≡ kept_after o (kept_from [] (reverse rs))
+pub from_newest : (o : Option LogRec) (rs : List LogRec) → kept_from [] (reverse (with_rec o rs)) ≡ kept_after o (kept_from [] (reverse rs))
 from_newest None rs = refl
 from_newest (Some r) rs = ap (kept_from []) (reverse-append (r ∷ []) rs) ∙ from_last [] (reverse rs) r
 
@@ -112,7 +112,7 @@ kept_begins who q d = go d.current (find_arc d.arcs q)
     go (Some c) None = (refl, refl)
     go (Some c) (Some a) = on c a (not (may_begin_on who d a))
 
-kept_moves : (who : Who) (e : Event) (s : Digest) → Moves who e s IsKeptMove
+pub kept_moves : (who : Who) (e : Event) (s : Digest) → Moves who e s IsKeptMove
 kept_moves who e s = record {
   still = λ d. (refl, refl);
   chain = λ d a f one two quiet. kept_then d a f one two quiet;

@@ -75,5 +75,11 @@ pub mod ApartLog
 pub mod Sound
 pub mod SoundMoves
 pub mod SoundLog
-pub mod SoundStart
+pub mod NextTurns
+pub mod StandLog
+pub mod StepLog
+pub mod NextLog
+pub mod OrderMoves
+pub mod StartLog
 pub mod RestartLog
+pub mod OrderLog

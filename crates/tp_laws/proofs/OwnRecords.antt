@@ -85,7 +85,7 @@ own_unrolls t = (grind arith, rw (quiet t) tt)
     quiet : (t : Transaction) → (complete_rollback t).rec ≡ None
     quiet t = grind arith
 
-own_turns : (e : TxEvent) (s : Transaction) → Turns e s IsOwnTurn
+pub own_turns : (e : TxEvent) (s : Transaction) → Turns e s IsOwnTurn
 unfolding ask_commit leave count_branch end_branch branch_left
 own_turns e s = record {
   still = λ t. (refl, tt);

@@ -137,7 +137,7 @@ crash_first who d s =
       recovered_again d.current,
     )
 
-sound_first : (who : Who) (d : Digest) (e : Event) → refusal who d e ≡ None → IsSound who d → IsSoundFirst who d (prelude who d e)
+pub sound_first : (who : Who) (d : Digest) (e : Event) → refusal who d e ≡ None → IsSound who d → IsSoundFirst who d (prelude who d e)
 sound_first who d (Event.Declare u) ok s = same_first who d (Event.Declare u) refl refl s
 sound_first who d (Event.Do r) ok s = same_first who d (Event.Do r) (grind arith) (grind arith) s
 sound_first who d (Event.Arrive from (PeerRecord.OnAssoc x y q (DialogueRecord.Begin t b h))) ok s = go (find_arc d.arcs from.node) refl
@@ -169,7 +169,7 @@ from_last : (c : Option Current) (rs : List LogRec) (r : LogRec) → current_fro
 from_last c [] r = refl
 from_last c (x ∷ rs) r = from_last (current_by x c) rs r
 
-from_newest : (o : Option LogRec) (rs : List LogRec) → current_from None (reverse (with_rec o rs)) ≡ current_after o (current_from None (reverse rs))
+pub from_newest : (o : Option LogRec) (rs : List LogRec) → current_from None (reverse (with_rec o rs)) ≡ current_after o (current_from None (reverse rs))
 from_newest None rs = refl
 from_newest (Some r) rs = ap (current_from None) (reverse-append (r ∷ []) rs) ∙ from_last None (reverse rs) r
 

@@ -73,7 +73,7 @@ root_apart who d (k ∷ ks) h = (differs, root_apart who d ks h.1)
         let young : is_old who d k.key.aaid.mark ≡ false = ap (is_old who d) same ∙ new_mark who d in
         cc (old, young)
 
-sound_root : (who : Who) (d : Digest) → IsSound who d → IsSound who (record (with_mark_drawn d) { current = Some (fresh_current (Root (record { owner = who.site; mark = next_mark who d }))) })
+pub sound_root : (who : Who) (d : Digest) → IsSound who d → IsSound who (record (with_mark_drawn d) { current = Some (fresh_current (Root (record { owner = who.site; mark = next_mark who d }))) })
 sound_root who d s =
     let k : Key = Root (record { owner = who.site; mark = next_mark who d }) in
     let e : Digest = record (with_mark_drawn d) { current = Some (fresh_current k) } in
@@ -101,6 +101,14 @@ old_noted who d (x ∷ xs) h = (h.0, old_noted who d xs h.1)
 pub old_unnoted : (who : Who) (d : Digest) (ks : List Kept) → AreOld who d (not_forgotten ks) → AreOld who d ks
 old_unnoted who d [] h = tt
 old_unnoted who d (x ∷ xs) h = (h.0, old_unnoted who d xs h.1)
+
+pub sound_noted : (who : Who) (d : Digest) (ks : List Kept) → not_forgotten ks ≡ not_forgotten d.kept → IsSound who d → IsSound who (record d { kept = ks })
+sound_noted who d ks held is = (
+  λ c now rolls. apart_unnoted (node_key c.key) ks (subst (λ (xs : List Kept). AreApart (node_key c.key) xs) (sym held) (apart_noted (node_key c.key) d.kept (is.0 c now rolls))),
+  old_unnoted who d ks (subst (λ (xs : List Kept). AreOld who d xs) (sym held) (old_noted who d d.kept is.1)),
+  is.2,
+  is.3,
+)
 
 -- ---- records
 
@@ -287,13 +295,7 @@ sound_moves who e s = record {
   speaks = λ d outs h own is. (is, refl);
   changes_dialogue = λ d p f m one. one;
   drops_arc = λ d p m one. one;
-  notes_kept = λ d ks m held one is.
-      one (
-        λ c now rolls. apart_unnoted (node_key c.key) ks (subst (λ (xs : List Kept). AreApart (node_key c.key) xs) (sym held.1) (apart_noted (node_key c.key) d.kept (is.0 c now rolls))),
-        old_unnoted who d ks (subst (λ (xs : List Kept). AreOld who d xs) (sym held.1) (old_noted who d d.kept is.1)),
-        is.2,
-        is.3,
-      );
+  notes_kept = λ d ks m held one is. one (sound_noted who d ks held.1 is);
   keeps = λ d k f held. sound_keeps who d k f held.1;
   turns = λ d c f now at asked put gone. sound_turned who f d c now put;
   begins = λ d p. sound_begins who p d;

@@ -27,11 +27,11 @@ use Rattle.tp_laws.proofs.FairTurns.{lost_phase}
 
 -- ---- keys are as themselves
 
-name_self : (n : List ℕ) → is_name n n ≡ true
+pub name_self : (n : List ℕ) → is_name n n ≡ true
 name_self [] = refl
 name_self (x ∷ xs) = grind (arith, nat_tests, name_self xs)
 
-mark_self : (m : Mark) → is_mark m m ≡ true
+pub mark_self : (m : Mark) → is_mark m m ≡ true
 mark_self m = grind (arith, nat_tests)
 
 pub key_self : (k : NodeKey) → is_key k k ≡ true
@@ -82,7 +82,7 @@ told_lost t outs q un = told_quiet t (with_arc_lost t q) outs (lost_key t q) (lo
 
 -- ---- the rules that force a record or change the phase
 
-active_none : (k : Key) (p : Phase) (cs : List Child) (o : Option Outcome) → is_active p ≡ true → standing k p cs o ≡ None
+pub active_none : (k : Key) (p : Phase) (cs : List Child) (o : Option Outcome) → is_active p ≡ true → standing k p cs o ≡ None
 active_none k Phase.Nil cs o h = refl
 active_none k Phase.Active cs o h = refl
 active_none k Phase.Ready cs o h = absurd cc
@@ -152,7 +152,7 @@ told_completes t un = go (not t.owes && all_done t.rows) refl
     go true h = rw h (record { log = ended (is_report_none (join (own_damage t.decision) (reports_of t.rows))) (join (own_damage t.decision) (reports_of t.rows)); undecided = λ k. absurd (cc (k)); active = λ k. absurd (cc (k)) })
     go false h = rw h (record { log = refl; undecided = un; active = λ k. (k, refl) })
 
-rolling_none : (k : Key) (p : Phase) (cs : List Child) (o : Option Outcome) → is_rolling p ≡ true → standing k p cs o ≡ None
+pub rolling_none : (k : Key) (p : Phase) (cs : List Child) (o : Option Outcome) → is_rolling p ≡ true → standing k p cs o ≡ None
 rolling_none k Phase.Nil cs o h = refl
 rolling_none k Phase.Active cs o h = refl
 rolling_none k Phase.Ready cs o h = absurd cc
@@ -178,7 +178,7 @@ quiet_both : (x y : Option LogRec) → x ≡ None → y ≡ None → (elim y as 
 quiet_both x None h i = h
 quiet_both x (Some r) h i = i
 
-told_turns : (e : TxEvent) (s : Transaction) → Turns e s (λ t a. IsUndecided t → IsTold t a)
+pub told_turns : (e : TxEvent) (s : Transaction) → Turns e s (λ t a. IsUndecided t → IsTold t a)
 unfolding ask_commit leave count_branch end_branch branch_left
 told_turns e s = record {
   still = λ t un. told_quiet t t [] refl refl refl (λ h. refl) un;

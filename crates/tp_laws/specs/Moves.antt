@@ -231,6 +231,11 @@ abbrev pub IsAmong : List Kept → Kept → Type 0
 IsAmong [] k = ⊥
 IsAmong (x ∷ xs) k = ((x.node ≡ k.node) × (x.key ≡ k.key)) ⊎ IsAmong xs k
 
+-- and as it is, but for what is noted of it
+abbrev pub StandsIn : List Kept → Kept → Type 0
+StandsIn [] k = ⊥
+StandsIn (x ∷ xs) k = ◌≡◌ {A = Kept} (record x { forgot = false }) (record k { forgot = false }) ⊎ StandsIn xs k
+
 -- the current transaction is never over
 abbrev pub IsLate : Digest → Type 0
 IsLate d = (c : Current) → d.current ≡ Some c → is_nil c.phase ≡ false
@@ -246,7 +251,7 @@ pub record Moves (who : Who) (e : Event) (s : Digest) (R : Digest → Move → T
   pub changes_dialogue : (d : Digest) (p : ℕ) (f : Dialogue → Dialogue) (m : Move) → R (record d { arcs = with_dialogue d.arcs p f }) m → R d m
   pub drops_arc : (d : Digest) (p : ℕ) (m : Move) → R (record d { arcs = without_arc d.arcs p }) m → R d m
   pub notes_kept : (d : Digest) (ks : List Kept) (m : Move) → ((u : Aaid) → keeps_commit u ks ≡ true → keeps_commit u d.kept ≡ true) × (not_forgotten ks ≡ not_forgotten d.kept) → R (record d { kept = ks }) m → R d m
-  pub keeps : (d : Digest) (k : Kept) (f : KeptEvent) → ((u : Aaid) → (is_commit k.side && is_aaid u k.key.aaid) ≡ true → keeps_commit u d.kept ≡ true) × IsAmong d.kept k → R d (keep (settled k f) d)
+  pub keeps : (d : Digest) (k : Kept) (f : KeptEvent) → ((u : Aaid) → (is_commit k.side && is_aaid u k.key.aaid) ≡ true → keeps_commit u d.kept ≡ true) × IsAmong d.kept k × StandsIn d.kept k → R d (keep (settled k f) d)
   -- the current transaction
   pub turns : (d : Digest) (c : Current) (f : TxEvent) → d.current ≡ Some c → s.current ≡ Some c → IsAsked e c f → IsPut f (seen who d.arcs c) → ((p : ℕ) → loses f p ≡ true → link_with d.arcs p ≡ Idle) → R d (turned who f d c)
   -- transactions begin

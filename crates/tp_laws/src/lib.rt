@@ -23,7 +23,7 @@ ghost use Rattle.tp_model.specs.Events.{refusal, action};
 ghost use Rattle.tp_model.specs.Promises.{AllLegal, IsIn, PrefixTaken, WhatUsersSee, OneOutcome, IsOf, IsBranchOf, is_of_tree, has_logged};
 ghost use Rattle.tp_model.specs.World.{Node};
 ghost use Rattle.tp_model.specs.Outcomes.{decided, rolled, has_left};
-ghost use Rattle.tp_model.specs.Legal.{IsGrown};
+ghost use Rattle.tp_model.specs.Legal.{IsGrown, are_in_order};
 ghost use Rattle.tp_laws.specs.Worlds.{IsGood};
 ghost use Rattle.tp_laws.specs.Moves.{IsPut, IsLate, IsAmong, prelude};
 ghost use Rattle.tp_laws.specs.Facts.{IsFair, IsHeard, Reads};
@@ -196,4 +196,11 @@ pub fn turns_are_in_the_log()
 pub fn restart_is_a_crash()
     ensures history { (o : Origin) (up : Option Addr) (h : List Entry) → IsFounded o up h → digest (again o h) [] ≡ digest o (crashed h) }
     ensures run { (es : List Happening) (x : Node) → IsIn (run es) x → digest (again x.origin x.history) [] ≡ digest x.origin (crashed x.history) }
+{}
+
+/// The records of a node's log stay in order behind its last boot, each following those before it: in every run, and in
+/// every legal history whose log held no root of a later boot at first.
+pub fn records_stay_in_order()
+    ensures history { (o : Origin) (up : Option Addr) (h : List Entry) → IsFounded o up h → are_in_order o h ≡ true }
+    ensures run { (es : List Happening) (x : Node) → IsIn (run es) x → are_in_order x.origin x.history ≡ true }
 {}
