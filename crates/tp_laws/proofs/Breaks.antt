@@ -157,7 +157,7 @@ breaks_step o up e h legal b = record {
         go : (l : Link) → Prelinked o.who up p d e.event l → (u : ℕ) → l ≡ Live x y u t → ⊥
         go l (As_before m none) u n = cc (b.live p x y u t (sym m ∙ n), i)
         go l (Now_idle m none) u n = absurd (cc (m, n))
-        go l (Now_called m down w none below) u n = absurd (cc (m, n))
+        go l (Now_called m down w none below calls) u n = absurd (cc (m, n))
         go l (Now_offered z m under none) u n = absurd (cc (m, n))
         go l (Now_accepted z m under w none nil) u n =
             let f = live_parts z (next_mark o.who d) x y 0 0 u t (sym m ∙ n) in
@@ -189,7 +189,7 @@ breaks_step o up e h legal b = record {
         go : (l : Link) → Prelinked o.who up p d e.event l → l ≡ Opening x → ⊥
         go l (As_before m none) n = cc (b.opening p x y (sym m ∙ n), i)
         go l (Now_idle m none) n = absurd (cc (m, n))
-        go l (Now_called m down w none below) n =
+        go l (Now_called m down w none below calls) n =
             let own : own_mark up p x y ≡ x = rw down refl in
             let young : is_old o.who d (own_mark up p x y) ≡ false = ap (is_old o.who d) own ∙ ap (is_old o.who d) (sym (opening_part (next_mark o.who d) x (sym m ∙ n))) ∙ new_mark o.who d in
             cc (young, b.old p x y i)
@@ -222,7 +222,7 @@ same_sent x y p (Out.Send a (PeerRecord.RecCommit t b) ∷ outs) = same_sent x y
 same_sent x y p (Out.Send a (PeerRecord.RecReply t b s) ∷ outs) = same_sent x y p outs
 same_sent x y p (Out.Send a (PeerRecord.Forget t b) ∷ outs) = same_sent x y p outs
 
-all_sent : (x y : Mark) (p : ℕ) (h : List Entry) → model.sent_on x y p h ≡ sent_on x y p h
+pub all_sent : (x y : Mark) (p : ℕ) (h : List Entry) → model.sent_on x y p h ≡ sent_on x y p h
 all_sent x y p [] = refl
 all_sent x y p (e ∷ h) = rw (all_sent x y p h, same_sent x y p e.outs) refl
 

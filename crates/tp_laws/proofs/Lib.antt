@@ -83,3 +83,6 @@ pub mod OrderMoves
 pub mod StartLog
 pub mod RestartLog
 pub mod OrderLog
+pub mod Separate
+pub mod Ends
+pub mod Control

@@ -195,7 +195,7 @@ pub at_prelude : (o : Origin) (up : Option Addr) (e : Event) (h : List Entry) (p
 at_prelude o up e h p x y s k empty paired legal ok live l at (As_before i none) =
     at_before o up e h p x y s k paired (sym i ∙ sym at ∙ live) (none x y) (stands o.who (digest o h) e p x y (late_law o up h legal) ok none (inl (ap is_live live)))
 at_prelude o up e h p x y s k empty paired legal ok live l at (Now_idle i none) = absurd (cc (sym live ∙ at ∙ i))
-at_prelude o up e h p x y s k empty paired legal ok live l at (Now_called i down n none below) = absurd (cc (sym live ∙ at ∙ i))
+at_prelude o up e h p x y s k empty paired legal ok live l at (Now_called i down n none below calls) = absurd (cc (sym live ∙ at ∙ i))
 at_prelude o up e h p x y s k empty paired legal ok live l at (Now_offered z i u none) = absurd (cc (sym live ∙ at ∙ i))
 at_prelude o up e h p x y s k empty paired legal ok live l at (Now_accepted z i u n none nil) =
     let same : Live x y s k ≡ Live z (next_mark o.who (digest o h)) 0 0 = sym live ∙ at ∙ i in

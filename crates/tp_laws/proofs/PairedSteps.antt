@@ -316,7 +316,7 @@ paired_step o up e h empty legal paired = record {
         key_s : (m : Link) → m ≡ Opening x → Prelinked o.who up p d e.event m → key_at s.current p ≡ None
         key_s m i (As_before j none) = at (stands o.who d e.event p x x (late_law o up h legal.3) legal.0 none (inr (x, pre))) (paired.closed p x (sym j ∙ i))
         key_s m i (Now_idle j none) = absurd (cc (i, j))
-        key_s m i (Now_called j down n none below) = at (stands o.who d e.event p x x (late_law o up h legal.3) legal.0 none (inr (x, pre))) (no_branch d.current refl below)
+        key_s m i (Now_called j down n none below calls) = at (stands o.who d e.event p x x (late_law o up h legal.3) legal.0 none (inr (x, pre))) (no_branch d.current refl below)
           where
             no_branch : (v : Option Current) → d.current ≡ v → is_branch_below d p ≡ false → key_at d.current p ≡ None
             no_branch None k b = ap (λ (u : Option Current). key_at u p) k

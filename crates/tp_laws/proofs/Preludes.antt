@@ -50,11 +50,16 @@ link_counted (c ∷ arcs) q p = grind (arith, nat_tests, link_counted arcs q p)
 
 -- ---- the prelude
 
+-- whom the event calls
+abbrev pub called_at : Event → Option ℕ
+called_at (Event.Do (Request.BeginDialogue a u)) = Some a.node
+called_at _ = None
+
 -- the link with a peer after the prelude, and what the event takes from the peer with it
 pub data Prelinked (who : Who) (up : Option Addr) (p : ℕ) (d : Digest) (e : Event) (l : Link) : Type 0 where
   As_before : l ≡ link_with d.arcs p → ((x y : Mark) → took_of x y p e ≡ []) → Prelinked who up p d e l
   Now_idle : l ≡ Idle → ((x y : Mark) → took_of x y p e ≡ []) → Prelinked who up p d e l
-  Now_called : l ≡ Opening (next_mark who d) → is_at up p ≡ false → suc d.drawn ≤ (prelude who d e).drawn → ((x y : Mark) → took_of x y p e ≡ []) → is_branch_below d p ≡ false → Prelinked who up p d e l
+  Now_called : l ≡ Opening (next_mark who d) → is_at up p ≡ false → suc d.drawn ≤ (prelude who d e).drawn → ((x y : Mark) → took_of x y p e ≡ []) → is_branch_below d p ≡ false → called_at e ≡ Some p → Prelinked who up p d e l
   Now_offered : (x : Mark) → l ≡ Offered x → is_at up p ≡ true → ((z w : Mark) → took_of z w p e ≡ []) → Prelinked who up p d e l
   Now_accepted : (x : Mark) → l ≡ Live x (next_mark who d) 0 0 → is_at up p ≡ true → suc d.drawn ≤ (prelude who d e).drawn → ((z w : Mark) → took_of z w p e ≡ []) → is_nil (phase_of d) ≡ true → Prelinked who up p d e l
   Now_confirmed : (x y : Mark) → link_with d.arcs p ≡ Opening x → l ≡ Live x y 0 0 → ((z w : Mark) → took_of z w p e ≡ []) → Prelinked who up p d e l
@@ -90,7 +95,7 @@ pre_call who up p d a u here ok = go (a.node == p) refl
     go : (b : Bool) → (a.node == p) ≡ b → Prelinked who up p d (Event.Do (Request.BeginDialogue a u)) (link_with (called who a u d).arcs p)
     go true i =
         let same : a.node ≡ p = grind (arith, nat_tests) in
-        Now_called (link_append d.arcs new p none ∙ rw i refl) (sym (superior_at d up p (here declared)) ∙ subst (λ (n : ℕ). is_superior d n ≡ false) same down) (at_most_self (suc d.drawn)) (λ x y. refl) (subst (λ (n : ℕ). is_branch_below d n ≡ false) same unbranched)
+        Now_called (link_append d.arcs new p none ∙ rw i refl) (sym (superior_at d up p (here declared)) ∙ subst (λ (n : ℕ). is_superior d n ≡ false) same down) (at_most_self (suc d.drawn)) (λ x y. refl) (subst (λ (n : ℕ). is_branch_below d n ≡ false) same unbranched) (ap (λ (n : ℕ). Some n) same)
     go false i = As_before (link_append d.arcs new p none ∙ rw i refl) (λ x y. refl)
 
 pub superior_found : (d : Digest) (a : Arc) → superior_arc d ≡ Some a → (s : Addr) × (d.superior ≡ Some s) × (find_arc d.arcs s.node ≡ Some a)

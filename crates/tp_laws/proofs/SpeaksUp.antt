@@ -127,7 +127,7 @@ votes_prelude o up e h p x y s k old legal ok above live l at pre = go pre
     go : Prelinked o.who up p d e l → VotesAt (voting_from false (sent_on x y p h)) (prelude o.who d e).current p
     go (As_before i none) = kept k (sym i ∙ sym at ∙ live) (came_by o.who d e ok)
     go (Now_idle i none) = absurd (cc (sym live ∙ at ∙ i))
-    go (Now_called i down n none below) = absurd (cc (sym live ∙ at ∙ i))
+    go (Now_called i down n none below calls) = absurd (cc (sym live ∙ at ∙ i))
     go (Now_offered z i u none) = absurd (cc (sym live ∙ at ∙ i))
     go (Now_accepted z i u n none nil) = first z (next_mark o.who d) i (Now_accepted z i u n none nil)
     go (Now_confirmed z w op i none) = first z w i (Now_confirmed z w op i none)

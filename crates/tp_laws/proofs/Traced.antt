@@ -84,7 +84,7 @@ long_new x y p s t e h quiet zs zt none = (rw (quiet.0) zs, rw (quiet.1, none) z
 pub long_of : (who : Who) (up : Option Addr) (d : Digest) (e : Event) (h : List Entry) → IsTraced who up d h → (p : ℕ) (l : Link) → Prelinked who up p d e l → (x y : Mark) (s t : ℕ) → l ≡ Live x y s t → AreLong x y p s t e h
 long_of who up d e h traced p l (As_before i none) x y s t is = long_kept x y p s t e h (traced.live p x y s t (sym i ∙ is)) (none x y)
 long_of who up d e h traced p l (Now_idle i none) x y s t is = absurd (cc (i, is))
-long_of who up d e h traced p l (Now_called i down n none below) x y s t is = absurd (cc (i, is))
+long_of who up d e h traced p l (Now_called i down n none below calls) x y s t is = absurd (cc (i, is))
 long_of who up d e h traced p l (Now_offered z i u none) x y s t is = absurd (cc (i, is))
 long_of who up d e h traced p l (Now_accepted z i u n none nil) x y s t is =
     let f = live_parts z (next_mark who d) x y 0 0 s t (sym i ∙ is) in
@@ -142,7 +142,7 @@ own_pre : (who : Who) (up : Option Addr) (d : Digest) (e : Event) (g : Digest) (
     → ((suc d.drawn ≤ (prelude who d e).drawn) → is_old who g (next_mark who d) ≡ true) → own_old who g up p l ≡ true
 own_pre who up d e g p l (As_before i none) own grown new = own_stays who d g up p l grown (ap (own_old who d up p) i ∙ own)
 own_pre who up d e g p l (Now_idle i none) own grown new = ap (own_old who g up p) i
-own_pre who up d e g p l (Now_called i down n none below) own grown new = ap (own_old who g up p) i ∙ rw (new n, down) refl
+own_pre who up d e g p l (Now_called i down n none below calls) own grown new = ap (own_old who g up p) i ∙ rw (new n, down) refl
 own_pre who up d e g p l (Now_offered x i u none) own grown new = ap (own_old who g up p) i ∙ u
 own_pre who up d e g p l (Now_accepted x i u n none nil) own grown new = ap (own_old who g up p) i ∙ rw u (new n)
 own_pre who up d e g p l (Now_confirmed x y o i none) own grown new =
@@ -188,7 +188,7 @@ young_pair who d up p x y (Live z w s t) own young = go (is_mark x z && is_mark 
         absurd (cc (own, young, ez, ew))
 
 -- an event sends and takes nothing on a pair that the link of its prelude has not
-quiet_step : (who : Who) (up : Option Addr) (d : Digest) (e : Event) (p : ℕ) (x y : Mark) → Told who up p d e → has_pair (link_with (prelude who d e).arcs p) x y ≡ false
+pub quiet_step : (who : Who) (up : Option Addr) (d : Digest) (e : Event) (p : ℕ) (x y : Mark) → Told who up p d e → has_pair (link_with (prelude who d e).arcs p) x y ≡ false
     → (sent_of x y p (action who d e).outs ≡ []) × (took_of x y p e ≡ [])
 quiet_step who up d e p x y k other = (
   sent_none x y p (link_with (prelude who d e).arcs p) (action who d e).outs k.linked.over.numbered other,
@@ -198,7 +198,7 @@ quiet_step who up d e p x y k other = (
     took : (l : Link) → Prelinked who up p d e l → has_pair l x y ≡ false → took_of x y p e ≡ []
     took l (As_before i none) n = none x y
     took l (Now_idle i none) n = none x y
-    took l (Now_called i down m none below) n = none x y
+    took l (Now_called i down m none below calls) n = none x y
     took l (Now_offered z i u none) n = none x y
     took l (Now_accepted z i u m none nil) n = none x y
     took l (Now_confirmed z w o i none) n = none x y
@@ -253,7 +253,7 @@ opening_after who up d e h traced p k x y is =
     quiet : (l : Link) → Prelinked who up p d e l → l ≡ Opening x → IsQuiet x y p h
     quiet l (As_before i none) o = traced.opening p x y (sym i ∙ o)
     quiet l (Now_idle i none) o = absurd (cc (i, o))
-    quiet l (Now_called i down n none below) o =
+    quiet l (Now_called i down n none below calls) o =
         let m : next_mark who d ≡ x = opening_part (next_mark who d) x (sym i ∙ o) in
         let own : own_mark up p x y ≡ x = rw down refl in
         traced.fresh p x y (ap (is_old who d) own ∙ ap (is_old who d) (sym m) ∙ new_mark who d)

@@ -1,6 +1,6 @@
 -- Runs of two nodes for worked examples of the laws: one that commits, one whose branch recovers, one that rolls back, one
--- that is mixed by a decision, and one whose branch leaves.
-use Rattle.std.specs.Prelude.{ℕ, Bool, true, false, Option, Some, None, List, [], ◌∷◌, ◌++◌, reverse, codes}
+-- that is mixed by a decision, one whose branch leaves, and one in which control is passed.
+use Rattle.std.specs.Prelude.{ℕ, ◌==◌, ◌&&◌, Bool, true, false, Option, Some, None, List, [], ◌∷◌, ◌++◌, reverse, codes}
 use Rattle.tp_names.specs.declared.identifiers.Aaid.{Aaid}
 use Rattle.tp_names.specs.declared.identifiers.Mark.{Mark}
 use Rattle.tp_names.specs.declared.identifiers.BranchId.{BranchId}
@@ -12,9 +12,10 @@ use Rattle.tp_model.specs.History.{digest}
 use Rattle.tp_model.specs.Outcomes.{is_member, decided, rolled, decision, has_left, told}
 use Rattle.tp_model.specs.World.{Node, find_node, addr_of}
 use Rattle.tp_model.specs.Happenings.{Happening, Declare, Does, Crash, Ask, Deliver, Decide, Retry, run}
-use Rattle.tp_model.specs.Promises.{has_begun, is_of_tree, is_ready_of, has_logged}
+use Rattle.tp_model.specs.Promises.{has_begun, is_of_tree, is_ready_of, has_logged, holds_at}
 use Rattle.tp_laws.specs.Facts.{is_order, is_vote, is_end}
 use Rattle.tp_laws.specs.Traces.{sent_on, taken_on}
+use Rattle.tp_laws.specs.Control.{answered, given}
 
 -- ---- the runs, oldest first
 
@@ -52,6 +53,39 @@ mixed = readied ++ (Does (Decide 2 Outcome.Rollback) ∷ Does (Deliver 5) ∷ Do
 -- the branch changed nothing
 abbrev pub departed : List Happening
 departed = begun ++ (Does (Ask 1 LineRequest.Commit) ∷ Does (Deliver 4) ∷ Does (Ask 2 LineRequest.Unchanged) ∷ [])
+
+-- a polarized dialogue, in a transaction that the superior end holds control of at first
+abbrev pub polarized : List Happening
+polarized =
+    Declare 1 (codes "a") None
+    ∷ Declare 2 (codes "b") (Some 1)
+    ∷ Does (Ask 1 (LineRequest.BeginDialogue 2 42))
+    ∷ Does (Deliver 1)
+    ∷ Does (Ask 2 (LineRequest.Accept 42))
+    ∷ Does (Deliver 2)
+    ∷ Does (Ask 1 (LineRequest.BeginTransaction 2))
+    ∷ Does (Deliver 3)
+    ∷ []
+
+abbrev pub granting : List Happening
+granting = polarized ++ (Does (Ask 1 (LineRequest.Grant 2)) ∷ [])
+
+abbrev pub granted : List Happening
+granted = granting ++ (Does (Deliver 4) ∷ [])
+
+-- the transaction is over at both ends
+abbrev pub regained : List Happening
+regained =
+    granted
+    ++ (Does (Ask 1 LineRequest.Commit)
+    ∷ Does (Deliver 5)
+    ∷ Does (Ask 2 LineRequest.Commit)
+    ∷ Does (Deliver 6)
+    ∷ Does (Deliver 7)
+    ∷ Does (Ask 2 LineRequest.Done)
+    ∷ Does (Deliver 8)
+    ∷ Does (Ask 1 LineRequest.Done)
+    ∷ [])
 
 -- ---- what is asked of them
 
@@ -114,3 +148,16 @@ told_after es n = elim (node_after es n) [ None ↦ None | Some x ↦ told x.ori
 
 abbrev pub decision_after : List Happening → ℕ → Option Outcome
 decision_after es n = elim (node_after es n) [ None ↦ None | Some x ↦ decision x.origin tree x.history ]
+
+-- the end holds control of the dialogue
+abbrev pub has_control : Node → Bool
+has_control x = holds_at (first_mark 1) (first_mark 2) x
+
+-- so many rounds are answered by the records taken, and so much was given behind them in the records sent
+abbrev pub gave_behind : ℕ → ℕ → Node → Bool
+gave_behind k n x =
+    (answered (taken_on (first_mark 1) (first_mark 2) 2 x.history) == k) && (given k (sent_on (first_mark 1) (first_mark 2) 2 x.history) == n)
+
+abbrev pub took_behind : ℕ → ℕ → Node → Bool
+took_behind k n x =
+    (answered (sent_on (first_mark 1) (first_mark 2) 1 x.history) == k) && (given k (taken_on (first_mark 1) (first_mark 2) 1 x.history) == n)

@@ -20,7 +20,7 @@ ghost use Rattle.tp_model.specs.Happenings.{Happening, run};
 ghost use Rattle.tp_model.specs.declared.transaction.TxEvent.{TxEvent};
 ghost use Rattle.tp_model.specs.Transactions.{Transaction, transacted};
 ghost use Rattle.tp_model.specs.Events.{refusal, action};
-ghost use Rattle.tp_model.specs.Promises.{AllLegal, IsIn, PrefixTaken, WhatUsersSee, OneOutcome, IsOf, IsBranchOf, is_of_tree, has_logged};
+ghost use Rattle.tp_model.specs.Promises.{AllLegal, IsIn, PrefixTaken, OneHolder, WhatUsersSee, OneOutcome, IsOf, IsBranchOf, is_of_tree, has_logged};
 ghost use Rattle.tp_model.specs.World.{Node};
 ghost use Rattle.tp_model.specs.Outcomes.{decided, rolled, has_left};
 ghost use Rattle.tp_model.specs.Legal.{IsGrown, are_in_order};
@@ -33,6 +33,7 @@ ghost use Rattle.tp_laws.specs.Pairs.{IsPaired};
 ghost use Rattle.tp_laws.specs.Hanging.{HangsTogether, ReadyDown, LeftDown, RolledOrUnknown, UnknownIsRolled};
 ghost use Rattle.tp_laws.specs.Branches.{IsRowed, IsBranched};
 ghost use Rattle.tp_laws.specs.Heeded.{HeedsBranches};
+ghost use Rattle.tp_laws.specs.Control.{TookBack, TookMore};
 ghost use Rattle.tp_laws.specs.Upward.{IsRising, IsRisen, SpeaksUp};
 ghost use Rattle.tp_laws.specs.Restart.{IsFounded};
 ghost use Rattle.tp_laws.specs.Standing.{IsUndecided, IsTold, current_after, IsApart};
@@ -154,6 +155,12 @@ pub fn ready_rolls_by_its_superior()
 /// decision.
 pub fn outcomes_rest_on_the_family()
     ensures { (es : List Happening) → ReadyDown (run es) → LeftDown (run es) → UnknownIsRolled (run es) → OneOutcome (run es) }
+{}
+
+/// In every run in which a superior end that holds control took back what it gave, and a subordinate end that holds it took
+/// more than it returned, two live ends of one polarized dialogue never both hold control.
+pub fn one_holder_rests_on_the_ends()
+    ensures { (es : List Happening) → TookBack (run es) → TookMore (run es) → OneHolder (run es) }
 {}
 
 /// In every run, every node's history is one that grew from an empty log by events that were accepted.

@@ -3,7 +3,7 @@
 //! Each function has an empty body; its clauses are the example.
 ghost use Rattle.std.specs.Prelude.{◌≡◌, ◌&&◌, not, true, false, Some, None};
 ghost use Rattle.tp_names.specs.declared.outcome.Outcome.{Outcome};
-ghost use Rattle.tp_laws.specs.Trials.{committed, recovered, rolled_back, mixed, departed, holds, in_tree, has_committed, has_rolled, has_gone, has_voted, has_logs, is_linked, is_branch_of_first, took_order, sent_vote, sent_end, told_after, decision_after};
+ghost use Rattle.tp_laws.specs.Trials.{committed, recovered, rolled_back, mixed, departed, polarized, granting, granted, regained, holds, in_tree, has_committed, has_rolled, has_gone, has_voted, has_logs, is_linked, is_branch_of_first, took_order, sent_vote, has_control, gave_behind, took_behind, sent_end, told_after, decision_after};
 
 /// Both ends are live, and the branch commits by an order that came over the association.
 pub fn a_branch_commits()
@@ -47,4 +47,15 @@ pub fn a_branch_leaves()
     ensures silent { holds has_logs departed 2 ≡ false }
     ensures ended { (holds sent_end departed 2 && not (holds sent_vote departed 2)) ≡ true }
     ensures told { told_after departed 2 ≡ None }
+{}
+
+/// Control goes to the branch with a Grant, and is back at the superior end when the transaction is over at both ends; while
+/// it is on its way neither end holds it.
+pub fn control_is_passed()
+    ensures linked { (holds (is_linked 2) granted 1 && holds (is_linked 1) granted 2 && holds (is_linked 2) regained 1 && holds (is_linked 1) regained 2) ≡ true }
+    ensures first { (holds has_control polarized 1 && not (holds has_control polarized 2)) ≡ true }
+    ensures underway { (not (holds has_control granting 1) && not (holds has_control granting 2)) ≡ true }
+    ensures granted { (not (holds has_control granted 1) && holds has_control granted 2) ≡ true }
+    ensures regained { (holds has_control regained 1 && not (holds has_control regained 2)) ≡ true }
+    ensures counted { (holds (took_behind 0 1) granted 2 && holds (gave_behind 0 1) granted 1 && holds (gave_behind 1 0) regained 1) ≡ true }
 {}
