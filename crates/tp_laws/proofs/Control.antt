@@ -16,12 +16,13 @@ use Rattle.tp_model.specs.Happenings.{Happening, run}
 use Rattle.tp_model.specs.Promises.{IsIn, OneHolder, holds_on, some_holds}
 use Rattle.tp_laws.specs.Worlds.{place, IsGood}
 use Rattle.tp_laws.specs.Traces.{own_mark}
+use Rattle.tp_laws.specs.Ends.{is_there, are_separate, own_is, opened}
 use Rattle.tp_laws.specs.Control.{rounds, behind, count, answered, given, returned, is_giving, is_returning, closes_down, begun_behind, closes_up, voted_behind, some_leads, holds_with, TookBack, TookMore}
 use Rattle.tp_laws.proofs.Preludes.{marks_same}
 use Rattle.tp_laws.proofs.Good.{good_run}
 use Rattle.tp_laws.proofs.Breaks.{all_sent, associations}
-use Rattle.tp_laws.proofs.Separate.{is_there, are_separate, separate_law}
-use Rattle.tp_laws.proofs.Ends.{opened, own_is, alone_law}
+use Rattle.tp_laws.proofs.Separate.{separate_law}
+use Rattle.tp_laws.proofs.Ends.{alone_law}
 
 -- ---- counts in a front part
 

@@ -14,26 +14,13 @@ use Rattle.tp_model.specs.Questions.{sent_more, is_at}
 use Rattle.tp_model.specs.Legal.{IsGrown}
 use Rattle.tp_laws.specs.Moves.{prelude}
 use Rattle.tp_laws.specs.Traces.{count_to, sent_of, sent_on, is_old, own_mark, own_old, IsTraced}
+use Rattle.tp_laws.specs.Ends.{own_is, opened, IsAlone}
 use Rattle.tp_laws.proofs.Late.{late_law}
 use Rattle.tp_laws.proofs.Preludes.{Prelinked, As_before, Now_idle, Now_called, Now_offered, Now_accepted, Now_confirmed, Took_one, called_at, marks_same}
 use Rattle.tp_laws.proofs.Marks.{has_pair, new_mark}
 use Rattle.tp_laws.proofs.Traced.{Told, told, traced_law, quiet_step}
 
 -- ---- the marks of a link
-
--- of its pair, the mark that this node drew is its own
-abbrev pub own_is : Who → Option Addr → ℕ → Link → Bool
-own_is who up p Idle = true
-own_is who up p (Opening x) = x.node == who.node
-own_is who up p (Offered x) = true
-own_is who up p (Live x y s t) = (own_mark up p x y).node == who.node
-
--- the mark of the end that offered
-abbrev pub opened : Link → Option Mark
-opened Idle = None
-opened (Opening x) = Some x
-opened (Offered x) = None
-opened (Live x y s t) = Some x
 
 own_more : (who : Who) (up : Option Addr) (p n : ℕ) (l : Link) → own_is who up p (sent_more n l) ≡ own_is who up p l
 own_more who up p n Idle = refl
@@ -86,14 +73,6 @@ opens_pre who up d e p x l (Now_confirmed z w o i none) below is = let same : So
 opens_pre who up d e p x l (Took_one a z w s t r i j at ev) below is = let same : Some z ≡ Some x = ap opened (sym j) ∙ is in Before (ap opened i ∙ same)
 
 -- ---- the law
-
--- in a legal history: a node's own mark of a pair is one that it drew, what was sent on a pair went out with such a mark,
--- and two associations with subordinates never have one mark, in no record either
-pub record IsAlone (who : Who) (up : Option Addr) (d : Digest) (h : List Entry) : Type 0 where
-  pub own : (p : ℕ) → own_is who up p (link_with d.arcs p) ≡ true
-  pub said : (p : ℕ) (x y : Mark) → (sent_on x y p h ≡ []) ⊎ ((own_mark up p x y).node ≡ who.node)
-  pub apart : (p q : ℕ) (x : Mark) → is_at up p ≡ false → is_at up q ≡ false → opened (link_with d.arcs p) ≡ Some x → opened (link_with d.arcs q) ≡ Some x → p ≡ q
-  pub quiet : (p q : ℕ) (x y : Mark) → is_at up p ≡ false → is_at up q ≡ false → opened (link_with d.arcs p) ≡ Some x → (sent_on x y q h ≡ []) ⊎ (p ≡ q)
 
 -- a mark that is drawn now is on no link of before
 not_new : (who : Who) (up : Option Addr) (d : Digest) (h : List Entry) → IsTraced who up d h → (p : ℕ) (x : Mark) → is_at up p ≡ false → opened (link_with d.arcs p) ≡ Some x → next_mark who d ≡ x → ⊥

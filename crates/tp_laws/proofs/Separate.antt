@@ -1,5 +1,5 @@
 -- In every legal history no two arcs lead to one number, and none is idle.
-use Rattle.std.proofs.Common.{if◌then◌else◌, ◌≡◌, ℕ, Bool, true, false, refl, ap, ◌∙◌, arith, Option, Some, None, List, [], ◌∷◌, ◌++◌, ◌&&◌, ◌||◌, ◌==◌, not}
+use Rattle.std.proofs.Common.{if◌then◌else◌, ◌≡◌, ℕ, Bool, true, false, refl, ap, ◌∙◌, arith, Option, Some, None, List, [], ◌∷◌, ◌++◌, ◌||◌, ◌==◌, not}
 use Rattle.std.proofs.lemmas.Bool.Decides.{nat_tests}
 use Rattle.tp_names.specs.declared.identifiers.Mark.{Mark}
 use Rattle.tp_names.specs.declared.identifiers.Addr.{Addr}
@@ -25,18 +25,11 @@ use Rattle.tp_model.specs.Events.{refusal, after_crash, started}
 use Rattle.tp_model.specs.History.{digest}
 use Rattle.tp_model.specs.Legal.{IsGrown}
 use Rattle.tp_laws.specs.Moves.{Moves, prelude, called, accepted_by, accepted_on, linked, begun_in, counted_in}
+use Rattle.tp_laws.specs.Ends.{is_there, are_separate}
 use Rattle.tp_laws.proofs.EveryEvent.{every_move}
 use Rattle.tp_laws.proofs.Late.{late_law}
 
 -- ---- what stands in a list of arcs
-
-abbrev pub is_there : ℕ → List Arc → Bool
-is_there p [] = false
-is_there p (a ∷ arcs) = (a.peer.node == p) || is_there p arcs
-
-abbrev pub are_separate : List Arc → Bool
-are_separate [] = true
-are_separate (a ∷ arcs) = not (is_idle a.link) && not (is_there a.peer.node arcs) && are_separate arcs
 
 -- nobody is new, and what was separate stays so
 record Thins (xs ys : List Arc) : Type 0 where

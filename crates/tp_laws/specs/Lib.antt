@@ -5,6 +5,7 @@ pub mod Moves
 pub mod Traces
 pub mod Breaks
 pub mod Facts
+pub mod Ends
 pub mod Control
 pub mod Passages
 pub mod Standing

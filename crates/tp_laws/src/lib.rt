@@ -33,6 +33,7 @@ ghost use Rattle.tp_laws.specs.Pairs.{IsPaired};
 ghost use Rattle.tp_laws.specs.Hanging.{HangsTogether, ReadyDown, LeftDown, RolledOrUnknown, UnknownIsRolled};
 ghost use Rattle.tp_laws.specs.Branches.{IsRowed, IsBranched};
 ghost use Rattle.tp_laws.specs.Heeded.{HeedsBranches};
+ghost use Rattle.tp_laws.specs.Ends.{are_separate, IsAlone};
 ghost use Rattle.tp_laws.specs.Control.{TookBack, TookMore};
 ghost use Rattle.tp_laws.specs.Upward.{IsRising, IsRisen, SpeaksUp};
 ghost use Rattle.tp_laws.specs.Restart.{IsFounded};
@@ -155,6 +156,14 @@ pub fn ready_rolls_by_its_superior()
 /// decision.
 pub fn outcomes_rest_on_the_family()
     ensures { (es : List Happening) → ReadyDown (run es) → LeftDown (run es) → UnknownIsRolled (run es) → OneOutcome (run es) }
+{}
+
+/// In every legal history no two arcs lead to one node and none is idle; the mark that stands for the node in a pair is one
+/// that it drew, as in each pair on which it sent; and a mark that it drew for one subordinate is offered to no other, nor
+/// was anything sent to another with it.
+pub fn ends_are_told_apart()
+    ensures arcs { (o : Origin) (up : Option Addr) (h : List Entry) → IsGrown o up h → are_separate (digest o h).arcs ≡ true }
+    ensures marks { (o : Origin) (up : Option Addr) (h : List Entry) → IsGrown o up h → IsAlone o.who up (digest o h) h }
 {}
 
 /// In every run in which a superior end that holds control took back what it gave, and a subordinate end that holds it took
