@@ -1,5 +1,5 @@
 -- Behind every event of the transaction a Branch stands for what is known of the node.
-use Rattle.std.proofs.Common.{◌≡◌, ℕ, Bool, true, false, refl, ap, sym, subst, ◌∙◌, arith, Some, None, List, ◌==◌}
+use Rattle.std.proofs.Common.{◌≡◌, ℕ, Bool, true, false, refl, ap, sym, subst, ◌∙◌, arith, Some, None, List}
 use Rattle.std.proofs.lemmas.Bool.Decides.{nat_tests}
 use Rattle.tp_names.specs.declared.children.Child.{Child}
 use Rattle.tp_names.specs.declared.outcome.Outcome.{Outcome}
@@ -8,26 +8,30 @@ use Rattle.tp_records.specs.declared.dialogue.DialogueRecord.{DialogueRecord}
 use Rattle.tp_model.specs.declared.arc.Phase.{Phase}
 use Rattle.tp_model.specs.declared.transaction.TxEvent.{TxEvent}
 use Rattle.tp_model.specs.Parts.{Who, Arc, Key, Root, Under, Current, Digest}
-use Rattle.tp_model.specs.Dialogues.{is_nil, is_active, is_rolling}
-use Rattle.tp_model.specs.Arcs.{is_live_with_peer}
+use Rattle.tp_model.specs.Dialogues.{is_nil, is_rolling}
 use Rattle.tp_model.specs.Transactions.{step_of, Transaction, Turn, is_under_at, with_row, transacted, refused_user, refused_tx}
 use Rattle.tp_model.specs.Node.{is_end_deferred_at, is_up_ending, seen, remaining, turned}
 use Rattle.tp_commit.specs.declared.row.Note.{Note}
 use Rattle.tp_commit.specs.Row.{noted}
 use Rattle.tp_commit.specs.Branch.{standing}
-use Rattle.tp_commit.specs.Standing.{is_peer, IsAmongArcs, AreAlike, IsCut, IsPutOff, AreNew, Reaches, IsTakenUp}
+use Rattle.tp_commit.specs.Standing.{IsAmongArcs, AreAlike, IsCut, IsPutOff, AreNew, Reaches, IsTakenUp}
 use Rattle.tp_commit.proofs.Lasting.{lost_already, ending_already, user_goes, took_goes, lost_goes, heuristic_goes, ordered_goes, retried_goes, reply_goes}
 use Rattle.tp_commit.proofs.Passages.{stays_put}
-use Rattle.tp_commit.proofs.Shown.{begun_shown, left_of, arcs_are, Shows, goes_shows}
+use Rattle.tp_commit.proofs.Among.{left_of, begun_among, among_alike, among_cut, among_off}
+use Rattle.tp_commit.proofs.Shown.{begun_shown, arcs_are, Shows, goes_shows}
 use Rattle.tp_commit.proofs.Shut.{abort_shows, left_shows, give_up_shows}
 use Rattle.tp_commit.proofs.Reached.{seen_alike, reached}
 
 -- ---- branches begin
 
-begun_shows : (who : Who) (d : Digest) (c : Current) (cs : List Child) → is_rolling c.phase ≡ false → AreNew cs d.arcs → Shows who (TxEvent.Begun cs) d c
-begun_shows who d c cs calm new late =
+begun_shows : (who : Who) (d : Digest) (c : Current) (cs : List Child) → IsAmongArcs d.arcs c → is_rolling c.phase ≡ false → AreNew cs d.arcs c → Shows who (TxEvent.Begun cs) d c
+begun_shows who d c cs among calm new late =
     let u : Transaction = (transacted (TxEvent.Begun cs) (seen who d.arcs c)).next in
-    subst (λ (later : List Arc). standing u ≡ seen who later (left_of u)) (sym (arcs_are who (TxEvent.Begun cs) d c late ∙ stays_put (seen who d.arcs c) c.phase d.arcs)) (begun_shown who d.arcs c cs calm new)
+    let after : (turned who (TxEvent.Begun cs) d c).next.arcs ≡ d.arcs = arcs_are who (TxEvent.Begun cs) d c late ∙ stays_put (seen who d.arcs c) c.phase d.arcs in
+    record {
+      stands = subst (λ (later : List Arc). standing u ≡ seen who later (left_of u)) (sym after) (begun_shown who d.arcs c cs calm new);
+      among = subst (λ (later : List Arc). IsAmongArcs later (left_of u)) (sym after) (begun_among who d.arcs c cs among calm new);
+    }
 
 -- ---- every event
 
@@ -63,7 +67,7 @@ took_shows who d c p r arcs among k =
     goes_shows who (TxEvent.Took p r) d c among (took_goes (seen who d.arcs c) p r (λ e. absurd (cc (e))) (λ e. absurd (cc (e))) (λ e. absurd (cc (e))))
 
 every_shows : (who : Who) (f : TxEvent) (d : Digest) (c : Current) (arcs : List Arc) → IsAmongArcs d.arcs c → Reaches f c arcs d.arcs → IsTakenUp f (seen who d.arcs c) → Shows who f d c
-every_shows who (TxEvent.Begun cs) d c arcs among k ok = begun_shows who d c cs k.0 k.1
+every_shows who (TxEvent.Begun cs) d c arcs among k ok = begun_shows who d c cs among k.0 k.1
 every_shows who (TxEvent.User r) d c arcs among k ok = user_shows who d c r arcs among k ok
 every_shows who (TxEvent.Took p r) d c arcs among k ok = took_shows who d c p r arcs among k
 every_shows who (TxEvent.Lost p) d c arcs among k ok =
@@ -77,67 +81,24 @@ every_shows who TxEvent.Retry d c arcs among k ok = goes_shows who TxEvent.Retry
 
 -- ---- the conditions, at the arcs at which the event is put
 
-active_not_rolling : (p : Phase) → is_active p ≡ true → is_rolling p ≡ false
-active_not_rolling Phase.Nil h = refl
-active_not_rolling Phase.Active h = refl
-active_not_rolling Phase.Ready h = refl
-active_not_rolling Phase.Committing h = refl
-active_not_rolling Phase.Rolling h = absurd cc
-
-among_alike : (arcs later : List Arc) (c : Current) → IsAmongArcs arcs c → AreAlike arcs later → IsAmongArcs later c
-among_alike arcs later c among k = record {
-  current = among.current;
-  distinct = among.distinct;
-  apart = among.apart;
-  put_off = λ p h. (k p).live ∙ among.put_off p (sym (k p).ends ∙ h);
-  forgotten = λ rolls p h. (k p).ends ∙ among.forgotten rolls p h;
-}
-
-among_cut : (arcs later : List Arc) (c : Current) (p : ℕ) → IsAmongArcs arcs c → IsCut p arcs later → IsAmongArcs later c
-among_cut arcs later c p among cut = record {
-  current = among.current;
-  distinct = among.distinct;
-  apart = among.apart;
-  put_off = λ q h. off q (q == p) refl h;
-  forgotten = λ rolls q h. none rolls q h (q == p) refl;
-}
-  where
-    off : (q : ℕ) (b : Bool) → (q == p) ≡ b → is_end_deferred_at later q ≡ true → is_live_with_peer later q ≡ true
-    off q true i h = let same : q ≡ p = grind (arith, nat_tests, i) in absurd (cc (h, ap (is_end_deferred_at later) same ∙ cut.ends))
-    off q false i h = let k = cut.others q i in k.live ∙ among.put_off q (sym k.ends ∙ h)
-
-    none : is_rolling c.phase ≡ true → (q : ℕ) → is_peer c q ≡ true → (b : Bool) → (q == p) ≡ b → is_end_deferred_at later q ≡ false
-    none rolls q h true i = let same : q ≡ p = grind (arith, nat_tests, i) in ap (is_end_deferred_at later) same ∙ cut.ends
-    none rolls q h false i = (cut.others q i).ends ∙ among.forgotten rolls q h
-
-among_off : (arcs later : List Arc) (c : Current) (p : ℕ) → IsAmongArcs arcs c → is_active c.phase ≡ true → IsPutOff p arcs later → IsAmongArcs later c
-among_off arcs later c p among active put = record {
-  current = among.current;
-  distinct = among.distinct;
-  apart = among.apart;
-  put_off = λ q h. off q (q == p) refl h;
-  forgotten = λ rolls q h. absurd (cc (rolls, active_not_rolling c.phase active));
-}
-  where
-    off : (q : ℕ) (b : Bool) → (q == p) ≡ b → is_end_deferred_at later q ≡ true → is_live_with_peer later q ≡ true
-    off q true i h = let same : q ≡ p = grind (arith, nat_tests, i) in ap (is_live_with_peer later) same ∙ put.live
-    off q false i h = let k = put.others q i in k.live ∙ among.put_off q (sym k.ends ∙ h)
+all_alike : (arcs later : List Arc) (c : Current) → IsAmongArcs arcs c → AreAlike arcs later → IsAmongArcs later c
+all_alike arcs later c among k = among_alike arcs later c among (λ q peer. k q)
 
 among_now : (f : TxEvent) (arcs later : List Arc) (c : Current) → IsAmongArcs arcs c → Reaches f c arcs later → IsAmongArcs later c
-among_now (TxEvent.Begun cs) arcs later c among k = among_alike arcs later c among k.2
-among_now (TxEvent.User (Request.UAbort p)) arcs later c among k = among_alike arcs later c among k.1
+among_now (TxEvent.Begun cs) arcs later c among k = all_alike arcs later c among k.2
+among_now (TxEvent.User (Request.UAbort p)) arcs later c among k = all_alike arcs later c among k.1
 among_now (TxEvent.User (Request.DeferEnd p)) arcs later c among k = among_off arcs later c p among k.0 k.2
-among_now (TxEvent.User r) arcs later c among k = among_alike arcs later c among k
+among_now (TxEvent.User r) arcs later c among k = all_alike arcs later c among k
 among_now (TxEvent.Took p DialogueRecord.UAbort) arcs later c among k = among_cut arcs later c p among k
 among_now (TxEvent.Took p DialogueRecord.DeferEnd) arcs later c among k = among_off arcs later c p among k.0 k.2
-among_now (TxEvent.Took p DialogueRecord.LeftEnd) arcs later c among k = among_alike arcs later c among k.1
-among_now (TxEvent.Took p r) arcs later c among k = among_alike arcs later c among k
+among_now (TxEvent.Took p DialogueRecord.LeftEnd) arcs later c among k = all_alike arcs later c among k.1
+among_now (TxEvent.Took p r) arcs later c among k = all_alike arcs later c among k
 among_now (TxEvent.Lost p) arcs later c among k = among_cut arcs later c p among k
-among_now (TxEvent.Heur o) arcs later c among k = among_alike arcs later c among k
-among_now (TxEvent.GiveUp p) arcs later c among k = among_alike arcs later c among k
-among_now TxEvent.Ordered arcs later c among k = among_alike arcs later c among k
-among_now (TxEvent.Reply b s) arcs later c among k = among_alike arcs later c among k
-among_now TxEvent.Retry arcs later c among k = among_alike arcs later c among k
+among_now (TxEvent.Heur o) arcs later c among k = all_alike arcs later c among k
+among_now (TxEvent.GiveUp p) arcs later c among k = all_alike arcs later c among k
+among_now TxEvent.Ordered arcs later c among k = all_alike arcs later c among k
+among_now (TxEvent.Reply b s) arcs later c among k = all_alike arcs later c among k
+among_now TxEvent.Retry arcs later c among k = all_alike arcs later c among k
 
 -- what is refused does not hang on the arcs that an event has touched
 user_taken : (who : Who) (r : Request) (arcs later : List Arc) (c : Current) → Reaches (TxEvent.User r) c arcs later → refused_tx (TxEvent.User r) (seen who arcs c) ≡ None → refused_tx (TxEvent.User r) (seen who later c) ≡ None
@@ -184,18 +145,21 @@ pub behind_asks : (who : Who) (f : TxEvent) (d : Digest) (c : Current) (arcs : L
 behind_asks who f d c arcs among k = ap step_of (reached who f arcs d.arcs c among k)
 
 pub behind_stands : (who : Who) (f : TxEvent) (d : Digest) (c u : Current) (arcs : List Arc) → IsAmongArcs arcs c → Reaches f c arcs d.arcs → IsTakenUp f (seen who arcs c) → (turned who f d c).next.current ≡ Some u
-    → standing (transacted f (seen who arcs c)).next ≡ seen who (turned who f d c).next.arcs u
-behind_stands who f d c u arcs among k ok h = ap (λ (a : Turn). standing a.next) (reached who f arcs d.arcs c among k) ∙ go (is_nil next.phase) refl
+    → (standing (transacted f (seen who arcs c)).next ≡ seen who (turned who f d c).next.arcs u) × IsAmongArcs (turned who f d c).next.arcs u
+behind_stands who f d c u arcs among k ok h = go (is_nil next.phase) refl
   where
     next : Transaction
     next = (transacted f (seen who d.arcs c)).next
 
-    go : (b : Bool) → is_nil next.phase ≡ b → standing next ≡ seen who (turned who f d c).next.arcs u
+    go : (b : Bool) → is_nil next.phase ≡ b → (standing (transacted f (seen who arcs c)).next ≡ seen who (turned who f d c).next.arcs u) × IsAmongArcs (turned who f d c).next.arcs u
     go true i = let none : None ≡ Some u = rw (i, remaining) at h in absurd (cc (none))
     go false i =
         let some : Some (left_of next) ≡ Some u = rw (i, remaining) at h in
         let same : left_of next ≡ u = cc (some) in
-        every_shows who f d c arcs (among_now f arcs d.arcs c among k) k (taken_now who f arcs d.arcs c k ok) i ∙ ap (seen who (turned who f d c).next.arcs) same
+        let shown = every_shows who f d c arcs (among_now f arcs d.arcs c among k) k (taken_now who f arcs d.arcs c k ok) i in (
+          ap (λ (a : Turn). standing a.next) (reached who f arcs d.arcs c among k) ∙ shown.stands ∙ ap (seen who (turned who f d c).next.arcs) same,
+          subst (IsAmongArcs (turned who f d c).next.arcs) same shown.among,
+        )
 
 pub behind_over : (who : Who) (f : TxEvent) (d : Digest) (c : Current) (arcs : List Arc) → IsAmongArcs arcs c → Reaches f c arcs d.arcs → (turned who f d c).next.current ≡ None → (transacted f (seen who arcs c)).next.phase ≡ Phase.Nil
 behind_over who f d c arcs among k h = ap (λ (a : Turn). a.next.phase) (reached who f arcs d.arcs c among k) ∙ behind_is_over (transacted f (seen who d.arcs c)).next h

@@ -1,5 +1,6 @@
 -- A transaction by what is known of the node.
-use Rattle.std.proofs.Common.{◌≡◌, ◌&&◌, not, Bool, true, false, Option, Some, List, [], ◌∷◌, arith, refl, ap, sym, ◌∙◌}
+use Rattle.std.proofs.Common.{◌≡◌, ◌&&◌, ◌||◌, ℕ, not, Bool, true, false, Option, Some, List, [], ◌∷◌, arith, refl, ap, sym, ◌∙◌}
+use Rattle.std.proofs.lemmas.Bool.Decides.{nat_tests}
 use Rattle.tp_names.specs.declared.identifiers.NodeKey.{NodeKey}
 use Rattle.tp_names.specs.declared.identifiers.Addr.{Addr}
 use Rattle.tp_names.specs.declared.children.Child.{Child}
@@ -7,11 +8,13 @@ use Rattle.tp_names.specs.declared.outcome.Outcome.{Outcome}
 use Rattle.tp_logrec.specs.declared.record.LogRec.{LogRec}
 use Rattle.tp_model.specs.declared.arc.Phase.{Phase}
 use Rattle.tp_model.specs.Parts.{Who, Arc, Key, Root, Under, Branch, Current}
-use Rattle.tp_model.specs.Dialogues.{is_rolling}
-use Rattle.tp_model.specs.Transactions.{Row, Transaction, is_under, fresh_branch}
-use Rattle.tp_model.specs.Node.{is_up_live, is_up_ending, seen_row, seen_rows, seen, fresh_current}
+use Rattle.tp_model.specs.Dialogues.{is_nil, is_rolling}
+use Rattle.tp_model.specs.Transactions.{Row, Transaction, is_under, is_under_at, fresh_branch}
+use Rattle.tp_model.specs.Node.{is_end_deferred_at, is_up_live, is_up_ending, seen_row, seen_rows, seen, fresh_current}
+use Rattle.tp_model.specs.Requests.{has_branch_at}
 use Rattle.tp_model.specs.Events.{fresh_branches, recovered}
 use Rattle.tp_commit.specs.Branch.{key_from, begun, idle_rows, found, found_by, standing_row, standing_rows, standing}
+use Rattle.tp_commit.specs.Standing.{are_distinct, IsAmongArcs}
 
 pub begun_known : (who : Who) (arcs : List Arc) (k : Key) → is_up_live arcs k ≡ is_under k → is_up_ending arcs k ≡ false → begun who.node k ≡ seen who arcs (fresh_current k)
 begun_known who arcs k live ends =
@@ -69,3 +72,26 @@ known_stands who arcs c e =
     ap (λ r. with_parts (is_up_ending arcs c.key && not r) (standing_rows r (seen_rows arcs c.branches))) e
     ∙ ap (λ u. with_parts u (standing_rows false (seen_rows arcs c.branches))) (and_true (is_up_ending arcs c.key))
     ∙ ap (with_parts (is_up_ending arcs c.key)) (rows_stand arcs c.branches)
+
+-- ---- in order among the arcs
+
+ends_above : (arcs : List Arc) (k : Key) (p : ℕ) → is_up_ending arcs k ≡ false → is_under_at k p ≡ true → is_end_deferred_at arcs p ≡ false
+ends_above arcs (Root t) p none here = absurd cc
+ends_above arcs (Under t b a) p none here = let same : a.node ≡ p = grind (arith, nat_tests, here) in sym (ap (is_end_deferred_at arcs) same) ∙ none
+
+or_none : (b : Bool) → (b || false) ≡ b
+or_none true = refl
+or_none false = refl
+
+pub begun_in_order : (arcs : List Arc) (k : Key) → is_up_ending arcs k ≡ false → IsAmongArcs arcs (fresh_current k)
+begun_in_order arcs k none = record {
+  current = refl;
+  distinct = refl;
+  apart = λ p h. refl;
+  put_off = λ p h off. absurd (cc (off, ends_above arcs k p none (sym (or_none (is_under_at k p)) ∙ h)));
+  forgotten = λ rolls p h. absurd (cc (rolls));
+}
+
+pub found_in_order : (k : Key) (p : Phase) (cs : List Child) (o : Option Outcome) → is_nil p ≡ false → are_distinct (fresh_branches cs) ≡ true → ((q : ℕ) → is_under_at k q ≡ true → has_branch_at (fresh_branches cs) q ≡ false)
+    → IsAmongArcs [] (recovered k p (fresh_branches cs) o)
+found_in_order k p cs o late differ apart = record { current = late; distinct = differ; apart = apart; put_off = λ q h off. absurd (cc (off)); forgotten = λ rolls q h. refl }

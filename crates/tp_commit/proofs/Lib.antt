@@ -7,6 +7,7 @@ pub mod Arcs
 pub mod Marks
 pub mod Still
 pub mod Passages
+pub mod Among
 pub mod Lasting
 pub mod Shown
 pub mod Shut

@@ -2,7 +2,7 @@
 use Rattle.std.proofs.Common.{◌≡◌, ℕ, Bool, true, false, refl, ap, sym, ◌∙◌, arith, List, [], ◌∷◌, ◌++◌, ◌&&◌, ◌||◌, ◌==◌, not, if◌then◌else◌}
 use Rattle.std.proofs.lemmas.Bool.Decides.{nat_tests}
 use Rattle.tp_names.specs.declared.children.Child.{Child}
-use Rattle.tp_model.specs.Parts.{Arc, Key, Root, Under, Branch}
+use Rattle.tp_model.specs.Parts.{Arc, Key, Root, Under, Branch, Current}
 use Rattle.tp_model.specs.Arcs.{is_live_with_peer}
 use Rattle.tp_model.specs.Transactions.{Row, row_holds, is_under_at, all_prepared, fresh_rows}
 use Rattle.tp_model.specs.Requests.{has_branch_at}
@@ -327,15 +327,15 @@ up_later rolls arcs later (Under t b a) h = let here = h a.node (grind (arith, n
 
 -- ---- branches that begin
 
-fresh_stand : (arcs : List Arc) (cs : List Child) → AreNew cs arcs → standing_rows false (fresh_rows cs) ≡ seen_rows arcs (branches_of (fresh_rows cs))
-fresh_stand arcs [] h = refl
-fresh_stand arcs (x ∷ xs) h = let rest = fresh_stand arcs xs h.2 in grind (arith, rest, h.0, h.1)
+fresh_stand : (arcs : List Arc) (c : Current) (cs : List Child) → AreNew cs arcs c → standing_rows false (fresh_rows cs) ≡ seen_rows arcs (branches_of (fresh_rows cs))
+fresh_stand arcs c [] h = refl
+fresh_stand arcs c (x ∷ xs) h = let rest = fresh_stand arcs c xs h.4 in grind (arith, rest, h.0, h.1)
 
-pub begun_stand : (arcs : List Arc) (bs : List Branch) (cs : List Child) → AreNew cs arcs → standing_rows false (seen_rows arcs bs ++ fresh_rows cs) ≡ seen_rows arcs (branches_of (seen_rows arcs bs ++ fresh_rows cs))
-begun_stand arcs [] cs h = fresh_stand arcs cs h
-begun_stand arcs (b ∷ bs) cs h =
+pub begun_stand : (arcs : List Arc) (c : Current) (bs : List Branch) (cs : List Child) → AreNew cs arcs c → standing_rows false (seen_rows arcs bs ++ fresh_rows cs) ≡ seen_rows arcs (branches_of (seen_rows arcs bs ++ fresh_rows cs))
+begun_stand arcs c [] cs h = fresh_stand arcs c cs h
+begun_stand arcs c (b ∷ bs) cs h =
     ap (λ (x : Row). x ∷ standing_rows false (seen_rows arcs bs ++ fresh_rows cs)) (row b)
-    ∙ ap (λ (xs : List Row). seen_row arcs b ∷ xs) (begun_stand arcs bs cs h)
+    ∙ ap (λ (xs : List Row). seen_row arcs b ∷ xs) (begun_stand arcs c bs cs h)
   where
     live : (l x : Bool) → ((l && x) && x) ≡ (l && x)
     live true true = refl

@@ -11,23 +11,11 @@ use Rattle.tp_model.specs.Node.{is_up_live, is_up_ending, seen_rows, seen, branc
 use Rattle.tp_commit.specs.Branch.{standing_rows, standing}
 use Rattle.tp_commit.specs.Standing.{is_peer, IsAmongArcs, AreNew}
 use Rattle.tp_commit.proofs.Marks.{IsLater, has_row_at, rows_stand, seen_has, seen_twice, up_later, begun_stand}
+use Rattle.tp_commit.proofs.Among.{left_of, left_seen, marked_numbers, rows_among}
 use Rattle.tp_commit.proofs.Still.{IsStill, Goes}
 use Rattle.tp_commit.proofs.Passages.{not_over, lasting, peer_of, passed_later, later_performed}
 
--- ---- what is left of a transaction
-
-abbrev pub left_of : Transaction → Current
-left_of t = record {
-  key = t.key;
-  phase = t.phase;
-  branches = branches_of t.rows;
-  told_prepare = t.told_prepare;
-  asked = t.asked;
-  owes = t.owes;
-  superior_rolled = t.superior_rolled;
-  decision = t.decision;
-  own = t.own;
-}
+-- ---- where a transaction stands
 
 -- a transaction sees the arcs as they are
 pub record IsSeenAt (t : Transaction) (arcs : List Arc) : Type 0 where
@@ -88,37 +76,45 @@ arcs_are who f d c late =
     let a : Turn = transacted f t in
     lasting d t (passage (is_leaving f) t.phase a.next.phase) a.outs (mid_of who f d c) (not_over (is_leaving f) t.phase a.next.phase late)
 
+-- unless the transaction is over behind the event: it stands for what the node then knows, in order among the arcs
+pub record IsShown (who : Who) (f : TxEvent) (d : Digest) (c : Current) : Type 0 where
+  pub stands : standing (transacted f (seen who d.arcs c)).next ≡ seen who (turned who f d c).next.arcs (left_of (transacted f (seen who d.arcs c)).next)
+  pub among : IsAmongArcs (turned who f d c).next.arcs (left_of (transacted f (seen who d.arcs c)).next)
+
 abbrev pub Shows : Who → TxEvent → Digest → Current → Type 0
-Shows who f d c = is_nil (transacted f (seen who d.arcs c)).next.phase ≡ false
-    → standing (transacted f (seen who d.arcs c)).next ≡ seen who (turned who f d c).next.arcs (left_of (transacted f (seen who d.arcs c)).next)
+Shows who f d c = is_nil (transacted f (seen who d.arcs c)).next.phase ≡ false → IsShown who f d c
+
+-- what the rest of an event makes of a transaction, as which the arcs show it before that
+pub rest_shows : (who : Who) (f : TxEvent) (d : Digest) (c : Current) (t : Transaction) (a : Turn) (arcs mid : List Arc) → is_nil (transacted f (seen who d.arcs c)).next.phase ≡ false
+    → (transacted f (seen who d.arcs c)).next ≡ a.next → t.node ≡ who.node → IsSeenAt t arcs → IsAmongArcs arcs (left_of t) → IsStill t a
+    → ((q : ℕ) → peer_of t q ≡ true → IsLater (is_rolling (transacted f (seen who d.arcs c)).next.phase) q arcs mid) → (turned who f d c).next.arcs ≡ (performed mid a.outs).0
+    → IsShown who f d c
+rest_shows who f d c t a arcs mid late next node is among still laters after = record {
+  stands =
+      subst (λ (u : Transaction). standing u ≡ seen who (turned who f d c).next.arcs (left_of u)) (sym next)
+      (subst (λ (later : List Arc). standing a.next ≡ seen who later (left_of a.next)) (sym after) (still_shows who t a arcs (performed mid a.outs).0 node is still now));
+  among =
+      subst (λ (u : Transaction). IsAmongArcs (turned who f d c).next.arcs (left_of u)) (sym next)
+      (subst (λ (later : List Arc). IsAmongArcs later (left_of a.next)) (sym after)
+      (rows_among t a.next arcs (performed mid a.outs).0 among still.key (marked_numbers t.rows a.next.rows still.rows) (ap (λ (u : Transaction). is_nil u.phase) (sym next) ∙ late) now));
+}
+  where
+    now : (q : ℕ) → peer_of t q ≡ true → IsLater (is_rolling a.next.phase) q arcs (performed mid a.outs).0
+    now q peer = later_performed (is_rolling a.next.phase) q arcs mid a.outs (subst (λ (u : Transaction). IsLater (is_rolling u.phase) q arcs mid) next (laters q peer)) still.outs
 
 -- no arc is shut
 pub goes_shows : (who : Who) (f : TxEvent) (d : Digest) (c : Current) → IsAmongArcs d.arcs c → Goes (seen who d.arcs c) (transacted f (seen who d.arcs c)) → Shows who f d c
 goes_shows who f d c among goes late =
     let t : Transaction = seen who d.arcs c in
-    let a : Turn = transacted f t in
-    let still : IsStill t a = goes late in
-    subst (λ (later : List Arc). standing a.next ≡ seen who later (left_of a.next)) (sym (arcs_are who f d c late))
-    (still_shows who t a d.arcs (performed (mid_of who f d c) a.outs).0 refl (seen_is who d.arcs c) still
-    (λ q peer. later_performed (is_rolling a.next.phase) q d.arcs (mid_of who f d c) a.outs (mid_later who f d c among late still.commits q peer) still.outs))
-
--- what the rest of an event makes of the transaction without the arc
-pub rest_shows : (who : Who) (f : TxEvent) (d : Digest) (c : Current) (t : Transaction) (a : Turn) (arcs mid : List Arc) → (transacted f (seen who d.arcs c)).next ≡ a.next → t.node ≡ who.node → IsSeenAt t arcs → IsStill t a
-    → ((q : ℕ) → peer_of t q ≡ true → IsLater (is_rolling (transacted f (seen who d.arcs c)).next.phase) q arcs mid) → (turned who f d c).next.arcs ≡ (performed mid a.outs).0
-    → standing (transacted f (seen who d.arcs c)).next ≡ seen who (turned who f d c).next.arcs (left_of (transacted f (seen who d.arcs c)).next)
-rest_shows who f d c t a arcs mid next node is still laters after =
-    subst (λ (u : Transaction). standing u ≡ seen who (turned who f d c).next.arcs (left_of u)) (sym next)
-    (subst (λ (later : List Arc). standing a.next ≡ seen who later (left_of a.next)) (sym after)
-    (still_shows who t a arcs (performed mid a.outs).0 node is still (λ q peer. later_performed (is_rolling a.next.phase) q arcs mid a.outs (now q peer) still.outs)))
-  where
-    now : (q : ℕ) → peer_of t q ≡ true → IsLater (is_rolling a.next.phase) q arcs mid
-    now q peer = subst (λ (u : Transaction). IsLater (is_rolling u.phase) q arcs mid) next (laters q peer)
+    let still : IsStill t (transacted f t) = goes late in
+    rest_shows who f d c t (transacted f t) d.arcs (mid_of who f d c) late refl refl (seen_is who d.arcs c) (subst (IsAmongArcs d.arcs) (sym (left_seen who d.arcs c)) among) still
+    (λ q peer. mid_later who f d c among late still.commits q peer) (arcs_are who f d c late)
 
 -- ---- branches begin
 
-pub begun_shown : (who : Who) (arcs : List Arc) (c : Current) (cs : List Child) → is_rolling c.phase ≡ false → AreNew cs arcs
+pub begun_shown : (who : Who) (arcs : List Arc) (c : Current) (cs : List Child) → is_rolling c.phase ≡ false → AreNew cs arcs c
     → standing (transacted (TxEvent.Begun cs) (seen who arcs c)).next ≡ seen who arcs (left_of (transacted (TxEvent.Begun cs) (seen who arcs c)).next)
-begun_shown who arcs c cs calm new = shows who u arcs refl refl ends (ap (λ b. standing_rows b u.rows) calm ∙ begun_stand arcs c.branches cs new)
+begun_shown who arcs c cs calm new = shows who u arcs refl refl ends (ap (λ b. standing_rows b u.rows) calm ∙ begun_stand arcs c c.branches cs new)
   where
     u : Transaction
     u = (transacted (TxEvent.Begun cs) (seen who arcs c)).next

@@ -10,16 +10,17 @@ use Rattle.tp_model.specs.Parts.{Who, Arc, Key, Root, Under, Branch, Current, Di
 use Rattle.tp_model.specs.Dialogues.{Sight, Acts, Nothing_happens, Out_of_phase, is_nil, is_active, is_committing, is_rolling}
 use Rattle.tp_model.specs.Arcs.{is_live_with_peer, without_arc, carried, shut_with, performed}
 use Rattle.tp_model.specs.Transactions.{Row, Transaction, Turn, turn, and_then, is_under_at, find_row, with_row, with_arc_lost, complete_commit, roll, takes_left, takes, sight_of_tx, transacted, refused_tx}
-use Rattle.tp_model.specs.Node.{is_end_deferred_at, is_up_live, is_up_ending, seen_row, seen_rows, seen, turned}
+use Rattle.tp_model.specs.Node.{is_end_deferred_at, is_up_live, is_up_ending, seen_row, seen_rows, seen}
+use Rattle.tp_model.specs.Requests.{has_branch_at}
 use Rattle.tp_commit.specs.declared.row.Note.{Note}
 use Rattle.tp_commit.specs.Row.{noted, noted_at}
-use Rattle.tp_commit.specs.Branch.{standing}
-use Rattle.tp_commit.specs.Standing.{IsAmongArcs, IsCut}
+use Rattle.tp_commit.specs.Standing.{IsAmongArcs, IsCut, is_peer}
 use Rattle.tp_commit.proofs.Notes.{noted_row}
 use Rattle.tp_commit.proofs.Marks.{IsLater, cuts, has_row_at, seen_has, noted_has, cut_seen, cut_rows, apart_rows}
 use Rattle.tp_commit.proofs.Still.{IsStill, Goes, still_turn, goes_commit, goes_roll, goes_left}
 use Rattle.tp_commit.proofs.Passages.{peer_of, later_aborted, later_cut, later_shut, cut_off}
-use Rattle.tp_commit.proofs.Shown.{left_of, IsSeenAt, seen_is, mid_of, mid_later, arcs_are, Shows, goes_shows, rest_shows}
+use Rattle.tp_commit.proofs.Among.{left_of, left_seen, noted_numbers, same_among, among_cut}
+use Rattle.tp_commit.proofs.Shown.{or_second, IsSeenAt, IsShown, seen_is, mid_of, mid_later, arcs_are, Shows, goes_shows, rest_shows}
 
 -- ---- an arc is shut
 
@@ -93,9 +94,13 @@ active_only Phase.Ready h = refl
 active_only Phase.Committing h = absurd cc
 active_only Phase.Rolling h = refl
 
+lost_among : (who : Who) (arcs : List Arc) (c : Current) (p : ℕ) → IsAmongArcs arcs c → IsAmongArcs (without_arc arcs p) (left_of (with_arc_lost (seen who arcs c) p))
+lost_among who arcs c p among =
+    subst (IsAmongArcs (without_arc arcs p)) (sym (ap left_of (lost_now who arcs (without_arc arcs p) c p among (cut_off p arcs)) ∙ left_seen who (without_arc arcs p) c)) (among_cut arcs (without_arc arcs p) c p among (cut_off p arcs))
+
 pub abort_shows : (who : Who) (d : Digest) (c : Current) (p : ℕ) → IsAmongArcs d.arcs c → is_active c.phase ≡ true → Shows who (TxEvent.User (Request.UAbort p)) d c
 abort_shows who d c p among active late =
-    rest_shows who f d c u a (without_arc d.arcs p) (without_arc (carried (mid_of who f d c) p DialogueRecord.UAbort).0 p) refl (lost_node t p) (lost_is who d.arcs c p among)
+    rest_shows who f d c u a (without_arc d.arcs p) (without_arc (carried (mid_of who f d c) p DialogueRecord.UAbort).0 p) late refl (lost_node t p) (lost_is who d.arcs c p among) (lost_among who d.arcs c p among)
     (goes_roll true u not_yet late)
     (λ q peer. later_aborted (is_rolling a.next.phase) p q DialogueRecord.UAbort d.arcs (mid_of who f d c) (mid_later who f d c among late (λ h. absurd (cc (h, active_only c.phase active))) q (sym (lost_peer t p q) ∙ peer)))
     (arcs_are who f d c late)
@@ -123,6 +128,10 @@ cut_of who arcs c p n = record (seen who arcs c) { rows = noted_at (seen_rows ar
 
 cut_peer : (who : Who) (arcs : List Arc) (c : Current) (p q : ℕ) (n : Note) → peer_of (cut_of who arcs c p n) q ≡ peer_of (seen who arcs c) q
 cut_peer who arcs c p q n = ap (λ b. is_under_at c.key q || b) (noted_has (seen_rows arcs c.branches) p q n)
+
+noted_among : (who : Who) (arcs later : List Arc) (c : Current) (p : ℕ) (n : Note) → IsAmongArcs arcs c → IsCut p arcs later → IsAmongArcs later (left_of (cut_of who arcs c p n))
+noted_among who arcs later c p n among cut =
+    same_among (seen who arcs c) (cut_of who arcs c p n) later (subst (IsAmongArcs later) (sym (left_seen who arcs c)) (among_cut arcs later c p among cut)) refl refl (noted_numbers (seen_rows arcs c.branches) p n)
 
 -- of three things that a record may come to, the transaction takes up one
 took_is : (t : Transaction) (p : ℕ) (r : DialogueRecord) (s : Sight) → sight_of_tx t p r ≡ s
@@ -154,17 +163,17 @@ left_shows who d c p among other late = go (sight_of_tx t p DialogueRecord.LeftE
     acted = ap (λ (v : Transaction). closed (takes_left p v)) (noted_row t p Note.Lost)
 
     acts : transacted f t ≡ closed a → Goes u a
-        → standing (transacted f t).next ≡ seen who (turned who f d c).next.arcs (left_of (transacted f t).next)
+        → IsShown who f d c
     acts e goes =
         let next : (transacted f t).next ≡ a.next = ap (λ (b : Turn). b.next) e in
         let still : IsStill u a = goes (ap (λ (v : Transaction). is_nil v.phase) (sym next) ∙ late) in
         let commits : is_committing c.phase ≡ true → is_committing (transacted f t).next.phase ≡ true = λ h. ap (λ (v : Transaction). is_committing v.phase) next ∙ still.commits h in
-        rest_shows who f d c u a (without_arc d.arcs p) (without_arc (mid_of who f d c) p) next refl
-        (cut_is who d.arcs (without_arc d.arcs p) c p Note.Lost among (cut_off p d.arcs) refl other) still
+        rest_shows who f d c u a (without_arc d.arcs p) (without_arc (mid_of who f d c) p) late next refl
+        (cut_is who d.arcs (without_arc d.arcs p) c p Note.Lost among (cut_off p d.arcs) refl other) (noted_among who d.arcs (without_arc d.arcs p) c p Note.Lost among (cut_off p d.arcs)) still
         (λ q peer. later_cut (is_rolling (transacted f t).next.phase) p q d.arcs (mid_of who f d c) (mid_later who f d c among late commits q (sym (cut_peer who d.arcs c p q Note.Lost) ∙ peer)))
         (arcs_are who f d c late ∙ ap (λ (b : Turn). (performed (mid_of who f d c) b.outs).0) e)
 
-    go : (s : Sight) → sight_of_tx t p DialogueRecord.LeftEnd ≡ s → standing (transacted f t).next ≡ seen who (turned who f d c).next.arcs (left_of (transacted f t).next)
+    go : (s : Sight) → sight_of_tx t p DialogueRecord.LeftEnd ≡ s → IsShown who f d c
     go Acts i = acts (took_is t p DialogueRecord.LeftEnd Acts i ∙ acted) (goes_left p u)
     go Nothing_happens i = goes_shows who f d c among (goes_nowhere t (transacted f t) (took_is t p DialogueRecord.LeftEnd Nothing_happens i)) late
     go Out_of_phase i = goes_shows who f d c among (goes_nowhere t (transacted f t) (took_is t p DialogueRecord.LeftEnd Out_of_phase i)) late
@@ -215,13 +224,13 @@ give_up_shows who d c p among ok late = go (find_row t.rows p) refl
     given r i = ap found i ∙ ap (λ (v : Transaction). and_then (turn (shut r.live) v) complete_commit) (noted_row t p Note.GivenUp)
 
     with_arcs : (r : Row) (arcs mid : List Arc) → find_row t.rows p ≡ Some r → IsCut p d.arcs arcs → ((q : ℕ) → IsLater (is_rolling (transacted f t).next.phase) q d.arcs (mid_of who f d c) → IsLater (is_rolling (transacted f t).next.phase) q arcs mid)
-        → (performed (mid_of who f d c) (shut r.live ++ a.outs)).0 ≡ (performed mid a.outs).0 → standing (transacted f t).next ≡ seen who (turned who f d c).next.arcs (left_of (transacted f t).next)
+        → (performed (mid_of who f d c) (shut r.live ++ a.outs)).0 ≡ (performed mid a.outs).0 → IsShown who f d c
     with_arcs r arcs mid i cut moved outs =
         let e = given r i in
         let next : (transacted f t).next ≡ a.next = ap (λ (b : Turn). b.next) e in
         let still : IsStill u a = goes_commit u (ap (λ (v : Transaction). is_nil v.phase) (sym next) ∙ late) in
         let commits : is_committing c.phase ≡ true → is_committing (transacted f t).next.phase ≡ true = λ h. ap (λ (v : Transaction). is_committing v.phase) next ∙ still.commits h in
-        rest_shows who f d c u a arcs mid next refl (cut_is who d.arcs arcs c p Note.GivenUp among cut refl (below r i)) still
+        rest_shows who f d c u a arcs mid late next refl (cut_is who d.arcs arcs c p Note.GivenUp among cut refl (below r i)) (noted_among who d.arcs arcs c p Note.GivenUp among cut) still
         (λ q peer. moved q (mid_later who f d c among late commits q (sym (cut_peer who d.arcs c p q Note.GivenUp) ∙ peer)))
         (arcs_are who f d c late ∙ ap (λ (b : Turn). (performed (mid_of who f d c) b.outs).0) e ∙ outs)
       where
@@ -238,21 +247,24 @@ give_up_shows who d c p among ok late = go (find_row t.rows p) refl
         let live = found_live d.arcs c.branches p r i in
         grind (arith, closed, live, off)
 
-    put_off_none : (v : Bool) → is_end_deferred_at d.arcs p ≡ v → is_live_with_peer d.arcs p ≡ false → is_end_deferred_at d.arcs p ≡ false
-    put_off_none true h off = absurd (cc (among.put_off p h, off))
-    put_off_none false h off = h
+    peer : (r : Row) → find_row t.rows p ≡ Some r → is_peer c p ≡ true
+    peer r i = or_second (is_under_at c.key p) (has_branch_at c.branches p) (sym (seen_has d.arcs c.branches p) ∙ found_has t.rows p r i)
 
-    by_live : (r : Row) → find_row t.rows p ≡ Some r → (b : Bool) → r.live ≡ b → standing (transacted f t).next ≡ seen who (turned who f d c).next.arcs (left_of (transacted f t).next)
+    put_off_none : (v : Bool) → is_end_deferred_at d.arcs p ≡ v → is_peer c p ≡ true → is_live_with_peer d.arcs p ≡ false → is_end_deferred_at d.arcs p ≡ false
+    put_off_none true h here off = absurd (cc (among.put_off p here h, off))
+    put_off_none false h here off = h
+
+    by_live : (r : Row) → find_row t.rows p ≡ Some r → (b : Bool) → r.live ≡ b → IsShown who f d c
     by_live r i true live =
         with_arcs r (without_arc d.arcs p) (shut_with (mid_of who f d c) p).0 i (cut_off p d.arcs) (λ q k. later_shut (is_rolling (transacted f t).next.phase) p q d.arcs (mid_of who f d c) k)
         (ap (λ b. (performed (mid_of who f d c) (shut b ++ a.outs)).0) live)
     by_live r i false off =
         let no : is_live_with_peer d.arcs p ≡ false = dead r i off in
         with_arcs r d.arcs (mid_of who f d c) i
-        (record { live = no; ends = put_off_none (is_end_deferred_at d.arcs p) refl no; others = λ q other. record { live = refl; ends = refl } })
+        (record { live = no; ends = put_off_none (is_end_deferred_at d.arcs p) refl (peer r i) no; others = λ q other. record { live = refl; ends = refl } })
         (λ q k. k)
         (ap (λ b. (performed (mid_of who f d c) (shut b ++ a.outs)).0) off)
 
-    go : (o : Option Row) → find_row t.rows p ≡ o → standing (transacted f t).next ≡ seen who (turned who f d c).next.arcs (left_of (transacted f t).next)
+    go : (o : Option Row) → find_row t.rows p ≡ o → IsShown who f d c
     go None i = goes_shows who f d c among (goes_nowhere t (transacted f t) (ap found i)) late
     go (Some r) i = by_live r i r.live refl

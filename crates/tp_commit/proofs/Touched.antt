@@ -1,5 +1,5 @@
 -- What an event does to its own arc before it is put to the transaction, and what a Begin does.
-use Rattle.std.proofs.Common.{◌≡◌, ℕ, Bool, true, false, refl, ap, sym, ◌∙◌, arith, Option, Some, None, List, [], ◌∷◌, ◌&&◌, ◌==◌, not, if◌then◌else◌}
+use Rattle.std.proofs.Common.{◌≡◌, ℕ, Bool, true, false, refl, ap, sym, subst, ◌∙◌, arith, Option, Some, None, List, [], ◌∷◌, ◌&&◌, ◌==◌, not, if◌then◌else◌}
 use Rattle.std.proofs.lemmas.Bool.Decides.{nat_tests}
 use Rattle.tp_records.specs.declared.dialogue.DialogueRecord.{DialogueRecord}
 use Rattle.tp_records.specs.declared.dialogue.Holder.{Holder}
@@ -14,10 +14,11 @@ use Rattle.tp_model.specs.Arcs.{find_arc, link_of, is_live_with_peer, with_dialo
 use Rattle.tp_model.specs.Transactions.{Transaction, aaid_of, situation_of, transacted}
 use Rattle.tp_model.specs.Node.{Move, move, perform, is_end_deferred_at, is_superior, with_mark_drawn, seen, remaining, with_begun, may_begin_on, begin_on}
 use Rattle.tp_commit.specs.Branch.{standing}
-use Rattle.tp_commit.specs.Standing.{is_peer, IsAlike, AreAlike, IsPutOff, AreNew, child_on}
+use Rattle.tp_commit.specs.Standing.{is_peer, IsAmongArcs, IsAlike, AreAlike, IsPutOff, AreNew, child_on}
 use Rattle.tp_commit.proofs.Arcs.{alike, alike_then, alike_carried}
 use Rattle.tp_commit.proofs.Passages.{peer_of}
-use Rattle.tp_commit.proofs.Shown.{left_of, peer_is, begun_shown}
+use Rattle.tp_commit.proofs.Among.{left_of, begun_among, among_alike}
+use Rattle.tp_commit.proofs.Shown.{peer_is, begun_shown}
 use Rattle.tp_commit.proofs.Reached.{seen_alike}
 
 -- ---- one dialogue, or one link
@@ -193,14 +194,22 @@ active_late Phase.Ready h = absurd cc
 active_late Phase.Committing h = absurd cc
 active_late Phase.Rolling h = absurd cc
 
-pub begins_behind : (who : Who) (p : ℕ) (d : Digest) (c u : Current) (a : Arc) → d.current ≡ Some c → find_arc d.arcs p ≡ Some a → may_begin_on who d a ≡ true → (begin_on who p d).next.current ≡ Some u
-    → standing (transacted (TxEvent.Begun (child_on who d a ∷ [])) (seen who d.arcs c)).next ≡ seen who (begin_on who p d).next.arcs u
-begins_behind who p d c u a now found may h =
-    ap (λ (t : Transaction). standing (transacted (TxEvent.Begun (child_on who d a ∷ [])) t).next) same
-    ∙ begun_shown who later c (child_on who d a ∷ []) phase.1 new
-    ∙ ap (λ (t : Transaction). seen who later (left_of (transacted (TxEvent.Begun (child_on who d a ∷ [])) t).next)) (sym same)
-    ∙ ap (seen who later) left
-    ∙ ap (λ (m : Move). seen who m.next.arcs u) (sym moved)
+-- behind a Begin a Branch stands for what the node then knows, in order among the arcs where it was so before
+pub record IsBegunAt (who : Who) (p : ℕ) (d : Digest) (c u : Current) (a : Arc) : Type 0 where
+  pub stands : standing (transacted (TxEvent.Begun (child_on who d a ∷ [])) (seen who d.arcs c)).next ≡ seen who (begin_on who p d).next.arcs u
+  pub among : IsAmongArcs d.arcs c → IsAmongArcs (begin_on who p d).next.arcs u
+
+pub begins_behind : (who : Who) (p : ℕ) (d : Digest) (c u : Current) (a : Arc) → d.current ≡ Some c → find_arc d.arcs p ≡ Some a → may_begin_on who d a ≡ true → (begin_on who p d).next.current ≡ Some u → IsBegunAt who p d c u a
+begins_behind who p d c u a now found may h = record {
+  stands =
+      ap (λ (t : Transaction). standing (transacted (TxEvent.Begun (child_on who d a ∷ [])) t).next) same
+      ∙ begun_shown who later c (child_on who d a ∷ []) phase.1 new
+      ∙ ap (λ (t : Transaction). seen who later (left_of (transacted (TxEvent.Begun (child_on who d a ∷ [])) t).next)) (sym same)
+      ∙ ap (seen who later) left
+      ∙ ap (λ (m : Move). seen who m.next.arcs u) (sym moved);
+  among = λ among. subst (λ (m : Move). IsAmongArcs m.next.arcs u) (sym moved) (subst (IsAmongArcs later) (ap (λ (t : Transaction). left_of (transacted (TxEvent.Begun (child_on who d a ∷ [])) t).next) (sym same) ∙ left)
+      (begun_among who later c (child_on who d a ∷ []) (among_alike d.arcs later c among (λ q peer. others q peer (q == p) refl)) phase.1 new));
+}
   where
     moved : begin_on who p d ≡ begun_move who p d c a
     moved = begun_is who p d c a now found may
@@ -241,8 +250,8 @@ begins_behind who p d c u a now found may h =
     none : is_end_deferred_at later p ≡ false
     none = carried_same.ends ∙ ends_with d.arcs p f ∙ ap (λ o. elim o as (λ _. Bool) [ None ↦ false | Some x ↦ is_end_deferred (f x.dialogue).deferral ]) found ∙ begun_none (named_holder a.dialogue) a.dialogue
 
-    new : AreNew (child_on who d a ∷ []) later
-    new = (ap (is_live_with_peer later) here ∙ live, ap (is_end_deferred_at later) here ∙ none, tt)
+    new : AreNew (child_on who d a ∷ []) later c
+    new = (ap (is_live_with_peer later) here ∙ live, ap (is_end_deferred_at later) here ∙ none, can.none, refl, tt)
 
     next : Transaction
     next = (transacted (TxEvent.Begun (child_on who d a ∷ [])) (seen who d.arcs c)).next

@@ -1,6 +1,6 @@
--- A node's current transaction among its arcs: what holds of the two in every legal history, and what has
--- become of the arcs when an event is put to the transaction. No rule stands here: these are the conditions
--- under which a Branch stands for what is known of the node, before an event and behind it.
+-- A node's current transaction among its arcs: in what order the two stand, and what has become of the arcs
+-- when an event is put to the transaction. No rule stands here: these are the conditions under which a Branch
+-- stands for what is known of the node, before an event and behind it.
 use Rattle.std.specs.Prelude.{ℕ, ◌≡◌, ◌==◌, ◌&&◌, ◌||◌, not, Bool, true, false, None, List, [], ◌∷◌}
 use Rattle.tp_names.specs.declared.children.Child.{Child}
 use Rattle.tp_records.specs.declared.request.Request.{Request}
@@ -30,8 +30,8 @@ pub record IsAmongArcs (arcs : List Arc) (c : Current) : Type 0 where
   pub distinct : are_distinct c.branches ≡ true
   -- the superior is no branch
   pub apart : (p : ℕ) → is_under_at c.key p ≡ true → has_branch_at c.branches p ≡ false
-  -- an end is put off on live arcs alone, and in a rollback on none of the transaction's
-  pub put_off : (p : ℕ) → is_end_deferred_at arcs p ≡ true → is_live_with_peer arcs p ≡ true
+  -- an end is put off on its live arcs alone, and in a rollback on none
+  pub put_off : (p : ℕ) → is_peer c p ≡ true → is_end_deferred_at arcs p ≡ true → is_live_with_peer arcs p ≡ true
   pub forgotten : is_rolling c.phase ≡ true → (p : ℕ) → is_peer c p ≡ true → is_end_deferred_at arcs p ≡ false
 
 -- ---- from the arcs before an event to those at which it is put to the transaction
@@ -58,16 +58,21 @@ pub record IsPutOff (p : ℕ) (arcs later : List Arc) : Type 0 where
   pub ends : is_end_deferred_at later p ≡ true
   pub others : (q : ℕ) → (q == p) ≡ false → IsAlike q arcs later
 
--- new branches: on live arcs on which no end is put off
-abbrev pub AreNew : List Child → List Arc → Type 0
-AreNew [] arcs = Unit {0}
-AreNew (x ∷ xs) arcs = (is_live_with_peer arcs x.addr.node ≡ true) × (is_end_deferred_at arcs x.addr.node ≡ false) × AreNew xs arcs
+abbrev pub is_named : List Child → ℕ → Bool
+is_named [] p = false
+is_named (x ∷ xs) p = (x.addr.node == p) || is_named xs p
+
+-- new branches: on live arcs on which no end is put off, none of them the transaction's, each named once
+abbrev pub AreNew : List Child → List Arc → Current → Type 0
+AreNew [] arcs c = Unit {0}
+AreNew (x ∷ xs) arcs c =
+    (is_live_with_peer arcs x.addr.node ≡ true) × (is_end_deferred_at arcs x.addr.node ≡ false) × (is_peer c x.addr.node ≡ false) × (is_named xs x.addr.node ≡ false) × AreNew xs arcs c
 
 -- a deferred end stands on its arc by now, and an arc that is lost is gone; any other event leaves the arcs
 -- as they look. The user aborts a branch and defers an end while the transaction is active, and so is the
 -- superior's deferred end taken; no LeftEnd comes from the superior
 abbrev pub Reaches : TxEvent → Current → List Arc → List Arc → Type 0
-Reaches (TxEvent.Begun cs) c arcs later = (is_rolling c.phase ≡ false) × AreNew cs later × AreAlike arcs later
+Reaches (TxEvent.Begun cs) c arcs later = (is_rolling c.phase ≡ false) × AreNew cs later c × AreAlike arcs later
 Reaches (TxEvent.User (Request.UAbort p)) c arcs later = (is_active c.phase ≡ true) × AreAlike arcs later
 Reaches (TxEvent.User (Request.DeferEnd p)) c arcs later = (is_active c.phase ≡ true) × (is_under_at c.key p ≡ false) × IsPutOff p arcs later
 Reaches (TxEvent.User _) c arcs later = AreAlike arcs later

@@ -5,7 +5,9 @@ use Rattle.tp_commit.proofs.laws.a_branch_stands_behind_every_event.Goals as goa
 pub returns : goal.returns
 returns c = record {
   asks = behind_asks;
-  stands = behind_stands;
+  stands = λ who f d o u arcs among k ok h. (behind_stands who f d o u arcs among k ok h).0;
+  keeps = λ who f d o u arcs among k ok h. (behind_stands who f d o u arcs among k ok h).1;
   over = behind_over;
-  begins = begins_behind;
+  begins = λ who p d o u a now found may h. (begins_behind who p d o u a now found may h).stands;
+  begins_keep = λ who p d o u a among now found may h. (begins_behind who p d o u a now found may h).among among;
 }
