@@ -1,3 +1,4 @@
 pub mod WordText
 pub mod Answers
 pub mod Keywords
+pub mod HasText

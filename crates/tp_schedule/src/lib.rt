@@ -7,6 +7,7 @@
 
 mod cutting;
 mod digits;
+pub mod laws;
 mod line_fault;
 mod line_reading;
 mod log_words;
