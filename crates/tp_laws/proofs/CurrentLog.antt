@@ -17,7 +17,7 @@ named_rows : (rows : List Row) → named_again (branches_of rows) ≡ fresh_bran
 named_rows [] = refl
 named_rows (r ∷ rows) = let rest = named_rows rows in grind (arith, rest)
 
-named_seen : (arcs : List Arc) (bs : List Branch) → named_again bs ≡ fresh_branches (children_of (seen_rows arcs bs))
+pub named_seen : (arcs : List Arc) (bs : List Branch) → named_again bs ≡ fresh_branches (children_of (seen_rows arcs bs))
 named_seen arcs [] = refl
 named_seen arcs (b ∷ bs) = let rest = named_seen arcs bs in grind (arith, rest)
 

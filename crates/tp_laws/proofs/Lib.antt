@@ -86,3 +86,6 @@ pub mod OrderLog
 pub mod Separate
 pub mod Ends
 pub mod Control
+pub mod KinTurns
+pub mod WellMoves
+pub mod WellLog

@@ -42,7 +42,7 @@ use Rattle.tp_laws.proofs.RestartLog.{founded}
 
 -- ---- what comes first in an event
 
-rises : (who : Who) (d : Digest) (e : Event) → d.boot ≤ (prelude who d e).boot
+pub rises : (who : Who) (d : Digest) (e : Event) → d.boot ≤ (prelude who d e).boot
 rises who d e = elim (prelude_drawn who d e) as (λ _. d.boot ≤ (prelude who d e).boot) [ inl h ↦ same d.boot (prelude who d e).boot h.0 | inr h ↦ less d.boot (prelude who d e).boot h ]
   where
     same : (m n : ℕ) → n ≡ m → m ≤ n
@@ -51,7 +51,7 @@ rises who d e = elim (prelude_drawn who d e) as (λ _. d.boot ≤ (prelude who d
     less : (m n : ℕ) → suc m ≤ n → m ≤ n
     less m n h = omega (arith, h)
 
-at_most_le : (m n b : ℕ) → nat_le m n ≡ true → n ≤ b → nat_le m b ≡ true
+pub at_most_le : (m n b : ℕ) → nat_le m n ≡ true → n ≤ b → nat_le m b ≡ true
 at_most_le m n b h i = grind (arith, nat_tests, h, i)
 
 reached_same : (d e : Digest) → e.current ≡ d.current → d.boot ≤ e.boot → IsReached d → IsReached e
@@ -64,7 +64,7 @@ reached_crash d h c is root =
     let one : nat_le (node_key v.0.key).aaid.mark.boot d.boot ≡ true = h v.0 v.1 (ap is_under (sym v.2) ∙ root) in
     at_most_le (node_key c.key).aaid.mark.boot d.boot (suc d.boot) (subst (λ (k : Key). nat_le (node_key k).aaid.mark.boot d.boot ≡ true) (sym v.2) one) (omega arith)
 
-reached_first : (who : Who) (d : Digest) (e : Event) → IsReached d → IsReached (prelude who d e)
+pub reached_first : (who : Who) (d : Digest) (e : Event) → IsReached d → IsReached (prelude who d e)
 reached_first who d (Event.Declare u) h = reached_same d (prelude who d (Event.Declare u)) refl (rises who d (Event.Declare u)) h
 reached_first who d (Event.Do r) h = reached_same d (prelude who d (Event.Do r)) (grind arith) (rises who d (Event.Do r)) h
 reached_first who d (Event.Arrive from (PeerRecord.OnAssoc x y q (DialogueRecord.Begin t b k))) h = go (find_arc d.arcs from.node)
@@ -90,7 +90,7 @@ pub record IsInOrder (o : Origin) (rs : List LogRec) (d : Digest) : Type 0 where
   pub reached : IsReached d
   pub sound : IsSound o.who d
 
-first_boot : (o : Origin) → (digest o []).boot ≡ o.start.boot
+pub first_boot : (o : Origin) → (digest o []).boot ≡ o.start.boot
 unfolding started
 first_boot o = refl
 

@@ -80,7 +80,7 @@ reached_begins who q d = go d.current refl (find_arc d.arcs q)
     go (Some c) i None = (refl, λ h. h)
     go (Some c) i (Some a) = on c i a (not (may_begin_on who d a))
 
-reached_root : (who : Who) (d : Digest) → IsReached (record (with_mark_drawn d) { current = Some (fresh_current (Root (record { owner = who.site; mark = next_mark who d }))) })
+pub reached_root : (who : Who) (d : Digest) → IsReached (record (with_mark_drawn d) { current = Some (fresh_current (Root (record { owner = who.site; mark = next_mark who d }))) })
 reached_root who d c is root =
     let same : fresh_current (Root (record { owner = who.site; mark = next_mark who d })) ≡ c = cc (is) in
     subst (λ (x : Current). nat_le (node_key x.key).aaid.mark.boot d.boot ≡ true) same (itself d.boot)

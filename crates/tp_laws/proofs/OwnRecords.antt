@@ -164,12 +164,12 @@ pub at_unnoted : (n : ℕ) (ks : List Kept) → AreAt n (not_forgotten ks) → A
 at_unnoted n [] h = tt
 at_unnoted n (k ∷ ks) h = (h.0, at_unnoted n ks h.1)
 
-at_among : (n : ℕ) (ks : List Kept) (k : Kept) → AreAt n ks → IsAmong ks k → k.node ≡ n
+pub at_among : (n : ℕ) (ks : List Kept) (k : Kept) → AreAt n ks → IsAmong ks k → k.node ≡ n
 at_among n [] k h i = absurd i
 at_among n (x ∷ xs) k h (inl i) = sym i.0 ∙ h.0
 at_among n (x ∷ xs) k h (inr i) = at_among n xs k h.1 i
 
-settled_own : (n : ℕ) (k : Kept) (f : KeptEvent) → k.node ≡ n → IsOwnRec n (settled k f).rec
+pub settled_own : (n : ℕ) (k : Kept) (f : KeptEvent) → k.node ≡ n → IsOwnRec n (settled k f).rec
 unfolding settled
 settled_own n k (KeptEvent.Done a b r) h = grind (arith, h)
 settled_own n k KeptEvent.Forget h = grind (arith, h)

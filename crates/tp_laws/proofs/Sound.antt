@@ -10,7 +10,7 @@ use Rattle.tp_model.specs.Parts.{Who, Current, Digest}
 use Rattle.tp_model.specs.Dialogues.{is_nil, is_active, is_rolling}
 use Rattle.tp_model.specs.Transactions.{Transaction, node_key, children_of, transacted}
 use Rattle.tp_model.specs.Recovery.{put_kept, without_kept, kept_by, kept_after}
-use Rattle.tp_model.specs.Node.{seen, remaining, turned}
+use Rattle.tp_model.specs.Node.{seen, branches_of, remaining, turned}
 use Rattle.tp_model.specs.Events.{without_current}
 use Rattle.tp_laws.specs.Moves.{IsPut}
 use Rattle.tp_laws.specs.Passages.{may_move, IsPassed}
@@ -77,6 +77,13 @@ left_is t u i = go (is_nil t.phase) refl
     go : (b : Bool) → is_nil t.phase ≡ b → (u.key ≡ t.key) × (u.phase ≡ t.phase) × (u.decision ≡ t.decision) × (is_nil t.phase ≡ false)
     go true j = let no : None ≡ Some u = rw (j, remaining) at i in absurd (cc (no))
     go false j = (grind (arith, i, j), grind (arith, i, j), grind (arith, i, j), j)
+
+pub left_branches : (t : Transaction) (u : Current) → remaining t ≡ Some u → u.branches ≡ branches_of t.rows
+left_branches t u i = go (is_nil t.phase) refl
+  where
+    go : (b : Bool) → is_nil t.phase ≡ b → u.branches ≡ branches_of t.rows
+    go true j = let no : None ≡ Some u = rw (j, remaining) at i in absurd (cc (no))
+    go false j = grind (arith, i, j)
 
 -- a turn that goes on, and does not roll, keeps nothing of its key
 not_kept : (f : TxEvent) (t : Transaction) → IsPut f t → (is_active t.phase ≡ true → t.decision ≡ None) → is_rolling (transacted f t).next.phase ≡ false → is_nil (transacted f t).next.phase ≡ false

@@ -30,7 +30,7 @@ use Rattle.tp_laws.proofs.Late.{late_law}
 use Rattle.tp_laws.proofs.Marks.{Drawn, Same_boot, Later_boot, old_stays, prelude_drawn}
 use Rattle.tp_laws.proofs.TurnLog.{key_self}
 use Rattle.tp_laws.proofs.ApartLog.{logged_key}
-use Rattle.tp_laws.proofs.SoundMoves.{IsOldKey, AreOld, IsSound, IsSoundMove, old_list, sound_same, apart_noted, old_noted, nil_off, sound_moves}
+use Rattle.tp_laws.proofs.SoundMoves.{IsOldKey, AreOld, IsSound, IsSoundMove, old_list, sound_same, apart_noted, keys_noted, nil_off, sound_moves}
 
 -- ---- a Begin that is taken has a key that is not kept
 
@@ -66,7 +66,7 @@ unfound_apart k (x ∷ xs) h = go (is_key x.key k) refl h (unfound_apart k xs)
 abbrev IsSoundFirst : Who → Digest → Digest → Type 0
 IsSoundFirst who d e = IsSound who e × (recovered_current e.current ≡ recovered_current d.current)
 
-drawn_by : (who : Who) (d : Digest) (e : Event) → Drawn d (prelude who d e)
+pub drawn_by : (who : Who) (d : Digest) (e : Event) → Drawn d (prelude who d e)
 drawn_by who d e = elim (prelude_drawn who d e) as (λ _. Drawn d (prelude who d e)) [ inl h ↦ Same_boot h.0 h.1 | inr h ↦ Later_boot h ]
 
 same_first : (who : Who) (d : Digest) (e : Event) → (prelude who d e).current ≡ d.current → (prelude who d e).kept ≡ d.kept → IsSound who d → IsSoundFirst who d (prelude who d e)
@@ -129,7 +129,7 @@ crash_first who d s =
       (
         λ c is rolls. let v = logged_key d.current c is in
             subst (λ (k : Key). AreApart (node_key k) (not_forgotten d.kept)) (sym v.2) (apart_noted (node_key v.0.key) d.kept (s.0 v.0 v.1 v.3)),
-        old_noted who e d.kept (old_list who d e d.kept (Later_boot (omega arith)) s.1),
+        keys_noted (IsOldKey who e) d.kept (old_list who d e d.kept (Later_boot (omega arith)) s.1),
         λ c is i. let v = logged_key d.current c is in
             old_stays who d e (node_key c.key).aaid.mark (Later_boot (omega arith)) (subst (λ (k : Key). IsOldKey who d (node_key k)) (sym v.2) (s.2 v.0 v.1) i),
         λ c is act. absurd (let no = not_active d.current c is in cc (no, act)),

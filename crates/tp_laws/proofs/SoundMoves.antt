@@ -32,9 +32,12 @@ use Rattle.tp_laws.proofs.Sound.{IsKeptBy, apart_after, apart_turned, left_is}
 abbrev pub IsOldKey : Who → Digest → NodeKey → Type 0
 IsOldKey who d k = k.branch ≡ None → is_old who d k.aaid.mark ≡ true
 
+abbrev pub AllKeys : (NodeKey → Type 0) → List Kept → Type 0
+AllKeys P [] = Unit {0}
+AllKeys P (k ∷ ks) = P k.key × AllKeys P ks
+
 abbrev pub AreOld : Who → Digest → List Kept → Type 0
-AreOld who d [] = Unit {0}
-AreOld who d (k ∷ ks) = IsOldKey who d k.key × AreOld who d ks
+AreOld who d ks = AllKeys (IsOldKey who d) ks
 
 -- the current transaction is apart from those that are kept; roots are of marks that are drawn; nothing is decided before ready
 abbrev pub IsSound : Who → Digest → Type 0
@@ -94,77 +97,77 @@ pub apart_unnoted : (k : NodeKey) (ks : List Kept) → AreApart k (not_forgotten
 apart_unnoted k [] h = tt
 apart_unnoted k (x ∷ xs) h = (h.0, apart_unnoted k xs h.1)
 
-pub old_noted : (who : Who) (d : Digest) (ks : List Kept) → AreOld who d ks → AreOld who d (not_forgotten ks)
-old_noted who d [] h = tt
-old_noted who d (x ∷ xs) h = (h.0, old_noted who d xs h.1)
+pub keys_noted : (P : NodeKey → Type 0) (ks : List Kept) → AllKeys P ks → AllKeys P (not_forgotten ks)
+keys_noted P [] h = tt
+keys_noted P (x ∷ xs) h = (h.0, keys_noted P xs h.1)
 
-pub old_unnoted : (who : Who) (d : Digest) (ks : List Kept) → AreOld who d (not_forgotten ks) → AreOld who d ks
-old_unnoted who d [] h = tt
-old_unnoted who d (x ∷ xs) h = (h.0, old_unnoted who d xs h.1)
+pub keys_unnoted : (P : NodeKey → Type 0) (ks : List Kept) → AllKeys P (not_forgotten ks) → AllKeys P ks
+keys_unnoted P [] h = tt
+keys_unnoted P (x ∷ xs) h = (h.0, keys_unnoted P xs h.1)
 
 pub sound_noted : (who : Who) (d : Digest) (ks : List Kept) → not_forgotten ks ≡ not_forgotten d.kept → IsSound who d → IsSound who (record d { kept = ks })
 sound_noted who d ks held is = (
   λ c now rolls. apart_unnoted (node_key c.key) ks (subst (λ (xs : List Kept). AreApart (node_key c.key) xs) (sym held) (apart_noted (node_key c.key) d.kept (is.0 c now rolls))),
-  old_unnoted who d ks (subst (λ (xs : List Kept). AreOld who d xs) (sym held) (old_noted who d d.kept is.1)),
+  keys_unnoted (IsOldKey who d) ks (subst (λ (xs : List Kept). AreOld who d xs) (sym held) (keys_noted (IsOldKey who d) d.kept is.1)),
   is.2,
   is.3,
 )
 
 -- ---- records
 
-old_put : (who : Who) (d : Digest) (ks : List Kept) (x : Kept) → AreOld who d ks → IsOldKey who d x.key → AreOld who d (put_kept ks x)
-old_put who d [] x h i = (i, tt)
-old_put who d (y ∷ ys) x h i = go (is_key y.key x.key) refl (old_put who d ys x h.1 i)
+pub keys_put : (P : NodeKey → Type 0) (ks : List Kept) (x : Kept) → AllKeys P ks → P x.key → AllKeys P (put_kept ks x)
+keys_put P [] x h i = (i, tt)
+keys_put P (y ∷ ys) x h i = go (is_key y.key x.key) refl (keys_put P ys x h.1 i)
   where
-    go : (b : Bool) → is_key y.key x.key ≡ b → AreOld who d (put_kept ys x) → AreOld who d (put_kept (y ∷ ys) x)
+    go : (b : Bool) → is_key y.key x.key ≡ b → AllKeys P (put_kept ys x) → AllKeys P (put_kept (y ∷ ys) x)
     go true j rest = rw (j, put_kept) (i, h.1)
     go false j rest = rw (j, put_kept) (h.0, rest)
 
-old_without : (who : Who) (d : Digest) (ks : List Kept) (k : NodeKey) → AreOld who d ks → AreOld who d (without_kept ks k)
-old_without who d [] k h = tt
-old_without who d (y ∷ ys) k h = go (is_key y.key k) refl (old_without who d ys k h.1)
+pub keys_without : (P : NodeKey → Type 0) (ks : List Kept) (k : NodeKey) → AllKeys P ks → AllKeys P (without_kept ks k)
+keys_without P [] k h = tt
+keys_without P (y ∷ ys) k h = go (is_key y.key k) refl (keys_without P ys k h.1)
   where
-    go : (b : Bool) → is_key y.key k ≡ b → AreOld who d (without_kept ys k) → AreOld who d (without_kept (y ∷ ys) k)
+    go : (b : Bool) → is_key y.key k ≡ b → AllKeys P (without_kept ys k) → AllKeys P (without_kept (y ∷ ys) k)
     go true j rest = rw (j, without_kept) h.1
     go false j rest = rw (j, without_kept) (h.0, rest)
 
--- a record that keeps a transaction keeps one of an old key
-abbrev pub KeepsOld : Who → Digest → Option LogRec → Type 0
-KeepsOld who d (Some (LogRec.Damage n j s o r cs)) = IsOldKey who d j
-KeepsOld who d _ = Unit {0}
+-- a record that keeps a transaction keeps one of such a key
+abbrev pub KeepsKeys : (NodeKey → Type 0) → Option LogRec → Type 0
+KeepsKeys P (Some (LogRec.Damage n j s o r cs)) = P j
+KeepsKeys P _ = Unit {0}
 
-pub old_after : (who : Who) (d : Digest) (r : Option LogRec) (ks : List Kept) → AreOld who d ks → KeepsOld who d r → AreOld who d (kept_after r ks)
+pub keys_after : (P : NodeKey → Type 0) (r : Option LogRec) (ks : List Kept) → AllKeys P ks → KeepsKeys P r → AllKeys P (kept_after r ks)
 unfolding kept_by
-old_after who d None ks h i = h
-old_after who d (Some (LogRec.Boot n)) ks h i = h
-old_after who d (Some (LogRec.Ready n j s cs)) ks h i = h
-old_after who d (Some (LogRec.Heuristic n j o)) ks h i = h
-old_after who d (Some (LogRec.Commit n j s cs)) ks h i = h
-old_after who d (Some (LogRec.Damage n j s o r cs)) ks h i = old_put who d ks (record { node = n; key = j; superior = s; side = o; report = r; owed = cs; forgot = false }) h i
-old_after who d (Some (LogRec.End n j o)) ks h i = old_without who d ks j h
+keys_after P None ks h i = h
+keys_after P (Some (LogRec.Boot n)) ks h i = h
+keys_after P (Some (LogRec.Ready n j s cs)) ks h i = h
+keys_after P (Some (LogRec.Heuristic n j o)) ks h i = h
+keys_after P (Some (LogRec.Commit n j s cs)) ks h i = h
+keys_after P (Some (LogRec.Damage n j s o r cs)) ks h i = keys_put P ks (record { node = n; key = j; superior = s; side = o; report = r; owed = cs; forgot = false }) h i
+keys_after P (Some (LogRec.End n j o)) ks h i = keys_without P ks j h
 
-logged_old : (who : Who) (d : Digest) (t u : Transaction) (r : Option LogRec) → IsLogged t r u → IsOldKey who d (node_key t.key) → KeepsOld who d r
-logged_old who d t u None h i = tt
-logged_old who d t u (Some (LogRec.Boot n)) h i = tt
-logged_old who d t u (Some (LogRec.Ready n j s cs)) h i = tt
-logged_old who d t u (Some (LogRec.Heuristic n j o)) h i = tt
-logged_old who d t u (Some (LogRec.Commit n j s cs)) h i = tt
-logged_old who d t u (Some (LogRec.Damage n j s o r cs)) h i = subst (λ (k : NodeKey). IsOldKey who d k) (sym h.0) i
-logged_old who d t u (Some (LogRec.End n j o)) h i = tt
+pub logged_keys : (P : NodeKey → Type 0) (t u : Transaction) (r : Option LogRec) → IsLogged t r u → P (node_key t.key) → KeepsKeys P r
+logged_keys P t u None h i = tt
+logged_keys P t u (Some (LogRec.Boot n)) h i = tt
+logged_keys P t u (Some (LogRec.Ready n j s cs)) h i = tt
+logged_keys P t u (Some (LogRec.Heuristic n j o)) h i = tt
+logged_keys P t u (Some (LogRec.Commit n j s cs)) h i = tt
+logged_keys P t u (Some (LogRec.Damage n j s o r cs)) h i = subst (λ (k : NodeKey). P k) (sym h.0) i
+logged_keys P t u (Some (LogRec.End n j o)) h i = tt
 
-kept_old : (who : Who) (d : Digest) (k : NodeKey) (r : Option LogRec) → IsOfKept k r → IsOldKey who d k → KeepsOld who d r
-kept_old who d k None h i = tt
-kept_old who d k (Some (LogRec.Boot n)) h i = tt
-kept_old who d k (Some (LogRec.Ready n j s cs)) h i = tt
-kept_old who d k (Some (LogRec.Heuristic n j o)) h i = tt
-kept_old who d k (Some (LogRec.Commit n j s cs)) h i = tt
-kept_old who d k (Some (LogRec.Damage n j s o r cs)) h i = subst (λ (x : NodeKey). IsOldKey who d x) (sym h) i
-kept_old who d k (Some (LogRec.End n j o)) h i = tt
+pub kept_keys : (P : NodeKey → Type 0) (k : NodeKey) (r : Option LogRec) → IsOfKept k r → P k → KeepsKeys P r
+kept_keys P k None h i = tt
+kept_keys P k (Some (LogRec.Boot n)) h i = tt
+kept_keys P k (Some (LogRec.Ready n j s cs)) h i = tt
+kept_keys P k (Some (LogRec.Heuristic n j o)) h i = tt
+kept_keys P k (Some (LogRec.Commit n j s cs)) h i = tt
+kept_keys P k (Some (LogRec.Damage n j s o r cs)) h i = subst (λ (x : NodeKey). P x) (sym h) i
+kept_keys P k (Some (LogRec.End n j o)) h i = tt
 
-pub old_among : (who : Who) (d : Digest) (ks : List Kept) (k : Kept) → AreOld who d ks → IsAmong ks k → IsOldKey who d k.key
-old_among who d [] k h i = absurd i
-old_among who d (x ∷ xs) k h (inl i) = subst (λ (j : NodeKey). IsOldKey who d j) i.1 h.0
-old_among who d (x ∷ xs) k h (inr i) = old_among who d xs k h.1 i
+pub keys_among : (P : NodeKey → Type 0) (ks : List Kept) (k : Kept) → AllKeys P ks → IsAmong ks k → P k.key
+keys_among P [] k h i = absurd i
+keys_among P (x ∷ xs) k h (inl i) = subst (λ (j : NodeKey). P j) i.1 h.0
+keys_among P (x ∷ xs) k h (inr i) = keys_among P xs k h.1 i
 
 same_kept : (a b : NodeKey) (r : Option LogRec) → IsOfKept a r → IsKeptBy b r → a ≡ b
 same_kept a b None h i = absurd i
@@ -182,7 +185,7 @@ sound_keeps who d k f among s =
     let own : IsOfKept k.key (settled k f).rec = settled_of k f in (
       (
         λ c is rolls. apart_after (node_key c.key) (settled k f).rec d.kept (s.0 c is rolls) (λ kept. apart_among (node_key c.key) d.kept k (s.0 c is rolls) among (same_kept k.key (node_key c.key) (settled k f).rec own kept)),
-        old_after who d (settled k f).rec d.kept s.1 (kept_old who d k.key (settled k f).rec own (old_among who d d.kept k s.1 among)),
+        keys_after (IsOldKey who d) (settled k f).rec d.kept s.1 (kept_keys (IsOldKey who d) k.key (settled k f).rec own (keys_among (IsOldKey who d) d.kept k s.1 among)),
         s.2,
         s.3,
       ),
@@ -197,7 +200,7 @@ sound_turned who f d c now put s =
     let told : IsTold t a = told_turn f t put (s.3 c now) in (
       (
         apart_turned who f d c now put (s.3 c now) s.0,
-        old_after who d a.rec d.kept s.1 (logged_old who d t a.next a.rec passed.logs (s.2 c now)),
+        keys_after (IsOldKey who d) a.rec d.kept s.1 (logged_keys (IsOldKey who d) t a.next a.rec passed.logs (s.2 c now)),
         λ u is. subst (λ (k : Key). IsOldKey who d (node_key k)) (sym ((left_is a.next u is).0 ∙ passed.key)) (s.2 c now),
         λ u is act. let left = left_is a.next u is in left.2 ∙ told.undecided (ap is_active (sym left.1) ∙ act),
       ),

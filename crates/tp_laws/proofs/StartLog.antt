@@ -23,7 +23,7 @@ use Rattle.tp_laws.specs.Standing.{AreApart}
 use Rattle.tp_laws.specs.Restart.{is_earlier, are_earlier}
 use Rattle.tp_laws.proofs.Equal.{and_left, and_right, both_true}
 use Rattle.tp_laws.proofs.KeptLog.{from_unnoted}
-use Rattle.tp_laws.proofs.SoundMoves.{IsOldKey, AreOld, KeepsOld, IsSound, old_after}
+use Rattle.tp_laws.proofs.SoundMoves.{IsOldKey, AreOld, KeepsKeys, IsSound, keys_after}
 use Rattle.tp_laws.proofs.SoundLog.{not_active}
 use Rattle.tp_laws.proofs.StandLog.{last_at, Nothing, AreKept, IsFit, stands_bound, no_both}
 use Rattle.tp_laws.proofs.StepLog.{none_boots, fit_step}
@@ -158,7 +158,7 @@ earlier_by boot (LogRec.Commit n k s cs) o e h = earlier_logged boot k s Phase.C
 earlier_by boot (LogRec.Damage n k s u w cs) o e h = earlier_without boot k o h
 earlier_by boot (LogRec.End n k u) o e h = earlier_without boot k o h
 
-earlier_keeps : (who : Who) (d : Digest) (r : LogRec) → is_earlier_rec d.boot r ≡ true → KeepsOld who d (Some r)
+earlier_keeps : (who : Who) (d : Digest) (r : LogRec) → is_earlier_rec d.boot r ≡ true → KeepsKeys (IsOldKey who d) (Some r)
 earlier_keeps who d (LogRec.Boot n) e = tt
 earlier_keeps who d (LogRec.Ready n k s cs) e = tt
 earlier_keeps who d (LogRec.Heuristic n k u) e = tt
@@ -171,7 +171,7 @@ earlier_from : (who : Who) (d : Digest) (rs : List LogRec) (o : Option Current) 
 earlier_from who d [] o ks e h i = (h, i)
 earlier_from who d (r ∷ rs) o ks e h i =
     let one : is_earlier_rec d.boot r ≡ true = and_left (is_earlier_rec d.boot r) (are_earlier d.boot rs) e in
-    earlier_from who d rs (current_by r o) (kept_by r ks) (and_right (is_earlier_rec d.boot r) (are_earlier d.boot rs) e) (earlier_by d.boot r o one h) (old_after who d (Some r) ks i (earlier_keeps who d r one))
+    earlier_from who d rs (current_by r o) (kept_by r ks) (and_right (is_earlier_rec d.boot r) (are_earlier d.boot rs) e) (earlier_by d.boot r o one h) (keys_after (IsOldKey who d) (Some r) ks i (earlier_keeps who d r one))
 
 -- ---- the start
 

@@ -23,7 +23,7 @@ ghost use Rattle.tp_model.specs.Events.{refusal, action};
 ghost use Rattle.tp_model.specs.Promises.{AllLegal, IsIn, PrefixTaken, OneHolder, WhatUsersSee, OneOutcome, IsOf, IsBranchOf, is_of_tree, has_logged};
 ghost use Rattle.tp_model.specs.World.{Node};
 ghost use Rattle.tp_model.specs.Outcomes.{decided, rolled, has_left};
-ghost use Rattle.tp_model.specs.Legal.{IsGrown, are_in_order};
+ghost use Rattle.tp_model.specs.Legal.{IsGrown, is_start, are_in_order};
 ghost use Rattle.tp_laws.specs.Worlds.{IsGood};
 ghost use Rattle.tp_laws.specs.Moves.{IsPut, IsLate, IsAmong, prelude};
 ghost use Rattle.tp_laws.specs.Facts.{IsFair, IsHeard, Reads};
@@ -36,7 +36,7 @@ ghost use Rattle.tp_laws.specs.Heeded.{HeedsBranches};
 ghost use Rattle.tp_laws.specs.Ends.{are_separate, IsAlone};
 ghost use Rattle.tp_laws.specs.Control.{TookBack, TookMore};
 ghost use Rattle.tp_laws.specs.Upward.{IsRising, IsRisen, SpeaksUp};
-ghost use Rattle.tp_laws.specs.Restart.{IsFounded};
+ghost use Rattle.tp_laws.specs.Restart.{are_earlier, IsFounded};
 ghost use Rattle.tp_laws.specs.Standing.{IsUndecided, IsTold, current_after, IsApart};
 ghost use Rattle.tp_model.specs.Events.{recovered_current};
 ghost use Rattle.tp_model.specs.Node.{seen, turned, keep};
@@ -219,4 +219,11 @@ pub fn restart_is_a_crash()
 pub fn records_stay_in_order()
     ensures history { (o : Origin) (up : Option Addr) (h : List Entry) → IsFounded o up h → are_in_order o h ≡ true }
     ensures run { (es : List Happening) (x : Node) → IsIn (run es) x → are_in_order x.origin x.history ≡ true }
+{}
+
+/// The records of a node's log are such as its next start may find: in every run, and in every legal history whose log
+/// held no root of a later boot at first. Nor does it hold one then.
+pub fn the_next_start_finds_its_records()
+    ensures history { (o : Origin) (up : Option Addr) (h : List Entry) → IsFounded o up h → (is_start (again o h) ≡ true) × (are_earlier (again o h).start.boot (again o h).start.records ≡ true) }
+    ensures run { (es : List Happening) (x : Node) → IsIn (run es) x → is_start (again x.origin x.history) ≡ true }
 {}
