@@ -100,7 +100,7 @@ bound_below es t ready left r (suc k) y false i le of =
     ]
 
 -- a ready branch rolls only with its superior
-rolls_up : (es : List Happening) → UnknownIsRolled (run es) → (t : Aaid) (b : BranchId) (x y : Node) → IsBranchOf (run es) t b x y → has_logged (is_ready_of t b) y ≡ true → rolled y.origin t y.history ≡ true → rolled x.origin t x.history ≡ true
+pub rolls_up : (es : List Happening) → UnknownIsRolled (run es) → (t : Aaid) (b : BranchId) (x y : Node) → IsBranchOf (run es) t b x y → has_logged (is_ready_of t b) y ≡ true → rolled y.origin t y.history ≡ true → rolled x.origin t x.history ≡ true
 rolls_up es up t b x y branch voted roll = elim (ready_rolls es t b x y branch voted roll) [ inl r ↦ r | inr u ↦ up t b x y branch voted roll u ]
 
 -- and did not roll

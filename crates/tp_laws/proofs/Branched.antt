@@ -42,7 +42,7 @@ branched_then who e s d a f one two = record { branches = λ p n h. let y = two.
     go p n b (inl old) k = let x = one.branches p b old in (x.0, x.1, moved_over who e s p x.0 b n x.2 k)
 
 -- a row of what remains
-row_left : (u : Transaction) (p : ℕ) (c : Current) (n : Branch) → remaining u ≡ Some c → find_branch c.branches p ≡ Some n → (r : Row) × (find_row u.rows p ≡ Some r) × (r.branch ≡ n)
+pub row_left : (u : Transaction) (p : ℕ) (c : Current) (n : Branch) → remaining u ≡ Some c → find_branch c.branches p ≡ Some n → (r : Row) × (find_row u.rows p ≡ Some r) × (r.branch ≡ n)
 row_left u p c n is found = go (is_nil u.phase) refl
   where
     go : (b : Bool) → is_nil u.phase ≡ b → (r : Row) × (find_row u.rows p ≡ Some r) × (r.branch ≡ n)
@@ -63,7 +63,7 @@ row_left u p c n is found = go (is_nil u.phase) refl
             some_branch x y h = cc (h)
 
 -- a row that is seen
-row_seen : (arcs : List Arc) (bs : List Branch) (p : ℕ) (r : Row) → find_row (seen_rows arcs bs) p ≡ Some r → find_branch bs p ≡ Some r.branch
+pub row_seen : (arcs : List Arc) (bs : List Branch) (p : ℕ) (r : Row) → find_row (seen_rows arcs bs) p ≡ Some r → find_branch bs p ≡ Some r.branch
 row_seen arcs bs p r h = go (find_branch bs p) refl
   where
     at : elim (find_branch bs p) as (λ _. Option Row) [ None ↦ None | Some b ↦ Some (seen_row arcs b) ] ≡ Some r

@@ -10,14 +10,15 @@ use Rattle.tp_records.specs.declared.indication.Indication.{Indication}
 use Rattle.tp_records.specs.declared.dialogue.DialogueRecord.{DialogueRecord}
 use Rattle.tp_records.specs.declared.peer.RecState.{RecState}
 use Rattle.tp_logrec.specs.declared.record.LogRec.{LogRec}
+use Rattle.tp_model.specs.declared.arc.Phase.{Phase}
 use Rattle.tp_model.specs.declared.transaction.TxEvent.{TxEvent}
 use Rattle.tp_model.specs.declared.transaction.TxOut.{TxOut}
-use Rattle.tp_model.specs.Parts.{Key, Root, Under}
-use Rattle.tp_model.specs.Dialogues.{is_nil, is_active}
-use Rattle.tp_model.specs.Transactions.{Row, Transaction, turn, and_then, aaid_of, is_under_at, find_row, find_row_by_id, with_row, with_arc_lost, carry_up, carry_down, tell_report, log_ready, log_commit, rollback_rec, begin_rolling, order, all_prepared, ask_commit, count_branch, end_branch, branch_left, retried, transacted}
+use Rattle.tp_model.specs.Parts.{Key, Root, Under, Branch}
+use Rattle.tp_model.specs.Dialogues.{is_nil, is_active, is_committing, is_rolling}
+use Rattle.tp_model.specs.Transactions.{Row, Transaction, turn, and_then, aaid_of, is_under_at, find_row, find_row_by_id, with_row, with_arc_lost, carry_up, carry_down, tell_report, log_ready, log_commit, rollback_rec, begin_rolling, order, all_prepared, ask_commit, count_branch, end_branch, branch_left, retried, is_open_in_commit, transacted}
 use Rattle.tp_model.specs.History.{with_rec}
 use Rattle.tp_laws.specs.Turns.{Turns, falls, loses, is_left_word, vote, decide, shut_given_up, row_dead}
-use Rattle.tp_laws.specs.Facts.{spoken, stays, is_begin, is_vote, is_order, is_rollback, is_end, none_of, BranchKey, each_under, each_vote, is_voted, is_ordered, is_rolled, open_now, sees_row, sees, closes, HasPlace, Knows, IsFair}
+use Rattle.tp_laws.specs.Facts.{spoken, stays, is_begin, is_vote, is_order, is_rollback, is_end, ends_in_phase, none_of, BranchKey, each_under, each_vote, is_voted, is_ordered, is_rolled, open_now, sees_row, sees, closes, HasPlace, Knows, IsFair}
 use Rattle.tp_laws.proofs.Words.{spoken_append, stays_append, none_append, none_under, none_vote, none_ends, under_const, both}
 use Rattle.tp_laws.proofs.EveryTurn.{every_turn}
 use Rattle.tp_laws.specs.Moves.{IsPut}
@@ -172,7 +173,7 @@ fair_close e s p t outs q f none peer id seen closed =
     other true i c = absurd (closed i c)
     other false i c = let same : find_row (with_row t q f).rows p ≡ find_row t.rows p = row_with t q f p peer ∙ rw i refl in rw same (at_most_self (row_open (find_row t.rows p)))
 
-took_closes : (q p : ℕ) (r : DialogueRecord) (s : Transaction) → is_end r ≡ true → (q == p) ≡ true → closes (TxEvent.Took q r) s p ≡ 0 → ⊥
+took_closes : (q p : ℕ) (r : DialogueRecord) (s : Transaction) → ends_in_phase r s.phase ≡ true → (q == p) ≡ true → closes (TxEvent.Took q r) s p ≡ 0 → ⊥
 took_closes q p r s h i c = absurd (grind (arith, h, i, c))
 
 fair_end : (e : TxEvent) (s : Transaction) (p q : ℕ) (r : Report) (t : Transaction) → ((q == p) ≡ true → closes e s p ≡ 0 → ⊥) → IsFair e s p t (end_branch q r t)
@@ -331,15 +332,22 @@ fair_gives_up e s p q r found =
 
 -- ---- the steps
 
-replied_closes : (b : BranchId) (w : Row) (r : Report) (s : Transaction) (p : ℕ) → find_row_by_id s.rows b ≡ Some w → (w.branch.peer.node == p) ≡ true → closes (TxEvent.Reply b (RecState.Done r)) s p ≡ 0 → ⊥
-replied_closes b w r s p found i c = absurd (grind (arith, found, i, c))
+replied_closes : (b : BranchId) (w : Row) (r : Report) (s : Transaction) (p : ℕ) → find_row_by_id s.rows b ≡ Some w → is_committing s.phase ≡ true → (w.branch.peer.node == p) ≡ true → closes (TxEvent.Reply b (RecState.Done r)) s p ≡ 0 → ⊥
+replied_closes b w r s p found o i c = absurd (grind (arith, found, o, i, c))
 
-left_word_ends : (w : DialogueRecord) → is_left_word w ≡ true → is_end w ≡ true
-left_word_ends DialogueRecord.Left h = refl
-left_word_ends DialogueRecord.LeftEnd h = refl
-left_word_ends w h = absurd (grind (arith, h))
+same_phase : (s t : Transaction) (q : ℕ) → (t ≡ s) ⊎ (t ≡ with_row s q row_dead) → s.phase ≡ t.phase
+same_phase s t q (inl i) = ap (λ (u : Transaction). u.phase) (sym i)
+same_phase s t q (inr i) = sym (ap (λ (u : Transaction). u.phase) i ∙ row_phase s q row_dead)
 
-took_event : (e : TxEvent) (q p : ℕ) (r : DialogueRecord) (s : Transaction) → e ≡ TxEvent.Took q r → is_end r ≡ true → (q == p) ≡ true → closes e s p ≡ 0 → ⊥
+open_phase : (s : Transaction) (b : Branch) → is_open_in_commit s b ≡ true → is_committing s.phase ≡ true
+open_phase s b h = grind (arith, h)
+
+left_word_ends : (w : DialogueRecord) (p : Phase) → is_left_word w ≡ true → (is_active p || is_rolling p) ≡ true → ends_in_phase w p ≡ true
+left_word_ends DialogueRecord.Left p h i = i
+left_word_ends DialogueRecord.LeftEnd p h i = i
+left_word_ends w p h i = absurd (grind (arith, h))
+
+took_event : (e : TxEvent) (q p : ℕ) (r : DialogueRecord) (s : Transaction) → e ≡ TxEvent.Took q r → ends_in_phase r s.phase ≡ true → (q == p) ≡ true → closes e s p ≡ 0 → ⊥
 took_event e q p r s is h i c = took_closes q p r s h i (ap (λ (f : TxEvent). closes f s p) (sym is) ∙ c)
 
 pub fair_turns : (e : TxEvent) (s : Transaction) (p : ℕ) → Turns e s (IsFair e s p)
@@ -369,11 +377,11 @@ fair_turns e s p = record {
   closes_left = λ q is. fair_closes_left e s p q;
   gives_up = λ q r is c found. fair_gives_up e s p q r found;
   counts = λ q is act row. fair_count e s p q s;
-  ends_done = λ q r is c row. fair_end e s p q r s (λ i z. took_event e q p (DialogueRecord.Done r) s is refl i z);
-  ends_replied = λ b w r is found o. fair_end e s p w.branch.peer.node r s (λ i z. replied_closes b w r s p found i (ap (λ (f : TxEvent). closes f s p) (sym is) ∙ z));
-  ends_rolled = λ q r is c row. fair_end e s p q r s (λ i z. took_event e q p (DialogueRecord.RolledBack r) s is refl i z);
-  leaves_below = λ q w t is left at act. fair_left e s p q t (λ i z. took_event e q p w s is (left_word_ends w left) i z);
-  leaves_rolling = λ q w t is left at c. fair_end e s p q Report.None t (λ i z. took_event e q p w s is (left_word_ends w left) i z);
+  ends_done = λ q r is c row. fair_end e s p q r s (λ i z. took_event e q p (DialogueRecord.Done r) s is c i z);
+  ends_replied = λ b w r is found o. fair_end e s p w.branch.peer.node r s (λ i z. replied_closes b w r s p found (open_phase s w.branch o) i (ap (λ (f : TxEvent). closes f s p) (sym is) ∙ z));
+  ends_rolled = λ q r is c row. fair_end e s p q r s (λ i z. took_event e q p (DialogueRecord.RolledBack r) s is c i z);
+  leaves_below = λ q w t is left at act. fair_left e s p q t (λ i z. took_event e q p w s is (left_word_ends w s.phase left (ap (λ (v : Phase). is_active v || is_rolling v) (same_phase s t q at) ∙ (rw act refl))) i z);
+  leaves_rolling = λ q w t is left at c. fair_end e s p q Report.None t (λ i z. took_event e q p w s is (left_word_ends w s.phase left (ap (λ (v : Phase). is_active v || is_rolling v) (same_phase s t q at) ∙ (rw c (grind arith)))) i z);
   votes = λ t act asked all under. fair_vote e s p t act;
   orders_root = λ t act asked all root. fair_order e s p t (grind (arith, act));
   orders_ready = λ ready is. fair_order e s p s (grind (arith, ready));

@@ -89,7 +89,7 @@ taking_begin : (q : Transaction) (p : ℕ) (u : Aaid) (b : BranchId) (h : Holder
 unfolding sight_of_tx
 taking_begin q p u b h = refl
 
-some_same : (x y : Current) → Some x ≡ Some y → x ≡ y
+pub some_same : (x y : Current) → Some x ≡ Some y → x ≡ y
 some_same x y h = cc (h)
 
 now_remaining : (t : Aaid) (u : Transaction) → is_nil u.phase ≡ false → is_aaid t (aaid_of u.key) ≡ true → is_now t (remaining u) ≡ true
@@ -242,12 +242,12 @@ staying_moves who e t p s = record {
   };
 }
 
-staying_event : (who : Who) (d : Digest) (e : Event) (t : Aaid) (p : ℕ) → IsLate d → refusal who d e ≡ None → IsStaying e t p (prelude who d e) (prelude who d e) (action who d e)
+pub staying_event : (who : Who) (d : Digest) (e : Event) (t : Aaid) (p : ℕ) → IsLate d → refusal who d e ≡ None → IsStaying e t p (prelude who d e) (prelude who d e) (action who d e)
 staying_event who d e t p late ok = every_move who d e (IsStaying e t p (prelude who d e)) (staying_moves who e t p (prelude who d e)) late ok
 
 -- ---- every legal history
 
-member_head : (o : Origin) (t : Aaid) (h : List Entry) → is_now t (digest o h).current ≡ true → is_member o t h ≡ true
+pub member_head : (o : Origin) (t : Aaid) (h : List Entry) → is_now t (digest o h).current ≡ true → is_member o t h ≡ true
 member_head o t [] n = n
 member_head o t (e ∷ h) n = rw n refl
 
@@ -332,10 +332,10 @@ member_how o up (e ∷ h) t empty legal m = go (or_case (is_now t (digest o (e �
 
 -- ---- every run
 
-addr_same : (a : Addr) → is_addr a a ≡ true
+pub addr_same : (a : Addr) → is_addr a a ≡ true
 addr_same a = grind (arith, nat_tests, name_same a.site)
 
-began_from : (h : List Entry) (from : Addr) (x y : Mark) (q : ℕ) (t : Aaid) (b : BranchId) (i : Holder) → TookOn h from x y q (DialogueRecord.Begin t b i) → has_begun t b from h ≡ true
+pub began_from : (h : List Entry) (from : Addr) (x y : Mark) (q : ℕ) (t : Aaid) (b : BranchId) (i : Holder) → TookOn h from x y q (DialogueRecord.Begin t b i) → has_begun t b from h ≡ true
 began_from [] from x y q t b i k = absurd k
 began_from (e ∷ h) from x y q t b i (inr k) = let r = began_from h from x y q t b i k in rw r (grind arith)
 began_from (e ∷ h) from x y q t b i (inl k) =

@@ -207,7 +207,7 @@ heard_begins who e d s q p sup fall shut reads same lives = go d.current refl (f
 
 -- ---- the steps
 
-nil_under : (d : Digest) (p : ℕ) → is_nil (phase_of d) ≡ true → (under_at d.current p ≡ 0) × (open_at d.current p ≡ 0) × (key_at d.current p ≡ None)
+pub nil_under : (d : Digest) (p : ℕ) → is_nil (phase_of d) ≡ true → (under_at d.current p ≡ 0) × (open_at d.current p ≡ 0) × (key_at d.current p ≡ None)
 nil_under d p h = go d.current refl
   where
     go : (o : Option Current) → d.current ≡ o → (under_at o p ≡ 0) × (open_at o p ≡ 0) × (key_at o p ≡ None)

@@ -65,6 +65,15 @@ pub mod Orders
 pub mod Committed
 pub mod Family
 pub mod Heeded
+pub mod Marked
+pub mod Settled
+pub mod Closing
+pub mod SettledAt
+pub mod Accounts
+pub mod AccountSteps
+pub mod AccountLaw
+pub mod LeftDown
+pub mod BelowRuns
 pub mod Lanes
 pub mod KeptLog
 pub mod OwnRecords

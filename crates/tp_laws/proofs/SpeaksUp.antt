@@ -46,15 +46,15 @@ some_current : (a b : Current) → Some a ≡ Some b → a ≡ b
 some_current a b h = cc (h)
 
 -- a tree that commits or rolls there did so before
-record Before (d : Digest) (c : Current) : Type 0 where
-  now : is_now (aaid_of c.key) d.current ≡ true
-  phase : phase_of d ≡ c.phase
+pub record Before (d : Digest) (c : Current) : Type 0 where
+  pub now : is_now (aaid_of c.key) d.current ≡ true
+  pub phase : phase_of d ≡ c.phase
 
 recovered_before : (o : Option Current) (c : Current) → recovered_current o ≡ Some c → (u : Current) × (o ≡ Some u) × (c.key ≡ u.key) × (c.phase ≡ u.phase)
 recovered_before None c h = absurd cc
 recovered_before (Some u) c h = (u, refl, grind (arith, h), grind (arith, h))
 
-before : (who : Who) (d : Digest) (e : Event) (c : Current) → refusal who d e ≡ None → (prelude who d e).current ≡ Some c → is_active c.phase ≡ false → Before d c
+pub before : (who : Who) (d : Digest) (e : Event) (c : Current) → refusal who d e ≡ None → (prelude who d e).current ≡ Some c → is_active c.phase ≡ false → Before d c
 before who d e c ok at past = go (came_by who d e ok)
   where
     go : Came who d e → Before d c

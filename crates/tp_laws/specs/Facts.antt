@@ -8,10 +8,11 @@ use Rattle.tp_names.specs.Same.{is_key}
 use Rattle.tp_records.specs.declared.dialogue.DialogueRecord.{DialogueRecord}
 use Rattle.tp_records.specs.declared.peer.RecState.{RecState}
 use Rattle.tp_logrec.specs.declared.record.LogRec.{LogRec}
+use Rattle.tp_model.specs.declared.arc.Phase.{Phase}
 use Rattle.tp_model.specs.declared.transaction.TxEvent.{TxEvent}
 use Rattle.tp_model.specs.declared.transaction.TxOut.{TxOut}
 use Rattle.tp_model.specs.Parts.{Under, Branch, Who, Event, Out, Arc, Current, Digest}
-use Rattle.tp_model.specs.Dialogues.{is_nil}
+use Rattle.tp_model.specs.Dialogues.{is_nil, is_active, is_committing, is_rolling}
 use Rattle.tp_model.specs.Transactions.{Row, Transaction, Turn, aaid_of, is_under_at, find_row, find_row_by_id}
 use Rattle.tp_model.specs.History.{with_rec}
 use Rattle.tp_model.specs.Outcomes.{has_commit_of}
@@ -158,10 +159,18 @@ sees_row (Some r) = r.live || r.branch.ended || r.branch.left
 abbrev pub sees : Transaction → ℕ → Bool
 sees t p = (not (is_under_at t.key p) || t.up) && sees_row (find_row t.rows p)
 
+-- the word ends a branch, in a transaction of this phase
+abbrev pub ends_in_phase : DialogueRecord → Phase → Bool
+ends_in_phase (DialogueRecord.Done r) p = is_committing p
+ends_in_phase (DialogueRecord.RolledBack r) p = is_rolling p
+ends_in_phase DialogueRecord.Left p = is_active p || is_rolling p
+ends_in_phase DialogueRecord.LeftEnd p = is_active p || is_rolling p
+ends_in_phase _ p = false
+
 -- how many branches with the peer the event may end
 abbrev pub closes : TxEvent → Transaction → ℕ → ℕ
-closes (TxEvent.Took q r) s p = if q == p then ends r else 0
-closes (TxEvent.Reply b (RecState.Done r)) s p = elim (find_row_by_id s.rows b) [ None ↦ 0 | Some w ↦ if w.branch.peer.node == p then 1 else 0 ]
+closes (TxEvent.Took q r) s p = if (q == p) && ends_in_phase r s.phase then 1 else 0
+closes (TxEvent.Reply b (RecState.Done r)) s p = elim (find_row_by_id s.rows b) [ None ↦ 0 | Some w ↦ if (w.branch.peer.node == p) && is_committing s.phase then 1 else 0 ]
 closes _ s p = 0
 
 -- the key stands at its place among those that were taken, while the transaction is current

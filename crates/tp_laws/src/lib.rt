@@ -151,11 +151,16 @@ pub fn ready_rolls_by_its_superior()
     ensures { (es : List Happening) → RolledOrUnknown (run es) }
 {}
 
-/// In every run in which Ready and leaving go down to a branch, and a superior that told a branch which was ready, and
-/// rolled, that it knows of nothing rolled itself, of two nodes of one tree told different outcomes at least one logged a
-/// decision.
+/// In every run in which a superior that told a branch which was ready, and rolled, that it knows of nothing rolled itself,
+/// leaving goes down: where a node left a tree, each of its branches did.
+pub fn leaving_goes_down()
+    ensures { (es : List Happening) → UnknownIsRolled (run es) → LeftDown (run es) }
+{}
+
+/// In every run in which Ready goes down to a branch, and a superior that told a branch which was ready, and rolled, that it
+/// knows of nothing rolled itself, of two nodes of one tree told different outcomes at least one logged a decision.
 pub fn outcomes_rest_on_the_family()
-    ensures { (es : List Happening) → ReadyDown (run es) → LeftDown (run es) → UnknownIsRolled (run es) → OneOutcome (run es) }
+    ensures { (es : List Happening) → ReadyDown (run es) → UnknownIsRolled (run es) → OneOutcome (run es) }
 {}
 
 /// In every legal history no two arcs lead to one node and none is idle; the mark that stands for the node in a pair is one
