@@ -13,7 +13,7 @@ use Rattle.tp_model.specs.declared.transaction.TxOut.{TxOut}
 use Rattle.tp_model.specs.Dialogues.{Sight, Acts, Nothing_happens, Out_of_phase, is_nil, is_active, is_ready, is_committing, is_rolling}
 use Rattle.tp_model.specs.Transactions.{Row, Transaction, Turn, turn, and_then, is_under, is_under_at, find_row, find_row_by_id, row_holds, with_row, with_arc_lost, all_settled, complete_commit, complete_rollback, begin_rolling, roll, order, settle, ask_commit, count_branch, end_branch, branch_left, lost_arc, complete, by_user, superior_rolls, takes_left, takes, sight_of_tx, replied, give_up, transacted, refused_user, refused_tx, may_give_up, is_open_in_commit}
 use Rattle.tp_laws.specs.Moves.{IsPut}
-use Rattle.tp_laws.specs.Turns.{Turns, falls, is_fatal_at, loses, is_left_word, vote, row_dead}
+use Rattle.tp_laws.specs.Turns.{hears_close, Turns, falls, is_fatal_at, loses, is_left_word, vote, row_dead}
 
 -- ---- what no rule logs
 
@@ -121,7 +121,7 @@ every_user s (Request.DeferEnd p) R k n ok abort = k.defers_end p
 every_user s (Request.DeferGrant p) R k n ok abort = k.defers_grant p
 every_user s (Request.Prepare p) R k n ok abort = k.prepares p
 every_user s Request.Commit R k n ok abort =
-    then_settle (TxEvent.User Request.Commit) s R k s (ask_commit s) (k.asks (grind (arith, not_nil s.phase)) (grind arith)) (quiet_ask s)
+    then_settle (TxEvent.User Request.Commit) s R k s (ask_commit s) (k.asks (grind (arith, not_nil s.phase)) (grind arith) (λ u. grind (arith, u))) (quiet_ask s)
 every_user s Request.Done R k n ok abort =
     let t : Transaction = record s { owes = false } in
     k.first s t [] (complete t) k.notes_done (every_complete (TxEvent.User Request.Done) s R k t t.phase refl)
@@ -145,14 +145,14 @@ every_user s (Request.BeginTransaction p) R k n ok abort = k.still s
 -- ---- records taken
 
 rolls_up : (e : TxEvent) (s : Transaction) (R : Transaction → Turn → Type 0) → Turns e s R → (b : Bool) → is_rolling s.phase ≡ b → (b ≡ false → falls e s ≡ true)
-    → (b ≡ false → (is_active s.phase || is_ready s.phase) ≡ true)
+    → (b ≡ false → (is_active s.phase || is_ready s.phase) ≡ true) → hears_close e s ≡ true
     → R s (if b then complete_rollback (record s { superior_rolled = true }) else roll false (record s { superior_rolled = true }))
-rolls_up e s R k true i f ok =
+rolls_up e s R k true i f ok cl =
     let t : Transaction = record s { superior_rolled = true } in
-    k.first s t [] (complete_rollback t) k.notes_rollback (k.completes_rollback t i)
-rolls_up e s R k false i f ok =
+    k.first s t [] (complete_rollback t) (k.notes_rollback cl) (k.completes_rollback t i)
+rolls_up e s R k false i f ok cl =
     let t : Transaction = record s { superior_rolled = true } in
-    k.first s t [] (roll false t) k.notes_rollback (every_roll e s R k false t (f refl) (ok refl))
+    k.first s t [] (roll false t) (k.notes_rollback cl) (every_roll e s R k false t (f refl) (ok refl))
 
 every_left : (e : TxEvent) (s : Transaction) (R : Transaction → Turn → Type 0) → Turns e s R → (p : ℕ) (w : DialogueRecord) (t : Transaction) → e ≡ TxEvent.Took p w → is_left_word w ≡ true
     → (t ≡ s) ⊎ (t ≡ with_row s p row_dead) → (b : Bool) → is_active t.phase ≡ b → (b ≡ false → is_rolling t.phase ≡ true)
@@ -181,7 +181,7 @@ every_take s p DialogueRecord.Response R k n ok = k.still s
 every_take s p DialogueRecord.DeferEnd R k n ok = k.notes_end p
 every_take s p DialogueRecord.DeferGrant R k n ok = k.tells s (Indication.DeferGrant p) refl
 every_take s p (DialogueRecord.Begin a b h) R k n ok = k.still s
-every_take s p DialogueRecord.Prepare R k n ok = k.notes_prepare
+every_take s p DialogueRecord.Prepare R k n ok = k.notes_prepare (grind arith)
 every_take s p DialogueRecord.Ready R k n ok =
     then_settle (TxEvent.Took p DialogueRecord.Ready) s R k s (count_branch p s) (k.counts p refl (grind arith) (grind arith)) (quiet_count p s)
 every_take s p DialogueRecord.Commit R k n ok = k.orders_ready (grind arith) (grind arith)
@@ -194,7 +194,7 @@ every_take s p DialogueRecord.Rollback R k n ok = go (is_under_at s.key p) refl
     e = TxEvent.Took p DialogueRecord.Rollback
 
     go : (b : Bool) → is_under_at s.key p ≡ b → R s (if b then superior_rolls s else roll false s)
-    go true i = rolls_up e s R k (is_rolling s.phase) refl (λ f. grind (arith, i, f)) (λ f. grind (arith, i, f))
+    go true i = rolls_up e s R k (is_rolling s.phase) refl (λ f. grind (arith, i, f)) (λ f. grind (arith, i, f)) i
     go false i = every_roll e s R k false s (grind (arith, i)) (grind (arith, i))
 every_take s p (DialogueRecord.RolledBack r) R k n ok =
     let c : is_rolling s.phase ≡ true = grind arith in
@@ -242,7 +242,7 @@ every_reply s b RecState.Unknown R k = go (is_ready s.phase) refl
     late i = grind arith
 
     go : (c : Bool) → is_ready s.phase ≡ c → R s (if c then superior_rolls s else turn [] s)
-    go true i = rolls_up e s R k (is_rolling s.phase) refl (λ f. i) (λ f. grind (arith, i))
+    go true i = rolls_up e s R k (is_rolling s.phase) refl (λ f. i) (λ f. grind (arith, i)) i
     go false i = k.still s
 every_reply s b RecState.RetryLater R k = k.still s
 

@@ -362,14 +362,14 @@ fair_turns e s p = record {
     facts = λ saw kept. facts_then e s p t a (f a.next) (and_then a f).rec one.same (one.facts saw kept) (λ later. two.facts later kept) (later_rec a.rec (f a.next).rec none);
   };
   tells = λ t i n. fair_outs e s p t (TxOut.Tell i ∷ []) refl;
-  notes_prepare = fair_mute e s p s (turn (TxOut.Tell Indication.Prepare ∷ []) (record s { told_prepare = true })) refl refl refl refl refl;
+  notes_prepare = λ cl. fair_mute e s p s (turn (TxOut.Tell Indication.Prepare ∷ []) (record s { told_prepare = true })) refl refl refl refl refl;
   notes_done = fair_mute e s p s (turn [] (record s { owes = false })) refl refl refl refl refl;
   notes_end = λ q. fair_mute e s p s (turn (TxOut.Tell (Indication.DeferEnd q) ∷ []) (record s { up_ends = true })) refl refl refl refl refl;
-  notes_rollback = fair_mute e s p s (turn [] (record s { superior_rolled = true })) refl refl refl refl refl;
+  notes_rollback = λ cl. fair_mute e s p s (turn [] (record s { superior_rolled = true })) refl refl refl refl refl;
   defers_end = λ q. fair_row e s p s (TxOut.Carry q DialogueRecord.DeferEnd ∷ []) q (λ r. record r { ends = true }) refl (λ r. refl) (λ r. refl) (λ r. refl) (λ r. refl);
   defers_grant = λ q. fair_outs e s p s (TxOut.Carry q DialogueRecord.DeferGrant ∷ []) refl;
   prepares = λ q. fair_row e s p s (TxOut.Carry q DialogueRecord.Prepare ∷ []) q (λ r. record r { branch = record r.branch { prepared = true } }) refl (λ r. refl) (λ r. refl) (λ r. refl) (λ r. refl);
-  asks = λ act asked. fair_ask e s p s;
+  asks = λ act asked told. fair_ask e s p s;
   asks_again = fair_outs e s p s (retried s) (retried_spoken p s);
   decides = λ o is ready. fair_mute e s p s (decide o s) refl refl refl refl refl;
   aborts = λ q. fair_lost e s p q (TxOut.Carry q DialogueRecord.UAbort ∷ TxOut.Close q ∷ []) refl (λ st. not_same q p st);

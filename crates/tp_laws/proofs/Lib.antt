@@ -94,6 +94,9 @@ pub mod RestartLog
 pub mod OrderLog
 pub mod Separate
 pub mod Ends
+pub mod Answering
+pub mod Answered
+pub mod Answerable
 pub mod Control
 pub mod KinTurns
 pub mod WellMoves

@@ -124,14 +124,14 @@ passed_turns e s = record {
   first = λ t u outs a one two. passed_then e s t (turn outs u) a a.rec (inl (refl, refl)) one two;
   chain = λ t a f one two none. passed_then e s t a (f a.next) (after_rec a.rec (f a.next).rec) (later_rec a.rec (f a.next).rec none) one two;
   tells = λ t i n. tell_one e s t i (grind (arith, n)) (grind (arith, n));
-  notes_prepare = quiet e s s (TxOut.Tell Indication.Prepare ∷ []) (record s { told_prepare = true }) refl refl (λ h. refl) refl refl refl;
+  notes_prepare = λ cl. quiet e s s (TxOut.Tell Indication.Prepare ∷ []) (record s { told_prepare = true }) refl refl (λ h. refl) refl refl refl;
   notes_done = quiet e s s [] (record s { owes = false }) refl refl (λ h. refl) refl refl refl;
   notes_end = λ q. quiet e s s (TxOut.Tell (Indication.DeferEnd q) ∷ []) (record s { up_ends = true }) refl refl (λ h. refl) refl refl refl;
-  notes_rollback = quiet e s s [] (record s { superior_rolled = true }) refl refl (λ h. refl) refl refl refl;
+  notes_rollback = λ cl. quiet e s s [] (record s { superior_rolled = true }) refl refl (λ h. refl) refl refl refl;
   defers_end = λ q. quiet_row e s s (TxOut.Carry q DialogueRecord.DeferEnd ∷ []) q (λ r. record r { ends = true }) (λ r. refl) (λ r. refl) refl refl refl;
   defers_grant = λ q. quiet e s s (TxOut.Carry q DialogueRecord.DeferGrant ∷ []) s refl refl (λ h. refl) refl refl refl;
   prepares = λ q. quiet_row e s s (TxOut.Carry q DialogueRecord.Prepare ∷ []) q (λ r. record r { branch = record r.branch { prepared = true } }) (λ r. refl) (λ r. refl) refl refl refl;
-  asks = λ act asked. passed_ask e s s act;
+  asks = λ act asked told. passed_ask e s s act;
   asks_again = passed_retried e s s;
   decides = λ o is ready. record {
     key = refl;

@@ -32,12 +32,12 @@ use Rattle.tp_laws.proofs.Upwords.{up_append, voting_append, is_upward, none_up,
 
 -- ---- outputs that carry nothing upwards that matters
 
-abbrev carries_none : List TxOut → Bool
+abbrev pub carries_none : List TxOut → Bool
 carries_none [] = true
 carries_none (TxOut.Carry q r ∷ outs) = not (is_upward r) && carries_none outs
 carries_none (_ ∷ outs) = carries_none outs
 
-none_spoken : (b : Bool) (p : ℕ) (outs : List TxOut) → carries_none outs ≡ true → none_of is_upward (spoken b p outs) ≡ true
+pub none_spoken : (b : Bool) (p : ℕ) (outs : List TxOut) → carries_none outs ≡ true → none_of is_upward (spoken b p outs) ≡ true
 none_spoken b p [] h = refl
 none_spoken b p (TxOut.Tell i ∷ outs) h = none_spoken b p outs h
 none_spoken b p (TxOut.Carry q r ∷ outs) h = let rest = none_spoken b p outs in grind (arith, h, rest)
@@ -45,36 +45,36 @@ none_spoken b p (TxOut.Shut q ∷ outs) h = none_spoken (b && not (q == p)) p ou
 none_spoken b p (TxOut.Recovery a r ∷ outs) h = none_spoken b p outs h
 none_spoken b p (TxOut.Close q ∷ outs) h = none_spoken (b && not (q == p)) p outs h
 
-carries_append : (xs ys : List TxOut) → carries_none (xs ++ ys) ≡ (carries_none xs && carries_none ys)
+pub carries_append : (xs ys : List TxOut) → carries_none (xs ++ ys) ≡ (carries_none xs && carries_none ys)
 carries_append [] ys = refl
 carries_append (x ∷ xs) ys = grind (arith, carries_append xs ys)
 
-carries_up : (t : Transaction) (r : DialogueRecord) → is_upward r ≡ false → carries_none (carry_up t r) ≡ true
+pub carries_up : (t : Transaction) (r : DialogueRecord) → is_upward r ≡ false → carries_none (carry_up t r) ≡ true
 carries_up t r h = grind (arith, h)
 
-carries_down : (rows : List Row) (r : DialogueRecord) → is_upward r ≡ false → carries_none (carry_down rows r) ≡ true
+pub carries_down : (rows : List Row) (r : DialogueRecord) → is_upward r ≡ false → carries_none (carry_down rows r) ≡ true
 carries_down [] r h = refl
 carries_down (w ∷ rows) r h = grind (arith, carries_down rows r h, h)
 
-carries_prepare : (rows : List Row) → carries_none (prepare_each rows) ≡ true
+pub carries_prepare : (rows : List Row) → carries_none (prepare_each rows) ≡ true
 carries_prepare [] = refl
 carries_prepare (w ∷ rows) = grind (arith, carries_prepare rows)
 
-carries_ask : (a : Aaid) (rows : List Row) → carries_none (ask_each a rows) ≡ true
+pub carries_ask : (a : Aaid) (rows : List Row) → carries_none (ask_each a rows) ≡ true
 carries_ask a [] = refl
 carries_ask a (w ∷ rows) = grind (arith, carries_ask a rows)
 
-carries_retried : (t : Transaction) → carries_none (retried t) ≡ true
+pub carries_retried : (t : Transaction) → carries_none (retried t) ≡ true
 carries_retried t = let a = carries_ask (aaid_of t.key) t.rows in grind (arith, carries_append, a)
 
-carries_rolling : (asked : Bool) (t : Transaction) → carries_none (begin_rolling asked t).outs ≡ true
+pub carries_rolling : (asked : Bool) (t : Transaction) → carries_none (begin_rolling asked t).outs ≡ true
 unfolding begin_rolling
 carries_rolling asked t =
     let up = carries_up t DialogueRecord.Rollback refl in
     let down = carries_down t.rows DialogueRecord.Rollback refl in
     grind (arith, carries_append, up, down)
 
-carries_order : (t : Transaction) → carries_none (order t).outs ≡ true
+pub carries_order : (t : Transaction) → carries_none (order t).outs ≡ true
 unfolding order
 carries_order t = let down = carries_down t.rows DialogueRecord.Commit refl in grind (arith, carries_append, down)
 
@@ -233,7 +233,7 @@ rise_count : (e : TxEvent) (s : Transaction) (p q : ℕ) (t : Transaction) → I
 unfolding count_branch
 rise_count e s p q t fair passed = rise_same e s p t _ _ fair passed refl (row_phase t q _)
 
-report_none : (q : ℕ) (r : Report) → carries_none (tell_report q r) ≡ true
+pub report_none : (q : ℕ) (r : Report) → carries_none (tell_report q r) ≡ true
 report_none q r = grind arith
 
 rise_end : (e : TxEvent) (s : Transaction) (p q : ℕ) (r : Report) (t : Transaction) → IsFair e s p t (end_branch q r t) → IsPassed e s t (end_branch q r t) → IsRising e s p t (end_branch q r t)
@@ -258,7 +258,7 @@ rise_rolls e s p t asked fair passed = rise_quiet e s p t (begin_rolling asked t
 rise_order : (e : TxEvent) (s : Transaction) (p : ℕ) (t : Transaction) → IsFair e s p t (order t) → IsPassed e s t (order t) → IsRising e s p t (order t)
 rise_order e s p t fair passed = rise_quiet e s p t (order t) fair passed (carries_order t) (λ h. order_late t)
 
-given_up_none : (b : Bool) (q : ℕ) → carries_none (if b then TxOut.Shut q ∷ [] else []) ≡ true
+pub given_up_none : (b : Bool) (q : ℕ) → carries_none (if b then TxOut.Shut q ∷ [] else []) ≡ true
 given_up_none true q = refl
 given_up_none false q = refl
 
@@ -335,14 +335,14 @@ rising_turns e s p f q = record {
     rises = λ saw kept. rise_then e s p t a (k a.next) (and_then a k).rec (later_rec a.rec (k a.next).rec none) one two saw kept;
   };
   tells = λ t i n. rise_same e s p t (TxOut.Tell i ∷ []) t (f.tells t i n) (q.tells t i n) refl refl;
-  notes_prepare = rise_same e s p s _ _ f.notes_prepare q.notes_prepare refl refl;
+  notes_prepare = λ cl. rise_same e s p s _ _ (f.notes_prepare cl) (q.notes_prepare cl) refl refl;
   notes_done = rise_same e s p s _ _ f.notes_done q.notes_done refl refl;
   notes_end = λ k. rise_same e s p s _ _ (f.notes_end k) (q.notes_end k) refl refl;
-  notes_rollback = rise_same e s p s _ _ f.notes_rollback q.notes_rollback refl refl;
+  notes_rollback = λ cl. rise_same e s p s _ _ (f.notes_rollback cl) (q.notes_rollback cl) refl refl;
   defers_end = λ k. rise_same e s p s _ _ (f.defers_end k) (q.defers_end k) refl (row_phase s k _);
   defers_grant = λ k. rise_same e s p s _ _ (f.defers_grant k) (q.defers_grant k) refl refl;
   prepares = λ k. rise_same e s p s _ _ (f.prepares k) (q.prepares k) refl (row_phase s k _);
-  asks = λ act asked. rise_ask e s p s (f.asks act asked) (q.asks act asked);
+  asks = λ act asked told. rise_ask e s p s (f.asks act asked told) (q.asks act asked told);
   asks_again = rise_same e s p s _ _ f.asks_again q.asks_again (carries_retried s) refl;
   decides = λ o is ready. rise_quiet e s p s (decide o s) (f.decides o is ready) (q.decides o is ready) refl (λ h. h);
   aborts = λ k. rise_same e s p s _ _ (f.aborts k) (q.aborts k) refl (lost_phase s k);

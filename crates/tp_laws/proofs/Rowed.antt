@@ -186,14 +186,14 @@ rowed_turns e s = record {
   first = λ t u outs a one two. rowed_then e s t (turn outs u) a (before outs a) refl one two;
   chain = λ t a f one two none. rowed_then e s t a (f a.next) (and_then a f) refl one two;
   tells = λ t i n. rowed_same e s t _ t refl;
-  notes_prepare = rowed_same e s s _ _ refl;
+  notes_prepare = λ cl. rowed_same e s s _ _ refl;
   notes_done = rowed_same e s s _ _ refl;
   notes_end = λ q. rowed_same e s s _ _ refl;
-  notes_rollback = rowed_same e s s _ _ refl;
+  notes_rollback = λ cl. rowed_same e s s _ _ refl;
   defers_end = λ q. rowed_quiet e s s _ q (λ r. record r { ends = true }) refl (λ r. refl) (λ r. refl) (λ r. refl) (λ r. refl) (λ r. refl);
   defers_grant = λ q. rowed_same e s s _ _ refl;
   prepares = λ q. rowed_quiet e s s _ q (λ r. record r { branch = record r.branch { prepared = true } }) refl (λ r. refl) (λ r. refl) (λ r. refl) (λ r. refl) (λ r. refl);
-  asks = λ act asked. rowed_ask e s s;
+  asks = λ act asked told. rowed_ask e s s;
   asks_again = rowed_same e s s _ _ refl;
   decides = λ o is ready. rowed_next e s s (decide o s) refl;
   aborts = λ q. rowed_lost e s s _ q;

@@ -185,14 +185,14 @@ told_turns e s = record {
   first = λ t u outs a one two un. let x = one un in let y = two x.undecided in record { log = ap (current_after a.rec) x.log ∙ y.log; undecided = y.undecided; active = λ h. let z = y.active h in ((x.active z.0).0, z.1) };
   chain = λ t a f one two none un. let x = one un in let y = two x.undecided in record { log = told_then t a.rec (f a.next).rec _ _ none x.log y.log; undecided = y.undecided; active = λ h. let z = y.active h in let v = x.active z.0 in (v.0, quiet_both a.rec (f a.next).rec v.1 z.1) };
   tells = λ t i n un. told_quiet t t (TxOut.Tell i ∷ []) refl refl refl (λ h. refl) un;
-  notes_prepare = λ un. told_quiet s _ _ refl refl refl (λ h. refl) un;
+  notes_prepare = λ cl un. told_quiet s _ _ refl refl refl (λ h. refl) un;
   notes_done = λ un. told_quiet s _ _ refl refl refl (λ h. refl) un;
   notes_end = λ q un. told_quiet s _ _ refl refl refl (λ h. refl) un;
-  notes_rollback = λ un. told_quiet s _ _ refl refl refl (λ h. refl) un;
+  notes_rollback = λ cl un. told_quiet s _ _ refl refl refl (λ h. refl) un;
   defers_end = λ q un. told_row s _ q (λ r. record r { ends = true }) (λ r. refl) (λ r. refl) un;
   defers_grant = λ q un. told_quiet s s _ refl refl refl (λ h. refl) un;
   prepares = λ q un. told_row s _ q (λ r. record r { branch = record r.branch { prepared = true } }) (λ r. refl) (λ r. refl) un;
-  asks = λ act asked un. told_quiet s _ _ refl refl refl (λ h. absurd (cc (act, h))) un;
+  asks = λ act asked told un. told_quiet s _ _ refl refl refl (λ h. absurd (cc (act, h))) un;
   asks_again = λ un. told_quiet s s _ refl refl refl (λ h. refl) un;
   decides = λ o is ready un. record {
     log = told_decided s.key s.phase (children_of s.rows) s.decision s.node (node_key s.key) o ready;

@@ -19,6 +19,11 @@ abbrev pub rounds : (Bool → DialogueRecord → Bool) → (Bool → DialogueRec
 rounds closes flag b [] = 0
 rounds closes flag b (r ∷ rs) = (if closes b r then 1 else 0) + rounds closes flag (flag b r) rs
 
+-- the flag behind all of them
+abbrev pub flag_from : (Bool → DialogueRecord → Bool) → Bool → List DialogueRecord → Bool
+flag_from flag b [] = b
+flag_from flag b (r ∷ rs) = flag_from flag (flag b r) rs
+
 -- what stands behind so many closed rounds
 abbrev pub behind : (Bool → DialogueRecord → Bool) → (Bool → DialogueRecord → Bool) → Bool → ℕ → List DialogueRecord → List DialogueRecord
 behind closes flag b zero rs = rs
@@ -65,7 +70,10 @@ is_returning _ = false
 
 -- ---- counted
 
--- the rounds that the subordinate end closed
+-- the rounds that the superior end closed, and those that the subordinate end closed
+abbrev pub closed : List DialogueRecord → ℕ
+closed rs = rounds closes_down begun_behind false rs
+
 abbrev pub answered : List DialogueRecord → ℕ
 answered rs = rounds closes_up voted_behind false rs
 

@@ -15,6 +15,7 @@ pub mod Members
 pub mod Fates
 pub mod Bare
 pub mod Upward
+pub mod Answering
 pub mod Hanging
 pub mod Branches
 pub mod Heeded

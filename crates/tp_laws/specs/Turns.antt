@@ -55,6 +55,15 @@ loses (TxEvent.Took q DialogueRecord.UAbort) p = q == p
 loses (TxEvent.Took q _) p = false
 loses _ p = false
 
+-- what it takes from the superior, or is replied, closes the round: behind it the superior says no more of work
+abbrev pub hears_close : TxEvent → Transaction → Bool
+hears_close (TxEvent.Took p DialogueRecord.Prepare) t = is_under_at t.key p
+hears_close (TxEvent.Took p DialogueRecord.Rollback) t = is_under_at t.key p
+hears_close (TxEvent.Took p _) t = false
+hears_close (TxEvent.Reply b RecState.Unknown) t = is_ready t.phase
+hears_close (TxEvent.Reply b _) t = false
+hears_close _ t = false
+
 abbrev pub is_left_word : DialogueRecord → Bool
 is_left_word DialogueRecord.Left = true
 is_left_word DialogueRecord.LeftEnd = true
@@ -94,14 +103,14 @@ pub record Turns (e : TxEvent) (s : Transaction) (R : Transaction → Turn → T
   pub chain : (t : Transaction) (a : Turn) (f : Transaction → Turn) → R t a → R a.next (f a.next) → (a.rec ≡ None) ⊎ ((f a.next).rec ≡ None) → R t (and_then a f)
   -- notes
   pub tells : (t : Transaction) (i : Indication) → is_outcome_told i ≡ false → R t (turn (TxOut.Tell i ∷ []) t)
-  pub notes_prepare : R s (turn (TxOut.Tell Indication.Prepare ∷ []) (record s { told_prepare = true }))
+  pub notes_prepare : hears_close e s ≡ true → R s (turn (TxOut.Tell Indication.Prepare ∷ []) (record s { told_prepare = true }))
   pub notes_done : R s (turn [] (record s { owes = false }))
   pub notes_end : (p : ℕ) → R s (turn (TxOut.Tell (Indication.DeferEnd p) ∷ []) (record s { up_ends = true }))
-  pub notes_rollback : R s (turn [] (record s { superior_rolled = true }))
+  pub notes_rollback : hears_close e s ≡ true → R s (turn [] (record s { superior_rolled = true }))
   pub defers_end : (p : ℕ) → R s (turn (TxOut.Carry p DialogueRecord.DeferEnd ∷ []) (with_row s p (λ r. record r { ends = true })))
   pub defers_grant : (p : ℕ) → R s (turn (TxOut.Carry p DialogueRecord.DeferGrant ∷ []) s)
   pub prepares : (p : ℕ) → R s (turn (TxOut.Carry p DialogueRecord.Prepare ∷ []) (with_branch s p (λ b. record b { prepared = true })))
-  pub asks : is_active s.phase ≡ true → s.asked ≡ false → R s (ask_commit s)
+  pub asks : is_active s.phase ≡ true → s.asked ≡ false → (is_under s.key ≡ true → s.told_prepare ≡ true) → R s (ask_commit s)
   pub asks_again : R s (turn (retried s) s)
   pub decides : (o : Outcome) → e ≡ TxEvent.Heur o → is_ready s.phase ≡ true → R s (decide o s)
   -- associations that go

@@ -4,7 +4,7 @@
 
 pub mod trials;
 
-ghost use Rattle.std.specs.Prelude.{ℕ, ◌≡◌, Option, List, [], length, true, Bool, None, false};
+ghost use Rattle.std.specs.Prelude.{ℕ, ◌≡◌, ◌≤◌, Option, List, [], length, true, Bool, None, false};
 ghost use Rattle.tp_names.specs.declared.identifiers.Mark.{Mark};
 ghost use Rattle.tp_names.specs.declared.identifiers.Addr.{Addr};
 ghost use Rattle.tp_names.specs.declared.identifiers.Aaid.{Aaid};
@@ -12,6 +12,7 @@ ghost use Rattle.tp_names.specs.declared.identifiers.BranchId.{BranchId};
 ghost use Rattle.tp_records.specs.declared.dialogue.DialogueRecord.{DialogueRecord};
 ghost use Rattle.tp_model.specs.Parts.{Origin, Entry, Live, Who, Event, Digest, Current};
 ghost use Rattle.tp_model.specs.Arcs.{link_with};
+ghost use Rattle.tp_model.specs.Questions.{is_at};
 ghost use Rattle.tp_model.specs.History.{digest, again, crashed};
 ghost use Rattle.tp_records.specs.declared.body.Event.{Event as Given};
 ghost use Rattle.tp_model.specs.NodeRun.{Opening};
@@ -34,7 +35,8 @@ ghost use Rattle.tp_laws.specs.Hanging.{HangsTogether, ReadyDown, LeftDown, Roll
 ghost use Rattle.tp_laws.specs.Branches.{IsRowed, IsBranched};
 ghost use Rattle.tp_laws.specs.Heeded.{HeedsBranches};
 ghost use Rattle.tp_laws.specs.Ends.{are_separate, IsAlone};
-ghost use Rattle.tp_laws.specs.Control.{TookBack, TookMore};
+ghost use Rattle.tp_laws.specs.Control.{TookBack, TookMore, answered, closed};
+ghost use Rattle.tp_laws.specs.Answering.{IsAnswering};
 ghost use Rattle.tp_laws.specs.Upward.{IsRising, IsRisen, SpeaksUp};
 ghost use Rattle.tp_laws.specs.Restart.{are_earlier, IsFounded};
 ghost use Rattle.tp_laws.specs.Standing.{IsUndecided, IsTold, current_after, IsApart};
@@ -161,6 +163,15 @@ pub fn leaving_goes_down()
 /// knows of nothing rolled itself, of two nodes of one tree told different outcomes at least one logged a decision.
 pub fn outcomes_rest_on_the_family()
     ensures { (es : List Happening) → ReadyDown (run es) → UnknownIsRolled (run es) → OneOutcome (run es) }
+{}
+
+/// A subordinate answers what it was asked for: in every legal history of a node whose log was empty at first, the rounds
+/// that it answered on a live association to its superior, by Ready or by its last word in a transaction, are no more than
+/// those that it heard the superior close by Prepare, Commit or Rollback; and so does every event of a transaction.
+pub fn answers_are_asked_for()
+    ensures turn { (e : TxEvent) (s : Transaction) (p : ℕ) → IsPut e s → IsAnswering e s p s (transacted e s) }
+    ensures history { (o : Origin) (up : Option Addr) (h : List Entry) (p : ℕ) (x y : Mark) (s k : ℕ) → o.start.records ≡ [] → IsGrown o up h → is_at up p ≡ true → link_with (digest o h).arcs p ≡ Live x y s k
+        → answered (sent_on x y p h) ≤ closed (taken_on x y p h) }
 {}
 
 /// In every legal history no two arcs lead to one node and none is idle; the mark that stands for the node in a pair is one
