@@ -140,7 +140,7 @@ behind o up p g rs e h rules old x y s k live = go (link_with (prelude o.who (di
     go : (l : Link) → link_with (prelude o.who d e.event).arcs p ≡ l → Prelinked o.who up p d e.event l → AtBehind o p g rs e.event h x y
     go l at (As_before i none) = old_at k (sym i ∙ sym at ∙ live) (inl none)
     go l at (Now_idle i none) = absurd (cc (sym live ∙ at ∙ i))
-    go l at (Now_called i down n none below) = absurd (cc (sym live ∙ at ∙ i))
+    go l at (Now_called i down n none below apart) = absurd (cc (sym live ∙ at ∙ i))
     go l at (Now_offered z i u none) = absurd (cc (sym live ∙ at ∙ i))
     go l at (Now_accepted z i u n none nil) =
         let same : Live x y s k ≡ Live z (next_mark o.who d) 0 0 = sym live ∙ at ∙ i in

@@ -94,14 +94,14 @@ kin_turns e s = record {
   first = λ t u outs a one two. two ∙ one;
   chain = λ t a f one two none. two ∙ one;
   tells = λ t i n. refl;
-  notes_prepare = refl;
+  notes_prepare = λ h. refl;
   notes_done = refl;
   notes_end = λ q. refl;
-  notes_rollback = refl;
+  notes_rollback = λ h. refl;
   defers_end = λ q. kids_row s q (λ r. record r { ends = true }) (λ r. refl);
   defers_grant = λ q. refl;
   prepares = λ q. kids_row s q (λ r. record r { branch = record r.branch { prepared = true } }) (λ r. refl);
-  asks = λ act asked. kids_prepared s.rows;
+  asks = λ act asked told. kids_prepared s.rows;
   asks_again = refl;
   decides = λ o is ready. refl;
   aborts = λ q. kids_lost s q;

@@ -57,7 +57,7 @@ settled_lost t q old = go (is_under_at t.key q) refl
 loose : (u : Transaction) → is_bound_phase u.phase ≡ false → Settled u
 loose u h bound = absurd (cc (h, bound))
 
-all_row : (rows : List Row) (p : ℕ) (r : Row) → all_settled rows ≡ true → find_row rows p ≡ Some r → (r.branch.counted || r.branch.left) ≡ true
+pub all_row : (rows : List Row) (p : ℕ) (r : Row) → all_settled rows ≡ true → find_row rows p ≡ Some r → (r.branch.counted || r.branch.left) ≡ true
 all_row [] p r h i = absurd cc
 all_row (x ∷ rows) p r h i = go (x.branch.peer.node == p) refl (all_row rows p r)
   where
@@ -129,14 +129,14 @@ settled_turns e s = record {
   first = λ t u outs a one two old. two (one old);
   chain = λ t a f one two none old. two (one old);
   tells = λ t i n old. old;
-  notes_prepare = λ old. old;
+  notes_prepare = λ h old. old;
   notes_done = λ old. old;
   notes_end = λ q old. old;
-  notes_rollback = λ old. old;
+  notes_rollback = λ h old. old;
   defers_end = λ q old. settled_row s (with_row s q (λ r. record r { ends = true })) q (λ r. record r { ends = true }) refl (row_phase s q (λ r. record r { ends = true })) (λ r. refl) (λ r h l. h l) old;
   defers_grant = λ q old. old;
   prepares = λ q old. settled_row s (with_row s q (λ r. record r { branch = record r.branch { prepared = true } })) q (λ r. record r { branch = record r.branch { prepared = true } }) refl (row_phase s q (λ r. record r { branch = record r.branch { prepared = true } })) (λ r. refl) (λ r h l. h l) old;
-  asks = λ act asked. settled_ask s act;
+  asks = λ act asked told. settled_ask s act;
   asks_again = λ old. old;
   decides = λ o is ready old. old;
   aborts = λ q old. settled_lost s q old;

@@ -65,7 +65,7 @@ keeps_keep d k f =
     keeps_arcs d (keep (settled k f) d) refl
     (λ p l. let a = agrees_performed d.arcs (settled k f).outs p (apart_spoken (settled k f).outs (settled_spoken k f)) in still_live (is_live (link_with d.arcs p)) p (settled k f).outs (sym a.live ∙ l))
 
-phase_left : (u : Transaction) (c : Current) → remaining u ≡ Some c → u.phase ≡ c.phase
+pub phase_left : (u : Transaction) (c : Current) → remaining u ≡ Some c → u.phase ≡ c.phase
 phase_left u c is = go (is_nil u.phase) refl
   where
     go : (b : Bool) → is_nil u.phase ≡ b → u.phase ≡ c.phase
@@ -192,7 +192,7 @@ settled_prelude o up e h empty legal old c at bound p b found live = go (came_by
     was : d.current ≡ Some c → (l : Link) → link_with s.arcs p ≡ l → Prelinked o.who up p d e.event l → is_live (link_with d.arcs p) ≡ true
     was now l i (As_before j none) = ap is_live (sym (i ∙ j)) ∙ live
     was now l i (Now_idle j none) = absurd (cc (live, ap is_live (i ∙ j)))
-    was now l i (Now_called j down n none below) = absurd (cc (live, ap is_live (i ∙ j)))
+    was now l i (Now_called j down n none below apart) = absurd (cc (live, ap is_live (i ∙ j)))
     was now l i (Now_offered z j u none) = absurd (cc (live, ap is_live (i ∙ j)))
     was now l i (Now_accepted z j u n none nil) = absurd (nil_bound c.phase bound (ap is_nil (sym (phase_at d c now)) ∙ nil))
     was now l i (Now_confirmed z w op j none) =
