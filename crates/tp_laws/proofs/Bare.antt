@@ -221,7 +221,7 @@ bare_begins who t s d q = go d.current (find_arc d.arcs q)
     go (Some c) None = quiet_move who t s d _ refl refl
     go (Some c) (Some a) = on c a (not (may_begin_on who d a))
 
-logged_tree : (t : Aaid) (q : Transaction) (r : Option LogRec) (u : Transaction) → IsLogged q r u → rec_of_tree t r ≡ true → is_aaid t (aaid_of q.key) ≡ true
+pub logged_tree : (t : Aaid) (q : Transaction) (r : Option LogRec) (u : Transaction) → IsLogged q r u → rec_of_tree t r ≡ true → is_aaid t (aaid_of q.key) ≡ true
 logged_tree t q None u l h = absurd cc
 logged_tree t q (Some (LogRec.Boot n)) u l h = absurd l
 logged_tree t q (Some (LogRec.Ready n k s cs)) u l h = ap (is_aaid t) (sym (key_tree q.key) ∙ ap (λ (j : NodeKey). j.aaid) (sym l.0)) ∙ h

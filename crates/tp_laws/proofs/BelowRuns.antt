@@ -46,13 +46,13 @@ use Rattle.tp_laws.proofs.LeftDown.{Below, left_sent}
 
 -- ---- whose key is current, or was logged ready, has taken its Begin
 
-record TookKey (h : List Entry) (t : Aaid) (b : BranchId) : Type 0 where
-  from : Addr
-  x : Mark
-  y : Mark
-  seq : ℕ
-  holder : Holder
-  took : TookOn h from x y seq (DialogueRecord.Begin t b holder)
+pub record TookKey (h : List Entry) (t : Aaid) (b : BranchId) : Type 0 where
+  pub from : Addr
+  pub x : Mark
+  pub y : Mark
+  pub seq : ℕ
+  pub holder : Holder
+  pub took : TookOn h from x y seq (DialogueRecord.Begin t b holder)
 
 later_key : (e : Entry) (h : List Entry) (t : Aaid) (b : BranchId) → TookKey h t b → TookKey (e ∷ h) t b
 later_key e h t b k = record { from = k.from; x = k.x; y = k.y; seq = k.seq; holder = k.holder; took = inr k.took }
@@ -124,7 +124,7 @@ logged_key o up e h j empty legal (Some (LogRec.Heuristic n k u)) logs new = abs
 logged_key o up e h j empty legal (Some (LogRec.Damage n k s u r cs)) logs new = absurd (cc (new))
 logged_key o up e h j empty legal (Some (LogRec.End n k u)) logs new = absurd (cc (new))
 
-ready_took : (o : Origin) (up : Option Addr) (h : List Entry) (j : BranchKey) → o.start.records ≡ [] → IsGrown o up h → has_ready_of j (records o h) ≡ true → TookKey h j.0 j.1
+pub ready_took : (o : Origin) (up : Option Addr) (h : List Entry) (j : BranchKey) → o.start.records ≡ [] → IsGrown o up h → has_ready_of j (records o h) ≡ true → TookKey h j.0 j.1
 ready_took o up [] j empty legal r = let none : has_ready_of j (records o []) ≡ false = rw empty refl in absurd (cc (none, r))
 ready_took o up (e ∷ h) j empty legal r = go (ready_case j e.rec (records o h) r) (ready_took o up h j empty legal.3)
   where

@@ -35,7 +35,7 @@ pub record Begun (up : Option Addr) (t : Aaid) (a : Addr) (h : List Entry) : Typ
   pub above : is_at up a.node ≡ true
   pub taken : has_taken_begin t h ≡ true
 
-begin_is : (t : Aaid) (b : BranchId) (a : Addr) (e : Event) → is_begin_of t b a e ≡ true → is_begun_by t e ≡ true
+pub begin_is : (t : Aaid) (b : BranchId) (a : Addr) (e : Event) → is_begin_of t b a e ≡ true → is_begun_by t e ≡ true
 begin_is t b a (Event.Arrive from (PeerRecord.OnAssoc x y s (DialogueRecord.Begin u c k))) h = grind (arith, h)
 begin_is t b a e h = absurd (grind (arith, h))
 

@@ -147,7 +147,7 @@ left_begins who d c t p now old put =
 
 -- ---- every legal history
 
-branch_some : (t : Aaid) (o : Option BranchKey) → suc 0 ≤ branch_of_tree t o → (j : BranchKey) × (o ≡ Some j) × (is_aaid t j.0 ≡ true)
+pub branch_some : (t : Aaid) (o : Option BranchKey) → suc 0 ≤ branch_of_tree t o → (j : BranchKey) × (o ≡ Some j) × (is_aaid t j.0 ≡ true)
 branch_some t None h = absurd (omega (arith, h))
 branch_some t (Some j) h = go (is_aaid t j.0) refl
   where

@@ -74,6 +74,9 @@ pub mod AccountSteps
 pub mod AccountLaw
 pub mod LeftDown
 pub mod BelowRuns
+pub mod Voted
+pub mod VotedAt
+pub mod ReadyDown
 pub mod Lanes
 pub mod KeptLog
 pub mod OwnRecords

@@ -141,10 +141,10 @@ now_then o up e h t empty legal once known n =
 no_sum : (a b n : ℕ) → suc 0 ≤ a → suc 0 ≤ b → a + b ≤ n → n ≤ 1 → ⊥
 no_sum a b n h i j k = absurd (omega (arith, h, i, j, k))
 
-at_least : (a b n : ℕ) → suc 0 ≤ a → a + b ≤ n → suc 0 ≤ n
+pub at_least : (a b n : ℕ) → suc 0 ≤ a → a + b ≤ n → suc 0 ≤ n
 at_least a b n h i = omega (arith, h, i)
 
-at_least_right : (a b n : ℕ) → suc 0 ≤ b → a + b ≤ n → suc 0 ≤ n
+pub at_least_right : (a b n : ℕ) → suc 0 ≤ b → a + b ≤ n → suc 0 ≤ n
 at_least_right a b n h i = omega (arith, h, i)
 
 active_not : (o : Option Current) (t : Aaid) → is_now t (recovered_current o) ≡ true → is_active (elim (recovered_current o) as (λ _. Phase) [ None ↦ Phase.Nil | Some c ↦ c.phase ]) ≡ false

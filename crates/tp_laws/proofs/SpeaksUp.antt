@@ -50,7 +50,7 @@ pub record Before (d : Digest) (c : Current) : Type 0 where
   pub now : is_now (aaid_of c.key) d.current ≡ true
   pub phase : phase_of d ≡ c.phase
 
-recovered_before : (o : Option Current) (c : Current) → recovered_current o ≡ Some c → (u : Current) × (o ≡ Some u) × (c.key ≡ u.key) × (c.phase ≡ u.phase)
+pub recovered_before : (o : Option Current) (c : Current) → recovered_current o ≡ Some c → (u : Current) × (o ≡ Some u) × (c.key ≡ u.key) × (c.phase ≡ u.phase)
 recovered_before None c h = absurd cc
 recovered_before (Some u) c h = (u, refl, grind (arith, h), grind (arith, h))
 

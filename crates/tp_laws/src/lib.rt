@@ -159,10 +159,17 @@ pub fn leaving_goes_down()
     ensures { (es : List Happening) → UnknownIsRolled (run es) → LeftDown (run es) }
 {}
 
-/// In every run in which Ready goes down to a branch, and a superior that told a branch which was ready, and rolled, that it
-/// knows of nothing rolled itself, of two nodes of one tree told different outcomes at least one logged a decision.
+/// In every run in which a superior that told a branch which was ready, and rolled, that it knows of nothing rolled itself,
+/// Ready goes down: where a node logged Ready or Commit of a tree, each of its branches logged Ready for its own
+/// identifier, or left.
+pub fn readiness_goes_down()
+    ensures { (es : List Happening) → UnknownIsRolled (run es) → ReadyDown (run es) }
+{}
+
+/// In every run in which a superior that told a branch which was ready, and rolled, that it knows of nothing rolled itself,
+/// of two nodes of one tree told different outcomes at least one logged a decision.
 pub fn outcomes_rest_on_the_family()
-    ensures { (es : List Happening) → ReadyDown (run es) → UnknownIsRolled (run es) → OneOutcome (run es) }
+    ensures { (es : List Happening) → UnknownIsRolled (run es) → OneOutcome (run es) }
 {}
 
 /// A subordinate answers what it was asked for: in every legal history of a node whose log was empty at first, the rounds
