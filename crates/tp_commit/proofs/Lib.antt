@@ -14,3 +14,4 @@ pub mod Shut
 pub mod Reached
 pub mod Behind
 pub mod Touched
+pub mod Texts

@@ -5,7 +5,10 @@ ghost use Rattle.tp_names.specs.declared.identifiers.NodeKey.{NodeKey};
 ghost use Rattle.tp_names.specs.declared.identifiers.Addr.{Addr};
 ghost use Rattle.tp_names.specs.declared.children.Child.{Child};
 ghost use Rattle.tp_names.specs.declared.outcome.Outcome.{Outcome};
+ghost use Rattle.tp_names.specs.Grammar.{HasText};
 ghost use Rattle.tp_logrec.specs.declared.record.LogRec.{LogRec};
+ghost use Rattle.tp_logrec.specs.declared.record.LogVersion.{LogVersion};
+ghost use Rattle.tp_logrec.specs.RecordReading.{record_grammar};
 ghost use Rattle.tp_model.specs.declared.arc.Phase.{Phase};
 ghost use Rattle.tp_model.specs.declared.transaction.TxEvent.{TxEvent};
 ghost use Rattle.tp_model.specs.Parts.{Who, Arc, Key, Current, Digest};
@@ -16,7 +19,7 @@ ghost use Rattle.tp_model.specs.Transactions.{is_under, is_under_at, transacted,
 ghost use Rattle.tp_model.specs.Node.{is_up_live, is_up_ending, is_end_deferred_at, seen, fresh_current, turned, may_begin_on, begin_on};
 ghost use Rattle.tp_model.specs.Requests.{has_branch_at};
 ghost use Rattle.tp_model.specs.Events.{fresh_branches, recovered};
-ghost use Rattle.tp_commit.specs.Branch.{key_from, begun, found_by, standing};
+ghost use Rattle.tp_commit.specs.Branch.{key_from, begun, found_by, tells_transaction, standing};
 ghost use Rattle.tp_commit.specs.Standing.{are_distinct, IsAmongArcs, AreAlike, IsCut, IsPutOff, Reaches, IsTakenUp, child_on};
 
 /// A `Branch` stands for what is known of the node's current transaction: it begins as one that has just
@@ -31,6 +34,12 @@ pub fn a_branch_is_what_is_known()
     ensures begun_in_order { (arcs : List Arc) (k : Key) → is_up_ending arcs k ≡ false → IsAmongArcs arcs (fresh_current k) }
     ensures found_in_order { (k : Key) (p : Phase) (cs : List Child) (o : Option Outcome) → is_nil p ≡ false → are_distinct (fresh_branches cs) ≡ true → ((q : ℕ) → is_under_at k q ≡ true → has_branch_at (fresh_branches cs) q ≡ false)
         → IsAmongArcs [] (recovered k p (fresh_branches cs) o) }
+{}
+
+/// A Ready or a Commit that has a text in version 2 of the log tells a transaction, as `Branch::again` requires.
+pub fn a_text_tells_a_transaction()
+    ensures ready { (n : ℕ) (k : NodeKey) (s : Addr) (cs : List Child) → HasText (record_grammar LogVersion.Two) (LogRec.Ready n k s cs) → tells_transaction (LogRec.Ready n k s cs) ≡ true }
+    ensures commit { (n : ℕ) (k : NodeKey) (s : Option Addr) (cs : List Child) → HasText (record_grammar LogVersion.Two) (LogRec.Commit n k s cs) → tells_transaction (LogRec.Commit n k s cs) ≡ true }
 {}
 
 /// An event changes of a node's arcs, before it is put to the transaction, no more than its own arc: one that
