@@ -63,56 +63,23 @@ fn read_line_of(alloc: Global, kind: LineWord, rest: &[u8]) -> Result<Line, Line
             let (node, request) = read_do(alloc, rest)?;
             Ok(Line::Do { node, request })
         }
-        LineWord::Pass => {
-            let (from, to) = two_numbers(rest)?;
-            Ok(Line::Pass { from, to })
-        }
-        LineWord::Skip => {
-            let (from, to) = two_numbers(rest)?;
-            Ok(Line::Skip { from, to })
-        }
-        LineWord::Again => {
-            let frame = one_number(rest)?;
-            Ok(Line::Again { frame })
-        }
-        LineWord::Drain => {
-            no_word(rest)?;
-            Ok(Line::Drain)
-        }
-        LineWord::Lose => {
-            let (node, peer) = two_numbers(rest)?;
-            Ok(Line::Lose { node, peer })
-        }
-        LineWord::Heur => {
-            let (node, outcome) = number_and_outcome(rest)?;
-            Ok(Line::Heur { node, outcome })
-        }
-        LineWord::GiveUp => {
-            let (node, peer) = two_numbers(rest)?;
-            Ok(Line::GiveUp { node, peer })
-        }
-        LineWord::Retry => {
-            let node = one_number(rest)?;
-            Ok(Line::Retry { node })
-        }
-        LineWord::Purge => {
-            let node = one_number(rest)?;
-            Ok(Line::Purge { node })
-        }
+        LineWord::Pass => two_numbers(rest).map(|(from, to)| Line::Pass { from, to }),
+        LineWord::Skip => two_numbers(rest).map(|(from, to)| Line::Skip { from, to }),
+        LineWord::Again => one_number(rest).map(|frame| Line::Again { frame }),
+        LineWord::Drain => no_word(rest).map(|()| Line::Drain),
+        LineWord::Lose => two_numbers(rest).map(|(node, peer)| Line::Lose { node, peer }),
+        LineWord::Heur => number_and_outcome(rest).map(|(node, outcome)| Line::Heur {
+            node,
+            outcome,
+        }),
+        LineWord::GiveUp => two_numbers(rest).map(|(node, peer)| Line::GiveUp { node, peer }),
+        LineWord::Retry => one_number(rest).map(|node| Line::Retry { node }),
+        LineWord::Purge => one_number(rest).map(|node| Line::Purge { node }),
         LineWord::Crash => read_crash(alloc, rest),
-        LineWord::Show => {
-            let node = one_number(rest)?;
-            Ok(Line::Show { node })
-        }
+        LineWord::Show => one_number(rest).map(|node| Line::Show { node }),
         LineWord::Image => read_image(rest),
-        LineWord::Auto => {
-            let (node, member) = two_numbers(rest)?;
-            Ok(Line::Auto { node, member })
-        }
-        LineWord::Leave => {
-            let member = one_number(rest)?;
-            Ok(Line::Leave { member })
-        }
+        LineWord::Auto => two_numbers(rest).map(|(node, member)| Line::Auto { node, member }),
+        LineWord::Leave => one_number(rest).map(|member| Line::Leave { member }),
     }
 }
 
@@ -136,34 +103,16 @@ fn read_stop_of(alloc: Global, kind: StopWord, rest: &[u8]) -> Result<StopLine, 
             let (node, request) = read_do(alloc, rest)?;
             Ok(StopLine::Do { node, request })
         }
-        StopWord::Pass => {
-            let (from, to) = two_numbers(rest)?;
-            Ok(StopLine::Pass { from, to })
-        }
-        StopWord::Again => {
-            let frame = one_number(rest)?;
-            Ok(StopLine::Again { frame })
-        }
-        StopWord::Lose => {
-            let (node, peer) = two_numbers(rest)?;
-            Ok(StopLine::Lose { node, peer })
-        }
-        StopWord::Heur => {
-            let (node, outcome) = number_and_outcome(rest)?;
-            Ok(StopLine::Heur { node, outcome })
-        }
-        StopWord::GiveUp => {
-            let (node, peer) = two_numbers(rest)?;
-            Ok(StopLine::GiveUp { node, peer })
-        }
-        StopWord::Retry => {
-            let node = one_number(rest)?;
-            Ok(StopLine::Retry { node })
-        }
-        StopWord::Purge => {
-            let node = one_number(rest)?;
-            Ok(StopLine::Purge { node })
-        }
+        StopWord::Pass => two_numbers(rest).map(|(from, to)| StopLine::Pass { from, to }),
+        StopWord::Again => one_number(rest).map(|frame| StopLine::Again { frame }),
+        StopWord::Lose => two_numbers(rest).map(|(node, peer)| StopLine::Lose { node, peer }),
+        StopWord::Heur => number_and_outcome(rest).map(|(node, outcome)| StopLine::Heur {
+            node,
+            outcome,
+        }),
+        StopWord::GiveUp => two_numbers(rest).map(|(node, peer)| StopLine::GiveUp { node, peer }),
+        StopWord::Retry => one_number(rest).map(|node| StopLine::Retry { node }),
+        StopWord::Purge => one_number(rest).map(|node| StopLine::Purge { node }),
     }
 }
 
@@ -196,75 +145,28 @@ fn read_request_of(alloc: Global, kind: RequestWord, rest: &[u8]) -> Result<Line
     match kind {
         RequestWord::BeginDialogue => read_begin(rest),
         RequestWord::Accept => read_accept(rest),
-        RequestWord::Reject => {
-            no_word(rest)?;
-            Ok(LineRequest::Reject)
-        }
-        RequestWord::EndDialogue => {
-            let peer = one_number(rest)?;
-            Ok(LineRequest::EndDialogue { peer })
-        }
+        RequestWord::Reject => no_word(rest).map(|()| LineRequest::Reject),
+        RequestWord::EndDialogue => one_number(rest).map(|peer| LineRequest::EndDialogue { peer }),
         RequestWord::UserData => read_data(alloc, rest),
-        RequestWord::UError => {
-            let peer = one_number(rest)?;
-            Ok(LineRequest::UError { peer })
-        }
-        RequestWord::UAbort => {
-            let peer = one_number(rest)?;
-            Ok(LineRequest::UAbort { peer })
-        }
-        RequestWord::Grant => {
-            let peer = one_number(rest)?;
-            Ok(LineRequest::Grant { peer })
-        }
-        RequestWord::AskControl => {
-            let peer = one_number(rest)?;
-            Ok(LineRequest::AskControl { peer })
-        }
-        RequestWord::Handshake => {
-            let peer = one_number(rest)?;
-            Ok(LineRequest::Handshake { peer })
-        }
-        RequestWord::Respond => {
-            let peer = one_number(rest)?;
-            Ok(LineRequest::Respond { peer })
-        }
-        RequestWord::HandshakeGrant => {
-            let peer = one_number(rest)?;
-            Ok(LineRequest::HandshakeGrant { peer })
-        }
-        RequestWord::BeginTransaction => {
-            let peer = one_number(rest)?;
-            Ok(LineRequest::BeginTransaction { peer })
-        }
-        RequestWord::DeferEnd => {
-            let peer = one_number(rest)?;
-            Ok(LineRequest::DeferEnd { peer })
-        }
-        RequestWord::DeferGrant => {
-            let peer = one_number(rest)?;
-            Ok(LineRequest::DeferGrant { peer })
-        }
-        RequestWord::Prepare => {
-            let peer = one_number(rest)?;
-            Ok(LineRequest::Prepare { peer })
-        }
-        RequestWord::Commit => {
-            no_word(rest)?;
-            Ok(LineRequest::Commit)
-        }
-        RequestWord::Done => {
-            no_word(rest)?;
-            Ok(LineRequest::Done)
-        }
-        RequestWord::Rollback => {
-            no_word(rest)?;
-            Ok(LineRequest::Rollback)
-        }
-        RequestWord::Unchanged => {
-            no_word(rest)?;
-            Ok(LineRequest::Unchanged)
-        }
+        RequestWord::UError => one_number(rest).map(|peer| LineRequest::UError { peer }),
+        RequestWord::UAbort => one_number(rest).map(|peer| LineRequest::UAbort { peer }),
+        RequestWord::Grant => one_number(rest).map(|peer| LineRequest::Grant { peer }),
+        RequestWord::AskControl => one_number(rest).map(|peer| LineRequest::AskControl { peer }),
+        RequestWord::Handshake => one_number(rest).map(|peer| LineRequest::Handshake { peer }),
+        RequestWord::Respond => one_number(rest).map(|peer| LineRequest::Respond { peer }),
+        RequestWord::HandshakeGrant => one_number(rest).map(|peer| LineRequest::HandshakeGrant {
+            peer,
+        }),
+        RequestWord::BeginTransaction => one_number(rest).map(|peer| LineRequest::BeginTransaction {
+            peer,
+        }),
+        RequestWord::DeferEnd => one_number(rest).map(|peer| LineRequest::DeferEnd { peer }),
+        RequestWord::DeferGrant => one_number(rest).map(|peer| LineRequest::DeferGrant { peer }),
+        RequestWord::Prepare => one_number(rest).map(|peer| LineRequest::Prepare { peer }),
+        RequestWord::Commit => no_word(rest).map(|()| LineRequest::Commit),
+        RequestWord::Done => no_word(rest).map(|()| LineRequest::Done),
+        RequestWord::Rollback => no_word(rest).map(|()| LineRequest::Rollback),
+        RequestWord::Unchanged => no_word(rest).map(|()| LineRequest::Unchanged),
     }
 }
 
