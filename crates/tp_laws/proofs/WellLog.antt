@@ -1,5 +1,5 @@
 -- The records of a legal history are such as the next start may find.
-use Rattle.std.proofs.Common.{◌≡◌, ◌≤◌, ℕ, suc, Bool, true, false, refl, ap, sym, subst, ◌∙◌, arith, Option, Some, None, List, [], ◌∷◌, ◌++◌, ◌&&◌, ◌==◌, reverse}
+use Rattle.std.proofs.Common.{◌≡◌, ◌≤◌, ℕ, suc, Bool, true, refl, ap, sym, subst, ◌∙◌, arith, Option, Some, None, List, [], ◌∷◌, ◌++◌, ◌&&◌, reverse}
 use Rattle.std.specs.Prelude.{nat_le, nat_lt}
 use Rattle.std.proofs.lemmas.Bool.Decides.{nat_tests}
 use Rattle.std.proofs.lemmas.List.{reverse-append, reverse-reverse}
@@ -27,7 +27,7 @@ use Rattle.tp_model.specs.History.{digest, with_rec, records, again}
 use Rattle.tp_model.specs.World.{Node}
 use Rattle.tp_model.specs.Happenings.{Happening, run}
 use Rattle.tp_model.specs.Promises.{IsIn}
-use Rattle.tp_model.specs.Legal.{is_older, is_own_record, are_own_records, are_apart, is_start, IsGrown}
+use Rattle.tp_model.specs.Legal.{is_older, is_own_record, are_own_records, are_apart, is_start, IsGrown, IsLegal, RestartIsCrash, RecordsFollow, StartsAgain}
 use Rattle.tp_laws.specs.Moves.{prelude, begun_in, counted_in}
 use Rattle.tp_laws.specs.Restart.{is_earlier, are_earlier, IsFounded}
 use Rattle.tp_laws.proofs.Equal.{and_left, and_right, both_true}
@@ -40,8 +40,8 @@ use Rattle.tp_laws.proofs.SoundMoves.{AllKeys, KeepsKeys, keys_noted, keys_after
 use Rattle.tp_laws.proofs.SoundLog.{drawn_by, not_active}
 use Rattle.tp_laws.proofs.OrderMoves.{IsReached}
 use Rattle.tp_laws.proofs.StartLog.{IsSoundStart, sound_start}
-use Rattle.tp_laws.proofs.RestartLog.{founded}
-use Rattle.tp_laws.proofs.OrderLog.{rises, at_most_le, reached_first, order_law}
+use Rattle.tp_laws.proofs.RestartLog.{founded, restart}
+use Rattle.tp_laws.proofs.OrderLog.{rises, at_most_le, reached_first, order_law, records_follow}
 use Rattle.tp_laws.proofs.KinTurns.{kin, kids_seen}
 use Rattle.tp_laws.proofs.WellMoves.{is_reached, IsReachedKey, is_well, AreDrawn, IsWellIn, IsWellMove, drawn_list, apart_children, well_moves}
 
@@ -84,11 +84,11 @@ keys_later b c (k ∷ ks) le h = (reach_later b c k.key le h.0, keys_later b c k
 older : (b : ℕ) (k : NodeKey) → is_reached b k ≡ true → (is_older (suc b) k ≡ true) × (is_earlier (suc b) k ≡ true)
 older b k h = go k.branch h
   where
-    below : (i : ℕ) → nat_le i b ≡ true → ((i == suc b) ≡ false) × (nat_lt i (suc b) ≡ true)
-    below i h = (grind (arith, nat_tests, h), grind (arith, nat_tests, h))
+    below : (i : ℕ) → nat_le i b ≡ true → nat_lt i (suc b) ≡ true
+    below i h = grind (arith, nat_tests, h)
 
     go : (x : Option BranchId) → is_reached b (record k { branch = x }) ≡ true → (is_older (suc b) (record k { branch = x }) ≡ true) × (is_earlier (suc b) (record k { branch = x }) ≡ true)
-    go None h = let p = below k.aaid.mark.boot h in (rw p.0 refl, p.1)
+    go None h = let p = below k.aaid.mark.boot h in (p, p)
     go (Some i) h = (refl, refl)
 
 abbrev is_earlier_rec : ℕ → LogRec → Bool
@@ -296,3 +296,30 @@ starts_again o up h is =
 
 pub run_starts : (es : List Happening) (x : Node) → IsIn (run es) x → is_start (again x.origin x.history) ≡ true
 run_starts es x here = (starts_again x.origin x.superior x.history (founded es x here)).0
+
+-- ---- as the promises of one node state it
+
+own_earlier : (n b : ℕ) (r : LogRec) → is_own_record n b r ≡ true → is_earlier_rec b r ≡ true
+own_earlier n b (LogRec.Boot m) h = refl
+own_earlier n b (LogRec.Ready m k s cs) h = grind (arith, h)
+own_earlier n b (LogRec.Heuristic m k o) h = grind (arith, h)
+own_earlier n b (LogRec.Commit m k s cs) h = grind (arith, h)
+own_earlier n b (LogRec.Damage m k s o r cs) h = grind (arith, h)
+own_earlier n b (LogRec.End m k o) h = grind (arith, h)
+
+all_own_earlier : (n b : ℕ) (rs : List LogRec) → are_own_records n b rs ≡ true → are_earlier b rs ≡ true
+all_own_earlier n b [] h = refl
+all_own_earlier n b (r ∷ rs) h =
+    both_true (is_earlier_rec b r) (are_earlier b rs) (own_earlier n b r (and_left (is_own_record n b r) (are_own_records n b rs) h)) (all_own_earlier n b rs (and_right (is_own_record n b r) (are_own_records n b rs) h))
+
+founded_by : (o : Origin) (up : Option Addr) (h : List Entry) → IsLegal o up h → IsFounded o up h
+founded_by o up h legal = record { legal = legal; earlier = all_own_earlier o.who.node o.start.boot o.start.records (and_right (all_follow (LogRec.Boot o.start.boot ∷ o.start.records)) (are_own_records o.who.node o.start.boot o.start.records) legal.start) }
+
+pub restart_is_crash : RestartIsCrash
+restart_is_crash o up h legal = restart o up h (founded_by o up h legal)
+
+pub follow : RecordsFollow
+follow o up h legal = records_follow o up h (founded_by o up h legal)
+
+pub start_again : StartsAgain
+start_again o up h legal = (starts_again o up h (founded_by o up h legal)).0

@@ -24,7 +24,7 @@ ghost use Rattle.tp_model.specs.Events.{refusal, action};
 ghost use Rattle.tp_model.specs.Promises.{AllLegal, IsIn, PrefixTaken, OneHolder, WhatUsersSee, OneOutcome, IsOf, IsBranchOf, is_of_tree, has_logged};
 ghost use Rattle.tp_model.specs.World.{Node};
 ghost use Rattle.tp_model.specs.Outcomes.{decided, rolled, has_left};
-ghost use Rattle.tp_model.specs.Legal.{IsGrown, is_start, are_in_order};
+ghost use Rattle.tp_model.specs.Legal.{IsGrown, is_start, are_in_order, RestartIsCrash, RecordsFollow, StartsAgain};
 ghost use Rattle.tp_laws.specs.Worlds.{IsGood};
 ghost use Rattle.tp_laws.specs.Moves.{IsPut, IsLate, IsAmong, prelude};
 ghost use Rattle.tp_laws.specs.Facts.{IsFair, IsHeard, Reads};
@@ -38,7 +38,6 @@ ghost use Rattle.tp_laws.specs.Ends.{are_separate, IsAlone};
 ghost use Rattle.tp_laws.specs.Control.{TookBack, TookMore, answered, closed};
 ghost use Rattle.tp_laws.specs.Answering.{IsAnswering};
 ghost use Rattle.tp_laws.specs.Upward.{IsRising, IsRisen, SpeaksUp};
-ghost use Rattle.tp_laws.specs.Restart.{are_earlier, IsFounded};
 ghost use Rattle.tp_laws.specs.Standing.{IsUndecided, IsTold, current_after, IsApart};
 ghost use Rattle.tp_model.specs.Events.{recovered_current};
 ghost use Rattle.tp_model.specs.Node.{seen, turned, keep};
@@ -230,23 +229,22 @@ pub fn turns_are_in_the_log()
         → current_after (keep (settled k f) d).rec (recovered_current d.current) ≡ recovered_current (keep (settled k f) d).next.current }
 {}
 
-/// A start over the records of a log, with the next boot number, leaves the same as a crash: in every run, and in every
-/// legal history whose log held no root of a later boot at first.
+/// A start over the records of a log, with the next boot number, leaves the same as a crash: in every legal history, and
+/// in every run.
 pub fn restart_is_a_crash()
-    ensures history { (o : Origin) (up : Option Addr) (h : List Entry) → IsFounded o up h → digest (again o h) [] ≡ digest o (crashed h) }
+    ensures history { RestartIsCrash }
     ensures run { (es : List Happening) (x : Node) → IsIn (run es) x → digest (again x.origin x.history) [] ≡ digest x.origin (crashed x.history) }
 {}
 
-/// The records of a node's log stay in order behind its last boot, each following those before it: in every run, and in
-/// every legal history whose log held no root of a later boot at first.
+/// The records of a node's log stay in order behind its last boot, each following those before it: in every legal history,
+/// and in every run.
 pub fn records_stay_in_order()
-    ensures history { (o : Origin) (up : Option Addr) (h : List Entry) → IsFounded o up h → are_in_order o h ≡ true }
+    ensures history { RecordsFollow }
     ensures run { (es : List Happening) (x : Node) → IsIn (run es) x → are_in_order x.origin x.history ≡ true }
 {}
 
-/// The records of a node's log are such as its next start may find: in every run, and in every legal history whose log
-/// held no root of a later boot at first. Nor does it hold one then.
+/// The records of a node's log are such as its next start may find: in every legal history, and in every run.
 pub fn the_next_start_finds_its_records()
-    ensures history { (o : Origin) (up : Option Addr) (h : List Entry) → IsFounded o up h → (is_start (again o h) ≡ true) × (are_earlier (again o h).start.boot (again o h).start.records ≡ true) }
+    ensures history { StartsAgain }
     ensures run { (es : List Happening) (x : Node) → IsIn (run es) x → is_start (again x.origin x.history) ≡ true }
 {}

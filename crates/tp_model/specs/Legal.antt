@@ -1,5 +1,5 @@
 -- Which histories a node can have, and what is promised of each. Statements alone; nothing is proved here.
-use Rattle.std.specs.Prelude.{ℕ, ◌==◌, ◌≡◌, ◌&&◌, not, Bool, true, false, Option, Some, None, List, [], ◌∷◌, reverse}
+use Rattle.std.specs.Prelude.{ℕ, ◌==◌, ◌≡◌, ◌&&◌, not, nat_lt, Bool, true, false, Option, Some, None, List, [], ◌∷◌, reverse}
 use Rattle.tp_names.specs.declared.identifiers.NodeKey.{NodeKey}
 use Rattle.tp_names.specs.declared.children.Child.{Child}
 use Rattle.tp_names.specs.Same.{is_branch}
@@ -12,9 +12,9 @@ use Rattle.tp_model.specs.Consistency.{agrees}
 
 -- ---- a start
 
--- the record is one of the node, and its key, where it is a root's, is not of this boot
+-- the record is one of the node, and its key, where it is a root's, is of an earlier boot
 abbrev pub is_older : ℕ → NodeKey → Bool
-is_older boot k = elim k.branch [ None ↦ not (k.aaid.mark.boot == boot) | Some b ↦ true ]
+is_older boot k = elim k.branch [ None ↦ nat_lt k.aaid.mark.boot boot | Some b ↦ true ]
 
 -- children stand at different numbers, and have different identifiers
 abbrev pub is_apart : Child → List Child → Bool

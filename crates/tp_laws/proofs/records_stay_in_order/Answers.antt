@@ -1,5 +1,6 @@
-use Rattle.tp_laws.proofs.OrderLog.{records_follow, run_follows}
+use Rattle.tp_laws.proofs.OrderLog.{run_follows}
+use Rattle.tp_laws.proofs.WellLog.{follow}
 use Rattle.tp_laws.proofs.records_stay_in_order.Goals as goal
 
 pub returns : goal.returns
-returns c = record { history = records_follow; run = run_follows }
+returns c = record { history = follow; run = run_follows }
