@@ -14,3 +14,4 @@ pub mod BoundKeys
 pub mod LifeOrders
 pub mod LivesInOrder
 pub mod BriefOrders
+pub mod OrderChecks

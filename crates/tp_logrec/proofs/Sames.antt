@@ -4,9 +4,10 @@ use Rattle.std.proofs.lemmas.Bool.Decides.{nat_tests}
 use Rattle.std.specs.Prelude.{nat_eq, ◌&&◌, ◌==◌}
 use Rattle.tp_names.specs.declared.identifiers.Addr.{Addr}
 use Rattle.tp_names.specs.declared.children.Child.{Child}
-use Rattle.tp_names.specs.Same.{is_addr, is_branch, is_key, is_name}
-use Rattle.tp_names.proofs.Sames.{both, branch_same, key_same, key_self, name_same}
-use Rattle.tp_logrec.specs.Order.{Owner, is_owner, is_child, are_children, are_among}
+use Rattle.tp_names.specs.Same.{is_addr, is_branch, is_name}
+use Rattle.tp_names.proofs.Sames.{both, branch_same, name_same}
+use Rattle.tp_logrec.specs.Order.{is_child, are_children, are_among}
+pub use Rattle.tp_logrec.specs.Owners.{owner_same, owner_self, owner_either}
 
 pub children_differ : (cs ds : List Child) → length cs ≢ length ds → are_children cs ds ≡ false
 children_differ [] [] h = absurd (h refl)
@@ -26,24 +27,6 @@ among_none (c ∷ cs) (suc i) h = among_none cs i (omega arith) ∙ next
   where
     next : nat_eq i (length cs) ≡ nat_eq (suc i) (suc (length cs))
     next = grind (arith, nat_tests)
-
-pub owner_same : (a b : Owner) → is_owner a b ≡ true → a ≡ b
-owner_same a b e =
-    let p = both (a.node == b.node) (is_key a.key b.key) e in
-    let h : a.node ≡ b.node = grind (arith, nat_tests, p.0) in
-    ap (λ x. let w : Owner = record { node = x; key = a.key } in w) h
-    ∙ ap (λ x. let w : Owner = record { node = b.node; key = x } in w) (key_same a.key b.key p.1)
-
-pub owner_self : (a : Owner) → is_owner a a ≡ true
-owner_self a = let f = key_self a.key in grind (arith, nat_tests, f)
-
-pub owner_either : (a b : Owner) → is_owner a b ≡ is_owner b a
-owner_either a b = go (is_owner a b) (is_owner b a) refl refl
-  where
-    go : (x y : Bool) → is_owner a b ≡ x → is_owner b a ≡ y → is_owner a b ≡ is_owner b a
-    go true y e f = rw (owner_same a b e) refl
-    go false true e f = rw (owner_same b a f) refl
-    go false false e f = e ∙ sym f
 
 -- ---- what is owed of what is owed
 

@@ -3,7 +3,9 @@ pub mod RecordReading
 pub mod RecordScanning
 pub mod LogText
 pub mod Order
+pub mod Owners
 pub mod Standing
+pub mod OrderCheck
 pub mod Places
 pub mod Kinds
 pub mod Decoding

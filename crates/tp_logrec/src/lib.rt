@@ -5,12 +5,16 @@
 //! of this crate.
 #![tactic(auto)]
 
+mod bindings;
 mod decode;
 mod encode;
 pub mod laws;
 mod life;
 mod order;
+mod order_check;
 mod owner;
+mod recent;
+mod recent_keys;
 mod record;
 mod rules;
 mod same;
@@ -22,6 +26,7 @@ mod tests;
 pub use decode::decode_log;
 pub use encode::encode_log;
 pub use order::follows;
+pub use order_check::OrderCheck;
 pub use owner::Owner;
 pub use record::{LogRec, LogVersion};
 pub use standing::Standing;

@@ -12,7 +12,7 @@ use tp_names::NodeKey;
 
 /// The record may follow the list, which has the oldest first. This goes over the list once, and
 /// for a record that begins a key once more for each bound record of its node; where a whole log
-/// is checked record by record, use [`Standing`](crate::Standing).
+/// is checked record by record, use [`OrderCheck`](crate::OrderCheck).
 pub fn follows(list: &[LogRec], next: &LogRec) -> bool
     ensures { result ≡ follows list.now next.now }
 {

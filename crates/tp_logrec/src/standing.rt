@@ -176,7 +176,7 @@ fn bind(bound: &mut Vec<Bound>, owner: &Owner)
 }
 
 /// The number is above the greatest, if there is one.
-fn is_above(greatest: Option<u64>, number: u64) -> bool
+pub(crate) fn is_above(greatest: Option<u64>, number: u64) -> bool
     ensures { result ≡ is_above greatest number }
 {
     match greatest {
@@ -186,7 +186,7 @@ fn is_above(greatest: Option<u64>, number: u64) -> bool
 }
 
 /// The greater of two boot numbers, where the first may be missing.
-fn greater(greatest: Option<u64>, boot: u64) -> u64
+pub(crate) fn greater(greatest: Option<u64>, boot: u64) -> u64
     ensures { result ≡ greatest_by greatest boot }
 {
     match greatest {

@@ -1,6 +1,6 @@
 //! The texts of records both ways, and each rule of their order.
 use crate::encode::write_record;
-use crate::{LogRec, LogVersion, Standing, brief, decode_log, encode_log, follows};
+use crate::{LogRec, LogVersion, OrderCheck, Standing, brief, decode_log, encode_log, follows};
 use std::alloc::Global;
 use std::test::Fail;
 use tp_names::{
@@ -261,6 +261,7 @@ fn where_bytes_are_bad(rt: HostRuntime) -> Result<(), Fail> {
 struct Log {
     list: Vec<LogRec>,
     standing: Standing,
+    check: OrderCheck,
 }
 
 impl Log {
@@ -268,18 +269,20 @@ impl Log {
         Log {
             list: Vec::new(alloc),
             standing: Standing::new(alloc),
+            check: OrderCheck::new(alloc),
         }
     }
 
-    /// Whether the record follows, as both ways to ask agree. Where it does, it is taken.
+    /// Whether the record follows, as all three ways to ask agree. Where it does, it is taken.
     fn takes(&mut self, alloc: Global, rec: Result<LogRec, Fail>) -> Result<bool, Fail> {
         let rec = rec?;
         let may = follows(self.list.as_slice(), &rec);
-        if self.standing.follows(&rec) != may {
+        if self.standing.follows(&rec) != may || self.check.follows(&rec) != may {
             return Err(Fail::from("they differ"));
         }
         if may {
             self.standing.take(alloc, &rec)?;
+            self.check.take(alloc, &rec)?;
             self.list.push(rec)?;
         }
         Ok(may)
