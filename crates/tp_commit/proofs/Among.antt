@@ -11,7 +11,7 @@ use Rattle.tp_model.specs.Requests.{has_branch_at}
 use Rattle.tp_model.specs.Node.{is_end_deferred_at, seen_rows, seen, branches_of}
 use Rattle.tp_commit.specs.declared.row.Note.{Note}
 use Rattle.tp_commit.specs.Row.{noted, noted_at}
-use Rattle.tp_commit.specs.Standing.{are_distinct, is_peer, IsAmongArcs, IsAlike, IsCut, IsPutOff, is_named, AreNew}
+use Rattle.tp_model.specs.AmongArcs.{are_distinct, is_peer, IsAmongArcs, IsAlike, IsCut, IsPutOff, is_named, AreNew}
 use Rattle.tp_commit.proofs.Marks.{IsLater, IsMarked, has_row_at}
 use Rattle.tp_commit.proofs.Passages.{peer_of}
 

@@ -8,7 +8,7 @@ use Rattle.tp_model.specs.Links.{is_live}
 use Rattle.tp_model.specs.Dialogues.{is_end_deferred, cleared}
 use Rattle.tp_model.specs.Arcs.{find_arc, link_of, is_live_with_peer, without_arc, with_dialogues, carried_on, carried, performed}
 use Rattle.tp_model.specs.Node.{is_end_deferred_at, without_deferral}
-use Rattle.tp_commit.specs.Standing.{IsAlike}
+use Rattle.tp_model.specs.AmongArcs.{IsAlike}
 
 pub alike : (p : ℕ) (arcs : List Arc) → IsAlike p arcs arcs
 alike p arcs = record { live = refl; ends = refl }

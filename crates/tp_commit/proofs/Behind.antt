@@ -14,7 +14,7 @@ use Rattle.tp_model.specs.Node.{is_end_deferred_at, is_up_ending, seen, remainin
 use Rattle.tp_commit.specs.declared.row.Note.{Note}
 use Rattle.tp_commit.specs.Row.{noted}
 use Rattle.tp_commit.specs.Branch.{standing}
-use Rattle.tp_commit.specs.Standing.{IsAmongArcs, AreAlike, IsCut, IsPutOff, AreNew, Reaches, IsTakenUp}
+use Rattle.tp_model.specs.AmongArcs.{IsAmongArcs, AreAlike, IsCut, IsPutOff, AreNew, Reaches, IsTakenUp}
 use Rattle.tp_commit.proofs.Lasting.{lost_already, ending_already, user_goes, took_goes, lost_goes, heuristic_goes, ordered_goes, retried_goes, reply_goes}
 use Rattle.tp_commit.proofs.Passages.{stays_put}
 use Rattle.tp_commit.proofs.Among.{left_of, begun_among, among_alike, among_cut, among_off}

@@ -14,7 +14,7 @@ use Rattle.tp_model.specs.Node.{is_end_deferred_at, is_up_live, is_up_ending, se
 use Rattle.tp_model.specs.Requests.{has_branch_at}
 use Rattle.tp_model.specs.Events.{fresh_branches, recovered}
 use Rattle.tp_commit.specs.Branch.{key_from, begun, idle_rows, found, found_by, standing_row, standing_rows, standing}
-use Rattle.tp_commit.specs.Standing.{are_distinct, IsAmongArcs}
+use Rattle.tp_model.specs.AmongArcs.{are_distinct, IsAmongArcs}
 
 pub begun_known : (who : Who) (arcs : List Arc) (k : Key) → is_up_live arcs k ≡ is_under k → is_up_ending arcs k ≡ false → begun who.node k ≡ seen who arcs (fresh_current k)
 begun_known who arcs k live ends =

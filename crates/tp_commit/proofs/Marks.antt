@@ -10,7 +10,7 @@ use Rattle.tp_model.specs.Node.{is_end_deferred_at, is_up_live, is_up_ending, se
 use Rattle.tp_commit.specs.declared.row.Note.{Note}
 use Rattle.tp_commit.specs.Row.{noted, noted_at}
 use Rattle.tp_commit.specs.Branch.{standing_row, standing_rows}
-use Rattle.tp_commit.specs.Standing.{are_distinct, IsAlike, IsCut, IsPutOff, AreNew}
+use Rattle.tp_model.specs.AmongArcs.{are_distinct, IsAlike, IsCut, IsPutOff, AreNew}
 
 -- ---- marks
 

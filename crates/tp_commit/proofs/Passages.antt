@@ -9,7 +9,7 @@ use Rattle.tp_model.specs.Dialogues.{is_nil, is_committing, is_rolling, cleared}
 use Rattle.tp_model.specs.Arcs.{find_arc, is_live_with_peer, without_arc, with_dialogues, carried, shut_with, performed}
 use Rattle.tp_model.specs.Transactions.{Transaction, is_under_at}
 use Rattle.tp_model.specs.Node.{is_end_deferred_at, without_deferral, is_arc_of, Passage, Stays, Enters, Falls, Falls_at_once, Commits, Rolls_back, Leaves, passage, is_over, entered, played}
-use Rattle.tp_commit.specs.Standing.{IsAlike, IsCut}
+use Rattle.tp_model.specs.AmongArcs.{IsAlike, IsCut}
 use Rattle.tp_commit.proofs.Arcs.{alike, alike_carried, alike_performed, shuts_none, live_gone, ends_gone, alike_others, alike_cleared, live_forgotten, ends_forgotten}
 use Rattle.tp_commit.proofs.Marks.{IsLater, has_row_at}
 

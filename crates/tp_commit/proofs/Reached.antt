@@ -14,7 +14,7 @@ use Rattle.tp_model.specs.Requests.{has_branch_at}
 use Rattle.tp_model.specs.Node.{is_up_live, is_up_ending, seen_row, seen_rows, seen}
 use Rattle.tp_commit.specs.declared.row.Note.{Note}
 use Rattle.tp_commit.specs.Row.{noted, noted_at}
-use Rattle.tp_commit.specs.Standing.{is_peer, IsAmongArcs, IsAlike, AreAlike, IsCut, IsPutOff, Reaches}
+use Rattle.tp_model.specs.AmongArcs.{is_peer, IsAmongArcs, IsAlike, AreAlike, IsCut, IsPutOff, Reaches}
 use Rattle.tp_commit.proofs.Notes.{noted_row}
 use Rattle.tp_commit.proofs.Marks.{apart_rows, rows_alike, off_rows}
 use Rattle.tp_commit.proofs.Shown.{or_first, or_second}

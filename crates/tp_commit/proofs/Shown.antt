@@ -9,7 +9,7 @@ use Rattle.tp_model.specs.Arcs.{performed}
 use Rattle.tp_model.specs.Transactions.{Row, Transaction, Turn, is_under_at, transacted}
 use Rattle.tp_model.specs.Node.{is_up_live, is_up_ending, seen_rows, seen, branches_of, is_leaving, passage, entered, turned}
 use Rattle.tp_commit.specs.Branch.{standing_rows, standing}
-use Rattle.tp_commit.specs.Standing.{is_peer, IsAmongArcs, AreNew}
+use Rattle.tp_model.specs.AmongArcs.{is_peer, IsAmongArcs, AreNew}
 use Rattle.tp_commit.proofs.Marks.{IsLater, has_row_at, rows_stand, seen_has, seen_twice, up_later, begun_stand}
 use Rattle.tp_commit.proofs.Among.{left_of, left_seen, marked_numbers, rows_among}
 use Rattle.tp_commit.proofs.Still.{IsStill, Goes}

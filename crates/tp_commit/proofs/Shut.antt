@@ -14,7 +14,7 @@ use Rattle.tp_model.specs.Node.{is_end_deferred_at, is_up_live, is_up_ending, se
 use Rattle.tp_model.specs.Requests.{has_branch_at}
 use Rattle.tp_commit.specs.declared.row.Note.{Note}
 use Rattle.tp_commit.specs.Row.{noted, noted_at}
-use Rattle.tp_commit.specs.Standing.{IsAmongArcs, IsCut, is_peer}
+use Rattle.tp_model.specs.AmongArcs.{IsAmongArcs, is_peer, IsCut}
 use Rattle.tp_commit.proofs.Notes.{noted_row}
 use Rattle.tp_commit.proofs.Marks.{IsLater, cuts, has_row_at, seen_has, noted_has, cut_seen, cut_rows, apart_rows}
 use Rattle.tp_commit.proofs.Still.{IsStill, Goes, still_turn, goes_commit, goes_roll, goes_left}

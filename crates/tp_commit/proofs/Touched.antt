@@ -14,7 +14,8 @@ use Rattle.tp_model.specs.Arcs.{find_arc, link_of, is_live_with_peer, with_dialo
 use Rattle.tp_model.specs.Transactions.{Transaction, aaid_of, situation_of, transacted}
 use Rattle.tp_model.specs.Node.{Move, move, perform, is_end_deferred_at, is_superior, with_mark_drawn, seen, remaining, with_begun, may_begin_on, begin_on}
 use Rattle.tp_commit.specs.Branch.{standing}
-use Rattle.tp_commit.specs.Standing.{is_peer, IsAmongArcs, IsAlike, AreAlike, IsPutOff, AreNew, child_on}
+use Rattle.tp_model.specs.AmongArcs.{is_peer, IsAmongArcs, IsAlike, AreAlike, IsPutOff, AreNew}
+use Rattle.tp_commit.specs.Standing.{child_on}
 use Rattle.tp_commit.proofs.Arcs.{alike, alike_then, alike_carried}
 use Rattle.tp_commit.proofs.Passages.{peer_of}
 use Rattle.tp_commit.proofs.Among.{left_of, begun_among, among_alike}

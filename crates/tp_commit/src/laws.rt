@@ -20,7 +20,8 @@ ghost use Rattle.tp_model.specs.Node.{is_up_live, is_up_ending, is_end_deferred_
 ghost use Rattle.tp_model.specs.Requests.{has_branch_at};
 ghost use Rattle.tp_model.specs.Events.{fresh_branches, recovered};
 ghost use Rattle.tp_commit.specs.Branch.{key_from, begun, found_by, tells_transaction, standing};
-ghost use Rattle.tp_commit.specs.Standing.{are_distinct, IsAmongArcs, AreAlike, IsCut, IsPutOff, Reaches, IsTakenUp, child_on};
+ghost use Rattle.tp_model.specs.AmongArcs.{are_distinct, IsAmongArcs, AreAlike, IsCut, IsPutOff, Reaches, IsTakenUp};
+ghost use Rattle.tp_commit.specs.Standing.{child_on};
 
 /// A `Branch` stands for what is known of the node's current transaction: it begins as one that has just
 /// begun, over a live arc on which no end is deferred; a record of the log is the transaction of the node
@@ -60,7 +61,8 @@ pub fn an_event_changes_its_own_arc()
 /// transaction starts. Where it stood for what was known before the event, it asks for what the event of the
 /// node asks for; where the transaction goes on, it stands for that transaction among the arcs behind the
 /// event, whatever was shut, closed, cleared or taken back there, and the two are in order as before; where it
-/// is over, its phase is Nil. So it does behind each branch that begins.
+/// is over, its phase is Nil. So it does behind each branch that begins. That the two are in order in every legal
+/// history, and that an event reaches the arcs at which it comes, are laws of `tp_laws::arcs`.
 pub fn a_branch_stands_behind_every_event()
     ensures asks { (who : Who) (f : TxEvent) (d : Digest) (c : Current) (arcs : List Arc) → IsAmongArcs arcs c → Reaches f c arcs d.arcs
         → step_of (transacted f (seen who arcs c)) ≡ step_of (transacted f (seen who d.arcs c)) }

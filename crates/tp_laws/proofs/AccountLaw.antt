@@ -59,17 +59,17 @@ voted_next o up p g rs e h rules old x y v = go (took_case e.event p x y)
 -- ---- the word that marks a branch
 
 -- the event takes a word, and the branch that stands there has the key at its place
-record TookMark (o : Origin) (p : ℕ) (g : Deeds) (rs : List LogRec) (e : Event) (h : List Entry) (r : DialogueRecord) (j : BranchKey) : Type 0 where
-  from : Addr
-  x : Mark
-  y : Mark
-  seq : ℕ
-  is : e ≡ Event.Arrive from (PeerRecord.OnAssoc x y seq r)
-  at : from.node ≡ p
-  heeded : is_heeded (keys_to x y p h) g rs (ends_from x y p h) (votes_from x y p h) r ≡ true
-  place : votes_from x y p h ≡ false → suc (ends_from x y p h) ≤ length (keys_to x y p h) → slice_get (keys_to x y p h) (ends_from x y p h) ≡ Some j
+pub record TookMark (o : Origin) (p : ℕ) (g : Deeds) (rs : List LogRec) (e : Event) (h : List Entry) (r : DialogueRecord) (j : BranchKey) : Type 0 where
+  pub from : Addr
+  pub x : Mark
+  pub y : Mark
+  pub seq : ℕ
+  pub is : e ≡ Event.Arrive from (PeerRecord.OnAssoc x y seq r)
+  pub at : from.node ≡ p
+  pub heeded : is_heeded (keys_to x y p h) g rs (ends_from x y p h) (votes_from x y p h) r ≡ true
+  pub place : votes_from x y p h ≡ false → suc (ends_from x y p h) ≤ length (keys_to x y p h) → slice_get (keys_to x y p h) (ends_from x y p h) ≡ Some j
 
-took_mark : (o : Origin) (up : Option Addr) (p : ℕ) (g : Deeds) (rs : List LogRec) (e : Entry) (h : List Entry) → Rules o up p g rs e h → Accounts o p g rs h → (r : DialogueRecord) (j : BranchKey) (may : TxEvent → Transaction → ℕ → Bool) (m : MayMark o.who e.event (prelude o.who (digest o h) e.event) may p j)
+pub took_mark : (o : Origin) (up : Option Addr) (p : ℕ) (g : Deeds) (rs : List LogRec) (e : Entry) (h : List Entry) → Rules o up p g rs e h → Accounts o p g rs h → (r : DialogueRecord) (j : BranchKey) (may : TxEvent → Transaction → ℕ → Bool) (m : MayMark o.who e.event (prelude o.who (digest o h) e.event) may p j)
     → ((a : Addr) (x y : Mark) (q : ℕ) → (prelude o.who (digest o h) (Event.Arrive a (PeerRecord.OnAssoc x y q r))).current ≡ (digest o h).current) → m.event ≡ TxEvent.Took p r → TookMark o p g rs e.event h r j
 took_mark o up p g rs e h rules old r j may m quiet word = record {
   from = t.from;
@@ -116,14 +116,14 @@ voted_long ks rs n h = go (slice_get ks n) refl
     go None i = absurd (cc (rw (i, is_voted) at h))
     go (Some j) i = get_long ks n j i
 
-holds_long : (ks : List BranchKey) (n : ℕ) (f : Aaid → Bool) → holds_at ks n f ≡ true → suc n ≤ length ks
+pub holds_long : (ks : List BranchKey) (n : ℕ) (f : Aaid → Bool) → holds_at ks n f ≡ true → suc n ≤ length ks
 holds_long ks n f h = go (slice_get ks n) refl
   where
     go : (b : Option BranchKey) → slice_get ks n ≡ b → suc n ≤ length ks
     go None i = absurd (cc (rw (i, holds_at) at h))
     go (Some j) i = get_long ks n j i
 
-holds_key : (ks : List BranchKey) (n : ℕ) (f : Aaid → Bool) (j : BranchKey) → slice_get ks n ≡ Some j → holds_at ks n f ≡ true → f j.0 ≡ true
+pub holds_key : (ks : List BranchKey) (n : ℕ) (f : Aaid → Bool) (j : BranchKey) → slice_get ks n ≡ Some j → holds_at ks n f ≡ true → f j.0 ≡ true
 holds_key ks n f j i h = rw (i, holds_at) at h
 
 -- Ready that counts a branch was logged for it
@@ -133,7 +133,7 @@ counted_ready o p g rs e h j t =
     voted_ready (keys_to t.x t.y p h) rs (ends_from t.x t.y p h) j (t.place v.0 (voted_long (keys_to t.x t.y p h) rs (ends_from t.x t.y p h) v.1)) v.1
 
 -- a branch that leaves left the tree
-left_key : (o : Origin) (p : ℕ) (g : Deeds) (rs : List LogRec) (e : Event) (h : List Entry) (r : DialogueRecord) (j : BranchKey) (t : TookMark o p g rs e h r j) → (not (votes_from t.x t.y p h) && holds_at (keys_to t.x t.y p h) (ends_from t.x t.y p h) g.left) ≡ true → g.left j.0 ≡ true
+pub left_key : (o : Origin) (p : ℕ) (g : Deeds) (rs : List LogRec) (e : Event) (h : List Entry) (r : DialogueRecord) (j : BranchKey) (t : TookMark o p g rs e h r j) → (not (votes_from t.x t.y p h) && holds_at (keys_to t.x t.y p h) (ends_from t.x t.y p h) g.left) ≡ true → g.left j.0 ≡ true
 left_key o p g rs e h r j t both =
     let held = and_right (not (votes_from t.x t.y p h)) (holds_at (keys_to t.x t.y p h) (ends_from t.x t.y p h) g.left) both in
     let off = no_vote (votes_from t.x t.y p h) (and_left (not (votes_from t.x t.y p h)) (holds_at (keys_to t.x t.y p h) (ends_from t.x t.y p h) g.left) both) in

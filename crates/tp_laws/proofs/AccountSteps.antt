@@ -195,7 +195,7 @@ open_one : (l n q : ℕ) → l ≤ n + q → q ≤ 1 → l ≤ n + 1
 open_one l n q h z = omega (arith, h, z)
 
 -- past the active phase, on a live association, what stands open is counted
-open_counted : (s : Digest) (c : Current) (p : ℕ) → SettledAt s → s.current ≡ Some c → is_bound_phase c.phase ≡ true → is_live (link_with s.arcs p) ≡ true → open_at s.current p ≡ 1 → (j : BranchKey) × Marked counted_of s.current p j × (j.0 ≡ aaid_of c.key)
+pub open_counted : (s : Digest) (c : Current) (p : ℕ) → SettledAt s → s.current ≡ Some c → is_bound_phase c.phase ≡ true → is_live (link_with s.arcs p) ≡ true → open_at s.current p ≡ 1 → (j : BranchKey) × Marked counted_of s.current p j × (j.0 ≡ aaid_of c.key)
 open_counted s c p settled at bound live one = go (find_branch c.branches p) refl
   where
     stands : open_at (Some c) p ≡ 1
@@ -245,7 +245,7 @@ heeded_vote ks g rs n v DialogueRecord.Ready i h = (grind (arith, h), grind (ari
 heeded_vote ks g rs n v r i h = absurd (grind (arith, i))
 
 -- what an end tells behind a debt: it is Done
-debt_word : (ks : List BranchKey) (g : Deeds) (rs : List LogRec) (n : ℕ) (v : Bool) (r : DialogueRecord) (j : BranchKey) → is_end r ≡ true → v ≡ true → slice_get ks n ≡ Some j → is_heeded ks g rs n v r ≡ true → (g.rolled j.0 ≡ true → ⊥) → (w : _) × (r ≡ DialogueRecord.Done w)
+pub debt_word : (ks : List BranchKey) (g : Deeds) (rs : List LogRec) (n : ℕ) (v : Bool) (r : DialogueRecord) (j : BranchKey) → is_end r ≡ true → v ≡ true → slice_get ks n ≡ Some j → is_heeded ks g rs n v r ≡ true → (g.rolled j.0 ≡ true → ⊥) → (w : _) × (r ≡ DialogueRecord.Done w)
 debt_word ks g rs n v (DialogueRecord.Done w) j i vt at h never = (w, refl)
 debt_word ks g rs n v (DialogueRecord.RolledBack w) j i vt at h never =
     let one : holds_at ks n g.rolled ≡ true = and_left (holds_at ks n g.rolled) true (grind (arith, h)) in

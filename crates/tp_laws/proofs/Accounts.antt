@@ -52,7 +52,7 @@ leaves_mark = record { moves = λ f q p b n m h. m.left h; fresh = λ c. refl }
 some_same : (x y : Current) → Some x ≡ Some y → x ≡ y
 some_same x y h = cc (h)
 
-none_again : (mark : Branch → Bool) → ((c : Child) → mark (fresh_branch c) ≡ false) → (bs : List Branch) (p : ℕ) (b : Branch) → find_branch (named_again bs) p ≡ Some b → mark b ≡ true → ⊥
+pub none_again : (mark : Branch → Bool) → ((c : Child) → mark (fresh_branch c) ≡ false) → (bs : List Branch) (p : ℕ) (b : Branch) → find_branch (named_again bs) p ≡ Some b → mark b ≡ true → ⊥
 none_again mark fresh [] p b h i = absurd (cc (h))
 none_again mark fresh (x ∷ bs) p b h i = go x.left refl (λ k. none_again mark fresh bs p b k i)
   where
@@ -122,7 +122,7 @@ asked_took (Event.Arrive a (PeerRecord.OnAssoc x y q w)) c p r asked =
     let node : p ≡ a.node = cc (asked) in
     let word : r ≡ w = cc (asked) in
     record { from = a; x = x; y = y; seq = q; is = ap (λ (v : DialogueRecord). Event.Arrive a (PeerRecord.OnAssoc x y q v)) (sym word); at = sym node }
-asked_took (Event.Arrive a (PeerRecord.RecReply t b (RecState.Done w))) c p r asked = absurd (cc (asked))
+asked_took (Event.Arrive a (PeerRecord.RecReply t b (RecState.Done w))) c p r asked = absurd (cc (asked.0))
 asked_took (Event.Arrive a (PeerRecord.RecReply t b RecState.Commit)) c p r asked = absurd (cc (asked.0))
 asked_took (Event.Arrive a (PeerRecord.RecReply t b RecState.Unknown)) c p r asked = absurd (cc (asked.0))
 asked_took (Event.Arrive a (PeerRecord.RecReply t b RecState.RetryLater)) c p r asked = absurd (cc (asked.0))

@@ -39,7 +39,7 @@ use Rattle.tp_laws.proofs.Answered.{Hears, answered_event}
 
 -- ---- what an event closes
 
-asked_user : (r : Request) (c : Current) (f : TxEvent) → IsAskedByRequest r c f → (q : Request) × (f ≡ TxEvent.User q)
+pub asked_user : (r : Request) (c : Current) (f : TxEvent) → IsAskedByRequest r c f → (q : Request) × (f ≡ TxEvent.User q)
 asked_user (Request.UAbort p) c f h = (Request.UAbort p, h.0)
 asked_user (Request.DeferEnd p) c f h = (Request.DeferEnd p, h)
 asked_user (Request.DeferGrant p) c f h = (Request.DeferGrant p, h)
@@ -71,7 +71,7 @@ hears_event who (Event.Arrive from (PeerRecord.ShutAssoc x None)) p s c f arcs i
 hears_event who (Event.Arrive from (PeerRecord.ShutAssoc x (Some y))) p s c f arcs is asked under h = absurd (not_heard f (TxEvent.Lost from.node) (seen who arcs c) asked h refl)
 hears_event who (Event.Arrive from (PeerRecord.RecCommit t b)) p s c f arcs is asked under h = absurd (not_heard f TxEvent.Ordered (seen who arcs c) asked.0 h refl)
 hears_event who (Event.Arrive from (PeerRecord.RecReply t b RecState.Commit)) p s c f arcs is asked under h = absurd (not_heard f (TxEvent.Reply b RecState.Commit) (seen who arcs c) asked.0 h refl)
-hears_event who (Event.Arrive from (PeerRecord.RecReply t b (RecState.Done r))) p s c f arcs is asked under h = absurd (not_heard f (TxEvent.Reply b (RecState.Done r)) (seen who arcs c) asked h refl)
+hears_event who (Event.Arrive from (PeerRecord.RecReply t b (RecState.Done r))) p s c f arcs is asked under h = absurd (not_heard f (TxEvent.Reply b (RecState.Done r)) (seen who arcs c) asked.0 h refl)
 hears_event who (Event.Arrive from (PeerRecord.RecReply t b RecState.Unknown)) p s c f arcs is asked under h =
     let ready : is_ready c.phase ≡ true = sym (ap (λ (u : TxEvent). hears_close u (seen who arcs c)) asked.0) ∙ h in
     ap is_ready (phase_at s c is) ∙ ready
@@ -108,11 +108,11 @@ closing_by s p (Event.Arrive from (PeerRecord.OnAssoc x y q r)) h =
 closing_by s p (Event.Arrive from (PeerRecord.RecReply t b RecState.Unknown)) h = inr h
 closing_by s p e h = absurd (cc (h))
 
-took_it : (p : ℕ) (from : Addr) (x y : Mark) (q : ℕ) (r : DialogueRecord) → from.node ≡ p → took_of x y p (Event.Arrive from (PeerRecord.OnAssoc x y q r)) ≡ r ∷ []
+pub took_it : (p : ℕ) (from : Addr) (x y : Mark) (q : ℕ) (r : DialogueRecord) → from.node ≡ p → took_of x y p (Event.Arrive from (PeerRecord.OnAssoc x y q r)) ≡ r ∷ []
 took_it p from x y q r at = grind (arith, nat_tests, at, mark_same x, mark_same y)
 
 -- an event that takes nothing from the peer takes no record of it
-took_none : (p : ℕ) (e : Event) (from : Addr) (x y : Mark) (q : ℕ) (r : DialogueRecord) → e ≡ Event.Arrive from (PeerRecord.OnAssoc x y q r) → from.node ≡ p → took_of x y p e ≡ [] → ⊥
+pub took_none : (p : ℕ) (e : Event) (from : Addr) (x y : Mark) (q : ℕ) (r : DialogueRecord) → e ≡ Event.Arrive from (PeerRecord.OnAssoc x y q r) → from.node ≡ p → took_of x y p e ≡ [] → ⊥
 took_none p e from x y q r is at none = let one : took_of x y p e ≡ r ∷ [] = ap (took_of x y p) is ∙ took_it p from x y q r at in cc (one, none)
 
 -- ---- rounds with one more record
@@ -247,7 +247,7 @@ holds_begun cl sent taken r s o p k cur old none begins = (omega (arith, old.0, 
         let same : fresh_current k ≡ x = cc (sym cur ∙ is) in
         subst (λ (y : Current). MayAnswer cl (answered sent) (closed (taken ++ r ∷ [])) (voted sent) (begun (taken ++ r ∷ [])) y.asked y.phase y.told_prepare y.superior_rolled) same fresh
 
-empty_list : (xs : List DialogueRecord) → length xs ≡ 0 → xs ≡ []
+pub empty_list : (xs : List DialogueRecord) → length xs ≡ 0 → xs ≡ []
 empty_list [] h = refl
 empty_list (x ∷ xs) h = absurd cc
 

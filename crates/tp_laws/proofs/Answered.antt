@@ -218,16 +218,16 @@ answered_moves who e s p sup fall shut cl hears h = record {
       let x = one up lives in
       let y = two (x.0.superior ∙ up) (λ l. lives (x.0.back l)) in
       (h.chain d a f (λ u l. x.0) (λ u l. y.0) quiet up lives, answered_then p sup fall shut cl s d a f y.0 x.1 y.1);
-  speaks = λ d outs k own up lives. (h.speaks d outs k own up lives, answered_perform p cl d outs k);
-  changes_dialogue = λ d q f m one up lives.
+  speaks = λ d outs k own said up lives. (h.speaks d outs k own said up lives, answered_perform p cl d outs k);
+  changes_dialogue = λ d q f m by one up lives.
       let same : link_with (with_dialogue d.arcs q f) p ≡ link_with d.arcs p = link_dialogue d.arcs q f p in
       let x = one up (λ l. lives (ap is_live (sym same) ∙ l)) in
-      (h.changes_dialogue d q f m (λ u l. x.0) up lives, record { answers = x.1.answers });
+      (h.changes_dialogue d q f m by (λ u l. x.0) up lives, record { answers = x.1.answers });
   drops_arc = λ d q m one up lives. let x = one up (λ l. lives (dropped_live d.arcs q p l)) in (h.drops_arc d q m (λ u l. x.0) up lives, record { answers = x.1.answers });
   notes_kept = λ d ks m held one up lives. let x = one up lives in (h.notes_kept d ks m held (λ u l. x.0) up lives, record { answers = x.1.answers });
   keeps = λ d k f held up lives. (h.keeps d k f held up lives, answered_keep p cl d k f);
   turns = λ d c f now at asked put gone up lives. (h.turns d c f now at asked put gone up lives, answered_turned who e f d s c p cl hears now at asked put gone);
-  begins = λ d q up lives. (h.begins d q up lives, answered_begins who p q cl d);
+  begins = λ d q free up lives. (h.begins d q free up lives, answered_begins who p q cl d);
   roots = λ d m nil may one up lives. let x = one up lives in (h.roots d m nil may (λ u l. x.0) up lives, answered_root p cl d _ m x.1);
 }
 

@@ -53,7 +53,7 @@ settled_of k (KeptEvent.Done a b r) = grind arith
 settled_of k KeptEvent.Forget = grind arith
 settled_of k KeptEvent.Purge = refl
 
-not_let_go : (j : NodeKey) (o : Option Current) → ((c : Current) → o ≡ Some c → j ≡ node_key c.key → ⊥) → without_current j o ≡ o
+pub not_let_go : (j : NodeKey) (o : Option Current) → ((c : Current) → o ≡ Some c → j ≡ node_key c.key → ⊥) → without_current j o ≡ o
 not_let_go j None i = refl
 not_let_go j (Some c) i = go (is_key (node_key c.key) j) refl
   where

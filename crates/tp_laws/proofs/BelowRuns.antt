@@ -1,5 +1,5 @@
 -- In every run, what a superior's history tells of the nodes below it.
-use Rattle.std.proofs.Common.{◌≡◌, ◌⊎◌, inl, inr, ℕ, Bool, true, false, refl, ap, sym, subst, ◌∙◌, arith, Option, Some, None, List, [], ◌∷◌, ◌&&◌, ◌||◌}
+use Rattle.std.proofs.Common.{◌≡◌, ◌⊎◌, inl, inr, ℕ, Bool, true, false, refl, ap, sym, subst, ◌∙◌, arith, Option, Some, None, List, [], ◌∷◌}
 use Rattle.tp_names.specs.declared.identifiers.Aaid.{Aaid}
 use Rattle.tp_names.specs.declared.identifiers.BranchId.{BranchId}
 use Rattle.tp_names.specs.declared.identifiers.NodeKey.{NodeKey}
@@ -15,34 +15,26 @@ use Rattle.tp_model.specs.Transactions.{node_key, superior_of}
 use Rattle.tp_model.specs.Node.{fresh_current}
 use Rattle.tp_model.specs.Events.{action, recovered_current}
 use Rattle.tp_model.specs.History.{digest, records, with_rec}
-use Rattle.tp_model.specs.Outcomes.{is_now, is_member, rolls, is_crash_in_active, rolled}
 use Rattle.tp_model.specs.Questions.{is_at}
-use Rattle.tp_model.specs.World.{Node, number_of, addr_of, find_node}
+use Rattle.tp_model.specs.World.{Node, number_of, addr_of}
 use Rattle.tp_model.specs.Happenings.{Happening, run}
 use Rattle.tp_model.specs.Promises.{IsBranchOf, has_record, has_begun, is_begin_of}
 use Rattle.tp_model.specs.Promises.{is_ready_of as is_ready_rec}
 use Rattle.tp_model.specs.Legal.{IsGrown}
 use Rattle.tp_laws.specs.Histories.{HasSent, HasTaken, brought}
-use Rattle.tp_laws.specs.Worlds.{IsGood}
 use Rattle.tp_laws.specs.Moves.{prelude}
 use Rattle.tp_laws.specs.Facts.{BranchKey, is_ready_of, has_ready_of}
 use Rattle.tp_laws.specs.Trees.{IsLoggedIn}
-use Rattle.tp_laws.specs.Upward.{deeds_of}
 use Rattle.tp_laws.specs.Keyed.{HasKeyFrom, IsKeyedMove}
-use Rattle.tp_laws.specs.Hanging.{LeftDown, UnknownIsRolled}
 use Rattle.tp_laws.proofs.Late.{late_law}
 use Rattle.tp_laws.proofs.EveryEvent.{every_move}
 use Rattle.tp_laws.proofs.Keyed.{keyed_moves}
 use Rattle.tp_laws.proofs.Knowing.{Came, As_it_was, By_begin, By_crash, came_by, current_none, treed_event}
-use Rattle.tp_laws.proofs.Equal.{aaids_equal, branches_equal, addrs_equal, or_case, and_left}
-use Rattle.tp_laws.proofs.Fated.{fated_law}
-use Rattle.tp_laws.proofs.Unique.{TookOn, took_has, unique_run}
-use Rattle.tp_laws.proofs.Hanging.{some_same, member_head, began_from, sent_member}
+use Rattle.tp_laws.proofs.Equal.{aaids_equal, branches_equal, addrs_equal, or_case}
+use Rattle.tp_laws.proofs.Unique.{TookOn}
+use Rattle.tp_laws.proofs.Hanging.{some_same}
 use Rattle.tp_laws.proofs.Good.{good_run, Sender, was_sent}
-use Rattle.tp_laws.proofs.Family.{begun_up, at_same}
-use Rattle.tp_laws.proofs.Agreed.{rolls_up}
-use Rattle.tp_laws.proofs.Heeded.{heeds_run}
-use Rattle.tp_laws.proofs.LeftDown.{Below, left_sent}
+use Rattle.tp_laws.proofs.Family.{begun_up}
 
 -- ---- whose key is current, or was logged ready, has taken its Begin
 
@@ -54,7 +46,7 @@ pub record TookKey (h : List Entry) (t : Aaid) (b : BranchId) : Type 0 where
   pub holder : Holder
   pub took : TookOn h from x y seq (DialogueRecord.Begin t b holder)
 
-later_key : (e : Entry) (h : List Entry) (t : Aaid) (b : BranchId) → TookKey h t b → TookKey (e ∷ h) t b
+pub later_key : (e : Entry) (h : List Entry) (t : Aaid) (b : BranchId) → TookKey h t b → TookKey (e ∷ h) t b
 later_key e h t b k = record { from = k.from; x = k.x; y = k.y; seq = k.seq; holder = k.holder; took = inr k.took }
 
 recovered_from : (o : Option Current) (u : Current) → recovered_current o ≡ Some u → (c : Current) × (o ≡ Some c) × (u.key ≡ c.key)
@@ -65,7 +57,7 @@ same_key : (v w : Aaid) (x y : BranchId) (f g : Addr) → Under v x f ≡ Under 
 same_key v w x y f g k = (cc (k), cc (k))
 
 -- behind the prelude of an event
-behind_key : (o : Origin) (up : Option Addr) (e : Entry) (h : List Entry) (c : Current) (t : Aaid) (b : BranchId) (a : Addr) → IsGrown o up (e ∷ h) → (prelude o.who (digest o h) e.event).current ≡ Some c → c.key ≡ Under t b a → ((v : Current) → (digest o h).current ≡ Some v → v.key ≡ Under t b a → TookKey h t b) → TookKey (e ∷ h) t b
+pub behind_key : (o : Origin) (up : Option Addr) (e : Entry) (h : List Entry) (c : Current) (t : Aaid) (b : BranchId) (a : Addr) → IsGrown o up (e ∷ h) → (prelude o.who (digest o h) e.event).current ≡ Some c → c.key ≡ Under t b a → ((v : Current) → (digest o h).current ≡ Some v → v.key ≡ Under t b a → TookKey h t b) → TookKey (e ∷ h) t b
 behind_key o up e h c t b a legal at key rest = go (came_by o.who (digest o h) e.event legal.0)
   where
     go : Came o.who (digest o h) e.event → TookKey (e ∷ h) t b
@@ -79,7 +71,7 @@ behind_key o up e h c t b a legal at key rest = go (came_by o.who (digest o h) e
         word from x y q v t w b g i j = rw (i, j) refl
     go (By_crash is cur) = let r = recovered_from (digest o h).current c (sym cur ∙ at) in later_key e h t b (rest r.0 r.1 (sym r.2 ∙ key))
 
-current_took : (o : Origin) (up : Option Addr) (h : List Entry) (u : Current) (t : Aaid) (b : BranchId) (a : Addr) → o.start.records ≡ [] → IsGrown o up h → (digest o h).current ≡ Some u → u.key ≡ Under t b a → TookKey h t b
+pub current_took : (o : Origin) (up : Option Addr) (h : List Entry) (u : Current) (t : Aaid) (b : BranchId) (a : Addr) → o.start.records ≡ [] → IsGrown o up h → (digest o h).current ≡ Some u → u.key ≡ Under t b a → TookKey h t b
 current_took o up [] u t b a empty legal i key = absurd (cc (current_none o empty, i))
 current_took o up (e ∷ h) u t b a empty legal i key = go (moves.keys u i) (λ v at k. current_took o up h v t b a empty legal.3 at k)
   where
@@ -146,51 +138,10 @@ ready_logged j (LogRec.Heuristic n k u ∷ rs) h = ready_logged j rs h
 ready_logged j (LogRec.Damage n k s u r cs ∷ rs) h = ready_logged j rs h
 ready_logged j (LogRec.End n k u ∷ rs) h = ready_logged j rs h
 
-rolled_member : (o : Origin) (t : Aaid) (h : List Entry) → rolled o t h ≡ true → is_member o t h ≡ true
-rolled_member o t [] r = absurd (cc (r))
-rolled_member o t (e ∷ h) r = elim (or_case (is_now t (digest o h).current && (rolls o.who (digest o h) e.event || is_crash_in_active (digest o h) e.event)) (rolled o t h) r) [
-  | inl i ↦ (let m = member_head o t h (and_left (is_now t (digest o h).current) (rolls o.who (digest o h) e.event || is_crash_in_active (digest o h) e.event) i) in rw m (grind arith))
-  | inr i ↦ (let m = rolled_member o t h i in rw m (grind arith))
-]
-
 -- ---- every run
 
 some_node : (u v : Node) → Some u ≡ Some v → u ≡ v
 some_node u v h = cc (h)
-
--- a key that was taken is that of a branch of the superior
-took_branch : (es : List Happening) (x y : Node) (t : Aaid) (b : BranchId) → find_node (run es).nodes (number_of x) ≡ Some x → find_node (run es).nodes (number_of y) ≡ Some y → is_at y.superior (number_of x) ≡ true → is_member y.origin t y.history ≡ true → TookKey y.history t b → IsBranchOf (run es) t b x y
-took_branch es x y t b hx hy above member k =
-    let good = good_run es in
-    let legal = good.legal (number_of y) y hy in
-    let frame = good.taken (number_of y) y k.from (PeerRecord.OnAssoc k.x k.y k.seq (DialogueRecord.Begin t b k.holder)) hy (took_has y.history k.from k.x k.y k.seq (DialogueRecord.Begin t b k.holder) k.took) in
-    let s : Sender (run es).nodes k.from (number_of y) (PeerRecord.OnAssoc k.x k.y k.seq (DialogueRecord.Begin t b k.holder)) = was_sent (run es).nodes (run es).frames k.from (number_of y) (PeerRecord.OnAssoc k.x k.y k.seq (DialogueRecord.Begin t b k.holder)) good.sent frame in
-    let begun = began_from y.history k.from k.x k.y k.seq t b k.holder k.took in
-    let at = at_same y.superior k.from.node (number_of x) (begun_up y.origin y.superior y.history t b k.from legal begun).above above in
-    let one : s.node ≡ x = some_node s.node x (sym s.found ∙ ap (find_node (run es).nodes) at ∙ hx) in
-    let addr : addr_of x ≡ k.from = ap addr_of (sym one) ∙ s.is in
-    record {
-      superior = record { here = hx; of_tree = sent_member x.origin x.superior x.history s.to k.x k.y k.seq t b k.holder (good.legal (number_of x) x hx) (subst (λ (u : Node). HasSent u.history s.to (PeerRecord.OnAssoc k.x k.y k.seq (DialogueRecord.Begin t b k.holder))) one s.sent) };
-      child = record { here = hy; of_tree = member };
-      begun = ap (λ (a : Addr). has_begun t b a y.history) addr ∙ begun;
-    }
-
-pub below_run : (es : List Happening) → UnknownIsRolled (run es) → (x y : Node) → find_node (run es).nodes (number_of x) ≡ Some x → find_node (run es).nodes (number_of y) ≡ Some y → is_at y.superior (number_of x) ≡ true
-    → Below x.origin x.superior (number_of y) (deeds_of y.origin y.history) (records y.origin y.history) x.history
-below_run es unknown x y hx hy above = record {
-  empty = good.fresh (number_of x) x hx;
-  legal = good.legal (number_of x) x hx;
-  once = (unique_run es).once (number_of x) x hx;
-  heeded = heeds_run es x y hx hy above;
-  never = λ j r v c.
-      let k = ready_took y.origin y.superior y.history j (good.fresh (number_of y) y hy) (good.legal (number_of y) y hy) v in
-      let branch = took_branch es x y j.0 j.1 hx hy above (rolled_member y.origin j.0 y.history r) k in
-      let up = rolls_up es unknown j.0 j.1 x y branch (ready_logged j (records y.origin y.history) v) r in
-      (fated_law x.origin x.superior x.history j.0 (good.fresh (number_of x) x hx) (good.legal (number_of x) x hx) ((unique_run es).once (number_of x) x hx)).never_both c up;
-}
-  where
-    good : IsGood (run es).nodes (run es).frames
-    good = good_run es
 
 -- the Begin of a branch was sent by its superior
 pub record SentBegin (x y : Node) (t : Aaid) (b : BranchId) : Type 0 where
@@ -232,10 +183,3 @@ branch_sent es t b x y branch =
     let s : Sender (run es).nodes (addr_of x) (number_of y) (PeerRecord.OnAssoc k.0 k.1 k.2 (DialogueRecord.Begin t b k.3)) = was_sent (run es).nodes (run es).frames (addr_of x) (number_of y) (PeerRecord.OnAssoc k.0 k.1 k.2 (DialogueRecord.Begin t b k.3)) good.sent frame in
     let one : s.node ≡ x = some_node s.node x (sym s.found ∙ branch.superior.here) in
     record { to = s.to; x_mark = k.0; y_mark = k.1; seq = k.2; holder = k.3; at = s.at; sent = subst (λ (u : Node). HasSent u.history s.to (PeerRecord.OnAssoc k.0 k.1 k.2 (DialogueRecord.Begin t b k.3))) one s.sent }
-
--- leaving goes down
-pub left_down : (es : List Happening) → UnknownIsRolled (run es) → LeftDown (run es)
-left_down es unknown t b x y branch l =
-    let s = branch_sent es t b x y branch in
-    left_sent x.origin x.superior (number_of y) (deeds_of y.origin y.history) (records y.origin y.history) x.history s.to s.x_mark s.y_mark s.seq t b s.holder
-    (below_run es unknown x y branch.superior.here branch.child.here (branch_above es t b x y branch)) s.at s.sent l

@@ -161,13 +161,13 @@ branched_moves : (who : Who) (e : Event) (s : Digest) → Moves who e s (IsBranc
 branched_moves who e s = record {
   still = λ d. branched_same who e s d (move [] d) refl;
   chain = λ d a f one two quiet. branched_then who e s d a f one two;
-  speaks = λ d outs h own. branched_same who e s d (perform outs d) refl;
-  changes_dialogue = λ d q f m one. record { branches = one.branches };
+  speaks = λ d outs h own said. branched_same who e s d (perform outs d) refl;
+  changes_dialogue = λ d q f m by one. record { branches = one.branches };
   drops_arc = λ d q m one. record { branches = one.branches };
   notes_kept = λ d ks m held one. record { branches = one.branches };
   keeps = λ d k f held. branched_same who e s d _ refl;
   turns = λ d c f now at asked put gone. branched_turned who e f s d c now at asked put;
-  begins = λ d q. branched_begins who e q s d;
+  begins = λ d q free. branched_begins who e q s d;
   roots = λ d m nil may one. branched_root who e s d _ m one;
 }
 

@@ -75,7 +75,7 @@ lost_idle who e d late p asked = stays (lose who p d) (go d.current refl)
     idle n same = link_without d.arcs p n ∙ grind (arith, nat_tests, same)
 
     go : (o : Option Current) → d.current ≡ o → IsLinked p g (elim o as (λ _. Move) [ None ↦ perform (TxOut.Tell (Indication.PAbort p) ∷ []) g | Some c ↦ transact who (TxEvent.Lost p) g ])
-    go None i = (linked_moves who e d p).speaks g (TxOut.Tell (Indication.PAbort p) ∷ []) refl (λ u h. absurd (cc (h)))
+    go None i = (linked_moves who e d p).speaks g (TxOut.Tell (Indication.PAbort p) ∷ []) refl (λ u h. absurd (cc (h)), λ z r h. absurd h) refl
     go (Some c) i =
         every_transact who e d (IsLinked p) (linked_moves who e d p) (TxEvent.Lost p) g refl (λ b j. asked b)
         (λ b j. put_plain who g b (TxEvent.Lost p) (late b j) (λ t. refl) (λ q h. cc (h)) (λ h. cc (h)) (λ arcs h. cc (h)))
@@ -256,7 +256,7 @@ same_took x y p Event.Retry h = refl
 same_took x y p Event.Purge h = refl
 same_took x y p Event.Crash h = refl
 
-all_taken : (x y : Mark) (p : ℕ) (h : List Entry) → has_broken x y p h ≡ false → model.taken_on x y p h ≡ taken_on x y p h
+pub all_taken : (x y : Mark) (p : ℕ) (h : List Entry) → has_broken x y p h ≡ false → model.taken_on x y p h ≡ taken_on x y p h
 all_taken x y p [] i = refl
 all_taken x y p (e ∷ h) i = rw (all_taken x y p h (grind (arith, i)), same_took x y p e.event (grind (arith, i))) refl
 

@@ -94,7 +94,7 @@ no_request q c f t p asked = absurd asked
 pub closes_none : (who : Who) (e : Event) (c : Current) (f : TxEvent) (arcs : List Arc) (p : ℕ) → IsAsked e c f → closes_at e (Some c) p ≡ false → closes f (seen who arcs c) p ≡ 0
 closes_none who (Event.Do r) c f arcs p asked h = no_request r c f (seen who arcs c) p asked
 closes_none who (Event.Arrive a (PeerRecord.OnAssoc x y q r)) c f arcs p asked h = ap (λ (g : TxEvent). closes g (seen who arcs c) p) asked ∙ rw h refl
-closes_none who (Event.Arrive a (PeerRecord.RecReply t b (RecState.Done r))) c f arcs p asked h = ap (λ (g : TxEvent). closes g (seen who arcs c) p) asked ∙ reply_closes who arcs c b r p h
+closes_none who (Event.Arrive a (PeerRecord.RecReply t b (RecState.Done r))) c f arcs p asked h = ap (λ (g : TxEvent). closes g (seen who arcs c) p) asked.0 ∙ reply_closes who arcs c b r p h
 closes_none who (Event.Arrive a (PeerRecord.RecReply t b RecState.Commit)) c f arcs p asked h = ap (λ (g : TxEvent). closes g (seen who arcs c) p) asked.0
 closes_none who (Event.Arrive a (PeerRecord.RecReply t b RecState.Unknown)) c f arcs p asked h = ap (λ (g : TxEvent). closes g (seen who arcs c) p) asked.0
 closes_none who (Event.Arrive a (PeerRecord.RecReply t b RecState.RetryLater)) c f arcs p asked h = ap (λ (g : TxEvent). closes g (seen who arcs c) p) asked.0

@@ -79,7 +79,7 @@ recovered_commits : (o : Option Current) (u : Aaid) → (is_now u (recovered_cur
 recovered_commits None u h = h
 recovered_commits (Some c) u h = grind (arith, h)
 
-committed_prelude : (who : Who) (d : Digest) (e : Event) (u : Aaid) → refusal who d e ≡ None → is_committed_in u (prelude who d e) ≡ true → is_committed_in u d ≡ true
+pub committed_prelude : (who : Who) (d : Digest) (e : Event) (u : Aaid) → refusal who d e ≡ None → is_committed_in u (prelude who d e) ≡ true → is_committed_in u d ≡ true
 committed_prelude who d e u ok h = elim (or_case (is_now u s.current && is_committing (phase_of s)) (keeps_commit u s.kept) h) [
   | inl i ↦ current i (came_by who d e ok)
   | inr i ↦ (let k : keeps_commit u d.kept ≡ true = sym (kept_prelude who d e u) ∙ i in rw k (grind arith))
@@ -223,7 +223,7 @@ ordered_event o up e h c u b a empty legal now key at (Event.Arrive from (PeerRe
     let tree = key_of_tree c u b a t v key asked.1 in
     In_recovery from (PeerRecord.RecReply t v RecState.Commit) (ap (λ (w : Addr). is_at up w.node) (sym same) ∙ at) (ap (λ (w : Aaid). is_aaid w t) tree ∙ aaid_same t) (inl (ap brought is))
 ordered_event o up e h c u b a empty legal now key at (Event.Do r) is (f, arcs, asked, ord) = absurd (no_request r c f (seen o.who arcs c) asked ord)
-ordered_event o up e h c u b a empty legal now key at (Event.Arrive from (PeerRecord.RecReply t v (RecState.Done r))) is (f, arcs, asked, ord) = absurd (cc (ap (λ (g : TxEvent). is_order_for g (seen o.who arcs c)) asked, ord))
+ordered_event o up e h c u b a empty legal now key at (Event.Arrive from (PeerRecord.RecReply t v (RecState.Done r))) is (f, arcs, asked, ord) = absurd (cc (ap (λ (g : TxEvent). is_order_for g (seen o.who arcs c)) asked.0, ord))
 ordered_event o up e h c u b a empty legal now key at (Event.Arrive from (PeerRecord.RecReply t v RecState.Unknown)) is (f, arcs, asked, ord) = absurd (cc (ap (λ (g : TxEvent). is_order_for g (seen o.who arcs c)) asked.0, ord))
 ordered_event o up e h c u b a empty legal now key at (Event.Arrive from (PeerRecord.RecReply t v RecState.RetryLater)) is (f, arcs, asked, ord) = absurd (cc (ap (λ (g : TxEvent). is_order_for g (seen o.who arcs c)) asked.0, ord))
 ordered_event o up e h c u b a empty legal now key at (Event.Arrive from (PeerRecord.ShutAssoc x None)) is (f, arcs, asked, ord) = absurd asked

@@ -1,5 +1,5 @@
 -- Every record that a node takes on an association.
-use Rattle.std.proofs.Common.{◌≡◌, inl, ℕ, Bool, true, false, refl, ap, sym, subst, ◌∙◌, arith, Option, Some, None, List, [], ◌∷◌, ◌++◌}
+use Rattle.std.proofs.Common.{◌≡◌, inl, ℕ, Bool, true, false, refl, ap, sym, subst, ◌∙◌, arith, Option, Some, None, List, [], ◌∷◌, ◌++◌, ◌&&◌}
 use Rattle.std.proofs.lemmas.Bool.Decides.{nat_tests}
 use Rattle.tp_names.specs.declared.identifiers.Mark.{Mark}
 use Rattle.tp_names.specs.declared.identifiers.Aaid.{Aaid}
@@ -21,13 +21,14 @@ use Rattle.tp_model.specs.Links.{with_one_taken}
 use Rattle.tp_model.specs.Dialogues.{Sight, Acts, Nothing_happens, Out_of_phase, Heard, Hear_data, Hear_error, Hear_grant, Hear_control, Hear_handshake, Hear_handshake_grant, Hear_response, Hear_defer_end, Hear_defer_grant, heard, cleared, woken, begun_by}
 use Rattle.tp_model.specs.Arcs.{find_arc, link_with, without_arc, with_dialogue, with_link}
 use Rattle.tp_model.specs.Recovery.{owed, ask_owed, tell_superior, forget_to}
-use Rattle.tp_model.specs.Node.{Move, move, perform, fresh_current, chained_peers, begin_chained, transact}
+use Rattle.tp_model.specs.Node.{Move, move, perform, fresh_current, begin_chained, transact}
 use Rattle.tp_model.specs.Arrivals.{sight_at, sight_of, take_begin, take_abort, take_record, is_response, woken_by, take_on, refused_arrival}
 use Rattle.tp_laws.specs.Turns.{loses, is_outcome_told}
 use Rattle.tp_laws.proofs.Links.{link_without}
-use Rattle.tp_laws.specs.Moves.{prelude, begun_in, counted_in, are_spoken, Moves}
+use Rattle.tp_laws.specs.Moves.{prelude, begun_in, counted_in, are_spoken, heard_by, begun_by_record, IsChange, By_waking, By_hearing, By_beginning, By_leaving}
 use Rattle.tp_laws.specs.Moves.{IsLate}
-use Rattle.tp_laws.proofs.EveryMove.{every_begin, every_transact}
+use Rattle.tp_laws.specs.Steps.{carries_last, carry_last, IsLike, Steps}
+use Rattle.tp_laws.proofs.EveryMove.{step_chained, step_transact}
 
 -- ---- what is said in recovery
 
@@ -46,6 +47,33 @@ pub spoken_owed : (k : Kept) → are_spoken (owed k) ≡ true
 unfolding owed
 spoken_owed k = grind (arith, spoken_append (ask_owed k.key.aaid k.owed) (tell_superior k), spoken_ask k.key.aaid k.owed, spoken_tell k)
 
+last_append : (who : Who) (d : Digest) (xs ys : List TxOut) → carry_last who d xs ≡ true → carry_last who d ys ≡ true → carry_last who d (xs ++ ys) ≡ true
+last_append who d [] ys h i = i
+last_append who d (TxOut.Tell t ∷ xs) ys h i = last_append who d xs ys h i
+last_append who d (TxOut.Carry p r ∷ xs) ys h i = last_append who d xs ys h i
+last_append who d (TxOut.Shut p ∷ xs) ys h i = last_append who d xs ys h i
+last_append who d (TxOut.Recovery a r ∷ xs) ys h i = let rest = last_append who d xs ys in go (carries_last who d r) (carry_last who d xs) h rest i
+  where
+    go : (a b : Bool) → (a && b) ≡ true → (b ≡ true → carry_last who d ys ≡ true → carry_last who d (xs ++ ys) ≡ true) → carry_last who d ys ≡ true → (a && carry_last who d (xs ++ ys)) ≡ true
+    go true true h rest i = rest refl i
+    go true false h rest i = absurd (cc (h))
+    go false b h rest i = absurd (cc (h))
+last_append who d (TxOut.Close p ∷ xs) ys h i = last_append who d xs ys h i
+
+last_ask : (who : Who) (d : Digest) (a : Aaid) (cs : List Child) → carry_last who d (ask_owed a cs) ≡ true
+last_ask who d a [] = refl
+last_ask who d a (c ∷ cs) = last_ask who d a cs
+
+last_tell : (who : Who) (d : Digest) (k : Kept) → carry_last who d (tell_superior k) ≡ true
+last_tell who d k = grind arith
+
+pub last_owed : (who : Who) (d : Digest) (k : Kept) → carry_last who d (owed k) ≡ true
+unfolding owed
+last_owed who d k = grind (arith, last_append who d (ask_owed k.key.aaid k.owed) (tell_superior k), last_ask who d k.key.aaid k.owed, last_tell who d k)
+
+pub last_forget : (who : Who) (d : Digest) (to : Addr) (k : NodeKey) (b : BranchId) (r : Report) → carry_last who d (forget_to to k b r) ≡ true
+last_forget who d to k b r = grind arith
+
 pub spoken_forget : (to : Addr) (k : NodeKey) (b : BranchId) (r : Report) → are_spoken (forget_to to k b r) ≡ true
 spoken_forget to k b r = grind arith
 
@@ -59,23 +87,23 @@ find_arc_is (b ∷ arcs) p a h = grind (arith, nat_tests, find_arc_is arcs p a)
 abbrev pub the : Addr → Mark → Mark → ℕ → DialogueRecord → Event
 the from x y q r = Event.Arrive from (PeerRecord.OnAssoc x y q r)
 
-every_took : (who : Who) (from : Addr) (x y : Mark) (q : ℕ) (r : DialogueRecord) (s : Digest) (R : Digest → Move → Type 0) → Moves who (the from x y q r) s R → IsLate s → (p : ℕ) → p ≡ from.node
-    → (d : Digest) → d.current ≡ s.current → ((n : ℕ) → loses (TxEvent.Took p r) n ≡ true → link_with d.arcs n ≡ Idle) → R d (transact who (TxEvent.Took p r) d)
-every_took who from x y q r s R k late p at d same gone =
-    every_transact who (the from x y q r) s R k (TxEvent.Took p r) d same (λ c j. ap (λ n. TxEvent.Took n r) at)
+step_took : (who : Who) (from : Addr) (x y : Mark) (q : ℕ) (r : DialogueRecord) (s : Digest) (R : Digest → Move → Type 0) → Steps who (the from x y q r) s R → IsLate s → (p : ℕ) → p ≡ from.node
+    → (d : Digest) → IsLike d s → ((n : ℕ) → loses (TxEvent.Took p r) n ≡ true → link_with d.arcs n ≡ Idle) → R d (transact who (TxEvent.Took p r) d)
+step_took who from x y q r s R k late p at d same gone =
+    step_transact who (the from x y q r) s R k (TxEvent.Took p r) d same (λ c j. ap (λ n. TxEvent.Took n r) at)
     (λ c j. record { late = late c j; ok = λ h. cc (h); abort = λ n h. cc (h); ordered = λ h. cc (h); not_begun = λ arcs h. cc (h) })
     gone
 
-every_hear : (who : Who) (e : Event) (s : Digest) (R : Digest → Move → Type 0) → Moves who e s R → (p : ℕ) (h : Heard) (i : Indication) (d : Digest) → is_outcome_told i ≡ false
-    → R d (perform (TxOut.Tell i ∷ []) (record d { arcs = with_dialogue d.arcs p (heard h) }))
-every_hear who e s R k p h i d none =
+step_hear : (who : Who) (e : Event) (s : Digest) (R : Digest → Move → Type 0) → Steps who e s R → (p : ℕ) (h : Heard) (i : Indication) (d : Digest) → is_outcome_told i ≡ false
+    → heard_by e ≡ Some (p, h) → R d (perform (TxOut.Tell i ∷ []) (record d { arcs = with_dialogue d.arcs p (heard h) }))
+step_hear who e s R k p h i d none by =
     let g : Digest = record d { arcs = with_dialogue d.arcs p (heard h) } in
-    k.changes_dialogue d p (heard h) (perform (TxOut.Tell i ∷ []) g) (k.speaks g (TxOut.Tell i ∷ []) (rw none refl) (λ u h. absurd (cc (h))))
+    k.changes_dialogue d p (heard h) (perform (TxOut.Tell i ∷ []) g) (By_hearing h by refl) (k.speaks g (TxOut.Tell i ∷ []) (rw none refl) (λ u h. absurd (cc (h)), λ z r h. absurd h) refl refl)
 
-every_abort_taken : (who : Who) (from : Addr) (x y : Mark) (q : ℕ) (s : Digest) (R : Digest → Move → Type 0) → Moves who (the from x y q DialogueRecord.UAbort) s R → IsLate s → (p : ℕ) → p ≡ from.node
-    → (d : Digest) → d.current ≡ s.current → R d (take_abort who p d)
+step_abort_taken : (who : Who) (from : Addr) (x y : Mark) (q : ℕ) (s : Digest) (R : Digest → Move → Type 0) → Steps who (the from x y q DialogueRecord.UAbort) s R → IsLate s → (p : ℕ) → p ≡ from.node
+    → (d : Digest) → IsLike d s → R d (take_abort who p d)
 unfolding take_abort
-every_abort_taken who from x y q s R k late p at d same = k.drops_arc d p (take_abort who p d) (go d.current refl)
+step_abort_taken who from x y q s R k late p at d same = k.drops_arc d p (take_abort who p d) (go d.current refl)
   where
     g : Digest
     g = record d { arcs = without_arc d.arcs p }
@@ -84,31 +112,31 @@ every_abort_taken who from x y q s R k late p at d same = k.drops_arc d p (take_
     gone_arc n same = link_without d.arcs p n ∙ grind (arith, nat_tests, same)
 
     go : (o : Option Current) → d.current ≡ o → R g (elim o as (λ _. Move) [ None ↦ perform (TxOut.Tell (Indication.UAbort p) ∷ []) g | Some c ↦ transact who (TxEvent.Took p DialogueRecord.UAbort) g ])
-    go None i = k.speaks g (TxOut.Tell (Indication.UAbort p) ∷ []) refl (λ u h. absurd (cc (h)))
-    go (Some c) i = every_took who from x y q DialogueRecord.UAbort s R k late p at g same (λ n h. gone_arc n (grind (arith, nat_tests, h)))
+    go None i = k.speaks g (TxOut.Tell (Indication.UAbort p) ∷ []) refl (λ u h. absurd (cc (h)), λ z r h. absurd h) refl refl
+    go (Some c) i = step_took who from x y q DialogueRecord.UAbort s R k late p at g same (λ n h. gone_arc n (grind (arith, nat_tests, h)))
 
-every_deferred : (who : Who) (from : Addr) (x y : Mark) (q : ℕ) (r : DialogueRecord) (s : Digest) (R : Digest → Move → Type 0) → Moves who (the from x y q r) s R → IsLate s → (p : ℕ) → p ≡ from.node
-    → (f : Dialogue → Dialogue) (d : Digest) → d.current ≡ s.current → ((n : ℕ) → loses (TxEvent.Took p r) n ≡ true → ⊥) → R d (transact who (TxEvent.Took p r) (record d { arcs = with_dialogue d.arcs p f }))
-every_deferred who from x y q r s R k late p at f d same none =
+step_deferred : (who : Who) (from : Addr) (x y : Mark) (q : ℕ) (r : DialogueRecord) (s : Digest) (R : Digest → Move → Type 0) → Steps who (the from x y q r) s R → IsLate s → (p : ℕ) → p ≡ from.node
+    → (f : Dialogue → Dialogue) (d : Digest) → IsLike d s → ((n : ℕ) → loses (TxEvent.Took p r) n ≡ true → ⊥) → IsChange (the from x y q r) p f → R d (transact who (TxEvent.Took p r) (record d { arcs = with_dialogue d.arcs p f }))
+step_deferred who from x y q r s R k late p at f d same none by =
     let g : Digest = record d { arcs = with_dialogue d.arcs p f } in
-    k.changes_dialogue d p f (transact who (TxEvent.Took p r) g) (every_took who from x y q r s R k late p at g same (λ n h. absurd (none n h)))
+    k.changes_dialogue d p f (transact who (TxEvent.Took p r) g) by (step_took who from x y q r s R k late p at g same (λ n h. absurd (none n h)))
 
 pub on_none : (who : Who) (d : Digest) (from : Addr) (x y : Mark) (q : ℕ) (r : DialogueRecord) → refused_arrival who d from (PeerRecord.OnAssoc x y q r) ≡ None → find_arc d.arcs from.node ≡ None → ⊥
 unfolding refused_arrival
 on_none who d from x y q r ok i = absurd (grind (arith, ok, i))
 
 -- an accepted Begin acts
-begin_acts : (who : Who) (d : Digest) (from : Addr) (x y : Mark) (q : ℕ) (t : Aaid) (b : BranchId) (h : Holder) (a : Arc) → refused_arrival who d from (PeerRecord.OnAssoc x y q (DialogueRecord.Begin t b h)) ≡ None
+pub begin_acts : (who : Who) (d : Digest) (from : Addr) (x y : Mark) (q : ℕ) (t : Aaid) (b : BranchId) (h : Holder) (a : Arc) → refused_arrival who d from (PeerRecord.OnAssoc x y q (DialogueRecord.Begin t b h)) ≡ None
     → find_arc d.arcs from.node ≡ Some a → (v : Sight) → sight_at who d a (DialogueRecord.Begin t b h) ≡ v → v ≡ Acts
 unfolding refused_arrival sight_of
 begin_acts who d from x y q t b h a ok i Acts j = refl
 begin_acts who d from x y q t b h a ok i Nothing_happens j = absurd (grind (arith, j))
 begin_acts who d from x y q t b h a ok i Out_of_phase j = absurd (grind (arith, ok, i, j))
 
-every_begun : (who : Who) (e : Event) (d : Digest) (t : Aaid) (b : BranchId) (h : Holder) (a : Arc) (R : Digest → Move → Type 0) → Moves who e (record d { current = Some (fresh_current (Under t b a.peer)) }) R
-    → R (record d { current = Some (fresh_current (Under t b a.peer)) }) (take_begin who a t b h (woken_by (DialogueRecord.Begin t b h) a.peer.node d))
+step_begun : (who : Who) (e : Event) (d : Digest) (t : Aaid) (b : BranchId) (h : Holder) (a : Arc) (R : Digest → Move → Type 0) → Steps who e (record d { current = Some (fresh_current (Under t b a.peer)) }) R
+    → begun_by_record e ≡ Some (a.peer.node, h) → R (record d { current = Some (fresh_current (Under t b a.peer)) }) (take_begin who a t b h (woken_by (DialogueRecord.Begin t b h) a.peer.node d))
 unfolding take_begin
-every_begun who e d t b h a R k =
+step_begun who e d t b h a R k by =
     let p : ℕ = a.peer.node in
     let s : Digest = record d { current = Some (fresh_current (Under t b a.peer)) } in
     let u : Digest = record s { arcs = with_dialogue s.arcs p woken } in
@@ -116,16 +144,16 @@ every_begun who e d t b h a R k =
     let m : Move = take_begin who a t b h (woken_by (DialogueRecord.Begin t b h) p d) in
     let outs : List TxOut = TxOut.Tell (Indication.BeginTransaction p t) ∷ [] in
     let first : Move = perform outs v in
-    k.changes_dialogue s p woken m
-    (k.changes_dialogue u p (begun_by h Side.Subordinate) m
-    (k.chain v first (begin_chained who) (k.speaks v outs refl (λ u h. absurd (cc (h)))) (every_begin who e s R k (chained_peers who first.next) first.next) (inl refl)))
+    k.changes_dialogue s p woken m (By_waking refl)
+    (k.changes_dialogue u p (begun_by h Side.Subordinate) m (By_beginning h by refl)
+    (k.chain v first (begin_chained who) (k.speaks v outs refl (λ u h. absurd (cc (h)), λ z r h. absurd h) refl refl) (step_chained who e s R k first.next) (inl refl)))
 
-pub every_on_begin : (who : Who) (d : Digest) (from : Addr) (x y : Mark) (q : ℕ) (t : Aaid) (b : BranchId) (h : Holder) (R : Digest → Move → Type 0)
-    → Moves who (the from x y q (DialogueRecord.Begin t b h)) (prelude who d (the from x y q (DialogueRecord.Begin t b h))) R
+pub step_on_begin : (who : Who) (d : Digest) (from : Addr) (x y : Mark) (q : ℕ) (t : Aaid) (b : BranchId) (h : Holder) (R : Digest → Move → Type 0)
+    → Steps who (the from x y q (DialogueRecord.Begin t b h)) (prelude who d (the from x y q (DialogueRecord.Begin t b h))) R
     → refused_arrival who d from (PeerRecord.OnAssoc x y q (DialogueRecord.Begin t b h)) ≡ None → (o : Option Arc) → find_arc d.arcs from.node ≡ o
     → R (begun_in o t b (counted_in d from)) (elim o as (λ _. Move) [ None ↦ move [] d | Some a ↦ take_on who a (DialogueRecord.Begin t b h) d ])
-every_on_begin who d from x y q t b h R k ok None i = absurd (on_none who d from x y q (DialogueRecord.Begin t b h) ok i)
-every_on_begin who d from x y q t b h R k ok (Some a) i = go (sight_at who d a r) refl
+step_on_begin who d from x y q t b h R k ok None i = absurd (on_none who d from x y q (DialogueRecord.Begin t b h) ok i)
+step_on_begin who d from x y q t b h R k ok (Some a) i = go (sight_at who d a r) refl
   where
     r : DialogueRecord
     r = DialogueRecord.Begin t b h
@@ -142,13 +170,13 @@ every_on_begin who d from x y q t b h R k ok (Some a) i = go (sight_at who d a r
     same : g ≡ counted_in d from
     same = ap (λ (n : ℕ). record d { arcs = with_link d.arcs n with_one_taken }) at
 
-    steps : Moves who (the from x y q r) (record g { current = Some (fresh_current (Under t b a.peer)) }) R
+    steps : Steps who (the from x y q r) (record g { current = Some (fresh_current (Under t b a.peer)) }) R
     steps =
-        let one : Moves who (the from x y q r) s R = subst (λ (o : Option Arc). Moves who (the from x y q r) (begun_in o t b (counted_in d from)) R) i k in
-        subst (λ (c : Digest). Moves who (the from x y q r) (record c { current = Some (fresh_current (Under t b a.peer)) }) R) (sym same) one
+        let one : Steps who (the from x y q r) s R = subst (λ (o : Option Arc). Steps who (the from x y q r) (begun_in o t b (counted_in d from)) R) i k in
+        subst (λ (c : Digest). Steps who (the from x y q r) (record c { current = Some (fresh_current (Under t b a.peer)) }) R) (sym same) one
 
     taken : R s (take_begin who a t b h (woken_by r a.peer.node g))
-    taken = subst (λ (c : Digest). R (record c { current = Some (fresh_current (Under t b a.peer)) }) (take_begin who a t b h (woken_by r a.peer.node g))) same (every_begun who (the from x y q r) g t b h a R steps)
+    taken = subst (λ (c : Digest). R (record c { current = Some (fresh_current (Under t b a.peer)) }) (take_begin who a t b h (woken_by r a.peer.node g))) same (step_begun who (the from x y q r) g t b h a R steps (ap (λ (n : ℕ). Some (n, h)) (sym at)))
 
     go : (v : Sight) → sight_at who d a r ≡ v → R s (take_on who a r d)
     go v j =
@@ -156,46 +184,46 @@ every_on_begin who d from x y q t b h R k ok (Some a) i = go (sight_at who d a r
         let is : take_on who a r d ≡ take_begin who a t b h (woken_by r a.peer.node g) = ap (λ (w : Sight). elim w as (λ _. Move) [ Acts ↦ take_record who a r (woken_by r a.peer.node g) | Nothing_happens ↦ move [] (woken_by r a.peer.node g) | Out_of_phase ↦ move [] (woken_by r a.peer.node g) ]) acts in
         subst (λ (m : Move). R s m) (sym is) taken
 
-every_taken : (who : Who) (from : Addr) (x y : Mark) (q : ℕ) (r : DialogueRecord) (s : Digest) (R : Digest → Move → Type 0) → Moves who (the from x y q r) s R → IsLate s
+step_taken : (who : Who) (from : Addr) (x y : Mark) (q : ℕ) (r : DialogueRecord) (s : Digest) (R : Digest → Move → Type 0) → Steps who (the from x y q r) s R → IsLate s
     → (a : Arc) → a.peer.node ≡ from.node → ((t : Aaid) (b : BranchId) (h : Holder) → r ≡ DialogueRecord.Begin t b h → ⊥)
-    → (d : Digest) → d.current ≡ s.current → R d (take_record who a r d)
-every_taken who from x y q DialogueRecord.EndDialogue s R k late a at begins d same = k.speaks d (TxOut.Tell (Indication.EndDialogue a.peer.node) ∷ TxOut.Close a.peer.node ∷ []) refl (λ u h. absurd (cc (h)))
-every_taken who from x y q (DialogueRecord.UserData xs) s R k late a at begins d same = every_hear who _ s R k a.peer.node Hear_data (Indication.UserData a.peer.node xs) d refl
-every_taken who from x y q DialogueRecord.UError s R k late a at begins d same = every_hear who _ s R k a.peer.node Hear_error (Indication.UError a.peer.node) d refl
-every_taken who from x y q DialogueRecord.UAbort s R k late a at begins d same = every_abort_taken who from x y q s R k late a.peer.node at d same
-every_taken who from x y q DialogueRecord.Grant s R k late a at begins d same = every_hear who _ s R k a.peer.node Hear_grant (Indication.Grant a.peer.node) d refl
-every_taken who from x y q DialogueRecord.AskControl s R k late a at begins d same = every_hear who _ s R k a.peer.node Hear_control (Indication.AskControl a.peer.node) d refl
-every_taken who from x y q DialogueRecord.Handshake s R k late a at begins d same = every_hear who _ s R k a.peer.node Hear_handshake (Indication.Handshake a.peer.node) d refl
-every_taken who from x y q DialogueRecord.HandshakeGrant s R k late a at begins d same = every_hear who _ s R k a.peer.node Hear_handshake_grant (Indication.HandshakeGrant a.peer.node) d refl
-every_taken who from x y q DialogueRecord.Response s R k late a at begins d same = every_hear who _ s R k a.peer.node Hear_response (Indication.HandshakeConfirm a.peer.node) d refl
-every_taken who from x y q DialogueRecord.DeferEnd s R k late a at begins d same = every_deferred who from x y q DialogueRecord.DeferEnd s R k late a.peer.node at (heard Hear_defer_end) d same (λ n i. absurd (cc (i)))
-every_taken who from x y q DialogueRecord.DeferGrant s R k late a at begins d same = every_deferred who from x y q DialogueRecord.DeferGrant s R k late a.peer.node at (heard Hear_defer_grant) d same (λ n i. absurd (cc (i)))
-every_taken who from x y q (DialogueRecord.Begin t b h) s R k late a at begins d same = absurd (begins t b h refl)
-every_taken who from x y q DialogueRecord.Left s R k late a at begins d same = every_deferred who from x y q DialogueRecord.Left s R k late a.peer.node at cleared d same (λ n i. absurd (cc (i)))
-every_taken who from x y q DialogueRecord.LeftEnd s R k late a at begins d same = every_deferred who from x y q DialogueRecord.LeftEnd s R k late a.peer.node at cleared d same (λ n i. absurd (cc (i)))
-every_taken who from x y q DialogueRecord.Prepare s R k late a at begins d same = every_took who from x y q DialogueRecord.Prepare s R k late a.peer.node at d same (λ n i. absurd (cc (i)))
-every_taken who from x y q DialogueRecord.Ready s R k late a at begins d same = every_took who from x y q DialogueRecord.Ready s R k late a.peer.node at d same (λ n i. absurd (cc (i)))
-every_taken who from x y q DialogueRecord.Commit s R k late a at begins d same = every_took who from x y q DialogueRecord.Commit s R k late a.peer.node at d same (λ n i. absurd (cc (i)))
-every_taken who from x y q (DialogueRecord.Done r) s R k late a at begins d same = every_took who from x y q (DialogueRecord.Done r) s R k late a.peer.node at d same (λ n i. absurd (cc (i)))
-every_taken who from x y q DialogueRecord.Rollback s R k late a at begins d same = every_took who from x y q DialogueRecord.Rollback s R k late a.peer.node at d same (λ n i. absurd (cc (i)))
-every_taken who from x y q (DialogueRecord.RolledBack r) s R k late a at begins d same = every_took who from x y q (DialogueRecord.RolledBack r) s R k late a.peer.node at d same (λ n i. absurd (cc (i)))
+    → (d : Digest) → IsLike d s → R d (take_record who a r d)
+step_taken who from x y q DialogueRecord.EndDialogue s R k late a at begins d same = k.speaks d (TxOut.Tell (Indication.EndDialogue a.peer.node) ∷ TxOut.Close a.peer.node ∷ []) refl (λ u h. absurd (cc (h)), λ z r h. absurd h) refl refl
+step_taken who from x y q (DialogueRecord.UserData xs) s R k late a at begins d same = step_hear who _ s R k a.peer.node Hear_data (Indication.UserData a.peer.node xs) d refl (ap (λ (n : ℕ). Some (n, Hear_data)) (sym at))
+step_taken who from x y q DialogueRecord.UError s R k late a at begins d same = step_hear who _ s R k a.peer.node Hear_error (Indication.UError a.peer.node) d refl (ap (λ (n : ℕ). Some (n, Hear_error)) (sym at))
+step_taken who from x y q DialogueRecord.UAbort s R k late a at begins d same = step_abort_taken who from x y q s R k late a.peer.node at d same
+step_taken who from x y q DialogueRecord.Grant s R k late a at begins d same = step_hear who _ s R k a.peer.node Hear_grant (Indication.Grant a.peer.node) d refl (ap (λ (n : ℕ). Some (n, Hear_grant)) (sym at))
+step_taken who from x y q DialogueRecord.AskControl s R k late a at begins d same = step_hear who _ s R k a.peer.node Hear_control (Indication.AskControl a.peer.node) d refl (ap (λ (n : ℕ). Some (n, Hear_control)) (sym at))
+step_taken who from x y q DialogueRecord.Handshake s R k late a at begins d same = step_hear who _ s R k a.peer.node Hear_handshake (Indication.Handshake a.peer.node) d refl (ap (λ (n : ℕ). Some (n, Hear_handshake)) (sym at))
+step_taken who from x y q DialogueRecord.HandshakeGrant s R k late a at begins d same = step_hear who _ s R k a.peer.node Hear_handshake_grant (Indication.HandshakeGrant a.peer.node) d refl (ap (λ (n : ℕ). Some (n, Hear_handshake_grant)) (sym at))
+step_taken who from x y q DialogueRecord.Response s R k late a at begins d same = step_hear who _ s R k a.peer.node Hear_response (Indication.HandshakeConfirm a.peer.node) d refl (ap (λ (n : ℕ). Some (n, Hear_response)) (sym at))
+step_taken who from x y q DialogueRecord.DeferEnd s R k late a at begins d same = step_deferred who from x y q DialogueRecord.DeferEnd s R k late a.peer.node at (heard Hear_defer_end) d same (λ n i. absurd (cc (i))) (By_hearing Hear_defer_end (ap (λ (n : ℕ). Some (n, Hear_defer_end)) (sym at)) refl)
+step_taken who from x y q DialogueRecord.DeferGrant s R k late a at begins d same = step_deferred who from x y q DialogueRecord.DeferGrant s R k late a.peer.node at (heard Hear_defer_grant) d same (λ n i. absurd (cc (i))) (By_hearing Hear_defer_grant (ap (λ (n : ℕ). Some (n, Hear_defer_grant)) (sym at)) refl)
+step_taken who from x y q (DialogueRecord.Begin t b h) s R k late a at begins d same = absurd (begins t b h refl)
+step_taken who from x y q DialogueRecord.Left s R k late a at begins d same = step_deferred who from x y q DialogueRecord.Left s R k late a.peer.node at cleared d same (λ n i. absurd (cc (i))) (By_leaving (ap (λ (n : ℕ). Some n) (sym at)) refl)
+step_taken who from x y q DialogueRecord.LeftEnd s R k late a at begins d same = step_deferred who from x y q DialogueRecord.LeftEnd s R k late a.peer.node at cleared d same (λ n i. absurd (cc (i))) (By_leaving (ap (λ (n : ℕ). Some n) (sym at)) refl)
+step_taken who from x y q DialogueRecord.Prepare s R k late a at begins d same = step_took who from x y q DialogueRecord.Prepare s R k late a.peer.node at d same (λ n i. absurd (cc (i)))
+step_taken who from x y q DialogueRecord.Ready s R k late a at begins d same = step_took who from x y q DialogueRecord.Ready s R k late a.peer.node at d same (λ n i. absurd (cc (i)))
+step_taken who from x y q DialogueRecord.Commit s R k late a at begins d same = step_took who from x y q DialogueRecord.Commit s R k late a.peer.node at d same (λ n i. absurd (cc (i)))
+step_taken who from x y q (DialogueRecord.Done r) s R k late a at begins d same = step_took who from x y q (DialogueRecord.Done r) s R k late a.peer.node at d same (λ n i. absurd (cc (i)))
+step_taken who from x y q DialogueRecord.Rollback s R k late a at begins d same = step_took who from x y q DialogueRecord.Rollback s R k late a.peer.node at d same (λ n i. absurd (cc (i)))
+step_taken who from x y q (DialogueRecord.RolledBack r) s R k late a at begins d same = step_took who from x y q (DialogueRecord.RolledBack r) s R k late a.peer.node at d same (λ n i. absurd (cc (i)))
 
-woken_current : (r : DialogueRecord) (p : ℕ) (d : Digest) → (woken_by r p d).current ≡ d.current
-woken_current r p d = grind arith
+woken_current : (r : DialogueRecord) (p : ℕ) (d : Digest) → IsLike (woken_by r p d) d
+woken_current r p d = (grind arith, grind arith)
 
 -- a record that is no response wakes its arc
-woken_step : (who : Who) (e : Event) (s : Digest) (R : Digest → Move → Type 0) → Moves who e s R → (r : DialogueRecord) (p : ℕ) (d : Digest) (m : Move) → R (woken_by r p d) m → R d m
+woken_step : (who : Who) (e : Event) (s : Digest) (R : Digest → Move → Type 0) → Steps who e s R → (r : DialogueRecord) (p : ℕ) (d : Digest) (m : Move) → R (woken_by r p d) m → R d m
 woken_step who e s R k r p d m one = go (is_response r) refl
   where
     go : (b : Bool) → is_response r ≡ b → R d m
     go true i = let same : woken_by r p d ≡ d = rw i refl in subst (λ (u : Digest). R u m) same one
     go false i =
         let same : woken_by r p d ≡ record d { arcs = with_dialogue d.arcs p woken } = rw i refl in
-        k.changes_dialogue d p woken m (subst (λ (u : Digest). R u m) same one)
+        k.changes_dialogue d p woken m (By_waking refl) (subst (λ (u : Digest). R u m) same one)
 
-every_on : (who : Who) (d : Digest) (from : Addr) (x y : Mark) (q : ℕ) (r : DialogueRecord) (R : Digest → Move → Type 0) → Moves who (the from x y q r) (counted_in d from) R → IsLate d
+step_on : (who : Who) (d : Digest) (from : Addr) (x y : Mark) (q : ℕ) (r : DialogueRecord) (R : Digest → Move → Type 0) → Steps who (the from x y q r) (counted_in d from) R → IsLate d
     → ((t : Aaid) (b : BranchId) (h : Holder) → r ≡ DialogueRecord.Begin t b h → ⊥) → (a : Arc) → a.peer.node ≡ from.node → R (counted_in d from) (take_on who a r d)
-every_on who d from x y q r R k late other a at =
+step_on who d from x y q r R k late other a at =
     subst (λ (n : ℕ). R (record d { arcs = with_link d.arcs n with_one_taken }) (take_on who a r d)) at
     (woken_step who _ _ R k r p g (take_on who a r d) (on (woken_by r p g) (woken_current r p g) (sight_at who d a r) refl))
   where
@@ -205,16 +233,16 @@ every_on who d from x y q r R k late other a at =
     g : Digest
     g = record d { arcs = with_link d.arcs p with_one_taken }
 
-    on : (u : Digest) → u.current ≡ d.current → (v : Sight) → sight_at who d a r ≡ v → R u (elim v as (λ _. Move) [ Acts ↦ take_record who a r u | Nothing_happens ↦ move [] u | Out_of_phase ↦ move [] u ])
-    on u same Acts i = every_taken who from x y q r (counted_in d from) R k late a at other u same
+    on : (u : Digest) → IsLike u d → (v : Sight) → sight_at who d a r ≡ v → R u (elim v as (λ _. Move) [ Acts ↦ take_record who a r u | Nothing_happens ↦ move [] u | Out_of_phase ↦ move [] u ])
+    on u same Acts i = step_taken who from x y q r (counted_in d from) R k late a at other u same
     on u same Nothing_happens i = k.still u
     on u same Out_of_phase i = k.still u
 
-pub every_on_other : (who : Who) (d : Digest) (from : Addr) (x y : Mark) (q : ℕ) (r : DialogueRecord) (R : Digest → Move → Type 0) → Moves who (the from x y q r) (counted_in d from) R → IsLate d
+pub step_on_other : (who : Who) (d : Digest) (from : Addr) (x y : Mark) (q : ℕ) (r : DialogueRecord) (R : Digest → Move → Type 0) → Steps who (the from x y q r) (counted_in d from) R → IsLate d
     → ((t : Aaid) (b : BranchId) (h : Holder) → r ≡ DialogueRecord.Begin t b h → ⊥) → refused_arrival who d from (PeerRecord.OnAssoc x y q r) ≡ None
     → R (counted_in d from) (elim (find_arc d.arcs from.node) as (λ _. Move) [ None ↦ move [] d | Some a ↦ take_on who a r d ])
-every_on_other who d from x y q r R k late other ok = go (find_arc d.arcs from.node) refl
+step_on_other who d from x y q r R k late other ok = go (find_arc d.arcs from.node) refl
   where
     go : (o : Option Arc) → find_arc d.arcs from.node ≡ o → R (counted_in d from) (elim o as (λ _. Move) [ None ↦ move [] d | Some a ↦ take_on who a r d ])
     go None i = absurd (on_none who d from x y q r ok i)
-    go (Some a) i = every_on who d from x y q r R k late other a (find_arc_is d.arcs from.node a i)
+    go (Some a) i = step_on who d from x y q r R k late other a (find_arc_is d.arcs from.node a i)

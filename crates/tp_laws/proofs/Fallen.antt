@@ -28,7 +28,9 @@ use Rattle.tp_laws.specs.Turns.{falls, is_fatal_at}
 use Rattle.tp_model.specs.Node.{turned}
 use Rattle.tp_laws.specs.Moves.{IsLate}
 use Rattle.tp_laws.specs.Traces.{is_old}
-use Rattle.tp_laws.specs.Passages.{may_move}
+use Rattle.tp_laws.specs.Passages.{may_move, asks_tell}
+use Rattle.tp_laws.proofs.Phases.{tell_append}
+use Rattle.tp_laws.proofs.Staged.{is_rolled_told, staged_rollback}
 use Rattle.tp_laws.specs.Trees.{IsTreed}
 use Rattle.tp_laws.proofs.EveryMove.{every_start, quiet_start}
 use Rattle.tp_laws.proofs.Late.{late_remaining}
@@ -46,12 +48,28 @@ is_plain (Some _) = true
 
 -- ---- the transaction
 
-abbrev IsDown : Turn → Type 0
-IsDown a = (may_move Phase.Rolling a.next.phase ≡ true) × (is_plain a.rec ≡ true)
+abbrev pub IsDown : Turn → Type 0
+IsDown a = (may_move Phase.Rolling a.next.phase ≡ true) × (is_plain a.rec ≡ true) × ((is_rolling a.next.phase || asks_tell is_rolled_told a.outs) ≡ true)
+
+down_phase : (b : Bool) (t : Transaction) → may_move Phase.Rolling (roll b t).next.phase ≡ true
+unfolding begin_rolling complete_rollback
+down_phase b t = grind arith
+
+down_plain : (b : Bool) (t : Transaction) → is_plain (roll b t).rec ≡ true
+unfolding begin_rolling complete_rollback
+down_plain b t = grind arith
 
 down_roll : (b : Bool) (t : Transaction) → IsDown (roll b t)
-unfolding begin_rolling complete_rollback
-down_roll b t = (grind arith, grind arith)
+unfolding begin_rolling
+down_roll b t =
+    let u : Transaction = (begin_rolling b t).next in
+    let more = staged_rollback TxEvent.Retry u u refl in
+    let none : (is_rolling (roll b t).next.phase || asks_tell is_rolled_told (roll b t).outs) ≡ (is_rolling (complete_rollback u).next.phase || (asks_tell is_rolled_told (begin_rolling b t).outs || asks_tell is_rolled_told (complete_rollback u).outs)) =
+    ap (λ (v : Bool). is_rolling (complete_rollback u).next.phase || v) (tell_append is_rolled_told (begin_rolling b t).outs (complete_rollback u).outs) in
+    (down_phase b t, down_plain b t, none ∙ either (is_rolling (complete_rollback u).next.phase) (asks_tell is_rolled_told (begin_rolling b t).outs) (asks_tell is_rolled_told (complete_rollback u).outs) (more.rolling refl))
+  where
+    either : (x y z : Bool) → (x || z) ≡ true → (x || (y || z)) ≡ true
+    either x y z h = grind (arith, h)
 
 down_lost : (p : ℕ) (s : Transaction) → is_fatal_at s p ≡ true → IsDown (lost_arc p s)
 unfolding lost_arc
@@ -60,7 +78,7 @@ down_lost p s h = rw h (down_roll false _)
 down_superior : (s : Transaction) → is_rolling s.phase ≡ false → IsDown (superior_rolls s)
 down_superior s h = rw h (down_roll false (record s { superior_rolled = true }))
 
-down_turn : (e : TxEvent) (s : Transaction) → falls e s ≡ true → IsDown (transacted e s)
+pub down_turn : (e : TxEvent) (s : Transaction) → falls e s ≡ true → IsDown (transacted e s)
 unfolding sight_of_tx
 down_turn (TxEvent.Begun arcs) s h = absurd cc
 down_turn (TxEvent.User Request.Rollback) s h = down_roll true s
@@ -114,7 +132,7 @@ rolling_past Phase.Rolling Phase.Ready h i j k = absurd cc
 rolling_past Phase.Rolling Phase.Committing h i j k = absurd cc
 rolling_past Phase.Rolling Phase.Rolling h i j k = refl
 
-rolling_is : (p : Phase) → may_move Phase.Rolling p ≡ true → is_nil p ≡ false → is_rolling p ≡ true
+pub rolling_is : (p : Phase) → may_move Phase.Rolling p ≡ true → is_nil p ≡ false → is_rolling p ≡ true
 rolling_is Phase.Nil h i = absurd cc
 rolling_is Phase.Active h i = absurd cc
 rolling_is Phase.Ready h i = absurd cc
@@ -202,14 +220,14 @@ fallen_abort who d p t n rolled old =
 
 -- ---- records that arrive
 
-abbrev counted : Digest → ℕ → Digest
+abbrev pub counted : Digest → ℕ → Digest
 counted d p = record d { arcs = with_link d.arcs p with_one_taken }
 
-abort_sight : (who : Who) (d : Digest) (a : Arc) → sight_at who d a DialogueRecord.UAbort ≡ Acts
+pub abort_sight : (who : Who) (d : Digest) (a : Arc) → sight_at who d a DialogueRecord.UAbort ≡ Acts
 unfolding sight_of
 abort_sight who d a = grind arith
 
-sight_acts : (g : Sight) → acts g ≡ true → g ≡ Acts
+pub sight_acts : (g : Sight) → acts g ≡ true → g ≡ Acts
 sight_acts Acts h = refl
 sight_acts Nothing_happens h = absurd cc
 sight_acts Out_of_phase h = absurd cc
@@ -227,7 +245,7 @@ fallen_took_abort who d from t (Some a) i n fatal old some =
     let here : is_fatal d a.peer.node ≡ true = ap (is_fatal d) at ∙ fatal in
     fallen_on who d a DialogueRecord.UAbort t (abort_sight who d a) (fallen_abort_taken who (woken_by DialogueRecord.UAbort a.peer.node (counted d a.peer.node)) a.peer.node t n here old)
 
-acting_falls : (u : Transaction) (p : ℕ) → acts (sight_of_tx u p DialogueRecord.Rollback) ≡ true → (is_active u.phase || is_ready u.phase) ≡ true → falls (TxEvent.Took p DialogueRecord.Rollback) u ≡ true
+pub acting_falls : (u : Transaction) (p : ℕ) → acts (sight_of_tx u p DialogueRecord.Rollback) ≡ true → (is_active u.phase || is_ready u.phase) ≡ true → falls (TxEvent.Took p DialogueRecord.Rollback) u ≡ true
 unfolding sight_of_tx
 acting_falls u p h k = go (is_under_at u.key p) refl (find_row u.rows p) refl
   where

@@ -113,7 +113,7 @@ frames_sent ns x all (Out.Send a r ∷ outs) part y find same has = (
   frames_sent ns x all outs (λ b s k. part b s (inr k)) y find same has,
 )
 
-event_good : (ns : List Node) (fs : List Frame) (x : Node) (e : Event) → Accepts ns fs x e → (b : Bool) → IsGood ns fs
+pub event_good : (ns : List Node) (fs : List Frame) (x : Node) (e : Event) → Accepts ns fs x e → (b : Bool) → IsGood ns fs
     → IsGood (put_node ns (grown_node x e)) (fs ++ shown b (frames_of (addr_of x) (entry_of x.origin x.history e).outs))
 event_good ns fs x e a told g = record {
   legal = λ n z i. legal n z (number_of x == n) refl i;

@@ -228,13 +228,13 @@ staying_moves : (who : Who) (e : Event) (t : Aaid) (p : ℕ) (s : Digest) → Mo
 staying_moves who e t p s = record {
   still = λ d. staying_quiet e t p s d (move [] d) refl refl;
   chain = λ d a f one two quiet. staying_then e t p s d a f one two;
-  speaks = λ d outs h own. staying_perform e t p s d outs h;
-  changes_dialogue = λ d q f m one. record { late = one.late; stays = one.stays; begins = one.begins };
+  speaks = λ d outs h own said. staying_perform e t p s d outs h;
+  changes_dialogue = λ d q f m by one. record { late = one.late; stays = one.stays; begins = one.begins };
   drops_arc = λ d q m one. record { late = one.late; stays = one.stays; begins = one.begins };
   notes_kept = λ d ks m held one. record { late = one.late; stays = one.stays; begins = one.begins };
   keeps = λ d k f held. staying_keep e t p s d k f;
   turns = λ d c f now at asked put gone. staying_turned who e f t p s d c now at asked put;
-  begins = λ d q. staying_begins who e t p q s d;
+  begins = λ d q free. staying_begins who e t p q s d;
   roots = λ d m nil may one. record {
     late = λ l. one.late (late_fresh _);
     stays = λ l n w. absurd (cc (n, nil_now d t l nil));

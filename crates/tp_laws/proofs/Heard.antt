@@ -272,15 +272,15 @@ pub heard_moves : (who : Who) (e : Event) (s : Digest) (p : ℕ) (sup fall : Boo
 heard_moves who e s p sup fall shut reads = record {
   still = λ d up lives. hush p sup fall shut s d (move [] d) refl refl (λ h. h) refl;
   chain = λ d a f one two quiet up lives. let x = one up lives in heard_then p sup fall shut s d a f x (two (x.superior ∙ up) (λ h. lives (x.back h))) quiet;
-  speaks = λ d outs h own up lives. hush_perform p sup fall shut s d outs h;
-  changes_dialogue = λ d q f m one up lives.
+  speaks = λ d outs h own said up lives. hush_perform p sup fall shut s d outs h;
+  changes_dialogue = λ d q f m by one up lives.
       let same : link_with (with_dialogue d.arcs q f) p ≡ link_with d.arcs p = link_dialogue d.arcs q f p in
       heard_arcs p sup fall shut s d (record d { arcs = with_dialogue d.arcs q f }) m refl refl (λ h. ap is_live (sym same) ∙ h) (one up (λ h. lives (ap is_live (sym same) ∙ h)));
   drops_arc = λ d q m one up lives. heard_arcs p sup fall shut s d (record d { arcs = without_arc d.arcs q }) m refl refl (λ h. dropped_live d.arcs q p h) (one up (λ h. lives (dropped_live d.arcs q p h)));
   notes_kept = λ d ks m held one up lives. heard_arcs p sup fall shut s d (record d { kept = ks }) m refl refl (λ h. h) (one up lives);
   keeps = λ d k f held up lives. hush_keep p sup fall shut s d k f;
   turns = λ d c f now at asked put gone up lives. heard_turned who e f d s c p sup fall shut reads now at asked put gone;
-  begins = λ d q up lives. heard_begins who e d s q p sup fall shut reads up lives;
+  begins = λ d q free up lives. heard_begins who e d s q p sup fall shut reads up lives;
   roots = λ d m nil may one up lives. heard_root who p sup fall shut s d (record { owner = who.site; mark = next_mark who d }) m nil (one up lives);
 }
 

@@ -231,7 +231,7 @@ event_taken ns fs x y e st unique here under = refl
 
 -- ---- the steps of a run
 
-own_superior : (ns : List Node) (fs : List Frame) (x : Node) → IsGood ns fs → find_node ns (number_of x) ≡ Some x → is_at x.superior (number_of x) ≡ true → ⊥
+pub own_superior : (ns : List Node) (fs : List Frame) (x : Node) → IsGood ns fs → find_node ns (number_of x) ≡ Some x → is_at x.superior (number_of x) ≡ true → ⊥
 own_superior ns fs x good here under = go x.superior refl
   where
     never : (a b : ℕ) → a ≡ b → suc a ≤ b → ⊥
@@ -258,7 +258,7 @@ none_taken g rs p (e ∷ h) none = both_true (heeds_event g rs p h e.event) (hee
         go true j = let at : a.node ≡ p = grind (arith, nat_tests, j) in absurd (none a (PeerRecord.OnAssoc x y q r) (inl (ap brought i)) at)
     here f i = refl
 
-heeds_comes : (ns : List Node) (fs : List Frame) (x : Node) → Comes ns x → IsGood ns fs → HeedsBranches ns → HeedsBranches (ns ++ x ∷ [])
+pub heeds_comes : (ns : List Node) (fs : List Frame) (x : Node) → Comes ns x → IsGood ns fs → HeedsBranches ns → HeedsBranches (ns ++ x ∷ [])
 heeds_comes ns fs x c good old u z hu hz under = go (number_of x == number_of u) refl (number_of x == number_of z) refl
   where
     at : (n : ℕ) → find_node (ns ++ x ∷ []) n ≡ cond (number_of x == n) (Some x) (find_node ns n)
@@ -286,7 +286,7 @@ heeds_comes ns fs x c good old u z hu hz under = go (number_of x == number_of u)
 abbrev Heeds : Node → Node → Type 0
 Heeds a b = heeds (deeds_of b.origin b.history) (records b.origin b.history) (number_of b) a.history ≡ true
 
-heeds_step : (ns : List Node) (fs : List Frame) (x : Node) (e : Event) → Step ns fs x e → IsUnique ns → HeedsBranches ns → HeedsBranches (put_node ns (grown_node x e))
+pub heeds_step : (ns : List Node) (fs : List Frame) (x : Node) (e : Event) → Step ns fs x e → IsUnique ns → HeedsBranches ns → HeedsBranches (put_node ns (grown_node x e))
 heeds_step ns fs x e st unique old u z hu hz under = go (number_of x == number_of u) refl (number_of x == number_of z) refl
   where
     y : Node

@@ -116,13 +116,13 @@ pub kept_moves : (who : Who) (e : Event) (s : Digest) → Moves who e s IsKeptMo
 kept_moves who e s = record {
   still = λ d. (refl, refl);
   chain = λ d a f one two quiet. kept_then d a f one two quiet;
-  speaks = λ d outs h own. (refl, refl);
-  changes_dialogue = λ d p f m one. one;
+  speaks = λ d outs h own said. (refl, refl);
+  changes_dialogue = λ d p f m by one. one;
   drops_arc = λ d p m one. one;
   notes_kept = λ d ks m held one. (one.0 ∙ ap (kept_after m.rec) held.1, one.1);
   keeps = λ d k f held. (after_unnoted (settled k f).rec d.kept, refl);
   turns = λ d c f now at asked put gone. (after_unnoted _ d.kept, refl);
-  begins = λ d p. kept_begins who p d;
+  begins = λ d p free. kept_begins who p d;
   roots = λ d m nil may one. one;
 }
 

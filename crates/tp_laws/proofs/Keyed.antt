@@ -92,13 +92,13 @@ pub keyed_moves : (who : Who) (e : Event) (s : Digest) → Moves who e s (IsKeye
 keyed_moves who e s = record {
   still = λ d. keyed_hush who e s d (move [] d) refl refl;
   chain = λ d a f one two quiet. keyed_then who e s d a f one two quiet;
-  speaks = λ d outs h own. keyed_hush who e s d (perform outs d) refl refl;
-  changes_dialogue = λ d p f m one. record { keys = one.keys; orders = one.orders };
+  speaks = λ d outs h own said. keyed_hush who e s d (perform outs d) refl refl;
+  changes_dialogue = λ d p f m by one. record { keys = one.keys; orders = one.orders };
   drops_arc = λ d p m one. record { keys = one.keys; orders = one.orders };
   notes_kept = λ d ks m held one. record { keys = one.keys; orders = one.orders };
   keeps = λ d k f held. keyed_hush who e s d (keep (settled k f) d) refl (settled_quiet k f);
   turns = λ d c f now at asked put gone. keyed_turned who e f s d c now at asked put;
-  begins = λ d q. keyed_begins who e s d q;
+  begins = λ d q free. keyed_begins who e s d q;
   roots = λ d m nil may one. record { keys = λ u i. rooted d u (one.keys u i); orders = one.orders };
 }
   where

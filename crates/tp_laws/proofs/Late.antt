@@ -57,17 +57,17 @@ late_begin who p d late = go d.current refl (find_arc d.arcs p)
 pub late_fresh : (k : Key) → LateOption (Some (fresh_current k))
 late_fresh k c h = let same : fresh_current k ≡ c = cc (h) in ap (λ (x : Current). is_nil x.phase) (sym same)
 
-late_moves : (who : Who) (e : Event) (s : Digest) → Moves who e s (λ d m. IsLate d → IsLate m.next)
+pub late_moves : (who : Who) (e : Event) (s : Digest) → Moves who e s (λ d m. IsLate d → IsLate m.next)
 late_moves who e s = record {
   still = λ d late. late;
   chain = λ d a f one two none late. two (one late);
-  speaks = λ d outs h own late. late;
-  changes_dialogue = λ d p f m one late. one late;
+  speaks = λ d outs h own said late. late;
+  changes_dialogue = λ d p f m by one late. one late;
   drops_arc = λ d p m one late. one late;
   notes_kept = λ d ks m held one late. one late;
   keeps = λ d k f held late. late;
   turns = λ d c f now at asked put gone late. late_remaining (transacted f (seen who d.arcs c)).next;
-  begins = λ d p late. late_begin who p d late;
+  begins = λ d p free late. late_begin who p d late;
   roots = λ d m nil may one late. one (late_fresh _);
 }
 

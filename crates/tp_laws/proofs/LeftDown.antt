@@ -1,4 +1,4 @@
--- Leaving goes down, where a superior that told a branch that it knows of nothing rolled itself.
+-- Leaving goes down: what a superior that left knows of a branch that it began.
 use Rattle.std.proofs.Common.{if◌then◌else◌, ◌≡◌, ◌≤◌, ◌+◌, ◌⊎◌, inl, inr, ℕ, suc, Bool, true, false, refl, ap, sym, subst, ◌∙◌, arith, Option, Some, None, List, [], ◌∷◌, ◌&&◌, ◌==◌}
 use Rattle.tp_names.specs.declared.identifiers.Aaid.{Aaid}
 use Rattle.tp_names.specs.declared.identifiers.BranchId.{BranchId}
@@ -93,7 +93,7 @@ left_row (x ∷ rows) p r h i = go (x.branch.peer.node == p) refl (left_row rows
         ap (λ (v : Row). v.branch.left) (sym same) ∙ and_left x.branch.left (all_left rows) h
     go false j rest = rest (and_right x.branch.left (all_left rows) h) (rw j at i)
 
-no_begins : (t : Aaid) (ws : List DialogueRecord) → begun_keys ws ≡ [] → begins_of t ws ≡ 0
+pub no_begins : (t : Aaid) (ws : List DialogueRecord) → begun_keys ws ≡ [] → begins_of t ws ≡ 0
 no_begins t [] h = refl
 no_begins t (DialogueRecord.Begin u b i ∷ ws) h = absurd (cc (h))
 no_begins t (r ∷ ws) h = no_begins t ws h

@@ -165,8 +165,8 @@ pub linked_moves : (who : Who) (e : Event) (s : Digest) (p : ℕ) → Moves who 
 linked_moves who e s p = record {
   still = λ d. record { over = over_none p (link_with d.arcs p) [] refl; drawn = at_most_itself d.drawn; boot = refl; superior = refl; declared = refl };
   chain = λ d a f one two none. linked_chain p d a f one two;
-  speaks = λ d outs h own. linked_perform d outs p (apart_spoken outs h);
-  changes_dialogue = λ d q f m one. record {
+  speaks = λ d outs h own said. linked_perform d outs p (apart_spoken outs h);
+  changes_dialogue = λ d q f m by one. record {
     over = over_begins p (link_with d.arcs p) (link_with (with_dialogue d.arcs q f) p) (link_with m.next.arcs p) m.outs (link_dialogue d.arcs q f p) one.over;
     drawn = one.drawn;
     boot = one.boot;
@@ -177,6 +177,6 @@ linked_moves who e s p = record {
   notes_kept = λ d ks m held one. record { over = one.over; drawn = one.drawn; boot = one.boot; superior = one.superior; declared = one.declared };
   keeps = λ d k f held. record { over = over_performed d.arcs (settled k f).outs p (apart_settled k f); drawn = at_most_itself d.drawn; boot = refl; superior = refl; declared = refl };
   turns = λ d c f now at asked put gone. linked_turned who f d c p put;
-  begins = λ d q. linked_begins who p q d;
+  begins = λ d q free. linked_begins who p q d;
   roots = λ d m nil may one. record { over = one.over; drawn = one_more d.drawn m.next.drawn one.drawn; boot = one.boot; superior = one.superior; declared = one.declared };
 }

@@ -161,13 +161,13 @@ marking_moves : (who : Who) (e : Event) (mark : Branch → Bool) (may : TxEvent 
 marking_moves who e mark may s law = record {
   still = λ d p k h. inl h;
   chain = λ d a f one two quiet p k h. elim (two p k h) [ inl i ↦ one p k i | inr i ↦ inr i ];
-  speaks = λ d outs h own p k i. inl i;
-  changes_dialogue = λ d q f m one. one;
+  speaks = λ d outs h own said p k i. inl i;
+  changes_dialogue = λ d q f m by one. one;
   drops_arc = λ d q m one. one;
   notes_kept = λ d ks m held one. one;
   keeps = λ d k f held p j h. inl h;
   turns = λ d c f now at asked put gone. marking_turned who e f mark may s d c law now at asked put;
-  begins = λ d q. marking_begins who e mark may q s d law;
+  begins = λ d q free. marking_begins who e mark may q s d law;
   roots = λ d m nil may one p k h. elim (one p k h) [ inl i ↦ absurd (fresh_unmarked mark _ p k i) | inr i ↦ inr i ];
 }
 

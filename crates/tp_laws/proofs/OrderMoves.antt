@@ -92,14 +92,14 @@ pub reached_moves : (who : Who) (e : Event) (s : Digest) → Moves who e s IsRea
 reached_moves who e s = record {
   still = λ d. (refl, λ h. h);
   chain = λ d a f one two quiet. (two.0 ∙ one.0, λ h. two.1 (one.1 h));
-  speaks = λ d outs h own. (refl, λ h. h);
-  changes_dialogue = λ d p f m one. one;
+  speaks = λ d outs h own said. (refl, λ h. h);
+  changes_dialogue = λ d p f m by one. one;
   drops_arc = λ d p m one. one;
   notes_kept = λ d ks m held one. one;
   keeps = λ d k f held. (refl, λ h. h);
   turns = λ d c f now at asked put gone.
       (refl, λ h v is root. reached_left d c (transacted f (seen who d.arcs c)).next (remaining (transacted f (seen who d.arcs c)).next) now (passed_turn f (seen who d.arcs c) put).key refl h v is root);
-  begins = λ d p. reached_begins who p d;
+  begins = λ d p free. reached_begins who p d;
   roots = λ d m nil may one. (one.0, λ h. one.1 (reached_root who d));
 }
 
@@ -122,7 +122,7 @@ asked_under (Event.Arrive from (PeerRecord.OnAssoc x y q r)) c f t key asked ord
     under_at c.key from.node (ap (λ (k : Key). is_under_at k from.node) (sym key) ∙ under)
 asked_under (Event.Arrive from (PeerRecord.RecCommit u b)) c f t key asked ord = named_under c.key u b asked.1
 asked_under (Event.Arrive from (PeerRecord.RecReply u b RecState.Commit)) c f t key asked ord = named_under c.key u b asked.1
-asked_under (Event.Arrive from (PeerRecord.RecReply u b (RecState.Done r))) c f t key asked ord = absurd (cc (ap (λ (g : TxEvent). is_order_for g t) asked, ord))
+asked_under (Event.Arrive from (PeerRecord.RecReply u b (RecState.Done r))) c f t key asked ord = absurd (cc (ap (λ (g : TxEvent). is_order_for g t) asked.0, ord))
 asked_under (Event.Arrive from (PeerRecord.RecReply u b RecState.Unknown)) c f t key asked ord = absurd (cc (ap (λ (g : TxEvent). is_order_for g t) asked.0, ord))
 asked_under (Event.Arrive from (PeerRecord.RecReply u b RecState.RetryLater)) c f t key asked ord = absurd (cc (ap (λ (g : TxEvent). is_order_for g t) asked.0, ord))
 asked_under (Event.Arrive from (PeerRecord.ShutAssoc x None)) c f t key asked ord = absurd asked
@@ -221,8 +221,8 @@ order_moves who e s = record {
   still = λ d. (reached.still d, sound.still d, kept.still d, quiet_follows who d (move [] d) refl);
   chain = λ d a f one two quiet.
       (reached.chain d a f one.0 two.0 quiet, sound.chain d a f one.1 two.1 quiet, kept.chain d a f one.2 two.2 quiet, follows_then who d a f one two quiet);
-  speaks = λ d outs h own. (reached.speaks d outs h own, sound.speaks d outs h own, kept.speaks d outs h own, quiet_follows who d (perform outs d) refl);
-  changes_dialogue = λ d p f m one. one;
+  speaks = λ d outs h own said. (reached.speaks d outs h own said, sound.speaks d outs h own said, kept.speaks d outs h own said, quiet_follows who d (perform outs d) refl);
+  changes_dialogue = λ d p f m by one. one;
   drops_arc = λ d p m one. one;
   notes_kept = λ d ks m held one. (
     reached.notes_kept d ks m held one.0,
@@ -238,7 +238,7 @@ order_moves who e s = record {
   );
   turns = λ d c f now at asked put gone.
       (reached.turns d c f now at asked put gone, sound.turns d c f now at asked put gone, kept.turns d c f now at asked put gone, follows_turned who e f d c now asked put);
-  begins = λ d p. (reached.begins d p, sound.begins d p, kept.begins d p, quiet_follows who d (begin_on who p d) (quiet_begin who p d));
+  begins = λ d p free. (reached.begins d p free, sound.begins d p free, kept.begins d p free, quiet_follows who d (begin_on who p d) (quiet_begin who p d));
   roots = λ d m nil may one. (
     reached.roots d m nil may one.0,
     sound.roots d m nil may one.1,

@@ -301,13 +301,13 @@ pub own_moves : (who : Who) (e : Event) (s : Digest) → Moves who e s IsOwnMove
 own_moves who e s = record {
   still = λ d. own_hush d (move [] d) (λ u h. absurd (cc (h))) (λ u h. h);
   chain = λ d a f one two quiet. own_then d a f one two quiet;
-  speaks = λ d outs h own. own_hush d (perform outs d) (λ u i. own u (sym (sends_performed u d.arcs outs) ∙ i)) (λ u i. i);
-  changes_dialogue = λ d p f m one. one;
+  speaks = λ d outs h own said. own_hush d (perform outs d) (λ u i. own.0 u (sym (sends_performed u d.arcs outs) ∙ i)) (λ u i. i);
+  changes_dialogue = λ d p f m by one. one;
   drops_arc = λ d p m one. one;
   notes_kept = λ d ks m held one. λ g old new. one g (λ u h. old u (noted d ks held.0 u h)) new;
   keeps = λ d k f held. own_keeps d k f held.0;
   turns = λ d c f now at asked put gone. own_turned who f d c now put;
-  begins = λ d q. own_begins who d q;
+  begins = λ d q free. own_begins who d q;
   roots = λ d m nil may one. λ g old new. one g (λ u h. old u (rooted d u h)) new;
 }
   where

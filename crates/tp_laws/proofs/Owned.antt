@@ -52,7 +52,7 @@ found_kept (k ∷ ks) j x h u i = go (is_key k.key j) refl (found_kept ks j x)
         let there = rest one u i in
         rw there (grind arith)
 
-kept_key : (ks : List Kept) (j : NodeKey) (x : Kept) → find_kept ks j ≡ Some x → is_key x.key j ≡ true
+pub kept_key : (ks : List Kept) (j : NodeKey) (x : Kept) → find_kept ks j ≡ Some x → is_key x.key j ≡ true
 kept_key [] j x h = absurd cc
 kept_key (k ∷ ks) j x h = go (is_key k.key j) refl (kept_key ks j x)
   where
@@ -111,7 +111,7 @@ owed_orders u k h = go (is_commit k.side) refl
 
 -- ---- replies
 
-key_aaid : (k : Key) → (node_key k).aaid ≡ aaid_of k
+pub key_aaid : (k : Key) → (node_key k).aaid ≡ aaid_of k
 key_aaid (Root t) = refl
 key_aaid (Under t b a) = refl
 
@@ -166,7 +166,7 @@ kept_tree d t b k h = go (kept_owing d.kept t b) refl
         on (Some c) j = key_same c t k (current_tree d t c j) (rw (i, j, key_of_kept) at h)
         on None j = of_tree d.kept t k (rw (i, j, key_of_kept) at h)
 
-branch_tree : (d : Digest) (t : Aaid) (b : BranchId) (k : NodeKey) → key_of_branch d t b ≡ Some k → is_aaid k.aaid t ≡ true
+pub branch_tree : (d : Digest) (t : Aaid) (b : BranchId) (k : NodeKey) → key_of_branch d t b ≡ Some k → is_aaid k.aaid t ≡ true
 branch_tree d t b k h = go (current_of d t) refl
   where
     go : (c : Option Current) → current_of d t ≡ c → is_aaid k.aaid t ≡ true

@@ -1,4 +1,4 @@
--- Ready goes down, where a superior that told a branch that it knows of nothing rolled itself.
+-- Ready goes down: what a bound superior knows of a branch that it began.
 use Rattle.std.proofs.Common.{◌≡◌, ◌≤◌, ◌+◌, ◌⊎◌, inl, inr, ℕ, suc, Bool, true, false, refl, ap, sym, subst, ◌∙◌, arith, Option, Some, None, List, [], ◌∷◌}
 use Rattle.tp_names.specs.declared.identifiers.Aaid.{Aaid}
 use Rattle.tp_names.specs.declared.identifiers.BranchId.{BranchId}
@@ -17,19 +17,15 @@ use Rattle.tp_model.specs.Node.{phase_of, fresh_current}
 use Rattle.tp_model.specs.Events.{action, recovered_current}
 use Rattle.tp_model.specs.History.{digest, records, with_rec}
 use Rattle.tp_model.specs.Outcomes.{is_now}
-use Rattle.tp_model.specs.World.{number_of}
-use Rattle.tp_model.specs.Happenings.{Happening, run}
-use Rattle.tp_model.specs.Promises.{is_of_tree, is_bound_of, has_record, is_begin_of, has_begun, has_logged}
-use Rattle.tp_model.specs.Promises.{is_ready_of as is_ready_rec}
+use Rattle.tp_model.specs.Promises.{is_of_tree, is_bound_of, has_record, is_begin_of, has_begun}
+use Rattle.tp_model.specs.Legal.{IsGrown}
 use Rattle.tp_laws.specs.Histories.{IsSentIn, HasSent}
-use Rattle.tp_laws.specs.Worlds.{IsGood}
 use Rattle.tp_laws.specs.Moves.{IsLate, prelude}
 use Rattle.tp_laws.specs.Facts.{BranchKey, find_branch, has_ready_of, words_to, key_at}
 use Rattle.tp_laws.specs.Passages.{may_move}
 use Rattle.tp_laws.specs.Trees.{begins_of, branch_of_tree, IsOld, IsTreed}
 use Rattle.tp_laws.specs.Members.{is_begun_by, has_taken_begin, is_known, IsOnce}
-use Rattle.tp_laws.specs.Upward.{Deeds, deeds_of}
-use Rattle.tp_laws.specs.Hanging.{ReadyDown, UnknownIsRolled}
+use Rattle.tp_laws.specs.Upward.{Deeds}
 use Rattle.tp_laws.proofs.Late.{late_law, late_prelude}
 use Rattle.tp_laws.proofs.Treed.{now_some, drawn_new}
 use Rattle.tp_laws.proofs.Knowing.{Came, As_it_was, By_begin, By_crash, came_by, old_prelude, now_known, now_prelude, nil_now, treed_event}
@@ -39,16 +35,14 @@ use Rattle.tp_laws.proofs.Rolls.{phase_at}
 use Rattle.tp_laws.proofs.Bare.{bare_law}
 use Rattle.tp_laws.proofs.Equal.{aaids_equal, branches_equal, or_case}
 use Rattle.tp_laws.proofs.SpeaksUp.{recovered_before}
-use Rattle.tp_laws.proofs.Unique.{TookOn, unique_run}
+use Rattle.tp_laws.proofs.Unique.{TookOn}
 use Rattle.tp_laws.proofs.Hanging.{some_same}
 use Rattle.tp_laws.proofs.Family.{begin_is}
-use Rattle.tp_laws.proofs.Good.{good_run}
 use Rattle.tp_laws.proofs.Settled.{is_bound_phase}
 use Rattle.tp_laws.proofs.VotedAt.{VotedAt, BoundNow, binds_tree, active_bound, binding_event}
 use Rattle.tp_laws.proofs.Marked.{Marked}
 use Rattle.tp_laws.proofs.Accounts.{counted_of, left_of, Accounts}
 use Rattle.tp_laws.proofs.LeftDown.{Below, below_tail, accounts_of, branch_some, key_branch}
-use Rattle.tp_laws.proofs.BelowRuns.{SentBegin, ready_took, ready_logged, below_run, branch_above, branch_sent}
 
 -- ---- bound behind the prelude, bound before
 
@@ -103,15 +97,15 @@ was_open Phase.Rolling q m b n = absurd (grind (arith, m, b))
 -- ---- every legal history
 
 -- bound now, or by the log
-abbrev Bound : Origin → Aaid → List Entry → Type 0
+abbrev pub Bound : Origin → Aaid → List Entry → Type 0
 Bound o t h = BoundNow t (digest o h) ⊎ (has_record (is_bound_of t) (records o h) ≡ true)
 
-abbrev Answered : Aaid → Deeds → List LogRec → Type 0
+abbrev pub Answered : Aaid → Deeds → List LogRec → Type 0
 Answered t g rs = (g.left t ≡ true) ⊎ (id : BranchId) × (has_ready_of (t, id) rs ≡ true)
 
 -- a bound tree begins no branch
-bound_begins : (o : Origin) (up : Option Addr) (p : ℕ) (g : Deeds) (rs : List LogRec) (e : Entry) (h : List Entry) (a : Addr) (t : Aaid) → Below o up p g rs (e ∷ h) → Bound o t h → suc 0 ≤ begins_of t (words_to a.node (action o.who (digest o h) e.event).outs) → ⊥
-bound_begins o up p g rs e h a t below old counts = elim (k.born late counts) [ inl n ↦ here n | inr z ↦ drawn_new o.who w (action o.who d e.event).next t z (old_prelude o.who d e.event t.mark (known_old o h t below.once.1 known)) ]
+pub bound_begins : (o : Origin) (up : Option Addr) (e : Entry) (h : List Entry) (a : Addr) (t : Aaid) → o.start.records ≡ [] → IsGrown o up (e ∷ h) → IsOnce o (e ∷ h) → Bound o t h → suc 0 ≤ begins_of t (words_to a.node (action o.who (digest o h) e.event).outs) → ⊥
+bound_begins o up e h a t empty legal once old counts = elim (k.born late counts) [ inl n ↦ here n | inr z ↦ drawn_new o.who w (action o.who d e.event).next t z (old_prelude o.who d e.event t.mark (known_old o h t once.1 known)) ]
   where
     d : Digest
     d = digest o h
@@ -120,22 +114,22 @@ bound_begins o up p g rs e h a t below old counts = elim (k.born late counts) [ 
     w = prelude o.who d e.event
 
     late : IsLate w
-    late = late_prelude o.who d e.event (late_law o up h below.legal.3)
+    late = late_prelude o.who d e.event (late_law o up h legal.3)
 
     k : IsTreed o.who w true t a.node w (action o.who d e.event)
-    k = treed_event o.who d e.event t a.node (late_law o up h below.legal.3) below.legal.0
+    k = treed_event o.who d e.event t a.node (late_law o up h legal.3) legal.0
 
     known : is_known o t h ≡ true
     known = elim old [
-      | inl b ↦ now_known o up h t below.empty below.legal.3 (bound_is t d b)
-      | inr r ↦ (bare_law o up h t below.empty below.legal.3 below.once.1).known (bound_tree t (records o h) r)
+      | inl b ↦ now_known o up h t empty legal.3 (bound_is t d b)
+      | inr r ↦ (bare_law o up h t empty legal.3 once.1).known (bound_tree t (records o h) r)
     ]
 
     here : is_now t w.current ≡ true → ⊥
-    here n = at (came_by o.who d e.event below.legal.0) (now_prelude o.who d e.event t below.legal.0 n)
+    here n = at (came_by o.who d e.event legal.0) (now_prelude o.who d e.event t legal.0 n)
       where
         act : is_active (phase_of w) ≡ true
-        act = k.active late (prelude_old o up e h t below.empty below.legal below.once) counts n
+        act = k.active late (prelude_old o up e h t empty legal once) counts n
 
         c : (u : Current) × (w.current ≡ Some u) × (is_aaid t (aaid_of u.key) ≡ true)
         c = now_some t w.current n
@@ -144,15 +138,15 @@ bound_begins o up p g rs e h a t below old counts = elim (k.born late counts) [ 
         active = ap is_active (sym (phase_at w c.0 c.1)) ∙ act
 
         at : Came o.who d e.event → (is_now t d.current ≡ true) ⊎ (is_begun_by t e.event ≡ true) → ⊥
-        at came (inr j) = let new = below.once.0 t j in absurd (grind (arith, known, new.0, new.1))
+        at came (inr j) = let new = once.0 t j in absurd (grind (arith, known, new.0, new.1))
         at (As_it_was i) (inl m) = elim old [
           | inl b ↦ active_bound c.0.phase active (ap (λ (u : Current). is_bound_phase u.phase) (some_same c.0 b.0 (sym c.1 ∙ i ∙ b.1)) ∙ b.3)
-          | inr r ↦ (let off = (bare_law o up h t below.empty below.legal.3 below.once.1).active (bound_tree t (records o h) r) m in cc (off, ap is_active (phase_at d c.0 (sym i ∙ c.1)) ∙ active))
+          | inr r ↦ (let off = (bare_law o up h t empty legal.3 once.1).active (bound_tree t (records o h) r) m in cc (off, ap is_active (phase_at d c.0 (sym i ∙ c.1)) ∙ active))
         ]
-        at (By_begin from x y q v u f l is found cur nil above) (inl m) = cc (m, nil_now d t (late_law o up h below.legal.3) nil)
+        at (By_begin from x y q v u f l is found cur nil above) (inl m) = cc (m, nil_now d t (late_law o up h legal.3) nil)
         at (By_crash is cur) (inl m) = active_bound c.0.phase active (recovered_bound d.current c.0 (sym cur ∙ c.1))
 
-voted_sent : (o : Origin) (up : Option Addr) (p : ℕ) (g : Deeds) (rs : List LogRec) (h : List Entry) (a : Addr) (x y : Mark) (q : ℕ) (t : Aaid) (b : BranchId) (i : Holder) → Below o up p g rs h → a.node ≡ p → Bound o t h → HasSent h a (PeerRecord.OnAssoc x y q (DialogueRecord.Begin t b i)) → Answered t g rs
+pub voted_sent : (o : Origin) (up : Option Addr) (p : ℕ) (g : Deeds) (rs : List LogRec) (h : List Entry) (a : Addr) (x y : Mark) (q : ℕ) (t : Aaid) (b : BranchId) (i : Holder) → Below o up p g rs h → a.node ≡ p → Bound o t h → HasSent h a (PeerRecord.OnAssoc x y q (DialogueRecord.Begin t b i)) → Answered t g rs
 voted_sent o up p g rs [] a x y q t b i below at bound s = absurd s
 voted_sent o up p g rs (e ∷ h) a x y q t b i below at bound s = go (has_record (is_bound_of t) (records o h)) refl (bound_or t d) (λ old k. voted_sent o up p g rs h a x y q t b i (below_tail o up p g rs e h below) at old k)
   where
@@ -176,7 +170,7 @@ voted_sent o up p g rs (e ∷ h) a x y q t b i below at bound s = go (has_record
 
     old_case : Bound o t h → IsSentIn e.outs a (PeerRecord.OnAssoc x y q (DialogueRecord.Begin t b i)) ⊎ HasSent h a (PeerRecord.OnAssoc x y q (DialogueRecord.Begin t b i)) → (Bound o t h → HasSent h a (PeerRecord.OnAssoc x y q (DialogueRecord.Begin t b i)) → Answered t g rs) → Answered t g rs
     old_case old (inr m) rest = rest old m
-    old_case old (inl m) rest = absurd (bound_begins o up p g rs e h a t below old (counts m))
+    old_case old (inl m) rest = absurd (bound_begins o up e h a t below.empty below.legal below.once old (counts m))
 
     recs : e.rec ≡ (action o.who d e.event).rec
     recs = ap (λ (f : Entry). f.rec) (sym below.legal.1)
@@ -275,20 +269,20 @@ voted_sent o up p g rs (e ∷ h) a x y q t b i below at bound s = go (has_record
 
 -- ---- every run
 
-begun_taken : (t : Aaid) (b : BranchId) (a : Addr) (h : List Entry) → has_begun t b a h ≡ true → has_taken_begin t h ≡ true
+pub begun_taken : (t : Aaid) (b : BranchId) (a : Addr) (h : List Entry) → has_begun t b a h ≡ true → has_taken_begin t h ≡ true
 begun_taken t b a [] k = absurd (cc (k))
 begun_taken t b a (e ∷ h) k = elim (or_case (is_begin_of t b a e.event) (has_begun t b a h) k) [
   | inl i ↦ (let n = begin_is t b a e.event i in rw n refl)
   | inr i ↦ (let n = begun_taken t b a h i in rw n (grind arith))
 ]
 
-took_taken : (t : Aaid) (b : BranchId) (from : Addr) (x y : Mark) (q : ℕ) (i : Holder) (h : List Entry) → TookOn h from x y q (DialogueRecord.Begin t b i) → has_taken_begin t h ≡ true
+pub took_taken : (t : Aaid) (b : BranchId) (from : Addr) (x y : Mark) (q : ℕ) (i : Holder) (h : List Entry) → TookOn h from x y q (DialogueRecord.Begin t b i) → has_taken_begin t h ≡ true
 took_taken t b from x y q i [] k = absurd k
 took_taken t b from x y q i (e ∷ h) (inl k) = let n : is_begun_by t e.event ≡ true = ap (is_begun_by t) k ∙ aaid_same t in rw n refl
 took_taken t b from x y q i (e ∷ h) (inr k) = let n = took_taken t b from x y q i h k in rw n (grind arith)
 
 -- a tree's Begin is taken once, so of one branch
-once_same : (o : Origin) (h : List Entry) (t : Aaid) (b id : BranchId) (a from : Addr) (x y : Mark) (q : ℕ) (i : Holder) → IsOnce o h → has_begun t b a h ≡ true → TookOn h from x y q (DialogueRecord.Begin t id i) → id ≡ b
+pub once_same : (o : Origin) (h : List Entry) (t : Aaid) (b id : BranchId) (a from : Addr) (x y : Mark) (q : ℕ) (i : Holder) → IsOnce o h → has_begun t b a h ≡ true → TookOn h from x y q (DialogueRecord.Begin t id i) → id ≡ b
 once_same o [] t b id a from x y q i once k m = absurd m
 once_same o (e ∷ h) t b id a from x y q i once k m = go (or_case (is_begin_of t b a e.event) (has_begun t b a h) k) m (once_same o h t b id a from x y q i once.1)
   where
@@ -300,22 +294,3 @@ once_same o (e ∷ h) t b id a from x y q i once k m = go (or_case (is_begin_of 
         sym (branches_equal b id (grind (arith, one)))
     go (inl n) (inr m) rest = absurd (cc ((once.0 t (begin_is t b a e.event n)).1, took_taken t id from x y q i h m))
     go (inr n) (inl m) rest = absurd (cc ((once.0 t (ap (is_begun_by t) m ∙ aaid_same t)).1, begun_taken t b a h n))
-
--- Ready goes down
-pub ready_down : (es : List Happening) → UnknownIsRolled (run es) → ReadyDown (run es)
-ready_down es unknown t b x y branch bound = elim (voted_sent x.origin x.superior (number_of y) (deeds_of y.origin y.history) (records y.origin y.history) x.history s.to s.x_mark s.y_mark s.seq t b s.holder below s.at (inr bound) s.sent) [
-  | inl gone ↦ inl gone
-  | inr r ↦
-      (let k = ready_took y.origin y.superior y.history (t, r.0) (good.fresh (number_of y) y branch.child.here) (good.legal (number_of y) y branch.child.here) r.1 in
-      let same = once_same y.origin y.history t b r.0 _ k.from k.x k.y k.seq k.holder ((unique_run es).once (number_of y) y branch.child.here) branch.begun k.took in
-      inr (subst (λ (id : BranchId). has_logged (is_ready_rec t id) y ≡ true) same (ready_logged (t, r.0) (records y.origin y.history) r.1)))
-]
-  where
-    good : IsGood (run es).nodes (run es).frames
-    good = good_run es
-
-    s : SentBegin x y t b
-    s = branch_sent es t b x y branch
-
-    below : Below x.origin x.superior (number_of y) (deeds_of y.origin y.history) (records y.origin y.history) x.history
-    below = below_run es unknown x y branch.superior.here branch.child.here (branch_above es t b x y branch)

@@ -110,12 +110,12 @@ asked_record from (PeerRecord.ShutAssoc x (Some y)) c h = cc (h)
 asked_record from (PeerRecord.OnAssoc x y q r) c h = cc (h)
 asked_record from (PeerRecord.RecCommit t b) c h = cc (h.0)
 asked_record from (PeerRecord.RecReply t b RecState.Commit) c h = cc (h.0)
-asked_record from (PeerRecord.RecReply t b (RecState.Done r)) c h = cc (h)
+asked_record from (PeerRecord.RecReply t b (RecState.Done r)) c h = cc (h.0)
 asked_record from (PeerRecord.RecReply t b RecState.Unknown) c h = cc (h.0)
 asked_record from (PeerRecord.RecReply t b RecState.RetryLater) c h = cc (h.0)
 asked_record from r c h = h
 
-unchanged_asked : (e : Event) (c : Current) → IsAsked e c (TxEvent.User Request.Unchanged) → is_unchanged e ≡ true
+pub unchanged_asked : (e : Event) (c : Current) → IsAsked e c (TxEvent.User Request.Unchanged) → is_unchanged e ≡ true
 unchanged_asked (Event.Declare s) c h = absurd h
 unchanged_asked (Event.Do r) c h = asked_request r c h
 unchanged_asked (Event.Arrive from r) c h = absurd (asked_record from r c h)
@@ -369,18 +369,18 @@ risen_moves who e s p sup fall shut reads h = record {
       let x = one up lives in
       let y = two (x.0.superior ∙ up) (λ l. lives (x.0.back l)) in
       (h.chain d a f (λ u l. x.0) (λ u l. y.0) quiet up lives, risen_then e p sup fall shut s d a f x.0 y.0 x.1 y.1 quiet);
-  speaks = λ d outs k own up lives. (h.speaks d outs k own up lives, risen_perform e p fall s d outs k);
-  changes_dialogue = λ d q f m one up lives.
+  speaks = λ d outs k own said up lives. (h.speaks d outs k own said up lives, risen_perform e p fall s d outs k);
+  changes_dialogue = λ d q f m by one up lives.
       let same : link_with (with_dialogue d.arcs q f) p ≡ link_with d.arcs p = link_dialogue d.arcs q f p in
       let x = one up (λ l. lives (ap is_live (sym same) ∙ l)) in
-      (h.changes_dialogue d q f m (λ u l. x.0) up lives, record { words = x.1.words; votes = x.1.votes });
+      (h.changes_dialogue d q f m by (λ u l. x.0) up lives, record { words = x.1.words; votes = x.1.votes });
   drops_arc = λ d q m one up lives.
       let x = one up (λ l. lives (dropped_live d.arcs q p l)) in
       (h.drops_arc d q m (λ u l. x.0) up lives, record { words = x.1.words; votes = x.1.votes });
   notes_kept = λ d ks m held one up lives. let x = one up lives in (h.notes_kept d ks m held (λ u l. x.0) up lives, record { words = x.1.words; votes = x.1.votes });
   keeps = λ d k f held up lives. (h.keeps d k f held up lives, risen_keep e p fall s d k f);
   turns = λ d c f now at asked put gone up lives. (h.turns d c f now at asked put gone up lives, risen_turned who e f d s c p sup fall shut reads now at asked put gone);
-  begins = λ d q up lives. (h.begins d q up lives, risen_begins who e p q fall s d);
+  begins = λ d q free up lives. (h.begins d q free up lives, risen_begins who e p q fall s d);
   roots = λ d m nil may one up lives. let x = one up lives in (h.roots d m nil may (λ u l. x.0) up lives, risen_root e p fall s d _ m nil x.1);
 }
 

@@ -118,7 +118,7 @@ rolls_so who d (Event.Arrive from (PeerRecord.RecCommit t b)) ok c f arcs now as
 rolls_so who d (Event.Arrive from (PeerRecord.RecReply t b RecState.Unknown)) ok c f arcs now asked h =
     reply_rolls d c t b now asked.1 (subst (λ (g : TxEvent). falls g (seen who arcs c) ≡ true) asked.0 h)
 rolls_so who d (Event.Arrive from (PeerRecord.RecReply t b RecState.Commit)) ok c f arcs now asked h = absurd (cc (ap (λ (g : TxEvent). falls g (seen who arcs c)) asked.0, h))
-rolls_so who d (Event.Arrive from (PeerRecord.RecReply t b (RecState.Done r))) ok c f arcs now asked h = absurd (cc (ap (λ (g : TxEvent). falls g (seen who arcs c)) asked, h))
+rolls_so who d (Event.Arrive from (PeerRecord.RecReply t b (RecState.Done r))) ok c f arcs now asked h = absurd (cc (ap (λ (g : TxEvent). falls g (seen who arcs c)) asked.0, h))
 rolls_so who d (Event.Arrive from (PeerRecord.RecReply t b RecState.RetryLater)) ok c f arcs now asked h = absurd (cc (ap (λ (g : TxEvent). falls g (seen who arcs c)) asked.0, h))
 rolls_so who d (Event.Arrive from r) ok c f arcs now asked h = absurd asked
 rolls_so who d (Event.Break from r) ok c f arcs now asked h = sym (fatal_seen who d arcs c from.node now) ∙ subst (λ (g : TxEvent). falls g (seen who arcs c) ≡ true) asked h

@@ -147,25 +147,25 @@ rowed_left e s t q may = rowed_row e s t (branch_left q t) q (λ r. record r { b
 counts_may : (e : TxEvent) (s : Transaction) (q : ℕ) → e ≡ TxEvent.Took q DialogueRecord.Ready → is_active s.phase ≡ true → row_holds s.rows q (λ b. b.prepared && not b.counted) ≡ true → may_count e s q ≡ true
 counts_may e s q is act row = ap (λ (f : TxEvent). may_count f s q) is ∙ rw (act, row) (grind (arith, nat_tests))
 
-done_may : (e : TxEvent) (s : Transaction) (q : ℕ) (r : Report) → e ≡ TxEvent.Took q (DialogueRecord.Done r) → is_committing s.phase ≡ true → may_end e s q ≡ true
+pub done_may : (e : TxEvent) (s : Transaction) (q : ℕ) (r : Report) → e ≡ TxEvent.Took q (DialogueRecord.Done r) → is_committing s.phase ≡ true → may_end e s q ≡ true
 done_may e s q r is c = ap (λ (f : TxEvent). may_end f s q) is ∙ rw c (grind (arith, nat_tests))
 
-rolled_may : (e : TxEvent) (s : Transaction) (q : ℕ) (r : Report) → e ≡ TxEvent.Took q (DialogueRecord.RolledBack r) → is_rolling s.phase ≡ true → may_end e s q ≡ true
+pub rolled_may : (e : TxEvent) (s : Transaction) (q : ℕ) (r : Report) → e ≡ TxEvent.Took q (DialogueRecord.RolledBack r) → is_rolling s.phase ≡ true → may_end e s q ≡ true
 rolled_may e s q r is c = ap (λ (f : TxEvent). may_end f s q) is ∙ rw c (grind (arith, nat_tests))
 
-reply_may : (e : TxEvent) (s : Transaction) (b : _) (w : Row) (r : Report) → e ≡ TxEvent.Reply b (RecState.Done r) → find_row_by_id s.rows b ≡ Some w → is_open_in_commit s w.branch ≡ true → may_end e s w.branch.peer.node ≡ true
+pub reply_may : (e : TxEvent) (s : Transaction) (b : _) (w : Row) (r : Report) → e ≡ TxEvent.Reply b (RecState.Done r) → find_row_by_id s.rows b ≡ Some w → is_open_in_commit s w.branch ≡ true → may_end e s w.branch.peer.node ≡ true
 reply_may e s b w r is found o = ap (λ (f : TxEvent). may_end f s w.branch.peer.node) is ∙ rw (found, may_end) (grind (arith, nat_tests, o))
 
 same_phase : (s t : Transaction) (q : ℕ) → (t ≡ s) ⊎ (t ≡ with_row s q row_dead) → t.phase ≡ s.phase
 same_phase s t q (inl i) = ap (λ (u : Transaction). u.phase) i
 same_phase s t q (inr i) = ap (λ (u : Transaction). u.phase) i ∙ row_phase s q row_dead
 
-left_may : (e : TxEvent) (s t : Transaction) (q : ℕ) (w : DialogueRecord) → e ≡ TxEvent.Took q w → is_left_word w ≡ true → (t ≡ s) ⊎ (t ≡ with_row s q row_dead) → is_active t.phase ≡ true → may_leave e s q ≡ true
+pub left_may : (e : TxEvent) (s t : Transaction) (q : ℕ) (w : DialogueRecord) → e ≡ TxEvent.Took q w → is_left_word w ≡ true → (t ≡ s) ⊎ (t ≡ with_row s q row_dead) → is_active t.phase ≡ true → may_leave e s q ≡ true
 left_may e s t q DialogueRecord.Left is l at act = let p : is_active s.phase ≡ true = ap is_active (sym (same_phase s t q at)) ∙ act in ap (λ (f : TxEvent). may_leave f s q) is ∙ rw p (grind (arith, nat_tests))
 left_may e s t q DialogueRecord.LeftEnd is l at act = let p : is_active s.phase ≡ true = ap is_active (sym (same_phase s t q at)) ∙ act in ap (λ (f : TxEvent). may_leave f s q) is ∙ rw p (grind (arith, nat_tests))
 left_may e s t q w is l at act = absurd (cc (l))
 
-left_end_may : (e : TxEvent) (s t : Transaction) (q : ℕ) (w : DialogueRecord) → e ≡ TxEvent.Took q w → is_left_word w ≡ true → (t ≡ s) ⊎ (t ≡ with_row s q row_dead) → is_rolling t.phase ≡ true → may_end e s q ≡ true
+pub left_end_may : (e : TxEvent) (s t : Transaction) (q : ℕ) (w : DialogueRecord) → e ≡ TxEvent.Took q w → is_left_word w ≡ true → (t ≡ s) ⊎ (t ≡ with_row s q row_dead) → is_rolling t.phase ≡ true → may_end e s q ≡ true
 left_end_may e s t q DialogueRecord.Left is l at c = let p : is_rolling s.phase ≡ true = ap is_rolling (sym (same_phase s t q at)) ∙ c in ap (λ (f : TxEvent). may_end f s q) is ∙ rw p (grind (arith, nat_tests))
 left_end_may e s t q DialogueRecord.LeftEnd is l at c = let p : is_rolling s.phase ≡ true = ap is_rolling (sym (same_phase s t q at)) ∙ c in ap (λ (f : TxEvent). may_end f s q) is ∙ rw p (grind (arith, nat_tests))
 left_end_may e s t q w is l at c = absurd (cc (l))

@@ -32,14 +32,14 @@ use Rattle.tp_laws.proofs.Late.{late_law}
 -- ---- what stands in a list of arcs
 
 -- nobody is new, and what was separate stays so
-record Thins (xs ys : List Arc) : Type 0 where
-  none : (p : ℕ) → is_there p xs ≡ false → is_there p ys ≡ false
-  apart : are_separate xs ≡ true → are_separate ys ≡ true
+pub record Thins (xs ys : List Arc) : Type 0 where
+  pub none : (p : ℕ) → is_there p xs ≡ false → is_there p ys ≡ false
+  pub apart : are_separate xs ≡ true → are_separate ys ≡ true
 
-thins_self : (xs : List Arc) → Thins xs xs
+pub thins_self : (xs : List Arc) → Thins xs xs
 thins_self xs = record { none = λ p h. h; apart = λ h. h }
 
-thins_then : (xs ys zs : List Arc) → Thins xs ys → Thins ys zs → Thins xs zs
+pub thins_then : (xs ys zs : List Arc) → Thins xs ys → Thins ys zs → Thins xs zs
 thins_then xs ys zs one two = record { none = λ p h. two.none p (one.none p h); apart = λ h. two.apart (one.apart h) }
 
 thins_cons : (a b : Arc) (xs ys : List Arc) → b.peer.node ≡ a.peer.node → (is_idle a.link ≡ false → is_idle b.link ≡ false) → Thins xs ys → Thins (a ∷ xs) (b ∷ ys)
@@ -65,7 +65,7 @@ thins_skip a xs ys rest = record { none = λ p h. rest.none p (grind (arith, h))
 
 -- ---- changes of arcs
 
-thins_dialogue : (arcs : List Arc) (p : ℕ) (f : Dialogue → Dialogue) → Thins arcs (with_dialogue arcs p f)
+pub thins_dialogue : (arcs : List Arc) (p : ℕ) (f : Dialogue → Dialogue) → Thins arcs (with_dialogue arcs p f)
 thins_dialogue [] p f = thins_self []
 thins_dialogue (a ∷ arcs) p f = go (a.peer.node == p) (thins_dialogue arcs p f)
   where
@@ -73,7 +73,7 @@ thins_dialogue (a ∷ arcs) p f = go (a.peer.node == p) (thins_dialogue arcs p f
     go true rest = thins_cons a (record a { dialogue = f a.dialogue }) arcs arcs refl (λ h. h) (thins_self arcs)
     go false rest = thins_cons a a arcs (with_dialogue arcs p f) refl (λ h. h) rest
 
-thins_dialogues : (arcs : List Arc) (t : Arc → Bool) (f : Arc → Dialogue) → Thins arcs (with_dialogues arcs t f)
+pub thins_dialogues : (arcs : List Arc) (t : Arc → Bool) (f : Arc → Dialogue) → Thins arcs (with_dialogues arcs t f)
 thins_dialogues [] t f = thins_self []
 thins_dialogues (a ∷ arcs) t f = go (t a) (thins_dialogues arcs t f)
   where
@@ -87,7 +87,7 @@ taken_busy (Opening x) h = h
 taken_busy (Offered x) h = h
 taken_busy (Live x y s t) h = h
 
-thins_taken : (arcs : List Arc) (p : ℕ) → Thins arcs (with_link arcs p with_one_taken)
+pub thins_taken : (arcs : List Arc) (p : ℕ) → Thins arcs (with_link arcs p with_one_taken)
 thins_taken [] p = thins_self []
 thins_taken (a ∷ arcs) p = go (a.peer.node == p) (thins_taken arcs p)
   where
@@ -103,7 +103,7 @@ thins_put (a ∷ arcs) b busy = go (a.peer.node == b.peer.node) refl (thins_put 
     go true i rest = let same : b.peer.node ≡ a.peer.node = grind (arith, nat_tests, i) in thins_cons a b arcs arcs same (λ h. busy) (thins_self arcs)
     go false i rest = thins_cons a a arcs (put_arc arcs b) refl (λ h. h) rest
 
-thins_without : (arcs : List Arc) (p : ℕ) → Thins arcs (without_arc arcs p)
+pub thins_without : (arcs : List Arc) (p : ℕ) → Thins arcs (without_arc arcs p)
 thins_without [] p = thins_self []
 thins_without (a ∷ arcs) p = go (a.peer.node == p) (thins_without arcs p)
   where
@@ -142,13 +142,13 @@ thins_one arcs (TxOut.Shut p) = thins_shut arcs p
 thins_one arcs (TxOut.Recovery a r) = thins_self arcs
 thins_one arcs (TxOut.Close p) = thins_without arcs p
 
-thins_performed : (arcs : List Arc) (outs : List TxOut) → Thins arcs (performed arcs outs).0
+pub thins_performed : (arcs : List Arc) (outs : List TxOut) → Thins arcs (performed arcs outs).0
 thins_performed arcs [] = thins_self arcs
 thins_performed arcs (o ∷ outs) =
     let next : List Arc = (performed_one arcs o).0 in
     thins_then arcs next (performed next outs).0 (thins_one arcs o) (thins_performed next outs)
 
-thins_entered : (t : Transaction) (w : Passage) (arcs : List Arc) → Thins arcs (entered t w arcs)
+pub thins_entered : (t : Transaction) (w : Passage) (arcs : List Arc) → Thins arcs (entered t w arcs)
 unfolding entered
 thins_entered t Stays arcs = thins_self arcs
 thins_entered t Enters arcs = thins_dialogues arcs _ _
@@ -187,7 +187,7 @@ thins_played d t Leaves outs arcs = let s = performed arcs outs in thins_then ar
 
 -- ---- the steps
 
-thins_turned : (who : Who) (f : TxEvent) (d : Digest) (c : Current) → Thins d.arcs (turned who f d c).next.arcs
+pub thins_turned : (who : Who) (f : TxEvent) (d : Digest) (c : Current) → Thins d.arcs (turned who f d c).next.arcs
 thins_turned who f d c =
     let t : Transaction = seen who d.arcs c in
     let a : Turn = transacted f t in
@@ -195,7 +195,7 @@ thins_turned who f d c =
     let arcs : List Arc = entered t w d.arcs in
     thins_then d.arcs arcs (played d t w a.outs arcs).0 (thins_entered t w d.arcs) (thins_played d t w a.outs arcs)
 
-thins_begins : (who : Who) (q : ℕ) (d : Digest) → Thins d.arcs (begin_on who q d).next.arcs
+pub thins_begins : (who : Who) (q : ℕ) (d : Digest) → Thins d.arcs (begin_on who q d).next.arcs
 unfolding begin_on
 thins_begins who q d = go d.current (find_arc d.arcs q)
   where
@@ -217,17 +217,17 @@ thins_begins who q d = go d.current (find_arc d.arcs q)
     go (Some c) None = thins_self d.arcs
     go (Some c) (Some a) = on c a (not (may_begin_on who d a))
 
-thins_moves : (who : Who) (e : Event) (s : Digest) → Moves who e s (λ d m. Thins d.arcs m.next.arcs)
+pub thins_moves : (who : Who) (e : Event) (s : Digest) → Moves who e s (λ d m. Thins d.arcs m.next.arcs)
 thins_moves who e s = record {
   still = λ d. thins_self d.arcs;
   chain = λ d a f one two none. thins_then d.arcs a.next.arcs (f a.next).next.arcs one two;
-  speaks = λ d outs h own. thins_performed d.arcs outs;
-  changes_dialogue = λ d q f m one. thins_then d.arcs (with_dialogue d.arcs q f) m.next.arcs (thins_dialogue d.arcs q f) one;
+  speaks = λ d outs h own said. thins_performed d.arcs outs;
+  changes_dialogue = λ d q f m by one. thins_then d.arcs (with_dialogue d.arcs q f) m.next.arcs (thins_dialogue d.arcs q f) one;
   drops_arc = λ d q m one. thins_then d.arcs (without_arc d.arcs q) m.next.arcs (thins_without d.arcs q) one;
   notes_kept = λ d ks m held one. one;
   keeps = λ d k f held. thins_performed d.arcs (settled k f).outs;
   turns = λ d c f now at asked put gone. thins_turned who f d c;
-  begins = λ d q. thins_begins who q d;
+  begins = λ d q free. thins_begins who q d;
   roots = λ d m nil may one. one;
 }
 
@@ -296,7 +296,7 @@ separate_begun : (o : Option Arc) (t : Aaid) (b : BranchId) (d : Digest) → are
 separate_begun None t b d h = h
 separate_begun (Some a) t b d h = h
 
-separate_prelude : (who : Who) (d : Digest) (e : Event) → refusal who d e ≡ None → are_separate d.arcs ≡ true → are_separate (prelude who d e).arcs ≡ true
+pub separate_prelude : (who : Who) (d : Digest) (e : Event) → refusal who d e ≡ None → are_separate d.arcs ≡ true → are_separate (prelude who d e).arcs ≡ true
 unfolding after_crash
 separate_prelude who d (Event.Declare s) ok h = h
 separate_prelude who d (Event.Do (Request.BeginDialogue a u)) ok h = separate_call who d a u ok h

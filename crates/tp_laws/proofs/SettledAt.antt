@@ -158,13 +158,13 @@ keeps_moves : (who : Who) (e : Event) (s : Digest) → Moves who e s Keeps
 keeps_moves who e s = record {
   still = λ d old. old;
   chain = λ d a f one two quiet old. two (one old);
-  speaks = λ d outs h own. keeps_perform d outs h;
-  changes_dialogue = λ d q f m one old. one (λ c at bound p b found live. old c at bound p b found (ap is_live (sym (link_dialogue d.arcs q f p)) ∙ live));
+  speaks = λ d outs h own said. keeps_perform d outs h;
+  changes_dialogue = λ d q f m by one old. one (λ c at bound p b found live. old c at bound p b found (ap is_live (sym (link_dialogue d.arcs q f p)) ∙ live));
   drops_arc = λ d q m one old. one (λ c at bound p b found live. old c at bound p b found (dropped_live d.arcs q p live));
   notes_kept = λ d ks m held one old. one old;
   keeps = λ d k f held. keeps_keep d k f;
   turns = λ d c f now at asked put gone. keeps_turned who f d c now put gone;
-  begins = λ d q. keeps_begins who q d;
+  begins = λ d q free. keeps_begins who q d;
   roots = λ d m nil may one old. one (λ c at bound p b found live. absurd (fresh _ c at bound));
 }
   where

@@ -295,12 +295,12 @@ pub sound_moves : (who : Who) (e : Event) (s : Digest) → Moves who e s (IsSoun
 sound_moves who e s = record {
   still = λ d is. (is, refl);
   chain = λ d a f one two quiet. sound_then who d a f one two quiet;
-  speaks = λ d outs h own is. (is, refl);
-  changes_dialogue = λ d p f m one. one;
+  speaks = λ d outs h own said is. (is, refl);
+  changes_dialogue = λ d p f m by one. one;
   drops_arc = λ d p m one. one;
   notes_kept = λ d ks m held one is. one (sound_noted who d ks held.1 is);
   keeps = λ d k f held. sound_keeps who d k f held.1;
   turns = λ d c f now at asked put gone. sound_turned who f d c now put;
-  begins = λ d p. sound_begins who p d;
+  begins = λ d p free. sound_begins who p d;
   roots = λ d m nil may one is. let r = one (sound_root who d is) in (r.0, ap (current_after m.rec) (nil_off d nil) ∙ r.1);
 }

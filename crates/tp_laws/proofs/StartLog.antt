@@ -31,7 +31,7 @@ use Rattle.tp_laws.proofs.OrderMoves.{IsReached}
 
 -- ---- the records follow each other
 
-own_key : (n boot : ℕ) (r : LogRec) → is_own_record n boot r ≡ true → (k : NodeKey) × (owner_of r ≡ Some (owner n k))
+pub own_key : (n boot : ℕ) (r : LogRec) → is_own_record n boot r ≡ true → (k : NodeKey) × (owner_of r ≡ Some (owner n k))
 own_key n boot (LogRec.Boot m) h = absurd (cc (h))
 own_key n boot (LogRec.Ready m k s cs) h = (k, grind (arith, nat_tests, h))
 own_key n boot (LogRec.Heuristic m k o) h = (k, grind (arith, nat_tests, h))
@@ -39,7 +39,7 @@ own_key n boot (LogRec.Commit m k s cs) h = (k, grind (arith, nat_tests, h))
 own_key n boot (LogRec.Damage m k s o r cs) h = (k, grind (arith, nat_tests, h))
 own_key n boot (LogRec.End m k o) h = (k, grind (arith, nat_tests, h))
 
-fit_from : (n boot b : ℕ) (ps rs : List LogRec) (o : Option Current) (ks : List Kept) → follow_from (LogRec.Boot b ∷ ps) rs ≡ true → are_own_records n boot rs ≡ true → IsFit n ps o ks
+pub fit_from : (n boot b : ℕ) (ps rs : List LogRec) (o : Option Current) (ks : List Kept) → follow_from (LogRec.Boot b ∷ ps) rs ≡ true → are_own_records n boot rs ≡ true → IsFit n ps o ks
     → IsFit n (ps ++ rs) (current_from o rs) (kept_from ks rs)
 fit_from n boot b ps [] o ks f own h = subst (λ (qs : List LogRec). IsFit n qs o ks) (sym (append-nil ps)) h
 fit_from n boot b ps (r ∷ rs) o ks f own h =
@@ -48,7 +48,7 @@ fit_from n boot b ps (r ∷ rs) o ks f own h =
     (fit_from n boot b (ps ++ r ∷ []) rs (current_by r o) (kept_by r ks) (and_right (follows (LogRec.Boot b ∷ ps) r) (follow_from (LogRec.Boot b ∷ ps ++ r ∷ []) rs) f) (and_right (is_own_record n boot r) (are_own_records n boot rs) own)
     (fit_step n b ps r o ks k.0 k.1 (and_left (follows (LogRec.Boot b ∷ ps) r) (follow_from (LogRec.Boot b ∷ ps ++ r ∷ []) rs) f) h))
 
-fit_first : (n : ℕ) → IsFit n [] None []
+pub fit_first : (n : ℕ) → IsFit n [] None []
 fit_first n = record { now = Nothing refl; kept = tt; none = λ k a off. refl; boots = λ b. refl }
 
 -- they do so behind a later boot

@@ -59,7 +59,7 @@ fit_ready n b ps k s cs o ks f h =
 
 -- ---- a decision
 
-vote_bound : (v : Option LogRec) → holds v is_ready ≡ true → holds v is_bound ≡ true
+pub vote_bound : (v : Option LogRec) → holds v is_ready ≡ true → holds v is_bound ≡ true
 vote_bound None h = absurd (cc (h))
 vote_bound (Some (LogRec.Boot m)) h = absurd (cc (h))
 vote_bound (Some (LogRec.Ready m k s cs)) h = refl
@@ -125,7 +125,7 @@ fit_heuristic n b ps k u o ks f h =
 
 -- ---- an order
 
-as_some : (cs : List Child) (v : Option LogRec) → holds v (is_as_ready None cs) ≡ true → ⊥
+pub as_some : (cs : List Child) (v : Option LogRec) → holds v (is_as_ready None cs) ≡ true → ⊥
 as_some cs None h = cc (h)
 as_some cs (Some (LogRec.Boot m)) h = cc (h)
 as_some cs (Some (LogRec.Ready m k s ds)) h = cc (h)
@@ -143,7 +143,7 @@ as_ready a cs (Some (LogRec.Commit m k s ds)) h = absurd (cc (h))
 as_ready a cs (Some (LogRec.Damage m k s o r ds)) h = absurd (cc (h))
 as_ready a cs (Some (LogRec.End m k o)) h = absurd (cc (h))
 
-either_bound : (v : Option LogRec) → (holds v is_ready || holds v is_heuristic) ≡ true → holds v is_bound ≡ true
+pub either_bound : (v : Option LogRec) → (holds v is_ready || holds v is_heuristic) ≡ true → holds v is_bound ≡ true
 either_bound None h = absurd (cc (h))
 either_bound (Some (LogRec.Boot m)) h = absurd (cc (h))
 either_bound (Some (LogRec.Ready m k s cs)) h = refl

@@ -1,7 +1,8 @@
 -- Every event of a node keeps what is said of one tree: an instance of the steps of a node.
-use Rattle.std.proofs.Common.{◌≡◌, ◌≤◌, ◌+◌, inl, ℕ, suc, Bool, true, false, refl, ap, sym, ◌∙◌, arith, Option, Some, None, List, [], ◌∷◌, ◌++◌, ◌&&◌, ◌==◌, not}
+use Rattle.std.proofs.Common.{if◌then◌else◌, ◌≡◌, ◌≤◌, ◌+◌, ◌⊎◌, inl, inr, ℕ, suc, Bool, true, false, refl, ap, sym, ◌∙◌, arith, Option, Some, None, List, [], ◌∷◌, ◌++◌, ◌&&◌, ◌==◌, not}
 use Rattle.std.proofs.lemmas.Bool.Decides.{nat_tests}
 use Rattle.tp_names.specs.declared.identifiers.Aaid.{Aaid}
+use Rattle.tp_names.specs.declared.identifiers.BranchId.{BranchId}
 use Rattle.tp_names.specs.declared.identifiers.Mark.{Mark}
 use Rattle.tp_names.specs.Same.{is_aaid}
 use Rattle.tp_records.specs.declared.indication.Indication.{Indication}
@@ -22,10 +23,11 @@ use Rattle.tp_model.specs.Outcomes.{is_now}
 use Rattle.tp_laws.specs.Turns.{is_outcome_told}
 use Rattle.tp_laws.specs.Moves.{are_spoken}
 use Rattle.tp_laws.specs.Traces.{is_old}
-use Rattle.tp_laws.specs.Facts.{spoken, BranchKey, key_at, words_to}
+use Rattle.tp_laws.specs.Facts.{spoken, BranchKey, find_branch, key_at, words_to}
 use Rattle.tp_laws.specs.Passages.{begins_none, is_commit_told, is_rollback_told, asks_tell}
-use Rattle.tp_laws.specs.Trees.{begins_of, branch_of_tree, IsDrawn, children_in, branches_now, IsLoggedIn, IsBoundIn, out_tells, IsTreed}
+use Rattle.tp_laws.specs.Trees.{begins_of, IsBegunIn, branch_of_tree, IsDrawn, children_in, branches_now, IsLoggedIn, IsBoundIn, out_tells, IsTreed}
 use Rattle.tp_laws.proofs.Apart.{apart_spoken}
+use Rattle.tp_laws.proofs.Leaves.{aaid_same}
 use Rattle.tp_laws.proofs.Marks.{Same_boot, old_stays}
 use Rattle.tp_laws.proofs.Wrapped.{agrees_performed}
 use Rattle.tp_laws.proofs.Hushed.{spoken_none}
@@ -103,6 +105,39 @@ begins_append t [] ys = let z : 0 + begins_of t ys ≡ begins_of t ys = omega ar
 begins_append t (DialogueRecord.Begin u b h ∷ xs) ys = grind (arith, begins_append t xs ys)
 begins_append t (_ ∷ xs) ys = begins_append t xs ys
 
+-- a Begin of a branch is one of its tree
+pub begun_some : (t : Aaid) (b : BranchId) (ws : List DialogueRecord) → IsBegunIn t b ws → suc 0 ≤ begins_of t ws
+begun_some t b [] h = absurd h
+begun_some t b (DialogueRecord.Begin u c i ∷ ws) (inl h) =
+    let same : is_aaid t u ≡ true = ap (is_aaid t) h.0 ∙ aaid_same t in
+    let one : begins_of t (DialogueRecord.Begin u c i ∷ ws) ≡ suc (begins_of t ws) = rw same refl in
+    rw one (omega arith)
+begun_some t b (DialogueRecord.Begin u c i ∷ ws) (inr h) = go (is_aaid t u) (begun_some t b ws h)
+  where
+    go : (v : Bool) → suc 0 ≤ begins_of t ws → suc 0 ≤ (if v then suc (begins_of t ws) else begins_of t ws)
+    go true k = omega arith
+    go false k = k
+begun_some t b (r ∷ ws) h = begun_some t b ws h
+
+pub begun_split : (t : Aaid) (b : BranchId) (xs ys : List DialogueRecord) → IsBegunIn t b (xs ++ ys) → IsBegunIn t b xs ⊎ IsBegunIn t b ys
+begun_split t b [] ys h = inr h
+begun_split t b (DialogueRecord.Begin u c i ∷ xs) ys (inl h) = inl (inl h)
+begun_split t b (DialogueRecord.Begin u c i ∷ xs) ys (inr h) = elim (begun_split t b xs ys h) [ inl k ↦ inl (inr k) | inr k ↦ inr k ]
+begun_split t b (r ∷ xs) ys h = begun_split t b xs ys h
+
+-- a tree with a branch is current
+pub key_now : (t : Aaid) (b : BranchId) (o : Option Current) (p : ℕ) → key_at o p ≡ Some (t, b) → is_now t o ≡ true
+key_now t b None p h = absurd (cc (h))
+key_now t b (Some c) p h = go (is_nil c.phase) refl (find_branch c.branches p) refl
+  where
+    go : (v : Bool) → is_nil c.phase ≡ v → (o : Option Branch) → find_branch c.branches p ≡ o → is_aaid t (aaid_of c.key) ≡ true
+    go true i o j = let none : ◌≡◌ {A = Option BranchKey} None (Some (t, b)) = rw (i, key_at) at h in absurd (cc (none))
+    go false i None j = let none : ◌≡◌ {A = Option BranchKey} None (Some (t, b)) = rw (i, j, key_at) at h in absurd (cc (none))
+    go false i (Some x) j =
+        let one : ◌≡◌ {A = Option BranchKey} (Some (aaid_of c.key, x.id)) (Some (t, b)) = rw (i, j, key_at) at h in
+        let two : ◌≡◌ {A = BranchKey} (aaid_of c.key, x.id) (t, b) = cc (one) in
+        ap (is_aaid t) (ap (λ (k : BranchKey). k.0) two) ∙ aaid_same t
+
 pub begins_spoken : (t : Aaid) (b : Bool) (p : ℕ) (outs : List TxOut) → begins_none outs ≡ true → begins_of t (spoken b p outs) ≡ 0
 begins_spoken t b p [] h = refl
 begins_spoken t b p (TxOut.Tell i ∷ outs) h = begins_spoken t b p outs h
@@ -150,6 +185,7 @@ hush who s fall t p d m boot drawn same none logged binds c r = record {
   born = λ l n. absurd (no_one (begins_of t (words_to p m.outs)) none n);
   more = λ l o n. rw same (none_and (begins_of t (words_to p m.outs)) (branch_of_tree t (key_at d.current p)) (branch_of_tree t (key_at d.current p)) none (at_most_self (branch_of_tree t (key_at d.current p))));
   once = λ l o. none_and (begins_of t (words_to p m.outs)) (branch_of_tree t (key_at d.current p)) 1 none (one_branch t (key_at d.current p));
+  ids = λ b l o n h. elim h [ inl k ↦ absurd (no_one (begins_of t (words_to p m.outs)) none (begun_some t b (words_to p m.outs) k)) | inr k ↦ ap (λ (x : Option Current). key_at x p) same ∙ k ];
   active = λ l o n k. absurd (no_one (begins_of t (words_to p m.outs)) none n);
   key = λ l o c u h i n k. let e : Some c ≡ Some u = sym h ∙ sym same ∙ i in ap (λ (x : Current). x.key) (some_same u c (sym e));
   moves = λ l o n k. rw phases (move_same (phase_of d));

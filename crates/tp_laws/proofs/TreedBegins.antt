@@ -1,5 +1,5 @@
 -- A transaction that begins, on an arc or at its root, keeps what is said of one tree.
-use Rattle.std.proofs.Common.{if◌then◌else◌, ◌≡◌, ◌≤◌, ◌+◌, ◌⊎◌, inl, inr, ℕ, suc, Bool, true, false, refl, ap, sym, ◌∙◌, arith, Option, Some, None, List, [], ◌∷◌, ◌++◌, ◌&&◌, ◌||◌, ◌==◌, not}
+use Rattle.std.proofs.Common.{if◌then◌else◌, ◌≡◌, ◌≤◌, ◌+◌, ◌⊎◌, inl, inr, ℕ, suc, Bool, true, false, refl, ap, sym, subst, ◌∙◌, arith, Option, Some, None, List, [], ◌∷◌, ◌++◌, ◌&&◌, ◌||◌, ◌==◌, not}
 use Rattle.std.proofs.lemmas.Bool.Decides.{nat_tests}
 use Rattle.tp_names.specs.declared.identifiers.Aaid.{Aaid}
 use Rattle.tp_names.specs.declared.identifiers.BranchId.{BranchId}
@@ -15,9 +15,9 @@ use Rattle.tp_model.specs.Transactions.{Transaction, aaid_of, find_row, situatio
 use Rattle.tp_model.specs.Node.{Move, move, perform, next_mark, with_mark_drawn, phase_of, seen_row, seen_rows, seen, branches_of, remaining, situation_at, fresh_current, with_begun, may_begin_on, begin_on}
 use Rattle.tp_model.specs.Outcomes.{is_now}
 use Rattle.tp_laws.specs.Moves.{IsLate}
-use Rattle.tp_laws.specs.Facts.{spoken, find_branch, key_at, words_to}
+use Rattle.tp_laws.specs.Facts.{spoken, BranchKey, find_branch, key_at, words_to}
 use Rattle.tp_laws.specs.Passages.{is_commit_told, is_rollback_told}
-use Rattle.tp_laws.specs.Trees.{begins_of, branch_of_tree, IsDrawn, IsOld, commits_tree, IsTreed}
+use Rattle.tp_laws.specs.Trees.{begins_of, IsBegunIn, branch_of_tree, IsDrawn, IsOld, commits_tree, IsTreed}
 use Rattle.tp_laws.proofs.EveryRecord.{find_arc_is}
 use Rattle.tp_laws.proofs.Late.{late_remaining, late_fresh}
 use Rattle.tp_laws.proofs.Wrapped.{Agrees, agrees_performed}
@@ -26,7 +26,7 @@ use Rattle.tp_laws.proofs.Heard.{begun_id, begun_row, free_row, row_fresh}
 use Rattle.tp_laws.proofs.Phases.{move_same}
 use Rattle.tp_laws.proofs.Equal.{aaids_equal}
 use Rattle.tp_laws.proofs.Told.{told_performed}
-use Rattle.tp_laws.proofs.Treed.{at_most_self, at_most_then, up_one, none_and, no_one, now_some, now_left, phase_left, not_branch, one_branch, old_kept, drawn_old, drawn_wider, hush}
+use Rattle.tp_laws.proofs.Treed.{at_most_self, at_most_then, up_one, none_and, no_one, now_some, now_left, phase_left, not_branch, one_branch, key_now, old_kept, drawn_old, drawn_wider, hush}
 use Rattle.tp_laws.proofs.TreedTurned.{key_turned}
 
 -- ---- a transaction begins on an arc
@@ -56,6 +56,7 @@ treed_begins who s d fall t p q = go d.current refl (find_arc d.arcs q) refl
       born = λ l n. inl (began n);
       more = λ l o n. split (q == p) refl;
       once = λ l o. at_most_then (begins_of t (words_to p m.outs) + branch_of_tree t (key_at d.current p)) (branch_of_tree t (key_at m.next.current p)) 1 (split (q == p) refl) (one_branch t (key_at m.next.current p));
+      ids = λ b l o n h. ids b h (q == p) refl;
       active = λ l o n j. ap is_active was_phase ∙ active;
       key = λ l o x v h k n j. left_key v k ∙ ap (λ (y : Current). y.key) (some_same c x (sym now ∙ h));
       moves = λ l o n k. rw (was_phase, now_phase) (move_same c.phase);
@@ -133,29 +134,26 @@ treed_begins who s d fall t p q = go d.current refl (find_arc d.arcs q) refl
             side true h = ap (is_now t) now ∙ h
             side false h = absurd (no_one (begins_of t (words_to p m.outs)) (ap (begins_of t) agrees.words ∙ none_off (is_live (link_with arcs p)) h) n)
 
-        -- the new branch, or what was there
-        split : (v : Bool) → (q == p) ≡ v → begins_of t (words_to p m.outs) + branch_of_tree t (key_at d.current p) ≤ branch_of_tree t (key_at m.next.current p)
-        split false j =
-            let none : words_to p m.outs ≡ [] = agrees.words ∙ not_to (is_live (link_with arcs p)) j in
-            let ne : (a.peer.node == p) ≡ false = ap (λ (n : ℕ). n == p) peer ∙ j in
-            let keys : key_at m.next.current p ≡ key_at d.current p = key_turned who d.arcs c u p late_c late refl (begun_id k a.peer id p ne) ∙ ap (λ (o : Option Current). key_at o p) (sym now) in
-            none_and (begins_of t (words_to p m.outs)) (branch_of_tree t (key_at d.current p)) (branch_of_tree t (key_at m.next.current p)) (ap (begins_of t) none) (rw keys (at_most_self (branch_of_tree t (key_at d.current p))))
+        -- no word to another peer, and its branch stays
+        off : (q == p) ≡ false → (words_to p m.outs ≡ []) × (key_at m.next.current p ≡ key_at d.current p)
+        off j = (agrees.words ∙ not_to (is_live (link_with arcs p)) j, key_turned who d.arcs c u p late_c late refl (begun_id k a.peer id p (ap (λ (n : ℕ). n == p) peer ∙ j)) ∙ ap (λ (o : Option Current). key_at o p) (sym now))
           where
             late_c : is_nil c.phase ≡ false
             late_c = grind (arith, active)
 
             not_to : (b : Bool) → (q == p) ≡ false → spoken b p outs ≡ []
             not_to b h = grind (arith, h)
-        split true j =
+
+        -- the peer had no branch, and has this one
+        on_peer : (q == p) ≡ true → (key_at d.current p ≡ None) × (key_at m.next.current p ≡ Some (aaid_of c.key, id))
+        on_peer j =
             let here_node : a.peer.node ≡ p = peer ∙ grind (arith, nat_tests, j) in
             let eq : (a.peer.node == p) ≡ true = ap (λ (n : ℕ). n == p) peer ∙ j in
             let free_sit : (situation_at who d a.peer.node).branch ≡ false = grind (arith, may) in
             let free : (situation_of k p).branch ≡ false = ap (λ (n : ℕ). (situation_of k n).branch) (sym here_node) ∙ (rw (now, situation_at) at free_sit) in
             let empty = free_row who d.arcs c p free in
             let row : find_row u.rows p ≡ Some (row_fresh a.peer id) = begun_row k a.peer id p eq empty.0 in
-            let old : key_at d.current p ≡ None = ap (λ (o : Option Current). key_at o p) now ∙ none_before empty.0 in
-            let new : key_at m.next.current p ≡ Some (aaid_of c.key, id) = after row in
-            at_new (is_live (link_with arcs p)) old new
+            (ap (λ (o : Option Current). key_at o p) now ∙ none_before empty.0, after row)
           where
             none_before : find_row (seen_rows d.arcs c.branches) p ≡ None → key_at (Some c) p ≡ None
             none_before h = pick (find_branch c.branches p) refl
@@ -167,8 +165,40 @@ treed_begins who s d fall t p q = go d.current refl (find_arc d.arcs q) refl
             after : find_row u.rows p ≡ Some (row_fresh a.peer id) → key_at (remaining u) p ≡ Some (aaid_of c.key, id)
             after h = let f : find_branch (branches_of u.rows) p ≡ Some (row_fresh a.peer id).branch = left_find u.rows p ∙ rw h refl in grind (arith, f, late)
 
-            at_new : (b : Bool) → key_at d.current p ≡ None → key_at m.next.current p ≡ Some (aaid_of c.key, id) → begins_of t (words_to p m.outs) + branch_of_tree t (key_at d.current p) ≤ branch_of_tree t (key_at m.next.current p)
-            at_new b old new = rw (old, new) (plus_none (begins_of t (words_to p m.outs)) (branch_of_tree t (Some (aaid_of c.key, id))) (most (is_live (link_with arcs p)) (ap (begins_of t) agrees.words)))
+        ids : (b : BranchId) → IsBegunIn t b (words_to p m.outs) ⊎ (key_at d.current p ≡ Some (t, b)) → (v : Bool) → (q == p) ≡ v → key_at m.next.current p ≡ Some (t, b)
+        ids b (inl h) true j = (on_peer j).1 ∙ new_word (is_live (link_with arcs p)) (subst (λ (ws : List DialogueRecord). IsBegunIn t b ws) agrees.words h)
+          where
+            spoken_one : Bool → Bool → List DialogueRecord
+            spoken_one v w = if v && w then word ∷ [] else []
+
+            is : (v : Bool) → spoken v p outs ≡ spoken_one v (q == p)
+            is v = grind arith
+
+            both : (u t : Aaid) (i b : BranchId) → u ≡ t → i ≡ b → ◌≡◌ {A = Option BranchKey} (Some (u, i)) (Some (t, b))
+            both u t i b g h = rw (g, h) refl
+
+            list : (v w : Bool) → IsBegunIn t b (spoken_one v w) → ◌≡◌ {A = Option BranchKey} (Some (aaid_of c.key, id)) (Some (t, b))
+            list true true (inl h) = both (aaid_of c.key) t id b h.0 h.1
+            list true true (inr h) = absurd h
+            list true false h = absurd h
+            list false w h = absurd h
+
+            new_word : (v : Bool) → IsBegunIn t b (spoken v p outs) → ◌≡◌ {A = Option BranchKey} (Some (aaid_of c.key, id)) (Some (t, b))
+            new_word v h = list v (q == p) (subst (λ (ws : List DialogueRecord). IsBegunIn t b ws) (is v) h)
+        ids b (inl h) false j = absurd (subst (λ (ws : List DialogueRecord). IsBegunIn t b ws) (off j).0 h)
+        ids b (inr h) true j = absurd (cc ((on_peer j).0, h))
+        ids b (inr h) false j = (off j).1 ∙ h
+
+        -- the new branch, or what was there
+        split : (v : Bool) → (q == p) ≡ v → begins_of t (words_to p m.outs) + branch_of_tree t (key_at d.current p) ≤ branch_of_tree t (key_at m.next.current p)
+        split false j =
+            let x = off j in
+            let keys = x.1 in
+            none_and (begins_of t (words_to p m.outs)) (branch_of_tree t (key_at d.current p)) (branch_of_tree t (key_at m.next.current p)) (ap (begins_of t) x.0) (rw keys (at_most_self (branch_of_tree t (key_at d.current p))))
+        split true j = let x = on_peer j in at_new x.0 x.1
+          where
+            at_new : key_at d.current p ≡ None → key_at m.next.current p ≡ Some (aaid_of c.key, id) → begins_of t (words_to p m.outs) + branch_of_tree t (key_at d.current p) ≤ branch_of_tree t (key_at m.next.current p)
+            at_new old new = rw (old, new) (plus_none (begins_of t (words_to p m.outs)) (branch_of_tree t (Some (aaid_of c.key, id))) (most (is_live (link_with arcs p)) (ap (begins_of t) agrees.words)))
               where
                 plus_none : (x y : ℕ) → x ≤ y → x + 0 ≤ y
                 plus_none x y h = omega (arith, h)
@@ -200,6 +230,7 @@ treed_root who s d fall t p m nil one = record {
   born = λ l n. inr (was_drawn (one.born fresh_late n));
   more = λ l o n. none_old (begins_of t (words_to p m.outs)) (branch_of_tree t (key_at m.next.current p)) l (one.more fresh_late fresh_old n);
   once = λ l o. none_old (begins_of t (words_to p m.outs)) 1 l (one.once fresh_late fresh_old);
+  ids = λ b l o n h. elim h [ inl k ↦ one.ids b fresh_late fresh_old n (inl k) | inr k ↦ absurd (empty l (key_now t b d.current p k)) ];
   active = λ l o n k. absurd (empty l k);
   key = λ l o c u h i n k. absurd (empty l n);
   moves = λ l o n k. absurd (empty l n);

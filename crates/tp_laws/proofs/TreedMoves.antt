@@ -1,6 +1,7 @@
 -- Every event of a node keeps what is said of one tree: the steps in which its transaction takes part, and all together.
-use Rattle.std.proofs.Common.{◌≡◌, ◌≤◌, ◌+◌, ◌⊎◌, inl, inr, ℕ, zero, suc, Bool, true, false, refl, ap, sym, subst, ◌∙◌, arith, Option, Some, None, List, [], ◌&&◌, ◌||◌}
+use Rattle.std.proofs.Common.{◌≡◌, ◌≤◌, ◌+◌, ◌⊎◌, inl, inr, ℕ, zero, suc, Bool, true, false, refl, ap, sym, subst, ◌∙◌, arith, Option, Some, None, List, [], ◌++◌, ◌&&◌, ◌||◌}
 use Rattle.tp_names.specs.declared.identifiers.Aaid.{Aaid}
+use Rattle.tp_names.specs.declared.identifiers.BranchId.{BranchId}
 use Rattle.tp_names.specs.declared.children.Child.{Child}
 use Rattle.tp_records.specs.declared.dialogue.DialogueRecord.{DialogueRecord}
 use Rattle.tp_logrec.specs.declared.record.LogRec.{LogRec}
@@ -19,14 +20,14 @@ use Rattle.tp_laws.specs.Moves.{IsLate, Moves, IsAsked}
 use Rattle.tp_laws.specs.Traces.{is_old}
 use Rattle.tp_laws.specs.Facts.{only_words, key_at, words_to}
 use Rattle.tp_laws.specs.Passages.{is_commit_told, is_rollback_told, may_move, is_commit_rec}
-use Rattle.tp_laws.specs.Trees.{begins_of, branch_of_tree, IsDrawn, IsOld, children_in, branches_now, IsBoundAs, IsLoggedIn, IsBoundIn, commits_tree, out_tells, IsTreed}
+use Rattle.tp_laws.specs.Trees.{begins_of, IsBegunIn, branch_of_tree, IsDrawn, IsOld, children_in, branches_now, IsBoundAs, IsLoggedIn, IsBoundIn, commits_tree, out_tells, IsTreed}
 use Rattle.tp_laws.proofs.Links.{said_append}
 use Rattle.tp_laws.proofs.Wrapped.{words_append}
 use Rattle.tp_laws.proofs.Hushed.{settled_spoken}
 use Rattle.tp_laws.proofs.Phases.{move_then, was_active, past_active}
 use Rattle.tp_laws.proofs.Equal.{or_case, and_left, and_right}
 use Rattle.tp_laws.proofs.Told.{told_append}
-use Rattle.tp_laws.proofs.Treed.{at_most_self, at_most_then, sums_to, only_second, only_first, some_of, now_some, not_branch, begins_append, old_kept, drawn_new, drawn_old, drawn_wider, hush, hush_spoken, settled_logs}
+use Rattle.tp_laws.proofs.Treed.{at_most_self, at_most_then, sums_to, only_second, only_first, some_of, now_some, not_branch, begins_append, begun_some, begun_split, key_now, no_one, old_kept, drawn_new, drawn_old, drawn_wider, hush, hush_spoken, settled_logs}
 use Rattle.tp_laws.proofs.TreedTurned.{bound, treed_turned}
 use Rattle.tp_laws.proofs.TreedBegins.{treed_begins, treed_root}
 use Rattle.tp_laws.proofs.Passed.{later_rec}
@@ -46,6 +47,7 @@ treed_then who s d fall t p a f one two quiet = record {
   born = λ l n. born_then l (subst (λ (v : ℕ). suc 0 ≤ v) sum n) (begins_of t wa) refl;
   more = λ l o n. rw sum (more_then l o n (two.enters (one.late l) n));
   once = λ l o. rw sum (once_then l o (begins_of t wb) refl);
+  ids = λ i l o n h. ids_then i l o n (subst (λ (ws : List DialogueRecord). IsBegunIn t i ws ⊎ (key_at d.current p ≡ Some (t, i))) words h);
   active = λ l o n k. active_then l o k (subst (λ (v : ℕ). suc 0 ≤ v) sum n) (begins_of t wa) refl;
   key = λ l o c u h i n k.
       let v = now_some t a.next.current (between l o n k) in
@@ -79,8 +81,11 @@ treed_then who s d fall t p a f one two quiet = record {
     wb : List DialogueRecord
     wb = words_to p b.outs
 
+    words : words_to p m.outs ≡ wa ++ wb
+    words = ap only_words (said_append p a.outs b.outs) ∙ words_append (said_to p a.outs) (said_to p b.outs)
+
     sum : begins_of t (words_to p m.outs) ≡ begins_of t wa + begins_of t wb
-    sum = ap (begins_of t) (ap only_words (said_append p a.outs b.outs) ∙ words_append (said_to p a.outs) (said_to p b.outs)) ∙ begins_append t wa wb
+    sum = ap (begins_of t) words ∙ begins_append t wa wb
 
     wide : IsDrawn who d a.next t → IsDrawn who d m.next t
     wide x = drawn_wider who d d a.next m.next t refl (at_most_self d.drawn) two.drawn x
@@ -122,6 +127,27 @@ treed_then who s d fall t p a f one two quiet = record {
           where
             ones : (k : ℕ) → suc 0 ≤ suc k
             ones k = omega arith
+
+    ids_then : (i : BranchId) → IsLate d → IsOld who t d → is_now t b.next.current ≡ true → IsBegunIn t i (wa ++ wb) ⊎ (key_at d.current p ≡ Some (t, i)) → key_at b.next.current p ≡ Some (t, i)
+    ids_then i l o n h = at h
+      where
+        -- it stands behind the first part
+        stood : IsBegunIn t i wa ⊎ (key_at d.current p ≡ Some (t, i)) → key_at b.next.current p ≡ Some (t, i)
+        stood k = elim (two.enters (one.late l) n) [
+          | inl v ↦ two.ids i (one.late l) (old_next l o) n (inr (one.ids i l o v k))
+          | inr x ↦ nowhere k (unknown l o x)
+        ]
+          where
+            nowhere : IsBegunIn t i wa ⊎ (key_at d.current p ≡ Some (t, i)) → (is_now t d.current ≡ false) × (begins_of t wa ≡ 0) → key_at b.next.current p ≡ Some (t, i)
+            nowhere (inl k) u = absurd (no_one (begins_of t wa) u.1 (begun_some t i wa k))
+            nowhere (inr k) u = absurd (cc (u.0, key_now t i d.current p k))
+
+        at : IsBegunIn t i (wa ++ wb) ⊎ (key_at d.current p ≡ Some (t, i)) → key_at b.next.current p ≡ Some (t, i)
+        at (inr k) = stood (inr k)
+        at (inl k) = elim (begun_split t i wa wb k) [
+          | inl j ↦ stood (inl j)
+          | inr j ↦ two.ids i (one.late l) (old_next l o) n (inl j)
+        ]
 
     more_then : IsLate d → IsOld who t d → is_now t b.next.current ≡ true → (is_now t a.next.current ≡ true) ⊎ IsDrawn who a.next b.next t
         → begins_of t wa + begins_of t wb + branch_of_tree t (key_at d.current p) ≤ branch_of_tree t (key_at b.next.current p)
@@ -252,13 +278,13 @@ pub treed_moves : (who : Who) (e : Event) (s : Digest) (fall : Bool) (t : Aaid) 
 treed_moves who e s fall t p falls_so = record {
   still = λ d. hush who s fall t p d (move [] d) refl refl refl refl tt tt refl refl;
   chain = λ d a f one two quiet. treed_then who s d fall t p a f one two quiet;
-  speaks = λ d outs h own. hush_spoken who s fall t p d outs None d.kept h tt tt;
-  changes_dialogue = λ d q f m one. same (with_dialogue d.arcs q f) d.kept d m one;
+  speaks = λ d outs h own said. hush_spoken who s fall t p d outs None d.kept h tt tt;
+  changes_dialogue = λ d q f m by one. same (with_dialogue d.arcs q f) d.kept d m one;
   drops_arc = λ d q m one. same (without_arc d.arcs q) d.kept d m one;
   notes_kept = λ d ks m held one. same d.arcs ks d m one;
   keeps = λ d k f held. hush_spoken who s fall t p d (settled k f).outs (settled k f).rec (keep (settled k f) d).next.kept (settled_spoken k f) ((settled_logs t s k f d.current).0) ((settled_logs t s k f d.current).1);
   turns = λ d c f now at asked put gone. treed_turned who e f d s c fall t p (falls_so c f d.arcs at asked) now at put;
-  begins = λ d q. treed_begins who s d fall t p q;
+  begins = λ d q free. treed_begins who s d fall t p q;
   roots = λ d m nil may one. treed_root who s d fall t p m nil one;
 }
   where
@@ -271,6 +297,7 @@ treed_moves who e s fall t p falls_so = record {
       born = λ l n. back (one.born l n);
       more = one.more;
       once = one.once;
+      ids = one.ids;
       active = one.active;
       key = one.key;
       moves = one.moves;

@@ -28,7 +28,7 @@ use Rattle.tp_laws.proofs.HeardTurned.{seen_find, left_find, id_seen, key_left}
 use Rattle.tp_laws.proofs.Passed.{passed_turn}
 use Rattle.tp_laws.proofs.Equal.{or_case}
 use Rattle.tp_laws.proofs.Told.{told_played}
-use Rattle.tp_laws.proofs.Treed.{at_most_self, none_and, no_one, now_left, phase_left, children_seen, children_left, one_branch, begins_spoken}
+use Rattle.tp_laws.proofs.Treed.{at_most_self, none_and, no_one, now_left, phase_left, children_seen, children_left, one_branch, begun_some, begins_spoken}
 
 -- ---- an event of the transaction
 
@@ -108,6 +108,7 @@ treed_turned who e f d s c fall t p falls_so now at put = record {
   born = λ l n. absurd (no_one (begins_of t (words_to p m.outs)) none n);
   more = λ l o n. none_and (begins_of t (words_to p m.outs)) (branch_of_tree t (key_at d.current p)) (branch_of_tree t (key_at m.next.current p)) none (rw (keys n) (at_most_self (branch_of_tree t (key_at d.current p))));
   once = λ l o. none_and (begins_of t (words_to p m.outs)) (branch_of_tree t (key_at d.current p)) 1 none (one_branch t (key_at d.current p));
+  ids = λ b l o n h. elim h [ inl k ↦ absurd (no_one (begins_of t (words_to p m.outs)) none (begun_some t b (words_to p m.outs) k)) | inr k ↦ keys n ∙ k ];
   active = λ l o n k. absurd (no_one (begins_of t (words_to p m.outs)) none n);
   key = λ l o x u h i n k. left_key u i ∙ passed.key ∙ ap (λ (y : Current). y.key) (some_same c x (sym now ∙ h));
   moves = λ l o n k. rw (was_phase, phases k) passed.moves;

@@ -163,13 +163,13 @@ moves_at : (who : Who) (e : Event) (t : Aaid) (s : Digest) → Moves who e s (Bi
 moves_at who e t s = record {
   still = λ d. same_at t d (move [] d) refl refl;
   chain = λ d a f one two quiet. then_at t d a f one two;
-  speaks = λ d outs h own. same_at t d (perform outs d) refl refl;
-  changes_dialogue = λ d q f m one. record { voted = one.voted; rec = one.rec; stays = one.stays };
+  speaks = λ d outs h own said. same_at t d (perform outs d) refl refl;
+  changes_dialogue = λ d q f m by one. record { voted = one.voted; rec = one.rec; stays = one.stays };
   drops_arc = λ d q m one. record { voted = one.voted; rec = one.rec; stays = one.stays };
   notes_kept = λ d ks m held one. record { voted = one.voted; rec = one.rec; stays = one.stays };
   keeps = λ d k f held. same_at t d _ refl (keep_binds t k f);
   turns = λ d c f now at asked put gone. turned_at who t f d c now put;
-  begins = λ d q. begins_at who t q d;
+  begins = λ d q free. begins_at who t q d;
   roots = λ d m nil may one. record {
     voted = λ old. one.voted (λ c at tree bound. absurd (fresh _ c at bound));
     rec = one.rec;

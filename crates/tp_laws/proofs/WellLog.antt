@@ -272,7 +272,7 @@ well_event o rs d m (Some r) made moved h =
       inside = (moved.1 h.inside).0;
     }
 
-well_law : (o : Origin) (up : Option Addr) (h : List Entry) → IsWellLog o o.start.records (digest o []) → IsGrown o up h → IsWellLog o (reverse (records o h)) (digest o h)
+pub well_law : (o : Origin) (up : Option Addr) (h : List Entry) → IsWellLog o o.start.records (digest o []) → IsGrown o up h → IsWellLog o (reverse (records o h)) (digest o h)
 well_law o up [] start legal = subst (λ (rs : List LogRec). IsWellLog o rs (digest o [])) (sym (reverse-reverse o.start.records)) start
 well_law o up (e ∷ h) start legal =
     let d : Digest = digest o h in
@@ -312,7 +312,7 @@ all_own_earlier n b [] h = refl
 all_own_earlier n b (r ∷ rs) h =
     both_true (is_earlier_rec b r) (are_earlier b rs) (own_earlier n b r (and_left (is_own_record n b r) (are_own_records n b rs) h)) (all_own_earlier n b rs (and_right (is_own_record n b r) (are_own_records n b rs) h))
 
-founded_by : (o : Origin) (up : Option Addr) (h : List Entry) → IsLegal o up h → IsFounded o up h
+pub founded_by : (o : Origin) (up : Option Addr) (h : List Entry) → IsLegal o up h → IsFounded o up h
 founded_by o up h legal = record { legal = legal; earlier = all_own_earlier o.who.node o.start.boot o.start.records (and_right (all_follow (LogRec.Boot o.start.boot ∷ o.start.records)) (are_own_records o.who.node o.start.boot o.start.records) legal.start) }
 
 pub restart_is_crash : RestartIsCrash

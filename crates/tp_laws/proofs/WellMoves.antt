@@ -277,8 +277,8 @@ pub well_moves : (who : Who) (e : Event) (s : Digest) → Moves who e s (IsWellM
 well_moves who e s = record {
   still = λ d. (reached.still d, λ h. (h, well_quiet who.node d.boot None refl));
   chain = λ d a f one two quiet. (reached.chain d a f one.0 two.0 quiet, λ h. well_then who d a f one two h);
-  speaks = λ d outs spoken own. (reached.speaks d outs spoken own, λ h. (h, well_quiet who.node d.boot None refl));
-  changes_dialogue = λ d p f m one. one;
+  speaks = λ d outs spoken own said. (reached.speaks d outs spoken own said, λ h. (h, well_quiet who.node d.boot None refl));
+  changes_dialogue = λ d p f m by one. one;
   drops_arc = λ d p m one. one;
   notes_kept = λ d ks m held one. (
     one.0,
@@ -291,7 +291,7 @@ well_moves who e s = record {
   );
   keeps = λ d k f held. (reached.keeps d k f held, λ h. well_keeps who d k f held.1 h);
   turns = λ d c f now at asked put gone. (reached.turns d c f now at asked put gone, λ h. well_turned who f d c now put (reached.turns d c f now at asked put gone).1 h);
-  begins = λ d p. (reached.begins d p, λ h. (well_begins who p d (reached.begins d p).1 h, well_quiet who.node d.boot (begin_on who p d).rec (quiet_begin who p d)));
+  begins = λ d p free. (reached.begins d p free, λ h. (well_begins who p d (reached.begins d p free).1 h, well_quiet who.node d.boot (begin_on who p d).rec (quiet_begin who p d)));
   roots = λ d m nil may one. (reached.roots d m nil may one.0, λ h. one.1 (well_root who d (reached_root who d) h));
 }
   where

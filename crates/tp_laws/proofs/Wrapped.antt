@@ -28,7 +28,7 @@ pub record Agrees (p : ℕ) (before : Bool) (outs : List TxOut) (sent : List Out
   pub words : words_to p sent ≡ spoken before p outs
   pub live : after ≡ stays before p outs
 
-said_carried : (arcs : List Arc) (q : ℕ) (r : DialogueRecord) (p : ℕ) → said_to p (carried arcs q r).1 ≡ (if (q == p) && is_live (link_with arcs p) then r ∷ [] else [])
+pub said_carried : (arcs : List Arc) (q : ℕ) (r : DialogueRecord) (p : ℕ) → said_to p (carried arcs q r).1 ≡ (if (q == p) && is_live (link_with arcs p) then r ∷ [] else [])
 said_carried [] q r p = grind arith
 said_carried (a ∷ arcs) q r p = grind (arith, nat_tests, said_carried arcs q r p)
 

@@ -1,16 +1,16 @@
 -- Control of a dialogue as its two ends tell it, each by its own words: what the superior end gave, and what the
 -- subordinate end returned. A round is a transaction with what is said before the next one; each end closes its part of
 -- a round by a word behind which it says nothing of control in it. What one law needs of each end stands here.
-use Rattle.std.specs.Prelude.{ℕ, zero, suc, ◌+◌, ◌≤◌, ◌==◌, ◌≡◌, ◌&&◌, ◌||◌, not, Bool, true, false, if◌then◌else◌, List, [], ◌∷◌}
+use Rattle.std.specs.Prelude.{ℕ, zero, suc, ◌+◌, ◌≤◌, ◌≡◌, ◌&&◌, ◌||◌, not, Bool, true, false, if◌then◌else◌, List, [], ◌∷◌}
 use Rattle.tp_names.specs.declared.identifiers.Mark.{Mark}
 use Rattle.tp_records.specs.declared.dialogue.DialogueRecord.{DialogueRecord}
 use Rattle.tp_records.specs.declared.dialogue.Holder.{Holder}
-use Rattle.tp_model.specs.Parts.{Arc}
 use Rattle.tp_model.specs.History.{digest}
 use Rattle.tp_model.specs.Questions.{is_at}
 use Rattle.tp_model.specs.Traces.{sent_on, taken_on}
-use Rattle.tp_model.specs.World.{World, Node}
+use Rattle.tp_model.specs.World.{World, Node, number_of}
 use Rattle.tp_model.specs.Promises.{IsIn, holds_on}
+use Rattle.tp_laws.specs.Moves.{some_leads}
 use Rattle.tp_laws.specs.Facts.{is_begin, is_vote, is_end}
 
 -- ---- rounds: what closes one, where a flag holds or not, and the flag behind a word
@@ -86,22 +86,19 @@ returned k rs = count is_returning (behind closes_up voted_behind false k rs)
 
 -- ---- the ends at the arcs
 
-abbrev pub some_leads : (Arc → Bool) → ℕ → List Arc → Bool
-some_leads f p [] = false
-some_leads f p (a ∷ arcs) = (f a && (a.peer.node == p)) || some_leads f p arcs
-
 -- an arc to the peer that is live with the pair holds control
 abbrev pub holds_with : Mark → Mark → ℕ → Node → Bool
 holds_with x y p n = some_leads (holds_on x y) p (digest n.origin n.history).arcs
 
 -- ---- what one holder rests on
 
--- a superior end that holds control took back what it gave in the round that is not answered, and gave nothing ahead of it
+-- a superior end that holds control of the dialogue with a subordinate took back what it gave in the round that is not
+-- answered, and gave nothing ahead of it
 abbrev pub TookBack : World → Type 0
 TookBack w =
-    (n : Node) (p : ℕ) (x y : Mark) → IsIn w n → is_at n.superior p ≡ false → holds_with x y p n ≡ true
-    → (given (answered (taken_on x y p n.history)) (sent_on x y p n.history) ≤ returned (answered (taken_on x y p n.history)) (taken_on x y p n.history))
-    × (given (suc (answered (taken_on x y p n.history))) (sent_on x y p n.history) ≡ 0)
+    (n m : Node) (x y : Mark) → IsIn w n → IsIn w m → is_at m.superior (number_of n) ≡ true → is_at n.superior (number_of m) ≡ false → holds_with x y (number_of m) n ≡ true
+    → (given (answered (taken_on x y (number_of m) n.history)) (sent_on x y (number_of m) n.history) ≤ returned (answered (taken_on x y (number_of m) n.history)) (taken_on x y (number_of m) n.history))
+    × (given (suc (answered (taken_on x y (number_of m) n.history))) (sent_on x y (number_of m) n.history) ≡ 0)
 
 -- a subordinate end that holds control took more than it returned, in the round that it has not answered
 abbrev pub TookMore : World → Type 0

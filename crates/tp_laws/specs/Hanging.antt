@@ -2,15 +2,11 @@
 use Rattle.std.specs.Prelude.{ℕ, suc, ◌≡◌, ◌≤◌, ◌⊎◌, true, false}
 use Rattle.tp_names.specs.declared.identifiers.Aaid.{Aaid}
 use Rattle.tp_names.specs.declared.identifiers.BranchId.{BranchId}
-use Rattle.tp_names.specs.declared.identifiers.Addr.{Addr}
-use Rattle.tp_records.specs.declared.peer.PeerRecord.{PeerRecord}
-use Rattle.tp_records.specs.declared.peer.RecState.{RecState}
 use Rattle.tp_model.specs.Parts.{Event, Digest}
 use Rattle.tp_model.specs.Node.{Move}
 use Rattle.tp_model.specs.Outcomes.{is_now, rolled, has_left}
-use Rattle.tp_model.specs.World.{World, Node, number_of}
+use Rattle.tp_model.specs.World.{World, Node}
 use Rattle.tp_model.specs.Promises.{IsOf, IsBranchOf, is_root, has_logged, is_ready_of, is_bound_of}
-use Rattle.tp_laws.specs.Histories.{HasSent}
 use Rattle.tp_laws.specs.Moves.{IsLate}
 use Rattle.tp_laws.specs.Facts.{words_to}
 use Rattle.tp_laws.specs.Trees.{begins_of}
@@ -35,17 +31,8 @@ ReadyDown w = (t : Aaid) (b : BranchId) (x y : Node) → IsBranchOf w t b x y �
 abbrev pub LeftDown : World → Type 0
 LeftDown w = (t : Aaid) (b : BranchId) (x y : Node) → IsBranchOf w t b x y → has_left x.origin t x.history ≡ true → has_left y.origin t y.history ≡ true
 
--- a ready branch that rolled has a superior that rolled, or that told it that it knows of nothing
-abbrev pub HasToldUnknown : Aaid → Node → Node → Type 0
-HasToldUnknown t x y = (a : Addr) × (c : BranchId) × (a.node ≡ number_of y) × HasSent x.history a (PeerRecord.RecReply t c RecState.Unknown)
-
-abbrev pub RolledOrUnknown : World → Type 0
-RolledOrUnknown w =
+-- a ready branch rolls only with its superior
+abbrev pub RollsUp : World → Type 0
+RollsUp w =
     (t : Aaid) (b : BranchId) (x y : Node) → IsBranchOf w t b x y → has_logged (is_ready_of t b) y ≡ true → rolled y.origin t y.history ≡ true
-    → (rolled x.origin t x.history ≡ true) ⊎ HasToldUnknown t x y
-
--- and where it told so, it rolled
-abbrev pub UnknownIsRolled : World → Type 0
-UnknownIsRolled w =
-    (t : Aaid) (b : BranchId) (x y : Node) → IsBranchOf w t b x y → has_logged (is_ready_of t b) y ≡ true → rolled y.origin t y.history ≡ true → HasToldUnknown t x y
     → rolled x.origin t x.history ≡ true

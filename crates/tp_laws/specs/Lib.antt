@@ -6,7 +6,11 @@ pub mod Traces
 pub mod Breaks
 pub mod Facts
 pub mod Ends
+pub mod Arcs
+pub mod Puts
 pub mod Control
+pub mod Holding
+pub mod Leading
 pub mod Passages
 pub mod Standing
 pub mod Restart
@@ -20,6 +24,13 @@ pub mod Hanging
 pub mod Branches
 pub mod Heeded
 pub mod Keyed
+pub mod Logs
+pub mod Owing
 pub mod Pairs
 pub mod Orders
+pub mod Steps
+pub mod TurnSteps
+pub mod Known
+pub mod KnownTrials
 pub mod Trials
+pub mod ArcTrials

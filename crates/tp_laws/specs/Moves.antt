@@ -1,14 +1,17 @@
 -- The small steps that every event of a node is made of. An event first changes who is linked with
 -- whom, and may bring a transaction (its prelude); then it goes on by steps that link nobody anew.
 -- What all steps keep, every event keeps from its prelude on.
-use Rattle.std.specs.Prelude.{ℕ, ◌≡◌, ◌&&◌, ◌||◌, ◌⊎◌, not, Bool, true, false, Option, Some, None, List, [], ◌∷◌, ◌++◌}
+use Rattle.std.specs.Prelude.{ℕ, ◌==◌, ◌≡◌, ◌&&◌, ◌||◌, ◌⊎◌, not, Bool, true, false, Option, Some, None, List, [], ◌∷◌, ◌++◌}
 use Rattle.tp_names.specs.declared.identifiers.Mark.{Mark}
 use Rattle.tp_names.specs.declared.identifiers.Aaid.{Aaid}
 use Rattle.tp_names.specs.declared.identifiers.BranchId.{BranchId}
 use Rattle.tp_names.specs.declared.identifiers.Addr.{Addr}
-use Rattle.tp_names.specs.Same.{is_aaid, is_key}
+use Rattle.tp_names.specs.declared.identifiers.NodeKey.{NodeKey}
+use Rattle.tp_names.specs.declared.children.Child.{Child}
+use Rattle.tp_names.specs.Same.{is_aaid, is_key, is_addr}
 use Rattle.tp_records.specs.declared.request.Request.{Request}
 use Rattle.tp_records.specs.declared.dialogue.DialogueRecord.{DialogueRecord}
+use Rattle.tp_records.specs.declared.dialogue.Holder.{Holder}
 use Rattle.tp_records.specs.declared.peer.PeerRecord.{PeerRecord}
 use Rattle.tp_records.specs.declared.peer.RecState.{RecState}
 use Rattle.tp_model.specs.declared.arc.Side.{Side}
@@ -16,13 +19,15 @@ use Rattle.tp_model.specs.declared.transaction.TxEvent.{TxEvent}
 use Rattle.tp_model.specs.declared.transaction.TxOut.{TxOut}
 use Rattle.tp_model.specs.declared.recovery.Kept.{Kept}
 use Rattle.tp_model.specs.declared.recovery.KeptEvent.{KeptEvent}
-use Rattle.tp_model.specs.Parts.{Who, Event, Link, Idle, Opening, Offered, Live, Dialogue, Arc, Root, Under, Current, Digest}
+use Rattle.tp_model.specs.declared.recovery.Question.{Question}
+use Rattle.tp_model.specs.Parts.{Who, Event, Link, Idle, Opening, Offered, Live, Dialogue, Arc, Root, Under, Branch, Current, Digest}
 use Rattle.tp_model.specs.Links.{with_one_taken}
-use Rattle.tp_model.specs.Dialogues.{is_nil, is_active, is_ready, is_committing, fresh_dialogue}
+use Rattle.tp_model.specs.Dialogues.{is_nil, is_active, is_ready, is_committing, is_chained, lacks_control, Asked, Ask_data, Ask_error, Ask_grant, Ask_control, Ask_handshake, Ask_respond, Ask_handshake_grant, Ask_defer_end, Ask_defer_grant, Heard, Hear_data, Hear_error, Hear_grant, Hear_control, Hear_handshake, Hear_handshake_grant, Hear_response, Hear_defer_end, Hear_defer_grant, said, heard, begun_by, cleared, woken, fresh_dialogue}
 use Rattle.tp_model.specs.Arcs.{find_arc, link_with, put_arc, without_arc, with_dialogue, with_link}
-use Rattle.tp_model.specs.Transactions.{Transaction, node_key, is_under_at, refused_tx}
+use Rattle.tp_model.specs.Transactions.{Transaction, aaid_of, node_key, is_under_at, refused_tx}
 use Rattle.tp_model.specs.Requests.{has_branch_at}
-use Rattle.tp_model.specs.Recovery.{is_commit, settled, not_forgotten}
+use Rattle.tp_model.specs.Recovery.{is_commit, answer, find_owed, is_nothing_owed, find_kept, settled, not_forgotten}
+use Rattle.tp_model.specs.Arrivals.{branch_key, find_branch_by_id, named_by_key, named_by_branch, known_of}
 use Rattle.tp_model.specs.Outcomes.{is_now}
 use Rattle.tp_model.specs.Node.{turned, Move, move, followed, perform, next_mark, with_mark_drawn, superior_arc, may_root, phase_of, seen, fresh_current, begin_on, keep}
 use Rattle.tp_model.specs.Events.{after_crash}
@@ -91,7 +96,9 @@ IsAskedByRecord from (PeerRecord.OnAssoc x y q r) c f = f ≡ TxEvent.Took from.
 IsAskedByRecord from (PeerRecord.RecReady t b) c f = ⊥
 IsAskedByRecord from (PeerRecord.RecCommit t b) c f = (f ≡ TxEvent.Ordered) × (is_key (node_key c.key) (record { aaid = t; branch = Some b }) ≡ true)
 IsAskedByRecord from (PeerRecord.RecReply t b RecState.Commit) c f = (f ≡ TxEvent.Reply b RecState.Commit) × (is_key (node_key c.key) (record { aaid = t; branch = Some b }) ≡ true)
-IsAskedByRecord from (PeerRecord.RecReply t b (RecState.Done r)) c f = f ≡ TxEvent.Reply b (RecState.Done r)
+-- of a branch of its tree, from where that branch is
+IsAskedByRecord from (PeerRecord.RecReply t b (RecState.Done r)) c f =
+    (f ≡ TxEvent.Reply b (RecState.Done r)) × (is_aaid (aaid_of c.key) t ≡ true) × ((x : Branch) → find_branch_by_id c.branches b ≡ Some x → is_addr x.peer from ≡ true)
 IsAskedByRecord from (PeerRecord.RecReply t b RecState.Unknown) c f = (f ≡ TxEvent.Reply b RecState.Unknown) × (is_key (node_key c.key) (record { aaid = t; branch = Some b }) ≡ true)
 IsAskedByRecord from (PeerRecord.RecReply t b RecState.RetryLater) c f = (f ≡ TxEvent.Reply b RecState.RetryLater) × (is_key (node_key c.key) (record { aaid = t; branch = Some b }) ≡ true)
 IsAskedByRecord from (PeerRecord.Forget t b) c f = ⊥
@@ -240,6 +247,131 @@ StandsIn (x ∷ xs) k = ◌≡◌ {A = Kept} (record x { forgot = false }) (reco
 abbrev pub IsLate : Digest → Type 0
 IsLate d = (c : Current) → d.current ≡ Some c → is_nil c.phase ≡ false
 
+-- ---- what goes out beside the associations, in the event e whose prelude left s
+
+-- the record goes to that address
+abbrev pub IsRecoveryIn : List TxOut → Addr → PeerRecord → Type 0
+IsRecoveryIn [] a r = ⊥
+IsRecoveryIn (TxOut.Tell i ∷ outs) a r = IsRecoveryIn outs a r
+IsRecoveryIn (TxOut.Carry p w ∷ outs) a r = IsRecoveryIn outs a r
+IsRecoveryIn (TxOut.Shut p ∷ outs) a r = IsRecoveryIn outs a r
+IsRecoveryIn (TxOut.Recovery b q ∷ outs) a r = (b ≡ a) × (q ≡ r) ⊎ IsRecoveryIn outs a r
+IsRecoveryIn (TxOut.Close p ∷ outs) a r = IsRecoveryIn outs a r
+
+-- outside its transaction a node never asks whether to commit; that it knows of nothing is an answer, and so is Done, or it
+-- is said of a commitment
+abbrev pub IsSaid : Event → Digest → Digest → Addr → PeerRecord → Type 0
+IsSaid e s d a (PeerRecord.OpenAssoc x u) = Unit {0}
+IsSaid e s d a (PeerRecord.AcceptAssoc x y u) = Unit {0}
+IsSaid e s d a (PeerRecord.ShutAssoc x y) = Unit {0}
+IsSaid e s d a (PeerRecord.OnAssoc x y q r) = Unit {0}
+IsSaid e s d a (PeerRecord.RecReady t b) = ⊥
+IsSaid e s d a (PeerRecord.RecCommit t b) = Unit {0}
+IsSaid e s d a (PeerRecord.RecReply t b RecState.Commit) = Unit {0}
+IsSaid e s d a (PeerRecord.RecReply t b (RecState.Done r)) =
+    (is_committed_in t d ≡ true) ⊎ (e ≡ Event.Arrive a (PeerRecord.RecCommit t b)) × (answer (known_of (named_by_key s (branch_key t b)) b) Question.RecCommit ≡ Some (RecState.Done r))
+IsSaid e s d a (PeerRecord.RecReply t b RecState.Unknown) =
+    (e ≡ Event.Arrive a (PeerRecord.RecReady t b)) × (answer (known_of (named_by_branch s t b) b) Question.RecReady ≡ Some RecState.Unknown)
+IsSaid e s d a (PeerRecord.RecReply t b RecState.RetryLater) = Unit {0}
+IsSaid e s d a (PeerRecord.Forget t b) = Unit {0}
+
+abbrev pub AreSaid : Event → Digest → Digest → List TxOut → Type 0
+AreSaid e s d outs = (a : Addr) (r : PeerRecord) → IsRecoveryIn outs a r → IsSaid e s d a r
+
+-- ---- what settles a kept transaction
+
+-- the kept transaction with that key is this one, but for what is noted of it
+abbrev pub IsFound : List Kept → Kept → Type 0
+IsFound ks k = (x : Kept) × (find_kept ks k.key ≡ Some x) × ◌≡◌ {A = Kept} (record x { forgot = false }) (record k { forgot = false })
+
+-- what is current has the key, and does not commit
+abbrev pub IsUnderWay : Digest → NodeKey → Type 0
+IsUnderWay s k = (c : Current) × (s.current ≡ Some c) × (is_key (node_key c.key) k ≡ true) × (is_committing c.phase ≡ false)
+
+abbrev pub IsSettling : Event → Digest → Digest → Kept → KeptEvent → Type 0
+IsSettling e s d k (KeptEvent.Done a b r) =
+    (t : Aaid) × (e ≡ Event.Arrive a (PeerRecord.RecReply t b (RecState.Done r))) × (is_aaid k.key.aaid t ≡ true) × (d.current ≡ s.current)
+    × (((c : Child) → find_owed k.owed b ≡ Some c → is_addr c.addr a ≡ true) ⊎ IsUnderWay s k.key)
+IsSettling e s d k KeptEvent.Forget = Unit {0}
+IsSettling e s d k KeptEvent.Purge = is_nothing_owed k.owed ≡ true
+
+-- ---- what an event says of control, and what it makes of a dialogue
+
+-- a request that gives control to that peer
+abbrev pub gives_to : Event → ℕ → Bool
+gives_to (Event.Do (Request.Grant q)) p = q == p
+gives_to (Event.Do (Request.HandshakeGrant q)) p = q == p
+gives_to _ p = false
+
+-- control is given by such a request alone, outside transactions, and no Prepare goes out
+abbrev pub is_said : Event → TxOut → Bool
+is_said e (TxOut.Carry p DialogueRecord.Grant) = gives_to e p
+is_said e (TxOut.Carry p DialogueRecord.HandshakeGrant) = gives_to e p
+is_said e (TxOut.Carry p DialogueRecord.Prepare) = false
+is_said e _ = true
+
+abbrev pub are_said : Event → List TxOut → Bool
+are_said e [] = true
+are_said e (o ∷ outs) = is_said e o && are_said e outs
+
+-- what a request says on an arc
+abbrev pub said_by : Event → Option (ℕ × Asked)
+said_by (Event.Do (Request.UserData p xs)) = Some (p, Ask_data)
+said_by (Event.Do (Request.UError p)) = Some (p, Ask_error)
+said_by (Event.Do (Request.Grant p)) = Some (p, Ask_grant)
+said_by (Event.Do (Request.AskControl p)) = Some (p, Ask_control)
+said_by (Event.Do (Request.Handshake p)) = Some (p, Ask_handshake)
+said_by (Event.Do (Request.Respond p)) = Some (p, Ask_respond)
+said_by (Event.Do (Request.HandshakeGrant p)) = Some (p, Ask_handshake_grant)
+said_by (Event.Do (Request.DeferEnd p)) = Some (p, Ask_defer_end)
+said_by (Event.Do (Request.DeferGrant p)) = Some (p, Ask_defer_grant)
+said_by _ = None
+
+-- what a record makes heard on an arc
+abbrev pub heard_in : ℕ → DialogueRecord → Option (ℕ × Heard)
+heard_in p (DialogueRecord.UserData xs) = Some (p, Hear_data)
+heard_in p DialogueRecord.UError = Some (p, Hear_error)
+heard_in p DialogueRecord.Grant = Some (p, Hear_grant)
+heard_in p DialogueRecord.AskControl = Some (p, Hear_control)
+heard_in p DialogueRecord.Handshake = Some (p, Hear_handshake)
+heard_in p DialogueRecord.HandshakeGrant = Some (p, Hear_handshake_grant)
+heard_in p DialogueRecord.Response = Some (p, Hear_response)
+heard_in p DialogueRecord.DeferEnd = Some (p, Hear_defer_end)
+heard_in p DialogueRecord.DeferGrant = Some (p, Hear_defer_grant)
+heard_in p _ = None
+
+abbrev pub heard_by : Event → Option (ℕ × Heard)
+heard_by (Event.Arrive from (PeerRecord.OnAssoc x y q r)) = heard_in from.node r
+heard_by _ = None
+
+-- the holder of the transaction that a record begins there
+abbrev pub begun_by_record : Event → Option (ℕ × Holder)
+begun_by_record (Event.Arrive from (PeerRecord.OnAssoc x y q (DialogueRecord.Begin t b h))) = Some (from.node, h)
+begun_by_record _ = None
+
+-- whose Left it is
+abbrev pub left_by : Event → Option ℕ
+left_by (Event.Arrive from (PeerRecord.OnAssoc x y q DialogueRecord.Left)) = Some from.node
+left_by (Event.Arrive from (PeerRecord.OnAssoc x y q DialogueRecord.LeftEnd)) = Some from.node
+left_by _ = None
+
+-- what it makes of the dialogue with a peer, outside the passages of its transaction
+pub data IsChange (e : Event) (p : ℕ) (f : Dialogue → Dialogue) : Type 0 where
+  By_waking : f ≡ woken → IsChange e p f
+  By_saying : (a : Asked) → said_by e ≡ Some (p, a) → f ≡ said a → IsChange e p f
+  By_hearing : (h : Heard) → heard_by e ≡ Some (p, h) → f ≡ heard h → IsChange e p f
+  By_beginning : (h : Holder) → begun_by_record e ≡ Some (p, h) → f ≡ begun_by h Side.Subordinate → IsChange e p f
+  By_leaving : left_by e ≡ Some p → f ≡ cleared → IsChange e p f
+
+-- a transaction begins on an arc that is chained, or on which this end may speak
+abbrev pub may_begin : Arc → Bool
+may_begin a = is_chained a.dialogue || not (lacks_control a.dialogue)
+
+-- some arc to the peer is such
+abbrev pub some_leads : (Arc → Bool) → ℕ → List Arc → Bool
+some_leads f p [] = false
+some_leads f p (a ∷ arcs) = (f a && (a.peer.node == p)) || some_leads f p arcs
+
 -- ---- the steps of an event e at what was known after its prelude
 
 pub record Moves (who : Who) (e : Event) (s : Digest) (R : Digest → Move → Type 0) : Type 0 where
@@ -247,14 +379,14 @@ pub record Moves (who : Who) (e : Event) (s : Digest) (R : Digest → Move → T
   pub still : (d : Digest) → R d (move [] d)
   pub chain : (d : Digest) (a : Move) (f : Digest → Move) → R d a → R a.next (f a.next) → (a.rec ≡ None) ⊎ ((f a.next).rec ≡ None) → R d (followed a f)
   -- outputs, and changes that are no matter of transactions
-  pub speaks : (d : Digest) (outs : List TxOut) → are_spoken outs ≡ true → IsOwned d outs → R d (perform outs d)
-  pub changes_dialogue : (d : Digest) (p : ℕ) (f : Dialogue → Dialogue) (m : Move) → R (record d { arcs = with_dialogue d.arcs p f }) m → R d m
+  pub speaks : (d : Digest) (outs : List TxOut) → are_spoken outs ≡ true → IsOwned d outs × AreSaid e s d outs → are_said e outs ≡ true → R d (perform outs d)
+  pub changes_dialogue : (d : Digest) (p : ℕ) (f : Dialogue → Dialogue) (m : Move) → IsChange e p f → R (record d { arcs = with_dialogue d.arcs p f }) m → R d m
   pub drops_arc : (d : Digest) (p : ℕ) (m : Move) → R (record d { arcs = without_arc d.arcs p }) m → R d m
   pub notes_kept : (d : Digest) (ks : List Kept) (m : Move) → ((u : Aaid) → keeps_commit u ks ≡ true → keeps_commit u d.kept ≡ true) × (not_forgotten ks ≡ not_forgotten d.kept) → R (record d { kept = ks }) m → R d m
-  pub keeps : (d : Digest) (k : Kept) (f : KeptEvent) → ((u : Aaid) → (is_commit k.side && is_aaid u k.key.aaid) ≡ true → keeps_commit u d.kept ≡ true) × IsAmong d.kept k × StandsIn d.kept k → R d (keep (settled k f) d)
+  pub keeps : (d : Digest) (k : Kept) (f : KeptEvent) → ((u : Aaid) → (is_commit k.side && is_aaid u k.key.aaid) ≡ true → keeps_commit u d.kept ≡ true) × IsAmong d.kept k × StandsIn d.kept k × IsFound d.kept k × IsSettling e s d k f → R d (keep (settled k f) d)
   -- the current transaction
   pub turns : (d : Digest) (c : Current) (f : TxEvent) → d.current ≡ Some c → s.current ≡ Some c → IsAsked e c f → IsPut f (seen who d.arcs c) → ((p : ℕ) → loses f p ≡ true → link_with d.arcs p ≡ Idle) → R d (turned who f d c)
   -- transactions begin
-  pub begins : (d : Digest) (p : ℕ) → R d (begin_on who p d)
+  pub begins : (d : Digest) (p : ℕ) → some_leads may_begin p d.arcs ≡ true → R d (begin_on who p d)
   pub roots : (d : Digest) (m : Move) → is_nil (phase_of d) ≡ true → may_root d ≡ true
       → R (record (with_mark_drawn d) { current = Some (fresh_current (Root (record { owner = who.site; mark = next_mark who d }))) }) m → R d m

@@ -2,6 +2,7 @@
 -- what is logged and told, and how often Begin goes to one peer.
 use Rattle.std.specs.Prelude.{ℕ, suc, ◌+◌, ◌≤◌, ◌≡◌, ◌⊎◌, ◌&&◌, ◌||◌, Bool, true, false, if◌then◌else◌, Option, Some, None, List, [], ◌∷◌}
 use Rattle.tp_names.specs.declared.identifiers.Aaid.{Aaid}
+use Rattle.tp_names.specs.declared.identifiers.BranchId.{BranchId}
 use Rattle.tp_names.specs.declared.children.Child.{Child}
 use Rattle.tp_names.specs.Same.{is_aaid}
 use Rattle.tp_records.specs.declared.indication.Indication.{Indication}
@@ -25,6 +26,12 @@ abbrev pub begins_of : Aaid → List DialogueRecord → ℕ
 begins_of t [] = 0
 begins_of t (DialogueRecord.Begin u b h ∷ rs) = if is_aaid t u then suc (begins_of t rs) else begins_of t rs
 begins_of t (_ ∷ rs) = begins_of t rs
+
+-- that branch of the tree is begun in them
+abbrev pub IsBegunIn : Aaid → BranchId → List DialogueRecord → Type 0
+IsBegunIn t b [] = ⊥
+IsBegunIn t b (DialogueRecord.Begin u c h ∷ rs) = (u ≡ t) × (c ≡ b) ⊎ IsBegunIn t b rs
+IsBegunIn t b (_ ∷ rs) = IsBegunIn t b rs
 
 -- one, where the peer is a branch of the tree
 abbrev pub branch_of_tree : Aaid → Option BranchKey → ℕ
@@ -95,6 +102,8 @@ pub record IsTreed (who : Who) (s : Digest) (fall : Bool) (t : Aaid) (p : ℕ) (
   pub more : IsLate d → IsOld who t d → is_now t m.next.current ≡ true
       → begins_of t (words_to p m.outs) + branch_of_tree t (key_at d.current p) ≤ branch_of_tree t (key_at m.next.current p)
   pub once : IsLate d → IsOld who t d → begins_of t (words_to p m.outs) + branch_of_tree t (key_at d.current p) ≤ 1
+  -- the branch that is begun, or was with the peer, is with it as long as the tree is current
+  pub ids : (b : BranchId) → IsLate d → IsOld who t d → is_now t m.next.current ≡ true → IsBegunIn t b (words_to p m.outs) ⊎ (key_at d.current p ≡ Some (t, b)) → key_at m.next.current p ≡ Some (t, b)
   pub active : IsLate d → IsOld who t d → suc 0 ≤ begins_of t (words_to p m.outs) → is_now t d.current ≡ true → is_active (phase_of d) ≡ true
   -- the transaction of the tree
   pub key : IsLate d → IsOld who t d → (c u : Current) → d.current ≡ Some c → m.next.current ≡ Some u → is_now t d.current ≡ true → is_now t m.next.current ≡ true → u.key ≡ c.key

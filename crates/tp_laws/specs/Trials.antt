@@ -1,5 +1,5 @@
--- Runs of two nodes for worked examples of the laws: one that commits, one whose branch recovers, one that rolls back, one
--- that is mixed by a decision, one whose branch leaves, and one in which control is passed.
+-- Runs of two nodes, and of three, for worked examples of the laws: one that commits, one whose branch recovers, one that rolls
+-- back, one that is mixed by a decision, one whose branch leaves, one in which control is passed, and trees of three levels.
 use Rattle.std.specs.Prelude.{ℕ, ◌==◌, ◌&&◌, Bool, true, false, Option, Some, None, List, [], ◌∷◌, ◌++◌, reverse, codes}
 use Rattle.tp_names.specs.declared.identifiers.Aaid.{Aaid}
 use Rattle.tp_names.specs.declared.identifiers.Mark.{Mark}
@@ -12,10 +12,11 @@ use Rattle.tp_model.specs.History.{digest}
 use Rattle.tp_model.specs.Outcomes.{is_member, decided, rolled, decision, has_left, told}
 use Rattle.tp_model.specs.World.{Node, find_node, addr_of}
 use Rattle.tp_model.specs.Happenings.{Happening, Declare, Does, Crash, Ask, Deliver, Decide, Retry, run}
-use Rattle.tp_model.specs.Promises.{has_begun, is_of_tree, is_ready_of, has_logged, holds_at}
+use Rattle.tp_model.specs.Promises.{is_counted, has_begun, is_of_tree, is_ready_of, has_logged, holds_at}
 use Rattle.tp_laws.specs.Facts.{is_order, is_vote, is_end}
 use Rattle.tp_laws.specs.Traces.{sent_on, taken_on}
-use Rattle.tp_laws.specs.Control.{answered, given}
+use Rattle.tp_laws.specs.Control.{answered, given, returned}
+use Rattle.tp_laws.specs.Logs.{is_rollback_of}
 
 -- ---- the runs, oldest first
 
@@ -38,6 +39,10 @@ readied = begun ++ (Does (Ask 1 LineRequest.Commit) ∷ Does (Deliver 4) ∷ Doe
 
 abbrev pub committed : List Happening
 committed = readied ++ (Does (Deliver 5) ∷ Does (Deliver 6) ∷ [])
+
+-- the branch decided to commit by itself, and its superior rolls
+abbrev pub damaged : List Happening
+damaged = readied ++ (Does (Decide 2 Outcome.Commit) ∷ Does (Ask 1 LineRequest.Rollback) ∷ Does (Deliver 6) ∷ [])
 
 -- the branch's site stops when it is ready; the order comes as a reply
 abbrev pub recovered : List Happening
@@ -73,6 +78,10 @@ granting = polarized ++ (Does (Ask 1 (LineRequest.Grant 2)) ∷ [])
 abbrev pub granted : List Happening
 granted = granting ++ (Does (Deliver 4) ∷ [])
 
+-- the branch grants it back
+abbrev pub handed_back : List Happening
+handed_back = granted ++ (Does (Ask 2 (LineRequest.Grant 1)) ∷ Does (Deliver 5) ∷ [])
+
 -- the transaction is over at both ends
 abbrev pub regained : List Happening
 regained =
@@ -87,6 +96,44 @@ regained =
     ∷ Does (Ask 1 LineRequest.Done)
     ∷ [])
 
+-- the root rolls; its branch, which stopped before it heard so, asks and is told that it knows of nothing
+abbrev pub told_unknown : List Happening
+told_unknown = readied ++ (Does (Ask 1 LineRequest.Rollback) ∷ Crash (codes "b") ∷ Does (Retry 2) ∷ Does (Deliver 7) ∷ Does (Deliver 8) ∷ [])
+
+-- three nodes, each below the one before, in a transaction whose second node is told to prepare
+abbrev pub deep : List Happening
+deep =
+    Declare 1 (codes "a") None
+    ∷ Declare 2 (codes "b") (Some 1)
+    ∷ Declare 3 (codes "c") (Some 2)
+    ∷ Does (Ask 2 (LineRequest.BeginDialogue 3 41))
+    ∷ Does (Deliver 1)
+    ∷ Does (Ask 3 (LineRequest.Accept 41))
+    ∷ Does (Deliver 2)
+    ∷ Does (Ask 1 (LineRequest.BeginDialogue 2 41))
+    ∷ Does (Deliver 3)
+    ∷ Does (Ask 2 (LineRequest.Accept 41))
+    ∷ Does (Deliver 4)
+    ∷ Does (Ask 1 (LineRequest.BeginTransaction 2))
+    ∷ Does (Deliver 5)
+    ∷ Does (Ask 2 (LineRequest.BeginTransaction 3))
+    ∷ Does (Deliver 6)
+    ∷ Does (Ask 1 LineRequest.Commit)
+    ∷ Does (Deliver 7)
+    ∷ []
+
+-- the last leaves, and then the second
+abbrev pub deep_departed : List Happening
+deep_departed = deep ++ (Does (Ask 2 (LineRequest.Prepare 3)) ∷ Does (Deliver 8) ∷ Does (Ask 3 LineRequest.Unchanged) ∷ Does (Deliver 9) ∷ Does (Ask 2 LineRequest.Unchanged) ∷ [])
+
+-- the last is ready, and then the second
+abbrev pub deep_readied : List Happening
+deep_readied = deep ++ (Does (Ask 2 LineRequest.Commit) ∷ Does (Deliver 8) ∷ Does (Ask 3 LineRequest.Commit) ∷ Does (Deliver 9) ∷ [])
+
+-- the last is ready, and the second counts it, before it is asked for commitment itself
+abbrev pub deep_counted : List Happening
+deep_counted = deep ++ (Does (Ask 2 (LineRequest.Prepare 3)) ∷ Does (Deliver 8) ∷ Does (Ask 3 LineRequest.Commit) ∷ Does (Deliver 9) ∷ [])
+
 -- ---- what is asked of them
 
 abbrev pub tree : Aaid
@@ -94,6 +141,10 @@ tree = record { owner = codes "a"; mark = record { boot = 1; node = 1; count = 2
 
 abbrev pub branch : BranchId
 branch = record { superior = codes "a"; mark = record { boot = 1; node = 1; count = 3 } }
+
+-- the branch of the second node
+abbrev pub lower_branch : BranchId
+lower_branch = record { superior = codes "b"; mark = record { boot = 1; node = 2; count = 3 } }
 
 abbrev pub node_after : List Happening → ℕ → Option Node
 node_after es n = find_node (run (reverse es)).nodes n
@@ -123,8 +174,21 @@ is_branch_of_first es = elim (node_after es 1) [ None ↦ false | Some x ↦ hol
 abbrev pub has_voted : Node → Bool
 has_voted x = has_logged (is_ready_of tree branch) x
 
+abbrev pub has_backed : Node → Bool
+has_backed x = has_logged (is_rollback_of tree) x
+
 abbrev pub has_logs : Node → Bool
 has_logs x = has_logged (is_of_tree tree) x
+
+-- the third node is the second one's branch, and voted
+abbrev pub is_branch_of_second : List Happening → Bool
+is_branch_of_second es = elim (node_after es 2) [ None ↦ false | Some x ↦ holds (λ y. has_begun tree lower_branch (addr_of x) y.history) es 3 ]
+
+abbrev pub counts_below : Node → Bool
+counts_below x = is_counted tree lower_branch x
+
+abbrev pub has_voted_below : Node → Bool
+has_voted_below x = has_logged (is_ready_of tree lower_branch) x
 
 -- the order was taken over the association; a vote, and an end, were sent on it
 abbrev pub some_word : (DialogueRecord → Bool) → List DialogueRecord → Bool
@@ -161,3 +225,7 @@ gave_behind k n x =
 abbrev pub took_behind : ℕ → ℕ → Node → Bool
 took_behind k n x =
     (answered (sent_on (first_mark 1) (first_mark 2) 1 x.history) == k) && (given k (taken_on (first_mark 1) (first_mark 2) 1 x.history) == n)
+
+-- so much came back in the round that is not answered
+abbrev pub gave_back : ℕ → Node → Bool
+gave_back n x = returned (answered (taken_on (first_mark 1) (first_mark 2) 2 x.history)) (taken_on (first_mark 1) (first_mark 2) 2 x.history) == n

@@ -69,8 +69,9 @@ is_left_word DialogueRecord.Left = true
 is_left_word DialogueRecord.LeftEnd = true
 is_left_word _ = false
 
--- the user is told an outcome
+-- the user is told an outcome, or to prepare for one
 abbrev pub is_outcome_told : Indication → Bool
+is_outcome_told Indication.Prepare = true
 is_outcome_told Indication.Commit = true
 is_outcome_told (Indication.CommitComplete r) = true
 is_outcome_told Indication.Rollback = true

@@ -2,6 +2,12 @@
 //! Each is the contract of a function with an empty body. No code stands here.
 #![tactic(auto)]
 
+pub mod arcs;
+pub mod control;
+pub mod known;
+pub mod known_trials;
+pub mod outcome_trials;
+pub mod outcomes;
 pub mod trials;
 
 ghost use Rattle.std.specs.Prelude.{ℕ, ◌≡◌, ◌≤◌, Option, List, [], length, true, Bool, None, false};
@@ -21,7 +27,7 @@ ghost use Rattle.tp_model.specs.Happenings.{Happening, run};
 ghost use Rattle.tp_model.specs.declared.transaction.TxEvent.{TxEvent};
 ghost use Rattle.tp_model.specs.Transactions.{Transaction, transacted};
 ghost use Rattle.tp_model.specs.Events.{refusal, action};
-ghost use Rattle.tp_model.specs.Promises.{AllLegal, IsIn, PrefixTaken, OneHolder, WhatUsersSee, OneOutcome, IsOf, IsBranchOf, is_of_tree, has_logged};
+ghost use Rattle.tp_model.specs.Promises.{AllLegal, IsIn, PrefixTaken, WhatUsersSee, IsOf, IsBranchOf, is_of_tree, has_logged};
 ghost use Rattle.tp_model.specs.World.{Node};
 ghost use Rattle.tp_model.specs.Outcomes.{decided, rolled, has_left};
 ghost use Rattle.tp_model.specs.Legal.{IsGrown, is_start, are_in_order, RestartIsCrash, RecordsFollow, StartsAgain};
@@ -31,11 +37,11 @@ ghost use Rattle.tp_laws.specs.Facts.{IsFair, IsHeard, Reads};
 ghost use Rattle.tp_laws.specs.Members.{IsUnique, IsOnce};
 ghost use Rattle.tp_laws.specs.Fates.{IsFated};
 ghost use Rattle.tp_laws.specs.Pairs.{IsPaired};
-ghost use Rattle.tp_laws.specs.Hanging.{HangsTogether, ReadyDown, LeftDown, RolledOrUnknown, UnknownIsRolled};
+ghost use Rattle.tp_laws.specs.Hanging.{HangsTogether};
 ghost use Rattle.tp_laws.specs.Branches.{IsRowed, IsBranched};
 ghost use Rattle.tp_laws.specs.Heeded.{HeedsBranches};
 ghost use Rattle.tp_laws.specs.Ends.{are_separate, IsAlone};
-ghost use Rattle.tp_laws.specs.Control.{TookBack, TookMore, answered, closed};
+ghost use Rattle.tp_laws.specs.Control.{answered, closed};
 ghost use Rattle.tp_laws.specs.Answering.{IsAnswering};
 ghost use Rattle.tp_laws.specs.Upward.{IsRising, IsRisen, SpeaksUp};
 ghost use Rattle.tp_laws.specs.Standing.{IsUndecided, IsTold, current_after, IsApart};
@@ -146,31 +152,6 @@ pub fn leaving_is_silent()
     ensures { (es : List Happening) (t : Aaid) (x : Node) → IsOf (run es) t x → has_left x.origin t x.history ≡ true → has_logged (is_of_tree t) x ≡ false }
 {}
 
-/// In every run, a ready branch that rolls has a superior that rolled in the same tree, or that told it that it knows of
-/// nothing.
-pub fn ready_rolls_by_its_superior()
-    ensures { (es : List Happening) → RolledOrUnknown (run es) }
-{}
-
-/// In every run in which a superior that told a branch which was ready, and rolled, that it knows of nothing rolled itself,
-/// leaving goes down: where a node left a tree, each of its branches did.
-pub fn leaving_goes_down()
-    ensures { (es : List Happening) → UnknownIsRolled (run es) → LeftDown (run es) }
-{}
-
-/// In every run in which a superior that told a branch which was ready, and rolled, that it knows of nothing rolled itself,
-/// Ready goes down: where a node logged Ready or Commit of a tree, each of its branches logged Ready for its own
-/// identifier, or left.
-pub fn readiness_goes_down()
-    ensures { (es : List Happening) → UnknownIsRolled (run es) → ReadyDown (run es) }
-{}
-
-/// In every run in which a superior that told a branch which was ready, and rolled, that it knows of nothing rolled itself,
-/// of two nodes of one tree told different outcomes at least one logged a decision.
-pub fn outcomes_rest_on_the_family()
-    ensures { (es : List Happening) → UnknownIsRolled (run es) → OneOutcome (run es) }
-{}
-
 /// A subordinate answers what it was asked for: in every legal history of a node whose log was empty at first, the rounds
 /// that it answered on a live association to its superior, by Ready or by its last word in a transaction, are no more than
 /// those that it heard the superior close by Prepare, Commit or Rollback; and so does every event of a transaction.
@@ -186,12 +167,6 @@ pub fn answers_are_asked_for()
 pub fn ends_are_told_apart()
     ensures arcs { (o : Origin) (up : Option Addr) (h : List Entry) → IsGrown o up h → are_separate (digest o h).arcs ≡ true }
     ensures marks { (o : Origin) (up : Option Addr) (h : List Entry) → IsGrown o up h → IsAlone o.who up (digest o h) h }
-{}
-
-/// In every run in which a superior end that holds control took back what it gave, and a subordinate end that holds it took
-/// more than it returned, two live ends of one polarized dialogue never both hold control.
-pub fn one_holder_rests_on_the_ends()
-    ensures { (es : List Happening) → TookBack (run es) → TookMore (run es) → OneHolder (run es) }
 {}
 
 /// In every run, every node's history is one that grew from an empty log by events that were accepted.

@@ -31,6 +31,7 @@ pub mod Consistency
 pub mod LogCommands
 pub mod Generator
 pub mod Legal
+pub mod AmongArcs
 pub mod NodeTrials
 pub mod Samples
 pub mod Traces

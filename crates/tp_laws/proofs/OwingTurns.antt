@@ -1,0 +1,532 @@
+-- What a transaction owes its branches, and what it says beside its associations: an instance of the steps of a turn.
+use Rattle.std.proofs.Common.{if◌then◌else◌, ◌≡◌, ◌⊎◌, inl, inr, ℕ, Bool, true, false, refl, ap, sym, subst, ◌∙◌, arith, Option, Some, None, List, [], ◌∷◌, ◌++◌, ◌&&◌, ◌||◌, ◌==◌, not}
+use Rattle.std.proofs.lemmas.Bool.Decides.{nat_tests}
+use Rattle.tp_names.specs.declared.identifiers.Aaid.{Aaid}
+use Rattle.tp_names.specs.declared.identifiers.BranchId.{BranchId}
+use Rattle.tp_names.specs.declared.identifiers.Addr.{Addr}
+use Rattle.tp_names.specs.declared.outcome.Outcome.{Outcome}
+use Rattle.tp_names.specs.declared.outcome.Report.{Report}
+use Rattle.tp_names.specs.Reports.{join, is_report_none}
+use Rattle.tp_records.specs.declared.indication.Indication.{Indication}
+use Rattle.tp_records.specs.declared.dialogue.DialogueRecord.{DialogueRecord}
+use Rattle.tp_records.specs.declared.peer.PeerRecord.{PeerRecord}
+use Rattle.tp_records.specs.declared.peer.RecState.{RecState}
+use Rattle.tp_logrec.specs.declared.record.LogRec.{LogRec}
+use Rattle.tp_model.specs.declared.arc.Phase.{Phase}
+use Rattle.tp_model.specs.declared.transaction.TxEvent.{TxEvent}
+use Rattle.tp_model.specs.declared.transaction.TxOut.{TxOut}
+use Rattle.tp_model.specs.Parts.{Key, Root, Under}
+use Rattle.tp_model.specs.Dialogues.{is_active, is_ready, is_committing, is_rolling}
+use Rattle.tp_model.specs.Transactions.{Row, Transaction, Turn, turn, and_then, before, aaid_of, node_key, superior_of, is_under_at, find_row, with_row, with_arc_lost, all_done, all_rolled_back, owed_of, child_of, report_of_branch, reports_of, own_damage, log_ready, log_end, log_damage, carry_up, carry_down, tell_report, forgets, done_up, ends_down, end_up, prepare_each, ask_each, retried, complete_commit, complete_rollback, begin_rolling, order, ask_commit, leave, count_branch, end_branch, branch_left, transacted}
+use Rattle.tp_laws.specs.Turns.{Turns, vote, decide, shut_given_up, row_dead, falls}
+use Rattle.tp_laws.specs.Moves.{IsPut, IsRecoveryIn}
+use Rattle.tp_laws.specs.Passages.{may_move, is_commit_rec, IsPassed}
+use Rattle.tp_laws.specs.Branches.{may_leave, may_end}
+use Rattle.tp_laws.specs.Owing.{is_standing, IsOwedIn, rolls_back, StandsAt, KeepsOwed, Quits, Is_done, Has_left, Rolls, Departs, IsOwnWord, IsOwingTurn}
+use Rattle.tp_laws.proofs.EveryTurn.{every_turn}
+use Rattle.tp_laws.proofs.Saying.{recovery_append}
+use Rattle.tp_laws.proofs.Fair.{row_phase, row_with}
+use Rattle.tp_laws.proofs.Leaves.{prepare_row}
+use Rattle.tp_laws.proofs.Rowed.{done_may, reply_may, rolled_may, left_may, left_end_may}
+use Rattle.tp_laws.proofs.Passed.{passed_turns, later_rec}
+
+-- ---- rows that stand
+
+stands_same : (p : ℕ) (b : BranchId) (t u : Transaction) → find_row u.rows p ≡ find_row t.rows p → is_standing u.phase ≡ true → StandsAt p b t → StandsAt p b u
+stands_same p b t u rows phase st = record { row = st.row; found = rows ∙ st.found; id = st.id; left = st.left; ended = st.ended; phase = phase }
+
+-- one row changes, in neither mark
+stands_row : (p : ℕ) (b : BranchId) (t : Transaction) (q : ℕ) (f : Row → Row) → ((r : Row) → (f r).branch.peer.node ≡ r.branch.peer.node) → ((r : Row) → (f r).branch.id ≡ r.branch.id)
+    → ((r : Row) → (f r).branch.left ≡ r.branch.left) → ((r : Row) → (f r).branch.ended ≡ r.branch.ended) → StandsAt p b t → StandsAt p b (with_row t q f)
+stands_row p b t q f peer id left ended st = go (q == p) refl
+  where
+    phase : is_standing (with_row t q f).phase ≡ true
+    phase = ap is_standing (row_phase t q f) ∙ st.phase
+
+    go : (v : Bool) → (q == p) ≡ v → StandsAt p b (with_row t q f)
+    go true i = let found = st.found in record {
+      row = f st.row;
+      found = row_with t q f p peer ∙ rw (i, found) refl;
+      id = id st.row ∙ st.id;
+      left = left st.row ∙ st.left;
+      ended = ended st.row ∙ st.ended;
+      phase = phase;
+    }
+    go false i = record { row = st.row; found = row_with t q f p peer ∙ rw i st.found; id = st.id; left = st.left; ended = st.ended; phase = phase }
+
+-- one row changes, and the event says so of the branch
+stands_or : (p : ℕ) (b : BranchId) (t : Transaction) (q : ℕ) (f : Row → Row) (Q : Type 0) → ((r : Row) → (f r).branch.peer.node ≡ r.branch.peer.node) → (q ≡ p → Q) → StandsAt p b t → StandsAt p b (with_row t q f) ⊎ Q
+stands_or p b t q f Q peer quits st = go (q == p) refl
+  where
+    go : (v : Bool) → (q == p) ≡ v → StandsAt p b (with_row t q f) ⊎ Q
+    go true i = inr (quits (grind (arith, nat_tests, i)))
+    go false i = inl (record { row = st.row; found = row_with t q f p peer ∙ rw i st.found; id = st.id; left = st.left; ended = st.ended; phase = ap is_standing (row_phase t q f) ∙ st.phase })
+
+stands_lost : (p : ℕ) (b : BranchId) (t : Transaction) (q : ℕ) → StandsAt p b t → StandsAt p b (with_arc_lost t q)
+stands_lost p b t q st = go (is_under_at t.key q) refl
+  where
+    go : (v : Bool) → is_under_at t.key q ≡ v → StandsAt p b (with_arc_lost t q)
+    go true i = rw (i, with_arc_lost) (stands_same p b t (record t { up = false; up_ends = false }) refl st.phase st)
+    go false i = rw (i, with_arc_lost) (stands_row p b t q row_dead (λ r. refl) (λ r. refl) (λ r. refl) (λ r. refl) st)
+
+stands_prepared : (p : ℕ) (b : BranchId) (t : Transaction) → StandsAt p b t → StandsAt p b (ask_commit t).next
+unfolding ask_commit
+stands_prepared p b t st =
+    let found = st.found in
+    record { row = record st.row { branch = record st.row.branch { prepared = true } }; found = prepare_row p t.rows ∙ rw found refl; id = st.id; left = st.left; ended = st.ended; phase = st.phase }
+
+-- ---- records beside the associations, in the lists that rules write
+
+abbrev Silent : List TxOut → Type 0
+Silent outs = (z : Addr) (r : PeerRecord) → IsRecoveryIn outs z r → ⊥
+
+silent_append : (xs ys : List TxOut) → Silent xs → Silent ys → Silent (xs ++ ys)
+silent_append xs ys one two z r h = elim (recovery_append xs ys z r h) [ inl i ↦ one z r i | inr i ↦ two z r i ]
+
+silent_up : (t : Transaction) (w : DialogueRecord) → Silent (carry_up t w)
+silent_up t w z r = go t.key t.up
+  where
+    go : (k : Key) (u : Bool) → IsRecoveryIn (elim k as (λ _. List TxOut) [ Root a ↦ [] | Under a b s ↦ if u then TxOut.Carry s.node w ∷ [] else [] ]) z r → ⊥
+    go (Root a) u h = h
+    go (Under a b s) true h = h
+    go (Under a b s) false h = h
+
+silent_down : (rows : List Row) (w : DialogueRecord) → Silent (carry_down rows w)
+silent_down [] w z r h = h
+silent_down (b ∷ rows) w z r h = go (b.live && not b.branch.left) h (silent_down rows w z r)
+  where
+    go : (v : Bool) → IsRecoveryIn (if v then TxOut.Carry b.branch.peer.node w ∷ carry_down rows w else carry_down rows w) z r → (IsRecoveryIn (carry_down rows w) z r → ⊥) → ⊥
+    go true h rest = rest h
+    go false h rest = rest h
+
+silent_prepare : (rows : List Row) → Silent (prepare_each rows)
+silent_prepare [] z r h = h
+silent_prepare (b ∷ rows) z r h = go b.branch.prepared h (silent_prepare rows z r)
+  where
+    go : (v : Bool) → IsRecoveryIn (if v then prepare_each rows else TxOut.Carry b.branch.peer.node DialogueRecord.Prepare ∷ prepare_each rows) z r → (IsRecoveryIn (prepare_each rows) z r → ⊥) → ⊥
+    go true h rest = rest h
+    go false h rest = rest h
+
+silent_ends : (rows : List Row) → Silent (ends_down rows)
+silent_ends [] z r h = h
+silent_ends (b ∷ rows) z r h = go b.ends h (silent_ends rows z r)
+  where
+    go : (v : Bool) → IsRecoveryIn (if v then TxOut.Close b.branch.peer.node ∷ ends_down rows else ends_down rows) z r → (IsRecoveryIn (ends_down rows) z r → ⊥) → ⊥
+    go true h rest = rest h
+    go false h rest = rest h
+
+silent_end : (t : Transaction) → Silent (end_up t)
+silent_end t z r = go t.key t.up_ends
+  where
+    go : (k : Key) (u : Bool) → IsRecoveryIn (elim k as (λ _. List TxOut) [ Root a ↦ [] | Under a b s ↦ if u then TxOut.Close s.node ∷ [] else [] ]) z r → ⊥
+    go (Root a) u h = h
+    go (Under a b s) true h = h
+    go (Under a b s) false h = h
+
+silent_tells : (p : ℕ) (x : Report) → Silent (tell_report p x)
+silent_tells p Report.None z r h = h
+silent_tells p Report.Hazard z r h = h
+silent_tells p Report.Mix z r h = h
+
+forget_word : (t : Transaction) (a : Turn) (u : Aaid) (rows : List Row) (z : Addr) (r : PeerRecord) → IsRecoveryIn (forgets u rows) z r → IsOwnWord t a z r
+forget_word t a u [] z r h = absurd h
+forget_word t a u (b ∷ rows) z r h = go (is_report_none b.branch.report) h (forget_word t a u rows z r)
+  where
+    go : (v : Bool) → IsRecoveryIn (if v then forgets u rows else TxOut.Recovery b.branch.peer (PeerRecord.Forget u b.branch.id) ∷ forgets u rows) z r → (IsRecoveryIn (forgets u rows) z r → IsOwnWord t a z r) → IsOwnWord t a z r
+    go true h rest = rest h
+    go false (inl h) rest = subst (λ (w : PeerRecord). IsOwnWord t a z w) h.1 tt
+    go false (inr h) rest = rest h
+
+ask_word : (t : Transaction) (a : Turn) (u : Aaid) (rows : List Row) (z : Addr) (r : PeerRecord) → IsRecoveryIn (ask_each u rows) z r → IsOwnWord t a z r
+ask_word t a u [] z r h = absurd h
+ask_word t a u (b ∷ rows) z r h = go (b.branch.ended || b.branch.left || b.branch.given_up) h (ask_word t a u rows z r)
+  where
+    go : (v : Bool) → IsRecoveryIn (if v then ask_each u rows else TxOut.Recovery b.branch.peer (PeerRecord.RecCommit u b.branch.id) ∷ ask_each u rows) z r → (IsRecoveryIn (ask_each u rows) z r → IsOwnWord t a z r) → IsOwnWord t a z r
+    go true h rest = rest h
+    go false (inl h) rest = subst (λ (w : PeerRecord). IsOwnWord t a z w) h.1 tt
+    go false (inr h) rest = rest h
+
+done_word : (t : Transaction) (a : Turn) (x : Report) (z : Addr) (r : PeerRecord) → is_committing t.phase ≡ true → IsRecoveryIn (done_up t x) z r → IsOwnWord t a z r
+done_word t a x z r c = go t.key t.up refl
+  where
+    go : (k : Key) (u : Bool) → t.key ≡ k → IsRecoveryIn (elim k as (λ _. List TxOut) [
+      | Root a ↦ []
+      | Under a b s ↦ if u then TxOut.Carry s.node (DialogueRecord.Done x) ∷ [] else TxOut.Recovery s (PeerRecord.RecReply a b (RecState.Done x)) ∷ []
+    ]) z r → IsOwnWord t a z r
+    go (Root v) u i h = absurd h
+    go (Under v b s) true i h = absurd h
+    go (Under v b s) false i (inl h) = subst (λ (w : PeerRecord). IsOwnWord t a z w) h.1 (sym (ap aaid_of i), rw c refl)
+    go (Under v b s) false i (inr h) = absurd h
+
+retried_word : (t : Transaction) (z : Addr) (r : PeerRecord) → IsRecoveryIn (retried t) z r → IsOwnWord t (turn (retried t) t) z r
+retried_word t z r = go t.phase
+  where
+    ask : (k : Key) → t.key ≡ k → IsRecoveryIn (elim k as (λ _. List TxOut) [ Root a ↦ [] | Under a b s ↦ TxOut.Recovery s (PeerRecord.RecReady a b) ∷ [] ]) z r → IsOwnWord t (turn (retried t) t) z r
+    ask (Root a) i h = absurd h
+    ask (Under a b s) i (inl h) = subst (λ (w : PeerRecord). IsOwnWord t (turn (retried t) t) z w) h.1 (i ∙ ap (λ (y : Addr). Under a b y) h.0)
+    ask (Under a b s) i (inr h) = absurd h
+
+    told : (o : Bool) → IsRecoveryIn (if o then TxOut.Tell Indication.Commit ∷ [] else []) z r → ⊥
+    told true h = h
+    told false h = h
+
+    go : (p : Phase) → IsRecoveryIn (elim p as (λ _. List TxOut) [
+      | Phase.Nil ↦ []
+      | Phase.Active ↦ []
+      | Phase.Ready ↦ elim t.key [ Root a ↦ [] | Under a b s ↦ TxOut.Recovery s (PeerRecord.RecReady a b) ∷ [] ]
+      | Phase.Committing ↦ (if t.owes then TxOut.Tell Indication.Commit ∷ [] else []) ++ ask_each (aaid_of t.key) t.rows
+      | Phase.Rolling ↦ []
+    ]) z r → IsOwnWord t (turn (retried t) t) z r
+    go Phase.Nil h = absurd h
+    go Phase.Active h = absurd h
+    go Phase.Ready h = ask t.key refl h
+    go Phase.Committing h = elim (recovery_append (if t.owes then TxOut.Tell Indication.Commit ∷ [] else []) (ask_each (aaid_of t.key) t.rows) z r h) [ inl i ↦ absurd (told t.owes i) | inr i ↦ ask_word t (turn (retried t) t) (aaid_of t.key) t.rows z r i ]
+    go Phase.Rolling h = absurd h
+
+-- ---- completion
+
+hazard_more : (x y : Report) → is_report_none (join (join x Report.Hazard) y) ≡ false
+hazard_more Report.None Report.None = refl
+hazard_more Report.None Report.Hazard = refl
+hazard_more Report.None Report.Mix = refl
+hazard_more Report.Hazard Report.None = refl
+hazard_more Report.Hazard Report.Hazard = refl
+hazard_more Report.Hazard Report.Mix = refl
+hazard_more Report.Mix Report.None = refl
+hazard_more Report.Mix Report.Hazard = refl
+hazard_more Report.Mix Report.Mix = refl
+
+join_right : (x y : Report) → is_report_none y ≡ false → is_report_none (join x y) ≡ false
+join_right x Report.None h = absurd (cc (h))
+join_right Report.None Report.Hazard h = refl
+join_right Report.Hazard Report.Hazard h = refl
+join_right Report.Mix Report.Hazard h = refl
+join_right Report.None Report.Mix h = refl
+join_right Report.Hazard Report.Mix h = refl
+join_right Report.Mix Report.Mix h = refl
+
+-- a branch that is neither done nor left was given up: the report says so, and it is owed
+given_up : (rows : List Row) (p : ℕ) (r : Row) → find_row rows p ≡ Some r → r.branch.left ≡ false → r.branch.ended ≡ false → all_done rows ≡ true → (is_report_none (reports_of rows) ≡ false) × IsOwedIn p r.branch.id (owed_of rows)
+given_up [] p r h left ended all = absurd (cc (h))
+given_up (x ∷ rows) p r h left ended all = go (x.branch.peer.node == p) refl (given_up rows p r)
+  where
+    here : x ≡ r → (x.branch.peer.node == p) ≡ true → (is_report_none (reports_of (x ∷ rows)) ≡ false) × IsOwedIn p r.branch.id (owed_of (x ∷ rows))
+    here same at =
+        let l : x.branch.left ≡ false = ap (λ (y : Row). y.branch.left) same ∙ left in
+        let e : x.branch.ended ≡ false = ap (λ (y : Row). y.branch.ended) same ∙ ended in
+        let g : x.branch.given_up ≡ true = grind (arith, all, l, e) in
+        let n : x.branch.peer.node ≡ p = grind (arith, nat_tests, at) in
+        (rw (g, report_of_branch) (hazard_more x.branch.report (reports_of rows)), rw (l, e) (inl (n, ap (λ (y : Row). y.branch.id) same)))
+
+    there : (is_report_none (reports_of rows) ≡ false) × IsOwedIn p r.branch.id (owed_of rows) → (is_report_none (reports_of (x ∷ rows)) ≡ false) × IsOwedIn p r.branch.id (owed_of (x ∷ rows))
+    there k = (join_right (report_of_branch x.branch) (reports_of rows) k.0, on (x.branch.left || x.branch.ended) k.1)
+      where
+        on : (v : Bool) → IsOwedIn p r.branch.id (owed_of rows) → IsOwedIn p r.branch.id (if v then owed_of rows else child_of x.branch ∷ owed_of rows)
+        on true i = i
+        on false i = inr i
+
+    go : (v : Bool) → (x.branch.peer.node == p) ≡ v → (find_row rows p ≡ Some r → r.branch.left ≡ false → r.branch.ended ≡ false → all_done rows ≡ true → (is_report_none (reports_of rows) ≡ false) × IsOwedIn p r.branch.id (owed_of rows))
+        → (is_report_none (reports_of (x ∷ rows)) ≡ false) × IsOwedIn p r.branch.id (owed_of (x ∷ rows))
+    go true i rest = let one : Some x ≡ Some r = rw i at h in here (cc (one)) i
+    go false i rest = there (rest (rw i at h) left ended (grind (arith, all)))
+
+commit_standing : (p : Phase) → is_committing p ≡ true → is_standing p ≡ true
+commit_standing p h = rw h (grind arith)
+
+open_standing : (p : Phase) → (is_active p || is_ready p) ≡ true → is_standing p ≡ true
+open_standing p h = grind (arith, h)
+
+not_standing : (p : Phase) → is_rolling p ≡ true → is_standing p ≡ true → ⊥
+not_standing p h i = absurd (grind (arith, h, i))
+
+owing_commit : (e : TxEvent) (s t : Transaction) → IsPassed e s t (complete_commit t) → is_committing t.phase ≡ true → IsOwingTurn e s t (complete_commit t)
+unfolding complete_commit
+owing_commit e s t passed c = go (not t.owes && all_done t.rows) refl
+  where
+    x : Report
+    x = join (own_damage t.decision) (reports_of t.rows)
+
+    outs : List TxOut
+    outs = forgets (aaid_of t.key) t.rows ++ done_up t x ++ (TxOut.Tell (Indication.CommitComplete x) ∷ []) ++ ends_down t.rows ++ end_up t
+
+    over : Turn
+    over = record { rec = Some (if is_report_none x then log_end t Outcome.Commit else log_damage t Outcome.Commit x (owed_of t.rows)); outs = outs; next = record t { phase = Phase.Nil } }
+
+    says : (a : Turn) (z : Addr) (r : PeerRecord) → IsRecoveryIn outs z r → IsOwnWord t a z r
+    says a z r h = elim (recovery_append (forgets (aaid_of t.key) t.rows ++ done_up t x ++ (TxOut.Tell (Indication.CommitComplete x) ∷ []) ++ ends_down t.rows) (end_up t) z r h) [
+      | inr i ↦ absurd (silent_end t z r i)
+      | inl i ↦ elim (recovery_append (forgets (aaid_of t.key) t.rows ++ done_up t x ++ (TxOut.Tell (Indication.CommitComplete x) ∷ [])) (ends_down t.rows) z r i) [
+        | inr j ↦ absurd (silent_ends t.rows z r j)
+        | inl j ↦ elim (recovery_append (forgets (aaid_of t.key) t.rows ++ done_up t x) (TxOut.Tell (Indication.CommitComplete x) ∷ []) z r j) [
+          | inr k ↦ absurd k
+          | inl k ↦ elim (recovery_append (forgets (aaid_of t.key) t.rows) (done_up t x) z r k) [
+            | inl l ↦ forget_word t a (aaid_of t.key) t.rows z r l
+            | inr l ↦ done_word t a x z r c l
+          ]
+        ]
+      ]
+    ]
+
+    plain : (v : Bool) → rolls_back (Some (if v then log_end t Outcome.Commit else log_damage t Outcome.Commit x (owed_of t.rows))) ≡ false
+    plain true = refl
+    plain false = refl
+
+    go : (v : Bool) → (not t.owes && all_done t.rows) ≡ v → IsOwingTurn e s t (complete_commit t)
+    go true i =
+        let is : complete_commit t ≡ over = rw i refl in
+        let all : all_done t.rows ≡ true = grind (arith, i) in
+        record {
+          passed = passed;
+          logs = inr (commit_standing t.phase c);
+          says = λ z r h. says (complete_commit t) z r (subst (λ (a : Turn). IsRecoveryIn a.outs z r) is h);
+          rolls = λ h. absurd (cc (plain (is_report_none x), ap (λ (a : Turn). rolls_back a.rec) (sym is) ∙ h));
+          stays = λ p b st.
+              let k = given_up t.rows p st.row st.found st.left st.ended all in
+              let off : is_report_none x ≡ false = join_right (own_damage t.decision) (reports_of t.rows) k.0 in
+              inr (inr (record {
+                node = t.node;
+                superior = superior_of t.key;
+                report = x;
+                owed = owed_of t.rows;
+                is = ap (λ (a : Turn). a.rec) is ∙ rw off refl;
+                owes = subst (λ (i : BranchId). IsOwedIn p i (owed_of t.rows)) st.id k.1;
+              }));
+        }
+    go false i =
+        let is : complete_commit t ≡ turn [] t = rw i refl in
+        record {
+          passed = passed;
+          logs = inr (commit_standing t.phase c);
+          says = λ z r h. absurd (subst (λ (a : Turn). IsRecoveryIn a.outs z r) is h);
+          rolls = λ h. absurd (cc (ap (λ (a : Turn). rolls_back a.rec) (sym is) ∙ h));
+          stays = λ p b st. inl (subst (λ (a : Turn). StandsAt p b a.next) (sym is) st);
+        }
+
+-- ---- the other rules
+
+owing_plain : (e : TxEvent) (s t : Transaction) (a : Turn) → IsPassed e s t a → a.rec ≡ None → Silent a.outs → ((p : ℕ) (b : BranchId) → StandsAt p b t → StandsAt p b a.next ⊎ Quits e s p) → IsOwingTurn e s t a
+owing_plain e s t a passed none silent stays = record {
+  passed = passed;
+  logs = inl none;
+  says = λ z r h. absurd (silent z r h);
+  rolls = λ h. absurd (cc (ap rolls_back none, h));
+  stays = λ p b st. elim (stays p b st) [ inl i ↦ inl i | inr i ↦ inr (inl i) ];
+}
+
+owing_rollback : (e : TxEvent) (s t : Transaction) → IsPassed e s t (complete_rollback t) → is_rolling t.phase ≡ true → IsOwingTurn e s t (complete_rollback t)
+unfolding complete_rollback
+owing_rollback e s t passed c = owing_plain e s t (complete_rollback t) passed (grind arith) silent (λ p b st. absurd (not_standing t.phase c st.phase))
+  where
+    silent : Silent (complete_rollback t).outs
+    silent z r = go (not t.owes && all_rolled_back t.rows && (t.superior_rolled || not t.up))
+      where
+        go : (v : Bool) → IsRecoveryIn (if v then (let x : Report = join t.own (reports_of t.rows) in turn (carry_up t (DialogueRecord.RolledBack x) ++ (TxOut.Tell (Indication.RollbackComplete x) ∷ [])) (record t { phase = Phase.Nil })) else turn [] t).outs z r → ⊥
+        go true h = silent_append (carry_up t (DialogueRecord.RolledBack (join t.own (reports_of t.rows)))) (TxOut.Tell (Indication.RollbackComplete (join t.own (reports_of t.rows))) ∷ []) (silent_up t (DialogueRecord.RolledBack (join t.own (reports_of t.rows)))) (λ z r h. h) z r h
+        go false h = h
+
+owing_rolling : (e : TxEvent) (s t : Transaction) (asked : Bool) → IsPassed e s t (begin_rolling asked t) → falls e s ≡ true → (is_active t.phase || is_ready t.phase) ≡ true → IsOwingTurn e s t (begin_rolling asked t)
+unfolding begin_rolling
+owing_rolling e s t asked passed f ok = record {
+  passed = passed;
+  logs = inr (open_standing t.phase ok);
+  says = λ z r h. absurd (silent z r h);
+  rolls = λ h. f;
+  stays = λ p b st. inr (inl (Rolls f));
+}
+  where
+    told : (v : Bool) → Silent (if v then [] else TxOut.Tell Indication.Rollback ∷ [])
+    told true z r h = h
+    told false z r h = h
+
+    silent : Silent (begin_rolling asked t).outs
+    silent = silent_append ((if asked then [] else TxOut.Tell Indication.Rollback ∷ []) ++ carry_up t DialogueRecord.Rollback) (carry_down t.rows DialogueRecord.Rollback) (silent_append (if asked then [] else TxOut.Tell Indication.Rollback ∷ []) (carry_up t DialogueRecord.Rollback) (told asked) (silent_up t DialogueRecord.Rollback)) (silent_down t.rows DialogueRecord.Rollback)
+
+owing_order : (e : TxEvent) (s t : Transaction) → IsPassed e s t (order t) → (is_active t.phase || is_ready t.phase) ≡ true → IsOwingTurn e s t (order t)
+unfolding order
+owing_order e s t passed ok = record {
+  passed = passed;
+  logs = inr (open_standing t.phase ok);
+  says = λ z r h. absurd (silent_append (carry_down t.rows DialogueRecord.Commit) (TxOut.Tell Indication.Commit ∷ []) (silent_down t.rows DialogueRecord.Commit) (λ z r h. h) z r h);
+  rolls = λ h. absurd (cc (h));
+  stays = λ p b st. inl (stands_same p b t (order t).next refl refl st);
+}
+
+owing_vote : (e : TxEvent) (s t : Transaction) → IsPassed e s t (vote t) → is_active t.phase ≡ true → IsOwingTurn e s t (vote t)
+owing_vote e s t passed act = record {
+  passed = passed;
+  logs = inr (open_standing t.phase (rw act refl));
+  says = λ z r h. absurd (silent_up t DialogueRecord.Ready z r h);
+  rolls = λ h. absurd (plain t.key h);
+  stays = λ p b st. inl (stands_same p b t (vote t).next refl refl st);
+}
+  where
+    plain : (k : Key) → rolls_back (log_ready (record t { key = k })) ≡ true → ⊥
+    plain (Root a) h = cc (h)
+    plain (Under a b c) h = cc (h)
+
+owing_leave : (e : TxEvent) (s t : Transaction) → IsPassed e s t (leave t) → Quits e s 0 → ((p : ℕ) → Quits e s p) → IsOwingTurn e s t (leave t)
+unfolding leave
+owing_leave e s t passed one quits = owing_plain e s t (leave t) passed refl silent (λ p b st. inr (quits p))
+  where
+    silent : Silent (leave t).outs
+    silent z r = go t.up_ends
+      where
+        go : (v : Bool) → IsRecoveryIn (if v then carry_up t DialogueRecord.LeftEnd ++ end_up t else carry_up t DialogueRecord.Left) z r → ⊥
+        go true h = silent_append (carry_up t DialogueRecord.LeftEnd) (end_up t) (silent_up t DialogueRecord.LeftEnd) (silent_end t) z r h
+        go false h = silent_up t DialogueRecord.Left z r h
+
+owing_ask : (e : TxEvent) (s t : Transaction) → IsPassed e s t (ask_commit t) → IsOwingTurn e s t (ask_commit t)
+unfolding ask_commit
+owing_ask e s t passed = owing_plain e s t (ask_commit t) passed refl (silent_prepare t.rows) (λ p b st. inl (stands_prepared p b t st))
+
+owing_count : (e : TxEvent) (s t : Transaction) (q : ℕ) → IsPassed e s t (count_branch q t) → IsOwingTurn e s t (count_branch q t)
+unfolding count_branch
+owing_count e s t q passed = owing_plain e s t (count_branch q t) passed refl (λ z r h. h) (λ p b st. inl (stands_row p b t q (λ r. record r { branch = record r.branch { counted = true } }) (λ r. refl) (λ r. refl) (λ r. refl) (λ r. refl) st))
+
+owing_end : (e : TxEvent) (s t : Transaction) (q : ℕ) (x : Report) → IsPassed e s t (end_branch q x t) → may_end e s q ≡ true → IsOwingTurn e s t (end_branch q x t)
+unfolding end_branch
+owing_end e s t q x passed may =
+    owing_plain e s t (end_branch q x t) passed refl (silent_tells q x)
+    (λ p b st. stands_or p b t q (λ r. record r { branch = record r.branch { ended = true; report = x } }) (Quits e s p) (λ r. refl) (λ i. Is_done (subst (λ (n : ℕ). may_end e s n ≡ true) i may)) st)
+
+owing_left : (e : TxEvent) (s t : Transaction) (q : ℕ) → IsPassed e s t (branch_left q t) → may_leave e s q ≡ true → IsOwingTurn e s t (branch_left q t)
+unfolding branch_left
+owing_left e s t q passed may =
+    owing_plain e s t (branch_left q t) passed refl (λ z r h. h)
+    (λ p b st. stands_or p b t q (λ r. record r { branch = record r.branch { left = true } }) (Quits e s p) (λ r. refl) (λ i. Has_left (subst (λ (n : ℕ). may_leave e s n ≡ true) i may)) st)
+
+owing_shut : (e : TxEvent) (s : Transaction) (q : ℕ) (r : Row) → IsPassed e s s (shut_given_up q r s) → IsOwingTurn e s s (shut_given_up q r s)
+owing_shut e s q r passed = owing_plain e s s (shut_given_up q r s) passed refl (silent r.live) (λ p b st. inl (stands_row p b s q (λ w. record w { branch = record w.branch { given_up = true }; live = false; ends = false }) (λ w. refl) (λ w. refl) (λ w. refl) (λ w. refl) st))
+  where
+    silent : (v : Bool) → Silent (if v then TxOut.Shut q ∷ [] else [])
+    silent true z w h = h
+    silent false z w h = h
+
+-- ---- chains
+
+later : Option LogRec → Option LogRec → Option LogRec
+later p q = elim q as (λ _. Option LogRec) [ None ↦ p | Some r ↦ Some r ]
+
+standing_back : (p q : Phase) → may_move p q ≡ true → is_standing q ≡ true → is_standing p ≡ true
+standing_back Phase.Active q m h = refl
+standing_back Phase.Ready q m h = refl
+standing_back Phase.Committing q m h = refl
+standing_back Phase.Nil q m h = absurd (grind (arith, m, h))
+standing_back Phase.Rolling q m h = absurd (grind (arith, m, h))
+
+word_later : (t u : Transaction) (a b c : Turn) (z : Addr) (r : PeerRecord) → u.key ≡ t.key → ((is_committing u.phase || is_commit_rec b.rec) ≡ true → (is_committing t.phase || is_commit_rec c.rec) ≡ true) → IsOwnWord u b z r → IsOwnWord t c z r
+word_later t u a b c z (PeerRecord.RecReady v w) key more h = sym key ∙ h
+word_later t u a b c z (PeerRecord.RecReply v w (RecState.Done x)) key more h = (h.0 ∙ ap aaid_of key, more h.1)
+word_later t u a b c z (PeerRecord.RecReply v w RecState.Unknown) key more h = h
+word_later t u a b c z (PeerRecord.RecReply v w RecState.Commit) key more h = tt
+word_later t u a b c z (PeerRecord.RecReply v w RecState.RetryLater) key more h = tt
+word_later t u a b c z (PeerRecord.RecCommit v w) key more h = tt
+word_later t u a b c z (PeerRecord.Forget v w) key more h = tt
+word_later t u a b c z (PeerRecord.OpenAssoc v w) key more h = tt
+word_later t u a b c z (PeerRecord.AcceptAssoc v w x) key more h = tt
+word_later t u a b c z (PeerRecord.ShutAssoc v w) key more h = tt
+word_later t u a b c z (PeerRecord.OnAssoc v w q x) key more h = tt
+
+-- a and then b, from what a leaves; the whole logs what one of them does
+owing_then : (e : TxEvent) (s t : Transaction) (a b c : Turn) → IsPassed e s t c → c.next ≡ b.next → c.outs ≡ a.outs ++ b.outs → (a.rec ≡ None) × (c.rec ≡ b.rec) ⊎ (b.rec ≡ None) × (c.rec ≡ a.rec)
+    → IsOwingTurn e s t a → IsOwingTurn e s a.next b → IsOwingTurn e s t c
+owing_then e s t a b c passed next outs which one two = record {
+  passed = passed;
+  logs = logs which;
+  says = λ z r h. elim (recovery_append a.outs b.outs z r (subst (λ (l : List TxOut). IsRecoveryIn l z r) outs h)) [
+    | inl i ↦ word_later t t a a c z r refl first (one.says z r i)
+    | inr i ↦ word_later t a.next a b c z r one.passed.key second (two.says z r i)
+  ];
+  rolls = λ h. elim which [ inl i ↦ two.rolls (ap rolls_back (sym i.1) ∙ h) | inr i ↦ one.rolls (ap rolls_back (sym i.1) ∙ h) ];
+  stays = λ p d st. elim (one.stays p d st) [
+    | inl i ↦ elim (two.stays p d i) [
+      | inl j ↦ inl (subst (λ (u : Transaction). StandsAt p d u) (sym next) j)
+      | inr j ↦ elim j [ inl k ↦ inr (inl k) | inr k ↦ inr (inr (kept_second p d k which)) ]
+    ]
+    | inr i ↦ elim i [ inl j ↦ inr (inl j) | inr j ↦ inr (inr (kept_first p d j which)) ]
+  ];
+}
+  where
+    first : (is_committing t.phase || is_commit_rec a.rec) ≡ true → (is_committing t.phase || is_commit_rec c.rec) ≡ true
+    first h = go (is_committing t.phase) refl which
+      where
+        go : (v : Bool) → is_committing t.phase ≡ v → (a.rec ≡ None) × (c.rec ≡ b.rec) ⊎ (b.rec ≡ None) × (c.rec ≡ a.rec) → (is_committing t.phase || is_commit_rec c.rec) ≡ true
+        go true i w = rw i refl
+        go false i (inl w) = absurd (cc (rw i at h, ap is_commit_rec w.0))
+        go false i (inr w) = rw i (ap is_commit_rec w.1 ∙ (rw i at h))
+
+    second : (is_committing a.next.phase || is_commit_rec b.rec) ≡ true → (is_committing t.phase || is_commit_rec c.rec) ≡ true
+    second h = go (is_committing a.next.phase) refl which
+      where
+        go : (v : Bool) → is_committing a.next.phase ≡ v → (a.rec ≡ None) × (c.rec ≡ b.rec) ⊎ (b.rec ≡ None) × (c.rec ≡ a.rec) → (is_committing t.phase || is_commit_rec c.rec) ≡ true
+        go true i w = first (one.passed.commits i)
+        go false i (inl w) = let k : is_commit_rec c.rec ≡ true = ap is_commit_rec w.1 ∙ (rw i at h) in rw k (grind arith)
+        go false i (inr w) = absurd (cc (rw i at h, ap is_commit_rec w.0))
+
+    logs : (a.rec ≡ None) × (c.rec ≡ b.rec) ⊎ (b.rec ≡ None) × (c.rec ≡ a.rec) → (c.rec ≡ None) ⊎ (is_standing t.phase ≡ true)
+    logs (inl w) = elim two.logs [ inl i ↦ inl (w.1 ∙ i) | inr i ↦ inr (standing_back t.phase a.next.phase one.passed.moves i) ]
+    logs (inr w) = elim one.logs [ inl i ↦ inl (w.1 ∙ i) | inr i ↦ inr i ]
+
+    kept_first : (p : ℕ) (d : BranchId) → KeepsOwed (node_key t.key) p d a.rec → (a.rec ≡ None) × (c.rec ≡ b.rec) ⊎ (b.rec ≡ None) × (c.rec ≡ a.rec) → KeepsOwed (node_key t.key) p d c.rec
+    kept_first p d k (inl w) = absurd (cc (w.0, k.is))
+    kept_first p d k (inr w) = subst (λ (r : Option LogRec). KeepsOwed (node_key t.key) p d r) (sym w.1) k
+
+    kept_second : (p : ℕ) (d : BranchId) → KeepsOwed (node_key a.next.key) p d b.rec → (a.rec ≡ None) × (c.rec ≡ b.rec) ⊎ (b.rec ≡ None) × (c.rec ≡ a.rec) → KeepsOwed (node_key t.key) p d c.rec
+    kept_second p d k (inr w) = absurd (cc (w.0, k.is))
+    kept_second p d k (inl w) = subst (λ (r : Option LogRec). KeepsOwed (node_key t.key) p d r) (sym w.1) (subst (λ (j : Key). KeepsOwed (node_key j) p d b.rec) one.passed.key k)
+
+-- ---- the steps
+
+owing_turns : (e : TxEvent) (s : Transaction) → Turns e s (IsOwingTurn e s)
+owing_turns e s = record {
+  still = λ t. owing_plain e s t (turn [] t) (k.still t) refl (λ z r h. h) (λ p b st. inl st);
+  first = λ t u outs a one two. owing_then e s t (turn outs u) a (before outs a) (k.first t u outs a one.passed two.passed) refl refl (inl (refl, refl)) one two;
+  chain = λ t a f one two none. owing_then e s t a (f a.next) (and_then a f) (k.chain t a f one.passed two.passed none) refl refl (later_rec a.rec (f a.next).rec none) one two;
+  tells = λ t i n. owing_plain e s t _ (k.tells t i n) refl (λ z r h. h) (λ p b st. inl st);
+  notes_prepare = λ cl. owing_plain e s s _ (k.notes_prepare cl) refl (λ z r h. h) (λ p b st. inl (stands_same p b s _ refl st.phase st));
+  notes_done = owing_plain e s s _ k.notes_done refl (λ z r h. h) (λ p b st. inl (stands_same p b s _ refl st.phase st));
+  notes_end = λ q. owing_plain e s s _ (k.notes_end q) refl (λ z r h. h) (λ p b st. inl (stands_same p b s _ refl st.phase st));
+  notes_rollback = λ cl. owing_plain e s s _ (k.notes_rollback cl) refl (λ z r h. h) (λ p b st. inl (stands_same p b s _ refl st.phase st));
+  defers_end = λ q. owing_plain e s s _ (k.defers_end q) refl (λ z r h. h) (λ p b st. inl (stands_row p b s q (λ r. record r { ends = true }) (λ r. refl) (λ r. refl) (λ r. refl) (λ r. refl) st));
+  defers_grant = λ q. owing_plain e s s _ (k.defers_grant q) refl (λ z r h. h) (λ p b st. inl st);
+  prepares = λ q. owing_plain e s s _ (k.prepares q) refl (λ z r h. h) (λ p b st. inl (stands_row p b s q (λ r. record r { branch = record r.branch { prepared = true } }) (λ r. refl) (λ r. refl) (λ r. refl) (λ r. refl) st));
+  asks = λ act asked told. owing_ask e s s (k.asks act asked told);
+  asks_again = record {
+    passed = k.asks_again;
+    logs = inl refl;
+    says = λ z r h. retried_word s z r h;
+    rolls = λ h. absurd (cc (h));
+    stays = λ p b st. inl st;
+  };
+  decides = λ o is ready. record {
+    passed = k.decides o is ready;
+    logs = inr (open_standing s.phase (rw ready (grind arith)));
+    says = λ z r h. absurd h;
+    rolls = λ h. absurd (cc (h));
+    stays = λ p b st. inl (stands_same p b s (decide o s).next refl st.phase st);
+  };
+  aborts = λ q. owing_plain e s s _ (k.aborts q) refl (λ z r h. h) (λ p b st. inl (stands_lost p b s q st));
+  loses_arc = λ q gone. owing_plain e s s _ (k.loses_arc q gone) refl (λ z r h. h) (λ p b st. inl (stands_lost p b s q st));
+  closes_left = λ q is. owing_plain e s s _ (k.closes_left q is) refl (λ z r h. h) (λ p b st. inl (stands_row p b s q row_dead (λ r. refl) (λ r. refl) (λ r. refl) (λ r. refl) st));
+  gives_up = λ q r is c found. owing_shut e s q r (k.gives_up q r is c found);
+  counts = λ q is act row. owing_count e s s q (k.counts q is act row);
+  ends_done = λ q r is c row. owing_end e s s q r (k.ends_done q r is c row) (done_may e s q r is c);
+  ends_replied = λ b w r is found o. owing_end e s s w.branch.peer.node r (k.ends_replied b w r is found o) (reply_may e s b w r is found o);
+  ends_rolled = λ q r is c row. owing_end e s s q r (k.ends_rolled q r is c row) (rolled_may e s q r is c);
+  leaves_below = λ q w t is left at act. owing_left e s t q (k.leaves_below q w t is left at act) (left_may e s t q w is left at act);
+  leaves_rolling = λ q w t is left at c. owing_end e s t q Report.None (k.leaves_rolling q w t is left at c) (left_end_may e s t q w is left at c);
+  votes = λ t act asked all under. owing_vote e s t (k.votes t act asked all under) act;
+  orders_root = λ t act asked all root. owing_order e s t (k.orders_root t act asked all root) (rw act refl);
+  orders_ready = λ ready is. owing_order e s s (k.orders_ready ready is) (rw ready (grind arith));
+  rolls = λ t asked f ok. owing_rolling e s t asked (k.rolls t asked f ok) f ok;
+  completes_commit = λ t c. owing_commit e s t (k.completes_commit t c) c;
+  completes_rollback = λ t c. owing_rollback e s t (k.completes_rollback t c) c;
+  leaves = λ is act under asked all. owing_leave e s s (k.leaves is act under asked all) (Departs is) (λ p. Departs is);
+}
+  where
+    k : Turns e s (IsPassed e s)
+    k = passed_turns e s
+
+-- every event of a transaction
+pub owing_turn : (e : TxEvent) (s : Transaction) → IsPut e s → IsOwingTurn e s s (transacted e s)
+owing_turn e s put = every_turn e s (IsOwingTurn e s) (owing_turns e s) put

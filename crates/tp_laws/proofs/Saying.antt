@@ -1,0 +1,78 @@
+-- What goes out beside the associations, one record after the other.
+use Rattle.std.proofs.Common.{if◌then◌else◌, ◌≡◌, ◌⊎◌, inl, inr, Bool, true, false, refl, subst, arith, Option, Some, None, List, [], ◌∷◌, ◌++◌}
+use Rattle.tp_names.specs.declared.identifiers.Aaid.{Aaid}
+use Rattle.tp_names.specs.declared.identifiers.BranchId.{BranchId}
+use Rattle.tp_names.specs.declared.identifiers.NodeKey.{NodeKey}
+use Rattle.tp_names.specs.declared.identifiers.Addr.{Addr}
+use Rattle.tp_names.specs.declared.children.Child.{Child}
+use Rattle.tp_names.specs.declared.outcome.Report.{Report}
+use Rattle.tp_records.specs.declared.peer.PeerRecord.{PeerRecord}
+use Rattle.tp_records.specs.declared.peer.RecState.{RecState}
+use Rattle.tp_model.specs.declared.transaction.TxOut.{TxOut}
+use Rattle.tp_model.specs.declared.recovery.Kept.{Kept}
+use Rattle.tp_model.specs.declared.recovery.Question.{Question}
+use Rattle.tp_model.specs.Parts.{Event, Digest}
+use Rattle.tp_model.specs.Recovery.{is_commit, answer, ask_owed, tell_superior, forget_to, owed}
+use Rattle.tp_model.specs.Arrivals.{branch_key, named_by_key, named_by_branch, known_of}
+use Rattle.tp_laws.specs.Moves.{is_committed_in, IsRecoveryIn, IsSaid, AreSaid}
+
+-- one record alone
+pub one_said : (e : Event) (s d : Digest) (to : Addr) (q : PeerRecord) → IsSaid e s d to q → AreSaid e s d (TxOut.Recovery to q ∷ [])
+one_said e s d to q x a r (inl h) = subst (λ (b : Addr). IsSaid e s d b r) h.0 (subst (λ (w : PeerRecord). IsSaid e s d to w) h.1 x)
+one_said e s d to q x a r (inr h) = absurd h
+
+pub recovery_append : (xs ys : List TxOut) (a : Addr) (r : PeerRecord) → IsRecoveryIn (xs ++ ys) a r → IsRecoveryIn xs a r ⊎ IsRecoveryIn ys a r
+recovery_append [] ys a r h = inr h
+recovery_append (TxOut.Tell i ∷ xs) ys a r h = recovery_append xs ys a r h
+recovery_append (TxOut.Carry p w ∷ xs) ys a r h = recovery_append xs ys a r h
+recovery_append (TxOut.Shut p ∷ xs) ys a r h = recovery_append xs ys a r h
+recovery_append (TxOut.Close p ∷ xs) ys a r h = recovery_append xs ys a r h
+recovery_append (TxOut.Recovery b q ∷ xs) ys a r (inl h) = inl (inl h)
+recovery_append (TxOut.Recovery b q ∷ xs) ys a r (inr h) = elim (recovery_append xs ys a r h) [ inl i ↦ inl (inr i) | inr i ↦ inr i ]
+
+pub said_append : (e : Event) (s d : Digest) (xs ys : List TxOut) → AreSaid e s d xs → AreSaid e s d ys → AreSaid e s d (xs ++ ys)
+said_append e s d xs ys one two a r h = elim (recovery_append xs ys a r h) [ inl i ↦ one a r i | inr i ↦ two a r i ]
+
+-- ---- a retry of a kept transaction
+
+said_ask : (e : Event) (s d : Digest) (t : Aaid) (cs : List Child) → AreSaid e s d (ask_owed t cs)
+said_ask e s d t [] = λ a r h. absurd h
+said_ask e s d t (c ∷ cs) = λ a r h. elim h [ inl i ↦ one_said e s d c.addr (PeerRecord.RecCommit t c.branch) tt a r (inl i) | inr i ↦ said_ask e s d t cs a r i ]
+
+said_tell : (e : Event) (s d : Digest) (k : Kept) → is_committed_in k.key.aaid d ≡ true → AreSaid e s d (tell_superior k)
+said_tell e s d k held = go k.forgot k.key.branch k.superior
+  where
+    go : (f : Bool) (b : Option BranchId) (u : Option Addr)
+        → AreSaid e s d (if f then [] else elim b as (λ _. List TxOut) [ None ↦ [] | Some i ↦ elim u as (λ _. List TxOut) [ None ↦ [] | Some a ↦ TxOut.Recovery a (PeerRecord.RecReply k.key.aaid i (RecState.Done k.report)) ∷ [] ] ])
+    go true b u = λ a r h. absurd h
+    go false None u = λ a r h. absurd h
+    go false (Some i) None = λ a r h. absurd h
+    go false (Some i) (Some a) = one_said e s d a (PeerRecord.RecReply k.key.aaid i (RecState.Done k.report)) (inl held)
+
+pub said_owed : (e : Event) (s d : Digest) (k : Kept) → (is_commit k.side ≡ true → is_committed_in k.key.aaid d ≡ true) → AreSaid e s d (owed k)
+unfolding owed
+said_owed e s d k held = go (is_commit k.side) refl
+  where
+    go : (b : Bool) → is_commit k.side ≡ b → AreSaid e s d (if b then ask_owed k.key.aaid k.owed ++ tell_superior k else [])
+    go true i = said_append e s d (ask_owed k.key.aaid k.owed) (tell_superior k) (said_ask e s d k.key.aaid k.owed) (said_tell e s d k (held i))
+    go false i = λ a r h. absurd h
+
+pub said_forget : (e : Event) (s d : Digest) (to : Addr) (k : NodeKey) (b : BranchId) (r : Report) → AreSaid e s d (forget_to to k b r)
+said_forget e s d to k b Report.None = λ a r h. absurd h
+said_forget e s d to k b r = one_said e s d to (PeerRecord.Forget k.aaid b) tt
+
+-- ---- answers
+
+pub said_ready : (s : Digest) (a : Addr) (t : Aaid) (b : BranchId) (v : RecState) → answer (known_of (named_by_branch s t b) b) Question.RecReady ≡ Some v → AreSaid (Event.Arrive a (PeerRecord.RecReady t b)) s s (TxOut.Recovery a (PeerRecord.RecReply t b v) ∷ [])
+unfolding answer
+said_ready s a t b RecState.Commit h = one_said _ s s a (PeerRecord.RecReply t b RecState.Commit) tt
+said_ready s a t b (RecState.Done r) h = absurd (grind (arith, h))
+said_ready s a t b RecState.Unknown h = one_said _ s s a (PeerRecord.RecReply t b RecState.Unknown) (refl, h)
+said_ready s a t b RecState.RetryLater h = one_said _ s s a (PeerRecord.RecReply t b RecState.RetryLater) tt
+
+pub said_order : (s : Digest) (a : Addr) (t : Aaid) (b : BranchId) (v : RecState) → answer (known_of (named_by_key s (branch_key t b)) b) Question.RecCommit ≡ Some v → AreSaid (Event.Arrive a (PeerRecord.RecCommit t b)) s s (TxOut.Recovery a (PeerRecord.RecReply t b v) ∷ [])
+unfolding answer
+said_order s a t b RecState.Commit h = one_said _ s s a (PeerRecord.RecReply t b RecState.Commit) tt
+said_order s a t b (RecState.Done r) h = one_said _ s s a (PeerRecord.RecReply t b (RecState.Done r)) (inr (refl, h))
+said_order s a t b RecState.Unknown h = absurd (grind (arith, h))
+said_order s a t b RecState.RetryLater h = one_said _ s s a (PeerRecord.RecReply t b RecState.RetryLater) tt

@@ -1,0 +1,122 @@
+-- What is known of a node after a history, part by part, against what the questions of the whole history answer. All
+-- parts together say that the digest agrees.
+use Rattle.std.specs.Prelude.{◌==◌, ◌&&◌, ◌||◌, not, Bool, true, Some, None, List, [], ◌∷◌}
+use Rattle.tp_names.specs.declared.identifiers.NodeKey.{NodeKey}
+use Rattle.tp_names.specs.Same.{is_addr_option, is_outcome}
+use Rattle.tp_names.specs.Reports.{rank}
+use Rattle.tp_units.specs.Units.{has_bit}
+use Rattle.tp_model.specs.Parts.{Origin, Entry, Arc, Current}
+use Rattle.tp_model.specs.Links.{is_live, is_idle}
+use Rattle.tp_model.specs.Transactions.{node_key, superior_of}
+use Rattle.tp_model.specs.History.{digest}
+use Rattle.tp_model.specs.Questions.{declared_in, superior_in, boot_in, link_in, holds_in, awaits_in, due_in, deferral_in, rests_in, drawn_in}
+use Rattle.tp_model.specs.Keys.{phase_in, superior_for, branches_in, told_prepare_in, asked_in, superior_rolled_in, owes_in, decision_for, own_in, kept_in, known_in}
+use Rattle.tp_model.specs.Consistency.{same_bool, same_list, same_option, same_link, same_child, same_kept, number_of_phase, number_of_due, number_of_deferral, agrees_order, agrees_branches, children_of, others_quiet}
+
+-- ---- the node
+
+abbrev pub declared_agrees : Origin → List Entry → Bool
+declared_agrees o h = same_bool (digest o h).declared (declared_in h)
+
+abbrev pub known_agrees : Origin → List Entry → Bool
+known_agrees o h = same_bool (digest o h).known (known_in o h)
+
+abbrev pub superior_agrees : Origin → List Entry → Bool
+superior_agrees o h = is_addr_option (digest o h).superior (superior_in h)
+
+abbrev pub drawn_agrees : Origin → List Entry → Bool
+drawn_agrees o h = (digest o h).drawn == drawn_in o h
+
+abbrev pub boot_agrees : Origin → List Entry → Bool
+boot_agrees o h = (digest o h).boot == boot_in o h
+
+abbrev pub kept_agrees : Origin → List Entry → Bool
+kept_agrees o h = same_list same_kept (digest o h).kept (kept_in o h)
+
+-- ---- its arcs
+
+abbrev pub all_arcs : (Arc → Bool) → List Arc → Bool
+all_arcs f [] = true
+all_arcs f (a ∷ arcs) = f a && all_arcs f arcs
+
+abbrev pub links_agree : Origin → List Entry → Bool
+links_agree o h = all_arcs (λ a. same_link a.link (link_in o a.peer.node h) && not (is_idle a.link)) (digest o h).arcs
+
+abbrev pub order_agrees : Origin → List Entry → Bool
+order_agrees o h = agrees_order o h
+
+-- control, handshake, deferral and rest are asked of a live arc; control, of a polarized one
+abbrev pub all_live : Origin → List Entry → (Arc → Bool) → Bool
+all_live o h f = all_arcs (λ a. not (is_live a.link) || f a) (digest o h).arcs
+
+abbrev pub control_agrees : Origin → List Entry → Bool
+control_agrees o h = all_live o h (λ a. not (has_bit a.dialogue.units 2) || same_bool a.dialogue.holds (holds_in o a.peer.node h))
+
+abbrev pub awaits_agrees : Origin → List Entry → Bool
+awaits_agrees o h = all_live o h (λ a. same_bool a.dialogue.awaits (awaits_in o a.peer.node h))
+
+abbrev pub due_agrees : Origin → List Entry → Bool
+due_agrees o h = all_live o h (λ a. number_of_due a.dialogue.due == number_of_due (due_in o a.peer.node h))
+
+abbrev pub deferral_agrees : Origin → List Entry → Bool
+deferral_agrees o h = all_live o h (λ a. number_of_deferral a.dialogue.deferral == number_of_deferral (deferral_in o a.peer.node h))
+
+abbrev pub rests_agrees : Origin → List Entry → Bool
+rests_agrees o h = all_live o h (λ a. same_bool a.dialogue.rests (rests_in o a.peer.node h))
+
+-- ---- its current transaction
+
+abbrev pub now_agrees : Origin → List Entry → (NodeKey → Current → Bool) → Bool
+now_agrees o h f = elim (digest o h).current [ None ↦ true | Some c ↦ f (node_key c.key) c ]
+
+-- the phase of its key; and that every other key that was begun or logged is in none
+abbrev pub phase_agrees : Origin → List Entry → Bool
+phase_agrees o h = now_agrees o h (λ k c. number_of_phase c.phase == number_of_phase (phase_in o k h))
+
+abbrev pub key_agrees : Origin → List Entry → Bool
+key_agrees o h = others_quiet o h h
+
+-- the address of its superior
+abbrev pub above_agrees : Origin → List Entry → Bool
+above_agrees o h = now_agrees o h (λ k c. is_addr_option (superior_of c.key) (superior_for o k h))
+
+abbrev pub branches_agree : Origin → List Entry → Bool
+branches_agree o h = now_agrees o h (λ k c. same_list same_child (children_of c.branches) (branches_in o k h))
+
+abbrev pub marks_agree : Origin → List Entry → Bool
+marks_agree o h = now_agrees o h (λ k c. agrees_branches o k h c.branches)
+
+abbrev pub told_prepare_agrees : Origin → List Entry → Bool
+told_prepare_agrees o h = now_agrees o h (λ k c. same_bool c.told_prepare (told_prepare_in o k h))
+
+abbrev pub asked_agrees : Origin → List Entry → Bool
+asked_agrees o h = now_agrees o h (λ k c. same_bool c.asked (asked_in o k h))
+
+abbrev pub owes_agrees : Origin → List Entry → Bool
+owes_agrees o h = now_agrees o h (λ k c. same_bool c.owes (owes_in o k h))
+
+abbrev pub superior_rolled_agrees : Origin → List Entry → Bool
+superior_rolled_agrees o h = now_agrees o h (λ k c. same_bool c.superior_rolled (superior_rolled_in o k h))
+
+abbrev pub decision_agrees : Origin → List Entry → Bool
+decision_agrees o h = now_agrees o h (λ k c. same_option is_outcome c.decision (decision_for o k h))
+
+abbrev pub own_agrees : Origin → List Entry → Bool
+own_agrees o h = now_agrees o h (λ k c. rank c.own == rank (own_in o k h))
+
+-- ---- all parts
+
+abbrev pub node_agrees : Origin → List Entry → Bool
+node_agrees o h = declared_agrees o h && known_agrees o h && superior_agrees o h && drawn_agrees o h && boot_agrees o h && kept_agrees o h
+
+abbrev pub arcs_agree : Origin → List Entry → Bool
+arcs_agree o h =
+    links_agree o h && order_agrees o h && control_agrees o h && awaits_agrees o h && due_agrees o h && deferral_agrees o h && rests_agrees o h
+
+abbrev pub current_agrees : Origin → List Entry → Bool
+current_agrees o h =
+    phase_agrees o h && key_agrees o h && above_agrees o h && branches_agree o h && marks_agree o h && told_prepare_agrees o h && asked_agrees o h
+    && owes_agrees o h && superior_rolled_agrees o h && decision_agrees o h && own_agrees o h
+
+abbrev pub agrees_in_parts : Origin → List Entry → Bool
+agrees_in_parts o h = node_agrees o h && arcs_agree o h && current_agrees o h

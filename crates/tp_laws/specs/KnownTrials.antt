@@ -1,0 +1,134 @@
+-- Histories of one node, for worked examples of what is known after them.
+use Rattle.std.specs.Prelude.{ℕ, Bool, true, false, Some, None, List, [], ◌∷◌, codes}
+use Rattle.tp_names.specs.declared.identifiers.Mark.{Mark}
+use Rattle.tp_names.specs.declared.identifiers.Aaid.{Aaid}
+use Rattle.tp_names.specs.declared.identifiers.BranchId.{BranchId}
+use Rattle.tp_names.specs.declared.identifiers.Addr.{Addr}
+use Rattle.tp_names.specs.declared.identifiers.NodeKey.{NodeKey}
+use Rattle.tp_names.specs.declared.outcome.Outcome.{Outcome}
+use Rattle.tp_names.specs.declared.outcome.Report.{Report}
+use Rattle.tp_names.specs.declared.children.Child.{Child}
+use Rattle.tp_records.specs.declared.request.Request.{Request}
+use Rattle.tp_records.specs.declared.dialogue.DialogueRecord.{DialogueRecord}
+use Rattle.tp_records.specs.declared.dialogue.Holder.{Holder}
+use Rattle.tp_records.specs.declared.peer.PeerRecord.{PeerRecord}
+use Rattle.tp_logrec.specs.declared.record.LogVersion.{LogVersion}
+use Rattle.tp_logrec.specs.declared.record.LogRec.{LogRec}
+use Rattle.tp_model.specs.Parts.{Origin, Event, Declare, Do, Arrive, Heur, Entry}
+use Rattle.tp_model.specs.History.{grown, refuse}
+
+-- a node in the middle, with a superior and one subordinate, that starts on those records
+abbrev pub starting : ℕ → List LogRec → Origin
+starting boot rs = record { who = record { site = codes "b"; node = 2 }; start = record { boot = boot; version = LogVersion.One; records = rs } }
+
+abbrev pub middle : Origin
+middle = starting 1 []
+
+abbrev pub above : Addr
+above = record { site = codes "a"; node = 1 }
+
+abbrev pub below : Addr
+below = record { site = codes "c"; node = 3 }
+
+abbrev pub mark_of : ℕ → ℕ → Mark
+mark_of n k = record { boot = 1; node = n; count = k }
+
+abbrev pub grows : Origin → List Entry → List Event → List Entry
+grows o h [] = h
+grows o h (e ∷ es) = grows o (grown o h e) es
+
+-- each event was accepted where it came
+abbrev pub fits : Origin → List Entry → List Event → Bool
+fits o h [] = true
+fits o h (e ∷ es) = elim (refuse o h e) [ None ↦ fits o (grown o h e) es | Some n ↦ false ]
+
+-- what the superior says on its association, and the subordinate on its own
+abbrev pub from_above : ℕ → DialogueRecord → Event
+from_above q r = Arrive above (PeerRecord.OnAssoc (mark_of 1 1) (mark_of 2 1) q r)
+
+abbrev pub from_below : ℕ → DialogueRecord → Event
+from_below q r = Arrive below (PeerRecord.OnAssoc (mark_of 2 2) (mark_of 3 1) q r)
+
+-- both are linked
+abbrev pub linked : List Event
+linked =
+    Declare (Some above)
+    ∷ Arrive above (PeerRecord.OpenAssoc (mark_of 1 1) 41)
+    ∷ Do (Request.Accept 41)
+    ∷ Do (Request.BeginDialogue below 41)
+    ∷ Arrive below (PeerRecord.AcceptAssoc (mark_of 2 2) (mark_of 3 1) 41)
+    ∷ []
+
+-- the superior begins a tree with a mark that this node has yet to draw, and the node passes it on
+abbrev pub foretold : Aaid
+foretold = record { owner = codes "b"; mark = mark_of 2 9 }
+
+abbrev pub foretold_key : NodeKey
+foretold_key = record { aaid = foretold; branch = Some (record { superior = codes "a"; mark = mark_of 1 2 }) }
+
+abbrev pub foretelling : List Event
+foretelling =
+    from_above 0 (DialogueRecord.Begin foretold (record { superior = codes "a"; mark = mark_of 1 2 }) Holder.None)
+    ∷ Do (Request.BeginTransaction 3)
+    ∷ []
+
+-- a start on a record of a tree of another node, ready, and of a tree of its own, whose record names a superior
+abbrev pub elsewhere : Aaid
+elsewhere = record { owner = codes "a"; mark = mark_of 1 2 }
+
+abbrev pub of_above : BranchId
+of_above = record { superior = codes "a"; mark = mark_of 1 3 }
+
+abbrev pub of_middle : BranchId
+of_middle = record { superior = codes "b"; mark = mark_of 2 3 }
+
+abbrev pub branch_key : NodeKey
+branch_key = record { aaid = elsewhere; branch = Some of_above }
+
+abbrev pub root_key : NodeKey
+root_key = record { aaid = foretold; branch = None }
+
+abbrev pub one_child : List Child
+one_child = record { addr = below; branch = of_middle } ∷ []
+
+abbrev pub as_branch : Origin
+as_branch = starting 2 (LogRec.Ready 2 branch_key above one_child ∷ [])
+
+abbrev pub as_root : Origin
+as_root = starting 2 (LogRec.Ready 2 root_key above one_child ∷ [])
+
+-- a start on a damage of a branch that committed and is owed to one below it
+abbrev pub as_damaged : Origin
+as_damaged =
+    starting 2
+    (LogRec.Ready 2 branch_key above one_child
+    ∷ LogRec.Commit 2 branch_key (Some above) one_child
+    ∷ LogRec.Damage 2 branch_key (Some above) Outcome.Commit Report.Mix one_child
+    ∷ [])
+
+-- the superior forgets
+abbrev pub forgetting : List Event
+forgetting = Declare (Some above) ∷ Arrive above (PeerRecord.Forget elsewhere of_above) ∷ []
+
+-- the node decides to commit
+abbrev pub deciding : List Event
+deciding = Heur Outcome.Commit ∷ []
+
+-- the node without a superior begins a tree of its own, and its user asks for commitment
+abbrev pub beginning : List Event
+beginning =
+    Declare None
+    ∷ Do (Request.BeginDialogue below 41)
+    ∷ Arrive below (PeerRecord.AcceptAssoc (mark_of 2 1) (mark_of 3 1) 41)
+    ∷ Do (Request.BeginTransaction 3)
+    ∷ []
+
+abbrev pub asking : List Event
+asking = Do Request.Commit ∷ []
+
+abbrev pub own_key : NodeKey
+own_key = record { aaid = record { owner = codes "b"; mark = mark_of 2 2 }; branch = None }
+
+-- the superior asks to prepare
+abbrev pub preparing : List Event
+preparing = from_above 1 DialogueRecord.Prepare ∷ []
