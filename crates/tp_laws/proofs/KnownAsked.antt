@@ -190,9 +190,12 @@ commits_so Event.Purge c f off asked l = absurd asked
 commits_so Event.Crash c f off asked l = absurd asked
 
 carried_turned : (who : Who) (e : Event) (s : Digest) → is_commit_request e ≡ false → (f : TxEvent) (d : Digest) (c : Current) → d.current ≡ Some c → IsAsked e c f → IsPut f (seen who d.arcs c) → IsCarried who s d (turned who f d c)
-carried_turned who e s off f d c now asked put after = (on after, λ u is.
-  let t : Transaction = seen who d.arcs c in
-  inl (c, now, (left_is (transacted f t).next u is).0 ∙ (passed_turn f t put).key, left_asked (transacted f t).next u is ∙ step_turn f t IsSame (same_turns f t (commits_so e c f off asked)) put))
+carried_turned who e s off f d c now asked put after = (
+  on after,
+  λ u is.
+      let t : Transaction = seen who d.arcs c in
+      inl (c, now, (left_is (transacted f t).next u is).0 ∙ (passed_turn f t put).key, left_asked (transacted f t).next u is ∙ step_turn f t IsSame (same_turns f t (commits_so e c f off asked)) put),
+)
   where
     on : Drawn s d → Drawn s (turned who f d c).next
     on (Same_boot b n) = Same_boot b n
@@ -221,9 +224,12 @@ carried_begins who s q d after = go d.current refl (find_arc d.arcs q)
 
     on : (c : Current) → d.current ≡ Some c → (a : Arc) (b : Bool) → IsAfter (if b then move [] d else sent c a)
     on c i a true = still
-    on c i a false = (drawn_like s (with_mark_drawn d) (sent c a).next refl refl (drawn_more s d after), λ u is.
-      let v : Transaction = (transacted (TxEvent.Begun (record { addr = a.peer; branch = record { superior = who.site; mark = next_mark who d } } ∷ [])) (seen who d.arcs c)).next in
-      inl (c, i, (left_is v u is).0, left_asked v u is))
+    on c i a false = (
+      drawn_like s (with_mark_drawn d) (sent c a).next refl refl (drawn_more s d after),
+      λ u is.
+          let v : Transaction = (transacted (TxEvent.Begun (record { addr = a.peer; branch = record { superior = who.site; mark = next_mark who d } } ∷ [])) (seen who d.arcs c)).next in
+          inl (c, i, (left_is v u is).0, left_asked v u is),
+    )
 
     go : (o : Option Current) → d.current ≡ o → (x : Option Arc)
         → IsAfter (elim o as (λ _. Move) [

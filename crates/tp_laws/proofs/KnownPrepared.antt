@@ -301,8 +301,13 @@ held_then who e s d a f one two after = record {
       where
         on : IsFrom who s d a w.0 → IsFrom who s d (followed a f) u
         on (inl v) =
-            inl (v.0, v.1, w.2 ∙ v.2, w.3 ∙ ap (λ (z : Bool). out_tells is_prepare_told b.outs || z) v.3 ∙ turn_over (out_tells is_prepare_told a.outs) (out_tells is_prepare_told b.outs) v.0.told_prepare
-                ∙ ap (λ (z : Bool). z || v.0.told_prepare) (sym joined))
+            inl (
+              v.0,
+              v.1,
+              w.2 ∙ v.2,
+              w.3 ∙ ap (λ (z : Bool). out_tells is_prepare_told b.outs || z) v.3 ∙ turn_over (out_tells is_prepare_told a.outs) (out_tells is_prepare_told b.outs) v.0.told_prepare
+                  ∙ ap (λ (z : Bool). z || v.0.told_prepare) (sym joined),
+            )
         on (inr n) =
             inr ((n.0.0, w.2 ∙ n.0.1, n.0.2), w.3 ∙ ap (λ (z : Bool). z || w.0.told_prepare) (late n.2 (out_tells is_prepare_told b.outs) refl) ∙ n.1, through (suc s.drawn) a.next.drawn b.next.drawn n.2 y.drawn)
 
@@ -396,8 +401,8 @@ held_begins who e s q d after = go d.current refl (find_arc d.arcs q)
           drawn = more d.drawn;
           early = λ h. absurd (cc (none, h));
           from = λ u is.
-            let v : Transaction = (transacted (TxEvent.Begun (record { addr = a.peer; branch = record { superior = who.site; mark = next_mark who d } } ∷ [])) (seen who d.arcs c)).next in
-            inl (c, i, (left_is v u is).0, left_told v u is ∙ sym (ap (λ (x : Bool). x || c.told_prepare) none));
+              let v : Transaction = (transacted (TxEvent.Begun (record { addr = a.peer; branch = record { superior = who.site; mark = next_mark who d } } ∷ [])) (seen who d.arcs c)).next in
+              inl (c, i, (left_is v u is).0, left_told v u is ∙ sym (ap (λ (x : Bool). x || c.told_prepare) none));
         }
 
     go : (o : Option Current) → d.current ≡ o → (x : Option Arc)

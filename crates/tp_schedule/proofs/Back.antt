@@ -53,6 +53,13 @@ words_back ((b ∷ w) ∷ v ∷ vs) plain =
     let behind : all_plain (v ∷ vs) ≡ true = grind (arith, nat_tests) in
     ap not_empty (pieces_before (b ∷ w) (words (v ∷ vs)) here) ∙ ap (λ (us : List (List ℕ)). (b ∷ w) ∷ us) (words_back (v ∷ vs) behind)
 
+-- an empty word at the end is none
+pub two_then_space : (v w : List ℕ) → is_plain v ≡ true → is_plain w ≡ true → words_in (words (v ∷ w ∷ [] ∷ [])) ≡ v ∷ w ∷ []
+two_then_space [] w a b = absurd cc
+two_then_space (c ∷ v) [] a b = absurd cc
+two_then_space (c ∷ v) (d ∷ w) a b =
+    ap not_empty (pieces_before (c ∷ v) ((d ∷ w) ++ (32 ∷ [])) a ∙ ap (λ (us : List (List ℕ)). (c ∷ v) ∷ us) (pieces_before (d ∷ w) [] b))
+
 -- ---- numbers
 
 digits_plain : (ds : List ℕ) → all_bytes is_digit ds ≡ true → no_space ds ≡ true
@@ -77,9 +84,9 @@ digits_end : (ds : List ℕ) (d : ℕ) → all_bytes is_digit ds ≡ true → is
 digits_end [] d front last = grind (arith, nat_tests)
 digits_end (c ∷ ds) d front last = grind (arith, nat_tests, digits_end ds d)
 
-record IsNumeral (n : ℕ) (ds : List ℕ) : Type 0 where
-  value : value_from 0 ds ≡ Some n
-  digits : all_bytes is_digit ds ≡ true
+pub record IsNumeral (n : ℕ) (ds : List ℕ) : Type 0 where
+  pub value : value_from 0 ds ≡ Some n
+  pub digits : all_bytes is_digit ds ≡ true
 
 one_digit : (n : ℕ) → n < 10 → IsNumeral n ((48 + n) ∷ [])
 one_digit n small = record { value = grind (arith, nat_tests); digits = grind (arith, nat_tests) }
@@ -97,7 +104,7 @@ more_digits n ds large front =
     one_more : (v d k : ℕ) → is_digit d ≡ true → v * 10 + (d - 48) ≡ k → value_from v (d ∷ []) ≡ Some k
     one_more v d k digit total = grind (arith, nat_tests)
 
-numeral_of : (n : ℕ) → n < 2 ^ 64 → IsNumeral n (decimal n)
+pub numeral_of : (n : ℕ) → n < 2 ^ 64 → IsNumeral n (decimal n)
 numeral_of n small = subst (λ (ds : List ℕ). IsNumeral n ds) (decimal_same n small) (decimal_by_steps IsNumeral one_digit more_digits n small)
 
 first_not_zero : (ds : List ℕ) → 0 < length ds → 48 < get_or ds 0 0 → numeral ds ≡ value_from 0 ds
@@ -105,7 +112,7 @@ first_not_zero [] some first = absurd (omega arith)
 first_not_zero (b ∷ []) some first = refl
 first_not_zero (b ∷ c ∷ bs) some first = grind (arith, nat_tests)
 
-numeral_back : (n : ℕ) → 0 < n → n < 2 ^ 64 → numeral (decimal n) ≡ Some n
+pub numeral_back : (n : ℕ) → 0 < n → n < 2 ^ 64 → numeral (decimal n) ≡ Some n
 numeral_back n some small =
     first_not_zero (decimal n)
     (subst (λ (ds : List ℕ). 0 < length ds) (decimal_same n small) (decimal_nonempty n small))
@@ -160,7 +167,7 @@ hex_back (x ∷ xs) small =
         ∙ ap (λ (o : Option ℕ). pair_value (Some (b / 16)) o) low
         ∙ ap (λ (k : ℕ). Some k) (omega arith)
 
-hex_plain : (xs : List ℕ) → all_bytes is_byte xs ≡ true → no_space (hex xs) ≡ true
+pub hex_plain : (xs : List ℕ) → all_bytes is_byte xs ≡ true → no_space (hex xs) ≡ true
 hex_plain [] small = refl
 hex_plain (x ∷ xs) small =
     let here : x < 256 = grind (arith, nat_tests) in

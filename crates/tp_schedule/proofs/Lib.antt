@@ -5,3 +5,15 @@ pub mod Readings
 pub mod Values
 pub mod Back
 pub mod LinesBack
+pub mod LineCuts
+pub mod Buffers
+pub mod LineSought
+pub mod LineSkipped
+pub mod LineHanded
+pub mod OutCut
+pub mod OutForms
+pub mod OutNumbers
+pub mod OutBack
+pub mod OutLinesBack
+pub mod OutGood
+pub mod OutSaid

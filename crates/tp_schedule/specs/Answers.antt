@@ -67,6 +67,20 @@ pair_alone (v ∷ []) = None
 pair_alone (v ∷ w ∷ []) = Some (v, w)
 pair_alone (v ∷ w ∷ x ∷ ws) = None
 
+abbrev pub three_alone : List (List ℕ) → Option (List ℕ × List ℕ × List ℕ)
+three_alone [] = None
+three_alone (u ∷ []) = None
+three_alone (u ∷ v ∷ []) = None
+three_alone (u ∷ v ∷ w ∷ []) = Some (u, v, w)
+three_alone (u ∷ v ∷ w ∷ x ∷ ws) = None
+
+-- the first three
+abbrev pub three_front : List (List ℕ) → Option (List ℕ × List ℕ × List ℕ)
+three_front [] = None
+three_front (u ∷ []) = None
+three_front (u ∷ v ∷ []) = None
+three_front (u ∷ v ∷ w ∷ ws) = Some (u, v, w)
+
 -- ---- numerals
 
 -- more than any number of a line is all the same

@@ -2,3 +2,10 @@ pub mod WordText
 pub mod Answers
 pub mod Keywords
 pub mod HasText
+pub mod AtHand
+pub mod LinesLeft
+pub mod LineCut
+pub mod OutHasText
+pub mod OutKinds
+pub mod OutWords
+pub mod OutReading

@@ -170,7 +170,7 @@ fn read_request_of(alloc: Global, kind: RequestWord, rest: &[u8]) -> Result<Line
     }
 }
 
-fn one_number(rest: &[u8]) -> Result<u16, LineFault>
+pub(crate) fn one_number(rest: &[u8]) -> Result<u16, LineFault>
     ensures { result ≡ read_as (one_word same number (words_in rest.now)) }
 {
     match only_word(rest) {

@@ -53,8 +53,8 @@ pub(crate) fn read_call(word: &[u8]) -> Result<u8, LineFault>
     Ok(call as u8)
 }
 
-// A numeral without leading zeros, from `least` to `most`.
-fn read_number_in(least: u16, most: u16, word: &[u8]) -> Result<u16, LineFault>
+/// A numeral without leading zeros, from `least` to `most`.
+pub(crate) fn read_number_in(least: u16, most: u16, word: &[u8]) -> Result<u16, LineFault>
     ensures value { result ≡ read_as (number_in least most word.now) }
     ensures within { IfOk result (λ n. n ≤ most) }
 {
@@ -92,7 +92,7 @@ fn value_of(digits: &[u8]) -> Option<u32>
     Some(value)
 }
 
-fn is_digit(byte: u8) -> bool
+pub(crate) fn is_digit(byte: u8) -> bool
     ensures { result ≡ is_digit byte }
 {
     matches!(byte, b'0'..=b'9')

@@ -145,7 +145,7 @@ fn outcome_text(outcome: Outcome) -> &'static str
     }
 }
 
-fn report_text(report: Report) -> &'static str
+pub(crate) fn report_text(report: Report) -> &'static str
     ensures { result.now ≡ report_word report }
 {
     match report {
@@ -155,7 +155,7 @@ fn report_text(report: Report) -> &'static str
     }
 }
 
-fn holder_text(holder: Holder) -> &'static str
+pub(crate) fn holder_text(holder: Holder) -> &'static str
     ensures { result.now ≡ holder_word holder }
 {
     match holder {
@@ -165,7 +165,7 @@ fn holder_text(holder: Holder) -> &'static str
     }
 }
 
-fn phase_text(phase: PhaseWord) -> &'static str
+pub(crate) fn phase_text(phase: PhaseWord) -> &'static str
     ensures { result.now ≡ phase_word phase }
 {
     match phase {
@@ -178,7 +178,7 @@ fn phase_text(phase: PhaseWord) -> &'static str
     }
 }
 
-fn fate_text(fate: RecordFate) -> &'static str
+pub(crate) fn fate_text(fate: RecordFate) -> &'static str
     ensures { result.now ≡ fate_word fate }
 {
     match fate {
