@@ -114,6 +114,10 @@ pub mod Answered
 pub mod Answerable
 pub mod OneHolder
 pub mod KinTurns
+pub mod Memberless
+pub mod Played
+pub mod Expanded
+pub mod LineRuns
 pub mod WellMoves
 pub mod WellLog
 pub mod Returns

@@ -34,3 +34,5 @@ pub mod Known
 pub mod KnownTrials
 pub mod Trials
 pub mod ArcTrials
+pub mod Expansion
+pub mod Schedules

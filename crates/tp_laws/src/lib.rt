@@ -4,6 +4,7 @@
 
 pub mod arcs;
 pub mod control;
+pub mod expansion;
 pub mod known;
 pub mod known_trials;
 pub mod outcome_trials;
