@@ -108,7 +108,7 @@ step_reply_to who e s R k from t b None d own = k.still d
 step_reply_to who e s R k from t b (Some v) d own = k.speaks d (TxOut.Recovery from (PeerRecord.RecReply t b v) ∷ []) refl (own v refl) refl refl
 
 -- the current transaction is the one that is named, and is ready
-pub ready_named : (d : Digest) (t : Aaid) (b : BranchId) (c : Current) → is_current_ready (named_by_key d (branch_key t b)) ≡ true → d.current ≡ Some c
+ready_named : (d : Digest) (t : Aaid) (b : BranchId) (c : Current) → is_current_ready (named_by_key d (branch_key t b)) ≡ true → d.current ≡ Some c
     → (is_key (node_key c.key) (branch_key t b) ≡ true) × (is_ready c.phase ≡ true)
 ready_named d t b c h i = (grind (arith, h, i), grind (arith, h, i))
 

@@ -13,7 +13,7 @@ use Rattle.tp_model.specs.declared.transaction.TxEvent.{TxEvent}
 use Rattle.tp_model.specs.declared.transaction.TxOut.{TxOut}
 use Rattle.tp_model.specs.Parts.{Who, Event, Link, Idle, Opening, Offered, Live, Arc, Root, Branch, Current, Digest}
 use Rattle.tp_model.specs.Dialogues.{is_nil, is_active, Asked, Ask_data, Ask_error, Ask_abort, Ask_grant, Ask_control, Ask_handshake, Ask_respond, Ask_handshake_grant, Ask_defer_end, Ask_defer_grant, is_chained, said, begun_by, refused_on_arc, fresh_dialogue}
-use Rattle.tp_model.specs.Arcs.{find_arc, link_with, put_arc, without_arc, with_dialogue, carried}
+use Rattle.tp_model.specs.Arcs.{find_arc, is_live_with_peer, link_with, put_arc, without_arc, with_dialogue, carried}
 use Rattle.tp_model.specs.Transactions.{is_under_at, row_holds, transacted, refused_tx, situation_of}
 use Rattle.tp_model.specs.Node.{Move, move, followed, perform, next_mark, with_mark_drawn, superior_arc, may_root, phase_of, seen_rows, seen, situation_at, Passage, passage, is_leaving, is_over, fresh_current, begin_on, begin_each, is_chained_below, chained_from, chained_peers, begin_chained, start_root, has_none, try_start, restarted, transact}
 use Rattle.tp_model.specs.Requests.{has_branch_at, refused_request, refused_at, call, accept, reject, abort, begin_transaction, do_request}
@@ -24,7 +24,7 @@ use Rattle.tp_laws.proofs.RootBegins.{named_says, chained_says}
 use Rattle.tp_laws.specs.Ends.{are_separate}
 use Rattle.tp_laws.specs.Steps.{first_begin, next_tree, next_branch, IsLike, Steps}
 use Rattle.tp_model.specs.Node.{turned}
-use Rattle.tp_laws.specs.Moves.{IsLate, is_peer, prelude, called, accepted_by, accepted_on, IsAsked, IsPut, is_took, are_spoken, are_said, said_by, By_saying, may_begin, some_leads, Moves}
+use Rattle.tp_laws.specs.Moves.{IsLate, is_peer, prelude, called, accepted_by, accepted_on, IsAsked, IsPut, is_took, are_spoken, are_said, said_by, may_put_off, By_saying, may_begin, some_leads, Moves}
 use Rattle.tp_laws.proofs.Saying.{one_said}
 
 -- ---- starts log nothing
@@ -248,16 +248,16 @@ said_itself : (p : ℕ) → ((p == p) && true) ≡ true
 said_itself p = grind (arith, nat_tests)
 
 step_speak : (who : Who) (e : Event) (s d : Digest) (R : Digest → Move → Type 0) → Steps who e s R → (p : ℕ) (a : Asked) (r : DialogueRecord) → are_spoken (TxOut.Carry p r ∷ []) ≡ true
-    → said_by e ≡ Some (p, a) → are_said e (TxOut.Carry p r ∷ []) ≡ true → R d (perform (TxOut.Carry p r ∷ []) (record d { arcs = with_dialogue d.arcs p (said a) }))
-step_speak who e s d R k p a r ok asked said_so =
-    k.changes_dialogue d p (said a) (perform (TxOut.Carry p r ∷ []) (record d { arcs = with_dialogue d.arcs p (said a) })) (By_saying a asked refl)
+    → said_by e ≡ Some (p, a) → (a ≡ Ask_defer_end → ⊥) → are_said e (TxOut.Carry p r ∷ []) ≡ true → R d (perform (TxOut.Carry p r ∷ []) (record d { arcs = with_dialogue d.arcs p (said a) }))
+step_speak who e s d R k p a r ok asked other said_so =
+    k.changes_dialogue d p (said a) (perform (TxOut.Carry p r ∷ []) (record d { arcs = with_dialogue d.arcs p (said a) })) (By_saying a asked refl (λ i. absurd (other i)))
     (k.speaks (record d { arcs = with_dialogue d.arcs p (said a) }) (TxOut.Carry p r ∷ []) ok (λ u h. absurd (cc (h)), λ z r h. absurd h) said_so refl)
 
 pub seen_branch : (arcs : List Arc) (bs : List Branch) (p : ℕ) → row_holds (seen_rows arcs bs) p (λ b. true) ≡ has_branch_at bs p
 seen_branch arcs [] p = refl
 seen_branch arcs (b ∷ bs) p = grind (arith, seen_branch arcs bs p)
 
-abort_peer : (who : Who) (d : Digest) (p : ℕ) (c : Current) → (situation_at who d p).branch ≡ true → d.current ≡ Some c → is_peer c p ≡ true
+pub abort_peer : (who : Who) (d : Digest) (p : ℕ) (c : Current) → (situation_at who d p).branch ≡ true → d.current ≡ Some c → is_peer c p ≡ true
 unfolding situation_of
 abort_peer who d p c b i =
     let one : (is_under_at c.key p || row_holds (seen_rows d.arcs c.branches) p (λ b. true)) ≡ true = rw (i, situation_at) at b in
@@ -289,11 +289,32 @@ step_user_request who d r R k late asked a ok =
     step_transact who (Event.Do r) d R k (TxEvent.User r) d (refl, refl) (λ c j. asked c)
     (λ c j. put_plain who d c (TxEvent.User r) (late c j) (λ t. ok c j) (λ p h. absurd (a p (cc (h)))) (λ h. cc (h)) (λ arcs h. cc (h))) (λ n i. absurd (cc (i)))
 
+-- the user defers an end on a live arc of an active transaction
+pub end_said : (who : Who) (d : Digest) (p : ℕ) → IsLate d → refused_request who d (Request.DeferEnd p) ≡ None → may_put_off d p ≡ true
+unfolding refused_request refused_on_arc situation_of
+end_said who d p late ok = rw (live (find_arc d.arcs p) refl, active d.current refl) refl
+  where
+    live : (o : Option Arc) → find_arc d.arcs p ≡ o → is_live_with_peer d.arcs p ≡ true
+    live None i = absurd (grind (arith, ok, i))
+    live (Some a) i = grind (arith, ok, i)
+
+    one : refused_at who d p 0 Ask_defer_end None ≡ None
+    one = ok
+
+    phase : (c : Current) → d.current ≡ Some c → (q : Phase) → c.phase ≡ q → is_active (phase_of d) ≡ true
+    phase c i Phase.Active j = rw (i, phase_of) (ap is_active j)
+    phase c i Phase.Nil j = absurd (cc (late c i, ap is_nil j))
+    phase c i q j = absurd (grind (arith, one, i, j))
+
+    active : (o : Option Current) → d.current ≡ o → is_active (phase_of d) ≡ true
+    active None i = absurd (grind (arith, one, i))
+    active (Some c) i = phase c i c.phase refl
+
 step_defer : (who : Who) (d : Digest) (r : Request) (p : ℕ) (a : Asked) (R : Digest → Move → Type 0) → Steps who (Event.Do r) d R → IsLate d → ((c : Current) → IsAsked (Event.Do r) c (TxEvent.User r)) → ((q : ℕ) → r ≡ Request.UAbort q → ⊥)
-    → ((g : Digest) (c : Current) → refused_tx (TxEvent.User r) (seen who g.arcs c) ≡ None) → said_by (Event.Do r) ≡ Some (p, a) → R d (transact who (TxEvent.User r) (record d { arcs = with_dialogue d.arcs p (said a) }))
-step_defer who d r p a R k late asked b ok by =
+    → ((g : Digest) (c : Current) → refused_tx (TxEvent.User r) (seen who g.arcs c) ≡ None) → said_by (Event.Do r) ≡ Some (p, a) → (a ≡ Ask_defer_end → may_put_off d p ≡ true) → R d (transact who (TxEvent.User r) (record d { arcs = with_dialogue d.arcs p (said a) }))
+step_defer who d r p a R k late asked b ok by off =
     let g : Digest = record d { arcs = with_dialogue d.arcs p (said a) } in
-    k.changes_dialogue d p (said a) (transact who (TxEvent.User r) g) (By_saying a by refl)
+    k.changes_dialogue d p (said a) (transact who (TxEvent.User r) g) (By_saying a by refl off)
     (step_transact who (Event.Do r) d R k (TxEvent.User r) g (refl, refl) (λ c j. asked c)
     (λ c j. put_plain who g c (TxEvent.User r) (late c j) (λ t. ok g c) (λ q h. absurd (b q (cc (h)))) (λ h. cc (h)) (λ arcs h. cc (h))) (λ n i. absurd (cc (i))))
 
@@ -335,7 +356,7 @@ user_ok who d Request.Rollback ok w c i = rw i at ok
 user_ok who d Request.Unchanged ok w c i = rw i at ok
 user_ok who d r ok w c i = absurd (grind (arith, w))
 
-pub defer_ok : (who : Who) (r : Request) → (p : ℕ) → (r ≡ Request.DeferEnd p) ⊎ (r ≡ Request.DeferGrant p) ⊎ (r ≡ Request.Prepare p) → (g : Digest) (c : Current)
+defer_ok : (who : Who) (r : Request) → (p : ℕ) → (r ≡ Request.DeferEnd p) ⊎ (r ≡ Request.DeferGrant p) ⊎ (r ≡ Request.Prepare p) → (g : Digest) (c : Current)
     → refused_tx (TxEvent.User r) (seen who g.arcs c) ≡ None
 unfolding refused_tx
 defer_ok who (Request.DeferEnd q) p w g c = refl
@@ -349,17 +370,17 @@ step_request who d (Request.BeginDialogue a u) R k late ok = step_call who d a u
 step_request who d (Request.Accept u) R k late ok = step_accept who (Event.Do (Request.Accept u)) (prelude who d (Event.Do (Request.Accept u))) d u R k (superior_arc d) refl
 step_request who d Request.Reject R k late ok = step_reject who (Event.Do Request.Reject) d d R k
 step_request who d (Request.EndDialogue p) R k late ok = k.speaks d (TxOut.Carry p DialogueRecord.EndDialogue ∷ TxOut.Close p ∷ []) refl (λ u h. absurd (cc (h)), λ z r h. absurd h) refl refl
-step_request who d (Request.UserData p xs) R k late ok = step_speak who _ d d R k p Ask_data (DialogueRecord.UserData xs) refl refl refl
-step_request who d (Request.UError p) R k late ok = step_speak who _ d d R k p Ask_error DialogueRecord.UError refl refl refl
+step_request who d (Request.UserData p xs) R k late ok = step_speak who _ d d R k p Ask_data (DialogueRecord.UserData xs) refl refl (λ i. cc (i)) refl
+step_request who d (Request.UError p) R k late ok = step_speak who _ d d R k p Ask_error DialogueRecord.UError refl refl (λ i. cc (i)) refl
 step_request who d (Request.UAbort p) R k late ok = step_abort who d p R k late ok
-step_request who d (Request.Grant p) R k late ok = step_speak who _ d d R k p Ask_grant DialogueRecord.Grant refl refl (said_itself p)
-step_request who d (Request.AskControl p) R k late ok = step_speak who _ d d R k p Ask_control DialogueRecord.AskControl refl refl refl
-step_request who d (Request.Handshake p) R k late ok = step_speak who _ d d R k p Ask_handshake DialogueRecord.Handshake refl refl refl
-step_request who d (Request.Respond p) R k late ok = step_speak who _ d d R k p Ask_respond DialogueRecord.Response refl refl refl
-step_request who d (Request.HandshakeGrant p) R k late ok = step_speak who _ d d R k p Ask_handshake_grant DialogueRecord.HandshakeGrant refl refl (said_itself p)
+step_request who d (Request.Grant p) R k late ok = step_speak who _ d d R k p Ask_grant DialogueRecord.Grant refl refl (λ i. cc (i)) (said_itself p)
+step_request who d (Request.AskControl p) R k late ok = step_speak who _ d d R k p Ask_control DialogueRecord.AskControl refl refl (λ i. cc (i)) refl
+step_request who d (Request.Handshake p) R k late ok = step_speak who _ d d R k p Ask_handshake DialogueRecord.Handshake refl refl (λ i. cc (i)) refl
+step_request who d (Request.Respond p) R k late ok = step_speak who _ d d R k p Ask_respond DialogueRecord.Response refl refl (λ i. cc (i)) refl
+step_request who d (Request.HandshakeGrant p) R k late ok = step_speak who _ d d R k p Ask_handshake_grant DialogueRecord.HandshakeGrant refl refl (λ i. cc (i)) (said_itself p)
 step_request who d (Request.BeginTransaction p) R k late ok = step_begin_request who d p R k ok
-step_request who d (Request.DeferEnd p) R k late ok = step_defer who d (Request.DeferEnd p) p Ask_defer_end R k late (λ c. refl) (λ q h. cc (h)) (λ g c. defer_ok who (Request.DeferEnd p) p (inl refl) g c) refl
-step_request who d (Request.DeferGrant p) R k late ok = step_defer who d (Request.DeferGrant p) p Ask_defer_grant R k late (λ c. refl) (λ q h. cc (h)) (λ g c. defer_ok who (Request.DeferGrant p) p (inr (inl refl)) g c) refl
+step_request who d (Request.DeferEnd p) R k late ok = step_defer who d (Request.DeferEnd p) p Ask_defer_end R k late (λ c. refl) (λ q h. cc (h)) (λ g c. defer_ok who (Request.DeferEnd p) p (inl refl) g c) refl (λ i. end_said who d p late ok)
+step_request who d (Request.DeferGrant p) R k late ok = step_defer who d (Request.DeferGrant p) p Ask_defer_grant R k late (λ c. refl) (λ q h. cc (h)) (λ g c. defer_ok who (Request.DeferGrant p) p (inr (inl refl)) g c) refl (λ i. cc (i))
 step_request who d (Request.Prepare p) R k late ok = step_user_request who d (Request.Prepare p) R k late (λ c. refl) (λ q h. cc (h)) (λ c j. defer_ok who (Request.Prepare p) p (inr (inr refl)) d c)
 step_request who d Request.Commit R k late ok = step_user_request who d Request.Commit R k late (λ c. refl) (λ q h. cc (h)) (λ c j. user_ok who d Request.Commit ok (inl refl) c j)
 step_request who d Request.Done R k late ok = step_user_request who d Request.Done R k late (λ c. refl) (λ q h. cc (h)) (λ c j. user_ok who d Request.Done ok (inr (inl refl)) c j)

@@ -12,23 +12,26 @@ use Rattle.tp_records.specs.declared.indication.Indication.{Indication}
 use Rattle.tp_records.specs.declared.dialogue.DialogueRecord.{DialogueRecord}
 use Rattle.tp_records.specs.declared.dialogue.Holder.{Holder}
 use Rattle.tp_records.specs.declared.peer.PeerRecord.{PeerRecord}
+use Rattle.tp_model.specs.declared.arc.Phase.{Phase}
 use Rattle.tp_model.specs.declared.arc.Side.{Side}
 use Rattle.tp_model.specs.declared.transaction.TxEvent.{TxEvent}
 use Rattle.tp_model.specs.declared.transaction.TxOut.{TxOut}
 use Rattle.tp_model.specs.declared.recovery.Kept.{Kept}
-use Rattle.tp_model.specs.Parts.{Who, Event, Idle, Dialogue, Arc, Under, Current, Digest}
+use Rattle.tp_model.specs.Parts.{Who, Event, Link, Idle, Live, Dialogue, Arc, Under, Current, Digest}
 use Rattle.tp_model.specs.Links.{with_one_taken}
-use Rattle.tp_model.specs.Dialogues.{Sight, Acts, Nothing_happens, Out_of_phase, Heard, Hear_data, Hear_error, Hear_grant, Hear_control, Hear_handshake, Hear_handshake_grant, Hear_response, Hear_defer_end, Hear_defer_grant, heard, cleared, woken, begun_by}
-use Rattle.tp_model.specs.Arcs.{find_arc, link_with, without_arc, with_dialogue, with_link}
+use Rattle.tp_model.specs.Dialogues.{is_active, arrived, Sight, Acts, Nothing_happens, Out_of_phase, Heard, Hear_data, Hear_error, Hear_grant, Hear_control, Hear_handshake, Hear_handshake_grant, Hear_response, Hear_defer_end, Hear_defer_grant, heard, cleared, woken, begun_by}
+use Rattle.tp_model.specs.Arcs.{find_arc, is_live_with_peer, link_with, without_arc, with_dialogue, with_link}
+use Rattle.tp_model.specs.Transactions.{situation_of}
 use Rattle.tp_model.specs.Recovery.{owed, ask_owed, tell_superior, forget_to}
-use Rattle.tp_model.specs.Node.{Move, move, perform, fresh_current, begin_chained, transact}
+use Rattle.tp_model.specs.Node.{Move, move, perform, phase_of, fresh_current, begin_chained, transact}
 use Rattle.tp_model.specs.Arrivals.{sight_at, sight_of, take_begin, take_abort, take_record, is_response, woken_by, take_on, refused_arrival}
 use Rattle.tp_laws.specs.Turns.{loses, is_outcome_told}
 use Rattle.tp_laws.proofs.Links.{link_without}
-use Rattle.tp_laws.specs.Moves.{prelude, begun_in, counted_in, are_spoken, heard_by, begun_by_record, IsChange, By_waking, By_hearing, By_beginning, By_leaving}
+use Rattle.tp_laws.specs.Moves.{prelude, begun_in, counted_in, are_spoken, heard_by, begun_by_record, may_put_off, IsChange, By_waking, By_hearing, By_beginning, By_leaving}
 use Rattle.tp_laws.specs.Moves.{IsLate}
 use Rattle.tp_laws.specs.Steps.{carries_last, carry_last, IsLike, Steps}
 use Rattle.tp_laws.proofs.EveryMove.{step_chained, step_transact}
+use Rattle.tp_laws.proofs.Alike.{counted_alike}
 
 -- ---- what is said in recovery
 
@@ -95,10 +98,10 @@ step_took who from x y q r s R k late p at d same gone =
     gone
 
 step_hear : (who : Who) (e : Event) (s : Digest) (R : Digest → Move → Type 0) → Steps who e s R → (p : ℕ) (h : Heard) (i : Indication) (d : Digest) → is_outcome_told i ≡ false
-    → heard_by e ≡ Some (p, h) → R d (perform (TxOut.Tell i ∷ []) (record d { arcs = with_dialogue d.arcs p (heard h) }))
-step_hear who e s R k p h i d none by =
+    → heard_by e ≡ Some (p, h) → (h ≡ Hear_defer_end → ⊥) → R d (perform (TxOut.Tell i ∷ []) (record d { arcs = with_dialogue d.arcs p (heard h) }))
+step_hear who e s R k p h i d none by other =
     let g : Digest = record d { arcs = with_dialogue d.arcs p (heard h) } in
-    k.changes_dialogue d p (heard h) (perform (TxOut.Tell i ∷ []) g) (By_hearing h by refl) (k.speaks g (TxOut.Tell i ∷ []) (rw none refl) (λ u h. absurd (cc (h)), λ z r h. absurd h) refl refl)
+    k.changes_dialogue d p (heard h) (perform (TxOut.Tell i ∷ []) g) (By_hearing h by refl (λ j. absurd (other j))) (k.speaks g (TxOut.Tell i ∷ []) (rw none refl) (λ u h. absurd (cc (h)), λ z r h. absurd h) refl refl)
 
 step_abort_taken : (who : Who) (from : Addr) (x y : Mark) (q : ℕ) (s : Digest) (R : Digest → Move → Type 0) → Steps who (the from x y q DialogueRecord.UAbort) s R → IsLate s → (p : ℕ) → p ≡ from.node
     → (d : Digest) → IsLike d s → R d (take_abort who p d)
@@ -116,7 +119,7 @@ step_abort_taken who from x y q s R k late p at d same = k.drops_arc d p (take_a
     go (Some c) i = step_took who from x y q DialogueRecord.UAbort s R k late p at g same (λ n h. gone_arc n (grind (arith, nat_tests, h)))
 
 step_deferred : (who : Who) (from : Addr) (x y : Mark) (q : ℕ) (r : DialogueRecord) (s : Digest) (R : Digest → Move → Type 0) → Steps who (the from x y q r) s R → IsLate s → (p : ℕ) → p ≡ from.node
-    → (f : Dialogue → Dialogue) (d : Digest) → IsLike d s → ((n : ℕ) → loses (TxEvent.Took p r) n ≡ true → ⊥) → IsChange (the from x y q r) p f → R d (transact who (TxEvent.Took p r) (record d { arcs = with_dialogue d.arcs p f }))
+    → (f : Dialogue → Dialogue) (d : Digest) → IsLike d s → ((n : ℕ) → loses (TxEvent.Took p r) n ≡ true → ⊥) → IsChange (the from x y q r) d p f → R d (transact who (TxEvent.Took p r) (record d { arcs = with_dialogue d.arcs p f }))
 step_deferred who from x y q r s R k late p at f d same none by =
     let g : Digest = record d { arcs = with_dialogue d.arcs p f } in
     k.changes_dialogue d p f (transact who (TxEvent.Took p r) g) by (step_took who from x y q r s R k late p at g same (λ n h. absurd (none n h)))
@@ -186,29 +189,29 @@ step_on_begin who d from x y q t b h R k ok (Some a) i = go (sight_at who d a r)
 
 step_taken : (who : Who) (from : Addr) (x y : Mark) (q : ℕ) (r : DialogueRecord) (s : Digest) (R : Digest → Move → Type 0) → Steps who (the from x y q r) s R → IsLate s
     → (a : Arc) → a.peer.node ≡ from.node → ((t : Aaid) (b : BranchId) (h : Holder) → r ≡ DialogueRecord.Begin t b h → ⊥)
-    → (d : Digest) → IsLike d s → R d (take_record who a r d)
-step_taken who from x y q DialogueRecord.EndDialogue s R k late a at begins d same = k.speaks d (TxOut.Tell (Indication.EndDialogue a.peer.node) ∷ TxOut.Close a.peer.node ∷ []) refl (λ u h. absurd (cc (h)), λ z r h. absurd h) refl refl
-step_taken who from x y q (DialogueRecord.UserData xs) s R k late a at begins d same = step_hear who _ s R k a.peer.node Hear_data (Indication.UserData a.peer.node xs) d refl (ap (λ (n : ℕ). Some (n, Hear_data)) (sym at))
-step_taken who from x y q DialogueRecord.UError s R k late a at begins d same = step_hear who _ s R k a.peer.node Hear_error (Indication.UError a.peer.node) d refl (ap (λ (n : ℕ). Some (n, Hear_error)) (sym at))
-step_taken who from x y q DialogueRecord.UAbort s R k late a at begins d same = step_abort_taken who from x y q s R k late a.peer.node at d same
-step_taken who from x y q DialogueRecord.Grant s R k late a at begins d same = step_hear who _ s R k a.peer.node Hear_grant (Indication.Grant a.peer.node) d refl (ap (λ (n : ℕ). Some (n, Hear_grant)) (sym at))
-step_taken who from x y q DialogueRecord.AskControl s R k late a at begins d same = step_hear who _ s R k a.peer.node Hear_control (Indication.AskControl a.peer.node) d refl (ap (λ (n : ℕ). Some (n, Hear_control)) (sym at))
-step_taken who from x y q DialogueRecord.Handshake s R k late a at begins d same = step_hear who _ s R k a.peer.node Hear_handshake (Indication.Handshake a.peer.node) d refl (ap (λ (n : ℕ). Some (n, Hear_handshake)) (sym at))
-step_taken who from x y q DialogueRecord.HandshakeGrant s R k late a at begins d same = step_hear who _ s R k a.peer.node Hear_handshake_grant (Indication.HandshakeGrant a.peer.node) d refl (ap (λ (n : ℕ). Some (n, Hear_handshake_grant)) (sym at))
-step_taken who from x y q DialogueRecord.Response s R k late a at begins d same = step_hear who _ s R k a.peer.node Hear_response (Indication.HandshakeConfirm a.peer.node) d refl (ap (λ (n : ℕ). Some (n, Hear_response)) (sym at))
-step_taken who from x y q DialogueRecord.DeferEnd s R k late a at begins d same = step_deferred who from x y q DialogueRecord.DeferEnd s R k late a.peer.node at (heard Hear_defer_end) d same (λ n i. absurd (cc (i))) (By_hearing Hear_defer_end (ap (λ (n : ℕ). Some (n, Hear_defer_end)) (sym at)) refl)
-step_taken who from x y q DialogueRecord.DeferGrant s R k late a at begins d same = step_deferred who from x y q DialogueRecord.DeferGrant s R k late a.peer.node at (heard Hear_defer_grant) d same (λ n i. absurd (cc (i))) (By_hearing Hear_defer_grant (ap (λ (n : ℕ). Some (n, Hear_defer_grant)) (sym at)) refl)
-step_taken who from x y q (DialogueRecord.Begin t b h) s R k late a at begins d same = absurd (begins t b h refl)
-step_taken who from x y q DialogueRecord.Left s R k late a at begins d same = step_deferred who from x y q DialogueRecord.Left s R k late a.peer.node at cleared d same (λ n i. absurd (cc (i))) (By_leaving (ap (λ (n : ℕ). Some n) (sym at)) refl)
-step_taken who from x y q DialogueRecord.LeftEnd s R k late a at begins d same = step_deferred who from x y q DialogueRecord.LeftEnd s R k late a.peer.node at cleared d same (λ n i. absurd (cc (i))) (By_leaving (ap (λ (n : ℕ). Some n) (sym at)) refl)
-step_taken who from x y q DialogueRecord.Prepare s R k late a at begins d same = step_took who from x y q DialogueRecord.Prepare s R k late a.peer.node at d same (λ n i. absurd (cc (i)))
-step_taken who from x y q DialogueRecord.Ready s R k late a at begins d same = step_took who from x y q DialogueRecord.Ready s R k late a.peer.node at d same (λ n i. absurd (cc (i)))
-step_taken who from x y q DialogueRecord.Commit s R k late a at begins d same = step_took who from x y q DialogueRecord.Commit s R k late a.peer.node at d same (λ n i. absurd (cc (i)))
-step_taken who from x y q (DialogueRecord.Done r) s R k late a at begins d same = step_took who from x y q (DialogueRecord.Done r) s R k late a.peer.node at d same (λ n i. absurd (cc (i)))
-step_taken who from x y q DialogueRecord.Rollback s R k late a at begins d same = step_took who from x y q DialogueRecord.Rollback s R k late a.peer.node at d same (λ n i. absurd (cc (i)))
-step_taken who from x y q (DialogueRecord.RolledBack r) s R k late a at begins d same = step_took who from x y q (DialogueRecord.RolledBack r) s R k late a.peer.node at d same (λ n i. absurd (cc (i)))
+    → (d : Digest) → IsLike d s → (r ≡ DialogueRecord.DeferEnd → may_put_off d a.peer.node ≡ true) → R d (take_record who a r d)
+step_taken who from x y q DialogueRecord.EndDialogue s R k late a at begins d same off = k.speaks d (TxOut.Tell (Indication.EndDialogue a.peer.node) ∷ TxOut.Close a.peer.node ∷ []) refl (λ u h. absurd (cc (h)), λ z r h. absurd h) refl refl
+step_taken who from x y q (DialogueRecord.UserData xs) s R k late a at begins d same off = step_hear who _ s R k a.peer.node Hear_data (Indication.UserData a.peer.node xs) d refl (ap (λ (n : ℕ). Some (n, Hear_data)) (sym at)) (λ i. cc (i))
+step_taken who from x y q DialogueRecord.UError s R k late a at begins d same off = step_hear who _ s R k a.peer.node Hear_error (Indication.UError a.peer.node) d refl (ap (λ (n : ℕ). Some (n, Hear_error)) (sym at)) (λ i. cc (i))
+step_taken who from x y q DialogueRecord.UAbort s R k late a at begins d same off = step_abort_taken who from x y q s R k late a.peer.node at d same
+step_taken who from x y q DialogueRecord.Grant s R k late a at begins d same off = step_hear who _ s R k a.peer.node Hear_grant (Indication.Grant a.peer.node) d refl (ap (λ (n : ℕ). Some (n, Hear_grant)) (sym at)) (λ i. cc (i))
+step_taken who from x y q DialogueRecord.AskControl s R k late a at begins d same off = step_hear who _ s R k a.peer.node Hear_control (Indication.AskControl a.peer.node) d refl (ap (λ (n : ℕ). Some (n, Hear_control)) (sym at)) (λ i. cc (i))
+step_taken who from x y q DialogueRecord.Handshake s R k late a at begins d same off = step_hear who _ s R k a.peer.node Hear_handshake (Indication.Handshake a.peer.node) d refl (ap (λ (n : ℕ). Some (n, Hear_handshake)) (sym at)) (λ i. cc (i))
+step_taken who from x y q DialogueRecord.HandshakeGrant s R k late a at begins d same off = step_hear who _ s R k a.peer.node Hear_handshake_grant (Indication.HandshakeGrant a.peer.node) d refl (ap (λ (n : ℕ). Some (n, Hear_handshake_grant)) (sym at)) (λ i. cc (i))
+step_taken who from x y q DialogueRecord.Response s R k late a at begins d same off = step_hear who _ s R k a.peer.node Hear_response (Indication.HandshakeConfirm a.peer.node) d refl (ap (λ (n : ℕ). Some (n, Hear_response)) (sym at)) (λ i. cc (i))
+step_taken who from x y q DialogueRecord.DeferEnd s R k late a at begins d same off = step_deferred who from x y q DialogueRecord.DeferEnd s R k late a.peer.node at (heard Hear_defer_end) d same (λ n i. absurd (cc (i))) (By_hearing Hear_defer_end (ap (λ (n : ℕ). Some (n, Hear_defer_end)) (sym at)) refl (λ i. off refl))
+step_taken who from x y q DialogueRecord.DeferGrant s R k late a at begins d same off = step_deferred who from x y q DialogueRecord.DeferGrant s R k late a.peer.node at (heard Hear_defer_grant) d same (λ n i. absurd (cc (i))) (By_hearing Hear_defer_grant (ap (λ (n : ℕ). Some (n, Hear_defer_grant)) (sym at)) refl (λ i. cc (i)))
+step_taken who from x y q (DialogueRecord.Begin t b h) s R k late a at begins d same off = absurd (begins t b h refl)
+step_taken who from x y q DialogueRecord.Left s R k late a at begins d same off = step_deferred who from x y q DialogueRecord.Left s R k late a.peer.node at cleared d same (λ n i. absurd (cc (i))) (By_leaving (ap (λ (n : ℕ). Some n) (sym at)) refl)
+step_taken who from x y q DialogueRecord.LeftEnd s R k late a at begins d same off = step_deferred who from x y q DialogueRecord.LeftEnd s R k late a.peer.node at cleared d same (λ n i. absurd (cc (i))) (By_leaving (ap (λ (n : ℕ). Some n) (sym at)) refl)
+step_taken who from x y q DialogueRecord.Prepare s R k late a at begins d same off = step_took who from x y q DialogueRecord.Prepare s R k late a.peer.node at d same (λ n i. absurd (cc (i)))
+step_taken who from x y q DialogueRecord.Ready s R k late a at begins d same off = step_took who from x y q DialogueRecord.Ready s R k late a.peer.node at d same (λ n i. absurd (cc (i)))
+step_taken who from x y q DialogueRecord.Commit s R k late a at begins d same off = step_took who from x y q DialogueRecord.Commit s R k late a.peer.node at d same (λ n i. absurd (cc (i)))
+step_taken who from x y q (DialogueRecord.Done r) s R k late a at begins d same off = step_took who from x y q (DialogueRecord.Done r) s R k late a.peer.node at d same (λ n i. absurd (cc (i)))
+step_taken who from x y q DialogueRecord.Rollback s R k late a at begins d same off = step_took who from x y q DialogueRecord.Rollback s R k late a.peer.node at d same (λ n i. absurd (cc (i)))
+step_taken who from x y q (DialogueRecord.RolledBack r) s R k late a at begins d same off = step_took who from x y q (DialogueRecord.RolledBack r) s R k late a.peer.node at d same (λ n i. absurd (cc (i)))
 
-woken_current : (r : DialogueRecord) (p : ℕ) (d : Digest) → IsLike (woken_by r p d) d
+pub woken_current : (r : DialogueRecord) (p : ℕ) (d : Digest) → IsLike (woken_by r p d) d
 woken_current r p d = (grind arith, grind arith)
 
 -- a record that is no response wakes its arc
@@ -221,11 +224,41 @@ woken_step who e s R k r p d m one = go (is_response r) refl
         let same : woken_by r p d ≡ record d { arcs = with_dialogue d.arcs p woken } = rw i refl in
         k.changes_dialogue d p woken m (By_waking refl) (subst (λ (u : Digest). R u m) same one)
 
+-- the superior defers an end of an active transaction
+pub end_heard : (who : Who) (d : Digest) (a : Arc) → sight_at who d a DialogueRecord.DeferEnd ≡ Acts → is_active (phase_of d) ≡ true
+unfolding sight_of arrived situation_of
+end_heard who d a acts = go d.current refl
+  where
+    phase : (c : Current) → d.current ≡ Some c → (q : Phase) → c.phase ≡ q → is_active (phase_of d) ≡ true
+    phase c i Phase.Active j = rw (i, phase_of) (ap is_active j)
+    phase c i q j = absurd (grind (arith, acts, i, j))
+
+    go : (o : Option Current) → d.current ≡ o → is_active (phase_of d) ≡ true
+    go None i = absurd (grind (arith, acts, i))
+    go (Some c) i = phase c i c.phase refl
+
+-- a record is taken on a live arc
+pub on_live : (who : Who) (d : Digest) (from : Addr) (x y : Mark) (q : ℕ) (r : DialogueRecord) → refused_arrival who d from (PeerRecord.OnAssoc x y q r) ≡ None → is_live_with_peer d.arcs from.node ≡ true
+unfolding refused_arrival
+on_live who d from x y q r ok = go (find_arc d.arcs from.node) refl
+  where
+    on : (a : Arc) (l : Link) → find_arc d.arcs from.node ≡ Some a → a.link ≡ l → is_live_with_peer d.arcs from.node ≡ true
+    on a (Live z w s t) i j = grind (arith, i, j)
+    on a l i j = absurd (grind (arith, ok, i, j))
+
+    go : (o : Option Arc) → find_arc d.arcs from.node ≡ o → is_live_with_peer d.arcs from.node ≡ true
+    go None i = absurd (grind (arith, ok, i))
+    go (Some a) i = on a a.link i refl
+
+-- it is counted first, and wakes the arc
+still_put_off : (d : Digest) (p : ℕ) → is_live_with_peer d.arcs p ≡ true → is_active (phase_of d) ≡ true → may_put_off (woken_by DialogueRecord.DeferEnd p (record d { arcs = with_link d.arcs p with_one_taken })) p ≡ true
+still_put_off d p live active = ap (λ (b : Bool). b && is_active (phase_of d)) ((counted_alike d.arcs p p).live ∙ live) ∙ active
+
 step_on : (who : Who) (d : Digest) (from : Addr) (x y : Mark) (q : ℕ) (r : DialogueRecord) (R : Digest → Move → Type 0) → Steps who (the from x y q r) (counted_in d from) R → IsLate d
-    → ((t : Aaid) (b : BranchId) (h : Holder) → r ≡ DialogueRecord.Begin t b h → ⊥) → (a : Arc) → a.peer.node ≡ from.node → R (counted_in d from) (take_on who a r d)
-step_on who d from x y q r R k late other a at =
+    → ((t : Aaid) (b : BranchId) (h : Holder) → r ≡ DialogueRecord.Begin t b h → ⊥) → (a : Arc) → a.peer.node ≡ from.node → is_live_with_peer d.arcs from.node ≡ true → R (counted_in d from) (take_on who a r d)
+step_on who d from x y q r R k late other a at live =
     subst (λ (n : ℕ). R (record d { arcs = with_link d.arcs n with_one_taken }) (take_on who a r d)) at
-    (woken_step who _ _ R k r p g (take_on who a r d) (on (woken_by r p g) (woken_current r p g) (sight_at who d a r) refl))
+    (woken_step who _ _ R k r p g (take_on who a r d) (on (sight_at who d a r) refl))
   where
     p : ℕ
     p = a.peer.node
@@ -233,10 +266,18 @@ step_on who d from x y q r R k late other a at =
     g : Digest
     g = record d { arcs = with_link d.arcs p with_one_taken }
 
-    on : (u : Digest) → IsLike u d → (v : Sight) → sight_at who d a r ≡ v → R u (elim v as (λ _. Move) [ Acts ↦ take_record who a r u | Nothing_happens ↦ move [] u | Out_of_phase ↦ move [] u ])
-    on u same Acts i = step_taken who from x y q r (counted_in d from) R k late a at other u same
-    on u same Nothing_happens i = k.still u
-    on u same Out_of_phase i = k.still u
+    u : Digest
+    u = woken_by r p g
+
+    off : sight_at who d a r ≡ Acts → r ≡ DialogueRecord.DeferEnd → may_put_off u p ≡ true
+    off acts is =
+        let heard : sight_at who d a DialogueRecord.DeferEnd ≡ Acts = subst (λ (w : DialogueRecord). sight_at who d a w ≡ Acts) is acts in
+        subst (λ (w : DialogueRecord). may_put_off (woken_by w p g) p ≡ true) (sym is) (still_put_off d p (ap (is_live_with_peer d.arcs) at ∙ live) (end_heard who d a heard))
+
+    on : (v : Sight) → sight_at who d a r ≡ v → R u (elim v as (λ _. Move) [ Acts ↦ take_record who a r u | Nothing_happens ↦ move [] u | Out_of_phase ↦ move [] u ])
+    on Acts i = step_taken who from x y q r (counted_in d from) R k late a at other u (woken_current r p g) (off i)
+    on Nothing_happens i = k.still u
+    on Out_of_phase i = k.still u
 
 pub step_on_other : (who : Who) (d : Digest) (from : Addr) (x y : Mark) (q : ℕ) (r : DialogueRecord) (R : Digest → Move → Type 0) → Steps who (the from x y q r) (counted_in d from) R → IsLate d
     → ((t : Aaid) (b : BranchId) (h : Holder) → r ≡ DialogueRecord.Begin t b h → ⊥) → refused_arrival who d from (PeerRecord.OnAssoc x y q r) ≡ None
@@ -245,4 +286,4 @@ step_on_other who d from x y q r R k late other ok = go (find_arc d.arcs from.no
   where
     go : (o : Option Arc) → find_arc d.arcs from.node ≡ o → R (counted_in d from) (elim o as (λ _. Move) [ None ↦ move [] d | Some a ↦ take_on who a r d ])
     go None i = absurd (on_none who d from x y q r ok i)
-    go (Some a) i = step_on who d from x y q r R k late other a (find_arc_is d.arcs from.node a i)
+    go (Some a) i = step_on who d from x y q r R k late other a (find_arc_is d.arcs from.node a i) (on_live who d from x y q r ok)

@@ -295,8 +295,8 @@ holding_moves who e s p sup fall shut none above h = record {
     superior_there : (d : Digest) → d.superior ≡ s.superior → is_live (link_with s.arcs p) ≡ true → is_superior d p ≡ true
     superior_there d up live = ap (λ (o : Option Addr). elim o [ None ↦ false | Some a ↦ a.node == p ]) up ∙ above.superior live
 
-    changed : (d : Digest) (q : ℕ) (f : Dialogue → Dialogue) → IsChange e q f → Gains g p d.arcs (with_dialogue d.arcs q f)
-    changed d q f by = gains_dialogue g d.arcs q f p (λ same x now. let eq : q ≡ p = grind (arith, nat_tests, same) in subst (λ (n : ℕ). (is_holding x || gains_at e n) ≡ true) eq (change_gains e q f by x now))
+    changed : (d : Digest) (q : ℕ) (f : Dialogue → Dialogue) → IsChange e d q f → Gains g p d.arcs (with_dialogue d.arcs q f)
+    changed d q f by = gains_dialogue g d.arcs q f p (λ same x now. let eq : q ≡ p = grind (arith, nat_tests, same) in subst (λ (n : ℕ). (is_holding x || gains_at e n) ≡ true) eq (change_gains e d q f by x now))
 
     key_stays : (f : TxEvent) (t : Transaction) → IsPut f t → (transacted f t).next.key ≡ t.key
     key_stays f t put = (passed_turn f t put).key

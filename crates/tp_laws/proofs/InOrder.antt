@@ -7,20 +7,21 @@ use Rattle.tp_model.specs.declared.arc.Phase.{Phase}
 use Rattle.tp_model.specs.declared.arc.Side.{Side}
 use Rattle.tp_model.specs.declared.transaction.TxEvent.{TxEvent}
 use Rattle.tp_model.specs.declared.transaction.TxOut.{TxOut}
-use Rattle.tp_model.specs.Parts.{Who, Arc, Key, Root, Branch, Current, Digest}
+use Rattle.tp_model.specs.Parts.{Who, Arc, Key, Branch, Current, Digest}
 use Rattle.tp_model.specs.Dialogues.{is_nil, is_active, is_rolling, begun_by, named_holder}
 use Rattle.tp_model.specs.Arcs.{find_arc, is_live_with_peer, with_dialogue, performed}
 use Rattle.tp_model.specs.Transactions.{Transaction, Turn, aaid_of, is_under_at, row_holds, situation_of, transacted}
 use Rattle.tp_model.specs.Requests.{has_branch_at}
-use Rattle.tp_model.specs.Node.{Move, move, followed, perform, next_mark, with_mark_drawn, phase_of, is_end_deferred_at, seen_rows, seen, Passage, Falls, passage, is_leaving, is_over, is_arc_of, entered, played, with_begun, may_begin_on, begin_on, begin_each, chained_peers, begin_chained, start_root, has_none, may_root, try_start, fresh_current, restarted, passed, turned, transact}
+use Rattle.tp_model.specs.Node.{Move, move, perform, next_mark, with_mark_drawn, phase_of, is_end_deferred_at, seen_rows, seen, Passage, Falls, passage, is_leaving, is_arc_of, entered, played, with_begun, may_begin_on, begin_on, fresh_current, turned}
 use Rattle.tp_model.specs.AmongArcs.{are_distinct, is_peer, IsAmongArcs}
 use Rattle.tp_laws.specs.Moves.{IsPut}
 use Rattle.tp_laws.specs.Passages.{may_move, IsPassed}
 use Rattle.tp_laws.proofs.EveryMove.{seen_branch}
+use Rattle.tp_laws.proofs.Rolls.{phase_at}
 use Rattle.tp_laws.proofs.Passed.{passed_turn}
 use Rattle.tp_laws.proofs.KinTurns.{kin, kids_seen, kids_left, kids_more, kin_turn}
 use Rattle.tp_laws.proofs.Sound.{left_is, left_branches}
-use Rattle.tp_laws.proofs.Fading.{FadesAt, Fades, fades_self, fades_then, fades_dialogue, keeps_begun, fades_performed, fades_entered, fades_played, forgets_all}
+use Rattle.tp_laws.proofs.Fading.{FadesAt, Fades, fades_then, fades_dialogue, keeps_begun, fades_performed, fades_entered, fades_played, forgets_all}
 
 -- ---- a node in order
 
@@ -204,9 +205,7 @@ new_peer who d c a i j =
     grind (arith, i, j, two)
 
 active_now : (who : Who) (d : Digest) (c : Current) (a : Arc) → d.current ≡ Some c → not (may_begin_on who d a) ≡ false → is_active c.phase ≡ true
-active_now who d c a i j =
-    let active : is_active (phase_of d) ≡ true = grind (arith, j) in
-    ap (λ (o : Option Current). is_active (elim o as (λ _. Phase) [ None ↦ Phase.Nil | Some x ↦ x.phase ])) (sym i) ∙ active
+active_now who d c a i j = let active : is_active (phase_of d) ≡ true = grind (arith, j) in ap is_active (sym (phase_at d c i)) ∙ active
 
 abbrev begun_child : Who → Digest → Arc → Child
 begun_child who d a = record { addr = a.peer; branch = record { superior = who.site; mark = next_mark who d } }
@@ -286,39 +285,3 @@ begin_in_order who q d o = go d.current refl (find_arc d.arcs q)
     go None i x = o
     go (Some c) i None = o
     go (Some c) i (Some a) = on c i a (not (may_begin_on who d a)) refl
-
-each_in_order : (who : Who) (ps : List ℕ) (d : Digest) → IsInOrder d → IsInOrder (begin_each who ps d).next
-each_in_order who [] d o = o
-each_in_order who (p ∷ ps) d o = each_in_order who ps (begin_on who p d).next (begin_in_order who p d o)
-
-pub chained_in_order : (who : Who) (d : Digest) → IsInOrder d → IsInOrder (begin_chained who d).next
-chained_in_order who d o = each_in_order who (chained_peers who d) d o
-
-pub root_in_order : (who : Who) (named : List ℕ) (d : Digest) → IsInOrder d → IsInOrder (start_root who named d).next
-unfolding start_root
-root_in_order who named d o =
-    let k : Key = Root (record { owner = who.site; mark = next_mark who d }) in
-    let g : Digest = record (with_mark_drawn d) { current = Some (fresh_current k) } in
-    chained_in_order who (begin_each who named g).next (each_in_order who named g (fresh_in_order d g k refl (fades_self d.arcs) o))
-
-pub start_in_order : (who : Who) (d : Digest) → IsInOrder d → IsInOrder (try_start who d).next
-unfolding try_start
-start_in_order who d o = go (is_nil (phase_of d) && may_root d && not (has_none (chained_peers who d)))
-  where
-    go : (b : Bool) → IsInOrder (if b then start_root who [] d else move [] d).next
-    go true = root_in_order who [] d o
-    go false = o
-
--- ---- an event of the transaction, with the next one
-
-pub transact_in_order : (who : Who) (f : TxEvent) (d : Digest) → ((c : Current) → d.current ≡ Some c → IsPut f (seen who d.arcs c)) → IsInOrder d → IsInOrder (transact who f d).next
-unfolding transact
-transact_in_order who f d put o = go d.current refl
-  where
-    over : (c : Current) (w : Passage) → IsInOrder (turned who f d c).next → (b : Bool) → IsInOrder (if b then followed (turned who f d c) (try_start who) else turned who f d c).next
-    over c w one true = start_in_order who (turned who f d c).next one
-    over c w one false = one
-
-    go : (v : Option Current) → d.current ≡ v → IsInOrder (elim v as (λ _. Move) [ None ↦ move [] d | Some c ↦ restarted who (passed who f d c) (turned who f d c) ]).next
-    go None i = o
-    go (Some c) i = over c (passed who f d c) (turned_in_order who f d c i (put c i) o) (is_over (passed who f d c))

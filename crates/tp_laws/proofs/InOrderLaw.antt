@@ -25,7 +25,7 @@ use Rattle.tp_laws.proofs.Good.{good_run}
 use Rattle.tp_laws.proofs.Starts.{all_legal}
 use Rattle.tp_laws.proofs.WellLog.{restart_is_crash}
 use Rattle.tp_laws.proofs.InOrder.{IsInOrder}
-use Rattle.tp_laws.proofs.InOrderEvents.{crash_in_order, event_in_order}
+use Rattle.tp_laws.proofs.InOrderMoves.{crash_in_order, event_in_order}
 
 -- ---- the superior is no branch, by its number
 

@@ -1,60 +1,44 @@
 -- In every legal history the current transaction was asked for commitment if the user asked since its key was begun, and
 -- since the last crash.
-use Rattle.std.proofs.Common.{if◌then◌else◌, ◌≡◌, ◌≤◌, ◌⊎◌, inl, inr, ℕ, suc, Bool, true, false, refl, ap, sym, subst, ◌∙◌, arith, Option, Some, None, List, [], ◌∷◌, ◌||◌, ◌&&◌, not}
-use Rattle.tp_names.specs.declared.identifiers.Aaid.{Aaid}
-use Rattle.tp_names.specs.declared.identifiers.BranchId.{BranchId}
+use Rattle.std.proofs.Common.{if◌then◌else◌, ◌≡◌, ◌≤◌, ◌⊎◌, inl, inr, ℕ, suc, Bool, true, false, refl, ap, sym, subst, ◌∙◌, arith, Option, Some, None, List, [], ◌∷◌, not}
 use Rattle.tp_names.specs.declared.identifiers.Addr.{Addr}
 use Rattle.tp_names.specs.declared.identifiers.NodeKey.{NodeKey}
 use Rattle.tp_names.specs.declared.outcome.Report.{Report}
-use Rattle.tp_names.specs.Same.{is_key}
 use Rattle.tp_records.specs.declared.request.Request.{Request}
 use Rattle.tp_records.specs.declared.dialogue.DialogueRecord.{DialogueRecord}
 use Rattle.tp_records.specs.declared.peer.PeerRecord.{PeerRecord}
 use Rattle.tp_records.specs.declared.peer.RecState.{RecState}
-use Rattle.tp_model.specs.declared.arc.Phase.{Phase}
 use Rattle.tp_model.specs.declared.arc.Side.{Side}
 use Rattle.tp_model.specs.declared.transaction.TxEvent.{TxEvent}
 use Rattle.tp_model.specs.declared.transaction.TxOut.{TxOut}
-use Rattle.tp_model.specs.Parts.{Who, Origin, Event, Entry, Arc, Key, Root, Under, Current, Digest}
-use Rattle.tp_model.specs.Dialogues.{is_nil, is_active, begun_by, named_holder}
+use Rattle.tp_model.specs.Parts.{Who, Origin, Event, Entry, Arc, Key, Root, Current, Digest}
+use Rattle.tp_model.specs.Dialogues.{is_nil, begun_by, named_holder}
 use Rattle.tp_model.specs.Arcs.{find_arc, without_arc, with_dialogue}
 use Rattle.tp_model.specs.Recovery.{settled}
-use Rattle.tp_model.specs.Transactions.{Row, Transaction, Turn, aaid_of, node_key, is_under, is_under_at, find_row, with_row, with_arc_lost, all_settled, all_done, all_rolled_back, complete_commit, complete_rollback, begin_rolling, order, settle, ask_commit, leave, count_branch, end_branch, branch_left, transacted}
+use Rattle.tp_model.specs.Transactions.{Row, Transaction, Turn, aaid_of, node_key, with_row, with_arc_lost, complete_commit, complete_rollback, begin_rolling, order, settle, ask_commit, leave, count_branch, end_branch, branch_left, transacted}
 use Rattle.tp_model.specs.Node.{Move, move, followed, perform, next_mark, with_mark_drawn, seen, remaining, with_begun, may_begin_on, begin_on, is_over, is_leaving, passage, try_start, restarted, transact, fresh_current, turned, keep}
-use Rattle.tp_model.specs.Questions.{is_crash, boot_in, drawn_in}
-use Rattle.tp_model.specs.Outcomes.{rolls, is_unchanged, is_commit_request}
-use Rattle.tp_model.specs.Keys.{logs_of, begun_by_peer, begins, asked_in}
+use Rattle.tp_model.specs.Outcomes.{is_commit_request}
+use Rattle.tp_model.specs.Keys.{begun_by_peer, asked_in}
 use Rattle.tp_model.specs.History.{digest}
-use Rattle.tp_model.specs.Events.{refusal, action, named_again, recovered, recovered_current}
+use Rattle.tp_model.specs.Events.{refusal, action}
 use Rattle.tp_model.specs.Consistency.{same_bool}
 use Rattle.tp_model.specs.Legal.{IsLegal}
 use Rattle.tp_laws.specs.Turns.{row_dead}
 use Rattle.tp_laws.specs.TurnSteps.{TurnSteps}
 use Rattle.tp_laws.specs.Moves.{Moves, IsPut, IsAsked, prelude}
-use Rattle.tp_laws.specs.Steps.{first_begin}
 use Rattle.tp_laws.specs.Traces.{is_old}
 use Rattle.tp_laws.specs.Known.{asked_agrees}
-use Rattle.tp_laws.specs.Restart.{IsFounded}
 use Rattle.tp_laws.proofs.EveryTurn.{step_turn}
 use Rattle.tp_laws.proofs.EveryMove.{plain_steps, step_start}
 use Rattle.tp_laws.proofs.EveryEvent.{every_move}
 use Rattle.tp_laws.proofs.Marks.{new_mark, Drawn, Same_boot, Later_boot, old_stays}
 use Rattle.tp_laws.proofs.Sound.{left_is}
-use Rattle.tp_laws.proofs.SoundMoves.{IsSound}
-use Rattle.tp_laws.proofs.SoundLog.{sound_first}
-use Rattle.tp_laws.proofs.StartLog.{sound_start}
-use Rattle.tp_laws.proofs.WellLog.{founded_by}
 use Rattle.tp_laws.proofs.Late.{late_law}
-use Rattle.tp_laws.proofs.TurnLog.{key_self}
 use Rattle.tp_laws.proofs.Passed.{passed_turn}
-use Rattle.tp_laws.proofs.Course.{PhaseStep, tree_at, branch_at, Course, Free, Held, Closed, Grew, Rooted, tells_rolled, some_same}
-use Rattle.tp_laws.proofs.KnownPlain.{bool_self, plain_law}
-use Rattle.tp_laws.proofs.KnownForgot.{before_it}
-use Rattle.tp_laws.proofs.KnownDrawn.{First_draws, No_mark, One_mark, first_draws, same_boot, drawn_law}
-use Rattle.tp_laws.proofs.KnownKeys.{sound_at, course_entry, crash_next, started_current}
-use Rattle.tp_laws.proofs.KnownBranches.{key_under, no_both}
+use Rattle.tp_laws.proofs.Course.{some_same}
+use Rattle.tp_laws.proofs.KnownPlain.{bool_self}
+use Rattle.tp_laws.proofs.KnownBranches.{no_both}
 use Rattle.tp_laws.proofs.KnownFlags.{IsNew, IsStep, IsFlag, flag_law}
-use Rattle.tp_laws.proofs.Entered.{Entered, Crashed, Begun, Plain, entered, begins_peer, begins_none_at, begins_grown, begins_rooted}
 
 -- ---- a turn: whether it was asked changes by the user's request alone
 

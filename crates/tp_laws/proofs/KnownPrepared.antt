@@ -2,7 +2,6 @@
 -- the last crash.
 use Rattle.std.proofs.Common.{if◌then◌else◌, ◌≡◌, ◌≤◌, ◌⊎◌, inl, inr, ℕ, suc, Bool, true, false, refl, ap, sym, subst, ◌∙◌, arith, Option, Some, None, List, [], ◌∷◌, ◌++◌, ◌||◌, ◌&&◌, not}
 use Rattle.tp_names.specs.declared.identifiers.Mark.{Mark}
-use Rattle.tp_names.specs.declared.identifiers.Aaid.{Aaid}
 use Rattle.tp_names.specs.declared.identifiers.Addr.{Addr}
 use Rattle.tp_names.specs.declared.identifiers.NodeKey.{NodeKey}
 use Rattle.tp_names.specs.declared.outcome.Outcome.{Outcome}
@@ -18,12 +17,10 @@ use Rattle.tp_model.specs.declared.arc.Phase.{Phase}
 use Rattle.tp_model.specs.declared.arc.Side.{Side}
 use Rattle.tp_model.specs.declared.transaction.TxEvent.{TxEvent}
 use Rattle.tp_model.specs.declared.transaction.TxOut.{TxOut}
-use Rattle.tp_model.specs.declared.recovery.Kept.{Kept}
-use Rattle.tp_model.specs.declared.recovery.KeptEvent.{KeptEvent}
-use Rattle.tp_model.specs.Parts.{Who, Origin, Event, Entry, Out, Arc, Key, Root, Under, Current, Digest}
+use Rattle.tp_model.specs.Parts.{Who, Origin, Event, Entry, Out, Arc, Key, Root, Current, Digest}
 use Rattle.tp_model.specs.Dialogues.{is_nil, begun_by, named_holder}
 use Rattle.tp_model.specs.Arcs.{find_arc, without_arc, with_dialogue}
-use Rattle.tp_model.specs.Transactions.{Row, Transaction, Turn, turn, aaid_of, node_key, with_row, with_branch, with_arc_lost, carry_down, carry_up, forgets, done_up, ends_down, end_up, all_done, all_rolled_back, own_damage, reports_of, log_end, log_damage, owed_of, complete_commit, complete_rollback, begin_rolling, order, ask_commit, leave, count_branch, end_branch, branch_left, retried, ask_each, transacted}
+use Rattle.tp_model.specs.Transactions.{Row, Transaction, Turn, turn, aaid_of, node_key, with_row, with_branch, with_arc_lost, carry_down, carry_up, forgets, done_up, ends_down, end_up, all_done, all_rolled_back, own_damage, reports_of, log_end, log_damage, owed_of, complete_commit, complete_rollback, begin_rolling, order, ask_commit, leave, count_branch, end_branch, branch_left, retried, transacted}
 use Rattle.tp_model.specs.Recovery.{settled}
 use Rattle.tp_model.specs.Node.{Move, move, followed, perform, next_mark, with_mark_drawn, seen, remaining, with_begun, may_begin_on, begin_on, fresh_current, turned, keep}
 use Rattle.tp_model.specs.Keys.{begun_by_peer, tells_prepare, told_prepare_in}
@@ -39,12 +36,12 @@ use Rattle.tp_laws.specs.Passages.{asks_tell}
 use Rattle.tp_laws.specs.Trees.{out_tells}
 use Rattle.tp_laws.specs.Traces.{is_old}
 use Rattle.tp_laws.specs.Known.{told_prepare_agrees}
-use Rattle.tp_laws.proofs.Equal.{and_left, and_right}
+use Rattle.tp_laws.proofs.Equal.{and_right}
 use Rattle.tp_laws.proofs.Phases.{IsStill, tell_append, still_append, still_up, still_down, still_prepare, still_forgets, still_ends, still_ask, still_done, still_end_up}
 use Rattle.tp_laws.proofs.Told.{told_append, told_performed, told_played}
 use Rattle.tp_laws.proofs.EveryTurn.{step_turn}
 use Rattle.tp_laws.proofs.EveryEvent.{step_move}
-use Rattle.tp_laws.proofs.Marks.{Drawn, Same_boot}
+use Rattle.tp_laws.proofs.Marks.{Same_boot}
 use Rattle.tp_laws.proofs.Sound.{left_is}
 use Rattle.tp_laws.proofs.Passed.{passed_turn}
 use Rattle.tp_laws.proofs.Late.{late_law}

@@ -161,16 +161,16 @@ pub record IsCalm (who : Who) (e : Event) (s : Digest) (p : ℕ) : Type 0 where
   pub below : is_superior s p ≡ false
   pub under : (c : Current) → s.current ≡ Some c → is_under_at c.key p ≡ false
 
-softens_change : (who : Who) (e : Event) (s : Digest) (q p : ℕ) (f : Dialogue → Dialogue) → IsCalm who e s p → (q == p) ≡ true → IsChange e q f → (g : Dialogue) → Softens g (f g)
-softens_change who e s q p f calm same by g = go (subst (λ (n : ℕ). IsChange e n f) eq by)
+softens_change : (who : Who) (e : Event) (s d : Digest) (q p : ℕ) (f : Dialogue → Dialogue) → IsCalm who e s p → (q == p) ≡ true → IsChange e d q f → (g : Dialogue) → Softens g (f g)
+softens_change who e s d q p f calm same by g = go (subst (λ (n : ℕ). IsChange e d n f) eq by)
   where
     eq : q ≡ p
     eq = grind (arith, nat_tests, same)
 
-    go : IsChange e p f → Softens g (f g)
+    go : IsChange e d p f → Softens g (f g)
     go (By_waking i) = subst (λ (k : Dialogue → Dialogue). Softens g (k g)) (sym i) (softens_woken g)
-    go (By_saying a by i) = subst (λ (k : Dialogue → Dialogue). Softens g (k g)) (sym i) (softens_said e p a by calm.gives g)
-    go (By_hearing h by i) = subst (λ (k : Dialogue → Dialogue). Softens g (k g)) (sym i) (softens_heard e p h by calm.gains g)
+    go (By_saying a by i off) = subst (λ (k : Dialogue → Dialogue). Softens g (k g)) (sym i) (softens_said e p a by calm.gives g)
+    go (By_hearing h by i off) = subst (λ (k : Dialogue → Dialogue). Softens g (k g)) (sym i) (softens_heard e p h by calm.gains g)
     go (By_beginning h by i) = absurd (calm.begins h by)
     go (By_leaving by i) = absurd (calm.leaves by)
 
@@ -510,7 +510,7 @@ led_moves who e s p sup fall shut calm th h = record {
         h.changes_dialogue d q f m by (λ u l. x.0) up lives,
         th.changes_dialogue d q f m by x.1,
         λ sep sent k r old live.
-            x.2 ((thins_dialogue d.arcs q f).apart sep) sent k r (led_mute p d (record d { arcs = with_dialogue d.arcs q f }) sent k r refl (softens_dialogue d.arcs q f p (λ here g. softens_change who e s q p f calm here by g)) old) live,
+            x.2 ((thins_dialogue d.arcs q f).apart sep) sent k r (led_mute p d (record d { arcs = with_dialogue d.arcs q f }) sent k r refl (softens_dialogue d.arcs q f p (λ here g. softens_change who e s d q p f calm here by g)) old) live,
       );
   drops_arc = λ d q m one up lives.
       let x = one up (λ l. lives (dropped_live d.arcs q p l)) in (

@@ -25,10 +25,11 @@ use Rattle.tp_model.specs.Recovery.{settled, noted, answer, find_kept, with_forg
 use Rattle.tp_model.specs.Requests.{call, accept, reject, abort, begin_transaction}
 use Rattle.tp_model.specs.Node.{Move, move, perform, phase_of, has_asked, situation_at, start_root, begin_on, try_start, transact, keep}
 use Rattle.tp_model.specs.Arrivals.{Named, branch_key, named_by_key, named_by_branch, known_of, is_current_ready, sight_at, take_record, woken_by, take_on, take_accept, reply_to, take_order, take_forget, take_ready_reply, take_done_reply, do_arrival, broken_pair, break_off}
-use Rattle.tp_model.specs.Events.{purge, recovered_current, after_crash, refusal}
+use Rattle.tp_model.specs.Events.{purge, recovered_current, refusal}
 use Rattle.tp_laws.specs.Moves.{linked}
 use Rattle.tp_laws.specs.Puts.{Put, put, counted_arcs, put_by_record, put_on, put_where_ready, is_committing_named, put_by_peer, put_by, IsLeftAlone, Stays, Begins, Stops}
-use Rattle.tp_laws.proofs.EveryRecord.{find_arc_is}
+use Rattle.tp_laws.proofs.EveryRecord.{find_arc_is, woken_current}
+use Rattle.tp_laws.proofs.Behind.{crash_current}
 use Rattle.tp_laws.proofs.Knowing.{begin_seen}
 
 -- ---- requests
@@ -81,9 +82,6 @@ request_alone who d Request.Unchanged c i h = absurd (cc (h))
 
 -- ---- records on an association
 
-woken_current : (r : DialogueRecord) (p : ℕ) (d : Digest) → (woken_by r p (record d { arcs = with_link d.arcs p with_one_taken })).current ≡ d.current
-woken_current r p d = grind arith
-
 record_alone : (who : Who) (d g : Digest) (r : DialogueRecord) (a : Arc) (arcs : List Arc) → ((t : Aaid) (b : BranchId) (h : Holder) → r ≡ DialogueRecord.Begin t b h → ⊥) → g.current ≡ d.current → put_by_record a.peer.node arcs r ≡ None
     → (take_record who a r g).next.current ≡ d.current
 record_alone who d g DialogueRecord.EndDialogue a arcs begins same h = same
@@ -120,6 +118,9 @@ association_alone : (who : Who) (d : Digest) (from : Addr) (y z : Mark) (q : ℕ
     → put_by_peer who d from (PeerRecord.OnAssoc y z q r) ≡ None → (do_arrival who from (PeerRecord.OnAssoc y z q r) d).next.current ≡ Some c
 association_alone who d from y z q r c ok i late h = go (find_arc d.arcs from.node) refl h ∙ i
   where
+    counted : (p : ℕ) → (woken_by r p (record d { arcs = with_link d.arcs p with_one_taken })).current ≡ d.current
+    counted p = (woken_current r p (record d { arcs = with_link d.arcs p with_one_taken })).0
+
     on : (a : Arc) → find_arc d.arcs from.node ≡ Some a → (v : Sight) → sight_at who d a r ≡ v
         → elim v as (λ _. Option Put) [ Acts ↦ put_by_record a.peer.node (counted_arcs d.arcs a.peer.node) r | Nothing_happens ↦ None | Out_of_phase ↦ None ] ≡ None
         → (elim v as (λ _. Move) [
@@ -128,9 +129,9 @@ association_alone who d from y z q r c ok i late h = go (find_arc d.arcs from.no
           | Out_of_phase ↦ move [] (woken_by r a.peer.node (record d { arcs = with_link d.arcs a.peer.node with_one_taken }))
         ]).next.current ≡ d.current
     on a j Acts acts h =
-        record_alone who d (woken_by r a.peer.node (record d { arcs = with_link d.arcs a.peer.node with_one_taken })) r a (counted_arcs d.arcs a.peer.node) (no_begin who d from y z q r a c ok j i late) (woken_current r a.peer.node d) h
-    on a j Nothing_happens acts h = woken_current r a.peer.node d
-    on a j Out_of_phase acts h = woken_current r a.peer.node d
+        record_alone who d (woken_by r a.peer.node (record d { arcs = with_link d.arcs a.peer.node with_one_taken })) r a (counted_arcs d.arcs a.peer.node) (no_begin who d from y z q r a c ok j i late) (counted a.peer.node) h
+    on a j Nothing_happens acts h = counted a.peer.node
+    on a j Out_of_phase acts h = counted a.peer.node
 
     go : (o : Option Arc) → find_arc d.arcs from.node ≡ o → elim o as (λ _. Option Put) [ None ↦ None | Some a ↦ put_on who d a r ] ≡ None
         → (elim o as (λ _. Move) [ None ↦ move [] d | Some a ↦ take_on who a r d ]).next.current ≡ d.current
@@ -239,10 +240,6 @@ purge_alone d = go d.kept
     go [] = refl
     go (x ∷ xs) = refl
 
-crash_alone : (d : Digest) → (after_crash d).current ≡ recovered_current d.current
-unfolding after_crash
-crash_alone d = refl
-
 -- ---- every event
 
 pub event_alone : (who : Who) (d : Digest) (e : Event) (c : Current) → refusal who d e ≡ None → d.current ≡ Some c → is_nil c.phase ≡ false → put_by who d e ≡ None → IsLeftAlone who d e c
@@ -255,4 +252,4 @@ event_alone who d (Event.Heur o) c ok i late h = absurd (cc (h))
 event_alone who d (Event.GiveUp p) c ok i late h = absurd (cc (h))
 event_alone who d Event.Retry c ok i late h = absurd (cc (h))
 event_alone who d Event.Purge c ok i late h = Stays (purge_alone d ∙ i)
-event_alone who d Event.Crash c ok i late h = Stops refl (crash_alone d ∙ ap recovered_current i)
+event_alone who d Event.Crash c ok i late h = Stops refl (crash_current who d ∙ ap recovered_current i)

@@ -129,8 +129,8 @@ pub mod TookMore
 pub mod Fading
 pub mod Alike
 pub mod InOrder
-pub mod InOrderEvents
 pub mod InOrderLaw
+pub mod InOrderMoves
 pub mod Headed
 pub mod PutTo
 pub mod LeftAlone
@@ -160,3 +160,4 @@ pub mod EndsRounds
 pub mod KnownFlags
 pub mod KnownAsked
 pub mod KnownPrepared
+pub mod KnownWhole

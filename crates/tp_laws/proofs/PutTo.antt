@@ -16,21 +16,21 @@ use Rattle.tp_model.specs.declared.transaction.TxOut.{TxOut}
 use Rattle.tp_model.specs.declared.recovery.KeptEvent.{KeptEvent}
 use Rattle.tp_model.specs.declared.recovery.Question.{Question}
 use Rattle.tp_model.specs.Parts.{Who, Event, Arc, Branch, Current, Digest}
-use Rattle.tp_model.specs.Links.{is_live, with_one_taken}
+use Rattle.tp_model.specs.Links.{with_one_taken}
 use Rattle.tp_model.specs.Dialogues.{is_nil, is_active, is_rolling, is_end_deferred, Sight, Acts, Nothing_happens, Out_of_phase, Ask_defer_end, Ask_defer_grant, Hear_defer_end, Hear_defer_grant, said, heard, cleared, refused_on_arc, arrived}
 use Rattle.tp_model.specs.Arcs.{find_arc, is_live_with_peer, without_arc, with_dialogue, with_link}
-use Rattle.tp_model.specs.Transactions.{is_under_at, row_holds, sight_of_tx, refused_tx, situation_of}
+use Rattle.tp_model.specs.Transactions.{is_under_at, row_holds, sight_of_tx, refused_tx}
 use Rattle.tp_model.specs.Recovery.{settled, answer, forget_to}
 use Rattle.tp_model.specs.Requests.{has_branch_at, refused_request, abort}
-use Rattle.tp_model.specs.Node.{Move, move, followed, perform, is_superior, is_end_deferred_at, seen_rows, situation_at, transact, keep}
+use Rattle.tp_model.specs.Node.{Move, move, followed, perform, is_superior, phase_of, is_end_deferred_at, seen_rows, situation_at, transact, keep}
 use Rattle.tp_model.specs.Arrivals.{Named, branch_key, named_by_key, named_by_branch, known_of, is_current_ready, sight_at, sight_of, lose, take_abort, take_record, woken_by, take_on, reply_to, take_ready_reply, do_arrival, broken_pair, break_off}
 use Rattle.tp_model.specs.Events.{retry, refusal, action}
+use Rattle.tp_laws.specs.Moves.{IsLate, may_put_off}
 use Rattle.tp_laws.specs.Puts.{Put, put, put_by_request, counted_arcs, put_by_record, put_on, put_where_ready, is_committing_named, put_by_peer, put_by, IsPutTo}
-use Rattle.tp_laws.proofs.EveryMove.{abort_active, seen_branch, user_ok}
-use Rattle.tp_laws.proofs.EveryEvent.{plain_request, plain_heur, plain_give_up}
-use Rattle.tp_laws.proofs.EveryRecord.{find_arc_is}
-use Rattle.tp_laws.proofs.Preludes.{Taken, takes_next}
-use Rattle.tp_laws.proofs.InOrderEvents.{end_said, end_heard}
+use Rattle.tp_laws.proofs.EveryMove.{abort_active, abort_peer, end_said, user_ok}
+use Rattle.tp_laws.proofs.EveryEvent.{plain_request, plain_arrival, plain_heur, plain_give_up}
+use Rattle.tp_laws.proofs.EveryRecord.{find_arc_is, end_heard, on_live}
+use Rattle.tp_laws.proofs.Rolls.{phase_at}
 use Rattle.tp_laws.proofs.Alike.{alike_self, alike_then, cleared_alike, grant_said_alike, grant_heard_alike, counted_alike, cut_from, end_said_from, end_heard_from}
 
 -- ---- what is known of the node
@@ -41,6 +41,9 @@ pub record IsKnown (d : Digest) (c : Current) : Type 0 where
   pub apart : (p : ℕ) → is_under_at c.key p ≡ true → has_branch_at c.branches p ≡ false
   pub key : is_active c.phase ≡ true → (p : ℕ) → is_live_with_peer d.arcs p ≡ true → is_under_at c.key p ≡ true → is_superior d p ≡ true
   pub rows : is_active c.phase ≡ true → (p : ℕ) → is_live_with_peer d.arcs p ≡ true → is_superior d p ≡ true → has_branch_at c.branches p ≡ false
+
+known_late : (d : Digest) (c : Current) → d.current ≡ Some c → IsKnown d c → IsLate d
+known_late d c i k x j = let some : Some c ≡ Some x = sym i ∙ j in let same : c ≡ x = cc (some) in subst (λ (y : Current). is_nil y.phase ≡ false) same k.late
 
 -- a subordinate is not where the key came from
 not_key : (d : Digest) (c : Current) (p : ℕ) → IsKnown d c → is_active c.phase ≡ true → is_live_with_peer d.arcs p ≡ true → is_superior d p ≡ false → is_under_at c.key p ≡ false
@@ -110,10 +113,13 @@ request_put who d (Request.Respond p) c x ok i k h = absurd (cc (h))
 request_put who d (Request.HandshakeGrant p) c x ok i k h = absurd (cc (h))
 request_put who d (Request.BeginTransaction p) c x ok i k h = absurd (cc (h))
 request_put who d (Request.DeferEnd p) c x ok i k h =
-    let may = end_said who d p ok in
+    let may : may_put_off d p ≡ true = end_said who d p (known_late d c i k) ok in
+    let live : is_live_with_peer d.arcs p ≡ true = grind (arith, may) in
+    let now : is_active (phase_of d) ≡ true = grind (arith, may) in
+    let active : is_active c.phase ≡ true = ap is_active (sym (phase_at d c i)) ∙ now in
     given who d (Event.Do (Request.DeferEnd p)) c (TxEvent.User (Request.DeferEnd p)) (with_dialogue d.arcs p (said Ask_defer_end)) x h (record {
       acts = refl;
-      reaches = (may.1 c i k.late, not_key d c p k (may.1 c i k.late) may.0 (end_below who d p ok), end_said_from d.arcs d.arcs p (alike_self d.arcs) may.0);
+      reaches = (active, not_key d c p k active live (end_below who d p ok), end_said_from d.arcs d.arcs p (alike_self d.arcs) live);
       taken = refl;
     })
 request_put who d (Request.DeferGrant p) c x ok i k h =
@@ -173,11 +179,7 @@ end_above who d a acts = (grind (arith, acts), grind (arith, acts))
 
 -- a branch at its superior is where the key came from
 from_key : (who : Who) (d : Digest) (c : Current) (p : ℕ) → d.current ≡ Some c → (situation_at who d p).branch ≡ true → has_branch_at c.branches p ≡ false → is_under_at c.key p ≡ true
-unfolding situation_of
-from_key who d c p i b off =
-    let one : (is_under_at c.key p || row_holds (seen_rows d.arcs c.branches) p (λ b. true)) ≡ true = rw (i, situation_at) at b in
-    let two = seen_branch d.arcs c.branches p in
-    grind (arith, one, two, off)
+from_key who d c p i b off = let peer : (is_under_at c.key p || has_branch_at c.branches p) ≡ true = abort_peer who d p c b i in grind (arith, peer, off)
 
 grant_heard_free : (who : Who) (d : Digest) (a : Arc) → sight_at who d a DialogueRecord.DeferGrant ≡ Acts → find_arc d.arcs a.peer.node ≡ Some a → is_end_deferred_at d.arcs a.peer.node ≡ false
 unfolding sight_of arrived
@@ -207,9 +209,10 @@ record_put who d from y z q DialogueRecord.DeferEnd a c x i k at live acts on h 
     let p : ℕ = a.peer.node in
     let arcs : List Arc = counted_arcs d.arcs p in
     let above = end_above who d a acts in
+    let active : is_active c.phase ≡ true = ap is_active (sym (phase_at d c i)) ∙ end_heard who d a acts in
     given who d (Event.Arrive from (PeerRecord.OnAssoc y z q DialogueRecord.DeferEnd)) c (TxEvent.Took p DialogueRecord.DeferEnd) (with_dialogue arcs p (heard Hear_defer_end)) x h (record {
       acts = on;
-      reaches = (end_heard who d a c acts i k.late, from_key who d c p i above.1 (k.rows (end_heard who d a c acts i k.late) p live above.0), end_heard_from d.arcs arcs p (counted_alike d.arcs p) live);
+      reaches = (active, from_key who d c p i above.1 (k.rows active p live above.0), end_heard_from d.arcs arcs p (counted_alike d.arcs p) live);
       taken = tt;
     })
 record_put who d from y z q DialogueRecord.DeferGrant a c x i k at live acts on h =
@@ -255,15 +258,15 @@ association_put : (who : Who) (d : Digest) (from : Addr) (y z : Mark) (q : ℕ) 
     → put_by_peer who d from (PeerRecord.OnAssoc y z q r) ≡ Some x → IsPutTo who d (Event.Arrive from (PeerRecord.OnAssoc y z q r)) c x
 association_put who d from y z q r c x ok i k h = go (find_arc d.arcs from.node) refl h
   where
-    taken : Taken d from y z q
-    taken = takes_next who d from y z q r ok
+    live : is_live_with_peer d.arcs from.node ≡ true
+    live = on_live who d from y z q r (plain_arrival who d from (PeerRecord.OnAssoc y z q r) ok)
 
     on : (a : Arc) → find_arc d.arcs from.node ≡ Some a → (v : Sight) → sight_at who d a r ≡ v
         → elim v as (λ _. Option Put) [ Acts ↦ put_by_record a.peer.node (counted_arcs d.arcs a.peer.node) r | Nothing_happens ↦ None | Out_of_phase ↦ None ] ≡ Some x
         → IsPutTo who d (Event.Arrive from (PeerRecord.OnAssoc y z q r)) c x
     on a j Acts acts h =
         let at : a.peer.node ≡ from.node = find_arc_is d.arcs from.node a j in
-        record_put who d from y z q r a c x i k (ap (find_arc d.arcs) at ∙ j) (ap (is_live_with_peer d.arcs) at ∙ ap is_live taken.live) acts (on_acts who d from y z q r a j acts) h
+        record_put who d from y z q r a c x i k (ap (find_arc d.arcs) at ∙ j) (ap (is_live_with_peer d.arcs) at ∙ live) acts (on_acts who d from y z q r a j acts) h
     on a j Nothing_happens acts h = absurd (cc (h))
     on a j Out_of_phase acts h = absurd (cc (h))
 

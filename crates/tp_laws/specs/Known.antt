@@ -120,3 +120,7 @@ current_agrees o h =
 
 abbrev pub agrees_in_parts : Origin → List Entry → Bool
 agrees_in_parts o h = node_agrees o h && arcs_agree o h && current_agrees o h
+
+-- those that no law gives: all of the arcs, and of the current transaction these
+abbrev pub rest_agrees : Origin → List Entry → Bool
+rest_agrees o h = arcs_agree o h && marks_agree o h && owes_agrees o h && superior_rolled_agrees o h && own_agrees o h

@@ -23,7 +23,7 @@ use Rattle.tp_model.specs.declared.recovery.Question.{Question}
 use Rattle.tp_model.specs.Parts.{Who, Event, Link, Idle, Opening, Offered, Live, Dialogue, Arc, Root, Under, Branch, Current, Digest}
 use Rattle.tp_model.specs.Links.{with_one_taken}
 use Rattle.tp_model.specs.Dialogues.{is_nil, is_active, is_ready, is_committing, is_chained, lacks_control, Asked, Ask_data, Ask_error, Ask_grant, Ask_control, Ask_handshake, Ask_respond, Ask_handshake_grant, Ask_defer_end, Ask_defer_grant, Heard, Hear_data, Hear_error, Hear_grant, Hear_control, Hear_handshake, Hear_handshake_grant, Hear_response, Hear_defer_end, Hear_defer_grant, said, heard, begun_by, cleared, woken, fresh_dialogue}
-use Rattle.tp_model.specs.Arcs.{find_arc, link_with, put_arc, without_arc, with_dialogue, with_link}
+use Rattle.tp_model.specs.Arcs.{find_arc, is_live_with_peer, link_with, put_arc, without_arc, with_dialogue, with_link}
 use Rattle.tp_model.specs.Transactions.{Transaction, aaid_of, node_key, is_under_at, refused_tx}
 use Rattle.tp_model.specs.Requests.{has_branch_at}
 use Rattle.tp_model.specs.Recovery.{is_commit, answer, find_owed, is_nothing_owed, find_kept, settled, not_forgotten}
@@ -355,13 +355,17 @@ left_by (Event.Arrive from (PeerRecord.OnAssoc x y q DialogueRecord.Left)) = Som
 left_by (Event.Arrive from (PeerRecord.OnAssoc x y q DialogueRecord.LeftEnd)) = Some from.node
 left_by _ = None
 
+-- an end is put off on a live arc, while the transaction is active
+abbrev pub may_put_off : Digest → ℕ → Bool
+may_put_off d p = is_live_with_peer d.arcs p && is_active (phase_of d)
+
 -- what it makes of the dialogue with a peer, outside the passages of its transaction
-pub data IsChange (e : Event) (p : ℕ) (f : Dialogue → Dialogue) : Type 0 where
-  By_waking : f ≡ woken → IsChange e p f
-  By_saying : (a : Asked) → said_by e ≡ Some (p, a) → f ≡ said a → IsChange e p f
-  By_hearing : (h : Heard) → heard_by e ≡ Some (p, h) → f ≡ heard h → IsChange e p f
-  By_beginning : (h : Holder) → begun_by_record e ≡ Some (p, h) → f ≡ begun_by h Side.Subordinate → IsChange e p f
-  By_leaving : left_by e ≡ Some p → f ≡ cleared → IsChange e p f
+pub data IsChange (e : Event) (d : Digest) (p : ℕ) (f : Dialogue → Dialogue) : Type 0 where
+  By_waking : f ≡ woken → IsChange e d p f
+  By_saying : (a : Asked) → said_by e ≡ Some (p, a) → f ≡ said a → (a ≡ Ask_defer_end → may_put_off d p ≡ true) → IsChange e d p f
+  By_hearing : (h : Heard) → heard_by e ≡ Some (p, h) → f ≡ heard h → (h ≡ Hear_defer_end → may_put_off d p ≡ true) → IsChange e d p f
+  By_beginning : (h : Holder) → begun_by_record e ≡ Some (p, h) → f ≡ begun_by h Side.Subordinate → IsChange e d p f
+  By_leaving : left_by e ≡ Some p → f ≡ cleared → IsChange e d p f
 
 -- a transaction begins on an arc that is chained, or on which this end may speak
 abbrev pub may_begin : Arc → Bool
@@ -380,7 +384,7 @@ pub record Moves (who : Who) (e : Event) (s : Digest) (R : Digest → Move → T
   pub chain : (d : Digest) (a : Move) (f : Digest → Move) → R d a → R a.next (f a.next) → (a.rec ≡ None) ⊎ ((f a.next).rec ≡ None) → R d (followed a f)
   -- outputs, and changes that are no matter of transactions
   pub speaks : (d : Digest) (outs : List TxOut) → are_spoken outs ≡ true → IsOwned d outs × AreSaid e s d outs → are_said e outs ≡ true → R d (perform outs d)
-  pub changes_dialogue : (d : Digest) (p : ℕ) (f : Dialogue → Dialogue) (m : Move) → IsChange e p f → R (record d { arcs = with_dialogue d.arcs p f }) m → R d m
+  pub changes_dialogue : (d : Digest) (p : ℕ) (f : Dialogue → Dialogue) (m : Move) → IsChange e d p f → R (record d { arcs = with_dialogue d.arcs p f }) m → R d m
   pub drops_arc : (d : Digest) (p : ℕ) (m : Move) → R (record d { arcs = without_arc d.arcs p }) m → R d m
   pub notes_kept : (d : Digest) (ks : List Kept) (m : Move) → ((u : Aaid) → keeps_commit u ks ≡ true → keeps_commit u d.kept ≡ true) × (not_forgotten ks ≡ not_forgotten d.kept) → R (record d { kept = ks }) m → R d m
   pub keeps : (d : Digest) (k : Kept) (f : KeptEvent) → ((u : Aaid) → (is_commit k.side && is_aaid u k.key.aaid) ≡ true → keeps_commit u d.kept ≡ true) × IsAmong d.kept k × StandsIn d.kept k × IsFound d.kept k × IsSettling e s d k f → R d (keep (settled k f) d)

@@ -1,5 +1,5 @@
 -- The small steps of an event of a transaction, as in Turns, each with more of which event takes it.
-use Rattle.std.specs.Prelude.{ℕ, ◌≡◌, ◌==◌, ◌&&◌, ◌||◌, ◌⊎◌, not, Bool, true, false, if◌then◌else◌, Some, None, List, [], ◌∷◌}
+use Rattle.std.specs.Prelude.{ℕ, ◌≡◌, ◌&&◌, ◌||◌, ◌⊎◌, not, Bool, true, false, Some, None, List, [], ◌∷◌}
 use Rattle.tp_names.specs.declared.identifiers.BranchId.{BranchId}
 use Rattle.tp_names.specs.declared.outcome.Outcome.{Outcome}
 use Rattle.tp_names.specs.declared.outcome.Report.{Report}
@@ -7,11 +7,10 @@ use Rattle.tp_records.specs.declared.request.Request.{Request}
 use Rattle.tp_records.specs.declared.indication.Indication.{Indication}
 use Rattle.tp_records.specs.declared.dialogue.DialogueRecord.{DialogueRecord}
 use Rattle.tp_records.specs.declared.peer.RecState.{RecState}
-use Rattle.tp_model.specs.declared.arc.Phase.{Phase}
 use Rattle.tp_model.specs.declared.transaction.TxEvent.{TxEvent}
 use Rattle.tp_model.specs.declared.transaction.TxOut.{TxOut}
 use Rattle.tp_model.specs.Dialogues.{is_active, is_ready, is_committing, is_rolling}
-use Rattle.tp_model.specs.Transactions.{Row, Transaction, Turn, turn, and_then, before, is_under, is_under_at, find_row, find_row_by_id, row_holds, with_row, with_branch, with_arc_lost, is_waited_for, all_settled, all_left, log_ready, log_heuristic, carry_up, complete_commit, complete_rollback, begin_rolling, order, ask_commit, leave, count_branch, end_branch, branch_left, retried, is_open_in_commit}
+use Rattle.tp_model.specs.Transactions.{Row, Transaction, Turn, turn, and_then, before, is_under, is_under_at, find_row, find_row_by_id, row_holds, with_row, with_branch, with_arc_lost, all_settled, all_left, complete_commit, complete_rollback, begin_rolling, order, ask_commit, leave, count_branch, end_branch, branch_left, retried, is_open_in_commit}
 use Rattle.tp_laws.specs.Turns.{is_order_for, falls, loses, hears_close, is_left_word, is_outcome_told, vote, decide, shut_given_up, row_dead}
 
 -- the superior asks to prepare
