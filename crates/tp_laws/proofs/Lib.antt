@@ -16,6 +16,11 @@ pub mod Links
 pub mod Apart
 pub mod Linked
 pub mod Late
+pub mod Undone
+pub mod Prompt
+pub mod Heeding
+pub mod Outspoken
+pub mod Framed
 pub mod Preludes
 pub mod Marks
 pub mod Traced

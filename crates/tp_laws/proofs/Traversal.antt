@@ -25,10 +25,10 @@ Holds P w = Kept P w.nodes w.frames
 
 -- ---- a node and an event that may come to it
 
-record Ready (w : World) (t : Task) : Type 0 where
-  here : find_node w.nodes (number_of t.node) ≡ Some t.node
-  came : (a : Addr) (r : PeerRecord) → brought t.event ≡ Some (a, r) → IsFrameOf w.frames a (number_of t.node) r
-  under : (up : Option Addr) → IsUnder up t.event
+pub record Ready (w : World) (t : Task) : Type 0 where
+  pub here : find_node w.nodes (number_of t.node) ≡ Some t.node
+  pub came : (a : Addr) (r : PeerRecord) → brought t.event ≡ Some (a, r) → IsFrameOf w.frames a (number_of t.node) r
+  pub under : (up : Option Addr) → IsUnder up t.event
 
 frame_found : (fs : List Frame) (k : ℕ) (f : Frame) → find_frame fs k ≡ Some f → IsFrameOf fs f.from f.to.node f.rec
 frame_found fs zero f h = absurd cc
@@ -54,7 +54,7 @@ ready_at w n e t is came under = go (find_node w.nodes n) refl
           under = under;
         })
 
-ready_of : (w : World) (d : Deed) (t : Task) → task_of w d ≡ Some t → Ready w t
+pub ready_of : (w : World) (d : Deed) (t : Task) → task_of w d ≡ Some t → Ready w t
 ready_of w (Deed.Ask n q) t is = go (request_in w q) refl
   where
     go : (o : Option Request) → request_in w q ≡ o → Ready w t
@@ -83,11 +83,11 @@ ready_of w (Deed.Purge n) t is = ready_at w n Event.Purge t is (λ a s b. cc (b)
 abbrev with_entry_put : World → Node → Entry → List Node
 with_entry_put w n y = put_node w.nodes (record n { history = y ∷ n.history })
 
-logged_nodes : (w : World) (n : Node) (o : Option LogRec) → (logged w n o).nodes ≡ w.nodes
+pub logged_nodes : (w : World) (n : Node) (o : Option LogRec) → (logged w n o).nodes ≡ w.nodes
 logged_nodes w n None = refl
 logged_nodes w n (Some r) = refl
 
-logged_frames : (w : World) (n : Node) (o : Option LogRec) → (logged w n o).frames ≡ w.frames
+pub logged_frames : (w : World) (n : Node) (o : Option LogRec) → (logged w n o).frames ≡ w.frames
 logged_frames w n None = refl
 logged_frames w n (Some r) = refl
 

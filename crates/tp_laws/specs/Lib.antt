@@ -18,6 +18,10 @@ pub mod Trees
 pub mod Members
 pub mod Fates
 pub mod Bare
+pub mod Undone
+pub mod Heeding
+pub mod Outspoken
+pub mod Framed
 pub mod Upward
 pub mod Answering
 pub mod Hanging
@@ -33,6 +37,7 @@ pub mod TurnSteps
 pub mod Known
 pub mod KnownTrials
 pub mod Trials
+pub mod DrainedTrials
 pub mod ArcTrials
 pub mod Expansion
 pub mod Schedules

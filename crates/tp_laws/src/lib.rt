@@ -4,6 +4,7 @@
 
 pub mod arcs;
 pub mod control;
+pub mod drained_trials;
 pub mod expansion;
 pub mod known;
 pub mod known_trials;
@@ -51,6 +52,10 @@ ghost use Rattle.tp_model.specs.Node.{seen, turned, keep};
 ghost use Rattle.tp_model.specs.Recovery.{settled};
 ghost use Rattle.tp_model.specs.declared.recovery.Kept.{Kept};
 ghost use Rattle.tp_model.specs.declared.recovery.KeptEvent.{KeptEvent};
+ghost use Rattle.tp_laws.specs.Undone.{IsPromptTurn, is_left_undone};
+ghost use Rattle.tp_laws.specs.Heeding.{IsHeeding};
+ghost use Rattle.tp_laws.specs.Outspoken.{IsOutspoken, SaysLeft};
+ghost use Rattle.tp_laws.specs.Framed.{GoesOut};
 ghost use Rattle.tp_laws.specs.Traces.{IsTraced, sent_on, taken_on};
 
 /// In every run, every node's history is legal, every frame was sent by the history of the node that it is from, and
@@ -71,6 +76,12 @@ pub fn traces()
 /// end sent with it.
 pub fn prefix_taken()
     ensures { (es : List Happening) → PrefixTaken (run es) }
+{}
+
+/// In every run, what a node said goes out, unless its site stopped: each record that was sent by a history without a stop is
+/// a frame, from the node's address to the one that the record was sent to.
+pub fn what_is_said_goes_out()
+    ensures { (es : List Happening) → GoesOut (run es) }
 {}
 
 /// What every event says to a peer, counted: votes behind their record, orders and rollbacks under the branch's key, as
@@ -146,6 +157,33 @@ pub fn branches_are_heeded()
 pub fn marks_of_branches()
     ensures turn { (e : TxEvent) (s : Transaction) → IsPut e s → IsRowed e s s (transacted e s) }
     ensures node { (who : Who) (d : Digest) (e : Event) → IsLate d → refusal who d e ≡ None → IsBranched who e (prelude who d e) (prelude who d e) (action who d e) }
+{}
+
+/// Nothing is left undone. No event of a transaction leaves a vote, an order, a completed commitment or a completed rollback
+/// undone that was not left undone before; and in every legal history and in every run, a transaction that its node has
+/// asked to commit is active only while a branch is neither counted nor left, and one whose user has given done is
+/// committing only while a branch is neither done, left nor given up.
+pub fn nothing_is_left_undone()
+    ensures turn { (e : TxEvent) (s : Transaction) → IsPut e s → IsPromptTurn s (transacted e s) }
+    ensures history { (o : Origin) (up : Option Addr) (h : List Entry) (c : Current) → IsGrown o up h → (digest o h).current ≡ Some c → is_left_undone c ≡ false }
+    ensures run { (es : List Happening) (x : Node) (c : Current) → IsIn (run es) x → (digest x.origin x.history).current ≡ Some c → is_left_undone c ≡ false }
+{}
+
+/// What a transaction takes is heeded, by every event. Where it does not roll, a branch's Ready or Left that is not out of
+/// phase is taken in active, and the branch is counted or has left behind it; the superior's order that is not out of phase
+/// is not taken in active, and in ready it is carried out; in committing a branch that says or replies that it is done has
+/// ended behind it, or had left. And a branch that is counted, has left or has ended stays so.
+pub fn what_is_taken_is_heeded()
+    ensures { (e : TxEvent) (s : Transaction) → IsPut e s → IsHeeding e s (transacted e s) }
+{}
+
+/// What a transaction decides it says, by every event: one that logs Ready says so to its superior, where the superior's arc
+/// is live; one that logs Commit orders it on the live arc of each branch that did not leave; one that completes a commitment
+/// tells its user so, and says Done with the same report to its superior, over the arc or as a reply; and one that leaves says
+/// so on the superior's live arc.
+pub fn what_is_decided_is_said()
+    ensures says { (e : TxEvent) (s : Transaction) → IsPut e s → IsOutspoken s (transacted e s) }
+    ensures leaves { (e : TxEvent) (s : Transaction) → SaysLeft e s (transacted e s) }
 {}
 
 /// In every run, a node that left a tree has logged nothing of it: no vote, decision, order, damage or end.
