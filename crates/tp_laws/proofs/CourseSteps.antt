@@ -148,7 +148,7 @@ course_steps who e fall leave s means = record {
 
 -- ---- every event
 
-leaves_so : (e : Event) (c : Current) (f : TxEvent) → IsAsked e c f → is_leaving f ≡ true → is_unchanged e ≡ true
+pub leaves_so : (e : Event) (c : Current) (f : TxEvent) → IsAsked e c f → is_leaving f ≡ true → is_unchanged e ≡ true
 leaves_so (Event.Declare s) c f asked l = absurd asked
 leaves_so (Event.Do Request.Unchanged) c f asked l = refl
 leaves_so (Event.Do (Request.UAbort p)) c f asked l = absurd (cc (ap is_leaving asked.0, l))

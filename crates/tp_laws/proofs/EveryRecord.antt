@@ -27,7 +27,7 @@ use Rattle.tp_model.specs.Node.{Move, move, perform, phase_of, fresh_current, be
 use Rattle.tp_model.specs.Arrivals.{sight_at, sight_of, take_begin, take_abort, take_record, is_response, woken_by, take_on, refused_arrival}
 use Rattle.tp_laws.specs.Turns.{loses, is_outcome_told}
 use Rattle.tp_laws.proofs.Links.{link_without}
-use Rattle.tp_laws.specs.Moves.{prelude, begun_in, counted_in, are_spoken, heard_by, begun_by_record, may_put_off, IsChange, By_waking, By_hearing, By_beginning, By_leaving}
+use Rattle.tp_laws.specs.Moves.{prelude, begun_in, counted_in, are_spoken, heard_by, begun_by_record, may_put_off, wakes, IsChange, By_waking, By_hearing, By_beginning, By_leaving}
 use Rattle.tp_laws.specs.Moves.{IsLate}
 use Rattle.tp_laws.specs.Steps.{carries_last, carry_last, IsLike, Steps}
 use Rattle.tp_laws.proofs.EveryMove.{step_chained, step_transact}
@@ -136,27 +136,43 @@ begin_acts who d from x y q t b h a ok i Acts j = refl
 begin_acts who d from x y q t b h a ok i Nothing_happens j = absurd (grind (arith, j))
 begin_acts who d from x y q t b h a ok i Out_of_phase j = absurd (grind (arith, ok, i, j))
 
-step_begun : (who : Who) (e : Event) (d : Digest) (t : Aaid) (b : BranchId) (h : Holder) (a : Arc) (R : Digest → Move → Type 0) → Steps who e (record d { current = Some (fresh_current (Under t b a.peer)) }) R
-    → begun_by_record e ≡ Some (a.peer.node, h) → R (record d { current = Some (fresh_current (Under t b a.peer)) }) (take_begin who a t b h (woken_by (DialogueRecord.Begin t b h) a.peer.node d))
+pub begin_wakes : (e : Event) (p : ℕ) (h : Holder) → begun_by_record e ≡ Some (p, h) → wakes e p ≡ true
+begin_wakes (Event.Arrive from (PeerRecord.OnAssoc x y q (DialogueRecord.Begin t b k))) p h by =
+    let same : from.node ≡ p = ap (λ (o : Option (ℕ × Holder)). elim o as (λ _. ℕ) [ None ↦ from.node | Some v ↦ v.0 ]) by in
+    grind (arith, nat_tests, same)
+begin_wakes e p h by = absurd (cc (by))
+
+-- where the peer's dialogue is woken
+abbrev pub woken_at : ℕ → Digest → Digest
+woken_at p d = record d { arcs = with_dialogue d.arcs p woken }
+
+begun_woken : (who : Who) (e : Event) (d : Digest) (t : Aaid) (b : BranchId) (h : Holder) (a : Arc) (R : Digest → Move → Type 0) → Steps who e (record d { current = Some (fresh_current (Under t b a.peer)) }) R
+    → begun_by_record e ≡ Some (a.peer.node, h) → R (woken_at a.peer.node (record d { current = Some (fresh_current (Under t b a.peer)) })) (take_begin who a t b h (woken_by (DialogueRecord.Begin t b h) a.peer.node d))
 unfolding take_begin
-step_begun who e d t b h a R k by =
+begun_woken who e d t b h a R k by =
     let p : ℕ = a.peer.node in
     let s : Digest = record d { current = Some (fresh_current (Under t b a.peer)) } in
-    let u : Digest = record s { arcs = with_dialogue s.arcs p woken } in
+    let u : Digest = woken_at p s in
     let v : Digest = record u { arcs = with_dialogue u.arcs p (begun_by h Side.Subordinate) } in
     let m : Move = take_begin who a t b h (woken_by (DialogueRecord.Begin t b h) p d) in
     let outs : List TxOut = TxOut.Tell (Indication.BeginTransaction p t) ∷ [] in
     let first : Move = perform outs v in
-    k.changes_dialogue s p woken m (By_waking refl)
-    (k.changes_dialogue u p (begun_by h Side.Subordinate) m (By_beginning h by refl)
-    (k.chain v first (begin_chained who) (k.speaks v outs refl (λ u h. absurd (cc (h)), λ z r h. absurd h) refl refl) (step_chained who e s R k first.next) (inl refl)))
+    k.changes_dialogue u p (begun_by h Side.Subordinate) m (By_beginning h by refl)
+    (k.chain v first (begin_chained who) (k.speaks v outs refl (λ u h. absurd (cc (h)), λ z r h. absurd h) refl refl) (step_chained who e s R k first.next) (inl refl))
 
-pub step_on_begin : (who : Who) (d : Digest) (from : Addr) (x y : Mark) (q : ℕ) (t : Aaid) (b : BranchId) (h : Holder) (R : Digest → Move → Type 0)
-    → Steps who (the from x y q (DialogueRecord.Begin t b h)) (prelude who d (the from x y q (DialogueRecord.Begin t b h))) R
-    → refused_arrival who d from (PeerRecord.OnAssoc x y q (DialogueRecord.Begin t b h)) ≡ None → (o : Option Arc) → find_arc d.arcs from.node ≡ o
-    → R (begun_in o t b (counted_in d from)) (elim o as (λ _. Move) [ None ↦ move [] d | Some a ↦ take_on who a (DialogueRecord.Begin t b h) d ])
-step_on_begin who d from x y q t b h R k ok None i = absurd (on_none who d from x y q (DialogueRecord.Begin t b h) ok i)
-step_on_begin who d from x y q t b h R k ok (Some a) i = go (sight_at who d a r) refl
+step_begun : (who : Who) (e : Event) (d : Digest) (t : Aaid) (b : BranchId) (h : Holder) (a : Arc) (R : Digest → Move → Type 0) → Steps who e (record d { current = Some (fresh_current (Under t b a.peer)) }) R
+    → begun_by_record e ≡ Some (a.peer.node, h) → R (record d { current = Some (fresh_current (Under t b a.peer)) }) (take_begin who a t b h (woken_by (DialogueRecord.Begin t b h) a.peer.node d))
+step_begun who e d t b h a R k by =
+    k.changes_dialogue (record d { current = Some (fresh_current (Under t b a.peer)) }) a.peer.node woken (take_begin who a t b h (woken_by (DialogueRecord.Begin t b h) a.peer.node d)) (By_waking (begin_wakes e a.peer.node h by) refl)
+    (begun_woken who e d t b h a R k by)
+
+-- what holds of the rule of a Begin holds of the record, which acts
+on_begin_so : (who : Who) (d : Digest) (from : Addr) (x y : Mark) (q : ℕ) (t : Aaid) (b : BranchId) (h : Holder) (Q : Digest → Move → Type 0) → refused_arrival who d from (PeerRecord.OnAssoc x y q (DialogueRecord.Begin t b h)) ≡ None
+    → ((g : Digest) (a : Arc) → find_arc d.arcs from.node ≡ Some a → a.peer.node ≡ from.node → record g { current = Some (fresh_current (Under t b a.peer)) } ≡ begun_in (Some a) t b (counted_in d from)
+    → Q (record g { current = Some (fresh_current (Under t b a.peer)) }) (take_begin who a t b h (woken_by (DialogueRecord.Begin t b h) a.peer.node g)))
+    → (o : Option Arc) → find_arc d.arcs from.node ≡ o → Q (begun_in o t b (counted_in d from)) (elim o as (λ _. Move) [ None ↦ move [] d | Some a ↦ take_on who a (DialogueRecord.Begin t b h) d ])
+on_begin_so who d from x y q t b h Q ok rule None i = absurd (on_none who d from x y q (DialogueRecord.Begin t b h) ok i)
+on_begin_so who d from x y q t b h Q ok rule (Some a) i = go (sight_at who d a r) refl
   where
     r : DialogueRecord
     r = DialogueRecord.Begin t b h
@@ -173,19 +189,43 @@ step_on_begin who d from x y q t b h R k ok (Some a) i = go (sight_at who d a r)
     same : g ≡ counted_in d from
     same = ap (λ (n : ℕ). record d { arcs = with_link d.arcs n with_one_taken }) at
 
-    steps : Steps who (the from x y q r) (record g { current = Some (fresh_current (Under t b a.peer)) }) R
-    steps =
-        let one : Steps who (the from x y q r) s R = subst (λ (o : Option Arc). Steps who (the from x y q r) (begun_in o t b (counted_in d from)) R) i k in
-        subst (λ (c : Digest). Steps who (the from x y q r) (record c { current = Some (fresh_current (Under t b a.peer)) }) R) (sym same) one
+    taken : Q s (take_begin who a t b h (woken_by r a.peer.node g))
+    taken =
+        let all : record g { current = Some (fresh_current (Under t b a.peer)) } ≡ s = ap (λ (c : Digest). record c { current = Some (fresh_current (Under t b a.peer)) }) same in
+        subst (λ (c : Digest). Q c (take_begin who a t b h (woken_by r a.peer.node g))) all (rule g a i at all)
 
-    taken : R s (take_begin who a t b h (woken_by r a.peer.node g))
-    taken = subst (λ (c : Digest). R (record c { current = Some (fresh_current (Under t b a.peer)) }) (take_begin who a t b h (woken_by r a.peer.node g))) same (step_begun who (the from x y q r) g t b h a R steps (ap (λ (n : ℕ). Some (n, h)) (sym at)))
-
-    go : (v : Sight) → sight_at who d a r ≡ v → R s (take_on who a r d)
+    go : (v : Sight) → sight_at who d a r ≡ v → Q s (take_on who a r d)
     go v j =
         let acts : sight_at who d a r ≡ Acts = j ∙ begin_acts who d from x y q t b h a ok i v j in
         let is : take_on who a r d ≡ take_begin who a t b h (woken_by r a.peer.node g) = ap (λ (w : Sight). elim w as (λ _. Move) [ Acts ↦ take_record who a r (woken_by r a.peer.node g) | Nothing_happens ↦ move [] (woken_by r a.peer.node g) | Out_of_phase ↦ move [] (woken_by r a.peer.node g) ]) acts in
-        subst (λ (m : Move). R s m) (sym is) taken
+        subst (λ (m : Move). Q s m) (sym is) taken
+
+-- the steps from where the prelude left the node
+begin_steps : (who : Who) (d : Digest) (from : Addr) (x y : Mark) (q : ℕ) (t : Aaid) (b : BranchId) (h : Holder) (R : Digest → Move → Type 0)
+    → Steps who (the from x y q (DialogueRecord.Begin t b h)) (prelude who d (the from x y q (DialogueRecord.Begin t b h))) R → (g : Digest) (a : Arc) → find_arc d.arcs from.node ≡ Some a
+    → record g { current = Some (fresh_current (Under t b a.peer)) } ≡ begun_in (Some a) t b (counted_in d from)
+    → Steps who (the from x y q (DialogueRecord.Begin t b h)) (record g { current = Some (fresh_current (Under t b a.peer)) }) R
+begin_steps who d from x y q t b h R k g a i all =
+    let one : Steps who (the from x y q (DialogueRecord.Begin t b h)) (begun_in (Some a) t b (counted_in d from)) R = subst (λ (o : Option Arc). Steps who (the from x y q (DialogueRecord.Begin t b h)) (begun_in o t b (counted_in d from)) R) i k in
+    subst (λ (c : Digest). Steps who (the from x y q (DialogueRecord.Begin t b h)) c R) (sym all) one
+
+pub step_on_begin : (who : Who) (d : Digest) (from : Addr) (x y : Mark) (q : ℕ) (t : Aaid) (b : BranchId) (h : Holder) (R : Digest → Move → Type 0)
+    → Steps who (the from x y q (DialogueRecord.Begin t b h)) (prelude who d (the from x y q (DialogueRecord.Begin t b h))) R
+    → refused_arrival who d from (PeerRecord.OnAssoc x y q (DialogueRecord.Begin t b h)) ≡ None → (o : Option Arc) → find_arc d.arcs from.node ≡ o
+    → R (begun_in o t b (counted_in d from)) (elim o as (λ _. Move) [ None ↦ move [] d | Some a ↦ take_on who a (DialogueRecord.Begin t b h) d ])
+step_on_begin who d from x y q t b h R k ok =
+    on_begin_so who d from x y q t b h R ok
+    (λ g a i at all. step_begun who (the from x y q (DialogueRecord.Begin t b h)) g t b h a R (begin_steps who d from x y q t b h R k g a i all) (ap (λ (n : ℕ). Some (n, h)) (sym at)))
+
+-- and from where the dialogue is woken
+pub woken_on_begin : (who : Who) (d : Digest) (from : Addr) (x y : Mark) (q : ℕ) (t : Aaid) (b : BranchId) (h : Holder) (R : Digest → Move → Type 0)
+    → Steps who (the from x y q (DialogueRecord.Begin t b h)) (prelude who d (the from x y q (DialogueRecord.Begin t b h))) R
+    → refused_arrival who d from (PeerRecord.OnAssoc x y q (DialogueRecord.Begin t b h)) ≡ None → (o : Option Arc) → find_arc d.arcs from.node ≡ o
+    → R (woken_at from.node (begun_in o t b (counted_in d from))) (elim o as (λ _. Move) [ None ↦ move [] d | Some a ↦ take_on who a (DialogueRecord.Begin t b h) d ])
+woken_on_begin who d from x y q t b h R k ok =
+    on_begin_so who d from x y q t b h (λ c m. R (woken_at from.node c) m) ok
+    (λ g a i at all. subst (λ (n : ℕ). R (woken_at n (record g { current = Some (fresh_current (Under t b a.peer)) })) (take_begin who a t b h (woken_by (DialogueRecord.Begin t b h) a.peer.node g))) at
+    (begun_woken who (the from x y q (DialogueRecord.Begin t b h)) g t b h a R (begin_steps who d from x y q t b h R k g a i all) (ap (λ (n : ℕ). Some (n, h)) (sym at))))
 
 step_taken : (who : Who) (from : Addr) (x y : Mark) (q : ℕ) (r : DialogueRecord) (s : Digest) (R : Digest → Move → Type 0) → Steps who (the from x y q r) s R → IsLate s
     → (a : Arc) → a.peer.node ≡ from.node → ((t : Aaid) (b : BranchId) (h : Holder) → r ≡ DialogueRecord.Begin t b h → ⊥)
@@ -215,14 +255,14 @@ pub woken_current : (r : DialogueRecord) (p : ℕ) (d : Digest) → IsLike (woke
 woken_current r p d = (grind arith, grind arith)
 
 -- a record that is no response wakes its arc
-woken_step : (who : Who) (e : Event) (s : Digest) (R : Digest → Move → Type 0) → Steps who e s R → (r : DialogueRecord) (p : ℕ) (d : Digest) (m : Move) → R (woken_by r p d) m → R d m
-woken_step who e s R k r p d m one = go (is_response r) refl
+woken_step : (who : Who) (e : Event) (s : Digest) (R : Digest → Move → Type 0) → Steps who e s R → (r : DialogueRecord) (p : ℕ) → (is_response r ≡ false → wakes e p ≡ true) → (d : Digest) (m : Move) → R (woken_by r p d) m → R d m
+woken_step who e s R k r p wake d m one = go (is_response r) refl
   where
     go : (b : Bool) → is_response r ≡ b → R d m
     go true i = let same : woken_by r p d ≡ d = rw i refl in subst (λ (u : Digest). R u m) same one
     go false i =
         let same : woken_by r p d ≡ record d { arcs = with_dialogue d.arcs p woken } = rw i refl in
-        k.changes_dialogue d p woken m (By_waking refl) (subst (λ (u : Digest). R u m) same one)
+        k.changes_dialogue d p woken m (By_waking (wake i) refl) (subst (λ (u : Digest). R u m) same one)
 
 -- the superior defers an end of an active transaction
 pub end_heard : (who : Who) (d : Digest) (a : Arc) → sight_at who d a DialogueRecord.DeferEnd ≡ Acts → is_active (phase_of d) ≡ true
@@ -254,14 +294,25 @@ on_live who d from x y q r ok = go (find_arc d.arcs from.node) refl
 still_put_off : (d : Digest) (p : ℕ) → is_live_with_peer d.arcs p ≡ true → is_active (phase_of d) ≡ true → may_put_off (woken_by DialogueRecord.DeferEnd p (record d { arcs = with_link d.arcs p with_one_taken })) p ≡ true
 still_put_off d p live active = ap (λ (b : Bool). b && is_active (phase_of d)) ((counted_alike d.arcs p p).live ∙ live) ∙ active
 
+-- it acts on a woken arc on which an end may be put off
+put_off_there : (who : Who) (d : Digest) (from : Addr) (r : DialogueRecord) (a : Arc) → a.peer.node ≡ from.node → is_live_with_peer d.arcs from.node ≡ true → sight_at who d a r ≡ Acts → r ≡ DialogueRecord.DeferEnd
+    → may_put_off (woken_by r a.peer.node (record d { arcs = with_link d.arcs a.peer.node with_one_taken })) a.peer.node ≡ true
+put_off_there who d from r a at live acts is =
+    let g : Digest = record d { arcs = with_link d.arcs a.peer.node with_one_taken } in
+    let heard : sight_at who d a DialogueRecord.DeferEnd ≡ Acts = subst (λ (w : DialogueRecord). sight_at who d a w ≡ Acts) is acts in
+    subst (λ (w : DialogueRecord). may_put_off (woken_by w a.peer.node g) a.peer.node ≡ true) (sym is) (still_put_off d a.peer.node (ap (is_live_with_peer d.arcs) at ∙ live) (end_heard who d a heard))
+
 step_on : (who : Who) (d : Digest) (from : Addr) (x y : Mark) (q : ℕ) (r : DialogueRecord) (R : Digest → Move → Type 0) → Steps who (the from x y q r) (counted_in d from) R → IsLate d
     → ((t : Aaid) (b : BranchId) (h : Holder) → r ≡ DialogueRecord.Begin t b h → ⊥) → (a : Arc) → a.peer.node ≡ from.node → is_live_with_peer d.arcs from.node ≡ true → R (counted_in d from) (take_on who a r d)
 step_on who d from x y q r R k late other a at live =
     subst (λ (n : ℕ). R (record d { arcs = with_link d.arcs n with_one_taken }) (take_on who a r d)) at
-    (woken_step who _ _ R k r p g (take_on who a r d) (on (sight_at who d a r) refl))
+    (woken_step who _ _ R k r p wake g (take_on who a r d) (on (sight_at who d a r) refl))
   where
     p : ℕ
     p = a.peer.node
+
+    wake : is_response r ≡ false → wakes (the from x y q r) p ≡ true
+    wake i = grind (arith, nat_tests, at, i)
 
     g : Digest
     g = record d { arcs = with_link d.arcs p with_one_taken }
@@ -269,13 +320,8 @@ step_on who d from x y q r R k late other a at live =
     u : Digest
     u = woken_by r p g
 
-    off : sight_at who d a r ≡ Acts → r ≡ DialogueRecord.DeferEnd → may_put_off u p ≡ true
-    off acts is =
-        let heard : sight_at who d a DialogueRecord.DeferEnd ≡ Acts = subst (λ (w : DialogueRecord). sight_at who d a w ≡ Acts) is acts in
-        subst (λ (w : DialogueRecord). may_put_off (woken_by w p g) p ≡ true) (sym is) (still_put_off d p (ap (is_live_with_peer d.arcs) at ∙ live) (end_heard who d a heard))
-
     on : (v : Sight) → sight_at who d a r ≡ v → R u (elim v as (λ _. Move) [ Acts ↦ take_record who a r u | Nothing_happens ↦ move [] u | Out_of_phase ↦ move [] u ])
-    on Acts i = step_taken who from x y q r (counted_in d from) R k late a at other u (woken_current r p g) (off i)
+    on Acts i = step_taken who from x y q r (counted_in d from) R k late a at other u (woken_current r p g) (put_off_there who d from r a at live i)
     on Nothing_happens i = k.still u
     on Out_of_phase i = k.still u
 
@@ -287,3 +333,27 @@ step_on_other who d from x y q r R k late other ok = go (find_arc d.arcs from.no
     go : (o : Option Arc) → find_arc d.arcs from.node ≡ o → R (counted_in d from) (elim o as (λ _. Move) [ None ↦ move [] d | Some a ↦ take_on who a r d ])
     go None i = absurd (on_none who d from x y q r ok i)
     go (Some a) i = step_on who d from x y q r R k late other a (find_arc_is d.arcs from.node a i) (on_live who d from x y q r ok)
+
+-- from where the dialogue is woken, of a record that is no response and no Begin
+pub woken_on_other : (who : Who) (d : Digest) (from : Addr) (x y : Mark) (q : ℕ) (r : DialogueRecord) (R : Digest → Move → Type 0) → Steps who (the from x y q r) (counted_in d from) R → IsLate d
+    → ((t : Aaid) (b : BranchId) (h : Holder) → r ≡ DialogueRecord.Begin t b h → ⊥) → is_response r ≡ false → refused_arrival who d from (PeerRecord.OnAssoc x y q r) ≡ None
+    → R (woken_at from.node (counted_in d from)) (elim (find_arc d.arcs from.node) as (λ _. Move) [ None ↦ move [] d | Some a ↦ take_on who a r d ])
+woken_on_other who d from x y q r R k late other plain ok = go (find_arc d.arcs from.node) refl
+  where
+    on : (a : Arc) → a.peer.node ≡ from.node → (u : Digest) → IsLike u d → (v : Sight) → (v ≡ Acts → r ≡ DialogueRecord.DeferEnd → may_put_off u a.peer.node ≡ true)
+        → R u (elim v as (λ _. Move) [ Acts ↦ take_record who a r u | Nothing_happens ↦ move [] u | Out_of_phase ↦ move [] u ])
+    on a at u same Acts off = step_taken who from x y q r (counted_in d from) R k late a at other u same (off refl)
+    on a at u same Nothing_happens off = k.still u
+    on a at u same Out_of_phase off = k.still u
+
+    taken : (a : Arc) → a.peer.node ≡ from.node → R (woken_at a.peer.node (record d { arcs = with_link d.arcs a.peer.node with_one_taken })) (take_on who a r d)
+    taken a at =
+        let g : Digest = record d { arcs = with_link d.arcs a.peer.node with_one_taken } in
+        let same : woken_by r a.peer.node g ≡ woken_at a.peer.node g = rw (plain, woken_by) refl in
+        subst (λ (u : Digest). R u (take_on who a r d)) same (on a at (woken_by r a.peer.node g) (woken_current r a.peer.node g) (sight_at who d a r) (put_off_there who d from r a at (on_live who d from x y q r ok)))
+
+    go : (o : Option Arc) → find_arc d.arcs from.node ≡ o → R (woken_at from.node (counted_in d from)) (elim o as (λ _. Move) [ None ↦ move [] d | Some a ↦ take_on who a r d ])
+    go None i = absurd (on_none who d from x y q r ok i)
+    go (Some a) i =
+        let at : a.peer.node ≡ from.node = find_arc_is d.arcs from.node a i in
+        subst (λ (n : ℕ). R (woken_at n (record d { arcs = with_link d.arcs n with_one_taken })) (take_on who a r d)) at (taken a at)

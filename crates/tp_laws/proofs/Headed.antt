@@ -88,7 +88,7 @@ IsPlaced up d = (d.superior ≡ up) ⊎ ((p : ℕ) → is_live_with_peer d.arcs 
 abbrev pub IsHeaded : Option Addr → Option Current → Type 0
 IsHeaded up o = (c : Current) → o ≡ Some c → is_active c.phase ≡ true → (is_headed_by up c.key ≡ true) × (are_below up c.branches ≡ true)
 
-abbrev IsHeadedMove : Option Addr → Digest → Move → Type 0
+abbrev pub IsHeadedMove : Option Addr → Digest → Move → Type 0
 IsHeadedMove up d m = ((p : ℕ) → IsLinked p d m) × (IsPlaced up d → IsHeaded up d.current → IsHeaded up m.next.current)
 
 dead_more : (n : ℕ) (l : Link) → is_live l ≡ false → is_live (sent_more n l) ≡ false
@@ -97,7 +97,7 @@ dead_more n (Opening x) h = refl
 dead_more n (Offered x) h = refl
 dead_more n (Live x y s t) h = absurd (cc (h))
 
-placed_then : (up : Option Addr) (d : Digest) (m : Move) → ((p : ℕ) → IsLinked p d m) → IsPlaced up d → IsPlaced up m.next
+pub placed_then : (up : Option Addr) (d : Digest) (m : Move) → ((p : ℕ) → IsLinked p d m) → IsPlaced up d → IsPlaced up m.next
 placed_then up d m k (inl s) = inl ((k 0).superior ∙ s)
 placed_then up d m k (inr n) =
     inr (λ p. elim (k p).over.link [
@@ -124,11 +124,11 @@ headed_turned up who f d c now put h u is on =
     let act : is_active c.phase ≡ true = was_active c.phase next.phase moved.moves (ap is_active (sym (left_is next u is).1) ∙ on) in
     (ap (is_headed_by up) key ∙ (h c now act).0, below_is up u.branches ∙ ap (kin_below up) same ∙ sym (below_is up c.branches) ∙ (h c now act).1)
 
-headed_fresh : (up : Option Addr) (k : Key) → is_headed_by up k ≡ true → IsHeaded up (Some (fresh_current k))
+pub headed_fresh : (up : Option Addr) (k : Key) → is_headed_by up k ≡ true → IsHeaded up (Some (fresh_current k))
 headed_fresh up k h c is on = let same : fresh_current k ≡ c = cc (is) in subst (λ (x : Current). (is_headed_by up x.key ≡ true) × (are_below up x.branches ≡ true)) same (h, refl)
 
 -- an arc on which a transaction may begin does not lead to the superior
-not_above : (up : Option Addr) (who : Who) (d : Digest) (q : ℕ) (a : Arc) → find_arc d.arcs q ≡ Some a → not (may_begin_on who d a) ≡ false → IsPlaced up d → is_at up a.peer.node ≡ false
+pub not_above : (up : Option Addr) (who : Who) (d : Digest) (q : ℕ) (a : Arc) → find_arc d.arcs q ≡ Some a → not (may_begin_on who d a) ≡ false → IsPlaced up d → is_at up a.peer.node ≡ false
 not_above up who d q a found may (inl s) =
     let off : is_superior d a.peer.node ≡ false = grind (arith, may) in
     ap (λ (o : Option Addr). is_at o a.peer.node) (sym s) ∙ sym (superior_at d a.peer.node) ∙ off
@@ -171,18 +171,18 @@ headed_begins up who q d placed h = go d.current refl (find_arc d.arcs q) refl
     go (Some c) i (Some a) j = on c i a j (not (may_begin_on who d a)) refl
 
 -- a change of the arcs that leaves dead links dead
-placed_arcs : (up : Option Addr) (d : Digest) (arcs : List Arc) → ((p : ℕ) → is_live_with_peer d.arcs p ≡ false → is_live_with_peer arcs p ≡ false) → IsPlaced up d → IsPlaced up (record d { arcs = arcs })
+pub placed_arcs : (up : Option Addr) (d : Digest) (arcs : List Arc) → ((p : ℕ) → is_live_with_peer d.arcs p ≡ false → is_live_with_peer arcs p ≡ false) → IsPlaced up d → IsPlaced up (record d { arcs = arcs })
 placed_arcs up d arcs k (inl s) = inl s
 placed_arcs up d arcs k (inr n) = inr (λ p. k p (n p))
 
-dead_without : (arcs : List Arc) (q p : ℕ) → is_live_with_peer arcs p ≡ false → is_live_with_peer (without_arc arcs q) p ≡ false
+pub dead_without : (arcs : List Arc) (q p : ℕ) → is_live_with_peer arcs p ≡ false → is_live_with_peer (without_arc arcs q) p ≡ false
 dead_without arcs q p h = live_without arcs q p ∙ go (q == p)
   where
     go : (b : Bool) → (if b then false else is_live_with_peer arcs p) ≡ false
     go true = refl
     go false = h
 
-headed_moves : (up : Option Addr) (who : Who) (e : Event) (s : Digest) → Moves who e s (IsHeadedMove up)
+pub headed_moves : (up : Option Addr) (who : Who) (e : Event) (s : Digest) → Moves who e s (IsHeadedMove up)
 headed_moves up who e s = record {
   still = λ d. (λ p. (linked p).still d, λ placed h. h);
   chain = λ d a f one two none. (λ p. (linked p).chain d a f (one.0 p) (two.0 p) none, λ placed h. two.1 (placed_then up d a one.0 placed) (one.1 placed h));
@@ -279,18 +279,16 @@ placed_law o up h legal = go (digest o h).declared refl
     go true i = inl ((traced_law o up h legal).declared i)
     go false i = inr (λ p. idle_dead (link_with (digest o h).arcs p) (undeclared_idle o up h legal p i))
 
-pub headed_law : (o : Origin) (up : Option Addr) (h : List Entry) → IsGrown o up h → IsHeaded up (digest o h).current
-headed_law o up [] legal = headed_start up o
-headed_law o up (e ∷ h) legal = moves.1 placed (first (came_by o.who d e.event legal.0) (headed_law o up h legal.3))
+-- behind what comes first in an event
+pub headed_first : (o : Origin) (up : Option Addr) (e : Entry) (h : List Entry) → IsGrown o up (e ∷ h) → IsHeaded up (digest o h).current
+    → IsPlaced up (prelude o.who (digest o h) e.event) × IsHeaded up (prelude o.who (digest o h) e.event).current
+headed_first o up e h legal was = (placed, first (came_by o.who d e.event legal.0) was)
   where
     d : Digest
     d = digest o h
 
     s : Digest
     s = prelude o.who d e.event
-
-    moves : IsHeadedMove up s (action o.who d e.event)
-    moves = every_move o.who d e.event (IsHeadedMove up) (headed_moves up o.who e.event s) (late_law o up h legal.3) legal.0
 
     placed : IsPlaced up s
     placed = go s.declared refl
@@ -306,3 +304,16 @@ headed_law o up (e ∷ h) legal = moves.1 placed (first (came_by o.who d e.event
         let at : is_at up a.peer.node ≡ true = rw (sup.1) (grind (arith, nat_tests, sup.2)) in
         subst (IsHeaded up) (sym cur) (headed_fresh up (Under t b a.peer) at)
     first (By_crash is cur) k = subst (IsHeaded up) (sym cur) (λ c i on. absurd (cc (dormant_crash d.current c i, on)))
+
+pub headed_law : (o : Origin) (up : Option Addr) (h : List Entry) → IsGrown o up h → IsHeaded up (digest o h).current
+headed_law o up [] legal = headed_start up o
+headed_law o up (e ∷ h) legal = let first = headed_first o up e h legal (headed_law o up h legal.3) in moves.1 first.0 first.1
+  where
+    d : Digest
+    d = digest o h
+
+    s : Digest
+    s = prelude o.who d e.event
+
+    moves : IsHeadedMove up s (action o.who d e.event)
+    moves = every_move o.who d e.event (IsHeadedMove up) (headed_moves up o.who e.event s) (late_law o up h legal.3) legal.0

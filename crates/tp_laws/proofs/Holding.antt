@@ -175,7 +175,7 @@ unfolding cleared
 cleared_none d = refl
 
 pub change_gains : (e : Event) (u : Digest) (q : ℕ) (f : Dialogue → Dialogue) → IsChange e u q f → (d : Dialogue) → is_holding (f d) ≡ true → (is_holding d || gains_at e q) ≡ true
-change_gains e u q f (By_waking i) d h = woken_gains d (gains_at e q) (ap (λ (k : Dialogue → Dialogue). is_holding (k d)) (sym i) ∙ h)
+change_gains e u q f (By_waking w i) d h = woken_gains d (gains_at e q) (ap (λ (k : Dialogue → Dialogue). is_holding (k d)) (sym i) ∙ h)
 change_gains e u q f (By_saying a by i off) d h = said_gains a d (gains_at e q) (ap (λ (k : Dialogue → Dialogue). is_holding (k d)) (sym i) ∙ h)
 change_gains e u q f (By_hearing k by i off) d h = heard_gains e q k by d (ap (λ (k : Dialogue → Dialogue). is_holding (k d)) (sym i) ∙ h)
 change_gains e u q f (By_beginning k by i) d h = begun_gains e q k by d (ap (λ (k : Dialogue → Dialogue). is_holding (k d)) (sym i) ∙ h)

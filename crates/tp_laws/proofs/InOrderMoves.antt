@@ -71,7 +71,7 @@ change_in_order e d p f by o = go by
     on_heard h is off = kept (heard h) is (keeps_heard h refl)
 
     go : IsChange e d p f → IsInOrder (record d { arcs = with_dialogue d.arcs p f })
-    go (By_waking is) = kept woken is keeps_woken
+    go (By_waking w is) = kept woken is keeps_woken
     go (By_saying a at is off) = on_said a is off
     go (By_hearing h at is off) = on_heard h is off
     go (By_beginning h at is) = kept (begun_by h Side.Subordinate) is (keeps_begun h Side.Subordinate)

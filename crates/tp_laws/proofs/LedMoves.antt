@@ -168,7 +168,7 @@ softens_change who e s d q p f calm same by g = go (subst (λ (n : ℕ). IsChang
     eq = grind (arith, nat_tests, same)
 
     go : IsChange e d p f → Softens g (f g)
-    go (By_waking i) = subst (λ (k : Dialogue → Dialogue). Softens g (k g)) (sym i) (softens_woken g)
+    go (By_waking w i) = subst (λ (k : Dialogue → Dialogue). Softens g (k g)) (sym i) (softens_woken g)
     go (By_saying a by i off) = subst (λ (k : Dialogue → Dialogue). Softens g (k g)) (sym i) (softens_said e p a by calm.gives g)
     go (By_hearing h by i off) = subst (λ (k : Dialogue → Dialogue). Softens g (k g)) (sym i) (softens_heard e p h by calm.gains g)
     go (By_beginning h by i) = absurd (calm.begins h by)

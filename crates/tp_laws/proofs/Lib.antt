@@ -166,3 +166,5 @@ pub mod KnownFlags
 pub mod KnownAsked
 pub mod KnownPrepared
 pub mod KnownWhole
+pub mod AtPeer
+pub mod KnownRests

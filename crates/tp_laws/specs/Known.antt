@@ -121,6 +121,9 @@ current_agrees o h =
 abbrev pub agrees_in_parts : Origin → List Entry → Bool
 agrees_in_parts o h = node_agrees o h && arcs_agree o h && current_agrees o h
 
--- those that no law gives: all of the arcs, and of the current transaction these
+-- those that no law gives: of the arcs all but their rest, and of the current transaction these
+abbrev pub links_and_control_agree : Origin → List Entry → Bool
+links_and_control_agree o h = links_agree o h && order_agrees o h && control_agrees o h && awaits_agrees o h && due_agrees o h && deferral_agrees o h
+
 abbrev pub rest_agrees : Origin → List Entry → Bool
-rest_agrees o h = arcs_agree o h && marks_agree o h && owes_agrees o h && superior_rolled_agrees o h && own_agrees o h
+rest_agrees o h = links_and_control_agree o h && marks_agree o h && owes_agrees o h && superior_rolled_agrees o h && own_agrees o h

@@ -27,7 +27,7 @@ use Rattle.tp_model.specs.Arcs.{find_arc, is_live_with_peer, link_with, put_arc,
 use Rattle.tp_model.specs.Transactions.{Transaction, aaid_of, node_key, is_under_at, refused_tx}
 use Rattle.tp_model.specs.Requests.{has_branch_at}
 use Rattle.tp_model.specs.Recovery.{is_commit, answer, find_owed, is_nothing_owed, find_kept, settled, not_forgotten}
-use Rattle.tp_model.specs.Arrivals.{branch_key, find_branch_by_id, named_by_key, named_by_branch, known_of}
+use Rattle.tp_model.specs.Arrivals.{is_response, branch_key, find_branch_by_id, named_by_key, named_by_branch, known_of}
 use Rattle.tp_model.specs.Outcomes.{is_now}
 use Rattle.tp_model.specs.Node.{turned, Move, move, followed, perform, next_mark, with_mark_drawn, superior_arc, may_root, phase_of, seen, fresh_current, begin_on, keep}
 use Rattle.tp_model.specs.Events.{after_crash}
@@ -355,13 +355,18 @@ left_by (Event.Arrive from (PeerRecord.OnAssoc x y q DialogueRecord.Left)) = Som
 left_by (Event.Arrive from (PeerRecord.OnAssoc x y q DialogueRecord.LeftEnd)) = Some from.node
 left_by _ = None
 
+-- a record that ends the rest of its arc: any but a response
+abbrev pub wakes : Event → ℕ → Bool
+wakes (Event.Arrive from (PeerRecord.OnAssoc x y q r)) p = (from.node == p) && not (is_response r)
+wakes _ p = false
+
 -- an end is put off on a live arc, while the transaction is active
 abbrev pub may_put_off : Digest → ℕ → Bool
 may_put_off d p = is_live_with_peer d.arcs p && is_active (phase_of d)
 
 -- what it makes of the dialogue with a peer, outside the passages of its transaction
 pub data IsChange (e : Event) (d : Digest) (p : ℕ) (f : Dialogue → Dialogue) : Type 0 where
-  By_waking : f ≡ woken → IsChange e d p f
+  By_waking : wakes e p ≡ true → f ≡ woken → IsChange e d p f
   By_saying : (a : Asked) → said_by e ≡ Some (p, a) → f ≡ said a → (a ≡ Ask_defer_end → may_put_off d p ≡ true) → IsChange e d p f
   By_hearing : (h : Heard) → heard_by e ≡ Some (p, h) → f ≡ heard h → (h ≡ Hear_defer_end → may_put_off d p ≡ true) → IsChange e d p f
   By_beginning : (h : Holder) → begun_by_record e ≡ Some (p, h) → f ≡ begun_by h Side.Subordinate → IsChange e d p f

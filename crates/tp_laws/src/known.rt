@@ -6,7 +6,7 @@ ghost use Rattle.tp_names.specs.declared.identifiers.Addr.{Addr};
 ghost use Rattle.tp_model.specs.Parts.{Origin, Entry};
 ghost use Rattle.tp_model.specs.Legal.{IsLegal};
 ghost use Rattle.tp_model.specs.Consistency.{agrees};
-ghost use Rattle.tp_laws.specs.Known.{agrees_in_parts, declared_agrees, known_agrees, superior_agrees, drawn_agrees, boot_agrees, kept_agrees, phase_agrees, key_agrees, above_agrees, branches_agree, decision_agrees, asked_agrees, told_prepare_agrees, rest_agrees, node_agrees};
+ghost use Rattle.tp_laws.specs.Known.{agrees_in_parts, declared_agrees, known_agrees, superior_agrees, drawn_agrees, boot_agrees, kept_agrees, phase_agrees, key_agrees, above_agrees, branches_agree, decision_agrees, asked_agrees, told_prepare_agrees, rests_agrees, rest_agrees, node_agrees};
 
 /// The parts together are the whole: where each of them agrees, what is known agrees with every question.
 pub fn parts_are_the_whole()
@@ -56,8 +56,14 @@ pub fn requests_are_known()
     ensures prepare { (o : Origin) (up : Option Addr) (h : List Entry) → IsLegal o up h → told_prepare_agrees o h ≡ true }
 {}
 
-/// In every legal history in which what is known of the arcs, of the marks of the branches, of what the user owes, of whether
-/// the superior rolled and of the node's own report is what their questions answer, all that is known is.
+/// In every legal history a live arc rests if its end left its transaction over it, and no record but a response came since.
+pub fn arcs_are_known()
+    ensures rest { (o : Origin) (up : Option Addr) (h : List Entry) → IsLegal o up h → rests_agrees o h ≡ true }
+{}
+
+/// In every legal history in which what is known of the arcs but for their rest, of the marks of the branches, of what the
+/// user owes, of whether the superior rolled and of the node's own report is what their questions answer, all that is known
+/// is.
 pub fn the_rest_makes_the_whole()
     ensures { (o : Origin) (up : Option Addr) (h : List Entry) → IsLegal o up h → rest_agrees o h ≡ true → agrees o h ≡ true }
 {}

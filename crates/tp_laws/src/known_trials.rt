@@ -6,9 +6,9 @@ ghost use Rattle.tp_names.specs.declared.outcome.Outcome.{Outcome};
 ghost use Rattle.tp_model.specs.declared.arc.Phase.{Phase};
 ghost use Rattle.tp_model.specs.Legal.{is_start};
 ghost use Rattle.tp_model.specs.Consistency.{agrees};
-ghost use Rattle.tp_model.specs.Questions.{declared_in, drawn_in};
+ghost use Rattle.tp_model.specs.Questions.{declared_in, drawn_in, rests_in};
 ghost use Rattle.tp_model.specs.Keys.{phase_in, superior_for, superior_since, branches_in, kept_in, known_in, decision_for, asked_in, told_prepare_in};
-ghost use Rattle.tp_laws.specs.KnownTrials.{middle, as_branch, as_root, as_damaged, fits, grows, linked, foretelling, forgetting, branch_key, root_key, deciding, beginning, asking, preparing, own_key, above, one_child, foretold_key};
+ghost use Rattle.tp_laws.specs.KnownTrials.{middle, as_branch, as_root, as_damaged, fits, grows, linked, foretelling, forgetting, branch_key, root_key, deciding, beginning, asking, preparing, leaving, responding, speaking, own_key, above, one_child, foretold_key};
 
 /// A node is declared under its superior, and linked with it and with a subordinate: it has drawn a mark for each.
 pub fn a_node_is_linked()
@@ -75,4 +75,15 @@ pub fn a_branch_is_prepared()
     ensures before { told_prepare_in middle foretold_key (grows middle (grows middle [] linked) foretelling) ≡ false }
     ensures told { told_prepare_in middle foretold_key (grows middle (grows middle (grows middle [] linked) foretelling) preparing) ≡ true }
     ensures all { agrees middle (grows middle (grows middle (grows middle [] linked) foretelling) preparing) ≡ true }
+{}
+
+/// A branch leaves, and its arc rests: a response leaves it so, and any other record of the superior ends the rest.
+pub fn an_arc_rests()
+    ensures legal { (fits middle [] linked && fits middle (grows middle [] linked) leaving) ≡ true }
+    ensures before { rests_in middle 1 (grows middle [] linked) ≡ false }
+    ensures rests { rests_in middle 1 (grows middle (grows middle [] linked) leaving) ≡ true }
+    ensures responds { (fits middle (grows middle (grows middle [] linked) leaving) responding && rests_in middle 1 (grows middle (grows middle (grows middle [] linked) leaving) responding)) ≡ true }
+    ensures speaks { fits middle (grows middle (grows middle [] linked) leaving) speaking ≡ true }
+    ensures woken { rests_in middle 1 (grows middle (grows middle (grows middle [] linked) leaving) speaking) ≡ false }
+    ensures all { agrees middle (grows middle (grows middle [] linked) leaving) ≡ true }
 {}
