@@ -22,23 +22,23 @@ use Rattle.tp_laws.proofs.Hanging.{hangs}
 use Rattle.tp_laws.proofs.Bounds.{commit_bound, ready_bound}
 use Rattle.tp_laws.proofs.RollsUp.{rolls_up, left_down, ready_down}
 
-less : (a b k : ℕ) → suc a ≤ b → b ≤ suc k → a ≤ k
+pub less : (a b k : ℕ) → suc a ≤ b → b ≤ suc k → a ≤ k
 less a b k h i = omega (arith, h, i)
 
-no_less : (a b : ℕ) → suc a ≤ b → b ≤ 0 → ⊥
+pub no_less : (a b : ℕ) → suc a ≤ b → b ≤ 0 → ⊥
 no_less a b h i = omega (arith, h, i)
 
-below_self : (n : ℕ) → n ≤ n
+pub below_self : (n : ℕ) → n ≤ n
 below_self n = omega arith
 
-abbrev rank : List Happening → Node → ℕ
+abbrev pub rank : List Happening → Node → ℕ
 rank es y = place (run es).nodes (number_of y)
 
 some_node : (u v : Node) → Some u ≡ Some v → u ≡ v
 some_node u v h = cc (h)
 
 -- the root is one node
-one_root : (es : List Happening) (t : Aaid) (x y : Node) → IsOf (run es) t x → IsOf (run es) t y → is_root t x ≡ true → is_root t y ≡ true → x ≡ y
+pub one_root : (es : List Happening) (t : Aaid) (x y : Node) → IsOf (run es) t x → IsOf (run es) t y → is_root t x ≡ true → is_root t y ≡ true → x ≡ y
 one_root es t x y here there a b =
     let m : t.mark.node ≡ number_of x = at x a in
     let n : t.mark.node ≡ number_of y = at y b in

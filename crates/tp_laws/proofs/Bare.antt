@@ -146,7 +146,7 @@ silent_turn e s put = every_turn e s IsSilent (silent_turns e s) put
 
 -- ---- kept transactions
 
-kept_put : (t : Aaid) (ks : List Kept) (k : Kept) → keeps_tree t (put_kept ks k) ≡ true → (is_aaid t k.key.aaid || keeps_tree t ks) ≡ true
+pub kept_put : (t : Aaid) (ks : List Kept) (k : Kept) → keeps_tree t (put_kept ks k) ≡ true → (is_aaid t k.key.aaid || keeps_tree t ks) ≡ true
 kept_put t [] k h = h
 kept_put t (x ∷ ks) k h = go (is_key x.key k.key) refl (kept_put t ks k)
   where
@@ -154,7 +154,7 @@ kept_put t (x ∷ ks) k h = go (is_key x.key k.key) refl (kept_put t ks k)
     go true i rest = grind (arith, h, i)
     go false i rest = grind (arith, h, i, rest)
 
-kept_without : (t : Aaid) (ks : List Kept) (j : NodeKey) → keeps_tree t (without_kept ks j) ≡ true → keeps_tree t ks ≡ true
+pub kept_without : (t : Aaid) (ks : List Kept) (j : NodeKey) → keeps_tree t (without_kept ks j) ≡ true → keeps_tree t ks ≡ true
 kept_without t [] j h = h
 kept_without t (x ∷ ks) j h = go (is_key x.key j) refl (kept_without t ks j)
   where
@@ -173,11 +173,11 @@ kept_record t (Some (LogRec.End n k o)) ks h = inl (kept_without t ks k h)
 kept_record t (Some (LogRec.Damage n k s o p cs)) ks h =
     elim (or_case (is_aaid t k.aaid) (keeps_tree t ks) (kept_put t ks (record { node = n; key = k; superior = s; side = o; report = p; owed = cs; forgot = false }) h)) [ inl i ↦ inr i | inr i ↦ inl i ]
 
-forgotten_tree : (t : Aaid) (ks : List Kept) → keeps_tree t (not_forgotten ks) ≡ keeps_tree t ks
+pub forgotten_tree : (t : Aaid) (ks : List Kept) → keeps_tree t (not_forgotten ks) ≡ keeps_tree t ks
 forgotten_tree t [] = refl
 forgotten_tree t (k ∷ ks) = grind (arith, forgotten_tree t ks)
 
-among_tree : (t : Aaid) (ks : List Kept) (k : Kept) → IsAmong ks k → is_aaid t k.key.aaid ≡ true → keeps_tree t ks ≡ true
+pub among_tree : (t : Aaid) (ks : List Kept) (k : Kept) → IsAmong ks k → is_aaid t k.key.aaid ≡ true → keeps_tree t ks ≡ true
 among_tree t [] k a h = absurd a
 among_tree t (x ∷ ks) k (inl a) h = let here : is_aaid t x.key.aaid ≡ true = ap (λ (j : NodeKey). is_aaid t j.aaid) a.1 ∙ h in rw here refl
 among_tree t (x ∷ ks) k (inr a) h = let there = among_tree t ks k a h in rw there (grind arith)
@@ -358,7 +358,7 @@ record_more : (t : Aaid) (r : Option LogRec) (rs : List LogRec) → has_record (
 record_more t None rs h = h
 record_more t (Some r) rs h = rw h (grind arith)
 
-kept_prelude : (who : Who) (d : Digest) (e : Event) (t : Aaid) → keeps_tree t (prelude who d e).kept ≡ keeps_tree t d.kept
+pub kept_prelude : (who : Who) (d : Digest) (e : Event) (t : Aaid) → keeps_tree t (prelude who d e).kept ≡ keeps_tree t d.kept
 unfolding after_crash
 kept_prelude who d (Event.Declare s) t = refl
 kept_prelude who d (Event.Do r) t = grind arith

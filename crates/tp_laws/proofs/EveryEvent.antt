@@ -25,13 +25,13 @@ use Rattle.tp_model.specs.Parts.{Who, Event, Live, Arc, Branch, Current, Digest}
 use Rattle.tp_model.specs.Dialogues.{is_nil, is_active, is_ready, is_committing, fresh_dialogue, is_chained}
 use Rattle.tp_model.specs.Arcs.{find_arc, put_arc}
 use Rattle.tp_model.specs.Transactions.{aaid_of, node_key, refused_tx}
-use Rattle.tp_model.specs.Recovery.{find_owed, is_nothing_owed, refused_kept, is_commit, settled, noted, owed, answer, find_kept, with_forget, forget_to, ask_owed, tell_superior}
+use Rattle.tp_model.specs.Recovery.{find_owed, is_nothing_owed, is_root_key, refused_kept, is_commit, settled, noted, owed, answer, find_kept, with_forget, forget_to, ask_owed, tell_superior}
 use Rattle.tp_model.specs.Node.{Move, move, followed, perform, phase_of, has_asked, seen, begin_on, try_start, transact, keep}
 use Rattle.tp_model.specs.Arrivals.{Named, current_with, child_addr, is_other, find_branch_by_id, branch_key, key_of_branch, named_by_key, named_by_branch, known_of, is_current_ready, lose, refused_arrival, take_accept, reply_to, take_order, take_forget, take_done_reply, take_ready_reply, take_reply, do_arrival, broken_pair, break_off}
 use Rattle.tp_model.specs.Requests.{refused_request}
 use Rattle.tp_model.specs.Events.{refused_purge, retry_each, retry, purge, action, refusal}
 use Rattle.tp_laws.specs.Moves.{prelude, linked, IsAsked, are_said, may_begin, some_leads, Moves}
-use Rattle.tp_laws.specs.Moves.{IsAmong, StandsIn, IsLate, orders_in, keeps_commit, is_committed_in, IsOwned, AreSaid, IsFound, IsUnderWay, IsSettling}
+use Rattle.tp_laws.specs.Moves.{IsAmong, StandsIn, IsLate, orders_in, keeps_commit, keeps_idle, is_committed_in, IsOwned, AreSaid, IsFound, IsUnderWay, IsSettling}
 use Rattle.tp_laws.specs.Steps.{Steps}
 use Rattle.tp_laws.proofs.Saying.{one_said, said_ready, said_order}
 use Rattle.tp_laws.proofs.Saying.{said_owed as owed_so, said_forget as forget_so}
@@ -222,7 +222,7 @@ step_done_reply who d from t b r R k late ok =
     settling : (x : Kept) → n.kept ≡ Some x → (c : Option Current) → n.current ≡ c → elim n.current as (λ _. Bool) [ None ↦ false | Some c ↦ is_committing c.phase ] ≡ false → IsSettling (Event.Arrive from (PeerRecord.RecReply t b (RecState.Done r))) d d x (KeptEvent.Done from b r)
     settling x i c m off = elim (keyed c (Some x) m i) [
       | inl z ↦ absurd (cc (z.1))
-      | inr z ↦ (let same = (found_again d.kept z.0 x z.3).1 in (t, refl, ap (λ (j : NodeKey). is_aaid j.aaid t) same ∙ z.1, refl, where_from c m z.0 z.2 same))
+      | inr z ↦ (let same = (found_again d.kept z.0 x z.3).1 in (t, refl, ap (λ (j : NodeKey). is_aaid j.aaid t) same ∙ z.1, refl, where_from c m z.0 z.2 same, (found_again d.kept z.0 x z.3).0))
     ]
       where
         where_from : (c : Option Current) → n.current ≡ c → (j : NodeKey) → current_with d j ≡ c → x.key ≡ j → ((y : Child) → find_owed x.owed b ≡ Some y → is_addr y.addr from ≡ true) ⊎ IsUnderWay d x.key
@@ -249,7 +249,7 @@ step_done_reply who d from t b r R k late ok =
     go true v o i c m = step_replied who _ d b (RecState.Done r) R k late (λ u j. asked v c m u j)
     go false v (Some x) i c m = k.keeps d x (KeptEvent.Done from b r) (held x i, (among x i).0, (among x i).1, (among x i).2, settling x i c m v)
     go false v None i (Some u) m = k.still d
-    go false v None i None m = k.speaks d (forget_to from (branch_key t b) b r) (spoken_forget from (branch_key t b) b r) (λ u h. absurd (cc (h, forget_orders u from (branch_key t b) b r)), forget_so _ d d from (branch_key t b) b r) (said_forget (Event.Arrive from (PeerRecord.RecReply t b (RecState.Done r))) from (branch_key t b) b r) (last_forget who d from (branch_key t b) b r)
+    go false v None i None m = k.speaks d (forget_to from (branch_key t b) b r) (spoken_forget from (branch_key t b) b r) (λ u h. absurd (cc (h, forget_orders u from (branch_key t b) b r)), forget_so d d from t b r m) (said_forget (Event.Arrive from (PeerRecord.RecReply t b (RecState.Done r))) from (branch_key t b) b r) (last_forget who d from (branch_key t b) b r)
 
 step_take_reply : (who : Who) (d : Digest) (from : Addr) (t : Aaid) (b : BranchId) (v : RecState) (R : Digest → Move → Type 0) → Steps who (Event.Arrive from (PeerRecord.RecReply t b v)) d R → IsLate d
     → refused_arrival who d from (PeerRecord.RecReply t b v) ≡ None → R d (take_reply who from t b v d)
@@ -269,7 +269,7 @@ step_forget who from t b s R k d = go (find_kept d.kept j) refl
     go (Some x) i =
         let g : Digest = record d { kept = with_forget d.kept j (λ y. noted y KeptEvent.Forget) } in
         k.notes_kept d g.kept (keep (settled x KeptEvent.Forget) g) (λ u h. sym (noted_kept u d.kept j) ∙ h, noted_forgotten d.kept j) refl
-        (k.keeps g x KeptEvent.Forget (λ u m. noted_found d.kept j x i u m, noted_among d.kept j x i, noted_stands d.kept j x i, noted_again d.kept j x i, tt))
+        (k.keeps g x KeptEvent.Forget (λ u m. noted_found d.kept j x i u m, noted_among d.kept j x i, noted_stands d.kept j x i, noted_again d.kept j x i, (from, t, b, refl, (found_again d.kept j x i).1)))
 
 step_arrival : (who : Who) (d : Digest) (from : Addr) (r : PeerRecord) (R : Digest → Move → Type 0) → Steps who (Event.Arrive from r) (prelude who d (Event.Arrive from r)) R → IsLate d → refused_arrival who d from r ≡ None
     → R (prelude who d (Event.Arrive from r)) (do_arrival who from r d)
@@ -318,11 +318,11 @@ quiet_retry : (ks : List Kept) (d : Digest) → (retry_each ks d).rec ≡ None
 quiet_retry [] d = refl
 quiet_retry (k ∷ ks) d = let rest = quiet_retry ks (perform (owed k) d).next in rw (rest, retry_each) refl
 
-step_retry_each : (who : Who) (e : Event) (s : Digest) (R : Digest → Move → Type 0) → Steps who e s R → (ks : List Kept) (d : Digest) → ((u : Aaid) → keeps_commit u ks ≡ true → keeps_commit u d.kept ≡ true) → R d (retry_each ks d)
-step_retry_each who e s R k [] d held = k.still d
-step_retry_each who e s R k (x ∷ ks) d held =
+step_retry_each : (who : Who) (e : Event) (s : Digest) (R : Digest → Move → Type 0) → Steps who e s R → (ks : List Kept) (d : Digest) → ((u : Aaid) → keeps_commit u ks ≡ true → keeps_commit u d.kept ≡ true) → (keeps_idle ks ≡ true → keeps_idle d.kept ≡ true) → R d (retry_each ks d)
+step_retry_each who e s R k [] d held idle = k.still d
+step_retry_each who e s R k (x ∷ ks) d held idle =
     let a : Move = perform (owed x) d in
-    k.chain d a (retry_each ks) (k.speaks d (owed x) (spoken_owed x) (λ u h. owned u (held u (rw (owed_orders u x h) refl)), owed_so e s d x (λ c. owned x.key.aaid (held x.key.aaid (rw (c, aaid_same x.key.aaid) refl)))) (said_owed e x) (last_owed who d x)) (step_retry_each who e s R k ks a.next (λ u h. held u (rw h (grind arith)))) (inl refl)
+    k.chain d a (retry_each ks) (k.speaks d (owed x) (spoken_owed x) (λ u h. owned u (held u (rw (owed_orders u x h) refl)), owed_so e s d x (λ c. (owned x.key.aaid (held x.key.aaid (rw (c, aaid_same x.key.aaid) refl)), λ n. idle (rw (c, n) refl)))) (said_owed e x) (last_owed who d x)) (step_retry_each who e s R k ks a.next (λ u h. held u (rw h (grind arith))) (λ h. idle (rw h (grind arith)))) (inl refl)
   where
     owned : (u : Aaid) → keeps_commit u d.kept ≡ true → is_committed_in u d ≡ true
     owned u h = rw h (grind arith)
@@ -333,7 +333,7 @@ step_retry who d R k late =
     let a : Move = transact who TxEvent.Retry d in
     k.chain d a (λ e. retry_each e.kept e)
     (step_transact who Event.Retry d R k TxEvent.Retry d (refl, refl) (λ c j. refl) (λ c j. record { late = late c j; ok = λ h. refl; abort = λ n h. cc (h); ordered = λ h. cc (h); not_begun = λ arcs h. cc (h) }) (λ n i. absurd (cc (i))))
-    (step_retry_each who Event.Retry d R k a.next.kept a.next (λ u h. h))
+    (step_retry_each who Event.Retry d R k a.next.kept a.next (λ u h. h) (λ h. h))
     (inr (quiet_retry a.next.kept a.next))
 
 purge_plain : (k : Kept) → refused_kept k KeptEvent.Purge ≡ None → is_nothing_owed k.owed ≡ true
@@ -342,6 +342,13 @@ purge_plain k h = go (is_nothing_owed k.owed) refl
     go : (v : Bool) → is_nothing_owed k.owed ≡ v → v ≡ true
     go true i = refl
     go false i = absurd (grind (arith, h, i))
+
+purge_root : (k : Kept) → refused_kept k KeptEvent.Purge ≡ None → is_commit k.side ≡ true → is_root_key k.key ≡ true
+purge_root k h c = go (is_root_key k.key) refl
+  where
+    go : (v : Bool) → is_root_key k.key ≡ v → v ≡ true
+    go true i = refl
+    go false i = absurd (grind (arith, h, i, c))
 
 step_purge : (who : Who) (d : Digest) (R : Digest → Move → Type 0) → Steps who Event.Purge d R → refused_purge d.kept ≡ None → R d (purge d)
 unfolding purge
@@ -355,7 +362,7 @@ step_purge who d R k ok = go d.kept refl
           rw i (inl (refl, refl)),
           rw i (inl refl),
           (x, ap (λ (l : List Kept). find_kept l x.key) i ∙ rw (key_self x.key) refl, refl),
-          purge_plain x (ap refused_purge (sym i) ∙ ok),
+          (purge_plain x (ap refused_purge (sym i) ∙ ok), purge_root x (ap refused_purge (sym i) ∙ ok)),
         )
 
 -- ---- what an accepted event is not refused for

@@ -9,7 +9,7 @@ use Rattle.tp_records.specs.declared.peer.PeerRecord.{PeerRecord}
 use Rattle.tp_logrec.specs.declared.record.LogRec.{LogRec}
 use Rattle.tp_model.specs.Parts.{Origin, Event, Entry}
 use Rattle.tp_model.specs.History.{records, entry_of}
-use Rattle.tp_model.specs.Outcomes.{rolled, has_left}
+use Rattle.tp_model.specs.Outcomes.{rolled, has_left, completed_none}
 use Rattle.tp_model.specs.Questions.{is_at}
 use Rattle.tp_model.specs.World.{Node, Frame, number_of, find_node, put_node}
 use Rattle.tp_model.specs.Happenings.{Happening, run}
@@ -40,6 +40,7 @@ record Grows (g k : Deeds) (rs ls : List LogRec) : Type 0 where
   committed : (t : Aaid) → g.committed t ≡ true → k.committed t ≡ true
   rolled : (t : Aaid) → g.rolled t ≡ true → k.rolled t ≡ true
   left : (t : Aaid) → g.left t ≡ true → k.left t ≡ true
+  completed : (t : Aaid) → g.completed t ≡ true → k.completed t ≡ true
   voted : (ks : List BranchKey) (n : ℕ) → is_voted ks rs n ≡ true → is_voted ks ls n ≡ true
 
 holds_more : (ks more : List BranchKey) (n : ℕ) (f g : Aaid → Bool) → ((t : Aaid) → f t ≡ true → g t ≡ true) → holds_at ks n f ≡ true → holds_at (ks ++ more) n g ≡ true
@@ -68,7 +69,7 @@ vote_kept true c d f h = f h
 heeded_more : (g k : Deeds) (rs ls : List LogRec) → Grows g k rs ls → (ks : List BranchKey) (n : ℕ) (v : Bool) (r : DialogueRecord) → is_heeded ks g rs n v r ≡ true → is_heeded ks k ls n v r ≡ true
 heeded_more g k rs ls w ks n v r h =
     both_true (may_say ks k n v r) (not (is_vote r) || is_voted ks ls n)
-    (say_wider ks ks g k (λ m. (λ i. holds_grown ks m g.committed k.committed w.committed i, λ i. holds_grown ks m g.rolled k.rolled w.rolled i, λ i. holds_grown ks m g.left k.left w.left i)) n v r (and_left (may_say ks g n v r) (not (is_vote r) || is_voted ks rs n) h))
+    (say_wider ks ks g k (λ m. (λ i. holds_grown ks m g.committed k.committed w.committed i, λ i. holds_grown ks m g.rolled k.rolled w.rolled i, λ i. holds_grown ks m g.left k.left w.left i, λ i. holds_grown ks m g.completed k.completed w.completed i)) n v r (and_left (may_say ks g n v r) (not (is_vote r) || is_voted ks rs n) h))
     (vote_kept (is_vote r) (is_voted ks rs n) (is_voted ks ls n) (w.voted ks n) (and_right (may_say ks g n v r) (not (is_vote r) || is_voted ks rs n) h))
 
 or_kept : (b c d : Bool) → (c ≡ true → d ≡ true) → (b || c) ≡ true → (b || d) ≡ true
@@ -94,6 +95,7 @@ grown o e h = record {
   committed = λ t i. commit_more t e.rec (records o h) i;
   rolled = λ t i. let r : rolled o t h ≡ true = i in rw r (grind arith);
   left = λ t i. let r : has_left o t h ≡ true = i in rw r (grind arith);
+  completed = λ t i. let r : completed_none o t h ≡ true = i in rw r (grind arith);
   voted = λ ks n i. go ks n (slice_get ks n) refl i;
 }
   where
@@ -146,7 +148,7 @@ word_taken : (ns : List Node) (fs : List Frame) (x y : Node) (a : Addr) (m k : M
 word_taken ns fs x y a m k q r st unique here under at =
     both_true (may_say (begun_keys (sent_on m k (number_of y) x.history)) g n v r) (not (is_vote r) || is_voted (begun_keys (sent_on m k (number_of y) x.history)) rs n)
     (subst (λ (ks : List BranchKey). may_say ks g n v r ≡ true) (sym wide)
-    (say_wider heard (heard ++ begun_keys down.0) g g (λ j. (λ i. holds_more heard (begun_keys down.0) j g.committed g.committed (λ t h. h) i, λ i. holds_more heard (begun_keys down.0) j g.rolled g.rolled (λ t h. h) i, λ i. holds_more heard (begun_keys down.0) j g.left g.left (λ t h. h) i)) n v r
+    (say_wider heard (heard ++ begun_keys down.0) g g (λ j. (λ i. holds_more heard (begun_keys down.0) j g.committed g.committed (λ t h. h) i, λ i. holds_more heard (begun_keys down.0) j g.rolled g.rolled (λ t h. h) i, λ i. holds_more heard (begun_keys down.0) j g.left g.left (λ t h. h) i, λ i. holds_more heard (begun_keys down.0) j g.completed g.completed (λ t h. h) i)) n v r
     (said_there heard g before next.0 r (subst (λ (l : List DialogueRecord). each_up (may_say heard g) 0 false l ≡ true) sent (speaks.words (number_of x) m k under)))))
     (subst (λ (ks : List BranchKey). (not (is_vote r) || is_voted ks rs n) ≡ true) (sym wide)
     (vote_kept (is_vote r) (is_voted heard rs n) (is_voted (heard ++ begun_keys down.0) rs n) (voted_wide heard (begun_keys down.0) rs n)

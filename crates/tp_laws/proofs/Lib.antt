@@ -66,6 +66,12 @@ pub mod Logs
 pub mod ReadyRolls
 pub mod Rowed
 pub mod OwingTurns
+mod ClearingTurns
+mod ClearingMoves
+mod ClearedLaw
+mod ClearedFate
+mod ClearedDown
+mod ReportFree
 pub mod Branched
 pub mod Keyed
 pub mod Above

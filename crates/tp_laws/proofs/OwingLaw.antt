@@ -9,6 +9,7 @@ use Rattle.tp_names.specs.declared.identifiers.Addr.{Addr}
 use Rattle.tp_names.specs.declared.children.Child.{Child}
 use Rattle.tp_names.specs.declared.outcome.Report.{Report}
 use Rattle.tp_names.specs.Same.{is_aaid, is_branch, is_addr}
+use Rattle.tp_names.specs.Reports.{is_report_none}
 use Rattle.tp_records.specs.declared.request.Request.{Request}
 use Rattle.tp_records.specs.declared.dialogue.DialogueRecord.{DialogueRecord}
 use Rattle.tp_records.specs.declared.dialogue.Holder.{Holder}
@@ -75,7 +76,7 @@ use Rattle.tp_laws.proofs.OwingMoves.{kept_noted, kept_unnoted, rollback_noted, 
 
 -- ---- a log that was empty at first
 
-kept_none : (o : Origin) → o.start.records ≡ [] → (digest o []).kept ≡ []
+pub kept_none : (o : Origin) → o.start.records ≡ [] → (digest o []).kept ≡ []
 unfolding started
 kept_none o empty = rw empty refl
 
@@ -95,7 +96,7 @@ sound_at o up h empty legal = (sound_law o up h first (ap recovered_current (cur
 pub owing_entry : (o : Origin) (up : Option Addr) (e : Entry) (h : List Entry) → IsGrown o up (e ∷ h) → IsOwingMove o.who e.event (rolls o.who (digest o h) e.event) (prelude o.who (digest o h) e.event) (prelude o.who (digest o h) e.event) (action o.who (digest o h) e.event)
 owing_entry o up e h legal = owing_event o.who (digest o h) e.event (late_law o up h legal.3) legal.0
 
-sent_now : (o : Origin) (up : Option Addr) (e : Entry) (h : List Entry) (z : Addr) (r : PeerRecord) → IsGrown o up (e ∷ h) → IsSentIn e.outs z r → IsSentIn (action o.who (digest o h) e.event).outs z r
+pub sent_now : (o : Origin) (up : Option Addr) (e : Entry) (h : List Entry) (z : Addr) (r : PeerRecord) → IsGrown o up (e ∷ h) → IsSentIn e.outs z r → IsSentIn (action o.who (digest o h) e.event).outs z r
 sent_now o up e h z r legal s = subst (λ (f : Entry). IsSentIn f.outs z r) (sym legal.1) s
 
 -- a Begin that is taken rolls nothing
@@ -115,7 +116,7 @@ rolled_more o e h t r = rw r (grind arith)
 rolling_past : (v : Phase) → is_rolling v ≡ true → is_active v ≡ false
 rolling_past v h = grind (arith, h)
 
-rolling_here : (o : Origin) (up : Option Addr) (e : Entry) (h : List Entry) (t : Aaid) → o.start.records ≡ [] → IsGrown o up (e ∷ h) → IsOnce o (e ∷ h) → (c : Current) → (prelude o.who (digest o h) e.event).current ≡ Some c → is_aaid t (aaid_of c.key) ≡ true → is_rolling c.phase ≡ true → rolled o t (e ∷ h) ≡ true
+pub rolling_here : (o : Origin) (up : Option Addr) (e : Entry) (h : List Entry) (t : Aaid) → o.start.records ≡ [] → IsGrown o up (e ∷ h) → IsOnce o (e ∷ h) → (c : Current) → (prelude o.who (digest o h) e.event).current ≡ Some c → is_aaid t (aaid_of c.key) ≡ true → is_rolling c.phase ≡ true → rolled o t (e ∷ h) ≡ true
 rolling_here o up e h t empty legal once c at tree roll =
     let b : Before (digest o h) c = before o.who (digest o h) e.event c legal.0 at (rolling_past c.phase roll) in
     let same : t ≡ aaid_of c.key = aaids_equal t (aaid_of c.key) tree in
@@ -215,7 +216,7 @@ apart_from c (x ∷ bs) b w h f same = go (is_branch x.id b) refl (apart_from c 
         absurd (grind (arith, nat_tests, h, at))
     go false i rest = rest (grind (arith, h)) (rw (i, find_branch_by_id) at f) same
 
-same_peer : (bs : List Branch) (p : ℕ) (b : BranchId) (v w : Branch) → are_apart (kin bs) ≡ true → find_branch bs p ≡ Some v → find_branch_by_id bs b ≡ Some w → w.peer.node ≡ p → v ≡ w
+pub same_peer : (bs : List Branch) (p : ℕ) (b : BranchId) (v w : Branch) → are_apart (kin bs) ≡ true → find_branch bs p ≡ Some v → find_branch_by_id bs b ≡ Some w → w.peer.node ≡ p → v ≡ w
 same_peer [] p b v w h f g at = absurd (cc (f))
 same_peer (x ∷ bs) p b v w h f g at = go (x.peer.node == p) refl (is_branch x.id b) refl (same_peer bs p b v w)
   where
@@ -236,7 +237,7 @@ same_peer (x ∷ bs) p b v w h f g at = go (x.peer.node == p) refl (is_branch x.
         absurd (grind (arith, nat_tests, i, here))
     go false i false j rest = rest (and_right (is_apart (child_of x) (kin bs)) (are_apart (kin bs)) h) (rw i at f) (rw (j, find_branch_by_id) at g) at
 
-rows_by_id : (arcs : List Arc) (bs : List Branch) (b : BranchId) (w : Row) → find_row_by_id (seen_rows arcs bs) b ≡ Some w → find_branch_by_id bs b ≡ Some w.branch
+pub rows_by_id : (arcs : List Arc) (bs : List Branch) (b : BranchId) (w : Row) → find_row_by_id (seen_rows arcs bs) b ≡ Some w → find_branch_by_id bs b ≡ Some w.branch
 rows_by_id arcs [] b w h = absurd (cc (h))
 rows_by_id arcs (x ∷ bs) b w h = go (is_branch x.id b) refl (rows_by_id arcs bs b w)
   where
@@ -246,7 +247,7 @@ rows_by_id arcs (x ∷ bs) b w h = go (is_branch x.id b) refl (rows_by_id arcs b
         rw (i, find_branch_by_id) (ap (λ (o : Option Row). elim o as (λ _. Option Branch) [ None ↦ None | Some r ↦ Some r.branch ]) one)
     go false i rest = rw (i, find_branch_by_id) (rest (rw (i, find_row_by_id) at h))
 
-id_found : (bs : List Branch) (b : BranchId) (w : Branch) → find_branch_by_id bs b ≡ Some w → w.id ≡ b
+pub id_found : (bs : List Branch) (b : BranchId) (w : Branch) → find_branch_by_id bs b ≡ Some w → w.id ≡ b
 id_found [] b w h = absurd (cc (h))
 id_found (x ∷ bs) b w h = go (is_branch x.id b) refl (id_found bs b w)
   where
@@ -289,7 +290,76 @@ committed_word o up p g rs e h rules old j m r word committing = holds_key ks n 
     n = ends_from t.x t.y p h
 
     held : holds_at ks n g.committed ≡ true
-    held = and_left (holds_at ks n g.committed) true (heeded_at p g rs e.event h t.from t.x t.y t.seq (DialogueRecord.Done r) t.is t.at rules.heeded)
+    held = and_left (holds_at ks n g.committed) (not (is_report_none r) || holds_at ks n g.completed) (and_left (holds_at ks n g.committed && (not (is_report_none r) || holds_at ks n g.completed)) true (heeded_at p g rs e.event h t.from t.x t.y t.seq (DialogueRecord.Done r) t.is t.at rules.heeded))
+
+    long : suc n ≤ length ks
+    long = holds_long ks n g.committed held
+
+    at : d.current ≡ Some m.current
+    at = sym (ap (λ (f : Event). (prelude o.who d f).current) t.is) ∙ m.at
+
+    stands : Marked (λ b. true) d.current p j
+    stands = record { current = m.current; branch = m.branch; at = at; found = m.found; is = refl; key = m.key }
+
+    rows : last_from None (sent_on t.x t.y p h) ≡ Some j
+    rows = (paired_law o up h rules.empty rules.legal.3).rows p t.x t.y sent t.seq live j (marked_key (λ b. true) d p j (late_law o up h rules.legal.3) stands)
+
+    exactly : (a b : ℕ) → suc b ≤ a → a ≤ suc b → a ≡ suc b
+    exactly a b h i = omega (arith, h, i)
+
+    open_less : (a b q : ℕ) → a ≤ b + q → q ≤ 1 → a ≤ suc b
+    open_less a b q h i = omega (arith, h, i)
+
+    shut_less : (a b q : ℕ) → a ≤ b + 1 + q → q ≡ 0 → a ≤ suc b
+    shut_less a b q h i = omega (arith, h, i)
+
+    least : Balanced o h ks n (votes_from t.x t.y p h) (open_at d.current p) → length ks ≤ suc n
+    least (inl b) = open_less (length ks) n (open_at d.current p) b (open_most d.current p)
+    least (inr debt) = elim (zero_or_one (open_at d.current p) (open_most d.current p)) [
+      | inl z ↦ shut_less (length ks) n (open_at d.current p) debt.least z
+      | inr one ↦
+          (let k = open_counted d m.current p (settled_law o up h rules.empty rules.legal.3) at (committing_bound m.current.phase committing) (ap is_live live) one in
+          (old.clear t.x t.y sent t.seq k.0 live k.1 one).0)
+    ]
+
+-- and with no report, of one that was complete with none
+pub completed_word : (o : Origin) (up : Option Addr) (p : ℕ) (g : Deeds) (rs : List LogRec) (e : Entry) (h : List Entry) → Rules o up p g rs e h → Accounts o p g rs h → (j : BranchKey) (may : TxEvent → Transaction → ℕ → Bool) (m : MayMark o.who e.event (prelude o.who (digest o h) e.event) may p j) (r : Report)
+    → m.event ≡ TxEvent.Took p (DialogueRecord.Done r) → is_committing m.current.phase ≡ true → is_report_none r ≡ true → g.completed j.0 ≡ true
+completed_word o up p g rs e h rules old j may m r word committing none = holds_key ks n g.completed j (last_at (sent_on t.x t.y p h) n j rows (exactly (length ks) n long (least (old.balance t.x t.y sent t.seq live)))) clear
+  where
+    d : Digest
+    d = digest o h
+
+    t : TookWord e.event p (DialogueRecord.Done r)
+    t = asked_took e.event m.current p (DialogueRecord.Done r) (subst (λ (f : TxEvent). IsAsked e.event m.current f) word m.asked)
+
+    ok : refusal o.who d (Event.Arrive t.from (PeerRecord.OnAssoc t.x t.y t.seq (DialogueRecord.Done r))) ≡ None
+    ok = subst (λ (f : Event). refusal o.who d f ≡ None) t.is rules.legal.0
+
+    sent : ℕ
+    sent = (takes_next o.who d t.from t.x t.y t.seq (DialogueRecord.Done r) ok).sent
+
+    live : link_with d.arcs p ≡ Live t.x t.y sent t.seq
+    live = ap (link_with d.arcs) (sym t.at) ∙ (takes_next o.who d t.from t.x t.y t.seq (DialogueRecord.Done r) ok).live
+
+    ks : List BranchKey
+    ks = keys_to t.x t.y p h
+
+    n : ℕ
+    n = ends_from t.x t.y p h
+
+    held : holds_at ks n g.committed ≡ true
+    held = and_left (holds_at ks n g.committed) (not (is_report_none r) || holds_at ks n g.completed) (and_left (holds_at ks n g.committed && (not (is_report_none r) || holds_at ks n g.completed)) true (heeded_at p g rs e.event h t.from t.x t.y t.seq (DialogueRecord.Done r) t.is t.at rules.heeded))
+
+    both : (holds_at ks n g.committed && (not (is_report_none r) || holds_at ks n g.completed)) ≡ true
+    both = and_left (holds_at ks n g.committed && (not (is_report_none r) || holds_at ks n g.completed)) true (heeded_at p g rs e.event h t.from t.x t.y t.seq (DialogueRecord.Done r) t.is t.at rules.heeded)
+
+    clear : holds_at ks n g.completed ≡ true
+    clear = go (is_report_none r) none (and_right (holds_at ks n g.committed) (not (is_report_none r) || holds_at ks n g.completed) both)
+      where
+        go : (v : Bool) → v ≡ true → (not v || holds_at ks n g.completed) ≡ true → holds_at ks n g.completed ≡ true
+        go true i h = h
+        go false i h = absurd (cc (i))
 
     long : suc n ≤ length ks
     long = holds_long ks n g.committed held
@@ -340,12 +410,12 @@ ending (TxEvent.Reply c (RecState.Done r)) q p h = go (find_row_by_id q.rows c) 
 ending f q p h = absurd (grind (arith, h))
 
 -- the event that a reply is
-record Replied (e : Event) (c : Current) (b : BranchId) (r : Report) : Type 0 where
-  from : Addr
-  tree : Aaid
-  is : e ≡ Event.Arrive from (PeerRecord.RecReply tree b (RecState.Done r))
-  same : is_aaid (aaid_of c.key) tree ≡ true
-  peer : (x : Branch) → find_branch_by_id c.branches b ≡ Some x → is_addr x.peer from ≡ true
+pub record Replied (e : Event) (c : Current) (b : BranchId) (r : Report) : Type 0 where
+  pub from : Addr
+  pub tree : Aaid
+  pub is : e ≡ Event.Arrive from (PeerRecord.RecReply tree b (RecState.Done r))
+  pub same : is_aaid (aaid_of c.key) tree ≡ true
+  pub peer : (x : Branch) → find_branch_by_id c.branches b ≡ Some x → is_addr x.peer from ≡ true
 
 reply_request : (q : Request) (c : Current) (b : BranchId) (r : Report) → IsAskedByRequest q c (TxEvent.Reply b (RecState.Done r)) → ⊥
 reply_request (Request.UAbort n) c b r asked = cc (asked.0)
@@ -358,7 +428,7 @@ reply_request Request.Rollback c b r asked = cc (asked)
 reply_request Request.Unchanged c b r asked = cc (asked)
 reply_request q c b r asked = asked
 
-replied_by : (e : Event) (c : Current) (b : BranchId) (r : Report) → IsAsked e c (TxEvent.Reply b (RecState.Done r)) → Replied e c b r
+pub replied_by : (e : Event) (c : Current) (b : BranchId) (r : Report) → IsAsked e c (TxEvent.Reply b (RecState.Done r)) → Replied e c b r
 replied_by (Event.Do q) c b r asked = absurd (reply_request q c b r asked)
 replied_by (Event.Arrive a (PeerRecord.RecReply t d (RecState.Done w))) c b r asked =
     let id : b ≡ d = cc (asked.0) in
@@ -386,7 +456,7 @@ replied_by Event.Crash c b r asked = absurd asked
 
 -- ---- behind the prelude
 
-find_named : (bs : List Branch) (p : ℕ) (v : Branch) → find_branch bs p ≡ Some v → v.left ≡ false → find_branch (named_again bs) p ≡ Some (fresh_branch (record { addr = v.peer; branch = v.id }))
+pub find_named : (bs : List Branch) (p : ℕ) (v : Branch) → find_branch bs p ≡ Some v → v.left ≡ false → find_branch (named_again bs) p ≡ Some (fresh_branch (record { addr = v.peer; branch = v.id }))
 find_named [] p v h l = absurd (cc (h))
 find_named (x ∷ bs) p v h l = go (x.peer.node == p) refl x.left refl (find_named bs p v)
   where
@@ -403,7 +473,7 @@ find_named (x ∷ bs) p v h l = go (x.peer.node == p) refl x.left refl (find_nam
 nil_standing : (v : Phase) → is_nil v ≡ true → is_standing v ≡ true → ⊥
 nil_standing v h i = absurd (grind (arith, h, i))
 
-row_first : (o : Origin) (up : Option Addr) (e : Entry) (h : List Entry) (t : Aaid) (p : ℕ) (b : BranchId) → IsGrown o up (e ∷ h) → RowOwes t p b (digest o h).current → RowOwes t p b (prelude o.who (digest o h) e.event).current ⊎ (rolled o t (e ∷ h) ≡ true)
+pub row_first : (o : Origin) (up : Option Addr) (e : Entry) (h : List Entry) (t : Aaid) (p : ℕ) (b : BranchId) → IsGrown o up (e ∷ h) → RowOwes t p b (digest o h).current → RowOwes t p b (prelude o.who (digest o h) e.event).current ⊎ (rolled o t (e ∷ h) ≡ true)
 row_first o up e h t p b legal k = go (came_by o.who d e.event legal.0)
   where
     d : Digest

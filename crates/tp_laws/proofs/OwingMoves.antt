@@ -109,7 +109,7 @@ sent_carried (a ∷ arcs) q w z r k h = go (a.peer.node == q) h (sent_carried ar
     go false i rest = rest i
 
 -- a record that is carried goes to that peer, with the link's pair
-carried_is : (arcs : List Arc) (q : ℕ) (w : DialogueRecord) (z : Addr) (r : PeerRecord) → IsSentIn (carried arcs q w).1 z r → (z.node ≡ q) × (f : Mark) × (g : Mark) × (n : ℕ) × (r ≡ PeerRecord.OnAssoc f g n w)
+pub carried_is : (arcs : List Arc) (q : ℕ) (w : DialogueRecord) (z : Addr) (r : PeerRecord) → IsSentIn (carried arcs q w).1 z r → (z.node ≡ q) × (f : Mark) × (g : Mark) × (n : ℕ) × (r ≡ PeerRecord.OnAssoc f g n w)
 carried_is [] q w z r h = absurd h
 carried_is (a ∷ arcs) q w z r h = go (a.peer.node == q) refl h (carried_is arcs q w z r)
   where
@@ -135,13 +135,13 @@ carried_is (a ∷ arcs) q w z r h = go (a.peer.node == q) refl h (carried_is arc
     go true m i rest = on (grind (arith, nat_tests, m)) a.link i
     go false m i rest = rest i
 
-one_sent : (arcs : List Arc) (q : ℕ) (w : DialogueRecord) (z : Addr) (r : PeerRecord) → IsSentIn (performed arcs (TxOut.Carry q w ∷ [])).1 z r → IsSentIn (carried arcs q w).1 z r
+pub one_sent : (arcs : List Arc) (q : ℕ) (w : DialogueRecord) (z : Addr) (r : PeerRecord) → IsSentIn (performed arcs (TxOut.Carry q w ∷ [])).1 z r → IsSentIn (carried arcs q w).1 z r
 one_sent arcs q w z r h = elim (sent_split (carried arcs q w).1 [] z r h) [ inl i ↦ i | inr i ↦ absurd i ]
 
-begin_tree : (x f y g : Mark) (q n : ℕ) (t u : Aaid) (b c : BranchId) (i j : Holder) → PeerRecord.OnAssoc x y q (DialogueRecord.Begin t b i) ≡ PeerRecord.OnAssoc f g n (DialogueRecord.Begin u c j) → t ≡ u
+pub begin_tree : (x f y g : Mark) (q n : ℕ) (t u : Aaid) (b c : BranchId) (i j : Holder) → PeerRecord.OnAssoc x y q (DialogueRecord.Begin t b i) ≡ PeerRecord.OnAssoc f g n (DialogueRecord.Begin u c j) → t ≡ u
 begin_tree x f y g q n t u b c i j h = cc (h)
 
-begin_id : (x f y g : Mark) (q n : ℕ) (t u : Aaid) (b c : BranchId) (i j : Holder) → PeerRecord.OnAssoc x y q (DialogueRecord.Begin t b i) ≡ PeerRecord.OnAssoc f g n (DialogueRecord.Begin u c j) → c ≡ b
+pub begin_id : (x f y g : Mark) (q n : ℕ) (t u : Aaid) (b c : BranchId) (i j : Holder) → PeerRecord.OnAssoc x y q (DialogueRecord.Begin t b i) ≡ PeerRecord.OnAssoc f g n (DialogueRecord.Begin u c j) → c ≡ b
 begin_id x f y g q n t u b c i j h = cc (h)
 
 -- of two that log at most one, what either commits the whole does
@@ -181,7 +181,7 @@ rest_in (TxOut.Shut q) outs z r h = h
 rest_in (TxOut.Recovery a w) outs z r h = inr h
 rest_in (TxOut.Close q) outs z r h = h
 
-sent_performed : (arcs : List Arc) (outs : List TxOut) (z : Addr) (r : PeerRecord) → is_recovery r ≡ true → IsSentIn (performed arcs outs).1 z r → IsRecoveryIn outs z r
+pub sent_performed : (arcs : List Arc) (outs : List TxOut) (z : Addr) (r : PeerRecord) → is_recovery r ≡ true → IsSentIn (performed arcs outs).1 z r → IsRecoveryIn outs z r
 sent_performed arcs [] z r k h = absurd h
 sent_performed arcs (o ∷ outs) z r k h =
     let next : List Arc = (performed_one arcs o).0 in
@@ -222,7 +222,7 @@ sent_commit d t outs arcs z r k h =
       ]
     ])
 
-sent_played : (d : Digest) (t : Transaction) (w : Passage) (outs : List TxOut) (arcs : List Arc) (z : Addr) (r : PeerRecord) → is_recovery r ≡ true → IsSentIn (played d t w outs arcs).1 z r → IsRecoveryIn outs z r
+pub sent_played : (d : Digest) (t : Transaction) (w : Passage) (outs : List TxOut) (arcs : List Arc) (z : Addr) (r : PeerRecord) → is_recovery r ≡ true → IsSentIn (played d t w outs arcs).1 z r → IsRecoveryIn outs z r
 unfolding played
 sent_played d t Stays outs arcs z r k h = sent_performed arcs outs z r k h
 sent_played d t Enters outs arcs z r k h = sent_performed arcs outs z r k h
@@ -241,14 +241,14 @@ not_key k j h = go (is_key k j) refl
     go false i = refl
     go true i = absurd (h (keys_equal k j i))
 
-record PutThere (ks : List Kept) (x : Kept) : Type 0 where
-  kept : Kept
-  found : find_kept (put_kept ks x) x.key ≡ Some kept
-  side : kept.side ≡ x.side
-  key : kept.key ≡ x.key
-  owed : kept.owed ≡ x.owed
+pub record PutThere (ks : List Kept) (x : Kept) : Type 0 where
+  pub kept : Kept
+  pub found : find_kept (put_kept ks x) x.key ≡ Some kept
+  pub side : kept.side ≡ x.side
+  pub key : kept.key ≡ x.key
+  pub owed : kept.owed ≡ x.owed
 
-put_there : (ks : List Kept) (x : Kept) → PutThere ks x
+pub put_there : (ks : List Kept) (x : Kept) → PutThere ks x
 put_there [] x = record { kept = x; found = rw (key_self x.key) refl; side = refl; key = refl; owed = refl }
 put_there (h ∷ ks) x = go (is_key h.key x.key) refl (put_there ks x)
   where
@@ -256,7 +256,7 @@ put_there (h ∷ ks) x = go (is_key h.key x.key) refl (put_there ks x)
     go true i rest = record { kept = record x { forgot = h.forgot }; found = rw (i, put_kept) (rw (key_self x.key) refl); side = refl; key = refl; owed = refl }
     go false i rest = record { kept = rest.kept; found = rw (i, put_kept) (rw i (rest.found)); side = rest.side; key = rest.key; owed = rest.owed }
 
-put_other : (ks : List Kept) (x : Kept) (j : NodeKey) → (x.key ≡ j → ⊥) → find_kept (put_kept ks x) j ≡ find_kept ks j
+pub put_other : (ks : List Kept) (x : Kept) (j : NodeKey) → (x.key ≡ j → ⊥) → find_kept (put_kept ks x) j ≡ find_kept ks j
 put_other [] x j h = let off = not_key x.key j h in rw off refl
 put_other (y ∷ ks) x j h = go (is_key y.key x.key) refl (put_other ks x j h)
   where
@@ -273,7 +273,7 @@ put_other (y ∷ ks) x j h = go (is_key y.key x.key) refl (put_other ks x j h)
         on true m = rw m refl
         on false m = rw m rest
 
-without_other : (ks : List Kept) (k j : NodeKey) → (k ≡ j → ⊥) → find_kept (without_kept ks k) j ≡ find_kept ks j
+pub without_other : (ks : List Kept) (k j : NodeKey) → (k ≡ j → ⊥) → find_kept (without_kept ks k) j ≡ find_kept ks j
 without_other [] k j h = refl
 without_other (y ∷ ks) k j h = go (is_key y.key k) refl (without_other ks k j h)
   where
@@ -288,7 +288,7 @@ without_other (y ∷ ks) k j h = go (is_key y.key k) refl (without_other ks k j 
         on false m = rw m rest
 
 -- the record is of another key
-abbrev IsOfOther : NodeKey → Option LogRec → Type 0
+abbrev pub IsOfOther : NodeKey → Option LogRec → Type 0
 IsOfOther j (Some (LogRec.Damage n k s o r cs)) = k ≡ j → ⊥
 IsOfOther j (Some (LogRec.End n k o)) = k ≡ j → ⊥
 IsOfOther j r = Unit {0}
@@ -317,7 +317,7 @@ found_key (k ∷ ks) j x h = go (is_key k.key j) refl (found_key ks j x)
         ap (λ (y : Kept). y.key) (sym same) ∙ keys_equal k.key j m
     go false m rest = rest (rw (m, find_kept) at h)
 
-found_apart : (ks : List Kept) (k j : NodeKey) (x : Kept) → AreApart k ks → find_kept ks j ≡ Some x → k ≡ j → ⊥
+pub found_apart : (ks : List Kept) (k j : NodeKey) (x : Kept) → AreApart k ks → find_kept ks j ≡ Some x → k ≡ j → ⊥
 found_apart [] k j x apart h same = cc (h)
 found_apart (y ∷ ks) k j x apart h same = go (is_key y.key j) refl (found_apart ks k j x apart.1)
   where
@@ -432,7 +432,7 @@ rollback_rec u (Some (LogRec.Damage n k s o p cs)) ks h =
 
 -- ---- a transaction at its node
 
-late_standing : (v : Phase) → is_standing v ≡ true → is_nil v ≡ false
+pub late_standing : (v : Phase) → is_standing v ≡ true → is_nil v ≡ false
 late_standing v h = grind (arith, h)
 
 stands_seen : (who : Who) (arcs : List Arc) (t : Aaid) (p : ℕ) (b : BranchId) (c : Current) → (k : RowOwes t p b (Some c)) → StandsAt p b (seen who arcs c)
@@ -514,15 +514,15 @@ said_word e s d m z (PeerRecord.OnAssoc x y q r) h = tt
 said_word e s d m z (PeerRecord.RecReady t b) h = absurd h
 said_word e s d m z (PeerRecord.RecCommit t b) h = tt
 said_word e s d m z (PeerRecord.RecReply t b RecState.Commit) h = tt
-said_word e s d m z (PeerRecord.RecReply t b (RecState.Done r)) h = λ g old new. elim h [ inl i ↦ inl (old t i) | inr i ↦ inr i ]
+said_word e s d m z (PeerRecord.RecReply t b (RecState.Done r)) h = λ g old new. elim h [ inl i ↦ inl (old t i.0) | inr i ↦ inr i ]
 said_word e s d m z (PeerRecord.RecReply t b RecState.Unknown) h = h
 said_word e s d m z (PeerRecord.RecReply t b RecState.RetryLater) h = tt
 said_word e s d m z (PeerRecord.Forget t b) h = tt
 
-spoken_words : (arcs : List Arc) (outs : List TxOut) (p : ℕ) → are_spoken outs ≡ true → words_to p (performed arcs outs).1 ≡ []
+pub spoken_words : (arcs : List Arc) (outs : List TxOut) (p : ℕ) → are_spoken outs ≡ true → words_to p (performed arcs outs).1 ≡ []
 spoken_words arcs outs p h = (agrees_performed arcs outs p (apart_spoken outs h)).words ∙ spoken_none (is_live (link_with arcs p)) p outs h
 
-no_begin : (arcs : List Arc) (outs : List TxOut) (t : Aaid) (p : ℕ) (b : BranchId) → begins_of t (words_to p (performed arcs outs).1) ≡ 0 → BeginsTo t p b (performed arcs outs).1 → ⊥
+pub no_begin : (arcs : List Arc) (outs : List TxOut) (t : Aaid) (p : ℕ) (b : BranchId) → begins_of t (words_to p (performed arcs outs).1) ≡ 0 → BeginsTo t p b (performed arcs outs).1 → ⊥
 no_begin arcs outs t p b none h = absurd (omega (arith, none, sent_counts t p (performed arcs outs).1 h.0 h.1 h.2 h.3 b h.4 h.5 h.6))
 
 -- ---- a turn
@@ -536,7 +536,7 @@ commits_of u q (Some (LogRec.Heuristic m k o)) n l same h = absurd (cc (h))
 commits_of u q (Some (LogRec.Damage m k s o p cs)) n l same h = absurd (cc (h))
 commits_of u q (Some (LogRec.End m k o)) n l same h = absurd (cc (h))
 
-other_logged : (q : Transaction) (r : Option LogRec) (n : Transaction) (j : NodeKey) → IsLogged q r n → (node_key q.key ≡ j → ⊥) → IsOfOther j r
+pub other_logged : (q : Transaction) (r : Option LogRec) (n : Transaction) (j : NodeKey) → IsLogged q r n → (node_key q.key ≡ j → ⊥) → IsOfOther j r
 other_logged q None n j l h = tt
 other_logged q (Some (LogRec.Commit m k s cs)) n j l h = tt
 other_logged q (Some (LogRec.Boot m)) n j l h = tt
@@ -574,7 +574,7 @@ backs_roll u (Some (LogRec.Commit m k s cs)) h = absurd (cc (h))
 back_rolls : (u : Aaid) (r : Option LogRec) → KeepsBack u r → rolls_back r ≡ true
 back_rolls u r k = ap rolls_back k.is ∙ ap not k.back
 
-no_rolling : (v : Phase) → is_standing v ≡ true → is_rolling v ≡ false
+pub no_rolling : (v : Phase) → is_standing v ≡ true → is_rolling v ≡ false
 no_rolling v h = grind (arith, h)
 
 some_same : (a b : Current) → Some a ≡ Some b → a ≡ b
@@ -696,7 +696,7 @@ owing_turned who e fall s f d c so now at asked put = record {
 
 -- ---- a step of a kept transaction
 
-settled_silent : (k : Kept) (f : KeptEvent) (z : Addr) (r : PeerRecord) → IsRecoveryIn (settled k f).outs z r → (u : Aaid) × (v : BranchId) × (r ≡ PeerRecord.Forget u v)
+pub settled_silent : (k : Kept) (f : KeptEvent) (z : Addr) (r : PeerRecord) → IsRecoveryIn (settled k f).outs z r → (u : Aaid) × (v : BranchId) × (r ≡ PeerRecord.Forget u v)
 unfolding settled
 settled_silent k (KeptEvent.Done a b x) z r h = go x h
   where
@@ -710,7 +710,7 @@ settled_silent k KeptEvent.Forget z r h = absurd h
 settled_silent k KeptEvent.Purge z r h = absurd h
 
 -- the record is of its key, and keeps its side
-settled_key : (k : Kept) (f : KeptEvent) (j : NodeKey) → (k.key ≡ j → ⊥) → IsOfOther j (settled k f).rec
+pub settled_key : (k : Kept) (f : KeptEvent) (j : NodeKey) → (k.key ≡ j → ⊥) → IsOfOther j (settled k f).rec
 unfolding settled
 settled_key k (KeptEvent.Done a b x) j h = go (find_owed k.owed b)
   where
@@ -766,12 +766,12 @@ stands_back u (k ∷ ks) j x h c t = go (is_key k.key j) refl (stands_back u ks 
     go false m rest = let r = rest (rw (m, find_kept) at h) c t in rw r (grind arith)
 
 -- what is found is the same but for what is noted
-record Same (x k : Kept) : Type 0 where
-  side : x.side ≡ k.side
-  key : x.key ≡ k.key
-  owed : x.owed ≡ k.owed
+pub record Same (x k : Kept) : Type 0 where
+  pub side : x.side ≡ k.side
+  pub key : x.key ≡ k.key
+  pub owed : x.owed ≡ k.owed
 
-same_of : (x k : Kept) → ◌≡◌ {A = Kept} (record x { forgot = false }) (record k { forgot = false }) → Same x k
+pub same_of : (x k : Kept) → ◌≡◌ {A = Kept} (record x { forgot = false }) (record k { forgot = false }) → Same x k
 same_of x k h = record { side = ap (λ (y : Kept). y.side) h; key = ap (λ (y : Kept). y.key) h; owed = ap (λ (y : Kept). y.owed) h }
 
 -- a kept commitment that is owed goes on, or the branch's Done comes
@@ -878,7 +878,7 @@ owing_keep who e fall s d k f found settling = record {
         by : (g : KeptEvent) → IsSettling e s d k g → OwesOr who e fall s t p b (keep (settled k g) d).next
         by (KeptEvent.Done a c x) w = elim (done_settled t p b d.kept k a c x commits tree o owes) [ inl j ↦ inl (inr j) | inr j ↦ inr (told a c x w j) ]
         by KeptEvent.Forget w = inl (inr (forgotten t p b d.kept k o owes))
-        by KeptEvent.Purge w = absurd (nothing_owed p b k.owed w owes)
+        by KeptEvent.Purge w = absurd (nothing_owed p b k.owed w.0 owes)
 
 -- ---- outputs alone
 
@@ -904,7 +904,7 @@ row_new t x p none at left ended phase =
     let eq : (x.branch.peer.node == p) ≡ true = grind (arith, nat_tests, at) in
     record { row = x; found = find_last t.rows x p ∙ rw none (rw eq refl); id = refl; left = left; ended = ended; phase = phase }
 
-no_row : (who : Who) (d : Digest) (a : Arc) (c : Current) → d.current ≡ Some c → may_begin_on who d a ≡ true → (is_active c.phase ≡ true) × (find_row (seen_rows d.arcs c.branches) a.peer.node ≡ None)
+pub no_row : (who : Who) (d : Digest) (a : Arc) (c : Current) → d.current ≡ Some c → may_begin_on who d a ≡ true → (is_active c.phase ≡ true) × (find_row (seen_rows d.arcs c.branches) a.peer.node ≡ None)
 unfolding situation_of
 no_row who d a c now may = (grind (arith, may, now), go (find_row (seen_rows d.arcs c.branches) a.peer.node) refl)
   where
@@ -918,7 +918,7 @@ no_row who d a c now may = (grind (arith, may, now), go (find_row (seen_rows d.a
     go None i = refl
     go (Some r) i = absurd (grind (arith, seen_off, i))
 
-active_standing : (v : Phase) → is_active v ≡ true → is_standing v ≡ true
+pub active_standing : (v : Phase) → is_active v ≡ true → is_standing v ≡ true
 active_standing v h = rw h refl
 
 owing_begins : (who : Who) (e : Event) (fall : Bool) (s d : Digest) (q : ℕ) → IsOwingMove who e fall s d (begin_on who q d)
@@ -1025,7 +1025,7 @@ word_second e s d a f z (PeerRecord.AcceptAssoc u c x) own quiet h = tt
 word_second e s d a f z (PeerRecord.ShutAssoc u c) own quiet h = tt
 word_second e s d a f z (PeerRecord.OnAssoc u c x y) own quiet h = tt
 
-begins_split : (t : Aaid) (p : ℕ) (b : BranchId) (xs ys : List Out) → BeginsTo t p b (xs ++ ys) → BeginsTo t p b xs ⊎ BeginsTo t p b ys
+pub begins_split : (t : Aaid) (p : ℕ) (b : BranchId) (xs ys : List Out) → BeginsTo t p b (xs ++ ys) → BeginsTo t p b xs ⊎ BeginsTo t p b ys
 begins_split t p b xs ys h = elim (sent_split xs ys h.0 (PeerRecord.OnAssoc h.1 h.2 h.3 (DialogueRecord.Begin t b h.4)) h.6) [
   | inl i ↦ inl (h.0, h.1, h.2, h.3, h.4, h.5, i)
   | inr i ↦ inr (h.0, h.1, h.2, h.3, h.4, h.5, i)

@@ -22,15 +22,17 @@ use Rattle.tp_model.specs.Dialogues.{is_nil, is_active, begun_by, named_holder}
 use Rattle.tp_model.specs.Arcs.{find_arc, link_with, with_dialogue}
 use Rattle.tp_model.specs.Transactions.{Transaction, Turn, aaid_of, is_under_at, transacted}
 use Rattle.tp_model.specs.Recovery.{settled}
-use Rattle.tp_model.specs.Node.{Move, move, followed, perform, next_mark, with_mark_drawn, phase_of, seen, Passage, passage, is_leaving, turned, fresh_current, with_begun, may_begin_on, begin_on, keep, branches_of, remaining}
+use Rattle.tp_model.specs.Node.{Move, move, followed, perform, next_mark, with_mark_drawn, phase_of, seen, Passage, passage, is_leaving, turned, fresh_current, with_begun, may_begin_on, begin_on, keep, branches_of, remaining, entered}
 use Rattle.tp_model.specs.Events.{refusal, action}
 use Rattle.tp_model.specs.Outcomes.{is_unchanged}
 use Rattle.tp_model.specs.Questions.{said_to}
 use Rattle.tp_laws.specs.Turns.{loses}
 use Rattle.tp_laws.specs.Moves.{IsAskedByRecord, IsAskedByRequest, IsAsked, IsPut, IsLate, prelude, Moves, are_spoken}
 use Rattle.tp_laws.specs.Passages.{is_commit_rec, IsLogged}
-use Rattle.tp_laws.specs.Trees.{commits_tree}
+use Rattle.tp_laws.specs.Trees.{commits_tree, out_tells}
 use Rattle.tp_laws.specs.Facts.{only_words, spoken, stays, ends_in, none_of, BranchKey, HasPlace, HasPlaceAt, words_to, IsHeard, Reads}
+use Rattle.tp_laws.specs.Clearing.{is_complete_none}
+use Rattle.tp_laws.proofs.Told.{told_append, told_played}
 use Rattle.tp_laws.specs.Upward.{voting_from, each_up, Deeds, may_say, Votes, Tells, Rises, IsRising, VotesAt, TellsAt, IsRisen}
 use Rattle.tp_laws.proofs.Links.{said_append, link_dialogue}
 use Rattle.tp_laws.proofs.Apart.{apart_spoken, apart_turn}
@@ -182,6 +184,7 @@ risen_turned who e f d s c p sup fall shut reads now at asked put gone = go (is_
       rolling = λ h. k.rolling c at h;
       falls = λ h. k.falls c at (reads.falls_so c f d.arcs at asked h);
       leaves = λ h. k.leaves c at (unchanged_asked e c (subst (λ (x : TxEvent). IsAsked e c x) h asked));
+      completes = λ h. k.completes c at (told_played is_complete_none d t w a.outs (entered t w d.arcs) ∙ h);
     }
 
     go : (b : Bool) → is_live (link_with d.arcs p) ≡ b → IsRisen e p fall s d m
@@ -279,13 +282,14 @@ risen_begins who e p q fall s d = go d.current refl (find_arc d.arcs q)
 
 -- ---- chains
 
-tells_part : (g : Deeds) (e : Event) (fall : Bool) (s : Digest) (m a : Move) → ((t : Aaid) → commits_tree t a.rec ≡ true → commits_tree t m.rec ≡ true) → TellsAt g e fall s m → TellsAt g e fall s a
-tells_part g e fall s m a more k = record {
+tells_part : (g : Deeds) (e : Event) (fall : Bool) (s : Digest) (m a : Move) → ((t : Aaid) → commits_tree t a.rec ≡ true → commits_tree t m.rec ≡ true) → (out_tells is_complete_none a.outs ≡ true → out_tells is_complete_none m.outs ≡ true) → TellsAt g e fall s m → TellsAt g e fall s a
+tells_part g e fall s m a more told k = record {
   committing = k.committing;
   commits = λ c i h. k.commits c i (more (aaid_of c.key) h);
   rolling = k.rolling;
   falls = k.falls;
   leaves = k.leaves;
+  completes = λ c i h. k.completes c i (told h);
 }
 
 first_rec : (a b : Option LogRec) → (a ≡ None) ⊎ (b ≡ None) → (t : Aaid) → commits_tree t a ≡ true → commits_tree t (elim b as (λ _. Option LogRec) [ None ↦ a | Some r ↦ Some r ]) ≡ true
@@ -317,10 +321,10 @@ risen_then e p sup fall shut s d a f heard_a heard_b one two quiet = go (is_live
     split = ap only_words (said_append p a.outs b.outs) ∙ words_append (said_to p a.outs) (said_to p b.outs)
 
     tells_a : (g : Deeds) → TellsAt g e fall s m → TellsAt g e fall s a
-    tells_a g k = tells_part g e fall s m a (first_rec a.rec b.rec quiet) k
+    tells_a g k = tells_part g e fall s m a (first_rec a.rec b.rec quiet) (λ h. told_append is_complete_none a.outs b.outs ∙ rw h refl) k
 
     tells_b : (g : Deeds) → TellsAt g e fall s m → TellsAt g e fall s b
-    tells_b g k = tells_part g e fall s m b (second_rec a.rec b.rec) k
+    tells_b g k = tells_part g e fall s m b (second_rec a.rec b.rec) (λ h. told_append is_complete_none a.outs b.outs ∙ rw h (grind arith)) k
 
     go : (c : Bool) → is_live (link_with a.next.arcs p) ≡ c → IsRisen e p fall s d m
     go false i =

@@ -17,11 +17,12 @@ use Rattle.tp_model.specs.Dialogues.{is_nil, is_active, is_committing, is_rollin
 use Rattle.tp_model.specs.Transactions.{Row, Transaction, Turn, turn, and_then, aaid_of, is_under_at, all_done, all_rolled_back, reports_of, owed_of, own_damage, log_end, log_damage, carry_up, carry_down, done_up, forgets, ends_down, end_up, tell_report, prepare_each, ask_each, retried, complete_commit, complete_rollback, begin_rolling, order, ask_commit, leave, count_branch, end_branch, branch_left, transacted}
 use Rattle.tp_laws.specs.Turns.{Turns, vote, decide, falls, loses}
 use Rattle.tp_laws.specs.Moves.{IsPut}
-use Rattle.tp_laws.specs.Passages.{is_commit_rec, IsPassed}
+use Rattle.tp_laws.specs.Passages.{is_commit_rec, asks_tell, IsPassed}
+use Rattle.tp_laws.specs.Clearing.{is_complete_none}
 use Rattle.tp_laws.specs.Facts.{is_end, ends_in, none_of, spoken, stays, sees, BranchKey, HasPlace, IsFair, Facts}
 use Rattle.tp_laws.specs.Upward.{voting_from, each_up, Deeds, holds_at, may_say, Votes, Tells, Rises, IsRising}
 use Rattle.tp_laws.proofs.EveryTurn.{every_turn}
-use Rattle.tp_laws.proofs.Phases.{was_active}
+use Rattle.tp_laws.proofs.Phases.{was_active, tell_append}
 use Rattle.tp_laws.proofs.Words.{spoken_append, stays_append, dead_spoken, dead_stays}
 use Rattle.tp_laws.proofs.Fair.{row_phase, place_then}
 use Rattle.tp_laws.proofs.Leaves.{up_spoken, commit_said, rollback_said, leave_said}
@@ -163,6 +164,15 @@ rise_vote e s p t fair passed act = record {
     votes v w true i = λ h. (refl, grind (arith, i), refl)
     votes v w false i = λ h. absurd (cc (act, (w h).2))
 
+-- what stands among outputs is told
+told_in : (f : Indication → Bool) (i : Indication) (xs ys zs ws : List TxOut) → f i ≡ true → asks_tell f (xs ++ ys ++ (TxOut.Tell i ∷ []) ++ zs ++ ws) ≡ true
+told_in f i xs ys zs ws h =
+    tell_append f (xs ++ ys ++ (TxOut.Tell i ∷ []) ++ zs) ws
+    ∙ rw (tell_append f (xs ++ ys ++ (TxOut.Tell i ∷ [])) zs, tell_append f (xs ++ ys) (TxOut.Tell i ∷ []), h) (any (asks_tell f (xs ++ ys)) (asks_tell f zs) (asks_tell f ws))
+  where
+    any : (a b c : Bool) → (((a || (true || false)) || b) || c) ≡ true
+    any a b c = grind arith
+
 rise_commit : (e : TxEvent) (s : Transaction) (p : ℕ) (t : Transaction) → IsFair e s p t (complete_commit t) → IsPassed e s t (complete_commit t) → is_committing t.phase ≡ true → IsRising e s p t (complete_commit t)
 unfolding complete_commit
 rise_commit e s p t fair passed c = go (not t.owes && all_done t.rows) fair passed
@@ -177,12 +187,18 @@ rise_commit e s p t fair passed c = go (not t.owes && all_done t.rows) fair pass
       next = record t { phase = Phase.Nil };
     }
 
+    clear : (ks : List BranchKey) (g : Deeds) (n : ℕ) (r : Report) (b : Bool) → is_report_none r ≡ b → HasPlace ks n t p → Tells g e s t (over r) → is_under_at t.key p ≡ true → (not (is_report_none r) || holds_at ks n g.completed) ≡ true
+    clear ks g n r false i place k under = rw i refl
+    clear ks g n r true i place k under =
+        let told : asks_tell is_complete_none (over r).outs ≡ true = told_in is_complete_none (Indication.CommitComplete r) (forgets (aaid_of t.key) t.rows) (done_up t r) (ends_down t.rows) (end_up t) i in
+        rw i (key_tree t ks n p g.completed place late under (k.completes told))
+
     go : (b : Bool) → IsFair e s p t (if b then over (join (own_damage t.decision) (reports_of t.rows)) else turn [] t) → IsPassed e s t (if b then over (join (own_damage t.decision) (reports_of t.rows)) else turn [] t)
         → IsRising e s p t (if b then over (join (own_damage t.decision) (reports_of t.rows)) else turn [] t)
     go false f q = rise_quiet e s p t (turn [] t) f q refl (λ h. h)
     go true f q =
         let r : Report = join (own_damage t.decision) (reports_of t.rows) in
-        rise_last e s p t (over r) (DialogueRecord.Done r) f q refl (commit_said t p r) late (λ ks g n v place w k under. key_tree t ks n p g.committed place late under (k.committing c))
+        rise_last e s p t (over r) (DialogueRecord.Done r) f q refl (commit_said t p r) late (λ ks g n v place w k under. both_true (holds_at ks n g.committed) (not (is_report_none r) || holds_at ks n g.completed) (key_tree t ks n p g.committed place late under (k.committing c)) (clear ks g n r (is_report_none r) refl place k under))
 
 rise_rollback : (e : TxEvent) (s : Transaction) (p : ℕ) (t : Transaction) → IsFair e s p t (complete_rollback t) → IsPassed e s t (complete_rollback t) → is_rolling t.phase ≡ true → IsRising e s p t (complete_rollback t)
 unfolding complete_rollback
@@ -287,6 +303,7 @@ rise_then e s p t a b r which one two saw kept = go (stays true p a.outs) refl
       rolling = k.rolling;
       falls = k.falls;
       leaves = k.leaves;
+      completes = λ h. k.completes (tell_append is_complete_none a.outs b.outs ∙ rw h refl);
     }
 
     tells_second : (g : Deeds) → Tells g e s t m → Tells g e s a.next b
@@ -296,6 +313,7 @@ rise_then e s p t a b r which one two saw kept = go (stays true p a.outs) refl
       rolling = λ h. tree g.rolled (elim (or_case (is_rolling t.phase) (falls e s) (one.passed.rolling h)) [ inl i ↦ k.rolling i | inr i ↦ k.falls i ]);
       falls = λ h. tree g.rolled (k.falls h);
       leaves = λ h. tree g.left (k.leaves h);
+      completes = λ h. tree g.completed (k.completes (tell_append is_complete_none a.outs b.outs ∙ rw h (grind arith)));
     }
 
     go : (c : Bool) → stays true p a.outs ≡ c → Rises e s p t m

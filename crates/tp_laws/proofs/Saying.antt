@@ -2,10 +2,10 @@
 use Rattle.std.proofs.Common.{if◌then◌else◌, ◌≡◌, ◌⊎◌, inl, inr, Bool, true, false, refl, subst, arith, Option, Some, None, List, [], ◌∷◌, ◌++◌}
 use Rattle.tp_names.specs.declared.identifiers.Aaid.{Aaid}
 use Rattle.tp_names.specs.declared.identifiers.BranchId.{BranchId}
-use Rattle.tp_names.specs.declared.identifiers.NodeKey.{NodeKey}
 use Rattle.tp_names.specs.declared.identifiers.Addr.{Addr}
 use Rattle.tp_names.specs.declared.children.Child.{Child}
 use Rattle.tp_names.specs.declared.outcome.Report.{Report}
+use Rattle.tp_names.specs.Reports.{is_report_none}
 use Rattle.tp_records.specs.declared.peer.PeerRecord.{PeerRecord}
 use Rattle.tp_records.specs.declared.peer.RecState.{RecState}
 use Rattle.tp_model.specs.declared.transaction.TxOut.{TxOut}
@@ -14,7 +14,7 @@ use Rattle.tp_model.specs.declared.recovery.Question.{Question}
 use Rattle.tp_model.specs.Parts.{Event, Digest}
 use Rattle.tp_model.specs.Recovery.{is_commit, answer, ask_owed, tell_superior, forget_to, owed}
 use Rattle.tp_model.specs.Arrivals.{branch_key, named_by_key, named_by_branch, known_of}
-use Rattle.tp_laws.specs.Moves.{is_committed_in, IsRecoveryIn, IsSaid, AreSaid}
+use Rattle.tp_laws.specs.Moves.{keeps_idle, is_committed_in, IsRecoveryIn, IsSaid, AreSaid}
 
 -- one record alone
 pub one_said : (e : Event) (s d : Digest) (to : Addr) (q : PeerRecord) → IsSaid e s d to q → AreSaid e s d (TxOut.Recovery to q ∷ [])
@@ -39,7 +39,7 @@ said_ask : (e : Event) (s d : Digest) (t : Aaid) (cs : List Child) → AreSaid e
 said_ask e s d t [] = λ a r h. absurd h
 said_ask e s d t (c ∷ cs) = λ a r h. elim h [ inl i ↦ one_said e s d c.addr (PeerRecord.RecCommit t c.branch) tt a r (inl i) | inr i ↦ said_ask e s d t cs a r i ]
 
-said_tell : (e : Event) (s d : Digest) (k : Kept) → is_committed_in k.key.aaid d ≡ true → AreSaid e s d (tell_superior k)
+said_tell : (e : Event) (s d : Digest) (k : Kept) → (is_committed_in k.key.aaid d ≡ true) × (is_report_none k.report ≡ true → keeps_idle d.kept ≡ true) → AreSaid e s d (tell_superior k)
 said_tell e s d k held = go k.forgot k.key.branch k.superior
   where
     go : (f : Bool) (b : Option BranchId) (u : Option Addr)
@@ -49,7 +49,7 @@ said_tell e s d k held = go k.forgot k.key.branch k.superior
     go false (Some i) None = λ a r h. absurd h
     go false (Some i) (Some a) = one_said e s d a (PeerRecord.RecReply k.key.aaid i (RecState.Done k.report)) (inl held)
 
-pub said_owed : (e : Event) (s d : Digest) (k : Kept) → (is_commit k.side ≡ true → is_committed_in k.key.aaid d ≡ true) → AreSaid e s d (owed k)
+pub said_owed : (e : Event) (s d : Digest) (k : Kept) → (is_commit k.side ≡ true → (is_committed_in k.key.aaid d ≡ true) × (is_report_none k.report ≡ true → keeps_idle d.kept ≡ true)) → AreSaid e s d (owed k)
 unfolding owed
 said_owed e s d k held = go (is_commit k.side) refl
   where
@@ -57,9 +57,10 @@ said_owed e s d k held = go (is_commit k.side) refl
     go true i = said_append e s d (ask_owed k.key.aaid k.owed) (tell_superior k) (said_ask e s d k.key.aaid k.owed) (said_tell e s d k (held i))
     go false i = λ a r h. absurd h
 
-pub said_forget : (e : Event) (s d : Digest) (to : Addr) (k : NodeKey) (b : BranchId) (r : Report) → AreSaid e s d (forget_to to k b r)
-said_forget e s d to k b Report.None = λ a r h. absurd h
-said_forget e s d to k b r = one_said e s d to (PeerRecord.Forget k.aaid b) tt
+pub said_forget : (s d : Digest) (a : Addr) (t : Aaid) (b : BranchId) (r : Report) → (named_by_branch s t b).current ≡ None → AreSaid (Event.Arrive a (PeerRecord.RecReply t b (RecState.Done r))) s d (forget_to a (branch_key t b) b r)
+said_forget s d a t b Report.None none = λ z r h. absurd h
+said_forget s d a t b Report.Hazard none = one_said (Event.Arrive a (PeerRecord.RecReply t b (RecState.Done Report.Hazard))) s d a (PeerRecord.Forget t b) (Report.Hazard, refl, refl, none)
+said_forget s d a t b Report.Mix none = one_said (Event.Arrive a (PeerRecord.RecReply t b (RecState.Done Report.Mix))) s d a (PeerRecord.Forget t b) (Report.Mix, refl, refl, none)
 
 -- ---- answers
 

@@ -1,12 +1,13 @@
 -- In every legal history what a subordinate says to its superior stands in order.
-use Rattle.std.proofs.Common.{◌≡◌, ◌+◌, ◌⊎◌, inl, inr, ℕ, suc, Bool, true, false, refl, ap, sym, subst, ◌∙◌, arith, Option, Some, None, List, [], ◌∷◌, ◌++◌, length, slice_get}
+use Rattle.std.proofs.Common.{◌≡◌, ◌+◌, ◌⊎◌, inl, inr, ℕ, suc, Bool, true, false, refl, ap, sym, subst, ◌∙◌, arith, Option, Some, None, List, [], ◌∷◌, ◌++◌, length, slice_get, ◌||◌}
 use Rattle.tp_names.specs.declared.identifiers.Mark.{Mark}
 use Rattle.tp_names.specs.declared.identifiers.Aaid.{Aaid}
 use Rattle.tp_names.specs.declared.identifiers.Addr.{Addr}
 use Rattle.tp_names.specs.Same.{is_aaid}
+use Rattle.tp_records.specs.declared.indication.Indication.{Indication}
 use Rattle.tp_records.specs.declared.dialogue.DialogueRecord.{DialogueRecord}
 use Rattle.tp_model.specs.declared.arc.Phase.{Phase}
-use Rattle.tp_model.specs.Parts.{Who, Origin, Event, Entry, Link, Idle, Live, Key, Under, Current, Digest}
+use Rattle.tp_model.specs.Parts.{Who, Origin, Event, Out, Entry, Link, Idle, Live, Key, Under, Current, Digest}
 use Rattle.tp_model.specs.Links.{is_live}
 use Rattle.tp_model.specs.Dialogues.{is_nil, is_active, is_committing, is_rolling}
 use Rattle.tp_model.specs.Arcs.{link_with}
@@ -14,12 +15,14 @@ use Rattle.tp_model.specs.Transactions.{aaid_of}
 use Rattle.tp_model.specs.Node.{next_mark, phase_of, fresh_current}
 use Rattle.tp_model.specs.Events.{refusal, action, after_crash, recovered_current, started}
 use Rattle.tp_model.specs.History.{digest, records}
-use Rattle.tp_model.specs.Outcomes.{is_now, rolls, is_unchanged, decided, rolled, has_left}
+use Rattle.tp_model.specs.Outcomes.{is_now, rolls, is_unchanged, decided, rolled, has_left, tells_complete_none, completed_none}
 use Rattle.tp_model.specs.Questions.{said_to, is_at}
 use Rattle.tp_model.specs.Legal.{IsGrown}
 use Rattle.tp_laws.specs.Moves.{prelude}
 use Rattle.tp_laws.specs.Traces.{sent_of, took_of, sent_on, taken_on}
-use Rattle.tp_laws.specs.Trees.{commits_tree}
+use Rattle.tp_laws.specs.Trees.{commits_tree, out_tells}
+use Rattle.tp_laws.specs.Passages.{is_commit_told, is_commit_rec}
+use Rattle.tp_laws.specs.Clearing.{is_complete_none}
 use Rattle.tp_laws.specs.Members.{IsOnce}
 use Rattle.tp_laws.specs.Fates.{IsFated}
 use Rattle.tp_laws.specs.Facts.{ends_in, BranchKey, begun_keys, words_to}
@@ -31,7 +34,8 @@ use Rattle.tp_laws.proofs.Words.{keys_append, commit_more}
 use Rattle.tp_laws.proofs.Leaves.{aaid_same}
 use Rattle.tp_laws.proofs.Equal.{both_true}
 use Rattle.tp_laws.proofs.Knowing.{Came, As_it_was, By_begin, By_crash, came_by}
-use Rattle.tp_laws.proofs.Behind.{commit_first}
+use Rattle.tp_laws.proofs.Behind.{treed_rolls, commit_first}
+use Rattle.tp_laws.proofs.Entered.{Entered, Crashed, Begun, Plain, entered}
 use Rattle.tp_laws.proofs.Fated.{fated_law}
 use Rattle.tp_laws.proofs.Rolls.{phase_at}
 use Rattle.tp_laws.proofs.Folds.{key_before}
@@ -70,6 +74,21 @@ not_active_committing p h = grind (arith, h)
 not_active_rolling : (p : Phase) → is_rolling p ≡ true → is_active p ≡ false
 not_active_rolling p h = grind (arith, h)
 
+pub complete_tells : (outs : List Out) → tells_complete_none outs ≡ out_tells is_complete_none outs
+complete_tells [] = refl
+complete_tells (Out.Tell (Indication.CommitComplete r) ∷ outs) = let rest = complete_tells outs in grind (arith, rest)
+complete_tells (o ∷ outs) = let rest = complete_tells outs in grind (arith, rest)
+
+pub complete_commit_told : (outs : List Out) → out_tells is_complete_none outs ≡ true → out_tells is_commit_told outs ≡ true
+complete_commit_told [] h = h
+complete_commit_told (Out.Send a r ∷ outs) h = complete_commit_told outs h
+complete_commit_told (Out.Tell Indication.Commit ∷ outs) h = refl
+complete_commit_told (Out.Tell (Indication.CommitComplete r) ∷ outs) h = refl
+complete_commit_told (Out.Tell i ∷ outs) h = let some : out_tells is_complete_none outs ≡ true = grind (arith, h) in rw (complete_commit_told outs some) (grind arith)
+
+either : (a b : Bool) → a ≡ false → b ≡ false → (a || b) ≡ false
+either a b i j = rw (i, j) refl
+
 tells_event : (o : Origin) (up : Option Addr) (e : Entry) (h : List Entry) → o.start.records ≡ [] → IsGrown o up (e ∷ h) → IsOnce o h
     → TellsAt (deeds_of o (e ∷ h)) e.event (rolls o.who (digest o h) e.event) (prelude o.who (digest o h) e.event) (action o.who (digest o h) e.event)
 tells_event o up e h empty legal once = record {
@@ -78,6 +97,7 @@ tells_event o up e h empty legal once = record {
   rolling = λ c at i. let b = before o.who d e.event c legal.0 at (not_active_rolling c.phase i) in rolled_later (aaid_of c.key) ((fated (aaid_of c.key)).rolling b.now (ap is_rolling b.phase ∙ i));
   falls = λ c at i. fallen_rolled o up e h legal i c at;
   leaves = λ c at i. left_now c i (came_by o.who d e.event legal.0) at;
+  completes = λ c at i. done_now c i (entered o e h legal.0) at;
 }
   where
     d : Digest
@@ -93,6 +113,20 @@ tells_event o up e h empty legal once = record {
     left_now c u (As_it_was i) at = let now : is_now (aaid_of c.key) d.current ≡ true = ap (is_now (aaid_of c.key)) (sym i ∙ at) ∙ aaid_same (aaid_of c.key) in rw (now, u) refl
     left_now c u (By_begin from x y q t b g a is found cur nil above) at = absurd (cc (u, ap is_unchanged is))
     left_now c u (By_crash is cur) at = absurd (cc (u, ap is_unchanged is))
+
+    -- what tells of a completion was current before
+    done_now : (c : Current) → out_tells is_complete_none (action o.who d e.event).outs ≡ true → Entered o e h → (prelude o.who d e.event).current ≡ Some c → completed_none o (aaid_of c.key) (e ∷ h) ≡ true
+    done_now c told (Plain calm none same) at =
+        let now : is_now (aaid_of c.key) d.current ≡ true = ap (is_now (aaid_of c.key)) (sym same ∙ at) ∙ aaid_same (aaid_of c.key) in
+        let tell : tells_complete_none e.outs ≡ true = complete_tells e.outs ∙ ap (λ (f : Entry). out_tells is_complete_none f.outs) (sym legal.1) ∙ told in
+        rw (now, tell) refl
+    done_now c told (Begun from t b a key calm cur nil facts sent) at =
+        let k = (treed_rolls o.who d e.event (aaid_of c.key) 0 (late_law o up h legal.3) legal.0).tells_commit (complete_commit_told (action o.who d e.event).outs told) in
+        let same = some_current (fresh_current (Under t b a.peer)) k.0 (sym cur ∙ k.1) in
+        let off : is_committing k.0.phase ≡ false = ap (λ (u : Current). is_committing u.phase) (sym same) in
+        let none : is_commit_rec (action o.who d e.event).rec ≡ false = ap is_commit_rec facts.2 in
+        absurd (cc (k.2, either (is_committing k.0.phase) (is_commit_rec (action o.who d e.event).rec) off none))
+    done_now c told (Crashed is) at = absurd (cc (told, ap (λ (f : Event). out_tells is_complete_none (action o.who d f).outs) is))
 
 -- ---- Ready before the event
 
@@ -148,6 +182,7 @@ wider o e h ks more n = (
   λ i. later (λ t. decided o t h) (λ t. decided o t (e ∷ h)) (λ t j. commit_more t e.rec (records o h) j) i,
   λ i. later (λ t. rolled o t h) (λ t. rolled o t (e ∷ h)) (λ t j. rw j (grind arith)) i,
   λ i. later (λ t. has_left o t h) (λ t. has_left o t (e ∷ h)) (λ t j. rw j (grind arith)) i,
+  λ i. later (λ t. completed_none o t h) (λ t. completed_none o t (e ∷ h)) (λ t j. rw j (grind arith)) i,
 )
   where
     later : (f g : Aaid → Bool) → ((t : Aaid) → f t ≡ true → g t ≡ true) → holds_at ks n f ≡ true → holds_at (ks ++ more) n g ≡ true

@@ -207,7 +207,7 @@ hush who s fall t p d m boot drawn same none logged binds c r = record {
         go : (o u : Option Current) → u ≡ o → elim u as (λ _. Phase) [ None ↦ Phase.Nil | Some c ↦ c.phase ] ≡ elim o as (λ _. Phase) [ None ↦ Phase.Nil | Some c ↦ c.phase ]
         go o u h = rw h refl
 
-tells_none : (f : Indication → Bool) (outs : List TxOut) → ((i : Indication) → f i ≡ true → is_outcome_told i ≡ true) → are_spoken outs ≡ true → asks_tell f outs ≡ false
+pub tells_none : (f : Indication → Bool) (outs : List TxOut) → ((i : Indication) → f i ≡ true → is_outcome_told i ≡ true) → are_spoken outs ≡ true → asks_tell f outs ≡ false
 tells_none f [] w h = refl
 tells_none f (TxOut.Tell i ∷ outs) w h = go (f i) refl (tells_none f outs w (grind (arith, h)))
   where

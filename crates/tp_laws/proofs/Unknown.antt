@@ -100,7 +100,7 @@ kept_answer : (k : Known) → is_kept_commit k.kept ≡ true → answer k Questi
 unfolding answer
 kept_answer k h a = absurd (grind (arith, h, a))
 
-done_answer : (k : Known) (r : Report) → is_nil k.phase ≡ false → answer k Question.RecCommit ≡ Some (RecState.Done r) → ⊥
+pub done_answer : (k : Known) (r : Report) → is_nil k.phase ≡ false → answer k Question.RecCommit ≡ Some (RecState.Done r) → ⊥
 unfolding answer
 done_answer k r i h = absurd (grind (arith, i, h))
 
@@ -314,7 +314,7 @@ known_answer n C S o up [] z t b r legal k at s a = absurd a
 known_answer n C S o up (e ∷ h) z t b r legal k at s (inl a) = known_more o up e h t legal ((k.0 z t b a.0 at).1 s)
 known_answer n C S o up (e ∷ h) z t b r legal k at s (inr a) = known_more o up e h t legal (known_answer n C S o up h z t b r legal.3 k.1 at s a)
 
-key_done : (d : Digest) (t : Aaid) (b : BranchId) (r : Report) (c : Current) → IsLate d → d.current ≡ Some c → node_key c.key ≡ branch_key t b → answer (known_of (named_by_key d (branch_key t b)) b) Question.RecCommit ≡ Some (RecState.Done r) → ⊥
+pub key_done : (d : Digest) (t : Aaid) (b : BranchId) (r : Report) (c : Current) → IsLate d → d.current ≡ Some c → node_key c.key ≡ branch_key t b → answer (known_of (named_by_key d (branch_key t b)) b) Question.RecCommit ≡ Some (RecState.Done r) → ⊥
 key_done d t b r c late at key h = done_answer (known_of (named_by_key d (branch_key t b)) b) r (ap is_nil phase ∙ late c at) h
   where
     named : current_with d (branch_key t b) ≡ Some c

@@ -45,10 +45,10 @@ rollback_tells (Out.Tell (Indication.RollbackComplete r) ∷ outs) = refl
 rollback_tells (o ∷ outs) = let rest = rollback_tells outs in grind (arith, rest)
 
 -- an event that tells anything, of a tree that was current
-record Tells (o : Origin) (h : List Entry) (e : Event) (t : Aaid) : Type 0 where
-  same : (prelude o.who (digest o h) e).current ≡ (digest o h).current
+pub record Tells (o : Origin) (h : List Entry) (e : Event) (t : Aaid) : Type 0 where
+  pub same : (prelude o.who (digest o h) e).current ≡ (digest o h).current
 
-tells_at : (o : Origin) (up : Option Addr) (e : Entry) (h : List Entry) (t : Aaid) (f : Indication → Bool) → IsGrown o up (e ∷ h) → is_now t (digest o h).current ≡ true → out_tells f e.outs ≡ true → Tells o h e.event t
+pub tells_at : (o : Origin) (up : Option Addr) (e : Entry) (h : List Entry) (t : Aaid) (f : Indication → Bool) → IsGrown o up (e ∷ h) → is_now t (digest o h).current ≡ true → out_tells f e.outs ≡ true → Tells o h e.event t
 tells_at o up e h t f legal n tell = go (came_by o.who (digest o h) e.event legal.0)
   where
     go : Came o.who (digest o h) e.event → Tells o h e.event t

@@ -30,6 +30,8 @@ pub mod Heeded
 pub mod Keyed
 pub mod Logs
 pub mod Owing
+pub mod Clearing
+pub mod Reports
 pub mod Pairs
 pub mod Orders
 pub mod Steps

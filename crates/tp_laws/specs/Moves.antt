@@ -9,6 +9,8 @@ use Rattle.tp_names.specs.declared.identifiers.Addr.{Addr}
 use Rattle.tp_names.specs.declared.identifiers.NodeKey.{NodeKey}
 use Rattle.tp_names.specs.declared.children.Child.{Child}
 use Rattle.tp_names.specs.Same.{is_aaid, is_key, is_addr}
+use Rattle.tp_names.specs.declared.outcome.Report.{Report}
+use Rattle.tp_names.specs.Reports.{is_report_none}
 use Rattle.tp_records.specs.declared.request.Request.{Request}
 use Rattle.tp_records.specs.declared.dialogue.DialogueRecord.{DialogueRecord}
 use Rattle.tp_records.specs.declared.dialogue.Holder.{Holder}
@@ -26,7 +28,7 @@ use Rattle.tp_model.specs.Dialogues.{is_nil, is_active, is_ready, is_committing,
 use Rattle.tp_model.specs.Arcs.{find_arc, is_live_with_peer, link_with, put_arc, without_arc, with_dialogue, with_link}
 use Rattle.tp_model.specs.Transactions.{Transaction, aaid_of, node_key, is_under_at, refused_tx}
 use Rattle.tp_model.specs.Requests.{has_branch_at}
-use Rattle.tp_model.specs.Recovery.{is_commit, answer, find_owed, is_nothing_owed, find_kept, settled, not_forgotten}
+use Rattle.tp_model.specs.Recovery.{is_commit, answer, find_owed, is_nothing_owed, is_root_key, find_kept, settled, not_forgotten}
 use Rattle.tp_model.specs.Arrivals.{is_response, branch_key, find_branch_by_id, named_by_key, named_by_branch, known_of}
 use Rattle.tp_model.specs.Outcomes.{is_now}
 use Rattle.tp_model.specs.Node.{turned, Move, move, followed, perform, next_mark, with_mark_drawn, superior_arc, may_root, phase_of, seen, fresh_current, begin_on, keep}
@@ -247,6 +249,11 @@ StandsIn (x ∷ xs) k = ◌≡◌ {A = Kept} (record x { forgot = false }) (reco
 abbrev pub IsLate : Digest → Type 0
 IsLate d = (c : Current) → d.current ≡ Some c → is_nil c.phase ≡ false
 
+-- a commitment is kept with no report, which never is
+abbrev pub keeps_idle : List Kept → Bool
+keeps_idle [] = false
+keeps_idle (k ∷ ks) = (is_commit k.side && is_report_none k.report) || keeps_idle ks
+
 -- ---- what goes out beside the associations, in the event e whose prelude left s
 
 -- the record goes to that address
@@ -259,7 +266,7 @@ IsRecoveryIn (TxOut.Recovery b q ∷ outs) a r = (b ≡ a) × (q ≡ r) ⊎ IsRe
 IsRecoveryIn (TxOut.Close p ∷ outs) a r = IsRecoveryIn outs a r
 
 -- outside its transaction a node never asks whether to commit; that it knows of nothing is an answer, and so is Done, or it
--- is said of a commitment
+-- is said of a commitment. Forget outside a transaction answers a Done of a branch that nothing is known of
 abbrev pub IsSaid : Event → Digest → Digest → Addr → PeerRecord → Type 0
 IsSaid e s d a (PeerRecord.OpenAssoc x u) = Unit {0}
 IsSaid e s d a (PeerRecord.AcceptAssoc x y u) = Unit {0}
@@ -269,11 +276,12 @@ IsSaid e s d a (PeerRecord.RecReady t b) = ⊥
 IsSaid e s d a (PeerRecord.RecCommit t b) = Unit {0}
 IsSaid e s d a (PeerRecord.RecReply t b RecState.Commit) = Unit {0}
 IsSaid e s d a (PeerRecord.RecReply t b (RecState.Done r)) =
-    (is_committed_in t d ≡ true) ⊎ (e ≡ Event.Arrive a (PeerRecord.RecCommit t b)) × (answer (known_of (named_by_key s (branch_key t b)) b) Question.RecCommit ≡ Some (RecState.Done r))
+    (is_committed_in t d ≡ true) × (is_report_none r ≡ true → keeps_idle d.kept ≡ true)
+    ⊎ (e ≡ Event.Arrive a (PeerRecord.RecCommit t b)) × (answer (known_of (named_by_key s (branch_key t b)) b) Question.RecCommit ≡ Some (RecState.Done r))
 IsSaid e s d a (PeerRecord.RecReply t b RecState.Unknown) =
     (e ≡ Event.Arrive a (PeerRecord.RecReady t b)) × (answer (known_of (named_by_branch s t b) b) Question.RecReady ≡ Some RecState.Unknown)
 IsSaid e s d a (PeerRecord.RecReply t b RecState.RetryLater) = Unit {0}
-IsSaid e s d a (PeerRecord.Forget t b) = Unit {0}
+IsSaid e s d a (PeerRecord.Forget t b) = (r : Report) × (e ≡ Event.Arrive a (PeerRecord.RecReply t b (RecState.Done r))) × (is_report_none r ≡ false) × ((named_by_branch s t b).current ≡ None)
 
 abbrev pub AreSaid : Event → Digest → Digest → List TxOut → Type 0
 AreSaid e s d outs = (a : Addr) (r : PeerRecord) → IsRecoveryIn outs a r → IsSaid e s d a r
@@ -291,9 +299,9 @@ IsUnderWay s k = (c : Current) × (s.current ≡ Some c) × (is_key (node_key c.
 abbrev pub IsSettling : Event → Digest → Digest → Kept → KeptEvent → Type 0
 IsSettling e s d k (KeptEvent.Done a b r) =
     (t : Aaid) × (e ≡ Event.Arrive a (PeerRecord.RecReply t b (RecState.Done r))) × (is_aaid k.key.aaid t ≡ true) × (d.current ≡ s.current)
-    × (((c : Child) → find_owed k.owed b ≡ Some c → is_addr c.addr a ≡ true) ⊎ IsUnderWay s k.key)
-IsSettling e s d k KeptEvent.Forget = Unit {0}
-IsSettling e s d k KeptEvent.Purge = is_nothing_owed k.owed ≡ true
+    × (((c : Child) → find_owed k.owed b ≡ Some c → is_addr c.addr a ≡ true) ⊎ IsUnderWay s k.key) × (find_kept d.kept k.key ≡ Some k)
+IsSettling e s d k KeptEvent.Forget = (a : Addr) × (t : Aaid) × (b : BranchId) × (e ≡ Event.Arrive a (PeerRecord.Forget t b)) × (k.key ≡ branch_key t b)
+IsSettling e s d k KeptEvent.Purge = (is_nothing_owed k.owed ≡ true) × (is_commit k.side ≡ true → is_root_key k.key ≡ true)
 
 -- ---- what an event says of control, and what it makes of a dialogue
 

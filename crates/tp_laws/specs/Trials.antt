@@ -9,10 +9,10 @@ use Rattle.tp_records.specs.declared.dialogue.DialogueRecord.{DialogueRecord}
 use Rattle.tp_model.specs.declared.line.LineRequest.{LineRequest}
 use Rattle.tp_model.specs.Arcs.{is_live_with_peer}
 use Rattle.tp_model.specs.History.{digest}
-use Rattle.tp_model.specs.Outcomes.{is_member, decided, rolled, decision, has_left, told}
+use Rattle.tp_model.specs.Outcomes.{is_member, completed_none, decided, rolled, decision, has_left, told}
 use Rattle.tp_model.specs.World.{Node, find_node, addr_of}
 use Rattle.tp_model.specs.Happenings.{Happening, Declare, Does, Crash, Ask, Deliver, Decide, Retry, run}
-use Rattle.tp_model.specs.Promises.{is_counted, has_begun, is_of_tree, is_ready_of, has_logged, holds_at}
+use Rattle.tp_model.specs.Promises.{is_counted, has_begun, is_of_tree, is_ready_of, has_logged, holds_at, has_told_in, completes, is_root}
 use Rattle.tp_laws.specs.Facts.{is_order, is_vote, is_end}
 use Rattle.tp_laws.specs.Traces.{sent_on, taken_on}
 use Rattle.tp_laws.specs.Control.{answered, given, returned}
@@ -134,6 +134,35 @@ deep_readied = deep ++ (Does (Ask 2 LineRequest.Commit) ∷ Does (Deliver 8) ∷
 abbrev pub deep_counted : List Happening
 deep_counted = deep ++ (Does (Ask 2 (LineRequest.Prepare 3)) ∷ Does (Deliver 8) ∷ Does (Ask 3 LineRequest.Commit) ∷ Does (Deliver 9) ∷ [])
 
+-- each commits and is done, from the last up to the root
+abbrev pub deep_completed : List Happening
+deep_completed =
+    deep_readied
+    ++ (Does (Deliver 10)
+    ∷ Does (Deliver 11)
+    ∷ Does (Deliver 12)
+    ∷ Does (Ask 3 LineRequest.Done)
+    ∷ Does (Deliver 13)
+    ∷ Does (Ask 2 LineRequest.Done)
+    ∷ Does (Deliver 14)
+    ∷ Does (Ask 1 LineRequest.Done)
+    ∷ [])
+
+-- the same, but the last decided to roll back by itself; its superior tells it to forget, and reports it
+abbrev pub deep_reported : List Happening
+deep_reported =
+    deep_readied
+    ++ (Does (Decide 3 Outcome.Rollback)
+    ∷ Does (Deliver 10)
+    ∷ Does (Deliver 11)
+    ∷ Does (Deliver 12)
+    ∷ Does (Ask 3 LineRequest.Done)
+    ∷ Does (Deliver 13)
+    ∷ Does (Ask 2 LineRequest.Done)
+    ∷ Does (Deliver 15)
+    ∷ Does (Ask 1 LineRequest.Done)
+    ∷ [])
+
 -- ---- what is asked of them
 
 abbrev pub tree : Aaid
@@ -209,6 +238,16 @@ sent_end x = some_word is_end (sent_on (first_mark 1) (first_mark 2) 1 x.history
 
 abbrev pub told_after : List Happening → ℕ → Option Outcome
 told_after es n = elim (node_after es n) [ None ↦ None | Some x ↦ told x.origin tree x.history ]
+
+-- the user was told that the commitment is complete, with no report; and with any
+abbrev pub is_clear : Node → Bool
+is_clear x = completed_none x.origin tree x.history
+
+abbrev pub is_complete : Node → Bool
+is_complete x = has_told_in completes x.origin tree x.history
+
+abbrev pub is_first_root : Node → Bool
+is_first_root x = is_root tree x
 
 abbrev pub decision_after : List Happening → ℕ → Option Outcome
 decision_after es n = elim (node_after es n) [ None ↦ None | Some x ↦ decision x.origin tree x.history ]

@@ -5,6 +5,7 @@ use Rattle.std.specs.Prelude.{ℕ, ◌+◌, ◌≡◌, ◌&&◌, ◌||◌, not, 
 use Rattle.tp_names.specs.declared.identifiers.Aaid.{Aaid}
 use Rattle.tp_names.specs.declared.identifiers.Mark.{Mark}
 use Rattle.tp_names.specs.declared.identifiers.Addr.{Addr}
+use Rattle.tp_names.specs.Reports.{is_report_none}
 use Rattle.tp_records.specs.declared.request.Request.{Request}
 use Rattle.tp_records.specs.declared.dialogue.DialogueRecord.{DialogueRecord}
 use Rattle.tp_model.specs.declared.transaction.TxEvent.{TxEvent}
@@ -15,12 +16,13 @@ use Rattle.tp_model.specs.Dialogues.{is_nil, is_active, is_committing, is_rollin
 use Rattle.tp_model.specs.Transactions.{Transaction, Turn, aaid_of, is_under_at}
 use Rattle.tp_model.specs.Node.{Move}
 use Rattle.tp_model.specs.History.{digest}
-use Rattle.tp_model.specs.Outcomes.{decided, rolled, has_left, is_unchanged}
+use Rattle.tp_model.specs.Outcomes.{decided, rolled, has_left, completed_none, is_unchanged}
 use Rattle.tp_model.specs.Questions.{is_at}
 use Rattle.tp_laws.specs.Turns.{falls, loses}
 use Rattle.tp_laws.specs.Traces.{sent_on, taken_on}
-use Rattle.tp_laws.specs.Passages.{is_commit_rec, IsPassed}
-use Rattle.tp_laws.specs.Trees.{commits_tree}
+use Rattle.tp_laws.specs.Passages.{is_commit_rec, asks_tell, IsPassed}
+use Rattle.tp_laws.specs.Trees.{commits_tree, out_tells}
+use Rattle.tp_laws.specs.Clearing.{is_complete_none}
 use Rattle.tp_laws.specs.Facts.{is_vote, is_end, ends, BranchKey, begun_keys, spoken, stays, sees, HasPlace, HasPlaceAt, words_to, IsFair}
 
 -- ---- words in order
@@ -43,6 +45,8 @@ pub record Deeds : Type 0 where
   pub committed : Aaid → Bool
   pub rolled : Aaid → Bool
   pub left : Aaid → Bool
+  -- the commitment was complete with no report
+  pub completed : Aaid → Bool
 
 -- it holds of the tree whose Begin stands at that place
 abbrev pub holds_at : List BranchKey → ℕ → (Aaid → Bool) → Bool
@@ -50,7 +54,7 @@ holds_at ks n g = elim (slice_get ks n) [ None ↦ false | Some k ↦ g k.0 ]
 
 abbrev pub may_say : List BranchKey → Deeds → ℕ → Bool → DialogueRecord → Bool
 may_say ks g n v DialogueRecord.Ready = not v
-may_say ks g n v (DialogueRecord.Done r) = holds_at ks n g.committed
+may_say ks g n v (DialogueRecord.Done r) = holds_at ks n g.committed && (not (is_report_none r) || holds_at ks n g.completed)
 may_say ks g n v (DialogueRecord.RolledBack r) = holds_at ks n g.rolled
 may_say ks g n v DialogueRecord.Left = not v && holds_at ks n g.left
 may_say ks g n v DialogueRecord.LeftEnd = not v && holds_at ks n g.left
@@ -69,6 +73,7 @@ pub record Tells (g : Deeds) (e : TxEvent) (s t : Transaction) (a : Turn) : Type
   pub rolling : is_rolling t.phase ≡ true → g.rolled (aaid_of t.key) ≡ true
   pub falls : falls e s ≡ true → g.rolled (aaid_of t.key) ≡ true
   pub leaves : e ≡ TxEvent.User Request.Unchanged → g.left (aaid_of t.key) ≡ true
+  pub completes : asks_tell is_complete_none a.outs ≡ true → g.completed (aaid_of t.key) ≡ true
 
 pub record Rises (e : TxEvent) (s : Transaction) (p : ℕ) (t : Transaction) (a : Turn) : Type 0 where
   pub words : (ks : List BranchKey) (g : Deeds) (n : ℕ) (v : Bool) → HasPlace ks n t p → Votes v t p → Tells g e s t a → each_up (may_say ks g) n v (spoken true p a.outs) ≡ true
@@ -90,6 +95,7 @@ pub record TellsAt (g : Deeds) (e : Event) (fall : Bool) (s : Digest) (m : Move)
   pub rolling : (c : Current) → s.current ≡ Some c → is_rolling c.phase ≡ true → g.rolled (aaid_of c.key) ≡ true
   pub falls : (c : Current) → s.current ≡ Some c → fall ≡ true → g.rolled (aaid_of c.key) ≡ true
   pub leaves : (c : Current) → s.current ≡ Some c → is_unchanged e ≡ true → g.left (aaid_of c.key) ≡ true
+  pub completes : (c : Current) → s.current ≡ Some c → out_tells is_complete_none m.outs ≡ true → g.completed (aaid_of c.key) ≡ true
 
 pub record IsRisen (e : Event) (p : ℕ) (fall : Bool) (s d : Digest) (m : Move) : Type 0 where
   pub words : (ks : List BranchKey) (g : Deeds) (n : ℕ) (v : Bool) → HasPlaceAt ks n d.current p → VotesAt v d.current p → TellsAt g e fall s m → each_up (may_say ks g) n v (words_to p m.outs) ≡ true
@@ -98,7 +104,7 @@ pub record IsRisen (e : Event) (p : ℕ) (fall : Bool) (s d : Digest) (m : Move)
 -- ---- of a history
 
 abbrev pub deeds_of : Origin → List Entry → Deeds
-deeds_of o h = record { committed = λ t. decided o t h; rolled = λ t. rolled o t h; left = λ t. has_left o t h }
+deeds_of o h = record { committed = λ t. decided o t h; rolled = λ t. rolled o t h; left = λ t. has_left o t h; completed = λ t. completed_none o t h }
 
 -- to the superior, on each pair
 pub record SpeaksUp (o : Origin) (up : Option Addr) (h : List Entry) : Type 0 where

@@ -10,6 +10,8 @@ pub mod known;
 pub mod known_trials;
 pub mod outcome_trials;
 pub mod outcomes;
+pub mod report_trials;
+pub mod reports;
 pub mod trials;
 
 ghost use Rattle.std.specs.Prelude.{ℕ, ◌≡◌, ◌≤◌, Option, List, [], length, true, Bool, None, false};
@@ -135,8 +137,8 @@ pub fn leaving_is_not_rolling()
 {}
 
 /// What a subordinate says to its superior stands in order, of every event and in every legal history that enters each tree
-/// once: between two ends at most one Ready and no Left behind it; Done ends a tree that committed, RolledBack one that
-/// rolled, Left one that was left.
+/// once: between two ends at most one Ready and no Left behind it; Done ends a tree that committed, and with no report one
+/// that was complete with none, RolledBack one that rolled, Left one that was left.
 pub fn words_upward()
     ensures turn { (e : TxEvent) (s : Transaction) (p : ℕ) → IsPut e s → IsRising e s p s (transacted e s) }
     ensures node { (who : Who) (d : Digest) (e : Event) (p : ℕ) (sup fall : Bool) (shut : ℕ) → IsLate d → refusal who d e ≡ None → Reads who e p sup fall shut (prelude who d e)
@@ -145,8 +147,8 @@ pub fn words_upward()
 {}
 
 /// In every run, what a superior takes from a node below it was said of a Begin that it had sent by then: Ready is logged for
-/// it, Done ends a tree that committed there, RolledBack one that rolled, Left one that was left; and between two ends at
-/// most one Ready is taken, and no Left behind it.
+/// it, Done ends a tree that committed there, and with no report one that was complete with none, RolledBack one that
+/// rolled, Left one that was left; and between two ends at most one Ready is taken, and no Left behind it.
 pub fn branches_are_heeded()
     ensures { (es : List Happening) → HeedsBranches (run es).nodes }
 {}

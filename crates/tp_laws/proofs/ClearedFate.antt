@@ -1,0 +1,262 @@
+-- What became of a tree at a node that took its Begin: it is current, rolled, was left, ended clear, is kept for its damage, or
+-- the superior's Forget was taken.
+use Rattle.std.proofs.Common.{◌≡◌, ◌⊎◌, inl, inr, Bool, true, false, refl, ap, sym, subst, ◌∙◌, arith, Option, Some, None, List, [], ◌∷◌}
+use Rattle.std.proofs.lemmas.Bool.Decides.{nat_tests}
+use Rattle.tp_names.specs.declared.identifiers.Aaid.{Aaid}
+use Rattle.tp_names.specs.declared.identifiers.BranchId.{BranchId}
+use Rattle.tp_names.specs.declared.identifiers.NodeKey.{NodeKey}
+use Rattle.tp_names.specs.declared.identifiers.Addr.{Addr}
+use Rattle.tp_names.specs.Same.{is_aaid, is_key}
+use Rattle.tp_records.specs.declared.request.Request.{Request}
+use Rattle.tp_records.specs.declared.dialogue.DialogueRecord.{DialogueRecord}
+use Rattle.tp_records.specs.declared.peer.PeerRecord.{PeerRecord}
+use Rattle.tp_model.specs.declared.recovery.Kept.{Kept}
+use Rattle.tp_model.specs.Parts.{Who, Origin, Event, Entry, Arc, Key, Root, Under, Current, Digest}
+use Rattle.tp_model.specs.Dialogues.{is_nil, is_active, is_rolling}
+use Rattle.tp_model.specs.Arcs.{find_arc}
+use Rattle.tp_model.specs.Transactions.{aaid_of, node_key}
+use Rattle.tp_model.specs.Recovery.{not_forgotten}
+use Rattle.tp_model.specs.Arrivals.{branch_key}
+use Rattle.tp_model.specs.Events.{refusal, action, after_crash, recovered_current}
+use Rattle.tp_model.specs.History.{digest, records}
+use Rattle.tp_model.specs.Outcomes.{is_now, is_unchanged, rolls, is_crash_in_active}
+use Rattle.tp_model.specs.World.{number_of, addr_of}
+use Rattle.tp_model.specs.Happenings.{Happening, run}
+use Rattle.tp_model.specs.Promises.{is_begin_of, has_begun}
+use Rattle.tp_model.specs.Legal.{IsGrown}
+use Rattle.tp_laws.specs.Histories.{HasTaken, brought}
+use Rattle.tp_laws.specs.Moves.{IsLate, keeps_idle, begun_in, counted_in, prelude}
+use Rattle.tp_laws.specs.Members.{is_begun_by, has_taken_begin, is_own, IsOnce}
+use Rattle.tp_laws.specs.Clearing.{ends_tree, has_damage, notes_forget, keeps_beside, KeepsAt, LetsGo, Forgets, Noted, Beside, Beside_here}
+use Rattle.tp_laws.specs.Reports.{Fate, Is_now, Has_rolled, Was_left, Ended_clear, Stays_kept, Took_forget, BranchFate}
+use Rattle.tp_laws.proofs.ReadyDown.{once_same}
+use Rattle.tp_laws.proofs.Members.{own_untaken}
+use Rattle.tp_laws.proofs.Good.{good_run}
+use Rattle.tp_laws.proofs.RollsUp.{tied_run}
+use Rattle.tp_laws.proofs.Late.{late_law, late_prelude}
+use Rattle.tp_laws.proofs.Equal.{aaids_equal, or_case}
+use Rattle.tp_laws.proofs.TurnLog.{key_self}
+use Rattle.tp_laws.proofs.Rolls.{phase_at}
+use Rattle.tp_laws.proofs.Treed.{now_some}
+use Rattle.tp_laws.proofs.Knowing.{Came, As_it_was, By_begin, By_crash, came_by, begin_arc, now_prelude, nil_now}
+use Rattle.tp_laws.proofs.Members.{prelude_old}
+use Rattle.tp_laws.proofs.Fated.{fated_law}
+use Rattle.tp_laws.proofs.Above.{IsKeyOf}
+use Rattle.tp_laws.proofs.PairedSteps.{placed_event}
+use Rattle.tp_laws.proofs.KeptLog.{kept_prelude}
+use Rattle.tp_laws.proofs.SoundMoves.{IsSound}
+use Rattle.tp_laws.proofs.SoundLog.{sound_first}
+use Rattle.tp_laws.proofs.BelowRuns.{TookKey, behind_key, current_took, later_key}
+use Rattle.tp_laws.proofs.OwingLaw.{kept_none, sound_at, rolled_here, rolled_more, rolling_here}
+use Rattle.tp_laws.proofs.ClearingMoves.{EndsAt, It_rolls, Was_rolling, It_leaves, It_clears, Is_kept, Is_gone, IsClearingMove, clearing_event, keeps_noted, keeps_unnoted, idle_noted, roots_noted}
+use Rattle.tp_laws.proofs.ClearedLaw.{damage_is_known, cleared_first, cleared_more, IsCleared, cleared_law}
+
+clearing_at : (o : Origin) (up : Option Addr) (e : Entry) (h : List Entry) (t : Aaid) → IsGrown o up (e ∷ h) → IsClearingMove o.who e.event (rolls o.who (digest o h) e.event) (prelude o.who (digest o h) e.event) t (prelude o.who (digest o h) e.event) (action o.who (digest o h) e.event)
+clearing_at o up e h t legal = clearing_event o.who (digest o h) e.event t (late_law o up h legal.3) legal.0
+
+-- ---- what is kept behind the prelude
+
+notes_off : (t : Aaid) (b : BranchId) (ks : List Kept) → notes_forget t b (not_forgotten ks) ≡ false
+notes_off t b [] = refl
+notes_off t b (k ∷ ks) = grind (arith, notes_off t b ks)
+
+notes_prelude : (who : Who) (d : Digest) (e : Event) (t : Aaid) (b : BranchId) → notes_forget t b (prelude who d e).kept ≡ true → notes_forget t b d.kept ≡ true
+unfolding after_crash
+notes_prelude who d (Event.Declare s) t b h = h
+notes_prelude who d (Event.Do r) t b h = let same : (prelude who d (Event.Do r)).kept ≡ d.kept = grind arith in ap (notes_forget t b) (sym same) ∙ h
+notes_prelude who d (Event.Arrive from r) t b h = let same : (prelude who d (Event.Arrive from r)).kept ≡ d.kept = grind arith in ap (notes_forget t b) (sym same) ∙ h
+notes_prelude who d (Event.Break from r) t b h = h
+notes_prelude who d (Event.Lose p) t b h = h
+notes_prelude who d (Event.Heur o) t b h = h
+notes_prelude who d (Event.GiveUp p) t b h = h
+notes_prelude who d Event.Retry t b h = h
+notes_prelude who d Event.Purge t b h = h
+notes_prelude who d Event.Crash t b h = absurd (cc (notes_off t b d.kept, h))
+
+notes_taken : (o : Origin) (up : Option Addr) (h : List Entry) (t : Aaid) (b : BranchId) → o.start.records ≡ [] → IsGrown o up h → notes_forget t b (digest o h).kept ≡ true → (a : Addr) × HasTaken h a (PeerRecord.Forget t b)
+notes_taken o up [] t b empty legal x = absurd (cc (ap (notes_forget t b) (kept_none o empty), x))
+notes_taken o up (e ∷ h) t b empty legal x = go ((clearing_at o up e h t legal).notes b x) (notes_taken o up h t b empty legal.3)
+  where
+    s : Digest
+    s = prelude o.who (digest o h) e.event
+
+    go : (notes_forget t b s.kept ≡ true) ⊎ (a : Addr) × (e.event ≡ Event.Arrive a (PeerRecord.Forget t b)) → (notes_forget t b (digest o h).kept ≡ true → (a : Addr) × HasTaken h a (PeerRecord.Forget t b)) → (a : Addr) × HasTaken (e ∷ h) a (PeerRecord.Forget t b)
+    go (inl i) rest = let w = rest (notes_prelude o.who (digest o h) e.event t b i) in (w.0, inr w.1)
+    go (inr i) rest = (i.0, inl (ap brought i.1))
+
+pub idle_never : (o : Origin) (up : Option Addr) (h : List Entry) (t : Aaid) → o.start.records ≡ [] → IsGrown o up h → keeps_idle (digest o h).kept ≡ true → ⊥
+idle_never o up [] t empty legal x = cc (ap keeps_idle (kept_none o empty), x)
+idle_never o up (e ∷ h) t empty legal x = idle_never o up h t empty legal.3 (sym (idle_noted (digest o h).kept) ∙ ap keeps_idle (sym (kept_prelude o.who (digest o h) e.event).0) ∙ idle_noted (prelude o.who (digest o h) e.event).kept ∙ (clearing_at o up e h t legal).idle x)
+
+-- the one key of a tree that came from above
+pub record KeyIs (o : Origin) (h : List Entry) (t : Aaid) (b : BranchId) : Type 0 where
+  pub other : is_own o.who t ≡ false
+  pub ids : (v : BranchId) → TookKey h t v → v ≡ b
+
+pub key_tail : (o : Origin) (e : Entry) (h : List Entry) (t : Aaid) (b : BranchId) → KeyIs o (e ∷ h) t b → KeyIs o h t b
+key_tail o e h t b k = record { other = k.other; ids = λ v w. k.ids v (later_key e h t v w) }
+
+key_here : (o : Origin) (up : Option Addr) (e : Entry) (h : List Entry) (t : Aaid) (b : BranchId) (c : Current) → o.start.records ≡ [] → IsGrown o up (e ∷ h) → KeyIs o (e ∷ h) t b → (prelude o.who (digest o h) e.event).current ≡ Some c → is_aaid t (aaid_of c.key) ≡ true → is_key (node_key c.key) (branch_key t b) ≡ false → ⊥
+key_here o up e h t b c empty legal keys at tree off = go c.key refl
+  where
+    go : (j : Key) → c.key ≡ j → ⊥
+    go (Root u) j =
+        let keyed : IsKeyOf o.who up (Root u) = subst (λ (i : Key). IsKeyOf o.who up i) j ((placed_event o up e h 0 empty legal).keyed c at) in
+        let same : t ≡ u = aaids_equal t u (ap (λ (i : Key). is_aaid t (aaid_of i)) (sym j) ∙ tree) in
+        let node : t.mark.node ≡ o.who.node = ap (λ (v : Aaid). v.mark.node) same ∙ keyed.1 in
+        let own : is_own o.who t ≡ true = grind (arith, nat_tests, node) in
+        cc (own, keys.other)
+    go (Under u v f) j =
+        let same : t ≡ u = aaids_equal t u (ap (λ (i : Key). is_aaid t (aaid_of i)) (sym j) ∙ tree) in
+        let took : TookKey (e ∷ h) u v = behind_key o up e h c u v f legal at j (λ w at k. current_took o up h w u v f empty legal.3 at k) in
+        let id : v ≡ b = keys.ids v (subst (λ (w : Aaid). TookKey (e ∷ h) w v) (sym same) took) in
+        let key : node_key c.key ≡ branch_key t b = ap node_key j ∙ key_is u v f same id in
+        cc (off, ap (λ (i : NodeKey). is_key i (branch_key t b)) key ∙ key_self (branch_key t b))
+      where
+        key_is : (u : Aaid) (v : BranchId) (f : Addr) → t ≡ u → v ≡ b → node_key (Under u v f) ≡ branch_key t b
+        key_is u v f x y = rw (← x, y) refl
+
+beside_never : (o : Origin) (up : Option Addr) (h : List Entry) (t : Aaid) (b : BranchId) → o.start.records ≡ [] → IsGrown o up h → KeyIs o h t b → keeps_beside t b (digest o h).kept ≡ true → ⊥
+beside_never o up [] t b empty legal keys x = cc (ap (keeps_beside t b) (kept_none o empty), x)
+beside_never o up (e ∷ h) t b empty legal keys x = go ((clearing_at o up e h t legal).roots b x) (beside_never o up h t b empty legal.3 (key_tail o e h t b keys))
+  where
+    s : Digest
+    s = prelude o.who (digest o h) e.event
+
+    go : (keeps_beside t b s.kept ≡ true) ⊎ (c : Current) × (s.current ≡ Some c) × (is_aaid t (aaid_of c.key) ≡ true) × (is_key (node_key c.key) (branch_key t b) ≡ false) → (keeps_beside t b (digest o h).kept ≡ true → ⊥) → ⊥
+    go (inl i) rest = rest (sym (roots_noted t b (digest o h).kept) ∙ ap (keeps_beside t b) (sym (kept_prelude o.who (digest o h) e.event).0) ∙ roots_noted t b s.kept ∙ i)
+    go (inr i) rest = key_here o up e h t b i.0 empty legal keys i.1 i.2 i.3
+
+-- ---- what became of it
+
+begun_now : (who : Who) (d : Digest) (e : Event) (t : Aaid) → refusal who d e ≡ None → is_begun_by t e ≡ true → is_now t (prelude who d e).current ≡ true
+begun_now who d (Event.Arrive from (PeerRecord.OnAssoc x y q (DialogueRecord.Begin u b h))) t ok i = go (find_arc d.arcs from.node) refl
+  where
+    go : (v : Option Arc) → find_arc d.arcs from.node ≡ v → is_now t (prelude who d (Event.Arrive from (PeerRecord.OnAssoc x y q (DialogueRecord.Begin u b h)))).current ≡ true
+    go None j = absurd (begin_arc who d from x y q u b h ok j)
+    go (Some a) j = ap (λ (v : Option Arc). is_now t (begun_in v u b (counted_in d from)).current) j ∙ i
+begun_now who d e t ok i = absurd (grind (arith, i))
+
+unchanged_prelude : (who : Who) (d : Digest) (f : Event) → is_unchanged f ≡ true → (prelude who d f).current ≡ d.current
+unchanged_prelude who d (Event.Do Request.Unchanged) u = refl
+unchanged_prelude who d f u = absurd (cc (u))
+
+fate_step : (o : Origin) (up : Option Addr) (e : Entry) (h : List Entry) (t : Aaid) (b : BranchId) → o.start.records ≡ [] → IsGrown o up (e ∷ h) → IsOnce o (e ∷ h) → KeyIs o (e ∷ h) t b → (is_begun_by t e.event ≡ true) ⊎ Fate o h t b → Fate o (e ∷ h) t b
+fate_step o up e h t b empty legal once keys before = start before
+  where
+    d : Digest
+    d = digest o h
+
+    s : Digest
+    s = prelude o.who d e.event
+
+    k : IsClearingMove o.who e.event (rolls o.who d e.event) s t s (action o.who d e.event)
+    k = clearing_at o up e h t legal
+
+    f : IsCleared o h t
+    f = cleared_law o up h t empty legal.3 once.1
+
+    recs : e.rec ≡ (action o.who d e.event).rec
+    recs = ap (λ (v : Entry). v.rec) (sym legal.1)
+
+    late : IsLate s
+    late = late_prelude o.who d e.event (late_law o up h legal.3)
+
+    sound : IsSound o.who s
+    sound = (sound_first o.who d e.event legal.0 (sound_at o up h empty legal.3)).0
+
+    gone : LetsGo e.event s t b s.kept → Fate o (e ∷ h) t b
+    gone (Forgets a i) = Took_forget a (inl (ap brought i))
+    gone (Noted i) = let w = notes_taken o up h t b empty legal.3 (notes_prelude o.who d e.event t b i) in Took_forget w.0 (inr w.1)
+    gone (Beside i) = absurd (beside_never o up h t b empty legal.3 (key_tail o e h t b keys) (sym (roots_noted t b d.kept) ∙ ap (keeps_beside t b) (sym (kept_prelude o.who d e.event).0) ∙ roots_noted t b s.kept ∙ i))
+    gone (Beside_here c i j l) = absurd (key_here o up e h t b c empty legal keys i j l)
+
+    ends : is_now t s.current ≡ true → EndsAt e.event (rolls o.who d e.event) s t b s (action o.who d e.event) → Fate o (e ∷ h) t b
+    ends n (It_rolls m r) = Has_rolled (rolled_here o up e h t legal m r)
+    ends n (Was_rolling r) = let c = now_some t s.current n in Has_rolled (rolling_here o up e h t empty legal once c.0 c.1 c.2 (ap is_rolling (sym (phase_at s c.0 c.1)) ∙ r))
+    ends n (It_leaves m u) = let now : is_now t d.current ≡ true = ap (is_now t) (sym (unchanged_prelude o.who d e.event u)) ∙ m in Was_left (rw (now, u) refl)
+    ends n (Is_kept i) = Stays_kept i
+    ends n (Is_gone i) = gone i
+    ends n (It_clears x) = go (has_damage t (records o h)) refl
+      where
+        go : (v : Bool) → has_damage t (records o h) ≡ v → Fate o (e ∷ h) t b
+        go false i = Ended_clear (cleared_first t e.rec (records o h) (ap (ends_tree t) recs ∙ x) i)
+        go true i = elim (now_prelude o.who d e.event t legal.0 n) [
+          | inl m ↦ Has_rolled (rolled_more o e h t ((fated_law o up h t empty legal.3 once.1).rolling m (f.damage_now i m)))
+          | inr m ↦ (let known = damage_is_known o up h t empty legal.3 once.1 i in let w = once.0 t m in absurd (grind (arith, known, w.0, w.1)))
+        ]
+
+    on : is_now t s.current ≡ true → Fate o (e ∷ h) t b
+    on n = elim (k.over b late (prelude_old o up e h t empty legal once n) sound n) [ inl i ↦ Is_now i | inr i ↦ ends n i ]
+
+    crashed : e.event ≡ Event.Crash → s.current ≡ recovered_current d.current → is_now t d.current ≡ true → Fate o (e ∷ h) t b
+    crashed is cur n = by (is_active c.0.phase) refl (is_rolling c.0.phase) refl
+      where
+        c : (u : Current) × (d.current ≡ Some u) × (is_aaid t (aaid_of u.key) ≡ true)
+        c = now_some t d.current n
+
+        stays : is_active c.0.phase ≡ false → is_rolling c.0.phase ≡ false → is_nil c.0.phase ≡ false → is_now t (recovered_current (Some c.0)) ≡ true
+        stays i j l = let tree = c.2 in grind (arith, i, j, l, tree)
+
+        by : (v : Bool) → is_active c.0.phase ≡ v → (w : Bool) → is_rolling c.0.phase ≡ w → Fate o (e ∷ h) t b
+        by true i w j =
+            let a : is_crash_in_active d e.event ≡ true = ap (is_crash_in_active d) is ∙ ap is_active (phase_at d c.0 c.1) ∙ i in
+            Has_rolled (rw (n, a) (grind arith))
+        by false i true j = Has_rolled (rolled_more o e h t ((fated_law o up h t empty legal.3 once.1).rolling n (ap is_rolling (phase_at d c.0 c.1) ∙ j)))
+        by false i false j = on (ap (is_now t) (cur ∙ ap recovered_current c.1) ∙ stays i j (late_law o up h legal.3 c.0 c.1))
+
+    was_now : is_now t d.current ≡ true → Came o.who d e.event → Fate o (e ∷ h) t b
+    was_now n (As_it_was i) = on (ap (is_now t) i ∙ n)
+    was_now n (By_begin from x y q u c g a is found cur nil above) = absurd (cc (n, nil_now d t (late_law o up h legal.3) nil))
+    was_now n (By_crash is cur) = crashed is cur n
+
+    keeps : KeepsAt t d.kept → KeepsAt t s.kept
+    keeps w = keeps_unnoted t s.kept (subst (λ (ks : List Kept). KeepsAt t ks) (sym (kept_prelude o.who d e.event).0) (keeps_noted t d.kept w))
+
+    start : (is_begun_by t e.event ≡ true) ⊎ Fate o h t b → Fate o (e ∷ h) t b
+    start (inl i) = on (begun_now o.who d e.event t legal.0 i)
+    start (inr (Is_now n)) = was_now n (came_by o.who d e.event legal.0)
+    start (inr (Has_rolled r)) = Has_rolled (rolled_more o e h t r)
+    start (inr (Was_left l)) = Was_left (rw l (grind arith))
+    start (inr (Ended_clear x)) = Ended_clear (cleared_more t e.rec (records o h) x)
+    start (inr (Took_forget a x)) = Took_forget a (inr x)
+    start (inr (Stays_kept w)) = elim (k.kept b sound (keeps w)) [ inl i ↦ Stays_kept i | inr i ↦ gone i ]
+
+pub fate_law : (o : Origin) (up : Option Addr) (h : List Entry) (t : Aaid) (b : BranchId) → o.start.records ≡ [] → IsGrown o up h → IsOnce o h → KeyIs o h t b → has_taken_begin t h ≡ true → Fate o h t b
+fate_law o up [] t b empty legal once keys x = absurd (cc (x))
+fate_law o up (e ∷ h) t b empty legal once keys x = elim (or_case (is_begun_by t e.event) (has_taken_begin t h) x) [
+  | inl i ↦ fate_step o up e h t b empty legal once keys (inl i)
+  | inr i ↦ fate_step o up e h t b empty legal once keys (inr (fate_law o up h t b empty legal.3 once.1 (key_tail o e h t b keys) i))
+]
+
+-- ---- every run
+
+begin_taken : (t : Aaid) (b : BranchId) (a : Addr) (h : List Entry) → has_begun t b a h ≡ true → has_taken_begin t h ≡ true
+begin_taken t b a [] x = absurd (cc (x))
+begin_taken t b a (e ∷ h) x = elim (or_case (is_begin_of t b a e.event) (has_begun t b a h) x) [
+  | inl i ↦ rw (one e.event i) refl
+  | inr i ↦ (let rest = begin_taken t b a h i in rw rest (grind arith))
+]
+  where
+    one : (f : Event) → is_begin_of t b a f ≡ true → is_begun_by t f ≡ true
+    one (Event.Arrive from (PeerRecord.OnAssoc x y q (DialogueRecord.Begin u c k))) i = grind (arith, i)
+    one f i = absurd (grind (arith, i))
+
+pub branch_fate : (es : List Happening) → BranchFate (run es)
+branch_fate es t b x y branch = fate_law y.origin y.superior y.history t b ((good_run es).fresh (number_of y) y branch.child.here) ((good_run es).legal (number_of y) y branch.child.here) once keys taken
+  where
+    once : IsOnce y.origin y.history
+    once = (tied_run es).unique.once (number_of y) y branch.child.here
+
+    taken : has_taken_begin t y.history ≡ true
+    taken = begin_taken t b (addr_of x) y.history branch.begun
+
+    keys : KeyIs y.origin y.history t b
+    keys = record {
+      other = own (is_own y.origin.who t) refl;
+      ids = λ v w. once_same y.origin y.history t b v (addr_of x) w.from w.x w.y w.seq w.holder once branch.begun w.took;
+    }
+      where
+        own : (v : Bool) → is_own y.origin.who t ≡ v → v ≡ false
+        own false i = refl
+        own true i = absurd (cc (own_untaken y.origin t y.history once i, taken))
