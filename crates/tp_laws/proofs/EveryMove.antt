@@ -24,7 +24,8 @@ use Rattle.tp_laws.proofs.RootBegins.{named_says, chained_says}
 use Rattle.tp_laws.specs.Ends.{are_separate}
 use Rattle.tp_laws.specs.Steps.{first_begin, next_tree, next_branch, IsLike, Steps}
 use Rattle.tp_model.specs.Node.{turned}
-use Rattle.tp_laws.specs.Moves.{IsLate, is_peer, prelude, called, accepted_by, accepted_on, IsAsked, IsPut, is_took, are_spoken, are_said, said_by, may_put_off, By_saying, may_begin, some_leads, Moves}
+use Rattle.tp_model.specs.AmongArcs.{is_peer}
+use Rattle.tp_laws.specs.Moves.{IsLate, prelude, called, accepted_by, accepted_on, IsAsked, IsPut, is_took, are_spoken, are_said, said_by, may_put_off, By_saying, may_begin, some_leads, Moves}
 use Rattle.tp_laws.proofs.Saying.{one_said}
 
 -- ---- starts log nothing

@@ -20,7 +20,8 @@ use Rattle.tp_model.specs.Arrivals.{branch_key, named_by_key, is_current_ready, 
 use Rattle.tp_model.specs.Events.{refusal}
 use Rattle.tp_model.specs.Outcomes.{is_waited_for_at, is_fatal, rolls_by_request, rolls_by_rollback, rolls_by_reply, rolls_by_arrival, rolls}
 use Rattle.tp_laws.specs.Turns.{falls, is_fatal_at}
-use Rattle.tp_laws.specs.Moves.{is_peer, prelude, IsAsked}
+use Rattle.tp_model.specs.AmongArcs.{is_peer}
+use Rattle.tp_laws.specs.Moves.{prelude, IsAsked}
 use Rattle.tp_laws.proofs.EveryMove.{seen_branch}
 use Rattle.tp_laws.proofs.EveryRecord.{find_arc_is, on_none}
 

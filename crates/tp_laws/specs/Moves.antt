@@ -26,8 +26,8 @@ use Rattle.tp_model.specs.Parts.{Who, Event, Link, Idle, Opening, Offered, Live,
 use Rattle.tp_model.specs.Links.{with_one_taken}
 use Rattle.tp_model.specs.Dialogues.{is_nil, is_active, is_ready, is_committing, is_chained, lacks_control, Asked, Ask_data, Ask_error, Ask_grant, Ask_control, Ask_handshake, Ask_respond, Ask_handshake_grant, Ask_defer_end, Ask_defer_grant, Heard, Hear_data, Hear_error, Hear_grant, Hear_control, Hear_handshake, Hear_handshake_grant, Hear_response, Hear_defer_end, Hear_defer_grant, said, heard, begun_by, cleared, woken, fresh_dialogue}
 use Rattle.tp_model.specs.Arcs.{find_arc, is_live_with_peer, link_with, put_arc, without_arc, with_dialogue, with_link}
-use Rattle.tp_model.specs.Transactions.{Transaction, aaid_of, node_key, is_under_at, refused_tx}
-use Rattle.tp_model.specs.Requests.{has_branch_at}
+use Rattle.tp_model.specs.Transactions.{Transaction, aaid_of, node_key, refused_tx}
+use Rattle.tp_model.specs.AmongArcs.{is_peer}
 use Rattle.tp_model.specs.Recovery.{is_commit, answer, find_owed, is_nothing_owed, is_root_key, find_kept, settled, not_forgotten}
 use Rattle.tp_model.specs.Arrivals.{is_response, branch_key, find_branch_by_id, named_by_key, named_by_branch, known_of}
 use Rattle.tp_model.specs.Outcomes.{is_now}
@@ -104,10 +104,6 @@ IsAskedByRecord from (PeerRecord.RecReply t b (RecState.Done r)) c f =
 IsAskedByRecord from (PeerRecord.RecReply t b RecState.Unknown) c f = (f ≡ TxEvent.Reply b RecState.Unknown) × (is_key (node_key c.key) (record { aaid = t; branch = Some b }) ≡ true)
 IsAskedByRecord from (PeerRecord.RecReply t b RecState.RetryLater) c f = (f ≡ TxEvent.Reply b RecState.RetryLater) × (is_key (node_key c.key) (record { aaid = t; branch = Some b }) ≡ true)
 IsAskedByRecord from (PeerRecord.Forget t b) c f = ⊥
-
--- the peer is a branch of the transaction, or its superior
-abbrev pub is_peer : Current → ℕ → Bool
-is_peer c p = is_under_at c.key p || has_branch_at c.branches p
 
 abbrev pub IsAskedByRequest : Request → Current → TxEvent → Type 0
 IsAskedByRequest (Request.UAbort p) c f = (f ≡ TxEvent.User (Request.UAbort p)) × (is_peer c p ≡ true)
