@@ -13,7 +13,7 @@ use Rattle.tp_model.specs.Dialogues.{is_nil, is_committing, is_rolling}
 use Rattle.tp_model.specs.Transactions.{aaid_of, node_key}
 use Rattle.tp_model.specs.Recovery.{is_commit}
 use Rattle.tp_model.specs.Node.{phase_of, fresh_current}
-use Rattle.tp_model.specs.Events.{action, recovered_current}
+use Rattle.tp_model.specs.Events.{action, recovered_current, decision_of}
 use Rattle.tp_model.specs.History.{digest, records, with_rec}
 use Rattle.tp_model.specs.Outcomes.{is_now, rolls, decided, last_decision, tells_complete_none, completed_none, told}
 use Rattle.tp_model.specs.Promises.{is_of_tree, has_record}
@@ -24,7 +24,7 @@ use Rattle.tp_laws.specs.Passages.{may_move, is_commit_rec}
 use Rattle.tp_laws.specs.Trees.{IsLoggedIn, out_tells, IsTreed}
 use Rattle.tp_laws.specs.Members.{is_begun_by, is_known, IsOnce}
 use Rattle.tp_laws.specs.Bare.{keeps_tree}
-use Rattle.tp_laws.specs.Clearing.{is_complete_none, decided_by, is_for_rollback, ends_tree, damages_tree, has_damage, has_cleared, decision_now}
+use Rattle.tp_laws.specs.Clearing.{is_complete_none, decided_by, is_for_rollback, ends_tree, damages_tree, has_damage, has_cleared}
 use Rattle.tp_laws.proofs.Late.{late_law, late_prelude}
 use Rattle.tp_laws.proofs.Equal.{or_case, and_left, and_right}
 use Rattle.tp_laws.proofs.Leaves.{aaid_same}
@@ -139,29 +139,29 @@ decides_case t s (Some (LogRec.Heuristic n k o)) rs logs = go (is_aaid t k.aaid)
 -- ---- a decision is recovered
 
 decision_prelude : (o : Origin) (up : Option Addr) (e : Entry) (h : List Entry) (t : Aaid) → IsGrown o up (e ∷ h) → is_now t (digest o h).current ≡ true → is_now t (prelude o.who (digest o h) e.event).current ≡ true
-    → decision_now (prelude o.who (digest o h) e.event).current ≡ decision_now (digest o h).current
+    → decision_of (prelude o.who (digest o h) e.event).current ≡ decision_of (digest o h).current
 decision_prelude o up e h t legal n m = go (came_by o.who (digest o h) e.event legal.0)
   where
-    recovered : (v : Option Current) → is_now t (recovered_current v) ≡ true → decision_now (recovered_current v) ≡ decision_now v
+    recovered : (v : Option Current) → is_now t (recovered_current v) ≡ true → decision_of (recovered_current v) ≡ decision_of v
     recovered None k = refl
     recovered (Some c) k = grind (arith, k)
 
-    go : Came o.who (digest o h) e.event → decision_now (prelude o.who (digest o h) e.event).current ≡ decision_now (digest o h).current
-    go (As_it_was i) = ap decision_now i
+    go : Came o.who (digest o h) e.event → decision_of (prelude o.who (digest o h) e.event).current ≡ decision_of (digest o h).current
+    go (As_it_was i) = ap decision_of i
     go (By_begin from x y q u b k a is found cur nil above) = absurd (cc (n, nil_now (digest o h) t (late_law o up h legal.3) nil))
-    go (By_crash is cur) = ap decision_now cur ∙ recovered (digest o h).current (ap (is_now t) (sym cur) ∙ m)
+    go (By_crash is cur) = ap decision_of cur ∙ recovered (digest o h).current (ap (is_now t) (sym cur) ∙ m)
 
 record Committing (o : Origin) (h : List Entry) (t : Aaid) : Type 0 where
   now : is_now t (digest o h).current ≡ true
   phase : is_committing (phase_of (digest o h)) ≡ true
-  decision : is_for_rollback (decision_now (digest o h).current) ≡ false
+  decision : is_for_rollback (decision_of (digest o h).current) ≡ false
 
 -- ---- every legal history
 
 pub record IsCleared (o : Origin) (h : List Entry) (t : Aaid) : Type 0 where
   pub damage_now : has_damage t (records o h) ≡ true → is_now t (digest o h).current ≡ true → is_rolling (phase_of (digest o h)) ≡ true
   pub damage_kept : keeps_tree t (digest o h).kept ≡ true → has_damage t (records o h) ≡ true
-  pub decision : is_now t (digest o h).current ≡ true → is_rolling (phase_of (digest o h)) ≡ false → is_for_rollback (last_decision t (records o h)) ≡ true → is_for_rollback (decision_now (digest o h).current) ≡ true
+  pub decision : is_now t (digest o h).current ≡ true → is_rolling (phase_of (digest o h)) ≡ false → is_for_rollback (last_decision t (records o h)) ≡ true → is_for_rollback (decision_of (digest o h).current) ≡ true
   pub clear_over : has_cleared t (records o h) ≡ true → is_now t (digest o h).current ≡ true → ⊥
   pub clear_whole : has_cleared t (records o h) ≡ true → has_damage t (records o h) ≡ false
   pub clear_decided : has_cleared t (records o h) ≡ true → decided o t h ≡ true
@@ -262,20 +262,20 @@ cleared_step o up e h t empty legal once f = record {
           | inr j ↦ absurd (cc (i, j))
         ]
 
-    decision : is_now t next.current ≡ true → is_rolling (phase_of next) ≡ false → is_for_rollback (last_decision t (records o (e ∷ h))) ≡ true → is_for_rollback (decision_now next.current) ≡ true
+    decision : is_now t next.current ≡ true → is_rolling (phase_of next) ≡ false → is_for_rollback (last_decision t (records o (e ∷ h))) ≡ true → is_for_rollback (decision_of next.current) ≡ true
     decision n calm x = go (decides_case t s e.rec (records o h) logs)
       where
-        decided_here : is_now t s.current ≡ true → decision_now next.current ≡ decided_by e.rec (decision_now s.current)
-        decided_here m = k.decides late (prelude_old o up e h t empty legal once m) m n calm ∙ ap (λ (r : Option LogRec). decided_by r (decision_now s.current)) (sym recs)
+        decided_here : is_now t s.current ≡ true → decision_of next.current ≡ decided_by e.rec (decision_of s.current)
+        decided_here m = k.decides late (prelude_old o up e h t empty legal once m) m n calm ∙ ap (λ (r : Option LogRec). decided_by r (decision_of s.current)) (sym recs)
 
-        go : Decides t s e.rec (records o h) → is_for_rollback (decision_now next.current) ≡ true
-        go (Heuristically v m last by) = ap is_for_rollback (decided_here m ∙ by (decision_now s.current) ∙ sym last) ∙ x
+        go : Decides t s e.rec (records o h) → is_for_rollback (decision_of next.current) ≡ true
+        go (Heuristically v m last by) = ap is_for_rollback (decided_here m ∙ by (decision_of s.current) ∙ sym last) ∙ x
         go (Not_at_all last by) =
             let old : is_for_rollback (last_decision t (records o h)) ≡ true = ap is_for_rollback (sym last) ∙ x in
             let known = (bare_law o up h t empty legal.3 once.1).known (decision_record (records o h) old) in
             let m = mid known n in
             let b = before known m in
-            ap is_for_rollback (decided_here m ∙ by m (decision_now s.current) ∙ decision_prelude o up e h t legal b.now m) ∙ f.decision b.now (loose b (is_rolling (phase_of d)) refl m) old
+            ap is_for_rollback (decided_here m ∙ by m (decision_of s.current) ∙ decision_prelude o up e h t legal b.now m) ∙ f.decision b.now (loose b (is_rolling (phase_of d)) refl m) old
           where
             decision_record : (rs : List LogRec) → is_for_rollback (last_decision t rs) ≡ true → has_record (is_of_tree t) rs ≡ true
             decision_record [] h = absurd (cc (h))
@@ -299,7 +299,7 @@ cleared_step o up e h t empty legal once f = record {
         let c = new_case x whole in
         let m : is_now t s.current ≡ true = ap (is_now t) c.1 ∙ c.2 in
         elim (known_or m) [
-          | inl i ↦ (let b = before i m in record { now = b.now; phase = sym (ap is_committing b.phase) ∙ ap is_committing (phase_at s c.0 c.1) ∙ c.3; decision = ap is_for_rollback (sym (decision_prelude o up e h t legal b.now m)) ∙ ap (λ (v : Option Current). is_for_rollback (decision_now v)) c.1 ∙ c.4 })
+          | inl i ↦ (let b = before i m in record { now = b.now; phase = sym (ap is_committing b.phase) ∙ ap is_committing (phase_at s c.0 c.1) ∙ c.3; decision = ap is_for_rollback (sym (decision_prelude o up e h t legal b.now m)) ∙ ap (λ (v : Option Current). is_for_rollback (decision_of v)) c.1 ∙ c.4 })
           | inr i ↦ absurd (begun c.0 c.1 c.3 i (came_by o.who d e.event legal.0))
         ]
       where

@@ -30,7 +30,7 @@ use Rattle.tp_model.specs.Transactions.{Row, Transaction, Turn, aaid_of, node_ke
 use Rattle.tp_model.specs.Recovery.{is_commit, answer, find_owed, without_owed, is_nothing_owed, is_root_key, rec_of_done, settled, noted, find_kept, put_kept, without_kept, with_forget, kept_by, kept_after, not_forgotten}
 use Rattle.tp_model.specs.Arrivals.{branch_key, named_by_key, named_by_branch, known_of}
 use Rattle.tp_model.specs.Node.{Move, move, followed, perform, next_mark, with_mark_drawn, phase_of, seen, seen_row, seen_rows, fresh_current, remaining, branches_of, Passage, passage, is_leaving, entered, with_begun, may_begin_on, begin_on, keep, turned}
-use Rattle.tp_model.specs.Events.{refusal, action}
+use Rattle.tp_model.specs.Events.{refusal, action, decision_of}
 use Rattle.tp_model.specs.Outcomes.{is_now, is_unchanged, rolls}
 use Rattle.tp_laws.specs.Histories.{IsSentIn}
 use Rattle.tp_laws.specs.Turns.{falls, is_outcome_told}
@@ -43,7 +43,7 @@ use Rattle.tp_laws.specs.Facts.{BranchKey, find_branch, words_to}
 use Rattle.tp_laws.specs.Branches.{may_leave}
 use Rattle.tp_laws.specs.Bare.{keeps_tree}
 use Rattle.tp_laws.specs.Owing.{is_standing, BeginsTo}
-use Rattle.tp_laws.specs.Clearing.{is_complete_none, is_clear_rec, is_damage_rec, is_keeping_rec, is_idle_rec, decided_by, is_for_rollback, is_departure, is_clear_branch, may_clear, OpenAt, Settles, Is_clear, Has_left, Rolls, Departs, is_ended_by, IsClearing, ends_tree, damages_tree, notes_forget, keeps_beside, decision_now, KeepsAt, LetsGo, Forgets, Noted, Beside, Beside_here, OpenRow}
+use Rattle.tp_laws.specs.Clearing.{is_complete_none, is_clear_rec, is_damage_rec, is_keeping_rec, is_idle_rec, decided_by, is_for_rollback, is_clear_branch, may_clear, OpenAt, Settles, Is_clear, Has_left, Rolls, Departs, is_ended_by, IsClearing, ends_tree, damages_tree, notes_forget, keeps_beside, KeepsAt, LetsGo, Forgets, Noted, Beside, Beside_here, OpenRow}
 use Rattle.tp_laws.proofs.Equal.{aaids_equal, or_case, and_left, and_right}
 use Rattle.tp_laws.proofs.ApartLog.{keys_equal}
 use Rattle.tp_laws.proofs.TurnLog.{key_self}
@@ -492,7 +492,7 @@ pub record IsClearingMove (who : Who) (e : Event) (fall : Bool) (s : Digest) (t 
   pub says : (z : Addr) (b : BranchId) → IsSentIn m.outs z (PeerRecord.RecReply t b (RecState.Done Report.None)) → (is_now t s.current ≡ true) × (is_committing (phase_of s) ≡ true) × (ends_tree t m.rec ≡ true) ⊎ (keeps_idle d.kept ≡ true) ⊎ AnswersDone e s z t b
   pub forgets : (z : Addr) (b : BranchId) → IsSentIn m.outs z (PeerRecord.Forget t b) → (damages_tree t m.rec ≡ true) ⊎ (keeps_tree t d.kept ≡ true) ⊎ AnswersForget e s z t b
   pub clears : ends_tree t m.rec ≡ true → (keeps_tree t d.kept ≡ true) ⊎ (c : Current) × (s.current ≡ Some c) × (is_aaid t (aaid_of c.key) ≡ true) × (is_committing c.phase ≡ true) × (is_for_rollback c.decision ≡ false)
-  pub decides : IsLate d → is_old who d t.mark ≡ true → is_now t d.current ≡ true → is_now t m.next.current ≡ true → is_rolling (phase_of m.next) ≡ false → decision_now m.next.current ≡ decided_by m.rec (decision_now d.current)
+  pub decides : IsLate d → is_old who d t.mark ≡ true → is_now t d.current ≡ true → is_now t m.next.current ≡ true → is_rolling (phase_of m.next) ≡ false → decision_of m.next.current ≡ decided_by m.rec (decision_of d.current)
   pub damages : IsLate d → is_old who d t.mark ≡ true → damages_tree t m.rec ≡ true → keeps_tree t d.kept ≡ false → is_now t m.next.current ≡ true → is_rolling (phase_of m.next) ≡ true
   pub gone : IsLate d → is_old who d t.mark ≡ true → ends_tree t m.rec ≡ true → keeps_tree t d.kept ≡ false → is_now t m.next.current ≡ true → ⊥
   pub logs : damages_tree t m.rec ≡ true → (is_now t s.current ≡ true) ⊎ (keeps_tree t d.kept ≡ true)
@@ -519,7 +519,7 @@ clearing_same who e fall s t d m none cur kept untold says forgets begins = reco
   says = says;
   forgets = forgets;
   clears = λ h. absurd (cc (ap (ends_tree t) none, h));
-  decides = λ late old n next rolling. ap decision_now cur ∙ ap (λ (r : Option LogRec). decided_by r (decision_now d.current)) (sym none);
+  decides = λ late old n next rolling. ap decision_of cur ∙ ap (λ (r : Option LogRec). decided_by r (decision_of d.current)) (sym none);
   damages = λ late old h k n. absurd (cc (ap (damages_tree t) none, h));
   keeps = λ h. inl (ap (keeps_tree t) (sym kept) ∙ h);
   idle = λ h. ap keeps_idle (sym kept) ∙ h;
@@ -549,7 +549,7 @@ clearing_perform who e fall s t d outs spoken said =
 
 -- ---- a turn
 
-departs_is : (f : TxEvent) → is_departure f ≡ true → f ≡ TxEvent.User Request.Unchanged
+departs_is : (f : TxEvent) → is_leaving f ≡ true → f ≡ TxEvent.User Request.Unchanged
 departs_is (TxEvent.User Request.Unchanged) h = refl
 departs_is f h = absurd (cc (h))
 
@@ -608,13 +608,13 @@ clearing_turned who e fall s t f d c so now at asked put = record {
     none : (p : ℕ) (b : BranchId) → BeginsTo t p b m.outs → ⊥
     none p b h = absurd (omega (arith, no_begins t (words_to p m.outs) (turned_none who f d c p put), sent_counts t p m.outs h.0 h.1 h.2 h.3 b h.4 h.5 h.6))
 
-    decides : is_now t m.next.current ≡ true → is_rolling (phase_of m.next) ≡ false → decision_now m.next.current ≡ decided_by a.rec (decision_now d.current)
+    decides : is_now t m.next.current ≡ true → is_rolling (phase_of m.next) ≡ false → decision_of m.next.current ≡ decided_by a.rec (decision_of d.current)
     decides n rolling =
         let l = now_left t a.next n in
         let off : (is_nil a.next.phase || is_rolling a.next.phase) ≡ false = rw (l.1) (ap is_rolling (sym (phase_left a.next m.next refl l.1)) ∙ rolling) in
-        left (remaining a.next) refl n ∙ own.decides off ∙ ap (λ (o : Option Current). decided_by a.rec (decision_now o)) (sym now)
+        left (remaining a.next) refl n ∙ own.decides off ∙ ap (λ (o : Option Current). decided_by a.rec (decision_of o)) (sym now)
       where
-        left : (o : Option Current) → remaining a.next ≡ o → is_now t o ≡ true → decision_now o ≡ a.next.decision
+        left : (o : Option Current) → remaining a.next ≡ o → is_now t o ≡ true → decision_of o ≡ a.next.decision
         left None i n = absurd (cc (n))
         left (Some x) i n = go (is_nil a.next.phase) refl
           where
@@ -634,9 +634,9 @@ clearing_turned who e fall s t f d c so now at asked put = record {
         here = ap (is_now t) at ∙ tree
 
         by : is_ended_by f q q a.rec ≡ true → EndsAt e fall s t b d m
-        by h = go (falls f q) refl (is_rolling c.phase) refl (is_departure f) refl (is_clear_rec a.rec) refl (is_keeping_rec a.rec) refl
+        by h = go (falls f q) refl (is_rolling c.phase) refl (is_leaving f) refl (is_clear_rec a.rec) refl (is_keeping_rec a.rec) refl
           where
-            go : (v : Bool) → falls f q ≡ v → (x : Bool) → is_rolling c.phase ≡ x → (y : Bool) → is_departure f ≡ y → (z : Bool) → is_clear_rec a.rec ≡ z → (u : Bool) → is_keeping_rec a.rec ≡ u → EndsAt e fall s t b d m
+            go : (v : Bool) → falls f q ≡ v → (x : Bool) → is_rolling c.phase ≡ x → (y : Bool) → is_leaving f ≡ y → (z : Bool) → is_clear_rec a.rec ≡ z → (u : Bool) → is_keeping_rec a.rec ≡ u → EndsAt e fall s t b d m
             go true j x k y l z o u r = It_rolls here (so j)
             go false j true k y l z o u r = Was_rolling (ap is_rolling (phase_at d c now) ∙ k)
             go false j false k true l z o u r = It_leaves here (unchanged_asked e c (subst (λ (g : TxEvent). IsAsked e c g) (departs_is f l) asked))
@@ -738,7 +738,7 @@ clearing_keep who e fall s t d k f among stands found settling = record {
   says = λ z b h. absurd (other (settled_silent k f z (PeerRecord.RecReply t b (RecState.Done Report.None)) (sent_performed d.arcs (settled k f).outs z (PeerRecord.RecReply t b (RecState.Done Report.None)) refl h)));
   forgets = λ z b h. inr (inl (among_tree t d.kept k among (forget_tree t k f z b (sent_performed d.arcs (settled k f).outs z (PeerRecord.Forget t b) refl h))));
   clears = λ h. inl (among_tree t d.kept k among (settled_ends t k f h));
-  decides = λ late old n next rolling. settled_decides k f (decision_now d.current);
+  decides = λ late old n next rolling. settled_decides k f (decision_of d.current);
   damages = λ late old h none n. absurd (cc (none, among_tree t d.kept k among (settled_damages t k f h)));
   keeps = λ h. damage_after t (settled k f).rec d.kept h;
   idle = λ h. elim (idle_after (settled k f).rec d.kept h) [ inl i ↦ i | inr i ↦ idle_stands d.kept k stands (settled_idle k f i) ];
@@ -803,7 +803,7 @@ open_more p b t x st = let found = st.found in record { row = st.row; found = fi
 open_new : (t : Transaction) (x : Row) (p : ℕ) → find_row t.rows p ≡ None → (x.branch.peer.node == p) ≡ true → x.branch.left ≡ false → is_clear_branch x.branch ≡ false → is_standing t.phase ≡ true → OpenAt p x.branch.id (record t { rows = t.rows ++ x ∷ [] })
 open_new t x p none at left clear phase = record { row = x; found = find_last t.rows x p ∙ rw none (rw at refl); id = refl; left = left; clear = clear; phase = phase }
 
-begun_decision : (who : Who) (d : Digest) (c : Current) (x : Child) → decision_now (with_begun who d c x).current ≡ (if is_nil c.phase then None else c.decision)
+begun_decision : (who : Who) (d : Digest) (c : Current) (x : Child) → decision_of (with_begun who d c x).current ≡ (if is_nil c.phase then None else c.decision)
 begun_decision who d c x = grind arith
 
 clearing_begins : (who : Who) (e : Event) (fall : Bool) (s : Digest) (t : Aaid) (d : Digest) (q : ℕ) → IsClearingMove who e fall s t d (begin_on who q d)
@@ -821,7 +821,7 @@ clearing_begins who e fall s t d q = go d.current refl (find_arc d.arcs q) refl
       says = λ z b h. absurd (sent_performed arcs outs z (PeerRecord.RecReply t b (RecState.Done Report.None)) refl h);
       forgets = λ z b h. absurd (sent_performed arcs outs z (PeerRecord.Forget t b) refl h);
       clears = λ h. absurd (cc (h));
-      decides = λ late old n next rolling. begun_decision who (with_mark_drawn d) c (record { addr = a.peer; branch = id }) ∙ rw (late c now) (ap decision_now (sym now));
+      decides = λ late old n next rolling. begun_decision who (with_mark_drawn d) c (record { addr = a.peer; branch = id }) ∙ rw (late c now) (ap decision_of (sym now));
       damages = λ late old h k n. absurd (cc (h));
       keeps = λ h. inl h;
       idle = λ h. h;
@@ -980,7 +980,7 @@ clearing_then who e fall s t d a f tree_a tree_b sound quiet one two = record {
     mid late old n = elim (tree_b.enters (tree_a.late late) n) [ inl i ↦ i | inr x ↦ absurd (drawn_new who a.next b.next t x (aged old)) ]
 
     decides : IsLate d → is_old who d t.mark ≡ true → is_now t d.current ≡ true → is_now t b.next.current ≡ true → is_rolling (phase_of b.next) ≡ false → (a.rec ≡ None) × (m.rec ≡ b.rec) ⊎ (b.rec ≡ None) × (m.rec ≡ a.rec)
-        → decision_now b.next.current ≡ decided_by m.rec (decision_now d.current)
+        → decision_of b.next.current ≡ decided_by m.rec (decision_of d.current)
     decides late old n next rolling w = by w
       where
         here : is_now t a.next.current ≡ true
@@ -997,15 +997,15 @@ clearing_then who e fall s t d a f tree_a tree_b sound quiet one two = record {
             go true i =
                 absurd (cc (rolling, to_rolling (phase_of a.next) (phase_of b.next) (tree_b.moves (tree_a.late late) (λ _. aged old) here next) i (ap is_nil (phase_at b.next last.0 last.1) ∙ tree_b.late (tree_a.late late) last.0 last.1)))
 
-        first : decision_now a.next.current ≡ decided_by a.rec (decision_now d.current)
+        first : decision_of a.next.current ≡ decided_by a.rec (decision_of d.current)
         first = one.decides late old n here calm
 
-        second : decision_now b.next.current ≡ decided_by b.rec (decision_now a.next.current)
+        second : decision_of b.next.current ≡ decided_by b.rec (decision_of a.next.current)
         second = two.decides (tree_a.late late) (aged old) here next rolling
 
-        by : (a.rec ≡ None) × (m.rec ≡ b.rec) ⊎ (b.rec ≡ None) × (m.rec ≡ a.rec) → decision_now b.next.current ≡ decided_by m.rec (decision_now d.current)
-        by (inl w) = second ∙ ap (decided_by b.rec) (first ∙ ap (λ (r : Option LogRec). decided_by r (decision_now d.current)) w.0) ∙ ap (λ (r : Option LogRec). decided_by r (decision_now d.current)) (sym w.1)
-        by (inr w) = second ∙ ap (λ (r : Option LogRec). decided_by r (decision_now a.next.current)) w.0 ∙ first ∙ ap (λ (r : Option LogRec). decided_by r (decision_now d.current)) (sym w.1)
+        by : (a.rec ≡ None) × (m.rec ≡ b.rec) ⊎ (b.rec ≡ None) × (m.rec ≡ a.rec) → decision_of b.next.current ≡ decided_by m.rec (decision_of d.current)
+        by (inl w) = second ∙ ap (decided_by b.rec) (first ∙ ap (λ (r : Option LogRec). decided_by r (decision_of d.current)) w.0) ∙ ap (λ (r : Option LogRec). decided_by r (decision_of d.current)) (sym w.1)
+        by (inr w) = second ∙ ap (λ (r : Option LogRec). decided_by r (decision_of a.next.current)) w.0 ∙ first ∙ ap (λ (r : Option LogRec). decided_by r (decision_of d.current)) (sym w.1)
 
     damages : IsLate d → is_old who d t.mark ≡ true → damages_tree t m.rec ≡ true → keeps_tree t d.kept ≡ false → is_now t b.next.current ≡ true → (a.rec ≡ None) × (m.rec ≡ b.rec) ⊎ (b.rec ≡ None) × (m.rec ≡ a.rec) → is_rolling (phase_of b.next) ≡ true
     damages late old h none n (inl w) = two.damages (tree_a.late late) (aged old) (ap (damages_tree t) (sym w.1) ∙ h) (side (keeps_tree t a.next.kept) refl) n
@@ -1086,7 +1086,7 @@ clearing_alike who e fall s t d g m cur kept boot drawn sound one = record {
   says = λ z b h. elim (one.says z b h) [ inl i ↦ inl i | inr i ↦ elim i [ inl j ↦ inr (inl (ap keeps_idle (sym kept) ∙ j)) | inr j ↦ inr (inr j) ] ];
   forgets = λ z b h. elim (one.forgets z b h) [ inl i ↦ inl i | inr i ↦ elim i [ inl j ↦ inr (inl (ap (keeps_tree t) (sym kept) ∙ j)) | inr j ↦ inr (inr j) ] ];
   clears = λ h. elim (one.clears h) [ inl i ↦ inl (ap (keeps_tree t) (sym kept) ∙ i) | inr i ↦ inr i ];
-  decides = λ late old n next rolling. one.decides (late_g late) (old_g old) (ap (is_now t) cur ∙ n) next rolling ∙ ap (λ (o : Option Current). decided_by m.rec (decision_now o)) cur;
+  decides = λ late old n next rolling. one.decides (late_g late) (old_g old) (ap (is_now t) cur ∙ n) next rolling ∙ ap (λ (o : Option Current). decided_by m.rec (decision_of o)) cur;
   damages = λ late old h none n. one.damages (late_g late) (old_g old) h (ap (keeps_tree t) kept ∙ none) n;
   keeps = λ h. elim (one.keeps h) [ inl i ↦ inl (ap (keeps_tree t) (sym kept) ∙ i) | inr i ↦ inr i ];
   idle = λ h. ap keeps_idle (sym kept) ∙ one.idle h;

@@ -23,7 +23,8 @@ use Rattle.tp_laws.specs.Moves.{IsPut, IsRecoveryIn}
 use Rattle.tp_laws.specs.Passages.{may_move, asks_tell, is_commit_rec, IsPassed}
 use Rattle.tp_laws.specs.Branches.{may_leave, may_end}
 use Rattle.tp_laws.specs.Owing.{is_standing}
-use Rattle.tp_laws.specs.Clearing.{is_complete_none, is_clear_rec, is_damage_rec, is_keeping_rec, is_idle_rec, decided_by, is_for_rollback, is_departure, is_clear_branch, may_clear, OpenAt, Settles, Is_clear, Has_left, Rolls, Departs, is_ended_by, IsClearing}
+use Rattle.tp_model.specs.Node.{is_leaving}
+use Rattle.tp_laws.specs.Clearing.{is_complete_none, is_clear_rec, is_damage_rec, is_keeping_rec, is_idle_rec, decided_by, is_for_rollback, is_clear_branch, may_clear, OpenAt, Settles, Is_clear, Has_left, Rolls, Departs, is_ended_by, IsClearing}
 use Rattle.tp_laws.proofs.EveryTurn.{every_turn}
 use Rattle.tp_laws.proofs.Phases.{tell_append}
 use Rattle.tp_laws.proofs.Saying.{recovery_append}
@@ -503,7 +504,7 @@ clearing_vote e s t passed = clearing_logs e s t (vote t) passed (clear t.key) (
     same (Root a) = refl
     same (Under a b c) = refl
 
-clearing_leave : (e : TxEvent) (s t : Transaction) → IsPassed e s t (leave t) → is_departure e ≡ true → IsClearing e s t (leave t)
+clearing_leave : (e : TxEvent) (s t : Transaction) → IsPassed e s t (leave t) → is_leaving e ≡ true → IsClearing e s t (leave t)
 unfolding leave
 clearing_leave e s t passed departs = clearing_plain e s t (leave t) passed refl mute refl (λ late nil. rw departs (grind arith)) (λ p b st. inr (Departs departs))
   where
@@ -672,9 +673,9 @@ clearing_then e s t a b c passed next outs which one two = record {
 
     over : is_nil t.phase ≡ false → is_nil b.next.phase ≡ true → (v : Bool) → is_nil a.next.phase ≡ v → (a.rec ≡ None) × (c.rec ≡ b.rec) ⊎ (b.rec ≡ None) × (c.rec ≡ a.rec) → is_ended_by e s t c.rec ≡ true
     over late nil true i w =
-        five (falls e s) (is_rolling t.phase) (is_departure e) (is_clear_rec a.rec) (is_keeping_rec a.rec) (is_rolling t.phase) (is_clear_rec c.rec) (is_keeping_rec c.rec) (one.over late i) (λ h. rw h (grind arith)) (from_a is_clear_rec refl w) (from_a is_keeping_rec refl w)
+        five (falls e s) (is_rolling t.phase) (is_leaving e) (is_clear_rec a.rec) (is_keeping_rec a.rec) (is_rolling t.phase) (is_clear_rec c.rec) (is_keeping_rec c.rec) (one.over late i) (λ h. rw h (grind arith)) (from_a is_clear_rec refl w) (from_a is_keeping_rec refl w)
     over late nil false i w =
-        five (falls e s) (is_rolling a.next.phase) (is_departure e) (is_clear_rec b.rec) (is_keeping_rec b.rec) (is_rolling t.phase) (is_clear_rec c.rec) (is_keeping_rec c.rec) (two.over i nil) rolled (from_b is_clear_rec refl w) (from_b is_keeping_rec refl w)
+        five (falls e s) (is_rolling a.next.phase) (is_leaving e) (is_clear_rec b.rec) (is_keeping_rec b.rec) (is_rolling t.phase) (is_clear_rec c.rec) (is_keeping_rec c.rec) (two.over i nil) rolled (from_b is_clear_rec refl w) (from_b is_keeping_rec refl w)
 
 -- ---- the steps
 
@@ -710,7 +711,7 @@ clearing_turns e s = record {
   rolls = λ t asked f ok. clearing_rolling e s t asked (k.rolls t asked f ok) f;
   completes_commit = λ t c. clearing_commit e s t (k.completes_commit t c) c;
   completes_rollback = λ t c. clearing_rollback e s t (k.completes_rollback t c) c;
-  leaves = λ is act under asked all. clearing_leave e s s (k.leaves is act under asked all) (ap is_departure is);
+  leaves = λ is act under asked all. clearing_leave e s s (k.leaves is act under asked all) (ap is_leaving is);
 }
   where
     k : Turns e s (IsPassed e s)

@@ -9,7 +9,6 @@ use Rattle.tp_names.specs.declared.outcome.Outcome.{Outcome}
 use Rattle.tp_names.specs.declared.outcome.Report.{Report}
 use Rattle.tp_names.specs.Same.{is_aaid, is_key}
 use Rattle.tp_names.specs.Reports.{is_report_none}
-use Rattle.tp_records.specs.declared.request.Request.{Request}
 use Rattle.tp_records.specs.declared.indication.Indication.{Indication}
 use Rattle.tp_records.specs.declared.dialogue.DialogueRecord.{DialogueRecord}
 use Rattle.tp_records.specs.declared.peer.PeerRecord.{PeerRecord}
@@ -22,6 +21,7 @@ use Rattle.tp_model.specs.Dialogues.{is_nil, is_committing, is_rolling}
 use Rattle.tp_model.specs.Transactions.{Row, Transaction, Turn, aaid_of, node_key, find_row, find_row_by_id, is_open_in_commit}
 use Rattle.tp_model.specs.Recovery.{is_commit, find_kept}
 use Rattle.tp_model.specs.Arrivals.{branch_key}
+use Rattle.tp_model.specs.Node.{is_leaving}
 use Rattle.tp_laws.specs.Turns.{falls}
 use Rattle.tp_laws.specs.Moves.{IsRecoveryIn}
 use Rattle.tp_laws.specs.Passages.{asks_tell, IsPassed}
@@ -82,11 +82,6 @@ is_for_rollback None = false
 is_for_rollback (Some Outcome.Commit) = false
 is_for_rollback (Some Outcome.Rollback) = true
 
--- the user leaves
-abbrev pub is_departure : TxEvent → Bool
-is_departure (TxEvent.User Request.Unchanged) = true
-is_departure _ = false
-
 -- ---- branches that are done with no report
 
 abbrev pub is_clear_branch : Branch → Bool
@@ -115,13 +110,13 @@ pub data Settles (e : TxEvent) (s : Transaction) (p : ℕ) : Type 0 where
   Is_clear : may_clear e s p ≡ true → Settles e s p
   Has_left : may_leave e s p ≡ true → Settles e s p
   Rolls : falls e s ≡ true → Settles e s p
-  Departs : is_departure e ≡ true → Settles e s p
+  Departs : is_leaving e ≡ true → Settles e s p
 
 -- ---- an event e at a transaction s, from t on
 
 -- how it ends: it rolls or was rolling, leaves, ends clear, or is kept
 abbrev pub is_ended_by : TxEvent → Transaction → Transaction → Option LogRec → Bool
-is_ended_by e s t r = falls e s || is_rolling t.phase || is_departure e || is_clear_rec r || is_keeping_rec r
+is_ended_by e s t r = falls e s || is_rolling t.phase || is_leaving e || is_clear_rec r || is_keeping_rec r
 
 pub record IsClearing (e : TxEvent) (s t : Transaction) (a : Turn) : Type 0 where
   pub passed : IsPassed e s t a
@@ -175,10 +170,6 @@ notes_forget t b (k ∷ ks) = (k.forgot && is_key k.key (branch_key t b)) || not
 abbrev pub keeps_beside : Aaid → BranchId → List Kept → Bool
 keeps_beside t b [] = false
 keeps_beside t b (k ∷ ks) = (not (is_key k.key (branch_key t b)) && is_aaid t k.key.aaid) || keeps_beside t b ks
-
-abbrev pub decision_now : Option Current → Option Outcome
-decision_now None = None
-decision_now (Some c) = c.decision
 
 -- a commitment of the tree is kept
 pub record KeepsAt (t : Aaid) (ks : List Kept) : Type 0 where
