@@ -105,6 +105,12 @@ tells_transaction (LogRec.Commit n k s cs) = has_superior k s
 tells_transaction (LogRec.Damage n k s u r cs) = false
 tells_transaction (LogRec.End n k u) = false
 
+-- ---- what it sees of its arcs
+
+-- whether its arc is live matters as long as a branch is neither ended nor left
+abbrev pub seen_at : Bool → Bool → Row → Row
+seen_at live ends r = record r { live = live && not (r.branch.ended || r.branch.left); ends = ends }
+
 -- ---- how it stands behind an event
 
 -- whether its arc is live matters as long as a branch is neither ended nor left; a rollback has forgotten

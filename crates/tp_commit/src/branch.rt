@@ -1,7 +1,7 @@
 //! The current transaction of a node.
-ghost use Rattle.std.specs.Prelude.{◌≡◌, ◌≤◌, ◌++◌, [], IsTrue, IfOk, OnOk, Some, length, vec_capacity};
-ghost use Rattle.tp_model.specs.Transactions.{node_key, superior_of, situation_of, row_holds, is_under, is_under_at};
-ghost use Rattle.tp_commit.specs.Branch.{key_from, has_superior, begun, found, found_by, tells_transaction, idle_rows, child_at};
+ghost use Rattle.std.specs.Prelude.{◌≡◌, ◌<◌, ◌≤◌, ◌&&◌, ◌++◌, [], ◌∷◌, true, false, IsTrue, IfOk, OnOk, Some, length, slice_index_or, slice_set, vec_capacity};
+ghost use Rattle.tp_model.specs.Transactions.{Row as RowValue, node_key, superior_of, situation_of, row_holds, is_under, is_under_at, fresh_branch};
+ghost use Rattle.tp_commit.specs.Branch.{key_from, has_superior, begun, found, found_by, tells_transaction, idle_rows, child_at, seen_at};
 
 use crate::row::Row;
 use crate::rows;
@@ -165,8 +165,8 @@ impl Branch {
         }
     }
 
-    // An equal transaction, with its own room.
-    pub(crate) fn copy(&self, alloc: Global) -> Result<Branch, NoMemory>
+    /// An equal transaction, with its own room.
+    pub fn copy(&self, alloc: Global) -> Result<Branch, NoMemory>
         ensures { IfOk result (λ branch. branch ≡ self.now) }
     {
         let mut rows = room(alloc)?;
@@ -195,6 +195,34 @@ impl Branch {
         self.phase
     }
 
+    /// Whether the node has asked.
+    pub fn has_asked(&self) -> bool
+        ensures { result ≡ self.now.asked }
+    {
+        self.asked
+    }
+
+    /// The node's own decision, until it rolls.
+    pub fn decision(&self) -> Option<Outcome>
+        ensures { result ≡ self.now.decision }
+    {
+        self.decision
+    }
+
+    /// The log tells of a decision of the node's own.
+    pub fn decide(&mut self, outcome: Outcome)
+        ensures { self.new ≡ record self.old { decision = Some outcome } }
+    {
+        self.decision = Some(outcome);
+    }
+
+    /// Whether the user owes its done.
+    pub fn owes(&self) -> bool
+        ensures { result ≡ self.now.owes }
+    {
+        self.owes
+    }
+
     /// The node's place in its tree.
     pub fn key(&self) -> &NodeKey
         ensures { result.now ≡ node_key self.now.key }
@@ -217,6 +245,43 @@ impl Branch {
         ensures { result ≡ length self.now.rows }
     {
         self.rows.len()
+    }
+
+    /// The address of the branch at that place, counted from 0.
+    pub fn branch_peer(&self, place: usize) -> Addr
+        requires { place < length self.now.rows }
+        ensures { (d : RowValue) → result ≡ (slice_index_or self.now.rows place d).branch.peer }
+    {
+        self.rows[place].peer
+    }
+
+    /// Sees the superior's arc anew, as a transaction of that node: whether it is live, and whether an end
+    /// is deferred on it. A root's transaction has none.
+    pub fn see_superior(&mut self, node: u16, live: bool, ends: bool)
+        ensures { self.new ≡ record self.old { node = node; up = is_under self.old.key && live; up_ends = is_under self.old.key && ends } }
+    {
+        let is_under = self.key.branch.is_some();
+        self.node = node;
+        self.up = is_under && live;
+        self.up_ends = is_under && ends;
+    }
+
+    /// Sees the arc of the branch at that place anew. Whether it is live matters as long as the branch is
+    /// neither ended nor left.
+    pub fn see_branch(&mut self, place: usize, live: bool, ends: bool)
+        requires { place < length self.old.rows }
+        ensures { (d : RowValue) → self.new ≡ record self.old { rows = slice_set self.old.rows place (seen_at live ends (slice_index_or self.old.rows place d)) } }
+    {
+        let row = &mut self.rows[place];
+        row.see(live, ends);
+    }
+
+    /// Adds a branch behind the others, of which nothing is known but that its arc is live.
+    pub fn add(&mut self, child: &Child) -> Result<(), NoMemory>
+        ensures { OnOk result (self.new ≡ record self.old { rows = self.old.rows ++ record { branch = fresh_branch child.now; live = true; ends = false } ∷ [] }) }
+    {
+        self.rows.push(Row::fresh(child, true))?;
+        Ok(())
     }
 
     /// The transaction came over the arc with that peer.

@@ -20,3 +20,4 @@ mod step;
 mod tests;
 
 pub use branch::Branch;
+pub use sight::Sight;

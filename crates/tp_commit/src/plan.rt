@@ -1,5 +1,5 @@
 //! What an event asks for, and what it leaves.
-ghost use Rattle.std.specs.Prelude.{◌≡◌, ◌+◌, ◌≤◌, ◌++◌, IfOk, length};
+ghost use Rattle.std.specs.Prelude.{◌≡◌, ◌+◌, ◌<◌, ◌≤◌, ◌++◌, IfOk, length};
 ghost use Rattle.tp_model.specs.Transactions.{transacted, refused_tx, step_of, fresh_rows};
 ghost use Rattle.tp_commit.specs.Branch.{IsRefusedAs, standing, begins};
 ghost use Rattle.tp_commit.specs.Rules.{run, set_off, later};
@@ -49,7 +49,6 @@ impl Branch {
     /// What an event asks for: at most one record of the log, and outputs in order; or the number by
     /// which it is refused. It changes nothing. What the dialogue of an arc refuses, and what a record
     /// from the wrong side comes to, is not looked at here.
-    #[tactic(auto, using(crate::proofs::Events::says_alike))]
     pub fn plan(&self, alloc: Global, event: &TxEvent) -> Result<Step, TxFault>
         ensures step { IfOk result (λ step. step ≡ step_of (transacted event.now self.now)) }
         ensures refused { IsRefusedAs result (refused_tx event.now self.now) }
@@ -57,7 +56,16 @@ impl Branch {
         if let Some(number) = self.refused(event) {
             return Err(TxFault::Refused(number));
         }
-        Ok(self.follow(alloc, self.course(event))?)
+        Ok(self.step(alloc, event)?)
+    }
+
+    /// What an event asks for, as `plan` says it, for an event that is known not to be refused: nothing is
+    /// refused here.
+    #[tactic(auto, using(crate::proofs::Events::says_alike))]
+    pub fn step(&self, alloc: Global, event: &TxEvent) -> Result<Step, NoMemory>
+        ensures { IfOk result (λ step. step ≡ step_of (transacted event.now self.now)) }
+    {
+        self.follow(alloc, self.course(event))
     }
 
     // What an event changes, but for the branches that it begins.
@@ -71,7 +79,7 @@ impl Branch {
     }
 
     fn begin_each(&mut self, arcs: &[Child])
-        requires { length self.old.rows + length arcs.now ≤ 256 }
+        requires { 0 < length arcs.now → length self.old.rows + length arcs.now ≤ 256 }
         ensures { self.new ≡ record self.old { rows = self.old.rows ++ fresh_rows arcs.now } }
     {
         rows::begin_each(&mut self.rows, arcs);
@@ -86,9 +94,9 @@ impl Branch {
     }
 
     /// Takes an event that is not refused: the transaction stands as the event leaves it, before the next
-    /// one starts. It takes no memory. With the branches that the event begins there are at most 256.
+    /// one starts. It takes no memory. Where the event begins branches, there are at most 256 with them.
     pub fn apply(&mut self, event: &TxEvent)
-        requires { length self.old.rows + begins event.now ≤ 256 }
+        requires { 0 < begins event.now → length self.old.rows + begins event.now ≤ 256 }
         ensures { self.new ≡ standing (transacted event.now self.old).next }
     {
         self.go_on(event);

@@ -31,8 +31,9 @@ impl Branch {
         }
     }
 
-    // A request; what its dialogue refuses is not the transaction's.
-    fn refused_user(&self, request: &Request) -> Option<u8>
+    /// The number by which the transaction refuses a request; what its dialogue refuses is not the
+    /// transaction's. It takes no memory.
+    pub fn refused_user(&self, request: &Request) -> Option<u8>
         ensures { result ≡ refused_user self.now request.now }
     {
         let late = self.is_late();
@@ -82,9 +83,9 @@ impl Branch {
             && row.is_some_and(|row| !row.ended && !row.left && !row.given_up)
     }
 
-    /// The number by which the transaction refuses an event.
+    /// The number by which the transaction refuses an event. It takes no memory.
     #[tactic(auto, unfolding(tp_model::specs::Transactions::refused_tx))]
-    pub(crate) fn refused(&self, event: &TxEvent) -> Option<u8>
+    pub fn refused(&self, event: &TxEvent) -> Option<u8>
         ensures { result ≡ refused_tx event.now self.now }
     {
         match event {

@@ -2,7 +2,7 @@
 ghost use Rattle.std.specs.Prelude.{◌≡◌, false};
 ghost use Rattle.tp_model.specs.Transactions.{fresh_branch, child_of, report_of_branch};
 ghost use Rattle.tp_commit.specs.Row.{noted};
-ghost use Rattle.tp_commit.specs.Branch.{standing_row};
+ghost use Rattle.tp_commit.specs.Branch.{standing_row, seen_at};
 
 use std::marker::Model;
 use tp_names::{Addr, BranchId, Child, Report};
@@ -93,6 +93,14 @@ impl Row {
     {
         self.live = self.live && !(self.ended || self.left);
         self.ends = self.ends && !rolls;
+    }
+
+    /// Sees its arc anew.
+    pub(crate) fn see(&mut self, live: bool, ends: bool)
+        ensures { self.new ≡ seen_at live ends self.old }
+    {
+        self.live = live && !(self.ended || self.left);
+        self.ends = ends;
     }
 
     pub(crate) fn note(&mut self, note: Note)

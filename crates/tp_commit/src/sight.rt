@@ -11,9 +11,12 @@ use tp_records::DialogueRecord;
 
 /// What comes of a record.
 #[derive(Clone, Copy, Debug, PartialEq, Eq)]
-pub(crate) enum Sight {
+pub enum Sight {
+    /// It acts.
     Acts,
+    /// Nothing happens.
     Nothing,
+    /// It ends its association.
     OutOfPhase,
 }
 
@@ -71,7 +74,7 @@ impl Branch {
 
     /// What comes of a record on that arc.
     #[tactic(auto, unfolding(tp_model::specs::Transactions::sight_of_tx))]
-    pub(crate) fn sight(&self, arc: u16, rec: &DialogueRecord) -> Sight
+    pub fn sight(&self, arc: u16, rec: &DialogueRecord) -> Sight
         ensures { sight_value result ≡ sight_of_tx self.now arc rec.now }
     {
         let row = rows::find(self.rows.as_slice(), arc);

@@ -142,3 +142,18 @@ fn a_commitment_found_in_the_log(rt: HostRuntime) -> Result<(), Fail> {
     assert!(rt; matches!(&refused, Err(TxFault::Refused(2))));
     Ok(())
 }
+
+#[test]
+fn a_copy_with_one_branch_more(rt: HostRuntime) -> Result<(), Fail> {
+    let alloc = rt.alloc();
+    let root = root(alloc)?;
+    let mut copy = root.copy(alloc)?;
+    copy.add(&child()?)?;
+    assert_eq!(rt; root.branches(), 1);
+    assert_eq!(rt; copy.branches(), 2);
+    assert!(rt; !copy.has_asked() && !copy.owes());
+    assert_eq!(rt; root.refused(&TxEvent::Retry), None);
+    let asked = root.step(alloc, &TxEvent::User(Request::Commit))?;
+    assert!(rt; matches!(asked.outs.as_slice(), [TxOut::Carry { arc: 2, .. }]));
+    Ok(())
+}

@@ -83,6 +83,10 @@ after_request act e = elim (asked_of act.code) [ None ↦ e | Some a ↦ record 
 
 -- ---- records that arrive
 
+-- what a record that acts makes of this end
+abbrev pub after_record : Act → End → End
+after_record act e = elim (heard_of act.code) [ None ↦ e | Some h ↦ record e { dialogue = heard h e.dialogue } ]
+
 abbrev pub is_response : Heard → Bool
 is_response Hear_end = false
 is_response Hear_data = false

@@ -1,9 +1,9 @@
 //! One end of a dialogue.
 ghost use Rattle.std.specs.Prelude.{◌≡◌, ℕ, Option, Some, None, IsSome, OnOk, OnErr, IfErr, IsTrue, ◌&&◌};
-ghost use Rattle.tp_model.specs.Dialogues.{asked_of, heard_of, refused_act, refused_on_arc, is_late_arc, is_past_work, is_spoken, is_silenced, lacks_control, has_open_handshake, is_polarized, has_handshake, has_commit, is_chained, is_unchained, is_superior_side, is_deferred, is_due, arrived, working, fresh_dialogue, said, heard, cleared, begun_by, completed, rested, woken, is_late, without_control, acts_or_out};
+ghost use Rattle.tp_model.specs.Dialogues.{asked_of, heard_of, refused_act, refused_on_arc, is_late_arc, is_past_work, is_spoken, is_silenced, lacks_control, has_open_handshake, is_polarized, has_handshake, has_commit, is_chained, is_unchained, is_superior_side, is_deferred, is_due, arrived, working, fresh_dialogue, Ask_grant, said, heard, cleared, begun_by, completed, rested, woken, is_late, without_control, acts_or_out};
 ghost use Rattle.tp_model.specs.declared.arc.Deferral.{Deferral};
 ghost use Rattle.tp_dialogue.specs.Kinds.{asked_value, heard_value};
-ghost use Rattle.tp_dialogue.specs.Dialogue.{number_of, after_request, arrival, sight_of, sight_at, due_value, is_of_transaction, sight_of_option, deferral_sight};
+ghost use Rattle.tp_dialogue.specs.Dialogue.{number_of, after_request, after_record, arrival, sight_of, sight_at, due_value, is_of_transaction, sight_of_option, deferral_sight};
 
 use crate::kinds::{Asked, Heard};
 use crate::refused::first;
@@ -122,11 +122,18 @@ impl Dialogue {
 
     /// The transaction of the arc is over: where the dialogue is polarized the superior side holds
     /// control; after a rollback, and after a commitment on an unchained arc, no deferral stands.
-    #[tactic(auto, unfolding(tp_model::specs::Dialogues::completed))]
     pub fn complete(&mut self, outcome: Outcome)
         ensures { self.new ≡ record self.old { dialogue = completed outcome self.old.side self.old.dialogue } }
     {
-        let is_superior = self.side == Side::Superior;
+        self.complete_as(self.side, outcome);
+    }
+
+    /// The same, as at an end of that side.
+    #[tactic(auto, unfolding(tp_model::specs::Dialogues::completed))]
+    pub fn complete_as(&mut self, side: Side, outcome: Outcome)
+        ensures { self.new ≡ record self.old { dialogue = completed outcome side self.old.dialogue } }
+    {
+        let is_superior = side == Side::Superior;
         self.holds = self.units.has(POLARIZED) && is_superior;
         if is_superior {
             self.due = without_control(self.due);
@@ -134,6 +141,20 @@ impl Dialogue {
         if outcome == Outcome::Rollback || self.units.has(UNCHAINED) {
             self.deferral = Deferral::None;
         }
+    }
+
+    /// No deferral stands or waits: a rollback forgets what was put off.
+    pub fn forget_deferral(&mut self)
+        ensures { self.new ≡ record self.old { dialogue = record self.old.dialogue { deferral = Deferral.None } } }
+    {
+        self.deferral = Deferral::None;
+    }
+
+    /// Gives control away, as a Grant does, whatever the situation: a deferred grant is given so.
+    pub fn grant(&mut self)
+        ensures { self.new ≡ record self.old { dialogue = said Ask_grant self.old.dialogue } }
+    {
+        self.say(Asked::Grant);
     }
 
     /// Clears the arc, which then rests.
@@ -315,6 +336,24 @@ impl Dialogue {
         }
         self.say(asked);
         Ok(())
+    }
+
+    /// Says what is asked, whatever the situation: what an accepted request makes of this end.
+    pub fn accept(&mut self, act: Act)
+        ensures { self.new ≡ after_request act self.old }
+    {
+        if let Some(asked) = Asked::of(act.code) {
+            self.say(asked);
+        }
+    }
+
+    /// Hears a record that acts, whatever the situation; a rest is not ended by it.
+    pub fn take(&mut self, act: Act)
+        ensures { self.new ≡ after_record act self.old }
+    {
+        if let Some(kind) = Heard::of(act.code) {
+            self.hear(kind);
+        }
     }
 
     // Work on a branch that has gone past it does nothing, unless the branch is over.

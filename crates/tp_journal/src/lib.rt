@@ -20,6 +20,7 @@ mod tape;
 #[cfg(test)]
 mod tests;
 
+pub use disorder::first_out_of_order;
 pub use faults::{CompactFault, ForceFault, StartFault};
 pub use gates::Gates;
 pub use journal::{Journal, format};

@@ -130,8 +130,8 @@ fn end_of(kept: &Kept) -> LogRec
     }
 }
 
-// The sender of a report may forget it.
-fn forget_to(
+/// The sender of a report may forget it.
+pub fn forget_to(
     alloc: Global,
     to: Addr,
     key: &NodeKey,

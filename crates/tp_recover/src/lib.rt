@@ -9,5 +9,5 @@ mod question;
 #[cfg(test)]
 mod tests;
 
-pub use kept::{owed, settle};
+pub use kept::{forget_to, owed, settle};
 pub use question::answer;

@@ -1,7 +1,7 @@
 -- The arcs of a node as the code keeps them, and the arcs of the definitions that they are: the superior's
 -- first, then the subordinates' in the order in which they were added. Which arcs there are, and what is
 -- said on them, the definitions of the service say.
-use Rattle.std.specs.Prelude.{ℕ, ◌≡◌, Bool, true, false, nat_lt, if◌then◌else◌, Option, Some, None, List, [], ◌∷◌, ◌++◌, length, map, slice_set}
+use Rattle.std.specs.Prelude.{ℕ, ◌≡◌, Bool, true, false, nat_lt, if◌then◌else◌, Option, Some, None, List, [], ◌∷◌, ◌++◌, length, map, take, drop, slice_set}
 use Rattle.tp_names.specs.declared.identifiers.Addr.{Addr}
 use Rattle.tp_model.specs.declared.arc.Side.{Side}
 use Rattle.tp_model.specs.Parts.{Link, Dialogue, Arc}
@@ -51,6 +51,10 @@ abbrev pub with_tie : Invocation → ℕ → Tie → Invocation
 with_tie v p t =
     if is_with v.above p then record v { above = Some t }
     else record v { below = slice_set v.below (place_of v.below p) t }
+
+-- the ties are written over those to subordinates; there are as many as before
+abbrev pub with_below : Invocation → List Tie → Invocation
+with_below v ts = record v { below = take (length v.below) (ts ++ drop (length ts) v.below) }
 
 -- what changes the dialogue alone, or the link alone, of the tie with the peer is a change of that
 -- dialogue, or of that link, among the arcs

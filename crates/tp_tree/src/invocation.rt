@@ -9,7 +9,7 @@ ghost use Rattle.tp_model.specs.Node.{may_root};
 ghost use Rattle.tp_tree.specs.declared.tie.Tie.{Tie};
 ghost use Rattle.tp_tree.specs.Tie.{arc_of, dialogue_of, said_on, dialogue_with, is_with, unless_with, find_tie, place_of, without_ties, fresh_tie, fresh_arc};
 ghost use Rattle.tp_tree.specs.Invocation.{ties_of, arcs_of, has_room, with_added, with_arc, with_tie, without_tie, WritesLink, WritesDialogue};
-ghost use Rattle.tp_tree.specs.Lends.{LendsTie};
+ghost use Rattle.tp_tree.specs.Lends.{LendsTie, LendsBelow, LendsAbove};
 
 use crate::Tie;
 use std::alloc::Global;
@@ -135,6 +135,44 @@ impl Invocation {
         ensures { result.now ≡ self.now.below }
     {
         self.below.as_slice()
+    }
+
+    /// The arcs to subordinates, to be changed; what is written there takes their place.
+    pub fn subordinates_mut(&mut self) -> &mut [Tie]
+        ensures* written { sem 𝓛 (LendsBelow self.entry result) }
+        ensures value { result.now ≡ self.old.below }
+    {
+        self.below.as_mut_slice()
+    }
+
+    /// The arc to the superior, where there is one, to be changed.
+    pub fn above_mut(&mut self) -> Option<&mut Tie>
+        ensures* written { sem 𝓛 (LendsAbove self.entry result) }
+        ensures value { option_copied_mut result ≡ self.old.above }
+    {
+        self.above.as_mut()
+    }
+
+    /// The arc to the superior, where there is one.
+    pub fn above(&self) -> Option<&Tie>
+        ensures { option_copied result ≡ self.now.above }
+    {
+        self.above.as_ref()
+    }
+
+    /// An equal invocation, with room of its own.
+    pub fn copy(&self, alloc: Global) -> Result<Invocation, NoMemory>
+        ensures { IfOk result (λ v. v ≡ self.now) }
+    {
+        let mut below = Vec::with_capacity(alloc, usize::from(self.room))?;
+        below.extend_from_slice(self.below.as_slice())?;
+        Ok(Invocation {
+            node: self.node,
+            superior: self.superior,
+            room: self.room,
+            above: self.above,
+            below,
+        })
     }
 
     /// Whether an arc on that side can be added: one to the superior where there is none, and one to a

@@ -59,6 +59,8 @@ fn arcs_stand_in_the_order_of_their_asking(rt: HostRuntime) -> Result<(), Fail> 
     assert_eq!(rt; *of_two, Dialogue::new(units(46)?, Side::Superior));
     assert!(rt; tree.find(4).is_none());
     assert!(rt; tree.tie(4).is_none());
+    let copy = tree.copy(rt.alloc())?;
+    assert!(rt; numbers(rt.alloc(), &copy)?.as_slice() == [7, 5, 3].as_slice());
     Ok(())
 }
 
