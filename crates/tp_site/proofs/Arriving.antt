@@ -1,0 +1,113 @@
+-- What a record that is not refused may count on.
+use Rattle.std.proofs.Common.{◌≡◌, ◌∙◌, ℕ, Bool, true, false, Option, Some, None, List, [], ◌∷◌, refl, ap, sym, arith}
+use Rattle.std.specs.Prelude.{not, if◌then◌else◌}
+use Rattle.tp_model.specs.Dialogues.{first}
+use Rattle.tp_units.specs.Units.{bad_answer}
+use Rattle.std.specs.Cmp.{unsigned_Decides}
+use Rattle.tp_site.proofs.Beginnings.{peer_found}
+use Rattle.std.proofs.lemmas.Bool.Decides.{nat_tests}
+use Rattle.std.proofs.lemmas.Grind.{common_steps}
+use Rattle.tp_names.specs.declared.identifiers.Addr.{Addr}
+use Rattle.tp_names.specs.declared.identifiers.Mark.{Mark}
+use Rattle.tp_names.specs.Same.{is_addr}
+use Rattle.tp_records.specs.declared.dialogue.DialogueRecord.{DialogueRecord}
+use Rattle.tp_records.specs.declared.peer.PeerRecord.{PeerRecord}
+use Rattle.tp_model.specs.declared.arc.Side.{Side}
+use Rattle.tp_model.specs.Parts.{Who, Link, Idle, Opening, Offered, Live, Arc, Digest}
+use Rattle.tp_model.specs.Links.{is_idle, is_opening_with, dropped_by}
+use Rattle.tp_model.specs.Arcs.{find_arc, link_from}
+use Rattle.tp_model.specs.Node.{Move, move, side_at}
+use Rattle.tp_model.specs.Arrivals.{refused_arrival, refused_on, is_bad_answer, units_of, do_arrival, take_accept, take_on}
+use Rattle.tp_site.specs.Arcs.{fits_link}
+
+pub open_declared : (who : Who) (d : Digest) (from : Addr) (x : Mark) (u : ℕ) → refused_arrival who d from (PeerRecord.OpenAssoc x u) ≡ None → d.declared ≡ true
+unfolding refused_arrival
+open_declared who d from x u ok = grind (arith, common_steps, ok)
+
+pub open_side : (who : Who) (d : Digest) (from : Addr) (x : Mark) (u : ℕ) → refused_arrival who d from (PeerRecord.OpenAssoc x u) ≡ None → Side.Subordinate ≡ side_at d from.node
+unfolding refused_arrival
+open_side who d from x u ok = go d.superior refl
+  where
+    go : (o : Option Addr) → d.superior ≡ o → Side.Subordinate ≡ side_at d from.node
+    go None e = absurd (grind (arith, common_steps, ok, e))
+    go (Some a) e = grind (arith, nat_tests, ok, e)
+
+-- no association is over
+not_idle : (side : Side) (l : Link) → fits_link side l ≡ true → is_idle l ≡ true → ⊥
+not_idle Side.Superior Idle h i = let clash : false ≡ true = h in absurd (cc clash)
+not_idle Side.Subordinate Idle h i = let clash : false ≡ true = h in absurd (cc clash)
+not_idle side (Opening x) h i = let clash : false ≡ true = i in absurd (cc clash)
+not_idle side (Offered x) h i = let clash : false ≡ true = i in absurd (cc clash)
+not_idle side (Live x y s t) h i = let clash : false ≡ true = i in absurd (cc clash)
+
+pub open_alone : (who : Who) (d : Digest) (from : Addr) (x : Mark) (u : ℕ) (a : Arc) (side : Side) → refused_arrival who d from (PeerRecord.OpenAssoc x u) ≡ None → find_arc d.arcs from.node ≡ Some a → fits_link side a.link ≡ true → ⊥
+unfolding refused_arrival
+open_alone who d from x u a side ok found fits = not_idle side a.link fits (grind (arith, common_steps, ok, found))
+
+-- the first test of a list is not met
+first_off : (x : Bool) (n : ℕ) (ts : List (Bool × ℕ)) → first ((x, n) ∷ ts) ≡ None → (x ≡ false) × (first ts ≡ None)
+first_off true n ts h = absurd (let clash : Some n ≡ None = h in cc)
+first_off false n ts h = (refl, h)
+
+not_not : (x : Bool) → not x ≡ false → x ≡ true
+not_not true h = refl
+not_not false h = absurd (let clash : true ≡ false = h in cc)
+
+from_opening : (d : Digest) (from : Addr) (x : Mark) (a : Arc) → is_opening_with (link_from d.arcs from) x ≡ true → find_arc d.arcs from.node ≡ Some a → is_opening_with a.link x ≡ true
+from_opening d from x a opens found = go (is_addr a.peer from) refl
+  where
+    seen : link_from d.arcs from ≡ (if is_addr a.peer from then a.link else Idle)
+    seen = ap (λ (o : Option Arc). elim o as (λ _. Link) [ None ↦ Idle | Some b ↦ if is_addr b.peer from then b.link else Idle ]) found
+
+    go : (b : Bool) → is_addr a.peer from ≡ b → is_opening_with a.link x ≡ true
+    go true e = sym (ap (λ (l : Link). is_opening_with l x) (seen ∙ ap (λ (c : Bool). if c then a.link else Idle) e)) ∙ opens
+    go false e = absurd (let clash : false ≡ true = sym (ap (λ (l : Link). is_opening_with l x) (seen ∙ ap (λ (c : Bool). if c then a.link else Idle) e)) ∙ opens in cc)
+
+pub accept_opening : (who : Who) (d : Digest) (from : Addr) (x y : Mark) (u : ℕ) (a : Arc) → refused_arrival who d from (PeerRecord.AcceptAssoc x y u) ≡ None → find_arc d.arcs from.node ≡ Some a → is_opening_with a.link x ≡ true
+unfolding refused_arrival
+accept_opening who d from x y u a ok found =
+    let rest = (first_off (not d.declared) 23 ((not (is_opening_with (link_from d.arcs from) x), 21) ∷ (is_bad_answer d from u, 24) ∷ []) ok).1 in
+    from_opening d from x a (not_not (is_opening_with (link_from d.arcs from) x) (first_off (not (is_opening_with (link_from d.arcs from) x)) 21 ((is_bad_answer d from u, 24) ∷ []) rest).0) found
+
+pub accept_there : (who : Who) (d : Digest) (from : Addr) (x y : Mark) (u : ℕ) (a : Arc) → find_arc d.arcs from.node ≡ Some a → do_arrival who from (PeerRecord.AcceptAssoc x y u) d ≡ take_accept who a x y u d
+accept_there who d from x y u a found = ap (λ (o : Option Arc). elim o as (λ _. Move) [ None ↦ move [] d | Some b ↦ take_accept who b x y u d ]) found
+
+from_dropped : (l : Link) (x y : Mark) (q : ℕ) (o : Option ℕ) → elim (dropped_by l x y q) as (λ _. Option ℕ) [ Some n ↦ Some n | None ↦ o ] ≡ None → dropped_by l x y q ≡ None
+from_dropped l x y q o h = go (dropped_by l x y q) refl
+  where
+    go : (p : Option ℕ) → dropped_by l x y q ≡ p → dropped_by l x y q ≡ None
+    go None e = e
+    go (Some n) e = absurd (let clash : Some n ≡ None = sym (ap (λ (p : Option ℕ). elim p as (λ _. Option ℕ) [ Some m ↦ Some m | None ↦ o ]) e) ∙ h in cc)
+
+from_number : (d : Digest) (from : Addr) (x y : Mark) (q : ℕ) (a : Arc) → dropped_by (link_from d.arcs from) x y q ≡ None → find_arc d.arcs from.node ≡ Some a → dropped_by a.link x y q ≡ None
+from_number d from x y q a ok found = go (is_addr a.peer from) refl
+  where
+    seen : link_from d.arcs from ≡ (if is_addr a.peer from then a.link else Idle)
+    seen = ap (λ (o : Option Arc). elim o as (λ _. Link) [ None ↦ Idle | Some b ↦ if is_addr b.peer from then b.link else Idle ]) found
+
+    go : (b : Bool) → is_addr a.peer from ≡ b → dropped_by a.link x y q ≡ None
+    go true e = sym (ap (λ (l : Link). dropped_by l x y q) (seen ∙ ap (λ (c : Bool). if c then a.link else Idle) e)) ∙ ok
+    go false e = absurd (let clash : Some 21 ≡ None = sym (ap (λ (l : Link). dropped_by l x y q) (seen ∙ ap (λ (c : Bool). if c then a.link else Idle) e)) ∙ ok in cc)
+
+pub taken_number : (who : Who) (d : Digest) (from : Addr) (x y : Mark) (q : ℕ) (r : DialogueRecord) (a : Arc) → refused_arrival who d from (PeerRecord.OnAssoc x y q r) ≡ None → find_arc d.arcs from.node ≡ Some a → dropped_by a.link x y q ≡ None
+unfolding refused_arrival
+taken_number who d from x y q r a ok found = go d.declared refl
+  where
+    go : (b : Bool) → d.declared ≡ b → dropped_by a.link x y q ≡ None
+    go false e = absurd (let clash : Some 23 ≡ None = sym (ap (λ (c : Bool). if not c then Some 23 else refused_on who d from x y q r) e) ∙ ok in cc)
+    go true e = from_number d from x y q a (from_dropped (link_from d.arcs from) x y q _ (sym (ap (λ (c : Bool). if not c then Some 23 else refused_on who d from x y q r) e) ∙ ok)) found
+
+pub taken_there : (who : Who) (d : Digest) (from : Addr) (x y : Mark) (q : ℕ) (r : DialogueRecord) (a : Arc) → find_arc d.arcs from.node ≡ Some a → do_arrival who from (PeerRecord.OnAssoc x y q r) d ≡ take_on who a r d
+taken_there who d from x y q r a found = ap (λ (o : Option Arc). elim o as (λ _. Move) [ None ↦ move [] d | Some b ↦ take_on who b r d ]) found
+
+-- the arc that is found by its peer's number
+pub at_peer : (d : Digest) (p : ℕ) (a : Arc) → find_arc d.arcs p ≡ Some a → p ≡ a.peer.node
+at_peer d p a found = sym ((unsigned_Decides a.peer.node p).0 (peer_found d.arcs p a found))
+
+-- ---- the units that the peer chooses
+
+pub bad_there : (d : Digest) (from : Addr) (u : ℕ) (a : Arc) → find_arc d.arcs from.node ≡ Some a → is_bad_answer d from u ≡ elim (bad_answer a.dialogue.units u) as (λ _. Bool) [ None ↦ false | Some b ↦ true ]
+bad_there d from u a found = ap (λ (o : Option Arc). elim (bad_answer (units_of o) u) as (λ _. Bool) [ None ↦ false | Some b ↦ true ]) found
+
+pub bad_not : (d : Digest) (from : Addr) (u : ℕ) → find_arc d.arcs from.node ≡ None → is_bad_answer d from u ≡ elim (bad_answer 0 u) as (λ _. Bool) [ None ↦ false | Some b ↦ true ]
+bad_not d from u found = ap (λ (o : Option Arc). elim (bad_answer (units_of o) u) as (λ _. Bool) [ None ↦ false | Some b ↦ true ]) found

@@ -1,0 +1,17 @@
+pub mod Arcs
+pub mod Outs
+pub mod State
+pub mod Node
+pub mod Draft
+pub mod Begins
+pub mod ArcStep
+pub mod Passage
+pub mod Talk
+pub mod Calls
+pub mod Sights
+pub mod Replies
+pub mod NodeEvent
+pub mod Nodes
+pub mod Faults
+pub mod Site
+pub mod Texts

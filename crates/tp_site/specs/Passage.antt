@@ -1,0 +1,73 @@
+-- The passages of a transaction as the code has them, and a turn of the transaction step by step: entering, what is said,
+-- and what stays.
+use Rattle.std.specs.Prelude.{ℕ, suc, cond, Option, List, [], ◌∷◌}
+use Rattle.tp_logrec.specs.declared.record.LogRec.{LogRec}
+use Rattle.tp_model.specs.declared.transaction.TxOut.{TxOut}
+use Rattle.tp_model.specs.declared.transaction.Step.{Step}
+use Rattle.tp_model.specs.Parts.{Who, Arc, Digest}
+use Rattle.tp_model.specs.Arcs.{performed}
+use Rattle.tp_model.specs.declared.transaction.TxEvent.{TxEvent}
+use Rattle.tp_model.specs.Transactions.{Transaction, transacted, step_of}
+use Rattle.tp_model.specs.Recovery.{kept_after}
+use Rattle.tp_model.specs.Node.{Move, move, followed, perform, remaining, entered, played, committed_arcs, grants, is_commit_complete, is_leaving, passage, Passage as PassageValue, Stays, Enters, Falls, Falls_at_once, Commits, Rolls_back, Leaves}
+use Rattle.tp_site.specs.declared.passage.Passage.{Passage}
+use Rattle.tp_site.specs.declared.arc_step.ArcStep.{ArcStep}
+use Rattle.tp_site.specs.ArcStep.{stepped_arcs}
+
+abbrev pub passage_of : Passage → PassageValue
+passage_of Passage.Stays = Stays
+passage_of Passage.Enters = Enters
+passage_of Passage.Falls = Falls
+passage_of Passage.FallsAtOnce = Falls_at_once
+passage_of Passage.Commits = Commits
+passage_of Passage.RollsBack = Rolls_back
+passage_of Passage.Leaves = Leaves
+
+-- ---- a turn, of the transaction t
+
+abbrev pub with_arcs_by : (Digest → List Arc) → Digest → Move
+with_arcs_by f d = move [] (record d { arcs = f d })
+
+abbrev pub entering : Transaction → PassageValue → Who → Digest → Move
+entering t w who = with_arcs_by (λ d. entered t w d.arcs)
+
+abbrev pub playing : Transaction → PassageValue → List TxOut → Who → Digest → Move
+playing t w outs who d = let p = played d t w outs d.arcs in move p.1 (record d { arcs = p.0 })
+
+-- it is logged, and n is what it has become
+abbrev pub settling : Option LogRec → Transaction → Who → Digest → Move
+settling r n who d = record { rec = r; outs = []; next = record d { current = remaining n; kept = kept_after r d.kept } }
+
+-- before it is settled
+abbrev pub speaking : Transaction → PassageValue → List TxOut → Who → Digest → Move
+speaking t w outs who d = followed (entering t w who d) (playing t w outs who)
+
+abbrev pub turning : Transaction → PassageValue → Step → Transaction → Who → Digest → Move
+turning t w s n who d = followed (speaking t w s.outs who d) (settling s.rec n who)
+
+-- ---- a completed commitment
+
+-- control goes back to the superior side, and the deferred grants are given
+abbrev pub giving : Transaction → Who → Digest → Move
+giving t who d = followed (with_arcs_by (λ e. committed_arcs e t e.arcs) d) (λ e. perform (grants t d.arcs) e)
+
+-- from the Grants on
+abbrev pub completing : Transaction → List TxOut → Who → Digest → Move
+completing t outs who d = followed (giving t who d) (perform outs)
+
+-- where the indication of a completed commitment stands; behind the others where there is none
+abbrev pub place_of_completion : List TxOut → ℕ
+place_of_completion [] = 0
+place_of_completion (o ∷ outs) = cond (is_commit_complete o) 0 (suc (place_of_completion outs))
+
+-- what is said, and then what a passage does to the arcs
+abbrev pub said_then : ArcStep → Transaction → List TxOut → Who → Digest → Move
+said_then s t outs who d = let p = performed d.arcs outs in move p.1 (record d { arcs = stepped_arcs s d.superior t p.0 })
+
+-- ---- a turn by an event
+
+abbrev pub passing : Transaction → TxEvent → PassageValue
+passing t e = passage (is_leaving e) t.phase (transacted e t).next.phase
+
+abbrev pub turning_by : Transaction → TxEvent → Who → Digest → Move
+turning_by t e = turning t (passing t e) (step_of (transacted e t)) (transacted e t).next

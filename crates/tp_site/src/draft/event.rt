@@ -1,0 +1,79 @@
+//! An event of a node on a draft of it.
+ghost use Rattle.std.specs.Prelude.{◌≡◌, false, [], IfOk, None};
+ghost use Rattle.tp_model.specs.Node.{move};
+ghost use Rattle.tp_model.specs.Events.{action, needs_numbers, says_nothing};
+ghost use Rattle.tp_model.specs.Parts.{Declare};
+ghost use Rattle.tp_site.specs.Draft.{Plays, node_in};
+ghost use Rattle.tp_site.specs.NodeEvent.{event_of, refused_at_once};
+
+use crate::draft::Draft;
+use crate::event::NodeEvent;
+use crate::halt::Halt;
+use crate::node::Node;
+use crate::outs::Outs;
+use std::alloc::Global;
+use tp_logrec::LogRec;
+use tp_model::TxEvent;
+use tp_names::{Addr, NoMemory};
+
+impl Draft {
+    /// A draft of a node, on which nothing has happened.
+    pub(crate) fn begin(alloc: Global, node: &Node) -> Result<Draft, NoMemory>
+        ensures { IfOk result (λ a. a ≡ record { who = node.now.who; move = move [] node.now.digest }) }
+    {
+        Ok(Draft {
+            node: node.copy(alloc)?,
+            rec: None,
+            outs: Outs::new(alloc),
+        })
+    }
+
+    /// The node, the record that is to be forced, and the outputs.
+    pub(crate) fn into_parts(self) -> (Node, Option<LogRec>, Outs)
+        ensures node { result.0 ≡ node_in self }
+        ensures rec { result.1 ≡ self.move.rec }
+        ensures outs { result.2 ≡ self.move.outs }
+    {
+        (self.node, self.rec, self.outs)
+    }
+
+    /// Nothing goes out.
+    pub(crate) fn says_nothing(&self) -> bool
+        ensures { result ≡ says_nothing self.now.move.outs }
+    {
+        self.outs.is_empty()
+    }
+
+    /// It wants a number that an association has not. A mark that the counter has not is never drawn.
+    pub(crate) fn is_spent(&self) -> bool
+        ensures { result ≡ needs_numbers self.now.move }
+    {
+        self.outs.is_spent() || self.node.is_spent()
+    }
+
+    // The node is declared.
+    fn declare(&mut self, alloc: Global, superior: Option<Addr>) -> Result<(), Halt>
+        requires { self.old.move.next.declared ≡ false }
+        ensures { Plays result self.old self.new (λ who d. action who d (Declare superior)) }
+    {
+        self.node.declare(alloc, superior)?;
+        Ok(())
+    }
+
+    /// An event that is not refused happens.
+    pub(crate) fn happen(&mut self, alloc: Global, event: &NodeEvent<'_>) -> Result<(), Halt>
+        requires { refused_at_once self.old.who self.old.move.next event.now ≡ None }
+        ensures { Plays result self.old self.new (λ who d. action who d (event_of event.now)) }
+    {
+        match event {
+            NodeEvent::Declare { superior } => self.declare(alloc, *superior),
+            NodeEvent::Do { request } => self.do_request(alloc, request),
+            NodeEvent::Arrive { from, rec } => self.do_arrival(alloc, *from, rec),
+            NodeEvent::Lose { peer } => self.lose(alloc, *peer),
+            NodeEvent::Heur { outcome } => self.transact(alloc, &TxEvent::Heur(*outcome)),
+            NodeEvent::GiveUp { peer } => self.transact(alloc, &TxEvent::GiveUp { arc: *peer }),
+            NodeEvent::Retry => self.retry(alloc),
+            NodeEvent::Purge => self.purge(alloc),
+        }
+    }
+}

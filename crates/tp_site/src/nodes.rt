@@ -1,0 +1,172 @@
+//! The nodes of a site.
+ghost use Rattle.std.specs.Prelude.{ℕ, ◌≡◌, ◌==◌, ◌++◌, ◌∷◌, cond, true, List, [], IfOk, OnOk};
+ghost use Rattle.tp_logrec.specs.declared.record.LogRec.{LogRec as LogRecord};
+ghost use Rattle.std.specs.Option.{option_copied};
+ghost use Rattle.tp_model.specs.Events.{started};
+ghost use Rattle.tp_model.specs.History.{state};
+ghost use Rattle.tp_site.specs.NodeEvent.{event_of, answer_at, IsAnswer};
+ghost use Rattle.tp_site.specs.Nodes.{has_node, who_at, digest_at, node_at, find_node, unknown_start, IsSameSite, AreFrom};
+ghost use Rattle.tp_site.specs.Node.{recovered_by};
+
+use crate::draft::Draft;
+use crate::event::NodeEvent;
+use crate::node::Node;
+use std::alloc::Global;
+use std::collections::HashMap;
+use std::marker::Model;
+use tp_logrec::{LogRec, LogVersion};
+use tp_model::TxFault;
+use tp_names::{NoMemory, SiteName};
+
+/// The nodes of a site, by their numbers.
+#[derive(Debug, Drop)]
+pub(crate) struct Nodes {
+    site: SiteName,
+    boot: u64,
+    version: LogVersion,
+    nodes: HashMap<u16, Node>,
+}
+
+impl Model for Nodes {
+    ghost use Rattle.tp_site.specs.Nodes.{Nodes as NodesValue, nodes_of, IsNamed};
+
+    ghost Value = { NodesValue };
+
+    ghost view = { nodes_of };
+
+    ghost invariant = { IsNamed };
+}
+
+impl Nodes {
+    /// No nodes.
+    pub(crate) fn new(alloc: Global, site: SiteName, boot: u64, version: LogVersion) -> Nodes
+        ensures { result ≡ record { site = site; boot = boot; version = version; nodes = [] } }
+    {
+        Nodes {
+            site,
+            boot,
+            version,
+            nodes: HashMap::new(alloc),
+        }
+    }
+
+    /// The site's name.
+    pub(crate) fn site(&self) -> SiteName
+        ensures { result ≡ self.now.site }
+    {
+        self.site
+    }
+
+    /// The boot number of the start.
+    pub(crate) fn boot(&self) -> u64
+        ensures { result ≡ self.now.boot }
+    {
+        self.boot
+    }
+
+    // A node of which the log has no record.
+    fn unknown(&self, alloc: Global, node: u16) -> Node
+        ensures { result ≡ record { who = who_at self.now node; digest = started (unknown_start self.now) } }
+    {
+        Node::unknown(alloc, self.site, node, self.boot, self.version)
+    }
+
+    /// The node of that number, where the site has had to do with it.
+    #[tactic(auto, using(crate::proofs::Numbered::named))]
+    pub(crate) fn find(&self, number: u16) -> Option<&Node>
+        ensures { option_copied result ≡ find_node self.now number }
+    {
+        self.nodes.get(&number)
+    }
+
+    /// What the node of that number answers to an event.
+    #[tactic(auto, using(crate::proofs::Numbered::found, crate::proofs::Numbered::unfound))]
+    pub(crate) fn answer_to(
+        &self,
+        alloc: Global,
+        node: u16,
+        event: &NodeEvent<'_>,
+    ) -> Result<(Option<u8>, Draft), TxFault>
+        ensures { IsAnswer result (node_at self.now node) (answer_at (who_at self.now node) (digest_at self.now node) (event_of event.now)) }
+    {
+        match self.find(node) {
+            Some(node) => node.answer_to(alloc, event),
+            None => self.unknown(alloc, node).answer_to(alloc, event),
+        }
+    }
+
+    /// Room for the node of that number is made; nothing is known of it that was not.
+    pub(crate) fn prepare(&mut self, alloc: Global, node: u16) -> Result<(), NoMemory>
+        ensures ready { OnOk result (has_node self.new node ≡ true) }
+        ensures same { (n : ℕ) → digest_at self.new n ≡ digest_at self.old n }
+        ensures site { IsSameSite self.old self.new }
+    {
+        if self.nodes.contains_key(&node) {
+            return Ok(());
+        }
+        let unknown = self.unknown(alloc, node);
+        self.nodes.insert(node, unknown)?;
+        Ok(())
+    }
+
+    /// The node of that number takes the place of what it was. It takes no memory.
+    pub(crate) fn put(&mut self, number: u16, node: Node)
+        requires there { has_node self.old number ≡ true }
+        requires who { node.who ≡ who_at self.old number }
+        ensures put { (n : ℕ) → digest_at self.new n ≡ cond (number == n) node.digest (digest_at self.old n) }
+        ensures site { IsSameSite self.old self.new }
+    {
+        let Some(place) = self.nodes.get_mut(&number) else {
+            return;
+        };
+        *place = node;
+    }
+
+    // One more record of the node of that number.
+    fn recover_at(&mut self, alloc: Global, number: u16, rec: &LogRec) -> Result<(), NoMemory>
+        requires { has_node self.old number ≡ true }
+        ensures recovered { OnOk result ((n : ℕ) → digest_at self.new n ≡ cond (number == n) (recovered_by rec.now (digest_at self.old n)) (digest_at self.old n)) }
+        ensures site { IsSameSite self.old self.new }
+    {
+        let Some(place) = self.nodes.get_mut(&number) else {
+            return Ok(());
+        };
+        place.recover(alloc, rec)
+    }
+
+    /// One more record of the log. Without memory the nodes are of no use any more.
+    #[tactic(auto, using(crate::proofs::Recovered::more_recovered, crate::proofs::Recovered::more_skipped))]
+    pub(crate) fn recover(&mut self, alloc: Global, rec: &LogRec) -> Result<(), NoMemory>
+        ensures recovered { OnOk result ((rs : List LogRecord) → AreFrom rs self.old → AreFrom (rs ++ rec.now ∷ []) self.new) }
+        ensures site { IsSameSite self.old self.new }
+    {
+        let Some(owner) = rec.owner() else {
+            return Ok(());
+        };
+        self.prepare(alloc, owner.node)?;
+        match self.recover_at(alloc, owner.node, rec) {
+            Ok(()) => Ok(()),
+            Err(error) => Err(error),
+        }
+    }
+
+    /// The nodes of which these records tell, for a start with that boot number.
+    pub(crate) fn from_records(
+        alloc: Global,
+        site: SiteName,
+        boot: u64,
+        version: LogVersion,
+        records: &[LogRec],
+    ) -> Result<Nodes, NoMemory>
+        ensures nodes { IfOk result (λ nodes. AreFrom records.now nodes) }
+        ensures site { IfOk result (λ nodes. nodes.site ≡ site) }
+        ensures boot { IfOk result (λ nodes. nodes.boot ≡ boot) }
+        ensures version { IfOk result (λ nodes. nodes.version ≡ version) }
+    {
+        let mut nodes = Nodes::new(alloc, site, boot, version);
+        for i in 0..records.len() {
+            nodes.recover(alloc, &records[i])?;
+        }
+        Ok(nodes)
+    }
+}

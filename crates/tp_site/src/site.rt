@@ -1,0 +1,272 @@
+//! A site: its nodes, over a keeper of its log.
+ghost use Rattle.std.specs.Prelude.{◌≡◌, true, IfOk, IfErr, Some, None};
+ghost use Rattle.std.specs.Option.{option_map};
+ghost use Rattle.tp_logrec.specs.Order.{boots, last_number};
+ghost use Rattle.tp_journal.specs.Records.{version_of};
+ghost use Rattle.tp_site.specs.NodeEvent.{event_of};
+ghost use Rattle.tp_site.specs.Nodes.{has_node, who_at};
+ghost use Rattle.tp_site.specs.Site.{Plays, Attempts, Settles, Records, Opens, Starts, IsFound, IsUnfound, told_records, state_at};
+ghost use Rattle.tp_site.specs.State.{state_of};
+ghost use Rattle.tp_site.specs.Faults.{site_fault, shut_by};
+
+use crate::draft::Draft;
+use crate::event::NodeEvent;
+use crate::faults::{SiteFault, StartFault};
+use crate::node::Node;
+use crate::nodes::Nodes;
+use crate::outs::Outs;
+use crate::state::NodeState;
+use crate::texts::has_text;
+use std::alloc::Global;
+use std::marker::Model;
+use tp_journal::{ForceFault, Keeper, first_out_of_order};
+use tp_logrec::{LogRec, LogVersion};
+use tp_model::TxFault;
+use tp_names::{NoMemory, SiteName};
+
+/// What an event gives: its outputs, in order. With a number, it was refused by that, and the association that it came on
+/// was ended; the outputs are of that loss.
+#[derive(Debug, Drop)]
+pub struct Played {
+    pub number: Option<u8>,
+    pub outs: Outs,
+}
+
+/// A site: its nodes, over a keeper of its log.
+#[derive(Drop)]
+pub struct Site<K: Keeper> {
+    keeper: K,
+    nodes: Nodes,
+    shut: Option<u64>,
+}
+
+impl<K: Keeper> Model for Site<K> {
+    ghost use Rattle.tp_site.specs.Site.{Site as SiteValue};
+
+    ghost Value = { SiteValue K };
+
+    ghost view = { λ s. record { keeper = s.keeper; nodes = s.nodes; shut = s.shut } };
+}
+
+// A record is forced that has a text, as each does: one that has none is not forced, as if there were no memory for it.
+fn force<K: Keeper>(alloc: Global, keeper: &mut K, rec: &LogRec) -> Result<(), ForceFault>
+    ensures { Records K.standing keeper.old (Some rec.now) result keeper.new }
+{
+    let version = version_of(keeper);
+    if !has_text(version, rec) {
+        return Err(ForceFault::NoMemory);
+    }
+    match keeper.force(alloc, rec) {
+        Ok(_) => Ok(()),
+        Err(fault) => Err(fault),
+    }
+}
+
+impl<K: Keeper> Site<K> {
+    // The record is forced, where there is one.
+    fn force(&mut self, alloc: Global, rec: &Option<LogRec>) -> Result<(), ForceFault>
+        ensures forced { Records K.standing self.old.keeper rec.now result self.new.keeper }
+        ensures nodes { self.new.nodes ≡ self.old.nodes }
+        ensures shut { self.new.shut ≡ self.old.shut }
+    {
+        match rec {
+            None => Ok(()),
+            Some(rec) => force(alloc, &mut self.keeper, rec),
+        }
+    }
+
+    // What the node of that number answers to an event, with room for it among the nodes. Nothing of it is so yet.
+    fn attempt(
+        &mut self,
+        alloc: Global,
+        node: u16,
+        event: &NodeEvent<'_>,
+    ) -> Result<(Option<u8>, Draft), SiteFault>
+        ensures { Attempts K.standing self.old node (event_of event.now) result self.new }
+    {
+        if let Some(faults) = self.shut {
+            return Err(SiteFault::Shut { faults });
+        }
+        match self.nodes.answer_to(alloc, node, event) {
+            Ok(answer) => {
+                self.nodes.prepare(alloc, node)?;
+                Ok(answer)
+            }
+            Err(TxFault::Refused(number)) => Err(SiteFault::Refused(number)),
+            Err(TxFault::NoMemory) => Err(SiteFault::NoMemory),
+        }
+    }
+
+    // The record is forced, and the node takes the place of what it was.
+    fn settle(
+        &mut self,
+        alloc: Global,
+        number: u16,
+        node: Node,
+        rec: &Option<LogRec>,
+    ) -> Result<(), SiteFault>
+        requires there { has_node self.old.nodes number ≡ true }
+        requires who { node.who ≡ who_at self.old.nodes number }
+        requires open { self.old.shut ≡ None }
+        ensures { Settles K.standing self.old number node.digest rec.now result self.new }
+    {
+        if let Err(fault) = self.force(alloc, rec) {
+            return Err(self.stop(fault));
+        }
+        self.nodes.put(number, node);
+        Ok(())
+    }
+
+    /// An event of the node of that number. Its record is forced before anything of it is so; a refusal changes nothing.
+    /// After a fault of the disk every event is answered `Shut`.
+    pub fn play(
+        &mut self,
+        alloc: Global,
+        node: u16,
+        event: &NodeEvent<'_>,
+    ) -> Result<Played, SiteFault>
+        ensures { Plays K.standing self.old node (event_of event.now) result self.new }
+    {
+        let (number, draft) = self.attempt(alloc, node, event)?;
+        let (next, rec, outs) = draft.into_parts();
+        self.settle(alloc, node, next, &rec)?;
+        Ok(Played { number, outs })
+    }
+
+    // What a fault of the log means for the site.
+    fn stop(&mut self, fault: ForceFault) -> SiteFault
+        ensures fault { result ≡ site_fault fault }
+        ensures site { self.new ≡ record self.old { shut = shut_by fault self.old.shut } }
+    {
+        if let ForceFault::DiskFault { faults } = fault {
+            self.shut = Some(faults);
+        }
+        SiteFault::from(fault)
+    }
+
+    // The boot is forced, and the site stands on those nodes.
+    fn open(alloc: Global, mut keeper: K, nodes: Nodes) -> Result<Site<K>, (K, StartFault)>
+        ensures { Opens K.standing keeper nodes result }
+    {
+        let rec = LogRec::Boot { boot: nodes.boot() };
+        match force(alloc, &mut keeper, &rec) {
+            Ok(()) => Ok(Site {
+                keeper,
+                nodes,
+                shut: None,
+            }),
+            Err(fault) => Err((keeper, StartFault::from(fault))),
+        }
+    }
+
+    /// Starts a site of that name on the records of a log, and forces its boot: the boot number behind the last, or 1.
+    pub fn start(alloc: Global, keeper: K, name: SiteName) -> Result<Site<K>, (K, StartFault)>
+        ensures { Starts K.standing keeper name result }
+    {
+        match found(alloc, &keeper, name) {
+            Ok(nodes) => Site::open(alloc, keeper, nodes),
+            Err(fault) => Err((keeper, fault)),
+        }
+    }
+
+    /// What is shown of the node of that number: none where it is not declared since the start and not known from the
+    /// log.
+    #[tactic(auto, using(crate::proofs::Numbered::found, crate::proofs::Numbered::unfound_missing))]
+    pub fn state(&self, node: u16) -> Option<NodeState>
+        ensures { option_map state_of result ≡ state_at self.now node }
+    {
+        let node = self.nodes.find(node)?;
+        if node.is_missing() {
+            return None;
+        }
+        Some(node.state())
+    }
+
+    /// The site's name.
+    pub fn name(&self) -> SiteName
+        ensures { result ≡ self.now.nodes.site }
+    {
+        self.nodes.site()
+    }
+
+    /// The boot number of its start.
+    pub fn boot(&self) -> u64
+        ensures { result ≡ self.now.nodes.boot }
+    {
+        self.nodes.boot()
+    }
+
+    /// Its log, lent.
+    pub fn log(&self) -> &K
+        ensures { result.now ≡ self.now.keeper }
+    {
+        &self.keeper
+    }
+
+    /// Its log, given back.
+    pub fn keeper(self) -> K
+        ensures { result ≡ self.keeper }
+    {
+        self.keeper
+    }
+}
+
+fn version_of<K: Keeper>(keeper: &K) -> LogVersion
+    ensures { result ≡ version_of (K.standing keeper.now).wide }
+{
+    if keeper.wide() {
+        LogVersion::Two
+    } else {
+        LogVersion::One
+    }
+}
+
+// Copies of the records that a keeper tells.
+fn records_of<K: Keeper>(alloc: Global, keeper: &K) -> Result<Vec<LogRec>, NoMemory>
+    ensures { IfOk result (λ records. records.items ≡ told_records (K.standing keeper.now)) }
+{
+    let mut records = Vec::new(alloc);
+    for i in 0..keeper.count() {
+        let rec = keeper.rec(i);
+        records.push(rec.copy(alloc)?)?;
+    }
+    Ok(records)
+}
+
+// The last boot number among the records; 0 where there is none.
+fn last_boot(records: &[LogRec]) -> u64
+    ensures { result ≡ last_number (boots records.now) }
+{
+    let mut last = 0;
+    for rec in records {
+        if let LogRec::Boot { boot } = rec {
+            last = *boot;
+        }
+    }
+    last
+}
+
+// What the records of a log tell of the nodes of a site, for its next boot.
+fn found<K: Keeper>(alloc: Global, keeper: &K, name: SiteName) -> Result<Nodes, StartFault>
+    ensures ok { IfOk result (IsFound (K.standing keeper.now) name) }
+    ensures err { IfErr result (IsUnfound (K.standing keeper.now) name) }
+{
+    let records = records_of(alloc, keeper)?;
+    if let Some(i) = first_out_of_order(alloc, records.as_slice())? {
+        return Err(StartFault::Foreign {
+            at: keeper.place(i),
+        });
+    }
+    let last = last_boot(records.as_slice());
+    if last == u64::MAX {
+        return Err(StartFault::BootsSpent);
+    }
+    let nodes = Nodes::from_records(
+        alloc,
+        name,
+        last + 1,
+        version_of(keeper),
+        records.as_slice(),
+    )?;
+    Ok(nodes)
+}

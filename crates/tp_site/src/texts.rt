@@ -1,0 +1,279 @@
+//! Which records of a log have a text.
+//!
+//! A value is read back from its bytes if its numbers, its names and its lists are within their
+//! bounds. The types of most values allow no others: a function here that answers nothing shows
+//! that of its type.
+ghost use Rattle.std.specs.Prelude.{◌≡◌, ◌++◌, ◌↔◌, IsTrue, length};
+ghost use Rattle.tp_names.specs.Bytes.{site_bytes, mark_bytes, aaid_bytes, branch_bytes, maybe_bytes, addr_bytes, key_bytes, outcome_bytes, report_bytes, child_bytes, each_child_bytes};
+ghost use Rattle.tp_names.specs.Reading.{read_site, read_mark, read_aaid, read_branch, read_maybe, read_addr, read_key, read_child, read_many};
+ghost use Rattle.tp_names.specs.Grammar.{HasText};
+ghost use Rattle.tp_logrec.specs.RecordText.{superior_bytes, key_and_superior_bytes, children_bytes};
+ghost use Rattle.tp_logrec.specs.RecordReading.{read_some_branch, read_branch_key, read_branch_and_superior, read_key_and_superior, read_judgement, read_children, record_grammar};
+ghost use Rattle.tp_logrec.specs.declared.record.LogRec.{LogRec};
+ghost use Rattle.tp_site.specs.Texts.{Takes, IsGiven, HasRecordText, most_children};
+
+use tp_logrec::{LogRec, LogVersion};
+use tp_names::{Aaid, Addr, BranchId, Child, Children, Mark, NodeKey, Outcome, Report, SiteName};
+
+/// The record has a text in a log of that version: its key has a branch where it must, it names a
+/// superior exactly where its key has a branch, it has no more children than fit, and a damage has
+/// a report.
+pub fn has_text(version: LogVersion, rec: &LogRec) -> bool
+    ensures { IsTrue result ↔ HasText (record_grammar version) rec.now }
+{
+    record_has_text(version, rec)
+}
+
+/// The answer, kind by kind.
+fn record_has_text(version: LogVersion, rec: &LogRec) -> bool
+    ensures { IsTrue result ↔ HasRecordText version rec.now }
+{
+    match rec {
+        LogRec::Boot { boot } => {
+            boot_has_text(version, *boot);
+            true
+        }
+        LogRec::Ready {
+            node,
+            key,
+            superior,
+            children,
+        } => ready_has_text(version, *node, *key, *superior, children),
+        LogRec::Heuristic { node, key, outcome } => {
+            heuristic_has_text(version, *node, *key, *outcome)
+        }
+        LogRec::Commit {
+            node,
+            key,
+            superior,
+            children,
+        } => commit_has_text(version, *node, *key, *superior, children),
+        LogRec::Damage {
+            node,
+            key,
+            superior,
+            side,
+            report,
+            owed,
+        } => damage_has_text(version, *node, *key, *superior, (*side, *report), owed),
+        LogRec::End { node, key, outcome } => {
+            end_has_text(version, *node, *key, *outcome);
+            true
+        }
+    }
+}
+
+#[tactic(auto, using(crate::proofs::RecordTexts::boot_text))]
+fn boot_has_text(version: LogVersion, boot: u64)
+    ensures { HasRecordText version (LogRec.Boot boot) }
+{}
+
+fn ready_has_text(
+    version: LogVersion,
+    node: u16,
+    key: NodeKey,
+    superior: Addr,
+    children: &Children,
+) -> bool
+    ensures { IsTrue result ↔ HasRecordText version (LogRec.Ready node key superior children.now) }
+{
+    addr_reads(superior);
+    branch_key_reads(key) && children_read(version, children)
+}
+
+#[tactic(auto, using(crate::proofs::RecordTexts::heuristic_text, crate::proofs::RecordTexts::heuristic_key_given))]
+fn heuristic_has_text(version: LogVersion, node: u16, key: NodeKey, outcome: Outcome) -> bool
+    ensures { IsTrue result ↔ HasRecordText version (LogRec.Heuristic node key outcome) }
+{
+    branch_key_reads(key)
+}
+
+fn commit_has_text(
+    version: LogVersion,
+    node: u16,
+    key: NodeKey,
+    superior: Option<Addr>,
+    children: &Children,
+) -> bool
+    ensures { IsTrue result ↔ HasRecordText version (LogRec.Commit node key superior children.now) }
+{
+    key_and_superior_read(key, superior) && children_read(version, children)
+}
+
+fn damage_has_text(
+    version: LogVersion,
+    node: u16,
+    key: NodeKey,
+    superior: Option<Addr>,
+    judgement: (Outcome, Report),
+    owed: &Children,
+) -> bool
+    ensures { IsTrue result ↔ HasRecordText version (LogRec.Damage node key superior judgement.0 judgement.1 owed.now) }
+{
+    key_and_superior_read(key, superior)
+        && judgement_reads(judgement.0, judgement.1)
+        && children_read(version, owed)
+}
+
+#[tactic(auto, using(crate::proofs::RecordTexts::end_text))]
+fn end_has_text(version: LogVersion, node: u16, key: NodeKey, outcome: Outcome)
+    ensures { HasRecordText version (LogRec.End node key outcome) }
+{
+    key_reads(key);
+}
+
+/// A key with a branch is read back from its bytes.
+#[tactic(auto, using(crate::proofs::RecordParts::branch_key_taken, crate::proofs::RecordParts::branch_key_given))]
+fn branch_key_reads(key: NodeKey) -> bool
+    ensures reads { IsTrue result → Takes read_branch_key (key_bytes key) key }
+    ensures only { IsGiven read_branch_key key → IsTrue result }
+{
+    aaid_reads(key.aaid);
+    some_branch_reads(key.branch)
+}
+
+#[tactic(auto, using(crate::proofs::RecordParts::branch_there_taken, crate::proofs::RecordParts::no_branch_given))]
+fn some_branch_reads(branch: Option<BranchId>) -> bool
+    ensures reads { IsTrue result → Takes read_some_branch (maybe_bytes branch_bytes branch) branch }
+    ensures only { IsGiven read_some_branch branch → IsTrue result }
+{
+    match branch {
+        None => false,
+        Some(branch) => {
+            branch_reads(branch);
+            true
+        }
+    }
+}
+
+/// A key is read back with the superior's address behind it, where it has a branch exactly if there
+/// is a superior.
+#[tactic(auto, using(crate::proofs::RecordParts::key_and_superior_taken, crate::proofs::RecordParts::key_and_superior_given))]
+fn key_and_superior_read(key: NodeKey, superior: Option<Addr>) -> bool
+    ensures reads { IsTrue result → Takes read_key_and_superior (key_and_superior_bytes (key, superior)) (key, superior) }
+    ensures only { IsGiven read_key_and_superior (key, superior) → IsTrue result }
+{
+    aaid_reads(key.aaid);
+    branch_and_superior_read(key.branch, superior)
+}
+
+#[tactic(auto, using(crate::proofs::RecordParts::neither_taken, crate::proofs::RecordParts::pair_taken, crate::proofs::RecordParts::branch_alone_given, crate::proofs::RecordParts::superior_alone_given))]
+fn branch_and_superior_read(branch: Option<BranchId>, superior: Option<Addr>) -> bool
+    ensures reads { IsTrue result → Takes read_branch_and_superior (maybe_bytes branch_bytes branch ++ superior_bytes superior) (branch, superior) }
+    ensures only { IsGiven read_branch_and_superior (branch, superior) → IsTrue result }
+{
+    match (branch, superior) {
+        (None, None) => true,
+        (Some(branch), Some(addr)) => {
+            branch_reads(branch);
+            addr_reads(addr);
+            true
+        }
+        (None, Some(_)) | (Some(_), None) => false,
+    }
+}
+
+#[tactic(auto, using(crate::proofs::TakenValues::key_taken))]
+fn key_reads(key: NodeKey)
+    ensures { Takes read_key (key_bytes key) key }
+{
+    aaid_reads(key.aaid);
+    maybe_branch_reads(key.branch);
+}
+
+#[tactic(auto, using(crate::proofs::TakenValues::no_branch_taken, crate::proofs::TakenValues::some_branch_taken))]
+fn maybe_branch_reads(branch: Option<BranchId>)
+    ensures { Takes (read_maybe read_branch) (maybe_bytes branch_bytes branch) branch }
+{
+    if let Some(branch) = branch {
+        branch_reads(branch);
+    }
+}
+
+/// A side and a report are read back where the report is one of damage.
+#[tactic(auto, using(crate::proofs::RecordParts::hazard_taken, crate::proofs::RecordParts::mix_taken, crate::proofs::RecordParts::no_harm_given))]
+fn judgement_reads(side: Outcome, report: Report) -> bool
+    ensures reads { IsTrue result → Takes read_judgement (outcome_bytes side ++ report_bytes report) (side, report) }
+    ensures only { IsGiven read_judgement (side, report) → IsTrue result }
+{
+    match report {
+        Report::None => false,
+        Report::Hazard | Report::Mix => true,
+    }
+}
+
+/// As many children as fit are read back behind their count.
+#[tactic(auto, using(crate::proofs::RecordParts::children_taken, crate::proofs::RecordParts::children_length))]
+fn children_read(version: LogVersion, children: &Children) -> bool
+    ensures reads { IsTrue result → Takes (read_children version) (children_bytes version children.now) children.now }
+    ensures only { IsGiven (read_children version) children.now → IsTrue result }
+{
+    if children.len() > most_children(version) {
+        return false;
+    }
+    each_child_reads(children.as_slice());
+    true
+}
+
+/// How many children fit.
+fn most_children(version: LogVersion) -> usize
+    ensures { result ≡ most_children version }
+{
+    match version {
+        LogVersion::One => 32,
+        LogVersion::Two => 256,
+    }
+}
+
+#[tactic(auto, using(crate::proofs::TakenValues::child_at_taken, crate::proofs::TakenValues::none_left_taken))]
+fn each_child_reads(children: &[Child])
+    ensures { Takes (read_many read_child (length children.now)) (each_child_bytes children.now) children.now }
+{
+    for child in children {
+        child_reads(*child);
+    }
+}
+
+#[tactic(auto, using(crate::proofs::TakenValues::child_taken))]
+fn child_reads(child: Child)
+    ensures { Takes read_child (child_bytes child) child }
+{
+    addr_reads(child.addr);
+    branch_reads(child.branch);
+}
+
+#[tactic(auto, using(crate::proofs::TakenValues::addr_taken))]
+fn addr_reads(addr: Addr)
+    ensures { Takes read_addr (addr_bytes addr) addr }
+{
+    site_reads(addr.site);
+}
+
+#[tactic(auto, using(crate::proofs::TakenValues::aaid_taken))]
+fn aaid_reads(aaid: Aaid)
+    ensures { Takes read_aaid (aaid_bytes aaid) aaid }
+{
+    site_reads(aaid.owner);
+    mark_reads(aaid.mark);
+}
+
+#[tactic(auto, using(crate::proofs::TakenValues::branch_taken))]
+fn branch_reads(branch: BranchId)
+    ensures { Takes read_branch (branch_bytes branch) branch }
+{
+    site_reads(branch.superior);
+    mark_reads(branch.mark);
+}
+
+#[tactic(auto, using(crate::proofs::TakenValues::mark_taken))]
+fn mark_reads(mark: Mark)
+    ensures { Takes read_mark (mark_bytes mark) mark }
+{}
+
+/// A site's name is one: its bytes say so.
+#[tactic(auto, using(crate::proofs::TakenValues::name_taken))]
+fn site_reads(site: SiteName)
+    ensures { Takes read_site (site_bytes site) site }
+{
+    let _bytes = site.bytes();
+}
