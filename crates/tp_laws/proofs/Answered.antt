@@ -223,7 +223,7 @@ answered_moves who e s p sup fall shut cl hears h = record {
       let same : link_with (with_dialogue d.arcs q f) p ≡ link_with d.arcs p = link_dialogue d.arcs q f p in
       let x = one up (λ l. lives (ap is_live (sym same) ∙ l)) in
       (h.changes_dialogue d q f m by (λ u l. x.0) up lives, record { answers = x.1.answers });
-  drops_arc = λ d q m one up lives. let x = one up (λ l. lives (dropped_live d.arcs q p l)) in (h.drops_arc d q m (λ u l. x.0) up lives, record { answers = x.1.answers });
+  drops_arc = λ d q m at one up lives. let x = one up (λ l. lives (dropped_live d.arcs q p l)) in (h.drops_arc d q m at (λ u l. x.0) up lives, record { answers = x.1.answers });
   notes_kept = λ d ks m held one up lives. let x = one up lives in (h.notes_kept d ks m held (λ u l. x.0) up lives, record { answers = x.1.answers });
   keeps = λ d k f held up lives. (h.keeps d k f held up lives, answered_keep p cl d k f);
   turns = λ d c f now at asked put gone up lives. (h.turns d c f now at asked put gone up lives, answered_turned who e f d s c p cl hears now at asked put gone);

@@ -56,7 +56,7 @@ none_rounds v (x ∷ xs) h =
 same_rounds : (c n d : ℕ) → d ≡ c + n → n ≡ 0 → c ≡ d
 same_rounds c n d h i = omega (arith, h, i)
 
-answers_quiet : (e : TxEvent) (s : Transaction) (p : ℕ) (t : Transaction) (a : Turn) → IsFair e s p t a → IsPassed e s t a → carries_none a.outs ≡ true → (is_nil a.next.phase ≡ false → is_nil t.phase ≡ false)
+answers_quiet : (e : TxEvent) (s : Transaction) (p : ℕ) (t : Transaction) (a : Turn) → IsFair e s p t a → IsPassed e s t a → carries_none is_upward a.outs ≡ true → (is_nil a.next.phase ≡ false → is_nil t.phase ≡ false)
     → (is_under_at t.key p ≡ true → ((t.asked || is_ready t.phase || is_committing t.phase) ≡ true → t.told_prepare ≡ true) → (a.next.asked || is_ready a.next.phase || is_committing a.next.phase) ≡ true → a.next.told_prepare ≡ true)
     → ((cl : Bool) → (is_under_at s.key p ≡ true → hears_close e s ≡ true → cl ≡ true) → is_under_at t.key p ≡ true → (a.next.told_prepare || a.next.superior_rolled || cl) ≡ true → (t.told_prepare || t.superior_rolled || cl) ≡ true)
     → IsAnswering e s p t a
@@ -67,7 +67,7 @@ answers_quiet e s p t a fair passed none late marks source = record {
 }
   where
     quiet : none_of is_upward (spoken true p a.outs) ≡ true
-    quiet = none_spoken true p a.outs none
+    quiet = none_spoken is_upward true p a.outs none
 
     go : (cl : Bool) → (is_under_at s.key p ≡ true → hears_close e s ≡ true → cl ≡ true) → (c b : ℕ) (v f : Bool) → c ≤ b → Answers cl c b v f t p
         → (d : ℕ) (w : Bool) → d ≡ c + rounds closes_up voted_behind v (spoken true p a.outs) → w ≡ flag_from voted_behind v (spoken true p a.outs) → (d ≤ b) × Answers cl d b w f a.next p
@@ -89,7 +89,7 @@ record SameMarks (t u : Transaction) : Type 0 where
   told : u.told_prepare ≡ t.told_prepare
   rolled : u.superior_rolled ≡ t.superior_rolled
 
-answers_same : (e : TxEvent) (s : Transaction) (p : ℕ) (t : Transaction) (a : Turn) → IsFair e s p t a → IsPassed e s t a → carries_none a.outs ≡ true → SameMarks t a.next → IsAnswering e s p t a
+answers_same : (e : TxEvent) (s : Transaction) (p : ℕ) (t : Transaction) (a : Turn) → IsFair e s p t a → IsPassed e s t a → carries_none is_upward a.outs ≡ true → SameMarks t a.next → IsAnswering e s p t a
 answers_same e s p t a fair passed none same =
     answers_quiet e s p t a fair passed none (λ n. ap is_nil (sym same.phase) ∙ n)
     (λ under marks h. same.told ∙ marks (rw (← same.phase, ← same.asked) h))
@@ -230,7 +230,7 @@ answers_leave e s p t fair passed act told = go t.up_ends fair passed
 
 answers_ask : (e : TxEvent) (s : Transaction) (p : ℕ) (t : Transaction) → IsFair e s p t (ask_commit t) → IsPassed e s t (ask_commit t) → (is_under t.key ≡ true → t.told_prepare ≡ true) → IsAnswering e s p t (ask_commit t)
 unfolding ask_commit
-answers_ask e s p t fair passed told = answers_quiet e s p t (ask_commit t) fair passed (carries_prepare t.rows) (λ n. n) (λ under marks h. told (under_so t.key under)) (λ cl hears under h. h)
+answers_ask e s p t fair passed told = answers_quiet e s p t (ask_commit t) fair passed (carries_prepare is_upward t.rows refl) (λ n. n) (λ under marks h. told (under_so t.key under)) (λ cl hears under h. h)
   where
     under_so : (k : Key) → is_under_at k p ≡ true → is_under k ≡ true
     under_so (Root t) h = absurd cc
@@ -242,7 +242,7 @@ answers_count e s p q t fair passed = answers_same e s p t _ fair passed refl (r
 
 answers_end : (e : TxEvent) (s : Transaction) (p q : ℕ) (r : Report) (t : Transaction) → IsFair e s p t (end_branch q r t) → IsPassed e s t (end_branch q r t) → IsAnswering e s p t (end_branch q r t)
 unfolding end_branch
-answers_end e s p q r t fair passed = answers_same e s p t _ fair passed (report_none q r) (row_marks t q _)
+answers_end e s p q r t fair passed = answers_same e s p t _ fair passed (report_none is_upward q r) (row_marks t q _)
 
 answers_left : (e : TxEvent) (s : Transaction) (p q : ℕ) (t : Transaction) → IsFair e s p t (branch_left q t) → IsPassed e s t (branch_left q t) → IsAnswering e s p t (branch_left q t)
 unfolding branch_left
@@ -262,11 +262,11 @@ rolling_source asked t cl h = h
 
 answers_rolls : (e : TxEvent) (s : Transaction) (p : ℕ) (t : Transaction) (asked : Bool) → IsFair e s p t (begin_rolling asked t) → IsPassed e s t (begin_rolling asked t) → is_nil t.phase ≡ false → IsAnswering e s p t (begin_rolling asked t)
 answers_rolls e s p t asked fair passed late =
-    answers_quiet e s p t (begin_rolling asked t) fair passed (carries_rolling asked t) (λ n. late) (λ under marks h. rolling_marks asked t marks h) (λ cl hears under h. rolling_source asked t cl h)
+    answers_quiet e s p t (begin_rolling asked t) fair passed (carries_rolling is_upward asked t refl) (λ n. late) (λ under marks h. rolling_marks asked t marks h) (λ cl hears under h. rolling_source asked t cl h)
 
 answers_order : (e : TxEvent) (s : Transaction) (p : ℕ) (t : Transaction) → IsFair e s p t (order t) → IsPassed e s t (order t) → is_nil t.phase ≡ false → ((t.asked || is_ready t.phase || is_committing t.phase) ≡ true) → IsAnswering e s p t (order t)
 unfolding order
-answers_order e s p t fair passed late was = answers_quiet e s p t (order t) fair passed (carries_order t) (λ n. late) (λ under marks h. marks was) (λ cl hears under h. h)
+answers_order e s p t fair passed late was = answers_quiet e s p t (order t) fair passed (carries_order is_upward t refl) (λ n. late) (λ under marks h. marks was) (λ cl hears under h. h)
 
 -- ---- chains
 
@@ -318,12 +318,12 @@ answering_turns e s p unchanged busy f q = record {
   defers_grant = λ k. answers_same e s p s _ (f.defers_grant k) (q.defers_grant k) refl (kept_marks s);
   prepares = λ k. answers_same e s p s _ (f.prepares k) (q.prepares k) refl (row_marks s k _);
   asks = λ act asked told. answers_ask e s p s (f.asks act asked told) (q.asks act asked told) told;
-  asks_again = answers_same e s p s _ f.asks_again q.asks_again (carries_retried s) (kept_marks s);
+  asks_again = answers_same e s p s _ f.asks_again q.asks_again (carries_retried is_upward s) (kept_marks s);
   decides = λ o is ready. answers_same e s p s (decide o s) (f.decides o is ready) (q.decides o is ready) refl (record { phase = refl; asked = refl; told = refl; rolled = refl });
   aborts = λ k. answers_same e s p s _ (f.aborts k) (q.aborts k) refl (lost_marks s k);
   loses_arc = λ k gone. answers_same e s p s _ (f.loses_arc k gone) (q.loses_arc k gone) refl (lost_marks s k);
   closes_left = λ k is. answers_same e s p s _ (f.closes_left k is) (q.closes_left k is) refl (row_marks s k _);
-  gives_up = λ k r is c found. answers_same e s p s _ (f.gives_up k r is c found) (q.gives_up k r is c found) (given_up_none r.live k) (row_marks s k _);
+  gives_up = λ k r is c found. answers_same e s p s _ (f.gives_up k r is c found) (q.gives_up k r is c found) (given_up_none is_upward r.live k) (row_marks s k _);
   counts = λ k is act row. answers_count e s p k s (f.counts k is act row) (q.counts k is act row);
   ends_done = λ k r is c row. answers_end e s p k r s (f.ends_done k r is c row) (q.ends_done k r is c row);
   ends_replied = λ b w r is found o. answers_end e s p w.branch.peer.node r s (f.ends_replied b w r is found o) (q.ends_replied b w r is found o);

@@ -263,12 +263,13 @@ chosen_part g p (a ∷ arcs) t f k live = go (a.peer.node == p) refl (t a) refl 
 -- ---- what comes first in an event: a link that becomes live has a fresh dialogue
 
 abbrev pub IsFirst : (Dialogue → Bool) → ℕ → List Arc → List Arc → Type 0
-IsFirst g p xs ys = is_live_with_peer ys p ≡ true → ((is_live_with_peer xs p ≡ true) × (part_at g p ys ≡ part_at g p xs)) ⊎ ((is_live_with_peer xs p ≡ false) × (part_at g p ys ≡ false))
+IsFirst g p xs ys =
+    is_live_with_peer ys p ≡ true → ((is_live_with_peer xs p ≡ true) × (part_at g p ys ≡ part_at g p xs)) ⊎ ((is_live_with_peer xs p ≡ false) × ((v : ℕ) × (s : Side) × (part_at g p ys ≡ g (fresh_dialogue v s))))
 
 first_kept : (g : Dialogue → Bool) (p : ℕ) (xs ys : List Arc) → Keeps g p xs ys → IsFirst g p xs ys
 first_kept g p xs ys k live = inl (k live)
 
-keeps_append : (g : Dialogue → Bool) (p : ℕ) (arcs : List Arc) (a : Arc) → is_live a.link ≡ false → Keeps g p arcs (arcs ++ a ∷ [])
+pub keeps_append : (g : Dialogue → Bool) (p : ℕ) (arcs : List Arc) (a : Arc) → is_live a.link ≡ false → Keeps g p arcs (arcs ++ a ∷ [])
 keeps_append g p [] a off = λ live. absurd (grind (arith, live, off))
 keeps_append g p (b ∷ arcs) a off = go (b.peer.node == p) refl (keeps_append g p arcs a off)
   where
@@ -276,35 +277,35 @@ keeps_append g p (b ∷ arcs) a off = go (b.peer.node == p) refl (keeps_append g
     go true i rest live = (rw (i, is_live_with_peer) (rw (i, is_live_with_peer) at live), rw (i, part_at) refl)
     go false i rest live = let w = rest (rw (i, is_live_with_peer) at live) in (rw (i, is_live_with_peer) w.0, rw (i, part_at) w.1)
 
-keeps_front : (g : Dialogue → Bool) (p : ℕ) (arcs : List Arc) (a : Arc) → is_live a.link ≡ false → Keeps g p arcs (a ∷ arcs)
+pub keeps_front : (g : Dialogue → Bool) (p : ℕ) (arcs : List Arc) (a : Arc) → is_live a.link ≡ false → Keeps g p arcs (a ∷ arcs)
 keeps_front g p arcs a off = go (a.peer.node == p) refl
   where
     go : (v : Bool) → (a.peer.node == p) ≡ v → Keeps g p arcs (a ∷ arcs)
     go true i live = absurd (let on : is_live a.link ≡ true = rw (i, is_live_with_peer) at live in cc (on, off))
     go false i live = let now : is_live_with_peer arcs p ≡ true = rw (i, is_live_with_peer) at live in (now, rw (i, part_at) refl)
 
-find_put : (arcs : List Arc) (a b : Arc) (p : ℕ) → find_arc arcs b.peer.node ≡ Some a → find_arc (put_arc arcs b) p ≡ (if b.peer.node == p then Some b else find_arc arcs p)
+pub find_put : (arcs : List Arc) (a b : Arc) (p : ℕ) → find_arc arcs b.peer.node ≡ Some a → find_arc (put_arc arcs b) p ≡ (if b.peer.node == p then Some b else find_arc arcs p)
 find_put [] a b p h = absurd cc
 find_put (x ∷ arcs) a b p h = grind (arith, nat_tests, h, find_put arcs a b p)
 
-first_put : (g : Dialogue → Bool) (p : ℕ) (arcs : List Arc) (a b : Arc) → find_arc arcs b.peer.node ≡ Some a → is_live a.link ≡ false → g b.dialogue ≡ false → IsFirst g p arcs (put_arc arcs b)
-first_put g p arcs a b found off fresh live = go (b.peer.node == p) refl
+first_put : (g : Dialogue → Bool) (p : ℕ) (arcs : List Arc) (a b : Arc) (u : ℕ) (side : Side) → find_arc arcs b.peer.node ≡ Some a → is_live a.link ≡ false → b.dialogue ≡ fresh_dialogue u side → IsFirst g p arcs (put_arc arcs b)
+first_put g p arcs a b u side found off fresh live = go (b.peer.node == p) refl
   where
     is : find_arc (put_arc arcs b) p ≡ (if b.peer.node == p then Some b else find_arc arcs p)
     is = find_put arcs a b p found
 
-    go : (v : Bool) → (b.peer.node == p) ≡ v → ((is_live_with_peer arcs p ≡ true) × (part_at g p (put_arc arcs b) ≡ part_at g p arcs)) ⊎ ((is_live_with_peer arcs p ≡ false) × (part_at g p (put_arc arcs b) ≡ false))
+    go : (v : Bool) → (b.peer.node == p) ≡ v → ((is_live_with_peer arcs p ≡ true) × (part_at g p (put_arc arcs b) ≡ part_at g p arcs)) ⊎ ((is_live_with_peer arcs p ≡ false) × ((v : ℕ) × (s : Side) × (part_at g p (put_arc arcs b) ≡ g (fresh_dialogue v s))))
     go true i =
         let at : b.peer.node ≡ p = grind (arith, nat_tests, i) in
         let was : find_arc arcs p ≡ Some a = ap (find_arc arcs) (sym at) ∙ found in
         let now : find_arc (put_arc arcs b) p ≡ Some b = is ∙ rw i refl in
-        inr (ap (λ (o : Option Arc). is_live (link_of o)) was ∙ off, ap (λ (o : Option Arc). elim o as (λ _. Bool) [ None ↦ false | Some x ↦ g x.dialogue ]) now ∙ fresh)
+        inr (ap (λ (o : Option Arc). is_live (link_of o)) was ∙ off, (u, side, ap (λ (o : Option Arc). elim o as (λ _. Bool) [ None ↦ false | Some x ↦ g x.dialogue ]) now ∙ ap g fresh))
     go false i =
         let same : find_arc (put_arc arcs b) p ≡ find_arc arcs p = is ∙ rw i refl in
         inl (ap (λ (o : Option Arc). is_live (link_of o)) (sym same) ∙ live, ap (λ (o : Option Arc). elim o as (λ _. Bool) [ None ↦ false | Some x ↦ g x.dialogue ]) same)
 
-first_accept : (who : Who) (g : Dialogue → Bool) (p : ℕ) (d : Digest) (u : ℕ) → ((v : ℕ) (s : Side) → g (fresh_dialogue v s) ≡ false) → IsFirst g p d.arcs (accepted_by who u (superior_arc d) d).arcs
-first_accept who g p d u fresh = go (superior_arc d) refl
+first_accept : (who : Who) (g : Dialogue → Bool) (p : ℕ) (d : Digest) (u : ℕ) → IsFirst g p d.arcs (accepted_by who u (superior_arc d) d).arcs
+first_accept who g p d u = go (superior_arc d) refl
   where
     on : (a : Arc) → superior_arc d ≡ Some a → (l : Link) → a.link ≡ l → IsFirst g p d.arcs (accepted_on who u a l d).arcs
     on a i Idle j = first_kept g p d.arcs d.arcs (keeps_self g p d.arcs)
@@ -313,16 +314,16 @@ first_accept who g p d u fresh = go (superior_arc d) refl
     on a i (Offered x) j =
         let s = superior_found d a i in
         let at : a.peer.node ≡ s.0.node = find_arc_is d.arcs s.0.node a s.2 in
-        first_put g p d.arcs a (record a { link = Live x (next_mark who d) 0 0; dialogue = fresh_dialogue u Side.Subordinate }) (ap (find_arc d.arcs) at ∙ s.2) (ap is_live j) (fresh u Side.Subordinate)
+        first_put g p d.arcs a (record a { link = Live x (next_mark who d) 0 0; dialogue = fresh_dialogue u Side.Subordinate }) u Side.Subordinate (ap (find_arc d.arcs) at ∙ s.2) (ap is_live j) refl
 
     go : (o : Option Arc) → superior_arc d ≡ o → IsFirst g p d.arcs (accepted_by who u o d).arcs
     go None i = first_kept g p d.arcs d.arcs (keeps_self g p d.arcs)
     go (Some a) i = on a i a.link refl
 
-first_confirm : (who : Who) (g : Dialogue → Bool) (p : ℕ) (d : Digest) (from : Addr) (x y : Mark) (u : ℕ) → refusal who d (Event.Arrive from (PeerRecord.AcceptAssoc x y u)) ≡ None → ((v : ℕ) (s : Side) → g (fresh_dialogue v s) ≡ false)
+first_confirm : (who : Who) (g : Dialogue → Bool) (p : ℕ) (d : Digest) (from : Addr) (x y : Mark) (u : ℕ) → refusal who d (Event.Arrive from (PeerRecord.AcceptAssoc x y u)) ≡ None
     → IsFirst g p d.arcs (linked (find_arc d.arcs from.node) x y u d).arcs
 unfolding refusal refused_arrival
-first_confirm who g p d from x y u ok fresh = go (find_arc d.arcs from.node) refl
+first_confirm who g p d from x y u ok = go (find_arc d.arcs from.node) refl
   where
     dead : (a : Arc) (l : Link) → find_arc d.arcs from.node ≡ Some a → a.link ≡ l → is_live a.link ≡ false
     dead a Idle i j = ap is_live j
@@ -334,28 +335,33 @@ first_confirm who g p d from x y u ok fresh = go (find_arc d.arcs from.node) ref
     go None i = first_kept g p d.arcs d.arcs (keeps_self g p d.arcs)
     go (Some a) i =
         let at : a.peer.node ≡ from.node = find_arc_is d.arcs from.node a i in
-        first_put g p d.arcs a (record a { link = Live x y 0 0; dialogue = fresh_dialogue u Side.Superior }) (ap (find_arc d.arcs) at ∙ i) (dead a a.link i refl) (fresh u Side.Superior)
+        first_put g p d.arcs a (record a { link = Live x y 0 0; dialogue = fresh_dialogue u Side.Superior }) u Side.Superior (ap (find_arc d.arcs) at ∙ i) (dead a a.link i refl) refl
 
-begun_same : (o : Option Arc) (t : Aaid) (b : BranchId) (d : Digest) → (begun_in o t b d).arcs ≡ d.arcs
+pub begun_same : (o : Option Arc) (t : Aaid) (b : BranchId) (d : Digest) → (begun_in o t b d).arcs ≡ d.arcs
 begun_same None t b d = refl
 begun_same (Some a) t b d = refl
 
-pub first_part : (who : Who) (g : Dialogue → Bool) (p : ℕ) (d : Digest) (e : Event) → refusal who d e ≡ None → ((v : ℕ) (s : Side) → g (fresh_dialogue v s) ≡ false) → IsFirst g p d.arcs (prelude who d e).arcs
+pub first_dialogue : (who : Who) (g : Dialogue → Bool) (p : ℕ) (d : Digest) (e : Event) → refusal who d e ≡ None → IsFirst g p d.arcs (prelude who d e).arcs
 unfolding after_crash
-first_part who g p d (Event.Do (Request.BeginDialogue a u)) ok fresh = first_kept g p d.arcs (called who a u d).arcs (keeps_append g p d.arcs (record { peer = a; link = Opening (next_mark who d); dialogue = fresh_dialogue u Side.Superior }) refl)
-first_part who g p d (Event.Do (Request.Accept u)) ok fresh = first_accept who g p d u fresh
-first_part who g p d (Event.Do r) ok fresh = first_kept g p d.arcs d.arcs (keeps_self g p d.arcs)
-first_part who g p d (Event.Arrive from (PeerRecord.OpenAssoc x u)) ok fresh = let a : Arc = record { peer = from; link = Offered x; dialogue = fresh_dialogue u Side.Subordinate } in first_kept g p d.arcs (a ∷ d.arcs) (keeps_front g p d.arcs a refl)
-first_part who g p d (Event.Arrive from (PeerRecord.AcceptAssoc x y u)) ok fresh = first_confirm who g p d from x y u ok fresh
-first_part who g p d (Event.Arrive from (PeerRecord.OnAssoc x y q (DialogueRecord.Begin t b h))) ok fresh =
+first_dialogue who g p d (Event.Do (Request.BeginDialogue a u)) ok = first_kept g p d.arcs (called who a u d).arcs (keeps_append g p d.arcs (record { peer = a; link = Opening (next_mark who d); dialogue = fresh_dialogue u Side.Superior }) refl)
+first_dialogue who g p d (Event.Do (Request.Accept u)) ok = first_accept who g p d u
+first_dialogue who g p d (Event.Do r) ok = first_kept g p d.arcs d.arcs (keeps_self g p d.arcs)
+first_dialogue who g p d (Event.Arrive from (PeerRecord.OpenAssoc x u)) ok = let a : Arc = record { peer = from; link = Offered x; dialogue = fresh_dialogue u Side.Subordinate } in first_kept g p d.arcs (a ∷ d.arcs) (keeps_front g p d.arcs a refl)
+first_dialogue who g p d (Event.Arrive from (PeerRecord.AcceptAssoc x y u)) ok = first_confirm who g p d from x y u ok
+first_dialogue who g p d (Event.Arrive from (PeerRecord.OnAssoc x y q (DialogueRecord.Begin t b h))) ok =
     subst (λ (arcs : List Arc). IsFirst g p d.arcs arcs) (sym (begun_same (find_arc d.arcs from.node) t b (counted_in d from))) (first_kept g p d.arcs (with_link d.arcs from.node with_one_taken) (keeps_taken g p d.arcs from.node))
-first_part who g p d (Event.Arrive from (PeerRecord.OnAssoc x y q r)) ok fresh = first_kept g p d.arcs (with_link d.arcs from.node with_one_taken) (keeps_taken g p d.arcs from.node)
-first_part who g p d Event.Crash ok fresh = λ live. absurd (cc (live))
-first_part who g p d e ok fresh = first_kept g p d.arcs d.arcs (keeps_self g p d.arcs)
+first_dialogue who g p d (Event.Arrive from (PeerRecord.OnAssoc x y q r)) ok = first_kept g p d.arcs (with_link d.arcs from.node with_one_taken) (keeps_taken g p d.arcs from.node)
+first_dialogue who g p d Event.Crash ok = λ live. absurd (cc (live))
+first_dialogue who g p d e ok = first_kept g p d.arcs d.arcs (keeps_self g p d.arcs)
+
+-- of what does not hold of a fresh one
+pub first_part : (who : Who) (g : Dialogue → Bool) (p : ℕ) (d : Digest) (e : Event) → refusal who d e ≡ None → ((v : ℕ) (s : Side) → g (fresh_dialogue v s) ≡ false) → is_live_with_peer (prelude who d e).arcs p ≡ true
+    → ((is_live_with_peer d.arcs p ≡ true) × (part_at g p (prelude who d e).arcs ≡ part_at g p d.arcs)) ⊎ ((is_live_with_peer d.arcs p ≡ false) × (part_at g p (prelude who d e).arcs ≡ false))
+first_part who g p d e ok fresh live = elim (first_dialogue who g p d e ok live) [ inl k ↦ inl k | inr k ↦ inr (k.0, k.1.2 ∙ fresh k.1.0 k.1.1) ]
 
 -- ---- of all arcs, which lead to different nodes
 
-there_found : (arcs : List Arc) (p : ℕ) (a : Arc) → find_arc arcs p ≡ Some a → is_there p arcs ≡ true
+pub there_found : (arcs : List Arc) (p : ℕ) (a : Arc) → find_arc arcs p ≡ Some a → is_there p arcs ≡ true
 there_found [] p a h = absurd cc
 there_found (b ∷ arcs) p a h = go (b.peer.node == p) refl (there_found arcs p a)
   where

@@ -315,7 +315,7 @@ bare_moves who e s fall t k = record {
   chain = λ d a f one two quiet. (k.chain d a f one.0 two.0 quiet, bare_then who t s d fall a f one two quiet);
   speaks = λ d outs h own said. (k.speaks d outs h own said, quiet_move who t s d (perform outs d) refl refl);
   changes_dialogue = λ d p f m by one. (k.changes_dialogue d p f m by one.0, record { logs = one.1.logs; keeps = one.1.keeps; past = one.1.past });
-  drops_arc = λ d p m one. (k.drops_arc d p m one.0, record { logs = one.1.logs; keeps = one.1.keeps; past = one.1.past });
+  drops_arc = λ d p m at one. (k.drops_arc d p m at one.0, record { logs = one.1.logs; keeps = one.1.keeps; past = one.1.past });
   notes_kept = λ d ks m held one. (k.notes_kept d ks m held one.0, noted d ks m held.1 one.1);
   keeps = λ d x f among. (k.keeps d x f among, bare_keep who t s d x f among.1);
   turns = λ d c f now at asked put gone. (k.turns d c f now at asked put gone, bare_turned who t f s d c now at put);

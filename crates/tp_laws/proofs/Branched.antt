@@ -163,7 +163,7 @@ branched_moves who e s = record {
   chain = λ d a f one two quiet. branched_then who e s d a f one two;
   speaks = λ d outs h own said. branched_same who e s d (perform outs d) refl;
   changes_dialogue = λ d q f m by one. record { branches = one.branches };
-  drops_arc = λ d q m one. record { branches = one.branches };
+  drops_arc = λ d q m at one. record { branches = one.branches };
   notes_kept = λ d ks m held one. record { branches = one.branches };
   keeps = λ d k f held. branched_same who e s d _ refl;
   turns = λ d c f now at asked put gone. branched_turned who e f s d c now at asked put;

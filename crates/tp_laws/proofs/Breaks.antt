@@ -64,7 +64,7 @@ breaks_next who d from x y seq r ok = go (find_arc d.arcs from.node) refl
     go (Some a) i = on a a.link i refl
 
 -- its association is over
-lost_idle : (who : Who) (e : Event) (d : Digest) → IsLate d → (p : ℕ) → ((c : Current) → IsAsked e c (TxEvent.Lost p)) → link_with (lose who p d).next.arcs p ≡ Idle
+pub lost_idle : (who : Who) (e : Event) (d : Digest) → IsLate d → (p : ℕ) → ((c : Current) → IsAsked e c (TxEvent.Lost p)) → link_with (lose who p d).next.arcs p ≡ Idle
 unfolding lose refused_tx
 lost_idle who e d late p asked = stays (lose who p d) (go d.current refl)
   where

@@ -25,6 +25,7 @@ use Rattle.tp_laws.specs.Trees.{IsLoggedIn, out_tells, IsTreed}
 use Rattle.tp_laws.specs.Members.{is_begun_by, is_known, IsOnce}
 use Rattle.tp_laws.specs.Bare.{keeps_tree}
 use Rattle.tp_laws.specs.Clearing.{is_complete_none, decided_by, is_for_rollback, ends_tree, damages_tree, has_damage, has_cleared}
+use Rattle.tp_laws.proofs.Words.{damage_first, damage_more}
 use Rattle.tp_laws.proofs.Late.{late_law, late_prelude}
 use Rattle.tp_laws.proofs.Equal.{or_case, and_left, and_right}
 use Rattle.tp_laws.proofs.Leaves.{aaid_same}
@@ -54,15 +55,7 @@ pub damage_case : (t : Aaid) (r : Option LogRec) (rs : List LogRec) → has_dama
 damage_case t None rs h = inr h
 damage_case t (Some r) rs h = or_case (damages_tree t (Some r)) (has_damage t rs) h
 
-pub damage_first : (t : Aaid) (r : Option LogRec) (rs : List LogRec) → damages_tree t r ≡ true → has_damage t (with_rec r rs) ≡ true
-damage_first t None rs h = absurd (cc (h))
-damage_first t (Some r) rs h = rw h refl
-
-pub damage_more : (t : Aaid) (r : Option LogRec) (rs : List LogRec) → has_damage t rs ≡ true → has_damage t (with_rec r rs) ≡ true
-damage_more t None rs h = h
-damage_more t (Some r) rs h = rw h (grind arith)
-
-damage_record : (t : Aaid) (rs : List LogRec) → has_damage t rs ≡ true → has_record (is_of_tree t) rs ≡ true
+pub damage_record : (t : Aaid) (rs : List LogRec) → has_damage t rs ≡ true → has_record (is_of_tree t) rs ≡ true
 damage_record t [] h = absurd (cc (h))
 damage_record t (LogRec.Damage n k s o r cs ∷ rs) h = elim (or_case (is_aaid t k.aaid) (has_damage t rs) h) [ inl i ↦ rw i refl | inr i ↦ (let rest = damage_record t rs i in rw rest (grind arith)) ]
 damage_record t (r ∷ rs) h = let rest = damage_record t rs (grind (arith, h)) in rw rest (grind arith)
@@ -70,7 +63,7 @@ damage_record t (r ∷ rs) h = let rest = damage_record t rs (grind (arith, h)) 
 not_true : (v : Bool) → not v ≡ true → v ≡ false
 not_true v h = grind (arith, h)
 
-cleared_case : (t : Aaid) (r : Option LogRec) (rs : List LogRec) → has_cleared t (with_rec r rs) ≡ true → (ends_tree t r ≡ true) × (has_damage t rs ≡ false) ⊎ (has_cleared t rs ≡ true)
+pub cleared_case : (t : Aaid) (r : Option LogRec) (rs : List LogRec) → has_cleared t (with_rec r rs) ≡ true → (ends_tree t r ≡ true) × (has_damage t rs ≡ false) ⊎ (has_cleared t rs ≡ true)
 cleared_case t None rs h = inr h
 cleared_case t (Some r) rs h = elim (or_case (ends_tree t (Some r) && not (has_damage t rs)) (has_cleared t rs) h) [
   | inl i ↦ inl (and_left (ends_tree t (Some r)) (not (has_damage t rs)) i, not_true (has_damage t rs) (and_right (ends_tree t (Some r)) (not (has_damage t rs)) i))

@@ -34,7 +34,7 @@ use Rattle.tp_model.specs.Events.{refusal, action, decision_of}
 use Rattle.tp_model.specs.Outcomes.{is_now, is_unchanged, rolls}
 use Rattle.tp_laws.specs.Histories.{IsSentIn}
 use Rattle.tp_laws.specs.Turns.{falls, is_outcome_told}
-use Rattle.tp_laws.specs.Moves.{IsRecoveryIn, IsSaid, AreSaid, IsAmong, StandsIn, IsFound, IsSettling, IsAsked, IsPut, IsLate, keeps_idle, are_spoken, prelude}
+use Rattle.tp_laws.specs.Moves.{IsRecoveryIn, IsSaid, AreSaid, IsAmong, StandsIn, IsFound, IsSettling, IsAsked, IsPut, IsLate, keeps_commit, keeps_idle, are_spoken, prelude}
 use Rattle.tp_laws.specs.Steps.{IsNotedBy, next_tree, Steps}
 use Rattle.tp_laws.specs.Passages.{IsLogged}
 use Rattle.tp_laws.specs.Trees.{begins_of, out_tells, IsTreed}
@@ -77,7 +77,7 @@ use Rattle.tp_laws.proofs.ClearingTurns.{clearing_turn}
 
 -- ---- records of a tree
 
-tree_clear : (t : Aaid) (r : Option LogRec) → ends_tree t r ≡ true → is_clear_rec r ≡ true
+pub tree_clear : (t : Aaid) (r : Option LogRec) → ends_tree t r ≡ true → is_clear_rec r ≡ true
 tree_clear t (Some (LogRec.End n k o)) h = and_left (is_commit o) (is_aaid t k.aaid) h
 tree_clear t None h = absurd (cc (h))
 tree_clear t (Some (LogRec.Boot n)) h = absurd (cc (h))
@@ -101,7 +101,7 @@ tree_of t q j same h = ap (is_aaid t) (ap (λ (x : NodeKey). x.aaid) same ∙ ke
 tree_back : (t : Aaid) (q : Transaction) (j : NodeKey) → j ≡ node_key q.key → is_aaid t j.aaid ≡ true → is_aaid t (aaid_of q.key) ≡ true
 tree_back t q j same h = ap (is_aaid t) (sym (key_aaid q.key) ∙ ap (λ (x : NodeKey). x.aaid) (sym same)) ∙ h
 
-clear_tree : (t : Aaid) (q n : Transaction) (r : Option LogRec) → IsLogged q r n → is_aaid t (aaid_of q.key) ≡ true → is_clear_rec r ≡ true → ends_tree t r ≡ true
+pub clear_tree : (t : Aaid) (q n : Transaction) (r : Option LogRec) → IsLogged q r n → is_aaid t (aaid_of q.key) ≡ true → is_clear_rec r ≡ true → ends_tree t r ≡ true
 clear_tree t q n (Some (LogRec.End m k o)) l h c = rw (c, tree_of t q k l h) refl
 clear_tree t q n None l h c = absurd (cc (c))
 clear_tree t q n (Some (LogRec.Boot m)) l h c = absurd (cc (c))
@@ -119,7 +119,7 @@ damage_tree t q n (Some (LogRec.Heuristic m k o)) l h c = absurd (cc (c))
 damage_tree t q n (Some (LogRec.Commit m k s cs)) l h c = absurd (cc (c))
 damage_tree t q n (Some (LogRec.End m k o)) l h c = absurd (cc (c))
 
-ends_key : (t : Aaid) (q n : Transaction) (r : Option LogRec) → IsLogged q r n → ends_tree t r ≡ true → is_aaid t (aaid_of q.key) ≡ true
+pub ends_key : (t : Aaid) (q n : Transaction) (r : Option LogRec) → IsLogged q r n → ends_tree t r ≡ true → is_aaid t (aaid_of q.key) ≡ true
 ends_key t q n (Some (LogRec.End m k o)) l h = tree_back t q k l (and_right (is_commit o) (is_aaid t k.aaid) h)
 ends_key t q n None l h = absurd (cc (h))
 ends_key t q n (Some (LogRec.Boot m)) l h = absurd (cc (h))
@@ -197,7 +197,7 @@ settled_idle k KeptEvent.Forget h = absurd (grind (arith, h))
 settled_idle k KeptEvent.Purge h = absurd (cc (h))
 
 -- of a tree that is kept, a Damage is logged
-damage_after : (t : Aaid) (r : Option LogRec) (ks : List Kept) → keeps_tree t (kept_after r ks) ≡ true → (keeps_tree t ks ≡ true) ⊎ (damages_tree t r ≡ true)
+pub damage_after : (t : Aaid) (r : Option LogRec) (ks : List Kept) → keeps_tree t (kept_after r ks) ≡ true → (keeps_tree t ks ≡ true) ⊎ (damages_tree t r ≡ true)
 unfolding kept_by
 damage_after t None ks h = inl h
 damage_after t (Some (LogRec.Boot n)) ks h = inl h
@@ -330,7 +330,7 @@ settled_roots t b k (KeptEvent.Done a c x) h = go (find_owed k.owed c) h
 settled_roots t b k KeptEvent.Forget h = absurd (grind (arith, h))
 settled_roots t b k KeptEvent.Purge h = absurd (cc (h))
 
-settled_ends : (t : Aaid) (k : Kept) (f : KeptEvent) → ends_tree t (settled k f).rec ≡ true → is_aaid t k.key.aaid ≡ true
+pub settled_ends : (t : Aaid) (k : Kept) (f : KeptEvent) → ends_tree t (settled k f).rec ≡ true → is_aaid t k.key.aaid ≡ true
 unfolding settled
 settled_ends t k (KeptEvent.Done a b r) h = grind (arith, h)
 settled_ends t k KeptEvent.Forget h = grind (arith, h)
@@ -483,6 +483,9 @@ pub data EndsAt (e : Event) (fall : Bool) (s : Digest) (t : Aaid) (b : BranchId)
 abbrev pub AnswersDone : Event → Digest → Addr → Aaid → BranchId → Type 0
 AnswersDone e s z t b = (e ≡ Event.Arrive z (PeerRecord.RecCommit t b)) × (answer (known_of (named_by_key s (branch_key t b)) b) Question.RecCommit ≡ Some (RecState.Done Report.None))
 
+abbrev pub AnswersWith : Event → Digest → Addr → Aaid → BranchId → Report → Type 0
+AnswersWith e s z t b r = (e ≡ Event.Arrive z (PeerRecord.RecCommit t b)) × (answer (known_of (named_by_key s (branch_key t b)) b) Question.RecCommit ≡ Some (RecState.Done r))
+
 abbrev pub AnswersForget : Event → Digest → Addr → Aaid → BranchId → Type 0
 AnswersForget e s z t b = (r : Report) × (e ≡ Event.Arrive z (PeerRecord.RecReply t b (RecState.Done r))) × (is_report_none r ≡ false) × ((named_by_branch s t b).current ≡ None)
 
@@ -490,6 +493,7 @@ AnswersForget e s z t b = (r : Report) × (e ≡ Event.Arrive z (PeerRecord.RecR
 pub record IsClearingMove (who : Who) (e : Event) (fall : Bool) (s : Digest) (t : Aaid) (d : Digest) (m : Move) : Type 0 where
   pub tells : is_now t s.current ≡ true → out_tells is_complete_none m.outs ≡ true → ends_tree t m.rec ≡ true
   pub says : (z : Addr) (b : BranchId) → IsSentIn m.outs z (PeerRecord.RecReply t b (RecState.Done Report.None)) → (is_now t s.current ≡ true) × (is_committing (phase_of s) ≡ true) × (ends_tree t m.rec ≡ true) ⊎ (keeps_idle d.kept ≡ true) ⊎ AnswersDone e s z t b
+  pub spoils : (z : Addr) (b : BranchId) (r : Report) → is_report_none r ≡ false → IsSentIn m.outs z (PeerRecord.RecReply t b (RecState.Done r)) → (damages_tree t m.rec ≡ true) ⊎ (keeps_tree t d.kept ≡ true) ⊎ AnswersWith e s z t b r
   pub forgets : (z : Addr) (b : BranchId) → IsSentIn m.outs z (PeerRecord.Forget t b) → (damages_tree t m.rec ≡ true) ⊎ (keeps_tree t d.kept ≡ true) ⊎ AnswersForget e s z t b
   pub clears : ends_tree t m.rec ≡ true → (keeps_tree t d.kept ≡ true) ⊎ (c : Current) × (s.current ≡ Some c) × (is_aaid t (aaid_of c.key) ≡ true) × (is_committing c.phase ≡ true) × (is_for_rollback c.decision ≡ false)
   pub decides : IsLate d → is_old who d t.mark ≡ true → is_now t d.current ≡ true → is_now t m.next.current ≡ true → is_rolling (phase_of m.next) ≡ false → decision_of m.next.current ≡ decided_by m.rec (decision_of d.current)
@@ -512,11 +516,13 @@ complete_outcome i h = absurd (cc (h))
 -- nothing is logged, and what is current and kept stays
 clearing_same : (who : Who) (e : Event) (fall : Bool) (s : Digest) (t : Aaid) (d : Digest) (m : Move) → m.rec ≡ None → m.next.current ≡ d.current → m.next.kept ≡ d.kept → out_tells is_complete_none m.outs ≡ false
     → ((z : Addr) (b : BranchId) → IsSentIn m.outs z (PeerRecord.RecReply t b (RecState.Done Report.None)) → (is_now t s.current ≡ true) × (is_committing (phase_of s) ≡ true) × (ends_tree t m.rec ≡ true) ⊎ (keeps_idle d.kept ≡ true) ⊎ AnswersDone e s z t b)
+    → ((z : Addr) (b : BranchId) (r : Report) → is_report_none r ≡ false → IsSentIn m.outs z (PeerRecord.RecReply t b (RecState.Done r)) → (damages_tree t m.rec ≡ true) ⊎ (keeps_tree t d.kept ≡ true) ⊎ AnswersWith e s z t b r)
     → ((z : Addr) (b : BranchId) → IsSentIn m.outs z (PeerRecord.Forget t b) → (damages_tree t m.rec ≡ true) ⊎ (keeps_tree t d.kept ≡ true) ⊎ AnswersForget e s z t b)
     → ((p : ℕ) (b : BranchId) → BeginsTo t p b m.outs → ⊥) → IsClearingMove who e fall s t d m
-clearing_same who e fall s t d m none cur kept untold says forgets begins = record {
+clearing_same who e fall s t d m none cur kept untold says spoils forgets begins = record {
   tells = λ n h. absurd (cc (untold, h));
   says = says;
+  spoils = spoils;
   forgets = forgets;
   clears = λ h. absurd (cc (ap (ends_tree t) none, h));
   decides = λ late old n next rolling. ap decision_of cur ∙ ap (λ (r : Option LogRec). decided_by r (decision_of d.current)) (sym none);
@@ -533,19 +539,32 @@ clearing_same who e fall s t d m none cur kept untold says forgets begins = reco
   begins = λ p b h. absurd (begins p b h);
 }
 
+-- a kept commitment of the tree
+commit_kept : (t : Aaid) (ks : List Kept) → keeps_commit t ks ≡ true → keeps_tree t ks ≡ true
+commit_kept t [] h = absurd (cc (h))
+commit_kept t (k ∷ ks) h = elim (or_case (is_commit k.side && is_aaid t k.key.aaid) (keeps_commit t ks) h) [
+  | inl i ↦ (let one = and_right (is_commit k.side) (is_aaid t k.key.aaid) i in rw one refl)
+  | inr i ↦ (let rest = commit_kept t ks i in rw rest (grind arith))
+]
+
 clearing_still : (who : Who) (e : Event) (fall : Bool) (s : Digest) (t : Aaid) (d : Digest) → IsClearingMove who e fall s t d (move [] d)
-clearing_still who e fall s t d = clearing_same who e fall s t d (move [] d) refl refl refl refl (λ z b h. absurd h) (λ z b h. absurd h) (λ p b h. h.6)
+clearing_still who e fall s t d = clearing_same who e fall s t d (move [] d) refl refl refl refl (λ z b h. absurd h) (λ z b r n h. absurd h) (λ z b h. absurd h) (λ p b h. h.6)
 
 clearing_perform : (who : Who) (e : Event) (fall : Bool) (s : Digest) (t : Aaid) (d : Digest) (outs : List TxOut) → are_spoken outs ≡ true → AreSaid e s d outs → IsClearingMove who e fall s t d (perform outs d)
 clearing_perform who e fall s t d outs spoken said =
     clearing_same who e fall s t d (perform outs d) refl refl refl (told_performed is_complete_none d.arcs outs ∙ tells_none is_complete_none outs complete_outcome spoken)
     (λ z b h. done z b (said z (PeerRecord.RecReply t b (RecState.Done Report.None)) (sent_performed d.arcs outs z (PeerRecord.RecReply t b (RecState.Done Report.None)) refl h)))
+    (λ z b r some h. spoilt z b r (said z (PeerRecord.RecReply t b (RecState.Done r)) (sent_performed d.arcs outs z (PeerRecord.RecReply t b (RecState.Done r)) refl h)))
     (λ z b h. inr (inr (said z (PeerRecord.Forget t b) (sent_performed d.arcs outs z (PeerRecord.Forget t b) refl h))))
     (λ p b h. no_begin d.arcs outs t p b (ap (begins_of t) (spoken_words d.arcs outs p spoken)) h)
   where
     done : (z : Addr) (b : BranchId) → IsSaid e s d z (PeerRecord.RecReply t b (RecState.Done Report.None)) → (is_now t s.current ≡ true) × (is_committing (phase_of s) ≡ true) × (ends_tree t None ≡ true) ⊎ (keeps_idle d.kept ≡ true) ⊎ AnswersDone e s z t b
     done z b (inl i) = inr (inl (i.1 refl))
     done z b (inr i) = inr (inr i)
+
+    spoilt : (z : Addr) (b : BranchId) (r : Report) → IsSaid e s d z (PeerRecord.RecReply t b (RecState.Done r)) → (damages_tree t None ≡ true) ⊎ (keeps_tree t d.kept ≡ true) ⊎ AnswersWith e s z t b r
+    spoilt z b r (inl i) = inr (inl (commit_kept t d.kept i.2))
+    spoilt z b r (inr i) = inr (inr i)
 
 -- ---- a turn
 
@@ -563,6 +582,9 @@ clearing_turned who e fall s t f d c so now at asked put = record {
       let tree : is_aaid t (aaid_of c.key) ≡ true = ap (is_aaid t) (sym same) ∙ aaid_same t in
       let clear = own.says z t b r in
       inl (ap (is_now t) at ∙ tree, ap is_committing (phase_at s c at) ∙ (own.clears clear).0, clear_tree t q a.next a.rec own.passed.logs tree clear);
+  spoils = λ z b x some h.
+      let w = (owing_turn f q put).says z (PeerRecord.RecReply t b (RecState.Done x)) (sent_played d q w a.outs (entered q w d.arcs) z (PeerRecord.RecReply t b (RecState.Done x)) refl h) in
+      inl (damage_tree t q a.next a.rec own.passed.logs (ap (is_aaid t) (sym w.0) ∙ aaid_same t) (spoilt (is_report_none x) (is_damage_rec a.rec) some w.2));
   forgets = λ z b h.
       let r = own.forgets z t b (sent_played d q w a.outs (entered q w d.arcs) z (PeerRecord.Forget t b) refl h) in
       inl (damage_tree t q a.next a.rec own.passed.logs (ap (is_aaid t) (sym r.0) ∙ aaid_same t) r.1);
@@ -598,6 +620,10 @@ clearing_turned who e fall s t f d c so now at asked put = record {
 
     own : IsClearing f q q a
     own = clearing_turn f q put
+
+    spoilt : (x y : Bool) → x ≡ false → (x || y) ≡ true → y ≡ true
+    spoilt false y i h = h
+    spoilt true y i h = absurd (cc (i))
 
     tree_at : is_now t s.current ≡ true → is_aaid t (aaid_of c.key) ≡ true
     tree_at n = ap (is_now t) (sym at) ∙ n
@@ -736,6 +762,7 @@ clearing_keep : (who : Who) (e : Event) (fall : Bool) (s : Digest) (t : Aaid) (d
 clearing_keep who e fall s t d k f among stands found settling = record {
   tells = λ n h. absurd (cc (h, told_performed is_complete_none d.arcs (settled k f).outs ∙ tells_none is_complete_none (settled k f).outs complete_outcome (settled_spoken k f)));
   says = λ z b h. absurd (other (settled_silent k f z (PeerRecord.RecReply t b (RecState.Done Report.None)) (sent_performed d.arcs (settled k f).outs z (PeerRecord.RecReply t b (RecState.Done Report.None)) refl h)));
+  spoils = λ z b r some h. absurd (silent z b r (settled_silent k f z (PeerRecord.RecReply t b (RecState.Done r)) (sent_performed d.arcs (settled k f).outs z (PeerRecord.RecReply t b (RecState.Done r)) refl h)));
   forgets = λ z b h. inr (inl (among_tree t d.kept k among (forget_tree t k f z b (sent_performed d.arcs (settled k f).outs z (PeerRecord.Forget t b) refl h))));
   clears = λ h. inl (among_tree t d.kept k among (settled_ends t k f h));
   decides = λ late old n next rolling. settled_decides k f (decision_of d.current);
@@ -757,6 +784,9 @@ clearing_keep who e fall s t d k f among stands found settling = record {
 
     other : {b : BranchId} → (u : Aaid) × (v : BranchId) × (PeerRecord.RecReply t b (RecState.Done Report.None) ≡ PeerRecord.Forget u v) → ⊥
     other w = let h = w.2 in cc (h)
+
+    silent : (z : Addr) (b : BranchId) (r : Report) → (u : Aaid) × (v : BranchId) × (PeerRecord.RecReply t b (RecState.Done r) ≡ PeerRecord.Forget u v) → ⊥
+    silent z b r w = let h = w.2 in cc (h)
 
     kept : (b : BranchId) (o : KeepsAt t d.kept) (v : Bool) → is_key o.key k.key ≡ v → KeepsAt t (kept_after (settled k f).rec d.kept) ⊎ LetsGo e s t b d.kept
     kept b o false i = inl (keeps_other t d.kept o (settled k f).rec (settled_key k f o.key (λ eq. cc (i, ap (λ (j : NodeKey). is_key j k.key) (sym eq) ∙ key_self k.key))))
@@ -819,6 +849,7 @@ clearing_begins who e fall s t d q = go d.current refl (find_arc d.arcs q) refl
     on c a now at false i = record {
       tells = λ n h. absurd (cc (h, told_performed is_complete_none arcs outs));
       says = λ z b h. absurd (sent_performed arcs outs z (PeerRecord.RecReply t b (RecState.Done Report.None)) refl h);
+      spoils = λ z b r some h. absurd (sent_performed arcs outs z (PeerRecord.RecReply t b (RecState.Done r)) refl h);
       forgets = λ z b h. absurd (sent_performed arcs outs z (PeerRecord.Forget t b) refl h);
       clears = λ h. absurd (cc (h));
       decides = λ late old n next rolling. begun_decision who (with_mark_drawn d) c (record { addr = a.peer; branch = id }) ∙ rw (late c now) (ap decision_of (sym now));
@@ -915,6 +946,16 @@ clearing_then who e fall s t d a f tree_a tree_b sound quiet one two = record {
     | inr i ↦ elim (two.says z c i) [
       | inl k ↦ inl (k.0, k.1, from_b (ends_tree t) refl which k.2)
       | inr k ↦ elim k [ inl l ↦ inr (inl (one.idle l)) | inr l ↦ inr (inr l) ]
+    ]
+  ];
+  spoils = λ z c r some h. elim (sent_split a.outs b.outs z (PeerRecord.RecReply t c (RecState.Done r)) h) [
+    | inl i ↦ elim (one.spoils z c r some i) [ inl k ↦ inl (from_a (damages_tree t) refl which k) | inr k ↦ inr k ]
+    | inr i ↦ elim (two.spoils z c r some i) [
+      | inl k ↦ inl (from_b (damages_tree t) refl which k)
+      | inr k ↦ elim k [
+        | inl l ↦ elim (one.keeps l) [ inl j ↦ inr (inl j) | inr j ↦ inl (from_a (damages_tree t) refl which j) ]
+        | inr l ↦ inr (inr l)
+      ]
     ]
   ];
   forgets = λ z c h. elim (sent_split a.outs b.outs z (PeerRecord.Forget t c) h) [
@@ -1084,6 +1125,7 @@ clearing_alike : (who : Who) (e : Event) (fall : Bool) (s : Digest) (t : Aaid) (
 clearing_alike who e fall s t d g m cur kept boot drawn sound one = record {
   tells = one.tells;
   says = λ z b h. elim (one.says z b h) [ inl i ↦ inl i | inr i ↦ elim i [ inl j ↦ inr (inl (ap keeps_idle (sym kept) ∙ j)) | inr j ↦ inr (inr j) ] ];
+  spoils = λ z b r some h. elim (one.spoils z b r some h) [ inl i ↦ inl i | inr i ↦ elim i [ inl j ↦ inr (inl (ap (keeps_tree t) (sym kept) ∙ j)) | inr j ↦ inr (inr j) ] ];
   forgets = λ z b h. elim (one.forgets z b h) [ inl i ↦ inl i | inr i ↦ elim i [ inl j ↦ inr (inl (ap (keeps_tree t) (sym kept) ∙ j)) | inr j ↦ inr (inr j) ] ];
   clears = λ h. elim (one.clears h) [ inl i ↦ inl (ap (keeps_tree t) (sym kept) ∙ i) | inr i ↦ inr i ];
   decides = λ late old n next rolling. one.decides (late_g late) (old_g old) (ap (is_now t) cur ∙ n) next rolling ∙ ap (λ (o : Option Current). decided_by m.rec (decision_of o)) cur;
@@ -1122,6 +1164,7 @@ clearing_noted : (who : Who) (e : Event) (fall : Bool) (s : Digest) (t : Aaid) (
 clearing_noted who e fall s t d ks m same noted one = record {
   tells = one.tells;
   says = λ z b h. elim (one.says z b h) [ inl i ↦ inl i | inr i ↦ elim i [ inl j ↦ inr (inl (idle j)) | inr j ↦ inr (inr j) ] ];
+  spoils = λ z b r some h. elim (one.spoils z b r some h) [ inl i ↦ inl i | inr i ↦ elim i [ inl j ↦ inr (inl (tree j)) | inr j ↦ inr (inr j) ] ];
   forgets = λ z b h. elim (one.forgets z b h) [ inl i ↦ inl i | inr i ↦ elim i [ inl j ↦ inr (inl (tree j)) | inr j ↦ inr (inr j) ] ];
   clears = λ h. elim (one.clears h) [ inl i ↦ inl (tree i) | inr i ↦ inr i ];
   decides = one.decides;
@@ -1184,6 +1227,7 @@ clearing_root : (who : Who) (e : Event) (fall : Bool) (s : Digest) (t : Aaid) (d
 clearing_root who e fall s t d m nil one = record {
   tells = one.tells;
   says = one.says;
+  spoils = one.spoils;
   forgets = one.forgets;
   clears = one.clears;
   decides = λ late old n next rolling. absurd (cc (n, nil_now d t late nil));
@@ -1214,10 +1258,10 @@ clearing_steps who e fall s t so = record {
   chain = λ d a f one two quiet. (tree.chain d a f one.0 two.0 quiet, sound.chain d a f one.1 two.1 quiet, clearing_then who e fall s t d a f one.0 two.0 one.1 quiet one.2 two.2);
   speaks = λ d outs h said told last. (tree.speaks d outs h said told last, sound.speaks d outs h said told last, clearing_perform who e fall s t d outs h said.1);
   changes_dialogue = λ d q f m by one. (tree.changes_dialogue d q f m by one.0, sound.changes_dialogue d q f m by one.1, clearing_alike who e fall s t d _ m refl refl refl refl (λ i. i) one.2);
-  drops_arc = λ d q m one. (tree.drops_arc d q m one.0, sound.drops_arc d q m one.1, clearing_alike who e fall s t d _ m refl refl refl refl (λ i. i) one.2);
+  drops_arc = λ d q m at one. (tree.drops_arc d q m at one.0, sound.drops_arc d q m at one.1, clearing_alike who e fall s t d _ m refl refl refl refl (λ i. i) one.2);
   notes_kept = λ d ks m held noted one. (tree.notes_kept d ks m held noted one.0, sound.notes_kept d ks m held noted one.1, clearing_noted who e fall s t d ks m held.1 noted one.2);
   keeps = λ d k f held. (tree.keeps d k f held, sound.keeps d k f held, clearing_keep who e fall s t d k f held.1 held.2 held.3 held.4);
-  turns = λ d c f now at asked put gone like. (tree.turns d c f now at asked put gone like, sound.turns d c f now at asked put gone like, clearing_turned who e fall s t f d c (so c f d.arcs at asked) now at asked put);
+  turns = λ d c f now at asked put gone like alike. (tree.turns d c f now at asked put gone like alike, sound.turns d c f now at asked put gone like alike, clearing_turned who e fall s t f d c (so c f d.arcs at asked) now at asked put);
   begins = λ d q may. (tree.begins d q may, sound.begins d q may, clearing_begins who e fall s t d q);
   roots = λ d m nil may says one. (tree.roots d m nil may says one.0, sound.roots d m nil may says one.1, clearing_root who e fall s t d m nil one.2);
 }

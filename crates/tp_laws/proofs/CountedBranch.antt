@@ -57,7 +57,7 @@ begun_more t b [] ys h = h
 begun_more t b (DialogueRecord.Begin u c i ∷ xs) ys h = inr (begun_more t b xs ys h)
 begun_more t b (r ∷ xs) ys h = begun_more t b xs ys h
 
-sent_begun : (t : Aaid) (p : ℕ) (outs : List Out) (a : Addr) (x y : Mark) (q : ℕ) (b : BranchId) (i : Holder) → a.node ≡ p → IsSentIn outs a (PeerRecord.OnAssoc x y q (DialogueRecord.Begin t b i)) → IsBegunIn t b (words_to p outs)
+pub sent_begun : (t : Aaid) (p : ℕ) (outs : List Out) (a : Addr) (x y : Mark) (q : ℕ) (b : BranchId) (i : Holder) → a.node ≡ p → IsSentIn outs a (PeerRecord.OnAssoc x y q (DialogueRecord.Begin t b i)) → IsBegunIn t b (words_to p outs)
 sent_begun t p [] a x y q b i at s = absurd s
 sent_begun t p (Out.Tell j ∷ outs) a x y q b i at s = sent_begun t p outs a x y q b i at s
 sent_begun t p (Out.Send c (PeerRecord.OnAssoc z w n r) ∷ outs) a x y q b i at (inl s) =
@@ -205,7 +205,7 @@ apart_found c (x ∷ bs) p v h f same = go (x.peer.node == p) refl (λ i j. apar
         absurd (grind (arith, h, two))
     go false i rest = rest (grind (arith, h)) (rw i at f)
 
-apart_peer : (c : Child) (bs : List Branch) (p : ℕ) (v : Branch) → is_apart c (kin bs) ≡ true → find_branch bs p ≡ Some v → (c.addr.node == p) ≡ true → ⊥
+pub apart_peer : (c : Child) (bs : List Branch) (p : ℕ) (v : Branch) → is_apart c (kin bs) ≡ true → find_branch bs p ≡ Some v → (c.addr.node == p) ≡ true → ⊥
 apart_peer c [] p v h f same = cc (f)
 apart_peer c (x ∷ bs) p v h f same = go (x.peer.node == p) refl (λ i j. apart_peer c bs p v i j same)
   where

@@ -187,7 +187,7 @@ first_one arcs (TxOut.Recovery a (PeerRecord.OnAssoc x y q r)) h k = absurd (cc 
 first_one arcs (TxOut.Recovery a r) h k = grind arith
 first_one arcs (TxOut.Close p) h k = refl
 
-first_performed : (arcs : List Arc) (outs : List TxOut) → begins_none outs ≡ true → are_apart outs ≡ true → first_begin (performed arcs outs).1 ≡ None
+pub first_performed : (arcs : List Arc) (outs : List TxOut) → begins_none outs ≡ true → are_apart outs ≡ true → first_begin (performed arcs outs).1 ≡ None
 first_performed arcs [] h k = refl
 first_performed arcs (o ∷ outs) h k =
     let both : (begins_none (o ∷ []) && begins_none outs) ≡ true = sym (none_append (o ∷ []) outs) ∙ h in

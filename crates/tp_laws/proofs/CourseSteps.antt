@@ -99,11 +99,11 @@ course_steps who e fall leave s means = record {
     k4.changes_dialogue d p f m by one.3,
     λ right. one.4 (right.0, right.1, (thins_dialogue d.arcs p f).apart right.2, right.3),
   );
-  drops_arc = λ d p m one. (
-    k1.drops_arc d p m one.0,
-    k2.drops_arc d p m one.1,
-    k3.drops_arc d p m one.2,
-    k4.drops_arc d p m one.3,
+  drops_arc = λ d p m at one. (
+    k1.drops_arc d p m at one.0,
+    k2.drops_arc d p m at one.1,
+    k3.drops_arc d p m at one.2,
+    k4.drops_arc d p m at one.3,
     λ right. one.4 (right.0, right.1, (thins_without d.arcs p).apart right.2, right.3),
   );
   notes_kept = λ d ks m held noted one. (
@@ -114,11 +114,11 @@ course_steps who e fall leave s means = record {
     λ right. one.4 (sound_noted who d ks held.1 right.0, right.1, right.2, right.3),
   );
   keeps = λ d k f held. (k1.keeps d k f held, k2.keeps d k f held, k3.keeps d k f held, k4.keeps d k f held, λ right. course_keep who fall leave s.drawn d k f held.1 right);
-  turns = λ d c f now at asked put gone like. (
-    k1.turns d c f now at asked put gone like,
-    k2.turns d c f now at asked put gone like,
-    k3.turns d c f now at asked put gone like,
-    k4.turns d c f now at asked put gone like,
+  turns = λ d c f now at asked put gone like alike. (
+    k1.turns d c f now at asked put gone like alike,
+    k2.turns d c f now at asked put gone like alike,
+    k3.turns d c f now at asked put gone like alike,
+    k4.turns d c f now at asked put gone like alike,
     λ right. course_turned who e fall leave s.drawn s d c f means now at asked put like right,
   );
   begins = λ d p may. (k1.begins d p may, k2.begins d p may, k3.begins d p may, k4.begins d p may, λ right. course_begins who fall leave s.drawn p d);

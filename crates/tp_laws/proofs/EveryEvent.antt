@@ -30,7 +30,7 @@ use Rattle.tp_model.specs.Node.{Move, move, followed, perform, phase_of, has_ask
 use Rattle.tp_model.specs.Arrivals.{Named, current_with, child_addr, is_other, find_branch_by_id, branch_key, key_of_branch, named_by_key, named_by_branch, known_of, is_current_ready, lose, refused_arrival, take_accept, reply_to, take_order, take_forget, take_done_reply, take_ready_reply, take_reply, do_arrival, broken_pair, break_off}
 use Rattle.tp_model.specs.Requests.{refused_request}
 use Rattle.tp_model.specs.Events.{refused_purge, retry_each, retry, purge, action, refusal}
-use Rattle.tp_laws.specs.Moves.{prelude, linked, IsAsked, are_said, may_begin, some_leads, Moves}
+use Rattle.tp_laws.specs.Moves.{owes_branch, prelude, linked, IsAsked, are_said, may_begin, some_leads, Moves}
 use Rattle.tp_laws.specs.Moves.{IsAmong, StandsIn, IsLate, orders_in, keeps_commit, keeps_idle, is_committed_in, IsOwned, AreSaid, IsFound, IsUnderWay, IsSettling}
 use Rattle.tp_laws.specs.Steps.{Steps}
 use Rattle.tp_laws.proofs.Saying.{one_said, said_ready, said_order}
@@ -41,7 +41,7 @@ use Rattle.tp_laws.proofs.Leaves.{aaid_same}
 use Rattle.tp_laws.proofs.Among.{found_among, noted_among, noted_forgotten, found_stands, noted_stands, noted_again}
 use Rattle.tp_laws.proofs.Owned.{key_aaid, kept_key, branch_tree, found_kept, noted_kept, noted_found, owed_orders, commit_commit, reply_owned}
 use Rattle.std.proofs.lemmas.Bool.Decides.{nat_tests}
-use Rattle.tp_laws.proofs.EveryMove.{step_start, step_transact, step_lose, step_request, plain_steps}
+use Rattle.tp_laws.proofs.EveryMove.{said_itself, step_start, step_transact, step_lose, step_request, plain_steps}
 use Rattle.tp_laws.proofs.EveryRecord.{spoken_owed, spoken_forget, last_owed, last_forget, step_on_begin, step_on_other}
 
 -- ---- the other records of peers
@@ -108,7 +108,7 @@ step_reply_to who e s R k from t b None d own = k.still d
 step_reply_to who e s R k from t b (Some v) d own = k.speaks d (TxOut.Recovery from (PeerRecord.RecReply t b v) ∷ []) refl (own v refl) refl refl
 
 -- the current transaction is the one that is named, and is ready
-ready_named : (d : Digest) (t : Aaid) (b : BranchId) (c : Current) → is_current_ready (named_by_key d (branch_key t b)) ≡ true → d.current ≡ Some c
+pub ready_named : (d : Digest) (t : Aaid) (b : BranchId) (c : Current) → is_current_ready (named_by_key d (branch_key t b)) ≡ true → d.current ≡ Some c
     → (is_key (node_key c.key) (branch_key t b) ≡ true) × (is_ready c.phase ≡ true)
 ready_named d t b c h i = (grind (arith, h, i), grind (arith, h, i))
 
@@ -126,7 +126,7 @@ step_order who d from t b R k late = go (is_current_ready (named_by_key d (branc
     go : (v : Bool) → is_current_ready (named_by_key d (branch_key t b)) ≡ v
         → R d (if v then transact who TxEvent.Ordered d else reply_to from t b (answer (known_of (named_by_key d (branch_key t b)) b) Question.RecCommit) d)
     go true i =
-        step_transact who (Event.Arrive from (PeerRecord.RecCommit t b)) d R k TxEvent.Ordered d (refl, refl) (λ c j. (refl, (ready_named d t b c i j).0))
+        step_transact who (Event.Arrive from (PeerRecord.RecCommit t b)) d R k TxEvent.Ordered d (refl, refl, λ n off. refl) (λ c j. (refl, (ready_named d t b c i j).0))
         (λ c j. record { late = late c j; ok = λ h. refl; abort = λ n h. cc (h); ordered = λ h. (ready_named d t b c i j).1; not_begun = λ arcs h. cc (h) })
         (λ n i. absurd (cc (i)))
     go false i = step_reply_to who _ d R k from t b (answer (known_of (named_by_key d (branch_key t b)) b) Question.RecCommit) d (λ v j. (plain_reply d from t b v (named_by_key d (branch_key t b)) j, said_order d from t b v j))
@@ -135,7 +135,7 @@ step_replied : (who : Who) (e : Event) (d : Digest) (b : BranchId) (v : RecState
     → R d (transact who (TxEvent.Reply b v) d)
 unfolding refused_tx
 step_replied who e d b v R k late asked =
-    step_transact who e d R k (TxEvent.Reply b v) d (refl, refl) asked
+    step_transact who e d R k (TxEvent.Reply b v) d (refl, refl, λ n off. refl) asked
     (λ c j. record { late = late c j; ok = λ h. refl; abort = λ n h. cc (h); ordered = λ h. cc (h); not_begun = λ arcs h. cc (h) })
     (λ n i. absurd (cc (i)))
 
@@ -188,7 +188,7 @@ named_owed n k b from none at other x found =
     let one : child_addr n b ≡ Some x.addr = rw (none, at, child_addr) (rw found refl) in
     no_other x.addr from (ap (λ (o : Option Addr). is_other o from) (sym one) ∙ other)
 
-tree_of_key : (c : Current) (k : NodeKey) (t : Aaid) → is_key (node_key c.key) k ≡ true → is_aaid k.aaid t ≡ true → is_aaid (aaid_of c.key) t ≡ true
+pub tree_of_key : (c : Current) (k : NodeKey) (t : Aaid) → is_key (node_key c.key) k ≡ true → is_aaid k.aaid t ≡ true → is_aaid (aaid_of c.key) t ≡ true
 tree_of_key c k t h i = let same : node_key c.key ≡ k = keys_equal (node_key c.key) k h in ap (λ (u : Aaid). is_aaid u t) (sym (key_aaid c.key) ∙ ap (λ (j : NodeKey). j.aaid) same) ∙ i
 
 step_done_reply : (who : Who) (d : Digest) (from : Addr) (t : Aaid) (b : BranchId) (r : Report) (R : Digest → Move → Type 0) → Steps who (Event.Arrive from (PeerRecord.RecReply t b (RecState.Done r))) d R → IsLate d
@@ -271,12 +271,15 @@ step_forget who from t b s R k d = go (find_kept d.kept j) refl
         k.notes_kept d g.kept (keep (settled x KeptEvent.Forget) g) (λ u h. sym (noted_kept u d.kept j) ∙ h, noted_forgotten d.kept j) refl
         (k.keeps g x KeptEvent.Forget (λ u m. noted_found d.kept j x i u m, noted_among d.kept j x i, noted_stands d.kept j x i, noted_again d.kept j x i, (from, t, b, refl, (found_again d.kept j x i).1)))
 
+itself : (p : ℕ) → (p == p) ≡ true
+itself p = grind (arith, nat_tests)
+
 step_arrival : (who : Who) (d : Digest) (from : Addr) (r : PeerRecord) (R : Digest → Move → Type 0) → Steps who (Event.Arrive from r) (prelude who d (Event.Arrive from r)) R → IsLate d → refused_arrival who d from r ≡ None
     → R (prelude who d (Event.Arrive from r)) (do_arrival who from r d)
 step_arrival who d from (PeerRecord.OpenAssoc x u) R k late ok = k.speaks (prelude who d (Event.Arrive from (PeerRecord.OpenAssoc x u))) (TxOut.Tell (Indication.BeginDialogue from.node u) ∷ []) refl (λ u h. absurd (cc (h)), λ z r h. absurd h) refl refl
 step_arrival who d from (PeerRecord.AcceptAssoc x y u) R k late ok = step_accepted who d from x y u R k (find_arc d.arcs from.node) refl
-step_arrival who d from (PeerRecord.ShutAssoc x None) R k late ok = k.speaks d (TxOut.Close from.node ∷ TxOut.Tell (Indication.Rejected from.node) ∷ []) refl (λ u h. absurd (cc (h)), λ z r h. absurd h) refl refl
-step_arrival who d from (PeerRecord.ShutAssoc x (Some y)) R k late ok = step_lose who (Event.Arrive from (PeerRecord.ShutAssoc x (Some y))) d R k late from.node d (refl, refl) (λ c. refl)
+step_arrival who d from (PeerRecord.ShutAssoc x None) R k late ok = k.speaks d (TxOut.Close from.node ∷ TxOut.Tell (Indication.Rejected from.node) ∷ []) refl (λ u h. absurd (cc (h)), λ z r h. absurd h) (said_itself from.node) refl
+step_arrival who d from (PeerRecord.ShutAssoc x (Some y)) R k late ok = step_lose who (Event.Arrive from (PeerRecord.ShutAssoc x (Some y))) d R k late from.node d (itself from.node) (refl, refl, λ n off. refl) (λ c. refl)
 step_arrival who d from (PeerRecord.OnAssoc x y q (DialogueRecord.Begin t b h)) R k late ok = step_on_begin who d from x y q t b h R k ok (find_arc d.arcs from.node) refl
 step_arrival who d from (PeerRecord.OnAssoc x y q DialogueRecord.EndDialogue) R k late ok = step_on_other who d from x y q DialogueRecord.EndDialogue R k late (λ t b h i. cc (i)) ok
 step_arrival who d from (PeerRecord.OnAssoc x y q (DialogueRecord.UserData xs)) R k late ok = step_on_other who d from x y q (DialogueRecord.UserData xs) R k late (λ t b h i. cc (i)) ok
@@ -312,17 +315,17 @@ step_break who d from r R k late = go (broken_pair r)
     go None = k.still d
     go (Some xy) =
         let outs : List TxOut = TxOut.Recovery from (PeerRecord.ShutAssoc xy.0 (Some xy.1)) ∷ [] in
-        k.chain d (perform outs d) (lose who from.node) (k.speaks d outs refl (λ u h. absurd (cc (h)), one_said (Event.Break from r) d d from (PeerRecord.ShutAssoc xy.0 (Some xy.1)) tt) refl refl) (step_lose who (Event.Break from r) d R k late from.node (perform outs d).next (refl, refl) (λ c. refl)) (inl refl)
+        k.chain d (perform outs d) (lose who from.node) (k.speaks d outs refl (λ u h. absurd (cc (h)), one_said (Event.Break from r) d d from (PeerRecord.ShutAssoc xy.0 (Some xy.1)) tt) refl refl) (step_lose who (Event.Break from r) d R k late from.node (perform outs d).next (itself from.node) (refl, refl, λ n off. refl) (λ c. refl)) (inl refl)
 
 quiet_retry : (ks : List Kept) (d : Digest) → (retry_each ks d).rec ≡ None
 quiet_retry [] d = refl
 quiet_retry (k ∷ ks) d = let rest = quiet_retry ks (perform (owed k) d).next in rw (rest, retry_each) refl
 
-step_retry_each : (who : Who) (e : Event) (s : Digest) (R : Digest → Move → Type 0) → Steps who e s R → (ks : List Kept) (d : Digest) → ((u : Aaid) → keeps_commit u ks ≡ true → keeps_commit u d.kept ≡ true) → (keeps_idle ks ≡ true → keeps_idle d.kept ≡ true) → R d (retry_each ks d)
-step_retry_each who e s R k [] d held idle = k.still d
-step_retry_each who e s R k (x ∷ ks) d held idle =
+step_retry_each : (who : Who) (e : Event) (s : Digest) (R : Digest → Move → Type 0) → Steps who e s R → (ks : List Kept) (d : Digest) → ((u : Aaid) → keeps_commit u ks ≡ true → keeps_commit u d.kept ≡ true) → (keeps_idle ks ≡ true → keeps_idle d.kept ≡ true) → ((b : BranchId) → owes_branch b ks ≡ true → owes_branch b d.kept ≡ true) → R d (retry_each ks d)
+step_retry_each who e s R k [] d held idle owes = k.still d
+step_retry_each who e s R k (x ∷ ks) d held idle owes =
     let a : Move = perform (owed x) d in
-    k.chain d a (retry_each ks) (k.speaks d (owed x) (spoken_owed x) (λ u h. owned u (held u (rw (owed_orders u x h) refl)), owed_so e s d x (λ c. (owned x.key.aaid (held x.key.aaid (rw (c, aaid_same x.key.aaid) refl)), λ n. idle (rw (c, n) refl)))) (said_owed e x) (last_owed who d x)) (step_retry_each who e s R k ks a.next (λ u h. held u (rw h (grind arith))) (λ h. idle (rw h (grind arith)))) (inl refl)
+    k.chain d a (retry_each ks) (k.speaks d (owed x) (spoken_owed x) (λ u h. owned u (held u (rw (owed_orders u x h) refl)), owed_so e s d x (λ c. (owned x.key.aaid (held x.key.aaid (rw (c, aaid_same x.key.aaid) refl)), λ n. idle (rw (c, n) refl), held x.key.aaid (rw (c, aaid_same x.key.aaid) refl))) (λ b h. owes b (rw h refl))) (said_owed e x) (last_owed who d x)) (step_retry_each who e s R k ks a.next (λ u h. held u (rw h (grind arith))) (λ h. idle (rw h (grind arith))) (λ b h. owes b (rw h (grind arith)))) (inl refl)
   where
     owned : (u : Aaid) → keeps_commit u d.kept ≡ true → is_committed_in u d ≡ true
     owned u h = rw h (grind arith)
@@ -332,8 +335,8 @@ unfolding retry refused_tx
 step_retry who d R k late =
     let a : Move = transact who TxEvent.Retry d in
     k.chain d a (λ e. retry_each e.kept e)
-    (step_transact who Event.Retry d R k TxEvent.Retry d (refl, refl) (λ c j. refl) (λ c j. record { late = late c j; ok = λ h. refl; abort = λ n h. cc (h); ordered = λ h. cc (h); not_begun = λ arcs h. cc (h) }) (λ n i. absurd (cc (i))))
-    (step_retry_each who Event.Retry d R k a.next.kept a.next (λ u h. h) (λ h. h))
+    (step_transact who Event.Retry d R k TxEvent.Retry d (refl, refl, λ n off. refl) (λ c j. refl) (λ c j. record { late = late c j; ok = λ h. refl; abort = λ n h. cc (h); ordered = λ h. cc (h); not_begun = λ arcs h. cc (h) }) (λ n i. absurd (cc (i))))
+    (step_retry_each who Event.Retry d R k a.next.kept a.next (λ u h. h) (λ h. h) (λ b h. h))
     (inr (quiet_retry a.next.kept a.next))
 
 purge_plain : (k : Kept) → refused_kept k KeptEvent.Purge ≡ None → is_nothing_owed k.owed ≡ true
@@ -394,13 +397,13 @@ step_move who d (Event.Declare s) R k late ok = k.still (prelude who d (Event.De
 step_move who d (Event.Do r) R k late ok = step_request who d r R k late (plain_request who d r ok)
 step_move who d (Event.Arrive from r) R k late ok = step_arrival who d from r R k late (plain_arrival who d from r ok)
 step_move who d (Event.Break from r) R k late ok = step_break who d from r R k late
-step_move who d (Event.Lose p) R k late ok = step_lose who (Event.Lose p) d R k late p d (refl, refl) (λ c. refl)
+step_move who d (Event.Lose p) R k late ok = step_lose who (Event.Lose p) d R k late p d (itself p) (refl, refl, λ n off. refl) (λ c. refl)
 step_move who d (Event.Heur o) R k late ok =
-    step_transact who (Event.Heur o) d R k (TxEvent.Heur o) d (refl, refl) (λ c j. refl)
+    step_transact who (Event.Heur o) d R k (TxEvent.Heur o) d (refl, refl, λ n off. refl) (λ c j. refl)
     (λ c j. record { late = late c j; ok = λ h. plain_heur who d o c ok j; abort = λ n h. cc (h); ordered = λ h. cc (h); not_begun = λ arcs h. cc (h) })
     (λ n i. absurd (cc (i)))
 step_move who d (Event.GiveUp p) R k late ok =
-    step_transact who (Event.GiveUp p) d R k (TxEvent.GiveUp p) d (refl, refl) (λ c j. refl)
+    step_transact who (Event.GiveUp p) d R k (TxEvent.GiveUp p) d (refl, refl, λ n off. refl) (λ c j. refl)
     (λ c j. record { late = late c j; ok = λ h. plain_give_up who d p c ok j; abort = λ n h. cc (h); ordered = λ h. cc (h); not_begun = λ arcs h. cc (h) })
     (λ n i. absurd (cc (i)))
 step_move who d Event.Retry R k late ok = step_retry who d R k late

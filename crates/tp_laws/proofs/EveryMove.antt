@@ -11,21 +11,22 @@ use Rattle.tp_model.specs.declared.arc.Phase.{Phase}
 use Rattle.tp_model.specs.declared.arc.Side.{Side}
 use Rattle.tp_model.specs.declared.transaction.TxEvent.{TxEvent}
 use Rattle.tp_model.specs.declared.transaction.TxOut.{TxOut}
-use Rattle.tp_model.specs.Parts.{Who, Event, Link, Idle, Opening, Offered, Live, Arc, Root, Branch, Current, Digest}
-use Rattle.tp_model.specs.Dialogues.{is_nil, is_active, Asked, Ask_data, Ask_error, Ask_abort, Ask_grant, Ask_control, Ask_handshake, Ask_respond, Ask_handshake_grant, Ask_defer_end, Ask_defer_grant, is_chained, said, begun_by, refused_on_arc, fresh_dialogue}
+use Rattle.tp_model.specs.Parts.{Who, Event, Link, Idle, Opening, Offered, Live, Dialogue, Arc, Root, Branch, Current, Digest}
+use Rattle.tp_model.specs.Dialogues.{is_nil, is_active, is_end_deferred, Asked, Ask_data, Ask_error, Ask_abort, Ask_grant, Ask_control, Ask_handshake, Ask_respond, Ask_handshake_grant, Ask_defer_end, Ask_defer_grant, is_chained, said, begun_by, refused_on_arc, fresh_dialogue}
 use Rattle.tp_model.specs.Arcs.{find_arc, is_live_with_peer, link_with, put_arc, without_arc, with_dialogue, carried}
 use Rattle.tp_model.specs.Transactions.{is_under_at, row_holds, transacted, refused_tx, situation_of}
-use Rattle.tp_model.specs.Node.{Move, move, followed, perform, next_mark, with_mark_drawn, superior_arc, may_root, phase_of, seen_rows, seen, situation_at, Passage, passage, is_leaving, is_over, fresh_current, begin_on, begin_each, is_chained_below, chained_from, chained_peers, begin_chained, start_root, has_none, try_start, restarted, transact}
+use Rattle.tp_model.specs.Node.{is_end_deferred_at, Move, move, followed, perform, next_mark, with_mark_drawn, superior_arc, may_root, phase_of, seen_rows, seen, situation_at, Passage, passage, is_leaving, is_over, fresh_current, begin_on, begin_each, is_chained_below, chained_from, chained_peers, begin_chained, start_root, has_none, try_start, restarted, transact}
 use Rattle.tp_model.specs.Requests.{has_branch_at, refused_request, refused_at, call, accept, reject, abort, begin_transaction, do_request}
 use Rattle.tp_model.specs.Arrivals.{lose}
 use Rattle.tp_laws.specs.Turns.{loses}
 use Rattle.tp_laws.proofs.Links.{link_without, mark_same}
+use Rattle.tp_laws.proofs.Fading.{ends_without}
 use Rattle.tp_laws.proofs.RootBegins.{named_says, chained_says}
 use Rattle.tp_laws.specs.Ends.{are_separate}
-use Rattle.tp_laws.specs.Steps.{first_begin, next_tree, next_branch, IsLike, Steps}
+use Rattle.tp_laws.specs.Steps.{first_begin, next_tree, next_branch, is_deferring, puts_off_at, IsLike, Steps}
 use Rattle.tp_model.specs.Node.{turned}
 use Rattle.tp_model.specs.AmongArcs.{is_peer}
-use Rattle.tp_laws.specs.Moves.{IsLate, prelude, called, accepted_by, accepted_on, IsAsked, IsPut, is_took, are_spoken, are_said, said_by, may_put_off, By_saying, may_begin, some_leads, Moves}
+use Rattle.tp_laws.specs.Moves.{IsLate, prelude, called, accepted_by, accepted_on, IsAsked, IsPut, is_took, are_spoken, are_said, closes_at, said_by, may_put_off, By_saying, may_begin, some_leads, Moves}
 use Rattle.tp_laws.proofs.Saying.{one_said}
 
 -- ---- starts log nothing
@@ -137,7 +138,7 @@ step_start who e s R k d = go (is_nil (phase_of d) && may_root d && not (has_non
     go true i = step_root who e s R k [] d (grind arith) (grind arith) tt (λ apart. chained_says who d (grind (arith, i)) apart)
     go false i = k.still d
 
-pub step_transact : (who : Who) (e : Event) (s : Digest) (R : Digest → Move → Type 0) → Steps who e s R → (f : TxEvent) (d : Digest) → IsLike d s
+pub step_transact : (who : Who) (e : Event) (s : Digest) (R : Digest → Move → Type 0) → Steps who e s R → (f : TxEvent) (d : Digest) → IsLike e d s
     → ((c : Current) → s.current ≡ Some c → IsAsked e c f) → ((c : Current) → s.current ≡ Some c → IsPut f (seen who d.arcs c)) → ((p : ℕ) → loses f p ≡ true → link_with d.arcs p ≡ Idle) → R d (transact who f d)
 unfolding transact
 step_transact who e s R k f d same asked put gone = go d.current refl
@@ -155,17 +156,28 @@ step_transact who e s R k f d same asked put gone = go d.current refl
     go (Some c) i =
         let at : s.current ≡ Some c = sym same.0 ∙ i in
         let w : Passage = passage (is_leaving f) (seen who d.arcs c).phase (transacted f (seen who d.arcs c)).next.phase in
-        over c w (k.turns d c f i at (asked c at) (put c at) gone same.1) (is_over w) refl
+        over c w (k.turns d c f i at (asked c at) (put c at) gone same.1 same.2) (is_over w) refl
 
 -- an event that needs no more than a transaction that is not over
 pub put_plain : (who : Who) (d : Digest) (c : Current) (f : TxEvent) → is_nil c.phase ≡ false → (is_took f ≡ false → refused_tx f (seen who d.arcs c) ≡ None)
     → ((p : ℕ) → f ≡ TxEvent.User (Request.UAbort p) → ⊥) → (f ≡ TxEvent.Ordered → ⊥) → ((arcs : _) → f ≡ TxEvent.Begun arcs → ⊥) → IsPut f (seen who d.arcs c)
 put_plain who d c f late ok a o b = record { late = late; ok = ok; abort = λ p i. absurd (a p i); ordered = λ i. absurd (o i); not_begun = b }
 
-pub step_lose : (who : Who) (e : Event) (s : Digest) (R : Digest → Move → Type 0) → Steps who e s R → IsLate s → (p : ℕ) (d : Digest) → IsLike d s
+-- the event ends no association but with that peer
+pub apart : (e : Event) (p n : ℕ) → closes_at e p ≡ true → (puts_off_at e n || closes_at e n) ≡ false → (p == n) ≡ false
+apart e p n h off = go (p == n) refl
+  where
+    go : (b : Bool) → (p == n) ≡ b → b ≡ false
+    go false i = refl
+    go true i = let same : p ≡ n = grind (arith, nat_tests, i) in let on : closes_at e n ≡ true = ap (closes_at e) (sym same) ∙ h in absurd (grind (arith, on, off))
+
+pub ends_elsewhere : (arcs : List Arc) (q p : ℕ) → (q == p) ≡ false → is_end_deferred_at (without_arc arcs q) p ≡ is_end_deferred_at arcs p
+ends_elsewhere arcs q p off = ends_without arcs q p ∙ rw off refl
+
+pub step_lose : (who : Who) (e : Event) (s : Digest) (R : Digest → Move → Type 0) → Steps who e s R → IsLate s → (p : ℕ) (d : Digest) → closes_at e p ≡ true → IsLike e d s
     → ((c : Current) → IsAsked e c (TxEvent.Lost p)) → R d (lose who p d)
 unfolding lose refused_tx
-step_lose who e s R k late p d same asked = k.drops_arc d p (lose who p d) (go d.current refl)
+step_lose who e s R k late p d closes same asked = k.drops_arc d p (lose who p d) closes (go d.current refl)
   where
     g : Digest
     g = record d { arcs = without_arc d.arcs p }
@@ -176,7 +188,7 @@ step_lose who e s R k late p d same asked = k.drops_arc d p (lose who p d) (go d
     go : (o : Option Current) → d.current ≡ o → R g (elim o as (λ _. Move) [ None ↦ perform (TxOut.Tell (Indication.PAbort p) ∷ []) g | Some c ↦ transact who (TxEvent.Lost p) g ])
     go None i = k.speaks g (TxOut.Tell (Indication.PAbort p) ∷ []) refl (λ u h. absurd (cc (h)), λ z r h. absurd h) refl refl
     go (Some c) i =
-        step_transact who e s R k (TxEvent.Lost p) g same (λ b j. asked b)
+        step_transact who e s R k (TxEvent.Lost p) g (same.0, same.1, λ n off. ends_elsewhere d.arcs p n (apart e p n closes off) ∙ same.2 n off) (λ b j. asked b)
         (λ b j. put_plain who g b (TxEvent.Lost p) (late b j) (λ t. refl) (λ q h. cc (h)) (λ h. cc (h)) (λ arcs h. cc (h)))
         (λ n i. gone_arc n (grind (arith, nat_tests, i)))
 
@@ -218,9 +230,9 @@ step_accept who e s d u R k (Some a) i = rw (i, accept) (go a.link)
     go (Offered x) = k.speaks (accepted_on who u a (Offered x) d) (TxOut.Recovery a.peer (PeerRecord.AcceptAssoc x (next_mark who d) u) ∷ []) refl (λ u h. absurd (cc (h)), one_said e s (accepted_on who u a (Offered x) d) a.peer (PeerRecord.AcceptAssoc x (next_mark who d) u) tt) refl (rw (mark_same (next_mark who d)) refl)
     go (Live x y v w) = k.still d
 
-step_reject : (who : Who) (e : Event) (s d : Digest) (R : Digest → Move → Type 0) → Steps who e s R → R d (reject d)
+step_reject : (who : Who) (s d : Digest) (R : Digest → Move → Type 0) → Steps who (Event.Do Request.Reject) s R → R d (reject d)
 unfolding reject
-step_reject who e s d R k = go (superior_arc d)
+step_reject who s d R k = go (superior_arc d)
   where
     on : (a : Arc) (l : Link) → R d (elim l as (λ _. Move) [
       | Idle ↦ move [] d
@@ -230,7 +242,7 @@ step_reject who e s d R k = go (superior_arc d)
     ])
     on a Idle = k.still d
     on a (Opening x) = k.still d
-    on a (Offered x) = k.speaks d (TxOut.Recovery a.peer (PeerRecord.ShutAssoc x None) ∷ TxOut.Close a.peer.node ∷ []) refl (λ u h. absurd (cc (h)), one_said e s d a.peer (PeerRecord.ShutAssoc x None) tt) refl refl
+    on a (Offered x) = k.speaks d (TxOut.Recovery a.peer (PeerRecord.ShutAssoc x None) ∷ TxOut.Close a.peer.node ∷ []) refl (λ u h. absurd (cc (h)), one_said (Event.Do Request.Reject) s d a.peer (PeerRecord.ShutAssoc x None) tt) refl refl
     on a (Live x y v w) = k.still d
 
     go : (o : Option Arc) → R d (elim o as (λ _. Move) [
@@ -245,7 +257,7 @@ step_reject who e s d R k = go (superior_arc d)
     go None = k.still d
     go (Some a) = on a a.link
 
-said_itself : (p : ℕ) → ((p == p) && true) ≡ true
+pub said_itself : (p : ℕ) → ((p == p) && true) ≡ true
 said_itself p = grind (arith, nat_tests)
 
 step_speak : (who : Who) (e : Event) (s d : Digest) (R : Digest → Move → Type 0) → Steps who e s R → (p : ℕ) (a : Asked) (r : DialogueRecord) → are_spoken (TxOut.Carry p r ∷ []) ≡ true
@@ -271,9 +283,9 @@ step_abort who d p R k late ok = go (situation_at who d p).branch refl
   where
     go : (b : Bool) → (situation_at who d p).branch ≡ b
         → R d (if b then transact who (TxEvent.User (Request.UAbort p)) d else perform (TxOut.Carry p DialogueRecord.UAbort ∷ TxOut.Close p ∷ []) d)
-    go false i = k.speaks d (TxOut.Carry p DialogueRecord.UAbort ∷ TxOut.Close p ∷ []) refl (λ u h. absurd (cc (h)), λ z r h. absurd h) refl refl
+    go false i = k.speaks d (TxOut.Carry p DialogueRecord.UAbort ∷ TxOut.Close p ∷ []) refl (λ u h. absurd (cc (h)), λ z r h. absurd h) (said_itself p) refl
     go true i =
-        step_transact who (Event.Do (Request.UAbort p)) d R k (TxEvent.User (Request.UAbort p)) d (refl, refl) (λ c j. (refl, abort_peer who d p c i j))
+        step_transact who (Event.Do (Request.UAbort p)) d R k (TxEvent.User (Request.UAbort p)) d (refl, refl, λ n off. refl) (λ c j. (refl, abort_peer who d p c i j))
         (λ c j. record {
           late = late c j;
           ok = λ t. refl;
@@ -287,7 +299,7 @@ step_abort who d p R k late ok = go (situation_at who d p).branch refl
 step_user_request : (who : Who) (d : Digest) (r : Request) (R : Digest → Move → Type 0) → Steps who (Event.Do r) d R → IsLate d → ((c : Current) → IsAsked (Event.Do r) c (TxEvent.User r)) → ((p : ℕ) → r ≡ Request.UAbort p → ⊥)
     → ((c : Current) → d.current ≡ Some c → refused_tx (TxEvent.User r) (seen who d.arcs c) ≡ None) → R d (transact who (TxEvent.User r) d)
 step_user_request who d r R k late asked a ok =
-    step_transact who (Event.Do r) d R k (TxEvent.User r) d (refl, refl) (λ c j. asked c)
+    step_transact who (Event.Do r) d R k (TxEvent.User r) d (refl, refl, λ n off. refl) (λ c j. asked c)
     (λ c j. put_plain who d c (TxEvent.User r) (late c j) (λ t. ok c j) (λ p h. absurd (a p (cc (h)))) (λ h. cc (h)) (λ arcs h. cc (h))) (λ n i. absurd (cc (i)))
 
 -- the user defers an end on a live arc of an active transaction
@@ -311,12 +323,41 @@ end_said who d p late ok = rw (live (find_arc d.arcs p) refl, active d.current r
     active None i = absurd (grind (arith, one, i))
     active (Some c) i = phase c i c.phase refl
 
+-- what is said on one arc puts nothing off on another
+pub ends_dialogue : (arcs : List Arc) (q : ℕ) (f : Dialogue → Dialogue) (p : ℕ) → ((x : Dialogue) → (q == p) ≡ true → is_end_deferred (f x).deferral ≡ is_end_deferred x.deferral) → is_end_deferred_at (with_dialogue arcs q f) p ≡ is_end_deferred_at arcs p
+ends_dialogue [] q f p k = refl
+ends_dialogue (a ∷ arcs) q f p k = go (a.peer.node == q) refl (a.peer.node == p) refl (ends_dialogue arcs q f p k)
+  where
+    go : (u : Bool) → (a.peer.node == q) ≡ u → (v : Bool) → (a.peer.node == p) ≡ v → is_end_deferred_at (with_dialogue arcs q f) p ≡ is_end_deferred_at arcs p
+        → is_end_deferred_at (if u then record a { dialogue = f a.dialogue } ∷ arcs else a ∷ with_dialogue arcs q f) p ≡ is_end_deferred_at (a ∷ arcs) p
+    go true i true j rest = rw (j, is_end_deferred_at) (k a.dialogue (grind (arith, nat_tests, i, j)))
+    go true i false j rest = rw (j, is_end_deferred_at) refl
+    go false i true j rest = rw (j, is_end_deferred_at) refl
+    go false i false j rest = rw (j, is_end_deferred_at) rest
+
+said_off : (a : Asked) (x : Dialogue) → is_deferring a ≡ false → is_end_deferred (said a x).deferral ≡ is_end_deferred x.deferral
+unfolding said
+said_off Ask_defer_end x h = absurd (cc (h))
+said_off Ask_defer_grant x h = absurd (cc (h))
+said_off a x h = grind (arith, h)
+
+said_aside : (e : Event) (arcs : List Arc) (q : ℕ) (a : Asked) (p : ℕ) → said_by e ≡ Some (q, a) → (puts_off_at e p || closes_at e p) ≡ false → is_end_deferred_at (with_dialogue arcs q (said a)) p ≡ is_end_deferred_at arcs p
+said_aside e arcs q a p by off =
+    let mine : ((q == p) && is_deferring a) ≡ false = ap (λ (o : Option (ℕ × Asked)). elim o as (λ _. Bool) [ None ↦ false | Some v ↦ (v.0 == p) && is_deferring v.1 ]) (sym by) ∙ first_of _ _ _ off in
+    ends_dialogue arcs q (said a) p (λ x at. said_off a x (second_of (q == p) (is_deferring a) mine at))
+  where
+    first_of : (x y z : Bool) → ((x || y) || z) ≡ false → x ≡ false
+    first_of x y z h = grind (arith, h)
+
+    second_of : (x y : Bool) → (x && y) ≡ false → x ≡ true → y ≡ false
+    second_of x y h i = grind (arith, h, i)
+
 step_defer : (who : Who) (d : Digest) (r : Request) (p : ℕ) (a : Asked) (R : Digest → Move → Type 0) → Steps who (Event.Do r) d R → IsLate d → ((c : Current) → IsAsked (Event.Do r) c (TxEvent.User r)) → ((q : ℕ) → r ≡ Request.UAbort q → ⊥)
     → ((g : Digest) (c : Current) → refused_tx (TxEvent.User r) (seen who g.arcs c) ≡ None) → said_by (Event.Do r) ≡ Some (p, a) → (a ≡ Ask_defer_end → may_put_off d p ≡ true) → R d (transact who (TxEvent.User r) (record d { arcs = with_dialogue d.arcs p (said a) }))
 step_defer who d r p a R k late asked b ok by off =
     let g : Digest = record d { arcs = with_dialogue d.arcs p (said a) } in
     k.changes_dialogue d p (said a) (transact who (TxEvent.User r) g) (By_saying a by refl off)
-    (step_transact who (Event.Do r) d R k (TxEvent.User r) g (refl, refl) (λ c j. asked c)
+    (step_transact who (Event.Do r) d R k (TxEvent.User r) g (refl, refl, λ n off. said_aside (Event.Do r) d.arcs p a n by off) (λ c j. asked c)
     (λ c j. put_plain who g c (TxEvent.User r) (late c j) (λ t. ok g c) (λ q h. absurd (b q (cc (h)))) (λ h. cc (h)) (λ arcs h. cc (h))) (λ n i. absurd (cc (i))))
 
 root_may : (who : Who) (d : Digest) (p : ℕ) → refused_request who d (Request.BeginTransaction p) ≡ None → d.current ≡ None → may_root d ≡ true
@@ -369,15 +410,15 @@ pub step_request : (who : Who) (d : Digest) (r : Request) (R : Digest → Move �
     → R (prelude who d (Event.Do r)) (do_request who r d)
 step_request who d (Request.BeginDialogue a u) R k late ok = step_call who d a u R k
 step_request who d (Request.Accept u) R k late ok = step_accept who (Event.Do (Request.Accept u)) (prelude who d (Event.Do (Request.Accept u))) d u R k (superior_arc d) refl
-step_request who d Request.Reject R k late ok = step_reject who (Event.Do Request.Reject) d d R k
-step_request who d (Request.EndDialogue p) R k late ok = k.speaks d (TxOut.Carry p DialogueRecord.EndDialogue ∷ TxOut.Close p ∷ []) refl (λ u h. absurd (cc (h)), λ z r h. absurd h) refl refl
+step_request who d Request.Reject R k late ok = step_reject who d d R k
+step_request who d (Request.EndDialogue p) R k late ok = k.speaks d (TxOut.Carry p DialogueRecord.EndDialogue ∷ TxOut.Close p ∷ []) refl (λ u h. absurd (cc (h)), λ z r h. absurd h) (said_itself p) refl
 step_request who d (Request.UserData p xs) R k late ok = step_speak who _ d d R k p Ask_data (DialogueRecord.UserData xs) refl refl (λ i. cc (i)) refl
 step_request who d (Request.UError p) R k late ok = step_speak who _ d d R k p Ask_error DialogueRecord.UError refl refl (λ i. cc (i)) refl
 step_request who d (Request.UAbort p) R k late ok = step_abort who d p R k late ok
 step_request who d (Request.Grant p) R k late ok = step_speak who _ d d R k p Ask_grant DialogueRecord.Grant refl refl (λ i. cc (i)) (said_itself p)
 step_request who d (Request.AskControl p) R k late ok = step_speak who _ d d R k p Ask_control DialogueRecord.AskControl refl refl (λ i. cc (i)) refl
-step_request who d (Request.Handshake p) R k late ok = step_speak who _ d d R k p Ask_handshake DialogueRecord.Handshake refl refl (λ i. cc (i)) refl
-step_request who d (Request.Respond p) R k late ok = step_speak who _ d d R k p Ask_respond DialogueRecord.Response refl refl (λ i. cc (i)) refl
+step_request who d (Request.Handshake p) R k late ok = step_speak who _ d d R k p Ask_handshake DialogueRecord.Handshake refl refl (λ i. cc (i)) (said_itself p)
+step_request who d (Request.Respond p) R k late ok = step_speak who _ d d R k p Ask_respond DialogueRecord.Response refl refl (λ i. cc (i)) (said_itself p)
 step_request who d (Request.HandshakeGrant p) R k late ok = step_speak who _ d d R k p Ask_handshake_grant DialogueRecord.HandshakeGrant refl refl (λ i. cc (i)) (said_itself p)
 step_request who d (Request.BeginTransaction p) R k late ok = step_begin_request who d p R k ok
 step_request who d (Request.DeferEnd p) R k late ok = step_defer who d (Request.DeferEnd p) p Ask_defer_end R k late (λ c. refl) (λ q h. cc (h)) (λ g c. defer_ok who (Request.DeferEnd p) p (inl refl) g c) refl (λ i. end_said who d p late ok)
@@ -399,7 +440,7 @@ plain_steps who e s R k = record {
   drops_arc = k.drops_arc;
   notes_kept = λ d ks m held noted one. k.notes_kept d ks m held one;
   keeps = k.keeps;
-  turns = λ d c f now at asked put gone like. k.turns d c f now at asked put gone;
+  turns = λ d c f now at asked put gone like alike. k.turns d c f now at asked put gone;
   begins = k.begins;
   roots = λ d m nil may says one. k.roots d m nil may one;
 }
@@ -409,10 +450,10 @@ every_start who e s R k d = step_start who e s R (plain_steps who e s R k) d
 
 pub every_transact : (who : Who) (e : Event) (s : Digest) (R : Digest → Move → Type 0) → Moves who e s R → (f : TxEvent) (d : Digest) → d.current ≡ s.current
     → ((c : Current) → s.current ≡ Some c → IsAsked e c f) → ((c : Current) → s.current ≡ Some c → IsPut f (seen who d.arcs c)) → ((p : ℕ) → loses f p ≡ true → link_with d.arcs p ≡ Idle) → R d (transact who f d)
-every_transact who e s R k f d same asked put gone = step_transact who e t R (plain_steps who e t R plain) f d (same, refl) asked put gone
+every_transact who e s R k f d same asked put gone = step_transact who e t R (plain_steps who e t R plain) f d (same, refl, λ n off. refl) asked put gone
   where
     t : Digest
-    t = record s { drawn = d.drawn }
+    t = record s { arcs = d.arcs; drawn = d.drawn }
 
     plain : Moves who e t R
     plain = record {

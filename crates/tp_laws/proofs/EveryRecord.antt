@@ -1,5 +1,5 @@
 -- Every record that a node takes on an association.
-use Rattle.std.proofs.Common.{◌≡◌, inl, ℕ, Bool, true, false, refl, ap, sym, subst, ◌∙◌, arith, Option, Some, None, List, [], ◌∷◌, ◌++◌, ◌&&◌}
+use Rattle.std.proofs.Common.{if◌then◌else◌, ◌≡◌, inl, ℕ, Bool, true, false, refl, ap, sym, subst, ◌∙◌, arith, Option, Some, None, List, [], ◌∷◌, ◌++◌, ◌&&◌, ◌||◌, ◌==◌}
 use Rattle.std.proofs.lemmas.Bool.Decides.{nat_tests}
 use Rattle.tp_names.specs.declared.identifiers.Mark.{Mark}
 use Rattle.tp_names.specs.declared.identifiers.Aaid.{Aaid}
@@ -19,18 +19,18 @@ use Rattle.tp_model.specs.declared.transaction.TxOut.{TxOut}
 use Rattle.tp_model.specs.declared.recovery.Kept.{Kept}
 use Rattle.tp_model.specs.Parts.{Who, Event, Link, Idle, Live, Dialogue, Arc, Under, Current, Digest}
 use Rattle.tp_model.specs.Links.{with_one_taken}
-use Rattle.tp_model.specs.Dialogues.{is_active, arrived, Sight, Acts, Nothing_happens, Out_of_phase, Heard, Hear_data, Hear_error, Hear_grant, Hear_control, Hear_handshake, Hear_handshake_grant, Hear_response, Hear_defer_end, Hear_defer_grant, heard, cleared, woken, begun_by}
+use Rattle.tp_model.specs.Dialogues.{is_active, is_end_deferred, arrived, Sight, Acts, Nothing_happens, Out_of_phase, Heard, Hear_data, Hear_error, Hear_grant, Hear_control, Hear_handshake, Hear_handshake_grant, Hear_response, Hear_defer_end, Hear_defer_grant, heard, cleared, woken, begun_by}
 use Rattle.tp_model.specs.Arcs.{find_arc, is_live_with_peer, link_with, without_arc, with_dialogue, with_link}
 use Rattle.tp_model.specs.Transactions.{situation_of}
 use Rattle.tp_model.specs.Recovery.{owed, ask_owed, tell_superior, forget_to}
-use Rattle.tp_model.specs.Node.{Move, move, perform, phase_of, fresh_current, begin_chained, transact}
+use Rattle.tp_model.specs.Node.{is_end_deferred_at, Move, move, perform, phase_of, fresh_current, begin_chained, transact}
 use Rattle.tp_model.specs.Arrivals.{sight_at, sight_of, take_begin, take_abort, take_record, is_response, woken_by, take_on, refused_arrival}
 use Rattle.tp_laws.specs.Turns.{loses, is_outcome_told}
 use Rattle.tp_laws.proofs.Links.{link_without}
-use Rattle.tp_laws.specs.Moves.{prelude, begun_in, counted_in, are_spoken, heard_by, begun_by_record, may_put_off, wakes, IsChange, By_waking, By_hearing, By_beginning, By_leaving}
+use Rattle.tp_laws.specs.Moves.{prelude, begun_in, counted_in, are_spoken, closes_at, heard_by, begun_by_record, may_put_off, wakes, IsChange, By_waking, By_hearing, By_beginning, By_leaving}
 use Rattle.tp_laws.specs.Moves.{IsLate}
-use Rattle.tp_laws.specs.Steps.{carries_last, carry_last, IsLike, Steps}
-use Rattle.tp_laws.proofs.EveryMove.{step_chained, step_transact}
+use Rattle.tp_laws.specs.Steps.{carries_last, carry_last, is_deferred_by, puts_off_at, IsLike, Steps}
+use Rattle.tp_laws.proofs.EveryMove.{apart, ends_elsewhere, ends_dialogue, step_chained, step_transact}
 use Rattle.tp_laws.proofs.Alike.{counted_alike}
 
 -- ---- what is said in recovery
@@ -91,7 +91,7 @@ abbrev pub the : Addr → Mark → Mark → ℕ → DialogueRecord → Event
 the from x y q r = Event.Arrive from (PeerRecord.OnAssoc x y q r)
 
 step_took : (who : Who) (from : Addr) (x y : Mark) (q : ℕ) (r : DialogueRecord) (s : Digest) (R : Digest → Move → Type 0) → Steps who (the from x y q r) s R → IsLate s → (p : ℕ) → p ≡ from.node
-    → (d : Digest) → IsLike d s → ((n : ℕ) → loses (TxEvent.Took p r) n ≡ true → link_with d.arcs n ≡ Idle) → R d (transact who (TxEvent.Took p r) d)
+    → (d : Digest) → IsLike (the from x y q r) d s → ((n : ℕ) → loses (TxEvent.Took p r) n ≡ true → link_with d.arcs n ≡ Idle) → R d (transact who (TxEvent.Took p r) d)
 step_took who from x y q r s R k late p at d same gone =
     step_transact who (the from x y q r) s R k (TxEvent.Took p r) d same (λ c j. ap (λ n. TxEvent.Took n r) at)
     (λ c j. record { late = late c j; ok = λ h. cc (h); abort = λ n h. cc (h); ordered = λ h. cc (h); not_begun = λ arcs h. cc (h) })
@@ -103,10 +103,13 @@ step_hear who e s R k p h i d none by other =
     let g : Digest = record d { arcs = with_dialogue d.arcs p (heard h) } in
     k.changes_dialogue d p (heard h) (perform (TxOut.Tell i ∷ []) g) (By_hearing h by refl (λ j. absurd (other j))) (k.speaks g (TxOut.Tell i ∷ []) (rw none refl) (λ u h. absurd (cc (h)), λ z r h. absurd h) refl refl)
 
+comes : (from : Addr) (p : ℕ) → p ≡ from.node → (from.node == p) ≡ true
+comes from p at = grind (arith, nat_tests, at)
+
 step_abort_taken : (who : Who) (from : Addr) (x y : Mark) (q : ℕ) (s : Digest) (R : Digest → Move → Type 0) → Steps who (the from x y q DialogueRecord.UAbort) s R → IsLate s → (p : ℕ) → p ≡ from.node
-    → (d : Digest) → IsLike d s → R d (take_abort who p d)
+    → (d : Digest) → IsLike (the from x y q DialogueRecord.UAbort) d s → R d (take_abort who p d)
 unfolding take_abort
-step_abort_taken who from x y q s R k late p at d same = k.drops_arc d p (take_abort who p d) (go d.current refl)
+step_abort_taken who from x y q s R k late p at d same = k.drops_arc d p (take_abort who p d) (comes from p at) (go d.current refl)
   where
     g : Digest
     g = record d { arcs = without_arc d.arcs p }
@@ -116,13 +119,13 @@ step_abort_taken who from x y q s R k late p at d same = k.drops_arc d p (take_a
 
     go : (o : Option Current) → d.current ≡ o → R g (elim o as (λ _. Move) [ None ↦ perform (TxOut.Tell (Indication.UAbort p) ∷ []) g | Some c ↦ transact who (TxEvent.Took p DialogueRecord.UAbort) g ])
     go None i = k.speaks g (TxOut.Tell (Indication.UAbort p) ∷ []) refl (λ u h. absurd (cc (h)), λ z r h. absurd h) refl refl
-    go (Some c) i = step_took who from x y q DialogueRecord.UAbort s R k late p at g same (λ n h. gone_arc n (grind (arith, nat_tests, h)))
+    go (Some c) i = step_took who from x y q DialogueRecord.UAbort s R k late p at g (same.0, same.1, λ n off. ends_elsewhere d.arcs p n (apart (the from x y q DialogueRecord.UAbort) p n (comes from p at) off) ∙ same.2 n off) (λ n h. gone_arc n (grind (arith, nat_tests, h)))
 
 step_deferred : (who : Who) (from : Addr) (x y : Mark) (q : ℕ) (r : DialogueRecord) (s : Digest) (R : Digest → Move → Type 0) → Steps who (the from x y q r) s R → IsLate s → (p : ℕ) → p ≡ from.node
-    → (f : Dialogue → Dialogue) (d : Digest) → IsLike d s → ((n : ℕ) → loses (TxEvent.Took p r) n ≡ true → ⊥) → IsChange (the from x y q r) d p f → R d (transact who (TxEvent.Took p r) (record d { arcs = with_dialogue d.arcs p f }))
-step_deferred who from x y q r s R k late p at f d same none by =
+    → (f : Dialogue → Dialogue) (d : Digest) → IsLike (the from x y q r) d s → ((n : ℕ) → (puts_off_at (the from x y q r) n || closes_at (the from x y q r) n) ≡ false → is_end_deferred_at (with_dialogue d.arcs p f) n ≡ is_end_deferred_at d.arcs n) → ((n : ℕ) → loses (TxEvent.Took p r) n ≡ true → ⊥) → IsChange (the from x y q r) d p f → R d (transact who (TxEvent.Took p r) (record d { arcs = with_dialogue d.arcs p f }))
+step_deferred who from x y q r s R k late p at f d same aside none by =
     let g : Digest = record d { arcs = with_dialogue d.arcs p f } in
-    k.changes_dialogue d p f (transact who (TxEvent.Took p r) g) by (step_took who from x y q r s R k late p at g same (λ n h. absurd (none n h)))
+    k.changes_dialogue d p f (transact who (TxEvent.Took p r) g) by (step_took who from x y q r s R k late p at g (same.0, same.1, λ n off. aside n off ∙ same.2 n off) (λ n h. absurd (none n h)))
 
 pub on_none : (who : Who) (d : Digest) (from : Addr) (x y : Mark) (q : ℕ) (r : DialogueRecord) → refused_arrival who d from (PeerRecord.OnAssoc x y q r) ≡ None → find_arc d.arcs from.node ≡ None → ⊥
 unfolding refused_arrival
@@ -227,10 +230,32 @@ woken_on_begin who d from x y q t b h R k ok =
     (λ g a i at all. subst (λ (n : ℕ). R (woken_at n (record g { current = Some (fresh_current (Under t b a.peer)) })) (take_begin who a t b h (woken_by (DialogueRecord.Begin t b h) a.peer.node g))) at
     (begun_woken who (the from x y q (DialogueRecord.Begin t b h)) g t b h a R (begin_steps who d from x y q t b h R k g a i all) (ap (λ (n : ℕ). Some (n, h)) (sym at))))
 
+-- what is heard on one arc puts nothing off on another
+heard_off : (h : Heard) (x : Dialogue) → is_deferred_by h ≡ false → is_end_deferred (heard h x).deferral ≡ is_end_deferred x.deferral
+unfolding heard
+heard_off Hear_defer_end x i = absurd (cc (i))
+heard_off Hear_defer_grant x i = absurd (cc (i))
+heard_off h x i = grind (arith, i)
+
+pub cleared_off : (x : Dialogue) → is_end_deferred (cleared x).deferral ≡ is_end_deferred x.deferral
+unfolding cleared
+cleared_off x = refl
+
+heard_aside : (e : Event) (arcs : List Arc) (q : ℕ) (h : Heard) → heard_by e ≡ Some (q, h) → (p : ℕ) → (puts_off_at e p || closes_at e p) ≡ false → is_end_deferred_at (with_dialogue arcs q (heard h)) p ≡ is_end_deferred_at arcs p
+heard_aside e arcs q h by p off =
+    let mine : ((q == p) && is_deferred_by h) ≡ false = ap (λ (o : Option (ℕ × Heard)). elim o as (λ _. Bool) [ None ↦ false | Some v ↦ (v.0 == p) && is_deferred_by v.1 ]) (sym by) ∙ first_of _ _ _ off in
+    ends_dialogue arcs q (heard h) p (λ x at. heard_off h x (second_of (q == p) (is_deferred_by h) mine at))
+  where
+    first_of : (x y z : Bool) → ((x || y) || z) ≡ false → y ≡ false
+    first_of x y z h = grind (arith, h)
+
+    second_of : (x y : Bool) → (x && y) ≡ false → x ≡ true → y ≡ false
+    second_of x y h i = grind (arith, h, i)
+
 step_taken : (who : Who) (from : Addr) (x y : Mark) (q : ℕ) (r : DialogueRecord) (s : Digest) (R : Digest → Move → Type 0) → Steps who (the from x y q r) s R → IsLate s
     → (a : Arc) → a.peer.node ≡ from.node → ((t : Aaid) (b : BranchId) (h : Holder) → r ≡ DialogueRecord.Begin t b h → ⊥)
-    → (d : Digest) → IsLike d s → (r ≡ DialogueRecord.DeferEnd → may_put_off d a.peer.node ≡ true) → R d (take_record who a r d)
-step_taken who from x y q DialogueRecord.EndDialogue s R k late a at begins d same off = k.speaks d (TxOut.Tell (Indication.EndDialogue a.peer.node) ∷ TxOut.Close a.peer.node ∷ []) refl (λ u h. absurd (cc (h)), λ z r h. absurd h) refl refl
+    → (d : Digest) → IsLike (the from x y q r) d s → (r ≡ DialogueRecord.DeferEnd → may_put_off d a.peer.node ≡ true) → R d (take_record who a r d)
+step_taken who from x y q DialogueRecord.EndDialogue s R k late a at begins d same off = k.speaks d (TxOut.Tell (Indication.EndDialogue a.peer.node) ∷ TxOut.Close a.peer.node ∷ []) refl (λ u h. absurd (cc (h)), λ z r h. absurd h) (rw (comes from a.peer.node at) refl) refl
 step_taken who from x y q (DialogueRecord.UserData xs) s R k late a at begins d same off = step_hear who _ s R k a.peer.node Hear_data (Indication.UserData a.peer.node xs) d refl (ap (λ (n : ℕ). Some (n, Hear_data)) (sym at)) (λ i. cc (i))
 step_taken who from x y q DialogueRecord.UError s R k late a at begins d same off = step_hear who _ s R k a.peer.node Hear_error (Indication.UError a.peer.node) d refl (ap (λ (n : ℕ). Some (n, Hear_error)) (sym at)) (λ i. cc (i))
 step_taken who from x y q DialogueRecord.UAbort s R k late a at begins d same off = step_abort_taken who from x y q s R k late a.peer.node at d same
@@ -239,11 +264,11 @@ step_taken who from x y q DialogueRecord.AskControl s R k late a at begins d sam
 step_taken who from x y q DialogueRecord.Handshake s R k late a at begins d same off = step_hear who _ s R k a.peer.node Hear_handshake (Indication.Handshake a.peer.node) d refl (ap (λ (n : ℕ). Some (n, Hear_handshake)) (sym at)) (λ i. cc (i))
 step_taken who from x y q DialogueRecord.HandshakeGrant s R k late a at begins d same off = step_hear who _ s R k a.peer.node Hear_handshake_grant (Indication.HandshakeGrant a.peer.node) d refl (ap (λ (n : ℕ). Some (n, Hear_handshake_grant)) (sym at)) (λ i. cc (i))
 step_taken who from x y q DialogueRecord.Response s R k late a at begins d same off = step_hear who _ s R k a.peer.node Hear_response (Indication.HandshakeConfirm a.peer.node) d refl (ap (λ (n : ℕ). Some (n, Hear_response)) (sym at)) (λ i. cc (i))
-step_taken who from x y q DialogueRecord.DeferEnd s R k late a at begins d same off = step_deferred who from x y q DialogueRecord.DeferEnd s R k late a.peer.node at (heard Hear_defer_end) d same (λ n i. absurd (cc (i))) (By_hearing Hear_defer_end (ap (λ (n : ℕ). Some (n, Hear_defer_end)) (sym at)) refl (λ i. off refl))
-step_taken who from x y q DialogueRecord.DeferGrant s R k late a at begins d same off = step_deferred who from x y q DialogueRecord.DeferGrant s R k late a.peer.node at (heard Hear_defer_grant) d same (λ n i. absurd (cc (i))) (By_hearing Hear_defer_grant (ap (λ (n : ℕ). Some (n, Hear_defer_grant)) (sym at)) refl (λ i. cc (i)))
+step_taken who from x y q DialogueRecord.DeferEnd s R k late a at begins d same off = step_deferred who from x y q DialogueRecord.DeferEnd s R k late a.peer.node at (heard Hear_defer_end) d same (heard_aside (the from x y q DialogueRecord.DeferEnd) d.arcs a.peer.node Hear_defer_end (ap (λ (n : ℕ). Some (n, Hear_defer_end)) (sym at))) (λ n i. absurd (cc (i))) (By_hearing Hear_defer_end (ap (λ (n : ℕ). Some (n, Hear_defer_end)) (sym at)) refl (λ i. off refl))
+step_taken who from x y q DialogueRecord.DeferGrant s R k late a at begins d same off = step_deferred who from x y q DialogueRecord.DeferGrant s R k late a.peer.node at (heard Hear_defer_grant) d same (heard_aside (the from x y q DialogueRecord.DeferGrant) d.arcs a.peer.node Hear_defer_grant (ap (λ (n : ℕ). Some (n, Hear_defer_grant)) (sym at))) (λ n i. absurd (cc (i))) (By_hearing Hear_defer_grant (ap (λ (n : ℕ). Some (n, Hear_defer_grant)) (sym at)) refl (λ i. cc (i)))
 step_taken who from x y q (DialogueRecord.Begin t b h) s R k late a at begins d same off = absurd (begins t b h refl)
-step_taken who from x y q DialogueRecord.Left s R k late a at begins d same off = step_deferred who from x y q DialogueRecord.Left s R k late a.peer.node at cleared d same (λ n i. absurd (cc (i))) (By_leaving (ap (λ (n : ℕ). Some n) (sym at)) refl)
-step_taken who from x y q DialogueRecord.LeftEnd s R k late a at begins d same off = step_deferred who from x y q DialogueRecord.LeftEnd s R k late a.peer.node at cleared d same (λ n i. absurd (cc (i))) (By_leaving (ap (λ (n : ℕ). Some n) (sym at)) refl)
+step_taken who from x y q DialogueRecord.Left s R k late a at begins d same off = step_deferred who from x y q DialogueRecord.Left s R k late a.peer.node at cleared d same (λ n off. ends_dialogue d.arcs a.peer.node cleared n (λ z i. cleared_off z)) (λ n i. absurd (cc (i))) (By_leaving (ap (λ (n : ℕ). Some n) (sym at)) refl)
+step_taken who from x y q DialogueRecord.LeftEnd s R k late a at begins d same off = step_deferred who from x y q DialogueRecord.LeftEnd s R k late a.peer.node at cleared d same (λ n off. ends_dialogue d.arcs a.peer.node cleared n (λ z i. cleared_off z)) (λ n i. absurd (cc (i))) (By_leaving (ap (λ (n : ℕ). Some n) (sym at)) refl)
 step_taken who from x y q DialogueRecord.Prepare s R k late a at begins d same off = step_took who from x y q DialogueRecord.Prepare s R k late a.peer.node at d same (λ n i. absurd (cc (i)))
 step_taken who from x y q DialogueRecord.Ready s R k late a at begins d same off = step_took who from x y q DialogueRecord.Ready s R k late a.peer.node at d same (λ n i. absurd (cc (i)))
 step_taken who from x y q DialogueRecord.Commit s R k late a at begins d same off = step_took who from x y q DialogueRecord.Commit s R k late a.peer.node at d same (λ n i. absurd (cc (i)))
@@ -251,8 +276,16 @@ step_taken who from x y q (DialogueRecord.Done r) s R k late a at begins d same 
 step_taken who from x y q DialogueRecord.Rollback s R k late a at begins d same off = step_took who from x y q DialogueRecord.Rollback s R k late a.peer.node at d same (λ n i. absurd (cc (i)))
 step_taken who from x y q (DialogueRecord.RolledBack r) s R k late a at begins d same off = step_took who from x y q (DialogueRecord.RolledBack r) s R k late a.peer.node at d same (λ n i. absurd (cc (i)))
 
-pub woken_current : (r : DialogueRecord) (p : ℕ) (d : Digest) → IsLike (woken_by r p d) d
-woken_current r p d = (grind arith, grind arith)
+pub woken_off : (x : Dialogue) → is_end_deferred (woken x).deferral ≡ is_end_deferred x.deferral
+unfolding woken
+woken_off x = refl
+
+pub woken_current : (e : Event) (r : DialogueRecord) (p : ℕ) (d : Digest) → IsLike e (woken_by r p d) d
+woken_current e r p d = (grind arith, grind arith, λ n off. go n (is_response r))
+  where
+    go : (n : ℕ) (b : Bool) → is_end_deferred_at (if b then d else record d { arcs = with_dialogue d.arcs p woken }).arcs n ≡ is_end_deferred_at d.arcs n
+    go n true = refl
+    go n false = ends_dialogue d.arcs p woken n (λ x i. woken_off x)
 
 -- a record that is no response wakes its arc
 woken_step : (who : Who) (e : Event) (s : Digest) (R : Digest → Move → Type 0) → Steps who e s R → (r : DialogueRecord) (p : ℕ) → (is_response r ≡ false → wakes e p ≡ true) → (d : Digest) (m : Move) → R (woken_by r p d) m → R d m
@@ -302,6 +335,11 @@ put_off_there who d from r a at live acts is =
     let heard : sight_at who d a DialogueRecord.DeferEnd ≡ Acts = subst (λ (w : DialogueRecord). sight_at who d a w ≡ Acts) is acts in
     subst (λ (w : DialogueRecord). may_put_off (woken_by w a.peer.node g) a.peer.node ≡ true) (sym is) (still_put_off d a.peer.node (ap (is_live_with_peer d.arcs) at ∙ live) (end_heard who d a heard))
 
+like_counted : (from : Addr) (x y : Mark) (q : ℕ) (r : DialogueRecord) (d : Digest) (p : ℕ) → p ≡ from.node → IsLike (the from x y q r) (woken_by r p (record d { arcs = with_link d.arcs p with_one_taken })) (counted_in d from)
+like_counted from x y q r d p at =
+    let w = woken_current (the from x y q r) r p (record d { arcs = with_link d.arcs p with_one_taken }) in
+    (w.0, w.1, λ n off. w.2 n off ∙ ap (λ (k : ℕ). is_end_deferred_at (with_link d.arcs k with_one_taken) n) at)
+
 step_on : (who : Who) (d : Digest) (from : Addr) (x y : Mark) (q : ℕ) (r : DialogueRecord) (R : Digest → Move → Type 0) → Steps who (the from x y q r) (counted_in d from) R → IsLate d
     → ((t : Aaid) (b : BranchId) (h : Holder) → r ≡ DialogueRecord.Begin t b h → ⊥) → (a : Arc) → a.peer.node ≡ from.node → is_live_with_peer d.arcs from.node ≡ true → R (counted_in d from) (take_on who a r d)
 step_on who d from x y q r R k late other a at live =
@@ -321,7 +359,7 @@ step_on who d from x y q r R k late other a at live =
     u = woken_by r p g
 
     on : (v : Sight) → sight_at who d a r ≡ v → R u (elim v as (λ _. Move) [ Acts ↦ take_record who a r u | Nothing_happens ↦ move [] u | Out_of_phase ↦ move [] u ])
-    on Acts i = step_taken who from x y q r (counted_in d from) R k late a at other u (woken_current r p g) (put_off_there who d from r a at live i)
+    on Acts i = step_taken who from x y q r (counted_in d from) R k late a at other u (like_counted from x y q r d p at) (put_off_there who d from r a at live i)
     on Nothing_happens i = k.still u
     on Out_of_phase i = k.still u
 
@@ -340,7 +378,7 @@ pub woken_on_other : (who : Who) (d : Digest) (from : Addr) (x y : Mark) (q : �
     → R (woken_at from.node (counted_in d from)) (elim (find_arc d.arcs from.node) as (λ _. Move) [ None ↦ move [] d | Some a ↦ take_on who a r d ])
 woken_on_other who d from x y q r R k late other plain ok = go (find_arc d.arcs from.node) refl
   where
-    on : (a : Arc) → a.peer.node ≡ from.node → (u : Digest) → IsLike u d → (v : Sight) → (v ≡ Acts → r ≡ DialogueRecord.DeferEnd → may_put_off u a.peer.node ≡ true)
+    on : (a : Arc) → a.peer.node ≡ from.node → (u : Digest) → IsLike (the from x y q r) u (counted_in d from) → (v : Sight) → (v ≡ Acts → r ≡ DialogueRecord.DeferEnd → may_put_off u a.peer.node ≡ true)
         → R u (elim v as (λ _. Move) [ Acts ↦ take_record who a r u | Nothing_happens ↦ move [] u | Out_of_phase ↦ move [] u ])
     on a at u same Acts off = step_taken who from x y q r (counted_in d from) R k late a at other u same (off refl)
     on a at u same Nothing_happens off = k.still u
@@ -350,7 +388,7 @@ woken_on_other who d from x y q r R k late other plain ok = go (find_arc d.arcs 
     taken a at =
         let g : Digest = record d { arcs = with_link d.arcs a.peer.node with_one_taken } in
         let same : woken_by r a.peer.node g ≡ woken_at a.peer.node g = rw (plain, woken_by) refl in
-        subst (λ (u : Digest). R u (take_on who a r d)) same (on a at (woken_by r a.peer.node g) (woken_current r a.peer.node g) (sight_at who d a r) (put_off_there who d from r a at (on_live who d from x y q r ok)))
+        subst (λ (u : Digest). R u (take_on who a r d)) same (on a at (woken_by r a.peer.node g) (like_counted from x y q r d a.peer.node at) (sight_at who d a r) (put_off_there who d from r a at (on_live who d from x y q r ok)))
 
     go : (o : Option Arc) → find_arc d.arcs from.node ≡ o → R (woken_at from.node (counted_in d from)) (elim o as (λ _. Move) [ None ↦ move [] d | Some a ↦ take_on who a r d ])
     go None i = absurd (on_none who d from x y q r ok i)

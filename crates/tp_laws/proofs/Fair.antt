@@ -56,7 +56,7 @@ fair_outs e s p t outs none = fair_mute e s p t (turn outs t) none refl refl ref
 
 -- ---- rows
 
-find_put : (rows : List Row) (q : ℕ) (r n : Row) (p : ℕ) → find_row rows q ≡ Some r → n.branch.peer.node ≡ q → find_row (put_row rows n) p ≡ (if q == p then Some n else find_row rows p)
+pub find_put : (rows : List Row) (q : ℕ) (r n : Row) (p : ℕ) → find_row rows q ≡ Some r → n.branch.peer.node ≡ q → find_row (put_row rows n) p ≡ (if q == p then Some n else find_row rows p)
 find_put [] q r n p h i = absurd cc
 find_put (w ∷ rows) q r n p h i = grind (arith, nat_tests, find_put rows q r n p)
 

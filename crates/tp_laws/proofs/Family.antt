@@ -11,7 +11,7 @@ use Rattle.tp_model.specs.Parts.{Origin, Event, Entry}
 use Rattle.tp_model.specs.History.{records}
 use Rattle.tp_model.specs.Outcomes.{decided}
 use Rattle.tp_model.specs.Questions.{is_at}
-use Rattle.tp_model.specs.World.{Node, number_of, addr_of, find_node}
+use Rattle.tp_model.specs.World.{Node, Frame, number_of, addr_of, find_node}
 use Rattle.tp_model.specs.Happenings.{Happening, run}
 use Rattle.tp_model.specs.Promises.{IsBranchOf, is_begin_of, has_begun}
 use Rattle.tp_model.specs.Legal.{IsGrown}
@@ -81,45 +81,44 @@ at_same (Some a) p q h i = grind (arith, nat_tests, h, i)
 pub history_is : (ns : List Node) (n : ℕ) (x : Node) → find_node ns n ≡ Some x → history_at ns n ≡ x.history
 history_is ns n x h = rw (h, history_at) refl
 
-pub commits_up : (es : List Happening) (t : Aaid) (b : BranchId) (x y : Node) → IsBranchOf (run es) t b x y → decided y.origin t y.history ≡ true → decided x.origin t x.history ≡ true
-commits_up es t b x y branch done = go (commit_taken y.origin y.superior y.history t (good.fresh (number_of y) y branch.child.here) legal_y done)
+pub commits_above : (ns : List Node) (fs : List Frame) (t : Aaid) (x y : Node) → IsGood ns fs → find_node ns (number_of x) ≡ Some x → find_node ns (number_of y) ≡ Some y → is_at y.superior (number_of x) ≡ true → (is_own y.origin.who t ≡ true → ⊥)
+    → decided y.origin t y.history ≡ true → decided x.origin t x.history ≡ true
+commits_above ns fs t x y good hx hy above foreign done = go (commit_taken y.origin y.superior y.history t (good.fresh (number_of y) y hy) legal_y done)
   where
-    ns : List Node
-    ns = (run es).nodes
-
-    good : IsGood ns (run es).frames
-    good = good_run es
-
     legal_y : IsGrown y.origin y.superior y.history
-    legal_y = good.legal (number_of y) y branch.child.here
+    legal_y = good.legal (number_of y) y hy
 
     legal_x : IsGrown x.origin x.superior x.history
-    legal_x = good.legal (number_of x) x branch.superior.here
+    legal_x = good.legal (number_of x) x hx
 
     fresh_x : x.origin.start.records ≡ []
-    fresh_x = good.fresh (number_of x) x branch.superior.here
-
-    begun : Begun y.superior t (addr_of x) y.history
-    begun = begun_up y.origin y.superior y.history t b (addr_of x) legal_y branch.begun
+    fresh_x = good.fresh (number_of x) x hx
 
     some_node : (u v : Node) → Some u ≡ Some v → u ≡ v
     some_node u v h = cc (h)
 
     go : ((t.owner ≡ y.origin.who.site) × (t.mark.node ≡ y.origin.who.node)) ⊎ OrderTaken y.superior y.history t → decided x.origin t x.history ≡ true
-    go (inl own) =
-        let mine : is_own y.origin.who t ≡ true = grind (arith, nat_tests, own) in
-        absurd (cc (begun.taken, own_untaken y.origin t y.history ((unique_run es).once (number_of y) y branch.child.here) mine))
+    go (inl own) = absurd (foreign (grind (arith, nat_tests, own)))
     go (inr (Over_association p m k c before rest at taken last)) =
-        let same : p ≡ number_of x = at_same y.superior p (number_of x) at begun.above in
-        let there : find_node ns p ≡ Some x = ap (find_node ns) same ∙ branch.superior.here in
-        let pre = prefix_list ns (run es).frames good (number_of y) p m k in
+        let same : p ≡ number_of x = at_same y.superior p (number_of x) at above in
+        let there : find_node ns p ≡ Some x = ap (find_node ns) same ∙ hx in
+        let pre = prefix_list ns fs good (number_of y) p m k in
         let sent : sent_on m k (number_of y) x.history ≡ (before ++ DialogueRecord.Commit ∷ rest) ++ pre.0 =
         ap (sent_on m k (number_of y)) (sym (history_is ns p x there)) ∙ pre.1
-        ∙ ap (λ (h : List Entry). taken_on m k p h ++ pre.0) (history_is ns (number_of y) y branch.child.here) ∙ ap (λ (rs : List DialogueRecord). rs ++ pre.0) taken in
+        ∙ ap (λ (h : List Entry). taken_on m k p h ++ pre.0) (history_is ns (number_of y) y hy) ∙ ap (λ (rs : List DialogueRecord). rs ++ pre.0) taken in
         placed_under is_order (is_ordered (records x.origin x.history)) (Some (t, c)) DialogueRecord.Commit before rest pre.0 (sent_on m k (number_of y) x.history) sent last refl ((paired_law x.origin x.superior x.history fresh_x legal_x).orders (number_of y) m k)
     go (inr (In_recovery a r at orders took)) =
-        let same : a.node ≡ number_of x = at_same y.superior a.node (number_of x) at begun.above in
-        let s : Sender ns a (number_of y) r = was_sent ns (run es).frames a (number_of y) r good.sent (good.taken (number_of y) y a r branch.child.here took) in
-        let one : s.node ≡ x = some_node s.node x (sym s.found ∙ ap (find_node ns) same ∙ branch.superior.here) in
+        let same : a.node ≡ number_of x = at_same y.superior a.node (number_of x) at above in
+        let s : Sender ns a (number_of y) r = was_sent ns fs a (number_of y) r good.sent (good.taken (number_of y) y a r hy took) in
+        let one : s.node ≡ x = some_node s.node x (sym s.found ∙ ap (find_node ns) same ∙ hx) in
         let sent : HasSent x.history s.to r = subst (λ (v : Node). HasSent v.history s.to r) one s.sent in
         sent_decided x.origin x.superior x.history t s.to r fresh_x legal_x orders sent
+
+pub commits_up : (es : List Happening) (t : Aaid) (b : BranchId) (x y : Node) → IsBranchOf (run es) t b x y → decided y.origin t y.history ≡ true → decided x.origin t x.history ≡ true
+commits_up es t b x y branch done = commits_above (run es).nodes (run es).frames t x y (good_run es) branch.superior.here branch.child.here begun.above foreign done
+  where
+    begun : Begun y.superior t (addr_of x) y.history
+    begun = begun_up y.origin y.superior y.history t b (addr_of x) ((good_run es).legal (number_of y) y branch.child.here) branch.begun
+
+    foreign : is_own y.origin.who t ≡ true → ⊥
+    foreign mine = cc (begun.taken, own_untaken y.origin t y.history ((unique_run es).once (number_of y) y branch.child.here) mine)

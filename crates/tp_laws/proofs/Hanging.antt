@@ -230,7 +230,7 @@ staying_moves who e t p s = record {
   chain = λ d a f one two quiet. staying_then e t p s d a f one two;
   speaks = λ d outs h own said. staying_perform e t p s d outs h;
   changes_dialogue = λ d q f m by one. record { late = one.late; stays = one.stays; begins = one.begins };
-  drops_arc = λ d q m one. record { late = one.late; stays = one.stays; begins = one.begins };
+  drops_arc = λ d q m at one. record { late = one.late; stays = one.stays; begins = one.begins };
   notes_kept = λ d ks m held one. record { late = one.late; stays = one.stays; begins = one.begins };
   keeps = λ d k f held. staying_keep e t p s d k f;
   turns = λ d c f now at asked put gone. staying_turned who e f t p s d c now at asked put;

@@ -50,15 +50,15 @@ abbrev pub are_below : Option Addr → List Branch → Bool
 are_below up [] = true
 are_below up (b ∷ bs) = not (is_at up b.peer.node) && are_below up bs
 
-abbrev kin_below : Option Addr → List Child → Bool
+abbrev pub kin_below : Option Addr → List Child → Bool
 kin_below up [] = true
 kin_below up (c ∷ cs) = not (is_at up c.addr.node) && kin_below up cs
 
-below_is : (up : Option Addr) (bs : List Branch) → are_below up bs ≡ kin_below up (kin bs)
+pub below_is : (up : Option Addr) (bs : List Branch) → are_below up bs ≡ kin_below up (kin bs)
 below_is up [] = refl
 below_is up (b ∷ bs) = ap (λ v. not (is_at up b.peer.node) && v) (below_is up bs)
 
-below_end : (up : Option Addr) (cs : List Child) (c : Child) → kin_below up cs ≡ true → is_at up c.addr.node ≡ false → kin_below up (cs ++ c ∷ []) ≡ true
+pub below_end : (up : Option Addr) (cs : List Child) (c : Child) → kin_below up cs ≡ true → is_at up c.addr.node ≡ false → kin_below up (cs ++ c ∷ []) ≡ true
 below_end up [] c h off = grind (arith, off)
 below_end up (d ∷ ds) c h off =
     let rest : kin_below up (ds ++ c ∷ []) ≡ true = below_end up ds c (grind (arith, h)) off in
@@ -191,7 +191,7 @@ headed_moves up who e s = record {
     λ p. (linked p).changes_dialogue d q f m by (one.0 p),
     λ placed h. one.1 (placed_arcs up d (with_dialogue d.arcs q f) (λ p off. ap is_live (link_dialogue d.arcs q f p) ∙ off) placed) h,
   );
-  drops_arc = λ d q m one. (λ p. (linked p).drops_arc d q m (one.0 p), λ placed h. one.1 (placed_arcs up d (without_arc d.arcs q) (dead_without d.arcs q) placed) h);
+  drops_arc = λ d q m at one. (λ p. (linked p).drops_arc d q m at (one.0 p), λ placed h. one.1 (placed_arcs up d (without_arc d.arcs q) (dead_without d.arcs q) placed) h);
   notes_kept = λ d ks m held one. (λ p. (linked p).notes_kept d ks m held (one.0 p), λ placed h. one.1 placed h);
   keeps = λ d k f held. (λ p. (linked p).keeps d k f held, λ placed h. h);
   turns = λ d c f now at asked put gone. (λ p. (linked p).turns d c f now at asked put gone, λ placed h. headed_turned up who f d c now put h);

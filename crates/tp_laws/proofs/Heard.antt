@@ -276,7 +276,7 @@ heard_moves who e s p sup fall shut reads = record {
   changes_dialogue = λ d q f m by one up lives.
       let same : link_with (with_dialogue d.arcs q f) p ≡ link_with d.arcs p = link_dialogue d.arcs q f p in
       heard_arcs p sup fall shut s d (record d { arcs = with_dialogue d.arcs q f }) m refl refl (λ h. ap is_live (sym same) ∙ h) (one up (λ h. lives (ap is_live (sym same) ∙ h)));
-  drops_arc = λ d q m one up lives. heard_arcs p sup fall shut s d (record d { arcs = without_arc d.arcs q }) m refl refl (λ h. dropped_live d.arcs q p h) (one up (λ h. lives (dropped_live d.arcs q p h)));
+  drops_arc = λ d q m at one up lives. heard_arcs p sup fall shut s d (record d { arcs = without_arc d.arcs q }) m refl refl (λ h. dropped_live d.arcs q p h) (one up (λ h. lives (dropped_live d.arcs q p h)));
   notes_kept = λ d ks m held one up lives. heard_arcs p sup fall shut s d (record d { kept = ks }) m refl refl (λ h. h) (one up lives);
   keeps = λ d k f held up lives. hush_keep p sup fall shut s d k f;
   turns = λ d c f now at asked put gone up lives. heard_turned who e f d s c p sup fall shut reads now at asked put gone;

@@ -22,7 +22,7 @@ use Rattle.tp_laws.specs.Upward.{voting, voting_from, each_up, Deeds, holds_at, 
 use Rattle.tp_laws.specs.Members.{IsUnique}
 use Rattle.tp_laws.specs.Heeded.{is_heeded, heeds_event, heeds, HeedsBranches}
 use Rattle.tp_laws.proofs.Nodes.{find_put, find_append}
-use Rattle.tp_laws.proofs.Words.{keys_append, vote_append, commit_more, ready_more}
+use Rattle.tp_laws.proofs.Words.{keys_append, vote_append, commit_more, ready_more, damage_more}
 use Rattle.tp_laws.proofs.Upwords.{up_append, say_wider}
 use Rattle.tp_laws.proofs.Folds.{key_before}
 use Rattle.tp_laws.proofs.Traced.{traced_law}
@@ -41,6 +41,7 @@ record Grows (g k : Deeds) (rs ls : List LogRec) : Type 0 where
   rolled : (t : Aaid) → g.rolled t ≡ true → k.rolled t ≡ true
   left : (t : Aaid) → g.left t ≡ true → k.left t ≡ true
   completed : (t : Aaid) → g.completed t ≡ true → k.completed t ≡ true
+  damaged : (t : Aaid) → g.damaged t ≡ true → k.damaged t ≡ true
   voted : (ks : List BranchKey) (n : ℕ) → is_voted ks rs n ≡ true → is_voted ks ls n ≡ true
 
 holds_more : (ks more : List BranchKey) (n : ℕ) (f g : Aaid → Bool) → ((t : Aaid) → f t ≡ true → g t ≡ true) → holds_at ks n f ≡ true → holds_at (ks ++ more) n g ≡ true
@@ -69,7 +70,7 @@ vote_kept true c d f h = f h
 heeded_more : (g k : Deeds) (rs ls : List LogRec) → Grows g k rs ls → (ks : List BranchKey) (n : ℕ) (v : Bool) (r : DialogueRecord) → is_heeded ks g rs n v r ≡ true → is_heeded ks k ls n v r ≡ true
 heeded_more g k rs ls w ks n v r h =
     both_true (may_say ks k n v r) (not (is_vote r) || is_voted ks ls n)
-    (say_wider ks ks g k (λ m. (λ i. holds_grown ks m g.committed k.committed w.committed i, λ i. holds_grown ks m g.rolled k.rolled w.rolled i, λ i. holds_grown ks m g.left k.left w.left i, λ i. holds_grown ks m g.completed k.completed w.completed i)) n v r (and_left (may_say ks g n v r) (not (is_vote r) || is_voted ks rs n) h))
+    (say_wider ks ks g k (λ m. (λ i. holds_grown ks m g.committed k.committed w.committed i, λ i. holds_grown ks m g.rolled k.rolled w.rolled i, λ i. holds_grown ks m g.left k.left w.left i, λ i. holds_grown ks m g.completed k.completed w.completed i, λ i. holds_grown ks m g.damaged k.damaged w.damaged i)) n v r (and_left (may_say ks g n v r) (not (is_vote r) || is_voted ks rs n) h))
     (vote_kept (is_vote r) (is_voted ks rs n) (is_voted ks ls n) (w.voted ks n) (and_right (may_say ks g n v r) (not (is_vote r) || is_voted ks rs n) h))
 
 or_kept : (b c d : Bool) → (c ≡ true → d ≡ true) → (b || c) ≡ true → (b || d) ≡ true
@@ -96,6 +97,7 @@ grown o e h = record {
   rolled = λ t i. let r : rolled o t h ≡ true = i in rw r (grind arith);
   left = λ t i. let r : has_left o t h ≡ true = i in rw r (grind arith);
   completed = λ t i. let r : completed_none o t h ≡ true = i in rw r (grind arith);
+  damaged = λ t i. damage_more t e.rec (records o h) i;
   voted = λ ks n i. go ks n (slice_get ks n) refl i;
 }
   where
@@ -121,13 +123,13 @@ zero_more : (n : ℕ) → n + 0 ≡ n
 zero_more n = omega arith
 
 -- of all that was sent, this word
-said_there : (ks : List BranchKey) (g : Deeds) (before rest : List DialogueRecord) (r : DialogueRecord) → each_up (may_say ks g) 0 false (before ++ r ∷ rest) ≡ true → may_say ks g (ends_in before) (voting_from false before) r ≡ true
+pub said_there : (ks : List BranchKey) (g : Deeds) (before rest : List DialogueRecord) (r : DialogueRecord) → each_up (may_say ks g) 0 false (before ++ r ∷ rest) ≡ true → may_say ks g (ends_in before) (voting_from false before) r ≡ true
 said_there ks g before rest r h =
     let tail = and_right (each_up (may_say ks g) 0 false before) (each_up (may_say ks g) (ends_in before + 0) (voting_from false before) (r ∷ rest)) (sym (up_append (may_say ks g) 0 false before (r ∷ rest)) ∙ h) in
     let at : each_up (may_say ks g) (ends_in before) (voting_from false before) (r ∷ rest) ≡ true = subst (λ (n : ℕ). each_up (may_say ks g) n (voting_from false before) (r ∷ rest) ≡ true) (zero_more (ends_in before)) tail in
     and_left (may_say ks g (ends_in before) (voting_from false before) r) (each_up (may_say ks g) (ends r + ends_in before) (voting (voting_from false before) r) rest) at
 
-voted_there : (f : ℕ → Bool) (before rest : List DialogueRecord) (r : DialogueRecord) → each_vote f 0 (before ++ r ∷ rest) ≡ true → (not (is_vote r) || f (ends_in before)) ≡ true
+pub voted_there : (f : ℕ → Bool) (before rest : List DialogueRecord) (r : DialogueRecord) → each_vote f 0 (before ++ r ∷ rest) ≡ true → (not (is_vote r) || f (ends_in before)) ≡ true
 voted_there f before rest r h =
     let tail = and_right (each_vote f 0 before) (each_vote f (ends_in before + 0) (r ∷ rest)) (sym (vote_append f 0 before (r ∷ rest)) ∙ h) in
     let at : each_vote f (ends_in before) (r ∷ rest) ≡ true = subst (λ (n : ℕ). each_vote f n (r ∷ rest) ≡ true) (zero_more (ends_in before)) tail in
@@ -143,12 +145,12 @@ voted_wide ks more rs n v = go (slice_get ks n) refl
 some_node : (u v : Node) → Some u ≡ Some v → u ≡ v
 some_node u v h = cc (h)
 
-word_taken : (ns : List Node) (fs : List Frame) (x y : Node) (a : Addr) (m k : Mark) (q : ℕ) (r : DialogueRecord) → Step ns fs x (Event.Arrive a (PeerRecord.OnAssoc m k q r)) → IsUnique ns → find_node ns (number_of y) ≡ Some y → is_at y.superior (number_of x) ≡ true → a.node ≡ number_of y
+pub word_taken : (ns : List Node) (fs : List Frame) (x y : Node) (a : Addr) (m k : Mark) (q : ℕ) (r : DialogueRecord) → Step ns fs x (Event.Arrive a (PeerRecord.OnAssoc m k q r)) → IsUnique ns → find_node ns (number_of y) ≡ Some y → is_at y.superior (number_of x) ≡ true → a.node ≡ number_of y
     → is_heeded (begun_keys (sent_on m k (number_of y) x.history)) (deeds_of y.origin y.history) (records y.origin y.history) (ends_in (taken_on m k (number_of y) x.history)) (voting_from false (taken_on m k (number_of y) x.history)) r ≡ true
 word_taken ns fs x y a m k q r st unique here under at =
     both_true (may_say (begun_keys (sent_on m k (number_of y) x.history)) g n v r) (not (is_vote r) || is_voted (begun_keys (sent_on m k (number_of y) x.history)) rs n)
     (subst (λ (ks : List BranchKey). may_say ks g n v r ≡ true) (sym wide)
-    (say_wider heard (heard ++ begun_keys down.0) g g (λ j. (λ i. holds_more heard (begun_keys down.0) j g.committed g.committed (λ t h. h) i, λ i. holds_more heard (begun_keys down.0) j g.rolled g.rolled (λ t h. h) i, λ i. holds_more heard (begun_keys down.0) j g.left g.left (λ t h. h) i, λ i. holds_more heard (begun_keys down.0) j g.completed g.completed (λ t h. h) i)) n v r
+    (say_wider heard (heard ++ begun_keys down.0) g g (λ j. (λ i. holds_more heard (begun_keys down.0) j g.committed g.committed (λ t h. h) i, λ i. holds_more heard (begun_keys down.0) j g.rolled g.rolled (λ t h. h) i, λ i. holds_more heard (begun_keys down.0) j g.left g.left (λ t h. h) i, λ i. holds_more heard (begun_keys down.0) j g.completed g.completed (λ t h. h) i, λ i. holds_more heard (begun_keys down.0) j g.damaged g.damaged (λ t h. h) i)) n v r
     (said_there heard g before next.0 r (subst (λ (l : List DialogueRecord). each_up (may_say heard g) 0 false l ≡ true) sent (speaks.words (number_of x) m k under)))))
     (subst (λ (ks : List BranchKey). (not (is_vote r) || is_voted ks rs n) ≡ true) (sym wide)
     (vote_kept (is_vote r) (is_voted heard rs n) (is_voted (heard ++ begun_keys down.0) rs n) (voted_wide heard (begun_keys down.0) rs n)

@@ -224,7 +224,7 @@ gave_handshake who d q ok = go (find_arc d.arcs q) refl
 
 -- ---- a record that gives control
 
-silenced : (who : Who) (d : Digest) (p : ℕ) (c : Current) → d.current ≡ Some c → is_under_at c.key p ≡ true → is_active c.phase ≡ false → is_nil c.phase ≡ false → find_branch c.branches p ≡ None → is_silenced (situation_at who d p) ≡ true
+pub silenced : (who : Who) (d : Digest) (p : ℕ) (c : Current) → d.current ≡ Some c → is_under_at c.key p ≡ true → is_active c.phase ≡ false → is_nil c.phase ≡ false → find_branch c.branches p ≡ None → is_silenced (situation_at who d p) ≡ true
 unfolding situation_of
 silenced who d p c now under done late bare = rw (now, situation_at) there
   where

@@ -273,9 +273,9 @@ holding_moves who e s p sup fall shut none above h = record {
       let same : link_with (with_dialogue d.arcs q f) p ≡ link_with d.arcs p = link_dialogue d.arcs q f p in
       let x = one up (λ l. lives (ap is_live (sym same) ∙ l)) in
       (h.changes_dialogue d q f m by (λ u l. x.0) up lives, λ live. holding_after g p d (record d { arcs = with_dialogue d.arcs q f }) m refl (changed d q f by) (x.1 live));
-  drops_arc = λ d q m one up lives.
+  drops_arc = λ d q m at one up lives.
       let x = one up (λ l. lives (dropped_live d.arcs q p l)) in
-      (h.drops_arc d q m (λ u l. x.0) up lives, λ live. holding_after g p d (record d { arcs = without_arc d.arcs q }) m refl (gains_without g d.arcs q p) (x.1 live));
+      (h.drops_arc d q m at (λ u l. x.0) up lives, λ live. holding_after g p d (record d { arcs = without_arc d.arcs q }) m refl (gains_without g d.arcs q p) (x.1 live));
   notes_kept = λ d ks m held one up lives.
       let x = one up lives in
       (h.notes_kept d ks m held (λ u l. x.0) up lives, λ live. let y = x.1 live in record { gains = y.gains; past = λ b old. y.past b (λ c. old c); over = λ b old. y.over b (λ c. old c); returns = y.returns });

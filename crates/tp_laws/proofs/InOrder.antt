@@ -37,7 +37,7 @@ off_stays p xs ys fades off = go (is_end_deferred_at ys p) refl
     go false i = refl
     go true i = absurd (cc (fades.ends i, off))
 
-live_stays : (xs ys : List Arc) → Fades xs ys → ((p : ℕ) → is_end_deferred_at xs p ≡ true → is_live_with_peer xs p ≡ true) → (p : ℕ) → is_end_deferred_at ys p ≡ true → is_live_with_peer ys p ≡ true
+pub live_stays : (xs ys : List Arc) → Fades xs ys → ((p : ℕ) → is_end_deferred_at xs p ≡ true → is_live_with_peer xs p ≡ true) → (p : ℕ) → is_end_deferred_at ys p ≡ true → is_live_with_peer ys p ≡ true
 live_stays xs ys fades live p off = (fades p).live off (live p ((fades p).ends off))
 
 -- arcs on which no end is put off, while the transaction stays as it is

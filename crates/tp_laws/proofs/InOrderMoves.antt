@@ -85,7 +85,7 @@ in_order_moves who e s = record {
   chain = λ d a f one two quiet o. two (one o);
   speaks = λ d outs spoken own said o. fade d (perform outs d).next refl (fades_performed d.arcs outs) o;
   changes_dialogue = λ d p f m by one o. one (change_in_order e d p f by o);
-  drops_arc = λ d p m one o. one (fade d (record d { arcs = without_arc d.arcs p }) refl (fades_without d.arcs p) o);
+  drops_arc = λ d p m at one o. one (fade d (record d { arcs = without_arc d.arcs p }) refl (fades_without d.arcs p) o);
   notes_kept = λ d ks m held one o. one (fade d (record d { kept = ks }) refl (fades_self d.arcs) o);
   keeps = λ d k f held o. fade d (keep (settled k f) d).next refl (fades_performed d.arcs (settled k f).outs) o;
   turns = λ d c f now at asked put gone o. turned_in_order who f d c now put o;

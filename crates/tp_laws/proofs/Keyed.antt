@@ -94,7 +94,7 @@ keyed_moves who e s = record {
   chain = λ d a f one two quiet. keyed_then who e s d a f one two quiet;
   speaks = λ d outs h own said. keyed_hush who e s d (perform outs d) refl refl;
   changes_dialogue = λ d p f m by one. record { keys = one.keys; orders = one.orders };
-  drops_arc = λ d p m one. record { keys = one.keys; orders = one.orders };
+  drops_arc = λ d p m at one. record { keys = one.keys; orders = one.orders };
   notes_kept = λ d ks m held one. record { keys = one.keys; orders = one.orders };
   keeps = λ d k f held. keyed_hush who e s d (keep (settled k f) d) refl (settled_quiet k f);
   turns = λ d c f now at asked put gone. keyed_turned who e f s d c now at asked put;

@@ -87,7 +87,7 @@ kin_unrolls t = ap kids rows
     rows : (complete_rollback t).next.rows ≡ t.rows
     rows = grind arith
 
-kin_turns : (e : TxEvent) (s : Transaction) → Turns e s IsKin
+pub kin_turns : (e : TxEvent) (s : Transaction) → Turns e s IsKin
 unfolding ask_commit leave count_branch end_branch branch_left
 kin_turns e s = record {
   still = λ t. refl;

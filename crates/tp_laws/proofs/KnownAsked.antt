@@ -80,15 +80,15 @@ same_turns e s off = record {
   tells = λ t i n. refl;
   notes_prepare = λ pr h. refl;
   notes_done = λ is. refl;
-  notes_end = λ q. refl;
+  notes_end = λ q is. refl;
   notes_rollback = λ ro h. refl;
-  defers_end = λ q. same_row s q (λ r. record r { ends = true });
-  defers_grant = λ q. refl;
+  defers_end = λ q is. same_row s q (λ r. record r { ends = true });
+  defers_grant = λ q is. refl;
   prepares = λ q. same_row s q (λ r. record r { branch = record r.branch { prepared = true } });
   asks = λ is act asked told. absurd (off is);
   asks_again = refl;
   decides = λ o is ready. refl;
-  aborts = λ q. same_lost s q;
+  aborts = λ q is. same_lost s q;
   loses_arc = λ q gone. same_lost s q;
   closes_left = λ q is. same_row s q row_dead;
   gives_up = λ q r is c found. same_row s q (λ w. record w { branch = record w.branch { given_up = true }; live = false; ends = false });
@@ -252,7 +252,7 @@ carried_moves who e s off = record {
   chain = λ d a f one two quiet. carried_then who s d a f one two;
   speaks = λ d outs h own said. carried_same who s d (perform outs d) refl refl refl;
   changes_dialogue = λ d p f m by one after. one (drawn_like s d (record d { arcs = with_dialogue d.arcs p f }) refl refl after);
-  drops_arc = λ d p m one after. one (drawn_like s d (record d { arcs = without_arc d.arcs p }) refl refl after);
+  drops_arc = λ d p m at one after. one (drawn_like s d (record d { arcs = without_arc d.arcs p }) refl refl after);
   notes_kept = λ d ks m held one after. one (drawn_like s d (record d { kept = ks }) refl refl after);
   keeps = λ d k f held. carried_same who s d (keep (settled k f) d) refl refl refl;
   turns = λ d c f now at asked put gone. carried_turned who e s off f d c now asked put;
@@ -314,7 +314,7 @@ asks_so e h = absurd (cc (h))
 asks_at : (who : Who) (d : Digest) (e : Event) → e ≡ Event.Do Request.Commit → (u : Current) → (action who d e).next.current ≡ Some u → IsStep (λ c. c.asked) who (prelude who d e) true u
 asks_at who d e i u is = subst (λ (f : Event). IsStep (λ c. c.asked) who (prelude who d f) true u) (sym i) (restarted_asked who d u (ap (λ (f : Event). (action who d f).next.current) (sym i) ∙ is))
 
-step_of : (who : Who) (d : Digest) (e : Event) → ((c : Current) → d.current ≡ Some c → is_nil c.phase ≡ false) → refusal who d e ≡ None → (u : Current) → (action who d e).next.current ≡ Some u → IsStep (λ c. c.asked) who (prelude who d e) (is_commit_request e) u
+pub step_of : (who : Who) (d : Digest) (e : Event) → ((c : Current) → d.current ≡ Some c → is_nil c.phase ≡ false) → refusal who d e ≡ None → (u : Current) → (action who d e).next.current ≡ Some u → IsStep (λ c. c.asked) who (prelude who d e) (is_commit_request e) u
 step_of who d e late ok u is = go (is_commit_request e) refl
   where
     s : Digest

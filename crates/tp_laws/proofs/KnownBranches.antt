@@ -81,7 +81,7 @@ named_log (r ∷ rs) = subst (λ (o : Option Current). IsNamedBy (r ∷ rs) o) (
 
 -- ---- one history
 
-abbrev IsRowed : Origin → List Entry → Current → Type 0
+abbrev pub IsRowed : Origin → List Entry → Current → Type 0
 IsRowed o h c = (kin c.branches ≡ branches_in o (node_key c.key) h) × (is_addr_option (superior_of c.key) (superior_for o (node_key c.key) h) ≡ true)
 
 abbrev pub IsFamily : Origin → List Entry → Type 0

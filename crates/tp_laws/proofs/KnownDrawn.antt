@@ -456,10 +456,10 @@ draws_steps who e s = record {
   chain = λ d a f one two quiet. (k1.chain d a f one.0 two.0 quiet, k2.chain d a f one.1 two.1 quiet, λ apart. draws_then who d a f one.1.boot (one.2 apart) (two.2 (one.0.apart apart)));
   speaks = λ d outs h own said last. (k1.speaks d outs h own said last, k2.speaks d outs h own said last, λ apart. draws_perform who d outs h last);
   changes_dialogue = λ d p f m by one. (k1.changes_dialogue d p f m by one.0, k2.changes_dialogue d p f m by one.1, λ apart. one.2 ((thins_dialogue d.arcs p f).apart apart));
-  drops_arc = λ d p m one. (k1.drops_arc d p m one.0, k2.drops_arc d p m one.1, λ apart. one.2 ((thins_without d.arcs p).apart apart));
+  drops_arc = λ d p m at one. (k1.drops_arc d p m at one.0, k2.drops_arc d p m at one.1, λ apart. one.2 ((thins_without d.arcs p).apart apart));
   notes_kept = λ d ks m held noted one. (k1.notes_kept d ks m held noted one.0, k2.notes_kept d ks m held noted one.1, λ apart. one.2 apart);
   keeps = λ d k f held. (k1.keeps d k f held, k2.keeps d k f held, λ apart. draws_perform who d (settled k f).outs (settled_spoken k f) (settled_last who d k f));
-  turns = λ d c f now at asked put gone like. (k1.turns d c f now at asked put gone like, k2.turns d c f now at asked put gone like, λ apart. draws_turned who d c f put);
+  turns = λ d c f now at asked put gone like alike. (k1.turns d c f now at asked put gone like alike, k2.turns d c f now at asked put gone like alike, λ apart. draws_turned who d c f put);
   begins = λ d p may. (k1.begins d p may, k2.begins d p may, λ apart. draws_begins who p d);
   roots = λ d m nil may says one. (k1.roots d m nil may says one.0, k2.roots d m nil may says one.1, λ apart. draws_root who d m (says apart) (one.2 apart));
 }

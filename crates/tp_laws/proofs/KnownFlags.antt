@@ -1,4 +1,5 @@
--- Flags of the current transaction that one kind of entry raises, and that fall where a key begins and with a crash.
+-- What is noted of the current transaction, from entry to entry: it is as new where its key begins, and what the log gives
+-- with a crash.
 use Rattle.std.proofs.Common.{◌≡◌, ◌⊎◌, inl, inr, ℕ, suc, Bool, true, false, refl, ap, sym, ◌∙◌, arith, Option, Some, None, List, [], ◌∷◌, ◌||◌}
 use Rattle.tp_names.specs.declared.identifiers.Aaid.{Aaid}
 use Rattle.tp_names.specs.declared.identifiers.BranchId.{BranchId}
@@ -39,22 +40,26 @@ use Rattle.tp_laws.proofs.Entered.{Entered, Crashed, Begun, Plain, entered, begi
 abbrev pub IsNew : Who → Digest → Current → Type 0
 IsNew who s u = (t : Aaid) × (u.key ≡ Root t) × (is_old who s t.mark ≡ false)
 
--- what is current behind an event: as before, and raised where the entry raises it; or new
-abbrev pub IsStep : (Current → Bool) → Who → Digest → Bool → Current → Type 0
-IsStep g who s raised u = ((c : Current) × (s.current ≡ Some c) × (u.key ≡ c.key) × (g u ≡ (raised || g c))) ⊎ (IsNew who s u × (g u ≡ false))
+-- what is current behind an event: as before, with what f makes of it; or new
+abbrev pub IsStepTo : (V : Type 0) → V → (Current → V) → Who → Digest → (V → V) → Current → Type 0
+IsStepTo V zero g who s f u = ((c : Current) × (s.current ≡ Some c) × (u.key ≡ c.key) × (g u ≡ f (g c))) ⊎ (IsNew who s u × (g u ≡ zero))
 
 -- ---- every legal history
 
--- the flag g is raised by what q tells of an entry, and falls where a key begins and with a crash
-pub record IsFlag (g : Current → Bool) (q : Origin → NodeKey → Entry → List Entry → Bool) : Type 0 where
-  pub fresh : (k : Key) → g (fresh_current k) ≡ false
-  pub again : (k : Key) (p : Phase) (bs : List Branch) (u : Option Outcome) → g (recovered k p bs u) ≡ false
+-- the question q answers what g is of the current transaction: zero where its key begins, and from entry to entry what f
+-- makes of it
+pub record IsMark (V : Type 0) (zero : V) (g : Current → V) (q : Origin → NodeKey → List Entry → V) (f : Origin → NodeKey → Entry → List Entry → V → V) : Type 0 where
+  pub fresh : (k : Key) → g (fresh_current k) ≡ zero
+  pub first : (o : Origin) (up : Option Addr) → IsLegal o up [] → (c : Current) → (digest o []).current ≡ Some c → g c ≡ q o (node_key c.key) []
+  pub crash : (o : Origin) (up : Option Addr) (e : Entry) (h : List Entry) → IsLegal o up (e ∷ h) → is_crash e.event ≡ true → (c : Current) → (digest o (e ∷ h)).current ≡ Some c → g c ≡ q o (node_key c.key) (e ∷ h)
+  pub begun : (o : Origin) (k : NodeKey) (e : Entry) (h : List Entry) → is_crash e.event ≡ false → begins o k e h ≡ true → q o k (e ∷ h) ≡ zero
+  pub goes : (o : Origin) (k : NodeKey) (e : Entry) (h : List Entry) → is_crash e.event ≡ false → begins o k e h ≡ false → q o k (e ∷ h) ≡ f o k e h (q o k h)
   pub step : (o : Origin) (up : Option Addr) (e : Entry) (h : List Entry) → IsLegal o up (e ∷ h) → is_crash e.event ≡ false → (u : Current) → (action o.who (digest o h) e.event).next.current ≡ Some u
-      → IsStep g o.who (prelude o.who (digest o h) e.event) (q o (node_key u.key) e h) u
-  pub taken : (o : Origin) (up : Option Addr) (e : Entry) (h : List Entry) → IsLegal o up (e ∷ h) → (k j : NodeKey) → begun_by_peer o e h ≡ Some j → q o k e h ≡ false
+      → IsStepTo V zero g o.who (prelude o.who (digest o h) e.event) (f o (node_key u.key) e h) u
+  pub taken : (o : Origin) (up : Option Addr) (e : Entry) (h : List Entry) → IsLegal o up (e ∷ h) → (k j : NodeKey) → begun_by_peer o e h ≡ Some j → f o k e h zero ≡ zero
 
-abbrev IsFlagIn : (Current → Bool) → (Origin → NodeKey → Entry → List Entry → Bool) → Origin → List Entry → Type 0
-IsFlagIn g q o h = (c : Current) → (digest o h).current ≡ Some c → g c ≡ some_since o (node_key c.key) (q o (node_key c.key)) h
+abbrev IsMarkIn : (V : Type 0) → (Current → V) → (Origin → NodeKey → List Entry → V) → Origin → List Entry → Type 0
+IsMarkIn V g q o h = (c : Current) → (digest o h).current ≡ Some c → g c ≡ q o (node_key c.key) h
 
 not_new : (who : Who) (s : Digest) (c u : Current) → IsSound who s → s.current ≡ Some c → u.key ≡ c.key → IsNew who s u → ⊥
 not_new who s c u sound is key n =
@@ -64,31 +69,9 @@ not_new who s c u sound is key n =
     let new = n.2 in
     cc (same, new)
 
-unraised : (g : Current → Bool) → ((k : Key) (p : Phase) (bs : List Branch) (u : Option Outcome) → g (recovered k p bs u) ≡ false) → (o : Option Current) (c : Current) → recovered_current o ≡ Some c → g c ≡ false
-unraised g again None c is = absurd (cc (is))
-unraised g again (Some x) c is = go x.phase is
-  where
-    flat : (k : Key) (p : Phase) (bs : List Branch) (u : Option Outcome) → Some (recovered k p bs u) ≡ Some c → g c ≡ false
-    flat k p bs u i = ap g (sym (some_same (recovered k p bs u) c i)) ∙ again k p bs u
-
-    go : (p : Phase) → recovered_current (Some (record x { phase = p })) ≡ Some c → g c ≡ false
-    go Phase.Nil i = absurd (cc (i))
-    go Phase.Active i = absurd (cc (i))
-    go Phase.Ready i = flat x.key Phase.Ready (named_again x.branches) x.decision i
-    go Phase.Committing i = flat x.key Phase.Committing (named_again x.branches) x.decision i
-    go Phase.Rolling i = absurd (cc (i))
-
-flag_begun : (g : Current → Bool) (q : Origin → NodeKey → Entry → List Entry → Bool) (o : Origin) (e : Entry) (h : List Entry) (u : Current) → is_crash e.event ≡ false → begins o (node_key u.key) e h ≡ true → g u ≡ false → g u ≡ some_since o (node_key u.key) (q o (node_key u.key)) (e ∷ h)
-flag_begun g q o e h u calm begun is = is ∙ sym (rw (calm, begun, some_since) refl)
-
-flag_goes : (g : Current → Bool) (q : Origin → NodeKey → Entry → List Entry → Bool) (o : Origin) (e : Entry) (h : List Entry) (c u : Current) → is_crash e.event ≡ false → begins o (node_key u.key) e h ≡ false → u.key ≡ c.key → g u ≡ (q o (node_key u.key) e h || g c)
-    → g c ≡ some_since o (node_key c.key) (q o (node_key c.key)) h → g u ≡ some_since o (node_key u.key) (q o (node_key u.key)) (e ∷ h)
-flag_goes g q o e h c u calm off key step was =
-    step ∙ ap (λ (b : Bool). q o (node_key u.key) e h || b) (was ∙ ap (λ (k : Key). some_since o (node_key k) (q o (node_key k)) h) (sym key)) ∙ sym (rw (calm, off, some_since) refl)
-
-flag_taken : (g : Current → Bool) (q : Origin → NodeKey → Entry → List Entry → Bool) → IsFlag g q → (o : Origin) (up : Option Addr) (e : Entry) (h : List Entry) → IsLegal o up (e ∷ h) → (t : Aaid) (b : BranchId) (a : Addr) → is_crash e.event ≡ false → begun_by_peer o e h ≡ Some (record { aaid = t; branch = Some b })
-    → (prelude o.who (digest o h) e.event).current ≡ Some (fresh_current (Under t b a)) → (rolls o.who (digest o h) e.event ≡ false) × (is_unchanged e.event ≡ false) × ((action o.who (digest o h) e.event).rec ≡ None) → IsFlagIn g q o (e ∷ h)
-flag_taken g q flag o up e h legal t b a calm begun cur quiet u is = go (flag.step o up e h legal calm u is)
+mark_taken : (V : Type 0) (zero : V) (g : Current → V) (q : Origin → NodeKey → List Entry → V) (f : Origin → NodeKey → Entry → List Entry → V → V) → IsMark V zero g q f → (o : Origin) (up : Option Addr) (e : Entry) (h : List Entry) → IsLegal o up (e ∷ h) → (t : Aaid) (b : BranchId) (a : Addr) → is_crash e.event ≡ false
+    → begun_by_peer o e h ≡ Some (record { aaid = t; branch = Some b }) → (prelude o.who (digest o h) e.event).current ≡ Some (fresh_current (Under t b a)) → (rolls o.who (digest o h) e.event ≡ false) × (is_unchanged e.event ≡ false) × ((action o.who (digest o h) e.event).rec ≡ None) → IsMarkIn V g q o (e ∷ h)
+mark_taken V zero g q f mark o up e h legal t b a calm begun cur quiet u is = go (mark.step o up e h legal calm u is)
   where
     d : Digest
     d = digest o h
@@ -105,15 +88,14 @@ flag_taken g q flag o up e h legal t b a calm begun cur quiet u is = go (flag.st
     sound : IsSound o.who s
     sound = (sound_first o.who d e.event legal.grown.0 (sound_at o up h (before_it o up e h legal))).0
 
-    off : q o (node_key u.key) e h ≡ false
-    off = flag.taken o up e h legal (node_key u.key) (record { aaid = t; branch = Some b }) begun
+    off : f o (node_key u.key) e h zero ≡ zero
+    off = mark.taken o up e h legal (node_key u.key) (record { aaid = t; branch = Some b }) begun
 
-    go : IsStep g o.who s (q o (node_key u.key) e h) u → g u ≡ some_since o (node_key u.key) (q o (node_key u.key)) (e ∷ h)
+    go : IsStepTo V zero g o.who s (f o (node_key u.key) e h) u → g u ≡ q o (node_key u.key) (e ∷ h)
     go (inl w) =
         let same : c ≡ w.0 = some_same c w.0 (sym cur ∙ w.1) in
         let key : u.key ≡ Under t b a = w.2 ∙ ap (λ (x : Current). x.key) (sym same) in
-        flag_begun g q o e h u calm (begins_peer o (node_key u.key) (record { aaid = t; branch = Some b }) e h begun ∙ key_under t b a u.key key)
-        (w.3 ∙ ap (λ (x : Bool). x || g w.0) off ∙ ap g (sym same) ∙ flag.fresh (Under t b a))
+        w.3 ∙ ap (f o (node_key u.key) e h) (ap g (sym same) ∙ mark.fresh (Under t b a)) ∙ off ∙ sym (mark.begun o (node_key u.key) e h calm (begins_peer o (node_key u.key) (record { aaid = t; branch = Some b }) e h begun ∙ key_under t b a u.key key))
     go (inr n) = absurd (no (course_entry o up e h legal))
       where
         no : Course o.who (rolls o.who d e.event) (is_unchanged e.event) s.drawn s.current s.boot s.drawn m → ⊥
@@ -132,15 +114,9 @@ flag_taken g q flag o up e h legal t b a calm begun cur quiet u is = go (flag.st
                 let same : c ≡ x = some_same c x (sym cur ∙ i) in
                 none (rolls o.who d e.event) (is_unchanged e.event) (logs_of (node_key x.key) m.rec) (st.active (ap (λ (z : Current). is_active z.phase) (sym same))) quiet.0 quiet.1 (ap (logs_of (node_key x.key)) quiet.2)
 
-flag_first : (g : Current → Bool) (q : Origin → NodeKey → Entry → List Entry → Bool) → IsFlag g q → (o : Origin) (up : Option Addr) → IsLegal o up [] → IsFlagIn g q o []
-flag_first g q flag o up legal c is =
-    let founded : IsFounded o up [] = founded_by o up [] legal in
-    let start = sound_start o legal.start founded.earlier in
-    unraised g flag.again (digest o []).current c (sym (started_current o ∙ sym start.again) ∙ is)
-
-pub flag_law : (g : Current → Bool) (q : Origin → NodeKey → Entry → List Entry → Bool) → IsFlag g q → (o : Origin) (up : Option Addr) (h : List Entry) → IsLegal o up h → IsFlagIn g q o h
-flag_law g q flag o up [] legal = flag_first g q flag o up legal
-flag_law g q flag o up (e ∷ h) legal = go (entered o e h legal.grown.0) (flag_law g q flag o up h (before_it o up e h legal))
+pub mark_law : (V : Type 0) (zero : V) (g : Current → V) (q : Origin → NodeKey → List Entry → V) (f : Origin → NodeKey → Entry → List Entry → V → V) → IsMark V zero g q f → (o : Origin) (up : Option Addr) (h : List Entry) → IsLegal o up h → IsMarkIn V g q o h
+mark_law V zero g q f mark o up [] legal = mark.first o up legal
+mark_law V zero g q f mark o up (e ∷ h) legal = go (entered o e h legal.grown.0) (mark_law V zero g q f mark o up h (before_it o up e h legal))
   where
     d : Digest
     d = digest o h
@@ -160,32 +136,32 @@ flag_law g q flag o up (e ∷ h) legal = go (entered o e h legal.grown.0) (flag_
     first_outs : first_begin m.outs ≡ first_begin e.outs
     first_outs = ap first_begin outs
 
-    plain : is_crash e.event ≡ false → begun_by_peer o e h ≡ None → s.current ≡ d.current → IsFlagIn g q o h → IsFlagIn g q o (e ∷ h)
-    plain calm begun same was u is = on (course_entry o up e h legal) (flag.step o up e h legal calm u is)
+    plain : is_crash e.event ≡ false → begun_by_peer o e h ≡ None → s.current ≡ d.current → IsMarkIn V g q o h → IsMarkIn V g q o (e ∷ h)
+    plain calm begun same was u is = on (course_entry o up e h legal) (mark.step o up e h legal calm u is)
       where
         start : (x : Aaid × BranchId) → first_begin m.outs ≡ Some x → s.drawn ≡ drawn_in o h
-        start x f = go (first_draws o.who d e.event calm) ∙ drawn_law o up h legal.grown.3
+        start x i = go (first_draws o.who d e.event calm) ∙ drawn_law o up h legal.grown.3
           where
             go : First_draws o.who d e.event → s.drawn ≡ d.drawn
             go (No_mark j) = j
-            go (One_mark j l none) = absurd (let off : None ≡ Some x = sym none ∙ f in cc (off))
+            go (One_mark j l none) = absurd (let off : None ≡ Some x = sym none ∙ i in cc (off))
 
-        goes : (c : Current) → s.current ≡ Some c → u.key ≡ c.key → begins o (node_key u.key) e h ≡ false → IsStep g o.who s (q o (node_key u.key) e h) u → g u ≡ some_since o (node_key u.key) (q o (node_key u.key)) (e ∷ h)
-        goes c i key off (inl w) =
+        more : (c : Current) → s.current ≡ Some c → u.key ≡ c.key → begins o (node_key u.key) e h ≡ false → IsStepTo V zero g o.who s (f o (node_key u.key) e h) u → g u ≡ q o (node_key u.key) (e ∷ h)
+        more c i key off (inl w) =
             let one : w.0 ≡ c = some_same w.0 c (sym w.1 ∙ i) in
-            flag_goes g q o e h c u calm off key (w.3 ∙ ap (λ (x : Current). q o (node_key u.key) e h || g x) one) (was c (sym same ∙ i))
-        goes c i key off (inr n) = absurd (not_new o.who s c u sound i key n.0)
+            w.3 ∙ ap (f o (node_key u.key) e h) (ap g one ∙ was c (sym same ∙ i) ∙ ap (λ (x : Key). q o (node_key x) h) (sym key)) ∙ sym (mark.goes o (node_key u.key) e h calm off)
+        more c i key off (inr n) = absurd (not_new o.who s c u sound i key n.0)
 
-        on : Course o.who (rolls o.who d e.event) (is_unchanged e.event) s.drawn s.current s.boot s.drawn m → IsStep g o.who s (q o (node_key u.key) e h) u → g u ≡ some_since o (node_key u.key) (q o (node_key u.key)) (e ∷ h)
-        on (Free i j f dr tl) step = absurd (no_both m.next.current u j is)
-        on (Closed x i j st at f dr) step = absurd (no_both m.next.current u j is)
-        on (Held c y i j key st hm f dr kn) step =
+        on : Course o.who (rolls o.who d e.event) (is_unchanged e.event) s.drawn s.current s.boot s.drawn m → IsStepTo V zero g o.who s (f o (node_key u.key) e h) u → g u ≡ q o (node_key u.key) (e ∷ h)
+        on (Free i j fi dr tl) step = absurd (no_both m.next.current u j is)
+        on (Closed x i j st at fi dr) step = absurd (no_both m.next.current u j is)
+        on (Held c y i j key st hm fi dr kn) step =
             let one : y ≡ u = some_same y u (sym j ∙ is) in
-            goes c i (ap (λ (z : Current). z.key) (sym one) ∙ key) (begins_none_at o (node_key u.key) e h begun (sym first_outs ∙ f)) step
-        on (Grew c y x i j key act qt f cn dr kn) step =
+            more c i (ap (λ (z : Current). z.key) (sym one) ∙ key) (begins_none_at o (node_key u.key) e h begun (sym first_outs ∙ fi)) step
+        on (Grew c y x i j key act qt fi cn dr kn) step =
             let one : y ≡ u = some_same y u (sym j ∙ is) in
-            goes c i (ap (λ (z : Current). z.key) (sym one) ∙ key) (begins_grown o (node_key u.key) e h (aaid_of c.key) x begun (sym first_outs ∙ f) (cn ∙ ap suc (start (aaid_of c.key, x) f))) step
-        on (Rooted y j key act f dr kn w) step = new step
+            more c i (ap (λ (z : Current). z.key) (sym one) ∙ key) (begins_grown o (node_key u.key) e h (aaid_of c.key) x begun (sym first_outs ∙ fi) (cn ∙ ap suc (start (aaid_of c.key, x) fi))) step
+        on (Rooted y j key act fi dr kn w) step = new step
           where
             one : y ≡ u
             one = some_same y u (sym j ∙ is)
@@ -195,20 +171,67 @@ flag_law g q flag o up (e ∷ h) legal = go (entered o e h legal.grown.0) (flag_
 
             begin : begins o (node_key u.key) e h ≡ true
             begin =
-                let drawn : s.drawn ≡ drawn_in o h = start (tree_at o.who s.boot s.drawn, branch_at o.who s.boot s.drawn) f in
+                let drawn : s.drawn ≡ drawn_in o h = start (tree_at o.who s.boot s.drawn, branch_at o.who s.boot s.drawn) fi in
                 let boot : s.boot ≡ boot_in o h = same_boot o.who d e.event calm ∙ (plain_law o up h legal.grown.3).boot in
                 let tree : tree_at o.who s.boot s.drawn ≡ tree_at o.who (boot_in o h) (drawn_in o h) = ap (λ (n : ℕ). tree_at o.who s.boot n) drawn ∙ ap (λ (n : ℕ). tree_at o.who n (drawn_in o h)) boot in
                 let branch : branch_at o.who s.boot s.drawn ≡ branch_at o.who (boot_in o h) (drawn_in o h) = ap (λ (n : ℕ). branch_at o.who s.boot n) drawn ∙ ap (λ (n : ℕ). branch_at o.who n (drawn_in o h)) boot in
-                let said : first_begin e.outs ≡ Some (tree_at o.who (boot_in o h) (drawn_in o h), branch_at o.who (boot_in o h) (drawn_in o h)) = sym first_outs ∙ f ∙ ap (λ (t : Aaid). Some (t, branch_at o.who s.boot s.drawn)) tree ∙ ap (λ (b : BranchId). Some (tree_at o.who (boot_in o h) (drawn_in o h), b)) branch in
+                let said : first_begin e.outs ≡ Some (tree_at o.who (boot_in o h) (drawn_in o h), branch_at o.who (boot_in o h) (drawn_in o h)) = sym first_outs ∙ fi ∙ ap (λ (t : Aaid). Some (t, branch_at o.who s.boot s.drawn)) tree ∙ ap (λ (b : BranchId). Some (tree_at o.who (boot_in o h) (drawn_in o h), b)) branch in
                 begins_rooted o (node_key u.key) e h begun said ∙ ap (λ (k : Key). is_key (node_key k) (record { aaid = tree_at o.who (boot_in o h) (drawn_in o h); branch = None })) (mine ∙ ap (λ (t : Aaid). Root t) tree) ∙ key_self (record { aaid = tree_at o.who (boot_in o h) (drawn_in o h); branch = None })
 
-            new : IsStep g o.who s (q o (node_key u.key) e h) u → g u ≡ some_since o (node_key u.key) (q o (node_key u.key)) (e ∷ h)
+            new : IsStepTo V zero g o.who s (f o (node_key u.key) e h) u → g u ≡ q o (node_key u.key) (e ∷ h)
             new (inl v) = absurd (not_new o.who s v.0 u sound v.1 v.2 (tree_at o.who s.boot s.drawn, mine, new_mark o.who s))
-            new (inr n) = flag_begun g q o e h u calm begin n.1
+            new (inr n) = n.1 ∙ sym (mark.begun o (node_key u.key) e h calm begin)
 
-    go : Entered o e h → IsFlagIn g q o h → IsFlagIn g q o (e ∷ h)
-    go (Crashed i) was = λ c is.
-        let crash : is_crash e.event ≡ true = ap is_crash i in
-        unraised g flag.again d.current c (sym (crash_next o e h crash) ∙ is) ∙ sym (rw (crash, some_since) refl)
-    go (Begun from t b a begun c cur nil quiet sent) was = flag_taken g q flag o up e h legal t b a.peer c begun cur quiet
+    go : Entered o e h → IsMarkIn V g q o h → IsMarkIn V g q o (e ∷ h)
+    go (Crashed i) was = mark.crash o up e h legal (ap is_crash i)
+    go (Begun from t b a begun c cur nil quiet sent) was = mark_taken V zero g q f mark o up e h legal t b a.peer c begun cur quiet
     go (Plain c begun same) was = plain c begun same was
+
+-- ---- flags that one kind of entry raises, and that fall where a key begins and with a crash
+
+abbrev pub IsStep : (Current → Bool) → Who → Digest → Bool → Current → Type 0
+IsStep g who s raised u = IsStepTo Bool false g who s (λ b. raised || b) u
+
+-- the flag g is raised by what q tells of an entry
+pub record IsFlag (g : Current → Bool) (q : Origin → NodeKey → Entry → List Entry → Bool) : Type 0 where
+  pub fresh : (k : Key) → g (fresh_current k) ≡ false
+  pub again : (k : Key) (p : Phase) (bs : List Branch) (u : Option Outcome) → g (recovered k p bs u) ≡ false
+  pub step : (o : Origin) (up : Option Addr) (e : Entry) (h : List Entry) → IsLegal o up (e ∷ h) → is_crash e.event ≡ false → (u : Current) → (action o.who (digest o h) e.event).next.current ≡ Some u
+      → IsStep g o.who (prelude o.who (digest o h) e.event) (q o (node_key u.key) e h) u
+  pub taken : (o : Origin) (up : Option Addr) (e : Entry) (h : List Entry) → IsLegal o up (e ∷ h) → (k j : NodeKey) → begun_by_peer o e h ≡ Some j → q o k e h ≡ false
+
+-- what a start gives back
+pub recovered_is : (V : Type 0) (v : Current → V) (g : Current → V) → ((k : Key) (p : Phase) (bs : List Branch) (u : Option Outcome) → g (recovered k p bs u) ≡ v (recovered k p bs u)) → (o : Option Current) (c : Current) → recovered_current o ≡ Some c → g c ≡ v c
+recovered_is V v g again None c is = absurd (cc (is))
+recovered_is V v g again (Some x) c is = go x.phase is
+  where
+    flat : (k : Key) (p : Phase) (bs : List Branch) (u : Option Outcome) → Some (recovered k p bs u) ≡ Some c → g c ≡ v c
+    flat k p bs u i = let same : recovered k p bs u ≡ c = some_same (recovered k p bs u) c i in ap g (sym same) ∙ again k p bs u ∙ ap v same
+
+    go : (p : Phase) → recovered_current (Some (record x { phase = p })) ≡ Some c → g c ≡ v c
+    go Phase.Nil i = absurd (cc (i))
+    go Phase.Active i = absurd (cc (i))
+    go Phase.Ready i = flat x.key Phase.Ready (named_again x.branches) x.decision i
+    go Phase.Committing i = flat x.key Phase.Committing (named_again x.branches) x.decision i
+    go Phase.Rolling i = absurd (cc (i))
+
+-- at the beginning of a history
+pub started_again : (o : Origin) (up : Option Addr) (c : Current) → IsLegal o up [] → (digest o []).current ≡ Some c → recovered_current (digest o []).current ≡ Some c
+started_again o up c legal is =
+    let founded : IsFounded o up [] = founded_by o up [] legal in
+    let start = sound_start o legal.start founded.earlier in
+    sym (started_current o ∙ sym start.again) ∙ is
+
+mark_of_flag : (g : Current → Bool) (q : Origin → NodeKey → Entry → List Entry → Bool) → IsFlag g q → IsMark Bool false g (λ o k h. some_since o k (q o k) h) (λ o k e h b. q o k e h || b)
+mark_of_flag g q flag = record {
+  fresh = flag.fresh;
+  first = λ o up legal c is. recovered_is Bool (λ x. false) g flag.again (digest o []).current c (started_again o up c legal is);
+  crash = λ o up e h legal crash c is. recovered_is Bool (λ x. false) g flag.again (digest o h).current c (sym (crash_next o e h crash) ∙ is) ∙ sym (rw (crash, some_since) refl);
+  begun = λ o k e h calm begun. rw (calm, begun, some_since) refl;
+  goes = λ o k e h calm off. rw (calm, off, some_since) refl;
+  step = flag.step;
+  taken = λ o up e h legal k j begun. rw (flag.taken o up e h legal k j begun) refl;
+}
+
+pub flag_law : (g : Current → Bool) (q : Origin → NodeKey → Entry → List Entry → Bool) → IsFlag g q → (o : Origin) (up : Option Addr) (h : List Entry) → IsLegal o up h → (c : Current) → (digest o h).current ≡ Some c → g c ≡ some_since o (node_key c.key) (q o (node_key c.key)) h
+flag_law g q flag = mark_law Bool false g (λ o k h. some_since o k (q o k) h) (λ o k e h b. q o k e h || b) (mark_of_flag g q flag)

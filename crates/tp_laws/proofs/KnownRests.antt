@@ -125,15 +125,15 @@ silent_turns e s off = record {
   tells = λ t i n. refl;
   notes_prepare = λ pr h. refl;
   notes_done = λ is. refl;
-  notes_end = λ q. refl;
+  notes_end = λ q is. refl;
   notes_rollback = λ ro h. refl;
-  defers_end = λ q. refl;
-  defers_grant = λ q. refl;
+  defers_end = λ q is. refl;
+  defers_grant = λ q is. refl;
   prepares = λ q. refl;
   asks = λ is act asked told. silent_prepare s.rows;
   asks_again = silent_retried s;
   decides = λ o is ready. refl;
-  aborts = λ q. refl;
+  aborts = λ q is. refl;
   loses_arc = λ q gone. refl;
   closes_left = λ q is. refl;
   gives_up = λ q r is c found. grind arith;
@@ -235,7 +235,7 @@ rest_played p d t Rolls_back outs arcs other =
     keeps_then rests p arcs s.0 (completed_arcs d t Outcome.Rollback s.0) (keeps_performed rests p arcs outs) (keeps_dialogues rests p s.0 _ _ (λ a at is. rest_completed Outcome.Rollback _ a.dialogue))
 rest_played p d t Leaves outs arcs other = absurd (other refl)
 
-no_leaving : (a b : Phase) → passage false a b ≡ Leaves → ⊥
+pub no_leaving : (a b : Phase) → passage false a b ≡ Leaves → ⊥
 no_leaving Phase.Nil b h = cc (h)
 no_leaving Phase.Active Phase.Nil h = cc (h)
 no_leaving Phase.Active Phase.Active h = cc (h)
@@ -386,7 +386,7 @@ change_part e d p q f arcs (By_beginning h by i) asleep =
     (ends_part p q (begun_by h Side.Subordinate) arcs (rest_begun h Side.Subordinate) (λ at. asleep (subst (λ (n : ℕ). wakes e n ≡ true) at (begin_wakes e q h by))))
 change_part e d p q f arcs (By_leaving by i) asleep = subst (λ (g : Dialogue → Dialogue). part_at rests p (with_dialogue arcs q g) ≡ part_at rests p arcs) (sym i) (same_part p q cleared arcs rest_cleared)
 
-live_dialogue : (arcs : List Arc) (q : ℕ) (f : Dialogue → Dialogue) (p : ℕ) → is_live_with_peer (with_dialogue arcs q f) p ≡ is_live_with_peer arcs p
+pub live_dialogue : (arcs : List Arc) (q : ℕ) (f : Dialogue → Dialogue) (p : ℕ) → is_live_with_peer (with_dialogue arcs q f) p ≡ is_live_with_peer arcs p
 live_dialogue arcs q f p = ap is_live (link_dialogue arcs q f p)
 
 rests_changed : (up : Option Addr) (p : ℕ) (e : Event) (d : Digest) (q : ℕ) (f : Dialogue → Dialogue) (m : Move) → IsChange e d q f → Rests up p e (record d { arcs = with_dialogue d.arcs q f }) m → IsResting up p e d → is_live_with_peer m.next.arcs p ≡ true → IsRested up p e d m
@@ -431,10 +431,10 @@ rest_rested : (x : Dialogue) → rests (rested x) ≡ true
 unfolding rested
 rest_rested x = refl
 
-gone : (p : ℕ) (arcs : List Arc) (q : ℕ) → (q == p) ≡ true → is_live_with_peer (without_arc arcs q) p ≡ false
+pub gone : (p : ℕ) (arcs : List Arc) (q : ℕ) → (q == p) ≡ true → is_live_with_peer (without_arc arcs q) p ≡ false
 gone p arcs q i = ap is_live (link_without arcs q p) ∙ rw i refl
 
-abbrev says_of : Bool → Bool → ℕ → List TxOut
+abbrev pub says_of : Bool → Bool → ℕ → List TxOut
 says_of ending up n =
     if ending then (if up then TxOut.Carry n DialogueRecord.LeftEnd ∷ [] else []) ++ (if ending then TxOut.Close n ∷ [] else [])
     else (if up then TxOut.Carry n DialogueRecord.Left ∷ [] else [])
@@ -512,7 +512,7 @@ leaving_turn up who p e d c head act is = go c.key c.phase head act
     go k Phase.Committing top a = absurd (cc (a))
     go k Phase.Rolling top a = absurd (cc (a))
 
-active_put : (t : Transaction) → refused_tx (TxEvent.User Request.Unchanged) t ≡ None → is_nil t.phase ≡ false → is_active t.phase ≡ true
+pub active_put : (t : Transaction) → refused_tx (TxEvent.User Request.Unchanged) t ≡ None → is_nil t.phase ≡ false → is_active t.phase ≡ true
 unfolding refused_tx
 active_put t ok late = go t.phase refl
   where
@@ -521,7 +521,7 @@ active_put t ok late = go t.phase refl
     go Phase.Nil i = absurd (cc (late, ap is_nil i))
     go q i = absurd (grind (arith, ok, i))
 
-leaving_is : (f : TxEvent) → is_leaving f ≡ true → f ≡ TxEvent.User Request.Unchanged
+pub leaving_is : (f : TxEvent) → is_leaving f ≡ true → f ≡ TxEvent.User Request.Unchanged
 leaving_is (TxEvent.User Request.Unchanged) h = refl
 leaving_is f h = absurd (grind (arith, h))
 
@@ -589,7 +589,7 @@ rests_moves up who p e s = record {
   chain = λ d a f one two none. (head.chain d a f one.0 two.0 none, rests_then up p e d a f one two);
   speaks = λ d outs h own said. (head.speaks d outs h own said, λ pre. rests_performed up p e d outs (perform outs d) refl refl (silent_spoken outs h));
   changes_dialogue = λ d q f m by one. (head.changes_dialogue d q f m by one.0, rests_changed up p e d q f m by one);
-  drops_arc = λ d q m one. (head.drops_arc d q m one.0, rests_dropped up p e d q m one);
+  drops_arc = λ d q m at one. (head.drops_arc d q m at one.0, rests_dropped up p e d q m one);
   notes_kept = λ d ks m held one. (head.notes_kept d ks m held one.0, λ pre live. let x = one.1 (record { placed = pre.placed; headed = pre.headed; above = pre.above; asleep = pre.asleep }) live in record { live = x.live; rested = x.rested; leaves = x.leaves });
   keeps = λ d k f held. (head.keeps d k f held, λ pre. rests_performed up p e d (settled k f).outs (keep (settled k f) d) refl refl (silent_spoken (settled k f).outs (settled_spoken k f)));
   turns = λ d c f now at asked put gone. (head.turns d c f now at asked put gone, λ pre. rests_turned up who p e f d c now asked put pre);
@@ -613,7 +613,7 @@ woken_move : (who : Who) (d : Digest) (from : Addr) (x y : Mark) (q : ℕ) (r : 
 woken_move who d from x y q (DialogueRecord.Begin t b h) R k late plain ok = woken_on_begin who d from x y q t b h R (plain_steps who _ _ R k) (plain_arrival who d from _ ok) (find_arc d.arcs from.node) refl
 woken_move who d from x y q r R k late plain ok = woken_on_other who d from x y q r R (plain_steps who _ _ R k) late (λ t b h i. cc (i)) plain (plain_arrival who d from _ ok)
 
-unchanged_first : (who : Who) (d : Digest) (e : Event) → is_unchanged e ≡ true → prelude who d e ≡ d
+pub unchanged_first : (who : Who) (d : Digest) (e : Event) → is_unchanged e ≡ true → prelude who d e ≡ d
 unchanged_first who d (Event.Do Request.Unchanged) h = refl
 unchanged_first who d e h = absurd (grind (arith, h))
 

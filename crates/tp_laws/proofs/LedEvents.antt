@@ -289,7 +289,7 @@ led_new p s u r none good fresh = record {
 
 -- ---- control that is given by a request
 
-seen_holds : (arcs : List Arc) (bs : List Branch) (p : ℕ) (f : Branch → Bool) → row_holds (seen_rows arcs bs) p f ≡ elim (find_branch bs p) [ None ↦ false | Some b ↦ f b ]
+pub seen_holds : (arcs : List Arc) (bs : List Branch) (p : ℕ) (f : Branch → Bool) → row_holds (seen_rows arcs bs) p f ≡ elim (find_branch bs p) [ None ↦ false | Some b ↦ f b ]
 seen_holds arcs [] p f = refl
 seen_holds arcs (b ∷ bs) p f = grind (arith, seen_holds arcs bs p f)
 

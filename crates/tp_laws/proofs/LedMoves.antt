@@ -512,10 +512,10 @@ led_moves who e s p sup fall shut calm th h = record {
         λ sep sent k r old live.
             x.2 ((thins_dialogue d.arcs q f).apart sep) sent k r (led_mute p d (record d { arcs = with_dialogue d.arcs q f }) sent k r refl (softens_dialogue d.arcs q f p (λ here g. softens_change who e s d q p f calm here by g)) old) live,
       );
-  drops_arc = λ d q m one up lives.
+  drops_arc = λ d q m at one up lives.
       let x = one up (λ l. lives (dropped_live d.arcs q p l)) in (
-        h.drops_arc d q m (λ u l. x.0) up lives,
-        th.drops_arc d q m x.1,
+        h.drops_arc d q m at (λ u l. x.0) up lives,
+        th.drops_arc d q m at x.1,
         λ sep sent k r old live.
             x.2 ((thins_without d.arcs q).apart sep) sent k r (led_mute p d (record d { arcs = without_arc d.arcs q }) sent k r refl (λ b found. (b, found_without d.arcs q p b found, softens_self b.dialogue b.dialogue refl)) old) live,
       );

@@ -7,7 +7,7 @@ use Rattle.tp_model.specs.Parts.{Arc}
 use Rattle.tp_model.specs.Links.{is_live}
 use Rattle.tp_model.specs.Arcs.{link_with, find_arc, shut_with, performed_one, performed}
 use Rattle.tp_model.specs.Questions.{said_to}
-use Rattle.tp_laws.specs.Moves.{is_apart, are_apart, is_spoken, are_spoken, gives_to, is_said, are_said}
+use Rattle.tp_laws.specs.Moves.{is_apart, are_apart, is_spoken, are_spoken, gives_to, grants_to, hands_to, is_said, are_said, closes_at}
 use Rattle.tp_model.specs.Parts.{Event}
 use Rattle.tp_laws.specs.Facts.{is_begin, none_of, stays}
 use Rattle.tp_laws.specs.Passages.{begins_none}
@@ -20,6 +20,8 @@ use Rattle.tp_laws.proofs.Answering.{rounds_append, flag_append}
 use Rattle.tp_laws.proofs.OneHolder.{behind_less}
 use Rattle.tp_laws.proofs.Counting.{behind_quiet, behind_past}
 use Rattle.tp_laws.proofs.Leading.{carried_append}
+use Rattle.tp_laws.proofs.Saying.{no_gift}
+use Rattle.tp_laws.proofs.Equal.{and_right}
 
 -- ---- words that neither begin nor give
 
@@ -202,8 +204,8 @@ inert_said e b p (TxOut.Tell t ∷ outs) none h i = inert_said e b p outs none h
 inert_said e b p (TxOut.Carry q r ∷ outs) none h i = go (q == p) b refl (inert_said e b p outs none (grind (arith, h)) (grind (arith, i)))
   where
     no : (r : DialogueRecord) → is_said e (TxOut.Carry q r) ≡ true → is_spoken (TxOut.Carry q r) ≡ true → gives_to e q ≡ false → is_leading_word r ≡ false
-    no DialogueRecord.Grant x y z = absurd (cc (x, z))
-    no DialogueRecord.HandshakeGrant x y z = absurd (cc (x, z))
+    no DialogueRecord.Grant x y z = let off : grants_to e q ≡ false = (no_gift e q z).0 in absurd (cc (x, off))
+    no DialogueRecord.HandshakeGrant x y z = let off : hands_to e q ≡ false = (no_gift e q z).1 in absurd (cc (x, off))
     no DialogueRecord.Prepare x y z = absurd (cc (x))
     no DialogueRecord.Commit x y z = absurd (cc (y))
     no DialogueRecord.Rollback x y z = absurd (cc (y))
@@ -218,9 +220,9 @@ inert_said e b p (TxOut.Carry q r ∷ outs) none h i = go (q == p) b refl (inert
         rw one rest
     go true false j rest = rest
     go false v j rest = rest
-inert_said e b p (TxOut.Shut q ∷ outs) none h i = inert_said e (b && not (q == p)) p outs none h i
+inert_said e b p (TxOut.Shut q ∷ outs) none h i = absurd (cc (h))
 inert_said e b p (TxOut.Recovery a r ∷ outs) none h i = inert_said e b p outs none h (grind (arith, i))
-inert_said e b p (TxOut.Close q ∷ outs) none h i = inert_said e (b && not (q == p)) p outs none h i
+inert_said e b p (TxOut.Close q ∷ outs) none h i = inert_said e (b && not (q == p)) p outs none (and_right (closes_at e q) (are_said e outs) h) i
 
 pub inert_plain : (ws : List DialogueRecord) → none_of is_leading_word ws ≡ true → (none_of is_opening ws ≡ true) × (some_closing ws ≡ false)
 inert_plain [] h = (refl, refl)

@@ -119,7 +119,7 @@ association_alone : (who : Who) (d : Digest) (from : Addr) (y z : Mark) (q : ℕ
 association_alone who d from y z q r c ok i late h = go (find_arc d.arcs from.node) refl h ∙ i
   where
     counted : (p : ℕ) → (woken_by r p (record d { arcs = with_link d.arcs p with_one_taken })).current ≡ d.current
-    counted p = (woken_current r p (record d { arcs = with_link d.arcs p with_one_taken })).0
+    counted p = (woken_current (Event.Arrive from (PeerRecord.OnAssoc y z q r)) r p (record d { arcs = with_link d.arcs p with_one_taken })).0
 
     on : (a : Arc) → find_arc d.arcs from.node ≡ Some a → (v : Sight) → sight_at who d a r ≡ v
         → elim v as (λ _. Option Put) [ Acts ↦ put_by_record a.peer.node (counted_arcs d.arcs a.peer.node) r | Nothing_happens ↦ None | Out_of_phase ↦ None ] ≡ None

@@ -21,6 +21,7 @@ pub mod Prompt
 pub mod Heeding
 pub mod Outspoken
 pub mod Framed
+pub mod DrainedTaken
 pub mod Preludes
 pub mod Marks
 pub mod Traced
@@ -69,9 +70,18 @@ pub mod OwingTurns
 mod ClearingTurns
 mod ClearingMoves
 mod ClearedLaw
+mod KeptAbove
+mod DoneTurns
+mod Finishing
+mod Finished
+mod MarkTurns
+mod BranchMarks
 mod ClearedFate
+mod ClearedReplies
+mod ClearedRuns
 mod ClearedDown
 mod ReportFree
+mod Reported
 pub mod Branched
 pub mod Keyed
 pub mod Above
@@ -97,6 +107,12 @@ pub mod OwingLaw
 pub mod Unknown
 pub mod Bounds
 pub mod RollsUp
+pub mod NoRolling
+pub mod Moments
+pub mod DrainedWords
+pub mod DrainedOrders
+pub mod DrainedDones
+pub mod DrainedBranches
 pub mod Voted
 pub mod VotedAt
 pub mod ReadyDown
@@ -170,7 +186,74 @@ pub mod TookBack
 pub mod EndsRounds
 pub mod KnownFlags
 pub mod KnownAsked
+pub mod KnownTold
 pub mod KnownPrepared
+pub mod KnownOwes
+pub mod OwnTurns
+pub mod OwnMoves
+pub mod KnownOwn
+pub mod Faced
+pub mod KnownRolled
 pub mod KnownWhole
 pub mod AtPeer
 pub mod KnownRests
+pub mod KnownControlTurns
+pub mod KnownControlArcs
+pub mod KnownControlSigns
+pub mod KnownControlMoves
+pub mod KnownControlTurned
+pub mod KnownControlSteps
+pub mod KnownControlFirst
+pub mod KnownControlCauses
+pub mod KnownControlQuiet
+pub mod KnownControlEvents
+pub mod KnownControlSaid
+pub mod KnownControlHeard
+pub mod KnownControlBegun
+pub mod KnownControlLeft
+pub mod KnownControlLeaves
+pub mod KnownControl
+pub mod KnownOrder
+pub mod KnownMarks
+pub mod KnownMarked
+pub mod KnownMarkedTaken
+pub mod KnownEnds
+pub mod KnownReplied
+pub mod KnownUnended
+pub mod KnownEnded
+pub mod KnownAllMarks
+pub mod Foreign
+pub mod OverTold
+pub mod Shown
+pub mod Touches
+pub mod TouchedMoves
+pub mod TouchedEntry
+pub mod Talks
+pub mod KnownShakes
+pub mod KnownPassage
+pub mod KnownSilent
+pub mod KnownDefers
+pub mod KnownDeferral
+pub mod KnownShuts
+pub mod KnownLinked
+pub mod KnownLinkBy
+pub mod KnownGiven
+pub mod KnownLink
+pub mod Calm
+pub mod LiveTurned
+pub mod LiveEvents
+pub mod LiveLaw
+pub mod AfterEvent
+pub mod Heeds
+pub mod Unended
+pub mod Said
+pub mod ClearTurns
+pub mod ClearLaw
+pub mod DrainedNode
+pub mod DrainedRows
+pub mod DrainedUp
+pub mod DrainedClear
+pub mod DrainedDown
+pub mod DrainedDone
+pub mod DrainedCommits
+pub mod KnownDue

@@ -173,7 +173,7 @@ linked_moves who e s p = record {
     superior = one.superior;
     declared = one.declared;
   };
-  drops_arc = λ d q m one. linked_dropped p d q m one;
+  drops_arc = λ d q m at one. linked_dropped p d q m one;
   notes_kept = λ d ks m held one. record { over = one.over; drawn = one.drawn; boot = one.boot; superior = one.superior; declared = one.declared };
   keeps = λ d k f held. record { over = over_performed d.arcs (settled k f).outs p (apart_settled k f); drawn = at_most_itself d.drawn; boot = refl; superior = refl; declared = refl };
   turns = λ d c f now at asked put gone. linked_turned who f d c p put;

@@ -51,10 +51,10 @@ back_logged o up (e ∷ h) u empty legal r = go (rollback_case u e.rec (records 
 
 -- ---- what rolled, or logged Commit, is in the tree
 
-later_member : (o : Origin) (t : Aaid) (e : Entry) (h : List Entry) → is_member o t h ≡ true → is_member o t (e ∷ h) ≡ true
+pub later_member : (o : Origin) (t : Aaid) (e : Entry) (h : List Entry) → is_member o t h ≡ true → is_member o t (e ∷ h) ≡ true
 later_member o t e h m = rw m (grind arith)
 
-rolled_member : (o : Origin) (t : Aaid) (h : List Entry) → rolled o t h ≡ true → is_member o t h ≡ true
+pub rolled_member : (o : Origin) (t : Aaid) (h : List Entry) → rolled o t h ≡ true → is_member o t h ≡ true
 rolled_member o t [] r = absurd (cc (r))
 rolled_member o t (e ∷ h) r = later_member o t e h (go (or_case (is_now t (digest o h).current && (rolls o.who (digest o h) e.event || is_crash_in_active (digest o h) e.event)) (rolled o t h) r) (rolled_member o t h))
   where

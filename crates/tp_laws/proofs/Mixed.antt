@@ -19,7 +19,7 @@ use Rattle.tp_laws.proofs.Agreed.{one_outcome}
 
 -- ---- a node in the list
 
-abbrev Stands : Node → List Node → Type 0
+abbrev pub Stands : Node → List Node → Type 0
 Stands x [] = ⊥
 Stands x (y ∷ ys) = (y ≡ x) ⊎ Stands x ys
 
@@ -45,7 +45,7 @@ member_in t (y ∷ ns) x s = go (is_member y.origin t y.history) refl s (member_
     go true i (inr s) rest = let r = rest s in (inr r.0, r.1)
     go false i s rest = let r = rest s in (inr r.0, r.1)
 
-member_of : (es : List Happening) (t : Aaid) (x : Node) → Stands x (members_of t (run es).nodes) → IsOf (run es) t x
+pub member_of : (es : List Happening) (t : Aaid) (x : Node) → Stands x (members_of t (run es).nodes) → IsOf (run es) t x
 member_of es t x s = let m = member_in t (run es).nodes x s in record { here = found_in [] (run es).nodes x (distinct_run es) m.0; of_tree = m.1 }
 
 -- ---- who was told so

@@ -94,7 +94,7 @@ reached_moves who e s = record {
   chain = λ d a f one two quiet. (two.0 ∙ one.0, λ h. two.1 (one.1 h));
   speaks = λ d outs h own said. (refl, λ h. h);
   changes_dialogue = λ d p f m by one. one;
-  drops_arc = λ d p m one. one;
+  drops_arc = λ d p m at one. one;
   notes_kept = λ d ks m held one. one;
   keeps = λ d k f held. (refl, λ h. h);
   turns = λ d c f now at asked put gone.
@@ -223,7 +223,7 @@ order_moves who e s = record {
       (reached.chain d a f one.0 two.0 quiet, sound.chain d a f one.1 two.1 quiet, kept.chain d a f one.2 two.2 quiet, follows_then who d a f one two quiet);
   speaks = λ d outs h own said. (reached.speaks d outs h own said, sound.speaks d outs h own said, kept.speaks d outs h own said, quiet_follows who d (perform outs d) refl);
   changes_dialogue = λ d p f m by one. one;
-  drops_arc = λ d p m one. one;
+  drops_arc = λ d p m at one. one;
   notes_kept = λ d ks m held one. (
     reached.notes_kept d ks m held one.0,
     sound.notes_kept d ks m held one.1,

@@ -1,6 +1,6 @@
 -- In every legal history a node owes each branch that it began, until the branch is done or has left, or it rolled or left
 -- itself. And what was said beside the associations was a question of the current key, or an answer.
-use Rattle.std.proofs.Common.{◌≡◌, ◌≤◌, ◌+◌, ◌⊎◌, inl, inr, ℕ, suc, Bool, true, false, refl, ap, sym, subst, ◌∙◌, arith, Option, Some, None, List, [], ◌∷◌, ◌&&◌, ◌||◌, ◌==◌, not, length}
+use Rattle.std.proofs.Common.{◌≡◌, ◌≤◌, ◌+◌, ◌⊎◌, inl, inr, ℕ, suc, Bool, true, false, refl, ap, sym, subst, ◌∙◌, arith, Option, Some, None, List, [], ◌∷◌, ◌&&◌, ◌||◌, ◌==◌, not, length, slice_get}
 use Rattle.std.proofs.lemmas.Bool.Decides.{nat_tests}
 use Rattle.tp_names.specs.declared.identifiers.Aaid.{Aaid}
 use Rattle.tp_names.specs.declared.identifiers.Mark.{Mark}
@@ -62,7 +62,7 @@ use Rattle.tp_laws.proofs.SettledAt.{settled_law}
 use Rattle.tp_laws.proofs.Marked.{Marked, MayMark}
 use Rattle.tp_laws.proofs.Accounts.{leaves_word, asked_took, TookWord, Balanced, keys_to, ends_from, votes_from, Accounts, last_at, marked_key, open_most}
 use Rattle.tp_laws.proofs.AccountSteps.{Rules, heeded_at, zero_or_one, open_counted}
-use Rattle.tp_laws.proofs.AccountLaw.{took_mark, left_key, holds_long, holds_key}
+use Rattle.tp_laws.proofs.AccountLaw.{took_mark, left_key, holds_long}
 use Rattle.tp_laws.proofs.LeftDown.{Below, below_tail, accounts_of}
 use Rattle.tp_laws.proofs.BelowRuns.{TookKey, behind_key, current_took}
 use Rattle.tp_laws.proofs.KeptLog.{kept_prelude}
@@ -263,10 +263,14 @@ id_found (x ∷ bs) b w h = go (is_branch x.id b) refl (id_found bs b w)
 committing_bound : (v : Phase) → is_committing v ≡ true → is_bound_phase v ≡ true
 committing_bound v h = grind (arith, h)
 
+-- what Done with that report tells of the tree
+abbrev pub done_tells : Deeds → Aaid → Report → Bool
+done_tells g t r = g.committed t && (not (is_report_none r) || g.completed t) && (is_report_none r || g.damaged t)
+
 -- Done that is taken in a commitment is of this branch
-committed_word : (o : Origin) (up : Option Addr) (p : ℕ) (g : Deeds) (rs : List LogRec) (e : Entry) (h : List Entry) → Rules o up p g rs e h → Accounts o p g rs h → (j : BranchKey) (m : MayMark o.who e.event (prelude o.who (digest o h) e.event) may_end p j) (r : Report)
-    → m.event ≡ TxEvent.Took p (DialogueRecord.Done r) → is_committing m.current.phase ≡ true → g.committed j.0 ≡ true
-committed_word o up p g rs e h rules old j m r word committing = holds_key ks n g.committed j (last_at (sent_on t.x t.y p h) n j rows (exactly (length ks) n long (least (old.balance t.x t.y sent t.seq live)))) held
+pub done_word : (o : Origin) (up : Option Addr) (p : ℕ) (g : Deeds) (rs : List LogRec) (e : Entry) (h : List Entry) → Rules o up p g rs e h → Accounts o p g rs h → (j : BranchKey) (may : TxEvent → Transaction → ℕ → Bool) (m : MayMark o.who e.event (prelude o.who (digest o h) e.event) may p j) (r : Report)
+    → m.event ≡ TxEvent.Took p (DialogueRecord.Done r) → is_committing m.current.phase ≡ true → done_tells g j.0 r ≡ true
+done_word o up p g rs e h rules old j may m r word committing = rw (place, holds_at) at said
   where
     d : Digest
     d = digest o h
@@ -289,8 +293,11 @@ committed_word o up p g rs e h rules old j m r word committing = holds_key ks n 
     n : ℕ
     n = ends_from t.x t.y p h
 
+    said : (holds_at ks n g.committed && (not (is_report_none r) || holds_at ks n g.completed) && (is_report_none r || holds_at ks n g.damaged)) ≡ true
+    said = and_left (holds_at ks n g.committed && (not (is_report_none r) || holds_at ks n g.completed) && (is_report_none r || holds_at ks n g.damaged)) true (heeded_at p g rs e.event h t.from t.x t.y t.seq (DialogueRecord.Done r) t.is t.at rules.heeded)
+
     held : holds_at ks n g.committed ≡ true
-    held = and_left (holds_at ks n g.committed) (not (is_report_none r) || holds_at ks n g.completed) (and_left (holds_at ks n g.committed && (not (is_report_none r) || holds_at ks n g.completed)) true (heeded_at p g rs e.event h t.from t.x t.y t.seq (DialogueRecord.Done r) t.is t.at rules.heeded))
+    held = and_left (holds_at ks n g.committed) (not (is_report_none r) || holds_at ks n g.completed) (and_left (holds_at ks n g.committed && (not (is_report_none r) || holds_at ks n g.completed)) (is_report_none r || holds_at ks n g.damaged) said)
 
     long : suc n ≤ length ks
     long = holds_long ks n g.committed held
@@ -321,75 +328,34 @@ committed_word o up p g rs e h rules old j m r word committing = holds_key ks n 
           (let k = open_counted d m.current p (settled_law o up h rules.empty rules.legal.3) at (committing_bound m.current.phase committing) (ap is_live live) one in
           (old.clear t.x t.y sent t.seq k.0 live k.1 one).0)
     ]
+
+    place : slice_get ks n ≡ Some j
+    place = last_at (sent_on t.x t.y p h) n j rows (exactly (length ks) n long (least (old.balance t.x t.y sent t.seq live)))
+
+committed_word : (o : Origin) (up : Option Addr) (p : ℕ) (g : Deeds) (rs : List LogRec) (e : Entry) (h : List Entry) → Rules o up p g rs e h → Accounts o p g rs h → (j : BranchKey) (m : MayMark o.who e.event (prelude o.who (digest o h) e.event) may_end p j) (r : Report)
+    → m.event ≡ TxEvent.Took p (DialogueRecord.Done r) → is_committing m.current.phase ≡ true → g.committed j.0 ≡ true
+committed_word o up p g rs e h rules old j m r word committing =
+    and_left (g.committed j.0) (not (is_report_none r) || g.completed j.0) (and_left (g.committed j.0 && (not (is_report_none r) || g.completed j.0)) (is_report_none r || g.damaged j.0) (done_word o up p g rs e h rules old j may_end m r word committing))
 
 -- and with no report, of one that was complete with none
 pub completed_word : (o : Origin) (up : Option Addr) (p : ℕ) (g : Deeds) (rs : List LogRec) (e : Entry) (h : List Entry) → Rules o up p g rs e h → Accounts o p g rs h → (j : BranchKey) (may : TxEvent → Transaction → ℕ → Bool) (m : MayMark o.who e.event (prelude o.who (digest o h) e.event) may p j) (r : Report)
     → m.event ≡ TxEvent.Took p (DialogueRecord.Done r) → is_committing m.current.phase ≡ true → is_report_none r ≡ true → g.completed j.0 ≡ true
-completed_word o up p g rs e h rules old j may m r word committing none = holds_key ks n g.completed j (last_at (sent_on t.x t.y p h) n j rows (exactly (length ks) n long (least (old.balance t.x t.y sent t.seq live)))) clear
+completed_word o up p g rs e h rules old j may m r word committing none =
+    go (is_report_none r) none (and_right (g.committed j.0) (not (is_report_none r) || g.completed j.0) (and_left (g.committed j.0 && (not (is_report_none r) || g.completed j.0)) (is_report_none r || g.damaged j.0) (done_word o up p g rs e h rules old j may m r word committing)))
   where
-    d : Digest
-    d = digest o h
+    go : (v : Bool) → v ≡ true → (not v || g.completed j.0) ≡ true → g.completed j.0 ≡ true
+    go true i h = h
+    go false i h = absurd (cc (i))
 
-    t : TookWord e.event p (DialogueRecord.Done r)
-    t = asked_took e.event m.current p (DialogueRecord.Done r) (subst (λ (f : TxEvent). IsAsked e.event m.current f) word m.asked)
-
-    ok : refusal o.who d (Event.Arrive t.from (PeerRecord.OnAssoc t.x t.y t.seq (DialogueRecord.Done r))) ≡ None
-    ok = subst (λ (f : Event). refusal o.who d f ≡ None) t.is rules.legal.0
-
-    sent : ℕ
-    sent = (takes_next o.who d t.from t.x t.y t.seq (DialogueRecord.Done r) ok).sent
-
-    live : link_with d.arcs p ≡ Live t.x t.y sent t.seq
-    live = ap (link_with d.arcs) (sym t.at) ∙ (takes_next o.who d t.from t.x t.y t.seq (DialogueRecord.Done r) ok).live
-
-    ks : List BranchKey
-    ks = keys_to t.x t.y p h
-
-    n : ℕ
-    n = ends_from t.x t.y p h
-
-    held : holds_at ks n g.committed ≡ true
-    held = and_left (holds_at ks n g.committed) (not (is_report_none r) || holds_at ks n g.completed) (and_left (holds_at ks n g.committed && (not (is_report_none r) || holds_at ks n g.completed)) true (heeded_at p g rs e.event h t.from t.x t.y t.seq (DialogueRecord.Done r) t.is t.at rules.heeded))
-
-    both : (holds_at ks n g.committed && (not (is_report_none r) || holds_at ks n g.completed)) ≡ true
-    both = and_left (holds_at ks n g.committed && (not (is_report_none r) || holds_at ks n g.completed)) true (heeded_at p g rs e.event h t.from t.x t.y t.seq (DialogueRecord.Done r) t.is t.at rules.heeded)
-
-    clear : holds_at ks n g.completed ≡ true
-    clear = go (is_report_none r) none (and_right (holds_at ks n g.committed) (not (is_report_none r) || holds_at ks n g.completed) both)
-      where
-        go : (v : Bool) → v ≡ true → (not v || holds_at ks n g.completed) ≡ true → holds_at ks n g.completed ≡ true
-        go true i h = h
-        go false i h = absurd (cc (i))
-
-    long : suc n ≤ length ks
-    long = holds_long ks n g.committed held
-
-    at : d.current ≡ Some m.current
-    at = sym (ap (λ (f : Event). (prelude o.who d f).current) t.is) ∙ m.at
-
-    stands : Marked (λ b. true) d.current p j
-    stands = record { current = m.current; branch = m.branch; at = at; found = m.found; is = refl; key = m.key }
-
-    rows : last_from None (sent_on t.x t.y p h) ≡ Some j
-    rows = (paired_law o up h rules.empty rules.legal.3).rows p t.x t.y sent t.seq live j (marked_key (λ b. true) d p j (late_law o up h rules.legal.3) stands)
-
-    exactly : (a b : ℕ) → suc b ≤ a → a ≤ suc b → a ≡ suc b
-    exactly a b h i = omega (arith, h, i)
-
-    open_less : (a b q : ℕ) → a ≤ b + q → q ≤ 1 → a ≤ suc b
-    open_less a b q h i = omega (arith, h, i)
-
-    shut_less : (a b q : ℕ) → a ≤ b + 1 + q → q ≡ 0 → a ≤ suc b
-    shut_less a b q h i = omega (arith, h, i)
-
-    least : Balanced o h ks n (votes_from t.x t.y p h) (open_at d.current p) → length ks ≤ suc n
-    least (inl b) = open_less (length ks) n (open_at d.current p) b (open_most d.current p)
-    least (inr debt) = elim (zero_or_one (open_at d.current p) (open_most d.current p)) [
-      | inl z ↦ shut_less (length ks) n (open_at d.current p) debt.least z
-      | inr one ↦
-          (let k = open_counted d m.current p (settled_law o up h rules.empty rules.legal.3) at (committing_bound m.current.phase committing) (ap is_live live) one in
-          (old.clear t.x t.y sent t.seq k.0 live k.1 one).0)
-    ]
+-- and with a report, of one that is kept for its damage
+pub damaged_word : (o : Origin) (up : Option Addr) (p : ℕ) (g : Deeds) (rs : List LogRec) (e : Entry) (h : List Entry) → Rules o up p g rs e h → Accounts o p g rs h → (j : BranchKey) (may : TxEvent → Transaction → ℕ → Bool) (m : MayMark o.who e.event (prelude o.who (digest o h) e.event) may p j) (r : Report)
+    → m.event ≡ TxEvent.Took p (DialogueRecord.Done r) → is_committing m.current.phase ≡ true → is_report_none r ≡ false → g.damaged j.0 ≡ true
+damaged_word o up p g rs e h rules old j may m r word committing some =
+    go (is_report_none r) some (and_right (g.committed j.0 && (not (is_report_none r) || g.completed j.0)) (is_report_none r || g.damaged j.0) (done_word o up p g rs e h rules old j may m r word committing))
+  where
+    go : (v : Bool) → v ≡ false → (v || g.damaged j.0) ≡ true → g.damaged j.0 ≡ true
+    go false i h = h
+    go true i h = absurd (cc (i))
 
 -- what ends a branch: its Done in a commitment, a word in a rollback, or a reply
 data Ending (f : TxEvent) (q : Transaction) (p : ℕ) : Type 0 where

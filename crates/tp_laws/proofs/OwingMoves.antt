@@ -1093,7 +1093,7 @@ owing_moves who e fall s so = record {
   chain = λ d a f one two quiet. (sound.chain d a f one.0 two.0 quiet, own.chain d a f one.1 two.1 quiet, owing_then who e fall s d a f one.0 one.1 quiet one.2 two.2);
   speaks = λ d outs h said told. (sound.speaks d outs h said told, own.speaks d outs h said told, owing_perform who e fall s d outs h said.1);
   changes_dialogue = λ d q f m by one. (one.0, one.1, record { says = one.2.says; rolls = one.2.rolls; backs = one.2.backs; stays = one.2.stays; begins = one.2.begins });
-  drops_arc = λ d q m one. (one.0, one.1, record { says = one.2.says; rolls = one.2.rolls; backs = one.2.backs; stays = one.2.stays; begins = one.2.begins });
+  drops_arc = λ d q m at one. (one.0, one.1, record { says = one.2.says; rolls = one.2.rolls; backs = one.2.backs; stays = one.2.stays; begins = one.2.begins });
   notes_kept = λ d ks m held one. (sound.notes_kept d ks m held one.0, own.notes_kept d ks m held one.1, noted d ks m held one.2);
   keeps = λ d k f held. (sound.keeps d k f held, own.keeps d k f held, owing_keep who e fall s d k f held.3 held.4);
   turns = λ d c f now at asked put gone. (sound.turns d c f now at asked put gone, own.turns d c f now at asked put gone, owing_turned who e fall s f d c (so c f d.arcs at asked) now at asked put);

@@ -22,7 +22,7 @@ use Rattle.tp_laws.specs.Turns.{Turns, vote, decide, shut_given_up, row_dead, fa
 use Rattle.tp_laws.specs.Moves.{IsPut, IsRecoveryIn}
 use Rattle.tp_laws.specs.Passages.{may_move, is_commit_rec, IsPassed}
 use Rattle.tp_laws.specs.Branches.{may_leave, may_end}
-use Rattle.tp_laws.specs.Owing.{is_standing, IsOwedIn, rolls_back, StandsAt, KeepsOwed, Quits, Is_done, Has_left, Rolls, Departs, IsOwnWord, IsOwingTurn}
+use Rattle.tp_laws.specs.Owing.{is_standing, IsOwedIn, rolls_back, StandsAt, KeepsOwed, Quits, Is_done, Has_left, Rolls, Departs, is_damage_rec, IsOwnWord, IsOwingTurn}
 use Rattle.tp_laws.proofs.EveryTurn.{every_turn}
 use Rattle.tp_laws.proofs.Saying.{recovery_append}
 use Rattle.tp_laws.proofs.Fair.{row_phase, row_with}
@@ -146,8 +146,8 @@ ask_word t a u (b ∷ rows) z r h = go (b.branch.ended || b.branch.left || b.bra
     go false (inl h) rest = subst (λ (w : PeerRecord). IsOwnWord t a z w) h.1 tt
     go false (inr h) rest = rest h
 
-done_word : (t : Transaction) (a : Turn) (x : Report) (z : Addr) (r : PeerRecord) → is_committing t.phase ≡ true → IsRecoveryIn (done_up t x) z r → IsOwnWord t a z r
-done_word t a x z r c = go t.key t.up refl
+done_word : (t : Transaction) (a : Turn) (x : Report) (z : Addr) (r : PeerRecord) → is_committing t.phase ≡ true → (is_report_none x || is_damage_rec a.rec) ≡ true → IsRecoveryIn (done_up t x) z r → IsOwnWord t a z r
+done_word t a x z r c spoilt = go t.key t.up refl
   where
     go : (k : Key) (u : Bool) → t.key ≡ k → IsRecoveryIn (elim k as (λ _. List TxOut) [
       | Root a ↦ []
@@ -155,7 +155,7 @@ done_word t a x z r c = go t.key t.up refl
     ]) z r → IsOwnWord t a z r
     go (Root v) u i h = absurd h
     go (Under v b s) true i h = absurd h
-    go (Under v b s) false i (inl h) = subst (λ (w : PeerRecord). IsOwnWord t a z w) h.1 (sym (ap aaid_of i), rw c refl)
+    go (Under v b s) false i (inl h) = subst (λ (w : PeerRecord). IsOwnWord t a z w) h.1 (sym (ap aaid_of i), rw c refl, spoilt)
     go (Under v b s) false i (inr h) = absurd h
 
 retried_word : (t : Transaction) (z : Addr) (r : PeerRecord) → IsRecoveryIn (retried t) z r → IsOwnWord t (turn (retried t) t) z r
@@ -252,8 +252,8 @@ owing_commit e s t passed c = go (not t.owes && all_done t.rows) refl
     over : Turn
     over = record { rec = Some (if is_report_none x then log_end t Outcome.Commit else log_damage t Outcome.Commit x (owed_of t.rows)); outs = outs; next = record t { phase = Phase.Nil } }
 
-    says : (a : Turn) (z : Addr) (r : PeerRecord) → IsRecoveryIn outs z r → IsOwnWord t a z r
-    says a z r h = elim (recovery_append (forgets (aaid_of t.key) t.rows ++ done_up t x ++ (TxOut.Tell (Indication.CommitComplete x) ∷ []) ++ ends_down t.rows) (end_up t) z r h) [
+    says : (a : Turn) (z : Addr) (r : PeerRecord) → (is_report_none x || is_damage_rec a.rec) ≡ true → IsRecoveryIn outs z r → IsOwnWord t a z r
+    says a z r spoilt h = elim (recovery_append (forgets (aaid_of t.key) t.rows ++ done_up t x ++ (TxOut.Tell (Indication.CommitComplete x) ∷ []) ++ ends_down t.rows) (end_up t) z r h) [
       | inr i ↦ absurd (silent_end t z r i)
       | inl i ↦ elim (recovery_append (forgets (aaid_of t.key) t.rows ++ done_up t x ++ (TxOut.Tell (Indication.CommitComplete x) ∷ [])) (ends_down t.rows) z r i) [
         | inr j ↦ absurd (silent_ends t.rows z r j)
@@ -261,11 +261,15 @@ owing_commit e s t passed c = go (not t.owes && all_done t.rows) refl
           | inr k ↦ absurd k
           | inl k ↦ elim (recovery_append (forgets (aaid_of t.key) t.rows) (done_up t x) z r k) [
             | inl l ↦ forget_word t a (aaid_of t.key) t.rows z r l
-            | inr l ↦ done_word t a x z r c l
+            | inr l ↦ done_word t a x z r c spoilt l
           ]
         ]
       ]
     ]
+
+    spoilt : (v : Bool) → (v || is_damage_rec (Some (if v then log_end t Outcome.Commit else log_damage t Outcome.Commit x (owed_of t.rows)))) ≡ true
+    spoilt true = refl
+    spoilt false = refl
 
     plain : (v : Bool) → rolls_back (Some (if v then log_end t Outcome.Commit else log_damage t Outcome.Commit x (owed_of t.rows))) ≡ false
     plain true = refl
@@ -278,7 +282,7 @@ owing_commit e s t passed c = go (not t.owes && all_done t.rows) refl
         record {
           passed = passed;
           logs = inr (commit_standing t.phase c);
-          says = λ z r h. says (complete_commit t) z r (subst (λ (a : Turn). IsRecoveryIn a.outs z r) is h);
+          says = λ z r h. says (complete_commit t) z r (ap (λ (a : Turn). is_report_none x || is_damage_rec a.rec) is ∙ spoilt (is_report_none x)) (subst (λ (a : Turn). IsRecoveryIn a.outs z r) is h);
           rolls = λ h. absurd (cc (plain (is_report_none x), ap (λ (a : Turn). rolls_back a.rec) (sym is) ∙ h));
           stays = λ p b st.
               let k = given_up t.rows p st.row st.found st.left st.ended all in
@@ -414,18 +418,31 @@ standing_back Phase.Committing q m h = refl
 standing_back Phase.Nil q m h = absurd (grind (arith, m, h))
 standing_back Phase.Rolling q m h = absurd (grind (arith, m, h))
 
-word_later : (t u : Transaction) (a b c : Turn) (z : Addr) (r : PeerRecord) → u.key ≡ t.key → ((is_committing u.phase || is_commit_rec b.rec) ≡ true → (is_committing t.phase || is_commit_rec c.rec) ≡ true) → IsOwnWord u b z r → IsOwnWord t c z r
-word_later t u a b c z (PeerRecord.RecReady v w) key more h = sym key ∙ h
-word_later t u a b c z (PeerRecord.RecReply v w (RecState.Done x)) key more h = (h.0 ∙ ap aaid_of key, more h.1)
-word_later t u a b c z (PeerRecord.RecReply v w RecState.Unknown) key more h = h
-word_later t u a b c z (PeerRecord.RecReply v w RecState.Commit) key more h = tt
-word_later t u a b c z (PeerRecord.RecReply v w RecState.RetryLater) key more h = tt
-word_later t u a b c z (PeerRecord.RecCommit v w) key more h = tt
-word_later t u a b c z (PeerRecord.Forget v w) key more h = tt
-word_later t u a b c z (PeerRecord.OpenAssoc v w) key more h = tt
-word_later t u a b c z (PeerRecord.AcceptAssoc v w x) key more h = tt
-word_later t u a b c z (PeerRecord.ShutAssoc v w) key more h = tt
-word_later t u a b c z (PeerRecord.OnAssoc v w q x) key more h = tt
+-- what a record tells, the whole logs too
+from_a : {a b c : Option LogRec} (f : Option LogRec → Bool) → f None ≡ false → (a ≡ None) × (c ≡ b) ⊎ (b ≡ None) × (c ≡ a) → f a ≡ true → f c ≡ true
+from_a f none (inl w) h = absurd (cc (none, ap f (sym w.0), h))
+from_a f none (inr w) h = ap f w.1 ∙ h
+
+from_b : {a b c : Option LogRec} (f : Option LogRec → Bool) → f None ≡ false → (a ≡ None) × (c ≡ b) ⊎ (b ≡ None) × (c ≡ a) → f b ≡ true → f c ≡ true
+from_b f none (inl w) h = ap f w.1 ∙ h
+from_b f none (inr w) h = absurd (cc (none, ap f (sym w.0), h))
+
+or_more : (x a b : Bool) → (a ≡ true → b ≡ true) → (x || a) ≡ true → (x || b) ≡ true
+or_more true a b f h = refl
+or_more false a b f h = f h
+
+word_later : (t u : Transaction) (a b c : Turn) (z : Addr) (r : PeerRecord) → u.key ≡ t.key → ((is_committing u.phase || is_commit_rec b.rec) ≡ true → (is_committing t.phase || is_commit_rec c.rec) ≡ true) → (is_damage_rec b.rec ≡ true → is_damage_rec c.rec ≡ true) → IsOwnWord u b z r → IsOwnWord t c z r
+word_later t u a b c z (PeerRecord.RecReady v w) key more spoilt h = sym key ∙ h
+word_later t u a b c z (PeerRecord.RecReply v w (RecState.Done x)) key more spoilt h = (h.0 ∙ ap aaid_of key, more h.1, or_more (is_report_none x) (is_damage_rec b.rec) (is_damage_rec c.rec) spoilt h.2)
+word_later t u a b c z (PeerRecord.RecReply v w RecState.Unknown) key more spoilt h = h
+word_later t u a b c z (PeerRecord.RecReply v w RecState.Commit) key more spoilt h = tt
+word_later t u a b c z (PeerRecord.RecReply v w RecState.RetryLater) key more spoilt h = tt
+word_later t u a b c z (PeerRecord.RecCommit v w) key more spoilt h = tt
+word_later t u a b c z (PeerRecord.Forget v w) key more spoilt h = tt
+word_later t u a b c z (PeerRecord.OpenAssoc v w) key more spoilt h = tt
+word_later t u a b c z (PeerRecord.AcceptAssoc v w x) key more spoilt h = tt
+word_later t u a b c z (PeerRecord.ShutAssoc v w) key more spoilt h = tt
+word_later t u a b c z (PeerRecord.OnAssoc v w q x) key more spoilt h = tt
 
 -- a and then b, from what a leaves; the whole logs what one of them does
 owing_then : (e : TxEvent) (s t : Transaction) (a b c : Turn) → IsPassed e s t c → c.next ≡ b.next → c.outs ≡ a.outs ++ b.outs → (a.rec ≡ None) × (c.rec ≡ b.rec) ⊎ (b.rec ≡ None) × (c.rec ≡ a.rec)
@@ -434,8 +451,8 @@ owing_then e s t a b c passed next outs which one two = record {
   passed = passed;
   logs = logs which;
   says = λ z r h. elim (recovery_append a.outs b.outs z r (subst (λ (l : List TxOut). IsRecoveryIn l z r) outs h)) [
-    | inl i ↦ word_later t t a a c z r refl first (one.says z r i)
-    | inr i ↦ word_later t a.next a b c z r one.passed.key second (two.says z r i)
+    | inl i ↦ word_later t t a a c z r refl first (λ k. from_a is_damage_rec refl which k) (one.says z r i)
+    | inr i ↦ word_later t a.next a b c z r one.passed.key second (λ k. from_b is_damage_rec refl which k) (two.says z r i)
   ];
   rolls = λ h. elim which [ inl i ↦ two.rolls (ap rolls_back (sym i.1) ∙ h) | inr i ↦ one.rolls (ap rolls_back (sym i.1) ∙ h) ];
   stays = λ p d st. elim (one.stays p d st) [

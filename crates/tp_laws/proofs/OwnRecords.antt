@@ -210,7 +210,7 @@ at_moves who e s = record {
   chain = λ d a f one two quiet h. let x = one h in let y = two x.1 in (own_then who.node a.rec (f a.next).rec x.0 y.0, y.1);
   speaks = λ d outs k own said h. (tt, h);
   changes_dialogue = λ d p f m by one. one;
-  drops_arc = λ d p m one. one;
+  drops_arc = λ d p m at one. one;
   notes_kept = λ d ks m held one h. one (at_unnoted who.node ks (subst (AreAt who.node) (sym held.1) (at_noted who.node d.kept h)));
   keeps = λ d k f held h. let own = settled_own who.node k f (at_among who.node d.kept k h held.1) in (own, at_after who.node (settled k f).rec d.kept h own);
   turns = λ d c f now at asked put gone h. let own = (own_turn f (seen who d.arcs c) put).1 in (own, at_after who.node (transacted f (seen who d.arcs c)).rec d.kept h own);

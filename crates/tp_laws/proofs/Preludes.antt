@@ -36,15 +36,15 @@ marks_same m n h =
 
 -- ---- arcs
 
-link_append : (arcs : List Arc) (a : Arc) (p : ℕ) → find_arc arcs a.peer.node ≡ None → link_with (arcs ++ a ∷ []) p ≡ (if a.peer.node == p then a.link else link_with arcs p)
+pub link_append : (arcs : List Arc) (a : Arc) (p : ℕ) → find_arc arcs a.peer.node ≡ None → link_with (arcs ++ a ∷ []) p ≡ (if a.peer.node == p then a.link else link_with arcs p)
 link_append [] a p h = grind arith
 link_append (b ∷ arcs) a p h = grind (arith, nat_tests, link_append arcs a p)
 
-link_put : (arcs : List Arc) (a b : Arc) (p : ℕ) → find_arc arcs b.peer.node ≡ Some a → link_with (put_arc arcs b) p ≡ (if b.peer.node == p then b.link else link_with arcs p)
+pub link_put : (arcs : List Arc) (a b : Arc) (p : ℕ) → find_arc arcs b.peer.node ≡ Some a → link_with (put_arc arcs b) p ≡ (if b.peer.node == p then b.link else link_with arcs p)
 link_put [] a b p h = absurd cc
 link_put (c ∷ arcs) a b p h = grind (arith, nat_tests, link_put arcs a b p)
 
-link_counted : (arcs : List Arc) (q p : ℕ) → link_with (with_link arcs q with_one_taken) p ≡ (if q == p then with_one_taken (link_with arcs p) else link_with arcs p)
+pub link_counted : (arcs : List Arc) (q p : ℕ) → link_with (with_link arcs q with_one_taken) p ≡ (if q == p then with_one_taken (link_with arcs p) else link_with arcs p)
 link_counted [] q p = grind arith
 link_counted (c ∷ arcs) q p = grind (arith, nat_tests, link_counted arcs q p)
 
@@ -233,7 +233,7 @@ takes_next who d from x y seq r ok = go (find_arc d.arcs from.node) refl
     go None i = absurd (grind (arith, ok, i))
     go (Some a) i = on a a.link i refl
 
-begun_arcs : (o : Option Arc) (t : Aaid) (b : BranchId) (d : Digest) → (begun_in o t b d).arcs ≡ d.arcs
+pub begun_arcs : (o : Option Arc) (t : Aaid) (b : BranchId) (d : Digest) → (begun_in o t b d).arcs ≡ d.arcs
 begun_arcs None t b d = refl
 begun_arcs (Some a) t b d = refl
 

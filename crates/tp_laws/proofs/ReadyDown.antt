@@ -74,7 +74,7 @@ bound_or t d = go d.current refl
 bound_is : (t : Aaid) (d : Digest) → BoundNow t d → is_now t d.current ≡ true
 bound_is t d b = ap (is_now t) b.1 ∙ b.2
 
-bound_tree : (t : Aaid) (rs : List LogRec) → has_record (is_bound_of t) rs ≡ true → has_record (is_of_tree t) rs ≡ true
+pub bound_tree : (t : Aaid) (rs : List LogRec) → has_record (is_bound_of t) rs ≡ true → has_record (is_of_tree t) rs ≡ true
 bound_tree t [] h = absurd (cc (h))
 bound_tree t (LogRec.Ready n k s cs ∷ rs) h = let rest = bound_tree t rs in grind (arith, h, rest)
 bound_tree t (LogRec.Commit n k s cs ∷ rs) h = let rest = bound_tree t rs in grind (arith, h, rest)

@@ -15,13 +15,15 @@ use Rattle.tp_model.specs.Recovery.{settled}
 use Rattle.tp_model.specs.Node.{grants, split_at_completion}
 use Rattle.tp_model.specs.Questions.{said_to}
 use Rattle.tp_laws.specs.Turns.{Turns, shut_given_up}
-use Rattle.tp_laws.specs.Moves.{IsPut, gives_to, are_said, are_spoken}
+use Rattle.tp_laws.specs.Moves.{IsPut, gives_to, grants_to, hands_to, are_said, are_spoken, closes_at}
 use Rattle.tp_laws.specs.Facts.{none_of}
 use Rattle.tp_laws.specs.Control.{is_returning}
 use Rattle.tp_laws.specs.Holding.{returns_in}
 use Rattle.tp_laws.proofs.EveryTurn.{every_turn}
 use Rattle.tp_laws.proofs.Links.{said_append, recovery_silent}
+use Rattle.tp_laws.proofs.Saying.{no_gift}
 use Rattle.tp_laws.proofs.Words.{none_append}
+use Rattle.tp_laws.proofs.Equal.{and_right}
 
 returns_append : (u : ℕ) (xs ys : List TxOut) → returns_in u (xs ++ ys) ≡ (returns_in u xs || returns_in u ys)
 returns_append u [] ys = refl
@@ -192,12 +194,14 @@ returns_said e p (TxOut.Carry q r ∷ outs) none h s = go (q == p) refl (returns
     go false i rest = rw (i, rest) (other false)
     go true i rest =
         let same : q ≡ p = grind (arith, nat_tests, i) in
-        let here : gives_to e q ≡ false = subst (λ (n : ℕ). gives_to e n ≡ false) (sym same) none in
-        grind (arith, here, h, rest)
+        let here = no_gift e q (subst (λ (n : ℕ). gives_to e n ≡ false) (sym same) none) in
+        let granted : grants_to e q ≡ false = here.0 in
+        let handed : hands_to e q ≡ false = here.1 in
+        grind (arith, granted, handed, h, rest)
 returns_said e p (TxOut.Tell i ∷ outs) none h s = returns_said e p outs none h (grind (arith, s))
-returns_said e p (TxOut.Shut q ∷ outs) none h s = returns_said e p outs none h s
+returns_said e p (TxOut.Shut q ∷ outs) none h s = absurd (cc (h))
 returns_said e p (TxOut.Recovery a r ∷ outs) none h s = let rest = returns_said e p outs none h (grind (arith, s)) in grind (arith, s, rest)
-returns_said e p (TxOut.Close q ∷ outs) none h s = returns_said e p outs none h s
+returns_said e p (TxOut.Close q ∷ outs) none h s = returns_said e p outs none (and_right (closes_at e q) (are_said e outs) h) s
 
 pub returns_settled : (p : ℕ) (k : Kept) (f : KeptEvent) → returns_in p (settled k f).outs ≡ false
 unfolding settled

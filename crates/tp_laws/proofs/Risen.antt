@@ -1,5 +1,5 @@
 -- What every event of a node says to its superior stands in order: an instance of the steps of a node.
-use Rattle.std.proofs.Common.{if◌then◌else◌, ◌≡◌, ◌⊎◌, inl, inr, ℕ, Bool, true, false, refl, ap, sym, subst, ◌∙◌, arith, Option, Some, None, List, [], ◌∷◌, ◌++◌, ◌+◌, not}
+use Rattle.std.proofs.Common.{if◌then◌else◌, ◌≡◌, ◌⊎◌, inl, inr, ℕ, Bool, true, false, refl, ap, sym, subst, ◌∙◌, arith, Option, Some, None, List, [], ◌∷◌, ◌++◌, ◌+◌, ◌&&◌, not}
 use Rattle.std.proofs.lemmas.List.{append-nil}
 use Rattle.tp_names.specs.declared.identifiers.Aaid.{Aaid}
 use Rattle.tp_names.specs.declared.identifiers.BranchId.{BranchId}
@@ -16,11 +16,11 @@ use Rattle.tp_model.specs.declared.transaction.TxEvent.{TxEvent}
 use Rattle.tp_model.specs.declared.transaction.TxOut.{TxOut}
 use Rattle.tp_model.specs.declared.recovery.Kept.{Kept}
 use Rattle.tp_model.specs.declared.recovery.KeptEvent.{KeptEvent}
-use Rattle.tp_model.specs.Parts.{Who, Event, Arc, Idle, Key, Root, Under, Current, Digest}
+use Rattle.tp_model.specs.Parts.{Who, Event, Arc, Idle, Key, Root, Under, Branch, Current, Digest}
 use Rattle.tp_model.specs.Links.{is_live}
 use Rattle.tp_model.specs.Dialogues.{is_nil, is_active, begun_by, named_holder}
 use Rattle.tp_model.specs.Arcs.{find_arc, link_with, with_dialogue}
-use Rattle.tp_model.specs.Transactions.{Transaction, Turn, aaid_of, is_under_at, transacted}
+use Rattle.tp_model.specs.Transactions.{Transaction, Turn, aaid_of, is_under_at, find_row, transacted}
 use Rattle.tp_model.specs.Recovery.{settled}
 use Rattle.tp_model.specs.Node.{Move, move, followed, perform, next_mark, with_mark_drawn, phase_of, seen, Passage, passage, is_leaving, turned, fresh_current, with_begun, may_begin_on, begin_on, keep, branches_of, remaining, entered}
 use Rattle.tp_model.specs.Events.{refusal, action}
@@ -30,33 +30,33 @@ use Rattle.tp_laws.specs.Turns.{loses}
 use Rattle.tp_laws.specs.Moves.{IsAskedByRecord, IsAskedByRequest, IsAsked, IsPut, IsLate, prelude, Moves, are_spoken}
 use Rattle.tp_laws.specs.Passages.{is_commit_rec, IsLogged}
 use Rattle.tp_laws.specs.Trees.{commits_tree, out_tells}
-use Rattle.tp_laws.specs.Facts.{only_words, spoken, stays, ends_in, none_of, BranchKey, HasPlace, HasPlaceAt, words_to, IsHeard, Reads}
-use Rattle.tp_laws.specs.Clearing.{is_complete_none}
+use Rattle.tp_laws.specs.Facts.{only_words, spoken, stays, is_begin, ends_in, none_of, BranchKey, id_at, find_branch, key_at, HasPlace, HasPlaceAt, words_to, IsHeard, Reads}
+use Rattle.tp_laws.specs.Clearing.{is_complete_none, is_damage_rec, damages_tree}
 use Rattle.tp_laws.proofs.Told.{told_append, told_played}
 use Rattle.tp_laws.specs.Upward.{voting_from, each_up, Deeds, may_say, Votes, Tells, Rises, IsRising, VotesAt, TellsAt, IsRisen}
 use Rattle.tp_laws.proofs.Links.{said_append, link_dialogue}
 use Rattle.tp_laws.proofs.Apart.{apart_spoken, apart_turn}
 use Rattle.tp_laws.proofs.EveryEvent.{every_move}
-use Rattle.tp_laws.proofs.Words.{dead_spoken, dead_stays}
+use Rattle.tp_laws.proofs.Words.{dead_spoken, dead_stays, none_append, none_last}
 use Rattle.tp_laws.proofs.Wrapped.{Agrees, agrees_performed, agrees_played, words_append}
 use Rattle.tp_laws.proofs.Hushed.{spoken_none, settled_spoken}
-use Rattle.tp_laws.proofs.HeardTurned.{seen_sees}
+use Rattle.tp_laws.proofs.HeardTurned.{seen_find, seen_sees}
 use Rattle.tp_laws.proofs.Heard.{heard_moves, dropped_live}
 use Rattle.tp_laws.proofs.Leaves.{aaid_same}
 use Rattle.tp_laws.proofs.Behind.{key_tree}
-use Rattle.tp_laws.proofs.Equal.{both_true}
-use Rattle.tp_laws.proofs.Upwords.{up_append, voting_append, is_upward, none_up, none_voting}
+use Rattle.tp_laws.proofs.Equal.{and_left, and_right, both_true}
+use Rattle.tp_laws.proofs.Upwords.{up_append, voting_append, is_telling, none_telling, none_up, none_voting}
 use Rattle.tp_laws.proofs.Rising.{rising_turn}
 
 -- ---- moves that say nothing upwards that matters
 
-risen_none : (e : Event) (p : ℕ) (fall : Bool) (s d : Digest) (m : Move) → none_of is_upward (words_to p m.outs) ≡ true → ((v : Bool) → VotesAt v d.current p → VotesAt v m.next.current p) → IsRisen e p fall s d m
+risen_none : (e : Event) (p : ℕ) (fall : Bool) (s d : Digest) (m : Move) → none_of is_telling (words_to p m.outs) ≡ true → ((v : Bool) → VotesAt v d.current p → VotesAt v m.next.current p) → IsRisen e p fall s d m
 risen_none e p fall s d m none keeps = record {
-  words = λ ks g n v place w k. none_up ks g n v (words_to p m.outs) none;
-  votes = λ v live w. subst (λ (u : Bool). VotesAt u m.next.current p) (sym (none_voting v (words_to p m.outs) none)) (keeps v w);
+  words = λ ks g n v free calm place w k. none_up ks g n v (words_to p m.outs) none;
+  votes = λ v live w. subst (λ (u : Bool). VotesAt u m.next.current p) (sym (none_voting v (words_to p m.outs) (none_telling (words_to p m.outs) none))) (keeps v w);
 }
 
-silent : (p : ℕ) (ws : List DialogueRecord) → ws ≡ [] → none_of is_upward ws ≡ true
+silent : (p : ℕ) (ws : List DialogueRecord) → ws ≡ [] → none_of is_telling ws ≡ true
 silent p ws h = rw h refl
 
 risen_quiet : (e : Event) (p : ℕ) (fall : Bool) (s d : Digest) (m : Move) → words_to p m.outs ≡ [] → m.next.current ≡ d.current → IsRisen e p fall s d m
@@ -139,6 +139,16 @@ commit_of q (Some (LogRec.Heuristic n k o)) u l h = absurd cc
 commit_of q (Some (LogRec.Damage n k s o r cs)) u l h = absurd cc
 commit_of q (Some (LogRec.End n k o)) u l h = absurd cc
 
+-- so is a damage
+damage_of : (q : Transaction) (r : Option LogRec) (u : Transaction) → IsLogged q r u → is_damage_rec r ≡ true → damages_tree (aaid_of q.key) r ≡ true
+damage_of q None u l h = absurd cc
+damage_of q (Some (LogRec.Damage n k s o r cs)) u l h = ap (is_aaid (aaid_of q.key)) (ap (λ (j : NodeKey). j.aaid) l.0 ∙ key_tree q.key) ∙ aaid_same (aaid_of q.key)
+damage_of q (Some (LogRec.Boot n)) u l h = absurd cc
+damage_of q (Some (LogRec.Ready n k s cs)) u l h = absurd cc
+damage_of q (Some (LogRec.Heuristic n k o)) u l h = absurd cc
+damage_of q (Some (LogRec.Commit n k s cs)) u l h = absurd cc
+damage_of q (Some (LogRec.End n k o)) u l h = absurd cc
+
 risen_turned : (who : Who) (e : Event) (f : TxEvent) (d s : Digest) (c : Current) (p : ℕ) (sup fall : Bool) (shut : ℕ) → Reads who e p sup fall shut s → d.current ≡ Some c → s.current ≡ Some c → IsAsked e c f
     → IsPut f (seen who d.arcs c) → ((n : ℕ) → loses f n ≡ true → link_with d.arcs n ≡ Idle) → IsRisen e p fall s d (turned who f d c)
 risen_turned who e f d s c p sup fall shut reads now at asked put gone = go (is_live (link_with d.arcs p)) refl
@@ -177,6 +187,16 @@ risen_turned who e f d s c p sup fall shut reads now at asked put gone = go (is_
         some_same : (x y : Current) → Some x ≡ Some y → x ≡ y
         some_same x y h = cc (h)
 
+    no_branch : key_at d.current p ≡ None → id_at t p ≡ None
+    no_branch free = on (find_branch c.branches p) refl
+      where
+        some_key : {k : BranchKey} → None ≡ Some k → ⊥
+        some_key h = cc (h)
+
+        on : (o : Option Branch) → find_branch c.branches p ≡ o → id_at t p ≡ None
+        on None i = let row : find_row t.rows p ≡ None = seen_find d.arcs c.branches p ∙ rw i refl in rw (row, id_at) refl
+        on (Some b) i = absurd (some_key {k = (aaid_of c.key, b.id)} (sym free ∙ rw (now, put.late, i, key_at) refl))
+
     tells_it : (g : Deeds) → TellsAt g e fall s m → Tells g f t t a
     tells_it g k = record {
       committing = λ h. k.committing c at h;
@@ -185,6 +205,7 @@ risen_turned who e f d s c p sup fall shut reads now at asked put gone = go (is_
       falls = λ h. k.falls c at (reads.falls_so c f d.arcs at asked h);
       leaves = λ h. k.leaves c at (unchanged_asked e c (subst (λ (x : TxEvent). IsAsked e c x) h asked));
       completes = λ h. k.completes c at (told_played is_complete_none d t w a.outs (entered t w d.arcs) ∙ h);
+      damages = λ h. k.damages c at (damage_of t a.rec a.next rising.passed.logs h);
     }
 
     go : (b : Bool) → is_live (link_with d.arcs p) ≡ b → IsRisen e p fall s d m
@@ -192,7 +213,7 @@ risen_turned who e f d s c p sup fall shut reads now at asked put gone = go (is_
         let none : words_to p m.outs ≡ [] = agrees.words ∙ ap (λ (v : Bool). spoken v p a.outs) i ∙ dead_spoken p a.outs in
         let off : is_live (link_with m.next.arcs p) ≡ false = agrees.live ∙ ap (λ (v : Bool). stays v p a.outs) i ∙ dead_stays p a.outs in
         record {
-          words = λ ks g n v place u k. rw none refl;
+          words = λ ks g n v free calm place u k. rw none refl;
           votes = λ v live u. absurd (cc (live, off));
         }
     go true i =
@@ -200,7 +221,7 @@ risen_turned who e f d s c p sup fall shut reads now at asked put gone = go (is_
         let words : words_to p m.outs ≡ spoken true p a.outs = agrees.words ∙ ap (λ (v : Bool). spoken v p a.outs) i in
         let live_is : is_live (link_with m.next.arcs p) ≡ stays true p a.outs = agrees.live ∙ ap (λ (v : Bool). stays v p a.outs) i in
         record {
-          words = λ ks g n v place u k. rw words (x.words ks g n v (place_it ks n place) (votes_it v u) (tells_it g k));
+          words = λ ks g n v free calm place u k. rw words (x.words ks g n v (no_branch free) (place_it ks n place) (votes_it v u) (tells_it g k));
           votes = λ v live u. rw words (votes_left (voting_from v (spoken true p a.outs)) a.next p (x.votes v (votes_it v u) (sym live_is ∙ live)));
         }
 
@@ -251,10 +272,10 @@ risen_begins who e p q fall s d = go d.current refl (find_arc d.arcs q)
         agrees : Agrees p (is_live (link_with arcs p)) (TxOut.Carry q word ∷ []) m.outs (is_live (link_with m.next.arcs p))
         agrees = agrees_performed arcs (TxOut.Carry q word ∷ []) p refl
 
-        one : (b : Bool) → none_of is_upward (spoken b p (TxOut.Carry q word ∷ [])) ≡ true
+        one : (b : Bool) → none_of is_telling (spoken b p (TxOut.Carry q word ∷ [])) ≡ true
         one b = grind arith
 
-        quiet : none_of is_upward (words_to p m.outs) ≡ true
+        quiet : none_of is_telling (words_to p m.outs) ≡ true
         quiet = rw (agrees.words) (one (is_live (link_with arcs p)))
 
         votes : (v : Bool) → VotesAt v d.current p → VotesAt v m.next.current p
@@ -282,24 +303,25 @@ risen_begins who e p q fall s d = go d.current refl (find_arc d.arcs q)
 
 -- ---- chains
 
-tells_part : (g : Deeds) (e : Event) (fall : Bool) (s : Digest) (m a : Move) → ((t : Aaid) → commits_tree t a.rec ≡ true → commits_tree t m.rec ≡ true) → (out_tells is_complete_none a.outs ≡ true → out_tells is_complete_none m.outs ≡ true) → TellsAt g e fall s m → TellsAt g e fall s a
+tells_part : (g : Deeds) (e : Event) (fall : Bool) (s : Digest) (m a : Move) → ((f : Option LogRec → Bool) → f None ≡ false → f a.rec ≡ true → f m.rec ≡ true) → (out_tells is_complete_none a.outs ≡ true → out_tells is_complete_none m.outs ≡ true) → TellsAt g e fall s m → TellsAt g e fall s a
 tells_part g e fall s m a more told k = record {
   committing = k.committing;
-  commits = λ c i h. k.commits c i (more (aaid_of c.key) h);
+  commits = λ c i h. k.commits c i (more (commits_tree (aaid_of c.key)) refl h);
   rolling = k.rolling;
   falls = k.falls;
   leaves = k.leaves;
   completes = λ c i h. k.completes c i (told h);
+  damages = λ c i h. k.damages c i (more (damages_tree (aaid_of c.key)) refl h);
 }
 
-first_rec : (a b : Option LogRec) → (a ≡ None) ⊎ (b ≡ None) → (t : Aaid) → commits_tree t a ≡ true → commits_tree t (elim b as (λ _. Option LogRec) [ None ↦ a | Some r ↦ Some r ]) ≡ true
-first_rec a None q t h = h
-first_rec a (Some r) (inl i) t h = absurd (cc (ap (commits_tree t) i, h))
-first_rec a (Some r) (inr i) t h = absurd (cc (i))
+first_rec : (a b : Option LogRec) → (a ≡ None) ⊎ (b ≡ None) → (f : Option LogRec → Bool) → f None ≡ false → f a ≡ true → f (elim b as (λ _. Option LogRec) [ None ↦ a | Some r ↦ Some r ]) ≡ true
+first_rec a None q f none h = h
+first_rec a (Some r) (inl i) f none h = absurd (cc (ap f i, h, none))
+first_rec a (Some r) (inr i) f none h = absurd (cc (i))
 
-second_rec : (a b : Option LogRec) (t : Aaid) → commits_tree t b ≡ true → commits_tree t (elim b as (λ _. Option LogRec) [ None ↦ a | Some r ↦ Some r ]) ≡ true
-second_rec a None t h = absurd cc
-second_rec a (Some r) t h = h
+second_rec : (a b : Option LogRec) (f : Option LogRec → Bool) → f None ≡ false → f b ≡ true → f (elim b as (λ _. Option LogRec) [ None ↦ a | Some r ↦ Some r ]) ≡ true
+second_rec a None f none h = absurd (cc (h, none))
+second_rec a (Some r) f none h = h
 
 risen_then : (e : Event) (p : ℕ) (sup fall : Bool) (shut : ℕ) (s d : Digest) (a : Move) (f : Digest → Move) → IsHeard p sup fall shut s d a → IsHeard p sup fall shut s a.next (f a.next) → IsRisen e p fall s d a → IsRisen e p fall s a.next (f a.next)
     → (a.rec ≡ None) ⊎ ((f a.next).rec ≡ None) → IsRisen e p fall s d (followed a f)
@@ -326,18 +348,31 @@ risen_then e p sup fall shut s d a f heard_a heard_b one two quiet = go (is_live
     tells_b : (g : Deeds) → TellsAt g e fall s m → TellsAt g e fall s b
     tells_b g k = tells_part g e fall s m b (second_rec a.rec b.rec) (λ h. told_append is_complete_none a.outs b.outs ∙ rw h (grind arith)) k
 
+    -- the peer is no branch, as no Begin goes to it
+    still_free : key_at d.current p ≡ None → none_of is_begin wa ≡ true → is_live (link_with a.next.arcs p) ≡ true → key_at a.next.current p ≡ None
+    still_free free calm live = on (key_at a.next.current p) refl
+      where
+        never : {k : BranchKey} → None ≡ Some k → ⊥
+        never h = cc (h)
+
+        on : (o : Option BranchKey) → key_at a.next.current p ≡ o → key_at a.next.current p ≡ None
+        on None j = j
+        on (Some k) j = absurd (never (sym (none_last None wa calm) ∙ heard_a.knows None live (λ v h. absurd (never (sym free ∙ h))) k j))
+
     go : (c : Bool) → is_live (link_with a.next.arcs p) ≡ c → IsRisen e p fall s d m
     go false i =
         let only : words_to p m.outs ≡ wa = split ∙ rw (heard_b.dead i) (append-nil wa) in
         record {
-          words = λ ks g n v place w k. rw only (one.words ks g n v place w (tells_a g k));
+          words = λ ks g n v free calm place w k. rw only (one.words ks g n v free (ap (none_of is_begin) (sym only) ∙ calm) place w (tells_a g k));
           votes = λ v live w. absurd (cc (i, heard_b.back live));
         }
     go true i = record {
-      words = λ ks g n v place w k.
+      words = λ ks g n v free calm place w k.
+          let parts : (none_of is_begin wa && none_of is_begin wb) ≡ true = sym (none_append is_begin wa wb) ∙ ap (none_of is_begin) (sym split) ∙ calm in
+          let first : none_of is_begin wa ≡ true = and_left (none_of is_begin wa) (none_of is_begin wb) parts in
           rw (split, up_append (may_say ks g) n v wa wb)
-          (both_true (each_up (may_say ks g) n v wa) (each_up (may_say ks g) (ends_in wa + n) (voting_from v wa) wb) (one.words ks g n v place w (tells_a g k))
-          (two.words ks g (ends_in wa + n) (voting_from v wa) (heard_a.places ks n i place) (one.votes v i w) (tells_b g k)));
+          (both_true (each_up (may_say ks g) n v wa) (each_up (may_say ks g) (ends_in wa + n) (voting_from v wa) wb) (one.words ks g n v free first place w (tells_a g k))
+          (two.words ks g (ends_in wa + n) (voting_from v wa) (still_free free first i) (and_right (none_of is_begin wa) (none_of is_begin wb) parts) (heard_a.places ks n i place) (one.votes v i w) (tells_b g k)));
       votes = λ v live w. rw (split, voting_append v wa wb) (two.votes (voting_from v wa) live (one.votes v i w));
     }
 
@@ -348,7 +383,7 @@ IsRisenMove e p sup fall shut s d m = IsHeard p sup fall shut s d m × IsRisen e
 
 risen_root : (e : Event) (p : ℕ) (fall : Bool) (s d : Digest) (t : Aaid) (m : Move) → is_nil (phase_of d) ≡ true → IsRisen e p fall s (record (with_mark_drawn d) { current = Some (fresh_current (Root t)) }) m → IsRisen e p fall s d m
 risen_root e p fall s d t m nil one = record {
-  words = λ ks g n v place w k. one.words ks g n v (λ c b y z is late key u. absurd (rooted c b y z is key)) (votes v w) k;
+  words = λ ks g n v free calm place w k. one.words ks g n v refl calm (λ c b y z is late key u. absurd (rooted c b y z is key)) (votes v w) k;
   votes = λ v live w. one.votes v live (votes v w);
 }
   where
@@ -378,9 +413,9 @@ risen_moves who e s p sup fall shut reads h = record {
       let same : link_with (with_dialogue d.arcs q f) p ≡ link_with d.arcs p = link_dialogue d.arcs q f p in
       let x = one up (λ l. lives (ap is_live (sym same) ∙ l)) in
       (h.changes_dialogue d q f m by (λ u l. x.0) up lives, record { words = x.1.words; votes = x.1.votes });
-  drops_arc = λ d q m one up lives.
+  drops_arc = λ d q m at one up lives.
       let x = one up (λ l. lives (dropped_live d.arcs q p l)) in
-      (h.drops_arc d q m (λ u l. x.0) up lives, record { words = x.1.words; votes = x.1.votes });
+      (h.drops_arc d q m at (λ u l. x.0) up lives, record { words = x.1.words; votes = x.1.votes });
   notes_kept = λ d ks m held one up lives. let x = one up lives in (h.notes_kept d ks m held (λ u l. x.0) up lives, record { words = x.1.words; votes = x.1.votes });
   keeps = λ d k f held up lives. (h.keeps d k f held up lives, risen_keep e p fall s d k f);
   turns = λ d c f now at asked put gone up lives. (h.turns d c f now at asked put gone up lives, risen_turned who e f d s c p sup fall shut reads now at asked put gone);

@@ -269,7 +269,7 @@ left_plain : (who : Who) (d : Digest) (r : Request) → refusal who d (Event.Do 
 unfolding refusal
 left_plain who d r ok = grind (arith, ok)
 
-left_active : (who : Who) (d : Digest) (c : Current) → refusal who d (Event.Do Request.Unchanged) ≡ None → d.current ≡ Some c → is_nil c.phase ≡ false → is_active c.phase ≡ true
+pub left_active : (who : Who) (d : Digest) (c : Current) → refusal who d (Event.Do Request.Unchanged) ≡ None → d.current ≡ Some c → is_nil c.phase ≡ false → is_active c.phase ≡ true
 unfolding refused_request
 left_active who d c ok now late =
     let plain : refused_request who d Request.Unchanged ≡ None = left_plain who d Request.Unchanged ok in

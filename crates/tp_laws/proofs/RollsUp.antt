@@ -57,13 +57,13 @@ AreRolledUp ns =
     (x y : Node) → find_node ns (number_of x) ≡ Some x → find_node ns (number_of y) ≡ Some y → is_at y.superior (number_of x) ≡ true
     → (j : BranchKey) → has_ready_of j (records y.origin y.history) ≡ true → rolled y.origin j.0 y.history ≡ true → rolled x.origin j.0 x.history ≡ true
 
-abbrev Commits : Node → Aaid → Type 0
+abbrev pub Commits : Node → Aaid → Type 0
 Commits x t = decided x.origin t x.history ≡ true
 
-abbrev Begins : Node → ℕ → Aaid → Type 0
+abbrev pub Begins : Node → ℕ → Aaid → Type 0
 Begins x n t = (b : BranchId) × SentTo x.history n t b
 
-abbrev Orders : Node → Node → Type 0
+abbrev pub Orders : Node → Node → Type 0
 Orders x y = KnowsOrders (number_of x) (Commits x) (Begins x (number_of y)) y.origin y.history
 
 pub record IsTied (ns : List Node) : Type 0 where
@@ -73,7 +73,7 @@ pub record IsTied (ns : List Node) : Type 0 where
   pub orders : (x y : Node) → find_node ns (number_of x) ≡ Some x → find_node ns (number_of y) ≡ Some y → is_at y.superior (number_of x) ≡ true → Orders x y
   pub rolls : AreRolledUp ns
 
-some_node : (u v : Node) → Some u ≡ Some v → u ≡ v
+pub some_node : (u v : Node) → Some u ≡ Some v → u ≡ v
 some_node u v h = cc (h)
 
 -- so the superior takes from the branch only what it did
@@ -88,7 +88,7 @@ below_of ns fs x y good tied hx hy above = record {
 }
 
 -- the superior sent the Begin that was taken
-took_sent : (ns : List Node) (fs : List Frame) (x y : Node) (t : Aaid) (b : BranchId) → IsGood ns fs → find_node ns (number_of x) ≡ Some x → find_node ns (number_of y) ≡ Some y → is_at y.superior (number_of x) ≡ true → TookKey y.history t b
+pub took_sent : (ns : List Node) (fs : List Frame) (x y : Node) (t : Aaid) (b : BranchId) → IsGood ns fs → find_node ns (number_of x) ≡ Some x → find_node ns (number_of y) ≡ Some y → is_at y.superior (number_of x) ≡ true → TookKey y.history t b
     → SentTo x.history (number_of y) t b
 took_sent ns fs x y t b good hx hy above k =
     let r : PeerRecord = PeerRecord.OnAssoc k.x k.y k.seq (DialogueRecord.Begin t b k.holder) in
@@ -101,7 +101,7 @@ took_sent ns fs x y t b good hx hy above k =
 
 -- ---- a node comes
 
-comes_pair : (ns : List Node) (fs : List Frame) (z u v : Node) → Comes ns z → IsGood ns fs → find_node (ns ++ z ∷ []) (number_of u) ≡ Some u → find_node (ns ++ z ∷ []) (number_of v) ≡ Some v → is_at v.superior (number_of u) ≡ true
+pub comes_pair : (ns : List Node) (fs : List Frame) (z u v : Node) → Comes ns z → IsGood ns fs → find_node (ns ++ z ∷ []) (number_of u) ≡ Some u → find_node (ns ++ z ∷ []) (number_of v) ≡ Some v → is_at v.superior (number_of u) ≡ true
     → (find_node ns (number_of u) ≡ Some u) × (find_node ns (number_of v) ≡ Some v) ⊎ (v.history ≡ [])
 comes_pair ns fs z u v c good hu hv above = go (number_of z == number_of v) refl (number_of z == number_of u) refl
   where
@@ -127,7 +127,7 @@ comes_pair ns fs z u v c good hu hv above = go (number_of z == number_of v) refl
     go false i true m = absurd (there (was (number_of v) v i hv) m v.superior refl)
     go false i false m = inl (was (number_of u) u m hu, was (number_of v) v i hv)
 
-tied_comes : (ns : List Node) (fs : List Frame) (z : Node) → Comes ns z → IsGood ns fs → IsTied ns → IsTied (ns ++ z ∷ [])
+pub tied_comes : (ns : List Node) (fs : List Frame) (z : Node) → Comes ns z → IsGood ns fs → IsTied ns → IsTied (ns ++ z ∷ [])
 tied_comes ns fs z c good p = record {
   unique = unique_comes ns fs z c good p.unique;
   heeds = heeds_comes ns fs z c good p.heeds;
@@ -158,12 +158,12 @@ tied_comes ns fs z c good p = record {
 -- ---- an event
 
 -- of two nodes of which one stands below the other, at most one has the event
-data Grew (ns : List Node) (z y u v : Node) : Type 0 where
+pub data Grew (ns : List Node) (z y u v : Node) : Type 0 where
   Neither : find_node ns (number_of u) ≡ Some u → find_node ns (number_of v) ≡ Some v → Grew ns z y u v
   The_upper : y ≡ u → find_node ns (number_of v) ≡ Some v → is_at v.superior (number_of z) ≡ true → Grew ns z y u v
   The_lower : y ≡ v → find_node ns (number_of u) ≡ Some u → is_at z.superior (number_of u) ≡ true → Grew ns z y u v
 
-grew : (ns : List Node) (fs : List Frame) (z : Node) (e : Event) (u v : Node) → Step ns fs z e → find_node (put_node ns (grown_node z e)) (number_of u) ≡ Some u → find_node (put_node ns (grown_node z e)) (number_of v) ≡ Some v → is_at v.superior (number_of u) ≡ true
+pub grew : (ns : List Node) (fs : List Frame) (z : Node) (e : Event) (u v : Node) → Step ns fs z e → find_node (put_node ns (grown_node z e)) (number_of u) ≡ Some u → find_node (put_node ns (grown_node z e)) (number_of v) ≡ Some v → is_at v.superior (number_of u) ≡ true
     → Grew ns z (grown_node z e) u v
 grew ns fs z e u v st hu hv above = go (number_of z == number_of u) refl (number_of z == number_of v) refl
   where
@@ -190,10 +190,10 @@ grew ns fs z e u v st hu hv above = go (number_of z == number_of u) refl (number
     go false i true m = let sv = new (number_of v) v m hv in The_lower sv (was (number_of u) u i hu) (ap (λ (w : Node). is_at w.superior (number_of u)) sv ∙ above)
     go false i false m = Neither (was (number_of u) u i hu) (was (number_of v) v m hv)
 
-legal_now : (ns : List Node) (fs : List Frame) (z : Node) (e : Event) → Step ns fs z e → IsGrown z.origin z.superior (entry_of z.origin z.history e ∷ z.history)
+pub legal_now : (ns : List Node) (fs : List Frame) (z : Node) (e : Event) → Step ns fs z e → IsGrown z.origin z.superior (entry_of z.origin z.history e ∷ z.history)
 legal_now ns fs z e st = (st.accepts.ok, refl, st.accepts.under, st.good.legal (number_of z) z st.accepts.here)
 
-once_now : (ns : List Node) (fs : List Frame) (z : Node) (e : Event) → Step ns fs z e → IsUnique ns → IsOnce z.origin (entry_of z.origin z.history e ∷ z.history)
+pub once_now : (ns : List Node) (fs : List Frame) (z : Node) (e : Event) → Step ns fs z e → IsUnique ns → IsOnce z.origin (entry_of z.origin z.history e ∷ z.history)
 once_now ns fs z e st unique = (unique_event ns fs z e st unique).once (number_of z) (grown_node z e) (here (find_put ns (grown_node z e) z (number_of z) st.accepts.here))
   where
     here : find_node (put_node ns (grown_node z e)) (number_of z) ≡ cond (number_of z == number_of z) (Some (grown_node z e)) (find_node ns (number_of z)) → find_node (put_node ns (grown_node z e)) (number_of z) ≡ Some (grown_node z e)
@@ -215,7 +215,7 @@ knows_more n C D S T o [] more less k = tt
 knows_more n C D S T o (e ∷ h) more less k = (λ a t b is at. let w = k.0 a t b is at in (more t w.0, λ s. w.1 (less t w.0 s)), knows_more n C D S T o h more less k.1)
 
 -- a tree that committed begins no more
-begun_before : (ns : List Node) (fs : List Frame) (z : Node) (e : Event) (n : ℕ) (t : Aaid) → Step ns fs z e → IsUnique ns → Commits z t → Begins (grown_node z e) n t → Begins z n t
+pub begun_before : (ns : List Node) (fs : List Frame) (z : Node) (e : Event) (n : ℕ) (t : Aaid) → Step ns fs z e → IsUnique ns → Commits z t → Begins (grown_node z e) n t → Begins z n t
 begun_before ns fs z e n t st unique c s = (s.0, by s.1 s.1.sent)
   where
     by : (k : SentTo (grown_node z e).history n t s.0) → IsSentIn (action z.origin.who (digest z.origin z.history) e).outs k.to (PeerRecord.OnAssoc k.x k.y k.seq (DialogueRecord.Begin t s.0 k.holder)) ⊎ HasSent z.history k.to (PeerRecord.OnAssoc k.x k.y k.seq (DialogueRecord.Begin t s.0 k.holder))
@@ -261,13 +261,28 @@ foreign o t h once taken true i = absurd (cc (own_untaken o t h once i, taken))
 no_two : (v : _) → is_ready v ≡ true → is_committing v ≡ true → ⊥
 no_two v h i = absurd (grind (arith, h, i))
 
--- the branch rolls
-rolls_now : (ns : List Node) (fs : List Frame) (z : Node) (e : Event) (told : Bool) (u : Node) (j : BranchKey) → Step ns fs z e → IsTied ns → find_node ns (number_of u) ≡ Some u → is_at z.superior (number_of u) ≡ true
-    → has_ready_of j (records z.origin (entry_of z.origin z.history e ∷ z.history)) ≡ true → rolled z.origin j.0 (entry_of z.origin z.history e ∷ z.history) ≡ true → rolled u.origin j.0 u.history ≡ true
-rolls_now ns fs z e told u j st p hu above ready roll = elim (ready_rolls o up entry h j empty legal once ready roll) [
-  | inl old ↦ p.rolls u z hu hz above j old.0 old.1
-  | inr now ↦ by now now.by
-]
+-- the superior whose Rollback was taken rolled
+pub rollback_above : (ns : List Node) (fs : List Frame) (z : Node) (e : Event) (told : Bool) (u : Node) (t : Aaid) → Step ns fs z e → find_node ns (number_of u) ≡ Some u → is_at z.superior (number_of u) ≡ true
+    → RollbackTaken z.superior (entry_of z.origin z.history e ∷ z.history) t → rolled u.origin t u.history ≡ true
+rollback_above ns fs z e told u t st hu above r =
+    rollback_sent (put_node ns (grown_node z e)) (fs ++ shown told (frames_of (addr_of z) (entry_of z.origin z.history e).outs)) u (grown_node z e) t (event_good ns fs z e st.accepts told st.good) (other (number_of z == number_of u) refl) here above r
+  where
+    at : (n : ℕ) → find_node (put_node ns (grown_node z e)) n ≡ cond (number_of z == n) (Some (grown_node z e)) (find_node ns n)
+    at n = find_put ns (grown_node z e) z n st.accepts.here
+
+    here : find_node (put_node ns (grown_node z e)) (number_of z) ≡ Some (grown_node z e)
+    here = grind (arith, nat_tests, at (number_of z))
+
+    other : (b : Bool) → (number_of z == number_of u) ≡ b → find_node (put_node ns (grown_node z e)) (number_of u) ≡ Some u
+    other false i = grind (arith, at (number_of u), i, hu)
+    other true i =
+        let same : number_of u ≡ number_of z = grind (arith, nat_tests, i) in
+        absurd (own_superior ns fs z st.good st.accepts.here (subst (λ (n : ℕ). is_at z.superior n ≡ true) same above))
+
+-- what is ready rolls, and so did the superior
+pub ready_above : (ns : List Node) (fs : List Frame) (z : Node) (e : Event) (told : Bool) (u : Node) (t : Aaid) → Step ns fs z e → IsTied ns → find_node ns (number_of u) ≡ Some u → is_at z.superior (number_of u) ≡ true
+    → RollsNow z.origin (entry_of z.origin z.history e) z.history t → rolled u.origin t u.history ≡ true
+ready_above ns fs z e told u t st p hu above now = by now.by
   where
     o : Origin
     o = z.origin
@@ -281,9 +296,6 @@ rolls_now ns fs z e told u j st p hu above ready roll = elim (ready_rolls o up e
     entry : Entry
     entry = entry_of z.origin z.history e
 
-    t : Aaid
-    t = j.0
-
     hz : find_node ns (number_of z) ≡ Some z
     hz = st.accepts.here
 
@@ -296,23 +308,8 @@ rolls_now ns fs z e told u j st p hu above ready roll = elim (ready_rolls o up e
     once : IsOnce o (entry ∷ h)
     once = once_now ns fs z e st p.unique
 
-    rollback : RollbackTaken up (entry ∷ h) t → rolled u.origin t u.history ≡ true
-    rollback r = rollback_sent (put_node ns (grown_node z e)) (fs ++ shown told (frames_of (addr_of z) entry.outs)) u (grown_node z e) t (event_good ns fs z e st.accepts told st.good) (other (number_of z == number_of u) refl) here above r
-      where
-        at : (n : ℕ) → find_node (put_node ns (grown_node z e)) n ≡ cond (number_of z == n) (Some (grown_node z e)) (find_node ns n)
-        at n = find_put ns (grown_node z e) z n hz
-
-        here : find_node (put_node ns (grown_node z e)) (number_of z) ≡ Some (grown_node z e)
-        here = grind (arith, nat_tests, at (number_of z))
-
-        other : (b : Bool) → (number_of z == number_of u) ≡ b → find_node (put_node ns (grown_node z e)) (number_of u) ≡ Some u
-        other false i = grind (arith, at (number_of u), i, hu)
-        other true i =
-            let same : number_of u ≡ number_of z = grind (arith, nat_tests, i) in
-            absurd (own_superior ns fs z st.good hz (subst (λ (n : ℕ). is_at z.superior n ≡ true) same above))
-
-    unknown : (now : RollsNow o entry h t) → UnknownTaken up e now.current t → rolled u.origin t u.history ≡ true
-    unknown now k =
+    unknown : UnknownTaken up e now.current t → rolled u.origin t u.history ≡ true
+    unknown k =
         unknown_rolled u.origin u.superior (number_of z) (deeds_of o h) (records o h) u.history s.to t k.id (below_of ns fs u z st.good p hu hz above) (p.asks (number_of u) u hu) s.at
         (λ l. (left_law o up h t empty legal.3 once.1 l).gone is_current) undone untold
         (unknown_answered u.origin u.superior u.history s.to t k.id (st.good.legal (number_of u) u hu) (subst (λ (w : Node). HasSent w.history s.to r) one s.sent))
@@ -351,11 +348,20 @@ rolls_now ns fs z e told u j st p hu above ready roll = elim (ready_rolls o up e
                 done_never (number_of u) (Commits u) (Begins u (number_of z)) o up h to t k.id x empty legal.3 once.1 (p.orders u z hu hz above) at (k.id, took_sent ns fs u z t k.id st.good hu hz above took)
                 (foreign o t h once.1 (took_taken t k.id took.from took.x took.y took.seq took.holder h took.took) (is_own o.who t) refl) ids is_current a
 
-    by : (now : RollsNow o entry h t) → ReadyRolls now.current e → rolled u.origin t u.history ≡ true
-    by now (By_rollback from x y q is under) = rollback (rollback_taken o up entry h t now.current empty legal now.now now.tree now.current.key refl from x y q is under)
-    by now (By_unknown from v w is same) = unknown now (unknown_taken o up entry h t now.current empty legal now.now now.tree now.current.key refl from v w is same)
+    by : ReadyRolls now.current e → rolled u.origin t u.history ≡ true
+    by (By_rollback from x y q is under) = rollback_above ns fs z e told u t st hu above (rollback_taken o up entry h t now.current empty legal now.now now.tree now.current.key refl from x y q is under)
+    by (By_unknown from v w is same) = unknown (unknown_taken o up entry h t now.current empty legal now.now now.tree now.current.key refl from v w is same)
 
-tied_event : (ns : List Node) (fs : List Frame) (z : Node) (e : Event) → Step ns fs z e → (told : Bool) → IsTied ns → IsTied (put_node ns (grown_node z e))
+-- the branch rolls
+rolls_now : (ns : List Node) (fs : List Frame) (z : Node) (e : Event) (told : Bool) (u : Node) (j : BranchKey) → Step ns fs z e → IsTied ns → find_node ns (number_of u) ≡ Some u → is_at z.superior (number_of u) ≡ true
+    → has_ready_of j (records z.origin (entry_of z.origin z.history e ∷ z.history)) ≡ true → rolled z.origin j.0 (entry_of z.origin z.history e ∷ z.history) ≡ true → rolled u.origin j.0 u.history ≡ true
+rolls_now ns fs z e told u j st p hu above ready roll =
+    elim (ready_rolls z.origin z.superior (entry_of z.origin z.history e) z.history j (st.good.fresh (number_of z) z st.accepts.here) (legal_now ns fs z e st) (once_now ns fs z e st p.unique) ready roll) [
+      | inl old ↦ p.rolls u z hu st.accepts.here above j old.0 old.1
+      | inr now ↦ ready_above ns fs z e told u j.0 st p hu above now
+    ]
+
+pub tied_event : (ns : List Node) (fs : List Frame) (z : Node) (e : Event) → Step ns fs z e → (told : Bool) → IsTied ns → IsTied (put_node ns (grown_node z e))
 tied_event ns fs z e st told p = record {
   unique = unique_event ns fs z e st p.unique;
   heeds = heeds_step ns fs z e st p.unique p.heeds;

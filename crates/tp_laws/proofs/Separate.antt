@@ -1,5 +1,5 @@
 -- In every legal history no two arcs lead to one number, and none is idle.
-use Rattle.std.proofs.Common.{if◌then◌else◌, ◌≡◌, ℕ, Bool, true, false, refl, ap, ◌∙◌, arith, Option, Some, None, List, [], ◌∷◌, ◌++◌, ◌||◌, ◌==◌, not}
+use Rattle.std.proofs.Common.{sym, if◌then◌else◌, ◌≡◌, ℕ, Bool, true, false, refl, ap, ◌∙◌, arith, Option, Some, None, List, [], ◌∷◌, ◌++◌, ◌||◌, ◌==◌, not}
 use Rattle.std.proofs.lemmas.Bool.Decides.{nat_tests}
 use Rattle.tp_names.specs.declared.identifiers.Mark.{Mark}
 use Rattle.tp_names.specs.declared.identifiers.Addr.{Addr}
@@ -25,25 +25,63 @@ use Rattle.tp_model.specs.Events.{refusal, after_crash, started}
 use Rattle.tp_model.specs.History.{digest}
 use Rattle.tp_model.specs.Legal.{IsGrown}
 use Rattle.tp_laws.specs.Moves.{Moves, prelude, called, accepted_by, accepted_on, linked, begun_in, counted_in}
+use Rattle.tp_laws.specs.Known.{with_an_arc}
 use Rattle.tp_laws.specs.Ends.{is_there, are_separate}
 use Rattle.tp_laws.proofs.EveryEvent.{every_move}
 use Rattle.tp_laws.proofs.Late.{late_law}
 
 -- ---- what stands in a list of arcs
 
--- nobody is new, and what was separate stays so
+-- whom they lead to, in order
+abbrev pub numbers : List Arc → List ℕ
+numbers [] = []
+numbers (a ∷ arcs) = a.peer.node ∷ numbers arcs
+
+-- where the second lead to fewer
+pub those_fewer : (xs ys : List Arc) (ps : List ℕ) → ((p : ℕ) → is_there p xs ≡ false → is_there p ys ≡ false) → with_an_arc ys (with_an_arc xs ps) ≡ with_an_arc ys ps
+those_fewer xs ys [] k = refl
+those_fewer xs ys (p ∷ ps) k = go (is_there p xs) refl (is_there p ys) refl (those_fewer xs ys ps k)
+  where
+    go : (b : Bool) → is_there p xs ≡ b → (c : Bool) → is_there p ys ≡ c → with_an_arc ys (with_an_arc xs ps) ≡ with_an_arc ys ps → with_an_arc ys (if b then p ∷ with_an_arc xs ps else with_an_arc xs ps) ≡ (if c then p ∷ with_an_arc ys ps else with_an_arc ys ps)
+    go true i true j rest = rw (j, rest) refl
+    go true i false j rest = rw (j, rest) refl
+    go false i true j rest = absurd (let off : is_there p ys ≡ false = k p i in cc (off, j))
+    go false i false j rest = rest
+
+-- one that is not among them makes no difference
+those_aside : (b : Arc) (xs ys : List Arc) → is_there b.peer.node xs ≡ false → with_an_arc (b ∷ ys) (numbers xs) ≡ with_an_arc ys (numbers xs)
+those_aside b [] ys h = refl
+those_aside b (a ∷ xs) ys h =
+    let other : (a.peer.node == b.peer.node) ≡ false = grind (arith, h) in
+    let mine : (b.peer.node == a.peer.node) ≡ false = grind (arith, nat_tests, other) in
+    let rest : with_an_arc (b ∷ ys) (numbers xs) ≡ with_an_arc ys (numbers xs) = those_aside b xs ys (grind (arith, h)) in
+    rw (mine, rest) refl
+
+those_numbers : (xs : List Arc) → are_separate xs ≡ true → with_an_arc xs (numbers xs) ≡ numbers xs
+those_numbers [] h = refl
+those_numbers (a ∷ xs) h =
+    let self : (a.peer.node == a.peer.node) ≡ true = grind (arith, nat_tests) in
+    let rest : with_an_arc xs (numbers xs) ≡ numbers xs = those_numbers xs (grind (arith, h)) in
+    rw (self, those_aside a xs xs (grind (arith, h)), rest) refl
+
+-- nobody is new, what was separate stays so, and so does the order
 pub record Thins (xs ys : List Arc) : Type 0 where
   pub none : (p : ℕ) → is_there p xs ≡ false → is_there p ys ≡ false
   pub apart : are_separate xs ≡ true → are_separate ys ≡ true
+  pub order : are_separate xs ≡ true → numbers ys ≡ with_an_arc ys (numbers xs)
 
 pub thins_self : (xs : List Arc) → Thins xs xs
-thins_self xs = record { none = λ p h. h; apart = λ h. h }
+thins_self xs = record { none = λ p h. h; apart = λ h. h; order = λ h. sym (those_numbers xs h) }
 
 pub thins_then : (xs ys zs : List Arc) → Thins xs ys → Thins ys zs → Thins xs zs
-thins_then xs ys zs one two = record { none = λ p h. two.none p (one.none p h); apart = λ h. two.apart (one.apart h) }
+thins_then xs ys zs one two = record {
+  none = λ p h. two.none p (one.none p h);
+  apart = λ h. two.apart (one.apart h);
+  order = λ h. two.order (one.apart h) ∙ ap (with_an_arc zs) (one.order h) ∙ those_fewer ys zs (numbers xs) two.none;
+}
 
 thins_cons : (a b : Arc) (xs ys : List Arc) → b.peer.node ≡ a.peer.node → (is_idle a.link ≡ false → is_idle b.link ≡ false) → Thins xs ys → Thins (a ∷ xs) (b ∷ ys)
-thins_cons a b xs ys same busy rest = record { none = none; apart = apart }
+thins_cons a b xs ys same busy rest = record { none = none; apart = apart; order = order }
   where
     none : (p : ℕ) → is_there p (a ∷ xs) ≡ false → is_there p (b ∷ ys) ≡ false
     none p h =
@@ -60,8 +98,17 @@ thins_cons a b xs ys same busy rest = record { none = none; apart = apart }
         let all : are_separate ys ≡ true = rest.apart (grind (arith, h)) in
         grind (arith, live, mine, all)
 
+    order : are_separate (a ∷ xs) ≡ true → numbers (b ∷ ys) ≡ with_an_arc (b ∷ ys) (numbers (a ∷ xs))
+    order h =
+        let self : (b.peer.node == a.peer.node) ≡ true = ap (λ (n : ℕ). n == a.peer.node) same ∙ grind (arith, nat_tests) in
+        let gone : is_there b.peer.node xs ≡ false = ap (λ (n : ℕ). is_there n xs) same ∙ grind (arith, h) in
+        rw (self, those_aside b xs ys gone, sym (rest.order (grind (arith, h)))) (ap (λ (n : ℕ). n ∷ numbers ys) same)
+
 thins_skip : (a : Arc) (xs ys : List Arc) → Thins xs ys → Thins (a ∷ xs) ys
-thins_skip a xs ys rest = record { none = λ p h. rest.none p (grind (arith, h)); apart = λ h. rest.apart (grind (arith, h)) }
+thins_skip a xs ys rest = record { none = λ p h. rest.none p (grind (arith, h)); apart = λ h. rest.apart (grind (arith, h)); order = order }
+  where
+    order : are_separate (a ∷ xs) ≡ true → numbers ys ≡ with_an_arc ys (numbers (a ∷ xs))
+    order h = let gone : is_there a.peer.node ys ≡ false = rest.none a.peer.node (grind (arith, h)) in rw gone (rest.order (grind (arith, h)))
 
 -- ---- changes of arcs
 
@@ -95,7 +142,7 @@ thins_taken (a ∷ arcs) p = go (a.peer.node == p) (thins_taken arcs p)
     go true rest = thins_cons a (record a { link = with_one_taken a.link }) arcs arcs refl (taken_busy a.link) (thins_self arcs)
     go false rest = thins_cons a a arcs (with_link arcs p with_one_taken) refl (λ h. h) rest
 
-thins_put : (arcs : List Arc) (b : Arc) → is_idle b.link ≡ false → Thins arcs (put_arc arcs b)
+pub thins_put : (arcs : List Arc) (b : Arc) → is_idle b.link ≡ false → Thins arcs (put_arc arcs b)
 thins_put [] b busy = thins_self []
 thins_put (a ∷ arcs) b busy = go (a.peer.node == b.peer.node) refl (thins_put arcs b busy)
   where
@@ -223,7 +270,7 @@ thins_moves who e s = record {
   chain = λ d a f one two none. thins_then d.arcs a.next.arcs (f a.next).next.arcs one two;
   speaks = λ d outs h own said. thins_performed d.arcs outs;
   changes_dialogue = λ d q f m by one. thins_then d.arcs (with_dialogue d.arcs q f) m.next.arcs (thins_dialogue d.arcs q f) one;
-  drops_arc = λ d q m one. thins_then d.arcs (without_arc d.arcs q) m.next.arcs (thins_without d.arcs q) one;
+  drops_arc = λ d q m at one. thins_then d.arcs (without_arc d.arcs q) m.next.arcs (thins_without d.arcs q) one;
   notes_kept = λ d ks m held one. one;
   keeps = λ d k f held. thins_performed d.arcs (settled k f).outs;
   turns = λ d c f now at asked put gone. thins_turned who f d c;

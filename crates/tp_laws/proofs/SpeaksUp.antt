@@ -22,15 +22,15 @@ use Rattle.tp_laws.specs.Moves.{prelude}
 use Rattle.tp_laws.specs.Traces.{sent_of, took_of, sent_on, taken_on}
 use Rattle.tp_laws.specs.Trees.{commits_tree, out_tells}
 use Rattle.tp_laws.specs.Passages.{is_commit_told, is_commit_rec}
-use Rattle.tp_laws.specs.Clearing.{is_complete_none}
+use Rattle.tp_laws.specs.Clearing.{is_complete_none, damages_tree, has_damage}
 use Rattle.tp_laws.specs.Members.{IsOnce}
 use Rattle.tp_laws.specs.Fates.{IsFated}
-use Rattle.tp_laws.specs.Facts.{ends_in, BranchKey, begun_keys, words_to}
+use Rattle.tp_laws.specs.Facts.{ends_in, BranchKey, begun_keys, last_from, words_to, key_at, KnowsAt, IsHeard}
 use Rattle.tp_laws.specs.Upward.{voting_from, each_up, Deeds, holds_at, may_say, VotesAt, TellsAt, IsRisen, deeds_of, SpeaksUp}
 use Rattle.tp_laws.proofs.Late.{late_law}
 use Rattle.tp_laws.proofs.Preludes.{Prelinked, As_before, Now_idle, Now_called, Now_offered, Now_accepted, Now_confirmed, Took_one}
 use Rattle.tp_laws.proofs.Traced.{Told, traced_law, live_before, long_of}
-use Rattle.tp_laws.proofs.Words.{keys_append, commit_more}
+use Rattle.tp_laws.proofs.Words.{keys_append, commit_more, damage_first, damage_more}
 use Rattle.tp_laws.proofs.Leaves.{aaid_same}
 use Rattle.tp_laws.proofs.Equal.{both_true}
 use Rattle.tp_laws.proofs.Knowing.{Came, As_it_was, By_begin, By_crash, came_by}
@@ -42,6 +42,7 @@ use Rattle.tp_laws.proofs.Folds.{key_before}
 use Rattle.tp_laws.proofs.Paired.{at_prelude}
 use Rattle.tp_laws.proofs.PairedSteps.{paired_law, reads_event, placed_event, fallen_rolled, told_entry, sent_said, sent_over}
 use Rattle.tp_laws.proofs.Upwords.{up_append, voting_append, up_weaker, say_wider, IsWider, words_up, words_voting}
+use Rattle.tp_laws.proofs.Heard.{heard_event}
 use Rattle.tp_laws.proofs.Risen.{risen_event}
 
 -- ---- what an event tells of the tree that is current behind its prelude
@@ -98,6 +99,7 @@ tells_event o up e h empty legal once = record {
   falls = λ c at i. fallen_rolled o up e h legal i c at;
   leaves = λ c at i. left_now c i (came_by o.who d e.event legal.0) at;
   completes = λ c at i. done_now c i (entered o e h legal.0) at;
+  damages = λ c at i. damage_first (aaid_of c.key) e.rec (records o h) (ap (damages_tree (aaid_of c.key)) (ap (λ (f : Entry). f.rec) (sym legal.1)) ∙ i);
 }
   where
     d : Digest
@@ -183,6 +185,7 @@ wider o e h ks more n = (
   λ i. later (λ t. rolled o t h) (λ t. rolled o t (e ∷ h)) (λ t j. rw j (grind arith)) i,
   λ i. later (λ t. has_left o t h) (λ t. has_left o t (e ∷ h)) (λ t j. rw j (grind arith)) i,
   λ i. later (λ t. completed_none o t h) (λ t. completed_none o t (e ∷ h)) (λ t j. rw j (grind arith)) i,
+  λ i. later (λ t. has_damage t (records o h)) (λ t. has_damage t (records o (e ∷ h))) (λ t j. damage_more t e.rec (records o h) j) i,
 )
   where
     later : (f g : Aaid → Bool) → ((t : Aaid) → f t ≡ true → g t ≡ true) → holds_at ks n f ≡ true → holds_at (ks ++ more) n g ≡ true
@@ -211,7 +214,7 @@ speaks_step o up e h empty legal once old = record {
             let votes = votes_prelude o up e.event h p x y w.0 w.1 old legal.3 legal.0 above w.2 (l p) refl (k_of p).pre in
             ap (each_up (may_say ks g) (ends_in (sent_on x y p h)) (voting_from false (sent_on x y p h))) (said p x y w.0 w.1 w.2)
             ∙ words_up ks g (ends_in (sent_on x y p h)) (voting_from false (sent_on x y p h)) (said_to p (action o.who d e.event).outs)
-            ((risen p).words ks g (ends_in (sent_on x y p h)) (voting_from false (sent_on x y p h)) pre.places votes (tells_event o up e h empty legal once)))
+            ((risen p).words ks g (ends_in (sent_on x y p h)) (voting_from false (sent_on x y p h)) (no_branch p x y above pre.rows) ((heard p).upward above) pre.places votes (tells_event o up e h empty legal once)))
       ]));
   votes = λ p x y v k above live.
       let w = live_before p (l p) (link_with next.arcs p) (action o.who d e.event).outs x y v k (k_of p).linked.over live in
@@ -236,6 +239,20 @@ speaks_step o up e h empty legal once old = record {
 
     risen : (p : ℕ) → IsRisen e.event p (rolls o.who d e.event) s s (action o.who d e.event)
     risen p = risen_event o.who d e.event p (is_at up p) (rolls o.who d e.event) 1 (late_law o up h legal.3) legal.0 (reads_event o up e.event h p legal.0 (placed_event o up e h p empty legal))
+
+    heard : (p : ℕ) → IsHeard p (is_at up p) (rolls o.who d e.event) 1 s s (action o.who d e.event)
+    heard p = heard_event o.who d e.event p (is_at up p) (rolls o.who d e.event) 1 (late_law o up h legal.3) legal.0 (reads_event o up e.event h p legal.0 (placed_event o up e h p empty legal))
+
+    -- the superior is no branch
+    no_branch : (p : ℕ) (x y : Mark) → is_at up p ≡ true → KnowsAt (last_from None (sent_on x y p h)) s.current p → key_at s.current p ≡ None
+    no_branch p x y above rows = on (key_at s.current p) refl
+      where
+        never : {k : BranchKey} → None ≡ Some k → ⊥
+        never i = cc (i)
+
+        on : (b : Option BranchKey) → key_at s.current p ≡ b → key_at s.current p ≡ None
+        on None i = i
+        on (Some k) i = absurd (never (sym ((paired_law o up h empty legal.3).upward p x y above) ∙ rows k i))
 
     said : (p : ℕ) (x y : Mark) (v k : ℕ) → l p ≡ Live x y v k → sent_of x y p e.outs ≡ said_to p (action o.who d e.event).outs
     said p x y v k is = sent_said o up e h legal p x y v k is

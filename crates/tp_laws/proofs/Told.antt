@@ -1,5 +1,5 @@
 -- What the outputs of a rule tell the user is told, whatever becomes of them at the arcs.
-use Rattle.std.proofs.Common.{◌≡◌, ℕ, Bool, false, refl, ap, sym, ◌∙◌, arith, List, [], ◌∷◌, ◌++◌, ◌||◌}
+use Rattle.std.proofs.Common.{◌≡◌, ℕ, Bool, true, false, refl, ap, sym, ◌∙◌, arith, List, [], ◌∷◌, ◌++◌, ◌||◌, not}
 use Rattle.tp_records.specs.declared.indication.Indication.{Indication}
 use Rattle.tp_records.specs.declared.dialogue.DialogueRecord.{DialogueRecord}
 use Rattle.tp_model.specs.declared.transaction.TxOut.{TxOut}
@@ -7,8 +7,11 @@ use Rattle.tp_model.specs.Parts.{Out, Arc, Digest}
 use Rattle.tp_model.specs.Arcs.{carried, performed_one, performed}
 use Rattle.tp_model.specs.Transactions.{Transaction}
 use Rattle.tp_model.specs.Node.{Passage, Stays, Enters, Falls, Falls_at_once, Commits, Rolls_back, Leaves, played, split_at_completion, perform_commit, committed_arcs, grants}
+use Rattle.tp_laws.specs.Turns.{is_outcome_told}
+use Rattle.tp_laws.specs.Moves.{is_spoken, are_spoken}
 use Rattle.tp_laws.specs.Passages.{asks_tell}
 use Rattle.tp_laws.specs.Trees.{out_tells}
+use Rattle.tp_laws.proofs.Equal.{and_left, and_right}
 use Rattle.tp_laws.proofs.Phases.{tell_append}
 use Rattle.tp_laws.proofs.Wrapped.{split_joins}
 
@@ -56,3 +59,15 @@ told_played f d t Falls_at_once outs arcs = told_performed f arcs outs
 told_played f d t Commits outs arcs = told_commit f d t outs arcs
 told_played f d t Rolls_back outs arcs = told_performed f arcs outs
 told_played f d t Leaves outs arcs = told_performed f arcs outs
+
+-- outside transactions no outcome is told
+pub spoken_untold : (f : Indication → Bool) → ((i : Indication) → is_outcome_told i ≡ false → f i ≡ false) → (outs : List TxOut) → are_spoken outs ≡ true → asks_tell f outs ≡ false
+spoken_untold f k [] h = refl
+spoken_untold f k (TxOut.Tell i ∷ outs) h = let rest = spoken_untold f k outs (and_right (is_spoken (TxOut.Tell i)) (are_spoken outs) h) in let one : f i ≡ false = k i (off (is_outcome_told i) (and_left (is_spoken (TxOut.Tell i)) (are_spoken outs) h)) in rw (one, rest) refl
+  where
+    off : (v : Bool) → not v ≡ true → v ≡ false
+    off v i = grind (arith, i)
+spoken_untold f k (TxOut.Carry p r ∷ outs) h = spoken_untold f k outs (and_right (is_spoken (TxOut.Carry p r)) (are_spoken outs) h)
+spoken_untold f k (TxOut.Shut p ∷ outs) h = spoken_untold f k outs h
+spoken_untold f k (TxOut.Recovery a r ∷ outs) h = spoken_untold f k outs (and_right (is_spoken (TxOut.Recovery a r)) (are_spoken outs) h)
+spoken_untold f k (TxOut.Close p ∷ outs) h = spoken_untold f k outs h

@@ -104,10 +104,10 @@ pub done_answer : (k : Known) (r : Report) → is_nil k.phase ≡ false → answ
 unfolding answer
 done_answer k r i h = absurd (grind (arith, i, h))
 
-own_with : (d : Digest) (c : Current) → d.current ≡ Some c → current_with d (node_key c.key) ≡ Some c
+pub own_with : (d : Digest) (c : Current) → d.current ≡ Some c → current_with d (node_key c.key) ≡ Some c
 own_with d c at = rw (at, current_with) (rw (key_self (node_key c.key)) refl)
 
-current_found : (d : Digest) (t : Aaid) (c : Current) → d.current ≡ Some c → is_aaid (aaid_of c.key) t ≡ true → current_of d t ≡ Some c
+pub current_found : (d : Digest) (t : Aaid) (c : Current) → d.current ≡ Some c → is_aaid (aaid_of c.key) t ≡ true → current_of d t ≡ Some c
 current_found d t c at own = rw (at, current_of) (rw own refl)
 
 row_answer : (d : Digest) (t : Aaid) (p : ℕ) (b : BranchId) → RowOwes t p b d.current → answer (known_of (named_by_branch d t b) b) Question.RecReady ≡ Some RecState.Unknown → ⊥

@@ -3,7 +3,7 @@ use Rattle.std.proofs.Common.{◌≡◌, ◌+◌, ℕ, Bool, true, false, refl, 
 use Rattle.tp_records.specs.declared.dialogue.DialogueRecord.{DialogueRecord}
 use Rattle.tp_names.specs.Reports.{is_report_none}
 use Rattle.tp_laws.specs.Moves.{is_word}
-use Rattle.tp_laws.specs.Facts.{is_vote, is_end, ends, ends_in, none_of, only_words, BranchKey}
+use Rattle.tp_laws.specs.Facts.{is_vote, is_rollback, is_end, ends, ends_in, none_of, only_words, BranchKey}
 use Rattle.tp_laws.specs.Upward.{voting, voting_from, each_up, Deeds, holds_at, may_say}
 use Rattle.tp_laws.proofs.Equal.{and_left, and_right, both_true}
 
@@ -24,7 +24,19 @@ up_weaker f g w n v (x ∷ xs) h = both_true (g n v x) (each_up g (ends x + n) (
 abbrev pub is_upward : DialogueRecord → Bool
 is_upward r = is_vote r || is_end r
 
-quiet_say : (ks : List BranchKey) (g : Deeds) (n : ℕ) (v : Bool) (r : DialogueRecord) → is_upward r ≡ false → may_say ks g n v r ≡ true
+-- or of which something is told
+abbrev pub is_telling : DialogueRecord → Bool
+is_telling r = is_upward r || is_rollback r
+
+pub none_telling : (xs : List DialogueRecord) → none_of is_telling xs ≡ true → none_of is_upward xs ≡ true
+none_telling [] h = refl
+none_telling (x ∷ xs) h =
+    let rest = none_telling xs (grind (arith, h)) in
+    let quiet : is_upward x ≡ false = grind (arith, h) in
+    rw (quiet, rest) refl
+
+quiet_say : (ks : List BranchKey) (g : Deeds) (n : ℕ) (v : Bool) (r : DialogueRecord) → is_telling r ≡ false → may_say ks g n v r ≡ true
+quiet_say ks g n v DialogueRecord.Rollback h = absurd cc
 quiet_say ks g n v DialogueRecord.Ready h = absurd cc
 quiet_say ks g n v (DialogueRecord.Done r) h = absurd cc
 quiet_say ks g n v (DialogueRecord.RolledBack r) h = absurd cc
@@ -35,11 +47,11 @@ quiet_say ks g n v r h = refl
 quiet_voting : (v : Bool) (r : DialogueRecord) → is_upward r ≡ false → voting v r ≡ v
 quiet_voting v r h = grind (arith, h)
 
-pub none_up : (ks : List BranchKey) (g : Deeds) (n : ℕ) (v : Bool) (xs : List DialogueRecord) → none_of is_upward xs ≡ true → each_up (may_say ks g) n v xs ≡ true
+pub none_up : (ks : List BranchKey) (g : Deeds) (n : ℕ) (v : Bool) (xs : List DialogueRecord) → none_of is_telling xs ≡ true → each_up (may_say ks g) n v xs ≡ true
 none_up ks g n v [] h = refl
 none_up ks g n v (x ∷ xs) h =
-    let quiet : is_upward x ≡ false = grind (arith, h) in
-    let rest : none_of is_upward xs ≡ true = grind (arith, h) in
+    let quiet : is_telling x ≡ false = grind (arith, h) in
+    let rest : none_of is_telling xs ≡ true = grind (arith, h) in
     both_true (may_say ks g n v x) (each_up (may_say ks g) (ends x + n) (voting v x) xs) (quiet_say ks g n v x quiet) (none_up ks g (ends x + n) (voting v x) xs rest)
 
 pub none_voting : (v : Bool) (xs : List DialogueRecord) → none_of is_upward xs ≡ true → voting_from v xs ≡ v
@@ -51,8 +63,9 @@ none_voting v (x ∷ xs) h =
 
 -- ---- over all records and over words alone
 
-quiet_word : (r : DialogueRecord) → is_word r ≡ false → is_upward r ≡ false
+quiet_word : (r : DialogueRecord) → is_word r ≡ false → is_telling r ≡ false
 quiet_word DialogueRecord.Ready h = absurd cc
+quiet_word DialogueRecord.Rollback h = absurd cc
 quiet_word (DialogueRecord.Done r) h = absurd cc
 quiet_word (DialogueRecord.RolledBack r) h = absurd cc
 quiet_word DialogueRecord.Left h = absurd cc
@@ -78,7 +91,8 @@ words_up ks g n v (r ∷ rs) h = go (is_word r) refl (words_up ks g (ends r + n)
     go false i one two =
         let old : each_up (may_say ks g) n v (only_words rs) ≡ true = rw (i, only_words) at h in
         let q = quiet_word r i in
-        let rest : each_up (may_say ks g) (ends r + n) (voting v r) rs ≡ true = rw (zero_plus (ends r) (quiet_ends r q), quiet_voting v r q) (two old) in
+        let u : is_upward r ≡ false = grind (arith, q) in
+        let rest : each_up (may_say ks g) (ends r + n) (voting v r) rs ≡ true = rw (zero_plus (ends r) (quiet_ends r u), quiet_voting v r u) (two old) in
         both_true (may_say ks g n v r) (each_up (may_say ks g) (ends r + n) (voting v r) rs) (quiet_say ks g n v r q) rest
 
 pub words_voting : (v : Bool) (rs : List DialogueRecord) → voting_from v (only_words rs) ≡ voting_from v rs
@@ -87,12 +101,12 @@ words_voting v (r ∷ rs) = go (is_word r) refl (words_voting (voting v r) rs) (
   where
     go : (b : Bool) → is_word r ≡ b → voting_from (voting v r) (only_words rs) ≡ voting_from (voting v r) rs → voting_from v (only_words rs) ≡ voting_from v rs → voting_from v (only_words (r ∷ rs)) ≡ voting_from v (r ∷ rs)
     go true i one two = rw (i, only_words) one
-    go false i one two = rw (i, only_words) (two ∙ ap (λ (b : Bool). voting_from b rs) (sym (quiet_voting v r (quiet_word r i))))
+    go false i one two = rw (i, only_words) (two ∙ ap (λ (b : Bool). voting_from b rs) (sym (quiet_voting v r (let q = quiet_word r i in grind (arith, q)))))
 
 -- ---- more keys and more deeds
 
 abbrev pub IsWider : List BranchKey → Deeds → List BranchKey → Deeds → Type 0
-IsWider ks g ls k = (n : ℕ) → (holds_at ks n g.committed ≡ true → holds_at ls n k.committed ≡ true) × (holds_at ks n g.rolled ≡ true → holds_at ls n k.rolled ≡ true) × (holds_at ks n g.left ≡ true → holds_at ls n k.left ≡ true) × (holds_at ks n g.completed ≡ true → holds_at ls n k.completed ≡ true)
+IsWider ks g ls k = (n : ℕ) → (holds_at ks n g.committed ≡ true → holds_at ls n k.committed ≡ true) × (holds_at ks n g.rolled ≡ true → holds_at ls n k.rolled ≡ true) × (holds_at ks n g.left ≡ true → holds_at ls n k.left ≡ true) × (holds_at ks n g.completed ≡ true → holds_at ls n k.completed ≡ true) × (holds_at ks n g.damaged ≡ true → holds_at ls n k.damaged ≡ true)
 
 still_kept : (b c d : Bool) → (c ≡ true → d ≡ true) → (b || c) ≡ true → (b || d) ≡ true
 still_kept true c d f h = refl
@@ -101,8 +115,12 @@ still_kept false c d f h = f h
 pub say_wider : (ks ls : List BranchKey) (g k : Deeds) → IsWider ks g ls k → (n : ℕ) (v : Bool) (r : DialogueRecord) → may_say ks g n v r ≡ true → may_say ls k n v r ≡ true
 say_wider ks ls g k w n v DialogueRecord.Ready h = h
 say_wider ks ls g k w n v (DialogueRecord.Done r) h =
-    both_true (holds_at ls n k.committed) (not (is_report_none r) || holds_at ls n k.completed) ((w n).0 (and_left (holds_at ks n g.committed) (not (is_report_none r) || holds_at ks n g.completed) h))
-    (still_kept (not (is_report_none r)) (holds_at ks n g.completed) (holds_at ls n k.completed) (w n).3 (and_right (holds_at ks n g.committed) (not (is_report_none r) || holds_at ks n g.completed) h))
+    let told : (holds_at ks n g.committed && (not (is_report_none r) || holds_at ks n g.completed)) ≡ true = and_left (holds_at ks n g.committed && (not (is_report_none r) || holds_at ks n g.completed)) (is_report_none r || holds_at ks n g.damaged) h in
+    both_true (holds_at ls n k.committed && (not (is_report_none r) || holds_at ls n k.completed)) (is_report_none r || holds_at ls n k.damaged)
+    (both_true (holds_at ls n k.committed) (not (is_report_none r) || holds_at ls n k.completed) ((w n).0 (and_left (holds_at ks n g.committed) (not (is_report_none r) || holds_at ks n g.completed) told))
+    (still_kept (not (is_report_none r)) (holds_at ks n g.completed) (holds_at ls n k.completed) (w n).3 (and_right (holds_at ks n g.committed) (not (is_report_none r) || holds_at ks n g.completed) told)))
+    (still_kept (is_report_none r) (holds_at ks n g.damaged) (holds_at ls n k.damaged) (w n).4 (and_right (holds_at ks n g.committed && (not (is_report_none r) || holds_at ks n g.completed)) (is_report_none r || holds_at ks n g.damaged) h))
+say_wider ks ls g k w n v DialogueRecord.Rollback h = (w n).1 h
 say_wider ks ls g k w n v (DialogueRecord.RolledBack r) h = (w n).1 h
 say_wider ks ls g k w n v DialogueRecord.Left h = both_true (not v) (holds_at ls n k.left) (and_left (not v) (holds_at ks n g.left) h) ((w n).2 (and_right (not v) (holds_at ks n g.left) h))
 say_wider ks ls g k w n v DialogueRecord.LeftEnd h = both_true (not v) (holds_at ls n k.left) (and_left (not v) (holds_at ks n g.left) h) ((w n).2 (and_right (not v) (holds_at ks n g.left) h))

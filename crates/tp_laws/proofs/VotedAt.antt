@@ -165,7 +165,7 @@ moves_at who e t s = record {
   chain = λ d a f one two quiet. then_at t d a f one two;
   speaks = λ d outs h own said. same_at t d (perform outs d) refl refl;
   changes_dialogue = λ d q f m by one. record { voted = one.voted; rec = one.rec; stays = one.stays };
-  drops_arc = λ d q m one. record { voted = one.voted; rec = one.rec; stays = one.stays };
+  drops_arc = λ d q m at one. record { voted = one.voted; rec = one.rec; stays = one.stays };
   notes_kept = λ d ks m held one. record { voted = one.voted; rec = one.rec; stays = one.stays };
   keeps = λ d k f held. same_at t d _ refl (keep_binds t k f);
   turns = λ d c f now at asked put gone. turned_at who t f d c now put;

@@ -247,7 +247,7 @@ pub record IsWellLog (o : Origin) (rs : List LogRec) (d : Digest) : Type 0 where
   pub all : all_well o.who.node d.boot rs ≡ true
   pub inside : IsWellIn o.who d
 
-well_start : (o : Origin) → IsSoundStart o → is_start o ≡ true → are_earlier o.start.boot o.start.records ≡ true → IsWellLog o o.start.records (digest o [])
+pub well_start : (o : Origin) → IsSoundStart o → is_start o ≡ true → are_earlier o.start.boot o.start.records ≡ true → IsWellLog o o.start.records (digest o [])
 unfolding started
 well_start o sound start earlier =
     let rs : List LogRec = o.start.records in

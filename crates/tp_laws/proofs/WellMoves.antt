@@ -279,7 +279,7 @@ well_moves who e s = record {
   chain = λ d a f one two quiet. (reached.chain d a f one.0 two.0 quiet, λ h. well_then who d a f one two h);
   speaks = λ d outs spoken own said. (reached.speaks d outs spoken own said, λ h. (h, well_quiet who.node d.boot None refl));
   changes_dialogue = λ d p f m by one. one;
-  drops_arc = λ d p m one. one;
+  drops_arc = λ d p m at one. one;
   notes_kept = λ d ks m held one. (
     one.0,
     λ h. one.1 (

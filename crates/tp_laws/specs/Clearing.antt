@@ -26,6 +26,7 @@ use Rattle.tp_laws.specs.Turns.{falls}
 use Rattle.tp_laws.specs.Moves.{IsRecoveryIn}
 use Rattle.tp_laws.specs.Passages.{asks_tell, IsPassed}
 use Rattle.tp_laws.specs.Branches.{may_leave}
+pub use Rattle.tp_laws.specs.Owing.{is_damage_rec}
 use Rattle.tp_laws.specs.Owing.{is_standing}
 use Rattle.tp_laws.specs.Facts.{find_branch}
 
@@ -42,16 +43,6 @@ is_clear_rec (Some (LogRec.Heuristic n k o)) = false
 is_clear_rec (Some (LogRec.Commit n k s cs)) = false
 is_clear_rec (Some (LogRec.Damage n k s o r cs)) = false
 is_clear_rec (Some (LogRec.End n k o)) = is_commit o
-
--- it keeps something for its damage
-abbrev pub is_damage_rec : Option LogRec → Bool
-is_damage_rec None = false
-is_damage_rec (Some (LogRec.Boot n)) = false
-is_damage_rec (Some (LogRec.Ready n k s cs)) = false
-is_damage_rec (Some (LogRec.Heuristic n k o)) = false
-is_damage_rec (Some (LogRec.Commit n k s cs)) = false
-is_damage_rec (Some (LogRec.Damage n k s o r cs)) = true
-is_damage_rec (Some (LogRec.End n k o)) = false
 
 -- a commitment; with no report at all, which never is
 abbrev pub is_keeping_rec : Option LogRec → Bool

@@ -1,16 +1,28 @@
 -- A tree of four nodes that is drained, and the same one while a frame waits, for worked examples of what a drained tree has done.
-use Rattle.std.specs.Prelude.{◌==◌, ◌&&◌, ◌||◌, not, Bool, true, false, Some, None, List, [], ◌∷◌, ◌++◌, reverse, codes}
+use Rattle.std.specs.Prelude.{ℕ, ◌==◌, ◌&&◌, ◌||◌, not, Bool, true, false, Some, None, List, [], ◌∷◌, ◌++◌, reverse, codes}
 use Rattle.tp_names.specs.declared.identifiers.Aaid.{Aaid}
-use Rattle.tp_names.specs.Same.{is_mark, is_addr}
+use Rattle.tp_names.specs.Same.{is_aaid, is_mark, is_addr}
+use Rattle.tp_records.specs.declared.dialogue.DialogueRecord.{DialogueRecord}
 use Rattle.tp_records.specs.declared.peer.PeerRecord.{PeerRecord}
 use Rattle.tp_model.specs.declared.line.LineRequest.{LineRequest}
 use Rattle.tp_model.specs.Parts.{Event, Entry}
-use Rattle.tp_model.specs.Dialogues.{is_active}
+use Rattle.tp_model.specs.Dialogues.{is_active, is_committing}
+use Rattle.tp_model.specs.Transactions.{aaid_of, is_under_at}
+use Rattle.tp_model.specs.Requests.{has_branch_at}
 use Rattle.tp_model.specs.History.{digest}
-use Rattle.tp_model.specs.Outcomes.{is_member, decided, has_left, has_asked_or_left, completed_none, is_owed, has_failed}
+use Rattle.tp_model.specs.Outcomes.{is_now, is_member, decided, rolled, has_left, has_asked_or_left, completed_none, is_owed, has_failed}
+use Rattle.tp_model.specs.declared.out_line.OutLine.{OutLine}
+use Rattle.tp_model.specs.Trees.{members_of, closing_line}
 use Rattle.tp_model.specs.World.{World, Node, Frame, find_node}
 use Rattle.tp_model.specs.Happenings.{Happening, Declare, Does, Ask, Deliver, run}
+use Rattle.tp_model.specs.Promises.{has_told_in}
+use Rattle.tp_laws.specs.Traces.{sent_on, taken_on}
+use Rattle.tp_laws.specs.Facts.{is_order}
 use Rattle.tp_laws.specs.Undone.{is_left_undone}
+use Rattle.tp_laws.specs.Heeding.{is_answer}
+use Rattle.tp_laws.specs.Drained.{took_in, is_done}
+use Rattle.tp_laws.specs.DrainedWorlds.{says}
+use Rattle.tp_laws.specs.Trials.{node_after, first_mark}
 
 -- ---- the runs, oldest first
 
@@ -68,6 +80,17 @@ drained =
 abbrev pub waiting : List Happening
 waiting = ordering ++ (Does (Ask 2 LineRequest.Done)
     ∷ Does (Ask 1 LineRequest.Done)
+    ∷ [])
+
+-- the user of the root is not done
+abbrev pub finishing : List Happening
+finishing =
+    ordering
+    ++ (Does (Deliver 17)
+    ∷ Does (Ask 4 LineRequest.Done)
+    ∷ Does (Deliver 18)
+    ∷ Does (Ask 2 LineRequest.Done)
+    ∷ Does (Deliver 19)
     ∷ [])
 
 -- ---- what is asked of them
@@ -130,3 +153,34 @@ has_completed x = decided x.origin tree_of_four x.history && completed_none x.or
 -- it has asked for commitment and waits, and nothing is left undone
 abbrev pub waits_in_active : Node → Bool
 waits_in_active x = elim (digest x.origin x.history).current [ None ↦ false | Some c ↦ is_active c.phase && c.asked && not (is_left_undone c) ]
+
+-- the line that closes the transcript, of the tree
+abbrev pub closing_of : List Happening → OutLine
+closing_of es = closing_line tree_of_four (members_of tree_of_four (world_after es).nodes)
+
+-- ---- what they say and take in it
+
+abbrev pub says_to : ℕ → (DialogueRecord → Bool) → Node → Bool
+says_to p f x = has_told_in (says p f) x.origin tree_of_four x.history
+
+abbrev pub took_answer : ℕ → Node → Bool
+took_answer p x = took_in (λ d. is_aaid tree_of_four (aaid_of d.key)) is_answer x.origin p x.history
+
+abbrev pub took_order : ℕ → Node → Bool
+took_order p x = took_in (λ d. is_aaid tree_of_four (aaid_of d.key) && is_under_at d.key p) is_order x.origin p x.history
+
+abbrev pub took_done : ℕ → Node → Bool
+took_done p x = took_in (λ d. is_aaid tree_of_four (aaid_of d.key) && is_committing d.phase && has_branch_at d.branches p) is_done x.origin p x.history
+
+abbrev pub is_in_it : Node → Bool
+is_in_it x = is_now tree_of_four (digest x.origin x.history).current
+
+abbrev pub has_not_rolled : Node → Bool
+has_not_rolled x = not (rolled x.origin tree_of_four x.history)
+
+-- what the two ends of the first association sent and took with its pair of marks
+abbrev pub sent_by : ℕ → ℕ → List DialogueRecord
+sent_by n p = elim (node_after drained n) [ None ↦ [] | Some x ↦ sent_on (first_mark 1) (first_mark 2) p x.history ]
+
+abbrev pub taken_by : ℕ → ℕ → List DialogueRecord
+taken_by n p = elim (node_after drained n) [ None ↦ [] | Some x ↦ taken_on (first_mark 1) (first_mark 2) p x.history ]

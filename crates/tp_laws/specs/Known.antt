@@ -1,17 +1,19 @@
 -- What is known of a node after a history, part by part, against what the questions of the whole history answer. All
 -- parts together say that the digest agrees.
-use Rattle.std.specs.Prelude.{◌==◌, ◌&&◌, ◌||◌, not, Bool, true, Some, None, List, [], ◌∷◌}
+use Rattle.std.specs.Prelude.{ℕ, ◌==◌, ◌&&◌, ◌||◌, not, Bool, true, Some, None, List, [], ◌∷◌, if◌then◌else◌}
 use Rattle.tp_names.specs.declared.identifiers.NodeKey.{NodeKey}
 use Rattle.tp_names.specs.Same.{is_addr_option, is_outcome}
 use Rattle.tp_names.specs.Reports.{rank}
 use Rattle.tp_units.specs.Units.{has_bit}
-use Rattle.tp_model.specs.Parts.{Origin, Entry, Arc, Current}
+use Rattle.tp_model.specs.Parts.{Origin, Entry, Arc, Branch, Current}
 use Rattle.tp_model.specs.Links.{is_live, is_idle}
+use Rattle.tp_model.specs.Arcs.{link_with}
+use Rattle.tp_laws.specs.Ends.{is_there}
 use Rattle.tp_model.specs.Transactions.{node_key, superior_of}
 use Rattle.tp_model.specs.History.{digest}
 use Rattle.tp_model.specs.Questions.{declared_in, superior_in, boot_in, link_in, holds_in, awaits_in, due_in, deferral_in, rests_in, drawn_in}
-use Rattle.tp_model.specs.Keys.{phase_in, superior_for, branches_in, told_prepare_in, asked_in, superior_rolled_in, owes_in, decision_for, own_in, kept_in, known_in}
-use Rattle.tp_model.specs.Consistency.{same_bool, same_list, same_option, same_link, same_child, same_kept, number_of_phase, number_of_due, number_of_deferral, agrees_order, agrees_branches, children_of, others_quiet}
+use Rattle.tp_model.specs.Keys.{phase_in, superior_for, branches_in, told_prepare_in, asked_in, superior_rolled_in, owes_in, decision_for, own_in, prepared_in, counted_in, left_in, given_up_in, ended_in, kept_in, known_in}
+use Rattle.tp_model.specs.Consistency.{same_bool, same_list, same_option, same_link, same_child, same_kept, number_of_phase, number_of_due, number_of_deferral, agrees_order, agrees_branches, children_of, child_of, is_ended, report_of, others_quiet, below, is_number, peers_in}
 
 -- ---- the node
 
@@ -42,8 +44,21 @@ all_arcs f (a ∷ arcs) = f a && all_arcs f arcs
 abbrev pub links_agree : Origin → List Entry → Bool
 links_agree o h = all_arcs (λ a. same_link a.link (link_in o a.peer.node h) && not (is_idle a.link)) (digest o h).arcs
 
+-- with every peer: where there is no arc to it, the link is idle
+abbrev pub link_agrees : Origin → ℕ → List Entry → Bool
+link_agrees o p h = same_link (link_with (digest o h).arcs p) (link_in o p h)
+
 abbrev pub order_agrees : Origin → List Entry → Bool
 order_agrees o h = agrees_order o h
+
+-- of some numbers, those that an arc leads to
+abbrev pub with_an_arc : List Arc → List ℕ → List ℕ
+with_an_arc arcs [] = []
+with_an_arc arcs (p ∷ ps) = if is_there p arcs then p ∷ with_an_arc arcs ps else with_an_arc arcs ps
+
+-- the arcs below are those to the nodes asked for a dialogue, in that order
+abbrev pub below_as_asked : Origin → List Entry → Bool
+below_as_asked o h = same_list is_number (below (digest o h) (digest o h).arcs) (with_an_arc (digest o h).arcs (peers_in h))
 
 -- control, handshake, deferral and rest are asked of a live arc; control, of a polarized one
 abbrev pub all_live : Origin → List Entry → (Arc → Bool) → Bool
@@ -83,6 +98,28 @@ above_agrees o h = now_agrees o h (λ k c. is_addr_option (superior_of c.key) (s
 abbrev pub branches_agree : Origin → List Entry → Bool
 branches_agree o h = now_agrees o h (λ k c. same_list same_child (children_of c.branches) (branches_in o k h))
 
+-- of each branch
+abbrev pub each_branch : (Branch → Bool) → List Branch → Bool
+each_branch f [] = true
+each_branch f (b ∷ bs) = f b && each_branch f bs
+
+abbrev pub prepared_agrees : Origin → List Entry → Bool
+prepared_agrees o h = now_agrees o h (λ k c. each_branch (λ b. same_bool b.prepared (prepared_in o k b.peer.node h)) c.branches)
+
+abbrev pub counted_agrees : Origin → List Entry → Bool
+counted_agrees o h = now_agrees o h (λ k c. each_branch (λ b. same_bool b.counted (counted_in o k b.peer.node h)) c.branches)
+
+abbrev pub left_agrees : Origin → List Entry → Bool
+left_agrees o h = now_agrees o h (λ k c. each_branch (λ b. same_bool b.left (left_in o k b.peer.node h)) c.branches)
+
+abbrev pub given_up_agrees : Origin → List Entry → Bool
+given_up_agrees o h = now_agrees o h (λ k c. each_branch (λ b. same_bool b.given_up (given_up_in o k b.peer.node h)) c.branches)
+
+-- that it has ended, and with which report
+abbrev pub ended_agrees : Origin → List Entry → Bool
+ended_agrees o h = now_agrees o h (λ k c. each_branch (λ b. same_bool b.ended (is_ended (ended_in o k (child_of b) h)) && (rank b.report == rank (report_of (ended_in o k (child_of b) h)))) c.branches)
+
+-- all of them
 abbrev pub marks_agree : Origin → List Entry → Bool
 marks_agree o h = now_agrees o h (λ k c. agrees_branches o k h c.branches)
 
@@ -120,10 +157,3 @@ current_agrees o h =
 
 abbrev pub agrees_in_parts : Origin → List Entry → Bool
 agrees_in_parts o h = node_agrees o h && arcs_agree o h && current_agrees o h
-
--- those that no law gives: of the arcs all but their rest, and of the current transaction these
-abbrev pub links_and_control_agree : Origin → List Entry → Bool
-links_and_control_agree o h = links_agree o h && order_agrees o h && control_agrees o h && awaits_agrees o h && due_agrees o h && deferral_agrees o h
-
-abbrev pub rest_agrees : Origin → List Entry → Bool
-rest_agrees o h = links_and_control_agree o h && marks_agree o h && owes_agrees o h && superior_rolled_agrees o h && own_agrees o h

@@ -12,9 +12,10 @@ use Rattle.tp_records.specs.declared.request.Request.{Request}
 use Rattle.tp_records.specs.declared.dialogue.DialogueRecord.{DialogueRecord}
 use Rattle.tp_records.specs.declared.dialogue.Holder.{Holder}
 use Rattle.tp_records.specs.declared.peer.PeerRecord.{PeerRecord}
+use Rattle.tp_records.specs.declared.peer.RecState.{RecState}
 use Rattle.tp_logrec.specs.declared.record.LogVersion.{LogVersion}
 use Rattle.tp_logrec.specs.declared.record.LogRec.{LogRec}
-use Rattle.tp_model.specs.Parts.{Origin, Event, Declare, Do, Arrive, Heur, Entry}
+use Rattle.tp_model.specs.Parts.{Origin, Event, Declare, Do, Arrive, Heur, GiveUp, Entry}
 use Rattle.tp_model.specs.History.{grown, refuse}
 
 -- a node in the middle, with a superior and one subordinate, that starts on those records
@@ -58,6 +59,16 @@ linked =
     ∷ Do (Request.BeginDialogue below 41)
     ∷ Arrive below (PeerRecord.AcceptAssoc (mark_of 2 2) (mark_of 3 1) 41)
     ∷ []
+
+-- a dialogue with another node is asked for; the user breaks off the first, and asks for it again
+abbrev pub beside : Addr
+beside = record { site = codes "d"; node = 4 }
+
+abbrev pub calling : List Event
+calling = Do (Request.BeginDialogue beside 41) ∷ []
+
+abbrev pub recalling : List Event
+recalling = Do (Request.UAbort 3) ∷ Do (Request.BeginDialogue below 41) ∷ []
 
 -- the superior begins a tree with a mark that this node has yet to draw, and the node passes it on
 abbrev pub foretold : Aaid
@@ -142,3 +153,76 @@ responding = from_above 2 DialogueRecord.Response ∷ []
 
 abbrev pub speaking : List Event
 speaking = from_above 2 DialogueRecord.UError ∷ []
+
+-- both are linked with handshakes and control; a handshake goes out below, and is answered
+abbrev pub polarized : List Event
+polarized =
+    Declare (Some above)
+    ∷ Arrive above (PeerRecord.OpenAssoc (mark_of 1 1) 46)
+    ∷ Do (Request.Accept 46)
+    ∷ Do (Request.BeginDialogue below 46)
+    ∷ Arrive below (PeerRecord.AcceptAssoc (mark_of 2 2) (mark_of 3 1) 46)
+    ∷ []
+
+abbrev pub shaking : List Event
+shaking = Do (Request.Handshake 3) ∷ []
+
+abbrev pub answering : List Event
+answering = from_below 0 DialogueRecord.Response ∷ []
+
+-- the reply to a ready branch orders its commitment, and its user is done; or the superior knows of nothing
+abbrev pub ordering : List Event
+ordering = Arrive above (PeerRecord.RecReply elsewhere of_above RecState.Commit) ∷ []
+
+abbrev pub finishing : List Event
+finishing = Do Request.Done ∷ []
+
+abbrev pub unknowing : List Event
+unknowing = Arrive above (PeerRecord.RecReply elsewhere of_above RecState.Unknown) ∷ []
+
+-- the node puts off the end of its branch; then the superior rolls back
+abbrev pub deferring : List Event
+deferring = Do (Request.DeferEnd 3) ∷ []
+
+abbrev pub rolling : List Event
+rolling = from_above 1 DialogueRecord.Rollback ∷ []
+
+-- the root puts off the end of its branch, and both commit; then the branch is done
+abbrev pub from_branch : ℕ → DialogueRecord → Event
+from_branch q r = Arrive below (PeerRecord.OnAssoc (mark_of 2 1) (mark_of 3 1) q r)
+
+abbrev pub committing : List Event
+committing = Do (Request.DeferEnd 3) ∷ Do Request.Commit ∷ from_branch 0 DialogueRecord.Ready ∷ Do Request.Done ∷ []
+
+abbrev pub completing : List Event
+completing = from_branch 1 (DialogueRecord.Done Report.None) ∷ []
+
+-- the superior shakes hands and gives control with it; the node answers; or the superior grants control meanwhile
+abbrev pub entrusting : List Event
+entrusting = from_above 0 DialogueRecord.HandshakeGrant ∷ []
+
+abbrev pub replying : List Event
+replying = Do (Request.Respond 1) ∷ []
+
+abbrev pub granting : List Event
+granting = from_above 1 DialogueRecord.Grant ∷ []
+
+-- the node gives control to the node below
+abbrev pub handing : List Event
+handing = Do (Request.Grant 3) ∷ []
+
+-- the branch of the node's own tree is ready, and ends, or is given up, once it was ordered to commit; or it leaves
+abbrev pub readying : List Event
+readying = Arrive below (PeerRecord.OnAssoc (mark_of 2 1) (mark_of 3 1) 0 DialogueRecord.Ready) ∷ []
+
+abbrev pub own_child : Child
+own_child = record { addr = below; branch = record { superior = codes "b"; mark = mark_of 2 3 } }
+
+abbrev pub ending_below : List Event
+ending_below = Arrive below (PeerRecord.OnAssoc (mark_of 2 1) (mark_of 3 1) 1 (DialogueRecord.Done Report.Hazard)) ∷ []
+
+abbrev pub giving_up : List Event
+giving_up = GiveUp 3 ∷ []
+
+abbrev pub leaving_below : List Event
+leaving_below = Arrive below (PeerRecord.OnAssoc (mark_of 2 1) (mark_of 3 1) 0 DialogueRecord.Left) ∷ []

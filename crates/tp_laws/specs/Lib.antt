@@ -22,6 +22,9 @@ pub mod Undone
 pub mod Heeding
 pub mod Outspoken
 pub mod Framed
+pub mod Drained
+pub mod DrainedWorlds
+pub mod DrainedTrees
 pub mod Upward
 pub mod Answering
 pub mod Hanging
@@ -40,6 +43,7 @@ pub mod Known
 pub mod KnownTrials
 pub mod Trials
 pub mod DrainedTrials
+pub mod DrainedNodeTrials
 pub mod ArcTrials
 pub mod Expansion
 pub mod Schedules

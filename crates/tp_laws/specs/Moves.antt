@@ -250,6 +250,11 @@ abbrev pub keeps_idle : List Kept → Bool
 keeps_idle [] = false
 keeps_idle (k ∷ ks) = (is_commit k.side && is_report_none k.report) || keeps_idle ks
 
+-- a kept transaction owes the branch
+abbrev pub owes_branch : BranchId → List Kept → Bool
+owes_branch b [] = false
+owes_branch b (k ∷ ks) = elim (find_owed k.owed b) [ None ↦ false | Some c ↦ true ] || owes_branch b ks
+
 -- ---- what goes out beside the associations, in the event e whose prelude left s
 
 -- the record goes to that address
@@ -261,18 +266,19 @@ IsRecoveryIn (TxOut.Shut p ∷ outs) a r = IsRecoveryIn outs a r
 IsRecoveryIn (TxOut.Recovery b q ∷ outs) a r = (b ≡ a) × (q ≡ r) ⊎ IsRecoveryIn outs a r
 IsRecoveryIn (TxOut.Close p ∷ outs) a r = IsRecoveryIn outs a r
 
--- outside its transaction a node never asks whether to commit; that it knows of nothing is an answer, and so is Done, or it
--- is said of a commitment. Forget outside a transaction answers a Done of a branch that nothing is known of
+-- outside its transaction a node never asks whether to commit, and orders it to a branch that a kept transaction owes; that it
+-- knows of nothing is an answer, and so is Done, or it is said of a commitment. Forget outside a transaction answers a Done of a
+-- branch that nothing is known of
 abbrev pub IsSaid : Event → Digest → Digest → Addr → PeerRecord → Type 0
 IsSaid e s d a (PeerRecord.OpenAssoc x u) = Unit {0}
 IsSaid e s d a (PeerRecord.AcceptAssoc x y u) = Unit {0}
 IsSaid e s d a (PeerRecord.ShutAssoc x y) = Unit {0}
 IsSaid e s d a (PeerRecord.OnAssoc x y q r) = Unit {0}
 IsSaid e s d a (PeerRecord.RecReady t b) = ⊥
-IsSaid e s d a (PeerRecord.RecCommit t b) = Unit {0}
+IsSaid e s d a (PeerRecord.RecCommit t b) = owes_branch b d.kept ≡ true
 IsSaid e s d a (PeerRecord.RecReply t b RecState.Commit) = Unit {0}
 IsSaid e s d a (PeerRecord.RecReply t b (RecState.Done r)) =
-    (is_committed_in t d ≡ true) × (is_report_none r ≡ true → keeps_idle d.kept ≡ true)
+    (is_committed_in t d ≡ true) × (is_report_none r ≡ true → keeps_idle d.kept ≡ true) × (keeps_commit t d.kept ≡ true)
     ⊎ (e ≡ Event.Arrive a (PeerRecord.RecCommit t b)) × (answer (known_of (named_by_key s (branch_key t b)) b) Question.RecCommit ≡ Some (RecState.Done r))
 IsSaid e s d a (PeerRecord.RecReply t b RecState.Unknown) =
     (e ≡ Event.Arrive a (PeerRecord.RecReady t b)) × (answer (known_of (named_by_branch s t b) b) Question.RecReady ≡ Some RecState.Unknown)
@@ -307,11 +313,49 @@ gives_to (Event.Do (Request.Grant q)) p = q == p
 gives_to (Event.Do (Request.HandshakeGrant q)) p = q == p
 gives_to _ p = false
 
--- control is given by such a request alone, outside transactions, and no Prepare goes out
+-- the requests that say one record of a dialogue there
+abbrev pub grants_to : Event → ℕ → Bool
+grants_to (Event.Do (Request.Grant q)) p = q == p
+grants_to _ p = false
+
+abbrev pub hands_to : Event → ℕ → Bool
+hands_to (Event.Do (Request.HandshakeGrant q)) p = q == p
+hands_to _ p = false
+
+abbrev pub shakes_with : Event → ℕ → Bool
+shakes_with (Event.Do (Request.Handshake q)) p = q == p
+shakes_with _ p = false
+
+abbrev pub responds_to : Event → ℕ → Bool
+responds_to (Event.Do (Request.Respond q)) p = q == p
+responds_to _ p = false
+
+-- an event that may end the association with the peer: a request, a record or a loss; an offer that is refused may be anyone's
+abbrev pub closes_at : Event → ℕ → Bool
+closes_at (Event.Do (Request.EndDialogue q)) p = q == p
+closes_at (Event.Do (Request.UAbort q)) p = q == p
+closes_at (Event.Do Request.Reject) p = true
+closes_at (Event.Arrive from (PeerRecord.ShutAssoc x y)) p = from.node == p
+closes_at (Event.Arrive from (PeerRecord.OnAssoc x y q DialogueRecord.EndDialogue)) p = from.node == p
+closes_at (Event.Arrive from (PeerRecord.OnAssoc x y q DialogueRecord.UAbort)) p = from.node == p
+closes_at (Event.Arrive from (PeerRecord.OnAssoc x y q DialogueRecord.LeftEnd)) p = from.node == p
+closes_at (Event.Break from r) p = from.node == p
+closes_at (Event.Lose q) p = q == p
+closes_at (Event.GiveUp q) p = q == p
+closes_at _ p = false
+
+-- outside transactions a Grant, a handshake and its response are said by their request alone, an association is ended by an
+-- event that may end it alone, no Prepare goes out, and nothing is put off
 abbrev pub is_said : Event → TxOut → Bool
-is_said e (TxOut.Carry p DialogueRecord.Grant) = gives_to e p
-is_said e (TxOut.Carry p DialogueRecord.HandshakeGrant) = gives_to e p
+is_said e (TxOut.Carry p DialogueRecord.Grant) = grants_to e p
+is_said e (TxOut.Carry p DialogueRecord.HandshakeGrant) = hands_to e p
+is_said e (TxOut.Carry p DialogueRecord.Handshake) = shakes_with e p
+is_said e (TxOut.Carry p DialogueRecord.Response) = responds_to e p
 is_said e (TxOut.Carry p DialogueRecord.Prepare) = false
+is_said e (TxOut.Carry p DialogueRecord.DeferEnd) = false
+is_said e (TxOut.Carry p DialogueRecord.DeferGrant) = false
+is_said e (TxOut.Shut p) = false
+is_said e (TxOut.Close p) = closes_at e p
 is_said e _ = true
 
 abbrev pub are_said : Event → List TxOut → Bool
@@ -394,7 +438,7 @@ pub record Moves (who : Who) (e : Event) (s : Digest) (R : Digest → Move → T
   -- outputs, and changes that are no matter of transactions
   pub speaks : (d : Digest) (outs : List TxOut) → are_spoken outs ≡ true → IsOwned d outs × AreSaid e s d outs → are_said e outs ≡ true → R d (perform outs d)
   pub changes_dialogue : (d : Digest) (p : ℕ) (f : Dialogue → Dialogue) (m : Move) → IsChange e d p f → R (record d { arcs = with_dialogue d.arcs p f }) m → R d m
-  pub drops_arc : (d : Digest) (p : ℕ) (m : Move) → R (record d { arcs = without_arc d.arcs p }) m → R d m
+  pub drops_arc : (d : Digest) (p : ℕ) (m : Move) → closes_at e p ≡ true → R (record d { arcs = without_arc d.arcs p }) m → R d m
   pub notes_kept : (d : Digest) (ks : List Kept) (m : Move) → ((u : Aaid) → keeps_commit u ks ≡ true → keeps_commit u d.kept ≡ true) × (not_forgotten ks ≡ not_forgotten d.kept) → R (record d { kept = ks }) m → R d m
   pub keeps : (d : Digest) (k : Kept) (f : KeptEvent) → ((u : Aaid) → (is_commit k.side && is_aaid u k.key.aaid) ≡ true → keeps_commit u d.kept ≡ true) × IsAmong d.kept k × StandsIn d.kept k × IsFound d.kept k × IsSettling e s d k f → R d (keep (settled k f) d)
   -- the current transaction

@@ -10,6 +10,7 @@ use Rattle.tp_names.specs.declared.children.Child.{Child}
 use Rattle.tp_names.specs.declared.outcome.Outcome.{Outcome}
 use Rattle.tp_names.specs.declared.outcome.Report.{Report}
 use Rattle.tp_names.specs.Same.{is_aaid}
+use Rattle.tp_names.specs.Reports.{is_report_none}
 use Rattle.tp_records.specs.declared.request.Request.{Request}
 use Rattle.tp_records.specs.declared.dialogue.DialogueRecord.{DialogueRecord}
 use Rattle.tp_records.specs.declared.dialogue.Holder.{Holder}
@@ -59,6 +60,16 @@ abbrev pub backs_tree : Aaid → Option LogRec → Bool
 backs_tree u None = false
 backs_tree u (Some r) = is_rollback_of u r
 
+-- it keeps something for its damage
+abbrev pub is_damage_rec : Option LogRec → Bool
+is_damage_rec None = false
+is_damage_rec (Some (LogRec.Boot n)) = false
+is_damage_rec (Some (LogRec.Ready n k s cs)) = false
+is_damage_rec (Some (LogRec.Heuristic n k o)) = false
+is_damage_rec (Some (LogRec.Commit n k s cs)) = false
+is_damage_rec (Some (LogRec.Damage n k s o r cs)) = true
+is_damage_rec (Some (LogRec.End n k o)) = false
+
 -- ---- a transaction
 
 -- the branch with the peer has the identifier, and is neither done nor left
@@ -86,10 +97,11 @@ pub data Quits (e : TxEvent) (s : Transaction) (p : ℕ) : Type 0 where
   Rolls : falls e s ≡ true → Quits e s p
   Departs : e ≡ TxEvent.User Request.Unchanged → Quits e s p
 
--- beside the associations a transaction asks its superior, and tells it that it is done, in a commitment
+-- beside the associations a transaction asks its superior, and tells it that it is done, in a commitment; with a report, where it
+-- logs its damage
 abbrev pub IsOwnWord : Transaction → Turn → Addr → PeerRecord → Type 0
 IsOwnWord t a z (PeerRecord.RecReady u c) = t.key ≡ Under u c z
-IsOwnWord t a z (PeerRecord.RecReply u c (RecState.Done x)) = (u ≡ aaid_of t.key) × ((is_committing t.phase || is_commit_rec a.rec) ≡ true)
+IsOwnWord t a z (PeerRecord.RecReply u c (RecState.Done x)) = (u ≡ aaid_of t.key) × ((is_committing t.phase || is_commit_rec a.rec) ≡ true) × ((is_report_none x || is_damage_rec a.rec) ≡ true)
 IsOwnWord t a z (PeerRecord.RecReply u c RecState.Unknown) = ⊥
 IsOwnWord t a z r = Unit {0}
 

@@ -12,7 +12,7 @@ use Rattle.tp_model.specs.History.{digest}
 use Rattle.tp_model.specs.Outcomes.{is_member, completed_none, decided, rolled, decision, has_left, told}
 use Rattle.tp_model.specs.World.{Node, find_node, addr_of}
 use Rattle.tp_model.specs.Happenings.{Happening, Declare, Does, Crash, Ask, Deliver, Decide, Retry, run}
-use Rattle.tp_model.specs.Promises.{is_counted, has_begun, is_of_tree, is_ready_of, has_logged, holds_at, has_told_in, completes, is_root}
+use Rattle.tp_model.specs.Promises.{is_counted, has_begun, is_of_tree, is_ready_of, has_logged, holds_at, has_told_in, completes, has_sent_done_none, is_root}
 use Rattle.tp_laws.specs.Facts.{is_order, is_vote, is_end}
 use Rattle.tp_laws.specs.Traces.{sent_on, taken_on}
 use Rattle.tp_laws.specs.Control.{answered, given, returned}
@@ -163,6 +163,42 @@ deep_reported =
     ∷ Does (Ask 1 LineRequest.Done)
     ∷ [])
 
+-- the second and the last are done, and the root's user is not yet
+abbrev pub deep_done : List Happening
+deep_done = deep_readied ++ (Does (Deliver 10) ∷ Does (Deliver 11) ∷ Does (Deliver 12) ∷ Does (Ask 3 LineRequest.Done) ∷ Does (Deliver 13) ∷ Does (Ask 2 LineRequest.Done) ∷ [])
+
+-- the last stops when it is ready, and learns the order, and says Done, beside the associations
+abbrev pub deep_replied : List Happening
+deep_replied =
+    deep_readied
+    ++ (Does (Deliver 10)
+    ∷ Does (Deliver 11)
+    ∷ Crash (codes "c")
+    ∷ Does (Retry 3)
+    ∷ Does (Deliver 13)
+    ∷ Does (Deliver 14)
+    ∷ Does (Ask 3 LineRequest.Done)
+    ∷ Does (Deliver 15)
+    ∷ Does (Ask 2 LineRequest.Done)
+    ∷ Does (Deliver 16)
+    ∷ Does (Ask 1 LineRequest.Done)
+    ∷ [])
+
+-- the branch decided to roll back by itself, reports it and is told to forget; an old question is answered behind that
+abbrev pub forgotten : List Happening
+forgotten =
+    readied
+    ++ (Does (Decide 2 Outcome.Rollback)
+    ∷ Does (Deliver 5)
+    ∷ Does (Retry 1)
+    ∷ Does (Deliver 6)
+    ∷ Does (Ask 2 LineRequest.Done)
+    ∷ Does (Deliver 8)
+    ∷ Does (Ask 1 LineRequest.Done)
+    ∷ Does (Deliver 9)
+    ∷ Does (Deliver 7)
+    ∷ [])
+
 -- ---- what is asked of them
 
 abbrev pub tree : Aaid
@@ -245,6 +281,13 @@ is_clear x = completed_none x.origin tree x.history
 
 abbrev pub is_complete : Node → Bool
 is_complete x = has_told_in completes x.origin tree x.history
+
+-- a Done with no report was sent, of the branch of the second node, and of the third
+abbrev pub has_said_done : Node → Bool
+has_said_done x = has_sent_done_none x.origin tree branch x.history
+
+abbrev pub has_said_done_below : Node → Bool
+has_said_done_below x = has_sent_done_none x.origin tree lower_branch x.history
 
 abbrev pub is_first_root : Node → Bool
 is_first_root x = is_root tree x

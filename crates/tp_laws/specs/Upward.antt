@@ -15,15 +15,15 @@ use Rattle.tp_model.specs.Arcs.{link_with}
 use Rattle.tp_model.specs.Dialogues.{is_nil, is_active, is_committing, is_rolling}
 use Rattle.tp_model.specs.Transactions.{Transaction, Turn, aaid_of, is_under_at}
 use Rattle.tp_model.specs.Node.{Move}
-use Rattle.tp_model.specs.History.{digest}
+use Rattle.tp_model.specs.History.{digest, records}
 use Rattle.tp_model.specs.Outcomes.{decided, rolled, has_left, completed_none, is_unchanged}
 use Rattle.tp_model.specs.Questions.{is_at}
 use Rattle.tp_laws.specs.Turns.{falls, loses}
 use Rattle.tp_laws.specs.Traces.{sent_on, taken_on}
 use Rattle.tp_laws.specs.Passages.{is_commit_rec, asks_tell, IsPassed}
 use Rattle.tp_laws.specs.Trees.{commits_tree, out_tells}
-use Rattle.tp_laws.specs.Clearing.{is_complete_none}
-use Rattle.tp_laws.specs.Facts.{is_vote, is_end, ends, BranchKey, begun_keys, spoken, stays, sees, HasPlace, HasPlaceAt, words_to, IsFair}
+use Rattle.tp_laws.specs.Clearing.{is_complete_none, is_damage_rec, damages_tree, has_damage}
+use Rattle.tp_laws.specs.Facts.{is_begin, is_vote, is_end, ends, none_of, BranchKey, begun_keys, spoken, stays, id_at, sees, key_at, HasPlace, HasPlaceAt, words_to, IsFair}
 
 -- ---- words in order
 
@@ -47,6 +47,8 @@ pub record Deeds : Type 0 where
   pub left : Aaid → Bool
   -- the commitment was complete with no report
   pub completed : Aaid → Bool
+  -- it is kept for its damage
+  pub damaged : Aaid → Bool
 
 -- it holds of the tree whose Begin stands at that place
 abbrev pub holds_at : List BranchKey → ℕ → (Aaid → Bool) → Bool
@@ -54,13 +56,14 @@ holds_at ks n g = elim (slice_get ks n) [ None ↦ false | Some k ↦ g k.0 ]
 
 abbrev pub may_say : List BranchKey → Deeds → ℕ → Bool → DialogueRecord → Bool
 may_say ks g n v DialogueRecord.Ready = not v
-may_say ks g n v (DialogueRecord.Done r) = holds_at ks n g.committed && (not (is_report_none r) || holds_at ks n g.completed)
+may_say ks g n v (DialogueRecord.Done r) = holds_at ks n g.committed && (not (is_report_none r) || holds_at ks n g.completed) && (is_report_none r || holds_at ks n g.damaged)
+may_say ks g n v DialogueRecord.Rollback = holds_at ks n g.rolled
 may_say ks g n v (DialogueRecord.RolledBack r) = holds_at ks n g.rolled
 may_say ks g n v DialogueRecord.Left = not v && holds_at ks n g.left
 may_say ks g n v DialogueRecord.LeftEnd = not v && holds_at ks n g.left
 may_say ks g n v _ = true
 
--- ---- an event e at a transaction s, from t on, and the superior p
+-- ---- an event e at a transaction s, from t on, and the superior p, which is no branch
 
 -- where Ready was said, the transaction came from the peer and is no longer active
 abbrev pub Votes : Bool → Transaction → ℕ → Type 0
@@ -74,9 +77,10 @@ pub record Tells (g : Deeds) (e : TxEvent) (s t : Transaction) (a : Turn) : Type
   pub falls : falls e s ≡ true → g.rolled (aaid_of t.key) ≡ true
   pub leaves : e ≡ TxEvent.User Request.Unchanged → g.left (aaid_of t.key) ≡ true
   pub completes : asks_tell is_complete_none a.outs ≡ true → g.completed (aaid_of t.key) ≡ true
+  pub damages : is_damage_rec a.rec ≡ true → g.damaged (aaid_of t.key) ≡ true
 
 pub record Rises (e : TxEvent) (s : Transaction) (p : ℕ) (t : Transaction) (a : Turn) : Type 0 where
-  pub words : (ks : List BranchKey) (g : Deeds) (n : ℕ) (v : Bool) → HasPlace ks n t p → Votes v t p → Tells g e s t a → each_up (may_say ks g) n v (spoken true p a.outs) ≡ true
+  pub words : (ks : List BranchKey) (g : Deeds) (n : ℕ) (v : Bool) → id_at t p ≡ None → HasPlace ks n t p → Votes v t p → Tells g e s t a → each_up (may_say ks g) n v (spoken true p a.outs) ≡ true
   pub votes : (v : Bool) → Votes v t p → stays true p a.outs ≡ true → Votes (voting_from v (spoken true p a.outs)) a.next p
 
 pub record IsRising (e : TxEvent) (s : Transaction) (p : ℕ) (t : Transaction) (a : Turn) : Type 0 where
@@ -96,15 +100,16 @@ pub record TellsAt (g : Deeds) (e : Event) (fall : Bool) (s : Digest) (m : Move)
   pub falls : (c : Current) → s.current ≡ Some c → fall ≡ true → g.rolled (aaid_of c.key) ≡ true
   pub leaves : (c : Current) → s.current ≡ Some c → is_unchanged e ≡ true → g.left (aaid_of c.key) ≡ true
   pub completes : (c : Current) → s.current ≡ Some c → out_tells is_complete_none m.outs ≡ true → g.completed (aaid_of c.key) ≡ true
+  pub damages : (c : Current) → s.current ≡ Some c → damages_tree (aaid_of c.key) m.rec ≡ true → g.damaged (aaid_of c.key) ≡ true
 
 pub record IsRisen (e : Event) (p : ℕ) (fall : Bool) (s d : Digest) (m : Move) : Type 0 where
-  pub words : (ks : List BranchKey) (g : Deeds) (n : ℕ) (v : Bool) → HasPlaceAt ks n d.current p → VotesAt v d.current p → TellsAt g e fall s m → each_up (may_say ks g) n v (words_to p m.outs) ≡ true
+  pub words : (ks : List BranchKey) (g : Deeds) (n : ℕ) (v : Bool) → key_at d.current p ≡ None → none_of is_begin (words_to p m.outs) ≡ true → HasPlaceAt ks n d.current p → VotesAt v d.current p → TellsAt g e fall s m → each_up (may_say ks g) n v (words_to p m.outs) ≡ true
   pub votes : (v : Bool) → is_live (link_with m.next.arcs p) ≡ true → VotesAt v d.current p → VotesAt (voting_from v (words_to p m.outs)) m.next.current p
 
 -- ---- of a history
 
 abbrev pub deeds_of : Origin → List Entry → Deeds
-deeds_of o h = record { committed = λ t. decided o t h; rolled = λ t. rolled o t h; left = λ t. has_left o t h; completed = λ t. completed_none o t h }
+deeds_of o h = record { committed = λ t. decided o t h; rolled = λ t. rolled o t h; left = λ t. has_left o t h; completed = λ t. completed_none o t h; damaged = λ t. has_damage t (records o h) }
 
 -- to the superior, on each pair
 pub record SpeaksUp (o : Origin) (up : Option Addr) (h : List Entry) : Type 0 where

@@ -8,7 +8,7 @@ ghost use Rattle.tp_model.specs.World.{empty_world};
 ghost use Rattle.tp_model.specs.Trees.{closing};
 ghost use Rattle.tp_model.specs.Transcript.{transcript_with, Done};
 ghost use Rattle.tp_model.specs.Lines.{Name};
-ghost use Rattle.tp_model.specs.Promises.{AllLegal, PrefixTaken, WhatUsersSee, OneHolder, ParentAndChild, OneOutcome, MixedIsNamed};
+ghost use Rattle.tp_model.specs.Promises.{AllLegal, PrefixTaken, WhatUsersSee, OneHolder, ParentAndChild, OneOutcome, ReportFree, DrainedCommits, Reports, MixedIsNamed};
 ghost use Rattle.tp_model.specs.Expand.{played_all, expanded, IsExpanded};
 ghost use Rattle.tp_laws.specs.Expansion.{LeavesItsWorld, ClosesAlike, IsWrittenOut, SpeaksOfNone, IsOfRun, lines_in};
 ghost use Rattle.tp_laws.specs.Schedules.{as_text, driven_branch, its_answers, written_out, has_refusal, agreed_on};
@@ -35,8 +35,10 @@ pub fn schedules_are_runs()
 
 /// So of every schedule with members: every history is legal, what one end of an association took is a front part of what
 /// the other end sent, users are told what the log and the rolls say, two live ends of a dialogue never both hold control, a
-/// node and its branches are as promised, of two nodes of one tree told different outcomes at least one logged a decision,
-/// and a closing line that says that a tree is mixed names one that did.
+/// node and its branches are as promised, of two nodes of one tree told different outcomes at least one logged a decision, a
+/// commit completion with no report at the root means that every staying node committed, a drained tree without failure whose
+/// users all asked for commitment, or left, has committed at every staying node, a Done with no report speaks for its branch,
+/// and a closing line that says that a tree is mixed names one that decided.
 pub fn schedules_keep_the_laws()
     ensures legal { (members : ℕ) (schedule : List ℕ) (answers : List (Option Request)) → AllLegal (transcript_with members schedule answers).world }
     ensures taken { (members : ℕ) (schedule : List ℕ) (answers : List (Option Request)) → PrefixTaken (transcript_with members schedule answers).world }
@@ -44,6 +46,9 @@ pub fn schedules_keep_the_laws()
     ensures control { (members : ℕ) (schedule : List ℕ) (answers : List (Option Request)) → OneHolder (transcript_with members schedule answers).world }
     ensures family { (members : ℕ) (schedule : List ℕ) (answers : List (Option Request)) → ParentAndChild (transcript_with members schedule answers).world }
     ensures outcome { (members : ℕ) (schedule : List ℕ) (answers : List (Option Request)) → OneOutcome (transcript_with members schedule answers).world }
+    ensures free { (members : ℕ) (schedule : List ℕ) (answers : List (Option Request)) → ReportFree (transcript_with members schedule answers).world }
+    ensures drained { (members : ℕ) (schedule : List ℕ) (answers : List (Option Request)) → DrainedCommits (transcript_with members schedule answers).world }
+    ensures reports { (members : ℕ) (schedule : List ℕ) (answers : List (Option Request)) → Reports (transcript_with members schedule answers).world }
     ensures mixed { (members : ℕ) (schedule : List ℕ) (answers : List (Option Request)) → MixedIsNamed (transcript_with members schedule answers).world }
 {}
 

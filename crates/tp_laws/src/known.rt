@@ -1,12 +1,12 @@
 //! What is known of a node after a legal history is what the questions to its whole history answer: laws of the parts.
 //!
 //! Each function has an empty body; its clauses are the law. A start is one that a log can give, and events may be hostile.
-ghost use Rattle.std.specs.Prelude.{◌≡◌, true, Option, List};
+ghost use Rattle.std.specs.Prelude.{ℕ, ◌≡◌, true, Option, List};
 ghost use Rattle.tp_names.specs.declared.identifiers.Addr.{Addr};
 ghost use Rattle.tp_model.specs.Parts.{Origin, Entry};
 ghost use Rattle.tp_model.specs.Legal.{IsLegal};
 ghost use Rattle.tp_model.specs.Consistency.{agrees};
-ghost use Rattle.tp_laws.specs.Known.{agrees_in_parts, declared_agrees, known_agrees, superior_agrees, drawn_agrees, boot_agrees, kept_agrees, phase_agrees, key_agrees, above_agrees, branches_agree, decision_agrees, asked_agrees, told_prepare_agrees, rests_agrees, rest_agrees, node_agrees};
+ghost use Rattle.tp_laws.specs.Known.{agrees_in_parts, declared_agrees, known_agrees, superior_agrees, drawn_agrees, boot_agrees, kept_agrees, phase_agrees, key_agrees, above_agrees, branches_agree, decision_agrees, asked_agrees, told_prepare_agrees, rests_agrees, awaits_agrees, owes_agrees, superior_rolled_agrees, node_agrees, deferral_agrees, links_agree, link_agrees, control_agrees, below_as_asked, order_agrees, own_agrees, due_agrees, counted_agrees, left_agrees, given_up_agrees, ended_agrees, prepared_agrees, marks_agree};
 
 /// The parts together are the whole: where each of them agrees, what is known agrees with every question.
 pub fn parts_are_the_whole()
@@ -61,9 +61,67 @@ pub fn arcs_are_known()
     ensures rest { (o : Origin) (up : Option Addr) (h : List Entry) → IsLegal o up h → rests_agrees o h ≡ true }
 {}
 
-/// In every legal history in which what is known of the arcs but for their rest, of the marks of the branches, of what the
-/// user owes, of whether the superior rolled and of the node's own report is what their questions answer, all that is known
-/// is.
+/// In every legal history who holds control of a live polarized arc is told by the last of its causes since the arc became
+/// live: a Begin, a Grant, a handshake with control that was answered, a leaving, a phase entered, or a completion.
+pub fn control_is_known()
+    ensures control { (o : Origin) (up : Option Addr) (h : List Entry) → IsLegal o up h → control_agrees o h ≡ true }
+{}
+
+/// In every legal history the arcs below stand in the order in which their dialogues were last asked for since the last
+/// crash, and that is the order that the questions answer.
+pub fn order_is_known()
+    ensures asked { (o : Origin) (up : Option Addr) (h : List Entry) → IsLegal o up h → below_as_asked o h ≡ true }
+    ensures order { (o : Origin) (up : Option Addr) (h : List Entry) → IsLegal o up h → order_agrees o h ≡ true }
+{}
+
+/// In every legal history a live arc waits for a response if a handshake went out on it since it became live, and since
+/// then no response that acts came, no phase was entered with the arc as a branch, and neither end left. It owes one if a
+/// handshake that acts came, and since then none of these and no response went out; and the response gives control if the
+/// last of the causes of control there is that handshake.
+pub fn handshakes_are_known()
+    ensures awaits { (o : Origin) (up : Option Addr) (h : List Entry) → IsLegal o up h → awaits_agrees o h ≡ true }
+    ensures due { (o : Origin) (up : Option Addr) (h : List Entry) → IsLegal o up h → due_agrees o h ≡ true }
+{}
+
+/// In every legal history the user owes its done of the current transaction if it was told to commit or to roll back since
+/// the key was begun and has not given it since; at a start it owes it if the transaction is committing. The superior has
+/// rolled the transaction back if its Rollback acted since the key was begun and since the last crash, or its reply that it
+/// knows of nothing came to the ready key. The node's own report is damage if the transaction rolls and the entry that last
+/// rolled it logged one.
+pub fn orders_are_known()
+    ensures owes { (o : Origin) (up : Option Addr) (h : List Entry) → IsLegal o up h → owes_agrees o h ≡ true }
+    ensures rolled { (o : Origin) (up : Option Addr) (h : List Entry) → IsLegal o up h → superior_rolled_agrees o h ≡ true }
+    ensures own { (o : Origin) (up : Option Addr) (h : List Entry) → IsLegal o up h → own_agrees o h ≡ true }
+{}
+
+/// In every legal history what is put off on a live arc, its end or a grant, is what was last said or taken there since a
+/// transaction began on the arc, unless a rollback, a leaving or a commitment ended it.
+pub fn deferrals_are_known()
+    ensures deferral { (o : Origin) (up : Option Addr) (h : List Entry) → IsLegal o up h → deferral_agrees o h ≡ true }
+{}
+
+/// In every legal history the link of each arc is what its association was last made, by opening, offering, accepting or
+/// ending it, with as many records sent and taken since; no arc is kept whose link is idle; and with a peer to which there is
+/// no arc the link is idle.
+pub fn links_are_known()
+    ensures link { (o : Origin) (up : Option Addr) (h : List Entry) → IsLegal o up h → links_agree o h ≡ true }
+    ensures peer { (o : Origin) (up : Option Addr) (h : List Entry) → IsLegal o up h → (p : ℕ) → link_agrees o p h ≡ true }
+{}
+
+/// In every legal history a branch of the current transaction was counted if its Ready acted since the key was begun and since
+/// the last crash; it left if its leaving acted since then while the key was active; it was given up if the node gave it up
+/// since then; and it ended if a record or a reply ended it since then, with the report of the first that did. Where it is
+/// known to which branches Prepare was said, all marks are.
+pub fn marks_are_known()
+    ensures counted { (o : Origin) (up : Option Addr) (h : List Entry) → IsLegal o up h → counted_agrees o h ≡ true }
+    ensures left { (o : Origin) (up : Option Addr) (h : List Entry) → IsLegal o up h → left_agrees o h ≡ true }
+    ensures given_up { (o : Origin) (up : Option Addr) (h : List Entry) → IsLegal o up h → given_up_agrees o h ≡ true }
+    ensures ended { (o : Origin) (up : Option Addr) (h : List Entry) → IsLegal o up h → ended_agrees o h ≡ true }
+    ensures all { (o : Origin) (up : Option Addr) (h : List Entry) → IsLegal o up h → prepared_agrees o h ≡ true → marks_agree o h ≡ true }
+{}
+
+/// In every legal history in which it is known which branches Prepare was said to, all that is known is what the questions
+/// answer.
 pub fn the_rest_makes_the_whole()
-    ensures { (o : Origin) (up : Option Addr) (h : List Entry) → IsLegal o up h → rest_agrees o h ≡ true → agrees o h ≡ true }
+    ensures { (o : Origin) (up : Option Addr) (h : List Entry) → IsLegal o up h → prepared_agrees o h ≡ true → agrees o h ≡ true }
 {}

@@ -4,7 +4,10 @@
 
 pub mod arcs;
 pub mod control;
+pub mod drained;
+pub mod drained_node_trials;
 pub mod drained_trials;
+pub mod drained_worlds;
 pub mod expansion;
 pub mod known;
 pub mod known_trials;
@@ -137,8 +140,9 @@ pub fn leaving_is_not_rolling()
 {}
 
 /// What a subordinate says to its superior stands in order, of every event and in every legal history that enters each tree
-/// once: between two ends at most one Ready and no Left behind it; Done ends a tree that committed, and with no report one
-/// that was complete with none, RolledBack one that rolled, Left one that was left.
+/// once: between two ends at most one Ready and no Left behind it; Done ends a tree that committed, with no report one that
+/// was complete with none, and with a report one whose damage is logged; RolledBack one that rolled, Left one that was left;
+/// and Rollback is of one that rolled.
 pub fn words_upward()
     ensures turn { (e : TxEvent) (s : Transaction) (p : ℕ) → IsPut e s → IsRising e s p s (transacted e s) }
     ensures node { (who : Who) (d : Digest) (e : Event) (p : ℕ) (sup fall : Bool) (shut : ℕ) → IsLate d → refusal who d e ≡ None → Reads who e p sup fall shut (prelude who d e)
@@ -147,8 +151,9 @@ pub fn words_upward()
 {}
 
 /// In every run, what a superior takes from a node below it was said of a Begin that it had sent by then: Ready is logged for
-/// it, Done ends a tree that committed there, and with no report one that was complete with none, RolledBack one that
-/// rolled, Left one that was left; and between two ends at most one Ready is taken, and no Left behind it.
+/// it, Done ends a tree that committed there, with no report one that was complete with none, and with a report one whose
+/// damage is logged there, RolledBack one that rolled, Left one that was left, and Rollback is of one that rolled; and
+/// between two ends at most one Ready is taken, and no Left behind it.
 pub fn branches_are_heeded()
     ensures { (es : List Happening) → HeedsBranches (run es).nodes }
 {}

@@ -3,7 +3,8 @@
 //! Each is the contract of a function with an empty body.
 ghost use Rattle.std.specs.Prelude.{List};
 ghost use Rattle.tp_model.specs.Happenings.{Happening, run};
-ghost use Rattle.tp_model.specs.Promises.{OneOutcome, ParentAndChild, MixedIsNamed};
+ghost use Rattle.tp_model.specs.Promises.{OneOutcome, DrainedCommits, Headline, ParentAndChild, MixedIsNamed, Promised};
+ghost use Rattle.tp_laws.specs.DrainedTrees.{SettledCloses};
 ghost use Rattle.tp_laws.specs.Hanging.{ReadyDown, LeftDown, RollsUp};
 ghost use Rattle.tp_laws.specs.Logs.{CommitsAlone, LogsAgree};
 
@@ -51,4 +52,25 @@ pub fn logs_agree()
 /// In every run, a tree whose closing line says that it is mixed names there at least one node that logged a decision.
 pub fn mixed_is_named()
     ensures { (es : List Happening) → MixedIsNamed (run es) }
+{}
+
+/// In every run, a drained tree without failure whose users all asked for commitment, or left, has committed: where each frame that
+/// its nodes sent was taken and no user owes its done, every node that stays logged Commit and was told that it is complete, with no
+/// report; and the tree's closing line says that all agree on commitment.
+pub fn a_drained_tree_has_committed()
+    ensures nodes { (es : List Happening) → DrainedCommits (run es) }
+    ensures line { (es : List Happening) → SettledCloses (run es) }
+{}
+
+/// In every run, the headline. Of two nodes of one tree told different outcomes at least one logged a decision of its own; a commit
+/// completion with no report at the root means that every node that stays committed; and a drained tree without failure whose users
+/// all asked for commitment, or left, has committed at every node that stays.
+pub fn headline()
+    ensures { (es : List Happening) → Headline (run es) }
+{}
+
+/// In every run, all that is promised of a world: legal histories, associations, control, the headline, what users see, a node and
+/// its branches, reports, and the closing line of a mixed tree.
+pub fn the_promises_are_kept()
+    ensures { (es : List Happening) → Promised (run es) }
 {}
