@@ -36,6 +36,7 @@ use Rattle.tp_laws.proofs.TurnLog.{key_self, told_turn}
 use Rattle.tp_laws.proofs.Leaves.{aaid_same}
 use Rattle.tp_laws.proofs.Passed.{passed_turn}
 use Rattle.tp_laws.proofs.Staged.{is_rolled_told, is_some_rec, IsStaged, staged_turn}
+use Rattle.tp_laws.proofs.Ending.{may_pass, pass_same, pass_then, pass_more, ending_turn}
 use Rattle.tp_laws.proofs.Told.{told_append, told_performed, told_played}
 use Rattle.tp_laws.proofs.Phases.{none_append}
 use Rattle.tp_laws.proofs.Apart.{apart_spoken, apart_grants, apart_turn}
@@ -59,6 +60,7 @@ pub record PhaseStep (fall leave : Bool) (p q : Phase) (logs tells : Bool) : Typ
   pub rolled : is_rolling q ≡ true → (is_rolling p || fall) ≡ true
   pub ended : tells ≡ true → is_nil q ≡ true
   pub over : is_nil p ≡ true → is_nil q ≡ true
+  pub passes : may_pass fall leave p q logs ≡ true
 
 phase_stays : (f l : Bool) (p : Phase) (logs : Bool) → (is_active p ≡ true → logs ≡ false) → PhaseStep f l p p logs false
 phase_stays f l p logs off = record {
@@ -68,16 +70,18 @@ phase_stays f l p logs off = record {
   rolled = λ h. rw h refl;
   ended = λ h. absurd (cc (h));
   over = λ h. h;
+  passes = pass_same f l p logs;
 }
 
-phase_then : (f l : Bool) (p m q : Phase) (u v x y : Bool) → PhaseStep f l p m u x → PhaseStep f l m q v y → PhaseStep f l p q (u || v) (x || y)
-phase_then f l p m q u v x y one two = record {
+phase_then : (f l : Bool) (p m q : Phase) (u v x y : Bool) → (u && v) ≡ false → PhaseStep f l p m u x → PhaseStep f l m q v y → PhaseStep f l p q (u || v) (x || y)
+phase_then f l p m q u v x y apart one two = record {
   active = λ h. through (is_active m) (is_active q) f l u v (one.active h) two.active;
   kept = λ h. let b = two.kept h in let a = one.kept b.0 in (a.0, rw (a.1, b.1) refl);
   rolling = λ h. over (is_rolling m) (is_rolling q) x y (one.rolling h) two.rolling;
   rolled = λ h. back (is_rolling p) (is_rolling m) f (two.rolled h) one.rolled;
   ended = λ h. last x y refl refl h;
   over = λ h. two.over (one.over h);
+  passes = pass_then f l p m q u v apart one.passes two.passes;
 }
   where
     through : (a b f l u v : Bool) → (a || f || l || u) ≡ true → (a ≡ true → (b || f || l || v) ≡ true) → (b || f || l || (u || v)) ≡ true
@@ -312,6 +316,7 @@ turn_phase who e fall leave s d c f means at asked put un = record {
   rolled = λ h. rolled (is_rolling c.phase) (falls f t) (passed.rolling h) fell;
   ended = λ h. staged.ended (sym tells ∙ h);
   over = λ h. staged.over h;
+  passes = pass_more (falls f t) (is_leaving f) fall leave c.phase a.next.phase (is_some_rec a.rec) (logs_of (node_key c.key) a.rec) fell left logs (ending_turn f t put);
 }
   where
     t : Transaction
@@ -506,6 +511,17 @@ logs_then k None (Some r) q = refl
 logs_then k (Some s) (Some r) (inl i) = absurd (cc (i))
 logs_then k (Some s) (Some r) (inr i) = absurd (cc (i))
 
+-- one of two forces no record
+pub logs_apart : (k : NodeKey) (x y : Option LogRec) → (x ≡ None) ⊎ (y ≡ None) → (logs_of k x && logs_of k y) ≡ false
+logs_apart k None y q = refl
+logs_apart k (Some s) None q = off (logs_of k (Some s))
+  where
+    off : (b : Bool) → (b && false) ≡ false
+    off true = refl
+    off false = refl
+logs_apart k (Some s) (Some r) (inl i) = absurd (cc (i))
+logs_apart k (Some s) (Some r) (inr i) = absurd (cc (i))
+
 pub some_same : (x y : Current) → Some x ≡ Some y → x ≡ y
 some_same x y h = cc (h)
 
@@ -534,9 +550,9 @@ untold f l p q x false step act = refl
 nil_step : (f l logs : Bool) → PhaseStep f l Phase.Nil Phase.Nil logs false
 nil_step f l logs = phase_stays f l Phase.Nil logs (λ h. absurd (cc (h)))
 
-pub course_then : (who : Who) (fall leave : Bool) (first : ℕ) (cur : Option Current) (boot n : ℕ) (a b : Move) (r : Option LogRec) → ((k : NodeKey) → logs_of k r ≡ (logs_of k a.rec || logs_of k b.rec)) → a.next.boot ≡ boot → first ≤ n
+pub course_then : (who : Who) (fall leave : Bool) (first : ℕ) (cur : Option Current) (boot n : ℕ) (a b : Move) (r : Option LogRec) → ((k : NodeKey) → logs_of k r ≡ (logs_of k a.rec || logs_of k b.rec)) → ((k : NodeKey) → (logs_of k a.rec && logs_of k b.rec) ≡ false) → a.next.boot ≡ boot → first ≤ n
     → Course who fall leave first cur boot n a → Course who fall leave first a.next.current a.next.boot a.next.drawn b → Course who fall leave first cur boot n (record { rec = r; outs = a.outs ++ b.outs; next = b.next })
-course_then who fall leave first cur boot n a b r logs booted low one two = pick one
+course_then who fall leave first cur boot n a b r logs apart booted low one two = pick one
   where
     m : Move
     m = record { rec = r; outs = a.outs ++ b.outs; next = b.next }
@@ -548,7 +564,7 @@ course_then who fall leave first cur boot n a b r logs booted low one two = pick
     joined c p q s x y =
         subst (λ (v : Bool). PhaseStep fall leave p s (logs_now c m) v) (sym tells)
         (subst (λ (v : Bool). PhaseStep fall leave p s v (tells_rolled a || tells_rolled b)) (sym (logs (node_key c.key)))
-        (phase_then fall leave p q s (logs_now c a) (logs_of (node_key c.key) b.rec) (tells_rolled a) (tells_rolled b) x y))
+        (phase_then fall leave p q s (logs_now c a) (logs_of (node_key c.key) b.rec) (tells_rolled a) (tells_rolled b) (apart (node_key c.key)) x y))
 
     -- the second step at the key that the first one left
     at_key : (c u v : Current) → u.key ≡ c.key → v ≡ u → (p q : Phase) → PhaseStep fall leave p q (logs_now v b) (tells_rolled b) → PhaseStep fall leave p q (logs_of (node_key c.key) b.rec) (tells_rolled b)

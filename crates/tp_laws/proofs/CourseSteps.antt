@@ -24,7 +24,7 @@ use Rattle.tp_laws.proofs.SoundMoves.{IsSound, IsSoundMove, sound_root, sound_no
 use Rattle.tp_laws.proofs.SoundLog.{sound_first}
 use Rattle.tp_laws.proofs.Rolls.{rolls_so}
 use Rattle.tp_laws.proofs.KinTurns.{kin}
-use Rattle.tp_laws.proofs.Course.{tree_at, branch_at, Course, Free, Held, Closed, Grew, Rooted, IsRight, IsCourse, Means, course_same, course_perform, course_keep, course_turned, course_begins, course_then, logs_then, less_one, some_same}
+use Rattle.tp_laws.proofs.Course.{tree_at, branch_at, Course, Free, Held, Closed, Grew, Rooted, IsRight, IsCourse, Means, course_same, course_perform, course_keep, course_turned, course_begins, course_then, logs_then, logs_apart, less_one, some_same}
 
 -- all that is kept in the steps
 abbrev pub IsCourseMove : Who → Bool → Bool → ℕ → Digest → Move → Type 0
@@ -89,7 +89,7 @@ course_steps who e fall leave s means = record {
     k2.chain d a f one.1 two.1 quiet,
     k3.chain d a f one.2 two.2 quiet,
     k4.chain d a f one.3 two.3 quiet,
-    λ right. course_then who fall leave s.drawn d.current d.boot d.drawn a (f a.next) _ (λ k. logs_then k a.rec (f a.next).rec quiet) one.3.boot right.3 (one.4 right) (two.4 (right_behind who fall leave s.drawn d a one right)),
+    λ right. course_then who fall leave s.drawn d.current d.boot d.drawn a (f a.next) _ (λ k. logs_then k a.rec (f a.next).rec quiet) (λ k. logs_apart k a.rec (f a.next).rec quiet) one.3.boot right.3 (one.4 right) (two.4 (right_behind who fall leave s.drawn d a one right)),
   );
   speaks = λ d outs h own said last. (k1.speaks d outs h own said last, k2.speaks d outs h own said last, k3.speaks d outs h own said last, k4.speaks d outs h own said last, λ right. course_perform who fall leave s.drawn d outs h);
   changes_dialogue = λ d p f m by one. (

@@ -32,6 +32,7 @@ use Rattle.tp_laws.proofs.StartLog.{sound_start}
 use Rattle.tp_laws.proofs.OrderLog.{order_law}
 use Rattle.tp_laws.proofs.WellLog.{founded_by}
 use Rattle.tp_laws.proofs.Staged.{is_rolled_told}
+use Rattle.tp_laws.proofs.Ending.{pass_active}
 use Rattle.tp_laws.proofs.Course.{PhaseStep, tree_at, branch_at, Course, Free, Held, Closed, Grew, Rooted, tells_rolled, some_same}
 use Rattle.tp_laws.proofs.CourseSteps.{course_event}
 use Rattle.tp_laws.proofs.RollsBy.{IsDownMove, down_event, IsLeftMove, left_event}
@@ -282,6 +283,7 @@ step_plain o up e h k legal calm begun same = go (subst (λ (v : Option Current)
           rolled = λ h. absurd (active_roll u.phase a.1 h);
           ended = λ h. absurd (cc (q.1, h));
           over = λ h. absurd (alive c.phase a.0 h);
+          passes = pass_active fall left c.phase u.phase (logs_of (node_key c.key) m.rec) a.0 a.1;
         }
           where
             alive : (p : Phase) → is_active p ≡ true → is_nil p ≡ true → ⊥

@@ -168,6 +168,7 @@ pub mod StandingKeys
 pub mod KnownKept
 pub mod KnownForgot
 pub mod Staged
+pub mod Ending
 pub mod Course
 pub mod CourseSteps
 pub mod KnownDrawn
@@ -257,3 +258,6 @@ pub mod DrainedDown
 pub mod DrainedDone
 pub mod DrainedCommits
 pub mod KnownDue
+pub mod RootTrees
+pub mod SeenEntry
+pub mod SeenRolled

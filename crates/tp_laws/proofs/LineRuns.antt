@@ -122,7 +122,7 @@ run_image_line w s r = go (find_site w.sites s)
     go None = tt
     go (Some x) = r
 
-run_line : (members : ℕ) (w : World) (l : Line) → IsOfRun w → LeavesRun (line members w l)
+pub run_line : (members : ℕ) (w : World) (l : Line) → IsOfRun w → LeavesRun (line members w l)
 run_line members w (Line.Node n s under) r = run_node_line w n s under r
 run_line members w (Line.Do n q) r = run_deed_line w (StopLine.Do n q) r
 run_line members w (Line.Pass a b) r = run_deed_line w (StopLine.Pass a b) r

@@ -226,3 +226,27 @@ giving_up = GiveUp 3 ∷ []
 
 abbrev pub leaving_below : List Event
 leaving_below = Arrive below (PeerRecord.OnAssoc (mark_of 2 1) (mark_of 3 1) 0 DialogueRecord.Left) ∷ []
+
+-- both are linked, and below with chained transactions; the superior begins a tree with the mark that the node draws behind that of its
+-- own branch, the branch leaves, and the user breaks off the superior
+abbrev pub chained_below : List Event
+chained_below =
+    Declare (Some above)
+    ∷ Arrive above (PeerRecord.OpenAssoc (mark_of 1 1) 41)
+    ∷ Do (Request.Accept 41)
+    ∷ Do (Request.BeginDialogue below 25)
+    ∷ Arrive below (PeerRecord.AcceptAssoc (mark_of 2 2) (mark_of 3 1) 25)
+    ∷ []
+
+abbrev pub drawn_next : Aaid
+drawn_next = record { owner = codes "b"; mark = mark_of 2 4 }
+
+abbrev pub foretelling_next : List Event
+foretelling_next =
+    from_above 0 (DialogueRecord.Begin drawn_next (record { superior = codes "a"; mark = mark_of 1 2 }) Holder.None)
+    ∷ Do (Request.Prepare 3)
+    ∷ from_below 0 DialogueRecord.Left
+    ∷ []
+
+abbrev pub breaking_off : List Event
+breaking_off = Do (Request.UAbort 1) ∷ []

@@ -47,3 +47,4 @@ pub mod DrainedNodeTrials
 pub mod ArcTrials
 pub mod Expansion
 pub mod Schedules
+pub mod RolledSeen

@@ -15,6 +15,8 @@ pub mod outcome_trials;
 pub mod outcomes;
 pub mod report_trials;
 pub mod reports;
+pub mod seen;
+pub mod seen_trials;
 pub mod trials;
 
 ghost use Rattle.std.specs.Prelude.{ℕ, ◌≡◌, ◌≤◌, Option, List, [], length, true, Bool, None, false};
