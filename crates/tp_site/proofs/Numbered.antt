@@ -1,11 +1,13 @@
 -- A node that a site finds under its number.
-use Rattle.std.proofs.Common.{◌≡◌, ℕ, nat_eq, Option, Some, None, refl, ap, if◌then◌else◌}
+use Rattle.std.proofs.Common.{◌≡◌, ℕ, nat_eq, false, Option, Some, None, refl, ap, if◌then◌else◌}
 use Rattle.std.specs.Map.{lookup}
+use Rattle.tp_model.specs.declared.arc.Phase.{Phase}
 use Rattle.tp_model.specs.Parts.{Who, Digest}
 use Rattle.tp_model.specs.Events.{started, is_no_node}
 use Rattle.tp_model.specs.History.{state}
 use Rattle.tp_site.specs.Site.{Site, state_at}
 use Rattle.tp_site.specs.Node.{Node}
+use Rattle.tp_site.specs.State.{tree_in}
 use Rattle.tp_site.specs.Nodes.{Nodes, who_at, node_at, find_node, digest_at, unknown_start}
 
 abbrev found_by : Nodes → ℕ → Option Node → Option Node
@@ -39,3 +41,13 @@ unfound v n is = go (lookup (nat_eq n) v.nodes) refl is
 pub unfound_missing : {K : Type 0} (s : Site K) (n : ℕ) → None ≡ find_node s.nodes n → state_at s n ≡ None
 unfolding started
 unfound_missing s n is = ap (λ (d : Digest). if is_no_node d then None else Some (state d)) (unfound s.nodes n is)
+
+-- and is in no tree
+pub unfound_treeless : (v : Nodes) (n : ℕ) → None ≡ find_node v n → tree_in (digest_at v n) ≡ None
+unfolding started
+unfound_treeless v n is = ap tree_in (unfound v n is)
+
+-- and shows nothing
+pub unfound_shown : (v : Nodes) (n : ℕ) → None ≡ find_node v n → state (digest_at v n) ≡ record { phase = Phase.Nil; asked = false; owes = false; kept = 0 }
+unfolding started
+unfound_shown v n is = ap state (unfound v n is)

@@ -35,4 +35,4 @@ pub use event::NodeEvent;
 pub use faults::{SiteFault, StartFault};
 pub use outs::{Out, Outs};
 pub use site::{Played, Site};
-pub use state::NodeState;
+pub use state::{NodeState, NodeTree};

@@ -18,7 +18,7 @@ ghost use Rattle.tp_tree.specs.Tie.{arc_of};
 ghost use Rattle.tp_commit.specs.Branch.{has_superior, key_from};
 ghost use Rattle.tp_commit.specs.Sight.{sight_value};
 ghost use Rattle.tp_model.specs.Arrivals.{sight_in_tx, woken_by, current_with, current_of as current_in};
-ghost use Rattle.tp_site.specs.State.{state_of};
+ghost use Rattle.tp_site.specs.State.{state_of, tree_in};
 ghost use Rattle.tp_site.specs.Node.{current_of, with_arcs, refused_by, has_place_at};
 ghost use Rattle.tp_site.specs.Outs.{outs_of_option};
 ghost use Rattle.tp_site.specs.ArcStep.{stepped_arcs};
@@ -37,7 +37,7 @@ use crate::arcs::Arcs;
 use crate::halt::Halt;
 use crate::outs::Out;
 use crate::passage::Passage;
-use crate::{NodeState, kept, look};
+use crate::{NodeState, NodeTree, kept, look};
 use std::alloc::Global;
 use std::marker::Model;
 use tp_commit::{Branch, Sight};
@@ -182,6 +182,20 @@ impl Node {
                 Some(branch) => branch.owes(),
             },
             kept: self.kept.len() as u64,
+        }
+    }
+
+    /// The tree of its current transaction.
+    pub(crate) fn tree(&self) -> Option<NodeTree>
+        ensures { result ≡ tree_in self.now.digest }
+    {
+        match &self.current {
+            None => None,
+            Some(branch) => Some(NodeTree {
+                aaid: branch.key().aaid,
+                is_root: branch.key().branch.is_none(),
+                phase: branch.phase(),
+            }),
         }
     }
 

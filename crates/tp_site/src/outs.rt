@@ -82,6 +82,14 @@ impl Outs {
         self.items.as_slice()
     }
 
+    /// The outputs, in order. It takes no memory.
+    pub fn into_vec(self) -> Vec<Out>
+        ensures { map out_of result.items ≡ self }
+    {
+        let Outs { items } = self;
+        items
+    }
+
     /// There is none.
     pub(crate) fn is_empty(&self) -> bool
         ensures { result ≡ says_nothing self.now }

@@ -2,11 +2,12 @@
 ghost use Rattle.std.specs.Prelude.{◌≡◌, true, IfOk, IfErr, Some, None};
 ghost use Rattle.std.specs.Option.{option_map};
 ghost use Rattle.tp_logrec.specs.Order.{boots, last_number};
+ghost use Rattle.tp_model.specs.History.{state};
 ghost use Rattle.tp_journal.specs.Records.{version_of};
 ghost use Rattle.tp_site.specs.NodeEvent.{event_of};
 ghost use Rattle.tp_site.specs.Nodes.{has_node, who_at};
-ghost use Rattle.tp_site.specs.Site.{Plays, Attempts, Settles, Records, Opens, Starts, IsFound, IsUnfound, told_records, state_at};
-ghost use Rattle.tp_site.specs.State.{state_of};
+ghost use Rattle.tp_site.specs.Site.{Plays, Attempts, Settles, Records, Opens, Starts, IsFound, IsUnfound, told_records, state_at, known_at};
+ghost use Rattle.tp_site.specs.State.{state_of, tree_in};
 ghost use Rattle.tp_site.specs.Faults.{site_fault, shut_by};
 
 use crate::draft::Draft;
@@ -15,13 +16,13 @@ use crate::faults::{SiteFault, StartFault};
 use crate::node::Node;
 use crate::nodes::Nodes;
 use crate::outs::Outs;
-use crate::state::NodeState;
+use crate::state::{NodeState, NodeTree};
 use crate::texts::has_text;
 use std::alloc::Global;
 use std::marker::Model;
 use tp_journal::{ForceFault, Keeper, first_out_of_order};
 use tp_logrec::{LogRec, LogVersion};
-use tp_model::TxFault;
+use tp_model::{Phase, TxFault};
 use tp_names::{NoMemory, SiteName};
 
 /// What an event gives: its outputs, in order. With a number, it was refused by that, and the association that it came on
@@ -180,6 +181,33 @@ impl<K: Keeper> Site<K> {
             return None;
         }
         Some(node.state())
+    }
+
+    /// What is shown of the node of that number, declared or not.
+    #[tactic(auto, using(crate::proofs::Numbered::found, crate::proofs::Numbered::unfound_shown))]
+    pub fn shown(&self, node: u16) -> NodeState
+        ensures { state_of result ≡ state (known_at self.now node) }
+    {
+        match self.nodes.find(node) {
+            None => NodeState {
+                phase: Phase::Nil,
+                asked: false,
+                owes: false,
+                kept: 0,
+            },
+            Some(node) => node.state(),
+        }
+    }
+
+    /// The tree of the current transaction of the node of that number, where it has one.
+    #[tactic(auto, using(crate::proofs::Numbered::found, crate::proofs::Numbered::unfound_treeless))]
+    pub fn tree(&self, node: u16) -> Option<NodeTree>
+        ensures { result ≡ tree_in (known_at self.now node) }
+    {
+        match self.nodes.find(node) {
+            None => None,
+            Some(node) => node.tree(),
+        }
     }
 
     /// The site's name.

@@ -1,5 +1,6 @@
 //! What is shown of a node.
 use tp_model::Phase;
+use tp_names::Aaid;
 
 /// What is shown of a node: where it stands in its current transaction, whether it has asked, whether its
 /// user owes done, and how many transactions are kept.
@@ -9,4 +10,12 @@ pub struct NodeState {
     pub asked: bool,
     pub owes: bool,
     pub kept: u64,
+}
+
+/// The tree of a node's current transaction, whether the node is its root, and where it stands there.
+#[derive(Clone, Copy, Debug, PartialEq, Eq)]
+pub struct NodeTree {
+    pub aaid: Aaid,
+    pub is_root: bool,
+    pub phase: Phase,
 }
