@@ -1,3 +1,5 @@
 pub mod Status
 pub mod Words
-pub mod Built
+pub mod Shown
+pub mod Replay
+pub mod Playing

@@ -1,7 +1,6 @@
 -- How a run ends: its exit code, and what a fault says of the source or the sink that was handed in.
-use Rattle.std.specs.Prelude.{ℕ, ◌≡◌, ◌<◌, ◌≤◌}
+use Rattle.std.specs.Prelude.{ℕ, ◌≡◌, ◌<◌}
 use Rattle.tp_outside.specs.Faults.{HasRisen}
-use Rattle.tp_model.specs.declared.verdict.What.{What}
 use Rattle.tpnode.specs.declared.status.Status.{Status}
 
 abbrev pub code_of : Status → ℕ
@@ -28,15 +27,35 @@ IsWriteFault old new (Status.ReadFault faults) = ⊥
 IsWriteFault old new (Status.WriteFault faults) = IsFaultOf faults old new
 IsWriteFault old new Status.NoMemory = ⊥
 
--- what ends a run in a line, by the sink's counts before and behind it
+-- the run ends in the line of that number
+abbrev pub IsEndAt : ℕ → Status → Type 0
+IsEndAt line Status.Ok = ⊥
+IsEndAt line Status.Usage = ⊥
+IsEndAt line (Status.BadInput at why) = at ≡ line
+IsEndAt line (Status.Limit what at) = at ≡ line
+IsEndAt line (Status.ReadFault faults) = ⊥
+IsEndAt line (Status.WriteFault faults) = ⊥
+IsEndAt line Status.NoMemory = Unit {0}
+
+-- what ends a run at the next line, by the source's counts before and behind it
 abbrev pub IsLineEnding : ℕ → ℕ → Status → Type 0
 IsLineEnding old new Status.Ok = ⊥
 IsLineEnding old new Status.Usage = ⊥
 IsLineEnding old new (Status.BadInput at why) = 0 < at
-IsLineEnding old new (Status.Limit what at) = ⊥
-IsLineEnding old new (Status.ReadFault faults) = ⊥
-IsLineEnding old new (Status.WriteFault faults) = IsFaultOf faults old new
+IsLineEnding old new (Status.Limit what at) = 0 < at
+IsLineEnding old new (Status.ReadFault faults) = IsFaultOf faults old new
+IsLineEnding old new (Status.WriteFault faults) = ⊥
 IsLineEnding old new Status.NoMemory = Unit {0}
+
+-- what ends a run, by the counts of the source and of the sink before and behind it
+abbrev pub IsEnding : ℕ → ℕ → ℕ → ℕ → Status → Type 0
+IsEnding read_old read_new write_old write_new Status.Ok = Unit {0}
+IsEnding read_old read_new write_old write_new Status.Usage = Unit {0}
+IsEnding read_old read_new write_old write_new (Status.BadInput at why) = 0 < at
+IsEnding read_old read_new write_old write_new (Status.Limit what at) = 0 < at
+IsEnding read_old read_new write_old write_new (Status.ReadFault faults) = IsFaultOf faults read_old read_new
+IsEnding read_old read_new write_old write_new (Status.WriteFault faults) = IsFaultOf faults write_old write_new
+IsEnding read_old read_new write_old write_new Status.NoMemory = Unit {0}
 
 -- what ends a run behind its last line
 abbrev pub IsCloseEnding : ℕ → ℕ → Status → Type 0
@@ -47,23 +66,3 @@ IsCloseEnding old new (Status.Limit what at) = ⊥
 IsCloseEnding old new (Status.ReadFault faults) = ⊥
 IsCloseEnding old new (Status.WriteFault faults) = IsFaultOf faults old new
 IsCloseEnding old new Status.NoMemory = Unit {0}
-
--- what ends the run of a text of that length
-abbrev pub IsTextEnding : ℕ → ℕ → ℕ → Status → Type 0
-IsTextEnding length old new Status.Ok = length ≤ 1048576
-IsTextEnding length old new Status.Usage = ⊥
-IsTextEnding length old new (Status.BadInput at why) = 0 < at
-IsTextEnding length old new (Status.Limit what at) = (what ≡ What.Schedule) × (0 < at) × (1048576 < length)
-IsTextEnding length old new (Status.ReadFault faults) = ⊥
-IsTextEnding length old new (Status.WriteFault faults) = IsFaultOf faults old new
-IsTextEnding length old new Status.NoMemory = Unit {0}
-
--- what ends a run, by the counts of the source and of the sink before and behind it
-abbrev pub IsEnding : ℕ → ℕ → ℕ → ℕ → Status → Type 0
-IsEnding read_old read_new write_old write_new Status.Ok = Unit {0}
-IsEnding read_old read_new write_old write_new Status.Usage = Unit {0}
-IsEnding read_old read_new write_old write_new (Status.BadInput at why) = 0 < at
-IsEnding read_old read_new write_old write_new (Status.Limit what at) = (what ≡ What.Schedule) × (0 < at)
-IsEnding read_old read_new write_old write_new (Status.ReadFault faults) = IsFaultOf faults read_old read_new
-IsEnding read_old read_new write_old write_new (Status.WriteFault faults) = IsFaultOf faults write_old write_new
-IsEnding read_old read_new write_old write_new Status.NoMemory = Unit {0}

@@ -1,13 +1,12 @@
 //! `tpnode`: replays a schedule over a tree of commitment nodes, and writes the exact transcript.
 //!
-//! Today it replays one root and one subordinate without faults. A line beyond that ends the run and
-//! says `unbuilt`.
+//! Crashes, images and members are not built yet: a line that asks for one ends the run and says
+//! `unbuilt`.
 #![tactic(auto)]
 
-mod input;
-mod line;
 mod output;
-mod path;
+mod playing;
+mod replay;
 mod status;
 #[cfg(test)]
 mod tests;

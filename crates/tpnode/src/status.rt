@@ -1,10 +1,12 @@
 //! How a run ends: the status, its exit code, and its text.
 use std::fmt;
-use tp_model::What;
+use tp_model::{What, Why};
 
 /// Why a line is bad.
 #[derive(Clone, Copy, Debug, PartialEq, Eq)]
 pub enum BadLine {
+    /// It is no line, or it names what is taken or not there.
+    Bad(Why),
     /// The program does not do this yet.
     Unbuilt,
 }
@@ -12,6 +14,7 @@ pub enum BadLine {
 impl fmt::Display for BadLine {
     fn fmt<W: fmt::Write>(&self, f: &mut fmt::Formatter<W>) -> fmt::Result {
         match self {
+            BadLine::Bad(why) => write!(f, "{why}"),
             BadLine::Unbuilt => write!(f, "unbuilt"),
         }
     }

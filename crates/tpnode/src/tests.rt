@@ -1,6 +1,8 @@
 //! What no clause says: whole runs, with expected bytes from outside, and the texts of endings.
 use super::*;
+use std::process::Abort;
 use std::test::Fail;
+use tp_model::Why;
 use tp_outside::{MemSink, MemSource};
 
 const SCHEDULE: &str =
@@ -52,38 +54,49 @@ fn one_command_is_known(rt: HostRuntime) -> Result<(), Fail> {
 
 const DECLARED: &str = "> node 1 a\nlog a boot 1\n> node 2 b under 1\nlog b boot 1\n";
 
-// Behind `node 1 a` and `node 2 b under 1`.
-const UNBUILT: [&str; 14] = [
-    "fly",
-    "node 3 c under 2",
-    "node 01 c",
-    "do 1 commit",
-    "do 1 begin-dialogue 3 scu",
-    "do 2 begin-dialogue 1 scu",
-    "do 1 begin-dialogue 2 sc",
-    "do 2 accept scu",
-    "pass 1 3",
-    "pass  1 2",
-    "drain ",
-    "drain\r",
-    "crash a",
-    " ",
-];
+// The status of a run of that line behind two nodes, which alone show anything.
+fn ended_by(rt: &impl Abort, alloc: Global, line: &str) -> Result<Status, Fail> {
+    let text = format!(in alloc; "node 1 a\nnode 2 b under 1\n{line}\n")?;
+    let (status, written) = ran(alloc, &["replay"], text.as_bytes(), &[], &[])?;
+    assert_eq!(rt; written.as_slice(), DECLARED.as_bytes(), "{line}");
+    Ok(status)
+}
 
 #[test]
-fn other_lines_are_not_built(rt: HostRuntime) -> Result<(), Fail> {
-    for line in UNBUILT {
-        let text = format!(in rt.alloc(); "node 1 a\nnode 2 b under 1\n{line}\n")?;
-        let (status, written) = ran(rt.alloc(), &["replay"], text.as_bytes(), &[], &[])?;
-        assert_eq!(rt;
-            status,
-            Status::BadInput {
-                at: 3,
-                why: BadLine::Unbuilt
-            },
-            "{line}"
-        );
-        assert_eq!(rt; written.as_slice(), DECLARED.as_bytes(), "{line}");
+fn kinds_of_lines_that_are_not_built(rt: HostRuntime) -> Result<(), Fail> {
+    for line in [
+        "crash a",
+        "crash a at 1 fill 00 in do 1 commit",
+        "image a",
+        "auto 1 1",
+        "leave 1",
+    ] {
+        let wanted = Status::BadInput {
+            at: 3,
+            why: BadLine::Unbuilt,
+        };
+        assert_eq!(rt; ended_by(&rt, rt.alloc(), line)?, wanted, "{line}");
+    }
+    Ok(())
+}
+
+#[test]
+fn lines_that_are_bad(rt: HostRuntime) -> Result<(), Fail> {
+    let lines = [
+        ("fly", Why::Word),
+        ("node 65536 c", Why::Number),
+        ("do 3 commit", Why::Name),
+        ("do 1 begin-dialogue 3 scu", Why::Name),
+        ("pass 1 3", Why::Name),
+        ("again 1", Why::Name),
+        ("node 2 c", Why::Name),
+    ];
+    for (line, why) in lines {
+        let wanted = Status::BadInput {
+            at: 3,
+            why: BadLine::Bad(why),
+        };
+        assert_eq!(rt; ended_by(&rt, rt.alloc(), line)?, wanted, "{line}");
     }
     Ok(())
 }
@@ -110,7 +123,7 @@ fn the_schedule_has_a_limit(rt: HostRuntime) -> Result<(), Fail> {
 fn faults_are_told_with_their_count(rt: HostRuntime) -> Result<(), Fail> {
     let (status, written) = ran(rt.alloc(), &["replay"], SCHEDULE.as_bytes(), &[2], &[])?;
     assert_eq!(rt; status, Status::ReadFault { faults: 1 });
-    assert!(rt; written.is_empty());
+    assert_eq!(rt; written.as_slice(), TRANSCRIPT.as_bytes());
     let (status, written) = ran(rt.alloc(), &["replay"], SCHEDULE.as_bytes(), &[], &[2])?;
     assert_eq!(rt; status, Status::WriteFault { faults: 1 });
     assert_eq!(rt;
@@ -130,6 +143,14 @@ fn endings_have_texts_and_codes(rt: HostRuntime) -> Result<(), Fail> {
                 why: BadLine::Unbuilt,
             },
             "bad input at 2: unbuilt",
+            3,
+        ),
+        (
+            Status::BadInput {
+                at: 2,
+                why: BadLine::Bad(Why::Word),
+            },
+            "bad input at 2: word",
             3,
         ),
         (

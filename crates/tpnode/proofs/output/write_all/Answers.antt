@@ -1,4 +1,5 @@
-use Rattle.std.proofs.Common.{◌≡◌, ◌≤◌, ◌++◌, ◌+◌, ◌-◌, ℕ, zero, suc, List, [], ◌∷◌, Some, take, drop, length, arith, append_assoc, refl, ap, length-drop, length-take}
+use Rattle.std.proofs.Common.{◌≡◌, ◌≤◌, ◌++◌, ◌+◌, ◌-◌, ℕ, zero, suc, List, [], ◌∷◌, take, drop, length, arith, append_assoc, ap, length-drop, length-take, sym, ◌∙◌}
+use Rattle.std.proofs.lemmas.List.{take-append-drop}
 use Rattle.std.proofs.lemmas.Grind.{common_steps}
 use Rattle.tpnode.proofs.output.write_all.Goals as goal
 
@@ -20,3 +21,10 @@ loop-at-preserved g c = record {
       let now = rw i at (c.in-Ok.ensures {u = tt}).bytes in
       rw (now, took c.args.text.now c.loop-at.at c.in-Ok.count (c.in-Ok.ensures {u = tt}).within, more c.args.text.now c.loop-at.at c.in-Ok.count, append_assoc);
 }
+
+pub returns-in-Err-clause-front : goal.returns-in-Err-clause-front
+returns-in-Err-clause-front g c = λ before h. (
+  take c.loop-at.at c.args.text.now,
+  (drop c.loop-at.at c.args.text.now, sym (take-append-drop c.loop-at.at c.args.text.now)),
+  (c.in-Err.ensures {u = tt}).same ∙ c.loop-at.invariant.so_far before h,
+)

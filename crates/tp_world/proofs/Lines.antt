@@ -1,0 +1,103 @@
+-- What a line plays, from what the ground gives for it.
+use Rattle.std.proofs.Common.{◌≡◌, ◌++◌, ℕ, true, refl, ap, sym, ◌∙◌, Some, List, [], ◌∷◌, Result, Ok, Err}
+use Rattle.tp_model.specs.declared.line.Line.{Line}
+use Rattle.tp_model.specs.declared.line.StopLine.{StopLine}
+use Rattle.tp_model.specs.declared.out_line.OutLine.{OutLine}
+use Rattle.tp_model.specs.declared.verdict.What.{What}
+use Rattle.tp_model.specs.World.{World}
+use Rattle.tp_model.specs.Happenings.{Turn}
+use Rattle.tp_model.specs.LineText.{line_text}
+use Rattle.tp_model.specs.Lines.{Fault, Name, Over, deed_line, line}
+use Rattle.tp_model.specs.Transcript.{echo}
+use Rattle.tp_world.specs.Built.{is_built}
+use Rattle.tp_world.specs.Errands.{stop_in}
+use Rattle.tp_world.specs.World.{Gives, Plays, fault_of}
+use Rattle.tp_world.specs.declared.fault.WorldFault.{WorldFault}
+use Rattle.tp_world.specs.declared.ground.Ground.{Ground}
+use Rattle.tp_world.proofs.Limits.{Given, given}
+
+-- how many members there are does not matter to it
+members_same : (k : ℕ) (w : World) (l : Line) → is_built l ≡ true → line k w l ≡ line 0 w l
+members_same k w (Line.Node n s u) h = refl
+members_same k w (Line.Do n r) h = refl
+members_same k w (Line.Pass a b) h = refl
+members_same k w (Line.Skip a b) h = refl
+members_same k w (Line.Again j) h = refl
+members_same k w Line.Drain h = refl
+members_same k w (Line.Lose n p) h = refl
+members_same k w (Line.Heur n o) h = refl
+members_same k w (Line.GiveUp n p) h = refl
+members_same k w (Line.Retry n) h = refl
+members_same k w (Line.Purge n) h = refl
+members_same k w (Line.Crash s) h = absurd cc
+members_same k w (Line.CrashIn s j x l) h = absurd cc
+members_same k w (Line.Show n) h = refl
+members_same k w (Line.Image s) h = absurd cc
+members_same k w (Line.Auto n j) h = absurd cc
+members_same k w (Line.Leave j) h = absurd cc
+
+echo_built : (l : Line) → is_built l ≡ true → echo l ≡ OutLine.Echo (line_text l) ∷ []
+echo_built (Line.Node n s u) h = refl
+echo_built (Line.Do n r) h = refl
+echo_built (Line.Pass a b) h = refl
+echo_built (Line.Skip a b) h = refl
+echo_built (Line.Again j) h = refl
+echo_built Line.Drain h = refl
+echo_built (Line.Lose n p) h = refl
+echo_built (Line.Heur n o) h = refl
+echo_built (Line.GiveUp n p) h = refl
+echo_built (Line.Retry n) h = refl
+echo_built (Line.Purge n) h = refl
+echo_built (Line.Crash s) h = absurd cc
+echo_built (Line.CrashIn s j x l) h = absurd cc
+echo_built (Line.Show n) h = refl
+echo_built (Line.Image s) h = absurd cc
+echo_built (Line.Auto n j) h = absurd cc
+echo_built (Line.Leave j) h = absurd cc
+
+-- a line with one event
+pub line_of_stop : (w : World) (l : Line) (s : StopLine) → Some s ≡ stop_in l → line 0 w l ≡ deed_line w s
+line_of_stop w (Line.Node n m u) s h = absurd cc
+line_of_stop w (Line.Do n r) s h = let e : StopLine.Do n r ≡ s = cc in ap (deed_line w) e
+line_of_stop w (Line.Pass a b) s h = let e : StopLine.Pass a b ≡ s = cc in ap (deed_line w) e
+line_of_stop w (Line.Skip a b) s h = absurd cc
+line_of_stop w (Line.Again j) s h = let e : StopLine.Again j ≡ s = cc in ap (deed_line w) e
+line_of_stop w Line.Drain s h = absurd cc
+line_of_stop w (Line.Lose n p) s h = let e : StopLine.Lose n p ≡ s = cc in ap (deed_line w) e
+line_of_stop w (Line.Heur n o) s h = let e : StopLine.Heur n o ≡ s = cc in ap (deed_line w) e
+line_of_stop w (Line.GiveUp n p) s h = let e : StopLine.GiveUp n p ≡ s = cc in ap (deed_line w) e
+line_of_stop w (Line.Retry n) s h = let e : StopLine.Retry n ≡ s = cc in ap (deed_line w) e
+line_of_stop w (Line.Purge n) s h = let e : StopLine.Purge n ≡ s = cc in ap (deed_line w) e
+line_of_stop w (Line.Crash m) s h = absurd cc
+line_of_stop w (Line.CrashIn m j x l) s h = absurd cc
+line_of_stop w (Line.Show n) s h = absurd cc
+line_of_stop w (Line.Image m) s h = absurd cc
+line_of_stop w (Line.Auto n j) s h = absurd cc
+line_of_stop w (Line.Leave j) s h = absurd cc
+
+-- ---- the whole
+
+pub plays_lines : (w : World) (l : Line) (before after : List OutLine) (u : Unit {0}) (v : Ground) → is_built l ≡ true → before ≡ OutLine.Echo (line_text l) ∷ [] → Gives (line 0 w l) before (Ok u) after v
+    → Plays w l (Ok after) v
+plays_lines w l before after u v built first h =
+    let g : Given (line 0 w l) before after v = given (line 0 w l) before after v u h in
+    (g.turn, λ k. members_same k w l built ∙ g.is, g.lines ∙ ap (λ (ls : List OutLine). ls ++ g.turn.lines) (first ∙ sym (echo_built l built)), g.stands)
+
+is_name : (f : Fault) → WorldFault.Name ≡ fault_of f → f ≡ Name
+is_name Name h = refl
+is_name (Over what) h = absurd cc
+
+is_over : (what : What) (f : Fault) → WorldFault.Limit what ≡ fault_of f → f ≡ Over what
+is_over what Name h = absurd cc
+is_over what (Over which) h = let e : which ≡ what = cc in ap (λ (q : What). Over q) e
+
+pub plays_fault : (w : World) (l : Line) (f : WorldFault) (before after : List OutLine) (v last : Ground) → is_built l ≡ true → Gives (line 0 w l) before (Err f) after v → Plays w l (Err f) last
+plays_fault w l f before after v last built h = go (line 0 w l) f (λ k. members_same k w l built) h
+  where
+    go : (r : Result Turn Fault) (f : WorldFault) → ((k : ℕ) → line k w l ≡ r) → Gives r before (Err f) after v → Plays w l (Err f) last
+    go r WorldFault.NoMemory same i = tt
+    go r WorldFault.Unbuilt same i = absurd i
+    go (Ok t) WorldFault.Name same i = absurd i
+    go (Ok t) (WorldFault.Limit what) same i = absurd i
+    go (Err g) WorldFault.Name same i = λ k. same k ∙ ap (λ (q : Fault). Err q) (is_name g i)
+    go (Err g) (WorldFault.Limit what) same i = λ k. same k ∙ ap (λ (q : Fault). Err q) (is_over what g i)

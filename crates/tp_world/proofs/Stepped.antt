@@ -1,0 +1,102 @@
+-- The parts behind a step: which trees it names, and that it leaves the others alone.
+use Rattle.std.proofs.Common.{◌≡◌, ◌&&◌, ◌||◌, not, Bool, true, false, refl, ap, sym, ◌∙◌, arith, Option, Some, None, List}
+use Rattle.std.specs.Prelude.{cond, Result, Ok, Err, OnOk}
+use Rattle.std.specs.Map.{lookup}
+use Rattle.tp_names.specs.declared.identifiers.Aaid.{Aaid}
+use Rattle.tp_names.specs.declared.outcome.Outcome.{Outcome}
+use Rattle.tp_names.specs.Same.{is_aaid}
+use Rattle.tp_names.proofs.Sames.{aaid_same}
+use Rattle.tp_model.specs.declared.arc.Phase.{Phase}
+use Rattle.tp_model.specs.declared.out_line.LogWords.{LogWords}
+use Rattle.tp_model.specs.Dialogues.{is_active, is_ready, is_rolling}
+use Rattle.tp_site.specs.declared.state.NodeTree.{NodeTree}
+use Rattle.tp_world.specs.Part.{is_in, phase_in, is_commit_of, decision_in, goes_on, has_rolled, tree_at, tree_logged, is_that, no_part, stepped}
+use Rattle.tp_world.specs.Tracks.{is_tree, tree_of, tree_either, part_at}
+use Rattle.tp_world.specs.declared.part.Part.{Part}
+use Rattle.tp_world.specs.declared.part.Step.{Step}
+use Rattle.tp_world.specs.declared.tracks.Tree.{Tree}
+
+-- ---- a part that is put at its tree
+
+pub put_in : (old new : List (Tree × Part)) (a : Aaid) (s : Step) (p : Part) → p ≡ stepped a s (part_at old a) → ((q : Tree) → lookup (is_tree q) new ≡ cond (is_tree (tree_of a) q) (Some p) (lookup (is_tree q) old)) → (t : Aaid)
+    → part_at new t ≡ cond (is_aaid t a) (stepped t s (part_at old t)) (part_at old t)
+put_in old new a s p is at t = go (is_aaid t a) refl
+  where
+    there : (b : Bool) → is_aaid t a ≡ b → lookup (is_tree (tree_of t)) new ≡ cond b (Some p) (lookup (is_tree (tree_of t)) old)
+    there b i = at (tree_of t) ∙ ap (λ (c : Bool). cond c (Some p) (lookup (is_tree (tree_of t)) old)) (tree_either (tree_of a) (tree_of t) ∙ i)
+
+    go : (b : Bool) → is_aaid t a ≡ b → part_at new t ≡ cond b (stepped t s (part_at old t)) (part_at old t)
+    go true i = ap (λ (o : Option Part). elim o as (λ _. Part) [ None ↦ no_part | Some x ↦ x ]) (there true i) ∙ is ∙ ap (λ (u : Aaid). stepped u s (part_at old u)) (sym (aaid_same t a i))
+    go false i = ap (λ (o : Option Part). elim o as (λ _. Part) [ None ↦ no_part | Some x ↦ x ]) (there false i)
+
+-- ---- a step twice, and a step that does not name the tree
+
+part_made : (m n l k d e r q : Bool) (o p : Option Outcome) → m ≡ n → l ≡ k → d ≡ e → o ≡ p → r ≡ q
+    → ◌≡◌ {A = Part} (record { member = m; left = l; decided = d; decision = o; rolled = r }) (record { member = n; left = k; decided = e; decision = p; rolled = q })
+part_made m n l k d e r q o p a b c f g = rw (a, b, c, f, g) refl
+
+or_again : (a b : Bool) → (a || (a || b)) ≡ (a || b)
+or_again true b = refl
+or_again false b = refl
+
+chosen_again : (o p : Option Outcome) → elim o as (λ _. Option Outcome) [ Some u ↦ Some u | None ↦ elim o as (λ _. Option Outcome) [ Some u ↦ Some u | None ↦ p ] ] ≡ elim o as (λ _. Option Outcome) [ Some u ↦ Some u | None ↦ p ]
+chosen_again None p = refl
+chosen_again (Some u) p = refl
+
+stepped_again : (t : Aaid) (s : Step) (p : Part) → stepped t s (stepped t s p) ≡ stepped t s p
+stepped_again t s p =
+    part_made _ _ _ _ _ _ _ _ _ _ (or_again (is_in t s.behind) p.member) (or_again (is_in t s.before && s.leaves) p.left) (or_again (is_commit_of t s.rec) p.decided) (chosen_again (decision_in t s.rec) p.decision) (or_again (has_rolled t s) p.rolled)
+
+not_in : (t : Aaid) (x : Option NodeTree) → is_that t (tree_at x) ≡ false → (is_in t x ≡ false) × (phase_in t x ≡ Phase.Nil)
+not_in t None h = (refl, refl)
+not_in t (Some x) h = (h, rw h refl)
+
+not_logged : (t : Aaid) (r : Option LogWords) → is_that t (tree_logged r) ≡ false → (is_commit_of t r ≡ false) × (decision_in t r ≡ None)
+not_logged t None h = (refl, refl)
+not_logged t (Some (LogWords.Commit n k)) h = (h, refl)
+not_logged t (Some (LogWords.Heuristic n k o)) h = (refl, rw h refl)
+not_logged t (Some r) h = (grind (arith, h), grind (arith, h))
+
+not_rolled : (t : Aaid) (s : Step) → phase_in t s.before ≡ Phase.Nil → phase_in t s.behind ≡ Phase.Nil → has_rolled t s ≡ false
+not_rolled t s h i =
+    ap (λ (p : Phase). is_rolling (phase_in t s.behind) || ((is_active p || is_ready p) && not (goes_on t s.before s.behind) && not s.leaves)) h
+    ∙ ap (λ (p : Phase). is_rolling p || false) i
+
+or_none : (a b : Bool) → a ≡ false → (a || b) ≡ b
+or_none a b h = rw h refl
+
+and_none : (a b : Bool) → a ≡ false → (a && b) ≡ false
+and_none a b h = rw h refl
+
+stepped_other : (t : Aaid) (s : Step) (p : Part) → is_that t (tree_at s.before) ≡ false → is_that t (tree_at s.behind) ≡ false → is_that t (tree_logged s.rec) ≡ false → stepped t s p ≡ p
+stepped_other t s p h i j =
+    let before = not_in t s.before h in
+    let behind = not_in t s.behind i in
+    let rec = not_logged t s.rec j in
+    part_made _ p.member _ p.left _ p.decided _ p.rolled _ p.decision
+    (or_none (is_in t s.behind) p.member behind.0) (or_none (is_in t s.before && s.leaves) p.left (and_none (is_in t s.before) s.leaves before.0)) (or_none (is_commit_of t s.rec) p.decided rec.0)
+    (ap (λ (o : Option Outcome). elim o as (λ _. Option Outcome) [ Some u ↦ Some u | None ↦ p.decision ]) rec.1) (or_none (has_rolled t s) p.rolled (not_rolled t s before.1 behind.1))
+
+-- ---- at each of the trees that the step names
+
+thrice : (f : Part → Part) → ((p : Part) → f (f p) ≡ f p) → (p : Part) (a b c : Bool) → (a ≡ false → b ≡ false → c ≡ false → f p ≡ p)
+    → cond c (f (cond b (f (cond a (f p) p)) (cond a (f p) p))) (cond b (f (cond a (f p) p)) (cond a (f p) p)) ≡ f p
+thrice f again p true true true other = ap f (again p) ∙ again p
+thrice f again p true true false other = again p
+thrice f again p true false true other = again p
+thrice f again p true false false other = refl
+thrice f again p false true true other = again p
+thrice f again p false true false other = refl
+thrice f again p false false true other = refl
+thrice f again p false false false other = sym (other refl refl refl)
+
+pub stepped_all : (t : Aaid) (s : Step) (p p1 p2 p3 : Part) → p1 ≡ cond (is_that t (tree_at s.before)) (stepped t s p) p → p2 ≡ cond (is_that t (tree_at s.behind)) (stepped t s p1) p1
+    → p3 ≡ cond (is_that t (tree_logged s.rec)) (stepped t s p2) p2 → p3 ≡ stepped t s p
+stepped_all t s p p1 p2 p3 one two three =
+    three
+    ∙ ap (λ (q : Part). cond (is_that t (tree_logged s.rec)) (stepped t s q) q) (two ∙ ap (λ (q : Part). cond (is_that t (tree_at s.behind)) (stepped t s q) q) one)
+    ∙ thrice (stepped t s) (stepped_again t s) p (is_that t (tree_at s.before)) (is_that t (tree_at s.behind)) (is_that t (tree_logged s.rec)) (stepped_other t s p)
+
+pub then_ok : {A E : Type 0} (r : Result A E) {P Q : Type 0} → (P → Q) → OnOk r P → OnOk r Q
+then_ok (Ok v) f h = f h
+then_ok (Err e) f h = h

@@ -1,0 +1,71 @@
+-- What the closing lines show of a tree, from one node on to the next.
+use Rattle.std.proofs.Common.{◌≡◌, ◌≤◌, ◌<◌, ◌+◌, ◌-◌, ◌&&◌, not, ℕ, zero, suc, Bool, true, false, refl, ap, sym, ◌∙◌, arith, List, [], ◌∷◌, ◌++◌, length, drop, append_assoc}
+use Rattle.std.specs.Prelude.{slice_index_or}
+use Rattle.std.proofs.lemmas.List.{drop_more}
+use Rattle.tp_names.specs.declared.identifiers.Aaid.{Aaid}
+use Rattle.tp_names.specs.declared.outcome.Outcome.{Outcome}
+use Rattle.tp_model.specs.declared.out_line.OutLine.{OutLine}
+use Rattle.tp_model.specs.Trees.{is_told, placed}
+use Rattle.tp_world.specs.Part.{told_by_part}
+use Rattle.tp_world.specs.Tracks.{part_at}
+use Rattle.tp_world.specs.Told.{stays_in, some_told_at, all_told_at, decides_in, deciders_at, closing_line_at, closing_at}
+use Rattle.tp_world.specs.declared.nodes.NodeSlot.{NodeSlot}
+
+pub some_here : (o : Outcome) (t : Aaid) (xs : List NodeSlot) (i : ℕ) (d : NodeSlot) → i < length xs → stays_in (part_at (slice_index_or xs i d).tracks t) ≡ true → is_told o (told_by_part (part_at (slice_index_or xs i d).tracks t)) ≡ true
+    → some_told_at o t (drop i xs) ≡ true
+some_here o t xs i d h e f = rw (drop_more xs i d h) (rw (e, f) refl)
+
+pub some_next : (o : Outcome) (t : Aaid) (xs : List NodeSlot) (i : ℕ) (d : NodeSlot) → i < length xs → (stays_in (part_at (slice_index_or xs i d).tracks t) && is_told o (told_by_part (part_at (slice_index_or xs i d).tracks t))) ≡ false
+    → some_told_at o t (drop i xs) ≡ some_told_at o t (drop (i + 1) xs)
+some_next o t xs i d h e = rw (drop_more xs i d h) (rw e refl)
+
+pub all_here : (o : Outcome) (t : Aaid) (xs : List NodeSlot) (i : ℕ) (d : NodeSlot) → i < length xs → stays_in (part_at (slice_index_or xs i d).tracks t) ≡ true → is_told o (told_by_part (part_at (slice_index_or xs i d).tracks t)) ≡ false
+    → all_told_at o t (drop i xs) ≡ false
+all_here o t xs i d h e f = rw (drop_more xs i d h) (rw (e, f) refl)
+
+pub all_next : (o : Outcome) (t : Aaid) (xs : List NodeSlot) (i : ℕ) (d : NodeSlot) → i < length xs → (stays_in (part_at (slice_index_or xs i d).tracks t) && not (is_told o (told_by_part (part_at (slice_index_or xs i d).tracks t)))) ≡ false
+    → all_told_at o t (drop i xs) ≡ all_told_at o t (drop (i + 1) xs)
+all_next o t xs i d h e = rw (drop_more xs i d h) (go (stays_in (part_at (slice_index_or xs i d).tracks t)) (is_told o (told_by_part (part_at (slice_index_or xs i d).tracks t))) refl refl e)
+  where
+    go : (a b : Bool) → stays_in (part_at (slice_index_or xs i d).tracks t) ≡ a → is_told o (told_by_part (part_at (slice_index_or xs i d).tracks t)) ≡ b → (a && not b) ≡ false
+        → all_told_at o t (slice_index_or xs i d ∷ drop (i + 1) xs) ≡ all_told_at o t (drop (i + 1) xs)
+    go true true j k l = rw (j, k) refl
+    go true false j k l = absurd (cc (l))
+    go false b j k l = rw j refl
+
+pub decider_here : (t : Aaid) (xs : List NodeSlot) (i : ℕ) (d : NodeSlot) → i < length xs → decides_in (part_at (slice_index_or xs i d).tracks t) ≡ true
+    → deciders_at t (drop i xs) ≡ placed (slice_index_or xs i d).addr.node (deciders_at t (drop (i + 1) xs))
+decider_here t xs i d h e = rw (drop_more xs i d h) (rw (e, deciders_at) refl)
+
+pub decider_next : (t : Aaid) (xs : List NodeSlot) (i : ℕ) (d : NodeSlot) → i < length xs → decides_in (part_at (slice_index_or xs i d).tracks t) ≡ false → deciders_at t (drop i xs) ≡ deciders_at t (drop (i + 1) xs)
+decider_next t xs i d h e = rw (drop_more xs i d h) (rw (e, deciders_at) refl)
+
+one_back : (i : ℕ) → 0 < i → i ≡ i - 1 + 1
+one_back i h = omega (arith, h)
+
+below_back : (i n : ℕ) → 0 < i → i ≤ n → i - 1 < n
+below_back i n h k = omega (arith, h, k)
+
+-- an element is there, whatever stands for one that is not
+same_there : (xs : List NodeSlot) (i : ℕ) (d e : NodeSlot) → i < length xs → slice_index_or xs i d ≡ slice_index_or xs i e
+same_there [] i d e h = absurd (omega (arith, h))
+same_there (x ∷ xs) zero d e h = refl
+same_there (x ∷ xs) (suc i) d e h = same_there xs i d e (omega (arith, h))
+
+-- from one node back to the one before
+pub decider_back : (t : Aaid) (xs : List NodeSlot) (ns : List ℕ) (i : ℕ) (d e : NodeSlot) → 0 < i → i ≤ length xs → decides_in (part_at (slice_index_or xs (i - 1) d).tracks t) ≡ true → ns ≡ deciders_at t (drop i xs)
+    → placed (slice_index_or xs (i - 1) e).addr.node ns ≡ deciders_at t (drop (i - 1) xs)
+decider_back t xs ns i d e low most on is =
+    ap (λ (x : NodeSlot). placed x.addr.node ns) (same_there xs (i - 1) e d (below_back i (length xs) low most))
+    ∙ ap (placed (slice_index_or xs (i - 1) d).addr.node) (is ∙ ap (λ (k : ℕ). deciders_at t (drop k xs)) (one_back i low))
+    ∙ sym (decider_here t xs (i - 1) d (below_back i (length xs) low most) on)
+
+pub decider_over : (t : Aaid) (xs : List NodeSlot) (ns : List ℕ) (i : ℕ) (d : NodeSlot) → 0 < i → i ≤ length xs → decides_in (part_at (slice_index_or xs (i - 1) d).tracks t) ≡ false → ns ≡ deciders_at t (drop i xs)
+    → ns ≡ deciders_at t (drop (i - 1) xs)
+decider_over t xs ns i d low most off is =
+    is ∙ ap (λ (k : ℕ). deciders_at t (drop k xs)) (one_back i low) ∙ sym (decider_next t xs (i - 1) d (below_back i (length xs) low most) off)
+
+pub line_next : (xs : List NodeSlot) (ts : List Aaid) (i : ℕ) (d : Aaid) (lines : List OutLine) → i < length ts → closing_at xs ts ≡ lines ++ closing_at xs (drop i ts)
+    → closing_at xs ts ≡ (lines ++ closing_line_at (slice_index_or ts i d) xs ∷ []) ++ closing_at xs (drop (i + 1) ts)
+line_next xs ts i d lines h e =
+    e ∙ ap (λ (l : List Aaid). lines ++ closing_at xs l) (drop_more ts i d h) ∙ sym (append_assoc lines (closing_line_at (slice_index_or ts i d) xs ∷ []) (closing_at xs (drop (i + 1) ts)))

@@ -1,0 +1,22 @@
+-- The lines that a world plays. Crashes, images and members are not built yet.
+use Rattle.std.specs.Prelude.{Bool, true, false}
+use Rattle.tp_model.specs.declared.line.Line.{Line}
+
+abbrev pub is_built : Line → Bool
+is_built (Line.Node n s p) = true
+is_built (Line.Do n r) = true
+is_built (Line.Pass a b) = true
+is_built (Line.Skip a b) = true
+is_built (Line.Again k) = true
+is_built Line.Drain = true
+is_built (Line.Lose n p) = true
+is_built (Line.Heur n o) = true
+is_built (Line.GiveUp n p) = true
+is_built (Line.Retry n) = true
+is_built (Line.Purge n) = true
+is_built (Line.Crash s) = false
+is_built (Line.CrashIn s k x l) = false
+is_built (Line.Show n) = true
+is_built (Line.Image s) = false
+is_built (Line.Auto n k) = false
+is_built (Line.Leave k) = false

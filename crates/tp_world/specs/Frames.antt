@@ -1,0 +1,34 @@
+-- The frames of a world as the code keeps them, and those of the definitions that they are.
+use Rattle.std.specs.Prelude.{ℕ, suc, ◌≡◌, ◌≤◌, ◌==◌, ◌&&◌, Bool, List, [], ◌∷◌, map, length, if◌then◌else◌}
+use Rattle.tp_model.specs.World.{Frame as FrameValue}
+use Rattle.tp_model.specs.declared.verdict.What.{What}
+use Rattle.tp_world.specs.declared.fault.WorldFault.{WorldFault}
+use Rattle.tp_world.specs.declared.frames.Frame.{Frame}
+use Rattle.tp_world.specs.declared.frames.Frames.TheInside.{Inside}
+
+abbrev pub frame_of : Frame → FrameValue
+frame_of f = record { from = f.from; to = f.to; rec = f.rec; handed = f.handed }
+
+abbrev pub frames_of : Inside → List FrameValue
+frames_of v = map frame_of v.items.items
+
+-- how many stand in front of the first one that is not handed over
+abbrev pub leading : List Frame → ℕ
+leading [] = 0
+leading (f ∷ fs) = if f.handed then suc (leading fs) else 0
+
+-- all before `first` were handed over, and that one was not; there are no more than have numbers
+pub record AreNumbered (v : Inside) : Type 0 where
+  pub first : v.first ≡ leading v.items.items
+  pub most : length v.items.items ≤ 65535
+
+-- the limit comes exactly where all numbers are used
+abbrev pub IsFull : ℕ → WorldFault → Type 0
+IsFull n WorldFault.Name = ⊥
+IsFull n (WorldFault.Limit what) = (what ≡ What.Frames) × (65535 ≤ n)
+IsFull n WorldFault.Unbuilt = ⊥
+IsFull n WorldFault.NoMemory = Unit {0}
+
+-- from the one node to the other
+abbrev pub is_between : ℕ → ℕ → FrameValue → Bool
+is_between a b f = (f.from.node == a) && (f.to.node == b)

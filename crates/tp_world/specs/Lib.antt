@@ -1,0 +1,15 @@
+pub mod Part
+pub mod Tracks
+pub mod Told
+pub mod Frames
+pub mod Nodes
+pub mod Errands
+pub mod Requests
+pub mod Sites
+pub mod Slots
+pub mod World
+pub mod Placing
+pub mod Built
+pub mod Settled
+pub mod Declares
+pub mod Drains

@@ -1,0 +1,41 @@
+-- The nodes of a world as the code keeps them, found by their numbers.
+use Rattle.std.specs.Prelude.{ℕ, suc, ◌≡◌, ◌==◌, true, false, Option, Some, None, List, [], ◌∷◌}
+use Rattle.std.specs.Option.{option_map}
+use Rattle.tp_names.specs.declared.identifiers.Aaid.{Aaid}
+use Rattle.tp_names.specs.declared.identifiers.Addr.{Addr}
+use Rattle.tp_world.specs.Part.{no_part, stepped}
+use Rattle.tp_world.specs.Tracks.{part_at}
+use Rattle.tp_world.specs.declared.part.Step.{Step}
+use Rattle.tp_world.specs.declared.nodes.NodeSlot.{NodeSlot}
+
+abbrev pub find_slot : List NodeSlot → ℕ → Option NodeSlot
+find_slot [] n = None
+find_slot (x ∷ xs) n = elim (x.addr.node == n) [ true ↦ Some x | false ↦ find_slot xs n ]
+
+-- behind all where there is none
+abbrev pub place_of_number : List NodeSlot → ℕ → ℕ
+place_of_number [] n = 0
+place_of_number (x ∷ xs) n = elim (x.addr.node == n) [ true ↦ 0 | false ↦ suc (place_of_number xs n) ]
+
+abbrev pub address_at : List NodeSlot → ℕ → Option Addr
+address_at xs n = option_map (λ x. x.addr) (find_slot xs n)
+
+-- ---- changes
+
+-- a node as it comes: it had to do with no tree
+pub record IsDeclared (a : Addr) (up : Option Addr) (x : NodeSlot) : Type 0 where
+  pub addr : x.addr ≡ a
+  pub superior : x.superior ≡ up
+  pub parts : (t : Aaid) → part_at x.tracks t ≡ no_part
+
+-- its parts behind a step
+pub record IsStepped (s : Step) (old new : NodeSlot) : Type 0 where
+  pub addr : new.addr ≡ old.addr
+  pub superior : new.superior ≡ old.superior
+  pub parts : (t : Aaid) → part_at new.tracks t ≡ stepped t s (part_at old.tracks t)
+
+-- the first node of that number takes the step, and no other does
+abbrev pub AreStepped : ℕ → Step → List NodeSlot → List NodeSlot → Type 0
+AreStepped n s [] ys = ys ≡ []
+AreStepped n s (x ∷ xs) [] = ⊥
+AreStepped n s (x ∷ xs) (y ∷ ys) = elim (x.addr.node == n) [ true ↦ IsStepped s x y × (ys ≡ xs) | false ↦ (y ≡ x) × AreStepped n s xs ys ]

@@ -1,0 +1,95 @@
+-- What the code does with the answer of a node, in its own values: lines behind those shown before, the step of the node's parts,
+-- the tree that starts, and the frames that are sent.
+use Rattle.std.specs.Prelude.{ℕ, ◌≡◌, ◌≤◌, ◌<◌, ◌+◌, ◌++◌, ◌&&◌, not, true, false, Option, Some, None, List, [], ◌∷◌, length, Result, Ok, Err}
+use Rattle.tp_names.specs.declared.identifiers.Aaid.{Aaid}
+use Rattle.tp_names.specs.declared.identifiers.Addr.{Addr}
+use Rattle.tp_model.specs.declared.out_line.LogWords.{LogWords}
+use Rattle.tp_model.specs.declared.out_line.OutLine.{OutLine}
+use Rattle.tp_model.specs.declared.verdict.What.{What}
+use Rattle.tp_model.specs.Parts.{Out}
+use Rattle.tp_model.specs.Happenings.{out_lines, frames_of, refused_lines, trees_of}
+use Rattle.tp_world.specs.Part.{is_in}
+use Rattle.tp_world.specs.Nodes.{AreStepped}
+use Rattle.tp_world.specs.declared.fault.WorldFault.{WorldFault}
+use Rattle.tp_world.specs.declared.part.Step.{Step}
+use Rattle.tp_world.specs.declared.site_slot.Entry.{Entry}
+use Rattle.tp_world.specs.declared.site_slot.Answer.{Answer}
+use Rattle.tp_world.specs.declared.ground.Ground.{Ground}
+
+-- the tree that a step starts
+abbrev pub tree_started : Step → Option Aaid
+tree_started s = elim s.behind [
+  | None ↦ None
+  | Some b ↦ elim (b.is_root && not (is_in b.aaid s.before)) [ true ↦ Some b.aaid | false ↦ None ]
+]
+
+-- ---- what is shown before the outputs
+
+abbrev pub forced_lines : List ℕ → Option LogWords → List OutLine
+forced_lines site None = []
+forced_lines site (Some r) = OutLine.Log site r ∷ []
+
+abbrev pub entry_lines : List ℕ → Option Entry → List OutLine
+entry_lines site None = []
+entry_lines site (Some x) = forced_lines site x.step.rec
+
+-- ---- outputs
+
+-- their lines stand behind those shown before, and their frames behind those sent before
+pub record AreGiven (from : Addr) (outs : List Out) (before after : List OutLine) (old new : Ground) : Type 0 where
+  pub lines : after ≡ before ++ out_lines from.node (length old.frames) outs
+  pub frames : new.frames ≡ old.frames ++ frames_of from outs
+  pub few : length old.frames ≤ 65535 → length new.frames ≤ 65535
+  pub nodes : new.nodes ≡ old.nodes
+  pub sites : new.sites ≡ old.sites
+  pub trees : new.trees ≡ old.trees
+
+-- or there are more frames than have numbers
+abbrev pub GivesOuts : Addr → List Out → List OutLine → Result (Unit {0}) WorldFault → List OutLine → Ground → Ground → Type 0
+GivesOuts from outs before (Ok u) after old new = AreGiven from outs before after old new
+GivesOuts from outs before (Err WorldFault.Name) after old new = ⊥
+GivesOuts from outs before (Err (WorldFault.Limit what)) after old new = (what ≡ What.Frames) × (65535 < length old.frames + length (frames_of from outs))
+GivesOuts from outs before (Err WorldFault.Unbuilt) after old new = ⊥
+GivesOuts from outs before (Err WorldFault.NoMemory) after old new = Unit {0}
+
+-- ---- an entry
+
+-- the node's parts take the step, and the tree that starts is known
+pub record IsEntered (number : ℕ) (s : Step) (old new : Ground) : Type 0 where
+  pub nodes : AreStepped number s old.nodes new.nodes
+  pub trees : new.trees.items ≡ old.trees.items ++ trees_of (tree_started s)
+  pub sites : new.sites ≡ old.sites
+  pub frames : new.frames ≡ old.frames
+
+-- and its outputs are given
+pub record IsSettledEntry (at : Addr) (x : Entry) (before after : List OutLine) (old new : Ground) : Type 0 where
+  pub nodes : AreStepped at.node x.step old.nodes new.nodes
+  pub trees : new.trees.items ≡ old.trees.items ++ trees_of (tree_started x.step)
+  pub sites : new.sites ≡ old.sites
+  pub frames : new.frames ≡ old.frames ++ frames_of at x.outs
+  pub few : length old.frames ≤ 65535 → length new.frames ≤ 65535
+  pub lines : after ≡ before ++ out_lines at.node (length old.frames) x.outs
+
+abbrev pub SettlesEntry : Addr → Entry → List OutLine → Result (Unit {0}) WorldFault → List OutLine → Ground → Ground → Type 0
+SettlesEntry place x before (Ok u) after old new = IsSettledEntry place x before after old new
+SettlesEntry place x before (Err WorldFault.Name) after old new = ⊥
+SettlesEntry place x before (Err (WorldFault.Limit what)) after old new = (what ≡ What.Frames) × (65535 < length old.frames + length (frames_of place x.outs))
+SettlesEntry place x before (Err WorldFault.Unbuilt) after old new = ⊥
+SettlesEntry place x before (Err WorldFault.NoMemory) after old new = Unit {0}
+
+-- ---- an answer
+
+-- the lines that stand before the outputs
+abbrev pub head_lines : List ℕ → Answer → List OutLine
+head_lines site a = entry_lines site a.entry ++ refused_lines a.number
+
+abbrev pub SettlesSome : Addr → Option Entry → List OutLine → Result (Unit {0}) WorldFault → List OutLine → Ground → Ground → Type 0
+SettlesSome place (Some x) before r after old new = SettlesEntry place x before r after old new
+SettlesSome place None before (Ok u) after old new = (new ≡ old) × (after ≡ before)
+SettlesSome place None before (Err WorldFault.Name) after old new = ⊥
+SettlesSome place None before (Err (WorldFault.Limit what)) after old new = ⊥
+SettlesSome place None before (Err WorldFault.Unbuilt) after old new = ⊥
+SettlesSome place None before (Err WorldFault.NoMemory) after old new = Unit {0}
+
+abbrev pub Settles : Addr → Answer → List OutLine → Result (Unit {0}) WorldFault → List OutLine → Ground → Ground → Type 0
+Settles place a before r after old new = SettlesSome place a.entry (before ++ head_lines place.site a) r after old new

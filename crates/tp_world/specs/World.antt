@@ -1,0 +1,185 @@
+-- How a world of the code stands for a world of the definitions. The definitions keep each node's whole history; the code
+-- keeps, at the node's site, what is known after it, and of each tree the few facts that the closing lines ask.
+use Rattle.std.specs.Prelude.{ℕ, ◌≡◌, ◌≤◌, ◌==◌, ◌&&◌, ◌++◌, Bool, true, false, Option, Some, None, List, [], ◌∷◌, length, Result, Ok, Err, if◌then◌else◌}
+use Rattle.std.specs.List.{AllByRecursion}
+use Rattle.tp_names.specs.declared.identifiers.Aaid.{Aaid}
+use Rattle.tp_names.specs.declared.identifiers.Addr.{Addr}
+use Rattle.tp_logrec.specs.declared.record.LogVersion.{LogVersion}
+use Rattle.tp_model.specs.declared.out_line.OutLine.{OutLine}
+use Rattle.tp_model.specs.declared.verdict.What.{What}
+use Rattle.tp_model.specs.Legal.{IsLegal}
+use Rattle.tp_model.specs.World.{World, Node, Frame, addr_of, number_of, find_site, is_node, site_of}
+use Rattle.tp_model.specs.Parts.{Event, Entry as EntryValue}
+use Rattle.tp_model.specs.History.{digest, answer}
+use Rattle.tp_model.specs.Happenings.{Deed, Turn, Task, deed_lines, entered, logged}
+use Rattle.tp_model.specs.declared.line.StopLine.{StopLine}
+use Rattle.tp_model.specs.Lines.{Fault, Name, Over, is_full, deed_of, marked_by, line}
+use Rattle.tp_model.specs.declared.line.Line.{Line}
+use Rattle.tp_model.specs.Transcript.{echo}
+use Rattle.tp_world.specs.Part.{part, step_of}
+use Rattle.tp_world.specs.Tracks.{part_at}
+use Rattle.tp_world.specs.Built.{is_built}
+use Rattle.tp_world.specs.Sites.{AreSites, KnowNodes}
+use Rattle.tp_world.specs.declared.fault.WorldFault.{WorldFault}
+use Rattle.tp_world.specs.declared.nodes.NodeSlot.{NodeSlot}
+use Rattle.tp_world.specs.declared.site_slot.SiteSlot.{SiteSlot}
+use Rattle.tp_world.specs.declared.site_slot.Entry.{Entry}
+use Rattle.tp_world.specs.declared.site_slot.Answer.{Answer}
+use Rattle.tp_world.specs.declared.ground.Ground.{Ground}
+
+-- ---- nodes
+
+-- the node's history began on a log of version 2 with no record of it, and is legal; its facts of each tree are those of
+-- its history
+pub record IsNode (n : Node) (x : NodeSlot) : Type 0 where
+  pub addr : x.addr ≡ addr_of n
+  pub superior : x.superior ≡ n.superior
+  pub version : n.origin.start.version ≡ LogVersion.Two
+  pub fresh : n.origin.start.records ≡ []
+  pub legal : IsLegal n.origin n.superior n.history
+  pub parts : (t : Aaid) → part_at x.tracks t ≡ part n.origin t n.history
+
+abbrev pub AreNodes : List Node → List NodeSlot → Type 0
+AreNodes [] [] = Unit {0}
+AreNodes [] (x ∷ xs) = ⊥
+AreNodes (n ∷ ns) [] = ⊥
+AreNodes (n ∷ ns) (x ∷ xs) = IsNode n x × AreNodes ns xs
+
+-- no two nodes have one number
+abbrev pub is_free : ℕ → List Node → Bool
+is_free k [] = true
+is_free k (n ∷ ns) = if number_of n == k then false else is_free k ns
+
+abbrev pub are_apart : List Node → Bool
+are_apart [] = true
+are_apart (n ∷ ns) = is_free (number_of n) ns && are_apart ns
+
+-- each stands at a site that is there, and so does its superior
+abbrev pub is_placed : World → Node → Bool
+is_placed w n =
+    elim (find_site w.sites (site_of n)) [ None ↦ false | Some s ↦ true ]
+    && elim n.superior [ None ↦ true | Some a ↦ is_node w a.node ]
+
+-- ---- the world
+
+-- what the sites know and have on their disks
+pub record SitesStand (w : World) (xs : List SiteSlot) : Type 0 where
+  pub sites : AreSites w.sites xs
+  pub known : KnowNodes xs w.nodes
+
+-- all else
+pub record RestStands (w : World) (xs : List NodeSlot) (fs : List Frame) (ts : List Aaid) : Type 0 where
+  pub nodes : AreNodes w.nodes xs
+  pub apart : are_apart w.nodes ≡ true
+  pub placed : AllByRecursion (λ n. is_placed w n ≡ true) w.nodes
+  pub frames : fs ≡ w.frames
+  -- each has a number
+  pub few : length w.frames ≤ 65535
+  pub trees : ts ≡ w.trees
+  -- no member drives a node
+  pub undriven : w.drives ≡ []
+
+-- in an event the sites go first: between the two the sites stand for the world after it, and the rest for the one before
+pub record Stands (w : World) (v : Ground) : Type 0 where
+  pub sites : SitesStand w v.sites.items
+  pub rest : RestStands w v.nodes v.frames v.trees.items
+
+-- ---- what a call answers
+
+abbrev pub fault_of : Fault → WorldFault
+fault_of Name = WorldFault.Name
+fault_of (Over what) = WorldFault.Limit what
+
+-- it shows the lines of the turn behind those that stood before, and stands for the world after it; or it tells the fault.
+-- Want of memory is the free answer
+abbrev pub Gives : Result Turn Fault → List OutLine → Result (Unit {0}) WorldFault → List OutLine → Ground → Type 0
+Gives r before (Err WorldFault.NoMemory) lines v = Unit {0}
+Gives r before (Err WorldFault.Unbuilt) lines v = ⊥
+Gives (Ok t) before (Ok u) lines v = (lines ≡ before ++ t.lines) × Stands t.world v
+Gives (Ok t) before (Err WorldFault.Name) lines v = ⊥
+Gives (Ok t) before (Err (WorldFault.Limit what)) lines v = ⊥
+Gives (Err f) before (Ok u) lines v = ⊥
+Gives (Err f) before (Err WorldFault.Name) lines v = WorldFault.Name ≡ fault_of f
+Gives (Err f) before (Err (WorldFault.Limit what)) lines v = WorldFault.Limit what ≡ fault_of f
+
+-- ---- an event at a node
+
+-- the entry that the history gains, as the code has it
+abbrev pub IsEntry : Node → Option EntryValue → Option Entry → Type 0
+IsEntry n None None = Unit {0}
+IsEntry n None (Some x) = ⊥
+IsEntry n (Some e) None = ⊥
+IsEntry n (Some e) (Some x) =
+    (x.outs ≡ e.outs) × (x.step ≡ step_of (digest n.origin n.history) e (digest n.origin (e ∷ n.history)))
+
+-- the world whose site has played it
+abbrev pub after_entry : World → Node → Option EntryValue → World
+after_entry w n None = w
+after_entry w n (Some e) = logged (entered w n e) n e.rec
+
+-- what the node answers, and whether its history gains an entry
+abbrev pub number_answered : Node → Event → Option ℕ
+number_answered n e = (answer n.origin n.history e).number
+
+abbrev pub entry_answered : Node → Event → Option EntryValue
+entry_answered n e = (answer n.origin n.history e).entry
+
+-- the site of the node has played the event: it stands for the world behind the entry; a want of room in the log is told before
+-- anything of the event is so
+abbrev pub PlaysAt : World → Node → Event → Result Answer WorldFault → List SiteSlot → Type 0
+PlaysAt w n e (Ok a) new =
+    (a.number ≡ number_answered n e) × IsEntry n (entry_answered n e) a.entry × SitesStand (after_entry w n (entry_answered n e)) new
+PlaysAt w n e (Err WorldFault.Name) new = ⊥
+PlaysAt w n e (Err (WorldFault.Limit what)) new = (what ≡ What.Log) × (is_full (after_entry w n (entry_answered n e)).sites ≡ true)
+PlaysAt w n e (Err WorldFault.Unbuilt) new = ⊥
+PlaysAt w n e (Err WorldFault.NoMemory) new = Unit {0}
+
+-- ---- an errand, in its two steps
+
+-- the node of the task has answered: its site stands for the world behind the entry, and nothing else has changed
+pub record IsAttempted (w : World) (t : Task) (a : Answer) (addr : Addr) (old new : Ground) : Type 0 where
+  pub place : addr ≡ addr_of t.node
+  pub number : a.number ≡ number_answered t.node t.event
+  pub entry : IsEntry t.node (entry_answered t.node t.event) a.entry
+  pub sites : SitesStand (after_entry w t.node (entry_answered t.node t.event)) new.sites.items
+  pub nodes : new.nodes ≡ old.nodes
+  pub frames : new.frames ≡ old.frames
+  pub trees : new.trees ≡ old.trees
+
+-- without a task nothing happens; a want of room in the log is told before anything of the event is so
+abbrev pub Tries : World → Option Task → Result (Option (Addr × Answer)) WorldFault → Ground → Ground → Type 0
+Tries w None (Ok None) old new = new ≡ old
+Tries w None (Ok (Some p)) old new = ⊥
+Tries w (Some t) (Ok None) old new = ⊥
+Tries w (Some t) (Ok (Some p)) old new = IsAttempted w t p.1 p.0 old new
+Tries w None (Err WorldFault.Name) old new = ⊥
+Tries w None (Err (WorldFault.Limit what)) old new = ⊥
+Tries w None (Err WorldFault.Unbuilt) old new = ⊥
+Tries w None (Err WorldFault.NoMemory) old new = Unit {0}
+Tries w (Some t) (Err WorldFault.Name) old new = ⊥
+Tries w (Some t) (Err (WorldFault.Limit what)) old new =
+    (what ≡ What.Log) × (is_full (after_entry w t.node (entry_answered t.node t.event)).sites ≡ true)
+Tries w (Some t) (Err WorldFault.Unbuilt) old new = ⊥
+Tries w (Some t) (Err WorldFault.NoMemory) old new = Unit {0}
+
+-- what is shown of it before the answer: a frame that is handed over
+abbrev pub ShowsFirst : Deed → Result (Option (Addr × Answer)) WorldFault → List OutLine → List OutLine → Type 0
+ShowsFirst d (Ok None) before after = after ≡ before
+ShowsFirst d (Ok (Some p)) before after = after ≡ before ++ deed_lines d
+ShowsFirst d (Err e) before after = Unit {0}
+
+-- the event of a line, for which a pass marks its frame
+pub record Resolves (w : World) (l : StopLine) (d : Option Deed) (new : Ground) : Type 0 where
+  pub deed : d ≡ deed_of w l
+  pub world : Stands (marked_by w l) new
+
+-- ---- a line
+
+-- it shows its echo and the lines of the turn, and the world stands for the one after it; or it tells the fault. No member is asked,
+-- so it does not matter how many there are
+abbrev pub Plays : World → Line → Result (List OutLine) WorldFault → Ground → Type 0
+Plays w l (Ok lines) new = (t : Turn) × ((members : ℕ) → line members w l ≡ Ok t) × (lines ≡ echo l ++ t.lines) × Stands t.world new
+Plays w l (Err WorldFault.Name) new = (members : ℕ) → line members w l ≡ Err Name
+Plays w l (Err (WorldFault.Limit what)) new = (members : ℕ) → line members w l ≡ Err (Over what)
+Plays w l (Err WorldFault.Unbuilt) new = is_built l ≡ false
+Plays w l (Err WorldFault.NoMemory) new = Unit {0}

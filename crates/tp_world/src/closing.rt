@@ -1,0 +1,130 @@
+//! The lines that close a transcript.
+ghost use Rattle.std.specs.Prelude.{◌≡◌, IfOk};
+ghost use Rattle.tp_model.specs.World.{World as WorldValue};
+ghost use Rattle.tp_model.specs.Trees.{closing, is_told};
+ghost use Rattle.tp_world.specs.Told.{stays_in, some_told_at, all_told_at, decides_in, deciders_at, agreed_line_at, closing_line_at, closing_at};
+ghost use Rattle.tp_world.specs.World.{Stands};
+
+use crate::ground::Ground;
+use crate::nodes::NodeSlot;
+use crate::part::Part;
+use crate::shown::placed;
+use std::alloc::Global;
+use tp_model::{NodeNumbers, OutLine, OutLines};
+use tp_names::{Aaid, NoMemory, Outcome};
+
+fn is_told(outcome: Outcome, told: Option<Outcome>) -> bool
+    ensures { result ≡ is_told outcome told }
+{
+    match (outcome, told) {
+        (Outcome::Commit, Some(Outcome::Commit)) => true,
+        (Outcome::Rollback, Some(Outcome::Rollback)) => true,
+        _ => false,
+    }
+}
+
+// A node of the tree that stays.
+fn stays(part: &Part) -> bool
+    ensures { result ≡ stays_in part.now }
+{
+    part.member && !part.left
+}
+
+// A node of the tree that logged a decision.
+fn decides(part: &Part) -> bool
+    ensures { result ≡ decides_in part.now }
+{
+    part.member && part.decision.is_some()
+}
+
+// A staying node of the tree is told that; every staying node is.
+#[tactic(auto, using(crate::proofs::ToldAt::some_here, crate::proofs::ToldAt::some_next))]
+fn some_told(outcome: Outcome, tree: &Aaid, nodes: &[NodeSlot]) -> bool
+    ensures { result ≡ some_told_at outcome tree.now nodes.now }
+{
+    for i in 0..nodes.len() {
+        let part = nodes[i].tracks.part(tree);
+        if stays(&part) && is_told(outcome, part.told()) {
+            return true;
+        }
+    }
+    false
+}
+
+#[tactic(auto, using(crate::proofs::ToldAt::all_here, crate::proofs::ToldAt::all_next))]
+fn all_told(outcome: Outcome, tree: &Aaid, nodes: &[NodeSlot]) -> bool
+    ensures { result ≡ all_told_at outcome tree.now nodes.now }
+{
+    for i in 0..nodes.len() {
+        let part = nodes[i].tracks.part(tree);
+        if stays(&part) && !is_told(outcome, part.told()) {
+            return false;
+        }
+    }
+    true
+}
+
+// Those that logged a decision, ascending.
+fn deciders(alloc: Global, tree: &Aaid, nodes: &[NodeSlot]) -> Result<NodeNumbers, NoMemory>
+    ensures { IfOk result (λ numbers. numbers ≡ deciders_at tree.now nodes.now) }
+{
+    let mut numbers = NodeNumbers::new(alloc);
+    let mut i = nodes.len();
+    while i > 0 {
+        i -= 1;
+        let part = nodes[i].tracks.part(tree);
+        if decides(&part) {
+            numbers = placed(alloc, nodes[i].addr.node, &numbers)?;
+        }
+    }
+    Ok(numbers)
+}
+
+// The line where nobody differs.
+fn agreed_line(tree: &Aaid, nodes: &[NodeSlot]) -> OutLine
+    ensures { result ≡ agreed_line_at tree.now nodes.now }
+{
+    let aaid = *tree;
+    if all_told(Outcome::Commit, tree, nodes) {
+        let outcome = Outcome::Commit;
+        return OutLine::Agreed { aaid, outcome };
+    }
+    if all_told(Outcome::Rollback, tree, nodes) {
+        let outcome = Outcome::Rollback;
+        return OutLine::Agreed { aaid, outcome };
+    }
+    OutLine::Open { aaid }
+}
+
+fn closing_line(alloc: Global, tree: &Aaid, nodes: &[NodeSlot]) -> Result<OutLine, NoMemory>
+    ensures { IfOk result (λ line. line ≡ closing_line_at tree.now nodes.now) }
+{
+    if some_told(Outcome::Commit, tree, nodes) && some_told(Outcome::Rollback, tree, nodes) {
+        let by = deciders(alloc, tree, nodes)?;
+        return Ok(OutLine::Mixed { aaid: *tree, by });
+    }
+    Ok(agreed_line(tree, nodes))
+}
+
+// One line for each of the trees.
+#[tactic(auto, using(crate::proofs::ToldAt::line_next))]
+fn closing_lines(alloc: Global, trees: &[Aaid], nodes: &[NodeSlot]) -> Result<OutLines, NoMemory>
+    ensures { IfOk result (λ lines. lines ≡ closing_at nodes.now trees.now) }
+{
+    let mut lines = OutLines::new(alloc);
+    for i in 0..trees.len() {
+        let line = closing_line(alloc, &trees[i], nodes)?;
+        lines.push(alloc, line)?;
+    }
+    Ok(lines)
+}
+
+impl Ground {
+    /// One line for each tree, in the order of their starts.
+    #[tactic(auto, using(crate::proofs::Tellings::closing_same))]
+    pub(crate) fn closing(&self, alloc: Global) -> Result<OutLines, NoMemory>
+        ensures { IfOk result (λ lines. (w : WorldValue) → Stands w self.now → lines ≡ closing w) }
+    {
+        closing_lines(alloc, self.trees.as_slice(), self.nodes.as_slice())
+    }
+}

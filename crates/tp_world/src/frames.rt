@@ -1,0 +1,168 @@
+//! The frames of a world.
+ghost use Rattle.std.specs.Prelude.{◌≡◌, ◌++◌, ◌∷◌, [], ◌+◌, ◌≤◌, ◌<◌, true, false, length, map, IfOk, IfErr, IfSome, OnErr};
+ghost use Rattle.std.specs.Option.{option_map, option_copied};
+ghost use Rattle.tp_model.specs.World.{find_frame, mark_handed, oldest_from};
+ghost use Rattle.tp_world.specs.Frames.{frame_of, is_between, leading, IsFull};
+
+use crate::fault::WorldFault;
+use std::alloc::Global;
+use std::marker::Model;
+use tp_model::What;
+use tp_names::{Addr, NoMemory};
+use tp_records::PeerRecord;
+
+/// The most frames that may be sent.
+const MOST_FRAMES: usize = 65535;
+
+/// A frame that was sent, and whether it was handed over.
+#[derive(Debug, Drop)]
+pub(crate) struct Frame {
+    pub(crate) from: Addr,
+    pub(crate) to: Addr,
+    pub(crate) rec: PeerRecord,
+    handed: bool,
+}
+
+/// All frames that were ever sent, in order; their numbers begin with 1. All before `first` were handed over.
+#[derive(Debug, Drop)]
+pub(crate) struct Frames {
+    items: Vec<Frame>,
+    first: usize,
+}
+
+#[tactic(auto, using(crate::proofs::Oldest::leads_more, crate::proofs::Oldest::leads_to, crate::proofs::Oldest::leads_all))]
+// The place of the first frame that is not handed over, sought from a place on before which all are.
+fn first_unhanded(frames: &[Frame], from: usize) -> usize
+    requires { from ≤ leading frames.now }
+    ensures { result ≡ leading frames.now }
+{
+    let mut i = from;
+    while i < frames.len() && frames[i].handed {
+        i += 1;
+    }
+    i
+}
+
+// The frame at that place counts as handed over, where there is one.
+#[tactic(auto, using(crate::proofs::Oldest::mark_there, crate::proofs::Oldest::mark_leads))]
+fn mark_at(frames: &mut [Frame], place: usize)
+    ensures marked { map frame_of frames.new ≡ mark_handed (map frame_of frames.old) (place + 1) }
+    ensures leads { leading frames.old ≤ leading frames.new }
+{
+    if place < frames.len() {
+        frames[place].handed = true;
+    }
+}
+
+// The place of the first frame from the one node to the other that is not handed over.
+#[tactic(auto, using(crate::proofs::Oldest::next_between, crate::proofs::Oldest::found_between))]
+fn place_between(frames: &[Frame], first: usize, from: u16, to: u16) -> Option<usize>
+    requires { first ≤ leading frames.now }
+    ensures place { option_map (λ i. i + 1) result ≡ oldest_from 0 (is_between from to) (map frame_of frames.now) }
+    ensures there { IfSome result (λ i. i < length frames.now) }
+{
+    for i in first..frames.len() {
+        let frame = &frames[i];
+        if !frame.handed && frame.from.node == from && frame.to.node == to {
+            return Some(i);
+        }
+    }
+    None
+}
+
+impl Model for Frames {
+    ghost use Rattle.std.specs.Prelude.{List};
+    ghost use Rattle.tp_model.specs.World.{Frame as FrameValue};
+    ghost use Rattle.tp_world.specs.Frames.{frames_of, AreNumbered};
+
+    ghost Value = { List FrameValue };
+
+    ghost view = { frames_of };
+
+    ghost invariant = { AreNumbered };
+}
+
+impl Frames {
+    /// No frames.
+    pub(crate) fn new(alloc: Global) -> Frames
+        ensures { result ≡ [] }
+    {
+        Frames {
+            items: Vec::new(alloc),
+            first: 0,
+        }
+    }
+
+    /// The frame of that number.
+    /// The frame of that number.
+    #[tactic(auto, using(crate::proofs::Oldest::found_number, crate::proofs::Oldest::unfound_number))]
+    pub(crate) fn find(&self, number: u16) -> Option<&Frame>
+        ensures { option_map frame_of (option_copied result) ≡ find_frame self.now number }
+    {
+        if number == 0 {
+            return None;
+        }
+        let place = number as usize - 1;
+        if place >= self.items.len() {
+            return None;
+        }
+        Some(&self.items[place])
+    }
+
+    /// Puts a frame behind the others, and tells its number.
+    #[tactic(auto, using(crate::proofs::Oldest::leading_behind))]
+    pub(crate) fn send(&mut self, from: Addr, to: Addr, rec: PeerRecord) -> Result<u16, WorldFault>
+        ensures ok { IfOk result (λ number. (number ≡ length self.old + 1) × (self.new ≡ self.old ++ record { from = from; to = to; rec = rec; handed = false } ∷ [])) }
+        ensures err { OnErr result (self.new ≡ self.old) }
+        ensures full { IfErr result (IsFull (length self.old)) }
+    {
+        let number = self.items.len() + 1;
+        if number > MOST_FRAMES {
+            return Err(WorldFault::Limit { what: What::Frames });
+        }
+        let pushed: Result<(), NoMemory> = self
+            .items
+            .push(Frame {
+                from,
+                to,
+                rec,
+                handed: false,
+            })
+            .map_err(NoMemory::from);
+        pushed?;
+        Ok(number as u16)
+    }
+
+    /// That frame counts as handed over.
+    pub(crate) fn mark(&mut self, number: u16)
+        ensures { self.new ≡ mark_handed self.old number }
+    {
+        if number == 0 {
+            return;
+        }
+        mark_at(self.items.as_mut_slice(), number as usize - 1);
+        self.first = first_unhanded(self.items.as_slice(), self.first);
+    }
+
+    /// The number of the oldest frame that is not handed over.
+    #[tactic(auto, using(crate::proofs::Oldest::oldest_there, crate::proofs::Oldest::oldest_missing))]
+    pub(crate) fn oldest(&self) -> Option<u16>
+        ensures { result ≡ oldest_from 0 (λ f. true) self.now }
+    {
+        if self.first < self.items.len() {
+            Some((self.first + 1) as u16)
+        } else {
+            None
+        }
+    }
+
+    /// The number of the oldest frame from the one node to the other that is not handed over.
+    pub(crate) fn oldest_between(&self, from: u16, to: u16) -> Option<u16>
+        ensures { result ≡ oldest_from 0 (is_between from to) self.now }
+    {
+        match place_between(self.items.as_slice(), self.first, from, to) {
+            None => None,
+            Some(place) => Some((place + 1) as u16),
+        }
+    }
+}

@@ -1,0 +1,25 @@
+//! A world of nodes under a written schedule: sites with their logs in memory, frames between nodes, and trees.
+//!
+//! What a line does stands with the definitions of the service. No history is kept here: of each node and tree the few
+//! facts are kept that the closing lines ask. Crashes, images and members are not built yet.
+#![tactic(auto)]
+
+mod closing;
+mod fault;
+mod frames;
+mod ground;
+mod named;
+mod nodes;
+mod part;
+mod play;
+mod requests;
+mod shown;
+mod site_slot;
+mod sites;
+#[cfg(test)]
+mod tests;
+mod tracks;
+mod world;
+
+pub use fault::WorldFault;
+pub use world::World;

@@ -1,0 +1,131 @@
+//! The nodes of a world.
+ghost use Rattle.std.specs.Prelude.{◌≡◌, ◌++◌, ◌∷◌, [], ◌<◌, length, map, slice_index_or, OnOk};
+ghost use Rattle.tp_names.specs.Same.{is_name};
+ghost use Rattle.tp_world.specs.declared.nodes.NodeSlot.{NodeSlot};
+ghost use Rattle.tp_world.specs.Nodes.{address_at, IsDeclared, AreStepped, place_of_number};
+
+use crate::part::Step;
+use crate::tracks::Tracks;
+use std::alloc::Global;
+use std::marker::Model;
+use tp_names::same::is_name;
+use tp_names::{Addr, NoMemory, SiteName};
+
+/// A node: where it is, what it is declared with after each start of its site, and its parts in trees.
+#[derive(Debug, Drop)]
+pub(crate) struct NodeSlot {
+    pub(crate) addr: Addr,
+    pub(crate) superior: Option<Addr>,
+    pub(crate) tracks: Tracks,
+}
+
+/// The nodes of a world, in the order of their declarations.
+#[derive(Debug, Drop)]
+pub(crate) struct Nodes {
+    items: Vec<NodeSlot>,
+}
+
+impl Model for Nodes {
+    ghost use Rattle.std.specs.Prelude.{List};
+    ghost use Rattle.tp_world.specs.declared.nodes.NodeSlot.{NodeSlot};
+
+    ghost Value = { List NodeSlot };
+
+    ghost view = { λ s. s.items.items };
+}
+
+impl Nodes {
+    /// No nodes.
+    pub(crate) fn new(alloc: Global) -> Nodes
+        ensures { result ≡ [] }
+    {
+        Nodes {
+            items: Vec::new(alloc),
+        }
+    }
+
+    /// How many there are.
+    pub(crate) fn count(&self) -> usize
+        ensures { result ≡ length self.now }
+    {
+        self.items.len()
+    }
+
+    /// The nodes, in order.
+    pub(crate) fn as_slice(&self) -> &[NodeSlot]
+        ensures { result.now ≡ self.now }
+    {
+        self.items.as_slice()
+    }
+
+    /// The node at that place.
+    pub(crate) fn at(&self, place: usize) -> &NodeSlot
+        requires { place < length self.now }
+        ensures { (d : NodeSlot) → result.now ≡ slice_index_or self.now place d }
+    {
+        &self.items[place]
+    }
+
+    /// The address of the node of that number.
+    #[tactic(auto, using(crate::proofs::Numbers::found_at, crate::proofs::Numbers::found_not))]
+    pub(crate) fn addr(&self, number: u16) -> Option<Addr>
+        ensures { result ≡ address_at self.now number }
+    {
+        let place = place_of(self.items.as_slice(), number);
+        if place >= self.items.len() {
+            return None;
+        }
+        Some(self.items[place].addr)
+    }
+
+    /// Puts a node behind the others.
+    pub(crate) fn declare(
+        &mut self,
+        alloc: Global,
+        addr: Addr,
+        superior: Option<Addr>,
+    ) -> Result<(), NoMemory>
+        ensures { OnOk result ((x : NodeSlot) × IsDeclared addr superior x × (self.new ≡ self.old ++ x ∷ [])) }
+    {
+        self.items.push(NodeSlot {
+            addr,
+            superior,
+            tracks: Tracks::new(alloc),
+        })?;
+        Ok(())
+    }
+
+    /// The node's parts in trees behind an entry.
+    #[tactic(auto, using(crate::proofs::SteppedNodes::stepped_none, crate::proofs::SteppedNodes::stepped_there))]
+    pub(crate) fn step(&mut self, number: u16, step: &Step) -> Result<(), NoMemory>
+        ensures { OnOk result (AreStepped number step.now self.old self.new) }
+    {
+        let place = place_of(self.items.as_slice(), number);
+        if place >= self.items.len() {
+            return Ok(());
+        }
+        self.items[place].tracks.step(step)
+    }
+}
+
+// The place of the node of that number; behind all where there is none.
+#[tactic(auto, using(crate::proofs::Numbers::place_next, crate::proofs::Numbers::place_here))]
+fn place_of(nodes: &[NodeSlot], number: u16) -> usize
+    ensures { result ≡ place_of_number nodes.now number }
+{
+    for i in 0..nodes.len() {
+        if nodes[i].addr.node == number {
+            return i;
+        }
+    }
+    nodes.len()
+}
+
+impl NodeSlot {
+    /// The node is at that site.
+    pub(crate) fn is_at(&self, site: &SiteName) -> bool
+        ensures { result ≡ is_name self.now.addr.site site.now }
+    {
+        is_name(&self.addr.site, site)
+    }
+}

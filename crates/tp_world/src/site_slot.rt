@@ -1,0 +1,194 @@
+//! A site of a world, on a log in memory.
+ghost use Rattle.std.specs.Prelude.{◌≡◌, IfOk, OnOk, Some};
+ghost use Rattle.tp_outside.specs.MemDisk.{recorded};
+ghost use Rattle.tp_journal.specs.Told.{IsOn};
+ghost use Rattle.std.specs.Option.{option_map};
+ghost use Rattle.tp_model.specs.History.{state};
+ghost use Rattle.tp_model.specs.Outcomes.{is_unchanged};
+ghost use Rattle.tp_site.specs.NodeEvent.{event_of};
+ghost use Rattle.tp_site.specs.Site.{known_at, state_at};
+ghost use Rattle.tp_site.specs.State.{state_of, tree_in};
+ghost use Rattle.tp_world.specs.Slots.{blank_file, IsBlank, IsFresh, shown_behind, Declares, SlotPlays};
+
+use crate::fault::WorldFault;
+use crate::part::Step;
+use crate::shown::log_shown;
+use std::alloc::Global;
+use tp_journal::{Journal, format};
+use tp_logrec::LogRec;
+use tp_model::{LogWords, What};
+use tp_names::{Addr, NoMemory, Octets, SiteName};
+use tp_outside::MemDisk;
+use tp_records::{PeerRecord, Request};
+use tp_site::{NodeEvent, NodeState, NodeTree, Outs, Site, SiteFault};
+
+/// An entry of a node's history: what it says, and what it shows of trees.
+#[derive(Debug, Drop)]
+pub(crate) struct Entry {
+    pub(crate) outs: Outs,
+    pub(crate) step: Step,
+}
+
+/// What a node answers to an event: the number of a refusal, and the entry that its history gains.
+#[derive(Debug, Drop)]
+pub(crate) struct Answer {
+    pub(crate) number: Option<u8>,
+    pub(crate) entry: Option<Entry>,
+}
+
+/// A site of a world.
+#[derive(Drop)]
+pub(crate) struct SiteSlot {
+    site: Site<Journal<MemDisk>>,
+}
+
+fn is_unchanged(event: &NodeEvent<'_>) -> bool
+    ensures { result ≡ is_unchanged (event_of event.now) }
+{
+    matches!(
+        event,
+        NodeEvent::Do {
+            request: Request::Unchanged
+        }
+    )
+}
+
+// What is shown of the record behind the first so many, where there is one.
+fn forced(records: &[LogRec], count: usize) -> Option<LogWords>
+    ensures { result ≡ shown_behind records.now count }
+{
+    match records.get(count) {
+        Some(rec) => Some(log_shown(rec)),
+        None => None,
+    }
+}
+
+// A disk with a fresh log of version 2. A disk in memory fails for want of memory alone.
+fn blank_disk(alloc: Global) -> Result<MemDisk, NoMemory>
+    ensures { IfOk result (λ disk. IsOn (Some (recorded disk).story) blank_file) }
+{
+    let mut disk = MemDisk::from(alloc, Octets::new(alloc));
+    match format(&mut disk) {
+        Ok(()) => Ok(disk),
+        Err(_failed) => Err(NoMemory),
+    }
+}
+
+// A journal on that disk.
+fn blank(alloc: Global, disk: MemDisk) -> Result<Journal<MemDisk>, NoMemory>
+    requires { IsOn (Some (recorded disk).story) blank_file }
+    ensures { IfOk result IsBlank }
+{
+    match Journal::start(alloc, disk) {
+        Ok(journal) => Ok(journal),
+        Err((_disk, _fault)) => Err(NoMemory),
+    }
+}
+
+impl SiteSlot {
+    /// A new site, on a fresh log, which has room for its first boot: all that it wants is memory.
+    pub(crate) fn fresh(alloc: Global, name: SiteName) -> Result<SiteSlot, NoMemory>
+        ensures { IfOk result (IsFresh name) }
+    {
+        let disk = blank_disk(alloc)?;
+        match Site::start(alloc, blank(alloc, disk)?, name) {
+            Ok(site) => Ok(SiteSlot { site }),
+            Err((_journal, _fault)) => Err(NoMemory),
+        }
+    }
+
+    /// Its name.
+    pub(crate) fn name(&self) -> SiteName
+        ensures { result ≡ self.now.site.nodes.site }
+    {
+        self.site.name()
+    }
+
+    /// The boot number of its start.
+    pub(crate) fn boot(&self) -> u64
+        ensures { result ≡ self.now.site.nodes.boot }
+    {
+        self.site.boot()
+    }
+
+    /// The tree of that node's current transaction.
+    pub(crate) fn tree(&self, node: u16) -> Option<NodeTree>
+        ensures { result ≡ tree_in (known_at self.now.site node) }
+    {
+        self.site.tree(node)
+    }
+
+    /// What is shown of that node.
+    pub(crate) fn state(&self, node: u16) -> Option<NodeState>
+        ensures { option_map state_of result ≡ state_at self.now.site node }
+    {
+        self.site.state(node)
+    }
+
+    /// What is shown of that node, declared or not.
+    pub(crate) fn shown(&self, node: u16) -> NodeState
+        ensures { state_of result ≡ state (known_at self.now.site node) }
+    {
+        self.site.shown(node)
+    }
+
+    /// The records of its log.
+    pub(crate) fn records(&self) -> &[LogRec]
+        ensures { result.now ≡ self.now.site.keeper.list }
+    {
+        self.site.log().list()
+    }
+
+    /// An event of the node of that number.
+    pub(crate) fn play(
+        &mut self,
+        alloc: Global,
+        node: u16,
+        event: &NodeEvent<'_>,
+    ) -> Result<Answer, WorldFault>
+        ensures { SlotPlays self.old node (event_of event.now) result self.new }
+    {
+        let before = self.tree(node);
+        let count = self.records().len();
+        match self.site.play(alloc, node, event) {
+            Ok(played) => Ok(Answer {
+                number: played.number,
+                entry: Some(Entry {
+                    outs: played.outs,
+                    step: Step {
+                        before,
+                        behind: self.tree(node),
+                        leaves: is_unchanged(event),
+                        rec: forced(self.records(), count),
+                    },
+                }),
+            }),
+            Err(SiteFault::Refused(number)) => Ok(Answer {
+                number: Some(number),
+                entry: None,
+            }),
+            Err(SiteFault::Full { .. }) => Err(WorldFault::Limit { what: What::Log }),
+            Err(_) => Err(WorldFault::NoMemory),
+        }
+    }
+
+    /// The node is declared. No record is forced for it: all that it wants is memory.
+    pub(crate) fn declare(
+        &mut self,
+        alloc: Global,
+        node: u16,
+        superior: &Option<Addr>,
+    ) -> Result<(), NoMemory>
+        ensures { OnOk result (Declares self.old node superior.now self.new) }
+    {
+        let _rec: Option<&PeerRecord> = None;
+        let _request: Option<&Request> = None;
+        let event = NodeEvent::Declare {
+            superior: *superior,
+        };
+        match self.play(alloc, node, &event) {
+            Ok(_answer) => Ok(()),
+            Err(_fault) => Err(NoMemory),
+        }
+    }
+}

@@ -1,0 +1,10 @@
+mod Fronts
+mod Behind
+mod Texts
+mod Ended
+mod Left
+mod SoFar
+mod Ending
+mod Undriven
+mod Transcribed
+mod Promised

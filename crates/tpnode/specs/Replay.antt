@@ -1,0 +1,44 @@
+-- What a run of `replay` writes, by how it ends: all that is shown of the schedule; or, where the source or the sink failed or memory
+-- was wanting, a front part of it.
+use Rattle.std.specs.Prelude.{ℕ, ◌≡◌, Option, Some, List, ◌++◌}
+use Rattle.tp_records.specs.declared.request.Request.{Request}
+use Rattle.tp_model.specs.Transcript.{Done, Bad_input, At_limit, transcript}
+use Rattle.tpnode.specs.declared.status.BadLine.{BadLine}
+use Rattle.tpnode.specs.declared.status.Status.{Status}
+use Rattle.tpnode.specs.Shown.{Shown, End, Ends, Unbuilt, written, shown}
+
+-- the first is a front part of the second
+abbrev pub IsFront : List ℕ → List ℕ → Type 0
+IsFront xs ys = (more : List ℕ) × (ys ≡ xs ++ more)
+
+-- some of it was written
+abbrev pub WritesFront : List ℕ → List ℕ → Option (List ℕ) → Type 0
+WritesFront before all new = (part : List ℕ) × IsFront part all × (new ≡ Some (before ++ part))
+
+abbrev pub ending_of : ℕ → BadLine → End
+ending_of at (BadLine.Bad why) = Ends (Bad_input at why)
+ending_of at BadLine.Unbuilt = Unbuilt at
+
+-- all of it was written, and the run ends so
+pub record WritesAll (before : List ℕ) (s : Shown) (e : End) (new : Option (List ℕ)) : Type 0 where
+  pub whole : new ≡ Some (before ++ written s)
+  pub ending : s.ending ≡ e
+
+-- behind the bytes that were written before
+abbrev pub Writes : List ℕ → Shown → Status → Option (List ℕ) → Type 0
+Writes before s Status.Ok new = WritesAll before s (Ends Done) new
+Writes before s Status.Usage new = ⊥
+Writes before s (Status.BadInput at why) new = WritesAll before s (ending_of at why) new
+Writes before s (Status.Limit what at) new = WritesAll before s (Ends (At_limit what at)) new
+-- no closing lines
+Writes before s (Status.ReadFault faults) new = WritesFront before s.lines new
+Writes before s (Status.WriteFault faults) new = WritesFront before (written s) new
+Writes before s Status.NoMemory new = WritesFront before (written s) new
+
+-- ---- the transcript
+
+-- the transcript of these bytes is what is shown, and ends so, whatever members answer
+pub record IsTranscript (bytes : List ℕ) (answers : List (Option Request)) : Type 0 where
+  pub written : (transcript bytes answers).written ≡ written (shown bytes)
+  pub ending : Ends (transcript bytes answers).ending ≡ (shown bytes).ending
+  pub world : (transcript bytes answers).world ≡ (shown bytes).world

@@ -1,0 +1,91 @@
+//! One line of a schedule, from its bytes to the bytes that it shows.
+ghost use Rattle.std.specs.Prelude.{◌≡◌, IfErr, IfOk};
+ghost use Rattle.tp_model.specs.LineReading.{read_line};
+ghost use Rattle.tp_model.specs.OutText.{out_texts};
+ghost use Rattle.tp_model.specs.World.{World as WorldValue};
+ghost use Rattle.tp_world.specs.World.{Stands};
+ghost use Rattle.tpnode.specs.Status.{IsEndAt};
+ghost use Rattle.tpnode.specs.Shown.{line_shown, reading_shown};
+ghost use Rattle.tpnode.specs.Playing.{IsShown, unread_as, unplayed_as};
+
+use crate::status::{BadLine, Status};
+use std::alloc::Global;
+use tp_model::{Line, OutLines, Why};
+use tp_names::{NoMemory, Octets};
+use tp_schedule::{LineFault, read_line, write_out};
+use tp_world::{World, WorldFault};
+
+/// The text of these lines, each with its end.
+#[tactic(auto, using(crate::proofs::Texts::texts_more))]
+pub fn texts_of(alloc: Global, lines: &OutLines) -> Result<Octets, NoMemory>
+    ensures { IfOk result (λ text. text ≡ out_texts lines.now) }
+{
+    let mut text = Octets::new(alloc);
+    for line in lines.as_slice() {
+        write_out(alloc, line, &mut text)?;
+        text.push(alloc, b'\n')?;
+    }
+    Ok(text)
+}
+
+// The status of a run that ends in the line of that number, since it does not read.
+fn unread(fault: LineFault, at: u64) -> Status
+    ensures { result ≡ unread_as at fault }
+{
+    let why = match fault {
+        LineFault::Long => Why::Long,
+        LineFault::Word => Why::Word,
+        LineFault::Number => Why::Number,
+        LineFault::NoMemory => return Status::NoMemory,
+    };
+    Status::BadInput {
+        at,
+        why: BadLine::Bad(why),
+    }
+}
+
+// The status of a run that ends in the line of that number, since the world does not play it.
+fn unplayed(fault: WorldFault, at: u64) -> Status
+    ensures { result ≡ unplayed_as at fault }
+{
+    match fault {
+        WorldFault::Name => Status::BadInput {
+            at,
+            why: BadLine::Bad(Why::Name),
+        },
+        WorldFault::Limit { what } => Status::Limit { what, at },
+        WorldFault::Unbuilt => Status::BadInput {
+            at,
+            why: BadLine::Unbuilt,
+        },
+        WorldFault::NoMemory => Status::NoMemory,
+    }
+}
+
+// What a line shows, as text.
+#[tactic(auto, using(crate::proofs::Ended::plays_shown, crate::proofs::Ended::unplayed_ends, crate::proofs::Ended::unplayed_at))]
+fn play_line(alloc: Global, world: &mut World, line: &Line, at: u64) -> Result<Octets, Status>
+    ensures ending { IfErr result (IsEndAt at) }
+    ensures shown { (w : WorldValue) → Stands w world.old → IsShown (line_shown at w line.now) result world.new }
+{
+    match world.line(alloc, line) {
+        Ok(lines) => match texts_of(alloc, &lines) {
+            Ok(text) => Ok(text),
+            Err(NoMemory) => Err(Status::NoMemory),
+        },
+        Err(fault) => Err(unplayed(fault, at)),
+    }
+}
+
+#[tactic(auto, using(crate::proofs::Ended::blank_shown, crate::proofs::Ended::said_shown, crate::proofs::Ended::unread_ends, crate::proofs::Ended::unread_at))]
+/// What the line of that number, without its end, shows; the status where the run ends in it.
+pub fn play_text(alloc: Global, world: &mut World, text: &[u8], at: u64) -> Result<Octets, Status>
+    ensures ending { IfErr result (IsEndAt at) }
+    ensures shown { (w : WorldValue) → Stands w world.old → IsShown (reading_shown at w (read_line text.now)) result world.new }
+{
+    match read_line(alloc, text) {
+        Ok(None) => Ok(Octets::new(alloc)),
+        Ok(Some(line)) => play_line(alloc, world, &line, at),
+        Err(fault) => Err(unread(fault, at)),
+    }
+}
