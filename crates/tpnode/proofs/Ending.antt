@@ -1,5 +1,6 @@
 -- A replay that ends behind a line that was not played.
 use Rattle.std.proofs.Common.{◌≡◌, ◌++◌, ◌+◌, ℕ, suc, List, [], ◌∷◌, Option, Some, refl, ap, subst, sym, ◌∙◌, append_assoc}
+use Rattle.std.proofs.lemmas.List.{append-nil}
 use Rattle.tp_model.specs.World.{World}
 use Rattle.tp_model.specs.Transcript.{RawLine, taken_by, At_limit}
 use Rattle.tp_schedule.specs.LinesLeft.{Place}
@@ -11,12 +12,8 @@ use Rattle.tpnode.specs.Playing.{PlaysFirst, StopsSo}
 use Rattle.tpnode.proofs.Fronts.{front_none, front_more}
 use Rattle.tpnode.proofs.SoFar.{SoFar, stops_there, goes_behind, writes_behind}
 
-append_none : (xs : List ℕ) → xs ++ [] ≡ xs
-append_none [] = refl
-append_none (x ∷ xs) = ap (λ ys. x ∷ ys) (append_none xs)
-
 wrote_none : (all : List ℕ) (w : World) (e : End) (now : Option (List ℕ)) → now ≡ Some all → WritesAll all (ends w e) e now
-wrote_none all w e now is = record { whole = is ∙ ap Some (sym (append_none all)); ending = refl }
+wrote_none all w e now is = record { whole = is ∙ ap Some (sym (append-nil all)); ending = refl }
 
 -- nothing more is written
 stopped : (at before : ℕ) (w : World) (ls : List RawLine) (status : Status) (all : List ℕ) (now : Option (List ℕ)) → StopsSo at before w ls status → now ≡ Some all
@@ -30,9 +27,9 @@ stopped at before w ls status all now h is = go status h
         subst (λ s. WritesAll all s (ending_of n why) now) (sym (ap (shown_from at before w) h.is ∙ stops_there at before w h.first h.rest (ending_of n why) h.ends)) (wrote_none all w (ending_of n why) now is)
     go (Status.Limit what n) h =
         subst (λ s. WritesAll all s (Ends (At_limit what n)) now) (sym (ap (shown_from at before w) h.is ∙ stops_there at before w h.first h.rest (Ends (At_limit what n)) h.ends)) (wrote_none all w (Ends (At_limit what n)) now is)
-    go (Status.ReadFault n) h = ([], front_none (shown_from at before w ls).lines, is ∙ ap Some (sym (append_none all)))
+    go (Status.ReadFault n) h = ([], front_none (shown_from at before w ls).lines, is ∙ ap Some (sym (append-nil all)))
     go (Status.WriteFault n) h = absurd h
-    go Status.NoMemory h = ([], front_none (written (shown_from at before w ls)), is ∙ ap Some (sym (append_none all)))
+    go Status.NoMemory h = ([], front_none (written (shown_from at before w ls)), is ∙ ap Some (sym (append-nil all)))
 
 pub ends_so : (at : ℕ) (bytes before : List ℕ) (v : Ground) (place : Place) (left start now : Option (List ℕ)) (status : Status)
     → (s : SoFar at bytes v place left start now) → start ≡ Some before → StopsSo at place.before s.world s.lines status → Writes before (shown bytes) status now

@@ -1,5 +1,6 @@
 -- How far a replay has come: what it has written, and what is left of the schedule.
 use Rattle.std.proofs.Common.{◌≡◌, ◌≤◌, ◌+◌, ◌++◌, ℕ, suc, Bool, true, false, nat_lt, List, [], ◌∷◌, Option, Some, None, refl, ap, subst, sym, ◌∙◌, append_assoc, arith}
+use Rattle.std.proofs.lemmas.List.{append-nil}
 use Rattle.std.proofs.lemmas.Bool.Decides.{nat_tests}
 use Rattle.std.specs.Prelude.{option_map}
 use Rattle.tp_model.specs.World.{World, empty_world}
@@ -14,10 +15,6 @@ use Rattle.tpnode.specs.Replay.{IsFront, WritesFront, WritesAll, Writes, ending_
 use Rattle.tpnode.specs.Playing.{first_shown, PlaysFirst}
 use Rattle.tpnode.proofs.Behind.{takes_some}
 use Rattle.tpnode.proofs.Fronts.{front_behind}
-
-append_none : (xs : List ℕ) → xs ++ [] ≡ xs
-append_none [] = refl
-append_none (x ∷ xs) = ap (λ ys. x ∷ ys) (append_none xs)
 
 pub record SoFar (at : ℕ) (bytes : List ℕ) (v : Ground) (place : Place) (left start now : Option (List ℕ)) : Type 0 where
   pub world : World
@@ -40,7 +37,7 @@ at_start bytes v left start stands is = record {
   ahead = rw is refl;
   numbered = omega arith;
   within = omega arith;
-  wrote = λ before wrote. wrote ∙ ap Some (sym (append_none before));
+  wrote = λ before wrote. wrote ∙ ap Some (sym (append-nil before));
   shows = refl;
 }
 
@@ -62,8 +59,8 @@ goes_behind at before w l ls text v is = cases (nat_lt 1048576 (before + taken_b
     cases true x = absurd (grind (arith, is, x))
     cases false x = grind (arith, is, x)
 
-within_limit : (at before : ℕ) (w : World) (l : RawLine) (text : List ℕ) (v : World) → first_shown at before w l ≡ Goes text v → before + taken_by l ≤ 1048576
-within_limit at before w l text v is = cases (nat_lt 1048576 (before + taken_by l)) refl
+goes_within : (at before : ℕ) (w : World) (l : RawLine) (text : List ℕ) (v : World) → first_shown at before w l ≡ Goes text v → before + taken_by l ≤ 1048576
+goes_within at before w l text v is = cases (nat_lt 1048576 (before + taken_by l)) refl
   where
     cases : (b : Bool) → nat_lt 1048576 (before + taken_by l) ≡ b → before + taken_by l ≤ 1048576
     cases true x = absurd (grind (arith, is, x))
@@ -88,7 +85,7 @@ further at bytes v place left start now text new_place unread new then s p write
   stands = p.stands;
   ahead = p.left;
   numbered = let more = of_bytes place left p.first p.rest (s.ahead ∙ ap Some p.is) in let passed = p.passed in let was = s.numbered in omega (arith, more, passed, was);
-  within = subst (λ n. n ≤ 1048576) (sym p.passed) (within_limit at place.before s.world p.first text p.world p.shows);
+  within = subst (λ n. n ≤ 1048576) (sym p.passed) (goes_within at place.before s.world p.first text p.world p.shows);
   wrote = λ before h. writes (before ++ s.text) (s.wrote before h) ∙ ap Some (append_assoc before s.text text);
   shows = s.shows
       ∙ ap (λ ls. behind s.text (shown_from at place.before s.world ls)) p.is

@@ -1,5 +1,6 @@
 -- Where every line was built, what is shown is the transcript, whatever members answer: nobody asks them.
 use Rattle.std.proofs.Common.{◌≡◌, ◌∙◌, ◌++◌, ◌+◌, ℕ, suc, nat_lt, Bool, true, false, refl, sym, ap, subst, Option, Some, None, List, [], ◌∷◌, Result, Ok, Err, append_assoc, arith, if◌then◌else◌}
+use Rattle.std.proofs.lemmas.List.{append-nil}
 use Rattle.tp_records.specs.declared.request.Request.{Request}
 use Rattle.tp_model.specs.declared.line.Line.{Line}
 use Rattle.tp_model.specs.declared.out_line.OutLine.{OutLine}
@@ -23,10 +24,6 @@ nobody w (t ∷ ts) f = rw (puts_of, f) (nobody w ts f)
 unasked : (answers : List (Option Request)) (w : World) → answered answers 0 w [] ≡ record { world = w; lines = []; puts = []; left = answers; fault = None }
 unasked [] w = refl
 unasked (a ∷ answers) w = refl
-
-append_none : {A : Type 0} → (xs : List A) → xs ++ [] ≡ xs
-append_none [] = refl
-append_none (x ∷ xs) = ap (λ ys. x ∷ ys) (append_none xs)
 
 -- the transcript is what is shown, where every line was built
 abbrev Same : Transcript → Shown → Type 0
@@ -63,7 +60,7 @@ same_turn at answers w x (Ok t) rest after free each = subst (λ p. Same (plays_
     same whole =
         let h = each t refl whole in
         let s = after t.world in (
-          ap (λ ls. out_texts ls ++ (rest (alone answers t.world all)).written) (append_none all)
+          ap (λ ls. out_texts ls ++ (rest (alone answers t.world all)).written) (append-nil all)
               ∙ ap (λ v. out_texts all ++ v) h.0
               ∙ sym (append_assoc (out_texts all) s.lines s.closing),
           h.1,
