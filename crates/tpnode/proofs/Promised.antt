@@ -10,7 +10,7 @@ use Rattle.tp_model.specs.Transcript.{RawLine, At_limit, raw_lines, content, tak
 use Rattle.tp_model.specs.Promises.{Promised}
 use Rattle.tp_laws.specs.Expansion.{IsOfRun}
 use Rattle.tp_laws.proofs.LineRuns.{LeavesRun, run_line, of_run}
-use Rattle.tp_laws.proofs.DrainedCommits.{promised}
+use Rattle.tp_laws.proofs.Promises.{promised}
 use Rattle.tp_world.specs.Built.{is_built}
 use Rattle.tpnode.specs.Shown.{Ends, Unbuilt, Shown, Stops, ends, then_shown, turn_shown, reading_shown, shown_from, shown}
 

@@ -1,4 +1,4 @@
-use Rattle.tp_laws.proofs.Starts.{all_legal}
+use Rattle.tp_histories.proofs.worlds.Starts.{all_legal}
 use Rattle.tp_laws.proofs.all_legal.Goals as goal
 
 pub returns : goal.returns

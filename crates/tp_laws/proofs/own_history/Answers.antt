@@ -1,4 +1,4 @@
-use Rattle.tp_laws.proofs.LaneRecords.{own_history_law}
+use Rattle.tp_runs.proofs.LaneRecords.{own_history_law}
 use Rattle.tp_laws.proofs.own_history.Goals as goal
 
 pub returns : goal.returns

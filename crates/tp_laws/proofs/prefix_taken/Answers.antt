@@ -1,4 +1,4 @@
-use Rattle.tp_laws.proofs.Breaks.{associations}
+use Rattle.tp_runs.proofs.Breaks.{associations}
 use Rattle.tp_laws.proofs.prefix_taken.Goals as goal
 
 pub returns : goal.returns

@@ -1,5 +1,5 @@
-use Rattle.tp_laws.proofs.OrderLog.{run_follows}
-use Rattle.tp_laws.proofs.WellLog.{follow}
+use Rattle.tp_histories.proofs.log.OrderLog.{run_follows}
+use Rattle.tp_histories.proofs.log.WellLog.{follow}
 use Rattle.tp_laws.proofs.records_stay_in_order.Goals as goal
 
 pub returns : goal.returns

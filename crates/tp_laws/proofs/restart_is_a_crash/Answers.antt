@@ -1,5 +1,5 @@
-use Rattle.tp_laws.proofs.RestartLog.{restart_run}
-use Rattle.tp_laws.proofs.WellLog.{restart_is_crash}
+use Rattle.tp_histories.proofs.log.RestartLog.{restart_run}
+use Rattle.tp_histories.proofs.log.WellLog.{restart_is_crash}
 use Rattle.tp_laws.proofs.restart_is_a_crash.Goals as goal
 
 pub returns : goal.returns

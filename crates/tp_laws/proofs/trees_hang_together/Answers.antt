@@ -1,4 +1,4 @@
-use Rattle.tp_laws.proofs.Hanging.{hangs}
+use Rattle.tp_runs.proofs.Hanging.{hangs}
 use Rattle.tp_laws.proofs.trees_hang_together.Goals as goal
 
 pub returns : goal.returns

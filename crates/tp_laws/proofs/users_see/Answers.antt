@@ -1,4 +1,4 @@
-use Rattle.tp_laws.proofs.Users.{users_see}
+use Rattle.tp_runs.proofs.Users.{users_see}
 use Rattle.tp_laws.proofs.users_see.Goals as goal
 
 pub returns : goal.returns

@@ -1,0 +1,14 @@
+pub mod OneHolder
+pub mod Returns
+pub mod Holding
+pub mod HoldingMoves
+pub mod Counting
+pub mod HoldingEvents
+pub mod TookMore
+pub mod Leading
+pub mod LedWords
+pub mod LedTurned
+pub mod LedMoves
+pub mod LedEvents
+pub mod TookBack
+pub mod EndsRounds

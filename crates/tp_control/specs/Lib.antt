@@ -1,0 +1,3 @@
+pub mod Control
+pub mod Holding
+pub mod Leading

@@ -1,0 +1,186 @@
+-- What a node of a drained tree without failure sent was taken, record by record.
+use Rattle.std.proofs.Common.{◌≡◌, ◌≤◌, ◌<◌, ◌⊎◌, inl, inr, ℕ, zero, suc, Bool, true, false, refl, ap, sym, subst, ◌∙◌, arith, Option, Some, List, [], ◌∷◌, ◌++◌, ◌+◌, ◌&&◌, ◌==◌, length, slice_get}
+use Rattle.std.proofs.lemmas.Bool.Decides.{nat_tests}
+use Rattle.std.proofs.lemmas.List.{append-nil}
+use Rattle.std.specs.List.{Any, slice_index_or}
+use Rattle.tp_names.specs.declared.identifiers.Addr.{Addr}
+use Rattle.tp_names.specs.declared.identifiers.Mark.{Mark}
+use Rattle.tp_records.specs.declared.dialogue.DialogueRecord.{DialogueRecord}
+use Rattle.tp_records.specs.declared.peer.PeerRecord.{PeerRecord}
+use Rattle.tp_names.specs.Same.{is_mark}
+use Rattle.tp_model.specs.Parts.{Origin, Event, Entry, Out, Link, Live, Digest}
+use Rattle.tp_model.specs.Arcs.{link_with}
+use Rattle.tp_model.specs.Events.{action}
+use Rattle.tp_model.specs.History.{digest}
+use Rattle.tp_model.specs.Outcomes.{is_failure, has_failed}
+use Rattle.tp_model.specs.World.{Frame, number_of, addr_of, find_node}
+use Rattle.tp_model.specs.Happenings.{Happening, run}
+use Rattle.tp_model.specs.Legal.{IsGrown}
+use Rattle.tp_histories.specs.Histories.{IsSentIn, HasSent}
+use Rattle.tp_runs.specs.Framed.{is_stop, has_stopped, IsFrameTo}
+use Rattle.tp_steps.specs.Traces.{fits, sent_of}
+use Rattle.tp_histories.specs.Traces.{sent_on, taken_on, history_at}
+use Rattle.tp_drained.specs.DrainedWorlds.{HasCome, AllCame, AllTaken}
+use Rattle.tp_steps.specs.Moves.{prelude}
+use Rattle.tp_histories.proofs.worlds.Good.{good_run}
+use Rattle.tp_runs.proofs.Framed.{goes_out}
+use Rattle.tp_steps.proofs.links.Links.{mark_same}
+use Rattle.tp_steps.proofs.every.Preludes.{marks_same}
+use Rattle.tp_histories.proofs.marks.Traced.{Told, traced_law, long_of}
+use Rattle.tp_histories.proofs.worlds.Prefix.{prefix_list}
+use Rattle.tp_histories.proofs.pairs.PairedSteps.{told_entry, sent_over}
+use Rattle.tp_histories.proofs.worlds.Unique.{TookOn, taken_below}
+use Rattle.tp_runs.proofs.Family.{history_is}
+use Rattle.tp_runs.proofs.Heeded.{zero_more}
+
+-- ---- no failure, no stop
+
+stop_fails : (e : Event) → is_failure e ≡ false → is_stop e ≡ false
+stop_fails Event.Crash h = absurd (cc (h))
+stop_fails e h = refl
+
+pub never_stopped : (h : List Entry) → has_failed h ≡ false → has_stopped h ≡ false
+never_stopped [] f = refl
+never_stopped (e ∷ h) f =
+    let here = stop_fails e.event (grind (arith, f)) in
+    let rest = never_stopped h (grind (arith, f)) in
+    rw (here, rest) refl
+
+-- ---- frames and entries, in both forms
+
+any_first : {X : Type 0} (P : X → Type 0) (x : X) (xs : List X) → P x → Any P (x ∷ xs)
+any_first P x xs h = (0, x, omega arith, refl, h)
+
+any_later : {X : Type 0} (P : X → Type 0) (x : X) (xs : List X) → Any P xs → Any P (x ∷ xs)
+any_later P x xs h = (suc h.0, h.1, (let l = h.2 in omega (arith, l)), h.3, h.4)
+
+frame_is : (fs : List Frame) (a z : Addr) (r : PeerRecord) → IsFrameTo fs a z r → (f : Frame) × Any (λ g. g ≡ f) fs × (f.from ≡ a) × (f.to ≡ z) × (f.rec ≡ r)
+frame_is [] a z r h = absurd h
+frame_is (f ∷ fs) a z r (inl h) = (f, any_first (λ g. g ≡ f) f fs refl, h.0, h.1, h.2)
+frame_is (f ∷ fs) a z r (inr h) = let k = frame_is fs a z r h in (k.0, any_later (λ g. g ≡ k.0) f fs k.1, k.2, k.3, k.4)
+
+come_at : (a : Addr) (r : PeerRecord) (h : List Entry) (k : ℕ) (e : Entry) → k < length h → slice_index_or h k e ≡ e → e.event ≡ Event.Arrive a r → HasCome h a r
+come_at a r [] k e l at is = absurd (omega (arith, l))
+come_at a r (x ∷ h) zero e l at is = inl (ap (λ (y : Entry). y.event) at ∙ is)
+come_at a r (x ∷ h) (suc k) e l at is = inr (come_at a r h k e (less l) at is)
+  where
+    less : suc k < suc (length h) → k < length h
+    less i = omega (arith, i)
+
+came_any : (a : Addr) (r : PeerRecord) (h : List Entry) → Any (λ e. e.event ≡ Event.Arrive a r) h → HasCome h a r
+came_any a r h k = come_at a r h k.0 k.1 k.2 k.3 k.4
+
+-- ---- what was sent came
+
+pub all_came : (es : List Happening) → AllCame (run es)
+all_came es t drained fine x z a r x_in sent there =
+    let f = frame_is (run es).frames (addr_of x) a r (goes_out es x x_in.here (never_stopped x.history (fine x x_in)) a r sent) in
+    let here : find_node (run es).nodes f.0.to.node ≡ Some z = ap (λ (b : Addr). find_node (run es).nodes b.node) f.3 ∙ there in
+    let took = came_any f.0.from f.0.rec z.history (drained.taken x z f.0 x_in f.1 f.2 here) in
+    subst (λ (s : PeerRecord). HasCome z.history (addr_of x) s) f.4 (subst (λ (b : Addr). HasCome z.history b f.0.rec) f.2 took)
+
+-- ---- as lists
+
+in_front : (f j : ℕ) → f + suc j ≡ suc f + j
+in_front f j = omega arith
+
+-- what stands among the records of an event was sent with its number
+sent_here : (p : ℕ) (outs : List Out) (x y : Mark) (f t j : ℕ) (r : DialogueRecord) → fits p (Live x y f t) outs ≡ true → slice_get (sent_of x y p outs) j ≡ Some r
+    → (a : Addr) × (a.node ≡ p) × IsSentIn outs a (PeerRecord.OnAssoc x y (f + j) r)
+sent_here p [] x y f t j r h s = absurd (cc (s))
+sent_here p (Out.Tell i ∷ outs) x y f t j r h s = sent_here p outs x y f t j r h s
+sent_here p (Out.Send b (PeerRecord.OnAssoc z w q u) ∷ outs) x y f t j r h s = go (b.node == p) refl (λ l i k. sent_here p outs x y l t i r k) (sent_here p outs x y f t j r)
+  where
+    Found : List Out → ℕ → Type 0
+    Found os n = (a : Addr) × (a.node ≡ p) × IsSentIn os a (PeerRecord.OnAssoc x y n r)
+
+    all : List Out
+    all = Out.Send b (PeerRecord.OnAssoc z w q u) ∷ outs
+
+    at : (i : ℕ) → j ≡ i → slice_get (u ∷ sent_of x y p outs) i ≡ Some r → b.node ≡ p → z ≡ x → w ≡ y → q ≡ f → fits p (Live x y (suc f) t) outs ≡ true
+        → ((l i : ℕ) → fits p (Live x y l t) outs ≡ true → slice_get (sent_of x y p outs) i ≡ Some r → Found outs (l + i)) → Found all (f + i)
+    at zero k g node ex ey eq rest deep = (b, node, inl (refl, (let same : u ≡ r = cc (g) in rw (ex, ey, eq, same, zero_more f) refl)))
+    at (suc i) k g node ex ey eq rest deep = let d = deep (suc f) i rest g in (d.0, d.1, inr (subst (λ (n : ℕ). IsSentIn outs d.0 (PeerRecord.OnAssoc x y n r)) (sym (in_front f i)) d.2))
+
+    go : (c : Bool) → (b.node == p) ≡ c → ((l i : ℕ) → fits p (Live x y l t) outs ≡ true → slice_get (sent_of x y p outs) i ≡ Some r → Found outs (l + i))
+        → (fits p (Live x y f t) outs ≡ true → slice_get (sent_of x y p outs) j ≡ Some r → Found outs (f + j)) → Found all (f + j)
+    go false i deep same =
+        let k = same (grind (arith, h, i)) (sym (ap (λ (rs : List DialogueRecord). slice_get rs j) (grind (arith, i))) ∙ s) in
+        (k.0, k.1, inr k.2)
+    go true i deep same =
+        let next : (is_mark z x && is_mark w y && (q == f)) ≡ true = grind (arith, h, i) in
+        let ex = marks_same z x (grind (arith, next)) in
+        let ey = marks_same w y (grind (arith, next)) in
+        let eq : q ≡ f = grind (arith, nat_tests, next) in
+        let rest : fits p (Live x y (suc f) t) outs ≡ true = grind (arith, h, i) in
+        let mx : is_mark x z ≡ true = rw ex (mark_same x) in
+        let my : is_mark y w ≡ true = rw ey (mark_same y) in
+        let list : sent_of x y p all ≡ u ∷ sent_of x y p outs = grind (arith, i, mx, my) in
+        at j refl (sym (ap (λ (rs : List DialogueRecord). slice_get rs j) list) ∙ s) (grind (arith, nat_tests, i)) ex ey eq rest deep
+sent_here p (Out.Send b v ∷ outs) x y f t j r h s = let k = sent_here p outs x y f t j r h s in (k.0, k.1, inr k.2)
+
+get_split : (xs ys : List DialogueRecord) (k : ℕ) (r : DialogueRecord) → slice_get (xs ++ ys) k ≡ Some r → (slice_get xs k ≡ Some r) ⊎ (j : ℕ) × (k ≡ length xs + j) × (slice_get ys j ≡ Some r)
+get_split [] ys k r h = inr (k, omega arith, h)
+get_split (x ∷ xs) ys zero r h = inl h
+get_split (x ∷ xs) ys (suc k) r h = elim (get_split xs ys k r h) [ inl i ↦ inl i | inr i ↦ inr (i.0, (let e = i.1 in omega (arith, e)), i.2) ]
+
+-- each record of the list was sent with its place as number
+pub sent_with : (o : Origin) (up : Option Addr) (h : List Entry) (p : ℕ) (x y : Mark) (k : ℕ) (r : DialogueRecord) → IsGrown o up h → slice_get (sent_on x y p h) k ≡ Some r
+    → (a : Addr) × (a.node ≡ p) × HasSent h a (PeerRecord.OnAssoc x y k r)
+sent_with o up [] p x y k r legal s = absurd (cc (s))
+sent_with o up (e ∷ h) p x y k r legal s = go (get_split (sent_on x y p h) (sent_of x y p e.outs) k r s) (sent_over o up e h legal p x y) (sent_with o up h p x y k r legal.3)
+  where
+    Found : Type 0
+    Found = (a : Addr) × (a.node ≡ p) × HasSent (e ∷ h) a (PeerRecord.OnAssoc x y k r)
+
+    go : (slice_get (sent_on x y p h) k ≡ Some r) ⊎ (j : ℕ) × (k ≡ length (sent_on x y p h) + j) × (slice_get (sent_of x y p e.outs) j ≡ Some r)
+        → (sent_of x y p e.outs ≡ []) ⊎ (v : ℕ) × (n : ℕ) × (link_with (prelude o.who (digest o h) e.event).arcs p ≡ Live x y v n)
+        → (slice_get (sent_on x y p h) k ≡ Some r → (a : Addr) × (a.node ≡ p) × HasSent h a (PeerRecord.OnAssoc x y k r)) → Found
+    go (inl old) l rest = let w = rest old in (w.0, w.1, inr w.2)
+    go (inr new) (inl none) rest = absurd (cc (sym (ap (λ (rs : List DialogueRecord). slice_get rs new.0) none) ∙ new.2))
+    go (inr new) (inr l) rest =
+        let d : Digest = digest o h in
+        let t : Told o.who up p d e.event = told_entry o up e h legal p in
+        let outs : e.outs ≡ (action o.who d e.event).outs = ap (λ (f : Entry). f.outs) (sym legal.1) in
+        let fit : fits p (Live x y l.0 l.1) e.outs ≡ true = subst (λ (os : List Out). fits p (Live x y l.0 l.1) os ≡ true) (sym outs) (subst (λ (m : Link). fits p m (action o.who d e.event).outs ≡ true) l.2 t.linked.over.numbered) in
+        let long = long_of o.who up d e.event h (traced_law o up h legal.3) p (link_with (prelude o.who d e.event).arcs p) t.pre x y l.0 l.1 l.2 in
+        let w = sent_here p e.outs x y l.0 l.1 new.0 r fit new.2 in
+        let seq : l.0 + new.0 ≡ k = ap (λ (n : ℕ). n + new.0) (sym long.0) ∙ sym new.1 in
+        (w.0, w.1, inl (subst (λ (n : ℕ). IsSentIn e.outs w.0 (PeerRecord.OnAssoc x y n r)) seq w.2))
+
+pub come_took : (h : List Entry) (a : Addr) (x y : Mark) (q : ℕ) (r : DialogueRecord) → HasCome h a (PeerRecord.OnAssoc x y q r) → TookOn h a x y q r
+come_took [] a x y q r k = k
+come_took (e ∷ h) a x y q r (inl k) = inl k
+come_took (e ∷ h) a x y q r (inr k) = inr (come_took h a x y q r k)
+
+at_end : (xs ys : List DialogueRecord) (r : DialogueRecord) → slice_get (xs ++ r ∷ ys) (length xs) ≡ Some r
+at_end [] ys r = refl
+at_end (x ∷ xs) ys r = at_end xs ys r
+
+beyond : (n : ℕ) → suc n ≤ n → ⊥
+beyond n h = omega (arith, h)
+
+pub all_taken : (es : List Happening) → AllTaken (run es)
+all_taken es t drained fine x z m k x_in z_in = go pre.0 both
+  where
+    sent : List DialogueRecord
+    sent = sent_on m k (number_of z) x.history
+
+    taken : List DialogueRecord
+    taken = taken_on m k (number_of x) z.history
+
+    pre : (more : List DialogueRecord) × (sent_on m k (number_of z) (history_at (run es).nodes (number_of x)) ≡ taken_on m k (number_of x) (history_at (run es).nodes (number_of z)) ++ more)
+    pre = prefix_list (run es).nodes (run es).frames (good_run es) (number_of z) (number_of x) m k
+
+    both : sent ≡ taken ++ pre.0
+    both =
+        ap (sent_on m k (number_of z)) (sym (history_is (run es).nodes (number_of x) x x_in.here)) ∙ pre.1
+        ∙ ap (λ (h : List Entry). taken_on m k (number_of x) h ++ pre.0) (history_is (run es).nodes (number_of z) z z_in)
+
+    go : (more : List DialogueRecord) → sent ≡ taken ++ more → sent ≡ taken
+    go [] is = is ∙ append-nil taken
+    go (r ∷ more) is =
+        let w = sent_with x.origin x.superior x.history (number_of z) m k (length taken) r ((good_run es).legal (number_of x) x x_in.here) (ap (λ (rs : List DialogueRecord). slice_get rs (length taken)) is ∙ at_end taken more r) in
+        let there : find_node (run es).nodes w.0.node ≡ Some z = ap (find_node (run es).nodes) w.1 ∙ z_in in
+        let took = come_took z.history (addr_of x) m k (length taken) r (all_came es t drained fine x z w.0 (PeerRecord.OnAssoc m k (length taken) r) x_in w.2 there) in
+        absurd (beyond (length taken) (taken_below z.origin z.superior z.history (addr_of x) m k (length taken) r ((good_run es).legal (number_of z) z z_in) took))

@@ -1,0 +1,47 @@
+//! Laws over every run of a drained tree without failure: what its nodes say reaches the others, and counts there.
+//!
+//! Each is the contract of a function with an empty body.
+ghost use Rattle.std.specs.Prelude.{List};
+ghost use Rattle.tp_model.specs.Happenings.{Happening, run};
+ghost use Rattle.tp_drained.specs.DrainedWorlds.{NobodyRolls, AllCame, AllTaken, BranchesAreThere, AnswersAreTaken, OrdersAreTaken, DonesDecided, DonesAreTaken};
+
+/// In every run, nobody rolls in a tree whose nodes did not fail.
+pub fn nobody_rolls_in_a_tree_without_failure()
+    ensures { (es : List Happening) → NobodyRolls (run es) }
+{}
+
+/// In every run, what a node of a drained tree without failure sent to a node that is there came to it; and on each pair of
+/// marks the other end took just what it sent, record by record.
+pub fn what_a_drained_tree_says_is_taken()
+    ensures came { (es : List Happening) → AllCame (run es) }
+    ensures taken { (es : List Happening) → AllTaken (run es) }
+{}
+
+/// In every run, each branch that a node of a drained tree without failure began is a node of the tree.
+pub fn branches_of_a_drained_tree_are_there()
+    ensures { (es : List Happening) → BranchesAreThere (run es) }
+{}
+
+/// In every run, in a drained tree without failure a branch's answer is taken, by Ready or by leaving, while the tree is current
+/// at its superior, where it is current still.
+pub fn answers_of_branches_are_taken()
+    ensures { (es : List Happening) → AnswersAreTaken (run es) }
+{}
+
+/// In every run, in a drained tree without failure a branch takes its superior's order to commit while the tree is current at
+/// the branch, where it is current still.
+pub fn orders_of_superiors_are_taken()
+    ensures { (es : List Happening) → OrdersAreTaken (run es) }
+{}
+
+/// In every run, a superior takes a branch's Done only where it has logged Commit itself by then, of the tree whose Begin the
+/// Done answers.
+pub fn dones_come_behind_the_decision()
+    ensures { (es : List Happening) → DonesDecided (run es).nodes }
+{}
+
+/// In every run, in a drained tree without failure a branch's Done is taken in committing, by a superior that has the branch,
+/// where the tree is current there still.
+pub fn dones_of_branches_are_taken()
+    ensures { (es : List Happening) → DonesAreTaken (run es) }
+{}

@@ -1,0 +1,9 @@
+pub mod marks
+pub mod worlds
+pub mod log
+pub mod known
+pub mod trees
+pub mod order
+pub mod pairs
+pub mod upward
+pub mod undone

@@ -1,0 +1,3 @@
+pub mod KnownPlain
+pub mod KnownKept
+pub mod KnownPhase

@@ -1,0 +1,9 @@
+pub mod KeptLog
+pub mod SoundLog
+pub mod OrderMoves
+pub mod StartLog
+pub mod RestartLog
+pub mod OrderLog
+pub mod WellMoves
+pub mod WellLog
+pub mod StandingKeys

@@ -1,0 +1,3 @@
+pub mod Traced
+pub mod Separate
+pub mod Ends

@@ -1,0 +1,4 @@
+pub mod InOrderLaw
+pub mod Headed
+pub mod LeftAlone
+pub mod PutLaw

@@ -1,0 +1,10 @@
+pub mod Late
+pub mod TreedTurned
+pub mod TreedBegins
+pub mod TreedMoves
+pub mod Knowing
+pub mod Fallen
+pub mod Behind
+pub mod Fated
+pub mod Above
+pub mod Entered

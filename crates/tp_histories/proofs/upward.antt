@@ -1,0 +1,3 @@
+pub mod Risen
+pub mod SpeaksUp
+pub mod Answerable

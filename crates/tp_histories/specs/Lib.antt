@@ -1,0 +1,15 @@
+pub mod Histories
+pub mod Worlds
+pub mod Traces
+pub mod Ends
+pub mod Arcs
+pub mod Puts
+pub mod Control
+pub mod Restart
+pub mod Members
+pub mod Fates
+pub mod Undone
+pub mod Upward
+pub mod Answering
+pub mod Pairs
+pub mod Known

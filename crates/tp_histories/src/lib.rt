@@ -1,0 +1,123 @@
+//! Laws of one node's legal history, and of the histories that a run gives its nodes: links and marks, records, restart,
+//! phases, and what a node says to its superior. Each is the contract of a function with an empty body.
+#![tactic(auto)]
+
+pub mod arcs;
+
+ghost use Rattle.std.specs.Prelude.{ℕ, ◌≡◌, ◌≤◌, Option, List, [], length, true, Bool, None, false};
+ghost use Rattle.tp_names.specs.declared.identifiers.Mark.{Mark};
+ghost use Rattle.tp_names.specs.declared.identifiers.Addr.{Addr};
+ghost use Rattle.tp_names.specs.declared.identifiers.Aaid.{Aaid};
+ghost use Rattle.tp_model.specs.Parts.{Origin, Entry, Live, Who, Event, Digest, Current};
+ghost use Rattle.tp_model.specs.Arcs.{link_with};
+ghost use Rattle.tp_model.specs.Questions.{is_at};
+ghost use Rattle.tp_model.specs.History.{digest, again, crashed};
+ghost use Rattle.tp_model.specs.Happenings.{Happening, run};
+ghost use Rattle.tp_model.specs.declared.transaction.TxEvent.{TxEvent};
+ghost use Rattle.tp_model.specs.Transactions.{Transaction, transacted};
+ghost use Rattle.tp_model.specs.Events.{refusal, action};
+ghost use Rattle.tp_model.specs.Promises.{IsIn};
+ghost use Rattle.tp_model.specs.World.{Node};
+ghost use Rattle.tp_model.specs.Legal.{IsGrown, is_start, are_in_order, RestartIsCrash, RecordsFollow, StartsAgain};
+ghost use Rattle.tp_steps.specs.Moves.{IsPut, IsLate, prelude};
+ghost use Rattle.tp_steps.specs.Facts.{Reads};
+ghost use Rattle.tp_histories.specs.Members.{IsOnce};
+ghost use Rattle.tp_histories.specs.Fates.{IsFated};
+ghost use Rattle.tp_histories.specs.Pairs.{IsPaired};
+ghost use Rattle.tp_steps.specs.Ends.{are_separate};
+ghost use Rattle.tp_histories.specs.Ends.{IsAlone};
+ghost use Rattle.tp_histories.specs.Control.{answered, closed};
+ghost use Rattle.tp_steps.specs.Answering.{IsAnswering};
+ghost use Rattle.tp_steps.specs.Upward.{IsRising};
+ghost use Rattle.tp_histories.specs.Upward.{IsRisen, SpeaksUp};
+ghost use Rattle.tp_steps.specs.Undone.{IsPromptTurn};
+ghost use Rattle.tp_histories.specs.Undone.{is_left_undone};
+ghost use Rattle.tp_histories.specs.Traces.{IsTraced, sent_on, taken_on};
+
+/// In every legal history a live link counts what was sent and taken with its pair of marks, and a mark that is not yet
+/// drawn is in no record.
+pub fn traces()
+    ensures counts { (o : Origin) (up : Option Addr) (h : List Entry) (p : ℕ) (x y : Mark) (s t : ℕ) → IsGrown o up h → link_with (digest o h).arcs p ≡ Live x y s t
+        → (length (sent_on x y p h) ≡ s) × (length (taken_on x y p h) ≡ t) }
+    ensures marks { (o : Origin) (up : Option Addr) (h : List Entry) → IsGrown o up h → IsTraced o.who up (digest o h) h }
+{}
+
+/// In every legal history of a node whose log was empty at first, the records on each pair of marks are paired with the
+/// transactions that they belong to: as many Begins were taken as have ended, but for the current one, which stands at its
+/// place; a branch's key is that of the last Begin; Ready was logged for the Begin that it answers, Commit for the tree of
+/// the last Begin, and a Rollback went only to a branch of a tree that rolled.
+pub fn records_are_paired()
+    ensures { (o : Origin) (up : Option Addr) (h : List Entry) → o.start.records ≡ [] → IsGrown o up h → IsPaired o up h }
+{}
+
+/// In every legal history that enters each tree once, the phase of a tree is what its records and its rolling say, and
+/// nothing is both committed and rolled back.
+pub fn fates_are_one()
+    ensures { (o : Origin) (up : Option Addr) (h : List Entry) (t : Aaid) → o.start.records ≡ [] → IsGrown o up h → IsOnce o h → IsFated o h t }
+{}
+
+/// What a subordinate says to its superior stands in order, of every event and in every legal history that enters each tree
+/// once: between two ends at most one Ready and no Left after it; Done ends a tree that committed, with no report one that
+/// was complete with none, and with a report one whose damage is logged; RolledBack one that rolled, Left one that was left;
+/// and Rollback is of one that rolled.
+pub fn words_upward()
+    ensures turn { (e : TxEvent) (s : Transaction) (p : ℕ) → IsPut e s → IsRising e s p s (transacted e s) }
+    ensures node { (who : Who) (d : Digest) (e : Event) (p : ℕ) (sup fall : Bool) (shut : ℕ) → IsLate d → refusal who d e ≡ None → Reads who e p sup fall shut (prelude who d e)
+        → IsRisen e p fall (prelude who d e) (prelude who d e) (action who d e) }
+    ensures history { (o : Origin) (up : Option Addr) (h : List Entry) → o.start.records ≡ [] → IsGrown o up h → IsOnce o h → SpeaksUp o up h }
+{}
+
+/// Nothing is left undone. No event of a transaction leaves a vote, an order, a completed commitment or a completed rollback
+/// undone that was not left undone before; and in every legal history and in every run, a transaction that its node has
+/// asked to commit is active only while a branch is neither counted nor left, and one whose user has given done is
+/// committing only while a branch is neither done, left nor given up.
+pub fn nothing_is_left_undone()
+    ensures turn { (e : TxEvent) (s : Transaction) → IsPut e s → IsPromptTurn s (transacted e s) }
+    ensures history { (o : Origin) (up : Option Addr) (h : List Entry) (c : Current) → IsGrown o up h → (digest o h).current ≡ Some c → is_left_undone c ≡ false }
+    ensures run { (es : List Happening) (x : Node) (c : Current) → IsIn (run es) x → (digest x.origin x.history).current ≡ Some c → is_left_undone c ≡ false }
+{}
+
+/// A subordinate answers what it was asked for: in every legal history of a node whose log was empty at first, the rounds
+/// that it answered on a live association to its superior, by Ready or by its last word in a transaction, are no more than
+/// those that it heard the superior close by Prepare, Commit or Rollback; and so does every event of a transaction.
+pub fn answers_are_asked_for()
+    ensures turn { (e : TxEvent) (s : Transaction) (p : ℕ) → IsPut e s → IsAnswering e s p s (transacted e s) }
+    ensures history { (o : Origin) (up : Option Addr) (h : List Entry) (p : ℕ) (x y : Mark) (s k : ℕ) → o.start.records ≡ [] → IsGrown o up h → is_at up p ≡ true → link_with (digest o h).arcs p ≡ Live x y s k
+        → answered (sent_on x y p h) ≤ closed (taken_on x y p h) }
+{}
+
+/// In every legal history no two arcs lead to one node and none is idle; the mark that stands for the node in a pair is one
+/// that it drew, as in each pair on which it sent; and a mark that it drew for one subordinate is offered to no other, nor
+/// was anything sent to another with it.
+pub fn ends_are_told_apart()
+    ensures arcs { (o : Origin) (up : Option Addr) (h : List Entry) → IsGrown o up h → are_separate (digest o h).arcs ≡ true }
+    ensures marks { (o : Origin) (up : Option Addr) (h : List Entry) → IsGrown o up h → IsAlone o.who up (digest o h) h }
+{}
+
+/// In every legal history, a start on the records of the log knows of the same kept transactions, each as it was but for
+/// the Forgets that were noted, as the crash leaves; its boot number is the next one and the log's version stays.
+pub fn kept_is_in_the_log()
+    ensures kept { (o : Origin) (up : Option Addr) (h : List Entry) → IsGrown o up h → (digest (again o h) []).kept ≡ (digest o (crashed h)).kept }
+    ensures boot { (o : Origin) (h : List Entry) → (digest (again o h) []).boot ≡ (digest o (crashed h)).boot }
+    ensures version { (o : Origin) (up : Option Addr) (h : List Entry) → IsGrown o up h → (digest (again o h) []).version ≡ (digest o (crashed h)).version }
+{}
+
+/// A start over the records of a log, with the next boot number, leaves the same as a crash: in every legal history, and
+/// in every run.
+pub fn restart_is_a_crash()
+    ensures history { RestartIsCrash }
+    ensures run { (es : List Happening) (x : Node) → IsIn (run es) x → digest (again x.origin x.history) [] ≡ digest x.origin (crashed x.history) }
+{}
+
+/// The records of a node's log stay in order after its last boot, each following those before it: in every legal history,
+/// and in every run.
+pub fn records_stay_in_order()
+    ensures history { RecordsFollow }
+    ensures run { (es : List Happening) (x : Node) → IsIn (run es) x → are_in_order x.origin x.history ≡ true }
+{}
+
+/// The records of a node's log are such as its next start may find: in every legal history, and in every run.
+pub fn the_next_start_finds_its_records()
+    ensures history { StartsAgain }
+    ensures run { (es : List Happening) (x : Node) → IsIn (run es) x → is_start (again x.origin x.history) ≡ true }
+{}

@@ -1,0 +1,12 @@
+pub mod Vocabulary
+pub mod lemmas
+pub mod links
+pub mod orders
+pub mod marks
+pub mod control
+pub mod handshakes
+pub mod requests
+pub mod deferral
+pub mod rests
+pub mod whole
+pub mod passages

@@ -1,0 +1,16 @@
+pub mod Turns
+pub mod Arcs
+pub mod Signs
+pub mod Moves
+pub mod Turned
+pub mod Steps
+pub mod First
+pub mod Causes
+pub mod Quiet
+pub mod Events
+pub mod Said
+pub mod Heard
+pub mod Begun
+pub mod Left
+pub mod Leaves
+pub mod Law

@@ -1,6 +1,0 @@
-use Rattle.tp_laws.proofs.Leading.{leading_turn}
-use Rattle.tp_laws.proofs.TookBack.{above_law}
-use Rattle.tp_laws.proofs.control.branches_are_led.Goals as goal
-
-pub returns : goal.returns
-returns c = record { turn = leading_turn; history = λ o up h p x y s k empty legal below rounds live. above_law o up h empty legal p below rounds x y s k live }

@@ -1,5 +1,0 @@
-use Rattle.tp_laws.proofs.EndsRounds.{above_took_back}
-use Rattle.tp_laws.proofs.control.holders_above_took_back.Goals as goal
-
-pub returns : goal.returns
-returns c = above_took_back

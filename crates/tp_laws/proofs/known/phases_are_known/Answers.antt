@@ -1,5 +1,0 @@
-use Rattle.tp_laws.proofs.KnownKeys.{phase_agrees_law, key_agrees_law}
-use Rattle.tp_laws.proofs.known.phases_are_known.Goals as goal
-
-pub returns : goal.returns
-returns c = record { phase = phase_agrees_law; key = key_agrees_law }

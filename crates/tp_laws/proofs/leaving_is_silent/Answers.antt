@@ -1,5 +1,0 @@
-use Rattle.tp_laws.proofs.Bare.{left_is_bare}
-use Rattle.tp_laws.proofs.leaving_is_silent.Goals as goal
-
-pub returns : goal.returns
-returns c = left_is_bare

@@ -1,6 +1,0 @@
-use Rattle.tp_laws.proofs.Rowed.{rowed_turn}
-use Rattle.tp_laws.proofs.Branched.{branched_event}
-use Rattle.tp_laws.proofs.marks_of_branches.Goals as goal
-
-pub returns : goal.returns
-returns c = record { turn = rowed_turn; node = branched_event }

@@ -1,6 +1,0 @@
-use Rattle.tp_laws.proofs.Undone.{prompt_event}
-use Rattle.tp_laws.proofs.Prompt.{prompt_law, prompt_run}
-use Rattle.tp_laws.proofs.nothing_is_left_undone.Goals as goal
-
-pub returns : goal.returns
-returns c = record { turn = prompt_event; history = prompt_law; run = prompt_run }

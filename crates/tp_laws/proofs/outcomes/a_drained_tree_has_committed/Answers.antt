@@ -1,5 +1,0 @@
-use Rattle.tp_laws.proofs.DrainedCommits.{drained_commits, settled_closes}
-use Rattle.tp_laws.proofs.outcomes.a_drained_tree_has_committed.Goals as goal
-
-pub returns : goal.returns
-returns c = record { nodes = drained_commits; line = settled_closes }

@@ -1,5 +1,0 @@
-use Rattle.tp_laws.proofs.RollsUp.{rolls_up}
-use Rattle.tp_laws.proofs.outcomes.a_ready_branch_rolls_with_its_superior.Goals as goal
-
-pub returns : goal.returns
-returns c = rolls_up

@@ -1,5 +1,0 @@
-use Rattle.tp_laws.proofs.ReportFree.{clear_below}
-use Rattle.tp_laws.proofs.reports.a_clear_completion_answers_for_its_branches.Goals as goal
-
-pub returns : goal.returns
-returns c = clear_below

@@ -1,5 +1,0 @@
-use Rattle.tp_laws.proofs.ReportFree.{report_free}
-use Rattle.tp_laws.proofs.reports.a_clear_root_has_committed_below.Goals as goal
-
-pub returns : goal.returns
-returns c = report_free

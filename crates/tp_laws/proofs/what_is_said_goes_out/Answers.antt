@@ -1,5 +1,0 @@
-use Rattle.tp_laws.proofs.Framed.{goes_out}
-use Rattle.tp_laws.proofs.what_is_said_goes_out.Goals as goal
-
-pub returns : goal.returns
-returns c = goes_out

@@ -1,5 +1,0 @@
-use Rattle.tp_laws.proofs.Heeding.{heeding_event}
-use Rattle.tp_laws.proofs.what_is_taken_is_heeded.Goals as goal
-
-pub returns : goal.returns
-returns c = heeding_event

@@ -1,0 +1,4 @@
+pub mod Memberless
+pub mod Played
+pub mod Expanded
+pub mod LineRuns

@@ -1,0 +1,15 @@
+pub mod ClearingTurns
+pub mod ClearingMoves
+pub mod ClearedLaw
+pub mod KeptAbove
+pub mod DoneTurns
+pub mod Finishing
+pub mod Finished
+pub mod MarkTurns
+pub mod BranchMarks
+pub mod ClearedFate
+pub mod ClearedReplies
+pub mod ClearedRuns
+pub mod ClearedDown
+pub mod ReportFree
+pub mod Reported

@@ -1,0 +1,10 @@
+pub mod Answers
+pub mod EveryTurn
+pub mod BeginCases
+pub mod RootBegins
+pub mod EveryMove
+pub mod EveryRecord
+pub mod EveryEvent
+pub mod Preludes
+pub mod Ending
+pub mod Course

@@ -1,0 +1,10 @@
+pub mod KeptList
+pub mod Words
+pub mod Phases
+pub mod Equality
+pub mod UpwardWords
+pub mod Folds
+pub mod Alike
+pub mod Options
+pub mod Joined
+pub mod EachKept

@@ -1,0 +1,17 @@
+pub mod Owned
+pub mod PassedRules
+pub mod Passed
+pub mod Keyed
+pub mod Asking
+pub mod Orders
+pub mod OwnRecords
+pub mod TurnLog
+pub mod CurrentLog
+pub mod ApartLog
+pub mod Sound
+pub mod SoundMoves
+pub mod NextTurns
+pub mod StandLog
+pub mod StepLog
+pub mod NextLog
+pub mod KinTurns

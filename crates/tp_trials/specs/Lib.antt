@@ -1,0 +1,5 @@
+pub mod KnownTrials
+pub mod Trials
+pub mod DrainedTrials
+pub mod DrainedNodeTrials
+pub mod ArcTrials
