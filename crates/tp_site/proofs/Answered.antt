@@ -8,8 +8,8 @@ use Rattle.tp_model.specs.Arrivals.{refused_arrival, break_off}
 use Rattle.tp_model.specs.Node.{Move}
 use Rattle.tp_model.specs.Events.{action, refusal, refused_plainly, unless_spent, unless_missing, needs_numbers, says_nothing, retry, is_no_node, is_breaking, is_24, has_pair, refused_for_numbers}
 use Rattle.tp_model.specs.History.{broken_by}
-use Rattle.tp_site.specs.declared.event.NodeEvent.{NodeEvent}
-use Rattle.tp_site.specs.NodeEvent.{Answer, Refuses, Happens, event_of, refused_at_once, breaks, answer_at}
+use Rattle.tp_node.specs.declared.event.NodeEvent.{NodeEvent}
+use Rattle.tp_node.specs.NodeEvent.{Answer, Refuses, Happens, event_of, refused_at_once, breaks, answer_at}
 
 -- the answer by the number that refuses the event, and by whether it ends an association
 abbrev by_number : Option ℕ → Bool → Move → Move → Answer

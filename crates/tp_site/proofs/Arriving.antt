@@ -2,9 +2,6 @@
 use Rattle.std.proofs.Common.{◌≡◌, ◌∙◌, ℕ, Bool, true, false, Option, Some, None, List, [], ◌∷◌, refl, ap, sym, arith}
 use Rattle.std.specs.Prelude.{not, if◌then◌else◌}
 use Rattle.tp_model.specs.Dialogues.{first}
-use Rattle.tp_units.specs.Units.{bad_answer}
-use Rattle.std.specs.Cmp.{unsigned_Decides}
-use Rattle.tp_site.proofs.Beginnings.{peer_found}
 use Rattle.std.proofs.lemmas.Bool.Decides.{nat_tests}
 use Rattle.std.proofs.lemmas.Grind.{common_steps}
 use Rattle.tp_names.specs.declared.identifiers.Addr.{Addr}
@@ -17,8 +14,8 @@ use Rattle.tp_model.specs.Parts.{Who, Link, Idle, Opening, Offered, Live, Arc, D
 use Rattle.tp_model.specs.Links.{is_idle, is_opening_with, dropped_by}
 use Rattle.tp_model.specs.Arcs.{find_arc, link_from}
 use Rattle.tp_model.specs.Node.{Move, move, side_at}
-use Rattle.tp_model.specs.Arrivals.{refused_arrival, refused_on, is_bad_answer, units_of, do_arrival, take_accept, take_on}
-use Rattle.tp_site.specs.Arcs.{fits_link}
+use Rattle.tp_model.specs.Arrivals.{refused_arrival, refused_on, is_bad_answer, do_arrival, take_accept, take_on}
+use Rattle.tp_node.specs.Arcs.{fits_link}
 
 pub open_declared : (who : Who) (d : Digest) (from : Addr) (x : Mark) (u : ℕ) → refused_arrival who d from (PeerRecord.OpenAssoc x u) ≡ None → d.declared ≡ true
 unfolding refused_arrival
@@ -99,15 +96,3 @@ taken_number who d from x y q r a ok found = go d.declared refl
 
 pub taken_there : (who : Who) (d : Digest) (from : Addr) (x y : Mark) (q : ℕ) (r : DialogueRecord) (a : Arc) → find_arc d.arcs from.node ≡ Some a → do_arrival who from (PeerRecord.OnAssoc x y q r) d ≡ take_on who a r d
 taken_there who d from x y q r a found = ap (λ (o : Option Arc). elim o as (λ _. Move) [ None ↦ move [] d | Some b ↦ take_on who b r d ]) found
-
--- the arc that is found by its peer's number
-pub at_peer : (d : Digest) (p : ℕ) (a : Arc) → find_arc d.arcs p ≡ Some a → p ≡ a.peer.node
-at_peer d p a found = sym ((unsigned_Decides a.peer.node p).0 (peer_found d.arcs p a found))
-
--- ---- the units that the peer chooses
-
-pub bad_there : (d : Digest) (from : Addr) (u : ℕ) (a : Arc) → find_arc d.arcs from.node ≡ Some a → is_bad_answer d from u ≡ elim (bad_answer a.dialogue.units u) as (λ _. Bool) [ None ↦ false | Some b ↦ true ]
-bad_there d from u a found = ap (λ (o : Option Arc). elim (bad_answer (units_of o) u) as (λ _. Bool) [ None ↦ false | Some b ↦ true ]) found
-
-pub bad_not : (d : Digest) (from : Addr) (u : ℕ) → find_arc d.arcs from.node ≡ None → is_bad_answer d from u ≡ elim (bad_answer 0 u) as (λ _. Bool) [ None ↦ false | Some b ↦ true ]
-bad_not d from u found = ap (λ (o : Option Arc). elim (bad_answer (units_of o) u) as (λ _. Bool) [ None ↦ false | Some b ↦ true ]) found

@@ -13,7 +13,7 @@ use Rattle.tp_model.specs.Parts.{Who, Arc, Out, Tell, Send, Digest}
 use Rattle.tp_model.specs.Arcs.{performed_one, performed, carried}
 use Rattle.tp_model.specs.Node.{Move, move, followed, perform}
 use Rattle.tp_model.specs.Events.{needs_numbers, some_past_numbers}
-use Rattle.tp_site.specs.declared.halt.Halt.{Halt}
+use Rattle.tp_node.specs.declared.halt.Halt.{Halt}
 use Rattle.tp_site.specs.Draft.{Draft, goes_on, Plays}
 
 -- what one output makes of a draft
@@ -30,7 +30,7 @@ told a i = one a (TxOut.Tell i)
 pub sent : (a : Draft) (to : Addr) (r : PeerRecord) → goes_on a (λ who. perform (TxOut.Recovery to r ∷ [])) ≡ record a { move = record a.move { outs = a.move.outs ++ Send to r ∷ [] } }
 sent a to r = one a (TxOut.Recovery to r)
 
--- where numbers are wanting, they are wanting behind it too
+-- where numbers are wanting, they are wanting after it too
 past_more : (xs ys : List Out) → some_past_numbers ys ≡ true → some_past_numbers (xs ++ ys) ≡ true
 past_more [] ys h = h
 past_more (x ∷ xs) ys h = grind (arith, common_steps, past_more xs ys h)
@@ -75,7 +75,7 @@ perform_halts Halt.NumbersSpent a b c d o os xs ys is same h =
     ∙ ap (λ (l : List TxOut). needs_numbers (followed a.move (perform l))) is
     ∙ spent_more a o os h
 
--- ---- one rule behind another
+-- ---- one rule after another
 
 -- what a rule plays at one draft another plays at another, where they come to the same
 pub plays_alike : (r : Result (Unit {0}) Halt) (a b d : Draft) (f g : Who → Digest → Move) → goes_on b g ≡ goes_on a f → Plays r b d g → Plays r a d f
@@ -103,7 +103,7 @@ past_before : (xs ys : List Out) → some_past_numbers xs ≡ true → some_past
 past_before [] ys h = grind arith
 past_before (x ∷ xs) ys h = grind (arith, common_steps, past_before xs ys)
 
--- where numbers are wanting they are wanting behind every rule that takes no mark back
+-- where numbers are wanting they are wanting after every rule that takes no mark back
 pub still_needs : (m : Move) (f : Digest → Move) → m.next.drawn ≤ (f m.next).next.drawn → needs_numbers m ≡ true → needs_numbers (followed m f) ≡ true
 still_needs m f rises h = grind (arith, common_steps, nat_tests, past_before m.outs (f m.next).outs)
 

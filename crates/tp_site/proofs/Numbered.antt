@@ -6,8 +6,8 @@ use Rattle.tp_model.specs.Parts.{Who, Digest}
 use Rattle.tp_model.specs.Events.{started, is_no_node}
 use Rattle.tp_model.specs.History.{state}
 use Rattle.tp_site.specs.Site.{Site, state_at}
-use Rattle.tp_site.specs.Node.{Node}
-use Rattle.tp_site.specs.State.{tree_in}
+use Rattle.tp_node.specs.Node.{Node}
+use Rattle.tp_node.specs.State.{tree_in}
 use Rattle.tp_site.specs.Nodes.{Nodes, who_at, node_at, find_node, digest_at, unknown_start}
 
 abbrev found_by : Nodes → ℕ → Option Node → Option Node

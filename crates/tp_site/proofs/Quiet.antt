@@ -20,8 +20,8 @@ use Rattle.tp_model.specs.Transactions.{Row, Transaction, retried, ask_each, tra
 use Rattle.tp_model.specs.Recovery.{owed, ask_owed, tell_superior, settled}
 use Rattle.tp_model.specs.Node.{Move, move, followed, Passage, passage, Stays, passed, turned, restarted, transact, played, entered, seen}
 use Rattle.tp_model.specs.Events.{action, refusal, retry, retry_each, purge, needs_numbers, some_past_numbers, says_nothing, is_no_node, refused_plainly, unless_missing, unless_spent, is_breaking}
-use Rattle.tp_site.specs.declared.event.NodeEvent.{NodeEvent}
-use Rattle.tp_site.specs.NodeEvent.{event_of, refused_at_once, is_retry}
+use Rattle.tp_node.specs.declared.event.NodeEvent.{NodeEvent}
+use Rattle.tp_node.specs.NodeEvent.{event_of, refused_at_once, is_retry}
 
 -- ---- what goes out is an indication, or a record outside every association
 

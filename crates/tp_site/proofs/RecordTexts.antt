@@ -19,7 +19,7 @@ use Rattle.tp_site.proofs.RecordParts.{Gives, gives_made, gives_and, code_gives}
 
 -- ---- records that have a text
 
--- what a row of the table takes, behind its code
+-- what a row of the table takes, after its code
 kind_taken : (ver : LogVersion) (r : Reader LogRec) (text : List ℕ) (v : LogRec) (code : ℕ) → ((bytes : List ℕ) → read_record ver (code ∷ bytes) ≡ r bytes) → record_bytes ver v ≡ code ∷ text → Takes r text v → HasRecordText ver v
 kind_taken ver r text v code row same x =
     record { text = ap (read_record ver) (same ∙ sym (append-nil (code ∷ text))) ∙ row (text ++ []) ∙ x.reads [] }

@@ -14,7 +14,8 @@ use Rattle.tp_model.specs.Parts.{Who, Current, Digest}
 use Rattle.tp_model.specs.Recovery.{settled, forget_to, find_kept}
 use Rattle.tp_model.specs.Node.{move, perform, transact, keep}
 use Rattle.tp_model.specs.Arrivals.{named_by_key, branch_key, current_with}
-use Rattle.tp_site.specs.Replies.{is_current_committing, done_of}
+use Rattle.tp_node.specs.Replies.{is_current_committing}
+use Rattle.tp_site.specs.Replies.{done_of}
 
 pub done_committing : (k : NodeKey) (from : Addr) (t : Aaid) (b : BranchId) (r : Report) (who : Who) (d : Digest) → is_current_committing (named_by_key d k) ≡ true → done_of k from t b r who d ≡ transact who (TxEvent.Reply b (RecState.Done r)) d
 done_committing k from t b r who d e = grind (arith, e)

@@ -12,7 +12,7 @@ use Rattle.tp_model.specs.Arcs.{find_arc}
 use Rattle.tp_model.specs.Node.{side_at, has_asked}
 use Rattle.tp_model.specs.Requests.{refused_request, is_some_bit, room, count_below, count_gone, count_subordinates}
 use Rattle.tp_model.specs.Dialogues.{first}
-use Rattle.tp_site.specs.Node.{has_place_at}
+use Rattle.tp_node.specs.Node.{has_place_at}
 
 pub call_other : (who : Who) (d : Digest) (a : Addr) (u : ℕ) → refused_request who d (Request.BeginDialogue a u) ≡ None → find_arc d.arcs a.node ≡ None
 unfolding refused_request

@@ -9,7 +9,7 @@ use Rattle.tp_model.specs.Parts.{Who, Digest}
 use Rattle.tp_model.specs.Node.{Move, move, followed, perform, transact, keep}
 use Rattle.tp_model.specs.Recovery.{owed, settled}
 use Rattle.tp_model.specs.Events.{retry, retry_each, purge, needs_numbers}
-use Rattle.tp_site.specs.declared.halt.Halt.{Halt}
+use Rattle.tp_node.specs.declared.halt.Halt.{Halt}
 use Rattle.tp_site.specs.Draft.{Draft, goes_on, Plays}
 use Rattle.tp_site.proofs.Drafts.{goes_on_twice, still_needs}
 

@@ -95,7 +95,7 @@ no_child_taken = record { reads = λ rest. refl }
 pub one_more_taken : (c : Child) (cs : List Child) → Takes read_child (child_bytes c) c → AreTaken cs → AreTaken (c ∷ cs)
 one_more_taken c cs x y = both (both (made (λ (a : Child) (more : List Child). a ∷ more)) x) y
 
--- at a place of a list: the child there, and those behind it
+-- at a place of a list: the child there, and those after it
 pub child_at_taken : (cs : List Child) (i : ℕ) (c : Child) → i < length cs → c ≡ get_or cs i c → Takes read_child (child_bytes c) c → AreTaken (drop (i + 1) cs) → AreTaken (drop i cs)
 child_at_taken cs i c within is x y =
     let more : drop i cs ≡ c ∷ drop (i + 1) cs = drop_more cs i c within ∙ ap (λ (d : Child). d ∷ drop (i + 1) cs) (sym is) in

@@ -1,57 +1,14 @@
--- Begin on an arc, but for its record, which goes out last: what it makes of the node, and what is then to be sent.
-use Rattle.std.specs.Prelude.{ℕ, ◌&&◌, not, Bool, if◌then◌else◌, Option, Some, None, List, [], ◌∷◌, ◌++◌}
-use Rattle.tp_names.specs.declared.identifiers.Aaid.{Aaid}
-use Rattle.tp_names.specs.declared.identifiers.BranchId.{BranchId}
-use Rattle.tp_names.specs.declared.children.Child.{Child}
+-- What goes out for a Begin, and how the transaction of a root begins.
+use Rattle.std.specs.Prelude.{ℕ, Option, Some, None, List, [], ◌∷◌}
 use Rattle.tp_records.specs.declared.dialogue.DialogueRecord.{DialogueRecord}
-use Rattle.tp_model.specs.declared.arc.Side.{Side}
 use Rattle.tp_model.specs.declared.transaction.TxOut.{TxOut}
-use Rattle.tp_model.specs.Parts.{Who, Arc, Root, Current, Digest}
-use Rattle.tp_model.specs.Dialogues.{is_nil, begun_by, named_holder}
-use Rattle.tp_model.specs.Arcs.{find_arc, with_dialogue}
-use Rattle.tp_model.specs.Transactions.{aaid_of, fresh_branch}
-use Rattle.tp_model.specs.Node.{Move, move, followed, fresh_current, next_mark, with_mark_drawn, may_begin_on, begin_each, begin_chained, phase_of, may_root, has_none, chained_peers}
-use Rattle.tp_site.specs.Node.{Node}
-
--- the tree of the current transaction
-abbrev pub aaid_in : Option Current → Option Aaid
-aaid_in None = None
-aaid_in (Some c) = Some (aaid_of c.key)
-
--- the transaction with a new branch behind the others
-abbrev pub with_branch : Child → Option Current → Option Current
-with_branch x None = None
-with_branch x (Some c) = Some (record c { branches = c.branches ++ fresh_branch x ∷ [] })
-
-abbrev pub new_branch : Who → Digest → BranchId
-new_branch who d = record { superior = who.site; mark = next_mark who d }
-
--- the node behind a Begin on the arc
-abbrev pub begun_at : Who → Arc → Digest → Digest
-begun_at who a d = record (with_mark_drawn d) {
-  arcs = with_dialogue d.arcs a.peer.node (begun_by (named_holder a.dialogue) Side.Superior);
-  current = with_branch (record { addr = a.peer; branch = new_branch who d }) d.current;
-}
-
--- where it may be sent: the node behind it, and its record
-abbrev pub begun_on : Who → ℕ → Digest → Digest × Option DialogueRecord
-begun_on who p d = elim d.current [
-  | None ↦ (d, None)
-  | Some c ↦ elim (find_arc d.arcs p) [
-    | None ↦ (d, None)
-    | Some a ↦
-        if may_begin_on who d a then (begun_at who a d, Some (DialogueRecord.Begin (aaid_of c.key) (new_branch who d) (named_holder a.dialogue)))
-        else (d, None)
-  ]
-]
+use Rattle.tp_model.specs.Parts.{Who, Root, Digest}
+use Rattle.tp_model.specs.Node.{Move, move, followed, fresh_current, next_mark, with_mark_drawn, begin_each, begin_chained}
 
 -- what is sent of it
 abbrev pub carried_of : ℕ → Option DialogueRecord → List TxOut
 carried_of p None = []
 carried_of p (Some r) = TxOut.Carry p r ∷ []
-
-abbrev pub with_digest : Node → Digest → Node
-with_digest v d = record v { digest = d }
 
 -- ---- a root's transaction
 
@@ -62,9 +19,3 @@ opened_root who d = move [] (record (with_mark_drawn d) { current = Some (fresh_
 -- Begin on the arcs that are named, and then on the chained ones
 abbrev pub named_begun : List ℕ → Who → Digest → Move
 named_begun named who d = followed (begin_each who named d) (begin_chained who)
-
--- ---- the next transaction
-
--- the node has none, may be a root, and has a chained arc to begin on
-abbrev pub may_start : Who → Digest → Bool
-may_start who d = is_nil (phase_of d) && may_root d && not (has_none (chained_peers who d))

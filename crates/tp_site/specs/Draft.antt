@@ -4,11 +4,11 @@ use Rattle.std.specs.Prelude.{◌≡◌, true, Result, Ok, Err}
 use Rattle.tp_names.specs.declared.identifiers.NodeKey.{NodeKey}
 use Rattle.tp_model.specs.declared.recovery.KeptEvent.{KeptEvent}
 use Rattle.tp_model.specs.Recovery.{with_forget, noted}
-use Rattle.tp_site.specs.Node.{Node}
+use Rattle.tp_node.specs.Node.{Node}
 use Rattle.tp_model.specs.Parts.{Who, Digest}
 use Rattle.tp_model.specs.Node.{Move, followed}
 use Rattle.tp_model.specs.Events.{needs_numbers}
-use Rattle.tp_site.specs.declared.halt.Halt.{Halt}
+use Rattle.tp_node.specs.declared.halt.Halt.{Halt}
 use Rattle.tp_site.specs.declared.draft.Draft.TheInside.{Inside}
 
 pub record Draft : Type 0 where
@@ -28,12 +28,6 @@ abbrev pub Plays : Result (Unit {0}) Halt → Draft → Draft → (Who → Diges
 Plays (Ok u) old new f = new ≡ goes_on old f
 Plays (Err Halt.NumbersSpent) old new f = needs_numbers (followed old.move (f old.who)) ≡ true
 Plays (Err Halt.NoMemory) old new f = Unit {0}
-
--- where numbers are wanting, that is so
-abbrev pub OnSpent : {A : Type 0} → Result A Halt → Type 0 → Type 0
-OnSpent (Ok a) P = Unit {0}
-OnSpent (Err Halt.NumbersSpent) P = P
-OnSpent (Err Halt.NoMemory) P = Unit {0}
 
 abbrev pub without_value : {A : Type 0} → Result A Halt → Result (Unit {0}) Halt
 without_value (Ok a) = Ok tt

@@ -7,7 +7,7 @@ use Rattle.tp_logrec.specs.declared.record.LogVersion.{LogVersion}
 use Rattle.tp_model.specs.Parts.{Who, Start, Digest}
 use Rattle.tp_model.specs.Events.{started}
 use Rattle.tp_model.specs.NodeRun.{records_at}
-use Rattle.tp_site.specs.Node.{Node}
+use Rattle.tp_node.specs.Node.{Node}
 use Rattle.tp_site.specs.declared.nodes.Nodes.TheInside.{Inside}
 
 pub record Nodes : Type 0 where

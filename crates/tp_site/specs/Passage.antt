@@ -1,5 +1,4 @@
--- The passages of a transaction as the code has them, and a turn of the transaction step by step: entering, what is said,
--- and what stays.
+-- A turn of the transaction step by step: entering, what is said, and what stays.
 use Rattle.std.specs.Prelude.{ℕ, suc, cond, Option, List, [], ◌∷◌}
 use Rattle.tp_logrec.specs.declared.record.LogRec.{LogRec}
 use Rattle.tp_model.specs.declared.transaction.TxOut.{TxOut}
@@ -9,19 +8,9 @@ use Rattle.tp_model.specs.Arcs.{performed}
 use Rattle.tp_model.specs.declared.transaction.TxEvent.{TxEvent}
 use Rattle.tp_model.specs.Transactions.{Transaction, transacted, step_of}
 use Rattle.tp_model.specs.Recovery.{kept_after}
-use Rattle.tp_model.specs.Node.{Move, move, followed, perform, remaining, entered, played, committed_arcs, grants, is_commit_complete, is_leaving, passage, Passage as PassageValue, Stays, Enters, Falls, Falls_at_once, Commits, Rolls_back, Leaves}
-use Rattle.tp_site.specs.declared.passage.Passage.{Passage}
-use Rattle.tp_site.specs.declared.arc_step.ArcStep.{ArcStep}
-use Rattle.tp_site.specs.ArcStep.{stepped_arcs}
-
-abbrev pub passage_of : Passage → PassageValue
-passage_of Passage.Stays = Stays
-passage_of Passage.Enters = Enters
-passage_of Passage.Falls = Falls
-passage_of Passage.FallsAtOnce = Falls_at_once
-passage_of Passage.Commits = Commits
-passage_of Passage.RollsBack = Rolls_back
-passage_of Passage.Leaves = Leaves
+use Rattle.tp_model.specs.Node.{Move, move, followed, perform, remaining, entered, played, committed_arcs, grants, is_commit_complete, is_leaving, passage, Passage as PassageValue}
+use Rattle.tp_node.specs.declared.arc_step.ArcStep.{ArcStep}
+use Rattle.tp_node.specs.ArcStep.{stepped_arcs}
 
 -- ---- a turn, of the transaction t
 
@@ -55,7 +44,7 @@ giving t who d = followed (with_arcs_by (λ e. committed_arcs e t e.arcs) d) (λ
 abbrev pub completing : Transaction → List TxOut → Who → Digest → Move
 completing t outs who d = followed (giving t who d) (perform outs)
 
--- where the indication of a completed commitment stands; behind the others where there is none
+-- where the indication of a completed commitment stands; after the others where there is none
 abbrev pub place_of_completion : List TxOut → ℕ
 place_of_completion [] = 0
 place_of_completion (o ∷ outs) = cond (is_commit_complete o) 0 (suc (place_of_completion outs))

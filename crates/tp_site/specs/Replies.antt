@@ -1,5 +1,5 @@
 -- A Done that comes as a reply, by the transaction that it speaks of.
-use Rattle.std.specs.Prelude.{Bool, false, if◌then◌else◌, Some, None, []}
+use Rattle.std.specs.Prelude.{if◌then◌else◌, Some, None, []}
 use Rattle.tp_names.specs.declared.identifiers.Aaid.{Aaid}
 use Rattle.tp_names.specs.declared.identifiers.BranchId.{BranchId}
 use Rattle.tp_names.specs.declared.identifiers.NodeKey.{NodeKey}
@@ -9,13 +9,10 @@ use Rattle.tp_records.specs.declared.peer.RecState.{RecState}
 use Rattle.tp_model.specs.declared.transaction.TxEvent.{TxEvent}
 use Rattle.tp_model.specs.declared.recovery.KeptEvent.{KeptEvent}
 use Rattle.tp_model.specs.Parts.{Who, Digest}
-use Rattle.tp_model.specs.Dialogues.{is_committing}
 use Rattle.tp_model.specs.Recovery.{settled, forget_to}
 use Rattle.tp_model.specs.Node.{Move, move, perform, transact, keep}
 use Rattle.tp_model.specs.Arrivals.{Named, named_by_key, branch_key}
-
-abbrev pub is_current_committing : Named → Bool
-is_current_committing n = elim n.current [ None ↦ false | Some c ↦ is_committing c.phase ]
+use Rattle.tp_node.specs.Replies.{is_current_committing}
 
 -- of a branch in committing, of a kept transaction, or of one that is gone
 abbrev pub done_with : Named → Addr → Aaid → BranchId → Report → Who → Digest → Move

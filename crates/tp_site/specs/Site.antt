@@ -17,7 +17,7 @@ use Rattle.tp_journal.specs.Records.{version_of}
 use Rattle.tp_journal.specs.Disorder.{IsFirstOutOfOrder}
 use Rattle.tp_site.specs.Nodes.{Nodes, IsSameSite, AreFrom, has_node, who_at, digest_at}
 use Rattle.tp_site.specs.Draft.{Draft}
-use Rattle.tp_site.specs.NodeEvent.{Answer, Refuses, Happens, answer_at}
+use Rattle.tp_node.specs.NodeEvent.{Answer, Refuses, Happens, answer_at}
 use Rattle.tp_site.specs.declared.site.Played.{Played}
 use Rattle.tp_site.specs.declared.faults.SiteFault.{SiteFault}
 use Rattle.tp_site.specs.declared.faults.StartFault.{StartFault}
@@ -148,7 +148,7 @@ pub record IsStarted {K : Type 0} (standing : K → Standing) (old : K) (name : 
   pub forced : IsForced standing old (Some (LogRec.Boot s.nodes.boot)) s.keeper
   pub shut : s.shut ≡ None
 
--- the first record that may not stand behind those before it stands at that place
+-- the first record that may not stand after those before it stands at that place
 pub record IsForeign (told : List Receipt) (records : List LogRec) (at : ℕ) : Type 0 where
   pub index : ℕ
   pub first : IsFirstOutOfOrder records (Some index)

@@ -1,21 +1,15 @@
 -- What a node does with one arc before its transaction or its user hears of it: something is said or heard on its dialogue, or
 -- it is gone.
-use Rattle.std.specs.Prelude.{ℕ, Some, None, [], ◌∷◌}
+use Rattle.std.specs.Prelude.{ℕ, [], ◌∷◌}
 use Rattle.tp_records.specs.declared.indication.Indication.{Indication}
 use Rattle.tp_records.specs.declared.dialogue.DialogueRecord.{DialogueRecord}
 use Rattle.tp_model.specs.declared.transaction.TxEvent.{TxEvent}
 use Rattle.tp_model.specs.declared.transaction.TxOut.{TxOut}
-use Rattle.tp_model.specs.Parts.{Who, Dialogue, Digest}
-use Rattle.tp_model.specs.Dialogues.{asked_of, heard_of, said, heard}
+use Rattle.tp_model.specs.Parts.{Who, Digest}
+use Rattle.tp_model.specs.Dialogues.{said, heard}
 use Rattle.tp_model.specs.Arcs.{with_dialogue, without_arc}
 use Rattle.tp_model.specs.Node.{Move, move, perform, transact}
-
--- what is said by the request of that code, and heard by the record of that code
-abbrev pub said_by : ℕ → Dialogue → Dialogue
-said_by code d = elim (asked_of code) [ None ↦ d | Some a ↦ said a d ]
-
-abbrev pub heard_by : ℕ → Dialogue → Dialogue
-heard_by code d = elim (heard_of code) [ None ↦ d | Some h ↦ heard h d ]
+use Rattle.tp_node.specs.Talk.{said_by, heard_by}
 
 abbrev pub saying : ℕ → ℕ → Who → Digest → Move
 saying p code who d = move [] (record d { arcs = with_dialogue d.arcs p (said_by code) })

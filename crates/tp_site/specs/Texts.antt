@@ -6,7 +6,7 @@ use Rattle.tp_logrec.specs.declared.record.LogRec.{LogRec}
 use Rattle.tp_logrec.specs.declared.record.LogVersion.{LogVersion}
 use Rattle.tp_logrec.specs.RecordReading.{record_grammar}
 
--- the text is read as the value, whatever stands behind it
+-- the text is read as the value, whatever stands after it
 pub record Takes {A : Type 0} (r : Reader A) (text : List ℕ) (v : A) : Type 0 where
   pub reads : (rest : List ℕ) → r (text ++ rest) ≡ Some (v, rest)
 

@@ -5,10 +5,9 @@ ghost use Rattle.tp_model.specs.Arrivals.{refused_arrival, do_arrival};
 ghost use Rattle.tp_site.specs.Draft.{Plays};
 
 use crate::draft::Draft;
-use crate::halt::Halt;
-use crate::recovery::key_of;
 use std::alloc::Global;
 use tp_names::{Addr, Mark};
+use tp_node::{Halt, key_of};
 use tp_records::{DialogueRecord, PeerRecord};
 use tp_units::Units;
 

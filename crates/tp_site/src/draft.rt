@@ -14,30 +14,28 @@ ghost use Rattle.tp_records.specs.declared.request.Request.{Request};
 ghost use Rattle.tp_model.specs.declared.arc.Side.{Side};
 ghost use Rattle.tp_model.specs.Arcs.{find_arc};
 ghost use Rattle.tp_tree.specs.Tie.{arc_of};
-ghost use Rattle.tp_site.specs.Node.{has_place_at};
-ghost use Rattle.tp_site.specs.Calls.{offer_of, answering, entering_tree, binding, taking_part};
-ghost use Rattle.tp_site.specs.Arcs.{fits_link};
+ghost use Rattle.tp_node.specs.Node.{has_place_at};
+ghost use Rattle.tp_node.specs.Calls.{offer_of};
+ghost use Rattle.tp_site.specs.Calls.{answering, entering_tree, binding, taking_part};
+ghost use Rattle.tp_node.specs.Arcs.{fits_link};
 ghost use Rattle.tp_model.specs.Arrivals.{lose, take_abort, take_open, take_accept, take_begin, take_left, take_record, take_on};
 ghost use Rattle.tp_records.specs.declared.indication.Indication.{Indication};
 ghost use Rattle.tp_model.specs.declared.transaction.TxEvent.{TxEvent};
 ghost use Rattle.tp_model.specs.Questions.{is_begin};
 ghost use Rattle.tp_model.specs.Recovery.{settled, refused_kept};
 ghost use Rattle.tp_site.specs.Talk.{speaking_on, deferring, telling_heard, taking_deferral};
-ghost use Rattle.tp_site.specs.Passage.{said_then, giving, completing, playing, speaking, settling, turning, passing, turning_by, passage_of, place_of_completion};
+ghost use Rattle.tp_site.specs.Passage.{said_then, giving, completing, playing, speaking, settling, turning, passing, turning_by, place_of_completion};
+ghost use Rattle.tp_node.specs.Passage.{passage_of};
 ghost use Rattle.tp_model.specs.Links.{greatest, is_opening_with, dropped_by};
 
-use crate::arc_step::ArcStep;
 use crate::copies;
-use crate::halt::Halt;
-use crate::node::Node;
-use crate::outs::Outs;
-use crate::passage::{Passage, is_leaving};
 use std::alloc::Global;
 use std::marker::Model;
 use tp_commit::{Branch, Sight};
 use tp_logrec::LogRec;
 use tp_model::{Kept, KeptEvent, Phase, Step, TxEvent, TxFault, TxOut};
 use tp_names::{Aaid, Addr, BranchId, Mark, NodeKey, Octets};
+use tp_node::{ArcStep, Halt, Node, Outs, Passage, is_leaving};
 use tp_records::{DialogueRecord, Holder, Indication, PeerRecord, Request};
 use tp_recover::{owed, settle};
 use tp_tree::Tie;
@@ -870,7 +868,7 @@ impl Draft {
     }
 }
 
-// Where the indication of a completed commitment stands; behind the others where there is none.
+// Where the indication of a completed commitment stands; after the others where there is none.
 fn place_of_completion(outs: &[TxOut]) -> usize
     ensures place { result ≡ place_of_completion outs.now }
     ensures within { result ≤ length outs.now }

@@ -52,7 +52,7 @@ impl From<ForceFault> for SiteFault {
 /// Why a site does not start.
 #[derive(Clone, Copy, Debug, PartialEq, Eq, Error)]
 pub enum StartFault {
-    /// The record at that place of the log may not stand behind those before it.
+    /// The record at that place of the log may not stand after those before it.
     #[error("foreign at {at}")]
     Foreign { at: u64 },
     /// The last boot number is the greatest.

@@ -6,33 +6,17 @@
 //! draft is what they call a move.
 #![tactic(auto)]
 
-mod arc_step;
-mod arcs;
+mod answer;
 mod arrival;
 mod copies;
 mod draft;
-mod event;
 mod faults;
-mod halt;
-mod kept;
-mod look;
 mod loss;
-mod named;
-mod node;
 mod nodes;
-mod outs;
-mod passage;
 mod recovery;
-mod refusing;
-mod sight;
 mod site;
-mod state;
-#[cfg(test)]
-mod tests;
 mod texts;
 
-pub use event::NodeEvent;
 pub use faults::{SiteFault, StartFault};
-pub use outs::{Out, Outs};
 pub use site::{Played, Site};
-pub use state::{NodeState, NodeTree};
+pub use tp_node::{NodeEvent, NodeState, NodeTree, Out, Outs};

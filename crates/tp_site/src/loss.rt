@@ -1,15 +1,14 @@
 //! Associations that end.
-ghost use Rattle.std.specs.Prelude.{◌≡◌, [], ◌∷◌};
-ghost use Rattle.tp_records.specs.declared.peer.PeerRecord.{PeerRecord};
+ghost use Rattle.std.specs.Prelude.{◌≡◌};
 ghost use Rattle.tp_model.specs.Arrivals.{take_shut, broken_pair, break_off};
 ghost use Rattle.tp_site.specs.Draft.{Plays};
 ghost use Rattle.tp_site.specs.Calls.{breaking};
 
 use crate::draft::Draft;
-use crate::halt::Halt;
 use std::alloc::Global;
 use tp_model::TxOut;
 use tp_names::{Addr, Mark};
+use tp_node::Halt;
 use tp_records::{Indication, PeerRecord};
 
 impl Draft {

@@ -3,20 +3,19 @@ ghost use Rattle.std.specs.Prelude.{ℕ, ◌≡◌, ◌==◌, ◌++◌, ◌∷�
 ghost use Rattle.tp_logrec.specs.declared.record.LogRec.{LogRec as LogRecord};
 ghost use Rattle.std.specs.Option.{option_copied};
 ghost use Rattle.tp_model.specs.Events.{started};
-ghost use Rattle.tp_model.specs.History.{state};
-ghost use Rattle.tp_site.specs.NodeEvent.{event_of, answer_at, IsAnswer};
+ghost use Rattle.tp_node.specs.NodeEvent.{event_of, answer_at};
+ghost use Rattle.tp_site.specs.Answers.{IsAnswer};
 ghost use Rattle.tp_site.specs.Nodes.{has_node, who_at, digest_at, node_at, find_node, unknown_start, IsSameSite, AreFrom};
-ghost use Rattle.tp_site.specs.Node.{recovered_by};
+ghost use Rattle.tp_node.specs.Node.{recovered_by};
 
 use crate::draft::Draft;
-use crate::event::NodeEvent;
-use crate::node::Node;
 use std::alloc::Global;
 use std::collections::HashMap;
 use std::marker::Model;
 use tp_logrec::{LogRec, LogVersion};
 use tp_model::TxFault;
 use tp_names::{NoMemory, SiteName};
+use tp_node::{Node, NodeEvent};
 
 /// The nodes of a site, by their numbers.
 #[derive(Debug, Drop)]
@@ -90,8 +89,8 @@ impl Nodes {
         ensures { IsAnswer result (node_at self.now node) (answer_at (who_at self.now node) (digest_at self.now node) (event_of event.now)) }
     {
         match self.find(node) {
-            Some(node) => node.answer_to(alloc, event),
-            None => self.unknown(alloc, node).answer_to(alloc, event),
+            Some(node) => Draft::answer_to(alloc, node, event),
+            None => Draft::answer_to(alloc, &self.unknown(alloc, node), event),
         }
     }
 

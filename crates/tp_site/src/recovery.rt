@@ -1,7 +1,5 @@
 //! The records of recovery, which a draft takes beside the associations.
-ghost use Rattle.std.specs.Prelude.{◌≡◌};
 ghost use Rattle.tp_records.specs.declared.peer.PeerRecord.{PeerRecord};
-ghost use Rattle.tp_records.specs.declared.peer.RecState.{RecState};
 ghost use Rattle.tp_model.specs.Recovery.{forget_to};
 ghost use Rattle.tp_model.specs.Node.{perform};
 ghost use Rattle.tp_model.specs.Arrivals.{branch_key, reply_to, take_order, take_forget, take_ready_reply, take_done_reply, take_reply, do_arrival};
@@ -9,10 +7,10 @@ ghost use Rattle.tp_site.specs.Draft.{Plays};
 ghost use Rattle.tp_site.specs.Replies.{done_of};
 
 use crate::draft::Draft;
-use crate::halt::Halt;
 use std::alloc::Global;
 use tp_model::{KeptEvent, Phase, Question, TxEvent};
 use tp_names::{Aaid, Addr, BranchId, NodeKey, Report};
+use tp_node::{Halt, key_of};
 use tp_records::{PeerRecord, RecState};
 use tp_recover::{answer, forget_to};
 
@@ -184,15 +182,5 @@ impl Draft {
                 RecState::RetryLater,
             ),
         }
-    }
-}
-
-/// The key of that branch of the tree.
-pub(crate) fn key_of(aaid: &Aaid, branch: &BranchId) -> NodeKey
-    ensures { result ≡ branch_key aaid.now branch.now }
-{
-    NodeKey {
-        aaid: *aaid,
-        branch: Some(*branch),
     }
 }

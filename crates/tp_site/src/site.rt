@@ -4,19 +4,15 @@ ghost use Rattle.std.specs.Option.{option_map};
 ghost use Rattle.tp_logrec.specs.Order.{boots, last_number};
 ghost use Rattle.tp_model.specs.History.{state};
 ghost use Rattle.tp_journal.specs.Records.{version_of};
-ghost use Rattle.tp_site.specs.NodeEvent.{event_of};
+ghost use Rattle.tp_node.specs.NodeEvent.{event_of};
 ghost use Rattle.tp_site.specs.Nodes.{has_node, who_at};
 ghost use Rattle.tp_site.specs.Site.{Plays, Attempts, Settles, Records, Opens, Starts, IsFound, IsUnfound, told_records, state_at, known_at};
-ghost use Rattle.tp_site.specs.State.{state_of, tree_in};
+ghost use Rattle.tp_node.specs.State.{state_of, tree_in};
 ghost use Rattle.tp_site.specs.Faults.{site_fault, shut_by};
 
 use crate::draft::Draft;
-use crate::event::NodeEvent;
 use crate::faults::{SiteFault, StartFault};
-use crate::node::Node;
 use crate::nodes::Nodes;
-use crate::outs::Outs;
-use crate::state::{NodeState, NodeTree};
 use crate::texts::has_text;
 use std::alloc::Global;
 use std::marker::Model;
@@ -24,6 +20,7 @@ use tp_journal::{ForceFault, Keeper, first_out_of_order};
 use tp_logrec::{LogRec, LogVersion};
 use tp_model::{Phase, TxFault};
 use tp_names::{NoMemory, SiteName};
+use tp_node::{Node, NodeEvent, NodeState, NodeTree, Outs};
 
 /// What an event gives: its outputs, in order. With a number, it was refused by that, and the association that it came on
 /// was ended; the outputs are of that loss.
@@ -160,7 +157,7 @@ impl<K: Keeper> Site<K> {
         }
     }
 
-    /// Starts a site of that name on the records of a log, and forces its boot: the boot number behind the last, or 1.
+    /// Starts a site of that name on the records of a log, and forces its boot: the boot number after the last, or 1.
     pub fn start(alloc: Global, keeper: K, name: SiteName) -> Result<Site<K>, (K, StartFault)>
         ensures { Starts K.standing keeper name result }
     {

@@ -146,7 +146,7 @@ fn some_branch_reads(branch: Option<BranchId>) -> bool
     }
 }
 
-/// A key is read back with the superior's address behind it, where it has a branch exactly if there
+/// A key is read back with the superior's address after it, where it has a branch exactly if there
 /// is a superior.
 #[tactic(auto, using(crate::proofs::RecordParts::key_and_superior_taken, crate::proofs::RecordParts::key_and_superior_given))]
 fn key_and_superior_read(key: NodeKey, superior: Option<Addr>) -> bool
@@ -202,7 +202,7 @@ fn judgement_reads(side: Outcome, report: Report) -> bool
     }
 }
 
-/// As many children as fit are read back behind their count.
+/// As many children as fit are read back after their count.
 #[tactic(auto, using(crate::proofs::RecordParts::children_taken, crate::proofs::RecordParts::children_length))]
 fn children_read(version: LogVersion, children: &Children) -> bool
     ensures reads { IsTrue result → Takes (read_children version) (children_bytes version children.now) children.now }

@@ -1,4 +1,4 @@
--- A node that comes: its history, and the nodes with it behind the others.
+-- A node that comes: its history, and the nodes with it after the others.
 use Rattle.std.proofs.Common.{◌≡◌, ◌==◌, ◌&&◌, ◌++◌, ℕ, Bool, true, false, refl, ap, sym, ◌∙◌, arith, Option, Some, None, List, [], ◌∷◌}
 use Rattle.std.specs.List.{AllByRecursion}
 use Rattle.std.specs.Option.{is_some}
@@ -66,7 +66,7 @@ apart_behind (x ∷ ns) n h none =
     let other : (number_of n == number_of x) ≡ false = grind (arith, nat_tests, rest.0) in
     ap (λ (b : Bool). b && are_apart (ns ++ n ∷ [])) (free_behind (number_of x) ns n parts.0 other) ∙ apart_behind ns n parts.1 rest.1
 
--- ---- it stands behind the others
+-- ---- it stands after the others
 
 pub node_behind : (ns : List Node) (n : Node) (k : ℕ) → is_some (find_node ns k) ≡ true → is_some (find_node (ns ++ n ∷ []) k) ≡ true
 node_behind [] n k h = absurd cc

@@ -53,7 +53,7 @@ starts before (Some c) leaves rec = go c.key
 pub started_same : (n : Node) (e : EntryValue) → tree_started (step_by n e) ≡ started (digest n.origin n.history) (digest n.origin (e ∷ n.history))
 started_same n e = starts (digest n.origin n.history).current (digest n.origin (e ∷ n.history)).current (step_by n e).leaves (step_by n e).rec
 
--- ---- the world behind an entry
+-- ---- the world after an entry
 
 logged_nodes : (w : World) (n : Node) (r : Option LogRec) → (logged w n r).nodes ≡ w.nodes
 logged_nodes w n None = refl

@@ -1,4 +1,4 @@
--- The nodes behind an entry: its node's parts took the step, and the others are what they were.
+-- The nodes after an entry: its node's parts took the step, and the others are what they were.
 use Rattle.std.proofs.Common.{◌≡◌, ◌==◌, ℕ, Bool, true, false, refl, ap, sym, subst, ◌∙◌, Option, Some, List, [], ◌∷◌}
 use Rattle.tp_model.specs.Parts.{Entry}
 use Rattle.tp_model.specs.History.{digest}

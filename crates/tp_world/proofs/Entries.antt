@@ -7,7 +7,7 @@ use Rattle.tp_model.specs.History.{digest, answer, entry_of, broken_by}
 use Rattle.tp_model.specs.Node.{Move}
 use Rattle.tp_model.specs.Outcomes.{is_unchanged}
 use Rattle.tp_model.specs.declared.out_line.LogWords.{LogWords}
-use Rattle.tp_site.specs.declared.state.NodeTree.{NodeTree}
+use Rattle.tp_node.specs.declared.state.NodeTree.{NodeTree}
 use Rattle.tp_site.specs.NodeEvent.{Answer, Refuses, Happens, answer_at}
 use Rattle.tp_world.specs.declared.part.Step.{Step}
 

@@ -1,4 +1,4 @@
--- What sites know of their nodes: behind an entry of one of them, and beside a new site.
+-- What sites know of their nodes: after an entry of one of them, and beside a new site.
 use Rattle.std.proofs.Common.{◌≡◌, ◌<◌, ◌==◌, ◌++◌, ℕ, Bool, true, false, cond, refl, ap, sym, ◌∙◌, subst, arith, Some, None, List, [], ◌∷◌, length, slice_set}
 use Rattle.std.proofs.lemmas.Bool.Decides.{nat_tests}
 use Rattle.tp_logrec.specs.declared.record.LogVersion.{LogVersion}

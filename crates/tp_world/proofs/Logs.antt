@@ -25,7 +25,7 @@ use Rattle.tp_world.specs.Sites.{IsLogged}
 use Rattle.tp_world.specs.Slots.{standing, shown_behind, blank_file, IsBlank}
 use Rattle.tp_world.specs.declared.site_slot.SiteSlot.{SiteSlot}
 
--- ---- records behind their receipts
+-- ---- records after their receipts
 
 pub recs_of : (at : ℕ) (wide : Bool) (rs : List LogRec) → map (λ (r : Receipt). r.rec) (receipts_from at wide rs) ≡ rs
 recs_of at wide [] = refl
@@ -35,7 +35,7 @@ recs_push : (rs : List Receipt) (r : Receipt) → map (λ (q : Receipt). q.rec) 
 recs_push [] r = refl
 recs_push (q ∷ rs) r = ap (λ (l : List LogRec). q.rec ∷ l) (recs_push rs r)
 
--- a record that is stored stands behind the others
+-- a record that is stored stands after the others
 pub stored_list : (old new : Kept MemDisk) (rec : LogRec) (r : Receipt) → Stored (standing old) rec r (standing new) → new.list ≡ old.list ++ rec ∷ []
 stored_list old new rec r h =
     sym (recs_of (first_place new.wide) new.wide new.list)
@@ -94,7 +94,7 @@ at_pushed : (rs : List LogRec) (r : LogRec) → slice_get (rs ++ r ∷ []) (leng
 at_pushed [] r = refl
 at_pushed (q ∷ rs) r = at_pushed rs r
 
--- what stands behind the records from before is the one that was forced
+-- what stands after the records from before is the one that was forced
 pub shown_forced : (old new : Kept MemDisk) (rec : Option LogRec) → IsForced standing old rec new → shown_behind new.list (length old.list) ≡ option_map log_shown rec
 shown_forced old new None same = ap (λ (j : Kept MemDisk). shown_behind j.list (length old.list)) same ∙ ap (option_map log_shown) (at_end old.list)
 shown_forced old new (Some r) (receipt, stores) =

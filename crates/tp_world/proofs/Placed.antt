@@ -1,4 +1,4 @@
--- The sites of a world behind an event of one of its nodes.
+-- The sites of a world after an event of one of its nodes.
 use Rattle.std.proofs.Common.{◌≡◌, ◌≤◌, ◌<◌, ◌==◌, ◌&&◌, ℕ, Bool, true, false, cond, refl, ap, sym, ◌∙◌, subst, arith, Option, Some, None, Result, Ok, Err, List, ◌∷◌, length, slice_set, slice_index_or}
 use Rattle.std.specs.Option.{option_map}
 use Rattle.std.proofs.lemmas.Bool.Decides.{nat_tests}
@@ -67,7 +67,7 @@ home w n xs stand found placed =
       who = same_who both.slot.site.nodes.site n.origin.who (slot_name xs (site_of n) both.slot both.found);
     }
 
--- ---- the world behind an entry
+-- ---- the world after an entry
 
 abbrev site_after : Site → Option LogRec → Site
 site_after s None = s
@@ -102,7 +102,7 @@ module _ (w : World) (n : Node) (e : Event) (xs : List SiteSlot) (stand : SitesS
   gains : (number : Option ℕ) (m : Move) → answer_at (who_at at.slot.site.nodes (number_of n)) (known_at at.slot.site (number_of n)) e ≡ Happens number m → IsGained n.origin n.history e number m
   gains number m is = has_gained n.origin n.history e number m (sym asked ∙ is)
 
-  -- the site behind the move
+  -- the site after the move
   site_moved : (y : SiteSlot) (number : Option ℕ) (x : Entry) (h : HasHappened at.slot (number_of n) e number x y) → IsSite (site_after at.site h.move.rec) y
   site_moved y number x h = record {
     name = h.played.site.site ∙ at.is.name ∙ sym (after_name at.site h.move.rec);
@@ -118,7 +118,7 @@ module _ (w : World) (n : Node) (e : Event) (xs : List SiteSlot) (stand : SitesS
       subst (λ (a : List ℕ). AreSites (put_site w.sites (site_after at.site h.move.rec)) (slice_set xs (place_of_site xs a) y)) name
       (are_put w.sites xs (site_after at.site h.move.rec) y stand.sites (site_moved y number x h))
 
-  -- the world behind the entry
+  -- the world after the entry
   stands_behind : (y : SiteSlot) (number : Option ℕ) (x : Entry) (h : HasHappened at.slot (number_of n) e number x y) (g : IsGained n.origin n.history e number h.move)
       → SitesStand (logged (entered w n g.entry) n g.entry.rec) (slice_set xs (place_of_site xs (site_of n)) y)
   stands_behind y number x h g =

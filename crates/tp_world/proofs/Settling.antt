@@ -24,7 +24,7 @@ forced_same : (site : List ℕ) (r : Option LogRec) → forced_lines site (optio
 forced_same site None = refl
 forced_same site (Some r) = refl
 
--- the node has answered, and its site stands for the world behind the entry, and nothing else has changed
+-- the node has answered, and its site stands for the world after the entry, and nothing else has changed
 pub record IsAnswered (w : World) (n : Node) (ent : Option EntryValue) (x : Option Entry) (old mid : Ground) : Type 0 where
   pub stands : Stands w old
   pub found : find_node w.nodes (number_of n) ≡ Some n

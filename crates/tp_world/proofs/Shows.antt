@@ -9,7 +9,7 @@ use Rattle.tp_model.specs.World.{World, Node, number_of, addr_of, find_node}
 use Rattle.tp_model.specs.Happenings.{Turn}
 use Rattle.tp_model.specs.Lines.{Fault, Name, shows, state_line, show_line}
 use Rattle.tp_site.specs.State.{state_of}
-use Rattle.tp_site.specs.declared.state.NodeState.{NodeState}
+use Rattle.tp_node.specs.declared.state.NodeState.{NodeState}
 use Rattle.tp_world.specs.Nodes.{address_at}
 use Rattle.tp_world.specs.World.{SitesStand, Stands, Gives, is_placed}
 use Rattle.tp_world.specs.declared.fault.WorldFault.{WorldFault}

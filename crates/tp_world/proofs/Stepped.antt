@@ -1,4 +1,4 @@
--- The parts behind a step: which trees it names, and that it leaves the others alone.
+-- The parts after a step: which trees it names, and that it leaves the others alone.
 use Rattle.std.proofs.Common.{◌≡◌, ◌&&◌, ◌||◌, not, Bool, true, false, refl, ap, sym, ◌∙◌, arith, Option, Some, None, List}
 use Rattle.std.specs.Prelude.{cond, Result, Ok, Err, OnOk}
 use Rattle.std.specs.Map.{lookup}
@@ -9,7 +9,7 @@ use Rattle.tp_names.proofs.Sames.{aaid_same}
 use Rattle.tp_model.specs.declared.arc.Phase.{Phase}
 use Rattle.tp_model.specs.declared.out_line.LogWords.{LogWords}
 use Rattle.tp_model.specs.Dialogues.{is_active, is_ready, is_rolling}
-use Rattle.tp_site.specs.declared.state.NodeTree.{NodeTree}
+use Rattle.tp_node.specs.declared.state.NodeTree.{NodeTree}
 use Rattle.tp_world.specs.Part.{is_in, phase_in, is_commit_of, decision_in, goes_on, has_rolled, tree_at, tree_logged, is_that, no_part, stepped}
 use Rattle.tp_world.specs.Tracks.{is_tree, tree_of, tree_either, part_at}
 use Rattle.tp_world.specs.declared.part.Part.{Part}

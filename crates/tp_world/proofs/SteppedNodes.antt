@@ -1,4 +1,4 @@
--- The nodes behind a step of one of them.
+-- The nodes after a step of one of them.
 use Rattle.std.proofs.Common.{◌≡◌, ◌≤◌, ◌<◌, ◌==◌, ℕ, zero, suc, Bool, true, false, refl, arith, List, [], ◌∷◌, length}
 use Rattle.std.specs.Prelude.{slice_index_or, slice_set}
 use Rattle.tp_world.specs.Nodes.{place_of_number, IsStepped, AreStepped}

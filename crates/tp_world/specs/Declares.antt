@@ -16,6 +16,6 @@ superior_at w (Some p) = addr_at w p
 abbrev pub has_superior : World → Option Addr → Bool
 has_superior w up = elim up [ None ↦ true | Some a ↦ is_node w a.node ]
 
--- the node has come: the lines of the turn stand behind those shown before
+-- the node has come: the lines of the turn stand after those shown before
 abbrev pub HasCome : World → Addr → Option Addr → List OutLine → List OutLine → Ground → Type 0
 HasCome w a up before after new = let t : Turn = declared_at w a.node a.site up in (after ≡ before ++ t.lines) × Stands t.world new

@@ -12,7 +12,7 @@ frame_of f = record { from = f.from; to = f.to; rec = f.rec; handed = f.handed }
 abbrev pub frames_of : Inside → List FrameValue
 frames_of v = map frame_of v.items.items
 
--- how many stand in front of the first one that is not handed over
+-- how many stand before the first one that is not handed over
 abbrev pub leading : List Frame → ℕ
 leading [] = 0
 leading (f ∷ fs) = if f.handed then suc (leading fs) else 0

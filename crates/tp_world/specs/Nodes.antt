@@ -12,7 +12,7 @@ abbrev pub find_slot : List NodeSlot → ℕ → Option NodeSlot
 find_slot [] n = None
 find_slot (x ∷ xs) n = elim (x.addr.node == n) [ true ↦ Some x | false ↦ find_slot xs n ]
 
--- behind all where there is none
+-- after all where there is none
 abbrev pub place_of_number : List NodeSlot → ℕ → ℕ
 place_of_number [] n = 0
 place_of_number (x ∷ xs) n = elim (x.addr.node == n) [ true ↦ 0 | false ↦ suc (place_of_number xs n) ]
@@ -28,7 +28,7 @@ pub record IsDeclared (a : Addr) (up : Option Addr) (x : NodeSlot) : Type 0 wher
   pub superior : x.superior ≡ up
   pub parts : (t : Aaid) → part_at x.tracks t ≡ no_part
 
--- its parts behind a step
+-- its parts after a step
 pub record IsStepped (s : Step) (old new : NodeSlot) : Type 0 where
   pub addr : new.addr ≡ old.addr
   pub superior : new.superior ≡ old.superior

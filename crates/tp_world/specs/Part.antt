@@ -1,5 +1,5 @@
 -- The part that a node has in a tree: what of its history the closing lines ask, as one fold over it. An entry is seen as a
--- step: what the node stands in before it and behind it, whether its user left, and its record. No more of it is kept.
+-- step: what the node stands in before it and after it, whether its user left, and its record. No more of it is kept.
 use Rattle.std.specs.Prelude.{◌≡◌, ◌&&◌, ◌||◌, not, Bool, true, false, if◌then◌else◌, Option, Some, None, List, [], ◌∷◌}
 use Rattle.std.specs.Option.{option_map}
 use Rattle.tp_names.specs.declared.identifiers.Aaid.{Aaid}
@@ -14,7 +14,7 @@ use Rattle.tp_model.specs.History.{digest}
 use Rattle.tp_model.specs.Legal.{IsLegal}
 use Rattle.tp_model.specs.Happenings.{log_shown}
 use Rattle.tp_model.specs.Outcomes.{is_member, is_unchanged, has_left, decided, decision, rolled}
-use Rattle.tp_site.specs.declared.state.NodeTree.{NodeTree}
+use Rattle.tp_node.specs.declared.state.NodeTree.{NodeTree}
 use Rattle.tp_site.specs.State.{tree_in}
 use Rattle.tp_world.specs.declared.part.Part.{Part}
 use Rattle.tp_world.specs.declared.part.Step.{Step}
@@ -42,14 +42,14 @@ abbrev pub is_alike : Bool → Bool → Bool
 is_alike true b = b
 is_alike false b = not b
 
--- the tree is the current one behind the step too, as it was before: at a root as a root, and at a branch as a branch. A superior
--- may begin a tree with an identifier that the node draws later: the node may be in it as a branch before a step, and as a root behind
+-- the tree is the current one after the step too, as it was before: at a root as a root, and at a branch as a branch. A superior
+-- may begin a tree with an identifier that the node draws later: the node may be in it as a branch before a step, and as a root after
 abbrev pub goes_on : Aaid → Option NodeTree → Option NodeTree → Bool
 goes_on t None y = false
 goes_on t (Some x) None = false
 goes_on t (Some x) (Some y) = is_aaid t y.aaid && is_alike x.is_root y.is_root
 
--- it rolls behind the step; or it was active or ready, and is over without having left
+-- it rolls after the step; or it was active or ready, and is over without having left
 abbrev pub has_rolled : Aaid → Step → Bool
 has_rolled t s =
     is_rolling (phase_in t s.behind)
@@ -71,7 +71,7 @@ abbrev pub is_that : Aaid → Option Aaid → Bool
 is_that t None = false
 is_that t (Some u) = is_aaid t u
 
--- ---- the part behind a step
+-- ---- the part after a step
 
 abbrev pub no_part : Part
 no_part = record { member = false; left = false; decided = false; decision = None; rolled = false }

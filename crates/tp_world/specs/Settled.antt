@@ -1,4 +1,4 @@
--- What the code does with the answer of a node, in its own values: lines behind those shown before, the step of the node's parts,
+-- What the code does with the answer of a node, in its own values: lines after those shown before, the step of the node's parts,
 -- the tree that starts, and the frames that are sent.
 use Rattle.std.specs.Prelude.{ℕ, ◌≡◌, ◌≤◌, ◌<◌, ◌+◌, ◌++◌, ◌&&◌, not, true, false, Option, Some, None, List, [], ◌∷◌, length, Result, Ok, Err}
 use Rattle.tp_names.specs.declared.identifiers.Aaid.{Aaid}
@@ -35,7 +35,7 @@ entry_lines site (Some x) = forced_lines site x.step.rec
 
 -- ---- outputs
 
--- their lines stand behind those shown before, and their frames behind those sent before
+-- their lines stand after those shown before, and their frames after those sent before
 pub record AreGiven (from : Addr) (outs : List Out) (before after : List OutLine) (old new : Ground) : Type 0 where
   pub lines : after ≡ before ++ out_lines from.node (length old.frames) outs
   pub frames : new.frames ≡ old.frames ++ frames_of from outs

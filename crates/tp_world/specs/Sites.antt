@@ -43,7 +43,7 @@ abbrev pub find_site_slot : List SiteSlot → List ℕ → Option SiteSlot
 find_site_slot [] s = None
 find_site_slot (x ∷ xs) s = elim (is_name x.site.nodes.site s) [ true ↦ Some x | false ↦ find_site_slot xs s ]
 
--- behind all where there is none
+-- after all where there is none
 abbrev pub place_of_site : List SiteSlot → List ℕ → ℕ
 place_of_site [] s = 0
 place_of_site (x ∷ xs) s = elim (is_name x.site.nodes.site s) [ true ↦ 0 | false ↦ suc (place_of_site xs s) ]

@@ -42,7 +42,7 @@ pub record IsBlank (j : Kept MemDisk) : Type 0 where
   pub gate : j.gate ≡ 10
   pub unshut : j.shut ≡ None
 
--- what is shown of the record behind the first so many, where there is one
+-- what is shown of the record after the first so many, where there is one
 abbrev pub shown_behind : List LogRec → ℕ → Option LogWords
 shown_behind rs count = option_map log_shown (slice_get rs count)
 

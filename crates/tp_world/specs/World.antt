@@ -90,8 +90,8 @@ abbrev pub fault_of : Fault → WorldFault
 fault_of Name = WorldFault.Name
 fault_of (Over what) = WorldFault.Limit what
 
--- it shows the lines of the turn behind those that stood before, and stands for the world after it; or it tells the fault.
--- Want of memory is the free answer
+-- it shows the lines of the turn after those that stood before, and stands for the world after it; or it tells the fault.
+-- Out of memory is the free answer
 abbrev pub Gives : Result Turn Fault → List OutLine → Result (Unit {0}) WorldFault → List OutLine → Ground → Type 0
 Gives r before (Err WorldFault.NoMemory) lines v = Unit {0}
 Gives r before (Err WorldFault.Unbuilt) lines v = ⊥
@@ -124,7 +124,7 @@ number_answered n e = (answer n.origin n.history e).number
 abbrev pub entry_answered : Node → Event → Option EntryValue
 entry_answered n e = (answer n.origin n.history e).entry
 
--- the site of the node has played the event: it stands for the world behind the entry; a want of room in the log is told before
+-- the site of the node has played the event: it stands for the world after the entry; a want of room in the log is told before
 -- anything of the event is so
 abbrev pub PlaysAt : World → Node → Event → Result Answer WorldFault → List SiteSlot → Type 0
 PlaysAt w n e (Ok a) new =
@@ -136,7 +136,7 @@ PlaysAt w n e (Err WorldFault.NoMemory) new = Unit {0}
 
 -- ---- an errand, in its two steps
 
--- the node of the task has answered: its site stands for the world behind the entry, and nothing else has changed
+-- the node of the task has answered: its site stands for the world after the entry, and nothing else has changed
 pub record IsAttempted (w : World) (t : Task) (a : Answer) (addr : Addr) (old new : Ground) : Type 0 where
   pub place : addr ≡ addr_of t.node
   pub number : a.number ≡ number_answered t.node t.event

@@ -4,17 +4,14 @@ ghost use Rattle.tp_model.specs.Node.{move};
 ghost use Rattle.tp_model.specs.Events.{action, needs_numbers, says_nothing};
 ghost use Rattle.tp_model.specs.Parts.{Declare};
 ghost use Rattle.tp_site.specs.Draft.{Plays, node_in};
-ghost use Rattle.tp_site.specs.NodeEvent.{event_of, refused_at_once};
+ghost use Rattle.tp_node.specs.NodeEvent.{event_of, refused_at_once};
 
 use crate::draft::Draft;
-use crate::event::NodeEvent;
-use crate::halt::Halt;
-use crate::node::Node;
-use crate::outs::Outs;
 use std::alloc::Global;
 use tp_logrec::LogRec;
 use tp_model::TxEvent;
 use tp_names::{Addr, NoMemory};
+use tp_node::{Halt, Node, NodeEvent, Outs};
 
 impl Draft {
     /// A draft of a node, on which nothing has happened.

@@ -3,7 +3,8 @@ use Rattle.tp_model.specs.Requests.{accept}
 use Rattle.tp_names.specs.declared.identifiers.Mark.{Mark}
 use Rattle.tp_model.specs.Parts.{Arc}
 use Rattle.tp_tree.specs.Tie.{arc_of}
-use Rattle.tp_site.specs.Calls.{offer_of, offer_on, answering}
+use Rattle.tp_node.specs.Calls.{offer_of, offer_on}
+use Rattle.tp_site.specs.Calls.{answering}
 use Rattle.tp_site.specs.Draft.{Draft}
 use Rattle.tp_site.proofs.Drafts.{plays_same_at}
 use Rattle.tp_site.proofs.Calls.{accept_none, accept_some}

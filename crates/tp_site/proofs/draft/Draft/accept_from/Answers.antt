@@ -2,9 +2,10 @@ use Rattle.std.proofs.Common.{◌≡◌, ◌∙◌, ap, sym, Some, ℕ}
 use Rattle.tp_model.specs.Arcs.{find_arc}
 use Rattle.tp_model.specs.Node.{side_at}
 use Rattle.tp_tree.specs.Tie.{arc_of}
-use Rattle.tp_site.specs.Node.{Node}
-use Rattle.tp_site.specs.Arcs.{fits_link}
-use Rattle.tp_site.proofs.Arriving.{at_peer, accept_opening}
+use Rattle.tp_node.specs.Node.{Node}
+use Rattle.tp_node.specs.Arcs.{fits_link}
+use Rattle.tp_node.proofs.Arriving.{at_peer}
+use Rattle.tp_site.proofs.Arriving.{accept_opening}
 use Rattle.tp_site.proofs.draft.Draft.accept_from.Goals as goal
 
 pub take_accept-requires-clause-arc : goal.take_accept-requires-clause-arc

@@ -1,7 +1,7 @@
 use Rattle.std.proofs.Common.{sym, ap, subst, ◌∙◌}
 use Rattle.tp_model.specs.Node.{begin_on}
 use Rattle.tp_site.specs.Draft.{Draft, Plays}
-use Rattle.tp_site.specs.Node.{Node}
+use Rattle.tp_node.specs.Node.{Node}
 use Rattle.tp_site.proofs.Beginnings.{begins_carried}
 use Rattle.tp_site.proofs.draft.Draft.begin_on.Goals as goal
 

@@ -6,9 +6,9 @@ use Rattle.tp_model.specs.declared.transaction.TxOut.{TxOut}
 use Rattle.tp_model.specs.Parts.{Opening, Digest}
 use Rattle.tp_model.specs.Node.{perform, with_mark_drawn}
 use Rattle.tp_model.specs.Requests.{call}
-use Rattle.tp_site.specs.Arcs.{new_arc}
+use Rattle.tp_node.specs.Arcs.{new_arc}
 use Rattle.tp_site.specs.Draft.{Draft, Plays}
-use Rattle.tp_site.specs.Node.{Node}
+use Rattle.tp_node.specs.Node.{Node}
 use Rattle.tp_site.proofs.Drafts.{plays_from}
 use Rattle.tp_site.proofs.Calls.{call_is}
 use Rattle.tp_site.proofs.draft.Draft.call.Goals as goal

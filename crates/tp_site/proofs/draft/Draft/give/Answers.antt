@@ -1,6 +1,6 @@
 use Rattle.std.proofs.Common.{ap, subst, ◌∙◌}
 use Rattle.tp_site.specs.Draft.{Draft, Plays}
-use Rattle.tp_site.specs.Node.{Node}
+use Rattle.tp_node.specs.Node.{Node}
 use Rattle.tp_site.specs.Passage.{giving}
 use Rattle.tp_site.proofs.Turns.{given}
 use Rattle.tp_site.proofs.draft.Draft.give.Goals as goal

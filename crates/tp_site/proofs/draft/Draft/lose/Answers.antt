@@ -7,7 +7,7 @@ use Rattle.tp_model.specs.Arcs.{without_arc}
 use Rattle.tp_model.specs.Node.{perform, transact}
 use Rattle.tp_model.specs.Arrivals.{lose}
 use Rattle.tp_site.specs.Draft.{Draft, Plays}
-use Rattle.tp_site.specs.Node.{Node}
+use Rattle.tp_node.specs.Node.{Node}
 use Rattle.tp_site.proofs.Drafts.{plays_from}
 use Rattle.tp_site.proofs.Talks.{loses_there, loses_alone}
 use Rattle.tp_site.proofs.draft.Draft.lose.Goals as goal

@@ -2,7 +2,7 @@ use Rattle.std.proofs.Common.{◌≡◌, ◌∙◌, ap, sym, Some}
 use Rattle.tp_model.specs.Arcs.{find_arc}
 use Rattle.tp_tree.specs.Tie.{arc_of}
 use Rattle.tp_model.specs.Node.{side_at}
-use Rattle.tp_site.specs.Node.{Node}
+use Rattle.tp_node.specs.Node.{Node}
 use Rattle.tp_site.proofs.Arriving.{open_alone}
 use Rattle.tp_site.proofs.draft.Draft.open_from.Goals as goal
 

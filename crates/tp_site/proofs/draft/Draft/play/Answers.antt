@@ -1,6 +1,7 @@
 use Rattle.tp_model.specs.Node.{perform}
-use Rattle.tp_site.specs.declared.arc_step.ArcStep.{ArcStep}
-use Rattle.tp_site.specs.Passage.{passage_of, playing, said_then}
+use Rattle.tp_node.specs.declared.arc_step.ArcStep.{ArcStep}
+use Rattle.tp_node.specs.Passage.{passage_of}
+use Rattle.tp_site.specs.Passage.{playing, said_then}
 use Rattle.tp_site.proofs.Drafts.{plays_same}
 use Rattle.tp_site.proofs.Turns.{says_plainly, rolls_then, leaves_then}
 use Rattle.tp_site.proofs.draft.Draft.play.Goals as goal

@@ -1,7 +1,8 @@
 use Rattle.std.proofs.Common.{ap, subst}
 use Rattle.tp_site.specs.Draft.{Draft, Plays}
-use Rattle.tp_site.specs.Node.{Node}
-use Rattle.tp_site.specs.Passage.{speaking, passage_of}
+use Rattle.tp_node.specs.Node.{Node}
+use Rattle.tp_site.specs.Passage.{speaking}
+use Rattle.tp_node.specs.Passage.{passage_of}
 use Rattle.tp_site.proofs.Turns.{speaks}
 use Rattle.tp_site.proofs.draft.Draft.speak.Goals as goal
 

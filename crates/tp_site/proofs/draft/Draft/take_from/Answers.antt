@@ -2,8 +2,9 @@ use Rattle.std.proofs.Common.{◌≡◌, ◌∙◌, ap, sym, Some}
 use Rattle.tp_model.specs.Arcs.{find_arc}
 use Rattle.tp_model.specs.Node.{side_at}
 use Rattle.tp_tree.specs.Tie.{arc_of}
-use Rattle.tp_site.specs.Node.{Node}
-use Rattle.tp_site.proofs.Arriving.{at_peer, taken_number}
+use Rattle.tp_node.specs.Node.{Node}
+use Rattle.tp_node.proofs.Arriving.{at_peer}
+use Rattle.tp_site.proofs.Arriving.{taken_number}
 use Rattle.tp_site.proofs.draft.Draft.take_from.Goals as goal
 
 pub take_on-requires-clause-arc : goal.take_on-requires-clause-arc

@@ -2,7 +2,7 @@ use Rattle.std.proofs.Common.{◌∙◌, ap, sym}
 use Rattle.tp_model.specs.Node.{side_at}
 use Rattle.tp_tree.specs.Tie.{arc_of}
 use Rattle.tp_commit.specs.Sight.{sight_value}
-use Rattle.tp_site.specs.Node.{Node}
+use Rattle.tp_node.specs.Node.{Node}
 use Rattle.tp_site.proofs.Sights.{begin_side}
 use Rattle.tp_site.proofs.draft.Draft.take_on.Goals as goal
 

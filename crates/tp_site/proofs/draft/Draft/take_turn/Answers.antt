@@ -3,7 +3,8 @@ use Rattle.tp_model.specs.declared.arc.Phase.{Phase}
 use Rattle.tp_model.specs.Transactions.{Transaction, transacted}
 use Rattle.tp_model.specs.Node.{passage, is_leaving}
 use Rattle.tp_commit.specs.Branch.{standing}
-use Rattle.tp_site.specs.Passage.{passage_of, passing}
+use Rattle.tp_node.specs.Passage.{passage_of}
+use Rattle.tp_site.specs.Passage.{passing}
 use Rattle.tp_site.proofs.Turns.{turning_same}
 use Rattle.tp_site.proofs.draft.Draft.take_turn.Goals as goal
 

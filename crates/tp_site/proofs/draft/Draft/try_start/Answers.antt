@@ -1,7 +1,7 @@
 use Rattle.std.proofs.Common.{◌≡◌, ◌∙◌, sym, subst, true, []}
 use Rattle.tp_model.specs.Node.{start_root, try_start}
 use Rattle.tp_site.specs.Draft.{Draft}
-use Rattle.tp_site.specs.Begins.{may_start}
+use Rattle.tp_node.specs.Begins.{may_start}
 use Rattle.tp_site.proofs.Drafts.{plays_alike}
 use Rattle.tp_site.proofs.Beginnings.{starts_now}
 use Rattle.tp_site.proofs.draft.Draft.try_start.Goals as goal

@@ -1,7 +1,8 @@
 use Rattle.std.proofs.Common.{◌∙◌, List, Err, ap, subst, refl}
 use Rattle.tp_model.specs.declared.transaction.TxOut.{TxOut}
 use Rattle.tp_site.specs.Draft.{goes_on, Plays}
-use Rattle.tp_site.specs.Passage.{passage_of, speaking, settling, turning}
+use Rattle.tp_node.specs.Passage.{passage_of}
+use Rattle.tp_site.specs.Passage.{speaking, settling, turning}
 use Rattle.tp_site.proofs.Drafts.{plays_then, plays_halted}
 use Rattle.tp_site.proofs.Turns.{settling_rises}
 use Rattle.tp_site.proofs.draft.Draft.turn.Goals as goal

@@ -10,7 +10,7 @@ use Rattle.tp_world.proofs.Logs.{shown_forced}
 use Rattle.tp_world.proofs.Entries.{step_made}
 use Rattle.tp_world.proofs.site_slot.SiteSlot.play.Goals as goal
 
--- what is shown behind the records from before is the record of the move
+-- what is shown after the records from before is the record of the move
 pub returns-in-Ok : goal.returns-in-Ok
 returns-in-Ok c =
     let old = c.args.self.now.site in

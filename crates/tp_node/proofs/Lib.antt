@@ -1,0 +1,16 @@
+pub mod Arriving
+pub mod Beginnings
+pub mod BranchesById
+pub mod Calls
+pub mod KeptPlaces
+pub mod Linked
+pub mod Looks
+pub mod Places
+pub mod Recovered
+pub mod Refusals
+pub mod Seen
+pub mod Sides
+pub mod Sights
+pub mod Steps
+pub mod Talks
+pub mod Turns

@@ -1,0 +1,143 @@
+-- Arcs that are kept with the node's side, and what goes out on them.
+use Rattle.std.proofs.Common.{◌≡◌, ℕ, zero, suc, true, Option, Some, None, List, [], ◌∷◌, length, map, slice_set, refl, ap, sym, ◌∙◌, arith}
+use Rattle.std.proofs.lemmas.Bool.Decides.{nat_tests}
+use Rattle.std.proofs.lemmas.Grind.{common_steps}
+use Rattle.tp_names.specs.declared.identifiers.Addr.{Addr}
+use Rattle.tp_names.specs.declared.identifiers.Mark.{Mark}
+use Rattle.tp_names.specs.Same.{is_mark}
+use Rattle.tp_records.specs.declared.dialogue.DialogueRecord.{DialogueRecord}
+use Rattle.tp_model.specs.declared.arc.Side.{Side}
+use Rattle.tp_model.specs.Parts.{Link, Dialogue, Idle, Opening, Offered, Live, Arc, Out}
+use Rattle.tp_model.specs.Arcs.{find_arc, with_dialogue, with_link, carried_on, carried, shut_says, shut_with, without_arc}
+use Rattle.tp_model.specs.Events.{some_past_numbers}
+use Rattle.tp_dialogue.specs.Dialogue.{End}
+use Rattle.tp_link.specs.Link.{is_next, with_one_sent}
+use Rattle.tp_tree.specs.declared.tie.Tie.{Tie}
+use Rattle.tp_tree.specs.Tie.{arc_of, find_tie, place_of, without_ties}
+use Rattle.tp_tree.specs.Invocation.{Invocation, ties_of, arcs_of, with_tie, without_tie, WritesLink, WritesDialogue}
+use Rattle.tp_node.specs.Arcs.{side_with, is_same_side, is_on, all_on, is_sided, count_subordinates_in, next_on, is_spent, outs_next, Arcs, value_of}
+
+-- ---- sides
+
+same_side : (a b : Side) → is_same_side a b ≡ true → a ≡ b
+same_side Side.Superior Side.Superior h = refl
+same_side Side.Subordinate Side.Subordinate h = refl
+same_side Side.Superior Side.Subordinate h = grind arith
+same_side Side.Subordinate Side.Superior h = grind arith
+
+find_on : (side : Side) (s : Option Addr) (ts : List Tie) (p : ℕ) (t : Tie) → all_on side s ts ≡ true → find_tie ts p ≡ Some t → is_on side s t ≡ true
+find_on side s [] p t h found = grind arith
+find_on side s (u ∷ ts) p t h found = grind (arith, nat_tests, find_on side s ts p t)
+
+find_number : (ts : List Tie) (p : ℕ) (t : Tie) → find_tie ts p ≡ Some t → t.addr.node ≡ p
+find_number [] p t found = grind arith
+find_number (u ∷ ts) p t found = grind (arith, nat_tests, find_number ts p t)
+
+pub on_side : (side : Side) (s : Option Addr) (t : Tie) → is_on side s t ≡ true → t.dialogue.side ≡ side_with s t.addr.node
+on_side side s t h = grind (arith, same_side t.dialogue.side side, same_side (side_with s t.addr.node) side)
+
+pub side_found : (v : Invocation) (p : ℕ) (t : Tie) → is_sided v ≡ true → find_tie (ties_of v) p ≡ Some t → t.dialogue.side ≡ side_with v.superior p
+side_found v p t h found = grind (arith, common_steps, nat_tests, find_on Side.Superior v.superior v.below p t, find_number (ties_of v) p t, on_side Side.Superior v.superior t, on_side Side.Subordinate v.superior t)
+
+pub on_itself : (side : Side) (s : Option Addr) (t : Tie) → is_on side s t ≡ true → t.dialogue.side ≡ side
+on_itself side s t h = grind (arith, same_side t.dialogue.side side, same_side (side_with s t.addr.node) side)
+
+set_on : (side : Side) (s : Option Addr) (ts : List Tie) (k : ℕ) (u : Tie) → all_on side s ts ≡ true → is_on side s u ≡ true → all_on side s (slice_set ts k u) ≡ true
+set_on side s [] k u h n = refl
+set_on side s (t ∷ ts) zero u h n = grind (arith, common_steps)
+set_on side s (t ∷ ts) (suc k) u h n = grind (arith, common_steps, set_on side s ts k u)
+
+pub sided_with : (v : Invocation) (p : ℕ) (t u : Tie) → is_sided v ≡ true → find_tie (ties_of v) p ≡ Some t → u.addr ≡ t.addr → u.dialogue.side ≡ t.dialogue.side → is_sided (with_tie v p u) ≡ true
+sided_with v p t u h found addr side = grind (arith, common_steps, nat_tests, find_on Side.Superior v.superior v.below p t, set_on Side.Superior v.superior v.below (place_of v.below p) u)
+
+without_on : (side : Side) (s : Option Addr) (ts : List Tie) (p : ℕ) → all_on side s ts ≡ true → all_on side s (without_ties ts p) ≡ true
+without_on side s [] p h = refl
+without_on side s (t ∷ ts) p h = grind (arith, without_on side s ts p)
+
+pub sided_without : (v : Invocation) (p : ℕ) → is_sided v ≡ true → is_sided (without_tie v p) ≡ true
+sided_without v p h = grind (arith, common_steps, without_on Side.Superior v.superior v.below p)
+
+count_below : (s : Option Addr) (ts : List Tie) → all_on Side.Superior s ts ≡ true → length ts ≡ count_subordinates_in s (map arc_of ts)
+count_below s [] h = refl
+count_below s (t ∷ ts) h = grind (arith, common_steps, nat_tests, count_below s ts)
+
+pub count_sided : (v : Invocation) → is_sided v ≡ true → length v.below ≡ count_subordinates_in v.superior (arcs_of v)
+count_sided v h = grind (arith, common_steps, nat_tests, count_below v.superior v.below)
+
+-- ---- what goes out
+
+pub carried_none : (arcs : List Arc) (p : ℕ) (r : DialogueRecord) → find_arc arcs p ≡ None → carried arcs p r ≡ (arcs, [])
+carried_none [] p r found = refl
+carried_none (a ∷ arcs) p r found = grind (arith, common_steps, carried_none arcs p r)
+
+pub carried_next : (arcs : List Arc) (p : ℕ) (r : DialogueRecord) (a : Arc) → find_arc arcs p ≡ Some a → carried arcs p r ≡ (with_link arcs p (λ _. with_one_sent a.link), outs_next a.peer r (next_on a.link))
+carried_next [] p r a found = grind arith
+carried_next (b ∷ arcs) p r a found = grind (arith, common_steps, on_arc b r, carried_next arcs p r a)
+  where
+    on_arc : (c : Arc) (q : DialogueRecord) → carried_on c q ≡ (record c { link = with_one_sent c.link }, outs_next c.peer q (next_on c.link))
+    on_arc c q = go c.link refl
+      where
+        go : (l : Link) → c.link ≡ l → carried_on c q ≡ (record c { link = with_one_sent c.link }, outs_next c.peer q (next_on c.link))
+        go Idle e = grind arith
+        go (Opening x) e = grind arith
+        go (Offered x) e = grind arith
+        go (Live x y s t) e = grind arith
+
+same_mark : (x y : Mark) → is_mark x y ≡ true → x ≡ y
+same_mark x y h = grind (arith, nat_tests)
+
+pub next_is : (l : Link) (x y : Mark) (s : ℕ) → is_next l x y s ≡ true → Some (x, y, s) ≡ next_on l
+next_is Idle x y s h = grind arith
+next_is (Opening z) x y s h = grind arith
+next_is (Offered z) x y s h = grind arith
+next_is (Live z w n t) x y s h = grind (arith, nat_tests, same_mark z x, same_mark w y)
+
+pub with_link_none : (arcs : List Arc) (p : ℕ) (f : Link → Link) → find_arc arcs p ≡ None → with_link arcs p f ≡ arcs
+with_link_none [] p f found = refl
+with_link_none (a ∷ arcs) p f found = grind (arith, common_steps, with_link_none arcs p f)
+
+pub with_dialogue_none : (arcs : List Arc) (p : ℕ) (f : Dialogue → Dialogue) → find_arc arcs p ≡ None → with_dialogue arcs p f ≡ arcs
+with_dialogue_none [] p f found = refl
+with_dialogue_none (a ∷ arcs) p f found = grind (arith, common_steps, with_dialogue_none arcs p f)
+
+pub shut_says_live : (arcs : List Arc) (p : ℕ) (a : Arc) → find_arc arcs p ≡ Some a → shut_with arcs p ≡ (without_arc arcs p, shut_says a.peer a.link)
+shut_says_live arcs p a found = grind (arith, common_steps)
+
+-- ---- what a caller of them knows
+
+pub carry_leaves : (arcs : List Arc) (p : ℕ) (r : DialogueRecord) (a : Arc) (l : Link) → find_arc arcs p ≡ Some a → l ≡ with_one_sent a.link → with_link arcs p (λ _. l) ≡ (carried arcs p r).0
+carry_leaves arcs p r a l found is = ap (λ (k : Link). with_link arcs p (λ _. k)) is ∙ sym (ap (λ (s : List Arc × List Out). s.0) (carried_next arcs p r a found))
+
+pub carry_says : (arcs : List Arc) (p : ℕ) (r : DialogueRecord) (a : Arc) (n : Option (Mark × Mark × ℕ)) → find_arc arcs p ≡ Some a → n ≡ next_on a.link → outs_next a.peer r n ≡ (carried arcs p r).1
+carry_says arcs p r a n found is = ap (outs_next a.peer r) is ∙ sym (ap (λ (s : List Arc × List Out). s.1) (carried_next arcs p r a found))
+
+spent_says : (to : Addr) (r : DialogueRecord) (l : Link) → is_spent l ≡ true → some_past_numbers (outs_next to r (next_on l)) ≡ true
+spent_says to r Idle h = grind arith
+spent_says to r (Opening x) h = grind arith
+spent_says to r (Offered x) h = grind arith
+spent_says to r (Live x y s t) h = grind (arith, common_steps)
+
+pub carry_spent : (arcs : List Arc) (p : ℕ) (r : DialogueRecord) (a : Arc) → find_arc arcs p ≡ Some a → is_spent a.link ≡ true → some_past_numbers (carried arcs p r).1 ≡ true
+carry_spent arcs p r a found h = sym (ap some_past_numbers (carry_says arcs p r a (next_on a.link) found refl)) ∙ spent_says a.peer r a.link h
+
+with_tie_superior : (v : Invocation) (p : ℕ) (u : Tie) → (with_tie v p u).superior ≡ v.superior
+with_tie_superior v p u = grind (arith, common_steps)
+
+with_tie_room : (v : Invocation) (p : ℕ) (u : Tie) → (with_tie v p u).room ≡ v.room
+with_tie_room v p u = grind (arith, common_steps)
+
+written : (v : Invocation) (d : Arcs) (p : ℕ) (u : Tie) (arcs : List Arc) → arcs_of (with_tie v p u) ≡ arcs → value_of (record { tree = v }) ≡ d → value_of (record { tree = with_tie v p u }) ≡ record d { arcs = arcs }
+written v d p u arcs e is =
+    let made : Option Addr → ℕ → List Arc → Arcs = λ s r l. record { superior = s; room = r; arcs = l } in
+    ap (λ s. made s (with_tie v p u).room (arcs_of (with_tie v p u))) (with_tie_superior v p u)
+    ∙ ap (λ n. made v.superior n (arcs_of (with_tie v p u))) (with_tie_room v p u)
+    ∙ ap (made v.superior v.room) e
+    ∙ ap (λ (x : Arcs). record x { arcs = arcs }) is
+
+pub link_written : (v : Invocation) (d : Arcs) (p : ℕ) (t : Tie) (l : Link) → WritesLink v p → find_tie (ties_of v) p ≡ Some t → value_of (record { tree = v }) ≡ d → value_of (record { tree = with_tie v p (record t { link = l }) }) ≡ record d { arcs = with_link d.arcs p (λ _. l) }
+link_written v d p t l w found is =
+    written v d p (record t { link = l }) (with_link d.arcs p (λ _. l)) (w t (record t { link = l }) (λ _. l) found refl ∙ ap (λ (x : Arcs). with_link x.arcs p (λ _. l)) is) is
+
+pub dialogue_written : (v : Invocation) (d : Arcs) (p : ℕ) (t : Tie) (e : End) → WritesDialogue v p → find_tie (ties_of v) p ≡ Some t → value_of (record { tree = v }) ≡ d → value_of (record { tree = with_tie v p (record t { dialogue = e }) }) ≡ record d { arcs = with_dialogue d.arcs p (λ _. e.dialogue) }
+dialogue_written v d p t e w found is =
+    written v d p (record t { dialogue = e }) (with_dialogue d.arcs p (λ _. e.dialogue)) (w t (record t { dialogue = e }) (λ _. e.dialogue) found refl ∙ ap (λ (x : Arcs). with_dialogue x.arcs p (λ _. e.dialogue)) is) is

@@ -1,0 +1,21 @@
+use Rattle.std.proofs.Common.{◌∙◌, ap, sym}
+use Rattle.tp_model.specs.declared.arc.Side.{Side}
+use Rattle.tp_model.specs.Arcs.{with_dialogue}
+use Rattle.tp_model.specs.Dialogues.{begun_by}
+use Rattle.tp_model.specs.Node.{side_at}
+use Rattle.tp_tree.specs.Tie.{arc_of}
+use Rattle.tp_dialogue.specs.Dialogue.{End}
+use Rattle.tp_node.specs.Node.{with_arcs}
+use Rattle.tp_node.proofs.Beginnings.{dialogue_put}
+use Rattle.tp_node.proofs.node.Node.begin_dialogue.Goals as goal
+
+pub returns : goal.returns
+returns c =
+    let v = c.args.self.now in
+    let p = c.args.peer in
+    let t = c.in-Some.tie in
+    let h = c.args.holder in
+    c.put_dialogue.ensures
+    ∙ ap (λ (e : End). with_arcs v (with_dialogue v.digest.arcs p (λ _. e.dialogue))) c.begin.ensures
+    ∙ ap (λ (s : Side). with_arcs v (with_dialogue v.digest.arcs p (λ _. begun_by h s t.dialogue.dialogue))) c.in-Some.ensures.side
+    ∙ ap (with_arcs v) (dialogue_put v.digest.arcs p (arc_of t) (begun_by h (side_at v.digest p)) (sym c.in-Some.ensures.arc))

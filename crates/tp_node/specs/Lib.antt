@@ -1,0 +1,13 @@
+pub mod Arcs
+pub mod Outs
+pub mod State
+pub mod Node
+pub mod Halt
+pub mod Begins
+pub mod ArcStep
+pub mod Passage
+pub mod Talk
+pub mod Calls
+pub mod Sights
+pub mod Replies
+pub mod NodeEvent

@@ -1,0 +1,232 @@
+//! The arcs of a node.
+ghost use Rattle.std.specs.Prelude.{◌≡◌, ◌⊎◌, true, [], Option, None, map, IfOk, IfSome, OnOk, OnErr};
+ghost use Rattle.std.specs.Option.{option_map};
+ghost use Rattle.tp_model.specs.Arcs.{find_arc, without_arc, with_dialogue, with_link, carried, shut_with};
+ghost use Rattle.tp_model.specs.Events.{some_past_numbers};
+ghost use Rattle.tp_tree.specs.Tie.{arc_of, fresh_arc};
+ghost use Rattle.tp_tree.specs.Invocation.{with_arc};
+ghost use Rattle.tp_link.specs.Link.{with_one_sent};
+ghost use Rattle.tp_node.specs.Arcs.{side_with, fits_link, has_place, new_arc, count_subordinates_in, next_on, is_spent, outs_next};
+ghost use Rattle.tp_node.specs.ArcStep.{stepped_arcs};
+ghost use Rattle.tp_node.specs.Outs.{outs_of_option};
+
+use crate::arc_step::ArcStep;
+use crate::outs::Out;
+use std::alloc::Global;
+use std::marker::Model;
+use tp_commit::Branch;
+use tp_dialogue::Dialogue;
+use tp_link::{Link, LinkState};
+use tp_model::Side;
+use tp_names::{Addr, Mark, NoMemory, NumbersSpent};
+use tp_records::{DialogueRecord, PeerRecord};
+use tp_tree::{Invocation, Tie};
+use tp_units::Units;
+
+/// The arcs of a node, each with the node on the side that its peer's number says.
+#[derive(Debug, Drop)]
+pub(crate) struct Arcs {
+    tree: Invocation,
+}
+
+impl Model for Arcs {
+    ghost use Rattle.tp_node.specs.Arcs.{Arcs as ArcsValue, value_of, IsKept};
+
+    ghost Value = { ArcsValue };
+
+    ghost view = { value_of };
+
+    ghost invariant = { IsKept };
+}
+
+impl Arcs {
+    /// No arcs, and room for 32 or 256 subordinates.
+    pub(crate) fn new(
+        alloc: Global,
+        node: u16,
+        superior: Option<Addr>,
+        room: u16,
+    ) -> Result<Arcs, NoMemory>
+        requires { (room ≡ 32) ⊎ (room ≡ 256) }
+        ensures { IfOk result (λ v. v ≡ record { superior = superior; room = room; arcs = [] }) }
+    {
+        Ok(Arcs {
+            tree: Invocation::new(alloc, node, superior, room)?,
+        })
+    }
+
+    /// Equal arcs, with room of their own.
+    pub(crate) fn copy(&self, alloc: Global) -> Result<Arcs, NoMemory>
+        ensures { IfOk result (λ v. v ≡ self.now) }
+    {
+        Ok(Arcs {
+            tree: self.tree.copy(alloc)?,
+        })
+    }
+
+    /// The superior's address, as it was declared.
+    pub(crate) fn superior(&self) -> Option<Addr>
+        ensures { result ≡ self.now.superior }
+    {
+        self.tree.superior()
+    }
+
+    /// The node's side on an arc with that peer.
+    pub(crate) fn side(&self, peer: u16) -> Side
+        ensures { result ≡ side_with self.now.superior peer }
+    {
+        match self.tree.superior() {
+            Some(superior) if superior.node == peer => Side::Subordinate,
+            _ => Side::Superior,
+        }
+    }
+
+    /// The arc with that peer.
+    #[tactic(auto, using(crate::proofs::Sides::side_found, crate::proofs::Linked::link_found))]
+    pub(crate) fn find(&self, peer: u16) -> Option<Tie>
+        ensures arc { option_map arc_of result ≡ find_arc self.now.arcs peer }
+        ensures side { IfSome result (λ t. t.dialogue.side ≡ side_with self.now.superior peer) }
+        ensures link { IfSome result (λ t. fits_link (side_with self.now.superior peer) t.link ≡ true) }
+    {
+        self.tree.get(peer).copied()
+    }
+
+    /// A list of the arcs, in order.
+    pub(crate) fn list(&self, alloc: Global) -> Result<Vec<Tie>, NoMemory>
+        ensures { IfOk result (λ ties. map arc_of ties.items ≡ self.now.arcs) }
+    {
+        let mut ties = Vec::new(alloc);
+        if let Some(tie) = self.tree.above() {
+            ties.push(*tie)?;
+        }
+        ties.extend_from_slice(self.tree.subordinates())?;
+        Ok(ties)
+    }
+
+    /// How many arcs lead to subordinates.
+    #[tactic(auto, using(crate::proofs::Sides::count_sided))]
+    pub(crate) fn subordinates(&self) -> usize
+        ensures { result ≡ count_subordinates_in self.now.superior self.now.arcs }
+    {
+        self.tree.subordinates().len()
+    }
+
+    /// Adds a new dialogue, on an association of that state: one with a subordinate after the others, and the superior's
+    /// before them. It takes no memory.
+    #[tactic(auto, using(crate::proofs::Places::place_for))]
+    pub(crate) fn add(&mut self, addr: Addr, units: Units, side: Side, link: Link)
+        requires other { find_arc self.old.arcs addr.node ≡ None }
+        requires side { side ≡ side_with self.old.superior addr.node }
+        requires place { has_place side self.old ≡ true }
+        requires link { fits_link side link ≡ true }
+        ensures { self.new ≡ record self.old { arcs = with_arc side (new_arc addr units side link) self.old.arcs } }
+    {
+        let peer = addr.node;
+        self.tree.add(addr, units, side);
+        let Some(tie) = self.tree.tie(peer) else {
+            unreachable!()
+        };
+        tie.link = link;
+    }
+
+    /// Takes the arc with that peer away, where there is one.
+    #[tactic(auto, using(crate::proofs::Sides::sided_without, crate::proofs::Linked::linked_without))]
+    pub(crate) fn remove(&mut self, peer: u16)
+        ensures { self.new ≡ record self.old { arcs = without_arc self.old.arcs peer } }
+    {
+        self.tree.remove(peer);
+    }
+
+    /// Changes the link of the arc with that peer, where there is one.
+    #[tactic(auto, using(crate::proofs::Sides::sided_with, crate::proofs::Linked::linked_with, crate::proofs::Sides::with_link_none))]
+    pub(crate) fn put_link(&mut self, peer: u16, link: Link)
+        requires { fits_link (side_with self.old.superior peer) link ≡ true }
+        ensures { self.new ≡ record self.old { arcs = with_link self.old.arcs peer (λ _. link) } }
+    {
+        let Some(tie) = self.tree.tie(peer) else {
+            return;
+        };
+        tie.link = link;
+    }
+
+    /// Changes the dialogue of the arc with that peer, where there is one. The node's side stays.
+    #[tactic(auto, using(crate::proofs::Sides::sided_with, crate::proofs::Linked::linked_with, crate::proofs::Linked::link_found, crate::proofs::Sides::side_found, crate::proofs::Sides::with_dialogue_none))]
+    pub(crate) fn put_dialogue(&mut self, peer: u16, dialogue: Dialogue)
+        requires { dialogue.side ≡ side_with self.old.superior peer }
+        ensures { self.new ≡ record self.old { arcs = with_dialogue self.old.arcs peer (λ _. dialogue.dialogue) } }
+    {
+        let Some(tie) = self.tree.tie(peer) else {
+            return;
+        };
+        tie.dialogue = dialogue;
+    }
+
+    /// What a passage of the transaction does to the arcs, to each in place.
+    #[tactic(auto, using(crate::proofs::Steps::stepped_sided, crate::proofs::Linked::linked_stepped, crate::proofs::Steps::stepped_all))]
+    pub(crate) fn step(&mut self, step: ArcStep, branch: &Branch)
+        ensures { self.new ≡ record self.old { arcs = stepped_arcs step self.old.superior branch.now self.old.arcs } }
+    {
+        step.take_tree(branch, &mut self.tree);
+    }
+
+    /// A record goes out on the arc with that peer, where it is live; it has the next number. Where no
+    /// number is left, nothing changes.
+    #[tactic(auto, using(crate::proofs::Sides::carried_none, crate::proofs::Sides::carried_next, crate::proofs::Linked::fits_sent))]
+    pub(crate) fn carry(
+        &mut self,
+        peer: u16,
+        rec: DialogueRecord,
+    ) -> Result<Option<Out>, NumbersSpent>
+        ensures arcs { OnOk result (self.new ≡ record self.old { arcs = (carried self.old.arcs peer rec).0 }) }
+        ensures out { IfOk result (λ out. outs_of_option out ≡ (carried self.old.arcs peer rec).1) }
+        ensures spent { OnErr result (some_past_numbers (carried self.old.arcs peer rec).1 ≡ true) }
+        ensures same { OnErr result (self.new ≡ self.old) }
+    {
+        let Some(tie) = self.find(peer) else {
+            return Ok(None);
+        };
+        let mut link = tie.link;
+        let next = next_on(&mut link)?;
+        self.put_link(peer, link);
+        Ok(sent(tie.addr(), next, rec))
+    }
+
+    /// Takes the arc with that peer away; where it is live the peer is told.
+    #[tactic(auto, using(crate::proofs::Sides::shut_says_live))]
+    pub(crate) fn shut(&mut self, peer: u16) -> Option<Out>
+        ensures arcs { self.new ≡ record self.old { arcs = (shut_with self.old.arcs peer).0 } }
+        ensures out { outs_of_option result ≡ (shut_with self.old.arcs peer).1 }
+    {
+        let tie = self.find(peer)?;
+        self.remove(peer);
+        let (Some(x), Some(y)) = tie.link.marks() else {
+            return None;
+        };
+        Some(Out::Send {
+            to: tie.addr(),
+            rec: PeerRecord::ShutAssoc { x, y: Some(y) },
+        })
+    }
+}
+
+// The pair and the number of the next record on a link, where it is live, and the record is counted.
+#[tactic(auto, using(crate::proofs::Sides::next_is))]
+fn next_on(link: &mut Link) -> Result<Option<(Mark, Mark, u64)>, NumbersSpent>
+    ensures next { IfOk result (λ next. next ≡ next_on link.old) }
+    ensures counted { OnOk result (link.new ≡ with_one_sent link.old) }
+    ensures spent { OnErr result (is_spent link.old ≡ true) }
+{
+    match link.state() {
+        LinkState::Idle | LinkState::Opening | LinkState::Offered => Ok(None),
+        LinkState::Live if link.left() == 0 => Err(NumbersSpent),
+        LinkState::Live => Ok(Some(link.send())),
+    }
+}
+
+fn sent(to: Addr, next: Option<(Mark, Mark, u64)>, rec: DialogueRecord) -> Option<Out>
+    ensures { outs_of_option result ≡ outs_next to rec next }
+{
+    let (x, y, seq) = next?;
+    let rec = PeerRecord::OnAssoc { x, y, seq, rec };
+    Some(Out::Send { to, rec })
+}

@@ -1,0 +1,29 @@
+//! One node of a site: what it keeps, what it refuses, and each change of it.
+//!
+//! A node keeps its arcs, its current transaction and the transactions that are kept for their damage. By them
+//! it judges an event before anything is tried, and says what comes of a record; and it changes them one step at
+//! a time. It knows nothing of the order of these steps in an event, of a log's place, nor of other nodes.
+#![tactic(auto)]
+
+mod arc_step;
+mod arcs;
+mod event;
+mod halt;
+mod kept;
+mod look;
+mod named;
+mod node;
+mod outs;
+mod passage;
+mod refusing;
+mod sight;
+mod state;
+
+pub use arc_step::ArcStep;
+pub use event::NodeEvent;
+pub use halt::Halt;
+pub use named::key_of;
+pub use node::Node;
+pub use outs::{Out, Outs};
+pub use passage::{Passage, is_leaving};
+pub use state::{NodeState, NodeTree};

@@ -1,0 +1,66 @@
+//! What a transaction sees of the arcs of its node.
+ghost use Rattle.std.specs.Prelude.{◌≡◌, ℕ, List};
+ghost use Rattle.tp_model.specs.Arcs.{is_live_with_peer};
+ghost use Rattle.tp_model.specs.Node.{is_end_deferred_at, is_up_live, is_up_ending, branches_of, seen_rows, seen};
+ghost use Rattle.tp_node.specs.Node.{arcs_in, current_of};
+
+use crate::arcs::Arcs;
+use tp_commit::Branch;
+use tp_link::LinkState;
+use tp_model::Deferral;
+
+fn is_live(arcs: &Option<Arcs>, peer: u16) -> bool
+    ensures { result ≡ is_live_with_peer (arcs_in arcs.now) peer }
+{
+    let Some(arcs) = arcs else {
+        return false;
+    };
+    match arcs.find(peer) {
+        None => false,
+        Some(tie) => tie.link.state() == LinkState::Live,
+    }
+}
+
+fn is_ending(arcs: &Option<Arcs>, peer: u16) -> bool
+    ensures { result ≡ is_end_deferred_at (arcs_in arcs.now) peer }
+{
+    let Some(arcs) = arcs else {
+        return false;
+    };
+    match arcs.find(peer) {
+        None => false,
+        Some(tie) => tie.dialogue.deferral() == Deferral::End,
+    }
+}
+
+fn see_superior(node: u16, arcs: &Option<Arcs>, branch: &mut Branch)
+    ensures { branch.new ≡ record branch.old { node = node; up = is_up_live (arcs_in arcs.now) branch.old.key; up_ends = is_up_ending (arcs_in arcs.now) branch.old.key } }
+{
+    match branch.superior() {
+        None => branch.see_superior(node, false, false),
+        Some(superior) => {
+            let live = is_live(arcs, superior.node);
+            let ends = is_ending(arcs, superior.node);
+            branch.see_superior(node, live, ends);
+        }
+    }
+}
+
+fn see_branches(arcs: &Option<Arcs>, branch: &mut Branch)
+    ensures { branch.new ≡ record branch.old { rows = seen_rows (arcs_in arcs.now) (branches_of branch.old.rows) } }
+{
+    for i in 0..branch.branches() {
+        let peer = branch.branch_peer(i);
+        let live = is_live(arcs, peer.node);
+        let ends = is_ending(arcs, peer.node);
+        branch.see_branch(i, live, ends);
+    }
+}
+
+/// A transaction of that node sees its arcs anew.
+pub(crate) fn see(node: u16, arcs: &Option<Arcs>, branch: &mut Branch)
+    ensures { (site : List ℕ) → branch.new ≡ seen (record { site = site; node = node }) (arcs_in arcs.now) (current_of branch.old) }
+{
+    see_superior(node, arcs, branch);
+    see_branches(arcs, branch);
+}

@@ -1,0 +1,1078 @@
+//! One node of a site.
+mod origin;
+
+ghost use Rattle.std.specs.Prelude.{◌≡◌, ◌==◌, ◌&&◌, ◌||◌, not, true, [], ◌∷◌, ◌+◌, ◌++◌, nat_le, nat_lt, Option, Some, None, IfOk, IfSome, IsSome, IsTrue, OnOk, OnErr};
+ghost use Rattle.std.specs.Option.{option_map, option_copied, is_some};
+ghost use Rattle.tp_model.specs.Dialogues.{is_nil, is_late, asked_of, first, begun_by, cleared, woken, named_holder};
+ghost use Rattle.tp_model.specs.Links.{greatest, is_idle, is_opening_with, dropped_by, with_one_taken};
+ghost use Rattle.tp_model.specs.Arcs.{find_arc, link_with, with_link, with_dialogue, without_arc, shut_with, carried};
+ghost use Rattle.tp_model.specs.Node.{branches_of, seen, remaining, entered, grants, phase_of, has_asked, is_superior, side_at, situation_at, may_root, may_begin_on, is_chained_below, chained_peers, fresh_current, superior_arc, next_mark, with_mark_drawn};
+ghost use Rattle.tp_model.specs.Events.{is_no_node, refused_of_current, refused_purge, some_past_numbers};
+ghost use Rattle.tp_records.specs.declared.request.Request.{Request};
+ghost use Rattle.tp_model.specs.Requests.{refused_of_tx, refused_request, least, room, count_below, count_gone, count_subordinates, has_branch_at, is_branch_below, is_some_arc};
+ghost use Rattle.tp_model.specs.History.{state};
+ghost use Rattle.tp_model.specs.Recovery.{refused_kept, kept_after, find_kept, with_forget, noted};
+ghost use Rattle.tp_model.specs.declared.recovery.KeptEvent.{KeptEvent};
+ghost use Rattle.tp_tree.specs.Tie.{arc_of};
+ghost use Rattle.tp_commit.specs.Branch.{has_superior, key_from};
+ghost use Rattle.tp_commit.specs.Sight.{sight_value};
+ghost use Rattle.tp_model.specs.Arrivals.{sight_in_tx, woken_by, current_with, current_of as current_in};
+ghost use Rattle.tp_node.specs.State.{state_of, tree_in};
+ghost use Rattle.tp_node.specs.Node.{current_of, with_arcs, refused_by, has_place_at};
+ghost use Rattle.tp_node.specs.Outs.{outs_of_option};
+ghost use Rattle.tp_node.specs.ArcStep.{stepped_arcs};
+ghost use Rattle.tp_node.specs.Passage.{passage_of};
+ghost use Rattle.tp_node.specs.Talk.{said_by, heard_by};
+ghost use Rattle.tp_node.specs.Arcs.{fits_link, new_arc};
+ghost use Rattle.tp_node.specs.Calls.{offer_of, offer_on, answered, begun_under};
+ghost use Rattle.tp_model.specs.Parts.{Opening, Offered, Live};
+ghost use Rattle.tp_model.specs.declared.arc.Side.{Side};
+ghost use Rattle.tp_tree.specs.Invocation.{with_arc};
+ghost use Rattle.tp_node.specs.Halt.{OnSpent};
+ghost use Rattle.tp_node.specs.Begins.{aaid_in, with_branch, begun_on, with_digest, may_start};
+
+use crate::arc_step::{ArcStep, is_granting};
+use crate::arcs::Arcs;
+use crate::halt::Halt;
+use crate::outs::Out;
+use crate::passage::Passage;
+use crate::{NodeState, NodeTree, kept, look};
+use std::alloc::Global;
+use std::marker::Model;
+use tp_commit::{Branch, Sight};
+use tp_dialogue::Dialogue;
+use tp_link::{Link, LinkState};
+use tp_logrec::{LogRec, LogVersion};
+use tp_model::{Act, Deferral, Kept, Phase, Side, Situation, TxEvent, TxOut, TxOuts};
+use tp_names::same::{is_aaid, is_key};
+use tp_names::{
+    Aaid, Addr, BranchId, Child, Counter, Mark, NoMemory, NodeKey, NumbersSpent, Outcome, SiteName,
+};
+use tp_records::{DialogueRecord, Holder, Request};
+use tp_tree::Tie;
+use tp_units::{CHAINED, COMMIT, POLARIZED, Units, choose};
+
+/// One node of a site, which contracts see as what is known of it by the definitions.
+#[derive(Debug, Drop)]
+pub struct Node {
+    site: SiteName,
+    number: u16,
+    known: bool,
+    arcs: Option<Arcs>,
+    current: Option<Branch>,
+    kept: Vec<Kept>,
+    drawn: u64,
+    boot: u64,
+    version: LogVersion,
+}
+
+impl Model for Node {
+    ghost use Rattle.tp_node.specs.Node.{Node as NodeValue, node_of, HasRoom};
+
+    ghost Value = { NodeValue };
+
+    ghost view = { node_of };
+
+    ghost invariant = { HasRoom };
+}
+
+impl Node {
+    /// The site's name.
+    pub fn site(&self) -> SiteName
+        ensures { result ≡ self.now.who.site }
+    {
+        self.site
+    }
+
+    /// Where it stands in its current transaction.
+    pub fn phase(&self) -> Phase
+        ensures { result ≡ phase_of self.now.digest }
+    {
+        match &self.current {
+            None => Phase::Nil,
+            Some(branch) => branch.phase(),
+        }
+    }
+
+    /// Whether it has a current transaction.
+    pub fn has_current(&self) -> bool
+        ensures { result ≡ is_some self.now.digest.current }
+    {
+        self.current.is_some()
+    }
+
+    /// A transaction of that key is kept.
+    pub(crate) fn is_kept(&self, key: &NodeKey) -> bool
+        ensures { result ≡ is_some (find_kept self.now.digest.kept key.now) }
+    {
+        kept::has(self.kept.as_slice(), key)
+    }
+
+    /// The current transaction, where it has that key.
+    pub(crate) fn current_with(&self, key: &NodeKey) -> Option<&Branch>
+        ensures { option_map current_of (option_copied result) ≡ current_with self.now.digest key.now }
+    {
+        match &self.current {
+            Some(branch) if is_key(branch.key(), key) => Some(branch),
+            _ => None,
+        }
+    }
+
+    /// The current transaction, where it is of that tree.
+    pub(crate) fn current_in(&self, aaid: &Aaid) -> Option<&Branch>
+        ensures { option_map current_of (option_copied result) ≡ current_in self.now.digest aaid.now }
+    {
+        match &self.current {
+            Some(branch) if is_aaid(&branch.key().aaid, aaid) => Some(branch),
+            _ => None,
+        }
+    }
+
+    /// The kept transactions, in order.
+    pub(crate) fn all_kept(&self) -> &[Kept]
+        ensures { result.now ≡ self.now.digest.kept }
+    {
+        self.kept.as_slice()
+    }
+
+    /// The kept transaction of that key.
+    pub(crate) fn kept_with(&self, key: &NodeKey) -> Option<&Kept>
+        ensures { option_copied result ≡ find_kept self.now.digest.kept key.now }
+    {
+        kept::find(self.kept.as_slice(), key)
+    }
+
+    /// A copy of the kept transaction of that key.
+    pub fn kept_copy(&self, alloc: Global, key: &NodeKey) -> Result<Option<Kept>, NoMemory>
+        ensures { IfOk result (λ kept. kept ≡ find_kept self.now.digest.kept key.now) }
+    {
+        match kept::find(self.kept.as_slice(), key) {
+            None => Ok(None),
+            Some(kept) => Ok(Some(kept::copy(alloc, kept)?)),
+        }
+    }
+
+    /// Forget is noted of the kept transaction of that key.
+    pub fn note_forget(&mut self, key: &NodeKey)
+        ensures { self.new ≡ with_digest self.old (record self.old.digest { kept = with_forget self.old.digest.kept key.now (λ x. noted x KeptEvent.Forget) }) }
+    {
+        kept::note_forget(&mut self.kept, key);
+    }
+
+    /// Whether it has asked.
+    pub fn has_asked(&self) -> bool
+        ensures { result ≡ has_asked self.now.digest }
+    {
+        match &self.current {
+            None => false,
+            Some(branch) => branch.has_asked(),
+        }
+    }
+
+    /// What is shown of it.
+    pub fn state(&self) -> NodeState
+        ensures { state_of result ≡ state self.now.digest }
+    {
+        NodeState {
+            phase: self.phase(),
+            asked: self.has_asked(),
+            owes: match &self.current {
+                None => false,
+                Some(branch) => branch.owes(),
+            },
+            kept: self.kept.len() as u64,
+        }
+    }
+
+    /// The tree of its current transaction.
+    pub fn tree(&self) -> Option<NodeTree>
+        ensures { result ≡ tree_in self.now.digest }
+    {
+        match &self.current {
+            None => None,
+            Some(branch) => Some(NodeTree {
+                aaid: branch.key().aaid,
+                is_root: branch.key().branch.is_none(),
+                phase: branch.phase(),
+            }),
+        }
+    }
+
+    /// It was declared since the site was started.
+    pub(crate) fn is_declared(&self) -> bool
+        ensures { result ≡ self.now.digest.declared }
+    {
+        self.arcs.is_some()
+    }
+
+    /// The superior's address, as it was declared.
+    pub(crate) fn superior(&self) -> Option<Addr>
+        ensures { result ≡ self.now.digest.superior }
+    {
+        match &self.arcs {
+            None => None,
+            Some(arcs) => arcs.superior(),
+        }
+    }
+
+    /// It was not declared since the site was started, and is not known from the log.
+    pub fn is_missing(&self) -> bool
+        ensures { result ≡ is_no_node self.now.digest }
+    {
+        self.arcs.is_none() && !self.known
+    }
+
+    /// The arc with that peer.
+    pub fn find(&self, peer: u16) -> Option<Tie>
+        ensures arc { option_map arc_of result ≡ find_arc self.now.digest.arcs peer }
+        ensures side { IfSome result (λ t. t.dialogue.side ≡ side_at self.now.digest peer) }
+        ensures link { IfSome result (λ t. fits_link (side_at self.now.digest peer) t.link ≡ true) }
+    {
+        match &self.arcs {
+            None => None,
+            Some(arcs) => arcs.find(peer),
+        }
+    }
+
+    /// The node's side on an arc with that peer.
+    pub(crate) fn side(&self, peer: u16) -> Side
+        ensures { result ≡ side_at self.now.digest peer }
+    {
+        match &self.arcs {
+            None => Side::Superior,
+            Some(arcs) => arcs.side(peer),
+        }
+    }
+
+    /// What the arc with that peer is to know of the transaction.
+    #[tactic(auto, using(crate::proofs::Seen::situation_seen))]
+    pub fn situation(&self, peer: u16) -> Situation
+        ensures { result ≡ situation_at self.now.who self.now.digest peer }
+    {
+        match &self.current {
+            None => Situation {
+                branch: false,
+                phase: Phase::Nil,
+                asked: false,
+                prepared: false,
+                done: false,
+                left: false,
+            },
+            Some(branch) => branch.situation(peer),
+        }
+    }
+
+    /// The number by which the current transaction refuses an event; where there is none, as given. It
+    /// takes no memory.
+    #[tactic(auto, using(crate::proofs::Seen::refused_seen))]
+    pub(crate) fn refused_of_current(&self, event: &TxEvent, none: Option<u8>) -> Option<u8>
+        ensures { result ≡ refused_of_current self.now.who self.now.digest event.now none }
+    {
+        match &self.current {
+            None => none,
+            Some(branch) => branch.refused(event),
+        }
+    }
+
+    /// What comes of a record on that arc, by the current transaction; where there is none, as given.
+    #[tactic(auto, using(crate::proofs::Seen::sight_seen))]
+    pub(crate) fn sight_of_current(&self, tie: &Tie, rec: &DialogueRecord, none: Sight) -> Sight
+        ensures { sight_value result ≡ sight_in_tx self.now.who self.now.digest (arc_of tie.now) rec.now (sight_value none) }
+    {
+        match &self.current {
+            None => none,
+            Some(branch) => branch.sight(tie.addr().node, rec),
+        }
+    }
+
+    // ---- refusals, which take no memory
+
+    // Of a request that names an arc, by the arc itself and by others.
+    #[tactic(auto, using(crate::proofs::Refusals::refused_on))]
+    fn refused_at(&self, peer: u16, octets: u16, code: u8, others: Option<u8>) -> Option<u8>
+        requires { IsSome (asked_of code) }
+        ensures { result ≡ refused_by self.now peer octets (asked_of code) others }
+    {
+        let Some(tie) = self.find(peer) else {
+            return Some(1);
+        };
+        if tie.link.state() != LinkState::Live {
+            return Some(1);
+        }
+        let act = Act { code, octets };
+        let mut dialogue = tie.dialogue;
+        match dialogue.request(self.situation(peer), act) {
+            Ok(()) => others,
+            Err(refusal) => least(Some(refusal.number), others),
+        }
+    }
+
+    // Of a request that speaks of the transaction as a whole.
+    #[tactic(auto, using(crate::proofs::Seen::user_seen))]
+    fn refused_of_transaction(&self, request: &Request) -> Option<u8>
+        ensures { result ≡ refused_of_tx self.now.who self.now.digest request.now }
+    {
+        match &self.current {
+            None => Some(6),
+            Some(branch) => branch.refused_user(request),
+        }
+    }
+
+    // The superior's arc.
+    fn superior_arc(&self) -> Option<Tie>
+        ensures { option_map arc_of result ≡ superior_arc self.now.digest }
+    {
+        match &self.arcs {
+            None => None,
+            Some(arcs) => arcs.find(arcs.superior()?.node),
+        }
+    }
+
+    fn may_root(&self) -> bool
+        ensures { result ≡ may_root self.now.digest }
+    {
+        match self.superior_arc() {
+            None => true,
+            Some(tie) => {
+                tie.link.state() != LinkState::Live || !tie.dialogue.units().has(COMMIT)
+            }
+        }
+    }
+
+    #[tactic(auto, unfolding(tp_model::specs::Requests::refused_request))]
+    fn refused_reject(&self) -> Option<u8>
+        ensures { result ≡ refused_request self.now.who self.now.digest Request.Reject }
+    {
+        match self.superior_arc() {
+            Some(tie) if tie.link.state() == LinkState::Offered => None,
+            _ => Some(1),
+        }
+    }
+
+    #[tactic(auto, unfolding(tp_model::specs::Requests::refused_request))]
+    fn refused_accept(&self, units: u8) -> Option<u8>
+        ensures { result ≡ refused_request self.now.who self.now.digest (Request.Accept units) }
+    {
+        let Some(tie) = self.superior_arc() else {
+            return Some(1);
+        };
+        if tie.link.state() != LinkState::Offered {
+            return Some(1);
+        }
+        if choose(tie.dialogue.units(), units).is_err() {
+            return Some(4);
+        }
+        if self.phase() != Phase::Nil {
+            return Some(7);
+        }
+        None
+    }
+
+    // A subordinate branch of the current transaction.
+    fn is_branch_below(&self, peer: u16) -> bool
+        ensures { result ≡ is_branch_below self.now.digest peer }
+    {
+        match &self.current {
+            None => false,
+            Some(branch) => has_branch_at(branch, peer),
+        }
+    }
+
+    // The branches of a transaction with whose peers there is no dialogue.
+    fn count_gone(&self, branch: &Branch) -> usize
+        ensures { result ≡ count_gone self.now.digest.arcs (branches_of branch.now.rows) }
+    {
+        let mut count = 0;
+        for i in 0..branch.branches() {
+            let peer = branch.branch_peer(i);
+            if self.find(peer.node).is_none() {
+                count += 1;
+            }
+        }
+        count
+    }
+
+    // The dialogues with subordinates.
+    #[tactic(auto, using(crate::proofs::Refusals::counted))]
+    fn count_below(&self) -> usize
+        ensures { result ≡ count_below self.now.digest self.now.digest.arcs }
+    {
+        match &self.arcs {
+            None => 0,
+            Some(arcs) => arcs.subordinates(),
+        }
+    }
+
+    // There are as many subordinates as the log allows.
+    fn is_full(&self) -> bool
+        ensures { result ≡ nat_le (room self.now.digest.version) (count_subordinates self.now.digest) }
+    {
+        let gone = match &self.current {
+            None => 0,
+            Some(branch) => self.count_gone(branch),
+        };
+        reaches(room(self.version), self.count_below(), gone)
+    }
+
+    // No new dialogue can be asked for with that peer now.
+    fn is_taken(&self, peer: u16) -> bool
+        ensures { result ≡ ((peer == self.now.who.node) || is_superior self.now.digest peer || is_some_arc (find_arc self.now.digest.arcs peer) || is_branch_below self.now.digest peer || is_late (phase_of self.now.digest)) }
+    {
+        peer == self.number
+            || self.side(peer) == Side::Subordinate
+            || self.find(peer).is_some()
+            || self.is_branch_below(peer)
+            || is_late(self.phase())
+    }
+
+    #[tactic(auto, unfolding(tp_model::specs::Requests::refused_request))]
+    fn refused_begin(&self, addr: Addr, units: u8) -> Option<u8>
+        ensures { result ≡ refused_request self.now.who self.now.digest (Request.BeginDialogue addr units) }
+    {
+        first(&[
+            (self.is_taken(addr.node), 2),
+            (Units::check(units).is_err(), 4),
+            (self.has_asked(), 9),
+            (self.is_full(), 13),
+        ])
+    }
+
+    // Of a begin-transaction, by others than the arc.
+    fn refused_root(&self) -> Option<u8>
+        ensures { result ≡ first ((is_nil (phase_of self.now.digest) && not (may_root self.now.digest), 6) ∷ []) }
+    {
+        if self.phase() == Phase::Nil && !self.may_root() {
+            Some(6)
+        } else {
+            None
+        }
+    }
+
+    /// The number by which a request is refused, but for the want of numbers.
+    #[tactic(auto, unfolding(tp_model::specs::Requests::refused_request), using(crate::proofs::Refusals::data_cut))]
+    pub(crate) fn refused_request(&self, request: &Request) -> Option<u8>
+        ensures { result ≡ refused_request self.now.who self.now.digest request.now }
+    {
+        match request {
+            Request::BeginDialogue { addr, units } => self.refused_begin(*addr, *units),
+            Request::Accept { units } => self.refused_accept(*units),
+            Request::Reject => self.refused_reject(),
+            Request::EndDialogue { peer } => self.refused_at(*peer, 0, 4, None),
+            Request::UserData { peer, octets } => {
+                self.refused_at(*peer, octets.len().min(2000) as u16, 5, None)
+            }
+            Request::UError { peer } => self.refused_at(*peer, 0, 6, None),
+            Request::UAbort { peer } => self.refused_at(*peer, 0, 7, None),
+            Request::Grant { peer } => self.refused_at(*peer, 0, 8, None),
+            Request::AskControl { peer } => self.refused_at(*peer, 0, 9, None),
+            Request::Handshake { peer } => self.refused_at(*peer, 0, 10, None),
+            Request::Respond { peer } => self.refused_at(*peer, 0, 11, None),
+            Request::HandshakeGrant { peer } => self.refused_at(*peer, 0, 12, None),
+            Request::BeginTransaction { peer } => {
+                self.refused_at(*peer, 0, 13, self.refused_root())
+            }
+            Request::DeferEnd { peer } => self.refused_at(*peer, 0, 14, None),
+            Request::DeferGrant { peer } => self.refused_at(*peer, 0, 15, None),
+            Request::Prepare { peer } => self.refused_at(*peer, 0, 16, None),
+            Request::Commit | Request::Done | Request::Rollback | Request::Unchanged => {
+                self.refused_of_transaction(request)
+            }
+        }
+    }
+
+    /// Of a purge.
+    pub(crate) fn refused_purge(&self) -> Option<u8>
+        ensures { result ≡ refused_purge self.now.digest.kept }
+    {
+        match self.kept.first() {
+            None => Some(14),
+            Some(kept) => refused_kept(kept),
+        }
+    }
+
+    /// Of a loss.
+    pub(crate) fn refused_loss(&self, peer: u16) -> Option<u8>
+        ensures { result ≡ first ((is_idle (link_with self.now.digest.arcs peer), 1) ∷ []) }
+    {
+        match self.find(peer) {
+            Some(tie) if tie.link.state() != LinkState::Idle => None,
+            _ => Some(1),
+        }
+    }
+
+    // ---- where Begin may be sent
+
+    /// Begin may be sent on the arc: it is live, leads to a subordinate, and is no branch yet of the
+    /// transaction, which is active.
+    pub(crate) fn may_begin_on(&self, tie: &Tie) -> bool
+        ensures { result ≡ may_begin_on self.now.who self.now.digest (arc_of tie.now) }
+    {
+        let peer = tie.addr().node;
+        tie.link.state() == LinkState::Live
+            && self.side(peer) == Side::Superior
+            && self.phase() == Phase::Active
+            && !self.situation(peer).branch
+    }
+
+    /// A live chained arc to a subordinate that is no branch yet.
+    pub(crate) fn is_chained_below(&self, tie: &Tie) -> bool
+        ensures { result ≡ is_chained_below self.now.who self.now.digest (arc_of tie.now) }
+    {
+        let peer = tie.addr().node;
+        tie.link.state() == LinkState::Live
+            && tie.dialogue.units().has(CHAINED)
+            && self.side(peer) == Side::Superior
+            && !self.situation(peer).branch
+    }
+
+    /// The peers of the live chained arcs to subordinates that are no branches yet, in order.
+    pub fn chained_peers(&self, alloc: Global) -> Result<Vec<u16>, NoMemory>
+        ensures { IfOk result (λ peers. peers.items ≡ chained_peers self.now.who self.now.digest) }
+    {
+        let mut peers = Vec::new(alloc);
+        let Some(arcs) = &self.arcs else {
+            return Ok(peers);
+        };
+        let ties = arcs.list(alloc)?;
+        for tie in ties.as_slice() {
+            if self.is_chained_below(tie) {
+                peers.push(tie.addr().node)?;
+            }
+        }
+        Ok(peers)
+    }
+
+    /// The node's next transaction starts by itself: it has none, may be a root, and has a chained arc to begin on.
+    pub fn may_start(&self, alloc: Global) -> Result<bool, NoMemory>
+        ensures { IfOk result (λ may. may ≡ may_start self.now.who self.now.digest) }
+    {
+        let peers = self.chained_peers(alloc)?;
+        Ok(self.phase() == Phase::Nil && self.may_root() && !peers.is_empty())
+    }
+
+    // ---- changes
+
+    /// The arc with that peer is taken away, where there is one.
+    pub fn close(&mut self, peer: u16)
+        ensures { self.new ≡ with_arcs self.old (without_arc self.old.digest.arcs peer) }
+    {
+        match &mut self.arcs {
+            None => {}
+            Some(arcs) => arcs.remove(peer),
+        }
+    }
+
+    /// The arc with that peer is taken away; where it is live the peer is told.
+    pub fn shut(&mut self, peer: u16) -> Option<Out>
+        ensures arcs { self.new ≡ with_arcs self.old (shut_with self.old.digest.arcs peer).0 }
+        ensures out { outs_of_option result ≡ (shut_with self.old.digest.arcs peer).1 }
+    {
+        match &mut self.arcs {
+            None => None,
+            Some(arcs) => arcs.shut(peer),
+        }
+    }
+
+    /// A record goes out on the arc with that peer, where it is live. Where the association has no number
+    /// left, nothing changes.
+    pub fn carry(&mut self, peer: u16, rec: DialogueRecord) -> Result<Option<Out>, NumbersSpent>
+        ensures arcs { OnOk result (self.new ≡ with_arcs self.old (carried self.old.digest.arcs peer rec).0) }
+        ensures out { IfOk result (λ out. outs_of_option out ≡ (carried self.old.digest.arcs peer rec).1) }
+        ensures spent { OnErr result (some_past_numbers (carried self.old.digest.arcs peer rec).1 ≡ true) }
+    {
+        match &mut self.arcs {
+            None => Ok(None),
+            Some(arcs) => arcs.carry(peer, rec),
+        }
+    }
+
+    /// The next mark of the node's counter. Where it is spent, nothing changes.
+    pub fn draw(&mut self) -> Result<Mark, NumbersSpent>
+        ensures mark { IfOk result (λ mark. mark ≡ next_mark self.old.who self.old.digest) }
+        ensures drawn { OnOk result (self.new ≡ record self.old { digest = with_mark_drawn self.old.digest }) }
+        ensures spent { OnErr result (self.old.digest.drawn ≡ greatest) }
+    {
+        let mut counter = Counter::from(self.boot, self.number, self.drawn);
+        let mark = counter.draw()?;
+        self.drawn = mark.count;
+        Ok(mark)
+    }
+}
+
+impl Node {
+    /// The tree of the current transaction.
+    fn aaid(&self) -> Option<Aaid>
+        ensures { result ≡ aaid_in self.now.digest.current }
+    {
+        match &self.current {
+            None => None,
+            Some(branch) => Some(branch.key().aaid),
+        }
+    }
+
+    /// Adds a branch to the current transaction, after the others.
+    #[tactic(auto, using(crate::proofs::Beginnings::branches_more))]
+    fn add_branch(&mut self, child: &Child) -> Result<(), NoMemory>
+        ensures { OnOk result (self.new ≡ with_digest self.old (record self.old.digest { current = with_branch child.now self.old.digest.current })) }
+    {
+        let Some(branch) = &mut self.current else {
+            return Ok(());
+        };
+        branch.add(child)
+    }
+
+    /// A transaction of that key begins: active, without a branch.
+    pub fn begin_transaction(
+        &mut self,
+        alloc: Global,
+        key: NodeKey,
+        superior: Option<Addr>,
+    ) -> Result<(), NoMemory>
+        requires { IsTrue (has_superior key superior) }
+        ensures { OnOk result (self.new ≡ with_digest self.old (record self.old.digest { current = Some (fresh_current (key_from key superior)) })) }
+    {
+        self.current = Some(Branch::begin(alloc, self.number, key, superior)?);
+        Ok(())
+    }
+
+    /// A copy of the current transaction, as it sees the arcs now.
+    pub fn seen(&self, alloc: Global) -> Result<Option<Branch>, NoMemory>
+        ensures { IfOk result (λ branch. branch ≡ option_map (seen self.now.who self.now.digest.arcs) self.now.digest.current) }
+    {
+        let Some(current) = &self.current else {
+            return Ok(None);
+        };
+        let mut branch = current.copy(alloc)?;
+        look::see(self.number, &self.arcs, &mut branch);
+        Ok(Some(branch))
+    }
+
+    /// What a passage of the transaction does to the arcs.
+    pub fn step(&mut self, step: ArcStep, branch: &Branch)
+        ensures { self.new ≡ with_arcs self.old (stepped_arcs step self.old.digest.superior branch.now self.old.digest.arcs) }
+    {
+        match &mut self.arcs {
+            None => {}
+            Some(arcs) => arcs.step(step, branch),
+        }
+    }
+
+    /// What the transaction does to the arcs where it passes so, before anything is said.
+    #[tactic(auto, unfolding(tp_model::specs::Node::entered), using(crate::proofs::Steps::entered_arcs, crate::proofs::Steps::fallen_arcs))]
+    pub fn enter(&mut self, branch: &Branch, passage: Passage)
+        ensures { self.new ≡ with_arcs self.old (entered branch.now (passage_of passage) self.old.digest.arcs) }
+    {
+        match passage {
+            Passage::Enters => self.step(ArcStep::Enter, branch),
+            Passage::Falls | Passage::FallsAtOnce => self.step(ArcStep::Fall, branch),
+            Passage::Stays | Passage::Commits | Passage::RollsBack | Passage::Leaves => {}
+        }
+    }
+
+    /// The transaction has become that one: it stays current unless it is over.
+    #[tactic(auto, using(crate::proofs::Turns::remains))]
+    pub fn settle(&mut self, next: Branch)
+        ensures { self.new ≡ with_digest self.old (record self.old.digest { current = remaining next }) }
+    {
+        self.current = if next.phase() == Phase::Nil {
+            None
+        } else {
+            Some(next)
+        };
+    }
+
+    /// The deferred grants that a completed commitment gives, in the order of the arcs.
+    pub fn grants(&self, alloc: Global, branch: &Branch) -> Result<TxOuts, NoMemory>
+        ensures { IfOk result (λ outs. outs ≡ grants branch.now self.now.digest.arcs) }
+    {
+        let mut outs = TxOuts::new(alloc);
+        let Some(arcs) = &self.arcs else {
+            return Ok(outs);
+        };
+        let ties = arcs.list(alloc)?;
+        for tie in ties.as_slice() {
+            if is_granting(branch, tie) {
+                let rec = DialogueRecord::Grant;
+                let arc = tie.addr().node;
+                outs.push(alloc, TxOut::Carry { arc, rec })?;
+            }
+        }
+        Ok(outs)
+    }
+
+    /// Copies of the kept transactions, in order.
+    pub fn kept(&self, alloc: Global) -> Result<Vec<Kept>, NoMemory>
+        ensures { IfOk result (λ kept. kept.items ≡ self.now.digest.kept) }
+    {
+        kept::copies(alloc, self.kept.as_slice())
+    }
+
+    /// What a record of the log makes of the kept transactions.
+    pub fn keep(&mut self, alloc: Global, rec: &Option<LogRec>) -> Result<(), NoMemory>
+        ensures { OnOk result (self.new ≡ with_digest self.old (record self.old.digest { kept = kept_after rec.now self.old.digest.kept })) }
+    {
+        match rec {
+            None => Ok(()),
+            Some(rec) => kept::keep(alloc, &mut self.kept, rec),
+        }
+    }
+
+    /// Changes the dialogue of the arc with that peer, where there is one. The node's side stays.
+    fn put_dialogue(&mut self, peer: u16, dialogue: Dialogue)
+        requires { dialogue.side ≡ side_at self.old.digest peer }
+        ensures { self.new ≡ with_arcs self.old (with_dialogue self.old.digest.arcs peer (λ _. dialogue.dialogue)) }
+    {
+        match &mut self.arcs {
+            None => {}
+            Some(arcs) => arcs.put_dialogue(peer, dialogue),
+        }
+    }
+
+    /// A new dialogue is asked for: its arc stands after the others, and its association is offered with a new mark.
+    pub fn call(&mut self, addr: Addr, units: Units) -> Result<Mark, NumbersSpent>
+        requires declared { self.old.digest.declared ≡ true }
+        requires other { find_arc self.old.digest.arcs addr.node ≡ None }
+        requires side { Side.Superior ≡ side_at self.old.digest addr.node }
+        requires place { has_place_at Side.Superior self.old.digest ≡ true }
+        ensures mark { IfOk result (λ x. x ≡ next_mark self.old.who self.old.digest) }
+        ensures node { IfOk result (λ x. self.new ≡ with_digest self.old (record (with_mark_drawn self.old.digest) { arcs = self.old.digest.arcs ++ new_arc addr units Side.Superior (Opening x) ∷ [] })) }
+        ensures spent { OnErr result (self.old.digest.drawn ≡ greatest) }
+    {
+        let x = self.draw()?;
+        let mut link = Link::idle();
+        link.call(x);
+        self.add_arc(addr, units, Side::Superior, link);
+        Ok(x)
+    }
+
+    /// The arc on which the superior offers a dialogue, with the mark of its offer.
+    #[tactic(auto, using(crate::proofs::Calls::no_arc, crate::proofs::Calls::no_offer, crate::proofs::Calls::an_offer))]
+    pub fn offer(&self) -> Option<(Tie, Mark)>
+        ensures { offer_on result ≡ offer_of self.now.digest }
+    {
+        let tie = self.superior_arc()?;
+        if tie.link.state() != LinkState::Offered {
+            return None;
+        }
+        let x = tie.link.marks().0?;
+        Some((tie, x))
+    }
+
+    /// The superior's offer is answered with a new mark: its arc is live, with a new dialogue. Where the counter is spent,
+    /// nothing changes.
+    #[tactic(auto, using(crate::proofs::Calls::offered_arc))]
+    pub fn answer(&mut self, tie: &Tie, x: Mark, units: Units) -> Result<Mark, NumbersSpent>
+        requires { offer_of self.old.digest ≡ Some (arc_of tie.now, x) }
+        ensures mark { IfOk result (λ y. y ≡ next_mark self.old.who self.old.digest) }
+        ensures node { IfOk result (λ y. self.new ≡ with_digest self.old (answered (arc_of tie.now) units Side.Subordinate (Live x y 0 0) (with_mark_drawn self.old.digest))) }
+        ensures spent { OnErr result (self.old.digest.drawn ≡ greatest) }
+    {
+        let y = self.draw()?;
+        let mut link = tie.link;
+        link.accept(y);
+        self.renew(tie, units, Side::Subordinate, link);
+        Ok(y)
+    }
+
+    /// The superior offers a dialogue: its arc stands before the others.
+    pub fn open(&mut self, from: Addr, x: Mark, units: Units)
+        requires declared { self.old.digest.declared ≡ true }
+        requires other { find_arc self.old.digest.arcs from.node ≡ None }
+        requires side { Side.Subordinate ≡ side_at self.old.digest from.node }
+        ensures { self.new ≡ with_arcs self.old (new_arc from units Side.Subordinate (Offered x) ∷ self.old.digest.arcs) }
+    {
+        let mut link = Link::idle();
+        link.offered(x);
+        self.add_arc(from, units, Side::Subordinate, link);
+    }
+
+    /// The peer answers the call on that arc: it is live, with a new dialogue.
+    #[tactic(auto, using(crate::proofs::Linked::calls_below, crate::proofs::Linked::bound_live))]
+    pub fn bind(&mut self, tie: &Tie, x: Mark, y: Mark, units: Units)
+        requires arc { find_arc self.old.digest.arcs (arc_of tie.now).peer.node ≡ Some (arc_of tie.now) }
+        requires link { fits_link (side_at self.old.digest (arc_of tie.now).peer.node) tie.now.link ≡ true }
+        requires opening { is_opening_with tie.now.link x ≡ true }
+        ensures { self.new ≡ with_digest self.old (answered (arc_of tie.now) units Side.Superior (Live x y 0 0) self.old.digest) }
+    {
+        let mut link = tie.link;
+        let Ok(()) = link.bound(x, y) else {
+            unreachable!()
+        };
+        self.renew(tie, units, Side::Superior, link);
+    }
+
+    // A new dialogue on the arc, whose association has that state.
+    fn renew(&mut self, tie: &Tie, units: Units, side: Side, link: Link)
+        requires arc { find_arc self.old.digest.arcs (arc_of tie.now).peer.node ≡ Some (arc_of tie.now) }
+        requires side { side ≡ side_at self.old.digest (arc_of tie.now).peer.node }
+        requires link { fits_link side link ≡ true }
+        ensures { self.new ≡ with_digest self.old (answered (arc_of tie.now) units side link self.old.digest) }
+    {
+        let peer = tie.addr().node;
+        self.put_dialogue(peer, Dialogue::new(units, side));
+        self.put_link(peer, link);
+    }
+
+    // Changes the link of the arc with that peer, where there is one.
+    fn put_link(&mut self, peer: u16, link: Link)
+        requires { fits_link (side_at self.old.digest peer) link ≡ true }
+        ensures { self.new ≡ with_arcs self.old (with_link self.old.digest.arcs peer (λ _. link)) }
+    {
+        match &mut self.arcs {
+            None => {}
+            Some(arcs) => arcs.put_link(peer, link),
+        }
+    }
+
+    // Adds a new dialogue, on an association of that state.
+    fn add_arc(&mut self, addr: Addr, units: Units, side: Side, link: Link)
+        requires declared { self.old.digest.declared ≡ true }
+        requires other { find_arc self.old.digest.arcs addr.node ≡ None }
+        requires side { side ≡ side_at self.old.digest addr.node }
+        requires place { has_place_at side self.old.digest ≡ true }
+        requires link { fits_link side link ≡ true }
+        ensures { self.new ≡ with_arcs self.old (with_arc side (new_arc addr units side link) self.old.digest.arcs) }
+    {
+        let Some(arcs) = &mut self.arcs else {
+            unreachable!()
+        };
+        arcs.add(addr, units, side, link);
+    }
+
+    /// What the request of that code says on the arc with that peer, where there is one.
+    #[tactic(auto, using(crate::proofs::Talks::said_end, crate::proofs::Talks::put_none, crate::proofs::Beginnings::dialogue_put))]
+    pub fn say(&mut self, peer: u16, code: u8)
+        ensures { self.new ≡ with_arcs self.old (with_dialogue self.old.digest.arcs peer (said_by code)) }
+    {
+        let Some(tie) = self.find(peer) else {
+            return;
+        };
+        let mut dialogue = tie.dialogue;
+        dialogue.accept(Act { code, octets: 0 });
+        self.put_dialogue(peer, dialogue);
+    }
+
+    /// What the record of that code is heard to say on the arc with that peer, where there is one.
+    #[tactic(auto, using(crate::proofs::Talks::heard_end, crate::proofs::Talks::put_none, crate::proofs::Beginnings::dialogue_put))]
+    pub fn hear(&mut self, peer: u16, code: u8)
+        ensures { self.new ≡ with_arcs self.old (with_dialogue self.old.digest.arcs peer (heard_by code)) }
+    {
+        let Some(tie) = self.find(peer) else {
+            return;
+        };
+        let mut dialogue = tie.dialogue;
+        dialogue.take(Act { code, octets: 0 });
+        self.put_dialogue(peer, dialogue);
+    }
+
+    /// Control and handshakes are cleared on the arc with that peer, where there is one.
+    #[tactic(auto, using(crate::proofs::Talks::put_none, crate::proofs::Beginnings::dialogue_put))]
+    pub fn clear(&mut self, peer: u16)
+        ensures { self.new ≡ with_arcs self.old (with_dialogue self.old.digest.arcs peer cleared) }
+    {
+        let Some(tie) = self.find(peer) else {
+            return;
+        };
+        let mut dialogue = tie.dialogue;
+        dialogue.clear();
+        self.put_dialogue(peer, dialogue);
+    }
+
+    /// The arc with that peer rests no more, where there is one.
+    #[tactic(auto, using(crate::proofs::Talks::put_none, crate::proofs::Beginnings::dialogue_put))]
+    pub(crate) fn wake(&mut self, peer: u16)
+        ensures { self.new ≡ with_arcs self.old (with_dialogue self.old.digest.arcs peer woken) }
+    {
+        let Some(tie) = self.find(peer) else {
+            return;
+        };
+        let mut dialogue = tie.dialogue;
+        dialogue.wake();
+        self.put_dialogue(peer, dialogue);
+    }
+
+    // A transaction begins on the arc with that peer, where there is one.
+    #[tactic(auto, using(crate::proofs::Talks::put_none, crate::proofs::Beginnings::dialogue_put))]
+    fn begin_dialogue(&mut self, peer: u16, holder: Holder)
+        ensures { self.new ≡ with_arcs self.old (with_dialogue self.old.digest.arcs peer (begun_by holder (side_at self.old.digest peer))) }
+    {
+        let Some(tie) = self.find(peer) else {
+            return;
+        };
+        let mut dialogue = tie.dialogue;
+        dialogue.begin(holder);
+        self.put_dialogue(peer, dialogue);
+    }
+
+    /// The superior's transaction begins, as the branch of that identifier.
+    pub fn begin_under(
+        &mut self,
+        alloc: Global,
+        superior: Addr,
+        aaid: Aaid,
+        branch: BranchId,
+        holder: Holder,
+    ) -> Result<(), NoMemory>
+        requires { Side.Subordinate ≡ side_at self.old.digest superior.node }
+        ensures { OnOk result (self.new ≡ with_digest self.old (begun_under superior aaid branch holder self.old.digest)) }
+    {
+        self.begin_dialogue(superior.node, holder);
+        let key = NodeKey {
+            aaid,
+            branch: Some(branch),
+        };
+        self.begin_transaction(alloc, key, Some(superior))
+    }
+
+    /// The record with that pair and number is taken on the arc with that peer, where there is one.
+    #[tactic(auto, using(crate::proofs::Linked::fits_taken))]
+    pub(crate) fn count_taken(&mut self, peer: u16, x: Mark, y: Mark, seq: u64)
+        requires { dropped_by (link_with self.old.digest.arcs peer) x y seq ≡ None }
+        ensures { self.new ≡ with_arcs self.old (with_link self.old.digest.arcs peer with_one_taken) }
+    {
+        let Some(tie) = self.find(peer) else {
+            return;
+        };
+        let mut link = tie.link;
+        let Ok(()) = link.take(x, y, seq) else {
+            return;
+        };
+        self.put_link(peer, link);
+    }
+
+    /// A record with that pair and number is taken on the arc with that peer; any but a response ends the arc's rest.
+    pub fn take(&mut self, peer: u16, x: Mark, y: Mark, seq: u64, rec: &DialogueRecord)
+        requires { dropped_by (link_with self.old.digest.arcs peer) x y seq ≡ None }
+        ensures { self.new ≡ with_digest self.old (woken_by rec.now peer (record self.old.digest { arcs = with_link self.old.digest.arcs peer with_one_taken })) }
+    {
+        self.count_taken(peer, x, y, seq);
+        match rec {
+            DialogueRecord::Response => {}
+            _ => self.wake(peer),
+        }
+    }
+
+    /// A branch begins on the arc with that peer, where Begin may be sent: it has a new identifier, and control is
+    /// where its holder is. Gives the record that is to go out.
+    #[tactic(auto, using(crate::proofs::Beginnings::begun_record, crate::proofs::Beginnings::begun_spent))]
+    pub fn begin_branch(&mut self, peer: u16) -> Result<Option<DialogueRecord>, Halt>
+        ensures node { OnOk result (self.new ≡ with_digest self.old (begun_on self.old.who peer self.old.digest).0) }
+        ensures rec { IfOk result (λ rec. rec ≡ (begun_on self.old.who peer self.old.digest).1) }
+        ensures spent { OnSpent result (nat_lt greatest (begun_on self.old.who peer self.old.digest).0.drawn ≡ true) }
+    {
+        let (Some(aaid), Some(tie)) = (self.aaid(), self.find(peer)) else {
+            return Ok(None);
+        };
+        if !self.may_begin_on(&tie) {
+            return Ok(None);
+        }
+        let branch = BranchId {
+            superior: self.site,
+            mark: self.draw()?,
+        };
+        self.begin_on(&tie, branch)?;
+        let holder = named_holder(&tie.dialogue);
+        Ok(Some(DialogueRecord::Begin {
+            aaid,
+            branch,
+            holder,
+        }))
+    }
+
+    // The branch begins on that arc.
+    #[tactic(auto, unfolding(tp_model::specs::Dialogues::begun_by))]
+    fn begin_on(&mut self, tie: &Tie, branch: BranchId) -> Result<(), NoMemory>
+        requires { tie.now.dialogue.side ≡ side_at self.old.digest (arc_of tie.now).peer.node }
+        ensures { OnOk result (self.new ≡ with_digest self.old (record self.old.digest {
+          arcs = with_dialogue self.old.digest.arcs (arc_of tie.now).peer.node (λ _. begun_by (named_holder (arc_of tie.now).dialogue) tie.now.dialogue.side (arc_of tie.now).dialogue);
+          current = with_branch (record { addr = (arc_of tie.now).peer; branch = branch }) self.old.digest.current;
+        })) }
+    {
+        let mut dialogue = tie.dialogue;
+        dialogue.begin(named_holder(&tie.dialogue));
+        self.put_dialogue(tie.addr().node, dialogue);
+        self.add_branch(&Child {
+            addr: tie.addr(),
+            branch,
+        })
+    }
+}
+
+// The lesser of two numbers of refusal.
+fn least(a: Option<u8>, b: Option<u8>) -> Option<u8>
+    ensures { result ≡ least a b }
+{
+    match (a, b) {
+        (None, other) | (other, None) => other,
+        (Some(a), Some(b)) => Some(a.min(b)),
+    }
+}
+
+fn has_branch_at(branch: &Branch, peer: u16) -> bool
+    ensures { result ≡ has_branch_at (branches_of branch.now.rows) peer }
+{
+    for i in 0..branch.branches() {
+        let own = branch.branch_peer(i);
+        if own.node == peer {
+            return true;
+        }
+    }
+    false
+}
+
+/// The number of the first test that holds.
+pub fn first(tests: &[(bool, u8)]) -> Option<u8>
+    ensures { result ≡ first tests.now }
+{
+    for test in tests {
+        if test.0 {
+            return Some(test.1);
+        }
+    }
+    None
+}
+
+fn is_late(phase: Phase) -> bool
+    ensures { result ≡ is_late phase }
+{
+    match phase {
+        Phase::Nil | Phase::Active => false,
+        Phase::Ready | Phase::Committing | Phase::Rolling => true,
+    }
+}
+
+fn room(version: LogVersion) -> usize
+    ensures { result ≡ room version }
+{
+    match version {
+        LogVersion::One => 32,
+        LogVersion::Two => 256,
+    }
+}
+
+fn reaches(room: usize, below: usize, gone: usize) -> bool
+    ensures { result ≡ nat_le room (below + gone) }
+{
+    below >= room || gone >= room - below
+}
+
+// A purge, of one kept transaction.
+fn refused_kept(kept: &Kept) -> Option<u8>
+    ensures { result ≡ refused_kept kept.now KeptEvent.Purge }
+{
+    let is_waited_for = kept.side == Outcome::Commit && kept.key.branch.is_some();
+    first(&[(!kept.owed.is_empty() || is_waited_for, 15)])
+}
+
+/// The holder that a Begin names.
+pub(crate) fn named_holder(dialogue: &Dialogue) -> Holder
+    ensures { result ≡ named_holder dialogue.now.dialogue }
+{
+    if !dialogue.units().has(POLARIZED) {
+        Holder::None
+    } else if dialogue.deferral() == Deferral::Grant {
+        Holder::Subordinate
+    } else {
+        Holder::Superior
+    }
+}

@@ -1,0 +1,173 @@
+//! How a node comes to be: from the records of a log, by its declaration, and as a copy of another.
+ghost use Rattle.std.specs.Prelude.{◌≡◌, false, true, [], None, IfOk, OnOk, nat_lt};
+ghost use Rattle.std.specs.Option.{option_map};
+ghost use Rattle.tp_logrec.specs.Order.{is_commit, is_ready};
+ghost use Rattle.tp_model.specs.Links.{greatest};
+ghost use Rattle.tp_model.specs.Events.{started, current_by, decision_of, without_current};
+ghost use Rattle.tp_node.specs.Begins.{with_digest};
+ghost use Rattle.tp_node.specs.Node.{current_of, recovered_by};
+
+use crate::arcs::Arcs;
+use crate::kept;
+use crate::node::Node;
+use std::alloc::Global;
+use tp_commit::Branch;
+use tp_logrec::{LogRec, LogVersion};
+use tp_names::same::is_key;
+use tp_names::{Addr, NoMemory, NodeKey, Outcome, SiteName};
+
+impl Node {
+    /// A node of which the log has no record.
+    #[tactic(auto, unfolding(tp_model::specs::Events::started))]
+    pub fn unknown(
+        alloc: Global,
+        site: SiteName,
+        number: u16,
+        boot: u64,
+        version: LogVersion,
+    ) -> Node
+        ensures { result ≡ record { who = record { site = site; node = number }; digest = started (record { boot = boot; version = version; records = [] }) } }
+    {
+        Node {
+            site,
+            number,
+            known: false,
+            arcs: None,
+            current: None,
+            kept: Vec::new(alloc),
+            drawn: 0,
+            boot,
+            version,
+        }
+    }
+
+    /// How many marks it has drawn.
+    pub fn drawn(&self) -> u64
+        ensures { result ≡ self.now.digest.drawn }
+    {
+        self.drawn
+    }
+
+    /// It has drawn more marks than there are: never.
+    pub fn is_spent(&self) -> bool
+        ensures { result ≡ nat_lt greatest self.now.digest.drawn }
+    {
+        self.drawn > u64::MAX
+    }
+
+    // The transaction with that key is current no longer.
+    fn forget_current(&mut self, key: &NodeKey)
+        ensures { self.new ≡ with_digest self.old (record self.old.digest { current = without_current key.now self.old.digest.current }) }
+    {
+        let is_that = match &self.current {
+            None => false,
+            Some(branch) => is_key(branch.key(), key),
+        };
+        if is_that {
+            self.current = None;
+        }
+    }
+
+    // The node's own decision in its current transaction.
+    fn decision(&self) -> Option<Outcome>
+        ensures { result ≡ decision_of self.now.digest.current }
+    {
+        match &self.current {
+            None => None,
+            Some(branch) => branch.decision(),
+        }
+    }
+
+    // The transaction that a Commit tells: none where its key has a branch and it names no superior.
+    #[tactic(auto, using(crate::proofs::Recovered::told_by_commit))]
+    fn committed(&self, alloc: Global, rec: &LogRec) -> Result<Option<Branch>, NoMemory>
+        requires { is_commit rec.now ≡ true }
+        ensures { IfOk result (λ branch. option_map current_of branch ≡ current_by rec.now self.now.digest.current) }
+    {
+        match rec {
+            LogRec::Commit {
+                key,
+                superior: None,
+                ..
+            } if key.branch.is_some() => Ok(None),
+            _ => Ok(Some(Branch::again(alloc, rec, self.decision())?)),
+        }
+    }
+
+    // The transaction that a Ready tells.
+    #[tactic(auto, using(crate::proofs::Recovered::told_by_ready))]
+    fn readied(&self, alloc: Global, rec: &LogRec) -> Result<Option<Branch>, NoMemory>
+        requires { is_ready rec.now ≡ true }
+        ensures { IfOk result (λ branch. option_map current_of branch ≡ current_by rec.now self.now.digest.current) }
+    {
+        Ok(Some(Branch::again(alloc, rec, None)?))
+    }
+
+    // What a record makes of the current transaction.
+    fn recover_current(&mut self, alloc: Global, rec: &LogRec) -> Result<(), NoMemory>
+        ensures who { self.new.who ≡ self.old.who }
+        ensures current { OnOk result (self.new ≡ with_digest self.old (record self.old.digest { current = current_by rec.now self.old.digest.current })) }
+    {
+        match rec {
+            LogRec::Boot { .. } => {}
+            LogRec::Heuristic { outcome, .. } => {
+                if let Some(branch) = &mut self.current {
+                    branch.decide(*outcome);
+                }
+            }
+            LogRec::Ready { .. } => self.current = self.readied(alloc, rec)?,
+            LogRec::Commit { .. } => self.current = self.committed(alloc, rec)?,
+            LogRec::Damage { key, .. } | LogRec::End { key, .. } => self.forget_current(key),
+        }
+        Ok(())
+    }
+
+    /// One more record of the node in the log.
+    pub fn recover(&mut self, alloc: Global, rec: &LogRec) -> Result<(), NoMemory>
+        ensures recovered { OnOk result (self.new.digest ≡ recovered_by rec.now self.old.digest) }
+        ensures who { self.new.who ≡ self.old.who }
+    {
+        self.recover_current(alloc, rec)?;
+        kept::keep(alloc, &mut self.kept, rec)?;
+        self.known = self.current.is_some() || !self.kept.is_empty();
+        Ok(())
+    }
+
+    /// The node is declared, with its superior's address where it has one.
+    pub fn declare(&mut self, alloc: Global, superior: Option<Addr>) -> Result<(), NoMemory>
+        requires { self.old.digest.declared ≡ false }
+        ensures { OnOk result (self.new ≡ with_digest self.old (record self.old.digest { declared = true; superior = superior })) }
+    {
+        let room = match self.version {
+            LogVersion::One => 32,
+            LogVersion::Two => 256,
+        };
+        self.arcs = Some(Arcs::new(alloc, self.number, superior, room)?);
+        Ok(())
+    }
+
+    /// An equal node, with room of its own.
+    pub fn copy(&self, alloc: Global) -> Result<Node, NoMemory>
+        ensures { IfOk result (λ node. node ≡ self.now) }
+    {
+        let arcs = match &self.arcs {
+            None => None,
+            Some(arcs) => Some(arcs.copy(alloc)?),
+        };
+        let current = match &self.current {
+            None => None,
+            Some(branch) => Some(branch.copy(alloc)?),
+        };
+        Ok(Node {
+            site: self.site,
+            number: self.number,
+            known: self.known,
+            arcs,
+            current,
+            kept: kept::copies(alloc, self.kept.as_slice())?,
+            drawn: self.drawn,
+            boot: self.boot,
+            version: self.version,
+        })
+    }
+}

@@ -1,0 +1,291 @@
+//! By which number a node refuses an event, and a record that arrives among them. It takes no memory.
+ghost use Rattle.std.specs.Prelude.{◌≡◌, [], ◌∷◌};
+ghost use Rattle.tp_model.specs.Dialogues.{first};
+ghost use Rattle.tp_model.specs.Parts.{Do};
+ghost use Rattle.tp_model.specs.Events.{refused_plainly, unless_missing, is_no_node};
+ghost use Rattle.tp_node.specs.NodeEvent.{refused_at_once};
+ghost use Rattle.tp_model.specs.Transactions.{out_of_phase};
+ghost use Rattle.tp_commit.specs.Sight.{sight_value};
+ghost use Rattle.tp_records.specs.declared.peer.PeerRecord.{PeerRecord};
+ghost use Rattle.tp_model.specs.Links.{is_opening_with, is_live_with, is_idle};
+ghost use Rattle.tp_model.specs.Arcs.{link_from, link_with};
+ghost use Rattle.tp_model.specs.Arrivals.{is_from_superior, is_shut_by, is_other, is_misplaced_order, is_bad_answer, refused_arrival, refused_on, kept_superior, child_addr, named_by_key, named_by_branch, refused_reply};
+
+use crate::event::NodeEvent;
+use crate::named::key_of;
+use crate::node::{Node, first};
+use tp_commit::Sight;
+use tp_link::{Link, LinkState};
+use tp_model::{Question, TxEvent};
+use tp_names::same::{is_addr, is_mark};
+use tp_names::{Aaid, Addr, BranchId, Mark, NodeKey};
+use tp_records::{DialogueRecord, PeerRecord, RecState, Request};
+use tp_recover::answer;
+use tp_units::{Units, choose};
+
+impl Node {
+    // The record comes from the superior, by its whole address.
+    fn is_from_superior(&self, from: &Addr) -> bool
+        ensures { result ≡ is_from_superior self.now.digest from.now }
+    {
+        match self.superior() {
+            None => false,
+            Some(superior) => is_addr(&superior, from),
+        }
+    }
+
+    // The association with that peer, whatever its site.
+    fn link_with(&self, peer: u16) -> Link
+        ensures { result ≡ link_with self.now.digest.arcs peer }
+    {
+        match self.find(peer) {
+            None => Link::idle(),
+            Some(tie) => tie.link,
+        }
+    }
+
+    // The association with that address.
+    fn link_from(&self, from: &Addr) -> Link
+        ensures { result ≡ link_from self.now.digest.arcs from.now }
+    {
+        match self.find(from.node) {
+            Some(tie) if is_addr(&tie.addr(), from) => tie.link,
+            _ => Link::idle(),
+        }
+    }
+
+    // The superior's offer.
+    #[tactic(auto, unfolding(tp_model::specs::Arrivals::refused_arrival))]
+    fn refused_open(&self, from: &Addr, x: Mark, units: Units) -> Option<u8>
+        ensures { result ≡ refused_arrival self.now.who self.now.digest from.now (PeerRecord.OpenAssoc x units) }
+    {
+        first(&[
+            (!self.is_declared() || !self.is_from_superior(from), 23),
+            (!is_idle(&self.link_with(from.node)), 21),
+        ])
+    }
+
+    // The units that the peer chooses are none that were offered to it.
+    #[tactic(auto, using(crate::proofs::Arriving::bad_there, crate::proofs::Arriving::bad_not))]
+    fn is_bad_answer(&self, from: &Addr, units: Units) -> bool
+        ensures { result ≡ is_bad_answer self.now.digest from.now units }
+    {
+        match self.find(from.node) {
+            None => units.bits() != 0,
+            Some(tie) => choose(tie.dialogue.units(), units.bits()).is_err(),
+        }
+    }
+
+    // The peer answers a call.
+    #[tactic(auto, unfolding(tp_model::specs::Arrivals::refused_arrival))]
+    fn refused_accept_of(&self, from: &Addr, x: &Mark, y: Mark, units: Units) -> Option<u8>
+        ensures { result ≡ refused_arrival self.now.who self.now.digest from.now (PeerRecord.AcceptAssoc x.now y units) }
+    {
+        first(&[
+            (!self.is_declared(), 23),
+            (!is_opening_with(&self.link_from(from), x), 21),
+            (self.is_bad_answer(from, units), 24),
+        ])
+    }
+
+    // The peer shuts an association.
+    #[tactic(auto, unfolding(tp_model::specs::Arrivals::refused_arrival))]
+    fn refused_shut(&self, from: &Addr, x: &Mark, y: &Option<Mark>) -> Option<u8>
+        ensures { result ≡ refused_arrival self.now.who self.now.digest from.now (PeerRecord.ShutAssoc x.now y.now) }
+    {
+        first(&[
+            (!self.is_declared(), 23),
+            (!is_shut_by(&self.link_from(from), x, y), 21),
+        ])
+    }
+
+    // A record comes on an association.
+    #[tactic(auto, using(crate::proofs::Arriving::at_peer))]
+    fn refused_on(
+        &self,
+        from: &Addr,
+        x: Mark,
+        y: Mark,
+        seq: u64,
+        rec: &DialogueRecord,
+    ) -> Option<u8>
+        ensures { result ≡ refused_on self.now.who self.now.digest from.now x y seq rec.now }
+    {
+        let mut link = self.link_from(from);
+        if let Err(dropped) = link.take(x, y, seq) {
+            return Some(dropped.number);
+        }
+        match self.find(from.node) {
+            None => Some(21),
+            Some(tie) => out_of_phase(self.sight(&tie, rec)),
+        }
+    }
+
+    /// The number by which a record is refused that arrives, but for the want of numbers.
+    #[tactic(auto, unfolding(tp_model::specs::Arrivals::refused_arrival))]
+    pub(crate) fn refused_arrival(&self, from: &Addr, rec: &PeerRecord) -> Option<u8>
+        ensures { result ≡ refused_arrival self.now.who self.now.digest from.now rec.now }
+    {
+        match rec {
+            PeerRecord::OpenAssoc { x, units } => self.refused_open(from, *x, *units),
+            PeerRecord::AcceptAssoc { x, y, units } => self.refused_accept_of(from, x, *y, *units),
+            PeerRecord::ShutAssoc { x, y } => self.refused_shut(from, x, y),
+            PeerRecord::OnAssoc { x, y, seq, rec } => {
+                if !self.is_declared() {
+                    return Some(23);
+                }
+                self.refused_on(from, *x, *y, *seq, rec)
+            }
+            PeerRecord::RecReady { aaid, branch } => self.refused_of_branch(from, aaid, branch),
+            PeerRecord::RecCommit { aaid, branch } => {
+                let key = key_of(aaid, branch);
+                first(&[
+                    (is_other(&self.superior_by_key(&key), from), 23),
+                    (self.is_misplaced_order(&key, branch), 24),
+                ])
+            }
+            PeerRecord::RecReply {
+                aaid,
+                branch,
+                state,
+            } => self.refused_reply(from, aaid, branch, *state),
+            PeerRecord::Forget { aaid, branch } => {
+                self.refused_of_superior(from, &key_of(aaid, branch))
+            }
+        }
+    }
+
+    // The order of commitment acts on a ready key alone, or is answered.
+    fn is_misplaced_order(&self, key: &NodeKey, branch: &BranchId) -> bool
+        ensures { result ≡ is_misplaced_order (named_by_key self.now.digest key.now) branch.now }
+    {
+        !self.is_ready_by_key(key)
+            && answer(self.known_by_key(key, branch), Question::RecCommit).is_none()
+    }
+
+    // Of a record that the superior says of that key.
+    fn refused_of_superior(&self, from: &Addr, key: &NodeKey) -> Option<u8>
+        ensures { result ≡ first ((is_other (kept_superior (named_by_key self.now.digest key.now)) from.now, 23) ∷ []) }
+    {
+        first(&[(is_other(&self.superior_by_key(key), from), 23)])
+    }
+
+    // Of a record that a branch says.
+    fn refused_of_branch(&self, from: &Addr, aaid: &Aaid, branch: &BranchId) -> Option<u8>
+        ensures { result ≡ first ((is_other (child_addr (named_by_branch self.now.digest aaid.now branch.now) branch.now) from.now, 23) ∷ []) }
+    {
+        first(&[(is_other(&self.child_by_branch(aaid, branch), from), 23)])
+    }
+
+    // Of a reply.
+    fn refused_reply(
+        &self,
+        from: &Addr,
+        aaid: &Aaid,
+        branch: &BranchId,
+        state: RecState,
+    ) -> Option<u8>
+        ensures { result ≡ refused_reply self.now.digest from.now aaid.now branch.now state }
+    {
+        match state {
+            RecState::Done(_) => self.refused_of_branch(from, aaid, branch),
+            RecState::Commit | RecState::Unknown | RecState::RetryLater => {
+                self.refused_of_superior(from, &key_of(aaid, branch))
+            }
+        }
+    }
+
+    // Another refusal where the node is there.
+    fn unless_missing(&self, other: Option<u8>) -> Option<u8>
+        ensures { result ≡ unless_missing (is_no_node self.now.digest) other }
+    {
+        if self.is_missing() { Some(16) } else { other }
+    }
+
+    // Of a request.
+    fn refused_do(&self, request: &Request) -> Option<u8>
+        ensures { result ≡ refused_plainly self.now.who self.now.digest (Do request.now) }
+    {
+        let needs_declaring = matches!(request, Request::BeginDialogue { .. });
+        if self.is_missing() || needs_declaring && !self.is_declared() {
+            return Some(16);
+        }
+        self.refused_request(request)
+    }
+
+    /// The number by which an event is refused before anything is tried. It takes no memory.
+    pub fn refused_at_once(&self, event: &NodeEvent<'_>) -> Option<u8>
+        ensures { result ≡ refused_at_once self.now.who self.now.digest event.now }
+    {
+        match event {
+            NodeEvent::Declare { .. } => first(&[(self.is_declared(), 2)]),
+            NodeEvent::Do { request } => self.refused_do(request),
+            NodeEvent::Arrive { from, rec } => self.refused_arrival(from, rec),
+            NodeEvent::Lose { peer } => self.unless_missing(self.refused_loss(*peer)),
+            NodeEvent::Heur { outcome } => {
+                let refused = self.refused_of_current(&TxEvent::Heur(*outcome), Some(10));
+                self.unless_missing(refused)
+            }
+            NodeEvent::GiveUp { peer } => {
+                let refused = self.refused_of_current(&TxEvent::GiveUp { arc: *peer }, Some(12));
+                self.unless_missing(refused)
+            }
+            NodeEvent::Retry => self.unless_missing(None),
+            NodeEvent::Purge => self.unless_missing(self.refused_purge()),
+        }
+    }
+}
+
+fn is_idle(link: &Link) -> bool
+    ensures { result ≡ is_idle link.now }
+{
+    link.state() == LinkState::Idle
+}
+
+fn is_opening_with(link: &Link, x: &Mark) -> bool
+    ensures { result ≡ is_opening_with link.now x.now }
+{
+    match (link.state(), link.marks().0) {
+        (LinkState::Opening, Some(own)) => is_mark(&own, x),
+        _ => false,
+    }
+}
+
+fn is_live_with(link: &Link, x: &Mark, y: &Mark) -> bool
+    ensures { result ≡ is_live_with link.now x.now y.now }
+{
+    match link.marks() {
+        (Some(own), Some(other)) => is_mark(&own, x) && is_mark(&other, y),
+        _ => false,
+    }
+}
+
+// The association that a peer shuts: the one that opens with the mark, or is live with the pair.
+fn is_shut_by(link: &Link, x: &Mark, y: &Option<Mark>) -> bool
+    ensures { result ≡ is_shut_by link.now x.now y.now }
+{
+    match y {
+        None => is_opening_with(link, x),
+        Some(y) => is_live_with(link, x, y),
+    }
+}
+
+// An address is kept, and it is another one.
+fn is_other(kept: &Option<Addr>, from: &Addr) -> bool
+    ensures { result ≡ is_other kept.now from.now }
+{
+    match kept {
+        None => false,
+        Some(kept) => !is_addr(kept, from),
+    }
+}
+
+// A record that is out of phase.
+fn out_of_phase(sight: Sight) -> Option<u8>
+    ensures { result ≡ out_of_phase (sight_value sight) }
+{
+    match sight {
+        Sight::Acts | Sight::Nothing => None,
+        Sight::OutOfPhase => Some(24),
+    }
+}

@@ -1,0 +1,151 @@
+//! What a node answers to an event. Nothing of it is so before the record is forced.
+ghost use Rattle.std.specs.Prelude.{◌≡◌, ◌==◌, ◌&&◌, true, IfOk, None, Some};
+ghost use Rattle.tp_model.specs.Parts.{Arrive};
+ghost use Rattle.tp_model.specs.Events.{action, refusal, unless_spent, needs_numbers, has_pair};
+ghost use Rattle.tp_model.specs.Arrivals.{break_off, refused_arrival};
+ghost use Rattle.tp_commit.specs.Branch.{IsRefusedAs};
+ghost use Rattle.tp_node.specs.Halt.{OnSpent};
+ghost use Rattle.tp_node.specs.NodeEvent.{event_of, refused_at_once, is_retry, breaks, answer_at};
+ghost use Rattle.tp_site.specs.Answers.{IsAnswer};
+
+use crate::draft::Draft;
+use crate::loss::broken_pair;
+use std::alloc::Global;
+use tp_model::TxFault;
+use tp_names::Addr;
+use tp_node::{Halt, Node, NodeEvent};
+use tp_records::PeerRecord;
+
+impl Draft {
+    // A draft on which an event happens that is not refused at once.
+    #[tactic(auto, using(crate::proofs::Drafts::followed_silent))]
+    fn drafted(alloc: Global, node: &Node, event: &NodeEvent<'_>) -> Result<Draft, Halt>
+        requires { refused_at_once node.now.who node.now.digest event.now ≡ None }
+        ensures happens { IfOk result (λ a. a ≡ record { who = node.now.who; move = action node.now.who node.now.digest (event_of event.now) }) }
+        ensures spent { OnSpent result (needs_numbers (action node.now.who node.now.digest (event_of event.now)) ≡ true) }
+    {
+        let mut draft = Draft::begin(alloc, node)?;
+        match draft.happen(alloc, event) {
+            Ok(()) => Ok(draft),
+            Err(halt) => Err(halt),
+        }
+    }
+
+    // What an event makes of the node that is not refused at once. A retry that says nothing is refused.
+    #[tactic(auto, using(crate::proofs::Quiet::refused_spent, crate::proofs::Quiet::refused_silent, crate::proofs::Quiet::refused_not))]
+    fn try_event(alloc: Global, node: &Node, event: &NodeEvent<'_>) -> Result<Draft, TxFault>
+        requires { refused_at_once node.now.who node.now.digest event.now ≡ None }
+        ensures happens { IfOk result (λ a. a ≡ record { who = node.now.who; move = action node.now.who node.now.digest (event_of event.now) }) }
+        ensures refused { IsRefusedAs result (refusal node.now.who node.now.digest (event_of event.now)) }
+    {
+        let _drawn = node.drawn();
+        match Draft::drafted(alloc, node, event) {
+            Err(Halt::NumbersSpent) => Err(TxFault::Refused(17)),
+            Err(Halt::NoMemory) => Err(TxFault::NoMemory),
+            Ok(draft) => {
+                if draft.is_spent() {
+                    return Err(TxFault::Refused(17));
+                }
+                if is_retry(event) && draft.says_nothing() {
+                    return Err(TxFault::Refused(12));
+                }
+                Ok(draft)
+            }
+        }
+    }
+
+    // The loss of the association on which a record came out of phase.
+    #[tactic(auto, using(crate::proofs::Drafts::followed_silent))]
+    fn try_break(alloc: Global, node: &Node, from: Addr, rec: &PeerRecord) -> Result<Draft, TxFault>
+        ensures happens { IfOk result (λ a. a ≡ record { who = node.now.who; move = break_off node.now.who from rec.now node.now.digest }) }
+        ensures refused { IsRefusedAs result (unless_spent (break_off node.now.who from rec.now node.now.digest) None) }
+    {
+        let mut draft = Draft::begin(alloc, node)?;
+        match draft.break_off(alloc, from, rec) {
+            Err(Halt::NumbersSpent) => Err(TxFault::Refused(17)),
+            Err(Halt::NoMemory) => Err(TxFault::NoMemory),
+            Ok(()) if draft.is_spent() => Err(TxFault::Refused(17)),
+            Ok(()) => Ok(draft),
+        }
+    }
+
+    // A record that came out of phase ends the association that it came on.
+    #[tactic(auto, using(crate::proofs::Answered::broken, crate::proofs::Answered::broken_spent))]
+    fn answer_out_of_phase(
+        alloc: Global,
+        node: &Node,
+        from: Addr,
+        rec: &PeerRecord,
+    ) -> Result<(Option<u8>, Draft), TxFault>
+        requires refused { refused_arrival node.now.who node.now.digest from rec.now ≡ Some 24 }
+        requires pair { has_pair rec.now ≡ true }
+        ensures { IsAnswer result node.now (answer_at node.now.who node.now.digest (Arrive from rec.now)) }
+    {
+        match Draft::try_break(alloc, node, from, rec) {
+            Ok(draft) => Ok((Some(24), draft)),
+            Err(fault) => Err(fault),
+        }
+    }
+
+    // An event that is refused at once by that number.
+    #[tactic(auto, using(crate::proofs::Answered::refused_whole))]
+    fn answer_refused(
+        alloc: Global,
+        node: &Node,
+        event: &NodeEvent<'_>,
+        number: u8,
+    ) -> Result<(Option<u8>, Draft), TxFault>
+        requires { refused_at_once node.now.who node.now.digest event.now ≡ Some number }
+        ensures { IsAnswer result node.now (answer_at node.now.who node.now.digest (event_of event.now)) }
+    {
+        if !ends_association(event, number) {
+            return Err(TxFault::Refused(number));
+        }
+        match event {
+            NodeEvent::Arrive { from, rec } => Draft::answer_out_of_phase(alloc, node, *from, rec),
+            _ => unreachable!(),
+        }
+    }
+
+    /// What the node answers to an event: what the event makes of it, or the number by which it is refused. With a
+    /// number, what happens is the loss of the association that follows that answer.
+    #[tactic(auto, using(crate::proofs::Answered::happens))]
+    pub(crate) fn answer_to(
+        alloc: Global,
+        node: &Node,
+        event: &NodeEvent<'_>,
+    ) -> Result<(Option<u8>, Draft), TxFault>
+        ensures { IsAnswer result node.now (answer_at node.now.who node.now.digest (event_of event.now)) }
+    {
+        if let Some(number) = node.refused_at_once(event) {
+            return Draft::answer_refused(alloc, node, event, number);
+        }
+        match Draft::try_event(alloc, node, event) {
+            Ok(draft) => Ok((None, draft)),
+            Err(fault) => Err(fault),
+        }
+    }
+}
+
+// A record that names the pair of an association, which an answer out of phase to it ends.
+fn breaks(event: &NodeEvent<'_>) -> bool
+    ensures { result ≡ breaks event.now }
+{
+    match event {
+        NodeEvent::Arrive { rec, .. } => broken_pair(rec).is_some(),
+        _ => false,
+    }
+}
+
+// The answer by that number ends an association.
+fn ends_association(event: &NodeEvent<'_>, number: u8) -> bool
+    ensures { result ≡ ((number == 24) && breaks event.now) }
+{
+    number == 24 && breaks(event)
+}
+
+fn is_retry(event: &NodeEvent<'_>) -> bool
+    ensures { result ≡ is_retry event.now }
+{
+    matches!(event, NodeEvent::Retry)
+}
