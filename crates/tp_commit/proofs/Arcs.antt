@@ -1,4 +1,4 @@
--- What is seen of the arc with one peer, behind outputs that shut and close none, and behind those that do.
+-- What is seen of the arc with one peer, after outputs that shut and close none, and after those that do.
 use Rattle.std.proofs.Common.{◌≡◌, ℕ, Bool, true, false, refl, ap, ◌∙◌, arith, Option, Some, None, List, [], ◌∷◌, ◌++◌, ◌&&◌, ◌==◌}
 use Rattle.std.proofs.lemmas.Bool.Decides.{nat_tests}
 use Rattle.tp_records.specs.declared.dialogue.DialogueRecord.{DialogueRecord}
@@ -106,7 +106,7 @@ ends_gone arcs p = ap look_ends (gone arcs p)
 pub alike_others : (arcs : List Arc) (p q : ℕ) → (q == p) ≡ false → IsAlike q arcs (without_arc arcs p)
 alike_others arcs p q other = record { live = ap look_live (others_stay arcs p q other); ends = ap look_ends (others_stay arcs p q other) }
 
--- ---- control and what was put off
+-- ---- control and what was deferred
 
 cleared_ends : (a : Dialogue) → is_end_deferred (cleared a).deferral ≡ is_end_deferred a.deferral
 unfolding cleared

@@ -1,4 +1,4 @@
--- Behind every event of the transaction a Branch stands for what is known of the node.
+-- After every event of the transaction a Branch stands for what is known of the node.
 use Rattle.std.proofs.Common.{◌≡◌, ℕ, Bool, true, false, refl, ap, sym, subst, ◌∙◌, arith, Some, None, List}
 use Rattle.std.proofs.lemmas.Bool.Decides.{nat_tests}
 use Rattle.tp_names.specs.declared.children.Child.{Child}

@@ -5,7 +5,7 @@ use Rattle.tp_model.specs.Transactions.{Transaction, Turn, turn, and_then}
 use Rattle.tp_commit.specs.declared.rule.Rule.{Rule}
 use Rattle.tp_commit.specs.Rules.{turn_of, run}
 
--- nothing behind a rule
+-- nothing after a rule
 then_nothing : (a : Turn) → and_then a (turn []) ≡ a
 then_nothing a = ap (λ outs. let b : Turn = record a { outs = outs } in b) (append-nil a.outs)
 
@@ -15,7 +15,7 @@ two_rules r s t = ap (λ (b : Turn). and_then (turn_of r t) (λ u. b)) (then_not
 pub one_rule : (r : Rule) (t : Transaction) → run (record { first = r; second = Rule.Nothing; third = Rule.Nothing }) t ≡ turn_of r t
 one_rule r t = then_nothing (turn_of r t)
 
--- a rule behind nothing
+-- a rule after nothing
 pub after_nothing : (t : Transaction) (f : Transaction → Turn) → and_then (turn [] t) f ≡ f t
 after_nothing t f = ap (λ r. let b : Turn = record (f t) { rec = r } in b) (same (f t).rec)
   where

@@ -83,7 +83,7 @@ pub marked_prepared : (rs : List Row) → IsMarked rs (all_prepared rs)
 marked_prepared [] = tt
 marked_prepared (r ∷ rs) = (record { peer = refl; live = refl; ends = refl; over = λ i. i }, marked_prepared rs)
 
--- ---- later arcs: each as live as before, and where the transaction rolls no end is put off any more
+-- ---- later arcs: each as live as before, and where the transaction rolls no end is deferred any more
 
 pub record IsLater (rolls : Bool) (q : ℕ) (arcs later : List Arc) : Type 0 where
   pub live : is_live_with_peer later q ≡ is_live_with_peer arcs q
@@ -259,7 +259,7 @@ rows_alike arcs later (b ∷ bs) k =
     more : (q : ℕ) → has_branch_at bs q ≡ true → has_branch_at (b ∷ bs) q ≡ true
     more q h = grind (arith, h)
 
--- an end that is put off is what the note says
+-- an end that is deferred is what the note says
 off_row : (p : ℕ) (arcs later : List Arc) → IsPutOff p arcs later → (b : Branch) → b.peer.node ≡ p → noted Note.Ending (seen_row arcs b) ≡ seen_row later b
 off_row p arcs later off b here =
     let with_parts : Bool → Bool → Row = λ l v. record { branch = b; live = l && not (b.ended || b.left); ends = v } in

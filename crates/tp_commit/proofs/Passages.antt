@@ -1,4 +1,4 @@
--- The arcs behind an event, as the transaction sees them: what its passage and its outputs make of them.
+-- The arcs after an event, as the transaction sees them: what its passage and its outputs make of them.
 use Rattle.std.proofs.Common.{◌≡◌, ℕ, Bool, true, false, refl, ap, sym, ◌∙◌, arith, Option, Some, None, List, ◌&&◌, ◌||◌, ◌==◌, not}
 use Rattle.std.proofs.lemmas.Bool.Decides.{nat_tests}
 use Rattle.tp_records.specs.declared.dialogue.DialogueRecord.{DialogueRecord}
@@ -120,7 +120,7 @@ stays_put t Phase.Ready arcs = refl
 stays_put t Phase.Committing arcs = refl
 stays_put t Phase.Rolling arcs = refl
 
--- ---- behind that
+-- ---- after that
 
 pub later_still : (rolls : Bool) (q : ℕ) (arcs mid later : List Arc) → IsLater rolls q arcs mid → IsAlike q mid later → IsLater rolls q arcs later
 later_still rolls q arcs mid later one two = record { live = two.live ∙ one.live; ends = two.ends ∙ one.ends }
@@ -152,11 +152,11 @@ later_cut rolls p q arcs mid one = go (q == p) refl
           ends = new.ends ∙ one.ends ∙ sym (ap (λ v. v && not rolls) old.ends);
         }
 
--- behind an abort or a close
+-- after an abort or a close
 pub later_aborted : (rolls : Bool) (p q : ℕ) (r : DialogueRecord) (arcs mid : List Arc) → IsLater rolls q arcs mid → IsLater rolls q (without_arc arcs p) (without_arc (carried mid p r).0 p)
 later_aborted rolls p q r arcs mid one = later_cut rolls p q arcs (carried mid p r).0 (later_still rolls q arcs mid (carried mid p r).0 one (alike_carried q p mid r))
 
--- behind a shut, which finds an arc or none
+-- after a shut, which finds an arc or none
 shut_alike : (p q : ℕ) (arcs : List Arc) → IsAlike q (without_arc arcs p) (shut_with arcs p).0
 shut_alike p q arcs = go (find_arc arcs p) refl
   where

@@ -70,7 +70,7 @@ end_acts t p = refl
 abbrev told_before : List TxOut → Turn → Turn
 told_before outs a = record { rec = a.rec; outs = outs ++ a.outs; next = a.next }
 
--- ---- an end that is put off
+-- ---- an end that is deferred
 
 off_below : (who : Who) (arcs later : List Arc) (c : Current) (p : ℕ) → IsAmongArcs arcs c → is_under_at c.key p ≡ false → IsPutOff p arcs later → with_row (seen who arcs c) p (noted Note.Ending) ≡ seen who later c
 off_below who arcs later c p among other off =

@@ -1,4 +1,4 @@
--- A transaction as it stands, and what is known of its node behind an event: the same, where what is left of the
+-- A transaction as it stands, and what is known of its node after an event: the same, where what is left of the
 -- event leaves it as it is among the arcs.
 use Rattle.std.proofs.Common.{◌≡◌, ℕ, Bool, true, false, refl, ap, sym, subst, ◌∙◌, List, ◌&&◌, ◌||◌, not}
 use Rattle.tp_names.specs.declared.children.Child.{Child}
@@ -52,7 +52,7 @@ still_shows who t a arcs later node is still laters =
 
 -- ---- an event at the node
 
--- the arcs behind the passage, before the outputs
+-- the arcs after the passage, before the outputs
 abbrev pub mid_of : Who → TxEvent → Digest → Current → List Arc
 mid_of who f d c = let t : Transaction = seen who d.arcs c in entered t (passage (is_leaving f) t.phase (transacted f t).next.phase) d.arcs
 
@@ -76,7 +76,7 @@ arcs_are who f d c late =
     let a : Turn = transacted f t in
     lasting d t (passage (is_leaving f) t.phase a.next.phase) a.outs (mid_of who f d c) (not_over (is_leaving f) t.phase a.next.phase late)
 
--- unless the transaction is over behind the event: it stands for what the node then knows, in order among the arcs
+-- unless the transaction is over after the event: it stands for what the node then knows, in order among the arcs
 pub record IsShown (who : Who) (f : TxEvent) (d : Digest) (c : Current) : Type 0 where
   pub stands : standing (transacted f (seen who d.arcs c)).next ≡ seen who (turned who f d c).next.arcs (left_of (transacted f (seen who d.arcs c)).next)
   pub among : IsAmongArcs (turned who f d c).next.arcs (left_of (transacted f (seen who d.arcs c)).next)

@@ -1,4 +1,4 @@
--- What every rule of a transaction leaves as it is, unless the transaction is over behind it: its key, what
+-- What every rule of a transaction leaves as it is, unless the transaction is over after it: its key, what
 -- it sees of its arcs, and the arcs themselves.
 use Rattle.std.proofs.Common.{◌≡◌, ℕ, Bool, true, false, refl, ap, sym, subst, ◌∙◌, arith, Option, List, [], ◌∷◌, ◌++◌, ◌&&◌, ◌||◌, not, if◌then◌else◌}
 use Rattle.tp_names.specs.declared.identifiers.Aaid.{Aaid}

@@ -56,7 +56,7 @@ ends_with arcs p f = ap look_ends (found_with arcs p f) ∙ go (find_arc arcs p)
     go None = refl
     go (Some a) = refl
 
--- a change that puts off no end and takes none back
+-- a change that defers no end and takes none back
 pub keeps_alike : (arcs : List Arc) (p : ℕ) (f : Dialogue → Dialogue) → ((x : Dialogue) → is_end_deferred (f x).deferral ≡ is_end_deferred x.deferral) → AreAlike arcs (with_dialogue arcs p f)
 keeps_alike arcs p f same q = go (q == p) refl
   where
@@ -97,7 +97,7 @@ counted_alike (a ∷ arcs) p q =
       ends = grind (arith, nat_tests, rest.ends);
     }
 
--- an end is put off
+-- an end is deferred
 puts_off : (arcs : List Arc) (p : ℕ) (f : Dialogue → Dialogue) → ((x : Dialogue) → is_end_deferred (f x).deferral ≡ true) → is_live_with_peer arcs p ≡ true → IsPutOff p arcs (with_dialogue arcs p f)
 puts_off arcs p f off live = record {
   before = live;
@@ -118,7 +118,7 @@ pub heard_off : (arcs : List Arc) (p : ℕ) → is_live_with_peer arcs p ≡ tru
 unfolding heard
 heard_off arcs p live = puts_off arcs p (heard Hear_defer_end) (λ x. refl) live
 
--- a grant is put off, where no end is
+-- a grant is deferred, where no end is
 grant_off : (arcs : List Arc) (p : ℕ) (f : Dialogue → Dialogue) → ((x : Dialogue) → is_end_deferred (f x).deferral ≡ false) → is_end_deferred_at arcs p ≡ false → AreAlike arcs (with_dialogue arcs p f)
 grant_off arcs p f off none q = go (q == p) refl
   where
@@ -195,7 +195,7 @@ active_late Phase.Ready h = absurd cc
 active_late Phase.Committing h = absurd cc
 active_late Phase.Rolling h = absurd cc
 
--- behind a Begin a Branch stands for what the node then knows, in order among the arcs where it was so before
+-- after a Begin a Branch stands for what the node then knows, in order among the arcs where it was so before
 pub record IsBegunAt (who : Who) (p : ℕ) (d : Digest) (c u : Current) (a : Arc) : Type 0 where
   pub stands : standing (transacted (TxEvent.Begun (child_on who d a ∷ [])) (seen who d.arcs c)).next ≡ seen who (begin_on who p d).next.arcs u
   pub among : IsAmongArcs d.arcs c → IsAmongArcs (begin_on who p d).next.arcs u

@@ -111,10 +111,10 @@ tells_transaction (LogRec.End n k u) = false
 abbrev pub seen_at : Bool → Bool → Row → Row
 seen_at live ends r = record r { live = live && not (r.branch.ended || r.branch.left); ends = ends }
 
--- ---- how it stands behind an event
+-- ---- how it stands after an event
 
 -- whether its arc is live matters as long as a branch is neither ended nor left; a rollback has forgotten
--- what was put off
+-- what was deferred
 abbrev pub standing_row : Bool → Row → Row
 standing_row rolls r = record r { live = r.live && not (r.branch.ended || r.branch.left); ends = r.ends && not rolls }
 

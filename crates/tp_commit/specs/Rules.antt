@@ -92,7 +92,7 @@ completion Phase.Rolling = Rule.CompleteRollback
 abbrev pub is_needed : Transaction → ℕ → Bool
 is_needed t p = is_under_at t.key p || row_holds t.rows p is_waited_for
 
--- behind the rule by which an arc is lost: in active the node rolls where it still needs it
+-- after the rule by which an arc is lost: in active the node rolls where it still needs it
 abbrev pub lost_by : Rule → ℕ → Transaction → Turn
 lost_by loss p t =
     if is_active t.phase && is_needed t p then and_then (turn_of loss t) (roll false)

@@ -1,4 +1,4 @@
--- A branch that begins on an arc. How a transaction stands among its arcs, before an event and behind it, is in AmongArcs of
+-- A branch that begins on an arc. How a transaction stands among its arcs, before an event and after it, is in AmongArcs of
 -- the definitions.
 use Rattle.tp_names.specs.declared.children.Child.{Child}
 use Rattle.tp_model.specs.Parts.{Who, Arc, Digest}

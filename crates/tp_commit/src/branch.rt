@@ -276,7 +276,7 @@ impl Branch {
         row.see(live, ends);
     }
 
-    /// Adds a branch behind the others, of which nothing is known but that its arc is live.
+    /// Adds a branch after the others, of which nothing is known but that its arc is live.
     pub fn add(&mut self, child: &Child) -> Result<(), NoMemory>
         ensures { OnOk result (self.new ≡ record self.old { rows = self.old.rows ++ record { branch = fresh_branch child.now; live = true; ends = false } ∷ [] }) }
     {

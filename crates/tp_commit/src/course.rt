@@ -93,7 +93,7 @@ impl Branch {
         self.is_under_at(arc) || row.is_some_and(|row| !row.counted && !row.left)
     }
 
-    // What the loss of an arc sets off, behind the rule by which it is lost.
+    // What the loss of an arc sets off, after the rule by which it is lost.
     fn lost_by(&self, loss: Rule, arc: u16) -> Course
         ensures { run result self.now ≡ lost_by loss arc self.now }
     {

@@ -1,4 +1,4 @@
-//! How a `Branch` begins, how one is found in the log, and how one stands behind an event, by what is known of
+//! How a `Branch` begins, how one is found in the log, and how one stands after an event, by what is known of
 //! the node.
 ghost use Rattle.std.specs.Prelude.{ℕ, ◌≡◌, true, false, List, [], ◌∷◌, Option, None, Some};
 ghost use Rattle.tp_names.specs.declared.identifiers.NodeKey.{NodeKey};
@@ -57,11 +57,11 @@ pub fn an_event_changes_its_own_arc()
     ensures cleared { (arcs : List Arc) (p : ℕ) → AreAlike arcs (with_dialogue arcs p cleared) }
 {}
 
-/// A `Branch` stands behind every event for what is known of the node by then, and before the node's next
+/// A `Branch` stands after every event for what is known of the node by then, and before the node's next
 /// transaction starts. Where it stood for what was known before the event, it asks for what the event of the
-/// node asks for; where the transaction goes on, it stands for that transaction among the arcs behind the
+/// node asks for; where the transaction goes on, it stands for that transaction among the arcs after the
 /// event, whatever was shut, closed, cleared or taken back there, and the two are in order as before; where it
-/// is over, its phase is Nil. So it does behind each branch that begins. That the two are in order in every legal
+/// is over, its phase is Nil. So it does after each branch that begins. That the two are in order in every legal
 /// history, and that an event reaches the arcs at which it comes, are laws of `tp_laws::arcs`.
 pub fn a_branch_stands_behind_every_event()
     ensures asks { (who : Who) (f : TxEvent) (d : Digest) (c : Current) (arcs : List Arc) → IsAmongArcs arcs c → Reaches f c arcs d.arcs

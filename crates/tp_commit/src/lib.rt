@@ -16,8 +16,6 @@ mod rows;
 mod rule;
 mod sight;
 mod step;
-#[cfg(test)]
-mod tests;
 
 pub use branch::Branch;
 pub use sight::Sight;

@@ -87,7 +87,7 @@ impl Row {
     }
 
     /// Whether its arc is live matters as long as it is neither ended nor left; a rollback has forgotten
-    /// what was put off.
+    /// what was deferred.
     pub(crate) fn stand(&mut self, rolls: bool)
         ensures { self.new ≡ standing_row rolls self.old }
     {

@@ -104,7 +104,7 @@ pub(crate) fn prepare_all(rows: &mut [Row])
     }
 }
 
-/// How the branches stand behind an event.
+/// How the branches stand after an event.
 pub(crate) fn stand(rows: &mut [Row], rolls: bool)
     ensures { rows.new ≡ standing_rows rolls rows.old }
 {

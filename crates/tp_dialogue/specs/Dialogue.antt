@@ -112,7 +112,7 @@ heard_with Acts h d = heard h (woken_by h d)
 heard_with Nothing_happens h d = woken_by h d
 heard_with Out_of_phase h d = d
 
--- what comes of a record: what is told, and this end behind it
+-- what comes of a record: what is told, and this end after it
 abbrev pub Arrival : Type 0
 Arrival = Sight × End
 

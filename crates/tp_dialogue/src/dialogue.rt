@@ -143,7 +143,7 @@ impl Dialogue {
         }
     }
 
-    /// No deferral stands or waits: a rollback forgets what was put off.
+    /// No deferral stands or waits: a rollback forgets what was deferred.
     pub fn forget_deferral(&mut self)
         ensures { self.new ≡ record self.old { dialogue = record self.old.dialogue { deferral = Deferral.None } } }
     {

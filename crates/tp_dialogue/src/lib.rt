@@ -8,10 +8,6 @@
 mod dialogue;
 mod kinds;
 mod refused;
-#[cfg(test)]
-mod table;
-#[cfg(test)]
-mod tests;
 
 pub use dialogue::{Dialogue, Seen};
 pub use refused::{OutOfPhase, Refusal};

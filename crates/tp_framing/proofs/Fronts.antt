@@ -16,7 +16,7 @@ abbrev pub next_by : Option (List ℕ × List ℕ) → Next
 next_by None = Part
 next_by (Some q) = Whole q.0 q.1
 
--- what comes next behind a length that is a frame's, or not
+-- what comes next after a length that is a frame's, or not
 abbrev pub next_at : Bool → ℕ → List ℕ → Next
 next_at false n bs = Bad
 next_at true n bs = next_by (read_bytes n bs)

@@ -5,7 +5,7 @@ use Rattle.tp_framing.specs.Frames.{Next, Part, Whole, Bad, next_in, Short, Bad_
 use Rattle.tp_framing.specs.Fed.{rest_of}
 use Rattle.tp_framing.proofs.Fronts.{next_frame, next_shorter}
 
--- the stream where this comes next, and this is the stream behind a frame
+-- the stream where this comes next, and this is the stream after a frame
 abbrev pub stream_by : Next → (List ℕ → Stream) → Stream
 stream_by Part rest = ends_with Short
 stream_by (Whole body bytes) rest = with_body body (rest bytes)

@@ -75,7 +75,7 @@ pub record HasMore (f : Fed) : Type 0 where
   pub rest : List ℕ
   pub next : next_in f.pending ≡ Whole body rest
 
--- what stands behind the last whole frame, where no bad length does
+-- what stands after the last whole frame, where no bad length does
 abbrev pub rest_of : List ℕ → Rest
 rest_of [] = Nothing
 rest_of (b ∷ bytes) = Short

@@ -1,4 +1,4 @@
--- A stream of frames: each a body of 1 to 2,048 bytes behind its length, two bytes with the high one first.
+-- A stream of frames: each a body of 1 to 2,048 bytes after its length, two bytes with the high one first.
 -- All is said of the bytes of the stream. How they are cut into pieces when they are read is no matter of it,
 -- and what stands in a body is no matter of this file.
 use Rattle.std.specs.Prelude.{ℕ, zero, suc, ◌≡◌, ◌<◌, ◌^◌, ◌&&◌, nat_le, Bool, true, false, Some, None, List, [], ◌∷◌, ◌++◌, length}
@@ -43,7 +43,7 @@ pub record BeginsBad (bytes : List ℕ) : Type 0 where
 pub data Next : Type 0 where
   -- neither a whole frame nor a bad length
   Part : Next
-  -- a frame with this body, and what stands behind it
+  -- a frame with this body, and what stands after it
   Whole : List ℕ → List ℕ → Next
   Bad : Next
 
@@ -58,7 +58,7 @@ next_in bytes = elim (read_short bytes) [
 
 -- ---- a whole stream
 
--- what stands behind the last whole frame: nothing, part of a frame, or a length that none has
+-- what stands after the last whole frame: nothing, part of a frame, or a length that none has
 pub data Rest : Type 0 where
   Nothing : Rest
   Short : Rest

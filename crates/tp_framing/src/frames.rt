@@ -91,7 +91,7 @@ impl Frames {
     }
 }
 
-/// Takes the bytes before the place away, once they are as many as those behind it, and tells the
+/// Takes the bytes before the place away, once they are as many as those after it, and tells the
 /// place of these from then on. So what stays is at most twice what is pending.
 fn let_go(bytes: &mut Vec<u8>, start: usize) -> usize
     requires { start ≤ vec_len bytes.old }

@@ -1,4 +1,4 @@
-//! A stream of frames: each a body of 1 to 2,048 bytes behind its length.
+//! A stream of frames: each a body of 1 to 2,048 bytes after its length.
 //!
 //! [`Frames`] is fed the stream in whatever pieces it comes, and hands out the bodies one by one.
 //! It knows nothing of what stands in a body.
@@ -8,8 +8,6 @@ mod bad_frame;
 mod frames;
 mod head;
 pub mod laws;
-#[cfg(test)]
-mod tests;
 
 pub use bad_frame::BadFrame;
 pub use frames::Frames;

@@ -21,7 +21,7 @@ not_whole : (rec : LogRec) (rest : List ℕ) → 0 < length rest → whole (Some
 not_whole rec [] some = absurd (omega arith)
 not_whole rec (b ∷ rest) some = refl
 
--- a text with more behind it is no whole text
+-- a text with more after it is no whole text
 pub front_text : (ver : LogVersion) (body : List ℕ) (rec : LogRec) (n : ℕ) → Begins (record_grammar ver) rec n body → n ≢ length body → record_in ver body ≡ None
 front_text ver body rec n begins differs =
     let parts : record_bytes ver rec ++ drop n body ≡ body = ap (λ l. l ++ drop n body) begins.1.1 ∙ take-append-drop n body in

@@ -2,7 +2,6 @@ pub mod Appends
 pub mod AsLogs
 pub mod Behind
 pub mod Appending
-pub mod Boots
 pub mod Briefs
 pub mod Compacting
 pub mod Decoded

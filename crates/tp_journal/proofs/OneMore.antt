@@ -36,7 +36,7 @@ pub grown : (accepts : Grammar) (old new : List (List ℕ)) (body : List ℕ) �
 grown accepts old new body passes true taken = taken.1
 grown accepts old new body passes false taken = absurd (cc (passes, taken.0))
 
--- the closing gate behind one more body
+-- the closing gate after one more body
 pub place_more : (old new : List (List ℕ)) (body : List ℕ) → new ≡ old ++ body ∷ [] → (gate : ℕ) → gate ≡ place_behind old → gate + 4 + length body - 1 ≡ place_behind new
 place_more old new body longer gate is =
     let size : length (blocks new) ≡ length (blocks old) + 3 + length body =

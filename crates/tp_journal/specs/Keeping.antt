@@ -24,7 +24,7 @@ pub record Standing : Type 0 where
   -- numbers that no call changes: what a generic caller hands back of a keeper that it took
   pub lasting : List ℕ
 
--- the length behind a record: an open gate's place is the closing gate's, then the text behind its length, and a gate
+-- the length after a record: an open gate's place is the closing gate's, then the text after its length, and a gate
 abbrev pub longer : ℕ → Bool → LogRec → ℕ
 longer n wide rec = n + 3 + length (text wide rec)
 

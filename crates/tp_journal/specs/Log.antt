@@ -1,5 +1,5 @@
 -- What the bytes of a log stand for: a list of bodies. It knows no record: a body is any bytes, from one to 65,535 of them.
--- The file is four letters, a selector, and bodies behind open gates up to the first gate that is closed. Where the
+-- The file is four letters, a selector, and bodies after open gates up to the first gate that is closed. Where the
 -- selector says so, the bodies stand further back, at a place that the last eight bytes tell.
 use Rattle.std.specs.Prelude.{◌≡◌, ◌≢◌, ◌⊎◌, ◌≤◌, ◌<◌, ◌^◌, ℕ, ◌+◌, ◌/◌, ◌%◌, List, [], ◌∷◌, ◌++◌, length}
 use Rattle.std.specs.List.{AllByRecursion}
@@ -12,12 +12,12 @@ IsBody body = (0 < length body) × (length body < 2 ^ 16)
 abbrev pub counted : List ℕ → List ℕ
 counted body = length body / 256 ∷ length body % 256 ∷ body
 
--- bodies, each behind an open gate
+-- bodies, each after an open gate
 abbrev pub blocks : List (List ℕ) → List ℕ
 blocks [] = []
 blocks (body ∷ bodies) = 1 ∷ counted body ++ blocks bodies
 
--- the place of the gate behind these bodies, where they stand at the front
+-- the place of the gate after these bodies, where they stand at the front
 abbrev pub place_behind : List (List ℕ) → ℕ
 place_behind bodies = 5 + length (blocks bodies)
 
@@ -39,7 +39,7 @@ pub record StandsInFront (file : List ℕ) (bodies : List (List ℕ)) : Type 0 w
   pub closed : gate ≢ 1
   pub each : AllByRecursion IsBody bodies
 
--- The bodies stand at a place that the last eight bytes tell, behind as many bytes as they would need in front.
+-- The bodies stand at a place that the last eight bytes tell, after as many bytes as they would need in front.
 pub record StandsBehind (file : List ℕ) (bodies : List (List ℕ)) : Type 0 where
   pub front : List ℕ
   pub gate : ℕ
@@ -49,7 +49,7 @@ pub record StandsBehind (file : List ℕ) (bodies : List (List ℕ)) : Type 0 wh
   pub closed : gate ≢ 1
   pub each : AllByRecursion IsBody bodies
 
--- the file stands for these bodies, whatever stands behind them
+-- the file stands for these bodies, whatever stands after them
 abbrev pub StandsFor : List ℕ → List (List ℕ) → Type 0
 StandsFor file bodies = StandsInFront file bodies ⊎ StandsBehind file bodies
 

@@ -63,7 +63,7 @@ abbrev pub places_from : ℕ → Bool → List LogRec → List ℕ
 places_from at wide [] = []
 places_from at wide (r ∷ rs) = at ∷ places_from (at + 3 + length (text wide r)) wide rs
 
--- behind the head of the file, and behind the mark
+-- after the head of the file, and after the mark
 abbrev pub first_place : Bool → ℕ
 first_place false = 5
 first_place true = 10
@@ -102,7 +102,7 @@ recs_in wide (body ∷ bodies) = with_rec (record_in (version_of wide) body) (re
 abbrev pub recs_of : List (List ℕ) → List LogRec
 recs_of bodies = recs_in (wide_of bodies) bodies
 
--- the bodies are the texts of their records, behind the mark where the log is of version 2
+-- the bodies are the texts of their records, after the mark where the log is of version 2
 pub record AreRecords (bodies : List (List ℕ)) : Type 0 where
   pub are : bodies ≡ bodies_of (wide_of bodies) (recs_of bodies)
   pub each : AllByRecursion (HasText (wide_of bodies)) (recs_of bodies)

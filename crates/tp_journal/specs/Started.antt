@@ -33,7 +33,7 @@ pub record Face : Type 0 where
   pub shut : Option ℕ
   pub faults : ℕ
 
--- the bytes up to the closing gate behind one more body
+-- the bytes up to the closing gate after one more body
 abbrev pub size_with : Face → List ℕ → ℕ
 size_with old body = old.gate + 4 + length body
 
@@ -51,7 +51,7 @@ pub record Stays (old new : Face) : Type 0 where
   pub gate : new.gate ≡ old.gate
   pub faults : old.faults ≤ new.faults
 
--- Full comes exactly where the body has no room, and before want of memory and a fault of the disk
+-- Full comes exactly where the body has no room, and before out of memory and a fault of the disk
 abbrev pub RefusesAppend : Face → List ℕ → Face → ForceFault → Type 0
 RefusesAppend old body new (Full size) = Stays old new × (old.shut ≡ None) × (new.shut ≡ None) × (size ≡ size_with old body) × (most_bytes < size)
 RefusesAppend old body new (DiskFault faults) =

@@ -23,7 +23,7 @@ use tp_logrec::{LogRec, brief};
 use tp_names::NoMemory;
 use tp_outside::{Disk, Failed};
 
-// A log of version 2 with no records: four letters, the selector, the mark behind an open gate, and a closed gate.
+// A log of version 2 with no records: four letters, the selector, the mark after an open gate, and a closed gate.
 const EMPTY: [u8; 11] = [79, 84, 80, 76, 1, 1, 0, 2, 7, 2, 0];
 
 /// Makes the disk hold a log of version 2 with no records alone, whatever it held.
@@ -65,7 +65,7 @@ impl<D: Disk> Journal<D> {
         Ok(Journal { log })
     }
 
-    /// Forces one record: with the receipt it is on the disk, behind all earlier ones. Where the log would have more than
+    /// Forces one record: with the receipt it is on the disk, after all earlier ones. Where the log would have more than
     /// `MOST_BYTES` up to its closing gate, `Full` says how many, and nothing changes.
     pub fn force(&mut self, alloc: Global, rec: &LogRec) -> Result<Receipt, ForceFault>
         requires { HasText self.old.wide rec.now }

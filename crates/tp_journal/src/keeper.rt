@@ -12,7 +12,7 @@ pub trait Keeper {
     /// What the keeper tells, and its own records.
     ghost standing: { Self → Standing };
 
-    /// Forces one record. With the receipt it is on the disk, behind all of this keeper's earlier ones.
+    /// Forces one record. With the receipt it is on the disk, after all of this keeper's earlier ones.
     fn force(&mut self, alloc: Global, rec: &LogRec) -> Result<Receipt, ForceFault>
         requires { HasText (standing self.old).wide rec.now }
         ensures { Forces (standing self.old) rec.now result (standing self.new) };

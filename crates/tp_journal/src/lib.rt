@@ -1,4 +1,4 @@
-//! A log on a disk: bodies behind gates that are opened one at a time, once what they guard is on the disk.
+//! A log on a disk: bodies after gates that are opened one at a time, once what they guard is on the disk.
 //!
 //! `Gates` keeps bodies of any bytes; the records of a site stand above it.
 #![tactic(auto)]
@@ -17,8 +17,6 @@ mod receipts;
 mod records;
 mod shelf;
 mod tape;
-#[cfg(test)]
-mod tests;
 
 pub use disorder::first_out_of_order;
 pub use faults::{CompactFault, ForceFault, StartFault};

@@ -35,7 +35,7 @@ impl<D: Disk, S: Shelf> Model for Log<D, S> {
     ghost invariant = { λ l. IsStarted (D.told l.disk) l.gate (S.bodies l.shelf) l.shut };
 }
 
-// What is written behind the closing gate: the body with its length before it, and a closed gate.
+// What is written after the closing gate: the body with its length before it, and a closed gate.
 fn piece_of(alloc: Global, body: &[u8]) -> Result<Vec<u8>, AllocError>
     requires { IsBody body.now }
     ensures { IfOk result (λ piece. piece.items ≡ counted body.now ++ 0 ∷ []) }
@@ -144,7 +144,7 @@ impl<D: Disk, S: Shelf + Drop> Log<D, S> {
         }
     }
 
-    /// Puts other bodies in the place of those that stand. The text is the new bodies behind open gates, and a closed gate.
+    /// Puts other bodies in the place of those that stand. The text is the new bodies after open gates, and a closed gate.
     pub fn replace(&mut self, alloc: Global, next: S, text: &[u8]) -> Result<(), CompactFault>
         requires text { IsTextOf (S.bodies next) text.now }
         requires fits { length text.now < 2 ^ 61 }
@@ -176,7 +176,7 @@ impl<D: Disk, S: Shelf + Drop> Log<D, S> {
     }
 }
 
-// How many zeros stand before a new text behind the closing gate, so that the text fits in front of its own place.
+// How many zeros stand before a new text after the closing gate, so that the text fits before its own place.
 fn zeros_before(gate: u64, len: usize) -> usize
     requires gate { gate < 2 ^ 63 }
     requires len { len < 2 ^ 61 }

@@ -23,7 +23,7 @@ pub enum End {
     Broken(usize),
 }
 
-// A whole body and what follows it, behind an open gate.
+// A whole body and what follows it, after an open gate.
 fn split_body(after: &[u8]) -> Option<(&[u8], &[u8])>
     ensures found { IfSome result (λ parts. IsBody parts.0.now × (after.now ≡ counted parts.0.now ++ parts.1.now)) }
     ensures none { IfNone result ((body rest : List ℕ) → IsBody body → after.now ≡ counted body ++ rest → ⊥) }

@@ -38,7 +38,7 @@ fn is_mark(body: &[u8]) -> bool
     body == MARK.as_slice()
 }
 
-// Does a log of version 2 begin with this body, behind these records?
+// Does a log of version 2 begin with this body, after these records?
 fn is_first_mark(wide: bool, recs: &[LogRec], body: &[u8]) -> bool
     ensures yes { result ≡ true → (wide ≡ false) × (length recs.now ≡ 0) × (is_mark body.now ≡ true) }
     ensures no { result ≡ false → wide ≡ false → length recs.now ≡ 0 → is_mark body.now ≡ false }
@@ -80,7 +80,7 @@ pub fn write_text(alloc: Global, wide: bool, rec: &LogRec) -> Result<Octets, NoM
     Ok(body)
 }
 
-// The bodies of a log with no records, each behind an open gate: the mark, where it is of version 2.
+// The bodies of a log with no records, each after an open gate: the mark, where it is of version 2.
 fn marks_text(alloc: Global, wide: bool) -> Result<Vec<u8>, NoMemory>
     ensures text { IfOk result (λ text. text.items ≡ blocks (marks wide)) }
 {
@@ -105,7 +105,7 @@ fn put_body(text: &mut Vec<u8>, body: &[u8]) -> Result<(), NoMemory>
 // No machine has memory for more.
 const LONGEST: usize = 1 << 60;
 
-/// Records as a log of their own: on a shelf, with their places, and as the text that stands behind the head of the
+/// Records as a log of their own: on a shelf, with their places, and as the text that stands after the head of the
 /// file, with a closed gate.
 pub fn generation(
     alloc: Global,

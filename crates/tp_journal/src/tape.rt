@@ -34,8 +34,8 @@ fn shorten<D: Disk>(disk: &mut D, len: u64) -> Result<(), Failed>
     Ok(())
 }
 
-/// Adds a body behind the closing gate: the body and the next closing gate, and then the gate itself.
-/// The piece is the body with its length before it and a closed gate behind it.
+/// Adds a body after the closing gate: the body and the next closing gate, and then the gate itself.
+/// The piece is the body with its length before it and a closed gate after it.
 pub fn append<D: Disk>(disk: &mut D, gate: u64, piece: &[u8]) -> Result<(), Failed>
     requires { gate + 1 < 2 ^ 64 }
     ensures moments { (bodies : List (List ℕ)) (body : List ℕ) → RestsAt (D.told disk.old) gate bodies → IsBody body → piece.now ≡ counted body ++ 0 ∷ []
@@ -52,7 +52,7 @@ pub fn append<D: Disk>(disk: &mut D, gate: u64, piece: &[u8]) -> Result<(), Fail
 }
 
 /// Ends a change of generation: bodies that stand further back are written to the front too, the selector turns to
-/// these, and what stands behind them is cut off. The text is the bodies behind open gates and a closed gate.
+/// these, and what stands after them is cut off. The text is the bodies after open gates and a closed gate.
 pub fn finish<D: Disk>(disk: &mut D, text: &[u8]) -> Result<(), Failed>
     requires { 5 + length text.now < 2 ^ 64 }
     ensures moments { (bodies : List (List ℕ)) (file : List ℕ) → IsOn (D.told disk.old) file → StandsBehind file bodies → IsTextOf bodies text.now
@@ -69,7 +69,7 @@ pub fn finish<D: Disk>(disk: &mut D, text: &[u8]) -> Result<(), Failed>
     Ok(())
 }
 
-// Puts bytes and a place behind the closing gate, which ends at `end`. The log stays what it is.
+// Puts bytes and a place after the closing gate, which ends at `end`. The log stays what it is.
 fn stage<D: Disk>(disk: &mut D, end: u64, behind: &[u8], place: u64) -> Result<(), Failed>
     requires { end + length behind.now < 2 ^ 64 }
     ensures moments { (bodies : List (List ℕ)) (gate : ℕ) → end ≡ gate + 1 → RestsAt (D.told disk.old) gate bodies → LeavesOnly (λ c. StandsFor c bodies) (D.told disk.old) (D.told disk.new) }
@@ -86,7 +86,7 @@ fn stage<D: Disk>(disk: &mut D, end: u64, behind: &[u8], place: u64) -> Result<(
 }
 
 /// Changes the generation: the log stands for other bodies afterwards, and at each moment for the old or for the new.
-/// What is written behind the closing gate is so many zeros, that the new text fits before it, and the new text.
+/// What is written after the closing gate is so many zeros, that the new text fits before it, and the new text.
 pub fn replace<D: Disk>(disk: &mut D, gate: u64, padded: &[u8], zeros: usize) -> Result<(), Failed>
     requires zeros { zeros ≤ length padded.now }
     requires fits { gate + 14 + length padded.now < 2 ^ 64 }

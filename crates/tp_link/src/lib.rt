@@ -8,8 +8,6 @@
 mod dropped;
 mod link;
 mod state;
-#[cfg(test)]
-mod tests;
 
 pub use dropped::Dropped;
 pub use link::Link;

@@ -1,4 +1,4 @@
--- The brief of a list in order is in order: behind its Boot the briefs of the lives stand one behind the other,
+-- The brief of a list in order is in order: after its Boot the briefs of the lives stand one after the other,
 -- and records of one key change nothing of what the rules read of another.
 use Rattle.std.proofs.Common.{◌≡◌, ℕ, Option, Some, None, List, [], ◌∷◌, ◌++◌, refl, sym, subst, ◌∙◌, ap, append_assoc, append-nil, arith, Bool, true, false}
 use Rattle.std.specs.Prelude.{◌&&◌, ◌||◌, ◌==◌, nat_le}
@@ -59,7 +59,7 @@ boot_same o n front (r ∷ rs) own =
     ap (λ w. last_boot_from n w) (sym (append_assoc front (r ∷ []) rs)) ∙ boot_same o n (front ++ r ∷ []) rs own.2
     ∙ boot_after_is n front r ∙ boot_own o (last_boot_from n front) r own.0
 
--- ---- the records of one life behind a list
+-- ---- the records of one life after a list
 
 -- that the node is free is asked of the first alone
 pub as_in_life : (b : Before) (r : LogRec) → b.begun ≡ true → (b.last ≡ None → b.free ≡ true) → may_follow b r ≡ may_follow (in_life b.boot b.last b.ready) r
@@ -117,9 +117,9 @@ follow_from-append front (r ∷ rs) qs =
     ap (λ b. follows front r && b) (follow_from-append (front ++ r ∷ []) rs qs ∙ ap (λ w. follow_from (front ++ r ∷ []) rs && follow_from w qs) (append_assoc front (r ∷ []) rs))
     ∙ sym (and_assoc (follows front r) (follow_from (front ++ r ∷ []) rs) (follow_from (front ++ r ∷ rs) qs))
 
--- ---- the lives of a brief, one behind the other
+-- ---- the lives of a brief, one after the other
 
--- behind the list a life of the key may begin
+-- after the list a life of the key may begin
 pub record IsOpen (front : List LogRec) (o : Owner) : Type 0 where
   pub last : last_from o None front ≡ None
   pub ready : ready_from o None front ≡ None

@@ -67,7 +67,7 @@ runs_later m n last ready (r ∷ rs) le e =
     let p = both (may_follow (in_life m last ready) r) (runs m (Some r) (ready_now ready r) rs) e in
     and_both (may_follow (in_life n last ready) r) (runs n (Some r) (ready_now ready r) rs) (may_later m n last ready r le p.0) (runs_later m n (Some r) (ready_now ready r) rs le p.1)
 
--- ---- behind a Commit, or a Damage with commit
+-- ---- after a Commit, or a Damage with commit
 
 pub never : (b : Option BranchId) → elim b as (λ _. Bool) [ None ↦ false | Some c ↦ false ] ≡ true → ⊥
 never None e = cc
@@ -153,7 +153,7 @@ pub are_others : (test : LogRec → Bool) → ((r : LogRec) → is_damage r ≡ 
 are_others test says [] a = tt
 are_others test says (r ∷ rs) a = (says r a.0, are_others test says rs a.1)
 
--- records of a life, and Damages behind them
+-- records of a life, and Damages after them
 pub brief_behind : (fs ds : List LogRec) → AllAre is_damage false fs → AllAre is_damage true ds → brief_life (fs ++ ds) ≡ (those is_ready fs ++ those is_heuristic fs ++ those is_commit fs) ++ last_only ds
 brief_behind fs ds a b =
     ap (λ w. w ++ those is_heuristic (fs ++ ds) ++ those is_commit (fs ++ ds) ++ last_only (those is_damage (fs ++ ds))) (none is_ready (else_ready is_damage (λ n k a cs. refl)))
@@ -180,7 +180,7 @@ short_behind boot last ready o (f ∷ fs) q ds owing own e =
     let rest = short_behind boot (Some f) (ready_now ready f) o fs q ds owing own.2 p.1 in
     (rest.0, and_both (may_follow (in_life boot last ready) f) (runs boot (Some f) (ready_now ready f) (fs ++ q ∷ last_only ds)) p.0 rest.1)
 
--- records in the order of a brief, the last of which may owe, and Damages behind them
+-- records in the order of a brief, the last of which may owe, and Damages after them
 pub briefed : (boot : ℕ) (o : Owner) (fs : List LogRec) (q : LogRec) (ds : List LogRec) → may_owe [] q ≡ true → AllAre is_damage false (fs ++ q ∷ [])
     → those is_ready (fs ++ q ∷ []) ++ those is_heuristic (fs ++ q ∷ []) ++ those is_commit (fs ++ q ∷ []) ≡ fs ++ q ∷ []
     → AllOwn o (fs ++ q ∷ ds) → runs boot None None (fs ++ q ∷ ds) ≡ true → IsBriefed boot (fs ++ q ∷ ds)

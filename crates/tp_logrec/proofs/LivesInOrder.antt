@@ -70,7 +70,7 @@ order_without boot (l ∷ ls) o a = go (is_owner l.owner o) (order_without boot 
 
 -- ---- a life goes on, or begins
 
--- behind a record that does not bind its key stands none that does
+-- after a record that does not bind its key stands none that does
 pub loose_next : (boot : ℕ) (before ready : Option LogRec) (r : LogRec) → is_begun (only before) ≡ true → holds before is_bound ≡ false
     → may_follow (in_life boot before ready) r ≡ true → is_bound r ≡ false
 loose_next boot None ready r some loose e = absurd cc

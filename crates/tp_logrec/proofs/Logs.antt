@@ -26,7 +26,7 @@ long_back n bs h =
 pub not_one : (g : ℕ) → g ≢ 1 → (g == 1) ≡ false
 not_one g h = grind (arith, nat_tests)
 
--- ---- bodies behind gates
+-- ---- bodies after gates
 
 -- the records at their places, from a place on
 abbrev pub placed_from : LogVersion → ℕ → List LogRec → List Placed
@@ -45,7 +45,7 @@ body_back body more short =
 pub record_back : (ver : LogVersion) (r : LogRec) → HasBody ver r → record_in ver (record_bytes ver r) ≡ Some r
 record_back ver r b = ap whole b.text
 
--- how the reading goes on at a gate, behind an open one, and behind a body
+-- how the reading goes on at a gate, after an open one, and after a body
 abbrev pub on_record : LogVersion → ℕ → ℕ → List ℕ × List ℕ → Option LogRec → LogReading
 on_record ver fuel at p None = Foreign at
 on_record ver fuel at p (Some r) = with_record (record { place = at; rec = r }) (records_from fuel ver (at + 3 + length p.0) p.1)
@@ -161,7 +161,7 @@ listed_back LogVersion.Two at rs gate rest bodies closed =
     mark_is at bytes ∙ records_back (length bytes) LogVersion.Two (at + 5) rs gate rest bodies closed enough
     ∙ ap (λ n. Reads LogVersion.Two (placed_from LogVersion.Two (at + 5) rs) n) gate_at
 
--- ---- the front text, and the one behind
+-- ---- the front text, and the one after
 
 abbrev pub on_selector : List ℕ → Bool → LogReading
 on_selector bytes true = back_reading bytes (last_place bytes)

@@ -124,7 +124,7 @@ ready_by_recent k o (LogRec.End m j u) = go (is_owner (owner m j) o)
     go true = refl
     go false = refl
 
--- what the map has of a key behind its record
+-- what the map has of a key after its record
 pub after_end : (ks : List (Owner × Recent)) (p o : Owner) (r : LogRec) → owner_of r ≡ Some p → is_end r ≡ true → cond (is_owner p o) None (recent ks o) ≡ recent_after (recent ks o) o r
 after_end ks p o r of e = go (is_owner p o) refl
   where
@@ -188,7 +188,7 @@ follows_by_check rs c (LogRec.Commit n k a cs) is = ap (λ b. may_follow b (LogR
 follows_by_check rs c (LogRec.Damage n k a o r cs) is = ap (λ b. may_follow b (LogRec.Damage n k a o r cs)) (before_by_check rs c (owner n k) is)
 follows_by_check rs c (LogRec.End n k o) is = ap (λ b. may_follow b (LogRec.End n k o)) (before_by_check rs c (owner n k) is)
 
--- ---- what binds a node behind a record of one of its keys
+-- ---- what binds a node after a record of one of its keys
 
 pub after_binding : (ns : List (ℕ × List Owner)) (p : Owner) (n : ℕ) (r : LogRec) → owner_of r ≡ Some p
     → cond (p.node == n) (bound_by (binding ns p.node) p r) (binding ns n) ≡ binding_after (binding ns n) n r

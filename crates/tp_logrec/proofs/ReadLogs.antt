@@ -71,7 +71,7 @@ record_parts ver body r fits h =
     let w = law r body [] fits read in
     (w.0, w.1 ∙ append-nil (record_bytes ver r))
 
--- ---- bodies behind gates
+-- ---- bodies after gates
 
 pub record IsRest (ver : LogVersion) (at : ℕ) (bytes : List ℕ) (ps : List Placed) (gate : ℕ) : Type 0 where
   pub closing : ℕ
@@ -190,7 +190,7 @@ listed_tells at bytes fits = subst (λ (w : LogReading). TellsList at bytes w) (
         let is : bytes ≡ version_text LogVersion.Two ++ drop 5 bytes = cut ∙ ap (λ (w : List ℕ). w ++ drop 5 bytes) (name_same (take 5 bytes) (version_text LogVersion.Two) e) in
         two_tells at bytes (drop 5 bytes) is (records_from (length bytes) LogVersion.Two (at + 5) (drop 5 bytes)) (records_tell (length bytes) LogVersion.Two (at + 5) (drop 5 bytes) later_bytes)
 
--- ---- the front text, and the one behind
+-- ---- the front text, and the one after
 
 abbrev pub TellsFile : List ℕ → LogReading → Type 0
 TellsFile bytes (Foreign place) = Unit {0}
@@ -218,7 +218,7 @@ place_spelled last fits eight (Some p) e h =
     empty [] h = refl
     empty (x ∷ w) h = absurd (omega arith)
 
--- a text behind a front of so many bytes, and the last eight bytes behind it
+-- a text after a front of so many bytes, and the last eight bytes after it
 pub record Behind (text : List ℕ) (room : ℕ) (listed last : List ℕ) : Type 0 where
   pub front : List ℕ
   pub room_is : length front ≡ room

@@ -1,4 +1,4 @@
--- What stands in front stays in front, and children are written one after the other.
+-- What stands first stays in front, and children are written one after the other.
 use Rattle.std.specs.Prelude.{OnErr}
 use Rattle.std.proofs.Common.{◌≡◌, ℕ, ◌<◌, ◌+◌, Result, Ok, Err, List, ◌++◌, length, drop, get_or, sym, subst, ◌∙◌, ap, append_assoc}
 use Rattle.std.proofs.lemmas.List.{drop_more}

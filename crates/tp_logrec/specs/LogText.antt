@@ -11,7 +11,7 @@ use Rattle.tp_logrec.specs.RecordText.{record_bytes}
 use Rattle.tp_logrec.specs.RecordReading.{record_in, record_grammar}
 use Rattle.tp_names.specs.Grammar.{HasText}
 
--- ---- bodies behind gates of 1
+-- ---- bodies after gates of 1
 
 abbrev pub framed : List ℕ → List ℕ
 framed body = short_bytes (length body) ++ body
@@ -100,7 +100,7 @@ abbrev pub with_record : Placed → LogReading → LogReading
 with_record p (Foreign at) = Foreign at
 with_record p (Reads ver ps gate) = Reads ver (p ∷ ps) gate
 
--- a body behind its length, and what stands behind it
+-- a body after its length, and what stands after it
 abbrev pub body_in : List ℕ → Option (List ℕ × List ℕ)
 body_in bytes = then_read (read_short bytes) read_bytes
 

@@ -224,7 +224,7 @@ abbrev pub is_none : List Child → Bool
 is_none [] = true
 is_none (c ∷ cs) = false
 
--- an End with that outcome may stand behind the record
+-- an End with that outcome may stand after the record
 abbrev pub may_end : Outcome → LogRec → Bool
 may_end o (LogRec.Boot n) = false
 may_end Outcome.Commit (LogRec.Ready n k b ds) = false
@@ -333,7 +333,7 @@ abbrev pub may_damage : Before → NodeKey → Option Addr → Outcome → Repor
 may_damage b k a Outcome.Commit r cs = holds b.last (may_owe cs) && has_superior k a b.ready
 may_damage b k a Outcome.Rollback r cs = holds b.last (is_decision Outcome.Commit) && is_mix r && is_none cs && has_superior k a b.ready
 
--- what the rules say of a record of a key, which stands behind a Boot
+-- what the rules say of a record of a key, which stands after a Boot
 abbrev pub may_follow : Before → LogRec → Bool
 may_follow b (LogRec.Boot n) = false
 may_follow b (LogRec.Ready n k a cs) = b.begun && is_new b

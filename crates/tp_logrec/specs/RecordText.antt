@@ -19,7 +19,7 @@ abbrev pub superior_bytes : Option Addr → List ℕ
 superior_bytes None = []
 superior_bytes (Some a) = addr_bytes a
 
--- a key, and the superior's address behind it
+-- a key, and the superior's address after it
 abbrev pub key_and_superior_bytes : NodeKey × Option Addr → List ℕ
 key_and_superior_bytes p = key_bytes p.0 ++ superior_bytes p.1
 

@@ -40,7 +40,7 @@ impl Binding {
         self.owners.is_empty()
     }
 
-    /// Those behind a record of the key.
+    /// Those after a record of the key.
     fn behind(&self, alloc: Global, owner: &Owner, rec: &LogRec) -> Result<Binding, NoMemory>
         ensures { IfOk result (λ next. next ≡ bound_by self.now owner.now rec.now) }
     {
@@ -100,7 +100,7 @@ impl Bindings {
         }
     }
 
-    /// What binds the key's node behind the record; the node gets an entry.
+    /// What binds the key's node after the record; the node gets an entry.
     pub(crate) fn prepare(
         &mut self,
         alloc: Global,

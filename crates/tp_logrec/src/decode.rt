@@ -226,8 +226,7 @@ fn children(alloc: Global, ver: LogVersion, cursor: &mut Cursor) -> Result<Child
     ensures { GivesUnlessFull result cursor.new (scan_children ver cursor.old) }
 {
     let count = child_count(ver, cursor)?;
-    let list = so_many_children(alloc, count, cursor)?;
-    Ok(list)
+    so_many_children(alloc, count, cursor)
 }
 
 fn so_many_children(alloc: Global, count: u16, cursor: &mut Cursor) -> Result<Children, ReadFault>

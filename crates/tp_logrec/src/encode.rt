@@ -89,8 +89,7 @@ fn write_boot(alloc: Global, boot: u64, out: &mut Octets) -> Result<(), NoMemory
     ensures err { OnErr result (Keeps out.old out.new) }
 {
     out.push(alloc, 1)?;
-    write_long(alloc, boot, out)?;
-    Ok(())
+    write_long(alloc, boot, out)
 }
 
 /// A code, a node, and a key.
@@ -106,8 +105,7 @@ fn write_head(
 {
     out.push(alloc, code)?;
     write_short(alloc, node, out)?;
-    write_key(alloc, key, out)?;
-    Ok(())
+    write_key(alloc, key, out)
 }
 
 /// A code, a node, a key, and the superior's address where there is one.
@@ -123,8 +121,7 @@ fn write_long_head(
     ensures err { OnErr result (Keeps out.old out.new) }
 {
     write_head(alloc, code, node, key, out)?;
-    write_superior(alloc, superior, out)?;
-    Ok(())
+    write_superior(alloc, superior, out)
 }
 
 fn write_judgement(
@@ -137,8 +134,7 @@ fn write_judgement(
     ensures err { OnErr result (Keeps out.old out.new) }
 {
     write_outcome(alloc, side, out)?;
-    write_report(alloc, report, out)?;
-    Ok(())
+    write_report(alloc, report, out)
 }
 
 fn write_ready(
@@ -155,8 +151,7 @@ fn write_ready(
 {
     write_head(alloc, 2, node, key, out)?;
     write_addr(alloc, superior, out)?;
-    write_children(alloc, ver, children, out)?;
-    Ok(())
+    write_children(alloc, ver, children, out)
 }
 
 /// A heuristic decision, or an end: a code, a node, a key, and an outcome.
@@ -172,8 +167,7 @@ fn write_short_record(
     ensures err { OnErr result (Keeps out.old out.new) }
 {
     write_head(alloc, code, node, key, out)?;
-    write_outcome(alloc, outcome, out)?;
-    Ok(())
+    write_outcome(alloc, outcome, out)
 }
 
 fn write_commit(
@@ -189,8 +183,7 @@ fn write_commit(
     ensures err { OnErr result (Keeps out.old out.new) }
 {
     write_long_head(alloc, 4, node, key, superior, out)?;
-    write_children(alloc, ver, children, out)?;
-    Ok(())
+    write_children(alloc, ver, children, out)
 }
 
 fn write_damage(
@@ -208,8 +201,7 @@ fn write_damage(
 {
     write_long_head(alloc, 5, node, key, superior, out)?;
     write_judgement(alloc, judgement.0, judgement.1, out)?;
-    write_children(alloc, ver, owed, out)?;
-    Ok(())
+    write_children(alloc, ver, owed, out)
 }
 
 /// The superior's address, where there is one.
@@ -217,13 +209,13 @@ fn write_superior(alloc: Global, superior: &Option<Addr>, out: &mut Octets) -> R
     ensures ok { OnOk result (out.new ≡ out.old ++ superior_bytes superior.now) }
     ensures err { OnErr result (Keeps out.old out.new) }
 {
-    if let Some(addr) = superior {
-        write_addr(alloc, addr, out)?;
+    match superior {
+        None => Ok(()),
+        Some(addr) => write_addr(alloc, addr, out),
     }
-    Ok(())
 }
 
-/// The children behind their count, of which the lowest byte or the two lowest are written.
+/// The children after their count, of which the lowest byte or the two lowest are written.
 fn write_children(
     alloc: Global,
     ver: LogVersion,
@@ -234,8 +226,7 @@ fn write_children(
     ensures err { OnErr result (Keeps out.old out.new) }
 {
     write_child_count(alloc, ver, children.len(), out)?;
-    write_each_child(alloc, children.as_slice(), out)?;
-    Ok(())
+    write_each_child(alloc, children.as_slice(), out)
 }
 
 fn write_child_count(
@@ -248,10 +239,9 @@ fn write_child_count(
     ensures err { OnErr result (Keeps out.old out.new) }
 {
     match ver {
-        LogVersion::One => write_byte(alloc, (count % 256) as u8, out)?,
-        LogVersion::Two => write_short(alloc, (count % 65536) as u16, out)?,
+        LogVersion::One => write_byte(alloc, (count % 256) as u8, out),
+        LogVersion::Two => write_short(alloc, (count % 65536) as u16, out),
     }
-    Ok(())
 }
 
 fn write_each_child(alloc: Global, children: &[Child], out: &mut Octets) -> Result<(), NoMemory>

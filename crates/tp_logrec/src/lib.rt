@@ -20,8 +20,6 @@ mod rules;
 mod same;
 mod standing;
 mod summary;
-#[cfg(test)]
-mod tests;
 
 pub use decode::decode_log;
 pub use encode::encode_log;

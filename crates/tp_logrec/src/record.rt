@@ -99,7 +99,7 @@ impl LogRec {
         matches!(self, LogRec::End { .. })
     }
 
-    /// A record behind which its key stays bound: Ready, Heuristic and Commit.
+    /// A record after which its key stays bound: Ready, Heuristic and Commit.
     pub fn is_bound(&self) -> bool
         ensures { result ≡ is_bound self.now }
     {

@@ -48,7 +48,7 @@ fn has_superior(key: &NodeKey, superior: &Option<Addr>, ready: Option<&LogRec>) 
     }
 }
 
-/// These children may be owed behind the record.
+/// These children may be owed after the record.
 fn may_owe(owed: &[Child], last: Option<&LogRec>) -> bool
     ensures { result ≡ holds (option_copied last.entry) (may_owe owed.now) }
 {
@@ -77,7 +77,7 @@ fn decided_commit(last: Option<&LogRec>) -> bool
     )
 }
 
-/// An End with that outcome may stand behind the record.
+/// An End with that outcome may stand after the record.
 fn may_end(outcome: Outcome, last: Option<&LogRec>) -> bool
     ensures { result ≡ holds (option_copied last.entry) (may_end outcome) }
 {

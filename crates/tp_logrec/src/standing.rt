@@ -156,7 +156,7 @@ fn change_lives(
     add_to_life(alloc, lives, owner, rec)
 }
 
-/// Whether the key is bound behind the record.
+/// Whether the key is bound after the record.
 fn rebind(bound: &mut Vec<Bound>, owner: &Owner, rec: &LogRec)
     requires { vec_len bound.old < vec_capacity bound.old }
     ensures { bound.new.items ≡ bound_by bound.old.items owner.now rec.now }
@@ -167,7 +167,7 @@ fn rebind(bound: &mut Vec<Bound>, owner: &Owner, rec: &LogRec)
     }
 }
 
-/// Puts the key behind the others.
+/// Puts the key after the others.
 fn bind(bound: &mut Vec<Bound>, owner: &Owner)
     requires { vec_len bound.old < vec_capacity bound.old }
     ensures { bound.new.items ≡ bound.old.items ++ owner.now ∷ [] }

@@ -29,7 +29,7 @@ pub record IsAmongArcs (arcs : List Arc) (c : Current) : Type 0 where
   pub distinct : are_distinct c.branches ≡ true
   -- the superior is no branch
   pub apart : (p : ℕ) → is_under_at c.key p ≡ true → has_branch_at c.branches p ≡ false
-  -- an end is put off on its live arcs alone, and in a rollback on none
+  -- an end is deferred on its live arcs alone, and in a rollback on none
   pub put_off : (p : ℕ) → is_peer c p ≡ true → is_end_deferred_at arcs p ≡ true → is_live_with_peer arcs p ≡ true
   pub forgotten : is_rolling c.phase ≡ true → (p : ℕ) → is_peer c p ≡ true → is_end_deferred_at arcs p ≡ false
 
@@ -50,7 +50,7 @@ pub record IsCut (p : ℕ) (arcs later : List Arc) : Type 0 where
   pub ends : is_end_deferred_at later p ≡ false
   pub others : (q : ℕ) → (q == p) ≡ false → IsAlike q arcs later
 
--- and here that one is live, and its end is put off by now
+-- and here that one is live, and its end is deferred by now
 pub record IsPutOff (p : ℕ) (arcs later : List Arc) : Type 0 where
   pub before : is_live_with_peer arcs p ≡ true
   pub live : is_live_with_peer later p ≡ true
@@ -61,7 +61,7 @@ abbrev pub is_named : List Child → ℕ → Bool
 is_named [] p = false
 is_named (x ∷ xs) p = (x.addr.node == p) || is_named xs p
 
--- new branches: on live arcs on which no end is put off, none of them the transaction's, each named once
+-- new branches: on live arcs on which no end is deferred, none of them the transaction's, each named once
 abbrev pub AreNew : List Child → List Arc → Current → Type 0
 AreNew [] arcs c = Unit {0}
 AreNew (x ∷ xs) arcs c =

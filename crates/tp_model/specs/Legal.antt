@@ -37,7 +37,7 @@ abbrev pub are_own_records : ℕ → ℕ → List LogRec → Bool
 are_own_records node boot [] = true
 are_own_records node boot (r ∷ rs) = is_own_record node boot r && are_own_records node boot rs
 
--- the records follow each other behind a boot, and are the node's own of earlier boots
+-- the records follow each other after a boot, and are the node's own of earlier boots
 abbrev pub is_start : Origin → Bool
 is_start o = all_follow (LogRec.Boot o.start.boot ∷ o.start.records) && are_own_records o.who.node o.start.boot o.start.records
 
@@ -76,7 +76,7 @@ DigestAgrees = (o : Origin) (up : Option Addr) (h : List Entry) → IsLegal o up
 abbrev pub RestartIsCrash : Type 0
 RestartIsCrash = (o : Origin) (up : Option Addr) (h : List Entry) → IsLegal o up h → digest (again o h) [] ≡ digest o (crashed h)
 
--- the records stay in order, behind the boot that is the last
+-- the records stay in order, after the boot that is the last
 abbrev pub are_in_order : Origin → List Entry → Bool
 are_in_order o h = all_follow (LogRec.Boot (digest o h).boot ∷ reverse (records o h))
 

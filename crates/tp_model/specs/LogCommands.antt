@@ -18,7 +18,7 @@ is_back bytes = slice_index bytes 4 == 2
 abbrev pub moved_by : List ℕ → ℕ
 moved_by bytes = elim (is_back bytes) [ true ↦ last_place bytes - 5 | false ↦ 0 ]
 
--- a text that stands at the back comes to the front, with its closing gate and nothing behind it
+-- a text that stands at the back comes to the front, with its closing gate and nothing after it
 abbrev pub started : List ℕ → List ℕ
 started bytes = elim (is_back bytes) [
   | false ↦ bytes

@@ -205,7 +205,7 @@ abbrev pub without_deferral : Dialogue → Dialogue
 without_deferral d = record d { deferral = Deferral.None }
 
 -- ready, committing or rolling is entered: control and handshakes are cleared on every branch, and
--- a rollback forgets what was put off
+-- a rollback forgets what was deferred
 unfoldable pub entered : Transaction → Passage → List Arc → List Arc
 entered t Stays arcs = arcs
 entered t Enters arcs = with_dialogues arcs (is_arc_of t) (λ a. cleared a.dialogue)
@@ -232,7 +232,7 @@ abbrev pub grants : Transaction → List Arc → List TxOut
 grants t [] = []
 grants t (a ∷ arcs) = if is_granting t a then TxOut.Carry a.peer.node DialogueRecord.Grant ∷ grants t arcs else grants t arcs
 
--- the arcs at a completed commitment: one that is granted holds no control behind it
+-- the arcs at a completed commitment: one that is granted holds no control after it
 abbrev pub committed_dialogue : Digest → Transaction → Arc → Dialogue
 committed_dialogue d t a =
     let over : Dialogue = completed Outcome.Commit (side_at d a.peer.node) a.dialogue in
@@ -241,7 +241,7 @@ committed_dialogue d t a =
 abbrev pub committed_arcs : Digest → Transaction → List Arc → List Arc
 committed_arcs d t arcs = with_dialogues arcs (is_arc_of t) (committed_dialogue d t)
 
--- the outputs before the one that tells of a completed commitment, and that one with those behind it
+-- the outputs before the one that tells of a completed commitment, and that one with those after it
 abbrev pub is_commit_complete : TxOut → Bool
 is_commit_complete (TxOut.Tell (Indication.CommitComplete r)) = true
 is_commit_complete _ = false

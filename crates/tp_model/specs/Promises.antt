@@ -228,7 +228,7 @@ MixedIsNamed w = (t : Aaid) (ns : List ℕ) → closing_line t (members_of t w.n
 
 -- ---- associations and control
 
--- what one end took with a pair of marks is a front part of what the other end sent with it
+-- what one end took with a pair of marks is a prefix of what the other end sent with it
 abbrev pub PrefixTaken : World → Type 0
 PrefixTaken w =
     (n m : Node) (x y : Mark) → IsIn w n → IsIn w m

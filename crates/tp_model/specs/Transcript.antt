@@ -22,7 +22,7 @@ use Rattle.tp_model.specs.Trees.{closing}
 
 pub record RawLine : Type 0 where
   pub bytes : List ℕ
-  -- a line's end stands behind it
+  -- a line's end stands after it
   pub ended : Bool
 
 abbrev pub before_first : ℕ → List RawLine → List RawLine

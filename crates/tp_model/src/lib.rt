@@ -17,8 +17,6 @@ mod node_numbers;
 mod out_line;
 mod out_lines;
 mod recovery;
-#[cfg(test)]
-mod tests;
 mod transaction;
 mod tx_outs;
 mod verdict;

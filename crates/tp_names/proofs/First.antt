@@ -12,7 +12,7 @@ pub record ScansBy {A : Type 0} (s : Scan A) (each : ℕ → Scan A) : Type 0 wh
   pub none : s [] ≡ Err 0
   pub some : (b : ℕ) (bytes : List ℕ) → s (b ∷ bytes) ≡ each b bytes
 
--- nothing is read behind this byte
+-- nothing is read after this byte
 pub record Refuses {A : Type 0} (r : Reader A) (s : Scan A) : Type 0 where
   pub reads : (bytes : List ℕ) → r bytes ≡ None
   pub scanned : (bytes : List ℕ) → s bytes ≡ Err (suc (length bytes))

@@ -1,9 +1,9 @@
--- What stands in front goes on standing there.
+-- What stands first goes on standing there.
 use Rattle.std.proofs.Common.{◌≡◌, ℕ, List, [], ◌∷◌, ◌++◌, length, refl, ap, ◌∙◌, append_assoc}
 use Rattle.std.proofs.lemmas.List.{take_at}
 use Rattle.tp_names.specs.Writing.{Keeps}
 
--- bytes that are kept stand in front of some more
+-- bytes that are kept stand before some more
 pub kept_front : (old new : List ℕ) → Keeps old new → (more : List ℕ) × (new ≡ old ++ more)
 kept_front [] new kept = (new, refl)
 kept_front (x ∷ old) [] kept = absurd cc
@@ -17,6 +17,6 @@ kept_front (x ∷ old) (y ∷ new) kept =
 pub keeps_front : (old more : List ℕ) → Keeps old (old ++ more)
 keeps_front old more = take_at old more (length old) refl
 
--- bytes behind a code
+-- bytes after a code
 pub behind_code : (code : ℕ) (old coded new text : List ℕ) → coded ≡ old ++ code ∷ [] → new ≡ coded ++ text → new ≡ old ++ (code ∷ text)
 behind_code code old coded new text first second = second ∙ ap (λ (w : List ℕ). w ++ text) first ∙ append_assoc old (code ∷ []) text

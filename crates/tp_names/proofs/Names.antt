@@ -1,4 +1,4 @@
--- A name's bytes with zeros behind them are what a name is kept as.
+-- A name's bytes with zeros after them are what a name is kept as.
 use Rattle.std.proofs.Common.{◌≡◌, ◌≤◌, ◌-◌, ◌==◌, ℕ, Bool, true, false, ◌&&◌, List, ◌++◌, length, take, drop, replicate, refl, ◌∙◌, arith, IsTrue, length-append, length-drop}
 use Rattle.std.proofs.lemmas.List.{drop-replicate, take_at, drop_at}
 use Rattle.std.proofs.lemmas.Bool.Decides.{nat_tests}

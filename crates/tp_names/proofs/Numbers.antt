@@ -20,7 +20,7 @@ number_front (suc k) n (b ∷ bytes) v rest h =
     let x : Front (number_from k (n * 256 + b)) bytes v rest = number_front k (n * 256 + b) bytes v rest h in
     record { text = b ∷ x.text; parts = ap (λ (w : List ℕ). b ∷ w) x.parts; again = x.again }
 
--- where it ends too early, zeros behind it make it whole
+-- where it ends too early, zeros after it make it whole
 pub record Completed (k n : ℕ) (bytes : List ℕ) : Type 0 where
   pub more : List ℕ
   pub more_bytes : AreBytes more

@@ -51,7 +51,7 @@ ok_pair {A} a b x y e =
     let pairs : pair_of a x ≡ pair_of b y = cc in
     (ap (λ (p : A × List ℕ). p.0) pairs, ap (λ (p : A × List ℕ). p.1) pairs)
 
--- what stands behind what was read is bytes
+-- what stands after what was read is bytes
 pub behind_bytes : {A : Type 0} (r : Reader A) (bytes : List ℕ) (v : A) (rest : List ℕ) → Front r bytes v rest → AreBytes bytes → AreBytes rest
 behind_bytes r bytes v rest x fits = let P : List ℕ → Type 0 = λ w. AreBytes w in AreBytes-back x.text rest (subst P x.parts fits)
 
@@ -113,7 +113,7 @@ steady_and {A} {B} f r sf sr = record { fronts = fronts }
           again = λ more. ap (f and r) (append_assoc x.text y.text more) ∙ both_read f r (x.text ++ (y.text ++ more)) (y.text ++ more) more b.made b.part (x.again (y.text ++ more)) (y.again more) ∙ ap (λ (w : B). Some (w, more)) (sym b.value);
         }
 
--- with nothing behind it, and so with anything
+-- with nothing after it, and so with anything
 pub reads_on : {A : Type 0} (r : Reader A) (bytes : List ℕ) (v : A) → IsSteady r → r bytes ≡ Some (v, []) → (more : List ℕ) → r (bytes ++ more) ≡ Some (v, more)
 reads_on r bytes v steady h more =
     let x : Front r bytes v [] = steady.fronts bytes v [] h in

@@ -1,4 +1,4 @@
--- Site names, behind their length: the scan, and its places.
+-- Site names, after their length: the scan, and its places.
 use Rattle.std.proofs.Common.{◌≡◌, ℕ, zero, suc, ◌≤◌, ◌<◌, ◌-◌, ◌&&◌, Option, Some, None, Ok, Err, List, [], ◌∷◌, ◌++◌, length, take, drop, replicate, Bool, true, false, cond, ◌⊎◌, inl, inr, refl, sym, ap, subst, ◌∙◌, zero-add, append_assoc, length-append, arith}
 use Rattle.std.specs.Prelude.{nat_le}
 use Rattle.std.proofs.lemmas.Bool.{cases_lt}
@@ -51,7 +51,7 @@ site_written = record { spelled = λ bytes v rest fits h. (site_parts bytes v re
 
 -- ---- letters
 
--- bytes as letters in front, and what stands behind them
+-- bytes as letters in front, and what stands after them
 pub record Letters (k : ℕ) (bytes : List ℕ) : Type 0 where
   pub run : List ℕ
   pub rest : List ℕ
@@ -97,7 +97,7 @@ all_append (x ∷ xs) ys hx hy = go (is_site_byte x) hx (λ h. all_append xs ys 
     go true h later = later h
     go false h later = absurd cc
 
--- a byte behind others
+-- a byte after others
 all_at : (xs : List ℕ) (c : ℕ) (ys : List ℕ) → all_bytes is_site_byte (xs ++ (c ∷ ys)) ≡ true → is_site_byte c ≡ true
 all_at [] c ys h = go (is_site_byte c) h
   where

@@ -6,7 +6,7 @@ use Rattle.tp_names.specs.Reading.{Reader, make, ◌and◌, read_kind, read_by_c
 use Rattle.tp_names.specs.Places.{AreBytes, IsWrittenBy}
 use Rattle.tp_names.proofs.Sequences.{some_pair, Both, both_parts, AreBytes-back}
 
--- what is read of a value is written so, behind a front
+-- what is read of a value is written so, after a front
 pub record IsRowOf {A : Type 0} (write : A → List ℕ) (front : List ℕ) (r : Reader A) : Type 0 where
   pub spelled : (bytes : List ℕ) (v : A) (rest : List ℕ) → AreBytes bytes → r bytes ≡ Some (v, rest) → front ++ bytes ≡ write v ++ rest
 
@@ -17,7 +17,7 @@ row_0 write front c same = record {
       ap (λ (w : List ℕ). front ++ w) e.1 ∙ ap (λ (w : List ℕ). w ++ rest) (sym same ∙ ap write e.0);
 }
 
--- a part is read, and the rest with the front behind it
+-- a part is read, and the rest with the front after it
 part : {A : Type 0} (write : A → List ℕ) (r : Reader A) → IsWrittenBy write r → (bytes : List ℕ) (a : A) (rest : List ℕ) → AreBytes bytes → r bytes ≡ Some (a, rest) → (bytes ≡ write a ++ rest) × AreBytes rest
 part write r x bytes a rest fits h =
     let e : bytes ≡ write a ++ rest = x.spelled bytes a rest fits h in
@@ -112,7 +112,7 @@ written_alone write r x = record { spelled = λ bytes v rest fits h. x.spelled b
 
 -- ---- codes
 
--- each row of a table is written behind its code
+-- each row of a table is written after its code
 abbrev pub RowsWritten : {A : Type 0} → (A → List ℕ) → List (ℕ × Reader A) → Type 0
 RowsWritten write [] = Unit {0}
 RowsWritten write (k ∷ ks) = IsRowOf write (k.0 ∷ []) k.1 × RowsWritten write ks

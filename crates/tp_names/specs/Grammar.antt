@@ -21,7 +21,7 @@ IsText g v text = HasText g v × (g.bytes v ≡ text)
 abbrev pub Begins : {A : Type 0} → Grammar A → A → ℕ → List ℕ → Type 0
 Begins g v n bytes = (n ≤ length bytes) × IsText g v (take n bytes)
 
--- with other bytes behind them they are a text
+-- with other bytes after them they are a text
 abbrev pub IsOpen : {A : Type 0} → Grammar A → List ℕ → Type 0
 IsOpen {A} g bytes = (v : A) × (rest : List ℕ) × AreBytes rest × IsText g v (bytes ++ rest)
 

@@ -9,7 +9,7 @@ use Rattle.tp_names.specs.declared.site_name.SiteName.TheInside.{Inside}
 abbrev pub padded : List ℕ → List ℕ
 padded v = v ++ replicate (16 - length v) 0
 
--- behind the name stand zeros
+-- after the name stand zeros
 abbrev pub IsPadded : Inside → Type 0
 IsPadded s = (s.len ≤ 16) × (length s.bytes ≡ 16) × (drop s.len s.bytes ≡ replicate (16 - s.len) 0)
 

@@ -1,5 +1,5 @@
 -- What it means that a scan is right: it gives what its reader gives, and where the reader gives nothing, it tells the place.
--- A place is told by the bytes left behind it; the bytes before it are the most that stand at the front of something read.
+-- A place is told by the bytes left after it; the bytes before it are the most that stand at the front of something read.
 use Rattle.std.specs.Prelude.{ℕ, ◌≡◌, ◌≤◌, ◌<◌, Some, None, Ok, Err, List, [], ◌∷◌, ◌++◌, length}
 use Rattle.tp_names.specs.Reading.{Reader}
 use Rattle.tp_names.specs.Scanning.{Scan}
@@ -15,7 +15,7 @@ pub record Front {A : Type 0} (r : Reader A) (bytes : List ℕ) (v : A) (rest : 
   pub parts : bytes ≡ text ++ rest
   pub again : (more : List ℕ) → r (text ++ more) ≡ Some (v, more)
 
--- what is read hangs on the bytes that are taken, and on none behind them
+-- what is read hangs on the bytes that are taken, and on none after them
 pub record IsSteady {A : Type 0} (r : Reader A) : Type 0 where
   pub fronts : (bytes : List ℕ) (v : A) (rest : List ℕ) → r bytes ≡ Some (v, rest) → Front r bytes v rest
 
@@ -26,7 +26,7 @@ pub record Sample {A : Type 0} (r : Reader A) : Type 0 where
   pub bytes : AreBytes text
   pub reads : r text ≡ Some (value, [])
 
--- nothing is read. With other bytes behind the front something is, and with so many fewer left nothing ever is
+-- nothing is read. With other bytes after the front something is, and with so many fewer left nothing ever is
 pub record IsStuck {A : Type 0} (r : Reader A) (bytes : List ℕ) (left : ℕ) : Type 0 where
   pub none : r bytes ≡ None
   pub front : List ℕ

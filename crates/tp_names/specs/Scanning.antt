@@ -16,7 +16,7 @@ use Rattle.tp_names.specs.Reading.{read_byte, read_short, read_long, mark_of, aa
 
 -- ---- scans
 
--- a value and what stands behind it, or how many bytes are left
+-- a value and what stands after it, or how many bytes are left
 abbrev pub Scan : Type 0 → Type 0
 Scan A = List ℕ → Result (A × List ℕ) ℕ
 
@@ -57,7 +57,7 @@ abbrev pub scan_byte_that : (ℕ → Bool) → Scan ℕ
 scan_byte_that test [] = Err 0
 scan_byte_that test (b ∷ bytes) = if test b then Ok (b, bytes) else Err (suc (length bytes))
 
--- a code, and how what stands behind it is read; a code that is not in the table is left
+-- a code, and how what stands after it is read; a code that is not in the table is left
 abbrev pub scan_kind : {A : Type 0} → List (ℕ × Scan A) → ℕ → Scan A
 scan_kind [] code bytes = Err (suc (length bytes))
 scan_kind (k ∷ ks) code bytes = elim (k.0 == code) [ true ↦ k.1 bytes | false ↦ scan_kind ks code bytes ]
@@ -68,7 +68,7 @@ scan_by_code ks (code ∷ bytes) = scan_kind ks code bytes
 
 -- ---- names
 
--- what is left behind the longest run of so many letters and digits
+-- what is left after the longest run of so many letters and digits
 abbrev pub left_after_letters : ℕ → List ℕ → ℕ
 left_after_letters zero bytes = length bytes
 left_after_letters (suc k) [] = 0
@@ -153,7 +153,7 @@ scan_many s (suc k) = scan_make (λ a rest. a ∷ rest) with s with scan_many s 
 
 -- ---- what a call of a cursor returns
 
--- the value, with the cursor behind it, or the count of bytes left
+-- the value, with the cursor after it, or the count of bytes left
 abbrev pub Gives : {A : Type 0} → Result A BadBytes → List ℕ → Result (A × List ℕ) ℕ → Type 0
 Gives (Ok v) rest scanned = scanned ≡ Ok (v, rest)
 Gives (Err bad) rest scanned = scanned ≡ Err bad.left

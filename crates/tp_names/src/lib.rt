@@ -33,6 +33,3 @@ pub use writing::{
     write_mark, write_maybe_addr, write_maybe_branch, write_maybe_mark, write_octets,
     write_outcome, write_report, write_short, write_site,
 };
-
-#[cfg(test)]
-mod tests;

@@ -1,4 +1,4 @@
-//! Want of memory, the one answer of a call that grows something.
+//! Out of memory, the one answer of a call that grows something.
 ghost use Rattle.std.specs.Prelude.{◌≡◌};
 ghost use Rattle.tp_names.specs.declared.no_memory.NoMemory.{NoMemory};
 

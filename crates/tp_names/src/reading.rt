@@ -95,7 +95,7 @@ impl<'a> Cursor<'a> {
         Ok(Mark { boot, node, count })
     }
 
-    /// A site's name, behind its length.
+    /// A site's name, after its length.
     #[tactic(auto, unfolding(crate::specs::Scanning::scan_site))]
     pub fn site(&mut self) -> Result<SiteName, BadBytes>
         ensures { Gives result self.new (scan_site self.old) }
@@ -112,7 +112,7 @@ impl<'a> Cursor<'a> {
         }
     }
 
-    /// A site's name of a length from `low` to `high`, behind its length.
+    /// A site's name of a length from `low` to `high`, after its length.
     #[tactic(auto, unfolding(crate::specs::Scanning::scan_site_within))]
     pub fn site_within(&mut self, low: usize, high: usize) -> Result<SiteName, BadBytes>
         ensures { Gives result self.new (scan_site_within low high self.old) }
@@ -324,7 +324,7 @@ impl<'a> Cursor<'a> {
         Ok(octets)
     }
 
-    /// At most so many bytes, behind their count.
+    /// At most so many bytes, after their count.
     #[tactic(auto, unfolding(crate::specs::Scanning::scan_octets))]
     pub fn octets(&mut self, alloc: Global, most: u16) -> Result<Octets, ReadFault>
         ensures { GivesUnlessFull result self.new (scan_octets most self.old) }

@@ -1,6 +1,6 @@
 //! Writing names and small values at the end of octets.
 //!
-//! Where memory runs out, what was there still stands in front: see `Octets::truncate`.
+//! Where memory runs out, what was there still stands first: see `Octets::truncate`.
 ghost use Rattle.std.specs.Prelude.{◌≡◌, ◌++◌, ◌∷◌, [], ◌<◌, ◌^◌, length, OnErr, OnOk};
 ghost use Rattle.tp_names.specs.Bytes.{byte_bytes, short_bytes, long_bytes, site_bytes, mark_bytes, aaid_bytes, branch_bytes, maybe_bytes, key_bytes, addr_bytes, outcome_bytes, report_bytes, octets_bytes, child_bytes, each_child_bytes};
 ghost use Rattle.tp_names.specs.Writing.{Keeps};
@@ -15,8 +15,7 @@ pub fn write_byte(alloc: Global, n: u8, out: &mut Octets) -> Result<(), NoMemory
     ensures ok { OnOk result (out.new ≡ out.old ++ byte_bytes n) }
     ensures err { OnErr result (Keeps out.old out.new) }
 {
-    out.push(alloc, n)?;
-    Ok(())
+    out.push(alloc, n)
 }
 
 /// A number of two bytes.
@@ -24,8 +23,7 @@ pub fn write_short(alloc: Global, n: u16, out: &mut Octets) -> Result<(), NoMemo
     ensures ok { OnOk result (out.new ≡ out.old ++ short_bytes n) }
     ensures err { OnErr result (Keeps out.old out.new) }
 {
-    out.extend_from_slice(alloc, &n.to_be_bytes())?;
-    Ok(())
+    out.extend_from_slice(alloc, &n.to_be_bytes())
 }
 
 /// A number of eight bytes.
@@ -33,19 +31,17 @@ pub fn write_long(alloc: Global, n: u64, out: &mut Octets) -> Result<(), NoMemor
     ensures ok { OnOk result (out.new ≡ out.old ++ long_bytes n) }
     ensures err { OnErr result (Keeps out.old out.new) }
 {
-    out.extend_from_slice(alloc, &n.to_be_bytes())?;
-    Ok(())
+    out.extend_from_slice(alloc, &n.to_be_bytes())
 }
 
-/// A site's name, behind its length.
+/// A site's name, after its length.
 pub fn write_site(alloc: Global, site: &SiteName, out: &mut Octets) -> Result<(), NoMemory>
     ensures ok { OnOk result (out.new ≡ out.old ++ site_bytes site.now) }
     ensures err { OnErr result (Keeps out.old out.new) }
 {
     let bytes = site.bytes();
     out.push(alloc, bytes.len() as u8)?;
-    out.extend_from_slice(alloc, bytes)?;
-    Ok(())
+    out.extend_from_slice(alloc, bytes)
 }
 
 /// A mark.
@@ -65,8 +61,7 @@ pub fn write_aaid(alloc: Global, aaid: &Aaid, out: &mut Octets) -> Result<(), No
     ensures err { OnErr result (Keeps out.old out.new) }
 {
     write_site(alloc, &aaid.owner, out)?;
-    write_mark(alloc, &aaid.mark, out)?;
-    Ok(())
+    write_mark(alloc, &aaid.mark, out)
 }
 
 /// The identifier of a branch.
@@ -75,8 +70,7 @@ pub fn write_branch(alloc: Global, branch: &BranchId, out: &mut Octets) -> Resul
     ensures err { OnErr result (Keeps out.old out.new) }
 {
     write_site(alloc, &branch.superior, out)?;
-    write_mark(alloc, &branch.mark, out)?;
-    Ok(())
+    write_mark(alloc, &branch.mark, out)
 }
 
 /// The address of a node.
@@ -85,8 +79,7 @@ pub fn write_addr(alloc: Global, addr: &Addr, out: &mut Octets) -> Result<(), No
     ensures err { OnErr result (Keeps out.old out.new) }
 {
     write_site(alloc, &addr.site, out)?;
-    write_short(alloc, addr.node, out)?;
-    Ok(())
+    write_short(alloc, addr.node, out)
 }
 
 /// A mark, or none.
@@ -118,13 +111,12 @@ pub fn write_maybe_branch(
     ensures err { OnErr result (Keeps out.old out.new) }
 {
     match branch {
-        None => out.push(alloc, 0)?,
+        None => out.push(alloc, 0),
         Some(branch) => {
             out.push(alloc, 1)?;
-            write_branch(alloc, branch, out)?;
+            write_branch(alloc, branch, out)
         }
     }
-    Ok(())
 }
 
 /// The address of a node, or none.
@@ -137,13 +129,12 @@ pub fn write_maybe_addr(
     ensures err { OnErr result (Keeps out.old out.new) }
 {
     match addr {
-        None => out.push(alloc, 0)?,
+        None => out.push(alloc, 0),
         Some(addr) => {
             out.push(alloc, 1)?;
-            write_addr(alloc, addr, out)?;
+            write_addr(alloc, addr, out)
         }
     }
-    Ok(())
 }
 
 /// A node's place in a tree.
@@ -152,8 +143,7 @@ pub fn write_key(alloc: Global, key: &NodeKey, out: &mut Octets) -> Result<(), N
     ensures err { OnErr result (Keeps out.old out.new) }
 {
     write_aaid(alloc, &key.aaid, out)?;
-    write_maybe_branch(alloc, &key.branch, out)?;
-    Ok(())
+    write_maybe_branch(alloc, &key.branch, out)
 }
 
 /// How a transaction ends.
@@ -165,8 +155,7 @@ pub fn write_outcome(alloc: Global, outcome: Outcome, out: &mut Octets) -> Resul
         Outcome::Commit => 1,
         Outcome::Rollback => 2,
     };
-    out.push(alloc, code)?;
-    Ok(())
+    out.push(alloc, code)
 }
 
 /// What is reported of a branch.
@@ -179,19 +168,17 @@ pub fn write_report(alloc: Global, report: Report, out: &mut Octets) -> Result<(
         Report::Hazard => 1,
         Report::Mix => 2,
     };
-    out.push(alloc, code)?;
-    Ok(())
+    out.push(alloc, code)
 }
 
-/// Bytes, behind their count.
+/// Bytes, after their count.
 pub fn write_octets(alloc: Global, octets: &Octets, out: &mut Octets) -> Result<(), NoMemory>
     requires { length octets.now < 2 ^ 16 }
     ensures ok { OnOk result (out.new ≡ out.old ++ octets_bytes octets.now) }
     ensures err { OnErr result (Keeps out.old out.new) }
 {
     write_short(alloc, octets.len() as u16, out)?;
-    out.extend_from_slice(alloc, octets.as_slice())?;
-    Ok(())
+    out.extend_from_slice(alloc, octets.as_slice())
 }
 
 /// A branch of a transaction.
@@ -200,6 +187,5 @@ pub fn write_child(alloc: Global, child: &Child, out: &mut Octets) -> Result<(),
     ensures err { OnErr result (Keeps out.old out.new) }
 {
     write_addr(alloc, &child.addr, out)?;
-    write_branch(alloc, &child.branch, out)?;
-    Ok(())
+    write_branch(alloc, &child.branch, out)
 }

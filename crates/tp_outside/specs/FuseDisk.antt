@@ -31,7 +31,7 @@ fault_count_of f = min (f.disk.faults + f.refused) (2 ^ 64 - 1)
 abbrev pub refuse : Fused → Fused
 refuse f = record f { refused = one_more f.refused }
 
--- one more changing call, behind which the disk below is this; it may be the one to stop in
+-- one more changing call, after which the disk below is this; it may be the one to stop in
 abbrev pub step : Fused → Recorded → Fused
 step f disk = record f { disk = disk; calls = one_more f.calls; stopped = one_more f.calls == f.last }
 
@@ -64,7 +64,7 @@ pub record StarvesBelow (effect : Recorded → Attempt → Recorded → Type 0) 
   pub same : new ≡ record old { disk = new.disk }
   pub starved : effect old.disk Starved new.disk
 
--- a call behind the stop
+-- a call after the stop
 pub record IsRefused (old new : Fused) : Type 0 where
   pub before : old.stopped ≡ true
   pub same : new ≡ refuse old

@@ -82,7 +82,7 @@ pub(crate) fn write(
     Ok(())
 }
 
-/// Sets the length, with zeros behind the old end.
+/// Sets the length, with zeros after the old end.
 pub(crate) fn set_len(
     bytes: &mut Vec<u8>,
     changes: &mut Vec<Change>,

@@ -15,8 +15,6 @@ mod mem_source;
 mod sink;
 mod source;
 mod standard;
-#[cfg(test)]
-mod tests;
 
 pub use disk::Disk;
 pub use failed::Failed;

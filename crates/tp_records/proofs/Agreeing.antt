@@ -55,7 +55,7 @@ sized_back m n f r g t steady x y bytes v rest fits b first second =
     let q = y.back b.middle b.part rest behind b.second second in
     (p.0 q.0, both_read g t bytes b.middle rest p.0 q.0 p.1 q.1)
 
--- one behind the other, where the first has one length alone
+-- one after the other, where the first has one length alone
 pub fixed_then : {A B C D : Type 0} (m n : ℕ) (f : Reader (A → B)) (r : Reader A) (g : Reader (C → D)) (t : Reader C) → IsSteady f → IsFixed m f → Sized m f g → Sized n r t → Sized (m + n) (f and r) (g and t)
 fixed_then m n f r g t steady z x y = record {
   there = sized_there m n f r g t x y;
@@ -75,7 +75,7 @@ then_fixed m n f r g t steady z x y = record {
       sized_back m n f r g t steady x y bytes v rest fits b (omega (arith, second, len)) second;
 }
 
--- ---- tables, row by row, against what is read behind each code
+-- ---- tables, row by row, against what is read after each code
 
 abbrev pub RowsSized : {A B : Type 0} → ℕ → List (ℕ × Reader A) → (ℕ → Reader B) → Type 0
 RowsSized n [] t = Unit {0}
@@ -140,7 +140,7 @@ pub ranged_row : {A B : Type 0} (n : ℕ) (t : Bool) (r : Reader A) (s : Reader 
     → ((bytes : List ℕ) (v : A) (rest : List ℕ) → AreBytes bytes → r bytes ≡ Some (v, rest) → length bytes ≡ n + length rest → t ≡ true) → Sized n r (when t s nothing)
 ranged_row n t r s x holds = when_sized n t r s nothing x (λ e. never_sized n r (λ bytes v rest fits h len. let f : t ≡ true = holds bytes v rest fits h len in cc))
 
--- a row of one length, behind its code
+-- a row of one length, after its code
 pub fixed_row : {A B : Type 0} (n k m : ℕ) (r : Reader A) (s : Reader B) → 1 ≤ n → k ≡ suc m → IsFixed m r → Sized m r s → Sized (n - 1) r (when (n == k) s nothing)
 fixed_row n k m r s low is x y =
     ranged_row (n - 1) (n == k) r s

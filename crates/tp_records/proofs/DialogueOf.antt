@@ -35,7 +35,7 @@ report_read = make (λ r. tt) and read_report
 abbrev report_scanned : Scan (Unit {0})
 report_scanned = scan_make (λ r. tt) with scan_report
 
--- the rows of a record behind its code, from the last to the first
+-- the rows of a record after its code, from the last to the first
 abbrev row_4 : ℕ → ℕ → Reader (Unit {0})
 row_4 d code = when ((code == 12) && (nat_le 42 d && nat_le d 72)) (read_begin d) nothing
 

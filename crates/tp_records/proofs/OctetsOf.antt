@@ -1,4 +1,4 @@
--- Octets behind a count that is given.
+-- Octets after a count that is given.
 use Rattle.std.proofs.Common.{◌≡◌, ℕ, ◌≤◌, ◌<◌, ◌+◌, ◌*◌, ◌/◌, ◌%◌, Bool, true, false, cond, Option, Some, Result, Ok, Err, List, ◌∷◌, ◌++◌, length, take, drop, refl, sym, ap, subst, ◌∙◌, length-append, arith}
 use Rattle.std.specs.Prelude.{nat_le}
 use Rattle.std.proofs.lemmas.Bool.Decides.{nat_tests}
@@ -14,7 +14,7 @@ use Rattle.tp_records.proofs.Choosing.{scan_as}
 use Rattle.tp_records.proofs.Parts.{read_this, this_scan, this_is, this_taken}
 use Rattle.tp_records.proofs.Agreeing.{Sized}
 
--- octets behind two bytes of count are read
+-- octets after two bytes of count are read
 pub octets_from : (most high low : ℕ) (body xs rest : List ℕ) → high * 256 + low ≤ most → read_bytes (high * 256 + low) body ≡ Some (xs, rest) → read_octets most (high ∷ low ∷ body) ≡ Some (xs, rest)
 octets_from most high low body xs rest small h =
     let n : ℕ = (0 * 256 + high) * 256 + low in

@@ -1,4 +1,4 @@
--- A peer record of a given length, and the walk through one behind its count.
+-- A peer record of a given length, and the walk through one after its count.
 use Rattle.std.proofs.Common.{eq-eqb, ◌≡◌, ℕ, ◌≤◌, ◌+◌, ◌*◌, ◌-◌, ◌==◌, ◌&&◌, ◌||◌, Bool, true, false, cond, ◌⊎◌, inl, inr, Option, Some, None, List, [], ◌∷◌, length, refl, sym, ap, subst, ◌∙◌, arith}
 use Rattle.std.specs.Prelude.{nat_le}
 use Rattle.std.proofs.lemmas.Bool.Decides.{nat_tests}

@@ -1,4 +1,4 @@
--- The walk through a record behind its count is the scan of a reader, and that reads the octets of what is sent.
+-- The walk through a record after its count is the scan of a reader, and that reads the octets of what is sent.
 use Rattle.std.proofs.Common.{◌≡◌, ℕ, ◌≤◌, ◌+◌, ◌*◌, Bool, true, false, Option, Some, None, List, [], ◌∷◌, ◌++◌, length, refl, sym, ap, subst, ◌∙◌, length-append, arith}
 use Rattle.std.proofs.lemmas.List.{append-nil}
 use Rattle.std.proofs.lemmas.Bool.Decides.{nat_tests}

@@ -1,4 +1,4 @@
-//! The texts of bodies and of peer records: what is appended, and what is found in front of bytes.
+//! The texts of bodies and of peer records: what is appended, and what is found before bytes.
 ghost use Rattle.std.specs.Prelude.{◌≡◌, ◌≤◌, ◌++◌, ℕ, length, IfOk, IfErr, OnOk, OnErr};
 ghost use Rattle.tp_names.specs.Grammar.{HasText, Begins, IsFaultOf, IsGrammar};
 ghost use Rattle.tp_records.specs.Bodies.{peer_bytes, body_bytes};
@@ -38,7 +38,7 @@ pub fn encode_peer(alloc: Global, v: &PeerRecord, out: &mut Octets) -> Result<()
     written
 }
 
-/// The body whose text stands in front of the bytes, and that text's length.
+/// The body whose text stands before the bytes, and that text's length.
 ///
 /// A fault is told at the length of the longest front of the bytes that some text begins with.
 pub fn decode_body(alloc: Global, bytes: &[u8]) -> Result<(Body, usize), RecordFault>
@@ -58,7 +58,7 @@ pub fn decode_body(alloc: Global, bytes: &[u8]) -> Result<(Body, usize), RecordF
     }
 }
 
-/// The peer record whose text stands in front of the bytes, and that text's length.
+/// The peer record whose text stands before the bytes, and that text's length.
 ///
 /// A fault is told at the length of the longest front of the bytes that some text begins with.
 pub fn decode_peer(alloc: Global, bytes: &[u8]) -> Result<(PeerRecord, usize), RecordFault>

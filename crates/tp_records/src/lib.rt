@@ -24,6 +24,3 @@ pub use peer::{PeerRecord, RecState};
 pub use request::Request;
 pub use tp_names::RecordFault;
 pub use votes::{Unwilling, Willing};
-
-#[cfg(test)]
-mod tests;

@@ -96,7 +96,7 @@ fn is_owed(children: &[Child], branch: &BranchId) -> bool
     false
 }
 
-// The record behind which a branch that was owed is done: the end where nothing is owed any more and
+// The record after which a branch that was owed is done: the end where nothing is owed any more and
 // the superior has forgotten, else a damage that owes it no more.
 fn rec_of_done(
     alloc: Global,

@@ -6,8 +6,6 @@
 
 mod kept;
 mod question;
-#[cfg(test)]
-mod tests;
 
 pub use kept::{forget_to, owed, settle};
 pub use question::answer;

@@ -1,4 +1,4 @@
--- Bytes at hand in a buffer: passed over, moved to its front, and with others behind them.
+-- Bytes at hand in a buffer: passed over, moved to its front, and with others after them.
 use Rattle.std.proofs.Common.{◌≡◌, ℕ, zero, suc, ◌+◌, ◌-◌, ◌<◌, ◌≤◌, Option, Some, None, List, [], ◌∷◌, ◌++◌, length, get_or, take, drop, ap, sym, ◌∙◌, arith, length-append, length-drop, length-take-le, append_assoc}
 use Rattle.std.proofs.Math.Seq.{take-append_seam, take-append-add, drop-nil}
 use Rattle.std.proofs.lemmas.List.{take_all, take-append-le, drop-take, take-append-drop, ext_get_or, get_or-drop, get_or-take}
@@ -39,7 +39,7 @@ moved xs ys from n within same each =
 pub as_one : (held rest all : List ℕ) → Some (held ++ rest) ≡ Some all → held ++ rest ≡ all
 as_one held rest all is = cc
 
--- bytes behind those at hand, and as many fewer left
+-- bytes after those at hand, and as many fewer left
 pub gained : (held new : List ℕ) (left rest : Option (List ℕ)) (buf : List ℕ) (n room : ℕ)
     → new ≡ held ++ take n buf → n ≤ length buf → 0 < room → ReadsSome left rest room buf n → Gains held new left rest n
 gained held new None rest buf n room is fits some reads =
@@ -64,7 +64,7 @@ gained held new (Some left) rest buf n room is fits some reads =
 pub none_gained : (held new : List ℕ) (n : ℕ) → take (length held) new ≡ held → length new ≡ length held + n → n ≡ 0 → new ≡ held
 none_gained held new n before count none = sym (take_all (length held) new (omega arith)) ∙ before
 
--- what stands in a buffer behind those at its front
+-- what stands in a buffer after those at its front
 pub behind_those : (held old now more post : List ℕ) (from w n k : ℕ) → take w now ≡ take w (drop from old) → take w (drop from old) ≡ held → w ≤ length now → n ≤ length more → k ≡ w + n
     → take k (drop 0 (take w now ++ (more ++ post))) ≡ held ++ take n more
 behind_those held old now more post from w n k moved is within fits size =

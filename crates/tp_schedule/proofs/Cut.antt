@@ -1,4 +1,4 @@
--- A line cut at its spaces: the words of what is left are those behind the word that was cut off.
+-- A line cut at its spaces: the words of what is left are those after the word that was cut off.
 use Rattle.std.proofs.Common.{◌≡◌, ◌≢◌, ℕ, zero, suc, ◌+◌, ◌-◌, ◌<◌, ◌≤◌, List, [], ◌∷◌, length, get_or, take, drop, refl, ap, sym, ◌∙◌, arith, length-drop}
 use Rattle.std.proofs.lemmas.List.{take_all, drop_all, get_or-drop}
 use Rattle.std.proofs.lemmas.Bool.Decides.{nat_tests}

@@ -1,4 +1,4 @@
--- Words behind words: what is written in two parts, with a space between them, is one text.
+-- Words after words: what is written in two parts, with a space between them, is one text.
 use Rattle.std.proofs.Common.{◌≡◌, ℕ, Bool, true, false, List, [], ◌∷◌, ◌++◌, refl, ap, sym, subst, ◌∙◌, append_assoc}
 use Rattle.tp_names.specs.Writing.{Keeps}
 use Rattle.tp_names.proofs.Keeping.{keeps_front}

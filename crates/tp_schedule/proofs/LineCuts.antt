@@ -24,7 +24,7 @@ line_at (b ∷ w) left (suc at) within none is =
     let rest : no_feed (take at w) ≡ true = grind (arith, nat_tests) in
     one_more b (w ++ left) other ∙ ap (before_first b) (line_at w left at (omega arith) rest is)
 
--- bytes without a line feed stand in front of the first line
+-- bytes without a line feed stand before the first line
 pub in_front : (w left : List ℕ) (l : RawLine) (ls : List RawLine) → no_feed w ≡ true → raw_lines left ≡ l ∷ ls
     → raw_lines (w ++ left) ≡ record { bytes = w ++ l.bytes; ended = l.ended } ∷ ls
 in_front [] left l ls none is = is
@@ -102,7 +102,7 @@ pub no_line : (bs : List ℕ) → length bs ≤ 0 → bs ≡ without_return bs
 no_line [] none = refl
 no_line (b ∷ bs) none = absurd (omega arith)
 
--- what is found behind the bytes that were looked at
+-- what is found after the bytes that were looked at
 pub found_behind : (w : List ℕ) (s : ℕ) (t : List ℕ) (at : ℕ) → t ≡ drop s w → s ≤ length w → no_feed (take s w) ≡ true
     → at < length t → no_feed (take at t) ≡ true → get_or t at 0 ≡ 10
     → (s + at < length w) × (no_feed (take (s + at) w) ≡ true) × (get_or w (s + at) 0 ≡ 10)

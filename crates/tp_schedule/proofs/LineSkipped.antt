@@ -26,7 +26,7 @@ skipped_read all rest n left now at same is =
 
 -- ---- with the bytes of one more read
 
--- what stands behind those that were passed over
+-- what stands after those that were passed over
 behind : (all w : List ℕ) (n k : ℕ) (held : List ℕ) (left now : Option (List ℕ)) → IsBehind all n left → held ≡ [] → Gains held w left now k
     → (rest : List ℕ) → now ≡ Some rest → w ++ rest ≡ drop n all
 behind all w n k held left now at none gains rest is =

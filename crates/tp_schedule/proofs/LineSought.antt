@@ -54,7 +54,7 @@ first_before b (l ∷ ls) = refl
 one_more : (b : ℕ) (bs : List ℕ) → no_feed (b ∷ []) ≡ true → raw_lines (b ∷ bs) ≡ before_first b (raw_lines bs)
 one_more b bs none = grind (arith, nat_tests)
 
--- the first line has all that stands in front of its line feed
+-- the first line has all that stands before its line feed
 pub front_length : (w left : List ℕ) → no_feed w ≡ true → length w ≤ first_length (raw_lines (w ++ left))
 front_length [] left none = omega arith
 front_length (b ∷ w) left none =

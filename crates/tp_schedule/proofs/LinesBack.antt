@@ -84,7 +84,7 @@ fill_says x small = record { reads = fill_back x small; plain = fill_plain x sma
 
 -- ---- lists of words that read back
 
--- the bytes of words, and one behind each
+-- the bytes of words, and one after each
 abbrev total : List (List ℕ) → ℕ
 total [] = 0
 total (w ∷ ws) = length w + 1 + total ws

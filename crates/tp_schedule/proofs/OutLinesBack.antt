@@ -46,7 +46,7 @@ three_back : {A B C D : Type 0} → (f : B → C → D → A) (x : Form B) (y : 
 three_back f x y z b c d v s w u plain first second third =
     record { reads = rw (first.reads, second.reads, third.reads) refl; plain = rw (plain, first.plain, second.plain, third.plain) refl }
 
--- a word, and words behind it
+-- a word, and words after it
 and_back : {A B C : Type 0} → (f : B → C → A) (x : Form B) (y : Form C) (b : B) (c : C) (v s : List ℕ) (ws : List (List ℕ)) → is_plain v ≡ true → Reads_back x b s → Read_back y c ws
     → Read_back (both f x y) (f b c) (v ∷ s ∷ ws)
 and_back f x y b c v s ws plain first rest = record { reads = rw (first.reads, rest.reads) refl; plain = rw (plain, first.plain, rest.plain) refl }

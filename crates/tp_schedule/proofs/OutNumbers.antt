@@ -1,4 +1,4 @@
--- Numbers of nodes, one behind the other.
+-- Numbers of nodes, one after the other.
 use Rattle.std.proofs.Common.{◌≡◌, ℕ, suc, ◌<◌, ◌==◌, Bool, true, false, Option, Some, None, Ok, Err, List, [], ◌∷◌, ◌++◌, length, refl, ap, sym, ◌∙◌, arith, append_assoc}
 use Rattle.std.specs.Prelude.{option_map}
 use Rattle.tp_model.specs.LineReading.{form_of}
@@ -7,7 +7,7 @@ use Rattle.tp_schedule.specs.Answers.{Reads}
 use Rattle.tp_schedule.specs.OutWords.{cut, parts, node_number, node_numbers, in_front, Pushes}
 use Rattle.tp_schedule.proofs.OutCut.{parts_cut, parts_by}
 
--- behind those that were read
+-- after those that were read
 abbrev pub appended : List ℕ → Option (List ℕ) → Option (List ℕ)
 appended by None = None
 appended by (Some ns) = Some (by ++ ns)

@@ -122,7 +122,7 @@ three_form f (Well a) (Well b) Wrong = refl
 three_form f (Well a) (Well b) Outside = refl
 three_form f (Well a) (Well b) (Well c) = refl
 
--- ---- the words behind the first
+-- ---- the words after the first
 
 pub none_form : {A : Type 0} → (a : A) (ws : List (List ℕ)) → no_words a ws ≡ with (λ (u : Unit {0}). a) (no_words tt ws)
 none_form a [] = refl

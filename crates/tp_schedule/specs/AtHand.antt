@@ -2,7 +2,7 @@
 use Rattle.std.specs.Prelude.{ℕ, ◌≡◌, ◌+◌, ◌<◌, ◌≤◌, ◌==◌, ◌&&◌, not, Bool, true, Option, Some, None, List, [], ◌∷◌, ◌++◌, length, take, slice_index}
 use Rattle.tp_schedule.specs.declared.line_end.LineEnd.{LineEnd}
 
--- the bytes at hand and those left behind them, where the source tells them
+-- the bytes at hand and those left after them, where the source tells them
 abbrev pub together : List ℕ → Option (List ℕ) → Option (List ℕ)
 together held None = None
 together held (Some left) = Some (held ++ left)

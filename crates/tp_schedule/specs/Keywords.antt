@@ -1,4 +1,4 @@
--- The first words of lines and requests as values, and how what stands behind each is read.
+-- The first words of lines and requests as values, and how what stands after each is read.
 -- With their texts they are the tables of reading, entry for entry.
 use Rattle.std.specs.Prelude.{ℕ, Option, Some, None, List, [], ◌∷◌, true, false, codes}
 use Rattle.tp_names.specs.Same.{is_name}
@@ -15,7 +15,7 @@ abbrev pub named : {K : Type 0} → (K → List ℕ) → List K → List ℕ →
 named text [] w = None
 named text (k ∷ ks) w = elim (is_name (text k) w) [ true ↦ Some k | false ↦ named text ks w ]
 
--- the words behind a first word; where that one is none, it is of a wrong form
+-- the words after a first word; where that one is none, it is of a wrong form
 abbrev pub behind : {K A : Type 0} → (K → List (List ℕ) → Form A) → Option K → List (List ℕ) → Form A
 behind reader None ws = Wrong
 behind reader (Some k) ws = reader k ws

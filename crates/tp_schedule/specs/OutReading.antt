@@ -32,7 +32,7 @@ use Rattle.tp_schedule.specs.OutWords.{any_short, small, long, mark, aaid, branc
 abbrev pub trio : {A B C : Type 0} → A → B → C → (A × B) × C
 trio a b c = ((a, b), c)
 
--- a node and its key, and what stands behind them
+-- a node and its key, and what stands after them
 abbrev pub keyed : {B : Type 0} → (List (List ℕ) → Form B) → List (List ℕ) → Form ((ℕ × (Aaid × Option BranchId)) × B)
 keyed more [] = Wrong
 keyed more (n ∷ []) = Wrong
@@ -194,7 +194,7 @@ candidate_in ws = by_kind out_kind_text out_kind_list out_reader ws
 abbrev pub echo_of : List ℕ → Form OutLine
 echo_of text = Well (OutLine.Echo text)
 
--- an echo is what stands behind `> `
+-- an echo is what stands after `> `
 abbrev pub candidate : List ℕ → Form OutLine
 candidate [] = candidate_in []
 candidate (b ∷ []) = candidate_in (words_in (b ∷ []))

@@ -35,7 +35,7 @@ long w = form_of (if_long (numeral w))
 
 -- ---- parts of a word
 
--- what stands before the first of these bytes, and behind it
+-- what stands before the first of these bytes, and after it
 abbrev pub cut : ℕ → List ℕ → Option (List ℕ × List ℕ)
 cut d [] = None
 cut d (b ∷ bs) = elim (b == d) [ true ↦ Some ([], bs) | false ↦ option_map (λ (p : List ℕ × List ℕ). (b ∷ p.0, p.1)) (cut d bs) ]
@@ -109,7 +109,7 @@ node_numbers (w ∷ ws) = in_front (node_number w) (node_numbers ws)
 abbrev pub numbers : List ℕ → Form (List ℕ)
 numbers w = form_of (node_numbers (parts 44 w))
 
--- a number that was read stands at the end; of want of memory nothing is said
+-- a number that was read stands at the end; of out of memory nothing is said
 abbrev pub Pushes : List ℕ → List ℕ → Option ℕ → Result (Unit {0}) LineFault → Type 0
 Pushes old new n (Ok u) = (k : ℕ) × (n ≡ Some k) × (new ≡ old ++ k ∷ [])
 Pushes old new n (Err LineFault.Word) = n ≡ None
@@ -143,7 +143,7 @@ phase w = form_of (named phase_word phase_list w)
 abbrev pub fate : List ℕ → Form RecordFate
 fate w = form_of (named fate_word fate_list w)
 
--- ---- words behind words
+-- ---- words after words
 
 abbrev pub by_kind : {K A : Type 0} → (K → List ℕ) → List K → (K → List (List ℕ) → Form A) → List (List ℕ) → Form A
 by_kind text kinds reader [] = Wrong

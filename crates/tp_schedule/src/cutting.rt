@@ -6,7 +6,7 @@ ghost use Rattle.tp_schedule.specs.OutWords.{cut};
 
 use crate::LineFault;
 
-/// The first word and what stands behind it, or None where only spaces are left.
+/// The first word and what stands after it, or None where only spaces are left.
 pub(crate) fn next_word(bytes: &[u8]) -> Option<(&[u8], &[u8])>
     ensures { MatchOption result (words_in bytes.now ≡ []) (λ p. words_in bytes.now ≡ p.0.now ∷ words_in p.1.now) }
 {
@@ -61,7 +61,7 @@ pub(crate) fn only_three(bytes: &[u8]) -> Option<(&[u8], &[u8], &[u8])>
     Some((first, second, third))
 }
 
-/// Three words and what stands behind them.
+/// Three words and what stands after them.
 pub(crate) fn three_words(bytes: &[u8]) -> Option<(&[u8], &[u8], &[u8], &[u8])>
     ensures { MatchOption result (three_front (words_in bytes.now) ≡ None) (λ p. words_in bytes.now ≡ p.0.now ∷ p.1.now ∷ p.2.now ∷ words_in p.3.now) }
 {
@@ -71,7 +71,7 @@ pub(crate) fn three_words(bytes: &[u8]) -> Option<(&[u8], &[u8], &[u8], &[u8])>
     Some((first, second, third, rest))
 }
 
-/// What stands before the first of these bytes, and behind it.
+/// What stands before the first of these bytes, and after it.
 pub(crate) fn cut_at(mark: u8, bytes: &[u8]) -> Option<(&[u8], &[u8])>
     ensures { MatchOption result (cut mark bytes.now ≡ None) (λ p. cut mark bytes.now ≡ Some (p.0.now, p.1.now)) }
 {
@@ -97,7 +97,7 @@ fn spaces(bytes: &[u8]) -> usize
     bytes.len()
 }
 
-// How many bytes stand in front of the first space.
+// How many bytes stand before the first space.
 fn word_len(bytes: &[u8]) -> usize
     ensures within { result ≤ length bytes.now }
     ensures before { (k : ℕ) → k < result → slice_index bytes.now k ≢ 32 }

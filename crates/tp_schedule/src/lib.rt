@@ -6,8 +6,6 @@
 
 mod cutting;
 mod digits;
-#[cfg(test)]
-mod example_tests;
 mod keyword;
 pub mod laws;
 mod line_end;
@@ -20,13 +18,9 @@ mod out_kinds;
 mod out_line;
 mod out_reading;
 mod out_values;
-#[cfg(test)]
-mod reading_tests;
 mod schedule_line;
 mod schedule_words;
 mod sent_words;
-#[cfg(test)]
-mod tests;
 mod told_words;
 mod value;
 mod window;

@@ -3,7 +3,7 @@
 /// How the line at the front of the bytes at hand ends.
 #[derive(Clone, Copy)]
 pub(crate) enum LineEnd {
-    /// A line feed, behind so many bytes.
+    /// A line feed, after so many bytes.
     Feed(usize),
     /// The input is at its end.
     Input,

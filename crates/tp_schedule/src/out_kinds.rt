@@ -90,7 +90,7 @@ pub(crate) enum ToldKind {
     Left,
 }
 
-/// What stands behind the identifier of a tree.
+/// What stands after the identifier of a tree.
 #[derive(Clone, Copy)]
 pub(crate) enum TreeKind {
     Agreed,

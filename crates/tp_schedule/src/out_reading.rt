@@ -650,7 +650,7 @@ fn keyed(rest: &[u8]) -> Result<(Named, ()), LineFault>
     }
 }
 
-// The same with an outcome behind it.
+// The same with an outcome after it.
 fn keyed_outcome(rest: &[u8]) -> Result<(Named, Outcome), LineFault>
     ensures { result ≡ read_as (keyed (one_word same outcome) (words_in rest.now)) }
 {
@@ -663,7 +663,7 @@ fn keyed_outcome(rest: &[u8]) -> Result<(Named, Outcome), LineFault>
     }
 }
 
-// The same with a side and a report behind it.
+// The same with a side and a report after it.
 fn keyed_damage(rest: &[u8]) -> Result<(Named, (Outcome, Report)), LineFault>
     ensures { result ≡ read_as (keyed (two_words pair outcome report) (words_in rest.now)) }
 {

@@ -25,7 +25,7 @@ pub(crate) enum LineWord {
     Leave,
 }
 
-/// What a line begins with that may stand behind `in`.
+/// What a line begins with that may stand after `in`.
 #[derive(Clone, Copy)]
 pub(crate) enum StopWord {
     Do,
@@ -123,7 +123,7 @@ pub(crate) fn line_word(word: &[u8]) -> Option<LineWord>
     find_line(&LINE_WORDS, word)
 }
 
-/// The line behind `in` that the word begins.
+/// The line after `in` that the word begins.
 pub(crate) fn stop_word(word: &[u8]) -> Option<StopWord>
     ensures { result ≡ named stop_word_text stop_word_list word.now }
 {

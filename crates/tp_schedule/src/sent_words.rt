@@ -69,7 +69,7 @@ fn write_kin(
     write_words(alloc, &[Word::Text(word), aaid, branch], out)
 }
 
-// A record of a dialogue behind its number.
+// A record of a dialogue after its number.
 fn write_on(alloc: Global, seq: u64, rec: &DialogueRecord, out: &mut Octets) -> Result<(), NoMemory>
     ensures ok { OnOk result (out.new ≡ out.old ++ words (sent_words (SentWords.OnAssoc seq rec.now))) }
     ensures err { OnErr result (Keeps out.old out.new) }

@@ -106,7 +106,7 @@ module _ {D : Type 0} (before : Before) (old new : Kept D) (n m : ℕ) (told tol
     pub kept_unmoved : new.shut ≡ old.shut → IsKept before new m told_now forced stakes unfit
     kept_unmoved shut = kept_refused stakes unfit (omega arith) (still_rose shut) (subst (λ o. stakes < before.shares → (is_some o || is_some unfit) ≡ true) (sym shut) kept.spent) room
 
-    -- the log is shut behind it
+    -- the log is shut after it
     pub kept_shut : (left faults : ℕ) → left + 1 ≡ stakes → new.shut ≡ Some faults → ShutRose before.faults new.shut m → IsKept before new m told_now forced left unfit
     kept_shut left faults one shut rose = kept_refused left unfit (omega (arith, one)) rose (λ less. ap (λ o. is_some o || is_some unfit) shut) room
 

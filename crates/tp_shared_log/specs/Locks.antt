@@ -32,7 +32,7 @@ abbrev pub ShutRose : ℕ → Option ℕ → ℕ → Type 0
 ShutRose before None now = before ≤ now
 ShutRose before (Some faults) now = HasRisen before now
 
--- Behind a closing gate at this place, a body of the length told would make the log at least so long as told, which is
+-- After a closing gate at this place, a body of the length told would make the log at least so long as told, which is
 -- too long.
 abbrev pub HadNoRoom : ℕ → Option Unfit → Type 0
 HadNoRoom gate None = Unit {0}

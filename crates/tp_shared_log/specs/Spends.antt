@@ -3,7 +3,7 @@ use Rattle.std.specs.Prelude.{ℕ, Option, Some, None}
 use Rattle.tp_journal.specs.declared.faults.ForceFault.{ForceFault}
 use Rattle.tp_shared_log.specs.declared.spent.Spent.{Spent}
 
--- want of memory spends nothing
+-- out of memory spends nothing
 abbrev pub spends : ForceFault → ℕ
 spends ForceFault.NoMemory = 0
 spends (ForceFault.Full size) = 1
@@ -16,7 +16,7 @@ spent_by (ForceFault.DiskFault n) = Some (Spent.Shut n)
 spent_by (ForceFault.Shut n) = Some (Spent.Shut n)
 spent_by ForceFault.NoMemory = None
 
--- behind a fault of the disk the log is shut
+-- after a fault of the disk the log is shut
 abbrev pub fault_of : Spent → ForceFault
 fault_of (Spent.Full size) = ForceFault.Full size
 fault_of (Spent.Shut n) = ForceFault.Shut n

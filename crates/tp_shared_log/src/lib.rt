@@ -8,8 +8,6 @@ mod share;
 mod shared_log;
 mod spent;
 mod stood;
-#[cfg(test)]
-mod tests;
 mod unfit;
 
 pub use share::LogShare;

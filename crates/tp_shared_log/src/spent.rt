@@ -22,7 +22,7 @@ impl Spent {
         }
     }
 
-    /// Why the stake is spent behind a refusal of the log. Want of memory spends nothing.
+    /// Why the stake is spent after a refusal of the log. Out of memory spends nothing.
     pub(crate) fn by(fault: ForceFault) -> Option<Spent>
         ensures { result ≡ spent_by fault }
     {

@@ -15,7 +15,7 @@ pub filter-without_ties : (p : ℕ) (ts : List Tie) → filter (λ t. not (t.add
 filter-without_ties p [] = refl
 filter-without_ties p (t ∷ ts) = grind (arith, common_steps, filter-without_ties p ts)
 
--- the first tie with the peer stands at its place, which is behind the others where there is none
+-- the first tie with the peer stands at its place, which is after the others where there is none
 find_none : (ts : List Tie) (p : ℕ) → length ts ≤ place_of ts p → find_tie ts p ≡ None
 find_none [] p h = refl
 find_none (t ∷ ts) p h = grind (arith, nat_tests, find_none ts p)

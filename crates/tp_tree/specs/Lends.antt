@@ -6,11 +6,11 @@ use Rattle.tp_tree.specs.contracts.tie.Tie as tie
 use Rattle.tp_tree.specs.contracts.invocation.Invocation as invocation
 use Rattle.tp_tree.specs.Invocation.{Invocation, with_below, with_tie}
 
--- the arc with the peer is what was last written behind r; at `None` nothing changes
+-- the arc with the peer is what was last written after r; at `None` nothing changes
 abbrev pub LendsTie : MutBor Invocation → ℕ → Option (MutBor Tie) → Fml
 LendsTie v p r = LendsIf invocation.the_row tie.the_row v r (with_tie v.now p) v.now
 
--- the arcs to subordinates are what was last written behind r
+-- the arcs to subordinates are what was last written after r
 abbrev pub LendsBelow : MutBor Invocation → MutBor (List Tie) → Fml
 LendsBelow v r = Lends invocation.the_row (Array tie.the_row 0) v r (with_below v.now)
 

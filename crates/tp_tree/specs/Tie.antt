@@ -44,7 +44,7 @@ abbrev pub find_tie : List Tie → ℕ → Option Tie
 find_tie [] p = None
 find_tie (t ∷ ts) p = if t.addr.node == p then Some t else find_tie ts p
 
--- where it stands, which is behind the others where there is none
+-- where it stands, which is after the others where there is none
 abbrev pub place_of : List Tie → ℕ → ℕ
 place_of [] p = 0
 place_of (t ∷ ts) p = if t.addr.node == p then 0 else suc (place_of ts p)

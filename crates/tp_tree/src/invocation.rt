@@ -187,7 +187,7 @@ impl Invocation {
     }
 
     /// Adds an arc with no association, on which the node is that side: an arc to a subordinate stands
-    /// behind the others, and the one to the superior before them. It takes no memory.
+    /// after the others, and the one to the superior before them. It takes no memory.
     pub fn add(&mut self, addr: Addr, units: Units, side: Side)
         requires other { IsNone (find_arc (arcs_of self.old) addr.node) }
         requires room { IsTrue (has_room side self.old) }
@@ -243,7 +243,7 @@ fn find(ties: &[Tie], peer: u16) -> Option<&Tie>
     None
 }
 
-// Where it stands; behind the others where there is none.
+// Where it stands; after the others where there is none.
 fn place_of(ties: &[Tie], peer: u16) -> usize
     ensures { result ≡ place_of ties.now peer }
 {

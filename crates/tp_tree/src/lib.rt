@@ -6,8 +6,6 @@
 #![tactic(auto)]
 
 mod invocation;
-#[cfg(test)]
-mod tests;
 mod tie;
 
 pub use invocation::Invocation;

@@ -9,6 +9,3 @@ pub use units::{
     BadUnits, CHAINED, COMMIT, HANDSHAKE, POLARIZED, SHARED, UNCHAINED, Units, choose,
     refused_exactly_where_not_permitted,
 };
-
-#[cfg(test)]
-mod tests;

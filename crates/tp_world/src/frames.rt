@@ -109,7 +109,7 @@ impl Frames {
         Some(&self.items[place])
     }
 
-    /// Puts a frame behind the others, and tells its number.
+    /// Puts a frame after the others, and tells its number.
     #[tactic(auto, using(crate::proofs::Oldest::leading_behind))]
     pub(crate) fn send(&mut self, from: Addr, to: Addr, rec: PeerRecord) -> Result<u16, WorldFault>
         ensures ok { IfOk result (λ number. (number ≡ length self.old + 1) × (self.new ≡ self.old ++ record { from = from; to = to; rec = rec; handed = false } ∷ [])) }

@@ -16,8 +16,6 @@ mod requests;
 mod shown;
 mod site_slot;
 mod sites;
-#[cfg(test)]
-mod tests;
 mod tracks;
 mod world;
 

@@ -78,7 +78,7 @@ impl Nodes {
         Some(self.items[place].addr)
     }
 
-    /// Puts a node behind the others.
+    /// Puts a node after the others.
     pub(crate) fn declare(
         &mut self,
         alloc: Global,
@@ -95,7 +95,7 @@ impl Nodes {
         Ok(())
     }
 
-    /// The node's parts in trees behind an entry.
+    /// The node's parts in trees after an entry.
     #[tactic(auto, using(crate::proofs::SteppedNodes::stepped_none, crate::proofs::SteppedNodes::stepped_there))]
     pub(crate) fn step(&mut self, number: u16, step: &Step) -> Result<(), NoMemory>
         ensures { OnOk result (AreStepped number step.now self.old self.new) }
@@ -108,7 +108,7 @@ impl Nodes {
     }
 }
 
-// The place of the node of that number; behind all where there is none.
+// The place of the node of that number; after all where there is none.
 #[tactic(auto, using(crate::proofs::Numbers::place_next, crate::proofs::Numbers::place_here))]
 fn place_of(nodes: &[NodeSlot], number: u16) -> usize
     ensures { result ≡ place_of_number nodes.now number }

@@ -22,7 +22,7 @@ pub(crate) struct Part {
     pub(crate) rolled: bool,
 }
 
-/// What an entry shows of trees: the node's tree before it and behind it, whether its user left, and its record.
+/// What an entry shows of trees: the node's tree before it and after it, whether its user left, and its record.
 #[derive(Clone, Copy, Debug, PartialEq, Eq)]
 pub(crate) struct Step {
     pub(crate) before: Option<NodeTree>,
@@ -91,7 +91,7 @@ pub(crate) fn tree_logged(rec: &Option<LogWords>) -> Option<Aaid>
     }
 }
 
-// The tree is the current one behind the entry too, at a root as a root and at a branch as a branch.
+// The tree is the current one after the entry too, at a root as a root and at a branch as a branch.
 fn goes_on(tree: &Aaid, step: &Step) -> bool
     ensures { result ≡ goes_on tree.now step.now.before step.now.behind }
 {
@@ -103,7 +103,7 @@ fn goes_on(tree: &Aaid, step: &Step) -> bool
     }
 }
 
-// It rolls behind the entry; or it was active or ready, and is over without having left.
+// It rolls after the entry; or it was active or ready, and is over without having left.
 fn has_rolled(tree: &Aaid, step: &Step) -> bool
     ensures { result ≡ has_rolled tree.now step.now }
 {
@@ -122,7 +122,7 @@ impl Part {
         rolled: false,
     };
 
-    /// The part behind an entry.
+    /// The part after an entry.
     pub(crate) fn stepped(self, tree: &Aaid, step: &Step) -> Part
         ensures { result ≡ stepped tree.now step.now self }
     {

@@ -53,7 +53,7 @@ fn is_unchanged(event: &NodeEvent<'_>) -> bool
     )
 }
 
-// What is shown of the record behind the first so many, where there is one.
+// What is shown of the record after the first so many, where there is one.
 fn forced(records: &[LogRec], count: usize) -> Option<LogWords>
     ensures { result ≡ shown_behind records.now count }
 {
@@ -63,7 +63,7 @@ fn forced(records: &[LogRec], count: usize) -> Option<LogWords>
     }
 }
 
-// A disk with a fresh log of version 2. A disk in memory fails for want of memory alone.
+// A disk with a fresh log of version 2. A disk in memory fails for lack of memory alone.
 fn blank_disk(alloc: Global) -> Result<MemDisk, NoMemory>
     ensures { IfOk result (λ disk. IsOn (Some (recorded disk).story) blank_file) }
 {

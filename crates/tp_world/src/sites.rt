@@ -17,7 +17,7 @@ use tp_names::same::is_name;
 use tp_names::{Addr, NoMemory, SiteName};
 use tp_site::{NodeEvent, NodeState};
 
-// The place of the site of that name; behind all where there is none.
+// The place of the site of that name; after all where there is none.
 #[tactic(auto, using(crate::proofs::SiteNames::place_next, crate::proofs::SiteNames::place_here))]
 fn place_of(sites: &[SiteSlot], name: &SiteName) -> usize
     ensures { result ≡ place_of_site sites.now name.now }

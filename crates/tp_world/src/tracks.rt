@@ -83,7 +83,7 @@ impl Tracks {
         }
     }
 
-    // The part in that tree behind an entry.
+    // The part in that tree after an entry.
     fn step_in(&mut self, tree: &Aaid, step: &Step) -> Result<(), NoMemory>
         ensures { OnOk result ((t : AaidValue) → part_at self.new t ≡ cond (is_aaid t tree.now) (stepped t step.now (part_at self.old t)) (part_at self.old t)) }
     {
@@ -92,7 +92,7 @@ impl Tracks {
         Ok(())
     }
 
-    // The part in that tree behind an entry, where there is one.
+    // The part in that tree after an entry, where there is one.
     fn step_at(&mut self, tree: Option<Aaid>, step: &Step) -> Result<(), NoMemory>
         ensures { OnOk result ((t : AaidValue) → part_at self.new t ≡ cond (is_that t tree) (stepped t step.now (part_at self.old t)) (part_at self.old t)) }
     {
@@ -102,7 +102,7 @@ impl Tracks {
         }
     }
 
-    /// The parts behind an entry, which speaks of at most three trees.
+    /// The parts after an entry, which speaks of at most three trees.
     pub(crate) fn step(&mut self, step: &Step) -> Result<(), NoMemory>
         ensures { OnOk result ((t : AaidValue) → part_at self.new t ≡ stepped t step.now (part_at self.old t)) }
     {

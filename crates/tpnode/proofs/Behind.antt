@@ -1,4 +1,4 @@
--- The lines of a schedule one behind the other: each has at least one byte with its end.
+-- The lines of a schedule one after the other: each has at least one byte with its end.
 use Rattle.std.proofs.Common.{◌≡◌, ◌≤◌, ◌==◌, ℕ, Bool, true, false, List, [], ◌∷◌, refl, subst, arith}
 use Rattle.tp_model.specs.Transcript.{RawLine, raw_lines, before_first, taken_by}
 

@@ -1,4 +1,4 @@
--- A replay that ends behind a line that was not played.
+-- A replay that ends after a line that was not played.
 use Rattle.std.proofs.Common.{◌≡◌, ◌++◌, ◌+◌, ℕ, suc, List, [], ◌∷◌, Option, Some, refl, ap, subst, sym, ◌∙◌, append_assoc}
 use Rattle.std.proofs.lemmas.List.{append-nil}
 use Rattle.tp_model.specs.World.{World}
@@ -44,7 +44,7 @@ ends_so at bytes before v place left start now status s is h =
     s.shows
     (stopped at place.before s.world s.lines status (before ++ s.text) now h (s.wrote before is))
 
--- the closing lines come behind the last line
+-- the closing lines come after the last line
 pub closes_so : (at : ℕ) (bytes before : List ℕ) (v : Ground) (place : Place) (left start now : Option (List ℕ)) (status : Status) (then : Option (List ℕ))
     → (s : SoFar at bytes v place left start now) → s.lines ≡ [] → Writes (before ++ s.text) (closes s.world) status then → Writes before (shown bytes) status then
 closes_so at bytes before v place left start now status then s none h =

@@ -6,7 +6,7 @@ use Rattle.tpnode.specs.Replay.{IsFront}
 pub front_none : (ys : List ℕ) → IsFront [] ys
 front_none ys = (ys, refl)
 
--- of what comes behind
+-- of what comes after
 pub front_behind : (xs ys part : List ℕ) → IsFront part ys → IsFront (xs ++ part) (xs ++ ys)
 front_behind xs ys part h = (h.0, ap (λ zs. xs ++ zs) h.1 ∙ sym (append_assoc xs part h.0))
 

@@ -1,4 +1,4 @@
--- The text of lines one behind the other.
+-- The text of lines one after the other.
 use Rattle.std.proofs.Common.{◌≡◌, ◌<◌, ◌+◌, ◌++◌, ℕ, zero, suc, List, [], ◌∷◌, length, take, refl, ap, sym, ◌∙◌, append_assoc, arith}
 use Rattle.std.specs.Prelude.{slice_index_or}
 use Rattle.tp_model.specs.declared.out_line.OutLine.{OutLine}

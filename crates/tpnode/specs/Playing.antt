@@ -1,4 +1,4 @@
--- What the code answers of one line: the bytes that it shows, or how the run ends in it. Want of memory is the free answer.
+-- What the code answers of one line: the bytes that it shows, or how the run ends in it. Out of memory is the free answer.
 use Rattle.std.specs.Prelude.{ℕ, ◌≡◌, ◌+◌, nat_lt, true, false, Option, Some, None, List, [], ◌∷◌, Result, Ok, Err}
 use Rattle.tp_model.specs.declared.verdict.What.{What}
 use Rattle.tp_model.specs.declared.verdict.Why.{Why}

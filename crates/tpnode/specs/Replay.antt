@@ -1,5 +1,5 @@
 -- What a run of `replay` writes, by how it ends: all that is shown of the schedule; or, where the source or the sink failed or memory
--- was wanting, a front part of it.
+-- was wanting, a prefix of it.
 use Rattle.std.specs.Prelude.{ℕ, ◌≡◌, Option, Some, List, ◌++◌}
 use Rattle.tp_records.specs.declared.request.Request.{Request}
 use Rattle.tp_model.specs.Transcript.{Done, Bad_input, At_limit, transcript}
@@ -7,7 +7,7 @@ use Rattle.tpnode.specs.declared.status.BadLine.{BadLine}
 use Rattle.tpnode.specs.declared.status.Status.{Status}
 use Rattle.tpnode.specs.Shown.{Shown, End, Ends, Unbuilt, written, shown}
 
--- the first is a front part of the second
+-- the first is a prefix of the second
 abbrev pub IsFront : List ℕ → List ℕ → Type 0
 IsFront xs ys = (more : List ℕ) × (ys ≡ xs ++ more)
 
@@ -24,7 +24,7 @@ pub record WritesAll (before : List ℕ) (s : Shown) (e : End) (new : Option (Li
   pub whole : new ≡ Some (before ++ written s)
   pub ending : s.ending ≡ e
 
--- behind the bytes that were written before
+-- after the bytes that were written before
 abbrev pub Writes : List ℕ → Shown → Status → Option (List ℕ) → Type 0
 Writes before s Status.Ok new = WritesAll before s (Ends Done) new
 Writes before s Status.Usage new = ⊥

@@ -37,7 +37,7 @@ IsEndAt line (Status.ReadFault faults) = ⊥
 IsEndAt line (Status.WriteFault faults) = ⊥
 IsEndAt line Status.NoMemory = Unit {0}
 
--- what ends a run at the next line, by the source's counts before and behind it
+-- what ends a run at the next line, by the source's counts before and after it
 abbrev pub IsLineEnding : ℕ → ℕ → Status → Type 0
 IsLineEnding old new Status.Ok = ⊥
 IsLineEnding old new Status.Usage = ⊥
@@ -47,7 +47,7 @@ IsLineEnding old new (Status.ReadFault faults) = IsFaultOf faults old new
 IsLineEnding old new (Status.WriteFault faults) = ⊥
 IsLineEnding old new Status.NoMemory = Unit {0}
 
--- what ends a run, by the counts of the source and of the sink before and behind it
+-- what ends a run, by the counts of the source and of the sink before and after it
 abbrev pub IsEnding : ℕ → ℕ → ℕ → ℕ → Status → Type 0
 IsEnding read_old read_new write_old write_new Status.Ok = Unit {0}
 IsEnding read_old read_new write_old write_new Status.Usage = Unit {0}
@@ -57,7 +57,7 @@ IsEnding read_old read_new write_old write_new (Status.ReadFault faults) = IsFau
 IsEnding read_old read_new write_old write_new (Status.WriteFault faults) = IsFaultOf faults write_old write_new
 IsEnding read_old read_new write_old write_new Status.NoMemory = Unit {0}
 
--- what ends a run behind its last line
+-- what ends a run after its last line
 abbrev pub IsCloseEnding : ℕ → ℕ → Status → Type 0
 IsCloseEnding old new Status.Ok = Unit {0}
 IsCloseEnding old new Status.Usage = ⊥

@@ -20,7 +20,7 @@ pub use top::run;
 use tp_names::Octets;
 use tp_outside::{MemDisk, StdSink, StdSource};
 
-// The words behind the program's name.
+// The words after the program's name.
 fn words_given(rt: &HostRuntime) -> io::Result<Vec<String>> {
     let mut words = Vec::new(rt.alloc());
     for word in env::args(rt)?.skip(1) {

@@ -19,7 +19,7 @@ use tp_outside::{Sink, Source};
 use tp_schedule::{Lines, LinesFault};
 use tp_world::World;
 
-/// One more than the number of the line that is behind the last one in any schedule.
+/// One more than the number of the line that is after the last one in any schedule.
 const PAST_LINES: u64 = 1_048_578;
 
 // The status of a run that ends in the line of that number, since it is not handed out.
@@ -39,7 +39,7 @@ fn unheard(fault: LinesFault, at: u64) -> Status
     }
 }
 
-// What the next line of the source shows, which has that number; none behind the last.
+// What the next line of the source shows, which has that number; none after the last.
 fn next_shown<S: Source>(
     alloc: Global,
     lines: &mut Lines,

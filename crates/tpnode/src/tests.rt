@@ -54,7 +54,7 @@ fn one_command_is_known(rt: HostRuntime) -> Result<(), Fail> {
 
 const DECLARED: &str = "> node 1 a\nlog a boot 1\n> node 2 b under 1\nlog b boot 1\n";
 
-// The status of a run of that line behind two nodes, which alone show anything.
+// The status of a run of that line after two nodes, which alone show anything.
 fn ended_by(rt: &impl Abort, alloc: Global, line: &str) -> Result<Status, Fail> {
     let text = format!(in alloc; "node 1 a\nnode 2 b under 1\n{line}\n")?;
     let (status, written) = ran(alloc, &["replay"], text.as_bytes(), &[], &[])?;

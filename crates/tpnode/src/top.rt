@@ -15,7 +15,7 @@ use tp_records::Member;
 
 /// Runs a command. `replay` reads a schedule from the source and writes what is shown of it to the sink: its
 /// transcript, up to the first line of a kind that is not built. Where the source or the sink fails, or memory is
-/// wanting, what is written is a front part of that, and no closing lines behind a source that failed. The world that
+/// wanting, what is written is a prefix of that, and no closing lines after a source that failed. The world that
 /// the schedule leaves keeps all promises. The disk is handed back as it was; members are not asked yet.
 #[tactic(auto, using(crate::proofs::Transcribed::transcribed))]
 pub fn run<S: Source, K: Sink, D: Disk>(

@@ -29,26 +29,25 @@ pub(crate) fn read_body(alloc: Global, from: &mut Cursor) -> Result<Body, ReadFa
     ensures { GivesUnlessFull result from.new (scan_body from.old) }
 {
     let left = from.left();
-    let body = match from.code()? {
-        1 => declare(from)?,
-        2 => request(alloc, from)?,
-        3 => arrive(alloc, from)?,
-        4 => lose(from)?,
-        5 => heur(from)?,
-        6 => give_up(from)?,
-        7 => Body::Event(Event::Retry {
+    match from.code()? {
+        1 => Ok(declare(from)?),
+        2 => request(alloc, from),
+        3 => arrive(alloc, from),
+        4 => Ok(lose(from)?),
+        5 => Ok(heur(from)?),
+        6 => Ok(give_up(from)?),
+        7 => Ok(Body::Event(Event::Retry {
             node: from.short()?,
-        }),
-        8 => Body::Event(Event::Purge {
+        })),
+        8 => Ok(Body::Event(Event::Purge {
             node: from.short()?,
-        }),
-        16 => tell(alloc, from)?,
-        17 => send(alloc, from)?,
-        18 => refused(from)?,
-        19 => Body::Output(Output::Over),
-        _ => return Err(ReadFault::Bad(BadBytes { left })),
-    };
-    Ok(body)
+        })),
+        16 => tell(alloc, from),
+        17 => send(alloc, from),
+        18 => Ok(refused(from)?),
+        19 => Ok(Body::Output(Output::Over)),
+        _ => Err(ReadFault::Bad(BadBytes { left })),
+    }
 }
 
 fn declare(from: &mut Cursor) -> Result<Body, BadBytes>
@@ -136,10 +135,9 @@ pub(crate) fn write_body(alloc: Global, body: &Body, out: &mut Octets) -> Result
     ensures err { OnErr result (Keeps out.old out.new) }
 {
     match body {
-        Body::Event(event) => write_event(alloc, event, out)?,
-        Body::Output(output) => write_output(alloc, output, out)?,
+        Body::Event(event) => write_event(alloc, event, out),
+        Body::Output(output) => write_output(alloc, output, out),
     }
-    Ok(())
 }
 
 fn write_event(alloc: Global, event: &Event, out: &mut Octets) -> Result<(), NoMemory>
@@ -150,34 +148,33 @@ fn write_event(alloc: Global, event: &Event, out: &mut Octets) -> Result<(), NoM
     match event {
         Event::Declare { node, superior } => {
             write_numbered(alloc, 1, *node, out)?;
-            write_maybe_addr(alloc, superior, out)?;
+            write_maybe_addr(alloc, superior, out)
         }
         Event::Do { node, request } => {
             write_numbered(alloc, 2, *node, out)?;
-            write_request(alloc, request, out)?;
+            write_request(alloc, request, out)
         }
         Event::Arrive { from, to, octets } => {
             out.push(alloc, 3)?;
             write_addr(alloc, from, out)?;
             write_addr(alloc, to, out)?;
-            write_octets(alloc, octets, out)?;
+            write_octets(alloc, octets, out)
         }
         Event::Lose { node, peer } => {
             write_numbered(alloc, 4, *node, out)?;
-            write_short(alloc, *peer, out)?;
+            write_short(alloc, *peer, out)
         }
         Event::Heur { node, outcome } => {
             write_numbered(alloc, 5, *node, out)?;
-            write_outcome(alloc, *outcome, out)?;
+            write_outcome(alloc, *outcome, out)
         }
         Event::GiveUp { node, peer } => {
             write_numbered(alloc, 6, *node, out)?;
-            write_short(alloc, *peer, out)?;
+            write_short(alloc, *peer, out)
         }
-        Event::Retry { node } => write_numbered(alloc, 7, *node, out)?,
-        Event::Purge { node } => write_numbered(alloc, 8, *node, out)?,
+        Event::Retry { node } => write_numbered(alloc, 7, *node, out),
+        Event::Purge { node } => write_numbered(alloc, 8, *node, out),
     }
-    Ok(())
 }
 
 fn write_output(alloc: Global, output: &Output, out: &mut Octets) -> Result<(), NoMemory>
@@ -188,19 +185,18 @@ fn write_output(alloc: Global, output: &Output, out: &mut Octets) -> Result<(), 
     match output {
         Output::Tell { node, indication } => {
             write_numbered(alloc, 16, *node, out)?;
-            write_indication(alloc, indication, out)?;
+            write_indication(alloc, indication, out)
         }
         Output::Send { from, to, octets } => {
             out.push(alloc, 17)?;
             write_addr(alloc, from, out)?;
             write_addr(alloc, to, out)?;
-            write_octets(alloc, octets, out)?;
+            write_octets(alloc, octets, out)
         }
         Output::Refused { number } => {
             out.push(alloc, 18)?;
-            write_byte(alloc, *number, out)?;
+            write_byte(alloc, *number, out)
         }
-        Output::Over => out.push(alloc, 19)?,
+        Output::Over => out.push(alloc, 19),
     }
-    Ok(())
 }

@@ -20,36 +20,35 @@ pub(crate) fn read_dialogue(alloc: Global, from: &mut Cursor) -> Result<Dialogue
     ensures { GivesUnlessFull result from.new (scan_dialogue from.old) }
 {
     let left = from.left();
-    let rec = match from.code()? {
-        1 => DialogueRecord::EndDialogue,
-        2 => DialogueRecord::UserData {
+    match from.code()? {
+        1 => Ok(DialogueRecord::EndDialogue),
+        2 => Ok(DialogueRecord::UserData {
             octets: from.octets(alloc, 1024)?,
-        },
-        3 => DialogueRecord::UError,
-        4 => DialogueRecord::UAbort,
-        5 => DialogueRecord::Grant,
-        6 => DialogueRecord::AskControl,
-        7 => DialogueRecord::Handshake,
-        8 => DialogueRecord::HandshakeGrant,
-        9 => DialogueRecord::Response,
-        10 => DialogueRecord::DeferEnd,
-        11 => DialogueRecord::DeferGrant,
-        12 => begin(from)?,
-        13 => DialogueRecord::Prepare,
-        14 => DialogueRecord::Ready,
-        15 => DialogueRecord::Commit,
-        16 => DialogueRecord::Done {
+        }),
+        3 => Ok(DialogueRecord::UError),
+        4 => Ok(DialogueRecord::UAbort),
+        5 => Ok(DialogueRecord::Grant),
+        6 => Ok(DialogueRecord::AskControl),
+        7 => Ok(DialogueRecord::Handshake),
+        8 => Ok(DialogueRecord::HandshakeGrant),
+        9 => Ok(DialogueRecord::Response),
+        10 => Ok(DialogueRecord::DeferEnd),
+        11 => Ok(DialogueRecord::DeferGrant),
+        12 => Ok(begin(from)?),
+        13 => Ok(DialogueRecord::Prepare),
+        14 => Ok(DialogueRecord::Ready),
+        15 => Ok(DialogueRecord::Commit),
+        16 => Ok(DialogueRecord::Done {
             report: from.report()?,
-        },
-        17 => DialogueRecord::Rollback,
-        18 => DialogueRecord::RolledBack {
+        }),
+        17 => Ok(DialogueRecord::Rollback),
+        18 => Ok(DialogueRecord::RolledBack {
             report: from.report()?,
-        },
-        19 => DialogueRecord::Left,
-        20 => DialogueRecord::LeftEnd,
-        _ => return Err(ReadFault::Bad(BadBytes { left })),
-    };
-    Ok(rec)
+        }),
+        19 => Ok(DialogueRecord::Left),
+        20 => Ok(DialogueRecord::LeftEnd),
+        _ => Err(ReadFault::Bad(BadBytes { left })),
+    }
 }
 
 fn begin(from: &mut Cursor) -> Result<DialogueRecord, BadBytes>
@@ -89,20 +88,20 @@ pub(crate) fn write_dialogue(
     ensures err { OnErr result (Keeps out.old out.new) }
 {
     match rec {
-        DialogueRecord::EndDialogue => out.push(alloc, 1)?,
+        DialogueRecord::EndDialogue => out.push(alloc, 1),
         DialogueRecord::UserData { octets } => {
             out.push(alloc, 2)?;
-            write_octets(alloc, octets, out)?;
+            write_octets(alloc, octets, out)
         }
-        DialogueRecord::UError => out.push(alloc, 3)?,
-        DialogueRecord::UAbort => out.push(alloc, 4)?,
-        DialogueRecord::Grant => out.push(alloc, 5)?,
-        DialogueRecord::AskControl => out.push(alloc, 6)?,
-        DialogueRecord::Handshake => out.push(alloc, 7)?,
-        DialogueRecord::HandshakeGrant => out.push(alloc, 8)?,
-        DialogueRecord::Response => out.push(alloc, 9)?,
-        DialogueRecord::DeferEnd => out.push(alloc, 10)?,
-        DialogueRecord::DeferGrant => out.push(alloc, 11)?,
+        DialogueRecord::UError => out.push(alloc, 3),
+        DialogueRecord::UAbort => out.push(alloc, 4),
+        DialogueRecord::Grant => out.push(alloc, 5),
+        DialogueRecord::AskControl => out.push(alloc, 6),
+        DialogueRecord::Handshake => out.push(alloc, 7),
+        DialogueRecord::HandshakeGrant => out.push(alloc, 8),
+        DialogueRecord::Response => out.push(alloc, 9),
+        DialogueRecord::DeferEnd => out.push(alloc, 10),
+        DialogueRecord::DeferGrant => out.push(alloc, 11),
         DialogueRecord::Begin {
             aaid,
             branch,
@@ -111,24 +110,23 @@ pub(crate) fn write_dialogue(
             out.push(alloc, 12)?;
             write_aaid(alloc, aaid, out)?;
             write_branch(alloc, branch, out)?;
-            write_holder(alloc, *holder, out)?;
+            write_holder(alloc, *holder, out)
         }
-        DialogueRecord::Prepare => out.push(alloc, 13)?,
-        DialogueRecord::Ready => out.push(alloc, 14)?,
-        DialogueRecord::Commit => out.push(alloc, 15)?,
+        DialogueRecord::Prepare => out.push(alloc, 13),
+        DialogueRecord::Ready => out.push(alloc, 14),
+        DialogueRecord::Commit => out.push(alloc, 15),
         DialogueRecord::Done { report } => {
             out.push(alloc, 16)?;
-            write_report(alloc, *report, out)?;
+            write_report(alloc, *report, out)
         }
-        DialogueRecord::Rollback => out.push(alloc, 17)?,
+        DialogueRecord::Rollback => out.push(alloc, 17),
         DialogueRecord::RolledBack { report } => {
             out.push(alloc, 18)?;
-            write_report(alloc, *report, out)?;
+            write_report(alloc, *report, out)
         }
-        DialogueRecord::Left => out.push(alloc, 19)?,
-        DialogueRecord::LeftEnd => out.push(alloc, 20)?,
+        DialogueRecord::Left => out.push(alloc, 19),
+        DialogueRecord::LeftEnd => out.push(alloc, 20),
     }
-    Ok(())
 }
 
 fn write_holder(alloc: Global, holder: Holder, out: &mut Octets) -> Result<(), NoMemory>

@@ -21,66 +21,65 @@ pub(crate) fn read_indication(alloc: Global, from: &mut Cursor) -> Result<Indica
     ensures { GivesUnlessFull result from.new (scan_indication from.old) }
 {
     let left = from.left();
-    let indication = match from.code()? {
-        1 => begin_dialogue(from)?,
-        2 => begun_dialogue(from)?,
-        3 => Indication::Rejected {
+    match from.code()? {
+        1 => Ok(begin_dialogue(from)?),
+        2 => Ok(begun_dialogue(from)?),
+        3 => Ok(Indication::Rejected {
             peer: from.short()?,
-        },
-        4 => Indication::EndDialogue {
+        }),
+        4 => Ok(Indication::EndDialogue {
             peer: from.short()?,
-        },
-        5 => user_data(alloc, from)?,
-        6 => Indication::UError {
+        }),
+        5 => user_data(alloc, from),
+        6 => Ok(Indication::UError {
             peer: from.short()?,
-        },
-        7 => Indication::UAbort {
+        }),
+        7 => Ok(Indication::UAbort {
             peer: from.short()?,
-        },
-        8 => Indication::PAbort {
+        }),
+        8 => Ok(Indication::PAbort {
             peer: from.short()?,
-        },
-        9 => Indication::Grant {
+        }),
+        9 => Ok(Indication::Grant {
             peer: from.short()?,
-        },
-        10 => Indication::AskControl {
+        }),
+        10 => Ok(Indication::AskControl {
             peer: from.short()?,
-        },
-        11 => Indication::Handshake {
+        }),
+        11 => Ok(Indication::Handshake {
             peer: from.short()?,
-        },
-        12 => Indication::HandshakeConfirm {
+        }),
+        12 => Ok(Indication::HandshakeConfirm {
             peer: from.short()?,
-        },
-        13 => Indication::HandshakeGrant {
+        }),
+        13 => Ok(Indication::HandshakeGrant {
             peer: from.short()?,
-        },
-        14 => begin_transaction(from)?,
-        15 => Indication::DeferEnd {
+        }),
+        14 => Ok(begin_transaction(from)?),
+        15 => Ok(Indication::DeferEnd {
             peer: from.short()?,
-        },
-        16 => Indication::DeferGrant {
+        }),
+        16 => Ok(Indication::DeferGrant {
             peer: from.short()?,
-        },
-        17 => Indication::Prepare,
-        18 => Indication::Ready {
+        }),
+        17 => Ok(Indication::Prepare),
+        18 => Ok(Indication::Ready {
             peer: from.short()?,
-        },
-        19 => Indication::Commit,
-        20 => Indication::CommitComplete {
+        }),
+        19 => Ok(Indication::Commit),
+        20 => Ok(Indication::CommitComplete {
             report: from.report()?,
-        },
-        21 => Indication::Rollback,
-        22 => Indication::RollbackComplete {
+        }),
+        21 => Ok(Indication::Rollback),
+        22 => Ok(Indication::RollbackComplete {
             report: from.report()?,
-        },
-        23 => heuristic_report(from)?,
-        24 => Indication::Left {
+        }),
+        23 => Ok(heuristic_report(from)?),
+        24 => Ok(Indication::Left {
             peer: from.short()?,
-        },
-        _ => return Err(ReadFault::Bad(BadBytes { left })),
-    };
-    Ok(indication)
+        }),
+        _ => Err(ReadFault::Bad(BadBytes { left })),
+    }
 }
 
 fn begin_dialogue(from: &mut Cursor) -> Result<Indication, BadBytes>
@@ -136,49 +135,48 @@ pub(crate) fn write_indication(
     match indication {
         Indication::BeginDialogue { peer, units } => {
             write_numbered(alloc, 1, *peer, out)?;
-            write_byte(alloc, units.bits(), out)?;
+            write_byte(alloc, units.bits(), out)
         }
         Indication::BegunDialogue { peer, units } => {
             write_numbered(alloc, 2, *peer, out)?;
-            write_byte(alloc, units.bits(), out)?;
+            write_byte(alloc, units.bits(), out)
         }
-        Indication::Rejected { peer } => write_numbered(alloc, 3, *peer, out)?,
-        Indication::EndDialogue { peer } => write_numbered(alloc, 4, *peer, out)?,
+        Indication::Rejected { peer } => write_numbered(alloc, 3, *peer, out),
+        Indication::EndDialogue { peer } => write_numbered(alloc, 4, *peer, out),
         Indication::UserData { peer, octets } => {
             write_numbered(alloc, 5, *peer, out)?;
-            write_octets(alloc, octets, out)?;
+            write_octets(alloc, octets, out)
         }
-        Indication::UError { peer } => write_numbered(alloc, 6, *peer, out)?,
-        Indication::UAbort { peer } => write_numbered(alloc, 7, *peer, out)?,
-        Indication::PAbort { peer } => write_numbered(alloc, 8, *peer, out)?,
-        Indication::Grant { peer } => write_numbered(alloc, 9, *peer, out)?,
-        Indication::AskControl { peer } => write_numbered(alloc, 10, *peer, out)?,
-        Indication::Handshake { peer } => write_numbered(alloc, 11, *peer, out)?,
-        Indication::HandshakeConfirm { peer } => write_numbered(alloc, 12, *peer, out)?,
-        Indication::HandshakeGrant { peer } => write_numbered(alloc, 13, *peer, out)?,
+        Indication::UError { peer } => write_numbered(alloc, 6, *peer, out),
+        Indication::UAbort { peer } => write_numbered(alloc, 7, *peer, out),
+        Indication::PAbort { peer } => write_numbered(alloc, 8, *peer, out),
+        Indication::Grant { peer } => write_numbered(alloc, 9, *peer, out),
+        Indication::AskControl { peer } => write_numbered(alloc, 10, *peer, out),
+        Indication::Handshake { peer } => write_numbered(alloc, 11, *peer, out),
+        Indication::HandshakeConfirm { peer } => write_numbered(alloc, 12, *peer, out),
+        Indication::HandshakeGrant { peer } => write_numbered(alloc, 13, *peer, out),
         Indication::BeginTransaction { peer, aaid } => {
             write_numbered(alloc, 14, *peer, out)?;
-            write_aaid(alloc, aaid, out)?;
+            write_aaid(alloc, aaid, out)
         }
-        Indication::DeferEnd { peer } => write_numbered(alloc, 15, *peer, out)?,
-        Indication::DeferGrant { peer } => write_numbered(alloc, 16, *peer, out)?,
-        Indication::Prepare => out.push(alloc, 17)?,
-        Indication::Ready { peer } => write_numbered(alloc, 18, *peer, out)?,
-        Indication::Commit => out.push(alloc, 19)?,
+        Indication::DeferEnd { peer } => write_numbered(alloc, 15, *peer, out),
+        Indication::DeferGrant { peer } => write_numbered(alloc, 16, *peer, out),
+        Indication::Prepare => out.push(alloc, 17),
+        Indication::Ready { peer } => write_numbered(alloc, 18, *peer, out),
+        Indication::Commit => out.push(alloc, 19),
         Indication::CommitComplete { report } => {
             out.push(alloc, 20)?;
-            write_report(alloc, *report, out)?;
+            write_report(alloc, *report, out)
         }
-        Indication::Rollback => out.push(alloc, 21)?,
+        Indication::Rollback => out.push(alloc, 21),
         Indication::RollbackComplete { report } => {
             out.push(alloc, 22)?;
-            write_report(alloc, *report, out)?;
+            write_report(alloc, *report, out)
         }
         Indication::HeuristicReport { peer, report } => {
             write_numbered(alloc, 23, *peer, out)?;
-            write_report(alloc, *report, out)?;
+            write_report(alloc, *report, out)
         }
-        Indication::Left { peer } => write_numbered(alloc, 24, *peer, out)?,
+        Indication::Left { peer } => write_numbered(alloc, 24, *peer, out),
     }
-    Ok(())
 }

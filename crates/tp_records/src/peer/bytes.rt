@@ -24,27 +24,26 @@ pub(crate) fn read_peer(alloc: Global, from: &mut Cursor) -> Result<PeerRecord, 
     ensures { GivesUnlessFull result from.new (scan_peer from.old) }
 {
     let left = from.left();
-    let rec = match from.code()? {
-        1 => open_assoc(from)?,
-        2 => accept_assoc(from)?,
-        3 => shut_assoc(from)?,
-        4 => on_assoc(alloc, from)?,
-        5 => PeerRecord::RecReady {
+    match from.code()? {
+        1 => Ok(open_assoc(from)?),
+        2 => Ok(accept_assoc(from)?),
+        3 => Ok(shut_assoc(from)?),
+        4 => on_assoc(alloc, from),
+        5 => Ok(PeerRecord::RecReady {
             aaid: from.aaid()?,
             branch: from.branch()?,
-        },
-        6 => PeerRecord::RecCommit {
+        }),
+        6 => Ok(PeerRecord::RecCommit {
             aaid: from.aaid()?,
             branch: from.branch()?,
-        },
-        7 => rec_reply(from)?,
-        8 => PeerRecord::Forget {
+        }),
+        7 => Ok(rec_reply(from)?),
+        8 => Ok(PeerRecord::Forget {
             aaid: from.aaid()?,
             branch: from.branch()?,
-        },
-        _ => return Err(ReadFault::Bad(BadBytes { left })),
-    };
-    Ok(rec)
+        }),
+        _ => Err(ReadFault::Bad(BadBytes { left })),
+    }
 }
 
 fn open_assoc(from: &mut Cursor) -> Result<PeerRecord, BadBytes>

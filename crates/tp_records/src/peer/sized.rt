@@ -10,7 +10,7 @@ use crate::peer::bytes::read_peer;
 use std::alloc::Global;
 use tp_names::{BadBytes, Cursor, NoMemory, Octets, ReadFault};
 
-/// Reads octets that are the text of one peer record, behind their count.
+/// Reads octets that are the text of one peer record, after their count.
 pub(crate) fn read_peer_octets(alloc: Global, from: &mut Cursor) -> Result<Octets, ReadFault>
     ensures { GivesUnlessFull result from.new (scan_sent from.old) }
 {

@@ -20,56 +20,55 @@ pub(crate) fn read_request(alloc: Global, from: &mut Cursor) -> Result<Request, 
     ensures { GivesUnlessFull result from.new (scan_request from.old) }
 {
     let left = from.left();
-    let request = match from.code()? {
-        1 => begin_dialogue(from)?,
-        2 => Request::Accept {
+    match from.code()? {
+        1 => Ok(begin_dialogue(from)?),
+        2 => Ok(Request::Accept {
             units: from.byte()?,
-        },
-        3 => Request::Reject,
-        4 => Request::EndDialogue {
+        }),
+        3 => Ok(Request::Reject),
+        4 => Ok(Request::EndDialogue {
             peer: from.short()?,
-        },
-        5 => user_data(alloc, from)?,
-        6 => Request::UError {
+        }),
+        5 => user_data(alloc, from),
+        6 => Ok(Request::UError {
             peer: from.short()?,
-        },
-        7 => Request::UAbort {
+        }),
+        7 => Ok(Request::UAbort {
             peer: from.short()?,
-        },
-        8 => Request::Grant {
+        }),
+        8 => Ok(Request::Grant {
             peer: from.short()?,
-        },
-        9 => Request::AskControl {
+        }),
+        9 => Ok(Request::AskControl {
             peer: from.short()?,
-        },
-        10 => Request::Handshake {
+        }),
+        10 => Ok(Request::Handshake {
             peer: from.short()?,
-        },
-        11 => Request::Respond {
+        }),
+        11 => Ok(Request::Respond {
             peer: from.short()?,
-        },
-        12 => Request::HandshakeGrant {
+        }),
+        12 => Ok(Request::HandshakeGrant {
             peer: from.short()?,
-        },
-        13 => Request::BeginTransaction {
+        }),
+        13 => Ok(Request::BeginTransaction {
             peer: from.short()?,
-        },
-        14 => Request::DeferEnd {
+        }),
+        14 => Ok(Request::DeferEnd {
             peer: from.short()?,
-        },
-        15 => Request::DeferGrant {
+        }),
+        15 => Ok(Request::DeferGrant {
             peer: from.short()?,
-        },
-        16 => Request::Prepare {
+        }),
+        16 => Ok(Request::Prepare {
             peer: from.short()?,
-        },
-        17 => Request::Commit,
-        18 => Request::Done,
-        19 => Request::Rollback,
-        20 => Request::Unchanged,
-        _ => return Err(ReadFault::Bad(BadBytes { left })),
-    };
-    Ok(request)
+        }),
+        17 => Ok(Request::Commit),
+        18 => Ok(Request::Done),
+        19 => Ok(Request::Rollback),
+        20 => Ok(Request::Unchanged),
+        _ => Err(ReadFault::Bad(BadBytes { left })),
+    }
 }
 
 fn begin_dialogue(from: &mut Cursor) -> Result<Request, BadBytes>
@@ -102,33 +101,32 @@ pub(crate) fn write_request(
         Request::BeginDialogue { addr, units } => {
             out.push(alloc, 1)?;
             write_addr(alloc, addr, out)?;
-            write_byte(alloc, *units, out)?;
+            write_byte(alloc, *units, out)
         }
         Request::Accept { units } => {
             out.push(alloc, 2)?;
-            write_byte(alloc, *units, out)?;
+            write_byte(alloc, *units, out)
         }
-        Request::Reject => out.push(alloc, 3)?,
-        Request::EndDialogue { peer } => write_numbered(alloc, 4, *peer, out)?,
+        Request::Reject => out.push(alloc, 3),
+        Request::EndDialogue { peer } => write_numbered(alloc, 4, *peer, out),
         Request::UserData { peer, octets } => {
             write_numbered(alloc, 5, *peer, out)?;
-            write_octets(alloc, octets, out)?;
+            write_octets(alloc, octets, out)
         }
-        Request::UError { peer } => write_numbered(alloc, 6, *peer, out)?,
-        Request::UAbort { peer } => write_numbered(alloc, 7, *peer, out)?,
-        Request::Grant { peer } => write_numbered(alloc, 8, *peer, out)?,
-        Request::AskControl { peer } => write_numbered(alloc, 9, *peer, out)?,
-        Request::Handshake { peer } => write_numbered(alloc, 10, *peer, out)?,
-        Request::Respond { peer } => write_numbered(alloc, 11, *peer, out)?,
-        Request::HandshakeGrant { peer } => write_numbered(alloc, 12, *peer, out)?,
-        Request::BeginTransaction { peer } => write_numbered(alloc, 13, *peer, out)?,
-        Request::DeferEnd { peer } => write_numbered(alloc, 14, *peer, out)?,
-        Request::DeferGrant { peer } => write_numbered(alloc, 15, *peer, out)?,
-        Request::Prepare { peer } => write_numbered(alloc, 16, *peer, out)?,
-        Request::Commit => out.push(alloc, 17)?,
-        Request::Done => out.push(alloc, 18)?,
-        Request::Rollback => out.push(alloc, 19)?,
-        Request::Unchanged => out.push(alloc, 20)?,
+        Request::UError { peer } => write_numbered(alloc, 6, *peer, out),
+        Request::UAbort { peer } => write_numbered(alloc, 7, *peer, out),
+        Request::Grant { peer } => write_numbered(alloc, 8, *peer, out),
+        Request::AskControl { peer } => write_numbered(alloc, 9, *peer, out),
+        Request::Handshake { peer } => write_numbered(alloc, 10, *peer, out),
+        Request::Respond { peer } => write_numbered(alloc, 11, *peer, out),
+        Request::HandshakeGrant { peer } => write_numbered(alloc, 12, *peer, out),
+        Request::BeginTransaction { peer } => write_numbered(alloc, 13, *peer, out),
+        Request::DeferEnd { peer } => write_numbered(alloc, 14, *peer, out),
+        Request::DeferGrant { peer } => write_numbered(alloc, 15, *peer, out),
+        Request::Prepare { peer } => write_numbered(alloc, 16, *peer, out),
+        Request::Commit => out.push(alloc, 17),
+        Request::Done => out.push(alloc, 18),
+        Request::Rollback => out.push(alloc, 19),
+        Request::Unchanged => out.push(alloc, 20),
     }
-    Ok(())
 }

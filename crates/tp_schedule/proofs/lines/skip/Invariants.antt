@@ -2,7 +2,7 @@ use Rattle.std.proofs.Common.{◌≡◌, ℕ, ◌+◌, ◌<◌, ◌≤◌, ◌-�
 use Rattle.tp_schedule.specs.AtHand.{together, no_feed}
 use Rattle.tp_schedule.proofs.lines.skip.Given as goal
 
--- of the bytes that there were, those behind the ones taken are left, and none of these is a line feed
+-- of the bytes that there were, those after the ones taken are left, and none of these is a line feed
 abbrev pub invariant-loop-taken : goal.invariant-loop-taken
 invariant-loop-taken g l =
     (8193 < l.taken) × (l.before + l.taken ≤ 1060864)

@@ -1,9 +1,0 @@
-use Rattle.std.proofs.Common.{◌≡◌, length}
-use Rattle.tp_framing.specs.Fed.{fed_so_far}
-use Rattle.tp_framing.proofs.tests.take_all.Given as goal
-
-abbrev pub invariant-loop-bad : goal.invariant-loop-bad
-invariant-loop-bad l = fed_so_far l.frames ≡ fed_so_far l.fn.frames
-
-abbrev pub decreases-loop-bad : goal.decreases-loop-bad
-decreases-loop-bad l = length l.frames.pending
