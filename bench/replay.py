@@ -1,0 +1,126 @@
+#!/usr/bin/env python3
+"""Measures `tpnode replay` on schedules of several shapes: instructions, processor time and peak memory.
+
+bench/replay.py                           measures the table below
+bench/replay.py SHAPE NODES ROUNDS        measures one schedule
+bench/replay.py --write SHAPE NODES ROUNDS    writes the schedule to standard output
+
+It runs the proved program where it stands, crates/tpnode/out/tpnode (`rt run` or `rt ci` leaves it there), or the one that the
+variable TPNODE names. Instructions are counted by `valgrind --tool=callgrind` over the whole process: the same binary, input and
+environment give the same count, whatever else the machine does. Time and memory are the least of five runs.
+
+Shapes: pair (transactions of two nodes; NODES is not read), tree (binary), chain, star, burst (a tree, all requests before the
+deliveries), starburst, onesite (a tree on one site), idle (two of NODES nodes work), kept (transactions that each leave a kept
+one), refused (five refused requests a round), passstuck (a frame that stays beside one that is passed), data and stardata."""
+import os, resource, subprocess, sys, tempfile
+
+TABLE = [("pair", 2, 5000), ("chain", 256, 10), ("star", 256, 10), ("kept", 2, 2000), ("passstuck", 3, 10000)]
+UNITS = {"data": "s", "stardata": "s", "passstuck": "s"}
+STARS = ("star", "starburst", "stardata", "passstuck")
+
+
+def superior(shape, node):
+    return 1 if shape in STARS else node - 1 if shape == "chain" else node // 2
+
+
+def opening(shape, nodes, active):
+    """Declares the nodes and opens the dialogues of those that work."""
+    for node in range(1, nodes + 1):
+        site = 1 if shape == "onesite" else 1 + (node - 1) % 16
+        under = f" under {superior(shape, node)}" if node > 1 and not (shape == "idle" and node > 2) else ""
+        yield f"node {node} s{site}{under}"
+    units = UNITS.get(shape, "scu")
+    yield from (f"do {superior(shape, node)} begin-dialogue {node} {units}" for node in range(2, active + 1))
+    yield "drain"
+    yield from (f"do {node} accept {units}" for node in range(2, active + 1))
+    yield "drain"
+
+
+def commitment(shape, active):
+    """One transaction of the whole tree; a burst makes all requests of a step before any delivery."""
+    each = [] if shape in ("burst", "starburst") else ["drain"]
+    for node in range(2, active + 1):
+        yield f"do {superior(shape, node)} begin-transaction {node}"
+        yield from each
+    yield from ["do 1 commit", "drain"] if each else ["drain", "do 1 commit", "drain"]
+    for node in range(2, active + 1):
+        yield f"do {node} commit"
+        yield from each
+    yield from [] if each else ["drain"]
+    for node in range(1, active + 1):
+        yield f"do {node} done"
+        yield from each
+    yield from [] if each else ["drain"]
+
+
+def round_of(shape, number, nodes, active):
+    if shape in ("data", "stardata"):
+        return [*(f"do {superior(shape, node)} data {node} 00112233" for node in range(2, nodes + 1)), "drain"]
+    if shape == "kept":
+        asked = ["do 1 begin-transaction 2", "drain", "do 1 commit", "drain", "do 2 commit", "heur 2 rollback", "drain"]
+        return [*asked, "do 1 done", "drain", "do 2 done", "drain"]
+    if shape == "refused":
+        return ["do 1 done"] * 5
+    if shape == "passstuck":
+        return [*(["do 1 data 2 00"] if number == 0 else []), "do 1 data 3 00", "pass 1 3"]
+    return list(commitment(shape, active))
+
+
+def schedule(shape, nodes, rounds):
+    nodes = {"pair": 2, "kept": 2, "passstuck": 3}.get(shape, nodes)
+    active = 2 if shape == "idle" else nodes
+    lines = [*opening(shape, nodes, active)]
+    for number in range(rounds):
+        lines += round_of(shape, number, nodes, active)
+    return "\n".join(lines) + "\n"
+
+
+def instructions(program, file):
+    with tempfile.TemporaryDirectory() as room, open(file) as given:
+        words = ["valgrind", "--tool=callgrind", f"--callgrind-out-file={room}/out", program, "replay"]
+        ran = subprocess.run(words, stdin=given, stdout=subprocess.DEVNULL, stderr=subprocess.PIPE, text=True)
+    found = [line for line in ran.stderr.split("\n") if "Collected" in line]
+    return int(found[0].split(":")[1].replace(",", "")) if found else None
+
+
+def once(program, file):
+    """Processor seconds and peak memory in MB of one run, in a process of its own so that the peak is its own."""
+    reads, writes = os.pipe()
+    child = os.fork()
+    if child == 0:
+        with open(file) as given:
+            subprocess.run([program, "replay"], stdin=given, stdout=subprocess.DEVNULL)
+        use = resource.getrusage(resource.RUSAGE_CHILDREN)
+        os.write(writes, f"{use.ru_utime + use.ru_stime} {use.ru_maxrss / 1024}".encode())
+        os._exit(0)
+    os.waitpid(child, 0)
+    os.close(writes)
+    with os.fdopen(reads) as told:
+        return tuple(float(word) for word in told.read().split())
+
+
+def measure(program, shape, nodes, rounds):
+    with tempfile.NamedTemporaryFile("w", suffix=".schedule") as file:
+        file.write(schedule(shape, nodes, rounds))
+        file.flush()
+        counted = instructions(program, file.name)
+        runs = [once(program, file.name) for _ in range(5)]
+    shown = f"{counted / 1e6:10.1f} M" if counted else "  (no valgrind)"
+    print(f"{shape} {nodes} {rounds}:{shown} instructions, {min(t for t, _ in runs):.3f} s, {min(m for _, m in runs):.1f} MB", flush=True)
+
+
+def main(words):
+    if words[:1] == ["--write"] and len(words) == 4:
+        sys.stdout.write(schedule(words[1], int(words[2]), int(words[3])))
+        return
+    top = os.path.dirname(os.path.dirname(os.path.abspath(__file__)))
+    program = os.environ.get("TPNODE", f"{top}/crates/tpnode/out/tpnode")
+    if not os.path.isfile(program):
+        sys.exit(f"{program} is not built: `rt run` in crates/tpnode, or name a binary in TPNODE")
+    table = [(words[0], int(words[1]), int(words[2]))] if len(words) == 3 else TABLE
+    for shape, nodes, rounds in table:
+        measure(program, shape, nodes, rounds)
+
+
+if __name__ == "__main__":
+    main(sys.argv[1:])
