@@ -1,4 +1,4 @@
-//! The value after the lock: a journal, the books of two ledgers, and the first record that had no room.
+//! The value behind the lock: a journal, the books of two ledgers, and the first record that had no room.
 //!
 //! Each call is one step on the log; who takes the lock is no matter of this file.
 ghost use Rattle.std.specs.Prelude.{◌≡◌, ◌<◌, ◌≤◌, ◌+◌, ◌||◌, true, length, is_some, None, Some, IfOk, IfErr, OnOk, OnErr};
