@@ -4,7 +4,7 @@ use std::alloc::Global;
 use std::test::Fail;
 use tp_logrec::LogRec;
 use tp_names::{Addr, Children, NodeKey, Octets};
-use tp_schedule::{write_aaid, write_key, write_rec};
+use tp_transcript::{write_aaid, write_key, write_rec};
 
 #[test]
 fn identifiers(rt: HostRuntime) -> Result<(), Fail> {

@@ -5,7 +5,7 @@ use std::alloc::Global;
 use std::process::Abort;
 use std::test::Fail;
 use tp_names::Octets;
-use tp_schedule::{read_out, write_out};
+use tp_transcript::{read_out, write_out};
 
 /// Records of logs.
 const LOGS: [&str; 16] = [

@@ -2,7 +2,8 @@
 use std::alloc::Global;
 use std::process::Abort;
 use std::test::Fail;
-use tp_schedule::{LineFault, read_out};
+use tp_schedule::LineFault;
+use tp_transcript::read_out;
 
 fn none_reads(rt: &impl Abort, alloc: Global, texts: &[&str]) -> Result<(), Fail> {
     for text in texts {

@@ -6,7 +6,7 @@ use std::test::Fail;
 use tp_model::{LogWords, NodeNumbers, OutLine, PhaseWord, RecordFate, SentWords};
 use tp_names::{Aaid, BranchId, NodeKey, Octets, Outcome, Report, SiteName};
 use tp_records::{DialogueRecord, Holder, Indication, RecState};
-use tp_schedule::write_out;
+use tp_transcript::write_out;
 use tp_units::Units;
 
 /// Each line has the text beside it, which goes after what stood there.

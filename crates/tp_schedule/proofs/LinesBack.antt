@@ -12,7 +12,7 @@ use Rattle.tp_model.specs.Words.{decimal, hex, octets_word, units_word, outcome_
 use Rattle.tp_model.specs.LineText.{request_words, stop_words, line_words, line_text}
 use Rattle.tp_model.specs.LineReading.{Form, Well, Reading, Blank, Faulty, Says, says, with, both, number, number_in, units, octets, outcome, site, fill, read_by, request_readers, stop_readers, line_readers, read_words, read_line, is_comment, words_in}
 use Rattle.tp_schedule.specs.HasText.{is_number, is_byte, are_units, are_octets, request_has_text, stop_has_text, under_has_text, line_has_text}
-use Rattle.tp_schedule.proofs.Back.{is_plain, all_plain, words_back, number_in_back, decimal_plain, decimal_short, octets_plain, octets_short, octets_back, fill_back, fill_plain, units_back, units_plain, units_short, site_plain, site_short, site_back}
+use Rattle.tp_schedule.proofs.lemmas.Back.{is_plain, all_plain, words_back, number_in_back, decimal_plain, decimal_short, octets_plain, octets_short, octets_back, fill_back, fill_plain, units_back, units_plain, units_short, site_plain, site_short, site_back}
 
 -- ---- tests in parts
 

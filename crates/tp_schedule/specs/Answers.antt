@@ -11,7 +11,7 @@ read_as Wrong = Err LineFault.Word
 read_as Outside = Err LineFault.Number
 read_as (Well a) = Ok a
 
--- the second answer, unless the first is that memory was wanting
+-- the second answer, unless the first is out of memory
 abbrev pub unless_memory : {A : Type 0} → Result A LineFault → Result A LineFault → Result A LineFault
 unless_memory (Ok a) s = s
 unless_memory (Err LineFault.Long) s = s
@@ -19,11 +19,11 @@ unless_memory (Err LineFault.Word) s = s
 unless_memory (Err LineFault.Number) s = s
 unless_memory (Err LineFault.NoMemory) s = Err LineFault.NoMemory
 
--- r is what reading gives, unless memory was wanting
+-- r is what reading gives, unless out of memory
 abbrev pub Reads : {A : Type 0} → Form A → Result A LineFault → Type 0
 Reads f r = r ≡ unless_memory r (read_as f)
 
--- what an answer says of a line; that memory was wanting says nothing
+-- what an answer says of a line; out of memory says nothing
 abbrev pub answered : Result (Option Line) LineFault → Option Reading
 answered (Ok None) = Some Blank
 answered (Ok (Some l)) = Some (Says l)
@@ -66,20 +66,6 @@ pair_alone [] = None
 pair_alone (v ∷ []) = None
 pair_alone (v ∷ w ∷ []) = Some (v, w)
 pair_alone (v ∷ w ∷ x ∷ ws) = None
-
-abbrev pub three_alone : List (List ℕ) → Option (List ℕ × List ℕ × List ℕ)
-three_alone [] = None
-three_alone (u ∷ []) = None
-three_alone (u ∷ v ∷ []) = None
-three_alone (u ∷ v ∷ w ∷ []) = Some (u, v, w)
-three_alone (u ∷ v ∷ w ∷ x ∷ ws) = None
-
--- the first three
-abbrev pub three_front : List (List ℕ) → Option (List ℕ × List ℕ × List ℕ)
-three_front [] = None
-three_front (u ∷ []) = None
-three_front (u ∷ v ∷ []) = None
-three_front (u ∷ v ∷ w ∷ ws) = Some (u, v, w)
 
 -- ---- numerals
 

@@ -8,7 +8,13 @@ use Rattle.tp_model.specs.declared.line.Line.{Line}
 use Rattle.tp_model.specs.LineReading.{Form, Wrong, no_words, one_word, two_words, number, units, octets, outcome, site, do_from, node_from, crash_from}
 use Rattle.tp_schedule.specs.declared.schedule_words.LineWord.{LineWord}
 use Rattle.tp_schedule.specs.declared.schedule_words.StopWord.{StopWord}
+use Rattle.tp_schedule.specs.declared.schedule_words.PeerRequest.{PeerRequest}
 use Rattle.tp_schedule.specs.declared.schedule_words.RequestWord.{RequestWord}
+
+-- the value of the first entry of a table whose text is w
+abbrev pub found : {E K : Type 0} → List E → (E → List ℕ) → (E → K) → List ℕ → Option K
+found [] text value w = None
+found (e ∷ es) text value w = elim (is_name (text e) w) [ true ↦ Some (value e) | false ↦ found es text value w ]
 
 -- the first of the values whose text is w
 abbrev pub named : {K : Type 0} → (K → List ℕ) → List K → List ℕ → Option K
@@ -118,19 +124,19 @@ abbrev pub request_word_text : RequestWord → List ℕ
 request_word_text RequestWord.BeginDialogue = codes "begin-dialogue"
 request_word_text RequestWord.Accept = codes "accept"
 request_word_text RequestWord.Reject = codes "reject"
-request_word_text RequestWord.EndDialogue = codes "end-dialogue"
+request_word_text (RequestWord.OfPeer PeerRequest.EndDialogue) = codes "end-dialogue"
 request_word_text RequestWord.UserData = codes "data"
-request_word_text RequestWord.UError = codes "u-error"
-request_word_text RequestWord.UAbort = codes "u-abort"
-request_word_text RequestWord.Grant = codes "grant-control"
-request_word_text RequestWord.AskControl = codes "request-control"
-request_word_text RequestWord.Handshake = codes "handshake"
-request_word_text RequestWord.Respond = codes "respond"
-request_word_text RequestWord.HandshakeGrant = codes "handshake-and-grant"
-request_word_text RequestWord.BeginTransaction = codes "begin-transaction"
-request_word_text RequestWord.DeferEnd = codes "deferred-end"
-request_word_text RequestWord.DeferGrant = codes "deferred-grant"
-request_word_text RequestWord.Prepare = codes "prepare"
+request_word_text (RequestWord.OfPeer PeerRequest.UError) = codes "u-error"
+request_word_text (RequestWord.OfPeer PeerRequest.UAbort) = codes "u-abort"
+request_word_text (RequestWord.OfPeer PeerRequest.Grant) = codes "grant-control"
+request_word_text (RequestWord.OfPeer PeerRequest.AskControl) = codes "request-control"
+request_word_text (RequestWord.OfPeer PeerRequest.Handshake) = codes "handshake"
+request_word_text (RequestWord.OfPeer PeerRequest.Respond) = codes "respond"
+request_word_text (RequestWord.OfPeer PeerRequest.HandshakeGrant) = codes "handshake-and-grant"
+request_word_text (RequestWord.OfPeer PeerRequest.BeginTransaction) = codes "begin-transaction"
+request_word_text (RequestWord.OfPeer PeerRequest.DeferEnd) = codes "deferred-end"
+request_word_text (RequestWord.OfPeer PeerRequest.DeferGrant) = codes "deferred-grant"
+request_word_text (RequestWord.OfPeer PeerRequest.Prepare) = codes "prepare"
 request_word_text RequestWord.Commit = codes "commit"
 request_word_text RequestWord.Done = codes "done"
 request_word_text RequestWord.Rollback = codes "rollback"
@@ -141,43 +147,46 @@ request_word_list =
     RequestWord.BeginDialogue
     ∷ RequestWord.Accept
     ∷ RequestWord.Reject
-    ∷ RequestWord.EndDialogue
+    ∷ RequestWord.OfPeer PeerRequest.EndDialogue
     ∷ RequestWord.UserData
-    ∷ RequestWord.UError
-    ∷ RequestWord.UAbort
-    ∷ RequestWord.Grant
-    ∷ RequestWord.AskControl
-    ∷ RequestWord.Handshake
-    ∷ RequestWord.Respond
-    ∷ RequestWord.HandshakeGrant
-    ∷ RequestWord.BeginTransaction
-    ∷ RequestWord.DeferEnd
-    ∷ RequestWord.DeferGrant
-    ∷ RequestWord.Prepare
+    ∷ RequestWord.OfPeer PeerRequest.UError
+    ∷ RequestWord.OfPeer PeerRequest.UAbort
+    ∷ RequestWord.OfPeer PeerRequest.Grant
+    ∷ RequestWord.OfPeer PeerRequest.AskControl
+    ∷ RequestWord.OfPeer PeerRequest.Handshake
+    ∷ RequestWord.OfPeer PeerRequest.Respond
+    ∷ RequestWord.OfPeer PeerRequest.HandshakeGrant
+    ∷ RequestWord.OfPeer PeerRequest.BeginTransaction
+    ∷ RequestWord.OfPeer PeerRequest.DeferEnd
+    ∷ RequestWord.OfPeer PeerRequest.DeferGrant
+    ∷ RequestWord.OfPeer PeerRequest.Prepare
     ∷ RequestWord.Commit
     ∷ RequestWord.Done
     ∷ RequestWord.Rollback
     ∷ RequestWord.Unchanged
     ∷ []
 
+abbrev pub request_of_peer : PeerRequest → ℕ → LineRequest
+request_of_peer PeerRequest.EndDialogue = LineRequest.EndDialogue
+request_of_peer PeerRequest.UError = LineRequest.UError
+request_of_peer PeerRequest.UAbort = LineRequest.UAbort
+request_of_peer PeerRequest.Grant = LineRequest.Grant
+request_of_peer PeerRequest.AskControl = LineRequest.AskControl
+request_of_peer PeerRequest.Handshake = LineRequest.Handshake
+request_of_peer PeerRequest.Respond = LineRequest.Respond
+request_of_peer PeerRequest.HandshakeGrant = LineRequest.HandshakeGrant
+request_of_peer PeerRequest.BeginTransaction = LineRequest.BeginTransaction
+request_of_peer PeerRequest.DeferEnd = LineRequest.DeferEnd
+request_of_peer PeerRequest.DeferGrant = LineRequest.DeferGrant
+request_of_peer PeerRequest.Prepare = LineRequest.Prepare
+
 abbrev pub request_reader : RequestWord → List (List ℕ) → Form LineRequest
 request_reader RequestWord.BeginDialogue = two_words LineRequest.BeginDialogue number units
 request_reader RequestWord.Accept = one_word LineRequest.Accept units
 request_reader RequestWord.Reject = no_words LineRequest.Reject
-request_reader RequestWord.EndDialogue = one_word LineRequest.EndDialogue number
 request_reader RequestWord.UserData = two_words LineRequest.UserData number octets
-request_reader RequestWord.UError = one_word LineRequest.UError number
-request_reader RequestWord.UAbort = one_word LineRequest.UAbort number
-request_reader RequestWord.Grant = one_word LineRequest.Grant number
-request_reader RequestWord.AskControl = one_word LineRequest.AskControl number
-request_reader RequestWord.Handshake = one_word LineRequest.Handshake number
-request_reader RequestWord.Respond = one_word LineRequest.Respond number
-request_reader RequestWord.HandshakeGrant = one_word LineRequest.HandshakeGrant number
-request_reader RequestWord.BeginTransaction = one_word LineRequest.BeginTransaction number
-request_reader RequestWord.DeferEnd = one_word LineRequest.DeferEnd number
-request_reader RequestWord.DeferGrant = one_word LineRequest.DeferGrant number
-request_reader RequestWord.Prepare = one_word LineRequest.Prepare number
 request_reader RequestWord.Commit = no_words LineRequest.Commit
 request_reader RequestWord.Done = no_words LineRequest.Done
 request_reader RequestWord.Rollback = no_words LineRequest.Rollback
 request_reader RequestWord.Unchanged = no_words LineRequest.Unchanged
+request_reader (RequestWord.OfPeer k) = one_word (request_of_peer k) number

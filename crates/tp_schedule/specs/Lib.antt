@@ -5,7 +5,3 @@ pub mod HasText
 pub mod AtHand
 pub mod LinesLeft
 pub mod LineCut
-pub mod OutHasText
-pub mod OutKinds
-pub mod OutWords
-pub mod OutReading

@@ -2,16 +2,18 @@
 ghost use Rattle.std.specs.Prelude.{◌≡◌, ◌∷◌, length, IfSome};
 ghost use Rattle.tp_model.specs.LineReading.{words_in, number, outcome, two_words, one_word, do_from, node_from, node_under, crash_from, crash_in, read_by, request_readers, stop_readers, line_readers, is_comment, read_line};
 ghost use Rattle.tp_schedule.specs.Answers.{read_as, Reads, pair, same, answered};
-ghost use Rattle.tp_schedule.specs.Keywords.{request_reader, stop_reader, line_reader};
+ghost use Rattle.tp_schedule.specs.Keywords.{request_of_peer, request_reader, stop_reader, line_reader};
 ghost use Rattle.tp_schedule.specs.declared.schedule_words.LineWord.{LineWord};
 ghost use Rattle.tp_schedule.specs.declared.schedule_words.RequestWord.{RequestWord};
 
 use crate::LineFault;
-use crate::cutting::{next_word, no_word, only_pair, only_word};
-use crate::schedule_words::{LineWord, RequestWord, StopWord, line_word, request_word, stop_word};
+use crate::cutting::{if_no_word, next_word, only_pair, only_word};
+use crate::schedule_words::{
+    LineWord, PeerRequest, RequestWord, StopWord, line_word, request_word, stop_word,
+};
 use crate::value::{
-    both, is_word, read_call, read_fill, read_number, read_octets, read_outcome, read_site,
-    read_units,
+    both, is_word, one_number, read_call, read_fill, read_number, read_octets, read_outcome,
+    read_site, read_units,
 };
 use std::alloc::Global;
 use tp_model::{Line, LineRequest, StopLine};
@@ -63,23 +65,48 @@ fn read_line_of(alloc: Global, kind: LineWord, rest: &[u8]) -> Result<Line, Line
             let (node, request) = read_do(alloc, rest)?;
             Ok(Line::Do { node, request })
         }
-        LineWord::Pass => two_numbers(rest).map(|(from, to)| Line::Pass { from, to }),
-        LineWord::Skip => two_numbers(rest).map(|(from, to)| Line::Skip { from, to }),
-        LineWord::Again => one_number(rest).map(|frame| Line::Again { frame }),
-        LineWord::Drain => no_word(rest).map(|()| Line::Drain),
-        LineWord::Lose => two_numbers(rest).map(|(node, peer)| Line::Lose { node, peer }),
-        LineWord::Heur => number_and_outcome(rest).map(|(node, outcome)| Line::Heur {
-            node,
-            outcome,
+        LineWord::Pass => {
+            let (from, to) = two_numbers(rest)?;
+            Ok(Line::Pass { from, to })
+        }
+        LineWord::Skip => {
+            let (from, to) = two_numbers(rest)?;
+            Ok(Line::Skip { from, to })
+        }
+        LineWord::Again => Ok(Line::Again {
+            frame: one_number(rest)?,
         }),
-        LineWord::GiveUp => two_numbers(rest).map(|(node, peer)| Line::GiveUp { node, peer }),
-        LineWord::Retry => one_number(rest).map(|node| Line::Retry { node }),
-        LineWord::Purge => one_number(rest).map(|node| Line::Purge { node }),
+        LineWord::Drain => if_no_word(rest, Line::Drain),
+        LineWord::Lose => {
+            let (node, peer) = two_numbers(rest)?;
+            Ok(Line::Lose { node, peer })
+        }
+        LineWord::Heur => {
+            let (node, outcome) = number_and_outcome(rest)?;
+            Ok(Line::Heur { node, outcome })
+        }
+        LineWord::GiveUp => {
+            let (node, peer) = two_numbers(rest)?;
+            Ok(Line::GiveUp { node, peer })
+        }
+        LineWord::Retry => Ok(Line::Retry {
+            node: one_number(rest)?,
+        }),
+        LineWord::Purge => Ok(Line::Purge {
+            node: one_number(rest)?,
+        }),
         LineWord::Crash => read_crash(alloc, rest),
-        LineWord::Show => one_number(rest).map(|node| Line::Show { node }),
+        LineWord::Show => Ok(Line::Show {
+            node: one_number(rest)?,
+        }),
         LineWord::Image => read_image(rest),
-        LineWord::Auto => two_numbers(rest).map(|(node, member)| Line::Auto { node, member }),
-        LineWord::Leave => one_number(rest).map(|member| Line::Leave { member }),
+        LineWord::Auto => {
+            let (node, member) = two_numbers(rest)?;
+            Ok(Line::Auto { node, member })
+        }
+        LineWord::Leave => Ok(Line::Leave {
+            member: one_number(rest)?,
+        }),
     }
 }
 
@@ -103,16 +130,31 @@ fn read_stop_of(alloc: Global, kind: StopWord, rest: &[u8]) -> Result<StopLine, 
             let (node, request) = read_do(alloc, rest)?;
             Ok(StopLine::Do { node, request })
         }
-        StopWord::Pass => two_numbers(rest).map(|(from, to)| StopLine::Pass { from, to }),
-        StopWord::Again => one_number(rest).map(|frame| StopLine::Again { frame }),
-        StopWord::Lose => two_numbers(rest).map(|(node, peer)| StopLine::Lose { node, peer }),
-        StopWord::Heur => number_and_outcome(rest).map(|(node, outcome)| StopLine::Heur {
-            node,
-            outcome,
+        StopWord::Pass => {
+            let (from, to) = two_numbers(rest)?;
+            Ok(StopLine::Pass { from, to })
+        }
+        StopWord::Again => Ok(StopLine::Again {
+            frame: one_number(rest)?,
         }),
-        StopWord::GiveUp => two_numbers(rest).map(|(node, peer)| StopLine::GiveUp { node, peer }),
-        StopWord::Retry => one_number(rest).map(|node| StopLine::Retry { node }),
-        StopWord::Purge => one_number(rest).map(|node| StopLine::Purge { node }),
+        StopWord::Lose => {
+            let (node, peer) = two_numbers(rest)?;
+            Ok(StopLine::Lose { node, peer })
+        }
+        StopWord::Heur => {
+            let (node, outcome) = number_and_outcome(rest)?;
+            Ok(StopLine::Heur { node, outcome })
+        }
+        StopWord::GiveUp => {
+            let (node, peer) = two_numbers(rest)?;
+            Ok(StopLine::GiveUp { node, peer })
+        }
+        StopWord::Retry => Ok(StopLine::Retry {
+            node: one_number(rest)?,
+        }),
+        StopWord::Purge => Ok(StopLine::Purge {
+            node: one_number(rest)?,
+        }),
     }
 }
 
@@ -145,37 +187,32 @@ fn read_request_of(alloc: Global, kind: RequestWord, rest: &[u8]) -> Result<Line
     match kind {
         RequestWord::BeginDialogue => read_begin(rest),
         RequestWord::Accept => read_accept(rest),
-        RequestWord::Reject => no_word(rest).map(|()| LineRequest::Reject),
-        RequestWord::EndDialogue => one_number(rest).map(|peer| LineRequest::EndDialogue { peer }),
+        RequestWord::Reject => if_no_word(rest, LineRequest::Reject),
         RequestWord::UserData => read_data(alloc, rest),
-        RequestWord::UError => one_number(rest).map(|peer| LineRequest::UError { peer }),
-        RequestWord::UAbort => one_number(rest).map(|peer| LineRequest::UAbort { peer }),
-        RequestWord::Grant => one_number(rest).map(|peer| LineRequest::Grant { peer }),
-        RequestWord::AskControl => one_number(rest).map(|peer| LineRequest::AskControl { peer }),
-        RequestWord::Handshake => one_number(rest).map(|peer| LineRequest::Handshake { peer }),
-        RequestWord::Respond => one_number(rest).map(|peer| LineRequest::Respond { peer }),
-        RequestWord::HandshakeGrant => one_number(rest).map(|peer| LineRequest::HandshakeGrant {
-            peer,
-        }),
-        RequestWord::BeginTransaction => one_number(rest).map(|peer| LineRequest::BeginTransaction {
-            peer,
-        }),
-        RequestWord::DeferEnd => one_number(rest).map(|peer| LineRequest::DeferEnd { peer }),
-        RequestWord::DeferGrant => one_number(rest).map(|peer| LineRequest::DeferGrant { peer }),
-        RequestWord::Prepare => one_number(rest).map(|peer| LineRequest::Prepare { peer }),
-        RequestWord::Commit => no_word(rest).map(|()| LineRequest::Commit),
-        RequestWord::Done => no_word(rest).map(|()| LineRequest::Done),
-        RequestWord::Rollback => no_word(rest).map(|()| LineRequest::Rollback),
-        RequestWord::Unchanged => no_word(rest).map(|()| LineRequest::Unchanged),
+        RequestWord::Commit => if_no_word(rest, LineRequest::Commit),
+        RequestWord::Done => if_no_word(rest, LineRequest::Done),
+        RequestWord::Rollback => if_no_word(rest, LineRequest::Rollback),
+        RequestWord::Unchanged => if_no_word(rest, LineRequest::Unchanged),
+        RequestWord::OfPeer(kind) => Ok(request_of_peer(kind, one_number(rest)?)),
     }
 }
 
-pub(crate) fn one_number(rest: &[u8]) -> Result<u16, LineFault>
-    ensures { result ≡ read_as (one_word same number (words_in rest.now)) }
+fn request_of_peer(kind: PeerRequest, peer: u16) -> LineRequest
+    ensures { result ≡ request_of_peer kind peer }
 {
-    match only_word(rest) {
-        None => Err(LineFault::Word),
-        Some(word) => read_number(word),
+    match kind {
+        PeerRequest::EndDialogue => LineRequest::EndDialogue { peer },
+        PeerRequest::UError => LineRequest::UError { peer },
+        PeerRequest::UAbort => LineRequest::UAbort { peer },
+        PeerRequest::Grant => LineRequest::Grant { peer },
+        PeerRequest::AskControl => LineRequest::AskControl { peer },
+        PeerRequest::Handshake => LineRequest::Handshake { peer },
+        PeerRequest::Respond => LineRequest::Respond { peer },
+        PeerRequest::HandshakeGrant => LineRequest::HandshakeGrant { peer },
+        PeerRequest::BeginTransaction => LineRequest::BeginTransaction { peer },
+        PeerRequest::DeferEnd => LineRequest::DeferEnd { peer },
+        PeerRequest::DeferGrant => LineRequest::DeferGrant { peer },
+        PeerRequest::Prepare => LineRequest::Prepare { peer },
     }
 }
 

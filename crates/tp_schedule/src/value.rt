@@ -1,10 +1,11 @@
 //! What a word of a line says: a number, octets, units, a site, an outcome.
 ghost use Rattle.std.specs.Prelude.{◌≡◌, ◌<◌, ◌≤◌, IfOk, IfSome, length, replicate};
 ghost use Rattle.tp_names.specs.Same.{is_name};
-ghost use Rattle.tp_model.specs.LineReading.{is_digit, value_from, numeral, number_in, number, hex_value, hex_octets, run_octets, octets, units_from, units, site, outcome, fill, form_of, Well};
-ghost use Rattle.tp_schedule.specs.Answers.{read_as, Reads, both_answers, capped, few_of, hex_fault, has_capital, bits_of};
+ghost use Rattle.tp_model.specs.LineReading.{words_in, one_word, is_digit, value_from, numeral, number_in, number, hex_value, hex_octets, run_octets, octets, units_from, units, site, outcome, fill, form_of, Well};
+ghost use Rattle.tp_schedule.specs.Answers.{read_as, Reads, same, both_answers, capped, few_of, hex_fault, has_capital, bits_of};
 
 use crate::LineFault;
+use crate::cutting::only_word;
 use crate::digits::UNIT_LETTERS;
 use hex::FromHexError;
 use std::alloc::Global;
@@ -17,7 +18,7 @@ const MAX_OCTETS: usize = 2000;
 const LARGE: u32 = 65536;
 
 /// Both values, or the fault that goes first: a wrong form before a number outside its range.
-pub(crate) fn both<A: Drop, B: Drop>(
+pub fn both<A: Drop, B: Drop>(
     first: Result<A, LineFault>,
     second: Result<B, LineFault>,
 ) -> Result<(A, B), LineFault>
@@ -32,21 +33,31 @@ pub(crate) fn both<A: Drop, B: Drop>(
 }
 
 /// Whether the word is this one.
-pub(crate) fn is_word(word: &[u8], text: &str) -> bool
+pub fn is_word(word: &[u8], text: &str) -> bool
     ensures { result ≡ is_name text.now word.now }
 {
     text.as_bytes() == word
 }
 
 /// A node, a frame or a member: 1 to 65535.
-pub(crate) fn read_number(word: &[u8]) -> Result<u16, LineFault>
+pub fn read_number(word: &[u8]) -> Result<u16, LineFault>
     ensures { result ≡ read_as (number word.now) }
 {
     read_number_in(1, u16::MAX, word)
 }
 
+/// The number, where there is one word alone.
+pub fn one_number(rest: &[u8]) -> Result<u16, LineFault>
+    ensures { result ≡ read_as (one_word same number (words_in rest.now)) }
+{
+    match only_word(rest) {
+        None => Err(LineFault::Word),
+        Some(word) => read_number(word),
+    }
+}
+
 /// The number of a changing call: 1 to 99.
-pub(crate) fn read_call(word: &[u8]) -> Result<u8, LineFault>
+pub fn read_call(word: &[u8]) -> Result<u8, LineFault>
     ensures { result ≡ read_as (number_in 1 99 word.now) }
 {
     let call = read_number_in(1, 99, word)?;
@@ -54,7 +65,7 @@ pub(crate) fn read_call(word: &[u8]) -> Result<u8, LineFault>
 }
 
 /// A numeral without leading zeros, from `least` to `most`.
-pub(crate) fn read_number_in(least: u16, most: u16, word: &[u8]) -> Result<u16, LineFault>
+pub fn read_number_in(least: u16, most: u16, word: &[u8]) -> Result<u16, LineFault>
     ensures value { result ≡ read_as (number_in least most word.now) }
     ensures within { IfOk result (λ n. n ≤ most) }
 {
@@ -92,14 +103,15 @@ fn value_of(digits: &[u8]) -> Option<u32>
     Some(value)
 }
 
-pub(crate) fn is_digit(byte: u8) -> bool
+/// Whether the byte is a digit of a numeral.
+pub fn is_digit(byte: u8) -> bool
     ensures { result ≡ is_digit byte }
 {
     matches!(byte, b'0'..=b'9')
 }
 
 /// `-`, pairs of digits, or a pair of digits, `*` and a count; 2,000 octets at most.
-pub(crate) fn read_octets(alloc: Global, word: &[u8]) -> Result<Octets, LineFault>
+pub fn read_octets(alloc: Global, word: &[u8]) -> Result<Octets, LineFault>
     ensures { Reads (octets word.now) result }
 {
     if is_word(word, "-") {
@@ -142,7 +154,7 @@ fn read_few(alloc: Global, word: &[u8]) -> Result<Octets, LineFault>
 }
 
 /// Pairs of lower-case digits.
-pub(crate) fn read_hex(alloc: Global, word: &[u8]) -> Result<Octets, LineFault>
+pub fn read_hex(alloc: Global, word: &[u8]) -> Result<Octets, LineFault>
     ensures { Reads (form_of (hex_octets word.now)) result }
 {
     if has_capital(word) {
@@ -176,7 +188,7 @@ fn has_capital(word: &[u8]) -> bool
 }
 
 /// One pair of digits.
-pub(crate) fn read_fill(word: &[u8]) -> Result<u8, LineFault>
+pub fn read_fill(word: &[u8]) -> Result<u8, LineFault>
     ensures { result ≡ read_as (fill word.now) }
 {
     if word.len() != 2 {
@@ -200,7 +212,7 @@ fn hex_value(byte: u8) -> Option<u8>
 }
 
 /// Letters of units in their order, one at least.
-pub(crate) fn read_units(word: &[u8]) -> Result<u8, LineFault>
+pub fn read_units(word: &[u8]) -> Result<u8, LineFault>
     ensures { result ≡ read_as (units word.now) }
 {
     if word.is_empty() {
@@ -232,7 +244,7 @@ fn units_from(letters: &[(u8, u8)], word: &[u8]) -> Option<u8>
 }
 
 /// A site's name.
-pub(crate) fn read_site(word: &[u8]) -> Result<SiteName, LineFault>
+pub fn read_site(word: &[u8]) -> Result<SiteName, LineFault>
     ensures { result ≡ read_as (site word.now) }
 {
     match SiteName::new(word) {
@@ -242,7 +254,7 @@ pub(crate) fn read_site(word: &[u8]) -> Result<SiteName, LineFault>
 }
 
 /// `commit` or `rollback`.
-pub(crate) fn read_outcome(word: &[u8]) -> Result<Outcome, LineFault>
+pub fn read_outcome(word: &[u8]) -> Result<Outcome, LineFault>
     ensures { result ≡ read_as (outcome word.now) }
 {
     if is_word(word, "commit") {

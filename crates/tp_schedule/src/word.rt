@@ -13,7 +13,7 @@ use tp_records::Holder;
 
 /// What a word is written for.
 #[derive(Clone, Copy)]
-pub(crate) enum Word<'a> {
+pub enum Word<'a> {
     Text(&'a str),
     Short(u16),
     Long(u64),
@@ -35,7 +35,7 @@ pub(crate) enum Word<'a> {
 }
 
 /// Words with a space between them.
-pub(crate) fn write_words(alloc: Global, list: &[Word], out: &mut Octets) -> Result<(), NoMemory>
+pub fn write_words(alloc: Global, list: &[Word], out: &mut Octets) -> Result<(), NoMemory>
     ensures ok { OnOk result (out.new ≡ out.old ++ words (word_texts list.now)) }
     ensures err { OnErr result (Keeps out.old out.new) }
 {
@@ -52,7 +52,7 @@ pub(crate) fn write_words(alloc: Global, list: &[Word], out: &mut Octets) -> Res
 }
 
 /// A word alone.
-pub(crate) fn write_alone(alloc: Global, word: &str, out: &mut Octets) -> Result<(), NoMemory>
+pub fn write_alone(alloc: Global, word: &str, out: &mut Octets) -> Result<(), NoMemory>
     ensures ok { OnOk result (out.new ≡ out.old ++ words (word.now ∷ [])) }
     ensures err { OnErr result (Keeps out.old out.new) }
 {
@@ -60,7 +60,7 @@ pub(crate) fn write_alone(alloc: Global, word: &str, out: &mut Octets) -> Result
 }
 
 /// A word, and one number.
-pub(crate) fn write_one(alloc: Global, word: &str, n: u16, out: &mut Octets) -> Result<(), NoMemory>
+pub fn write_one(alloc: Global, word: &str, n: u16, out: &mut Octets) -> Result<(), NoMemory>
     ensures ok { OnOk result (out.new ≡ out.old ++ words (word.now ∷ decimal n ∷ [])) }
     ensures err { OnErr result (Keeps out.old out.new) }
 {
@@ -68,7 +68,7 @@ pub(crate) fn write_one(alloc: Global, word: &str, n: u16, out: &mut Octets) -> 
 }
 
 /// A word, and two numbers.
-pub(crate) fn write_two(
+pub fn write_two(
     alloc: Global,
     word: &str,
     m: u16,
@@ -145,7 +145,7 @@ fn outcome_text(outcome: Outcome) -> &'static str
     }
 }
 
-pub(crate) fn report_text(report: Report) -> &'static str
+fn report_text(report: Report) -> &'static str
     ensures { result.now ≡ report_word report }
 {
     match report {
@@ -155,7 +155,7 @@ pub(crate) fn report_text(report: Report) -> &'static str
     }
 }
 
-pub(crate) fn holder_text(holder: Holder) -> &'static str
+fn holder_text(holder: Holder) -> &'static str
     ensures { result.now ≡ holder_word holder }
 {
     match holder {
@@ -165,7 +165,7 @@ pub(crate) fn holder_text(holder: Holder) -> &'static str
     }
 }
 
-pub(crate) fn phase_text(phase: PhaseWord) -> &'static str
+fn phase_text(phase: PhaseWord) -> &'static str
     ensures { result.now ≡ phase_word phase }
 {
     match phase {
@@ -178,7 +178,7 @@ pub(crate) fn phase_text(phase: PhaseWord) -> &'static str
     }
 }
 
-pub(crate) fn fate_text(fate: RecordFate) -> &'static str
+fn fate_text(fate: RecordFate) -> &'static str
     ensures { result.now ≡ fate_word fate }
 {
     match fate {

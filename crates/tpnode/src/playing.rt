@@ -12,7 +12,8 @@ use crate::status::{BadLine, Status};
 use std::alloc::Global;
 use tp_model::{Line, OutLines, Why};
 use tp_names::{NoMemory, Octets};
-use tp_schedule::{LineFault, read_line, write_out};
+use tp_schedule::{LineFault, read_line};
+use tp_transcript::write_out;
 use tp_world::{World, WorldFault};
 
 /// The text of these lines, each with its end.

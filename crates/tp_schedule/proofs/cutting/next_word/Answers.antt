@@ -1,6 +1,6 @@
 use Rattle.std.proofs.Common.{◌<◌, length, ap, ◌∙◌, arith, length-drop, eqb-true, sym}
 use Rattle.std.proofs.lemmas.Bool.Decides.{nat_tests}
-use Rattle.tp_schedule.proofs.Cut.{no_word_left, word_behind, to_the_end}
+use Rattle.tp_schedule.proofs.lemmas.Cut.{no_word_left, word_behind, to_the_end}
 use Rattle.tp_schedule.proofs.cutting.next_word.Goals as goal
 
 pub returns-then-is_empty : goal.returns-then-is_empty

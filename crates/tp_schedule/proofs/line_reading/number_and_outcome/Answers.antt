@@ -1,7 +1,7 @@
 use Rattle.std.proofs.Common.{ap, sym, ◌∙◌}
 use Rattle.tp_model.specs.LineReading.{number, outcome, words_in}
 use Rattle.tp_schedule.specs.Answers.{pair, read_as}
-use Rattle.tp_schedule.proofs.Readings.{both_plain, two_alone}
+use Rattle.tp_schedule.proofs.lemmas.Readings.{both_plain, two_alone}
 use Rattle.tp_schedule.proofs.line_reading.number_and_outcome.Goals as goal
 
 pub returns-in-Some : goal.returns-in-Some

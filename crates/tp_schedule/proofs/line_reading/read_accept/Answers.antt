@@ -1,7 +1,7 @@
 use Rattle.std.proofs.Common.{◌≡◌, Err, rules, ap, sym, ◌∙◌}
 use Rattle.tp_model.specs.declared.line.LineRequest.{LineRequest}
 use Rattle.tp_model.specs.LineReading.{units, words_in}
-use Rattle.tp_schedule.proofs.Readings.{passed, mapped, plain, one_alone}
+use Rattle.tp_schedule.proofs.lemmas.Readings.{passed, mapped, plain, one_alone}
 use Rattle.tp_schedule.proofs.line_reading.read_accept.Goals as goal
 
 pub returns-in_err-units : goal.returns-in_err-units

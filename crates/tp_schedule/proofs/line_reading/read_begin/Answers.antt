@@ -2,7 +2,7 @@ use Rattle.std.proofs.Common.{◌≡◌, ℕ, Err, rules, ap, sym, ◌∙◌}
 use Rattle.tp_model.specs.declared.line.LineRequest.{LineRequest}
 use Rattle.tp_model.specs.LineReading.{both, number, units, words_in}
 use Rattle.tp_schedule.specs.Answers.{pair, read_as}
-use Rattle.tp_schedule.proofs.Readings.{passed, mapped, plain, both_plain, both_form, two_alone}
+use Rattle.tp_schedule.proofs.lemmas.Readings.{passed, mapped, plain, both_plain, both_form, two_alone}
 use Rattle.tp_schedule.proofs.line_reading.read_begin.Goals as goal
 
 pub returns-in_err-peer : goal.returns-in_err-peer

@@ -3,7 +3,8 @@ use Rattle.tp_model.specs.declared.line.StopLine.{StopLine}
 use Rattle.tp_model.specs.declared.line.Line.{Line}
 use Rattle.tp_model.specs.LineReading.{both, number_in, site, fill, words_in, read_by, stop_readers}
 use Rattle.tp_schedule.specs.Answers.{pair, read_as, Reads}
-use Rattle.tp_schedule.proofs.Readings.{passed, mapped, plain, both_plain, both_reads, crash_in_form}
+use Rattle.tp_schedule.proofs.lemmas.Readings.{passed, mapped, plain, both_plain, both_reads}
+use Rattle.tp_schedule.proofs.LineForms.{crash_in_form}
 use Rattle.tp_schedule.proofs.line_reading.read_crash_in.Goals as goal
 
 pub returns-in_err-site : goal.returns-in_err-site

@@ -1,5 +1,5 @@
 use Rattle.tp_model.specs.LineReading.{number, words_in, read_by, request_readers}
-use Rattle.tp_schedule.proofs.Readings.{plain, both_reads}
+use Rattle.tp_schedule.proofs.lemmas.Readings.{plain, both_reads}
 use Rattle.tp_schedule.proofs.line_reading.read_do.Goals as goal
 
 pub returns : goal.returns

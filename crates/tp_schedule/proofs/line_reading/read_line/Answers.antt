@@ -4,7 +4,8 @@ use Rattle.tp_schedule.specs.declared.line_fault.LineFault.{LineFault}
 use Rattle.tp_model.specs.declared.line.Line.{Line}
 use Rattle.tp_model.specs.LineReading.{read_line}
 use Rattle.tp_schedule.specs.Answers.{answered}
-use Rattle.tp_schedule.proofs.Readings.{mapped, line_said}
+use Rattle.tp_schedule.proofs.lemmas.Readings.{mapped}
+use Rattle.tp_schedule.proofs.LineForms.{line_said}
 use Rattle.tp_schedule.proofs.line_reading.read_line.Goals as goal
 
 pub returns-in_err-line : goal.returns-in_err-line

@@ -3,7 +3,7 @@ use Rattle.tp_model.specs.LineReading.{words_in, read_by, stop_readers}
 use Rattle.tp_schedule.specs.declared.schedule_words.StopWord.{StopWord}
 use Rattle.tp_schedule.specs.Answers.{read_as}
 use Rattle.tp_schedule.specs.Keywords.{behind, stop_word_text, stop_word_list, stop_reader}
-use Rattle.tp_schedule.proofs.Readings.{by_table}
+use Rattle.tp_schedule.proofs.lemmas.Readings.{by_table}
 use Rattle.tp_schedule.proofs.line_reading.read_stop.Goals as goal
 
 pub returns-in-None : goal.returns-in-None

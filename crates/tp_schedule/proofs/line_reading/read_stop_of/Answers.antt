@@ -3,7 +3,8 @@ use Rattle.tp_model.specs.declared.line.LineRequest.{LineRequest}
 use Rattle.tp_model.specs.declared.line.StopLine.{StopLine}
 use Rattle.tp_model.specs.LineReading.{do_from, words_in}
 use Rattle.tp_schedule.specs.Answers.{pair}
-use Rattle.tp_schedule.proofs.Readings.{passed, mapped, do_form}
+use Rattle.tp_schedule.proofs.lemmas.Readings.{passed, mapped}
+use Rattle.tp_schedule.proofs.LineForms.{do_form}
 use Rattle.tp_schedule.proofs.line_reading.read_stop_of.Goals as goal
 
 pub returns-in_err-node-in-Do : goal.returns-in_err-node-in-Do

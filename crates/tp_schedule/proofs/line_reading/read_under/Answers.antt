@@ -2,7 +2,8 @@ use Rattle.std.proofs.Common.{◌≡◌, ℕ, Err, Some, rules, ap, sym, ◌∙�
 use Rattle.tp_model.specs.declared.line.Line.{Line}
 use Rattle.tp_model.specs.LineReading.{both, number, site}
 use Rattle.tp_schedule.specs.Answers.{pair, read_as}
-use Rattle.tp_schedule.proofs.Readings.{passed, mapped, plain, both_plain, under_form}
+use Rattle.tp_schedule.proofs.lemmas.Readings.{passed, mapped, plain, both_plain}
+use Rattle.tp_schedule.proofs.LineForms.{under_form}
 use Rattle.tp_schedule.proofs.line_reading.read_under.Goals as goal
 
 pub returns-in_err-node : goal.returns-in_err-node

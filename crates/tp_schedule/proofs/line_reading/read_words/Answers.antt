@@ -3,7 +3,7 @@ use Rattle.tp_model.specs.LineReading.{words_in, read_by, line_readers}
 use Rattle.tp_schedule.specs.declared.schedule_words.LineWord.{LineWord}
 use Rattle.tp_schedule.specs.Answers.{read_as}
 use Rattle.tp_schedule.specs.Keywords.{behind, line_word_text, line_word_list, line_reader}
-use Rattle.tp_schedule.proofs.Readings.{by_table}
+use Rattle.tp_schedule.proofs.lemmas.Readings.{by_table}
 use Rattle.tp_schedule.proofs.line_reading.read_words.Goals as goal
 
 pub returns-in-None : goal.returns-in-None

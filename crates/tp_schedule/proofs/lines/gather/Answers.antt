@@ -2,7 +2,7 @@ use Rattle.std.proofs.Common.{◌≡◌, ℕ, ◌-◌, List, true, length, take,
 use Rattle.tp_logrec.proofs.Writes.{on_err}
 use Rattle.tp_schedule.specs.AtHand.{no_feed}
 use Rattle.tp_schedule.proofs.Buffers.{none_gained}
-use Rattle.tp_schedule.proofs.Cut.{to_the_end}
+use Rattle.tp_schedule.proofs.lemmas.Cut.{to_the_end}
 use Rattle.tp_schedule.proofs.LineCuts.{found_behind, none_behind}
 use Rattle.tp_schedule.proofs.lines.gather.Goals as goal
 

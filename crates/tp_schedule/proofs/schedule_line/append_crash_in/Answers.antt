@@ -2,7 +2,7 @@ use Rattle.std.proofs.Common.{ℕ, ◌∷◌, [], ◌++◌, codes, ap, ◌∙◌
 use Rattle.tp_model.specs.Words.{words, decimal, hex}
 use Rattle.tp_model.specs.LineText.{stop_words}
 use Rattle.tp_logrec.proofs.Writes.{on_err}
-use Rattle.tp_schedule.proofs.Joins.{joined, kept_last, stop_has}
+use Rattle.tp_schedule.proofs.lemmas.Joins.{joined, kept_last, stop_has}
 use Rattle.tp_schedule.proofs.schedule_line.append_crash_in.Goals as goal
 
 pub returns-clause-ok : goal.returns-clause-ok

@@ -2,7 +2,7 @@ use Rattle.std.proofs.Common.{◌∷◌, [], codes}
 use Rattle.tp_model.specs.Words.{decimal}
 use Rattle.tp_model.specs.LineText.{request_words}
 use Rattle.tp_logrec.proofs.Writes.{on_err}
-use Rattle.tp_schedule.proofs.Joins.{joined, kept_last, request_has}
+use Rattle.tp_schedule.proofs.lemmas.Joins.{joined, kept_last, request_has}
 use Rattle.tp_schedule.proofs.schedule_line.append_do.Goals as goal
 
 pub returns-clause-ok : goal.returns-clause-ok

@@ -2,8 +2,8 @@ use Rattle.std.proofs.Common.{◌≡◌, ℕ, Err, rules, ap, sym, ◌∙◌, ta
 use Rattle.std.specs.Prelude.{replicate}
 use Rattle.tp_model.specs.LineReading.{fill, number_in, both}
 use Rattle.tp_schedule.specs.Answers.{pair, read_as}
-use Rattle.tp_schedule.proofs.Cut.{to_the_end}
-use Rattle.tp_schedule.proofs.Readings.{passed, mapped, plain, both_plain}
+use Rattle.tp_schedule.proofs.lemmas.Cut.{to_the_end}
+use Rattle.tp_schedule.proofs.lemmas.Readings.{passed, mapped, plain, both_plain}
 use Rattle.tp_schedule.proofs.Values.{run_form}
 use Rattle.tp_schedule.proofs.value.read_run.Goals as goal
 

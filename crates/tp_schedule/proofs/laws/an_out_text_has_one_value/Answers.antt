@@ -1,5 +1,0 @@
-use Rattle.tp_schedule.proofs.OutSaid.{one_value}
-use Rattle.tp_schedule.proofs.laws.an_out_text_has_one_value.Goals as goal
-
-pub returns : goal.returns
-returns c = one_value

@@ -1,0 +1,4 @@
+pub mod Joins
+pub mod Cut
+pub mod Readings
+pub mod Back

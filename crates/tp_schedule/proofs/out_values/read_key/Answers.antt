@@ -1,6 +1,0 @@
-use Rattle.tp_schedule.specs.OutWords.{aaid, branch, maybe}
-use Rattle.tp_schedule.proofs.Readings.{both_plain}
-use Rattle.tp_schedule.proofs.out_values.read_key.Goals as goal
-
-pub returns : goal.returns
-returns c = rw (c.both.ensures, c.read_aaid.ensures, c.read_maybe_branch.ensures) (both_plain (aaid c.args.aaid.now) (maybe branch c.args.branch.now))

@@ -1,6 +1,0 @@
-use Rattle.std.proofs.Common.{◌≡◌, drop}
-use Rattle.tp_schedule.specs.Keywords.{named, stop_word_text}
-use Rattle.tp_schedule.proofs.schedule_words.find_stop.Given as goal
-
-abbrev pub invariant-loop-kind : goal.invariant-loop-kind
-invariant-loop-kind l = named stop_word_text (drop l.kind-index l.kinds) l.word ≡ named stop_word_text l.kinds l.word

@@ -1,0 +1,8 @@
+pub mod HasWord
+pub mod OutCut
+pub mod OutForms
+pub mod OutNumbers
+pub mod OutBack
+pub mod OutLinesBack
+pub mod OutGood
+pub mod OutSaid

@@ -1,0 +1,17 @@
+use Rattle.std.proofs.Common.{◌≡◌, ap, sym, ◌∙◌}
+use Rattle.tp_model.specs.LineReading.{outcome, words_in, both, one_word}
+use Rattle.tp_schedule.specs.Answers.{pair, same, read_as}
+use Rattle.tp_transcript.specs.OutWords.{any_short, key}
+use Rattle.tp_schedule.proofs.lemmas.Readings.{both_plain}
+use Rattle.tp_transcript.proofs.OutForms.{keyed_found}
+use Rattle.tp_transcript.proofs.out_reading.keyed_outcome.Goals as goal
+
+pub returns-in-Some : goal.returns-in-Some
+returns-in-Some c =
+    let x = any_short c.in-Some.node.now in
+    let y = key c.in-Some.aaid.now c.in-Some.branch.now in
+    let z = (one_word same outcome) (words_in c.in-Some.rest.now) in
+    let named : c.both-named.result ≡ read_as (both pair x y) = rw (c.both-named.ensures, c.read_any_short.ensures, c.read_key.ensures) (both_plain x y) in
+    rw (c.both.ensures, named, c.one_outcome.ensures) (
+    both_plain (both pair x y) z ∙ ap read_as (sym (keyed_found (one_word same outcome) (words_in c.args.rest.now) c.in-Some.node.now c.in-Some.aaid.now c.in-Some.branch.now c.in-Some.rest.now c.in-Some.ensures))
+    )

@@ -1,0 +1,4 @@
+pub mod OutHasText
+pub mod OutKinds
+pub mod OutWords
+pub mod OutReading

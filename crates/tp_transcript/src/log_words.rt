@@ -1,0 +1,158 @@
+//! Writing identifiers, keys and the records of a log.
+ghost use Rattle.std.specs.Prelude.{◌≡◌, ◌++◌, ◌∷◌, [], OnErr, OnOk};
+ghost use Rattle.tp_names.specs.Writing.{Keeps};
+ghost use Rattle.tp_model.specs.Words.{words, decimal, aaid_word, key_words, maybe_word, branch_word};
+ghost use Rattle.tp_model.specs.OutText.{log_words};
+ghost use Rattle.tp_model.specs.Happenings.{log_shown};
+ghost use Rattle.tp_schedule.specs.WordText.{word_text};
+
+use std::alloc::Global;
+use tp_logrec::LogRec;
+use tp_model::LogWords;
+use tp_names::{Aaid, BranchId, NoMemory, NodeKey, Octets};
+use tp_schedule::word::{Word, write_words};
+
+/// Puts the identifier's word at the end of `out`. Without memory `out` stays as it was.
+pub fn write_aaid(alloc: Global, a: &Aaid, out: &mut Octets) -> Result<(), NoMemory>
+    ensures ok { OnOk result (out.new ≡ out.old ++ aaid_word a.now) }
+    ensures err { OnErr result (out.new ≡ out.old) }
+{
+    let len = out.len();
+    let written = write_words(alloc, &[Word::Aaid(*a)], out);
+    if written.is_err() {
+        out.truncate(len);
+    }
+    written
+}
+
+/// Puts the two words of a node's key at the end of `out`. Without memory `out` stays as it was.
+pub fn write_key(alloc: Global, k: &NodeKey, out: &mut Octets) -> Result<(), NoMemory>
+    ensures ok { OnOk result (out.new ≡ out.old ++ words (key_words k.now)) }
+    ensures err { OnErr result (out.new ≡ out.old) }
+{
+    let len = out.len();
+    let written = write_words(alloc, &[Word::Aaid(k.aaid), branch_or_none(k.branch)], out);
+    if written.is_err() {
+        out.truncate(len);
+    }
+    written
+}
+
+/// Puts the words of a log record at the end of `out`. Without memory `out` stays as it was.
+pub fn write_rec(alloc: Global, v: &LogRec, out: &mut Octets) -> Result<(), NoMemory>
+    ensures ok { OnOk result (out.new ≡ out.old ++ words (log_words (log_shown v.now))) }
+    ensures err { OnErr result (out.new ≡ out.old) }
+{
+    let len = out.len();
+    let written = write_log(alloc, shown(v), out);
+    if written.is_err() {
+        out.truncate(len);
+    }
+    written
+}
+
+fn shown(v: &LogRec) -> LogWords
+    ensures { result ≡ log_shown v.now }
+{
+    match v {
+        LogRec::Boot { boot } => LogWords::Boot { boot: *boot },
+        LogRec::Ready { node, key, .. } => LogWords::Ready {
+            node: *node,
+            key: *key,
+        },
+        LogRec::Heuristic { node, key, outcome } => LogWords::Heuristic {
+            node: *node,
+            key: *key,
+            outcome: *outcome,
+        },
+        LogRec::Commit { node, key, .. } => LogWords::Commit {
+            node: *node,
+            key: *key,
+        },
+        LogRec::Damage {
+            node,
+            key,
+            side,
+            report,
+            ..
+        } => LogWords::Damage {
+            node: *node,
+            key: *key,
+            side: *side,
+            report: *report,
+        },
+        LogRec::End { node, key, outcome } => LogWords::End {
+            node: *node,
+            key: *key,
+            outcome: *outcome,
+        },
+    }
+}
+
+pub(crate) fn branch_or_none<'a>(branch: Option<BranchId>) -> Word<'a>
+    ensures { word_text result ≡ maybe_word branch_word branch }
+{
+    match branch {
+        None => Word::Text("-"),
+        Some(branch) => Word::Branch(branch),
+    }
+}
+
+/// The words of a record as a line shows it.
+pub(crate) fn write_log(alloc: Global, rec: LogWords, out: &mut Octets) -> Result<(), NoMemory>
+    ensures ok { OnOk result (out.new ≡ out.old ++ words (log_words rec)) }
+    ensures err { OnErr result (Keeps out.old out.new) }
+{
+    match rec {
+        LogWords::Boot { boot } => {
+            write_words(alloc, &[Word::Text("boot"), Word::Long(boot)], out)
+        }
+        LogWords::Ready { node, key } => {
+            let (n, aaid, branch) = keyed(node, key);
+            write_words(alloc, &[Word::Text("ready"), n, aaid, branch], out)
+        }
+        LogWords::Heuristic { node, key, outcome } => {
+            let (n, aaid, branch) = keyed(node, key);
+            let outcome = Word::Outcome(outcome);
+            write_words(
+                alloc,
+                &[Word::Text("heuristic"), n, aaid, branch, outcome],
+                out,
+            )
+        }
+        LogWords::Commit { node, key } => {
+            let (n, aaid, branch) = keyed(node, key);
+            write_words(alloc, &[Word::Text("commit"), n, aaid, branch], out)
+        }
+        LogWords::Damage {
+            node,
+            key,
+            side,
+            report,
+        } => {
+            let (n, aaid, branch) = keyed(node, key);
+            let (side, report) = (Word::Outcome(side), Word::Report(report));
+            write_words(
+                alloc,
+                &[Word::Text("damage"), n, aaid, branch, side, report],
+                out,
+            )
+        }
+        LogWords::End { node, key, outcome } => {
+            let (n, aaid, branch) = keyed(node, key);
+            let outcome = Word::Outcome(outcome);
+            write_words(alloc, &[Word::Text("end"), n, aaid, branch, outcome], out)
+        }
+    }
+}
+
+// A node and its key.
+fn keyed<'a>(node: u16, key: NodeKey) -> (Word<'a>, Word<'a>, Word<'a>)
+    ensures { word_text result.0 ∷ word_text result.1 ∷ word_text result.2 ∷ [] ≡ decimal node ∷ key_words key }
+{
+    (
+        Word::Short(node),
+        Word::Aaid(key.aaid),
+        branch_or_none(key.branch),
+    )
+}

@@ -1,0 +1,188 @@
+//! Writing a line of a transcript.
+ghost use Rattle.std.specs.Prelude.{◌≡◌, ◌++◌, ◌∷◌, [], OnErr, OnOk, codes};
+ghost use Rattle.tp_names.specs.Writing.{Keeps};
+ghost use Rattle.tp_model.specs.OutText.{out_text};
+ghost use Rattle.tp_model.specs.Words.{words, decimal};
+
+use crate::log_words::write_log;
+use crate::sent_words::write_sent;
+use crate::told_words::write_told;
+use std::alloc::Global;
+use tp_model::{LogWords, OutLine, PhaseWord, SentWords};
+use tp_names::{NoMemory, Octets, SiteName};
+use tp_records::Indication;
+use tp_schedule::word::{Word, write_alone, write_one, write_words};
+
+/// Puts the line's text at the end of `out`, without an end. Without memory `out` stays as it was.
+pub fn write_out(alloc: Global, o: &OutLine, out: &mut Octets) -> Result<(), NoMemory>
+    ensures ok { OnOk result (out.new ≡ out.old ++ out_text o.now) }
+    ensures err { OnErr result (out.new ≡ out.old) }
+{
+    let len = out.len();
+    let written = append_out(alloc, o, out);
+    if written.is_err() {
+        out.truncate(len);
+    }
+    written
+}
+
+fn append_out(alloc: Global, o: &OutLine, out: &mut Octets) -> Result<(), NoMemory>
+    ensures ok { OnOk result (out.new ≡ out.old ++ out_text o.now) }
+    ensures err { OnErr result (Keeps out.old out.new) }
+{
+    match o {
+        OutLine::Echo(text) => append_echo(alloc, text, out),
+        OutLine::Log { site, rec } => append_logged(alloc, *site, *rec, out),
+        OutLine::Take { frame } => write_one(alloc, "take", *frame, out),
+        OutLine::Send {
+            frame,
+            from,
+            to,
+            rec,
+        } => append_sent(alloc, *frame, (*from, *to), rec, out),
+        OutLine::Tell { node, indication } => append_told(alloc, *node, indication, out),
+        OutLine::Refused { number } => write_one(alloc, "refused", u16::from(*number), out),
+        OutLine::Dropped { number } => write_one(alloc, "dropped", u16::from(*number), out),
+        OutLine::Nothing => write_alone(alloc, "nothing", out),
+        OutLine::Lost { frame } => write_one(alloc, "lost", *frame, out),
+        OutLine::Stopped { site, fate } => {
+            write_words(
+                alloc,
+                &[Word::Text("stopped"), Word::Site(*site), Word::Fate(*fate)],
+                out,
+            )
+        }
+        OutLine::State { node, phase, kept } => append_state(alloc, *node, *phase, *kept, out),
+        OutLine::Image { site, bytes } => {
+            write_words(
+                alloc,
+                &[Word::Text("image"), Word::Site(*site), Word::Hex(bytes)],
+                out,
+            )
+        }
+        OutLine::Agreed { aaid, outcome } => {
+            let (aaid, outcome) = (Word::Aaid(*aaid), Word::Outcome(*outcome));
+            write_words(
+                alloc,
+                &[Word::Text("tree"), aaid, Word::Text("agreed"), outcome],
+                out,
+            )
+        }
+        OutLine::Mixed { aaid, by } => {
+            let (aaid, by) = (Word::Aaid(*aaid), Word::Numbers(by));
+            let words = [
+                Word::Text("tree"),
+                aaid,
+                Word::Text("mixed"),
+                Word::Text("by"),
+                by,
+            ];
+            write_words(alloc, &words, out)
+        }
+        OutLine::Open { aaid } => {
+            write_words(
+                alloc,
+                &[Word::Text("tree"), Word::Aaid(*aaid), Word::Text("open")],
+                out,
+            )
+        }
+    }
+}
+
+fn append_echo(alloc: Global, text: &Octets, out: &mut Octets) -> Result<(), NoMemory>
+    ensures ok { OnOk result (out.new ≡ out.old ++ out_text (OutLine.Echo text.now)) }
+    ensures err { OnErr result (Keeps out.old out.new) }
+{
+    out.extend_from_slice(alloc, b"> ")?;
+    out.extend_from_slice(alloc, text.as_slice())?;
+    Ok(())
+}
+
+fn append_logged(
+    alloc: Global,
+    site: SiteName,
+    rec: LogWords,
+    out: &mut Octets,
+) -> Result<(), NoMemory>
+    ensures ok { OnOk result (out.new ≡ out.old ++ out_text (OutLine.Log site rec)) }
+    ensures err { OnErr result (Keeps out.old out.new) }
+{
+    write_words(alloc, &[Word::Text("log"), Word::Site(site)], out)?;
+    out.push(alloc, b' ')?;
+    write_log(alloc, rec, out)?;
+    Ok(())
+}
+
+fn append_sent(
+    alloc: Global,
+    frame: u16,
+    ends: (u16, u16),
+    rec: &SentWords,
+    out: &mut Octets,
+) -> Result<(), NoMemory>
+    ensures ok { OnOk result (out.new ≡ out.old ++ out_text (OutLine.Send frame ends.0 ends.1 rec.now)) }
+    ensures err { OnErr result (Keeps out.old out.new) }
+{
+    write_frame(alloc, frame, ends, out)?;
+    out.push(alloc, b' ')?;
+    write_sent(alloc, rec, out)?;
+    Ok(())
+}
+
+fn write_frame(
+    alloc: Global,
+    frame: u16,
+    ends: (u16, u16),
+    out: &mut Octets,
+) -> Result<(), NoMemory>
+    ensures ok { OnOk result (out.new ≡ out.old ++ words (codes "send" ∷ decimal frame ∷ decimal ends.0 ∷ decimal ends.1 ∷ [])) }
+    ensures err { OnErr result (Keeps out.old out.new) }
+{
+    let (from, to) = ends;
+    write_words(
+        alloc,
+        &[
+            Word::Text("send"),
+            Word::Short(frame),
+            Word::Short(from),
+            Word::Short(to),
+        ],
+        out,
+    )
+}
+
+fn append_told(
+    alloc: Global,
+    node: u16,
+    indication: &Indication,
+    out: &mut Octets,
+) -> Result<(), NoMemory>
+    ensures ok { OnOk result (out.new ≡ out.old ++ out_text (OutLine.Tell node indication.now)) }
+    ensures err { OnErr result (Keeps out.old out.new) }
+{
+    write_one(alloc, "tell", node, out)?;
+    out.push(alloc, b' ')?;
+    write_told(alloc, indication, out)?;
+    Ok(())
+}
+
+fn append_state(
+    alloc: Global,
+    node: u16,
+    phase: PhaseWord,
+    kept: u64,
+    out: &mut Octets,
+) -> Result<(), NoMemory>
+    ensures ok { OnOk result (out.new ≡ out.old ++ out_text (OutLine.State node phase kept)) }
+    ensures err { OnErr result (Keeps out.old out.new) }
+{
+    let (phase, kept) = (Word::Phase(phase), Word::Long(kept));
+    let words = [
+        Word::Text("state"),
+        Word::Short(node),
+        phase,
+        Word::Text("kept"),
+        kept,
+    ];
+    write_words(alloc, &words, out)
+}

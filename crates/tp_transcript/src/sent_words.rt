@@ -1,0 +1,160 @@
+//! Writing the records that peers send.
+ghost use Rattle.std.specs.Prelude.{◌≡◌, ◌++◌, ◌∷◌, [], OnErr, OnOk};
+ghost use Rattle.tp_names.specs.Writing.{Keeps};
+ghost use Rattle.tp_model.specs.Words.{words, aaid_word, branch_word, maybe_word, mark_word};
+ghost use Rattle.tp_model.specs.OutText.{dialogue_words, state_words, sent_words};
+ghost use Rattle.tp_schedule.specs.WordText.{word_text};
+
+use std::alloc::Global;
+use tp_model::SentWords;
+use tp_names::{Aaid, BranchId, Mark, NoMemory, Octets};
+use tp_records::{DialogueRecord, RecState};
+use tp_schedule::word::{Word, write_alone, write_words};
+
+/// The words of a record that is sent.
+pub(crate) fn write_sent(alloc: Global, rec: &SentWords, out: &mut Octets) -> Result<(), NoMemory>
+    ensures ok { OnOk result (out.new ≡ out.old ++ words (sent_words rec.now)) }
+    ensures err { OnErr result (Keeps out.old out.new) }
+{
+    match rec {
+        SentWords::OpenAssoc { x, units } => {
+            let units = Word::Units(units.bits());
+            write_words(alloc, &[Word::Text("open"), Word::Mark(*x), units], out)
+        }
+        SentWords::AcceptAssoc { x, y, units } => {
+            let (x, y) = (Word::Mark(*x), Word::Mark(*y));
+            write_words(
+                alloc,
+                &[Word::Text("accept"), x, y, Word::Units(units.bits())],
+                out,
+            )
+        }
+        SentWords::ShutAssoc { x, y } => {
+            let (x, y) = (Word::Mark(*x), mark_or_none(*y));
+            write_words(alloc, &[Word::Text("shut"), x, y], out)
+        }
+        SentWords::OnAssoc { seq, rec } => write_on(alloc, *seq, rec, out),
+        SentWords::RecReady { aaid, branch } => write_kin(alloc, "rec-ready", aaid, branch, out),
+        SentWords::RecCommit { aaid, branch } => write_kin(alloc, "rec-commit", aaid, branch, out),
+        SentWords::RecReply {
+            aaid,
+            branch,
+            state,
+        } => write_reply(alloc, aaid, branch, *state, out),
+        SentWords::Forget { aaid, branch } => write_kin(alloc, "forget", aaid, branch, out),
+    }
+}
+
+fn mark_or_none<'a>(mark: Option<Mark>) -> Word<'a>
+    ensures { word_text result ≡ maybe_word mark_word mark }
+{
+    match mark {
+        None => Word::Text("-"),
+        Some(mark) => Word::Mark(mark),
+    }
+}
+
+// A word, and the identifiers of a tree and of a branch.
+fn write_kin(
+    alloc: Global,
+    word: &str,
+    aaid: &Aaid,
+    branch: &BranchId,
+    out: &mut Octets,
+) -> Result<(), NoMemory>
+    ensures ok { OnOk result (out.new ≡ out.old ++ words (word.now ∷ aaid_word aaid.now ∷ branch_word branch.now ∷ [])) }
+    ensures err { OnErr result (Keeps out.old out.new) }
+{
+    let (aaid, branch) = (Word::Aaid(*aaid), Word::Branch(*branch));
+    write_words(alloc, &[Word::Text(word), aaid, branch], out)
+}
+
+// A record of a dialogue after its number.
+fn write_on(alloc: Global, seq: u64, rec: &DialogueRecord, out: &mut Octets) -> Result<(), NoMemory>
+    ensures ok { OnOk result (out.new ≡ out.old ++ words (sent_words (SentWords.OnAssoc seq rec.now))) }
+    ensures err { OnErr result (Keeps out.old out.new) }
+{
+    write_words(alloc, &[Word::Text("data"), Word::Long(seq)], out)?;
+    out.push(alloc, b' ')?;
+    write_dialogue(alloc, rec, out)?;
+    Ok(())
+}
+
+fn write_reply(
+    alloc: Global,
+    aaid: &Aaid,
+    branch: &BranchId,
+    state: RecState,
+    out: &mut Octets,
+) -> Result<(), NoMemory>
+    ensures ok { OnOk result (out.new ≡ out.old ++ words (sent_words (SentWords.RecReply aaid.now branch.now state))) }
+    ensures err { OnErr result (Keeps out.old out.new) }
+{
+    write_kin(alloc, "rec-reply", aaid, branch, out)?;
+    out.push(alloc, b' ')?;
+    write_state(alloc, state, out)?;
+    Ok(())
+}
+
+fn write_state(alloc: Global, state: RecState, out: &mut Octets) -> Result<(), NoMemory>
+    ensures ok { OnOk result (out.new ≡ out.old ++ words (state_words state)) }
+    ensures err { OnErr result (Keeps out.old out.new) }
+{
+    match state {
+        RecState::Commit => write_alone(alloc, "commit", out),
+        RecState::Done(report) => {
+            write_words(alloc, &[Word::Text("done"), Word::Report(report)], out)
+        }
+        RecState::Unknown => write_alone(alloc, "unknown", out),
+        RecState::RetryLater => write_alone(alloc, "retry-later", out),
+    }
+}
+
+fn write_dialogue(alloc: Global, rec: &DialogueRecord, out: &mut Octets) -> Result<(), NoMemory>
+    ensures ok { OnOk result (out.new ≡ out.old ++ words (dialogue_words rec.now)) }
+    ensures err { OnErr result (Keeps out.old out.new) }
+{
+    match rec {
+        DialogueRecord::EndDialogue => write_alone(alloc, "end-dialogue", out),
+        DialogueRecord::UserData { octets } => {
+            write_words(alloc, &[Word::Text("user"), Word::Octets(octets)], out)
+        }
+        DialogueRecord::UError => write_alone(alloc, "u-error", out),
+        DialogueRecord::UAbort => write_alone(alloc, "u-abort", out),
+        DialogueRecord::Grant => write_alone(alloc, "grant", out),
+        DialogueRecord::AskControl => write_alone(alloc, "request-control", out),
+        DialogueRecord::Handshake => write_alone(alloc, "handshake", out),
+        DialogueRecord::HandshakeGrant => write_alone(alloc, "handshake-grant", out),
+        DialogueRecord::Response => write_alone(alloc, "response", out),
+        DialogueRecord::DeferEnd => write_alone(alloc, "deferred-end", out),
+        DialogueRecord::DeferGrant => write_alone(alloc, "deferred-grant", out),
+        DialogueRecord::Begin {
+            aaid,
+            branch,
+            holder,
+        } => {
+            let (aaid, branch) = (Word::Aaid(*aaid), Word::Branch(*branch));
+            write_words(
+                alloc,
+                &[Word::Text("begin"), aaid, branch, Word::Holder(*holder)],
+                out,
+            )
+        }
+        DialogueRecord::Prepare => write_alone(alloc, "prepare", out),
+        DialogueRecord::Ready => write_alone(alloc, "ready", out),
+        DialogueRecord::Commit => write_alone(alloc, "commit", out),
+        DialogueRecord::Done { report } => {
+            write_words(alloc, &[Word::Text("done"), Word::Report(*report)], out)
+        }
+        DialogueRecord::Rollback => write_alone(alloc, "rollback", out),
+        DialogueRecord::RolledBack { report } => {
+            write_words(
+                alloc,
+                &[Word::Text("rolled-back"), Word::Report(*report)],
+                out,
+            )
+        }
+        DialogueRecord::Left => write_alone(alloc, "left", out),
+        DialogueRecord::LeftEnd => write_alone(alloc, "left-end", out),
+    }
+}
