@@ -1,5 +1,5 @@
 -- That the kit writes numbers and octets as the definitions say.
-use Rattle.std.proofs.Common.{◌≡◌, ℕ, zero, suc, ◌+◌, ◌/◌, ◌%◌, ◌^◌, ◌<◌, ◌≤◌, ◌==◌, Bool, true, List, [], ◌∷◌, slice_index, refl, sym, ◌∙◌, arith, eqb-true}
+use Rattle.std.proofs.Common.{◌≡◌, ℕ, zero, suc, ◌+◌, ◌/◌, ◌%◌, ◌^◌, ◌<◌, ◌≤◌, ◌==◌, Bool, true, List, [], ◌∷◌, ◌++◌, slice_index, refl, ap, sym, ◌∙◌, arith, eqb-true}
 use Rattle.std.proofs.lemmas.Bool.{agree_below_at}
 use Rattle.std.proofs.lemmas.Bool.Decides.{nat_tests}
 use Rattle.std.proofs.lemmas.Fmt.{PrependsLastDigit, decimal_from_prepends, length-decimal-le_succ}
@@ -27,6 +27,17 @@ prepends = record { one = prepends_one; more = prepends_more }
 pub decimal_same : (n : ℕ) → n < 2 ^ 64 → std_decimal n ≡ decimal n
 decimal_same n small =
     sym (decimal_from_prepends prepended prepends (suc n) n [] small (omega (arith, length-decimal-le_succ n small)) ∙ append-nil (std_decimal n))
+
+-- digit by digit
+pub decimal_one : (n : ℕ) → n < 10 → decimal n ≡ (48 + n) ∷ []
+decimal_one n small = prepends_one n n [] small
+
+pub decimal_more : (n : ℕ) → n < 2 ^ 64 → 10 ≤ n → decimal n ≡ decimal (n / 10) ++ (48 + n % 10) ∷ []
+decimal_more n small large =
+    let front : n / 10 < 2 ^ 64 = omega arith in
+    prepends_more n n [] large
+    ∙ decimal_from_prepends prepended prepends n (n / 10) ((48 + n % 10) ∷ []) front (omega (arith, length-decimal-le_succ (n / 10) front))
+    ∙ ap (λ (t : List ℕ). t ++ (48 + n % 10) ∷ []) (decimal_same (n / 10) front)
 
 -- ---- octets
 

@@ -8,3 +8,4 @@ pub mod Buffers
 pub mod LineSought
 pub mod LineSkipped
 pub mod LineHanded
+mod Spaced

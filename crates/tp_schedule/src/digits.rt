@@ -18,9 +18,28 @@ pub(crate) const UNIT_LETTERS: [(u8, u8); 6] = [
     (32, b'u'),
 ];
 
+/// The first number that takes a buffer for its digits; a shorter one is written digit by digit.
+const LONG: u64 = 100_000;
+
 /// A number in decimal.
-#[tactic(auto, using(crate::proofs::KitText::decimal_same))]
+#[tactic(auto, using(crate::proofs::KitText::decimal_one))]
 pub(crate) fn write_decimal(alloc: Global, n: u64, out: &mut Octets) -> Result<(), NoMemory>
+    ensures ok { OnOk result (out.new ≡ out.old ++ decimal n) }
+    ensures err { OnErr result (Keeps out.old out.new) }
+{
+    if n < 10 {
+        return out.push(alloc, b'0' + n as u8);
+    }
+    if n >= LONG {
+        return write_long(alloc, n, out);
+    }
+    write_decimal(alloc, n / 10, out)?;
+    out.push(alloc, b'0' + (n % 10) as u8)?;
+    Ok(())
+}
+
+#[tactic(auto, using(crate::proofs::KitText::decimal_same))]
+fn write_long(alloc: Global, n: u64, out: &mut Octets) -> Result<(), NoMemory>
     ensures ok { OnOk result (out.new ≡ out.old ++ decimal n) }
     ensures err { OnErr result (Keeps out.old out.new) }
 {
@@ -52,8 +71,8 @@ pub(crate) fn write_octets(alloc: Global, octets: &[u8], out: &mut Octets) -> Re
 }
 
 /// Three numbers with dots between them.
-pub(crate) fn write_mark(alloc: Global, mark: Mark, out: &mut Octets) -> Result<(), NoMemory>
-    ensures ok { OnOk result (out.new ≡ out.old ++ mark_word mark) }
+pub(crate) fn write_mark(alloc: Global, mark: &Mark, out: &mut Octets) -> Result<(), NoMemory>
+    ensures ok { OnOk result (out.new ≡ out.old ++ mark_word mark.now) }
     ensures err { OnErr result (Keeps out.old out.new) }
 {
     write_decimal(alloc, mark.boot, out)?;

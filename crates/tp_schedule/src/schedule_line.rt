@@ -27,7 +27,7 @@ fn append_line(alloc: Global, l: &Line, out: &mut Octets) -> Result<(), NoMemory
     ensures err { OnErr result (Keeps out.old out.new) }
 {
     match l {
-        Line::Node { node, site, under } => append_node(alloc, *node, *site, *under, out),
+        Line::Node { node, site, under } => append_node(alloc, *node, site, *under, out),
         Line::Do { node, request } => append_do(alloc, *node, request, out),
         Line::Pass { from, to } => write_two(alloc, "pass", *from, *to, out),
         Line::Skip { from, to } => write_two(alloc, "skip", *from, *to, out),
@@ -38,15 +38,15 @@ fn append_line(alloc: Global, l: &Line, out: &mut Octets) -> Result<(), NoMemory
         Line::GiveUp { node, peer } => write_two(alloc, "giveup", *node, *peer, out),
         Line::Retry { node } => write_one(alloc, "retry", *node, out),
         Line::Purge { node } => write_one(alloc, "purge", *node, out),
-        Line::Crash { site } => write_words(alloc, &[Word::Text("crash"), Word::Site(*site)], out),
+        Line::Crash { site } => write_words(alloc, &[Word::Text("crash"), Word::Site(site)], out),
         Line::CrashIn {
             site,
             at,
             fill,
             line,
-        } => append_crash_in(alloc, *site, *at, *fill, line, out),
+        } => append_crash_in(alloc, site, *at, *fill, line, out),
         Line::Show { node } => write_one(alloc, "show", *node, out),
-        Line::Image { site } => write_words(alloc, &[Word::Text("image"), Word::Site(*site)], out),
+        Line::Image { site } => write_words(alloc, &[Word::Text("image"), Word::Site(site)], out),
         Line::Auto { node, member } => write_two(alloc, "auto", *node, *member, out),
         Line::Leave { member } => write_one(alloc, "leave", *member, out),
     }
@@ -142,11 +142,11 @@ fn append_heur(alloc: Global, node: u16, outcome: Outcome, out: &mut Octets) -> 
 fn append_node(
     alloc: Global,
     node: u16,
-    site: SiteName,
+    site: &SiteName,
     under: Option<u16>,
     out: &mut Octets,
 ) -> Result<(), NoMemory>
-    ensures ok { OnOk result (out.new ≡ out.old ++ words (line_words (Line.Node node site under))) }
+    ensures ok { OnOk result (out.new ≡ out.old ++ words (line_words (Line.Node node site.now under))) }
     ensures err { OnErr result (Keeps out.old out.new) }
 {
     let (first, node, site) = (Word::Text("node"), Word::Short(node), Word::Site(site));
@@ -161,13 +161,13 @@ fn append_node(
 
 fn append_crash_in(
     alloc: Global,
-    site: SiteName,
+    site: &SiteName,
     at: u8,
     fill: u8,
     line: &StopLine,
     out: &mut Octets,
 ) -> Result<(), NoMemory>
-    ensures ok { OnOk result (out.new ≡ out.old ++ words (line_words (Line.CrashIn site at fill line.now))) }
+    ensures ok { OnOk result (out.new ≡ out.old ++ words (line_words (Line.CrashIn site.now at fill line.now))) }
     ensures err { OnErr result (Keeps out.old out.new) }
 {
     let words = [

@@ -17,15 +17,15 @@ pub enum Word<'a> {
     Text(&'a str),
     Short(u16),
     Long(u64),
-    Site(SiteName),
+    Site(&'a SiteName),
     /// `-` where there are none.
     Octets(&'a Octets),
     Hex(&'a Octets),
     Octet(u8),
     Units(u8),
-    Mark(Mark),
-    Aaid(Aaid),
-    Branch(BranchId),
+    Mark(&'a Mark),
+    Aaid(&'a Aaid),
+    Branch(&'a BranchId),
     Outcome(Outcome),
     Report(Report),
     Holder(Holder),
@@ -39,16 +39,15 @@ pub fn write_words(alloc: Global, list: &[Word], out: &mut Octets) -> Result<(),
     ensures ok { OnOk result (out.new ≡ out.old ++ words (word_texts list.now)) }
     ensures err { OnErr result (Keeps out.old out.new) }
 {
-    match list {
-        [] => Ok(()),
-        [last] => write_word(alloc, last, out),
-        [first, rest @ ..] => {
-            write_word(alloc, first, out)?;
-            out.push(alloc, b' ')?;
-            write_words(alloc, rest, out)?;
-            Ok(())
-        }
+    let [first, rest @ ..] = list else {
+        return Ok(());
+    };
+    write_word(alloc, first, out)?;
+    for word in rest {
+        out.push(alloc, b' ')?;
+        write_word(alloc, word, out)?;
     }
+    Ok(())
 }
 
 /// A word alone.
@@ -56,7 +55,7 @@ pub fn write_alone(alloc: Global, word: &str, out: &mut Octets) -> Result<(), No
     ensures ok { OnOk result (out.new ≡ out.old ++ words (word.now ∷ [])) }
     ensures err { OnErr result (Keeps out.old out.new) }
 {
-    write_words(alloc, &[Word::Text(word)], out)
+    put(alloc, word, out)
 }
 
 /// A word, and one number.
@@ -64,7 +63,9 @@ pub fn write_one(alloc: Global, word: &str, n: u16, out: &mut Octets) -> Result<
     ensures ok { OnOk result (out.new ≡ out.old ++ words (word.now ∷ decimal n ∷ [])) }
     ensures err { OnErr result (Keeps out.old out.new) }
 {
-    write_words(alloc, &[Word::Text(word), Word::Short(n)], out)
+    put(alloc, word, out)?;
+    write_number(alloc, n, out)?;
+    Ok(())
 }
 
 /// A word, and two numbers.
@@ -78,11 +79,19 @@ pub fn write_two(
     ensures ok { OnOk result (out.new ≡ out.old ++ words (word.now ∷ decimal m ∷ decimal n ∷ [])) }
     ensures err { OnErr result (Keeps out.old out.new) }
 {
-    write_words(
-        alloc,
-        &[Word::Text(word), Word::Short(m), Word::Short(n)],
-        out,
-    )
+    write_one(alloc, word, m, out)?;
+    write_number(alloc, n, out)?;
+    Ok(())
+}
+
+// A number after a space.
+fn write_number(alloc: Global, n: u16, out: &mut Octets) -> Result<(), NoMemory>
+    ensures ok { OnOk result (out.new ≡ out.old ++ (32 ∷ decimal n)) }
+    ensures err { OnErr result (Keeps out.old out.new) }
+{
+    out.push(alloc, b' ')?;
+    digits::write_decimal(alloc, u64::from(n), out)?;
+    Ok(())
 }
 
 fn write_word(alloc: Global, word: &Word, out: &mut Octets) -> Result<(), NoMemory>
@@ -98,9 +107,9 @@ fn write_word(alloc: Global, word: &Word, out: &mut Octets) -> Result<(), NoMemo
         Word::Hex(octets) => digits::write_hex(alloc, octets.as_slice(), out),
         Word::Octet(octet) => digits::write_hex(alloc, &[*octet], out),
         Word::Units(units) => digits::write_units(alloc, *units, out),
-        Word::Mark(mark) => digits::write_mark(alloc, *mark, out),
-        Word::Aaid(aaid) => write_marked(alloc, aaid.owner, aaid.mark, out),
-        Word::Branch(branch) => write_marked(alloc, branch.superior, branch.mark, out),
+        Word::Mark(mark) => digits::write_mark(alloc, mark, out),
+        Word::Aaid(aaid) => write_marked(alloc, &aaid.owner, &aaid.mark, out),
+        Word::Branch(branch) => write_marked(alloc, &branch.superior, &branch.mark, out),
         Word::Outcome(outcome) => put(alloc, outcome_text(*outcome), out),
         Word::Report(report) => put(alloc, report_text(*report), out),
         Word::Holder(holder) => put(alloc, holder_text(*holder), out),
@@ -118,8 +127,13 @@ fn put(alloc: Global, text: &str, out: &mut Octets) -> Result<(), NoMemory>
 }
 
 // A site and a mark with a dot between them.
-fn write_marked(alloc: Global, site: SiteName, mark: Mark, out: &mut Octets) -> Result<(), NoMemory>
-    ensures ok { OnOk result (out.new ≡ out.old ++ aaid_word (record { owner = site; mark = mark })) }
+fn write_marked(
+    alloc: Global,
+    site: &SiteName,
+    mark: &Mark,
+    out: &mut Octets,
+) -> Result<(), NoMemory>
+    ensures ok { OnOk result (out.new ≡ out.old ++ aaid_word (record { owner = site.now; mark = mark.now })) }
     ensures err { OnErr result (Keeps out.old out.new) }
 {
     out.extend_from_slice(alloc, site.bytes())?;
@@ -127,8 +141,8 @@ fn write_marked(alloc: Global, site: SiteName, mark: Mark, out: &mut Octets) -> 
     Ok(())
 }
 
-fn write_behind_dot(alloc: Global, mark: Mark, out: &mut Octets) -> Result<(), NoMemory>
-    ensures ok { OnOk result (out.new ≡ out.old ++ (46 ∷ mark_word mark)) }
+fn write_behind_dot(alloc: Global, mark: &Mark, out: &mut Octets) -> Result<(), NoMemory>
+    ensures ok { OnOk result (out.new ≡ out.old ++ (46 ∷ mark_word mark.now)) }
     ensures err { OnErr result (Keeps out.old out.new) }
 {
     out.push(alloc, b'.')?;

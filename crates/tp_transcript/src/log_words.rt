@@ -18,7 +18,7 @@ pub fn write_aaid(alloc: Global, a: &Aaid, out: &mut Octets) -> Result<(), NoMem
     ensures err { OnErr result (out.new ≡ out.old) }
 {
     let len = out.len();
-    let written = write_words(alloc, &[Word::Aaid(*a)], out);
+    let written = write_words(alloc, &[Word::Aaid(a)], out);
     if written.is_err() {
         out.truncate(len);
     }
@@ -31,7 +31,11 @@ pub fn write_key(alloc: Global, k: &NodeKey, out: &mut Octets) -> Result<(), NoM
     ensures err { OnErr result (out.new ≡ out.old) }
 {
     let len = out.len();
-    let written = write_words(alloc, &[Word::Aaid(k.aaid), branch_or_none(k.branch)], out);
+    let written = write_words(
+        alloc,
+        &[Word::Aaid(&k.aaid), branch_or_none(&k.branch)],
+        out,
+    );
     if written.is_err() {
         out.truncate(len);
     }
@@ -44,7 +48,7 @@ pub fn write_rec(alloc: Global, v: &LogRec, out: &mut Octets) -> Result<(), NoMe
     ensures err { OnErr result (out.new ≡ out.old) }
 {
     let len = out.len();
-    let written = write_log(alloc, shown(v), out);
+    let written = write_log(alloc, &shown(v), out);
     if written.is_err() {
         out.truncate(len);
     }
@@ -89,8 +93,8 @@ fn shown(v: &LogRec) -> LogWords
     }
 }
 
-pub(crate) fn branch_or_none<'a>(branch: Option<BranchId>) -> Word<'a>
-    ensures { word_text result ≡ maybe_word branch_word branch }
+pub(crate) fn branch_or_none<'a>(branch: &'a Option<BranchId>) -> Word<'a>
+    ensures { word_text result ≡ maybe_word branch_word branch.now }
 {
     match branch {
         None => Word::Text("-"),
@@ -99,21 +103,21 @@ pub(crate) fn branch_or_none<'a>(branch: Option<BranchId>) -> Word<'a>
 }
 
 /// The words of a record as a line shows it.
-pub(crate) fn write_log(alloc: Global, rec: LogWords, out: &mut Octets) -> Result<(), NoMemory>
-    ensures ok { OnOk result (out.new ≡ out.old ++ words (log_words rec)) }
+pub(crate) fn write_log(alloc: Global, rec: &LogWords, out: &mut Octets) -> Result<(), NoMemory>
+    ensures ok { OnOk result (out.new ≡ out.old ++ words (log_words rec.now)) }
     ensures err { OnErr result (Keeps out.old out.new) }
 {
     match rec {
         LogWords::Boot { boot } => {
-            write_words(alloc, &[Word::Text("boot"), Word::Long(boot)], out)
+            write_words(alloc, &[Word::Text("boot"), Word::Long(*boot)], out)
         }
         LogWords::Ready { node, key } => {
-            let (n, aaid, branch) = keyed(node, key);
+            let (n, aaid, branch) = keyed(*node, key);
             write_words(alloc, &[Word::Text("ready"), n, aaid, branch], out)
         }
         LogWords::Heuristic { node, key, outcome } => {
-            let (n, aaid, branch) = keyed(node, key);
-            let outcome = Word::Outcome(outcome);
+            let (n, aaid, branch) = keyed(*node, key);
+            let outcome = Word::Outcome(*outcome);
             write_words(
                 alloc,
                 &[Word::Text("heuristic"), n, aaid, branch, outcome],
@@ -121,7 +125,7 @@ pub(crate) fn write_log(alloc: Global, rec: LogWords, out: &mut Octets) -> Resul
             )
         }
         LogWords::Commit { node, key } => {
-            let (n, aaid, branch) = keyed(node, key);
+            let (n, aaid, branch) = keyed(*node, key);
             write_words(alloc, &[Word::Text("commit"), n, aaid, branch], out)
         }
         LogWords::Damage {
@@ -130,8 +134,8 @@ pub(crate) fn write_log(alloc: Global, rec: LogWords, out: &mut Octets) -> Resul
             side,
             report,
         } => {
-            let (n, aaid, branch) = keyed(node, key);
-            let (side, report) = (Word::Outcome(side), Word::Report(report));
+            let (n, aaid, branch) = keyed(*node, key);
+            let (side, report) = (Word::Outcome(*side), Word::Report(*report));
             write_words(
                 alloc,
                 &[Word::Text("damage"), n, aaid, branch, side, report],
@@ -139,20 +143,20 @@ pub(crate) fn write_log(alloc: Global, rec: LogWords, out: &mut Octets) -> Resul
             )
         }
         LogWords::End { node, key, outcome } => {
-            let (n, aaid, branch) = keyed(node, key);
-            let outcome = Word::Outcome(outcome);
+            let (n, aaid, branch) = keyed(*node, key);
+            let outcome = Word::Outcome(*outcome);
             write_words(alloc, &[Word::Text("end"), n, aaid, branch, outcome], out)
         }
     }
 }
 
 // A node and its key.
-fn keyed<'a>(node: u16, key: NodeKey) -> (Word<'a>, Word<'a>, Word<'a>)
-    ensures { word_text result.0 ∷ word_text result.1 ∷ word_text result.2 ∷ [] ≡ decimal node ∷ key_words key }
+fn keyed<'a>(node: u16, key: &'a NodeKey) -> (Word<'a>, Word<'a>, Word<'a>)
+    ensures { word_text result.0 ∷ word_text result.1 ∷ word_text result.2 ∷ [] ≡ decimal node ∷ key_words key.now }
 {
     (
         Word::Short(node),
-        Word::Aaid(key.aaid),
-        branch_or_none(key.branch),
+        Word::Aaid(&key.aaid),
+        branch_or_none(&key.branch),
     )
 }

@@ -32,7 +32,7 @@ fn append_out(alloc: Global, o: &OutLine, out: &mut Octets) -> Result<(), NoMemo
 {
     match o {
         OutLine::Echo(text) => append_echo(alloc, text, out),
-        OutLine::Log { site, rec } => append_logged(alloc, *site, *rec, out),
+        OutLine::Log { site, rec } => append_logged(alloc, site, rec, out),
         OutLine::Take { frame } => write_one(alloc, "take", *frame, out),
         OutLine::Send {
             frame,
@@ -48,7 +48,7 @@ fn append_out(alloc: Global, o: &OutLine, out: &mut Octets) -> Result<(), NoMemo
         OutLine::Stopped { site, fate } => {
             write_words(
                 alloc,
-                &[Word::Text("stopped"), Word::Site(*site), Word::Fate(*fate)],
+                &[Word::Text("stopped"), Word::Site(site), Word::Fate(*fate)],
                 out,
             )
         }
@@ -56,12 +56,12 @@ fn append_out(alloc: Global, o: &OutLine, out: &mut Octets) -> Result<(), NoMemo
         OutLine::Image { site, bytes } => {
             write_words(
                 alloc,
-                &[Word::Text("image"), Word::Site(*site), Word::Hex(bytes)],
+                &[Word::Text("image"), Word::Site(site), Word::Hex(bytes)],
                 out,
             )
         }
         OutLine::Agreed { aaid, outcome } => {
-            let (aaid, outcome) = (Word::Aaid(*aaid), Word::Outcome(*outcome));
+            let (aaid, outcome) = (Word::Aaid(aaid), Word::Outcome(*outcome));
             write_words(
                 alloc,
                 &[Word::Text("tree"), aaid, Word::Text("agreed"), outcome],
@@ -69,7 +69,7 @@ fn append_out(alloc: Global, o: &OutLine, out: &mut Octets) -> Result<(), NoMemo
             )
         }
         OutLine::Mixed { aaid, by } => {
-            let (aaid, by) = (Word::Aaid(*aaid), Word::Numbers(by));
+            let (aaid, by) = (Word::Aaid(aaid), Word::Numbers(by));
             let words = [
                 Word::Text("tree"),
                 aaid,
@@ -82,7 +82,7 @@ fn append_out(alloc: Global, o: &OutLine, out: &mut Octets) -> Result<(), NoMemo
         OutLine::Open { aaid } => {
             write_words(
                 alloc,
-                &[Word::Text("tree"), Word::Aaid(*aaid), Word::Text("open")],
+                &[Word::Text("tree"), Word::Aaid(aaid), Word::Text("open")],
                 out,
             )
         }
@@ -100,11 +100,11 @@ fn append_echo(alloc: Global, text: &Octets, out: &mut Octets) -> Result<(), NoM
 
 fn append_logged(
     alloc: Global,
-    site: SiteName,
-    rec: LogWords,
+    site: &SiteName,
+    rec: &LogWords,
     out: &mut Octets,
 ) -> Result<(), NoMemory>
-    ensures ok { OnOk result (out.new ≡ out.old ++ out_text (OutLine.Log site rec)) }
+    ensures ok { OnOk result (out.new ≡ out.old ++ out_text (OutLine.Log site.now rec.now)) }
     ensures err { OnErr result (Keeps out.old out.new) }
 {
     write_words(alloc, &[Word::Text("log"), Word::Site(site)], out)?;

@@ -129,7 +129,8 @@ fn read_logged(rest: &[u8]) -> Result<OutLine, LineFault>
     let Some((site, rest)) = next_word(rest) else {
         return Err(LineFault::Word);
     };
-    both(read_site(site), read_log(rest)).map(|(site, rec)| OutLine::Log { site, rec })
+    let (site, rec) = both(read_site(site), read_log(rest))?;
+    Ok(OutLine::Log { site, rec })
 }
 
 fn read_sent_line(alloc: Global, rest: &[u8]) -> Result<OutLine, LineFault>
@@ -140,7 +141,8 @@ fn read_sent_line(alloc: Global, rest: &[u8]) -> Result<OutLine, LineFault>
     };
     let front = both(read_number(frame), read_number(from));
     let ends = both(front, read_number(to));
-    both(ends, read_sent(alloc, rest)).map(|(((frame, from), to), rec)| OutLine::Send {
+    let (((frame, from), to), rec) = both(ends, read_sent(alloc, rest))?;
+    Ok(OutLine::Send {
         frame,
         from,
         to,
@@ -154,10 +156,8 @@ fn read_told_line(alloc: Global, rest: &[u8]) -> Result<OutLine, LineFault>
     let Some((node, rest)) = next_word(rest) else {
         return Err(LineFault::Word);
     };
-    both(read_number(node), read_told(alloc, rest)).map(|(node, indication)| OutLine::Tell {
-        node,
-        indication,
-    })
+    let (node, indication) = both(read_number(node), read_told(alloc, rest))?;
+    Ok(OutLine::Tell { node, indication })
 }
 
 fn read_stopped(rest: &[u8]) -> Result<OutLine, LineFault>
@@ -166,7 +166,8 @@ fn read_stopped(rest: &[u8]) -> Result<OutLine, LineFault>
     let Some((site, fate)) = only_pair(rest) else {
         return Err(LineFault::Word);
     };
-    both(read_site(site), read_fate(fate)).map(|(site, fate)| OutLine::Stopped { site, fate })
+    let (site, fate) = both(read_site(site), read_fate(fate))?;
+    Ok(OutLine::Stopped { site, fate })
 }
 
 fn read_state_of(rest: &[u8]) -> Result<OutLine, LineFault>
@@ -182,7 +183,8 @@ fn read_state_of(rest: &[u8]) -> Result<OutLine, LineFault>
         return Err(LineFault::Word);
     }
     let shown = both(read_number(node), read_phase(phase));
-    both(shown, read_long(kept)).map(|((node, phase), kept)| OutLine::State { node, phase, kept })
+    let ((node, phase), kept) = both(shown, read_long(kept))?;
+    Ok(OutLine::State { node, phase, kept })
 }
 
 fn read_image(alloc: Global, rest: &[u8]) -> Result<OutLine, LineFault>
@@ -193,10 +195,12 @@ fn read_image(alloc: Global, rest: &[u8]) -> Result<OutLine, LineFault>
     };
     let Some(_) = next_word(rest) else {
         let bytes = Octets::new(alloc);
-        return read_site(site).map(|site| OutLine::Image { site, bytes });
+        let site = read_site(site)?;
+        return Ok(OutLine::Image { site, bytes });
     };
     let bytes = one_hex(alloc, rest);
-    both(read_site(site), bytes).map(|(site, bytes)| OutLine::Image { site, bytes })
+    let (site, bytes) = both(read_site(site), bytes)?;
+    Ok(OutLine::Image { site, bytes })
 }
 
 fn one_hex(alloc: Global, rest: &[u8]) -> Result<Octets, LineFault>
@@ -435,7 +439,8 @@ fn read_open(rest: &[u8]) -> Result<SentWords, LineFault>
     let Some((x, units)) = only_pair(rest) else {
         return Err(LineFault::Word);
     };
-    both(read_mark(x), read_permitted(units)).map(|(x, units)| SentWords::OpenAssoc { x, units })
+    let (x, units) = both(read_mark(x), read_permitted(units))?;
+    Ok(SentWords::OpenAssoc { x, units })
 }
 
 fn read_accept(rest: &[u8]) -> Result<SentWords, LineFault>
@@ -445,7 +450,8 @@ fn read_accept(rest: &[u8]) -> Result<SentWords, LineFault>
         return Err(LineFault::Word);
     };
     let marks = both(read_mark(x), read_mark(y));
-    both(marks, read_permitted(units)).map(|((x, y), units)| SentWords::AcceptAssoc { x, y, units })
+    let ((x, y), units) = both(marks, read_permitted(units))?;
+    Ok(SentWords::AcceptAssoc { x, y, units })
 }
 
 fn read_shut(rest: &[u8]) -> Result<SentWords, LineFault>
@@ -454,7 +460,8 @@ fn read_shut(rest: &[u8]) -> Result<SentWords, LineFault>
     let Some((x, y)) = only_pair(rest) else {
         return Err(LineFault::Word);
     };
-    both(read_mark(x), read_maybe_mark(y)).map(|(x, y)| SentWords::ShutAssoc { x, y })
+    let (x, y) = both(read_mark(x), read_maybe_mark(y))?;
+    Ok(SentWords::ShutAssoc { x, y })
 }
 
 fn read_on(alloc: Global, rest: &[u8]) -> Result<SentWords, LineFault>
@@ -463,10 +470,8 @@ fn read_on(alloc: Global, rest: &[u8]) -> Result<SentWords, LineFault>
     let Some((seq, rest)) = next_word(rest) else {
         return Err(LineFault::Word);
     };
-    both(read_long(seq), read_dialogue(alloc, rest)).map(|(seq, rec)| SentWords::OnAssoc {
-        seq,
-        rec,
-    })
+    let (seq, rec) = both(read_long(seq), read_dialogue(alloc, rest))?;
+    Ok(SentWords::OnAssoc { seq, rec })
 }
 
 fn kin(rest: &[u8]) -> Result<(Aaid, BranchId), LineFault>
@@ -488,7 +493,8 @@ fn read_reply(rest: &[u8]) -> Result<SentWords, LineFault>
         return Err(LineFault::Word);
     };
     let reply = both(read_branch(branch), read_state(rest));
-    both(read_aaid(aaid), reply).map(|(aaid, (branch, state))| SentWords::RecReply {
+    let (aaid, (branch, state)) = both(read_aaid(aaid), reply)?;
+    Ok(SentWords::RecReply {
         aaid,
         branch,
         state,

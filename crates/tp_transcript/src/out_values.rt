@@ -67,7 +67,8 @@ pub(crate) fn read_mark(word: &[u8]) -> Result<Mark, LineFault>
     let Some((boot, rest)) = cut_at(b'.', word) else {
         return Err(LineFault::Word);
     };
-    both(read_long(boot), read_place(rest)).map(|(boot, (node, count))| Mark { boot, node, count })
+    let (boot, (node, count)) = both(read_long(boot), read_place(rest))?;
+    Ok(Mark { boot, node, count })
 }
 
 fn read_place(word: &[u8]) -> Result<(u16, u64), LineFault>
@@ -109,7 +110,7 @@ pub(crate) fn read_maybe_mark(word: &[u8]) -> Result<Option<Mark>, LineFault>
     if is_word(word, "-") {
         return Ok(None);
     }
-    read_mark(word).map(|mark| Some(mark))
+    Ok(Some(read_mark(word)?))
 }
 
 fn read_maybe_branch(word: &[u8]) -> Result<Option<BranchId>, LineFault>
@@ -118,7 +119,7 @@ fn read_maybe_branch(word: &[u8]) -> Result<Option<BranchId>, LineFault>
     if is_word(word, "-") {
         return Ok(None);
     }
-    read_branch(word).map(|branch| Some(branch))
+    Ok(Some(read_branch(word)?))
 }
 
 /// The words of a node's key: the tree's identifier, and the branch's or `-`.

@@ -19,10 +19,10 @@ pub(crate) fn write_sent(alloc: Global, rec: &SentWords, out: &mut Octets) -> Re
     match rec {
         SentWords::OpenAssoc { x, units } => {
             let units = Word::Units(units.bits());
-            write_words(alloc, &[Word::Text("open"), Word::Mark(*x), units], out)
+            write_words(alloc, &[Word::Text("open"), Word::Mark(x), units], out)
         }
         SentWords::AcceptAssoc { x, y, units } => {
-            let (x, y) = (Word::Mark(*x), Word::Mark(*y));
+            let (x, y) = (Word::Mark(x), Word::Mark(y));
             write_words(
                 alloc,
                 &[Word::Text("accept"), x, y, Word::Units(units.bits())],
@@ -30,7 +30,7 @@ pub(crate) fn write_sent(alloc: Global, rec: &SentWords, out: &mut Octets) -> Re
             )
         }
         SentWords::ShutAssoc { x, y } => {
-            let (x, y) = (Word::Mark(*x), mark_or_none(*y));
+            let (x, y) = (Word::Mark(x), mark_or_none(y));
             write_words(alloc, &[Word::Text("shut"), x, y], out)
         }
         SentWords::OnAssoc { seq, rec } => write_on(alloc, *seq, rec, out),
@@ -45,8 +45,8 @@ pub(crate) fn write_sent(alloc: Global, rec: &SentWords, out: &mut Octets) -> Re
     }
 }
 
-fn mark_or_none<'a>(mark: Option<Mark>) -> Word<'a>
-    ensures { word_text result ≡ maybe_word mark_word mark }
+fn mark_or_none<'a>(mark: &'a Option<Mark>) -> Word<'a>
+    ensures { word_text result ≡ maybe_word mark_word mark.now }
 {
     match mark {
         None => Word::Text("-"),
@@ -65,7 +65,7 @@ fn write_kin(
     ensures ok { OnOk result (out.new ≡ out.old ++ words (word.now ∷ aaid_word aaid.now ∷ branch_word branch.now ∷ [])) }
     ensures err { OnErr result (Keeps out.old out.new) }
 {
-    let (aaid, branch) = (Word::Aaid(*aaid), Word::Branch(*branch));
+    let (aaid, branch) = (Word::Aaid(aaid), Word::Branch(branch));
     write_words(alloc, &[Word::Text(word), aaid, branch], out)
 }
 
@@ -133,7 +133,7 @@ fn write_dialogue(alloc: Global, rec: &DialogueRecord, out: &mut Octets) -> Resu
             branch,
             holder,
         } => {
-            let (aaid, branch) = (Word::Aaid(*aaid), Word::Branch(*branch));
+            let (aaid, branch) = (Word::Aaid(aaid), Word::Branch(branch));
             write_words(
                 alloc,
                 &[Word::Text("begin"), aaid, branch, Word::Holder(*holder)],

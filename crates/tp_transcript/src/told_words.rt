@@ -44,7 +44,7 @@ pub(crate) fn write_told(
         Indication::HandshakeConfirm { peer } => write_one(alloc, "handshake-confirm", *peer, out),
         Indication::HandshakeGrant { peer } => write_one(alloc, "handshake-and-grant", *peer, out),
         Indication::BeginTransaction { peer, aaid } => {
-            let aaid = Word::Aaid(*aaid);
+            let aaid = Word::Aaid(aaid);
             write_words(
                 alloc,
                 &[Word::Text("begin-transaction"), Word::Short(*peer), aaid],

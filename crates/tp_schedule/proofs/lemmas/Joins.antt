@@ -1,5 +1,6 @@
 -- Words after words: what is written in two parts, with a space between them, is one text.
 use Rattle.std.proofs.Common.{◌≡◌, ℕ, Bool, true, false, List, [], ◌∷◌, ◌++◌, refl, ap, sym, subst, ◌∙◌, append_assoc}
+use Rattle.std.proofs.lemmas.List.{append-nil}
 use Rattle.tp_names.specs.Writing.{Keeps}
 use Rattle.tp_names.proofs.Keeping.{keeps_front}
 use Rattle.tp_logrec.proofs.Writes.{keeps_more, keeps_through}
@@ -45,3 +46,18 @@ request_has _ = refl
 pub stop_has : (l : StopLine) → has_word (stop_words l) ≡ true
 stop_has (StopLine.Again k) = refl
 stop_has _ = refl
+
+-- ---- one word after the other
+
+-- words, each after a space
+abbrev pub spaced : List (List ℕ) → List ℕ
+spaced [] = []
+spaced (w ∷ ws) = 32 ∷ (w ++ spaced ws)
+
+pub words_spaced : (w : List ℕ) (ws : List (List ℕ)) → words (w ∷ ws) ≡ w ++ spaced ws
+words_spaced w [] = sym (append-nil w)
+words_spaced w (v ∷ vs) = ap (λ (t : List ℕ). w ++ (32 ∷ t)) (words_spaced v vs)
+
+-- a space and one more word
+pub one_more : (out w : List ℕ) (rest : List ℕ) → ((out ++ 32 ∷ []) ++ w) ++ rest ≡ out ++ (32 ∷ (w ++ rest))
+one_more out w rest = append_assoc (out ++ 32 ∷ []) w rest ∙ append_assoc out (32 ∷ []) (w ++ rest)

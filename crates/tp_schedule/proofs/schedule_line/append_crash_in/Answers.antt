@@ -9,13 +9,13 @@ pub returns-clause-ok : goal.returns-clause-ok
 returns-clause-ok c =
     joined
     (codes "crash")
-    (c.args.site ∷ codes "at" ∷ decimal c.from.result ∷ codes "fill" ∷ hex (c.args.fill ∷ []) ∷ codes "in" ∷ [])
+    (c.args.site.now ∷ codes "at" ∷ decimal c.from.result ∷ codes "fill" ∷ hex (c.args.fill ∷ []) ∷ codes "in" ∷ [])
     (stop_words c.args.line.now)
     (stop_has c.args.line.now)
     _ _ _ _
     c.in_ok-write_words.ensures.ok c.in_ok-push.ensures.ok c.in_ok-append_stop.ensures.ok
     ∙ ap
-    (λ (n : ℕ). c.args.out.now ++ words (codes "crash" ∷ c.args.site ∷ codes "at" ∷ decimal n ∷ codes "fill" ∷ hex (c.args.fill ∷ []) ∷ codes "in" ∷ stop_words c.args.line.now))
+    (λ (n : ℕ). c.args.out.now ++ words (codes "crash" ∷ c.args.site.now ∷ codes "at" ∷ decimal n ∷ codes "fill" ∷ hex (c.args.fill ∷ []) ∷ codes "in" ∷ stop_words c.args.line.now))
     c.from.ensures
 
 pub returns-in_err-append_stop-clause-err : goal.returns-in_err-append_stop-clause-err
