@@ -1,103 +1,155 @@
 //! Logs from outside: worked examples of bytes, machines that stop at each call, and a file.
 use std::alloc::Global;
-use std::test::Fail;
 use tp_journal::{ForceFault, Gates, Journal, Keeper, StartFault, format};
 use tp_logrec::LogRec;
-use tp_names::{NoMemory, Octets};
+use tp_names::Octets;
 use tp_outside::{Disk, FileDisk, FuseDisk, MemDisk};
 
-const HEAD: [u8; 5] = [0x4f, 0x54, 0x50, 0x4c, 1];
-
-const EMPTY: [u8; 6] = [0x4f, 0x54, 0x50, 0x4c, 1, 0];
+const EMPTY: &[u8] = &[0x4f, 0x54, 0x50, 0x4c, 1, 0];
 
 // A log of version 1 with the record `boot 2`.
-const BOOT_2: [u8; 18] = [
+const BOOT_2: &[u8] = &[
     0x4f, 0x54, 0x50, 0x4c, 1, 1, 0, 9, 1, 0, 0, 0, 0, 0, 0, 0, 2, 0,
 ];
 
 // One of version 1 with the records `boot 1` and `boot 2`, of which the brief is the second.
-const TWO_BOOTS: [u8; 30] = [
+const TWO_BOOTS: &[u8] = &[
     0x4f, 0x54, 0x50, 0x4c, 1, 1, 0, 9, 1, 0, 0, 0, 0, 0, 0, 0, 1, 1, 0, 9, 1, 0, 0, 0, 0, 0, 0, 0,
     2, 0,
 ];
 
 // A log of version 2 with the record `boot 2`.
-const WIDE_BOOT_2: [u8; 23] = [
+const WIDE_BOOT_2: &[u8] = &[
     0x4f, 0x54, 0x50, 0x4c, 1, 1, 0, 2, 7, 2, 1, 0, 9, 1, 0, 0, 0, 0, 0, 0, 0, 2, 0,
 ];
 
-fn disk_of(alloc: Global, bytes: &[u8]) -> Result<MemDisk, NoMemory> {
-    Ok(MemDisk::from(alloc, Octets::from_slice(alloc, bytes)?))
+// Bytes after a closed gate are no part of a log.
+const LOOSE: &[u8] = &[0x4f, 0x54, 0x50, 0x4c, 1, 0, 0xff, 0xff];
+
+// Bytes, and the places at which they show that they are no log of bodies, and no log of records.
+const FOREIGN: &[(&[u8], Option<u64>, Option<u64>)] = &[
+    (&[], Some(0), Some(0)),
+    // There is no gate.
+    (&[0x4f, 0x54, 0x50, 0x4c, 1], Some(5), Some(5)),
+    (LOOSE, None, None),
+    // The body is shorter than its length says.
+    (&[0x4f, 0x54, 0x50, 0x4c, 1, 1, 0, 5, 1], Some(5), Some(5)),
+    // The place that the selector asks for is missing.
+    (&[0x4f, 0x54, 0x50, 0x4c, 2, 0], Some(4), Some(4)),
+    // A body that is no record, after one that is: only the gates take it.
+    (
+        &[
+            0x4f, 0x54, 0x50, 0x4c, 1, 1, 0, 9, 1, 0, 0, 0, 0, 0, 0, 0, 2, 1, 0, 1, 9, 0,
+        ],
+        None,
+        Some(17),
+    ),
+    // The mark stands at the front alone.
+    (
+        &[
+            0x4f, 0x54, 0x50, 0x4c, 1, 1, 0, 9, 1, 0, 0, 0, 0, 0, 0, 0, 2, 1, 0, 2, 7, 2, 0,
+        ],
+        None,
+        Some(17),
+    ),
+];
+
+fn disk_of(alloc: Global, bytes: &[u8]) -> Option<MemDisk> {
+    let bytes = Octets::from_slice(alloc, bytes).ok()?;
+    Some(MemDisk::from(alloc, bytes))
 }
 
-// The place at which the bytes show that they are no log of bodies, or none where they are one.
-fn foreign_at(alloc: Global, bytes: &[u8]) -> Result<Option<u64>, Fail> {
+fn started<D: Disk + Drop>(alloc: Global, disk: D) -> Option<Journal<D>> {
+    Journal::start(alloc, disk).ok()
+}
+
+fn started_on(alloc: Global, bytes: &[u8]) -> Option<Journal<MemDisk>> {
+    started(alloc, disk_of(alloc, bytes)?)
+}
+
+// The place that a fault names.
+fn place(fault: StartFault) -> Option<u64> {
+    match fault {
+        StartFault::Foreign { at } => Some(at),
+        _ => None,
+    }
+}
+
+// The place at which the bytes show that they are no log of bodies.
+fn foreign_at(alloc: Global, bytes: &[u8]) -> Option<u64> {
     match Gates::start(alloc, disk_of(alloc, bytes)?) {
-        Ok(_) => Ok(None),
-        Err((_, StartFault::Foreign { at })) => Ok(Some(at)),
-        Err((_, fault)) => Err(fault.into()),
+        Ok(_) => None,
+        Err((_, fault)) => place(fault),
     }
 }
 
 // The same of a log of records.
-fn foreign_record_at(alloc: Global, bytes: &[u8]) -> Result<Option<u64>, Fail> {
+fn foreign_record_at(alloc: Global, bytes: &[u8]) -> Option<u64> {
     match Journal::start(alloc, disk_of(alloc, bytes)?) {
-        Ok(_) => Ok(None),
-        Err((_, StartFault::Foreign { at })) => Ok(Some(at)),
-        Err((_, fault)) => Err(fault.into()),
+        Ok(_) => None,
+        Err((_, fault)) => place(fault),
     }
 }
 
 // How many records a log has.
-fn records_in(alloc: Global, bytes: &[u8]) -> Result<usize, Fail> {
-    match Journal::start(alloc, disk_of(alloc, bytes)?) {
-        Ok(journal) => Ok(journal.count()),
-        Err((_, fault)) => Err(fault.into()),
+fn records_in(alloc: Global, bytes: &[u8]) -> Option<usize> {
+    Some(started_on(alloc, bytes)?.count())
+}
+
+#[test]
+fn places_of_foreign_bytes(rt: HostRuntime) {
+    for (bytes, body_at, record_at) in FOREIGN {
+        assert!(rt; foreign_at(rt.alloc(), bytes) == *body_at, "{bytes:?}");
+        assert!(rt;
+            foreign_record_at(rt.alloc(), bytes) == *record_at,
+            "{bytes:?}"
+        );
     }
 }
 
-#[test]
-fn places_of_foreign_bytes(rt: HostRuntime) -> Result<(), Fail> {
-    let alloc = rt.alloc();
-    let broken = [0x4f, 0x54, 0x50, 0x4c, 1, 1, 0, 5, 1];
-    assert_eq!(rt; foreign_at(alloc, &broken)?, Some(5));
-    assert_eq!(rt; foreign_record_at(alloc, &broken)?, Some(5));
-    assert_eq!(rt; foreign_record_at(alloc, &HEAD)?, Some(5));
-    let loose = [0x4f, 0x54, 0x50, 0x4c, 1, 0, 0xff, 0xff];
-    assert_eq!(rt; foreign_at(alloc, &loose)?, None);
-    assert_eq!(rt; records_in(alloc, &loose)?, 0);
-    assert_eq!(rt; foreign_record_at(alloc, &[])?, Some(0));
-    let no_place = [0x4f, 0x54, 0x50, 0x4c, 2, 0];
-    assert_eq!(rt; foreign_record_at(alloc, &no_place)?, Some(4));
-    // A body that is no record, after one that is: only the gates take it.
-    let mut other = BOOT_2.to_vec(alloc)?;
-    other.truncate(17);
-    other.extend_from_slice(&[1, 0, 1, 9, 0])?;
-    assert_eq!(rt; foreign_at(alloc, &other)?, None);
-    assert_eq!(rt; foreign_record_at(alloc, &other)?, Some(17));
-    // The mark stands at the front alone.
-    let mut late = BOOT_2.to_vec(alloc)?;
-    late.truncate(17);
-    late.extend_from_slice(&[1, 0, 2, 7, 2, 0])?;
-    assert_eq!(rt; foreign_record_at(alloc, &late)?, Some(17));
-    Ok(())
+// Whether gates start on the bytes.
+fn gates_start(alloc: Global, bytes: &[u8]) -> Option<bool> {
+    Some(Gates::start(alloc, disk_of(alloc, bytes)?).is_ok())
 }
 
 #[test]
-fn a_change_of_generation_is_ended(rt: HostRuntime) -> Result<(), Fail> {
-    let alloc = rt.alloc();
-    let cut_short = [
-        0x4f, 0x54, 0x50, 0x4c, 2, 255, 255, 255, 255, 255, 255, 255, 255, 255, 255, 255, 255, 255,
-        1, 0, 9, 1, 0, 0, 0, 0, 0, 0, 0, 2, 0, 0, 0, 0, 0, 0, 0, 0, 18,
-    ];
-    let Ok(journal) = Journal::start(alloc, disk_of(alloc, &cut_short)?) else {
-        return Err("not started".into());
+fn bytes_after_a_closed_gate_are_loose(rt: HostRuntime) {
+    assert!(rt; matches!(gates_start(rt.alloc(), LOOSE), Some(true)));
+    assert!(rt; matches!(records_in(rt.alloc(), LOOSE), Some(0)));
+}
+
+fn boot_of(rec: &LogRec) -> Option<u64> {
+    match rec {
+        LogRec::Boot { boot } => Some(*boot),
+        _ => None,
+    }
+}
+
+// The boot of a log's one record.
+fn only_boot(list: &[LogRec]) -> Option<u64> {
+    match list {
+        [rec] => boot_of(rec),
+        _ => None,
+    }
+}
+
+// Whether a log with the one record `boot 2` is on the disk in these bytes.
+fn has_boot_2(journal: Journal<MemDisk>, bytes: &[u8]) -> bool {
+    matches!(only_boot(journal.list()), Some(2)) && journal.disk().bytes() == bytes
+}
+
+// A change of generation that was cut short, with the new text at byte 18.
+const CUT_SHORT: &[u8] = &[
+    0x4f, 0x54, 0x50, 0x4c, 2, 255, 255, 255, 255, 255, 255, 255, 255, 255, 255, 255, 255, 255, 1,
+    0, 9, 1, 0, 0, 0, 0, 0, 0, 0, 2, 0, 0, 0, 0, 0, 0, 0, 0, 18,
+];
+
+#[test]
+fn a_change_of_generation_is_ended(rt: HostRuntime) {
+    let Some(journal) = started_on(rt.alloc(), CUT_SHORT) else {
+        panic!(rt; "not started")
     };
-    assert_eq!(rt; journal.count(), 1);
-    assert!(rt; matches!(journal.list().first(), Some(LogRec::Boot { boot: 2 })));
-    let disk = journal.disk();
-    assert_eq!(rt; disk.bytes(), BOOT_2.as_slice());
-    Ok(())
+    assert!(rt; has_boot_2(journal, BOOT_2));
 }
 
 // Forces a Boot, which has a text in each version, and answers its place.
@@ -111,76 +163,83 @@ fn force_boot<D: Disk>(
 }
 
 // What is on the disk where the machine stops at the k-th call of a force of `boot 1`.
-fn stopped_at(alloc: Global, k: u8, fill: u8) -> Result<Vec<u8>, Fail> {
+fn stopped_at(alloc: Global, k: u8, fill: u8) -> Option<MemDisk> {
     // The start makes one call.
-    let disk = FuseDisk::new(disk_of(alloc, &EMPTY)?, u64::from(k) + 1, fill);
-    let Ok(mut journal) = Journal::start(alloc, disk) else {
-        return Err("not started".into());
-    };
-    if journal.wide() {
-        return Err("wide".into());
-    }
+    let disk = FuseDisk::new(disk_of(alloc, EMPTY)?, u64::from(k) + 1, fill);
+    let mut journal = started(alloc, disk)?;
     let _outcome = force_boot(alloc, &mut journal, 1);
-    Ok(journal.disk().image().bytes().to_vec(alloc)?)
+    Some(journal.disk().image())
 }
 
+// Before the third call the text is not whole, and before the last its gate is not open.
+fn left_by(k: u8, fill: u8) -> [u8; 18] {
+    let b = fill;
+    match k {
+        1 | 2 => [
+            0x4f, 0x54, 0x50, 0x4c, 1, 0, b, b, b, b, b, b, b, b, b, b, b, b,
+        ],
+        3 | 4 => [
+            0x4f, 0x54, 0x50, 0x4c, 1, b, 0, 9, 1, 0, 0, 0, 0, 0, 0, 0, 1, 0,
+        ],
+        _ => [
+            0x4f, 0x54, 0x50, 0x4c, 1, 1, 0, 9, 1, 0, 0, 0, 0, 0, 0, 0, 1, 0,
+        ],
+    }
+}
+
+// A machine that stops at that call leaves these bytes, and so many records are found there.
+fn leaves(alloc: Global, k: u8, fill: u8) -> Option<bool> {
+    let disk = stopped_at(alloc, k, fill)?;
+    let is_left = disk.bytes() == left_by(k, fill).as_slice();
+    let kept = usize::from(k == 5 || k > 2 && fill == 1);
+    Some(is_left && started(alloc, disk)?.count() == kept)
+}
+
+const FILLS: &[u8] = &[0, 1, 255];
+
 #[test]
-fn a_stop_at_each_call(rt: HostRuntime) -> Result<(), Fail> {
-    let alloc = rt.alloc();
-    for fill in [0, 1, 255] {
-        for k in [1, 2] {
-            let left = stopped_at(alloc, k, fill)?;
-            assert_eq!(rt; left.len(), 18);
-            assert_eq!(rt; &left[..6], EMPTY.as_slice());
-            assert!(rt;
-                left[6..].iter().all(|b| *b == fill),
-                "call {k}, fill {fill}"
-            );
-            assert_eq!(rt; records_in(alloc, &left)?, 0, "call {k}, fill {fill}");
-        }
-        for k in [3, 4, 5] {
-            let left = stopped_at(alloc, k, fill)?;
-            let gate = if k == 5 { 1 } else { fill };
-            let whole = [
-                0x4f, 0x54, 0x50, 0x4c, 1, gate, 0, 9, 1, 0, 0, 0, 0, 0, 0, 0, 1, 0,
-            ];
-            assert_eq!(rt; left.as_slice(), whole.as_slice(), "call {k}, fill {fill}");
-            let kept = usize::from(gate == 1);
-            assert_eq!(rt; records_in(alloc, &left)?, kept, "call {k}, fill {fill}");
+fn a_stop_at_each_call(rt: HostRuntime) {
+    for fill in FILLS {
+        for k in 1..=5 {
+            let holds = leaves(rt.alloc(), k, *fill);
+            assert!(rt; matches!(holds, Some(true)), "call {k}, fill {fill}");
         }
     }
-    Ok(())
 }
 
 // Migrates a log, or compacts it, and answers whether that was done.
-fn change<D: Disk>(alloc: Global, journal: &mut Journal<D>, migrates: bool) -> Result<bool, Fail> {
-    let None = journal.first_out_of_order(alloc)? else {
-        return Err("out of order".into());
-    };
-    if migrates {
-        return Ok(journal.migrate(alloc).is_ok());
+fn change<D: Disk>(alloc: Global, journal: &mut Journal<D>, migrates: bool) -> Option<bool> {
+    match journal.first_out_of_order(alloc) {
+        Ok(None) => {}
+        _ => return None,
     }
-    Ok(journal.compact(alloc).is_ok())
+    if migrates {
+        return Some(journal.migrate(alloc).is_ok());
+    }
+    Some(journal.compact(alloc).is_ok())
 }
 
+// Whether a log that is migrated, or compacted, has the one record `boot 2` in these bytes.
+fn changes_to(alloc: Global, old: &[u8], migrates: bool, new: &[u8]) -> Option<bool> {
+    let mut journal = started_on(alloc, old)?;
+    let done = change(alloc, &mut journal, migrates)?;
+    Some(done && has_boot_2(journal, new))
+}
+
+// A log, whether it is migrated, and what becomes of it.
+const CHANGES: &[(&[u8], bool, &[u8])] = &[
+    (TWO_BOOTS, false, BOOT_2),
+    (TWO_BOOTS, true, WIDE_BOOT_2),
+    // The new text is longer than what stands, and zeros stand before it.
+    (BOOT_2, true, WIDE_BOOT_2),
+];
+
 #[test]
-fn a_changed_log_has_the_brief_alone(rt: HostRuntime) -> Result<(), Fail> {
-    let alloc = rt.alloc();
-    let rows: [(&[u8], bool, &[u8]); 3] = [
-        (&TWO_BOOTS, false, &BOOT_2),
-        (&TWO_BOOTS, true, &WIDE_BOOT_2),
-        // The new text is longer than what stands, and zeros stand before it.
-        (&BOOT_2, true, &WIDE_BOOT_2),
-    ];
-    for (old, migrates, new) in rows {
-        let Ok(mut journal) = Journal::start(alloc, disk_of(alloc, old)?) else {
-            return Err("not started".into());
-        };
-        assert!(rt; change(alloc, &mut journal, migrates)?);
-        assert_eq!(rt; journal.count(), 1);
-        assert_eq!(rt; journal.disk().bytes(), new);
+fn a_changed_log_has_the_brief_alone(rt: HostRuntime) {
+    for (old, migrates, new) in CHANGES {
+        let holds = changes_to(rt.alloc(), old, *migrates, new);
+        assert!(rt; matches!(holds, Some(true)), "{old:?}");
     }
-    Ok(())
 }
 
 // Whether a log was changed on a machine that stops at the k-th call of that, and what is on the disk then.
@@ -190,102 +249,128 @@ fn changed_up_to(
     k: u64,
     fill: u8,
     migrates: bool,
-) -> Result<(bool, MemDisk), Fail> {
+) -> Option<(bool, MemDisk)> {
     // The start makes one call.
     let disk = FuseDisk::new(disk_of(alloc, old)?, k.saturating_add(1), fill);
-    let Ok(mut journal) = Journal::start(alloc, disk) else {
-        return Err("not started".into());
-    };
+    let mut journal = started(alloc, disk)?;
     let done = change(alloc, &mut journal, migrates)?;
-    Ok((done, journal.disk().image()))
+    Some((done, journal.disk().image()))
+}
+
+// Whether the log that is found then is wide, how many records it has, and the boot of the last.
+fn found(alloc: Global, disk: MemDisk) -> Option<(bool, usize, u64)> {
+    let journal = started(alloc, disk)?;
+    let last = boot_of(journal.list().last()?)?;
+    Some((journal.wide(), journal.count(), last))
+}
+
+// The sixth call syncs the selector of the new text. Up to that the list stands that stood, and then its brief.
+fn stands(alloc: Global, old: &[u8], k: u64, fill: u8, migrates: bool) -> Option<bool> {
+    let (done, left) = changed_up_to(alloc, old, k, fill, migrates)?;
+    let (wide, count, last) = found(alloc, left)?;
+    let brief = k > 6;
+    let wanted = if brief { 1 } else { records_in(alloc, old)? };
+    Some(done == (k == 13) && wide == (migrates && brief) && count == wanted && last == 2)
 }
 
 #[test]
-fn a_stop_in_a_change_leaves_the_list_or_its_brief(rt: HostRuntime) -> Result<(), Fail> {
-    let alloc = rt.alloc();
-    let rows: [(&[u8], bool, usize); 3] = [
-        (&TWO_BOOTS, false, 2),
-        (&TWO_BOOTS, true, 2),
-        (&BOOT_2, true, 1),
-    ];
-    for (old, migrates, old_count) in rows {
-        for fill in [0, 1, 255] {
+fn a_stop_in_a_change_leaves_the_list_or_its_brief(rt: HostRuntime) {
+    for (old, migrates, _) in CHANGES {
+        for fill in FILLS {
             for k in 1..=13 {
-                let (done, left) = changed_up_to(alloc, old, k, fill, migrates)?;
-                assert!(rt; done == (k == 13), "call {k}, fill {fill}");
-                let Ok(journal) = Journal::start(alloc, left) else {
-                    return Err("not started again".into());
-                };
-                // The sixth call syncs the selector of the new text.
-                let brief = k > 6;
-                assert!(rt;
-                    journal.wide() == (migrates && brief),
-                    "call {k}, fill {fill}"
-                );
-                let count = if brief { 1 } else { old_count };
-                assert_eq!(rt; journal.count(), count, "call {k}, fill {fill}");
-                assert!(rt; matches!(journal.list().last(), Some(LogRec::Boot { boot: 2 })));
+                let holds = stands(rt.alloc(), old, k, *fill, *migrates);
+                assert!(rt; matches!(holds, Some(true)), "call {k}, fill {fill}");
             }
         }
     }
-    Ok(())
+}
+
+// The same record twice.
+const TWICE: &[u8] = &[
+    0x4f, 0x54, 0x50, 0x4c, 1, 1, 0, 9, 1, 0, 0, 0, 0, 0, 0, 0, 2, 1, 0, 9, 1, 0, 0, 0, 0, 0, 0, 0,
+    2, 0,
+];
+
+fn first_out_of_order(alloc: Global, bytes: &[u8]) -> Option<usize> {
+    started_on(alloc, bytes)?.first_out_of_order(alloc).ok()?
 }
 
 #[test]
-fn a_list_out_of_order_is_told(rt: HostRuntime) -> Result<(), Fail> {
-    let alloc = rt.alloc();
-    let mut twice = BOOT_2.to_vec(alloc)?;
-    twice.truncate(17);
-    twice.extend_from_slice(&BOOT_2[5..])?;
-    let Ok(journal) = Journal::start(alloc, disk_of(alloc, &twice)?) else {
-        return Err("not started".into());
-    };
-    assert_eq!(rt; journal.first_out_of_order(alloc)?, Some(1));
-    Ok(())
+fn a_list_out_of_order_is_told(rt: HostRuntime) {
+    assert!(rt; matches!(first_out_of_order(rt.alloc(), TWICE), Some(1)));
+}
+
+// Whether so many boots are forced in turn, each at its place in a log of version 2.
+fn are_forced<D: Disk>(alloc: Global, journal: &mut Journal<D>, last: u32) -> bool {
+    let mut wanted = 10;
+    for boot in 1..=last {
+        match force_boot(alloc, journal, u64::from(boot)) {
+            Ok(place) if place == wanted => {}
+            _ => return false,
+        }
+        wanted = place_after(wanted);
+    }
+    true
+}
+
+// A boot takes twelve bytes.
+fn place_after(place: u64) -> u64 {
+    place.saturating_add(12)
+}
+
+// Whether the records are so many boots in turn.
+fn are_boots(list: &[LogRec], last: u64) -> bool {
+    let mut boot = 0u64;
+    for rec in list {
+        boot = boot.saturating_add(1);
+        match boot_of(rec) {
+            Some(found) if found == boot => {}
+            _ => return false,
+        }
+    }
+    boot == last
 }
 
 #[test]
-fn a_thousand_records_are_read_again_from_a_file(rt: HostRuntime) -> Result<(), Fail> {
-    let alloc = rt.alloc();
+fn a_thousand_records_are_read_again_from_a_file(rt: HostRuntime) {
     let mut disk = FileDisk::new(&rt, "tp_journal_test.log");
-    format(&mut disk)?;
-    let Ok(mut journal) = Journal::start(alloc, disk) else {
-        return Err("not started".into());
+    assert!(rt; format(&mut disk).is_ok());
+    let Some(mut journal) = started(rt.alloc(), disk) else {
+        panic!(rt; "not started")
     };
     assert!(rt; journal.wide());
-    for boot in 1..=1000 {
-        let place = force_boot(alloc, &mut journal, boot)?;
-        assert_eq!(rt; place, 10 + 12 * (boot - 1));
-    }
-    let disk = journal.disk();
-    assert_eq!(rt; disk.faults(), 0);
-    let Ok(again) = Journal::start(alloc, FileDisk::new(&rt, "tp_journal_test.log")) else {
-        return Err("not started again".into());
+    assert!(rt; are_forced(rt.alloc(), &mut journal, 1000));
+    assert!(rt; journal.disk().faults() == 0);
+    let Some(again) = started(rt.alloc(), FileDisk::new(&rt, "tp_journal_test.log")) else {
+        panic!(rt; "not started again")
     };
-    assert_eq!(rt; again.count(), 1000);
-    for (i, rec) in again.list().iter().enumerate() {
-        assert!(rt;
-            matches!(rec, LogRec::Boot { boot } if *boot == i as u64 + 1),
-            "record {i}"
-        );
-    }
-    assert_eq!(rt; again.shut(), None);
-    Ok(())
+    assert!(rt; again.count() == 1000);
+    assert!(rt; are_boots(again.list(), 1000));
+    assert!(rt; again.shut().is_none());
+}
+
+fn formatted(alloc: Global, bytes: &[u8]) -> Option<MemDisk> {
+    let mut disk = disk_of(alloc, bytes)?;
+    Gates::format(&mut disk).ok()?;
+    Some(disk)
+}
+
+fn appended(alloc: Global, gates: &mut Gates<MemDisk>) -> Option<u64> {
+    gates.append(alloc, &[7, 2]).ok()
 }
 
 #[test]
-fn gates_keep_any_bytes(rt: HostRuntime) -> Result<(), Fail> {
-    let alloc = rt.alloc();
-    let mut disk = disk_of(alloc, b"whatever stood here")?;
-    Gates::format(&mut disk)?;
-    assert_eq!(rt; disk.bytes(), EMPTY.as_slice());
-    let Ok(mut gates) = Gates::start(alloc, disk) else {
-        return Err("not started".into());
+fn gates_keep_any_bytes(rt: HostRuntime) {
+    let Some(disk) = formatted(rt.alloc(), b"whatever stood here") else {
+        panic!(rt; "not formatted")
     };
-    assert_eq!(rt; gates.append(alloc, &[7, 2])?, 5);
-    assert_eq!(rt; gates.append(alloc, &[7, 2])?, 10);
-    assert_eq!(rt; gates.count(), 2);
+    assert!(rt; disk.bytes() == EMPTY);
+    let Ok(mut gates) = Gates::start(rt.alloc(), disk) else {
+        panic!(rt; "not started")
+    };
+    assert!(rt; matches!(appended(rt.alloc(), &mut gates), Some(5)));
+    assert!(rt; matches!(appended(rt.alloc(), &mut gates), Some(10)));
+    assert!(rt; gates.count() == 2);
     assert!(rt; gates.fits(65_535));
-    assert_eq!(rt; gates.faults(), 0);
-    Ok(())
+    assert!(rt; gates.faults() == 0);
 }

@@ -1,120 +1,229 @@
 //! What no clause says: that the calls work where there is memory, and the real streams.
-use std::test::Fail;
+use std::alloc::Global;
 use tp_names::Octets;
 use tp_outside::{
-    Disk, Failed, FileDisk, FuseDisk, MemDisk, MemSink, MemSource, Sink, Source, StdSink, StdSource,
+    Disk, FileDisk, FuseDisk, MemDisk, MemSink, MemSource, Sink, Source, StdSink, StdSource,
 };
 
+fn octets(alloc: Global, bytes: &[u8]) -> Option<Octets> {
+    Octets::from_slice(alloc, bytes).ok()
+}
+
+fn source_of(alloc: Global, bytes: &[u8], fails: &[u8]) -> Option<MemSource> {
+    let bytes = octets(alloc, bytes)?;
+    Some(MemSource::new(alloc, bytes, octets(alloc, fails)?))
+}
+
+// How many bytes a read gives; none where it fails.
+fn read<S: Source>(source: &mut S, buf: &mut [u8]) -> Option<usize> {
+    source.read(buf).ok()
+}
+
+// What a read of a source gives, what a buffer of three has then, and the count of faults.
+const READS: &[(Option<usize>, &[u8; 3], u64)] = &[
+    (Some(3), b"abc", 0),
+    (None, b"abc", 1),
+    (Some(2), b"dec", 1),
+    (Some(0), b"dec", 1),
+];
+
 #[test]
-fn a_source_fails_at_the_listed_calls_and_gives_all_bytes(rt: HostRuntime) -> Result<(), Fail> {
-    let alloc = rt.alloc();
-    let mut source = MemSource::new(
-        alloc,
-        Octets::from_slice(alloc, b"abcde")?,
-        Octets::from_slice(alloc, &[2])?,
-    );
+fn a_source_fails_at_the_listed_calls_and_gives_all_bytes(rt: HostRuntime) {
+    let Some(mut source) = source_of(rt.alloc(), b"abcde", &[3]) else {
+        panic!(rt; "no memory")
+    };
+    assert!(rt; matches!(read(&mut source, &mut []), Some(0)));
     let mut buf = [0u8; 3];
-    assert_eq!(rt; source.read(&mut buf), Ok(3));
-    assert_eq!(rt; buf, *b"abc");
-    assert_eq!(rt; source.read(&mut buf), Err(Failed));
-    assert_eq!(rt; source.faults(), 1);
-    assert_eq!(rt; source.read(&mut []), Ok(0));
-    assert_eq!(rt; source.read(&mut buf), Ok(2));
-    assert_eq!(rt; buf, *b"dec");
-    assert_eq!(rt; source.read(&mut buf), Ok(0));
-    assert_eq!(rt; source.faults(), 1);
-    Ok(())
-}
-
-#[test]
-fn a_sink_fails_at_the_listed_calls_and_keeps_the_rest(rt: HostRuntime) -> Result<(), Fail> {
-    let alloc = rt.alloc();
-    let mut sink = MemSink::new(alloc, Octets::from_slice(alloc, &[1, 3])?);
-    assert_eq!(rt; sink.write(b"ab"), Err(Failed));
-    assert_eq!(rt; sink.write(b"cd"), Ok(2));
-    assert_eq!(rt; sink.write(b"ef"), Err(Failed));
-    assert_eq!(rt; sink.write(b"g"), Ok(1));
-    assert_eq!(rt; sink.bytes(), b"cdg".as_slice());
-    assert_eq!(rt; sink.faults(), 2);
-    assert_eq!(rt; sink.starved(), 0);
-    Ok(())
-}
-
-#[test]
-fn standard_input_ends_and_standard_output_takes_bytes(rt: HostRuntime) -> Result<(), Fail> {
-    let mut source = StdSource::new(&rt);
-    let mut buf = [0u8; 8];
-    assert_eq!(rt; source.read(&mut buf), Ok(0));
-    assert_eq!(rt; source.faults(), 0);
-    let mut sink = StdSink::new(&rt);
-    assert_eq!(rt; sink.write(b"written\n"), Ok(8));
-    assert_eq!(rt; sink.faults(), 0);
-    Ok(())
-}
-
-#[test]
-fn a_disk_fails_at_the_listed_changing_calls_alone(rt: HostRuntime) -> Result<(), Fail> {
-    let alloc = rt.alloc();
-    let calls = Octets::from_slice(alloc, &[1, 3, 6])?;
-    let mut disk = MemDisk::failing(alloc, Octets::from_slice(alloc, b"abc")?, calls);
-    let mut buf = [0u8; 2];
-    assert_eq!(rt; disk.read(1, &mut buf), Ok(2));
-    assert_eq!(rt; buf, *b"bc");
-    assert_eq!(rt; disk.write_at(5, b"z"), Err(Failed));
-    assert_eq!(rt; disk.len(), Ok(6));
-    assert_eq!(rt; disk.write_at(3, b"xy"), Ok(()));
-    assert_eq!(rt; disk.cut(4), Err(Failed));
-    assert_eq!(rt; disk.bytes(), b"abcx".as_slice());
-    assert_eq!(rt; disk.cut(5), Ok(()));
-    assert_eq!(rt; disk.sync(), Ok(()));
-    assert_eq!(rt; disk.sync(), Err(Failed));
-    assert_eq!(rt; disk.bytes(), b"abcx\0".as_slice());
-    assert_eq!(rt; disk.read(9, &mut buf), Ok(0));
-    assert_eq!(rt; disk.faults(), 3);
-    assert_eq!(rt; disk.starved(), 0);
-    Ok(())
-}
-
-#[test]
-fn a_fuse_stops_at_its_call_and_fills_what_is_not_synced(rt: HostRuntime) -> Result<(), Fail> {
-    let alloc = rt.alloc();
-    let images: [&[u8]; 5] = [b"ab---", b"ab---", b"abxyz", b"abx", b"abx-----"];
-    for (k, image) in images.iter().enumerate() {
-        let disk = MemDisk::from(alloc, Octets::from_slice(alloc, b"abc")?);
-        let mut fuse = FuseDisk::new(disk, k as u64 + 1, b'-');
-        assert_eq!(rt; fuse.write_at(2, b"xyz").is_ok(), k > 0);
-        assert_eq!(rt; fuse.sync().is_ok(), k > 1);
-        assert_eq!(rt; fuse.write_at(5, b"").is_ok(), k > 2);
-        assert_eq!(rt; fuse.cut(3).is_ok(), k > 3);
-        assert!(rt; fuse.stopped() == (k < 4));
-        assert_eq!(rt; fuse.write_at(7, b"v").is_ok(), false);
-        assert!(rt; fuse.stopped());
-        assert_eq!(rt; fuse.len().is_ok(), false);
-        assert_eq!(rt; fuse.faults(), 6 - k as u64);
-        let left = fuse.image();
-        assert_eq!(rt; left.bytes(), *image, "stopped in call {k}");
-        assert_eq!(rt; left.faults(), 0);
+    for (count, left, faults) in READS {
+        assert!(rt; read(&mut source, &mut buf) == *count);
+        assert!(rt; buf == **left);
+        assert!(rt; source.faults() == *faults);
     }
-    Ok(())
+}
+
+// How many bytes a write takes; none where it fails.
+fn write<S: Sink>(sink: &mut S, piece: &[u8]) -> Option<usize> {
+    sink.write(piece).ok()
+}
+
+const WRITES: &[(&[u8], Option<usize>)] = &[
+    (b"ab", None),
+    (b"cd", Some(2)),
+    (b"ef", None),
+    (b"g", Some(1)),
+];
+
+#[test]
+fn a_sink_fails_at_the_listed_calls_and_keeps_the_rest(rt: HostRuntime) {
+    let Some(fails) = octets(rt.alloc(), &[1, 3]) else {
+        panic!(rt; "no memory")
+    };
+    let mut sink = MemSink::new(rt.alloc(), fails);
+    for (piece, count) in WRITES {
+        assert!(rt; write(&mut sink, piece) == *count);
+    }
+    assert!(rt; sink.bytes() == b"cdg".as_slice());
+    assert!(rt; sink.faults() == 2);
+    assert!(rt; sink.starved() == 0);
 }
 
 #[test]
-fn a_file_is_made_empty_and_keeps_what_is_written(rt: HostRuntime) -> Result<(), Fail> {
+fn standard_input_ends(rt: HostRuntime) {
+    let mut source = StdSource::new(&rt);
+    assert!(rt; matches!(read(&mut source, &mut [0]), Some(0)));
+    assert!(rt; source.faults() == 0);
+}
+
+#[test]
+fn standard_output_takes_bytes(rt: HostRuntime) {
+    let mut sink = StdSink::new(&rt);
+    assert!(rt; matches!(write(&mut sink, b"written\n"), Some(8)));
+    assert!(rt; sink.faults() == 0);
+}
+
+// A changing call of a disk.
+enum Change<'a> {
+    Write(u64, &'a [u8]),
+    Cut(u64),
+    Sync,
+}
+
+fn is_made<D: Disk>(disk: &mut D, change: &Change) -> bool {
+    match change {
+        Change::Write(at, piece) => disk.write_at(*at, piece).is_ok(),
+        Change::Cut(len) => disk.cut(*len).is_ok(),
+        Change::Sync => disk.sync().is_ok(),
+    }
+}
+
+fn length<D: Disk>(disk: &mut D) -> Option<u64> {
+    disk.len().ok()
+}
+
+// How many bytes a disk gives from that place on; none where it fails.
+fn read_at<D: Disk>(disk: &mut D, at: u64, buf: &mut [u8]) -> Option<usize> {
+    disk.read(at, buf).ok()
+}
+
+fn failing(alloc: Global, bytes: &[u8], fails: &[u8]) -> Option<MemDisk> {
+    let bytes = octets(alloc, bytes)?;
+    Some(MemDisk::failing(alloc, bytes, octets(alloc, fails)?))
+}
+
+fn disk_of(alloc: Global, bytes: &[u8]) -> Option<MemDisk> {
+    Some(MemDisk::from(alloc, octets(alloc, bytes)?))
+}
+
+// Changing calls, whether each is made, and what the disk has then. A write and a cut that fail so are made.
+const CHANGES: &[(Change, bool, &[u8])] = &[
+    (Change::Write(5, b"z"), false, b"abc\0\0z"),
+    (Change::Write(3, b"xy"), true, b"abcxyz"),
+    (Change::Cut(4), false, b"abcx"),
+    (Change::Cut(5), true, b"abcx\0"),
+    (Change::Sync, true, b"abcx\0"),
+    (Change::Sync, false, b"abcx\0"),
+];
+
+#[test]
+fn a_disk_fails_at_the_listed_changing_calls_alone(rt: HostRuntime) {
+    let Some(mut disk) = failing(rt.alloc(), b"abc", &[1, 3, 6]) else {
+        panic!(rt; "no memory")
+    };
+    for (change, made, left) in CHANGES {
+        assert!(rt; matches!(length(&mut disk), Some(_)));
+        assert!(rt; is_made(&mut disk, change) == *made);
+        assert!(rt; disk.bytes() == *left);
+    }
+    assert!(rt; disk.faults() == 3);
+    assert!(rt; disk.starved() == 0);
+}
+
+#[test]
+fn a_disk_reads_what_stands_before_its_end(rt: HostRuntime) {
+    let Some(mut disk) = disk_of(rt.alloc(), b"abc") else {
+        panic!(rt; "no memory")
+    };
+    let mut buf = [0u8; 2];
+    assert!(rt; matches!(length(&mut disk), Some(3)));
+    assert!(rt; matches!(read_at(&mut disk, 1, &mut buf), Some(2)));
+    assert!(rt; buf == *b"bc");
+    assert!(rt; matches!(read_at(&mut disk, 9, &mut buf), Some(0)));
+}
+
+// A fuse's calls, each of which is made where the fuse is longer, and what it leaves where it stops there.
+const FUSED: &[(Change, &[u8])] = &[
+    (Change::Write(2, b"xyz"), b"ab---"),
+    (Change::Sync, b"ab---"),
+    (Change::Write(5, b""), b"abxyz"),
+    (Change::Cut(3), b"abx"),
+    (Change::Write(7, b"v"), b"abx-----"),
+];
+
+// Whether the calls up to the k-th are made, and none after it.
+fn stops_at(fuse: &mut FuseDisk, k: u64) -> bool {
+    let mut call = 0u64;
+    for (change, _) in FUSED {
+        call = call.saturating_add(1);
+        if is_made(fuse, change) != (call < k) || fuse.stopped() != (call >= k) {
+            return false;
+        }
+    }
+    true
+}
+
+// A fuse that stops at the k-th call, and what it leaves.
+fn leaves(alloc: Global, k: u64, image: &[u8]) -> Option<bool> {
+    let mut fuse = FuseDisk::new(disk_of(alloc, b"abc")?, k, b'-');
+    let stops = stops_at(&mut fuse, k);
+    // Every call fails from there on, this one too.
+    let len = length(&mut fuse);
+    let faults = fuse.faults();
+    let left = fuse.image();
+    Some(
+        stops
+            && len.is_none()
+            && faults == 7u64.saturating_sub(k)
+            && left.bytes() == image
+            && left.faults() == 0,
+    )
+}
+
+#[test]
+fn a_fuse_stops_at_its_call_and_fills_what_is_not_synced(rt: HostRuntime) {
+    let mut k = 0u64;
+    for (_, image) in FUSED {
+        k = k.saturating_add(1);
+        let holds = leaves(rt.alloc(), k, image);
+        assert!(rt; matches!(holds, Some(true)), "stopped in call {k}");
+    }
+}
+
+const OF_A_FILE: &[Change] = &[
+    Change::Cut(0),
+    Change::Write(0, b"abcdef"),
+    Change::Write(2, b"CD"),
+    Change::Sync,
+    Change::Cut(5),
+];
+
+#[test]
+fn a_file_is_made_empty_and_keeps_what_is_written(rt: HostRuntime) {
     let mut disk = FileDisk::new(&rt, "tp_outside_test.log");
-    assert_eq!(rt; disk.cut(0), Ok(()));
-    assert_eq!(rt; disk.write_at(0, b"abcdef"), Ok(()));
-    assert_eq!(rt; disk.write_at(2, b"CD"), Ok(()));
-    assert_eq!(rt; disk.sync(), Ok(()));
-    assert_eq!(rt; disk.cut(5), Ok(()));
+    for change in OF_A_FILE {
+        assert!(rt; is_made(&mut disk, change));
+    }
     let mut again = FileDisk::new(&rt, "tp_outside_test.log");
-    assert_eq!(rt; again.len(), Ok(5));
+    assert!(rt; matches!(length(&mut again), Some(5)));
     let mut buf = [0u8; 8];
-    assert_eq!(rt; again.read(1, &mut buf), Ok(4));
-    assert_eq!(rt; buf, *b"bCDe\0\0\0\0");
-    assert_eq!(rt; again.faults(), 0);
+    assert!(rt; matches!(read_at(&mut again, 1, &mut buf), Some(4)));
+    assert!(rt; buf == *b"bCDe\0\0\0\0");
+    assert!(rt; again.faults() == 0);
+}
+
+#[test]
+fn a_file_in_no_folder_fails(rt: HostRuntime) {
     let mut absent = FileDisk::new(&rt, "no-such-folder/tp.log");
-    assert_eq!(rt; absent.len(), Err(Failed));
-    assert_eq!(rt; absent.sync(), Err(Failed));
-    assert_eq!(rt; absent.faults(), 2);
-    Ok(())
+    assert!(rt; length(&mut absent).is_none());
+    assert!(rt; !is_made(&mut absent, &Change::Sync));
+    assert!(rt; absent.faults() == 2);
 }

@@ -6,7 +6,6 @@ use std::alloc::Global;
 use std::marker::Brand;
 use std::sync::Wait;
 use std::sync::ledger::{Blank, Ledger, Share};
-use std::test::Fail;
 use std::thread;
 use std::thread::Threads;
 use tp_journal::{ForceFault, Journal, Keeper, Receipt, Receipts, format};
@@ -124,10 +123,26 @@ fn two_threads<D: Disk + Drop + Send, R: Threads + Wait + Sync>(
 }
 
 // An empty log of version 2.
-fn empty_log(alloc: Global) -> Result<MemDisk, Fail> {
+fn empty_log(alloc: Global) -> Option<MemDisk> {
     let mut disk = MemDisk::from(alloc, Octets::new(alloc));
-    format(&mut disk)?;
-    Ok(disk)
+    format(&mut disk).ok()?;
+    Some(disk)
+}
+
+fn started<D: Disk + Drop>(alloc: Global, disk: D) -> Option<Journal<D>> {
+    Journal::start(alloc, disk).ok()
+}
+
+// Two threads on an open log.
+fn two_threads_on<D: Disk + Drop + Send, R: Threads + Wait + Sync>(
+    rt: &R,
+    alloc: Global,
+    journal: Journal<D>,
+) -> Option<Ended<D>> {
+    if journal.shut().is_some() {
+        return None;
+    }
+    two_threads(rt, alloc, journal)
 }
 
 fn boot_of(rec: &LogRec) -> Option<u64> {
@@ -147,41 +162,47 @@ fn boot_at<K: Keeper>(keeper: &K, place: u64) -> Option<u64> {
     None
 }
 
-#[test]
-fn records_of_two_threads_stand_at_their_places(rt: HostRuntime) -> Result<(), Fail> {
-    let alloc = rt.alloc();
-    let Ok(mut journal) = Journal::start(alloc, empty_log(alloc)?) else {
-        return Err("not started".into());
-    };
-    force_boots(alloc, &mut journal, 1)?;
-    if journal.shut().is_some() {
-        return Err("shut".into());
-    }
-    let Some(ended) = two_threads(&rt, alloc, journal) else {
-        return Err("no lock".into());
-    };
-    assert_eq!(rt; ended.faults, [None, None]);
-    assert_eq!(rt; ended.stood, [4, 4]);
-    assert_eq!(rt; ended.unfit, None);
-    assert_eq!(rt; ended.journal.count(), 12);
-    for (own, receipts) in ended.receipts.iter().enumerate() {
-        assert_eq!(rt; receipts.len(), 4);
-        for (i, receipt) in receipts.as_slice().iter().enumerate() {
-            let boot = 10 + 10 * own as u64 + i as u64;
-            assert_eq!(rt; boot_of(&receipt.rec), Some(boot));
-            assert_eq!(rt; boot_at(&ended.journal, receipt.place), Some(boot));
+// Two threads on a log of four records.
+fn after_four<R: Threads + Wait + Sync>(rt: &R, alloc: Global) -> Option<Ended<MemDisk>> {
+    let mut journal = started(alloc, empty_log(alloc)?)?;
+    force_boots(alloc, &mut journal, 1).ok()?;
+    two_threads_on(rt, alloc, journal)
+}
+
+// Whether a share forced four boots from that on, each of which stands at its place.
+fn are_placed(journal: &Journal<MemDisk>, receipts: &[Receipt], first: u64) -> bool {
+    let mut boot = first;
+    for receipt in receipts {
+        let told = boot_of(&receipt.rec);
+        if told != Some(boot) || boot_at(journal, receipt.place) != told {
+            return false;
         }
+        boot = boot.saturating_add(1);
     }
-    Ok(())
+    receipts.len() == 4
+}
+
+#[test]
+fn records_of_two_threads_stand_at_their_places(rt: HostRuntime) {
+    let Some(ended) = after_four(&rt, rt.alloc()) else {
+        panic!(rt; "no lock")
+    };
+    assert!(rt; matches!(&ended.faults, [None, None]));
+    assert!(rt; matches!(&ended.stood, [4, 4]));
+    assert!(rt; ended.unfit.is_none());
+    assert!(rt; ended.journal.count() == 12);
+    let [one, other] = &ended.receipts;
+    assert!(rt; are_placed(&ended.journal, one.as_slice(), 10));
+    assert!(rt; are_placed(&ended.journal, other.as_slice(), 20));
 }
 
 // The records of a journal, all of which are boots.
-fn boots<D: Disk>(alloc: Global, journal: &Journal<D>) -> Result<Vec<u64>, Fail> {
+fn boots<D: Disk>(alloc: Global, journal: &Journal<D>) -> Option<Vec<u64>> {
     let mut boots = Vec::new(alloc);
     for rec in journal.list() {
-        boots.push(boot_of(rec).unwrap_or(0))?;
+        boots.push(boot_of(rec)?).ok()?;
     }
-    Ok(boots)
+    Some(boots)
 }
 
 // Two threads on a machine that stops at the k-th changing call, of which the first is the start's.
@@ -190,48 +211,50 @@ fn stopped_at<R: Threads + Wait + Sync>(
     alloc: Global,
     k: u64,
     fill: u8,
-) -> Result<Ended<FuseDisk>, Fail> {
+) -> Option<Ended<FuseDisk>> {
     let disk = FuseDisk::new(empty_log(alloc)?, k, fill);
-    let Ok(journal) = Journal::start(alloc, disk) else {
-        return Err("not started".into());
-    };
-    let Some(ended) = two_threads(rt, alloc, journal) else {
-        return Err("no lock".into());
-    };
-    Ok(ended)
+    two_threads_on(rt, alloc, started(alloc, disk)?)
+}
+
+fn is_of_disk(fault: &Option<ForceFault>) -> bool {
+    matches!(
+        fault,
+        Some(ForceFault::DiskFault { .. } | ForceFault::Shut { .. })
+    )
+}
+
+// Each share is told of the fault, and three records were forced.
+fn is_told(ended: &Ended<FuseDisk>) -> bool {
+    let [one, other] = &ended.receipts;
+    ended.faults.iter().all(is_of_disk)
+        && one.len().saturating_add(other.len()) == 3
+        && ended.unfit.is_none()
+        && ended.journal.shut().is_some()
+}
+
+// The records that stood at the fault, and those that are found then.
+fn told_and_left(alloc: Global, journal: Journal<FuseDisk>) -> Option<(Vec<u64>, Vec<u64>)> {
+    let told = boots(alloc, &journal)?;
+    let again = started(alloc, journal.disk().image())?;
+    Some((told, boots(alloc, &again)?))
+}
+
+// A force makes four calls. So three records stand, and the fourth is cut short at each of its calls. It is there
+// where its text is whole and the byte of its gate opens it.
+fn is_cut_short<R: Threads + Wait + Sync>(rt: &R, alloc: Global, k: u64, fill: u8) -> Option<bool> {
+    let ended = stopped_at(rt, alloc, k, fill)?;
+    let told = is_told(&ended);
+    let (stood, left) = told_and_left(alloc, ended.journal)?;
+    let count = if k > 15 && fill == 1 { 4 } else { 3 };
+    Some(told && stood.len() == 3 && left.len() == count && left.starts_with(stood.as_slice()))
 }
 
 #[test]
-fn a_failing_disk_is_told_to_each_share(rt: HostRuntime) -> Result<(), Fail> {
-    let alloc = rt.alloc();
-    // A force makes four calls. So three records stand, and the fourth is cut short at each of its calls.
-    for k in [14, 15, 16, 17] {
-        for fill in [0, 1] {
-            let ended = stopped_at(&rt, alloc, k, fill)?;
-            for fault in &ended.faults {
-                assert!(rt;
-                    matches!(
-                        fault,
-                        Some(ForceFault::DiskFault { .. } | ForceFault::Shut { .. })
-                    ),
-                    "call {k}"
-                );
-            }
-            let [own, others] = &ended.receipts;
-            assert_eq!(rt; own.len() + others.len(), 3, "call {k}");
-            assert!(rt; ended.journal.shut().is_some(), "call {k}");
-            assert_eq!(rt; ended.unfit, None);
-            let told = boots(alloc, &ended.journal)?;
-            assert_eq!(rt; told.len(), 3, "call {k}");
-            let Ok(again) = Journal::start(alloc, ended.journal.disk().image()) else {
-                return Err("not started again".into());
-            };
-            let left = boots(alloc, &again)?;
-            // The record is there where its text is whole and the byte of its gate opens it.
-            let with = usize::from(k > 15 && fill == 1);
-            assert_eq!(rt; left.len(), 3 + with, "call {k}, fill {fill}");
-            assert!(rt; left.starts_with(told.as_slice()), "call {k}");
+fn a_failing_disk_is_told_to_each_share(rt: HostRuntime) {
+    for k in 14..=17 {
+        for fill in 0..=1 {
+            let holds = is_cut_short(&rt, rt.alloc(), k, fill);
+            assert!(rt; matches!(holds, Some(true)), "call {k}, fill {fill}");
         }
     }
-    Ok(())
 }
