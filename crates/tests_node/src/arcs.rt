@@ -1,16 +1,12 @@
 //! What the arcs of a table answer in every situation, against the numbers of an independent machine.
-ghost use Rattle.std.specs.Prelude.{IsSome};
-ghost use Rattle.tp_model.specs.Dialogues.{asked_of, heard_of};
-
+use crate::calls::{arrive, request};
 use crate::table::{ABOVE, ABOVE_RECORDS, ABOVE_REQUESTS, BELOW, BELOW_RECORDS, BELOW_REQUESTS};
-use crate::values::IDLE;
-use std::alloc::{AllocError, Global};
-use std::test::Fail;
-use tp_dialogue::{Dialogue, OutOfPhase, Refusal, Seen};
+use crate::values::{IDLE, units};
+use tp_dialogue::Dialogue;
 use tp_model::{Act, Phase, Side, Situation};
 use tp_names::Outcome;
 use tp_records::Holder;
-use tp_units::{CHAINED, Units};
+use tp_units::CHAINED;
 
 const ACTIVE: Situation = Situation {
     branch: true,
@@ -21,15 +17,8 @@ const ACTIVE: Situation = Situation {
     left: false,
 };
 
-const PHASES: [Phase; 4] = [
-    Phase::Active,
-    Phase::Ready,
-    Phase::Committing,
-    Phase::Rolling,
-];
-
-// The codes of requests and of records, with the length of their octets, in the order of the table.
-const REQUESTS: [(u8, u16); 14] = [
+// Requests and records by their codes, with the length of their octets, in the order of the table.
+const REQUESTS: &[(u8, u16)] = &[
     (4, 0),
     (5, 1024),
     (6, 0),
@@ -46,7 +35,7 @@ const REQUESTS: [(u8, u16); 14] = [
     (5, 1025),
 ];
 
-const RECORDS: [(u8, u16); 10] = [
+const RECORDS: &[(u8, u16)] = &[
     (1, 0),
     (2, 1024),
     (3, 0),
@@ -59,266 +48,204 @@ const RECORDS: [(u8, u16); 10] = [
     (11, 0),
 ];
 
-const HANDSHAKE: Act = Act {
-    code: 10,
-    octets: 0,
-};
-
-const GRANT_BY_HANDSHAKE: Act = Act {
-    code: 12,
-    octets: 0,
-};
-
-const DEFER_END: Act = Act {
-    code: 14,
-    octets: 0,
-};
-
-const DEFER_GRANT: Act = Act {
-    code: 15,
-    octets: 0,
-};
-
-const HANDSHAKE_TAKEN: Act = Act { code: 7, octets: 0 };
-
-const HANDSHAKE_GRANT: Act = Act { code: 8, octets: 0 };
-
-const END_DEFERRED: Act = Act {
-    code: 10,
-    octets: 0,
-};
-
-const GRANT_DEFERRED: Act = Act {
-    code: 11,
-    octets: 0,
-};
-
-// The situations of an arc, in the order of the table.
-fn situations(alloc: Global, side: Side) -> Result<Vec<Situation>, AllocError> {
-    let mut all = Vec::new(alloc);
-    all.push(IDLE)?;
-    for branch in [false, true] {
-        for phase in PHASES {
-            for asked in [false, true] {
-                let s = Situation {
-                    branch,
-                    phase,
-                    asked,
-                    ..IDLE
-                };
-                push_situations(&mut all, side, s)?;
-            }
-        }
-    }
-    Ok(all)
-}
-
-// Only a branch of a subordinate is prepared, done, or leaves.
-fn push_situations(all: &mut Vec<Situation>, side: Side, s: Situation) -> Result<(), AllocError> {
-    if !s.branch || side == Side::Subordinate {
-        all.push(s)?;
-        return Ok(());
-    }
-    for prepared in [false, true] {
-        for done in [false, true] {
-            for left in [false, true] {
-                all.push(Situation {
-                    prepared,
-                    done,
-                    left,
-                    ..s
-                })?;
-            }
-        }
-    }
-    Ok(())
-}
-
-fn asked(arc: &mut Dialogue, s: Situation, act: Act) -> Result<(), Fail>
-    requires { IsSome (asked_of act.code) }
-{
-    arc.request(s, act)?;
-    Ok(())
-}
-
-fn told(arc: &mut Dialogue, s: Situation, act: Act) -> Result<(), Fail>
-    requires { IsSome (heard_of act.code) }
-{
-    match arc.arrive(s, act)? {
-        Seen::Told => Ok(()),
-        Seen::Nothing => Err("the record does nothing".into()),
+// The phase of that number, and whether the node has asked, on an arc that is a branch or is not.
+fn on_arc(branch: bool, number: u8) -> Situation {
+    let phase = match number / 2 {
+        0 => Phase::Active,
+        1 => Phase::Ready,
+        2 => Phase::Committing,
+        _ => Phase::Rolling,
+    };
+    Situation {
+        branch,
+        phase,
+        asked: number % 2 == 1,
+        ..IDLE
     }
 }
 
-// One step of those by which a row of the table came to be.
-fn make_step(arc: &mut Dialogue, side: Side, step: u8) -> Result<(), Fail> {
+// The situation of that number on an arc, in the order of the table. Only a branch of a subordinate is prepared, done,
+// or leaves.
+fn situation(side: Side, number: u8) -> Situation {
+    if number == 0 {
+        return IDLE;
+    }
+    if number <= 8 {
+        return on_arc(false, number - 1);
+    }
+    let number = number - 9;
+    if side == Side::Subordinate {
+        return on_arc(true, number);
+    }
+    Situation {
+        prepared: number / 4 % 2 == 1,
+        done: number / 2 % 2 == 1,
+        left: number % 2 == 1,
+        ..on_arc(true, number / 8)
+    }
+}
+
+// How many there are.
+fn situations(side: Side) -> u8 {
+    match side {
+        Side::Superior => 73,
+        Side::Subordinate => 17,
+    }
+}
+
+fn is_asked(arc: &mut Dialogue, s: Situation, code: u8) -> bool {
+    request(arc, s, Act { code, octets: 0 }) == b'0'
+}
+
+fn is_told(arc: &mut Dialogue, s: Situation, code: u8) -> bool {
+    arrive(arc, s, Act { code, octets: 0 }) == b'a'
+}
+
+// One step of those by which a row of the table came to be, and whether it was one.
+fn make_step(arc: &mut Dialogue, side: Side, step: u8) -> bool {
+    match step {
+        b's' => arc.begin(Holder::Superior),
+        b'b' => arc.begin(Holder::Subordinate),
+        b'r' => arc.rest(),
+        b'c' => arc.complete(Outcome::Commit),
+        _ => return step == b'-' || is_said(arc, side, step),
+    }
+    true
+}
+
+// A step that is a request or a record.
+fn is_said(arc: &mut Dialogue, side: Side, step: u8) -> bool {
     let at_work = if arc.units().has(CHAINED) {
         ACTIVE
     } else {
         IDLE
     };
-    let is_above = side == Side::Superior;
-    match step {
-        b'-' => {}
-        b's' => arc.begin(Holder::Superior),
-        b'b' => arc.begin(Holder::Subordinate),
-        b'r' => arc.rest(),
-        b'c' => arc.complete(Outcome::Commit),
-        b'h' => asked(arc, at_work, HANDSHAKE)?,
-        b'g' => asked(arc, at_work, GRANT_BY_HANDSHAKE)?,
-        b'H' => told(arc, at_work, HANDSHAKE_TAKEN)?,
-        b'G' => told(arc, at_work, HANDSHAKE_GRANT)?,
-        b'e' if is_above => asked(arc, ACTIVE, DEFER_END)?,
-        b'd' if is_above => asked(arc, ACTIVE, DEFER_GRANT)?,
-        b'e' => told(arc, ACTIVE, END_DEFERRED)?,
-        b'd' => told(arc, ACTIVE, GRANT_DEFERRED)?,
-        _ => return Err("no step".into()),
+    match (step, side) {
+        (b'h', _) => is_asked(arc, at_work, 10),
+        (b'g', _) => is_asked(arc, at_work, 12),
+        (b'H', _) => is_told(arc, at_work, 7),
+        (b'G', _) => is_told(arc, at_work, 8),
+        (b'e', Side::Superior) => is_asked(arc, ACTIVE, 14),
+        (b'd', Side::Superior) => is_asked(arc, ACTIVE, 15),
+        (b'e', Side::Subordinate) => is_told(arc, ACTIVE, 10),
+        (b'd', Side::Subordinate) => is_told(arc, ACTIVE, 11),
+        _ => false,
     }
-    Ok(())
 }
 
-fn arranged(units: u8, side: Side, steps: &str) -> Result<Dialogue, Fail> {
-    let units = Units::check(units).ok().ok_or("a permitted set")?;
-    let mut arc = Dialogue::new(units, side);
+fn arranged(bits: u8, side: Side, steps: &str) -> Option<Dialogue> {
+    let mut arc = Dialogue::new(units(bits)?, side);
     for step in steps.bytes() {
-        make_step(&mut arc, side, step)?;
-    }
-    Ok(arc)
-}
-
-// The pattern with that letter, without its spaces.
-fn pattern(alloc: Global, patterns: &str, letter: u8) -> Result<Vec<u8>, Fail> {
-    let line = patterns
-        .split('\n')
-        .nth(usize::from(letter.saturating_sub(b'A')));
-    let mut wants = Vec::new(alloc);
-    for byte in line.ok_or("a pattern")?.bytes() {
-        if byte != b' ' {
-            wants.push(byte)?;
+        if !make_step(&mut arc, side, step) {
+            return None;
         }
     }
-    Ok(wants)
+    Some(arc)
 }
 
-// The number of a refusal as the patterns write it.
-fn digit(answer: Result<(), Refusal>) -> u8 {
-    match answer {
-        Ok(()) => b'0',
-        Err(Refusal { number: 13 }) => b'd',
-        Err(Refusal { number }) => number.saturating_add(b'0'),
-    }
-}
-
-fn sight(answer: Result<Seen, OutOfPhase>) -> u8 {
-    match answer {
-        Ok(Seen::Told) => b'a',
-        Ok(Seen::Nothing) => b'n',
-        Err(_) => b'x',
-    }
-}
-
-// Whether the arc answers the request in each situation as is wanted, and stays as it was where it
-// refuses.
-fn request_holds(arc: &Dialogue, act: Act, situations: &[Situation], wants: &[u8]) -> bool {
-    if act.code < 4 || act.code > 16 || situations.len() != wants.len() {
-        return false;
-    }
-    for (s, want) in situations.iter().zip(wants) {
-        let mut end = *arc;
-        let answer = end.request(*s, act);
-        if digit(answer) != *want || answer.is_err() && end != *arc {
-            return false;
-        }
-    }
-    true
+// Whether the arc answers the request in that situation as is wanted, and stays as it was where it refuses.
+fn is_answer(arc: &Dialogue, s: Situation, act: Act, want: u8) -> bool {
+    let mut end = *arc;
+    let answer = request(&mut end, s, act);
+    answer == want && (answer == b'0' || end == *arc)
 }
 
 // The same of a record.
-fn record_holds(arc: &Dialogue, act: Act, situations: &[Situation], wants: &[u8]) -> bool {
-    if act.code < 1 || act.code > 11 || act.code == 4 || situations.len() != wants.len() {
-        return false;
+fn is_sight(arc: &Dialogue, s: Situation, act: Act, want: u8) -> bool {
+    let mut end = *arc;
+    let sight = arrive(&mut end, s, act);
+    sight == want && (sight != b'x' || end == *arc)
+}
+
+// Whether the arc answers the request as the pattern says, in every situation.
+fn request_holds(arc: &Dialogue, side: Side, act: Act, pattern: &str) -> bool {
+    let mut number = 0u8;
+    for want in pattern.bytes() {
+        if want != b' ' {
+            if !is_answer(arc, situation(side, number), act, want) {
+                return false;
+            }
+            number = number.saturating_add(1);
+        }
     }
-    for (s, want) in situations.iter().zip(wants) {
-        let mut end = *arc;
-        let answer = end.arrive(*s, act);
-        if sight(answer) != *want || answer.is_err() && end != *arc {
+    number == situations(side)
+}
+
+fn record_holds(arc: &Dialogue, side: Side, act: Act, pattern: &str) -> bool {
+    let mut number = 0u8;
+    for want in pattern.bytes() {
+        if want != b' ' {
+            if !is_sight(arc, situation(side, number), act, want) {
+                return false;
+            }
+            number = number.saturating_add(1);
+        }
+    }
+    number == situations(side)
+}
+
+// The pattern with that letter.
+fn pattern(patterns: &'static str, letter: u8) -> &'static str {
+    let line = patterns
+        .split('\n')
+        .nth(usize::from(letter.saturating_sub(b'A')));
+    line.unwrap_or("")
+}
+
+fn requests_hold(arc: &Dialogue, side: Side, patterns: &'static str, letters: &str) -> bool {
+    for ((code, octets), letter) in REQUESTS.iter().zip(letters.bytes()) {
+        let act = Act {
+            code: *code,
+            octets: *octets,
+        };
+        if !request_holds(arc, side, act, pattern(patterns, letter)) {
             return false;
         }
     }
-    true
+    letters.len() == REQUESTS.len()
 }
 
-// The rows of one side, with its situations and patterns.
-#[derive(Drop)]
-struct Table {
-    side: Side,
-    situations: Vec<Situation>,
-    requests: &'static str,
-    records: &'static str,
+fn records_hold(arc: &Dialogue, side: Side, patterns: &'static str, letters: &str) -> bool {
+    for ((code, octets), letter) in RECORDS.iter().zip(letters.bytes()) {
+        let act = Act {
+            code: *code,
+            octets: *octets,
+        };
+        if !record_holds(arc, side, act, pattern(patterns, letter)) {
+            return false;
+        }
+    }
+    letters.len() == RECORDS.len()
 }
 
-impl Table {
-    fn requests_hold(&self, alloc: Global, arc: &Dialogue, letters: &str) -> Result<bool, Fail> {
-        if letters.len() != REQUESTS.len() {
-            return Ok(false);
-        }
-        for ((code, octets), letter) in REQUESTS.into_iter().zip(letters.bytes()) {
-            let wants = pattern(alloc, self.requests, letter)?;
-            if !request_holds(arc, Act { code, octets }, &self.situations, &wants) {
-                return Ok(false);
-            }
-        }
-        Ok(true)
-    }
+// Whether a row of the table of that side holds, by the patterns of its requests and of its records.
+fn row_holds(side: Side, requests: &'static str, records: &'static str, row: &str) -> Option<bool> {
+    let mut words = row.split(' ');
+    let bits = words.next()?.parse().ok()?;
+    let arc = arranged(bits, side, words.next()?)?;
+    let asked = requests_hold(&arc, side, requests, words.next()?);
+    let heard = records_hold(&arc, side, records, words.next()?);
+    Some(asked && heard)
+}
 
-    fn records_hold(&self, alloc: Global, arc: &Dialogue, letters: &str) -> Result<bool, Fail> {
-        if letters.len() != RECORDS.len() {
-            return Ok(false);
-        }
-        for ((code, octets), letter) in RECORDS.into_iter().zip(letters.bytes()) {
-            let wants = pattern(alloc, self.records, letter)?;
-            if !record_holds(arc, Act { code, octets }, &self.situations, &wants) {
-                return Ok(false);
-            }
-        }
-        Ok(true)
-    }
+fn holds_above(row: &str) -> Option<bool> {
+    row_holds(Side::Superior, ABOVE_REQUESTS, ABOVE_RECORDS, row)
+}
 
-    fn row_holds(&self, alloc: Global, row: &str) -> Result<bool, Fail> {
-        let mut words = row.split(' ');
-        let units = words.next().ok_or("units")?;
-        let steps = words.next().ok_or("steps")?;
-        let requests = words.next().ok_or("requests")?;
-        let records = words.next().ok_or("records")?;
-        let arc = arranged(units.parse()?, self.side, steps)?;
-        Ok(self.requests_hold(alloc, &arc, requests)? && self.records_hold(alloc, &arc, records)?)
+fn holds_below(row: &str) -> Option<bool> {
+    row_holds(Side::Subordinate, BELOW_REQUESTS, BELOW_RECORDS, row)
+}
+
+#[test]
+fn every_arc_to_a_subordinate(rt: HostRuntime) {
+    for row in ABOVE.split('\n') {
+        assert!(rt; matches!(holds_above(row), Some(true)), "at {row}");
     }
 }
 
 #[test]
-fn every_arc_to_a_subordinate(rt: HostRuntime) -> Result<(), Fail> {
-    let table = Table {
-        side: Side::Superior,
-        situations: situations(rt.alloc(), Side::Superior)?,
-        requests: ABOVE_REQUESTS,
-        records: ABOVE_RECORDS,
-    };
-    for row in ABOVE.split('\n').filter(|row| !row.is_empty()) {
-        assert!(rt; table.row_holds(rt.alloc(), row)?, "at {row}");
+fn every_arc_to_the_superior(rt: HostRuntime) {
+    for row in BELOW.split('\n') {
+        assert!(rt; matches!(holds_below(row), Some(true)), "at {row}");
     }
-    Ok(())
-}
-
-#[test]
-fn every_arc_to_the_superior(rt: HostRuntime) -> Result<(), Fail> {
-    let table = Table {
-        side: Side::Subordinate,
-        situations: situations(rt.alloc(), Side::Subordinate)?,
-        requests: BELOW_REQUESTS,
-        records: BELOW_RECORDS,
-    };
-    for row in BELOW.split('\n').filter(|row| !row.is_empty()) {
-        assert!(rt; table.row_holds(rt.alloc(), row)?, "at {row}");
-    }
-    Ok(())
 }

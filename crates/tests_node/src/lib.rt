@@ -7,6 +7,8 @@
 #[cfg(test)]
 mod arcs;
 #[cfg(test)]
+mod calls;
+#[cfg(test)]
 mod commit;
 #[cfg(test)]
 mod dialogue;

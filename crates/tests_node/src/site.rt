@@ -1,7 +1,7 @@
-//! What no clause says: the answers with ample memory, in a worked example from the first event to the last.
+//! What no clause says: the answers with ample memory, in a worked example from the first event to the last,
+//! between node 1 at site a and node 2 at site b.
 use crate::values::{at_b, named};
 use std::alloc::Global;
-use std::test::Fail;
 use tp_journal::{Journal, Keeper};
 use tp_model::Phase;
 use tp_names::{Addr, Octets};
@@ -12,48 +12,53 @@ use tp_site::{NodeEvent, Out, Outs, Played, Site, SiteFault};
 type OnMemory = Site<Journal<MemDisk>>;
 
 // A log of version 2 with no records.
-const EMPTY: [u8; 11] = [0x4f, 0x54, 0x50, 0x4c, 1, 1, 0, 2, 7, 2, 0];
+fn empty(alloc: Global) -> Option<Octets> {
+    Octets::from_slice(alloc, &[0x4f, 0x54, 0x50, 0x4c, 1, 1, 0, 2, 7, 2, 0]).ok()
+}
 
 // Shared control, commitment, unchained.
 const UNITS: u8 = 41;
 
-// Node 1 is at site a, and node 2 at site b.
-fn at(node: u16) -> Result<Addr, Fail> {
-    if node != 1 {
-        return at_b(node);
+fn at(node: u16) -> Option<Addr> {
+    if node == 1 {
+        let site = named(b"a")?;
+        return Some(Addr { site, node });
     }
-    let site = named(b"a")?;
-    Ok(Addr { site, node })
+    at_b(node)
 }
 
-fn started(alloc: Global, name: &[u8], disk: MemDisk) -> Result<OnMemory, Fail> {
-    let Ok(journal) = Journal::start(alloc, disk) else {
-        return Err("the log does not start".into());
-    };
-    match Site::start(alloc, journal, named(name)?) {
-        Ok(site) => Ok(site),
-        Err((_, fault)) => Err(fault.into()),
-    }
+fn started(alloc: Global, name: &[u8], disk: MemDisk) -> Option<OnMemory> {
+    let name = named(name)?;
+    let journal = Journal::start(alloc, disk).ok()?;
+    Site::start(alloc, journal, name).ok()
 }
 
-fn fresh(alloc: Global, name: &[u8]) -> Result<OnMemory, Fail> {
-    let disk = MemDisk::from(alloc, Octets::from_slice(alloc, &EMPTY)?);
-    started(alloc, name, disk)
+fn fresh(alloc: Global, name: &[u8]) -> Option<OnMemory> {
+    started(alloc, name, MemDisk::from(alloc, empty(alloc)?))
 }
 
-// What a user asks for. The type that an event lends besides is named here, as in the two below: the prover asks for it.
-fn asked(
+fn play(
+    alloc: Global,
+    site: &mut OnMemory,
+    node: u16,
+    event: &NodeEvent,
+) -> Result<Played, SiteFault> {
+    site.play(alloc, node, event)
+}
+
+// What a user asks for. The type that an event lends besides is named here, as in those below: the prover asks for it.
+fn ask(
     alloc: Global,
     site: &mut OnMemory,
     node: u16,
     request: &Request,
 ) -> Result<Played, SiteFault> {
     let _rec: Option<&PeerRecord> = None;
-    site.play(alloc, node, &NodeEvent::Do { request })
+    play(alloc, site, node, &NodeEvent::Do { request })
 }
 
 // A record that arrives.
-fn arrived(
+fn arrive(
     alloc: Global,
     site: &mut OnMemory,
     node: u16,
@@ -61,11 +66,11 @@ fn arrived(
     rec: &PeerRecord,
 ) -> Result<Played, SiteFault> {
     let _request: Option<&Request> = None;
-    site.play(alloc, node, &NodeEvent::Arrive { from, rec })
+    play(alloc, site, node, &NodeEvent::Arrive { from, rec })
 }
 
 // An event that lends nothing.
-fn declared(
+fn declare(
     alloc: Global,
     site: &mut OnMemory,
     node: u16,
@@ -73,74 +78,181 @@ fn declared(
 ) -> Result<Played, SiteFault> {
     let _request: Option<&Request> = None;
     let _rec: Option<&PeerRecord> = None;
-    site.play(alloc, node, &NodeEvent::Declare { superior })
+    play(alloc, site, node, &NodeEvent::Declare { superior })
 }
 
-fn retried(alloc: Global, site: &mut OnMemory, node: u16) -> Result<Played, SiteFault> {
+fn retry(alloc: Global, site: &mut OnMemory, node: u16) -> Result<Played, SiteFault> {
     let _request: Option<&Request> = None;
     let _rec: Option<&PeerRecord> = None;
-    site.play(alloc, node, &NodeEvent::Retry)
+    play(alloc, site, node, &NodeEvent::Retry)
 }
 
-// The record that is sent first arrives from the other node.
-fn arrive(alloc: Global, site: &mut OnMemory, node: u16, outs: &Outs) -> Result<Outs, Fail> {
-    let from = at(if node == 1 { 2 } else { 1 })?;
-    for out in outs.as_slice() {
+// The record that is sent first.
+fn first_sent(outs: &[Out]) -> Option<&PeerRecord> {
+    for out in outs {
         if let Out::Send { rec, .. } = out {
-            let played = arrived(alloc, site, node, from, rec)?;
-            assert_no_number(&played)?;
-            return Ok(played.outs);
+            return Some(rec);
         }
     }
-    Err("nothing was sent".into())
+    None
 }
 
-fn assert_no_number(played: &Played) -> Result<(), Fail> {
-    match played.number {
-        None => Ok(()),
-        Some(_) => Err("an answer out of phase".into()),
+// One event of the play.
+enum Step {
+    Declare,
+    BeginDialogue,
+    Accept,
+    BeginTransaction,
+    Commit,
+    Done,
+    // The record arrives that the event before it sent first.
+    Arrive,
+}
+
+// What a user asks for in that step.
+fn request(step: &Step) -> Option<Request> {
+    match step {
+        Step::BeginDialogue => Some(Request::BeginDialogue {
+            addr: at(2)?,
+            units: UNITS,
+        }),
+        Step::Accept => Some(Request::Accept { units: UNITS }),
+        Step::BeginTransaction => Some(Request::BeginTransaction { peer: 2 }),
+        Step::Commit => Some(Request::Commit),
+        Step::Done => Some(Request::Done),
+        Step::Declare | Step::Arrive => None,
     }
 }
 
-fn ask(alloc: Global, site: &mut OnMemory, node: u16, request: &Request) -> Result<Outs, Fail> {
-    let played = asked(alloc, site, node, request)?;
-    assert_no_number(&played)?;
-    Ok(played.outs)
+// Node 2 is under node 1.
+fn superior(node: u16) -> Option<Addr> {
+    if node == 1 { None } else { at(1) }
 }
 
-fn phase(site: &OnMemory, node: u16) -> Result<Phase, Fail> {
-    Ok(site.state(node).ok_or("a node")?.phase)
+fn other(node: u16) -> u16 {
+    if node == 1 { 2 } else { 1 }
+}
+
+// One event at a node of that site, after an event that sent this.
+fn stepped(
+    alloc: Global,
+    site: &mut OnMemory,
+    node: u16,
+    step: &Step,
+    sent: &Outs,
+) -> Option<Played> {
+    match step {
+        Step::Declare => declare(alloc, site, node, superior(node)).ok(),
+        Step::Arrive => {
+            let from = at(other(node))?;
+            let rec = first_sent(sent.as_slice())?;
+            arrive(alloc, site, node, from, rec).ok()
+        }
+        _ => {
+            let request = request(step)?;
+            ask(alloc, site, node, &request).ok()
+        }
+    }
+}
+
+// What the last of some steps gives, where none of them is out of phase.
+fn all_stepped(
+    alloc: Global,
+    a: &mut OnMemory,
+    b: &mut OnMemory,
+    steps: &[(u16, Step)],
+) -> Option<Outs> {
+    let mut sent = Outs::new(alloc);
+    for (node, step) in steps {
+        let played = if *node == 1 {
+            stepped(alloc, a, *node, step, &sent)?
+        } else {
+            stepped(alloc, b, *node, step, &sent)?
+        };
+        let Played { number, outs } = played;
+        if number.is_some() {
+            return None;
+        }
+        sent = outs;
+    }
+    Some(sent)
+}
+
+// Two sites after some steps, and what the last of these gave.
+#[derive(Drop)]
+struct Pair {
+    a: OnMemory,
+    b: OnMemory,
+    outs: Outs,
+}
+
+// After those steps, where the log of site b is on that disk.
+fn after_on(alloc: Global, disk: MemDisk, steps: &[(u16, Step)]) -> Option<Pair> {
+    let mut a = fresh(alloc, b"a")?;
+    let mut b = started(alloc, b"b", disk)?;
+    let outs = all_stepped(alloc, &mut a, &mut b, steps)?;
+    Some(Pair { a, b, outs })
+}
+
+fn after(alloc: Global, steps: &[(u16, Step)]) -> Option<Pair> {
+    after_on(alloc, MemDisk::from(alloc, empty(alloc)?), steps)
 }
 
 // Both nodes are declared, and the second is asked to prepare.
-fn prepared(alloc: Global, a: &mut OnMemory, b: &mut OnMemory) -> Result<Outs, Fail> {
-    declared(alloc, a, 1, None)?;
-    declared(alloc, b, 2, Some(at(1)?))?;
-    let addr = at(2)?;
-    let opens = ask(alloc, a, 1, &Request::BeginDialogue { addr, units: UNITS })?;
-    arrive(alloc, b, 2, &opens)?;
-    let accepts = ask(alloc, b, 2, &Request::Accept { units: UNITS })?;
-    arrive(alloc, a, 1, &accepts)?;
-    let begins = ask(alloc, a, 1, &Request::BeginTransaction { peer: 2 })?;
-    arrive(alloc, b, 2, &begins)?;
-    let prepares = ask(alloc, a, 1, &Request::Commit)?;
-    arrive(alloc, b, 2, &prepares)
-}
+const PREPARED: &[(u16, Step)] = &[
+    (1, Step::Declare),
+    (2, Step::Declare),
+    (1, Step::BeginDialogue),
+    (2, Step::Arrive),
+    (2, Step::Accept),
+    (1, Step::Arrive),
+    (1, Step::BeginTransaction),
+    (2, Step::Arrive),
+    (1, Step::Commit),
+    (2, Step::Arrive),
+];
 
 // And it is ready.
-fn readied(alloc: Global, a: &mut OnMemory, b: &mut OnMemory) -> Result<Outs, Fail> {
-    prepared(alloc, a, b)?;
-    ask(alloc, b, 2, &Request::Commit)
+const READIED: &[(u16, Step)] = &[
+    (1, Step::Declare),
+    (2, Step::Declare),
+    (1, Step::BeginDialogue),
+    (2, Step::Arrive),
+    (2, Step::Accept),
+    (1, Step::Arrive),
+    (1, Step::BeginTransaction),
+    (2, Step::Arrive),
+    (1, Step::Commit),
+    (2, Step::Arrive),
+    (2, Step::Commit),
+];
+
+// And it has committed, and then the root's user is done.
+const ENDED: &[(u16, Step)] = &[
+    (1, Step::Declare),
+    (2, Step::Declare),
+    (1, Step::BeginDialogue),
+    (2, Step::Arrive),
+    (2, Step::Accept),
+    (1, Step::Arrive),
+    (1, Step::BeginTransaction),
+    (2, Step::Arrive),
+    (1, Step::Commit),
+    (2, Step::Arrive),
+    (2, Step::Commit),
+    (1, Step::Arrive),
+    (2, Step::Arrive),
+    (2, Step::Done),
+    (1, Step::Arrive),
+    (1, Step::Done),
+];
+
+fn readied(alloc: Global) -> Option<Pair> {
+    after(alloc, READIED)
 }
 
-// And has committed; the root's user is not done yet.
-fn ordered(alloc: Global, a: &mut OnMemory, b: &mut OnMemory) -> Result<(), Fail> {
-    let readies = readied(alloc, a, b)?;
-    let orders = arrive(alloc, a, 1, &readies)?;
-    arrive(alloc, b, 2, &orders)?;
-    let done = ask(alloc, b, 2, &Request::Done)?;
-    arrive(alloc, a, 1, &done)?;
-    Ok(())
+fn phase(site: &OnMemory, node: u16) -> Option<Phase> {
+    Some(site.state(node)?.phase)
 }
 
 fn completes(indication: &Indication) -> bool {
@@ -148,61 +260,59 @@ fn completes(indication: &Indication) -> bool {
 }
 
 // The user is told first that its commitment is complete.
-fn is_complete(outs: &Outs) -> bool {
-    match outs.as_slice().first() {
+fn is_complete(outs: &[Out]) -> bool {
+    match outs.first() {
         Some(Out::Tell(indication)) => completes(indication),
         _ => false,
     }
 }
 
+fn records(site: &OnMemory) -> usize {
+    site.log().count()
+}
+
 #[test]
-fn two_sites_end_a_transaction_together(rt: HostRuntime) -> Result<(), Fail> {
-    let alloc = rt.alloc();
-    let mut a = fresh(alloc, b"a")?;
-    let mut b = fresh(alloc, b"b")?;
-    ordered(alloc, &mut a, &mut b)?;
-    let last = ask(alloc, &mut a, 1, &Request::Done)?;
-    assert!(rt; is_complete(&last));
+fn two_sites_end_a_transaction_together(rt: HostRuntime) {
+    let Some(pair) = after(rt.alloc(), ENDED) else {
+        panic!(rt; "a step was refused")
+    };
+    assert!(rt; is_complete(pair.outs.as_slice()));
     // Boot, Commit and End; and Ready between the first two.
-    assert_eq!(rt; a.log().count(), 3);
-    assert_eq!(rt; b.keeper().count(), 4);
-    Ok(())
+    assert!(rt; records(&pair.a) == 3);
+    assert!(rt; records(&pair.b) == 4);
+}
+
+fn phase_after(alloc: Global, steps: &[(u16, Step)]) -> Option<Phase> {
+    let pair = after(alloc, steps)?;
+    phase(&pair.b, 2)
 }
 
 #[test]
-fn phases_of_a_commitment(rt: HostRuntime) -> Result<(), Fail> {
-    let alloc = rt.alloc();
-    let mut a = fresh(alloc, b"a")?;
-    let mut b = fresh(alloc, b"b")?;
-    prepared(alloc, &mut a, &mut b)?;
-    assert_eq!(rt; phase(&b, 2)?, Phase::Active);
-    ask(alloc, &mut b, 2, &Request::Commit)?;
-    assert_eq!(rt; phase(&b, 2)?, Phase::Ready);
-    Ok(())
+fn phases_of_a_commitment(rt: HostRuntime) {
+    let phase = phase_after(rt.alloc(), PREPARED);
+    assert!(rt; matches!(phase, Some(Phase::Active)));
+    let phase = phase_after(rt.alloc(), READIED);
+    assert!(rt; matches!(phase, Some(Phase::Ready)));
 }
 
 #[test]
-fn a_site_has_a_name_and_a_boot(rt: HostRuntime) -> Result<(), Fail> {
-    let a = fresh(rt.alloc(), b"a")?;
-    assert_eq!(rt; a.boot(), 1);
-    assert_eq!(rt; a.name(), named(b"a")?);
-    Ok(())
+fn a_site_has_a_name_and_a_boot(rt: HostRuntime) {
+    let Some(site) = fresh(rt.alloc(), b"a") else {
+        panic!(rt; "it does not start")
+    };
+    assert!(rt; site.boot() == 1);
+    assert!(rt; site.name().bytes() == b"a".as_slice());
+}
+
+// The log of a site, given back.
+fn disk_of(site: OnMemory) -> MemDisk {
+    site.keeper().disk()
 }
 
 // The site of the branch after a start on its log.
-fn found_again(alloc: Global) -> Result<OnMemory, Fail> {
-    let mut a = fresh(alloc, b"a")?;
-    let mut b = fresh(alloc, b"b")?;
-    readied(alloc, &mut a, &mut b)?;
-    started(alloc, b"b", b.keeper().disk())
-}
-
-// The record that is sent first.
-fn first_sent(outs: &Outs) -> Option<&PeerRecord> {
-    match outs.as_slice().first() {
-        Some(Out::Send { rec, .. }) => Some(rec),
-        _ => None,
-    }
+fn found_again(alloc: Global) -> Option<OnMemory> {
+    let Pair { b, .. } = readied(alloc)?;
+    started(alloc, b"b", disk_of(b))
 }
 
 // It asks the superior.
@@ -210,15 +320,20 @@ fn asks(rec: &PeerRecord) -> bool {
     matches!(rec, PeerRecord::RecReady { .. })
 }
 
+// What is waited for at the node is asked of the superior once more.
+fn asks_again(alloc: Global, site: &mut OnMemory, node: u16) -> Option<bool> {
+    let played = retry(alloc, site, node).ok()?;
+    Some(asks(first_sent(played.outs.as_slice())?))
+}
+
 #[test]
-fn a_ready_branch_is_found_again(rt: HostRuntime) -> Result<(), Fail> {
-    let alloc = rt.alloc();
-    let mut again = found_again(alloc)?;
-    assert_eq!(rt; again.boot(), 2);
-    assert_eq!(rt; phase(&again, 2)?, Phase::Ready);
-    let played = retried(alloc, &mut again, 2)?;
-    assert!(rt; first_sent(&played.outs).is_some_and(asks));
-    Ok(())
+fn a_ready_branch_is_found_again(rt: HostRuntime) {
+    let Some(mut again) = found_again(rt.alloc()) else {
+        panic!(rt; "it does not start")
+    };
+    assert!(rt; again.boot() == 2);
+    assert!(rt; matches!(phase(&again, 2), Some(Phase::Ready)));
+    assert!(rt; matches!(asks_again(rt.alloc(), &mut again, 2), Some(true)));
 }
 
 // Prepare on the association of that record, in its place.
@@ -239,46 +354,55 @@ fn shuts(rec: &PeerRecord) -> bool {
     matches!(rec, PeerRecord::ShutAssoc { .. })
 }
 
-#[test]
-fn a_record_out_of_phase_ends_its_association(rt: HostRuntime) -> Result<(), Fail> {
-    let alloc = rt.alloc();
-    let mut a = fresh(alloc, b"a")?;
-    let mut b = fresh(alloc, b"b")?;
-    let readies = readied(alloc, &mut a, &mut b)?;
-    let rec = first_sent(&readies)
-        .and_then(prepare_for)
-        .ok_or("a record on the association")?;
+// Prepare arrives at the root in place of Ready: the number of the refusal, and whether the association is ended.
+fn out_of_phase(alloc: Global, pair: &mut Pair) -> Option<(u8, bool)> {
+    let rec = prepare_for(first_sent(pair.outs.as_slice())?)?;
     let from = at(2)?;
-    let played = arrived(alloc, &mut a, 1, from, &rec)?;
-    assert_eq!(rt; played.number, Some(24));
-    assert!(rt; first_sent(&played.outs).is_some_and(shuts));
-    Ok(())
+    let played = arrive(alloc, &mut pair.a, 1, from, &rec).ok()?;
+    let number = played.number?;
+    Some((number, shuts(first_sent(played.outs.as_slice())?)))
 }
 
 #[test]
-fn a_failed_disk_shuts_the_site(rt: HostRuntime) -> Result<(), Fail> {
-    let alloc = rt.alloc();
-    let mut a = fresh(alloc, b"a")?;
+fn a_record_out_of_phase_ends_its_association(rt: HostRuntime) {
+    let Some(mut pair) = readied(rt.alloc()) else {
+        panic!(rt; "a step was refused")
+    };
+    let answer = out_of_phase(rt.alloc(), &mut pair);
+    assert!(rt; matches!(answer, Some((24, true))));
+}
+
+// The second is asked to prepare, on a disk that fails at that call.
+fn prepared_on_failing(alloc: Global, call: u8) -> Option<Pair> {
+    let calls = Octets::from_slice(alloc, &[call]).ok()?;
+    let disk = MemDisk::failing(alloc, empty(alloc)?, calls);
+    after_on(alloc, disk, PREPARED)
+}
+
+// The branch is asked to commit.
+fn commit(alloc: Global, pair: &mut Pair) -> Result<Played, SiteFault> {
+    ask(alloc, &mut pair.b, 2, &Request::Commit)
+}
+
+#[test]
+fn a_failed_disk_shuts_the_site(rt: HostRuntime) {
     // The start of the log makes one call, and the boot four; the next is that of Ready.
-    let bytes = Octets::from_slice(alloc, &EMPTY)?;
-    let disk = MemDisk::failing(alloc, bytes, Octets::from_slice(alloc, &[6])?);
-    let mut b = started(alloc, b"b", disk)?;
-    prepared(alloc, &mut a, &mut b)?;
-    let request = Request::Commit;
-    let failed = asked(alloc, &mut b, 2, &request);
+    let Some(mut pair) = prepared_on_failing(rt.alloc(), 6) else {
+        panic!(rt; "a step was refused")
+    };
+    let failed = commit(rt.alloc(), &mut pair);
     assert!(rt; matches!(failed, Err(SiteFault::DiskFault { faults: 1 })));
-    assert_eq!(rt; phase(&b, 2)?, Phase::Active);
-    let again = asked(alloc, &mut b, 2, &request);
+    assert!(rt; matches!(phase(&pair.b, 2), Some(Phase::Active)));
+    let again = commit(rt.alloc(), &mut pair);
     assert!(rt; matches!(again, Err(SiteFault::Shut { faults: 1 })));
-    Ok(())
 }
 
 #[test]
-fn an_unknown_node_is_refused(rt: HostRuntime) -> Result<(), Fail> {
-    let alloc = rt.alloc();
-    let mut a = fresh(alloc, b"a")?;
-    let refused = retried(alloc, &mut a, 7);
+fn an_unknown_node_is_refused(rt: HostRuntime) {
+    let Some(mut site) = fresh(rt.alloc(), b"a") else {
+        panic!(rt; "it does not start")
+    };
+    let refused = retry(rt.alloc(), &mut site, 7);
     assert!(rt; matches!(refused, Err(SiteFault::Refused(16))));
-    assert!(rt; a.state(7).is_none());
-    Ok(())
+    assert!(rt; site.state(7).is_none());
 }

@@ -2,97 +2,191 @@
 //! from the first to the last.
 use crate::values::{at_b, mark, units};
 use std::alloc::Global;
-use std::test::Fail;
 use tp_dialogue::Dialogue;
 use tp_link::LinkState;
 use tp_model::Side;
-use tp_tree::Invocation;
+use tp_tree::{Invocation, Tie};
+
+// A node under node 1 of site b, with that room.
+fn under(alloc: Global, node: u16, is_wide: bool) -> Option<Invocation> {
+    let superior = at_b(1);
+    if is_wide {
+        Invocation::new(alloc, node, superior, 256).ok()
+    } else {
+        Invocation::new(alloc, node, superior, 32).ok()
+    }
+}
 
 // Adds an arc where it may be added.
-fn added(tree: &mut Invocation, node: u16, bits: u8, side: Side) -> Result<(), Fail> {
-    if tree.get(node).is_some() || !tree.has_room(side) {
-        return Err("there is an arc, or no room".into());
-    }
+fn add(tree: &mut Invocation, node: u16, bits: u8, side: Side) -> Option<()> {
     let addr = at_b(node)?;
     let units = units(bits)?;
-    if tree.get(addr.node).is_none() {
-        tree.add(addr, units, side);
+    if tree.get(addr.node).is_some() || !tree.has_room(side) {
+        return None;
     }
-    Ok(())
+    tree.add(addr, units, side);
+    Some(())
 }
 
-fn numbers(alloc: Global, tree: &Invocation) -> Result<Vec<u16>, Fail> {
-    let mut numbers = Vec::new(alloc);
-    for tie in tree.subordinates() {
-        numbers.push(tie.addr().node)?;
+// Whether the subordinates have those numbers, in that order.
+fn has_below(tree: &Invocation, numbers: &[u16]) -> bool {
+    are(tree.subordinates(), numbers)
+}
+
+fn are(ties: &[Tie], numbers: &[u16]) -> bool {
+    for (tie, number) in ties.iter().zip(numbers) {
+        if tie.addr().node != *number {
+            return false;
+        }
     }
-    Ok(numbers)
+    ties.len() == numbers.len()
+}
+
+// Arcs to the subordinates 7, 3 and 5, and before the last to the superior.
+fn with_arcs(alloc: Global) -> Option<Invocation> {
+    let mut tree = under(alloc, 2, false)?;
+    add(&mut tree, 7, 46, Side::Superior)?;
+    add(&mut tree, 3, 1, Side::Superior)?;
+    add(&mut tree, 1, 46, Side::Subordinate)?;
+    add(&mut tree, 5, 2, Side::Superior)?;
+    Some(tree)
+}
+
+fn superior(tree: &Invocation) -> Option<u16> {
+    Some(tree.superior()?.node)
 }
 
 #[test]
-fn arcs_stand_in_the_order_of_their_asking(rt: HostRuntime) -> Result<(), Fail> {
-    let mut tree = Invocation::new(rt.alloc(), 2, Some(at_b(1)?), 32)?;
-    assert_eq!(rt; tree.node(), 2);
-    assert_eq!(rt; tree.superior(), Some(at_b(1)?));
+fn a_node_is_under_its_superior(rt: HostRuntime) {
+    let Some(tree) = under(rt.alloc(), 2, false) else {
+        panic!(rt; "no memory")
+    };
+    assert!(rt; tree.node() == 2);
+    assert!(rt; matches!(superior(&tree), Some(1)));
     assert!(rt; tree.may_root());
-    added(&mut tree, 7, 46, Side::Superior)?;
-    added(&mut tree, 3, 1, Side::Superior)?;
-    added(&mut tree, 1, 46, Side::Subordinate)?;
-    added(&mut tree, 5, 2, Side::Superior)?;
-    assert!(rt; !tree.has_room(Side::Subordinate));
-    assert!(rt; numbers(rt.alloc(), &tree)?.as_slice() == [7, 3, 5].as_slice());
+}
+
+// An arc is removed, one that is not there too, and it is added again.
+fn moved_back(tree: &mut Invocation) -> Option<()> {
     tree.remove(3);
     tree.remove(4);
-    added(&mut tree, 3, 1, Side::Superior)?;
-    assert!(rt; numbers(rt.alloc(), &tree)?.as_slice() == [7, 5, 3].as_slice());
-    let of_two = tree.find(7).ok_or("a dialogue")?;
-    assert_eq!(rt; *of_two, Dialogue::new(units(46)?, Side::Superior));
-    assert!(rt; tree.find(4).is_none());
-    assert!(rt; tree.tie(4).is_none());
-    let copy = tree.copy(rt.alloc())?;
-    assert!(rt; numbers(rt.alloc(), &copy)?.as_slice() == [7, 5, 3].as_slice());
-    Ok(())
+    add(tree, 3, 1, Side::Superior)
 }
 
 #[test]
-fn a_live_superior_with_commit_keeps_a_node_from_the_root(rt: HostRuntime) -> Result<(), Fail> {
-    let mark = mark(1);
-    let mut tree = Invocation::new(rt.alloc(), 2, Some(at_b(1)?), 256)?;
-    added(&mut tree, 1, 46, Side::Subordinate)?;
-    assert!(rt; tree.may_root());
-    let up = tree.tie(1).ok_or("the superior's arc")?;
+fn arcs_stand_in_the_order_of_their_asking(rt: HostRuntime) {
+    let Some(mut tree) = with_arcs(rt.alloc()) else {
+        panic!(rt; "no memory")
+    };
+    assert!(rt; !tree.has_room(Side::Subordinate));
+    assert!(rt; has_below(&tree, &[7, 3, 5]));
+    assert!(rt; moved_back(&mut tree).is_some());
+    assert!(rt; has_below(&tree, &[7, 5, 3]));
+}
+
+// The copy of a tree.
+fn copied(alloc: Global, tree: &Invocation) -> Option<Invocation> {
+    tree.copy(alloc).ok()
+}
+
+#[test]
+fn a_copy_has_the_same_arcs(rt: HostRuntime) {
+    let Some(tree) = with_arcs(rt.alloc()) else {
+        panic!(rt; "no memory")
+    };
+    let Some(copy) = copied(rt.alloc(), &tree) else {
+        panic!(rt; "no memory")
+    };
+    assert!(rt; has_below(&copy, &[7, 3, 5]));
+}
+
+// Whether the dialogue with that node is a fresh one of those units.
+fn is_fresh(tree: &Invocation, node: u16, bits: u8) -> Option<bool> {
+    let fresh = Dialogue::new(units(bits)?, Side::Superior);
+    Some(*tree.find(node)? == fresh)
+}
+
+fn has_tie(tree: &mut Invocation, node: u16) -> bool {
+    tree.tie(node).is_some()
+}
+
+#[test]
+fn a_dialogue_is_found_by_its_node(rt: HostRuntime) {
+    let Some(mut tree) = with_arcs(rt.alloc()) else {
+        panic!(rt; "no memory")
+    };
+    assert!(rt; matches!(is_fresh(&tree, 7, 46), Some(true)));
+    assert!(rt; tree.find(4).is_none());
+    assert!(rt; !has_tie(&mut tree, 4));
+}
+
+// A call comes on the arc with that node.
+fn offer(tree: &mut Invocation, node: u16) -> Option<()> {
+    let up = tree.tie(node)?;
     if up.link.state() == LinkState::Idle {
-        up.link.offered(mark);
+        up.link.offered(mark(1));
     }
-    assert!(rt; tree.may_root());
-    let up = tree.tie(1).ok_or("the superior's arc")?;
+    Some(())
+}
+
+// And it is answered.
+fn accept(tree: &mut Invocation, node: u16) -> Option<()> {
+    let up = tree.tie(node)?;
     if up.link.state() == LinkState::Offered {
-        up.link.accept(mark);
+        up.link.accept(mark(1));
     }
-    assert!(rt; !tree.may_root());
-    let up = tree.tie(1).ok_or("the superior's arc")?;
-    up.dialogue = Dialogue::new(units(6)?, Side::Subordinate);
+    Some(())
+}
+
+// Its dialogue gets other units.
+fn change(tree: &mut Invocation, node: u16, bits: u8) -> Option<()> {
+    let dialogue = Dialogue::new(units(bits)?, Side::Subordinate);
+    let up = tree.tie(node)?;
+    up.dialogue = dialogue;
+    Some(())
+}
+
+#[test]
+fn a_live_superior_with_commit_keeps_a_node_from_the_root(rt: HostRuntime) {
+    let Some(mut tree) = under(rt.alloc(), 2, true) else {
+        panic!(rt; "no memory")
+    };
+    assert!(rt; add(&mut tree, 1, 46, Side::Subordinate).is_some());
     assert!(rt; tree.may_root());
+    assert!(rt; offer(&mut tree, 1).is_some() && tree.may_root());
+    assert!(rt; accept(&mut tree, 1).is_some() && !tree.may_root());
+    assert!(rt; change(&mut tree, 1, 6).is_some() && tree.may_root());
+}
+
+#[test]
+fn a_superior_is_removed(rt: HostRuntime) {
+    let Some(mut tree) = with_arcs(rt.alloc()) else {
+        panic!(rt; "no memory")
+    };
     tree.remove(1);
     assert!(rt; tree.get(1).is_none());
     assert!(rt; tree.has_room(Side::Subordinate));
-    Ok(())
+}
+
+// As many subordinates as there is room for.
+fn filled(alloc: Global, room: u16) -> Option<Invocation> {
+    let mut tree = under(alloc, 9, room == 256)?;
+    for node in 0..room {
+        add(&mut tree, node.saturating_add(10), 25, Side::Superior)?;
+    }
+    Some(tree)
+}
+
+// Whether so many subordinates have room, and no more.
+fn has_room_for(alloc: Global, room: u16) -> Option<bool> {
+    let tree = filled(alloc, room)?;
+    let count = tree.subordinates().len();
+    let is_full = !tree.has_room(Side::Superior) && tree.has_room(Side::Subordinate);
+    Some(is_full && count == usize::from(room))
 }
 
 #[test]
-fn there_is_room_for_all(rt: HostRuntime) -> Result<(), Fail> {
-    for room in [32u16, 256] {
-        let mut tree = if room == 32 {
-            Invocation::new(rt.alloc(), 9, None, 32)?
-        } else {
-            Invocation::new(rt.alloc(), 9, None, 256)?
-        };
-        for node in 0..room {
-            added(&mut tree, node.saturating_add(10), 25, Side::Superior)?;
-        }
-        assert!(rt; !tree.has_room(Side::Superior));
-        assert!(rt; tree.has_room(Side::Subordinate));
-        assert_eq!(rt; tree.subordinates().len(), usize::from(room));
-    }
-    Ok(())
+fn there_is_room_for_all(rt: HostRuntime) {
+    assert!(rt; matches!(has_room_for(rt.alloc(), 32), Some(true)));
+    assert!(rt; matches!(has_room_for(rt.alloc(), 256), Some(true)));
 }

@@ -1,5 +1,4 @@
 //! Small values that several tests name.
-use std::test::Fail;
 use tp_model::{Phase, Situation};
 use tp_names::{Addr, BranchId, Child, Mark, SiteName};
 use tp_units::Units;
@@ -14,8 +13,8 @@ pub(crate) const IDLE: Situation = Situation {
     left: false,
 };
 
-pub(crate) fn named(name: &[u8]) -> Result<SiteName, Fail> {
-    Ok(SiteName::new(name).ok_or("a site's name")?)
+pub(crate) fn named(name: &[u8]) -> Option<SiteName> {
+    SiteName::new(name)
 }
 
 // A mark of node 1 in the first boot of its site.
@@ -28,22 +27,22 @@ pub(crate) fn mark(count: u64) -> Mark {
 }
 
 // A node of site b.
-pub(crate) fn at_b(node: u16) -> Result<Addr, Fail> {
+pub(crate) fn at_b(node: u16) -> Option<Addr> {
     let site = named(b"b")?;
-    Ok(Addr { site, node })
+    Some(Addr { site, node })
 }
 
 // The branch a.1.1.3 at node 2 of site b.
-pub(crate) fn child() -> Result<Child, Fail> {
-    Ok(Child {
-        addr: at_b(2)?,
-        branch: BranchId {
-            superior: named(b"a")?,
-            mark: mark(3),
-        },
+pub(crate) fn child() -> Option<Child> {
+    let addr = at_b(2)?;
+    let superior = named(b"a")?;
+    let mark = mark(3);
+    Some(Child {
+        addr,
+        branch: BranchId { superior, mark },
     })
 }
 
-pub(crate) fn units(bits: u8) -> Result<Units, Fail> {
-    Ok(Units::check(bits).ok().ok_or("a permitted set")?)
+pub(crate) fn units(bits: u8) -> Option<Units> {
+    Units::check(bits).ok()
 }
