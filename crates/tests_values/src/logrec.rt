@@ -193,15 +193,15 @@ const DAMAGE: &[&[u8]] = &[b"\x05\0\x02", FIRST, b"\x01", FIRST, ABOVE, b"\x01\x
 
 const ROOT_END: &[&[u8]] = &[b"\x06\0\x02", FIRST, b"\0\x02"];
 
-/// Whether the pieces, the count of the children where there is one, and the children are the text of
-/// the record in that version.
-fn is_text(
+/// The length of the text that the pieces, the count of the children where there is one, and the children
+/// are, where it is that of the record in that version.
+fn text_length(
     alloc: Global,
     ver: LogVersion,
     row: &Row,
     pieces: &[&[u8]],
     count: &[u8],
-) -> Option<bool> {
+) -> Option<usize> {
     let (_, _, nodes) = row;
     let rec = record(alloc, row)?;
     let mut bytes = joined(alloc, pieces).ok()?;
@@ -209,7 +209,8 @@ fn is_text(
     for _node in *nodes {
         bytes.extend_from_slice(alloc, CHILD).ok()?;
     }
-    is_text_of(alloc, ver, bytes.as_slice(), &rec)
+    let is_text = is_text_of(alloc, ver, bytes.as_slice(), &rec)?;
+    is_text.then_some(bytes.len())
 }
 
 // Records whose texts have no count of children: with the pieces of them.
@@ -224,30 +225,31 @@ fn records_without_children_both_ways(rt: HostRuntime) {
     let alloc = rt.alloc();
     for (row, pieces) in WITHOUT_CHILDREN {
         for ver in [LogVersion::One, LogVersion::Two] {
-            let holds = is_text(alloc, ver, row, pieces, &[]);
-            assert!(rt; matches!(holds, Some(true)));
+            let length = text_length(alloc, ver, row, pieces, &[]);
+            assert!(rt; length.is_some());
         }
     }
 }
 
-// Records with the number of their children, with the pieces before the count. The first is the ready of a plain commitment.
-const WITH_CHILDREN: &[(Row, u8, &[&[u8]])] = &[
-    ((Made::Ready, 1, &[]), 0, READY),
-    ((Made::Ready, 1, &[5, 5]), 2, READY),
-    ((Made::RootCommit, 1, &[5]), 1, ROOT_COMMIT),
-    ((Made::Commit, 1, &[]), 0, COMMIT),
-    ((Made::Damage(Outcome::Commit), 1, &[5]), 1, DAMAGE),
+// Records with the number of their children, with the pieces before the count, and the length in version 1. The
+// first is the ready of a plain commitment.
+const WITH_CHILDREN: &[(Row, u8, &[&[u8]], usize)] = &[
+    ((Made::Ready, 1, &[]), 0, READY, 49),
+    ((Made::Ready, 1, &[5, 5]), 2, READY, 97),
+    ((Made::RootCommit, 1, &[5]), 1, ROOT_COMMIT, 49),
+    ((Made::Commit, 1, &[]), 0, COMMIT, 49),
+    ((Made::Damage(Outcome::Commit), 1, &[5]), 1, DAMAGE, 75),
 ];
 
 // In version 1 the count is one byte, and in version 2 two.
 #[test]
 fn records_with_children_both_ways(rt: HostRuntime) {
     let alloc = rt.alloc();
-    for (row, count, pieces) in WITH_CHILDREN {
-        let one = is_text(alloc, LogVersion::One, row, pieces, &[*count]);
-        assert!(rt; matches!(one, Some(true)));
-        let two = is_text(alloc, LogVersion::Two, row, pieces, &[0, *count]);
-        assert!(rt; matches!(two, Some(true)));
+    for (row, count, pieces, length) in WITH_CHILDREN {
+        let one = text_length(alloc, LogVersion::One, row, pieces, &[*count]);
+        assert!(rt; matches!(one, Some(found) if found == *length));
+        let two = text_length(alloc, LogVersion::Two, row, pieces, &[0, *count]);
+        assert!(rt; matches!(two, Some(found) if found > *length && found - 1 == *length));
     }
 }
 
