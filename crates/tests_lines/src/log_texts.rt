@@ -1,61 +1,73 @@
 //! The texts of identifiers, keys and records of a log.
 use crate::values::{aaid, branch, key, root_key, site};
 use std::alloc::Global;
-use std::test::Fail;
 use tp_logrec::LogRec;
 use tp_names::{Addr, Children, NodeKey, Octets};
 use tp_transcript::{write_aaid, write_key, write_rec};
 
-#[test]
-fn identifiers(rt: HostRuntime) -> Result<(), Fail> {
-    let mut out = Octets::new(rt.alloc());
-    write_aaid(rt.alloc(), &aaid()?, &mut out)?;
-    assert_eq!(rt; out.as_slice(), b"a.1.20.2".as_slice());
-    Ok(())
-}
-
-#[test]
-fn keys(rt: HostRuntime) -> Result<(), Fail> {
-    let key = NodeKey {
-        aaid: aaid()?,
-        branch: Some(branch()?),
-    };
-    let mut out = Octets::new(rt.alloc());
-    write_key(rt.alloc(), &key, &mut out)?;
-    let text = b"a.1.20.2 s16.1.20.18446744073709551615";
-    assert_eq!(rt; out.as_slice(), text.as_slice());
-    Ok(())
-}
-
-fn text_of(alloc: Global, rec: &LogRec) -> Result<Octets, Fail> {
+fn aaid_text(alloc: Global) -> Option<Octets> {
     let mut out = Octets::new(alloc);
-    write_rec(alloc, rec, &mut out)?;
-    Ok(out)
+    write_aaid(alloc, &aaid()?, &mut out).ok()?;
+    Some(out)
+}
+
+fn key_text(alloc: Global) -> Option<Octets> {
+    let aaid = aaid()?;
+    let branch = Some(branch()?);
+    let key = NodeKey { aaid, branch };
+    let mut out = Octets::new(alloc);
+    write_key(alloc, &key, &mut out).ok()?;
+    Some(out)
+}
+
+fn is_text(found: &Option<Octets>, text: &str) -> bool {
+    match found {
+        Some(found) => found.as_slice() == text.as_bytes(),
+        None => false,
+    }
 }
 
 #[test]
-fn records_of_a_log(rt: HostRuntime) -> Result<(), Fail> {
-    let alloc = rt.alloc();
+fn identifiers(rt: HostRuntime) {
+    assert!(rt; is_text(&aaid_text(rt.alloc()), "a.1.20.2"));
+}
+
+#[test]
+fn keys(rt: HostRuntime) {
+    let text = "a.1.20.2 s16.1.20.18446744073709551615";
+    assert!(rt; is_text(&key_text(rt.alloc()), text));
+}
+
+fn text_of(alloc: Global, rec: &LogRec) -> Option<Octets> {
+    let mut out = Octets::new(alloc);
+    write_rec(alloc, rec, &mut out).ok()?;
+    Some(out)
+}
+
+fn commit_text(alloc: Global) -> Option<Octets> {
     let commit = LogRec::Commit {
         node: 0,
         key: root_key()?,
         superior: None,
         children: Children::new(alloc),
     };
-    let out = text_of(alloc, &commit)?;
-    assert_eq!(rt; out.as_slice(), b"commit 0 a.1.20.2 -".as_slice());
-    let superior = Addr {
-        site: site(b"a")?,
-        node: 1,
-    };
+    text_of(alloc, &commit)
+}
+
+fn ready_text(alloc: Global) -> Option<Octets> {
+    let site = site(b"a")?;
     let ready = LogRec::Ready {
         node: 2,
         key: key()?,
-        superior,
+        superior: Addr { site, node: 1 },
         children: Children::new(alloc),
     };
-    let out = text_of(alloc, &ready)?;
-    let text = b"ready 2 a.1.20.2 s16.1.20.18446744073709551615";
-    assert_eq!(rt; out.as_slice(), text.as_slice());
-    Ok(())
+    text_of(alloc, &ready)
+}
+
+#[test]
+fn records_of_a_log(rt: HostRuntime) {
+    assert!(rt; is_text(&commit_text(rt.alloc()), "commit 0 a.1.20.2 -"));
+    let text = "ready 2 a.1.20.2 s16.1.20.18446744073709551615";
+    assert!(rt; is_text(&ready_text(rt.alloc()), text));
 }

@@ -1,63 +1,78 @@
 //! Blank lines, and each fault of a line with the smallest lines that have it.
-use crate::schedule_examples::{data_line, echo_of};
+use crate::schedule_examples::{data_line, has_echo};
 use crate::streams::line_of_length;
 use std::alloc::Global;
-use std::process::Abort;
-use std::test::Fail;
 use tp_schedule::{LineFault, read_line};
 
-fn has_fault(rt: &impl Abort, alloc: Global, line: &[u8], wanted: LineFault) -> Result<(), Fail> {
-    match read_line(alloc, line) {
-        Ok(_) => Err(Fail::from("read")),
-        Err(fault) => {
-            assert_eq!(rt; fault, wanted);
-            Ok(())
+fn fault_of(alloc: Global, line: &[u8]) -> Option<LineFault> {
+    read_line(alloc, line).err()
+}
+
+fn all_have_fault(alloc: Global, lines: &[&str], wanted: LineFault) -> bool {
+    for line in lines {
+        match fault_of(alloc, line.as_bytes()) {
+            Some(fault) if fault == wanted => {}
+            _ => return false,
         }
     }
+    true
 }
 
-fn all_have_fault(
-    rt: &impl Abort,
-    alloc: Global,
-    lines: &[&str],
-    wanted: LineFault,
-) -> Result<(), Fail> {
-    for line in lines {
-        has_fault(rt, alloc, line.as_bytes(), wanted)?;
+fn is_blank(alloc: Global, line: &[u8]) -> bool {
+    match read_line(alloc, line) {
+        Ok(line) => line.is_none(),
+        Err(_) => false,
     }
-    Ok(())
+}
+
+const BLANK: &[&str] = &["", "   ", "#", "# pass 0 0"];
+
+#[test]
+fn lines_with_nothing_to_do(rt: HostRuntime) {
+    for line in BLANK {
+        assert!(rt; is_blank(rt.alloc(), line.as_bytes()), "{line}");
+    }
+    assert!(rt; all_have_fault(rt.alloc(), &[" #"], LineFault::Word));
+}
+
+/// Whether a comment of that length is blank.
+fn is_comment(alloc: Global, length: usize) -> Option<bool> {
+    let comment = line_of_length(alloc, b"#", b'x', length)?;
+    Some(is_blank(alloc, comment.as_slice()))
+}
+
+/// Whether `drain`, with spaces up to that length, is echoed.
+fn is_drain(alloc: Global, length: usize) -> Option<bool> {
+    let drain = line_of_length(alloc, b"drain", b' ', length)?;
+    Some(has_echo(alloc, drain.as_slice(), b"drain"))
+}
+
+/// Whether a line with that front is too long at that length.
+fn is_long(alloc: Global, front: &[u8], filling: u8, length: usize) -> Option<bool> {
+    let line = line_of_length(alloc, front, filling, length)?;
+    Some(matches!(fault_of(alloc, line.as_slice()), Some(LineFault::Long)))
 }
 
 #[test]
-fn lines_with_nothing_to_do(rt: HostRuntime) -> Result<(), Fail> {
-    for line in ["", "   ", "#", "# pass 0 0"] {
-        assert!(rt; read_line(rt.alloc(), line.as_bytes())?.is_none());
-    }
-    has_fault(&rt, rt.alloc(), b" #", LineFault::Word)
-}
-
-#[test]
-fn length_of_a_line(rt: HostRuntime) -> Result<(), Fail> {
+fn length_of_a_line(rt: HostRuntime) {
     let alloc = rt.alloc();
-    let comment = line_of_length(alloc, b"#", b'x', 8192)?;
-    assert!(rt; read_line(alloc, comment.as_slice())?.is_none());
-    let longer = line_of_length(alloc, b"#", b'x', 8193)?;
-    has_fault(&rt, alloc, longer.as_slice(), LineFault::Long)?;
-    let drain = line_of_length(alloc, b"drain", b' ', 8192)?;
-    let echo = echo_of(alloc, drain.as_slice())?;
-    assert_eq!(rt; echo.as_slice(), b"drain".as_slice());
-    let longer = line_of_length(alloc, b"drain", b' ', 8193)?;
-    has_fault(&rt, alloc, longer.as_slice(), LineFault::Long)
+    assert!(rt; matches!(is_comment(alloc, 8192), Some(true)));
+    assert!(rt; matches!(is_long(alloc, b"#", b'x', 8193), Some(true)));
+    assert!(rt; matches!(is_drain(alloc, 8192), Some(true)));
+    assert!(rt; matches!(is_long(alloc, b"drain", b' ', 8193), Some(true)));
 }
 
 #[test]
-fn one_octet_too_many(rt: HostRuntime) -> Result<(), Fail> {
-    let line = data_line(rt.alloc(), 2001)?;
-    has_fault(&rt, rt.alloc(), line.as_slice(), LineFault::Word)
+fn one_octet_too_many(rt: HostRuntime) {
+    let Some(line) = data_line(rt.alloc(), 2001) else {
+        panic!(rt; "no memory")
+    };
+    let fault = fault_of(rt.alloc(), line.as_slice());
+    assert!(rt; matches!(fault, Some(LineFault::Word)));
 }
 
 /// Words of a wrong form, one too many, and one too few.
-const WRONG_WORDS: [&str; 15] = [
+const WRONG_WORDS: &[&str] = &[
     "pas 1 2",
     "pass 1",
     "pass 1 2 3",
@@ -76,7 +91,7 @@ const WRONG_WORDS: [&str; 15] = [
 ];
 
 /// Octets, outcomes and stops of a wrong form.
-const WRONG_VALUES: [&str; 12] = [
+const WRONG_VALUES: &[&str] = &[
     "do 1 data 2 a",
     "do 1 data 2 AA",
     "do 1 data 2 aa*01",
@@ -92,12 +107,12 @@ const WRONG_VALUES: [&str; 12] = [
 ];
 
 #[test]
-fn words_of_a_wrong_form(rt: HostRuntime) -> Result<(), Fail> {
-    all_have_fault(&rt, rt.alloc(), &WRONG_WORDS, LineFault::Word)?;
-    all_have_fault(&rt, rt.alloc(), &WRONG_VALUES, LineFault::Word)
+fn words_of_a_wrong_form(rt: HostRuntime) {
+    assert!(rt; all_have_fault(rt.alloc(), WRONG_WORDS, LineFault::Word));
+    assert!(rt; all_have_fault(rt.alloc(), WRONG_VALUES, LineFault::Word));
 }
 
-const WRONG_NUMBERS: [&str; 9] = [
+const WRONG_NUMBERS: &[&str] = &[
     "again 0",
     "again 65536",
     "again 100000000000000000000000",
@@ -110,6 +125,6 @@ const WRONG_NUMBERS: [&str; 9] = [
 ];
 
 #[test]
-fn numerals_outside_their_range(rt: HostRuntime) -> Result<(), Fail> {
-    all_have_fault(&rt, rt.alloc(), &WRONG_NUMBERS, LineFault::Number)
+fn numerals_outside_their_range(rt: HostRuntime) {
+    assert!(rt; all_have_fault(rt.alloc(), WRONG_NUMBERS, LineFault::Number));
 }

@@ -1,145 +1,135 @@
 //! The texts of lines of a schedule.
 use crate::values::{octets, site};
 use std::alloc::Global;
-use std::process::Abort;
-use std::test::Fail;
 use tp_model::{Line, LineRequest, StopLine};
 use tp_names::{Octets, Outcome, SiteName};
 use tp_schedule::write_line;
 
-/// Each line has the text beside it, which goes after what stood there.
-fn all_show(rt: &impl Abort, alloc: Global, lines: &[(Line, &str)]) -> Result<(), Fail> {
-    for (line, text) in lines {
-        let mut out = octets(alloc, b"|")?;
-        write_line(alloc, line, &mut out)?;
-        let mut wanted = octets(alloc, b"|")?;
-        wanted.extend_from_slice(alloc, text.as_bytes())?;
-        assert_eq!(rt; out.as_slice(), wanted.as_slice(), "{text}");
+/// The text of a line, after a bar.
+fn written(alloc: Global, line: &Line) -> Option<Octets> {
+    let mut out = octets(alloc, b"|")?;
+    write_line(alloc, line, &mut out).ok()?;
+    Some(out)
+}
+
+/// Whether the line has that text, which goes after what stood there.
+fn shows(alloc: Global, line: Line, text: &str) -> bool {
+    match written(alloc, &line) {
+        Some(out) => match out.as_slice() {
+            [b'|', found @ ..] => found == text.as_bytes(),
+            _ => false,
+        },
+        None => false,
     }
-    Ok(())
 }
 
-fn of_a_world(site: SiteName) -> [(Line, &'static str); 6] {
-    let (node, member) = (3, 1);
-    let under = Some(1);
-    [
-        (
-            Line::Node {
-                node: 2,
-                site,
-                under: None,
-            },
-            "node 2 b",
-        ),
-        (
-            Line::Node {
-                node: 65535,
-                site,
-                under,
-            },
-            "node 65535 b under 1",
-        ),
-        (Line::Image { site }, "image b"),
-        (Line::Show { node }, "show 3"),
-        (Line::Auto { node, member }, "auto 3 1"),
-        (Line::Leave { member: 2 }, "leave 2"),
-    ]
+fn node(alloc: Global, node: u16, site: SiteName, under: Option<u16>, text: &str) -> bool {
+    shows(alloc, Line::Node { node, site, under }, text)
 }
 
-fn of_frames() -> [(Line, &'static str); 5] {
-    [
-        (Line::Pass { from: 1, to: 2 }, "pass 1 2"),
-        (Line::Skip { from: 2, to: 1 }, "skip 2 1"),
-        (Line::Again { frame: 10 }, "again 10"),
-        (Line::Drain, "drain"),
-        (Line::Lose { node: 1, peer: 2 }, "lose 1 2"),
-    ]
+#[test]
+fn lines_of_nodes(rt: HostRuntime) {
+    let alloc = rt.alloc();
+    assert!(rt; shows(alloc, Line::Show { node: 3 }, "show 3"));
+    assert!(rt; shows(alloc, Line::Auto { node: 3, member: 1 }, "auto 3 1"));
+    assert!(rt; shows(alloc, Line::Leave { member: 2 }, "leave 2"));
 }
 
-fn of_a_site(site: SiteName) -> [(Line, &'static str); 5] {
+#[test]
+fn lines_of_frames(rt: HostRuntime) {
+    let alloc = rt.alloc();
+    assert!(rt; shows(alloc, Line::Pass { from: 1, to: 2 }, "pass 1 2"));
+    assert!(rt; shows(alloc, Line::Skip { from: 2, to: 1 }, "skip 2 1"));
+    assert!(rt; shows(alloc, Line::Again { frame: 10 }, "again 10"));
+    assert!(rt; shows(alloc, Line::Drain, "drain"));
+    assert!(rt; shows(alloc, Line::Lose { node: 1, peer: 2 }, "lose 1 2"));
+}
+
+#[test]
+fn lines_of_a_site(rt: HostRuntime) {
+    let alloc = rt.alloc();
     let outcome = Outcome::Rollback;
-    [
-        (Line::Heur { node: 2, outcome }, "heur 2 rollback"),
-        (Line::GiveUp { node: 1, peer: 2 }, "giveup 1 2"),
-        (Line::Retry { node: 1 }, "retry 1"),
-        (Line::Purge { node: 1 }, "purge 1"),
-        (Line::Crash { site }, "crash a"),
-    ]
+    assert!(rt; shows(alloc, Line::Heur { node: 2, outcome }, "heur 2 rollback"));
+    assert!(rt; shows(alloc, Line::GiveUp { node: 1, peer: 2 }, "giveup 1 2"));
+    assert!(rt; shows(alloc, Line::Retry { node: 1 }, "retry 1"));
+    assert!(rt; shows(alloc, Line::Purge { node: 1 }, "purge 1"));
 }
 
-fn of_stops(site: SiteName) -> [(Line, &'static str); 2] {
+#[test]
+fn lines_with_a_name(rt: HostRuntime) {
+    let Some(site) = site(b"b") else {
+        panic!(rt; "a name")
+    };
+    assert!(rt; node(rt.alloc(), 2, site, None, "node 2 b"));
+    assert!(rt; node(rt.alloc(), 65535, site, Some(1), "node 65535 b under 1"));
+    assert!(rt; shows(rt.alloc(), Line::Image { site }, "image b"));
+    assert!(rt; shows(rt.alloc(), Line::Crash { site }, "crash b"));
+}
+
+fn crash_in(alloc: Global, at: u8, fill: u8, line: StopLine, text: &str) -> Option<bool> {
+    let site = site(b"a")?;
+    let line = Line::CrashIn {
+        site,
+        at,
+        fill,
+        line,
+    };
+    Some(shows(alloc, line, text))
+}
+
+#[test]
+fn lines_of_stops(rt: HostRuntime) {
     let request = LineRequest::Commit;
     let asked = StopLine::Do { node: 1, request };
+    let holds = crash_in(
+        rt.alloc(),
+        2,
+        15,
+        asked,
+        "crash a at 2 fill 0f in do 1 commit",
+    );
+    assert!(rt; matches!(holds, Some(true)));
     let outcome = Outcome::Commit;
     let decided = StopLine::Heur { node: 2, outcome };
-    [
-        (
-            Line::CrashIn {
-                site,
-                at: 2,
-                fill: 15,
-                line: asked,
-            },
-            "crash a at 2 fill 0f in do 1 commit",
-        ),
-        (
-            Line::CrashIn {
-                site,
-                at: 99,
-                fill: 0,
-                line: decided,
-            },
-            "crash a at 99 fill 00 in heur 2 commit",
-        ),
-    ]
+    let holds = crash_in(
+        rt.alloc(),
+        99,
+        0,
+        decided,
+        "crash a at 99 fill 00 in heur 2 commit",
+    );
+    assert!(rt; matches!(holds, Some(true)));
+}
+
+fn asks(alloc: Global, request: LineRequest, text: &str) -> bool {
+    shows(alloc, Line::Do { node: 1, request }, text)
+}
+
+fn data(alloc: Global, bytes: &[u8], text: &str) -> Option<bool> {
+    let octets = octets(alloc, bytes)?;
+    let request = LineRequest::UserData { peer: 2, octets };
+    Some(shows(alloc, Line::Do { node: 1, request }, text))
 }
 
 #[test]
-fn lines_of_a_world(rt: HostRuntime) -> Result<(), Fail> {
-    let b = site(b"b")?;
-    all_show(&rt, rt.alloc(), &of_a_world(b))?;
-    all_show(&rt, rt.alloc(), &of_frames())
+fn requests(rt: HostRuntime) {
+    let (alloc, peer) = (rt.alloc(), 2);
+    let begin = LineRequest::BeginDialogue { peer, units: 63 };
+    assert!(rt; asks(alloc, begin, "do 1 begin-dialogue 2 sphcku"));
+    let accept = LineRequest::Accept { units: 41 };
+    assert!(rt; asks(alloc, accept, "do 1 accept scu"));
+    let grant = LineRequest::Grant { peer };
+    assert!(rt; asks(alloc, grant, "do 1 grant-control 2"));
+    let handshake = LineRequest::HandshakeGrant { peer };
+    assert!(rt; asks(alloc, handshake, "do 1 handshake-and-grant 2"));
+    assert!(rt; asks(alloc, LineRequest::Unchanged, "do 1 unchanged"));
 }
 
 #[test]
-fn lines_of_a_site(rt: HostRuntime) -> Result<(), Fail> {
-    let a = site(b"a")?;
-    all_show(&rt, rt.alloc(), &of_a_site(a))?;
-    all_show(&rt, rt.alloc(), &of_stops(a))
-}
-
-fn asked(request: LineRequest) -> Line {
-    Line::Do { node: 1, request }
-}
-
-fn of_requests(some: Octets, none: Octets) -> [(Line, &'static str); 7] {
-    let peer = 2;
-    [
-        (
-            asked(LineRequest::BeginDialogue { peer, units: 63 }),
-            "do 1 begin-dialogue 2 sphcku",
-        ),
-        (asked(LineRequest::Accept { units: 41 }), "do 1 accept scu"),
-        (
-            asked(LineRequest::UserData { peer, octets: some }),
-            "do 1 data 2 00090a9fa0ff",
-        ),
-        (
-            asked(LineRequest::UserData { peer, octets: none }),
-            "do 1 data 2 -",
-        ),
-        (asked(LineRequest::Grant { peer }), "do 1 grant-control 2"),
-        (
-            asked(LineRequest::HandshakeGrant { peer }),
-            "do 1 handshake-and-grant 2",
-        ),
-        (asked(LineRequest::Unchanged), "do 1 unchanged"),
-    ]
-}
-
-#[test]
-fn requests(rt: HostRuntime) -> Result<(), Fail> {
-    let some = octets(rt.alloc(), &[0, 9, 10, 159, 160, 255])?;
-    let requests = of_requests(some, Octets::new(rt.alloc()));
-    all_show(&rt, rt.alloc(), &requests)
+fn requests_with_octets(rt: HostRuntime) {
+    let bytes = [0, 9, 10, 159, 160, 255];
+    let holds = data(rt.alloc(), &bytes, "do 1 data 2 00090a9fa0ff");
+    assert!(rt; matches!(holds, Some(true)));
+    let holds = data(rt.alloc(), &[], "do 1 data 2 -");
+    assert!(rt; matches!(holds, Some(true)));
 }

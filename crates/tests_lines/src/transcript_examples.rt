@@ -2,13 +2,11 @@
 use crate::streams::are_cut_alike;
 use crate::values::octets;
 use std::alloc::Global;
-use std::process::Abort;
-use std::test::Fail;
 use tp_names::Octets;
 use tp_transcript::{read_out, write_out};
 
 /// Records of logs.
-const LOGS: [&str; 16] = [
+const LOGS: &[&str] = &[
     "log a boot 1",
     "log b boot 1",
     "log c boot 1",
@@ -28,7 +26,7 @@ const LOGS: [&str; 16] = [
 ];
 
 /// Records of logs that end a transaction or tell of damage.
-const LAST_LOGS: [&str; 12] = [
+const LAST_LOGS: &[&str] = &[
     "log c end 3 a.1.1.2 b.1.2.4 rollback",
     "log b end 2 a.1.1.2 a.1.1.3 commit",
     "log a end 1 a.1.1.2 - commit",
@@ -44,7 +42,7 @@ const LAST_LOGS: [&str; 12] = [
 ];
 
 /// Records that open associations and shut them.
-const ASSOCIATIONS: [&str; 15] = [
+const ASSOCIATIONS: &[&str] = &[
     "send 1 1 2 open 1.1.1 scu",
     "send 2 2 3 open 1.2.1 scu",
     "send 3 2 4 open 1.2.2 scu",
@@ -63,7 +61,7 @@ const ASSOCIATIONS: [&str; 15] = [
 ];
 
 /// Records of recovery.
-const RECOVERY: [&str; 18] = [
+const RECOVERY: &[&str] = &[
     "send 16 3 2 rec-ready a.1.1.2 b.1.2.4",
     "send 17 2 3 rec-reply a.1.1.2 b.1.2.4 retry-later",
     "send 7 2 1 rec-ready a.1.1.2 a.1.1.3",
@@ -85,7 +83,7 @@ const RECOVERY: [&str; 18] = [
 ];
 
 /// Records that begin transactions and vote.
-const VOTES: [&str; 21] = [
+const VOTES: &[&str] = &[
     "send 7 1 2 data 0 begin a.1.1.2 a.1.1.3 none",
     "send 8 2 3 data 0 begin a.1.1.2 b.1.2.4 none",
     "send 9 2 4 data 0 begin a.1.1.2 b.1.2.5 none",
@@ -110,7 +108,7 @@ const VOTES: [&str; 21] = [
 ];
 
 /// Records that end transactions.
-const ENDS: [&str; 20] = [
+const ENDS: &[&str] = &[
     "send 14 4 2 data 0 rollback",
     "send 15 2 1 data 0 rollback",
     "send 16 2 3 data 2 rollback",
@@ -134,7 +132,7 @@ const ENDS: [&str; 20] = [
 ];
 
 /// Records within a dialogue.
-const WITHIN: [&str; 8] = [
+const WITHIN: &[&str] = &[
     "send 3 1 2 data 0 handshake-grant",
     "send 4 2 1 data 0 response",
     "send 5 2 1 data 1 user 41",
@@ -146,7 +144,7 @@ const WITHIN: [&str; 8] = [
 ];
 
 /// Indications of dialogues.
-const DIALOGUES: [&str; 19] = [
+const DIALOGUES: &[&str] = &[
     "tell 2 begin-dialogue 1 scu",
     "tell 3 begin-dialogue 2 scu",
     "tell 4 begin-dialogue 2 scu",
@@ -169,7 +167,7 @@ const DIALOGUES: [&str; 19] = [
 ];
 
 /// Indications of transactions.
-const TRANSACTIONS: [&str; 21] = [
+const TRANSACTIONS: &[&str] = &[
     "tell 2 begin-transaction 1 a.1.1.2",
     "tell 3 begin-transaction 2 a.1.1.2",
     "tell 4 begin-transaction 2 a.1.1.2",
@@ -194,7 +192,7 @@ const TRANSACTIONS: [&str; 21] = [
 ];
 
 /// Indications that tell of the end.
-const COMPLETIONS: [&str; 11] = [
+const COMPLETIONS: &[&str] = &[
     "tell 4 rollback-complete none",
     "tell 3 rollback-complete none",
     "tell 2 rollback-complete none",
@@ -209,7 +207,7 @@ const COMPLETIONS: [&str; 11] = [
 ];
 
 /// Trees, states, refusals and losses.
-const OTHERS: [&str; 22] = [
+const OTHERS: &[&str] = &[
     "image a 4f54504c01010002070201000901000000000000000100",
     "tree a.1.1.2 agreed rollback",
     "dropped 22",
@@ -234,68 +232,87 @@ const OTHERS: [&str; 22] = [
     "tree a.1.1.6 open",
 ];
 
-/// The line is written as it was read.
-pub fn reads_back(rt: &impl Abort, alloc: Global, text: &[u8]) -> Result<(), Fail> {
-    let line = read_out(alloc, text)?;
+/// What is written of the line that a text has.
+fn written(alloc: Global, text: &[u8]) -> Option<Octets> {
+    let line = read_out(alloc, text).ok()?;
     let mut again = Octets::new(alloc);
-    write_out(alloc, &line, &mut again)?;
-    assert_eq!(rt; again.as_slice(), text);
-    Ok(())
+    write_out(alloc, &line, &mut again).ok()?;
+    Some(again)
+}
+
+/// The line is written as it was read.
+fn reads_back(alloc: Global, text: &[u8]) -> bool {
+    match written(alloc, text) {
+        Some(again) => again.as_slice() == text,
+        None => false,
+    }
+}
+
+/// Also after `> `.
+fn reads_back_as_echo(alloc: Global, text: &[u8]) -> Option<bool> {
+    let mut echo = octets(alloc, b"> ")?;
+    echo.extend_from_slice(alloc, text).ok()?;
+    Some(reads_back(alloc, echo.as_slice()))
 }
 
 /// A transcript of these lines is cut into them, and each is written as it was read, after `> ` too.
-fn all_read_back(rt: &impl Abort, alloc: Global, texts: &[&str]) -> Result<(), Fail> {
-    are_cut_alike(rt, alloc, texts)?;
+fn all_read_back(alloc: Global, texts: &[&str]) -> Option<bool> {
     for text in texts {
-        reads_back(rt, alloc, text.as_bytes())?;
-        let mut echo = octets(alloc, b"> ")?;
-        echo.extend_from_slice(alloc, text.as_bytes())?;
-        reads_back(rt, alloc, echo.as_slice())?;
+        let bytes = text.as_bytes();
+        if !reads_back(alloc, bytes) || !reads_back_as_echo(alloc, bytes)? {
+            return Some(false);
+        }
     }
-    Ok(())
+    are_cut_alike(alloc, texts)
 }
 
-#[test]
-fn records_of_logs(rt: HostRuntime) -> Result<(), Fail> {
-    all_read_back(&rt, rt.alloc(), &LOGS)?;
-    all_read_back(&rt, rt.alloc(), &LAST_LOGS)
-}
+const RECORDS_OF_LOGS: &[&[&str]] = &[LOGS, LAST_LOGS];
 
 #[test]
-fn records_of_peers(rt: HostRuntime) -> Result<(), Fail> {
-    all_read_back(&rt, rt.alloc(), &ASSOCIATIONS)?;
-    all_read_back(&rt, rt.alloc(), &RECOVERY)
-}
-
-#[test]
-fn records_of_dialogues(rt: HostRuntime) -> Result<(), Fail> {
-    all_read_back(&rt, rt.alloc(), &VOTES)?;
-    all_read_back(&rt, rt.alloc(), &ENDS)?;
-    all_read_back(&rt, rt.alloc(), &WITHIN)
-}
-
-#[test]
-fn indications(rt: HostRuntime) -> Result<(), Fail> {
-    all_read_back(&rt, rt.alloc(), &DIALOGUES)?;
-    all_read_back(&rt, rt.alloc(), &TRANSACTIONS)?;
-    all_read_back(&rt, rt.alloc(), &COMPLETIONS)
-}
-
-#[test]
-fn other_lines(rt: HostRuntime) -> Result<(), Fail> {
-    all_read_back(&rt, rt.alloc(), &OTHERS)
-}
-
-#[test]
-fn frames_taken(rt: HostRuntime) -> Result<(), Fail> {
-    for frame in 1..23u16 {
-        let text = format!(in rt.alloc(); "take {frame}")?;
-        reads_back(&rt, rt.alloc(), text.as_bytes())?;
+fn records_of_logs(rt: HostRuntime) {
+    for texts in RECORDS_OF_LOGS {
+        assert!(rt; matches!(all_read_back(rt.alloc(), texts), Some(true)));
     }
-    Ok(())
 }
 
-const EDGES: [&str; 7] = [
+const RECORDS_OF_PEERS: &[&[&str]] = &[ASSOCIATIONS, RECOVERY, VOTES, ENDS, WITHIN];
+
+#[test]
+fn records_of_peers(rt: HostRuntime) {
+    for texts in RECORDS_OF_PEERS {
+        assert!(rt; matches!(all_read_back(rt.alloc(), texts), Some(true)));
+    }
+}
+
+const INDICATIONS: &[&[&str]] = &[DIALOGUES, TRANSACTIONS, COMPLETIONS];
+
+#[test]
+fn indications(rt: HostRuntime) {
+    for texts in INDICATIONS {
+        assert!(rt; matches!(all_read_back(rt.alloc(), texts), Some(true)));
+    }
+}
+
+#[test]
+fn other_lines(rt: HostRuntime) {
+    assert!(rt; matches!(all_read_back(rt.alloc(), OTHERS), Some(true)));
+}
+
+fn is_taken(alloc: Global, frame: u16) -> bool {
+    match format!(in alloc; "take {frame}") {
+        Ok(text) => reads_back(alloc, text.as_bytes()),
+        Err(_) => false,
+    }
+}
+
+#[test]
+fn frames_taken(rt: HostRuntime) {
+    for frame in 1..23 {
+        assert!(rt; is_taken(rt.alloc(), frame), "{frame}");
+    }
+}
+
+const EDGES: &[&str] = &[
     "image a ",
     "image a 4f54",
     "tell 3 data 1 -",
@@ -306,15 +323,23 @@ const EDGES: [&str; 7] = [
 ];
 
 #[test]
-fn empty_and_great_values(rt: HostRuntime) -> Result<(), Fail> {
-    all_read_back(&rt, rt.alloc(), &EDGES)
+fn empty_and_great_values(rt: HostRuntime) {
+    assert!(rt; matches!(all_read_back(rt.alloc(), EDGES), Some(true)));
+}
+
+/// A record with so many octets of user data, with a digit each.
+fn of_octets(alloc: Global, digits: u16) -> Option<Octets> {
+    let mut user = octets(alloc, b"send 8 1 3 data 1 user ")?;
+    for _ in 0..digits {
+        user.push(alloc, b'b').ok()?;
+    }
+    Some(user)
 }
 
 #[test]
-fn many_octets(rt: HostRuntime) -> Result<(), Fail> {
-    let mut user = octets(rt.alloc(), b"send 8 1 3 data 1 user ")?;
-    for _ in 0..2048 {
-        user.push(rt.alloc(), b'b')?;
-    }
-    reads_back(&rt, rt.alloc(), user.as_slice())
+fn many_octets(rt: HostRuntime) {
+    let Some(user) = of_octets(rt.alloc(), 2048) else {
+        panic!(rt; "no memory")
+    };
+    assert!(rt; reads_back(rt.alloc(), user.as_slice()));
 }

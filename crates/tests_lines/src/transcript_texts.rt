@@ -1,102 +1,131 @@
 //! The texts of lines of a transcript.
 use crate::values::{aaid, branch, mark, octets, root_key, site};
 use std::alloc::Global;
-use std::process::Abort;
-use std::test::Fail;
 use tp_model::{LogWords, NodeNumbers, OutLine, PhaseWord, RecordFate, SentWords};
-use tp_names::{Aaid, BranchId, NodeKey, Octets, Outcome, Report, SiteName};
+use tp_names::{Octets, Outcome, Report};
 use tp_records::{DialogueRecord, Holder, Indication, RecState};
 use tp_transcript::write_out;
 use tp_units::Units;
 
-/// Each line has the text beside it, which goes after what stood there.
-fn all_show(rt: &impl Abort, alloc: Global, lines: &[(OutLine, &str)]) -> Result<(), Fail> {
-    for (line, text) in lines {
-        let mut out = octets(alloc, b"|")?;
-        write_out(alloc, line, &mut out)?;
-        let mut wanted = octets(alloc, b"|")?;
-        wanted.extend_from_slice(alloc, text.as_bytes())?;
-        assert_eq!(rt; out.as_slice(), wanted.as_slice(), "{text}");
+/// The text of a line, after a bar.
+fn written(alloc: Global, line: &OutLine) -> Option<Octets> {
+    let mut out = octets(alloc, b"|")?;
+    write_out(alloc, line, &mut out).ok()?;
+    Some(out)
+}
+
+/// Whether the line has that text, which goes after what stood there.
+fn shows(alloc: Global, line: OutLine, text: &str) -> bool {
+    match written(alloc, &line) {
+        Some(out) => match out.as_slice() {
+            [b'|', found @ ..] => found == text.as_bytes(),
+            _ => false,
+        },
+        None => false,
     }
-    Ok(())
 }
 
-fn of_frames() -> [(OutLine, &'static str); 5] {
-    [
-        (OutLine::Take { frame: 1 }, "take 1"),
-        (OutLine::Refused { number: 12 }, "refused 12"),
-        (OutLine::Dropped { number: 21 }, "dropped 21"),
-        (OutLine::Nothing, "nothing"),
-        (OutLine::Lost { frame: 6 }, "lost 6"),
-    ]
-}
-
-fn of_a_site(site: SiteName, echo: Octets, bytes: Octets) -> [(OutLine, &'static str); 4] {
-    let (fate, phase) = (RecordFate::Kept, PhaseWord::Committing);
-    [
-        (OutLine::Echo(echo), "> drain"),
-        (OutLine::Stopped { site, fate }, "stopped a kept"),
-        (
-            OutLine::State {
-                node: 2,
-                phase,
-                kept: 0,
-            },
-            "state 2 committing kept 0",
-        ),
-        (OutLine::Image { site, bytes }, "image a 4f54504c01"),
-    ]
-}
-
-fn of_a_log(site: SiteName, key: NodeKey) -> [(OutLine, &'static str); 2] {
-    let (node, side, report) = (1, Outcome::Commit, Report::Mix);
-    let boot = LogWords::Boot { boot: 1 };
-    let damage = LogWords::Damage {
-        node,
-        key,
-        side,
-        report,
-    };
-    [
-        (OutLine::Log { site, rec: boot }, "log a boot 1"),
-        (
-            OutLine::Log { site, rec: damage },
-            "log a damage 1 a.1.20.2 - commit mix",
-        ),
-    ]
+/// The same of a line that is made where there is memory.
+fn made_shows(alloc: Global, line: Option<OutLine>, text: &str) -> bool {
+    match line {
+        Some(line) => shows(alloc, line, text),
+        None => false,
+    }
 }
 
 #[test]
-fn lines_of_a_transcript(rt: HostRuntime) -> Result<(), Fail> {
+fn lines_of_frames(rt: HostRuntime) {
     let alloc = rt.alloc();
-    all_show(&rt, alloc, &of_frames())?;
-    let a = site(b"a")?;
-    let (echo, bytes) = (octets(alloc, b"drain")?, octets(alloc, b"OTPL\x01")?);
-    all_show(&rt, alloc, &of_a_site(a, echo, bytes))?;
-    all_show(&rt, alloc, &of_a_log(a, root_key()?))
-}
-
-fn of_trees(aaid: &Aaid, by: NodeNumbers) -> [(OutLine, &'static str); 3] {
-    let outcome = Outcome::Commit;
-    let agreed = OutLine::Agreed {
-        aaid: *aaid,
-        outcome,
-    };
-    let mixed = OutLine::Mixed { aaid: *aaid, by };
-    [
-        (agreed, "tree a.1.20.2 agreed commit"),
-        (mixed, "tree a.1.20.2 mixed by 2,31,4"),
-        (OutLine::Open { aaid: *aaid }, "tree a.1.20.2 open"),
-    ]
+    assert!(rt; shows(alloc, OutLine::Take { frame: 1 }, "take 1"));
+    assert!(rt; shows(alloc, OutLine::Refused { number: 12 }, "refused 12"));
+    assert!(rt; shows(alloc, OutLine::Dropped { number: 21 }, "dropped 21"));
+    assert!(rt; shows(alloc, OutLine::Nothing, "nothing"));
+    assert!(rt; shows(alloc, OutLine::Lost { frame: 6 }, "lost 6"));
 }
 
 #[test]
-fn lines_that_close_a_transcript(rt: HostRuntime) -> Result<(), Fail> {
-    let mut by = NodeNumbers::new(rt.alloc());
-    for number in [2, 31, 4] {
-        by.push(rt.alloc(), number)?;
-    }
-    all_show(&rt, rt.alloc(), &of_trees(&aaid()?, by))
+fn lines_of_states(rt: HostRuntime) {
+    let state = OutLine::State {
+        node: 2,
+        phase: PhaseWord::Committing,
+        kept: 0,
+    };
+    assert!(rt; shows(rt.alloc(), state, "state 2 committing kept 0"));
+}
+
+fn echo(alloc: Global) -> Option<OutLine> {
+    Some(OutLine::Echo(octets(alloc, b"drain")?))
+}
+
+fn stopped() -> Option<OutLine> {
+    let site = site(b"a")?;
+    let fate = RecordFate::Kept;
+    Some(OutLine::Stopped { site, fate })
+}
+
+fn image(alloc: Global) -> Option<OutLine> {
+    let site = site(b"a")?;
+    let bytes = octets(alloc, b"OTPL\x01")?;
+    Some(OutLine::Image { site, bytes })
+}
+
+#[test]
+fn lines_of_a_site(rt: HostRuntime) {
+    assert!(rt; made_shows(rt.alloc(), echo(rt.alloc()), "> drain"));
+    assert!(rt; made_shows(rt.alloc(), stopped(), "stopped a kept"));
+    assert!(rt; made_shows(rt.alloc(), image(rt.alloc()), "image a 4f54504c01"));
+}
+
+fn boot() -> Option<OutLine> {
+    let site = site(b"a")?;
+    let rec = LogWords::Boot { boot: 1 };
+    Some(OutLine::Log { site, rec })
+}
+
+fn damage() -> Option<OutLine> {
+    let site = site(b"a")?;
+    let rec = LogWords::Damage {
+        node: 1,
+        key: root_key()?,
+        side: Outcome::Commit,
+        report: Report::Mix,
+    };
+    Some(OutLine::Log { site, rec })
+}
+
+#[test]
+fn lines_of_a_log(rt: HostRuntime) {
+    assert!(rt; made_shows(rt.alloc(), boot(), "log a boot 1"));
+    let text = "log a damage 1 a.1.20.2 - commit mix";
+    assert!(rt; made_shows(rt.alloc(), damage(), text));
+}
+
+fn agreed() -> Option<OutLine> {
+    let aaid = aaid()?;
+    let outcome = Outcome::Commit;
+    Some(OutLine::Agreed { aaid, outcome })
+}
+
+fn mixed(alloc: Global) -> Option<OutLine> {
+    let aaid = aaid()?;
+    let mut by = NodeNumbers::new(alloc);
+    by.push(alloc, 2).ok()?;
+    by.push(alloc, 31).ok()?;
+    by.push(alloc, 4).ok()?;
+    Some(OutLine::Mixed { aaid, by })
+}
+
+fn open() -> Option<OutLine> {
+    let aaid = aaid()?;
+    Some(OutLine::Open { aaid })
+}
+
+#[test]
+fn lines_that_close_a_transcript(rt: HostRuntime) {
+    assert!(rt; made_shows(rt.alloc(), agreed(), "tree a.1.20.2 agreed commit"));
+    let text = "tree a.1.20.2 mixed by 2,31,4";
+    assert!(rt; made_shows(rt.alloc(), mixed(rt.alloc()), text));
+    assert!(rt; made_shows(rt.alloc(), open(), "tree a.1.20.2 open"));
 }
 
 fn sent(rec: SentWords) -> OutLine {
@@ -108,79 +137,73 @@ fn sent(rec: SentWords) -> OutLine {
     }
 }
 
-fn of_associations(units: Units) -> [(OutLine, &'static str); 2] {
-    let (x, y) = (mark(1), None);
-    [
-        (
-            sent(SentWords::OpenAssoc { x, units }),
-            "send 7 1 2 open 1.20.1 scu",
-        ),
-        (
-            sent(SentWords::ShutAssoc { x, y }),
-            "send 7 1 2 shut 1.20.1 -",
-        ),
-    ]
+fn opened() -> Option<OutLine> {
+    let units = Units::check(41).ok()?;
+    let x = mark(1);
+    Some(sent(SentWords::OpenAssoc { x, units }))
 }
 
-fn of_records(aaid: &Aaid, branch: &BranchId, octets: Octets) -> [(OutLine, &'static str); 3] {
-    let begin = DialogueRecord::Begin {
-        aaid: *aaid,
-        branch: *branch,
+fn shut() -> Option<OutLine> {
+    let (x, y) = (mark(1), None);
+    Some(sent(SentWords::ShutAssoc { x, y }))
+}
+
+fn begin() -> Option<OutLine> {
+    let rec = DialogueRecord::Begin {
+        aaid: aaid()?,
+        branch: branch()?,
         holder: Holder::Superior,
     };
-    let user = DialogueRecord::UserData { octets };
-    let reply = SentWords::RecReply {
-        aaid: *aaid,
-        branch: *branch,
+    Some(sent(SentWords::OnAssoc { seq: 3, rec }))
+}
+
+fn user(alloc: Global) -> Option<OutLine> {
+    let octets = octets(alloc, b"A")?;
+    let rec = DialogueRecord::UserData { octets };
+    Some(sent(SentWords::OnAssoc { seq: 3, rec }))
+}
+
+fn reply() -> Option<OutLine> {
+    Some(sent(SentWords::RecReply {
+        aaid: aaid()?,
+        branch: branch()?,
         state: RecState::Done(Report::Hazard),
-    };
-    [
-        (
-            sent(SentWords::OnAssoc { seq: 3, rec: begin }),
-            "send 7 1 2 data 3 begin a.1.20.2 s16.1.20.18446744073709551615 superior",
-        ),
-        (
-            sent(SentWords::OnAssoc { seq: 3, rec: user }),
-            "send 7 1 2 data 3 user 41",
-        ),
-        (
-            sent(reply),
-            "send 7 1 2 rec-reply a.1.20.2 s16.1.20.18446744073709551615 done hazard",
-        ),
-    ]
+    }))
 }
 
 #[test]
-fn what_is_sent(rt: HostRuntime) -> Result<(), Fail> {
-    let alloc = rt.alloc();
-    all_show(&rt, alloc, &of_associations(Units::check(41)?))?;
-    let octets = octets(alloc, b"A")?;
-    all_show(&rt, alloc, &of_records(&aaid()?, &branch()?, octets))
+fn records_of_associations(rt: HostRuntime) {
+    assert!(rt; made_shows(rt.alloc(), opened(), "send 7 1 2 open 1.20.1 scu"));
+    assert!(rt; made_shows(rt.alloc(), shut(), "send 7 1 2 shut 1.20.1 -"));
 }
 
-fn told(indication: Indication) -> OutLine {
-    OutLine::Tell {
+#[test]
+fn records_of_a_transaction(rt: HostRuntime) {
+    let text = "send 7 1 2 data 3 begin a.1.20.2 s16.1.20.18446744073709551615 superior";
+    assert!(rt; made_shows(rt.alloc(), begin(), text));
+    assert!(rt; made_shows(rt.alloc(), user(rt.alloc()), "send 7 1 2 data 3 user 41"));
+    let text = "send 7 1 2 rec-reply a.1.20.2 s16.1.20.18446744073709551615 done hazard";
+    assert!(rt; made_shows(rt.alloc(), reply(), text));
+}
+
+fn told(indication: Indication) -> Option<OutLine> {
+    Some(OutLine::Tell {
         node: 2,
         indication,
-    }
+    })
 }
 
-fn of_indications(units: Units) -> [(OutLine, &'static str); 3] {
-    let report = Report::Mix;
-    [
-        (
-            told(Indication::BegunDialogue { peer: 1, units }),
-            "tell 2 begun-dialogue 1 pck",
-        ),
-        (told(Indication::Commit), "tell 2 commit"),
-        (
-            told(Indication::HeuristicReport { peer: 3, report }),
-            "tell 2 heuristic-report 3 mix",
-        ),
-    ]
+fn begun() -> Option<OutLine> {
+    let units = Units::check(26).ok()?;
+    told(Indication::BegunDialogue { peer: 1, units })
 }
 
 #[test]
-fn what_users_are_told(rt: HostRuntime) -> Result<(), Fail> {
-    all_show(&rt, rt.alloc(), &of_indications(Units::check(26)?))
+fn what_users_are_told(rt: HostRuntime) {
+    assert!(rt; made_shows(rt.alloc(), begun(), "tell 2 begun-dialogue 1 pck"));
+    let commit = told(Indication::Commit);
+    assert!(rt; made_shows(rt.alloc(), commit, "tell 2 commit"));
+    let (peer, report) = (3, Report::Mix);
+    let report = told(Indication::HeuristicReport { peer, report });
+    assert!(rt; made_shows(rt.alloc(), report, "tell 2 heuristic-report 3 mix"));
 }

@@ -1,14 +1,13 @@
 //! Values that several tests speak of.
 use std::alloc::Global;
-use std::test::Fail;
 use tp_names::{Aaid, BranchId, Mark, NodeKey, Octets, SiteName};
 
-pub fn octets(alloc: Global, bytes: &[u8]) -> Result<Octets, Fail> {
-    Ok(Octets::from_slice(alloc, bytes)?)
+pub fn octets(alloc: Global, bytes: &[u8]) -> Option<Octets> {
+    Octets::from_slice(alloc, bytes).ok()
 }
 
-pub fn site(name: &[u8]) -> Result<SiteName, Fail> {
-    Ok(SiteName::new(name).ok_or("no site name")?)
+pub fn site(name: &[u8]) -> Option<SiteName> {
+    SiteName::new(name)
 }
 
 pub fn mark(count: u64) -> Mark {
@@ -20,34 +19,28 @@ pub fn mark(count: u64) -> Mark {
 }
 
 /// Its text is `a.1.20.2`.
-pub fn aaid() -> Result<Aaid, Fail> {
+pub fn aaid() -> Option<Aaid> {
     let owner = site(b"a")?;
-    Ok(Aaid {
-        owner,
-        mark: mark(2),
-    })
+    let mark = mark(2);
+    Some(Aaid { owner, mark })
 }
 
 /// Its text is `s16.1.20.18446744073709551615`.
-pub fn branch() -> Result<BranchId, Fail> {
+pub fn branch() -> Option<BranchId> {
     let superior = site(b"s16")?;
-    Ok(BranchId {
-        superior,
-        mark: mark(u64::MAX),
-    })
+    let mark = mark(u64::MAX);
+    Some(BranchId { superior, mark })
 }
 
 /// The key of that branch.
-pub fn key() -> Result<NodeKey, Fail> {
-    let (aaid, branch) = (aaid()?, branch()?);
-    Ok(NodeKey {
-        aaid,
-        branch: Some(branch),
-    })
+pub fn key() -> Option<NodeKey> {
+    let aaid = aaid()?;
+    let branch = Some(branch()?);
+    Some(NodeKey { aaid, branch })
 }
 
 /// The key of a root.
-pub fn root_key() -> Result<NodeKey, Fail> {
+pub fn root_key() -> Option<NodeKey> {
     let aaid = aaid()?;
-    Ok(NodeKey { aaid, branch: None })
+    Some(NodeKey { aaid, branch: None })
 }
