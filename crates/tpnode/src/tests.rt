@@ -1,8 +1,6 @@
 //! What no clause says: whole runs, with expected bytes from outside, and the texts of endings.
 use super::*;
-use std::process::Abort;
-use std::test::Fail;
-use tp_model::Why;
+use tp_model::{What, Why};
 use tp_outside::{MemSink, MemSource};
 
 const SCHEDULE: &str =
@@ -11,164 +9,186 @@ const SCHEDULE: &str =
 const TRANSCRIPT: &str =
     "> node 1 a\nlog a boot 1\n> node 2 b under 1\nlog b boot 1\n> do 1 begin-dialogue 2 scu\nsend 1 1 2 open 1.1.1 scu\n> drain\ntake 1\ntell 2 begin-dialogue 1 scu\n> do 2 accept scu\nsend 2 2 1 accept 1.1.1 1.2.1 scu\n> pass 2 1\ntake 2\ntell 1 begun-dialogue 2 scu\n> pass 2 1\nnothing\n";
 
-fn octets(alloc: Global, bytes: &[u8]) -> Result<Octets, Fail> {
-    Ok(Octets::from_vec(bytes.to_vec(alloc)?))
+fn octets(alloc: Global, bytes: &[u8]) -> Option<Octets> {
+    Octets::from_slice(alloc, bytes).ok()
 }
 
+// The calls of a source that fail, and those of a sink.
+type Fails = (&'static [u8], &'static [u8]);
+
+const NO_FAILS: Fails = (&[], &[]);
+
 // The status of a run on these bytes, and what it wrote.
-fn ran(
+fn ran(alloc: Global, words: &[&str], bytes: &[u8], fails: Fails) -> Option<(Status, MemSink)> {
+    let bytes = octets(alloc, bytes)?;
+    let (reads, writes) = fails;
+    let reads = octets(alloc, reads)?;
+    let writes = octets(alloc, writes)?;
+    let mut source = MemSource::new(alloc, bytes, reads);
+    let mut sink = MemSink::new(alloc, writes);
+    let disk = MemDisk::from(alloc, Octets::new(alloc));
+    let (status, _disk) = run(alloc, words, &mut source, &mut sink, disk, Vec::new(alloc));
+    Some((status, sink))
+}
+
+// The status of a run of these words that wrote these bytes and no others.
+fn status_of(
     alloc: Global,
     words: &[&str],
     bytes: &[u8],
-    read_fails: &[u8],
-    write_fails: &[u8],
-) -> Result<(Status, Vec<u8>), Fail> {
-    let mut source = MemSource::new(alloc, octets(alloc, bytes)?, octets(alloc, read_fails)?);
-    let mut sink = MemSink::new(alloc, octets(alloc, write_fails)?);
-    let disk = MemDisk::from(alloc, Octets::new(alloc));
-    let (status, _disk) = run(alloc, words, &mut source, &mut sink, disk, Vec::new(alloc));
-    Ok((status, sink.bytes().to_vec(alloc)?))
+    fails: Fails,
+    written: &str,
+) -> Option<Status> {
+    let (status, sink) = ran(alloc, words, bytes, fails)?;
+    (sink.bytes() == written.as_bytes()).then_some(status)
+}
+
+// The same of a replay.
+fn replayed(alloc: Global, text: &str, fails: Fails, written: &str) -> Option<Status> {
+    status_of(alloc, &["replay"], text.as_bytes(), fails, written)
 }
 
 #[test]
-fn built_lines_are_replayed(rt: HostRuntime) -> Result<(), Fail> {
-    let (status, written) = ran(rt.alloc(), &["replay"], SCHEDULE.as_bytes(), &[], &[])?;
-    assert_eq!(rt; status, Status::Ok);
-    assert_eq!(rt; written.as_slice(), TRANSCRIPT.as_bytes());
-    let (status, written) = ran(rt.alloc(), &["replay"], b"", &[], &[])?;
-    assert_eq!(rt; status, Status::Ok);
-    assert!(rt; written.is_empty());
-    Ok(())
+fn built_lines_are_replayed(rt: HostRuntime) {
+    let status = replayed(rt.alloc(), SCHEDULE, NO_FAILS, TRANSCRIPT);
+    assert!(rt; matches!(status, Some(Status::Ok)));
+    let status = replayed(rt.alloc(), "", NO_FAILS, "");
+    assert!(rt; matches!(status, Some(Status::Ok)));
 }
 
+const NO_COMMANDS: &[&[&str]] = &[&[], &["play"], &["replay", "replay"], &["repla"]];
+
 #[test]
-fn one_command_is_known(rt: HostRuntime) -> Result<(), Fail> {
-    let words: [&[&str]; 4] = [&[], &["play"], &["replay", "replay"], &["repla"]];
-    for given in words {
-        let (status, written) = ran(rt.alloc(), given, SCHEDULE.as_bytes(), &[], &[])?;
-        assert_eq!(rt; status, Status::Usage);
-        assert!(rt; written.is_empty());
+fn one_command_is_known(rt: HostRuntime) {
+    for words in NO_COMMANDS {
+        let status = status_of(rt.alloc(), words, SCHEDULE.as_bytes(), NO_FAILS, "");
+        assert!(rt; matches!(status, Some(Status::Usage)));
     }
-    Ok(())
 }
 
 const DECLARED: &str = "> node 1 a\nlog a boot 1\n> node 2 b under 1\nlog b boot 1\n";
 
-// The status of a run of that line after two nodes, which alone show anything.
-fn ended_by(rt: &impl Abort, alloc: Global, line: &str) -> Result<Status, Fail> {
-    let text = format!(in alloc; "node 1 a\nnode 2 b under 1\n{line}\n")?;
-    let (status, written) = ran(alloc, &["replay"], text.as_bytes(), &[], &[])?;
-    assert_eq!(rt; written.as_slice(), DECLARED.as_bytes(), "{line}");
-    Ok(status)
+// Why a run of that line after two nodes, which alone show anything, is refused at it.
+fn refused_by(alloc: Global, line: &str) -> Option<BadLine> {
+    let text = format!(in alloc; "node 1 a\nnode 2 b under 1\n{line}\n").ok()?;
+    match replayed(alloc, text.as_str(), NO_FAILS, DECLARED)? {
+        Status::BadInput { at: 3, why } => Some(why),
+        _ => None,
+    }
+}
+
+const NOT_BUILT: &[&str] = &[
+    "crash a",
+    "crash a at 1 fill 00 in do 1 commit",
+    "image a",
+    "auto 1 1",
+    "leave 1",
+];
+
+#[test]
+fn kinds_of_lines_that_are_not_built(rt: HostRuntime) {
+    for line in NOT_BUILT {
+        let why = refused_by(rt.alloc(), line);
+        assert!(rt; matches!(why, Some(BadLine::Unbuilt)), "{line}");
+    }
+}
+
+const BAD: &[(&str, Why)] = &[
+    ("fly", Why::Word),
+    ("node 65536 c", Why::Number),
+    ("do 3 commit", Why::Name),
+    ("do 1 begin-dialogue 3 scu", Why::Name),
+    ("pass 1 3", Why::Name),
+    ("again 1", Why::Name),
+    ("node 2 c", Why::Name),
+];
+
+#[test]
+fn lines_that_are_bad(rt: HostRuntime) {
+    for (line, wanted) in BAD {
+        let why = refused_by(rt.alloc(), line);
+        assert!(rt; why == Some(BadLine::Bad(*wanted)), "{line}");
+    }
+}
+
+// The status of a replay of so many empty lines.
+fn after_empty_lines(alloc: Global, count: usize) -> Option<Status> {
+    let bytes = vec![in alloc; b'\n'; count].ok()?;
+    let (status, _sink) = ran(alloc, &["replay"], &bytes, NO_FAILS)?;
+    Some(status)
 }
 
 #[test]
-fn kinds_of_lines_that_are_not_built(rt: HostRuntime) -> Result<(), Fail> {
-    for line in [
-        "crash a",
-        "crash a at 1 fill 00 in do 1 commit",
-        "image a",
-        "auto 1 1",
-        "leave 1",
-    ] {
-        let wanted = Status::BadInput {
-            at: 3,
+fn the_schedule_has_a_limit(rt: HostRuntime) {
+    let status = after_empty_lines(rt.alloc(), 1_048_576);
+    assert!(rt; matches!(status, Some(Status::Ok)));
+    let status = after_empty_lines(rt.alloc(), 1_048_577);
+    assert!(rt;
+        matches!(
+            status,
+            Some(Status::Limit {
+                what: What::Schedule,
+                at: 1_048_577
+            })
+        )
+    );
+}
+
+#[test]
+fn a_read_fault_is_told_with_the_count(rt: HostRuntime) {
+    let status = replayed(rt.alloc(), SCHEDULE, (&[2], &[]), TRANSCRIPT);
+    assert!(rt; matches!(status, Some(Status::ReadFault { faults: 1 })));
+}
+
+#[test]
+fn a_write_fault_is_told_with_the_count(rt: HostRuntime) {
+    let written = "> node 1 a\nlog a boot 1\n";
+    let status = replayed(rt.alloc(), SCHEDULE, (&[], &[2]), written);
+    assert!(rt; matches!(status, Some(Status::WriteFault { faults: 1 })));
+}
+
+fn is_shown_as(alloc: Global, status: Status, text: &str) -> bool {
+    match status.to_string(alloc) {
+        Ok(shown) => shown.as_str() == text,
+        Err(_) => false,
+    }
+}
+
+const ENDINGS: &[(Status, &str, u8)] = &[
+    (Status::Usage, "usage", 2),
+    (
+        Status::BadInput {
+            at: 2,
             why: BadLine::Unbuilt,
-        };
-        assert_eq!(rt; ended_by(&rt, rt.alloc(), line)?, wanted, "{line}");
-    }
-    Ok(())
-}
-
-#[test]
-fn lines_that_are_bad(rt: HostRuntime) -> Result<(), Fail> {
-    let lines = [
-        ("fly", Why::Word),
-        ("node 65536 c", Why::Number),
-        ("do 3 commit", Why::Name),
-        ("do 1 begin-dialogue 3 scu", Why::Name),
-        ("pass 1 3", Why::Name),
-        ("again 1", Why::Name),
-        ("node 2 c", Why::Name),
-    ];
-    for (line, why) in lines {
-        let wanted = Status::BadInput {
-            at: 3,
-            why: BadLine::Bad(why),
-        };
-        assert_eq!(rt; ended_by(&rt, rt.alloc(), line)?, wanted, "{line}");
-    }
-    Ok(())
-}
-
-#[test]
-fn the_schedule_has_a_limit(rt: HostRuntime) -> Result<(), Fail> {
-    let mut bytes = vec![in rt.alloc(); b'\n'; 1_048_575]?;
-    bytes.push(b'\n')?;
-    let (status, _written) = ran(rt.alloc(), &["replay"], &bytes, &[], &[])?;
-    assert_eq!(rt; status, Status::Ok);
-    bytes.push(b'\n')?;
-    let (status, _written) = ran(rt.alloc(), &["replay"], &bytes, &[], &[])?;
-    assert_eq!(rt;
-        status,
+        },
+        "bad input at 2: unbuilt",
+        3,
+    ),
+    (
+        Status::BadInput {
+            at: 2,
+            why: BadLine::Bad(Why::Word),
+        },
+        "bad input at 2: word",
+        3,
+    ),
+    (
         Status::Limit {
-            what: tp_model::What::Schedule,
-            at: 1_048_577
-        }
-    );
-    Ok(())
-}
+            what: What::Schedule,
+            at: 7,
+        },
+        "limit schedule at 7",
+        4,
+    ),
+    (Status::ReadFault { faults: 1 }, "read fault", 6),
+    (Status::WriteFault { faults: 1 }, "write fault", 7),
+    (Status::NoMemory, "no memory", 9),
+];
 
 #[test]
-fn faults_are_told_with_their_count(rt: HostRuntime) -> Result<(), Fail> {
-    let (status, written) = ran(rt.alloc(), &["replay"], SCHEDULE.as_bytes(), &[2], &[])?;
-    assert_eq!(rt; status, Status::ReadFault { faults: 1 });
-    assert_eq!(rt; written.as_slice(), TRANSCRIPT.as_bytes());
-    let (status, written) = ran(rt.alloc(), &["replay"], SCHEDULE.as_bytes(), &[], &[2])?;
-    assert_eq!(rt; status, Status::WriteFault { faults: 1 });
-    assert_eq!(rt;
-        written.as_slice(),
-        b"> node 1 a\nlog a boot 1\n".as_slice()
-    );
-    Ok(())
-}
-
-#[test]
-fn endings_have_texts_and_codes(rt: HostRuntime) -> Result<(), Fail> {
-    let endings = [
-        (Status::Usage, "usage", 2),
-        (
-            Status::BadInput {
-                at: 2,
-                why: BadLine::Unbuilt,
-            },
-            "bad input at 2: unbuilt",
-            3,
-        ),
-        (
-            Status::BadInput {
-                at: 2,
-                why: BadLine::Bad(Why::Word),
-            },
-            "bad input at 2: word",
-            3,
-        ),
-        (
-            Status::Limit {
-                what: tp_model::What::Schedule,
-                at: 7,
-            },
-            "limit schedule at 7",
-            4,
-        ),
-        (Status::ReadFault { faults: 1 }, "read fault", 6),
-        (Status::WriteFault { faults: 1 }, "write fault", 7),
-        (Status::NoMemory, "no memory", 9),
-    ];
-    for (status, text, code) in endings {
-        let shown = format!(in rt.alloc(); "{status}")?;
-        assert_eq!(rt; shown.as_str(), text);
-        assert_eq!(rt; status.code(), code);
+fn endings_have_texts_and_codes(rt: HostRuntime) {
+    for (status, text, code) in ENDINGS {
+        assert!(rt; is_shown_as(rt.alloc(), *status, text));
+        assert!(rt; status.code() == *code);
     }
-    Ok(())
 }
