@@ -5,16 +5,21 @@ use std::alloc::Global;
 use tp_dialogue::Dialogue;
 use tp_link::LinkState;
 use tp_model::Side;
+use tp_names::Addr;
 use tp_tree::{Invocation, Tie};
 
-// A node under node 1 of site b, with that room.
-fn under(alloc: Global, node: u16, is_wide: bool) -> Option<Invocation> {
-    let superior = at_b(1);
-    if is_wide {
+// A node with room for so many subordinates, 256 or else 32.
+fn made(alloc: Global, node: u16, superior: Option<Addr>, room: u16) -> Option<Invocation> {
+    if room == 256 {
         Invocation::new(alloc, node, superior, 256).ok()
     } else {
         Invocation::new(alloc, node, superior, 32).ok()
     }
+}
+
+// Node 2 under node 1 of site b.
+fn under(alloc: Global, room: u16) -> Option<Invocation> {
+    made(alloc, 2, Some(at_b(1)?), room)
 }
 
 // Adds an arc where it may be added.
@@ -44,7 +49,7 @@ fn are(ties: &[Tie], numbers: &[u16]) -> bool {
 
 // Arcs to the subordinates 7, 3 and 5, and before the last to the superior.
 fn with_arcs(alloc: Global) -> Option<Invocation> {
-    let mut tree = under(alloc, 2, false)?;
+    let mut tree = under(alloc, 32)?;
     add(&mut tree, 7, 46, Side::Superior)?;
     add(&mut tree, 3, 1, Side::Superior)?;
     add(&mut tree, 1, 46, Side::Subordinate)?;
@@ -52,17 +57,13 @@ fn with_arcs(alloc: Global) -> Option<Invocation> {
     Some(tree)
 }
 
-fn superior(tree: &Invocation) -> Option<u16> {
-    Some(tree.superior()?.node)
-}
-
 #[test]
 fn a_node_is_under_its_superior(rt: HostRuntime) {
-    let Some(tree) = under(rt.alloc(), 2, false) else {
+    let Some(tree) = under(rt.alloc(), 32) else {
         panic!(rt; "no memory")
     };
     assert!(rt; tree.node() == 2);
-    assert!(rt; matches!(superior(&tree), Some(1)));
+    assert!(rt; tree.superior() == at_b(1));
     assert!(rt; tree.may_root());
 }
 
@@ -148,7 +149,7 @@ fn change(tree: &mut Invocation, node: u16, bits: u8) -> Option<()> {
 
 #[test]
 fn a_live_superior_with_commit_keeps_a_node_from_the_root(rt: HostRuntime) {
-    let Some(mut tree) = under(rt.alloc(), 2, true) else {
+    let Some(mut tree) = under(rt.alloc(), 256) else {
         panic!(rt; "no memory")
     };
     assert!(rt; add(&mut tree, 1, 46, Side::Subordinate).is_some());
@@ -170,7 +171,7 @@ fn a_superior_is_removed(rt: HostRuntime) {
 
 // As many subordinates as there is room for.
 fn filled(alloc: Global, room: u16) -> Option<Invocation> {
-    let mut tree = under(alloc, 9, room == 256)?;
+    let mut tree = made(alloc, 9, None, room)?;
     for node in 0..room {
         add(&mut tree, node.saturating_add(10), 25, Side::Superior)?;
     }
