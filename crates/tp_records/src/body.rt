@@ -5,7 +5,7 @@ use crate::{Indication, Request};
 use tp_names::{Addr, Octets, Outcome};
 
 /// An event of one node of a site.
-#[derive(Debug, Drop)]
+#[derive(Drop)]
 pub enum Event {
     Declare {
         node: u16,
@@ -41,7 +41,7 @@ pub enum Event {
 }
 
 /// An output of a site. `Over` ends the outputs of one event.
-#[derive(Debug, Drop)]
+#[derive(Drop)]
 pub enum Output {
     Tell {
         node: u16,
@@ -59,7 +59,7 @@ pub enum Output {
 }
 
 /// What stands in a frame.
-#[derive(Debug, Drop)]
+#[derive(Drop)]
 pub enum Body {
     Event(Event),
     Output(Output),

@@ -4,7 +4,7 @@ pub(crate) mod bytes;
 use tp_names::{Addr, Octets};
 
 /// A request. Peers are named by number; units may be any bits, and are checked by the node.
-#[derive(Debug, Drop)]
+#[derive(Drop)]
 pub enum Request {
     BeginDialogue { addr: Addr, units: u8 },
     Accept { units: u8 },

@@ -1,6 +1,6 @@
 //! The bytes of events, outputs and bodies.
 ghost use Rattle.std.specs.Prelude.{◌≡◌, ◌++◌, OnOk, OnErr};
-ghost use Rattle.tp_names.specs.Scanning.{Gives, GivesUnlessFull, scan_make, ◌with◌, scan_byte_that, scan_short, scan_maybe, scan_addr, scan_octets, scan_outcome};
+ghost use Rattle.tp_names.specs.Scanning.{GivesUnlessFull, scan_make, ◌with◌, scan_byte_that, scan_short, scan_maybe, scan_addr, scan_octets, scan_outcome};
 ghost use Rattle.tp_names.specs.Writing.{Keeps};
 ghost use Rattle.tp_records.specs.Bodies.{event_bytes, output_bytes, body_bytes};
 ghost use Rattle.tp_records.specs.BodyReading.{is_refusal};
@@ -30,12 +30,12 @@ pub(crate) fn read_body(alloc: Global, from: &mut Cursor) -> Result<Body, ReadFa
 {
     let left = from.left();
     match from.code()? {
-        1 => Ok(declare(from)?),
+        1 => declare(from),
         2 => request(alloc, from),
         3 => arrive(alloc, from),
-        4 => Ok(lose(from)?),
-        5 => Ok(heur(from)?),
-        6 => Ok(give_up(from)?),
+        4 => lose(from),
+        5 => heur(from),
+        6 => give_up(from),
         7 => Ok(Body::Event(Event::Retry {
             node: from.short()?,
         })),
@@ -44,14 +44,14 @@ pub(crate) fn read_body(alloc: Global, from: &mut Cursor) -> Result<Body, ReadFa
         })),
         16 => tell(alloc, from),
         17 => send(alloc, from),
-        18 => Ok(refused(from)?),
+        18 => refused(from),
         19 => Ok(Body::Output(Output::Over)),
         _ => Err(ReadFault::Bad(BadBytes { left })),
     }
 }
 
-fn declare(from: &mut Cursor) -> Result<Body, BadBytes>
-    ensures { Gives result from.new ((scan_make (λ n s. Body.Event (Event.Declare n s)) with scan_short with scan_maybe scan_addr) from.old) }
+fn declare(from: &mut Cursor) -> Result<Body, ReadFault>
+    ensures { GivesUnlessFull result from.new ((scan_make (λ n s. Body.Event (Event.Declare n s)) with scan_short with scan_maybe scan_addr) from.old) }
 {
     let node = from.short()?;
     let superior = from.maybe_addr()?;
@@ -75,24 +75,24 @@ fn arrive(alloc: Global, start: &mut Cursor) -> Result<Body, ReadFault>
     Ok(Body::Event(Event::Arrive { from, to, octets }))
 }
 
-fn lose(from: &mut Cursor) -> Result<Body, BadBytes>
-    ensures { Gives result from.new ((scan_make (λ n p. Body.Event (Event.Lose n p)) with scan_short with scan_short) from.old) }
+fn lose(from: &mut Cursor) -> Result<Body, ReadFault>
+    ensures { GivesUnlessFull result from.new ((scan_make (λ n p. Body.Event (Event.Lose n p)) with scan_short with scan_short) from.old) }
 {
     let node = from.short()?;
     let peer = from.short()?;
     Ok(Body::Event(Event::Lose { node, peer }))
 }
 
-fn heur(from: &mut Cursor) -> Result<Body, BadBytes>
-    ensures { Gives result from.new ((scan_make (λ n o. Body.Event (Event.Heur n o)) with scan_short with scan_outcome) from.old) }
+fn heur(from: &mut Cursor) -> Result<Body, ReadFault>
+    ensures { GivesUnlessFull result from.new ((scan_make (λ n o. Body.Event (Event.Heur n o)) with scan_short with scan_outcome) from.old) }
 {
     let node = from.short()?;
     let outcome = from.outcome()?;
     Ok(Body::Event(Event::Heur { node, outcome }))
 }
 
-fn give_up(from: &mut Cursor) -> Result<Body, BadBytes>
-    ensures { Gives result from.new ((scan_make (λ n p. Body.Event (Event.GiveUp n p)) with scan_short with scan_short) from.old) }
+fn give_up(from: &mut Cursor) -> Result<Body, ReadFault>
+    ensures { GivesUnlessFull result from.new ((scan_make (λ n p. Body.Event (Event.GiveUp n p)) with scan_short with scan_short) from.old) }
 {
     let node = from.short()?;
     let peer = from.short()?;
@@ -116,15 +116,15 @@ fn send(alloc: Global, start: &mut Cursor) -> Result<Body, ReadFault>
     Ok(Body::Output(Output::Send { from, to, octets }))
 }
 
-fn refused(from: &mut Cursor) -> Result<Body, BadBytes>
-    ensures { Gives result from.new ((scan_make (λ k. Body.Output (Output.Refused k)) with scan_byte_that is_refusal) from.old) }
+fn refused(from: &mut Cursor) -> Result<Body, ReadFault>
+    ensures { GivesUnlessFull result from.new ((scan_make (λ k. Body.Output (Output.Refused k)) with scan_byte_that is_refusal) from.old) }
 {
     let left = from.left();
     let number = from.code()?;
     if matches!(number, 1..=17 | 21..=25) {
         Ok(Body::Output(Output::Refused { number }))
     } else {
-        Err(BadBytes { left })
+        Err(ReadFault::Bad(BadBytes { left }))
     }
 }
 

@@ -34,7 +34,7 @@ pub(crate) fn read_dialogue(alloc: Global, from: &mut Cursor) -> Result<Dialogue
         9 => Ok(DialogueRecord::Response),
         10 => Ok(DialogueRecord::DeferEnd),
         11 => Ok(DialogueRecord::DeferGrant),
-        12 => Ok(begin(from)?),
+        12 => begin(from),
         13 => Ok(DialogueRecord::Prepare),
         14 => Ok(DialogueRecord::Ready),
         15 => Ok(DialogueRecord::Commit),
@@ -51,8 +51,8 @@ pub(crate) fn read_dialogue(alloc: Global, from: &mut Cursor) -> Result<Dialogue
     }
 }
 
-fn begin(from: &mut Cursor) -> Result<DialogueRecord, BadBytes>
-    ensures { Gives result from.new ((scan_make (λ a b h. DialogueRecord.Begin a b h) with scan_aaid with scan_branch with scan_holder) from.old) }
+fn begin(from: &mut Cursor) -> Result<DialogueRecord, ReadFault>
+    ensures { GivesUnlessFull result from.new ((scan_make (λ a b h. DialogueRecord.Begin a b h) with scan_aaid with scan_branch with scan_holder) from.old) }
 {
     let aaid = from.aaid()?;
     let branch = from.branch()?;

@@ -1,6 +1,6 @@
 //! The bytes of indications.
 ghost use Rattle.std.specs.Prelude.{◌≡◌, ◌++◌, length, OnOk, OnErr};
-ghost use Rattle.tp_names.specs.Scanning.{Gives, GivesUnlessFull, scan_make, ◌with◌, scan_short, scan_aaid, scan_report, scan_octets};
+ghost use Rattle.tp_names.specs.Scanning.{GivesUnlessFull, scan_make, ◌with◌, scan_short, scan_aaid, scan_report, scan_octets};
 ghost use Rattle.tp_names.specs.Writing.{Keeps};
 ghost use Rattle.tp_records.specs.Bodies.{indication_bytes};
 ghost use Rattle.tp_records.specs.BodyScanning.{scan_units, scan_indication};
@@ -22,8 +22,8 @@ pub(crate) fn read_indication(alloc: Global, from: &mut Cursor) -> Result<Indica
 {
     let left = from.left();
     match from.code()? {
-        1 => Ok(begin_dialogue(from)?),
-        2 => Ok(begun_dialogue(from)?),
+        1 => begin_dialogue(from),
+        2 => begun_dialogue(from),
         3 => Ok(Indication::Rejected {
             peer: from.short()?,
         }),
@@ -55,7 +55,7 @@ pub(crate) fn read_indication(alloc: Global, from: &mut Cursor) -> Result<Indica
         13 => Ok(Indication::HandshakeGrant {
             peer: from.short()?,
         }),
-        14 => Ok(begin_transaction(from)?),
+        14 => begin_transaction(from),
         15 => Ok(Indication::DeferEnd {
             peer: from.short()?,
         }),
@@ -74,7 +74,7 @@ pub(crate) fn read_indication(alloc: Global, from: &mut Cursor) -> Result<Indica
         22 => Ok(Indication::RollbackComplete {
             report: from.report()?,
         }),
-        23 => Ok(heuristic_report(from)?),
+        23 => heuristic_report(from),
         24 => Ok(Indication::Left {
             peer: from.short()?,
         }),
@@ -82,16 +82,16 @@ pub(crate) fn read_indication(alloc: Global, from: &mut Cursor) -> Result<Indica
     }
 }
 
-fn begin_dialogue(from: &mut Cursor) -> Result<Indication, BadBytes>
-    ensures { Gives result from.new ((scan_make (λ p u. Indication.BeginDialogue p u) with scan_short with scan_units) from.old) }
+fn begin_dialogue(from: &mut Cursor) -> Result<Indication, ReadFault>
+    ensures { GivesUnlessFull result from.new ((scan_make (λ p u. Indication.BeginDialogue p u) with scan_short with scan_units) from.old) }
 {
     let peer = from.short()?;
     let units = read_units(from)?;
     Ok(Indication::BeginDialogue { peer, units })
 }
 
-fn begun_dialogue(from: &mut Cursor) -> Result<Indication, BadBytes>
-    ensures { Gives result from.new ((scan_make (λ p u. Indication.BegunDialogue p u) with scan_short with scan_units) from.old) }
+fn begun_dialogue(from: &mut Cursor) -> Result<Indication, ReadFault>
+    ensures { GivesUnlessFull result from.new ((scan_make (λ p u. Indication.BegunDialogue p u) with scan_short with scan_units) from.old) }
 {
     let peer = from.short()?;
     let units = read_units(from)?;
@@ -106,16 +106,16 @@ fn user_data(alloc: Global, from: &mut Cursor) -> Result<Indication, ReadFault>
     Ok(Indication::UserData { peer, octets })
 }
 
-fn begin_transaction(from: &mut Cursor) -> Result<Indication, BadBytes>
-    ensures { Gives result from.new ((scan_make (λ p a. Indication.BeginTransaction p a) with scan_short with scan_aaid) from.old) }
+fn begin_transaction(from: &mut Cursor) -> Result<Indication, ReadFault>
+    ensures { GivesUnlessFull result from.new ((scan_make (λ p a. Indication.BeginTransaction p a) with scan_short with scan_aaid) from.old) }
 {
     let peer = from.short()?;
     let aaid = from.aaid()?;
     Ok(Indication::BeginTransaction { peer, aaid })
 }
 
-fn heuristic_report(from: &mut Cursor) -> Result<Indication, BadBytes>
-    ensures { Gives result from.new ((scan_make (λ p r. Indication.HeuristicReport p r) with scan_short with scan_report) from.old) }
+fn heuristic_report(from: &mut Cursor) -> Result<Indication, ReadFault>
+    ensures { GivesUnlessFull result from.new ((scan_make (λ p r. Indication.HeuristicReport p r) with scan_short with scan_report) from.old) }
 {
     let peer = from.short()?;
     let report = from.report()?;

@@ -25,9 +25,9 @@ pub(crate) fn read_peer(alloc: Global, from: &mut Cursor) -> Result<PeerRecord, 
 {
     let left = from.left();
     match from.code()? {
-        1 => Ok(open_assoc(from)?),
-        2 => Ok(accept_assoc(from)?),
-        3 => Ok(shut_assoc(from)?),
+        1 => open_assoc(from),
+        2 => accept_assoc(from),
+        3 => shut_assoc(from),
         4 => on_assoc(alloc, from),
         5 => Ok(PeerRecord::RecReady {
             aaid: from.aaid()?,
@@ -37,7 +37,7 @@ pub(crate) fn read_peer(alloc: Global, from: &mut Cursor) -> Result<PeerRecord, 
             aaid: from.aaid()?,
             branch: from.branch()?,
         }),
-        7 => Ok(rec_reply(from)?),
+        7 => rec_reply(from),
         8 => Ok(PeerRecord::Forget {
             aaid: from.aaid()?,
             branch: from.branch()?,
@@ -46,16 +46,16 @@ pub(crate) fn read_peer(alloc: Global, from: &mut Cursor) -> Result<PeerRecord, 
     }
 }
 
-fn open_assoc(from: &mut Cursor) -> Result<PeerRecord, BadBytes>
-    ensures { Gives result from.new ((scan_make (λ x u. PeerRecord.OpenAssoc x u) with scan_mark with scan_units) from.old) }
+fn open_assoc(from: &mut Cursor) -> Result<PeerRecord, ReadFault>
+    ensures { GivesUnlessFull result from.new ((scan_make (λ x u. PeerRecord.OpenAssoc x u) with scan_mark with scan_units) from.old) }
 {
     let x = from.mark()?;
     let units = read_units(from)?;
     Ok(PeerRecord::OpenAssoc { x, units })
 }
 
-fn accept_assoc(from: &mut Cursor) -> Result<PeerRecord, BadBytes>
-    ensures { Gives result from.new ((scan_make (λ x y u. PeerRecord.AcceptAssoc x y u) with scan_mark with scan_mark with scan_units) from.old) }
+fn accept_assoc(from: &mut Cursor) -> Result<PeerRecord, ReadFault>
+    ensures { GivesUnlessFull result from.new ((scan_make (λ x y u. PeerRecord.AcceptAssoc x y u) with scan_mark with scan_mark with scan_units) from.old) }
 {
     let x = from.mark()?;
     let y = from.mark()?;
@@ -63,8 +63,8 @@ fn accept_assoc(from: &mut Cursor) -> Result<PeerRecord, BadBytes>
     Ok(PeerRecord::AcceptAssoc { x, y, units })
 }
 
-fn shut_assoc(from: &mut Cursor) -> Result<PeerRecord, BadBytes>
-    ensures { Gives result from.new ((scan_make (λ x y. PeerRecord.ShutAssoc x y) with scan_mark with scan_maybe scan_mark) from.old) }
+fn shut_assoc(from: &mut Cursor) -> Result<PeerRecord, ReadFault>
+    ensures { GivesUnlessFull result from.new ((scan_make (λ x y. PeerRecord.ShutAssoc x y) with scan_mark with scan_maybe scan_mark) from.old) }
 {
     let x = from.mark()?;
     let y = from.maybe_mark()?;
@@ -81,8 +81,8 @@ fn on_assoc(alloc: Global, from: &mut Cursor) -> Result<PeerRecord, ReadFault>
     Ok(PeerRecord::OnAssoc { x, y, seq, rec })
 }
 
-fn rec_reply(from: &mut Cursor) -> Result<PeerRecord, BadBytes>
-    ensures { Gives result from.new ((scan_make (λ a b s. PeerRecord.RecReply a b s) with scan_aaid with scan_branch with scan_state) from.old) }
+fn rec_reply(from: &mut Cursor) -> Result<PeerRecord, ReadFault>
+    ensures { GivesUnlessFull result from.new ((scan_make (λ a b s. PeerRecord.RecReply a b s) with scan_aaid with scan_branch with scan_state) from.old) }
 {
     let aaid = from.aaid()?;
     let branch = from.branch()?;
@@ -195,13 +195,12 @@ fn write_state(alloc: Global, state: RecState, out: &mut Octets) -> Result<(), N
     ensures err { OnErr result (Keeps out.old out.new) }
 {
     match state {
-        RecState::Commit => out.push(alloc, 1)?,
+        RecState::Commit => out.push(alloc, 1),
         RecState::Done(report) => {
             out.push(alloc, 2)?;
-            write_report(alloc, report, out)?;
+            write_report(alloc, report, out)
         }
-        RecState::Unknown => out.push(alloc, 3)?,
-        RecState::RetryLater => out.push(alloc, 4)?,
+        RecState::Unknown => out.push(alloc, 3),
+        RecState::RetryLater => out.push(alloc, 4),
     }
-    Ok(())
 }

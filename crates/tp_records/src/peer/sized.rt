@@ -85,30 +85,32 @@ fn peer_of(len: usize, from: &mut Cursor) -> Result<(), BadBytes>
     if len == 20 && code == 1 {
         let _ = from.mark()?;
         let _ = read_units(from)?;
+        Ok(())
     } else if len == 38 && code == 2 {
         let _ = from.mark()?;
         let _ = from.mark()?;
         let _ = read_units(from)?;
+        Ok(())
     } else if len == 20 && code == 3 {
         let _ = from.mark()?;
-        from.byte_that_is(0)?;
+        from.byte_that_is(0)
     } else if len == 38 && code == 3 {
         let _ = from.mark()?;
         from.byte_that_is(1)?;
         let _ = from.mark()?;
+        Ok(())
     } else if 46 <= len && len <= 1072 && code == 4 {
         let _ = from.mark()?;
         let _ = from.mark()?;
         let _ = from.long()?;
-        dialogue_of(len - 45, from)?;
+        dialogue_of(len - 45, from)
     } else if 41 <= len && len <= 71 && (code == 5 || code == 6 || code == 8) {
-        names_of(len - 39, from)?;
+        names_of(len - 39, from)
     } else if 42 <= len && len <= 73 && code == 7 {
-        reply_of(len - 39, from)?;
+        reply_of(len - 39, from)
     } else {
-        return Err(BadBytes { left });
+        Err(BadBytes { left })
     }
-    Ok(())
 }
 
 #[tactic(auto, unfolding(crate::specs::SentScanning::scan_dialogue_of))]

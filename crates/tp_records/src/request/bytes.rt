@@ -1,6 +1,6 @@
 //! The bytes of requests.
 ghost use Rattle.std.specs.Prelude.{◌≡◌, ◌++◌, ◌<◌, ◌^◌, length, OnOk, OnErr};
-ghost use Rattle.tp_names.specs.Scanning.{Gives, GivesUnlessFull, scan_make, ◌with◌, scan_byte, scan_short, scan_addr, scan_octets};
+ghost use Rattle.tp_names.specs.Scanning.{GivesUnlessFull, scan_make, ◌with◌, scan_byte, scan_short, scan_addr, scan_octets};
 ghost use Rattle.tp_names.specs.Writing.{Keeps};
 ghost use Rattle.tp_records.specs.Bodies.{request_bytes};
 ghost use Rattle.tp_records.specs.BodyScanning.{scan_request};
@@ -21,7 +21,7 @@ pub(crate) fn read_request(alloc: Global, from: &mut Cursor) -> Result<Request, 
 {
     let left = from.left();
     match from.code()? {
-        1 => Ok(begin_dialogue(from)?),
+        1 => begin_dialogue(from),
         2 => Ok(Request::Accept {
             units: from.byte()?,
         }),
@@ -71,8 +71,8 @@ pub(crate) fn read_request(alloc: Global, from: &mut Cursor) -> Result<Request, 
     }
 }
 
-fn begin_dialogue(from: &mut Cursor) -> Result<Request, BadBytes>
-    ensures { Gives result from.new ((scan_make (λ a u. Request.BeginDialogue a u) with scan_addr with scan_byte) from.old) }
+fn begin_dialogue(from: &mut Cursor) -> Result<Request, ReadFault>
+    ensures { GivesUnlessFull result from.new ((scan_make (λ a u. Request.BeginDialogue a u) with scan_addr with scan_byte) from.old) }
 {
     let addr = from.addr()?;
     let units = from.byte()?;
