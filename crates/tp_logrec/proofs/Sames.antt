@@ -1,7 +1,7 @@
 -- Tests of equality on what records speak of.
-use Rattle.std.proofs.Common.{◌≡◌, ℕ, zero, suc, ◌≢◌, ◌≤◌, List, [], ◌∷◌, length, drop, refl, sym, ◌∙◌, ap, arith, Bool, true, false}
+use Rattle.std.proofs.Common.{◌≡◌, suc, ◌≢◌, List, [], ◌∷◌, length, refl, sym, ◌∙◌, ap, arith, Bool, true, false}
 use Rattle.std.proofs.lemmas.Bool.Decides.{nat_tests}
-use Rattle.std.specs.Prelude.{nat_eq, ◌&&◌, ◌==◌}
+use Rattle.std.specs.Prelude.{◌&&◌, ◌==◌}
 use Rattle.tp_names.specs.declared.identifiers.Addr.{Addr}
 use Rattle.tp_names.specs.declared.children.Child.{Child}
 use Rattle.tp_names.specs.Same.{is_addr, is_branch, is_name}
@@ -19,14 +19,9 @@ children_differ (c ∷ cs) (d ∷ ds) h = go (is_child c d) (children_differ cs 
     go true e = e
     go false e = refl
 
-pub among_none : (cs : List Child) (i : ℕ) → i ≤ length cs → are_among (drop i cs) [] ≡ nat_eq i (length cs)
-among_none [] zero h = refl
-among_none [] (suc i) h = absurd (omega arith)
-among_none (c ∷ cs) zero h = grind (arith, nat_tests)
-among_none (c ∷ cs) (suc i) h = among_none cs i (omega arith) ∙ next
-  where
-    next : nat_eq i (length cs) ≡ nat_eq (suc i) (suc (length cs))
-    next = grind (arith, nat_tests)
+pub among_none : (cs : List Child) → are_among cs [] ≡ (length cs == 0)
+among_none [] = refl
+among_none (c ∷ cs) = grind (arith, nat_tests)
 
 -- ---- what is owed of what is owed
 

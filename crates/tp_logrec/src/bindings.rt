@@ -11,7 +11,7 @@ use std::marker::Model;
 use tp_names::NoMemory;
 
 /// The keys of one node whose last record is a Ready, a Heuristic or a Commit. In a list in order it is at most one.
-#[derive(Debug, Drop)]
+#[derive(Drop)]
 pub(crate) struct Binding {
     owners: Vec<Owner>,
 }
@@ -66,7 +66,7 @@ fn others(alloc: Global, owners: &[Owner], owner: &Owner) -> Result<Vec<Owner>, 
 }
 
 /// The keys that bind each node.
-#[derive(Debug, Drop)]
+#[derive(Drop)]
 pub(crate) struct Bindings {
     nodes: HashMap<u16, Binding>,
 }

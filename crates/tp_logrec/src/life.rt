@@ -11,7 +11,7 @@ use tp_names::NoMemory;
 
 /// A key of a node that is not at its end, and its records since its last End. Where its last
 /// Ready stands is kept, so that no question goes over the records.
-#[derive(Debug, Drop)]
+#[derive(Drop)]
 pub(crate) struct Life {
     pub(crate) owner: Owner,
     pub(crate) records: Vec<LogRec>,

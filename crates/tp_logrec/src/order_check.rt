@@ -17,7 +17,7 @@ use tp_names::{NoMemory, NodeKey};
 /// Tells of each record of a long log whether it may follow those before it. A record costs the same whatever stands: its
 /// key and its node are found by their hash, and a log in order has at most one key that binds a node. Of each key that is
 /// not at its end a copy of its last record and of its Ready is kept, and of each node a list.
-#[derive(Debug, Drop)]
+#[derive(Drop)]
 pub struct OrderCheck {
     begun: bool,
     greatest: Option<u64>,

@@ -9,7 +9,7 @@ use std::marker::Model;
 use tp_names::NoMemory;
 
 /// Of a key that is not at its end its last record, and its last Ready since its last End.
-#[derive(Debug, Drop)]
+#[derive(Drop)]
 pub(crate) struct Recent {
     last: LogRec,
     ready: Option<LogRec>,
@@ -38,11 +38,11 @@ impl Recent {
     pub(crate) fn go_on(&mut self, next: Recent)
         ensures { self.new ≡ gone_on self.old next }
     {
-        let Recent { last, ready } = next;
-        if ready.is_some() {
-            self.ready = ready;
+        if next.ready.is_some() {
+            *self = next;
+        } else {
+            self.last = next.last;
         }
-        self.last = last;
     }
 
     pub(crate) fn last_record(&self) -> &LogRec

@@ -13,7 +13,7 @@ use std::marker::Model;
 use tp_names::NoMemory;
 
 /// What the order reads of each key that is not at its end.
-#[derive(Debug, Drop)]
+#[derive(Drop)]
 pub(crate) struct RecentKeys {
     keys: HashMap<Owner, Recent>,
 }

@@ -37,11 +37,12 @@ pub(crate) fn are_children(a: &[Child], b: &[Child]) -> bool
 pub(crate) fn are_among(some: &[Child], all: &[Child]) -> bool
     ensures { result ≡ are_among some.now all.now }
 {
-    let mut found = 0;
+    let mut left = some;
     for child in all {
-        if found < some.len() && is_child(&some[found], child) {
-            found += 1;
+        match left {
+            [first, rest @ ..] if is_child(first, child) => left = rest,
+            _ => {}
         }
     }
-    found == some.len()
+    left.is_empty()
 }

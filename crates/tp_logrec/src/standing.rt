@@ -17,7 +17,7 @@ use std::marker::Model;
 use tp_names::{NoMemory, NodeKey};
 
 /// A key whose last record is a Ready, a Heuristic or a Commit.
-#[derive(Debug, Drop)]
+#[derive(Drop)]
 struct Bound {
     owner: Owner,
 }
@@ -33,7 +33,7 @@ impl Model for Bound {
 /// What of a list of records the rules read, and what stands of it: for a reader of a long log,
 /// which takes one record after the other. It keeps copies of the records that stand. A question
 /// goes over the keys that stand, and not over their records or the list.
-#[derive(Debug, Drop)]
+#[derive(Drop)]
 pub struct Standing {
     begun: bool,
     greatest: Option<u64>,
