@@ -7,7 +7,7 @@ use std::marker::Model;
 use thiserror::Error;
 
 /// Draws the marks of one node in one boot of its site, each once. So it is not `Clone`.
-#[derive(Debug, Drop)]
+#[derive(Drop)]
 pub struct Counter {
     boot: u64,
     node: u16,

@@ -32,7 +32,7 @@ pub struct NodeKey {
 }
 
 /// The address of a node.
-#[derive(Clone, Copy, Debug, PartialEq, Eq, Hash)]
+#[derive(Clone, Copy, Debug, PartialEq, Eq)]
 pub struct Addr {
     pub site: SiteName,
     pub node: u16,

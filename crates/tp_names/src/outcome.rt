@@ -6,14 +6,14 @@ ghost use Rattle.tp_names.specs.declared.outcome.Report.{Report};
 use std::fmt;
 
 /// How a transaction ends.
-#[derive(Clone, Copy, Debug, PartialEq, Eq, Hash)]
+#[derive(Clone, Copy, Debug, PartialEq, Eq)]
 pub enum Outcome {
     Commit,
     Rollback,
 }
 
 /// What is known of damage, from the least to the greatest.
-#[derive(Clone, Copy, Debug, PartialEq, Eq, PartialOrd, Ord, Hash)]
+#[derive(Clone, Copy, Debug, PartialEq, Eq)]
 pub enum Report {
     None,
     Hazard,

@@ -14,7 +14,7 @@ use std::marker::Model;
 /// The bytes that are still to be read, which contracts see as that list.
 ///
 /// Each call reads a value from their front. After a fault it is not said where the cursor stands.
-#[derive(Debug, Drop)]
+#[derive(Drop)]
 pub struct Cursor<'a> {
     rest: &'a [u8],
 }

@@ -1,4 +1,5 @@
-//! Equality of names, and of what is made of them, as the definitions test it.
+//! Equality of names, and of what is made of them, as the definitions test it. What differs soonest is compared first: the
+//! count of a mark, and a mark before a name.
 ghost use Rattle.std.specs.Prelude.{◌≡◌};
 ghost use Rattle.tp_names.specs.Same.{is_name, is_mark, is_aaid, is_branch, is_branch_option, is_key, is_addr, is_addr_option};
 
@@ -15,21 +16,21 @@ pub fn is_name(a: &SiteName, b: &SiteName) -> bool
 pub fn is_mark(a: &Mark, b: &Mark) -> bool
     ensures { result ≡ is_mark a.now b.now }
 {
-    a.boot == b.boot && a.node == b.node && a.count == b.count
+    a.count == b.count && a.node == b.node && a.boot == b.boot
 }
 
 /// The same tree.
 pub fn is_aaid(a: &Aaid, b: &Aaid) -> bool
     ensures { result ≡ is_aaid a.now b.now }
 {
-    is_name(&a.owner, &b.owner) && is_mark(&a.mark, &b.mark)
+    is_mark(&a.mark, &b.mark) && is_name(&a.owner, &b.owner)
 }
 
 /// The same branch.
 pub fn is_branch(a: &BranchId, b: &BranchId) -> bool
     ensures { result ≡ is_branch a.now b.now }
 {
-    is_name(&a.superior, &b.superior) && is_mark(&a.mark, &b.mark)
+    is_mark(&a.mark, &b.mark) && is_name(&a.superior, &b.superior)
 }
 
 /// The same branch, or none in both.
