@@ -6,7 +6,7 @@ use std::marker::Model;
 use tp_names::NoMemory;
 
 /// A list of numbers of nodes, which contracts see as that list.
-#[derive(Debug, Drop)]
+#[derive(Drop)]
 pub struct NodeNumbers {
     items: Vec<u16>,
 }

@@ -7,7 +7,7 @@ use std::marker::Model;
 use tp_names::NoMemory;
 
 /// A list of lines of a transcript, which contracts see as that list.
-#[derive(Debug, Drop)]
+#[derive(Drop)]
 pub struct OutLines {
     items: Vec<OutLine>,
 }

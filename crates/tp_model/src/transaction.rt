@@ -7,7 +7,7 @@ use tp_names::{Addr, BranchId, Children, NoMemory, Outcome};
 use tp_records::{DialogueRecord, Indication, PeerRecord, RecState, Request};
 
 /// An event of the current transaction.
-#[derive(Debug, Drop)]
+#[derive(Drop)]
 pub enum TxEvent {
     Begun { arcs: Children },
     User(Request),
@@ -21,7 +21,7 @@ pub enum TxEvent {
 }
 
 /// An output of a transaction. The site numbers what is carried, and shuts and closes arcs.
-#[derive(Debug, Drop)]
+#[derive(Drop)]
 pub enum TxOut {
     Tell(Indication),
     Carry { arc: u16, rec: DialogueRecord },
@@ -31,7 +31,7 @@ pub enum TxOut {
 }
 
 /// What an event of a transaction asks for: at most one record, and outputs in order.
-#[derive(Debug, Drop)]
+#[derive(Drop)]
 pub struct Step {
     pub rec: Option<LogRec>,
     pub outs: TxOuts,

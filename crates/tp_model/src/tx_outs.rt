@@ -7,7 +7,7 @@ use std::marker::Model;
 use tp_names::NoMemory;
 
 /// A list of outputs of a transaction, which contracts see as that list.
-#[derive(Debug, Drop)]
+#[derive(Drop)]
 pub struct TxOuts {
     items: Vec<TxOut>,
 }
