@@ -5,10 +5,12 @@ use Rattle.tp_outside.specs.Story.{Story}
 use Rattle.tp_logrec.specs.declared.record.LogRec.{LogRec}
 use Rattle.tp_journal.specs.Log.{place_behind, StandsForEither}
 use Rattle.tp_journal.specs.Told.{LeavesOnly}
-use Rattle.tp_journal.specs.Started.{Started, Face, Appends, IsStarted}
+use Rattle.tp_journal.specs.Started.{Started, Face, Appends, RefusesAppend, IsStarted}
 use Rattle.tp_journal.specs.Records.{HasText, text, bodies_of, wide_of, recs_of, placed, first_place, AreRecords}
 use Rattle.tp_journal.specs.Journals.{Kept, kept_of, bodies_in, standing_of}
 use Rattle.tp_journal.specs.Keeping.{Stored}
+use Rattle.tp_journal.specs.declared.faults.ForceFault.{ForceFault}
+use Rattle.tp_journal.specs.declared.faults.ForceFault.TheVariants.{Full, DiskFault, Shut, NoMemory}
 use Rattle.tp_journal.proofs.RecordBodies.{wide_is, recs_is, are_records, bodies-push, texts_more, receipts-push, behind_first}
 use Rattle.tp_journal.proofs.Unmoved.{still}
 
@@ -39,6 +41,13 @@ module _ (shelf : List (List ℕ)) (rec : LogRec) (records : AreRecords shelf) (
 
 abbrev pub face_of : {D : Type 0} → Started D (List (List ℕ)) → ℕ → Face
 face_of l f = record { bodies = l.shelf; gate = l.gate; shut = l.shut; faults = f }
+
+-- a body that is refused leaves the bodies
+pub refused_stays : (old : Face) (body : List ℕ) (new : Face) (fault : ForceFault) → RefusesAppend old body new fault → new.bodies ≡ old.bodies
+refused_stays old body new (Full size) refuses = refuses.0.bodies
+refused_stays old body new (DiskFault faults) refuses = refuses.0.bodies
+refused_stays old body new (Shut faults) refuses = refuses.0.bodies
+refused_stays old body new NoMemory refuses = refuses.0.bodies
 
 pub stored : {D : Type 0} (old new : Started D (List (List ℕ))) (f g : ℕ) (rec : LogRec) (place : ℕ) → AreRecords old.shelf → HasText (wide_of old.shelf) rec → old.gate ≡ place_behind old.shelf
     → Appends (face_of old f) (text (wide_of old.shelf) rec) place (face_of new g) → Stored (standing_of (kept_of old) f) rec (record { place = place; rec = rec }) (standing_of (kept_of new) g)

@@ -3,9 +3,9 @@ use Rattle.std.proofs.Common.{◌≡◌, ◌<◌, ℕ, zero, suc, ◌+◌, Bool,
 use Rattle.std.specs.List.{AllByRecursion}
 use Rattle.tp_logrec.specs.declared.record.LogRec.{LogRec}
 use Rattle.tp_journal.specs.Log.{blocks, counted}
-use Rattle.tp_journal.specs.Records.{text, bodies_of, wide_of}
+use Rattle.tp_journal.specs.Records.{text, bodies_of}
 use Rattle.tp_journal.proofs.Appending.{blocks-push}
-use Rattle.tp_journal.proofs.RecordBodies.{bodies-push, wide_is}
+use Rattle.tp_journal.proofs.RecordBodies.{bodies-push}
 
 -- each of a list, at its place
 pub all_at : (P : LogRec → Type 0) (rs : List LogRec) (i : ℕ) (d : LogRec) → i < length rs → AllByRecursion P rs → P (get_or rs i d)
@@ -24,11 +24,9 @@ module _ (wide : Bool) (rs : List LogRec) (i : ℕ) (rec : LogRec) (below : i < 
   pub taken_more : take (i + 1) rs ≡ take i rs ++ rec ∷ []
   taken_more = one_more_taken rs i rec below ∙ ap (λ r. take i rs ++ r ∷ []) (sym is)
 
-  pub shelf_more : (old new : List (List ℕ)) (copy : LogRec) → old ≡ bodies_of wide (take i rs) → copy ≡ rec → new ≡ old ++ text (wide_of old) copy ∷ [] → new ≡ bodies_of wide (take (i + 1) rs)
-  shelf_more old new copy so_far same longer =
-      let version : wide_of old ≡ wide = ap wide_of so_far ∙ wide_is wide (take i rs) in
-      longer ∙ ap (λ w. old ++ text w copy ∷ []) version ∙ ap (λ r. old ++ text wide r ∷ []) same ∙ ap (λ l. l ++ text wide rec ∷ []) so_far
-      ∙ sym (bodies-push wide (take i rs) rec) ∙ ap (λ l. bodies_of wide l) (sym taken_more)
+  pub shelf_more : (old new : List (List ℕ)) (body : List ℕ) → old ≡ bodies_of wide (take i rs) → body ≡ text wide rec → new ≡ old ++ body ∷ [] → new ≡ bodies_of wide (take (i + 1) rs)
+  shelf_more old new body so_far same longer =
+      longer ∙ ap (λ b. old ++ b ∷ []) same ∙ ap (λ l. l ++ text wide rec ∷ []) so_far ∙ sym (bodies-push wide (take i rs) rec) ∙ ap (λ l. bodies_of wide l) (sym taken_more)
 
   pub text_more : (old new body : List ℕ) → old ≡ blocks (bodies_of wide (take i rs)) → body ≡ text wide rec → new ≡ old ++ (1 ∷ counted body) → new ≡ blocks (bodies_of wide (take (i + 1) rs))
   text_more old new body so_far same longer =

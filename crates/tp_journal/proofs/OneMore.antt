@@ -1,5 +1,5 @@
 -- One more body is read.
-use Rattle.std.proofs.Common.{◌≡◌, ℕ, ◌-◌, ◌<◌, List, [], ◌∷◌, ◌++◌, length, take, drop, get_or, Bool, true, false, ◌+◌, arith, length-append, sym, ap, ◌∙◌, subst, append_assoc}
+use Rattle.std.proofs.Common.{◌≡◌, ℕ, ◌-◌, ◌<◌, List, [], ◌∷◌, ◌++◌, length, take, drop, get_or, true, ◌+◌, arith, length-append, sym, ap, ◌∙◌, subst, append_assoc}
 use Rattle.std.proofs.lemmas.List.{append-nil, drop_more, take_rest}
 use Rattle.std.specs.List.{AllByRecursion}
 use Rattle.tp_journal.specs.Log.{IsBody, counted, blocks, place_behind}
@@ -30,11 +30,6 @@ module _ (accepts : Grammar) (old new : List (List ℕ)) (body : List ℕ) (take
 
   pub passed_more : ArePassed accepts [] old → ArePassed accepts [] new
   passed_more all = subst (ArePassed accepts []) (sym taken.1) (passed-push accepts [] old body all taken.0)
-
--- a body that passes is taken
-pub grown : (accepts : Grammar) (old new : List (List ℕ)) (body : List ℕ) → accepts old body ≡ true → (b : Bool) → Takes accepts old body new b → new ≡ old ++ body ∷ []
-grown accepts old new body passes true taken = taken.1
-grown accepts old new body passes false taken = absurd (cc (passes, taken.0))
 
 -- the closing gate after one more body
 pub place_more : (old new : List (List ℕ)) (body : List ℕ) → new ≡ old ++ body ∷ [] → (gate : ℕ) → gate ≡ place_behind old → gate + 4 + length body - 1 ≡ place_behind new

@@ -112,11 +112,8 @@ takes_mark wide rs body one empty named =
     let P : Bool → List LogRec → List ℕ → Type 0 = λ w l b. Takes record_body (bodies_of w l) b (bodies_of true l) true in
     subst (λ w. P w rs body) (sym one) (subst (λ l. P false l body) (sym none) (subst (λ b. P false [] b) (sym is) (refl, refl)))
 
-pub takes_text : (wide : Bool) (rs : List LogRec) (body : List ℕ) (r : LogRec) → ReadsText wide body (Some r) → Takes record_body (bodies_of wide rs) body (bodies_of wide (rs ++ r ∷ [])) true
-takes_text wide rs body r reads = (
-  subst (λ l. record_body (bodies_of wide rs) l ≡ true) reads.1 (text_passes wide rs r reads.0),
-  bodies-push wide rs r ∙ ap (λ l. bodies_of wide rs ++ l ∷ []) reads.1,
-)
+pub read_passes : (wide : Bool) (rs : List LogRec) (body : List ℕ) (r : LogRec) → ReadsText wide body (Some r) → record_body (bodies_of wide rs) body ≡ true
+read_passes wide rs body r reads = subst (λ l. record_body (bodies_of wide rs) l ≡ true) reads.1 (text_passes wide rs r reads.0)
 
 pub takes_none : (wide : Bool) (rs : List LogRec) (body : List ℕ) → (wide ≡ false → length rs ≡ 0 → is_mark body ≡ false) → ReadsText wide body None → Takes record_body (bodies_of wide rs) body (bodies_of wide rs) false
 takes_none wide rs body other reads = (fails wide rs body other (is_text_of wide body None reads), refl)

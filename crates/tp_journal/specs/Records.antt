@@ -111,3 +111,7 @@ pub record AreRecords (bodies : List (List ℕ)) : Type 0 where
 abbrev pub ReadsText : Bool → List ℕ → Option LogRec → Type 0
 ReadsText wide body None = record_in (version_of wide) body ≡ None
 ReadsText wide body (Some rec) = HasText wide rec × (text wide rec ≡ body)
+
+-- after these bodies, that body is the text of the record
+abbrev pub says_record : List (List ℕ) → List ℕ → LogRec → Type 0
+says_record before body rec = HasText (wide_of before) rec × (text (wide_of before) rec ≡ body)

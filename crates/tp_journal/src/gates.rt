@@ -23,9 +23,13 @@ pub struct Bodies {
 }
 
 impl Shelf for Bodies {
-    ghost use Rattle.tp_journal.specs.Gates.{any_body};
+    ghost use Rattle.tp_journal.specs.Gates.{any_body, says_itself};
 
     ghost accepts = { any_body };
+
+    type Item = ();
+
+    ghost says = { says_itself };
 
     ghost bodies = { λ b. b.items.items };
 
@@ -34,6 +38,13 @@ impl Shelf for Bodies {
         let copy = body.to_vec(alloc)?;
         self.items.push(Octets::from_vec(copy))?;
         Ok(true)
+    }
+
+    fn put(&mut self, _place: u64, body: &[u8], _item: ()) -> Result<(), AllocError> {
+        let alloc = *self.items.allocator();
+        let copy = body.to_vec(alloc)?;
+        self.items.push(Octets::from_vec(copy))?;
+        Ok(())
     }
 
     fn forget(&mut self) {
@@ -90,7 +101,7 @@ impl<D: Disk> Gates<D> {
         ensures moments { self.old.shut ≡ None → (s : Story) → D.told self.old.disk ≡ Some s
             → LeavesOnly (StandsForEither self.old.bodies (self.old.bodies ++ body.now ∷ [])) (D.told self.old.disk) (D.told self.new.disk) }
     {
-        self.log.append(alloc, body)
+        self.log.append(alloc, body, ())
     }
 
     /// How many bodies there are. Until a call of the disk fails, its bytes stand for them.

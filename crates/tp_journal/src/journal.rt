@@ -86,7 +86,8 @@ impl<D: Disk> Journal<D> {
         }
         let body = write_text(alloc, wide, rec)?;
         let copy = rec.copy(alloc)?;
-        let place = self.log.append(alloc, body.as_slice())?;
+        let kept = rec.copy(alloc)?;
+        let place = self.log.append(alloc, body.as_slice(), kept)?;
         Ok(Receipt { place, rec: copy })
     }
 

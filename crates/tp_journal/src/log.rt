@@ -49,10 +49,10 @@ fn piece_of(alloc: Global, body: &[u8]) -> Result<Vec<u8>, AllocError>
 }
 
 impl<D: Disk, S: Shelf + Drop> Log<D, S> {
-    /// Adds a body. At `Ok` it is on the disk, and the answer is the place of its gate.
-    pub fn append(&mut self, alloc: Global, body: &[u8]) -> Result<u64, ForceFault>
+    /// Adds a body, of which the item is kept. At `Ok` it is on the disk, and the answer is the place of its gate.
+    pub fn append(&mut self, alloc: Global, body: &[u8], item: S::Item) -> Result<u64, ForceFault>
         requires body { IsBody body.now }
-        requires accepted { S.accepts (S.bodies self.old.shelf) body.now ≡ true }
+        requires says { S.says (S.bodies self.old.shelf) body.now item }
         ensures appended { IfOk result (λ place. Appends
             record { bodies = S.bodies self.old.shelf; gate = self.old.gate; shut = self.old.shut; faults = D.fault_count self.old.disk } body.now place
             record { bodies = S.bodies self.new.shelf; gate = self.new.gate; shut = self.new.shut; faults = D.fault_count self.new.disk }) }
@@ -73,7 +73,7 @@ impl<D: Disk, S: Shelf + Drop> Log<D, S> {
             return Err(ForceFault::Full { size });
         }
         let piece = piece_of(alloc, body)?;
-        let _taken = self.shelf.take(place, body)?;
+        self.shelf.put(place, body, item)?;
         let Ok(()) = tape::append(&mut self.disk, place, &piece) else {
             self.shelf.forget();
             let faults = self.disk.faults();

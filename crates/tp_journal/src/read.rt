@@ -9,7 +9,7 @@ use std::alloc::AllocError;
 
 /// What the bytes of a log say: the place of the closing gate, and of the first gate where that isn't in front;
 /// or the place at which they show that they are no log.
-#[derive(Clone, Copy, Debug, PartialEq, Eq)]
+#[derive(Clone, Copy)]
 pub enum Reading {
     Front { gate: u64 },
     Behind { place: u64, gate: u64 },
@@ -17,7 +17,7 @@ pub enum Reading {
 }
 
 /// Where the bodies of a text end: at a closed gate, or at a place that begins no body.
-#[derive(Clone, Copy, Debug, PartialEq, Eq)]
+#[derive(Clone, Copy)]
 pub enum End {
     Closed(usize),
     Broken(usize),

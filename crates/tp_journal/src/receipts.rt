@@ -7,7 +7,7 @@ use tp_logrec::LogRec;
 use tp_names::NoMemory;
 
 /// A record that stands in the log, and the place of its gate in the file, in bytes.
-#[derive(Debug, Drop)]
+#[derive(Drop)]
 pub struct Receipt {
     pub place: u64,
     pub rec: LogRec,
@@ -27,7 +27,7 @@ impl Receipt {
 }
 
 /// A list of receipts, which contracts see as that list.
-#[derive(Debug, Drop)]
+#[derive(Drop)]
 pub struct Receipts {
     items: Vec<Receipt>,
 }

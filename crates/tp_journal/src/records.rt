@@ -4,6 +4,7 @@ ghost use Rattle.std.specs.List.{AllByRecursion};
 ghost use Rattle.tp_journal.specs.Records.{HasText, ReadsText, version_of, text, is_mark, bodies_of, marks, wide_of, recs_of, placed, AreRecords};
 ghost use Rattle.tp_journal.specs.Log.{IsBody, counted, blocks, place_behind};
 
+use crate::lengths::text_len;
 use crate::shelf::Shelf;
 use std::alloc::{AllocError, Global};
 use std::marker::Model;
@@ -75,7 +76,7 @@ pub fn write_text(alloc: Global, wide: bool, rec: &LogRec) -> Result<Octets, NoM
     requires { HasText wide rec.now }
     ensures { IfOk result (λ body. body ≡ text wide rec.now) }
 {
-    let mut body = Octets::new(alloc);
+    let mut body = Octets::from_vec(Vec::with_capacity(alloc, text_len(wide, rec))?);
     encode_log(alloc, version(wide), rec, &mut body)?;
     Ok(body)
 }
@@ -125,7 +126,7 @@ pub fn generation(
         }
         let body = write_text(alloc, wide, rec)?;
         let place = 5 + text.len() as u64;
-        records.push(rec.copy(alloc)?, place)?;
+        records.put(place, body.as_slice(), rec.copy(alloc)?)?;
         put_body(&mut text, body.as_slice())?;
     }
     if text.len() > LONGEST {
@@ -156,18 +157,6 @@ impl Records {
             places: Vec::new(alloc),
             wide,
         }
-    }
-
-    // Puts a record at the end, with its place.
-    fn push(&mut self, rec: LogRec, place: u64) -> Result<(), NoMemory>
-        requires text { HasText (wide_of self.old) rec }
-        requires place { place ≡ place_behind self.old }
-        ensures { OnOk result (self.new ≡ self.old ++ text (wide_of self.old) rec ∷ []) }
-    {
-        self.places.reserve(1)?;
-        self.recs.push(rec)?;
-        self.places.push(place).unwrap();
-        Ok(())
     }
 
     /// Are the texts of version 2?
@@ -203,9 +192,13 @@ impl Records {
 }
 
 impl Shelf for Records {
-    ghost use Rattle.tp_journal.specs.Records.{record_body};
+    ghost use Rattle.tp_journal.specs.Records.{record_body, says_record};
 
     ghost accepts = { record_body };
+
+    type Item = LogRec;
+
+    ghost says = { says_record };
 
     ghost bodies = { λ r. r };
 
@@ -221,10 +214,15 @@ impl Shelf for Records {
         let Some(rec) = found else {
             return Ok(false);
         };
+        self.put(place, body, rec)?;
+        Ok(true)
+    }
+
+    fn put(&mut self, place: u64, _body: &[u8], rec: LogRec) -> Result<(), AllocError> {
         self.places.reserve(1)?;
         self.recs.push(rec)?;
         self.places.push(place).unwrap();
-        Ok(true)
+        Ok(())
     }
 
     fn forget(&mut self) {

@@ -2,10 +2,10 @@ use Rattle.std.proofs.Common.{◌≡◌, ◌++◌, [], ◌∷◌, sym, ap, ◌�
 use Rattle.tp_journal.specs.Log.{IsBody, StandsForEither}
 use Rattle.tp_journal.specs.Told.{LeavesOnly}
 use Rattle.tp_journal.specs.Started.{Appends}
-use Rattle.tp_journal.specs.Records.{HasText, text, wide_of}
+use Rattle.tp_journal.specs.Records.{HasText, text, wide_of, AreRecords}
 use Rattle.tp_journal.specs.Journals.{Kept, kept_of, standing_of}
 use Rattle.tp_journal.specs.Keeping.{Stored}
-use Rattle.tp_journal.proofs.Forcing.{face_of, stored, said, said_unmoved, records_now}
+use Rattle.tp_journal.proofs.Forcing.{face_of, refused_stays, stored, said, said_unmoved, records_now}
 use Rattle.tp_journal.proofs.Sizes.{text_is_body}
 use Rattle.tp_journal.proofs.journal.Journal.force.Goals as goal
 
@@ -27,6 +27,12 @@ returns-in_err-copy-clause-moments g c open_now s is =
     let has : HasText (wide_of log.shelf) c.args.rec.now = subst (λ (v : Kept _). HasText v.wide c.args.rec.now) (sym c.self.view_is) c.requires in
     said_unmoved g.D.Disk.told log c.args.self.now c.args.rec.now c.shut.result c.self.view_is c.self.invariant has c.shut.ensures.started (c.shut.ensures.is ∙ ap (λ (v : Kept _). v.shut) c.self.view_is ∙ open_now) s is
 
+pub returns-in_err-kept-clause-moments : goal.returns-in_err-kept-clause-moments
+returns-in_err-kept-clause-moments g c open_now s is =
+    let log = c.self.inside.log in
+    let has : HasText (wide_of log.shelf) c.args.rec.now = subst (λ (v : Kept _). HasText v.wide c.args.rec.now) (sym c.self.view_is) c.requires in
+    said_unmoved g.D.Disk.told log c.args.self.now c.args.rec.now c.shut.result c.self.view_is c.self.invariant has c.shut.ensures.started (c.shut.ensures.is ∙ ap (λ (v : Kept _). v.shut) c.self.view_is ∙ open_now) s is
+
 pub append-requires-clause-body : goal.append-requires-clause-body
 append-requires-clause-body g c =
     let log = c.self.inside.log in
@@ -34,6 +40,18 @@ append-requires-clause-body g c =
     let version : c.wide-wide.result ≡ wide_of log.shelf = c.wide-wide.ensures ∙ ap wide_of c.shelf.ensures in
     let body : c.as_slice.result.now ≡ text (wide_of log.shelf) c.args.rec.now = c.as_slice.ensures ∙ (c.in_ok-body.ensures {u = tt}) ∙ ap (λ w. text w c.args.rec.now) version in
     subst IsBody (sym body) (text_is_body (wide_of log.shelf) c.args.rec.now has)
+
+pub append-requires-clause-says : goal.append-requires-clause-says
+append-requires-clause-says g c =
+    let log = c.self.inside.log in
+    let has : HasText (wide_of log.shelf) c.args.rec.now = subst (λ (v : Kept _). HasText v.wide c.args.rec.now) (sym c.self.view_is) c.requires in
+    let version : c.wide-wide.result ≡ wide_of log.shelf = c.wide-wide.ensures ∙ ap wide_of c.shelf.ensures in
+    let body : c.as_slice.result.now ≡ text (wide_of log.shelf) c.args.rec.now = c.as_slice.ensures ∙ (c.in_ok-body.ensures {u = tt}) ∙ ap (λ w. text w c.args.rec.now) version in
+    let copied : c.in_ok-kept.kept ≡ c.args.rec.now = c.in_ok-kept.ensures {u = tt} in
+    (subst (HasText (wide_of log.shelf)) (sym copied) has, ap (text (wide_of log.shelf)) copied ∙ sym body)
+
+pub invariant_of-self : goal.invariant_of-self
+invariant_of-self g c = subst AreRecords (sym (refused_stays _ _ _ _ c.in_err-place.ensures.refused)) c.self.invariant
 
 pub returns-in_err-place-clause-moments : goal.returns-in_err-place-clause-moments
 returns-in_err-place-clause-moments g c open_now s is =

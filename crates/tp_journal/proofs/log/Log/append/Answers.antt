@@ -1,10 +1,8 @@
-use Rattle.std.proofs.Common.{◌≡◌, ◌+◌, ◌-◌, ◌++◌, [], ◌∷◌, ℕ, true, length, rules, sym, ap, ◌∙◌, subst, arith, length-append}
+use Rattle.std.proofs.Common.{◌≡◌, ◌+◌, ◌-◌, ◌++◌, [], ◌∷◌, ℕ, length, rules, sym, ap, ◌∙◌, subst, arith, length-append}
 use Rattle.tp_journal.specs.Log.{counted, place_behind}
-use Rattle.tp_journal.specs.Read.{Takes}
-use Rattle.tp_journal.specs.Started.{Started}
 use Rattle.tp_journal.specs.Told.{RestsAt}
 use Rattle.tp_journal.proofs.Kept.{kept_on}
-use Rattle.tp_journal.proofs.OneMore.{grown, place_more}
+use Rattle.tp_journal.proofs.OneMore.{place_more}
 use Rattle.tp_journal.proofs.Unmoved.{unmoved, unmoved_inside}
 use Rattle.tp_journal.proofs.log.Log.append.Goals as goal
 
@@ -14,18 +12,16 @@ returns-then-size-gt-MOST_BYTES-clause-moments g c open_now s is = unmoved g.D.D
 pub returns-in_err-piece-clause-moments : goal.returns-in_err-piece-clause-moments
 returns-in_err-piece-clause-moments g c open_now s is = unmoved g.D.Disk.told g.S.Shelf.bodies _ _ c.self.view_is c.self.invariant.kept open_now s is _
 
-pub returns-in_err-_taken-clause-moments : goal.returns-in_err-_taken-clause-moments
-returns-in_err-_taken-clause-moments g c open_now s is = unmoved_inside g.D.Disk.told g.S.Shelf.bodies _ _ c.self.view_is c.self.invariant.kept open_now s is _
+pub returns-in_err-put-clause-moments : goal.returns-in_err-put-clause-moments
+returns-in_err-put-clause-moments g c open_now s is = unmoved_inside g.D.Disk.told g.S.Shelf.bodies _ _ c.self.view_is c.self.invariant.kept open_now s is _
 
 pub invariant_of-self-2 : goal.invariant_of-self-2
 invariant_of-self-2 g c =
     let told = g.D.Disk.told in
     let old = g.S.Shelf.bodies c.self.inside.shelf in
-    let new = g.S.Shelf.bodies c.take.new.self in
+    let new = g.S.Shelf.bodies c.put.new.self in
     let body = c.args.body.now in
-    let accepts : g.S.Shelf.accepts old body ≡ true = subst (λ (v : Started _ _). g.S.Shelf.accepts (g.S.Shelf.bodies v.shelf) body ≡ true) (sym c.self.view_is) c.requires.accepted in
-    let taken : Takes g.S.Shelf.accepts old body new c.in_ok-_taken._taken = (c.in_ok-_taken.ensures {u = tt}).taken in
-    let longer : new ≡ old ++ body ∷ [] = grown g.S.Shelf.accepts old new body accepts c.in_ok-_taken._taken taken in
+    let longer : new ≡ old ++ body ∷ [] = c.in_ok-put.ensures.ok in
     let place : c.self.inside.gate + 4 + length body - 1 ≡ place_behind new = place_more old new body longer c.self.inside.gate c.self.invariant.place in
     let piece : c.deref.result.now ≡ counted body ++ 0 ∷ [] = c.deref.ensures.value ∙ (c.in_ok-piece.ensures {u = tt}) in
     let long : c.self.inside.gate + length c.deref.result.now ≡ c.self.inside.gate + 4 + length body - 1 = omega (arith, ap length piece, length-append (counted body) (0 ∷ [])) in

@@ -1,8 +1,7 @@
-use Rattle.std.proofs.Common.{◌≡◌, ◌++◌, [], ◌∷◌, false, true, Some, None, refl, sym, ap, ◌∙◌, subst, length}
-use Rattle.tp_journal.specs.Log.{place_behind}
+use Rattle.std.proofs.Common.{◌≡◌, false, true, Some, None, refl, sym, ap, ◌∙◌, subst, length}
 use Rattle.tp_journal.specs.Read.{Takes}
-use Rattle.tp_journal.specs.Records.{bodies_of, record_body, IsPlaced, ReadsText}
-use Rattle.tp_journal.proofs.RecordBodies.{takes_mark, takes_text, takes_none, placed_more, placed_as_wide}
+use Rattle.tp_journal.specs.Records.{HasText, text, wide_of, bodies_of, record_body, IsPlaced, ReadsText}
+use Rattle.tp_journal.proofs.RecordBodies.{wide_is, read_passes, takes_mark, takes_none, placed_as_wide}
 use Rattle.tp_journal.proofs.records.RecordsShelf.take.Goals as goal
 
 pub invariant_of-self : goal.invariant_of-self
@@ -27,26 +26,17 @@ returns-in_default-found-clause-taken c =
     subst (λ b. Takes record_body b body b false) c.self.view_is
     (takes_none c.self.inside.wide recs body (λ one none. (c.if-is_first_mark.ensures {u = tt}).no refl one (ap length c.deref.ensures.value ∙ none)) reads)
 
-pub invariant_of-self-2 : goal.invariant_of-self-2
-invariant_of-self-2 c =
+pub put-requires-clause-says : goal.put-requires-clause-says
+put-requires-clause-says c =
     let wide = c.self.inside.wide in
-    let recs = c.self.inside.recs.items in
     let rec = c.in-Some.rec in
     let reads : ReadsText wide c.args.body.now (Some rec) = subst (ReadsText wide c.args.body.now) c.in-Some.is (c.in-Ok.ensures {u = tt}) in
-    let more : c.push.new.self.items ≡ recs ++ rec ∷ [] = (c.in_ok-push.ensures {u = tt}).items in
-    let pushed = rw c.unwrap.ensures at c.push-2.ensures.items in
-    let also : c.push-2.new.self.items ≡ c.self.inside.places.items ++ c.args.place ∷ [] = pushed ∙ ap (λ l. l ++ c.args.place ∷ []) c.reserve.ensures.items in
-    subst (λ l. IsPlaced wide l c.push-2.new.self.items) (sym more)
-    (subst (λ l. IsPlaced wide (recs ++ rec ∷ []) l) (sym also)
-    (placed_more wide recs rec c.self.inside.places.items c.args.place c.self.invariant reads.0 (c.requires.place ∙ ap place_behind (sym c.self.view_is))))
+    let version : wide_of c.args.self.now ≡ wide = ap wide_of (sym c.self.view_is) ∙ wide_is wide c.self.inside.recs.items in
+    (subst (λ w. HasText w rec) (sym version) reads.0, ap (λ w. text w rec) version ∙ reads.1)
 
 pub returns-clause-taken : goal.returns-clause-taken
 returns-clause-taken c =
     let wide = c.self.inside.wide in
-    let recs = c.self.inside.recs.items in
-    let rec = c.in-Some.rec in
     let body = c.args.body.now in
-    let reads : ReadsText wide body (Some rec) = subst (ReadsText wide body) c.in-Some.is (c.in-Ok.ensures {u = tt}) in
-    let more : c.push.new.self.items ≡ recs ++ rec ∷ [] = (c.in_ok-push.ensures {u = tt}).items in
-    subst (λ b. Takes record_body b body (bodies_of wide c.push.new.self.items) true) c.self.view_is
-    (subst (λ l. Takes record_body (bodies_of wide recs) body (bodies_of wide l) true) (sym more) (takes_text wide recs body rec reads))
+    let reads : ReadsText wide body (Some c.in-Some.rec) = subst (ReadsText wide body) c.in-Some.is (c.in-Ok.ensures {u = tt}) in
+    (subst (λ b. record_body b body ≡ true) c.self.view_is (read_passes wide c.self.inside.recs.items body c.in-Some.rec reads), c.in_ok-put.ensures.ok)
