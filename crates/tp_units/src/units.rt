@@ -24,7 +24,7 @@ pub const UNCHAINED: u8 = 32;
 
 /// A permitted set of units, which contracts see as its bits: 1 Shared, 2 Polarized,
 /// 4 Handshake, 8 Commit, 16 Chained, 32 Unchained.
-#[derive(Clone, Copy, Debug, PartialEq, Eq, Hash)]
+#[derive(Clone, Copy, Debug, PartialEq, Eq)]
 pub struct Units {
     bits: u8,
 }
