@@ -70,10 +70,11 @@ impl RecentKeys {
         ensures err { OnErr result ((o : TheOwner) → recent self.new o ≡ recent self.old o) }
     {
         let next = Recent::begin(alloc, rec)?;
-        match self.keys.get_mut(owner) {
-            Some(recent) => recent.go_on(next),
-            None => drop(self.keys.insert(*owner, next)?),
+        if let Some(recent) = self.keys.get_mut(owner) {
+            recent.go_on(next);
+            return Ok(());
         }
+        self.keys.insert(*owner, next)?;
         Ok(())
     }
 

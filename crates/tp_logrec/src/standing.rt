@@ -274,14 +274,12 @@ fn add_to_life(
     ensures ok { OnOk result (lives.new.items ≡ with_record lives.old.items owner.now rec.now) }
     ensures err { OnErr result (lives.new.items ≡ lives.old.items) }
 {
-    match place_of(lives.as_slice(), owner) {
-        None => lives.push(Life::begin(alloc, *owner, rec)?)?,
-        Some(at) => {
-            let life = &mut lives[at];
-            life.push(alloc, rec)?;
-        }
-    }
-    Ok(())
+    let Some(at) = place_of(lives.as_slice(), owner) else {
+        lives.push(Life::begin(alloc, *owner, rec)?)?;
+        return Ok(());
+    };
+    let life = &mut lives[at];
+    life.push(alloc, rec)
 }
 
 /// Puts at the end what stands of each life, in order.
