@@ -4,6 +4,7 @@ ghost use Rattle.std.specs.Option.{option_copied};
 ghost use Rattle.tp_logrec.specs.Order.{Life, last, those, is_ready};
 ghost use Rattle.tp_logrec.specs.Places.{with_more};
 
+use crate::record::push_copy;
 use crate::{LogRec, Owner};
 use std::alloc::Global;
 use std::marker::Model;
@@ -35,7 +36,7 @@ impl Life {
         ensures { IfOk result (λ life. life ≡ record { owner = owner; records = rec.now ∷ [] }) }
     {
         let mut records = Vec::new(alloc);
-        records.push(rec.copy(alloc)?)?;
+        push_copy(alloc, &mut records, rec)?;
         let ready = if rec.is_ready() { Some(0) } else { None };
         Ok(Life {
             owner,
@@ -50,7 +51,7 @@ impl Life {
         ensures err { OnErr result (self.new ≡ self.old) }
     {
         let at = self.records.len();
-        self.records.push(rec.copy(alloc)?)?;
+        push_copy(alloc, &mut self.records, rec)?;
         if rec.is_ready() {
             self.ready = Some(at);
         }

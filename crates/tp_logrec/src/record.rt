@@ -1,5 +1,5 @@
 //! One record of a log.
-ghost use Rattle.std.specs.Prelude.{◌≡◌, IfOk};
+ghost use Rattle.std.specs.Prelude.{◌≡◌, ◌++◌, ◌∷◌, [], IfOk, OnOk, OnErr};
 ghost use Rattle.tp_logrec.specs.Order.{owner_of, is_ready, is_heuristic, is_commit, is_damage, is_end, is_bound};
 
 use crate::Owner;
@@ -164,4 +164,13 @@ impl LogRec {
             },
         })
     }
+}
+
+/// Puts a copy of the record at the end; without memory the list stays as it was.
+pub(crate) fn push_copy(alloc: Global, list: &mut Vec<LogRec>, rec: &LogRec) -> Result<(), NoMemory>
+    ensures ok { OnOk result (list.new.items ≡ list.old.items ++ rec.now ∷ []) }
+    ensures err { OnErr result (list.new.items ≡ list.old.items) }
+{
+    list.push(rec.copy(alloc)?)?;
+    Ok(())
 }

@@ -9,6 +9,7 @@ ghost use Rattle.tp_logrec.specs.Kinds.{is_kind};
 ghost use Rattle.tp_logrec.specs.Seen.{before_of};
 
 use crate::life::Life;
+use crate::record::push_copy;
 use crate::rules::Seen;
 use crate::same::is_owner;
 use crate::{LogRec, Owner};
@@ -325,7 +326,7 @@ fn add_kind(
 {
     for rec in records {
         if is_kind(kind, rec) {
-            list.push(rec.copy(alloc)?)?;
+            push_copy(alloc, list, rec)?;
         }
     }
     Ok(())
@@ -351,8 +352,8 @@ fn add_last_damage(
 ) -> Result<(), NoMemory>
     ensures { OnOk result (list.new.items ≡ list.old.items ++ last_only (those is_damage records.now)) }
 {
-    if let Some(rec) = last_damage(records) {
-        list.push(rec.copy(alloc)?)?;
+    match last_damage(records) {
+        None => Ok(()),
+        Some(rec) => push_copy(alloc, list, rec),
     }
-    Ok(())
 }
