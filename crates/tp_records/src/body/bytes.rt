@@ -1,13 +1,14 @@
 //! The bytes of events, outputs and bodies.
-ghost use Rattle.std.specs.Prelude.{◌≡◌, ◌++◌, OnOk, OnErr};
+ghost use Rattle.std.specs.Prelude.{◌≡◌, ◌++◌, ◌∷◌, OnOk, OnErr};
 ghost use Rattle.tp_names.specs.Scanning.{GivesUnlessFull, scan_make, ◌with◌, scan_byte_that, scan_short, scan_maybe, scan_addr, scan_octets, scan_outcome};
+ghost use Rattle.tp_names.specs.Bytes.{short_bytes, addr_bytes, octets_bytes};
 ghost use Rattle.tp_names.specs.Writing.{Keeps};
 ghost use Rattle.tp_records.specs.Bodies.{event_bytes, output_bytes, body_bytes};
 ghost use Rattle.tp_records.specs.BodyReading.{is_refusal};
 ghost use Rattle.tp_records.specs.BodyScanning.{scan_request, scan_indication};
 ghost use Rattle.tp_records.specs.SentScanning.{scan_sent};
 ghost use Rattle.tp_records.specs.WholeScanning.{scan_body};
-ghost use Rattle.tp_records.specs.Octets.{IsShortEvent, IsShortOutput, IsShortBody};
+ghost use Rattle.tp_records.specs.Octets.{IsShort, IsShortEvent, IsShortOutput, IsShortBody};
 ghost use Rattle.tp_records.specs.declared.body.Event.{Event};
 ghost use Rattle.tp_records.specs.declared.body.Output.{Output};
 ghost use Rattle.tp_records.specs.declared.body.Body.{Body};
@@ -19,7 +20,7 @@ use crate::peer::sized::read_peer_octets;
 use crate::request::bytes::{read_request, write_request};
 use std::alloc::Global;
 use tp_names::{
-    BadBytes, Cursor, NoMemory, Octets, ReadFault, write_addr, write_byte, write_maybe_addr,
+    Addr, BadBytes, Cursor, NoMemory, Octets, ReadFault, write_addr, write_byte, write_maybe_addr,
     write_octets, write_outcome, write_short,
 };
 
@@ -154,24 +155,13 @@ fn write_event(alloc: Global, event: &Event, out: &mut Octets) -> Result<(), NoM
             write_numbered(alloc, 2, *node, out)?;
             write_request(alloc, request, out)
         }
-        Event::Arrive { from, to, octets } => {
-            out.push(alloc, 3)?;
-            write_addr(alloc, from, out)?;
-            write_addr(alloc, to, out)?;
-            write_octets(alloc, octets, out)
-        }
-        Event::Lose { node, peer } => {
-            write_numbered(alloc, 4, *node, out)?;
-            write_short(alloc, *peer, out)
-        }
+        Event::Arrive { from, to, octets } => write_carried(alloc, 3, from, to, octets, out),
+        Event::Lose { node, peer } => write_at_peer(alloc, 4, *node, *peer, out),
         Event::Heur { node, outcome } => {
             write_numbered(alloc, 5, *node, out)?;
             write_outcome(alloc, *outcome, out)
         }
-        Event::GiveUp { node, peer } => {
-            write_numbered(alloc, 6, *node, out)?;
-            write_short(alloc, *peer, out)
-        }
+        Event::GiveUp { node, peer } => write_at_peer(alloc, 6, *node, *peer, out),
         Event::Retry { node } => write_numbered(alloc, 7, *node, out),
         Event::Purge { node } => write_numbered(alloc, 8, *node, out),
     }
@@ -187,16 +177,45 @@ fn write_output(alloc: Global, output: &Output, out: &mut Octets) -> Result<(), 
             write_numbered(alloc, 16, *node, out)?;
             write_indication(alloc, indication, out)
         }
-        Output::Send { from, to, octets } => {
-            out.push(alloc, 17)?;
-            write_addr(alloc, from, out)?;
-            write_addr(alloc, to, out)?;
-            write_octets(alloc, octets, out)
-        }
+        Output::Send { from, to, octets } => write_carried(alloc, 17, from, to, octets, out),
         Output::Refused { number } => {
             out.push(alloc, 18)?;
             write_byte(alloc, *number, out)
         }
         Output::Over => out.push(alloc, 19),
     }
+}
+
+/// A code, the numbers of a node and of its peer.
+fn write_at_peer(
+    alloc: Global,
+    code: u8,
+    node: u16,
+    peer: u16,
+    out: &mut Octets,
+) -> Result<(), NoMemory>
+    ensures ok { OnOk result (out.new ≡ out.old ++ (code ∷ short_bytes node ++ short_bytes peer)) }
+    ensures err { OnErr result (Keeps out.old out.new) }
+{
+    write_numbered(alloc, code, node, out)?;
+    write_short(alloc, peer, out)
+}
+
+/// A code, and octets that go from one node to another.
+fn write_carried(
+    alloc: Global,
+    code: u8,
+    from: &Addr,
+    to: &Addr,
+    octets: &Octets,
+    out: &mut Octets,
+) -> Result<(), NoMemory>
+    requires { IsShort octets.now }
+    ensures ok { OnOk result (out.new ≡ out.old ++ (code ∷ addr_bytes from.now ++ addr_bytes to.now ++ octets_bytes octets.now)) }
+    ensures err { OnErr result (Keeps out.old out.new) }
+{
+    out.push(alloc, code)?;
+    write_addr(alloc, from, out)?;
+    write_addr(alloc, to, out)?;
+    write_octets(alloc, octets, out)
 }

@@ -1,6 +1,7 @@
 //! The bytes of dialogue records.
-ghost use Rattle.std.specs.Prelude.{◌≡◌, ◌++◌, OnOk, OnErr};
+ghost use Rattle.std.specs.Prelude.{◌≡◌, ◌++◌, ◌∷◌, OnOk, OnErr};
 ghost use Rattle.tp_names.specs.Scanning.{Gives, GivesUnlessFull, scan_make, ◌with◌, scan_aaid, scan_branch};
+ghost use Rattle.tp_names.specs.Bytes.{aaid_bytes, branch_bytes};
 ghost use Rattle.tp_names.specs.Writing.{Keeps};
 ghost use Rattle.tp_records.specs.Bodies.{holder_bytes, dialogue_bytes};
 ghost use Rattle.tp_records.specs.Octets.{IsShortDialogue};
@@ -10,8 +11,8 @@ ghost use Rattle.tp_records.specs.declared.dialogue.DialogueRecord.{DialogueReco
 use super::{DialogueRecord, Holder};
 use std::alloc::Global;
 use tp_names::{
-    BadBytes, Cursor, NoMemory, Octets, ReadFault, write_aaid, write_branch, write_octets,
-    write_report,
+    Aaid, BadBytes, BranchId, Cursor, NoMemory, Octets, ReadFault, write_aaid, write_branch,
+    write_octets, write_report,
 };
 
 /// Reads a record of a dialogue.
@@ -106,12 +107,7 @@ pub(crate) fn write_dialogue(
             aaid,
             branch,
             holder,
-        } => {
-            out.push(alloc, 12)?;
-            write_aaid(alloc, aaid, out)?;
-            write_branch(alloc, branch, out)?;
-            write_holder(alloc, *holder, out)
-        }
+        } => write_begin(alloc, aaid, branch, *holder, out),
         DialogueRecord::Prepare => out.push(alloc, 13),
         DialogueRecord::Ready => out.push(alloc, 14),
         DialogueRecord::Commit => out.push(alloc, 15),
@@ -127,6 +123,22 @@ pub(crate) fn write_dialogue(
         DialogueRecord::Left => out.push(alloc, 19),
         DialogueRecord::LeftEnd => out.push(alloc, 20),
     }
+}
+
+fn write_begin(
+    alloc: Global,
+    aaid: &Aaid,
+    branch: &BranchId,
+    holder: Holder,
+    out: &mut Octets,
+) -> Result<(), NoMemory>
+    ensures ok { OnOk result (out.new ≡ out.old ++ (12 ∷ aaid_bytes aaid.now ++ branch_bytes branch.now ++ holder_bytes holder)) }
+    ensures err { OnErr result (Keeps out.old out.new) }
+{
+    out.push(alloc, 12)?;
+    write_aaid(alloc, aaid, out)?;
+    write_branch(alloc, branch, out)?;
+    write_holder(alloc, holder, out)
 }
 
 fn write_holder(alloc: Global, holder: Holder, out: &mut Octets) -> Result<(), NoMemory>
