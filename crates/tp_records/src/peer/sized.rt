@@ -1,7 +1,8 @@
 //! Peer records of a given length, looked through without keeping them.
 ghost use Rattle.std.specs.Prelude.{◌≡◌, ◌<◌, IfOk};
-ghost use Rattle.tp_names.specs.Scanning.{Gives, GivesUnlessFull, then_scan};
+ghost use Rattle.tp_names.specs.Scanning.{Gives, GivesUnlessFull, then_scan, scan_make, ◌with◌, scan_mark, scan_long, scan_this};
 ghost use Rattle.tp_records.specs.BodyReading.{is_peer_text};
+ghost use Rattle.tp_records.specs.BodyScanning.{scan_units};
 ghost use Rattle.tp_records.specs.SentScanning.{scan_names_of, scan_state_of, scan_reply_of, scan_octets_of, is_bare, scan_dialogue_of, is_peer_length, scan_peer_of, scan_peer_count, sent_place, scan_sent};
 
 use crate::dialogue::bytes::read_holder;
@@ -83,27 +84,15 @@ fn peer_of(len: usize, from: &mut Cursor) -> Result<(), BadBytes>
     let left = from.left();
     let code = from.code()?;
     if len == 20 && code == 1 {
-        let _ = from.mark()?;
-        let _ = read_units(from)?;
-        Ok(())
+        open_of(from)
     } else if len == 38 && code == 2 {
-        let _ = from.mark()?;
-        let _ = from.mark()?;
-        let _ = read_units(from)?;
-        Ok(())
+        accept_of(from)
     } else if len == 20 && code == 3 {
-        let _ = from.mark()?;
-        from.byte_that_is(0)
+        shut_by_one_of(from)
     } else if len == 38 && code == 3 {
-        let _ = from.mark()?;
-        from.byte_that_is(1)?;
-        let _ = from.mark()?;
-        Ok(())
+        shut_by_both_of(from)
     } else if 46 <= len && len <= 1072 && code == 4 {
-        let _ = from.mark()?;
-        let _ = from.mark()?;
-        let _ = from.long()?;
-        dialogue_of(len - 45, from)
+        on_assoc_of(len - 45, from)
     } else if 41 <= len && len <= 71 && (code == 5 || code == 6 || code == 8) {
         names_of(len - 39, from)
     } else if 42 <= len && len <= 73 && code == 7 {
@@ -111,6 +100,48 @@ fn peer_of(len: usize, from: &mut Cursor) -> Result<(), BadBytes>
     } else {
         Err(BadBytes { left })
     }
+}
+
+fn open_of(from: &mut Cursor) -> Result<(), BadBytes>
+    ensures { Gives result from.new ((scan_make (λ x u. tt) with scan_mark with scan_units) from.old) }
+{
+    let _ = from.mark()?;
+    let _ = read_units(from)?;
+    Ok(())
+}
+
+fn accept_of(from: &mut Cursor) -> Result<(), BadBytes>
+    ensures { Gives result from.new ((scan_make (λ x y u. tt) with scan_mark with scan_mark with scan_units) from.old) }
+{
+    let _ = from.mark()?;
+    let _ = from.mark()?;
+    let _ = read_units(from)?;
+    Ok(())
+}
+
+fn shut_by_one_of(from: &mut Cursor) -> Result<(), BadBytes>
+    ensures { Gives result from.new ((scan_make (λ x f. tt) with scan_mark with scan_this 0) from.old) }
+{
+    let _ = from.mark()?;
+    from.byte_that_is(0)
+}
+
+fn shut_by_both_of(from: &mut Cursor) -> Result<(), BadBytes>
+    ensures { Gives result from.new ((scan_make (λ x f y. tt) with scan_mark with scan_this 1 with scan_mark) from.old) }
+{
+    let _ = from.mark()?;
+    from.byte_that_is(1)?;
+    let _ = from.mark()?;
+    Ok(())
+}
+
+fn on_assoc_of(len: usize, from: &mut Cursor) -> Result<(), BadBytes>
+    ensures { Gives result from.new ((scan_make (λ x y s r. tt) with scan_mark with scan_mark with scan_long with scan_dialogue_of len) from.old) }
+{
+    let _ = from.mark()?;
+    let _ = from.mark()?;
+    let _ = from.long()?;
+    dialogue_of(len, from)
 }
 
 #[tactic(auto, unfolding(crate::specs::SentScanning::scan_dialogue_of))]
