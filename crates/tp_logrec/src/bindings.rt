@@ -58,9 +58,10 @@ fn others(alloc: Global, owners: &[Owner], owner: &Owner) -> Result<Vec<Owner>, 
 {
     let mut left = Vec::new(alloc);
     for other in owners {
-        if !is_owner(other, owner) {
-            left.push(*other)?;
+        if is_owner(other, owner) {
+            continue;
         }
+        left.push(*other)?;
     }
     Ok(left)
 }

@@ -325,9 +325,10 @@ fn add_kind(
     ensures { OnOk result (list.new.items ≡ list.old.items ++ those (is_kind kind) records.now) }
 {
     for rec in records {
-        if is_kind(kind, rec) {
-            push_copy(alloc, list, rec)?;
+        if !is_kind(kind, rec) {
+            continue;
         }
+        push_copy(alloc, list, rec)?;
     }
     Ok(())
 }
