@@ -29,13 +29,13 @@ pub enum What {
 impl fmt::Display for Why {
     fn fmt<W: fmt::Write>(&self, f: &mut fmt::Formatter<W>) -> fmt::Result {
         match self {
-            Why::Long => write!(f, "long"),
-            Why::Word => write!(f, "word"),
-            Why::Number => write!(f, "number"),
-            Why::Name => write!(f, "name"),
-            Why::Short => write!(f, "short"),
-            Why::Length => write!(f, "length"),
-            Why::Body => write!(f, "body"),
+            Why::Long => f.write_str("long"),
+            Why::Word => f.write_str("word"),
+            Why::Number => f.write_str("number"),
+            Why::Name => f.write_str("name"),
+            Why::Short => f.write_str("short"),
+            Why::Length => f.write_str("length"),
+            Why::Body => f.write_str("body"),
         }
     }
 }
@@ -43,14 +43,14 @@ impl fmt::Display for Why {
 impl fmt::Display for What {
     fn fmt<W: fmt::Write>(&self, f: &mut fmt::Formatter<W>) -> fmt::Result {
         match self {
-            What::Schedule => write!(f, "schedule"),
-            What::Sites => write!(f, "sites"),
-            What::Nodes => write!(f, "nodes"),
-            What::Frames => write!(f, "frames"),
-            What::Answers => write!(f, "answers"),
-            What::Events => write!(f, "events"),
-            What::Log => write!(f, "log"),
-            What::Boots => write!(f, "boots"),
+            What::Schedule => f.write_str("schedule"),
+            What::Sites => f.write_str("sites"),
+            What::Nodes => f.write_str("nodes"),
+            What::Frames => f.write_str("frames"),
+            What::Answers => f.write_str("answers"),
+            What::Events => f.write_str("events"),
+            What::Log => f.write_str("log"),
+            What::Boots => f.write_str("boots"),
         }
     }
 }
