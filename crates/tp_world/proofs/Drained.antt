@@ -20,9 +20,8 @@ mark_length [] (suc k) = refl
 mark_length (f ∷ fs) (suc zero) = refl
 mark_length (f ∷ fs) (suc (suc j)) = ap (λ (n : ℕ). suc n) (mark_length fs (suc j))
 
-pub stands_marked : (w : World) (old new : Ground) (k : ℕ) → Stands w old → new.frames ≡ mark_handed old.frames k → new.nodes ≡ old.nodes → new.sites ≡ old.sites → new.trees ≡ old.trees
-    → Stands (happens w (Mark k)).world new
-stands_marked w old new k h frames nodes sites trees =
+stands_frames : (w : World) (old new : Ground) (fs : List Frame) → Stands w old → new.frames ≡ fs → length fs ≤ 65535 → new.nodes ≡ old.nodes → new.sites ≡ old.sites → new.trees ≡ old.trees → Stands (record w { frames = fs }) new
+stands_frames w old new fs h frames few nodes sites trees =
     let r = h.rest in
     let s : SitesStand w new.sites.items = subst (λ v. SitesStand w v.items) (sym sites) h.sites in
     record {
@@ -31,12 +30,20 @@ stands_marked w old new k h frames nodes sites trees =
         nodes = subst (λ l. AreNodes w.nodes l) (sym nodes) r.nodes;
         apart = r.apart;
         placed = r.placed;
-        frames = frames ∙ ap (λ (l : List Frame). mark_handed l k) r.frames;
-        few = subst (λ (n : ℕ). n ≤ 65535) (sym (mark_length w.frames k)) r.few;
+        frames = frames;
+        few = few;
         trees = ap (λ t. t.items) trees ∙ r.trees;
         undriven = r.undriven;
       };
     }
+
+pub stands_marked : (w : World) (old new : Ground) (k : ℕ) → Stands w old → new.frames ≡ mark_handed old.frames k → new.nodes ≡ old.nodes → new.sites ≡ old.sites → new.trees ≡ old.trees
+    → Stands (happens w (Mark k)).world new
+stands_marked w old new k h frames nodes sites trees =
+    stands_frames w old new (mark_handed w.frames k) h (frames ∙ ap (λ (l : List Frame). mark_handed l k) h.rest.frames) (subst (λ (n : ℕ). n ≤ 65535) (sym (mark_length w.frames k)) h.rest.few) nodes sites trees
+
+pub stands_unmarked : (w : World) (old new : Ground) → Stands w old → new.frames ≡ old.frames → new.nodes ≡ old.nodes → new.sites ≡ old.sites → new.trees ≡ old.trees → Stands w new
+stands_unmarked w old new h frames nodes sites trees = stands_frames w old new w.frames h (frames ∙ h.rest.frames) h.rest.few nodes sites trees
 
 -- ---- turns one after another
 
@@ -145,6 +152,3 @@ oldest_stood w v o h e = sym (e ∙ ap (λ (fs : List Frame). oldest_from 0 (λ 
 
 pub between_stood : (w : World) (v : Ground) (a b : ℕ) (o : Option ℕ) → Stands w v → o ≡ oldest_from 0 (is_between a b) v.frames → oldest_between w a b ≡ o
 between_stood w v a b o h e = sym (e ∙ ap (λ (fs : List Frame). oldest_from 0 (is_between a b) fs) h.rest.frames)
-
-pub hands_none : (w : World) (v : Ground) (lines : List OutLine) → Stands w v → None ≡ oldest_from 0 (λ f. true) v.frames → Hands w lines (Ok false) lines v
-hands_none w v lines h e = (oldest_stood w v None h e, refl, h)

@@ -1,5 +1,7 @@
 mod Numbers
 mod Oldest
+mod Waits
+mod Queues
 mod Stood
 mod Stepped
 mod SteppedNodes

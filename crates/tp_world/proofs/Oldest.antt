@@ -1,8 +1,7 @@
--- Frames of a world: those in front that are handed over, a mark among them, and which is the oldest.
-use Rattle.std.proofs.Common.{◌≡◌, ◌≤◌, ◌<◌, ◌+◌, ◌-◌, ◌++◌, ◌&&◌, not, ℕ, zero, suc, Bool, true, false, refl, ap, sym, ◌∙◌, arith, Some, None, List, [], ◌∷◌, length, map, drop}
+-- Frames of a world: those in front that are handed over, a mark among them, and which is the oldest of all.
+use Rattle.std.proofs.Common.{◌≡◌, ◌≤◌, ◌<◌, ◌+◌, ◌-◌, ◌++◌, ℕ, zero, suc, Bool, true, false, refl, ap, sym, ◌∙◌, arith, Some, None, List, [], ◌∷◌, length, map}
 use Rattle.std.specs.Prelude.{slice_index_or, slice_set}
 use Rattle.std.proofs.lemmas.Bool.Decides.{nat_tests}
-use Rattle.std.proofs.lemmas.List.{drop_more}
 use Rattle.tp_model.specs.World.{Frame as FrameValue, find_frame, mark_handed, oldest_from}
 use Rattle.tp_world.specs.Frames.{frame_of, leading, is_between}
 use Rattle.tp_world.specs.declared.frames.Frame.{Frame}
@@ -15,41 +14,31 @@ leading_most (f ∷ fs) = go f.handed refl (leading_most fs)
     go true e more = grind (arith, e, more)
     go false e more = grind (arith, e)
 
--- those in front are passed over
-pub past_leading : (test : FrameValue → Bool) (fs : List Frame) (i k : ℕ) → i ≤ leading fs → oldest_from k test (map frame_of fs) ≡ oldest_from (k + i) test (map frame_of (drop i fs))
-past_leading test fs zero k h = ap (λ n. oldest_from n test (map frame_of fs)) (omega arith)
-past_leading test [] (suc i) k h = refl
-past_leading test (f ∷ fs) (suc i) k h = go f.handed refl (past_leading test fs i (suc k))
-  where
-    go : (b : Bool) → f.handed ≡ b → (i ≤ leading fs → oldest_from (suc k) test (map frame_of fs) ≡ oldest_from (suc k + i) test (map frame_of (drop i fs)))
-        → oldest_from k test (map frame_of (f ∷ fs)) ≡ oldest_from (k + suc i) test (map frame_of (drop (suc i) (f ∷ fs)))
-    go true e more =
-        let one_more : leading (f ∷ fs) ≡ suc (leading fs) = grind (arith, e) in
-        let rest = more (omega (arith, one_more, h)) in
-        let far : suc k + i ≡ k + suc i = omega arith in
-        grind (arith, e, rest, far)
-    go false e more = absurd (let none : leading (f ∷ fs) ≡ 0 = grind (arith, e) in omega (arith, none, h))
-
-pub past_first : (test : FrameValue → Bool) (fs : List Frame) (i : ℕ) → i ≤ leading fs → oldest_from 0 test (map frame_of fs) ≡ oldest_from i test (map frame_of (drop i fs))
-past_first test fs i h = past_leading test fs i 0 h ∙ ap (λ n. oldest_from n test (map frame_of (drop i fs))) (omega arith)
-
 -- ---- the oldest of all
 
-oldest_at : (fs : List Frame) (k : ℕ) → leading fs < length fs → oldest_from k (λ f. true) (map frame_of fs) ≡ Some (suc (k + leading fs))
-oldest_at [] k h = absurd (omega arith)
-oldest_at (f ∷ fs) k h = go f.handed refl (oldest_at fs (suc k))
+-- it is the first one that is not handed over, where that passes the test
+oldest_at : (test : FrameValue → Bool) (fs : List Frame) (k : ℕ) (d : Frame) → leading fs < length fs → test (frame_of (slice_index_or fs (leading fs) d)) ≡ true → oldest_from k test (map frame_of fs) ≡ Some (suc (k + leading fs))
+oldest_at test [] k d h t = absurd (omega arith)
+oldest_at test (f ∷ fs) k d h t = go f.handed refl (oldest_at test fs (suc k) d)
   where
-    go : (b : Bool) → f.handed ≡ b → (leading fs < length fs → oldest_from (suc k) (λ f. true) (map frame_of fs) ≡ Some (suc (suc k + leading fs)))
-        → oldest_from k (λ f. true) (map frame_of (f ∷ fs)) ≡ Some (suc (k + leading (f ∷ fs)))
+    go : (b : Bool) → f.handed ≡ b → (leading fs < length fs → test (frame_of (slice_index_or fs (leading fs) d)) ≡ true → oldest_from (suc k) test (map frame_of fs) ≡ Some (suc (suc k + leading fs)))
+        → oldest_from k test (map frame_of (f ∷ fs)) ≡ Some (suc (k + leading (f ∷ fs)))
     go true e more =
         let one_more : leading (f ∷ fs) ≡ suc (leading fs) = grind (arith, e) in
-        let rest = more (omega (arith, one_more, h)) in
+        let there : test (frame_of (slice_index_or (f ∷ fs) (suc (leading fs)) d)) ≡ true = ap (λ n. test (frame_of (slice_index_or (f ∷ fs) n d))) (sym one_more) ∙ t in
+        let rest = more (omega (arith, one_more, h)) there in
         let far : suc k + leading fs ≡ k + leading (f ∷ fs) = omega (arith, one_more) in
         grind (arith, e, rest, far)
-    go false e more = let none : leading (f ∷ fs) ≡ 0 = grind (arith, e) in grind (arith, e, none)
+    go false e more =
+        let none : leading (f ∷ fs) ≡ 0 = grind (arith, e) in
+        let there : test (frame_of f) ≡ true = ap (λ n. test (frame_of (slice_index_or (f ∷ fs) n d))) (sym none) ∙ t in
+        let far : k + leading (f ∷ fs) ≡ k = omega (arith, none) in
+        grind (arith, e, there, far)
 
-pub oldest_there : (fs : List Frame) → leading fs < length fs → oldest_from 0 (λ f. true) (map frame_of fs) ≡ Some (leading fs + 1)
-oldest_there fs h = oldest_at fs 0 h ∙ ap (λ n. Some n) (omega arith)
+-- the oldest of all is the oldest between its nodes
+pub oldest_pair : (fs : List Frame) (d : Frame) (a b : ℕ) → leading fs < length fs → (slice_index_or fs (leading fs) d).from.node ≡ a → (slice_index_or fs (leading fs) d).to.node ≡ b
+    → oldest_from 0 (is_between a b) (map frame_of fs) ≡ oldest_from 0 (λ f. true) (map frame_of fs)
+oldest_pair fs d a b h from to = oldest_at (is_between a b) fs 0 d h (grind (arith, nat_tests, from, to)) ∙ sym (oldest_at (λ f. true) fs 0 d h refl)
 
 oldest_none : (fs : List Frame) (k : ℕ) → length fs ≤ leading fs → oldest_from k (λ f. true) (map frame_of fs) ≡ None
 oldest_none [] k h = refl
@@ -64,16 +53,6 @@ oldest_none (f ∷ fs) k h = go f.handed refl (oldest_none fs (suc k))
 
 pub oldest_missing : (fs : List Frame) → length fs ≤ leading fs → oldest_from 0 (λ f. true) (map frame_of fs) ≡ None
 oldest_missing fs h = oldest_none fs 0 h
-
--- ---- between two nodes
-
-pub found_between : (fs : List Frame) (a b i : ℕ) (d : Frame) → i < length fs → (slice_index_or fs i d).handed ≡ false → (slice_index_or fs i d).from.node ≡ a → (slice_index_or fs i d).to.node ≡ b
-    → oldest_from i (is_between a b) (map frame_of (drop i fs)) ≡ Some (i + 1)
-found_between fs a b i d h e from to = rw (drop_more fs i d h) (grind (arith, nat_tests, e, from, to))
-
-pub next_between : (fs : List Frame) (a b i : ℕ) (d : Frame) → i < length fs → (not (slice_index_or fs i d).handed && is_between a b (frame_of (slice_index_or fs i d))) ≡ false
-    → oldest_from i (is_between a b) (map frame_of (drop i fs)) ≡ oldest_from (i + 1) (is_between a b) (map frame_of (drop (i + 1) fs))
-next_between fs a b i d h e = rw (drop_more fs i d h) (grind (arith, e))
 
 -- ---- a mark
 

@@ -78,6 +78,15 @@ resolved_pass w a b k l new e found h =
       world = subst (λ (o : Option ℕ). Stands (marked w o) new) (sym found) h;
     })
 
+-- a pass that found none
+pub resolved_none : (w : World) (a b : ℕ) (l : StopLine) (new : Ground) → l ≡ StopLine.Pass a b → oldest_between w a b ≡ None → Stands w new → Resolves w l None new
+resolved_none w a b l new e found h =
+    subst (λ (q : StopLine). Resolves w q None new) (sym e)
+    (record {
+      deed = sym (ap (λ (o : Option ℕ). elim o as (λ _. Option Deed) [ None ↦ None | Some j ↦ Some (Deliver j) ]) found);
+      world = subst (λ (o : Option ℕ). Stands (marked w o) new) (sym found) h;
+    })
+
 pub errand_gives : (w : World) (l : StopLine) (o : Option Deed) (r : Result (Unit {0}) WorldFault) (before after : List OutLine) (mid v : Ground) → is_named w l ≡ true → is_some o ≡ true → Resolves w l o mid
     → ((d : Deed) → Stands (marked_by w l) mid → o ≡ Some d → Gives (within_limits (happens (marked_by w l) (Does d))) before r after v) → Gives (deed_line w l) before r after v
 errand_gives w l None r before after mid v name there s f = absurd cc

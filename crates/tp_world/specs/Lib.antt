@@ -1,6 +1,7 @@
 pub mod Part
 pub mod Tracks
 pub mod Told
+pub mod Waiting
 pub mod Frames
 pub mod Nodes
 pub mod Errands

@@ -1,10 +1,11 @@
 //! The frames of a world.
-ghost use Rattle.std.specs.Prelude.{◌≡◌, ◌++◌, ◌∷◌, [], ◌+◌, ◌≤◌, ◌<◌, true, false, length, map, IfOk, IfErr, IfSome, OnErr};
+ghost use Rattle.std.specs.Prelude.{◌≡◌, ◌++◌, ◌∷◌, [], ◌+◌, ◌≤◌, ◌<◌, true, false, length, map, IfOk, IfErr, OnOk, OnErr};
 ghost use Rattle.std.specs.Option.{option_map, option_copied};
 ghost use Rattle.tp_model.specs.World.{find_frame, mark_handed, oldest_from};
-ghost use Rattle.tp_world.specs.Frames.{frame_of, is_between, leading, IsFull};
+ghost use Rattle.tp_world.specs.Frames.{frame_of, handed_over, is_between, leading, IsFull};
 
 use crate::fault::WorldFault;
+use crate::waiting::Waiting;
 use std::alloc::Global;
 use std::marker::Model;
 use tp_model::What;
@@ -23,15 +24,17 @@ pub(crate) struct Frame {
     handed: bool,
 }
 
-/// All frames that were ever sent, in order; their numbers begin with 1. All before `first` were handed over.
+/// All frames that were ever sent, in order; their numbers begin with 1. All before `first` were handed over, and the
+/// numbers of those that were not are `waiting`.
 #[derive(Debug, Drop)]
 pub(crate) struct Frames {
     items: Vec<Frame>,
     first: usize,
+    waiting: Waiting,
 }
 
-#[tactic(auto, using(crate::proofs::Oldest::leads_more, crate::proofs::Oldest::leads_to, crate::proofs::Oldest::leads_all))]
 // The place of the first frame that is not handed over, sought from a place on before which all are.
+#[tactic(auto, using(crate::proofs::Oldest::leads_more, crate::proofs::Oldest::leads_to, crate::proofs::Oldest::leads_all))]
 fn first_unhanded(frames: &[Frame], from: usize) -> usize
     requires { from ≤ leading frames.now }
     ensures { result ≡ leading frames.now }
@@ -54,22 +57,6 @@ fn mark_at(frames: &mut [Frame], place: usize)
     }
 }
 
-// The place of the first frame from the one node to the other that is not handed over.
-#[tactic(auto, using(crate::proofs::Oldest::next_between, crate::proofs::Oldest::found_between))]
-fn place_between(frames: &[Frame], first: usize, from: u16, to: u16) -> Option<usize>
-    requires { first ≤ leading frames.now }
-    ensures place { option_map (λ i. i + 1) result ≡ oldest_from 0 (is_between from to) (map frame_of frames.now) }
-    ensures there { IfSome result (λ i. i < length frames.now) }
-{
-    for i in first..frames.len() {
-        let frame = &frames[i];
-        if !frame.handed && frame.from.node == from && frame.to.node == to {
-            return Some(i);
-        }
-    }
-    None
-}
-
 impl Model for Frames {
     ghost use Rattle.std.specs.Prelude.{List};
     ghost use Rattle.tp_model.specs.World.{Frame as FrameValue};
@@ -90,10 +77,10 @@ impl Frames {
         Frames {
             items: Vec::new(alloc),
             first: 0,
+            waiting: Waiting::new(alloc),
         }
     }
 
-    /// The frame of that number.
     /// The frame of that number.
     #[tactic(auto, using(crate::proofs::Oldest::found_number, crate::proofs::Oldest::unfound_number))]
     pub(crate) fn find(&self, number: u16) -> Option<&Frame>
@@ -109,9 +96,28 @@ impl Frames {
         Some(&self.items[place])
     }
 
+    // Puts a frame that was not handed over after the others, under that number.
+    fn push(&mut self, alloc: Global, number: u16, frame: Frame) -> Result<(), NoMemory>
+        requires number { number ≡ length self.old + 1 }
+        requires fresh { frame.handed ≡ false }
+        ensures ok { OnOk result (self.new ≡ self.old ++ frame_of frame ∷ []) }
+        ensures err { OnErr result (self.new ≡ self.old) }
+    {
+        self.items.reserve(1)?;
+        self.waiting
+            .add(alloc, frame.from.node, frame.to.node, number)?;
+        self.items.push(frame)?;
+        Ok(())
+    }
+
     /// Puts a frame after the others, and tells its number.
-    #[tactic(auto, using(crate::proofs::Oldest::leading_behind))]
-    pub(crate) fn send(&mut self, from: Addr, to: Addr, rec: PeerRecord) -> Result<u16, WorldFault>
+    pub(crate) fn send(
+        &mut self,
+        alloc: Global,
+        from: Addr,
+        to: Addr,
+        rec: PeerRecord,
+    ) -> Result<u16, WorldFault>
         ensures ok { IfOk result (λ number. (number ≡ length self.old + 1) × (self.new ≡ self.old ++ record { from = from; to = to; rec = rec; handed = false } ∷ [])) }
         ensures err { OnErr result (self.new ≡ self.old) }
         ensures full { IfErr result (IsFull (length self.old)) }
@@ -120,49 +126,43 @@ impl Frames {
         if number > MOST_FRAMES {
             return Err(WorldFault::Limit { what: What::Frames });
         }
-        let pushed: Result<(), NoMemory> = self
-            .items
-            .push(Frame {
-                from,
-                to,
-                rec,
-                handed: false,
-            })
-            .map_err(NoMemory::from);
-        pushed?;
-        Ok(number as u16)
+        let number = number as u16;
+        let frame = Frame {
+            from,
+            to,
+            rec,
+            handed: false,
+        };
+        self.push(alloc, number, frame)?;
+        Ok(number)
     }
 
-    /// That frame counts as handed over.
-    pub(crate) fn mark(&mut self, number: u16)
-        ensures { self.new ≡ mark_handed self.old number }
+    /// The oldest frame from the one node to the other that is not handed over counts as handed over from now on: its number.
+    pub(crate) fn hand_between(&mut self, from: u16, to: u16) -> Option<u16>
+        ensures number { result ≡ oldest_from 0 (is_between from to) self.old }
+        ensures frames { self.new ≡ handed_over self.old result }
     {
-        if number == 0 {
-            return;
-        }
-        mark_at(self.items.as_mut_slice(), number as usize - 1);
-        self.first = first_unhanded(self.items.as_slice(), self.first);
-    }
-
-    /// The number of the oldest frame that is not handed over.
-    #[tactic(auto, using(crate::proofs::Oldest::oldest_there, crate::proofs::Oldest::oldest_missing))]
-    pub(crate) fn oldest(&self) -> Option<u16>
-        ensures { result ≡ oldest_from 0 (λ f. true) self.now }
-    {
-        if self.first < self.items.len() {
-            Some((self.first + 1) as u16)
-        } else {
-            None
-        }
-    }
-
-    /// The number of the oldest frame from the one node to the other that is not handed over.
-    pub(crate) fn oldest_between(&self, from: u16, to: u16) -> Option<u16>
-        ensures { result ≡ oldest_from 0 (is_between from to) self.now }
-    {
-        match place_between(self.items.as_slice(), self.first, from, to) {
+        match self.waiting.take(from, to) {
             None => None,
-            Some(place) => Some((place + 1) as u16),
+            Some(number) => {
+                mark_at(self.items.as_mut_slice(), number as usize - 1);
+                self.first = first_unhanded(self.items.as_slice(), self.first);
+                Some(number)
+            }
         }
+    }
+
+    /// The oldest frame that is not handed over counts as handed over from now on: its number.
+    #[tactic(auto, using(crate::proofs::Oldest::oldest_missing))]
+    pub(crate) fn hand_oldest(&mut self) -> Option<u16>
+        ensures number { result ≡ oldest_from 0 (λ f. true) self.old }
+        ensures frames { self.new ≡ handed_over self.old result }
+    {
+        if self.first >= self.items.len() {
+            return None;
+        }
+        let frame = &self.items[self.first];
+        let (from, to) = (frame.from.node, frame.to.node);
+        self.hand_between(from, to)
     }
 }

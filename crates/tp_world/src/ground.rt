@@ -191,7 +191,7 @@ impl Ground {
     {
         let words = sent_shown(alloc, &rec)?;
         let (own, peer) = (from.node, to.node);
-        let frame = self.frames.send(*from, to, rec)?;
+        let frame = self.frames.send(alloc, *from, to, rec)?;
         let line = OutLine::Send {
             frame,
             from: own,

@@ -12,11 +12,13 @@ mod named;
 mod nodes;
 mod part;
 mod play;
+mod queue;
 mod requests;
 mod shown;
 mod site_slot;
 mod sites;
 mod tracks;
+mod waiting;
 mod world;
 
 pub use fault::WorldFault;

@@ -103,8 +103,7 @@ impl Ground {
         let Errand::Pass { from, to } = errand else {
             return Some(errand);
         };
-        let frame = self.frames.oldest_between(from, to)?;
-        self.frames.mark(frame);
+        let frame = self.frames.hand_between(from, to)?;
         Some(Errand::Again { frame })
     }
 }

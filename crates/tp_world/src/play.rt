@@ -130,13 +130,12 @@ impl Ground {
         if !self.is_node(from) || !self.is_node(to) {
             return Err(WorldFault::Name);
         }
-        match self.frames.oldest_between(from, to) {
+        match self.frames.hand_between(from, to) {
             None => {
                 lines.push(alloc, OutLine::Nothing)?;
                 Ok(())
             }
             Some(frame) => {
-                self.frames.mark(frame);
                 lines.push(alloc, OutLine::Lost { frame })?;
                 Ok(())
             }
@@ -147,10 +146,9 @@ impl Ground {
     fn hand_oldest(&mut self, alloc: Global, lines: &mut OutLines) -> Result<bool, WorldFault>
         ensures { (w : WorldValue) → Stands w self.old → Hands w lines.old result lines.new self.new }
     {
-        let Some(frame) = self.frames.oldest() else {
+        let Some(frame) = self.frames.hand_oldest() else {
             return Ok(false);
         };
-        self.frames.mark(frame);
         self.deed(alloc, &Errand::Again { frame }, lines)?;
         Ok(true)
     }
