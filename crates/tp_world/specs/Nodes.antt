@@ -1,5 +1,6 @@
 -- The nodes of a world as the code keeps them, found by their numbers.
-use Rattle.std.specs.Prelude.{ℕ, suc, ◌≡◌, ◌==◌, true, false, Option, Some, None, List, [], ◌∷◌}
+use Rattle.std.specs.Prelude.{ℕ, suc, ◌≡◌, ◌<◌, ◌==◌, nat_eq, cond, length, Bool, true, false, Option, Some, None, List, [], ◌∷◌}
+use Rattle.std.specs.Map.{lookup}
 use Rattle.std.specs.Option.{option_map}
 use Rattle.tp_names.specs.declared.identifiers.Aaid.{Aaid}
 use Rattle.tp_names.specs.declared.identifiers.Addr.{Addr}
@@ -7,6 +8,7 @@ use Rattle.tp_world.specs.Part.{no_part, stepped}
 use Rattle.tp_world.specs.Tracks.{part_at}
 use Rattle.tp_world.specs.declared.part.Step.{Step}
 use Rattle.tp_world.specs.declared.nodes.NodeSlot.{NodeSlot}
+use Rattle.tp_world.specs.declared.nodes.Nodes.TheInside.{Inside}
 
 abbrev pub find_slot : List NodeSlot → ℕ → Option NodeSlot
 find_slot [] n = None
@@ -16,6 +18,23 @@ find_slot (x ∷ xs) n = elim (x.addr.node == n) [ true ↦ Some x | false ↦ f
 abbrev pub place_of_number : List NodeSlot → ℕ → ℕ
 place_of_number [] n = 0
 place_of_number (x ∷ xs) n = elim (x.addr.node == n) [ true ↦ 0 | false ↦ suc (place_of_number xs n) ]
+
+-- in a table of places
+abbrev pub place_in : List (ℕ × ℕ) → ℕ → ℕ → ℕ
+place_in es all n = elim (lookup (nat_eq n) es) [ None ↦ all | Some k ↦ k ]
+
+-- one more place is in the table, where the number had none
+abbrev pub noted : Option ℕ → Bool → ℕ → Option ℕ
+noted (Some k) b p = Some k
+noted None b p = cond b (Some p) None
+
+abbrev pub IsNoted : List (ℕ × ℕ) → ℕ → ℕ → List (ℕ × ℕ) → Type 0
+IsNoted es n p new = (k : ℕ) → lookup (nat_eq k) new ≡ noted (lookup (nat_eq k) es) (nat_eq n k) p
+
+-- the table has the places of the numbers, and no others
+pub record ArePlaced (v : Inside) : Type 0 where
+  pub place : (n : ℕ) → place_of_number v.items.items n ≡ place_in v.places.entries (length v.items.items) n
+  pub within : (n k : ℕ) → lookup (nat_eq n) v.places.entries ≡ Some k → k < length v.items.items
 
 abbrev pub address_at : List NodeSlot → ℕ → Option Addr
 address_at xs n = option_map (λ x. x.addr) (find_slot xs n)

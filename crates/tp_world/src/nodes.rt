@@ -1,12 +1,13 @@
 //! The nodes of a world.
-ghost use Rattle.std.specs.Prelude.{◌≡◌, ◌++◌, ◌∷◌, [], ◌<◌, length, map, slice_index_or, OnOk};
+ghost use Rattle.std.specs.Prelude.{◌≡◌, ◌++◌, ◌∷◌, [], ◌<◌, length, map, slice_index_or, OnOk, OnErr};
 ghost use Rattle.tp_names.specs.Same.{is_name};
 ghost use Rattle.tp_world.specs.declared.nodes.NodeSlot.{NodeSlot};
-ghost use Rattle.tp_world.specs.Nodes.{address_at, IsDeclared, AreStepped, place_of_number};
+ghost use Rattle.tp_world.specs.Nodes.{address_at, IsDeclared, IsNoted, AreStepped, place_of_number};
 
 use crate::part::Step;
 use crate::tracks::Tracks;
 use std::alloc::Global;
+use std::collections::HashMap;
 use std::marker::Model;
 use tp_names::same::is_name;
 use tp_names::{Addr, NoMemory, SiteName};
@@ -19,10 +20,11 @@ pub(crate) struct NodeSlot {
     pub(crate) tracks: Tracks,
 }
 
-/// The nodes of a world, in the order of their declarations.
+/// The nodes of a world, in the order of their declarations; `places` are the places of their numbers.
 #[derive(Debug, Drop)]
 pub(crate) struct Nodes {
     items: Vec<NodeSlot>,
+    places: HashMap<u16, usize>,
 }
 
 impl Model for Nodes {
@@ -31,7 +33,11 @@ impl Model for Nodes {
 
     ghost Value = { List NodeSlot };
 
+    ghost use Rattle.tp_world.specs.Nodes.{ArePlaced};
+
     ghost view = { λ s. s.items.items };
+
+    ghost invariant = { ArePlaced };
 }
 
 impl Nodes {
@@ -41,6 +47,7 @@ impl Nodes {
     {
         Nodes {
             items: Vec::new(alloc),
+            places: HashMap::new(alloc),
         }
     }
 
@@ -66,12 +73,22 @@ impl Nodes {
         &self.items[place]
     }
 
+    // The place of the node of that number; after all where there is none.
+    fn place_of(&self, number: u16) -> usize
+        ensures { result ≡ place_of_number self.now number }
+    {
+        match self.places.get(&number) {
+            Some(place) => *place,
+            None => self.items.len(),
+        }
+    }
+
     /// The address of the node of that number.
     #[tactic(auto, using(crate::proofs::Numbers::found_at, crate::proofs::Numbers::found_not))]
     pub(crate) fn addr(&self, number: u16) -> Option<Addr>
         ensures { result ≡ address_at self.now number }
     {
-        let place = place_of(self.items.as_slice(), number);
+        let place = self.place_of(number);
         if place >= self.items.len() {
             return None;
         }
@@ -87,6 +104,9 @@ impl Nodes {
     ) -> Result<(), NoMemory>
         ensures { OnOk result ((x : NodeSlot) × IsDeclared addr superior x × (self.new ≡ self.old ++ x ∷ [])) }
     {
+        let place = self.count();
+        self.items.reserve(1)?;
+        note(&mut self.places, addr.node, place)?;
         self.items.push(NodeSlot {
             addr,
             superior,
@@ -100,7 +120,7 @@ impl Nodes {
     pub(crate) fn step(&mut self, number: u16, step: &Step) -> Result<(), NoMemory>
         ensures { OnOk result (AreStepped number step.now self.old self.new) }
     {
-        let place = place_of(self.items.as_slice(), number);
+        let place = self.place_of(number);
         if place >= self.items.len() {
             return Ok(());
         }
@@ -108,17 +128,16 @@ impl Nodes {
     }
 }
 
-// The place of the node of that number; after all where there is none.
-#[tactic(auto, using(crate::proofs::Numbers::place_next, crate::proofs::Numbers::place_here))]
-fn place_of(nodes: &[NodeSlot], number: u16) -> usize
-    ensures { result ≡ place_of_number nodes.now number }
+// The place of a number is put into the table, where it has none.
+fn note(places: &mut HashMap<u16, usize>, number: u16, place: usize) -> Result<(), NoMemory>
+    ensures ok { OnOk result (IsNoted places.old.entries number place places.new.entries) }
+    ensures err { OnErr result (places.new.entries ≡ places.old.entries) }
 {
-    for i in 0..nodes.len() {
-        if nodes[i].addr.node == number {
-            return i;
-        }
+    if places.contains_key(&number) {
+        return Ok(());
     }
-    nodes.len()
+    places.insert(number, place)?;
+    Ok(())
 }
 
 impl NodeSlot {
