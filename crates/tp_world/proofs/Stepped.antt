@@ -1,7 +1,9 @@
 -- The parts after a step: which trees it names, and that it leaves the others alone.
-use Rattle.std.proofs.Common.{◌≡◌, ◌&&◌, ◌||◌, not, Bool, true, false, refl, ap, sym, ◌∙◌, arith, Option, Some, None, List}
+use Rattle.std.proofs.Common.{◌≡◌, ◌&&◌, ◌||◌, not, Bool, true, false, refl, ap, sym, subst, ◌∙◌, arith, Option, Some, None, List}
 use Rattle.std.specs.Prelude.{cond, Result, Ok, Err, OnOk}
-use Rattle.std.specs.Map.{lookup}
+use Rattle.std.specs.Map.{lookup, set_value}
+use Rattle.std.specs.Option.{IsSome}
+use Rattle.std.proofs.lemmas.Map.{lookup-set_value}
 use Rattle.tp_names.specs.declared.identifiers.Aaid.{Aaid}
 use Rattle.tp_names.specs.declared.outcome.Outcome.{Outcome}
 use Rattle.tp_names.specs.Same.{is_aaid}
@@ -11,7 +13,7 @@ use Rattle.tp_model.specs.declared.out_line.LogWords.{LogWords}
 use Rattle.tp_model.specs.Dialogues.{is_active, is_ready, is_rolling}
 use Rattle.tp_node.specs.declared.state.NodeTree.{NodeTree}
 use Rattle.tp_world.specs.Part.{is_in, phase_in, is_commit_of, decision_in, goes_on, has_rolled, tree_at, tree_logged, is_that, no_part, stepped}
-use Rattle.tp_world.specs.Tracks.{is_tree, tree_of, tree_either, part_at}
+use Rattle.tp_world.specs.Tracks.{is_tree, tree_of, tree_same, tree_either, tree_equivalence, part_at}
 use Rattle.tp_world.specs.declared.part.Part.{Part}
 use Rattle.tp_world.specs.declared.part.Step.{Step}
 use Rattle.tp_world.specs.declared.tracks.Tree.{Tree}
@@ -28,6 +30,52 @@ put_in old new a s p is at t = go (is_aaid t a) refl
     go : (b : Bool) → is_aaid t a ≡ b → part_at new t ≡ cond b (stepped t s (part_at old t)) (part_at old t)
     go true i = ap (λ (o : Option Part). elim o as (λ _. Part) [ None ↦ no_part | Some x ↦ x ]) (there true i) ∙ is ∙ ap (λ (u : Aaid). stepped u s (part_at old u)) (sym (aaid_same t a i))
     go false i = ap (λ (o : Option Part). elim o as (λ _. Part) [ None ↦ no_part | Some x ↦ x ]) (there false i)
+
+-- a part that is written where there was one
+pub written : (es new : List (Tree × Part)) (a : Tree) (p q : Part) → new ≡ set_value (is_tree a) es q → Some p ≡ lookup (is_tree a) es → (k : Tree) → lookup (is_tree k) new ≡ cond (is_tree a k) (Some q) (lookup (is_tree k) es)
+written es new a p q is there k =
+    ap (λ (l : List (Tree × Part)). lookup (is_tree k) l) is ∙ lookup-set_value tree_equivalence (is_tree a) (λ x y e. ap (λ z. is_tree z y) (tree_same a x e)) k q es (subst (λ (o : Option Part). IsSome o) there refl)
+
+pub part_found : (es : List (Tree × Part)) (t : Aaid) (p : Part) → Some p ≡ lookup (is_tree (tree_of t)) es → p ≡ part_at es t
+part_found es t p there = ap (λ (o : Option Part). elim o as (λ _. Part) [ None ↦ no_part | Some x ↦ x ]) there
+
+-- the first entry of a tree
+pub begun : (old new : List (Tree × Part)) (a : Aaid) (s : Step) → None ≡ lookup (is_tree (tree_of a)) old → ((t : Aaid) → part_at new t ≡ cond (is_aaid t a) (stepped t s no_part) (part_at old t)) → (t : Aaid)
+    → part_at new t ≡ cond (is_aaid t a) (stepped t s (part_at old t)) (part_at old t)
+begun old new a s none at t = at t ∙ go (is_aaid t a) refl
+  where
+    go : (b : Bool) → is_aaid t a ≡ b → cond b (stepped t s no_part) (part_at old t) ≡ cond b (stepped t s (part_at old t)) (part_at old t)
+    go true e =
+        let same : t ≡ a = aaid_same t a e in
+        ap (λ (p : Part). stepped t s p) (ap (λ (o : Option Part). elim o as (λ _. Part) [ None ↦ no_part | Some x ↦ x ]) none ∙ ap (λ (u : Aaid). part_at old u) (sym same))
+    go false e = refl
+
+-- the part that an entry gives first
+pub put_first : (old new : List (Tree × Part)) (a : Aaid) (s : Step) (p : Part) → p ≡ stepped a s no_part → ((q : Tree) → lookup (is_tree q) new ≡ cond (is_tree (tree_of a) q) (Some p) (lookup (is_tree q) old)) → (t : Aaid)
+    → part_at new t ≡ cond (is_aaid t a) (stepped t s no_part) (part_at old t)
+put_first old new a s p is at t = go (is_aaid t a) refl
+  where
+    there : (b : Bool) → is_aaid t a ≡ b → lookup (is_tree (tree_of t)) new ≡ cond b (Some p) (lookup (is_tree (tree_of t)) old)
+    there b i = at (tree_of t) ∙ ap (λ (c : Bool). cond c (Some p) (lookup (is_tree (tree_of t)) old)) (tree_either (tree_of a) (tree_of t) ∙ i)
+
+    go : (b : Bool) → is_aaid t a ≡ b → part_at new t ≡ cond b (stepped t s no_part) (part_at old t)
+    go true i = ap (λ (o : Option Part). elim o as (λ _. Part) [ None ↦ no_part | Some x ↦ x ]) (there true i) ∙ is ∙ ap (λ (u : Aaid). stepped u s no_part) (sym (aaid_same t a i))
+    go false i = ap (λ (o : Option Part). elim o as (λ _. Part) [ None ↦ no_part | Some x ↦ x ]) (there false i)
+
+-- a tree whose part was changed already, and one whose part was not
+pub already : (t u : Aaid) (done : Option Aaid) → is_that u done ≡ true → (is_aaid t u && not (is_that t done)) ≡ false
+already t u done h = go (is_aaid t u) refl
+  where
+    go : (b : Bool) → is_aaid t u ≡ b → (is_aaid t u && not (is_that t done)) ≡ false
+    go true e = ap (λ (b : Bool). b && not (is_that t done)) e ∙ ap (λ (b : Bool). not b) (ap (λ (v : Aaid). is_that v done) (aaid_same t u e) ∙ h)
+    go false e = ap (λ (b : Bool). b && not (is_that t done)) e
+
+pub once : (t u : Aaid) (done : Option Aaid) → is_that u done ≡ false → (is_aaid t u && not (is_that t done)) ≡ is_aaid t u
+once t u done h = go (is_aaid t u) refl
+  where
+    go : (b : Bool) → is_aaid t u ≡ b → (is_aaid t u && not (is_that t done)) ≡ is_aaid t u
+    go true e = ap (λ (b : Bool). b && not (is_that t done)) e ∙ ap (λ (b : Bool). not b) (ap (λ (v : Aaid). is_that v done) (aaid_same t u e) ∙ h) ∙ sym e
+    go false e = ap (λ (b : Bool). b && not (is_that t done)) e ∙ sym e
 
 -- ---- a step twice, and a step that does not name the tree
 
@@ -79,22 +127,25 @@ stepped_other t s p h i j =
 
 -- ---- at each of the trees that the step names
 
-thrice : (f : Part → Part) → ((p : Part) → f (f p) ≡ f p) → (p : Part) (a b c : Bool) → (a ≡ false → b ≡ false → c ≡ false → f p ≡ p)
-    → cond c (f (cond b (f (cond a (f p) p)) (cond a (f p) p))) (cond b (f (cond a (f p) p)) (cond a (f p) p)) ≡ f p
-thrice f again p true true true other = ap f (again p) ∙ again p
-thrice f again p true true false other = again p
+abbrev then_at : (Part → Part) → Bool → Bool → Part → Part
+then_at f a b p = cond (b && not a) (f p) p
+
+thrice : (f : Part → Part) → ((p : Part) → f (f p) ≡ f p) → (p : Part) (a b c : Bool) → (a ≡ false → b ≡ false → c ≡ false → f p ≡ p) → then_at f b c (then_at f a b (then_at f false a p)) ≡ f p
+thrice f again p true true true other = refl
+thrice f again p true true false other = refl
 thrice f again p true false true other = again p
 thrice f again p true false false other = refl
-thrice f again p false true true other = again p
+thrice f again p false true true other = refl
 thrice f again p false true false other = refl
 thrice f again p false false true other = refl
 thrice f again p false false false other = sym (other refl refl refl)
 
-pub stepped_all : (t : Aaid) (s : Step) (p p1 p2 p3 : Part) → p1 ≡ cond (is_that t (tree_at s.before)) (stepped t s p) p → p2 ≡ cond (is_that t (tree_at s.behind)) (stepped t s p1) p1
-    → p3 ≡ cond (is_that t (tree_logged s.rec)) (stepped t s p2) p2 → p3 ≡ stepped t s p
+-- where the step changes a tree's part but once
+pub stepped_all : (t : Aaid) (s : Step) (p p1 p2 p3 : Part) → p1 ≡ then_at (stepped t s) false (is_that t (tree_at s.before)) p → p2 ≡ then_at (stepped t s) (is_that t (tree_at s.before)) (is_that t (tree_at s.behind)) p1
+    → p3 ≡ then_at (stepped t s) (is_that t (tree_at s.behind)) (is_that t (tree_logged s.rec)) p2 → p3 ≡ stepped t s p
 stepped_all t s p p1 p2 p3 one two three =
     three
-    ∙ ap (λ (q : Part). cond (is_that t (tree_logged s.rec)) (stepped t s q) q) (two ∙ ap (λ (q : Part). cond (is_that t (tree_at s.behind)) (stepped t s q) q) one)
+    ∙ ap (then_at (stepped t s) (is_that t (tree_at s.behind)) (is_that t (tree_logged s.rec))) (two ∙ ap (then_at (stepped t s) (is_that t (tree_at s.before)) (is_that t (tree_at s.behind))) one)
     ∙ thrice (stepped t s) (stepped_again t s) p (is_that t (tree_at s.before)) (is_that t (tree_at s.behind)) (is_that t (tree_logged s.rec)) (stepped_other t s p)
 
 pub then_ok : {A E : Type 0} (r : Result A E) {P Q : Type 0} → (P → Q) → OnOk r P → OnOk r Q

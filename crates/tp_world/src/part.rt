@@ -1,6 +1,6 @@
 //! The part that a node has in a tree, and how an entry of its history changes it.
 ghost use Rattle.std.specs.Prelude.{◌≡◌};
-ghost use Rattle.tp_world.specs.Part.{is_in, phase_in, is_commit_of, decision_in, tree_at, tree_logged, goes_on, has_rolled, no_part, stepped, told_by_part};
+ghost use Rattle.tp_world.specs.Part.{is_in, phase_in, is_commit_of, decision_in, tree_at, tree_logged, goes_on, has_rolled, is_that, no_part, stepped, told_by_part};
 
 use tp_model::{LogWords, Phase};
 use tp_names::same::is_aaid;
@@ -88,6 +88,16 @@ pub(crate) fn tree_logged(rec: &Option<LogWords>) -> Option<Aaid>
     match rec {
         Some(LogWords::Commit { key, .. } | LogWords::Heuristic { key, .. }) => Some(key.aaid),
         _ => None,
+    }
+}
+
+/// It is that tree.
+pub(crate) fn is_that(tree: &Aaid, other: &Option<Aaid>) -> bool
+    ensures { result ≡ is_that tree.now other.now }
+{
+    match other {
+        Some(other) => is_aaid(tree, other),
+        None => false,
     }
 }
 

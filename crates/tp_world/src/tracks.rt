@@ -1,14 +1,14 @@
 //! The parts that one node has in trees.
-ghost use Rattle.std.specs.Prelude.{◌≡◌, cond, OnOk};
+ghost use Rattle.std.specs.Prelude.{◌≡◌, ◌&&◌, not, cond, OnOk};
 ghost use Rattle.std.specs.Cmp.{partial_equiv_from_equiv};
 ghost use Rattle.std.proofs.Common.{ap};
-ghost use Rattle.tp_names.specs.contracts.identifiers.AaidHash.TheImpl as trees;
+ghost use Rattle.tp_names.specs.contracts.identifiers.MarkHash.TheImpl as marks;
 ghost use Rattle.tp_names.specs.declared.identifiers.Aaid.{Aaid as AaidValue};
 ghost use Rattle.tp_names.specs.Same.{is_aaid};
 ghost use Rattle.tp_world.specs.Part.{no_part, stepped, is_that};
 ghost use Rattle.tp_world.specs.Tracks.{is_tree, tree_same, tree_equivalence, part_at};
 
-use crate::part::{Part, Step, tree_at, tree_logged};
+use crate::part::{Part, Step, is_that, tree_at, tree_logged};
 use std::alloc::Global;
 use std::collections::HashMap;
 use std::hash::{Hash, Hasher};
@@ -36,13 +36,14 @@ impl Eq for Tree {
     ghost laws = { tree_equivalence };
 }
 
+// Few trees have the same mark: a tree is hashed by its mark alone.
 impl Hash for Tree {
-    ghost hash_input = { λ t. trees.ghosts.hash_input t.aaid };
+    ghost hash_input = { λ t. marks.ghosts.hash_input t.aaid.mark };
 
-    ghost respects_eq = { λ a b same. ap (λ t. trees.ghosts.hash_input t.aaid) (tree_same a b same) };
+    ghost respects_eq = { λ a b same. ap (λ t. marks.ghosts.hash_input t.aaid.mark) (tree_same a b same) };
 
     fn hash<H: Hasher>(&self, state: &mut H) {
-        self.aaid.hash(state);
+        self.aaid.mark.hash(state);
     }
 }
 
@@ -83,31 +84,62 @@ impl Tracks {
         }
     }
 
+    // The part in that tree after the first entry that changes it.
+    fn start(&mut self, tree: Tree, step: &Step) -> Result<(), NoMemory>
+        ensures { OnOk result ((t : AaidValue) → part_at self.new t ≡ cond (is_aaid t tree.aaid) (stepped t step.now no_part) (part_at self.old t)) }
+    {
+        let part = Part::NONE.stepped(&tree.aaid, step);
+        self.parts.insert(tree, part)?;
+        Ok(())
+    }
+
     // The part in that tree after an entry.
     fn step_in(&mut self, tree: &Aaid, step: &Step) -> Result<(), NoMemory>
         ensures { OnOk result ((t : AaidValue) → part_at self.new t ≡ cond (is_aaid t tree.now) (stepped t step.now (part_at self.old t)) (part_at self.old t)) }
     {
-        let part = self.part(tree).stepped(tree, step);
-        self.parts.insert(Tree { aaid: *tree }, part)?;
-        Ok(())
+        let tree = Tree { aaid: *tree };
+        match self.parts.get_mut(&tree) {
+            Some(part) => {
+                *part = part.stepped(&tree.aaid, step);
+                Ok(())
+            }
+            None => self.start(tree, step),
+        }
+    }
+
+    // The part in that tree after an entry, unless the entry changed it already.
+    fn step_once(&mut self, tree: &Aaid, done: &Option<Aaid>, step: &Step) -> Result<(), NoMemory>
+        ensures { OnOk result ((t : AaidValue) → part_at self.new t ≡ cond (is_aaid t tree.now && not (is_that t done.now)) (stepped t step.now (part_at self.old t)) (part_at self.old t)) }
+    {
+        if is_that(tree, done) {
+            return Ok(());
+        }
+        self.step_in(tree, step)
     }
 
     // The part in that tree after an entry, where there is one.
-    fn step_at(&mut self, tree: Option<Aaid>, step: &Step) -> Result<(), NoMemory>
-        ensures { OnOk result ((t : AaidValue) → part_at self.new t ≡ cond (is_that t tree) (stepped t step.now (part_at self.old t)) (part_at self.old t)) }
+    fn step_at(
+        &mut self,
+        tree: &Option<Aaid>,
+        done: &Option<Aaid>,
+        step: &Step,
+    ) -> Result<(), NoMemory>
+        ensures { OnOk result ((t : AaidValue) → part_at self.new t ≡ cond (is_that t tree.now && not (is_that t done.now)) (stepped t step.now (part_at self.old t)) (part_at self.old t)) }
     {
         match tree {
-            Some(tree) => self.step_in(&tree, step),
+            Some(tree) => self.step_once(tree, done, step),
             None => Ok(()),
         }
     }
 
-    /// The parts after an entry, which speaks of at most three trees.
+    /// The parts after an entry, which speaks of at most three trees, mostly one.
     pub(crate) fn step(&mut self, step: &Step) -> Result<(), NoMemory>
         ensures { OnOk result ((t : AaidValue) → part_at self.new t ≡ stepped t step.now (part_at self.old t)) }
     {
-        self.step_at(tree_at(&step.before), step)?;
-        self.step_at(tree_at(&step.behind), step)?;
-        self.step_at(tree_logged(&step.rec), step)
+        let before = tree_at(&step.before);
+        let behind = tree_at(&step.behind);
+        self.step_at(&before, &None, step)?;
+        self.step_at(&behind, &before, step)?;
+        self.step_at(&tree_logged(&step.rec), &behind, step)
     }
 }
