@@ -44,6 +44,10 @@ closing_line_at t xs = elim (some_told_at Outcome.Commit t xs && some_told_at Ou
   | false ↦ agreed_line_at t xs
 ]
 
+-- the same, where neither outcome was told to all
+abbrev pub differing_line_at : Aaid → List NodeSlot → OutLine
+differing_line_at t xs = elim (some_told_at Outcome.Commit t xs && some_told_at Outcome.Rollback t xs) [ true ↦ OutLine.Mixed t (deciders_at t xs) | false ↦ OutLine.Open t ]
+
 -- of each tree
 abbrev pub closing_at : List NodeSlot → List Aaid → List OutLine
 closing_at xs [] = []

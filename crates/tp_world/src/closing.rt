@@ -2,7 +2,7 @@
 ghost use Rattle.std.specs.Prelude.{◌≡◌, IfOk};
 ghost use Rattle.tp_model.specs.World.{World as WorldValue};
 ghost use Rattle.tp_model.specs.Trees.{closing, is_told};
-ghost use Rattle.tp_world.specs.Told.{stays_in, some_told_at, all_told_at, decides_in, deciders_at, agreed_line_at, closing_line_at, closing_at};
+ghost use Rattle.tp_world.specs.Told.{stays_in, some_told_at, all_told_at, decides_in, deciders_at, differing_line_at, closing_line_at, closing_at};
 ghost use Rattle.tp_world.specs.World.{Stands};
 
 use crate::ground::Ground;
@@ -80,30 +80,33 @@ fn deciders(alloc: Global, tree: &Aaid, nodes: &[NodeSlot]) -> Result<NodeNumber
     Ok(numbers)
 }
 
-// The line where nobody differs.
-fn agreed_line(tree: &Aaid, nodes: &[NodeSlot]) -> OutLine
-    ensures { result ≡ agreed_line_at tree.now nodes.now }
+// The line where neither outcome was told to all.
+fn differing_line(alloc: Global, tree: &Aaid, nodes: &[NodeSlot]) -> Result<OutLine, NoMemory>
+    ensures { IfOk result (λ line. line ≡ differing_line_at tree.now nodes.now) }
+{
+    let aaid = *tree;
+    if some_told(Outcome::Commit, tree, nodes) && some_told(Outcome::Rollback, tree, nodes) {
+        let by = deciders(alloc, tree, nodes)?;
+        return Ok(OutLine::Mixed { aaid, by });
+    }
+    Ok(OutLine::Open { aaid })
+}
+
+// Where all are told one outcome, as mostly, nothing else is asked.
+#[tactic(auto, using(crate::proofs::ToldAt::committed_line, crate::proofs::ToldAt::rolled_line, crate::proofs::ToldAt::other_line))]
+fn closing_line(alloc: Global, tree: &Aaid, nodes: &[NodeSlot]) -> Result<OutLine, NoMemory>
+    ensures { IfOk result (λ line. line ≡ closing_line_at tree.now nodes.now) }
 {
     let aaid = *tree;
     if all_told(Outcome::Commit, tree, nodes) {
         let outcome = Outcome::Commit;
-        return OutLine::Agreed { aaid, outcome };
+        return Ok(OutLine::Agreed { aaid, outcome });
     }
     if all_told(Outcome::Rollback, tree, nodes) {
         let outcome = Outcome::Rollback;
-        return OutLine::Agreed { aaid, outcome };
+        return Ok(OutLine::Agreed { aaid, outcome });
     }
-    OutLine::Open { aaid }
-}
-
-fn closing_line(alloc: Global, tree: &Aaid, nodes: &[NodeSlot]) -> Result<OutLine, NoMemory>
-    ensures { IfOk result (λ line. line ≡ closing_line_at tree.now nodes.now) }
-{
-    if some_told(Outcome::Commit, tree, nodes) && some_told(Outcome::Rollback, tree, nodes) {
-        let by = deciders(alloc, tree, nodes)?;
-        return Ok(OutLine::Mixed { aaid: *tree, by });
-    }
-    Ok(agreed_line(tree, nodes))
+    differing_line(alloc, tree, nodes)
 }
 
 // One line for each of the trees.
