@@ -1,93 +1,38 @@
--- A kept transaction at its place in the list.
-use Rattle.std.proofs.Common.{◌≡◌, ◌≤◌, ◌<◌, suc, Bool, true, false, List, [], ◌∷◌, ◌++◌, length, take, drop, refl, ap, sym, ◌∙◌, arith}
-use Rattle.std.specs.Prelude.{slice_index_or, slice_set, nat_lt}
-use Rattle.std.specs.Option.{is_some}
-use Rattle.std.specs.Prelude.{Some, None, ◌||◌}
+-- The list of kept transactions: one put in the place of its key, one taken away, one found, and the one at a place.
+use Rattle.std.proofs.Common.{◌≡◌, ◌≤◌, ◌<◌, ℕ, ◌+◌, zero, suc, Bool, true, false, Option, Some, None, List, [], ◌∷◌, ◌++◌, length, drop, refl, ap, sym, subst, ◌∙◌, arith}
+use Rattle.std.specs.Prelude.{slice_get, ◌||◌, if◌then◌else◌}
 use Rattle.tp_names.specs.declared.outcome.Outcome.{Outcome}
-use Rattle.tp_model.specs.declared.recovery.KeptEvent.{KeptEvent}
-use Rattle.std.proofs.lemmas.Bool.Decides.{nat_tests}
 use Rattle.tp_names.specs.declared.identifiers.NodeKey.{NodeKey}
 use Rattle.tp_names.specs.Same.{is_key}
+use Rattle.tp_names.proofs.Sames.{key_same}
 use Rattle.tp_model.specs.declared.recovery.Kept.{Kept}
+use Rattle.tp_model.specs.declared.recovery.KeptEvent.{KeptEvent}
 use Rattle.tp_model.specs.Recovery.{is_commit, noted, find_kept, with_forget, put_kept, without_kept}
-use Rattle.tp_node.specs.Node.{place_of_key}
+use Rattle.tp_node.specs.Kept.{place_of_key, with_kept}
 
-pub put_behind : (ks : List Kept) (k : Kept) → length ks ≤ place_of_key ks k.key → ks ++ k ∷ [] ≡ put_kept ks k
-put_behind [] k h = refl
-put_behind (x ∷ ks) k h = go (is_key x.key k.key) refl (put_behind ks k)
-  where
-    go : (b : Bool) → is_key x.key k.key ≡ b → (length ks ≤ place_of_key ks k.key → ks ++ k ∷ [] ≡ put_kept ks k) → (x ∷ ks) ++ k ∷ [] ≡ put_kept (x ∷ ks) k
-    go true e rest = absurd (let zero_place : place_of_key (x ∷ ks) k.key ≡ 0 = grind (arith, e) in omega (arith, zero_place, h))
-    go false e rest = let one_more : place_of_key (x ∷ ks) k.key ≡ suc (place_of_key ks k.key) = grind (arith, e) in let tail : ks ++ k ∷ [] ≡ put_kept ks k = rest (omega (arith, one_more, h)) in grind (arith, e, tail)
+-- ---- one more that is kept
 
-pub put_there : (ks : List Kept) (k d : Kept) → place_of_key ks k.key < length ks → slice_set ks (place_of_key ks k.key) (record k { forgot = (slice_index_or ks (place_of_key ks k.key) d).forgot }) ≡ put_kept ks k
-put_there [] k d h = absurd (omega arith)
-put_there (x ∷ ks) k d h = go (is_key x.key k.key) refl (put_there ks k d)
-  where
-    go : (b : Bool) → is_key x.key k.key ≡ b → (place_of_key ks k.key < length ks → slice_set ks (place_of_key ks k.key) (record k { forgot = (slice_index_or ks (place_of_key ks k.key) d).forgot }) ≡ put_kept ks k)
-        → slice_set (x ∷ ks) (place_of_key (x ∷ ks) k.key) (record k { forgot = (slice_index_or (x ∷ ks) (place_of_key (x ∷ ks) k.key) d).forgot }) ≡ put_kept (x ∷ ks) k
-    go true e rest = grind (arith, e)
-    go false e rest = let one_more : place_of_key (x ∷ ks) k.key ≡ suc (place_of_key ks k.key) = grind (arith, e) in let tail = rest (omega (arith, one_more, h)) in grind (arith, e, tail)
+pub put_new : (ks : List Kept) (k : Kept) → find_kept ks k.key ≡ None → with_kept ks k ≡ put_kept ks k
+put_new [] k h = refl
+put_new (x ∷ ks) k h = grind (arith, h, put_new ks k)
 
-pub removed_not : (ks : List Kept) (k : NodeKey) → length ks ≤ place_of_key ks k → ks ≡ without_kept ks k
-removed_not [] k h = refl
-removed_not (x ∷ ks) k h = go (is_key x.key k) refl (removed_not ks k)
-  where
-    go : (b : Bool) → is_key x.key k ≡ b → (length ks ≤ place_of_key ks k → ks ≡ without_kept ks k) → x ∷ ks ≡ without_kept (x ∷ ks) k
-    go true e rest = absurd (let zero_place : place_of_key (x ∷ ks) k ≡ 0 = grind (arith, e) in omega (arith, zero_place, h))
-    go false e rest = let one_more : place_of_key (x ∷ ks) k ≡ suc (place_of_key ks k) = grind (arith, e) in let tail : ks ≡ without_kept ks k = rest (omega (arith, one_more, h)) in ap (λ l. x ∷ l) tail ∙ grind (arith, e)
-
-pub removed_there : (ks : List Kept) (k : NodeKey) → place_of_key ks k < length ks → take (place_of_key ks k) ks ++ drop (suc (place_of_key ks k)) ks ≡ without_kept ks k
-removed_there [] k h = absurd (omega arith)
-removed_there (x ∷ ks) k h = go (is_key x.key k) refl (removed_there ks k)
-  where
-    go : (b : Bool) → is_key x.key k ≡ b → (place_of_key ks k < length ks → take (place_of_key ks k) ks ++ drop (suc (place_of_key ks k)) ks ≡ without_kept ks k)
-        → take (place_of_key (x ∷ ks) k) (x ∷ ks) ++ drop (suc (place_of_key (x ∷ ks) k)) (x ∷ ks) ≡ without_kept (x ∷ ks) k
-    go true e rest = grind (arith, e)
-    go false e rest = let one_more : place_of_key (x ∷ ks) k ≡ suc (place_of_key ks k) = grind (arith, e) in let tail = rest (omega (arith, one_more, h)) in grind (arith, e, tail)
-
-pub found_there : (ks : List Kept) (k : NodeKey) → nat_lt (place_of_key ks k) (length ks) ≡ is_some (find_kept ks k)
-found_there [] k = refl
-found_there (x ∷ ks) k = go (is_key x.key k) refl (found_there ks k)
-  where
-    go : (b : Bool) → is_key x.key k ≡ b → nat_lt (place_of_key ks k) (length ks) ≡ is_some (find_kept ks k) → nat_lt (place_of_key (x ∷ ks) k) (length (x ∷ ks)) ≡ is_some (find_kept (x ∷ ks) k)
-    go true e rest = grind (arith, nat_tests, e)
-    go false e rest = grind (arith, nat_tests, e, rest)
-
-pub found_not : (ks : List Kept) (k : NodeKey) → length ks ≤ place_of_key ks k → find_kept ks k ≡ None
-found_not [] k h = refl
-found_not (x ∷ ks) k h = go (is_key x.key k) refl (found_not ks k)
-  where
-    go : (b : Bool) → is_key x.key k ≡ b → (length ks ≤ place_of_key ks k → find_kept ks k ≡ None) → find_kept (x ∷ ks) k ≡ None
-    go true e rest = absurd (let zero_place : place_of_key (x ∷ ks) k ≡ 0 = grind (arith, e) in omega (arith, zero_place, h))
-    go false e rest = let one_more : place_of_key (x ∷ ks) k ≡ suc (place_of_key ks k) = grind (arith, e) in let tail : find_kept ks k ≡ None = rest (omega (arith, one_more, h)) in grind (arith, e, tail)
-
-pub found_at : (ks : List Kept) (k : NodeKey) (d : Kept) → place_of_key ks k < length ks → find_kept ks k ≡ Some (slice_index_or ks (place_of_key ks k) d)
-found_at [] k d h = absurd (omega arith)
-found_at (x ∷ ks) k d h = go (is_key x.key k) refl (found_at ks k d)
-  where
-    go : (b : Bool) → is_key x.key k ≡ b → (place_of_key ks k < length ks → find_kept ks k ≡ Some (slice_index_or ks (place_of_key ks k) d)) → find_kept (x ∷ ks) k ≡ Some (slice_index_or (x ∷ ks) (place_of_key (x ∷ ks) k) d)
-    go true e rest = grind (arith, e)
-    go false e rest = let tail : find_kept ks k ≡ Some (slice_index_or ks (place_of_key ks k) d) = rest (let one_more : place_of_key (x ∷ ks) k ≡ suc (place_of_key ks k) = grind (arith, e) in omega (arith, one_more, h)) in grind (arith, e, tail)
+pub put_again : (ks : List Kept) (k o : Kept) → find_kept ks k.key ≡ Some o → with_kept ks (record k { forgot = o.forgot }) ≡ put_kept ks k
+put_again [] k o h = absurd (cc)
+put_again (x ∷ ks) k o h = grind (arith, h, put_again ks k o)
 
 -- ---- Forget is noted
 
-pub noted_not : (ks : List Kept) (k : NodeKey) (f : Kept → Kept) → length ks ≤ place_of_key ks k → with_forget ks k f ≡ ks
+pub noted_not : (ks : List Kept) (k : NodeKey) (f : Kept → Kept) → find_kept ks k ≡ None → with_forget ks k f ≡ ks
 noted_not [] k f h = refl
-noted_not (x ∷ ks) k f h = go (is_key x.key k) refl (noted_not ks k f)
-  where
-    go : (b : Bool) → is_key x.key k ≡ b → (length ks ≤ place_of_key ks k → with_forget ks k f ≡ ks) → with_forget (x ∷ ks) k f ≡ x ∷ ks
-    go true e rest = absurd (let zero_place : place_of_key (x ∷ ks) k ≡ 0 = grind (arith, e) in omega (arith, zero_place, h))
-    go false e rest = let one_more : place_of_key (x ∷ ks) k ≡ suc (place_of_key ks k) = grind (arith, e) in let tail : with_forget ks k f ≡ ks = rest (omega (arith, one_more, h)) in grind (arith, e, tail)
+noted_not (x ∷ ks) k f h = grind (arith, h, noted_not ks k f)
 
-pub noted_at : (ks : List Kept) (k : NodeKey) (f : Kept → Kept) (d : Kept) → place_of_key ks k < length ks → with_forget ks k f ≡ slice_set ks (place_of_key ks k) (f (slice_index_or ks (place_of_key ks k) d))
-noted_at [] k f d h = absurd (omega arith)
-noted_at (x ∷ ks) k f d h = go (is_key x.key k) refl (noted_at ks k f d)
+found_key : (ks : List Kept) (k : NodeKey) (o : Kept) → find_kept ks k ≡ Some o → is_key o.key k ≡ true
+found_key [] k o h = absurd (cc)
+found_key (x ∷ ks) k o h = go (is_key x.key k) refl (found_key ks k o)
   where
-    go : (b : Bool) → is_key x.key k ≡ b → (place_of_key ks k < length ks → with_forget ks k f ≡ slice_set ks (place_of_key ks k) (f (slice_index_or ks (place_of_key ks k) d)))
-        → with_forget (x ∷ ks) k f ≡ slice_set (x ∷ ks) (place_of_key (x ∷ ks) k) (f (slice_index_or (x ∷ ks) (place_of_key (x ∷ ks) k) d))
-    go true e rest = grind (arith, e)
-    go false e rest = let tail : with_forget ks k f ≡ slice_set ks (place_of_key ks k) (f (slice_index_or ks (place_of_key ks k) d)) = rest (let one_more : place_of_key (x ∷ ks) k ≡ suc (place_of_key ks k) = grind (arith, e) in omega (arith, one_more, h)) in grind (arith, e, tail)
+    go : (b : Bool) → is_key x.key k ≡ b → (find_kept ks k ≡ Some o → is_key o.key k ≡ true) → is_key o.key k ≡ true
+    go true e rest = let found : find_kept (x ∷ ks) k ≡ Some x = grind (arith, e) in let same : Some x ≡ Some o = sym found ∙ h in grind (arith, e, same)
+    go false e rest = rest (let same : find_kept (x ∷ ks) k ≡ find_kept ks k = grind (arith, e) in sym same ∙ h)
 
 noted_is : (x : Kept) → noted x KeptEvent.Forget ≡ record x { forgot = is_commit x.side || x.forgot }
 noted_is x = go x.side refl
@@ -96,6 +41,129 @@ noted_is x = go x.side refl
     go Outcome.Commit e = grind (arith, e)
     go Outcome.Rollback e = grind (arith, e)
 
-pub noted_there : (ks : List Kept) (k : NodeKey) (d : Kept) → place_of_key ks k < length ks
-    → slice_set ks (place_of_key ks k) (record (slice_index_or ks (place_of_key ks k) d) { forgot = is_commit (slice_index_or ks (place_of_key ks k) d).side || (slice_index_or ks (place_of_key ks k) d).forgot }) ≡ with_forget ks k (λ x. noted x KeptEvent.Forget)
-noted_there ks k d h = sym (noted_at ks k (λ x. noted x KeptEvent.Forget) d h ∙ ap (slice_set ks (place_of_key ks k)) (noted_is (slice_index_or ks (place_of_key ks k) d)))
+noted_at : (ks : List Kept) (k : Kept) (o : Kept) (f : Kept → Kept) → find_kept ks k.key ≡ Some o → f o ≡ k → with_kept ks k ≡ with_forget ks k.key f
+noted_at [] k o f h e = absurd (cc)
+noted_at (x ∷ ks) k o f h is = go (is_key x.key k.key) refl (noted_at ks k o f)
+  where
+    go : (b : Bool) → is_key x.key k.key ≡ b → (find_kept ks k.key ≡ Some o → f o ≡ k → with_kept ks k ≡ with_forget ks k.key f) → with_kept (x ∷ ks) k ≡ with_forget (x ∷ ks) k.key f
+    go true e rest = let found : find_kept (x ∷ ks) k.key ≡ Some x = grind (arith, e) in let same : Some x ≡ Some o = sym found ∙ h in grind (arith, e, same, is)
+    go false e rest = let tail : with_kept ks k ≡ with_forget ks k.key f = rest (let same : find_kept (x ∷ ks) k.key ≡ find_kept ks k.key = grind (arith, e) in sym same ∙ h) is in grind (arith, e, tail)
+
+pub noted_there : (ks : List Kept) (k : NodeKey) (o : Kept) → find_kept ks k ≡ Some o → with_kept ks (record o { forgot = is_commit o.side || o.forgot }) ≡ with_forget ks k (λ x. noted x KeptEvent.Forget)
+noted_there ks k o h =
+    let same : o.key ≡ k = key_same o.key k (found_key ks k o h) in
+    let n : Kept = record o { forgot = is_commit o.side || o.forgot } in
+    noted_at ks n o (λ x. noted x KeptEvent.Forget) (ap (find_kept ks) same ∙ h) (noted_is o)
+    ∙ ap (λ (q : NodeKey). with_forget ks q (λ x. noted x KeptEvent.Forget)) same
+
+-- ---- one change over another of the same key
+
+pub put_put : (ks : List Kept) (k l : Kept) → is_key k.key l.key ≡ true → with_kept ks l ≡ with_kept (with_kept ks k) l
+put_put [] k l h = grind (arith, h)
+put_put (x ∷ ks) k l h = let same = ap (is_key x.key) (key_same k.key l.key h) in grind (arith, h, same, put_put ks k l h)
+
+pub put_removed : (ks : List Kept) (k : Kept) (q : NodeKey) → is_key k.key q ≡ true → without_kept ks q ≡ without_kept (with_kept ks k) q
+put_removed [] k q h = grind (arith, h)
+put_removed (x ∷ ks) k q h = let same = ap (is_key x.key) (key_same k.key q h) in grind (arith, h, same, put_removed ks k q h)
+
+-- ---- lengths
+
+pub put_same : (ks : List Kept) (k : Kept) → place_of_key ks k.key < length ks → length (with_kept ks k) ≡ length ks
+put_same [] k h = absurd (omega (arith, h))
+put_same (x ∷ ks) k h = grind (arith, h, put_same ks k)
+
+pub put_longer : (ks : List Kept) (k : Kept) → length ks ≤ place_of_key ks k.key → length (with_kept ks k) ≡ suc (length ks)
+put_longer [] k h = refl
+put_longer (x ∷ ks) k h = grind (arith, h, put_longer ks k)
+
+pub removed_shorter : (ks : List Kept) (q : NodeKey) → place_of_key ks q < length ks → suc (length (without_kept ks q)) ≡ length ks
+removed_shorter [] q h = absurd (omega (arith, h))
+removed_shorter (x ∷ ks) q h = grind (arith, h, removed_shorter ks q)
+
+pub removed_same : (ks : List Kept) (q : NodeKey) → length ks ≤ place_of_key ks q → length (without_kept ks q) ≡ length ks
+removed_same [] q h = refl
+removed_same (x ∷ ks) q h = grind (arith, h, removed_same ks q)
+
+-- ---- the one at a place
+
+pub put_here : (ks : List Kept) (k : Kept) → slice_get (with_kept ks k) (place_of_key ks k.key) ≡ Some k
+put_here [] k = refl
+put_here (x ∷ ks) k = go (is_key x.key k.key) refl (put_here ks k)
+  where
+    at : Bool → Option Kept
+    at b = slice_get (if b then k ∷ ks else x ∷ with_kept ks k) (if b then 0 else suc (place_of_key ks k.key))
+
+    go : (b : Bool) → is_key x.key k.key ≡ b → slice_get (with_kept ks k) (place_of_key ks k.key) ≡ Some k → at (is_key x.key k.key) ≡ Some k
+    go true e rest = ap at e
+    go false e rest = ap at e ∙ rest
+
+pub put_else : (ks : List Kept) (k : Kept) (i : ℕ) → (i ≡ place_of_key ks k.key → ⊥) → slice_get (with_kept ks k) i ≡ slice_get ks i
+put_else [] k zero n = absurd (n refl)
+put_else [] k (suc i) n = refl
+put_else (x ∷ ks) k i n = go (is_key x.key k.key) refl i n (put_else ks k)
+  where
+    at : Bool → ℕ → Option Kept
+    at b j = slice_get (if b then k ∷ ks else x ∷ with_kept ks k) j
+
+    other : Bool → ℕ → Type 0
+    other b j = j ≡ (if b then 0 else suc (place_of_key ks k.key)) → ⊥
+
+    go : (b : Bool) → is_key x.key k.key ≡ b → (j : ℕ) → other (is_key x.key k.key) j → ((l : ℕ) → (l ≡ place_of_key ks k.key → ⊥) → slice_get (with_kept ks k) l ≡ slice_get ks l) → at (is_key x.key k.key) j ≡ slice_get (x ∷ ks) j
+    go true e zero m rest = absurd (subst (λ b. other b zero) e m refl)
+    go true e (suc j) m rest = ap (λ b. at b (suc j)) e
+    go false e zero m rest = ap (λ b. at b zero) e
+    go false e (suc j) m rest = ap (λ b. at b (suc j)) e ∙ rest j (λ same. subst (λ b. other b (suc j)) e m (ap suc same))
+
+pub removed_before : (ks : List Kept) (q : NodeKey) (i : ℕ) → i < place_of_key ks q → slice_get (without_kept ks q) i ≡ slice_get ks i
+removed_before [] q i h = refl
+removed_before (x ∷ ks) q i h = go (is_key x.key q) refl i h (removed_before ks q)
+  where
+    at : Bool → ℕ → Option Kept
+    at b j = slice_get (if b then ks else x ∷ without_kept ks q) j
+
+    less : Bool → ℕ → Type 0
+    less b j = j < (if b then 0 else suc (place_of_key ks q))
+
+    go : (b : Bool) → is_key x.key q ≡ b → (j : ℕ) → less (is_key x.key q) j → ((l : ℕ) → l < place_of_key ks q → slice_get (without_kept ks q) l ≡ slice_get ks l) → at (is_key x.key q) j ≡ slice_get (x ∷ ks) j
+    go true e j m rest = absurd (let none : j < 0 = subst (λ b. less b j) e m in omega (arith, none))
+    go false e zero m rest = ap (λ b. at b zero) e
+    go false e (suc j) m rest = let one : suc j < suc (place_of_key ks q) = subst (λ b. less b (suc j)) e m in ap (λ b. at b (suc j)) e ∙ rest j (omega (arith, one))
+
+pub removed_after : (ks : List Kept) (q : NodeKey) (i : ℕ) → place_of_key ks q ≤ i → slice_get (without_kept ks q) i ≡ slice_get ks (suc i)
+removed_after [] q i h = refl
+removed_after (x ∷ ks) q i h = go (is_key x.key q) refl i h (removed_after ks q)
+  where
+    at : Bool → ℕ → Option Kept
+    at b j = slice_get (if b then ks else x ∷ without_kept ks q) j
+
+    most : Bool → ℕ → Type 0
+    most b j = (if b then 0 else suc (place_of_key ks q)) ≤ j
+
+    go : (b : Bool) → is_key x.key q ≡ b → (j : ℕ) → most (is_key x.key q) j → ((l : ℕ) → place_of_key ks q ≤ l → slice_get (without_kept ks q) l ≡ slice_get ks (suc l)) → at (is_key x.key q) j ≡ slice_get (x ∷ ks) (suc j)
+    go true e j m rest = ap (λ b. at b j) e
+    go false e zero m rest = absurd (let none : suc (place_of_key ks q) ≤ 0 = subst (λ b. most b zero) e m in omega (arith, none))
+    go false e (suc j) m rest = let one : suc (place_of_key ks q) ≤ suc j = subst (λ b. most b (suc j)) e m in ap (λ b. at b (suc j)) e ∙ rest j (omega (arith, one))
+
+pub none_past : (ks : List Kept) (i : ℕ) → length ks ≤ i → slice_get ks (suc i) ≡ None
+none_past [] i h = refl
+none_past (x ∷ ks) zero h = absurd (omega (arith, h))
+none_past (x ∷ ks) (suc i) h = none_past ks i (omega (arith, h))
+
+-- the list from a place on
+pub from_place : (ks : List Kept) (i : ℕ) (x : Kept) → Some x ≡ slice_get ks i → drop i ks ≡ x ∷ drop (i + 1) ks
+from_place [] i x h = absurd (cc)
+from_place (y ∷ ks) zero x h = grind (arith, h)
+from_place (y ∷ ks) (suc i) x h = from_place ks i x h ∙ ap (λ (n : ℕ). x ∷ drop n (y ∷ ks)) (let same : suc (i + 1) ≡ suc i + 1 = omega arith in same)
+
+more_behind : (xs : List Kept) (y : Kept) (zs : List Kept) → (xs ++ y ∷ []) ++ zs ≡ xs ++ y ∷ zs
+more_behind [] y zs = refl
+more_behind (x ∷ xs) y zs = ap (λ (l : List Kept). x ∷ l) (more_behind xs y zs)
+
+-- one more of them is copied
+pub copied_more : (ks done new : List Kept) (i : ℕ) (x y : Kept) → new ≡ done ++ y ∷ [] → y ≡ x → Some x ≡ slice_get ks i → done ++ drop i ks ≡ ks → new ++ drop (i + 1) ks ≡ ks
+copied_more ks done new i x y made same at before =
+    ap (λ (l : List Kept). l ++ drop (i + 1) ks) made
+    ∙ more_behind done y (drop (i + 1) ks)
+    ∙ ap (λ (z : Kept). done ++ z ∷ drop (i + 1) ks) same
+    ∙ ap (λ (l : List Kept). done ++ l) (sym (from_place ks i x at))
+    ∙ before

@@ -2,6 +2,7 @@ pub mod Arriving
 pub mod Beginnings
 pub mod BranchesById
 pub mod Calls
+pub mod KeptEntries
 pub mod KeptPlaces
 pub mod Linked
 pub mod Looks

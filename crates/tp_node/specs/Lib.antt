@@ -1,6 +1,8 @@
 pub mod Arcs
 pub mod Outs
 pub mod State
+pub mod Kept
+pub mod KeptTable
 pub mod Node
 pub mod Halt
 pub mod Begins

@@ -1,12 +1,9 @@
 -- One node of a site as the site keeps it, and what is known of it by the definitions. A node has arcs
 -- exactly once it is declared. What its transaction sees of its arcs is looked at anew before each event of
 -- it, and so is no part of what is kept.
-use Rattle.std.specs.Prelude.{ℕ, ◌≡◌, Bool, true, false, Option, Some, None, List, [], ◌∷◌, suc, nat_lt, if◌then◌else◌}
+use Rattle.std.specs.Prelude.{ℕ, ◌≡◌, Bool, true, false, Option, Some, None, List, [], nat_lt}
 use Rattle.std.specs.Option.{option_map}
 use Rattle.tp_names.specs.declared.identifiers.Addr.{Addr}
-use Rattle.tp_names.specs.declared.identifiers.NodeKey.{NodeKey}
-use Rattle.tp_names.specs.Same.{is_key}
-use Rattle.tp_model.specs.declared.recovery.Kept.{Kept}
 use Rattle.tp_logrec.specs.declared.record.LogRec.{LogRec}
 use Rattle.tp_logrec.specs.declared.record.LogVersion.{LogVersion}
 use Rattle.tp_model.specs.Parts.{Who, Arc, Current, Digest}
@@ -59,7 +56,7 @@ node_of v = record {
     superior = superior_in v.arcs;
     arcs = arcs_in v.arcs;
     current = option_map current_of v.current;
-    kept = v.kept.items;
+    kept = v.kept;
     drawn = v.drawn;
     boot = v.boot;
     version = v.version;
@@ -81,13 +78,6 @@ with_arcs v arcs = record v { digest = record v.digest { arcs = arcs } }
 abbrev pub refused_by : Node → ℕ → ℕ → Option Asked → Option ℕ → Option ℕ
 refused_by v p octets None others = others
 refused_by v p octets (Some asked) others = refused_at v.who v.digest p octets asked others
-
--- ---- the kept transactions
-
--- where the first with that key stands; after the others where there is none
-abbrev pub place_of_key : List Kept → NodeKey → ℕ
-place_of_key [] k = 0
-place_of_key (x ∷ xs) k = if is_key x.key k then 0 else suc (place_of_key xs k)
 
 -- ---- one arc more
 

@@ -10,6 +10,8 @@ mod arcs;
 mod event;
 mod halt;
 mod kept;
+mod kept_map;
+mod kept_table;
 mod look;
 mod named;
 mod node;

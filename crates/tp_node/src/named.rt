@@ -5,8 +5,9 @@ ghost use Rattle.tp_node.specs.Replies.{is_current_committing};
 ghost use Rattle.tp_model.specs.Recovery.{find_owed};
 ghost use Rattle.tp_model.specs.Arrivals.{branch_key, current_with, named_by_key, named_by_branch, key_of_branch, key_of_kept, kept_owing, kept_of, kept_superior, child_addr, known_of, is_current_ready};
 
+use crate::kept_table::KeptTable;
 use crate::node::Node;
-use tp_model::{Kept, Known, Phase};
+use tp_model::{Known, Phase};
 use tp_names::same::{is_aaid, is_branch};
 use tp_names::{Aaid, Addr, BranchId, Child, NodeKey};
 
@@ -134,10 +135,12 @@ impl Node {
 }
 
 // The key of the first of the tree that owes the branch.
-fn kept_owing(kept: &[Kept], aaid: &Aaid, branch: &BranchId) -> Option<NodeKey>
+#[tactic(auto, using(crate::proofs::KeptPlaces::from_place))]
+fn kept_owing(kept: &KeptTable, aaid: &Aaid, branch: &BranchId) -> Option<NodeKey>
     ensures { result ≡ kept_owing kept.now aaid.now branch.now }
 {
-    for one in kept {
+    for place in 0..kept.len() {
+        let one = kept.get(place)?;
         if is_aaid(&one.key.aaid, aaid) && find_owed(one.owed.as_slice(), branch).is_some() {
             return Some(one.key);
         }
@@ -146,10 +149,12 @@ fn kept_owing(kept: &[Kept], aaid: &Aaid, branch: &BranchId) -> Option<NodeKey>
 }
 
 // The key of the first of the tree.
-fn kept_of(kept: &[Kept], aaid: &Aaid) -> Option<NodeKey>
+#[tactic(auto, using(crate::proofs::KeptPlaces::from_place))]
+fn kept_of(kept: &KeptTable, aaid: &Aaid) -> Option<NodeKey>
     ensures { result ≡ kept_of kept.now aaid.now }
 {
-    for one in kept {
+    for place in 0..kept.len() {
+        let one = kept.get(place)?;
         if is_aaid(&one.key.aaid, aaid) {
             return Some(one.key);
         }

@@ -1,7 +1,7 @@
 //! One node of a site.
 mod origin;
 
-ghost use Rattle.std.specs.Prelude.{◌≡◌, ◌==◌, ◌&&◌, ◌||◌, not, true, [], ◌∷◌, ◌+◌, ◌++◌, nat_le, nat_lt, Option, Some, None, IfOk, IfSome, IsSome, IsTrue, OnOk, OnErr};
+ghost use Rattle.std.specs.Prelude.{◌≡◌, ◌==◌, ◌&&◌, ◌||◌, not, true, [], ◌∷◌, ◌+◌, ◌++◌, nat_le, nat_lt, slice_get, Option, Some, None, IfOk, IfSome, IsSome, IsTrue, OnOk, OnErr};
 ghost use Rattle.std.specs.Option.{option_map, option_copied, is_some};
 ghost use Rattle.tp_model.specs.Dialogues.{is_nil, is_late, asked_of, first, begun_by, cleared, woken, named_holder};
 ghost use Rattle.tp_model.specs.Links.{greatest, is_idle, is_opening_with, dropped_by, with_one_taken};
@@ -34,6 +34,7 @@ ghost use Rattle.tp_node.specs.Begins.{aaid_in, with_branch, begun_on, with_dige
 use crate::arc_step::{ArcStep, is_granting};
 use crate::arcs::Arcs;
 use crate::halt::Halt;
+use crate::kept_table::KeptTable;
 use crate::outs::Out;
 use crate::passage::Passage;
 use crate::{NodeState, NodeTree, kept, look};
@@ -60,7 +61,7 @@ pub struct Node {
     known: bool,
     arcs: Option<Arcs>,
     current: Option<Branch>,
-    kept: Vec<Kept>,
+    kept: KeptTable,
     drawn: u64,
     boot: u64,
     version: LogVersion,
@@ -105,7 +106,7 @@ impl Node {
     pub(crate) fn is_kept(&self, key: &NodeKey) -> bool
         ensures { result ≡ is_some (find_kept self.now.digest.kept key.now) }
     {
-        kept::has(self.kept.as_slice(), key)
+        self.kept.find(key).is_some()
     }
 
     /// The current transaction, where it has that key.
@@ -129,34 +130,52 @@ impl Node {
     }
 
     /// The kept transactions, in order.
-    pub(crate) fn all_kept(&self) -> &[Kept]
+    pub(crate) fn all_kept(&self) -> &KeptTable
         ensures { result.now ≡ self.now.digest.kept }
     {
-        self.kept.as_slice()
+        &self.kept
     }
 
     /// The kept transaction of that key.
     pub(crate) fn kept_with(&self, key: &NodeKey) -> Option<&Kept>
         ensures { option_copied result ≡ find_kept self.now.digest.kept key.now }
     {
-        kept::find(self.kept.as_slice(), key)
+        self.kept.find(key)
     }
 
     /// A copy of the kept transaction of that key.
     pub fn kept_copy(&self, alloc: Global, key: &NodeKey) -> Result<Option<Kept>, NoMemory>
         ensures { IfOk result (λ kept. kept ≡ find_kept self.now.digest.kept key.now) }
     {
-        match kept::find(self.kept.as_slice(), key) {
+        match self.kept.find(key) {
+            None => Ok(None),
+            Some(kept) => Ok(Some(kept::copy(alloc, kept)?)),
+        }
+    }
+
+    /// A copy of the oldest kept transaction.
+    pub fn oldest_kept(&self, alloc: Global) -> Result<Option<Kept>, NoMemory>
+        ensures { IfOk result (λ kept. kept ≡ slice_get self.now.digest.kept 0) }
+    {
+        match self.kept.get(0) {
             None => Ok(None),
             Some(kept) => Ok(Some(kept::copy(alloc, kept)?)),
         }
     }
 
     /// Forget is noted of the kept transaction of that key.
-    pub fn note_forget(&mut self, key: &NodeKey)
-        ensures { self.new ≡ with_digest self.old (record self.old.digest { kept = with_forget self.old.digest.kept key.now (λ x. noted x KeptEvent.Forget) }) }
+    pub fn note_forget(&mut self, alloc: Global, key: &NodeKey) -> Result<(), NoMemory>
+        ensures { OnOk result (self.new ≡ with_digest self.old (record self.old.digest { kept = with_forget self.old.digest.kept key.now (λ x. noted x KeptEvent.Forget) })) }
     {
-        kept::note_forget(&mut self.kept, key);
+        kept::note_forget(alloc, &mut self.kept, key)
+    }
+
+    /// The node has taken the place of the one of which it is a copy, and carries out what it changed of the kept
+    /// transactions that they shared. Nothing is known of it that was not.
+    pub fn settle_kept(&mut self, alloc: Global)
+        ensures { self.new ≡ self.old }
+    {
+        self.kept.settle(alloc);
     }
 
     /// Whether it has asked.
@@ -484,7 +503,7 @@ impl Node {
     pub(crate) fn refused_purge(&self) -> Option<u8>
         ensures { result ≡ refused_purge self.now.digest.kept }
     {
-        match self.kept.first() {
+        match self.kept.get(0) {
             None => Some(14),
             Some(kept) => refused_kept(kept),
         }
@@ -704,7 +723,7 @@ impl Node {
     pub fn kept(&self, alloc: Global) -> Result<Vec<Kept>, NoMemory>
         ensures { IfOk result (λ kept. kept.items ≡ self.now.digest.kept) }
     {
-        kept::copies(alloc, self.kept.as_slice())
+        kept::copies(alloc, &self.kept)
     }
 
     /// What a record of the log makes of the kept transactions.

@@ -34,7 +34,7 @@ use std::marker::Model;
 use tp_commit::{Branch, Sight};
 use tp_logrec::LogRec;
 use tp_model::{Kept, KeptEvent, Phase, Step, TxEvent, TxFault, TxOut};
-use tp_names::{Aaid, Addr, BranchId, Mark, NodeKey, Octets};
+use tp_names::{Aaid, Addr, BranchId, Mark, NoMemory, NodeKey, Octets};
 use tp_node::{ArcStep, Halt, Node, Outs, Passage, is_leaving};
 use tp_records::{DialogueRecord, Holder, Indication, PeerRecord, Request};
 use tp_recover::{owed, settle};
@@ -67,10 +67,10 @@ impl Draft {
     }
 
     /// Forget is noted of the kept transaction of that key.
-    pub(crate) fn note_forget(&mut self, key: &NodeKey)
-        ensures { self.new ≡ record self.old { move = record self.old.move { next = forgetting key.now self.old.move.next } } }
+    pub(crate) fn note_forget(&mut self, alloc: Global, key: &NodeKey) -> Result<(), NoMemory>
+        ensures { OnOk result (self.new ≡ record self.old { move = record self.old.move { next = forgetting key.now self.old.move.next } }) }
     {
-        self.node.note_forget(key);
+        self.node.note_forget(alloc, key)
     }
 
     /// An indication to the user.
@@ -580,10 +580,10 @@ impl Draft {
         requires { refused_purge self.old.move.next.kept ≡ None }
         ensures { Plays result self.old self.new (λ who. purge) }
     {
-        let kept = self.node.kept(alloc)?;
-        match kept.first() {
+        let oldest = self.node.oldest_kept(alloc)?;
+        match oldest {
             None => Ok(()),
-            Some(one) => self.settle_by(alloc, one, &KeptEvent::Purge),
+            Some(one) => self.settle_by(alloc, &one, &KeptEvent::Purge),
         }
     }
 

@@ -108,8 +108,8 @@ impl Nodes {
         Ok(())
     }
 
-    /// The node of that number takes the place of what it was. It takes no memory.
-    pub(crate) fn put(&mut self, number: u16, node: Node)
+    /// The node of that number takes the place of what it was. It fails for no want of memory.
+    pub(crate) fn put(&mut self, alloc: Global, number: u16, node: Node)
         requires there { has_node self.old number ≡ true }
         requires who { node.who ≡ who_at self.old number }
         ensures put { (n : ℕ) → digest_at self.new n ≡ cond (number == n) node.digest (digest_at self.old n) }
@@ -119,6 +119,7 @@ impl Nodes {
             return;
         };
         *place = node;
+        place.settle_kept(alloc);
     }
 
     // One more record of the node of that number.

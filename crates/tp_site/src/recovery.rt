@@ -76,7 +76,7 @@ impl Draft {
         let Some(kept) = self.node().kept_copy(alloc, key)? else {
             return Ok(());
         };
-        self.note_forget(key);
+        self.note_forget(alloc, key)?;
         self.settle_by(alloc, &kept, &KeptEvent::Forget)
     }
 

@@ -111,7 +111,7 @@ impl<K: Keeper> Site<K> {
         if let Err(fault) = self.force(alloc, rec) {
             return Err(self.stop(fault));
         }
-        self.nodes.put(number, node);
+        self.nodes.put(alloc, number, node);
         Ok(())
     }
 

@@ -9,6 +9,7 @@ ghost use Rattle.tp_node.specs.Node.{current_of, recovered_by};
 
 use crate::arcs::Arcs;
 use crate::kept;
+use crate::kept_table::KeptTable;
 use crate::node::Node;
 use std::alloc::Global;
 use tp_commit::Branch;
@@ -34,7 +35,7 @@ impl Node {
             known: false,
             arcs: None,
             current: None,
-            kept: Vec::new(alloc),
+            kept: KeptTable::new(),
             drawn: 0,
             boot,
             version,
@@ -129,7 +130,8 @@ impl Node {
     {
         self.recover_current(alloc, rec)?;
         kept::keep(alloc, &mut self.kept, rec)?;
-        self.known = self.current.is_some() || !self.kept.is_empty();
+        self.kept.settle(alloc);
+        self.known = self.current.is_some() || self.kept.len() > 0;
         Ok(())
     }
 
@@ -146,7 +148,7 @@ impl Node {
         Ok(())
     }
 
-    /// An equal node, with room of its own.
+    /// An equal node, with room of its own. The kept transactions are shared.
     pub fn copy(&self, alloc: Global) -> Result<Node, NoMemory>
         ensures { IfOk result (λ node. node ≡ self.now) }
     {
@@ -164,7 +166,7 @@ impl Node {
             known: self.known,
             arcs,
             current,
-            kept: kept::copies(alloc, self.kept.as_slice())?,
+            kept: self.kept.copy(alloc)?,
             drawn: self.drawn,
             boot: self.boot,
             version: self.version,

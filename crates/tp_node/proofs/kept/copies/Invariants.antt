@@ -1,5 +1,5 @@
 use Rattle.std.proofs.Common.{◌≡◌, ◌++◌, drop}
 use Rattle.tp_node.proofs.kept.copies.Given as goal
 
-abbrev pub invariant-loop-one : goal.invariant-loop-one
-invariant-loop-one l = l.copies.items ++ drop l.one-index l.kept ≡ l.kept
+abbrev pub invariant-loop-place : goal.invariant-loop-place
+invariant-loop-place l = l.copies.items ++ drop l.place l.kept ≡ l.kept
