@@ -18,7 +18,7 @@ use Rattle.tp_tree.specs.Invocation.{Invocation, ties_of, arcs_of, with_tie, wit
 use Rattle.tp_node.specs.declared.arc_step.ArcStep.{ArcStep}
 use Rattle.tp_node.specs.ArcStep.{stepped_ties, stepped_tree}
 use Rattle.tp_node.specs.Arcs.{side_with, is_on, all_on, is_sided, fits_link, all_fit, is_linked, Arcs, value_of}
-use Rattle.tp_node.proofs.Sides.{side_found, on_side, on_itself}
+use Rattle.tp_node.proofs.Sides.{side_found, on_side, on_itself, apart_added}
 
 -- ---- counting keeps it
 
@@ -196,9 +196,9 @@ on_behind : (s : Option Addr) (ts : List Tie) (u : Tie) → all_on Side.Superior
 on_behind s [] u h n = ap (λ (b : Bool). b && true) n
 on_behind s (t ∷ ts) u h n = grind (arith, common_steps, on_behind s ts u)
 
-pub added_on : (v : Invocation) (side : Side) (u : Tie) → is_sided v ≡ true → is_on side v.superior u ≡ true → is_sided (with_added side u v) ≡ true
-added_on v Side.Subordinate u h n = grind (arith, common_steps, h, n)
-added_on v Side.Superior u h n = grind (arith, common_steps, h, on_behind v.superior v.below u, n)
+pub added_on : (v : Invocation) (side : Side) (u : Tie) → is_sided v ≡ true → is_on side v.superior u ≡ true → find_arc (arcs_of v) u.addr.node ≡ None → is_sided (with_added side u v) ≡ true
+added_on v Side.Subordinate u h n none = grind (arith, common_steps, h, n)
+added_on v Side.Superior u h n none = let off = (not_above v u.addr.node none).1 in grind (arith, common_steps, h, on_behind v.superior v.below u, apart_added v.below u, n, off)
 
 pub itself_on : (s : Option Addr) (side : Side) (u : Tie) → u.dialogue.side ≡ side → side ≡ side_with s u.addr.node → is_on side s u ≡ true
 itself_on s Side.Superior u i j = grind (arith, i, j)

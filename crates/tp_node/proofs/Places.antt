@@ -8,18 +8,10 @@ use Rattle.tp_model.specs.declared.arc.Side.{Side}
 use Rattle.tp_model.specs.Parts.{Link, Dialogue, Arc}
 use Rattle.tp_model.specs.Arcs.{find_arc, with_link, with_dialogue, put_arc}
 use Rattle.tp_tree.specs.declared.tie.Tie.{Tie}
-use Rattle.tp_tree.specs.Tie.{arc_of, fresh_tie, fresh_arc}
-use Rattle.tp_tree.specs.Invocation.{Invocation, arcs_of, has_room, with_added, with_arc}
-use Rattle.tp_node.specs.Arcs.{side_with, is_on, all_on, is_sided, has_place, new_arc}
+use Rattle.tp_tree.specs.Tie.{arc_of, fresh_arc}
+use Rattle.tp_tree.specs.Invocation.{Invocation, arcs_of, has_room, with_arc}
+use Rattle.tp_node.specs.Arcs.{side_with, is_on, is_sided, has_place, new_arc}
 use Rattle.tp_node.proofs.Sides.{count_sided, on_side, on_itself}
-
-more_on : (side : Side) (s : Option Addr) (ts : List Tie) (t : Tie) → all_on side s ts ≡ true → is_on side s t ≡ true → all_on side s (ts ++ t ∷ []) ≡ true
-more_on side s [] t h n = grind (arith, n)
-more_on side s (u ∷ ts) t h n = grind (arith, common_steps, more_on side s ts t)
-
-pub added_sided : (v : Invocation) (a : Addr) (units : ℕ) (side : Side) → is_sided v ≡ true → side ≡ side_with v.superior a.node → is_sided (with_added side (fresh_tie a units side) v) ≡ true
-added_sided v a units Side.Superior h is = grind (arith, common_steps, more_on Side.Superior v.superior v.below (fresh_tie a units Side.Superior))
-added_sided v a units Side.Subordinate h is = grind (arith, common_steps)
 
 at_side : (n p : ℕ) → Side.Subordinate ≡ cond (n == p) Side.Subordinate Side.Superior → n ≡ p
 at_side n p is = go (n == p) refl

@@ -1,5 +1,6 @@
 -- Arcs that are kept with the node's side, and what goes out on them.
-use Rattle.std.proofs.Common.{◌≡◌, ℕ, zero, suc, true, Option, Some, None, List, [], ◌∷◌, length, map, slice_set, refl, ap, sym, ◌∙◌, arith}
+use Rattle.std.proofs.Common.{◌≡◌, ◌<◌, ℕ, zero, suc, Bool, true, false, Option, Some, None, List, [], ◌∷◌, ◌++◌, length, map, slice_set, slice_get, slice_index_or, refl, ap, sym, ◌∙◌, arith}
+use Rattle.std.specs.Prelude.{◌==◌}
 use Rattle.std.proofs.lemmas.Bool.Decides.{nat_tests}
 use Rattle.std.proofs.lemmas.Grind.{common_steps}
 use Rattle.tp_names.specs.declared.identifiers.Addr.{Addr}
@@ -15,7 +16,7 @@ use Rattle.tp_link.specs.Link.{is_next, with_one_sent}
 use Rattle.tp_tree.specs.declared.tie.Tie.{Tie}
 use Rattle.tp_tree.specs.Tie.{arc_of, find_tie, place_of, without_ties}
 use Rattle.tp_tree.specs.Invocation.{Invocation, ties_of, arcs_of, with_tie, without_tie, WritesLink, WritesDialogue}
-use Rattle.tp_node.specs.Arcs.{side_with, is_same_side, is_on, all_on, is_sided, count_subordinates_in, next_on, is_spent, outs_next, Arcs, value_of}
+use Rattle.tp_node.specs.Arcs.{side_with, is_same_side, is_on, all_on, is_absent, is_apart, is_sided, count_subordinates_in, next_on, is_spent, outs_next, Arcs, value_of}
 
 -- ---- sides
 
@@ -47,15 +48,98 @@ set_on side s [] k u h n = refl
 set_on side s (t ∷ ts) zero u h n = grind (arith, common_steps)
 set_on side s (t ∷ ts) (suc k) u h n = grind (arith, common_steps, set_on side s ts k u)
 
+-- ---- each is with a peer of its own
+
+set_absent : (ts : List Tie) (p q : ℕ) (t u : Tie) → find_tie ts p ≡ Some t → u.addr.node ≡ t.addr.node → is_absent (slice_set ts (place_of ts p) u) q ≡ is_absent ts q
+set_absent [] p q t u found addr = refl
+set_absent (x ∷ ts) p q t u found addr = go (x.addr.node == p) refl (set_absent ts p q t u)
+  where
+    go : (b : Bool) → (x.addr.node == p) ≡ b → (find_tie ts p ≡ Some t → u.addr.node ≡ t.addr.node → is_absent (slice_set ts (place_of ts p) u) q ≡ is_absent ts q) → is_absent (slice_set (x ∷ ts) (place_of (x ∷ ts) p) u) q ≡ is_absent (x ∷ ts) q
+    go true e rest = let f : find_tie (x ∷ ts) p ≡ Some x = grind (arith, e) in let same : Some x ≡ Some t = sym f ∙ found in grind (arith, e, same, addr)
+    go false e rest = let f : find_tie (x ∷ ts) p ≡ find_tie ts p = grind (arith, e) in let tail = rest (sym f ∙ found) addr in grind (arith, e, tail)
+
+set_apart : (ts : List Tie) (p : ℕ) (t u : Tie) → find_tie ts p ≡ Some t → u.addr.node ≡ t.addr.node → is_apart (slice_set ts (place_of ts p) u) ≡ is_apart ts
+set_apart [] p t u found addr = refl
+set_apart (x ∷ ts) p t u found addr = go (x.addr.node == p) refl (set_apart ts p t u)
+  where
+    go : (b : Bool) → (x.addr.node == p) ≡ b → (find_tie ts p ≡ Some t → u.addr.node ≡ t.addr.node → is_apart (slice_set ts (place_of ts p) u) ≡ is_apart ts) → is_apart (slice_set (x ∷ ts) (place_of (x ∷ ts) p) u) ≡ is_apart (x ∷ ts)
+    go true e rest = let f : find_tie (x ∷ ts) p ≡ Some x = grind (arith, e) in let same : Some x ≡ Some t = sym f ∙ found in grind (arith, e, same, addr)
+    go false e rest = let f : find_tie (x ∷ ts) p ≡ find_tie ts p = grind (arith, e) in let tail = rest (sym f ∙ found) addr in let g = set_absent ts p x.addr.node t u (sym f ∙ found) addr in grind (arith, e, tail, g)
+
+without_absent : (ts : List Tie) (p q : ℕ) → is_absent ts q ≡ true → is_absent (without_ties ts p) q ≡ true
+without_absent [] p q h = refl
+without_absent (t ∷ ts) p q h = grind (arith, nat_tests, without_absent ts p q)
+
+without_apart : (ts : List Tie) (p : ℕ) → is_apart ts ≡ true → is_apart (without_ties ts p) ≡ true
+without_apart [] p h = refl
+without_apart (t ∷ ts) p h = grind (arith, common_steps, without_apart ts p, without_absent ts p t.addr.node)
+
+absent_behind : (ts : List Tie) (u : Tie) (q : ℕ) → is_absent ts q ≡ true → (u.addr.node == q) ≡ false → is_absent (ts ++ u ∷ []) q ≡ true
+absent_behind [] u q h n = grind (arith, n)
+absent_behind (t ∷ ts) u q h n = grind (arith, h, n, absent_behind ts u q)
+
+apart_behind : (ts : List Tie) (u : Tie) → is_apart ts ≡ true → is_absent ts u.addr.node ≡ true → is_apart (ts ++ u ∷ []) ≡ true
+apart_behind [] u h n = refl
+apart_behind (t ∷ ts) u h n = grind (arith, common_steps, nat_tests, apart_behind ts u, absent_behind ts u t.addr.node)
+
+absent_none : (ts : List Tie) (p : ℕ) → find_arc (map arc_of ts) p ≡ None → is_absent ts p ≡ true
+absent_none [] p h = refl
+absent_none (t ∷ ts) p h = grind (arith, nat_tests, absent_none ts p)
+
+-- an arc more stands apart
+pub apart_added : (ts : List Tie) (u : Tie) → is_apart ts ≡ true → find_arc (map arc_of ts) u.addr.node ≡ None → is_apart (ts ++ u ∷ []) ≡ true
+apart_added ts u h n = apart_behind ts u h (absent_none ts u.addr.node n)
+
+absent_at : (ts : List Tie) (i p : ℕ) (t : Tie) → is_absent ts p ≡ true → slice_get ts i ≡ Some t → (t.addr.node == p) ≡ false
+absent_at [] i p t h at = absurd (cc)
+absent_at (x ∷ ts) zero p t h at = grind (arith, nat_tests, h, at)
+absent_at (x ∷ ts) (suc i) p t h at = grind (arith, nat_tests, h, absent_at ts i p t, at)
+
+apart_at : (ts : List Tie) (i : ℕ) (t : Tie) → is_apart ts ≡ true → slice_get ts i ≡ Some t → find_tie ts t.addr.node ≡ Some t
+apart_at [] i t h at = absurd (cc)
+apart_at (x ∷ ts) zero t h at = grind (arith, nat_tests, at)
+apart_at (x ∷ ts) (suc i) t h at = grind (arith, common_steps, nat_tests, h, absent_at ts i x.addr.node t, apart_at ts i t, at)
+
+-- the arc at a place is the one with its peer
+pub near_found : (v : Invocation) (i : ℕ) (t : Tie) → is_sided v ≡ true → slice_get v.below i ≡ Some t → find_tie (ties_of v) t.addr.node ≡ Some t
+near_found v i t h at = go v.above refl
+  where
+    below : find_tie v.below t.addr.node ≡ Some t
+    below = grind (arith, common_steps, h, apart_at v.below i t, at)
+
+    on : is_on Side.Superior v.superior t ≡ true
+    on = grind (arith, common_steps, h, find_on Side.Superior v.superior v.below t.addr.node t, below)
+
+    go : (o : Option Tie) → v.above ≡ o → find_tie (ties_of v) t.addr.node ≡ Some t
+    go None e = grind (arith, e, below)
+    go (Some u) e = grind (arith, common_steps, nat_tests, e, below, h, on, same_side (side_with v.superior t.addr.node) Side.Superior, same_side (side_with v.superior u.addr.node) Side.Subordinate)
+
+found_arc : (ts : List Tie) (p : ℕ) (t : Tie) → find_tie ts p ≡ Some t → find_arc (map arc_of ts) p ≡ Some (arc_of t)
+found_arc [] p t h = absurd (cc)
+found_arc (x ∷ ts) p t h = go (x.addr.node == p) refl (found_arc ts p t)
+  where
+    go : (b : Bool) → (x.addr.node == p) ≡ b → (find_tie ts p ≡ Some t → find_arc (map arc_of ts) p ≡ Some (arc_of t)) → find_arc (map arc_of (x ∷ ts)) p ≡ Some (arc_of t)
+    go true e rest = let f : find_tie (x ∷ ts) p ≡ Some x = grind (arith, e) in let same : Some x ≡ Some t = sym f ∙ h in grind (arith, e, same)
+    go false e rest = let f : find_tie (x ∷ ts) p ≡ find_tie ts p = grind (arith, e) in let tail = rest (sym f ∙ h) in grind (arith, e, tail)
+
+pub got : (ts : List Tie) (i : ℕ) (t : Tie) → i < length ts → t ≡ slice_index_or ts i t → Some t ≡ slice_get ts i
+got [] i t h e = absurd (omega (arith, h))
+got (x ∷ ts) zero t h e = ap Some e
+got (x ∷ ts) (suc i) t h e = got ts i t (omega (arith, h)) e
+
+pub near_arc : (v : Invocation) (i p : ℕ) (t : Tie) → is_sided v ≡ true → Some t ≡ slice_get v.below i → t.addr.node ≡ p → Some (arc_of t) ≡ find_arc (arcs_of v) p
+near_arc v i p t h at is =
+    sym (ap (find_arc (arcs_of v)) (sym is) ∙ found_arc (ties_of v) t.addr.node t (near_found v i t h (sym at)))
+
 pub sided_with : (v : Invocation) (p : ℕ) (t u : Tie) → is_sided v ≡ true → find_tie (ties_of v) p ≡ Some t → u.addr ≡ t.addr → u.dialogue.side ≡ t.dialogue.side → is_sided (with_tie v p u) ≡ true
-sided_with v p t u h found addr side = grind (arith, common_steps, nat_tests, find_on Side.Superior v.superior v.below p t, set_on Side.Superior v.superior v.below (place_of v.below p) u)
+sided_with v p t u h found addr side = grind (arith, common_steps, nat_tests, find_on Side.Superior v.superior v.below p t, set_on Side.Superior v.superior v.below (place_of v.below p) u, set_apart v.below p t u)
 
 without_on : (side : Side) (s : Option Addr) (ts : List Tie) (p : ℕ) → all_on side s ts ≡ true → all_on side s (without_ties ts p) ≡ true
 without_on side s [] p h = refl
 without_on side s (t ∷ ts) p h = grind (arith, without_on side s ts p)
 
 pub sided_without : (v : Invocation) (p : ℕ) → is_sided v ≡ true → is_sided (without_tie v p) ≡ true
-sided_without v p h = grind (arith, common_steps, without_on Side.Superior v.superior v.below p)
+sided_without v p h = grind (arith, common_steps, without_on Side.Superior v.superior v.below p, without_apart v.below p)
 
 count_below : (s : Option Addr) (ts : List Tie) → all_on Side.Superior s ts ≡ true → length ts ≡ count_subordinates_in s (map arc_of ts)
 count_below s [] h = refl

@@ -1,6 +1,6 @@
 -- What a passage does to the arcs, kept and as the definitions have it.
-use Rattle.std.proofs.Common.{◌≡◌, Bool, true, false, ◌&&◌, Option, Some, None, List, [], ◌∷◌, map, refl, ap, sym, ◌∙◌}
-use Rattle.std.specs.Prelude.{◌||◌, not, cond}
+use Rattle.std.proofs.Common.{◌≡◌, ℕ, Bool, true, false, ◌&&◌, Option, Some, None, List, [], ◌∷◌, map, refl, ap, sym, ◌∙◌}
+use Rattle.std.specs.Prelude.{◌||◌, ◌==◌, not, cond, if◌then◌else◌}
 use Rattle.tp_names.specs.declared.identifiers.Addr.{Addr}
 use Rattle.tp_model.specs.declared.arc.Side.{Side}
 use Rattle.tp_names.specs.declared.outcome.Outcome.{Outcome}
@@ -13,7 +13,7 @@ use Rattle.tp_tree.specs.declared.tie.Tie.{Tie}
 use Rattle.tp_tree.specs.Tie.{arc_of}
 use Rattle.tp_tree.specs.Invocation.{Invocation, arcs_of}
 use Rattle.tp_node.specs.declared.arc_step.ArcStep.{ArcStep}
-use Rattle.tp_node.specs.Arcs.{side_with, is_on, all_on, is_on_option, is_sided}
+use Rattle.tp_node.specs.Arcs.{side_with, is_on, all_on, is_on_option, is_absent, is_apart, is_sided}
 use Rattle.tp_node.specs.ArcStep.{stepped, stepped_arcs, stepped_tie, stepped_ties, stepped_above, stepped_tree}
 use Rattle.tp_node.proofs.Sides.{on_side}
 
@@ -25,8 +25,16 @@ on_above : (st : ArcStep) (t : Transaction) (s : Option Addr) (o : Option Tie) �
 on_above st t s None = refl
 on_above st t s (Some x) = refl
 
+stepped_absent : (st : ArcStep) (t : Transaction) (ts : List Tie) (p : ℕ) → is_absent (stepped_ties st t ts) p ≡ is_absent ts p
+stepped_absent st t [] p = refl
+stepped_absent st t (x ∷ ts) p = ap (λ b. if x.addr.node == p then false else b) (stepped_absent st t ts p)
+
+stepped_apart : (st : ArcStep) (t : Transaction) (ts : List Tie) → is_apart (stepped_ties st t ts) ≡ is_apart ts
+stepped_apart st t [] = refl
+stepped_apart st t (x ∷ ts) = (λ i. stepped_absent st t ts x.addr.node i && stepped_apart st t ts i)
+
 pub stepped_sided : (st : ArcStep) (t : Transaction) (v : Invocation) → is_sided v ≡ true → is_sided (stepped_tree st t v) ≡ true
-stepped_sided st t v h = (λ i. on_above st t v.superior v.above i && stepped_on st t Side.Superior v.superior v.below i) ∙ h
+stepped_sided st t v h = (λ i. on_above st t v.superior v.above i && (stepped_on st t Side.Superior v.superior v.below i && stepped_apart st t v.below i)) ∙ h
 
 both_hold : (a b : Bool) → (a && b) ≡ true → (a ≡ true) × (b ≡ true)
 both_hold true true e = (refl, refl)
@@ -46,7 +54,7 @@ pub stepped_all : (st : ArcStep) (t : Transaction) (v : Invocation) → is_sided
 stepped_all st t v h = go v.above refl
   where
     parts : (is_on_option Side.Subordinate v.superior v.above ≡ true) × (all_on Side.Superior v.superior v.below ≡ true)
-    parts = both_hold (is_on_option Side.Subordinate v.superior v.above) (all_on Side.Superior v.superior v.below) h
+    parts = let p = both_hold (is_on_option Side.Subordinate v.superior v.above) (all_on Side.Superior v.superior v.below && is_apart v.below) h in (p.0, (both_hold (all_on Side.Superior v.superior v.below) (is_apart v.below) p.1).0)
 
     arcs_with : Option Tie → List Tie → List Arc
     arcs_with o ts = map arc_of (elim o as (λ _. List Tie) [ None ↦ ts | Some x ↦ x ∷ ts ])

@@ -47,8 +47,18 @@ abbrev pub is_on_option : Side → Option Addr → Option Tie → Bool
 is_on_option side s None = true
 is_on_option side s (Some t) = is_on side s t
 
+-- no arc with that peer is there
+abbrev pub is_absent : List Tie → ℕ → Bool
+is_absent [] p = true
+is_absent (t ∷ ts) p = if t.addr.node == p then false else is_absent ts p
+
+-- each is with a peer of its own
+abbrev pub is_apart : List Tie → Bool
+is_apart [] = true
+is_apart (t ∷ ts) = is_absent ts t.addr.node && is_apart ts
+
 abbrev pub is_sided : Invocation → Bool
-is_sided v = is_on_option Side.Subordinate v.superior v.above && all_on Side.Superior v.superior v.below
+is_sided v = is_on_option Side.Subordinate v.superior v.above && (all_on Side.Superior v.superior v.below && is_apart v.below)
 
 -- an end calls its subordinates, and answers its superior; no arc is kept whose association is over
 abbrev pub fits_link : Side → Link → Bool

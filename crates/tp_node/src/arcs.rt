@@ -1,6 +1,6 @@
 //! The arcs of a node.
 ghost use Rattle.std.specs.Prelude.{◌≡◌, ◌⊎◌, true, [], Option, None, map, IfOk, IfSome, OnOk, OnErr};
-ghost use Rattle.std.specs.Option.{option_map};
+ghost use Rattle.std.specs.Option.{option_map, option_copied};
 ghost use Rattle.tp_model.specs.Arcs.{find_arc, without_arc, with_dialogue, with_link, carried, shut_with};
 ghost use Rattle.tp_model.specs.Events.{some_past_numbers};
 ghost use Rattle.tp_tree.specs.Tie.{arc_of, fresh_arc};
@@ -89,6 +89,16 @@ impl Arcs {
         ensures link { IfSome result (λ t. fits_link (side_with self.now.superior peer) t.link ≡ true) }
     {
         self.tree.get(peer).copied()
+    }
+
+    /// The arc with that peer, where it stands: it is sought at that place among the subordinates' first.
+    pub(crate) fn near(&self, place: usize, peer: u16) -> Option<&Tie>
+        ensures { option_map arc_of (option_copied result) ≡ find_arc self.now.arcs peer }
+    {
+        match self.tree.subordinates().get(place) {
+            Some(tie) if tie.addr().node == peer => Some(tie),
+            _ => self.tree.get(peer),
+        }
     }
 
     /// A list of the arcs, in order.

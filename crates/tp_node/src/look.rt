@@ -9,27 +9,21 @@ use tp_commit::Branch;
 use tp_link::LinkState;
 use tp_model::Deferral;
 
-fn is_live(arcs: &Option<Arcs>, peer: u16) -> bool
-    ensures { result ≡ is_live_with_peer (arcs_in arcs.now) peer }
+// Whether the arc with that peer is live, and whether an end is deferred on it. The arc of a branch stands at the place of
+// the branch where all subordinates are branches, each begun in turn.
+fn look_at(arcs: &Option<Arcs>, place: usize, peer: u16) -> (bool, bool)
+    ensures live { result.0 ≡ is_live_with_peer (arcs_in arcs.now) peer }
+    ensures ends { result.1 ≡ is_end_deferred_at (arcs_in arcs.now) peer }
 {
     let Some(arcs) = arcs else {
-        return false;
+        return (false, false);
     };
-    match arcs.find(peer) {
-        None => false,
-        Some(tie) => tie.link.state() == LinkState::Live,
-    }
-}
-
-fn is_ending(arcs: &Option<Arcs>, peer: u16) -> bool
-    ensures { result ≡ is_end_deferred_at (arcs_in arcs.now) peer }
-{
-    let Some(arcs) = arcs else {
-        return false;
-    };
-    match arcs.find(peer) {
-        None => false,
-        Some(tie) => tie.dialogue.deferral() == Deferral::End,
+    match arcs.near(place, peer) {
+        None => (false, false),
+        Some(tie) => (
+            tie.link.state() == LinkState::Live,
+            tie.dialogue.deferral() == Deferral::End,
+        ),
     }
 }
 
@@ -39,8 +33,7 @@ fn see_superior(node: u16, arcs: &Option<Arcs>, branch: &mut Branch)
     match branch.superior() {
         None => branch.see_superior(node, false, false),
         Some(superior) => {
-            let live = is_live(arcs, superior.node);
-            let ends = is_ending(arcs, superior.node);
+            let (live, ends) = look_at(arcs, 0, superior.node);
             branch.see_superior(node, live, ends);
         }
     }
@@ -51,9 +44,8 @@ fn see_branches(arcs: &Option<Arcs>, branch: &mut Branch)
 {
     for i in 0..branch.branches() {
         let peer = branch.branch_peer(i);
-        let live = is_live(arcs, peer.node);
-        let ends = is_ending(arcs, peer.node);
-        branch.see_branch(i, live, ends);
+        let seen = look_at(arcs, i, peer.node);
+        branch.see_branch(i, seen.0, seen.1);
     }
 }
 

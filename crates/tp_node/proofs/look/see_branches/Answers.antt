@@ -14,9 +14,9 @@ see_branch-requires c = omega (arith, c.loop-i.invariant.long, c.branches-i-end.
 pub loop-i-preserved : goal.loop-i-preserved
 loop-i-preserved c =
     let h : c.loop-i.i < length c.loop-i.branch.rows = omega (arith, c.loop-i.invariant.long, c.branches-i-end.ensures) in
-    let new : (d : Row) → c.see_branch.new.self.rows ≡ slice_set c.loop-i.branch.rows c.loop-i.i (seen_at c.is_live-live.result c.is_ending-ends.result (slice_index_or c.loop-i.branch.rows c.loop-i.i d)) = λ d. ap (λ (t : Transaction). t.rows) (c.see_branch.ensures d) in
+    let new : (d : Row) → c.see_branch.new.self.rows ≡ slice_set c.loop-i.branch.rows c.loop-i.i (seen_at c.look_at-seen.result.0 c.look_at-seen.result.1 (slice_index_or c.loop-i.branch.rows c.loop-i.i d)) = λ d. ap (λ (t : Transaction). t.rows) (c.see_branch.ensures d) in
     record {
-      rows = rw add-one (c.loop-i.invariant.rows ∙ see_step (arcs_in c.args.arcs.now) c.loop-i.branch.rows c.see_branch.new.self.rows c.loop-i.i c.is_live-live.result c.is_ending-ends.result c.branch_peer-peer.result h c.branch_peer-peer.ensures c.is_live-live.ensures c.is_ending-ends.ensures new);
-      long = set_long c.loop-i.branch.rows c.see_branch.new.self.rows c.loop-i.i (seen_at c.is_live-live.result c.is_ending-ends.result) h new ∙ c.loop-i.invariant.long;
-      rest = all_seen c.loop-i.branch c.args.branch.now c.see_branch.new.self c.loop-i.i (seen_at c.is_live-live.result c.is_ending-ends.result) h c.see_branch.ensures c.loop-i.invariant.rest;
+      rows = rw add-one (c.loop-i.invariant.rows ∙ see_step (arcs_in c.args.arcs.now) c.loop-i.branch.rows c.see_branch.new.self.rows c.loop-i.i c.look_at-seen.result.0 c.look_at-seen.result.1 c.branch_peer-peer.result h c.branch_peer-peer.ensures c.look_at-seen.ensures.live c.look_at-seen.ensures.ends new);
+      long = set_long c.loop-i.branch.rows c.see_branch.new.self.rows c.loop-i.i (seen_at c.look_at-seen.result.0 c.look_at-seen.result.1) h new ∙ c.loop-i.invariant.long;
+      rest = all_seen c.loop-i.branch c.args.branch.now c.see_branch.new.self c.loop-i.i (seen_at c.look_at-seen.result.0 c.look_at-seen.result.1) h c.see_branch.ensures c.loop-i.invariant.rest;
     }

@@ -21,7 +21,7 @@ invariant_of-self c =
     let none : find_arc (arcs_of v) c.args.addr.node ≡ None = subst (λ (x : Arcs). find_arc x.arcs c.args.addr.node ≡ None) (sym c.self.view_is) c.requires.other in
     let side : c.args.side ≡ side_with v.superior c.args.addr.node = c.requires.side ∙ ap (λ (x : Arcs). side_with x.superior c.args.addr.node) (sym c.self.view_is) in
     let made = made_so v c.add.new.self c.args.addr c.args.units c.args.side c.args.link c.in-Some.tie.now c.add.ensures.value none c.in-Some.ensures.tie in (
-      ap is_sided made ∙ added_on v c.args.side u c.self.invariant.0 (itself_on v.superior c.args.side u refl side),
+      ap is_sided made ∙ added_on v c.args.side u c.self.invariant.0 (itself_on v.superior c.args.side u refl side) none,
       ap is_linked made ∙ added_linked v c.args.side u c.self.invariant.1 c.requires.link,
     )
 
