@@ -86,9 +86,3 @@ RecordsFollow = (o : Origin) (up : Option Addr) (h : List Entry) → IsLegal o u
 -- and are such as the next start may find
 abbrev pub StartsAgain : Type 0
 StartsAgain = (o : Origin) (up : Option Addr) (h : List Entry) → IsLegal o up h → is_start (again o h) ≡ true
-
-pub record NodePromises : Type 0 where
-  pub digest_agrees : DigestAgrees
-  pub restart_is_crash : RestartIsCrash
-  pub records_follow : RecordsFollow
-  pub starts_again : StartsAgain
