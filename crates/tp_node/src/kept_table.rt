@@ -134,7 +134,8 @@ impl KeptTable {
         }
     }
 
-    /// Takes the place of the one with its key, or stands after the others.
+    /// Takes the place of the one with its key, or stands after the others. Where a change of another key still waits for
+    /// memory, there is none for this one.
     #[tactic(auto, using(crate::proofs::KeptPlaces::put_put))]
     pub(crate) fn put(&mut self, kept: Kept) -> Result<(), NoMemory>
         ensures { OnOk result (self.new ≡ with_kept self.old kept) }
@@ -149,7 +150,8 @@ impl KeptTable {
         Ok(())
     }
 
-    /// Takes the one with that key away, where there is one.
+    /// Takes the one with that key away, where there is one. Where a change of another key still waits for memory, there is
+    /// none for this one.
     #[tactic(auto, using(crate::proofs::KeptPlaces::put_removed))]
     pub(crate) fn remove(&mut self, key: &NodeKey) -> Result<(), NoMemory>
         ensures { OnOk result (self.new ≡ without_kept self.old key.now) }
