@@ -1,6 +1,7 @@
 //! Texts that no line of a transcript has.
 use std::alloc::Global;
-use tp_schedule::{LineFault, read_out};
+use tp_schedule::LineFault;
+use tp_transcript::read_out;
 
 fn is_no_line(alloc: Global, text: &[u8]) -> bool {
     matches!(read_out(alloc, text), Err(LineFault::Word))

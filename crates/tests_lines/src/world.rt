@@ -1,9 +1,8 @@
 //! Worked schedules and their transcripts.
-use crate::schedule_examples::line_of;
-use crate::streams::joined;
 use std::alloc::Global;
 use tp_model::{Line, OutLines};
 use tp_names::Octets;
+use tp_schedule::read_line;
 use tp_transcript::write_out;
 use tp_world::{World, WorldFault};
 
