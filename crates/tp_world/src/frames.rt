@@ -16,7 +16,7 @@ use tp_records::PeerRecord;
 const MOST_FRAMES: usize = 65535;
 
 /// A frame that was sent, and whether it was handed over.
-#[derive(Debug, Drop)]
+#[derive(Drop)]
 pub(crate) struct Frame {
     pub(crate) from: Addr,
     pub(crate) to: Addr,
@@ -26,7 +26,7 @@ pub(crate) struct Frame {
 
 /// All frames that were ever sent, in order; their numbers begin with 1. All before `first` were handed over, and the
 /// numbers of those that were not are `waiting`.
-#[derive(Debug, Drop)]
+#[derive(Drop)]
 pub(crate) struct Frames {
     items: Vec<Frame>,
     first: usize,

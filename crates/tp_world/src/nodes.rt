@@ -13,7 +13,7 @@ use tp_names::same::is_name;
 use tp_names::{Addr, NoMemory, SiteName};
 
 /// A node: where it is, what it is declared with after each start of its site, and its parts in trees.
-#[derive(Debug, Drop)]
+#[derive(Drop)]
 pub(crate) struct NodeSlot {
     pub(crate) addr: Addr,
     pub(crate) superior: Option<Addr>,
@@ -21,7 +21,7 @@ pub(crate) struct NodeSlot {
 }
 
 /// The nodes of a world, in the order of their declarations; `places` are the places of their numbers.
-#[derive(Debug, Drop)]
+#[derive(Drop)]
 pub(crate) struct Nodes {
     items: Vec<NodeSlot>,
     places: HashMap<u16, usize>,

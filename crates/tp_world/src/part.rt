@@ -8,7 +8,7 @@ use tp_names::{Aaid, Outcome};
 use tp_site::NodeTree;
 
 /// What one node did in one tree, as the closing lines ask it.
-#[derive(Clone, Copy, Debug, PartialEq, Eq)]
+#[derive(Clone, Copy)]
 pub(crate) struct Part {
     /// The tree was its current one at some time.
     pub(crate) member: bool,
@@ -23,7 +23,7 @@ pub(crate) struct Part {
 }
 
 /// What an entry shows of trees: the node's tree before it and after it, whether its user left, and its record.
-#[derive(Clone, Copy, Debug, PartialEq, Eq)]
+#[derive(Clone, Copy)]
 pub(crate) struct Step {
     pub(crate) before: Option<NodeTree>,
     pub(crate) behind: Option<NodeTree>,

@@ -8,7 +8,7 @@ use std::marker::Model;
 use tp_names::NoMemory;
 
 /// Numbers of frames, the oldest first.
-#[derive(Debug, Drop)]
+#[derive(Drop)]
 pub(crate) struct Queue {
     numbers: VecDeque<u16>,
 }

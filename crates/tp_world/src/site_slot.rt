@@ -23,14 +23,14 @@ use tp_records::{PeerRecord, Request};
 use tp_site::{NodeEvent, NodeState, NodeTree, Outs, Site, SiteFault};
 
 /// An entry of a node's history: what it says, and what it shows of trees.
-#[derive(Debug, Drop)]
+#[derive(Drop)]
 pub(crate) struct Entry {
     pub(crate) outs: Outs,
     pub(crate) step: Step,
 }
 
 /// What a node answers to an event: the number of a refusal, and the entry that its history gains.
-#[derive(Debug, Drop)]
+#[derive(Drop)]
 pub(crate) struct Answer {
     pub(crate) number: Option<u8>,
     pub(crate) entry: Option<Entry>,

@@ -17,7 +17,7 @@ use tp_names::same::is_aaid;
 use tp_names::{Aaid, NoMemory};
 
 /// A tree, by which its part is found.
-#[derive(Clone, Copy, Debug)]
+#[derive(Clone, Copy)]
 pub(crate) struct Tree {
     aaid: Aaid,
 }
@@ -48,7 +48,7 @@ impl Hash for Tree {
 }
 
 /// The parts that one node has in trees, by the trees with which it had to do.
-#[derive(Debug, Drop)]
+#[derive(Drop)]
 pub(crate) struct Tracks {
     parts: HashMap<Tree, Part>,
 }

@@ -9,7 +9,7 @@ use std::marker::Model;
 use tp_names::NoMemory;
 
 /// The numbers that wait between each two nodes.
-#[derive(Debug, Drop)]
+#[derive(Drop)]
 pub(crate) struct Waiting {
     queues: HashMap<(u16, u16), Queue>,
 }
