@@ -1,5 +1,5 @@
 -- From what a line was answered to what is shown of it.
-use Rattle.std.proofs.Common.{◌≡◌, ℕ, Bool, true, false, List, Result, Ok, Err, refl, ap, subst, sym, ◌∙◌, arith, []}
+use Rattle.std.proofs.Common.{◌≡◌, ◌++◌, ℕ, Bool, true, false, List, Result, Ok, Err, refl, ap, subst, sym, ◌∙◌, arith, []}
 use Rattle.std.specs.Prelude.{IfSome}
 use Rattle.tp_model.specs.declared.line.Line.{Line}
 use Rattle.tp_model.specs.declared.out_line.OutLine.{OutLine}
@@ -36,9 +36,9 @@ unread_ends at w LineFault.NoMemory r is = tt
 pub blank_shown : (at : ℕ) (w : World) (r : Reading) → Blank ≡ r → reading_shown at w r ≡ Goes [] w
 blank_shown at w r is = ap (reading_shown at w) (sym is)
 
-pub said_shown : (at : ℕ) (w : World) (x : Line) (r : Reading) (a : Result (List ℕ) Status) (new : Ground) → Says x ≡ r
-    → IsShown (line_shown at w x) a new → IsShown (reading_shown at w r) a new
-said_shown at w x r a new is h = subst (λ v. IsShown (reading_shown at w v) a new) is h
+pub said_shown : (at : ℕ) (w : World) (x : Line) (r : Reading) (a : Result (Unit {0}) Status) (old out : List ℕ) (new : Ground) → Says x ≡ r
+    → IsShown (line_shown at w x) a old out new → IsShown (reading_shown at w r) a old out new
+said_shown at w x r a old out new is h = subst (λ v. IsShown (reading_shown at w v) a old out new) is h
 
 -- ---- playing
 
@@ -70,10 +70,12 @@ unplayed_ends at w x (WorldFault.Limit what) new so plays = built_shown at w x (
 unplayed_ends at w x WorldFault.Unbuilt new so plays = rw plays refl
 unplayed_ends at w x WorldFault.NoMemory new so plays = tt
 
-pub plays_shown : (at : ℕ) (w : World) (x : Line) (lines : List OutLine) (new : Ground) → IsUnbuiltSo x (Ok lines) → Plays w x (Ok lines) new
-    → IsShown (line_shown at w x) (Ok (out_texts lines)) new
-plays_shown at w x lines new so plays = (
+pub plays_shown : (at : ℕ) (w : World) (x : Line) (lines : List OutLine) (old out : List ℕ) (new : Ground) → IsUnbuiltSo x (Ok lines) → Plays w x (Ok lines) new
+    → out ≡ old ++ out_texts lines → IsShown (line_shown at w x) (Ok tt) old out new
+plays_shown at w x lines old out new so plays is = (
+  out_texts lines,
   plays.0.world,
+  is,
   built_shown at w x (Ok plays.0) (built_but x (Ok lines) so refl) (plays.1 3) ∙ ap (λ ls. Goes (out_texts ls) plays.0.world) (sym plays.2),
   plays.3,
 )

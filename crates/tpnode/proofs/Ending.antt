@@ -1,16 +1,21 @@
--- A replay that ends after a line that was not played.
-use Rattle.std.proofs.Common.{◌≡◌, ◌++◌, ◌+◌, ℕ, suc, List, [], ◌∷◌, Option, Some, refl, ap, subst, sym, ◌∙◌, append_assoc}
+-- How a replay ends: after a line that was not played, with the closing lines, or where the sink fails.
+use Rattle.std.proofs.Common.{◌≡◌, ◌++◌, ◌+◌, ℕ, List, [], Option, Some, refl, ap, subst, sym, ◌∙◌, arith}
 use Rattle.std.proofs.lemmas.List.{append-nil}
 use Rattle.tp_model.specs.World.{World}
-use Rattle.tp_model.specs.Transcript.{RawLine, taken_by, At_limit}
+use Rattle.tp_model.specs.Transcript.{RawLine, At_limit, Done}
 use Rattle.tp_schedule.specs.LinesLeft.{Place}
 use Rattle.tp_world.specs.declared.ground.Ground.{Ground}
 use Rattle.tpnode.specs.declared.status.Status.{Status}
 use Rattle.tpnode.specs.Shown.{End, Ends, Shown, ends, written, shown_from, shown, behind, closes}
-use Rattle.tpnode.specs.Replay.{IsFront, WritesAll, Writes, WritesFront, ending_of}
+use Rattle.tpnode.specs.Replay.{IsFront, WritesAll, Writes, WritesFront, WritesBut, ending_of}
 use Rattle.tpnode.specs.Playing.{PlaysFirst, StopsSo}
-use Rattle.tpnode.proofs.Fronts.{front_none, front_more}
-use Rattle.tpnode.proofs.SoFar.{SoFar, stops_there, goes_behind, writes_behind}
+use Rattle.tpnode.proofs.Fronts.{front_none, front_more, front_trans}
+use Rattle.tpnode.proofs.Pending.{wrote_more, wrote_whole, wrote_front}
+use Rattle.tpnode.proofs.SoFar.{SoFar, stops_there, shows_more, front_written, writes_behind}
+
+-- a prefix of a prefix
+front_of_front : (before text all : List ℕ) (now : Option (List ℕ)) → WritesFront before text now → IsFront text all → WritesFront before all now
+front_of_front before text all now h front = (h.0, front_trans h.0 text all h.1 front, h.2)
 
 wrote_none : (all : List ℕ) (w : World) (e : End) (now : Option (List ℕ)) → now ≡ Some all → WritesAll all (ends w e) e now
 wrote_none all w e now is = record { whole = is ∙ ap Some (sym (append-nil all)); ending = refl }
@@ -31,37 +36,102 @@ stopped at before w ls status all now h is = go status h
     go (Status.WriteFault n) h = absurd h
     go Status.NoMemory h = ([], front_none (written (shown_from at before w ls)), is ∙ ap Some (sym (append-nil all)))
 
-pub ends_so : (at : ℕ) (bytes before : List ℕ) (v : Ground) (place : Place) (left start now : Option (List ℕ)) (status : Status)
-    → (s : SoFar at bytes v place left start now) → start ≡ Some before → StopsSo at place.before s.world s.lines status → Writes before (shown bytes) status now
-ends_so at bytes before v place left start now status s is h =
-    writes_behind
-    bytes
-    before
-    s.text
-    (shown_from at place.before s.world s.lines)
-    status
-    now
-    s.shows
-    (stopped at place.before s.world s.lines status (before ++ s.text) now h (s.wrote before is))
+pub ends_so : (at : ℕ) (bytes before : List ℕ) (v : Ground) (place : Place) (left start now : Option (List ℕ)) (pending : List ℕ) (status : Status)
+    → (s : SoFar at bytes v place left start now pending) → start ≡ Some before → StopsSo at place.before s.world s.lines status → WritesBut before (shown bytes) status pending now
+ends_so at bytes before v place left start now pending status s is h = record {
+  text = s.text;
+  writes = writes_behind
+      bytes
+      []
+      s.text
+      (shown_from at place.before s.world s.lines)
+      status
+      (Some s.text)
+      s.shows
+      (stopped at place.before s.world s.lines status s.text (Some s.text) h refl);
+  wrote = s.wrote before is;
+}
 
 -- the closing lines come after the last line
-pub closes_so : (at : ℕ) (bytes before : List ℕ) (v : Ground) (place : Place) (left start now : Option (List ℕ)) (status : Status) (then : Option (List ℕ))
-    → (s : SoFar at bytes v place left start now) → s.lines ≡ [] → Writes (before ++ s.text) (closes s.world) status then → Writes before (shown bytes) status then
-closes_so at bytes before v place left start now status then s none h =
-    writes_behind bytes before s.text (closes s.world) status then (s.shows ∙ ap (λ ls. behind s.text (shown_from at place.before s.world ls)) none) h
+pub closes_so : (at : ℕ) (bytes before : List ℕ) (v : Ground) (place : Place) (left start now : Option (List ℕ)) (pending : List ℕ)
+    → (s : SoFar at bytes v place left start now pending) → start ≡ Some before → s.lines ≡ [] → WritesBut before (shown bytes) Status.Ok (pending ++ (closes s.world).closing) now
+closes_so at bytes before v place left start now pending s is none = record {
+  text = s.text ++ (closes s.world).closing;
+  writes = writes_behind
+      bytes
+      []
+      s.text
+      (closes s.world)
+      Status.Ok
+      (Some (s.text ++ (closes s.world).closing))
+      (s.shows ∙ ap (λ ls. behind s.text (shown_from at place.before s.world ls)) none)
+      (record { whole = refl; ending = refl });
+  wrote = wrote_more before s.text pending (closes s.world).closing now (s.wrote before is);
+}
 
--- what a line shows was written in part
-pub fails_so : (at : ℕ) (bytes before : List ℕ) (v : Ground) (place : Place) (left start now : Option (List ℕ)) (text : List ℕ) (new_place : Place) (unread : Option (List ℕ)) (new : Ground)
-    (faults : ℕ) (then : Option (List ℕ)) → (s : SoFar at bytes v place left start now) → PlaysFirst at place.before s.world s.lines text new_place unread new
-    → start ≡ Some before → ((all : List ℕ) → now ≡ Some all → WritesFront all text then) → Writes before (shown bytes) (Status.WriteFault faults) then
-fails_so at bytes before v place left start now text new_place unread new faults then s p is writes =
-    writes_behind bytes before s.text (shown_from at place.before s.world s.lines) (Status.WriteFault faults) then s.shows (part (writes (before ++ s.text) (s.wrote before is)))
+-- what a line shows was put at the end of what was pending, which was written in part
+pub fails_so : (at : ℕ) (bytes before : List ℕ) (v : Ground) (place : Place) (left start now : Option (List ℕ)) (pending text : List ℕ) (new_place : Place) (unread : Option (List ℕ)) (new : Ground)
+    (then : Option (List ℕ)) → (s : SoFar at bytes v place left start now pending) → PlaysFirst at place.before s.world s.lines text new_place unread new
+    → start ≡ Some before → ((all : List ℕ) → now ≡ Some all → WritesFront all (pending ++ text) then) → WritesFront before (written (shown bytes)) then
+fails_so at bytes before v place left start now pending text new_place unread new then s p is writes =
+    front_of_front before (s.text ++ text) (written (shown bytes)) then
+    (wrote_front before (s.text ++ text) (pending ++ text) now then (wrote_more before s.text pending text now (s.wrote before is)) writes)
+    (front_written bytes (s.text ++ text) (shown_from (at + 1) new_place.before p.world p.rest) (shows_more at bytes v place left start now pending text new_place unread new s p))
+
+-- ---- the last bytes
+
+some_is : (x y : List ℕ) → Some x ≡ Some y → x ≡ y
+some_is x y h = grind (arith, h)
+
+-- after the bytes that were written before
+writes_after : (before : List ℕ) (s : Shown) (status : Status) (text : List ℕ) (then : Option (List ℕ)) → Writes [] s status (Some text) → then ≡ Some (before ++ text)
+    → Writes before s status then
+writes_after before s status text then h is = go status h
   where
-    r : Shown
-    r = shown_from (suc at) (place.before + taken_by p.first) p.world p.rest
+    onto : (x : List ℕ) → Some text ≡ Some x → then ≡ Some (before ++ x)
+    onto x e = is ∙ ap (λ t. Some (before ++ t)) (some_is text x e)
 
-    same : shown_from at place.before s.world s.lines ≡ behind text r
-    same = ap (shown_from at place.before s.world) p.is ∙ goes_behind at place.before s.world p.first p.rest text p.world p.shows
+    all : (e : End) → WritesAll [] s e (Some text) → WritesAll before s e then
+    all e w = record { whole = onto (written s) w.whole; ending = w.ending }
 
-    part : WritesFront (before ++ s.text) text then → WritesFront (before ++ s.text) (written (shown_from at place.before s.world s.lines)) then
-    part h = (h.0, subst (λ x. IsFront h.0 (written x)) (sym same) (subst (IsFront h.0) (sym (append_assoc text r.lines r.closing)) (front_more h.0 text (r.lines ++ r.closing) h.1)), h.2)
+    part : (xs : List ℕ) → WritesFront [] xs (Some text) → WritesFront before xs then
+    part xs w = (w.0, w.1, onto w.0 w.2)
+
+    go : (st : Status) → Writes [] s st (Some text) → Writes before s st then
+    go Status.Ok w = all (Ends Done) w
+    go Status.Usage w = w
+    go (Status.BadInput at why) w = all (ending_of at why) w
+    go (Status.Limit what at) w = all (Ends (At_limit what at)) w
+    go (Status.ReadFault n) w = part s.lines w
+    go (Status.WriteFault n) w = part (written s) w
+    go Status.NoMemory w = part (written s) w
+
+-- what is to be written is a prefix of all that is shown
+front_of_shown : (s : Shown) (status : Status) (text : List ℕ) → Writes [] s status (Some text) → IsFront text (written s)
+front_of_shown s status text h = go status h
+  where
+    whole : (e : End) → WritesAll [] s e (Some text) → IsFront text (written s)
+    whole e w = ([], sym (some_is text (written s) w.whole) ∙ sym (append-nil text))
+
+    part : (xs : List ℕ) → WritesFront [] xs (Some text) → IsFront text xs
+    part xs w = subst (λ t. IsFront t xs) (sym (some_is text w.0 w.2)) w.1
+
+    go : (st : Status) → Writes [] s st (Some text) → IsFront text (written s)
+    go Status.Ok w = whole (Ends Done) w
+    go Status.Usage w = absurd w
+    go (Status.BadInput at why) w = whole (ending_of at why) w
+    go (Status.Limit what at) w = whole (Ends (At_limit what at)) w
+    go (Status.ReadFault n) w = front_more text s.lines s.closing (part s.lines w)
+    go (Status.WriteFault n) w = part (written s) w
+    go Status.NoMemory w = part (written s) w
+
+-- they are written
+pub finishes : (before : List ℕ) (s : Shown) (status : Status) (pending : List ℕ) (now then : Option (List ℕ)) → WritesBut before s status pending now
+    → ((all : List ℕ) → now ≡ Some all → then ≡ Some (all ++ pending)) → Writes before s status then
+finishes before s status pending now then h writes = writes_after before s status h.text then h.writes (wrote_whole before h.text pending now then h.wrote writes)
+
+-- in part
+pub fails_at_last : (before : List ℕ) (s : Shown) (status : Status) (pending : List ℕ) (now then : Option (List ℕ)) → WritesBut before s status pending now
+    → ((all : List ℕ) → now ≡ Some all → WritesFront all pending then) → WritesFront before (written s) then
+fails_at_last before s status pending now then h writes =
+    front_of_front before h.text (written s) then (wrote_front before h.text pending now then h.wrote writes) (front_of_shown s status h.text h.writes)

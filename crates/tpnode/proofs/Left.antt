@@ -12,7 +12,7 @@ use Rattle.tp_schedule.specs.declared.lines_fault.LinesFault.{LinesFault}
 use Rattle.tp_world.specs.declared.ground.Ground.{Ground}
 use Rattle.tpnode.specs.declared.status.Status.{Status}
 use Rattle.tpnode.specs.Shown.{Ends, Stops, reading_shown}
-use Rattle.tpnode.specs.Playing.{first_shown, IsEndOf, IsShown, PlaysFirst, StopsSo, unheard_as}
+use Rattle.tpnode.specs.Playing.{first_shown, IsEndOf, IsShown, PlaysNext, StopsSo, unheard_as}
 
 -- where the source tells what it has left
 record Told (p : Place) (left : Option (List ℕ)) (ls : List RawLine) : Type 0 where
@@ -123,19 +123,23 @@ first_read : (at before : ℕ) (w : World) (l : RawLine) (text : List ℕ) → c
     → first_shown at before w l ≡ reading_shown at w (read_line text)
 first_read at before w l text is within = rw (first_shown, within) (ap (λ t. reading_shown at w (read_line t)) is)
 
-pub plays_first : (at : ℕ) (w : World) (p : Place) (left : Option (List ℕ)) (ls : List RawLine) (text : List ℕ) (new : Place) (unread : Option (List ℕ)) (v : Ground) (shown : List ℕ)
-    → Parted p left ls text new unread → IsShown (reading_shown at w (read_line text)) (Ok shown) v → PlaysFirst at p.before w ls shown new unread v
-plays_first at w p left ls text new unread v shown parts h = record {
-  first = parts.first;
-  rest = parts.rest;
-  is = parts.is;
-  world = h.0;
-  shows = first_read at p.before w parts.first text parts.is_text parts.within ∙ h.1;
-  stands = h.2;
-  passed = parts.passed;
-  fault = parts.fault;
-  left = parts.others;
-}
+pub plays_first : (at : ℕ) (w : World) (p : Place) (left : Option (List ℕ)) (ls : List RawLine) (text : List ℕ) (old out : List ℕ) (new : Place) (unread : Option (List ℕ)) (v : Ground)
+    → Parted p left ls text new unread → IsShown (reading_shown at w (read_line text)) (Ok tt) old out v → PlaysNext at p.before w ls (Ok true) old out new unread v
+plays_first at w p left ls text old out new unread v parts h = (
+  h.0,
+  h.2,
+  record {
+    first = parts.first;
+    rest = parts.rest;
+    is = parts.is;
+    world = h.1;
+    shows = first_read at p.before w parts.first text parts.is_text parts.within ∙ h.3;
+    stands = h.4;
+    passed = parts.passed;
+    fault = parts.fault;
+    left = parts.others;
+  },
+)
 
 pub ends_in_first : (at : ℕ) (w : World) (p : Place) (left : Option (List ℕ)) (ls : List RawLine) (text : List ℕ) (new : Place) (unread : Option (List ℕ)) (status : Status)
     → Parted p left ls text new unread → IsEndOf (reading_shown at w (read_line text)) status → StopsSo at p.before w ls status

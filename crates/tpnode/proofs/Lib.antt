@@ -1,4 +1,5 @@
 mod Fronts
+mod Pending
 mod Behind
 mod Texts
 mod Ended

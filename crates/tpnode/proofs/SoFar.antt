@@ -1,4 +1,4 @@
--- How far a replay has come: what it has written, and what is left of the schedule.
+-- How far a replay has come: what it has written, what is pending, and what is left of the schedule.
 use Rattle.std.proofs.Common.{◌≡◌, ◌≤◌, ◌+◌, ◌++◌, ℕ, suc, Bool, true, false, nat_lt, List, [], ◌∷◌, Option, Some, None, refl, ap, subst, sym, ◌∙◌, append_assoc, arith}
 use Rattle.std.proofs.lemmas.List.{append-nil}
 use Rattle.std.proofs.lemmas.Bool.Decides.{nat_tests}
@@ -11,12 +11,13 @@ use Rattle.tp_world.specs.World.{Stands}
 use Rattle.tp_world.specs.declared.ground.Ground.{Ground}
 use Rattle.tpnode.specs.declared.status.Status.{Status}
 use Rattle.tpnode.specs.Shown.{End, Ends, Shown, Goes, Stops, ends, behind, written, shown_from, shown}
-use Rattle.tpnode.specs.Replay.{IsFront, WritesFront, WritesAll, Writes, ending_of}
+use Rattle.tpnode.specs.Replay.{IsFront, WritesFront, WritesAll, Writes, WroteBut, ending_of}
 use Rattle.tpnode.specs.Playing.{first_shown, PlaysFirst}
 use Rattle.tpnode.proofs.Behind.{takes_some}
 use Rattle.tpnode.proofs.Fronts.{front_behind}
+use Rattle.tpnode.proofs.Pending.{wrote_more, wrote_some}
 
-pub record SoFar (at : ℕ) (bytes : List ℕ) (v : Ground) (place : Place) (left start now : Option (List ℕ)) : Type 0 where
+pub record SoFar (at : ℕ) (bytes : List ℕ) (v : Ground) (place : Place) (left start now : Option (List ℕ)) (pending : List ℕ) : Type 0 where
   pub world : World
   pub lines : List RawLine
   pub text : List ℕ
@@ -24,11 +25,11 @@ pub record SoFar (at : ℕ) (bytes : List ℕ) (v : Ground) (place : Place) (lef
   pub ahead : lines_left place left ≡ Some lines
   pub numbered : at ≤ place.before + 1
   pub within : place.before ≤ 1048576
-  pub wrote : (before : List ℕ) → start ≡ Some before → now ≡ Some (before ++ text)
+  pub wrote : (before : List ℕ) → start ≡ Some before → WroteBut before text pending now
   pub shows : shown bytes ≡ behind text (shown_from at place.before world lines)
 
 pub at_start : (bytes : List ℕ) (v : Ground) (left start : Option (List ℕ)) → Stands empty_world v → left ≡ Some bytes
-    → SoFar 1 bytes v (record { held = []; before = 0; fault = None }) left start start
+    → SoFar 1 bytes v (record { held = []; before = 0; fault = None }) left start start []
 at_start bytes v left start stands is = record {
   world = empty_world;
   lines = raw_lines bytes;
@@ -37,7 +38,7 @@ at_start bytes v left start stands is = record {
   ahead = rw is refl;
   numbered = omega arith;
   within = omega arith;
-  wrote = λ before wrote. wrote ∙ ap Some (sym (append-nil before));
+  wrote = λ before wrote. ([], refl, wrote ∙ ap Some (sym (append-nil before)));
   shows = refl;
 }
 
@@ -74,26 +75,17 @@ of_bytes place left l ls is = go (together place.held left) refl
     go None e = absurd (let no : None ≡ Some (l ∷ ls) = sym (ap (option_map raw_lines) e) ∙ is in grind (arith, no))
     go (Some all) e = takes_some all l ls (let same : Some (raw_lines all) ≡ Some (l ∷ ls) = sym (ap (option_map raw_lines) e) ∙ is in grind (arith, same))
 
--- it was played, and what it shows was written
-pub further : (at : ℕ) (bytes : List ℕ) (v : Ground) (place : Place) (left start now : Option (List ℕ)) (text : List ℕ) (new_place : Place) (unread : Option (List ℕ)) (new : Ground) (then : Option (List ℕ))
-    → (s : SoFar at bytes v place left start now) → PlaysFirst at place.before s.world s.lines text new_place unread new → ((all : List ℕ) → now ≡ Some all → then ≡ Some (all ++ text))
-    → SoFar (at + 1) bytes new new_place unread start then
-further at bytes v place left start now text new_place unread new then s p writes = record {
-  world = p.world;
-  lines = p.rest;
-  text = s.text ++ text;
-  stands = p.stands;
-  ahead = p.left;
-  numbered = let more = of_bytes place left p.first p.rest (s.ahead ∙ ap Some p.is) in let passed = p.passed in let was = s.numbered in omega (arith, more, passed, was);
-  within = subst (λ n. n ≤ 1048576) (sym p.passed) (goes_within at place.before s.world p.first text p.world p.shows);
-  wrote = λ before h. writes (before ++ s.text) (s.wrote before h) ∙ ap Some (append_assoc before s.text text);
-  shows = s.shows
-      ∙ ap (λ ls. behind s.text (shown_from at place.before s.world ls)) p.is
-      ∙ ap (behind s.text) (goes_behind at place.before s.world p.first p.rest text p.world p.shows)
-      ∙ ap (λ n. behind s.text (behind text (shown_from (suc at) n p.world p.rest))) (sym p.passed)
-      ∙ two (shown_from (suc at) new_place.before p.world p.rest)
-      ∙ ap (λ n. behind (s.text ++ text) (shown_from n new_place.before p.world p.rest)) one_more;
-}
+-- it was played
+pub shows_more : (at : ℕ) (bytes : List ℕ) (v : Ground) (place : Place) (left start now : Option (List ℕ)) (pending text : List ℕ) (new_place : Place) (unread : Option (List ℕ)) (new : Ground)
+    → (s : SoFar at bytes v place left start now pending) → (p : PlaysFirst at place.before s.world s.lines text new_place unread new)
+    → shown bytes ≡ behind (s.text ++ text) (shown_from (at + 1) new_place.before p.world p.rest)
+shows_more at bytes v place left start now pending text new_place unread new s p =
+    s.shows
+    ∙ ap (λ ls. behind s.text (shown_from at place.before s.world ls)) p.is
+    ∙ ap (behind s.text) (goes_behind at place.before s.world p.first p.rest text p.world p.shows)
+    ∙ ap (λ n. behind s.text (behind text (shown_from (suc at) n p.world p.rest))) (sym p.passed)
+    ∙ two (shown_from (suc at) new_place.before p.world p.rest)
+    ∙ ap (λ n. behind (s.text ++ text) (shown_from n new_place.before p.world p.rest)) one_more
   where
     one_more : suc at ≡ at + 1
     one_more = omega arith
@@ -101,13 +93,26 @@ further at bytes v place left start now text new_place unread new then s p write
     two : (r : Shown) → behind s.text (behind text r) ≡ behind (s.text ++ text) r
     two r = ap (λ ls. record r { lines = ls }) (sym (append_assoc s.text text r.lines))
 
+-- and what it shows was put at the end of what was pending, which was written but for the rest
+pub further : (at : ℕ) (bytes : List ℕ) (v : Ground) (place : Place) (left start now : Option (List ℕ)) (pending text : List ℕ) (new_place : Place) (unread : Option (List ℕ)) (new : Ground) (then : Option (List ℕ))
+    (rest : List ℕ) → (s : SoFar at bytes v place left start now pending) → PlaysFirst at place.before s.world s.lines text new_place unread new
+    → ((all : List ℕ) → now ≡ Some all → WroteBut all (pending ++ text) rest then) → SoFar (at + 1) bytes new new_place unread start then rest
+further at bytes v place left start now pending text new_place unread new then rest s p writes = record {
+  world = p.world;
+  lines = p.rest;
+  text = s.text ++ text;
+  stands = p.stands;
+  ahead = p.left;
+  numbered = let more = of_bytes place left p.first p.rest (s.ahead ∙ ap Some p.is) in let passed = p.passed in let was = s.numbered in omega (arith, more, passed, was);
+  within = subst (λ n. n ≤ 1048576) (sym p.passed) (goes_within at place.before s.world p.first text p.world p.shows);
+  wrote = λ before h. wrote_some before (s.text ++ text) (pending ++ text) rest now then (wrote_more before s.text pending text now (s.wrote before h)) writes;
+  shows = shows_more at bytes v place left start now pending text new_place unread new s p;
+}
+
 -- ---- the ends
 
--- the source failed, or memory was wanting
-front_lines : (bytes text : List ℕ) (r : Shown) → shown bytes ≡ behind text r → IsFront text (shown bytes).lines
-front_lines bytes text r is = (r.lines, ap (λ s. s.lines) is)
-
-front_written : (bytes text : List ℕ) (r : Shown) → shown bytes ≡ behind text r → IsFront text (written (shown bytes))
+-- what was put together so far
+pub front_written : (bytes text : List ℕ) (r : Shown) → shown bytes ≡ behind text r → IsFront text (written (shown bytes))
 front_written bytes text r is = (r.lines ++ r.closing, ap written is ∙ append_assoc text r.lines r.closing)
 
 -- what is shown from here on was written, in whole or in part

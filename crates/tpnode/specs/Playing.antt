@@ -1,5 +1,5 @@
 -- What the code answers of one line: the bytes that it shows, or how the run ends in it. Out of memory is the free answer.
-use Rattle.std.specs.Prelude.{ℕ, ◌≡◌, ◌+◌, nat_lt, true, false, Option, Some, None, List, [], ◌∷◌, Result, Ok, Err}
+use Rattle.std.specs.Prelude.{ℕ, ◌≡◌, ◌+◌, ◌++◌, nat_lt, Bool, true, false, Option, Some, None, List, [], ◌∷◌, Result, Ok, Err}
 use Rattle.tp_model.specs.declared.verdict.What.{What}
 use Rattle.tp_model.specs.declared.verdict.Why.{Why}
 use Rattle.tp_schedule.specs.declared.line_fault.LineFault.{LineFault}
@@ -45,10 +45,10 @@ unheard_as at (LinesFault.ReadFault faults) = Status.ReadFault faults
 unheard_as at LinesFault.Long = Status.BadInput at (BadLine.Bad Why.Long)
 unheard_as at LinesFault.Limit = Status.Limit What.Schedule at
 
--- a line is shown
-abbrev pub IsShown : LineShown → Result (List ℕ) Status → Ground → Type 0
-IsShown s (Ok text) new = (v : World) × (s ≡ Goes text v) × Stands v new
-IsShown s (Err status) new = IsEndOf s status
+-- a line is shown, by a text at the end of the output
+abbrev pub IsShown : LineShown → Result (Unit {0}) Status → List ℕ → List ℕ → Ground → Type 0
+IsShown s (Ok u) old out new = (text : List ℕ) × (v : World) × (out ≡ old ++ text) × (s ≡ Goes text v) × Stands v new
+IsShown s (Err status) old out new = IsEndOf s status
 
 -- ---- the next line of a source
 
@@ -88,8 +88,9 @@ StopsSo at before w ls (Status.ReadFault faults) = Unit {0}
 StopsSo at before w ls (Status.WriteFault faults) = ⊥
 StopsSo at before w ls Status.NoMemory = Unit {0}
 
-abbrev pub PlaysNext : ℕ → ℕ → World → List RawLine → Result (Option (List ℕ)) Status → Place → Option (List ℕ) → Ground → Type 0
--- and nothing is left to read
-PlaysNext at before w ls (Ok None) place left new = (ls ≡ []) × Stands w new × (left ≡ Some [])
-PlaysNext at before w ls (Ok (Some text)) place left new = PlaysFirst at before w ls text place left new
-PlaysNext at before w ls (Err status) place left new = StopsSo at before w ls status
+abbrev pub PlaysNext : ℕ → ℕ → World → List RawLine → Result Bool Status → List ℕ → List ℕ → Place → Option (List ℕ) → Ground → Type 0
+-- what it shows is at the end of the output
+PlaysNext at before w ls (Ok true) old out place left new = (text : List ℕ) × (out ≡ old ++ text) × PlaysFirst at before w ls text place left new
+-- there is none, and nothing is left to read
+PlaysNext at before w ls (Ok false) old out place left new = (ls ≡ []) × Stands w new × (left ≡ Some [])
+PlaysNext at before w ls (Err status) old out place left new = StopsSo at before w ls status

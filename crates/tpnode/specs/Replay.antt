@@ -1,10 +1,11 @@
 -- What a run of `replay` writes, by how it ends: all that is shown of the schedule; or, where the source or the sink failed or memory
 -- was wanting, a prefix of it.
-use Rattle.std.specs.Prelude.{ℕ, ◌≡◌, Option, Some, List, ◌++◌}
+use Rattle.std.specs.Prelude.{ℕ, ◌≡◌, Option, Some, List, [], ◌++◌, Result, Ok, Err}
 use Rattle.tp_records.specs.declared.request.Request.{Request}
 use Rattle.tp_model.specs.Transcript.{Done, Bad_input, At_limit, transcript}
 use Rattle.tpnode.specs.declared.status.BadLine.{BadLine}
 use Rattle.tpnode.specs.declared.status.Status.{Status}
+use Rattle.tpnode.specs.declared.status.WriteFault.{WriteFault}
 use Rattle.tpnode.specs.Shown.{Shown, End, Ends, Unbuilt, written, shown}
 
 -- the first is a prefix of the second
@@ -34,6 +35,23 @@ Writes before s (Status.Limit what at) new = WritesAll before s (Ends (At_limit 
 Writes before s (Status.ReadFault faults) new = WritesFront before s.lines new
 Writes before s (Status.WriteFault faults) new = WritesFront before (written s) new
 Writes before s Status.NoMemory new = WritesFront before (written s) new
+
+-- ---- before the last bytes are written
+
+-- the text was written, but for the pending bytes at its end
+abbrev pub WroteBut : List ℕ → List ℕ → List ℕ → Option (List ℕ) → Type 0
+WroteBut before text pending new = (part : List ℕ) × (text ≡ part ++ pending) × (new ≡ Some (before ++ part))
+
+-- with the pending bytes, what is to be written of a run that ends so is written
+pub record WritesBut (before : List ℕ) (s : Shown) (status : Status) (pending : List ℕ) (new : Option (List ℕ)) : Type 0 where
+  pub text : List ℕ
+  pub writes : Writes [] s status (Some text)
+  pub wrote : WroteBut before text pending new
+
+abbrev pub Plays : List ℕ → Shown → Result Status WriteFault → List ℕ → Option (List ℕ) → Type 0
+Plays before s (Ok status) pending new = WritesBut before s status pending new
+-- the sink failed
+Plays before s (Err fault) pending new = WritesFront before (written s) new
 
 -- ---- the transcript
 

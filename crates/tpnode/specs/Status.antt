@@ -17,16 +17,6 @@ pub record IsFaultOf (faults old new : ℕ) : Type 0 where
   pub risen : HasRisen old new
   pub told : faults ≡ new
 
--- what ends a write that does not come to its end: the sink's own fault
-abbrev pub IsWriteFault : ℕ → ℕ → Status → Type 0
-IsWriteFault old new Status.Ok = ⊥
-IsWriteFault old new Status.Usage = ⊥
-IsWriteFault old new (Status.BadInput at why) = ⊥
-IsWriteFault old new (Status.Limit what at) = ⊥
-IsWriteFault old new (Status.ReadFault faults) = ⊥
-IsWriteFault old new (Status.WriteFault faults) = IsFaultOf faults old new
-IsWriteFault old new Status.NoMemory = ⊥
-
 -- the run ends in the line of that number
 abbrev pub IsEndAt : ℕ → Status → Type 0
 IsEndAt line Status.Ok = ⊥
@@ -47,6 +37,16 @@ IsLineEnding old new (Status.ReadFault faults) = IsFaultOf faults old new
 IsLineEnding old new (Status.WriteFault faults) = ⊥
 IsLineEnding old new Status.NoMemory = Unit {0}
 
+-- how the input ends, by the source's counts before and after it: as it is to, or by what ends a run at one of its lines
+abbrev pub IsInputEnding : ℕ → ℕ → Status → Type 0
+IsInputEnding old new Status.Ok = Unit {0}
+IsInputEnding old new Status.Usage = ⊥
+IsInputEnding old new (Status.BadInput at why) = 0 < at
+IsInputEnding old new (Status.Limit what at) = 0 < at
+IsInputEnding old new (Status.ReadFault faults) = IsFaultOf faults old new
+IsInputEnding old new (Status.WriteFault faults) = ⊥
+IsInputEnding old new Status.NoMemory = Unit {0}
+
 -- what ends a run, by the counts of the source and of the sink before and after it
 abbrev pub IsEnding : ℕ → ℕ → ℕ → ℕ → Status → Type 0
 IsEnding read_old read_new write_old write_new Status.Ok = Unit {0}
@@ -56,13 +56,3 @@ IsEnding read_old read_new write_old write_new (Status.Limit what at) = 0 < at
 IsEnding read_old read_new write_old write_new (Status.ReadFault faults) = IsFaultOf faults read_old read_new
 IsEnding read_old read_new write_old write_new (Status.WriteFault faults) = IsFaultOf faults write_old write_new
 IsEnding read_old read_new write_old write_new Status.NoMemory = Unit {0}
-
--- what ends a run after its last line
-abbrev pub IsCloseEnding : ℕ → ℕ → Status → Type 0
-IsCloseEnding old new Status.Ok = Unit {0}
-IsCloseEnding old new Status.Usage = ⊥
-IsCloseEnding old new (Status.BadInput at why) = ⊥
-IsCloseEnding old new (Status.Limit what at) = ⊥
-IsCloseEnding old new (Status.ReadFault faults) = ⊥
-IsCloseEnding old new (Status.WriteFault faults) = IsFaultOf faults old new
-IsCloseEnding old new Status.NoMemory = Unit {0}

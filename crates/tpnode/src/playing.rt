@@ -1,5 +1,6 @@
 //! One line of a schedule, from its bytes to the bytes that it shows.
-ghost use Rattle.std.specs.Prelude.{◌≡◌, IfErr, IfOk};
+ghost use Rattle.std.specs.Prelude.{◌≡◌, ◌++◌, IfErr, OnErr, OnOk};
+ghost use Rattle.tp_names.specs.Writing.{Keeps};
 ghost use Rattle.tp_model.specs.LineReading.{read_line};
 ghost use Rattle.tp_model.specs.OutText.{out_texts};
 ghost use Rattle.tp_model.specs.World.{World as WorldValue};
@@ -16,17 +17,28 @@ use tp_schedule::{LineFault, read_line};
 use tp_transcript::write_out;
 use tp_world::{World, WorldFault};
 
-/// The text of these lines, each with its end.
-#[tactic(auto, using(crate::proofs::Texts::texts_more))]
-pub fn texts_of(alloc: Global, lines: &OutLines) -> Result<Octets, NoMemory>
-    ensures { IfOk result (λ text. text ≡ out_texts lines.now) }
+/// Puts the text of these lines, each with its end, at the end of `out`. Without memory `out` stays as it was.
+pub fn write_texts(alloc: Global, lines: &OutLines, out: &mut Octets) -> Result<(), NoMemory>
+    ensures ok { OnOk result (out.new ≡ out.old ++ out_texts lines.now) }
+    ensures err { OnErr result (out.new ≡ out.old) }
 {
-    let mut text = Octets::new(alloc);
-    for line in lines.as_slice() {
-        write_out(alloc, line, &mut text)?;
-        text.push(alloc, b'\n')?;
+    let len = out.len();
+    let written = append_texts(alloc, lines, out);
+    if written.is_err() {
+        out.truncate(len);
     }
-    Ok(text)
+    written
+}
+
+fn append_texts(alloc: Global, lines: &OutLines, out: &mut Octets) -> Result<(), NoMemory>
+    ensures ok { OnOk result (out.new ≡ out.old ++ out_texts lines.now) }
+    ensures err { OnErr result (Keeps out.old out.new) }
+{
+    for line in lines.as_slice() {
+        write_out(alloc, line, out)?;
+        out.push(alloc, b'\n')?;
+    }
+    Ok(())
 }
 
 // The status of a run that ends in the line of that number, since it does not read.
@@ -63,15 +75,22 @@ fn unplayed(fault: WorldFault, at: u64) -> Status
     }
 }
 
-// What a line shows, as text.
+// Puts what a line shows at the end of `out`; the status where the run ends in it, and `out` stays as it was.
 #[tactic(auto, using(crate::proofs::Ended::plays_shown, crate::proofs::Ended::unplayed_ends, crate::proofs::Ended::unplayed_at))]
-fn play_line(alloc: Global, world: &mut World, line: &Line, at: u64) -> Result<Octets, Status>
+fn play_line(
+    alloc: Global,
+    world: &mut World,
+    line: &Line,
+    at: u64,
+    out: &mut Octets,
+) -> Result<(), Status>
     ensures ending { IfErr result (IsEndAt at) }
-    ensures shown { (w : WorldValue) → Stands w world.old → IsShown (line_shown at w line.now) result world.new }
+    ensures same { OnErr result (out.new ≡ out.old) }
+    ensures shown { (w : WorldValue) → Stands w world.old → IsShown (line_shown at w line.now) result out.old out.new world.new }
 {
     match world.line(alloc, line) {
-        Ok(lines) => match texts_of(alloc, &lines) {
-            Ok(text) => Ok(text),
+        Ok(lines) => match write_texts(alloc, &lines, out) {
+            Ok(()) => Ok(()),
             Err(NoMemory) => Err(Status::NoMemory),
         },
         Err(fault) => Err(unplayed(fault, at)),
@@ -79,14 +98,22 @@ fn play_line(alloc: Global, world: &mut World, line: &Line, at: u64) -> Result<O
 }
 
 #[tactic(auto, using(crate::proofs::Ended::blank_shown, crate::proofs::Ended::said_shown, crate::proofs::Ended::unread_ends, crate::proofs::Ended::unread_at))]
-/// What the line of that number, without its end, shows; the status where the run ends in it.
-pub fn play_text(alloc: Global, world: &mut World, text: &[u8], at: u64) -> Result<Octets, Status>
+/// Puts what the line of that number, without its end, shows at the end of `out`; the status where the run ends in it,
+/// and `out` stays as it was.
+pub fn play_text(
+    alloc: Global,
+    world: &mut World,
+    text: &[u8],
+    at: u64,
+    out: &mut Octets,
+) -> Result<(), Status>
     ensures ending { IfErr result (IsEndAt at) }
-    ensures shown { (w : WorldValue) → Stands w world.old → IsShown (reading_shown at w (read_line text.now)) result world.new }
+    ensures same { OnErr result (out.new ≡ out.old) }
+    ensures shown { (w : WorldValue) → Stands w world.old → IsShown (reading_shown at w (read_line text.now)) result out.old out.new world.new }
 {
     match read_line(alloc, text) {
-        Ok(None) => Ok(Octets::new(alloc)),
-        Ok(Some(line)) => play_line(alloc, world, &line, at),
+        Ok(None) => Ok(()),
+        Ok(Some(line)) => play_line(alloc, world, &line, at, out),
         Err(fault) => Err(unread(fault, at)),
     }
 }

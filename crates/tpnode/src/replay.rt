@@ -1,17 +1,17 @@
 //! A schedule out of a source, and its transcript into a sink, line by line.
-ghost use Rattle.std.specs.Prelude.{◌≡◌, ◌≢◌, ◌<◌, ◌≤◌, ℕ, List, Some, None, [], IfErr, IfOk, IfSome};
+ghost use Rattle.std.specs.Prelude.{◌≡◌, ◌≢◌, ◌<◌, ◌≤◌, ◌++◌, ℕ, true, false, List, Some, None, [], IfErr, IfOk, OnErr, OnOk};
 ghost use Rattle.tp_model.specs.Transcript.{RawLine};
 ghost use Rattle.tp_model.specs.World.{World as WorldValue};
 ghost use Rattle.tp_schedule.specs.LinesLeft.{lines_left};
 ghost use Rattle.tp_world.specs.World.{Stands};
-ghost use Rattle.tpnode.specs.Status.{IsEnding, IsLineEnding, IsCloseEnding};
+ghost use Rattle.tpnode.specs.Status.{IsEnding, IsFaultOf, IsInputEnding, IsLineEnding};
 ghost use Rattle.tpnode.specs.Shown.{shown, closes};
-ghost use Rattle.tpnode.specs.Replay.{Writes};
+ghost use Rattle.tpnode.specs.Replay.{Plays, Writes};
 ghost use Rattle.tpnode.specs.Playing.{PlaysNext, unheard_as};
 
-use crate::output::write_all;
-use crate::playing::{play_text, texts_of};
-use crate::status::{BadLine, Status};
+use crate::output::{write_all, write_long};
+use crate::playing::{play_text, write_texts};
+use crate::status::{BadLine, Status, WriteFault};
 use std::alloc::Global;
 use tp_model::{What, Why};
 use tp_names::{NoMemory, Octets};
@@ -39,72 +39,97 @@ fn unheard(fault: LinesFault, at: u64) -> Status
     }
 }
 
-// What the next line of the source shows, which has that number; none after the last.
-fn next_shown<S: Source>(
+// Puts what the next line of the source shows, which has that number, at the end of `out`, and answers whether there was
+// one; the status where the run ends in it, and `out` stays as it was.
+fn play_next<S: Source>(
     alloc: Global,
     lines: &mut Lines,
     source: &mut S,
     world: &mut World,
     at: u64,
-) -> Result<Option<Octets>, Status>
+    out: &mut Octets,
+) -> Result<bool, Status>
     requires numbered { 0 < at }
     requires unfaulted { lines.old.fault ≡ None }
     ensures kept { S.fault_count source.old ≤ S.fault_count source.new }
     ensures ending { IfErr result (IsLineEnding (S.fault_count source.old) (S.fault_count source.new)) }
-    ensures unfaulted { IfOk result (λ text. IfSome text (λ t. lines.new.fault ≡ None)) }
-    ensures plays { (w : WorldValue) (ls : List RawLine) → Stands w world.old → lines_left lines.old (S.left source.old) ≡ Some ls → PlaysNext at lines.old.before w ls result lines.new (S.left source.new) world.new }
+    ensures unfaulted { result ≡ Ok true → lines.new.fault ≡ None }
+    ensures same { OnErr result (out.new ≡ out.old) }
+    ensures ended { result ≡ Ok false → out.new ≡ out.old }
+    ensures plays { (w : WorldValue) (ls : List RawLine) → Stands w world.old → lines_left lines.old (S.left source.old) ≡ Some ls → PlaysNext at lines.old.before w ls result out.old out.new lines.new (S.left source.new) world.new }
 {
     match lines.next(source) {
-        Ok(None) => Ok(None),
-        Ok(Some(text)) => match play_text(alloc, world, text, at) {
-            Ok(shown) => Ok(Some(shown)),
+        Ok(None) => Ok(false),
+        Ok(Some(text)) => match play_text(alloc, world, text, at, out) {
+            Ok(()) => Ok(true),
             Err(status) => Err(status),
         },
         Err(fault) => Err(unheard(fault, at)),
     }
 }
 
-// Writes the closing lines.
-fn close<K: Sink>(alloc: Global, world: &World, sink: &mut K) -> Status
-    ensures kept { K.fault_count sink.old ≤ K.fault_count sink.new }
-    ensures ending { IsCloseEnding (K.fault_count sink.old) (K.fault_count sink.new) result }
-    ensures writes { (w : WorldValue) (before : List ℕ) → Stands w world.now → K.written sink.old ≡ Some before → Writes before (closes w) result (K.written sink.new) }
+// Puts the closing lines at the end of `out`. Without memory `out` stays as it was.
+fn close(alloc: Global, world: &World, out: &mut Octets) -> Result<(), NoMemory>
+    ensures ok { (w : WorldValue) → Stands w world.now → OnOk result (out.new ≡ out.old ++ (closes w).closing) }
+    ensures err { OnErr result (out.new ≡ out.old) }
 {
-    let text = match world.closing(alloc) {
-        Ok(lines) => texts_of(alloc, &lines),
-        Err(NoMemory) => Err(NoMemory),
-    };
-    let Ok(text) = text else {
-        return Status::NoMemory;
-    };
-    match write_all(sink, text.as_slice()) {
-        Ok(()) => Status::Ok,
-        Err(status) => status,
-    }
+    let lines = world.closing(alloc)?;
+    write_texts(alloc, &lines, out)
 }
 
-/// Reads a schedule from the source, and writes its transcript to the sink as it goes.
+// Plays the schedule, and answers how it ends. What it shows is put at the end of `out`, and written as it gets long: what
+// is in `out` in the end is still to be written.
+fn play_all<S: Source, K: Sink>(
+    alloc: Global,
+    source: &mut S,
+    sink: &mut K,
+    out: &mut Octets,
+) -> Result<Status, WriteFault>
+    requires { out.old ≡ [] }
+    ensures kept { K.fault_count sink.old ≤ K.fault_count sink.new }
+    ensures ending { IfOk result (IsInputEnding (S.fault_count source.old) (S.fault_count source.new)) }
+    ensures fault { IfErr result (λ f. IsFaultOf f.faults (K.fault_count sink.old) (K.fault_count sink.new)) }
+    ensures read { (bytes : List ℕ) → S.left source.old ≡ Some bytes → result ≡ Ok Status.Ok → S.left source.new ≡ Some [] }
+    ensures plays { (bytes before : List ℕ) → S.left source.old ≡ Some bytes → K.written sink.old ≡ Some before → Plays before (shown bytes) result out.new (K.written sink.new) }
+{
+    let mut world = World::new(alloc);
+    let mut lines = Lines::new();
+    for at in 1..PAST_LINES {
+        match play_next(alloc, &mut lines, source, &mut world, at, out) {
+            Ok(true) => {
+                if let Err(fault) = write_long(sink, out) {
+                    return Err(fault);
+                }
+            }
+            Ok(false) => {
+                return match close(alloc, &world, out) {
+                    Ok(()) => Ok(Status::Ok),
+                    Err(NoMemory) => Ok(Status::NoMemory),
+                };
+            }
+            Err(status) => return Ok(status),
+        }
+    }
+    Ok(Status::Limit {
+        what: What::Schedule,
+        at: PAST_LINES,
+    })
+}
+
+/// Reads a schedule from the source, and writes its transcript to the sink as it goes, in long pieces.
 pub fn replay<S: Source, K: Sink>(alloc: Global, source: &mut S, sink: &mut K) -> Status
     ensures replayed { result ≢ Status.Usage }
     ensures ending { IsEnding (S.fault_count source.old) (S.fault_count source.new) (K.fault_count sink.old) (K.fault_count sink.new) result }
     ensures read { (bytes : List ℕ) → S.left source.old ≡ Some bytes → result ≡ Status.Ok → S.left source.new ≡ Some [] }
     ensures transcript { (bytes before : List ℕ) → S.left source.old ≡ Some bytes → K.written sink.old ≡ Some before → Writes before (shown bytes) result (K.written sink.new) }
 {
-    let mut world = World::new(alloc);
-    let mut lines = Lines::new();
-    for at in 1..PAST_LINES {
-        match next_shown(alloc, &mut lines, source, &mut world, at) {
-            Ok(None) => return close(alloc, &world, sink),
-            Ok(Some(text)) => {
-                if let Err(status) = write_all(sink, text.as_slice()) {
-                    return status;
-                }
-            }
-            Err(status) => return status,
-        }
-    }
-    Status::Limit {
-        what: What::Schedule,
-        at: PAST_LINES,
+    let mut out = Octets::new(alloc);
+    let status = match play_all(alloc, source, sink, &mut out) {
+        Ok(status) => status,
+        Err(WriteFault { faults }) => return Status::WriteFault { faults },
+    };
+    match write_all(sink, out.as_slice()) {
+        Ok(()) => status,
+        Err(WriteFault { faults }) => Status::WriteFault { faults },
     }
 }

@@ -20,6 +20,12 @@ impl fmt::Display for BadLine {
     }
 }
 
+/// The sink failed: its count, right after the call that failed.
+#[derive(Clone, Copy)]
+pub struct WriteFault {
+    pub faults: u64,
+}
+
 /// The ending of a run. Lines are numbered from 1, comments too; `faults` is the count of the object
 /// that failed, right after the call that failed.
 #[derive(Clone, Copy, Debug, PartialEq, Eq)]

@@ -142,8 +142,23 @@ fn a_read_fault_is_told_with_the_count(rt: HostRuntime) {
 
 #[test]
 fn a_write_fault_is_told_with_the_count(rt: HostRuntime) {
-    let written = "> node 1 a\nlog a boot 1\n";
-    let status = replayed(rt.alloc(), SCHEDULE, (&[], &[2]), written);
+    let status = replayed(rt.alloc(), SCHEDULE, (&[], &[1]), "");
+    assert!(rt; matches!(status, Some(Status::WriteFault { faults: 1 })));
+}
+
+// The lines whose texts are one piece, which is written as soon as it has 64 KiB.
+const PIECE: usize = 8192;
+
+// The status of a replay of two such pieces, of which the second is not written.
+fn after_one_piece(alloc: Global) -> Option<Status> {
+    let schedule = "drain\n".repeat(alloc, 2 * PIECE).ok()?;
+    let written = "> drain\n".repeat(alloc, PIECE).ok()?;
+    replayed(alloc, schedule.as_str(), (&[], &[2]), written.as_str())
+}
+
+#[test]
+fn a_write_fault_comes_after_what_was_written(rt: HostRuntime) {
+    let status = after_one_piece(rt.alloc());
     assert!(rt; matches!(status, Some(Status::WriteFault { faults: 1 })));
 }
 

@@ -1,6 +1,6 @@
 use Rattle.std.proofs.Common.{◌≡◌, ◌≤◌, ℕ, List, Some, None}
 use Rattle.tpnode.proofs.SoFar.{SoFar}
-use Rattle.tpnode.proofs.replay.replay.Given as goal
+use Rattle.tpnode.proofs.replay.play_all.Given as goal
 
 abbrev pub invariant-loop-at : goal.invariant-loop-at
 invariant-loop-at g l = record {
@@ -8,5 +8,5 @@ invariant-loop-at g l = record {
   read : g.S.Source.fault_count l.fn.source ≤ g.S.Source.fault_count l.source;
   written : g.K.Sink.fault_count l.fn.sink ≤ g.K.Sink.fault_count l.sink;
   so_far : (bytes : List ℕ) → g.S.Source.left l.fn.source ≡ Some bytes
-      → SoFar l.at bytes l.world l.lines (g.S.Source.left l.source) (g.K.Sink.written l.fn.sink) (g.K.Sink.written l.sink);
+      → SoFar l.at bytes l.world l.lines (g.S.Source.left l.source) (g.K.Sink.written l.fn.sink) (g.K.Sink.written l.sink) l.out;
 }

@@ -3,7 +3,7 @@ use Rattle.tp_schedule.specs.AtHand.{together}
 use Rattle.tp_schedule.specs.LinesLeft.{answer, shown, IsFor, Leaves}
 use Rattle.tpnode.specs.Playing.{StopsSo}
 use Rattle.tpnode.proofs.Left.{none_left, none_unread, parted, plays_first, ends_in_first, unheard_ends}
-use Rattle.tpnode.proofs.replay.next_shown.Goals as goal
+use Rattle.tpnode.proofs.replay.play_next.Goals as goal
 
 pub returns-in-Ok-None-clause-plays : goal.returns-in-Ok-None-clause-plays
 returns-in-Ok-None-clause-plays g c = λ w ls h is.
@@ -19,8 +19,8 @@ returns-in-Ok-None-clause-plays g c = λ w ls h is.
 
 pub returns-in-Ok-clause-plays : goal.returns-in-Ok-clause-plays
 returns-in-Ok-clause-plays g c = λ w ls h is.
-    plays_first c.args.at w c.args.lines.now (g.S.Source.left c.args.source.now) ls c.in-Ok-Some.text.now c.next.follows.lender-at-none (g.S.Source.left c.next.new.source)
-    c.play_text.new.world c.in-Ok.shown
+    plays_first c.args.at w c.args.lines.now (g.S.Source.left c.args.source.now) ls c.in-Ok-Some.text.now c.args.out.now c.play_text.new.out c.next.follows.lender-at-none
+    (g.S.Source.left c.next.new.source) c.play_text.new.world
     (parted c.args.lines.now (g.S.Source.left c.args.source.now) ls c.in-Ok-Some.text.now c.next.follows.lender-at-none (g.S.Source.left c.next.new.source)
     c.requires.unfaulted is
     (subst (λ v. IsFor (answer c.args.lines.now) (together c.args.lines.now.held (g.S.Source.left c.args.source.now)) (shown (Ok v))) c.in-Ok-Some.field-0-is (c.in-Ok-Some.ensures {u = tt}).line)
