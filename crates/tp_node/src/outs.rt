@@ -10,14 +10,14 @@ use tp_names::{Addr, NoMemory};
 use tp_records::{Indication, PeerRecord};
 
 /// An output of a node: an indication to its user, or a record to another node.
-#[derive(Debug, Drop)]
+#[derive(Drop)]
 pub enum Out {
     Tell(Indication),
     Send { to: Addr, rec: PeerRecord },
 }
 
 /// A list of outputs, which contracts see as that of the definitions.
-#[derive(Debug, Drop)]
+#[derive(Drop)]
 pub struct Outs {
     items: Vec<Out>,
 }

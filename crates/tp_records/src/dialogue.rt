@@ -12,7 +12,7 @@ pub enum Holder {
 }
 
 /// A record of a dialogue.
-#[derive(Debug, Drop)]
+#[derive(Drop)]
 pub enum DialogueRecord {
     EndDialogue,
     UserData {

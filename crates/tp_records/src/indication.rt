@@ -5,7 +5,7 @@ use tp_names::{Aaid, Octets, Report};
 use tp_units::Units;
 
 /// An indication, or the confirmation of a request.
-#[derive(Debug, Drop)]
+#[derive(Drop)]
 pub enum Indication {
     BeginDialogue { peer: u16, units: Units },
     BegunDialogue { peer: u16, units: Units },

@@ -16,7 +16,7 @@ pub enum RecState {
 }
 
 /// A record from node to node. `x` is the caller's mark of an association, `y` the answerer's.
-#[derive(Debug, Drop)]
+#[derive(Drop)]
 pub enum PeerRecord {
     OpenAssoc {
         x: Mark,

@@ -43,7 +43,7 @@ use tp_units::{CHAINED, Units};
 
 /// A copy of a node on which an event runs, the record that is to be forced, and the outputs. Contracts
 /// see it as a move of the definitions.
-#[derive(Debug, Drop)]
+#[derive(Drop)]
 pub(crate) struct Draft {
     node: Node,
     rec: Option<LogRec>,

@@ -24,7 +24,7 @@ use tp_node::{Node, NodeEvent, NodeState, NodeTree, Outs};
 
 /// What an event gives: its outputs, in order. With a number, it was refused by that, and the association that it came on
 /// was ended; the outputs are of that loss.
-#[derive(Debug, Drop)]
+#[derive(Drop)]
 pub struct Played {
     pub number: Option<u8>,
     pub outs: Outs,
