@@ -35,3 +35,5 @@ pub mod AmongArcs
 pub mod NodeTrials
 pub mod Samples
 pub mod Traces
+pub mod Refusal
+pub mod Disposition

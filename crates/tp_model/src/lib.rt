@@ -9,6 +9,7 @@
 
 mod arc;
 pub mod byte_examples;
+mod disposition;
 pub mod examples;
 pub mod laws;
 mod line;
@@ -17,16 +18,19 @@ mod node_numbers;
 mod out_line;
 mod out_lines;
 mod recovery;
+mod refusal;
 mod transaction;
 mod tx_outs;
 mod verdict;
 
 pub use arc::{Act, Deferral, Phase, Side, Situation};
+pub use disposition::Disposition;
 pub use line::{Line, LineRequest, StopLine};
 pub use node_numbers::NodeNumbers;
 pub use out_line::{LogWords, OutLine, PhaseWord, RecordFate, SentWords};
 pub use out_lines::OutLines;
 pub use recovery::{Kept, KeptEvent, Known, Question};
+pub use refusal::Refusal;
 pub use transaction::{Step, TxEvent, TxFault, TxOut};
 pub use tx_outs::TxOuts;
 pub use verdict::{What, Why};

@@ -1,0 +1,75 @@
+-- The refusals by their names: the number of each, which the definitions of the service speak of, and how a call
+-- answers by one. When each comes stands with what it refuses: `Dialogues`, `Requests`, `Transactions`, `Arrivals`.
+use Rattle.std.specs.Prelude.{ℕ, ◌≡◌, Bool, true, false, Option, Some, None, Result, Ok, Err, List, [], ◌∷◌}
+use Rattle.tp_model.specs.declared.refusal.Refusal.{Refusal}
+use Rattle.tp_model.specs.declared.transaction.TxFault.{TxFault}
+
+abbrev pub number_of : Refusal → ℕ
+number_of Refusal.NoDialogue = 1
+number_of Refusal.WrongPhase = 2
+number_of Refusal.WrongControl = 3
+number_of Refusal.UnitAbsent = 4
+number_of Refusal.HandshakeOpen = 5
+number_of Refusal.NoTransaction = 6
+number_of Refusal.TransactionOpen = 7
+number_of Refusal.NotAsked = 8
+number_of Refusal.AlreadyAsked = 9
+number_of Refusal.NotInReady = 10
+number_of Refusal.AlreadyDecided = 11
+number_of Refusal.NothingOwed = 12
+number_of Refusal.TooMany = 13
+number_of Refusal.NotKept = 14
+number_of Refusal.StillOwed = 15
+number_of Refusal.NoNode = 16
+number_of Refusal.NumbersSpent = 17
+number_of Refusal.OldAssociation = 21
+number_of Refusal.OutOfOrder = 22
+number_of Refusal.WrongSite = 23
+number_of Refusal.OutOfPhase = 24
+number_of Refusal.BadRecord = 25
+
+-- a transcript shows 21 and 22 as dropped, the others as refused
+abbrev pub is_dropped : Refusal → Bool
+is_dropped Refusal.NoDialogue = false
+is_dropped Refusal.WrongPhase = false
+is_dropped Refusal.WrongControl = false
+is_dropped Refusal.UnitAbsent = false
+is_dropped Refusal.HandshakeOpen = false
+is_dropped Refusal.NoTransaction = false
+is_dropped Refusal.TransactionOpen = false
+is_dropped Refusal.NotAsked = false
+is_dropped Refusal.AlreadyAsked = false
+is_dropped Refusal.NotInReady = false
+is_dropped Refusal.AlreadyDecided = false
+is_dropped Refusal.NothingOwed = false
+is_dropped Refusal.TooMany = false
+is_dropped Refusal.NotKept = false
+is_dropped Refusal.StillOwed = false
+is_dropped Refusal.NoNode = false
+is_dropped Refusal.NumbersSpent = false
+is_dropped Refusal.OldAssociation = true
+is_dropped Refusal.OutOfOrder = true
+is_dropped Refusal.WrongSite = false
+is_dropped Refusal.OutOfPhase = false
+is_dropped Refusal.BadRecord = false
+
+-- the number of a refusal, where there is one
+abbrev pub number_in : Option Refusal → Option ℕ
+number_in None = None
+number_in (Some r) = Some (number_of r)
+
+-- tests with their refusals, by the numbers of these
+abbrev pub numbered : List (Bool × Refusal) → List (Bool × ℕ)
+numbered [] = []
+numbered (t ∷ ts) = (t.0, number_of t.1) ∷ numbered ts
+
+-- the number by which a call refuses
+abbrev pub number_answered : {A : Type 0} → Result A Refusal → Option ℕ
+number_answered (Ok a) = None
+number_answered (Err r) = Some (number_of r)
+
+-- a call is refused by that number, or by none; where there was no memory for it nothing is said
+abbrev pub IsRefusedAs : {A : Type 0} → Result A TxFault → Option ℕ → Type 0
+IsRefusedAs (Ok a) n = n ≡ None
+IsRefusedAs (Err (TxFault.Refused k)) n = n ≡ Some k
+IsRefusedAs (Err TxFault.NoMemory) n = Unit {0}
