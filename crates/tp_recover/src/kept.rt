@@ -1,11 +1,12 @@
 //! What a kept transaction says and does.
 ghost use Rattle.std.specs.Prelude.{◌≡◌, ◌++◌, IfOk, OnOk};
 ghost use Rattle.tp_model.specs.Recovery.{owed, ask_owed, tell_superior, settled, refused_kept, without_owed, forget_to, rec_of_done};
-ghost use Rattle.tp_recover.specs.Kept.{IsRefusedAs, is_owed, done_step};
+ghost use Rattle.tp_model.specs.Refusal.{IsRefusedAs, number_in};
+ghost use Rattle.tp_recover.specs.Kept.{is_owed, done_step};
 
 use std::alloc::Global;
 use tp_logrec::LogRec;
-use tp_model::{Kept, KeptEvent, Step, TxFault, TxOut, TxOuts};
+use tp_model::{Kept, KeptEvent, Refusal, Step, TxFault, TxOut, TxOuts};
 use tp_names::same::is_branch;
 use tp_names::{Aaid, Addr, BranchId, Child, Children, NoMemory, NodeKey, Outcome, Report};
 use tp_records::{PeerRecord, RecState};
@@ -169,20 +170,32 @@ fn done(
     Ok(Step { rec, outs })
 }
 
-/// What an event of a kept transaction asks for: at most one record, and outputs. A purge is refused by
-/// 15 exactly where a branch is owed, or the side is commit and the transaction is not a root's; nothing
-/// else is refused. That a Forget is noted where a branch is owed stands in no record.
+/// Why an event of a kept transaction is refused: a purge, exactly where a branch is owed, or the side is commit and the
+/// transaction is not a root's; nothing else is refused. It takes no memory.
+pub fn refused(kept: &Kept, event: &KeptEvent) -> Option<Refusal>
+    ensures { number_in result ≡ refused_kept kept.now event.now }
+{
+    match event {
+        KeptEvent::Done { .. } | KeptEvent::Forget => None,
+        KeptEvent::Purge => {
+            let is_waited_for = kept.side == Outcome::Commit && kept.key.branch.is_some();
+            Refusal::first(&[(!kept.owed.is_empty() || is_waited_for, Refusal::StillOwed)])
+        }
+    }
+}
+
+/// What an event of a kept transaction asks for: at most one record, and outputs. Nothing is refused here. That a Forget
+/// is noted where a branch is owed stands in no record.
 #[tactic(auto, unfolding(tp_model::specs::Recovery::settled))]
-pub fn settle(alloc: Global, kept: &Kept, event: &KeptEvent) -> Result<Step, TxFault>
-    ensures step { IfOk result (λ step. step ≡ settled kept.now event.now) }
-    ensures refused { IsRefusedAs result (refused_kept kept.now event.now) }
+pub fn step(alloc: Global, kept: &Kept, event: &KeptEvent) -> Result<Step, NoMemory>
+    ensures { IfOk result (λ step. step ≡ settled kept.now event.now) }
 {
     match event {
         KeptEvent::Done {
             from,
             branch,
             report,
-        } => Ok(done(alloc, kept, *from, *branch, *report)?),
+        } => done(alloc, kept, *from, *branch, *report),
         KeptEvent::Forget => {
             let is_over = kept.side == Outcome::Commit && kept.owed.is_empty();
             Ok(Step {
@@ -190,15 +203,20 @@ pub fn settle(alloc: Global, kept: &Kept, event: &KeptEvent) -> Result<Step, TxF
                 outs: TxOuts::new(alloc),
             })
         }
-        KeptEvent::Purge => {
-            let is_waited_for = kept.side == Outcome::Commit && kept.key.branch.is_some();
-            if !kept.owed.is_empty() || is_waited_for {
-                return Err(TxFault::Refused(15));
-            }
-            Ok(Step {
-                rec: Some(end_of(kept)),
-                outs: TxOuts::new(alloc),
-            })
-        }
+        KeptEvent::Purge => Ok(Step {
+            rec: Some(end_of(kept)),
+            outs: TxOuts::new(alloc),
+        }),
     }
+}
+
+/// What an event of a kept transaction asks for, or the number by which it is refused.
+pub fn settle(alloc: Global, kept: &Kept, event: &KeptEvent) -> Result<Step, TxFault>
+    ensures step { IfOk result (λ step. step ≡ settled kept.now event.now) }
+    ensures refused { IsRefusedAs result (refused_kept kept.now event.now) }
+{
+    if let Some(refusal) = refused(kept, event) {
+        return Err(TxFault::Refused(refusal.number()));
+    }
+    Ok(step(alloc, kept, event)?)
 }

@@ -7,5 +7,5 @@
 mod kept;
 mod question;
 
-pub use kept::{forget_to, owed, settle};
+pub use kept::{forget_to, owed, refused, settle, step};
 pub use question::answer;
