@@ -9,8 +9,8 @@ use tp_model::{Act, Situation};
 fn digit(answer: Result<(), Refusal>) -> u8 {
     match answer {
         Ok(()) => b'0',
-        Err(Refusal { number: 13 }) => b'd',
-        Err(Refusal { number }) => number.saturating_add(b'0'),
+        Err(Refusal::TooMany) => b'd',
+        Err(refusal) => refusal.number().saturating_add(b'0'),
     }
 }
 
@@ -26,8 +26,7 @@ fn sight(answer: Result<Seen, OutOfPhase>) -> u8 {
     match answer {
         Ok(Seen::Told) => b'a',
         Ok(Seen::Nothing) => b'n',
-        Err(OutOfPhase { number: 24 }) => b'x',
-        Err(_) => b'?',
+        Err(OutOfPhase) => b'x',
     }
 }
 

@@ -21,7 +21,7 @@ fn called(x: Mark) -> Link {
 fn bound(caller: &mut Link, x: Mark, y: Mark) -> u8 {
     match caller.bound(x, y) {
         Ok(()) => 0,
-        Err(dropped) => dropped.number,
+        Err(dropped) => dropped.refusal().number(),
     }
 }
 
@@ -29,7 +29,7 @@ fn bound(caller: &mut Link, x: Mark, y: Mark) -> u8 {
 fn taken(caller: &mut Link, x: Mark, y: Mark, sequence: u64) -> u8 {
     match caller.take(x, y, sequence) {
         Ok(()) => 0,
-        Err(dropped) => dropped.number,
+        Err(dropped) => dropped.refusal().number(),
     }
 }
 

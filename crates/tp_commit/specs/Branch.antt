@@ -10,7 +10,6 @@ use Rattle.tp_names.specs.declared.outcome.Report.{Report}
 use Rattle.tp_logrec.specs.declared.record.LogRec.{LogRec}
 use Rattle.tp_model.specs.declared.arc.Phase.{Phase}
 use Rattle.tp_model.specs.declared.transaction.TxEvent.{TxEvent}
-use Rattle.tp_model.specs.declared.transaction.TxFault.{TxFault}
 use Rattle.tp_model.specs.Parts.{Key, Root, Under}
 use Rattle.tp_model.specs.Dialogues.{is_committing, is_rolling}
 use Rattle.tp_model.specs.Transactions.{Row, Transaction, node_key, is_under, fresh_branch, find_row_by_id}
@@ -138,12 +137,6 @@ begins (TxEvent.Reply b s) = 0
 begins TxEvent.Retry = 0
 
 -- ---- what it tells
-
--- an event is refused by that number, or by none; without memory nothing is said
-abbrev pub IsRefusedAs : {A : Type 0} → Result A TxFault → Option ℕ → Type 0
-IsRefusedAs (Ok a) n = n ≡ None
-IsRefusedAs (Err (TxFault.Refused k)) n = n ≡ Some k
-IsRefusedAs (Err TxFault.NoMemory) n = Unit {0}
 
 abbrev pub child_at : List Row → BranchId → Option Addr
 child_at rows b = elim (find_row_by_id rows b) [ None ↦ None | Some r ↦ Some r.branch.peer ]

@@ -1,5 +1,5 @@
 pub mod Row
 pub mod Branch
 pub mod Rules
-pub mod Sight
+pub mod Disposition
 pub mod Standing

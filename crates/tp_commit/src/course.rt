@@ -7,9 +7,8 @@ ghost use Rattle.tp_records.specs.declared.peer.RecState.{RecState};
 ghost use Rattle.tp_commit.specs.Rules.{run, completion, is_needed, lost_by, set_off};
 
 use crate::rule::{Course, Rule};
-use crate::sight::Sight;
 use crate::{Branch, rows};
-use tp_model::{Phase, TxEvent};
+use tp_model::{Disposition, Phase, TxEvent};
 use tp_names::{BranchId, Report};
 use tp_records::{DialogueRecord, RecState, Request};
 
@@ -239,9 +238,9 @@ impl Branch {
         match event {
             TxEvent::Begun { .. } => Course::one(Rule::Nothing),
             TxEvent::User(request) => self.by_user(request),
-            TxEvent::Took { arc, rec } => match self.sight(*arc, rec) {
-                Sight::Acts => self.takes(*arc, rec),
-                Sight::Nothing | Sight::OutOfPhase => Course::one(Rule::Nothing),
+            TxEvent::Took { arc, rec } => match self.disposition(*arc, rec) {
+                Disposition::Acts => self.takes(*arc, rec),
+                Disposition::Nothing | Disposition::OutOfPhase => Course::one(Rule::Nothing),
             },
             TxEvent::Lost { arc } => self.lost(*arc),
             TxEvent::Heur(outcome) => Course::one(Rule::Decide(*outcome)),

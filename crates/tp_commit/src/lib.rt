@@ -8,14 +8,13 @@
 mod branch;
 mod change;
 mod course;
+mod disposition;
 pub mod laws;
 mod plan;
 mod refusal;
 mod row;
 mod rows;
 mod rule;
-mod sight;
 mod step;
 
 pub use branch::Branch;
-pub use sight::Sight;

@@ -1,7 +1,8 @@
 //! What an event asks for, and what it leaves.
 ghost use Rattle.std.specs.Prelude.{◌≡◌, ◌+◌, ◌<◌, ◌≤◌, ◌++◌, IfOk, length};
 ghost use Rattle.tp_model.specs.Transactions.{transacted, refused_tx, step_of, fresh_rows};
-ghost use Rattle.tp_commit.specs.Branch.{IsRefusedAs, standing, begins};
+ghost use Rattle.tp_model.specs.Refusal.{IsRefusedAs};
+ghost use Rattle.tp_commit.specs.Branch.{standing, begins};
 ghost use Rattle.tp_commit.specs.Rules.{run, set_off, later};
 
 use crate::rule::{Course, Rule};
@@ -53,8 +54,8 @@ impl Branch {
         ensures step { IfOk result (λ step. step ≡ step_of (transacted event.now self.now)) }
         ensures refused { IsRefusedAs result (refused_tx event.now self.now) }
     {
-        if let Some(number) = self.refused(event) {
-            return Err(TxFault::Refused(number));
+        if let Some(refusal) = self.refused(event) {
+            return Err(TxFault::Refused(refusal.number()));
         }
         Ok(self.step(alloc, event)?)
     }

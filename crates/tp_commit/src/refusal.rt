@@ -1,24 +1,15 @@
-//! What a transaction refuses, and by which number.
+//! What a transaction refuses.
 ghost use Rattle.std.specs.Prelude.{◌≡◌};
 ghost use Rattle.tp_model.specs.Transactions.{refused_user, may_give_up, refused_tx};
-ghost use Rattle.tp_model.specs.Dialogues.{is_late, first};
+ghost use Rattle.tp_model.specs.Dialogues.{is_late};
+ghost use Rattle.tp_model.specs.Refusal.{number_in};
 
-use crate::sight::Sight;
 use crate::{Branch, rows};
-use tp_model::{Phase, TxEvent};
+use tp_model::Refusal::{
+    AlreadyAsked, AlreadyDecided, NotAsked, NotInReady, NothingOwed, StillOwed, WrongPhase,
+};
+use tp_model::{Disposition, Phase, Refusal, TxEvent};
 use tp_records::Request;
-
-// The number of the first test that holds.
-fn first(tests: &[(bool, u8)]) -> Option<u8>
-    ensures { result ≡ first tests.now }
-{
-    for test in tests {
-        if test.0 {
-            return Some(test.1);
-        }
-    }
-    None
-}
 
 impl Branch {
     // Ready, committing or rolling.
@@ -31,29 +22,29 @@ impl Branch {
         }
     }
 
-    /// The number by which the transaction refuses a request; what its dialogue refuses is not the
-    /// transaction's. It takes no memory.
-    pub fn refused_user(&self, request: &Request) -> Option<u8>
-        ensures { result ≡ refused_user self.now request.now }
+    /// Why the transaction refuses a request: the refusal with the least number that applies. What its dialogue
+    /// refuses is not the transaction's. It takes no memory.
+    pub fn refused_user(&self, request: &Request) -> Option<Refusal>
+        ensures { number_in result ≡ refused_user self.now request.now }
     {
         let late = self.is_late();
         let unasked = !self.told_prepare;
         match request {
-            Request::Commit => first(&[
-                (late, 2),
-                (self.is_under() && unasked, 8),
-                (self.asked, 9),
+            Request::Commit => Refusal::first(&[
+                (late, WrongPhase),
+                (self.is_under() && unasked, NotAsked),
+                (self.asked, AlreadyAsked),
             ]),
             Request::Done => {
                 let is_owed = self.phase == Phase::Committing || self.phase == Phase::Rolling;
-                first(&[(!self.owes || !is_owed, 12)])
+                Refusal::first(&[(!self.owes || !is_owed, NothingOwed)])
             }
-            Request::Rollback => first(&[(late, 2)]),
-            Request::Unchanged => first(&[
-                (late, 2),
-                (!self.is_under() || unasked, 8),
-                (self.asked, 9),
-                (!rows::all_left(self.rows.as_slice()), 15),
+            Request::Rollback => Refusal::first(&[(late, WrongPhase)]),
+            Request::Unchanged => Refusal::first(&[
+                (late, WrongPhase),
+                (!self.is_under() || unasked, NotAsked),
+                (self.asked, AlreadyAsked),
+                (!rows::all_left(self.rows.as_slice()), StillOwed),
             ]),
             Request::BeginDialogue { .. }
             | Request::Accept { .. }
@@ -83,22 +74,22 @@ impl Branch {
             && row.is_some_and(|row| !row.ended && !row.left && !row.given_up)
     }
 
-    /// The number by which the transaction refuses an event. It takes no memory.
+    /// Why the transaction refuses an event. It takes no memory.
     #[tactic(auto, unfolding(tp_model::specs::Transactions::refused_tx))]
-    pub fn refused(&self, event: &TxEvent) -> Option<u8>
-        ensures { result ≡ refused_tx event.now self.now }
+    pub fn refused(&self, event: &TxEvent) -> Option<Refusal>
+        ensures { number_in result ≡ refused_tx event.now self.now }
     {
         match event {
             TxEvent::User(request) => self.refused_user(request),
-            TxEvent::Took { arc, rec } => match self.sight(*arc, rec) {
-                Sight::Acts | Sight::Nothing => None,
-                Sight::OutOfPhase => Some(24),
+            TxEvent::Took { arc, rec } => match self.disposition(*arc, rec) {
+                Disposition::Acts | Disposition::Nothing => None,
+                Disposition::OutOfPhase => Some(Refusal::OutOfPhase),
             },
-            TxEvent::Heur(_) => first(&[
-                (self.phase != Phase::Ready, 10),
-                (self.decision.is_some(), 11),
+            TxEvent::Heur(_) => Refusal::first(&[
+                (self.phase != Phase::Ready, NotInReady),
+                (self.decision.is_some(), AlreadyDecided),
             ]),
-            TxEvent::GiveUp { arc } => first(&[(!self.may_give_up(*arc), 12)]),
+            TxEvent::GiveUp { arc } => Refusal::first(&[(!self.may_give_up(*arc), NothingOwed)]),
             TxEvent::Begun { .. }
             | TxEvent::Lost { .. }
             | TxEvent::Ordered

@@ -1,16 +1,15 @@
 -- One end of a dialogue, as its calls tell and change it: the dialogue of the definitions, and which side
 -- this end is. What is refused and what changes stands with the definitions of the service.
-use Rattle.std.specs.Prelude.{ℕ, ◌≡◌, ◌&&◌, not, Bool, true, false, if◌then◌else◌, Option, Some, None, Result, Ok, Err}
+use Rattle.std.specs.Prelude.{◌≡◌, ◌&&◌, Bool, true, false, if◌then◌else◌, Some, None, Result, Ok, Err}
 use Rattle.std.proofs.Common.{refl, ap}
 use Rattle.tp_model.specs.declared.arc.Side.{Side}
 use Rattle.tp_model.specs.declared.arc.Situation.{Situation}
 use Rattle.tp_model.specs.declared.arc.Act.{Act}
 use Rattle.tp_model.specs.Parts.{Dialogue as DialogueValue, Due as DueValue, No_response, Response_due, Response_with_control}
-use Rattle.tp_model.specs.Dialogues.{Asked, Ask_end, Ask_data, Ask_error, Ask_abort, Ask_grant, Ask_control, Ask_handshake, Ask_respond, Ask_handshake_grant, Ask_begin, Ask_defer_end, Ask_defer_grant, Ask_prepare, Heard, Hear_end, Hear_data, Hear_error, Hear_grant, Hear_control, Hear_handshake, Hear_handshake_grant, Hear_response, Hear_defer_end, Hear_defer_grant, is_superior_side, is_rolling, Sight, Acts, Nothing_happens, Out_of_phase, acts_nothing_or_out, asked_of, heard_of, arrived, said, heard, woken}
+use Rattle.tp_model.specs.Dialogues.{Heard, Hear_end, Hear_data, Hear_error, Hear_grant, Hear_control, Hear_handshake, Hear_handshake_grant, Hear_response, Hear_defer_end, Hear_defer_grant, is_superior_side, is_rolling, Sight, Acts, Nothing_happens, Out_of_phase, acts_nothing_or_out, asked_of, heard_of, arrived, said, heard, woken}
 use Rattle.tp_dialogue.specs.declared.dialogue.Due.{Due}
 use Rattle.tp_dialogue.specs.declared.dialogue.Dialogue.TheInside.{Inside}
 use Rattle.tp_dialogue.specs.declared.dialogue.Seen.{Seen}
-use Rattle.tp_dialogue.specs.declared.refused.Refusal.{Refusal}
 use Rattle.tp_dialogue.specs.declared.refused.OutOfPhase.{OutOfPhase}
 
 -- ---- what an end keeps
@@ -56,36 +55,11 @@ inside_of-end_of d = let f : Due → Inside = λ u. record d { due = u } in ap f
 
 -- ---- requests
 
--- the number by which a request was refused
-abbrev pub number_of : {A : Type 0} → Result A Refusal → Option ℕ
-number_of (Ok a) = None
-number_of (Err r) = Some r.number
-
--- the requests that speak of a transaction
-abbrev pub is_of_transaction : Asked → Bool
-is_of_transaction Ask_end = false
-is_of_transaction Ask_data = false
-is_of_transaction Ask_error = false
-is_of_transaction Ask_abort = false
-is_of_transaction Ask_grant = false
-is_of_transaction Ask_control = false
-is_of_transaction Ask_handshake = false
-is_of_transaction Ask_respond = false
-is_of_transaction Ask_handshake_grant = false
-is_of_transaction Ask_begin = true
-is_of_transaction Ask_defer_end = true
-is_of_transaction Ask_defer_grant = true
-is_of_transaction Ask_prepare = true
-
 -- what an accepted request makes of this end
 abbrev pub after_request : Act → End → End
 after_request act e = elim (asked_of act.code) [ None ↦ e | Some a ↦ record e { dialogue = said a e.dialogue } ]
 
 -- ---- records that arrive
-
--- what a record that acts makes of this end
-abbrev pub after_record : Act → End → End
-after_record act e = elim (heard_of act.code) [ None ↦ e | Some h ↦ record e { dialogue = heard h e.dialogue } ]
 
 abbrev pub is_response : Heard → Bool
 is_response Hear_end = false
@@ -121,11 +95,6 @@ arrival_of e s h = (sight_at e s h, record e { dialogue = heard_with (sight_at e
 
 abbrev pub arrival : End → Situation → Act → Arrival
 arrival e s act = elim (heard_of act.code) [ None ↦ (Nothing_happens, e) | Some h ↦ arrival_of e s h ]
-
-abbrev pub sight_of_option : Option Seen → Sight
-sight_of_option None = Out_of_phase
-sight_of_option (Some Seen.Told) = Acts
-sight_of_option (Some Seen.Nothing) = Nothing_happens
 
 -- a deferral comes from the superior alone
 abbrev pub deferral_sight : Side → Situation → Bool → Sight

@@ -1,15 +1,20 @@
 //! One end of a dialogue.
-ghost use Rattle.std.specs.Prelude.{◌≡◌, ℕ, Option, Some, None, IsSome, OnOk, OnErr, IfErr, IsTrue, ◌&&◌};
-ghost use Rattle.tp_model.specs.Dialogues.{asked_of, heard_of, refused_act, refused_on_arc, is_late_arc, is_past_work, is_spoken, is_silenced, lacks_control, has_open_handshake, is_polarized, has_handshake, has_commit, is_chained, is_unchained, is_superior_side, is_deferred, is_due, arrived, working, fresh_dialogue, Ask_grant, said, heard, cleared, begun_by, completed, rested, woken, is_late, without_control, acts_or_out};
+ghost use Rattle.std.specs.Prelude.{◌≡◌, IsSome, OnOk, OnErr, not, ◌&&◌, ◌||◌};
+ghost use Rattle.tp_model.specs.Dialogues.{asked_of, heard_of, refused_act, refused_on_arc, is_late_arc, is_past_work, is_spoken, is_silenced, lacks_control, has_open_handshake, is_polarized, has_handshake, has_commit, is_chained, is_unchained, is_superior_side, is_deferred, is_due, arrived, working, fresh_dialogue, Ask_grant, Ask_begin, Ask_defer_end, Ask_defer_grant, Ask_prepare, said, heard, cleared, begun_by, completed, rested, woken, is_late, without_control, acts_or_out};
 ghost use Rattle.tp_model.specs.declared.arc.Deferral.{Deferral};
 ghost use Rattle.tp_dialogue.specs.Kinds.{asked_value, heard_value};
-ghost use Rattle.tp_dialogue.specs.Dialogue.{number_of, after_request, after_record, arrival, sight_of, sight_at, due_value, is_of_transaction, sight_of_option, deferral_sight};
+ghost use Rattle.tp_model.specs.Refusal.{number_in, number_answered};
+ghost use Rattle.tp_model.specs.Disposition.{sight_value};
+ghost use Rattle.tp_dialogue.specs.Dialogue.{after_request, arrival, sight_of, sight_at, woken_by, due_value, deferral_sight};
 
+use crate::OutOfPhase;
 use crate::kinds::{Asked, Heard};
-use crate::refused::first;
-use crate::{OutOfPhase, Refusal};
 use std::marker::Model;
-use tp_model::{Act, Deferral, Phase, Side, Situation};
+use tp_model::Refusal::{
+    AlreadyAsked, HandshakeOpen, NoTransaction, NotAsked, TooMany, TransactionOpen, UnitAbsent,
+    WrongControl, WrongPhase,
+};
+use tp_model::{Act, Deferral, Disposition, Phase, Refusal, Side, Situation};
 use tp_names::Outcome;
 use tp_records::Holder;
 use tp_units::{CHAINED, COMMIT, HANDSHAKE, POLARIZED, UNCHAINED, Units};
@@ -192,10 +197,11 @@ impl Dialogue {
         is_past_work(s) || self.rests
     }
 
-    // The number by which this end refuses a request.
+    /// Why this end refuses a request in a situation: the refusal with the least number of its row that applies. The
+    /// length is that of the octets that are asked to be sent. It takes no memory.
     #[tactic(auto, unfolding(tp_model::specs::Dialogues::refused_on_arc))]
-    fn refused(&self, s: &Situation, octets: u16, asked: Asked) -> Option<u8>
-        ensures { result ≡ refused_on_arc self.now.side self.now.dialogue s.now octets (asked_value asked) }
+    pub fn refused(&self, s: &Situation, octets: u16, asked: Asked) -> Option<Refusal>
+        ensures { number_in result ≡ refused_on_arc self.now.side self.now.dialogue s.now octets (asked_value asked) }
     {
         let late = self.is_late(s);
         let spoken = is_spoken(s);
@@ -205,95 +211,130 @@ impl Dialogue {
         let no_handshake = !self.units.has(HANDSHAKE);
         let no_branch = self.units.has(CHAINED) && !s.branch;
         match asked {
-            Asked::End => first(&[(self.rests, 2), (no_control, 3), (open, 5), (s.branch, 7)]),
-            Asked::Data => first(&[
-                (late, 2),
-                (no_control, 3),
-                (open, 5),
-                (no_branch, 6),
-                (spoken, 9),
-                (octets > 1024, 13),
+            Asked::End => Refusal::first(&[
+                (self.rests, WrongPhase),
+                (no_control, WrongControl),
+                (open, HandshakeOpen),
+                (s.branch, TransactionOpen),
             ]),
-            Asked::Error => first(&[(late, 2), (spoken, 9)]),
-            Asked::Abort => first(&[(is_past_work(s), 2)]),
-            Asked::Grant => first(&[
-                (late, 2),
-                (no_control, 3),
-                (shared, 4),
-                (open, 5),
-                (no_branch, 6),
-                (spoken, 9),
+            Asked::Data => Refusal::first(&[
+                (late, WrongPhase),
+                (no_control, WrongControl),
+                (open, HandshakeOpen),
+                (no_branch, NoTransaction),
+                (spoken, AlreadyAsked),
+                (octets > 1024, TooMany),
             ]),
-            Asked::Control => first(&[
-                (late, 2),
-                (!shared && self.holds, 3),
-                (shared, 4),
-                (spoken, 9),
+            Asked::Error => Refusal::first(&[(late, WrongPhase), (spoken, AlreadyAsked)]),
+            Asked::Abort => Refusal::first(&[(is_past_work(s), WrongPhase)]),
+            Asked::Grant => Refusal::first(&[
+                (late, WrongPhase),
+                (no_control, WrongControl),
+                (shared, UnitAbsent),
+                (open, HandshakeOpen),
+                (no_branch, NoTransaction),
+                (spoken, AlreadyAsked),
             ]),
-            Asked::Handshake => first(&[
-                (late, 2),
-                (no_control, 3),
-                (no_handshake, 4),
-                (open, 5),
-                (spoken, 9),
+            Asked::Control => Refusal::first(&[
+                (late, WrongPhase),
+                (!shared && self.holds, WrongControl),
+                (shared, UnitAbsent),
+                (spoken, AlreadyAsked),
             ]),
-            Asked::Respond => first(&[(late, 2), (no_handshake, 4), (self.due == Due::None, 8)]),
-            Asked::HandshakeGrant => first(&[
-                (late, 2),
-                (no_control, 3),
-                (no_handshake || shared, 4),
-                (open, 5),
-                (no_branch, 6),
-                (spoken, 9),
+            Asked::Handshake => Refusal::first(&[
+                (late, WrongPhase),
+                (no_control, WrongControl),
+                (no_handshake, UnitAbsent),
+                (open, HandshakeOpen),
+                (spoken, AlreadyAsked),
             ]),
-            Asked::Begin | Asked::DeferEnd | Asked::DeferGrant | Asked::Prepare => {
-                self.refused_of_transaction(s, asked)
-            }
+            Asked::Respond => Refusal::first(&[
+                (late, WrongPhase),
+                (no_handshake, UnitAbsent),
+                (self.due == Due::None, NotAsked),
+            ]),
+            Asked::HandshakeGrant => Refusal::first(&[
+                (late, WrongPhase),
+                (no_control, WrongControl),
+                (no_handshake || shared, UnitAbsent),
+                (open, HandshakeOpen),
+                (no_branch, NoTransaction),
+                (spoken, AlreadyAsked),
+            ]),
+            Asked::Begin => self.refused_begin(s),
+            Asked::DeferEnd => self.refused_defer_end(s),
+            Asked::DeferGrant => self.refused_defer_grant(s),
+            Asked::Prepare => self.refused_prepare(s),
         }
     }
 
-    // The same of those that speak of a transaction.
+    // Of a begin-transaction.
     #[tactic(auto, unfolding(tp_model::specs::Dialogues::refused_on_arc))]
-    fn refused_of_transaction(&self, s: &Situation, asked: Asked) -> Option<u8>
-        ensures { IsTrue (is_of_transaction (asked_value asked)) → (octets : ℕ) → result ≡ refused_on_arc self.now.side self.now.dialogue s.now octets (asked_value asked) }
+    fn refused_begin(&self, s: &Situation) -> Option<Refusal>
+        ensures { number_in result ≡ refused_on_arc self.now.side self.now.dialogue s.now 0 Ask_begin }
     {
-        let late = self.is_late(s);
-        let spoken = is_spoken(s);
         let below = self.side == Side::Subordinate;
-        let no_commit = !self.units.has(COMMIT);
-        let deferred = self.deferral != Deferral::None;
-        match asked {
-            Asked::Begin => first(&[
-                (is_late_phase(s.phase) || self.rests, 2),
-                (self.lacks_control(), 3),
-                (below || !self.units.has(UNCHAINED), 4),
-                (s.branch, 7),
-                (s.asked, 9),
-            ]),
-            Asked::DeferEnd => first(&[
-                (late, 2),
-                (below || no_commit, 4),
-                (!s.branch, 6),
-                (spoken || deferred, 9),
-            ]),
-            Asked::DeferGrant => first(&[
-                (late, 2),
-                (below || no_commit || !self.units.has(POLARIZED), 4),
-                (!s.branch, 6),
-                (spoken || deferred, 9),
-            ]),
-            _ => first(&[
-                (late, 2),
-                (below || no_commit, 4),
-                (!s.branch, 6),
-                (spoken, 9),
-            ]),
-        }
+        Refusal::first(&[
+            (is_late_phase(s.phase) || self.rests, WrongPhase),
+            (self.lacks_control(), WrongControl),
+            (below || !self.units.has(UNCHAINED), UnitAbsent),
+            (s.branch, TransactionOpen),
+            (s.asked, AlreadyAsked),
+        ])
     }
 
-    // What an accepted request makes of this end.
+    // The end is not the superior's, or there are no transactions on the dialogue.
+    fn lacks_branches(&self) -> bool
+        ensures { result ≡ (not (is_superior_side self.now.side) || not (has_commit self.now.dialogue)) }
+    {
+        self.side == Side::Subordinate || !self.units.has(COMMIT)
+    }
+
+    // Of a deferred end.
+    #[tactic(auto, unfolding(tp_model::specs::Dialogues::refused_on_arc))]
+    fn refused_defer_end(&self, s: &Situation) -> Option<Refusal>
+        ensures { number_in result ≡ refused_on_arc self.now.side self.now.dialogue s.now 0 Ask_defer_end }
+    {
+        let deferred = self.deferral != Deferral::None;
+        Refusal::first(&[
+            (self.is_late(s), WrongPhase),
+            (self.lacks_branches(), UnitAbsent),
+            (!s.branch, NoTransaction),
+            (is_spoken(s) || deferred, AlreadyAsked),
+        ])
+    }
+
+    // Of a deferred grant.
+    #[tactic(auto, unfolding(tp_model::specs::Dialogues::refused_on_arc))]
+    fn refused_defer_grant(&self, s: &Situation) -> Option<Refusal>
+        ensures { number_in result ≡ refused_on_arc self.now.side self.now.dialogue s.now 0 Ask_defer_grant }
+    {
+        let deferred = self.deferral != Deferral::None;
+        let shared = !self.units.has(POLARIZED);
+        Refusal::first(&[
+            (self.is_late(s), WrongPhase),
+            (self.lacks_branches() || shared, UnitAbsent),
+            (!s.branch, NoTransaction),
+            (is_spoken(s) || deferred, AlreadyAsked),
+        ])
+    }
+
+    // Of a prepare.
+    #[tactic(auto, unfolding(tp_model::specs::Dialogues::refused_on_arc))]
+    fn refused_prepare(&self, s: &Situation) -> Option<Refusal>
+        ensures { number_in result ≡ refused_on_arc self.now.side self.now.dialogue s.now 0 Ask_prepare }
+    {
+        Refusal::first(&[
+            (self.is_late(s), WrongPhase),
+            (self.lacks_branches(), UnitAbsent),
+            (!s.branch, NoTransaction),
+            (is_spoken(s), AlreadyAsked),
+        ])
+    }
+
+    /// Says what is asked, whatever the situation: what an accepted request makes of this end.
     #[tactic(auto, unfolding(tp_model::specs::Dialogues::said))]
-    fn say(&mut self, asked: Asked)
+    pub fn say(&mut self, asked: Asked)
         ensures { self.new ≡ record self.old { dialogue = said (asked_value asked) self.old.dialogue } }
     {
         match asked {
@@ -324,61 +365,43 @@ impl Dialogue {
     /// situation, and then changes nothing.
     pub fn request(&mut self, s: Situation, act: Act) -> Result<(), Refusal>
         requires { IsSome (asked_of act.code) }
-        ensures answer { number_of result ≡ refused_act self.old.side self.old.dialogue s act }
+        ensures answer { number_answered result ≡ refused_act self.old.side self.old.dialogue s act }
         ensures said { OnOk result (self.new ≡ after_request act self.old) }
         ensures same { OnErr result (self.new ≡ self.old) }
     {
         let Some(asked) = Asked::of(act.code) else {
             return Ok(());
         };
-        if let Some(number) = self.refused(&s, act.octets, asked) {
-            return Err(Refusal { number });
+        if let Some(refusal) = self.refused(&s, act.octets, asked) {
+            return Err(refusal);
         }
         self.say(asked);
         Ok(())
     }
 
-    /// Says what is asked, whatever the situation: what an accepted request makes of this end.
-    pub fn accept(&mut self, act: Act)
-        ensures { self.new ≡ after_request act self.old }
-    {
-        if let Some(asked) = Asked::of(act.code) {
-            self.say(asked);
-        }
-    }
-
-    /// Hears a record that acts, whatever the situation; a rest is not ended by it.
-    pub fn take(&mut self, act: Act)
-        ensures { self.new ≡ after_record act self.old }
-    {
-        if let Some(kind) = Heard::of(act.code) {
-            self.hear(kind);
-        }
-    }
-
     // Work on a branch that has gone past it does nothing, unless the branch is over.
-    fn working(&self, s: &Situation, out_of_phase: bool) -> Option<Seen>
-        ensures { sight_of_option result ≡ working s.now out_of_phase }
+    fn working(&self, s: &Situation, out_of_phase: bool) -> Disposition
+        ensures { sight_value result ≡ working s.now out_of_phase }
     {
         if is_silenced(s) {
-            Some(Seen::Nothing)
+            Disposition::Nothing
         } else {
-            told(!out_of_phase)
+            acts_or_out(!out_of_phase)
         }
     }
 
-    // What comes of a record; none where it is out of phase. Rest is not looked at.
+    // What comes of a record. Rest is not looked at.
     #[tactic(auto, unfolding(tp_model::specs::Dialogues::arrived))]
-    fn seen(&self, s: &Situation, kind: Heard) -> Option<Seen>
-        ensures { sight_of_option result ≡ arrived self.now.side self.now.dialogue s.now (heard_value kind) }
+    fn arrived(&self, s: &Situation, heard: Heard) -> Disposition
+        ensures { sight_value result ≡ arrived self.now.side self.now.dialogue s.now (heard_value heard) }
     {
         let shared = !self.units.has(POLARIZED);
         let no_handshake = !self.units.has(HANDSHAKE);
         let no_branch = self.units.has(CHAINED) && !s.branch;
         let owes = self.due != Due::None;
         let may_defer = s.branch && s.phase == Phase::Active && self.deferral == Deferral::None;
-        match kind {
-            Heard::End => told((!s.branch || s.done || s.left) && !self.holds),
+        match heard {
+            Heard::End => acts_or_out((!s.branch || s.done || s.left) && !self.holds),
             Heard::Data => self.working(s, self.holds || no_branch),
             Heard::Error => self.working(s, false),
             Heard::Grant => self.working(s, self.holds || no_branch || shared),
@@ -395,24 +418,33 @@ impl Dialogue {
     }
 
     // A deferral comes from the superior alone; it acts, or, while the transaction rolls, does nothing.
-    fn deferred(&self, s: &Situation, acts: bool) -> Option<Seen>
-        ensures { sight_of_option result ≡ deferral_sight self.now.side s.now acts }
+    fn deferred(&self, s: &Situation, acts: bool) -> Disposition
+        ensures { sight_value result ≡ deferral_sight self.now.side s.now acts }
     {
         if self.side == Side::Superior {
-            return None;
+            Disposition::OutOfPhase
+        } else if acts {
+            Disposition::Acts
+        } else if s.phase == Phase::Rolling {
+            Disposition::Nothing
+        } else {
+            Disposition::OutOfPhase
         }
-        if acts {
-            return Some(Seen::Told);
-        }
-        if s.phase == Phase::Rolling {
-            return Some(Seen::Nothing);
-        }
-        None
     }
 
-    // What a record that acts makes of this end.
+    /// What comes of a record in a situation. A response on a resting arc does nothing.
+    pub fn disposition(&self, s: &Situation, heard: Heard) -> Disposition
+        ensures { sight_value result ≡ sight_at self.now s.now (heard_value heard) }
+    {
+        if self.rests && heard == Heard::Response {
+            return Disposition::Nothing;
+        }
+        self.arrived(s, heard)
+    }
+
+    /// Hears a record that acts, whatever the situation; a rest is not ended by it.
     #[tactic(auto, unfolding(tp_model::specs::Dialogues::heard))]
-    fn hear(&mut self, kind: Heard)
+    pub fn hear(&mut self, kind: Heard)
         ensures { self.new ≡ record self.old { dialogue = heard (heard_value kind) self.old.dialogue } }
     {
         match kind {
@@ -429,38 +461,49 @@ impl Dialogue {
         }
     }
 
+    // Any record but a response ends the rest.
+    fn wake_by(&mut self, kind: Heard)
+        ensures { self.new ≡ record self.old { dialogue = woken_by (heard_value kind) self.old.dialogue } }
+    {
+        if kind != Heard::Response {
+            self.wake();
+        }
+    }
+
     /// A record arrives that the dialogue judges, by its code from 1 to 11 but the abort's, with the
     /// length of its octets. It acts, or nothing happens, or it is out of phase, which changes nothing. A
     /// response on a resting arc does nothing; any other record that is not out of phase ends the rest.
     pub fn arrive(&mut self, s: Situation, act: Act) -> Result<Seen, OutOfPhase>
         requires { IsSome (heard_of act.code) }
         ensures answer { sight_of result ≡ (arrival self.old s act).0 }
-        ensures number { IfErr result (λ e. e.number ≡ 24) }
         ensures state { self.new ≡ (arrival self.old s act).1 }
     {
-        let Some(kind) = Heard::of(act.code) else {
+        let Some(heard) = Heard::of(act.code) else {
             return Ok(Seen::Nothing);
         };
-        if self.rests && kind == Heard::Response {
-            return Ok(Seen::Nothing);
+        match self.disposition(&s, heard) {
+            Disposition::OutOfPhase => Err(OutOfPhase),
+            Disposition::Nothing => {
+                self.wake_by(heard);
+                Ok(Seen::Nothing)
+            }
+            Disposition::Acts => {
+                self.wake_by(heard);
+                self.hear(heard);
+                Ok(Seen::Told)
+            }
         }
-        let Some(seen) = self.seen(&s, kind) else {
-            return Err(OutOfPhase { number: 24 });
-        };
-        if kind != Heard::Response {
-            self.wake();
-        }
-        if seen == Seen::Told {
-            self.hear(kind);
-        }
-        Ok(seen)
     }
 }
 
-fn told(acts: bool) -> Option<Seen>
-    ensures { sight_of_option result ≡ acts_or_out acts }
+fn acts_or_out(acts: bool) -> Disposition
+    ensures { sight_value result ≡ acts_or_out acts }
 {
-    if acts { Some(Seen::Told) } else { None }
+    if acts {
+        Disposition::Acts
+    } else {
+        Disposition::OutOfPhase
+    }
 }
 
 // Past work on a branch that is not over.

@@ -10,4 +10,6 @@ mod kinds;
 mod refused;
 
 pub use dialogue::{Dialogue, Seen};
-pub use refused::{OutOfPhase, Refusal};
+pub use kinds::{Asked, Heard};
+pub use refused::OutOfPhase;
+pub use tp_model::Refusal;

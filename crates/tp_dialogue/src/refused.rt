@@ -1,31 +1,20 @@
-//! The answers by which a dialogue refuses.
+//! The answer to a record that is out of phase.
+ghost use Rattle.tp_model.specs.declared.refusal.Refusal.{Refusal};
 ghost use Rattle.std.specs.Prelude.{◌≡◌};
-ghost use Rattle.tp_model.specs.Dialogues.{first};
 
 use thiserror::Error;
+use tp_model::Refusal;
 
-/// The number by which a request is refused.
+/// A record came out of phase.
 #[derive(Clone, Copy, Debug, PartialEq, Eq, Error)]
-#[error("refused {number}")]
-pub struct Refusal {
-    pub number: u8,
-}
+#[error("nobody may send this record now")]
+pub struct OutOfPhase;
 
-/// A record came out of phase; its number is 24.
-#[derive(Clone, Copy, Debug, PartialEq, Eq, Error)]
-#[error("refused {number}")]
-pub struct OutOfPhase {
-    pub number: u8,
-}
-
-/// The number of the first test that holds.
-pub(crate) fn first(tests: &[(bool, u8)]) -> Option<u8>
-    ensures { result ≡ first tests.now }
-{
-    for test in tests {
-        if test.0 {
-            return Some(test.1);
-        }
+impl OutOfPhase {
+    /// The refusal that the record is answered by.
+    pub fn refusal(self) -> Refusal
+        ensures { result ≡ Refusal.OutOfPhase }
+    {
+        Refusal::OutOfPhase
     }
-    None
 }

@@ -4,6 +4,8 @@ use Rattle.std.specs.Prelude.{ℕ, suc, ◌-◌, ◌==◌, ◌≡◌, ◌&&◌, 
 use Rattle.std.proofs.Common.{refl, ap}
 use Rattle.tp_names.specs.declared.identifiers.Mark.{Mark}
 use Rattle.tp_names.specs.Same.{is_mark}
+use Rattle.tp_model.specs.declared.refusal.Refusal.{Refusal}
+use Rattle.tp_model.specs.Refusal.{number_of as refusal_number}
 use Rattle.tp_model.specs.Parts.{Link as LinkValue, Idle, Opening, Offered, Live}
 use Rattle.tp_model.specs.Links.{greatest, is_opening_with}
 use Rattle.tp_link.specs.declared.link.Link.TheInside.{Inside}
@@ -67,10 +69,15 @@ left_of (Opening x) = 0
 left_of (Offered x) = 0
 left_of (Live x y sent taken) = greatest - sent
 
--- the number by which a call dropped a record
+-- the refusal by which a call dropped a record
+abbrev pub refusal_of : Dropped → Refusal
+refusal_of Dropped.OldAssociation = Refusal.OldAssociation
+refusal_of Dropped.OutOfOrder = Refusal.OutOfOrder
+
+-- its number
 abbrev pub number_of : {A : Type 0} → Result A Dropped → Option ℕ
 number_of (Ok a) = None
-number_of (Err d) = Some d.number
+number_of (Err d) = Some (refusal_number (refusal_of d))
 
 -- ---- what changes it
 

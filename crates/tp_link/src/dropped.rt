@@ -1,10 +1,29 @@
 //! Why a record is dropped.
-use thiserror::Error;
+ghost use Rattle.std.specs.Prelude.{◌≡◌};
+ghost use Rattle.tp_link.specs.Link.{refusal_of};
 
-/// The number by which a record is dropped: 21 where its association is an old one, 22 where it is out
-/// of order.
+use thiserror::Error;
+use tp_model::Refusal;
+
+/// Why a record is dropped.
 #[derive(Clone, Copy, Debug, PartialEq, Eq, Error)]
-#[error("dropped {number}")]
-pub struct Dropped {
-    pub number: u8,
+pub enum Dropped {
+    /// Its association is an old one.
+    #[error("the record belongs to no association of now")]
+    OldAssociation,
+    /// It is out of order.
+    #[error("the record is not the next one of its association")]
+    OutOfOrder,
+}
+
+impl Dropped {
+    /// The refusal that the record is answered by.
+    pub fn refusal(self) -> Refusal
+        ensures { result ≡ refusal_of self }
+    {
+        match self {
+            Dropped::OldAssociation => Refusal::OldAssociation,
+            Dropped::OutOfOrder => Refusal::OutOfOrder,
+        }
+    }
 }

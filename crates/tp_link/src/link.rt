@@ -128,10 +128,10 @@ impl Link {
         ensures state { self.new ≡ (bound_by self.old x y).1 }
     {
         let End::Opening { x: own } = self.end else {
-            return Err(Dropped { number: 21 });
+            return Err(Dropped::OldAssociation);
         };
         if own != x {
-            return Err(Dropped { number: 21 });
+            return Err(Dropped::OldAssociation);
         }
         self.end = End::Live {
             x,
@@ -184,13 +184,13 @@ impl Link {
             taken,
         } = self.end
         else {
-            return Err(Dropped { number: 21 });
+            return Err(Dropped::OldAssociation);
         };
         if own_x != x || own_y != y {
-            return Err(Dropped { number: 21 });
+            return Err(Dropped::OldAssociation);
         }
         if seq != taken || seq == u64::MAX {
-            return Err(Dropped { number: 22 });
+            return Err(Dropped::OutOfOrder);
         }
         self.end = End::Live {
             x,

@@ -8,7 +8,6 @@ pub mod Halt
 pub mod Begins
 pub mod ArcStep
 pub mod Passage
-pub mod Talk
 pub mod Calls
 pub mod Sights
 pub mod Replies

@@ -7,13 +7,12 @@ use Rattle.tp_names.specs.declared.identifiers.Addr.{Addr}
 use Rattle.tp_logrec.specs.declared.record.LogRec.{LogRec}
 use Rattle.tp_logrec.specs.declared.record.LogVersion.{LogVersion}
 use Rattle.tp_model.specs.Parts.{Who, Arc, Current, Digest}
-use Rattle.tp_model.specs.Dialogues.{Asked}
 use Rattle.tp_model.specs.Transactions.{Transaction}
 use Rattle.tp_model.specs.Node.{branches_of}
 use Rattle.tp_model.specs.Events.{current_by, is_known}
 use Rattle.tp_model.specs.Recovery.{kept_by}
 use Rattle.tp_model.specs.declared.arc.Side.{Side}
-use Rattle.tp_model.specs.Requests.{room, refused_at, count_below}
+use Rattle.tp_model.specs.Requests.{room, count_below}
 use Rattle.tp_node.specs.Arcs.{Arcs}
 use Rattle.tp_node.specs.declared.node.Node.TheInside.{Inside}
 
@@ -73,11 +72,6 @@ HasRoom v = FitsIn v.version v.arcs
 
 abbrev pub with_arcs : Node → List Arc → Node
 with_arcs v arcs = record v { digest = record v.digest { arcs = arcs } }
-
--- of a request that names a live arc
-abbrev pub refused_by : Node → ℕ → ℕ → Option Asked → Option ℕ → Option ℕ
-refused_by v p octets None others = others
-refused_by v p octets (Some asked) others = refused_at v.who v.digest p octets asked others
 
 -- ---- one arc more
 

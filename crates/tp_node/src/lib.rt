@@ -7,6 +7,7 @@
 
 mod arc_step;
 mod arcs;
+mod disposition;
 mod event;
 mod halt;
 mod kept;
@@ -18,7 +19,6 @@ mod node;
 mod outs;
 mod passage;
 mod refusing;
-mod sight;
 mod state;
 
 pub use arc_step::ArcStep;

@@ -3,26 +3,27 @@ mod origin;
 
 ghost use Rattle.std.specs.Prelude.{◌≡◌, ◌==◌, ◌&&◌, ◌||◌, not, true, [], ◌∷◌, ◌+◌, ◌++◌, nat_le, nat_lt, slice_get, Option, Some, None, IfOk, IfSome, IsSome, IsTrue, OnOk, OnErr};
 ghost use Rattle.std.specs.Option.{option_map, option_copied, is_some};
-ghost use Rattle.tp_model.specs.Dialogues.{is_nil, is_late, asked_of, first, begun_by, cleared, woken, named_holder};
+ghost use Rattle.tp_model.specs.Dialogues.{is_nil, is_late, first, said, heard, begun_by, cleared, woken, named_holder};
 ghost use Rattle.tp_model.specs.Links.{greatest, is_idle, is_opening_with, dropped_by, with_one_taken};
 ghost use Rattle.tp_model.specs.Arcs.{find_arc, link_with, with_link, with_dialogue, without_arc, shut_with, carried};
 ghost use Rattle.tp_model.specs.Node.{branches_of, seen, remaining, entered, grants, phase_of, has_asked, is_superior, side_at, situation_at, may_root, may_begin_on, is_chained_below, chained_peers, fresh_current, superior_arc, next_mark, with_mark_drawn};
 ghost use Rattle.tp_model.specs.Events.{is_no_node, refused_of_current, refused_purge, some_past_numbers};
 ghost use Rattle.tp_records.specs.declared.request.Request.{Request};
-ghost use Rattle.tp_model.specs.Requests.{refused_of_tx, refused_request, least, room, count_below, count_gone, count_subordinates, has_branch_at, is_branch_below, is_some_arc};
+ghost use Rattle.tp_model.specs.Requests.{refused_of_tx, refused_request, refused_at, room, count_below, count_gone, count_subordinates, has_branch_at, is_branch_below, is_some_arc};
 ghost use Rattle.tp_model.specs.History.{state};
-ghost use Rattle.tp_model.specs.Recovery.{refused_kept, kept_after, find_kept, with_forget, noted};
+ghost use Rattle.tp_model.specs.Recovery.{kept_after, find_kept, with_forget, noted};
 ghost use Rattle.tp_model.specs.declared.recovery.KeptEvent.{KeptEvent};
 ghost use Rattle.tp_tree.specs.Tie.{arc_of};
 ghost use Rattle.tp_commit.specs.Branch.{has_superior, key_from};
-ghost use Rattle.tp_commit.specs.Sight.{sight_value};
+ghost use Rattle.tp_model.specs.Disposition.{sight_value};
+ghost use Rattle.tp_model.specs.Refusal.{number_in};
 ghost use Rattle.tp_model.specs.Arrivals.{sight_in_tx, woken_by, current_with, current_of as current_in};
 ghost use Rattle.tp_node.specs.State.{state_of, tree_in};
-ghost use Rattle.tp_node.specs.Node.{current_of, with_arcs, refused_by, has_place_at};
+ghost use Rattle.tp_node.specs.Node.{current_of, with_arcs, has_place_at};
 ghost use Rattle.tp_node.specs.Outs.{outs_of_option};
 ghost use Rattle.tp_node.specs.ArcStep.{stepped_arcs};
 ghost use Rattle.tp_node.specs.Passage.{passage_of};
-ghost use Rattle.tp_node.specs.Talk.{said_by, heard_by};
+ghost use Rattle.tp_dialogue.specs.Kinds.{asked_value, heard_value};
 ghost use Rattle.tp_node.specs.Arcs.{fits_link, new_arc};
 ghost use Rattle.tp_node.specs.Calls.{offer_of, offer_on, answered, begun_under};
 ghost use Rattle.tp_model.specs.Parts.{Opening, Offered, Live};
@@ -40,16 +41,23 @@ use crate::passage::Passage;
 use crate::{NodeState, NodeTree, kept, look};
 use std::alloc::Global;
 use std::marker::Model;
-use tp_commit::{Branch, Sight};
-use tp_dialogue::Dialogue;
+use tp_commit::Branch;
+use tp_dialogue::{Asked, Dialogue, Heard};
 use tp_link::{Link, LinkState};
 use tp_logrec::{LogRec, LogVersion};
-use tp_model::{Act, Deferral, Kept, Phase, Side, Situation, TxEvent, TxOut, TxOuts};
+use tp_model::Refusal::{
+    AlreadyAsked, NoDialogue, NoTransaction, NotKept, TooMany, TransactionOpen, UnitAbsent,
+    WrongPhase,
+};
+use tp_model::{
+    Deferral, Disposition, Kept, KeptEvent, Phase, Refusal, Side, Situation, TxEvent, TxOut, TxOuts,
+};
 use tp_names::same::{is_aaid, is_key};
 use tp_names::{
     Aaid, Addr, BranchId, Child, Counter, Mark, NoMemory, NodeKey, NumbersSpent, Outcome, SiteName,
 };
 use tp_records::{DialogueRecord, Holder, Request};
+use tp_recover::refused;
 use tp_tree::Tie;
 use tp_units::{CHAINED, COMMIT, POLARIZED, Units, choose};
 
@@ -281,11 +289,14 @@ impl Node {
         }
     }
 
-    /// The number by which the current transaction refuses an event; where there is none, as given. It
-    /// takes no memory.
+    /// Why the current transaction refuses an event; where there is none, as given. It takes no memory.
     #[tactic(auto, using(crate::proofs::Seen::refused_seen))]
-    pub(crate) fn refused_of_current(&self, event: &TxEvent, none: Option<u8>) -> Option<u8>
-        ensures { result ≡ refused_of_current self.now.who self.now.digest event.now none }
+    pub(crate) fn refused_of_current(
+        &self,
+        event: &TxEvent,
+        none: Option<Refusal>,
+    ) -> Option<Refusal>
+        ensures { number_in result ≡ refused_of_current self.now.who self.now.digest event.now (number_in none) }
     {
         match &self.current {
             None => none,
@@ -295,12 +306,17 @@ impl Node {
 
     /// What comes of a record on that arc, by the current transaction; where there is none, as given.
     #[tactic(auto, using(crate::proofs::Seen::sight_seen))]
-    pub(crate) fn sight_of_current(&self, tie: &Tie, rec: &DialogueRecord, none: Sight) -> Sight
+    pub(crate) fn disposition_of_current(
+        &self,
+        tie: &Tie,
+        rec: &DialogueRecord,
+        none: Disposition,
+    ) -> Disposition
         ensures { sight_value result ≡ sight_in_tx self.now.who self.now.digest (arc_of tie.now) rec.now (sight_value none) }
     {
         match &self.current {
             None => none,
-            Some(branch) => branch.sight(tie.addr().node, rec),
+            Some(branch) => branch.disposition(tie.addr().node, rec),
         }
     }
 
@@ -308,31 +324,32 @@ impl Node {
 
     // Of a request that names an arc, by the arc itself and by others.
     #[tactic(auto, using(crate::proofs::Refusals::refused_on))]
-    fn refused_at(&self, peer: u16, octets: u16, code: u8, others: Option<u8>) -> Option<u8>
-        requires { IsSome (asked_of code) }
-        ensures { result ≡ refused_by self.now peer octets (asked_of code) others }
+    fn refused_at(
+        &self,
+        peer: u16,
+        octets: u16,
+        asked: Asked,
+        others: Option<Refusal>,
+    ) -> Option<Refusal>
+        ensures { number_in result ≡ refused_at self.now.who self.now.digest peer octets (asked_value asked) (number_in others) }
     {
         let Some(tie) = self.find(peer) else {
-            return Some(1);
+            return Some(NoDialogue);
         };
         if tie.link.state() != LinkState::Live {
-            return Some(1);
+            return Some(NoDialogue);
         }
-        let act = Act { code, octets };
-        let mut dialogue = tie.dialogue;
-        match dialogue.request(self.situation(peer), act) {
-            Ok(()) => others,
-            Err(refusal) => least(Some(refusal.number), others),
-        }
+        let situation = self.situation(peer);
+        Refusal::least(tie.dialogue.refused(&situation, octets, asked), others)
     }
 
     // Of a request that speaks of the transaction as a whole.
     #[tactic(auto, using(crate::proofs::Seen::user_seen))]
-    fn refused_of_transaction(&self, request: &Request) -> Option<u8>
-        ensures { result ≡ refused_of_tx self.now.who self.now.digest request.now }
+    fn refused_of_transaction(&self, request: &Request) -> Option<Refusal>
+        ensures { number_in result ≡ refused_of_tx self.now.who self.now.digest request.now }
     {
         match &self.current {
-            None => Some(6),
+            None => Some(NoTransaction),
             Some(branch) => branch.refused_user(request),
         }
     }
@@ -359,30 +376,30 @@ impl Node {
     }
 
     #[tactic(auto, unfolding(tp_model::specs::Requests::refused_request))]
-    fn refused_reject(&self) -> Option<u8>
-        ensures { result ≡ refused_request self.now.who self.now.digest Request.Reject }
+    fn refused_reject(&self) -> Option<Refusal>
+        ensures { number_in result ≡ refused_request self.now.who self.now.digest Request.Reject }
     {
         match self.superior_arc() {
             Some(tie) if tie.link.state() == LinkState::Offered => None,
-            _ => Some(1),
+            _ => Some(NoDialogue),
         }
     }
 
     #[tactic(auto, unfolding(tp_model::specs::Requests::refused_request))]
-    fn refused_accept(&self, units: u8) -> Option<u8>
-        ensures { result ≡ refused_request self.now.who self.now.digest (Request.Accept units) }
+    fn refused_accept(&self, units: u8) -> Option<Refusal>
+        ensures { number_in result ≡ refused_request self.now.who self.now.digest (Request.Accept units) }
     {
         let Some(tie) = self.superior_arc() else {
-            return Some(1);
+            return Some(NoDialogue);
         };
         if tie.link.state() != LinkState::Offered {
-            return Some(1);
+            return Some(NoDialogue);
         }
         if choose(tie.dialogue.units(), units).is_err() {
-            return Some(4);
+            return Some(UnitAbsent);
         }
         if self.phase() != Phase::Nil {
-            return Some(7);
+            return Some(TransactionOpen);
         }
         None
     }
@@ -445,54 +462,59 @@ impl Node {
     }
 
     #[tactic(auto, unfolding(tp_model::specs::Requests::refused_request))]
-    fn refused_begin(&self, addr: Addr, units: u8) -> Option<u8>
-        ensures { result ≡ refused_request self.now.who self.now.digest (Request.BeginDialogue addr units) }
+    fn refused_begin(&self, addr: Addr, units: u8) -> Option<Refusal>
+        ensures { number_in result ≡ refused_request self.now.who self.now.digest (Request.BeginDialogue addr units) }
     {
-        first(&[
-            (self.is_taken(addr.node), 2),
-            (Units::check(units).is_err(), 4),
-            (self.has_asked(), 9),
-            (self.is_full(), 13),
+        Refusal::first(&[
+            (self.is_taken(addr.node), WrongPhase),
+            (Units::check(units).is_err(), UnitAbsent),
+            (self.has_asked(), AlreadyAsked),
+            (self.is_full(), TooMany),
         ])
     }
 
     // Of a begin-transaction, by others than the arc.
-    fn refused_root(&self) -> Option<u8>
-        ensures { result ≡ first ((is_nil (phase_of self.now.digest) && not (may_root self.now.digest), 6) ∷ []) }
+    fn refused_root(&self) -> Option<Refusal>
+        ensures { number_in result ≡ first ((is_nil (phase_of self.now.digest) && not (may_root self.now.digest), 6) ∷ []) }
     {
         if self.phase() == Phase::Nil && !self.may_root() {
-            Some(6)
+            Some(NoTransaction)
         } else {
             None
         }
     }
 
-    /// The number by which a request is refused, but for the want of numbers.
+    /// Why a request is refused, but for the want of numbers.
     #[tactic(auto, unfolding(tp_model::specs::Requests::refused_request), using(crate::proofs::Refusals::data_cut))]
-    pub(crate) fn refused_request(&self, request: &Request) -> Option<u8>
-        ensures { result ≡ refused_request self.now.who self.now.digest request.now }
+    pub(crate) fn refused_request(&self, request: &Request) -> Option<Refusal>
+        ensures { number_in result ≡ refused_request self.now.who self.now.digest request.now }
     {
         match request {
             Request::BeginDialogue { addr, units } => self.refused_begin(*addr, *units),
             Request::Accept { units } => self.refused_accept(*units),
             Request::Reject => self.refused_reject(),
-            Request::EndDialogue { peer } => self.refused_at(*peer, 0, 4, None),
+            Request::EndDialogue { peer } => self.refused_at(*peer, 0, Asked::End, None),
             Request::UserData { peer, octets } => {
-                self.refused_at(*peer, octets.len().min(2000) as u16, 5, None)
+                self.refused_at(*peer, octets.len().min(2000) as u16, Asked::Data, None)
             }
-            Request::UError { peer } => self.refused_at(*peer, 0, 6, None),
-            Request::UAbort { peer } => self.refused_at(*peer, 0, 7, None),
-            Request::Grant { peer } => self.refused_at(*peer, 0, 8, None),
-            Request::AskControl { peer } => self.refused_at(*peer, 0, 9, None),
-            Request::Handshake { peer } => self.refused_at(*peer, 0, 10, None),
-            Request::Respond { peer } => self.refused_at(*peer, 0, 11, None),
-            Request::HandshakeGrant { peer } => self.refused_at(*peer, 0, 12, None),
+            Request::UError { peer } => self.refused_at(*peer, 0, Asked::Error, None),
+            Request::UAbort { peer } => self.refused_at(*peer, 0, Asked::Abort, None),
+            Request::Grant { peer } => self.refused_at(*peer, 0, Asked::Grant, None),
+            Request::AskControl { peer } => self.refused_at(*peer, 0, Asked::Control, None),
+            Request::Handshake { peer } => self.refused_at(*peer, 0, Asked::Handshake, None),
+            Request::Respond { peer } => self.refused_at(*peer, 0, Asked::Respond, None),
+            Request::HandshakeGrant { peer } => self.refused_at(
+                *peer,
+                0,
+                Asked::HandshakeGrant,
+                None,
+            ),
             Request::BeginTransaction { peer } => {
-                self.refused_at(*peer, 0, 13, self.refused_root())
+                self.refused_at(*peer, 0, Asked::Begin, self.refused_root())
             }
-            Request::DeferEnd { peer } => self.refused_at(*peer, 0, 14, None),
-            Request::DeferGrant { peer } => self.refused_at(*peer, 0, 15, None),
-            Request::Prepare { peer } => self.refused_at(*peer, 0, 16, None),
+            Request::DeferEnd { peer } => self.refused_at(*peer, 0, Asked::DeferEnd, None),
+            Request::DeferGrant { peer } => self.refused_at(*peer, 0, Asked::DeferGrant, None),
+            Request::Prepare { peer } => self.refused_at(*peer, 0, Asked::Prepare, None),
             Request::Commit | Request::Done | Request::Rollback | Request::Unchanged => {
                 self.refused_of_transaction(request)
             }
@@ -500,22 +522,22 @@ impl Node {
     }
 
     /// Of a purge.
-    pub(crate) fn refused_purge(&self) -> Option<u8>
-        ensures { result ≡ refused_purge self.now.digest.kept }
+    pub(crate) fn refused_purge(&self) -> Option<Refusal>
+        ensures { number_in result ≡ refused_purge self.now.digest.kept }
     {
         match self.kept.get(0) {
-            None => Some(14),
-            Some(kept) => refused_kept(kept),
+            None => Some(NotKept),
+            Some(kept) => refused(kept, &KeptEvent::Purge),
         }
     }
 
     /// Of a loss.
-    pub(crate) fn refused_loss(&self, peer: u16) -> Option<u8>
-        ensures { result ≡ first ((is_idle (link_with self.now.digest.arcs peer), 1) ∷ []) }
+    pub(crate) fn refused_loss(&self, peer: u16) -> Option<Refusal>
+        ensures { number_in result ≡ first ((is_idle (link_with self.now.digest.arcs peer), 1) ∷ []) }
     {
         match self.find(peer) {
             Some(tie) if tie.link.state() != LinkState::Idle => None,
-            _ => Some(1),
+            _ => Some(NoDialogue),
         }
     }
 
@@ -858,29 +880,29 @@ impl Node {
         arcs.add(addr, units, side, link);
     }
 
-    /// What the request of that code says on the arc with that peer, where there is one.
-    #[tactic(auto, using(crate::proofs::Talks::said_end, crate::proofs::Talks::put_none, crate::proofs::Beginnings::dialogue_put))]
-    pub fn say(&mut self, peer: u16, code: u8)
-        ensures { self.new ≡ with_arcs self.old (with_dialogue self.old.digest.arcs peer (said_by code)) }
+    /// What is asked is said on the arc with that peer, where there is one.
+    #[tactic(auto, using(crate::proofs::Talks::put_none, crate::proofs::Beginnings::dialogue_put))]
+    pub fn say(&mut self, peer: u16, asked: Asked)
+        ensures { self.new ≡ with_arcs self.old (with_dialogue self.old.digest.arcs peer (said (asked_value asked))) }
     {
         let Some(tie) = self.find(peer) else {
             return;
         };
         let mut dialogue = tie.dialogue;
-        dialogue.accept(Act { code, octets: 0 });
+        dialogue.say(asked);
         self.put_dialogue(peer, dialogue);
     }
 
-    /// What the record of that code is heard to say on the arc with that peer, where there is one.
-    #[tactic(auto, using(crate::proofs::Talks::heard_end, crate::proofs::Talks::put_none, crate::proofs::Beginnings::dialogue_put))]
-    pub fn hear(&mut self, peer: u16, code: u8)
-        ensures { self.new ≡ with_arcs self.old (with_dialogue self.old.digest.arcs peer (heard_by code)) }
+    /// A record is heard on the arc with that peer, where there is one.
+    #[tactic(auto, using(crate::proofs::Talks::put_none, crate::proofs::Beginnings::dialogue_put))]
+    pub fn hear(&mut self, peer: u16, kind: Heard)
+        ensures { self.new ≡ with_arcs self.old (with_dialogue self.old.digest.arcs peer (heard (heard_value kind))) }
     {
         let Some(tie) = self.find(peer) else {
             return;
         };
         let mut dialogue = tie.dialogue;
-        dialogue.take(Act { code, octets: 0 });
+        dialogue.hear(kind);
         self.put_dialogue(peer, dialogue);
     }
 
@@ -1017,16 +1039,6 @@ impl Node {
     }
 }
 
-// The lesser of two numbers of refusal.
-fn least(a: Option<u8>, b: Option<u8>) -> Option<u8>
-    ensures { result ≡ least a b }
-{
-    match (a, b) {
-        (None, other) | (other, None) => other,
-        (Some(a), Some(b)) => Some(a.min(b)),
-    }
-}
-
 fn has_branch_at(branch: &Branch, peer: u16) -> bool
     ensures { result ≡ has_branch_at (branches_of branch.now.rows) peer }
 {
@@ -1037,18 +1049,6 @@ fn has_branch_at(branch: &Branch, peer: u16) -> bool
         }
     }
     false
-}
-
-/// The number of the first test that holds.
-pub fn first(tests: &[(bool, u8)]) -> Option<u8>
-    ensures { result ≡ first tests.now }
-{
-    for test in tests {
-        if test.0 {
-            return Some(test.1);
-        }
-    }
-    None
 }
 
 fn is_late(phase: Phase) -> bool
@@ -1073,14 +1073,6 @@ fn reaches(room: usize, below: usize, gone: usize) -> bool
     ensures { result ≡ nat_le room (below + gone) }
 {
     below >= room || gone >= room - below
-}
-
-// A purge, of one kept transaction.
-fn refused_kept(kept: &Kept) -> Option<u8>
-    ensures { result ≡ refused_kept kept.now KeptEvent.Purge }
-{
-    let is_waited_for = kept.side == Outcome::Commit && kept.key.branch.is_some();
-    first(&[(!kept.owed.is_empty() || is_waited_for, 15)])
 }
 
 /// The holder that a Begin names.

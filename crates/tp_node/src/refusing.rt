@@ -1,11 +1,12 @@
-//! By which number a node refuses an event, and a record that arrives among them. It takes no memory.
+//! Why a node refuses an event, and a record that arrives among them. It takes no memory.
 ghost use Rattle.std.specs.Prelude.{◌≡◌, [], ◌∷◌};
 ghost use Rattle.tp_model.specs.Dialogues.{first};
 ghost use Rattle.tp_model.specs.Parts.{Do};
 ghost use Rattle.tp_model.specs.Events.{refused_plainly, unless_missing, is_no_node};
 ghost use Rattle.tp_node.specs.NodeEvent.{refused_at_once};
 ghost use Rattle.tp_model.specs.Transactions.{out_of_phase};
-ghost use Rattle.tp_commit.specs.Sight.{sight_value};
+ghost use Rattle.tp_model.specs.Disposition.{sight_value};
+ghost use Rattle.tp_model.specs.Refusal.{number_in};
 ghost use Rattle.tp_records.specs.declared.peer.PeerRecord.{PeerRecord};
 ghost use Rattle.tp_model.specs.Links.{is_opening_with, is_live_with, is_idle};
 ghost use Rattle.tp_model.specs.Arcs.{link_from, link_with};
@@ -13,10 +14,12 @@ ghost use Rattle.tp_model.specs.Arrivals.{is_from_superior, is_shut_by, is_other
 
 use crate::event::NodeEvent;
 use crate::named::key_of;
-use crate::node::{Node, first};
-use tp_commit::Sight;
+use crate::node::Node;
 use tp_link::{Link, LinkState};
-use tp_model::{Question, TxEvent};
+use tp_model::Refusal::{
+    NoNode, NotInReady, NothingOwed, OldAssociation, OutOfPhase, WrongPhase, WrongSite,
+};
+use tp_model::{Disposition, Question, Refusal, TxEvent};
 use tp_names::same::{is_addr, is_mark};
 use tp_names::{Aaid, Addr, BranchId, Mark, NodeKey};
 use tp_records::{DialogueRecord, PeerRecord, RecState, Request};
@@ -56,12 +59,13 @@ impl Node {
 
     // The superior's offer.
     #[tactic(auto, unfolding(tp_model::specs::Arrivals::refused_arrival))]
-    fn refused_open(&self, from: &Addr, x: Mark, units: Units) -> Option<u8>
-        ensures { result ≡ refused_arrival self.now.who self.now.digest from.now (PeerRecord.OpenAssoc x units) }
+    fn refused_open(&self, from: &Addr, x: Mark, units: Units) -> Option<Refusal>
+        ensures { number_in result ≡ refused_arrival self.now.who self.now.digest from.now (PeerRecord.OpenAssoc x units) }
     {
-        first(&[
-            (!self.is_declared() || !self.is_from_superior(from), 23),
-            (!is_idle(&self.link_with(from.node)), 21),
+        let stranger = !self.is_declared() || !self.is_from_superior(from);
+        Refusal::first(&[
+            (stranger, WrongSite),
+            (!is_idle(&self.link_with(from.node)), OldAssociation),
         ])
     }
 
@@ -78,24 +82,24 @@ impl Node {
 
     // The peer answers a call.
     #[tactic(auto, unfolding(tp_model::specs::Arrivals::refused_arrival))]
-    fn refused_accept_of(&self, from: &Addr, x: &Mark, y: Mark, units: Units) -> Option<u8>
-        ensures { result ≡ refused_arrival self.now.who self.now.digest from.now (PeerRecord.AcceptAssoc x.now y units) }
+    fn refused_accept_of(&self, from: &Addr, x: &Mark, y: Mark, units: Units) -> Option<Refusal>
+        ensures { number_in result ≡ refused_arrival self.now.who self.now.digest from.now (PeerRecord.AcceptAssoc x.now y units) }
     {
-        first(&[
-            (!self.is_declared(), 23),
-            (!is_opening_with(&self.link_from(from), x), 21),
-            (self.is_bad_answer(from, units), 24),
+        Refusal::first(&[
+            (!self.is_declared(), WrongSite),
+            (!is_opening_with(&self.link_from(from), x), OldAssociation),
+            (self.is_bad_answer(from, units), OutOfPhase),
         ])
     }
 
     // The peer shuts an association.
     #[tactic(auto, unfolding(tp_model::specs::Arrivals::refused_arrival))]
-    fn refused_shut(&self, from: &Addr, x: &Mark, y: &Option<Mark>) -> Option<u8>
-        ensures { result ≡ refused_arrival self.now.who self.now.digest from.now (PeerRecord.ShutAssoc x.now y.now) }
+    fn refused_shut(&self, from: &Addr, x: &Mark, y: &Option<Mark>) -> Option<Refusal>
+        ensures { number_in result ≡ refused_arrival self.now.who self.now.digest from.now (PeerRecord.ShutAssoc x.now y.now) }
     {
-        first(&[
-            (!self.is_declared(), 23),
-            (!is_shut_by(&self.link_from(from), x, y), 21),
+        Refusal::first(&[
+            (!self.is_declared(), WrongSite),
+            (!is_shut_by(&self.link_from(from), x, y), OldAssociation),
         ])
     }
 
@@ -108,23 +112,23 @@ impl Node {
         y: Mark,
         seq: u64,
         rec: &DialogueRecord,
-    ) -> Option<u8>
-        ensures { result ≡ refused_on self.now.who self.now.digest from.now x y seq rec.now }
+    ) -> Option<Refusal>
+        ensures { number_in result ≡ refused_on self.now.who self.now.digest from.now x y seq rec.now }
     {
         let mut link = self.link_from(from);
         if let Err(dropped) = link.take(x, y, seq) {
-            return Some(dropped.number);
+            return Some(dropped.refusal());
         }
         match self.find(from.node) {
-            None => Some(21),
-            Some(tie) => out_of_phase(self.sight(&tie, rec)),
+            None => Some(OldAssociation),
+            Some(tie) => out_of_phase(self.disposition(&tie, rec)),
         }
     }
 
-    /// The number by which a record is refused that arrives, but for the want of numbers.
+    /// Why a record is refused that arrives, but for the want of numbers.
     #[tactic(auto, unfolding(tp_model::specs::Arrivals::refused_arrival))]
-    pub(crate) fn refused_arrival(&self, from: &Addr, rec: &PeerRecord) -> Option<u8>
-        ensures { result ≡ refused_arrival self.now.who self.now.digest from.now rec.now }
+    pub(crate) fn refused_arrival(&self, from: &Addr, rec: &PeerRecord) -> Option<Refusal>
+        ensures { number_in result ≡ refused_arrival self.now.who self.now.digest from.now rec.now }
     {
         match rec {
             PeerRecord::OpenAssoc { x, units } => self.refused_open(from, *x, *units),
@@ -132,16 +136,16 @@ impl Node {
             PeerRecord::ShutAssoc { x, y } => self.refused_shut(from, x, y),
             PeerRecord::OnAssoc { x, y, seq, rec } => {
                 if !self.is_declared() {
-                    return Some(23);
+                    return Some(WrongSite);
                 }
                 self.refused_on(from, *x, *y, *seq, rec)
             }
             PeerRecord::RecReady { aaid, branch } => self.refused_of_branch(from, aaid, branch),
             PeerRecord::RecCommit { aaid, branch } => {
                 let key = key_of(aaid, branch);
-                first(&[
-                    (is_other(&self.superior_by_key(&key), from), 23),
-                    (self.is_misplaced_order(&key, branch), 24),
+                Refusal::first(&[
+                    (is_other(&self.superior_by_key(&key), from), WrongSite),
+                    (self.is_misplaced_order(&key, branch), OutOfPhase),
                 ])
             }
             PeerRecord::RecReply {
@@ -164,17 +168,20 @@ impl Node {
     }
 
     // Of a record that the superior says of that key.
-    fn refused_of_superior(&self, from: &Addr, key: &NodeKey) -> Option<u8>
-        ensures { result ≡ first ((is_other (kept_superior (named_by_key self.now.digest key.now)) from.now, 23) ∷ []) }
+    fn refused_of_superior(&self, from: &Addr, key: &NodeKey) -> Option<Refusal>
+        ensures { number_in result ≡ first ((is_other (kept_superior (named_by_key self.now.digest key.now)) from.now, 23) ∷ []) }
     {
-        first(&[(is_other(&self.superior_by_key(key), from), 23)])
+        Refusal::first(&[(is_other(&self.superior_by_key(key), from), WrongSite)])
     }
 
     // Of a record that a branch says.
-    fn refused_of_branch(&self, from: &Addr, aaid: &Aaid, branch: &BranchId) -> Option<u8>
-        ensures { result ≡ first ((is_other (child_addr (named_by_branch self.now.digest aaid.now branch.now) branch.now) from.now, 23) ∷ []) }
+    fn refused_of_branch(&self, from: &Addr, aaid: &Aaid, branch: &BranchId) -> Option<Refusal>
+        ensures { number_in result ≡ first ((is_other (child_addr (named_by_branch self.now.digest aaid.now branch.now) branch.now) from.now, 23) ∷ []) }
     {
-        first(&[(is_other(&self.child_by_branch(aaid, branch), from), 23)])
+        Refusal::first(&[(
+            is_other(&self.child_by_branch(aaid, branch), from),
+            WrongSite,
+        )])
     }
 
     // Of a reply.
@@ -184,8 +191,8 @@ impl Node {
         aaid: &Aaid,
         branch: &BranchId,
         state: RecState,
-    ) -> Option<u8>
-        ensures { result ≡ refused_reply self.now.digest from.now aaid.now branch.now state }
+    ) -> Option<Refusal>
+        ensures { number_in result ≡ refused_reply self.now.digest from.now aaid.now branch.now state }
     {
         match state {
             RecState::Done(_) => self.refused_of_branch(from, aaid, branch),
@@ -196,38 +203,45 @@ impl Node {
     }
 
     // Another refusal where the node is there.
-    fn unless_missing(&self, other: Option<u8>) -> Option<u8>
-        ensures { result ≡ unless_missing (is_no_node self.now.digest) other }
+    fn unless_missing(&self, other: Option<Refusal>) -> Option<Refusal>
+        ensures { number_in result ≡ unless_missing (is_no_node self.now.digest) (number_in other) }
     {
-        if self.is_missing() { Some(16) } else { other }
+        if self.is_missing() {
+            Some(NoNode)
+        } else {
+            other
+        }
     }
 
     // Of a request.
-    fn refused_do(&self, request: &Request) -> Option<u8>
-        ensures { result ≡ refused_plainly self.now.who self.now.digest (Do request.now) }
+    fn refused_do(&self, request: &Request) -> Option<Refusal>
+        ensures { number_in result ≡ refused_plainly self.now.who self.now.digest (Do request.now) }
     {
         let needs_declaring = matches!(request, Request::BeginDialogue { .. });
         if self.is_missing() || needs_declaring && !self.is_declared() {
-            return Some(16);
+            return Some(NoNode);
         }
         self.refused_request(request)
     }
 
-    /// The number by which an event is refused before anything is tried. It takes no memory.
-    pub fn refused_at_once(&self, event: &NodeEvent<'_>) -> Option<u8>
-        ensures { result ≡ refused_at_once self.now.who self.now.digest event.now }
+    /// Why an event is refused before anything is tried. It takes no memory.
+    pub fn refused_at_once(&self, event: &NodeEvent<'_>) -> Option<Refusal>
+        ensures { number_in result ≡ refused_at_once self.now.who self.now.digest event.now }
     {
         match event {
-            NodeEvent::Declare { .. } => first(&[(self.is_declared(), 2)]),
+            NodeEvent::Declare { .. } => Refusal::first(&[(self.is_declared(), WrongPhase)]),
             NodeEvent::Do { request } => self.refused_do(request),
             NodeEvent::Arrive { from, rec } => self.refused_arrival(from, rec),
             NodeEvent::Lose { peer } => self.unless_missing(self.refused_loss(*peer)),
             NodeEvent::Heur { outcome } => {
-                let refused = self.refused_of_current(&TxEvent::Heur(*outcome), Some(10));
+                let refused = self.refused_of_current(&TxEvent::Heur(*outcome), Some(NotInReady));
                 self.unless_missing(refused)
             }
             NodeEvent::GiveUp { peer } => {
-                let refused = self.refused_of_current(&TxEvent::GiveUp { arc: *peer }, Some(12));
+                let refused = self.refused_of_current(
+                    &TxEvent::GiveUp { arc: *peer },
+                    Some(NothingOwed),
+                );
                 self.unless_missing(refused)
             }
             NodeEvent::Retry => self.unless_missing(None),
@@ -281,11 +295,11 @@ fn is_other(kept: &Option<Addr>, from: &Addr) -> bool
 }
 
 // A record that is out of phase.
-fn out_of_phase(sight: Sight) -> Option<u8>
-    ensures { result ≡ out_of_phase (sight_value sight) }
+fn out_of_phase(disposition: Disposition) -> Option<Refusal>
+    ensures { number_in result ≡ out_of_phase (sight_value disposition) }
 {
-    match sight {
-        Sight::Acts | Sight::Nothing => None,
-        Sight::OutOfPhase => Some(24),
+    match disposition {
+        Disposition::Acts | Disposition::Nothing => None,
+        Disposition::OutOfPhase => Some(OutOfPhase),
     }
 }

@@ -17,6 +17,8 @@ use Rattle.tp_journal.specs.Records.{version_of}
 use Rattle.tp_journal.specs.Disorder.{IsFirstOutOfOrder}
 use Rattle.tp_site.specs.Nodes.{Nodes, IsSameSite, AreFrom, has_node, who_at, digest_at}
 use Rattle.tp_site.specs.Draft.{Draft}
+use Rattle.tp_model.specs.declared.refusal.Refusal.{Refusal}
+use Rattle.tp_model.specs.Refusal.{number_in}
 use Rattle.tp_node.specs.NodeEvent.{Answer, Refuses, Happens, answer_at}
 use Rattle.tp_site.specs.declared.site.Played.{Played}
 use Rattle.tp_site.specs.declared.faults.SiteFault.{SiteFault}
@@ -104,8 +106,8 @@ pub record IsAttempted {K : Type 0} (old : Site K) (n : ℕ) (e : Event) (number
   pub open_before : old.shut ≡ None
   pub open_after : new.shut ≡ None
 
-abbrev pub Attempts : {K : Type 0} → (K → Standing) → Site K → ℕ → Event → Result (Option ℕ × Draft) SiteFault → Site K → Type 0
-Attempts standing old n e (Ok p) new = IsAttempted old n e p.0 p.1 new
+abbrev pub Attempts : {K : Type 0} → (K → Standing) → Site K → ℕ → Event → Result (Option Refusal × Draft) SiteFault → Site K → Type 0
+Attempts standing old n e (Ok p) new = IsAttempted old n e (number_in p.0) p.1 new
 Attempts standing old n e (Err (SiteFault.Refused k)) new =
     (answer_at (who_at old.nodes n) (known_at old n) e ≡ Refuses k) × (old.shut ≡ None) × (new ≡ old)
 Attempts standing old n e (Err (SiteFault.Full size)) new = ⊥

@@ -3,7 +3,7 @@ ghost use Rattle.std.specs.Prelude.{◌≡◌, ◌==◌, ◌&&◌, true, IfOk, N
 ghost use Rattle.tp_model.specs.Parts.{Arrive};
 ghost use Rattle.tp_model.specs.Events.{action, refusal, unless_spent, needs_numbers, has_pair};
 ghost use Rattle.tp_model.specs.Arrivals.{break_off, refused_arrival};
-ghost use Rattle.tp_commit.specs.Branch.{IsRefusedAs};
+ghost use Rattle.tp_model.specs.Refusal.{IsRefusedAs, number_of};
 ghost use Rattle.tp_node.specs.Halt.{OnSpent};
 ghost use Rattle.tp_node.specs.NodeEvent.{event_of, refused_at_once, is_retry, breaks, answer_at};
 ghost use Rattle.tp_site.specs.Answers.{IsAnswer};
@@ -11,7 +11,7 @@ ghost use Rattle.tp_site.specs.Answers.{IsAnswer};
 use crate::draft::Draft;
 use crate::loss::broken_pair;
 use std::alloc::Global;
-use tp_model::TxFault;
+use tp_model::{Refusal, TxFault};
 use tp_names::Addr;
 use tp_node::{Halt, Node, NodeEvent};
 use tp_records::PeerRecord;
@@ -40,14 +40,14 @@ impl Draft {
     {
         let _drawn = node.drawn();
         match Draft::drafted(alloc, node, event) {
-            Err(Halt::NumbersSpent) => Err(TxFault::Refused(17)),
+            Err(Halt::NumbersSpent) => Err(TxFault::Refused(Refusal::NumbersSpent.number())),
             Err(Halt::NoMemory) => Err(TxFault::NoMemory),
             Ok(draft) => {
                 if draft.is_spent() {
-                    return Err(TxFault::Refused(17));
+                    return Err(TxFault::Refused(Refusal::NumbersSpent.number()));
                 }
                 if is_retry(event) && draft.says_nothing() {
-                    return Err(TxFault::Refused(12));
+                    return Err(TxFault::Refused(Refusal::NothingOwed.number()));
                 }
                 Ok(draft)
             }
@@ -62,9 +62,9 @@ impl Draft {
     {
         let mut draft = Draft::begin(alloc, node)?;
         match draft.break_off(alloc, from, rec) {
-            Err(Halt::NumbersSpent) => Err(TxFault::Refused(17)),
+            Err(Halt::NumbersSpent) => Err(TxFault::Refused(Refusal::NumbersSpent.number())),
             Err(Halt::NoMemory) => Err(TxFault::NoMemory),
-            Ok(()) if draft.is_spent() => Err(TxFault::Refused(17)),
+            Ok(()) if draft.is_spent() => Err(TxFault::Refused(Refusal::NumbersSpent.number())),
             Ok(()) => Ok(draft),
         }
     }
@@ -76,30 +76,30 @@ impl Draft {
         node: &Node,
         from: Addr,
         rec: &PeerRecord,
-    ) -> Result<(Option<u8>, Draft), TxFault>
+    ) -> Result<(Option<Refusal>, Draft), TxFault>
         requires refused { refused_arrival node.now.who node.now.digest from rec.now ≡ Some 24 }
         requires pair { has_pair rec.now ≡ true }
         ensures { IsAnswer result node.now (answer_at node.now.who node.now.digest (Arrive from rec.now)) }
     {
         match Draft::try_break(alloc, node, from, rec) {
-            Ok(draft) => Ok((Some(24), draft)),
+            Ok(draft) => Ok((Some(Refusal::OutOfPhase), draft)),
             Err(fault) => Err(fault),
         }
     }
 
-    // An event that is refused at once by that number.
+    // An event that is refused at once.
     #[tactic(auto, using(crate::proofs::Answered::refused_whole))]
     fn answer_refused(
         alloc: Global,
         node: &Node,
         event: &NodeEvent<'_>,
-        number: u8,
-    ) -> Result<(Option<u8>, Draft), TxFault>
-        requires { refused_at_once node.now.who node.now.digest event.now ≡ Some number }
+        refusal: Refusal,
+    ) -> Result<(Option<Refusal>, Draft), TxFault>
+        requires { refused_at_once node.now.who node.now.digest event.now ≡ Some (number_of refusal) }
         ensures { IsAnswer result node.now (answer_at node.now.who node.now.digest (event_of event.now)) }
     {
-        if !ends_association(event, number) {
-            return Err(TxFault::Refused(number));
+        if !ends_association(event, refusal) {
+            return Err(TxFault::Refused(refusal.number()));
         }
         match event {
             NodeEvent::Arrive { from, rec } => Draft::answer_out_of_phase(alloc, node, *from, rec),
@@ -108,17 +108,17 @@ impl Draft {
     }
 
     /// What the node answers to an event: what the event makes of it, or the number by which it is refused. With a
-    /// number, what happens is the loss of the association that follows that answer.
+    /// refusal, what happens is the loss of the association that follows that answer.
     #[tactic(auto, using(crate::proofs::Answered::happens))]
     pub(crate) fn answer_to(
         alloc: Global,
         node: &Node,
         event: &NodeEvent<'_>,
-    ) -> Result<(Option<u8>, Draft), TxFault>
+    ) -> Result<(Option<Refusal>, Draft), TxFault>
         ensures { IsAnswer result node.now (answer_at node.now.who node.now.digest (event_of event.now)) }
     {
-        if let Some(number) = node.refused_at_once(event) {
-            return Draft::answer_refused(alloc, node, event, number);
+        if let Some(refusal) = node.refused_at_once(event) {
+            return Draft::answer_refused(alloc, node, event, refusal);
         }
         match Draft::try_event(alloc, node, event) {
             Ok(draft) => Ok((None, draft)),
@@ -137,11 +137,18 @@ fn breaks(event: &NodeEvent<'_>) -> bool
     }
 }
 
-// The answer by that number ends an association.
-fn ends_association(event: &NodeEvent<'_>, number: u8) -> bool
-    ensures { result ≡ ((number == 24) && breaks event.now) }
+// The answer that a record is out of phase.
+fn is_out_of_phase(refusal: Refusal) -> bool
+    ensures { result ≡ (number_of refusal == 24) }
 {
-    number == 24 && breaks(event)
+    matches!(refusal, Refusal::OutOfPhase)
+}
+
+// That answer ends an association.
+fn ends_association(event: &NodeEvent<'_>, refusal: Refusal) -> bool
+    ensures { result ≡ ((number_of refusal == 24) && breaks event.now) }
+{
+    is_out_of_phase(refusal) && breaks(event)
 }
 
 fn is_retry(event: &NodeEvent<'_>) -> bool

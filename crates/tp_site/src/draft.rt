@@ -23,6 +23,7 @@ ghost use Rattle.tp_records.specs.declared.indication.Indication.{Indication};
 ghost use Rattle.tp_model.specs.declared.transaction.TxEvent.{TxEvent};
 ghost use Rattle.tp_model.specs.Questions.{is_begin};
 ghost use Rattle.tp_model.specs.Recovery.{settled, refused_kept};
+ghost use Rattle.tp_dialogue.specs.Kinds.{asked_value, heard_value};
 ghost use Rattle.tp_site.specs.Talk.{speaking_on, deferring, telling_heard, taking_deferral};
 ghost use Rattle.tp_site.specs.Passage.{said_then, giving, completing, playing, speaking, settling, turning, passing, turning_by, place_of_completion};
 ghost use Rattle.tp_node.specs.Passage.{passage_of};
@@ -31,13 +32,14 @@ ghost use Rattle.tp_model.specs.Links.{greatest, is_opening_with, dropped_by};
 use crate::copies;
 use std::alloc::Global;
 use std::marker::Model;
-use tp_commit::{Branch, Sight};
+use tp_commit::Branch;
+use tp_dialogue::{Asked, Heard};
 use tp_logrec::LogRec;
-use tp_model::{Kept, KeptEvent, Phase, Step, TxEvent, TxFault, TxOut};
+use tp_model::{Disposition, Kept, KeptEvent, Phase, Step, TxEvent, TxOut};
 use tp_names::{Aaid, Addr, BranchId, Mark, NoMemory, NodeKey, Octets};
 use tp_node::{ArcStep, Halt, Node, Outs, Passage, is_leaving};
 use tp_records::{DialogueRecord, Holder, Indication, PeerRecord, Request};
-use tp_recover::{owed, settle};
+use tp_recover::{owed, step};
 use tp_tree::Tie;
 use tp_units::{CHAINED, Units};
 
@@ -370,11 +372,16 @@ impl Draft {
         }
     }
 
-    /// A record goes out on the arc with that peer, where its dialogue has said it by the request of that code.
-    pub(crate) fn speak_on(&mut self, peer: u16, code: u8, rec: DialogueRecord) -> Result<(), Halt>
-        ensures { Plays result self.old self.new (speaking_on peer code rec) }
+    /// A record goes out on the arc with that peer, where its dialogue has said it.
+    pub(crate) fn speak_on(
+        &mut self,
+        peer: u16,
+        asked: Asked,
+        rec: DialogueRecord,
+    ) -> Result<(), Halt>
+        ensures { Plays result self.old self.new (speaking_on peer (asked_value asked) rec) }
     {
-        self.node.say(peer, code);
+        self.node.say(peer, asked);
         self.carry(peer, rec)
     }
 
@@ -383,13 +390,13 @@ impl Draft {
         &mut self,
         alloc: Global,
         peer: u16,
-        code: u8,
+        asked: Asked,
         event: &TxEvent,
     ) -> Result<(), Halt>
         requires { begins event.now ≡ 0 }
-        ensures { Plays result self.old self.new (deferring peer code event.now) }
+        ensures { Plays result self.old self.new (deferring peer (asked_value asked) event.now) }
     {
-        self.node.say(peer, code);
+        self.node.say(peer, asked);
         self.transact(alloc, event)
     }
 
@@ -568,11 +575,8 @@ impl Draft {
         requires { refused_kept kept.now event.now ≡ None }
         ensures { Plays result self.old self.new (λ who. keep (settled kept.now event.now)) }
     {
-        match settle(alloc, kept, event) {
-            Ok(step) => self.settle_kept(alloc, step),
-            Err(TxFault::NoMemory) => Err(Halt::NoMemory),
-            Err(TxFault::Refused(_)) => unreachable!(),
-        }
+        let step = step(alloc, kept, event)?;
+        self.settle_kept(alloc, step)
     }
 
     /// The oldest kept transaction ends.
@@ -657,11 +661,16 @@ impl Draft {
         self.tell(Indication::UAbort { peer })
     }
 
-    /// The dialogue with that peer has heard a record, by its code, and the user is told.
-    pub(crate) fn hear(&mut self, peer: u16, code: u8, indication: Indication) -> Result<(), Halt>
-        ensures { Plays result self.old self.new (telling_heard peer code indication) }
+    /// The dialogue with that peer has heard a record, and the user is told.
+    pub(crate) fn hear(
+        &mut self,
+        peer: u16,
+        kind: Heard,
+        indication: Indication,
+    ) -> Result<(), Halt>
+        ensures { Plays result self.old self.new (telling_heard peer (heard_value kind) indication) }
     {
-        self.node.hear(peer, code);
+        self.node.hear(peer, kind);
         self.tell(indication)
     }
 
@@ -670,13 +679,13 @@ impl Draft {
         &mut self,
         alloc: Global,
         peer: u16,
-        code: u8,
+        kind: Heard,
         event: &TxEvent,
     ) -> Result<(), Halt>
         requires { begins event.now ≡ 0 }
-        ensures { Plays result self.old self.new (taking_deferral peer code event.now) }
+        ensures { Plays result self.old self.new (taking_deferral peer (heard_value kind) event.now) }
     {
-        self.node.hear(peer, code);
+        self.node.hear(peer, kind);
         self.transact(alloc, event)
     }
 
@@ -705,24 +714,50 @@ impl Draft {
             DialogueRecord::EndDialogue => self.take_end(alloc, peer),
             DialogueRecord::UserData { octets } => {
                 let octets = Octets::from_slice(alloc, octets.as_slice())?;
-                self.hear(peer, 2, Indication::UserData { peer, octets })
+                self.hear(peer, Heard::Data, Indication::UserData { peer, octets })
             }
-            DialogueRecord::UError => self.hear(peer, 3, Indication::UError { peer }),
+            DialogueRecord::UError => self.hear(peer, Heard::Error, Indication::UError { peer }),
             DialogueRecord::UAbort => self.take_abort(alloc, peer),
-            DialogueRecord::Grant => self.hear(peer, 5, Indication::Grant { peer }),
-            DialogueRecord::AskControl => self.hear(peer, 6, Indication::AskControl { peer }),
-            DialogueRecord::Handshake => self.hear(peer, 7, Indication::Handshake { peer }),
+            DialogueRecord::Grant => self.hear(peer, Heard::Grant, Indication::Grant { peer }),
+            DialogueRecord::AskControl => self.hear(
+                peer,
+                Heard::Control,
+                Indication::AskControl { peer },
+            ),
+            DialogueRecord::Handshake => self.hear(
+                peer,
+                Heard::Handshake,
+                Indication::Handshake { peer },
+            ),
             DialogueRecord::HandshakeGrant => {
-                self.hear(peer, 8, Indication::HandshakeGrant { peer })
+                self.hear(
+                    peer,
+                    Heard::HandshakeGrant,
+                    Indication::HandshakeGrant { peer },
+                )
             }
-            DialogueRecord::Response => self.hear(peer, 9, Indication::HandshakeConfirm { peer }),
+            DialogueRecord::Response => self.hear(
+                peer,
+                Heard::Response,
+                Indication::HandshakeConfirm { peer },
+            ),
             DialogueRecord::DeferEnd => {
                 let rec = DialogueRecord::DeferEnd;
-                self.take_deferral(alloc, peer, 10, &TxEvent::Took { arc: peer, rec })
+                self.take_deferral(
+                    alloc,
+                    peer,
+                    Heard::DeferEnd,
+                    &TxEvent::Took { arc: peer, rec },
+                )
             }
             DialogueRecord::DeferGrant => {
                 let rec = DialogueRecord::DeferGrant;
-                self.take_deferral(alloc, peer, 11, &TxEvent::Took { arc: peer, rec })
+                self.take_deferral(
+                    alloc,
+                    peer,
+                    Heard::DeferGrant,
+                    &TxEvent::Took { arc: peer, rec },
+                )
             }
             DialogueRecord::Begin {
                 aaid,
@@ -759,11 +794,11 @@ impl Draft {
         requires number { dropped_by (arc_of tie.now).link x y seq ≡ None }
         ensures { Plays result self.old self.new (λ who. take_on who (arc_of tie.now) rec.now) }
     {
-        let sight = self.node.sight(tie, rec);
+        let disposition = self.node.disposition(tie, rec);
         self.node.take(tie.addr().node, x, y, seq, rec);
-        match sight {
-            Sight::Acts => self.take_record(alloc, tie, rec),
-            Sight::Nothing | Sight::OutOfPhase => Ok(()),
+        match disposition {
+            Disposition::Acts => self.take_record(alloc, tie, rec),
+            Disposition::Nothing | Disposition::OutOfPhase => Ok(()),
         }
     }
 
@@ -827,25 +862,37 @@ impl Draft {
             Request::EndDialogue { peer } => self.end(alloc, *peer),
             Request::UserData { peer, octets } => {
                 let octets = Octets::from_slice(alloc, octets.as_slice())?;
-                self.speak_on(*peer, 5, DialogueRecord::UserData { octets })
+                self.speak_on(*peer, Asked::Data, DialogueRecord::UserData { octets })
             }
-            Request::UError { peer } => self.speak_on(*peer, 6, DialogueRecord::UError),
+            Request::UError { peer } => self.speak_on(*peer, Asked::Error, DialogueRecord::UError),
             Request::UAbort { peer } => self.abort(alloc, *peer),
-            Request::Grant { peer } => self.speak_on(*peer, 8, DialogueRecord::Grant),
-            Request::AskControl { peer } => self.speak_on(*peer, 9, DialogueRecord::AskControl),
-            Request::Handshake { peer } => self.speak_on(*peer, 10, DialogueRecord::Handshake),
-            Request::Respond { peer } => self.speak_on(*peer, 11, DialogueRecord::Response),
+            Request::Grant { peer } => self.speak_on(*peer, Asked::Grant, DialogueRecord::Grant),
+            Request::AskControl { peer } => self.speak_on(
+                *peer,
+                Asked::Control,
+                DialogueRecord::AskControl,
+            ),
+            Request::Handshake { peer } => self.speak_on(
+                *peer,
+                Asked::Handshake,
+                DialogueRecord::Handshake,
+            ),
+            Request::Respond { peer } => self.speak_on(
+                *peer,
+                Asked::Respond,
+                DialogueRecord::Response,
+            ),
             Request::HandshakeGrant { peer } => {
-                self.speak_on(*peer, 12, DialogueRecord::HandshakeGrant)
+                self.speak_on(*peer, Asked::HandshakeGrant, DialogueRecord::HandshakeGrant)
             }
             Request::BeginTransaction { peer } => self.begin_transaction(alloc, *peer),
             Request::DeferEnd { peer } => {
                 let event = TxEvent::User(Request::DeferEnd { peer: *peer });
-                self.defer(alloc, *peer, 14, &event)
+                self.defer(alloc, *peer, Asked::DeferEnd, &event)
             }
             Request::DeferGrant { peer } => {
                 let event = TxEvent::User(Request::DeferGrant { peer: *peer });
-                self.defer(alloc, *peer, 15, &event)
+                self.defer(alloc, *peer, Asked::DeferGrant, &event)
             }
             Request::Prepare { peer } => {
                 self.transact(alloc, &TxEvent::User(Request::Prepare { peer: *peer }))

@@ -13,7 +13,7 @@ use std::alloc::Global;
 use std::collections::HashMap;
 use std::marker::Model;
 use tp_logrec::{LogRec, LogVersion};
-use tp_model::TxFault;
+use tp_model::{Refusal, TxFault};
 use tp_names::{NoMemory, SiteName};
 use tp_node::{Node, NodeEvent};
 
@@ -85,7 +85,7 @@ impl Nodes {
         alloc: Global,
         node: u16,
         event: &NodeEvent<'_>,
-    ) -> Result<(Option<u8>, Draft), TxFault>
+    ) -> Result<(Option<Refusal>, Draft), TxFault>
         ensures { IsAnswer result (node_at self.now node) (answer_at (who_at self.now node) (digest_at self.now node) (event_of event.now)) }
     {
         match self.find(node) {

@@ -3,6 +3,7 @@ ghost use Rattle.std.specs.Prelude.{◌≡◌, true, IfOk, IfErr, Some, None};
 ghost use Rattle.std.specs.Option.{option_map};
 ghost use Rattle.tp_logrec.specs.Order.{boots, last_number};
 ghost use Rattle.tp_model.specs.History.{state};
+ghost use Rattle.tp_model.specs.Refusal.{number_in};
 ghost use Rattle.tp_journal.specs.Records.{version_of};
 ghost use Rattle.tp_node.specs.NodeEvent.{event_of};
 ghost use Rattle.tp_site.specs.Nodes.{has_node, who_at};
@@ -18,7 +19,7 @@ use std::alloc::Global;
 use std::marker::Model;
 use tp_journal::{ForceFault, Keeper, first_out_of_order};
 use tp_logrec::{LogRec, LogVersion};
-use tp_model::{Phase, TxFault};
+use tp_model::{Phase, Refusal, TxFault};
 use tp_names::{NoMemory, SiteName};
 use tp_node::{Node, NodeEvent, NodeState, NodeTree, Outs};
 
@@ -60,6 +61,16 @@ fn force<K: Keeper>(alloc: Global, keeper: &mut K, rec: &LogRec) -> Result<(), F
     }
 }
 
+// The number of a refusal, where there is one.
+fn number_in(refusal: Option<Refusal>) -> Option<u8>
+    ensures { result ≡ number_in refusal }
+{
+    match refusal {
+        Some(refusal) => Some(refusal.number()),
+        None => None,
+    }
+}
+
 impl<K: Keeper> Site<K> {
     // The record is forced, where there is one.
     fn force(&mut self, alloc: Global, rec: &Option<LogRec>) -> Result<(), ForceFault>
@@ -79,7 +90,7 @@ impl<K: Keeper> Site<K> {
         alloc: Global,
         node: u16,
         event: &NodeEvent<'_>,
-    ) -> Result<(Option<u8>, Draft), SiteFault>
+    ) -> Result<(Option<Refusal>, Draft), SiteFault>
         ensures { Attempts K.standing self.old node (event_of event.now) result self.new }
     {
         if let Some(faults) = self.shut {
@@ -125,10 +136,13 @@ impl<K: Keeper> Site<K> {
     ) -> Result<Played, SiteFault>
         ensures { Plays K.standing self.old node (event_of event.now) result self.new }
     {
-        let (number, draft) = self.attempt(alloc, node, event)?;
+        let (refusal, draft) = self.attempt(alloc, node, event)?;
         let (next, rec, outs) = draft.into_parts();
         self.settle(alloc, node, next, &rec)?;
-        Ok(Played { number, outs })
+        Ok(Played {
+            number: number_in(refusal),
+            outs,
+        })
     }
 
     // What a fault of the log means for the site.

@@ -3,8 +3,8 @@ use Rattle.tp_model.specs.Arcs.{with_dialogue}
 use Rattle.tp_tree.specs.Tie.{arc_of}
 use Rattle.tp_dialogue.specs.Dialogue.{End}
 use Rattle.tp_node.specs.Node.{with_arcs}
-use Rattle.tp_node.specs.Talk.{heard_by}
-use Rattle.tp_node.proofs.Talks.{heard_end}
+use Rattle.tp_model.specs.Dialogues.{heard}
+use Rattle.tp_dialogue.specs.Kinds.{heard_value}
 use Rattle.tp_node.proofs.Beginnings.{dialogue_put}
 use Rattle.tp_node.proofs.node.Node.hear.Goals as goal
 
@@ -14,5 +14,5 @@ returns c =
     let p = c.args.peer in
     let t = c.in-Some.tie in
     c.put_dialogue.ensures
-    ∙ ap (λ (e : End). with_arcs v (with_dialogue v.digest.arcs p (λ _. e.dialogue))) (c.take.ensures ∙ heard_end (record { code = c.args.code; octets = 0 }) t.dialogue)
-    ∙ ap (with_arcs v) (dialogue_put v.digest.arcs p (arc_of t) (heard_by c.args.code) (sym c.in-Some.ensures.arc))
+    ∙ ap (λ (e : End). with_arcs v (with_dialogue v.digest.arcs p (λ _. e.dialogue))) c.hear.ensures
+    ∙ ap (with_arcs v) (dialogue_put v.digest.arcs p (arc_of t) (heard (heard_value c.args.kind)) (sym c.in-Some.ensures.arc))

@@ -3,8 +3,8 @@ use Rattle.tp_model.specs.Arcs.{with_dialogue}
 use Rattle.tp_tree.specs.Tie.{arc_of}
 use Rattle.tp_dialogue.specs.Dialogue.{End}
 use Rattle.tp_node.specs.Node.{with_arcs}
-use Rattle.tp_node.specs.Talk.{said_by}
-use Rattle.tp_node.proofs.Talks.{said_end}
+use Rattle.tp_model.specs.Dialogues.{said}
+use Rattle.tp_dialogue.specs.Kinds.{asked_value}
 use Rattle.tp_node.proofs.Beginnings.{dialogue_put}
 use Rattle.tp_node.proofs.node.Node.say.Goals as goal
 
@@ -14,5 +14,5 @@ returns c =
     let p = c.args.peer in
     let t = c.in-Some.tie in
     c.put_dialogue.ensures
-    ∙ ap (λ (e : End). with_arcs v (with_dialogue v.digest.arcs p (λ _. e.dialogue))) (c.accept.ensures ∙ said_end (record { code = c.args.code; octets = 0 }) t.dialogue)
-    ∙ ap (with_arcs v) (dialogue_put v.digest.arcs p (arc_of t) (said_by c.args.code) (sym c.in-Some.ensures.arc))
+    ∙ ap (λ (e : End). with_arcs v (with_dialogue v.digest.arcs p (λ _. e.dialogue))) c.say.ensures
+    ∙ ap (with_arcs v) (dialogue_put v.digest.arcs p (arc_of t) (said (asked_value c.args.asked)) (sym c.in-Some.ensures.arc))

@@ -2,45 +2,43 @@
 ghost use Rattle.std.specs.Prelude.{◌≡◌};
 ghost use Rattle.tp_model.specs.Transactions.{sight_of_tx};
 ghost use Rattle.tp_model.specs.Dialogues.{acts_or_out, acts_or_nothing, acts_nothing_or_out};
-ghost use Rattle.tp_commit.specs.Sight.{sight_value, may_leave, sight_of_rollback};
+ghost use Rattle.tp_model.specs.Disposition.{sight_value};
+ghost use Rattle.tp_commit.specs.Disposition.{may_leave, sight_of_rollback};
 
 use crate::row::Row;
 use crate::{Branch, rows};
-use tp_model::Phase;
+use tp_model::{Disposition, Phase};
 use tp_records::DialogueRecord;
 
-/// What comes of a record.
-#[derive(Clone, Copy, Debug, PartialEq, Eq)]
-pub enum Sight {
-    /// It acts.
-    Acts,
-    /// Nothing happens.
-    Nothing,
-    /// It ends its association.
-    OutOfPhase,
-}
-
-fn acts_or_out(acts: bool) -> Sight
+fn acts_or_out(acts: bool) -> Disposition
     ensures { sight_value result ≡ acts_or_out acts }
 {
-    if acts { Sight::Acts } else { Sight::OutOfPhase }
+    if acts {
+        Disposition::Acts
+    } else {
+        Disposition::OutOfPhase
+    }
 }
 
-fn acts_or_nothing(acts: bool) -> Sight
+fn acts_or_nothing(acts: bool) -> Disposition
     ensures { sight_value result ≡ acts_or_nothing acts }
 {
-    if acts { Sight::Acts } else { Sight::Nothing }
+    if acts {
+        Disposition::Acts
+    } else {
+        Disposition::Nothing
+    }
 }
 
-fn acts_nothing_or_out(acts: bool, nothing: bool) -> Sight
+fn acts_nothing_or_out(acts: bool, nothing: bool) -> Disposition
     ensures { sight_value result ≡ acts_nothing_or_out acts nothing }
 {
     if acts {
-        Sight::Acts
+        Disposition::Acts
     } else if nothing {
-        Sight::Nothing
+        Disposition::Nothing
     } else {
-        Sight::OutOfPhase
+        Disposition::OutOfPhase
     }
 }
 
@@ -57,14 +55,14 @@ impl Branch {
     }
 
     // Rollback, from the superior or from a branch.
-    fn sight_of_rollback(&self, arc: u16) -> Sight
+    fn disposition_of_rollback(&self, arc: u16) -> Disposition
         ensures { sight_value result ≡ sight_of_rollback self.now arc }
     {
         if self.is_under_at(arc) {
             return acts_or_out(matches!(self.phase, Phase::Active | Phase::Ready | Phase::Rolling));
         }
         match rows::find(self.rows.as_slice(), arc) {
-            None => Sight::Nothing,
+            None => Disposition::Nothing,
             Some(row) => acts_nothing_or_out(
                 self.phase == Phase::Active && !row.counted,
                 self.phase == Phase::Rolling,
@@ -74,7 +72,7 @@ impl Branch {
 
     /// What comes of a record on that arc.
     #[tactic(auto, unfolding(tp_model::specs::Transactions::sight_of_tx))]
-    pub fn sight(&self, arc: u16, rec: &DialogueRecord) -> Sight
+    pub fn disposition(&self, arc: u16, rec: &DialogueRecord) -> Disposition
         ensures { sight_value result ≡ sight_of_tx self.now arc rec.now }
     {
         let row = rows::find(self.rows.as_slice(), arc);
@@ -89,11 +87,11 @@ impl Branch {
             | DialogueRecord::AskControl
             | DialogueRecord::Handshake
             | DialogueRecord::HandshakeGrant
-            | DialogueRecord::Response => Sight::Nothing,
+            | DialogueRecord::Response => Disposition::Nothing,
             DialogueRecord::UAbort | DialogueRecord::DeferEnd | DialogueRecord::DeferGrant => {
-                Sight::Acts
+                Disposition::Acts
             }
-            DialogueRecord::Begin { .. } => Sight::OutOfPhase,
+            DialogueRecord::Begin { .. } => Disposition::OutOfPhase,
             DialogueRecord::Prepare => acts_nothing_or_out(
                 active && self.is_under_at(arc) && !self.told_prepare,
                 rolling,
@@ -109,7 +107,7 @@ impl Branch {
             DialogueRecord::Done { .. } => {
                 acts_or_nothing(self.phase == Phase::Committing && is_open)
             }
-            DialogueRecord::Rollback => self.sight_of_rollback(arc),
+            DialogueRecord::Rollback => self.disposition_of_rollback(arc),
             DialogueRecord::RolledBack { .. } => acts_or_nothing(rolling && is_open),
             DialogueRecord::Left | DialogueRecord::LeftEnd => acts_or_out(self.may_leave(row)),
         }
