@@ -10,13 +10,13 @@ use Rattle.tp_model.specs.declared.verdict.What.{What}
 use Rattle.tp_model.specs.World.{World, Node, Site, number_of, addr_of, addr_at, find_node, find_site, is_node}
 use Rattle.tp_model.specs.Happenings.{Declare, Turn, happens, still, with_node, new_node, new_site, declared_at}
 use Rattle.tp_model.specs.Lines.{Fault, Over, if_named, is_peer, node_limit, node_line}
-use Rattle.tp_world.specs.Nodes.{IsDeclared, address_at}
+use Rattle.tp_network.specs.Nodes.{IsDeclared, address_at}
 use Rattle.tp_world.specs.Sites.{AreSites}
 use Rattle.tp_world.specs.Placing.{IsDeclaredAt, boot_lines}
 use Rattle.tp_world.specs.Declares.{superior_at, has_superior, HasCome}
 use Rattle.tp_world.specs.World.{AreNodes, RestStands, Stands, Gives, is_free, is_placed}
 use Rattle.tp_world.specs.declared.fault.WorldFault.{WorldFault}
-use Rattle.tp_world.specs.declared.nodes.NodeSlot.{NodeSlot}
+use Rattle.tp_network.specs.declared.nodes.NodeSlot.{NodeSlot}
 use Rattle.tp_world.specs.declared.site_slot.SiteSlot.{SiteSlot}
 use Rattle.tp_world.specs.declared.ground.Ground.{Ground}
 use Rattle.tp_world.proofs.Stood.{address_stood}

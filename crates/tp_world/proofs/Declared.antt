@@ -10,10 +10,11 @@ use Rattle.tp_model.specs.Events.{refusal, started}
 use Rattle.tp_model.specs.Legal.{IsLegal}
 use Rattle.tp_model.specs.World.{World, Node, Site, Frame, number_of, find_node, find_site}
 use Rattle.tp_model.specs.Happenings.{new_node, with_node}
-use Rattle.tp_world.specs.Part.{part, no_part}
-use Rattle.tp_world.specs.Nodes.{IsDeclared}
+use Rattle.tp_network.specs.TreeSummary.{no_summary}
+use Rattle.tp_world.specs.Summary.{summary}
+use Rattle.tp_network.specs.Nodes.{IsDeclared}
 use Rattle.tp_world.specs.World.{IsNode, AreNodes, RestStands, is_free, are_apart, is_placed}
-use Rattle.tp_world.specs.declared.nodes.NodeSlot.{NodeSlot}
+use Rattle.tp_network.specs.declared.nodes.NodeSlot.{NodeSlot}
 use Rattle.tp_world.proofs.Found.{AreThere, each_placed}
 
 new_legal : (s : List ℕ) (k boot : ℕ) (up : Option Addr) → IsLegal (new_node s k boot up).origin up (new_node s k boot up).history
@@ -21,9 +22,9 @@ unfolding refusal started
 new_legal s k boot up = record { start = refl; grown = (refl, refl, refl, tt) }
 
 -- it had to do with no tree
-new_part : (s : List ℕ) (k boot : ℕ) (up : Option Addr) (t : Aaid) → part (new_node s k boot up).origin t (new_node s k boot up).history ≡ no_part
+new_summary : (s : List ℕ) (k boot : ℕ) (up : Option Addr) (t : Aaid) → summary (new_node s k boot up).origin t (new_node s k boot up).history ≡ no_summary
 unfolding refusal started
-new_part s k boot up t = refl
+new_summary s k boot up t = refl
 
 new_is : (s : List ℕ) (k boot : ℕ) (up : Option Addr) (x : NodeSlot) → IsDeclared (record { site = s; node = k }) up x → IsNode (new_node s k boot up) x
 new_is s k boot up x d = record {
@@ -32,7 +33,7 @@ new_is s k boot up x d = record {
   version = refl;
   fresh = refl;
   legal = new_legal s k boot up;
-  parts = λ t. d.parts t ∙ sym (new_part s k boot up t);
+  summaries = λ t. d.summaries t ∙ sym (new_summary s k boot up t);
 }
 
 nodes_behind : (ns : List Node) (xs : List NodeSlot) (n : Node) (x : NodeSlot) → AreNodes ns xs → IsNode n x → AreNodes (ns ++ n ∷ []) (xs ++ x ∷ [])

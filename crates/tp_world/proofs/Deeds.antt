@@ -13,15 +13,15 @@ use Rattle.tp_model.specs.Outcomes.{started, is_now, root_of}
 use Rattle.tp_model.specs.World.{World, Node, Frame, number_of, site_of, addr_of, find_node, put_node, find_site}
 use Rattle.tp_model.specs.Happenings.{entered, logged, frames_of, trees_of}
 use Rattle.tp_site.specs.State.{tree_of}
-use Rattle.tp_world.specs.Part.{is_in}
+use Rattle.tp_network.specs.TreeSummary.{is_in}
 use Rattle.tp_world.specs.Settled.{tree_started, IsSettledEntry}
-use Rattle.tp_world.specs.Nodes.{AreStepped}
+use Rattle.tp_network.specs.Nodes.{AreChanged}
 use Rattle.tp_world.specs.World.{Stands, SitesStand, RestStands, AreNodes, after_entry, are_apart, is_placed}
 use Rattle.tp_world.specs.declared.site_slot.Entry.{Entry}
 use Rattle.tp_world.specs.declared.ground.Ground.{Ground}
-use Rattle.tp_world.specs.declared.nodes.NodeSlot.{NodeSlot}
-use Rattle.tp_world.specs.declared.part.Step.{Step}
-use Rattle.tp_world.proofs.Entered.{with_entry, step_by, nodes_entered}
+use Rattle.tp_network.specs.declared.nodes.NodeSlot.{NodeSlot}
+use Rattle.tp_network.specs.declared.tree_summary.TreeChange.{TreeChange}
+use Rattle.tp_world.proofs.Entered.{with_entry, change_by, nodes_entered}
 use Rattle.tp_world.proofs.Found.{AreThere, apart_put, there_put, disk_there, each_placed, placed_put, placed_found}
 
 -- ---- the tree that starts
@@ -38,7 +38,7 @@ abbrev started_by : Option Current → Option Current → Option Aaid
 started_by before behind = elim (root_of behind) [ None ↦ None | Some t ↦ if is_now t before then None else Some t ]
 
 starts : (before behind : Option Current) (leaves : Bool) (rec : Option LogWords)
-    → tree_started (record { before = option_map tree_of before; behind = option_map tree_of behind; leaves = leaves; rec = rec }) ≡ started_by before behind
+    → tree_started (record { before = option_map tree_of before; after = option_map tree_of behind; leaves = leaves; rec = rec }) ≡ started_by before behind
 starts before None leaves rec = refl
 starts before (Some c) leaves rec = go c.key
   where
@@ -46,12 +46,12 @@ starts before (Some c) leaves rec = go c.key
     here t true = refl
     here t false = refl
 
-    go : (k : Key) → tree_started (record { before = option_map tree_of before; behind = Some (tree_of (record c { key = k })); leaves = leaves; rec = rec }) ≡ started_by before (Some (record c { key = k }))
+    go : (k : Key) → tree_started (record { before = option_map tree_of before; after = Some (tree_of (record c { key = k })); leaves = leaves; rec = rec }) ≡ started_by before (Some (record c { key = k }))
     go (Root t) = here t (is_in t (option_map tree_of before)) ∙ ap (λ (b : Bool). if b then None else Some t) (in_now t before)
     go (Under t b a) = refl
 
-pub started_same : (n : Node) (e : EntryValue) → tree_started (step_by n e) ≡ started (digest n.origin n.history) (digest n.origin (e ∷ n.history))
-started_same n e = starts (digest n.origin n.history).current (digest n.origin (e ∷ n.history)).current (step_by n e).leaves (step_by n e).rec
+pub started_same : (n : Node) (e : EntryValue) → tree_started (change_by n e) ≡ started (digest n.origin n.history) (digest n.origin (e ∷ n.history))
+started_same n e = starts (digest n.origin n.history).current (digest n.origin (e ∷ n.history)).current (change_by n e).leaves (change_by n e).rec
 
 -- ---- the world after an entry
 
@@ -84,7 +84,7 @@ pub record IsBehind (w : World) (n : Node) (e : EntryValue) (x : Entry) (first l
   pub found : find_node w.nodes (number_of n) ≡ Some n
   pub legal : IsLegal n.origin n.superior (e ∷ n.history)
   pub outs : x.outs ≡ e.outs
-  pub step : x.step ≡ step_by n e
+  pub change : x.change ≡ change_by n e
   pub sites : SitesStand (after_entry w n (Some e)) mid.sites.items
   pub nodes : mid.nodes ≡ old.nodes
   pub frames : mid.frames ≡ old.frames
@@ -106,18 +106,18 @@ rest_behind w n e x first last old mid new h =
       nodes = λ k h. ap (λ (l : List Node). is_some (find_node l k)) at ∙ there_put w.nodes (with_entry n e) k ∙ h;
       sites = λ s h. logged_sites (entered w n e) n e.rec s ∙ h;
     } in
-    let stepped : AreStepped (number_of n) (step_by n e) old.nodes new.nodes =
-    subst (λ (q : Step). AreStepped (number_of n) q old.nodes new.nodes) h.step (subst (λ (l : List NodeSlot). AreStepped (number_of n) x.step l new.nodes) h.nodes h.settled.nodes)
+    let changed : AreChanged (number_of n) (change_by n e) old.nodes new.nodes =
+    subst (λ (q : TreeChange). AreChanged (number_of n) q old.nodes new.nodes) h.change (subst (λ (l : List NodeSlot). AreChanged (number_of n) x.change l new.nodes) h.nodes h.settled.nodes)
     in
     let place : is_placed w (with_entry n e) ≡ true = placed_found w w.nodes (number_of n) n h.found r.placed in
     record {
-      nodes = subst (λ (l : List Node). AreNodes l new.nodes) (sym at) (nodes_entered w.nodes old.nodes new.nodes n e h.legal h.found r.nodes stepped);
+      nodes = subst (λ (l : List Node). AreNodes l new.nodes) (sym at) (nodes_entered w.nodes old.nodes new.nodes n e h.legal h.found r.nodes changed);
       apart = ap are_apart at ∙ apart_put w.nodes (with_entry n e) ∙ r.apart;
       placed = subst (λ (l : List Node). AllByRecursion (λ z. is_placed (turn_world w n e) z ≡ true) l) (sym at)
           (each_placed w (turn_world w n e) (put_node w.nodes (with_entry n e)) there (placed_put w w.nodes (with_entry n e) place r.placed));
       frames = frames;
       few = subst (λ (l : List Frame). length l ≤ 65535) frames (h.settled.few (subst (λ (l : List Frame). length l ≤ 65535) (sym (h.frames ∙ r.frames)) r.few));
-      trees = h.settled.trees ∙ ap (λ (l : List Aaid). l ++ trees_of (tree_started x.step)) (ap (λ t. t.items) h.trees ∙ r.trees) ∙ ap (λ (o : Option Aaid). w.trees ++ trees_of o) (ap tree_started h.step ∙ started_same n e) ∙ sym (logged_trees (entered w n e) n e.rec);
+      trees = h.settled.trees ∙ ap (λ (l : List Aaid). l ++ trees_of (tree_started x.change)) (ap (λ t. t.items) h.trees ∙ r.trees) ∙ ap (λ (o : Option Aaid). w.trees ++ trees_of o) (ap tree_started h.change ∙ started_same n e) ∙ sym (logged_trees (entered w n e) n e.rec);
       undriven = logged_drives (entered w n e) n e.rec ∙ r.undriven;
     }
 

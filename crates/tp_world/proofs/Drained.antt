@@ -5,7 +5,7 @@ use Rattle.tp_model.specs.declared.out_line.OutLine.{OutLine}
 use Rattle.tp_model.specs.World.{World, Frame, mark_handed, oldest_from, oldest_of_all, oldest_between}
 use Rattle.tp_model.specs.Happenings.{Mark, Turn, Told, happens, still}
 use Rattle.tp_model.specs.Lines.{Fault, within_limits, shows, then_turn, then_result, drain_line}
-use Rattle.tp_world.specs.Frames.{is_between}
+use Rattle.tp_network.specs.Frames.{is_between}
 use Rattle.tp_world.specs.Drains.{handed, Hands, IsDrained}
 use Rattle.tp_world.specs.World.{AreNodes, SitesStand, Stands, Gives}
 use Rattle.tp_world.specs.declared.fault.WorldFault.{WorldFault}

@@ -9,7 +9,7 @@ use Rattle.tp_model.specs.Outcomes.{is_unchanged}
 use Rattle.tp_model.specs.declared.out_line.LogWords.{LogWords}
 use Rattle.tp_node.specs.declared.state.NodeTree.{NodeTree}
 use Rattle.tp_site.specs.NodeEvent.{Answer, Refuses, Happens, answer_at}
-use Rattle.tp_world.specs.declared.part.Step.{Step}
+use Rattle.tp_network.specs.declared.tree_summary.TreeChange.{TreeChange}
 
 -- the loss that follows an answer is not the user's leaving, and neither is what it follows
 same_leaving : (e : Event) → is_unchanged (broken_by e) ≡ is_unchanged e
@@ -103,5 +103,5 @@ declared_first who o s none = refl
 -- ---- a step, from its parts
 
 pub step_made : (a a' b b' : Option NodeTree) (c c' : Bool) (d d' : Option LogWords) → a ≡ a' → b ≡ b' → c ≡ c' → d ≡ d'
-    → ◌≡◌ {A = Step} (record { before = a; behind = b; leaves = c; rec = d }) (record { before = a'; behind = b'; leaves = c'; rec = d' })
+    → ◌≡◌ {A = TreeChange} (record { before = a; after = b; leaves = c; rec = d }) (record { before = a'; after = b'; leaves = c'; rec = d' })
 step_made a a' b b' c c' d d' p q r s = rw (p, q, r, s) refl

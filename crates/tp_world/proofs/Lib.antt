@@ -1,13 +1,7 @@
-mod Numbers
-mod Oldest
-mod Waits
-mod Queues
 mod Stood
-mod Stepped
-mod SteppedNodes
 mod Ascending
 mod ToldAt
-mod PartTold
+mod SummaryTold
 mod Tellings
 mod SiteNames
 mod SiteLists

@@ -2,12 +2,10 @@
 use Rattle.std.proofs.Common.{◌≡◌, ◌≤◌, ◌<◌, ◌+◌, ◌++◌, suc, refl, ap, sym, ◌∙◌, arith, List, [], ◌∷◌, length, Err, append_assoc}
 use Rattle.std.proofs.lemmas.List.{append-nil, length-append}
 use Rattle.tp_names.specs.declared.identifiers.Addr.{Addr}
-use Rattle.tp_records.specs.declared.peer.PeerRecord.{PeerRecord}
 use Rattle.tp_model.specs.declared.out_line.OutLine.{OutLine}
 use Rattle.tp_model.specs.Parts.{Out}
 use Rattle.tp_model.specs.World.{Frame}
 use Rattle.tp_model.specs.Happenings.{out_lines, frames_of}
-use Rattle.tp_world.specs.Frames.{IsFull}
 use Rattle.tp_world.specs.Settled.{AreGiven, GivesOuts}
 use Rattle.tp_world.specs.declared.fault.WorldFault.{WorldFault}
 use Rattle.tp_world.specs.declared.ground.Ground.{Ground}
@@ -94,11 +92,3 @@ going_fault from o outs some rest before lines after old now new last WorldFault
 going_fault from o outs some rest before lines after old now new last (WorldFault.Limit what) e g h = (h.0, going_past from o outs some rest before lines old now e g h.1)
 going_fault from o outs some rest before lines after old now new last WorldFault.Unbuilt e g h = absurd h
 going_fault from o outs some rest before lines after old now new last WorldFault.NoMemory e g h = tt
-
--- ---- a frame
-
-pub sent_fault : (from to : Addr) (rec : PeerRecord) (before after : List OutLine) (old new : Ground) (f : WorldFault) → IsFull (length old.frames) f → GivesOuts from (Out.Send to rec ∷ []) before (Err f) after old new
-sent_fault from to rec before after old new WorldFault.Name h = absurd h
-sent_fault from to rec before after old new (WorldFault.Limit what) h = (h.0, omega (arith, h.1))
-sent_fault from to rec before after old new WorldFault.Unbuilt h = absurd h
-sent_fault from to rec before after old new WorldFault.NoMemory h = tt

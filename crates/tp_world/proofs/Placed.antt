@@ -22,7 +22,7 @@ use Rattle.tp_world.specs.declared.fault.WorldFault.{WorldFault}
 use Rattle.tp_world.specs.declared.site_slot.Answer.{Answer}
 use Rattle.tp_world.specs.declared.site_slot.Entry.{Entry}
 use Rattle.tp_world.specs.declared.site_slot.SiteSlot.{SiteSlot}
-use Rattle.tp_world.specs.Part.{step_of}
+use Rattle.tp_world.specs.Summary.{change_of}
 use Rattle.tp_world.specs.Sites.{IsSite, IsLogged, AreSites, find_site_slot, place_of_site, known_by, unknown_at}
 use Rattle.tp_world.specs.Slots.{standing, SlotPlays, SlotAnswers, HasHappened, IsOver}
 use Rattle.tp_world.specs.World.{SitesStand, IsEntry, PlaysAt, is_placed, after_entry, number_answered, entry_answered}
@@ -135,12 +135,12 @@ module _ (w : World) (n : Node) (e : Event) (xs : List SiteSlot) (stand : SitesS
       }
 
   same_step : (y : SiteSlot) (number : Option ℕ) (x : Entry) (h : HasHappened at.slot (number_of n) e number x y) (g : IsGained n.origin n.history e number h.move)
-      → x.step ≡ step_of (digest n.origin n.history) g.entry (digest n.origin (g.entry ∷ n.history))
+      → x.change ≡ change_of (digest n.origin n.history) g.entry (digest n.origin (g.entry ∷ n.history))
   same_step y number x h g =
       let self : (number_of n == number_of n) ≡ true = grind (arith, nat_tests) in
       let behind : known_at y.site (number_of n) ≡ digest n.origin (g.entry ∷ n.history) =
       h.played.known (number_of n) ∙ ap (λ (b : Bool). cond b h.move.next (known_at at.slot.site (number_of n))) self ∙ sym g.next in
-      h.step
+      h.change
       ∙ step_made (tree_in (known_at at.slot.site (number_of n))) (tree_in (digest n.origin n.history)) (tree_in (known_at y.site (number_of n))) (tree_in (digest n.origin (g.entry ∷ n.history))) (is_unchanged e) (is_unchanged g.entry.event)
       (option_map log_shown h.move.rec) (option_map log_shown g.entry.rec) (ap tree_in at.known) (ap tree_in behind) (sym g.leaves) (ap (option_map log_shown) (sym g.rec))
 

@@ -13,10 +13,10 @@ use Rattle.tp_model.specs.Lines.{within_limits, is_full}
 use Rattle.tp_world.specs.Settled.{forced_lines, entry_lines, SettlesSome}
 use Rattle.tp_world.specs.World.{Stands, SitesStand, AreNodes, IsEntry, after_entry, Gives}
 use Rattle.tp_world.specs.declared.fault.WorldFault.{WorldFault}
-use Rattle.tp_world.specs.declared.part.Step.{Step}
+use Rattle.tp_network.specs.declared.tree_summary.TreeChange.{TreeChange}
 use Rattle.tp_world.specs.declared.site_slot.Entry.{Entry}
 use Rattle.tp_world.specs.declared.ground.Ground.{Ground}
-use Rattle.tp_world.proofs.Entered.{step_by}
+use Rattle.tp_world.proofs.Entered.{change_by}
 use Rattle.tp_world.proofs.Deeds.{IsBehind, turn_world, stands_behind, logged_frames}
 use Rattle.tp_world.proofs.Limits.{not_full, within_all, within_frames, within_log, gives_ok, gives_limit}
 
@@ -69,19 +69,19 @@ none_gives w n dl before first after number (Err WorldFault.NoMemory) old mid ne
 
 -- ---- with one
 
-lines_same : (w : World) (n : Node) (e : EntryValue) (x : Entry) (dl before first : List OutLine) (number : Option ℕ) (mid : Ground) → first ≡ before ++ dl → x.outs ≡ e.outs → x.step ≡ step_by n e → mid.frames ≡ w.frames
-    → (first ++ (forced_lines (site_of n) x.step.rec ++ refused_lines number)) ++ out_lines (number_of n) (length mid.frames) x.outs
+lines_same : (w : World) (n : Node) (e : EntryValue) (x : Entry) (dl before first : List OutLine) (number : Option ℕ) (mid : Ground) → first ≡ before ++ dl → x.outs ≡ e.outs → x.change ≡ change_by n e → mid.frames ≡ w.frames
+    → (first ++ (forced_lines (site_of n) x.change.rec ++ refused_lines number)) ++ out_lines (number_of n) (length mid.frames) x.outs
     ≡ before ++ (dl ++ ((log_lines (site_of n) e.rec ++ refused_lines number) ++ out_lines (number_of n) (length w.frames) e.outs))
 lines_same w n e x dl before first number mid start outs step frames =
-    let head : forced_lines (site_of n) x.step.rec ++ refused_lines number ≡ log_lines (site_of n) e.rec ++ refused_lines number =
-    ap (λ (q : Step). forced_lines (site_of n) q.rec ++ refused_lines number) step ∙ ap (λ (l : List OutLine). l ++ refused_lines number) (forced_same (site_of n) e.rec)
+    let head : forced_lines (site_of n) x.change.rec ++ refused_lines number ≡ log_lines (site_of n) e.rec ++ refused_lines number =
+    ap (λ (q : TreeChange). forced_lines (site_of n) q.rec ++ refused_lines number) step ∙ ap (λ (l : List OutLine). l ++ refused_lines number) (forced_same (site_of n) e.rec)
     in
     let tail : out_lines (number_of n) (length mid.frames) x.outs ≡ out_lines (number_of n) (length w.frames) e.outs =
     ap (λ (fs : List Frame). out_lines (number_of n) (length fs) x.outs) frames ∙ ap (out_lines (number_of n) (length w.frames)) outs
     in
     let a : List OutLine = log_lines (site_of n) e.rec ++ refused_lines number in
     let b : List OutLine = out_lines (number_of n) (length w.frames) e.outs in
-    ap (λ (l : List OutLine). (l ++ (forced_lines (site_of n) x.step.rec ++ refused_lines number)) ++ out_lines (number_of n) (length mid.frames) x.outs) start
+    ap (λ (l : List OutLine). (l ++ (forced_lines (site_of n) x.change.rec ++ refused_lines number)) ++ out_lines (number_of n) (length mid.frames) x.outs) start
     ∙ ap (λ (l : List OutLine). ((before ++ dl) ++ l) ++ out_lines (number_of n) (length mid.frames) x.outs) head
     ∙ ap (λ (l : List OutLine). ((before ++ dl) ++ a) ++ l) tail
     ∙ append_assoc (before ++ dl) a b
@@ -91,17 +91,17 @@ abbrev entry_behind : World → Node → Option ℕ → EntryValue → List OutL
 entry_behind w n number e dl = after_lines dl (entry_turn w n number (Some e))
 
 some_gives : (w : World) (n : Node) (e : EntryValue) (x : Entry) (dl before first after : List OutLine) (number : Option ℕ) (r : Result (Unit {0}) WorldFault) (old mid new : Ground)
-    → IsAnswered w n (Some e) (Some x) old mid → first ≡ before ++ dl → SettlesSome (addr_of n) (Some x) (first ++ (forced_lines (site_of n) x.step.rec ++ refused_lines number)) r after mid new
+    → IsAnswered w n (Some e) (Some x) old mid → first ≡ before ++ dl → SettlesSome (addr_of n) (Some x) (first ++ (forced_lines (site_of n) x.change.rec ++ refused_lines number)) r after mid new
     → Gives (within_limits (entry_behind w n number e dl)) before r after new
 some_gives w n e x dl before first after number (Ok u) old mid new h start s =
     let t : Turn = entry_behind w n number e dl in
-    let head : List OutLine = first ++ (forced_lines (site_of n) x.step.rec ++ refused_lines number) in
+    let head : List OutLine = first ++ (forced_lines (site_of n) x.change.rec ++ refused_lines number) in
     let was : IsBehind w n e x head after old mid new = record {
       stands = h.stands;
       found = h.found;
       legal = h.legal e refl;
       outs = h.entry.0;
-      step = h.entry.1;
+      change = h.entry.1;
       sites = h.sites;
       nodes = h.nodes;
       frames = h.frames;

@@ -10,7 +10,7 @@ use Rattle.tp_model.specs.Happenings.{Turn}
 use Rattle.tp_model.specs.Lines.{Fault, Name, shows, state_line, show_line}
 use Rattle.tp_site.specs.State.{state_of}
 use Rattle.tp_node.specs.declared.state.NodeState.{NodeState}
-use Rattle.tp_world.specs.Nodes.{address_at}
+use Rattle.tp_network.specs.Nodes.{address_at}
 use Rattle.tp_world.specs.World.{SitesStand, Stands, Gives, is_placed}
 use Rattle.tp_world.specs.declared.fault.WorldFault.{WorldFault}
 use Rattle.tp_world.specs.declared.site_slot.SiteSlot.{SiteSlot}

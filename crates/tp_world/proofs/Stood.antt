@@ -2,9 +2,9 @@
 use Rattle.std.proofs.Common.{◌≡◌, ◌==◌, ℕ, Bool, true, false, refl, ap, arith, List, [], ◌∷◌}
 use Rattle.std.specs.Option.{option_map, is_some}
 use Rattle.tp_model.specs.World.{World, Node, addr_of, number_of, find_node, find_frame, is_node}
-use Rattle.tp_world.specs.Nodes.{address_at}
+use Rattle.tp_network.specs.Nodes.{address_at}
 use Rattle.tp_world.specs.World.{AreNodes, Stands}
-use Rattle.tp_world.specs.declared.nodes.NodeSlot.{NodeSlot}
+use Rattle.tp_network.specs.declared.nodes.NodeSlot.{NodeSlot}
 use Rattle.tp_world.specs.declared.ground.Ground.{Ground}
 
 pub address_same : (ns : List Node) (xs : List NodeSlot) (n : ℕ) → AreNodes ns xs → address_at xs n ≡ option_map addr_of (find_node ns n)

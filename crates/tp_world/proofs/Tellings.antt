@@ -7,19 +7,20 @@ use Rattle.tp_model.specs.declared.out_line.OutLine.{OutLine}
 use Rattle.tp_model.specs.Outcomes.{is_member, decision, decided, told}
 use Rattle.tp_model.specs.Trees.{members_of, stays, is_told, some_told, all_told, placed, deciders, agreed_line, closing_line, closing_from, closing}
 use Rattle.tp_model.specs.World.{World, Node, number_of}
-use Rattle.tp_world.specs.Part.{told_by_part, Tells}
-use Rattle.tp_world.specs.Tracks.{part_at}
+use Rattle.tp_network.specs.TreeSummary.{told_by_summary}
+use Rattle.tp_world.specs.Summary.{Tells}
+use Rattle.tp_network.specs.TreeSummaries.{summary_at}
 use Rattle.tp_world.specs.Told.{some_told_at, all_told_at, deciders_at, agreed_line_at, closing_line_at, closing_at}
 use Rattle.tp_world.specs.World.{IsNode, AreNodes, Stands}
-use Rattle.tp_world.specs.declared.part.Part.{Part}
-use Rattle.tp_world.specs.declared.nodes.NodeSlot.{NodeSlot}
+use Rattle.tp_network.specs.declared.tree_summary.TreeSummary.{TreeSummary}
+use Rattle.tp_network.specs.declared.nodes.NodeSlot.{NodeSlot}
 use Rattle.tp_world.specs.declared.ground.Ground.{Ground}
-use Rattle.tp_world.proofs.PartTold.{part_tells}
+use Rattle.tp_world.proofs.SummaryTold.{summary_tells}
 
-node_tells : (n : Node) (x : NodeSlot) (t : Aaid) → IsNode n x → Tells n.origin t n.history (part_at x.tracks t)
-node_tells n x t h = subst (λ (p : Part). Tells n.origin t n.history p) (sym (h.parts t)) (part_tells n.origin n.superior t n.history h.legal h.fresh)
+node_tells : (n : Node) (x : NodeSlot) (t : Aaid) → IsNode n x → Tells n.origin t n.history (summary_at x.summaries t)
+node_tells n x t h = subst (λ (p : TreeSummary). Tells n.origin t n.history p) (sym (h.summaries t)) (summary_tells n.origin n.superior t n.history h.legal h.fresh)
 
-told_same : (n : Node) (t : Aaid) (p : Part) → Tells n.origin t n.history p → told_by_part p ≡ told n.origin t n.history
+told_same : (n : Node) (t : Aaid) (p : TreeSummary) → Tells n.origin t n.history p → told_by_summary p ≡ told n.origin t n.history
 told_same n t p k =
     ap (λ (d : Option Outcome). elim d as (λ _. Option Outcome) [ Some u ↦ Some u | None ↦ if p.decided then Some Outcome.Commit else if p.rolled then Some Outcome.Rollback else None ]) k.decision
     ∙ ap (λ (b : Bool). elim (decision n.origin t n.history) as (λ _. Option Outcome) [ Some u ↦ Some u | None ↦ if b then Some Outcome.Commit else if p.rolled then Some Outcome.Rollback else None ]) k.decided
@@ -33,16 +34,16 @@ some_same o t [] (x ∷ xs) h = absurd h
 some_same o t (n ∷ ns) [] h = absurd h
 some_same o t (n ∷ ns) (x ∷ xs) h = go (is_member n.origin t n.history) refl (some_same o t ns xs h.1)
   where
-    p : Part
-    p = part_at x.tracks t
+    p : TreeSummary
+    p = summary_at x.summaries t
 
     k : Tells n.origin t n.history p
     k = node_tells n x t h.0
 
     head : (b : Bool) → is_member n.origin t n.history ≡ b → some_told_at o t xs ≡ some_told o t (members_of t ns) → some_told_at o t (x ∷ xs) ≡ ((b && stays t n && is_told o (told n.origin t n.history)) || some_told o t (members_of t ns))
     head b i rest =
-        ap (λ (c : Bool). (c && not p.left && is_told o (told_by_part p)) || some_told_at o t xs) (k.member ∙ i)
-        ∙ ap (λ (c : Bool). (b && not c && is_told o (told_by_part p)) || some_told_at o t xs) k.left
+        ap (λ (c : Bool). (c && not p.left && is_told o (told_by_summary p)) || some_told_at o t xs) (k.member ∙ i)
+        ∙ ap (λ (c : Bool). (b && not c && is_told o (told_by_summary p)) || some_told_at o t xs) k.left
         ∙ ap (λ (c : Option Outcome). (b && stays t n && is_told o c) || some_told_at o t xs) (told_same n t p k)
         ∙ ap (λ (c : Bool). (b && stays t n && is_told o (told n.origin t n.history)) || c) rest
 
@@ -56,16 +57,16 @@ all_same o t [] (x ∷ xs) h = absurd h
 all_same o t (n ∷ ns) [] h = absurd h
 all_same o t (n ∷ ns) (x ∷ xs) h = go (is_member n.origin t n.history) refl (all_same o t ns xs h.1)
   where
-    p : Part
-    p = part_at x.tracks t
+    p : TreeSummary
+    p = summary_at x.summaries t
 
     k : Tells n.origin t n.history p
     k = node_tells n x t h.0
 
     head : (b : Bool) → is_member n.origin t n.history ≡ b → all_told_at o t xs ≡ all_told o t (members_of t ns) → all_told_at o t (x ∷ xs) ≡ ((not (b && stays t n) || is_told o (told n.origin t n.history)) && all_told o t (members_of t ns))
     head b i rest =
-        ap (λ (c : Bool). (not (c && not p.left) || is_told o (told_by_part p)) && all_told_at o t xs) (k.member ∙ i)
-        ∙ ap (λ (c : Bool). (not (b && not c) || is_told o (told_by_part p)) && all_told_at o t xs) k.left
+        ap (λ (c : Bool). (not (c && not p.left) || is_told o (told_by_summary p)) && all_told_at o t xs) (k.member ∙ i)
+        ∙ ap (λ (c : Bool). (not (b && not c) || is_told o (told_by_summary p)) && all_told_at o t xs) k.left
         ∙ ap (λ (c : Option Outcome). (not (b && stays t n) || is_told o c) && all_told_at o t xs) (told_same n t p k)
         ∙ ap (λ (c : Bool). (not (b && stays t n) || is_told o (told n.origin t n.history)) && c) rest
 
@@ -79,8 +80,8 @@ deciders_same t [] (x ∷ xs) h = absurd h
 deciders_same t (n ∷ ns) [] h = absurd h
 deciders_same t (n ∷ ns) (x ∷ xs) h = go (is_member n.origin t n.history) (decision n.origin t n.history) refl refl (deciders_same t ns xs h.1)
   where
-    p : Part
-    p = part_at x.tracks t
+    p : TreeSummary
+    p = summary_at x.summaries t
 
     k : Tells n.origin t n.history p
     k = node_tells n x t h.0

@@ -7,38 +7,38 @@ use Rattle.tp_names.specs.declared.outcome.Outcome.{Outcome}
 use Rattle.tp_names.proofs.Sames.{both}
 use Rattle.tp_model.specs.declared.out_line.OutLine.{OutLine}
 use Rattle.tp_model.specs.Trees.{is_told, placed}
-use Rattle.tp_world.specs.Part.{told_by_part}
-use Rattle.tp_world.specs.Tracks.{part_at}
+use Rattle.tp_network.specs.TreeSummary.{told_by_summary}
+use Rattle.tp_network.specs.TreeSummaries.{summary_at}
 use Rattle.tp_world.specs.Told.{stays_in, some_told_at, all_told_at, decides_in, deciders_at, differing_line_at, closing_line_at, closing_at}
-use Rattle.tp_world.specs.declared.nodes.NodeSlot.{NodeSlot}
+use Rattle.tp_network.specs.declared.nodes.NodeSlot.{NodeSlot}
 
-pub some_here : (o : Outcome) (t : Aaid) (xs : List NodeSlot) (i : ℕ) (d : NodeSlot) → i < length xs → stays_in (part_at (slice_index_or xs i d).tracks t) ≡ true → is_told o (told_by_part (part_at (slice_index_or xs i d).tracks t)) ≡ true
+pub some_here : (o : Outcome) (t : Aaid) (xs : List NodeSlot) (i : ℕ) (d : NodeSlot) → i < length xs → stays_in (summary_at (slice_index_or xs i d).summaries t) ≡ true → is_told o (told_by_summary (summary_at (slice_index_or xs i d).summaries t)) ≡ true
     → some_told_at o t (drop i xs) ≡ true
 some_here o t xs i d h e f = rw (drop_more xs i d h) (rw (e, f) refl)
 
-pub some_next : (o : Outcome) (t : Aaid) (xs : List NodeSlot) (i : ℕ) (d : NodeSlot) → i < length xs → (stays_in (part_at (slice_index_or xs i d).tracks t) && is_told o (told_by_part (part_at (slice_index_or xs i d).tracks t))) ≡ false
+pub some_next : (o : Outcome) (t : Aaid) (xs : List NodeSlot) (i : ℕ) (d : NodeSlot) → i < length xs → (stays_in (summary_at (slice_index_or xs i d).summaries t) && is_told o (told_by_summary (summary_at (slice_index_or xs i d).summaries t))) ≡ false
     → some_told_at o t (drop i xs) ≡ some_told_at o t (drop (i + 1) xs)
 some_next o t xs i d h e = rw (drop_more xs i d h) (rw e refl)
 
-pub all_here : (o : Outcome) (t : Aaid) (xs : List NodeSlot) (i : ℕ) (d : NodeSlot) → i < length xs → stays_in (part_at (slice_index_or xs i d).tracks t) ≡ true → is_told o (told_by_part (part_at (slice_index_or xs i d).tracks t)) ≡ false
+pub all_here : (o : Outcome) (t : Aaid) (xs : List NodeSlot) (i : ℕ) (d : NodeSlot) → i < length xs → stays_in (summary_at (slice_index_or xs i d).summaries t) ≡ true → is_told o (told_by_summary (summary_at (slice_index_or xs i d).summaries t)) ≡ false
     → all_told_at o t (drop i xs) ≡ false
 all_here o t xs i d h e f = rw (drop_more xs i d h) (rw (e, f) refl)
 
-pub all_next : (o : Outcome) (t : Aaid) (xs : List NodeSlot) (i : ℕ) (d : NodeSlot) → i < length xs → (stays_in (part_at (slice_index_or xs i d).tracks t) && not (is_told o (told_by_part (part_at (slice_index_or xs i d).tracks t)))) ≡ false
+pub all_next : (o : Outcome) (t : Aaid) (xs : List NodeSlot) (i : ℕ) (d : NodeSlot) → i < length xs → (stays_in (summary_at (slice_index_or xs i d).summaries t) && not (is_told o (told_by_summary (summary_at (slice_index_or xs i d).summaries t)))) ≡ false
     → all_told_at o t (drop i xs) ≡ all_told_at o t (drop (i + 1) xs)
-all_next o t xs i d h e = rw (drop_more xs i d h) (go (stays_in (part_at (slice_index_or xs i d).tracks t)) (is_told o (told_by_part (part_at (slice_index_or xs i d).tracks t))) refl refl e)
+all_next o t xs i d h e = rw (drop_more xs i d h) (go (stays_in (summary_at (slice_index_or xs i d).summaries t)) (is_told o (told_by_summary (summary_at (slice_index_or xs i d).summaries t))) refl refl e)
   where
-    go : (a b : Bool) → stays_in (part_at (slice_index_or xs i d).tracks t) ≡ a → is_told o (told_by_part (part_at (slice_index_or xs i d).tracks t)) ≡ b → (a && not b) ≡ false
+    go : (a b : Bool) → stays_in (summary_at (slice_index_or xs i d).summaries t) ≡ a → is_told o (told_by_summary (summary_at (slice_index_or xs i d).summaries t)) ≡ b → (a && not b) ≡ false
         → all_told_at o t (slice_index_or xs i d ∷ drop (i + 1) xs) ≡ all_told_at o t (drop (i + 1) xs)
     go true true j k l = rw (j, k) refl
     go true false j k l = absurd (cc (l))
     go false b j k l = rw j refl
 
-pub decider_here : (t : Aaid) (xs : List NodeSlot) (i : ℕ) (d : NodeSlot) → i < length xs → decides_in (part_at (slice_index_or xs i d).tracks t) ≡ true
+pub decider_here : (t : Aaid) (xs : List NodeSlot) (i : ℕ) (d : NodeSlot) → i < length xs → decides_in (summary_at (slice_index_or xs i d).summaries t) ≡ true
     → deciders_at t (drop i xs) ≡ placed (slice_index_or xs i d).addr.node (deciders_at t (drop (i + 1) xs))
 decider_here t xs i d h e = rw (drop_more xs i d h) (rw (e, deciders_at) refl)
 
-pub decider_next : (t : Aaid) (xs : List NodeSlot) (i : ℕ) (d : NodeSlot) → i < length xs → decides_in (part_at (slice_index_or xs i d).tracks t) ≡ false → deciders_at t (drop i xs) ≡ deciders_at t (drop (i + 1) xs)
+pub decider_next : (t : Aaid) (xs : List NodeSlot) (i : ℕ) (d : NodeSlot) → i < length xs → decides_in (summary_at (slice_index_or xs i d).summaries t) ≡ false → deciders_at t (drop i xs) ≡ deciders_at t (drop (i + 1) xs)
 decider_next t xs i d h e = rw (drop_more xs i d h) (rw (e, deciders_at) refl)
 
 one_back : (i : ℕ) → 0 < i → i ≡ i - 1 + 1
@@ -54,14 +54,14 @@ same_there (x ∷ xs) zero d e h = refl
 same_there (x ∷ xs) (suc i) d e h = same_there xs i d e (omega (arith, h))
 
 -- from one node back to the one before
-pub decider_back : (t : Aaid) (xs : List NodeSlot) (ns : List ℕ) (i : ℕ) (d e : NodeSlot) → 0 < i → i ≤ length xs → decides_in (part_at (slice_index_or xs (i - 1) d).tracks t) ≡ true → ns ≡ deciders_at t (drop i xs)
+pub decider_back : (t : Aaid) (xs : List NodeSlot) (ns : List ℕ) (i : ℕ) (d e : NodeSlot) → 0 < i → i ≤ length xs → decides_in (summary_at (slice_index_or xs (i - 1) d).summaries t) ≡ true → ns ≡ deciders_at t (drop i xs)
     → placed (slice_index_or xs (i - 1) e).addr.node ns ≡ deciders_at t (drop (i - 1) xs)
 decider_back t xs ns i d e low most on is =
     ap (λ (x : NodeSlot). placed x.addr.node ns) (same_there xs (i - 1) e d (below_back i (length xs) low most))
     ∙ ap (placed (slice_index_or xs (i - 1) d).addr.node) (is ∙ ap (λ (k : ℕ). deciders_at t (drop k xs)) (one_back i low))
     ∙ sym (decider_here t xs (i - 1) d (below_back i (length xs) low most) on)
 
-pub decider_over : (t : Aaid) (xs : List NodeSlot) (ns : List ℕ) (i : ℕ) (d : NodeSlot) → 0 < i → i ≤ length xs → decides_in (part_at (slice_index_or xs (i - 1) d).tracks t) ≡ false → ns ≡ deciders_at t (drop i xs)
+pub decider_over : (t : Aaid) (xs : List NodeSlot) (ns : List ℕ) (i : ℕ) (d : NodeSlot) → 0 < i → i ≤ length xs → decides_in (summary_at (slice_index_or xs (i - 1) d).summaries t) ≡ false → ns ≡ deciders_at t (drop i xs)
     → ns ≡ deciders_at t (drop (i - 1) xs)
 decider_over t xs ns i d low most off is =
     is ∙ ap (λ (k : ℕ). deciders_at t (drop k xs)) (one_back i low) ∙ sym (decider_next t xs (i - 1) d (below_back i (length xs) low most) off)
@@ -80,8 +80,8 @@ apart_at o u apart true x h = apart x h
 none_told : (o u : Outcome) → ((x : Option Outcome) → is_told o x ≡ true → is_told u x ≡ false) → (t : Aaid) (xs : List NodeSlot) → all_told_at o t xs ≡ true → some_told_at u t xs ≡ false
 none_told o u apart t [] h = refl
 none_told o u apart t (x ∷ xs) h =
-    let p = both (not (stays_in (part_at x.tracks t)) || is_told o (told_by_part (part_at x.tracks t))) (all_told_at o t xs) h in
-    let here = apart_at o u apart (stays_in (part_at x.tracks t)) (told_by_part (part_at x.tracks t)) p.0 in
+    let p = both (not (stays_in (summary_at x.summaries t)) || is_told o (told_by_summary (summary_at x.summaries t))) (all_told_at o t xs) h in
+    let here = apart_at o u apart (stays_in (summary_at x.summaries t)) (told_by_summary (summary_at x.summaries t)) p.0 in
     let rest = none_told o u apart t xs p.1 in
     ap (λ (b : Bool). b || some_told_at u t xs) here ∙ rest
 

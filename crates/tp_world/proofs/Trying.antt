@@ -12,7 +12,7 @@ use Rattle.tp_model.specs.Parts.{Event}
 use Rattle.tp_model.specs.World.{World, Node, Frame, number_of, addr_of, find_node, find_frame}
 use Rattle.tp_model.specs.Happenings as model
 use Rattle.tp_model.specs.Happenings.{Deed, Ask, Deliver, Task, task_at, task_of, deed_lines}
-use Rattle.tp_world.specs.Nodes.{address_at}
+use Rattle.tp_network.specs.Nodes.{address_at}
 use Rattle.tp_world.specs.Requests.{request_in}
 use Rattle.tp_world.specs.World.{Stands, SitesStand, PlaysAt, Tries, ShowsFirst, are_apart, is_placed, after_entry, entry_answered}
 use Rattle.tp_world.specs.declared.fault.WorldFault.{WorldFault}

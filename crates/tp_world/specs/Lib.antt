@@ -1,9 +1,6 @@
-pub mod Part
-pub mod Tracks
+pub mod Faults
+pub mod Summary
 pub mod Told
-pub mod Waiting
-pub mod Frames
-pub mod Nodes
 pub mod Errands
 pub mod Requests
 pub mod Sites

@@ -2,8 +2,8 @@
 use Rattle.std.specs.Prelude.{Option, Some, None, List}
 use Rattle.tp_records.specs.declared.request.Request.{Request}
 use Rattle.tp_model.specs.declared.line.LineRequest.{LineRequest}
-use Rattle.tp_world.specs.Nodes.{address_at}
-use Rattle.tp_world.specs.declared.nodes.NodeSlot.{NodeSlot}
+use Rattle.tp_network.specs.Nodes.{address_at}
+use Rattle.tp_network.specs.declared.nodes.NodeSlot.{NodeSlot}
 
 -- one that wants no address; of another it says nothing
 abbrev pub plain_request : LineRequest → Request

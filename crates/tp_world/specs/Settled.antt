@@ -8,17 +8,17 @@ use Rattle.tp_model.specs.declared.out_line.OutLine.{OutLine}
 use Rattle.tp_model.specs.declared.verdict.What.{What}
 use Rattle.tp_model.specs.Parts.{Out}
 use Rattle.tp_model.specs.Happenings.{out_lines, frames_of, refused_lines, trees_of}
-use Rattle.tp_world.specs.Part.{is_in}
-use Rattle.tp_world.specs.Nodes.{AreStepped}
+use Rattle.tp_network.specs.TreeSummary.{is_in}
+use Rattle.tp_network.specs.Nodes.{AreChanged}
 use Rattle.tp_world.specs.declared.fault.WorldFault.{WorldFault}
-use Rattle.tp_world.specs.declared.part.Step.{Step}
+use Rattle.tp_network.specs.declared.tree_summary.TreeChange.{TreeChange}
 use Rattle.tp_world.specs.declared.site_slot.Entry.{Entry}
 use Rattle.tp_world.specs.declared.site_slot.Answer.{Answer}
 use Rattle.tp_world.specs.declared.ground.Ground.{Ground}
 
 -- the tree that a step starts
-abbrev pub tree_started : Step → Option Aaid
-tree_started s = elim s.behind [
+abbrev pub tree_started : TreeChange → Option Aaid
+tree_started s = elim s.after [
   | None ↦ None
   | Some b ↦ elim (b.is_root && not (is_in b.aaid s.before)) [ true ↦ Some b.aaid | false ↦ None ]
 ]
@@ -31,7 +31,7 @@ forced_lines site (Some r) = OutLine.Log site r ∷ []
 
 abbrev pub entry_lines : List ℕ → Option Entry → List OutLine
 entry_lines site None = []
-entry_lines site (Some x) = forced_lines site x.step.rec
+entry_lines site (Some x) = forced_lines site x.change.rec
 
 -- ---- outputs
 
@@ -55,16 +55,16 @@ GivesOuts from outs before (Err WorldFault.NoMemory) after old new = Unit {0}
 -- ---- an entry
 
 -- the node's parts take the step, and the tree that starts is known
-pub record IsEntered (number : ℕ) (s : Step) (old new : Ground) : Type 0 where
-  pub nodes : AreStepped number s old.nodes new.nodes
+pub record IsEntered (number : ℕ) (s : TreeChange) (old new : Ground) : Type 0 where
+  pub nodes : AreChanged number s old.nodes new.nodes
   pub trees : new.trees.items ≡ old.trees.items ++ trees_of (tree_started s)
   pub sites : new.sites ≡ old.sites
   pub frames : new.frames ≡ old.frames
 
 -- and its outputs are given
 pub record IsSettledEntry (at : Addr) (x : Entry) (before after : List OutLine) (old new : Ground) : Type 0 where
-  pub nodes : AreStepped at.node x.step old.nodes new.nodes
-  pub trees : new.trees.items ≡ old.trees.items ++ trees_of (tree_started x.step)
+  pub nodes : AreChanged at.node x.change old.nodes new.nodes
+  pub trees : new.trees.items ≡ old.trees.items ++ trees_of (tree_started x.change)
   pub sites : new.sites ≡ old.sites
   pub frames : new.frames ≡ old.frames ++ frames_of at x.outs
   pub few : length old.frames ≤ 65535 → length new.frames ≤ 65535

@@ -59,9 +59,9 @@ pub record IsFresh (name : List ℕ) (x : SiteSlot) : Type 0 where
 pub record HasHappened (old : SiteSlot) (n : ℕ) (e : Event) (number : Option ℕ) (x : Entry) (new : SiteSlot) : Type 0 where
   pub move : Move
   pub played : IsPlayed standing old.site n e (record { number = number; outs = x.outs }) new.site move
-  pub step : x.step ≡ record {
+  pub change : x.change ≡ record {
     before = tree_in (known_at old.site n);
-    behind = tree_in (known_at new.site n);
+    after = tree_in (known_at new.site n);
     leaves = is_unchanged e;
     rec = option_map log_shown move.rec;
   }

@@ -16,12 +16,12 @@ use Rattle.tp_model.specs.declared.line.StopLine.{StopLine}
 use Rattle.tp_model.specs.Lines.{Fault, Name, Over, is_full, deed_of, marked_by, line}
 use Rattle.tp_model.specs.declared.line.Line.{Line}
 use Rattle.tp_model.specs.Transcript.{echo}
-use Rattle.tp_world.specs.Part.{part, step_of}
-use Rattle.tp_world.specs.Tracks.{part_at}
+use Rattle.tp_world.specs.Summary.{summary, change_of}
+use Rattle.tp_network.specs.TreeSummaries.{summary_at}
 use Rattle.tp_world.specs.Built.{is_built}
 use Rattle.tp_world.specs.Sites.{AreSites, KnowNodes}
 use Rattle.tp_world.specs.declared.fault.WorldFault.{WorldFault}
-use Rattle.tp_world.specs.declared.nodes.NodeSlot.{NodeSlot}
+use Rattle.tp_network.specs.declared.nodes.NodeSlot.{NodeSlot}
 use Rattle.tp_world.specs.declared.site_slot.SiteSlot.{SiteSlot}
 use Rattle.tp_world.specs.declared.site_slot.Entry.{Entry}
 use Rattle.tp_world.specs.declared.site_slot.Answer.{Answer}
@@ -37,7 +37,7 @@ pub record IsNode (n : Node) (x : NodeSlot) : Type 0 where
   pub version : n.origin.start.version ≡ LogVersion.Two
   pub fresh : n.origin.start.records ≡ []
   pub legal : IsLegal n.origin n.superior n.history
-  pub parts : (t : Aaid) → part_at x.tracks t ≡ part n.origin t n.history
+  pub summaries : (t : Aaid) → summary_at x.summaries t ≡ summary n.origin t n.history
 
 abbrev pub AreNodes : List Node → List NodeSlot → Type 0
 AreNodes [] [] = Unit {0}
@@ -110,7 +110,7 @@ IsEntry n None None = Unit {0}
 IsEntry n None (Some x) = ⊥
 IsEntry n (Some e) None = ⊥
 IsEntry n (Some e) (Some x) =
-    (x.outs ≡ e.outs) × (x.step ≡ step_of (digest n.origin n.history) e (digest n.origin (e ∷ n.history)))
+    (x.outs ≡ e.outs) × (x.change ≡ change_of (digest n.origin n.history) e (digest n.origin (e ∷ n.history)))
 
 -- the world whose site has played it
 abbrev pub after_entry : World → Node → Option EntryValue → World

@@ -6,12 +6,11 @@ ghost use Rattle.tp_world.specs.Told.{stays_in, some_told_at, all_told_at, decid
 ghost use Rattle.tp_world.specs.World.{Stands};
 
 use crate::ground::Ground;
-use crate::nodes::NodeSlot;
-use crate::part::Part;
 use crate::shown::placed;
 use std::alloc::Global;
 use tp_model::{NodeNumbers, OutLine, OutLines};
 use tp_names::{Aaid, NoMemory, Outcome};
+use tp_network::{NodeSlot, TreeSummary};
 
 fn is_told(outcome: Outcome, told: Option<Outcome>) -> bool
     ensures { result ≡ is_told outcome told }
@@ -24,17 +23,17 @@ fn is_told(outcome: Outcome, told: Option<Outcome>) -> bool
 }
 
 // A node of the tree that stays.
-fn stays(part: &Part) -> bool
-    ensures { result ≡ stays_in part.now }
+fn stays(summary: &TreeSummary) -> bool
+    ensures { result ≡ stays_in summary.now }
 {
-    part.member && !part.left
+    summary.member && !summary.left
 }
 
 // A node of the tree that logged a decision.
-fn decides(part: &Part) -> bool
-    ensures { result ≡ decides_in part.now }
+fn decides(summary: &TreeSummary) -> bool
+    ensures { result ≡ decides_in summary.now }
 {
-    part.member && part.decision.is_some()
+    summary.member && summary.decision.is_some()
 }
 
 // A staying node of the tree is told that; every staying node is.
@@ -43,8 +42,8 @@ fn some_told(outcome: Outcome, tree: &Aaid, nodes: &[NodeSlot]) -> bool
     ensures { result ≡ some_told_at outcome tree.now nodes.now }
 {
     for i in 0..nodes.len() {
-        let part = nodes[i].tracks.part(tree);
-        if stays(&part) && is_told(outcome, part.told()) {
+        let summary = nodes[i].summaries.summary(tree);
+        if stays(&summary) && is_told(outcome, summary.told()) {
             return true;
         }
     }
@@ -56,8 +55,8 @@ fn all_told(outcome: Outcome, tree: &Aaid, nodes: &[NodeSlot]) -> bool
     ensures { result ≡ all_told_at outcome tree.now nodes.now }
 {
     for i in 0..nodes.len() {
-        let part = nodes[i].tracks.part(tree);
-        if stays(&part) && !is_told(outcome, part.told()) {
+        let summary = nodes[i].summaries.summary(tree);
+        if stays(&summary) && !is_told(outcome, summary.told()) {
             return false;
         }
     }
@@ -72,8 +71,8 @@ fn deciders(alloc: Global, tree: &Aaid, nodes: &[NodeSlot]) -> Result<NodeNumber
     let mut i = nodes.len();
     while i > 0 {
         i -= 1;
-        let part = nodes[i].tracks.part(tree);
-        if decides(&part) {
+        let summary = nodes[i].summaries.summary(tree);
+        if decides(&summary) {
             numbers = placed(alloc, nodes[i].addr.node, &numbers)?;
         }
     }

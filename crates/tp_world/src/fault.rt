@@ -1,10 +1,12 @@
 //! Why a line ends the run.
 ghost use Rattle.std.specs.Prelude.{◌≡◌};
+ghost use Rattle.tp_world.specs.Faults.{sending_fault};
 ghost use Rattle.tp_world.specs.declared.fault.WorldFault.{WorldFault};
 
 use thiserror::Error;
 use tp_model::What;
 use tp_names::NoMemory;
+use tp_network::SendFault;
 
 /// Why a line ends the run.
 #[derive(Clone, Copy, Debug, PartialEq, Eq, Error)]
@@ -28,5 +30,16 @@ impl From<NoMemory> for WorldFault {
 
     fn from(_error: NoMemory) -> WorldFault {
         WorldFault::NoMemory
+    }
+}
+
+impl From<SendFault> for WorldFault {
+    ghost from_gives = { λ fault e. e ≡ sending_fault fault };
+
+    fn from(fault: SendFault) -> WorldFault {
+        match fault {
+            SendFault::Full => WorldFault::Limit { what: What::Frames },
+            SendFault::NoMemory => WorldFault::NoMemory,
+        }
     }
 }

@@ -11,10 +11,7 @@ ghost use Rattle.tp_world.specs.Settled.{tree_started, entry_lines, GivesOuts, I
 ghost use Rattle.tp_world.specs.World.{Stands, Tries, ShowsFirst, Gives};
 
 use crate::fault::WorldFault;
-use crate::frames::Frames;
 use crate::named::Errand;
-use crate::nodes::Nodes;
-use crate::part::{Step, is_in};
 use crate::requests::request_in;
 use crate::shown::{refused_shown, sent_shown};
 use crate::site_slot::{Answer, Entry, SiteSlot};
@@ -22,6 +19,7 @@ use crate::sites::{play_at, site_place};
 use std::alloc::Global;
 use tp_model::{LineRequest, OutLine, OutLines};
 use tp_names::{Aaid, Addr, NoMemory, SiteName};
+use tp_network::{Frames, Nodes, TreeChange, is_in};
 use tp_records::{PeerRecord, Request};
 use tp_site::{NodeEvent, Out, Outs};
 
@@ -36,11 +34,11 @@ pub(crate) struct Ground {
 }
 
 // The tree that an entry starts.
-fn started(step: &Step) -> Option<Aaid>
-    ensures { result ≡ tree_started step.now }
+fn started(change: &TreeChange) -> Option<Aaid>
+    ensures { result ≡ tree_started change.now }
 {
-    match step.behind {
-        Some(behind) if behind.is_root && !is_in(&behind.aaid, &step.before) => Some(behind.aaid),
+    match change.after {
+        Some(after) if after.is_root && !is_in(&after.aaid, &change.before) => Some(after.aaid),
         _ => None,
     }
 }
@@ -167,12 +165,12 @@ impl Ground {
         }
     }
 
-    // The entry stands in the node's parts, and a tree that it starts is known.
-    fn enter(&mut self, node: u16, step: &Step) -> Result<(), NoMemory>
-        ensures { OnOk result (IsEntered node step.now self.old self.new) }
+    // The entry stands in the node's summaries, and a tree that it starts is known.
+    fn enter(&mut self, node: u16, change: &TreeChange) -> Result<(), NoMemory>
+        ensures { OnOk result (IsEntered node change.now self.old self.new) }
     {
-        self.nodes.step(node, step)?;
-        if let Some(tree) = started(step) {
+        self.nodes.change(node, change)?;
+        if let Some(tree) = started(change) {
             self.trees.push(tree)?;
         }
         Ok(())
@@ -248,8 +246,8 @@ impl Ground {
     ) -> Result<(), WorldFault>
         ensures { SettlesEntry at.now entry lines.old result lines.new self.old self.new }
     {
-        let Entry { outs, step } = entry;
-        self.enter(at.node, &step)?;
+        let Entry { outs, change } = entry;
+        self.enter(at.node, &change)?;
         self.give_all(alloc, at, outs, lines)
     }
 
@@ -300,7 +298,7 @@ fn show_record(
     let Some(entry) = entry else {
         return Ok(());
     };
-    match entry.step.rec {
+    match entry.change.rec {
         None => Ok(()),
         Some(rec) => {
             let site = at.site;

@@ -6,19 +6,13 @@
 
 mod closing;
 mod fault;
-mod frames;
 mod ground;
 mod named;
-mod nodes;
-mod part;
 mod play;
-mod queue;
 mod requests;
 mod shown;
 mod site_slot;
 mod sites;
-mod tracks;
-mod waiting;
 mod world;
 
 pub use fault::WorldFault;

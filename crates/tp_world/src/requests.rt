@@ -3,10 +3,10 @@ ghost use Rattle.std.specs.Prelude.{◌≡◌, IfOk};
 ghost use Rattle.tp_model.specs.Lines.{peer_of};
 ghost use Rattle.tp_world.specs.Requests.{plain_request, request_in};
 
-use crate::nodes::Nodes;
 use std::alloc::Global;
 use tp_model::LineRequest;
 use tp_names::{NoMemory, Octets};
+use tp_network::Nodes;
 use tp_records::Request;
 
 /// The peer that a request names.

@@ -11,13 +11,13 @@ ghost use Rattle.tp_site.specs.State.{state_of, tree_in};
 ghost use Rattle.tp_world.specs.Slots.{blank_file, IsBlank, IsFresh, shown_behind, Declares, SlotPlays};
 
 use crate::fault::WorldFault;
-use crate::part::Step;
 use crate::shown::log_shown;
 use std::alloc::Global;
 use tp_journal::{Journal, format};
 use tp_logrec::LogRec;
 use tp_model::{LogWords, What};
 use tp_names::{Addr, NoMemory, Octets, SiteName};
+use tp_network::TreeChange;
 use tp_outside::MemDisk;
 use tp_records::{PeerRecord, Request};
 use tp_site::{NodeEvent, NodeState, NodeTree, Outs, Site, SiteFault};
@@ -26,7 +26,7 @@ use tp_site::{NodeEvent, NodeState, NodeTree, Outs, Site, SiteFault};
 #[derive(Drop)]
 pub(crate) struct Entry {
     pub(crate) outs: Outs,
-    pub(crate) step: Step,
+    pub(crate) change: TreeChange,
 }
 
 /// What a node answers to an event: the number of a refusal, and the entry that its history gains.
@@ -155,9 +155,9 @@ impl SiteSlot {
                 number: played.number,
                 entry: Some(Entry {
                     outs: played.outs,
-                    step: Step {
+                    change: TreeChange {
                         before,
-                        behind: self.tree(node),
+                        after: self.tree(node),
                         leaves: is_unchanged(event),
                         rec: forced(self.records(), count),
                     },

@@ -12,11 +12,11 @@ loop-i-preserved-then-decides c = (
   omega (arith, c.loop-i.invariant.0),
   c.in_ok-numbers.ensures
       ∙ decider_back c.args.tree.now c.args.nodes.now c.loop-i.numbers c.loop-i.i c.index-nodes-i.result c.index-nodes-i-then-decides.result (omega arith) c.loop-i.invariant.0
-      (sym (c.if-decides.ensures ∙ ap decides_in c.part-part.ensures)) c.loop-i.invariant.1,
+      (sym (c.if-decides.ensures ∙ ap decides_in c.summary-summary.ensures)) c.loop-i.invariant.1,
 )
 
 pub loop-i-preserved : goal.loop-i-preserved
 loop-i-preserved c = (
   omega (arith, c.loop-i.invariant.0),
-  decider_over c.args.tree.now c.args.nodes.now c.loop-i.numbers c.loop-i.i c.index-nodes-i.result (omega arith) c.loop-i.invariant.0 (sym (c.if-decides.ensures ∙ ap decides_in c.part-part.ensures)) c.loop-i.invariant.1,
+  decider_over c.args.tree.now c.args.nodes.now c.loop-i.numbers c.loop-i.i c.index-nodes-i.result (omega arith) c.loop-i.invariant.0 (sym (c.if-decides.ensures ∙ ap decides_in c.summary-summary.ensures)) c.loop-i.invariant.1,
 )

@@ -2,7 +2,7 @@ use Rattle.std.proofs.Common.{◌∙◌, sym, ap, subst, refl, Some, None, Ok, E
 use Rattle.std.specs.Option.{option_map, option_copied}
 use Rattle.tp_model.specs.Happenings.{Deliver, task_at, task_of}
 use Rattle.tp_model.specs.Parts.{Event, Arrive}
-use Rattle.tp_world.specs.Frames.{frame_of}
+use Rattle.tp_network.specs.Frames.{frame_of}
 use Rattle.tp_world.specs.World.{Tries}
 use Rattle.tp_world.proofs.Trying.{is_played, tries_answer, tries_fault, tries_missing, not_some, err_is, lent_back, lent_items, task_delivered, tries_at}
 use Rattle.tp_world.proofs.ground.Ground.deliver.Goals as goal

@@ -1,7 +1,7 @@
 use Rattle.std.proofs.Common.{◌∙◌, ap, sym, subst, refl, None, Some}
 use Rattle.tp_model.specs.Happenings.{Mark, Deliver, happens}
 use Rattle.tp_world.specs.Drains.{Hands}
-use Rattle.tp_world.specs.Frames.{handed_over}
+use Rattle.tp_network.specs.Frames.{handed_over}
 use Rattle.tp_world.specs.declared.ground.Ground.{Ground}
 use Rattle.tp_world.proofs.Drained.{oldest_stood, stands_marked, stands_unmarked}
 use Rattle.tp_world.proofs.Trying.{err_is, not_some}

@@ -1,7 +1,7 @@
 use Rattle.std.proofs.Common.{◌≡◌, ◌∙◌, sym, subst, ap, refl, rules, Option, None, Some}
 use Rattle.std.specs.Option.{option_and_then}
 use Rattle.tp_world.specs.Errands.{deed_in, stop_of}
-use Rattle.tp_world.specs.Frames.{handed_over}
+use Rattle.tp_network.specs.Frames.{handed_over}
 use Rattle.tp_world.specs.World.{Resolves}
 use Rattle.tp_world.specs.declared.named.Errand.{Errand}
 use Rattle.tp_world.specs.declared.ground.Ground.{Ground}

@@ -1,6 +1,6 @@
 use Rattle.std.proofs.Common.{◌≡◌, ◌&&◌, ◌∙◌, true, ap, sym, refl, arith, None, Some}
 use Rattle.tp_model.specs.World.{is_node}
-use Rattle.tp_world.specs.Frames.{handed_over}
+use Rattle.tp_network.specs.Frames.{handed_over}
 use Rattle.tp_world.specs.declared.ground.Ground.{Ground}
 use Rattle.tp_world.proofs.Drained.{between_stood, stands_marked, stands_unmarked}
 use Rattle.tp_world.proofs.Resolved.{gives_no_skip, gives_skip}

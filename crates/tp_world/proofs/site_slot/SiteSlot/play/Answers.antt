@@ -22,6 +22,6 @@ returns-in-Ok c =
     record {
       move = move;
       played = c.in-Ok.ensures.1;
-      step = step_made c.tree-before.result (tree_in (known_at old c.args.node)) c.tree.result (tree_in (known_at new c.args.node)) c.is_unchanged.result (is_unchanged (event_of c.args.event.now)) c.forced.result (option_map log_shown move.rec)
+      change = step_made c.tree-before.result (tree_in (known_at old c.args.node)) c.tree.result (tree_in (known_at new c.args.node)) c.is_unchanged.result (is_unchanged (event_of c.args.event.now)) c.forced.result (option_map log_shown move.rec)
           c.tree-before.ensures c.tree.ensures c.is_unchanged.ensures rec;
     }

@@ -1,0 +1,6 @@
+mod Numbers
+mod Oldest
+mod Waits
+mod Queues
+mod Changes
+mod ChangedNodes

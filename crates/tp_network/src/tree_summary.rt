@@ -1,0 +1,162 @@
+//! What a node did in a tree, and how an entry of its history changes that.
+ghost use Rattle.std.specs.Prelude.{◌≡◌};
+ghost use Rattle.tp_network.specs.TreeSummary.{is_in, phase_in, is_commit_of, decision_in, tree_at, tree_logged, goes_on, has_rolled, is_that, no_summary, summary_after, told_by_summary};
+
+use tp_model::{LogWords, Phase};
+use tp_names::same::is_aaid;
+use tp_names::{Aaid, Outcome};
+use tp_node::NodeTree;
+
+/// What one node did in one tree, as the closing lines ask it.
+#[derive(Clone, Copy)]
+pub struct TreeSummary {
+    /// The tree was its current one at some time.
+    pub member: bool,
+    /// It left.
+    pub left: bool,
+    /// Commit is logged.
+    pub decided: bool,
+    /// The decision that it logged by itself.
+    pub decision: Option<Outcome>,
+    /// It rolled.
+    pub rolled: bool,
+}
+
+/// What an entry shows of trees: the node's tree before it and after it, whether its user left, and its record.
+#[derive(Clone, Copy)]
+pub struct TreeChange {
+    pub before: Option<NodeTree>,
+    pub after: Option<NodeTree>,
+    pub leaves: bool,
+    pub rec: Option<LogWords>,
+}
+
+/// The phase of the tree where it is the current one, else Nil.
+pub(crate) fn phase_in(tree: &Aaid, at: &Option<NodeTree>) -> Phase
+    ensures { result ≡ phase_in tree.now at.now }
+{
+    match at {
+        Some(at) if is_aaid(tree, &at.aaid) => at.phase,
+        _ => Phase::Nil,
+    }
+}
+
+/// The tree is the current one.
+pub fn is_in(tree: &Aaid, at: &Option<NodeTree>) -> bool
+    ensures { result ≡ is_in tree.now at.now }
+{
+    match at {
+        Some(at) => is_aaid(tree, &at.aaid),
+        None => false,
+    }
+}
+
+fn is_commit_of(tree: &Aaid, rec: &Option<LogWords>) -> bool
+    ensures { result ≡ is_commit_of tree.now rec.now }
+{
+    match rec {
+        Some(LogWords::Commit { key, .. }) => is_aaid(tree, &key.aaid),
+        _ => false,
+    }
+}
+
+fn decision_in(tree: &Aaid, rec: &Option<LogWords>) -> Option<Outcome>
+    ensures { result ≡ decision_in tree.now rec.now }
+{
+    match rec {
+        Some(LogWords::Heuristic { key, outcome, .. }) if is_aaid(tree, &key.aaid) => {
+            Some(*outcome)
+        }
+        _ => None,
+    }
+}
+
+/// The tree that is the current one, where there is one.
+pub(crate) fn tree_at(at: &Option<NodeTree>) -> Option<Aaid>
+    ensures { result ≡ tree_at at.now }
+{
+    match at {
+        Some(at) => Some(at.aaid),
+        None => None,
+    }
+}
+
+/// The tree whose commitment, or decision, is logged.
+pub(crate) fn tree_logged(rec: &Option<LogWords>) -> Option<Aaid>
+    ensures { result ≡ tree_logged rec.now }
+{
+    match rec {
+        Some(LogWords::Commit { key, .. } | LogWords::Heuristic { key, .. }) => Some(key.aaid),
+        _ => None,
+    }
+}
+
+/// It is that tree.
+pub(crate) fn is_that(tree: &Aaid, other: &Option<Aaid>) -> bool
+    ensures { result ≡ is_that tree.now other.now }
+{
+    match other {
+        Some(other) => is_aaid(tree, other),
+        None => false,
+    }
+}
+
+// The tree is the current one after the entry too, at a root as a root and at a branch as a branch.
+fn goes_on(tree: &Aaid, change: &TreeChange) -> bool
+    ensures { result ≡ goes_on tree.now change.now.before change.now.after }
+{
+    match (&change.before, &change.after) {
+        (Some(before), Some(after)) => {
+            is_aaid(tree, &after.aaid) && before.is_root == after.is_root
+        }
+        _ => false,
+    }
+}
+
+// It rolls after the entry; or it was active or ready, and is over without having left.
+fn has_rolled(tree: &Aaid, change: &TreeChange) -> bool
+    ensures { result ≡ has_rolled tree.now change.now }
+{
+    let is_open = matches!(phase_in(tree, &change.before), Phase::Active | Phase::Ready);
+    matches!(phase_in(tree, &change.after), Phase::Rolling)
+        || (is_open && !goes_on(tree, change) && !change.leaves)
+}
+
+impl TreeSummary {
+    /// That of a tree with which the node had nothing to do.
+    pub const NONE: TreeSummary = TreeSummary {
+        member: false,
+        left: false,
+        decided: false,
+        decision: None,
+        rolled: false,
+    };
+
+    /// What it is after an entry.
+    pub fn after(self, tree: &Aaid, change: &TreeChange) -> TreeSummary
+        ensures { result ≡ summary_after tree.now change.now self }
+    {
+        TreeSummary {
+            member: is_in(tree, &change.after) || self.member,
+            left: (is_in(tree, &change.before) && change.leaves) || self.left,
+            decided: is_commit_of(tree, &change.rec) || self.decided,
+            decision: match decision_in(tree, &change.rec) {
+                Some(outcome) => Some(outcome),
+                None => self.decision,
+            },
+            rolled: has_rolled(tree, change) || self.rolled,
+        }
+    }
+
+    /// The outcome that the node was told.
+    pub fn told(&self) -> Option<Outcome>
+        ensures { result ≡ told_by_summary self.now }
+    {
+        match self.decision {
+            Some(outcome) => Some(outcome),
+            None if self.decided => Some(Outcome::Commit),
+            None if self.rolled => Some(Outcome::Rollback),
+            None => None,
+        }
+    }
+}
