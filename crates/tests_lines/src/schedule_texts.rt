@@ -1,7 +1,7 @@
 //! The texts of lines of a schedule.
 use crate::values::{octets, site};
 use std::alloc::Global;
-use tp_model::{Line, LineRequest, StopLine};
+use tp_model::{Action, Line, LineRequest};
 use tp_names::{Octets, Outcome, SiteName};
 use tp_schedule::write_line;
 
@@ -66,13 +66,13 @@ fn lines_with_a_name(rt: HostRuntime) {
     assert!(rt; shows(rt.alloc(), Line::Crash { site }, "crash b"));
 }
 
-fn crash_in(alloc: Global, at: u8, fill: u8, line: StopLine, text: &str) -> Option<bool> {
+fn crash_in(alloc: Global, at: u8, fill: u8, action: Action, text: &str) -> Option<bool> {
     let site = site(b"a")?;
     let line = Line::CrashIn {
         site,
         at,
         fill,
-        line,
+        action,
     };
     Some(shows(alloc, line, text))
 }
@@ -80,7 +80,7 @@ fn crash_in(alloc: Global, at: u8, fill: u8, line: StopLine, text: &str) -> Opti
 #[test]
 fn lines_of_stops(rt: HostRuntime) {
     let request = LineRequest::Commit;
-    let asked = StopLine::Do { node: 1, request };
+    let asked = Action::Do { node: 1, request };
     let holds = crash_in(
         rt.alloc(),
         2,
@@ -90,7 +90,7 @@ fn lines_of_stops(rt: HostRuntime) {
     );
     assert!(rt; matches!(holds, Some(true)));
     let outcome = Outcome::Commit;
-    let decided = StopLine::Heur { node: 2, outcome };
+    let decided = Action::Heur { node: 2, outcome };
     let holds = crash_in(
         rt.alloc(),
         99,

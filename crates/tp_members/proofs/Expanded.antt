@@ -5,13 +5,13 @@ use Rattle.std.proofs.lemmas.List.Elements.{All-nil, All-cons, All-append}
 use Rattle.std.specs.List.{All}
 use Rattle.tp_records.specs.declared.request.Request.{Request}
 use Rattle.tp_model.specs.declared.line.LineRequest.{LineRequest}
-use Rattle.tp_model.specs.declared.line.StopLine.{StopLine}
+use Rattle.tp_model.specs.declared.line.Action.{Action}
 use Rattle.tp_model.specs.declared.line.Line.{Line}
 use Rattle.tp_model.specs.declared.out_line.OutLine.{OutLine}
 use Rattle.tp_model.specs.LineText.{line_text}
 use Rattle.tp_model.specs.World.{World, empty_world}
 use Rattle.tp_model.specs.Happenings.{Turn}
-use Rattle.tp_model.specs.Lines.{Fault, deed_line, line}
+use Rattle.tp_model.specs.Lines.{Fault, action_line, line}
 use Rattle.tp_model.specs.Trees.{closing}
 use Rattle.tp_model.specs.Transcript.{Put, Play, puts_of, line_request, answer_turn, answered, is_silent, echo, played, transcript_with, with_put, with_lines, stopped}
 use Rattle.tp_model.specs.Expand.{behind_play, played_all, answer_lines, shown_line, expanded_from, expanded, shown_of, IsExpanded}
@@ -53,7 +53,7 @@ shows_first v l ls t u xs h s =
 -- ---- answers
 
 -- an answer that was run is such a line
-answer_is_line : (before : ℕ) (w : World) (n : ℕ) (r : LineRequest) (t : Turn) → answer_turn before w n r ≡ Ok t → deed_line w (StopLine.Do n r) ≡ Ok t
+answer_is_line : (before : ℕ) (w : World) (n : ℕ) (r : LineRequest) (t : Turn) → answer_turn before w n r ≡ Ok t → action_line w (Action.Do n r) ≡ Ok t
 answer_is_line before w n r t h = grind (arith, h)
 
 answer_without : (before : ℕ) (w : World) (n : ℕ) (r : LineRequest) (t : Turn) → answer_turn before w n r ≡ Ok t → line 0 (memberless w) (Line.Do n r) ≡ Ok (turn_without t)

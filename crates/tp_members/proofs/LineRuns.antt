@@ -2,7 +2,7 @@
 use Rattle.std.proofs.Common.{ℕ, zero, suc, ◌+◌, ◌&&◌, nat_le, nat_lt, length, Bool, true, false, refl, ap, sym, subst, Option, Some, None, List, [], ◌∷◌, ◌++◌, Result, Ok, Err}
 use Rattle.tp_records.specs.declared.request.Request.{Request}
 use Rattle.tp_model.specs.declared.line.LineRequest.{LineRequest}
-use Rattle.tp_model.specs.declared.line.StopLine.{StopLine}
+use Rattle.tp_model.specs.declared.line.Action.{Action}
 use Rattle.tp_model.specs.declared.line.Line.{Line}
 use Rattle.tp_model.specs.declared.out_line.OutLine.{OutLine}
 use Rattle.tp_model.specs.declared.out_line.RecordFate.{RecordFate}
@@ -11,8 +11,8 @@ use Rattle.tp_model.specs.LineText.{line_text}
 use Rattle.tp_model.specs.Disk.{disk_bytes}
 use Rattle.tp_model.specs.History.{digest, state}
 use Rattle.tp_model.specs.World.{World, Node, Site, empty_world, find_node, find_site, is_node, oldest_between, oldest_of_all}
-use Rattle.tp_model.specs.Happenings.{Happening, Deed, Deliver, Declare, Does, Mark, Crash, Crash_in, Drive, Drop, Turn, happens, run, after_lines, after_stop}
-use Rattle.tp_model.specs.Lines.{Fault, Name, Over, is_member_there, state_line, within_limits, is_full, if_named, is_named, deed_of, marked, marked_by, shows, deed_line, stop_line, has_room_for, crash_in_line, node_line, node_limit, skip_line, then_result, drain_line, show_line, image_line, line}
+use Rattle.tp_model.specs.Happenings.{Happening, Declare, Does, Mark, Crash, Crash_in, Drive, Drop, Turn, happens, run, after_lines, after_stop}
+use Rattle.tp_model.specs.Lines.{Fault, Name, Over, is_member_there, state_line, within_limits, is_full, if_named, is_named, resolved, marked, marked_by, shows, action_line, stop_line, has_room_for, crash_in_line, node_line, node_limit, skip_line, then_result, drain_line, show_line, image_line, line}
 use Rattle.tp_model.specs.LineReading.{Reading, Blank, Faulty, Says, read_line}
 use Rattle.tp_model.specs.Transcript.{Put, Play, RawLine, Transcript, raw_lines, puts_of, line_request, answer_turn, answered, echo, played, with_put, with_lines, stopped, taken_by, content, ends, At_limit, Bad_input, behind, breaks, transcript_from, transcript_with}
 use Rattle.tp_model.specs.Expand.{behind_play, played_all}
@@ -41,30 +41,30 @@ run_named : (b : Bool) (r : Result Turn Fault) → LeavesRun r → LeavesRun (if
 run_named true r h = h
 run_named false r h = tt
 
-run_marked : (w : World) (l : StopLine) → IsOfRun w → IsOfRun (marked_by w l)
-run_marked w (StopLine.Pass a b) r = go (oldest_between w a b)
+run_marked : (w : World) (l : Action) → IsOfRun w → IsOfRun (marked_by w l)
+run_marked w (Action.Pass a b) r = go (oldest_between w a b)
   where
     go : (k : Option ℕ) → IsOfRun (marked w k)
     go None = r
     go (Some k) = goes_on w (Mark k) r
 run_marked w _ r = r
 
-run_deed_line : (w : World) (l : StopLine) → IsOfRun w → LeavesRun (deed_line w l)
-run_deed_line w l r = run_named (is_named w l) _ (go (deed_of w l))
+run_action_line : (w : World) (l : Action) → IsOfRun w → LeavesRun (action_line w l)
+run_action_line w l r = run_named (is_named w l) _ (go (resolved w l))
   where
-    go : (o : Option Deed) → LeavesRun (elim o as (λ _. Result Turn Fault) [ None ↦ Ok (shows w (OutLine.Nothing ∷ [])) | Some d ↦ within_limits (happens (marked_by w l) (Does d)) ])
+    go : (o : Option Action) → LeavesRun (elim o as (λ _. Result Turn Fault) [ None ↦ Ok (shows w (OutLine.Nothing ∷ [])) | Some d ↦ within_limits (happens (marked_by w l) (Does d)) ])
     go None = r
     go (Some d) = run_within (happens (marked_by w l) (Does d)) (goes_on (marked_by w l) (Does d) (run_marked w l r))
 
-run_stop_line : (w : World) (s : List ℕ) (call fill : ℕ) (l : StopLine) → IsOfRun w → IsOfRun (stop_line w s call fill l).world
-run_stop_line w s call fill l r = go (deed_of w l)
+run_stop_line : (w : World) (s : List ℕ) (call fill : ℕ) (l : Action) → IsOfRun w → IsOfRun (stop_line w s call fill l).world
+run_stop_line w s call fill l r = go (resolved w l)
   where
-    go : (o : Option Deed) → IsOfRun (elim o as (λ _. Turn) [ None ↦ after_lines (OutLine.Nothing ∷ []) (after_stop w s RecordFate.None) | Some d ↦ happens (marked_by w l) (Crash_in s call fill d) ]).world
+    go : (o : Option Action) → IsOfRun (elim o as (λ _. Turn) [ None ↦ after_lines (OutLine.Nothing ∷ []) (after_stop w s RecordFate.None) | Some d ↦ happens (marked_by w l) (Crash_in s call fill d) ]).world
     go None = goes_on w (Crash s) r
     go (Some d) = goes_on (marked_by w l) (Crash_in s call fill d) (run_marked w l r)
 
-run_crash_in_line : (w : World) (s : List ℕ) (call fill : ℕ) (l : StopLine) → IsOfRun w → LeavesRun (crash_in_line w s call fill l)
-run_crash_in_line w s call fill l r = run_named _ _ (go (has_room_for w s (deed_of w l)))
+run_crash_in_line : (w : World) (s : List ℕ) (call fill : ℕ) (l : Action) → IsOfRun w → LeavesRun (crash_in_line w s call fill l)
+run_crash_in_line w s call fill l r = run_named _ _ (go (has_room_for w s (resolved w l)))
   where
     go : (b : Bool) → LeavesRun (elim b as (λ _. Result Turn Fault) [ false ↦ Err (Over What.Log) | true ↦ within_limits (stop_line w s call fill l) ])
     go false = tt
@@ -102,11 +102,11 @@ run_drain_line (suc n) w r = go (oldest_of_all w) (run_drain_line n)
     rest more (Ok t) h = run_then t (drain_line n t.world) (more t.world h)
 
     go : (o : Option ℕ) → ((v : World) → IsOfRun v → LeavesRun (drain_line n v))
-        → LeavesRun (elim o as (λ _. Result Turn Fault) [ None ↦ Ok (shows w []) | Some k ↦ next (within_limits (happens (happens w (Mark k)).world (Does (Deliver k)))) ])
+        → LeavesRun (elim o as (λ _. Result Turn Fault) [ None ↦ Ok (shows w []) | Some k ↦ next (within_limits (happens (happens w (Mark k)).world (Does (Action.Again k)))) ])
     go None more = r
     go (Some k) more =
         let v : World = (happens w (Mark k)).world in
-        rest more (within_limits (happens v (Does (Deliver k)))) (run_within (happens v (Does (Deliver k))) (goes_on v (Does (Deliver k)) (goes_on w (Mark k) r)))
+        rest more (within_limits (happens v (Does (Action.Again k)))) (run_within (happens v (Does (Action.Again k))) (goes_on v (Does (Action.Again k)) (goes_on w (Mark k) r)))
 
 run_show_line : (w : World) (n : ℕ) → IsOfRun w → LeavesRun (show_line w n)
 run_show_line w n r = go (find_node w.nodes n)
@@ -124,16 +124,16 @@ run_image_line w s r = go (find_site w.sites s)
 
 pub run_line : (members : ℕ) (w : World) (l : Line) → IsOfRun w → LeavesRun (line members w l)
 run_line members w (Line.Node n s under) r = run_node_line w n s under r
-run_line members w (Line.Do n q) r = run_deed_line w (StopLine.Do n q) r
-run_line members w (Line.Pass a b) r = run_deed_line w (StopLine.Pass a b) r
+run_line members w (Line.Do n q) r = run_action_line w (Action.Do n q) r
+run_line members w (Line.Pass a b) r = run_action_line w (Action.Pass a b) r
 run_line members w (Line.Skip a b) r = run_named (is_node w a && is_node w b) (Ok (skip_line w a b)) (run_skip_line w a b r)
-run_line members w (Line.Again k) r = run_deed_line w (StopLine.Again k) r
+run_line members w (Line.Again k) r = run_action_line w (Action.Again k) r
 run_line members w Line.Drain r = run_drain_line 65536 w r
-run_line members w (Line.Lose n p) r = run_deed_line w (StopLine.Lose n p) r
-run_line members w (Line.Heur n o) r = run_deed_line w (StopLine.Heur n o) r
-run_line members w (Line.GiveUp n p) r = run_deed_line w (StopLine.GiveUp n p) r
-run_line members w (Line.Retry n) r = run_deed_line w (StopLine.Retry n) r
-run_line members w (Line.Purge n) r = run_deed_line w (StopLine.Purge n) r
+run_line members w (Line.Lose n p) r = run_action_line w (Action.Lose n p) r
+run_line members w (Line.Heur n o) r = run_action_line w (Action.Heur n o) r
+run_line members w (Line.GiveUp n p) r = run_action_line w (Action.GiveUp n p) r
+run_line members w (Line.Retry n) r = run_action_line w (Action.Retry n) r
+run_line members w (Line.Purge n) r = run_action_line w (Action.Purge n) r
 run_line members w (Line.Crash s) r = run_named _ _ (run_within (happens w (Crash s)) (goes_on w (Crash s) r))
 run_line members w (Line.CrashIn s call fill l) r = run_crash_in_line w s call fill l r
 run_line members w (Line.Show n) r = run_show_line w n r
@@ -144,12 +144,12 @@ run_line members w (Line.Leave k) r = run_named (is_member_there members w k) (O
 -- ---- answers
 
 run_answer : (before : ℕ) (w : World) (n : ℕ) (q : LineRequest) → IsOfRun w → LeavesRun (answer_turn before w n q)
-run_answer before w n q r = go (is_named w (StopLine.Do n q)) (nat_le 4096 before)
+run_answer before w n q r = go (is_named w (Action.Do n q)) (nat_le 4096 before)
   where
-    go : (a b : Bool) → LeavesRun (elim a as (λ _. Result Turn Fault) [ false ↦ Err Name | true ↦ elim b as (λ _. Result Turn Fault) [ true ↦ Err (Over What.Answers) | false ↦ deed_line w (StopLine.Do n q) ] ])
+    go : (a b : Bool) → LeavesRun (elim a as (λ _. Result Turn Fault) [ false ↦ Err Name | true ↦ elim b as (λ _. Result Turn Fault) [ true ↦ Err (Over What.Answers) | false ↦ action_line w (Action.Do n q) ] ])
     go false b = tt
     go true true = tt
-    go true false = run_deed_line w (StopLine.Do n q) r
+    go true false = run_action_line w (Action.Do n q) r
 
 run_answered : (answers : List (Option Request)) (before : ℕ) (w : World) (qs : List Put) → IsOfRun w → IsOfRun (answered answers before w qs).world
 run_answered [] before w qs r = r

@@ -1,7 +1,7 @@
 -- What happens in a world, and what each line of a schedule does, is the same without members.
 use Rattle.std.proofs.Common.{◌≡◌, ℕ, zero, suc, Bool, true, false, refl, ap, subst, ◌∙◌, arith, Option, Some, None, List, [], ◌∷◌, Result, Ok, Err}
 use Rattle.tp_logrec.specs.declared.record.LogRec.{LogRec}
-use Rattle.tp_model.specs.declared.line.StopLine.{StopLine}
+use Rattle.tp_model.specs.declared.line.Action.{Action}
 use Rattle.tp_model.specs.declared.line.Line.{Line}
 use Rattle.tp_model.specs.declared.out_line.OutLine.{OutLine}
 use Rattle.tp_model.specs.declared.out_line.RecordFate.{RecordFate}
@@ -9,10 +9,10 @@ use Rattle.tp_names.specs.declared.identifiers.Addr.{Addr}
 use Rattle.tp_model.specs.Parts.{Event, Entry}
 use Rattle.tp_model.specs.Disk.{Remains, remains, disk_bytes}
 use Rattle.tp_model.specs.World.{World, Node, Site, find_node, find_site, addr_at, oldest_between, oldest_of_all}
-use Rattle.tp_model.specs.Happenings.{Deed, Deliver, Declare, Does, Mark, Crash_in, Task, Turn, happens, after_lines, entered, entry_turn, event_turn, task_of, deed_lines, deed_turn, declared_at, declare_turn, crash_turn, after_stop, stop_in_force, stop_in_entry, task_here, crash_in_turn}
+use Rattle.tp_model.specs.Happenings.{Declare, Does, Mark, Crash_in, Task, Turn, happens, after_lines, entered, entry_turn, event_turn, task_of, action_lines, action_turn, declared_at, declare_turn, crash_turn, after_stop, stop_in_force, stop_in_entry, task_here, crash_in_turn}
 use Rattle.tp_model.specs.declared.verdict.What.{What}
 use Rattle.tp_model.specs.History.{digest, state}
-use Rattle.tp_model.specs.Lines.{Fault, Name, Over, state_line, within_limits, if_named, is_named, deed_of, marked, marked_by, shows, deed_line, stop_line, has_room_for, crash_in_line, node_line, node_limit, skip_line, then_result, drain_line, show_line, image_line, line}
+use Rattle.tp_model.specs.Lines.{Fault, Name, Over, state_line, within_limits, if_named, is_named, resolved, marked, marked_by, shows, action_line, stop_line, has_room_for, crash_in_line, node_line, node_limit, skip_line, then_result, drain_line, show_line, image_line, line}
 use Rattle.tp_model.specs.Transcript.{is_silent}
 use Rattle.tp_members.specs.Expansion.{memberless}
 
@@ -36,12 +36,12 @@ entry_without w n k (Some e) = go e.rec refl
 event_without : (w : World) (n : Node) (e : Event) → event_turn (memberless w) n e ≡ turn_without (event_turn w n e)
 event_without w n e = entry_without w n _ _
 
-deed_without : (w : World) (d : Deed) → deed_turn (memberless w) d ≡ turn_without (deed_turn w d)
-deed_without w d = go (task_of w d) refl
+action_without : (w : World) (d : Action) → action_turn (memberless w) d ≡ turn_without (action_turn w d)
+action_without w d = go (task_of w d) refl
   where
-    go : (t : Option Task) → task_of w d ≡ t → deed_turn (memberless w) d ≡ turn_without (deed_turn w d)
-    go None i = rw (i, deed_turn) refl
-    go (Some t) i = rw (i, deed_turn) (ap (after_lines (deed_lines d)) (event_without w t.node t.event))
+    go : (t : Option Task) → task_of w d ≡ t → action_turn (memberless w) d ≡ turn_without (action_turn w d)
+    go None i = rw (i, action_turn) refl
+    go (Some t) i = rw (i, action_turn) (ap (after_lines (action_lines d)) (event_without w t.node t.event))
 
 declared_without : (w : World) (n : ℕ) (s : List ℕ) (a : Option Addr) → declared_at (memberless w) n s a ≡ turn_without (declared_at w n s a)
 declared_without w n s a = go (find_site w.sites s) refl
@@ -89,12 +89,12 @@ stop_without w n x call fill (Some e) = go e.rec
     go None = after_without (entered w n e) x.name RecordFate.None
     go (Some r) = force_without w n x e (remains call fill r x.disk)
 
-crash_in_without : (w : World) (s : List ℕ) (call fill : ℕ) (d : Deed) → crash_in_turn (memberless w) s call fill d ≡ turn_without (crash_in_turn w s call fill d)
+crash_in_without : (w : World) (s : List ℕ) (call fill : ℕ) (d : Action) → crash_in_turn (memberless w) s call fill d ≡ turn_without (crash_in_turn w s call fill d)
 crash_in_without w s call fill d = go (find_site w.sites s) refl
   where
     here : (x : Site) → find_site w.sites s ≡ Some x → (t : Option Task) → task_here x (task_of w d) ≡ t → crash_in_turn (memberless w) s call fill d ≡ turn_without (crash_in_turn w s call fill d)
     here x i None j = rw (i, j, crash_in_turn) refl
-    here x i (Some t) j = rw (i, j, crash_in_turn) (ap (after_lines (deed_lines d)) (stop_without w t.node x call fill _))
+    here x i (Some t) j = rw (i, j, crash_in_turn) (ap (after_lines (action_lines d)) (stop_without w t.node x call fill _))
 
     go : (o : Option Site) → find_site w.sites s ≡ o → crash_in_turn (memberless w) s call fill d ≡ turn_without (crash_in_turn w s call fill d)
     go None i = rw (i, crash_in_turn) refl
@@ -105,8 +105,8 @@ crash_in_without w s call fill d = go (find_site w.sites s) refl
 limits_without : (t : Turn) → within_limits (turn_without t) ≡ result_without (within_limits t)
 limits_without t = grind (arith)
 
-marked_without : (w : World) (l : StopLine) → marked_by (memberless w) l ≡ memberless (marked_by w l)
-marked_without w (StopLine.Pass a b) = go (oldest_between w a b)
+marked_without : (w : World) (l : Action) → marked_by (memberless w) l ≡ memberless (marked_by w l)
+marked_without w (Action.Pass a b) = go (oldest_between w a b)
   where
     go : (k : Option ℕ) → marked (memberless w) k ≡ memberless (marked w k)
     go None = refl
@@ -117,18 +117,18 @@ named_without : (b : Bool) (r s : Result Turn Fault) → r ≡ result_without s 
 named_without true r s h = h
 named_without false r s h = refl
 
-deed_line_without : (w : World) (l : StopLine) → deed_line (memberless w) l ≡ result_without (deed_line w l)
-deed_line_without w l = named_without (is_named w l) _ _ (go (deed_of w l))
+action_line_without : (w : World) (l : Action) → action_line (memberless w) l ≡ result_without (action_line w l)
+action_line_without w l = named_without (is_named w l) _ _ (go (resolved w l))
   where
-    go : (o : Option Deed) → (elim o as (λ _. Result Turn Fault) [ None ↦ Ok (shows (memberless w) (OutLine.Nothing ∷ [])) | Some d ↦ within_limits (happens (marked_by (memberless w) l) (Does d)) ])
+    go : (o : Option Action) → (elim o as (λ _. Result Turn Fault) [ None ↦ Ok (shows (memberless w) (OutLine.Nothing ∷ [])) | Some d ↦ within_limits (happens (marked_by (memberless w) l) (Does d)) ])
         ≡ result_without (elim o as (λ _. Result Turn Fault) [ None ↦ Ok (shows w (OutLine.Nothing ∷ [])) | Some d ↦ within_limits (happens (marked_by w l) (Does d)) ])
     go None = refl
-    go (Some d) = ap (λ (v : World). within_limits (deed_turn v d)) (marked_without w l) ∙ ap within_limits (deed_without (marked_by w l) d) ∙ limits_without (deed_turn (marked_by w l) d)
+    go (Some d) = ap (λ (v : World). within_limits (action_turn v d)) (marked_without w l) ∙ ap within_limits (action_without (marked_by w l) d) ∙ limits_without (action_turn (marked_by w l) d)
 
-stop_line_without : (w : World) (s : List ℕ) (call fill : ℕ) (l : StopLine) → stop_line (memberless w) s call fill l ≡ turn_without (stop_line w s call fill l)
-stop_line_without w s call fill l = go (deed_of w l)
+stop_line_without : (w : World) (s : List ℕ) (call fill : ℕ) (l : Action) → stop_line (memberless w) s call fill l ≡ turn_without (stop_line w s call fill l)
+stop_line_without w s call fill l = go (resolved w l)
   where
-    go : (o : Option Deed) → (elim o as (λ _. Turn) [ None ↦ after_lines (OutLine.Nothing ∷ []) (after_stop (memberless w) s RecordFate.None) | Some d ↦ happens (marked_by (memberless w) l) (Crash_in s call fill d) ])
+    go : (o : Option Action) → (elim o as (λ _. Turn) [ None ↦ after_lines (OutLine.Nothing ∷ []) (after_stop (memberless w) s RecordFate.None) | Some d ↦ happens (marked_by (memberless w) l) (Crash_in s call fill d) ])
         ≡ turn_without (elim o as (λ _. Turn) [ None ↦ after_lines (OutLine.Nothing ∷ []) (after_stop w s RecordFate.None) | Some d ↦ happens (marked_by w l) (Crash_in s call fill d) ])
     go None = ap (after_lines (OutLine.Nothing ∷ [])) (after_without w s RecordFate.None)
     go (Some d) = ap (λ (v : World). crash_in_turn v s call fill d) (marked_without w l) ∙ crash_in_without (marked_by w l) s call fill d
@@ -138,8 +138,8 @@ room_without : (b : Bool) (t u : Turn) → t ≡ turn_without u
 room_without false t u h = refl
 room_without true t u h = ap within_limits h ∙ limits_without u
 
-crash_in_line_without : (w : World) (s : List ℕ) (call fill : ℕ) (l : StopLine) → crash_in_line (memberless w) s call fill l ≡ result_without (crash_in_line w s call fill l)
-crash_in_line_without w s call fill l = named_without _ _ _ (room_without (has_room_for w s (deed_of w l)) _ _ (stop_line_without w s call fill l))
+crash_in_line_without : (w : World) (s : List ℕ) (call fill : ℕ) (l : Action) → crash_in_line (memberless w) s call fill l ≡ result_without (crash_in_line w s call fill l)
+crash_in_line_without w s call fill l = named_without _ _ _ (room_without (has_room_for w s (resolved w l)) _ _ (stop_line_without w s call fill l))
 
 -- ---- the other lines
 
@@ -175,12 +175,12 @@ drain_line_without (suc n) w = go (oldest_of_all w) (drain_line_without n)
     rest more (Ok t) = ap (then_result (turn_without t)) (more t.world) ∙ then_without t (drain_line n t.world)
 
     go : (o : Option ℕ) → ((v : World) → drain_line n (memberless v) ≡ result_without (drain_line n v))
-        → (elim o as (λ _. Result Turn Fault) [ None ↦ Ok (shows (memberless w) []) | Some k ↦ next (within_limits (happens (happens (memberless w) (Mark k)).world (Does (Deliver k)))) ])
-        ≡ result_without (elim o as (λ _. Result Turn Fault) [ None ↦ Ok (shows w []) | Some k ↦ next (within_limits (happens (happens w (Mark k)).world (Does (Deliver k)))) ])
+        → (elim o as (λ _. Result Turn Fault) [ None ↦ Ok (shows (memberless w) []) | Some k ↦ next (within_limits (happens (happens (memberless w) (Mark k)).world (Does (Action.Again k)))) ])
+        ≡ result_without (elim o as (λ _. Result Turn Fault) [ None ↦ Ok (shows w []) | Some k ↦ next (within_limits (happens (happens w (Mark k)).world (Does (Action.Again k)))) ])
     go None more = refl
     go (Some k) more =
         let v : World = (happens w (Mark k)).world in
-        ap next (ap within_limits (deed_without v (Deliver k)) ∙ limits_without (deed_turn v (Deliver k))) ∙ rest more (within_limits (deed_turn v (Deliver k)))
+        ap next (ap within_limits (action_without v (Action.Again k)) ∙ limits_without (action_turn v (Action.Again k))) ∙ rest more (within_limits (action_turn v (Action.Again k)))
 
 show_line_without : (w : World) (n : ℕ) → show_line (memberless w) n ≡ result_without (show_line w n)
 show_line_without w n = go (find_node w.nodes n)
@@ -201,16 +201,16 @@ image_line_without w s = go (find_site w.sites s)
 -- a line that is shown does the same
 pub line_without : (members : ℕ) (w : World) (l : Line) → is_silent l ≡ false → line 0 (memberless w) l ≡ result_without (line members w l)
 line_without members w (Line.Node n s under) h = node_line_without w n s under
-line_without members w (Line.Do n r) h = deed_line_without w (StopLine.Do n r)
-line_without members w (Line.Pass a b) h = deed_line_without w (StopLine.Pass a b)
+line_without members w (Line.Do n r) h = action_line_without w (Action.Do n r)
+line_without members w (Line.Pass a b) h = action_line_without w (Action.Pass a b)
 line_without members w (Line.Skip a b) h = named_without _ _ _ (ap (λ (t : Turn). let r : Result Turn Fault = Ok t in r) (skip_line_without w a b))
-line_without members w (Line.Again k) h = deed_line_without w (StopLine.Again k)
+line_without members w (Line.Again k) h = action_line_without w (Action.Again k)
 line_without members w Line.Drain h = drain_line_without 65536 w
-line_without members w (Line.Lose n p) h = deed_line_without w (StopLine.Lose n p)
-line_without members w (Line.Heur n o) h = deed_line_without w (StopLine.Heur n o)
-line_without members w (Line.GiveUp n p) h = deed_line_without w (StopLine.GiveUp n p)
-line_without members w (Line.Retry n) h = deed_line_without w (StopLine.Retry n)
-line_without members w (Line.Purge n) h = deed_line_without w (StopLine.Purge n)
+line_without members w (Line.Lose n p) h = action_line_without w (Action.Lose n p)
+line_without members w (Line.Heur n o) h = action_line_without w (Action.Heur n o)
+line_without members w (Line.GiveUp n p) h = action_line_without w (Action.GiveUp n p)
+line_without members w (Line.Retry n) h = action_line_without w (Action.Retry n)
+line_without members w (Line.Purge n) h = action_line_without w (Action.Purge n)
 line_without members w (Line.Crash s) h = named_without _ _ _ (ap within_limits (crash_without w s) ∙ limits_without (crash_turn w s))
 line_without members w (Line.CrashIn s call fill l) h = crash_in_line_without w s call fill l
 line_without members w (Line.Show n) h = show_line_without w n

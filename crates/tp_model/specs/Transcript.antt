@@ -5,7 +5,7 @@ use Rattle.tp_records.specs.declared.request.Request.{Request}
 use Rattle.tp_records.specs.declared.indication.Indication.{Indication}
 use Rattle.tp_records.specs.Answers.{Answer}
 use Rattle.tp_model.specs.declared.line.LineRequest.{LineRequest}
-use Rattle.tp_model.specs.declared.line.StopLine.{StopLine}
+use Rattle.tp_model.specs.declared.line.Action.{Action}
 use Rattle.tp_model.specs.declared.line.Line.{Line}
 use Rattle.tp_model.specs.declared.out_line.OutLine.{OutLine}
 use Rattle.tp_model.specs.declared.verdict.What.{What}
@@ -15,7 +15,7 @@ use Rattle.tp_model.specs.LineText.{line_text}
 use Rattle.tp_model.specs.LineReading.{Blank, Faulty, Says, read_line}
 use Rattle.tp_model.specs.World.{World, empty_world, driver_of}
 use Rattle.tp_model.specs.Happenings.{Turn, Told}
-use Rattle.tp_model.specs.Lines.{Fault, Name, Over, is_named, deed_line, line}
+use Rattle.tp_model.specs.Lines.{Fault, Name, Over, is_named, action_line, line}
 use Rattle.tp_model.specs.Trees.{closing}
 
 -- ---- a schedule cut into lines
@@ -98,9 +98,9 @@ stopped w left f = record { world = w; lines = []; puts = []; left = left; fault
 
 -- an answer is run as a line; so many were run before it
 abbrev pub answer_turn : ℕ → World → ℕ → LineRequest → Result Turn Fault
-answer_turn before w n r = elim (is_named w (StopLine.Do n r)) [
+answer_turn before w n r = elim (is_named w (Action.Do n r)) [
   | false ↦ Err Name
-  | true ↦ elim (nat_le 4096 before) [ true ↦ Err (Over What.Answers) | false ↦ deed_line w (StopLine.Do n r) ]
+  | true ↦ elim (nat_le 4096 before) [ true ↦ Err (Over What.Answers) | false ↦ action_line w (Action.Do n r) ]
 ]
 
 abbrev pub with_put : Put → Play → Play

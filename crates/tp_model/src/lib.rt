@@ -25,7 +25,7 @@ mod verdict;
 
 pub use arc::{Act, Deferral, Phase, Side, Situation};
 pub use disposition::Disposition;
-pub use line::{Line, LineRequest, StopLine};
+pub use line::{Action, Line, LineRequest};
 pub use node_numbers::NodeNumbers;
 pub use out_line::{LogWords, OutLine, PhaseWord, RecordFate, SentWords};
 pub use out_lines::OutLines;

@@ -4,13 +4,14 @@ use Rattle.tp_names.specs.declared.identifiers.Addr.{Addr}
 use Rattle.tp_names.specs.Same.{is_name}
 use Rattle.tp_records.specs.declared.peer.PeerRecord.{PeerRecord}
 use Rattle.tp_logrec.specs.declared.record.LogRec.{LogRec}
+use Rattle.tp_model.specs.declared.line.Action.{Action}
 use Rattle.tp_model.specs.declared.out_line.RecordFate.{RecordFate}
 use Rattle.tp_model.specs.Parts.{Entry, Out}
 use Rattle.tp_model.specs.Events.{refusal, after_crash, started}
 use Rattle.tp_model.specs.History.{answer}
 use Rattle.tp_model.specs.Disk.{Remains, remains}
 use Rattle.tp_model.specs.World.{World, Node, Site, Frame, number_of, site_of, addr_of, find_node, put_node, addr_at, find_site, put_site, mark_handed}
-use Rattle.tp_model.specs.Happenings.{Turn, still, after_lines, deed_lines, after_stop, crash_turn, Deed, Happening, Task, task_of, frames_of, entered, entry_turn, deed_turn, new_node, declared_at, declare_turn, restarted, restarted_at, stop_in_force, stop_in_entry, stop_in_task, task_here, crash_in_turn, happens, run}
+use Rattle.tp_model.specs.Happenings.{Turn, still, after_lines, action_lines, after_stop, crash_turn, Happening, Task, task_of, frames_of, entered, entry_turn, action_turn, new_node, declared_at, declare_turn, restarted, restarted_at, stop_in_force, stop_in_entry, stop_in_task, task_here, crash_in_turn, happens, run}
 use Rattle.tp_histories.specs.Histories.{IsSentIn, HasSent}
 use Rattle.tp_runs.specs.Framed.{has_stopped, IsFrameTo, GoesOut}
 use Rattle.tp_steps.proofs.lemmas.Equality.{names_equal}
@@ -70,14 +71,14 @@ turn_framed : (w : World) (n : Node) (number : Option ℕ) (o : Option Entry) �
 turn_framed w n number None found k = k
 turn_framed w n number (Some y) found k = rw (logged_nodes (entered w n y) n y.rec, logged_frames (entered w n y) n y.rec) (entry_framed w.nodes w.frames n y found k)
 
-deed_framed : (w : World) (d : Deed) → Framed w.nodes w.frames → Framed (deed_turn w d).world.nodes (deed_turn w d).world.frames
-deed_framed w d k = go (task_of w d) refl
+action_framed : (w : World) (d : Action) → Framed w.nodes w.frames → Framed (action_turn w d).world.nodes (action_turn w d).world.frames
+action_framed w d k = go (task_of w d) refl
   where
-    go : (o : Option Task) → task_of w d ≡ o → Framed (deed_turn w d).world.nodes (deed_turn w d).world.frames
-    go None i = rw (i, deed_turn) k
+    go : (o : Option Task) → task_of w d ≡ o → Framed (action_turn w d).world.nodes (action_turn w d).world.frames
+    go None i = rw (i, action_turn) k
     go (Some t) i =
         let a = answer t.node.origin t.node.history t.event in
-        rw (i, deed_turn) (turn_framed w t.node a.number a.entry (Ready.here (ready_of w d t i)) k)
+        rw (i, action_turn) (turn_framed w t.node a.number a.entry (Ready.here (ready_of w d t i)) k)
 
 -- ---- a site that stops
 
@@ -209,7 +210,7 @@ within_framed w n x call fill (Some y) found at site k = go y.rec
     go None = crash_framed (entered w n y) x.name x site (entered_beside x.name w.nodes w.frames n y found at k)
     go (Some l) = force_framed w n x y (remains call fill l x.disk) found at site k
 
-crash_in_framed : (w : World) (name : List ℕ) (call fill : ℕ) (d : Deed) → Framed w.nodes w.frames → Framed (crash_in_turn w name call fill d).world.nodes (crash_in_turn w name call fill d).world.frames
+crash_in_framed : (w : World) (name : List ℕ) (call fill : ℕ) (d : Action) → Framed w.nodes w.frames → Framed (crash_in_turn w name call fill d).world.nodes (crash_in_turn w name call fill d).world.frames
 crash_in_framed w name call fill d k = go (find_site w.sites name) refl
   where
     one_task : (x : Site) (t u : Task) → task_here x (Some t) ≡ Some u → t ≡ u
@@ -219,7 +220,7 @@ crash_in_framed w name call fill d k = go (find_site w.sites name) refl
     at_site x t u j = grind (arith, j)
 
     here : (x : Site) → find_site w.sites x.name ≡ Some x → (o : Option Task) → task_of w d ≡ o → (b : Option Task) → task_here x o ≡ b
-        → Framed (elim b as (λ _. Turn) [ None ↦ still w | Some t ↦ after_lines (deed_lines d) (stop_in_task w x call fill t) ]).world.nodes (elim b as (λ _. Turn) [ None ↦ still w | Some t ↦ after_lines (deed_lines d) (stop_in_task w x call fill t) ]).world.frames
+        → Framed (elim b as (λ _. Turn) [ None ↦ still w | Some t ↦ after_lines (action_lines d) (stop_in_task w x call fill t) ]).world.nodes (elim b as (λ _. Turn) [ None ↦ still w | Some t ↦ after_lines (action_lines d) (stop_in_task w x call fill t) ]).world.frames
     here x site o i None j = k
     here x site None i (Some u) j = absurd cc
     here x site (Some t) i (Some u) j =
@@ -277,7 +278,7 @@ declare_framed w n name under k = go (find_node w.nodes n) refl
 
 happens_framed : (w : World) (e : Happening) → Framed w.nodes w.frames → Framed (happens w e).world.nodes (happens w e).world.frames
 happens_framed w (Happening.Declare n name under) k = declare_framed w n name under k
-happens_framed w (Happening.Does d) k = deed_framed w d k
+happens_framed w (Happening.Does d) k = action_framed w d k
 happens_framed w (Happening.Mark i) k = λ m x here fresh z r sent. frame_marked w.frames i (addr_of x) z r (k m x here fresh z r sent)
 happens_framed w (Happening.Crash name) k = stop_framed w name k
 happens_framed w (Happening.Crash_in name call fill d) k = crash_in_framed w name call fill d k

@@ -4,9 +4,9 @@ use Rattle.std.specs.Prelude.{◌&&◌, nat_lt, IfSome}
 use Rattle.std.proofs.lemmas.Bool.Decides.{nat_tests}
 use Rattle.tp_names.specs.Same.{is_name}
 use Rattle.tp_model.specs.declared.line.LineRequest.{LineRequest}
-use Rattle.tp_model.specs.declared.line.StopLine.{StopLine}
+use Rattle.tp_model.specs.declared.line.Action.{Action}
 use Rattle.tp_model.specs.declared.line.Line.{Line}
-use Rattle.tp_model.specs.LineReading.{Form, Wrong, Outside, Well, Reading, Blank, Faulty, says, words_in, read_words, is_comment, line_readers, node_under, crash_in, crash_from, site, number_in, fill, stop_readers, with, both, three, do_from, number, read_line, read_by, request_readers}
+use Rattle.tp_model.specs.LineReading.{Form, Wrong, Outside, Well, Reading, Blank, Faulty, says, words_in, read_words, is_comment, line_readers, node_under, crash_in, crash_from, site, number_in, fill, action_readers, with, both, three, do_from, number, read_line, read_by, request_readers}
 use Rattle.tp_model.specs.declared.verdict.Why.{Why}
 use Rattle.tp_schedule.specs.declared.line_fault.LineFault.{LineFault}
 use Rattle.tp_schedule.specs.Answers.{Reads, answered, pair}
@@ -23,16 +23,16 @@ do_form f (n ∷ ws) = both_form f (number n) (read_by request_readers ws)
 pub under_form : (n s p : List ℕ) → node_under n s p ≡ with (λ (q : (ℕ × List ℕ) × ℕ). Line.Node q.0.0 q.0.1 (Some q.1)) (both pair (both pair (number n) (site s)) (number p))
 under_form n s p = three_form (λ m t q. Line.Node m t (Some q)) (number n) (site s) (number p)
 
-stop_form : (t : Form (List ℕ)) (j y : Form ℕ) (l : Form StopLine)
-    → both (λ (g : StopLine → Line) m. g m) (three (λ a b c. Line.CrashIn a b c) t j y) l
-    ≡ with (λ (q : (((List ℕ × ℕ) × ℕ) × StopLine)). Line.CrashIn q.0.0.0 q.0.0.1 q.0.1 q.1) (both pair (both pair (both pair t j) y) l)
-stop_form t j y l =
-    ap (λ (z : Form (StopLine → Line)). both (λ (g : StopLine → Line) m. g m) z l) (three_form (λ a b c. Line.CrashIn a b c) t j y)
+action_form : (t : Form (List ℕ)) (j y : Form ℕ) (l : Form Action)
+    → both (λ (g : Action → Line) m. g m) (three (λ a b c. Line.CrashIn a b c) t j y) l
+    ≡ with (λ (q : (((List ℕ × ℕ) × ℕ) × Action)). Line.CrashIn q.0.0.0 q.0.0.1 q.0.1 q.1) (both pair (both pair (both pair t j) y) l)
+action_form t j y l =
+    ap (λ (z : Form (Action → Line)). both (λ (g : Action → Line) m. g m) z l) (three_form (λ a b c. Line.CrashIn a b c) t j y)
     ∙ go (both pair (both pair t j) y) l
   where
-    go : (z : Form ((List ℕ × ℕ) × ℕ)) (m : Form StopLine)
-        → both (λ (g : StopLine → Line) k. g k) (with (λ (p : (List ℕ × ℕ) × ℕ). Line.CrashIn p.0.0 p.0.1 p.1) z) m
-        ≡ with (λ (q : (((List ℕ × ℕ) × ℕ) × StopLine)). Line.CrashIn q.0.0.0 q.0.0.1 q.0.1 q.1) (both pair z m)
+    go : (z : Form ((List ℕ × ℕ) × ℕ)) (m : Form Action)
+        → both (λ (g : Action → Line) k. g k) (with (λ (p : (List ℕ × ℕ) × ℕ). Line.CrashIn p.0.0 p.0.1 p.1) z) m
+        ≡ with (λ (q : (((List ℕ × ℕ) × ℕ) × Action)). Line.CrashIn q.0.0.0 q.0.0.1 q.0.1 q.1) (both pair z m)
     go Wrong m = refl
     go Outside Wrong = refl
     go Outside Outside = refl
@@ -43,8 +43,8 @@ stop_form t j y l =
 
 pub crash_in_form : (s k x : List ℕ) (ws : List (List ℕ))
     → crash_in s k x ws
-    ≡ with (λ (q : (((List ℕ × ℕ) × ℕ) × StopLine)). Line.CrashIn q.0.0.0 q.0.0.1 q.0.1 q.1) (both pair (both pair (both pair (site s) (number_in 1 99 k)) (fill x)) (read_by stop_readers ws))
-crash_in_form s k x ws = stop_form (site s) (number_in 1 99 k) (fill x) (read_by stop_readers ws)
+    ≡ with (λ (q : (((List ℕ × ℕ) × ℕ) × Action)). Line.CrashIn q.0.0.0 q.0.0.1 q.0.1 q.1) (both pair (both pair (both pair (site s) (number_in 1 99 k)) (fill x)) (read_by action_readers ws))
+crash_in_form s k x ws = action_form (site s) (number_in 1 99 k) (fill x) (read_by action_readers ws)
 
 name_turned : (v w : List ℕ) → is_name v w ≡ is_name w v
 name_turned [] [] = refl

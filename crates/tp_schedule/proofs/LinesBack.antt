@@ -5,13 +5,13 @@ use Rattle.std.proofs.lemmas.Bool.Decides.{nat_tests}
 use Rattle.tp_names.specs.Bytes.{all_bytes, is_site_name}
 use Rattle.tp_names.specs.declared.outcome.Outcome.{Outcome}
 use Rattle.tp_model.specs.declared.line.LineRequest.{LineRequest}
-use Rattle.tp_model.specs.declared.line.StopLine.{StopLine}
+use Rattle.tp_model.specs.declared.line.Action.{Action}
 use Rattle.tp_model.specs.declared.line.Line.{Line}
 use Rattle.tp_model.specs.declared.verdict.Why.{Why}
 use Rattle.tp_model.specs.Words.{decimal, hex, octets_word, units_word, outcome_word, words}
-use Rattle.tp_model.specs.LineText.{request_words, stop_words, line_words, line_text}
-use Rattle.tp_model.specs.LineReading.{Form, Well, Reading, Blank, Faulty, Says, says, with, both, number, number_in, units, octets, outcome, site, fill, read_by, request_readers, stop_readers, line_readers, read_words, read_line, is_comment, words_in}
-use Rattle.tp_schedule.specs.HasText.{is_number, is_byte, are_units, are_octets, request_has_text, stop_has_text, under_has_text, line_has_text}
+use Rattle.tp_model.specs.LineText.{request_words, action_words, line_words, line_text}
+use Rattle.tp_model.specs.LineReading.{Form, Well, Reading, Blank, Faulty, Says, says, with, both, number, number_in, units, octets, outcome, site, fill, read_by, request_readers, action_readers, line_readers, read_words, read_line, is_comment, words_in}
+use Rattle.tp_schedule.specs.HasText.{is_number, is_byte, are_units, are_octets, request_has_text, action_has_text, under_has_text, line_has_text}
 use Rattle.tp_schedule.proofs.lemmas.Back.{is_plain, all_plain, words_back, number_in_back, decimal_plain, decimal_short, octets_plain, octets_short, octets_back, fill_back, fill_plain, units_back, units_plain, units_short, site_plain, site_short, site_back}
 
 -- ---- tests in parts
@@ -155,21 +155,21 @@ do_back f n r number_good request_good =
 wider : {A : Type 0} → (read : Form A) (a : A) (ws : List (List ℕ)) → Say_back read a 4060 ws → Say_back read a 4080 ws
 wider read a ws back = record { reads = back.reads; plain = back.plain; short = omega (arith, back.short) }
 
-stop_back : (l : StopLine) → stop_has_text l ≡ true → Say_back (read_by stop_readers (stop_words l)) l 4080 (stop_words l)
-stop_back (StopLine.Do n r) good = let p = two_parts (is_number n) (request_has_text r) good in do_back StopLine.Do n r p.0 p.1
-stop_back (StopLine.Pass a b) good =
+action_back : (l : Action) → action_has_text l ≡ true → Say_back (read_by action_readers (action_words l)) l 4080 (action_words l)
+action_back (Action.Do n r) good = let p = two_parts (is_number n) (request_has_text r) good in do_back Action.Do n r p.0 p.1
+action_back (Action.Pass a b) good =
     let p = two_parts (is_number a) (is_number b) good in
-    wider _ _ _ (two_back StopLine.Pass _ _ a b 5 (codes "pass") _ _ refl (omega arith) (omega arith) (number_says a p.0) (number_says b p.1))
-stop_back (StopLine.Again k) good = wider _ _ _ (one_back StopLine.Again _ k 5 (codes "again") _ refl (omega arith) (omega arith) (number_says k good))
-stop_back (StopLine.Lose n q) good =
+    wider _ _ _ (two_back Action.Pass _ _ a b 5 (codes "pass") _ _ refl (omega arith) (omega arith) (number_says a p.0) (number_says b p.1))
+action_back (Action.Again k) good = wider _ _ _ (one_back Action.Again _ k 5 (codes "again") _ refl (omega arith) (omega arith) (number_says k good))
+action_back (Action.Lose n q) good =
     let p = two_parts (is_number n) (is_number q) good in
-    wider _ _ _ (two_back StopLine.Lose _ _ n q 5 (codes "lose") _ _ refl (omega arith) (omega arith) (number_says n p.0) (number_says q p.1))
-stop_back (StopLine.Heur n o) good = wider _ _ _ (two_back StopLine.Heur _ _ n o 8 (codes "heur") _ _ refl (omega arith) (omega arith) (number_says n good) (outcome_says o))
-stop_back (StopLine.GiveUp n q) good =
+    wider _ _ _ (two_back Action.Lose _ _ n q 5 (codes "lose") _ _ refl (omega arith) (omega arith) (number_says n p.0) (number_says q p.1))
+action_back (Action.Heur n o) good = wider _ _ _ (two_back Action.Heur _ _ n o 8 (codes "heur") _ _ refl (omega arith) (omega arith) (number_says n good) (outcome_says o))
+action_back (Action.GiveUp n q) good =
     let p = two_parts (is_number n) (is_number q) good in
-    wider _ _ _ (two_back StopLine.GiveUp _ _ n q 5 (codes "giveup") _ _ refl (omega arith) (omega arith) (number_says n p.0) (number_says q p.1))
-stop_back (StopLine.Retry n) good = wider _ _ _ (one_back StopLine.Retry _ n 5 (codes "retry") _ refl (omega arith) (omega arith) (number_says n good))
-stop_back (StopLine.Purge n) good = wider _ _ _ (one_back StopLine.Purge _ n 5 (codes "purge") _ refl (omega arith) (omega arith) (number_says n good))
+    wider _ _ _ (two_back Action.GiveUp _ _ n q 5 (codes "giveup") _ _ refl (omega arith) (omega arith) (number_says n p.0) (number_says q p.1))
+action_back (Action.Retry n) good = wider _ _ _ (one_back Action.Retry _ n 5 (codes "retry") _ refl (omega arith) (omega arith) (number_says n good))
+action_back (Action.Purge n) good = wider _ _ _ (one_back Action.Purge _ n 5 (codes "purge") _ refl (omega arith) (omega arith) (number_says n good))
 
 -- ---- lines
 
@@ -196,13 +196,13 @@ node_back n s (Some p) number_good name good =
       short = omega (arith, first.short, second.short, third.short);
     }
 
-crash_in_back : (s : List ℕ) (k x : ℕ) (l : StopLine) → is_site_name s ≡ true → nat_le 1 k ≡ true → nat_le k 99 ≡ true → is_byte x ≡ true → stop_has_text l ≡ true
+crash_in_back : (s : List ℕ) (k x : ℕ) (l : Action) → is_site_name s ≡ true → nat_le 1 k ≡ true → nat_le k 99 ≡ true → is_byte x ≡ true → action_has_text l ≡ true
     → Say_back (read_by line_readers (line_words (Line.CrashIn s k x l))) (Line.CrashIn s k x l) 4200 (line_words (Line.CrashIn s k x l))
 crash_in_back s k x l name low high small good =
     let first = site_says s name in
     let second = call_says k low high in
     let third = fill_says x small in
-    let rest = stop_back l good in
+    let rest = action_back l good in
     record {
       reads = rw (first.reads, second.reads, third.reads, rest.reads) refl;
       plain = rw (first.plain, second.plain, third.plain, rest.plain) refl;
@@ -240,7 +240,7 @@ line_back (Line.Heur n o) good = longer _ _ _ (wider _ _ _ (two_back Line.Heur _
 line_back (Line.Crash s) good = longer _ _ _ (wider _ _ _ (one_back Line.Crash _ s 16 (codes "crash") _ refl (omega arith) (omega arith) (site_says s good)))
 line_back (Line.Image s) good = longer _ _ _ (wider _ _ _ (one_back Line.Image _ s 16 (codes "image") _ refl (omega arith) (omega arith) (site_says s good)))
 line_back (Line.CrashIn s k x l) good =
-    let a = two_parts (is_site_name s && nat_le 1 k && nat_le k 99 && is_byte x) (stop_has_text l) good in
+    let a = two_parts (is_site_name s && nat_le 1 k && nat_le k 99 && is_byte x) (action_has_text l) good in
     let b = two_parts (is_site_name s && nat_le 1 k && nat_le k 99) (is_byte x) a.0 in
     let c = two_parts (is_site_name s && nat_le 1 k) (nat_le k 99) b.0 in
     let d = two_parts (is_site_name s) (nat_le 1 k) c.0 in

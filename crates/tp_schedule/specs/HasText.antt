@@ -2,7 +2,7 @@
 use Rattle.std.specs.Prelude.{ℕ, ◌&&◌, Bool, true, Option, Some, None, List, length, nat_le, nat_lt}
 use Rattle.tp_names.specs.Bytes.{all_bytes, is_site_name}
 use Rattle.tp_model.specs.declared.line.LineRequest.{LineRequest}
-use Rattle.tp_model.specs.declared.line.StopLine.{StopLine}
+use Rattle.tp_model.specs.declared.line.Action.{Action}
 use Rattle.tp_model.specs.declared.line.Line.{Line}
 
 -- a node, a frame, a member
@@ -41,15 +41,15 @@ request_has_text LineRequest.Done = true
 request_has_text LineRequest.Rollback = true
 request_has_text LineRequest.Unchanged = true
 
-abbrev pub stop_has_text : StopLine → Bool
-stop_has_text (StopLine.Do n r) = is_number n && request_has_text r
-stop_has_text (StopLine.Pass a b) = is_number a && is_number b
-stop_has_text (StopLine.Again k) = is_number k
-stop_has_text (StopLine.Lose n p) = is_number n && is_number p
-stop_has_text (StopLine.Heur n o) = is_number n
-stop_has_text (StopLine.GiveUp n p) = is_number n && is_number p
-stop_has_text (StopLine.Retry n) = is_number n
-stop_has_text (StopLine.Purge n) = is_number n
+abbrev pub action_has_text : Action → Bool
+action_has_text (Action.Do n r) = is_number n && request_has_text r
+action_has_text (Action.Pass a b) = is_number a && is_number b
+action_has_text (Action.Again k) = is_number k
+action_has_text (Action.Lose n p) = is_number n && is_number p
+action_has_text (Action.Heur n o) = is_number n
+action_has_text (Action.GiveUp n p) = is_number n && is_number p
+action_has_text (Action.Retry n) = is_number n
+action_has_text (Action.Purge n) = is_number n
 
 abbrev pub under_has_text : Option ℕ → Bool
 under_has_text None = true
@@ -68,7 +68,7 @@ line_has_text (Line.GiveUp n p) = is_number n && is_number p
 line_has_text (Line.Retry n) = is_number n
 line_has_text (Line.Purge n) = is_number n
 line_has_text (Line.Crash s) = is_site_name s
-line_has_text (Line.CrashIn s k x l) = is_site_name s && nat_le 1 k && nat_le k 99 && is_byte x && stop_has_text l
+line_has_text (Line.CrashIn s k x l) = is_site_name s && nat_le 1 k && nat_le k 99 && is_byte x && action_has_text l
 line_has_text (Line.Show n) = is_number n
 line_has_text (Line.Image s) = is_site_name s
 line_has_text (Line.Auto n k) = is_number n && is_number k

@@ -3,11 +3,11 @@
 use Rattle.std.specs.Prelude.{ℕ, Option, Some, None, List, [], ◌∷◌, true, false, codes}
 use Rattle.tp_names.specs.Same.{is_name}
 use Rattle.tp_model.specs.declared.line.LineRequest.{LineRequest}
-use Rattle.tp_model.specs.declared.line.StopLine.{StopLine}
+use Rattle.tp_model.specs.declared.line.Action.{Action}
 use Rattle.tp_model.specs.declared.line.Line.{Line}
 use Rattle.tp_model.specs.LineReading.{Form, Wrong, no_words, one_word, two_words, number, units, octets, outcome, site, do_from, node_from, crash_from}
 use Rattle.tp_schedule.specs.declared.schedule_words.LineWord.{LineWord}
-use Rattle.tp_schedule.specs.declared.schedule_words.StopWord.{StopWord}
+use Rattle.tp_schedule.specs.declared.schedule_words.ActionWord.{ActionWord}
 use Rattle.tp_schedule.specs.declared.schedule_words.PeerRequest.{PeerRequest}
 use Rattle.tp_schedule.specs.declared.schedule_words.RequestWord.{RequestWord}
 
@@ -86,37 +86,37 @@ line_reader LineWord.Leave = one_word Line.Leave number
 
 -- ----
 
-abbrev pub stop_word_text : StopWord → List ℕ
-stop_word_text StopWord.Do = codes "do"
-stop_word_text StopWord.Pass = codes "pass"
-stop_word_text StopWord.Again = codes "again"
-stop_word_text StopWord.Lose = codes "lose"
-stop_word_text StopWord.Heur = codes "heur"
-stop_word_text StopWord.GiveUp = codes "giveup"
-stop_word_text StopWord.Retry = codes "retry"
-stop_word_text StopWord.Purge = codes "purge"
+abbrev pub action_word_text : ActionWord → List ℕ
+action_word_text ActionWord.Do = codes "do"
+action_word_text ActionWord.Pass = codes "pass"
+action_word_text ActionWord.Again = codes "again"
+action_word_text ActionWord.Lose = codes "lose"
+action_word_text ActionWord.Heur = codes "heur"
+action_word_text ActionWord.GiveUp = codes "giveup"
+action_word_text ActionWord.Retry = codes "retry"
+action_word_text ActionWord.Purge = codes "purge"
 
-abbrev pub stop_word_list : List StopWord
-stop_word_list =
-    StopWord.Do
-    ∷ StopWord.Pass
-    ∷ StopWord.Again
-    ∷ StopWord.Lose
-    ∷ StopWord.Heur
-    ∷ StopWord.GiveUp
-    ∷ StopWord.Retry
-    ∷ StopWord.Purge
+abbrev pub action_word_list : List ActionWord
+action_word_list =
+    ActionWord.Do
+    ∷ ActionWord.Pass
+    ∷ ActionWord.Again
+    ∷ ActionWord.Lose
+    ∷ ActionWord.Heur
+    ∷ ActionWord.GiveUp
+    ∷ ActionWord.Retry
+    ∷ ActionWord.Purge
     ∷ []
 
-abbrev pub stop_reader : StopWord → List (List ℕ) → Form StopLine
-stop_reader StopWord.Do = do_from StopLine.Do
-stop_reader StopWord.Pass = two_words StopLine.Pass number number
-stop_reader StopWord.Again = one_word StopLine.Again number
-stop_reader StopWord.Lose = two_words StopLine.Lose number number
-stop_reader StopWord.Heur = two_words StopLine.Heur number outcome
-stop_reader StopWord.GiveUp = two_words StopLine.GiveUp number number
-stop_reader StopWord.Retry = one_word StopLine.Retry number
-stop_reader StopWord.Purge = one_word StopLine.Purge number
+abbrev pub action_reader : ActionWord → List (List ℕ) → Form Action
+action_reader ActionWord.Do = do_from Action.Do
+action_reader ActionWord.Pass = two_words Action.Pass number number
+action_reader ActionWord.Again = one_word Action.Again number
+action_reader ActionWord.Lose = two_words Action.Lose number number
+action_reader ActionWord.Heur = two_words Action.Heur number outcome
+action_reader ActionWord.GiveUp = two_words Action.GiveUp number number
+action_reader ActionWord.Retry = one_word Action.Retry number
+action_reader ActionWord.Purge = one_word Action.Purge number
 
 -- ----
 

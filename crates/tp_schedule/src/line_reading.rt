@@ -1,22 +1,22 @@
 //! Reading a line of a schedule.
 ghost use Rattle.std.specs.Prelude.{◌≡◌, ◌∷◌, length, IfSome};
-ghost use Rattle.tp_model.specs.LineReading.{words_in, number, outcome, two_words, one_word, do_from, node_from, node_under, crash_from, crash_in, read_by, request_readers, stop_readers, line_readers, is_comment, read_line};
+ghost use Rattle.tp_model.specs.LineReading.{words_in, number, outcome, two_words, one_word, do_from, node_from, node_under, crash_from, crash_in, read_by, request_readers, action_readers, line_readers, is_comment, read_line};
 ghost use Rattle.tp_schedule.specs.Answers.{read_as, Reads, pair, same, answered};
-ghost use Rattle.tp_schedule.specs.Keywords.{request_of_peer, request_reader, stop_reader, line_reader};
+ghost use Rattle.tp_schedule.specs.Keywords.{request_of_peer, request_reader, action_reader, line_reader};
 ghost use Rattle.tp_schedule.specs.declared.schedule_words.LineWord.{LineWord};
 ghost use Rattle.tp_schedule.specs.declared.schedule_words.RequestWord.{RequestWord};
 
 use crate::LineFault;
 use crate::cutting::{if_no_word, next_word, only_pair, only_word};
 use crate::schedule_words::{
-    LineWord, PeerRequest, RequestWord, StopWord, line_word, request_word, stop_word,
+    ActionWord, LineWord, PeerRequest, RequestWord, action_word, line_word, request_word,
 };
 use crate::value::{
     both, is_word, one_number, read_call, read_fill, read_number, read_octets, read_outcome,
     read_site, read_units,
 };
 use std::alloc::Global;
-use tp_model::{Line, LineRequest, StopLine};
+use tp_model::{Action, Line, LineRequest};
 use tp_names::Outcome;
 
 /// The most bytes that a line may have, without its end.
@@ -110,49 +110,49 @@ fn read_line_of(alloc: Global, kind: LineWord, rest: &[u8]) -> Result<Line, Line
     }
 }
 
-fn read_stop(alloc: Global, bytes: &[u8]) -> Result<StopLine, LineFault>
-    ensures { Reads (read_by stop_readers (words_in bytes.now)) result }
+fn read_action(alloc: Global, bytes: &[u8]) -> Result<Action, LineFault>
+    ensures { Reads (read_by action_readers (words_in bytes.now)) result }
 {
     let Some((word, rest)) = next_word(bytes) else {
         return Err(LineFault::Word);
     };
-    match stop_word(word) {
+    match action_word(word) {
         None => Err(LineFault::Word),
-        Some(kind) => read_stop_of(alloc, kind, rest),
+        Some(kind) => read_action_of(alloc, kind, rest),
     }
 }
 
-fn read_stop_of(alloc: Global, kind: StopWord, rest: &[u8]) -> Result<StopLine, LineFault>
-    ensures { Reads (stop_reader kind (words_in rest.now)) result }
+fn read_action_of(alloc: Global, kind: ActionWord, rest: &[u8]) -> Result<Action, LineFault>
+    ensures { Reads (action_reader kind (words_in rest.now)) result }
 {
     match kind {
-        StopWord::Do => {
+        ActionWord::Do => {
             let (node, request) = read_do(alloc, rest)?;
-            Ok(StopLine::Do { node, request })
+            Ok(Action::Do { node, request })
         }
-        StopWord::Pass => {
+        ActionWord::Pass => {
             let (from, to) = two_numbers(rest)?;
-            Ok(StopLine::Pass { from, to })
+            Ok(Action::Pass { from, to })
         }
-        StopWord::Again => Ok(StopLine::Again {
+        ActionWord::Again => Ok(Action::Again {
             frame: one_number(rest)?,
         }),
-        StopWord::Lose => {
+        ActionWord::Lose => {
             let (node, peer) = two_numbers(rest)?;
-            Ok(StopLine::Lose { node, peer })
+            Ok(Action::Lose { node, peer })
         }
-        StopWord::Heur => {
+        ActionWord::Heur => {
             let (node, outcome) = number_and_outcome(rest)?;
-            Ok(StopLine::Heur { node, outcome })
+            Ok(Action::Heur { node, outcome })
         }
-        StopWord::GiveUp => {
+        ActionWord::GiveUp => {
             let (node, peer) = two_numbers(rest)?;
-            Ok(StopLine::GiveUp { node, peer })
+            Ok(Action::GiveUp { node, peer })
         }
-        StopWord::Retry => Ok(StopLine::Retry {
+        ActionWord::Retry => Ok(Action::Retry {
             node: one_number(rest)?,
         }),
-        StopWord::Purge => Ok(StopLine::Purge {
+        ActionWord::Purge => Ok(Action::Purge {
             node: one_number(rest)?,
         }),
     }
@@ -353,12 +353,12 @@ fn read_crash_in(
     ensures { Reads (crash_in site.now call.now octet.now (words_in rest.now)) result }
 {
     let place = both(read_site(site), read_call(call));
-    let line = read_stop(alloc, rest);
-    let (((site, at), fill), line) = both(both(place, read_fill(octet)), line)?;
+    let action = read_action(alloc, rest);
+    let (((site, at), fill), action) = both(both(place, read_fill(octet)), action)?;
     Ok(Line::CrashIn {
         site,
         at,
         fill,
-        line,
+        action,
     })
 }

@@ -2,11 +2,11 @@
 ghost use Rattle.std.specs.Prelude.{◌≡◌, ◌++◌, OnErr, OnOk};
 ghost use Rattle.tp_names.specs.Writing.{Keeps};
 ghost use Rattle.tp_model.specs.Words.{words};
-ghost use Rattle.tp_model.specs.LineText.{request_words, stop_words, line_words, line_text};
+ghost use Rattle.tp_model.specs.LineText.{request_words, action_words, line_words, line_text};
 
 use crate::word::{Word, write_alone, write_one, write_two, write_words};
 use std::alloc::Global;
-use tp_model::{Line, LineRequest, StopLine};
+use tp_model::{Action, Line, LineRequest};
 use tp_names::{NoMemory, Octets, Outcome, SiteName};
 
 /// Puts the line's text at the end of `out`, without an end. Without memory `out` stays as it was.
@@ -43,8 +43,8 @@ fn append_line(alloc: Global, l: &Line, out: &mut Octets) -> Result<(), NoMemory
             site,
             at,
             fill,
-            line,
-        } => append_crash_in(alloc, site, *at, *fill, line, out),
+            action,
+        } => append_crash_in(alloc, site, *at, *fill, action, out),
         Line::Show { node } => write_one(alloc, "show", *node, out),
         Line::Image { site } => write_words(alloc, &[Word::Text("image"), Word::Site(site)], out),
         Line::Auto { node, member } => write_two(alloc, "auto", *node, *member, out),
@@ -52,19 +52,19 @@ fn append_line(alloc: Global, l: &Line, out: &mut Octets) -> Result<(), NoMemory
     }
 }
 
-fn append_stop(alloc: Global, l: &StopLine, out: &mut Octets) -> Result<(), NoMemory>
-    ensures ok { OnOk result (out.new ≡ out.old ++ words (stop_words l.now)) }
+fn append_action(alloc: Global, action: &Action, out: &mut Octets) -> Result<(), NoMemory>
+    ensures ok { OnOk result (out.new ≡ out.old ++ words (action_words action.now)) }
     ensures err { OnErr result (Keeps out.old out.new) }
 {
-    match l {
-        StopLine::Do { node, request } => append_do(alloc, *node, request, out),
-        StopLine::Pass { from, to } => write_two(alloc, "pass", *from, *to, out),
-        StopLine::Again { frame } => write_one(alloc, "again", *frame, out),
-        StopLine::Lose { node, peer } => write_two(alloc, "lose", *node, *peer, out),
-        StopLine::Heur { node, outcome } => append_heur(alloc, *node, *outcome, out),
-        StopLine::GiveUp { node, peer } => write_two(alloc, "giveup", *node, *peer, out),
-        StopLine::Retry { node } => write_one(alloc, "retry", *node, out),
-        StopLine::Purge { node } => write_one(alloc, "purge", *node, out),
+    match action {
+        Action::Do { node, request } => append_do(alloc, *node, request, out),
+        Action::Pass { from, to } => write_two(alloc, "pass", *from, *to, out),
+        Action::Again { frame } => write_one(alloc, "again", *frame, out),
+        Action::Lose { node, peer } => write_two(alloc, "lose", *node, *peer, out),
+        Action::Heur { node, outcome } => append_heur(alloc, *node, *outcome, out),
+        Action::GiveUp { node, peer } => write_two(alloc, "giveup", *node, *peer, out),
+        Action::Retry { node } => write_one(alloc, "retry", *node, out),
+        Action::Purge { node } => write_one(alloc, "purge", *node, out),
     }
 }
 
@@ -118,7 +118,7 @@ fn append_do(
     request: &LineRequest,
     out: &mut Octets,
 ) -> Result<(), NoMemory>
-    ensures ok { OnOk result (out.new ≡ out.old ++ words (stop_words (StopLine.Do node request.now))) }
+    ensures ok { OnOk result (out.new ≡ out.old ++ words (action_words (Action.Do node request.now))) }
     ensures err { OnErr result (Keeps out.old out.new) }
 {
     write_one(alloc, "do", node, out)?;
@@ -128,7 +128,7 @@ fn append_do(
 }
 
 fn append_heur(alloc: Global, node: u16, outcome: Outcome, out: &mut Octets) -> Result<(), NoMemory>
-    ensures ok { OnOk result (out.new ≡ out.old ++ words (stop_words (StopLine.Heur node outcome))) }
+    ensures ok { OnOk result (out.new ≡ out.old ++ words (action_words (Action.Heur node outcome))) }
     ensures err { OnErr result (Keeps out.old out.new) }
 {
     let words = [
@@ -164,10 +164,10 @@ fn append_crash_in(
     site: &SiteName,
     at: u8,
     fill: u8,
-    line: &StopLine,
+    action: &Action,
     out: &mut Octets,
 ) -> Result<(), NoMemory>
-    ensures ok { OnOk result (out.new ≡ out.old ++ words (line_words (Line.CrashIn site.now at fill line.now))) }
+    ensures ok { OnOk result (out.new ≡ out.old ++ words (line_words (Line.CrashIn site.now at fill action.now))) }
     ensures err { OnErr result (Keeps out.old out.new) }
 {
     let words = [
@@ -181,6 +181,6 @@ fn append_crash_in(
     ];
     write_words(alloc, &words, out)?;
     out.push(alloc, b' ')?;
-    append_stop(alloc, line, out)?;
+    append_action(alloc, action, out)?;
     Ok(())
 }

@@ -1,6 +1,6 @@
 //! The first words of lines and of requests, each once.
 ghost use Rattle.std.specs.Prelude.{◌≡◌, codes};
-ghost use Rattle.tp_schedule.specs.Keywords.{named, line_word_text, stop_word_text, request_word_text, line_word_list, stop_word_list, request_word_list};
+ghost use Rattle.tp_schedule.specs.Keywords.{named, line_word_text, action_word_text, request_word_text, line_word_list, action_word_list, request_word_list};
 
 use crate::keyword::find;
 
@@ -27,7 +27,7 @@ pub(crate) enum LineWord {
 
 /// What a line begins with that may stand after `in`.
 #[derive(Clone, Copy)]
-pub(crate) enum StopWord {
+pub(crate) enum ActionWord {
     Do,
     Pass,
     Again,
@@ -89,15 +89,15 @@ const LINE_WORDS: [(&str, LineWord); 16] = [
     ("leave", LineWord::Leave),
 ];
 
-const STOP_WORDS: [(&str, StopWord); 8] = [
-    ("do", StopWord::Do),
-    ("pass", StopWord::Pass),
-    ("again", StopWord::Again),
-    ("lose", StopWord::Lose),
-    ("heur", StopWord::Heur),
-    ("giveup", StopWord::GiveUp),
-    ("retry", StopWord::Retry),
-    ("purge", StopWord::Purge),
+const STOP_WORDS: [(&str, ActionWord); 8] = [
+    ("do", ActionWord::Do),
+    ("pass", ActionWord::Pass),
+    ("again", ActionWord::Again),
+    ("lose", ActionWord::Lose),
+    ("heur", ActionWord::Heur),
+    ("giveup", ActionWord::GiveUp),
+    ("retry", ActionWord::Retry),
+    ("purge", ActionWord::Purge),
 ];
 
 const REQUEST_WORDS: [(&str, RequestWord); 20] = [
@@ -146,8 +146,8 @@ pub(crate) fn line_word(word: &[u8]) -> Option<LineWord>
 }
 
 /// The line after `in` that the word begins.
-pub(crate) fn stop_word(word: &[u8]) -> Option<StopWord>
-    ensures { result ≡ named stop_word_text stop_word_list word.now }
+pub(crate) fn action_word(word: &[u8]) -> Option<ActionWord>
+    ensures { result ≡ named action_word_text action_word_list word.now }
 {
     find(&STOP_WORDS, word)
 }

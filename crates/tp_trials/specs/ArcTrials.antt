@@ -7,6 +7,7 @@ use Rattle.tp_records.specs.declared.dialogue.DialogueRecord.{DialogueRecord}
 use Rattle.tp_records.specs.declared.peer.PeerRecord.{PeerRecord}
 use Rattle.tp_logrec.specs.declared.record.LogRec.{LogRec}
 use Rattle.tp_logrec.specs.declared.record.LogVersion.{LogVersion}
+use Rattle.tp_model.specs.declared.line.Action.{Action}
 use Rattle.tp_model.specs.declared.line.LineRequest.{LineRequest}
 use Rattle.tp_model.specs.declared.transaction.TxEvent.{TxEvent}
 use Rattle.tp_model.specs.Parts.{Origin, Event, Idle, Opening, Offered, Live, Arc, Current}
@@ -17,7 +18,7 @@ use Rattle.tp_model.specs.AmongArcs.{is_peer}
 use Rattle.tp_model.specs.Events.{action}
 use Rattle.tp_model.specs.History.{digest, refuse}
 use Rattle.tp_model.specs.World.{Node}
-use Rattle.tp_model.specs.Happenings.{Happening, Does, Ask, Deliver}
+use Rattle.tp_model.specs.Happenings.{Happening, Does}
 use Rattle.tp_steps.specs.Puts.{Put, put_by}
 use Rattle.tp_trials.specs.Trials.{begun, tree, branch}
 
@@ -25,23 +26,23 @@ use Rattle.tp_trials.specs.Trials.{begun, tree, branch}
 
 -- the root defers the end of its dialogue with the branch, which takes it
 abbrev pub ending : List Happening
-ending = begun ++ (Does (Ask 1 (LineRequest.DeferEnd 2)) ∷ Does (Deliver 4) ∷ [])
+ending = begun ++ (Does (Action.Do 1 (LineRequest.DeferEnd 2)) ∷ Does (Action.Again 4) ∷ [])
 
 -- and then rolls back; the branch has not heard of it
 abbrev pub forgetting : List Happening
-forgetting = ending ++ (Does (Ask 1 LineRequest.Rollback) ∷ [])
+forgetting = ending ++ (Does (Action.Do 1 LineRequest.Rollback) ∷ [])
 
 -- or commits; the branch is done, and the root's user is not
 abbrev pub owing : List Happening
 owing =
     ending
-    ++ (Does (Ask 1 LineRequest.Commit)
-    ∷ Does (Deliver 5)
-    ∷ Does (Ask 2 LineRequest.Commit)
-    ∷ Does (Deliver 6)
-    ∷ Does (Deliver 7)
-    ∷ Does (Ask 2 LineRequest.Done)
-    ∷ Does (Deliver 8)
+    ++ (Does (Action.Do 1 LineRequest.Commit)
+    ∷ Does (Action.Again 5)
+    ∷ Does (Action.Do 2 LineRequest.Commit)
+    ∷ Does (Action.Again 6)
+    ∷ Does (Action.Again 7)
+    ∷ Does (Action.Do 2 LineRequest.Done)
+    ∷ Does (Action.Again 8)
     ∷ [])
 
 -- ---- what is asked of them

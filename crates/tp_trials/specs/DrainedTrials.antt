@@ -4,6 +4,7 @@ use Rattle.tp_names.specs.declared.identifiers.Aaid.{Aaid}
 use Rattle.tp_names.specs.Same.{is_aaid, is_mark, is_addr}
 use Rattle.tp_records.specs.declared.dialogue.DialogueRecord.{DialogueRecord}
 use Rattle.tp_records.specs.declared.peer.PeerRecord.{PeerRecord}
+use Rattle.tp_model.specs.declared.line.Action.{Action}
 use Rattle.tp_model.specs.declared.line.LineRequest.{LineRequest}
 use Rattle.tp_model.specs.Parts.{Event, Entry}
 use Rattle.tp_model.specs.Dialogues.{is_active, is_committing}
@@ -14,7 +15,7 @@ use Rattle.tp_model.specs.Outcomes.{is_now, is_member, decided, rolled, has_left
 use Rattle.tp_model.specs.declared.out_line.OutLine.{OutLine}
 use Rattle.tp_model.specs.Trees.{members_of, closing_line}
 use Rattle.tp_model.specs.World.{World, Node, Frame, find_node}
-use Rattle.tp_model.specs.Happenings.{Happening, Declare, Does, Ask, Deliver, run}
+use Rattle.tp_model.specs.Happenings.{Happening, Declare, Does, run}
 use Rattle.tp_model.specs.Promises.{has_told_in}
 use Rattle.tp_histories.specs.Traces.{sent_on, taken_on}
 use Rattle.tp_steps.specs.Facts.{is_order}
@@ -33,64 +34,64 @@ ordering =
     ∷ Declare 2 (codes "b") (Some 1)
     ∷ Declare 3 (codes "c") (Some 1)
     ∷ Declare 4 (codes "d") (Some 2)
-    ∷ Does (Ask 1 (LineRequest.BeginDialogue 2 41))
-    ∷ Does (Deliver 1)
-    ∷ Does (Ask 2 (LineRequest.Accept 41))
-    ∷ Does (Deliver 2)
-    ∷ Does (Ask 1 (LineRequest.BeginDialogue 3 41))
-    ∷ Does (Deliver 3)
-    ∷ Does (Ask 3 (LineRequest.Accept 41))
-    ∷ Does (Deliver 4)
-    ∷ Does (Ask 2 (LineRequest.BeginDialogue 4 41))
-    ∷ Does (Deliver 5)
-    ∷ Does (Ask 4 (LineRequest.Accept 41))
-    ∷ Does (Deliver 6)
-    ∷ Does (Ask 1 (LineRequest.BeginTransaction 2))
-    ∷ Does (Deliver 7)
-    ∷ Does (Ask 1 (LineRequest.BeginTransaction 3))
-    ∷ Does (Deliver 8)
-    ∷ Does (Ask 2 (LineRequest.BeginTransaction 4))
-    ∷ Does (Deliver 9)
-    ∷ Does (Ask 1 LineRequest.Commit)
-    ∷ Does (Deliver 10)
-    ∷ Does (Deliver 11)
-    ∷ Does (Ask 2 LineRequest.Commit)
-    ∷ Does (Deliver 12)
-    ∷ Does (Ask 3 LineRequest.Unchanged)
-    ∷ Does (Deliver 13)
-    ∷ Does (Ask 4 LineRequest.Commit)
-    ∷ Does (Deliver 14)
-    ∷ Does (Deliver 15)
-    ∷ Does (Deliver 16)
+    ∷ Does (Action.Do 1 (LineRequest.BeginDialogue 2 41))
+    ∷ Does (Action.Again 1)
+    ∷ Does (Action.Do 2 (LineRequest.Accept 41))
+    ∷ Does (Action.Again 2)
+    ∷ Does (Action.Do 1 (LineRequest.BeginDialogue 3 41))
+    ∷ Does (Action.Again 3)
+    ∷ Does (Action.Do 3 (LineRequest.Accept 41))
+    ∷ Does (Action.Again 4)
+    ∷ Does (Action.Do 2 (LineRequest.BeginDialogue 4 41))
+    ∷ Does (Action.Again 5)
+    ∷ Does (Action.Do 4 (LineRequest.Accept 41))
+    ∷ Does (Action.Again 6)
+    ∷ Does (Action.Do 1 (LineRequest.BeginTransaction 2))
+    ∷ Does (Action.Again 7)
+    ∷ Does (Action.Do 1 (LineRequest.BeginTransaction 3))
+    ∷ Does (Action.Again 8)
+    ∷ Does (Action.Do 2 (LineRequest.BeginTransaction 4))
+    ∷ Does (Action.Again 9)
+    ∷ Does (Action.Do 1 LineRequest.Commit)
+    ∷ Does (Action.Again 10)
+    ∷ Does (Action.Again 11)
+    ∷ Does (Action.Do 2 LineRequest.Commit)
+    ∷ Does (Action.Again 12)
+    ∷ Does (Action.Do 3 LineRequest.Unchanged)
+    ∷ Does (Action.Again 13)
+    ∷ Does (Action.Do 4 LineRequest.Commit)
+    ∷ Does (Action.Again 14)
+    ∷ Does (Action.Again 15)
+    ∷ Does (Action.Again 16)
     ∷ []
 
 -- each frame is taken, and the users are done
 abbrev pub drained : List Happening
 drained =
     ordering
-    ++ (Does (Deliver 17)
-    ∷ Does (Ask 4 LineRequest.Done)
-    ∷ Does (Deliver 18)
-    ∷ Does (Ask 2 LineRequest.Done)
-    ∷ Does (Deliver 19)
-    ∷ Does (Ask 1 LineRequest.Done)
+    ++ (Does (Action.Again 17)
+    ∷ Does (Action.Do 4 LineRequest.Done)
+    ∷ Does (Action.Again 18)
+    ∷ Does (Action.Do 2 LineRequest.Done)
+    ∷ Does (Action.Again 19)
+    ∷ Does (Action.Do 1 LineRequest.Done)
     ∷ [])
 
 -- the users above are done, and the last order is not taken
 abbrev pub waiting : List Happening
-waiting = ordering ++ (Does (Ask 2 LineRequest.Done)
-    ∷ Does (Ask 1 LineRequest.Done)
+waiting = ordering ++ (Does (Action.Do 2 LineRequest.Done)
+    ∷ Does (Action.Do 1 LineRequest.Done)
     ∷ [])
 
 -- the user of the root is not done
 abbrev pub finishing : List Happening
 finishing =
     ordering
-    ++ (Does (Deliver 17)
-    ∷ Does (Ask 4 LineRequest.Done)
-    ∷ Does (Deliver 18)
-    ∷ Does (Ask 2 LineRequest.Done)
-    ∷ Does (Deliver 19)
+    ++ (Does (Action.Again 17)
+    ∷ Does (Action.Do 4 LineRequest.Done)
+    ∷ Does (Action.Again 18)
+    ∷ Does (Action.Do 2 LineRequest.Done)
+    ∷ Does (Action.Again 19)
     ∷ [])
 
 -- ---- what is asked of them

@@ -6,12 +6,13 @@ use Rattle.tp_names.specs.declared.identifiers.Mark.{Mark}
 use Rattle.tp_names.specs.declared.identifiers.BranchId.{BranchId}
 use Rattle.tp_names.specs.declared.outcome.Outcome.{Outcome}
 use Rattle.tp_records.specs.declared.dialogue.DialogueRecord.{DialogueRecord}
+use Rattle.tp_model.specs.declared.line.Action.{Action}
 use Rattle.tp_model.specs.declared.line.LineRequest.{LineRequest}
 use Rattle.tp_model.specs.Arcs.{is_live_with_peer}
 use Rattle.tp_model.specs.History.{digest}
 use Rattle.tp_model.specs.Outcomes.{is_member, completed_none, decided, rolled, decision, has_left, told}
 use Rattle.tp_model.specs.World.{Node, find_node, addr_of}
-use Rattle.tp_model.specs.Happenings.{Happening, Declare, Does, Crash, Ask, Deliver, Decide, Retry, run}
+use Rattle.tp_model.specs.Happenings.{Happening, Declare, Does, Crash, run}
 use Rattle.tp_model.specs.Promises.{is_counted, has_begun, is_of_tree, is_ready_of, has_logged, holds_at, has_told_in, completes, has_sent_done_none, is_root}
 use Rattle.tp_steps.specs.Facts.{is_order, is_vote, is_end}
 use Rattle.tp_histories.specs.Traces.{sent_on, taken_on}
@@ -26,80 +27,80 @@ abbrev pub begun : List Happening
 begun =
     Declare 1 (codes "a") None
     ∷ Declare 2 (codes "b") (Some 1)
-    ∷ Does (Ask 1 (LineRequest.BeginDialogue 2 41))
-    ∷ Does (Deliver 1)
-    ∷ Does (Ask 2 (LineRequest.Accept 41))
-    ∷ Does (Deliver 2)
-    ∷ Does (Ask 1 (LineRequest.BeginTransaction 2))
-    ∷ Does (Deliver 3)
+    ∷ Does (Action.Do 1 (LineRequest.BeginDialogue 2 41))
+    ∷ Does (Action.Again 1)
+    ∷ Does (Action.Do 2 (LineRequest.Accept 41))
+    ∷ Does (Action.Again 2)
+    ∷ Does (Action.Do 1 (LineRequest.BeginTransaction 2))
+    ∷ Does (Action.Again 3)
     ∷ []
 
 -- both asked for commitment, and the branch is ready
 abbrev pub readied : List Happening
-readied = begun ++ (Does (Ask 1 LineRequest.Commit) ∷ Does (Deliver 4) ∷ Does (Ask 2 LineRequest.Commit) ∷ [])
+readied = begun ++ (Does (Action.Do 1 LineRequest.Commit) ∷ Does (Action.Again 4) ∷ Does (Action.Do 2 LineRequest.Commit) ∷ [])
 
 abbrev pub committed : List Happening
-committed = readied ++ (Does (Deliver 5) ∷ Does (Deliver 6) ∷ [])
+committed = readied ++ (Does (Action.Again 5) ∷ Does (Action.Again 6) ∷ [])
 
 -- the branch decided to commit by itself, and its superior rolls
 abbrev pub damaged : List Happening
-damaged = readied ++ (Does (Decide 2 Outcome.Commit) ∷ Does (Ask 1 LineRequest.Rollback) ∷ Does (Deliver 6) ∷ [])
+damaged = readied ++ (Does (Action.Heur 2 Outcome.Commit) ∷ Does (Action.Do 1 LineRequest.Rollback) ∷ Does (Action.Again 6) ∷ [])
 
 -- the branch's site stops when it is ready; the order comes as a reply
 abbrev pub recovered : List Happening
-recovered = readied ++ (Crash (codes "b") ∷ Does (Deliver 5) ∷ Does (Retry 2) ∷ Does (Deliver 7) ∷ Does (Deliver 8) ∷ [])
+recovered = readied ++ (Crash (codes "b") ∷ Does (Action.Again 5) ∷ Does (Action.Retry 2) ∷ Does (Action.Again 7) ∷ Does (Action.Again 8) ∷ [])
 
 abbrev pub rolled_back : List Happening
-rolled_back = readied ++ (Does (Ask 1 LineRequest.Rollback) ∷ Does (Deliver 6) ∷ [])
+rolled_back = readied ++ (Does (Action.Do 1 LineRequest.Rollback) ∷ Does (Action.Again 6) ∷ [])
 
 -- the branch decided to roll back by itself
 abbrev pub mixed : List Happening
-mixed = readied ++ (Does (Decide 2 Outcome.Rollback) ∷ Does (Deliver 5) ∷ Does (Deliver 6) ∷ [])
+mixed = readied ++ (Does (Action.Heur 2 Outcome.Rollback) ∷ Does (Action.Again 5) ∷ Does (Action.Again 6) ∷ [])
 
 -- the branch changed nothing
 abbrev pub departed : List Happening
-departed = begun ++ (Does (Ask 1 LineRequest.Commit) ∷ Does (Deliver 4) ∷ Does (Ask 2 LineRequest.Unchanged) ∷ [])
+departed = begun ++ (Does (Action.Do 1 LineRequest.Commit) ∷ Does (Action.Again 4) ∷ Does (Action.Do 2 LineRequest.Unchanged) ∷ [])
 
 -- a polarized dialogue, in a transaction that the superior end holds control of at first
 abbrev pub polarized : List Happening
 polarized =
     Declare 1 (codes "a") None
     ∷ Declare 2 (codes "b") (Some 1)
-    ∷ Does (Ask 1 (LineRequest.BeginDialogue 2 42))
-    ∷ Does (Deliver 1)
-    ∷ Does (Ask 2 (LineRequest.Accept 42))
-    ∷ Does (Deliver 2)
-    ∷ Does (Ask 1 (LineRequest.BeginTransaction 2))
-    ∷ Does (Deliver 3)
+    ∷ Does (Action.Do 1 (LineRequest.BeginDialogue 2 42))
+    ∷ Does (Action.Again 1)
+    ∷ Does (Action.Do 2 (LineRequest.Accept 42))
+    ∷ Does (Action.Again 2)
+    ∷ Does (Action.Do 1 (LineRequest.BeginTransaction 2))
+    ∷ Does (Action.Again 3)
     ∷ []
 
 abbrev pub granting : List Happening
-granting = polarized ++ (Does (Ask 1 (LineRequest.Grant 2)) ∷ [])
+granting = polarized ++ (Does (Action.Do 1 (LineRequest.Grant 2)) ∷ [])
 
 abbrev pub granted : List Happening
-granted = granting ++ (Does (Deliver 4) ∷ [])
+granted = granting ++ (Does (Action.Again 4) ∷ [])
 
 -- the branch grants it back
 abbrev pub handed_back : List Happening
-handed_back = granted ++ (Does (Ask 2 (LineRequest.Grant 1)) ∷ Does (Deliver 5) ∷ [])
+handed_back = granted ++ (Does (Action.Do 2 (LineRequest.Grant 1)) ∷ Does (Action.Again 5) ∷ [])
 
 -- the transaction is over at both ends
 abbrev pub regained : List Happening
 regained =
     granted
-    ++ (Does (Ask 1 LineRequest.Commit)
-    ∷ Does (Deliver 5)
-    ∷ Does (Ask 2 LineRequest.Commit)
-    ∷ Does (Deliver 6)
-    ∷ Does (Deliver 7)
-    ∷ Does (Ask 2 LineRequest.Done)
-    ∷ Does (Deliver 8)
-    ∷ Does (Ask 1 LineRequest.Done)
+    ++ (Does (Action.Do 1 LineRequest.Commit)
+    ∷ Does (Action.Again 5)
+    ∷ Does (Action.Do 2 LineRequest.Commit)
+    ∷ Does (Action.Again 6)
+    ∷ Does (Action.Again 7)
+    ∷ Does (Action.Do 2 LineRequest.Done)
+    ∷ Does (Action.Again 8)
+    ∷ Does (Action.Do 1 LineRequest.Done)
     ∷ [])
 
 -- the root rolls; its branch, which stopped before it heard so, asks and is told that it knows of nothing
 abbrev pub told_unknown : List Happening
-told_unknown = readied ++ (Does (Ask 1 LineRequest.Rollback) ∷ Crash (codes "b") ∷ Does (Retry 2) ∷ Does (Deliver 7) ∷ Does (Deliver 8) ∷ [])
+told_unknown = readied ++ (Does (Action.Do 1 LineRequest.Rollback) ∷ Crash (codes "b") ∷ Does (Action.Retry 2) ∷ Does (Action.Again 7) ∷ Does (Action.Again 8) ∷ [])
 
 -- three nodes, each below the one before, in a transaction whose second node is told to prepare
 abbrev pub deep : List Happening
@@ -107,97 +108,97 @@ deep =
     Declare 1 (codes "a") None
     ∷ Declare 2 (codes "b") (Some 1)
     ∷ Declare 3 (codes "c") (Some 2)
-    ∷ Does (Ask 2 (LineRequest.BeginDialogue 3 41))
-    ∷ Does (Deliver 1)
-    ∷ Does (Ask 3 (LineRequest.Accept 41))
-    ∷ Does (Deliver 2)
-    ∷ Does (Ask 1 (LineRequest.BeginDialogue 2 41))
-    ∷ Does (Deliver 3)
-    ∷ Does (Ask 2 (LineRequest.Accept 41))
-    ∷ Does (Deliver 4)
-    ∷ Does (Ask 1 (LineRequest.BeginTransaction 2))
-    ∷ Does (Deliver 5)
-    ∷ Does (Ask 2 (LineRequest.BeginTransaction 3))
-    ∷ Does (Deliver 6)
-    ∷ Does (Ask 1 LineRequest.Commit)
-    ∷ Does (Deliver 7)
+    ∷ Does (Action.Do 2 (LineRequest.BeginDialogue 3 41))
+    ∷ Does (Action.Again 1)
+    ∷ Does (Action.Do 3 (LineRequest.Accept 41))
+    ∷ Does (Action.Again 2)
+    ∷ Does (Action.Do 1 (LineRequest.BeginDialogue 2 41))
+    ∷ Does (Action.Again 3)
+    ∷ Does (Action.Do 2 (LineRequest.Accept 41))
+    ∷ Does (Action.Again 4)
+    ∷ Does (Action.Do 1 (LineRequest.BeginTransaction 2))
+    ∷ Does (Action.Again 5)
+    ∷ Does (Action.Do 2 (LineRequest.BeginTransaction 3))
+    ∷ Does (Action.Again 6)
+    ∷ Does (Action.Do 1 LineRequest.Commit)
+    ∷ Does (Action.Again 7)
     ∷ []
 
 -- the last leaves, and then the second
 abbrev pub deep_departed : List Happening
-deep_departed = deep ++ (Does (Ask 2 (LineRequest.Prepare 3)) ∷ Does (Deliver 8) ∷ Does (Ask 3 LineRequest.Unchanged) ∷ Does (Deliver 9) ∷ Does (Ask 2 LineRequest.Unchanged) ∷ [])
+deep_departed = deep ++ (Does (Action.Do 2 (LineRequest.Prepare 3)) ∷ Does (Action.Again 8) ∷ Does (Action.Do 3 LineRequest.Unchanged) ∷ Does (Action.Again 9) ∷ Does (Action.Do 2 LineRequest.Unchanged) ∷ [])
 
 -- the last is ready, and then the second
 abbrev pub deep_readied : List Happening
-deep_readied = deep ++ (Does (Ask 2 LineRequest.Commit) ∷ Does (Deliver 8) ∷ Does (Ask 3 LineRequest.Commit) ∷ Does (Deliver 9) ∷ [])
+deep_readied = deep ++ (Does (Action.Do 2 LineRequest.Commit) ∷ Does (Action.Again 8) ∷ Does (Action.Do 3 LineRequest.Commit) ∷ Does (Action.Again 9) ∷ [])
 
 -- the last is ready, and the second counts it, before it is asked for commitment itself
 abbrev pub deep_counted : List Happening
-deep_counted = deep ++ (Does (Ask 2 (LineRequest.Prepare 3)) ∷ Does (Deliver 8) ∷ Does (Ask 3 LineRequest.Commit) ∷ Does (Deliver 9) ∷ [])
+deep_counted = deep ++ (Does (Action.Do 2 (LineRequest.Prepare 3)) ∷ Does (Action.Again 8) ∷ Does (Action.Do 3 LineRequest.Commit) ∷ Does (Action.Again 9) ∷ [])
 
 -- each commits and is done, from the last up to the root
 abbrev pub deep_completed : List Happening
 deep_completed =
     deep_readied
-    ++ (Does (Deliver 10)
-    ∷ Does (Deliver 11)
-    ∷ Does (Deliver 12)
-    ∷ Does (Ask 3 LineRequest.Done)
-    ∷ Does (Deliver 13)
-    ∷ Does (Ask 2 LineRequest.Done)
-    ∷ Does (Deliver 14)
-    ∷ Does (Ask 1 LineRequest.Done)
+    ++ (Does (Action.Again 10)
+    ∷ Does (Action.Again 11)
+    ∷ Does (Action.Again 12)
+    ∷ Does (Action.Do 3 LineRequest.Done)
+    ∷ Does (Action.Again 13)
+    ∷ Does (Action.Do 2 LineRequest.Done)
+    ∷ Does (Action.Again 14)
+    ∷ Does (Action.Do 1 LineRequest.Done)
     ∷ [])
 
 -- the same, but the last decided to roll back by itself; its superior tells it to forget, and reports it
 abbrev pub deep_reported : List Happening
 deep_reported =
     deep_readied
-    ++ (Does (Decide 3 Outcome.Rollback)
-    ∷ Does (Deliver 10)
-    ∷ Does (Deliver 11)
-    ∷ Does (Deliver 12)
-    ∷ Does (Ask 3 LineRequest.Done)
-    ∷ Does (Deliver 13)
-    ∷ Does (Ask 2 LineRequest.Done)
-    ∷ Does (Deliver 15)
-    ∷ Does (Ask 1 LineRequest.Done)
+    ++ (Does (Action.Heur 3 Outcome.Rollback)
+    ∷ Does (Action.Again 10)
+    ∷ Does (Action.Again 11)
+    ∷ Does (Action.Again 12)
+    ∷ Does (Action.Do 3 LineRequest.Done)
+    ∷ Does (Action.Again 13)
+    ∷ Does (Action.Do 2 LineRequest.Done)
+    ∷ Does (Action.Again 15)
+    ∷ Does (Action.Do 1 LineRequest.Done)
     ∷ [])
 
 -- the second and the last are done, and the root's user is not yet
 abbrev pub deep_done : List Happening
-deep_done = deep_readied ++ (Does (Deliver 10) ∷ Does (Deliver 11) ∷ Does (Deliver 12) ∷ Does (Ask 3 LineRequest.Done) ∷ Does (Deliver 13) ∷ Does (Ask 2 LineRequest.Done) ∷ [])
+deep_done = deep_readied ++ (Does (Action.Again 10) ∷ Does (Action.Again 11) ∷ Does (Action.Again 12) ∷ Does (Action.Do 3 LineRequest.Done) ∷ Does (Action.Again 13) ∷ Does (Action.Do 2 LineRequest.Done) ∷ [])
 
 -- the last stops when it is ready, and learns the order, and says Done, beside the associations
 abbrev pub deep_replied : List Happening
 deep_replied =
     deep_readied
-    ++ (Does (Deliver 10)
-    ∷ Does (Deliver 11)
+    ++ (Does (Action.Again 10)
+    ∷ Does (Action.Again 11)
     ∷ Crash (codes "c")
-    ∷ Does (Retry 3)
-    ∷ Does (Deliver 13)
-    ∷ Does (Deliver 14)
-    ∷ Does (Ask 3 LineRequest.Done)
-    ∷ Does (Deliver 15)
-    ∷ Does (Ask 2 LineRequest.Done)
-    ∷ Does (Deliver 16)
-    ∷ Does (Ask 1 LineRequest.Done)
+    ∷ Does (Action.Retry 3)
+    ∷ Does (Action.Again 13)
+    ∷ Does (Action.Again 14)
+    ∷ Does (Action.Do 3 LineRequest.Done)
+    ∷ Does (Action.Again 15)
+    ∷ Does (Action.Do 2 LineRequest.Done)
+    ∷ Does (Action.Again 16)
+    ∷ Does (Action.Do 1 LineRequest.Done)
     ∷ [])
 
 -- the branch decided to roll back by itself, reports it and is told to forget; an old question is answered after that
 abbrev pub forgotten : List Happening
 forgotten =
     readied
-    ++ (Does (Decide 2 Outcome.Rollback)
-    ∷ Does (Deliver 5)
-    ∷ Does (Retry 1)
-    ∷ Does (Deliver 6)
-    ∷ Does (Ask 2 LineRequest.Done)
-    ∷ Does (Deliver 8)
-    ∷ Does (Ask 1 LineRequest.Done)
-    ∷ Does (Deliver 9)
-    ∷ Does (Deliver 7)
+    ++ (Does (Action.Heur 2 Outcome.Rollback)
+    ∷ Does (Action.Again 5)
+    ∷ Does (Action.Retry 1)
+    ∷ Does (Action.Again 6)
+    ∷ Does (Action.Do 2 LineRequest.Done)
+    ∷ Does (Action.Again 8)
+    ∷ Does (Action.Do 1 LineRequest.Done)
+    ∷ Does (Action.Again 9)
+    ∷ Does (Action.Again 7)
     ∷ [])
 
 -- ---- what is asked of them

@@ -18,7 +18,7 @@ use Rattle.tp_world.specs.World.{AreNodes, RestStands, Stands, Gives, is_free, i
 use Rattle.tp_world.specs.declared.fault.WorldFault.{WorldFault}
 use Rattle.tp_network.specs.declared.nodes.NodeSlot.{NodeSlot}
 use Rattle.tp_world.specs.declared.site_slot.SiteSlot.{SiteSlot}
-use Rattle.tp_world.specs.declared.ground.Ground.{Ground}
+use Rattle.tp_world.specs.declared.world.World.{World as CodeWorld}
 use Rattle.tp_world.proofs.Stood.{address_stood}
 use Rattle.tp_world.proofs.Found.{find_self, node_there}
 use Rattle.tp_world.proofs.Declared.{with_sites, rest_declared, node_behind, site_behind}
@@ -32,7 +32,7 @@ are_as_many [] (x ∷ xs) h = absurd h
 are_as_many (s ∷ ss) [] h = absurd h
 are_as_many (s ∷ ss) (x ∷ xs) h = ap (λ (n : ℕ). suc n) (are_as_many ss xs h.1)
 
-pub sites_count : (w : World) (v : Ground) → Stands w v → length v.sites.items ≡ length w.sites
+pub sites_count : (w : World) (v : CodeWorld) → Stands w v → length v.sites.items ≡ length w.sites
 sites_count w v h = are_as_many w.sites v.sites.items h.sites.sites
 
 as_many_nodes : (ns : List Node) (xs : List NodeSlot) → AreNodes ns xs → length xs ≡ length ns
@@ -41,7 +41,7 @@ as_many_nodes [] (x ∷ xs) h = absurd h
 as_many_nodes (n ∷ ns) [] h = absurd h
 as_many_nodes (n ∷ ns) (x ∷ xs) h = ap (λ (k : ℕ). suc k) (as_many_nodes ns xs h.1)
 
-pub nodes_count : (w : World) (v : Ground) → Stands w v → length v.nodes ≡ length w.nodes
+pub nodes_count : (w : World) (v : CodeWorld) → Stands w v → length v.nodes ≡ length w.nodes
 nodes_count w v h = as_many_nodes w.nodes v.nodes h.rest.nodes
 
 -- ---- the number is new
@@ -96,7 +96,7 @@ declared_in w a up o = elim o [
   }
 ]
 
-rest_come : (w : World) (a : Addr) (up : Option Addr) (x : NodeSlot) (xs : List NodeSlot) (old : Ground) → Stands w old → is_node w a.node ≡ false → has_superior w up ≡ true → IsDeclared a up x → xs ≡ old.nodes ++ x ∷ []
+rest_come : (w : World) (a : Addr) (up : Option Addr) (x : NodeSlot) (xs : List NodeSlot) (old : CodeWorld) → Stands w old → is_node w a.node ≡ false → has_superior w up ≡ true → IsDeclared a up x → xs ≡ old.nodes ++ x ∷ []
     → RestStands (declared_at w a.node a.site up).world xs old.frames old.trees.items
 rest_come w a up x xs old h none above d e = go (find_site w.sites a.site) refl
   where
@@ -110,7 +110,7 @@ rest_come w a up x xs old h none above d e = go (find_site w.sites a.site) refl
         subst (λ (l : List NodeSlot). RestStands (declared_in w a up None).world l old.frames old.trees.items) (sym e)
         (rest_declared w ss a.site a.node 1 up x old.nodes old.frames old.trees.items (λ t i. site_behind w.sites (new_site a.site) t i) (absent w a.node none) (placed_new w ss a.site a.node 1 up (new_site_found w.sites a.site) above) h.rest d)
 
-pub come : (w : World) (a : Addr) (up : Option Addr) (boot : Option ℕ) (x : NodeSlot) (before after : List OutLine) (old new : Ground) → Stands w old → is_node w a.node ≡ false → has_superior w up ≡ true
+pub come : (w : World) (a : Addr) (up : Option Addr) (boot : Option ℕ) (x : NodeSlot) (before after : List OutLine) (old new : CodeWorld) → Stands w old → is_node w a.node ≡ false → has_superior w up ≡ true
     → IsDeclaredAt w a up boot new.sites.items → IsDeclared a up x → new.nodes ≡ old.nodes ++ x ∷ [] → new.frames ≡ old.frames → new.trees ≡ old.trees → after ≡ before ++ boot_lines a.site boot → HasCome w a up before after new
 come w a up boot x before after old new h none above at d nodes frames trees lines =
     let r : RestStands (declared_at w a.node a.site up).world new.nodes old.frames old.trees.items = rest_come w a up x new.nodes old h none above d nodes in (
@@ -144,7 +144,7 @@ turn_under w n s (Some p) h = go (find_node w.nodes p) refl h
     go None e i = absurd cc
     go (Some x) e i = refl
 
-pub superior_stood : (w : World) (v : Ground) (p : ℕ) → Stands w v → address_at v.nodes p ≡ addr_at w p
+pub superior_stood : (w : World) (v : CodeWorld) (p : ℕ) → Stands w v → address_at v.nodes p ≡ addr_at w p
 superior_stood w v p h = address_stood w v p h ∙ go (find_node w.nodes p)
   where
     go : (o : Option Node) → option_map addr_of o ≡ elim o as (λ _. Option Addr) [ None ↦ None | Some x ↦ Some (addr_of x) ]
@@ -163,7 +163,7 @@ peer_there w (Some p) h = go (find_node w.nodes p) refl h
 abbrev line_of : World → ℕ → List ℕ → Option ℕ → Bool → Option What → Result Turn Fault
 line_of w n s under b o = if_named b (elim o [ Some what ↦ Err (Over what) | None ↦ Ok (happens w (Declare n s under)) ])
 
-pub gives_node : (w : World) (n : ℕ) (s : List ℕ) (under : Option ℕ) (up : Option Addr) (before after : List OutLine) (u : Unit {0}) (v : Ground) → is_node w n ≡ false → is_peer w under ≡ true → node_limit w s ≡ None
+pub gives_node : (w : World) (n : ℕ) (s : List ℕ) (under : Option ℕ) (up : Option Addr) (before after : List OutLine) (u : Unit {0}) (v : CodeWorld) → is_node w n ≡ false → is_peer w under ≡ true → node_limit w s ≡ None
     → up ≡ superior_at w under → HasCome w (record { site = s; node = n }) up before after v → Gives (node_line w n s under) before (Ok u) after v
 gives_node w n s under up before after u v none peer limit same h =
     let named : (not (is_node w n) && is_peer w under) ≡ true = grind (arith, none, peer) in
@@ -172,7 +172,7 @@ gives_node w n s under up before after u v none peer limit same h =
     (ap (λ (b : Bool). line_of w n s under b (node_limit w s)) named ∙ ap (λ (o : Option What). line_of w n s under true o) limit ∙ ap (λ (t : Turn). Ok t) at)
     h.0 h.1
 
-pub gives_no_node : (w : World) (n : ℕ) (s : List ℕ) (under : Option ℕ) (what : What) (before after : List OutLine) (v : Ground) → is_node w n ≡ false → is_peer w under ≡ true → node_limit w s ≡ Some what
+pub gives_no_node : (w : World) (n : ℕ) (s : List ℕ) (under : Option ℕ) (what : What) (before after : List OutLine) (v : CodeWorld) → is_node w n ≡ false → is_peer w under ≡ true → node_limit w s ≡ Some what
     → Gives (node_line w n s under) before (Err (WorldFault.Limit what)) after v
 gives_no_node w n s under what before after v none peer limit =
     let named : (not (is_node w n) && is_peer w under) ≡ true = grind (arith, none, peer) in

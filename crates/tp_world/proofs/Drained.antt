@@ -1,6 +1,7 @@
 -- A drain, turn by turn, and marks of frames.
 use Rattle.std.proofs.Common.{◌≡◌, ◌≤◌, ◌<◌, ◌+◌, ◌++◌, ℕ, zero, suc, true, false, refl, ap, sym, subst, ◌∙◌, arith, Option, Some, None, List, [], ◌∷◌, length, Result, Ok, Err, append_assoc}
 use Rattle.std.proofs.lemmas.List.{append-nil}
+use Rattle.tp_model.specs.declared.line.Action.{Action}
 use Rattle.tp_model.specs.declared.out_line.OutLine.{OutLine}
 use Rattle.tp_model.specs.World.{World, Frame, mark_handed, oldest_from, oldest_of_all, oldest_between}
 use Rattle.tp_model.specs.Happenings.{Mark, Turn, Told, happens, still}
@@ -9,7 +10,7 @@ use Rattle.tp_network.specs.Frames.{is_between}
 use Rattle.tp_world.specs.Drains.{handed, Hands, IsDrained}
 use Rattle.tp_world.specs.World.{AreNodes, SitesStand, Stands, Gives}
 use Rattle.tp_world.specs.declared.fault.WorldFault.{WorldFault}
-use Rattle.tp_world.specs.declared.ground.Ground.{Ground}
+use Rattle.tp_world.specs.declared.world.World.{World as CodeWorld}
 use Rattle.tp_world.proofs.Limits.{Given, given}
 
 -- ---- a mark
@@ -20,7 +21,7 @@ mark_length [] (suc k) = refl
 mark_length (f ∷ fs) (suc zero) = refl
 mark_length (f ∷ fs) (suc (suc j)) = ap (λ (n : ℕ). suc n) (mark_length fs (suc j))
 
-stands_frames : (w : World) (old new : Ground) (fs : List Frame) → Stands w old → new.frames ≡ fs → length fs ≤ 65535 → new.nodes ≡ old.nodes → new.sites ≡ old.sites → new.trees ≡ old.trees → Stands (record w { frames = fs }) new
+stands_frames : (w : World) (old new : CodeWorld) (fs : List Frame) → Stands w old → new.frames ≡ fs → length fs ≤ 65535 → new.nodes ≡ old.nodes → new.sites ≡ old.sites → new.trees ≡ old.trees → Stands (record w { frames = fs }) new
 stands_frames w old new fs h frames few nodes sites trees =
     let r = h.rest in
     let s : SitesStand w new.sites.items = subst (λ v. SitesStand w v.items) (sym sites) h.sites in
@@ -37,12 +38,12 @@ stands_frames w old new fs h frames few nodes sites trees =
       };
     }
 
-pub stands_marked : (w : World) (old new : Ground) (k : ℕ) → Stands w old → new.frames ≡ mark_handed old.frames k → new.nodes ≡ old.nodes → new.sites ≡ old.sites → new.trees ≡ old.trees
+pub stands_marked : (w : World) (old new : CodeWorld) (k : ℕ) → Stands w old → new.frames ≡ mark_handed old.frames k → new.nodes ≡ old.nodes → new.sites ≡ old.sites → new.trees ≡ old.trees
     → Stands (happens w (Mark k)).world new
 stands_marked w old new k h frames nodes sites trees =
     stands_frames w old new (mark_handed w.frames k) h (frames ∙ ap (λ (l : List Frame). mark_handed l k) h.rest.frames) (subst (λ (n : ℕ). n ≤ 65535) (sym (mark_length w.frames k)) h.rest.few) nodes sites trees
 
-pub stands_unmarked : (w : World) (old new : Ground) → Stands w old → new.frames ≡ old.frames → new.nodes ≡ old.nodes → new.sites ≡ old.sites → new.trees ≡ old.trees → Stands w new
+pub stands_unmarked : (w : World) (old new : CodeWorld) → Stands w old → new.frames ≡ old.frames → new.nodes ≡ old.nodes → new.sites ≡ old.sites → new.trees ≡ old.trees → Stands w new
 stands_unmarked w old new h frames nodes sites trees = stands_frames w old new w.frames h (frames ∙ h.rest.frames) h.rest.few nodes sites trees
 
 -- ---- turns one after another
@@ -75,7 +76,7 @@ drain_breaks n w k f h e = ap (turn_from n w) h ∙ ap (after_one n) e
 
 -- ---- the loop
 
-pub drained_first : (w : World) (most : ℕ) (before : List OutLine) (v : Ground) → Stands w v → IsDrained w most 0 before before v
+pub drained_first : (w : World) (most : ℕ) (before : List OutLine) (v : CodeWorld) → Stands w v → IsDrained w most 0 before before v
 drained_first w most before v h = record {
   left = most;
   turns = omega arith;
@@ -85,7 +86,7 @@ drained_first w most before v h = record {
   stands = h;
 }
 
-pub drained_next : (w : World) (most done : ℕ) (before lines after : List OutLine) (old new : Ground) → done < most → (d : IsDrained w most done before lines old) → Hands d.turn.world lines (Ok true) after new
+pub drained_next : (w : World) (most done : ℕ) (before lines after : List OutLine) (old new : CodeWorld) → done < most → (d : IsDrained w most done before lines old) → Hands d.turn.world lines (Ok true) after new
     → IsDrained w most (done + 1) before after new
 drained_next w most done before lines after old new more d h = go d.left refl
   where
@@ -108,24 +109,24 @@ drained_next w most done before lines after old new more d h = go d.left refl
 
 -- ---- how it ends
 
-stops_gives : (w : World) (most done : ℕ) (before lines after : List OutLine) (old new : Ground) (u : Unit {0}) (d : IsDrained w most done before lines old) → drain_line d.left d.turn.world ≡ Ok (shows d.turn.world [])
+stops_gives : (w : World) (most done : ℕ) (before lines after : List OutLine) (old new : CodeWorld) (u : Unit {0}) (d : IsDrained w most done before lines old) → drain_line d.left d.turn.world ≡ Ok (shows d.turn.world [])
     → after ≡ lines → Stands d.turn.world new → Gives (drain_line most w) before (Ok u) after new
 stops_gives w most done before lines after old new u d e same h =
     subst (λ (r : Result Turn Fault). Gives r before (Ok u) after new) (sym (d.so_far ∙ ap (then_result d.turn) e))
     (same ∙ d.lines ∙ ap (λ (l : List OutLine). before ++ l) (sym (append-nil d.turn.lines)), h)
 
 -- no frame is left
-pub drained_dry : (w : World) (most done : ℕ) (before lines after : List OutLine) (old new : Ground) (u : Unit {0}) (d : IsDrained w most done before lines old) → Hands d.turn.world lines (Ok false) after new
+pub drained_dry : (w : World) (most done : ℕ) (before lines after : List OutLine) (old new : CodeWorld) (u : Unit {0}) (d : IsDrained w most done before lines old) → Hands d.turn.world lines (Ok false) after new
     → Gives (drain_line most w) before (Ok u) after new
 drained_dry w most done before lines after old new u d h = stops_gives w most done before lines after old new u d (drain_ends d.left d.turn.world h.0) h.1 h.2
 
 -- all turns were taken
-pub drained_last : (w : World) (most done : ℕ) (before lines : List OutLine) (v : Ground) (u : Unit {0}) → most ≤ done → (d : IsDrained w most done before lines v) → Gives (drain_line most w) before (Ok u) lines v
+pub drained_last : (w : World) (most done : ℕ) (before lines : List OutLine) (v : CodeWorld) (u : Unit {0}) → most ≤ done → (d : IsDrained w most done before lines v) → Gives (drain_line most w) before (Ok u) lines v
 drained_last w most done before lines v u over d =
     let none : d.left ≡ 0 = omega (arith, d.turns, over) in
     stops_gives w most done before lines lines v v u d (ap (λ (k : ℕ). drain_line k d.turn.world) none) refl d.stands
 
-breaks_gives : (w : World) (most : ℕ) (t : Turn) (n k : ℕ) (f : WorldFault) (before lines after : List OutLine) (new : Ground) (r : Result Turn Fault) → drain_line most w ≡ then_result t (drain_line (suc n) t.world) → oldest_of_all t.world ≡ Some k
+breaks_gives : (w : World) (most : ℕ) (t : Turn) (n k : ℕ) (f : WorldFault) (before lines after : List OutLine) (new : CodeWorld) (r : Result Turn Fault) → drain_line most w ≡ then_result t (drain_line (suc n) t.world) → oldest_of_all t.world ≡ Some k
     → within_limits (handed t.world k) ≡ r → Gives r lines (Err f) after new → Gives (drain_line most w) before (Err f) after new
 breaks_gives w most t n k WorldFault.NoMemory before lines after new r e o i h = tt
 breaks_gives w most t n k WorldFault.Unbuilt before lines after new r e o i h = absurd h
@@ -136,7 +137,7 @@ breaks_gives w most t n k WorldFault.Name before lines after new (Err g) e o i h
 breaks_gives w most t n k (WorldFault.Limit what) before lines after new (Err g) e o i h =
     subst (λ (q : Result Turn Fault). Gives q before (Err (WorldFault.Limit what)) after new) (sym (e ∙ ap (then_result t) (drain_breaks n t.world k g o i))) h
 
-pub drained_fault : (w : World) (most done : ℕ) (before lines after : List OutLine) (old new : Ground) (f : WorldFault) → done < most → (d : IsDrained w most done before lines old) → Hands d.turn.world lines (Err f) after new
+pub drained_fault : (w : World) (most done : ℕ) (before lines after : List OutLine) (old new : CodeWorld) (f : WorldFault) → done < most → (d : IsDrained w most done before lines old) → Hands d.turn.world lines (Err f) after new
     → Gives (drain_line most w) before (Err f) after new
 drained_fault w most done before lines after old new f more d h = go d.left refl
   where
@@ -147,8 +148,8 @@ drained_fault w most done before lines after old new f more d h = go d.left refl
 
 -- ---- the oldest frame
 
-pub oldest_stood : (w : World) (v : Ground) (o : Option ℕ) → Stands w v → o ≡ oldest_from 0 (λ f. true) v.frames → oldest_of_all w ≡ o
+pub oldest_stood : (w : World) (v : CodeWorld) (o : Option ℕ) → Stands w v → o ≡ oldest_from 0 (λ f. true) v.frames → oldest_of_all w ≡ o
 oldest_stood w v o h e = sym (e ∙ ap (λ (fs : List Frame). oldest_from 0 (λ f. true) fs) h.rest.frames)
 
-pub between_stood : (w : World) (v : Ground) (a b : ℕ) (o : Option ℕ) → Stands w v → o ≡ oldest_from 0 (is_between a b) v.frames → oldest_between w a b ≡ o
+pub between_stood : (w : World) (v : CodeWorld) (a b : ℕ) (o : Option ℕ) → Stands w v → o ≡ oldest_from 0 (is_between a b) v.frames → oldest_between w a b ≡ o
 between_stood w v a b o h e = sym (e ∙ ap (λ (fs : List Frame). oldest_from 0 (is_between a b) fs) h.rest.frames)

@@ -16,7 +16,7 @@ mod Found
 mod Entered
 mod Limits
 mod Outputs
-mod Deeds
+mod EntryTurns
 mod Settling
 mod Tasks
 mod Trying

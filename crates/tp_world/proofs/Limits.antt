@@ -11,7 +11,7 @@ use Rattle.tp_world.specs.Sites.{AreSites}
 use Rattle.tp_world.specs.World.{Stands, Gives}
 use Rattle.tp_world.specs.declared.fault.WorldFault.{WorldFault}
 use Rattle.tp_world.specs.declared.site_slot.SiteSlot.{SiteSlot}
-use Rattle.tp_world.specs.declared.ground.Ground.{Ground}
+use Rattle.tp_world.specs.declared.world.World.{World as CodeWorld}
 
 pub not_full : (ss : List Site) (xs : List SiteSlot) → AreSites ss xs → is_full ss ≡ false
 not_full [] xs h = refl
@@ -35,22 +35,22 @@ within_all t h few = let in_range : nat_lt 65535 (length t.world.frames) ≡ fal
 
 -- ---- what is given, where the turn or its fault is known
 
-pub gives_ok : (r : Result Turn Fault) (t : Turn) (before after : List OutLine) (v : Ground) (u : Unit {0}) → r ≡ Ok t → after ≡ before ++ t.lines → Stands t.world v → Gives r before (Ok u) after v
+pub gives_ok : (r : Result Turn Fault) (t : Turn) (before after : List OutLine) (v : CodeWorld) (u : Unit {0}) → r ≡ Ok t → after ≡ before ++ t.lines → Stands t.world v → Gives r before (Ok u) after v
 gives_ok r t before after v u e lines h = subst (λ (q : Result Turn Fault). Gives q before (Ok u) after v) (sym e) (lines, h)
 
-pub gives_limit : (r : Result Turn Fault) (what : What) (before after : List OutLine) (v : Ground) → r ≡ Err (Over what) → Gives r before (Err (WorldFault.Limit what)) after v
+pub gives_limit : (r : Result Turn Fault) (what : What) (before after : List OutLine) (v : CodeWorld) → r ≡ Err (Over what) → Gives r before (Err (WorldFault.Limit what)) after v
 gives_limit r what before after v e = subst (λ (q : Result Turn Fault). Gives q before (Err (WorldFault.Limit what)) after v) (sym e) refl
 
-pub gives_name : (r : Result Turn Fault) (before after : List OutLine) (v : Ground) → r ≡ Err Name → Gives r before (Err WorldFault.Name) after v
+pub gives_name : (r : Result Turn Fault) (before after : List OutLine) (v : CodeWorld) → r ≡ Err Name → Gives r before (Err WorldFault.Name) after v
 gives_name r before after v e = subst (λ (q : Result Turn Fault). Gives q before (Err WorldFault.Name) after v) (sym e) refl
 
 -- and back
-pub record Given (r : Result Turn Fault) (before after : List OutLine) (v : Ground) : Type 0 where
+pub record Given (r : Result Turn Fault) (before after : List OutLine) (v : CodeWorld) : Type 0 where
   pub turn : Turn
   pub is : r ≡ Ok turn
   pub lines : after ≡ before ++ turn.lines
   pub stands : Stands turn.world v
 
-pub given : (r : Result Turn Fault) (before after : List OutLine) (v : Ground) (u : Unit {0}) → Gives r before (Ok u) after v → Given r before after v
+pub given : (r : Result Turn Fault) (before after : List OutLine) (v : CodeWorld) (u : Unit {0}) → Gives r before (Ok u) after v → Given r before after v
 given (Ok t) before after v u h = record { turn = t; is = refl; lines = h.0; stands = h.1 }
 given (Err f) before after v u h = absurd h

@@ -1,19 +1,17 @@
--- What a line plays, from what the ground gives for it.
+-- What a line plays, from what the world gives for it without its echo.
 use Rattle.std.proofs.Common.{◌≡◌, ◌++◌, ℕ, true, refl, ap, sym, ◌∙◌, Some, List, [], ◌∷◌, Result, Ok, Err}
 use Rattle.tp_model.specs.declared.line.Line.{Line}
-use Rattle.tp_model.specs.declared.line.StopLine.{StopLine}
 use Rattle.tp_model.specs.declared.out_line.OutLine.{OutLine}
 use Rattle.tp_model.specs.declared.verdict.What.{What}
 use Rattle.tp_model.specs.World.{World}
 use Rattle.tp_model.specs.Happenings.{Turn}
 use Rattle.tp_model.specs.LineText.{line_text}
-use Rattle.tp_model.specs.Lines.{Fault, Name, Over, deed_line, line}
+use Rattle.tp_model.specs.Lines.{Fault, Name, Over, line}
 use Rattle.tp_model.specs.Transcript.{echo}
 use Rattle.tp_world.specs.Built.{is_built}
-use Rattle.tp_world.specs.Errands.{stop_in}
 use Rattle.tp_world.specs.World.{Gives, Plays, fault_of}
 use Rattle.tp_world.specs.declared.fault.WorldFault.{WorldFault}
-use Rattle.tp_world.specs.declared.ground.Ground.{Ground}
+use Rattle.tp_world.specs.declared.world.World.{World as CodeWorld}
 use Rattle.tp_world.proofs.Limits.{Given, given}
 
 -- how many members there are does not matter to it
@@ -55,29 +53,9 @@ echo_built (Line.Image s) h = absurd cc
 echo_built (Line.Auto n j) h = absurd cc
 echo_built (Line.Leave j) h = absurd cc
 
--- a line with one event
-pub line_of_stop : (w : World) (l : Line) (s : StopLine) → Some s ≡ stop_in l → line 0 w l ≡ deed_line w s
-line_of_stop w (Line.Node n m u) s h = absurd cc
-line_of_stop w (Line.Do n r) s h = let e : StopLine.Do n r ≡ s = cc in ap (deed_line w) e
-line_of_stop w (Line.Pass a b) s h = let e : StopLine.Pass a b ≡ s = cc in ap (deed_line w) e
-line_of_stop w (Line.Skip a b) s h = absurd cc
-line_of_stop w (Line.Again j) s h = let e : StopLine.Again j ≡ s = cc in ap (deed_line w) e
-line_of_stop w Line.Drain s h = absurd cc
-line_of_stop w (Line.Lose n p) s h = let e : StopLine.Lose n p ≡ s = cc in ap (deed_line w) e
-line_of_stop w (Line.Heur n o) s h = let e : StopLine.Heur n o ≡ s = cc in ap (deed_line w) e
-line_of_stop w (Line.GiveUp n p) s h = let e : StopLine.GiveUp n p ≡ s = cc in ap (deed_line w) e
-line_of_stop w (Line.Retry n) s h = let e : StopLine.Retry n ≡ s = cc in ap (deed_line w) e
-line_of_stop w (Line.Purge n) s h = let e : StopLine.Purge n ≡ s = cc in ap (deed_line w) e
-line_of_stop w (Line.Crash m) s h = absurd cc
-line_of_stop w (Line.CrashIn m j x l) s h = absurd cc
-line_of_stop w (Line.Show n) s h = absurd cc
-line_of_stop w (Line.Image m) s h = absurd cc
-line_of_stop w (Line.Auto n j) s h = absurd cc
-line_of_stop w (Line.Leave j) s h = absurd cc
-
 -- ---- the whole
 
-pub plays_lines : (w : World) (l : Line) (before after : List OutLine) (u : Unit {0}) (v : Ground) → is_built l ≡ true → before ≡ OutLine.Echo (line_text l) ∷ [] → Gives (line 0 w l) before (Ok u) after v
+pub plays_lines : (w : World) (l : Line) (before after : List OutLine) (u : Unit {0}) (v : CodeWorld) → is_built l ≡ true → before ≡ OutLine.Echo (line_text l) ∷ [] → Gives (line 0 w l) before (Ok u) after v
     → Plays w l (Ok after) v
 plays_lines w l before after u v built first h =
     let g : Given (line 0 w l) before after v = given (line 0 w l) before after v u h in
@@ -91,7 +69,7 @@ is_over : (what : What) (f : Fault) → WorldFault.Limit what ≡ fault_of f →
 is_over what Name h = absurd cc
 is_over what (Over which) h = let e : which ≡ what = cc in ap (λ (q : What). Over q) e
 
-pub plays_fault : (w : World) (l : Line) (f : WorldFault) (before after : List OutLine) (v last : Ground) → is_built l ≡ true → Gives (line 0 w l) before (Err f) after v → Plays w l (Err f) last
+pub plays_fault : (w : World) (l : Line) (f : WorldFault) (before after : List OutLine) (v last : CodeWorld) → is_built l ≡ true → Gives (line 0 w l) before (Err f) after v → Plays w l (Err f) last
 plays_fault w l f before after v last built h = go (line 0 w l) f (λ k. members_same k w l built) h
   where
     go : (r : Result Turn Fault) (f : WorldFault) → ((k : ℕ) → line k w l ≡ r) → Gives r before (Err f) after v → Plays w l (Err f) last

@@ -15,9 +15,9 @@ use Rattle.tp_world.specs.World.{Stands, SitesStand, AreNodes, IsEntry, after_en
 use Rattle.tp_world.specs.declared.fault.WorldFault.{WorldFault}
 use Rattle.tp_network.specs.declared.tree_summary.TreeChange.{TreeChange}
 use Rattle.tp_world.specs.declared.site_slot.Entry.{Entry}
-use Rattle.tp_world.specs.declared.ground.Ground.{Ground}
+use Rattle.tp_world.specs.declared.world.World.{World as CodeWorld}
 use Rattle.tp_world.proofs.Entered.{change_by}
-use Rattle.tp_world.proofs.Deeds.{IsBehind, turn_world, stands_behind, logged_frames}
+use Rattle.tp_world.proofs.EntryTurns.{IsBehind, turn_world, stands_behind, logged_frames}
 use Rattle.tp_world.proofs.Limits.{not_full, within_all, within_frames, within_log, gives_ok, gives_limit}
 
 forced_same : (site : List ℕ) (r : Option LogRec) → forced_lines site (option_map log_shown r) ≡ log_lines site r
@@ -25,7 +25,7 @@ forced_same site None = refl
 forced_same site (Some r) = refl
 
 -- the node has answered, and its site stands for the world after the entry, and nothing else has changed
-pub record IsAnswered (w : World) (n : Node) (ent : Option EntryValue) (x : Option Entry) (old mid : Ground) : Type 0 where
+pub record IsAnswered (w : World) (n : Node) (ent : Option EntryValue) (x : Option Entry) (old mid : CodeWorld) : Type 0 where
   pub stands : Stands w old
   pub found : find_node w.nodes (number_of n) ≡ Some n
   pub legal : (e : EntryValue) → ent ≡ Some e → IsLegal n.origin n.superior (e ∷ n.history)
@@ -35,7 +35,7 @@ pub record IsAnswered (w : World) (n : Node) (ent : Option EntryValue) (x : Opti
   pub frames : mid.frames ≡ old.frames
   pub trees : mid.trees ≡ old.trees
 
-stands_still : (w : World) (n : Node) (x : Option Entry) (old mid : Ground) → IsAnswered w n None x old mid → Stands w mid
+stands_still : (w : World) (n : Node) (x : Option Entry) (old mid : CodeWorld) → IsAnswered w n None x old mid → Stands w mid
 stands_still w n x old mid h =
     let r = h.stands.rest in
     record {
@@ -53,7 +53,7 @@ stands_still w n x old mid h =
 
 -- ---- without an entry
 
-none_gives : (w : World) (n : Node) (dl before first after : List OutLine) (number : Option ℕ) (r : Result (Unit {0}) WorldFault) (old mid new : Ground)
+none_gives : (w : World) (n : Node) (dl before first after : List OutLine) (number : Option ℕ) (r : Result (Unit {0}) WorldFault) (old mid new : CodeWorld)
     → IsAnswered w n None None old mid → first ≡ before ++ dl → SettlesSome (addr_of n) None (first ++ ([] ++ refused_lines number)) r after mid new
     → Gives (within_limits (after_lines dl (entry_turn w n number None))) before r after new
 none_gives w n dl before first after number (Ok u) old mid new h e s =
@@ -61,7 +61,7 @@ none_gives w n dl before first after number (Ok u) old mid new h e s =
     let now : Stands w mid = stands_still w n None old mid h in
     gives_ok (within_limits t) t before after new u (within_all t (not_full w.sites mid.sites.items now.sites.sites) now.rest.few)
     (s.1 ∙ ap (λ (l : List OutLine). l ++ refused_lines number) e ∙ append_assoc before dl (refused_lines number))
-    (subst (λ (v : Ground). Stands w v) (sym s.0) now)
+    (subst (λ (v : CodeWorld). Stands w v) (sym s.0) now)
 none_gives w n dl before first after number (Err WorldFault.Name) old mid new h e s = absurd s
 none_gives w n dl before first after number (Err (WorldFault.Limit what)) old mid new h e s = absurd s
 none_gives w n dl before first after number (Err WorldFault.Unbuilt) old mid new h e s = absurd s
@@ -69,7 +69,7 @@ none_gives w n dl before first after number (Err WorldFault.NoMemory) old mid ne
 
 -- ---- with one
 
-lines_same : (w : World) (n : Node) (e : EntryValue) (x : Entry) (dl before first : List OutLine) (number : Option ℕ) (mid : Ground) → first ≡ before ++ dl → x.outs ≡ e.outs → x.change ≡ change_by n e → mid.frames ≡ w.frames
+lines_same : (w : World) (n : Node) (e : EntryValue) (x : Entry) (dl before first : List OutLine) (number : Option ℕ) (mid : CodeWorld) → first ≡ before ++ dl → x.outs ≡ e.outs → x.change ≡ change_by n e → mid.frames ≡ w.frames
     → (first ++ (forced_lines (site_of n) x.change.rec ++ refused_lines number)) ++ out_lines (number_of n) (length mid.frames) x.outs
     ≡ before ++ (dl ++ ((log_lines (site_of n) e.rec ++ refused_lines number) ++ out_lines (number_of n) (length w.frames) e.outs))
 lines_same w n e x dl before first number mid start outs step frames =
@@ -90,7 +90,7 @@ lines_same w n e x dl before first number mid start outs step frames =
 abbrev entry_behind : World → Node → Option ℕ → EntryValue → List OutLine → Turn
 entry_behind w n number e dl = after_lines dl (entry_turn w n number (Some e))
 
-some_gives : (w : World) (n : Node) (e : EntryValue) (x : Entry) (dl before first after : List OutLine) (number : Option ℕ) (r : Result (Unit {0}) WorldFault) (old mid new : Ground)
+some_gives : (w : World) (n : Node) (e : EntryValue) (x : Entry) (dl before first after : List OutLine) (number : Option ℕ) (r : Result (Unit {0}) WorldFault) (old mid new : CodeWorld)
     → IsAnswered w n (Some e) (Some x) old mid → first ≡ before ++ dl → SettlesSome (addr_of n) (Some x) (first ++ (forced_lines (site_of n) x.change.rec ++ refused_lines number)) r after mid new
     → Gives (within_limits (entry_behind w n number e dl)) before r after new
 some_gives w n e x dl before first after number (Ok u) old mid new h start s =
@@ -128,7 +128,7 @@ some_gives w n e x dl before first after number (Err (WorldFault.Limit what)) ol
 some_gives w n e x dl before first after number (Err WorldFault.Unbuilt) old mid new h start s = absurd s
 some_gives w n e x dl before first after number (Err WorldFault.NoMemory) old mid new h start s = tt
 
-pub answer_gives : (w : World) (n : Node) (ent : Option EntryValue) (x : Option Entry) (dl before first after : List OutLine) (number : Option ℕ) (r : Result (Unit {0}) WorldFault) (old mid new : Ground)
+pub answer_gives : (w : World) (n : Node) (ent : Option EntryValue) (x : Option Entry) (dl before first after : List OutLine) (number : Option ℕ) (r : Result (Unit {0}) WorldFault) (old mid new : CodeWorld)
     → IsAnswered w n ent x old mid → first ≡ before ++ dl → SettlesSome (addr_of n) x (first ++ (entry_lines (site_of n) x ++ refused_lines number)) r after mid new
     → Gives (within_limits (after_lines dl (entry_turn w n number ent))) before r after new
 answer_gives w n None None dl before first after number r old mid new h start s = none_gives w n dl before first after number r old mid new h start s
@@ -138,7 +138,7 @@ answer_gives w n (Some e) (Some x) dl before first after number r old mid new h 
 
 -- ---- a want of room in the log
 
-pub log_gives : (w : World) (n : Node) (ent : Option EntryValue) (dl before after : List OutLine) (number : Option ℕ) (new : Ground) → is_full (after_entry w n ent).sites ≡ true
+pub log_gives : (w : World) (n : Node) (ent : Option EntryValue) (dl before after : List OutLine) (number : Option ℕ) (new : CodeWorld) → is_full (after_entry w n ent).sites ≡ true
     → Gives (within_limits (after_lines dl (entry_turn w n number ent))) before (Err (WorldFault.Limit What.Log)) after new
 log_gives w n None dl before after number new h = let t : Turn = after_lines dl (entry_turn w n number None) in gives_limit (within_limits t) What.Log before after new (within_log t h)
 log_gives w n (Some e) dl before after number new h = let t : Turn = after_lines dl (entry_turn w n number (Some e)) in gives_limit (within_limits t) What.Log before after new (within_log t h)

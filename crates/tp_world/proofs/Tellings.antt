@@ -14,7 +14,7 @@ use Rattle.tp_world.specs.Told.{some_told_at, all_told_at, deciders_at, agreed_l
 use Rattle.tp_world.specs.World.{IsNode, AreNodes, Stands}
 use Rattle.tp_network.specs.declared.tree_summary.TreeSummary.{TreeSummary}
 use Rattle.tp_network.specs.declared.nodes.NodeSlot.{NodeSlot}
-use Rattle.tp_world.specs.declared.ground.Ground.{Ground}
+use Rattle.tp_world.specs.declared.world.World.{World as CodeWorld}
 use Rattle.tp_world.proofs.SummaryTold.{summary_tells}
 
 node_tells : (n : Node) (x : NodeSlot) (t : Aaid) → IsNode n x → Tells n.origin t n.history (summary_at x.summaries t)
@@ -127,5 +127,5 @@ lines_same : (ns : List Node) (xs : List NodeSlot) (ts : List Aaid) → AreNodes
 lines_same ns xs [] h = refl
 lines_same ns xs (t ∷ ts) h = ap (λ (l : OutLine). l ∷ closing_at xs ts) (line_same t ns xs h) ∙ ap (λ (l : List OutLine). closing_line t (members_of t ns) ∷ l) (lines_same ns xs ts h)
 
-pub closing_same : (w : World) (v : Ground) → Stands w v → closing_at v.nodes v.trees.items ≡ closing w
+pub closing_same : (w : World) (v : CodeWorld) → Stands w v → closing_at v.nodes v.trees.items ≡ closing w
 closing_same w v h = lines_same w.nodes v.nodes v.trees.items h.rest.nodes ∙ ap (closing_from w.nodes) h.rest.trees

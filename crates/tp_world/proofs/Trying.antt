@@ -11,28 +11,30 @@ use Rattle.tp_model.specs.declared.out_line.OutLine.{OutLine}
 use Rattle.tp_model.specs.Parts.{Event}
 use Rattle.tp_model.specs.World.{World, Node, Frame, number_of, addr_of, find_node, find_frame}
 use Rattle.tp_model.specs.Happenings as model
-use Rattle.tp_model.specs.Happenings.{Deed, Ask, Deliver, Task, task_at, task_of, deed_lines}
+use Rattle.tp_model.specs.declared.line.Action.{Action}
+use Rattle.tp_model.specs.Happenings.{Task, task_at, task_of}
 use Rattle.tp_network.specs.Nodes.{address_at}
 use Rattle.tp_world.specs.Requests.{request_in}
-use Rattle.tp_world.specs.World.{Stands, SitesStand, PlaysAt, Tries, ShowsFirst, are_apart, is_placed, after_entry, entry_answered}
+use Rattle.tp_world.specs.World.{Stands, SitesStand, PlaysAt, are_apart, is_placed}
 use Rattle.tp_world.specs.declared.fault.WorldFault.{WorldFault}
 use Rattle.tp_world.specs.declared.site_slot.Answer.{Answer}
 use Rattle.tp_world.specs.declared.site_slot.SiteSlot.{SiteSlot}
-use Rattle.tp_world.specs.declared.ground.Ground.{Ground}
+use Rattle.tp_world.specs.declared.world.World.{World as CodeWorld}
 use Rattle.tp_world.proofs.Found.{find_self, placed_found}
 use Rattle.tp_world.proofs.Stood.{address_stood, frame_same}
 
-abbrev found_task : Option Node → Event → Option Task
+abbrev pub found_task : Option Node → Event → Option Task
 found_task o e = elim o [ None ↦ None | Some x ↦ Some (record { node = x; event = e }) ]
 
 -- the site's answer, and the task that it answers
 pub record IsPlayed (w : World) (o : Option Task) (e : Event) (addr : Addr) (r : Result Answer WorldFault) (xs : List SiteSlot) : Type 0 where
   pub node : Node
   pub task : o ≡ Some (record { node = node; event = e })
+  pub found : find_node w.nodes (number_of node) ≡ Some node
   pub place : addr ≡ addr_of node
   pub plays : PlaysAt w node e r xs
 
-pub is_played : (w : World) (v : Ground) (k : ℕ) (e : Event) (place : Addr) (r : Result Answer WorldFault) (lent xs : List SiteSlot) → Stands w v → Some place ≡ address_at v.nodes k → lent ≡ v.sites.items
+pub is_played : (w : World) (v : CodeWorld) (k : ℕ) (e : Event) (place : Addr) (r : Result Answer WorldFault) (lent xs : List SiteSlot) → Stands w v → Some place ≡ address_at v.nodes k → lent ≡ v.sites.items
     → ((n : Node) → SitesStand w lent → are_apart w.nodes ≡ true → find_node w.nodes (number_of n) ≡ Some n → is_placed w n ≡ true → place ≡ addr_of n → PlaysAt w n e r xs)
     → IsPlayed w (task_at w k e) e place r xs
 is_played w v k e place r lent xs h there same plays = go (find_node w.nodes k) refl (there ∙ address_stood w v k h)
@@ -44,38 +46,16 @@ is_played w v k e place r lent xs h there same plays = go (find_node w.nodes k) 
         record {
           node = n;
           task = refl;
+          found = find_self w.nodes k n f;
           place = at;
           plays = plays n (subst (SitesStand w) (sym same) h.sites) h.rest.apart (find_self w.nodes k n f) (placed_found w w.nodes k n f h.rest.placed) at;
         }
 
-pub tries_answer : (w : World) (o : Option Task) (e : Event) (place : Addr) (a : Answer) (xs : List SiteSlot) (old new : Ground) → IsPlayed w o e place (Ok a) xs
-    → new.sites.items ≡ xs → new.nodes ≡ old.nodes → new.frames ≡ old.frames → new.trees ≡ old.trees → Tries w o (Ok (Some (place, a))) old new
-tries_answer w o e place a xs old new p sites nodes frames trees =
-    subst (λ (q : Option Task). Tries w q (Ok (Some (place, a))) old new) (sym p.task)
-    (record {
-      place = p.place;
-      number = p.plays.0;
-      entry = p.plays.1;
-      sites = subst (λ (l : List SiteSlot). SitesStand (after_entry w p.node (entry_answered p.node e)) l) (sym sites) p.plays.2;
-      nodes = nodes;
-      frames = frames;
-      trees = trees;
-    })
-
-pub tries_fault : (w : World) (o : Option Task) (e : Event) (place : Addr) (f : WorldFault) (xs : List SiteSlot) (old new : Ground) → IsPlayed w o e place (Err f) xs → Tries w o (Err f) old new
-tries_fault w o e place f xs old new p = subst (λ (q : Option Task). Tries w q (Err f) old new) (sym p.task) (go f p.plays)
-  where
-    go : (g : WorldFault) → PlaysAt w p.node e (Err g) xs → Tries w (Some (record { node = p.node; event = e })) (Err g) old new
-    go WorldFault.Name i = absurd i
-    go (WorldFault.Limit what) i = i
-    go WorldFault.Unbuilt i = absurd i
-    go WorldFault.NoMemory i = tt
-
 -- the sites were lent, and are given back
-abbrev pub lent_back : Ground → List SiteSlot → Ground
+abbrev pub lent_back : CodeWorld → List SiteSlot → CodeWorld
 lent_back v xs = record v { sites = with_items v.sites xs }
 
-pub lent_items : (v : Ground) (lent xs : List SiteSlot) → lent ≡ v.sites.items → length xs ≡ length lent → (lent_back v xs).sites.items ≡ xs
+pub lent_items : (v : CodeWorld) (lent xs : List SiteSlot) → lent ≡ v.sites.items → length xs ≡ length lent → (lent_back v xs).sites.items ≡ xs
 lent_items v lent xs same keeps = with_items_is v.sites xs (keeps ∙ ap length same ∙ sym v.sites.ok.0)
 
 -- what a `?` hands on
@@ -89,21 +69,9 @@ pub not_some : {A : Type 0} (o : Option A) → ((x : A) → o ≡ Some x → ⊥
 not_some None h = refl
 not_some (Some x) h = absurd (h x refl)
 
-pub tries_missing : (w : World) (v : Ground) (k : ℕ) (e : Event) → Stands w v → None ≡ address_at v.nodes k → Tries w (task_at w k e) (Ok None) v v
-tries_missing w v k e h there = go (find_node w.nodes k) (there ∙ address_stood w v k h)
-  where
-    go : (o : Option Node) → None ≡ option_map addr_of o → Tries w (found_task o e) (Ok None) v v
-    go None i = refl
-    go (Some n) i = absurd cc
-
--- without memory nothing is said
-pub tries_no_memory : (w : World) (o : Option Task) (old new : Ground) → Tries w o (Err WorldFault.NoMemory) old new
-tries_no_memory w None old new = tt
-tries_no_memory w (Some t) old new = tt
-
 -- ---- requests and frames
 
-pub request_same : (w : World) (v : Ground) (r : LineRequest) → Stands w v → request_in v.nodes r ≡ model.request_in w r
+pub request_same : (w : World) (v : CodeWorld) (r : LineRequest) → Stands w v → request_in v.nodes r ≡ model.request_in w r
 request_same w v (LineRequest.BeginDialogue p u) h = go (find_node w.nodes p) (address_stood w v p h)
   where
     go : (o : Option Node) → address_at v.nodes p ≡ option_map addr_of o
@@ -131,21 +99,10 @@ request_same w v LineRequest.Done h = refl
 request_same w v LineRequest.Rollback h = refl
 request_same w v LineRequest.Unchanged h = refl
 
-pub task_asked : (w : World) (v : Ground) (k : ℕ) (r : LineRequest) (o : Option Request) → Stands w v → o ≡ request_in v.nodes r
-    → task_of w (Ask k r) ≡ elim o as (λ _. Option Task) [ None ↦ None | Some q ↦ task_at w k (Event.Do q) ]
+pub task_asked : (w : World) (v : CodeWorld) (k : ℕ) (r : LineRequest) (o : Option Request) → Stands w v → o ≡ request_in v.nodes r
+    → task_of w (Action.Do k r) ≡ elim o as (λ _. Option Task) [ None ↦ None | Some q ↦ task_at w k (Event.Do q) ]
 task_asked w v k r o h e = ap (λ (x : Option Request). elim x as (λ _. Option Task) [ None ↦ None | Some q ↦ task_at w k (Event.Do q) ]) (sym (e ∙ request_same w v r h))
 
-pub task_delivered : (w : World) (v : Ground) (k : ℕ) (o : Option Frame) → Stands w v → o ≡ find_frame v.frames k
-    → task_of w (Deliver k) ≡ elim o as (λ _. Option Task) [ None ↦ None | Some f ↦ task_at w f.to.node (Event.Arrive f.from f.rec) ]
+pub task_delivered : (w : World) (v : CodeWorld) (k : ℕ) (o : Option Frame) → Stands w v → o ≡ find_frame v.frames k
+    → task_of w (Action.Again k) ≡ elim o as (λ _. Option Task) [ None ↦ None | Some f ↦ task_at w f.to.node (Event.Arrive f.from f.rec) ]
 task_delivered w v k o h e = ap (λ (x : Option Frame). elim x as (λ _. Option Task) [ None ↦ None | Some f ↦ task_at w f.to.node (Event.Arrive f.from f.rec) ]) (sym (e ∙ frame_same w v k h))
-
-pub tries_at : (w : World) (o q : Option Task) (r : Result (Option (Addr × Answer)) WorldFault) (old new : Ground) → o ≡ q → Tries w q r old new → Tries w o r old new
-tries_at w o q r old new e h = subst (λ (x : Option Task). Tries w x r old new) (sym e) h
-
--- ---- what is shown first
-
--- of a deed that shows nothing
-pub shows_none : (d : Deed) (r : Result (Option (Addr × Answer)) WorldFault) (before : List OutLine) → deed_lines d ≡ [] → ShowsFirst d r before before
-shows_none d (Ok None) before e = refl
-shows_none d (Ok (Some p)) before e = sym (append-nil before) ∙ ap (λ (l : List OutLine). before ++ l) (sym e)
-shows_none d (Err f) before e = tt

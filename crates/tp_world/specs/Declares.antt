@@ -5,7 +5,7 @@ use Rattle.tp_model.specs.declared.out_line.OutLine.{OutLine}
 use Rattle.tp_model.specs.World.{World, addr_at, is_node}
 use Rattle.tp_model.specs.Happenings.{Turn, declared_at}
 use Rattle.tp_world.specs.World.{Stands}
-use Rattle.tp_world.specs.declared.ground.Ground.{Ground}
+use Rattle.tp_world.specs.declared.world.World.{World as CodeWorld}
 
 -- the address of the node of that number, where one is given
 abbrev pub superior_at : World → Option ℕ → Option Addr
@@ -17,5 +17,5 @@ abbrev pub has_superior : World → Option Addr → Bool
 has_superior w up = elim up [ None ↦ true | Some a ↦ is_node w a.node ]
 
 -- the node has come: the lines of the turn stand after those shown before
-abbrev pub HasCome : World → Addr → Option Addr → List OutLine → List OutLine → Ground → Type 0
+abbrev pub HasCome : World → Addr → Option Addr → List OutLine → List OutLine → CodeWorld → Type 0
 HasCome w a up before after new = let t : Turn = declared_at w a.node a.site up in (after ≡ before ++ t.lines) × Stands t.world new

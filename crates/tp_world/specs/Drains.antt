@@ -1,25 +1,26 @@
 -- A drain as the code does it: at most so many turns, in each of which the oldest frame that is not handed over is.
 use Rattle.std.specs.Prelude.{ℕ, ◌≡◌, ◌+◌, ◌++◌, Bool, true, false, Some, None, List, Result, Ok, Err}
+use Rattle.tp_model.specs.declared.line.Action.{Action}
 use Rattle.tp_model.specs.declared.out_line.OutLine.{OutLine}
 use Rattle.tp_model.specs.World.{World, oldest_of_all}
-use Rattle.tp_model.specs.Happenings.{Deliver, Does, Mark, Turn, happens}
+use Rattle.tp_model.specs.Happenings.{Does, Mark, Turn, happens}
 use Rattle.tp_model.specs.Lines.{within_limits, then_result, drain_line}
 use Rattle.tp_world.specs.World.{Stands, Gives}
 use Rattle.tp_world.specs.declared.fault.WorldFault.{WorldFault}
-use Rattle.tp_world.specs.declared.ground.Ground.{Ground}
+use Rattle.tp_world.specs.declared.world.World.{World as CodeWorld}
 
 -- that frame is handed over
 abbrev pub handed : World → ℕ → Turn
-handed w k = happens (happens w (Mark k)).world (Does (Deliver k))
+handed w k = happens (happens w (Mark k)).world (Does (Action.Again k))
 
 -- one turn; it tells whether there was a frame
-abbrev pub Hands : World → List OutLine → Result Bool WorldFault → List OutLine → Ground → Type 0
+abbrev pub Hands : World → List OutLine → Result Bool WorldFault → List OutLine → CodeWorld → Type 0
 Hands w before (Ok false) after new = (oldest_of_all w ≡ None) × (after ≡ before) × Stands w new
 Hands w before (Ok true) after new = (k : ℕ) × (oldest_of_all w ≡ Some k) × Gives (within_limits (handed w k)) before (Ok tt) after new
 Hands w before (Err f) after new = (k : ℕ) × (oldest_of_all w ≡ Some k) × Gives (within_limits (handed w k)) before (Err f) after new
 
 -- so many turns were taken, and the rest of them is left
-pub record IsDrained (w : World) (most done : ℕ) (before shown : List OutLine) (v : Ground) : Type 0 where
+pub record IsDrained (w : World) (most done : ℕ) (before shown : List OutLine) (v : CodeWorld) : Type 0 where
   pub left : ℕ
   pub turns : done + left ≡ most
   pub turn : Turn

@@ -1,7 +1,6 @@
 pub mod Faults
 pub mod Summary
 pub mod Told
-pub mod Errands
 pub mod Requests
 pub mod Sites
 pub mod Slots

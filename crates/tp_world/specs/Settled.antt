@@ -14,7 +14,7 @@ use Rattle.tp_world.specs.declared.fault.WorldFault.{WorldFault}
 use Rattle.tp_network.specs.declared.tree_summary.TreeChange.{TreeChange}
 use Rattle.tp_world.specs.declared.site_slot.Entry.{Entry}
 use Rattle.tp_world.specs.declared.site_slot.Answer.{Answer}
-use Rattle.tp_world.specs.declared.ground.Ground.{Ground}
+use Rattle.tp_world.specs.declared.world.World.{World as CodeWorld}
 
 -- the tree that a step starts
 abbrev pub tree_started : TreeChange → Option Aaid
@@ -36,7 +36,7 @@ entry_lines site (Some x) = forced_lines site x.change.rec
 -- ---- outputs
 
 -- their lines stand after those shown before, and their frames after those sent before
-pub record AreGiven (from : Addr) (outs : List Out) (before after : List OutLine) (old new : Ground) : Type 0 where
+pub record AreGiven (from : Addr) (outs : List Out) (before after : List OutLine) (old new : CodeWorld) : Type 0 where
   pub lines : after ≡ before ++ out_lines from.node (length old.frames) outs
   pub frames : new.frames ≡ old.frames ++ frames_of from outs
   pub few : length old.frames ≤ 65535 → length new.frames ≤ 65535
@@ -45,7 +45,7 @@ pub record AreGiven (from : Addr) (outs : List Out) (before after : List OutLine
   pub trees : new.trees ≡ old.trees
 
 -- or there are more frames than have numbers
-abbrev pub GivesOuts : Addr → List Out → List OutLine → Result (Unit {0}) WorldFault → List OutLine → Ground → Ground → Type 0
+abbrev pub GivesOuts : Addr → List Out → List OutLine → Result (Unit {0}) WorldFault → List OutLine → CodeWorld → CodeWorld → Type 0
 GivesOuts from outs before (Ok u) after old new = AreGiven from outs before after old new
 GivesOuts from outs before (Err WorldFault.Name) after old new = ⊥
 GivesOuts from outs before (Err (WorldFault.Limit what)) after old new = (what ≡ What.Frames) × (65535 < length old.frames + length (frames_of from outs))
@@ -55,14 +55,14 @@ GivesOuts from outs before (Err WorldFault.NoMemory) after old new = Unit {0}
 -- ---- an entry
 
 -- the node's parts take the step, and the tree that starts is known
-pub record IsEntered (number : ℕ) (s : TreeChange) (old new : Ground) : Type 0 where
+pub record IsEntered (number : ℕ) (s : TreeChange) (old new : CodeWorld) : Type 0 where
   pub nodes : AreChanged number s old.nodes new.nodes
   pub trees : new.trees.items ≡ old.trees.items ++ trees_of (tree_started s)
   pub sites : new.sites ≡ old.sites
   pub frames : new.frames ≡ old.frames
 
 -- and its outputs are given
-pub record IsSettledEntry (at : Addr) (x : Entry) (before after : List OutLine) (old new : Ground) : Type 0 where
+pub record IsSettledEntry (at : Addr) (x : Entry) (before after : List OutLine) (old new : CodeWorld) : Type 0 where
   pub nodes : AreChanged at.node x.change old.nodes new.nodes
   pub trees : new.trees.items ≡ old.trees.items ++ trees_of (tree_started x.change)
   pub sites : new.sites ≡ old.sites
@@ -70,7 +70,7 @@ pub record IsSettledEntry (at : Addr) (x : Entry) (before after : List OutLine) 
   pub few : length old.frames ≤ 65535 → length new.frames ≤ 65535
   pub lines : after ≡ before ++ out_lines at.node (length old.frames) x.outs
 
-abbrev pub SettlesEntry : Addr → Entry → List OutLine → Result (Unit {0}) WorldFault → List OutLine → Ground → Ground → Type 0
+abbrev pub SettlesEntry : Addr → Entry → List OutLine → Result (Unit {0}) WorldFault → List OutLine → CodeWorld → CodeWorld → Type 0
 SettlesEntry place x before (Ok u) after old new = IsSettledEntry place x before after old new
 SettlesEntry place x before (Err WorldFault.Name) after old new = ⊥
 SettlesEntry place x before (Err (WorldFault.Limit what)) after old new = (what ≡ What.Frames) × (65535 < length old.frames + length (frames_of place x.outs))
@@ -83,7 +83,7 @@ SettlesEntry place x before (Err WorldFault.NoMemory) after old new = Unit {0}
 abbrev pub head_lines : List ℕ → Answer → List OutLine
 head_lines site a = entry_lines site a.entry ++ refused_lines a.number
 
-abbrev pub SettlesSome : Addr → Option Entry → List OutLine → Result (Unit {0}) WorldFault → List OutLine → Ground → Ground → Type 0
+abbrev pub SettlesSome : Addr → Option Entry → List OutLine → Result (Unit {0}) WorldFault → List OutLine → CodeWorld → CodeWorld → Type 0
 SettlesSome place (Some x) before r after old new = SettlesEntry place x before r after old new
 SettlesSome place None before (Ok u) after old new = (new ≡ old) × (after ≡ before)
 SettlesSome place None before (Err WorldFault.Name) after old new = ⊥
@@ -91,5 +91,5 @@ SettlesSome place None before (Err (WorldFault.Limit what)) after old new = ⊥
 SettlesSome place None before (Err WorldFault.Unbuilt) after old new = ⊥
 SettlesSome place None before (Err WorldFault.NoMemory) after old new = Unit {0}
 
-abbrev pub Settles : Addr → Answer → List OutLine → Result (Unit {0}) WorldFault → List OutLine → Ground → Ground → Type 0
+abbrev pub Settles : Addr → Answer → List OutLine → Result (Unit {0}) WorldFault → List OutLine → CodeWorld → CodeWorld → Type 0
 Settles place a before r after old new = SettlesSome place a.entry (before ++ head_lines place.site a) r after old new

@@ -11,9 +11,8 @@ use Rattle.tp_model.specs.Legal.{IsLegal}
 use Rattle.tp_model.specs.World.{World, Node, Frame, addr_of, number_of, find_site, is_node, site_of}
 use Rattle.tp_model.specs.Parts.{Event, Entry as EntryValue}
 use Rattle.tp_model.specs.History.{digest, answer}
-use Rattle.tp_model.specs.Happenings.{Deed, Turn, Task, deed_lines, entered, logged}
-use Rattle.tp_model.specs.declared.line.StopLine.{StopLine}
-use Rattle.tp_model.specs.Lines.{Fault, Name, Over, is_full, deed_of, marked_by, line}
+use Rattle.tp_model.specs.Happenings.{Turn, Task, after_lines, entered, event_turn, logged, still}
+use Rattle.tp_model.specs.Lines.{Fault, Name, Over, is_full, line}
 use Rattle.tp_model.specs.declared.line.Line.{Line}
 use Rattle.tp_model.specs.Transcript.{echo}
 use Rattle.tp_world.specs.Summary.{summary, change_of}
@@ -25,7 +24,7 @@ use Rattle.tp_network.specs.declared.nodes.NodeSlot.{NodeSlot}
 use Rattle.tp_world.specs.declared.site_slot.SiteSlot.{SiteSlot}
 use Rattle.tp_world.specs.declared.site_slot.Entry.{Entry}
 use Rattle.tp_world.specs.declared.site_slot.Answer.{Answer}
-use Rattle.tp_world.specs.declared.ground.Ground.{Ground}
+use Rattle.tp_world.specs.declared.world.World.{World as CodeWorld}
 
 -- ---- nodes
 
@@ -80,7 +79,7 @@ pub record RestStands (w : World) (xs : List NodeSlot) (fs : List Frame) (ts : L
   pub undriven : w.drives ≡ []
 
 -- in an event the sites go first: between the two the sites stand for the world after it, and the rest for the one before
-pub record Stands (w : World) (v : Ground) : Type 0 where
+pub record Stands (w : World) (v : CodeWorld) : Type 0 where
   pub sites : SitesStand w v.sites.items
   pub rest : RestStands w v.nodes v.frames v.trees.items
 
@@ -92,7 +91,7 @@ fault_of (Over what) = WorldFault.Limit what
 
 -- it shows the lines of the turn after those that stood before, and stands for the world after it; or it tells the fault.
 -- Out of memory is the free answer
-abbrev pub Gives : Result Turn Fault → List OutLine → Result (Unit {0}) WorldFault → List OutLine → Ground → Type 0
+abbrev pub Gives : Result Turn Fault → List OutLine → Result (Unit {0}) WorldFault → List OutLine → CodeWorld → Type 0
 Gives r before (Err WorldFault.NoMemory) lines v = Unit {0}
 Gives r before (Err WorldFault.Unbuilt) lines v = ⊥
 Gives (Ok t) before (Ok u) lines v = (lines ≡ before ++ t.lines) × Stands t.world v
@@ -134,50 +133,15 @@ PlaysAt w n e (Err (WorldFault.Limit what)) new = (what ≡ What.Log) × (is_ful
 PlaysAt w n e (Err WorldFault.Unbuilt) new = ⊥
 PlaysAt w n e (Err WorldFault.NoMemory) new = Unit {0}
 
--- ---- an errand, in its two steps
-
--- the node of the task has answered: its site stands for the world after the entry, and nothing else has changed
-pub record IsAttempted (w : World) (t : Task) (a : Answer) (addr : Addr) (old new : Ground) : Type 0 where
-  pub place : addr ≡ addr_of t.node
-  pub number : a.number ≡ number_answered t.node t.event
-  pub entry : IsEntry t.node (entry_answered t.node t.event) a.entry
-  pub sites : SitesStand (after_entry w t.node (entry_answered t.node t.event)) new.sites.items
-  pub nodes : new.nodes ≡ old.nodes
-  pub frames : new.frames ≡ old.frames
-  pub trees : new.trees ≡ old.trees
-
--- without a task nothing happens; a want of room in the log is told before anything of the event is so
-abbrev pub Tries : World → Option Task → Result (Option (Addr × Answer)) WorldFault → Ground → Ground → Type 0
-Tries w None (Ok None) old new = new ≡ old
-Tries w None (Ok (Some p)) old new = ⊥
-Tries w (Some t) (Ok None) old new = ⊥
-Tries w (Some t) (Ok (Some p)) old new = IsAttempted w t p.1 p.0 old new
-Tries w None (Err WorldFault.Name) old new = ⊥
-Tries w None (Err (WorldFault.Limit what)) old new = ⊥
-Tries w None (Err WorldFault.Unbuilt) old new = ⊥
-Tries w None (Err WorldFault.NoMemory) old new = Unit {0}
-Tries w (Some t) (Err WorldFault.Name) old new = ⊥
-Tries w (Some t) (Err (WorldFault.Limit what)) old new =
-    (what ≡ What.Log) × (is_full (after_entry w t.node (entry_answered t.node t.event)).sites ≡ true)
-Tries w (Some t) (Err WorldFault.Unbuilt) old new = ⊥
-Tries w (Some t) (Err WorldFault.NoMemory) old new = Unit {0}
-
--- what is shown of it before the answer: a frame that is handed over
-abbrev pub ShowsFirst : Deed → Result (Option (Addr × Answer)) WorldFault → List OutLine → List OutLine → Type 0
-ShowsFirst d (Ok None) before after = after ≡ before
-ShowsFirst d (Ok (Some p)) before after = after ≡ before ++ deed_lines d
-ShowsFirst d (Err e) before after = Unit {0}
-
--- the event of a line, for which a pass marks its frame
-pub record Resolves (w : World) (l : StopLine) (d : Option Deed) (new : Ground) : Type 0 where
-  pub deed : d ≡ deed_of w l
-  pub world : Stands (marked_by w l) new
+-- what an event of a node gives, after the lines that are shown first; where there is no such node nothing happens
+abbrev pub task_turn : World → List OutLine → Option Task → Turn
+task_turn w ls o = elim o [ None ↦ still w | Some t ↦ after_lines ls (event_turn w t.node t.event) ]
 
 -- ---- a line
 
 -- it shows its echo and the lines of the turn, and the world stands for the one after it; or it tells the fault. No member is asked,
 -- so it does not matter how many there are
-abbrev pub Plays : World → Line → Result (List OutLine) WorldFault → Ground → Type 0
+abbrev pub Plays : World → Line → Result (List OutLine) WorldFault → CodeWorld → Type 0
 Plays w l (Ok lines) new = (t : Turn) × ((members : ℕ) → line members w l ≡ Ok t) × (lines ≡ echo l ++ t.lines) × Stands t.world new
 Plays w l (Err WorldFault.Name) new = (members : ℕ) → line members w l ≡ Err Name
 Plays w l (Err (WorldFault.Limit what)) new = (members : ℕ) → line members w l ≡ Err (Over what)

@@ -1,11 +1,8 @@
 //! The lines that close a transcript.
 ghost use Rattle.std.specs.Prelude.{◌≡◌, IfOk};
-ghost use Rattle.tp_model.specs.World.{World as WorldValue};
-ghost use Rattle.tp_model.specs.Trees.{closing, is_told};
+ghost use Rattle.tp_model.specs.Trees.{is_told};
 ghost use Rattle.tp_world.specs.Told.{stays_in, some_told_at, all_told_at, decides_in, deciders_at, differing_line_at, closing_line_at, closing_at};
-ghost use Rattle.tp_world.specs.World.{Stands};
 
-use crate::ground::Ground;
 use crate::shown::placed;
 use std::alloc::Global;
 use tp_model::{NodeNumbers, OutLine, OutLines};
@@ -108,9 +105,13 @@ fn closing_line(alloc: Global, tree: &Aaid, nodes: &[NodeSlot]) -> Result<OutLin
     differing_line(alloc, tree, nodes)
 }
 
-// One line for each of the trees.
+/// One line for each of the trees.
 #[tactic(auto, using(crate::proofs::ToldAt::line_next))]
-fn closing_lines(alloc: Global, trees: &[Aaid], nodes: &[NodeSlot]) -> Result<OutLines, NoMemory>
+pub(crate) fn closing_lines(
+    alloc: Global,
+    trees: &[Aaid],
+    nodes: &[NodeSlot],
+) -> Result<OutLines, NoMemory>
     ensures { IfOk result (λ lines. lines ≡ closing_at nodes.now trees.now) }
 {
     let mut lines = OutLines::new(alloc);
@@ -119,14 +120,4 @@ fn closing_lines(alloc: Global, trees: &[Aaid], nodes: &[NodeSlot]) -> Result<Ou
         lines.push(alloc, line)?;
     }
     Ok(lines)
-}
-
-impl Ground {
-    /// One line for each tree, in the order of their starts.
-    #[tactic(auto, using(crate::proofs::Tellings::closing_same))]
-    pub(crate) fn closing(&self, alloc: Global) -> Result<OutLines, NoMemory>
-        ensures { IfOk result (λ lines. (w : WorldValue) → Stands w self.now → lines ≡ closing w) }
-    {
-        closing_lines(alloc, self.trees.as_slice(), self.nodes.as_slice())
-    }
 }

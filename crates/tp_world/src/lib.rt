@@ -5,9 +5,8 @@
 #![tactic(auto)]
 
 mod closing;
+mod event;
 mod fault;
-mod ground;
-mod named;
 mod play;
 mod requests;
 mod shown;

@@ -1,21 +1,26 @@
 //! What each line does, without members.
-ghost use Rattle.std.specs.Prelude.{◌≡◌, ◌&&◌, ◌++◌, not, nat_le, length, true, false, Ok, OnOk};
+ghost use Rattle.std.specs.Prelude.{◌≡◌, ◌&&◌, ◌++◌, [], not, nat_le, length, true, false, Option, Ok, OnOk};
 ghost use Rattle.tp_model.specs.World.{World as WorldValue, is_node, is_site};
-ghost use Rattle.tp_model.specs.Lines.{if_named, deed_line, node_limit, node_line, skip_line, drain_line, show_line};
-ghost use Rattle.tp_world.specs.Errands.{stop_of};
+ghost use Rattle.tp_names.specs.declared.identifiers.Addr.{Addr as AddrValue};
+ghost use Rattle.tp_model.specs.declared.line.Action.{Action};
+ghost use Rattle.tp_model.specs.Happenings.{task_at};
+ghost use Rattle.tp_model.specs.Legal.{IsUnder};
+ghost use Rattle.tp_model.specs.Lines.{if_named, is_peer, is_frame, action_line, node_limit, node_line, skip_line, drain_line, show_line, within_limits};
+ghost use Rattle.tp_site.specs.NodeEvent.{event_of};
 ghost use Rattle.tp_world.specs.Placing.{boot_lines};
 ghost use Rattle.tp_world.specs.Declares.{superior_at, has_superior, HasCome};
 ghost use Rattle.tp_world.specs.Drains.{Hands};
-ghost use Rattle.tp_world.specs.World.{Stands, Gives};
+ghost use Rattle.tp_world.specs.World.{Stands, Gives, task_turn};
 
 use crate::fault::WorldFault;
-use crate::ground::Ground;
-use crate::named::Errand;
+use crate::requests::peer_of;
 use crate::shown::state_shown;
 use crate::sites::{declare_at, state_at};
+use crate::world::World;
 use std::alloc::Global;
-use tp_model::{LogWords, OutLine, OutLines, What};
+use tp_model::{LineRequest, LogWords, OutLine, OutLines, What};
 use tp_names::{Addr, NoMemory, SiteName};
+use tp_site::NodeEvent;
 
 /// The most sites and nodes.
 const MOST_SITES: usize = 16;
@@ -25,7 +30,33 @@ const MOST_NODES: usize = 256;
 /// More frames than may be sent.
 const PAST_FRAMES: u32 = 65536;
 
-impl Ground {
+impl World {
+    // A node of that number is declared.
+    #[tactic(auto, using(crate::proofs::Stood::node_same))]
+    fn is_node(&self, node: u16) -> bool
+        ensures { (w : WorldValue) → Stands w self.now → result ≡ is_node w node }
+    {
+        self.nodes.addr(node).is_some()
+    }
+
+    // A node of that number is declared, where a number is given.
+    fn is_peer(&self, peer: Option<u16>) -> bool
+        ensures { (w : WorldValue) → Stands w self.now → result ≡ is_peer w peer }
+    {
+        match peer {
+            None => true,
+            Some(peer) => self.is_node(peer),
+        }
+    }
+
+    // A frame of that number was sent.
+    #[tactic(auto, using(crate::proofs::Stood::frame_same))]
+    fn is_frame(&self, frame: u16) -> bool
+        ensures { (w : WorldValue) → Stands w self.now → result ≡ is_frame w frame }
+    {
+        self.frames.find(frame).is_some()
+    }
+
     // The site is not there, and there are as many as there may be.
     #[tactic(auto, using(crate::proofs::Coming::sites_count))]
     fn is_site_too_many(&self, site: &SiteName) -> bool
@@ -96,25 +127,90 @@ impl Ground {
         Ok(())
     }
 
-    /// A line with one event.
-    pub(crate) fn errand_line(
+    /// A request of a node's user.
+    pub(crate) fn request_line(
         &mut self,
         alloc: Global,
-        errand: Errand<'_>,
+        node: u16,
+        request: &LineRequest,
         lines: &mut OutLines,
     ) -> Result<(), WorldFault>
-        ensures { (w : WorldValue) → Stands w self.old → Gives (deed_line w (stop_of errand.entry)) lines.old result lines.new self.new }
+        ensures { (w : WorldValue) → Stands w self.old → Gives (action_line w (Action.Do node request.now)) lines.old result lines.new self.new }
     {
-        if !self.is_named(&errand) {
+        if !self.is_node(node) || !self.is_peer(peer_of(request)) {
             return Err(WorldFault::Name);
         }
-        match self.resolved(errand) {
+        self.ask(alloc, node, request, lines)
+    }
+
+    /// The oldest frame from the one node to the other is handed over.
+    pub(crate) fn pass_line(
+        &mut self,
+        alloc: Global,
+        from: u16,
+        to: u16,
+        lines: &mut OutLines,
+    ) -> Result<(), WorldFault>
+        ensures { (w : WorldValue) → Stands w self.old → Gives (action_line w (Action.Pass from to)) lines.old result lines.new self.new }
+    {
+        if !self.is_node(from) || !self.is_node(to) {
+            return Err(WorldFault::Name);
+        }
+        match self.frames.hand_between(from, to) {
             None => {
                 lines.push(alloc, OutLine::Nothing)?;
                 Ok(())
             }
-            Some(errand) => self.deed(alloc, &errand, lines),
+            Some(frame) => self.deliver(alloc, frame, lines),
         }
+    }
+
+    /// A frame is handed over, once more if it was before.
+    pub(crate) fn again_line(
+        &mut self,
+        alloc: Global,
+        frame: u16,
+        lines: &mut OutLines,
+    ) -> Result<(), WorldFault>
+        ensures { (w : WorldValue) → Stands w self.old → Gives (action_line w (Action.Again frame)) lines.old result lines.new self.new }
+    {
+        if !self.is_frame(frame) {
+            return Err(WorldFault::Name);
+        }
+        self.deliver(alloc, frame, lines)
+    }
+
+    /// A local event of a node.
+    pub(crate) fn local_line(
+        &mut self,
+        alloc: Global,
+        node: u16,
+        event: &NodeEvent<'_>,
+        lines: &mut OutLines,
+    ) -> Result<(), WorldFault>
+        ensures { (w : WorldValue) → Stands w self.old → ((up : Option AddrValue) → IsUnder up (event_of event.now)) → Gives (if_named (is_node w node) (within_limits (task_turn w [] (task_at w node (event_of event.now))))) lines.old result lines.new self.new }
+    {
+        if !self.is_node(node) {
+            return Err(WorldFault::Name);
+        }
+        self.local(alloc, node, event, lines)
+    }
+
+    /// A local event of a node on its arc to another node.
+    pub(crate) fn arc_line(
+        &mut self,
+        alloc: Global,
+        node: u16,
+        peer: u16,
+        event: &NodeEvent<'_>,
+        lines: &mut OutLines,
+    ) -> Result<(), WorldFault>
+        ensures { (w : WorldValue) → Stands w self.old → ((up : Option AddrValue) → IsUnder up (event_of event.now)) → Gives (if_named (is_node w node && is_node w peer) (within_limits (task_turn w [] (task_at w node (event_of event.now))))) lines.old result lines.new self.new }
+    {
+        if !self.is_node(node) || !self.is_node(peer) {
+            return Err(WorldFault::Name);
+        }
+        self.local(alloc, node, event, lines)
     }
 
     /// The oldest frame from the one node to the other counts as handed over.
@@ -149,7 +245,7 @@ impl Ground {
         let Some(frame) = self.frames.hand_oldest() else {
             return Ok(false);
         };
-        self.deed(alloc, &Errand::Again { frame }, lines)?;
+        self.deliver(alloc, frame, lines)?;
         Ok(true)
     }
 

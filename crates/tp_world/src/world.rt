@@ -5,30 +5,27 @@ ghost use Rattle.tp_model.specs.Lines.{line as line_value};
 ghost use Rattle.tp_model.specs.World.{World as WorldValue, empty_world};
 ghost use Rattle.tp_model.specs.Trees.{closing};
 ghost use Rattle.tp_world.specs.World.{Stands, Plays, Gives};
-ghost use Rattle.tp_world.specs.Built.{is_built};
+ghost use Rattle.tp_world.specs.Built.{is_built, is_local};
 ghost use Rattle.tp_world.specs.declared.fault.WorldFault.{WorldFault};
 
+use crate::closing::closing_lines;
 use crate::fault::WorldFault;
-use crate::ground::Ground;
-use crate::named::Errand;
+use crate::site_slot::SiteSlot;
 use std::alloc::Global;
-use std::marker::Model;
 use tp_model::{Line, OutLine, OutLines};
-use tp_names::{NoMemory, Octets};
+use tp_names::{Aaid, NoMemory, Octets};
+use tp_network::{Frames, Nodes};
+use tp_records::{PeerRecord, Request};
 use tp_schedule::write_line;
+use tp_site::NodeEvent;
 
-/// A world of nodes under a written schedule.
+/// A world of nodes under a written schedule: its nodes, sites and frames, and its trees in the order of their starts.
 #[derive(Drop)]
 pub struct World {
-    ground: Ground,
-}
-
-impl Model for World {
-    ghost use Rattle.tp_world.specs.declared.ground.Ground.{Ground};
-
-    ghost Value = { Ground };
-
-    ghost view = { λ s. s.ground };
+    pub(crate) nodes: Nodes,
+    pub(crate) sites: Vec<SiteSlot>,
+    pub(crate) frames: Frames,
+    pub(crate) trees: Vec<Aaid>,
 }
 
 // Lines of these kinds are played.
@@ -60,7 +57,10 @@ impl World {
         ensures { Stands empty_world result }
     {
         World {
-            ground: Ground::new(alloc),
+            nodes: Nodes::new(alloc),
+            sites: Vec::new(alloc),
+            frames: Frames::new(alloc),
+            trees: Vec::new(alloc),
         }
     }
 
@@ -79,10 +79,11 @@ impl World {
     }
 
     /// One line for each tree, in the order of their starts.
+    #[tactic(auto, using(crate::proofs::Tellings::closing_same))]
     pub fn closing(&self, alloc: Global) -> Result<OutLines, NoMemory>
         ensures { IfOk result (λ lines. (w : WorldValue) → Stands w self.now → lines ≡ closing w) }
     {
-        self.ground.closing(alloc)
+        closing_lines(alloc, self.trees.as_slice(), self.nodes.as_slice())
     }
 
     // A line without its echo.
@@ -94,16 +95,44 @@ impl World {
     ) -> Result<(), WorldFault>
         ensures { (w : WorldValue) → Stands w self.old → is_built line.now ≡ true → Gives (line_value 0 w line.now) lines.old result lines.new self.new }
     {
-        if let Some(errand) = Errand::of_line(line) {
-            return self.ground.errand_line(alloc, errand, lines);
-        }
         match line {
-            Line::Node { node, site, under } => {
-                self.ground.node_line(alloc, *node, *site, *under, lines)
+            Line::Node { node, site, under } => self.node_line(alloc, *node, *site, *under, lines),
+            Line::Do { node, request } => self.request_line(alloc, *node, request, lines),
+            Line::Pass { from, to } => self.pass_line(alloc, *from, *to, lines),
+            Line::Skip { from, to } => self.skip_line(alloc, *from, *to, lines),
+            Line::Again { frame } => self.again_line(alloc, *frame, lines),
+            Line::Drain => self.drain_line(alloc, lines),
+            Line::Show { node } => self.show_line(alloc, *node, lines),
+            _ => self.event_line(alloc, line, lines),
+        }
+    }
+
+    // A line with a local event of a node.
+    fn event_line(
+        &mut self,
+        alloc: Global,
+        line: &Line,
+        lines: &mut OutLines,
+    ) -> Result<(), WorldFault>
+        ensures { (w : WorldValue) → Stands w self.old → is_local line.now ≡ true → Gives (line_value 0 w line.now) lines.old result lines.new self.new }
+    {
+        let _rec: Option<&PeerRecord> = None;
+        let _request: Option<&Request> = None;
+        match line {
+            Line::Lose { node, peer } => {
+                let event = NodeEvent::Lose { peer: *peer };
+                self.arc_line(alloc, *node, *peer, &event, lines)
             }
-            Line::Skip { from, to } => self.ground.skip_line(alloc, *from, *to, lines),
-            Line::Drain => self.ground.drain_line(alloc, lines),
-            Line::Show { node } => self.ground.show_line(alloc, *node, lines),
+            Line::GiveUp { node, peer } => {
+                let event = NodeEvent::GiveUp { peer: *peer };
+                self.arc_line(alloc, *node, *peer, &event, lines)
+            }
+            Line::Heur { node, outcome } => {
+                let event = NodeEvent::Heur { outcome: *outcome };
+                self.local_line(alloc, *node, &event, lines)
+            }
+            Line::Retry { node } => self.local_line(alloc, *node, &NodeEvent::Retry, lines),
+            Line::Purge { node } => self.local_line(alloc, *node, &NodeEvent::Purge, lines),
             _ => Err(WorldFault::Unbuilt),
         }
     }

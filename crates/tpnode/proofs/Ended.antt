@@ -15,7 +15,7 @@ use Rattle.tp_schedule.specs.declared.line_fault.LineFault.{LineFault}
 use Rattle.tp_world.specs.Built.{is_built}
 use Rattle.tp_world.specs.World.{Plays}
 use Rattle.tp_world.specs.declared.fault.WorldFault.{WorldFault}
-use Rattle.tp_world.specs.declared.ground.Ground.{Ground}
+use Rattle.tp_world.specs.declared.world.World.{World as CodeWorld}
 use Rattle.tpnode.specs.Shown.{Ends, Goes, Stops, turn_shown, line_shown, reading_shown}
 use Rattle.tpnode.specs.Playing.{IsEndOf, IsShown, unread_as, unplayed_as}
 use Rattle.tpnode.specs.declared.status.Status.{Status}
@@ -36,7 +36,7 @@ unread_ends at w LineFault.NoMemory r is = tt
 pub blank_shown : (at : ℕ) (w : World) (r : Reading) → Blank ≡ r → reading_shown at w r ≡ Goes [] w
 blank_shown at w r is = ap (reading_shown at w) (sym is)
 
-pub said_shown : (at : ℕ) (w : World) (x : Line) (r : Reading) (a : Result (Unit {0}) Status) (old out : List ℕ) (new : Ground) → Says x ≡ r
+pub said_shown : (at : ℕ) (w : World) (x : Line) (r : Reading) (a : Result (Unit {0}) Status) (old out : List ℕ) (new : CodeWorld) → Says x ≡ r
     → IsShown (line_shown at w x) a old out new → IsShown (reading_shown at w r) a old out new
 said_shown at w x r a old out new is h = subst (λ v. IsShown (reading_shown at w v) a old out new) is h
 
@@ -63,14 +63,14 @@ built_but x r so other = go (is_built x) refl
 built_shown : (at : ℕ) (w : World) (x : Line) (r : Result Turn Fault) → is_built x ≡ true → line 3 w x ≡ r → line_shown at w x ≡ turn_shown at x r
 built_shown at w x r built is = rw built (ap (turn_shown at x) is)
 
-pub unplayed_ends : (at : ℕ) (w : World) (x : Line) (f : WorldFault) (new : Ground) → IsUnbuiltSo x (Err f) → Plays w x (Err f) new
+pub unplayed_ends : (at : ℕ) (w : World) (x : Line) (f : WorldFault) (new : CodeWorld) → IsUnbuiltSo x (Err f) → Plays w x (Err f) new
     → IsEndOf (line_shown at w x) (unplayed_as at f)
 unplayed_ends at w x WorldFault.Name new so plays = built_shown at w x (Err Name) (built_but x (Err WorldFault.Name) so refl) (plays 3)
 unplayed_ends at w x (WorldFault.Limit what) new so plays = built_shown at w x (Err (Over what)) (built_but x (Err (WorldFault.Limit what)) so refl) (plays 3)
 unplayed_ends at w x WorldFault.Unbuilt new so plays = rw plays refl
 unplayed_ends at w x WorldFault.NoMemory new so plays = tt
 
-pub plays_shown : (at : ℕ) (w : World) (x : Line) (lines : List OutLine) (old out : List ℕ) (new : Ground) → IsUnbuiltSo x (Ok lines) → Plays w x (Ok lines) new
+pub plays_shown : (at : ℕ) (w : World) (x : Line) (lines : List OutLine) (old out : List ℕ) (new : CodeWorld) → IsUnbuiltSo x (Ok lines) → Plays w x (Ok lines) new
     → out ≡ old ++ out_texts lines → IsShown (line_shown at w x) (Ok tt) old out new
 plays_shown at w x lines old out new so plays is = (
   out_texts lines,

@@ -4,7 +4,7 @@ use Rattle.std.proofs.lemmas.List.{append-nil}
 use Rattle.tp_model.specs.World.{World}
 use Rattle.tp_model.specs.Transcript.{RawLine, At_limit, Done}
 use Rattle.tp_schedule.specs.LinesLeft.{Place}
-use Rattle.tp_world.specs.declared.ground.Ground.{Ground}
+use Rattle.tp_world.specs.declared.world.World.{World as CodeWorld}
 use Rattle.tpnode.specs.declared.status.Status.{Status}
 use Rattle.tpnode.specs.Shown.{End, Ends, Shown, ends, written, shown_from, shown, behind, closes}
 use Rattle.tpnode.specs.Replay.{IsFront, WritesAll, Writes, WritesFront, WritesBut, ending_of}
@@ -36,7 +36,7 @@ stopped at before w ls status all now h is = go status h
     go (Status.WriteFault n) h = absurd h
     go Status.NoMemory h = ([], front_none (written (shown_from at before w ls)), is ∙ ap Some (sym (append-nil all)))
 
-pub ends_so : (at : ℕ) (bytes before : List ℕ) (v : Ground) (place : Place) (left start now : Option (List ℕ)) (pending : List ℕ) (status : Status)
+pub ends_so : (at : ℕ) (bytes before : List ℕ) (v : CodeWorld) (place : Place) (left start now : Option (List ℕ)) (pending : List ℕ) (status : Status)
     → (s : SoFar at bytes v place left start now pending) → start ≡ Some before → StopsSo at place.before s.world s.lines status → WritesBut before (shown bytes) status pending now
 ends_so at bytes before v place left start now pending status s is h = record {
   text = s.text;
@@ -53,7 +53,7 @@ ends_so at bytes before v place left start now pending status s is h = record {
 }
 
 -- the closing lines come after the last line
-pub closes_so : (at : ℕ) (bytes before : List ℕ) (v : Ground) (place : Place) (left start now : Option (List ℕ)) (pending : List ℕ)
+pub closes_so : (at : ℕ) (bytes before : List ℕ) (v : CodeWorld) (place : Place) (left start now : Option (List ℕ)) (pending : List ℕ)
     → (s : SoFar at bytes v place left start now pending) → start ≡ Some before → s.lines ≡ [] → WritesBut before (shown bytes) Status.Ok (pending ++ (closes s.world).closing) now
 closes_so at bytes before v place left start now pending s is none = record {
   text = s.text ++ (closes s.world).closing;
@@ -70,7 +70,7 @@ closes_so at bytes before v place left start now pending s is none = record {
 }
 
 -- what a line shows was put at the end of what was pending, which was written in part
-pub fails_so : (at : ℕ) (bytes before : List ℕ) (v : Ground) (place : Place) (left start now : Option (List ℕ)) (pending text : List ℕ) (new_place : Place) (unread : Option (List ℕ)) (new : Ground)
+pub fails_so : (at : ℕ) (bytes before : List ℕ) (v : CodeWorld) (place : Place) (left start now : Option (List ℕ)) (pending text : List ℕ) (new_place : Place) (unread : Option (List ℕ)) (new : CodeWorld)
     (then : Option (List ℕ)) → (s : SoFar at bytes v place left start now pending) → PlaysFirst at place.before s.world s.lines text new_place unread new
     → start ≡ Some before → ((all : List ℕ) → now ≡ Some all → WritesFront all (pending ++ text) then) → WritesFront before (written (shown bytes)) then
 fails_so at bytes before v place left start now pending text new_place unread new then s p is writes =

@@ -9,7 +9,7 @@ use Rattle.tp_model.specs.Transcript.{RawLine, raw_lines, before_first, content,
 use Rattle.tp_schedule.specs.AtHand.{together}
 use Rattle.tp_schedule.specs.LinesLeft.{Place, answer, first_of, judged, unless_read, IsFor, HandsOut, Leaves, lines_left}
 use Rattle.tp_schedule.specs.declared.lines_fault.LinesFault.{LinesFault}
-use Rattle.tp_world.specs.declared.ground.Ground.{Ground}
+use Rattle.tp_world.specs.declared.world.World.{World as CodeWorld}
 use Rattle.tpnode.specs.declared.status.Status.{Status}
 use Rattle.tpnode.specs.Shown.{Ends, Stops, reading_shown}
 use Rattle.tpnode.specs.Playing.{first_shown, IsEndOf, IsShown, PlaysNext, StopsSo, unheard_as}
@@ -123,7 +123,7 @@ first_read : (at before : ℕ) (w : World) (l : RawLine) (text : List ℕ) → c
     → first_shown at before w l ≡ reading_shown at w (read_line text)
 first_read at before w l text is within = rw (first_shown, within) (ap (λ t. reading_shown at w (read_line t)) is)
 
-pub plays_first : (at : ℕ) (w : World) (p : Place) (left : Option (List ℕ)) (ls : List RawLine) (text : List ℕ) (old out : List ℕ) (new : Place) (unread : Option (List ℕ)) (v : Ground)
+pub plays_first : (at : ℕ) (w : World) (p : Place) (left : Option (List ℕ)) (ls : List RawLine) (text : List ℕ) (old out : List ℕ) (new : Place) (unread : Option (List ℕ)) (v : CodeWorld)
     → Parted p left ls text new unread → IsShown (reading_shown at w (read_line text)) (Ok tt) old out v → PlaysNext at p.before w ls (Ok true) old out new unread v
 plays_first at w p left ls text old out new unread v parts h = (
   h.0,

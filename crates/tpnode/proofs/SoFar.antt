@@ -8,7 +8,7 @@ use Rattle.tp_model.specs.Transcript.{RawLine, raw_lines, taken_by, Done, At_lim
 use Rattle.tp_schedule.specs.AtHand.{together}
 use Rattle.tp_schedule.specs.LinesLeft.{Place, lines_left}
 use Rattle.tp_world.specs.World.{Stands}
-use Rattle.tp_world.specs.declared.ground.Ground.{Ground}
+use Rattle.tp_world.specs.declared.world.World.{World as CodeWorld}
 use Rattle.tpnode.specs.declared.status.Status.{Status}
 use Rattle.tpnode.specs.Shown.{End, Ends, Shown, Goes, Stops, ends, behind, written, shown_from, shown}
 use Rattle.tpnode.specs.Replay.{IsFront, WritesFront, WritesAll, Writes, WroteBut, ending_of}
@@ -17,7 +17,7 @@ use Rattle.tpnode.proofs.Behind.{takes_some}
 use Rattle.tpnode.proofs.Fronts.{front_behind}
 use Rattle.tpnode.proofs.Pending.{wrote_more, wrote_some}
 
-pub record SoFar (at : ℕ) (bytes : List ℕ) (v : Ground) (place : Place) (left start now : Option (List ℕ)) (pending : List ℕ) : Type 0 where
+pub record SoFar (at : ℕ) (bytes : List ℕ) (v : CodeWorld) (place : Place) (left start now : Option (List ℕ)) (pending : List ℕ) : Type 0 where
   pub world : World
   pub lines : List RawLine
   pub text : List ℕ
@@ -28,7 +28,7 @@ pub record SoFar (at : ℕ) (bytes : List ℕ) (v : Ground) (place : Place) (lef
   pub wrote : (before : List ℕ) → start ≡ Some before → WroteBut before text pending now
   pub shows : shown bytes ≡ behind text (shown_from at place.before world lines)
 
-pub at_start : (bytes : List ℕ) (v : Ground) (left start : Option (List ℕ)) → Stands empty_world v → left ≡ Some bytes
+pub at_start : (bytes : List ℕ) (v : CodeWorld) (left start : Option (List ℕ)) → Stands empty_world v → left ≡ Some bytes
     → SoFar 1 bytes v (record { held = []; before = 0; fault = None }) left start start []
 at_start bytes v left start stands is = record {
   world = empty_world;
@@ -76,7 +76,7 @@ of_bytes place left l ls is = go (together place.held left) refl
     go (Some all) e = takes_some all l ls (let same : Some (raw_lines all) ≡ Some (l ∷ ls) = sym (ap (option_map raw_lines) e) ∙ is in grind (arith, same))
 
 -- it was played
-pub shows_more : (at : ℕ) (bytes : List ℕ) (v : Ground) (place : Place) (left start now : Option (List ℕ)) (pending text : List ℕ) (new_place : Place) (unread : Option (List ℕ)) (new : Ground)
+pub shows_more : (at : ℕ) (bytes : List ℕ) (v : CodeWorld) (place : Place) (left start now : Option (List ℕ)) (pending text : List ℕ) (new_place : Place) (unread : Option (List ℕ)) (new : CodeWorld)
     → (s : SoFar at bytes v place left start now pending) → (p : PlaysFirst at place.before s.world s.lines text new_place unread new)
     → shown bytes ≡ behind (s.text ++ text) (shown_from (at + 1) new_place.before p.world p.rest)
 shows_more at bytes v place left start now pending text new_place unread new s p =
@@ -94,7 +94,7 @@ shows_more at bytes v place left start now pending text new_place unread new s p
     two r = ap (λ ls. record r { lines = ls }) (sym (append_assoc s.text text r.lines))
 
 -- and what it shows was put at the end of what was pending, which was written but for the rest
-pub further : (at : ℕ) (bytes : List ℕ) (v : Ground) (place : Place) (left start now : Option (List ℕ)) (pending text : List ℕ) (new_place : Place) (unread : Option (List ℕ)) (new : Ground) (then : Option (List ℕ))
+pub further : (at : ℕ) (bytes : List ℕ) (v : CodeWorld) (place : Place) (left start now : Option (List ℕ)) (pending text : List ℕ) (new_place : Place) (unread : Option (List ℕ)) (new : CodeWorld) (then : Option (List ℕ))
     (rest : List ℕ) → (s : SoFar at bytes v place left start now pending) → PlaysFirst at place.before s.world s.lines text new_place unread new
     → ((all : List ℕ) → now ≡ Some all → WroteBut all (pending ++ text) rest then) → SoFar (at + 1) bytes new new_place unread start then rest
 further at bytes v place left start now pending text new_place unread new then rest s p writes = record {

@@ -2,15 +2,15 @@
 use Rattle.std.proofs.Common.{◌≡◌, ℕ, zero, suc, nat_lt, length, Bool, true, false, refl, subst, Option, Some, None, List, [], ◌∷◌, Result, Ok, Err, arith}
 use Rattle.tp_names.specs.declared.identifiers.Addr.{Addr}
 use Rattle.tp_logrec.specs.declared.record.LogRec.{LogRec}
-use Rattle.tp_model.specs.declared.line.StopLine.{StopLine}
+use Rattle.tp_model.specs.declared.line.Action.{Action}
 use Rattle.tp_model.specs.declared.line.Line.{Line}
 use Rattle.tp_model.specs.declared.out_line.OutLine.{OutLine}
 use Rattle.tp_model.specs.declared.verdict.What.{What}
 use Rattle.tp_model.specs.Parts.{Entry, Answer}
 use Rattle.tp_model.specs.History.{digest, answer, state}
 use Rattle.tp_model.specs.World.{World, Node, Site, addr_at, find_node, find_site, oldest_between, oldest_of_all}
-use Rattle.tp_model.specs.Happenings.{Deed, Deliver, Declare, Does, Mark, Task, Turn, still, happens, task_of, after_lines, deed_lines, deed_turn, event_turn, entry_turn, entered, logged, declared_at, declare_turn}
-use Rattle.tp_model.specs.Lines.{Fault, Name, Over, state_line, within_limits, is_full, if_named, is_named, deed_of, marked, marked_by, shows, deed_line, node_line, node_limit, skip_line, then_result, drain_line, show_line, line}
+use Rattle.tp_model.specs.Happenings.{Declare, Does, Mark, Task, Turn, still, happens, task_of, after_lines, action_lines, action_turn, event_turn, entry_turn, entered, logged, declared_at, declare_turn}
+use Rattle.tp_model.specs.Lines.{Fault, Name, Over, state_line, within_limits, is_full, if_named, is_named, resolved, marked, marked_by, shows, action_line, node_line, node_limit, skip_line, then_result, drain_line, show_line, line}
 use Rattle.tp_world.specs.Built.{is_built}
 
 abbrev Free : World → Type 0
@@ -26,10 +26,10 @@ entry_free : (w : World) (n : Node) (number : Option ℕ) (e : Option Entry) →
 entry_free w n number None f = f
 entry_free w n number (Some e) f = logged_free (entered w n e) n e.rec f
 
-deed_free : (w : World) (d : Deed) → Free w → Free (deed_turn w d).world
-deed_free w d f = go (task_of w d)
+action_free : (w : World) (d : Action) → Free w → Free (action_turn w d).world
+action_free w d f = go (task_of w d)
   where
-    go : (t : Option Task) → Free (elim t as (λ _. Turn) [ None ↦ still w | Some t ↦ after_lines (deed_lines d) (event_turn w t.node t.event) ]).world
+    go : (t : Option Task) → Free (elim t as (λ _. Turn) [ None ↦ still w | Some t ↦ after_lines (action_lines d) (event_turn w t.node t.event) ]).world
     go None = f
     go (Some t) = let a : Answer = answer t.node.origin t.node.history t.event in entry_free w t.node a.number a.entry f
 
@@ -73,20 +73,20 @@ free_named : (b : Bool) (r : Result Turn Fault) → LeavesFree r → LeavesFree 
 free_named true r h = h
 free_named false r h = tt
 
-free_marked : (w : World) (l : StopLine) → Free w → Free (marked_by w l)
-free_marked w (StopLine.Pass a b) f = go (oldest_between w a b)
+free_marked : (w : World) (l : Action) → Free w → Free (marked_by w l)
+free_marked w (Action.Pass a b) f = go (oldest_between w a b)
   where
     go : (k : Option ℕ) → Free (marked w k)
     go None = f
     go (Some k) = f
 free_marked w _ f = f
 
-free_deed_line : (w : World) (l : StopLine) → Free w → LeavesFree (deed_line w l)
-free_deed_line w l f = free_named (is_named w l) _ (go (deed_of w l))
+free_action_line : (w : World) (l : Action) → Free w → LeavesFree (action_line w l)
+free_action_line w l f = free_named (is_named w l) _ (go (resolved w l))
   where
-    go : (o : Option Deed) → LeavesFree (elim o as (λ _. Result Turn Fault) [ None ↦ Ok (shows w (OutLine.Nothing ∷ [])) | Some d ↦ within_limits (happens (marked_by w l) (Does d)) ])
+    go : (o : Option Action) → LeavesFree (elim o as (λ _. Result Turn Fault) [ None ↦ Ok (shows w (OutLine.Nothing ∷ [])) | Some d ↦ within_limits (happens (marked_by w l) (Does d)) ])
     go None = f
-    go (Some d) = free_within (happens (marked_by w l) (Does d)) (deed_free (marked_by w l) d (free_marked w l f))
+    go (Some d) = free_within (happens (marked_by w l) (Does d)) (action_free (marked_by w l) d (free_marked w l f))
 
 free_node_line : (w : World) (n : ℕ) (s : List ℕ) (under : Option ℕ) → Free w → LeavesFree (node_line w n s under)
 free_node_line w n s under f = free_named _ _ (go (node_limit w s))
@@ -118,11 +118,11 @@ free_drain_line (suc n) w f = go (oldest_of_all w) (free_drain_line n)
     rest more (Ok t) h = free_then t (drain_line n t.world) (more t.world h)
 
     go : (o : Option ℕ) → ((v : World) → Free v → LeavesFree (drain_line n v))
-        → LeavesFree (elim o as (λ _. Result Turn Fault) [ None ↦ Ok (shows w []) | Some k ↦ next (within_limits (happens (happens w (Mark k)).world (Does (Deliver k)))) ])
+        → LeavesFree (elim o as (λ _. Result Turn Fault) [ None ↦ Ok (shows w []) | Some k ↦ next (within_limits (happens (happens w (Mark k)).world (Does (Action.Again k)))) ])
     go None more = f
     go (Some k) more =
         let v : World = (happens w (Mark k)).world in
-        rest more (within_limits (happens v (Does (Deliver k)))) (free_within (happens v (Does (Deliver k))) (deed_free v (Deliver k) f))
+        rest more (within_limits (happens v (Does (Action.Again k)))) (free_within (happens v (Does (Action.Again k))) (action_free v (Action.Again k) f))
 
 free_show_line : (w : World) (n : ℕ) → Free w → LeavesFree (show_line w n)
 free_show_line w n f = go (find_node w.nodes n)
@@ -133,16 +133,16 @@ free_show_line w n f = go (find_node w.nodes n)
 
 free_line : (w : World) (l : Line) → is_built l ≡ true → Free w → LeavesFree (line 3 w l)
 free_line w (Line.Node n s under) b f = free_node_line w n s under f
-free_line w (Line.Do n q) b f = free_deed_line w (StopLine.Do n q) f
-free_line w (Line.Pass x y) b f = free_deed_line w (StopLine.Pass x y) f
+free_line w (Line.Do n q) b f = free_action_line w (Action.Do n q) f
+free_line w (Line.Pass x y) b f = free_action_line w (Action.Pass x y) f
 free_line w (Line.Skip x y) b f = free_named _ (Ok (skip_line w x y)) (free_skip_line w x y f)
-free_line w (Line.Again k) b f = free_deed_line w (StopLine.Again k) f
+free_line w (Line.Again k) b f = free_action_line w (Action.Again k) f
 free_line w Line.Drain b f = free_drain_line 65536 w f
-free_line w (Line.Lose n p) b f = free_deed_line w (StopLine.Lose n p) f
-free_line w (Line.Heur n o) b f = free_deed_line w (StopLine.Heur n o) f
-free_line w (Line.GiveUp n p) b f = free_deed_line w (StopLine.GiveUp n p) f
-free_line w (Line.Retry n) b f = free_deed_line w (StopLine.Retry n) f
-free_line w (Line.Purge n) b f = free_deed_line w (StopLine.Purge n) f
+free_line w (Line.Lose n p) b f = free_action_line w (Action.Lose n p) f
+free_line w (Line.Heur n o) b f = free_action_line w (Action.Heur n o) f
+free_line w (Line.GiveUp n p) b f = free_action_line w (Action.GiveUp n p) f
+free_line w (Line.Retry n) b f = free_action_line w (Action.Retry n) f
+free_line w (Line.Purge n) b f = free_action_line w (Action.Purge n) f
 free_line w (Line.Crash s) b f = absurd (grind (arith, b))
 free_line w (Line.CrashIn s k x l) b f = absurd (grind (arith, b))
 free_line w (Line.Show n) b f = free_show_line w n f

@@ -11,7 +11,7 @@ use Rattle.tp_model.specs.World.{World}
 use Rattle.tp_model.specs.Transcript.{RawLine, content, taken_by, At_limit}
 use Rattle.tp_schedule.specs.LinesLeft.{Place, lines_left}
 use Rattle.tp_world.specs.World.{Stands}
-use Rattle.tp_world.specs.declared.ground.Ground.{Ground}
+use Rattle.tp_world.specs.declared.world.World.{World as CodeWorld}
 use Rattle.tpnode.specs.declared.status.Status.{Status}
 use Rattle.tpnode.specs.Shown.{Ends, LineShown, Goes, Stops, reading_shown}
 use Rattle.tpnode.specs.Replay.{ending_of}
@@ -46,7 +46,7 @@ unheard_as at LinesFault.Long = Status.BadInput at (BadLine.Bad Why.Long)
 unheard_as at LinesFault.Limit = Status.Limit What.Schedule at
 
 -- a line is shown, by a text at the end of the output
-abbrev pub IsShown : LineShown → Result (Unit {0}) Status → List ℕ → List ℕ → Ground → Type 0
+abbrev pub IsShown : LineShown → Result (Unit {0}) Status → List ℕ → List ℕ → CodeWorld → Type 0
 IsShown s (Ok u) old out new = (text : List ℕ) × (v : World) × (out ≡ old ++ text) × (s ≡ Goes text v) × Stands v new
 IsShown s (Err status) old out new = IsEndOf s status
 
@@ -60,7 +60,7 @@ first_shown at before w l = elim (nat_lt 1048576 (before + taken_by l)) [
 ]
 
 -- it was played, and the others are left
-pub record PlaysFirst (at before : ℕ) (w : World) (ls : List RawLine) (text : List ℕ) (place : Place) (unread : Option (List ℕ)) (new : Ground) : Type 0 where
+pub record PlaysFirst (at before : ℕ) (w : World) (ls : List RawLine) (text : List ℕ) (place : Place) (unread : Option (List ℕ)) (new : CodeWorld) : Type 0 where
   pub first : RawLine
   pub rest : List RawLine
   pub is : ls ≡ first ∷ rest
@@ -88,7 +88,7 @@ StopsSo at before w ls (Status.ReadFault faults) = Unit {0}
 StopsSo at before w ls (Status.WriteFault faults) = ⊥
 StopsSo at before w ls Status.NoMemory = Unit {0}
 
-abbrev pub PlaysNext : ℕ → ℕ → World → List RawLine → Result Bool Status → List ℕ → List ℕ → Place → Option (List ℕ) → Ground → Type 0
+abbrev pub PlaysNext : ℕ → ℕ → World → List RawLine → Result Bool Status → List ℕ → List ℕ → Place → Option (List ℕ) → CodeWorld → Type 0
 -- what it shows is at the end of the output
 PlaysNext at before w ls (Ok true) old out place left new = (text : List ℕ) × (out ≡ old ++ text) × PlaysFirst at before w ls text place left new
 -- there is none, and nothing is left to read

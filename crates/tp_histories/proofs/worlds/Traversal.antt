@@ -6,13 +6,14 @@ use Rattle.tp_names.specs.Same.{is_name}
 use Rattle.tp_records.specs.declared.request.Request.{Request}
 use Rattle.tp_records.specs.declared.peer.PeerRecord.{PeerRecord}
 use Rattle.tp_logrec.specs.declared.record.LogRec.{LogRec}
+use Rattle.tp_model.specs.declared.line.Action.{Action}
 use Rattle.tp_model.specs.declared.out_line.RecordFate.{RecordFate}
 use Rattle.tp_model.specs.Parts.{Event, Entry}
 use Rattle.tp_model.specs.Events.{refusal, started}
 use Rattle.tp_model.specs.History.{entry_of, answer}
 use Rattle.tp_model.specs.Disk.{Remains, remains}
 use Rattle.tp_model.specs.World.{World, Node, Site, Frame, number_of, site_of, addr_of, find_node, put_node, addr_at, find_site, find_frame, put_site}
-use Rattle.tp_model.specs.Happenings.{Turn, still, after_lines, deed_lines, after_stop, crash_turn, Deed, Happening, Task, task_at, task_of, request_in, frames_of, entered, logged, entry_turn, deed_turn, new_node, declared_at, declare_turn, stop_in_force, stop_in_entry, stop_in_task, task_here, crash_in_turn, happens, run}
+use Rattle.tp_model.specs.Happenings.{Turn, still, after_lines, action_lines, after_stop, crash_turn, Happening, Task, task_at, task_of, request_in, frames_of, entered, logged, entry_turn, action_turn, new_node, declared_at, declare_turn, stop_in_force, stop_in_entry, stop_in_task, task_here, crash_in_turn, happens, run}
 use Rattle.tp_model.specs.Legal.{IsUnder}
 use Rattle.tp_steps.specs.Histories.{brought}
 use Rattle.tp_histories.specs.Worlds.{IsFrameOf, grown_node, Accepts}
@@ -54,13 +55,14 @@ ready_at w n e t is came under = go (find_node w.nodes n) refl
           under = under;
         })
 
-pub ready_of : (w : World) (d : Deed) (t : Task) → task_of w d ≡ Some t → Ready w t
-ready_of w (Deed.Ask n q) t is = go (request_in w q) refl
+pub ready_of : (w : World) (d : Action) (t : Task) → task_of w d ≡ Some t → Ready w t
+ready_of w (Action.Do n q) t is = go (request_in w q) refl
   where
     go : (o : Option Request) → request_in w q ≡ o → Ready w t
     go None i = let none : None ≡ Some t = rw (i, task_of) at is in absurd (cc (none))
     go (Some r) i = ready_at w n (Event.Do r) t (rw (i, task_of) at is) (λ a s b. cc (b)) (λ up. tt)
-ready_of w (Deed.Deliver k) t is = go (find_frame w.frames k) refl
+ready_of w (Action.Pass a b) t is = absurd (cc (is))
+ready_of w (Action.Again k) t is = go (find_frame w.frames k) refl
   where
     go : (o : Option Frame) → find_frame w.frames k ≡ o → Ready w t
     go None i = let none : None ≡ Some t = rw (i, task_of) at is in absurd (cc (none))
@@ -72,11 +74,11 @@ ready_of w (Deed.Deliver k) t is = go (find_frame w.frames k) refl
         let er : f.rec ≡ r = ap (λ (u : Addr × PeerRecord). u.1) one in
         subst (λ (c : Addr). IsFrameOf w.frames c f.to.node r) ea (subst (λ (s : PeerRecord). IsFrameOf w.frames f.from f.to.node s) er (frame_found w.frames k f i)))
         (λ up. tt)
-ready_of w (Deed.Lose n p) t is = ready_at w n (Event.Lose p) t is (λ a s b. cc (b)) (λ up. tt)
-ready_of w (Deed.Decide n o) t is = ready_at w n (Event.Heur o) t is (λ a s b. cc (b)) (λ up. tt)
-ready_of w (Deed.Abandon n p) t is = ready_at w n (Event.GiveUp p) t is (λ a s b. cc (b)) (λ up. tt)
-ready_of w (Deed.Retry n) t is = ready_at w n Event.Retry t is (λ a s b. cc (b)) (λ up. tt)
-ready_of w (Deed.Purge n) t is = ready_at w n Event.Purge t is (λ a s b. cc (b)) (λ up. tt)
+ready_of w (Action.Lose n p) t is = ready_at w n (Event.Lose p) t is (λ a s b. cc (b)) (λ up. tt)
+ready_of w (Action.Heur n o) t is = ready_at w n (Event.Heur o) t is (λ a s b. cc (b)) (λ up. tt)
+ready_of w (Action.GiveUp n p) t is = ready_at w n (Event.GiveUp p) t is (λ a s b. cc (b)) (λ up. tt)
+ready_of w (Action.Retry n) t is = ready_at w n Event.Retry t is (λ a s b. cc (b)) (λ up. tt)
+ready_of w (Action.Purge n) t is = ready_at w n Event.Purge t is (λ a s b. cc (b)) (λ up. tt)
 
 -- ---- the entry of an event
 
@@ -109,14 +111,14 @@ entry_holds P s w t number (Some y) r acc k =
     = λ z i. subst (λ (u : Entry). Kept P (with_entry_put w n u) (w.frames ++ frames_of (addr_of n) u.outs)) (sym i) ((kept_steps P s).event w.nodes w.frames n a.event (accepts_of w t y a r) true k) in
     rw (logged_nodes (entered w n y) n y.rec, logged_frames (entered w n y) n y.rec) (on y a.is)
 
-deed_holds : (P : List Node → List Frame → Type 0) → Steps P → (w : World) (d : Deed) → Holds P w → Holds P (deed_turn w d).world
-deed_holds P s w d k = go (task_of w d) refl
+action_holds : (P : List Node → List Frame → Type 0) → Steps P → (w : World) (d : Action) → Holds P w → Holds P (action_turn w d).world
+action_holds P s w d k = go (task_of w d) refl
   where
-    go : (o : Option Task) → task_of w d ≡ o → Holds P (deed_turn w d).world
-    go None i = rw (i, deed_turn) k
+    go : (o : Option Task) → task_of w d ≡ o → Holds P (action_turn w d).world
+    go None i = rw (i, action_turn) k
     go (Some t) i =
         let a = answer t.node.origin t.node.history t.event in
-        rw (i, deed_turn) (entry_holds P s w t a.number a.entry (ready_of w d t i) (λ y e. accepted t.node.origin t.node.history t.event y e) k)
+        rw (i, action_turn) (entry_holds P s w t a.number a.entry (ready_of w d t i) (λ y e. accepted t.node.origin t.node.history t.event y e) k)
 
 -- ---- a stop in an event
 
@@ -154,13 +156,13 @@ stop_holds P s w t x call fill (Some y) r acc k = go y.rec
     go None = crash_holds P s (entered w n y) x.name put
     go (Some l) = force_holds P s w n x y (remains call fill l x.disk) k put
 
-crash_in_holds : (P : List Node → List Frame → Type 0) → Steps P → (w : World) (name : List ℕ) (call fill : ℕ) (d : Deed) → Holds P w → Holds P (crash_in_turn w name call fill d).world
+crash_in_holds : (P : List Node → List Frame → Type 0) → Steps P → (w : World) (name : List ℕ) (call fill : ℕ) (d : Action) → Holds P w → Holds P (crash_in_turn w name call fill d).world
 crash_in_holds P s w name call fill d k = go (find_site w.sites name) refl
   where
     one_task : (x : Site) (t u : Task) (b : Bool) → task_here x (Some t) ≡ Some u → t ≡ u
     one_task x t u b j = grind (arith, j)
 
-    here : (x : Site) (o : Option Task) → task_of w d ≡ o → (b : Option Task) → task_here x o ≡ b → Holds P (elim b as (λ _. Turn) [ None ↦ still w | Some t ↦ after_lines (deed_lines d) (stop_in_task w x call fill t) ]).world
+    here : (x : Site) (o : Option Task) → task_of w d ≡ o → (b : Option Task) → task_here x o ≡ b → Holds P (elim b as (λ _. Turn) [ None ↦ still w | Some t ↦ after_lines (action_lines d) (stop_in_task w x call fill t) ]).world
     here x o i None j = k
     here x None i (Some u) j = absurd cc
     here x (Some t) i (Some u) j =
@@ -225,7 +227,7 @@ declare_holds P s w n name under k = go (find_node w.nodes n) refl
 
 happens_holds : (P : List Node → List Frame → Type 0) → Steps P → (w : World) (e : Happening) → Holds P w → Holds P (happens w e).world
 happens_holds P s w (Happening.Declare n name under) k = declare_holds P s w n name under k
-happens_holds P s w (Happening.Does d) k = deed_holds P s w d k
+happens_holds P s w (Happening.Does d) k = action_holds P s w d k
 happens_holds P s w (Happening.Mark i) k = (kept_steps P s).mark w.nodes w.frames i k
 happens_holds P s w (Happening.Crash name) k = crash_holds P s w name k
 happens_holds P s w (Happening.Crash_in name call fill d) k = crash_in_holds P s w name call fill d k

@@ -5,9 +5,9 @@ use Rattle.tp_names.specs.Writing.{Keeps}
 use Rattle.tp_names.proofs.Keeping.{keeps_front}
 use Rattle.tp_logrec.proofs.Writes.{keeps_more, keeps_through}
 use Rattle.tp_model.specs.declared.line.LineRequest.{LineRequest}
-use Rattle.tp_model.specs.declared.line.StopLine.{StopLine}
+use Rattle.tp_model.specs.declared.line.Action.{Action}
 use Rattle.tp_model.specs.Words.{words}
-use Rattle.tp_model.specs.LineText.{request_words, stop_words}
+use Rattle.tp_model.specs.LineText.{request_words, action_words}
 
 abbrev pub has_word : List (List ℕ) → Bool
 has_word [] = false
@@ -43,9 +43,9 @@ pub request_has : (r : LineRequest) → has_word (request_words r) ≡ true
 request_has LineRequest.Reject = refl
 request_has _ = refl
 
-pub stop_has : (l : StopLine) → has_word (stop_words l) ≡ true
-stop_has (StopLine.Again k) = refl
-stop_has _ = refl
+pub action_has : (l : Action) → has_word (action_words l) ≡ true
+action_has (Action.Again k) = refl
+action_has _ = refl
 
 -- ---- one word after the other
 

@@ -1,0 +1,21 @@
+use Rattle.std.proofs.Common.{◌≡◌, ℕ, Err, rules, ap, sym, ◌∙◌}
+use Rattle.tp_model.specs.declared.line.LineRequest.{LineRequest}
+use Rattle.tp_model.specs.declared.line.Action.{Action}
+use Rattle.tp_model.specs.LineReading.{do_from, words_in}
+use Rattle.tp_schedule.specs.Answers.{pair}
+use Rattle.tp_schedule.proofs.lemmas.Readings.{passed, mapped}
+use Rattle.tp_schedule.proofs.LineForms.{do_form}
+use Rattle.tp_schedule.proofs.line_reading.read_action_of.Goals as goal
+
+pub returns-in_err-node-in-Do : goal.returns-in_err-node-in-Do
+returns-in_err-node-in-Do c =
+    let is : c.from_residual.result ≡ Err c.in_err-node-in-Do.field-0.0 = search rules in
+    let f = λ (p : ℕ × LineRequest). Action.Do p.0 p.1 in
+    let ws = words_in c.args.rest.now in
+    rw c.in-Do.is (passed f (do_from pair ws) (do_from Action.Do ws) c.read_do.result _ (do_form Action.Do ws) c.read_do.ensures (is ∙ ap (mapped f) (sym c.in_err-node-in-Do.was)))
+
+pub returns-in_ok-node-in-Do : goal.returns-in_ok-node-in-Do
+returns-in_ok-node-in-Do c =
+    let f = λ (p : ℕ × LineRequest). Action.Do p.0 p.1 in
+    let ws = words_in c.args.rest.now in
+    rw c.in-Do.is (passed f (do_from pair ws) (do_from Action.Do ws) c.read_do.result _ (do_form Action.Do ws) c.read_do.ensures (ap (mapped f) (sym c.in_ok-node-in-Do.was)))

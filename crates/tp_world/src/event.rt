@@ -1,0 +1,244 @@
+//! An event of a node of the world.
+ghost use Rattle.std.specs.Prelude.{◌≡◌, ◌<◌, ◌++◌, ◌∷◌, [], length, IfSome, IfOk, OnOk, Option, Some, is_some};
+ghost use Rattle.tp_model.specs.World.{World as WorldValue, is_site};
+ghost use Rattle.tp_names.specs.declared.identifiers.Addr.{Addr as AddrValue};
+ghost use Rattle.tp_model.specs.declared.line.Action.{Action};
+ghost use Rattle.tp_model.specs.Happenings.{Does, task_at, happens, refused_lines};
+ghost use Rattle.tp_model.specs.Legal.{IsUnder};
+ghost use Rattle.tp_model.specs.Lines.{within_limits};
+ghost use Rattle.tp_model.specs.Parts.{Send};
+ghost use Rattle.tp_site.specs.NodeEvent.{event_of};
+ghost use Rattle.tp_site.specs.Outs.{out_of};
+ghost use Rattle.tp_world.specs.Settled.{tree_started, entry_lines, GivesOuts, IsEntered, SettlesEntry, Settles};
+ghost use Rattle.tp_world.specs.World.{Stands, Gives, task_turn};
+
+use crate::fault::WorldFault;
+use crate::requests::request_in;
+use crate::shown::{refused_shown, sent_shown};
+use crate::site_slot::{Answer, Entry};
+use crate::sites::{play_at, site_place};
+use crate::world::World;
+use std::alloc::Global;
+use tp_model::{LineRequest, OutLine, OutLines};
+use tp_names::{Aaid, Addr, NoMemory, SiteName};
+use tp_network::{TreeChange, is_in};
+use tp_records::{PeerRecord, Request};
+use tp_site::{NodeEvent, Out, Outs};
+
+// The tree that an entry starts.
+fn started(change: &TreeChange) -> Option<Aaid>
+    ensures { result ≡ tree_started change.now }
+{
+    match change.after {
+        Some(after) if after.is_root && !is_in(&after.aaid, &change.before) => Some(after.aaid),
+        _ => None,
+    }
+}
+
+impl World {
+    /// The place of the site of that name.
+    pub(crate) fn site(&self, name: &SiteName) -> Option<usize>
+        ensures within { IfSome result (λ i. i < length self.now.sites.items) }
+        ensures there { (w : WorldValue) → Stands w self.now → is_some result ≡ is_site w name.now }
+    {
+        site_place(self.sites.as_slice(), name)
+    }
+
+    /// An event of that node, where the node is there.
+    pub(crate) fn local(
+        &mut self,
+        alloc: Global,
+        node: u16,
+        event: &NodeEvent<'_>,
+        lines: &mut OutLines,
+    ) -> Result<(), WorldFault>
+        ensures { (w : WorldValue) → Stands w self.old → ((up : Option AddrValue) → IsUnder up (event_of event.now)) → Gives (within_limits (task_turn w [] (task_at w node (event_of event.now)))) lines.old result lines.new self.new }
+    {
+        let Some(at) = self.nodes.addr(node) else {
+            return Ok(());
+        };
+        let answer = play_at(alloc, self.sites.as_mut_slice(), &at, event)?;
+        self.settle(alloc, &at, answer, lines)
+    }
+
+    /// A request of the user of that node, where the node is there and the peer that it names.
+    pub(crate) fn ask(
+        &mut self,
+        alloc: Global,
+        node: u16,
+        request: &LineRequest,
+        lines: &mut OutLines,
+    ) -> Result<(), WorldFault>
+        ensures { (w : WorldValue) → Stands w self.old → Gives (within_limits (happens w (Does (Action.Do node request.now)))) lines.old result lines.new self.new }
+    {
+        match request_in(alloc, &self.nodes, request)? {
+            None => Ok(()),
+            Some(request) => {
+                let _rec: Option<&PeerRecord> = None;
+                let event = NodeEvent::Do { request: &request };
+                self.local(alloc, node, &event, lines)
+            }
+        }
+    }
+
+    /// A frame is handed over, where it and its node are there; it is shown first.
+    pub(crate) fn deliver(
+        &mut self,
+        alloc: Global,
+        number: u16,
+        lines: &mut OutLines,
+    ) -> Result<(), WorldFault>
+        ensures { (w : WorldValue) → Stands w self.old → Gives (within_limits (happens w (Does (Action.Again number)))) lines.old result lines.new self.new }
+    {
+        let Some(frame) = self.frames.find(number) else {
+            return Ok(());
+        };
+        let Some(at) = self.nodes.addr(frame.to.node) else {
+            return Ok(());
+        };
+        lines.push(alloc, OutLine::Take { frame: number })?;
+        let _request: Option<&Request> = None;
+        let event = NodeEvent::Arrive {
+            from: frame.from,
+            rec: &frame.rec,
+        };
+        let answer = play_at(alloc, self.sites.as_mut_slice(), &at, &event)?;
+        self.settle(alloc, &at, answer, lines)
+    }
+
+    // The entry stands in the node's summaries, and a tree that it starts is known.
+    fn enter(&mut self, node: u16, change: &TreeChange) -> Result<(), NoMemory>
+        ensures { OnOk result (IsEntered node change.now self.old self.new) }
+    {
+        self.nodes.change(node, change)?;
+        if let Some(tree) = started(change) {
+            self.trees.push(tree)?;
+        }
+        Ok(())
+    }
+
+    // A record of the node at that address is sent.
+    fn send(
+        &mut self,
+        alloc: Global,
+        from: &Addr,
+        to: Addr,
+        rec: PeerRecord,
+        lines: &mut OutLines,
+    ) -> Result<(), WorldFault>
+        ensures { GivesOuts from.now (Send to rec ∷ []) lines.old result lines.new self.old self.new }
+    {
+        let words = sent_shown(alloc, &rec)?;
+        let (own, peer) = (from.node, to.node);
+        let frame = self.frames.send(alloc, *from, to, rec)?;
+        let line = OutLine::Send {
+            frame,
+            from: own,
+            to: peer,
+            rec: words,
+        };
+        lines.push(alloc, line)?;
+        Ok(())
+    }
+
+    // One output of the node at that address.
+    fn give(
+        &mut self,
+        alloc: Global,
+        from: &Addr,
+        out: Out,
+        lines: &mut OutLines,
+    ) -> Result<(), WorldFault>
+        ensures { GivesOuts from.now (out_of out ∷ []) lines.old result lines.new self.old self.new }
+    {
+        match out {
+            Out::Tell(indication) => {
+                let node = from.node;
+                lines.push(alloc, OutLine::Tell { node, indication })?;
+                Ok(())
+            }
+            Out::Send { to, rec } => self.send(alloc, from, to, rec, lines),
+        }
+    }
+
+    // The outputs of the node at that address, in order.
+    fn give_all(
+        &mut self,
+        alloc: Global,
+        from: &Addr,
+        outs: Outs,
+        lines: &mut OutLines,
+    ) -> Result<(), WorldFault>
+        ensures { GivesOuts from.now outs lines.old result lines.new self.old self.new }
+    {
+        for out in outs.into_vec() {
+            self.give(alloc, from, out, lines)?;
+        }
+        Ok(())
+    }
+
+    // The entry of the node at that address: a tree that it starts is known, and its outputs are given.
+    fn settle_entry(
+        &mut self,
+        alloc: Global,
+        at: &Addr,
+        entry: Entry,
+        lines: &mut OutLines,
+    ) -> Result<(), WorldFault>
+        ensures { SettlesEntry at.now entry lines.old result lines.new self.old self.new }
+    {
+        let Entry { outs, change } = entry;
+        self.enter(at.node, &change)?;
+        self.give_all(alloc, at, outs, lines)
+    }
+
+    // What the answer of the node at that address makes of the world.
+    fn settle(
+        &mut self,
+        alloc: Global,
+        at: &Addr,
+        answer: Answer,
+        lines: &mut OutLines,
+    ) -> Result<(), WorldFault>
+        ensures { Settles at.now answer lines.old result lines.new self.old self.new }
+    {
+        let Answer { number, entry } = answer;
+        show_record(alloc, at, &entry, lines)?;
+        show_refusal(alloc, number, lines)?;
+        match entry {
+            None => Ok(()),
+            Some(entry) => self.settle_entry(alloc, at, entry, lines),
+        }
+    }
+}
+
+// A record that was forced is shown.
+fn show_record(
+    alloc: Global,
+    at: &Addr,
+    entry: &Option<Entry>,
+    lines: &mut OutLines,
+) -> Result<(), NoMemory>
+    ensures { OnOk result (lines.new ≡ lines.old ++ entry_lines at.now.site entry.now) }
+{
+    let Some(entry) = entry else {
+        return Ok(());
+    };
+    match entry.change.rec {
+        None => Ok(()),
+        Some(rec) => {
+            let site = at.site;
+            lines.push(alloc, OutLine::Log { site, rec })
+        }
+    }
+}
+
+// A refusal is shown.
+fn show_refusal(alloc: Global, number: Option<u8>, lines: &mut OutLines) -> Result<(), NoMemory>
+    ensures { OnOk result (lines.new ≡ lines.old ++ refused_lines number) }
+{
+    match number {
+        None => Ok(()),
+        Some(number) => lines.push(alloc, refused_shown(number)),
+    }
+}
