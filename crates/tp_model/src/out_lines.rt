@@ -40,6 +40,13 @@ impl OutLines {
         Ok(())
     }
 
+    /// Nothing is left in the list, which keeps its memory.
+    pub fn clear(&mut self)
+        ensures { self.new ≡ [] }
+    {
+        self.items.truncate(0);
+    }
+
     /// The list, in order.
     pub fn as_slice(&self) -> &[OutLine]
         ensures { result.now ≡ self.now }

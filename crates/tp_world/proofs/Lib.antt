@@ -1,3 +1,4 @@
+pub mod lemmas
 mod Stood
 mod Ascending
 mod ToldAt

@@ -139,11 +139,16 @@ task_turn w ls o = elim o [ None ↦ still w | Some t ↦ after_lines ls (event_
 
 -- ---- a line
 
--- it shows its echo and the lines of the turn, and the world stands for the one after it; or it tells the fault. No member is asked,
--- so it does not matter how many there are
+-- it shows the lines of the turn after those that stood before, and the world stands for the one after it; or it tells the fault. No
+-- member is asked, so it does not matter how many there are
+abbrev pub PlaysAfter : World → Line → List OutLine → Result (Unit {0}) WorldFault → List OutLine → CodeWorld → Type 0
+PlaysAfter w l before (Ok u) after new = (t : Turn) × ((members : ℕ) → line members w l ≡ Ok t) × (after ≡ before ++ t.lines) × Stands t.world new
+PlaysAfter w l before (Err WorldFault.Name) after new = (members : ℕ) → line members w l ≡ Err Name
+PlaysAfter w l before (Err (WorldFault.Limit what)) after new = (members : ℕ) → line members w l ≡ Err (Over what)
+PlaysAfter w l before (Err WorldFault.Unbuilt) after new = is_built l ≡ false
+PlaysAfter w l before (Err WorldFault.NoMemory) after new = Unit {0}
+
+-- it shows its echo first
 abbrev pub Plays : World → Line → Result (List OutLine) WorldFault → CodeWorld → Type 0
-Plays w l (Ok lines) new = (t : Turn) × ((members : ℕ) → line members w l ≡ Ok t) × (lines ≡ echo l ++ t.lines) × Stands t.world new
-Plays w l (Err WorldFault.Name) new = (members : ℕ) → line members w l ≡ Err Name
-Plays w l (Err (WorldFault.Limit what)) new = (members : ℕ) → line members w l ≡ Err (Over what)
-Plays w l (Err WorldFault.Unbuilt) new = is_built l ≡ false
-Plays w l (Err WorldFault.NoMemory) new = Unit {0}
+Plays w l (Ok lines) new = PlaysAfter w l (echo l) (Ok tt) lines new
+Plays w l (Err f) new = PlaysAfter w l [] (Err f) [] new

@@ -4,7 +4,7 @@ ghost use Rattle.tp_model.specs.LineText.{line_text};
 ghost use Rattle.tp_model.specs.Lines.{line as line_value};
 ghost use Rattle.tp_model.specs.World.{World as WorldValue, empty_world};
 ghost use Rattle.tp_model.specs.Trees.{closing};
-ghost use Rattle.tp_world.specs.World.{Stands, Plays, Gives};
+ghost use Rattle.tp_world.specs.World.{Stands, Plays, PlaysAfter, Gives};
 ghost use Rattle.tp_world.specs.Built.{is_built, is_local};
 ghost use Rattle.tp_world.specs.declared.fault.WorldFault.{WorldFault};
 
@@ -74,8 +74,25 @@ impl World {
         }
         let mut lines = OutLines::new(alloc);
         echo(alloc, line, &mut lines)?;
-        self.shown_line(alloc, line, &mut lines)?;
+        self.play(alloc, line, &mut lines)?;
         Ok(lines)
+    }
+
+    /// What a line shows, without its echo, after the lines that are shown. After a fault the run has ended, and nothing
+    /// more is said of the world nor of the lines.
+    pub fn play(
+        &mut self,
+        alloc: Global,
+        line: &Line,
+        lines: &mut OutLines,
+    ) -> Result<(), WorldFault>
+        ensures unbuilt { is_built line.now ≡ false → result ≡ Err WorldFault.Unbuilt }
+        ensures plays { (w : WorldValue) → Stands w self.old → PlaysAfter w line.now lines.old result lines.new self.new }
+    {
+        if !is_built(line) {
+            return Err(WorldFault::Unbuilt);
+        }
+        self.shown_line(alloc, line, lines)
     }
 
     /// One line for each tree, in the order of their starts.

@@ -1,8 +1,10 @@
 //! One line of a schedule, from its bytes to the bytes that it shows.
-ghost use Rattle.std.specs.Prelude.{◌≡◌, ◌++◌, IfErr, OnErr, OnOk};
+ghost use Rattle.std.specs.Prelude.{◌≡◌, ◌++◌, ◌∷◌, [], IfErr, OnErr, OnOk};
 ghost use Rattle.tp_names.specs.Writing.{Keeps};
 ghost use Rattle.tp_model.specs.LineReading.{read_line};
-ghost use Rattle.tp_model.specs.OutText.{out_texts};
+ghost use Rattle.tp_model.specs.declared.out_line.OutLine.{OutLine};
+ghost use Rattle.tp_model.specs.LineText.{line_text};
+ghost use Rattle.tp_model.specs.OutText.{out_text, out_texts};
 ghost use Rattle.tp_model.specs.World.{World as WorldValue};
 ghost use Rattle.tp_world.specs.World.{Stands};
 ghost use Rattle.tpnode.specs.Status.{IsEndAt};
@@ -13,7 +15,7 @@ use crate::status::{BadLine, Status};
 use std::alloc::Global;
 use tp_model::{Line, OutLines, Why};
 use tp_names::{NoMemory, Octets};
-use tp_schedule::{LineFault, read_line};
+use tp_schedule::{LineFault, read_line, write_line};
 use tp_transcript::write_out;
 use tp_world::{World, WorldFault};
 
@@ -75,21 +77,65 @@ fn unplayed(fault: WorldFault, at: u64) -> Status
     }
 }
 
-// Puts what a line shows at the end of `out`; the status where the run ends in it, and `out` stays as it was.
+// Puts the echo of a line and the text of what it shows at the end of `out`. Without memory `out` stays as it was.
+fn write_shown(
+    alloc: Global,
+    line: &Line,
+    lines: &OutLines,
+    out: &mut Octets,
+) -> Result<(), NoMemory>
+    ensures ok { OnOk result (out.new ≡ out.old ++ out_texts (OutLine.Echo (line_text line.now) ∷ lines.now)) }
+    ensures err { OnErr result (out.new ≡ out.old) }
+{
+    let len = out.len();
+    let written = append_shown(alloc, line, lines, out);
+    if written.is_err() {
+        out.truncate(len);
+    }
+    written
+}
+
+fn append_shown(
+    alloc: Global,
+    line: &Line,
+    lines: &OutLines,
+    out: &mut Octets,
+) -> Result<(), NoMemory>
+    ensures ok { OnOk result (out.new ≡ out.old ++ out_texts (OutLine.Echo (line_text line.now) ∷ lines.now)) }
+    ensures err { OnErr result (Keeps out.old out.new) }
+{
+    append_echo(alloc, line, out)?;
+    append_texts(alloc, lines, out)
+}
+
+fn append_echo(alloc: Global, line: &Line, out: &mut Octets) -> Result<(), NoMemory>
+    ensures ok { OnOk result (out.new ≡ out.old ++ (out_text (OutLine.Echo (line_text line.now)) ++ 10 ∷ [])) }
+    ensures err { OnErr result (Keeps out.old out.new) }
+{
+    out.extend_from_slice(alloc, b"> ")?;
+    write_line(alloc, line, out)?;
+    out.push(alloc, b'\n')?;
+    Ok(())
+}
+
+// Puts what a line shows at the end of `out`; the status where the run ends in it, and `out` stays as it was. The lines
+// are room for what it shows.
 #[tactic(auto, using(crate::proofs::Ended::plays_shown, crate::proofs::Ended::unplayed_ends, crate::proofs::Ended::unplayed_at))]
 fn play_line(
     alloc: Global,
     world: &mut World,
     line: &Line,
     at: u64,
+    lines: &mut OutLines,
     out: &mut Octets,
 ) -> Result<(), Status>
     ensures ending { IfErr result (IsEndAt at) }
     ensures same { OnErr result (out.new ≡ out.old) }
     ensures shown { (w : WorldValue) → Stands w world.old → IsShown (line_shown at w line.now) result out.old out.new world.new }
 {
-    match world.line(alloc, line) {
-        Ok(lines) => match write_texts(alloc, &lines, out) {
+    lines.clear();
+    match world.play(alloc, line, lines) {
+        Ok(()) => match write_shown(alloc, line, lines, out) {
             Ok(()) => Ok(()),
             Err(NoMemory) => Err(Status::NoMemory),
         },
@@ -99,12 +145,13 @@ fn play_line(
 
 #[tactic(auto, using(crate::proofs::Ended::blank_shown, crate::proofs::Ended::said_shown, crate::proofs::Ended::unread_ends, crate::proofs::Ended::unread_at))]
 /// Puts what the line of that number, without its end, shows at the end of `out`; the status where the run ends in it,
-/// and `out` stays as it was.
+/// and `out` stays as it was. The lines are room for what it shows.
 pub fn play_text(
     alloc: Global,
     world: &mut World,
     text: &[u8],
     at: u64,
+    lines: &mut OutLines,
     out: &mut Octets,
 ) -> Result<(), Status>
     ensures ending { IfErr result (IsEndAt at) }
@@ -113,7 +160,7 @@ pub fn play_text(
 {
     match read_line(alloc, text) {
         Ok(None) => Ok(()),
-        Ok(Some(line)) => play_line(alloc, world, &line, at, out),
+        Ok(Some(line)) => play_line(alloc, world, &line, at, lines, out),
         Err(fault) => Err(unread(fault, at)),
     }
 }

@@ -13,7 +13,7 @@ use crate::output::{write_all, write_long};
 use crate::playing::{play_text, write_texts};
 use crate::status::{BadLine, Status, WriteFault};
 use std::alloc::Global;
-use tp_model::{What, Why};
+use tp_model::{OutLines, What, Why};
 use tp_names::{NoMemory, Octets};
 use tp_outside::{Sink, Source};
 use tp_schedule::{Lines, LinesFault};
@@ -47,6 +47,7 @@ fn play_next<S: Source>(
     source: &mut S,
     world: &mut World,
     at: u64,
+    shown: &mut OutLines,
     out: &mut Octets,
 ) -> Result<bool, Status>
     requires numbered { 0 < at }
@@ -60,7 +61,7 @@ fn play_next<S: Source>(
 {
     match lines.next(source) {
         Ok(None) => Ok(false),
-        Ok(Some(text)) => match play_text(alloc, world, text, at, out) {
+        Ok(Some(text)) => match play_text(alloc, world, text, at, shown, out) {
             Ok(()) => Ok(true),
             Err(status) => Err(status),
         },
@@ -94,8 +95,9 @@ fn play_all<S: Source, K: Sink>(
 {
     let mut world = World::new(alloc);
     let mut lines = Lines::new();
+    let mut shown = OutLines::new(alloc);
     for at in 1..PAST_LINES {
-        match play_next(alloc, &mut lines, source, &mut world, at, out) {
+        match play_next(alloc, &mut lines, source, &mut world, at, &mut shown, out) {
             Ok(true) => {
                 if let Err(fault) = write_long(sink, out) {
                     return Err(fault);

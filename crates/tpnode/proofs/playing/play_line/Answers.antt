@@ -4,10 +4,10 @@ use Rattle.tpnode.specs.Playing.{IsEndOf}
 use Rattle.tpnode.proofs.Ended.{plays_shown, unplayed_ends}
 use Rattle.tpnode.proofs.playing.play_line.Goals as goal
 
-pub returns-in-Ok-write_texts-clause-shown : goal.returns-in-Ok-write_texts-clause-shown
-returns-in-Ok-write_texts-clause-shown c = λ w h.
+pub returns-in-Ok-write_shown-clause-shown : goal.returns-in-Ok-write_shown-clause-shown
+returns-in-Ok-write_shown-clause-shown c = λ w h.
     let e = c.in-Ok.ensures {u = tt} in
-    plays_shown c.args.at w c.args.line.now c.in-Ok.lines c.args.out.now c.write_texts.new.out c.line.new.self e.unbuilt (e.plays w h) (c.in-Ok-write_texts.ensures {u = tt}).ok
+    plays_shown c.args.at w c.args.line.now c.clear.new.self c.play.new.lines c.args.out.now c.write_shown.new.out c.play.new.self e.unbuilt c.clear.ensures (e.plays w h) (c.in-Ok-write_shown.ensures {u = tt}).ok
 
 pub returns-clause-shown : goal.returns-clause-shown
 returns-clause-shown c = λ w h.
@@ -15,4 +15,4 @@ returns-clause-shown c = λ w h.
     subst
     (λ s. IsEndOf (line_shown c.args.at w c.args.line.now) s)
     (sym c.unplayed.ensures)
-    (unplayed_ends c.args.at w c.args.line.now c.in-Err.fault c.line.new.self e.unbuilt (e.plays w h))
+    (unplayed_ends c.args.at w c.args.line.now c.in-Err.fault c.clear.new.self c.play.new.lines c.play.new.self e.unbuilt (e.plays w h))
