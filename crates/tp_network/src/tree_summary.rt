@@ -1,5 +1,6 @@
 //! What a node did in a tree, and how an entry of its history changes that.
 ghost use Rattle.std.specs.Prelude.{◌≡◌};
+ghost use Rattle.tp_names.specs.declared.identifiers.Aaid.{Aaid as AaidValue};
 ghost use Rattle.tp_network.specs.TreeSummary.{is_in, phase_in, is_commit_of, decision_in, tree_at, tree_logged, goes_on, has_rolled, is_that, no_summary, summary_after, told_by_summary};
 
 use tp_model::{LogWords, Phase};
@@ -29,16 +30,6 @@ pub struct TreeChange {
     pub after: Option<NodeTree>,
     pub leaves: bool,
     pub rec: Option<LogWords>,
-}
-
-/// The phase of the tree where it is the current one, else Nil.
-pub(crate) fn phase_in(tree: &Aaid, at: &Option<NodeTree>) -> Phase
-    ensures { result ≡ phase_in tree.now at.now }
-{
-    match at {
-        Some(at) if is_aaid(tree, &at.aaid) => at.phase,
-        _ => Phase::Nil,
-    }
 }
 
 /// The tree is the current one.
@@ -101,25 +92,34 @@ pub(crate) fn is_that(tree: &Aaid, other: &Option<Aaid>) -> bool
     }
 }
 
+// The phase of a tree where it is the current one, else Nil.
+fn phase_where(is_current: bool, at: &Option<NodeTree>) -> Phase
+    ensures { (t : AaidValue) → is_in t at.now ≡ is_current → result ≡ phase_in t at.now }
+{
+    match at {
+        Some(at) if is_current => at.phase,
+        _ => Phase::Nil,
+    }
+}
+
 // The tree is the current one after the entry too, at a root as a root and at a branch as a branch.
-fn goes_on(tree: &Aaid, change: &TreeChange) -> bool
-    ensures { result ≡ goes_on tree.now change.now.before change.now.after }
+fn goes_on(is_after: bool, change: &TreeChange) -> bool
+    ensures { (t : AaidValue) → is_in t change.now.after ≡ is_after → result ≡ goes_on t change.now.before change.now.after }
 {
     match (&change.before, &change.after) {
-        (Some(before), Some(after)) => {
-            is_aaid(tree, &after.aaid) && before.is_root == after.is_root
-        }
+        (Some(before), Some(after)) => is_after && before.is_root == after.is_root,
         _ => false,
     }
 }
 
 // It rolls after the entry; or it was active or ready, and is over without having left.
-fn has_rolled(tree: &Aaid, change: &TreeChange) -> bool
-    ensures { result ≡ has_rolled tree.now change.now }
+fn has_rolled(is_before: bool, is_after: bool, change: &TreeChange) -> bool
+    ensures { (t : AaidValue) → is_in t change.now.before ≡ is_before → is_in t change.now.after ≡ is_after → result ≡ has_rolled t change.now }
 {
-    let is_open = matches!(phase_in(tree, &change.before), Phase::Active | Phase::Ready);
-    matches!(phase_in(tree, &change.after), Phase::Rolling)
-        || (is_open && !goes_on(tree, change) && !change.leaves)
+    let before = phase_where(is_before, &change.before);
+    let after = phase_where(is_after, &change.after);
+    let is_open = matches!(before, Phase::Active | Phase::Ready);
+    matches!(after, Phase::Rolling) || (is_open && !goes_on(is_after, change) && !change.leaves)
 }
 
 impl TreeSummary {
@@ -136,15 +136,17 @@ impl TreeSummary {
     pub fn after(self, tree: &Aaid, change: &TreeChange) -> TreeSummary
         ensures { result ≡ summary_after tree.now change.now self }
     {
+        let is_before = is_in(tree, &change.before);
+        let is_after = is_in(tree, &change.after);
         TreeSummary {
-            member: is_in(tree, &change.after) || self.member,
-            left: (is_in(tree, &change.before) && change.leaves) || self.left,
+            member: is_after || self.member,
+            left: (is_before && change.leaves) || self.left,
             decided: is_commit_of(tree, &change.rec) || self.decided,
             decision: match decision_in(tree, &change.rec) {
                 Some(outcome) => Some(outcome),
                 None => self.decision,
             },
-            rolled: has_rolled(tree, change) || self.rolled,
+            rolled: has_rolled(is_before, is_after, change) || self.rolled,
         }
     }
 

@@ -187,9 +187,8 @@ impl World {
     ) -> Result<(), WorldFault>
         ensures { SettlesEntry at.now entry lines.old result lines.new self.old self.new }
     {
-        let Entry { outs, change } = entry;
-        self.enter(at.node, &change)?;
-        self.give_all(alloc, at, outs, lines)
+        self.enter(at.node, &entry.change)?;
+        self.give_all(alloc, at, entry.outs, lines)
     }
 
     // What the answer of the node at that address makes of the world.
@@ -202,10 +201,9 @@ impl World {
     ) -> Result<(), WorldFault>
         ensures { Settles at.now answer lines.old result lines.new self.old self.new }
     {
-        let Answer { number, entry } = answer;
-        show_record(alloc, at, &entry, lines)?;
-        show_refusal(alloc, number, lines)?;
-        match entry {
+        show_record(alloc, at, &answer.entry, lines)?;
+        show_refusal(alloc, answer.number, lines)?;
+        match answer.entry {
             None => Ok(()),
             Some(entry) => self.settle_entry(alloc, at, entry, lines),
         }
