@@ -1,9 +1,6 @@
 -- The summaries after a change: which trees it names, and that it leaves the others alone.
 use Rattle.std.proofs.Common.{◌≡◌, ◌&&◌, ◌||◌, not, Bool, true, false, refl, ap, sym, subst, ◌∙◌, arith, Option, Some, None, List}
 use Rattle.std.specs.Prelude.{cond, Result, Ok, Err, OnOk}
-use Rattle.std.specs.Map.{lookup, set_value}
-use Rattle.std.specs.Option.{IsSome}
-use Rattle.std.proofs.lemmas.Map.{lookup-set_value}
 use Rattle.tp_names.specs.declared.identifiers.Aaid.{Aaid}
 use Rattle.tp_names.specs.declared.outcome.Outcome.{Outcome}
 use Rattle.tp_names.specs.Same.{is_aaid}
@@ -13,54 +10,8 @@ use Rattle.tp_model.specs.declared.out_line.LogWords.{LogWords}
 use Rattle.tp_model.specs.Dialogues.{is_active, is_ready, is_rolling}
 use Rattle.tp_node.specs.declared.state.NodeTree.{NodeTree}
 use Rattle.tp_network.specs.TreeSummary.{is_in, phase_in, is_commit_of, decision_in, goes_on, has_rolled, tree_at, tree_logged, is_that, no_summary, summary_after}
-use Rattle.tp_network.specs.TreeSummaries.{is_tree, tree_of, tree_same, tree_either, tree_equivalence, summary_at}
 use Rattle.tp_network.specs.declared.tree_summary.TreeSummary.{TreeSummary}
 use Rattle.tp_network.specs.declared.tree_summary.TreeChange.{TreeChange}
-use Rattle.tp_network.specs.declared.tree_summaries.Tree.{Tree}
-
--- ---- a summary that is put at its tree
-
-pub put_in : (old new : List (Tree × TreeSummary)) (a : Aaid) (s : TreeChange) (p : TreeSummary) → p ≡ summary_after a s (summary_at old a) → ((q : Tree) → lookup (is_tree q) new ≡ cond (is_tree (tree_of a) q) (Some p) (lookup (is_tree q) old)) → (t : Aaid)
-    → summary_at new t ≡ cond (is_aaid t a) (summary_after t s (summary_at old t)) (summary_at old t)
-put_in old new a s p is at t = go (is_aaid t a) refl
-  where
-    there : (b : Bool) → is_aaid t a ≡ b → lookup (is_tree (tree_of t)) new ≡ cond b (Some p) (lookup (is_tree (tree_of t)) old)
-    there b i = at (tree_of t) ∙ ap (λ (c : Bool). cond c (Some p) (lookup (is_tree (tree_of t)) old)) (tree_either (tree_of a) (tree_of t) ∙ i)
-
-    go : (b : Bool) → is_aaid t a ≡ b → summary_at new t ≡ cond b (summary_after t s (summary_at old t)) (summary_at old t)
-    go true i = ap (λ (o : Option TreeSummary). elim o as (λ _. TreeSummary) [ None ↦ no_summary | Some x ↦ x ]) (there true i) ∙ is ∙ ap (λ (u : Aaid). summary_after u s (summary_at old u)) (sym (aaid_same t a i))
-    go false i = ap (λ (o : Option TreeSummary). elim o as (λ _. TreeSummary) [ None ↦ no_summary | Some x ↦ x ]) (there false i)
-
--- a summary that is written where there was one
-pub written : (es new : List (Tree × TreeSummary)) (a : Tree) (p q : TreeSummary) → new ≡ set_value (is_tree a) es q → Some p ≡ lookup (is_tree a) es → (k : Tree) → lookup (is_tree k) new ≡ cond (is_tree a k) (Some q) (lookup (is_tree k) es)
-written es new a p q is there k =
-    ap (λ (l : List (Tree × TreeSummary)). lookup (is_tree k) l) is ∙ lookup-set_value tree_equivalence (is_tree a) (λ x y e. ap (λ z. is_tree z y) (tree_same a x e)) k q es (subst (λ (o : Option TreeSummary). IsSome o) there refl)
-
-pub summary_found : (es : List (Tree × TreeSummary)) (t : Aaid) (p : TreeSummary) → Some p ≡ lookup (is_tree (tree_of t)) es → p ≡ summary_at es t
-summary_found es t p there = ap (λ (o : Option TreeSummary). elim o as (λ _. TreeSummary) [ None ↦ no_summary | Some x ↦ x ]) there
-
--- the first entry of a tree
-pub begun : (old new : List (Tree × TreeSummary)) (a : Aaid) (s : TreeChange) → None ≡ lookup (is_tree (tree_of a)) old → ((t : Aaid) → summary_at new t ≡ cond (is_aaid t a) (summary_after t s no_summary) (summary_at old t)) → (t : Aaid)
-    → summary_at new t ≡ cond (is_aaid t a) (summary_after t s (summary_at old t)) (summary_at old t)
-begun old new a s none at t = at t ∙ go (is_aaid t a) refl
-  where
-    go : (b : Bool) → is_aaid t a ≡ b → cond b (summary_after t s no_summary) (summary_at old t) ≡ cond b (summary_after t s (summary_at old t)) (summary_at old t)
-    go true e =
-        let same : t ≡ a = aaid_same t a e in
-        ap (λ (p : TreeSummary). summary_after t s p) (ap (λ (o : Option TreeSummary). elim o as (λ _. TreeSummary) [ None ↦ no_summary | Some x ↦ x ]) none ∙ ap (λ (u : Aaid). summary_at old u) (sym same))
-    go false e = refl
-
--- the summary that an entry gives first
-pub put_first : (old new : List (Tree × TreeSummary)) (a : Aaid) (s : TreeChange) (p : TreeSummary) → p ≡ summary_after a s no_summary → ((q : Tree) → lookup (is_tree q) new ≡ cond (is_tree (tree_of a) q) (Some p) (lookup (is_tree q) old)) → (t : Aaid)
-    → summary_at new t ≡ cond (is_aaid t a) (summary_after t s no_summary) (summary_at old t)
-put_first old new a s p is at t = go (is_aaid t a) refl
-  where
-    there : (b : Bool) → is_aaid t a ≡ b → lookup (is_tree (tree_of t)) new ≡ cond b (Some p) (lookup (is_tree (tree_of t)) old)
-    there b i = at (tree_of t) ∙ ap (λ (c : Bool). cond c (Some p) (lookup (is_tree (tree_of t)) old)) (tree_either (tree_of a) (tree_of t) ∙ i)
-
-    go : (b : Bool) → is_aaid t a ≡ b → summary_at new t ≡ cond b (summary_after t s no_summary) (summary_at old t)
-    go true i = ap (λ (o : Option TreeSummary). elim o as (λ _. TreeSummary) [ None ↦ no_summary | Some x ↦ x ]) (there true i) ∙ is ∙ ap (λ (u : Aaid). summary_after u s no_summary) (sym (aaid_same t a i))
-    go false i = ap (λ (o : Option TreeSummary). elim o as (λ _. TreeSummary) [ None ↦ no_summary | Some x ↦ x ]) (there false i)
 
 -- a tree whose summary was changed already, and one whose summary was not
 pub already : (t u : Aaid) (done : Option Aaid) → is_that u done ≡ true → (is_aaid t u && not (is_that t done)) ≡ false

@@ -2,5 +2,7 @@ mod Numbers
 mod Oldest
 mod Waits
 mod Queues
+mod TreeTables
+mod Gathering
 mod Changes
 mod ChangedNodes

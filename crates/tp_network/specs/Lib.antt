@@ -1,5 +1,7 @@
 pub mod TreeSummary
+pub mod TreeKey
 pub mod TreeSummaries
 pub mod Waiting
 pub mod Frames
 pub mod Nodes
+pub mod TreeOutcomes

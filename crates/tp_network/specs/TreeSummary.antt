@@ -83,3 +83,7 @@ told_by_summary p = elim p.decision [
   | Some u ↦ Some u
   | None ↦ if p.decided then Some Outcome.Commit else if p.rolled then Some Outcome.Rollback else None
 ]
+
+-- it is a node of the tree, and stays in it
+abbrev pub stays_in : TreeSummary → Bool
+stays_in p = p.member && not p.left

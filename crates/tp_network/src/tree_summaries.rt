@@ -1,51 +1,18 @@
 //! The summaries that one node has in trees.
 ghost use Rattle.std.specs.Prelude.{◌≡◌, ◌&&◌, not, cond, OnOk};
-ghost use Rattle.std.specs.Cmp.{partial_equiv_from_equiv};
-ghost use Rattle.std.proofs.Common.{ap};
-ghost use Rattle.tp_names.specs.contracts.identifiers.MarkHash.TheImpl as marks;
 ghost use Rattle.tp_names.specs.declared.identifiers.Aaid.{Aaid as AaidValue};
 ghost use Rattle.tp_names.specs.Same.{is_aaid};
 ghost use Rattle.tp_network.specs.TreeSummary.{no_summary, summary_after, is_that};
-ghost use Rattle.tp_network.specs.TreeSummaries.{is_tree, tree_same, tree_equivalence, summary_at};
+ghost use Rattle.tp_network.specs.TreeOutcomes.{outcomes_in, with_node};
+ghost use Rattle.tp_network.specs.TreeSummaries.{summary_at};
 
+use crate::tree_key::Tree;
+use crate::tree_outcomes::OutcomesByTree;
 use crate::tree_summary::{TreeChange, TreeSummary, is_that, tree_at, tree_logged};
 use std::alloc::Global;
 use std::collections::HashMap;
-use std::hash::{Hash, Hasher};
 use std::marker::Model;
-use tp_names::same::is_aaid;
 use tp_names::{Aaid, NoMemory};
-
-/// A tree, by which its summary is found.
-#[derive(Clone, Copy)]
-pub struct Tree {
-    aaid: Aaid,
-}
-
-impl PartialEq for Tree {
-    ghost eq = { is_tree };
-
-    ghost laws = { partial_equiv_from_equiv tree_equivalence };
-
-    fn eq(&self, other: &Tree) -> bool {
-        is_aaid(&self.aaid, &other.aaid)
-    }
-}
-
-impl Eq for Tree {
-    ghost laws = { tree_equivalence };
-}
-
-// Few trees have the same mark: a tree is hashed by its mark alone.
-impl Hash for Tree {
-    ghost hash_input = { λ t. marks.ghosts.hash_input t.aaid.mark };
-
-    ghost respects_eq = { λ a b same. ap (λ t. marks.ghosts.hash_input t.aaid.mark) (tree_same a b same) };
-
-    fn hash<H: Hasher>(&self, state: &mut H) {
-        self.aaid.mark.hash(state);
-    }
-}
 
 /// The summaries that one node has in trees, by the trees with which it had to do.
 #[derive(Drop)]
@@ -55,7 +22,7 @@ pub struct TreeSummaries {
 
 impl Model for TreeSummaries {
     ghost use Rattle.std.specs.Prelude.{List};
-    ghost use Rattle.tp_network.specs.declared.tree_summaries.Tree.{Tree};
+    ghost use Rattle.tp_network.specs.declared.tree_key.Tree.{Tree};
     ghost use Rattle.tp_network.specs.declared.tree_summary.TreeSummary.{TreeSummary};
 
     ghost Value = { List (Tree × TreeSummary) };
@@ -147,4 +114,23 @@ impl TreeSummaries {
         self.change_at(&after, &before, change)?;
         self.change_at(&tree_logged(&change.rec), &after, change)
     }
+
+    /// What the nodes of each tree were told, with this one too.
+    pub(crate) fn gather(&self, all: &mut OutcomesByTree) -> Result<(), NoMemory>
+        ensures { OnOk result ((t : AaidValue) → outcomes_in all.new t ≡ with_node (summary_at self.now t) (outcomes_in all.old t)) }
+    {
+        gather_all(&self.summaries, all)
+    }
+}
+
+fn gather_all(
+    summaries: &HashMap<Tree, TreeSummary>,
+    all: &mut OutcomesByTree,
+) -> Result<(), NoMemory>
+    ensures { OnOk result ((t : AaidValue) → outcomes_in all.new t ≡ with_node (summary_at summaries.now.entries t) (outcomes_in all.old t)) }
+{
+    for (tree, summary) in summaries.iter() {
+        all.add(tree, summary)?;
+    }
+    Ok(())
 }

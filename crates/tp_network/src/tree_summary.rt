@@ -1,7 +1,7 @@
 //! What a node did in a tree, and how an entry of its history changes that.
 ghost use Rattle.std.specs.Prelude.{◌≡◌};
 ghost use Rattle.tp_names.specs.declared.identifiers.Aaid.{Aaid as AaidValue};
-ghost use Rattle.tp_network.specs.TreeSummary.{is_in, phase_in, is_commit_of, decision_in, tree_at, tree_logged, goes_on, has_rolled, is_that, no_summary, summary_after, told_by_summary};
+ghost use Rattle.tp_network.specs.TreeSummary.{is_in, phase_in, is_commit_of, decision_in, tree_at, tree_logged, goes_on, has_rolled, is_that, no_summary, summary_after, told_by_summary, stays_in};
 
 use tp_model::{LogWords, Phase};
 use tp_names::same::is_aaid;
@@ -148,6 +148,13 @@ impl TreeSummary {
             },
             rolled: has_rolled(is_before, is_after, change) || self.rolled,
         }
+    }
+
+    /// It is a node of the tree, and stays in it.
+    pub fn stays(&self) -> bool
+        ensures { result ≡ stays_in self.now }
+    {
+        self.member && !self.left
     }
 
     /// The outcome that the node was told.

@@ -5,12 +5,13 @@ use Rattle.tp_names.specs.declared.identifiers.Aaid.{Aaid}
 use Rattle.tp_names.specs.declared.outcome.Outcome.{Outcome}
 use Rattle.tp_model.specs.declared.out_line.OutLine.{OutLine}
 use Rattle.tp_model.specs.Outcomes.{is_member, decision, decided, told}
-use Rattle.tp_model.specs.Trees.{members_of, stays, is_told, some_told, all_told, placed, deciders, agreed_line, closing_line, closing_from, closing}
+use Rattle.tp_model.specs.Trees.{members_of, stays, is_told, some_told, all_told, placed, deciders, closing_line, closing_from, closing}
 use Rattle.tp_model.specs.World.{World, Node, number_of}
-use Rattle.tp_network.specs.TreeSummary.{told_by_summary}
+use Rattle.tp_network.specs.TreeSummary.{stays_in, told_by_summary}
 use Rattle.tp_world.specs.Summary.{Tells}
 use Rattle.tp_network.specs.TreeSummaries.{summary_at}
-use Rattle.tp_world.specs.Told.{some_told_at, all_told_at, deciders_at, agreed_line_at, closing_line_at, closing_at}
+use Rattle.tp_network.specs.TreeOutcomes.{outcomes_at, with_node}
+use Rattle.tp_world.specs.Told.{deciders_at, line_by, closing_at}
 use Rattle.tp_world.specs.World.{IsNode, AreNodes, Stands}
 use Rattle.tp_network.specs.declared.tree_summary.TreeSummary.{TreeSummary}
 use Rattle.tp_network.specs.declared.nodes.NodeSlot.{NodeSlot}
@@ -25,6 +26,21 @@ told_same n t p k =
     ap (λ (d : Option Outcome). elim d as (λ _. Option Outcome) [ Some u ↦ Some u | None ↦ if p.decided then Some Outcome.Commit else if p.rolled then Some Outcome.Rollback else None ]) k.decision
     ∙ ap (λ (b : Bool). elim (decision n.origin t n.history) as (λ _. Option Outcome) [ Some u ↦ Some u | None ↦ if b then Some Outcome.Commit else if p.rolled then Some Outcome.Rollback else None ]) k.decided
     ∙ ap (λ (b : Bool). elim (decision n.origin t n.history) as (λ _. Option Outcome) [ Some u ↦ Some u | None ↦ if decided n.origin t n.history then Some Outcome.Commit else if b then Some Outcome.Rollback else None ]) k.rolled
+
+-- ---- what the staying nodes were told, one outcome at a time
+
+abbrev some_told_at : Outcome → Aaid → List NodeSlot → Bool
+some_told_at o t [] = false
+some_told_at o t (x ∷ xs) = (stays_in (summary_at x.summaries t) && is_told o (told_by_summary (summary_at x.summaries t))) || some_told_at o t xs
+
+abbrev all_told_at : Outcome → Aaid → List NodeSlot → Bool
+all_told_at o t [] = true
+all_told_at o t (x ∷ xs) = (not (stays_in (summary_at x.summaries t)) || is_told o (told_by_summary (summary_at x.summaries t))) && all_told_at o t xs
+
+outcomes_are : (t : Aaid) (xs : List NodeSlot)
+    → outcomes_at xs t ≡ record { some_committed = some_told_at Outcome.Commit t xs; all_committed = all_told_at Outcome.Commit t xs; some_rolled_back = some_told_at Outcome.Rollback t xs; all_rolled_back = all_told_at Outcome.Rollback t xs }
+outcomes_are t [] = refl
+outcomes_are t (x ∷ xs) = ap (with_node (summary_at x.summaries t)) (outcomes_are t xs)
 
 -- ---- the nodes of a tree
 
@@ -111,17 +127,20 @@ deciders_same t (n ∷ ns) (x ∷ xs) h = go (is_member n.origin t n.history) (d
 
 -- ---- the lines
 
-agreed_same : (t : Aaid) (ns : List Node) (xs : List NodeSlot) → AreNodes ns xs → agreed_line_at t xs ≡ agreed_line t (members_of t ns)
-agreed_same t ns xs h =
-    ap (λ (b : Bool). elim b as (λ _. OutLine) [ true ↦ OutLine.Agreed t Outcome.Commit | false ↦ elim (all_told_at Outcome.Rollback t xs) as (λ _. OutLine) [ true ↦ OutLine.Agreed t Outcome.Rollback | false ↦ OutLine.Open t ] ]) (all_same Outcome.Commit t ns xs h)
-    ∙ ap (λ (b : Bool). elim (all_told Outcome.Commit t (members_of t ns)) as (λ _. OutLine) [ true ↦ OutLine.Agreed t Outcome.Commit | false ↦ elim b as (λ _. OutLine) [ true ↦ OutLine.Agreed t Outcome.Rollback | false ↦ OutLine.Open t ] ]) (all_same Outcome.Rollback t ns xs h)
+abbrev agreed_by : Aaid → Bool → Bool → OutLine
+agreed_by t all_committed all_rolled_back = elim all_committed as (λ _. OutLine) [
+  | true ↦ OutLine.Agreed t Outcome.Commit
+  | false ↦ elim all_rolled_back as (λ _. OutLine) [ true ↦ OutLine.Agreed t Outcome.Rollback | false ↦ OutLine.Open t ]
+]
 
-line_same : (t : Aaid) (ns : List Node) (xs : List NodeSlot) → AreNodes ns xs → closing_line_at t xs ≡ closing_line t (members_of t ns)
+line_same : (t : Aaid) (ns : List Node) (xs : List NodeSlot) → AreNodes ns xs → line_by t xs (outcomes_at xs t) ≡ closing_line t (members_of t ns)
 line_same t ns xs h =
-    ap (λ (b : Bool). elim (b && some_told_at Outcome.Rollback t xs) as (λ _. OutLine) [ true ↦ OutLine.Mixed t (deciders_at t xs) | false ↦ agreed_line_at t xs ]) (some_same Outcome.Commit t ns xs h)
-    ∙ ap (λ (b : Bool). elim (some_told Outcome.Commit t (members_of t ns) && b) as (λ _. OutLine) [ true ↦ OutLine.Mixed t (deciders_at t xs) | false ↦ agreed_line_at t xs ]) (some_same Outcome.Rollback t ns xs h)
-    ∙ ap (λ (l : List ℕ). elim (some_told Outcome.Commit t (members_of t ns) && some_told Outcome.Rollback t (members_of t ns)) as (λ _. OutLine) [ true ↦ OutLine.Mixed t l | false ↦ agreed_line_at t xs ]) (deciders_same t ns xs h)
-    ∙ ap (λ (l : OutLine). elim (some_told Outcome.Commit t (members_of t ns) && some_told Outcome.Rollback t (members_of t ns)) as (λ _. OutLine) [ true ↦ OutLine.Mixed t (deciders t (members_of t ns)) | false ↦ l ]) (agreed_same t ns xs h)
+    ap (line_by t xs) (outcomes_are t xs)
+    ∙ ap (λ (b : Bool). elim (b && some_told_at Outcome.Rollback t xs) as (λ _. OutLine) [ true ↦ OutLine.Mixed t (deciders_at t xs) | false ↦ agreed_by t (all_told_at Outcome.Commit t xs) (all_told_at Outcome.Rollback t xs) ]) (some_same Outcome.Commit t ns xs h)
+    ∙ ap (λ (b : Bool). elim (some_told Outcome.Commit t (members_of t ns) && b) as (λ _. OutLine) [ true ↦ OutLine.Mixed t (deciders_at t xs) | false ↦ agreed_by t (all_told_at Outcome.Commit t xs) (all_told_at Outcome.Rollback t xs) ]) (some_same Outcome.Rollback t ns xs h)
+    ∙ ap (λ (l : List ℕ). elim (some_told Outcome.Commit t (members_of t ns) && some_told Outcome.Rollback t (members_of t ns)) as (λ _. OutLine) [ true ↦ OutLine.Mixed t l | false ↦ agreed_by t (all_told_at Outcome.Commit t xs) (all_told_at Outcome.Rollback t xs) ]) (deciders_same t ns xs h)
+    ∙ ap (λ (b : Bool). elim (some_told Outcome.Commit t (members_of t ns) && some_told Outcome.Rollback t (members_of t ns)) as (λ _. OutLine) [ true ↦ OutLine.Mixed t (deciders t (members_of t ns)) | false ↦ agreed_by t b (all_told_at Outcome.Rollback t xs) ]) (all_same Outcome.Commit t ns xs h)
+    ∙ ap (λ (b : Bool). elim (some_told Outcome.Commit t (members_of t ns) && some_told Outcome.Rollback t (members_of t ns)) as (λ _. OutLine) [ true ↦ OutLine.Mixed t (deciders t (members_of t ns)) | false ↦ agreed_by t (all_told Outcome.Commit t (members_of t ns)) b ]) (all_same Outcome.Rollback t ns xs h)
 
 lines_same : (ns : List Node) (xs : List NodeSlot) (ts : List Aaid) → AreNodes ns xs → closing_at xs ts ≡ closing_from ns ts
 lines_same ns xs [] h = refl
