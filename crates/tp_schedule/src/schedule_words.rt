@@ -89,7 +89,7 @@ const LINE_WORDS: [(&str, LineWord); 16] = [
     ("leave", LineWord::Leave),
 ];
 
-const STOP_WORDS: [(&str, ActionWord); 8] = [
+const ACTION_WORDS: [(&str, ActionWord); 8] = [
     ("do", ActionWord::Do),
     ("pass", ActionWord::Pass),
     ("again", ActionWord::Again),
@@ -149,7 +149,7 @@ pub(crate) fn line_word(word: &[u8]) -> Option<LineWord>
 pub(crate) fn action_word(word: &[u8]) -> Option<ActionWord>
     ensures { result ≡ named action_word_text action_word_list word.now }
 {
-    find(&STOP_WORDS, word)
+    find(&ACTION_WORDS, word)
 }
 
 /// The request that the word begins.

@@ -24,7 +24,7 @@ below_back : (i n : ℕ) → 0 < i → i ≤ n → i - 1 < n
 below_back i n h k = omega (arith, h, k)
 
 -- an element is there, whatever stands for one that is not
-same_there : (xs : List NodeSlot) (i : ℕ) (d e : NodeSlot) → i < length xs → slice_index_or xs i d ≡ slice_index_or xs i e
+pub same_there : {A : Type 0} (xs : List A) (i : ℕ) (d e : A) → i < length xs → slice_index_or xs i d ≡ slice_index_or xs i e
 same_there [] i d e h = absurd (omega (arith, h))
 same_there (x ∷ xs) zero d e h = refl
 same_there (x ∷ xs) (suc i) d e h = same_there xs i d e (omega (arith, h))
