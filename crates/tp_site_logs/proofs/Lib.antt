@@ -1,0 +1,7 @@
+mod Vocabulary
+mod OneNumber
+mod Logged
+mod NextRecord
+mod Places
+mod Tells
+mod Runs

@@ -1,0 +1,277 @@
+-- In every run the logs of all sites tell their nodes: each happening keeps it.
+use Rattle.tp_site_logs.proofs.Vocabulary.{◌≡◌, ◌==◌, ◌++◌, ℕ, Bool, true, false, cond, refl, ap, sym, ◌∙◌, subst, arith, Option, Some, None, List, [], ◌∷◌, Addr, is_name, name_same, name_self, LogRec, Origin, Event, Entry, entry_of, answer, refuse, IsGrown, World, Node, Site, number_of, site_of, find_node, put_node, find_site, put_site, forced_by}
+use Rattle.std.specs.Prelude.{nat_le}
+use Rattle.tp_records.specs.declared.request.Request.{Request}
+use Rattle.tp_model.specs.declared.out_line.RecordFate.{RecordFate}
+use Rattle.tp_model.specs.Questions.{is_crash}
+use Rattle.tp_model.specs.History.{broken_by}
+use Rattle.tp_model.specs.Disk.{Disk, Remains, forced, piece, remains, remains_at_gate}
+use Rattle.tp_model.specs.World.{Frame, addr_at, find_frame, with_disk}
+use Rattle.tp_model.specs.Happenings.{Turn, still, after_lines, deed_lines, after_stop, crash_turn, Deed, Happening, Task, task_at, task_of, request_in, entered, logged, entry_turn, deed_turn, new_node, new_site, declared_at, declare_turn, restarted_at, booted, stop_in_force, stop_in_entry, stop_in_task, task_here, crash_in_turn, happens, run}
+use Rattle.tp_steps.proofs.every.Answers.{Accepted, accepted}
+use Rattle.tp_histories.proofs.worlds.Nodes.{find_put, find_append}
+use Rattle.tp_histories.proofs.worlds.Traversal.{Ready, ready_of}
+use Rattle.tp_site_logs.specs.SiteLogs.{DisksTell}
+use Rattle.tp_site_logs.proofs.Places.{find_name, site_appended, site_put_at, site_same, with_disk_is, find_restarted}
+use Rattle.tp_site_logs.proofs.Tells.{IsNode, IsTold, Tells, tells_put, tells_again, tells_site, told_entry, told_new_site, told_new_node, node_new, told_as, site_after, forced_there}
+
+abbrev pub Holds : World → Type 0
+Holds w = Tells w.nodes w.sites
+
+-- ---- a site stops and starts again
+
+crash_holds : (w : World) (s : List ℕ) → Holds w → Holds (crash_turn w s).world
+crash_holds w s h = go (find_site w.sites s) refl
+  where
+    go : (o : Option Site) → find_site w.sites s ≡ o → Holds (crash_turn w s).world
+    go None i = rw (i, crash_turn) h
+    go (Some x) i =
+        rw (i, crash_turn) (tells_again s w.nodes (restarted_at s w.nodes) w.sites (put_site w.sites (booted x)) x
+        (record { found = i; nodes = find_restarted s w.nodes; sites = λ t. site_put_at w.sites s x (booted x) t i refl }) h)
+
+-- ---- a node has one entry more
+
+-- an entry that a node of the world may have next
+record Enters (w : World) (n : Node) (e : Entry) : Type 0 where
+  here : find_node w.nodes (number_of n) ≡ Some n
+  node : IsNode (record n { history = e ∷ n.history })
+  calm : is_crash e.event ≡ false
+
+abbrev with_one : World → Node → Entry → List Node
+with_one w n e = put_node w.nodes (record n { history = e ∷ n.history })
+
+-- its site is another from now on, with that log
+puts : (w : World) (n : Node) (e : Entry) (new : List Site) (z : Site) → Enters w n e → ((t : List ℕ) → find_site new t ≡ cond (is_name (site_of n) t) (Some z) (find_site w.sites t))
+    → IsTold (with_one w n e) (site_of n) z → Holds w → Tells (with_one w n e) new
+puts w n e new z en looks told h =
+    tells_put w.nodes (with_one w n e) w.sites new (record n { history = e ∷ n.history }) z (record {
+      nodes = λ k. find_put w.nodes (record n { history = e ∷ n.history }) n k en.here;
+      sites = looks;
+      apart = λ t off. ap (forced_by t) en.here ∙ forced_there t n off;
+    }) en.node told h
+
+told_after : (w : World) (n : Node) (e : Entry) (x : Site) → Enters w n e → find_site w.sites (site_of n) ≡ Some x → Holds w → IsTold (with_one w n e) (site_of n) (site_after x e.rec)
+told_after w n e x en found h = told_entry w.nodes (with_one w n e) x n e en.here en.node en.calm (λ k. find_put w.nodes (record n { history = e ∷ n.history }) n k en.here) (h.sites (site_of n) x found)
+
+entered_holds : (w : World) (n : Node) (e : Entry) → Enters w n e → Holds w → Holds (logged (entered w n e) n e.rec)
+entered_holds w n e en h = go e.rec refl (h.placed (number_of n) n en.here)
+  where
+    go : (o : Option LogRec) → e.rec ≡ o → (x : Site) × (find_site w.sites (site_of n) ≡ Some x) → Holds (logged (entered w n e) n o)
+    go None made at =
+        puts w n e w.sites at.0 en (λ t. site_same w.sites (site_of n) at.0 t at.1)
+        (subst (λ (o : Option LogRec). IsTold (with_one w n e) (site_of n) (site_after at.0 o)) made (told_after w n e at.0 en at.1 h)) h
+    go (Some r) made at =
+        let z : Site = record (at.0) { disk = forced r at.0.disk } in
+        subst (λ (ss : List Site). Tells (with_one w n e) ss) (sym (with_disk_is w.sites (site_of n) (forced r) at.0 at.1))
+        (puts w n e (put_site w.sites z) z en (λ t. site_put_at w.sites (site_of n) at.0 z t at.1 refl)
+        (subst (λ (o : Option LogRec). IsTold (with_one w n e) (site_of n) (site_after at.0 o)) made (told_after w n e at.0 en at.1 h)) h)
+
+-- ---- what may come to a node is no crash
+
+calm_at : (w : World) (n : ℕ) (e : Event) (t : Task) → task_at w n e ≡ Some t → t.event ≡ e
+calm_at w n e t is = grind (arith, is)
+
+calm_task : (w : World) (d : Deed) (t : Task) → task_of w d ≡ Some t → is_crash t.event ≡ false
+calm_task w (Deed.Ask n q) t is = go (request_in w q) refl
+  where
+    go : (o : Option Request) → request_in w q ≡ o → is_crash t.event ≡ false
+    go None i = let none : None ≡ Some t = rw (i, task_of) at is in absurd (cc (none))
+    go (Some r) i = ap is_crash (calm_at w n (Event.Do r) t (rw (i, task_of) at is))
+calm_task w (Deed.Deliver k) t is = go (find_frame w.frames k) refl
+  where
+    go : (o : Option Frame) → find_frame w.frames k ≡ o → is_crash t.event ≡ false
+    go None i = let none : None ≡ Some t = rw (i, task_of) at is in absurd (cc (none))
+    go (Some f) i = ap is_crash (calm_at w f.to.node (Event.Arrive f.from f.rec) t (rw (i, task_of) at is))
+calm_task w (Deed.Lose n p) t is = ap is_crash (calm_at w n (Event.Lose p) t is)
+calm_task w (Deed.Decide n o) t is = ap is_crash (calm_at w n (Event.Heur o) t is)
+calm_task w (Deed.Abandon n p) t is = ap is_crash (calm_at w n (Event.GiveUp p) t is)
+calm_task w (Deed.Retry n) t is = ap is_crash (calm_at w n Event.Retry t is)
+calm_task w (Deed.Purge n) t is = ap is_crash (calm_at w n Event.Purge t is)
+
+calm_broken : (e : Event) → is_crash (broken_by e) ≡ is_crash e
+calm_broken (Event.Declare s) = refl
+calm_broken (Event.Do r) = refl
+calm_broken (Event.Arrive a r) = refl
+calm_broken (Event.Break a r) = refl
+calm_broken (Event.Lose p) = refl
+calm_broken (Event.Heur o) = refl
+calm_broken (Event.GiveUp p) = refl
+calm_broken Event.Retry = refl
+calm_broken Event.Purge = refl
+calm_broken Event.Crash = refl
+
+calm_answer : (o : Origin) (h : List Entry) (e : Event) (y : Entry) → is_crash e ≡ false → (answer o h e).entry ≡ Some y → is_crash y.event ≡ false
+calm_answer o h e y calm is = let broken = calm_broken e in grind (arith, is, calm, broken)
+
+enters : (w : World) (t : Task) (y : Entry) → Ready w t → is_crash t.event ≡ false → (answer t.node.origin t.node.history t.event).entry ≡ Some y → Holds w → Enters w t.node y
+enters w t y r calm is h =
+    let n : Node = t.node in
+    let a : Accepted n.origin n.history t.event y = accepted n.origin n.history t.event y is in
+    let node : IsNode n = h.sound (number_of n) n r.here in
+    record {
+      here = r.here;
+      node = record {
+        grown = subst (λ (z : Entry). IsGrown n.origin n.superior (z ∷ n.history)) (sym a.is) (a.ok, refl, a.under n.superior (r.under n.superior), node.grown);
+        empty = node.empty;
+        version = node.version;
+      };
+      calm = calm_answer n.origin n.history t.event y calm is;
+    }
+
+-- ---- a deed
+
+entry_holds : (w : World) (n : Node) (number : Option ℕ) (o : Option Entry) → ((y : Entry) → o ≡ Some y → Enters w n y) → Holds w → Holds (entry_turn w n number o).world
+entry_holds w n number None en h = h
+entry_holds w n number (Some y) en h = entered_holds w n y (en y refl) h
+
+deed_holds : (w : World) (d : Deed) → Holds w → Holds (deed_turn w d).world
+deed_holds w d h = go (task_of w d) refl
+  where
+    go : (o : Option Task) → task_of w d ≡ o → Holds (deed_turn w d).world
+    go None i = rw (i, deed_turn) h
+    go (Some t) i =
+        let a = answer t.node.origin t.node.history t.event in
+        rw (i, deed_turn) (entry_holds w t.node a.number a.entry (λ y e. enters w t y (ready_of w d t i) (calm_task w d t i) e h) h)
+
+-- ---- a stop in an event
+
+-- the record is on the disk, or the disk has the records that it had
+abbrev IsRemains : LogRec → Disk → Remains → Type 0
+IsRemains r d st = elim st.fate [ RecordFate.Kept ↦ st.disk.records ≡ r ∷ d.records | RecordFate.Lost ↦ st.disk.records ≡ d.records | RecordFate.None ↦ st.disk.records ≡ d.records ]
+
+remains_is : (call fill : ℕ) (r : LogRec) (d : Disk) → IsRemains r d (remains call fill r d)
+remains_is call fill r d = go (nat_le call 2) (nat_le call 4) (fill == 1) refl refl refl
+  where
+    go : (a b c : Bool) → nat_le call 2 ≡ a → nat_le call 4 ≡ b → (fill == 1) ≡ c → IsRemains r d (remains call fill r d)
+    go true b c i j k = rw (i, remains) refl
+    go false false c i j k = rw (i, remains) (rw j refl)
+    go false true true i j k = rw (i, remains) (rw j (rw (k, remains_at_gate) refl))
+    go false true false i j k = rw (i, remains) (rw j (rw (k, remains_at_gate) refl))
+
+force_holds : (w : World) (n : Node) (x : Site) (y : Entry) (r : LogRec) (st : Remains) → Enters w n y → y.rec ≡ Some r → find_site w.sites (site_of n) ≡ Some x → IsRemains r x.disk st → Holds w → Holds (stop_in_force w n x y st).world
+force_holds w n x y r st en made found are h = go st.fate are
+  where
+    z : Site
+    z = record x { disk = st.disk }
+
+    v : World
+    v = record w { sites = put_site w.sites z }
+
+    looks : (t : List ℕ) → find_site (put_site w.sites z) t ≡ cond (is_name (site_of n) t) (Some z) (find_site w.sites t)
+    looks t = site_put_at w.sites (site_of n) x z t found refl
+
+    kept : st.disk.records ≡ x.disk.records → Holds v
+    kept same = tells_site w.nodes w.sites (put_site w.sites z) (site_of n) z looks (told_as w.nodes (site_of n) x st.disk same (h.sites (site_of n) x found)) h
+
+    more : st.disk.records ≡ r ∷ x.disk.records → Holds (entered v n y)
+    more same =
+        let told : IsTold (with_one w n y) (site_of n) (site_after x (Some r)) = subst (λ (o : Option LogRec). IsTold (with_one w n y) (site_of n) (site_after x o)) made (told_after w n y x en found h) in
+        puts w n y (put_site w.sites z) z en looks (told_as (with_one w n y) (site_of n) (site_after x (Some r)) st.disk same told) h
+
+    go : (f : RecordFate) → (elim f as (λ _. Type 0) [ RecordFate.Kept ↦ st.disk.records ≡ r ∷ x.disk.records | RecordFate.Lost ↦ st.disk.records ≡ x.disk.records | RecordFate.None ↦ st.disk.records ≡ x.disk.records ])
+        → Holds (crash_turn (elim f [ RecordFate.Kept ↦ entered v n y | RecordFate.Lost ↦ v | RecordFate.None ↦ v ]) x.name).world
+    go RecordFate.Kept same = crash_holds (entered v n y) x.name (more same)
+    go RecordFate.Lost same = crash_holds v x.name (kept same)
+    go RecordFate.None same = crash_holds v x.name (kept same)
+
+stop_holds : (w : World) (n : Node) (x : Site) (call fill : ℕ) (o : Option Entry) → ((y : Entry) → o ≡ Some y → Enters w n y) → find_site w.sites (site_of n) ≡ Some x → Holds w → Holds (stop_in_entry w n x call fill o).world
+stop_holds w n x call fill None en found h = crash_holds w x.name h
+stop_holds w n x call fill (Some y) en found h = go y.rec refl
+  where
+    go : (q : Option LogRec) → y.rec ≡ q
+        → Holds (elim q as (λ _. Turn) [ None ↦ after_stop (entered w n y) x.name RecordFate.None | Some l ↦ stop_in_force w n x y (remains call fill l x.disk) ]).world
+    go None made = crash_holds (entered w n y) x.name (subst (λ (q : Option LogRec). Holds (logged (entered w n y) n q)) made (entered_holds w n y (en y refl) h))
+    go (Some l) made = force_holds w n x y l (remains call fill l x.disk) (en y refl) made found (remains_is call fill l x.disk) h
+
+crash_in_holds : (w : World) (s : List ℕ) (call fill : ℕ) (d : Deed) → Holds w → Holds (crash_in_turn w s call fill d).world
+crash_in_holds w s call fill d h = go (find_site w.sites s) refl
+  where
+    one_task : (x : Site) (t u : Task) → task_here x (Some t) ≡ Some u → (t ≡ u) × (is_name (site_of u.node) x.name ≡ true)
+    one_task x t u j = at (is_name (site_of t.node) x.name) refl j
+      where
+        at : (b : Bool) → is_name (site_of t.node) x.name ≡ b → (elim b as (λ _. Option Task) [ true ↦ Some t | false ↦ None ]) ≡ Some u → (t ≡ u) × (is_name (site_of u.node) x.name ≡ true)
+        at true b i = let same : t ≡ u = cc (i) in (same, ap (λ (v : Task). is_name (site_of v.node) x.name) (sym same) ∙ b)
+        at false b i = absurd (cc (i))
+
+    here : (x : Site) → find_site w.sites s ≡ Some x → (o : Option Task) → task_of w d ≡ o → (b : Option Task) → task_here x o ≡ b
+        → Holds (elim b as (λ _. Turn) [ None ↦ still w | Some t ↦ after_lines (deed_lines d) (stop_in_task w x call fill t) ]).world
+    here x i o k None j = h
+    here x i None k (Some u) j = absurd cc
+    here x i (Some t) k (Some u) j =
+        let same = one_task x t u j in
+        let is : task_of w d ≡ Some u = k ∙ ap (λ (v : Task). Some v) same.0 in
+        let found : find_site w.sites (site_of u.node) ≡ Some x = ap (find_site w.sites) (name_same (site_of u.node) x.name same.1 ∙ find_name w.sites s x i) ∙ i in
+        stop_holds w u.node x call fill (answer u.node.origin u.node.history u.event).entry (λ y e. enters w u y (ready_of w d u is) (calm_task w d u is) e h) found h
+
+    go : (o : Option Site) → find_site w.sites s ≡ o → Holds (crash_in_turn w s call fill d).world
+    go None i = rw (i, crash_in_turn) h
+    go (Some x) i = rw (i, crash_in_turn) (here x i (task_of w d) refl (task_here x (task_of w d)) refl)
+
+-- ---- a declaration
+
+node_comes : (ns : List Node) (ss : List Site) (s : List ℕ) (n : ℕ) (up : Option Addr) (x : Site) → find_node ns n ≡ None → find_site ss s ≡ Some x → Tells ns ss → Tells (ns ++ new_node s n x.boot up ∷ []) ss
+node_comes ns ss s n up x none found h =
+    let y : Node = new_node s n x.boot up in
+    let looks : (k : ℕ) → find_node (ns ++ y ∷ []) k ≡ cond (n == k) (Some y) (find_node ns k) = λ k. find_append ns y k none in
+    tells_put ns (ns ++ y ∷ []) ss ss y x (record {
+      nodes = looks;
+      sites = λ t. site_same ss s x t found;
+      apart = λ t off. ap (forced_by t) none;
+    }) (node_new s n x.boot up) (told_new_node ns (ns ++ y ∷ []) s n up x none looks (h.sites s x found)) h
+
+site_comes : (ns : List Node) (ss : List Site) (s : List ℕ) → find_site ss s ≡ None → Tells ns ss → Tells ns (ss ++ new_site s ∷ [])
+site_comes ns ss s none h = tells_site ns ss (ss ++ new_site s ∷ []) s (new_site s) (λ t. site_appended ss (new_site s) t none) (told_new_site ns s nobody) h
+  where
+    nobody : (k : ℕ) (n : Node) → find_node ns k ≡ Some n → is_name (site_of n) s ≡ true → ⊥
+    nobody k n at here =
+        let x = h.placed k n at in
+        let off : None ≡ Some x.0 = sym none ∙ ap (find_site ss) (sym (name_same (site_of n) s here)) ∙ x.1 in
+        cc (off)
+
+declared_holds : (w : World) (n : ℕ) (s : List ℕ) (up : Option Addr) → find_node w.nodes n ≡ None → Holds w → Holds (declared_at w n s up).world
+declared_holds w n s up none h = go (find_site w.sites s) refl
+  where
+    go : (o : Option Site) → find_site w.sites s ≡ o → Holds (declared_at w n s up).world
+    go (Some x) i = rw (i, declared_at) (node_comes w.nodes w.sites s n up x none i h)
+    go None i =
+        let found : find_site (w.sites ++ new_site s ∷ []) s ≡ Some (new_site s) = site_appended w.sites (new_site s) s i ∙ ap (λ (b : Bool). cond b (Some (new_site s)) (find_site w.sites s)) (name_self s) in
+        rw (i, declared_at) (node_comes w.nodes (w.sites ++ new_site s ∷ []) s n up (new_site s) none found (site_comes w.nodes w.sites s i h))
+
+declare_holds : (w : World) (n : ℕ) (s : List ℕ) (under : Option ℕ) → Holds w → Holds (declare_turn w n s under).world
+declare_holds w n s under h = go (find_node w.nodes n) refl
+  where
+    above : (o : Option Addr) → find_node w.nodes n ≡ None → Holds (elim o as (λ _. Turn) [ None ↦ still w | Some a ↦ declared_at w n s (Some a) ]).world
+    above None none = h
+    above (Some a) none = declared_holds w n s (Some a) none h
+
+    below : (u : Option ℕ) → find_node w.nodes n ≡ None → Holds (elim u as (λ _. Turn) [ None ↦ declared_at w n s None | Some p ↦ elim (addr_at w p) as (λ _. Turn) [ None ↦ still w | Some a ↦ declared_at w n s (Some a) ] ]).world
+    below None none = declared_holds w n s None none h
+    below (Some p) none = above (addr_at w p) none
+
+    go : (o : Option Node) → find_node w.nodes n ≡ o → Holds (declare_turn w n s under).world
+    go None i = rw (i, declare_turn) (below under i)
+    go (Some x) i = rw (i, declare_turn) h
+
+-- ---- every run
+
+happens_holds : (w : World) (e : Happening) → Holds w → Holds (happens w e).world
+happens_holds w (Happening.Declare n s under) h = declare_holds w n s under h
+happens_holds w (Happening.Does d) h = deed_holds w d h
+happens_holds w (Happening.Crash s) h = crash_holds w s h
+happens_holds w (Happening.Crash_in s call fill d) h = crash_in_holds w s call fill d h
+happens_holds w _ h = h
+
+pub run_tells : (es : List Happening) → Holds (run es)
+run_tells [] = record { sound = λ k n at. absurd (cc (at)); placed = λ k n at. absurd (cc (at)); sites = λ s x at. absurd (cc (at)) }
+run_tells (e ∷ es) = happens_holds (run es) e (run_tells es)
+
+pub disks_tell : (es : List Happening) → DisksTell (run es)
+disks_tell es s x at =
+    let told : IsTold (run es).nodes s x = (run_tells es).sites s x at in
+    let name : s ≡ x.name = sym (find_name (run es).sites s x at) in
+    record {
+      nodes = λ k. told.log.nodes k ∙ ap (λ (l : List ℕ). forced_by l (find_node (run es).nodes k)) name;
+      starts = told.starts;
+      last = λ n here on. told.last (number_of n) n here (ap (is_name (site_of n)) name ∙ on);
+      order = told.log.order;
+    }

@@ -1,0 +1,16 @@
+//! Laws of a site's log as one list: what it tells of the site's nodes, and what the next start finds on it. Each is the
+//! contract of a function with an empty body.
+#![tactic(auto)]
+
+ghost use Rattle.std.specs.Prelude.{ℕ, suc, ◌≡◌, ◌≤◌, Some, List};
+ghost use Rattle.tp_model.specs.NodeRun.{boot_of};
+ghost use Rattle.tp_model.specs.World.{Site, find_site};
+ghost use Rattle.tp_model.specs.Happenings.{Happening, run};
+ghost use Rattle.tp_site_logs.specs.SiteLogs.{DisksTell, DisksStart, next_opening, stops};
+
+/// In every run, the log of a site tells its nodes: of each number at which a node of the site stands it has the records that
+/// the node forced, in their order, and of every other number none; it has one Boot for each start of the site, the last of
+/// which is the start that its nodes are in; and each record follows those before it.
+pub fn a_sites_log_tells_its_nodes()
+    ensures { (es : List Happening) → DisksTell (run es) }
+{}
