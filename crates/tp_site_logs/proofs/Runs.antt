@@ -1,5 +1,5 @@
 -- In every run the logs of all sites tell their nodes: each happening keeps it.
-use Rattle.tp_site_logs.proofs.Vocabulary.{◌≡◌, ◌==◌, ◌++◌, ℕ, Bool, true, false, cond, refl, ap, sym, ◌∙◌, subst, arith, Option, Some, None, List, [], ◌∷◌, Addr, is_name, name_same, name_self, LogRec, Origin, Event, Entry, entry_of, answer, refuse, IsGrown, World, Node, Site, number_of, site_of, find_node, put_node, find_site, put_site, forced_by}
+use Rattle.tp_site_logs.proofs.Vocabulary.{◌≡◌, ◌≤◌, suc, ◌==◌, ◌++◌, ℕ, Bool, true, false, cond, refl, ap, sym, ◌∙◌, subst, arith, Option, Some, None, List, [], ◌∷◌, Addr, is_name, name_same, name_self, LogRec, Origin, Event, Entry, entry_of, answer, refuse, IsGrown, World, Node, Site, number_of, site_of, find_node, put_node, find_site, put_site, forced_by}
 use Rattle.std.specs.Prelude.{nat_le}
 use Rattle.tp_records.specs.declared.request.Request.{Request}
 use Rattle.tp_model.specs.declared.out_line.RecordFate.{RecordFate}
@@ -7,26 +7,26 @@ use Rattle.tp_model.specs.Questions.{is_crash}
 use Rattle.tp_model.specs.History.{broken_by}
 use Rattle.tp_model.specs.Disk.{Disk, Remains, forced, piece, remains, remains_at_gate}
 use Rattle.tp_model.specs.World.{Frame, addr_at, find_frame, with_disk}
-use Rattle.tp_model.specs.Happenings.{Turn, still, after_lines, deed_lines, after_stop, crash_turn, Deed, Happening, Task, task_at, task_of, request_in, entered, logged, entry_turn, deed_turn, new_node, new_site, declared_at, declare_turn, restarted_at, booted, stop_in_force, stop_in_entry, stop_in_task, task_here, crash_in_turn, happens, run}
+use Rattle.tp_model.specs.Happenings.{Turn, still, after_lines, deed_lines, after_stop, crash_turn, Deed, Happening, Task, task_at, task_of, request_in, entered, logged, entry_turn, deed_turn, new_node, new_site, declared_at, declare_turn, restarted_at, booted, stop_in_force, stop_in_entry, stop_in_task, task_here, crash_in_turn, run}
 use Rattle.tp_steps.proofs.every.Answers.{Accepted, accepted}
 use Rattle.tp_histories.proofs.worlds.Nodes.{find_put, find_append}
 use Rattle.tp_histories.proofs.worlds.Traversal.{Ready, ready_of}
-use Rattle.tp_site_logs.specs.SiteLogs.{DisksTell}
+use Rattle.tp_site_logs.specs.SiteLogs.{DisksTell, stops}
 use Rattle.tp_site_logs.proofs.Places.{find_name, site_appended, site_put_at, site_same, with_disk_is, find_restarted}
-use Rattle.tp_site_logs.proofs.Tells.{IsNode, IsTold, Tells, tells_put, tells_again, tells_site, told_entry, told_new_site, told_new_node, node_new, told_as, site_after, forced_there}
+use Rattle.tp_site_logs.proofs.Tells.{IsNode, IsTold, Tells, tells_put, tells_again, tells_site, tells_later, told_entry, told_new_site, told_new_node, node_new, told_as, site_after, forced_there}
 
-abbrev pub Holds : World → Type 0
-Holds w = Tells w.nodes w.sites
+abbrev Holds : ℕ → World → Type 0
+Holds m w = Tells m w.nodes w.sites
 
 -- ---- a site stops and starts again
 
-crash_holds : (w : World) (s : List ℕ) → Holds w → Holds (crash_turn w s).world
-crash_holds w s h = go (find_site w.sites s) refl
+crash_holds : (m : ℕ) (w : World) (s : List ℕ) → Holds m w → Holds (suc m) (crash_turn w s).world
+crash_holds m w s h = go (find_site w.sites s) refl
   where
-    go : (o : Option Site) → find_site w.sites s ≡ o → Holds (crash_turn w s).world
-    go None i = rw (i, crash_turn) h
+    go : (o : Option Site) → find_site w.sites s ≡ o → Holds (suc m) (crash_turn w s).world
+    go None i = rw (i, crash_turn) (tells_later m w.nodes w.sites h)
     go (Some x) i =
-        rw (i, crash_turn) (tells_again s w.nodes (restarted_at s w.nodes) w.sites (put_site w.sites (booted x)) x
+        rw (i, crash_turn) (tells_again m s w.nodes (restarted_at s w.nodes) w.sites (put_site w.sites (booted x)) x
         (record { found = i; nodes = find_restarted s w.nodes; sites = λ t. site_put_at w.sites s x (booted x) t i refl }) h)
 
 -- ---- a node has one entry more
@@ -41,30 +41,30 @@ abbrev with_one : World → Node → Entry → List Node
 with_one w n e = put_node w.nodes (record n { history = e ∷ n.history })
 
 -- its site is another from now on, with that log
-puts : (w : World) (n : Node) (e : Entry) (new : List Site) (z : Site) → Enters w n e → ((t : List ℕ) → find_site new t ≡ cond (is_name (site_of n) t) (Some z) (find_site w.sites t))
-    → IsTold (with_one w n e) (site_of n) z → Holds w → Tells (with_one w n e) new
-puts w n e new z en looks told h =
-    tells_put w.nodes (with_one w n e) w.sites new (record n { history = e ∷ n.history }) z (record {
+puts : (m : ℕ) (w : World) (n : Node) (e : Entry) (new : List Site) (z : Site) → Enters w n e → ((t : List ℕ) → find_site new t ≡ cond (is_name (site_of n) t) (Some z) (find_site w.sites t))
+    → IsTold (with_one w n e) (site_of n) z → z.boot ≤ m → Holds m w → Tells m (with_one w n e) new
+puts m w n e new z en looks told most h =
+    tells_put m w.nodes (with_one w n e) w.sites new (record n { history = e ∷ n.history }) z (record {
       nodes = λ k. find_put w.nodes (record n { history = e ∷ n.history }) n k en.here;
       sites = looks;
       apart = λ t off. ap (forced_by t) en.here ∙ forced_there t n off;
-    }) en.node told h
+    }) en.node told most h
 
-told_after : (w : World) (n : Node) (e : Entry) (x : Site) → Enters w n e → find_site w.sites (site_of n) ≡ Some x → Holds w → IsTold (with_one w n e) (site_of n) (site_after x e.rec)
-told_after w n e x en found h = told_entry w.nodes (with_one w n e) x n e en.here en.node en.calm (λ k. find_put w.nodes (record n { history = e ∷ n.history }) n k en.here) (h.sites (site_of n) x found)
+told_after : (m : ℕ) (w : World) (n : Node) (e : Entry) (x : Site) → Enters w n e → find_site w.sites (site_of n) ≡ Some x → Holds m w → IsTold (with_one w n e) (site_of n) (site_after x e.rec)
+told_after m w n e x en found h = told_entry w.nodes (with_one w n e) x n e en.here en.node en.calm (λ k. find_put w.nodes (record n { history = e ∷ n.history }) n k en.here) (h.sites (site_of n) x found)
 
-entered_holds : (w : World) (n : Node) (e : Entry) → Enters w n e → Holds w → Holds (logged (entered w n e) n e.rec)
-entered_holds w n e en h = go e.rec refl (h.placed (number_of n) n en.here)
+entered_holds : (m : ℕ) (w : World) (n : Node) (e : Entry) → Enters w n e → Holds m w → Holds m (logged (entered w n e) n e.rec)
+entered_holds m w n e en h = go e.rec refl (h.placed (number_of n) n en.here)
   where
-    go : (o : Option LogRec) → e.rec ≡ o → (x : Site) × (find_site w.sites (site_of n) ≡ Some x) → Holds (logged (entered w n e) n o)
+    go : (o : Option LogRec) → e.rec ≡ o → (x : Site) × (find_site w.sites (site_of n) ≡ Some x) → Holds m (logged (entered w n e) n o)
     go None made at =
-        puts w n e w.sites at.0 en (λ t. site_same w.sites (site_of n) at.0 t at.1)
-        (subst (λ (o : Option LogRec). IsTold (with_one w n e) (site_of n) (site_after at.0 o)) made (told_after w n e at.0 en at.1 h)) h
+        puts m w n e w.sites at.0 en (λ t. site_same w.sites (site_of n) at.0 t at.1)
+        (subst (λ (o : Option LogRec). IsTold (with_one w n e) (site_of n) (site_after at.0 o)) made (told_after m w n e at.0 en at.1 h)) (h.boots (site_of n) at.0 at.1) h
     go (Some r) made at =
         let z : Site = record (at.0) { disk = forced r at.0.disk } in
-        subst (λ (ss : List Site). Tells (with_one w n e) ss) (sym (with_disk_is w.sites (site_of n) (forced r) at.0 at.1))
-        (puts w n e (put_site w.sites z) z en (λ t. site_put_at w.sites (site_of n) at.0 z t at.1 refl)
-        (subst (λ (o : Option LogRec). IsTold (with_one w n e) (site_of n) (site_after at.0 o)) made (told_after w n e at.0 en at.1 h)) h)
+        subst (λ (ss : List Site). Tells m (with_one w n e) ss) (sym (with_disk_is w.sites (site_of n) (forced r) at.0 at.1))
+        (puts m w n e (put_site w.sites z) z en (λ t. site_put_at w.sites (site_of n) at.0 z t at.1 refl)
+        (subst (λ (o : Option LogRec). IsTold (with_one w n e) (site_of n) (site_after at.0 o)) made (told_after m w n e at.0 en at.1 h)) (h.boots (site_of n) at.0 at.1) h)
 
 -- ---- what may come to a node is no crash
 
@@ -103,8 +103,8 @@ calm_broken Event.Crash = refl
 calm_answer : (o : Origin) (h : List Entry) (e : Event) (y : Entry) → is_crash e ≡ false → (answer o h e).entry ≡ Some y → is_crash y.event ≡ false
 calm_answer o h e y calm is = let broken = calm_broken e in grind (arith, is, calm, broken)
 
-enters : (w : World) (t : Task) (y : Entry) → Ready w t → is_crash t.event ≡ false → (answer t.node.origin t.node.history t.event).entry ≡ Some y → Holds w → Enters w t.node y
-enters w t y r calm is h =
+enters : (m : ℕ) (w : World) (t : Task) (y : Entry) → Ready w t → is_crash t.event ≡ false → (answer t.node.origin t.node.history t.event).entry ≡ Some y → Holds m w → Enters w t.node y
+enters m w t y r calm is h =
     let n : Node = t.node in
     let a : Accepted n.origin n.history t.event y = accepted n.origin n.history t.event y is in
     let node : IsNode n = h.sound (number_of n) n r.here in
@@ -120,18 +120,18 @@ enters w t y r calm is h =
 
 -- ---- a deed
 
-entry_holds : (w : World) (n : Node) (number : Option ℕ) (o : Option Entry) → ((y : Entry) → o ≡ Some y → Enters w n y) → Holds w → Holds (entry_turn w n number o).world
-entry_holds w n number None en h = h
-entry_holds w n number (Some y) en h = entered_holds w n y (en y refl) h
+entry_holds : (m : ℕ) (w : World) (n : Node) (number : Option ℕ) (o : Option Entry) → ((y : Entry) → o ≡ Some y → Enters w n y) → Holds m w → Holds m (entry_turn w n number o).world
+entry_holds m w n number None en h = h
+entry_holds m w n number (Some y) en h = entered_holds m w n y (en y refl) h
 
-deed_holds : (w : World) (d : Deed) → Holds w → Holds (deed_turn w d).world
-deed_holds w d h = go (task_of w d) refl
+deed_holds : (m : ℕ) (w : World) (d : Deed) → Holds m w → Holds m (deed_turn w d).world
+deed_holds m w d h = go (task_of w d) refl
   where
-    go : (o : Option Task) → task_of w d ≡ o → Holds (deed_turn w d).world
+    go : (o : Option Task) → task_of w d ≡ o → Holds m (deed_turn w d).world
     go None i = rw (i, deed_turn) h
     go (Some t) i =
         let a = answer t.node.origin t.node.history t.event in
-        rw (i, deed_turn) (entry_holds w t.node a.number a.entry (λ y e. enters w t y (ready_of w d t i) (calm_task w d t i) e h) h)
+        rw (i, deed_turn) (entry_holds m w t.node a.number a.entry (λ y e. enters m w t y (ready_of w d t i) (calm_task w d t i) e h) h)
 
 -- ---- a stop in an event
 
@@ -148,8 +148,8 @@ remains_is call fill r d = go (nat_le call 2) (nat_le call 4) (fill == 1) refl r
     go false true true i j k = rw (i, remains) (rw j (rw (k, remains_at_gate) refl))
     go false true false i j k = rw (i, remains) (rw j (rw (k, remains_at_gate) refl))
 
-force_holds : (w : World) (n : Node) (x : Site) (y : Entry) (r : LogRec) (st : Remains) → Enters w n y → y.rec ≡ Some r → find_site w.sites (site_of n) ≡ Some x → IsRemains r x.disk st → Holds w → Holds (stop_in_force w n x y st).world
-force_holds w n x y r st en made found are h = go st.fate are
+force_holds : (m : ℕ) (w : World) (n : Node) (x : Site) (y : Entry) (r : LogRec) (st : Remains) → Enters w n y → y.rec ≡ Some r → find_site w.sites (site_of n) ≡ Some x → IsRemains r x.disk st → Holds m w → Holds (suc m) (stop_in_force w n x y st).world
+force_holds m w n x y r st en made found are h = go st.fate are
   where
     z : Site
     z = record x { disk = st.disk }
@@ -160,31 +160,31 @@ force_holds w n x y r st en made found are h = go st.fate are
     looks : (t : List ℕ) → find_site (put_site w.sites z) t ≡ cond (is_name (site_of n) t) (Some z) (find_site w.sites t)
     looks t = site_put_at w.sites (site_of n) x z t found refl
 
-    kept : st.disk.records ≡ x.disk.records → Holds v
-    kept same = tells_site w.nodes w.sites (put_site w.sites z) (site_of n) z looks (told_as w.nodes (site_of n) x st.disk same (h.sites (site_of n) x found)) h
+    kept : st.disk.records ≡ x.disk.records → Holds m v
+    kept same = tells_site m w.nodes w.sites (put_site w.sites z) (site_of n) z looks (told_as w.nodes (site_of n) x st.disk same (h.sites (site_of n) x found)) (h.boots (site_of n) x found) h
 
-    more : st.disk.records ≡ r ∷ x.disk.records → Holds (entered v n y)
+    more : st.disk.records ≡ r ∷ x.disk.records → Holds m (entered v n y)
     more same =
-        let told : IsTold (with_one w n y) (site_of n) (site_after x (Some r)) = subst (λ (o : Option LogRec). IsTold (with_one w n y) (site_of n) (site_after x o)) made (told_after w n y x en found h) in
-        puts w n y (put_site w.sites z) z en looks (told_as (with_one w n y) (site_of n) (site_after x (Some r)) st.disk same told) h
+        let told : IsTold (with_one w n y) (site_of n) (site_after x (Some r)) = subst (λ (o : Option LogRec). IsTold (with_one w n y) (site_of n) (site_after x o)) made (told_after m w n y x en found h) in
+        puts m w n y (put_site w.sites z) z en looks (told_as (with_one w n y) (site_of n) (site_after x (Some r)) st.disk same told) (h.boots (site_of n) x found) h
 
     go : (f : RecordFate) → (elim f as (λ _. Type 0) [ RecordFate.Kept ↦ st.disk.records ≡ r ∷ x.disk.records | RecordFate.Lost ↦ st.disk.records ≡ x.disk.records | RecordFate.None ↦ st.disk.records ≡ x.disk.records ])
-        → Holds (crash_turn (elim f [ RecordFate.Kept ↦ entered v n y | RecordFate.Lost ↦ v | RecordFate.None ↦ v ]) x.name).world
-    go RecordFate.Kept same = crash_holds (entered v n y) x.name (more same)
-    go RecordFate.Lost same = crash_holds v x.name (kept same)
-    go RecordFate.None same = crash_holds v x.name (kept same)
+        → Holds (suc m) (crash_turn (elim f [ RecordFate.Kept ↦ entered v n y | RecordFate.Lost ↦ v | RecordFate.None ↦ v ]) x.name).world
+    go RecordFate.Kept same = crash_holds m (entered v n y) x.name (more same)
+    go RecordFate.Lost same = crash_holds m v x.name (kept same)
+    go RecordFate.None same = crash_holds m v x.name (kept same)
 
-stop_holds : (w : World) (n : Node) (x : Site) (call fill : ℕ) (o : Option Entry) → ((y : Entry) → o ≡ Some y → Enters w n y) → find_site w.sites (site_of n) ≡ Some x → Holds w → Holds (stop_in_entry w n x call fill o).world
-stop_holds w n x call fill None en found h = crash_holds w x.name h
-stop_holds w n x call fill (Some y) en found h = go y.rec refl
+stop_holds : (m : ℕ) (w : World) (n : Node) (x : Site) (call fill : ℕ) (o : Option Entry) → ((y : Entry) → o ≡ Some y → Enters w n y) → find_site w.sites (site_of n) ≡ Some x → Holds m w → Holds (suc m) (stop_in_entry w n x call fill o).world
+stop_holds m w n x call fill None en found h = crash_holds m w x.name h
+stop_holds m w n x call fill (Some y) en found h = go y.rec refl
   where
     go : (q : Option LogRec) → y.rec ≡ q
-        → Holds (elim q as (λ _. Turn) [ None ↦ after_stop (entered w n y) x.name RecordFate.None | Some l ↦ stop_in_force w n x y (remains call fill l x.disk) ]).world
-    go None made = crash_holds (entered w n y) x.name (subst (λ (q : Option LogRec). Holds (logged (entered w n y) n q)) made (entered_holds w n y (en y refl) h))
-    go (Some l) made = force_holds w n x y l (remains call fill l x.disk) (en y refl) made found (remains_is call fill l x.disk) h
+        → Holds (suc m) (elim q as (λ _. Turn) [ None ↦ after_stop (entered w n y) x.name RecordFate.None | Some l ↦ stop_in_force w n x y (remains call fill l x.disk) ]).world
+    go None made = crash_holds m (entered w n y) x.name (subst (λ (q : Option LogRec). Holds m (logged (entered w n y) n q)) made (entered_holds m w n y (en y refl) h))
+    go (Some l) made = force_holds m w n x y l (remains call fill l x.disk) (en y refl) made found (remains_is call fill l x.disk) h
 
-crash_in_holds : (w : World) (s : List ℕ) (call fill : ℕ) (d : Deed) → Holds w → Holds (crash_in_turn w s call fill d).world
-crash_in_holds w s call fill d h = go (find_site w.sites s) refl
+crash_in_holds : (m : ℕ) (w : World) (s : List ℕ) (call fill : ℕ) (d : Deed) → Holds m w → Holds (suc m) (crash_in_turn w s call fill d).world
+crash_in_holds m w s call fill d h = go (find_site w.sites s) refl
   where
     one_task : (x : Site) (t u : Task) → task_here x (Some t) ≡ Some u → (t ≡ u) × (is_name (site_of u.node) x.name ≡ true)
     one_task x t u j = at (is_name (site_of t.node) x.name) refl j
@@ -194,33 +194,33 @@ crash_in_holds w s call fill d h = go (find_site w.sites s) refl
         at false b i = absurd (cc (i))
 
     here : (x : Site) → find_site w.sites s ≡ Some x → (o : Option Task) → task_of w d ≡ o → (b : Option Task) → task_here x o ≡ b
-        → Holds (elim b as (λ _. Turn) [ None ↦ still w | Some t ↦ after_lines (deed_lines d) (stop_in_task w x call fill t) ]).world
-    here x i o k None j = h
+        → Holds (suc m) (elim b as (λ _. Turn) [ None ↦ still w | Some t ↦ after_lines (deed_lines d) (stop_in_task w x call fill t) ]).world
+    here x i o k None j = tells_later m w.nodes w.sites h
     here x i None k (Some u) j = absurd cc
     here x i (Some t) k (Some u) j =
         let same = one_task x t u j in
         let is : task_of w d ≡ Some u = k ∙ ap (λ (v : Task). Some v) same.0 in
         let found : find_site w.sites (site_of u.node) ≡ Some x = ap (find_site w.sites) (name_same (site_of u.node) x.name same.1 ∙ find_name w.sites s x i) ∙ i in
-        stop_holds w u.node x call fill (answer u.node.origin u.node.history u.event).entry (λ y e. enters w u y (ready_of w d u is) (calm_task w d u is) e h) found h
+        stop_holds m w u.node x call fill (answer u.node.origin u.node.history u.event).entry (λ y e. enters m w u y (ready_of w d u is) (calm_task w d u is) e h) found h
 
-    go : (o : Option Site) → find_site w.sites s ≡ o → Holds (crash_in_turn w s call fill d).world
-    go None i = rw (i, crash_in_turn) h
+    go : (o : Option Site) → find_site w.sites s ≡ o → Holds (suc m) (crash_in_turn w s call fill d).world
+    go None i = rw (i, crash_in_turn) (tells_later m w.nodes w.sites h)
     go (Some x) i = rw (i, crash_in_turn) (here x i (task_of w d) refl (task_here x (task_of w d)) refl)
 
 -- ---- a declaration
 
-node_comes : (ns : List Node) (ss : List Site) (s : List ℕ) (n : ℕ) (up : Option Addr) (x : Site) → find_node ns n ≡ None → find_site ss s ≡ Some x → Tells ns ss → Tells (ns ++ new_node s n x.boot up ∷ []) ss
-node_comes ns ss s n up x none found h =
+node_comes : (m : ℕ) (ns : List Node) (ss : List Site) (s : List ℕ) (n : ℕ) (up : Option Addr) (x : Site) → find_node ns n ≡ None → find_site ss s ≡ Some x → Tells m ns ss → Tells m (ns ++ new_node s n x.boot up ∷ []) ss
+node_comes m ns ss s n up x none found h =
     let y : Node = new_node s n x.boot up in
     let looks : (k : ℕ) → find_node (ns ++ y ∷ []) k ≡ cond (n == k) (Some y) (find_node ns k) = λ k. find_append ns y k none in
-    tells_put ns (ns ++ y ∷ []) ss ss y x (record {
+    tells_put m ns (ns ++ y ∷ []) ss ss y x (record {
       nodes = looks;
       sites = λ t. site_same ss s x t found;
       apart = λ t off. ap (forced_by t) none;
-    }) (node_new s n x.boot up) (told_new_node ns (ns ++ y ∷ []) s n up x none looks (h.sites s x found)) h
+    }) (node_new s n x.boot up) (told_new_node ns (ns ++ y ∷ []) s n up x none looks (h.sites s x found)) (h.boots s x found) h
 
-site_comes : (ns : List Node) (ss : List Site) (s : List ℕ) → find_site ss s ≡ None → Tells ns ss → Tells ns (ss ++ new_site s ∷ [])
-site_comes ns ss s none h = tells_site ns ss (ss ++ new_site s ∷ []) s (new_site s) (λ t. site_appended ss (new_site s) t none) (told_new_site ns s nobody) h
+site_comes : (m : ℕ) (ns : List Node) (ss : List Site) (s : List ℕ) → find_site ss s ≡ None → Tells (suc m) ns ss → Tells (suc m) ns (ss ++ new_site s ∷ [])
+site_comes m ns ss s none h = tells_site (suc m) ns ss (ss ++ new_site s ∷ []) s (new_site s) (λ t. site_appended ss (new_site s) t none) (told_new_site ns s nobody) (omega arith) h
   where
     nobody : (k : ℕ) (n : Node) → find_node ns k ≡ Some n → is_name (site_of n) s ≡ true → ⊥
     nobody k n at here =
@@ -228,42 +228,41 @@ site_comes ns ss s none h = tells_site ns ss (ss ++ new_site s ∷ []) s (new_si
         let off : None ≡ Some x.0 = sym none ∙ ap (find_site ss) (sym (name_same (site_of n) s here)) ∙ x.1 in
         cc (off)
 
-declared_holds : (w : World) (n : ℕ) (s : List ℕ) (up : Option Addr) → find_node w.nodes n ≡ None → Holds w → Holds (declared_at w n s up).world
-declared_holds w n s up none h = go (find_site w.sites s) refl
+declared_holds : (m : ℕ) (w : World) (n : ℕ) (s : List ℕ) (up : Option Addr) → find_node w.nodes n ≡ None → Holds (suc m) w → Holds (suc m) (declared_at w n s up).world
+declared_holds m w n s up none h = go (find_site w.sites s) refl
   where
-    go : (o : Option Site) → find_site w.sites s ≡ o → Holds (declared_at w n s up).world
-    go (Some x) i = rw (i, declared_at) (node_comes w.nodes w.sites s n up x none i h)
+    go : (o : Option Site) → find_site w.sites s ≡ o → Holds (suc m) (declared_at w n s up).world
+    go (Some x) i = rw (i, declared_at) (node_comes (suc m) w.nodes w.sites s n up x none i h)
     go None i =
         let found : find_site (w.sites ++ new_site s ∷ []) s ≡ Some (new_site s) = site_appended w.sites (new_site s) s i ∙ ap (λ (b : Bool). cond b (Some (new_site s)) (find_site w.sites s)) (name_self s) in
-        rw (i, declared_at) (node_comes w.nodes (w.sites ++ new_site s ∷ []) s n up (new_site s) none found (site_comes w.nodes w.sites s i h))
+        rw (i, declared_at) (node_comes (suc m) w.nodes (w.sites ++ new_site s ∷ []) s n up (new_site s) none found (site_comes m w.nodes w.sites s i h))
 
-declare_holds : (w : World) (n : ℕ) (s : List ℕ) (under : Option ℕ) → Holds w → Holds (declare_turn w n s under).world
-declare_holds w n s under h = go (find_node w.nodes n) refl
+declare_holds : (m : ℕ) (w : World) (n : ℕ) (s : List ℕ) (under : Option ℕ) → Holds (suc m) w → Holds (suc m) (declare_turn w n s under).world
+declare_holds m w n s under h = go (find_node w.nodes n) refl
   where
-    above : (o : Option Addr) → find_node w.nodes n ≡ None → Holds (elim o as (λ _. Turn) [ None ↦ still w | Some a ↦ declared_at w n s (Some a) ]).world
+    above : (o : Option Addr) → find_node w.nodes n ≡ None → Holds (suc m) (elim o as (λ _. Turn) [ None ↦ still w | Some a ↦ declared_at w n s (Some a) ]).world
     above None none = h
-    above (Some a) none = declared_holds w n s (Some a) none h
+    above (Some a) none = declared_holds m w n s (Some a) none h
 
-    below : (u : Option ℕ) → find_node w.nodes n ≡ None → Holds (elim u as (λ _. Turn) [ None ↦ declared_at w n s None | Some p ↦ elim (addr_at w p) as (λ _. Turn) [ None ↦ still w | Some a ↦ declared_at w n s (Some a) ] ]).world
-    below None none = declared_holds w n s None none h
+    below : (u : Option ℕ) → find_node w.nodes n ≡ None → Holds (suc m) (elim u as (λ _. Turn) [ None ↦ declared_at w n s None | Some p ↦ elim (addr_at w p) as (λ _. Turn) [ None ↦ still w | Some a ↦ declared_at w n s (Some a) ] ]).world
+    below None none = declared_holds m w n s None none h
     below (Some p) none = above (addr_at w p) none
 
-    go : (o : Option Node) → find_node w.nodes n ≡ o → Holds (declare_turn w n s under).world
+    go : (o : Option Node) → find_node w.nodes n ≡ o → Holds (suc m) (declare_turn w n s under).world
     go None i = rw (i, declare_turn) (below under i)
     go (Some x) i = rw (i, declare_turn) h
 
 -- ---- every run
 
-happens_holds : (w : World) (e : Happening) → Holds w → Holds (happens w e).world
-happens_holds w (Happening.Declare n s under) h = declare_holds w n s under h
-happens_holds w (Happening.Does d) h = deed_holds w d h
-happens_holds w (Happening.Crash s) h = crash_holds w s h
-happens_holds w (Happening.Crash_in s call fill d) h = crash_in_holds w s call fill d h
-happens_holds w _ h = h
-
-pub run_tells : (es : List Happening) → Holds (run es)
-run_tells [] = record { sound = λ k n at. absurd (cc (at)); placed = λ k n at. absurd (cc (at)); sites = λ s x at. absurd (cc (at)) }
-run_tells (e ∷ es) = happens_holds (run es) e (run_tells es)
+pub run_tells : (es : List Happening) → Holds (suc (stops es)) (run es)
+run_tells [] = record { sound = λ k n at. absurd (cc (at)); placed = λ k n at. absurd (cc (at)); sites = λ s x at. absurd (cc (at)); boots = λ s x at. absurd (cc (at)) }
+run_tells (Happening.Declare n s under ∷ es) = declare_holds (stops es) (run es) n s under (run_tells es)
+run_tells (Happening.Does d ∷ es) = deed_holds (suc (stops es)) (run es) d (run_tells es)
+run_tells (Happening.Mark k ∷ es) = run_tells es
+run_tells (Happening.Crash s ∷ es) = crash_holds (suc (stops es)) (run es) s (run_tells es)
+run_tells (Happening.Crash_in s call fill d ∷ es) = crash_in_holds (suc (stops es)) (run es) s call fill d (run_tells es)
+run_tells (Happening.Drive n k ∷ es) = run_tells es
+run_tells (Happening.Drop k ∷ es) = run_tells es
 
 pub disks_tell : (es : List Happening) → DisksTell (run es)
 disks_tell es s x at =

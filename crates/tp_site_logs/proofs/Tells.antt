@@ -47,11 +47,25 @@ told_other ns now s x same old told = record {
 
 -- ---- the sites of a world
 
-pub record Tells (ns : List Node) (ss : List Site) : Type 0 where
+-- and no site has started more often than that
+pub record Tells (most : ℕ) (ns : List Node) (ss : List Site) : Type 0 where
   pub sound : (k : ℕ) (n : Node) → find_node ns k ≡ Some n → IsNode n
   -- each node's site is there
   pub placed : (k : ℕ) (n : Node) → find_node ns k ≡ Some n → (x : Site) × (find_site ss (site_of n) ≡ Some x)
   pub sites : (s : List ℕ) (x : Site) → find_site ss s ≡ Some x → IsTold ns s x
+  pub boots : (s : List ℕ) (x : Site) → find_site ss s ≡ Some x → x.boot ≤ most
+
+-- where one site is another, each has started at most so often
+boots_put : (m n : ℕ) (s : List ℕ) (z : Site) (ss new : List Site) → ((t : List ℕ) → find_site new t ≡ cond (is_name s t) (Some z) (find_site ss t)) → z.boot ≤ n → m ≤ n
+    → ((t : List ℕ) (x : Site) → find_site ss t ≡ Some x → x.boot ≤ m) → (t : List ℕ) (x : Site) → find_site new t ≡ Some x → x.boot ≤ n
+boots_put m n s z ss new looks most le before t x at = go (is_name s t) refl
+  where
+    go : (b : Bool) → is_name s t ≡ b → x.boot ≤ n
+    go true b = let one : z ≡ x = grind (arith, looks t) in subst (λ (u : Site). u.boot ≤ n) one most
+    go false b = let old : x.boot ≤ m = before t x (grind (arith, looks t)) in omega arith
+
+itself : (n : ℕ) → n ≤ n
+itself n = omega arith
 
 -- a node is another from now on, and so is its site
 pub record IsPut (ns now : List Node) (ss new : List Site) (y : Node) (z : Site) : Type 0 where
@@ -63,11 +77,12 @@ pub record IsPut (ns now : List Node) (ss new : List Site) (y : Node) (z : Site)
 pub forced_there : (t : List ℕ) (n : Node) → is_name (site_of n) t ≡ false → forced_by t (Some n) ≡ []
 forced_there t n off = rw (off, forced_by) refl
 
-pub tells_put : (ns now : List Node) (ss new : List Site) (y : Node) (z : Site) → IsPut ns now ss new y z → IsNode y → IsTold now (site_of y) z → Tells ns ss → Tells now new
-tells_put ns now ss new y z put node told w = record {
+pub tells_put : (m : ℕ) (ns now : List Node) (ss new : List Site) (y : Node) (z : Site) → IsPut ns now ss new y z → IsNode y → IsTold now (site_of y) z → z.boot ≤ m → Tells m ns ss → Tells m now new
+tells_put m ns now ss new y z put node told most w = record {
   sound = λ k n at. sound k n (number_of y == k) refl at;
   placed = λ k n at. placed k n (number_of y == k) refl at;
   sites = λ t x at. site t x (is_name (site_of y) t) refl at;
+  boots = boots_put m m (site_of y) z ss new put.sites most (itself m) w.boots;
 }
   where
     mine : (k : ℕ) (n : Node) → (number_of y == k) ≡ true → find_node now k ≡ Some n → y ≡ n
@@ -279,13 +294,17 @@ pub record IsAgain (s : List ℕ) (ns now : List Node) (ss new : List Site) (x :
   pub nodes : (k : ℕ) → find_node now k ≡ after_start s (find_node ns k)
   pub sites : (t : List ℕ) → find_site new t ≡ cond (is_name s t) (Some (booted x)) (find_site ss t)
 
-pub tells_again : (s : List ℕ) (ns now : List Node) (ss new : List Site) (x : Site) → IsAgain s ns now ss new x → Tells ns ss → Tells now new
-tells_again s ns now ss new x w told = record {
+pub tells_again : (m : ℕ) (s : List ℕ) (ns now : List Node) (ss new : List Site) (x : Site) → IsAgain s ns now ss new x → Tells m ns ss → Tells (suc m) now new
+tells_again m s ns now ss new x w told = record {
   sound = λ k u at. let n = before k u at in subst IsNode n.2 (after_sound n.0 (is_name (site_of n.0) s) (told.sound k n.0 n.1));
   placed = λ k u at. let n = before k u at in placed n.0 u (is_name (site_of n.0) s) n.2 (told.placed k n.0 n.1);
   sites = λ t y at. site t y (is_name s t) refl at;
+  boots = boots_put m (suc m) s (booted x) ss new w.sites (next x.boot (told.boots s x w.found)) (omega arith) told.boots;
 }
   where
+    next : (b : ℕ) → b ≤ m → suc b ≤ suc m
+    next b le = omega (arith, le)
+
     before : (k : ℕ) (u : Node) → find_node now k ≡ Some u → (n : Node) × (find_node ns k ≡ Some n) × ((if is_name (site_of n) s then restarted n else n) ≡ u)
     before k u at = came s (find_node ns k) u (sym (w.nodes k) ∙ at)
 
@@ -324,11 +343,12 @@ tells_again s ns now ss new x w told = record {
 
 -- ---- a site is another, with what it has logged
 
-pub tells_site : (ns : List Node) (ss new : List Site) (s : List ℕ) (z : Site) → ((t : List ℕ) → find_site new t ≡ cond (is_name s t) (Some z) (find_site ss t)) → IsTold ns s z → Tells ns ss → Tells ns new
-tells_site ns ss new s z looks told w = record {
+pub tells_site : (m : ℕ) (ns : List Node) (ss new : List Site) (s : List ℕ) (z : Site) → ((t : List ℕ) → find_site new t ≡ cond (is_name s t) (Some z) (find_site ss t)) → IsTold ns s z → z.boot ≤ m → Tells m ns ss → Tells m ns new
+tells_site m ns ss new s z looks told most w = record {
   sound = w.sound;
   placed = λ k n at. let x = w.placed k n at in there (site_of n) (is_name s (site_of n)) refl x.0 x.1;
   sites = λ t y at. site t y (is_name s t) refl at;
+  boots = boots_put m m s z ss new looks most (itself m) w.boots;
 }
   where
     there : (t : List ℕ) (b : Bool) → is_name s t ≡ b → (x : Site) → find_site ss t ≡ Some x → (u : Site) × (find_site new t ≡ Some u)
@@ -340,6 +360,12 @@ tells_site ns ss new s z looks told w = record {
         let one : z ≡ y = grind (arith, looks t) in
         subst (λ (u : List ℕ). IsTold ns u y) (name_same s t b) (subst (IsTold ns s) one told)
     site t y false b at = w.sites t y (grind (arith, looks t))
+
+pub tells_later : (m : ℕ) (ns : List Node) (ss : List Site) → Tells m ns ss → Tells (suc m) ns ss
+tells_later m ns ss w = record { sound = w.sound; placed = w.placed; sites = w.sites; boots = λ s x at. later x.boot (w.boots s x at) }
+  where
+    later : (b : ℕ) → b ≤ m → b ≤ suc m
+    later b le = omega (arith, le)
 
 -- only the records of its disk matter
 pub told_as : (ns : List Node) (s : List ℕ) (x : Site) (d : Disk) → d.records ≡ x.disk.records → IsTold ns s x → IsTold ns s (record x { disk = d })
