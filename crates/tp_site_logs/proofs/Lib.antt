@@ -5,3 +5,4 @@ mod NextRecord
 mod Places
 mod Tells
 mod Runs
+mod NextStart
