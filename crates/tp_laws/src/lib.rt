@@ -3,19 +3,20 @@
 //! subject; docs/ARCHITECTURE.md has the index. A crate above names nothing of the laws but this page.
 #![tactic(auto)]
 
-ghost use Rattle.std.specs.Prelude.{ℕ, ◌≡◌, Option, List, [], true};
+ghost use Rattle.std.specs.Prelude.{ℕ, ◌≡◌, ◌≤◌, ◌+◌, Option, Some, List, [], true};
 ghost use Rattle.tp_names.specs.declared.identifiers.Addr.{Addr};
 ghost use Rattle.tp_model.specs.Parts.{Origin, Entry};
 ghost use Rattle.tp_model.specs.History.{digest, again, crashed};
 ghost use Rattle.tp_records.specs.declared.body.Event.{Event as Given};
-ghost use Rattle.tp_model.specs.NodeRun.{Opening};
+ghost use Rattle.tp_model.specs.NodeRun.{Opening, boot_of};
 ghost use Rattle.tp_model.specs.Lanes.{IsOwnHistory};
 ghost use Rattle.tp_model.specs.Happenings.{Happening, run};
 ghost use Rattle.tp_model.specs.Promises.{AllLegal, IsIn, PrefixTaken, WhatUsersSee, OneHolder, OneOutcome, DrainedCommits, Headline, ParentAndChild, MixedIsNamed, Promised, ReportFree, Reports};
-ghost use Rattle.tp_model.specs.World.{Node, empty_world};
+ghost use Rattle.tp_model.specs.World.{Node, Site, find_site, empty_world};
 ghost use Rattle.tp_model.specs.Legal.{is_start, are_in_order, RestartIsCrash, RecordsFollow, StartsAgain, IsLegal};
 ghost use Rattle.tp_histories.specs.Members.{IsUnique};
 ghost use Rattle.tp_runs.specs.Hanging.{HangsTogether};
+ghost use Rattle.tp_site_logs.specs.SiteLogs.{DisksTell, DisksStart, next_opening, stops};
 ghost use Rattle.tp_drained.specs.DrainedTrees.{SettledCloses};
 ghost use Rattle.tp_agreement.specs.Logs.{CommitsAlone, LogsAgree};
 ghost use Rattle.tp_reports.specs.Reports.{ReportFreeCommits, ReportFreeCloses, DoneBelow};
@@ -196,6 +197,22 @@ pub fn records_stay_in_order()
 pub fn the_next_start_finds_its_records()
     ensures history { StartsAgain }
     ensures run { (es : List Happening) (x : Node) → IsIn (run es) x → is_start (again x.origin x.history) ≡ true }
+{}
+
+/// In every run, the log of a site tells its nodes: of each number at which a node of the site stands it has the records that
+/// the node forced, in their order, and of every other number none; it has one Boot for each start of the site, the last of
+/// which is the start that its nodes are in; and each record follows those before it.
+pub fn a_sites_log_tells_its_nodes()
+    ensures { (es : List Happening) → DisksTell (run es) }
+{}
+
+/// In every run, the next start of a site on its log: no record is foreign to it, its boot number is the next one, each of the
+/// site's nodes is as after a crash, every other number as one that was never declared, and the history of each is legal again.
+/// The boot number is at most by two above the stops of all sites before, and at most by one above the records of the log; so it
+/// is below 2^64 in every run that has fewer stops, or on a log that has fewer records.
+pub fn a_site_starts_again_on_its_log()
+    ensures starts { (es : List Happening) → DisksStart (run es) }
+    ensures stopped { (es : List Happening) (s : List ℕ) (x : Site) → find_site (run es).sites s ≡ Some x → boot_of (next_opening x) ≤ stops es + 2 }
 {}
 
 /// In every legal history of a node whose log was empty at first, that the node rolled in a tree is seen from what is current before

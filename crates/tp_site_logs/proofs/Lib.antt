@@ -4,5 +4,5 @@ mod Logged
 mod NextRecord
 mod Places
 mod Tells
-mod Runs
-mod NextStart
+pub mod Runs
+pub mod NextStart

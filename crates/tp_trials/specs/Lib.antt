@@ -3,3 +3,4 @@ pub mod Trials
 pub mod DrainedTrials
 pub mod DrainedNodeTrials
 pub mod ArcTrials
+pub mod SiteLogTrials

@@ -10,4 +10,5 @@ pub mod known_trials;
 pub mod outcome_trials;
 pub mod report_trials;
 pub mod seen_trials;
+pub mod site_log_trials;
 pub mod trials;
