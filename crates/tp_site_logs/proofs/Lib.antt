@@ -6,3 +6,6 @@ mod Places
 mod Tells
 pub mod Runs
 pub mod NextStart
+mod Votes
+mod Openings
+pub mod StaysInOrder

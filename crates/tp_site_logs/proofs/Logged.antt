@@ -19,7 +19,7 @@ owned n (LogRec.Commit m k s cs) own = (k, ap (λ (x : ℕ). Some (owner x k)) o
 owned n (LogRec.Damage m k s o r cs) own = (k, ap (λ (x : ℕ). Some (owner x k)) own)
 owned n (LogRec.End m k o) own = (k, ap (λ (x : ℕ). Some (owner x k)) own)
 
-records_append : (k : ℕ) (rs qs : List LogRec) → records_at k (rs ++ qs) ≡ records_at k rs ++ records_at k qs
+pub records_append : (k : ℕ) (rs qs : List LogRec) → records_at k (rs ++ qs) ≡ records_at k rs ++ records_at k qs
 records_append k [] qs = refl
 records_append k (r ∷ rs) qs = grind (arith, records_append k rs qs)
 

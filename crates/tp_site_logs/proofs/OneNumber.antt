@@ -1,12 +1,14 @@
 -- What follows a log is said of a record by those of its own number and the last boot alone.
-use Rattle.std.proofs.Common.{◌≡◌, ◌==◌, ◌&&◌, ◌++◌, not, ℕ, Bool, true, false, refl, ap, sym, ◌∙◌, arith, Option, Some, None, List, [], ◌∷◌}
+use Rattle.std.specs.Prelude.{nat_le}
+use Rattle.std.proofs.Common.{◌≡◌, ◌≤◌, ◌==◌, ◌&&◌, ◌++◌, not, ℕ, Bool, true, false, refl, ap, sym, ◌∙◌, arith, Option, Some, None, List, [], ◌∷◌}
 use Rattle.std.proofs.lemmas.Bool.Decides.{nat_tests}
+use Rattle.tp_names.specs.declared.identifiers.BranchId.{BranchId}
 use Rattle.tp_names.specs.Same.{is_key}
 use Rattle.tp_names.proofs.Sames.{both}
 use Rattle.tp_logrec.specs.declared.owner.Owner.{Owner}
 use Rattle.tp_logrec.specs.declared.record.LogRec.{LogRec}
-use Rattle.tp_logrec.specs.Order.{owner_of, is_owner, is_of, is_bound, is_free, is_begun, boots, last_number, boot_by, last_boot_from, last_by, last_from, ready_by, ready_from, others, bound_by, bound_after, bound_from, bound, Before, before, may_follow, follows, follow_from, all_follow}
-use Rattle.tp_logrec.proofs.BriefOrders.{follows_own, follow_from-append}
+use Rattle.tp_logrec.specs.Order.{owner_of, is_owner, is_of, is_ready, is_bound, holds, is_new, may_commit, may_damage, may_end, is_free, is_begun, boots, last_number, boot_by, last_boot_from, last_by, last_from, ready_by, ready_from, others, bound_by, bound_after, bound_from, bound, Before, before, may_follow, follows}
+use Rattle.tp_logrec.proofs.BriefOrders.{follows_own}
 use Rattle.tp_model.specs.NodeRun.{is_record_at, records_at}
 
 -- ---- a record of another number
@@ -142,17 +144,44 @@ made : (a a' : Bool) (b b' : ℕ) (c c' : Bool) (d d' e e' : Option LogRec) → 
     → ◌≡◌ {A = Before} (record { begun = a; boot = b; free = c; last = d; ready = e }) (record { begun = a'; boot = b'; free = c'; last = d'; ready = e' })
 made a a' b b' c c' d d' e e' p q r s t = rw (p, q, r, s, t) refl
 
+-- what a list tells of a key is told by the records of its number and the last boot
+before_alone : (list : List LogRec) (b : ℕ) (o : Owner) → is_begun list ≡ true → before (LogRec.Boot b ∷ records_at o.node list) o ≡ record (before list o) { boot = b }
+before_alone list b o begun =
+    let its : List LogRec = LogRec.Boot b ∷ records_at o.node list in
+    made (is_begun its) (is_begun list) (last_boot_from 0 its) b (is_free o.node (bound its)) (is_free o.node (bound list)) (last_from o None its) (last_from o None list) (ready_from o None its) (ready_from o None list)
+    (sym begun) (boot_alone b o.node list) (sym (free_number o.node list)) (sym (last_alone o None list)) (sym (ready_alone o None list))
+
 pub follows_alone : (list : List LogRec) (n : ℕ) (r : LogRec) (o : Owner) → owner_of r ≡ Some o → is_begun list ≡ true → last_boot_from 0 list ≡ n → follows list r ≡ follows (LogRec.Boot n ∷ records_at o.node list) r
 follows_alone list n r o own begun boot =
-    let its : List LogRec = LogRec.Boot n ∷ records_at o.node list in
-    let same : before list o ≡ before its o =
-    made (is_begun list) true (last_boot_from 0 list) (last_boot_from 0 its) (is_free o.node (bound list)) (is_free o.node (bound its)) (last_from o None list) (last_from o None its) (ready_from o None list) (ready_from o None its) begun
-        (boot ∙ sym (boot_alone n o.node list)) (free_number o.node list) (last_alone o None list) (ready_alone o None list) in
-    follows_own list o r own ∙ ap (λ (b : Before). may_follow b r) same ∙ sym (follows_own its o r own)
+    let same : before (LogRec.Boot n ∷ records_at o.node list) o ≡ before list o = before_alone list n o begun ∙ ap (λ (m : ℕ). let x : Before = record (before list o) { boot = m } in x) (sym boot) in
+    follows_own list o r own ∙ ap (λ (b : Before). may_follow b r) (sym same) ∙ sym (follows_own (LogRec.Boot n ∷ records_at o.node list) o r own)
 
--- the last of records in order
-pub last_follows : (rs : List LogRec) (r : LogRec) → all_follow (rs ++ r ∷ []) ≡ true → follows rs r ≡ true
-last_follows rs r h = (both (follows rs r) true (both (follow_from [] rs) (follows rs r && true) (sym (follow_from-append [] rs (r ∷ [])) ∙ h)).1).0
+-- a record of a key follows none before the first boot
+begun_by : (x : Before) (r : LogRec) → may_follow x r ≡ true → x.begun ≡ true
+begun_by x (LogRec.Boot m) h = absurd (cc (h))
+begun_by x (LogRec.Ready n k s cs) h = (both x.begun (is_new x) h).0
+begun_by x (LogRec.Heuristic n k u) h = (both x.begun (holds x.last is_ready) h).0
+begun_by x (LogRec.Commit n k s cs) h = (both x.begun (may_commit x k s cs) h).0
+begun_by x (LogRec.Damage n k s u w cs) h = (both x.begun (may_damage x k s u w cs) h).0
+begun_by x (LogRec.End n k u) h = (both x.begun (holds x.last (may_end u)) h).0
+
+-- and what follows after one boot follows after a later one
+after_later : (x : Before) (b : ℕ) (r : LogRec) → x.boot ≤ b → may_follow x r ≡ true → may_follow (record x { boot = b }) r ≡ true
+after_later x b (LogRec.Commit n k s cs) le h = go k.branch h
+  where
+    go : (i : Option BranchId) → may_follow x (LogRec.Commit n (record k { branch = i }) s cs) ≡ true → may_follow (record x { boot = b }) (LogRec.Commit n (record k { branch = i }) s cs) ≡ true
+    go None h =
+        let p = both x.begun (is_new x && nat_le k.aaid.mark.boot x.boot) h in
+        let q = both (is_new x) (nat_le k.aaid.mark.boot x.boot) p.1 in
+        let reach : nat_le k.aaid.mark.boot b ≡ true = grind (arith, nat_tests, le, q.1) in
+        rw (p.0, q.0, reach) refl
+    go (Some i) h = h
+after_later x b r le h = h
+
+pub follows_later : (list : List LogRec) (b : ℕ) (r : LogRec) (o : Owner) → owner_of r ≡ Some o → follows list r ≡ true → last_boot_from 0 list ≤ b → follows (LogRec.Boot b ∷ records_at o.node list) r ≡ true
+follows_later list b r o own h le =
+    let may : may_follow (before list o) r ≡ true = sym (follows_own list o r own) ∙ h in
+    follows_own (LogRec.Boot b ∷ records_at o.node list) o r own ∙ ap (λ (x : Before). may_follow x r) (before_alone list b o (begun_by (before list o) r may)) ∙ after_later (before list o) b r le may
 
 -- ---- the last boot
 

@@ -80,25 +80,22 @@ are_of n (r ∷ rs) = go (is_record_at n r) refl (are_of n rs)
 -- they follow each other after every boot from the last on
 in_order_from : (n b : ℕ) (front rs : List LogRec) → follow_from front rs ≡ true → last_boot_from 0 (front ++ rs) ≤ b → follow_from (LogRec.Boot b ∷ records_at n front) (records_at n rs) ≡ true
 in_order_from n b front [] h le = refl
-in_order_from n b front (r ∷ rs) h le = go (is_record_at n r) refl
+in_order_from n b front (r ∷ rs) h le = go (is_record_at n r) refl (in_order_from n b (front ++ r ∷ []) rs p.1 (subst (λ (l : List LogRec). last_boot_from 0 l ≤ b) (sym (append_assoc front (r ∷ []) rs)) le))
   where
     p : (follows front r ≡ true) × (follow_from (front ++ r ∷ []) rs ≡ true)
     p = both (follows front r) (follow_from (front ++ r ∷ []) rs) h
 
-    tail : follow_from (LogRec.Boot b ∷ records_at n (front ++ r ∷ [])) (records_at n rs) ≡ true
-    tail = in_order_from n b (front ++ r ∷ []) rs p.1 (subst (λ (l : List LogRec). last_boot_from 0 l ≤ b) (sym (append_assoc front (r ∷ []) rs)) le)
-
     early : last_boot_from 0 front ≤ b
     early = let rise = rises front (r ∷ rs) h in omega (arith, rise, le)
 
-    go : (c : Bool) → is_record_at n r ≡ c → follow_from (LogRec.Boot b ∷ records_at n front) (elim c as (λ _. List LogRec) [ true ↦ r ∷ records_at n rs | false ↦ records_at n rs ]) ≡ true
-    go true i =
+    go : (c : Bool) → is_record_at n r ≡ c → follow_from (LogRec.Boot b ∷ records_at n (front ++ r ∷ [])) (records_at n rs) ≡ true → follow_from (LogRec.Boot b ∷ records_at n front) (elim c as (λ _. List LogRec) [ true ↦ r ∷ records_at n rs | false ↦ records_at n rs ]) ≡ true
+    go true i tail =
         let own = its_owner n r i in
         let one : follows (LogRec.Boot b ∷ records_at n front) r ≡ true = follows_later front b r (owner n own.0) own.1 p.0 early in
         let its : records_at n (front ++ r ∷ []) ≡ records_at n front ++ r ∷ [] = records_append n front (r ∷ []) ∙ ap (λ (c : Bool). records_at n front ++ elim c as (λ _. List LogRec) [ true ↦ r ∷ [] | false ↦ [] ]) i in
         let rest : follow_from (LogRec.Boot b ∷ records_at n front ++ r ∷ []) (records_at n rs) ≡ true = ap (λ (l : List LogRec). follow_from (LogRec.Boot b ∷ l) (records_at n rs)) (sym its) ∙ tail in
         grind (arith, one, rest)
-    go false i =
+    go false i tail =
         let its : records_at n (front ++ r ∷ []) ≡ records_at n front = records_append n front (r ∷ []) ∙ ap (λ (c : Bool). records_at n front ++ elim c as (λ _. List LogRec) [ true ↦ r ∷ [] | false ↦ [] ]) i ∙ append-nil (records_at n front) in
         ap (λ (l : List LogRec). follow_from (LogRec.Boot b ∷ l) (records_at n rs)) (sym its) ∙ tail
 

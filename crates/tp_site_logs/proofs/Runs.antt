@@ -100,7 +100,7 @@ calm_broken Event.Retry = refl
 calm_broken Event.Purge = refl
 calm_broken Event.Crash = refl
 
-calm_answer : (o : Origin) (h : List Entry) (e : Event) (y : Entry) → is_crash e ≡ false → (answer o h e).entry ≡ Some y → is_crash y.event ≡ false
+pub calm_answer : (o : Origin) (h : List Entry) (e : Event) (y : Entry) → is_crash e ≡ false → (answer o h e).entry ≡ Some y → is_crash y.event ≡ false
 calm_answer o h e y calm is = let broken = calm_broken e in grind (arith, is, calm, broken)
 
 enters : (m : ℕ) (w : World) (t : Task) (y : Entry) → Ready w t → is_crash t.event ≡ false → (answer t.node.origin t.node.history t.event).entry ≡ Some y → Holds m w → Enters w t.node y

@@ -129,7 +129,7 @@ boot_calm : (e : Event) (n : ℕ) → is_crash e ≡ false → boot_by e n ≡ n
 boot_calm Event.Crash n h = absurd cc
 boot_calm _ n h = refl
 
-same_boot : (o : Origin) (up : Option Addr) (h : List Entry) (e : Entry) → IsGrown o up (e ∷ h) → is_crash e.event ≡ false → (digest o (e ∷ h)).boot ≡ (digest o h).boot
+pub same_boot : (o : Origin) (up : Option Addr) (h : List Entry) (e : Entry) → IsGrown o up (e ∷ h) → is_crash e.event ≡ false → (digest o (e ∷ h)).boot ≡ (digest o h).boot
 same_boot o up h e grown calm = (plain_law o up (e ∷ h) grown).boot ∙ boot_calm e.event (boot_in o h) calm ∙ sym (plain_law o up h grown.3).boot
 
 forced_here : (n : Node) → forced_by (site_of n) (Some n) ≡ reverse (records n.origin n.history)

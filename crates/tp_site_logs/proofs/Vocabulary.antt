@@ -1,5 +1,5 @@
 -- The words of the definitions and of the lower laws that the proofs of this crate speak in.
-pub use Rattle.std.proofs.Common.{◌≡◌, ◌≤◌, ◌==◌, ◌&&◌, ◌++◌, ◌+◌, ℕ, zero, suc, Bool, true, false, cond, refl, ap, sym, ◌∙◌, subst, arith, Option, Some, None, List, [], ◌∷◌, length, reverse, not, if◌then◌else◌, append-nil}
+pub use Rattle.std.proofs.Common.{◌≡◌, ◌≤◌, ◌==◌, ◌&&◌, ◌++◌, ◌+◌, ℕ, zero, suc, Bool, true, false, cond, refl, ap, sym, ◌∙◌, subst, arith, Option, Some, None, List, [], ◌∷◌, length, reverse, not, if◌then◌else◌, append-nil, append_assoc}
 pub use Rattle.std.proofs.lemmas.Bool.Decides.{nat_tests}
 pub use Rattle.std.proofs.lemmas.List.{reverse-append}
 pub use Rattle.tp_names.specs.declared.identifiers.Addr.{Addr}

@@ -1,7 +1,7 @@
 -- The log of a site as one list: what it tells of each of the site's nodes, and what the next start finds on it.
 -- A node's history says which records the node forced; the disk of its site has those of all nodes there, among the boots.
 -- Statements alone; nothing is proved here.
-use Rattle.std.specs.Prelude.{ℕ, zero, suc, ◌≡◌, ◌≤◌, true, Option, Some, None, List, [], ◌∷◌, ◌++◌, reverse, length, if◌then◌else◌}
+use Rattle.std.specs.Prelude.{ℕ, zero, suc, ◌≡◌, ◌≤◌, ◌&&◌, Bool, true, false, Option, Some, None, List, [], ◌∷◌, ◌++◌, reverse, length, if◌then◌else◌}
 use Rattle.tp_names.specs.Same.{is_name}
 use Rattle.tp_logrec.specs.declared.record.LogRec.{LogRec}
 use Rattle.tp_logrec.specs.declared.record.LogVersion.{LogVersion}
@@ -17,6 +17,25 @@ use Rattle.tp_model.specs.Promises.{IsIn}
 -- a site's log, oldest record first
 abbrev pub log_of : Site → List LogRec
 log_of x = reverse x.disk.records
+
+-- ---- a log that a site may start on
+
+-- only a branch votes: a root has no superior that counts its Ready
+abbrev pub is_vote_of_branch : LogRec → Bool
+is_vote_of_branch (LogRec.Boot n) = true
+is_vote_of_branch (LogRec.Ready n k a cs) = elim k.branch [ None ↦ false | Some b ↦ true ]
+is_vote_of_branch (LogRec.Heuristic n k o) = true
+is_vote_of_branch (LogRec.Commit n k a cs) = true
+is_vote_of_branch (LogRec.Damage n k a o r cs) = true
+is_vote_of_branch (LogRec.End n k o) = true
+
+abbrev pub only_branches_vote : List LogRec → Bool
+only_branches_vote [] = true
+only_branches_vote (r ∷ rs) = is_vote_of_branch r && only_branches_vote rs
+
+-- each record follows those before it, and only branches have voted; children may be twins, and keys of any age
+abbrev pub is_in_order : List LogRec → Bool
+is_in_order rs = all_follow rs && only_branches_vote rs
 
 -- ---- what the log tells
 

@@ -2,11 +2,19 @@
 //! contract of a function with an empty body.
 #![tactic(auto)]
 
-ghost use Rattle.std.specs.Prelude.{ℕ, ◌≡◌, ◌≤◌, ◌+◌, Some, List};
-ghost use Rattle.tp_model.specs.NodeRun.{boot_of};
+ghost use Rattle.std.specs.Prelude.{ℕ, ◌≡◌, ◌≤◌, ◌+◌, true, Some, List};
+ghost use Rattle.tp_records.specs.declared.body.Event.{Event as Given};
+ghost use Rattle.tp_model.specs.NodeRun.{Opening, boot_of, log_after};
 ghost use Rattle.tp_model.specs.World.{Site, find_site};
 ghost use Rattle.tp_model.specs.Happenings.{Happening, run};
-ghost use Rattle.tp_site_logs.specs.SiteLogs.{DisksTell, DisksStart, next_opening, stops};
+ghost use Rattle.tp_site_logs.specs.SiteLogs.{is_in_order, DisksTell, DisksStart, next_opening, stops};
+
+/// The log of a site stays in order. For every log on which a site may start, whoever wrote it, and every list of events that the
+/// site is given then: where each record of the log follows those before it and only branches have voted, so it is of the whole
+/// log after them. So it is after every further start, too.
+pub fn a_sites_log_stays_in_order()
+    ensures { (o : Opening) (es : List Given) → is_in_order o.records ≡ true → is_in_order (log_after o es) ≡ true }
+{}
 
 /// In every run, the log of a site tells its nodes: of each number at which a node of the site stands it has the records that
 /// the node forced, in their order, and of every other number none; it has one Boot for each start of the site, the last of

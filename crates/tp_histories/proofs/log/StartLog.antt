@@ -39,14 +39,22 @@ own_key n boot (LogRec.Commit m k s cs) h = (k, grind (arith, nat_tests, h))
 own_key n boot (LogRec.Damage m k s o r cs) h = (k, grind (arith, nat_tests, h))
 own_key n boot (LogRec.End m k o) h = (k, grind (arith, nat_tests, h))
 
-pub fit_from : (n boot b : ℕ) (ps rs : List LogRec) (o : Option Current) (ks : List Kept) → follow_from (LogRec.Boot b ∷ ps) rs ≡ true → are_own_records n boot rs ≡ true → IsFit n ps o ks
+-- each record is one of the node
+abbrev pub AreOf : ℕ → List LogRec → Type 0
+AreOf n [] = Unit {0}
+AreOf n (r ∷ rs) = ((k : NodeKey) × (owner_of r ≡ Some (owner n k))) × AreOf n rs
+
+all_own : (n boot : ℕ) (rs : List LogRec) → are_own_records n boot rs ≡ true → AreOf n rs
+all_own n boot [] h = tt
+all_own n boot (r ∷ rs) h = (own_key n boot r (and_left (is_own_record n boot r) (are_own_records n boot rs) h), all_own n boot rs (and_right (is_own_record n boot r) (are_own_records n boot rs) h))
+
+fit_from : (n b : ℕ) (ps rs : List LogRec) (o : Option Current) (ks : List Kept) → follow_from (LogRec.Boot b ∷ ps) rs ≡ true → AreOf n rs → IsFit n ps o ks
     → IsFit n (ps ++ rs) (current_from o rs) (kept_from ks rs)
-fit_from n boot b ps [] o ks f own h = subst (λ (qs : List LogRec). IsFit n qs o ks) (sym (append-nil ps)) h
-fit_from n boot b ps (r ∷ rs) o ks f own h =
-    let k = own_key n boot r (and_left (is_own_record n boot r) (are_own_records n boot rs) own) in
+fit_from n b ps [] o ks f own h = subst (λ (qs : List LogRec). IsFit n qs o ks) (sym (append-nil ps)) h
+fit_from n b ps (r ∷ rs) o ks f own h =
     subst (λ (qs : List LogRec). IsFit n qs (current_from (current_by r o) rs) (kept_from (kept_by r ks) rs)) (append_assoc ps (r ∷ []) rs)
-    (fit_from n boot b (ps ++ r ∷ []) rs (current_by r o) (kept_by r ks) (and_right (follows (LogRec.Boot b ∷ ps) r) (follow_from (LogRec.Boot b ∷ ps ++ r ∷ []) rs) f) (and_right (is_own_record n boot r) (are_own_records n boot rs) own)
-    (fit_step n b ps r o ks k.0 k.1 (and_left (follows (LogRec.Boot b ∷ ps) r) (follow_from (LogRec.Boot b ∷ ps ++ r ∷ []) rs) f) h))
+    (fit_from n b (ps ++ r ∷ []) rs (current_by r o) (kept_by r ks) (and_right (follows (LogRec.Boot b ∷ ps) r) (follow_from (LogRec.Boot b ∷ ps ++ r ∷ []) rs) f) own.1
+    (fit_step n b ps r o ks own.0.0 own.0.1 (and_left (follows (LogRec.Boot b ∷ ps) r) (follow_from (LogRec.Boot b ∷ ps ++ r ∷ []) rs) f) h))
 
 pub fit_first : (n : ℕ) → IsFit n [] None []
 fit_first n = record { now = Nothing refl; kept = tt; none = λ k a off. refl; boots = λ b. refl }
@@ -64,14 +72,12 @@ follows_later m b ps (LogRec.Commit x j a cs) n k own boots le f = go j.branch f
     go (Some c) f = f
 follows_later m b ps _ n k own boots le f = f
 
-follow_later : (n boot m b : ℕ) (ps rs : List LogRec) → are_own_records n boot rs ≡ true → ((x : ℕ) → last_boot_from x ps ≡ x) → m ≤ b → follow_from (LogRec.Boot m ∷ ps) rs ≡ true → follow_from (LogRec.Boot b ∷ ps) rs ≡ true
-follow_later n boot m b ps [] own boots le f = refl
-follow_later n boot m b ps (r ∷ rs) own boots le f =
-    let k = own_key n boot r (and_left (is_own_record n boot r) (are_own_records n boot rs) own) in
+follow_later : (n m b : ℕ) (ps rs : List LogRec) → AreOf n rs → ((x : ℕ) → last_boot_from x ps ≡ x) → m ≤ b → follow_from (LogRec.Boot m ∷ ps) rs ≡ true → follow_from (LogRec.Boot b ∷ ps) rs ≡ true
+follow_later n m b ps [] own boots le f = refl
+follow_later n m b ps (r ∷ rs) own boots le f =
     both_true (follows (LogRec.Boot b ∷ ps) r) (follow_from (LogRec.Boot b ∷ ps ++ r ∷ []) rs)
-    (follows_later m b ps r n k.0 k.1 boots le (and_left (follows (LogRec.Boot m ∷ ps) r) (follow_from (LogRec.Boot m ∷ ps ++ r ∷ []) rs) f))
-    (follow_later n boot m b (ps ++ r ∷ []) rs (and_right (is_own_record n boot r) (are_own_records n boot rs) own) (none_boots n k.0 ps r k.1 boots) le
-    (and_right (follows (LogRec.Boot m ∷ ps) r) (follow_from (LogRec.Boot m ∷ ps ++ r ∷ []) rs) f))
+    (follows_later m b ps r n own.0.0 own.0.1 boots le (and_left (follows (LogRec.Boot m ∷ ps) r) (follow_from (LogRec.Boot m ∷ ps ++ r ∷ []) rs) f))
+    (follow_later n m b (ps ++ r ∷ []) rs own.1 (none_boots n own.0.0 ps r own.0.1 boots) le (and_right (follows (LogRec.Boot m ∷ ps) r) (follow_from (LogRec.Boot m ∷ ps ++ r ∷ []) rs) f))
 
 fit_apart : (n : ℕ) (ps : List LogRec) (k : NodeKey) (ks : List Kept) → holds (last_at n k ps) is_bound ≡ true → AreKept n ps ks → AreApart k ks
 fit_apart n ps k [] h i = tt
@@ -179,18 +185,16 @@ pub record IsSoundStart (o : Origin) : Type 0 where
 kept_again : (rs : List LogRec) → not_forgotten (kept_from [] rs) ≡ kept_from [] rs
 kept_again rs = from_unnoted [] rs
 
-pub sound_start : (o : Origin) → is_start o ≡ true → are_earlier o.start.boot o.start.records ≡ true → IsSoundStart o
+-- where the records are the node's, follow each other after every boot from that of the start on, and have no root of a later one
+pub sound_from : (o : Origin) → AreOf o.who.node o.start.records → ((b : ℕ) → o.start.boot ≤ b → follow_from (LogRec.Boot b ∷ []) o.start.records ≡ true) → are_earlier o.start.boot o.start.records ≡ true → IsSoundStart o
 unfolding started
-sound_start o start earlier =
+sound_from o own follow earlier =
     let rs : List LogRec = o.start.records in
     let n : ℕ = o.who.node in
     let boot : ℕ = o.start.boot in
     let d : Digest = digest o [] in
-    let order : all_follow (LogRec.Boot boot ∷ rs) ≡ true = and_left (all_follow (LogRec.Boot boot ∷ rs)) (are_own_records n boot rs) start in
-    let own : are_own_records n boot rs ≡ true = and_right (all_follow (LogRec.Boot boot ∷ rs)) (are_own_records n boot rs) start in
-    let follow : follow_from (LogRec.Boot boot ∷ []) rs ≡ true = and_right (follows [] (LogRec.Boot boot)) (follow_from (LogRec.Boot boot ∷ []) rs) order in
     let plain : recovered_current (current_from None rs) ≡ current_from None rs = from_again rs None refl in
-    let fit : IsFit n rs (current_from None rs) (kept_from [] rs) = fit_from n boot boot [] rs None [] follow own (fit_first n) in
+    let fit : IsFit n rs (current_from None rs) (kept_from [] rs) = fit_from n boot [] rs None [] (follow boot (omega arith)) own (fit_first n) in
     let old = earlier_from o.who d rs None [] earlier (λ c is. absurd (cc (is))) tt in
     record {
       sound = (
@@ -202,9 +206,18 @@ sound_start o start earlier =
       again = plain;
       fit = subst (λ (l : Option Current). IsFit n rs l (not_forgotten (kept_from [] rs))) (sym plain) (subst (λ (ks : List Kept). IsFit n rs (current_from None rs) ks) (sym (kept_again rs)) fit);
       reached = λ c is root. below c.key boot root (old.0 c is);
-      follow = λ b le. follow_later n boot boot b [] rs own (λ x. refl) le follow;
+      follow = follow;
     }
   where
     below : (k : Key) (b : ℕ) → is_under k ≡ false → is_earlier b (node_key k) ≡ true → nat_le (node_key k).aaid.mark.boot b ≡ true
     below (Root t) b root h = grind (arith, nat_tests, h)
     below (Under t c a) b root h = absurd (cc (root))
+
+pub sound_start : (o : Origin) → is_start o ≡ true → are_earlier o.start.boot o.start.records ≡ true → IsSoundStart o
+sound_start o start earlier =
+    let rs : List LogRec = o.start.records in
+    let n : ℕ = o.who.node in
+    let boot : ℕ = o.start.boot in
+    let order : all_follow (LogRec.Boot boot ∷ rs) ≡ true = and_left (all_follow (LogRec.Boot boot ∷ rs)) (are_own_records n boot rs) start in
+    let own : AreOf n rs = all_own n boot rs (and_right (all_follow (LogRec.Boot boot ∷ rs)) (are_own_records n boot rs) start) in
+    sound_from o own (λ b le. follow_later n boot b [] rs own (λ x. refl) le (and_right (follows [] (LogRec.Boot boot)) (follow_from (LogRec.Boot boot ∷ []) rs) order)) earlier
