@@ -4,7 +4,7 @@ mod Logged
 mod NextRecord
 mod Places
 mod Tells
-pub mod Runs
+pub mod EveryLog
 pub mod NextStart
 mod Votes
 mod Openings

@@ -1,5 +1,6 @@
 -- A log that has of each number given records, and one record more: of a node, or a boot.
-use Rattle.tp_site_logs.proofs.Vocabulary.{◌≡◌, ◌==◌, ◌&&◌, ◌++◌, ℕ, zero, suc, Bool, true, false, cond, refl, ap, sym, ◌∙◌, arith, Option, Some, None, List, [], ◌∷◌, nat_tests, append-nil, both, NodeKey, LogRec, owner, owner_of, boots, all_below, is_begun, last_boot_from, follows, follow_from, all_follow, boots-append, begun_after_is, boot_after_is, follow_from-append, is_record_at, records_at, IsOwnRec}
+use Rattle.std.specs.Prelude.{nat_lt}
+use Rattle.tp_site_logs.proofs.Vocabulary.{◌≡◌, ◌==◌, ◌++◌, ℕ, Bool, true, false, cond, refl, ap, sym, ◌∙◌, arith, Some, List, [], ◌∷◌, nat_tests, append-nil, NodeKey, LogRec, owner, owner_of, boots, all_below, is_begun, last_boot_from, follows, all_follow, begun_after_is, boot_after_is, follow_from-append, records_at, IsOwnRec}
 use Rattle.tp_site_logs.proofs.OneNumber.{follows_alone}
 
 -- the last start of the log has that number
@@ -22,6 +23,11 @@ owned n (LogRec.End m k o) own = (k, ap (λ (x : ℕ). Some (owner x k)) own)
 pub records_append : (k : ℕ) (rs qs : List LogRec) → records_at k (rs ++ qs) ≡ records_at k rs ++ records_at k qs
 records_append k [] qs = refl
 records_append k (r ∷ rs) qs = grind (arith, records_append k rs qs)
+
+-- a boot below another, after those that are
+pub below_more : (n : ℕ) (ms : List ℕ) (m : ℕ) → all_below n ms ≡ true → nat_lt m n ≡ true → all_below n (ms ++ m ∷ []) ≡ true
+below_more n [] m h i = grind (arith, i)
+below_more n (k ∷ ms) m h i = grind (arith, h, below_more n ms m, i)
 
 in_order_with : (rs : List LogRec) (r : LogRec) → all_follow rs ≡ true → follows rs r ≡ true → all_follow (rs ++ r ∷ []) ≡ true
 in_order_with rs r order next = follow_from-append [] rs (r ∷ []) ∙ grind (arith, order, next)

@@ -1,15 +1,13 @@
 -- The next start of a site on its log: its boot number, and what it finds of each number.
-use Rattle.tp_site_logs.proofs.Vocabulary.{◌≡◌, ◌≤◌, ◌==◌, ◌++◌, ◌+◌, ℕ, zero, suc, Bool, true, false, refl, ap, sym, ◌∙◌, subst, arith, Option, Some, None, List, [], ◌∷◌, length, reverse, is_name, name_same, LogRec, LogVersion, boots, last_number, Origin, Digest, started, digest, records, again, crashed, is_start, records_at, World, Node, Site, number_of, site_of, find_node, find_site, log_of, forced_by, one_to}
-use Rattle.tp_model.specs.Parts.{Who, Start}
+use Rattle.tp_site_logs.proofs.Vocabulary.{◌≡◌, ◌≤◌, ◌++◌, ◌+◌, ℕ, zero, suc, Bool, true, false, refl, ap, sym, ◌∙◌, subst, arith, Option, Some, None, List, [], ◌∷◌, length, reverse, is_name, name_same, LogRec, LogVersion, boots, last_number, Origin, started, digest, records, again, is_start, records_at, World, Node, Site, number_of, site_of, find_node, find_site, log_of, forced_by, one_to}
 use Rattle.tp_model.specs.NodeRun.{boot_of, origin_at}
 use Rattle.tp_model.specs.Happenings.{Happening, run}
 use Rattle.tp_histories.proofs.log.RestartLog.{restart_run}
 use Rattle.tp_histories.proofs.log.WellLog.{run_starts}
 use Rattle.tp_histories.proofs.worlds.Nodes.{find_is}
 use Rattle.tp_site_logs.specs.SiteLogs.{TellsItsNodes, StartsNext, DisksStart, next_opening, stops}
-use Rattle.tp_site_logs.proofs.Places.{find_name}
-use Rattle.tp_site_logs.proofs.Tells.{IsNode, Tells, forced_there}
-use Rattle.tp_site_logs.proofs.Runs.{run_tells, disks_tell}
+use Rattle.tp_site_logs.proofs.Tells.{forced_there}
+use Rattle.tp_site_logs.proofs.EveryLog.{run_tells, disks_tell}
 
 -- ---- boots
 

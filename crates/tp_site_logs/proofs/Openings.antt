@@ -1,6 +1,6 @@
 -- A log in order, as a start finds it: the records of each number follow each other after every later boot, and the roots among them
 -- are of boots that the log has.
-use Rattle.tp_site_logs.proofs.Vocabulary.{◌≡◌, ◌≤◌, ◌==◌, ◌&&◌, ◌++◌, ℕ, suc, Bool, true, false, refl, ap, sym, ◌∙◌, subst, arith, Option, Some, None, List, [], ◌∷◌, nat_tests, append-nil, append_assoc, both, NodeKey, LogRec, owner, owner_of, boots, all_below, last_number, is_begun, last_boot_from, follows, follow_from, all_follow, boots-append, boot_after_is, is_record_at, records_at, IsSoundStart}
+use Rattle.tp_site_logs.proofs.Vocabulary.{◌≡◌, ◌≤◌, ◌++◌, ℕ, suc, Bool, true, false, refl, ap, sym, ◌∙◌, subst, arith, Option, Some, None, List, [], ◌∷◌, nat_tests, append-nil, append_assoc, both, NodeKey, LogRec, owner, owner_of, boots, all_below, last_number, is_begun, last_boot_from, follows, follow_from, all_follow, boots-append, boot_after_is, is_record_at, records_at, IsSoundStart}
 use Rattle.std.specs.Prelude.{nat_lt, nat_le}
 use Rattle.tp_names.specs.declared.identifiers.BranchId.{BranchId}
 use Rattle.tp_logrec.specs.declared.owner.Owner.{Owner}
@@ -13,7 +13,7 @@ use Rattle.tp_histories.specs.Restart.{is_earlier, are_earlier}
 use Rattle.tp_histories.proofs.log.StartLog.{AreOf, sound_from}
 use Rattle.tp_site_logs.specs.SiteLogs.{is_vote_of_branch, only_branches_vote}
 use Rattle.tp_site_logs.proofs.OneNumber.{follows_later, last_boot}
-use Rattle.tp_site_logs.proofs.Logged.{records_append}
+use Rattle.tp_site_logs.proofs.Logged.{below_more, records_append}
 
 -- ---- boots rise
 
@@ -25,10 +25,6 @@ last_below m (b ∷ c ∷ bs) h = last_below m (c ∷ bs) (both (nat_lt b m) (al
 below_later : (m n : ℕ) (bs : List ℕ) → m ≤ n → all_below m bs ≡ true → all_below n bs ≡ true
 below_later m n [] le h = refl
 below_later m n (b ∷ bs) le h = let p = both (nat_lt b m) (all_below m bs) h in let rest = below_later m n bs le p.1 in grind (arith, nat_tests, rest, p.0)
-
-pub below_more : (n : ℕ) (ms : List ℕ) (m : ℕ) → all_below n ms ≡ true → nat_lt m n ≡ true → all_below n (ms ++ m ∷ []) ≡ true
-below_more n [] m h i = grind (arith, i)
-below_more n (k ∷ ms) m h i = grind (arith, h, below_more n ms m, i)
 
 -- the last boot of a list is no later than that of one that goes on in order
 rises_one : (front : List LogRec) (r : LogRec) → follows front r ≡ true → last_boot_from 0 front ≤ last_boot_from 0 (front ++ r ∷ [])

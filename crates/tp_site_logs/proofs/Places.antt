@@ -1,5 +1,5 @@
 -- Sites and nodes of a world by their names and numbers: after a site comes or is another, and after a site has started again.
-use Rattle.tp_site_logs.proofs.Vocabulary.{◌≡◌, ◌==◌, ◌++◌, ℕ, Bool, true, false, cond, refl, ap, sym, ◌∙◌, arith, Option, Some, None, List, [], ◌∷◌, if◌then◌else◌, nat_tests, is_name, name_same, name_self, Node, Site, number_of, site_of, find_node, find_site, put_site}
+use Rattle.tp_site_logs.proofs.Vocabulary.{◌≡◌, ◌==◌, ◌++◌, ℕ, Bool, true, false, cond, refl, ap, sym, ◌∙◌, arith, Option, Some, None, List, [], ◌∷◌, if◌then◌else◌, is_name, name_same, name_self, Node, Site, number_of, site_of, find_node, find_site, put_site}
 use Rattle.tp_model.specs.World.{with_disk}
 use Rattle.tp_model.specs.Disk.{Disk}
 use Rattle.tp_model.specs.Happenings.{restarted, restarted_at}

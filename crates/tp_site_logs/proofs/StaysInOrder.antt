@@ -1,22 +1,22 @@
 -- A site that starts on a log in order keeps it in order, whatever events it is given.
-use Rattle.tp_site_logs.proofs.Vocabulary.{◌≡◌, ◌≤◌, ◌==◌, ◌&&◌, ◌++◌, ℕ, suc, Bool, true, false, cond, refl, ap, sym, ◌∙◌, subst, arith, Option, Some, None, List, [], ◌∷◌, reverse, nat_tests, append-nil, append_assoc, reverse-append, both, Addr, LogRec, boots, all_below, follows, all_follow, Origin, Event, Entry, Digest, refusal, started, digest, refuse, entry_of, answer, records, with_rec, IsGrown, records_at, IsSoundStart}
+use Rattle.tp_site_logs.proofs.Vocabulary.{◌≡◌, ◌≤◌, ◌==◌, ◌++◌, ℕ, Bool, true, false, cond, refl, ap, sym, ◌∙◌, subst, arith, Option, Some, None, List, [], ◌∷◌, reverse, nat_tests, append-nil, append_assoc, reverse-append, both, Addr, LogRec, all_follow, Origin, Event, Entry, Digest, refusal, started, digest, refuse, entry_of, answer, records, with_rec, IsGrown, records_at, IsSoundStart}
 use Rattle.std.proofs.lemmas.List.{reverse-reverse}
 use Rattle.tp_names.specs.Same.{is_name}
 use Rattle.tp_records.specs.declared.body.Event.{Event as Given}
 use Rattle.tp_records.specs.declared.peer.PeerRecord.{PeerRecord}
 use Rattle.tp_records.specs.BodyReading.{peer_in}
-use Rattle.tp_model.specs.Parts.{Who, Answer}
-use Rattle.tp_model.specs.Questions.{declared_by, declared_in, is_crash}
+use Rattle.tp_model.specs.Parts.{Who}
+use Rattle.tp_model.specs.Questions.{is_crash}
 use Rattle.tp_model.specs.NodeRun.{Opening, boot_of, origin_at, Past, history_of, Asked, Refuses, Is, asked, entry_record, with_entry, run_from, NodeRun, log_after}
 use Rattle.tp_steps.proofs.every.Answers.{Accepted, accepted}
 use Rattle.tp_histories.proofs.known.KnownPlain.{plain_law}
-use Rattle.tp_runs.proofs.Lanes.{chosen, past_with, given, run_asked, run_step}
+use Rattle.tp_runs.proofs.Lanes.{chosen, past_with, given, run_step}
 use Rattle.tp_site_logs.specs.SiteLogs.{is_vote_of_branch, only_branches_vote, is_in_order}
 use Rattle.tp_site_logs.proofs.Logged.{IsLog, log_more, log_kept, log_booted}
 use Rattle.tp_site_logs.proofs.NextRecord.{IsNext, next_record}
 use Rattle.tp_site_logs.proofs.Openings.{next_above, sound_opening}
 use Rattle.tp_site_logs.proofs.Tells.{same_boot}
-use Rattle.tp_site_logs.proofs.Runs.{calm_answer}
+use Rattle.tp_site_logs.proofs.EveryLog.{calm_answer}
 use Rattle.tp_site_logs.proofs.Votes.{IsVote, vote_entry}
 
 -- ---- a history that is given events

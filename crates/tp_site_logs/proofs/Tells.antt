@@ -1,11 +1,10 @@
 -- The logs of a world tell its nodes: when a site or a node comes, when a node has one entry more, and when a site starts again.
-use Rattle.std.specs.Prelude.{nat_lt}
-use Rattle.tp_site_logs.proofs.Vocabulary.{◌≡◌, ◌≤◌, ◌==◌, ◌&&◌, ◌++◌, ℕ, zero, suc, Bool, true, false, cond, refl, ap, sym, ◌∙◌, subst, arith, Option, Some, None, List, [], ◌∷◌, reverse, if◌then◌else◌, nat_tests, append-nil, reverse-append, Addr, is_name, name_same, name_self, LogRec, LogVersion, boots, all_below, follows, boots-append, Origin, Event, Entry, Digest, refusal, after_crash, started, digest, records, with_rec, crashed, IsGrown, records_at, Node, Site, number_of, site_of, find_node, find_site, IsOwnRec, log_of, forced_by, one_to}
+use Rattle.tp_site_logs.proofs.Vocabulary.{◌≡◌, ◌≤◌, ◌==◌, ◌++◌, ℕ, zero, suc, Bool, true, false, cond, refl, ap, sym, ◌∙◌, subst, arith, Option, Some, None, List, [], ◌∷◌, reverse, if◌then◌else◌, nat_tests, append-nil, reverse-append, Addr, is_name, name_same, name_self, LogRec, LogVersion, boots, all_below, follows, boots-append, Origin, Event, Entry, refusal, after_crash, started, digest, records, with_rec, IsGrown, Node, Site, number_of, site_of, find_node, find_site, IsOwnRec, log_of, forced_by, one_to}
 use Rattle.tp_model.specs.Disk.{Disk, forced}
 use Rattle.tp_model.specs.Questions.{boot_by, boot_in, is_crash}
 use Rattle.tp_model.specs.Happenings.{new_site, new_node, restarted, booted}
 use Rattle.tp_histories.proofs.known.KnownPlain.{plain_law}
-use Rattle.tp_site_logs.proofs.Logged.{IsLog, log_more, log_kept, log_booted}
+use Rattle.tp_site_logs.proofs.Logged.{IsLog, below_more, log_more, log_kept, log_booted}
 use Rattle.tp_site_logs.proofs.NextRecord.{IsNext, next_record, sound_empty}
 use Rattle.tp_site_logs.proofs.Places.{after_start}
 
@@ -13,11 +12,7 @@ use Rattle.tp_site_logs.proofs.Places.{after_start}
 
 above_all : (b n : ℕ) → b ≤ n → all_below (suc n) (one_to b) ≡ true
 above_all zero n le = refl
-above_all (suc b) n le = all_more (suc n) (one_to b) (suc b) (above_all b n (omega arith)) (grind (arith, nat_tests, le))
-  where
-    all_more : (n : ℕ) (ms : List ℕ) (m : ℕ) → all_below n ms ≡ true → nat_lt m n ≡ true → all_below n (ms ++ m ∷ []) ≡ true
-    all_more n [] m h i = grind (arith, i)
-    all_more n (k ∷ ms) m h i = grind (arith, h, all_more n ms m, i)
+above_all (suc b) n le = below_more (suc n) (one_to b) (suc b) (above_all b n (omega arith)) (grind (arith, nat_tests, le))
 
 boots_own : (n : ℕ) (rs : List LogRec) (r : LogRec) → IsOwnRec n (Some r) → boots (rs ++ r ∷ []) ≡ boots rs
 boots_own n rs (LogRec.Boot m) own = absurd own

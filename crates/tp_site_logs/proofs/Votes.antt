@@ -1,19 +1,17 @@
 -- No root votes: a node forces a Ready for a branch alone. An instance of the steps of a turn, and of those of a node.
-use Rattle.tp_site_logs.proofs.Vocabulary.{◌≡◌, ◌&&◌, ℕ, Bool, true, false, refl, ap, sym, ◌∙◌, subst, arith, Option, Some, None, List, [], ◌∷◌, if◌then◌else◌, not, Addr, LogRec, Origin, Event, Entry, Digest, digest, IsGrown}
+use Rattle.tp_site_logs.proofs.Vocabulary.{◌≡◌, Bool, true, false, refl, ap, subst, arith, Option, Some, None, List, [], ◌∷◌, if◌then◌else◌, not, Addr, LogRec, Origin, Event, Entry, Digest, digest, IsGrown}
 use Rattle.tp_names.specs.declared.outcome.Outcome.{Outcome}
 use Rattle.tp_names.specs.declared.outcome.Report.{Report}
-use Rattle.tp_names.specs.Reports.{join, is_report_none}
 use Rattle.tp_model.specs.declared.transaction.TxEvent.{TxEvent}
 use Rattle.tp_model.specs.declared.recovery.Kept.{Kept}
 use Rattle.tp_model.specs.declared.recovery.KeptEvent.{KeptEvent}
 use Rattle.tp_model.specs.Parts.{Who, Key, Root, Under}
 use Rattle.tp_model.specs.Dialogues.{is_ready}
-use Rattle.tp_model.specs.Transactions.{Transaction, Turn, log_ready, log_end, log_damage, is_own_commit, complete_commit, complete_rollback, begin_rolling, order, ask_commit, leave, count_branch, end_branch, branch_left, transacted}
+use Rattle.tp_model.specs.Transactions.{Transaction, log_ready, log_end, log_damage, is_own_commit, complete_commit, complete_rollback, begin_rolling, order, ask_commit, leave, count_branch, end_branch, branch_left}
 use Rattle.tp_model.specs.Recovery.{settled}
-use Rattle.tp_model.specs.Node.{Move, seen, begin_on}
-use Rattle.tp_model.specs.Events.{action}
+use Rattle.tp_model.specs.Node.{Move, seen}
 use Rattle.tp_steps.specs.Turns.{Turns, vote}
-use Rattle.tp_steps.specs.Moves.{Moves, IsPut, prelude}
+use Rattle.tp_steps.specs.Moves.{Moves, prelude}
 use Rattle.tp_steps.proofs.every.EveryTurn.{every_turn}
 use Rattle.tp_steps.proofs.every.EveryEvent.{every_move}
 use Rattle.tp_steps.proofs.every.BeginCases.{begin_cases}

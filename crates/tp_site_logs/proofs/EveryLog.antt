@@ -1,12 +1,12 @@
 -- In every run the logs of all sites tell their nodes: each happening keeps it.
-use Rattle.tp_site_logs.proofs.Vocabulary.{◌≡◌, ◌≤◌, suc, ◌==◌, ◌++◌, ℕ, Bool, true, false, cond, refl, ap, sym, ◌∙◌, subst, arith, Option, Some, None, List, [], ◌∷◌, Addr, is_name, name_same, name_self, LogRec, Origin, Event, Entry, entry_of, answer, refuse, IsGrown, World, Node, Site, number_of, site_of, find_node, put_node, find_site, put_site, forced_by}
+use Rattle.tp_site_logs.proofs.Vocabulary.{◌≡◌, ◌≤◌, suc, ◌==◌, ◌++◌, ℕ, Bool, true, false, cond, refl, ap, sym, ◌∙◌, subst, arith, Option, Some, None, List, [], ◌∷◌, Addr, is_name, name_same, name_self, LogRec, Origin, Event, Entry, answer, IsGrown, World, Node, Site, number_of, site_of, find_node, put_node, find_site, put_site, forced_by}
 use Rattle.std.specs.Prelude.{nat_le}
 use Rattle.tp_records.specs.declared.request.Request.{Request}
 use Rattle.tp_model.specs.declared.out_line.RecordFate.{RecordFate}
 use Rattle.tp_model.specs.Questions.{is_crash}
 use Rattle.tp_model.specs.History.{broken_by}
-use Rattle.tp_model.specs.Disk.{Disk, Remains, forced, piece, remains, remains_at_gate}
-use Rattle.tp_model.specs.World.{Frame, addr_at, find_frame, with_disk}
+use Rattle.tp_model.specs.Disk.{Disk, Remains, forced, remains, remains_at_gate}
+use Rattle.tp_model.specs.World.{Frame, addr_at, find_frame}
 use Rattle.tp_model.specs.Happenings.{Turn, still, after_lines, deed_lines, after_stop, crash_turn, Deed, Happening, Task, task_at, task_of, request_in, entered, logged, entry_turn, deed_turn, new_node, new_site, declared_at, declare_turn, restarted_at, booted, stop_in_force, stop_in_entry, stop_in_task, task_here, crash_in_turn, run}
 use Rattle.tp_steps.proofs.every.Answers.{Accepted, accepted}
 use Rattle.tp_histories.proofs.worlds.Nodes.{find_put, find_append}
