@@ -201,7 +201,7 @@ pub fn the_next_start_finds_its_records()
 
 /// In every run, the log of a site tells its nodes: of each number at which a node of the site stands it has the records that
 /// the node forced, in their order, and of every other number none; it has one Boot for each start of the site, the last of
-/// which is the start that its nodes are in; and each record follows those before it.
+/// which is the start that its nodes are in; each record follows those before it, and only branches have voted.
 pub fn a_sites_log_tells_its_nodes()
     ensures { (es : List Happening) → DisksTell (run es) }
 {}

@@ -272,5 +272,5 @@ disks_tell es s x at =
       nodes = λ k. told.log.nodes k ∙ ap (λ (l : List ℕ). forced_by l (find_node (run es).nodes k)) name;
       starts = told.starts;
       last = λ n here on. told.last (number_of n) n here (ap (is_name (site_of n)) name ∙ on);
-      order = told.log.order;
+      order = rw (told.log.order, told.votes) refl;
     }

@@ -1,6 +1,7 @@
 -- A log that has of each number given records, and one record more: of a node, or a boot.
 use Rattle.std.specs.Prelude.{nat_lt}
-use Rattle.tp_site_logs.proofs.Vocabulary.{◌≡◌, ◌==◌, ◌++◌, ℕ, Bool, true, false, cond, refl, ap, sym, ◌∙◌, arith, Some, List, [], ◌∷◌, nat_tests, append-nil, NodeKey, LogRec, owner, owner_of, boots, all_below, is_begun, last_boot_from, follows, all_follow, begun_after_is, boot_after_is, follow_from-append, records_at, IsOwnRec}
+use Rattle.tp_site_logs.proofs.Vocabulary.{both, ◌≡◌, ◌==◌, ◌++◌, ℕ, Bool, true, false, cond, refl, ap, sym, ◌∙◌, arith, Some, List, [], ◌∷◌, nat_tests, append-nil, NodeKey, LogRec, owner, owner_of, boots, all_below, is_begun, last_boot_from, follows, all_follow, begun_after_is, boot_after_is, follow_from-append, records_at, IsOwnRec}
+use Rattle.tp_site_logs.specs.SiteLogs.{is_vote_of_branch, only_branches_vote}
 use Rattle.tp_site_logs.proofs.OneNumber.{follows_alone}
 
 -- the last start of the log has that number
@@ -67,3 +68,9 @@ log_booted has now next list above order nodes looks = record {
   begun = begun_after_is list (LogRec.Boot next);
   order = in_order_with list (LogRec.Boot next) order above;
 }
+
+-- ---- votes
+
+pub votes_append : (rs : List LogRec) (r : LogRec) → only_branches_vote rs ≡ true → is_vote_of_branch r ≡ true → only_branches_vote (rs ++ r ∷ []) ≡ true
+votes_append [] r h i = rw i refl
+votes_append (q ∷ rs) r h i = let p = both (is_vote_of_branch q) (only_branches_vote rs) h in let rest = votes_append rs r p.1 i in rw (p.0, rest) refl

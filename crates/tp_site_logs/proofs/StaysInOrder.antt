@@ -11,8 +11,8 @@ use Rattle.tp_model.specs.NodeRun.{Opening, boot_of, origin_at, Past, history_of
 use Rattle.tp_steps.proofs.every.Answers.{Accepted, accepted}
 use Rattle.tp_histories.proofs.known.KnownPlain.{plain_law}
 use Rattle.tp_runs.proofs.Lanes.{chosen, past_with, given, run_step}
-use Rattle.tp_site_logs.specs.SiteLogs.{is_vote_of_branch, only_branches_vote, is_in_order}
-use Rattle.tp_site_logs.proofs.Logged.{IsLog, log_more, log_kept, log_booted}
+use Rattle.tp_site_logs.specs.SiteLogs.{only_branches_vote, is_in_order}
+use Rattle.tp_site_logs.proofs.Logged.{IsLog, log_more, log_kept, log_booted, votes_append}
 use Rattle.tp_site_logs.proofs.NextRecord.{IsNext, next_record}
 use Rattle.tp_site_logs.proofs.Openings.{next_above, sound_opening}
 use Rattle.tp_site_logs.proofs.Tells.{same_boot}
@@ -70,10 +70,6 @@ record IsRun (o : Opening) (ps : List Past) (list : List LogRec) : Type 0 where
   log : IsLog (forced_of o ps) (boot_of o) list
   votes : only_branches_vote list ≡ true
   grows : (n : ℕ) → Grows (origin_at o n) (history_of ps n)
-
-votes_append : (rs : List LogRec) (r : LogRec) → only_branches_vote rs ≡ true → is_vote_of_branch r ≡ true → only_branches_vote (rs ++ r ∷ []) ≡ true
-votes_append [] r h i = rw i refl
-votes_append (q ∷ rs) r h i = let p = both (is_vote_of_branch q) (only_branches_vote rs) h in let rest = votes_append rs r p.1 i in rw (p.0, rest) refl
 
 -- an event of one node
 run_one : (o : Opening) (ps : List Past) (list : List LogRec) (n : ℕ) (e : Event) (y : Entry) → ((k : ℕ) → IsSoundStart (origin_at o k)) → is_crash e ≡ false → (given o ps n e).entry ≡ Some y → IsRun o ps list

@@ -4,7 +4,9 @@ use Rattle.tp_model.specs.Disk.{Disk, forced}
 use Rattle.tp_model.specs.Questions.{boot_by, boot_in, is_crash}
 use Rattle.tp_model.specs.Happenings.{new_site, new_node, restarted, booted}
 use Rattle.tp_histories.proofs.known.KnownPlain.{plain_law}
-use Rattle.tp_site_logs.proofs.Logged.{IsLog, below_more, log_more, log_kept, log_booted}
+use Rattle.tp_site_logs.proofs.Logged.{IsLog, below_more, log_more, log_kept, log_booted, votes_append}
+use Rattle.tp_site_logs.specs.SiteLogs.{only_branches_vote}
+use Rattle.tp_site_logs.proofs.Votes.{IsVote, vote_entry}
 use Rattle.tp_site_logs.proofs.NextRecord.{IsNext, next_record, sound_empty}
 use Rattle.tp_site_logs.proofs.Places.{after_start}
 
@@ -29,6 +31,7 @@ pub record IsNode (n : Node) : Type 0 where
 pub record IsTold (ns : List Node) (s : List ℕ) (x : Site) : Type 0 where
   pub log : IsLog (λ k. forced_by s (find_node ns k)) x.boot (log_of x)
   pub starts : boots (log_of x) ≡ one_to x.boot
+  pub votes : only_branches_vote (log_of x) ≡ true
   pub last : (k : ℕ) (n : Node) → find_node ns k ≡ Some n → is_name (site_of n) s ≡ true → (digest n.origin n.history).boot ≡ x.boot
 
 -- of another site's nodes nothing has changed there
@@ -37,6 +40,7 @@ told_other : (ns now : List Node) (s : List ℕ) (x : Site) → ((k : ℕ) → f
 told_other ns now s x same old told = record {
   log = log_kept (λ k. forced_by s (find_node ns k)) (λ k. forced_by s (find_node now k)) x.boot (log_of x) told.log same;
   starts = told.starts;
+  votes = told.votes;
   last = λ k n at here. told.last k n (old k n at here) here;
 }
 
@@ -173,6 +177,7 @@ told_entry ns now x n e found node calm looks told = go e.rec refl
     go None none = record {
       log = log_kept has (λ k. forced_by s (find_node now k)) x.boot (log_of x) told.log (λ k. kept k (number_of n == k) refl none);
       starts = told.starts;
+      votes = told.votes;
       last = λ k u at here. last k u (number_of n == k) refl at here;
     }
     go (Some r) made =
@@ -183,6 +188,7 @@ told_entry ns now x n e found node calm looks told = go e.rec refl
         record {
           log = subst (IsLog (λ k. forced_by s (find_node now k)) x.boot) (sym list)
               (log_more has (λ k. forced_by s (find_node now k)) x.boot (number_of n) (log_of x) r told.log next.own fits (λ k. more r made k (number_of n == k) refl));
+          votes = ap only_branches_vote list ∙ votes_append (log_of x) r told.votes (subst IsVote made (vote_entry n.origin n.superior n.history e node.grown));
           starts = ap boots list ∙ boots_own (number_of n) (log_of x) r next.own ∙ told.starts;
           last = λ k u at here. last k u (number_of n == k) refl at here;
         }
@@ -196,6 +202,7 @@ pub told_new_site : (ns : List Node) (s : List ℕ) → ((k : ℕ) (n : Node) �
 told_new_site ns s nobody = record {
   log = record { nodes = λ k. nothing k (find_node ns k) refl; last = refl; begun = refl; order = refl };
   starts = refl;
+  votes = refl;
   last = λ k n at here. absurd (nobody k n at here);
 }
   where
@@ -218,6 +225,7 @@ unfolding refusal started
 told_new_node ns now s n up x none looks told = record {
   log = log_kept (λ k. forced_by s (find_node ns k)) (λ k. forced_by s (find_node now k)) x.boot (log_of x) told.log (λ k. same k (n == k) refl);
   starts = told.starts;
+  votes = told.votes;
   last = λ k u at here. last k u (n == k) refl at here;
 }
   where
@@ -267,6 +275,7 @@ told_booted ns now s t x looks here told = record {
   log = subst (IsLog (λ k. forced_by t (find_node now k)) (suc x.boot)) (sym list)
       (log_booted (λ k. forced_by t (find_node ns k)) (λ k. forced_by t (find_node now k)) (suc x.boot) (log_of x) (ap (all_below (suc x.boot)) told.starts ∙ above_all x.boot x.boot (omega arith)) told.log.order told.log.nodes
       (λ k. ap (forced_by t) (looks k) ∙ forced_again s t (find_node ns k)));
+  votes = ap only_branches_vote list ∙ votes_append (log_of x) (LogRec.Boot (suc x.boot)) told.votes refl;
   starts = ap boots list ∙ boots-append (log_of x) (LogRec.Boot (suc x.boot) ∷ []) ∙ ap (λ (l : List ℕ). l ++ suc x.boot ∷ []) told.starts;
   last = λ k u at on. let n = came s (find_node ns k) u (sym (looks k) ∙ at) in again k n.0 u (is_name (site_of n.0) s) refl n.1 n.2 on;
 }
@@ -367,5 +376,6 @@ pub told_as : (ns : List Node) (s : List ℕ) (x : Site) (d : Disk) → d.record
 told_as ns s x d same told = record {
   log = subst (IsLog (λ k. forced_by s (find_node ns k)) x.boot) (ap reverse (sym same)) told.log;
   starts = ap (λ (l : List LogRec). boots (reverse l)) same ∙ told.starts;
+  votes = ap (λ (l : List LogRec). only_branches_vote (reverse l)) same ∙ told.votes;
   last = told.last;
 }

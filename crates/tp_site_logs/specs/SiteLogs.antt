@@ -54,8 +54,7 @@ pub record TellsItsNodes (w : World) (x : Site) : Type 0 where
   -- each start of the site has its Boot, and the last is the one in which its nodes are
   pub starts : boots (log_of x) ≡ one_to x.boot
   pub last : (n : Node) → IsIn w n → is_name (site_of n) x.name ≡ true → (digest n.origin n.history).boot ≡ x.boot
-  -- each record follows those before it
-  pub order : all_follow (log_of x) ≡ true
+  pub order : is_in_order (log_of x) ≡ true
 
 -- so does every site of the world
 abbrev pub DisksTell : World → Type 0
@@ -69,7 +68,7 @@ next_opening x = record { site = x.name; version = LogVersion.Two; records = log
 
 pub record StartsNext (w : World) (x : Site) : Type 0 where
   -- no record of the log is foreign to it, and every number has a start that a history can begin with
-  pub order : all_follow (next_opening x).records ≡ true
+  pub order : is_in_order (next_opening x).records ≡ true
   pub legal : (k : ℕ) → is_start (origin_at (next_opening x) k) ≡ true
   -- its boot number is the next, and no more boots stand in the log than records
   pub boot : boot_of (next_opening x) ≡ suc x.boot

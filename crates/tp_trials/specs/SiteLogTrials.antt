@@ -126,7 +126,7 @@ a_root_commits =
     ∷ arrives (PeerRecord.AcceptAssoc (drawn 1) (record { boot = 1; node = 2; count = 1 }) 41)
     ∷ Given.Do 1 (Request.BeginTransaction 2)
     ∷ Given.Do 1 Request.Commit
-    ∷ arrives (PeerRecord.OnAssoc (drawn 1) (record { boot = 1; node = 2; count = 1 }) 1 DialogueRecord.Ready)
+    ∷ arrives (PeerRecord.OnAssoc (drawn 1) (record { boot = 1; node = 2; count = 1 }) 0 DialogueRecord.Ready)
     ∷ []
 
 abbrev pub kinds : List LogRec → List ℕ

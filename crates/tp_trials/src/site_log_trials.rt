@@ -18,7 +18,7 @@ pub fn a_log_tells_two_nodes()
     ensures none { told_of stopped 1 ≡ [] }
     ensures forced { forced_at (codes "b") stopped 2 ≡ 1 ∷ 2 ∷ [] }
     ensures elsewhere { forced_at (codes "a") stopped 1 ≡ 3 ∷ [] }
-    ensures order { all_follow (log_b stopped) ≡ true }
+    ensures order { is_in_order (log_b stopped) ≡ true }
 {}
 
 /// The next start of that site has its fifth boot number, which is by two above the stops; after the votes alone the second.
