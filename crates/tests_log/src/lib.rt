@@ -1,6 +1,9 @@
-//! Tests of the log's crates, over their public calls: the outside, the log on a disk, and the log under a lock.
+//! Tests of the log's crates, over their public calls: the outside, the log on a disk, the log under a lock, and
+//! the store that is bound to a log.
 #![tactic(auto)]
 
+#[cfg(test)]
+mod bound;
 #[cfg(test)]
 mod journal;
 #[cfg(test)]

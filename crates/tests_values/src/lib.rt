@@ -1,7 +1,8 @@
-//! Tests of the values and their texts: names, units, records, frames, and records of a log.
+//! Tests of the values and their texts: names, units, records, frames, and records of a log; and of streams of frames.
 //!
 //! It holds tests alone, over the public calls of the crates that it stands on. Each tests what no
-//! contract says: worked examples, printed text, and that each call can succeed.
+//! contract says: worked examples, printed text, that each call can succeed, and what is read of a source that tells
+//! nothing of its bytes, comes in pieces, or fails.
 #![tactic(auto)]
 
 #[cfg(test)]
@@ -12,5 +13,7 @@ mod logrec;
 mod names;
 #[cfg(test)]
 mod records;
+#[cfg(test)]
+mod streams;
 #[cfg(test)]
 mod units;
