@@ -9,8 +9,8 @@ returns-in-Ok-write_shown-clause-shown c = λ w h.
     let e = c.in-Ok.ensures {u = tt} in
     plays_shown c.args.at w c.args.line.now c.clear.new.self c.play.new.lines c.args.out.now c.write_shown.new.out c.play.new.self e.unbuilt c.clear.ensures (e.plays w h) (c.in-Ok-write_shown.ensures {u = tt}).ok
 
-pub returns-clause-shown : goal.returns-clause-shown
-returns-clause-shown c = λ w h.
+pub returns-in-Err-clause-shown : goal.returns-in-Err-clause-shown
+returns-in-Err-clause-shown c = λ w h.
     let e = c.in-Err.ensures {u = tt} in
     subst
     (λ s. IsEndOf (line_shown c.args.at w c.args.line.now) s)
