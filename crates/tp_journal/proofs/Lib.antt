@@ -6,6 +6,7 @@ pub mod Briefs
 pub mod Compacting
 pub mod Decoded
 pub mod Disorders
+pub mod Exactly
 pub mod Exclusion
 pub mod Finishing
 pub mod Forcing

@@ -1,6 +1,7 @@
 -- A started journal as its callers see it.
 use Rattle.std.specs.Prelude.{ℕ, ◌≡◌, ◌≤◌, ◌<◌, ◌+◌, Bool, true, Option, Some, None, List, []}
 use Rattle.tp_outside.specs.Faults.{HasRisen}
+use Rattle.tp_outside.specs.Story.{Story}
 use Rattle.tp_logrec.specs.declared.record.LogRec.{LogRec}
 use Rattle.tp_journal.specs.declared.faults.CompactFault.{CompactFault}
 use Rattle.tp_journal.specs.declared.faults.CompactFault.TheVariants as compact
@@ -31,14 +32,16 @@ bodies_in j = bodies_of j.wide j.list
 abbrev pub kept_of : {D : Type 0} → Started D (List (List ℕ)) → Kept D
 kept_of l = record { disk = l.disk; wide = wide_of l.shelf; list = recs_of l.shelf; gate = l.gate; shut = l.shut }
 
--- a journal tells the whole list and its length, and all of it is its own
-abbrev pub standing_of : {D : Type 0} → Kept D → ℕ → Standing
-standing_of j faults = record {
+-- a journal tells the whole list and its length, and all of it is its own; its disk has counted so many faults, and tells
+-- this story
+abbrev pub standing_of : {D : Type 0} → Kept D → ℕ → Option Story → Standing
+standing_of j faults story = record {
   told = placed j.wide j.list;
   kept = placed j.wide j.list;
   length_told = Some (j.gate + 1);
   shut = j.shut;
   faults = faults;
+  story = story;
   wide = j.wide;
   lasting = [];
 }

@@ -1,10 +1,12 @@
 -- What a keeper of records tells of itself, and what an answer of `force` says.
 -- It names no journal and no lock: a journal and a share of a locked log both meet it.
-use Rattle.std.specs.Prelude.{ℕ, ◌≡◌, ◌≤◌, ◌<◌, ◌+◌, ◌⊎◌, Bool, List, [], ◌∷◌, ◌++◌, length, Option, Some, None, Result, Ok, Err}
+use Rattle.std.specs.Prelude.{ℕ, ◌≡◌, ◌≤◌, ◌<◌, ◌+◌, ◌-◌, ◌⊎◌, Bool, List, [], ◌∷◌, ◌++◌, length, map, Option, Some, None, Result, Ok, Err}
 use Rattle.tp_outside.specs.Faults.{HasRisen}
+use Rattle.tp_outside.specs.Story.{Story}
 use Rattle.tp_logrec.specs.declared.record.LogRec.{LogRec}
-use Rattle.tp_journal.specs.Log.{most_bytes}
-use Rattle.tp_journal.specs.Records.{text}
+use Rattle.tp_journal.specs.Log.{most_bytes, StandsFor, StandsForEither, forced_bytes}
+use Rattle.tp_journal.specs.Records.{text, bodies_of}
+use Rattle.tp_journal.specs.Told.{IsOn, LeavesOnly, LeavesNow}
 use Rattle.tp_journal.specs.declared.receipts.Receipt.{Receipt}
 use Rattle.tp_journal.specs.declared.faults.ForceFault.{ForceFault}
 use Rattle.tp_journal.specs.declared.faults.ForceFault.TheVariants as force
@@ -19,6 +21,8 @@ pub record Standing : Type 0 where
   -- the count that every further `force` answers with
   pub shut : Option ℕ
   pub faults : ℕ
+  -- what its disk has been through, where the keeper tells that; it tells it only of a log that no other writes to
+  pub story : Option Story
   -- is the log of version 2?
   pub wide : Bool
   -- numbers that no call changes: what a generic caller hands back of a keeper that it took
@@ -48,6 +52,32 @@ abbrev pub IsShut : Option ℕ → Option ℕ → ℕ → ℕ → Type 0
 IsShut None shut n faults = 0 < faults
 IsShut (Some length) shut n faults = shut ≡ Some n
 
+-- ---- what a call of `force` leaves on the disk, where the keeper tells its story
+
+-- the bodies of the keeper's own records, and of these and one more
+abbrev pub bodies_kept : Standing → List (List ℕ)
+bodies_kept s = bodies_of s.wide (map (λ r. r.rec) s.kept)
+
+abbrev pub bodies_with : Standing → LogRec → List (List ℕ)
+bodies_with s rec = bodies_of s.wide (map (λ r. r.rec) s.kept ++ rec ∷ [])
+
+-- a crash at any moment of the call leaves the records from before it, with the new one or without
+abbrev pub LeavesEither : Standing → LogRec → Standing → Type 0
+LeavesEither old rec new = LeavesOnly (StandsForEither (bodies_kept old) (bodies_with old rec)) old.story new.story
+
+-- where the length is told too, the file is to the byte what it was, but that the body is forced
+abbrev pub HasForced : Option ℕ → List ℕ → Option Story → Option Story → Type 0
+HasForced None body old new = Unit {0}
+HasForced (Some n) body old new = (file : List ℕ) → IsOn old file → IsOn new (forced_bytes (n - 1) body file)
+
+-- a fault of the disk carries the count right after the call that failed, where the keeper tells the length; another
+-- keeper counts none of the disk's
+abbrev pub CountsAs : Option ℕ → ℕ → ℕ → Type 0
+CountsAs None n faults = Unit {0}
+CountsAs (Some length) n faults = n ≡ faults
+
+-- ---- what an answer says
+
 -- the record is the keeper's last one, and the receipt tells it
 pub record Stored (old : Standing) (rec : LogRec) (r : Receipt) (new : Standing) : Type 0 where
   pub same : r.rec ≡ rec
@@ -60,6 +90,10 @@ pub record Stored (old : Standing) (rec : LogRec) (r : Receipt) (new : Standing)
   pub faults : old.faults ≤ new.faults
   pub wide : new.wide ≡ old.wide
   pub lasting : new.lasting ≡ old.lasting
+  pub moments : LeavesEither old rec new
+  -- a crash now leaves the new record too
+  pub last : LeavesNow (λ file. StandsFor file (bodies_with old rec)) new.story
+  pub bytes : HasForced old.length_told (text old.wide rec) old.story new.story
 
 -- nothing is kept or told that was not before
 pub record Refused (old new : Standing) : Type 0 where
@@ -73,7 +107,8 @@ pub record Refused (old new : Standing) : Type 0 where
 -- what an answer says
 abbrev pub Forces : Standing → LogRec → Result Receipt ForceFault → Standing → Type 0
 Forces old rec (Ok r) new = Stored old rec r new
-Forces old rec (Err (force.Full size)) new = Refused old new × IsFull old.length_told old.wide rec size new.faults × (old.shut ≡ None) × (new.shut ≡ None)
-Forces old rec (Err (force.DiskFault n)) new = Refused old new × HasRisen old.faults new.faults × (old.shut ≡ None) × (new.shut ≡ Some n)
-Forces old rec (Err (force.Shut n)) new = Refused old new × IsShut old.length_told old.shut n new.faults × (new.shut ≡ Some n)
+Forces old rec (Err (force.Full size)) new = Refused old new × IsFull old.length_told old.wide rec size new.faults × (old.shut ≡ None) × (new.shut ≡ None) × (new.story ≡ old.story)
+Forces old rec (Err (force.DiskFault n)) new =
+    Refused old new × HasRisen old.faults new.faults × (old.shut ≡ None) × (new.shut ≡ Some n) × CountsAs old.length_told n new.faults × LeavesEither old rec new
+Forces old rec (Err (force.Shut n)) new = Refused old new × IsShut old.length_told old.shut n new.faults × (new.shut ≡ Some n) × (new.story ≡ old.story)
 Forces old rec (Err force.NoMemory) new = new ≡ old

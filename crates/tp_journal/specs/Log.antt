@@ -1,7 +1,7 @@
 -- What the bytes of a log stand for: a list of bodies. It knows no record: a body is any bytes, from one to 65,535 of them.
 -- The file is four letters, a selector, and bodies after open gates up to the first gate that is closed. Where the
 -- selector says so, the bodies stand further back, at a place that the last eight bytes tell.
-use Rattle.std.specs.Prelude.{◌≡◌, ◌≢◌, ◌⊎◌, ◌≤◌, ◌<◌, ◌^◌, ℕ, ◌+◌, ◌/◌, ◌%◌, List, [], ◌∷◌, ◌++◌, length}
+use Rattle.std.specs.Prelude.{◌≡◌, ◌≢◌, ◌⊎◌, ◌≤◌, ◌<◌, ◌^◌, ℕ, ◌+◌, ◌/◌, ◌%◌, List, [], ◌∷◌, ◌++◌, length, take, drop}
 use Rattle.std.specs.List.{AllByRecursion}
 use Rattle.std.specs.Int.{to_be_bytes, w64}
 
@@ -28,6 +28,11 @@ most_bytes = 268435456
 -- four letters and the selector
 abbrev pub head : ℕ → List ℕ
 head selector = 79 ∷ 84 ∷ 80 ∷ 76 ∷ selector ∷ []
+
+-- The file once a body is forced after the closing gate at this place. The gate is open, after it stand the body and the
+-- next closing gate, and the rest of the file is what it was.
+abbrev pub forced_bytes : ℕ → List ℕ → List ℕ → List ℕ
+forced_bytes gate body file = take gate file ++ (1 ∷ ((counted body ++ 0 ∷ []) ++ drop (gate + 4 + length body) file))
 
 -- the bodies stand at the front, then a gate that is closed, then any rest
 pub record StandsInFront (file : List ℕ) (bodies : List (List ℕ)) : Type 0 where

@@ -69,12 +69,9 @@ impl<D: Disk> Journal<D> {
     /// `MOST_BYTES` up to its closing gate, `Full` says how many, and nothing changes.
     pub fn force(&mut self, alloc: Global, rec: &LogRec) -> Result<Receipt, ForceFault>
         requires { HasText self.old.wide rec.now }
-        ensures forces { Forces (standing_of self.old (D.fault_count self.old.disk)) rec.now result (standing_of self.new (D.fault_count self.new.disk)) }
+        ensures forces { Forces (standing_of self.old (D.fault_count self.old.disk) (D.told self.old.disk)) rec.now result (standing_of self.new (D.fault_count self.new.disk) (D.told self.new.disk)) }
         ensures order { IfErr result (ComesInOrder self.old rec.now) }
         ensures untouched { IfErr result (KeepsDisk self.old.disk self.new.disk) }
-        // A crash at any moment of the call leaves the records from before it, with the new one or without.
-        ensures moments { self.old.shut ≡ None → (s : Story) → D.told self.old.disk ≡ Some s
-            → LeavesOnly (StandsForEither (bodies_in self.old) (bodies_of self.old.wide (self.old.list ++ rec.now ∷ []))) (D.told self.old.disk) (D.told self.new.disk) }
     {
         if let Some(faults) = self.log.shut() {
             return Err(ForceFault::Shut { faults });
@@ -185,7 +182,7 @@ impl<D: Disk> Journal<D> {
 impl<D: Disk> Keeper for Journal<D> {
     ghost use Rattle.tp_journal.specs.Journals.{standing_of};
 
-    ghost standing = { λ j. standing_of j (D.fault_count j.disk) };
+    ghost standing = { λ j. standing_of j (D.fault_count j.disk) (D.told j.disk) };
 
     fn force(&mut self, alloc: Global, rec: &LogRec) -> Result<Receipt, ForceFault> {
         Journal::force(self, alloc, rec)

@@ -2,10 +2,10 @@
 //! What its bodies mean, its shelf knows.
 ghost use Rattle.std.specs.Prelude.{◌≡◌, ◌≤◌, ◌<◌, ◌^◌, ◌+◌, ◌-◌, ◌++◌, ◌∷◌, [], ℕ, List, length, drop, Some, None, true, IfOk, IfErr, OnOk};
 ghost use Rattle.tp_outside.specs.Story.{Story};
-ghost use Rattle.tp_journal.specs.Log.{IsBody, counted, StandsForEither};
+ghost use Rattle.tp_journal.specs.Log.{IsBody, counted, StandsForEither, forced_bytes};
 ghost use Rattle.tp_journal.specs.Start.{Starts, RefusesStart};
 ghost use Rattle.tp_journal.specs.Started.{IsStarted, Appends, RefusesAppend, Replaces, RefusesReplace, KeepsDisk, KeepsDiskInReplace};
-ghost use Rattle.tp_journal.specs.Told.{LeavesOnly, IsTextOf};
+ghost use Rattle.tp_journal.specs.Told.{IsOn, LeavesOnly, IsTextOf};
 
 use crate::opening::open;
 use crate::shelf::Shelf;
@@ -63,6 +63,9 @@ impl<D: Disk, S: Shelf + Drop> Log<D, S> {
         // A crash at any moment of the call leaves the bodies from before it, with the new one or without.
         ensures moments { self.old.shut ≡ None → (s : Story) → D.told self.old.disk ≡ Some s
             → LeavesOnly (StandsForEither (S.bodies self.old.shelf) (S.bodies self.old.shelf ++ body.now ∷ [])) (D.told self.old.disk) (D.told self.new.disk) }
+        ensures untold { D.told self.old.disk ≡ None → D.told self.new.disk ≡ None }
+        ensures started { OnOk result (IsStarted (D.told self.new.disk) self.new.gate (S.bodies self.new.shelf) self.new.shut) }
+        ensures bytes { OnOk result ((file : List ℕ) → IsOn (D.told self.old.disk) file → IsOn (D.told self.new.disk) (forced_bytes self.old.gate body.now file)) }
     {
         if let Some(faults) = self.shut {
             return Err(ForceFault::Shut { faults });

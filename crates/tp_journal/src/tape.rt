@@ -1,6 +1,6 @@
 //! The moves on the bytes of a log, each a few calls of the disk. It keeps nothing: where the closing gate stands, and
 //! which bodies stand before it, its callers know.
-ghost use Rattle.std.specs.Prelude.{◌≡◌, ◌+◌, ◌-◌, ◌≤◌, ◌<◌, ◌^◌, ◌++◌, ◌∷◌, [], ℕ, List, length, drop, Some, None, OnOk, OnErr};
+ghost use Rattle.std.specs.Prelude.{◌≡◌, ◌+◌, ◌-◌, ◌≤◌, ◌<◌, ◌^◌, ◌++◌, ◌∷◌, [], ℕ, List, length, take, drop, Some, None, OnOk, OnErr};
 ghost use Rattle.tp_outside.specs.Faults.{HasRisen};
 ghost use Rattle.tp_outside.specs.Story.{Story, Torn, Clipped};
 ghost use Rattle.tp_journal.specs.Log.{IsBody, counted, StandsBehind, StandsFor, StandsForEither};
@@ -42,6 +42,8 @@ pub fn append<D: Disk>(disk: &mut D, gate: u64, piece: &[u8]) -> Result<(), Fail
         → LeavesOnly (StandsForEither bodies (bodies ++ body ∷ [])) (D.told disk.old) (D.told disk.new) }
     ensures rests { OnOk result ((bodies : List (List ℕ)) (body : List ℕ) → RestsAt (D.told disk.old) gate bodies → IsBody body → piece.now ≡ counted body ++ 0 ∷ []
         → RestsAt (D.told disk.new) (gate + length piece.now) (bodies ++ body ∷ [])) }
+    ensures bytes { OnOk result ((file : List ℕ) → IsOn (D.told disk.old) file → gate < length file
+        → IsOn (D.told disk.new) (take gate file ++ (1 ∷ (piece.now ++ drop (gate + 1 + length piece.now) file)))) }
     ensures untold { D.told disk.old ≡ None → D.told disk.new ≡ None }
     ensures kept { D.fault_count disk.old ≤ D.fault_count disk.new }
     ensures risen { OnErr result (HasRisen (D.fault_count disk.old) (D.fault_count disk.new)) }

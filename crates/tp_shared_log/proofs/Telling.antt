@@ -6,11 +6,12 @@ use Rattle.tp_logrec.specs.declared.record.LogRec.{LogRec}
 use Rattle.tp_journal.specs.declared.faults.ForceFault.{ForceFault}
 use Rattle.tp_journal.specs.declared.receipts.Receipt.{Receipt}
 use Rattle.tp_journal.specs.Journals.{Kept, bodies_in, standing_of}
-use Rattle.tp_journal.specs.Keeping.{Forces, Refused}
+use Rattle.tp_journal.specs.Keeping.{LeavesEither, Forces, Refused}
 use Rattle.tp_journal.specs.Log.{StandsFor, StandsForEither, StandsInFront}
-use Rattle.tp_journal.specs.Records.{bodies_of}
+use Rattle.tp_journal.specs.Records.{bodies_of, placed}
 use Rattle.tp_journal.specs.Started.{IsStarted, IsKept, KeepsDisk}
 use Rattle.tp_journal.specs.Told.{LeavesOnly}
+use Rattle.tp_journal.proofs.Forcing.{Either, either_list}
 use Rattle.tp_shared_log.specs.Images.{StandsForFirst, IsLeft, Leaves}
 use Rattle.tp_shared_log.specs.Locks.{StillTells}
 use Rattle.tp_shared_log.proofs.Fronts.{whole, goes_on}
@@ -25,10 +26,10 @@ module _ {D : Type 0} (told : D → Option Story) (least : ℕ) (old new : Kept 
 
   -- what the journal says of a crash at any moment of a force
   abbrev Moments : Type 0
-  Moments = old.shut ≡ None → (s : Story) → told old.disk ≡ Some s → LeavesOnly (StandsForEither (bodies_in old) (bodies_of old.wide (old.list ++ rec ∷ []))) (told old.disk) (told new.disk)
+  Moments = Either old.wide old.list rec (told old.disk) (told new.disk)
 
   -- nothing has changed but the count of faults
-  unmoved : (first : Option Story) → Tells first old → Refused (standing_of old n) (standing_of new m) → new.disk ≡ old.disk → new.shut ≡ old.shut → Tells first new
+  unmoved : (first : Option Story) → Tells first old → Refused (standing_of old n (told old.disk)) (standing_of new m (told new.disk)) → new.disk ≡ old.disk → new.shut ≡ old.shut → Tells first new
   unmoved first tells refused disk shut =
       let list : new.list ≡ old.list = placed_same new.wide old.wide new.list old.list refused.kept in
       subst (λ d. StillTells first least new.wide new.list new.shut (told d)) (sym disk)
@@ -42,7 +43,7 @@ module _ {D : Type 0} (told : D → Option Story) (least : ℕ) (old new : Kept 
     moved s tells open_before =
         let here : LeavesOnly (StandsForFirst least old.wide old.list) (Some s) (told old.disk) = subst (λ o. StillTells (Some s) least old.wide old.list o (told old.disk)) open_before tells in
         let then : LeavesOnly (StandsForEither (bodies_in old) (bodies_of old.wide (old.list ++ rec ∷ []))) (Some here.0) (told new.disk) =
-        subst (λ t. LeavesOnly (StandsForEither (bodies_in old) (bodies_of old.wide (old.list ++ rec ∷ []))) t (told new.disk)) here.1 (moments open_before here.0 here.1) in
+        subst (λ t. LeavesOnly (StandsForEither (bodies_in old) (bodies_of old.wide (old.list ++ rec ∷ []))) t (told new.disk)) here.1 moments in
         record {
           now = then.0;
           tells = then.1;
@@ -50,7 +51,7 @@ module _ {D : Type 0} (told : D → Option Story) (least : ℕ) (old new : Kept 
           since = goes_on least old.wide old.list few rec s here.0 then.0 here.2 then.2;
         }
 
-    forced : (first : Option Story) (r : Receipt) → Tells first old → r.rec ≡ rec → (standing_of new m).kept ≡ (standing_of old n).kept ++ r ∷ [] → new.wide ≡ old.wide → old.shut ≡ None → new.shut ≡ None → Tells first new
+    forced : (first : Option Story) (r : Receipt) → Tells first old → r.rec ≡ rec → placed new.wide new.list ≡ placed old.wide old.list ++ r ∷ [] → new.wide ≡ old.wide → old.shut ≡ None → new.shut ≡ None → Tells first new
     forced None r tells same kept wide open_before open_after = tt
     forced (Some s) r tells same kept wide open_before open_after =
         let left = moved s tells open_before in
@@ -60,7 +61,7 @@ module _ {D : Type 0} (told : D → Option Story) (least : ℕ) (old new : Kept 
         (subst (λ l. LeavesOnly (StandsForFirst least new.wide l) (Some s) (told new.disk)) (sym list)
         (subst (λ w. LeavesOnly (StandsForFirst least w (old.list ++ rec ∷ [])) (Some s) (told new.disk)) (sym wide) on))
 
-    failed : (first : Option Story) (faults : ℕ) → Tells first old → Refused (standing_of old n) (standing_of new m) → old.shut ≡ None → new.shut ≡ Some faults → Tells first new
+    failed : (first : Option Story) (faults : ℕ) → Tells first old → Refused (standing_of old n (told old.disk)) (standing_of new m (told new.disk)) → old.shut ≡ None → new.shut ≡ Some faults → Tells first new
     failed None faults tells refused open_before shut = tt
     failed (Some s) faults tells refused open_before shut =
         let list : new.list ≡ old.list = placed_same new.wide old.wide new.list old.list refused.kept in
@@ -69,13 +70,17 @@ module _ {D : Type 0} (told : D → Option Story) (least : ℕ) (old new : Kept 
         (subst (λ l. Leaves (Some s) least new.wide l (Some faults) (told new.disk)) (sym list)
         (subst (λ w. Leaves (Some s) least w old.list (Some faults) (told new.disk)) (sym refused.wide) left))
 
-    -- what a force leaves, whatever it answers
-    pub forced_tells : (first : Option Story) (result : Result Receipt ForceFault) → Tells first old → Forces (standing_of old n) rec result (standing_of new m) → IfErr result (KeepsDisk old.disk new.disk) → Tells first new
-    forced_tells first (Ok r) tells forces keeps = forced first r tells forces.same forces.kept forces.wide forces.open_before forces.open_after
-    forced_tells first (Err (ForceFault.Full size)) tells forces keeps = unmoved first tells forces.0 keeps (forces.3 ∙ sym forces.2)
-    forced_tells first (Err (ForceFault.DiskFault faults)) tells forces keeps = failed first faults tells forces.0 forces.2 forces.3
-    forced_tells first (Err (ForceFault.Shut faults)) tells forces keeps = unmoved first tells forces.0 keeps (forces.2 ∙ sym forces.1)
-    forced_tells first (Err ForceFault.NoMemory) tells forces keeps = unmoved first tells (same_refused old new n m forces) keeps (ap (λ s. s.shut) forces)
+  -- the journal says it of the records that it tells
+  of_list : LeavesEither (standing_of old n (told old.disk)) rec (standing_of new m (told new.disk)) → Moments
+  of_list leaves = either_list old.wide old.list rec (told old.disk) (told new.disk) leaves
+
+  -- what a force leaves, whatever it answers
+  pub forced_tells : least ≤ length old.list → (first : Option Story) (result : Result Receipt ForceFault) → Tells first old → Forces (standing_of old n (told old.disk)) rec result (standing_of new m (told new.disk)) → IfErr result (KeepsDisk old.disk new.disk) → Tells first new
+  forced_tells few first (Ok r) tells forces keeps = forced few (of_list forces.moments) first r tells forces.same forces.kept forces.wide forces.open_before forces.open_after
+  forced_tells few first (Err (ForceFault.Full size)) tells forces keeps = unmoved first tells forces.0 keeps (forces.3 ∙ sym forces.2)
+  forced_tells few first (Err (ForceFault.DiskFault faults)) tells forces keeps = failed few (of_list forces.5) first faults tells forces.0 forces.2 forces.3
+  forced_tells few first (Err (ForceFault.Shut faults)) tells forces keeps = unmoved first tells forces.0 keeps (forces.2 ∙ sym forces.1)
+  forced_tells few first (Err ForceFault.NoMemory) tells forces keeps = unmoved first tells (same_refused old new n m (told old.disk) (told new.disk) forces) keeps (ap (λ s. s.shut) forces)
 
 -- ---- the first moment and the last
 

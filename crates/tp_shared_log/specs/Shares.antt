@@ -30,7 +30,7 @@ shut_of (Some (Spent.Full size)) = None
 shut_of (Some (Spent.Shut n)) = Some n
 
 -- It tells the records that stood when the log was put under its lock. Its own are these and its receipts. It tells no
--- length, since others force records beside it. No call changes how many parts it has.
+-- length and no story, since others force records beside it. No call changes how many parts it has.
 abbrev pub share_standing : List Receipt → Bool → Shared → Standing
 share_standing stood wide s = record {
   told = stood;
@@ -38,6 +38,7 @@ share_standing stood wide s = record {
   length_told = None;
   shut = shut_of s.spent;
   faults = faults_of s.spent;
+  story = None;
   wide = wide;
   lasting = s.parts ∷ s.stake_parts ∷ [];
 }

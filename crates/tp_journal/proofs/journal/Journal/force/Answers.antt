@@ -1,37 +1,13 @@
-use Rattle.std.proofs.Common.{◌≡◌, ◌++◌, [], ◌∷◌, sym, ap, ◌∙◌, subst}
-use Rattle.tp_journal.specs.Log.{IsBody, StandsForEither}
-use Rattle.tp_journal.specs.Told.{LeavesOnly}
-use Rattle.tp_journal.specs.Started.{Appends}
+use Rattle.std.proofs.Common.{◌≡◌, ℕ, List, None, Err, rules, ◌++◌, [], ◌∷◌, sym, ap, ◌∙◌, subst}
+use Rattle.tp_journal.specs.Log.{IsBody, StandsForEither, forced_bytes}
+use Rattle.tp_journal.specs.Told.{IsOn, LeavesOnly}
+use Rattle.tp_journal.specs.Started.{Appends, RefusesAppend}
 use Rattle.tp_journal.specs.Records.{HasText, text, wide_of, AreRecords}
 use Rattle.tp_journal.specs.Journals.{Kept, kept_of, standing_of}
-use Rattle.tp_journal.specs.Keeping.{Stored}
-use Rattle.tp_journal.proofs.Forcing.{face_of, refused_stays, stored, said, said_unmoved, records_now}
+use Rattle.tp_journal.specs.Keeping.{Forces, Stored}
+use Rattle.tp_journal.proofs.Forcing.{face_of, refused_stays, told_on, stored, refused, records_now}
 use Rattle.tp_journal.proofs.Sizes.{text_is_body}
 use Rattle.tp_journal.proofs.journal.Journal.force.Goals as goal
-
-pub returns-then-size-gt-MOST_BYTES-clause-moments : goal.returns-then-size-gt-MOST_BYTES-clause-moments
-returns-then-size-gt-MOST_BYTES-clause-moments g c open_now s is =
-    let log = c.self.inside.log in
-    let has : HasText (wide_of log.shelf) c.args.rec.now = subst (λ (v : Kept _). HasText v.wide c.args.rec.now) (sym c.self.view_is) c.requires in
-    said_unmoved g.D.Disk.told log c.args.self.now c.args.rec.now c.shut.result c.self.view_is c.self.invariant has c.shut.ensures.started (c.shut.ensures.is ∙ ap (λ (v : Kept _). v.shut) c.self.view_is ∙ open_now) s is
-
-pub returns-in_err-body-clause-moments : goal.returns-in_err-body-clause-moments
-returns-in_err-body-clause-moments g c open_now s is =
-    let log = c.self.inside.log in
-    let has : HasText (wide_of log.shelf) c.args.rec.now = subst (λ (v : Kept _). HasText v.wide c.args.rec.now) (sym c.self.view_is) c.requires in
-    said_unmoved g.D.Disk.told log c.args.self.now c.args.rec.now c.shut.result c.self.view_is c.self.invariant has c.shut.ensures.started (c.shut.ensures.is ∙ ap (λ (v : Kept _). v.shut) c.self.view_is ∙ open_now) s is
-
-pub returns-in_err-copy-clause-moments : goal.returns-in_err-copy-clause-moments
-returns-in_err-copy-clause-moments g c open_now s is =
-    let log = c.self.inside.log in
-    let has : HasText (wide_of log.shelf) c.args.rec.now = subst (λ (v : Kept _). HasText v.wide c.args.rec.now) (sym c.self.view_is) c.requires in
-    said_unmoved g.D.Disk.told log c.args.self.now c.args.rec.now c.shut.result c.self.view_is c.self.invariant has c.shut.ensures.started (c.shut.ensures.is ∙ ap (λ (v : Kept _). v.shut) c.self.view_is ∙ open_now) s is
-
-pub returns-in_err-kept-clause-moments : goal.returns-in_err-kept-clause-moments
-returns-in_err-kept-clause-moments g c open_now s is =
-    let log = c.self.inside.log in
-    let has : HasText (wide_of log.shelf) c.args.rec.now = subst (λ (v : Kept _). HasText v.wide c.args.rec.now) (sym c.self.view_is) c.requires in
-    said_unmoved g.D.Disk.told log c.args.self.now c.args.rec.now c.shut.result c.self.view_is c.self.invariant has c.shut.ensures.started (c.shut.ensures.is ∙ ap (λ (v : Kept _). v.shut) c.self.view_is ∙ open_now) s is
 
 pub append-requires-clause-body : goal.append-requires-clause-body
 append-requires-clause-body g c =
@@ -53,16 +29,26 @@ append-requires-clause-says g c =
 pub invariant_of-self : goal.invariant_of-self
 invariant_of-self g c = subst AreRecords (sym (refused_stays _ _ _ _ c.in_err-place.ensures.refused)) c.self.invariant
 
-pub returns-in_err-place-clause-moments : goal.returns-in_err-place-clause-moments
-returns-in_err-place-clause-moments g c open_now s is =
+pub returns-in_err-place-clause-forces : goal.returns-in_err-place-clause-forces
+returns-in_err-place-clause-forces g c =
     let log = c.self.inside.log in
     let rec = c.args.rec.now in
+    let faults = g.D.Disk.fault_count in
+    let told = g.D.Disk.told in
+    let new = c.append.new.self in
+    let fault = c.in_err-place.field-0.0 in
     let has : HasText (wide_of log.shelf) rec = subst (λ (v : Kept _). HasText v.wide rec) (sym c.self.view_is) c.requires in
     let version : c.wide-wide.result ≡ wide_of log.shelf = c.wide-wide.ensures ∙ ap wide_of c.shelf.ensures in
     let body : c.as_slice.result.now ≡ text (wide_of log.shelf) rec = c.as_slice.ensures ∙ (c.in_ok-body.ensures {u = tt}) ∙ ap (λ w. text w rec) version in
-    said g.D.Disk.told log c.args.self.now rec (g.D.Disk.told c.append.new.self.disk) c.self.view_is c.self.invariant has
-    (subst (λ b. LeavesOnly (StandsForEither log.shelf (log.shelf ++ b ∷ [])) (g.D.Disk.told log.disk) (g.D.Disk.told c.append.new.self.disk)) body
-    (c.append.ensures.moments (ap (λ (v : Kept _). v.shut) c.self.view_is ∙ open_now) s (ap (λ (v : Kept _). g.D.Disk.told v.disk) c.self.view_is ∙ is)))
+    let leaves : log.shut ≡ None → LeavesOnly (StandsForEither log.shelf (log.shelf ++ text (wide_of log.shelf) rec ∷ [])) (told log.disk) (told new.disk) =
+    λ open_now. subst (λ b. LeavesOnly (StandsForEither log.shelf (log.shelf ++ b ∷ [])) (told log.disk) (told new.disk)) body
+    (told_on (StandsForEither log.shelf (log.shelf ++ c.as_slice.result.now ∷ [])) (told log.disk) (told new.disk) c.append.ensures.untold (c.append.ensures.moments open_now)) in
+    let refuses : RefusesAppend (face_of log (faults log.disk)) (text (wide_of log.shelf) rec) (face_of new (faults new.disk)) fault =
+    subst (λ b. RefusesAppend (face_of log (faults log.disk)) b (face_of new (faults new.disk)) fault) body c.in_err-place.ensures.refused in
+    let answer : Forces (standing_of c.args.self.now (faults c.args.self.now.disk) (told c.args.self.now.disk)) rec (Err fault) (standing_of (kept_of new) (faults new.disk) (told new.disk)) =
+    subst (λ (v : Kept _). Forces (standing_of v (faults v.disk) (told v.disk)) rec (Err fault) (standing_of (kept_of new) (faults new.disk) (told new.disk))) c.self.view_is
+    (refused faults told log new rec c.self.invariant has leaves fault refuses c.in_err-place.ensures.untouched) in
+    search (rules, answer)
 
 pub invariant_of-self-2 : goal.invariant_of-self-2
 invariant_of-self-2 g c =
@@ -81,20 +67,17 @@ returns-clause-forces g c =
     let has : HasText (wide_of log.shelf) rec = subst (λ (v : Kept _). HasText v.wide rec) (sym c.self.view_is) c.requires in
     let version : c.wide-wide.result ≡ wide_of log.shelf = c.wide-wide.ensures ∙ ap wide_of c.shelf.ensures in
     let body : c.as_slice.result.now ≡ text (wide_of log.shelf) rec = c.as_slice.ensures ∙ (c.in_ok-body.ensures {u = tt}) ∙ ap (λ w. text w rec) version in
-    let appends : Appends (face_of log (faults log.disk)) (text (wide_of log.shelf) rec) c.in_ok-place.place (face_of c.append.new.self (faults c.append.new.self.disk)) =
-    subst (λ b. Appends (face_of log (faults log.disk)) b c.in_ok-place.place (face_of c.append.new.self (faults c.append.new.self.disk))) body ((c.in_ok-place.ensures {u = tt}).appended) in
-    let stores : Stored (standing_of (kept_of log) (faults log.disk)) rec (record { place = c.in_ok-place.place; rec = rec }) (standing_of (kept_of c.append.new.self) (faults c.append.new.self.disk)) =
-    stored log c.append.new.self (faults log.disk) (faults c.append.new.self.disk) rec c.in_ok-place.place c.self.invariant has c.shut.ensures.started.place appends in
-    subst (λ (v : Kept _). Stored (standing_of v (faults v.disk)) rec (record { place = c.in_ok-place.place; rec = c.in_ok-copy.copy }) (standing_of (kept_of c.append.new.self) (faults c.append.new.self.disk))) c.self.view_is
-    (subst (λ r. Stored (standing_of (kept_of log) (faults log.disk)) rec (record { place = c.in_ok-place.place; rec = r }) (standing_of (kept_of c.append.new.self) (faults c.append.new.self.disk))) (sym (c.in_ok-copy.ensures {u = tt})) stores)
-
-pub returns-clause-moments : goal.returns-clause-moments
-returns-clause-moments g c open_now s is =
-    let log = c.self.inside.log in
-    let rec = c.args.rec.now in
-    let has : HasText (wide_of log.shelf) rec = subst (λ (v : Kept _). HasText v.wide rec) (sym c.self.view_is) c.requires in
-    let version : c.wide-wide.result ≡ wide_of log.shelf = c.wide-wide.ensures ∙ ap wide_of c.shelf.ensures in
-    let body : c.as_slice.result.now ≡ text (wide_of log.shelf) rec = c.as_slice.ensures ∙ (c.in_ok-body.ensures {u = tt}) ∙ ap (λ w. text w rec) version in
-    said g.D.Disk.told log c.args.self.now rec (g.D.Disk.told c.append.new.self.disk) c.self.view_is c.self.invariant has
-    (subst (λ b. LeavesOnly (StandsForEither log.shelf (log.shelf ++ b ∷ [])) (g.D.Disk.told log.disk) (g.D.Disk.told c.append.new.self.disk)) body
-    (c.append.ensures.moments (ap (λ (v : Kept _). v.shut) c.self.view_is ∙ open_now) s (ap (λ (v : Kept _). g.D.Disk.told v.disk) c.self.view_is ∙ is)))
+    let told = g.D.Disk.told in
+    let new = c.append.new.self in
+    let leaves : log.shut ≡ None → LeavesOnly (StandsForEither log.shelf (log.shelf ++ text (wide_of log.shelf) rec ∷ [])) (told log.disk) (told new.disk) =
+    λ open_now. subst (λ b. LeavesOnly (StandsForEither log.shelf (log.shelf ++ b ∷ [])) (told log.disk) (told new.disk)) body
+    (told_on (StandsForEither log.shelf (log.shelf ++ c.as_slice.result.now ∷ [])) (told log.disk) (told new.disk) c.append.ensures.untold (c.append.ensures.moments open_now)) in
+    let place = c.in_ok-place.place in
+    let appended = c.in_ok-place.ensures {u = tt} in
+    let appends : Appends (face_of log (faults log.disk)) (text (wide_of log.shelf) rec) place (face_of new (faults new.disk)) =
+    subst (λ b. Appends (face_of log (faults log.disk)) b place (face_of new (faults new.disk))) body appended.appended in
+    let bytes : (file : List ℕ) → IsOn (told log.disk) file → IsOn (told new.disk) (forced_bytes log.gate (text (wide_of log.shelf) rec) file) =
+    subst (λ b. (file : List ℕ) → IsOn (told log.disk) file → IsOn (told new.disk) (forced_bytes log.gate b file)) body appended.bytes in
+    let stores = stored faults told log new rec c.self.invariant has leaves place c.shut.ensures.started.place appends appended.started.kept bytes in
+    subst (λ (v : Kept _). Stored (standing_of v (faults v.disk) (told v.disk)) rec (record { place = place; rec = c.in_ok-copy.copy }) (standing_of (kept_of new) (faults new.disk) (told new.disk))) c.self.view_is
+    (subst (λ r. Stored (standing_of (kept_of log) (faults log.disk) (told log.disk)) rec (record { place = place; rec = r }) (standing_of (kept_of new) (faults new.disk) (told new.disk))) (sym (c.in_ok-copy.ensures {u = tt})) stores)

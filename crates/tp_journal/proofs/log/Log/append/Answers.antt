@@ -1,6 +1,8 @@
-use Rattle.std.proofs.Common.{◌≡◌, ◌+◌, ◌-◌, ◌++◌, [], ◌∷◌, ℕ, length, rules, sym, ap, ◌∙◌, subst, arith, length-append}
-use Rattle.tp_journal.specs.Log.{counted, place_behind}
-use Rattle.tp_journal.specs.Told.{RestsAt}
+use Rattle.std.proofs.Common.{◌≡◌, ◌+◌, ◌-◌, ◌++◌, [], ◌∷◌, ℕ, None, length, rules, sym, ap, ◌∙◌, subst, arith, length-append}
+use Rattle.tp_journal.specs.Log.{counted, place_behind, forced_bytes}
+use Rattle.tp_journal.specs.Started.{Started}
+use Rattle.tp_journal.specs.Told.{IsOn, RestsAt}
+use Rattle.tp_journal.proofs.Exactly.{has_gate, body_forced}
 use Rattle.tp_journal.proofs.Kept.{kept_on}
 use Rattle.tp_journal.proofs.OneMore.{place_more}
 use Rattle.tp_journal.proofs.Unmoved.{unmoved, unmoved_inside}
@@ -31,3 +33,31 @@ invariant_of-self-2 g c =
           (λ rests. subst (λ (n : ℕ). RestsAt (told c.append.new.disk) n new) long (subst (RestsAt (told c.append.new.disk) _) (sym longer) ((c.in-Ok.ensures {u = tt}).rests old body rests c.requires.body piece)));
       place = place;
     }
+
+pub returns-clause-started : goal.returns-clause-started
+returns-clause-started g c =
+    let told = g.D.Disk.told in
+    let old = g.S.Shelf.bodies c.self.inside.shelf in
+    let new = g.S.Shelf.bodies c.put.new.self in
+    let body = c.args.body.now in
+    let longer : new ≡ old ++ body ∷ [] = c.in_ok-put.ensures.ok in
+    let place : c.self.inside.gate + 4 + length body - 1 ≡ place_behind new = place_more old new body longer c.self.inside.gate c.self.invariant.place in
+    let piece : c.deref.result.now ≡ counted body ++ 0 ∷ [] = c.deref.ensures.value ∙ (c.in_ok-piece.ensures {u = tt}) in
+    let long : c.self.inside.gate + length c.deref.result.now ≡ c.self.inside.gate + 4 + length body - 1 = omega (arith, ap length piece, length-append (counted body) (0 ∷ [])) in
+    record {
+      small = search rules;
+      kept = kept_on (told c.self.inside.disk) (told c.append.new.disk) c.self.inside.gate _ old new c.self.inside.shut c.self.invariant.kept (search rules) c.append.ensures.untold
+          (λ rests. subst (λ (n : ℕ). RestsAt (told c.append.new.disk) n new) long (subst (RestsAt (told c.append.new.disk) _) (sym longer) ((c.in-Ok.ensures {u = tt}).rests old body rests c.requires.body piece)));
+      place = place;
+    }
+
+pub returns-clause-bytes : goal.returns-clause-bytes
+returns-clause-bytes g c file on =
+    let told = g.D.Disk.told in
+    let log = c.self.inside in
+    let body = c.args.body.now in
+    let open_now : log.shut ≡ None = search rules in
+    let piece : c.deref.result.now ≡ counted body ++ 0 ∷ [] = c.deref.ensures.value ∙ (c.in_ok-piece.ensures {u = tt}) in
+    let forced : IsOn (told log.disk) file → IsOn (told c.append.new.disk) (forced_bytes log.gate body file) =
+    λ on. body_forced log.gate body c.deref.result.now file (told c.append.new.disk) piece ((c.in-Ok.ensures {u = tt}).bytes file on (has_gate (told log.disk) log.gate (g.S.Shelf.bodies log.shelf) log.shut open_now c.self.invariant.kept file on)) in
+    subst (λ (v : Started _ _). IsOn (told v.disk) file → IsOn (told c.append.new.disk) (forced_bytes v.gate body file)) c.self.view_is forced on

@@ -20,7 +20,7 @@ invariant_of-self g c =
     let stood = length g.L.Stood.stood in
     let few : stood ≤ length before.list = omega (arith, c.self.invariant.extends.counted, length-placed before.wide before.list) in
     let images : StillTells g.L.Stood.story stood after.wide after.list after.shut (g.D.Disk.told after.disk) =
-    forced_tells g.D.Disk.told stood before after (faults before.disk) (faults after.disk) c.args.rec.now few c.force.ensures.moments g.L.Stood.story c.force.result c.self.invariant.images c.force.ensures.forces c.force.ensures.untouched in
+    forced_tells g.D.Disk.told stood before after (faults before.disk) (faults after.disk) c.args.rec.now few g.L.Stood.story c.force.result c.self.invariant.images c.force.ensures.forces c.force.ensures.untouched in
     search (rules, images)
 
 pub invariant_of-self-2 : goal.invariant_of-self-2
@@ -38,14 +38,14 @@ invariant_of-self-2 g c =
     let kept : IsKept log before n told forced stakes unfit = c.self.invariant in
     let few : length log.stood ≤ length before.list = omega (arith, kept.extends.counted, length-placed before.wide before.list) in
     let images : StillTells log.story (length log.stood) after.wide after.list after.shut told_now =
-    forced_tells g.D.Disk.told (length log.stood) before after n m c.args.rec.now few c.force.ensures.moments log.story c.force.result kept.images c.force.ensures.forces c.force.ensures.untouched in
-    let forces : (r : Result Receipt ForceFault) → c.force.result ≡ r → Forces (standing_of before n) c.args.rec.now r (standing_of after m) =
-    λ r is. subst (λ q. Forces (standing_of before n) c.args.rec.now q (standing_of after m)) is c.force.ensures.forces in
+    forced_tells g.D.Disk.told (length log.stood) before after n m c.args.rec.now few log.story c.force.result kept.images c.force.ensures.forces c.force.ensures.untouched in
+    let forces : (r : Result Receipt ForceFault) → c.force.result ≡ r → Forces (standing_of before n told) c.args.rec.now r (standing_of after m told_now) =
+    λ r is. subst (λ q. Forces (standing_of before n told) c.args.rec.now q (standing_of after m told_now)) is c.force.ensures.forces in
     elim c.match-force.branch [
       | in-Ok w ↦ let f = w.in-Ok.ensures.forces in rw (w.self-inside-is, w.add.ensures.total) (kept_stored log before after n m told told_now forced stakes unfit kept images c.args.rec.now w.in-Ok.receipt f)
       | in-Err-NoMemory w ↦
           let f = forces (Err ForceFault.NoMemory) (w.in-Err-NoMemory.is ∙ ap Err w.in-Err-NoMemory.field-0-is) in
-          rw w.self-inside-is (kept_unmoved log before after n m told told_now forced stakes unfit kept images (same_refused before after n m f) (ap (λ s. s.shut) f))
+          rw w.self-inside-is (kept_unmoved log before after n m told told_now forced stakes unfit kept images (same_refused before after n m told told_now f) (ap (λ s. s.shut) f))
       | in-Err-Full+in_ok-unfit-in-Err-Full w ↦
           let size = w.in-Err-Full.size in
           let f = forces (Err (ForceFault.Full size)) (w.in-Err-Full.is ∙ ap Err w.in-Err-Full.field-0-is) in
