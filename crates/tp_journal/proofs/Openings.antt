@@ -8,26 +8,35 @@ use Rattle.tp_outside.proofs.Stories.{started}
 use Rattle.tp_journal.specs.Log.{blocks, head, StandsInFront, StandsBehind, StandsFor}
 use Rattle.tp_journal.specs.Foreign.{Grammar, IsForeign}
 use Rattle.tp_journal.specs.Told.{IsOn, LeavesOnly, RestsAt, IsTextOf}
-use Rattle.tp_journal.specs.Start.{Starts, StaysSynced, StaysReadable}
+use Rattle.tp_journal.specs.Start.{started_bytes, Starts, StaysSynced, StaysReadable}
 
 -- the text that stands further back, as it is cut out of the file
-pub text_behind : (bodies : List (List ℕ)) (file : List ℕ) (place gate : ℕ) (behind : StandsBehind file bodies) → place ≡ 5 + length behind.front → gate ≡ place + length (blocks bodies) → IsTextOf bodies (take (gate + 1 - place) (drop place file))
-text_behind bodies file place gate behind at closes =
+pub cut_out : (bodies : List (List ℕ)) (file : List ℕ) (place gate : ℕ) (behind : StandsBehind file bodies) → place ≡ 5 + length behind.front → gate ≡ place + length (blocks bodies)
+    → take (gate + 1 - place) (drop place file) ≡ blocks bodies ++ (behind.gate ∷ [])
+cut_out bodies file place gate behind at closes =
     let front = head 2 ++ behind.front in
     let tail = to_be_bytes w64 (5 + length behind.front) in
     let text = blocks bodies ++ (behind.gate ∷ []) in
     let parts : file ≡ front ++ (text ++ (behind.rest ++ tail)) = behind.whole ∙ group front (blocks bodies) (behind.gate ∷ []) behind.rest tail in
     let from : drop place file ≡ text ++ (behind.rest ++ tail) = ap (λ (l : List ℕ). drop place l) parts ∙ drop_at front (text ++ (behind.rest ++ tail)) place (omega (arith, at)) in
     let size : length text ≡ gate + 1 - place = omega (arith, length-append (blocks bodies) (behind.gate ∷ []), closes) in
-    record {
-      gate = behind.gate;
-      whole = ap (λ (l : List ℕ). take (gate + 1 - place) l) from ∙ take_at text (behind.rest ++ tail) (gate + 1 - place) size;
-      closed = behind.closed;
-      each = behind.each;
-    }
+    ap (λ (l : List ℕ). take (gate + 1 - place) l) from ∙ take_at text (behind.rest ++ tail) (gate + 1 - place) size
   where
     group : (f b g r t : List ℕ) → f ++ b ++ (g ++ r) ++ t ≡ f ++ ((b ++ g) ++ (r ++ t))
     group f b g r t = simp append_assoc
+
+pub text_behind : (bodies : List (List ℕ)) (file : List ℕ) (place gate : ℕ) (behind : StandsBehind file bodies) → place ≡ 5 + length behind.front → gate ≡ place + length (blocks bodies) → IsTextOf bodies (take (gate + 1 - place) (drop place file))
+text_behind bodies file place gate behind at closes = record {
+  gate = behind.gate;
+  whole = cut_out bodies file place gate behind at closes;
+  closed = behind.closed;
+  each = behind.each;
+}
+
+-- what a start leaves, of the file that was read and of the one that stood
+moved : (last : Option Story) (file stood : List ℕ) (bodies : List (List ℕ)) → file ≡ stood → (stands : StandsFor file bodies) → IsOn last (started_bytes file bodies stands)
+    → (now : StandsFor stood bodies) × IsOn last (started_bytes stood bodies now)
+moved last file stood bodies is stands on = subst (λ f. (now : StandsFor f bodies) × IsOn last (started_bytes f bodies now)) is (stands, on)
 
 pub gate_small : (bodies : List (List ℕ)) (file : List ℕ) (gate : ℕ) → StandsInFront file bodies → gate ≡ 5 + length (blocks bodies) → length file ≤ 2 ^ 62 → gate < 2 ^ 63
 gate_small bodies file gate stands is few =
@@ -59,11 +68,13 @@ module _ (old synced now : Option Story) (syncs : Syncs old synced) (same : now 
     in_front gate bodies stands is few = (
       gate_small bodies file gate stands is few,
       untold,
-      λ s was. (
-        subst (λ f. StandsFor f bodies) (file_is s was) (inl stands),
-        record { file = file; on = on_disk s was; stands = stands; place = is },
-        (Synced s, is_synced s was, started (λ c. StandsFor c bodies) (Synced s) (λ c image. subst (λ f. StandsFor f bodies) (file_is s was ∙ sym image) (inl stands))),
-      ),
+      λ s was.
+          let left = moved now file (seen s) bodies (file_is s was) (inl stands) (on_disk s was) in (
+            left.0,
+            record { file = file; on = on_disk s was; stands = stands; place = is },
+            (Synced s, is_synced s was, started (λ c. StandsFor c bodies) (Synced s) (λ c image. subst (λ f. StandsFor f bodies) (file_is s was ∙ sym image) (inl stands))),
+            left.1,
+          ),
       is,
     )
 
@@ -79,15 +90,17 @@ module _ (old synced now : Option Story) (syncs : Syncs old synced) (same : now 
       stays_readable leaves s was = inr (inr (bodies, subst (λ f. StandsFor f bodies) (file_is s was) (inr behind), since_sync s was (leaves s was)))
 
       pub from_behind : (size : ℕ) → place ≡ 5 + length behind.front → gate ≡ place + length (blocks bodies) → size ≡ gate + 1 - place → length file ≤ 2 ^ 62 → (now ≡ None → last ≡ None)
-          → ((s : Story) → old ≡ Some s → LeavesOnly Still now last × RestsAt last (4 + size) bodies) → Starts old last (5 + gate - place) bodies
+          → ((s : Story) → old ≡ Some s → LeavesOnly Still now last × RestsAt last (4 + size) bodies × IsOn last (head 1 ++ (blocks bodies ++ (behind.gate ∷ [])))) → Starts old last (5 + gate - place) bodies
       from_behind size at closes is few none ends = (
         omega (arith, closes, at, few, length_behind),
         λ was. none (untold was),
         λ s was.
-            let gate_is : 4 + size ≡ 5 + gate - place = omega (arith, is, closes) in (
-              subst (λ f. StandsFor f bodies) (file_is s was) (inr behind),
+            let gate_is : 4 + size ≡ 5 + gate - place = omega (arith, is, closes) in
+            let left = moved last file (seen s) bodies (file_is s was) (inr behind) (ends s was).2 in (
+              left.0,
               subst (λ (n : ℕ). RestsAt last n bodies) gate_is (ends s was).1,
               since_sync s was (ends s was).0,
+              left.1,
             ),
         omega (arith, closes, at),
       )

@@ -9,6 +9,7 @@ use Rattle.tp_logrec.specs.declared.record.LogVersion.{LogVersion}
 use Rattle.tp_logrec.specs.RecordText.{record_bytes}
 use Rattle.tp_logrec.specs.RecordReading.{record_in, record_grammar}
 use Rattle.tp_logrec.specs.LogText.{version_mark}
+use Rattle.tp_journal.specs.Log.{head, blocks}
 use Rattle.tp_journal.specs.declared.receipts.Receipt.{Receipt}
 
 -- ---- records as bodies
@@ -37,6 +38,10 @@ marks true = version_mark ∷ []
 -- what stands in a log of these records
 abbrev pub bodies_of : Bool → List LogRec → List (List ℕ)
 bodies_of wide rs = marks wide ++ texts wide rs
+
+-- the file that has these records in that version, and nothing after its closing gate
+abbrev pub log_bytes : Bool → List LogRec → List ℕ
+log_bytes wide rs = head 1 ++ blocks (bodies_of wide rs) ++ 0 ∷ []
 
 -- ---- bodies as records
 

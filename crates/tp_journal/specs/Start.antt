@@ -1,19 +1,26 @@
 -- How the start of a log ends.
-use Rattle.std.specs.Prelude.{◌≡◌, ◌⊎◌, ◌<◌, ◌^◌, ℕ, Option, Some, None, List}
+use Rattle.std.specs.Prelude.{◌≡◌, ◌⊎◌, ◌<◌, ◌^◌, ℕ, Option, Some, None, List, [], ◌∷◌, ◌++◌}
+use Rattle.std.proofs.Common.{inl, inr}
 use Rattle.tp_outside.specs.Faults.{HasRisen}
 use Rattle.tp_outside.specs.Story.{Story, Synced, seen}
-use Rattle.tp_journal.specs.Log.{StandsFor, place_behind}
+use Rattle.tp_journal.specs.Log.{head, blocks, StandsFor, place_behind}
 use Rattle.tp_journal.specs.Foreign.{Grammar, IsForeign}
-use Rattle.tp_journal.specs.Told.{LeavesOnly, RestsAt}
+use Rattle.tp_journal.specs.Told.{IsOn, LeavesOnly, RestsAt}
 use Rattle.tp_journal.specs.declared.faults.StartFault.{StartFault}
 use Rattle.tp_journal.specs.declared.faults.StartFault.TheVariants.{Foreign, DiskFault, NoMemory}
 
+-- What a start leaves of a file, to the byte: the file itself, where its bodies stand at the front; else the head, the
+-- bodies and their closing gate, and nothing after it.
+abbrev pub started_bytes : (file : List ℕ) (bodies : List (List ℕ)) → StandsFor file bodies → List ℕ
+started_bytes file bodies (inl in_front) = file
+started_bytes file bodies (inr behind) = head 1 ++ (blocks bodies ++ behind.gate ∷ [])
+
 -- The bodies are those that the bytes stood for, all of them are on the disk, and a crash at any moment from the first
--- sync on leaves bytes that stand for them.
+-- sync on leaves bytes that stand for them. In the end the disk has what a start leaves of these bytes.
 abbrev pub Starts : Option Story → Option Story → ℕ → List (List ℕ) → Type 0
 Starts old new gate bodies =
     (gate < 2 ^ 63) × (old ≡ None → new ≡ None) ×
-    ((s : Story) → old ≡ Some s → StandsFor (seen s) bodies × RestsAt new gate bodies × LeavesOnly (λ c. StandsFor c bodies) (Some (Synced s)) new) ×
+    ((s : Story) → old ≡ Some s → (stands : StandsFor (seen s) bodies) × RestsAt new gate bodies × LeavesOnly (λ c. StandsFor c bodies) (Some (Synced s)) new × IsOn new (started_bytes (seen s) bodies stands)) ×
     (gate ≡ place_behind bodies)
 
 -- nothing but the sync was done, or not even that

@@ -3,12 +3,12 @@ ghost use Rattle.std.specs.Prelude.{◌≡◌, ◌≤◌, ◌<◌, ◌++◌, tru
 ghost use Rattle.std.specs.List.{AllByRecursion};
 ghost use Rattle.tp_outside.specs.Faults.{HasRisen};
 ghost use Rattle.tp_outside.specs.Story.{Story};
-ghost use Rattle.tp_journal.specs.Log.{head, blocks, most_bytes, StandsForEither};
+ghost use Rattle.tp_journal.specs.Log.{most_bytes, StandsForEither};
 ghost use Rattle.tp_journal.specs.Told.{IsOn, LeavesOnly};
 ghost use Rattle.tp_journal.specs.Start.{Starts, RefusesStart};
 ghost use Rattle.tp_journal.specs.Started.{IsStarted, KeepsDisk, KeepsDiskInReplace};
 ghost use Rattle.tp_logrec.specs.Order.{all_follow, brief};
-ghost use Rattle.tp_journal.specs.Records.{HasText, bodies_of, record_body};
+ghost use Rattle.tp_journal.specs.Records.{HasText, bodies_of, log_bytes, record_body};
 ghost use Rattle.tp_journal.specs.Journals.{bodies_in, standing_of, ComesInOrder, Becomes, RefusesCompact, RefusesMigrate, size_of};
 ghost use Rattle.tp_journal.specs.Keeping.{Forces};
 ghost use Rattle.tp_journal.specs.Disorder.{IsFirstOutOfOrder};
@@ -28,7 +28,7 @@ const EMPTY: [u8; 11] = [79, 84, 80, 76, 1, 1, 0, 2, 7, 2, 0];
 
 /// Makes the disk hold a log of version 2 with no records alone, whatever it held.
 pub fn format<D: Disk>(disk: &mut D) -> Result<(), Failed>
-    ensures formatted { OnOk result ((s : Story) → D.told disk.old ≡ Some s → IsOn (D.told disk.new) (head 1 ++ blocks (bodies_of true []) ++ 0 ∷ [])) }
+    ensures formatted { OnOk result ((s : Story) → D.told disk.old ≡ Some s → IsOn (D.told disk.new) (log_bytes true [])) }
     ensures untold { D.told disk.old ≡ None → D.told disk.new ≡ None }
     ensures kept { D.fault_count disk.old ≤ D.fault_count disk.new }
     ensures risen { OnErr result (HasRisen (D.fault_count disk.old) (D.fault_count disk.new)) }
@@ -98,6 +98,7 @@ impl<D: Disk> Journal<D> {
         // A crash at any moment of the call leaves the records from before it, or their brief.
         ensures moments { self.old.shut ≡ None → (s : Story) → D.told self.old.disk ≡ Some s
             → LeavesOnly (StandsForEither (bodies_in self.old) (bodies_of self.old.wide (brief self.old.list))) (D.told self.old.disk) (D.told self.new.disk) }
+        ensures bytes { OnOk result ((s : Story) → D.told self.old.disk ≡ Some s → IsOn (D.told self.new.disk) (log_bytes self.old.wide (brief self.old.list))) }
     {
         if let Some(faults) = self.log.shut() {
             return Err(CompactFault::Shut { faults });
@@ -120,6 +121,7 @@ impl<D: Disk> Journal<D> {
         // A crash at any moment of the call leaves the records from before it, or their brief in version 2.
         ensures moments { self.old.shut ≡ None → (s : Story) → D.told self.old.disk ≡ Some s
             → LeavesOnly (StandsForEither (bodies_in self.old) (bodies_of true (brief self.old.list))) (D.told self.old.disk) (D.told self.new.disk) }
+        ensures bytes { OnOk result ((s : Story) → D.told self.old.disk ≡ Some s → IsOn (D.told self.new.disk) (log_bytes true (brief self.old.list))) }
     {
         if let Some(faults) = self.log.shut() {
             return Err(ForceFault::Shut { faults });

@@ -2,7 +2,7 @@
 //! What its bodies mean, its shelf knows.
 ghost use Rattle.std.specs.Prelude.{◌≡◌, ◌≤◌, ◌<◌, ◌^◌, ◌+◌, ◌-◌, ◌++◌, ◌∷◌, [], ℕ, List, length, drop, Some, None, true, IfOk, IfErr, OnOk};
 ghost use Rattle.tp_outside.specs.Story.{Story};
-ghost use Rattle.tp_journal.specs.Log.{IsBody, counted, StandsForEither, forced_bytes};
+ghost use Rattle.tp_journal.specs.Log.{IsBody, counted, head, StandsForEither, forced_bytes};
 ghost use Rattle.tp_journal.specs.Start.{Starts, RefusesStart};
 ghost use Rattle.tp_journal.specs.Started.{IsStarted, Appends, RefusesAppend, Replaces, RefusesReplace, KeepsDisk, KeepsDiskInReplace};
 ghost use Rattle.tp_journal.specs.Told.{IsOn, LeavesOnly, IsTextOf};
@@ -161,6 +161,7 @@ impl<D: Disk, S: Shelf + Drop> Log<D, S> {
         // A crash at any moment of the call leaves the old bodies or the new.
         ensures moments { self.old.shut ≡ None → (s : Story) → D.told self.old.disk ≡ Some s
             → LeavesOnly (StandsForEither (S.bodies self.old.shelf) (S.bodies next)) (D.told self.old.disk) (D.told self.new.disk) }
+        ensures bytes { OnOk result ((s : Story) → D.told self.old.disk ≡ Some s → IsOn (D.told self.new.disk) (head 1 ++ text.now)) }
     {
         if let Some(faults) = self.shut {
             return Err(CompactFault::Shut { faults });

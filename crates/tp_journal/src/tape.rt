@@ -3,7 +3,7 @@
 ghost use Rattle.std.specs.Prelude.{◌≡◌, ◌+◌, ◌-◌, ◌≤◌, ◌<◌, ◌^◌, ◌++◌, ◌∷◌, [], ℕ, List, length, take, drop, Some, None, OnOk, OnErr};
 ghost use Rattle.tp_outside.specs.Faults.{HasRisen};
 ghost use Rattle.tp_outside.specs.Story.{Story, Torn, Clipped};
-ghost use Rattle.tp_journal.specs.Log.{IsBody, counted, StandsBehind, StandsFor, StandsForEither};
+ghost use Rattle.tp_journal.specs.Log.{IsBody, counted, head, StandsBehind, StandsFor, StandsForEither};
 ghost use Rattle.tp_journal.specs.Told.{IsOn, LeavesOnly, HasStored, HasResized, RestsAt, IsTextOf, IsStaged};
 
 use tp_outside::{Disk, Failed};
@@ -61,6 +61,8 @@ pub fn finish<D: Disk>(disk: &mut D, text: &[u8]) -> Result<(), Failed>
         → LeavesOnly (λ c. StandsFor c bodies) (D.told disk.old) (D.told disk.new) }
     ensures rests { OnOk result ((bodies : List (List ℕ)) (file : List ℕ) → IsOn (D.told disk.old) file → StandsBehind file bodies → IsTextOf bodies text.now
         → RestsAt (D.told disk.new) (4 + length text.now) bodies) }
+    ensures bytes { OnOk result ((bodies : List (List ℕ)) (file : List ℕ) → IsOn (D.told disk.old) file → StandsBehind file bodies → IsTextOf bodies text.now
+        → IsOn (D.told disk.new) (head 1 ++ text.now)) }
     ensures untold { D.told disk.old ≡ None → D.told disk.new ≡ None }
     ensures kept { D.fault_count disk.old ≤ D.fault_count disk.new }
     ensures risen { OnErr result (HasRisen (D.fault_count disk.old) (D.fault_count disk.new)) }
@@ -96,6 +98,8 @@ pub fn replace<D: Disk>(disk: &mut D, gate: u64, padded: &[u8], zeros: usize) ->
         → LeavesOnly (StandsForEither before after) (D.told disk.old) (D.told disk.new) }
     ensures rests { OnOk result ((before after : List (List ℕ)) → RestsAt (D.told disk.old) gate before → IsTextOf after (drop zeros padded.now) → length padded.now ≤ gate + zeros + zeros - 4
         → RestsAt (D.told disk.new) (4 + length padded.now - zeros) after) }
+    ensures bytes { OnOk result ((before after : List (List ℕ)) → RestsAt (D.told disk.old) gate before → IsTextOf after (drop zeros padded.now) → length padded.now ≤ gate + zeros + zeros - 4
+        → IsOn (D.told disk.new) (head 1 ++ drop zeros padded.now)) }
     ensures untold { D.told disk.old ≡ None → D.told disk.new ≡ None }
     ensures kept { D.fault_count disk.old ≤ D.fault_count disk.new }
     ensures risen { OnErr result (HasRisen (D.fault_count disk.old) (D.fault_count disk.new)) }

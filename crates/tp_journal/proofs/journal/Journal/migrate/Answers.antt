@@ -1,9 +1,10 @@
-use Rattle.std.proofs.Common.{◌≡◌, ◌++◌, true, [], ◌∷◌, sym, ap, ◌∙◌, subst}
+use Rattle.std.proofs.Common.{◌≡◌, ℕ, List, Some, ◌++◌, true, [], ◌∷◌, sym, ap, ◌∙◌, subst}
 use Rattle.std.specs.List.{AllByRecursion}
 use Rattle.tp_logrec.specs.Order.{brief}
-use Rattle.tp_journal.specs.Log.{blocks}
-use Rattle.tp_journal.specs.Records.{HasText, bodies_of, wide_of, recs_of}
+use Rattle.tp_journal.specs.Log.{blocks, head}
+use Rattle.tp_journal.specs.Records.{HasText, bodies_of, log_bytes, wide_of, recs_of}
 use Rattle.tp_journal.specs.Journals.{Kept, kept_of, Becomes}
+use Rattle.tp_journal.specs.Told.{IsOn}
 use Rattle.tp_journal.proofs.Briefs.{each-brief}
 use Rattle.tp_journal.proofs.Widened.{texts_widened}
 use Rattle.tp_journal.proofs.Compacting.{still_now, text_is, records_are, becomes}
@@ -62,3 +63,16 @@ returns-in-Ok-clause-migrated g c =
     let text : c.as_slice-2.result.now ≡ blocks (bodies_of true (brief (recs_of shelf))) ++ 0 ∷ [] = c.as_slice-2.ensures.value ∙ (c.in_ok-records.ensures {u = tt}).text ∙ ap (λ b. blocks b ++ 0 ∷ []) bodies in
     subst (λ (v : Kept _). Becomes true (brief v.list) v (faults v.disk) (kept_of c.replace.new.self) (faults c.replace.new.self.disk)) c.self.view_is
     (becomes true (brief (recs_of shelf)) each c.in_ok-records.records made log c.replace.new.self (faults log.disk) (faults c.replace.new.self.disk) c.as_slice-2.result.now text ((c.in-Ok.ensures {u = tt}).replaced))
+
+pub returns-in-Ok-clause-bytes : goal.returns-in-Ok-clause-bytes
+returns-in-Ok-clause-bytes g c s is =
+    let log = c.self.inside.log in
+    let shelf = log.shelf in
+    let list : c.list.result.now ≡ recs_of shelf = c.list.ensures.is ∙ ap recs_of c.shelf.ensures in
+    let short : c.as_slice.result.now ≡ brief (recs_of shelf) = c.as_slice.ensures.value ∙ (c.in_ok-short.ensures {u = tt}) ∙ ap brief list in
+    let bodies : bodies_of true c.as_slice.result.now ≡ bodies_of true (brief (recs_of shelf)) = ap (λ l. bodies_of true l) short in
+    let text : c.as_slice-2.result.now ≡ blocks (bodies_of true (brief (recs_of shelf))) ++ 0 ∷ [] = c.as_slice-2.ensures.value ∙ (c.in_ok-records.ensures {u = tt}).text ∙ ap (λ b. blocks b ++ 0 ∷ []) bodies in
+    let told = g.D.Disk.told in
+    let log_is : told log.disk ≡ Some s = ap (λ (v : Kept _). told v.disk) c.self.view_is ∙ is in
+    let written : IsOn (told c.replace.new.self.disk) (log_bytes true (brief (recs_of shelf))) = subst (λ (t : List ℕ). IsOn (told c.replace.new.self.disk) (head 1 ++ t)) text ((c.in-Ok.ensures {u = tt}).bytes s log_is) in
+    subst (λ (v : Kept _). IsOn (told c.replace.new.self.disk) (log_bytes true (brief v.list))) c.self.view_is written
