@@ -1,7 +1,7 @@
 -- What stands in a file, to the byte, after writes that are done.
-use Rattle.std.proofs.Common.{◌≡◌, inl, inr, ◌≤◌, ◌<◌, ℕ, ◌+◌, min, Option, Some, None, List, [], ◌∷◌, ◌++◌, length, take, drop, refl, sym, ap, ◌∙◌, subst, arith, append_assoc, length-append, length-take, length-drop, take-append-drop}
+use Rattle.std.proofs.Common.{◌≡◌, inl, inr, ◌≤◌, ◌<◌, ℕ, ◌+◌, min, Option, Some, None, List, [], ◌∷◌, ◌++◌, length, take, drop, sym, ap, ◌∙◌, subst, arith, length-append, length-take, take-append-drop}
 use Rattle.std.proofs.lemmas.List.{take-take, drop_at, drop-drop, take-append-le}
-use Rattle.tp_outside.specs.Story.{Story, seen}
+use Rattle.tp_outside.specs.Story.{Story}
 use Rattle.tp_outside.specs.Disk.{IsWritten}
 use Rattle.tp_journal.specs.Log.{counted, blocks, head, forced_bytes}
 use Rattle.tp_journal.specs.Started.{IsKept}

@@ -4,6 +4,8 @@ use Rattle.std.specs.List.{AllByRecursion}
 use Rattle.tp_outside.specs.Story.{Story}
 use Rattle.tp_logrec.specs.declared.record.LogRec.{LogRec}
 use Rattle.tp_journal.specs.Log.{place_behind, StandsFor, StandsInFront, StandsForEither, forced_bytes}
+use Rattle.tp_outside.specs.FuseDisk.{Fused, OnFuse}
+use Rattle.tp_journal.specs.Stops.{body_piece, Opens, StopsOpening, StopsForcing}
 use Rattle.tp_journal.specs.Told.{IsOn, LeavesOnly, LeavesNow}
 use Rattle.tp_journal.specs.Started.{Started, Face, Appends, RefusesAppend, Stays, KeepsDisk, IsKept}
 use Rattle.tp_journal.specs.Records.{HasText, text, bodies_of, wide_of, recs_of, placed, receipts_from, first_place, AreRecords}
@@ -84,17 +86,17 @@ pub told_on : (P : List ℕ → Type 0) (old new : Option Story) → (old ≡ No
 told_on P None new untold leaves = untold refl
 told_on P (Some s) new untold leaves = leaves s refl
 
-module _ {D : Type 0} (faults : D → ℕ) (told : D → Option Story) (old new : Started D (List (List ℕ))) (rec : LogRec) (records : AreRecords old.shelf) (has : HasText (wide_of old.shelf) rec)
+module _ {D : Type 0} (faults : D → ℕ) (told : D → Option Story) (fuse : D → Option Fused) (old new : Started D (List (List ℕ))) (rec : LogRec) (records : AreRecords old.shelf) (has : HasText (wide_of old.shelf) rec)
     (leaves : old.shut ≡ None → LeavesOnly (StandsForEither old.shelf (old.shelf ++ text (wide_of old.shelf) rec ∷ [])) (told old.disk) (told new.disk)) where
   abbrev before : Standing
-  before = standing_of (kept_of old) (faults old.disk) (told old.disk)
+  before = standing_of (kept_of old) (faults old.disk) (told old.disk) (fuse old.disk)
 
   abbrev after : Standing
-  after = standing_of (kept_of new) (faults new.disk) (told new.disk)
+  after = standing_of (kept_of new) (faults new.disk) (told new.disk) (fuse new.disk)
 
   pub stored : (place : ℕ) → old.gate ≡ place_behind old.shelf → Appends (face_of old (faults old.disk)) (text (wide_of old.shelf) rec) place (face_of new (faults new.disk)) → IsKept (told new.disk) new.gate new.shelf new.shut
-      → ((file : List ℕ) → IsOn (told old.disk) file → IsOn (told new.disk) (forced_bytes old.gate (text (wide_of old.shelf) rec) file)) → Stored before rec (record { place = place; rec = rec }) after
-  stored place at appends kept bytes = record {
+      → ((file : List ℕ) → IsOn (told old.disk) file → IsOn (told new.disk) (forced_bytes old.gate (text (wide_of old.shelf) rec) file)) → OnFuse (Opens old.gate (body_piece (text (wide_of old.shelf) rec))) (fuse old.disk) (fuse new.disk) → Stored before rec (record { place = place; rec = rec }) after
+  stored place at appends kept bytes passes = record {
     same = refl;
     kept = placed_now old.shelf rec records has new.shelf appends.bodies place (appends.at_gate ∙ at);
     told = inr refl;
@@ -112,6 +114,7 @@ module _ {D : Type 0} (faults : D → ℕ) (told : D → Option Story) (old new 
         now_is old.shelf rec records has new.shelf appends.bodies ∙ ap (λ l. bodies_of wide (l ++ rec ∷ [])) (sym (recs_told wide (recs_of old.shelf))) in
         subst (λ b. LeavesNow (λ file. StandsFor file b) (told new.disk)) are (last_at_rest (told new.disk) new.gate new.shelf new.shut appends.open_after kept);
     bytes = λ file on. let same : old.gate ≡ old.gate + 1 - 1 = omega arith in subst (λ (n : ℕ). IsOn (told new.disk) (forced_bytes n (text (wide_of old.shelf) rec) file)) same (bytes file on);
+    fuse = let same : old.gate ≡ old.gate + 1 - 1 = omega arith in subst (λ (n : ℕ). OnFuse (Opens n (body_piece (text (wide_of old.shelf) rec))) (fuse old.disk) (fuse new.disk)) same passes;
   }
 
   stays : Stays (face_of old (faults old.disk)) (face_of new (faults new.disk)) → Refused before after
@@ -130,9 +133,18 @@ module _ {D : Type 0} (faults : D → ℕ) (told : D → Option Story) (old new 
       let gate = same.gate in
       rw (bodies, gate, disk, open_before, open_after) refl
 
-  pub refused : (fault : ForceFault) → RefusesAppend (face_of old (faults old.disk)) (text (wide_of old.shelf) rec) (face_of new (faults new.disk)) fault → KeepsDisk old.disk new.disk fault → Forces before rec (Err fault) after
-  refused (Full size) (same, open_before, open_after, is, long) disk = (stays same, (is ∙ omega arith, long), open_before, open_after, ap told disk)
-  refused (DiskFault n) (same, open_before, shut, counted, risen, room) disk =
-      (stays same, risen, open_before, shut, counted, either_shelf old.shelf rec (told old.disk) (told new.disk) records has (leaves open_before))
-  refused (Shut n) (same, shut_before, shut) disk = (stays same, shut_before, shut, ap told disk)
-  refused NoMemory (same, open_before, open_after, room) disk = nothing same open_before open_after disk
+  pub refused : (fault : ForceFault) → RefusesAppend (face_of old (faults old.disk)) (text (wide_of old.shelf) rec) (face_of new (faults new.disk)) fault → KeepsDisk old.disk new.disk fault
+      → StopsForcing old.gate (text (wide_of old.shelf) rec) (fuse old.disk) (fuse new.disk) fault → Forces before rec (Err fault) after
+  refused (Full size) (same, open_before, open_after, is, long) disk stops = (stays same, (is ∙ omega arith, long), open_before, open_after, ap told disk, stops)
+  refused (DiskFault n) (same, open_before, shut, counted, risen, room) disk stops =
+      let gate : old.gate ≡ old.gate + 1 - 1 = omega arith in (
+        stays same,
+        risen,
+        open_before,
+        shut,
+        counted,
+        either_shelf old.shelf rec (told old.disk) (told new.disk) records has (leaves open_before),
+        subst (λ (n : ℕ). OnFuse (StopsOpening n (body_piece (text (wide_of old.shelf) rec))) (fuse old.disk) (fuse new.disk)) gate stops,
+      )
+  refused (Shut n) (same, shut_before, shut) disk stops = (stays same, shut_before, shut, ap told disk, stops)
+  refused NoMemory (same, open_before, open_after, room) disk stops = nothing same open_before open_after disk

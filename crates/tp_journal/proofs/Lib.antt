@@ -21,6 +21,7 @@ pub mod Staging
 pub mod Shorter
 pub mod Sizes
 pub mod Steps
+pub mod Stopping
 pub mod Turning
 pub mod Unmoved
 pub mod Unique

@@ -2,6 +2,7 @@
 use Rattle.std.specs.Prelude.{ℕ, ◌≡◌, ◌≤◌, ◌<◌, ◌+◌, Bool, true, Option, Some, None, List, []}
 use Rattle.tp_outside.specs.Faults.{HasRisen}
 use Rattle.tp_outside.specs.Story.{Story}
+use Rattle.tp_outside.specs.FuseDisk.{Fused}
 use Rattle.tp_logrec.specs.declared.record.LogRec.{LogRec}
 use Rattle.tp_journal.specs.declared.faults.CompactFault.{CompactFault}
 use Rattle.tp_journal.specs.declared.faults.CompactFault.TheVariants as compact
@@ -33,15 +34,16 @@ abbrev pub kept_of : {D : Type 0} → Started D (List (List ℕ)) → Kept D
 kept_of l = record { disk = l.disk; wide = wide_of l.shelf; list = recs_of l.shelf; gate = l.gate; shut = l.shut }
 
 -- a journal tells the whole list and its length, and all of it is its own; its disk has counted so many faults, and tells
--- this story
-abbrev pub standing_of : {D : Type 0} → Kept D → ℕ → Option Story → Standing
-standing_of j faults story = record {
+-- this story and this fuse
+abbrev pub standing_of : {D : Type 0} → Kept D → ℕ → Option Story → Option Fused → Standing
+standing_of j faults story fuse = record {
   told = placed j.wide j.list;
   kept = placed j.wide j.list;
   length_told = Some (j.gate + 1);
   shut = j.shut;
   faults = faults;
   story = story;
+  fuse = fuse;
   wide = j.wide;
   lasting = [];
 }

@@ -3,9 +3,11 @@
 use Rattle.std.specs.Prelude.{ℕ, ◌≡◌, ◌≤◌, ◌<◌, ◌+◌, ◌-◌, ◌⊎◌, Bool, List, [], ◌∷◌, ◌++◌, length, map, Option, Some, None, Result, Ok, Err}
 use Rattle.tp_outside.specs.Faults.{HasRisen}
 use Rattle.tp_outside.specs.Story.{Story}
+use Rattle.tp_outside.specs.FuseDisk.{Fused, OnFuse}
 use Rattle.tp_logrec.specs.declared.record.LogRec.{LogRec}
 use Rattle.tp_journal.specs.Log.{most_bytes, StandsFor, StandsForEither, forced_bytes}
 use Rattle.tp_journal.specs.Records.{text, bodies_of}
+use Rattle.tp_journal.specs.Stops.{body_piece, Opens, StopsOpening}
 use Rattle.tp_journal.specs.Told.{IsOn, LeavesOnly, LeavesNow}
 use Rattle.tp_journal.specs.declared.receipts.Receipt.{Receipt}
 use Rattle.tp_journal.specs.declared.faults.ForceFault.{ForceFault}
@@ -23,6 +25,8 @@ pub record Standing : Type 0 where
   pub faults : ℕ
   -- what its disk has been through, where the keeper tells that; it tells it only of a log that no other writes to
   pub story : Option Story
+  -- the fuse of that disk, where it has one
+  pub fuse : Option Fused
   -- is the log of version 2?
   pub wide : Bool
   -- numbers that no call changes: what a generic caller hands back of a keeper that it took
@@ -70,6 +74,15 @@ abbrev pub HasForced : Option ℕ → List ℕ → Option Story → Option Story
 HasForced None body old new = Unit {0}
 HasForced (Some n) body old new = (file : List ℕ) → IsOn old file → IsOn new (forced_bytes (n - 1) body file)
 
+-- where its disk has a fuse that has not stopped: the calls of a force pass it, or it stops in one of them
+abbrev pub PassesFuse : Option ℕ → List ℕ → Option Fused → Option Fused → Type 0
+PassesFuse None body old new = Unit {0}
+PassesFuse (Some n) body old new = OnFuse (Opens (n - 1) (body_piece body)) old new
+
+abbrev pub StopsAtFuse : Option ℕ → List ℕ → Option Fused → Option Fused → Type 0
+StopsAtFuse None body old new = Unit {0}
+StopsAtFuse (Some n) body old new = OnFuse (StopsOpening (n - 1) (body_piece body)) old new
+
 -- a fault of the disk carries the count right after the call that failed, where the keeper tells the length; another
 -- keeper counts none of the disk's
 abbrev pub CountsAs : Option ℕ → ℕ → ℕ → Type 0
@@ -94,6 +107,7 @@ pub record Stored (old : Standing) (rec : LogRec) (r : Receipt) (new : Standing)
   -- a crash now leaves the new record too
   pub last : LeavesNow (λ file. StandsFor file (bodies_with old rec)) new.story
   pub bytes : HasForced old.length_told (text old.wide rec) old.story new.story
+  pub fuse : PassesFuse old.length_told (text old.wide rec) old.fuse new.fuse
 
 -- nothing is kept or told that was not before
 pub record Refused (old new : Standing) : Type 0 where
@@ -107,8 +121,8 @@ pub record Refused (old new : Standing) : Type 0 where
 -- what an answer says
 abbrev pub Forces : Standing → LogRec → Result Receipt ForceFault → Standing → Type 0
 Forces old rec (Ok r) new = Stored old rec r new
-Forces old rec (Err (force.Full size)) new = Refused old new × IsFull old.length_told old.wide rec size new.faults × (old.shut ≡ None) × (new.shut ≡ None) × (new.story ≡ old.story)
+Forces old rec (Err (force.Full size)) new = Refused old new × IsFull old.length_told old.wide rec size new.faults × (old.shut ≡ None) × (new.shut ≡ None) × (new.story ≡ old.story) × (new.fuse ≡ old.fuse)
 Forces old rec (Err (force.DiskFault n)) new =
-    Refused old new × HasRisen old.faults new.faults × (old.shut ≡ None) × (new.shut ≡ Some n) × CountsAs old.length_told n new.faults × LeavesEither old rec new
-Forces old rec (Err (force.Shut n)) new = Refused old new × IsShut old.length_told old.shut n new.faults × (new.shut ≡ Some n) × (new.story ≡ old.story)
+    Refused old new × HasRisen old.faults new.faults × (old.shut ≡ None) × (new.shut ≡ Some n) × CountsAs old.length_told n new.faults × LeavesEither old rec new × StopsAtFuse old.length_told (text old.wide rec) old.fuse new.fuse
+Forces old rec (Err (force.Shut n)) new = Refused old new × IsShut old.length_told old.shut n new.faults × (new.shut ≡ Some n) × (new.story ≡ old.story) × (new.fuse ≡ old.fuse)
 Forces old rec (Err force.NoMemory) new = new ≡ old

@@ -4,6 +4,7 @@ pub mod Told
 pub mod Read
 pub mod Start
 pub mod Started
+pub mod Stops
 pub mod Gates
 pub mod Records
 pub mod Keeping

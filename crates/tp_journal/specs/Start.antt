@@ -3,7 +3,9 @@ use Rattle.std.specs.Prelude.{◌≡◌, ◌⊎◌, ◌<◌, ◌^◌, ℕ, Optio
 use Rattle.std.proofs.Common.{inl, inr}
 use Rattle.tp_outside.specs.Faults.{HasRisen}
 use Rattle.tp_outside.specs.Story.{Story, Synced, seen}
-use Rattle.tp_journal.specs.Log.{head, blocks, StandsFor, place_behind}
+use Rattle.tp_outside.specs.MemDisk.{DiskSyncs}
+use Rattle.tp_outside.specs.FuseDisk.{Fused, Passes, OnFuse}
+use Rattle.tp_journal.specs.Log.{head, blocks, StandsInFront, StandsFor, place_behind}
 use Rattle.tp_journal.specs.Foreign.{Grammar, IsForeign}
 use Rattle.tp_journal.specs.Told.{IsOn, LeavesOnly, RestsAt}
 use Rattle.tp_journal.specs.declared.faults.StartFault.{StartFault}
@@ -35,3 +37,7 @@ abbrev pub RefusesStart : Grammar → Option Story → Option Story → ℕ → 
 RefusesStart accepts old new before after (Foreign at) = StaysSynced old new × ((s : Story) → old ≡ Some s → IsForeign accepts (seen s) at)
 RefusesStart accepts old new before after (DiskFault faults) = StaysReadable old new × (faults ≡ after) × HasRisen before after
 RefusesStart accepts old new before after NoMemory = StaysSynced old new
+
+-- over a log that stands at the front a start makes one changing call, the sync
+abbrev pub SyncsAlone : Option Story → Option Fused → Option Fused → Type 0
+SyncsAlone told old new = (s : Story) (bodies : List (List ℕ)) → told ≡ Some s → StandsInFront (seen s) bodies → OnFuse (Passes DiskSyncs) old new

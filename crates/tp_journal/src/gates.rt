@@ -3,7 +3,7 @@ ghost use Rattle.std.specs.Prelude.{◌≡◌, ◌+◌, ◌≤◌, ◌<◌, ◌+
 ghost use Rattle.tp_outside.specs.Faults.{HasRisen};
 ghost use Rattle.tp_outside.specs.Story.{Story};
 ghost use Rattle.tp_journal.specs.Log.{IsBody, head, most_bytes, StandsForEither};
-ghost use Rattle.tp_journal.specs.Start.{Starts, RefusesStart};
+ghost use Rattle.tp_journal.specs.Start.{Starts, RefusesStart, SyncsAlone};
 ghost use Rattle.tp_journal.specs.Started.{IsStarted, Appends, RefusesAppend, KeepsDisk};
 ghost use Rattle.tp_journal.specs.Gates.{any_body, face};
 ghost use Rattle.tp_journal.specs.Told.{IsOn, LeavesOnly};
@@ -84,6 +84,7 @@ impl<D: Disk> Gates<D> {
     pub fn start(alloc: Global, disk: D) -> Result<Gates<D>, (D, StartFault)>
         ensures started { IfOk result (λ gates. gates.shut ≡ None) }
         ensures bodies { IfOk result (λ gates. Starts (D.told disk) (D.told gates.disk) gates.gate gates.bodies) }
+        ensures passes { IfOk result (λ gates. SyncsAlone (D.told disk) (D.fuse disk) (D.fuse gates.disk)) }
         ensures refused { IfErr result (λ e. RefusesStart any_body (D.told disk) (D.told e.0) (D.fault_count disk) (D.fault_count e.0) e.1) }
     {
         let bodies = Bodies {

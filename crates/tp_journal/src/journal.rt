@@ -5,7 +5,7 @@ ghost use Rattle.tp_outside.specs.Faults.{HasRisen};
 ghost use Rattle.tp_outside.specs.Story.{Story};
 ghost use Rattle.tp_journal.specs.Log.{most_bytes, StandsForEither};
 ghost use Rattle.tp_journal.specs.Told.{IsOn, LeavesOnly};
-ghost use Rattle.tp_journal.specs.Start.{Starts, RefusesStart};
+ghost use Rattle.tp_journal.specs.Start.{Starts, RefusesStart, SyncsAlone};
 ghost use Rattle.tp_journal.specs.Started.{IsStarted, KeepsDisk, KeepsDiskInReplace};
 ghost use Rattle.tp_logrec.specs.Order.{all_follow, brief};
 ghost use Rattle.tp_journal.specs.Records.{HasText, bodies_of, log_bytes, record_body};
@@ -58,6 +58,7 @@ impl<D: Disk> Journal<D> {
     pub fn start(alloc: Global, disk: D) -> Result<Journal<D>, (D, StartFault)>
         ensures started { IfOk result (λ j. Starts (D.told disk) (D.told j.disk) j.gate (bodies_in j) × (j.shut ≡ None)) }
         ensures texts { IfOk result (λ j. AllByRecursion (HasText j.wide) j.list) }
+        ensures passes { IfOk result (λ j. SyncsAlone (D.told disk) (D.fuse disk) (D.fuse j.disk)) }
         ensures refused { IfErr result (λ e. RefusesStart record_body (D.told disk) (D.told e.0) (D.fault_count disk) (D.fault_count e.0) e.1) }
     {
         let log = Log::start(alloc, disk, Records::new(alloc))?;
@@ -69,7 +70,7 @@ impl<D: Disk> Journal<D> {
     /// `MOST_BYTES` up to its closing gate, `Full` says how many, and nothing changes.
     pub fn force(&mut self, alloc: Global, rec: &LogRec) -> Result<Receipt, ForceFault>
         requires { HasText self.old.wide rec.now }
-        ensures forces { Forces (standing_of self.old (D.fault_count self.old.disk) (D.told self.old.disk)) rec.now result (standing_of self.new (D.fault_count self.new.disk) (D.told self.new.disk)) }
+        ensures forces { Forces (standing_of self.old (D.fault_count self.old.disk) (D.told self.old.disk) (D.fuse self.old.disk)) rec.now result (standing_of self.new (D.fault_count self.new.disk) (D.told self.new.disk) (D.fuse self.new.disk)) }
         ensures order { IfErr result (ComesInOrder self.old rec.now) }
         ensures untouched { IfErr result (KeepsDisk self.old.disk self.new.disk) }
     {
@@ -184,7 +185,7 @@ impl<D: Disk> Journal<D> {
 impl<D: Disk> Keeper for Journal<D> {
     ghost use Rattle.tp_journal.specs.Journals.{standing_of};
 
-    ghost standing = { λ j. standing_of j (D.fault_count j.disk) (D.told j.disk) };
+    ghost standing = { λ j. standing_of j (D.fault_count j.disk) (D.told j.disk) (D.fuse j.disk) };
 
     fn force(&mut self, alloc: Global, rec: &LogRec) -> Result<Receipt, ForceFault> {
         Journal::force(self, alloc, rec)

@@ -3,8 +3,10 @@
 ghost use Rattle.std.specs.Prelude.{◌≡◌, ◌≤◌, ◌<◌, ◌^◌, ◌+◌, ◌-◌, ◌++◌, ◌∷◌, [], ℕ, List, length, drop, Some, None, true, IfOk, IfErr, OnOk};
 ghost use Rattle.tp_outside.specs.Story.{Story};
 ghost use Rattle.tp_journal.specs.Log.{IsBody, counted, head, StandsForEither, forced_bytes};
-ghost use Rattle.tp_journal.specs.Start.{Starts, RefusesStart};
+ghost use Rattle.tp_journal.specs.Start.{Starts, RefusesStart, SyncsAlone};
 ghost use Rattle.tp_journal.specs.Started.{IsStarted, Appends, RefusesAppend, Replaces, RefusesReplace, KeepsDisk, KeepsDiskInReplace};
+ghost use Rattle.tp_outside.specs.FuseDisk.{OnFuse};
+ghost use Rattle.tp_journal.specs.Stops.{body_piece, Opens, StopsForcing};
 ghost use Rattle.tp_journal.specs.Told.{IsOn, LeavesOnly, IsTextOf};
 
 use crate::opening::open;
@@ -65,6 +67,8 @@ impl<D: Disk, S: Shelf + Drop> Log<D, S> {
             → LeavesOnly (StandsForEither (S.bodies self.old.shelf) (S.bodies self.old.shelf ++ body.now ∷ [])) (D.told self.old.disk) (D.told self.new.disk) }
         ensures untold { D.told self.old.disk ≡ None → D.told self.new.disk ≡ None }
         ensures started { OnOk result (IsStarted (D.told self.new.disk) self.new.gate (S.bodies self.new.shelf) self.new.shut) }
+        ensures passes { OnOk result (OnFuse (Opens self.old.gate (body_piece body.now)) (D.fuse self.old.disk) (D.fuse self.new.disk)) }
+        ensures stops { IfErr result (StopsForcing self.old.gate body.now (D.fuse self.old.disk) (D.fuse self.new.disk)) }
         ensures bytes { OnOk result ((file : List ℕ) → IsOn (D.told self.old.disk) file → IsOn (D.told self.new.disk) (forced_bytes self.old.gate body.now file)) }
     {
         if let Some(faults) = self.shut {
@@ -132,6 +136,7 @@ impl<D: Disk, S: Shelf + Drop> Log<D, S> {
     pub fn start(alloc: Global, disk: D, shelf: S) -> Result<Log<D, S>, (D, StartFault)>
         requires { S.bodies shelf ≡ [] }
         ensures started { IfOk result (λ log. Starts (D.told disk) (D.told log.disk) log.gate (S.bodies log.shelf) × (log.shut ≡ None)) }
+        ensures passes { IfOk result (λ log. SyncsAlone (D.told disk) (D.fuse disk) (D.fuse log.disk)) }
         ensures refused { IfErr result (λ e. RefusesStart S.accepts (D.told disk) (D.told e.0) (D.fault_count disk) (D.fault_count e.0) e.1) }
     {
         let mut disk = disk;

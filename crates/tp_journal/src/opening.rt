@@ -1,7 +1,7 @@
 //! The start of a log: what is on the disk is read, and a change of generation that was cut short is ended.
-ghost use Rattle.std.specs.Prelude.{◌≡◌, ◌≤◌, ◌<◌, ◌^◌, [], ℕ, List, length, Some, IfOk, IfErr};
+ghost use Rattle.std.specs.Prelude.{◌≡◌, ◌≤◌, ◌<◌, ◌^◌, [], ℕ, List, length, Some, IfOk, IfErr, OnOk};
 ghost use Rattle.tp_outside.specs.Story.{Story, seen};
-ghost use Rattle.tp_journal.specs.Start.{Starts, RefusesStart};
+ghost use Rattle.tp_journal.specs.Start.{Starts, RefusesStart, SyncsAlone};
 ghost use Rattle.tp_journal.specs.Read.{RefusesRead};
 
 use crate::read::{Reading, read_log};
@@ -18,6 +18,7 @@ fn read_all<D: Disk>(alloc: Global, disk: &mut D) -> Result<Vec<u8>, StartFault>
     ensures bytes { IfOk result (λ file. (s : Story) → D.told disk.old ≡ Some s → file.items ≡ seen s) }
     ensures few { IfOk result (λ file. length file.items ≤ 2 ^ 62) }
     ensures same { D.told disk.new ≡ D.told disk.old }
+    ensures passes { OnOk result (D.fuse disk.new ≡ D.fuse disk.old) }
     ensures kept { D.fault_count disk.old ≤ D.fault_count disk.new }
     ensures refused { IfErr result (RefusesRead (D.fault_count disk.old) (D.fault_count disk.new)) }
 {
@@ -50,6 +51,7 @@ pub fn open<D: Disk, S: Shelf>(
     requires { S.bodies shelf.old ≡ [] }
     ensures started { IfOk result (λ gate. Starts (D.told disk.old) (D.told disk.new) gate (S.bodies shelf.new)) }
     ensures refused { IfErr result (RefusesStart S.accepts (D.told disk.old) (D.told disk.new) (D.fault_count disk.old) (D.fault_count disk.new)) }
+    ensures passes { OnOk result (SyncsAlone (D.told disk.old) (D.fuse disk.old) (D.fuse disk.new)) }
     ensures kept { D.fault_count disk.old ≤ D.fault_count disk.new }
 {
     let Ok(()) = disk.sync() else {

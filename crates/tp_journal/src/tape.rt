@@ -1,9 +1,11 @@
 //! The moves on the bytes of a log, each a few calls of the disk. It keeps nothing: where the closing gate stands, and
 //! which bodies stand before it, its callers know.
-ghost use Rattle.std.specs.Prelude.{◌≡◌, ◌+◌, ◌-◌, ◌≤◌, ◌<◌, ◌^◌, ◌++◌, ◌∷◌, [], ℕ, List, length, take, drop, Some, None, OnOk, OnErr};
+ghost use Rattle.std.specs.Prelude.{◌≡◌, ◌+◌, ◌-◌, ◌≤◌, ◌<◌, ◌^◌, ◌++◌, ◌∷◌, [], ℕ, List, length, drop, Some, None, OnOk, OnErr};
 ghost use Rattle.tp_outside.specs.Faults.{HasRisen};
 ghost use Rattle.tp_outside.specs.Story.{Story, Torn, Clipped};
 ghost use Rattle.tp_journal.specs.Log.{IsBody, counted, head, StandsBehind, StandsFor, StandsForEither};
+ghost use Rattle.tp_outside.specs.FuseDisk.{OnFuse};
+ghost use Rattle.tp_journal.specs.Stops.{Stores, StopsStoring, with_gate, Opens, StopsOpening};
 ghost use Rattle.tp_journal.specs.Told.{IsOn, LeavesOnly, HasStored, HasResized, RestsAt, IsTextOf, IsStaged};
 
 use tp_outside::{Disk, Failed};
@@ -13,6 +15,8 @@ fn store<D: Disk>(disk: &mut D, at: u64, piece: &[u8]) -> Result<(), Failed>
     ensures moments { (file : List ℕ) → IsOn (D.told disk.old) file → LeavesOnly (Torn at (length piece.now) file) (D.told disk.old) (D.told disk.new) }
     ensures stored { OnOk result ((file : List ℕ) → IsOn (D.told disk.old) file → HasStored at piece.now file (D.told disk.new)) }
     ensures untold { D.told disk.old ≡ None → D.told disk.new ≡ None }
+    ensures passes { OnOk result (OnFuse (Stores at piece.now) (D.fuse disk.old) (D.fuse disk.new)) }
+    ensures stops { OnErr result (OnFuse (StopsStoring at piece.now) (D.fuse disk.old) (D.fuse disk.new)) }
     ensures kept { D.fault_count disk.old ≤ D.fault_count disk.new }
     ensures risen { OnErr result (HasRisen (D.fault_count disk.old) (D.fault_count disk.new)) }
 {
@@ -43,8 +47,10 @@ pub fn append<D: Disk>(disk: &mut D, gate: u64, piece: &[u8]) -> Result<(), Fail
     ensures rests { OnOk result ((bodies : List (List ℕ)) (body : List ℕ) → RestsAt (D.told disk.old) gate bodies → IsBody body → piece.now ≡ counted body ++ 0 ∷ []
         → RestsAt (D.told disk.new) (gate + length piece.now) (bodies ++ body ∷ [])) }
     ensures bytes { OnOk result ((file : List ℕ) → IsOn (D.told disk.old) file → gate < length file
-        → IsOn (D.told disk.new) (take gate file ++ (1 ∷ (piece.now ++ drop (gate + 1 + length piece.now) file)))) }
+        → IsOn (D.told disk.new) (with_gate gate piece.now file)) }
     ensures untold { D.told disk.old ≡ None → D.told disk.new ≡ None }
+    ensures passes { OnOk result (OnFuse (Opens gate piece.now) (D.fuse disk.old) (D.fuse disk.new)) }
+    ensures stops { OnErr result (OnFuse (StopsOpening gate piece.now) (D.fuse disk.old) (D.fuse disk.new)) }
     ensures kept { D.fault_count disk.old ≤ D.fault_count disk.new }
     ensures risen { OnErr result (HasRisen (D.fault_count disk.old) (D.fault_count disk.new)) }
 {

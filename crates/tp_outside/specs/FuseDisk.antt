@@ -1,6 +1,8 @@
 -- A disk that stops at one of its changing calls, as its callers see it, and what its changing calls do.
-use Rattle.std.specs.Prelude.{◌≡◌, ◌⊎◌, ◌+◌, ◌-◌, ◌^◌, ◌==◌, ℕ, min, Bool, true, false}
-use Rattle.tp_outside.specs.Faults.{one_more}
+use Rattle.std.specs.Prelude.{◌≡◌, ◌⊎◌, ◌+◌, ◌-◌, ◌^◌, ◌==◌, ◌≤◌, ◌<◌, ℕ, min, Bool, true, false, Option, Some, None, List, []}
+use Rattle.tp_outside.specs.Faults.{one_more, HasRisen}
+use Rattle.tp_outside.specs.Fill.{filled}
+use Rattle.tp_outside.specs.Story.{seen, IsSettled}
 use Rattle.tp_outside.specs.MemDisk.{Recorded, recorded}
 use Rattle.tp_outside.specs.declared.mem_disk.Attempt.{Attempt}
 use Rattle.tp_outside.specs.declared.mem_disk.Attempt.TheVariants.{Done, Failed, Starved}
@@ -76,3 +78,43 @@ FuseFails effect left old new = IsRefused old new ⊎ (StopsIn left old new ⊎ 
 -- a write and a cut are made also in the call to stop in
 abbrev pub IsMade : (Recorded → Attempt → Recorded → Type 0) → Recorded → Recorded → Type 0
 IsMade effect old new = effect old Done new ⊎ effect old Failed new
+
+-- ---- a disk that may have a fuse, as who knows no more of it than the trait sees it: it goes on having one, or none
+
+-- where there is one, this holds of it before and after
+abbrev pub OnFuse : (Fused → Fused → Type 0) → Option Fused → Option Fused → Type 0
+OnFuse R None new = new ≡ None
+OnFuse R (Some f) None = ⊥
+OnFuse R (Some f) (Some g) = R f g
+
+-- ---- a run of changing calls, over a fuse that has not stopped and a disk below that fails at no listed call
+
+-- before and after it all of this file is on the disk
+pub record IsReady (f : Fused) (file : List ℕ) : Type 0 where
+  pub running : f.stopped ≡ false
+  pub sound : f.disk.fails ≡ []
+  pub settled : IsSettled f.disk.story
+  pub sees : seen f.disk.story ≡ file
+
+-- so many calls were done, and the one to stop in was none of them
+pub record GoesOn (n : ℕ) (f g : Fused) (file : List ℕ) : Type 0 where
+  pub ready : IsReady g file
+  pub last : g.last ≡ f.last
+  pub fill : g.fill ≡ f.fill
+  pub calls : g.calls ≡ f.calls + n
+  pub starved : g.disk.starved ≡ f.disk.starved
+  pub passed : (f.last ≤ f.calls) ⊎ (f.calls + n < f.last)
+
+-- it stopped, in one of the calls after the first so many and up to so many, and a crash that leaves the fill in each range
+-- that was written since the last sync leaves this image
+pub record StopsAfter (low high : ℕ) (f g : Fused) (left : List ℕ) : Type 0 where
+  pub stopped : g.stopped ≡ true
+  pub from : f.calls + low < f.last
+  pub to : f.last ≤ f.calls + high
+  pub fill : g.fill ≡ f.fill
+  pub image : filled g.fill g.disk.story ≡ left
+
+-- it has not stopped: there was no memory for a call
+pub record Starves (f g : Fused) : Type 0 where
+  pub running : g.stopped ≡ false
+  pub starved : HasRisen f.disk.starved g.disk.starved

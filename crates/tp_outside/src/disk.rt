@@ -7,9 +7,14 @@ pub trait Disk {
     ghost use Rattle.tp_outside.specs.Faults.{HasRisen};
     ghost use Rattle.tp_outside.specs.Story.{Story};
     ghost use Rattle.tp_outside.specs.Disk.{HasLength, Reads, Writes, MayWrite, Resizes, MayResize, Syncs};
+    ghost use Rattle.tp_outside.specs.MemDisk.{DiskWrites, DiskCuts, DiskSyncs};
+    ghost use Rattle.tp_outside.specs.FuseDisk.{Fused, Passes, FuseFails, IsMade, OnFuse};
 
     /// What it has been through, where it tells that: what reads give, and what a crash would have left at each moment.
     ghost told: { Self → Option Story };
+
+    /// The fuse that stops it at one of its changing calls, where it has one and tells it.
+    ghost fuse: { Self → Option Fused };
 
     /// How many calls have failed, up to the greatest `u64`.
     ghost fault_count: { Self → ℕ };
@@ -17,6 +22,7 @@ pub trait Disk {
     fn len(&mut self) -> Result<u64, Failed>
         ensures len { IfOk result (HasLength (told self.old)) }
         ensures same { told self.new ≡ told self.old }
+        ensures passes { OnOk result (fuse self.new ≡ fuse self.old) }
         ensures kept { fault_count self.old ≤ fault_count self.new }
         ensures risen { OnErr result (HasRisen (fault_count self.old) (fault_count self.new)) };
 
@@ -26,6 +32,7 @@ pub trait Disk {
         ensures bytes { IfOk result (Reads at (told self.old) buf.new) }
         ensures rest { IfOk result (λ n. drop n buf.new ≡ drop n buf.old) }
         ensures same { told self.new ≡ told self.old }
+        ensures passes { OnOk result (fuse self.new ≡ fuse self.old) }
         ensures kept { fault_count self.old ≤ fault_count self.new }
         ensures risen { OnErr result (HasRisen (fault_count self.old) (fault_count self.new)) };
 
@@ -33,6 +40,8 @@ pub trait Disk {
     fn write_at(&mut self, at: u64, piece: &[u8]) -> Result<(), Failed>
         ensures written { OnOk result (Writes at piece.now (told self.old) (told self.new)) }
         ensures torn { OnErr result (MayWrite at (length piece.now) (told self.old) (told self.new)) }
+        ensures passes { OnOk result (OnFuse (Passes (DiskWrites at piece.now)) (fuse self.old) (fuse self.new)) }
+        ensures stops { OnErr result (OnFuse (FuseFails (DiskWrites at piece.now) (IsMade (DiskWrites at piece.now))) (fuse self.old) (fuse self.new)) }
         ensures kept { fault_count self.old ≤ fault_count self.new }
         ensures risen { OnErr result (HasRisen (fault_count self.old) (fault_count self.new)) };
 
@@ -40,6 +49,8 @@ pub trait Disk {
     fn cut(&mut self, len: u64) -> Result<(), Failed>
         ensures resized { OnOk result (Resizes len (told self.old) (told self.new)) }
         ensures torn { OnErr result (MayResize len (told self.old) (told self.new)) }
+        ensures passes { OnOk result (OnFuse (Passes (DiskCuts len)) (fuse self.old) (fuse self.new)) }
+        ensures stops { OnErr result (OnFuse (FuseFails (DiskCuts len) (IsMade (DiskCuts len))) (fuse self.old) (fuse self.new)) }
         ensures kept { fault_count self.old ≤ fault_count self.new }
         ensures risen { OnErr result (HasRisen (fault_count self.old) (fault_count self.new)) };
 
@@ -47,6 +58,8 @@ pub trait Disk {
     fn sync(&mut self) -> Result<(), Failed>
         ensures synced { OnOk result (Syncs (told self.old) (told self.new)) }
         ensures same { OnErr result (told self.new ≡ told self.old) }
+        ensures passes { OnOk result (OnFuse (Passes DiskSyncs) (fuse self.old) (fuse self.new)) }
+        ensures stops { OnErr result (OnFuse (FuseFails DiskSyncs (λ old new. new ≡ old)) (fuse self.old) (fuse self.new)) }
         ensures kept { fault_count self.old ≤ fault_count self.new }
         ensures risen { OnErr result (HasRisen (fault_count self.old) (fault_count self.new)) };
 

@@ -76,6 +76,8 @@ impl<R: Files<File = File>> Disk for FileDisk<'_, R> {
 
     ghost told = { λ _. None };
 
+    ghost fuse = { λ _. None };
+
     ghost fault_count = { λ f. f.faults };
 
     fn len(&mut self) -> Result<u64, Failed> {

@@ -133,9 +133,11 @@ impl FuseDisk {
 }
 
 impl Disk for FuseDisk {
-    ghost use Rattle.tp_outside.specs.FuseDisk.{fused, refuse, fault_count_of, Passes, FuseFails, IsMade};
+    ghost use Rattle.tp_outside.specs.FuseDisk.{fused, refuse, fault_count_of, Passes, FuseFails, IsMade, OnFuse};
 
     ghost told = { λ f. Some (fused f).disk.story };
+
+    ghost fuse = { λ f. Some (fused f) };
 
     ghost fault_count = { λ f. fault_count_of (fused f) };
 
@@ -145,7 +147,8 @@ impl Disk for FuseDisk {
         ensures kept { fault_count_of (fused self.old) ≤ fault_count_of (fused self.new) }
         ensures risen { OnErr result (HasRisen (fault_count_of (fused self.old)) (fault_count_of (fused self.new))) }
 
-        ensures passes { OnOk result (((fused self.old).stopped ≡ false) × (fused self.new ≡ fused self.old)) }
+        ensures passes { OnOk result (Some (fused self.new) ≡ Some (fused self.old)) }
+        ensures running { OnOk result ((fused self.old).stopped ≡ false) }
         ensures refused { OnErr result (((fused self.old).stopped ≡ true) × (fused self.new ≡ refuse (fused self.old))) }
     {
         if self.stopped {
@@ -162,7 +165,8 @@ impl Disk for FuseDisk {
         ensures kept { fault_count_of (fused self.old) ≤ fault_count_of (fused self.new) }
         ensures risen { OnErr result (HasRisen (fault_count_of (fused self.old)) (fault_count_of (fused self.new))) }
 
-        ensures passes { OnOk result (((fused self.old).stopped ≡ false) × (fused self.new ≡ fused self.old)) }
+        ensures passes { OnOk result (Some (fused self.new) ≡ Some (fused self.old)) }
+        ensures running { OnOk result ((fused self.old).stopped ≡ false) }
         ensures refused { OnErr result (((fused self.old).stopped ≡ true) × (fused self.new ≡ refuse (fused self.old))) }
     {
         if self.stopped {
@@ -177,8 +181,8 @@ impl Disk for FuseDisk {
         ensures kept { fault_count_of (fused self.old) ≤ fault_count_of (fused self.new) }
         ensures risen { OnErr result (HasRisen (fault_count_of (fused self.old)) (fault_count_of (fused self.new))) }
 
-        ensures done { OnOk result (Passes (DiskWrites at piece.now) (fused self.old) (fused self.new)) }
-        ensures failed { OnErr result (FuseFails (DiskWrites at piece.now) (IsMade (DiskWrites at piece.now)) (fused self.old) (fused self.new)) }
+        ensures passes { OnOk result (OnFuse (Passes (DiskWrites at piece.now)) (Some (fused self.old)) (Some (fused self.new))) }
+        ensures stops { OnErr result (OnFuse (FuseFails (DiskWrites at piece.now) (IsMade (DiskWrites at piece.now))) (Some (fused self.old)) (Some (fused self.new))) }
     {
         if self.stopped {
             return Err(self.refuse());
@@ -202,8 +206,8 @@ impl Disk for FuseDisk {
         ensures kept { fault_count_of (fused self.old) ≤ fault_count_of (fused self.new) }
         ensures risen { OnErr result (HasRisen (fault_count_of (fused self.old)) (fault_count_of (fused self.new))) }
 
-        ensures done { OnOk result (Passes (DiskCuts len) (fused self.old) (fused self.new)) }
-        ensures failed { OnErr result (FuseFails (DiskCuts len) (IsMade (DiskCuts len)) (fused self.old) (fused self.new)) }
+        ensures passes { OnOk result (OnFuse (Passes (DiskCuts len)) (Some (fused self.old)) (Some (fused self.new))) }
+        ensures stops { OnErr result (OnFuse (FuseFails (DiskCuts len) (IsMade (DiskCuts len))) (Some (fused self.old)) (Some (fused self.new))) }
     {
         if self.stopped {
             return Err(self.refuse());
@@ -227,8 +231,8 @@ impl Disk for FuseDisk {
         ensures kept { fault_count_of (fused self.old) ≤ fault_count_of (fused self.new) }
         ensures risen { OnErr result (HasRisen (fault_count_of (fused self.old)) (fault_count_of (fused self.new))) }
 
-        ensures done { OnOk result (Passes DiskSyncs (fused self.old) (fused self.new)) }
-        ensures failed { OnErr result (FuseFails DiskSyncs (λ old new. new ≡ old) (fused self.old) (fused self.new)) }
+        ensures passes { OnOk result (OnFuse (Passes DiskSyncs) (Some (fused self.old)) (Some (fused self.new))) }
+        ensures stops { OnErr result (OnFuse (FuseFails DiskSyncs (λ old new. new ≡ old)) (Some (fused self.old)) (Some (fused self.new))) }
     {
         if self.stopped {
             return Err(self.refuse());

@@ -176,9 +176,12 @@ fn told(came: Attempt) -> Result<(), Failed>
 }
 
 impl Disk for MemDisk {
+    ghost use Rattle.std.specs.Prelude.{None};
     ghost use Rattle.tp_outside.specs.MemDisk.{recorded, DiskWrites, DiskCuts, DiskSyncs};
 
     ghost told = { λ m. Some (recorded m).story };
+
+    ghost fuse = { λ _. None };
 
     ghost fault_count = { λ m. (recorded m).faults };
 

@@ -4,6 +4,7 @@ use Rattle.std.proofs.Math.Seq.{take-length}
 use Rattle.std.proofs.lemmas.List.{take-append-le}
 use Rattle.tp_outside.specs.Faults.{HasRisen}
 use Rattle.tp_outside.specs.Story.{Story}
+use Rattle.tp_outside.specs.FuseDisk.{Fused}
 use Rattle.tp_logrec.specs.declared.record.LogRec.{LogRec}
 use Rattle.tp_journal.specs.Journals.{Kept, standing_of}
 use Rattle.tp_journal.specs.Keeping.{Stored, Refused}
@@ -45,8 +46,9 @@ room_on gate gate_now (Some unfit) le room = (room.0, omega (arith, room.1))
 same_value : (n m : ℕ) → Some n ≡ Some m → n ≡ m
 same_value n m same = ap (λ o. elim o as (λ _. ℕ) [ None ↦ 0 | Some k ↦ k ]) same
 
-pub same_refused : {D : Type 0} (old new : Kept D) (n m : ℕ) (told told_now : Option Story) → standing_of new m told_now ≡ standing_of old n told → Refused (standing_of old n told) (standing_of new m told_now)
-same_refused old new n m told told_now same = record {
+pub same_refused : {D : Type 0} (old new : Kept D) (n m : ℕ) (told told_now : Option Story) (fuse fuse_now : Option Fused) → standing_of new m told_now fuse_now ≡ standing_of old n told fuse
+    → Refused (standing_of old n told fuse) (standing_of new m told_now fuse_now)
+same_refused old new n m told told_now fuse fuse_now same = record {
   kept = ap (λ s. s.kept) same;
   told = ap (λ s. s.told) same;
   length_told = ap (λ s. s.length_told) same;
@@ -65,9 +67,9 @@ first_room : (unfit : Option Unfit) (size body gate : ℕ) → most_bytes < size
 first_room None size body gate long fits room = (long, fits)
 first_room (Some u) size body gate long fits room = room
 
-module _ {D : Type 0} (before : Before) (old new : Kept D) (n m : ℕ) (told told_now : Option Story) (forced stakes : ℕ) (unfit : Option Unfit) (kept : IsKept before old n told forced stakes unfit)
+module _ {D : Type 0} (before : Before) (old new : Kept D) (n m : ℕ) (told told_now : Option Story) (fuse fuse_now : Option Fused) (forced stakes : ℕ) (unfit : Option Unfit) (kept : IsKept before old n told forced stakes unfit)
     (images : StillTells before.story (length before.stood) new.wide new.list new.shut told_now) where
-  pub kept_stored : (rec : LogRec) (r : Receipt) → Stored (standing_of old n told) rec r (standing_of new m told_now) → IsKept before new m told_now (forced + 1) stakes unfit
+  pub kept_stored : (rec : LogRec) (r : Receipt) → Stored (standing_of old n told fuse) rec r (standing_of new m told_now fuse_now) → IsKept before new m told_now (forced + 1) stakes unfit
   kept_stored rec r stored =
       let shut : new.shut ≡ old.shut = stored.open_after ∙ sym stored.open_before in
       let gate : new.gate + 1 ≡ old.gate + 1 + 3 + length (text old.wide rec) = same_value _ _ stored.length_told in
@@ -82,7 +84,7 @@ module _ {D : Type 0} (before : Before) (old new : Kept D) (n m : ℕ) (told tol
       }
 
   -- a refusal, which leaves the list: without a stake, or with one
-  module _ (refused : Refused (standing_of old n told) (standing_of new m told_now)) where
+  module _ (refused : Refused (standing_of old n told fuse) (standing_of new m told_now fuse_now)) where
     gate_stays : new.gate ≡ old.gate
     gate_stays = omega (arith, same_value (new.gate + 1) (old.gate + 1) refused.length_told)
 

@@ -1,6 +1,7 @@
 -- A disk under the lock goes on telling its story, and what that says of a crash.
 use Rattle.std.proofs.Common.{◌≡◌, ◌≤◌, inl, inr, ℕ, Bool, Option, Some, None, Result, Ok, Err, IfErr, List, [], ◌∷◌, ◌++◌, length, sym, ap, ◌∙◌, subst, arith}
 use Rattle.tp_outside.specs.Story.{Story, Leaves as LeavesNow}
+use Rattle.tp_outside.specs.FuseDisk.{Fused}
 use Rattle.tp_outside.proofs.Stories.{started}
 use Rattle.tp_logrec.specs.declared.record.LogRec.{LogRec}
 use Rattle.tp_journal.specs.declared.faults.ForceFault.{ForceFault}
@@ -20,7 +21,7 @@ use Rattle.tp_shared_log.proofs.Placed.{placed_same, placed_more}
 
 -- ---- one force
 
-module _ {D : Type 0} (told : D → Option Story) (least : ℕ) (old new : Kept D) (n m : ℕ) (rec : LogRec) where
+module _ {D : Type 0} (told : D → Option Story) (fuse : D → Option Fused) (least : ℕ) (old new : Kept D) (n m : ℕ) (rec : LogRec) where
   abbrev Tells : Option Story → Kept D → Type 0
   Tells first j = StillTells first least j.wide j.list j.shut (told j.disk)
 
@@ -29,7 +30,7 @@ module _ {D : Type 0} (told : D → Option Story) (least : ℕ) (old new : Kept 
   Moments = Either old.wide old.list rec (told old.disk) (told new.disk)
 
   -- nothing has changed but the count of faults
-  unmoved : (first : Option Story) → Tells first old → Refused (standing_of old n (told old.disk)) (standing_of new m (told new.disk)) → new.disk ≡ old.disk → new.shut ≡ old.shut → Tells first new
+  unmoved : (first : Option Story) → Tells first old → Refused (standing_of old n (told old.disk) (fuse old.disk)) (standing_of new m (told new.disk) (fuse new.disk)) → new.disk ≡ old.disk → new.shut ≡ old.shut → Tells first new
   unmoved first tells refused disk shut =
       let list : new.list ≡ old.list = placed_same new.wide old.wide new.list old.list refused.kept in
       subst (λ d. StillTells first least new.wide new.list new.shut (told d)) (sym disk)
@@ -61,7 +62,7 @@ module _ {D : Type 0} (told : D → Option Story) (least : ℕ) (old new : Kept 
         (subst (λ l. LeavesOnly (StandsForFirst least new.wide l) (Some s) (told new.disk)) (sym list)
         (subst (λ w. LeavesOnly (StandsForFirst least w (old.list ++ rec ∷ [])) (Some s) (told new.disk)) (sym wide) on))
 
-    failed : (first : Option Story) (faults : ℕ) → Tells first old → Refused (standing_of old n (told old.disk)) (standing_of new m (told new.disk)) → old.shut ≡ None → new.shut ≡ Some faults → Tells first new
+    failed : (first : Option Story) (faults : ℕ) → Tells first old → Refused (standing_of old n (told old.disk) (fuse old.disk)) (standing_of new m (told new.disk) (fuse new.disk)) → old.shut ≡ None → new.shut ≡ Some faults → Tells first new
     failed None faults tells refused open_before shut = tt
     failed (Some s) faults tells refused open_before shut =
         let list : new.list ≡ old.list = placed_same new.wide old.wide new.list old.list refused.kept in
@@ -71,16 +72,16 @@ module _ {D : Type 0} (told : D → Option Story) (least : ℕ) (old new : Kept 
         (subst (λ w. Leaves (Some s) least w old.list (Some faults) (told new.disk)) (sym refused.wide) left))
 
   -- the journal says it of the records that it tells
-  of_list : LeavesEither (standing_of old n (told old.disk)) rec (standing_of new m (told new.disk)) → Moments
+  of_list : LeavesEither (standing_of old n (told old.disk) (fuse old.disk)) rec (standing_of new m (told new.disk) (fuse new.disk)) → Moments
   of_list leaves = either_list old.wide old.list rec (told old.disk) (told new.disk) leaves
 
   -- what a force leaves, whatever it answers
-  pub forced_tells : least ≤ length old.list → (first : Option Story) (result : Result Receipt ForceFault) → Tells first old → Forces (standing_of old n (told old.disk)) rec result (standing_of new m (told new.disk)) → IfErr result (KeepsDisk old.disk new.disk) → Tells first new
+  pub forced_tells : least ≤ length old.list → (first : Option Story) (result : Result Receipt ForceFault) → Tells first old → Forces (standing_of old n (told old.disk) (fuse old.disk)) rec result (standing_of new m (told new.disk) (fuse new.disk)) → IfErr result (KeepsDisk old.disk new.disk) → Tells first new
   forced_tells few first (Ok r) tells forces keeps = forced few (of_list forces.moments) first r tells forces.same forces.kept forces.wide forces.open_before forces.open_after
   forced_tells few first (Err (ForceFault.Full size)) tells forces keeps = unmoved first tells forces.0 keeps (forces.3 ∙ sym forces.2)
   forced_tells few first (Err (ForceFault.DiskFault faults)) tells forces keeps = failed few (of_list forces.5) first faults tells forces.0 forces.2 forces.3
   forced_tells few first (Err (ForceFault.Shut faults)) tells forces keeps = unmoved first tells forces.0 keeps (forces.2 ∙ sym forces.1)
-  forced_tells few first (Err ForceFault.NoMemory) tells forces keeps = unmoved first tells (same_refused old new n m (told old.disk) (told new.disk) forces) keeps (ap (λ s. s.shut) forces)
+  forced_tells few first (Err ForceFault.NoMemory) tells forces keeps = unmoved first tells (same_refused old new n m (told old.disk) (told new.disk) (fuse old.disk) (fuse new.disk) forces) keeps (ap (λ s. s.shut) forces)
 
 -- ---- the first moment and the last
 

@@ -39,6 +39,7 @@ share_standing stood wide s = record {
   shut = shut_of s.spent;
   faults = faults_of s.spent;
   story = None;
+  fuse = None;
   wide = wide;
   lasting = s.parts ∷ s.stake_parts ∷ [];
 }

@@ -1,5 +1,7 @@
 use Rattle.std.proofs.Common.{◌≡◌, ℕ, List, None, Err, rules, ◌++◌, [], ◌∷◌, sym, ap, ◌∙◌, subst}
 use Rattle.tp_journal.specs.Log.{IsBody, StandsForEither, forced_bytes}
+use Rattle.tp_outside.specs.FuseDisk.{OnFuse}
+use Rattle.tp_journal.specs.Stops.{body_piece, Opens, StopsForcing}
 use Rattle.tp_journal.specs.Told.{IsOn, LeavesOnly}
 use Rattle.tp_journal.specs.Started.{Appends, RefusesAppend}
 use Rattle.tp_journal.specs.Records.{HasText, text, wide_of, AreRecords}
@@ -35,6 +37,7 @@ returns-in_err-place-clause-forces g c =
     let rec = c.args.rec.now in
     let faults = g.D.Disk.fault_count in
     let told = g.D.Disk.told in
+    let fuse = g.D.Disk.fuse in
     let new = c.append.new.self in
     let fault = c.in_err-place.field-0.0 in
     let has : HasText (wide_of log.shelf) rec = subst (λ (v : Kept _). HasText v.wide rec) (sym c.self.view_is) c.requires in
@@ -45,9 +48,10 @@ returns-in_err-place-clause-forces g c =
     (told_on (StandsForEither log.shelf (log.shelf ++ c.as_slice.result.now ∷ [])) (told log.disk) (told new.disk) c.append.ensures.untold (c.append.ensures.moments open_now)) in
     let refuses : RefusesAppend (face_of log (faults log.disk)) (text (wide_of log.shelf) rec) (face_of new (faults new.disk)) fault =
     subst (λ b. RefusesAppend (face_of log (faults log.disk)) b (face_of new (faults new.disk)) fault) body c.in_err-place.ensures.refused in
-    let answer : Forces (standing_of c.args.self.now (faults c.args.self.now.disk) (told c.args.self.now.disk)) rec (Err fault) (standing_of (kept_of new) (faults new.disk) (told new.disk)) =
-    subst (λ (v : Kept _). Forces (standing_of v (faults v.disk) (told v.disk)) rec (Err fault) (standing_of (kept_of new) (faults new.disk) (told new.disk))) c.self.view_is
-    (refused faults told log new rec c.self.invariant has leaves fault refuses c.in_err-place.ensures.untouched) in
+    let stops : StopsForcing log.gate (text (wide_of log.shelf) rec) (fuse log.disk) (fuse new.disk) fault = subst (λ b. StopsForcing log.gate b (fuse log.disk) (fuse new.disk) fault) body c.in_err-place.ensures.stops in
+    let answer : Forces (standing_of c.args.self.now (faults c.args.self.now.disk) (told c.args.self.now.disk) (fuse c.args.self.now.disk)) rec (Err fault) (standing_of (kept_of new) (faults new.disk) (told new.disk) (fuse new.disk)) =
+    subst (λ (v : Kept _). Forces (standing_of v (faults v.disk) (told v.disk) (fuse v.disk)) rec (Err fault) (standing_of (kept_of new) (faults new.disk) (told new.disk) (fuse new.disk))) c.self.view_is
+    (refused faults told fuse log new rec c.self.invariant has leaves fault refuses c.in_err-place.ensures.untouched stops) in
     search (rules, answer)
 
 pub invariant_of-self-2 : goal.invariant_of-self-2
@@ -68,6 +72,7 @@ returns-clause-forces g c =
     let version : c.wide-wide.result ≡ wide_of log.shelf = c.wide-wide.ensures ∙ ap wide_of c.shelf.ensures in
     let body : c.as_slice.result.now ≡ text (wide_of log.shelf) rec = c.as_slice.ensures ∙ (c.in_ok-body.ensures {u = tt}) ∙ ap (λ w. text w rec) version in
     let told = g.D.Disk.told in
+    let fuse = g.D.Disk.fuse in
     let new = c.append.new.self in
     let leaves : log.shut ≡ None → LeavesOnly (StandsForEither log.shelf (log.shelf ++ text (wide_of log.shelf) rec ∷ [])) (told log.disk) (told new.disk) =
     λ open_now. subst (λ b. LeavesOnly (StandsForEither log.shelf (log.shelf ++ b ∷ [])) (told log.disk) (told new.disk)) body
@@ -78,6 +83,7 @@ returns-clause-forces g c =
     subst (λ b. Appends (face_of log (faults log.disk)) b place (face_of new (faults new.disk))) body appended.appended in
     let bytes : (file : List ℕ) → IsOn (told log.disk) file → IsOn (told new.disk) (forced_bytes log.gate (text (wide_of log.shelf) rec) file) =
     subst (λ b. (file : List ℕ) → IsOn (told log.disk) file → IsOn (told new.disk) (forced_bytes log.gate b file)) body appended.bytes in
-    let stores = stored faults told log new rec c.self.invariant has leaves place c.shut.ensures.started.place appends appended.started.kept bytes in
-    subst (λ (v : Kept _). Stored (standing_of v (faults v.disk) (told v.disk)) rec (record { place = place; rec = c.in_ok-copy.copy }) (standing_of (kept_of new) (faults new.disk) (told new.disk))) c.self.view_is
-    (subst (λ r. Stored (standing_of (kept_of log) (faults log.disk) (told log.disk)) rec (record { place = place; rec = r }) (standing_of (kept_of new) (faults new.disk) (told new.disk))) (sym (c.in_ok-copy.ensures {u = tt})) stores)
+    let passes : OnFuse (Opens log.gate (body_piece (text (wide_of log.shelf) rec))) (fuse log.disk) (fuse new.disk) = subst (λ b. OnFuse (Opens log.gate (body_piece b)) (fuse log.disk) (fuse new.disk)) body appended.passes in
+    let stores = stored faults told fuse log new rec c.self.invariant has leaves place c.shut.ensures.started.place appends appended.started.kept bytes passes in
+    subst (λ (v : Kept _). Stored (standing_of v (faults v.disk) (told v.disk) (fuse v.disk)) rec (record { place = place; rec = c.in_ok-copy.copy }) (standing_of (kept_of new) (faults new.disk) (told new.disk) (fuse new.disk))) c.self.view_is
+    (subst (λ r. Stored (standing_of (kept_of log) (faults log.disk) (told log.disk) (fuse log.disk)) rec (record { place = place; rec = r }) (standing_of (kept_of new) (faults new.disk) (told new.disk) (fuse new.disk))) (sym (c.in_ok-copy.ensures {u = tt})) stores)

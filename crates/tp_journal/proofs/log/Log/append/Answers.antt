@@ -1,6 +1,8 @@
 use Rattle.std.proofs.Common.{◌≡◌, ◌+◌, ◌-◌, ◌++◌, [], ◌∷◌, ℕ, None, length, rules, sym, ap, ◌∙◌, subst, arith, length-append}
 use Rattle.tp_journal.specs.Log.{counted, place_behind, forced_bytes}
 use Rattle.tp_journal.specs.Started.{Started}
+use Rattle.tp_outside.specs.FuseDisk.{OnFuse}
+use Rattle.tp_journal.specs.Stops.{body_piece, Opens, StopsOpening}
 use Rattle.tp_journal.specs.Told.{IsOn, RestsAt}
 use Rattle.tp_journal.proofs.Exactly.{has_gate, body_forced}
 use Rattle.tp_journal.proofs.Kept.{kept_on}
@@ -61,3 +63,23 @@ returns-clause-bytes g c file on =
     let forced : IsOn (told log.disk) file → IsOn (told c.append.new.disk) (forced_bytes log.gate body file) =
     λ on. body_forced log.gate body c.deref.result.now file (told c.append.new.disk) piece ((c.in-Ok.ensures {u = tt}).bytes file on (has_gate (told log.disk) log.gate (g.S.Shelf.bodies log.shelf) log.shut open_now c.self.invariant.kept file on)) in
     subst (λ (v : Started _ _). IsOn (told v.disk) file → IsOn (told c.append.new.disk) (forced_bytes v.gate body file)) c.self.view_is forced on
+
+pub returns-in_default-append-clause-stops : goal.returns-in_default-append-clause-stops
+returns-in_default-append-clause-stops g c =
+    let fuse = g.D.Disk.fuse in
+    let log = c.self.inside in
+    let body = c.args.body.now in
+    let piece : c.deref.result.now ≡ counted body ++ 0 ∷ [] = c.deref.ensures.value ∙ (c.in_ok-piece.ensures {u = tt}) in
+    let stops : OnFuse (StopsOpening log.gate (body_piece body)) (fuse log.disk) (fuse c.append.new.disk) =
+    subst (λ p. OnFuse (StopsOpening log.gate p) (fuse log.disk) (fuse c.append.new.disk)) piece ((c.in_default-append.ensures {u = tt}).stops) in
+    subst (λ (v : Started _ _). OnFuse (StopsOpening v.gate (body_piece body)) (fuse v.disk) (fuse c.append.new.disk)) c.self.view_is stops
+
+pub returns-clause-passes : goal.returns-clause-passes
+returns-clause-passes g c =
+    let fuse = g.D.Disk.fuse in
+    let log = c.self.inside in
+    let body = c.args.body.now in
+    let piece : c.deref.result.now ≡ counted body ++ 0 ∷ [] = c.deref.ensures.value ∙ (c.in_ok-piece.ensures {u = tt}) in
+    let passes : OnFuse (Opens log.gate (body_piece body)) (fuse log.disk) (fuse c.append.new.disk) =
+    subst (λ p. OnFuse (Opens log.gate p) (fuse log.disk) (fuse c.append.new.disk)) piece ((c.in-Ok.ensures {u = tt}).passes) in
+    subst (λ (v : Started _ _). OnFuse (Opens v.gate (body_piece body)) (fuse v.disk) (fuse c.append.new.disk)) c.self.view_is passes

@@ -20,7 +20,7 @@ invariant_of-self g c =
     let stood = length g.L.Stood.stood in
     let few : stood ≤ length before.list = omega (arith, c.self.invariant.extends.counted, length-placed before.wide before.list) in
     let images : StillTells g.L.Stood.story stood after.wide after.list after.shut (g.D.Disk.told after.disk) =
-    forced_tells g.D.Disk.told stood before after (faults before.disk) (faults after.disk) c.args.rec.now few g.L.Stood.story c.force.result c.self.invariant.images c.force.ensures.forces c.force.ensures.untouched in
+    forced_tells g.D.Disk.told g.D.Disk.fuse stood before after (faults before.disk) (faults after.disk) c.args.rec.now few g.L.Stood.story c.force.result c.self.invariant.images c.force.ensures.forces c.force.ensures.untouched in
     search (rules, images)
 
 pub invariant_of-self-2 : goal.invariant_of-self-2
@@ -31,6 +31,8 @@ invariant_of-self-2 g c =
     let m = g.D.Disk.fault_count after.disk in
     let told = g.D.Disk.told before.disk in
     let told_now = g.D.Disk.told after.disk in
+    let fuse = g.D.Disk.fuse before.disk in
+    let fuse_now = g.D.Disk.fuse after.disk in
     let log = stood_as g.L.Stood.stood g.L.Stood.faults g.L.Stood.wide g.L.Stood.shares g.L.Stood.story in
     let forced = c.self.inside.forced.total in
     let stakes = c.self.inside.stakes.total in
@@ -38,25 +40,25 @@ invariant_of-self-2 g c =
     let kept : IsKept log before n told forced stakes unfit = c.self.invariant in
     let few : length log.stood ≤ length before.list = omega (arith, kept.extends.counted, length-placed before.wide before.list) in
     let images : StillTells log.story (length log.stood) after.wide after.list after.shut told_now =
-    forced_tells g.D.Disk.told (length log.stood) before after n m c.args.rec.now few log.story c.force.result kept.images c.force.ensures.forces c.force.ensures.untouched in
-    let forces : (r : Result Receipt ForceFault) → c.force.result ≡ r → Forces (standing_of before n told) c.args.rec.now r (standing_of after m told_now) =
-    λ r is. subst (λ q. Forces (standing_of before n told) c.args.rec.now q (standing_of after m told_now)) is c.force.ensures.forces in
+    forced_tells g.D.Disk.told g.D.Disk.fuse (length log.stood) before after n m c.args.rec.now few log.story c.force.result kept.images c.force.ensures.forces c.force.ensures.untouched in
+    let forces : (r : Result Receipt ForceFault) → c.force.result ≡ r → Forces (standing_of before n told fuse) c.args.rec.now r (standing_of after m told_now fuse_now) =
+    λ r is. subst (λ q. Forces (standing_of before n told fuse) c.args.rec.now q (standing_of after m told_now fuse_now)) is c.force.ensures.forces in
     elim c.match-force.branch [
-      | in-Ok w ↦ let f = w.in-Ok.ensures.forces in rw (w.self-inside-is, w.add.ensures.total) (kept_stored log before after n m told told_now forced stakes unfit kept images c.args.rec.now w.in-Ok.receipt f)
+      | in-Ok w ↦ let f = w.in-Ok.ensures.forces in rw (w.self-inside-is, w.add.ensures.total) (kept_stored log before after n m told told_now fuse fuse_now forced stakes unfit kept images c.args.rec.now w.in-Ok.receipt f)
       | in-Err-NoMemory w ↦
           let f = forces (Err ForceFault.NoMemory) (w.in-Err-NoMemory.is ∙ ap Err w.in-Err-NoMemory.field-0-is) in
-          rw w.self-inside-is (kept_unmoved log before after n m told told_now forced stakes unfit kept images (same_refused before after n m told told_now f) (ap (λ s. s.shut) f))
+          rw w.self-inside-is (kept_unmoved log before after n m told told_now fuse fuse_now forced stakes unfit kept images (same_refused before after n m told told_now fuse fuse_now f) (ap (λ s. s.shut) f))
       | in-Err-Full+in_ok-unfit-in-Err-Full w ↦
           let size = w.in-Err-Full.size in
           let f = forces (Err (ForceFault.Full size)) (w.in-Err-Full.is ∙ ap Err w.in-Err-Full.field-0-is) in
           let version : w.wide.result ≡ before.wide = w.wide.ensures ∙ f.0.wide in
           let is : w.in_ok-unfit-in-Err-Full.field-0 ≡ first_of unfit size (length (text before.wide c.args.rec.now)) = (w.in_ok-unfit-in-Err-Full.ensures {u = tt}) ∙ cc (version, w.in-Err-Full.size-is) in
-          rw (w.self-inside-is, is) (kept_full log before after n m told told_now forced stakes unfit kept images f.0 w.sub.new.self.total size (length (text before.wide c.args.rec.now)) (omega (arith, w.sub.ensures.total)) (f.3 ∙ sym f.2) f.1.1 (omega (arith, f.1.0)))
+          rw (w.self-inside-is, is) (kept_full log before after n m told told_now fuse fuse_now forced stakes unfit kept images f.0 w.sub.new.self.total size (length (text before.wide c.args.rec.now)) (omega (arith, w.sub.ensures.total)) (f.3 ∙ sym f.2) f.1.1 (omega (arith, f.1.0)))
       | in-Err-DiskFault w ↦
           let faults = w.in-Err-DiskFault.faults in
           let f = forces (Err (ForceFault.DiskFault faults)) (w.in-Err-DiskFault.is ∙ ap Err w.in-Err-DiskFault.field-0-is) in
-          rw w.self-inside-is (kept_shut log before after n m told told_now forced stakes unfit kept images f.0 w.sub-in-Err-DiskFault.new.self.total faults (omega (arith, w.sub-in-Err-DiskFault.ensures.total)) f.3 (rose_now log.faults n m faults before.shut after.shut f.2 f.3 kept.shut f.1))
+          rw w.self-inside-is (kept_shut log before after n m told told_now fuse fuse_now forced stakes unfit kept images f.0 w.sub-in-Err-DiskFault.new.self.total faults (omega (arith, w.sub-in-Err-DiskFault.ensures.total)) f.3 (rose_now log.faults n m faults before.shut after.shut f.2 f.3 kept.shut f.1))
       | in-Err-Shut w ↦
           let f = forces (Err (ForceFault.Shut w.in-Err-Shut.faults)) (w.in-Err-Shut.is ∙ ap Err w.in-Err-Shut.field-0-is) in
-          rw w.self-inside-is (kept_shut log before after n m told told_now forced stakes unfit kept images f.0 w.sub-in-Err-Shut.new.self.total w.in-Err-Shut.faults (omega (arith, w.sub-in-Err-Shut.ensures.total)) f.2 (still_rose log before after n m told told_now forced stakes unfit kept images f.0 (f.2 ∙ sym f.1)))
+          rw w.self-inside-is (kept_shut log before after n m told told_now fuse fuse_now forced stakes unfit kept images f.0 w.sub-in-Err-Shut.new.self.total w.in-Err-Shut.faults (omega (arith, w.sub-in-Err-Shut.ensures.total)) f.2 (still_rose log before after n m told told_now fuse fuse_now forced stakes unfit kept images f.0 (f.2 ∙ sym f.1)))
     ]
