@@ -30,7 +30,7 @@ use Rattle.tp_world.specs.declared.site_slot.SiteSlot.{SiteSlot}
 
 -- what a journal in memory tells
 abbrev pub standing : Kept MemDisk → Standing
-standing j = standing_of j (recorded j.disk).faults (Some (recorded j.disk).story)
+standing j = standing_of j (recorded j.disk).faults (Some (recorded j.disk).story) None
 
 -- a log of version 2 with no records, and its file
 abbrev pub blank_file : List ℕ
