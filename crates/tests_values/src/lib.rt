@@ -1,4 +1,4 @@
-//! Tests of the values and their texts: names, units, records, frames, and records of a log; and of streams of frames.
+//! Tests of the values and their texts: names, words, units, records, frames, and records of a log; and of streams of frames.
 //!
 //! It holds tests alone, over the public calls of the crates that it stands on. Each tests what no
 //! contract says: worked examples, printed text, that each call can succeed, and what is read of a source that tells
@@ -17,3 +17,5 @@ mod records;
 mod streams;
 #[cfg(test)]
 mod units;
+#[cfg(test)]
+mod words;

@@ -1,0 +1,4 @@
+pub mod PlainWords
+pub mod PlainWalk
+pub mod Numbers
+pub mod Reading

@@ -1,0 +1,5 @@
+pub mod Faults
+pub mod CommandLine
+pub mod Asked
+pub mod Given
+pub mod Plain
