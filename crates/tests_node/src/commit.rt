@@ -38,7 +38,7 @@ fn root(alloc: Global) -> Option<Branch> {
     let arcs = children(alloc)?;
     let mut root = begun(alloc)?;
     if root.branches() == 0 && arcs.len() == 1 {
-        root.apply(&TxEvent::Begun { arcs });
+        root.apply(&TxEvent::Begun { arcs }).ok()?;
     }
     Some(root)
 }
@@ -132,7 +132,7 @@ fn a_root_asks(rt: HostRuntime) {
 fn asked(alloc: Global) -> Option<Branch> {
     let mut root = root(alloc)?;
     if root.branches() <= 1 {
-        root.apply(&TxEvent::User(Request::Commit));
+        root.apply(&TxEvent::User(Request::Commit)).ok()?;
     }
     Some(root)
 }

@@ -29,8 +29,7 @@ fn add(tree: &mut Invocation, node: u16, bits: u8, side: Side) -> Option<()> {
     if tree.get(addr.node).is_some() || !tree.has_room(side) {
         return None;
     }
-    tree.add(addr, units, side);
-    Some(())
+    tree.add(addr, units, side).ok()
 }
 
 // Whether the subordinates have those numbers, in that order.

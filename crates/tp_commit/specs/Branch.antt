@@ -1,6 +1,6 @@
 -- A node's current transaction as its calls tell it: the transaction of the definitions, which sees of its
 -- arcs whether they are live and whether they end with it. What an event asks for and leaves stands there.
-use Rattle.std.specs.Prelude.{ℕ, ◌≡◌, ◌≤◌, ◌&&◌, ◌||◌, not, Bool, true, false, Option, Some, None, Result, Ok, Err, List, [], ◌∷◌, length, vec_capacity}
+use Rattle.std.specs.Prelude.{ℕ, ◌≡◌, ◌&&◌, ◌||◌, not, Bool, true, false, Option, Some, None, Result, Ok, Err, List, [], ◌∷◌, ◌++◌, length}
 use Rattle.tp_names.specs.declared.identifiers.BranchId.{BranchId}
 use Rattle.tp_names.specs.declared.identifiers.NodeKey.{NodeKey}
 use Rattle.tp_names.specs.declared.identifiers.Addr.{Addr}
@@ -12,7 +12,7 @@ use Rattle.tp_model.specs.declared.arc.Phase.{Phase}
 use Rattle.tp_model.specs.declared.transaction.TxEvent.{TxEvent}
 use Rattle.tp_model.specs.Parts.{Key, Root, Under}
 use Rattle.tp_model.specs.Dialogues.{is_committing, is_rolling}
-use Rattle.tp_model.specs.Transactions.{Row, Transaction, node_key, is_under, fresh_branch, find_row_by_id}
+use Rattle.tp_model.specs.Transactions.{Row, Transaction, node_key, is_under, fresh_branch, fresh_rows, find_row_by_id}
 use Rattle.tp_commit.specs.declared.branch.Branch.TheInside.{Inside}
 
 -- ---- what is kept
@@ -37,10 +37,9 @@ transaction_of b = record {
   own = b.own;
 }
 
--- the key is whole, and there is room for as many branches as a transaction may have
-pub record IsKept (b : Inside) : Type 0 where
-  pub key : node_key (key_from b.key b.superior) ≡ b.key
-  pub room : 256 ≤ vec_capacity b.rows
+-- the key is whole
+abbrev pub IsKept : Inside → Type 0
+IsKept b = node_key (key_from b.key b.superior) ≡ b.key
 
 -- a superior is given where the key has a branch
 abbrev pub has_superior : NodeKey → Option Addr → Bool
@@ -135,6 +134,18 @@ begins (TxEvent.GiveUp p) = 0
 begins TxEvent.Ordered = 0
 begins (TxEvent.Reply b s) = 0
 begins TxEvent.Retry = 0
+
+-- the branches, with those that the event begins after them
+abbrev pub with_begun : TxEvent → List Row → List Row
+with_begun (TxEvent.Begun cs) rs = rs ++ fresh_rows cs
+with_begun (TxEvent.User r) rs = rs
+with_begun (TxEvent.Took p r) rs = rs
+with_begun (TxEvent.Lost p) rs = rs
+with_begun (TxEvent.Heur o) rs = rs
+with_begun (TxEvent.GiveUp p) rs = rs
+with_begun TxEvent.Ordered rs = rs
+with_begun (TxEvent.Reply b s) rs = rs
+with_begun TxEvent.Retry rs = rs
 
 -- ---- what it tells
 

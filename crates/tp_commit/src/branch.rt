@@ -1,5 +1,5 @@
 //! The current transaction of a node.
-ghost use Rattle.std.specs.Prelude.{◌≡◌, ◌<◌, ◌≤◌, ◌&&◌, ◌++◌, [], ◌∷◌, true, false, IsTrue, IfOk, OnOk, Some, length, slice_index_or, slice_set, vec_capacity};
+ghost use Rattle.std.specs.Prelude.{◌≡◌, ◌<◌, ◌&&◌, ◌++◌, [], ◌∷◌, true, false, IsTrue, IfOk, OnOk, Some, length, slice_index_or, slice_set};
 ghost use Rattle.tp_model.specs.Transactions.{Row as RowValue, node_key, superior_of, situation_of, row_holds, is_under, is_under_at, fresh_branch};
 ghost use Rattle.tp_commit.specs.Branch.{key_from, has_superior, begun, found, found_by, tells_transaction, idle_rows, child_at, seen_at};
 
@@ -46,16 +46,14 @@ impl Model for Branch {
 
 // Room for every branch.
 fn room(alloc: Global) -> Result<Vec<Row>, NoMemory>
-    ensures empty { IfOk result (λ rows. rows.items ≡ []) }
-    ensures room { IfOk result (λ rows. 256 ≤ vec_capacity rows) }
+    ensures { IfOk result (λ rows. rows.items ≡ []) }
 {
     Ok(Vec::with_capacity(alloc, ROOM)?)
 }
 
 // Branches that a record of the log names.
 fn idle_rows(alloc: Global, children: &[Child]) -> Result<Vec<Row>, NoMemory>
-    ensures rows { IfOk result (λ rows. rows.items ≡ idle_rows children.now) }
-    ensures room { IfOk result (λ rows. 256 ≤ vec_capacity rows) }
+    ensures { IfOk result (λ rows. rows.items ≡ idle_rows children.now) }
 {
     let mut rows = room(alloc)?;
     for child in children {
@@ -73,8 +71,7 @@ fn found(
     rows: Vec<Row>,
     decision: Option<Outcome>,
 ) -> Branch
-    requires key { IsTrue (has_superior key superior) }
-    requires room { 256 ≤ vec_capacity rows }
+    requires { IsTrue (has_superior key superior) }
     ensures { result ≡ record (found node (key_from key superior) phase [] decision) { rows = rows.items } }
 {
     Branch {
@@ -165,11 +162,11 @@ impl Branch {
         }
     }
 
-    /// An equal transaction, with its own room.
+    /// An equal transaction, with room for the branches that it has.
     pub fn copy(&self, alloc: Global) -> Result<Branch, NoMemory>
         ensures { IfOk result (λ branch. branch ≡ self.now) }
     {
-        let mut rows = room(alloc)?;
+        let mut rows = Vec::with_capacity(alloc, self.rows.len())?;
         rows.extend_from_slice(self.rows.as_slice())?;
         Ok(Branch {
             node: self.node,
@@ -186,6 +183,27 @@ impl Branch {
             decision: self.decision,
             own: self.own,
         })
+    }
+
+    /// Becomes equal to that one, in the room that it has where that is enough.
+    pub fn copy_from(&mut self, other: &Branch) -> Result<(), NoMemory>
+        ensures { OnOk result (self.new ≡ other.now) }
+    {
+        self.rows.clear();
+        self.rows.extend_from_slice(other.rows.as_slice())?;
+        self.node = other.node;
+        self.key = other.key;
+        self.superior = other.superior;
+        self.phase = other.phase;
+        self.up = other.up;
+        self.up_ends = other.up_ends;
+        self.told_prepare = other.told_prepare;
+        self.asked = other.asked;
+        self.owes = other.owes;
+        self.superior_rolled = other.superior_rolled;
+        self.decision = other.decision;
+        self.own = other.own;
+        Ok(())
     }
 
     /// Where the transaction stands; `Nil` once it is over.

@@ -1,9 +1,9 @@
 //! What an event asks for, and what it leaves.
-ghost use Rattle.std.specs.Prelude.{◌≡◌, ◌+◌, ◌<◌, ◌≤◌, ◌++◌, IfOk, length};
+ghost use Rattle.std.specs.Prelude.{◌≡◌, ◌++◌, Ok, IfOk, OnOk, length};
 ghost use Rattle.tp_model.specs.Transactions.{transacted, refused_tx, step_of, fresh_rows};
 ghost use Rattle.tp_model.specs.Refusal.{IsRefusedAs};
-ghost use Rattle.tp_commit.specs.Branch.{standing, begins};
-ghost use Rattle.tp_commit.specs.Rules.{run, set_off, later};
+ghost use Rattle.tp_commit.specs.Branch.{standing, begins, with_begun};
+ghost use Rattle.tp_commit.specs.Rules.{turn_of, run, set_off, later};
 
 use crate::rule::{Course, Rule};
 use crate::{Branch, rows};
@@ -12,39 +12,38 @@ use tp_logrec::LogRec;
 use tp_model::{Phase, Step, TxEvent, TxFault, TxOuts};
 use tp_names::{Child, NoMemory};
 
-// Of two records the later one; at most one of a course's rules logs.
-fn later(first: Option<LogRec>, second: Option<LogRec>) -> Option<LogRec>
-    ensures { result ≡ later first second }
-{
-    match second {
-        Some(rec) => Some(rec),
-        None => first,
-    }
-}
-
 impl Branch {
-    // What the rules of a course log and say, each at what the one before it leaves.
-    #[tactic(auto, using(crate::proofs::Courses::one_rule))]
-    fn follow(&self, alloc: Global, course: Course) -> Result<Step, NoMemory>
-        ensures { IfOk result (λ step. step ≡ step_of (run course self.now)) }
+    // A rule logs, says and changes what it does, after what the step has by now.
+    #[tactic(auto, using(crate::proofs::Courses::nothing_said))]
+    fn carry_out(&mut self, alloc: Global, rule: Rule, step: &mut Step) -> Result<(), NoMemory>
+        ensures next { OnOk result (self.new ≡ (turn_of rule self.old).next) }
+        ensures rec { OnOk result (step.new.rec ≡ later step.old.rec (turn_of rule self.old).rec) }
+        ensures outs { OnOk result (step.new.outs ≡ step.old.outs ++ (turn_of rule self.old).outs) }
     {
-        let mut outs = TxOuts::new(alloc);
-        let first = self.log(alloc, course.first)?;
-        self.say(alloc, course.first, &mut outs)?;
-        if let (Rule::Nothing, Rule::Nothing) = (course.second, course.third) {
-            return Ok(Step { rec: first, outs });
+        if let Rule::Nothing = rule {
+            return Ok(());
         }
-        let mut next = self.copy(alloc)?;
-        next.change(course.first);
-        let second = next.log(alloc, course.second)?;
-        next.say(alloc, course.second, &mut outs)?;
-        next.change(course.second);
-        let third = next.log(alloc, course.third)?;
-        next.say(alloc, course.third, &mut outs)?;
-        Ok(Step {
-            rec: later(first, later(second, third)),
-            outs,
-        })
+        if let Some(rec) = self.log(alloc, rule)? {
+            step.rec = Some(rec);
+        }
+        self.say(alloc, rule, &mut step.outs)?;
+        self.change(rule);
+        Ok(())
+    }
+
+    // The rules of a course, each at what the one before it leaves.
+    fn follow(&mut self, alloc: Global, course: Course) -> Result<Step, NoMemory>
+        ensures step { IfOk result (λ step. step ≡ step_of (run course self.old)) }
+        ensures next { OnOk result (self.new ≡ (run course self.old).next) }
+    {
+        let mut step = Step {
+            rec: None,
+            outs: TxOuts::new(alloc),
+        };
+        self.carry_out(alloc, course.first, &mut step)?;
+        self.carry_out(alloc, course.second, &mut step)?;
+        self.carry_out(alloc, course.third, &mut step)?;
+        Ok(step)
     }
 
     /// What an event asks for: at most one record of the log, and outputs in order; or the number by
@@ -66,7 +65,22 @@ impl Branch {
     pub fn step(&self, alloc: Global, event: &TxEvent) -> Result<Step, NoMemory>
         ensures { IfOk result (λ step. step ≡ step_of (transacted event.now self.now)) }
     {
-        self.follow(alloc, self.course(event))
+        let course = self.course(event);
+        self.copy(alloc)?.follow(alloc, course)
+    }
+
+    /// Takes an event that is not refused: what it asks for, as `plan` says it, and the transaction stands as the event
+    /// leaves it, as `apply` says it.
+    #[tactic(auto, using(crate::proofs::Events::says_alike, crate::proofs::Events::begins_after))]
+    pub fn turn(&mut self, alloc: Global, event: &TxEvent) -> Result<Step, NoMemory>
+        ensures step { IfOk result (λ step. step ≡ step_of (transacted event.now self.old)) }
+        ensures next { OnOk result (self.new ≡ standing (transacted event.now self.old).next) }
+    {
+        let course = self.course(event);
+        let step = self.follow(alloc, course)?;
+        self.begin_by(event)?;
+        self.stand();
+        Ok(step)
     }
 
     // What an event changes, but for the branches that it begins.
@@ -79,11 +93,29 @@ impl Branch {
         self.change(course.third);
     }
 
-    fn begin_each(&mut self, arcs: &[Child])
-        requires { 0 < length arcs.now → length self.old.rows + length arcs.now ≤ 256 }
-        ensures { self.new ≡ record self.old { rows = self.old.rows ++ fresh_rows arcs.now } }
+    fn begin_each(&mut self, arcs: &[Child]) -> Result<(), NoMemory>
+        ensures begun { OnOk result (self.new ≡ record self.old { rows = self.old.rows ++ fresh_rows arcs.now }) }
+        ensures memory { length arcs.now ≡ 0 → result ≡ Ok tt }
     {
-        rows::begin_each(&mut self.rows, arcs);
+        rows::begin_each(&mut self.rows, arcs)
+    }
+
+    // The branches that an event begins.
+    fn begin_by(&mut self, event: &TxEvent) -> Result<(), NoMemory>
+        ensures begun { OnOk result (self.new ≡ record self.old { rows = with_begun event.now self.old.rows }) }
+        ensures memory { begins event.now ≡ 0 → result ≡ Ok tt }
+    {
+        match event {
+            TxEvent::Begun { arcs } => self.begin_each(arcs.as_slice()),
+            TxEvent::User(_)
+            | TxEvent::Took { .. }
+            | TxEvent::Lost { .. }
+            | TxEvent::Heur(_)
+            | TxEvent::GiveUp { .. }
+            | TxEvent::Ordered
+            | TxEvent::Reply { .. }
+            | TxEvent::Retry => Ok(()),
+        }
     }
 
     fn stand(&mut self)
@@ -95,23 +127,15 @@ impl Branch {
     }
 
     /// Takes an event that is not refused: the transaction stands as the event leaves it, before the next
-    /// one starts. It takes no memory. Where the event begins branches, there are at most 256 with them.
-    pub fn apply(&mut self, event: &TxEvent)
-        requires { 0 < begins event.now → length self.old.rows + begins event.now ≤ 256 }
-        ensures { self.new ≡ standing (transacted event.now self.old).next }
+    /// one starts. It takes no memory but for branches that the event begins.
+    #[tactic(auto, using(crate::proofs::Events::begins_after))]
+    pub fn apply(&mut self, event: &TxEvent) -> Result<(), NoMemory>
+        ensures next { OnOk result (self.new ≡ standing (transacted event.now self.old).next) }
+        ensures memory { begins event.now ≡ 0 → result ≡ Ok tt }
     {
         self.go_on(event);
-        match event {
-            TxEvent::Begun { arcs } => self.begin_each(arcs.as_slice()),
-            TxEvent::User(_)
-            | TxEvent::Took { .. }
-            | TxEvent::Lost { .. }
-            | TxEvent::Heur(_)
-            | TxEvent::GiveUp { .. }
-            | TxEvent::Ordered
-            | TxEvent::Reply { .. }
-            | TxEvent::Retry => {}
-        }
+        self.begin_by(event)?;
         self.stand();
+        Ok(())
     }
 }

@@ -1,16 +1,16 @@
 -- The entries of the kept transactions, and the list that they are.
 use Rattle.std.proofs.Common.{◌≡◌, ◌≤◌, ℕ, ◌+◌, zero, suc, Bool, true, false, Some, None, List, [], ◌∷◌, length, refl, ap, sym, ◌∙◌, arith, cond, position, subst, if◌then◌else◌}
 use Rattle.std.specs.Prelude.{slice_get, not}
-use Rattle.std.specs.List.{position_or_len}
+use Rattle.std.specs.List.{position_or_len, remove}
 use Rattle.std.specs.Option.{option_map}
-use Rattle.std.specs.Map.{lookup, keys_of, remove_entry}
+use Rattle.std.specs.Map.{lookup, keys_of}
 use Rattle.std.proofs.lemmas.Bool.Decides.{nat_tests}
 use Rattle.indexmap.specs.IndexMap.{insert_entry}
 use Rattle.tp_names.specs.declared.identifiers.NodeKey.{NodeKey}
 use Rattle.tp_names.specs.Same.{is_key}
 use Rattle.tp_names.proofs.Sames.{key_same}
 use Rattle.tp_model.specs.declared.recovery.Kept.{Kept}
-use Rattle.tp_model.specs.Recovery.{find_kept, without_kept}
+use Rattle.tp_model.specs.Recovery.{find_kept}
 use Rattle.tp_node.specs.declared.kept_map.KeptKey.{KeptKey}
 use Rattle.tp_node.specs.Kept.{is_same_key, key_of, listed, AreKeyed, place_of_key, with_kept}
 
@@ -70,17 +70,14 @@ keyed_put (e ∷ es) k h = go (is_same_key (key_of k.key) e.0) refl (keyed_put e
     go true a rest = subst (λ b. AreKeyed (split b)) (sym a) (key_same e.0.key k.key a, h.1)
     go false a rest = subst (λ b. AreKeyed (split b)) (sym a) (h.0, rest)
 
-pub listed_removed : (es : List (KeptKey × Kept)) (q : NodeKey) → AreKeyed es → listed (remove_entry (is_same_key (key_of q)) es) ≡ without_kept (listed es) q
-listed_removed [] q h = refl
-listed_removed (e ∷ es) q h = grind (arith, tested e q h.0, listed_removed es q h.1)
+pub listed_removed : (es : List (KeptKey × Kept)) (p : ℕ) → listed (remove es p) ≡ remove (listed es) p
+listed_removed [] zero = refl
+listed_removed [] (suc p) = refl
+listed_removed (e ∷ es) zero = refl
+listed_removed (e ∷ es) (suc p) = ap (λ (l : List Kept). e.1 ∷ l) (listed_removed es p)
 
-pub keyed_removed : (es : List (KeptKey × Kept)) (q : NodeKey) → AreKeyed es → AreKeyed (remove_entry (is_same_key (key_of q)) es)
-keyed_removed [] q h = tt
-keyed_removed (e ∷ es) q h = go (is_same_key (key_of q) e.0) refl (keyed_removed es q h.1)
-  where
-    split : Bool → List (KeptKey × Kept)
-    split b = cond b es (e ∷ remove_entry (is_same_key (key_of q)) es)
-
-    go : (b : Bool) → is_same_key (key_of q) e.0 ≡ b → AreKeyed (remove_entry (is_same_key (key_of q)) es) → AreKeyed (remove_entry (is_same_key (key_of q)) (e ∷ es))
-    go true a rest = subst (λ b. AreKeyed (split b)) (sym a) h.1
-    go false a rest = subst (λ b. AreKeyed (split b)) (sym a) (h.0, rest)
+pub keyed_removed : (es : List (KeptKey × Kept)) (p : ℕ) → AreKeyed es → AreKeyed (remove es p)
+keyed_removed [] zero h = tt
+keyed_removed [] (suc p) h = tt
+keyed_removed (e ∷ es) zero h = h.1
+keyed_removed (e ∷ es) (suc p) h = (h.0, keyed_removed es p h.1)

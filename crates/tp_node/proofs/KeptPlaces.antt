@@ -1,6 +1,8 @@
 -- The list of kept transactions: one put in the place of its key, one taken away, one found, and the one at a place.
 use Rattle.std.proofs.Common.{◌≡◌, ◌≤◌, ◌<◌, ℕ, ◌+◌, zero, suc, Bool, true, false, Option, Some, None, List, [], ◌∷◌, ◌++◌, length, drop, refl, ap, sym, subst, ◌∙◌, arith}
+use Rattle.std.proofs.lemmas.List.Edits.{length-remove}
 use Rattle.std.specs.Prelude.{slice_get, ◌||◌, if◌then◌else◌}
+use Rattle.std.specs.List.{remove}
 use Rattle.tp_names.specs.declared.outcome.Outcome.{Outcome}
 use Rattle.tp_names.specs.declared.identifiers.NodeKey.{NodeKey}
 use Rattle.tp_names.specs.Same.{is_key}
@@ -66,6 +68,29 @@ pub put_removed : (ks : List Kept) (k : Kept) (q : NodeKey) → is_key k.key q �
 put_removed [] k q h = grind (arith, h)
 put_removed (x ∷ ks) k q h = let same = ap (is_key x.key) (key_same k.key q h) in grind (arith, h, same, put_removed ks k q h)
 
+-- ---- the one with a key is taken away: the one at its place, where there is one
+
+pub removed_there : (ks : List Kept) (q : NodeKey) → place_of_key ks q < length ks → remove ks (place_of_key ks q) ≡ without_kept ks q
+removed_there [] q h = absurd (omega (arith, h))
+removed_there (x ∷ ks) q h = go (is_key x.key q) refl (removed_there ks q)
+  where
+    at : Bool → List Kept
+    at b = remove (x ∷ ks) (if b then 0 else suc (place_of_key ks q))
+
+    rest_of : Bool → List Kept
+    rest_of b = if b then ks else x ∷ without_kept ks q
+
+    less : Bool → Type 0
+    less b = (if b then 0 else suc (place_of_key ks q)) < suc (length ks)
+
+    go : (b : Bool) → is_key x.key q ≡ b → (place_of_key ks q < length ks → remove ks (place_of_key ks q) ≡ without_kept ks q) → at (is_key x.key q) ≡ rest_of (is_key x.key q)
+    go true e rest = ap at e ∙ sym (ap rest_of e)
+    go false e rest = ap at e ∙ ap (λ (l : List Kept). x ∷ l) (rest (let one : suc (place_of_key ks q) < suc (length ks) = subst less e h in omega (arith, one))) ∙ sym (ap rest_of e)
+
+pub removed_nowhere : (ks : List Kept) (q : NodeKey) → length ks ≤ place_of_key ks q → ks ≡ without_kept ks q
+removed_nowhere [] q h = refl
+removed_nowhere (x ∷ ks) q h = grind (arith, h, removed_nowhere ks q)
+
 -- ---- lengths
 
 pub put_same : (ks : List Kept) (k : Kept) → place_of_key ks k.key < length ks → length (with_kept ks k) ≡ length ks
@@ -76,13 +101,8 @@ pub put_longer : (ks : List Kept) (k : Kept) → length ks ≤ place_of_key ks k
 put_longer [] k h = refl
 put_longer (x ∷ ks) k h = grind (arith, h, put_longer ks k)
 
-pub removed_shorter : (ks : List Kept) (q : NodeKey) → place_of_key ks q < length ks → suc (length (without_kept ks q)) ≡ length ks
-removed_shorter [] q h = absurd (omega (arith, h))
-removed_shorter (x ∷ ks) q h = grind (arith, h, removed_shorter ks q)
-
-pub removed_same : (ks : List Kept) (q : NodeKey) → length ks ≤ place_of_key ks q → length (without_kept ks q) ≡ length ks
-removed_same [] q h = refl
-removed_same (x ∷ ks) q h = grind (arith, h, removed_same ks q)
+pub removed_shorter : (ks : List Kept) (p : ℕ) → p < length ks → suc (length (remove ks p)) ≡ length ks
+removed_shorter ks p h = let one = length-remove ks p h in omega (arith, one)
 
 -- ---- the one at a place
 
@@ -114,35 +134,19 @@ put_else (x ∷ ks) k i n = go (is_key x.key k.key) refl i n (put_else ks k)
     go false e zero m rest = ap (λ b. at b zero) e
     go false e (suc j) m rest = ap (λ b. at b (suc j)) e ∙ rest j (λ same. subst (λ b. other b (suc j)) e m (ap suc same))
 
-pub removed_before : (ks : List Kept) (q : NodeKey) (i : ℕ) → i < place_of_key ks q → slice_get (without_kept ks q) i ≡ slice_get ks i
-removed_before [] q i h = refl
-removed_before (x ∷ ks) q i h = go (is_key x.key q) refl i h (removed_before ks q)
-  where
-    at : Bool → ℕ → Option Kept
-    at b j = slice_get (if b then ks else x ∷ without_kept ks q) j
+pub removed_before : (ks : List Kept) (p i : ℕ) → i < p → slice_get (remove ks p) i ≡ slice_get ks i
+removed_before [] zero i h = refl
+removed_before [] (suc p) i h = refl
+removed_before (x ∷ ks) zero i h = absurd (omega (arith, h))
+removed_before (x ∷ ks) (suc p) zero h = refl
+removed_before (x ∷ ks) (suc p) (suc i) h = removed_before ks p i (omega (arith, h))
 
-    less : Bool → ℕ → Type 0
-    less b j = j < (if b then 0 else suc (place_of_key ks q))
-
-    go : (b : Bool) → is_key x.key q ≡ b → (j : ℕ) → less (is_key x.key q) j → ((l : ℕ) → l < place_of_key ks q → slice_get (without_kept ks q) l ≡ slice_get ks l) → at (is_key x.key q) j ≡ slice_get (x ∷ ks) j
-    go true e j m rest = absurd (let none : j < 0 = subst (λ b. less b j) e m in omega (arith, none))
-    go false e zero m rest = ap (λ b. at b zero) e
-    go false e (suc j) m rest = let one : suc j < suc (place_of_key ks q) = subst (λ b. less b (suc j)) e m in ap (λ b. at b (suc j)) e ∙ rest j (omega (arith, one))
-
-pub removed_after : (ks : List Kept) (q : NodeKey) (i : ℕ) → place_of_key ks q ≤ i → slice_get (without_kept ks q) i ≡ slice_get ks (suc i)
-removed_after [] q i h = refl
-removed_after (x ∷ ks) q i h = go (is_key x.key q) refl i h (removed_after ks q)
-  where
-    at : Bool → ℕ → Option Kept
-    at b j = slice_get (if b then ks else x ∷ without_kept ks q) j
-
-    most : Bool → ℕ → Type 0
-    most b j = (if b then 0 else suc (place_of_key ks q)) ≤ j
-
-    go : (b : Bool) → is_key x.key q ≡ b → (j : ℕ) → most (is_key x.key q) j → ((l : ℕ) → place_of_key ks q ≤ l → slice_get (without_kept ks q) l ≡ slice_get ks (suc l)) → at (is_key x.key q) j ≡ slice_get (x ∷ ks) (suc j)
-    go true e j m rest = ap (λ b. at b j) e
-    go false e zero m rest = absurd (let none : suc (place_of_key ks q) ≤ 0 = subst (λ b. most b zero) e m in omega (arith, none))
-    go false e (suc j) m rest = let one : suc (place_of_key ks q) ≤ suc j = subst (λ b. most b (suc j)) e m in ap (λ b. at b (suc j)) e ∙ rest j (omega (arith, one))
+pub removed_after : (ks : List Kept) (p i : ℕ) → p ≤ i → slice_get (remove ks p) i ≡ slice_get ks (suc i)
+removed_after [] zero i h = refl
+removed_after [] (suc p) i h = refl
+removed_after (x ∷ ks) zero i h = refl
+removed_after (x ∷ ks) (suc p) zero h = absurd (omega (arith, h))
+removed_after (x ∷ ks) (suc p) (suc i) h = removed_after ks p i (omega (arith, h))
 
 pub none_past : (ks : List Kept) (i : ℕ) → length ks ≤ i → slice_get ks (suc i) ≡ None
 none_past [] i h = refl

@@ -40,22 +40,25 @@ impl Model for Arcs {
 }
 
 impl Arcs {
-    /// No arcs, and room for 32 or 256 subordinates.
-    pub(crate) fn new(
-        alloc: Global,
-        node: u16,
-        superior: Option<Addr>,
-        room: u16,
-    ) -> Result<Arcs, NoMemory>
+    /// No arcs, of which 32 or 256 may lead to subordinates. It takes no memory.
+    pub(crate) fn new(alloc: Global, node: u16, superior: Option<Addr>, room: u16) -> Arcs
         requires { (room ≡ 32) ⊎ (room ≡ 256) }
-        ensures { IfOk result (λ v. v ≡ record { superior = superior; room = room; arcs = [] }) }
+        ensures { result ≡ record { superior = superior; room = room; arcs = [] } }
     {
-        Ok(Arcs {
-            tree: Invocation::new(alloc, node, superior, room)?,
-        })
+        Arcs {
+            tree: Invocation::bare(alloc, node, superior, room),
+        }
     }
 
-    /// Equal arcs, with room of their own.
+    /// Becomes equal to those, in the memory that they have where that is enough. Without memory they stay what they were.
+    pub(crate) fn copy_from(&mut self, other: &Arcs) -> Result<(), NoMemory>
+        ensures copy { OnOk result (self.new ≡ other.now) }
+        ensures same { OnErr result (self.new ≡ self.old) }
+    {
+        self.tree.copy_from(&other.tree)
+    }
+
+    /// Equal arcs, in memory of their own.
     pub(crate) fn copy(&self, alloc: Global) -> Result<Arcs, NoMemory>
         ensures { IfOk result (λ v. v ≡ self.now) }
     {
@@ -122,21 +125,29 @@ impl Arcs {
     }
 
     /// Adds a new dialogue, on an association of that state: one with a subordinate after the others, and the superior's
-    /// before them. It takes no memory.
+    /// before them. Without memory nothing changes.
     #[tactic(auto, using(crate::proofs::Places::place_for))]
-    pub(crate) fn add(&mut self, addr: Addr, units: Units, side: Side, link: Link)
+    pub(crate) fn add(
+        &mut self,
+        addr: Addr,
+        units: Units,
+        side: Side,
+        link: Link,
+    ) -> Result<(), NoMemory>
         requires other { find_arc self.old.arcs addr.node ≡ None }
         requires side { side ≡ side_with self.old.superior addr.node }
         requires place { has_place side self.old ≡ true }
         requires link { fits_link side link ≡ true }
-        ensures { self.new ≡ record self.old { arcs = with_arc side (new_arc addr units side link) self.old.arcs } }
+        ensures added { OnOk result (self.new ≡ record self.old { arcs = with_arc side (new_arc addr units side link) self.old.arcs }) }
+        ensures same { OnErr result (self.new ≡ self.old) }
     {
         let peer = addr.node;
-        self.tree.add(addr, units, side);
+        self.tree.add(addr, units, side)?;
         let Some(tie) = self.tree.tie(peer) else {
             unreachable!()
         };
         tie.link = link;
+        Ok(())
     }
 
     /// Takes the arc with that peer away, where there is one.

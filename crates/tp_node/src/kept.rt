@@ -11,14 +11,14 @@ use tp_names::{Children, NoMemory, NodeKey, Outcome};
 
 // Takes the place of the one with its key, whose Forget stays noted, or stands after the others.
 #[tactic(auto, using(crate::proofs::KeptPlaces::put_new, crate::proofs::KeptPlaces::put_again))]
-fn put(kept: &mut KeptTable, next: Kept) -> Result<(), NoMemory>
+fn put(alloc: Global, kept: &mut KeptTable, next: Kept) -> Result<(), NoMemory>
     ensures { OnOk result (kept.new ≡ put_kept kept.old next) }
 {
     let forgot = match kept.find(&next.key) {
         None => next.forgot,
         Some(one) => one.forgot,
     };
-    kept.put(Kept { forgot, ..next })
+    kept.put(alloc, Kept { forgot, ..next })
 }
 
 fn copied(alloc: Global, children: &Children) -> Result<Children, NoMemory>
@@ -65,7 +65,7 @@ pub(crate) fn note_forget(
     };
     let mut next = copy(alloc, one)?;
     next.forgot = is_forgotten(one);
-    kept.put(next)
+    kept.put(alloc, next)
 }
 
 /// Equal ones, in order.
@@ -96,6 +96,7 @@ pub(crate) fn keep(alloc: Global, kept: &mut KeptTable, rec: &LogRec) -> Result<
             report,
             owed,
         } => put(
+            alloc,
             kept,
             Kept {
                 node: *node,

@@ -4,7 +4,8 @@ ghost use Rattle.std.specs.Cmp.{partial_equiv_from_equiv};
 ghost use Rattle.std.proofs.Common.{ap};
 ghost use Rattle.std.specs.Option.{option_copied};
 ghost use Rattle.tp_names.specs.contracts.identifiers.MarkHash.TheImpl as marks;
-ghost use Rattle.tp_model.specs.Recovery.{find_kept, without_kept};
+ghost use Rattle.std.specs.List.{remove};
+ghost use Rattle.tp_model.specs.Recovery.{find_kept};
 ghost use Rattle.tp_node.specs.Kept.{is_same_key, key_same, key_equivalence, with_kept, place_of_key};
 
 use indexmap::IndexMap;
@@ -115,23 +116,26 @@ impl KeptMap {
 
     /// Takes the place of the one with its key, or stands after the others. Without memory it comes back.
     #[tactic(auto, using(crate::proofs::KeptEntries::listed_put, crate::proofs::KeptEntries::keyed_put))]
-    pub(crate) fn put(&mut self, kept: Kept) -> Result<(), Kept>
-        ensures put { OnOk result (self.new ≡ with_kept self.old kept) }
+    pub(crate) fn put(&mut self, kept: Box<Kept>) -> Result<(), Box<Kept>>
+        ensures put { OnOk result (self.new ≡ with_kept self.old kept.value) }
         ensures same { OnErr result (self.new ≡ self.old) }
         ensures back { IfErr result (λ k. k ≡ kept) }
     {
-        let key = KeptKey { key: kept.key };
-        match self.entries.insert(key, kept) {
-            Ok(_) => Ok(()),
-            Err(failed) => Err(failed.value.1),
+        if self.entries.reserve(1).is_err() {
+            return Err(kept);
         }
+        let kept = Box::into_inner(kept);
+        let key = KeptKey { key: kept.key };
+        let Ok(_) = self.entries.insert(key, kept) else {
+            unreachable!()
+        };
+        Ok(())
     }
 
-    /// Takes the one with that key away, where there is one.
-    #[tactic(auto, using(crate::proofs::KeptEntries::listed_removed, crate::proofs::KeptEntries::keyed_removed))]
-    pub(crate) fn remove(&mut self, key: &NodeKey)
-        ensures { self.new ≡ without_kept self.old key.now }
+    /// Takes the one at that place away.
+    pub(crate) fn remove(&mut self, place: usize)
+        ensures { self.new ≡ remove self.old place }
     {
-        self.entries.shift_remove(&KeptKey { key: *key });
+        self.entries.shift_remove_index(place);
     }
 }

@@ -1,9 +1,9 @@
 //! The kept transactions of a node, which its copies share.
-ghost use Rattle.std.specs.Prelude.{◌≡◌, ◌<◌, ◌^◌, length, slice_get, [], IfOk, OnOk};
+ghost use Rattle.std.specs.Prelude.{◌≡◌, ◌<◌, ◌^◌, length, slice_get, [], Some, IfOk, OnOk};
 ghost use Rattle.std.specs.Option.{option_copied};
 ghost use Rattle.tp_model.specs.Recovery.{find_kept, without_kept};
 ghost use Rattle.tp_node.specs.Kept.{with_kept, place_of_key};
-ghost use Rattle.tp_node.specs.KeptTable.{shared_list, changed, IsPlacedIn};
+ghost use Rattle.tp_node.specs.KeptTable.{shared_list, changed, IsPlacedIn, AreSame};
 
 use crate::kept;
 use crate::kept_map::KeptMap;
@@ -14,13 +14,13 @@ use tp_model::Kept;
 use tp_names::same::is_key;
 use tp_names::{NoMemory, NodeKey};
 
-/// A change that waits, and the place of its key among those that are shared.
+/// A change that waits, with its place among those that are shared.
 #[derive(Debug, Drop)]
 enum Change {
     /// It takes the place of the one with its key, or stands after the others.
-    Put { place: usize, kept: Kept },
-    /// The one with that key is taken away.
-    Remove { place: usize, key: NodeKey },
+    Put { place: usize, kept: Box<Kept> },
+    /// The one at that place is taken away.
+    Remove { place: usize },
 }
 
 /// The kept transactions of a node, in the order of their age. A copy of the node shares them with it, whatever their
@@ -71,7 +71,7 @@ impl KeptTable {
     }
 
     /// How many there are.
-    #[tactic(auto, using(crate::proofs::KeptPlaces::put_same, crate::proofs::KeptPlaces::put_longer, crate::proofs::KeptPlaces::removed_shorter, crate::proofs::KeptPlaces::removed_same))]
+    #[tactic(auto, using(crate::proofs::KeptPlaces::put_same, crate::proofs::KeptPlaces::put_longer, crate::proofs::KeptPlaces::removed_shorter))]
     pub(crate) fn len(&self) -> usize
         ensures { result ≡ length self.now }
     {
@@ -79,7 +79,7 @@ impl KeptTable {
         match &self.change {
             None => len,
             Some(Change::Put { place, .. }) => if *place < len { len } else { len + 1 },
-            Some(Change::Remove { place, .. }) => if *place < len { len - 1 } else { len },
+            Some(Change::Remove { .. }) => len - 1,
         }
     }
 
@@ -92,12 +92,12 @@ impl KeptTable {
             None => shared_at(&self.shared, place),
             Some(Change::Put { place: own, kept }) => {
                 if place == *own {
-                    Some(kept)
+                    Some(&**kept)
                 } else {
                     shared_at(&self.shared, place)
                 }
             }
-            Some(Change::Remove { place: own, .. }) => {
+            Some(Change::Remove { place: own }) => {
                 if place < *own {
                     shared_at(&self.shared, place)
                 } else if place < shared_len(&self.shared) {
@@ -137,7 +137,7 @@ impl KeptTable {
     /// Takes the place of the one with its key, or stands after the others. Where a change of another key still waits for
     /// memory, there is none for this one.
     #[tactic(auto, using(crate::proofs::KeptPlaces::put_put))]
-    pub(crate) fn put(&mut self, kept: Kept) -> Result<(), NoMemory>
+    pub(crate) fn put(&mut self, alloc: Global, kept: Kept) -> Result<(), NoMemory>
         ensures { OnOk result (self.new ≡ with_kept self.old kept) }
     {
         match &self.change {
@@ -146,6 +146,7 @@ impl KeptTable {
             Some(_) => return Err(NoMemory),
         }
         let place = shared_place(&self.shared, &kept.key);
+        let kept = Box::new(alloc, kept)?;
         self.change = Some(Change::Put { place, kept });
         Ok(())
     }
@@ -161,8 +162,7 @@ impl KeptTable {
             Some(Change::Put { kept: own, .. }) if is_key(&own.key, key) => {}
             Some(_) => return Err(NoMemory),
         }
-        let place = shared_place(&self.shared, key);
-        self.change = Some(Change::Remove { place, key: *key });
+        self.change = removal(&self.shared, key);
         Ok(())
     }
 
@@ -199,26 +199,37 @@ fn carry_out(all: &mut KeptMap, change: Option<Change>) -> Option<Change>
             Ok(()) => None,
             Err(kept) => Some(Change::Put { place, kept }),
         },
-        Change::Remove { key, .. } => {
-            all.remove(&key);
+        Change::Remove { place } => {
+            all.remove(place);
             None
         }
     }
 }
 
 fn copy_of(alloc: Global, change: &Change) -> Result<Change, NoMemory>
-    ensures { IfOk result (λ copy. copy ≡ change.now) }
+    ensures { IfOk result (λ copy. AreSame copy change.now) }
 {
     Ok(match change {
         Change::Put { place, kept } => Change::Put {
             place: *place,
-            kept: kept::copy(alloc, kept)?,
+            kept: Box::new(alloc, kept::copy(alloc, kept)?)?,
         },
-        Change::Remove { place, key } => Change::Remove {
-            place: *place,
-            key: *key,
-        },
+        Change::Remove { place } => Change::Remove { place: *place },
     })
+}
+
+// The one with that key is taken away, where there is one.
+#[tactic(auto, using(crate::proofs::KeptPlaces::removed_there, crate::proofs::KeptPlaces::removed_nowhere))]
+fn removal(shared: &Option<Arc<KeptMap>>, key: &NodeKey) -> Option<Change>
+    ensures same { changed (shared_list shared.now) result ≡ without_kept (shared_list shared.now) key.now }
+    ensures placed { IsPlacedIn (shared_list shared.now) result }
+{
+    let place = shared_place(shared, key);
+    if place < shared_len(shared) {
+        Some(Change::Remove { place })
+    } else {
+        None
+    }
 }
 
 fn shared_len(shared: &Option<Arc<KeptMap>>) -> usize

@@ -41,6 +41,7 @@ use crate::passage::Passage;
 use crate::{NodeState, NodeTree, kept, look};
 use std::alloc::Global;
 use std::marker::Model;
+use std::mem::swap;
 use tp_commit::Branch;
 use tp_dialogue::{Asked, Dialogue, Heard};
 use tp_link::{Link, LinkState};
@@ -178,11 +179,13 @@ impl Node {
         kept::note_forget(alloc, &mut self.kept, key)
     }
 
-    /// The node has taken the place of the one of which it is a copy, and carries out what it changed of the kept
-    /// transactions that they shared. Nothing is known of it that was not.
-    pub fn settle_kept(&mut self, alloc: Global)
-        ensures { self.new ≡ self.old }
+    /// The node turns into that one, a copy of it on which something happened, and carries out what that changed of the
+    /// kept transactions that they shared.
+    pub fn turn_into(&mut self, alloc: Global, next: &mut Node)
+        ensures { self.new ≡ next.old }
     {
+        swap(self, next);
+        next.kept = KeptTable::new();
         self.kept.settle(alloc);
     }
 
@@ -676,16 +679,16 @@ impl Node {
         Ok(())
     }
 
-    /// A copy of the current transaction, as it sees the arcs now.
-    pub fn seen(&self, alloc: Global) -> Result<Option<Branch>, NoMemory>
-        ensures { IfOk result (λ branch. branch ≡ option_map (seen self.now.who self.now.digest.arcs) self.now.digest.current) }
+    /// The current transaction, as it sees the arcs now. The node has none then, until it settles one.
+    pub fn take_seen(&mut self) -> Option<Branch>
+        ensures branch { result ≡ option_map (seen self.old.who self.old.digest.arcs) self.old.digest.current }
+        ensures node { self.new ≡ with_digest self.old (record self.old.digest { current = None }) }
     {
-        let Some(current) = &self.current else {
-            return Ok(None);
+        let Some(mut branch) = self.current.take() else {
+            return None;
         };
-        let mut branch = current.copy(alloc)?;
         look::see(self.number, &self.arcs, &mut branch);
-        Ok(Some(branch))
+        Some(branch)
     }
 
     /// What a passage of the transaction does to the arcs.
@@ -770,19 +773,19 @@ impl Node {
     }
 
     /// A new dialogue is asked for: its arc stands after the others, and its association is offered with a new mark.
-    pub fn call(&mut self, addr: Addr, units: Units) -> Result<Mark, NumbersSpent>
+    pub fn call(&mut self, addr: Addr, units: Units) -> Result<Mark, Halt>
         requires declared { self.old.digest.declared ≡ true }
         requires other { find_arc self.old.digest.arcs addr.node ≡ None }
         requires side { Side.Superior ≡ side_at self.old.digest addr.node }
         requires place { has_place_at Side.Superior self.old.digest ≡ true }
         ensures mark { IfOk result (λ x. x ≡ next_mark self.old.who self.old.digest) }
         ensures node { IfOk result (λ x. self.new ≡ with_digest self.old (record (with_mark_drawn self.old.digest) { arcs = self.old.digest.arcs ++ new_arc addr units Side.Superior (Opening x) ∷ [] })) }
-        ensures spent { OnErr result (self.old.digest.drawn ≡ greatest) }
+        ensures spent { OnSpent result (self.old.digest.drawn ≡ greatest) }
     {
         let x = self.draw()?;
         let mut link = Link::idle();
         link.call(x);
-        self.add_arc(addr, units, Side::Superior, link);
+        self.add_arc(addr, units, Side::Superior, link)?;
         Ok(x)
     }
 
@@ -816,15 +819,15 @@ impl Node {
     }
 
     /// The superior offers a dialogue: its arc stands before the others.
-    pub fn open(&mut self, from: Addr, x: Mark, units: Units)
+    pub fn open(&mut self, from: Addr, x: Mark, units: Units) -> Result<(), NoMemory>
         requires declared { self.old.digest.declared ≡ true }
         requires other { find_arc self.old.digest.arcs from.node ≡ None }
         requires side { Side.Subordinate ≡ side_at self.old.digest from.node }
-        ensures { self.new ≡ with_arcs self.old (new_arc from units Side.Subordinate (Offered x) ∷ self.old.digest.arcs) }
+        ensures { OnOk result (self.new ≡ with_arcs self.old (new_arc from units Side.Subordinate (Offered x) ∷ self.old.digest.arcs)) }
     {
         let mut link = Link::idle();
         link.offered(x);
-        self.add_arc(from, units, Side::Subordinate, link);
+        self.add_arc(from, units, Side::Subordinate, link)
     }
 
     /// The peer answers the call on that arc: it is live, with a new dialogue.
@@ -866,18 +869,18 @@ impl Node {
     }
 
     // Adds a new dialogue, on an association of that state.
-    fn add_arc(&mut self, addr: Addr, units: Units, side: Side, link: Link)
+    fn add_arc(&mut self, addr: Addr, units: Units, side: Side, link: Link) -> Result<(), NoMemory>
         requires declared { self.old.digest.declared ≡ true }
         requires other { find_arc self.old.digest.arcs addr.node ≡ None }
         requires side { side ≡ side_at self.old.digest addr.node }
         requires place { has_place_at side self.old.digest ≡ true }
         requires link { fits_link side link ≡ true }
-        ensures { self.new ≡ with_arcs self.old (with_arc side (new_arc addr units side link) self.old.digest.arcs) }
+        ensures { OnOk result (self.new ≡ with_arcs self.old (with_arc side (new_arc addr units side link) self.old.digest.arcs)) }
     {
         let Some(arcs) = &mut self.arcs else {
             unreachable!()
         };
-        arcs.add(addr, units, side, link);
+        arcs.add(addr, units, side, link)
     }
 
     /// What is asked is said on the arc with that peer, where there is one.

@@ -136,6 +136,34 @@ played_alike d arcs here t Commits outs = refl
 played_alike d arcs here t Rolls_back outs = refl
 played_alike d arcs here t Leaves outs = refl
 
+abbrev pub without_current : Draft → Draft
+without_current a = record a { move = record a.move { next = record a.move.next { current = None } } }
+
+-- a turn does not read the transaction where the node keeps it
+turning_alike : (d : Digest) (t n : Transaction) (w : PassageValue) (s : Step) (who : Who) → turning t w s n who (record d { current = None }) ≡ turning t w s n who d
+unfolding played
+turning_alike d t n Stays s who = refl
+turning_alike d t n Enters s who = refl
+turning_alike d t n Falls s who = refl
+turning_alike d t n Falls_at_once s who = refl
+turning_alike d t n Commits s who = refl
+turning_alike d t n Rolls_back s who = refl
+turning_alike d t n Leaves s who = refl
+
+pub taken_out : (r : Result (Unit {0}) Halt) (a b d : Draft) (t : Transaction) (e : TxEvent) → b ≡ without_current a → Plays r b d (turning_by t e) → Plays r a d (turning_by t e)
+taken_out r a b d t e is p =
+    plays_alike r a b d (turning_by t e) (turning_by t e) (
+    ap (λ (x : Draft). goes_on x (turning_by t e)) is
+    ∙ ap (λ (m : Move). record a { move = followed a.move (λ _. m) }) (turning_alike a.move.next t (transacted e t).next (passing t e) (step_of (transacted e t)) a.who)
+    ) p
+
+pub none_taken : (a b : Draft) → option_map (seen a.who a.move.next.arcs) a.move.next.current ≡ None → b ≡ without_current a → b ≡ a
+none_taken a b h is = is ∙ go a.move.next.current refl h
+  where
+    go : (o : Option Current) → a.move.next.current ≡ o → option_map (seen a.who a.move.next.arcs) o ≡ None → without_current a ≡ a
+    go None f g = ap (λ (o : Option Current). let x : Draft = record a { move = record a.move { next = record a.move.next { current = o } } } in x) (sym f)
+    go (Some c) f g = absurd (let clash : Some (seen a.who a.move.next.arcs c) ≡ None = g in cc)
+
 pub turned_by : (who : Who) (e : TxEvent) (d : Digest) (c : Current) → turned who e d c ≡ turning_by (seen who d.arcs c) e who d
 turned_by who e d c =
     let t : Transaction = seen who d.arcs c in

@@ -8,7 +8,7 @@ use Rattle.tp_site.specs.Draft.{Draft}
 use Rattle.tp_node.specs.NodeEvent.{Answer, Refuses, Happens}
 
 -- the answer as it is given, with the draft of what happens; without memory nothing is said
-abbrev pub IsAnswer : Result (Option Refusal × Draft) TxFault → Node → Answer → Type 0
-IsAnswer (Ok p) v a = (a ≡ Happens (number_in p.0) p.1.move) × (p.1.who ≡ v.who)
-IsAnswer (Err (TxFault.Refused n)) v a = a ≡ Refuses n
-IsAnswer (Err TxFault.NoMemory) v a = Unit {0}
+abbrev pub IsAnswer : Result (Option Refusal) TxFault → Draft → Node → Answer → Type 0
+IsAnswer (Ok refusal) draft v a = (a ≡ Happens (number_in refusal) draft.move) × (draft.who ≡ v.who)
+IsAnswer (Err (TxFault.Refused n)) draft v a = a ≡ Refuses n
+IsAnswer (Err TxFault.NoMemory) draft v a = Unit {0}

@@ -106,14 +106,14 @@ pub record IsAttempted {K : Type 0} (old : Site K) (n : ℕ) (e : Event) (number
   pub open_before : old.shut ≡ None
   pub open_after : new.shut ≡ None
 
-abbrev pub Attempts : {K : Type 0} → (K → Standing) → Site K → ℕ → Event → Result (Option Refusal × Draft) SiteFault → Site K → Type 0
-Attempts standing old n e (Ok p) new = IsAttempted old n e (number_in p.0) p.1 new
-Attempts standing old n e (Err (SiteFault.Refused k)) new =
+abbrev pub Attempts : {K : Type 0} → (K → Standing) → Site K → ℕ → Event → Result (Option Refusal) SiteFault → Draft → Site K → Type 0
+Attempts standing old n e (Ok refusal) a new = IsAttempted old n e (number_in refusal) a new
+Attempts standing old n e (Err (SiteFault.Refused k)) a new =
     (answer_at (who_at old.nodes n) (known_at old n) e ≡ Refuses k) × (old.shut ≡ None) × (new ≡ old)
-Attempts standing old n e (Err (SiteFault.Full size)) new = ⊥
-Attempts standing old n e (Err (SiteFault.DiskFault faults)) new = ⊥
-Attempts standing old n e (Err (SiteFault.Shut faults)) new = (old.shut ≡ Some faults) × (new ≡ old)
-Attempts standing old n e (Err SiteFault.NoMemory) new = IsSame old new × (new.keeper ≡ old.keeper) × (new.shut ≡ old.shut)
+Attempts standing old n e (Err (SiteFault.Full size)) a new = ⊥
+Attempts standing old n e (Err (SiteFault.DiskFault faults)) a new = ⊥
+Attempts standing old n e (Err (SiteFault.Shut faults)) a new = (old.shut ≡ Some faults) × (new ≡ old)
+Attempts standing old n e (Err SiteFault.NoMemory) a new = IsSame old new × (new.keeper ≡ old.keeper) × (new.shut ≡ old.shut)
 
 -- the node has become that, and its record is forced
 pub record IsSettled {K : Type 0} (standing : K → Standing) (old : Site K) (n : ℕ) (d : Digest) (rec : Option LogRec) (new : Site K) : Type 0 where

@@ -1,5 +1,5 @@
 //! What a node answers to an event. Nothing of it is so before the record is forced.
-ghost use Rattle.std.specs.Prelude.{◌≡◌, ◌==◌, ◌&&◌, true, IfOk, None, Some};
+ghost use Rattle.std.specs.Prelude.{◌≡◌, ◌==◌, ◌&&◌, true, OnOk, None, Some};
 ghost use Rattle.tp_model.specs.Parts.{Arrive};
 ghost use Rattle.tp_model.specs.Events.{action, refusal, unless_spent, needs_numbers, has_pair};
 ghost use Rattle.tp_model.specs.Arrivals.{break_off, refused_arrival};
@@ -17,72 +17,81 @@ use tp_node::{Halt, Node, NodeEvent};
 use tp_records::PeerRecord;
 
 impl Draft {
-    // A draft on which an event happens that is not refused at once.
+    // The draft of a node on which an event happens that is not refused at once.
     #[tactic(auto, using(crate::proofs::Drafts::followed_silent))]
-    fn drafted(alloc: Global, node: &Node, event: &NodeEvent<'_>) -> Result<Draft, Halt>
+    fn draw_up(&mut self, alloc: Global, node: &Node, event: &NodeEvent<'_>) -> Result<(), Halt>
         requires { refused_at_once node.now.who node.now.digest event.now ≡ None }
-        ensures happens { IfOk result (λ a. a ≡ record { who = node.now.who; move = action node.now.who node.now.digest (event_of event.now) }) }
+        ensures happens { OnOk result (self.new ≡ record { who = node.now.who; move = action node.now.who node.now.digest (event_of event.now) }) }
         ensures spent { OnSpent result (needs_numbers (action node.now.who node.now.digest (event_of event.now)) ≡ true) }
     {
-        let mut draft = Draft::begin(alloc, node)?;
-        match draft.happen(alloc, event) {
-            Ok(()) => Ok(draft),
-            Err(halt) => Err(halt),
-        }
+        self.begin(alloc, node)?;
+        self.happen(alloc, event)
     }
 
     // What an event makes of the node that is not refused at once. A retry that says nothing is refused.
     #[tactic(auto, using(crate::proofs::Quiet::refused_spent, crate::proofs::Quiet::refused_silent, crate::proofs::Quiet::refused_not))]
-    fn try_event(alloc: Global, node: &Node, event: &NodeEvent<'_>) -> Result<Draft, TxFault>
+    fn try_event(
+        &mut self,
+        alloc: Global,
+        node: &Node,
+        event: &NodeEvent<'_>,
+    ) -> Result<(), TxFault>
         requires { refused_at_once node.now.who node.now.digest event.now ≡ None }
-        ensures happens { IfOk result (λ a. a ≡ record { who = node.now.who; move = action node.now.who node.now.digest (event_of event.now) }) }
+        ensures happens { OnOk result (self.new ≡ record { who = node.now.who; move = action node.now.who node.now.digest (event_of event.now) }) }
         ensures refused { IsRefusedAs result (refusal node.now.who node.now.digest (event_of event.now)) }
     {
         let _drawn = node.drawn();
-        match Draft::drafted(alloc, node, event) {
+        match self.draw_up(alloc, node, event) {
             Err(Halt::NumbersSpent) => Err(TxFault::Refused(Refusal::NumbersSpent.number())),
             Err(Halt::NoMemory) => Err(TxFault::NoMemory),
-            Ok(draft) => {
-                if draft.is_spent() {
+            Ok(()) => {
+                if self.is_spent() {
                     return Err(TxFault::Refused(Refusal::NumbersSpent.number()));
                 }
-                if is_retry(event) && draft.says_nothing() {
+                if is_retry(event) && self.says_nothing() {
                     return Err(TxFault::Refused(Refusal::NothingOwed.number()));
                 }
-                Ok(draft)
+                Ok(())
             }
         }
     }
 
     // The loss of the association on which a record came out of phase.
     #[tactic(auto, using(crate::proofs::Drafts::followed_silent))]
-    fn try_break(alloc: Global, node: &Node, from: Addr, rec: &PeerRecord) -> Result<Draft, TxFault>
-        ensures happens { IfOk result (λ a. a ≡ record { who = node.now.who; move = break_off node.now.who from rec.now node.now.digest }) }
+    fn try_break(
+        &mut self,
+        alloc: Global,
+        node: &Node,
+        from: Addr,
+        rec: &PeerRecord,
+    ) -> Result<(), TxFault>
+        ensures happens { OnOk result (self.new ≡ record { who = node.now.who; move = break_off node.now.who from rec.now node.now.digest }) }
         ensures refused { IsRefusedAs result (unless_spent (break_off node.now.who from rec.now node.now.digest) None) }
     {
-        let mut draft = Draft::begin(alloc, node)?;
-        match draft.break_off(alloc, from, rec) {
+        self.begin(alloc, node)?;
+        match self.break_off(alloc, from, rec) {
             Err(Halt::NumbersSpent) => Err(TxFault::Refused(Refusal::NumbersSpent.number())),
             Err(Halt::NoMemory) => Err(TxFault::NoMemory),
-            Ok(()) if draft.is_spent() => Err(TxFault::Refused(Refusal::NumbersSpent.number())),
-            Ok(()) => Ok(draft),
+            Ok(()) if self.is_spent() => Err(TxFault::Refused(Refusal::NumbersSpent.number())),
+            Ok(()) => Ok(()),
         }
     }
 
     // A record that came out of phase ends the association that it came on.
     #[tactic(auto, using(crate::proofs::Answered::broken, crate::proofs::Answered::broken_spent))]
     fn answer_out_of_phase(
+        &mut self,
         alloc: Global,
         node: &Node,
         from: Addr,
         rec: &PeerRecord,
-    ) -> Result<(Option<Refusal>, Draft), TxFault>
+    ) -> Result<Option<Refusal>, TxFault>
         requires refused { refused_arrival node.now.who node.now.digest from rec.now ≡ Some 24 }
         requires pair { has_pair rec.now ≡ true }
-        ensures { IsAnswer result node.now (answer_at node.now.who node.now.digest (Arrive from rec.now)) }
+        ensures { IsAnswer result self.new node.now (answer_at node.now.who node.now.digest (Arrive from rec.now)) }
     {
-        match Draft::try_break(alloc, node, from, rec) {
-            Ok(draft) => Ok((Some(Refusal::OutOfPhase), draft)),
+        match self.try_break(alloc, node, from, rec) {
+            Ok(()) => Ok(Some(Refusal::OutOfPhase)),
             Err(fault) => Err(fault),
         }
     }
@@ -90,38 +99,40 @@ impl Draft {
     // An event that is refused at once.
     #[tactic(auto, using(crate::proofs::Answered::refused_whole))]
     fn answer_refused(
+        &mut self,
         alloc: Global,
         node: &Node,
         event: &NodeEvent<'_>,
         refusal: Refusal,
-    ) -> Result<(Option<Refusal>, Draft), TxFault>
+    ) -> Result<Option<Refusal>, TxFault>
         requires { refused_at_once node.now.who node.now.digest event.now ≡ Some (number_of refusal) }
-        ensures { IsAnswer result node.now (answer_at node.now.who node.now.digest (event_of event.now)) }
+        ensures { IsAnswer result self.new node.now (answer_at node.now.who node.now.digest (event_of event.now)) }
     {
         if !ends_association(event, refusal) {
             return Err(TxFault::Refused(refusal.number()));
         }
         match event {
-            NodeEvent::Arrive { from, rec } => Draft::answer_out_of_phase(alloc, node, *from, rec),
+            NodeEvent::Arrive { from, rec } => self.answer_out_of_phase(alloc, node, *from, rec),
             _ => unreachable!(),
         }
     }
 
-    /// What the node answers to an event: what the event makes of it, or the number by which it is refused. With a
-    /// refusal, what happens is the loss of the association that follows that answer.
+    /// What the node answers to an event: what the event makes of it, as the draft has it then, or the refusal.
+    /// With one, what happens is the loss of the association that follows that answer.
     #[tactic(auto, using(crate::proofs::Answered::happens))]
     pub(crate) fn answer_to(
+        &mut self,
         alloc: Global,
         node: &Node,
         event: &NodeEvent<'_>,
-    ) -> Result<(Option<Refusal>, Draft), TxFault>
-        ensures { IsAnswer result node.now (answer_at node.now.who node.now.digest (event_of event.now)) }
+    ) -> Result<Option<Refusal>, TxFault>
+        ensures { IsAnswer result self.new node.now (answer_at node.now.who node.now.digest (event_of event.now)) }
     {
         if let Some(refusal) = node.refused_at_once(event) {
-            return Draft::answer_refused(alloc, node, event, refusal);
+            return self.answer_refused(alloc, node, event, refusal);
         }
-        match Draft::try_event(alloc, node, event) {
-            Ok(draft) => Ok((None, draft)),
+        match self.try_event(alloc, node, event) {
+            Ok(()) => Ok(None),
             Err(fault) => Err(fault),
         }
     }

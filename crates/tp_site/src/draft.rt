@@ -346,9 +346,8 @@ impl Draft {
         ensures over { IfOk result (λ over. over ≡ is_over (passing branch.now event.now)) }
         ensures turn { Plays (without_value result) self.old self.new (turning_by branch.now event.now) }
     {
-        let step = branch.step(alloc, event)?;
         let mut next = branch.copy(alloc)?;
-        next.apply(event);
+        let step = next.turn(alloc, event)?;
         let passage = Passage::of(is_leaving(event), branch.phase(), next.phase());
         if let Err(halt) = self.turn(alloc, branch, passage, step, next) {
             return Err(halt);
@@ -362,7 +361,7 @@ impl Draft {
         requires { begins event.now ≡ 0 }
         ensures { Plays result self.old self.new (λ who. transact who event.now) }
     {
-        let Some(branch) = self.node.seen(alloc)? else {
+        let Some(branch) = self.node.take_seen() else {
             return Ok(());
         };
         match self.take_turn(alloc, &branch, event) {
@@ -500,7 +499,7 @@ impl Draft {
         ensures { Plays result self.old self.new (λ who. take_open from x units) }
     {
         let peer = from.node;
-        self.node.open(from, x, units);
+        self.node.open(from, x, units)?;
         self.tell(Indication::BeginDialogue { peer, units })
     }
 

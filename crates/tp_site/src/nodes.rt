@@ -63,8 +63,8 @@ impl Nodes {
         self.boot
     }
 
-    // A node of which the log has no record.
-    fn unknown(&self, alloc: Global, node: u16) -> Node
+    /// A node of which the log has no record.
+    pub(crate) fn unknown(&self, alloc: Global, node: u16) -> Node
         ensures { result ≡ record { who = who_at self.now node; digest = started (unknown_start self.now) } }
     {
         Node::unknown(alloc, self.site, node, self.boot, self.version)
@@ -78,19 +78,20 @@ impl Nodes {
         self.nodes.get(&number)
     }
 
-    /// What the node of that number answers to an event.
+    /// What the node of that number answers to an event, with the draft of what happens.
     #[tactic(auto, using(crate::proofs::Numbered::found, crate::proofs::Numbered::unfound))]
     pub(crate) fn answer_to(
         &self,
         alloc: Global,
         node: u16,
         event: &NodeEvent<'_>,
-    ) -> Result<(Option<Refusal>, Draft), TxFault>
-        ensures { IsAnswer result (node_at self.now node) (answer_at (who_at self.now node) (digest_at self.now node) (event_of event.now)) }
+        draft: &mut Draft,
+    ) -> Result<Option<Refusal>, TxFault>
+        ensures { IsAnswer result draft.new (node_at self.now node) (answer_at (who_at self.now node) (digest_at self.now node) (event_of event.now)) }
     {
         match self.find(node) {
-            Some(node) => Draft::answer_to(alloc, node, event),
-            None => Draft::answer_to(alloc, &self.unknown(alloc, node), event),
+            Some(node) => draft.answer_to(alloc, node, event),
+            None => draft.answer_to(alloc, &self.unknown(alloc, node), event),
         }
     }
 
@@ -108,18 +109,18 @@ impl Nodes {
         Ok(())
     }
 
-    /// The node of that number takes the place of what it was. It fails for no want of memory.
-    pub(crate) fn put(&mut self, alloc: Global, number: u16, node: Node)
+    /// The node of that number, as the draft has it, takes the place of what it was. It takes no memory.
+    pub(crate) fn put(&mut self, alloc: Global, number: u16, draft: &mut Draft)
         requires there { has_node self.old number ≡ true }
-        requires who { node.who ≡ who_at self.old number }
-        ensures put { (n : ℕ) → digest_at self.new n ≡ cond (number == n) node.digest (digest_at self.old n) }
+        requires who { draft.old.who ≡ who_at self.old number }
+        ensures put { (n : ℕ) → digest_at self.new n ≡ cond (number == n) draft.old.move.next (digest_at self.old n) }
         ensures site { IsSameSite self.old self.new }
+        ensures outs { draft.new.move.outs ≡ draft.old.move.outs }
     {
         let Some(place) = self.nodes.get_mut(&number) else {
             return;
         };
-        *place = node;
-        place.settle_kept(alloc);
+        draft.put_node(alloc, place);
     }
 
     // One more record of the node of that number.

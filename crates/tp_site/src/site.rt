@@ -1,5 +1,5 @@
 //! A site: its nodes, over a keeper of its log.
-ghost use Rattle.std.specs.Prelude.{◌≡◌, true, IfOk, IfErr, Some, None};
+ghost use Rattle.std.specs.Prelude.{◌≡◌, true, IfOk, IfErr, OnOk, Some, None};
 ghost use Rattle.std.specs.Option.{option_map};
 ghost use Rattle.tp_logrec.specs.Order.{boots, last_number};
 ghost use Rattle.tp_model.specs.History.{state};
@@ -21,7 +21,7 @@ use tp_journal::{ForceFault, Keeper, first_out_of_order};
 use tp_logrec::{LogRec, LogVersion};
 use tp_model::{Phase, Refusal, TxFault};
 use tp_names::{NoMemory, SiteName};
-use tp_node::{Node, NodeEvent, NodeState, NodeTree, Outs};
+use tp_node::{NodeEvent, NodeState, NodeTree, Outs};
 
 /// What an event gives: its outputs, in order. With a number, it was refused by that, and the association that it came on
 /// was ended; the outputs are of that loss.
@@ -31,11 +31,12 @@ pub struct Played {
     pub outs: Outs,
 }
 
-/// A site: its nodes, over a keeper of its log.
+/// A site: its nodes, over a keeper of its log. An event is drawn up on the draft of the one before it, in its memory.
 #[derive(Drop)]
 pub struct Site<K: Keeper> {
     keeper: K,
     nodes: Nodes,
+    spare: Option<Box<Draft>>,
     shut: Option<u64>,
 }
 
@@ -90,16 +91,17 @@ impl<K: Keeper> Site<K> {
         alloc: Global,
         node: u16,
         event: &NodeEvent<'_>,
-    ) -> Result<(Option<Refusal>, Draft), SiteFault>
-        ensures { Attempts K.standing self.old node (event_of event.now) result self.new }
+        draft: &mut Draft,
+    ) -> Result<Option<Refusal>, SiteFault>
+        ensures { Attempts K.standing self.old node (event_of event.now) result draft.new self.new }
     {
         if let Some(faults) = self.shut {
             return Err(SiteFault::Shut { faults });
         }
-        match self.nodes.answer_to(alloc, node, event) {
-            Ok(answer) => {
+        match self.nodes.answer_to(alloc, node, event, draft) {
+            Ok(refusal) => {
                 self.nodes.prepare(alloc, node)?;
-                Ok(answer)
+                Ok(refusal)
             }
             Err(TxFault::Refused(number)) => Err(SiteFault::Refused(number)),
             Err(TxFault::NoMemory) => Err(SiteFault::NoMemory),
@@ -107,23 +109,46 @@ impl<K: Keeper> Site<K> {
     }
 
     // The record is forced, and the node takes the place of what it was.
-    fn settle(
-        &mut self,
-        alloc: Global,
-        number: u16,
-        node: Node,
-        rec: &Option<LogRec>,
-    ) -> Result<(), SiteFault>
+    fn settle(&mut self, alloc: Global, number: u16, draft: &mut Draft) -> Result<(), SiteFault>
         requires there { has_node self.old.nodes number ≡ true }
-        requires who { node.who ≡ who_at self.old.nodes number }
+        requires who { draft.old.who ≡ who_at self.old.nodes number }
         requires open { self.old.shut ≡ None }
-        ensures { Settles K.standing self.old number node.digest rec.now result self.new }
+        ensures settled { Settles K.standing self.old number draft.old.move.next draft.old.move.rec result self.new }
+        ensures outs { OnOk result (draft.new.move.outs ≡ draft.old.move.outs) }
     {
-        if let Err(fault) = self.force(alloc, rec) {
+        if let Err(fault) = self.force(alloc, draft.rec()) {
             return Err(self.stop(fault));
         }
-        self.nodes.put(alloc, number, node);
+        self.nodes.put(alloc, number, draft);
         Ok(())
+    }
+
+    // A draft to draw up an event on: the one before, where there is one.
+    fn spare_draft(&mut self, alloc: Global) -> Result<Box<Draft>, NoMemory>
+        ensures { self.new ≡ self.old }
+    {
+        match self.spare.take() {
+            Some(draft) => Ok(draft),
+            None => Ok(Box::new(alloc, Draft::of(alloc, self.nodes.unknown(alloc, 0)))?),
+        }
+    }
+
+    // An event of the node of that number, drawn up on that draft.
+    fn play_on(
+        &mut self,
+        alloc: Global,
+        node: u16,
+        event: &NodeEvent<'_>,
+        draft: &mut Draft,
+    ) -> Result<Played, SiteFault>
+        ensures { Plays K.standing self.old node (event_of event.now) result self.new }
+    {
+        let refusal = self.attempt(alloc, node, event, draft)?;
+        self.settle(alloc, node, draft)?;
+        Ok(Played {
+            number: number_in(refusal),
+            outs: draft.take_outs(alloc),
+        })
     }
 
     /// An event of the node of that number. Its record is forced before anything of it is so; a refusal changes nothing.
@@ -136,13 +161,10 @@ impl<K: Keeper> Site<K> {
     ) -> Result<Played, SiteFault>
         ensures { Plays K.standing self.old node (event_of event.now) result self.new }
     {
-        let (refusal, draft) = self.attempt(alloc, node, event)?;
-        let (next, rec, outs) = draft.into_parts();
-        self.settle(alloc, node, next, &rec)?;
-        Ok(Played {
-            number: number_in(refusal),
-            outs,
-        })
+        let mut draft = self.spare_draft(alloc)?;
+        let played = self.play_on(alloc, node, event, &mut draft);
+        self.spare = Some(draft);
+        played
     }
 
     // What a fault of the log means for the site.
@@ -165,6 +187,7 @@ impl<K: Keeper> Site<K> {
             Ok(()) => Ok(Site {
                 keeper,
                 nodes,
+                spare: None,
                 shut: None,
             }),
             Err(fault) => Err((keeper, StartFault::from(fault))),

@@ -1,7 +1,7 @@
 -- The arcs of a node as the code keeps them, and the arcs of the definitions that they are: the superior's
 -- first, then the subordinates' in the order in which they were added. Which arcs there are, and what is
 -- said on them, the definitions of the service say.
-use Rattle.std.specs.Prelude.{ℕ, ◌≡◌, Bool, true, false, nat_lt, if◌then◌else◌, Option, Some, None, List, [], ◌∷◌, ◌++◌, length, map, take, drop, slice_set}
+use Rattle.std.specs.Prelude.{ℕ, ◌≡◌, ◌≤◌, Bool, true, false, nat_lt, if◌then◌else◌, Option, Some, None, List, [], ◌∷◌, ◌++◌, length, map, take, drop, slice_set, vec_capacity}
 use Rattle.tp_names.specs.declared.identifiers.Addr.{Addr}
 use Rattle.tp_model.specs.declared.arc.Side.{Side}
 use Rattle.tp_model.specs.Parts.{Link, Dialogue, Arc}
@@ -15,12 +15,17 @@ pub record Invocation : Type 0 where
   pub superior : Option Addr
   -- how many subordinates there can be
   pub room : ℕ
+  -- the memory for all of them is taken
+  pub reserved : Bool
   -- the arc to the superior
   pub above : Option Tie
   pub below : List Tie
 
 abbrev pub value_of : Inside → Invocation
-value_of v = record { node = v.node; superior = v.superior; room = v.room; above = v.above; below = v.below.items }
+value_of v = record { node = v.node; superior = v.superior; room = v.room; reserved = v.reserved; above = v.above; below = v.below.items }
+
+abbrev pub IsReserved : Inside → Type 0
+IsReserved v = v.reserved ≡ true → v.room ≤ vec_capacity v.below
 
 abbrev pub ties_of : Invocation → List Tie
 ties_of v = elim v.above [ None ↦ v.below | Some t ↦ t ∷ v.below ]

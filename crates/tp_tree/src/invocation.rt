@@ -1,5 +1,5 @@
 //! The arcs of one node.
-ghost use Rattle.std.specs.Prelude.{◌≡◌, ◌⊎◌, Option, None, Some, [], IfOk, IsNone, IsTrue};
+ghost use Rattle.std.specs.Prelude.{◌≡◌, ◌⊎◌, true, false, Option, None, Some, [], Ok, IfOk, OnOk, OnErr, IsNone, IsTrue};
 ghost use Rattle.std.specs.Borrow.{sem};
 ghost use Rattle.std.specs.Option.{option_copied, option_copied_mut, option_map};
 ghost use Rattle.std.specs.Vec.{vec_capacity};
@@ -26,20 +26,19 @@ pub struct Invocation {
     node: u16,
     superior: Option<Addr>,
     room: u16,
+    reserved: bool,
     above: Option<Tie>,
     below: Vec<Tie>,
 }
 
 impl Model for Invocation {
-    ghost use Rattle.std.specs.Prelude.{◌≤◌};
-    ghost use Rattle.std.specs.Vec.{vec_capacity};
-    ghost use Rattle.tp_tree.specs.Invocation.{Invocation as InvocationValue, value_of};
+    ghost use Rattle.tp_tree.specs.Invocation.{Invocation as InvocationValue, value_of, IsReserved};
 
     ghost Value = { InvocationValue };
 
     ghost view = { value_of };
 
-    ghost invariant = { λ v. v.room ≤ vec_capacity v.below };
+    ghost invariant = { IsReserved };
 }
 
 impl Invocation {
@@ -51,16 +50,32 @@ impl Invocation {
         room: u16,
     ) -> Result<Invocation, NoMemory>
         requires { (room ≡ 32) ⊎ (room ≡ 256) }
-        ensures { IfOk result (λ v. v ≡ record { node = node; superior = superior; room = room; above = None; below = [] }) }
+        ensures { IfOk result (λ v. v ≡ record { node = node; superior = superior; room = room; reserved = true; above = None; below = [] }) }
     {
         let below = Vec::with_capacity(alloc, usize::from(room))?;
         Ok(Invocation {
             node,
             superior,
             room,
+            reserved: true,
             above: None,
             below,
         })
+    }
+
+    /// A node with no arcs, and no memory for any: it is taken as arcs are added, for at most `room` subordinates, 32 or 256.
+    pub fn bare(alloc: Global, node: u16, superior: Option<Addr>, room: u16) -> Invocation
+        requires { (room ≡ 32) ⊎ (room ≡ 256) }
+        ensures { result ≡ record { node = node; superior = superior; room = room; reserved = false; above = None; below = [] } }
+    {
+        Invocation {
+            node,
+            superior,
+            room,
+            reserved: false,
+            above: None,
+            below: Vec::new(alloc),
+        }
     }
 
     /// The node's number.
@@ -160,19 +175,39 @@ impl Invocation {
         self.above.as_ref()
     }
 
-    /// An equal invocation, with room of its own.
+    /// An equal invocation, with memory for the arcs that it has and for no others.
     pub fn copy(&self, alloc: Global) -> Result<Invocation, NoMemory>
-        ensures { IfOk result (λ v. v ≡ self.now) }
+        ensures { IfOk result (λ v. v ≡ record self.now { reserved = false }) }
     {
-        let mut below = Vec::with_capacity(alloc, usize::from(self.room))?;
+        let mut below = Vec::with_capacity(alloc, self.below.len())?;
         below.extend_from_slice(self.below.as_slice())?;
         Ok(Invocation {
             node: self.node,
             superior: self.superior,
             room: self.room,
+            reserved: false,
             above: self.above,
             below,
         })
+    }
+
+    /// Becomes a copy of that one, in the memory that it has where that is enough. Without memory it stays what it was.
+    pub fn copy_from(&mut self, other: &Invocation) -> Result<(), NoMemory>
+        ensures copy { OnOk result (self.new ≡ record other.now { reserved = false }) }
+        ensures same { OnErr result (self.new ≡ self.old) }
+    {
+        let more = other.below.len().saturating_sub(self.below.len());
+        self.below.reserve(more)?;
+        self.below.clear();
+        let Ok(()) = self.below.extend_from_slice(other.below.as_slice()) else {
+            unreachable!()
+        };
+        self.node = other.node;
+        self.superior = other.superior;
+        self.room = other.room;
+        self.reserved = false;
+        self.above = other.above;
+        Ok(())
     }
 
     /// Whether an arc on that side can be added: one to the superior where there is none, and one to a
@@ -187,22 +222,22 @@ impl Invocation {
     }
 
     /// Adds an arc with no association, on which the node is that side: an arc to a subordinate stands
-    /// after the others, and the one to the superior before them. It takes no memory.
-    pub fn add(&mut self, addr: Addr, units: Units, side: Side)
+    /// after the others, and the one to the superior before them. It takes no memory where all of the room is reserved.
+    /// Without memory nothing changes.
+    pub fn add(&mut self, addr: Addr, units: Units, side: Side) -> Result<(), NoMemory>
         requires other { IsNone (find_arc (arcs_of self.old) addr.node) }
         requires room { IsTrue (has_room side self.old) }
-        ensures value { self.new ≡ with_added side (fresh_tie addr units side) self.old }
-        ensures arcs { arcs_of self.new ≡ with_arc side (fresh_arc addr units side) (arcs_of self.old) }
+        ensures value { OnOk result (self.new ≡ with_added side (fresh_tie addr units side) self.old) }
+        ensures arcs { OnOk result (arcs_of self.new ≡ with_arc side (fresh_arc addr units side) (arcs_of self.old)) }
+        ensures memory { self.old.reserved ≡ true → result ≡ Ok tt }
+        ensures same { OnErr result (self.new ≡ self.old) }
     {
         let tie = Tie::new(addr, units, side);
         match side {
             Side::Subordinate => self.above = Some(tie),
-            Side::Superior => {
-                if self.below.push(tie).is_err() {
-                    unreachable!()
-                }
-            }
+            Side::Superior => self.below.push(tie)?,
         }
+        Ok(())
     }
 
     /// Takes away the arc with the peer of that number, where there is one.

@@ -1,7 +1,7 @@
 //! The dialogues of one node: its superior, its arcs in the order in which they were asked for, and
 //! their associations.
 //!
-//! Room for every subordinate is taken at the start, and none later. It finds, adds and takes away arcs;
+//! Memory for every subordinate is taken at the start, and none later; a copy has memory for its arcs alone. It finds, adds and takes away arcs;
 //! what is said on them, and when an arc goes, it is told by its caller.
 #![tactic(auto)]
 

@@ -1,5 +1,5 @@
 //! How a node comes to be: from the records of a log, by its declaration, and as a copy of another.
-ghost use Rattle.std.specs.Prelude.{◌≡◌, false, true, [], None, IfOk, OnOk, nat_lt};
+ghost use Rattle.std.specs.Prelude.{◌≡◌, false, true, [], None, IfOk, OnOk, OnErr, nat_lt};
 ghost use Rattle.std.specs.Option.{option_map};
 ghost use Rattle.tp_logrec.specs.Order.{is_commit, is_ready};
 ghost use Rattle.tp_model.specs.Links.{greatest};
@@ -135,41 +135,71 @@ impl Node {
         Ok(())
     }
 
-    /// The node is declared, with its superior's address where it has one.
-    pub fn declare(&mut self, alloc: Global, superior: Option<Addr>) -> Result<(), NoMemory>
+    /// The node is declared, with its superior's address where it has one. It takes no memory.
+    pub fn declare(&mut self, alloc: Global, superior: Option<Addr>)
         requires { self.old.digest.declared ≡ false }
-        ensures { OnOk result (self.new ≡ with_digest self.old (record self.old.digest { declared = true; superior = superior })) }
+        ensures { self.new ≡ with_digest self.old (record self.old.digest { declared = true; superior = superior }) }
     {
         let room = match self.version {
             LogVersion::One => 32,
             LogVersion::Two => 256,
         };
-        self.arcs = Some(Arcs::new(alloc, self.number, superior, room)?);
-        Ok(())
+        self.arcs = Some(Arcs::new(alloc, self.number, superior, room));
     }
 
-    /// An equal node, with room of its own. The kept transactions are shared.
-    pub fn copy(&self, alloc: Global) -> Result<Node, NoMemory>
-        ensures { IfOk result (λ node. node ≡ self.now) }
+    /// Becomes equal to that one, in the memory that it has where that is enough. The kept transactions are shared.
+    pub fn copy_from(&mut self, alloc: Global, other: &Node) -> Result<(), NoMemory>
+        ensures { OnOk result (self.new ≡ other.now) }
     {
-        let arcs = match &self.arcs {
-            None => None,
-            Some(arcs) => Some(arcs.copy(alloc)?),
-        };
-        let current = match &self.current {
-            None => None,
-            Some(branch) => Some(branch.copy(alloc)?),
-        };
-        Ok(Node {
-            site: self.site,
-            number: self.number,
-            known: self.known,
-            arcs,
-            current,
-            kept: self.kept.copy(alloc)?,
-            drawn: self.drawn,
-            boot: self.boot,
-            version: self.version,
-        })
+        let kept = other.kept.copy(alloc)?;
+        copy_current(alloc, &mut self.current, &other.current)?;
+        copy_arcs(alloc, &mut self.arcs, &other.arcs)?;
+        self.site = other.site;
+        self.number = other.number;
+        self.known = other.known;
+        self.kept = kept;
+        self.drawn = other.drawn;
+        self.boot = other.boot;
+        self.version = other.version;
+        Ok(())
+    }
+}
+
+// Without memory the transaction may be any.
+fn copy_current(
+    alloc: Global,
+    own: &mut Option<Branch>,
+    other: &Option<Branch>,
+) -> Result<(), NoMemory>
+    ensures { OnOk result (own.new ≡ other.now) }
+{
+    let Some(branch) = other else {
+        *own = None;
+        return Ok(());
+    };
+    match own {
+        Some(own) => own.copy_from(branch),
+        None => {
+            *own = Some(branch.copy(alloc)?);
+            Ok(())
+        }
+    }
+}
+
+// Without memory the arcs stay what they were.
+fn copy_arcs(alloc: Global, own: &mut Option<Arcs>, other: &Option<Arcs>) -> Result<(), NoMemory>
+    ensures copy { OnOk result (own.new ≡ other.now) }
+    ensures same { OnErr result (own.new ≡ own.old) }
+{
+    let Some(arcs) = other else {
+        *own = None;
+        return Ok(());
+    };
+    match own {
+        Some(own) => own.copy_from(arcs),
+        None => {
+            *own = Some(arcs.copy(alloc)?);
+            Ok(())
+        }
     }
 }

@@ -1,5 +1,5 @@
 //! An event of a node on a draft of it.
-ghost use Rattle.std.specs.Prelude.{◌≡◌, false, [], IfOk, None};
+ghost use Rattle.std.specs.Prelude.{◌≡◌, false, [], OnOk, None};
 ghost use Rattle.tp_model.specs.Node.{move};
 ghost use Rattle.tp_model.specs.Events.{action, needs_numbers, says_nothing};
 ghost use Rattle.tp_model.specs.Parts.{Declare};
@@ -8,30 +8,52 @@ ghost use Rattle.tp_node.specs.NodeEvent.{event_of, refused_at_once};
 
 use crate::draft::Draft;
 use std::alloc::Global;
+use std::mem::replace;
 use tp_logrec::LogRec;
 use tp_model::TxEvent;
 use tp_names::{Addr, NoMemory};
 use tp_node::{Halt, Node, NodeEvent, Outs};
 
 impl Draft {
-    /// A draft of a node, on which nothing has happened.
-    pub(crate) fn begin(alloc: Global, node: &Node) -> Result<Draft, NoMemory>
-        ensures { IfOk result (λ a. a ≡ record { who = node.now.who; move = move [] node.now.digest }) }
-    {
-        Ok(Draft {
-            node: node.copy(alloc)?,
+    /// A draft of that node, on which nothing has happened.
+    pub(crate) fn of(alloc: Global, node: Node) -> Draft {
+        Draft {
+            node,
             rec: None,
             outs: Outs::new(alloc),
-        })
+        }
     }
 
-    /// The node, the record that is to be forced, and the outputs.
-    pub(crate) fn into_parts(self) -> (Node, Option<LogRec>, Outs)
-        ensures node { result.0 ≡ node_in self }
-        ensures rec { result.1 ≡ self.move.rec }
-        ensures outs { result.2 ≡ self.move.outs }
+    /// Begins anew as a draft of that node, on which nothing has happened, in the memory that it has.
+    pub(crate) fn begin(&mut self, alloc: Global, node: &Node) -> Result<(), NoMemory>
+        ensures { OnOk result (self.new ≡ record { who = node.now.who; move = move [] node.now.digest }) }
     {
-        (self.node, self.rec, self.outs)
+        self.node.copy_from(alloc, node)?;
+        self.rec = None;
+        self.outs = Outs::new(alloc);
+        Ok(())
+    }
+
+    /// The record that is to be forced.
+    pub(crate) fn rec(&self) -> &Option<LogRec>
+        ensures { result.now ≡ self.now.move.rec }
+    {
+        &self.rec
+    }
+
+    /// The node, as the draft has it by now, takes that place.
+    pub(crate) fn put_node(&mut self, alloc: Global, place: &mut Node)
+        ensures node { place.new ≡ node_in self.old }
+        ensures outs { self.new.move.outs ≡ self.old.move.outs }
+    {
+        place.turn_into(alloc, &mut self.node);
+    }
+
+    /// The outputs, which it has no more.
+    pub(crate) fn take_outs(&mut self, alloc: Global) -> Outs
+        ensures { result ≡ self.old.move.outs }
+    {
+        replace(&mut self.outs, Outs::new(alloc))
     }
 
     /// Nothing goes out.
@@ -53,7 +75,7 @@ impl Draft {
         requires { self.old.move.next.declared ≡ false }
         ensures { Plays result self.old self.new (λ who d. action who d (Declare superior)) }
     {
-        self.node.declare(alloc, superior)?;
+        self.node.declare(alloc, superior);
         Ok(())
     }
 

@@ -12,21 +12,21 @@ unreachable-requires c =
     let v = c.self.inside.tree in
     let x = c.in_default.ensures {u = tt} in
     let none : find_arc (arcs_of v) c.args.addr.node ≡ None = subst (λ (x : Arcs). find_arc x.arcs c.args.addr.node ≡ None) (sym c.self.view_is) c.requires.other in
-    made_there v c.add.new.self c.args.addr c.args.units c.args.side c.add.ensures.value none x.tie
+    made_there v c.add.new.self c.args.addr c.args.units c.args.side (c.in_ok-add.ensures {u = tt}).value none x.tie
 
-pub invariant_of-self : goal.invariant_of-self
-invariant_of-self c =
+pub invariant_of-self-2 : goal.invariant_of-self-2
+invariant_of-self-2 c =
     let v = c.self.inside.tree in
     let u = bound_tie c.args.addr c.args.units c.args.side c.args.link in
     let none : find_arc (arcs_of v) c.args.addr.node ≡ None = subst (λ (x : Arcs). find_arc x.arcs c.args.addr.node ≡ None) (sym c.self.view_is) c.requires.other in
     let side : c.args.side ≡ side_with v.superior c.args.addr.node = c.requires.side ∙ ap (λ (x : Arcs). side_with x.superior c.args.addr.node) (sym c.self.view_is) in
-    let made = made_so v c.add.new.self c.args.addr c.args.units c.args.side c.args.link c.in-Some.tie.now c.add.ensures.value none c.in-Some.ensures.tie in (
+    let made = made_so v c.add.new.self c.args.addr c.args.units c.args.side c.args.link c.in-Some.tie.now (c.in_ok-add.ensures {u = tt}).value none c.in-Some.ensures.tie in (
       ap is_sided made ∙ added_on v c.args.side u c.self.invariant.0 (itself_on v.superior c.args.side u refl side) none,
       ap is_linked made ∙ added_linked v c.args.side u c.self.invariant.1 c.requires.link,
     )
 
-pub returns : goal.returns
-returns c =
+pub returns-clause-added : goal.returns-clause-added
+returns-clause-added c =
     let v = c.self.inside.tree in
     let a = c.args.addr in
     let side = c.args.side in
@@ -35,7 +35,7 @@ returns c =
     let on : side ≡ side_with v.superior a.node = c.requires.side ∙ ap (λ (x : Arcs). side_with x.superior a.node) (sym c.self.view_is) in
     let place : has_place side (value_of (record { tree = v })) ≡ true = ap (has_place side) c.self.view_is ∙ c.requires.place in
     let room : has_room side v ≡ true = place_for v a side c.self.invariant.0 none on place in
-    let made = made_so v c.add.new.self a c.args.units side c.args.link c.in-Some.tie.now c.add.ensures.value none c.in-Some.ensures.tie in
+    let made = made_so v c.add.new.self a c.args.units side c.args.link c.in-Some.tie.now (c.in_ok-add.ensures {u = tt}).value none c.in-Some.ensures.tie in
     ap (λ (x : Invocation). value_of (record { tree = x })) made
     ∙ added_value v side u room
     ∙ ap (λ (d : Arcs). record d { arcs = with_arc side (arc_of u) d.arcs }) c.self.view_is
