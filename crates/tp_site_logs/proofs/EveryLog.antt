@@ -7,7 +7,8 @@ use Rattle.tp_model.specs.Questions.{is_crash}
 use Rattle.tp_model.specs.History.{broken_by}
 use Rattle.tp_model.specs.Disk.{Disk, Remains, forced, remains, remains_at_gate}
 use Rattle.tp_model.specs.World.{Frame, addr_at, find_frame}
-use Rattle.tp_model.specs.Happenings.{Turn, still, after_lines, deed_lines, after_stop, crash_turn, Deed, Happening, Task, task_at, task_of, request_in, entered, logged, entry_turn, deed_turn, new_node, new_site, declared_at, declare_turn, restarted_at, booted, stop_in_force, stop_in_entry, stop_in_task, task_here, crash_in_turn, run}
+use Rattle.tp_model.specs.declared.line.Action.{Action}
+use Rattle.tp_model.specs.Happenings.{Turn, still, after_lines, action_lines, after_stop, crash_turn, Happening, Task, task_at, task_of, request_in, entered, logged, entry_turn, action_turn, new_node, new_site, declared_at, declare_turn, restarted_at, booted, stop_in_force, stop_in_entry, stop_in_task, task_here, crash_in_turn, run}
 use Rattle.tp_steps.proofs.every.Answers.{Accepted, accepted}
 use Rattle.tp_histories.proofs.worlds.Nodes.{find_put, find_append}
 use Rattle.tp_histories.proofs.worlds.Traversal.{Ready, ready_of}
@@ -71,22 +72,23 @@ entered_holds m w n e en h = go e.rec refl (h.placed (number_of n) n en.here)
 calm_at : (w : World) (n : ℕ) (e : Event) (t : Task) → task_at w n e ≡ Some t → t.event ≡ e
 calm_at w n e t is = grind (arith, is)
 
-calm_task : (w : World) (d : Deed) (t : Task) → task_of w d ≡ Some t → is_crash t.event ≡ false
-calm_task w (Deed.Ask n q) t is = go (request_in w q) refl
+calm_task : (w : World) (d : Action) (t : Task) → task_of w d ≡ Some t → is_crash t.event ≡ false
+calm_task w (Action.Do n q) t is = go (request_in w q) refl
   where
     go : (o : Option Request) → request_in w q ≡ o → is_crash t.event ≡ false
     go None i = let none : None ≡ Some t = rw (i, task_of) at is in absurd (cc (none))
     go (Some r) i = ap is_crash (calm_at w n (Event.Do r) t (rw (i, task_of) at is))
-calm_task w (Deed.Deliver k) t is = go (find_frame w.frames k) refl
+calm_task w (Action.Pass a b) t is = absurd (cc (is))
+calm_task w (Action.Again k) t is = go (find_frame w.frames k) refl
   where
     go : (o : Option Frame) → find_frame w.frames k ≡ o → is_crash t.event ≡ false
     go None i = let none : None ≡ Some t = rw (i, task_of) at is in absurd (cc (none))
     go (Some f) i = ap is_crash (calm_at w f.to.node (Event.Arrive f.from f.rec) t (rw (i, task_of) at is))
-calm_task w (Deed.Lose n p) t is = ap is_crash (calm_at w n (Event.Lose p) t is)
-calm_task w (Deed.Decide n o) t is = ap is_crash (calm_at w n (Event.Heur o) t is)
-calm_task w (Deed.Abandon n p) t is = ap is_crash (calm_at w n (Event.GiveUp p) t is)
-calm_task w (Deed.Retry n) t is = ap is_crash (calm_at w n Event.Retry t is)
-calm_task w (Deed.Purge n) t is = ap is_crash (calm_at w n Event.Purge t is)
+calm_task w (Action.Lose n p) t is = ap is_crash (calm_at w n (Event.Lose p) t is)
+calm_task w (Action.Heur n o) t is = ap is_crash (calm_at w n (Event.Heur o) t is)
+calm_task w (Action.GiveUp n p) t is = ap is_crash (calm_at w n (Event.GiveUp p) t is)
+calm_task w (Action.Retry n) t is = ap is_crash (calm_at w n Event.Retry t is)
+calm_task w (Action.Purge n) t is = ap is_crash (calm_at w n Event.Purge t is)
 
 calm_broken : (e : Event) → is_crash (broken_by e) ≡ is_crash e
 calm_broken (Event.Declare s) = refl
@@ -118,20 +120,20 @@ enters m w t y r calm is h =
       calm = calm_answer n.origin n.history t.event y calm is;
     }
 
--- ---- a deed
+-- ---- an action
 
 entry_holds : (m : ℕ) (w : World) (n : Node) (number : Option ℕ) (o : Option Entry) → ((y : Entry) → o ≡ Some y → Enters w n y) → Holds m w → Holds m (entry_turn w n number o).world
 entry_holds m w n number None en h = h
 entry_holds m w n number (Some y) en h = entered_holds m w n y (en y refl) h
 
-deed_holds : (m : ℕ) (w : World) (d : Deed) → Holds m w → Holds m (deed_turn w d).world
-deed_holds m w d h = go (task_of w d) refl
+action_holds : (m : ℕ) (w : World) (d : Action) → Holds m w → Holds m (action_turn w d).world
+action_holds m w d h = go (task_of w d) refl
   where
-    go : (o : Option Task) → task_of w d ≡ o → Holds m (deed_turn w d).world
-    go None i = rw (i, deed_turn) h
+    go : (o : Option Task) → task_of w d ≡ o → Holds m (action_turn w d).world
+    go None i = rw (i, action_turn) h
     go (Some t) i =
         let a = answer t.node.origin t.node.history t.event in
-        rw (i, deed_turn) (entry_holds m w t.node a.number a.entry (λ y e. enters m w t y (ready_of w d t i) (calm_task w d t i) e h) h)
+        rw (i, action_turn) (entry_holds m w t.node a.number a.entry (λ y e. enters m w t y (ready_of w d t i) (calm_task w d t i) e h) h)
 
 -- ---- a stop in an event
 
@@ -183,7 +185,7 @@ stop_holds m w n x call fill (Some y) en found h = go y.rec refl
     go None made = crash_holds m (entered w n y) x.name (subst (λ (q : Option LogRec). Holds m (logged (entered w n y) n q)) made (entered_holds m w n y (en y refl) h))
     go (Some l) made = force_holds m w n x y l (remains call fill l x.disk) (en y refl) made found (remains_is call fill l x.disk) h
 
-crash_in_holds : (m : ℕ) (w : World) (s : List ℕ) (call fill : ℕ) (d : Deed) → Holds m w → Holds (suc m) (crash_in_turn w s call fill d).world
+crash_in_holds : (m : ℕ) (w : World) (s : List ℕ) (call fill : ℕ) (d : Action) → Holds m w → Holds (suc m) (crash_in_turn w s call fill d).world
 crash_in_holds m w s call fill d h = go (find_site w.sites s) refl
   where
     one_task : (x : Site) (t u : Task) → task_here x (Some t) ≡ Some u → (t ≡ u) × (is_name (site_of u.node) x.name ≡ true)
@@ -194,7 +196,7 @@ crash_in_holds m w s call fill d h = go (find_site w.sites s) refl
         at false b i = absurd (cc (i))
 
     here : (x : Site) → find_site w.sites s ≡ Some x → (o : Option Task) → task_of w d ≡ o → (b : Option Task) → task_here x o ≡ b
-        → Holds (suc m) (elim b as (λ _. Turn) [ None ↦ still w | Some t ↦ after_lines (deed_lines d) (stop_in_task w x call fill t) ]).world
+        → Holds (suc m) (elim b as (λ _. Turn) [ None ↦ still w | Some t ↦ after_lines (action_lines d) (stop_in_task w x call fill t) ]).world
     here x i o k None j = tells_later m w.nodes w.sites h
     here x i None k (Some u) j = absurd cc
     here x i (Some t) k (Some u) j =
@@ -257,7 +259,7 @@ declare_holds m w n s under h = go (find_node w.nodes n) refl
 pub run_tells : (es : List Happening) → Holds (suc (stops es)) (run es)
 run_tells [] = record { sound = λ k n at. absurd (cc (at)); placed = λ k n at. absurd (cc (at)); sites = λ s x at. absurd (cc (at)); boots = λ s x at. absurd (cc (at)) }
 run_tells (Happening.Declare n s under ∷ es) = declare_holds (stops es) (run es) n s under (run_tells es)
-run_tells (Happening.Does d ∷ es) = deed_holds (suc (stops es)) (run es) d (run_tells es)
+run_tells (Happening.Does d ∷ es) = action_holds (suc (stops es)) (run es) d (run_tells es)
 run_tells (Happening.Mark k ∷ es) = run_tells es
 run_tells (Happening.Crash s ∷ es) = crash_holds (suc (stops es)) (run es) s (run_tells es)
 run_tells (Happening.Crash_in s call fill d ∷ es) = crash_in_holds (suc (stops es)) (run es) s call fill d (run_tells es)

@@ -17,7 +17,8 @@ use Rattle.tp_logrec.specs.Order.{owner_of}
 use Rattle.tp_model.specs.declared.line.LineRequest.{LineRequest}
 use Rattle.tp_model.specs.NodeRun.{Opening, boot_of, records_at}
 use Rattle.tp_model.specs.World.{Site, find_node, find_site}
-use Rattle.tp_model.specs.Happenings.{Happening, Declare, Does, Crash, Crash_in, Ask, Deliver, Decide, run}
+use Rattle.tp_model.specs.declared.line.Action.{Action}
+use Rattle.tp_model.specs.Happenings.{Happening, Declare, Does, Crash, Crash_in, run}
 use Rattle.tp_site_logs.specs.SiteLogs.{log_of, forced_by, next_opening}
 
 -- ---- the runs, oldest first
@@ -28,25 +29,25 @@ voted =
     Declare 1 (codes "a") None
     ∷ Declare 2 (codes "b") (Some 1)
     ∷ Declare 3 (codes "b") (Some 1)
-    ∷ Does (Ask 1 (LineRequest.BeginDialogue 2 41))
-    ∷ Does (Deliver 1)
-    ∷ Does (Ask 2 (LineRequest.Accept 41))
-    ∷ Does (Deliver 2)
-    ∷ Does (Ask 1 (LineRequest.BeginDialogue 3 41))
-    ∷ Does (Deliver 3)
-    ∷ Does (Ask 3 (LineRequest.Accept 41))
-    ∷ Does (Deliver 4)
-    ∷ Does (Ask 1 (LineRequest.BeginTransaction 2))
-    ∷ Does (Deliver 5)
-    ∷ Does (Ask 1 (LineRequest.BeginTransaction 3))
-    ∷ Does (Deliver 6)
-    ∷ Does (Ask 1 LineRequest.Commit)
-    ∷ Does (Deliver 7)
-    ∷ Does (Ask 2 LineRequest.Commit)
-    ∷ Does (Deliver 8)
-    ∷ Does (Ask 3 LineRequest.Commit)
-    ∷ Does (Deliver 9)
-    ∷ Does (Deliver 10)
+    ∷ Does (Action.Do 1 (LineRequest.BeginDialogue 2 41))
+    ∷ Does (Action.Again 1)
+    ∷ Does (Action.Do 2 (LineRequest.Accept 41))
+    ∷ Does (Action.Again 2)
+    ∷ Does (Action.Do 1 (LineRequest.BeginDialogue 3 41))
+    ∷ Does (Action.Again 3)
+    ∷ Does (Action.Do 3 (LineRequest.Accept 41))
+    ∷ Does (Action.Again 4)
+    ∷ Does (Action.Do 1 (LineRequest.BeginTransaction 2))
+    ∷ Does (Action.Again 5)
+    ∷ Does (Action.Do 1 (LineRequest.BeginTransaction 3))
+    ∷ Does (Action.Again 6)
+    ∷ Does (Action.Do 1 LineRequest.Commit)
+    ∷ Does (Action.Again 7)
+    ∷ Does (Action.Do 2 LineRequest.Commit)
+    ∷ Does (Action.Again 8)
+    ∷ Does (Action.Do 3 LineRequest.Commit)
+    ∷ Does (Action.Again 9)
+    ∷ Does (Action.Again 10)
     ∷ []
 
 -- the site stops; it stops again when the gate after a decision of its first node is open; and when that of its second is not
@@ -54,8 +55,8 @@ abbrev pub stopped : List Happening
 stopped =
     voted
     ++ (Crash (codes "b")
-    ∷ Crash_in (codes "b") 3 1 (Decide 2 Outcome.Commit)
-    ∷ Crash_in (codes "b") 3 0 (Decide 3 Outcome.Commit)
+    ∷ Crash_in (codes "b") 3 1 (Action.Heur 2 Outcome.Commit)
+    ∷ Crash_in (codes "b") 3 0 (Action.Heur 3 Outcome.Commit)
     ∷ [])
 
 -- ---- what is asked of them
