@@ -14,10 +14,8 @@ fn plan_of(alloc: Global, words: &[&str]) -> Option<Plan> {
 }
 
 #[test]
-fn commands_and_options(rt: HostRuntime) {
+fn options_and_defaults(rt: HostRuntime) {
     let alloc = rt.alloc();
-    let node = read(alloc, &["node", "--name", "b7"]).expect(&rt, "taken");
-    assert!(rt; matches!(node, Command::Node(site) if site.bytes() == b"b7".as_slice()));
     let plan = plan_of(alloc, &["make", "--rounds", "30", "--nodes", "256"]).expect(&rt, "taken");
     assert!(rt; plan.number == 1 && plan.nodes == 256 && plan.rounds == 30);
     let plan = plan_of(alloc, &["--number=7", "make"]).expect(&rt, "taken");
