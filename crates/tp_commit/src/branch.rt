@@ -1,5 +1,5 @@
 //! The current transaction of a node.
-ghost use Rattle.std.specs.Prelude.{◌≡◌, ◌<◌, ◌&&◌, ◌++◌, [], ◌∷◌, true, false, IsTrue, IfOk, OnOk, Some, length, slice_index_or, slice_set};
+ghost use Rattle.std.specs.Prelude.{◌≡◌, ◌<◌, ◌≤◌, ◌&&◌, ◌++◌, [], ◌∷◌, true, false, IsTrue, Ok, IfOk, OnOk, Some, length, slice_index_or, slice_set, vec_capacity};
 ghost use Rattle.tp_model.specs.Transactions.{Row as RowValue, node_key, superior_of, situation_of, row_holds, is_under, is_under_at, fresh_branch};
 ghost use Rattle.tp_commit.specs.Branch.{key_from, has_superior, begun, found, found_by, tells_transaction, idle_rows, child_at, seen_at};
 
@@ -11,10 +11,11 @@ use tp_logrec::LogRec;
 use tp_model::{Phase, Situation};
 use tp_names::{Addr, BranchId, Child, NoMemory, NodeKey, Outcome, Report};
 
-/// As many branches as a transaction may have.
+/// For so many branches memory is taken at the start.
 const ROOM: usize = 256;
 
-/// The current transaction of a node, which contracts see as the transaction of the definitions.
+/// The current transaction of a node, which contracts see as the transaction of the definitions. It has the room for 256
+/// branches from its start on, and so has each copy.
 #[derive(Debug, Drop)]
 pub struct Branch {
     pub(crate) node: u16,
@@ -46,14 +47,16 @@ impl Model for Branch {
 
 // Room for every branch.
 fn room(alloc: Global) -> Result<Vec<Row>, NoMemory>
-    ensures { IfOk result (λ rows. rows.items ≡ []) }
+    ensures empty { IfOk result (λ rows. rows.items ≡ []) }
+    ensures room { IfOk result (λ rows. 256 ≤ vec_capacity rows) }
 {
     Ok(Vec::with_capacity(alloc, ROOM)?)
 }
 
 // Branches that a record of the log names.
 fn idle_rows(alloc: Global, children: &[Child]) -> Result<Vec<Row>, NoMemory>
-    ensures { IfOk result (λ rows. rows.items ≡ idle_rows children.now) }
+    ensures rows { IfOk result (λ rows. rows.items ≡ idle_rows children.now) }
+    ensures room { IfOk result (λ rows. 256 ≤ vec_capacity rows) }
 {
     let mut rows = room(alloc)?;
     for child in children {
@@ -71,7 +74,8 @@ fn found(
     rows: Vec<Row>,
     decision: Option<Outcome>,
 ) -> Branch
-    requires { IsTrue (has_superior key superior) }
+    requires key { IsTrue (has_superior key superior) }
+    requires room { 256 ≤ vec_capacity rows }
     ensures { result ≡ record (found node (key_from key superior) phase [] decision) { rows = rows.items } }
 {
     Branch {
@@ -162,11 +166,11 @@ impl Branch {
         }
     }
 
-    /// An equal transaction, with room for the branches that it has.
+    /// An equal transaction, with its own room.
     pub fn copy(&self, alloc: Global) -> Result<Branch, NoMemory>
         ensures { IfOk result (λ branch. branch ≡ self.now) }
     {
-        let mut rows = Vec::with_capacity(alloc, self.rows.len())?;
+        let mut rows = room(alloc)?;
         rows.extend_from_slice(self.rows.as_slice())?;
         Ok(Branch {
             node: self.node,
@@ -185,7 +189,7 @@ impl Branch {
         })
     }
 
-    /// Becomes equal to that one, in the room that it has where that is enough.
+    /// Becomes equal to that one, in the room that it has.
     pub fn copy_from(&mut self, other: &Branch) -> Result<(), NoMemory>
         ensures { OnOk result (self.new ≡ other.now) }
     {
@@ -294,9 +298,11 @@ impl Branch {
         row.see(live, ends);
     }
 
-    /// Adds a branch after the others, of which nothing is known but that its arc is live.
+    /// Adds a branch after the others, of which nothing is known but that its arc is live. It takes no memory where there are
+    /// fewer than 256.
     pub fn add(&mut self, child: &Child) -> Result<(), NoMemory>
-        ensures { OnOk result (self.new ≡ record self.old { rows = self.old.rows ++ record { branch = fresh_branch child.now; live = true; ends = false } ∷ [] }) }
+        ensures added { OnOk result (self.new ≡ record self.old { rows = self.old.rows ++ record { branch = fresh_branch child.now; live = true; ends = false } ∷ [] }) }
+        ensures memory { length self.old.rows < 256 → result ≡ Ok tt }
     {
         self.rows.push(Row::fresh(child, true))?;
         Ok(())

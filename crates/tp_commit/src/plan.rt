@@ -1,5 +1,5 @@
 //! What an event asks for, and what it leaves.
-ghost use Rattle.std.specs.Prelude.{◌≡◌, ◌++◌, Ok, IfOk, OnOk, length};
+ghost use Rattle.std.specs.Prelude.{◌≡◌, ◌+◌, ◌≤◌, ◌++◌, Ok, IfOk, OnOk, length};
 ghost use Rattle.tp_model.specs.Transactions.{transacted, refused_tx, step_of, fresh_rows};
 ghost use Rattle.tp_model.specs.Refusal.{IsRefusedAs};
 ghost use Rattle.tp_commit.specs.Branch.{standing, begins, with_begun};
@@ -96,6 +96,7 @@ impl Branch {
     fn begin_each(&mut self, arcs: &[Child]) -> Result<(), NoMemory>
         ensures begun { OnOk result (self.new ≡ record self.old { rows = self.old.rows ++ fresh_rows arcs.now }) }
         ensures memory { length arcs.now ≡ 0 → result ≡ Ok tt }
+        ensures reserved { length self.old.rows + length arcs.now ≤ 256 → result ≡ Ok tt }
     {
         rows::begin_each(&mut self.rows, arcs)
     }
@@ -104,6 +105,7 @@ impl Branch {
     fn begin_by(&mut self, event: &TxEvent) -> Result<(), NoMemory>
         ensures begun { OnOk result (self.new ≡ record self.old { rows = with_begun event.now self.old.rows }) }
         ensures memory { begins event.now ≡ 0 → result ≡ Ok tt }
+        ensures reserved { length self.old.rows + begins event.now ≤ 256 → result ≡ Ok tt }
     {
         match event {
             TxEvent::Begun { arcs } => self.begin_each(arcs.as_slice()),
@@ -127,11 +129,12 @@ impl Branch {
     }
 
     /// Takes an event that is not refused: the transaction stands as the event leaves it, before the next
-    /// one starts. It takes no memory but for branches that the event begins.
+    /// one starts. It takes no memory but where there are more than 256 branches with those that the event begins.
     #[tactic(auto, using(crate::proofs::Events::begins_after))]
     pub fn apply(&mut self, event: &TxEvent) -> Result<(), NoMemory>
         ensures next { OnOk result (self.new ≡ standing (transacted event.now self.old).next) }
         ensures memory { begins event.now ≡ 0 → result ≡ Ok tt }
+        ensures reserved { length self.old.rows + begins event.now ≤ 256 → result ≡ Ok tt }
     {
         self.go_on(event);
         self.begin_by(event)?;

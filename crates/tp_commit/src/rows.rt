@@ -1,5 +1,5 @@
 //! The branches of a transaction, in the order in which they were begun.
-ghost use Rattle.std.specs.Prelude.{◌≡◌, ◌++◌, Ok, IfOk, OnOk, length};
+ghost use Rattle.std.specs.Prelude.{◌≡◌, ◌+◌, ◌≤◌, ◌++◌, Ok, IfOk, OnOk, length, vec_capacity};
 ghost use Rattle.tp_model.specs.Transactions.{find_row, find_row_by_id, all_settled, all_done, all_rolled_back, all_left, all_prepared, children_of, owed_of, reports_of, report_of_branch, carry_down, forgets, ends_down, prepare_each, ask_each, fresh_rows};
 ghost use Rattle.tp_commit.specs.Row.{noted_at, record_of};
 ghost use Rattle.tp_commit.specs.Branch.{standing_rows};
@@ -113,10 +113,13 @@ pub(crate) fn stand(rows: &mut [Row], rolls: bool)
     }
 }
 
-/// Branches are begun. It takes no memory where there is none to begin.
+/// Branches are begun. It takes no memory where there is none to begin, or no more than 256 with them; the room does not shrink.
 pub(crate) fn begin_each(rows: &mut Vec<Row>, arcs: &[Child]) -> Result<(), NoMemory>
+    requires { 256 ≤ vec_capacity rows.old }
     ensures rows { OnOk result (rows.new.items ≡ rows.old.items ++ fresh_rows arcs.now) }
     ensures memory { length arcs.now ≡ 0 → result ≡ Ok tt }
+    ensures reserved { length rows.old.items + length arcs.now ≤ 256 → result ≡ Ok tt }
+    ensures room { 256 ≤ vec_capacity rows.new }
 {
     for child in arcs {
         rows.push(Row::fresh(child, true))?;

@@ -15,3 +15,4 @@ pub mod Sights
 pub mod Steps
 pub mod Talks
 pub mod Turns
+pub mod Shares

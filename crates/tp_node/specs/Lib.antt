@@ -1,4 +1,5 @@
 pub mod Arcs
+pub mod SharedArcs
 pub mod Outs
 pub mod State
 pub mod Kept

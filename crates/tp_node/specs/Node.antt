@@ -1,7 +1,7 @@
 -- One node of a site as the site keeps it, and what is known of it by the definitions. A node has arcs
 -- exactly once it is declared. What its transaction sees of its arcs is looked at anew before each event of
 -- it, and so is no part of what is kept.
-use Rattle.std.specs.Prelude.{ℕ, ◌≡◌, Bool, true, false, Option, Some, None, List, [], nat_lt}
+use Rattle.std.specs.Prelude.{◌≡◌, Bool, true, false, Option, Some, None, List, [], nat_lt}
 use Rattle.std.specs.Option.{option_map}
 use Rattle.tp_names.specs.declared.identifiers.Addr.{Addr}
 use Rattle.tp_logrec.specs.declared.record.LogRec.{LogRec}

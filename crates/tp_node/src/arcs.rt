@@ -1,25 +1,20 @@
 //! The arcs of a node.
-ghost use Rattle.std.specs.Prelude.{◌≡◌, ◌⊎◌, true, [], Option, None, map, IfOk, IfSome, OnOk, OnErr};
+ghost use Rattle.std.specs.Prelude.{◌≡◌, ◌⊎◌, ◌≤◌, true, [], Option, None, map, IfOk, IfSome, OnOk, OnErr, vec_capacity};
 ghost use Rattle.std.specs.Option.{option_map, option_copied};
-ghost use Rattle.tp_model.specs.Arcs.{find_arc, without_arc, with_dialogue, with_link, carried, shut_with};
-ghost use Rattle.tp_model.specs.Events.{some_past_numbers};
-ghost use Rattle.tp_tree.specs.Tie.{arc_of, fresh_arc};
+ghost use Rattle.tp_model.specs.Arcs.{find_arc, without_arc, with_dialogue, with_link};
+ghost use Rattle.tp_tree.specs.Tie.{arc_of};
 ghost use Rattle.tp_tree.specs.Invocation.{with_arc};
-ghost use Rattle.tp_link.specs.Link.{with_one_sent};
-ghost use Rattle.tp_node.specs.Arcs.{side_with, fits_link, has_place, new_arc, count_subordinates_in, next_on, is_spent, outs_next};
+ghost use Rattle.tp_node.specs.Arcs.{side_with, fits_link, has_place, new_arc, count_subordinates_in};
 ghost use Rattle.tp_node.specs.ArcStep.{stepped_arcs};
-ghost use Rattle.tp_node.specs.Outs.{outs_of_option};
 
 use crate::arc_step::ArcStep;
-use crate::outs::Out;
 use std::alloc::Global;
 use std::marker::Model;
 use tp_commit::Branch;
 use tp_dialogue::Dialogue;
-use tp_link::{Link, LinkState};
+use tp_link::Link;
 use tp_model::Side;
-use tp_names::{Addr, Mark, NoMemory, NumbersSpent};
-use tp_records::{DialogueRecord, PeerRecord};
+use tp_names::{Addr, NoMemory};
 use tp_tree::{Invocation, Tie};
 use tp_units::Units;
 
@@ -58,13 +53,15 @@ impl Arcs {
         self.tree.copy_from(&other.tree)
     }
 
-    /// Equal arcs, in memory of their own.
-    pub(crate) fn copy(&self, alloc: Global) -> Result<Arcs, NoMemory>
-        ensures { IfOk result (λ v. v ≡ self.now) }
+    /// Equal arcs in that memory, which is enough for those to subordinates.
+    #[tactic(auto, using(crate::proofs::Sides::count_sided))]
+    pub(crate) fn copy_into(&self, room: Vec<Tie>) -> Arcs
+        requires { count_subordinates_in self.now.superior self.now.arcs ≤ vec_capacity room }
+        ensures { result ≡ self.now }
     {
-        Ok(Arcs {
-            tree: self.tree.copy(alloc)?,
-        })
+        Arcs {
+            tree: self.tree.copy_into(room),
+        }
     }
 
     /// The superior's address, as it was declared.
@@ -189,65 +186,4 @@ impl Arcs {
     {
         step.take_tree(branch, &mut self.tree);
     }
-
-    /// A record goes out on the arc with that peer, where it is live; it has the next number. Where no
-    /// number is left, nothing changes.
-    #[tactic(auto, using(crate::proofs::Sides::carried_none, crate::proofs::Sides::carried_next, crate::proofs::Linked::fits_sent))]
-    pub(crate) fn carry(
-        &mut self,
-        peer: u16,
-        rec: DialogueRecord,
-    ) -> Result<Option<Out>, NumbersSpent>
-        ensures arcs { OnOk result (self.new ≡ record self.old { arcs = (carried self.old.arcs peer rec).0 }) }
-        ensures out { IfOk result (λ out. outs_of_option out ≡ (carried self.old.arcs peer rec).1) }
-        ensures spent { OnErr result (some_past_numbers (carried self.old.arcs peer rec).1 ≡ true) }
-        ensures same { OnErr result (self.new ≡ self.old) }
-    {
-        let Some(tie) = self.find(peer) else {
-            return Ok(None);
-        };
-        let mut link = tie.link;
-        let next = next_on(&mut link)?;
-        self.put_link(peer, link);
-        Ok(sent(tie.addr(), next, rec))
-    }
-
-    /// Takes the arc with that peer away; where it is live the peer is told.
-    #[tactic(auto, using(crate::proofs::Sides::shut_says_live))]
-    pub(crate) fn shut(&mut self, peer: u16) -> Option<Out>
-        ensures arcs { self.new ≡ record self.old { arcs = (shut_with self.old.arcs peer).0 } }
-        ensures out { outs_of_option result ≡ (shut_with self.old.arcs peer).1 }
-    {
-        let tie = self.find(peer)?;
-        self.remove(peer);
-        let (Some(x), Some(y)) = tie.link.marks() else {
-            return None;
-        };
-        Some(Out::Send {
-            to: tie.addr(),
-            rec: PeerRecord::ShutAssoc { x, y: Some(y) },
-        })
-    }
-}
-
-// The pair and the number of the next record on a link, where it is live, and the record is counted.
-#[tactic(auto, using(crate::proofs::Sides::next_is))]
-fn next_on(link: &mut Link) -> Result<Option<(Mark, Mark, u64)>, NumbersSpent>
-    ensures next { IfOk result (λ next. next ≡ next_on link.old) }
-    ensures counted { OnOk result (link.new ≡ with_one_sent link.old) }
-    ensures spent { OnErr result (is_spent link.old ≡ true) }
-{
-    match link.state() {
-        LinkState::Idle | LinkState::Opening | LinkState::Offered => Ok(None),
-        LinkState::Live if link.left() == 0 => Err(NumbersSpent),
-        LinkState::Live => Ok(Some(link.send())),
-    }
-}
-
-fn sent(to: Addr, next: Option<(Mark, Mark, u64)>, rec: DialogueRecord) -> Option<Out>
-    ensures { outs_of_option result ≡ outs_next to rec next }
-{
-    let (x, y, seq) = next?;
-    let rec = PeerRecord::OnAssoc { x, y, seq, rec };
-    Some(Out::Send { to, rec })
 }

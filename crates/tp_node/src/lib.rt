@@ -19,6 +19,7 @@ mod node;
 mod outs;
 mod passage;
 mod refusing;
+mod shared_arcs;
 mod state;
 
 pub use arc_step::ArcStep;

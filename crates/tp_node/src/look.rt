@@ -4,14 +4,14 @@ ghost use Rattle.tp_model.specs.Arcs.{is_live_with_peer};
 ghost use Rattle.tp_model.specs.Node.{is_end_deferred_at, is_up_live, is_up_ending, branches_of, seen_rows, seen};
 ghost use Rattle.tp_node.specs.Node.{arcs_in, current_of};
 
-use crate::arcs::Arcs;
+use crate::shared_arcs::SharedArcs;
 use tp_commit::Branch;
 use tp_link::LinkState;
 use tp_model::Deferral;
 
 // Whether the arc with that peer is live, and whether an end is deferred on it. The arc of a branch stands at the place of
 // the branch where all subordinates are branches, each begun in turn.
-fn look_at(arcs: &Option<Arcs>, place: usize, peer: u16) -> (bool, bool)
+fn look_at(arcs: &Option<SharedArcs>, place: usize, peer: u16) -> (bool, bool)
     ensures live { result.0 ≡ is_live_with_peer (arcs_in arcs.now) peer }
     ensures ends { result.1 ≡ is_end_deferred_at (arcs_in arcs.now) peer }
 {
@@ -27,7 +27,7 @@ fn look_at(arcs: &Option<Arcs>, place: usize, peer: u16) -> (bool, bool)
     }
 }
 
-fn see_superior(node: u16, arcs: &Option<Arcs>, branch: &mut Branch)
+fn see_superior(node: u16, arcs: &Option<SharedArcs>, branch: &mut Branch)
     ensures { branch.new ≡ record branch.old { node = node; up = is_up_live (arcs_in arcs.now) branch.old.key; up_ends = is_up_ending (arcs_in arcs.now) branch.old.key } }
 {
     match branch.superior() {
@@ -39,7 +39,7 @@ fn see_superior(node: u16, arcs: &Option<Arcs>, branch: &mut Branch)
     }
 }
 
-fn see_branches(arcs: &Option<Arcs>, branch: &mut Branch)
+fn see_branches(arcs: &Option<SharedArcs>, branch: &mut Branch)
     ensures { branch.new ≡ record branch.old { rows = seen_rows (arcs_in arcs.now) (branches_of branch.old.rows) } }
 {
     for i in 0..branch.branches() {
@@ -50,7 +50,7 @@ fn see_branches(arcs: &Option<Arcs>, branch: &mut Branch)
 }
 
 /// A transaction of that node sees its arcs anew.
-pub(crate) fn see(node: u16, arcs: &Option<Arcs>, branch: &mut Branch)
+pub(crate) fn see(node: u16, arcs: &Option<SharedArcs>, branch: &mut Branch)
     ensures { (site : List ℕ) → branch.new ≡ seen (record { site = site; node = node }) (arcs_in arcs.now) (current_of branch.old) }
 {
     see_superior(node, arcs, branch);

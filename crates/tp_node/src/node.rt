@@ -1,7 +1,7 @@
 //! One node of a site.
 mod origin;
 
-ghost use Rattle.std.specs.Prelude.{◌≡◌, ◌==◌, ◌&&◌, ◌||◌, not, true, [], ◌∷◌, ◌+◌, ◌++◌, nat_le, nat_lt, slice_get, Option, Some, None, IfOk, IfSome, IsSome, IsTrue, OnOk, OnErr};
+ghost use Rattle.std.specs.Prelude.{◌≡◌, ◌⊎◌, ◌==◌, ◌&&◌, ◌||◌, not, true, [], ◌∷◌, ◌+◌, ◌++◌, nat_le, nat_lt, slice_get, Option, Some, None, IfOk, IfSome, IsSome, IsTrue, OnOk, OnErr};
 ghost use Rattle.std.specs.Option.{option_map, option_copied, is_some};
 ghost use Rattle.tp_model.specs.Dialogues.{is_nil, is_late, first, said, heard, begun_by, cleared, woken, named_holder};
 ghost use Rattle.tp_model.specs.Links.{greatest, is_idle, is_opening_with, dropped_by, with_one_taken};
@@ -33,11 +33,11 @@ ghost use Rattle.tp_node.specs.Halt.{OnSpent};
 ghost use Rattle.tp_node.specs.Begins.{aaid_in, with_branch, begun_on, with_digest, may_start};
 
 use crate::arc_step::{ArcStep, is_granting};
-use crate::arcs::Arcs;
 use crate::halt::Halt;
 use crate::kept_table::KeptTable;
 use crate::outs::Out;
 use crate::passage::Passage;
+use crate::shared_arcs::SharedArcs;
 use crate::{NodeState, NodeTree, kept, look};
 use std::alloc::Global;
 use std::marker::Model;
@@ -68,7 +68,7 @@ pub struct Node {
     site: SiteName,
     number: u16,
     known: bool,
-    arcs: Option<Arcs>,
+    arcs: Option<SharedArcs>,
     current: Option<Branch>,
     kept: KeptTable,
     drawn: u64,
@@ -180,13 +180,17 @@ impl Node {
     }
 
     /// The node turns into that one, a copy of it on which something happened, and carries out what that changed of the
-    /// kept transactions that they shared.
+    /// arcs and of the kept transactions that they shared.
     pub fn turn_into(&mut self, alloc: Global, next: &mut Node)
         ensures { self.new ≡ next.old }
     {
         swap(self, next);
         next.kept = KeptTable::new();
+        release(&mut next.arcs);
         self.kept.settle(alloc);
+        if let Some(arcs) = &mut self.arcs {
+            arcs.settle(alloc);
+        }
     }
 
     /// Whether it has asked.
@@ -1039,6 +1043,19 @@ impl Node {
             addr: tie.addr(),
             branch,
         })
+    }
+}
+
+// Arcs that may be shared are given back.
+fn release(arcs: &mut Option<SharedArcs>)
+    ensures { (arcs.new ≡ arcs.old) ⊎ (arcs.new ≡ None) }
+{
+    let is_shared = match arcs {
+        None => false,
+        Some(arcs) => arcs.is_shared(),
+    };
+    if is_shared {
+        *arcs = None;
     }
 }
 

@@ -1,5 +1,5 @@
 //! The arcs of one node.
-ghost use Rattle.std.specs.Prelude.{◌≡◌, ◌⊎◌, true, false, Option, None, Some, [], Ok, IfOk, OnOk, OnErr, IsNone, IsTrue};
+ghost use Rattle.std.specs.Prelude.{◌≡◌, ◌⊎◌, ◌≤◌, true, false, Option, None, Some, [], Ok, IfOk, OnOk, OnErr, IsNone, IsTrue, length};
 ghost use Rattle.std.specs.Borrow.{sem};
 ghost use Rattle.std.specs.Option.{option_copied, option_copied_mut, option_map};
 ghost use Rattle.std.specs.Vec.{vec_capacity};
@@ -179,16 +179,27 @@ impl Invocation {
     pub fn copy(&self, alloc: Global) -> Result<Invocation, NoMemory>
         ensures { IfOk result (λ v. v ≡ record self.now { reserved = false }) }
     {
-        let mut below = Vec::with_capacity(alloc, self.below.len())?;
-        below.extend_from_slice(self.below.as_slice())?;
-        Ok(Invocation {
+        Ok(self.copy_into(Vec::with_capacity(alloc, self.below.len())?))
+    }
+
+    /// An equal invocation in that memory, which is enough for its subordinates.
+    pub fn copy_into(&self, room: Vec<Tie>) -> Invocation
+        requires { length self.now.below ≤ vec_capacity room }
+        ensures { result ≡ record self.now { reserved = false } }
+    {
+        let mut below = room;
+        below.clear();
+        let Ok(()) = below.extend_from_slice(self.below.as_slice()) else {
+            unreachable!()
+        };
+        Invocation {
             node: self.node,
             superior: self.superior,
             room: self.room,
             reserved: false,
             above: self.above,
             below,
-        })
+        }
     }
 
     /// Becomes a copy of that one, in the memory that it has where that is enough. Without memory it stays what it was.

@@ -7,10 +7,10 @@ ghost use Rattle.tp_model.specs.Events.{started, current_by, decision_of, withou
 ghost use Rattle.tp_node.specs.Begins.{with_digest};
 ghost use Rattle.tp_node.specs.Node.{current_of, recovered_by};
 
-use crate::arcs::Arcs;
 use crate::kept;
 use crate::kept_table::KeptTable;
 use crate::node::Node;
+use crate::shared_arcs::SharedArcs;
 use std::alloc::Global;
 use tp_commit::Branch;
 use tp_logrec::{LogRec, LogVersion};
@@ -144,7 +144,7 @@ impl Node {
             LogVersion::One => 32,
             LogVersion::Two => 256,
         };
-        self.arcs = Some(Arcs::new(alloc, self.number, superior, room));
+        self.arcs = Some(SharedArcs::new(alloc, self.number, superior, room));
     }
 
     /// Becomes equal to that one, in the memory that it has where that is enough. The kept transactions are shared.
@@ -187,7 +187,11 @@ fn copy_current(
 }
 
 // Without memory the arcs stay what they were.
-fn copy_arcs(alloc: Global, own: &mut Option<Arcs>, other: &Option<Arcs>) -> Result<(), NoMemory>
+fn copy_arcs(
+    alloc: Global,
+    own: &mut Option<SharedArcs>,
+    other: &Option<SharedArcs>,
+) -> Result<(), NoMemory>
     ensures copy { OnOk result (own.new ≡ other.now) }
     ensures same { OnErr result (own.new ≡ own.old) }
 {

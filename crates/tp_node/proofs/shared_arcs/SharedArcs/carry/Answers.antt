@@ -6,7 +6,7 @@ use Rattle.tp_names.specs.declared.identifiers.Addr.{Addr}
 use Rattle.tp_tree.specs.Tie.{arc_of}
 use Rattle.tp_node.specs.Arcs.{outs_next}
 use Rattle.tp_node.proofs.Sides.{carry_leaves, carry_says, carry_spent}
-use Rattle.tp_node.proofs.arcs.Arcs.carry.Goals as goal
+use Rattle.tp_node.proofs.shared_arcs.SharedArcs.carry.Goals as goal
 
 pub returns-in_err-next-clause-spent : goal.returns-in_err-next-clause-spent
 returns-in_err-next-clause-spent c =
