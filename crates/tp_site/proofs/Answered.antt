@@ -114,3 +114,11 @@ broken_spent who d from r n h p s =
         some_is : Some 17 ≡ Some n → 17 ≡ n
         some_is k = cc (k)
     other false i = absurd (cc (i))
+
+-- what ends no association is refused at once by no other answer
+pub refused_plain : (who : Who) (d : Digest) (e : NodeEvent) (n : ℕ) → breaks e ≡ false → refused_at_once who d e ≡ Some n → answer_at who d (event_of e) ≡ Refuses n
+refused_plain who d e n b h = refused_whole who d e n h (never (n == 24) (breaks e) b)
+  where
+    never : (x y : Bool) → y ≡ false → (x && y) ≡ false
+    never true y h = h
+    never false y h = refl

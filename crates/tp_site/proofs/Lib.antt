@@ -14,6 +14,12 @@ pub mod Quiet
 pub mod Answered
 pub mod Numbered
 pub mod Starting
-pub mod TakenValues
-pub mod RecordParts
-pub mod RecordTexts
+pub mod Recalling
+pub mod Lanes
+pub mod Members
+pub mod SameArcs
+pub mod Entries
+pub mod Runs
+pub mod Stepping
+pub mod Giving
+pub mod Settled

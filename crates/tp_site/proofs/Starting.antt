@@ -18,7 +18,7 @@ last_is (n ∷ ns) = go n ns
     go n [] = refl
     go n (m ∷ ms) = go m ms
 
-told_more : (told : List Receipt) (i : ℕ) (d : Receipt) → i < length told → map (λ r. r.rec) (take (i + 1) told) ≡ map (λ r. r.rec) (take i told) ++ (slice_index_or told i d).rec ∷ []
+pub told_more : (told : List Receipt) (i : ℕ) (d : Receipt) → i < length told → map (λ r. r.rec) (take (i + 1) told) ≡ map (λ r. r.rec) (take i told) ++ (slice_index_or told i d).rec ∷ []
 told_more told i d h = ap (map (λ (r : Receipt). r.rec)) (take_more told i d h) ∙ behind (take i told) (slice_index_or told i d)
   where
     behind : (rs : List Receipt) (r : Receipt) → map (λ q. q.rec) (rs ++ r ∷ []) ≡ map (λ q. q.rec) rs ++ r.rec ∷ []

@@ -12,4 +12,6 @@ pub mod Answers
 pub mod Nodes
 pub mod Faults
 pub mod Site
-pub mod Texts
+pub mod Events
+pub mod Recalled
+pub mod Resume

@@ -92,7 +92,7 @@ Plays standing old n e (Err (SiteFault.DiskFault faults)) new = IsHalted standin
 Plays standing old n e (Err (SiteFault.Shut faults)) new =
     ((old.shut ≡ Some faults) × (new ≡ old)) ⊎ (IsHalted standing old n e (force.Shut faults) new × (new.shut ≡ None))
 -- the free answer
-Plays standing old n e (Err SiteFault.NoMemory) new = IsSame old new × (standing new.keeper ≡ standing old.keeper) × (new.shut ≡ old.shut)
+Plays standing old n e (Err SiteFault.NoMemory) new = IsSame old new × (standing new.keeper ≡ standing old.keeper) × (old.shut ≡ None) × (new.shut ≡ None)
 
 -- ---- the two steps of it
 
@@ -112,8 +112,8 @@ Attempts standing old n e (Err (SiteFault.Refused k)) a new =
     (answer_at (who_at old.nodes n) (known_at old n) e ≡ Refuses k) × (old.shut ≡ None) × (new ≡ old)
 Attempts standing old n e (Err (SiteFault.Full size)) a new = ⊥
 Attempts standing old n e (Err (SiteFault.DiskFault faults)) a new = ⊥
-Attempts standing old n e (Err (SiteFault.Shut faults)) a new = (old.shut ≡ Some faults) × (new ≡ old)
-Attempts standing old n e (Err SiteFault.NoMemory) a new = IsSame old new × (new.keeper ≡ old.keeper) × (new.shut ≡ old.shut)
+Attempts standing old n e (Err (SiteFault.Shut faults)) a new = ⊥
+Attempts standing old n e (Err SiteFault.NoMemory) a new = IsSame old new × (new.keeper ≡ old.keeper) × (old.shut ≡ None) × (new.shut ≡ None)
 
 -- the node has become that, and its record is forced
 pub record IsSettled {K : Type 0} (standing : K → Standing) (old : Site K) (n : ℕ) (d : Digest) (rec : Option LogRec) (new : Site K) : Type 0 where

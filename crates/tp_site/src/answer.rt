@@ -1,12 +1,12 @@
 //! What a node answers to an event. Nothing of it is so before the record is forced.
-ghost use Rattle.std.specs.Prelude.{◌≡◌, ◌==◌, ◌&&◌, true, OnOk, None, Some};
+ghost use Rattle.std.specs.Prelude.{ℕ, ◌≡◌, ◌==◌, ◌&&◌, true, false, OnOk, None, Some};
 ghost use Rattle.tp_model.specs.Parts.{Arrive};
 ghost use Rattle.tp_model.specs.Events.{action, refusal, unless_spent, needs_numbers, has_pair};
 ghost use Rattle.tp_model.specs.Arrivals.{break_off, refused_arrival};
 ghost use Rattle.tp_model.specs.Refusal.{IsRefusedAs, number_of};
 ghost use Rattle.tp_node.specs.Halt.{OnSpent};
 ghost use Rattle.tp_node.specs.NodeEvent.{event_of, refused_at_once, is_retry, breaks, answer_at};
-ghost use Rattle.tp_site.specs.Answers.{IsAnswer};
+ghost use Rattle.tp_site.specs.Answers.{IsAnswer, IsPlain};
 
 use crate::draft::Draft;
 use crate::loss::broken_pair;
@@ -106,7 +106,8 @@ impl Draft {
         refusal: Refusal,
     ) -> Result<Option<Refusal>, TxFault>
         requires { refused_at_once node.now.who node.now.digest event.now ≡ Some (number_of refusal) }
-        ensures { IsAnswer result self.new node.now (answer_at node.now.who node.now.digest (event_of event.now)) }
+        ensures answer { IsAnswer result self.new node.now (answer_at node.now.who node.now.digest (event_of event.now)) }
+        ensures plain { breaks event.now ≡ false → result ≡ Err (TxFault.Refused (number_of refusal)) }
     {
         if !ends_association(event, refusal) {
             return Err(TxFault::Refused(refusal.number()));
@@ -118,7 +119,7 @@ impl Draft {
     }
 
     /// What the node answers to an event: what the event makes of it, as the draft has it then, or the refusal.
-    /// With one, what happens is the loss of the association that follows that answer.
+    /// With one, what happens is the loss of the association that follows that answer. A refusal at once takes no memory.
     #[tactic(auto, using(crate::proofs::Answered::happens))]
     pub(crate) fn answer_to(
         &mut self,
@@ -126,7 +127,8 @@ impl Draft {
         node: &Node,
         event: &NodeEvent<'_>,
     ) -> Result<Option<Refusal>, TxFault>
-        ensures { IsAnswer result self.new node.now (answer_at node.now.who node.now.digest (event_of event.now)) }
+        ensures plain { (k : ℕ) → IsPlain node.now event.now k → result ≡ Err (TxFault.Refused k) }
+        ensures answer { IsAnswer result self.new node.now (answer_at node.now.who node.now.digest (event_of event.now)) }
     {
         if let Some(refusal) = node.refused_at_once(event) {
             return self.answer_refused(alloc, node, event, refusal);
@@ -138,8 +140,8 @@ impl Draft {
     }
 }
 
-// A record that names the pair of an association, which an answer out of phase to it ends.
-fn breaks(event: &NodeEvent<'_>) -> bool
+/// A record that names the pair of an association, which an answer out of phase to it ends.
+pub(crate) fn breaks(event: &NodeEvent<'_>) -> bool
     ensures { result ≡ breaks event.now }
 {
     match event {

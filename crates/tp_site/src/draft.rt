@@ -322,34 +322,34 @@ impl Draft {
         Ok(())
     }
 
-    // A turn of the transaction: what it says and logs, and what it has become.
+    // A turn of the transaction: what it says and logs, and what it has become. Its arcs are those that it had.
     fn turn(
         &mut self,
         alloc: Global,
-        branch: &Branch,
         passage: Passage,
         step: Step,
         next: Branch,
     ) -> Result<(), Halt>
-        ensures { Plays result self.old self.new (turning branch.now (passage_of passage) step next) }
+        ensures { Plays result self.old self.new (turning next (passage_of passage) step next) }
     {
         let Step { rec, outs } = step;
-        if let Err(halt) = self.speak(alloc, branch, passage, outs.as_slice()) {
+        if let Err(halt) = self.speak(alloc, &next, passage, outs.as_slice()) {
             return Err(halt);
         }
         self.settle(alloc, rec, next)
     }
 
     // A turn of the transaction as it is seen now, by an event that it does not refuse; and whether it is over.
-    fn take_turn(&mut self, alloc: Global, branch: &Branch, event: &TxEvent) -> Result<bool, Halt>
+    fn take_turn(&mut self, alloc: Global, branch: Branch, event: &TxEvent) -> Result<bool, Halt>
         requires { begins event.now ≡ 0 }
-        ensures over { IfOk result (λ over. over ≡ is_over (passing branch.now event.now)) }
-        ensures turn { Plays (without_value result) self.old self.new (turning_by branch.now event.now) }
+        ensures over { IfOk result (λ over. over ≡ is_over (passing branch event.now)) }
+        ensures turn { Plays (without_value result) self.old self.new (turning_by branch event.now) }
     {
-        let mut next = branch.copy(alloc)?;
+        let mut next = branch;
+        let before = next.phase();
         let step = next.turn(alloc, event)?;
-        let passage = Passage::of(is_leaving(event), branch.phase(), next.phase());
-        if let Err(halt) = self.turn(alloc, branch, passage, step, next) {
+        let passage = Passage::of(is_leaving(event), before, next.phase());
+        if let Err(halt) = self.turn(alloc, passage, step, next) {
             return Err(halt);
         }
         Ok(passage.is_over())
@@ -364,7 +364,7 @@ impl Draft {
         let Some(branch) = self.node.take_seen() else {
             return Ok(());
         };
-        match self.take_turn(alloc, &branch, event) {
+        match self.take_turn(alloc, branch, event) {
             Err(halt) => Err(halt),
             Ok(false) => Ok(()),
             Ok(true) => self.try_start(alloc),

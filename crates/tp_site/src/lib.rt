@@ -13,10 +13,12 @@ mod draft;
 mod faults;
 mod loss;
 mod nodes;
+mod outputs;
+mod recalled;
 mod recovery;
 mod site;
-mod texts;
 
 pub use faults::{SiteFault, StartFault};
+pub use recalled::Recalled;
 pub use site::{Played, Site};
 pub use tp_node::{NodeEvent, NodeState, NodeTree, Out, Outs};

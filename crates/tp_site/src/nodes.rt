@@ -3,8 +3,9 @@ ghost use Rattle.std.specs.Prelude.{ℕ, ◌≡◌, ◌==◌, ◌++◌, ◌∷�
 ghost use Rattle.tp_logrec.specs.declared.record.LogRec.{LogRec as LogRecord};
 ghost use Rattle.std.specs.Option.{option_copied};
 ghost use Rattle.tp_model.specs.Events.{started};
-ghost use Rattle.tp_node.specs.NodeEvent.{event_of, answer_at};
-ghost use Rattle.tp_site.specs.Answers.{IsAnswer};
+ghost use Rattle.tp_model.specs.Refusal.{number_in};
+ghost use Rattle.tp_node.specs.NodeEvent.{event_of, answer_at, refused_at_once};
+ghost use Rattle.tp_site.specs.Answers.{IsAnswer, IsPlain};
 ghost use Rattle.tp_site.specs.Nodes.{has_node, who_at, digest_at, node_at, find_node, unknown_start, IsSameSite, AreFrom};
 ghost use Rattle.tp_node.specs.Node.{recovered_by};
 
@@ -78,6 +79,22 @@ impl Nodes {
         self.nodes.get(&number)
     }
 
+    /// Why an event of the node of that number is refused before anything is tried. It takes no memory.
+    #[tactic(auto, using(crate::proofs::Numbered::found, crate::proofs::Numbered::unfound))]
+    pub(crate) fn refused_at_once(
+        &self,
+        alloc: Global,
+        node: u16,
+        event: &NodeEvent<'_>,
+    ) -> Option<Refusal>
+        ensures { number_in result ≡ refused_at_once (who_at self.now node) (digest_at self.now node) event.now }
+    {
+        match self.find(node) {
+            Some(node) => node.refused_at_once(event),
+            None => self.unknown(alloc, node).refused_at_once(event),
+        }
+    }
+
     /// What the node of that number answers to an event, with the draft of what happens.
     #[tactic(auto, using(crate::proofs::Numbered::found, crate::proofs::Numbered::unfound))]
     pub(crate) fn answer_to(
@@ -87,7 +104,8 @@ impl Nodes {
         event: &NodeEvent<'_>,
         draft: &mut Draft,
     ) -> Result<Option<Refusal>, TxFault>
-        ensures { IsAnswer result draft.new (node_at self.now node) (answer_at (who_at self.now node) (digest_at self.now node) (event_of event.now)) }
+        ensures plain { (k : ℕ) → IsPlain (node_at self.now node) event.now k → result ≡ Err (TxFault.Refused k) }
+        ensures answer { IsAnswer result draft.new (node_at self.now node) (answer_at (who_at self.now node) (digest_at self.now node) (event_of event.now)) }
     {
         match self.find(node) {
             Some(node) => draft.answer_to(alloc, node, event),

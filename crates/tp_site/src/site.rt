@@ -1,20 +1,25 @@
 //! A site: its nodes, over a keeper of its log.
-ghost use Rattle.std.specs.Prelude.{◌≡◌, true, IfOk, IfErr, OnOk, Some, None};
+mod event;
+mod resume;
+
+ghost use Rattle.std.specs.Prelude.{ℕ, ◌≡◌, true, [], IfOk, IfErr, OnOk, Some, None};
 ghost use Rattle.std.specs.Option.{option_map};
 ghost use Rattle.tp_logrec.specs.Order.{boots, last_number};
 ghost use Rattle.tp_model.specs.History.{state};
 ghost use Rattle.tp_model.specs.Refusal.{number_in};
 ghost use Rattle.tp_journal.specs.Records.{version_of};
 ghost use Rattle.tp_node.specs.NodeEvent.{event_of};
-ghost use Rattle.tp_site.specs.Nodes.{has_node, who_at};
-ghost use Rattle.tp_site.specs.Site.{Plays, Attempts, Settles, Records, Opens, Starts, IsFound, IsUnfound, told_records, state_at, known_at};
+ghost use Rattle.tp_site.specs.Answers.{IsPlain};
+ghost use Rattle.tp_site.specs.Nodes.{has_node, who_at, node_at};
+ghost use Rattle.tp_site.specs.Events.{IsAt, all_nodes};
+ghost use Rattle.tp_site.specs.Site.{Plays, Attempts, Settles, Records, Opens, Starts, IsFound, IsUnfound, told_records, opening_of, state_at, known_at};
 ghost use Rattle.tp_node.specs.State.{state_of, tree_in};
 ghost use Rattle.tp_site.specs.Faults.{site_fault, shut_by};
 
+use crate::answer::breaks;
 use crate::draft::Draft;
 use crate::faults::{SiteFault, StartFault};
 use crate::nodes::Nodes;
-use crate::texts::has_text;
 use std::alloc::Global;
 use std::marker::Model;
 use tp_journal::{ForceFault, Keeper, first_out_of_order};
@@ -22,6 +27,7 @@ use tp_logrec::{LogRec, LogVersion};
 use tp_model::{Phase, Refusal, TxFault};
 use tp_names::{NoMemory, SiteName};
 use tp_node::{NodeEvent, NodeState, NodeTree, Outs};
+use tp_texts::has_text;
 
 /// What an event gives: its outputs, in order. With a number, it was refused by that, and the association that it came on
 /// was ended; the outputs are of that loss.
@@ -93,11 +99,10 @@ impl<K: Keeper> Site<K> {
         event: &NodeEvent<'_>,
         draft: &mut Draft,
     ) -> Result<Option<Refusal>, SiteFault>
-        ensures { Attempts K.standing self.old node (event_of event.now) result draft.new self.new }
+        requires { self.old.shut ≡ None }
+        ensures plain { (k : ℕ) → IsPlain (node_at self.old.nodes node) event.now k → result ≡ Err (SiteFault.Refused k) }
+        ensures attempts { Attempts K.standing self.old node (event_of event.now) result draft.new self.new }
     {
-        if let Some(faults) = self.shut {
-            return Err(SiteFault::Shut { faults });
-        }
         match self.nodes.answer_to(alloc, node, event, draft) {
             Ok(refusal) => {
                 self.nodes.prepare(alloc, node)?;
@@ -123,14 +128,47 @@ impl<K: Keeper> Site<K> {
         Ok(())
     }
 
-    // A draft to draw up an event on: the one before, where there is one.
-    fn spare_draft(&mut self, alloc: Global) -> Result<Box<Draft>, NoMemory>
-        ensures { self.new ≡ self.old }
+    // A draft to draw up an event on: the one before. Where there is none yet, a refusal at once wants none.
+    fn spare_draft(
+        &mut self,
+        alloc: Global,
+        node: u16,
+        event: &NodeEvent<'_>,
+    ) -> Result<Box<Draft>, SiteFault>
+        requires { self.old.shut ≡ None }
+        ensures same { self.new ≡ self.old }
+        ensures plain { (k : ℕ) → IsPlain (node_at self.old.nodes node) event.now k → IfErr result (λ fault. fault ≡ SiteFault.Refused k) }
+        ensures refused { IfErr result (λ fault. Plays K.standing self.old node (event_of event.now) (Err fault) self.new) }
     {
         match self.spare.take() {
             Some(draft) => Ok(draft),
-            None => Ok(Box::new(alloc, Draft::of(alloc, self.nodes.unknown(alloc, 0)))?),
+            None => self.first_draft(alloc, node, event),
         }
+    }
+
+    // The first draft, but where the event is refused at once.
+    #[tactic(auto, using(crate::proofs::Answered::refused_plain))]
+    fn first_draft(
+        &self,
+        alloc: Global,
+        node: u16,
+        event: &NodeEvent<'_>,
+    ) -> Result<Box<Draft>, SiteFault>
+        requires { self.now.shut ≡ None }
+        ensures plain { (k : ℕ) → IsPlain (node_at self.now.nodes node) event.now k → result ≡ Err (SiteFault.Refused k) }
+        ensures refused { IfErr result (λ fault. Plays K.standing self.now node (event_of event.now) (Err fault) self.now) }
+    {
+        if !breaks(event) {
+            if let Some(refusal) = self.nodes.refused_at_once(alloc, node, event) {
+                return Err(SiteFault::Refused(refusal.number()));
+            }
+        }
+        let draft = self.new_draft(alloc)?;
+        Ok(draft)
+    }
+
+    fn new_draft(&self, alloc: Global) -> Result<Box<Draft>, NoMemory> {
+        Ok(Box::new(alloc, Draft::of(alloc, self.nodes.unknown(alloc, 0)))?)
     }
 
     // An event of the node of that number, drawn up on that draft.
@@ -141,6 +179,7 @@ impl<K: Keeper> Site<K> {
         event: &NodeEvent<'_>,
         draft: &mut Draft,
     ) -> Result<Played, SiteFault>
+        requires { self.old.shut ≡ None }
         ensures { Plays K.standing self.old node (event_of event.now) result self.new }
     {
         let refusal = self.attempt(alloc, node, event, draft)?;
@@ -161,7 +200,10 @@ impl<K: Keeper> Site<K> {
     ) -> Result<Played, SiteFault>
         ensures { Plays K.standing self.old node (event_of event.now) result self.new }
     {
-        let mut draft = self.spare_draft(alloc)?;
+        if let Some(faults) = self.shut {
+            return Err(SiteFault::Shut { faults });
+        }
+        let mut draft = self.spare_draft(alloc, node, event)?;
         let played = self.play_on(alloc, node, event, &mut draft);
         self.spare = Some(draft);
         played
@@ -194,9 +236,11 @@ impl<K: Keeper> Site<K> {
         }
     }
 
-    /// Starts a site of that name on the records of a log, and forces its boot: the boot number after the last, or 1.
+    /// Starts a site of that name on the records of a log, and forces its boot: the boot number after the last, or 1. It
+    /// stands then where a run of no events does.
     pub fn start(alloc: Global, keeper: K, name: SiteName) -> Result<Site<K>, (K, StartFault)>
-        ensures { Starts K.standing keeper name result }
+        ensures starts { Starts K.standing keeper name result }
+        ensures at { IfOk result (λ site. (K.standing keeper).told ≡ (K.standing keeper).kept → IsAt K.standing all_nodes (opening_of (K.standing keeper) name) [] site) }
     {
         match found(alloc, &keeper, name) {
             Ok(nodes) => Site::open(alloc, keeper, nodes),

@@ -51,7 +51,8 @@ impl Draft {
 
     /// The outputs, which it has no more.
     pub(crate) fn take_outs(&mut self, alloc: Global) -> Outs
-        ensures { result ≡ self.old.move.outs }
+        ensures outs { result ≡ self.old.move.outs }
+        ensures rest { self.new ≡ record self.old { move = record self.old.move { outs = [] } } }
     {
         replace(&mut self.outs, Outs::new(alloc))
     }

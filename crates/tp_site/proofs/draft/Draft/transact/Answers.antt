@@ -43,8 +43,8 @@ returns-in-Ok-false c =
     taken_out (Ok tt) a (drafted c.take_seen.new.self) c.take_turn.new.self t e is (c.in-Ok-false.ensures {u = tt}).turn
     ∙ sym (ap (λ (m : Move). record a { move = followed a.move (λ _. m) }) (transacts a e t there ∙ ap (λ (w : Bool). cond w (followed (turning_by t e a.who a.move.next) (try_start a.who)) (turning_by t e a.who a.move.next)) on))
 
-pub returns : goal.returns
-returns c =
+pub returns-in-Ok-true : goal.returns-in-Ok-true
+returns-in-Ok-true c =
     let a = c.args.self.now in
     let e = c.args.event.now in
     let v = c.self.inside in

@@ -9,18 +9,18 @@ use Rattle.tp_site.proofs.draft.Draft.turn.Goals as goal
 
 pub returns-in-Err : goal.returns-in-Err
 returns-in-Err c =
-    let t = c.args.branch.now in
+    let n = c.args.next in
     let w = passage_of c.args.passage in
     let s = c.args.step in
-    plays_halted c.in-Err.halt c.args.self.now c.speak.new.self c.speak.new.self (speaking t w s.outs) (settling s.rec c.args.next) (turning t w s c.args.next) (λ who d. refl) (settling_rises s.rec c.args.next)
-    (subst (λ (l : List TxOut). Plays (Err c.in-Err.halt) c.args.self.now c.speak.new.self (speaking t w l)) c.as_slice.ensures (c.in-Err.ensures {u = tt}))
+    plays_halted c.in-Err.halt c.args.self.now c.speak.new.self c.speak.new.self (speaking n w s.outs) (settling s.rec n) (turning n w s n) (λ who d. refl) (settling_rises s.rec n)
+    (subst (λ (l : List TxOut). Plays (Err c.in-Err.halt) c.args.self.now c.speak.new.self (speaking n w l)) c.as_slice.ensures (c.in-Err.ensures {u = tt}))
 
 pub returns : goal.returns
 returns c =
-    let t = c.args.branch.now in
+    let n = c.args.next in
     let w = passage_of c.args.passage in
     let s = c.args.step in
-    plays_then c.settle.result c.args.self.now c.speak.new.self c.settle.new.self (speaking t w s.outs) (settling s.rec c.args.next) (turning t w s c.args.next)
-    (c.in_default.ensures {u = tt} ∙ ap (λ (l : List TxOut). goes_on c.args.self.now (speaking t w l)) c.as_slice.ensures)
+    plays_then c.settle.result c.args.self.now c.speak.new.self c.settle.new.self (speaking n w s.outs) (settling s.rec n) (turning n w s n)
+    (c.in_default.ensures {u = tt} ∙ ap (λ (l : List TxOut). goes_on c.args.self.now (speaking n w l)) c.as_slice.ensures)
     (λ who d. refl)
     c.settle.ensures

@@ -1,0 +1,17 @@
+-- A node that is not among them is refused as the one that it would be.
+use Rattle.std.proofs.Common.{◌≡◌, refl, sym, ◌∙◌, subst}
+use Rattle.tp_model.specs.Parts.{Who, Digest}
+use Rattle.tp_node.specs.Node.{Node}
+use Rattle.tp_site.specs.Answers.{IsPlain}
+use Rattle.tp_site.specs.Nodes.{who_at}
+use Rattle.tp_site.proofs.Numbered.{unfound}
+use Rattle.tp_site.proofs.nodes.Nodes.answer_to.Goals as goal
+
+same_node : (w : Who) (d e : Digest) → d ≡ e → ◌≡◌ {A = Node} (record { who = w; digest = d }) (record { who = w; digest = e })
+same_node w d e same = rw same refl
+
+pub returns-in-None-clause-plain : goal.returns-in-None-clause-plain
+returns-in-None-clause-plain c = λ k plain.
+    let v = c.args.self.now in
+    let n = c.args.node in
+    c.answer_to-in-None-2.ensures.plain k (subst (λ (x : Node). IsPlain x c.args.event.now k) (same_node (who_at v n) _ _ (unfound v n c.in-None.ensures) ∙ sym c.unknown.ensures) plain)

@@ -1,0 +1,69 @@
+//! The outputs of an event as they go out of a site: records as octets.
+ghost use Rattle.std.specs.Prelude.{◌≡◌, IfOk};
+ghost use Rattle.tp_records.specs.Bodies.{peer_bytes};
+ghost use Rattle.tp_model.specs.NodeRun.{refusal_of};
+ghost use Rattle.tp_node.specs.Outs.{out_of};
+ghost use Rattle.tp_site.specs.Events.{given_out, output_of};
+
+use std::alloc::Global;
+use tp_names::{Addr, NoMemory, Octets};
+use tp_node::{Out, Outs};
+use tp_records::{Output, Outputs, PeerRecord};
+use tp_texts::peer_octets;
+
+// The octets of a record that goes out. Each has a text: one that had none would not be sent, as if there were no memory
+// for it.
+#[tactic(auto, using(crate::proofs::Giving::text_is))]
+fn octets_of(alloc: Global, rec: &PeerRecord) -> Result<Octets, NoMemory>
+    ensures { IfOk result (λ octets. octets ≡ peer_bytes rec.now) }
+{
+    match peer_octets(alloc, rec)? {
+        None => Err(NoMemory),
+        Some(octets) => Ok(octets),
+    }
+}
+
+// An output of a node as it goes out.
+fn output_of(alloc: Global, from: &Addr, out: Out) -> Result<Output, NoMemory>
+    ensures { IfOk result (λ output. output ≡ output_of from.now.site from.now.node (out_of out)) }
+{
+    Ok(match out {
+        Out::Tell(indication) => Output::Tell {
+            node: from.node,
+            indication,
+        },
+        Out::Send { to, rec } => Output::Send {
+            from: *from,
+            to,
+            octets: octets_of(alloc, &rec)?,
+        },
+    })
+}
+
+// The number of an answer, where there is one.
+fn refusal(alloc: Global, number: Option<u8>) -> Result<Outputs, NoMemory>
+    ensures { IfOk result (λ outputs. outputs ≡ refusal_of number) }
+{
+    let mut outputs = Outputs::new(alloc);
+    if let Some(number) = number {
+        outputs.push(alloc, Output::Refused { number })?;
+    }
+    Ok(outputs)
+}
+
+/// The outputs of an event of a node as they go out, after the number of a refusal, where there is one.
+pub(crate) fn outputs_of(
+    alloc: Global,
+    from: &Addr,
+    number: Option<u8>,
+    outs: Outs,
+) -> Result<Outputs, NoMemory>
+    ensures { IfOk result (λ outputs. outputs ≡ given_out from.now.site from.now.node number outs) }
+{
+    let mut outputs = refusal(alloc, number)?;
+    for out in outs.into_vec() {
+        let output = output_of(alloc, from, out)?;
+        outputs.push(alloc, output)?;
+    }
+    Ok(outputs)
+}

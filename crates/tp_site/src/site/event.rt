@@ -1,0 +1,128 @@
+//! Events as they come to a site, and its outputs as they go out: records as octets.
+ghost use Rattle.std.specs.Prelude.{ℕ, ◌≡◌, Bool, true, List, Some, None};
+ghost use Rattle.tp_records.specs.declared.body.Event.{Event as Given};
+ghost use Rattle.tp_records.specs.declared.request.Request.{Request as Asks};
+ghost use Rattle.tp_model.specs.Parts.{Do};
+ghost use Rattle.tp_model.specs.Events.{refused_plainly};
+ghost use Rattle.tp_model.specs.NodeRun.{Opening, asked, node_of};
+ghost use Rattle.tp_node.specs.NodeEvent.{event_of};
+ghost use Rattle.tp_site.specs.Answers.{IsPlain};
+ghost use Rattle.tp_site.specs.Nodes.{who_at, node_at};
+ghost use Rattle.tp_site.specs.Site.{known_at};
+ghost use Rattle.tp_site.specs.Events.{Gives, PlaysAsked, IsAt, StepsTo, opening_at};
+
+use crate::draft::Draft;
+use crate::faults::SiteFault;
+use crate::outputs::outputs_of;
+use crate::site::{Site, number_in};
+use std::alloc::Global;
+use tp_journal::Keeper;
+use tp_model::Refusal;
+use tp_names::same::is_name;
+use tp_names::{Addr, Octets};
+use tp_node::NodeEvent;
+use tp_records::{Event, Outputs};
+use tp_texts::read_whole_peer;
+
+impl<K: Keeper> Site<K> {
+    // An event of the node of that number, drawn up on that draft. All that goes out is made before the record is forced.
+    fn give_on(
+        &mut self,
+        alloc: Global,
+        node: u16,
+        event: &NodeEvent<'_>,
+        draft: &mut Draft,
+    ) -> Result<Outputs, SiteFault>
+        requires { self.old.shut ≡ None }
+        ensures plain { (k : ℕ) → IsPlain (node_at self.old.nodes node) event.now k → result ≡ Err (SiteFault.Refused k) }
+        ensures gives { Gives K.standing self.old node (event_of event.now) result self.new }
+    {
+        let refusal = self.attempt(alloc, node, event, draft)?;
+        let site = self.name();
+        let outs = draft.take_outs(alloc);
+        let outputs = outputs_of(alloc, &Addr { site, node }, number_in(refusal), outs)?;
+        self.settle(alloc, node, draft)?;
+        Ok(outputs)
+    }
+
+    // An event of the node of that number.
+    fn give(
+        &mut self,
+        alloc: Global,
+        node: u16,
+        event: &NodeEvent<'_>,
+    ) -> Result<Outputs, SiteFault>
+        requires { self.old.shut ≡ None }
+        ensures plain { (k : ℕ) → IsPlain (node_at self.old.nodes node) event.now k → result ≡ Err (SiteFault.Refused k) }
+        ensures gives { Gives K.standing self.old node (event_of event.now) result self.new }
+    {
+        let mut draft = self.spare_draft(alloc, node, event)?;
+        let outputs = self.give_on(alloc, node, event, &mut draft);
+        self.spare = Some(draft);
+        outputs
+    }
+
+    // Octets that come from another node.
+    fn arrive(
+        &mut self,
+        alloc: Global,
+        from: Addr,
+        to: Addr,
+        octets: &Octets,
+    ) -> Result<Outputs, SiteFault>
+        requires { self.old.shut ≡ None }
+        ensures { PlaysAsked K.standing self.old (asked (opening_at self.old.nodes.site) (Event.Arrive from to octets.now)) result self.new }
+    {
+        let Some(rec) = read_whole_peer(alloc, octets.as_slice())? else {
+            return Err(SiteFault::Refused(Refusal::BadRecord.number()));
+        };
+        let site = self.name();
+        if !is_name(&to.site, &site) {
+            return Err(SiteFault::Refused(Refusal::WrongSite.number()));
+        }
+        self.give(alloc, to.node, &NodeEvent::Arrive { from, rec: &rec })
+    }
+
+    // What the event asks for, of a site that is not shut.
+    fn take(&mut self, alloc: Global, event: &Event) -> Result<Outputs, SiteFault>
+        requires { self.old.shut ≡ None }
+        ensures plain { (n : ℕ) (r : Asks) (k : ℕ) → event.now ≡ Given.Do n r → refused_plainly (who_at self.old.nodes n) (known_at self.old n) (Do r) ≡ Some k → result ≡ Err (SiteFault.Refused k) }
+        ensures plays { PlaysAsked K.standing self.old (asked (opening_at self.old.nodes.site) event.now) result self.new }
+    {
+        match event {
+            Event::Declare { node, superior } => {
+                let superior = *superior;
+                self.give(alloc, *node, &NodeEvent::Declare { superior })
+            }
+            Event::Do { node, request } => self.give(alloc, *node, &NodeEvent::Do { request }),
+            Event::Arrive { from, to, octets } => self.arrive(alloc, *from, *to, octets),
+            Event::Lose { node, peer } => self.give(alloc, *node, &NodeEvent::Lose { peer: *peer }),
+            Event::Heur { node, outcome } => {
+                let outcome = *outcome;
+                self.give(alloc, *node, &NodeEvent::Heur { outcome })
+            }
+            Event::GiveUp { node, peer } => {
+                self.give(alloc, *node, &NodeEvent::GiveUp { peer: *peer })
+            }
+            Event::Retry { node } => self.give(alloc, *node, &NodeEvent::Retry),
+            Event::Purge { node } => self.give(alloc, *node, &NodeEvent::Purge),
+        }
+    }
+
+    /// An event as it comes to the site. Its record is forced before any output is given; a refusal changes nothing. Octets
+    /// that are not exactly one record are refused by 25, and a record for another site by 23. Where a record came out of
+    /// phase and ends its association, the outputs begin with that refusal and go on with the loss. After a fault of the
+    /// disk every event is answered `Shut`. A user's request that is refused takes no memory, but where numbers are spent.
+    pub fn event(&mut self, alloc: Global, event: &Event) -> Result<Outputs, SiteFault>
+        ensures plays { PlaysAsked K.standing self.old (asked (opening_at self.old.nodes.site) event.now) result self.new }
+        ensures steps { (mine : ℕ → Bool) (o : Opening) (gs : List Given) → IsAt K.standing mine o gs self.old → mine (node_of event.now) ≡ true → StepsTo K.standing mine o gs self.old event.now result self.new }
+        ensures lasting { (K.standing self.new.keeper).lasting ≡ (K.standing self.old.keeper).lasting }
+        ensures plain { (n : ℕ) (r : Asks) (k : ℕ) → event.now ≡ Given.Do n r → self.old.shut ≡ None → refused_plainly (who_at self.old.nodes n) (known_at self.old n) (Do r) ≡ Some k → result ≡ Err (SiteFault.Refused k) }
+        ensures shut { (faults : ℕ) → self.old.shut ≡ Some faults → result ≡ Err (SiteFault.Shut faults) }
+    {
+        if let Some(faults) = self.shut {
+            return Err(SiteFault::Shut { faults });
+        }
+        self.take(alloc, event)
+    }
+}
