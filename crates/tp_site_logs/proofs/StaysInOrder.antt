@@ -11,7 +11,7 @@ use Rattle.tp_model.specs.NodeRun.{Opening, boot_of, origin_at, Past, history_of
 use Rattle.tp_steps.proofs.every.Answers.{Accepted, accepted}
 use Rattle.tp_histories.proofs.known.KnownPlain.{plain_law}
 use Rattle.tp_runs.proofs.Lanes.{chosen, past_with, given, run_step}
-use Rattle.tp_site_logs.specs.SiteLogs.{only_branches_vote, is_in_order}
+use Rattle.tp_site_logs.specs.SiteLogs.{only_branches_vote, is_in_order, HistoriesAreLegal}
 use Rattle.tp_site_logs.proofs.Logged.{IsLog, log_more, log_kept, log_booted, votes_append}
 use Rattle.tp_site_logs.proofs.NextRecord.{IsNext, next_record}
 use Rattle.tp_site_logs.proofs.Openings.{next_above, sound_opening}
@@ -170,3 +170,29 @@ stays_in_order o gs h =
       votes = votes_append o.records (LogRec.Boot b) p.1 refl;
       grows = λ n. grows_none (origin_at o n);
     })
+
+-- ---- and each history is one that a node can have
+
+all_grown : (o : Opening) (gs : List Given) (ps : List Past) → ((n : ℕ) → Grows (origin_at o n) (history_of ps n)) → (n : ℕ) → Grows (origin_at o n) (history_of (run_from o ps gs).pasts n)
+all_grown o [] ps grow n = grow n
+all_grown o (g ∷ gs) ps grow n = go (asked o g) refl (λ qs h. all_grown o gs qs h n)
+  where
+    go : (a : Asked) → asked o g ≡ a → ((qs : List Past) → ((m : ℕ) → Grows (origin_at o m) (history_of qs m)) → Grows (origin_at o n) (history_of (run_from o qs gs).pasts n)) → Grows (origin_at o n) (history_of (run_from o ps (g ∷ gs)).pasts n)
+    go (Refuses k) i rest = subst (λ (r : NodeRun). Grows (origin_at o n) (history_of r.pasts n)) (sym (run_step o ps g gs (Refuses k) i)) (rest ps grow)
+    go (Is m e) i rest = subst (λ (r : NodeRun). Grows (origin_at o n) (history_of r.pasts n)) (sym (run_step o ps g gs (Is m e) i)) (entered (given o ps m e).entry refl)
+      where
+        entered : (y : Option Entry) → (given o ps m e).entry ≡ y → Grows (origin_at o n) (history_of (run_from o (with_entry ps m y) gs).pasts n)
+        entered None is = rest ps grow
+        entered (Some y) is = rest (with_entry ps m (Some y)) (λ k. subst (Grows (origin_at o k)) (sym (past_with ps m (y ∷ history_of ps m) k)) (more k (m == k) refl))
+          where
+            mine : Grows (origin_at o m) (y ∷ history_of ps m)
+            mine = grows_entry (origin_at o m) (history_of ps m) e y (grow m) (calm_given o g m e i) is
+
+            more : (k : ℕ) (b : Bool) → (m == k) ≡ b → Grows (origin_at o k) (chosen b (y ∷ history_of ps m) (history_of ps k))
+            more k true b = let same : m ≡ k = grind (arith, nat_tests, b) in subst (λ (j : ℕ). Grows (origin_at o j) (y ∷ history_of ps m)) same mine
+            more k false b = grow k
+
+pub are_legal : (o : Opening) (gs : List Given) → HistoriesAreLegal o gs
+are_legal o gs n =
+    let g : Grows (origin_at o n) (history_of (run_from o [] gs).pasts n) = all_grown o gs [] (λ m. grows_none (origin_at o m)) n in
+    (g.superior, g.grown, λ start. record { start = start; grown = g.grown })

@@ -2,16 +2,18 @@
 -- A node's history says which records the node forced; the disk of its site has those of all nodes there, among the boots.
 -- Statements alone; nothing is proved here.
 use Rattle.std.specs.Prelude.{ℕ, zero, suc, ◌≡◌, ◌≤◌, ◌&&◌, Bool, true, false, Option, Some, None, List, [], ◌∷◌, ◌++◌, reverse, length, if◌then◌else◌}
+use Rattle.tp_names.specs.declared.identifiers.Addr.{Addr}
 use Rattle.tp_names.specs.Same.{is_name}
+use Rattle.tp_records.specs.declared.body.Event.{Event as Given}
 use Rattle.tp_logrec.specs.declared.record.LogRec.{LogRec}
 use Rattle.tp_logrec.specs.declared.record.LogVersion.{LogVersion}
 use Rattle.tp_logrec.specs.Order.{boots, all_follow}
 use Rattle.tp_model.specs.Events.{started}
 use Rattle.tp_model.specs.History.{digest, records, crashed}
-use Rattle.tp_model.specs.NodeRun.{Opening, boot_of, records_at, origin_at}
+use Rattle.tp_model.specs.NodeRun.{Opening, boot_of, records_at, origin_at, history_of, run_from}
 use Rattle.tp_model.specs.World.{World, Node, Site, number_of, site_of, find_node, find_site}
 use Rattle.tp_model.specs.Happenings.{Happening, Declare, Does, Mark, Crash, Crash_in, Drive, Drop}
-use Rattle.tp_model.specs.Legal.{is_start}
+use Rattle.tp_model.specs.Legal.{is_start, IsGrown, IsLegal}
 use Rattle.tp_model.specs.Promises.{IsIn}
 
 -- a site's log, oldest record first
@@ -36,6 +38,15 @@ only_branches_vote (r ∷ rs) = is_vote_of_branch r && only_branches_vote rs
 -- each record follows those before it, and only branches have voted; children may be twins, and keys of any age
 abbrev pub is_in_order : List LogRec → Bool
 is_in_order rs = all_follow rs && only_branches_vote rs
+
+-- ---- the histories that a list of events leaves
+
+-- each grew under one superior, and is legal where its start is
+abbrev pub HistoriesAreLegal : Opening → List Given → Type 0
+HistoriesAreLegal o es =
+    (n : ℕ) → (up : Option Addr)
+    × IsGrown (origin_at o n) up (history_of (run_from o [] es).pasts n)
+    × (is_start (origin_at o n) ≡ true → IsLegal (origin_at o n) up (history_of (run_from o [] es).pasts n))
 
 -- ---- what the log tells
 

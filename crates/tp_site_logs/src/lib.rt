@@ -7,13 +7,21 @@ ghost use Rattle.tp_records.specs.declared.body.Event.{Event as Given};
 ghost use Rattle.tp_model.specs.NodeRun.{Opening, boot_of, log_after};
 ghost use Rattle.tp_model.specs.World.{Site, find_site};
 ghost use Rattle.tp_model.specs.Happenings.{Happening, run};
-ghost use Rattle.tp_site_logs.specs.SiteLogs.{is_in_order, DisksTell, DisksStart, next_opening, stops};
+ghost use Rattle.tp_site_logs.specs.SiteLogs.{is_in_order, HistoriesAreLegal, DisksTell, DisksStart, next_opening, stops};
 
 /// The log of a site stays in order. For every log on which a site may start, whoever wrote it, and every list of events that the
 /// site is given then: where each record of the log follows those before it and only branches have voted, so it is of the whole
 /// log after them. So it is after every further start, too.
 pub fn a_sites_log_stays_in_order()
     ensures { (o : Opening) (es : List Given) → is_in_order o.records ≡ true → is_in_order (log_after o es) ≡ true }
+{}
+
+/// Every list of events that a site is given leaves each of its nodes a history that grew under one superior: each entry is of an
+/// event that was accepted then, and is what the event does. So it is a legal history, for which every law of histories holds,
+/// wherever the records of that node are a start: where they follow each other after the boot, are the node's own of earlier boots,
+/// and the children of one record differ. Only a log that was made up has others.
+pub fn a_sites_histories_are_legal()
+    ensures { (o : Opening) (es : List Given) → HistoriesAreLegal o es }
 {}
 
 /// In every run, the log of a site tells its nodes: of each number at which a node of the site stands it has the records that
