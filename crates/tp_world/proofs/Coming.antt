@@ -14,7 +14,7 @@ use Rattle.tp_network.specs.Nodes.{IsDeclared, address_at}
 use Rattle.tp_world.specs.Sites.{AreSites}
 use Rattle.tp_world.specs.Placing.{IsDeclaredAt, boot_lines}
 use Rattle.tp_world.specs.Declares.{superior_at, has_superior, HasCome}
-use Rattle.tp_world.specs.World.{AreNodes, RestStands, Stands, Gives, is_free, is_placed}
+use Rattle.tp_world.specs.World.{AreNodes, RestStands, Mirrors, Gives, is_free, is_placed}
 use Rattle.tp_world.specs.declared.fault.WorldFault.{WorldFault}
 use Rattle.tp_network.specs.declared.nodes.NodeSlot.{NodeSlot}
 use Rattle.tp_world.specs.declared.site_slot.SiteSlot.{SiteSlot}
@@ -32,7 +32,7 @@ are_as_many [] (x ∷ xs) h = absurd h
 are_as_many (s ∷ ss) [] h = absurd h
 are_as_many (s ∷ ss) (x ∷ xs) h = ap (λ (n : ℕ). suc n) (are_as_many ss xs h.1)
 
-pub sites_count : (w : World) (v : CodeWorld) → Stands w v → length v.sites.items ≡ length w.sites
+pub sites_count : (w : World) (v : CodeWorld) → Mirrors w v → length v.sites.items ≡ length w.sites
 sites_count w v h = are_as_many w.sites v.sites.items h.sites.sites
 
 as_many_nodes : (ns : List Node) (xs : List NodeSlot) → AreNodes ns xs → length xs ≡ length ns
@@ -41,7 +41,7 @@ as_many_nodes [] (x ∷ xs) h = absurd h
 as_many_nodes (n ∷ ns) [] h = absurd h
 as_many_nodes (n ∷ ns) (x ∷ xs) h = ap (λ (k : ℕ). suc k) (as_many_nodes ns xs h.1)
 
-pub nodes_count : (w : World) (v : CodeWorld) → Stands w v → length v.nodes ≡ length w.nodes
+pub nodes_count : (w : World) (v : CodeWorld) → Mirrors w v → length v.nodes ≡ length w.nodes
 nodes_count w v h = as_many_nodes w.nodes v.nodes h.rest.nodes
 
 -- ---- the number is new
@@ -96,7 +96,7 @@ declared_in w a up o = elim o [
   }
 ]
 
-rest_come : (w : World) (a : Addr) (up : Option Addr) (x : NodeSlot) (xs : List NodeSlot) (old : CodeWorld) → Stands w old → is_node w a.node ≡ false → has_superior w up ≡ true → IsDeclared a up x → xs ≡ old.nodes ++ x ∷ []
+rest_come : (w : World) (a : Addr) (up : Option Addr) (x : NodeSlot) (xs : List NodeSlot) (old : CodeWorld) → Mirrors w old → is_node w a.node ≡ false → has_superior w up ≡ true → IsDeclared a up x → xs ≡ old.nodes ++ x ∷ []
     → RestStands (declared_at w a.node a.site up).world xs old.frames old.trees.items
 rest_come w a up x xs old h none above d e = go (find_site w.sites a.site) refl
   where
@@ -110,7 +110,7 @@ rest_come w a up x xs old h none above d e = go (find_site w.sites a.site) refl
         subst (λ (l : List NodeSlot). RestStands (declared_in w a up None).world l old.frames old.trees.items) (sym e)
         (rest_declared w ss a.site a.node 1 up x old.nodes old.frames old.trees.items (λ t i. site_behind w.sites (new_site a.site) t i) (absent w a.node none) (placed_new w ss a.site a.node 1 up (new_site_found w.sites a.site) above) h.rest d)
 
-pub come : (w : World) (a : Addr) (up : Option Addr) (boot : Option ℕ) (x : NodeSlot) (before after : List OutLine) (old new : CodeWorld) → Stands w old → is_node w a.node ≡ false → has_superior w up ≡ true
+pub come : (w : World) (a : Addr) (up : Option Addr) (boot : Option ℕ) (x : NodeSlot) (before after : List OutLine) (old new : CodeWorld) → Mirrors w old → is_node w a.node ≡ false → has_superior w up ≡ true
     → IsDeclaredAt w a up boot new.sites.items → IsDeclared a up x → new.nodes ≡ old.nodes ++ x ∷ [] → new.frames ≡ old.frames → new.trees ≡ old.trees → after ≡ before ++ boot_lines a.site boot → HasCome w a up before after new
 come w a up boot x before after old new h none above at d nodes frames trees lines =
     let r : RestStands (declared_at w a.node a.site up).world new.nodes old.frames old.trees.items = rest_come w a up x new.nodes old h none above d nodes in (
@@ -144,7 +144,7 @@ turn_under w n s (Some p) h = go (find_node w.nodes p) refl h
     go None e i = absurd cc
     go (Some x) e i = refl
 
-pub superior_stood : (w : World) (v : CodeWorld) (p : ℕ) → Stands w v → address_at v.nodes p ≡ addr_at w p
+pub superior_stood : (w : World) (v : CodeWorld) (p : ℕ) → Mirrors w v → address_at v.nodes p ≡ addr_at w p
 superior_stood w v p h = address_stood w v p h ∙ go (find_node w.nodes p)
   where
     go : (o : Option Node) → option_map addr_of o ≡ elim o as (λ _. Option Addr) [ None ↦ None | Some x ↦ Some (addr_of x) ]

@@ -1,14 +1,13 @@
 -- A drain, turn by turn, and marks of frames.
 use Rattle.std.proofs.Common.{◌≡◌, ◌≤◌, ◌<◌, ◌+◌, ◌++◌, ℕ, zero, suc, true, false, refl, ap, sym, subst, ◌∙◌, arith, Option, Some, None, List, [], ◌∷◌, length, Result, Ok, Err, append_assoc}
 use Rattle.std.proofs.lemmas.List.{append-nil}
-use Rattle.tp_model.specs.declared.line.Action.{Action}
 use Rattle.tp_model.specs.declared.out_line.OutLine.{OutLine}
 use Rattle.tp_model.specs.World.{World, Frame, mark_handed, oldest_from, oldest_of_all, oldest_between}
 use Rattle.tp_model.specs.Happenings.{Mark, Turn, Told, happens, still}
 use Rattle.tp_model.specs.Lines.{Fault, within_limits, shows, then_turn, then_result, drain_line}
 use Rattle.tp_network.specs.Frames.{is_between}
 use Rattle.tp_world.specs.Drains.{handed, Hands, IsDrained}
-use Rattle.tp_world.specs.World.{AreNodes, SitesStand, Stands, Gives}
+use Rattle.tp_world.specs.World.{AreNodes, SitesStand, Mirrors, Gives}
 use Rattle.tp_world.specs.declared.fault.WorldFault.{WorldFault}
 use Rattle.tp_world.specs.declared.world.World.{World as CodeWorld}
 use Rattle.tp_world.proofs.Limits.{Given, given}
@@ -21,7 +20,7 @@ mark_length [] (suc k) = refl
 mark_length (f ∷ fs) (suc zero) = refl
 mark_length (f ∷ fs) (suc (suc j)) = ap (λ (n : ℕ). suc n) (mark_length fs (suc j))
 
-stands_frames : (w : World) (old new : CodeWorld) (fs : List Frame) → Stands w old → new.frames ≡ fs → length fs ≤ 65535 → new.nodes ≡ old.nodes → new.sites ≡ old.sites → new.trees ≡ old.trees → Stands (record w { frames = fs }) new
+stands_frames : (w : World) (old new : CodeWorld) (fs : List Frame) → Mirrors w old → new.frames ≡ fs → length fs ≤ 65535 → new.nodes ≡ old.nodes → new.sites ≡ old.sites → new.trees ≡ old.trees → Mirrors (record w { frames = fs }) new
 stands_frames w old new fs h frames few nodes sites trees =
     let r = h.rest in
     let s : SitesStand w new.sites.items = subst (λ v. SitesStand w v.items) (sym sites) h.sites in
@@ -38,12 +37,12 @@ stands_frames w old new fs h frames few nodes sites trees =
       };
     }
 
-pub stands_marked : (w : World) (old new : CodeWorld) (k : ℕ) → Stands w old → new.frames ≡ mark_handed old.frames k → new.nodes ≡ old.nodes → new.sites ≡ old.sites → new.trees ≡ old.trees
-    → Stands (happens w (Mark k)).world new
+pub stands_marked : (w : World) (old new : CodeWorld) (k : ℕ) → Mirrors w old → new.frames ≡ mark_handed old.frames k → new.nodes ≡ old.nodes → new.sites ≡ old.sites → new.trees ≡ old.trees
+    → Mirrors (happens w (Mark k)).world new
 stands_marked w old new k h frames nodes sites trees =
     stands_frames w old new (mark_handed w.frames k) h (frames ∙ ap (λ (l : List Frame). mark_handed l k) h.rest.frames) (subst (λ (n : ℕ). n ≤ 65535) (sym (mark_length w.frames k)) h.rest.few) nodes sites trees
 
-pub stands_unmarked : (w : World) (old new : CodeWorld) → Stands w old → new.frames ≡ old.frames → new.nodes ≡ old.nodes → new.sites ≡ old.sites → new.trees ≡ old.trees → Stands w new
+pub stands_unmarked : (w : World) (old new : CodeWorld) → Mirrors w old → new.frames ≡ old.frames → new.nodes ≡ old.nodes → new.sites ≡ old.sites → new.trees ≡ old.trees → Mirrors w new
 stands_unmarked w old new h frames nodes sites trees = stands_frames w old new w.frames h (frames ∙ h.rest.frames) h.rest.few nodes sites trees
 
 -- ---- turns one after another
@@ -76,7 +75,7 @@ drain_breaks n w k f h e = ap (turn_from n w) h ∙ ap (after_one n) e
 
 -- ---- the loop
 
-pub drained_first : (w : World) (most : ℕ) (before : List OutLine) (v : CodeWorld) → Stands w v → IsDrained w most 0 before before v
+pub drained_first : (w : World) (most : ℕ) (before : List OutLine) (v : CodeWorld) → Mirrors w v → IsDrained w most 0 before before v
 drained_first w most before v h = record {
   left = most;
   turns = omega arith;
@@ -110,7 +109,7 @@ drained_next w most done before lines after old new more d h = go d.left refl
 -- ---- how it ends
 
 stops_gives : (w : World) (most done : ℕ) (before lines after : List OutLine) (old new : CodeWorld) (u : Unit {0}) (d : IsDrained w most done before lines old) → drain_line d.left d.turn.world ≡ Ok (shows d.turn.world [])
-    → after ≡ lines → Stands d.turn.world new → Gives (drain_line most w) before (Ok u) after new
+    → after ≡ lines → Mirrors d.turn.world new → Gives (drain_line most w) before (Ok u) after new
 stops_gives w most done before lines after old new u d e same h =
     subst (λ (r : Result Turn Fault). Gives r before (Ok u) after new) (sym (d.so_far ∙ ap (then_result d.turn) e))
     (same ∙ d.lines ∙ ap (λ (l : List OutLine). before ++ l) (sym (append-nil d.turn.lines)), h)
@@ -148,8 +147,8 @@ drained_fault w most done before lines after old new f more d h = go d.left refl
 
 -- ---- the oldest frame
 
-pub oldest_stood : (w : World) (v : CodeWorld) (o : Option ℕ) → Stands w v → o ≡ oldest_from 0 (λ f. true) v.frames → oldest_of_all w ≡ o
+pub oldest_stood : (w : World) (v : CodeWorld) (o : Option ℕ) → Mirrors w v → o ≡ oldest_from 0 (λ f. true) v.frames → oldest_of_all w ≡ o
 oldest_stood w v o h e = sym (e ∙ ap (λ (fs : List Frame). oldest_from 0 (λ f. true) fs) h.rest.frames)
 
-pub between_stood : (w : World) (v : CodeWorld) (a b : ℕ) (o : Option ℕ) → Stands w v → o ≡ oldest_from 0 (is_between a b) v.frames → oldest_between w a b ≡ o
+pub between_stood : (w : World) (v : CodeWorld) (a b : ℕ) (o : Option ℕ) → Mirrors w v → o ≡ oldest_from 0 (is_between a b) v.frames → oldest_between w a b ≡ o
 between_stood w v a b o h e = sym (e ∙ ap (λ (fs : List Frame). oldest_from 0 (is_between a b) fs) h.rest.frames)

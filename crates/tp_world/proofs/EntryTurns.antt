@@ -16,7 +16,7 @@ use Rattle.tp_site.specs.State.{tree_of}
 use Rattle.tp_network.specs.TreeSummary.{is_in}
 use Rattle.tp_world.specs.Settled.{tree_started, IsSettledEntry}
 use Rattle.tp_network.specs.Nodes.{AreChanged}
-use Rattle.tp_world.specs.World.{Stands, SitesStand, RestStands, AreNodes, after_entry, are_apart, is_placed}
+use Rattle.tp_world.specs.World.{Mirrors, SitesStand, RestStands, AreNodes, after_entry, are_apart, is_placed}
 use Rattle.tp_world.specs.declared.site_slot.Entry.{Entry}
 use Rattle.tp_world.specs.declared.world.World.{World as CodeWorld}
 use Rattle.tp_network.specs.declared.nodes.NodeSlot.{NodeSlot}
@@ -80,7 +80,7 @@ turn_world w n e = let v : World = logged (entered w n e) n e.rec in record v { 
 
 -- what is known of the code's entry and of the world that it leaves
 pub record IsBehind (w : World) (n : Node) (e : EntryValue) (x : Entry) (first last : List OutLine) (old mid new : CodeWorld) : Type 0 where
-  pub stands : Stands w old
+  pub stands : Mirrors w old
   pub found : find_node w.nodes (number_of n) ≡ Some n
   pub legal : IsLegal n.origin n.superior (e ∷ n.history)
   pub outs : x.outs ≡ e.outs
@@ -121,7 +121,7 @@ rest_behind w n e x first last old mid new h =
       undriven = logged_drives (entered w n e) n e.rec ∙ r.undriven;
     }
 
-pub stands_behind : (w : World) (n : Node) (e : EntryValue) (x : Entry) (first last : List OutLine) (old mid new : CodeWorld) → IsBehind w n e x first last old mid new → Stands (turn_world w n e) new
+pub stands_behind : (w : World) (n : Node) (e : EntryValue) (x : Entry) (first last : List OutLine) (old mid new : CodeWorld) → IsBehind w n e x first last old mid new → Mirrors (turn_world w n e) new
 stands_behind w n e x first last old mid new h =
     let s : SitesStand (logged (entered w n e) n e.rec) new.sites.items = subst (λ v. SitesStand (logged (entered w n e) n e.rec) v.items) (sym h.settled.sites) h.sites in
     record { sites = record { sites = s.sites; known = s.known }; rest = rest_behind w n e x first last old mid new h }

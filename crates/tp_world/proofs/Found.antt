@@ -44,7 +44,7 @@ node_there w k = go (find_node w.nodes k)
 
 -- ---- a site in place of the one of its name
 
-put_site_there : (ss : List Site) (y : Site) (t : List ℕ) → is_some (find_site (put_site ss y) t) ≡ is_some (find_site ss t)
+pub put_site_there : (ss : List Site) (y : Site) (t : List ℕ) → is_some (find_site (put_site ss y) t) ≡ is_some (find_site ss t)
 put_site_there [] y t = refl
 put_site_there (x ∷ ss) y t = go (is_name x.name y.name) refl (put_site_there ss y t)
   where

@@ -27,3 +27,9 @@ mod Lines
 mod Declared
 mod Coming
 mod Shows
+mod Turned
+mod Again
+mod Stopping
+mod Reopened
+mod Booting
+mod Crashing

@@ -8,7 +8,7 @@ use Rattle.tp_model.specs.World.{Site}
 use Rattle.tp_model.specs.Happenings.{Turn}
 use Rattle.tp_model.specs.Lines.{Fault, Name, Over, is_full, within_limits}
 use Rattle.tp_world.specs.Sites.{AreSites}
-use Rattle.tp_world.specs.World.{Stands, Gives}
+use Rattle.tp_world.specs.World.{Mirrors, Gives}
 use Rattle.tp_world.specs.declared.fault.WorldFault.{WorldFault}
 use Rattle.tp_world.specs.declared.site_slot.SiteSlot.{SiteSlot}
 use Rattle.tp_world.specs.declared.world.World.{World as CodeWorld}
@@ -35,7 +35,7 @@ within_all t h few = let in_range : nat_lt 65535 (length t.world.frames) ≡ fal
 
 -- ---- what is given, where the turn or its fault is known
 
-pub gives_ok : (r : Result Turn Fault) (t : Turn) (before after : List OutLine) (v : CodeWorld) (u : Unit {0}) → r ≡ Ok t → after ≡ before ++ t.lines → Stands t.world v → Gives r before (Ok u) after v
+pub gives_ok : (r : Result Turn Fault) (t : Turn) (before after : List OutLine) (v : CodeWorld) (u : Unit {0}) → r ≡ Ok t → after ≡ before ++ t.lines → Mirrors t.world v → Gives r before (Ok u) after v
 gives_ok r t before after v u e lines h = subst (λ (q : Result Turn Fault). Gives q before (Ok u) after v) (sym e) (lines, h)
 
 pub gives_limit : (r : Result Turn Fault) (what : What) (before after : List OutLine) (v : CodeWorld) → r ≡ Err (Over what) → Gives r before (Err (WorldFault.Limit what)) after v
@@ -49,7 +49,7 @@ pub record Given (r : Result Turn Fault) (before after : List OutLine) (v : Code
   pub turn : Turn
   pub is : r ≡ Ok turn
   pub lines : after ≡ before ++ turn.lines
-  pub stands : Stands turn.world v
+  pub stands : Mirrors turn.world v
 
 pub given : (r : Result Turn Fault) (before after : List OutLine) (v : CodeWorld) (u : Unit {0}) → Gives r before (Ok u) after v → Given r before after v
 given (Ok t) before after v u h = record { turn = t; is = refl; lines = h.0; stands = h.1 }

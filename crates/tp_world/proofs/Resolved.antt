@@ -5,7 +5,7 @@ use Rattle.tp_model.specs.declared.out_line.OutLine.{OutLine}
 use Rattle.tp_model.specs.World.{World, is_node, oldest_between}
 use Rattle.tp_model.specs.Happenings.{Does, Mark, Turn, happens}
 use Rattle.tp_model.specs.Lines.{Fault, if_named, is_named, resolved, marked, marked_by, action_line, skip_line, shows, within_limits}
-use Rattle.tp_world.specs.World.{Stands, Gives}
+use Rattle.tp_world.specs.World.{Mirrors, Gives}
 use Rattle.tp_world.specs.declared.fault.WorldFault.{WorldFault}
 use Rattle.tp_world.specs.declared.world.World.{World as CodeWorld}
 use Rattle.tp_world.proofs.Limits.{gives_ok}
@@ -49,7 +49,7 @@ passed w a b o name found =
     go None = refl
     go (Some k) = refl
 
-pub gives_no_pass : (w : World) (a b : ℕ) (before after : List OutLine) (u : Unit {0}) (v : CodeWorld) → (is_node w a && is_node w b) ≡ true → oldest_between w a b ≡ None → Stands w v
+pub gives_no_pass : (w : World) (a b : ℕ) (before after : List OutLine) (u : Unit {0}) (v : CodeWorld) → (is_node w a && is_node w b) ≡ true → oldest_between w a b ≡ None → Mirrors w v
     → after ≡ before ++ OutLine.Nothing ∷ [] → Gives (action_line w (Action.Pass a b)) before (Ok u) after v
 gives_no_pass w a b before after u v name none h lines = gives_ok (action_line w (Action.Pass a b)) (shows w (OutLine.Nothing ∷ [])) before after v u (passed w a b None name none) lines h
 
@@ -62,14 +62,14 @@ gives_pass w a b k before after r v name found h = subst (λ (q : Result Turn Fa
 abbrev skip_by : World → Option ℕ → Turn
 skip_by w o = elim o [ None ↦ shows w (OutLine.Nothing ∷ []) | Some k ↦ shows (happens w (Mark k)).world (OutLine.Lost k ∷ []) ]
 
-pub gives_no_skip : (w : World) (a b : ℕ) (before after : List OutLine) (u : Unit {0}) (v : CodeWorld) → (is_node w a && is_node w b) ≡ true → oldest_between w a b ≡ None → Stands w v
+pub gives_no_skip : (w : World) (a b : ℕ) (before after : List OutLine) (u : Unit {0}) (v : CodeWorld) → (is_node w a && is_node w b) ≡ true → oldest_between w a b ≡ None → Mirrors w v
     → after ≡ before ++ OutLine.Nothing ∷ [] → Gives (if_named (is_node w a && is_node w b) (Ok (skip_line w a b))) before (Ok u) after v
 gives_no_skip w a b before after u v name none h lines =
     gives_ok (if_named (is_node w a && is_node w b) (Ok (skip_line w a b))) (shows w (OutLine.Nothing ∷ [])) before after v u
     (named (is_node w a && is_node w b) (Ok (skip_line w a b)) name ∙ ap (λ (o : Option ℕ). Ok (skip_by w o)) none) lines h
 
 pub gives_skip : (w : World) (a b k : ℕ) (before after : List OutLine) (u : Unit {0}) (v : CodeWorld) → (is_node w a && is_node w b) ≡ true → oldest_between w a b ≡ Some k
-    → Stands (happens w (Mark k)).world v → after ≡ before ++ OutLine.Lost k ∷ [] → Gives (if_named (is_node w a && is_node w b) (Ok (skip_line w a b))) before (Ok u) after v
+    → Mirrors (happens w (Mark k)).world v → after ≡ before ++ OutLine.Lost k ∷ [] → Gives (if_named (is_node w a && is_node w b) (Ok (skip_line w a b))) before (Ok u) after v
 gives_skip w a b k before after u v name some h lines =
     gives_ok (if_named (is_node w a && is_node w b) (Ok (skip_line w a b))) (shows (happens w (Mark k)).world (OutLine.Lost k ∷ [])) before after v u
     (named (is_node w a && is_node w b) (Ok (skip_line w a b)) name ∙ ap (λ (o : Option ℕ). Ok (skip_by w o)) some) lines h

@@ -11,7 +11,7 @@ use Rattle.tp_model.specs.World.{World, Node, Frame, number_of, site_of, addr_of
 use Rattle.tp_model.specs.Happenings.{Turn, entry_turn, entered, logged, log_lines, log_shown, refused_lines, out_lines, frames_of, after_lines}
 use Rattle.tp_model.specs.Lines.{within_limits, is_full}
 use Rattle.tp_world.specs.Settled.{forced_lines, entry_lines, SettlesSome}
-use Rattle.tp_world.specs.World.{Stands, SitesStand, AreNodes, IsEntry, after_entry, Gives}
+use Rattle.tp_world.specs.World.{Mirrors, SitesStand, AreNodes, IsEntry, after_entry, Gives}
 use Rattle.tp_world.specs.declared.fault.WorldFault.{WorldFault}
 use Rattle.tp_network.specs.declared.tree_summary.TreeChange.{TreeChange}
 use Rattle.tp_world.specs.declared.site_slot.Entry.{Entry}
@@ -26,7 +26,7 @@ forced_same site (Some r) = refl
 
 -- the node has answered, and its site stands for the world after the entry, and nothing else has changed
 pub record IsAnswered (w : World) (n : Node) (ent : Option EntryValue) (x : Option Entry) (old mid : CodeWorld) : Type 0 where
-  pub stands : Stands w old
+  pub stands : Mirrors w old
   pub found : find_node w.nodes (number_of n) ≡ Some n
   pub legal : (e : EntryValue) → ent ≡ Some e → IsLegal n.origin n.superior (e ∷ n.history)
   pub entry : IsEntry n ent x
@@ -35,7 +35,7 @@ pub record IsAnswered (w : World) (n : Node) (ent : Option EntryValue) (x : Opti
   pub frames : mid.frames ≡ old.frames
   pub trees : mid.trees ≡ old.trees
 
-stands_still : (w : World) (n : Node) (x : Option Entry) (old mid : CodeWorld) → IsAnswered w n None x old mid → Stands w mid
+stands_still : (w : World) (n : Node) (x : Option Entry) (old mid : CodeWorld) → IsAnswered w n None x old mid → Mirrors w mid
 stands_still w n x old mid h =
     let r = h.stands.rest in
     record {
@@ -58,10 +58,10 @@ none_gives : (w : World) (n : Node) (dl before first after : List OutLine) (numb
     → Gives (within_limits (after_lines dl (entry_turn w n number None))) before r after new
 none_gives w n dl before first after number (Ok u) old mid new h e s =
     let t : Turn = after_lines dl (entry_turn w n number None) in
-    let now : Stands w mid = stands_still w n None old mid h in
+    let now : Mirrors w mid = stands_still w n None old mid h in
     gives_ok (within_limits t) t before after new u (within_all t (not_full w.sites mid.sites.items now.sites.sites) now.rest.few)
     (s.1 ∙ ap (λ (l : List OutLine). l ++ refused_lines number) e ∙ append_assoc before dl (refused_lines number))
-    (subst (λ (v : CodeWorld). Stands w v) (sym s.0) now)
+    (subst (λ (v : CodeWorld). Mirrors w v) (sym s.0) now)
 none_gives w n dl before first after number (Err WorldFault.Name) old mid new h e s = absurd s
 none_gives w n dl before first after number (Err (WorldFault.Limit what)) old mid new h e s = absurd s
 none_gives w n dl before first after number (Err WorldFault.Unbuilt) old mid new h e s = absurd s
@@ -108,7 +108,7 @@ some_gives w n e x dl before first after number (Ok u) old mid new h start s =
       trees = h.trees;
       settled = s;
     } in
-    let now : Stands (turn_world w n e) new = stands_behind w n e x head after old mid new was in
+    let now : Mirrors (turn_world w n e) new = stands_behind w n e x head after old mid new was in
     gives_ok (within_limits t) t before after new u (within_all t (not_full t.world.sites new.sites.items now.sites.sites) now.rest.few)
     (s.lines ∙ lines_same w n e x dl before first number mid start h.entry.0 h.entry.1 (h.frames ∙ h.stands.rest.frames))
     now

@@ -3,7 +3,7 @@ use Rattle.std.proofs.Common.{◌≡◌, ◌==◌, ℕ, Bool, true, false, refl,
 use Rattle.std.specs.Option.{option_map, is_some}
 use Rattle.tp_model.specs.World.{World, Node, addr_of, number_of, find_node, find_frame, is_node}
 use Rattle.tp_network.specs.Nodes.{address_at}
-use Rattle.tp_world.specs.World.{AreNodes, Stands}
+use Rattle.tp_world.specs.World.{AreNodes, Mirrors}
 use Rattle.tp_network.specs.declared.nodes.NodeSlot.{NodeSlot}
 use Rattle.tp_world.specs.declared.world.World.{World as CodeWorld}
 
@@ -17,11 +17,11 @@ address_same (m ∷ ns) (x ∷ xs) n h = go (number_of m == n) refl (address_sam
     go true e rest = let same = h.0.addr in grind (arith, e, same)
     go false e rest = let same = h.0.addr in grind (arith, e, same, rest)
 
-pub node_same : (w : World) (v : CodeWorld) (n : ℕ) → Stands w v → is_some (address_at v.nodes n) ≡ is_node w n
+pub node_same : (w : World) (v : CodeWorld) (n : ℕ) → Mirrors w v → is_some (address_at v.nodes n) ≡ is_node w n
 node_same w v n h = let same = address_same w.nodes v.nodes n h.rest.nodes in grind (arith, same)
 
-pub frame_same : (w : World) (v : CodeWorld) (k : ℕ) → Stands w v → find_frame v.frames k ≡ find_frame w.frames k
+pub frame_same : (w : World) (v : CodeWorld) (k : ℕ) → Mirrors w v → find_frame v.frames k ≡ find_frame w.frames k
 frame_same w v k h = ap (λ fs. find_frame fs k) h.rest.frames
 
-pub address_stood : (w : World) (v : CodeWorld) (n : ℕ) → Stands w v → address_at v.nodes n ≡ option_map addr_of (find_node w.nodes n)
+pub address_stood : (w : World) (v : CodeWorld) (n : ℕ) → Mirrors w v → address_at v.nodes n ≡ option_map addr_of (find_node w.nodes n)
 address_stood w v n h = address_same w.nodes v.nodes n h.rest.nodes

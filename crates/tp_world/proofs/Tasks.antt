@@ -1,5 +1,5 @@
 -- The event of a node, in the definitions and in the code: what the answer of its site gives.
-use Rattle.std.proofs.Common.{◌≡◌, ◌++◌, ℕ, refl, ap, sym, subst, ◌∙◌, Option, Some, None, List, Result, Ok, Err}
+use Rattle.std.proofs.Common.{◌≡◌, ◌++◌, ℕ, sym, subst, ◌∙◌, Option, Some, None, List, Result, Ok, Err}
 use Rattle.std.proofs.lemmas.List.{append-nil}
 use Rattle.tp_names.specs.declared.identifiers.Addr.{Addr}
 use Rattle.tp_model.specs.declared.out_line.OutLine.{OutLine}
@@ -7,11 +7,11 @@ use Rattle.tp_model.specs.declared.verdict.What.{What}
 use Rattle.tp_model.specs.Parts.{Event, Entry as EntryValue}
 use Rattle.tp_model.specs.Legal.{IsUnder}
 use Rattle.tp_model.specs.World.{World, Node, number_of, addr_of, find_node}
-use Rattle.tp_model.specs.Happenings.{Task, Turn, task_at, entry_turn, still, after_lines}
+use Rattle.tp_model.specs.Happenings.{Task, task_at, entry_turn, still, after_lines}
 use Rattle.tp_model.specs.Lines.{within_limits}
 use Rattle.tp_network.specs.Nodes.{address_at}
 use Rattle.tp_world.specs.Settled.{Settles}
-use Rattle.tp_world.specs.World.{Stands, SitesStand, PlaysAt, Gives, after_entry, entry_answered, number_answered, task_turn}
+use Rattle.tp_world.specs.World.{Mirrors, SitesStand, PlaysAt, Gives, after_entry, entry_answered, number_answered, task_turn}
 use Rattle.tp_world.specs.declared.fault.WorldFault.{WorldFault}
 use Rattle.tp_world.specs.declared.site_slot.Answer.{Answer}
 use Rattle.tp_world.specs.declared.site_slot.SiteSlot.{SiteSlot}
@@ -32,7 +32,7 @@ pub record IsPlayedIn (old mid : CodeWorld) (xs : List SiteSlot) : Type 0 where
   pub frames : mid.frames ≡ old.frames
   pub trees : mid.trees ≡ old.trees
 
-answered : (w : World) (o : Option Task) (e : Event) (place : Addr) (a : Answer) (xs : List SiteSlot) (old mid : CodeWorld) → Stands w old → ((up : Option Addr) → IsUnder up e)
+answered : (w : World) (o : Option Task) (e : Event) (place : Addr) (a : Answer) (xs : List SiteSlot) (old mid : CodeWorld) → Mirrors w old → ((up : Option Addr) → IsUnder up e)
     → (p : IsPlayed w o e place (Ok a) xs) → IsPlayedIn old mid xs → IsAnswered w p.node (entry_answered p.node e) a.entry old mid
 answered w o e place a xs old mid h under p i =
     let n : Node = p.node in
@@ -48,7 +48,7 @@ answered w o e place a xs old mid h under p i =
     }
 
 pub played_gives : (w : World) (ls : List OutLine) (o : Option Task) (e : Event) (place : Addr) (a : Answer) (xs : List SiteSlot) (before first after : List OutLine) (r : Result (Unit {0}) WorldFault) (old mid new : CodeWorld)
-    → Stands w old → ((up : Option Addr) → IsUnder up e) → IsPlayed w o e place (Ok a) xs → IsPlayedIn old mid xs → first ≡ before ++ ls → Settles place a first r after mid new
+    → Mirrors w old → ((up : Option Addr) → IsUnder up e) → IsPlayed w o e place (Ok a) xs → IsPlayedIn old mid xs → first ≡ before ++ ls → Settles place a first r after mid new
     → Gives (within_limits (task_turn w ls o)) before r after new
 played_gives w ls o e place a xs before first after r old mid new h under p i start s =
     let n : Node = p.node in
@@ -73,11 +73,11 @@ played_fault w ls o e place f xs before after new p =
     go WorldFault.NoMemory i = tt
 
 -- there is no such node
-pub none_gives : (w : World) (ls before : List OutLine) (u : Unit {0}) (v : CodeWorld) → Stands w v → Gives (within_limits (task_turn w ls None)) before (Ok u) before v
+pub none_gives : (w : World) (ls before : List OutLine) (u : Unit {0}) (v : CodeWorld) → Mirrors w v → Gives (within_limits (task_turn w ls None)) before (Ok u) before v
 none_gives w ls before u v h =
     gives_ok (within_limits (still w)) (still w) before before v u (within_all (still w) (not_full w.sites v.sites.items h.sites.sites) h.rest.few) (sym (append-nil before)) h
 
-pub missing_gives : (w : World) (ls before : List OutLine) (k : ℕ) (e : Event) (u : Unit {0}) (v : CodeWorld) → Stands w v → None ≡ address_at v.nodes k → Gives (within_limits (task_turn w ls (task_at w k e))) before (Ok u) before v
+pub missing_gives : (w : World) (ls before : List OutLine) (k : ℕ) (e : Event) (u : Unit {0}) (v : CodeWorld) → Mirrors w v → None ≡ address_at v.nodes k → Gives (within_limits (task_turn w ls (task_at w k e))) before (Ok u) before v
 missing_gives w ls before k e u v h there = go (find_node w.nodes k) (there ∙ address_stood w v k h)
   where
     go : (o : Option Node) → None ≡ elim o as (λ _. Option Addr) [ None ↦ None | Some x ↦ Some (addr_of x) ] → Gives (within_limits (task_turn w ls (found_task o e))) before (Ok u) before v

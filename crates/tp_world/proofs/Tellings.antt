@@ -147,4 +147,4 @@ lines_same ns xs [] h = refl
 lines_same ns xs (t ∷ ts) h = ap (λ (l : OutLine). l ∷ closing_at xs ts) (line_same t ns xs h) ∙ ap (λ (l : List OutLine). closing_line t (members_of t ns) ∷ l) (lines_same ns xs ts h)
 
 pub closing_same : (w : World) (v : CodeWorld) → Stands w v → closing_at v.nodes v.trees.items ≡ closing w
-closing_same w v h = lines_same w.nodes v.nodes v.trees.items h.rest.nodes ∙ ap (closing_from w.nodes) h.rest.trees
+closing_same w v h = lines_same w.nodes v.nodes v.trees.items h.mirrors.rest.nodes ∙ ap (closing_from w.nodes) h.mirrors.rest.trees

@@ -1,13 +1,12 @@
 -- A node is asked for its answer: the code's look-ups, and the task of the definitions.
-use Rattle.std.proofs.Common.{◌≡◌, ◌++◌, ℕ, true, refl, ap, sym, subst, ◌∙◌, Option, Some, None, List, [], Result, Ok, Err, length}
+use Rattle.std.proofs.Common.{◌≡◌, ℕ, true, refl, ap, sym, subst, ◌∙◌, Option, Some, None, List, Result, Ok, Err, length}
 use Rattle.std.specs.Vec.{with_items}
 use Rattle.std.specs.Option.{option_map}
 use Rattle.std.specs.Result.{IsErrAnd}
-use Rattle.std.proofs.lemmas.List.{append-nil, with_items_is}
+use Rattle.std.proofs.lemmas.List.{with_items_is}
 use Rattle.tp_names.specs.declared.identifiers.Addr.{Addr}
 use Rattle.tp_records.specs.declared.request.Request.{Request}
 use Rattle.tp_model.specs.declared.line.LineRequest.{LineRequest}
-use Rattle.tp_model.specs.declared.out_line.OutLine.{OutLine}
 use Rattle.tp_model.specs.Parts.{Event}
 use Rattle.tp_model.specs.World.{World, Node, Frame, number_of, addr_of, find_node, find_frame}
 use Rattle.tp_model.specs.Happenings as model
@@ -15,7 +14,7 @@ use Rattle.tp_model.specs.declared.line.Action.{Action}
 use Rattle.tp_model.specs.Happenings.{Task, task_at, task_of}
 use Rattle.tp_network.specs.Nodes.{address_at}
 use Rattle.tp_world.specs.Requests.{request_in}
-use Rattle.tp_world.specs.World.{Stands, SitesStand, PlaysAt, are_apart, is_placed}
+use Rattle.tp_world.specs.World.{Mirrors, SitesStand, PlaysAt, are_apart, is_placed}
 use Rattle.tp_world.specs.declared.fault.WorldFault.{WorldFault}
 use Rattle.tp_world.specs.declared.site_slot.Answer.{Answer}
 use Rattle.tp_world.specs.declared.site_slot.SiteSlot.{SiteSlot}
@@ -34,7 +33,7 @@ pub record IsPlayed (w : World) (o : Option Task) (e : Event) (addr : Addr) (r :
   pub place : addr ≡ addr_of node
   pub plays : PlaysAt w node e r xs
 
-pub is_played : (w : World) (v : CodeWorld) (k : ℕ) (e : Event) (place : Addr) (r : Result Answer WorldFault) (lent xs : List SiteSlot) → Stands w v → Some place ≡ address_at v.nodes k → lent ≡ v.sites.items
+pub is_played : (w : World) (v : CodeWorld) (k : ℕ) (e : Event) (place : Addr) (r : Result Answer WorldFault) (lent xs : List SiteSlot) → Mirrors w v → Some place ≡ address_at v.nodes k → lent ≡ v.sites.items
     → ((n : Node) → SitesStand w lent → are_apart w.nodes ≡ true → find_node w.nodes (number_of n) ≡ Some n → is_placed w n ≡ true → place ≡ addr_of n → PlaysAt w n e r xs)
     → IsPlayed w (task_at w k e) e place r xs
 is_played w v k e place r lent xs h there same plays = go (find_node w.nodes k) refl (there ∙ address_stood w v k h)
@@ -71,7 +70,7 @@ not_some (Some x) h = absurd (h x refl)
 
 -- ---- requests and frames
 
-pub request_same : (w : World) (v : CodeWorld) (r : LineRequest) → Stands w v → request_in v.nodes r ≡ model.request_in w r
+pub request_same : (w : World) (v : CodeWorld) (r : LineRequest) → Mirrors w v → request_in v.nodes r ≡ model.request_in w r
 request_same w v (LineRequest.BeginDialogue p u) h = go (find_node w.nodes p) (address_stood w v p h)
   where
     go : (o : Option Node) → address_at v.nodes p ≡ option_map addr_of o
@@ -99,10 +98,10 @@ request_same w v LineRequest.Done h = refl
 request_same w v LineRequest.Rollback h = refl
 request_same w v LineRequest.Unchanged h = refl
 
-pub task_asked : (w : World) (v : CodeWorld) (k : ℕ) (r : LineRequest) (o : Option Request) → Stands w v → o ≡ request_in v.nodes r
+pub task_asked : (w : World) (v : CodeWorld) (k : ℕ) (r : LineRequest) (o : Option Request) → Mirrors w v → o ≡ request_in v.nodes r
     → task_of w (Action.Do k r) ≡ elim o as (λ _. Option Task) [ None ↦ None | Some q ↦ task_at w k (Event.Do q) ]
 task_asked w v k r o h e = ap (λ (x : Option Request). elim x as (λ _. Option Task) [ None ↦ None | Some q ↦ task_at w k (Event.Do q) ]) (sym (e ∙ request_same w v r h))
 
-pub task_delivered : (w : World) (v : CodeWorld) (k : ℕ) (o : Option Frame) → Stands w v → o ≡ find_frame v.frames k
+pub task_delivered : (w : World) (v : CodeWorld) (k : ℕ) (o : Option Frame) → Mirrors w v → o ≡ find_frame v.frames k
     → task_of w (Action.Again k) ≡ elim o as (λ _. Option Task) [ None ↦ None | Some f ↦ task_at w f.to.node (Event.Arrive f.from f.rec) ]
 task_delivered w v k o h e = ap (λ (x : Option Frame). elim x as (λ _. Option Task) [ None ↦ None | Some f ↦ task_at w f.to.node (Event.Arrive f.from f.rec) ]) (sym (e ∙ frame_same w v k h))

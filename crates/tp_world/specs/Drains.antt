@@ -5,7 +5,7 @@ use Rattle.tp_model.specs.declared.out_line.OutLine.{OutLine}
 use Rattle.tp_model.specs.World.{World, oldest_of_all}
 use Rattle.tp_model.specs.Happenings.{Does, Mark, Turn, happens}
 use Rattle.tp_model.specs.Lines.{within_limits, then_result, drain_line}
-use Rattle.tp_world.specs.World.{Stands, Gives}
+use Rattle.tp_world.specs.World.{Mirrors, Gives}
 use Rattle.tp_world.specs.declared.fault.WorldFault.{WorldFault}
 use Rattle.tp_world.specs.declared.world.World.{World as CodeWorld}
 
@@ -15,7 +15,7 @@ handed w k = happens (happens w (Mark k)).world (Does (Action.Again k))
 
 -- one turn; it tells whether there was a frame
 abbrev pub Hands : World → List OutLine → Result Bool WorldFault → List OutLine → CodeWorld → Type 0
-Hands w before (Ok false) after new = (oldest_of_all w ≡ None) × (after ≡ before) × Stands w new
+Hands w before (Ok false) after new = (oldest_of_all w ≡ None) × (after ≡ before) × Mirrors w new
 Hands w before (Ok true) after new = (k : ℕ) × (oldest_of_all w ≡ Some k) × Gives (within_limits (handed w k)) before (Ok tt) after new
 Hands w before (Err f) after new = (k : ℕ) × (oldest_of_all w ≡ Some k) × Gives (within_limits (handed w k)) before (Err f) after new
 
@@ -26,4 +26,4 @@ pub record IsDrained (w : World) (most done : ℕ) (before shown : List OutLine)
   pub turn : Turn
   pub so_far : drain_line most w ≡ then_result turn (drain_line left turn.world)
   pub lines : shown ≡ before ++ turn.lines
-  pub stands : Stands turn.world v
+  pub stands : Mirrors turn.world v

@@ -10,3 +10,4 @@ pub mod Built
 pub mod Settled
 pub mod Declares
 pub mod Drains
+pub mod Restarts

@@ -3,7 +3,6 @@
 use Rattle.std.specs.Prelude.{ℕ, ◌≡◌, ◌≤◌, ◌==◌, ◌&&◌, ◌++◌, Bool, true, false, Option, Some, None, List, [], ◌∷◌, length, Result, Ok, Err, if◌then◌else◌}
 use Rattle.std.specs.List.{AllByRecursion}
 use Rattle.tp_names.specs.declared.identifiers.Aaid.{Aaid}
-use Rattle.tp_names.specs.declared.identifiers.Addr.{Addr}
 use Rattle.tp_logrec.specs.declared.record.LogVersion.{LogVersion}
 use Rattle.tp_model.specs.declared.out_line.OutLine.{OutLine}
 use Rattle.tp_model.specs.declared.verdict.What.{What}
@@ -15,6 +14,7 @@ use Rattle.tp_model.specs.Happenings.{Turn, Task, after_lines, entered, event_tu
 use Rattle.tp_model.specs.Lines.{Fault, Name, Over, is_full, line}
 use Rattle.tp_model.specs.declared.line.Line.{Line}
 use Rattle.tp_model.specs.Transcript.{echo}
+use Rattle.tp_laws.specs.Expansion.{IsOfRun}
 use Rattle.tp_world.specs.Summary.{summary, change_of}
 use Rattle.tp_network.specs.TreeSummaries.{summary_at}
 use Rattle.tp_world.specs.Built.{is_built}
@@ -79,9 +79,14 @@ pub record RestStands (w : World) (xs : List NodeSlot) (fs : List Frame) (ts : L
   pub undriven : w.drives ≡ []
 
 -- in an event the sites go first: between the two the sites stand for the world after it, and the rest for the one before
-pub record Stands (w : World) (v : CodeWorld) : Type 0 where
+pub record Mirrors (w : World) (v : CodeWorld) : Type 0 where
   pub sites : SitesStand w v.sites.items
   pub rest : RestStands w v.nodes v.frames v.trees.items
+
+-- and it is a world that some happenings have left: so the laws of runs hold of it
+pub record Stands (w : World) (v : CodeWorld) : Type 0 where
+  pub run : IsOfRun w
+  pub mirrors : Mirrors w v
 
 -- ---- what a call answers
 
@@ -94,7 +99,7 @@ fault_of (Over what) = WorldFault.Limit what
 abbrev pub Gives : Result Turn Fault → List OutLine → Result (Unit {0}) WorldFault → List OutLine → CodeWorld → Type 0
 Gives r before (Err WorldFault.NoMemory) lines v = Unit {0}
 Gives r before (Err WorldFault.Unbuilt) lines v = ⊥
-Gives (Ok t) before (Ok u) lines v = (lines ≡ before ++ t.lines) × Stands t.world v
+Gives (Ok t) before (Ok u) lines v = (lines ≡ before ++ t.lines) × Mirrors t.world v
 Gives (Ok t) before (Err WorldFault.Name) lines v = ⊥
 Gives (Ok t) before (Err (WorldFault.Limit what)) lines v = ⊥
 Gives (Err f) before (Ok u) lines v = ⊥

@@ -9,8 +9,9 @@ ghost use Rattle.tp_model.specs.Lines.{within_limits};
 ghost use Rattle.tp_model.specs.Parts.{Send};
 ghost use Rattle.tp_site.specs.NodeEvent.{event_of};
 ghost use Rattle.tp_site.specs.Outs.{out_of};
+ghost use Rattle.tp_world.specs.Sites.{place_of_site};
 ghost use Rattle.tp_world.specs.Settled.{tree_started, entry_lines, GivesOuts, IsEntered, SettlesEntry, Settles};
-ghost use Rattle.tp_world.specs.World.{Stands, Gives, task_turn};
+ghost use Rattle.tp_world.specs.World.{Mirrors, Gives, task_turn};
 
 use crate::fault::WorldFault;
 use crate::requests::request_in;
@@ -39,7 +40,8 @@ impl World {
     /// The place of the site of that name.
     pub(crate) fn site(&self, name: &SiteName) -> Option<usize>
         ensures within { IfSome result (λ i. i < length self.now.sites.items) }
-        ensures there { (w : WorldValue) → Stands w self.now → is_some result ≡ is_site w name.now }
+        ensures place { IfSome result (λ i. i ≡ place_of_site self.now.sites.items name.now) }
+        ensures there { (w : WorldValue) → Mirrors w self.now → is_some result ≡ is_site w name.now }
     {
         site_place(self.sites.as_slice(), name)
     }
@@ -52,7 +54,7 @@ impl World {
         event: &NodeEvent<'_>,
         lines: &mut OutLines,
     ) -> Result<(), WorldFault>
-        ensures { (w : WorldValue) → Stands w self.old → ((up : Option AddrValue) → IsUnder up (event_of event.now)) → Gives (within_limits (task_turn w [] (task_at w node (event_of event.now)))) lines.old result lines.new self.new }
+        ensures { (w : WorldValue) → Mirrors w self.old → ((up : Option AddrValue) → IsUnder up (event_of event.now)) → Gives (within_limits (task_turn w [] (task_at w node (event_of event.now)))) lines.old result lines.new self.new }
     {
         let Some(at) = self.nodes.addr(node) else {
             return Ok(());
@@ -69,7 +71,7 @@ impl World {
         request: &LineRequest,
         lines: &mut OutLines,
     ) -> Result<(), WorldFault>
-        ensures { (w : WorldValue) → Stands w self.old → Gives (within_limits (happens w (Does (Action.Do node request.now)))) lines.old result lines.new self.new }
+        ensures { (w : WorldValue) → Mirrors w self.old → Gives (within_limits (happens w (Does (Action.Do node request.now)))) lines.old result lines.new self.new }
     {
         match request_in(alloc, &self.nodes, request)? {
             None => Ok(()),
@@ -88,7 +90,7 @@ impl World {
         number: u16,
         lines: &mut OutLines,
     ) -> Result<(), WorldFault>
-        ensures { (w : WorldValue) → Stands w self.old → Gives (within_limits (happens w (Does (Action.Again number)))) lines.old result lines.new self.new }
+        ensures { (w : WorldValue) → Mirrors w self.old → Gives (within_limits (happens w (Does (Action.Again number)))) lines.old result lines.new self.new }
     {
         let Some(frame) = self.frames.find(number) else {
             return Ok(());

@@ -3,14 +3,15 @@ ghost use Rattle.std.specs.Prelude.{◌≡◌, ◌&&◌, ◌++◌, [], not, nat_
 ghost use Rattle.tp_model.specs.World.{World as WorldValue, is_node, is_site};
 ghost use Rattle.tp_names.specs.declared.identifiers.Addr.{Addr as AddrValue};
 ghost use Rattle.tp_model.specs.declared.line.Action.{Action};
-ghost use Rattle.tp_model.specs.Happenings.{task_at};
+ghost use Rattle.tp_model.specs.Happenings.{Crash, happens, task_at};
+ghost use Rattle.tp_laws.specs.Expansion.{IsOfRun};
 ghost use Rattle.tp_model.specs.Legal.{IsUnder};
 ghost use Rattle.tp_model.specs.Lines.{if_named, is_peer, is_frame, action_line, node_limit, node_line, skip_line, drain_line, show_line, within_limits};
 ghost use Rattle.tp_site.specs.NodeEvent.{event_of};
 ghost use Rattle.tp_world.specs.Placing.{boot_lines};
 ghost use Rattle.tp_world.specs.Declares.{superior_at, has_superior, HasCome};
 ghost use Rattle.tp_world.specs.Drains.{Hands};
-ghost use Rattle.tp_world.specs.World.{Stands, Gives, task_turn};
+ghost use Rattle.tp_world.specs.World.{Mirrors, Gives, task_turn};
 
 use crate::fault::WorldFault;
 use crate::requests::peer_of;
@@ -34,14 +35,14 @@ impl World {
     // A node of that number is declared.
     #[tactic(auto, using(crate::proofs::Stood::node_same))]
     fn is_node(&self, node: u16) -> bool
-        ensures { (w : WorldValue) → Stands w self.now → result ≡ is_node w node }
+        ensures { (w : WorldValue) → Mirrors w self.now → result ≡ is_node w node }
     {
         self.nodes.addr(node).is_some()
     }
 
     // A node of that number is declared, where a number is given.
     fn is_peer(&self, peer: Option<u16>) -> bool
-        ensures { (w : WorldValue) → Stands w self.now → result ≡ is_peer w peer }
+        ensures { (w : WorldValue) → Mirrors w self.now → result ≡ is_peer w peer }
     {
         match peer {
             None => true,
@@ -52,7 +53,7 @@ impl World {
     // A frame of that number was sent.
     #[tactic(auto, using(crate::proofs::Stood::frame_same))]
     fn is_frame(&self, frame: u16) -> bool
-        ensures { (w : WorldValue) → Stands w self.now → result ≡ is_frame w frame }
+        ensures { (w : WorldValue) → Mirrors w self.now → result ≡ is_frame w frame }
     {
         self.frames.find(frame).is_some()
     }
@@ -60,7 +61,7 @@ impl World {
     // The site is not there, and there are as many as there may be.
     #[tactic(auto, using(crate::proofs::Coming::sites_count))]
     fn is_site_too_many(&self, site: &SiteName) -> bool
-        ensures { (w : WorldValue) → Stands w self.now → result ≡ (not (is_site w site.now) && nat_le 16 (length w.sites)) }
+        ensures { (w : WorldValue) → Mirrors w self.now → result ≡ (not (is_site w site.now) && nat_le 16 (length w.sites)) }
     {
         self.site(site).is_none() && self.sites.len() >= MOST_SITES
     }
@@ -68,7 +69,7 @@ impl World {
     // The limit that one more node at that site would pass.
     #[tactic(auto, using(crate::proofs::Coming::nodes_count))]
     fn node_limit(&self, site: &SiteName) -> Option<What>
-        ensures { (w : WorldValue) → Stands w self.now → result ≡ node_limit w site.now }
+        ensures { (w : WorldValue) → Mirrors w self.now → result ≡ node_limit w site.now }
     {
         if self.is_site_too_many(site) {
             Some(What::Sites)
@@ -81,7 +82,7 @@ impl World {
 
     // The address of the node of that number, where one is given.
     fn superior_at(&self, under: Option<u16>) -> Option<Addr>
-        ensures { (w : WorldValue) → Stands w self.now → result ≡ superior_at w under }
+        ensures { (w : WorldValue) → Mirrors w self.now → result ≡ superior_at w under }
     {
         match under {
             None => None,
@@ -97,7 +98,7 @@ impl World {
         superior: Option<Addr>,
         lines: &mut OutLines,
     ) -> Result<(), NoMemory>
-        ensures { (w : WorldValue) → Stands w self.old → is_node w at.node ≡ false → has_superior w superior ≡ true → OnOk result (HasCome w at superior lines.old lines.new self.new) }
+        ensures { (w : WorldValue) → Mirrors w self.old → is_node w at.node ≡ false → has_superior w superior ≡ true → OnOk result (HasCome w at superior lines.old lines.new self.new) }
     {
         let site = at.site;
         let boot = declare_at(alloc, &mut self.sites, &at, &superior)?;
@@ -114,7 +115,7 @@ impl World {
         under: Option<u16>,
         lines: &mut OutLines,
     ) -> Result<(), WorldFault>
-        ensures { (w : WorldValue) → Stands w self.old → Gives (node_line w node site under) lines.old result lines.new self.new }
+        ensures { (w : WorldValue) → Mirrors w self.old → Gives (node_line w node site under) lines.old result lines.new self.new }
     {
         if self.is_node(node) || !self.is_peer(under) {
             return Err(WorldFault::Name);
@@ -135,7 +136,7 @@ impl World {
         request: &LineRequest,
         lines: &mut OutLines,
     ) -> Result<(), WorldFault>
-        ensures { (w : WorldValue) → Stands w self.old → Gives (action_line w (Action.Do node request.now)) lines.old result lines.new self.new }
+        ensures { (w : WorldValue) → Mirrors w self.old → Gives (action_line w (Action.Do node request.now)) lines.old result lines.new self.new }
     {
         if !self.is_node(node) || !self.is_peer(peer_of(request)) {
             return Err(WorldFault::Name);
@@ -151,7 +152,7 @@ impl World {
         to: u16,
         lines: &mut OutLines,
     ) -> Result<(), WorldFault>
-        ensures { (w : WorldValue) → Stands w self.old → Gives (action_line w (Action.Pass from to)) lines.old result lines.new self.new }
+        ensures { (w : WorldValue) → Mirrors w self.old → Gives (action_line w (Action.Pass from to)) lines.old result lines.new self.new }
     {
         if !self.is_node(from) || !self.is_node(to) {
             return Err(WorldFault::Name);
@@ -172,7 +173,7 @@ impl World {
         frame: u16,
         lines: &mut OutLines,
     ) -> Result<(), WorldFault>
-        ensures { (w : WorldValue) → Stands w self.old → Gives (action_line w (Action.Again frame)) lines.old result lines.new self.new }
+        ensures { (w : WorldValue) → Mirrors w self.old → Gives (action_line w (Action.Again frame)) lines.old result lines.new self.new }
     {
         if !self.is_frame(frame) {
             return Err(WorldFault::Name);
@@ -188,7 +189,7 @@ impl World {
         event: &NodeEvent<'_>,
         lines: &mut OutLines,
     ) -> Result<(), WorldFault>
-        ensures { (w : WorldValue) → Stands w self.old → ((up : Option AddrValue) → IsUnder up (event_of event.now)) → Gives (if_named (is_node w node) (within_limits (task_turn w [] (task_at w node (event_of event.now))))) lines.old result lines.new self.new }
+        ensures { (w : WorldValue) → Mirrors w self.old → ((up : Option AddrValue) → IsUnder up (event_of event.now)) → Gives (if_named (is_node w node) (within_limits (task_turn w [] (task_at w node (event_of event.now))))) lines.old result lines.new self.new }
     {
         if !self.is_node(node) {
             return Err(WorldFault::Name);
@@ -205,7 +206,7 @@ impl World {
         event: &NodeEvent<'_>,
         lines: &mut OutLines,
     ) -> Result<(), WorldFault>
-        ensures { (w : WorldValue) → Stands w self.old → ((up : Option AddrValue) → IsUnder up (event_of event.now)) → Gives (if_named (is_node w node && is_node w peer) (within_limits (task_turn w [] (task_at w node (event_of event.now))))) lines.old result lines.new self.new }
+        ensures { (w : WorldValue) → Mirrors w self.old → ((up : Option AddrValue) → IsUnder up (event_of event.now)) → Gives (if_named (is_node w node && is_node w peer) (within_limits (task_turn w [] (task_at w node (event_of event.now))))) lines.old result lines.new self.new }
     {
         if !self.is_node(node) || !self.is_node(peer) {
             return Err(WorldFault::Name);
@@ -221,7 +222,7 @@ impl World {
         to: u16,
         lines: &mut OutLines,
     ) -> Result<(), WorldFault>
-        ensures { (w : WorldValue) → Stands w self.old → Gives (if_named (is_node w from && is_node w to) (Ok (skip_line w from to))) lines.old result lines.new self.new }
+        ensures { (w : WorldValue) → Mirrors w self.old → Gives (if_named (is_node w from && is_node w to) (Ok (skip_line w from to))) lines.old result lines.new self.new }
     {
         if !self.is_node(from) || !self.is_node(to) {
             return Err(WorldFault::Name);
@@ -240,7 +241,7 @@ impl World {
 
     // The oldest frame that is not handed over is handed over, where there is one.
     fn hand_oldest(&mut self, alloc: Global, lines: &mut OutLines) -> Result<bool, WorldFault>
-        ensures { (w : WorldValue) → Stands w self.old → Hands w lines.old result lines.new self.new }
+        ensures { (w : WorldValue) → Mirrors w self.old → Hands w lines.old result lines.new self.new }
     {
         let Some(frame) = self.frames.hand_oldest() else {
             return Ok(false);
@@ -251,7 +252,7 @@ impl World {
 
     // Frames are handed over, the oldest first, at most so many times.
     fn drain(&mut self, alloc: Global, most: u32, lines: &mut OutLines) -> Result<(), WorldFault>
-        ensures { (w : WorldValue) → Stands w self.old → Gives (drain_line most w) lines.old result lines.new self.new }
+        ensures { (w : WorldValue) → Mirrors w self.old → Gives (drain_line most w) lines.old result lines.new self.new }
     {
         for _turn in 0..most {
             if !self.hand_oldest(alloc, lines)? {
@@ -267,9 +268,24 @@ impl World {
         alloc: Global,
         lines: &mut OutLines,
     ) -> Result<(), WorldFault>
-        ensures { (w : WorldValue) → Stands w self.old → Gives (drain_line 65536 w) lines.old result lines.new self.new }
+        ensures { (w : WorldValue) → Mirrors w self.old → Gives (drain_line 65536 w) lines.old result lines.new self.new }
     {
         self.drain(alloc, PAST_FRAMES, lines)
+    }
+
+    /// A site stops and starts again.
+    pub(crate) fn crash_line(
+        &mut self,
+        alloc: Global,
+        site: &SiteName,
+        lines: &mut OutLines,
+    ) -> Result<(), WorldFault>
+        ensures { (w : WorldValue) → IsOfRun w → Mirrors w self.old → Gives (if_named (is_site w site.now) (within_limits (happens w (Crash site.now)))) lines.old result lines.new self.new }
+    {
+        match self.site(site) {
+            None => Err(WorldFault::Name),
+            Some(place) => self.crash(alloc, place, lines),
+        }
     }
 
     /// The state of a node is shown.
@@ -279,7 +295,7 @@ impl World {
         node: u16,
         lines: &mut OutLines,
     ) -> Result<(), WorldFault>
-        ensures { (w : WorldValue) → Stands w self.now → Gives (show_line w node) lines.old result lines.new self.now }
+        ensures { (w : WorldValue) → Mirrors w self.now → Gives (show_line w node) lines.old result lines.new self.now }
     {
         let Some(at) = self.nodes.addr(node) else {
             return Err(WorldFault::Name);

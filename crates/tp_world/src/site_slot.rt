@@ -1,5 +1,5 @@
 //! A site of a world, on a log in memory.
-ghost use Rattle.std.specs.Prelude.{◌≡◌, IfOk, OnOk, Some};
+ghost use Rattle.std.specs.Prelude.{◌≡◌, true, IfOk, OnOk, Some, None};
 ghost use Rattle.tp_outside.specs.MemDisk.{recorded};
 ghost use Rattle.tp_journal.specs.Told.{IsOn};
 ghost use Rattle.std.specs.Option.{option_map};
@@ -8,19 +8,20 @@ ghost use Rattle.tp_model.specs.Outcomes.{is_unchanged};
 ghost use Rattle.tp_site.specs.NodeEvent.{event_of};
 ghost use Rattle.tp_site.specs.Site.{known_at, state_at};
 ghost use Rattle.tp_site.specs.State.{state_of, tree_in};
+ghost use Rattle.tp_world.specs.Restarts.{Reopens, IsStartable, Restarts};
 ghost use Rattle.tp_world.specs.Slots.{blank_file, IsBlank, IsFresh, shown_behind, Declares, SlotPlays};
 
 use crate::fault::WorldFault;
 use crate::shown::log_shown;
 use std::alloc::Global;
-use tp_journal::{Journal, format};
+use tp_journal::{Journal, StartFault as OpenFault, format};
 use tp_logrec::LogRec;
 use tp_model::{LogWords, What};
 use tp_names::{Addr, NoMemory, Octets, SiteName};
 use tp_network::TreeChange;
 use tp_outside::MemDisk;
 use tp_records::{PeerRecord, Request};
-use tp_site::{NodeEvent, NodeState, NodeTree, Outs, Site, SiteFault};
+use tp_site::{NodeEvent, NodeState, NodeTree, Outs, Site, SiteFault, StartFault};
 
 /// An entry of a node's history: what it says, and what it shows of trees.
 #[derive(Drop)]
@@ -85,6 +86,21 @@ fn blank(alloc: Global, disk: MemDisk) -> Result<Journal<MemDisk>, NoMemory>
     }
 }
 
+// A journal on a copy of the bytes of another. A disk in memory fails for lack of memory alone.
+fn reopened(alloc: Global, journal: &Journal<MemDisk>) -> Result<Journal<MemDisk>, WorldFault>
+    ensures { journal.now.shut ≡ None → journal.now.wide ≡ true → Reopens journal.now result }
+{
+    let _shut = journal.shut();
+    let _records = journal.list();
+    let bytes = journal.lent().bytes();
+    let disk = MemDisk::from(alloc, Octets::from_slice(alloc, bytes)?);
+    match Journal::start(alloc, disk) {
+        Ok(journal) => Ok(journal),
+        Err((_disk, OpenFault::Foreign { .. })) => Err(WorldFault::Name),
+        Err((_disk, _starved)) => Err(WorldFault::NoMemory),
+    }
+}
+
 impl SiteSlot {
     /// A new site, on a fresh log, which has room for its first boot: all that it wants is memory.
     pub(crate) fn fresh(alloc: Global, name: SiteName) -> Result<SiteSlot, NoMemory>
@@ -94,6 +110,21 @@ impl SiteSlot {
         match Site::start(alloc, blank(alloc, disk)?, name) {
             Ok(site) => Ok(SiteSlot { site }),
             Err((_journal, _fault)) => Err(NoMemory),
+        }
+    }
+
+    /// The site as it starts again on its disk: it wants room for the next boot, and memory.
+    pub(crate) fn restarted(&self, alloc: Global) -> Result<SiteSlot, WorldFault>
+        ensures { self.now.site.keeper.shut ≡ None → self.now.site.keeper.wide ≡ true → IsStartable self.now.site.keeper.list → Restarts self.now result }
+    {
+        let journal = reopened(alloc, self.site.log())?;
+        match Site::start(alloc, journal, self.name()) {
+            Ok(site) => Ok(SiteSlot { site }),
+            Err((_journal, StartFault::Full { .. })) => Err(WorldFault::Limit { what: What::Log }),
+            Err((_journal, StartFault::Foreign { .. })) => Err(WorldFault::Name),
+            Err((_journal, StartFault::BootsSpent)) => Err(WorldFault::Name),
+            Err((_journal, StartFault::Shut { .. })) => Err(WorldFault::Name),
+            Err((_journal, _starved)) => Err(WorldFault::NoMemory),
         }
     }
 

@@ -33,6 +33,7 @@ fn place_of(sites: &[SiteSlot], name: &SiteName) -> usize
 /// The place of the site of that name.
 pub(crate) fn site_place(sites: &[SiteSlot], name: &SiteName) -> Option<usize>
     ensures within { IfSome result (λ i. i < length sites.now) }
+    ensures place { IfSome result (λ i. i ≡ place_of_site sites.now name.now) }
     ensures there { (w : WorldValue) → SitesStand w sites.now → is_some result ≡ is_site w name.now }
 {
     let place = place_of(sites, name);

@@ -4,7 +4,8 @@ ghost use Rattle.tp_model.specs.LineText.{line_text};
 ghost use Rattle.tp_model.specs.Lines.{line as line_value};
 ghost use Rattle.tp_model.specs.World.{World as WorldValue, empty_world};
 ghost use Rattle.tp_model.specs.Trees.{closing};
-ghost use Rattle.tp_world.specs.World.{Stands, Plays, PlaysAfter, Gives};
+ghost use Rattle.tp_laws.specs.Expansion.{IsOfRun};
+ghost use Rattle.tp_world.specs.World.{Mirrors, Stands, Plays, PlaysAfter, Gives};
 ghost use Rattle.tp_world.specs.Built.{is_built, is_local};
 ghost use Rattle.tp_world.specs.declared.fault.WorldFault.{WorldFault};
 
@@ -34,11 +35,7 @@ fn is_built(line: &Line) -> bool
 {
     !matches!(
         line,
-        Line::Crash { .. }
-            | Line::CrashIn { .. }
-            | Line::Image { .. }
-            | Line::Auto { .. }
-            | Line::Leave { .. }
+        Line::CrashIn { .. } | Line::Image { .. } | Line::Auto { .. } | Line::Leave { .. }
     )
 }
 
@@ -53,6 +50,7 @@ fn echo(alloc: Global, line: &Line, lines: &mut OutLines) -> Result<(), NoMemory
 
 impl World {
     /// The world with no node, no frame and no site.
+    #[tactic(auto, using(crate::proofs::Lines::of_no_run))]
     pub fn new(alloc: Global) -> World
         ensures { Stands empty_world result }
     {
@@ -110,7 +108,7 @@ impl World {
         line: &Line,
         lines: &mut OutLines,
     ) -> Result<(), WorldFault>
-        ensures { (w : WorldValue) → Stands w self.old → is_built line.now ≡ true → Gives (line_value 0 w line.now) lines.old result lines.new self.new }
+        ensures { (w : WorldValue) → IsOfRun w → Mirrors w self.old → is_built line.now ≡ true → Gives (line_value 0 w line.now) lines.old result lines.new self.new }
     {
         match line {
             Line::Node { node, site, under } => self.node_line(alloc, *node, *site, *under, lines),
@@ -120,6 +118,7 @@ impl World {
             Line::Again { frame } => self.again_line(alloc, *frame, lines),
             Line::Drain => self.drain_line(alloc, lines),
             Line::Show { node } => self.show_line(alloc, *node, lines),
+            Line::Crash { site } => self.crash_line(alloc, site, lines),
             _ => self.event_line(alloc, line, lines),
         }
     }
@@ -131,7 +130,7 @@ impl World {
         line: &Line,
         lines: &mut OutLines,
     ) -> Result<(), WorldFault>
-        ensures { (w : WorldValue) → Stands w self.old → is_local line.now ≡ true → Gives (line_value 0 w line.now) lines.old result lines.new self.new }
+        ensures { (w : WorldValue) → Mirrors w self.old → is_local line.now ≡ true → Gives (line_value 0 w line.now) lines.old result lines.new self.new }
     {
         let _rec: Option<&PeerRecord> = None;
         let _request: Option<&Request> = None;

@@ -1,7 +1,5 @@
 use Rattle.std.proofs.Common.{◌∙◌, sym, subst, [], Some, None, Ok}
-use Rattle.tp_model.specs.Happenings.{task_at}
 use Rattle.tp_model.specs.Lines.{within_limits}
-use Rattle.tp_model.specs.Parts.{Do}
 use Rattle.tp_world.specs.World.{Gives, task_turn}
 use Rattle.tp_world.proofs.Tasks.{none_gives}
 use Rattle.tp_world.proofs.Trying.{task_asked}

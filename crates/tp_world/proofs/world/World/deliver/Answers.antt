@@ -1,4 +1,4 @@
-use Rattle.std.proofs.Common.{◌≡◌, ◌∙◌, ◌∷◌, [], sym, ap, subst, refl, Option, Some, None, Ok, Err}
+use Rattle.std.proofs.Common.{◌∙◌, ◌∷◌, [], sym, ap, subst, refl, Some, None, Ok, Err}
 use Rattle.std.specs.Option.{option_map, option_copied}
 use Rattle.tp_model.specs.declared.out_line.OutLine.{OutLine}
 use Rattle.tp_model.specs.declared.line.Action.{Action}

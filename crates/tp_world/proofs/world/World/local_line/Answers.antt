@@ -1,9 +1,5 @@
 use Rattle.std.proofs.Common.{◌≡◌, true, arith}
 use Rattle.tp_model.specs.World.{is_node}
-use Rattle.tp_model.specs.Happenings.{task_at}
-use Rattle.tp_model.specs.Lines.{within_limits}
-use Rattle.tp_site.specs.NodeEvent.{event_of}
-use Rattle.tp_world.specs.World.{task_turn}
 use Rattle.tp_world.proofs.Resolved.{gives_named}
 use Rattle.tp_world.proofs.world.World.local_line.Goals as goal
 
