@@ -6,3 +6,12 @@ pub mod Tables
 pub mod Lookups
 pub mod Opening
 pub mod Refusing
+pub mod Copies
+pub mod Adding
+pub mod TakenBodies
+pub mod Added
+pub mod Telling
+pub mod Deciding
+pub mod Speaking
+pub mod Hearing
+pub mod Committing

@@ -18,7 +18,7 @@ at_first bodies = record { reads = refl; reach = refl }
 next_body : (bodies : List (List ℕ)) (i : ℕ) (body : List ℕ) → i < length bodies → body ≡ get_or bodies i [] → drop i bodies ≡ body ∷ drop (i + 1) bodies
 next_body bodies i body within is = drop_more bodies i [] within ∙ ap (λ (b : List ℕ). b ∷ drop (i + 1) bodies) (sym is)
 
-block_is : (body : List ℕ) (more : List (List ℕ)) → length (blocks (body ∷ more)) ≡ 3 + length body + length (blocks more)
+pub block_is : (body : List ℕ) (more : List (List ℕ)) → length (blocks (body ∷ more)) ≡ 3 + length body + length (blocks more)
 block_is body more = omega (arith, length-append body (blocks more))
 
 pub next_within : (bodies : List (List ℕ)) (i place : ℕ) (s : Store) (body : List ℕ) → ReadSoFar bodies i place s → i < length bodies → body ≡ get_or bodies i []

@@ -6,7 +6,8 @@ use Rattle.tp_bound.specs.declared.write.Write.{Write}
 use Rattle.tp_bound.specs.declared.body.Body.{Body}
 use Rattle.tp_bound.specs.Bodies.{whole, body_in}
 use Rattle.tp_bound.specs.BodyScanning.{scan_write, scan_body, after}
-use Rattle.tp_bound.proofs.BodyScans.{body_scan}
+use Rattle.tp_bound.specs.Gathered.{write_in}
+use Rattle.tp_bound.proofs.BodyScans.{body_scan, write_scan}
 
 abbrev Scanned : Type 0
 Scanned = Result (List Write × List ℕ) ℕ
@@ -48,3 +49,16 @@ is_longer bytes b (x ∷ rest) h some = ap whole (body_scan.found bytes b (x ∷
 
 pub is_none : (bytes : List ℕ) (left : ℕ) → AreBytes bytes → scan_body bytes ≡ Err left → body_in bytes ≡ None
 is_none bytes left fits h = ap whole (body_scan.stuck bytes left fits h).none
+
+-- ---- a write alone
+
+pub write_whole : (bytes : List ℕ) (w : Write) (rest : List ℕ) → scan_write bytes ≡ Ok (w, rest) → length rest ≡ 0 → write_in bytes ≡ Some w
+write_whole bytes w [] h none = ap whole (write_scan.found bytes w [] h)
+write_whole bytes w (x ∷ rest) h none = absurd (omega (arith, none))
+
+pub write_longer : (bytes : List ℕ) (w : Write) (rest : List ℕ) → scan_write bytes ≡ Ok (w, rest) → 0 < length rest → write_in bytes ≡ None
+write_longer bytes w [] h some = absurd (omega (arith, some))
+write_longer bytes w (x ∷ rest) h some = ap whole (write_scan.found bytes w (x ∷ rest) h)
+
+pub write_none : (bytes : List ℕ) (left : ℕ) → AreBytes bytes → scan_write bytes ≡ Err left → write_in bytes ≡ None
+write_none bytes left fits h = ap whole (write_scan.stuck bytes left fits h).none

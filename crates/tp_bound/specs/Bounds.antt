@@ -7,6 +7,7 @@ use Rattle.tp_journal.specs.declared.faults.StartFault.TheVariants.{Foreign, Dis
 use Rattle.tp_journal.specs.Gates.{any_body}
 use Rattle.tp_journal.specs.Start.{Starts, RefusesStart}
 use Rattle.tp_bound.specs.declared.store.Store.{Store}
+use Rattle.tp_bound.specs.Gathered.{Gathered}
 use Rattle.tp_bound.specs.Stores.{opened, Stands, Breaks}
 
 pub record Standing (D : Type 0) : Type 0 where
@@ -20,6 +21,8 @@ pub record Standing (D : Type 0) : Type 0 where
   -- the count of faults with which its log was shut
   pub shut : Option ℕ
   pub store : Store
+  -- the writes of the transaction that goes on
+  pub current : Option Gathered
 
 -- the transaction whose Bind is undecided
 abbrev pub undecided_in : Store → Option Aaid
@@ -31,6 +34,7 @@ pub record Opens {D : Type 0} (old new : Option Story) (node : ℕ) (b : Standin
   pub starts : Starts old new b.gate b.bodies
   pub stands : opened b.bodies ≡ Stands b.store
   pub shut : b.shut ≡ None
+  pub none_current : b.current ≡ None
 
 -- the log was started, and its bodies end at this place
 abbrev pub BreaksAt : Option Story → Option Story → ℕ → Type 0

@@ -2,5 +2,10 @@ pub mod Bodies
 pub mod BodyScanning
 pub mod Content
 pub mod Stores
+pub mod Gathered
 pub mod Bounds
 pub mod Taking
+pub mod Told
+pub mod Says
+pub mod Kept
+pub mod Branches

@@ -1,5 +1,5 @@
 //! A started store.
-ghost use Rattle.std.specs.Prelude.{◌≡◌, ◌<◌, [], length, Some, None, IfOk, IfErr, IfSome, IfNone, slice_index_or};
+ghost use Rattle.std.specs.Prelude.{◌≡◌, ◌<◌, [], length, map, Some, None, IfOk, IfErr, IfSome, IfNone, slice_index_or};
 ghost use Rattle.std.specs.Map.{keys_of};
 ghost use Rattle.tp_journal.specs.Started.{IsStarted};
 ghost use Rattle.tp_bound.specs.Content.{Ascends, value_of};
@@ -7,8 +7,12 @@ ghost use Rattle.tp_bound.specs.Stores.{opened, Stands};
 ghost use Rattle.tp_bound.specs.Bounds.{Opens, RefusesOpen, undecided_in};
 ghost use Rattle.tp_bound.specs.Taking.{RefusesRead};
 
+mod told;
+
+use crate::current::Current;
 use crate::store::Store;
 use std::alloc::Global;
+use std::collections::btree_map::Iter;
 use std::marker::Model;
 use tp_journal::{Gates, StartFault};
 use tp_names::Aaid;
@@ -20,18 +24,21 @@ pub struct Bound<D: Disk> {
     node: u16,
     gates: Gates<D>,
     store: Store,
+    current: Option<Current>,
 }
 
 impl<D: Disk> Model for Bound<D> {
-    ghost use Rattle.std.specs.Prelude.{◌≡◌};
+    ghost use Rattle.std.specs.Prelude.{◌≡◌, Some, None};
+    ghost use Rattle.tp_bound.specs.declared.store.Pending.{Pending};
     ghost use Rattle.tp_bound.specs.Stores.{opened, Stands};
     ghost use Rattle.tp_bound.specs.Bounds.{Standing};
 
     ghost Value = { Standing D };
 
-    ghost view = { λ b. record { node = b.node; disk = b.gates.disk; bodies = b.gates.bodies; gate = b.gates.gate; shut = b.gates.shut; store = b.store } };
+    ghost view = { λ b. record { node = b.node; disk = b.gates.disk; bodies = b.gates.bodies; gate = b.gates.gate; shut = b.gates.shut; store = b.store; current = b.current } };
 
-    ghost invariant = { λ b. opened b.gates.bodies ≡ Stands b.store };
+    // What is read of the log is the store, and no transaction goes on while another is undecided.
+    ghost invariant = { λ b. (opened b.gates.bodies ≡ Stands b.store) × ((p : Pending) → b.store.undecided ≡ Some p → b.current ≡ None) };
 }
 
 // What the bodies of a started log stand for.
@@ -64,7 +71,12 @@ impl<D: Disk> Bound<D> {
     {
         let gates = Gates::start(alloc, disk)?;
         match read(alloc, &gates) {
-            Ok(store) => Ok(Bound { node, gates, store }),
+            Ok(store) => Ok(Bound {
+                node,
+                gates,
+                store,
+                current: None,
+            }),
             Err(fault) => Err((gates.disk(), fault)),
         }
     }
@@ -96,6 +108,13 @@ impl<D: Disk> Bound<D> {
         self.store.content.key(i)
     }
 
+    /// The keys with their values, in ascending order of bytes.
+    pub fn entries(&self) -> Iter<'_, Vec<u8>, Vec<u8>>
+        ensures { map (λ e. (e.0.items, e.1.items)) result ≡ self.now.store.content }
+    {
+        self.store.content.iter()
+    }
+
     /// The transaction whose writes are bound and not yet decided, or none.
     pub fn undecided(&self) -> Option<&Aaid>
         ensures found { IfSome result (λ aaid. undecided_in self.now.store ≡ Some aaid.now) }
@@ -122,6 +141,7 @@ impl<D: Disk> Bound<D> {
             node: _,
             gates,
             store: _,
+            current: _,
         } = self;
         gates.disk()
     }

@@ -1,11 +1,12 @@
 //! What a store holds.
-ghost use Rattle.std.specs.Prelude.{◌≡◌, ◌<◌, [], length, Some, None, IfSome, IfNone, OnOk, OnErr, slice_index_or};
+ghost use Rattle.std.specs.Prelude.{◌≡◌, ◌<◌, [], length, map, Some, None, IfSome, IfNone, IfOk, OnOk, OnErr, slice_index_or};
 ghost use Rattle.std.specs.Map.{keys_of};
 ghost use Rattle.tp_bound.specs.Content.{Ascends, value_of, put, without, write_made, made};
 
 use crate::write::{Write, Writes};
 use std::alloc::Global;
 use std::collections::BTreeMap;
+use std::collections::btree_map::Iter;
 use std::marker::Model;
 use tp_names::{NoMemory, Octets};
 
@@ -63,6 +64,13 @@ impl Content {
         }
     }
 
+    /// The keys with their values, in order.
+    pub fn iter(&self) -> Iter<'_, Vec<u8>, Vec<u8>>
+        ensures { map (λ e. (e.0.items, e.1.items)) result ≡ self.now }
+    {
+        self.table.iter()
+    }
+
     /// Gives a key its value; without memory nothing changes.
     pub fn put(&mut self, key: Octets, value: Octets) -> Result<(), NoMemory>
         ensures ok { OnOk result (self.new ≡ put self.old key value) }
@@ -89,6 +97,24 @@ impl Content {
                 Ok(())
             }
         }
+    }
+
+    fn copy(&self) -> Result<Content, NoMemory>
+        ensures { IfOk result (λ copy. copy ≡ self.now) }
+    {
+        let table = self.table.clone()?;
+        Ok(Content { table })
+    }
+
+    /// The content with the writes made, as a value of its own.
+    pub fn with(&self, alloc: Global, writes: &[Write]) -> Result<Content, NoMemory>
+        ensures { IfOk result (λ next. next ≡ made self.now writes.now) }
+    {
+        let mut next = self.copy()?;
+        for write in writes {
+            next.make_one(write.copy(alloc)?)?;
+        }
+        Ok(next)
     }
 
     /// Makes the writes, one after the other. Without memory some are made.

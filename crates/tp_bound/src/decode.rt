@@ -1,7 +1,9 @@
 //! Reading a body.
-ghost use Rattle.std.specs.Prelude.{◌≡◌, IfOk};
+ghost use Rattle.std.specs.Prelude.{◌≡◌, IfOk, IfSome};
+ghost use Rattle.tp_names.specs.Grammar.{HasText};
 ghost use Rattle.tp_names.specs.Scanning.{Gives, GivesUnlessFull, scan_many};
-ghost use Rattle.tp_bound.specs.Bodies.{body_in};
+ghost use Rattle.tp_bound.specs.Bodies.{write_bytes, body_in};
+ghost use Rattle.tp_bound.specs.Gathered.{write_grammar, write_in};
 ghost use Rattle.tp_bound.specs.BodyScanning.{scan_key_length, scan_key, scan_put, scan_remove, scan_write, scan_writes, scan_bind, scan_keep, scan_drop, scan_body};
 
 use crate::body::Body;
@@ -16,6 +18,22 @@ pub fn decode(alloc: Global, bytes: &[u8]) -> Result<Option<Body>, NoMemory>
     let mut cursor = Cursor::new(bytes);
     match body(alloc, &mut cursor) {
         Ok(body) if cursor.left() == 0 => Ok(Some(body)),
+        Ok(_) => Ok(None),
+        Err(fault) => match fault {
+            ReadFault::Bad(_) => Ok(None),
+            ReadFault::NoMemory => Err(NoMemory),
+        },
+    }
+}
+
+/// The write of which these bytes are the whole text.
+pub fn decode_write(alloc: Global, bytes: &[u8]) -> Result<Option<Write>, NoMemory>
+    ensures is { IfOk result (λ found. found ≡ write_in bytes.now) }
+    ensures text { IfOk result (λ found. IfSome found (λ w. HasText write_grammar w × (bytes.now ≡ write_bytes w))) }
+{
+    let mut cursor = Cursor::new(bytes);
+    match write(alloc, &mut cursor) {
+        Ok(write) if cursor.left() == 0 => Ok(Some(write)),
         Ok(_) => Ok(None),
         Err(fault) => match fault {
             ReadFault::Bad(_) => Ok(None),

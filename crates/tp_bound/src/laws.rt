@@ -1,10 +1,15 @@
 //! Laws of the store, each as the contract of a function that does nothing.
-ghost use Rattle.std.specs.Prelude.{◌≡◌, ◌<◌, ◌^◌, ℕ, List, length, Some, None};
+ghost use Rattle.std.specs.Prelude.{◌≡◌, ◌<◌, ◌^◌, ℕ, List, [], length, Some, None};
 ghost use Rattle.tp_names.specs.Grammar.{IsGrammar};
 ghost use Rattle.tp_bound.specs.declared.write.Write.{Write};
 ghost use Rattle.tp_bound.specs.Bodies.{body_grammar};
 ghost use Rattle.tp_bound.specs.Content.{Content, Ascends, value_of, put, without, made};
-ghost use Rattle.tp_bound.specs.Stores.{OpensTo};
+ghost use Rattle.tp_journal.specs.Log.{StandsFor};
+ghost use Rattle.tp_bound.specs.declared.store.Store.{Store};
+ghost use Rattle.tp_bound.specs.Stores.{empty, opened, Stands, OpensTo};
+ghost use Rattle.tp_bound.specs.Says.{Speaker};
+ghost use Rattle.tp_bound.specs.Kept.{Heard, kept, HearsAll};
+ghost use Rattle.tp_bound.specs.Branches.{committed, all_written, OfBranches};
 
 use tp_journal::a_log_stands_for_one_list;
 
@@ -22,9 +27,24 @@ pub fn a_write_changes_its_key_alone()
     ensures ascends { (c : Content) (ws : List Write) → Ascends c → Ascends (made c ws) }
 {}
 
-/// No file opens to two contents.
+/// No file opens to two contents, nor to two stores: a store that is opened again over the same bytes holds what it held.
 pub fn a_file_opens_to_one_content()
-    ensures { (file : List ℕ) (a b : Content) → length file < 2 ^ 64 → OpensTo a file → OpensTo b file → a ≡ b }
+    ensures contents { (file : List ℕ) (a b : Content) → length file < 2 ^ 64 → OpensTo a file → OpensTo b file → a ≡ b }
+    ensures stores { (file : List ℕ) (xs ys : List (List ℕ)) (s t : Store) → length file < 2 ^ 64
+        → StandsFor file xs → opened xs ≡ Stands s → StandsFor file ys → opened ys ≡ Stands t → s ≡ t }
 {
     a_log_stands_for_one_list();
 }
+
+/// After every list of indications in which the disk did not fail, and between which the store may have been opened again,
+/// it holds what was kept of them: the writes of each transaction that was told commit after its vote for it, in order.
+pub fn the_content_is_what_was_kept()
+    ensures { (first last : Speaker) (hs : List Heard) → first.store ≡ empty → first.current ≡ None → HearsAll first hs last → last.store.content ≡ kept hs }
+{}
+
+/// Where a node starts no transaction of its own, its store holds the writes of exactly the branches that were told commit,
+/// each once, in the order in which they began: after every list of indications in which the disk did not fail, and between
+/// which the store may have been opened again.
+pub fn the_content_is_of_the_committed_branches()
+    ensures { (first last : Speaker) (hs : List Heard) → first.store ≡ empty → first.current ≡ None → HearsAll first hs last → OfBranches hs → last.store.content ≡ made [] (all_written (committed hs)) }
+{}

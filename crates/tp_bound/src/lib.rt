@@ -6,10 +6,15 @@
 mod body;
 mod bound;
 mod content;
+mod current;
 mod decode;
+mod encode;
 mod laws;
 mod store;
 mod write;
 
 pub use bound::Bound;
-pub use laws::{a_file_opens_to_one_content, a_write_changes_its_key_alone, bodies_have_texts};
+pub use laws::{
+    a_file_opens_to_one_content, a_write_changes_its_key_alone, bodies_have_texts,
+    the_content_is_of_the_committed_branches, the_content_is_what_was_kept,
+};

@@ -1,5 +1,5 @@
 //! What a transaction writes.
-ghost use Rattle.std.specs.Prelude.{◌≡◌, [], ◌∷◌, ◌++◌, OnOk, OnErr};
+ghost use Rattle.std.specs.Prelude.{◌≡◌, [], ◌∷◌, ◌++◌, length, IfOk, OnOk, OnErr};
 
 use std::alloc::Global;
 use std::marker::Model;
@@ -10,6 +10,23 @@ use tp_names::{NoMemory, Octets};
 pub enum Write {
     Put { key: Octets, value: Octets },
     Remove { key: Octets },
+}
+
+impl Write {
+    /// The same write.
+    pub fn copy(&self, alloc: Global) -> Result<Write, NoMemory>
+        ensures { IfOk result (λ copy. copy ≡ self.now) }
+    {
+        Ok(match self {
+            Write::Put { key, value } => Write::Put {
+                key: Octets::from_slice(alloc, key.as_slice())?,
+                value: Octets::from_slice(alloc, value.as_slice())?,
+            },
+            Write::Remove { key } => Write::Remove {
+                key: Octets::from_slice(alloc, key.as_slice())?,
+            },
+        })
+    }
 }
 
 /// A list of writes, which contracts see as that list.
@@ -44,6 +61,20 @@ impl Writes {
     {
         self.items.push(write)?;
         Ok(())
+    }
+
+    /// How many there are.
+    pub fn len(&self) -> usize
+        ensures { result ≡ length self.now }
+    {
+        self.items.len()
+    }
+
+    /// The writes, in order, as they stand.
+    pub fn as_slice(&self) -> &[Write]
+        ensures { result.now ≡ self.now }
+    {
+        self.items.as_slice()
     }
 
     /// The writes, in order.
