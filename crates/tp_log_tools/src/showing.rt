@@ -1,0 +1,57 @@
+//! The records of a log, each with its place.
+ghost use Rattle.std.specs.Prelude.{◌≡◌, ◌<◌, ◌≤◌, ◌^◌, ◌++◌, ℕ, List, length, Some, Err, IfErr, OnErr, OnOk};
+ghost use Rattle.tp_outside.specs.Story.{Story, seen};
+ghost use Rattle.tp_logrec.specs.declared.record.LogRec.{LogRec};
+ghost use Rattle.tp_logrec.specs.LogText.{IsLog};
+ghost use Rattle.tp_model.specs.LogCommands.{placed_texts};
+ghost use Rattle.tp_streams.specs.declared.stop.Stop.{Stop as TheStop};
+ghost use Rattle.tp_streams.specs.Written.{WritesPrefix};
+ghost use Rattle.tp_log_tools.specs.Readings.{IsFile, as_placed};
+ghost use Rattle.tp_log_tools.specs.Opening.{HoldsThroughout};
+ghost use Rattle.tp_log_tools.specs.Output.{IsSinkStop};
+ghost use Rattle.tp_log_tools.specs.Showing.{Shows, StopsShow, IsShowStop};
+
+use crate::opening::open_log;
+use crate::output::{put_line, write_rest};
+use std::alloc::Global;
+use tp_journal::Keeper;
+use tp_names::Octets;
+use tp_outside::{Disk, Sink};
+use tp_streams::Stop;
+
+// Writes all that the keeper tells.
+fn write_records<J: Keeper, K: Sink>(alloc: Global, log: &J, sink: &mut K) -> Result<(), Stop>
+    ensures kept { K.fault_count sink.old ≤ K.fault_count sink.new }
+    ensures stops { IfErr result (IsSinkStop (K.fault_count sink.old) (K.fault_count sink.new)) }
+    ensures ok { OnOk result ((before : List ℕ) → K.written sink.old ≡ Some before → K.written sink.new ≡ Some (before ++ placed_texts (as_placed (J.standing log.now).told))) }
+    ensures err { OnErr result ((before : List ℕ) → K.written sink.old ≡ Some before → WritesPrefix before (placed_texts (as_placed (J.standing log.now).told)) (K.written sink.new)) }
+{
+    let mut out = Octets::new(alloc);
+    for i in 0..log.count() {
+        put_line(alloc, log.place(i), log.rec(i), &mut out, sink)?;
+    }
+    write_rest(sink, &out)
+}
+
+/// Writes each record of the disk's log as a line, with its place in bytes, and hands the disk back, started. The whole
+/// log is read before the first byte is written. `Foreign` tells the place at which the bytes are no log, or at which the
+/// first record stands, after the start, that does not follow those before it; then, and where the disk fails, nothing is
+/// written.
+pub fn show<D: Disk, K: Sink>(alloc: Global, disk: D, sink: &mut K) -> (D, Result<(), Stop>)
+    ensures shows { OnOk result.1 ((s : Story) → D.told disk ≡ Some s → IsFile (seen s) → Shows (seen s) placed_texts (K.written sink.old) (K.written sink.new) (D.told result.0)) }
+    ensures stopped { IfErr result.1 (λ stop. (s : Story) → D.told disk ≡ Some s → IsFile (seen s)
+        → StopsShow (seen s) placed_texts (K.written sink.old) (K.written sink.new) (D.told result.0) stop) }
+    // A crash at any moment from the first sync on leaves a log of the records that stood.
+    ensures moments { (s : Story) (rs : List LogRec) → D.told disk ≡ Some s → length (seen s) < 2 ^ 64 → IsLog (seen s) rs → HoldsThroughout (λ c. IsLog c rs) s (D.told result.0) }
+    ensures stops { IfErr result.1 (IsShowStop (D.fault_count disk) (D.fault_count result.0) (K.fault_count sink.old) (K.fault_count sink.new)) }
+    ensures foreign { (at : ℕ) → result.1 ≡ Err (TheStop.Foreign at) → sink.new ≡ sink.old }
+    ensures disk_fault { (faults : ℕ) → result.1 ≡ Err (TheStop.DiskFault faults) → sink.new ≡ sink.old }
+    ensures kept { K.fault_count sink.old ≤ K.fault_count sink.new }
+{
+    let journal = match open_log(alloc, disk) {
+        Ok(journal) => journal,
+        Err((disk, stop)) => return (disk, Err(stop)),
+    };
+    let shown = write_records(alloc, &journal, sink);
+    (journal.disk(), shown)
+}
