@@ -1,0 +1,16 @@
+//! Schedules that are made of a number.
+//!
+//! [`schedule_of`] gives the schedule of a number, with so many nodes and so many rounds, and [`make`] writes it. What
+//! becomes of such a schedule when it is replayed is no matter of this crate.
+#![tactic(auto)]
+
+mod draws;
+mod lines;
+mod making;
+mod part;
+mod schedule;
+mod writing;
+
+pub use making::schedule_of;
+pub use schedule::Schedule;
+pub use writing::make;
