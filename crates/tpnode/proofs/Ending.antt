@@ -27,13 +27,16 @@ stopped at before w ls status all now h is = go status h
   where
     go : (s : Status) → StopsSo at before w ls s → Writes all (shown_from at before w ls) s now
     go Status.Ok h = absurd h
+    go (Status.Findings n) h = absurd h
     go Status.Usage h = absurd h
     go (Status.BadInput n why) h =
         subst (λ s. WritesAll all s (ending_of n why) now) (sym (ap (shown_from at before w) h.is ∙ stops_there at before w h.first h.rest (ending_of n why) h.ends)) (wrote_none all w (ending_of n why) now is)
     go (Status.Limit what n) h =
         subst (λ s. WritesAll all s (Ends (At_limit what n)) now) (sym (ap (shown_from at before w) h.is ∙ stops_there at before w h.first h.rest (Ends (At_limit what n)) h.ends)) (wrote_none all w (Ends (At_limit what n)) now is)
+    go (Status.Foreign at) h = absurd h
     go (Status.ReadFault n) h = ([], front_none (shown_from at before w ls).lines, is ∙ ap Some (sym (append-nil all)))
     go (Status.WriteFault n) h = absurd h
+    go (Status.DiskFault n) h = absurd h
     go Status.NoMemory h = ([], front_none (written (shown_from at before w ls)), is ∙ ap Some (sym (append-nil all)))
 
 pub ends_so : (at : ℕ) (bytes before : List ℕ) (v : CodeWorld) (place : Place) (left start now : Option (List ℕ)) (pending : List ℕ) (status : Status)
@@ -99,11 +102,14 @@ writes_after before s status text then h is = go status h
 
     go : (st : Status) → Writes [] s st (Some text) → Writes before s st then
     go Status.Ok w = all (Ends Done) w
+    go (Status.Findings n) w = w
     go Status.Usage w = w
     go (Status.BadInput at why) w = all (ending_of at why) w
     go (Status.Limit what at) w = all (Ends (At_limit what at)) w
+    go (Status.Foreign at) w = w
     go (Status.ReadFault n) w = part s.lines w
     go (Status.WriteFault n) w = part (written s) w
+    go (Status.DiskFault n) w = absurd w
     go Status.NoMemory w = part (written s) w
 
 -- what is to be written is a prefix of all that is shown
@@ -118,11 +124,14 @@ front_of_shown s status text h = go status h
 
     go : (st : Status) → Writes [] s st (Some text) → IsFront text (written s)
     go Status.Ok w = whole (Ends Done) w
+    go (Status.Findings n) w = absurd w
     go Status.Usage w = absurd w
     go (Status.BadInput at why) w = whole (ending_of at why) w
     go (Status.Limit what at) w = whole (Ends (At_limit what at)) w
+    go (Status.Foreign at) w = absurd w
     go (Status.ReadFault n) w = front_more text s.lines s.closing (part s.lines w)
     go (Status.WriteFault n) w = part (written s) w
+    go (Status.DiskFault n) w = absurd w
     go Status.NoMemory w = part (written s) w
 
 -- they are written

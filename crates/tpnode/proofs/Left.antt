@@ -150,11 +150,14 @@ ends_in_first at w p left ls text new unread status parts h = go status h
 
     go : (s : Status) → IsEndOf (reading_shown at w (read_line text)) s → StopsSo at p.before w ls s
     go Status.Ok e = e
+    go (Status.Findings n) e = e
     go Status.Usage e = e
     go (Status.BadInput n why) e = record { first = parts.first; rest = parts.rest; is = parts.is; ends = same ∙ e }
     go (Status.Limit what n) e = record { first = parts.first; rest = parts.rest; is = parts.is; ends = same ∙ e }
+    go (Status.Foreign at) e = e
     go (Status.ReadFault n) e = absurd e
     go (Status.WriteFault n) e = e
+    go (Status.DiskFault n) e = e
     go Status.NoMemory e = tt
 
 -- one that is not handed out

@@ -9,3 +9,5 @@ mod Ending
 mod Undriven
 mod Transcribed
 mod Promised
+mod Asking
+mod Logged

@@ -134,9 +134,12 @@ writes_behind bytes before text r status now is = go status
 
     go : (s : Status) → Writes (before ++ text) r s now → Writes before (shown bytes) s now
     go Status.Ok h = all (Ends Done) h
+    go (Status.Findings n) h = h
     go Status.Usage h = h
     go (Status.BadInput at why) h = all (ending_of at why) h
     go (Status.Limit what at) h = all (Ends (At_limit what at)) h
+    go (Status.Foreign at) h = h
     go (Status.ReadFault n) h = part_lines h
     go (Status.WriteFault n) h = part h
+    go (Status.DiskFault n) h = absurd h
     go Status.NoMemory h = part h

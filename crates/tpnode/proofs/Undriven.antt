@@ -9,7 +9,7 @@ use Rattle.tp_model.specs.declared.verdict.What.{What}
 use Rattle.tp_model.specs.Parts.{Entry, Answer}
 use Rattle.tp_model.specs.History.{digest, answer, state}
 use Rattle.tp_model.specs.World.{World, Node, Site, addr_at, find_node, find_site, oldest_between, oldest_of_all}
-use Rattle.tp_model.specs.Happenings.{Declare, Does, Mark, Task, Turn, still, happens, task_of, after_lines, action_lines, action_turn, event_turn, entry_turn, entered, logged, declared_at, declare_turn}
+use Rattle.tp_model.specs.Happenings.{Declare, Does, Mark, Task, Turn, still, happens, task_of, after_lines, action_lines, action_turn, event_turn, entry_turn, entered, logged, declared_at, declare_turn, crash_turn}
 use Rattle.tp_model.specs.Lines.{Fault, Name, Over, state_line, within_limits, is_full, if_named, is_named, resolved, marked, marked_by, shows, action_line, node_line, node_limit, skip_line, then_result, drain_line, show_line, line}
 use Rattle.tp_world.specs.Built.{is_built}
 
@@ -54,6 +54,13 @@ declare_free w n s under f = go (find_node w.nodes n) refl under
     go : (x : Option Node) → find_node w.nodes n ≡ x → (u : Option ℕ) → Free (declare_turn w n s u).world
     go None e u = rw (declare_turn, e) (come u)
     go (Some x) e u = rw (declare_turn, e) f
+
+crash_free : (w : World) (s : List ℕ) → Free w → Free (crash_turn w s).world
+crash_free w s f = go (find_site w.sites s) refl
+  where
+    go : (x : Option Site) → find_site w.sites s ≡ x → Free (crash_turn w s).world
+    go None e = rw (crash_turn, e) f
+    go (Some x) e = rw (crash_turn, e) f
 
 -- ---- lines
 
@@ -143,7 +150,7 @@ free_line w (Line.Heur n o) b f = free_action_line w (Action.Heur n o) f
 free_line w (Line.GiveUp n p) b f = free_action_line w (Action.GiveUp n p) f
 free_line w (Line.Retry n) b f = free_action_line w (Action.Retry n) f
 free_line w (Line.Purge n) b f = free_action_line w (Action.Purge n) f
-free_line w (Line.Crash s) b f = absurd (grind (arith, b))
+free_line w (Line.Crash s) b f = free_named _ _ (free_within (crash_turn w s) (crash_free w s f))
 free_line w (Line.CrashIn s k x l) b f = absurd (grind (arith, b))
 free_line w (Line.Show n) b f = free_show_line w n f
 free_line w (Line.Image s) b f = absurd (grind (arith, b))

@@ -3,3 +3,5 @@ pub mod Words
 pub mod Shown
 pub mod Replay
 pub mod Playing
+pub mod Logs
+pub mod Commands

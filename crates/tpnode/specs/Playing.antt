@@ -19,11 +19,14 @@ use Rattle.tpnode.specs.Replay.{ending_of}
 -- the run ends so
 abbrev pub IsEndOf : LineShown → Status → Type 0
 IsEndOf s Status.Ok = ⊥
+IsEndOf s (Status.Findings n) = ⊥
 IsEndOf s Status.Usage = ⊥
 IsEndOf s (Status.BadInput at why) = s ≡ Stops (ending_of at why)
 IsEndOf s (Status.Limit what at) = s ≡ Stops (Ends (At_limit what at))
+IsEndOf s (Status.Foreign at) = ⊥
 IsEndOf s (Status.ReadFault faults) = ⊥
 IsEndOf s (Status.WriteFault faults) = ⊥
+IsEndOf s (Status.DiskFault faults) = ⊥
 IsEndOf s Status.NoMemory = Unit {0}
 
 -- the status of a run that ends in the line of that number, since it does not read, or since the world does not play it
@@ -80,12 +83,15 @@ pub record EndsInFirst (at before : ℕ) (w : World) (ls : List RawLine) (status
 
 abbrev pub StopsSo : ℕ → ℕ → World → List RawLine → Status → Type 0
 StopsSo at before w ls Status.Ok = ⊥
+StopsSo at before w ls (Status.Findings n) = ⊥
 StopsSo at before w ls Status.Usage = ⊥
 StopsSo at before w ls (Status.BadInput line why) = EndsInFirst at before w ls (Status.BadInput line why)
 StopsSo at before w ls (Status.Limit what line) = EndsInFirst at before w ls (Status.Limit what line)
 -- the source failed
+StopsSo at before w ls (Status.Foreign place) = ⊥
 StopsSo at before w ls (Status.ReadFault faults) = Unit {0}
 StopsSo at before w ls (Status.WriteFault faults) = ⊥
+StopsSo at before w ls (Status.DiskFault faults) = ⊥
 StopsSo at before w ls Status.NoMemory = Unit {0}
 
 abbrev pub PlaysNext : ℕ → ℕ → World → List RawLine → Result Bool Status → List ℕ → List ℕ → Place → Option (List ℕ) → CodeWorld → Type 0

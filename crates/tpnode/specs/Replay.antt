@@ -28,12 +28,15 @@ pub record WritesAll (before : List ℕ) (s : Shown) (e : End) (new : Option (Li
 -- after the bytes that were written before
 abbrev pub Writes : List ℕ → Shown → Status → Option (List ℕ) → Type 0
 Writes before s Status.Ok new = WritesAll before s (Ends Done) new
+Writes before s (Status.Findings n) new = ⊥
 Writes before s Status.Usage new = ⊥
 Writes before s (Status.BadInput at why) new = WritesAll before s (ending_of at why) new
 Writes before s (Status.Limit what at) new = WritesAll before s (Ends (At_limit what at)) new
 -- no closing lines
+Writes before s (Status.Foreign at) new = ⊥
 Writes before s (Status.ReadFault faults) new = WritesFront before s.lines new
 Writes before s (Status.WriteFault faults) new = WritesFront before (written s) new
+Writes before s (Status.DiskFault faults) new = ⊥
 Writes before s Status.NoMemory new = WritesFront before (written s) new
 
 -- ---- before the last bytes are written

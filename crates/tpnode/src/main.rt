@@ -1,12 +1,17 @@
-//! `tpnode`: replays a schedule over a tree of commitment nodes, and writes the exact transcript.
+//! `tpnode`: replays a schedule over a tree of commitment nodes, and writes the exact transcript; makes schedules, and
+//! fresh logs; shows and checks a log.
 //!
-//! Crashes, images and members are not built yet: a line that asks for one ends the run and says
+//! Of a schedule, stops in an event, images and members are not built yet: a line that asks for one ends the run and says
 //! `unbuilt`.
 #![tactic(auto)]
 
+mod checking;
+mod formatting;
+mod making;
 mod output;
 mod playing;
 mod replay;
+mod showing;
 mod status;
 #[cfg(test)]
 mod tests;
@@ -17,8 +22,11 @@ use std::alloc::{AllocError, Global};
 use std::process::ExitCode;
 use std::{env, io};
 pub use top::run;
-use tp_names::Octets;
-use tp_outside::{MemDisk, StdSink, StdSource};
+use tp_outside::{FileDisk, StdSink, StdSource};
+use tp_words::USAGE;
+
+/// The log, in the current folder.
+const LOG: &str = "tp.log";
 
 // The words after the program's name.
 fn words_given(rt: &HostRuntime) -> io::Result<Vec<String>> {
@@ -42,7 +50,7 @@ fn main(rt: HostRuntime) -> io::Result<ExitCode> {
     let texts = as_texts(rt.alloc(), &words)?;
     let mut source = StdSource::new(&rt);
     let mut sink = StdSink::new(&rt);
-    let disk = MemDisk::from(rt.alloc(), Octets::new(rt.alloc()));
+    let disk = FileDisk::new(&rt, LOG);
     let (status, _disk) = run(
         rt.alloc(),
         &texts,
@@ -53,6 +61,9 @@ fn main(rt: HostRuntime) -> io::Result<ExitCode> {
     );
     if status != Status::Ok {
         eprintln!(rt; "tpnode: {status}")?;
+    }
+    if status == Status::Usage {
+        eprint!(rt; "{USAGE}")?;
     }
     Ok(ExitCode::from(status.code()))
 }

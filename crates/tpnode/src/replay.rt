@@ -4,7 +4,8 @@ ghost use Rattle.tp_model.specs.Transcript.{RawLine};
 ghost use Rattle.tp_model.specs.World.{World as WorldValue};
 ghost use Rattle.tp_schedule.specs.LinesLeft.{lines_left};
 ghost use Rattle.tp_world.specs.World.{Stands};
-ghost use Rattle.tpnode.specs.Status.{IsEnding, IsFaultOf, IsInputEnding, IsLineEnding};
+ghost use Rattle.tp_streams.specs.Stops.{IsFaultOf};
+ghost use Rattle.tpnode.specs.Status.{IsReplayEnding, IsInputEnding, IsLineEnding};
 ghost use Rattle.tpnode.specs.Shown.{shown, closes};
 ghost use Rattle.tpnode.specs.Replay.{Plays, Writes};
 ghost use Rattle.tpnode.specs.Playing.{PlaysNext, unheard_as};
@@ -120,8 +121,7 @@ fn play_all<S: Source, K: Sink>(
 
 /// Reads a schedule from the source, and writes its transcript to the sink as it goes, in long pieces.
 pub fn replay<S: Source, K: Sink>(alloc: Global, source: &mut S, sink: &mut K) -> Status
-    ensures replayed { result ≢ Status.Usage }
-    ensures ending { IsEnding (S.fault_count source.old) (S.fault_count source.new) (K.fault_count sink.old) (K.fault_count sink.new) result }
+    ensures ending { IsReplayEnding (S.fault_count source.old) (S.fault_count source.new) (K.fault_count sink.old) (K.fault_count sink.new) result }
     ensures read { (bytes : List ℕ) → S.left source.old ≡ Some bytes → result ≡ Status.Ok → S.left source.new ≡ Some [] }
     ensures transcript { (bytes before : List ℕ) → S.left source.old ≡ Some bytes → K.written sink.old ≡ Some before → Writes before (shown bytes) result (K.written sink.new) }
 {

@@ -1,6 +1,7 @@
 //! How a run ends: the status, its exit code, and its text.
 use std::fmt;
 use tp_model::{What, Why};
+use tp_streams::Stop;
 
 /// Why a line is bad.
 #[derive(Clone, Copy, Debug, PartialEq, Eq)]
@@ -30,25 +31,49 @@ pub struct WriteFault {
 /// that failed, right after the call that failed.
 #[derive(Clone, Copy, Debug, PartialEq, Eq)]
 pub enum Status {
-    /// The input was read to its end, and its whole transcript is written.
+    /// What the command does is done, and its input was read to its end.
     Ok,
-    /// The words are not those of a command.
+    /// What is done is done, and so many findings were written.
+    Findings { n: u64 },
+    /// The words ask for no command that is built.
     Usage,
     /// The line at that number is the first that is bad.
     BadInput { at: u64, why: BadLine },
     /// A count would pass its limit in the line at that number.
     Limit { what: What, at: u64 },
+    /// The bytes of the log are no log, or its records do not follow each other; they go wrong at that place.
+    Foreign { at: u64 },
     /// The source failed.
     ReadFault { faults: u64 },
     /// The sink failed.
     WriteFault { faults: u64 },
+    /// The disk failed.
+    DiskFault { faults: u64 },
     /// No memory could be had.
     NoMemory,
 }
 
 impl Status {
     ghost use Rattle.std.specs.Prelude.{◌≡◌};
-    ghost use Rattle.tpnode.specs.Status.{code_of};
+    ghost use Rattle.tpnode.specs.Status.{code_of, status_of};
+
+    /// How a run ends that such a stop ends.
+    pub(crate) fn of_stop(stop: Stop) -> Status
+        ensures { result ≡ status_of stop }
+    {
+        match stop {
+            Stop::BadInput { at, why } => Status::BadInput {
+                at,
+                why: BadLine::Bad(why),
+            },
+            Stop::Limit { what, at } => Status::Limit { what, at },
+            Stop::Foreign { at } => Status::Foreign { at },
+            Stop::ReadFault { faults } => Status::ReadFault { faults },
+            Stop::WriteFault { faults } => Status::WriteFault { faults },
+            Stop::DiskFault { faults } => Status::DiskFault { faults },
+            Stop::NoMemory => Status::NoMemory,
+        }
+    }
 
     /// The exit code of a program that ends so.
     pub fn code(self) -> u8
@@ -56,11 +81,14 @@ impl Status {
     {
         match self {
             Status::Ok => 0,
+            Status::Findings { .. } => 1,
             Status::Usage => 2,
             Status::BadInput { .. } => 3,
             Status::Limit { .. } => 4,
+            Status::Foreign { .. } => 5,
             Status::ReadFault { .. } => 6,
             Status::WriteFault { .. } => 7,
+            Status::DiskFault { .. } => 8,
             Status::NoMemory => 9,
         }
     }
@@ -70,11 +98,14 @@ impl fmt::Display for Status {
     fn fmt<W: fmt::Write>(&self, f: &mut fmt::Formatter<W>) -> fmt::Result {
         match self {
             Status::Ok => write!(f, "ok"),
+            Status::Findings { n } => write!(f, "findings {n}"),
             Status::Usage => write!(f, "usage"),
             Status::BadInput { at, why } => write!(f, "bad input at {at}: {why}"),
             Status::Limit { what, at } => write!(f, "limit {what} at {at}"),
+            Status::Foreign { at } => write!(f, "foreign log at {at}"),
             Status::ReadFault { .. } => write!(f, "read fault"),
             Status::WriteFault { .. } => write!(f, "write fault"),
+            Status::DiskFault { .. } => write!(f, "disk fault"),
             Status::NoMemory => write!(f, "no memory"),
         }
     }

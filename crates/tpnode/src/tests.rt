@@ -1,7 +1,8 @@
 //! What no clause says: whole runs, with expected bytes from outside, and the texts of endings.
 use super::*;
 use tp_model::{What, Why};
-use tp_outside::{MemSink, MemSource};
+use tp_names::Octets;
+use tp_outside::{MemDisk, MemSink, MemSource};
 
 const SCHEDULE: &str =
     "node 1 a\nnode 2 b under 1\ndo 1 begin-dialogue 2 scu\ndrain\n# the answer\n\ndo 2 accept scu\npass 2 1\npass 2 1\n";
@@ -43,6 +44,37 @@ fn status_of(
     (sink.bytes() == written.as_bytes()).then_some(status)
 }
 
+// How a format ends on a disk whose listed changing calls fail, and what it then holds.
+fn formatted(alloc: Global, fails: &[u8]) -> Option<(Status, MemDisk)> {
+    let mut source = MemSource::new(alloc, Octets::new(alloc), Octets::new(alloc));
+    let mut sink = MemSink::new(alloc, Octets::new(alloc));
+    let disk = MemDisk::failing(
+        alloc,
+        octets(alloc, b"what stood there")?,
+        octets(alloc, fails)?,
+    );
+    let members = Vec::new(alloc);
+    Some(run(alloc, &["format"], &mut source, &mut sink, disk, members))
+}
+
+#[test]
+fn a_log_is_made_fresh(rt: HostRuntime) {
+    let (status, disk) = formatted(rt.alloc(), &[]).expect(&rt, "in memory");
+    assert!(rt;
+        status == Status::Ok && disk.bytes() == b"OTPL\x01\x01\x00\x02\x07\x02\x00".as_slice()
+    );
+    let (status, _disk) = formatted(rt.alloc(), &[1]).expect(&rt, "in memory");
+    assert!(rt; status == Status::DiskFault { faults: 1 });
+}
+
+#[test]
+fn a_schedule_is_made(rt: HostRuntime) {
+    let (status, sink) = ran(rt.alloc(), &["make"], b"", NO_FAILS).expect(&rt, "in memory");
+    assert!(rt; status == Status::Ok && sink.bytes().len() == 181);
+    let (status, sink) = ran(rt.alloc(), &["make"], b"", (&[], &[1])).expect(&rt, "in memory");
+    assert!(rt; status == Status::WriteFault { faults: 1 } && sink.bytes().is_empty());
+}
+
 // The same of a replay.
 fn replayed(alloc: Global, text: &str, fails: Fails, written: &str) -> Option<Status> {
     status_of(alloc, &["replay"], text.as_bytes(), fails, written)
@@ -56,10 +88,10 @@ fn built_lines_are_replayed(rt: HostRuntime) {
     assert!(rt; matches!(status, Some(Status::Ok)));
 }
 
-const NO_COMMANDS: &[&[&str]] = &[&[], &["play"], &["replay", "replay"], &["repla"]];
+const NO_COMMANDS: &[&[&str]] = &[&[], &["play"], &["audit"], &["replay", "--name", "A"]];
 
 #[test]
-fn one_command_is_known(rt: HostRuntime) {
+fn words_that_ask_for_no_command(rt: HostRuntime) {
     for words in NO_COMMANDS {
         let status = status_of(rt.alloc(), words, SCHEDULE.as_bytes(), NO_FAILS, "");
         assert!(rt; matches!(status, Some(Status::Usage)));
@@ -78,7 +110,6 @@ fn refused_by(alloc: Global, line: &str) -> Option<BadLine> {
 }
 
 const NOT_BUILT: &[&str] = &[
-    "crash a",
     "crash a at 1 fill 00 in do 1 commit",
     "image a",
     "auto 1 1",
@@ -170,6 +201,7 @@ fn is_shown_as(alloc: Global, status: Status, text: &str) -> bool {
 }
 
 const ENDINGS: &[(Status, &str, u8)] = &[
+    (Status::Findings { n: 3 }, "findings 3", 1),
     (Status::Usage, "usage", 2),
     (
         Status::BadInput {
@@ -195,8 +227,10 @@ const ENDINGS: &[(Status, &str, u8)] = &[
         "limit schedule at 7",
         4,
     ),
+    (Status::Foreign { at: 5 }, "foreign log at 5", 5),
     (Status::ReadFault { faults: 1 }, "read fault", 6),
     (Status::WriteFault { faults: 1 }, "write fault", 7),
+    (Status::DiskFault { faults: 1 }, "disk fault", 8),
     (Status::NoMemory, "no memory", 9),
 ];
 

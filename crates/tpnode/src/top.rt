@@ -1,22 +1,35 @@
 //! The program's one call.
-ghost use Rattle.std.specs.Prelude.{◌≡◌, ◌≢◌, ◌↔◌, ℕ, List, Option, Some, [], map, true, IsTrue};
+ghost use Rattle.std.specs.Prelude.{◌≡◌, ℕ, List, Some, [], map, true, false};
 ghost use Rattle.tpnode.specs.Status.{IsEnding};
 ghost use Rattle.tp_records.specs.declared.request.Request.{Request};
+ghost use Rattle.std.specs.Prelude.{Option};
 ghost use Rattle.tp_model.specs.Promises.{Promised};
+ghost use Rattle.tp_words.specs.CommandLine.{said};
 ghost use Rattle.tpnode.specs.Shown.{shown, is_whole};
 ghost use Rattle.tpnode.specs.Replay.{Writes, IsTranscript};
+ghost use Rattle.tpnode.specs.Commands.{is_run, Runs, Answers};
 ghost use Rattle.tpnode.specs.Words.{replay_words};
 
+use crate::checking::check_log;
+use crate::formatting::format_log;
+use crate::making::make_schedule;
 use crate::replay::replay;
+use crate::showing::show_log;
 use crate::status::Status;
 use std::alloc::Global;
 use tp_outside::{Disk, Sink, Source};
 use tp_records::Member;
+use tp_words::{Command, WordsFault, read};
 
-/// Runs a command. `replay` reads a schedule from the source and writes what is shown of it to the sink: its
-/// transcript, up to the first line of a kind that is not built. Where the source or the sink fails, or memory is
-/// wanting, what is written is a prefix of that, and no closing lines after a source that failed. The world that
-/// the schedule leaves keeps all promises. The disk is handed back as it was; members are not asked yet.
+/// Runs the command that the words after the program's name ask for, and hands the disk back. Each leaves the source, the
+/// sink and the disk as it was, where it has no fault status for it.
+///
+/// `replay` reads a schedule from the source and writes what is shown of it to the sink: its transcript, up to the first
+/// line of a kind that is not built. Where the source or the sink fails, or memory is wanting, what is written is a prefix
+/// of that, and no closing lines after a source that failed. The world that the schedule leaves keeps all promises; members
+/// are not asked yet. `make` writes the schedule that is made by the plan. `format` makes the disk hold a fresh log. `show`
+/// writes each record of the disk's log with its place, and `check` each Damage that is its key's last record, of which it
+/// answers the number.
 #[tactic(auto, using(crate::proofs::Transcribed::transcribed))]
 pub fn run<S: Source, K: Sink, D: Disk>(
     alloc: Global,
@@ -26,23 +39,45 @@ pub fn run<S: Source, K: Sink, D: Disk>(
     disk: D,
     _members: Vec<Box<dyn Member>>,
 ) -> (Status, D)
-    ensures usage { (result.0 ≡ Status.Usage) ↔ (map (λ w. w.now) words.now ≢ replay_words) }
-    ensures ending { IsEnding (S.fault_count source.old) (S.fault_count source.new) (K.fault_count sink.old) (K.fault_count sink.new) result.0 }
-    ensures read { (bytes : List ℕ) → S.left source.old ≡ Some bytes → result.0 ≡ Status.Ok → S.left source.new ≡ Some [] }
-    ensures disk { result.1 ≡ disk }
-    ensures unwritten { result.0 ≡ Status.Usage → K.written sink.new ≡ K.written sink.old }
+    ensures usage { result.0 ≡ Status.Usage → is_run (said (map (λ w. w.now) words.now)) ≡ false }
+    ensures ending { IsEnding (S.fault_count source.old) (S.fault_count source.new) (K.fault_count sink.old) (K.fault_count sink.new) (D.fault_count disk) (D.fault_count result.1) result.0 }
+    ensures answers { Answers (said (map (λ w. w.now) words.now)) (record { status = result.0; left = S.left source.old; unread = S.left source.new; written = K.written sink.old; output = K.written sink.new; told = D.told disk; story = D.told result.1 }) (source.new ≡ source.old) (sink.new ≡ sink.old) (result.1 ≡ disk) }
+    ensures read { map (λ w. w.now) words.now ≡ replay_words → (bytes : List ℕ) → S.left source.old ≡ Some bytes → result.0 ≡ Status.Ok → S.left source.new ≡ Some [] }
+    ensures disk { map (λ w. w.now) words.now ≡ replay_words → result.1 ≡ disk }
     ensures whole { (bytes : List ℕ) (answers : List (Option Request)) → S.left source.old ≡ Some bytes → is_whole (shown bytes).ending ≡ true → IsTranscript bytes answers }
     ensures promised { (bytes : List ℕ) → S.left source.old ≡ Some bytes → Promised (shown bytes).world }
     ensures transcript { map (λ w. w.now) words.now ≡ replay_words → (bytes before : List ℕ) → S.left source.old ≡ Some bytes → K.written sink.old ≡ Some before → Writes before (shown bytes) result.0 (K.written sink.new) }
 {
-    if !is_replay(words) {
-        return (Status::Usage, disk);
+    match read(alloc, words) {
+        Ok(command) => run_command(alloc, command, source, sink, disk),
+        Err(WordsFault::Usage) => (Status::Usage, disk),
+        Err(WordsFault::NoMemory) => (Status::NoMemory, disk),
     }
-    (replay(alloc, source, sink), disk)
 }
 
-fn is_replay(words: &[&str]) -> bool
-    ensures { IsTrue result ↔ (map (λ w. w.now) words.now ≡ replay_words) }
+fn run_command<S: Source, K: Sink, D: Disk>(
+    alloc: Global,
+    command: Command,
+    source: &mut S,
+    sink: &mut K,
+    disk: D,
+) -> (Status, D)
+    ensures ending { IsEnding (S.fault_count source.old) (S.fault_count source.new) (K.fault_count sink.old) (K.fault_count sink.new) (D.fault_count disk) (D.fault_count result.1) result.0 }
+    ensures runs { Runs command (record { status = result.0; left = S.left source.old; unread = S.left source.new; written = K.written sink.old; output = K.written sink.new; told = D.told disk; story = D.told result.1 }) (source.new ≡ source.old) (sink.new ≡ sink.old) (result.1 ≡ disk) }
 {
-    matches!(words, ["replay"])
+    let mut disk = disk;
+    match command {
+        Command::Replay => (replay(alloc, source, sink), disk),
+        Command::Make(plan) => (make_schedule(alloc, plan, sink), disk),
+        Command::Format => (format_log(&mut disk), disk),
+        Command::Show => show_log(alloc, disk, sink),
+        Command::Check => check_log(alloc, disk, sink),
+        Command::Node(_)
+        | Command::Trial(_)
+        | Command::Compact
+        | Command::Migrate
+        | Command::Keys
+        | Command::Tx(_)
+        | Command::Audit => (Status::Usage, disk),
+    }
 }
