@@ -1,9 +1,12 @@
-//! Tests of the definitions' lists, of the two languages of lines, and of a world under a schedule.
+//! Tests of the definitions' lists, of the two languages of lines, of schedules made of a number, and of a world under a
+//! schedule.
 //!
 //! They call what the crates below offer to all, and show what no clause says: texts from outside, worked
 //! examples, and that calls succeed. Each module has one subject.
 #![tactic(auto)]
 
+#[cfg(test)]
+mod generated;
 #[cfg(test)]
 mod lists;
 #[cfg(test)]

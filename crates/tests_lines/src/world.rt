@@ -86,6 +86,7 @@ const NAMES: &[&str] = &[
     "node 1 a\ndo 1 begin-dialogue 2 scu\n",
     "retry 1\n",
     "show 1\n",
+    "crash a\n",
 ];
 
 /// Names that are taken or not there end the run.
@@ -97,7 +98,12 @@ fn names(rt: HostRuntime) {
     }
 }
 
-const UNBUILT: &[&str] = &["crash a\n", "image a\n", "auto 1 1\n", "leave 1\n"];
+const UNBUILT: &[&str] = &[
+    "crash a at 1 fill 00 in purge 1\n",
+    "image a\n",
+    "auto 1 1\n",
+    "leave 1\n",
+];
 
 /// Lines of kinds that are not built end the run.
 #[test]

@@ -15,6 +15,8 @@ mod dialogue;
 #[cfg(test)]
 mod link;
 #[cfg(test)]
+mod recalled;
+#[cfg(test)]
 mod recover;
 #[cfg(test)]
 mod site;

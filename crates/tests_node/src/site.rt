@@ -406,3 +406,33 @@ fn an_unknown_node_is_refused(rt: HostRuntime) {
     assert!(rt; matches!(refused, Err(SiteFault::Refused(16))));
     assert!(rt; site.state(7).is_none());
 }
+
+// The site of the branch, gone on with over its log for that lane of two.
+fn resumed(alloc: Global, lane: u16) -> Option<OnMemory> {
+    if lane >= 2 {
+        return None;
+    }
+    let Pair { b, .. } = readied(alloc)?;
+    let name = named(b"b")?;
+    Site::resume(alloc, b.keeper(), name, 1, lane, 2).ok()
+}
+
+#[test]
+fn a_lane_answers_as_the_whole(rt: HostRuntime) {
+    let Some(mut lane) = resumed(rt.alloc(), 0) else {
+        panic!(rt; "no memory")
+    };
+    // Boot and Ready: nothing is forced.
+    assert!(rt; records(&lane) == 2);
+    assert!(rt; lane.boot() == 1);
+    assert!(rt; matches!(phase(&lane, 2), Some(Phase::Ready)));
+    assert!(rt; matches!(asks_again(rt.alloc(), &mut lane, 2), Some(true)));
+}
+
+#[test]
+fn a_lane_knows_no_node_of_another(rt: HostRuntime) {
+    let Some(lane) = resumed(rt.alloc(), 1) else {
+        panic!(rt; "no memory")
+    };
+    assert!(rt; lane.state(2).is_none());
+}
