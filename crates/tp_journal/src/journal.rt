@@ -59,6 +59,7 @@ impl<D: Disk> Journal<D> {
         ensures started { IfOk result (λ j. Starts (D.told disk) (D.told j.disk) j.gate (bodies_in j) × (j.shut ≡ None)) }
         ensures texts { IfOk result (λ j. AllByRecursion (HasText j.wide) j.list) }
         ensures passes { IfOk result (λ j. SyncsAlone (D.told disk) (D.fuse disk) (D.fuse j.disk)) }
+        ensures kept { IfOk result (λ j. D.fault_count disk ≤ D.fault_count j.disk) }
         ensures refused { IfErr result (λ e. RefusesStart record_body (D.told disk) (D.told e.0) (D.fault_count disk) (D.fault_count e.0) e.1) }
     {
         let log = Log::start(alloc, disk, Records::new(alloc))?;

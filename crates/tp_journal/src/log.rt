@@ -137,6 +137,7 @@ impl<D: Disk, S: Shelf + Drop> Log<D, S> {
         requires { S.bodies shelf ≡ [] }
         ensures started { IfOk result (λ log. Starts (D.told disk) (D.told log.disk) log.gate (S.bodies log.shelf) × (log.shut ≡ None)) }
         ensures passes { IfOk result (λ log. SyncsAlone (D.told disk) (D.fuse disk) (D.fuse log.disk)) }
+        ensures kept { IfOk result (λ log. D.fault_count disk ≤ D.fault_count log.disk) }
         ensures refused { IfErr result (λ e. RefusesStart S.accepts (D.told disk) (D.told e.0) (D.fault_count disk) (D.fault_count e.0) e.1) }
     {
         let mut disk = disk;

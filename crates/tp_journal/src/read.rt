@@ -113,6 +113,7 @@ fn read_at<S: Shelf>(
     shelf: &mut S,
 ) -> Result<Reading, AllocError>
     requires empty { S.bodies shelf.old ≡ [] }
+    requires some { 0 < length rest.now }
     requires place { place ≡ 5 + length front.now }
     requires fits { place + length rest.now < 2 ^ 64 }
     ensures { IfOk result (IsReading S.accepts (head 2 ++ front.now ++ rest.now ++ to_be_bytes w64 place) (S.bodies shelf.new)) }
