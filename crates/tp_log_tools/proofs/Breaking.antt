@@ -1,5 +1,5 @@
 -- The place at which bytes are no log is the one that the reading tells.
-use Rattle.std.proofs.Common.{◌≡◌, ◌≢◌, inl, inr, ℕ, suc, ◌+◌, ◌-◌, ◌<◌, ◌≤◌, ◌^◌, Bool, true, false, List, [], ◌∷◌, ◌++◌, length, take, drop, refl, sym, ap, ◌∙◌, arith, append_assoc, length-append}
+use Rattle.std.proofs.Common.{◌≡◌, ◌≢◌, inl, inr, ℕ, suc, ◌+◌, ◌-◌, ◌<◌, ◌≤◌, ◌^◌, Bool, true, false, List, [], ◌∷◌, ◌++◌, length, take, drop, refl, sym, ap, ◌∙◌, arith, length-append}
 use Rattle.std.specs.Prelude.{◌&&◌, nat_le}
 use Rattle.std.specs.Int.{to_be_bytes, w64}
 use Rattle.std.proofs.lemmas.List.{take_at, drop_at, take-append-drop}
@@ -16,7 +16,7 @@ use Rattle.tp_logrec.proofs.ReadLogs.{bytes_same, place_last}
 use Rattle.tp_journal.specs.Log.{blocks, head}
 use Rattle.tp_journal.specs.Foreign.{IsForeign, HasNoHead, BreaksInFront, HasNoPlace, BreaksBehind, IsTooLong, BreaksAt}
 use Rattle.tp_journal.specs.Records.{record_body}
-use Rattle.tp_log_tools.specs.Readings.{IsFile, HasNoText, IsReadForeign}
+use Rattle.tp_log_tools.specs.Readings.{IsFile}
 use Rattle.tp_log_tools.proofs.ReadOn.{listed_breaks, listed_closes, ListsAll}
 
 -- ---- nothing that has a head
@@ -99,29 +99,13 @@ no_place file is none =
         none.whole ∙ sym (take-append-drop (length bytes - 8) bytes) ∙ ap (λ (w : List ℕ). take (length bytes - 8) bytes ++ w) last in
         absurd (none.none (take (length bytes - 8) bytes) q small parts five (omega (arith, size, within)))
 
-breaks_behind : (file : List ℕ) (at : ℕ) → IsFile file → BreaksBehind record_body file at → IsReadForeign file at
-breaks_behind file at is b = go b.text refl
-  where
-    go : (text : List ℕ) → b.text ≡ text → IsReadForeign file at
-    go [] none =
-        inr (record {
-          front = b.front;
-          whole = b.whole ∙ ap (λ w. behind b.front w) none ∙ bare b.front;
-          place = b.breaks.2 ∙ ap (λ n. 5 + length b.front + n) (nowhere none) ∙ omega arith;
-        })
-      where
-        bare : (front : List ℕ) → behind front [] ≡ head 2 ++ front ++ to_be_bytes w64 (5 + length front)
-        bare front = simp append_assoc
-
-        nowhere : b.text ≡ [] → b.breaks.0 ≡ 0
-        nowhere none = omega (arith, b.breaks.1.place, ap length (sym b.breaks.1.whole ∙ none), length-append (blocks b.breaks.1.bodies) b.breaks.1.rest)
-    go (x ∷ text) some =
-        let q = 5 + length b.front in
-        let n = b.breaks.0 in
-        let text_long : 0 < length b.text = omega (arith, ap length some) in
-        let small : length (behind b.front b.text) < 2 ^ 64 = (let s = is.small in omega (arith, s, ap length b.whole)) in
-        let fits : AreBytes b.text = behind_bytes b.front b.text (bytes_same file (behind b.front b.text) b.whole is.bytes) in
-        inl (ap read_log b.whole ∙ behind_reads b.front b.text small text_long ∙ ap (fitting q) (text_breaks q b.text n fits b.breaks.1) ∙ ap Foreign (sym b.breaks.2))
+breaks_behind : (file : List ℕ) (at : ℕ) → IsFile file → BreaksBehind record_body file at → read_log file ≡ Foreign at
+breaks_behind file at is b =
+    let q = 5 + length b.front in
+    let n = b.breaks.0 in
+    let small : length (behind b.front b.text) < 2 ^ 64 = (let s = is.small in omega (arith, s, ap length b.whole)) in
+    let fits : AreBytes b.text = behind_bytes b.front b.text (bytes_same file (behind b.front b.text) b.whole is.bytes) in
+    ap read_log b.whole ∙ behind_reads b.front b.text small b.some ∙ ap (fitting q) (text_breaks q b.text n fits b.breaks.1) ∙ ap Foreign (sym b.breaks.2)
 
 too_long : (file : List ℕ) → IsFile file → IsTooLong record_body file → read_log file ≡ Foreign 4
 too_long file is b =
@@ -143,23 +127,9 @@ too_long file is b =
         let t : nat_le (suc gate - q) (q - 5) ≡ false = grind (arith, nat_tests) in
         ap (λ (b : Bool). elim b as (λ _. LogReading) [ true ↦ Reads ver ps gate | false ↦ Foreign 4 ]) t
 
-pub foreign_is_read : (file : List ℕ) (at : ℕ) → IsFile file → IsForeign record_body file at → IsReadForeign file at
-foreign_is_read file at is (inl none) = inl (no_head file none.1 ∙ ap Foreign (sym none.0))
-foreign_is_read file at is (inr (inl b)) = inl (in_front file at is.bytes b)
-foreign_is_read file at is (inr (inr (inl none))) = inl (no_place file is none.1 ∙ ap Foreign (sym none.0))
+pub foreign_is_read : (file : List ℕ) (at : ℕ) → IsFile file → IsForeign record_body file at → read_log file ≡ Foreign at
+foreign_is_read file at is (inl none) = no_head file none.1 ∙ ap Foreign (sym none.0)
+foreign_is_read file at is (inr (inl b)) = in_front file at is.bytes b
+foreign_is_read file at is (inr (inr (inl none))) = no_place file is none.1 ∙ ap Foreign (sym none.0)
 foreign_is_read file at is (inr (inr (inr (inl b)))) = breaks_behind file at is b
-foreign_is_read file at is (inr (inr (inr (inr long)))) = inl (too_long file is long.1 ∙ ap Foreign (sym long.0))
-
--- where no text stands before a place that tells itself
-pub no_text_is_read : (file : List ℕ) (at : ℕ) → length file < 2 ^ 64 → HasNoText file at → read_log file ≡ Foreign 4
-no_text_is_read file at small none =
-    let before : List ℕ = head 2 ++ none.front in
-    let q : ℕ = 5 + length none.front in
-    let all : List ℕ = before ++ long_bytes q in
-    let size : length all ≡ q + 8 = omega (arith, length-append before (long_bytes q)) in
-    let little : q < 2 ^ 64 = omega (arith, size, small, ap length none.whole) in
-    let bad : (nat_le 5 q && nat_le (q + 9) (length all)) ≡ false = outside q (length all) (omega (arith, size)) in
-    ap read_log none.whole ∙ selector_is 2 all ∙ ap (back_reading all) (place_back before q little) ∙ place_is all q ∙ ap (on_place all q) bad
-  where
-    outside : (q n : ℕ) → n < q + 9 → (nat_le 5 q && nat_le (q + 9) n) ≡ false
-    outside q n far = grind (arith, nat_tests)
+foreign_is_read file at is (inr (inr (inr (inr long)))) = too_long file is long.1 ∙ ap Foreign (sym long.0)

@@ -19,9 +19,9 @@ use Rattle.tp_journal.specs.Start.{started_bytes, Starts, RefusesStart}
 use Rattle.tp_journal.specs.Told.{IsOn, LeavesOnly}
 use Rattle.tp_journal.proofs.AsLogs.{is_log, stands}
 use Rattle.tp_journal.proofs.Unique.{one_meaning}
-use Rattle.tp_log_tools.specs.Readings.{IsFile, as_placed, IsReadForeign}
-use Rattle.tp_log_tools.specs.Opening.{CallsForeign, ReadsAs, HoldsThroughout, Opens, LeavesLog, StopsOpening, stopped_by}
-use Rattle.tp_log_tools.proofs.Breaking.{foreign_is_read, no_text_is_read}
+use Rattle.tp_log_tools.specs.Readings.{IsFile, as_placed}
+use Rattle.tp_log_tools.specs.Opening.{ReadsAs, HoldsThroughout, Opens, LeavesLog, StopsOpening, stopped_by}
+use Rattle.tp_log_tools.proofs.Breaking.{foreign_is_read}
 use Rattle.tp_log_tools.proofs.Found.{started_by, started_is, found_is_read}
 use Rattle.tp_log_tools.proofs.Ordered.{all_in_order, breaks_at}
 
@@ -38,14 +38,10 @@ foreign_stays file at is = started_is file ∙ ap (started_by file (is_back file
     go false = refl
 
 -- what is called foreign by a start
-pub calls_foreign : (file : List ℕ) (at : ℕ) → IsFile file → IsForeign record_body file at → CallsForeign file at × (start_leaves file ≡ file)
-calls_foreign file at is foreign = go (foreign_is_read file at is foreign)
-  where
-    go : IsReadForeign file at → CallsForeign file at × (start_leaves file ≡ file)
-    go (inl read) = (inl (opened_so file (Foreign at) read), foreign_stays file at read)
-    go (inr none) =
-        let read : read_log file ≡ Foreign 4 = no_text_is_read file at is.small none in
-        (inr (opened_so file (Foreign 4) read, none), foreign_stays file 4 read)
+pub calls_foreign : (file : List ℕ) (at : ℕ) → IsFile file → IsForeign record_body file at → (opened file ≡ Is_foreign at) × (start_leaves file ≡ file)
+calls_foreign file at is foreign =
+    let read = foreign_is_read file at is foreign in
+    (opened_so file (Foreign at) read, foreign_stays file at read)
 
 abbrev judged : LogVersion → List Placed → Option ℕ → Opened
 judged ver ps None = Has ver ps
@@ -109,10 +105,10 @@ module _ (old new : Option Story) (wide : Bool) (list : List LogRec) (gate : ℕ
         moments = leaves_weaker (λ c. StandsFor c (bodies_of wide list)) (λ c. IsLog c rs) (Synced s) new (λ c stand. subst (λ l. IsLog c l) same (is_log c wide list each stand)) x.2;
       }
 
-  pub starts_broken : (i : ℕ) (e : Receipt) → IsFirstOutOfOrder list (Some i) → (s : Story) → old ≡ Some s → IsFile (seen s) → CallsForeign (seen s) (slice_index_or (placed wide list) i e).place × ReadsAs new (start_leaves (seen s))
+  pub starts_broken : (i : ℕ) (e : Receipt) → IsFirstOutOfOrder list (Some i) → (s : Story) → old ≡ Some s → IsFile (seen s) → (opened (seen s) ≡ Is_foreign (slice_index_or (placed wide list) i e).place) × ReadsAs new (start_leaves (seen s))
   starts_broken i e first s is file =
       let x = starts.2 s is in
-      (inl (opens_broken (seen s) wide list x.0 file.small each i e first), reads_on new (start_leaves (seen s)) (left_started (seen s) wide list x.0 file.small each new x.3))
+      (opens_broken (seen s) wide list x.0 file.small each i e first, reads_on new (start_leaves (seen s)) (left_started (seen s) wide list x.0 file.small each new x.3))
 
 -- ---- a start that is refused
 

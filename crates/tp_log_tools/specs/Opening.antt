@@ -9,14 +9,7 @@ use Rattle.tp_journal.specs.Records.{version_of, placed}
 use Rattle.tp_journal.specs.Told.{IsOn, LeavesOnly}
 use Rattle.tp_streams.specs.declared.stop.Stop.{Stop}
 use Rattle.tp_streams.specs.Stops.{IsFaultOf}
-use Rattle.tp_log_tools.specs.Readings.{HasNoText, as_placed}
-
--- ---- what is foreign
-
--- The file is no log in order, which shows first at this place. Where no text stands before the last eight bytes and these
--- tell their own place, it may be told in place of 4.
-abbrev pub CallsForeign : List ℕ → ℕ → Type 0
-CallsForeign file at = (opened file ≡ Is_foreign at) ⊎ ((opened file ≡ Is_foreign 4) × HasNoText file at)
+use Rattle.tp_log_tools.specs.Readings.{as_placed}
 
 -- the disk goes on with its story, and reads give these bytes
 abbrev pub ReadsAs : Option Story → List ℕ → Type 0
@@ -49,7 +42,7 @@ stopped_by StartFault.NoMemory = Stop.NoMemory
 abbrev pub StopsOpening : List ℕ → Option Story → Stop → Type 0
 StopsOpening file new (Stop.BadInput at why) = ⊥
 StopsOpening file new (Stop.Limit what at) = ⊥
-StopsOpening file new (Stop.Foreign at) = CallsForeign file at × ReadsAs new (started file)
+StopsOpening file new (Stop.Foreign at) = (opened file ≡ Is_foreign at) × ReadsAs new (started file)
 StopsOpening file new (Stop.ReadFault faults) = ⊥
 StopsOpening file new (Stop.WriteFault faults) = ⊥
 StopsOpening file new (Stop.DiskFault faults) = Unit {0}

@@ -1,12 +1,11 @@
 -- What the definitions read of a file, beside what a start finds of it.
-use Rattle.std.specs.Prelude.{ℕ, ◌≡◌, ◌⊎◌, ◌+◌, ◌<◌, ◌^◌, Bool, List, [], ◌∷◌, ◌++◌, length}
-use Rattle.std.specs.Int.{to_be_bytes, w64}
+use Rattle.std.specs.Prelude.{ℕ, ◌≡◌, ◌<◌, ◌^◌, Bool, List, [], ◌∷◌, length}
 use Rattle.tp_names.specs.Places.{AreBytes}
 use Rattle.tp_logrec.specs.declared.record.LogRec.{LogRec}
-use Rattle.tp_logrec.specs.LogText.{Foreign, Reads, Placed, read_log}
+use Rattle.tp_logrec.specs.LogText.{Reads, Placed, read_log}
 use Rattle.tp_model.specs.LogCommands.{started, moved, moved_by}
 use Rattle.tp_journal.specs.declared.receipts.Receipt.{Receipt}
-use Rattle.tp_journal.specs.Log.{head, StandsFor}
+use Rattle.tp_journal.specs.Log.{StandsFor}
 use Rattle.tp_journal.specs.Records.{bodies_of, version_of, placed}
 use Rattle.tp_journal.specs.Start.{started_bytes}
 
@@ -28,13 +27,3 @@ pub record IsReadAlike (file : List ℕ) (wide : Bool) (rs : List LogRec) (stand
   pub reads : read_log file ≡ Reads (version_of wide) listed gate
   pub places : moved (moved_by file) listed ≡ as_placed (placed wide rs)
   pub bytes : started_bytes file (bodies_of wide rs) stands ≡ started file
-
--- The last eight bytes tell their own place, so no text stands before them.
-pub record HasNoText (file : List ℕ) (at : ℕ) : Type 0 where
-  pub front : List ℕ
-  pub whole : file ≡ head 2 ++ front ++ to_be_bytes w64 (5 + length front)
-  pub place : at ≡ 5 + length front
-
--- the file is read as foreign, at this place
-abbrev pub IsReadForeign : List ℕ → ℕ → Type 0
-IsReadForeign file at = (read_log file ≡ Foreign at) ⊎ HasNoText file at

@@ -4,13 +4,14 @@ use Rattle.tp_outside.specs.Story.{Story}
 use Rattle.tp_logrec.specs.declared.record.LogVersion.{LogVersion}
 use Rattle.tp_logrec.specs.LogText.{Placed}
 use Rattle.tp_model.specs.declared.verdict.What.{What}
-use Rattle.tp_model.specs.LogCommands.{Has, opened, started, compacted, migrated}
+use Rattle.tp_model.specs.LogCommands.{Has, Is_foreign, opened, started, compacted, migrated}
 use Rattle.tp_journal.specs.declared.faults.CompactFault.{CompactFault}
 use Rattle.tp_journal.specs.declared.faults.ForceFault.{ForceFault}
 use Rattle.tp_journal.specs.Log.{most_bytes}
 use Rattle.tp_journal.specs.Told.{IsOn}
 use Rattle.tp_streams.specs.declared.stop.Stop.{Stop}
-use Rattle.tp_log_tools.specs.Opening.{CallsForeign, ReadsAs}
+use Rattle.tp_streams.specs.Stops.{IsFaultOf}
+use Rattle.tp_log_tools.specs.Opening.{ReadsAs}
 
 -- The file is a log in order, and the disk has its brief in the same version, to the byte.
 pub record Compacts (file : List ℕ) (left : Option Story) : Type 0 where
@@ -35,11 +36,6 @@ pub record IsTooLong (file : List ℕ) (left : Option Story) : Type 0 where
   pub long : most_bytes < length (migrated listed)
   pub disk : IsOn left (started file)
 
--- a fault of the disk carries the count of its faults, of which there is one
-pub record IsCounted (faults now : ℕ) : Type 0 where
-  pub some : 0 < faults
-  pub told : faults ≡ now
-
 -- ---- compact
 
 abbrev pub compacted_by : CompactFault → Stop
@@ -50,20 +46,21 @@ compacted_by CompactFault.NoMemory = Stop.NoMemory
 abbrev pub StopsCompact : List ℕ → Option Story → Stop → Type 0
 StopsCompact file left (Stop.BadInput at why) = ⊥
 StopsCompact file left (Stop.Limit what at) = ⊥
-StopsCompact file left (Stop.Foreign at) = CallsForeign file at × ReadsAs left (started file)
+StopsCompact file left (Stop.Foreign at) = (opened file ≡ Is_foreign at) × ReadsAs left (started file)
 StopsCompact file left (Stop.ReadFault faults) = ⊥
 StopsCompact file left (Stop.WriteFault faults) = ⊥
 StopsCompact file left (Stop.DiskFault faults) = Unit {0}
 StopsCompact file left Stop.NoMemory = Unit {0}
 
-abbrev pub IsCompactStop : ℕ → Stop → Type 0
-IsCompactStop now (Stop.BadInput at why) = ⊥
-IsCompactStop now (Stop.Limit what at) = ⊥
-IsCompactStop now (Stop.Foreign at) = Unit {0}
-IsCompactStop now (Stop.ReadFault faults) = ⊥
-IsCompactStop now (Stop.WriteFault faults) = ⊥
-IsCompactStop now (Stop.DiskFault faults) = IsCounted faults now
-IsCompactStop now Stop.NoMemory = Unit {0}
+-- by the disk's counts before and after
+abbrev pub IsCompactStop : ℕ → ℕ → Stop → Type 0
+IsCompactStop old now (Stop.BadInput at why) = ⊥
+IsCompactStop old now (Stop.Limit what at) = ⊥
+IsCompactStop old now (Stop.Foreign at) = Unit {0}
+IsCompactStop old now (Stop.ReadFault faults) = ⊥
+IsCompactStop old now (Stop.WriteFault faults) = ⊥
+IsCompactStop old now (Stop.DiskFault faults) = IsFaultOf faults old now
+IsCompactStop old now Stop.NoMemory = Unit {0}
 
 -- ---- migrate
 
@@ -76,17 +73,18 @@ migrated_by ForceFault.NoMemory = Stop.NoMemory
 abbrev pub StopsMigrate : List ℕ → Option Story → Stop → Type 0
 StopsMigrate file left (Stop.BadInput at why) = ⊥
 StopsMigrate file left (Stop.Limit what at) = IsTooLong file left
-StopsMigrate file left (Stop.Foreign at) = CallsForeign file at × ReadsAs left (started file)
+StopsMigrate file left (Stop.Foreign at) = (opened file ≡ Is_foreign at) × ReadsAs left (started file)
 StopsMigrate file left (Stop.ReadFault faults) = ⊥
 StopsMigrate file left (Stop.WriteFault faults) = ⊥
 StopsMigrate file left (Stop.DiskFault faults) = Unit {0}
 StopsMigrate file left Stop.NoMemory = Unit {0}
 
-abbrev pub IsMigrateStop : ℕ → Stop → Type 0
-IsMigrateStop now (Stop.BadInput at why) = ⊥
-IsMigrateStop now (Stop.Limit what at) = (what ≡ What.Log) × (at ≡ 0)
-IsMigrateStop now (Stop.Foreign at) = Unit {0}
-IsMigrateStop now (Stop.ReadFault faults) = ⊥
-IsMigrateStop now (Stop.WriteFault faults) = ⊥
-IsMigrateStop now (Stop.DiskFault faults) = IsCounted faults now
-IsMigrateStop now Stop.NoMemory = Unit {0}
+-- by the disk's counts before and after
+abbrev pub IsMigrateStop : ℕ → ℕ → Stop → Type 0
+IsMigrateStop old now (Stop.BadInput at why) = ⊥
+IsMigrateStop old now (Stop.Limit what at) = (what ≡ What.Log) × (at ≡ 0)
+IsMigrateStop old now (Stop.Foreign at) = Unit {0}
+IsMigrateStop old now (Stop.ReadFault faults) = ⊥
+IsMigrateStop old now (Stop.WriteFault faults) = ⊥
+IsMigrateStop old now (Stop.DiskFault faults) = IsFaultOf faults old now
+IsMigrateStop old now Stop.NoMemory = Unit {0}

@@ -3,12 +3,12 @@ use Rattle.std.specs.Prelude.{ℕ, ◌≡◌, ◌⊎◌, Option, Some, List, ◌
 use Rattle.tp_outside.specs.Story.{Story}
 use Rattle.tp_logrec.specs.declared.record.LogVersion.{LogVersion}
 use Rattle.tp_logrec.specs.LogText.{Placed}
-use Rattle.tp_model.specs.LogCommands.{Has, opened, started, placed_texts, findings}
+use Rattle.tp_model.specs.LogCommands.{Has, Is_foreign, opened, started, placed_texts, findings}
 use Rattle.tp_journal.specs.Told.{IsOn}
 use Rattle.tp_streams.specs.declared.stop.Stop.{Stop}
 use Rattle.tp_streams.specs.Stops.{IsFaultOf}
 use Rattle.tp_streams.specs.Written.{WritesPrefix}
-use Rattle.tp_log_tools.specs.Opening.{CallsForeign, ReadsAs}
+use Rattle.tp_log_tools.specs.Opening.{ReadsAs}
 
 abbrev pub finding_texts : List Placed → List ℕ
 finding_texts ps = placed_texts (findings ps)
@@ -38,7 +38,7 @@ pub record Checks (file : List ℕ) (n : ℕ) (old new : Option (List ℕ)) (lef
 abbrev pub StopsShow : List ℕ → (List Placed → List ℕ) → Option (List ℕ) → Option (List ℕ) → Option Story → Stop → Type 0
 StopsShow file texts old new left (Stop.BadInput at why) = ⊥
 StopsShow file texts old new left (Stop.Limit what at) = ⊥
-StopsShow file texts old new left (Stop.Foreign at) = CallsForeign file at × ReadsAs left (started file)
+StopsShow file texts old new left (Stop.Foreign at) = (opened file ≡ Is_foreign at) × ReadsAs left (started file)
 StopsShow file texts old new left (Stop.ReadFault faults) = ⊥
 StopsShow file texts old new left (Stop.WriteFault faults) = ShowsPart file texts old new left
 StopsShow file texts old new left (Stop.DiskFault faults) = new ≡ old

@@ -39,7 +39,7 @@ pub fn migrate<D: Disk>(alloc: Global, disk: D) -> (D, Result<(), Stop>)
     // A crash at any moment from the first sync on leaves a log of the records that stood, or of their brief.
     ensures moments { (s : Story) (rs : List LogRec) → D.told disk ≡ Some s → length (seen s) < 2 ^ 64 → IsLog (seen s) rs
         → HoldsThroughout (λ c. IsLog c rs ⊎ IsLog c (brief rs)) s (D.told result.0) }
-    ensures stops { IfErr result.1 (IsMigrateStop (D.fault_count result.0)) }
+    ensures stops { IfErr result.1 (IsMigrateStop (D.fault_count disk) (D.fault_count result.0)) }
 {
     let mut journal = match open_log(alloc, disk) {
         Ok(journal) => journal,

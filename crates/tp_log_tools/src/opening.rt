@@ -1,5 +1,5 @@
 //! A log that is started, with its records in order.
-ghost use Rattle.std.specs.Prelude.{◌≡◌, ◌<◌, ◌^◌, ℕ, List, length, true, Some, None, IfErr, IfOk};
+ghost use Rattle.std.specs.Prelude.{◌≡◌, ◌≤◌, ◌<◌, ◌^◌, ℕ, List, length, true, Some, None, IfErr, IfOk};
 ghost use Rattle.std.specs.List.{AllByRecursion};
 ghost use Rattle.tp_outside.specs.Story.{Story, seen};
 ghost use Rattle.tp_logrec.specs.declared.record.LogRec.{LogRec};
@@ -29,6 +29,7 @@ fn stop_of(fault: StartFault) -> Stop
 pub(crate) fn open_log<D: Disk>(alloc: Global, disk: D) -> Result<Journal<D>, (D, Stop)>
     ensures unshut { IfOk result (λ j. j.shut ≡ None) }
     ensures ordered { IfOk result (λ j. all_follow j.list ≡ true) }
+    ensures counted { IfOk result (λ j. D.fault_count disk ≤ D.fault_count j.disk) }
     ensures texts { IfOk result (λ j. AllByRecursion (HasText j.wide) j.list) }
     ensures opens { IfOk result (λ j. (s : Story) → D.told disk ≡ Some s → IsFile (seen s) → Opens (seen s) j.wide j.list (D.told j.disk)) }
     ensures moments { IfOk result (λ j. (s : Story) (rs : List LogRec) → D.told disk ≡ Some s → length (seen s) < 2 ^ 64 → IsLog (seen s) rs → LeavesLog s rs j.list (D.told j.disk)) }
