@@ -1,0 +1,5 @@
+pub mod Summed
+pub mod Clashes
+pub mod Tables
+pub mod Entering
+pub mod Judging

@@ -1,0 +1,123 @@
+//! The judge of the logs that were added.
+ghost use Rattle.std.specs.Prelude.{◌≡◌, ◌+◌, ◌^◌, ◌<◌, ◌≤◌, ◌++◌, List};
+ghost use Rattle.indexmap.specs.IndexMap.{index_map_len};
+ghost use Rattle.tp_logrec.specs.Order.{Life};
+ghost use Rattle.tp_audit.specs.Entries.{Entry, entries_at};
+ghost use Rattle.tp_audit.specs.Summaries.{summaries};
+ghost use Rattle.tp_audit.specs.Ledgers.{IsLedgerOf};
+
+use crate::fate::Fate;
+use crate::fates::fates_in;
+use crate::faults::AddFault;
+use crate::keys::SiteKey;
+use crate::ledger::Ledger;
+use crate::summary::{Summary, summaries};
+use crate::verdict::Verdict;
+use indexmap::IndexMap;
+use std::alloc::Global;
+use std::collections::HashMap;
+use std::marker::Model;
+use tp_journal::first_out_of_order;
+use tp_logrec::{LogRec, LogVersion, Owner};
+use tp_names::{Addr, NoMemory, SiteName};
+use tp_site::Recalled;
+
+/// The logs of several sites, each added once and whole. It keeps nothing of a key that is at its end but, once for each tree,
+/// the first nodes that ended by commit and by rollback.
+#[derive(Drop)]
+pub struct Audit {
+    sites: HashMap<SiteKey, Recalled>,
+    ledger: Ledger,
+}
+
+impl Model for Audit {
+    ghost use Rattle.tp_audit.specs.Audits.{Audit as AuditValue};
+
+    ghost Value = { AuditValue };
+
+    ghost view = { λ a. record { sites = a.sites.entries; ledger = a.ledger } };
+}
+
+impl Audit {
+    ghost use Rattle.std.specs.Prelude.{◌≡◌, ◌↔◌, ℕ, [], true, false, List, Err, IfOk, OnOk, OnErr};
+    ghost use Rattle.tp_logrec.specs.Order.{all_follow};
+    ghost use Rattle.tp_journal.specs.Disorder.{IsFirstOutOfOrder};
+    ghost use Rattle.std.specs.Prelude.{Some};
+    ghost use Rattle.tp_audit.specs.declared.faults.AddFault.{AddFault as TheFault};
+    ghost use Rattle.tp_audit.specs.Entries.{SiteLog};
+    ghost use Rattle.tp_audit.specs.Verdicts.{verdict};
+    ghost use Rattle.tp_audit.specs.Fates.{fates};
+    ghost use Rattle.tp_audit.specs.Audits.{IsAuditOf, is_added, with_log};
+
+    /// No logs.
+    pub fn new(alloc: Global) -> Audit
+        ensures { IsAuditOf [] result }
+    {
+        Audit {
+            sites: HashMap::new(alloc),
+            ledger: Ledger::new(alloc),
+        }
+    }
+
+    /// Adds the log of a site, oldest record first. A site whose log was added before is refused, and then a list of which a
+    /// record may not follow those before it, at the first one. Each time the logs are those that were added before.
+    pub fn add(&mut self, alloc: Global, site: &SiteName, list: &[LogRec]) -> Result<(), AddFault>
+        ensures ok { OnOk result ((logs : List SiteLog) → IsAuditOf logs self.old → IsAuditOf (with_log logs site.now list.now) self.new) }
+        ensures ordered { OnOk result (all_follow list.now ≡ true) }
+        ensures twice { (logs : List SiteLog) → IsAuditOf logs self.old → (result ≡ Err TheFault.Twice) ↔ (is_added logs site.now ≡ true) }
+        ensures disorder { (i : ℕ) → result ≡ Err (TheFault.Disorder i) → IsFirstOutOfOrder list.now (Some i) }
+        ensures err { OnErr result ((logs : List SiteLog) → IsAuditOf logs self.old → IsAuditOf logs self.new) }
+    {
+        if self.sites.contains_key(&SiteKey { name: *site }) {
+            return Err(AddFault::Twice);
+        }
+        if let Some(index) = first_out_of_order(alloc, list)? {
+            return Err(AddFault::Disorder { index });
+        }
+        self.take(alloc, site, list)?;
+        Ok(())
+    }
+
+    // Takes the log of a site that was not added. Without memory the logs are those that were added before.
+    fn take(&mut self, alloc: Global, site: &SiteName, list: &[LogRec]) -> Result<(), NoMemory>
+        ensures ok { OnOk result ((logs : List SiteLog) → is_added logs site.now ≡ false → IsAuditOf logs self.old → IsAuditOf (with_log logs site.now list.now) self.new) }
+        ensures err { OnErr result ((logs : List SiteLog) → IsAuditOf logs self.old → IsAuditOf logs self.new) }
+    {
+        let keys = summaries(alloc, list)?;
+        let recalled = Recalled::from_records(alloc, *site, LogVersion::Two, list)?;
+        self.ledger.reserve(keys.len())?;
+        self.sites.insert(SiteKey { name: *site }, recalled)?;
+        enter_all(&mut self.ledger, site, &keys);
+        Ok(())
+    }
+
+    /// Whether two nodes of one tree ended apart, but for such as took a decision of their own; and the first that clashes with
+    /// a later one, and the first later one with which it clashes. All records count, those before an End too.
+    pub fn verdict(&self) -> Verdict
+        ensures { (logs : List SiteLog) → IsAuditOf logs self.now → result ≡ verdict logs }
+    {
+        self.ledger.verdict()
+    }
+
+    /// What awaits each node that is in doubt, in the order of the logs and of the first records of the keys.
+    pub fn fates(&self, alloc: Global) -> Result<Vec<Fate>, NoMemory>
+        ensures { IfOk result (λ found. (logs : List SiteLog) → IsAuditOf logs self.now → found.items ≡ fates logs) }
+    {
+        fates_in(alloc, &self.sites, self.ledger.doubts())
+    }
+}
+
+// Enters the keys of a site's log.
+fn enter_all(ledger: &mut Ledger, site: &SiteName, keys: &IndexMap<Owner, Summary>)
+    requires room { index_map_len keys.now ≤ ledger.old.room }
+    requires numbers { ledger.old.count + index_map_len keys.now < 2 ^ 64 }
+    ensures { (es : List Entry) (ls : List Life) → IsLedgerOf es ledger.old → keys.now.entries ≡ summaries ls → IsLedgerOf (es ++ entries_at site.now ls) ledger.new }
+{
+    for (owner, summary) in keys.iter() {
+        let node = Addr {
+            site: *site,
+            node: owner.node,
+        };
+        ledger.enter(&node, &owner.key, summary);
+    }
+}

@@ -1,0 +1,18 @@
+//! A judge of logs: whether two nodes of one tree ended apart, and what awaits each node that is still in doubt, by the records
+//! that the logs of several sites have.
+#![tactic(auto)]
+
+mod audit;
+mod fate;
+mod fates;
+mod faults;
+mod firsts;
+mod keys;
+mod ledger;
+mod summary;
+mod verdict;
+
+pub use audit::Audit;
+pub use fate::{Fate, FateState};
+pub use faults::AddFault;
+pub use verdict::Verdict;
