@@ -3,3 +3,4 @@ pub mod Clashes
 pub mod Tables
 pub mod Entering
 pub mod Judging
+pub mod Runs

@@ -6,3 +6,4 @@ pub mod Keys
 pub mod Summaries
 pub mod Ledgers
 pub mod Audits
+pub mod Runs

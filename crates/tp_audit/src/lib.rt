@@ -8,6 +8,7 @@ mod fates;
 mod faults;
 mod firsts;
 mod keys;
+pub mod laws;
 mod ledger;
 mod summary;
 mod verdict;

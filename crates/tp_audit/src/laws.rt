@@ -1,0 +1,21 @@
+//! What the logs of every run tell a judge. The contract is the law; the body names the laws on which it stands.
+ghost use Rattle.std.specs.Prelude.{◌≡◌, List};
+ghost use Rattle.tp_model.specs.Happenings.{Happening, run};
+ghost use Rattle.tp_audit.specs.declared.verdict.Verdict.{Verdict};
+ghost use Rattle.tp_audit.specs.Entries.{SiteLog, entries};
+ghost use Rattle.tp_audit.specs.Verdicts.{outcome_of, verdict_by, verdict};
+ghost use Rattle.tp_audit.specs.Runs.{logs_of, AreOn};
+
+use tp_laws::{a_sites_log_tells_its_nodes, logs_agree};
+
+/// In every run, with every fault that a world knows, no two nodes ended apart by the records that stand on the disks of the
+/// sites: the verdict is yes over the logs of all sites. It is yes too over the logs of some of them, over parts of the logs,
+/// as where one was copied before the other, and even without the exception for nodes that took a decision of their own.
+pub fn audit_of_run()
+    ensures all { (es : List Happening) → verdict (logs_of (run es)) ≡ Verdict.Yes }
+    ensures parts { (es : List Happening) (logs : List SiteLog) → AreOn (run es) logs → verdict logs ≡ Verdict.Yes }
+    ensures decisions { (es : List Happening) (logs : List SiteLog) → AreOn (run es) logs → verdict_by outcome_of (entries logs) ≡ Verdict.Yes }
+{
+    logs_agree();
+    a_sites_log_tells_its_nodes();
+}
