@@ -1,5 +1,5 @@
 -- A site that has started again on its disk, beside the site of the definitions that starts again on its log.
-use Rattle.std.proofs.Common.{◌≡◌, ◌≤◌, ◌<◌, ◌+◌, ℕ, suc, Bool, true, false, refl, ap, sym, ◌∙◌, subst, arith, nat_lt, Option, Some, None, List, [], ◌∷◌, length}
+use Rattle.std.proofs.Common.{◌≡◌, ◌≤◌, ◌<◌, ◌+◌, ◌++◌, ℕ, suc, Bool, true, false, refl, ap, sym, ◌∙◌, subst, arith, nat_lt, Option, Some, None, List, [], ◌∷◌, length}
 use Rattle.std.proofs.lemmas.Bool.Decides.{nat_tests}
 use Rattle.std.specs.Option.{option_map}
 use Rattle.std.proofs.lemmas.List.{length-reverse}
@@ -12,6 +12,7 @@ use Rattle.tp_outside.specs.declared.mem_disk.MemDisk.{MemDisk}
 use Rattle.tp_journal.specs.declared.faults.ForceFault.TheVariants as force
 use Rattle.tp_journal.specs.Journals.{Kept}
 use Rattle.tp_journal.specs.Records.{first_place, version_of}
+use Rattle.tp_model.specs.Disk.{framed, records_before}
 use Rattle.tp_model.specs.Events.{started}
 use Rattle.tp_model.specs.Happenings.{booted}
 use Rattle.tp_model.specs.History.{digest}
@@ -62,6 +63,7 @@ log_on z x j is again = record {
   gate = ap (λ (n : ℕ). n + 1) again.gate ∙ is.log.gate;
   unshut = again.unshut;
   room = is.log.room;
+  bytes = again.bytes (1 ∷ framed (7 ∷ 2 ∷ []) ++ records_before z.disk.records (z.disk.gate ∷ z.disk.behind)) is.log.bytes;
 }
 
 opening_made : (a b : List ℕ) (v u : LogVersion) (rs qs : List LogRec) → a ≡ b → v ≡ u → rs ≡ qs → ◌≡◌ {A = Opening} (record { site = a; version = v; records = rs }) (record { site = b; version = u; records = qs })
@@ -89,7 +91,7 @@ module _ (w : World) (z : Site) (x y : SiteSlot) (is : IsSite z x) (next : Start
   stored = subst (λ (n : ℕ). IsForced standing h.journal (Some (LogRec.Boot n)) y.site.keeper) boot_next h.started.forced
 
   log_next : IsLogged (booted z) y
-  log_next = let l = log_forced z (slot_on x h.journal) y (LogRec.Boot (suc z.boot)) (log_on z x h.journal is h.again) stored in record { list = l.list; wide = l.wide; gate = l.gate; unshut = l.unshut; room = l.room }
+  log_next = let l = log_forced z (slot_on x h.journal) y (LogRec.Boot (suc z.boot)) (log_on z x h.journal is h.again) stored in record { list = l.list; wide = l.wide; gate = l.gate; unshut = l.unshut; room = l.room; bytes = l.bytes }
 
   pub site_next : IsSite (booted z) y
   site_next = record {

@@ -7,6 +7,11 @@ use Rattle.tp_names.proofs.Sames.{name_same}
 use Rattle.tp_model.specs.declared.out_line.LogWords.{LogWords}
 use Rattle.tp_model.specs.declared.out_line.OutLine.{OutLine}
 use Rattle.tp_model.specs.declared.verdict.What.{What}
+use Rattle.tp_outside.specs.declared.mem_disk.MemDisk.{MemDisk}
+use Rattle.tp_outside.specs.MemDisk.{recorded}
+use Rattle.tp_journal.specs.Journals.{Kept}
+use Rattle.tp_journal.specs.Told.{IsOn}
+use Rattle.tp_model.specs.Disk.{disk_bytes}
 use Rattle.tp_model.specs.Happenings.{Turn, still, booted, restarted, restarted_at, crash_turn}
 use Rattle.tp_model.specs.Lines.{within_limits}
 use Rattle.tp_model.specs.Parts.{Digest}
@@ -175,6 +180,7 @@ module _ (w : World) (s : List ℕ) (old : CodeWorld) (x : SiteSlot) (stand : Mi
         gate = ap (λ j. j.gate + 1) to.keeper ∙ again.log.gate;
         unshut = ap (λ j. j.shut) to.keeper ∙ again.log.unshut;
         room = again.log.room;
+        bytes = subst (λ (j : Kept MemDisk). IsOn (Some (recorded j.disk).story) (disk_bytes (booted at.site).disk)) (sym to.keeper) again.log.bytes;
       };
     }
 

@@ -14,7 +14,8 @@ use Rattle.tp_site.specs.Site.{IsForced, IsStarted, told_records, opening_of}
 use Rattle.tp_world.specs.declared.site_slot.SiteSlot.{SiteSlot}
 use Rattle.tp_world.specs.Sites.{IsLogged}
 use Rattle.tp_world.specs.Slots.{standing, IsBlank, IsFresh}
-use Rattle.tp_world.proofs.Logs.{recs_of, stored_list, stored_gate}
+use Rattle.tp_model.specs.Disk.{fresh_disk}
+use Rattle.tp_world.proofs.Logs.{recs_of, stored_list, stored_gate, bytes_forced}
 
 abbrev first_opening : List ℕ → Opening
 first_opening name = record { site = name; version = LogVersion.Two; records = [] }
@@ -37,6 +38,7 @@ first_log j name x blank (receipt, stores) = record {
   gate = stored_gate j x.site.keeper (LogRec.Boot 1) receipt stores ∙ boot_size j.gate j.wide blank.gate;
   unshut = stores.open_after;
   room = refl;
+  bytes = bytes_forced fresh_disk j x.site.keeper (LogRec.Boot 1) receipt blank.wide (ap (λ (n : ℕ). n + 1) blank.gate) stores blank.bytes;
 }
 
 pub fresh_started : (j : Kept MemDisk) (name : List ℕ) (x : SiteSlot) → IsBlank j → IsStarted standing j name x.site → IsFresh name x

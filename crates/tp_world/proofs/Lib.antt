@@ -6,6 +6,7 @@ mod SummaryTold
 mod Tellings
 mod SiteNames
 mod SiteLists
+mod DiskBytes
 mod Logs
 mod Fresh
 mod Entries
@@ -33,3 +34,4 @@ mod Stopping
 mod Reopened
 mod Booting
 mod Crashing
+mod Imaged

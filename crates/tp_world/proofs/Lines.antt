@@ -32,7 +32,7 @@ members_same k w (Line.Purge n) h = refl
 members_same k w (Line.Crash s) h = refl
 members_same k w (Line.CrashIn s j x l) h = absurd cc
 members_same k w (Line.Show n) h = refl
-members_same k w (Line.Image s) h = absurd cc
+members_same k w (Line.Image s) h = refl
 members_same k w (Line.Auto n j) h = absurd cc
 members_same k w (Line.Leave j) h = absurd cc
 

@@ -3,6 +3,7 @@ use Rattle.std.proofs.Common.{◌≡◌, inl, inr, ◌⊎◌, ◌<◌, ◌^◌, 
 use Rattle.std.specs.List.{AllByRecursion}
 use Rattle.tp_logrec.specs.declared.record.LogRec.{LogRec}
 use Rattle.tp_outside.specs.declared.mem_disk.MemDisk.{MemDisk}
+use Rattle.tp_outside.specs.MemDisk.{recorded}
 use Rattle.tp_outside.specs.Story.{Story, Made, seen}
 use Rattle.tp_logrec.specs.LogText.{version_mark}
 use Rattle.tp_journal.specs.Foreign.{ArePassed, IsForeign}
@@ -11,7 +12,7 @@ use Rattle.tp_journal.specs.Log.{StandsFor, StandsInFront, place_behind}
 use Rattle.tp_journal.specs.Records.{HasText, text, texts, bodies_of, record_body, is_some, wide_of, recs_of}
 use Rattle.tp_journal.specs.Start.{Starts}
 use Rattle.tp_journal.specs.Started.{IsStarted}
-use Rattle.tp_journal.specs.Told.{RestsAt}
+use Rattle.tp_journal.specs.Told.{IsOn, RestsAt}
 use Rattle.tp_journal.proofs.Exclusion.{stands_for_nothing}
 use Rattle.tp_journal.proofs.RecordBodies.{wide_is, recs_is, text_is_read}
 use Rattle.tp_journal.proofs.Unique.{one_meaning}
@@ -22,7 +23,7 @@ use Rattle.tp_site.specs.Site.{told_records, Starts as Starts_at}
 use Rattle.tp_site.specs.declared.faults.StartFault.{StartFault as SiteStart}
 use Rattle.tp_world.specs.Slots.{standing}
 use Rattle.tp_world.specs.Restarts.{IsReopened}
-use Rattle.tp_world.proofs.Logs.{recs_of as logged_recs}
+use Rattle.tp_world.proofs.Logs.{recs_of as logged_recs, kept_front}
 
 -- the bytes of a journal that is not shut stand for its bodies
 pub stood : (s : Story) (gate : ℕ) (bodies : List (List ℕ)) (shut : Option ℕ) → shut ≡ None → IsStarted (Some s) gate bodies shut → StandsFor (seen s) bodies
@@ -33,17 +34,20 @@ stood s gate bodies None unshut is = go is.kept
     go (inr rests) = inl (subst (λ (f : List ℕ). StandsInFront f bodies) (sym rests.on.1) rests.stands)
 stood s gate bodies (Some n) unshut is = absurd (cc (unshut))
 
-pub reopened : (old j : Kept MemDisk) (s : Story) (bytes : List ℕ) (shut : Option ℕ) (new : Option Story) → shut ≡ None → IsStarted (Some s) old.gate (bodies_in old) shut → AllByRecursion (HasText old.wide) old.list
-    → bytes ≡ seen s → length bytes < 2 ^ 64 → Starts (Some (Made bytes)) new j.gate (bodies_in j) × (j.shut ≡ None) → AllByRecursion (HasText j.wide) j.list → IsReopened old j
-reopened old j s bytes shut new unshut is texts same small started again =
+pub reopened : (old j : Kept MemDisk) (bytes : List ℕ) (shut : Option ℕ) → shut ≡ None → IsStarted (Some (recorded old.disk).story) old.gate (bodies_in old) shut → AllByRecursion (HasText old.wide) old.list
+    → bytes ≡ seen (recorded old.disk).story → length bytes < 2 ^ 64 → Starts (Some (Made bytes)) (Some (recorded j.disk).story) j.gate (bodies_in j) × (j.shut ≡ None) → AllByRecursion (HasText j.wide) j.list → IsReopened old j
+reopened old j bytes shut unshut is texts same small started again =
+    let s : Story = (recorded old.disk).story in
+    let at = started.0.2 (Made bytes) refl in
     let before : StandsFor bytes (bodies_in old) = subst (λ (f : List ℕ). StandsFor f (bodies_in old)) (sym same) (stood s old.gate (bodies_in old) shut unshut is) in
-    let after : StandsFor bytes (bodies_in j) = (started.0.2 (Made bytes) refl).0 in
+    let after : StandsFor bytes (bodies_in j) = at.0 in
     let one : bodies_in j ≡ bodies_in old = one_meaning bytes (bodies_in j) (bodies_in old) small after before in
     record {
       list = sym (recs_is j.wide j.list again) ∙ ap recs_of one ∙ recs_is old.wide old.list texts;
       wide = sym (wide_is j.wide j.list) ∙ ap wide_of one ∙ wide_is old.wide old.list;
       gate = started.0.3 ∙ ap place_behind one ∙ sym is.place;
       unshut = started.1;
+      bytes = λ rest on. subst (λ (f : List ℕ). IsOn (Some (recorded j.disk).story) f) (kept_front bytes (bodies_in j) at.0 rest (same ∙ on.1) ∙ same ∙ on.1) at.3;
     }
 
 -- ---- no byte is foreign

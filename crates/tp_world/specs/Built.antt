@@ -1,4 +1,4 @@
--- The lines that a world plays. Stops in an event, images and members are not built yet.
+-- The lines that a world plays. Stops in an event and members are not built yet.
 use Rattle.std.specs.Prelude.{Bool, true, false}
 use Rattle.tp_model.specs.declared.line.Line.{Line}
 
@@ -17,7 +17,7 @@ is_built (Line.Purge n) = true
 is_built (Line.Crash s) = true
 is_built (Line.CrashIn s k x l) = false
 is_built (Line.Show n) = true
-is_built (Line.Image s) = false
+is_built (Line.Image s) = true
 is_built (Line.Auto n k) = false
 is_built (Line.Leave k) = false
 

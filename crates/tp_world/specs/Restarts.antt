@@ -1,10 +1,13 @@
 -- A site stops, and starts again on its own disk; its nodes are declared again, one after the other.
-use Rattle.std.specs.Prelude.{ℕ, zero, suc, ◌≡◌, ◌<◌, true, false, None, List, [], ◌∷◌, Result, Ok, Err}
+use Rattle.std.specs.Prelude.{ℕ, zero, suc, ◌≡◌, ◌<◌, true, false, Some, None, List, [], ◌∷◌, ◌++◌, Result, Ok, Err}
 use Rattle.tp_names.specs.Same.{is_name}
 use Rattle.tp_logrec.specs.declared.record.LogRec.{LogRec}
 use Rattle.tp_logrec.specs.Order.{boots, last_number, all_follow}
 use Rattle.tp_outside.specs.declared.mem_disk.MemDisk.{MemDisk}
 use Rattle.tp_journal.specs.declared.faults.ForceFault.TheVariants as force
+use Rattle.tp_outside.specs.MemDisk.{recorded}
+use Rattle.tp_journal.specs.Log.{head}
+use Rattle.tp_journal.specs.Told.{IsOn}
 use Rattle.tp_journal.specs.Journals.{Kept}
 use Rattle.tp_model.specs.declared.verdict.What.{What}
 use Rattle.tp_model.specs.Happenings.{restarted}
@@ -22,12 +25,13 @@ use Rattle.tp_world.specs.declared.site_slot.SiteSlot.{SiteSlot}
 
 -- ---- the start
 
--- a journal that has the records of the other
+-- a journal that has the records of the other, and its bytes
 pub record IsReopened (old new : Kept MemDisk) : Type 0 where
   pub list : new.list ≡ old.list
   pub wide : new.wide ≡ old.wide
   pub gate : new.gate ≡ old.gate
   pub unshut : new.shut ≡ None
+  pub bytes : (rest : List ℕ) → IsOn (Some (recorded old.disk).story) (head 1 ++ rest) → IsOn (Some (recorded new.disk).story) (head 1 ++ rest)
 
 -- its bytes are foreign to no journal: all that is wanted is memory
 abbrev pub Reopens : Kept MemDisk → Result (Kept MemDisk) WorldFault → Type 0

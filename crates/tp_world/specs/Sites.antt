@@ -3,6 +3,9 @@
 use Rattle.std.specs.Prelude.{ℕ, suc, ◌≡◌, ◌+◌, nat_lt, true, false, Option, Some, None, List, [], ◌∷◌, reverse, if◌then◌else◌}
 use Rattle.tp_logrec.specs.declared.record.LogVersion.{LogVersion}
 use Rattle.tp_names.specs.Same.{is_name}
+use Rattle.tp_outside.specs.MemDisk.{recorded}
+use Rattle.tp_journal.specs.Told.{IsOn}
+use Rattle.tp_model.specs.Disk.{disk_bytes}
 use Rattle.tp_model.specs.Events.{started}
 use Rattle.tp_model.specs.History.{digest}
 use Rattle.tp_model.specs.Parts.{Digest}
@@ -21,6 +24,8 @@ pub record IsLogged (s : Site) (x : SiteSlot) : Type 0 where
   pub gate : x.site.keeper.gate + 1 ≡ log_size s.disk.records
   pub unshut : x.site.keeper.shut ≡ None
   pub room : nat_lt most_bytes (log_size s.disk.records) ≡ false
+  -- its disk has the bytes of theirs, all of them
+  pub bytes : IsOn (Some (recorded x.site.keeper.disk).story) (disk_bytes s.disk)
 
 -- ---- the site
 

@@ -9,6 +9,7 @@ use Rattle.tp_journal.specs.Journals.{Kept, standing_of}
 use Rattle.tp_journal.specs.Keeping.{Standing}
 use Rattle.tp_journal.specs.Log.{head, blocks}
 use Rattle.tp_journal.specs.Records.{bodies_of}
+use Rattle.tp_journal.specs.Told.{IsOn}
 use Rattle.tp_model.specs.declared.out_line.LogWords.{LogWords}
 use Rattle.tp_model.specs.declared.verdict.What.{What}
 use Rattle.tp_model.specs.Happenings.{log_shown, new_site}
@@ -41,6 +42,7 @@ pub record IsBlank (j : Kept MemDisk) : Type 0 where
   pub wide : j.wide ≡ true
   pub gate : j.gate ≡ 10
   pub unshut : j.shut ≡ None
+  pub bytes : IsOn (Some (recorded j.disk).story) blank_file
 
 -- what is shown of the record after the first so many, where there is one
 abbrev pub shown_behind : List LogRec → ℕ → Option LogWords

@@ -1,7 +1,7 @@
 //! A world of nodes under a written schedule: sites with their logs in memory, frames between nodes, and trees.
 //!
 //! What a line does stands with the definitions of the service. No history is kept here: of each node and tree the few
-//! facts are kept that the closing lines ask. Stops in an event, images and members are not built yet.
+//! facts are kept that the closing lines ask. Stops in an event and members are not built yet.
 #![tactic(auto)]
 
 mod closing;

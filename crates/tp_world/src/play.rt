@@ -6,7 +6,7 @@ ghost use Rattle.tp_model.specs.declared.line.Action.{Action};
 ghost use Rattle.tp_model.specs.Happenings.{Crash, happens, task_at};
 ghost use Rattle.tp_laws.specs.Expansion.{IsOfRun};
 ghost use Rattle.tp_model.specs.Legal.{IsUnder};
-ghost use Rattle.tp_model.specs.Lines.{if_named, is_peer, is_frame, action_line, node_limit, node_line, skip_line, drain_line, show_line, within_limits};
+ghost use Rattle.tp_model.specs.Lines.{if_named, is_peer, is_frame, action_line, node_limit, node_line, skip_line, drain_line, show_line, image_line, within_limits};
 ghost use Rattle.tp_site.specs.NodeEvent.{event_of};
 ghost use Rattle.tp_world.specs.Placing.{boot_lines};
 ghost use Rattle.tp_world.specs.Declares.{superior_at, has_superior, HasCome};
@@ -20,7 +20,7 @@ use crate::sites::{declare_at, state_at};
 use crate::world::World;
 use std::alloc::Global;
 use tp_model::{LineRequest, LogWords, OutLine, OutLines, What};
-use tp_names::{Addr, NoMemory, SiteName};
+use tp_names::{Addr, NoMemory, Octets, SiteName};
 use tp_site::NodeEvent;
 
 /// The most sites and nodes.
@@ -285,6 +285,26 @@ impl World {
         match self.site(site) {
             None => Err(WorldFault::Name),
             Some(place) => self.crash(alloc, place, lines),
+        }
+    }
+
+    /// All bytes of a site's disk are shown.
+    pub(crate) fn image_line(
+        &self,
+        alloc: Global,
+        site: &SiteName,
+        lines: &mut OutLines,
+    ) -> Result<(), WorldFault>
+        ensures { (w : WorldValue) → Mirrors w self.now → Gives (image_line w site.now) lines.old result lines.new self.now }
+    {
+        match self.site(site) {
+            None => Err(WorldFault::Name),
+            Some(place) => {
+                let bytes = Octets::from_slice(alloc, self.sites[place].bytes())?;
+                let site = *site;
+                lines.push(alloc, OutLine::Image { site, bytes })?;
+                Ok(())
+            }
         }
     }
 

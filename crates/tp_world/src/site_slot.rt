@@ -1,6 +1,7 @@
 //! A site of a world, on a log in memory.
 ghost use Rattle.std.specs.Prelude.{◌≡◌, true, IfOk, OnOk, Some, None};
 ghost use Rattle.tp_outside.specs.MemDisk.{recorded};
+ghost use Rattle.tp_outside.specs.Story.{seen};
 ghost use Rattle.tp_journal.specs.Told.{IsOn};
 ghost use Rattle.std.specs.Option.{option_map};
 ghost use Rattle.tp_model.specs.History.{state};
@@ -161,6 +162,13 @@ impl SiteSlot {
         ensures { state_of result ≡ state (known_at self.now.site node) }
     {
         self.site.shown(node)
+    }
+
+    /// All bytes of its disk.
+    pub(crate) fn bytes(&self) -> &[u8]
+        ensures { result.now ≡ seen (recorded self.now.site.keeper.disk).story }
+    {
+        self.site.log().lent().bytes()
     }
 
     /// The records of its log.

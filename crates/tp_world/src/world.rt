@@ -35,7 +35,7 @@ fn is_built(line: &Line) -> bool
 {
     !matches!(
         line,
-        Line::CrashIn { .. } | Line::Image { .. } | Line::Auto { .. } | Line::Leave { .. }
+        Line::CrashIn { .. } | Line::Auto { .. } | Line::Leave { .. }
     )
 }
 
@@ -119,6 +119,7 @@ impl World {
             Line::Drain => self.drain_line(alloc, lines),
             Line::Show { node } => self.show_line(alloc, *node, lines),
             Line::Crash { site } => self.crash_line(alloc, site, lines),
+            Line::Image { site } => self.image_line(alloc, site, lines),
             _ => self.event_line(alloc, line, lines),
         }
     }

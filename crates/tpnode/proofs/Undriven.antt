@@ -6,11 +6,12 @@ use Rattle.tp_model.specs.declared.line.Action.{Action}
 use Rattle.tp_model.specs.declared.line.Line.{Line}
 use Rattle.tp_model.specs.declared.out_line.OutLine.{OutLine}
 use Rattle.tp_model.specs.declared.verdict.What.{What}
+use Rattle.tp_model.specs.Disk.{disk_bytes}
 use Rattle.tp_model.specs.Parts.{Entry, Answer}
 use Rattle.tp_model.specs.History.{digest, answer, state}
 use Rattle.tp_model.specs.World.{World, Node, Site, addr_at, find_node, find_site, oldest_between, oldest_of_all}
 use Rattle.tp_model.specs.Happenings.{Declare, Does, Mark, Task, Turn, still, happens, task_of, after_lines, action_lines, action_turn, event_turn, entry_turn, entered, logged, declared_at, declare_turn, crash_turn}
-use Rattle.tp_model.specs.Lines.{Fault, Name, Over, state_line, within_limits, is_full, if_named, is_named, resolved, marked, marked_by, shows, action_line, node_line, node_limit, skip_line, then_result, drain_line, show_line, line}
+use Rattle.tp_model.specs.Lines.{Fault, Name, Over, state_line, within_limits, is_full, if_named, is_named, resolved, marked, marked_by, shows, action_line, node_line, node_limit, skip_line, then_result, drain_line, show_line, image_line, line}
 use Rattle.tp_world.specs.Built.{is_built}
 
 abbrev Free : World → Type 0
@@ -138,6 +139,13 @@ free_show_line w n f = go (find_node w.nodes n)
     go None = tt
     go (Some x) = f
 
+free_image_line : (w : World) (s : List ℕ) → Free w → LeavesFree (image_line w s)
+free_image_line w s f = go (find_site w.sites s)
+  where
+    go : (o : Option Site) → LeavesFree (elim o as (λ _. Result Turn Fault) [ None ↦ Err Name | Some x ↦ Ok (shows w (OutLine.Image s (disk_bytes x.disk) ∷ [])) ])
+    go None = tt
+    go (Some x) = f
+
 free_line : (w : World) (l : Line) → is_built l ≡ true → Free w → LeavesFree (line 3 w l)
 free_line w (Line.Node n s under) b f = free_node_line w n s under f
 free_line w (Line.Do n q) b f = free_action_line w (Action.Do n q) f
@@ -153,7 +161,7 @@ free_line w (Line.Purge n) b f = free_action_line w (Action.Purge n) f
 free_line w (Line.Crash s) b f = free_named _ _ (free_within (crash_turn w s) (crash_free w s f))
 free_line w (Line.CrashIn s k x l) b f = absurd (grind (arith, b))
 free_line w (Line.Show n) b f = free_show_line w n f
-free_line w (Line.Image s) b f = absurd (grind (arith, b))
+free_line w (Line.Image s) b f = free_image_line w s f
 free_line w (Line.Auto n k) b f = absurd (grind (arith, b))
 free_line w (Line.Leave k) b f = absurd (grind (arith, b))
 

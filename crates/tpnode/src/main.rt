@@ -1,7 +1,7 @@
 //! `tpnode`: replays a schedule over a tree of commitment nodes, and writes the exact transcript; makes schedules, and
 //! fresh logs; shows and checks a log.
 //!
-//! Of a schedule, stops in an event, images and members are not built yet: a line that asks for one ends the run and says
+//! Of a schedule, stops in an event and members are not built yet: a line that asks for one ends the run and says
 //! `unbuilt`.
 #![tactic(auto)]
 

@@ -21,6 +21,6 @@ echo_built (Line.Purge n) h = refl
 echo_built (Line.Crash s) h = refl
 echo_built (Line.CrashIn s j x l) h = absurd cc
 echo_built (Line.Show n) h = refl
-echo_built (Line.Image s) h = absurd cc
+echo_built (Line.Image s) h = refl
 echo_built (Line.Auto n j) h = absurd cc
 echo_built (Line.Leave j) h = absurd cc

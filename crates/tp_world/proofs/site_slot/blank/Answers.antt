@@ -1,7 +1,6 @@
-use Rattle.std.proofs.Common.{Some}
 use Rattle.tp_outside.specs.MemDisk.{recorded}
 use Rattle.tp_world.proofs.Logs.{blank_started}
 use Rattle.tp_world.proofs.site_slot.blank.Goals as goal
 
 pub returns-in-Ok : goal.returns-in-Ok
-returns-in-Ok c = blank_started c.in-Ok.journal (recorded c.args.disk).story (Some (recorded c.in-Ok.journal.disk).story) c.requires ((c.in-Ok.ensures {u = tt}).started)
+returns-in-Ok c = blank_started c.in-Ok.journal (recorded c.args.disk).story c.requires ((c.in-Ok.ensures {u = tt}).started)

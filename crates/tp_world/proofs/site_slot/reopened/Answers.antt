@@ -16,7 +16,7 @@ returns-in-Ok c = λ unshut wide.
     let bytes = c.in_ok-from_slice.field-0 in
     let made = ap (λ r. r.story) c.from-disk.ensures in
     let same = (c.in_ok-from_slice.ensures {u = tt}) ∙ c.bytes-bytes.ensures ∙ ap (λ d. seen (recorded d).story) c.lent.ensures in
-    reopened old j (recorded old.disk).story bytes c.shut-shut.result (Some (recorded j.disk).story) (c.shut-shut.ensures.is ∙ unshut) c.shut-shut.ensures.started c.list-records.ensures.texts same (search rules)
+    reopened old j bytes c.shut-shut.result (c.shut-shut.ensures.is ∙ unshut) c.shut-shut.ensures.started c.list-records.ensures.texts same (search rules)
     (subst (λ (s : Story). Starts (Some s) (Some (recorded j.disk).story) j.gate (bodies_in j) × (j.shut ≡ None)) made (c.in-Ok.ensures {u = tt}).started) (c.in-Ok.ensures {u = tt}).texts
 
 pub returns-in-Err-default-Foreign : goal.returns-in-Err-default-Foreign
