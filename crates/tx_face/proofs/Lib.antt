@@ -1,0 +1,4 @@
+pub mod Told
+pub mod Histories
+pub mod Going
+pub mod Meaning

@@ -1,0 +1,201 @@
+//! The calls of demarcation, over a site.
+ghost use Rattle.std.specs.Prelude.{◌≡◌, ◌++◌, ◌∷◌, List, [], Some, None, IfOk, IfErr};
+ghost use Rattle.tp_records.specs.declared.body.Event.{Event as Given};
+ghost use Rattle.tp_records.specs.declared.request.Request.{Request as Asks};
+ghost use Rattle.tp_model.specs.Parts.{Entry};
+ghost use Rattle.tp_model.specs.History.{digest};
+ghost use Rattle.tp_model.specs.NodeRun.{Opening, origin_at, asked};
+ghost use Rattle.tp_model.specs.Happenings.{Happening, run};
+ghost use Rattle.tp_model.specs.Promises.{IsIn};
+ghost use Rattle.tp_model.specs.World.{Node};
+ghost use Rattle.tp_site.specs.Events.{PlaysAsked, opening_at, IsAt, all_nodes, history_at};
+ghost use Rattle.tx_face.specs.declared.code.Code.{Code as CodeValue};
+ghost use Rattle.tx_face.specs.Stands.{stand, takes_begin, takes_commit, takes_rollback, takes_finish};
+ghost use Rattle.tx_face.specs.Codes.{code_of};
+ghost use Rattle.tx_face.specs.Face.{stand_at, is_asked_by_call, is_fed, Plays, Calls, IsMade, IsFaceAt, Goes, GoesOn, MeansAll};
+
+use crate::code::Code;
+use crate::fault::FaceFault;
+use crate::stand::Stand;
+use std::alloc::Global;
+use std::marker::Model;
+use tp_journal::Keeper;
+use tp_records::{Event, Outputs, Request};
+use tp_site::{Site, SiteFault};
+
+/// A site, and one node of it at which a root's program begins and ends its transactions. Contracts see the site, the node's number,
+/// and the code of the last completion.
+#[derive(Drop)]
+pub struct Face<K: Keeper> {
+    site: Site<K>,
+    node: u16,
+    code: Option<Code>,
+}
+
+impl<K: Keeper> Model for Face<K> {
+    ghost use Rattle.tx_face.specs.Face.{Face as FaceValue};
+
+    ghost Value = { FaceValue K };
+
+    ghost view = { λ s. record { site = s.site; node = s.node; code = s.code } };
+}
+
+// The event is one that no call of the program at that node asks for.
+fn is_fed(event: &Event, node: u16) -> bool
+    ensures { result ≡ is_fed node event.now }
+{
+    match event {
+        Event::Do { node: at, request } => !(*at == node && is_asked_by_call(request)),
+        _ => true,
+    }
+}
+
+// A root's program asks for it by a call; or never, since it does not leave its own tree.
+fn is_asked_by_call(request: &Request) -> bool
+    ensures { result ≡ is_asked_by_call request.now }
+{
+    matches!(
+        request,
+        Request::BeginTransaction { .. }
+            | Request::Commit
+            | Request::Done
+            | Request::Rollback
+            | Request::Unchanged
+    )
+}
+
+impl<K: Keeper> Face<K> {
+    /// A face of the node of that number, which is declared as one without a superior: the site answers that event, and its faults
+    /// are those. Nothing was told yet.
+    pub fn new(alloc: Global, site: Site<K>, node: u16) -> Result<Face<K>, (Site<K>, SiteFault)>
+        ensures made { IsMade K.standing site node result }
+        ensures at { IfOk result (λ face. (o : Opening) (gs : List Given) → IsAt K.standing all_nodes o gs site → IsFaceAt K.standing o (gs ++ Given.Declare node None ∷ []) (history_at o gs node) face) }
+    {
+        let mut face = Face {
+            site,
+            node,
+            code: None,
+        };
+        let event = Event::Declare {
+            node,
+            superior: None,
+        };
+        match face.event(alloc, &event) {
+            Ok(_) => Ok(face),
+            Err(fault) => Err((face.site, fault)),
+        }
+    }
+
+    // That event of the site.
+    fn event(&mut self, alloc: Global, event: &Event) -> Result<Outputs, SiteFault>
+        ensures plays { Plays K.standing self.old event.now result self.new }
+        ensures goes { (o : Opening) (gs : List Given) (past : List Entry) → IsFaceAt K.standing o gs past self.old → Goes K.standing o gs past self.old event.now result self.new }
+    {
+        match self.site.event(alloc, event) {
+            Ok(outputs) => {
+                self.code = Code::given(outputs.as_slice(), self.node, self.code);
+                Ok(outputs)
+            }
+            Err(fault) => Err(fault),
+        }
+    }
+
+    // A call: that event, where it is taken.
+    fn call(&mut self, alloc: Global, taken: bool, event: &Event) -> Result<Outputs, FaceFault>
+        ensures calls { Calls K.standing taken self.old event.now result self.new }
+        ensures goes { (o : Opening) (gs : List Given) (past : List Entry) → IsFaceAt K.standing o gs past self.old → GoesOn K.standing taken o gs past self.old event.now result self.new }
+    {
+        if !taken {
+            return Err(FaceFault::Protocol {
+                stand: self.stand(),
+            });
+        }
+        match self.event(alloc, event) {
+            Ok(outputs) => Ok(outputs),
+            Err(fault) => Err(FaceFault::Site(fault)),
+        }
+    }
+
+    // A request of the program, where it is taken.
+    fn ask(&mut self, alloc: Global, taken: bool, request: Request) -> Result<Outputs, FaceFault>
+        ensures calls { Calls K.standing taken self.old (Given.Do self.old.node request) result self.new }
+        ensures goes { (o : Opening) (gs : List Given) (past : List Entry) → IsFaceAt K.standing o gs past self.old → GoesOn K.standing taken o gs past self.old (Given.Do self.old.node request) result self.new }
+    {
+        let event = Event::Do {
+            node: self.node,
+            request,
+        };
+        self.call(alloc, taken, &event)
+    }
+
+    /// Begins a transaction at the dialogue with that peer, or adds it to the one that is begun. Taken at Idle and Open alone.
+    pub fn begin(&mut self, alloc: Global, peer: u16) -> Result<Outputs, FaceFault>
+        ensures calls { Calls K.standing (takes_begin (stand_at self.old)) self.old (Given.Do self.old.node (Asks.BeginTransaction peer)) result self.new }
+        ensures goes { (o : Opening) (gs : List Given) (past : List Entry) → IsFaceAt K.standing o gs past self.old → GoesOn K.standing (takes_begin (stand_at self.old)) o gs past self.old (Given.Do self.old.node (Asks.BeginTransaction peer)) result self.new }
+    {
+        let taken = self.stand().takes_begin();
+        self.ask(alloc, taken, Request::BeginTransaction { peer })
+    }
+
+    /// Asks for commitment. Taken at Open alone.
+    pub fn commit(&mut self, alloc: Global) -> Result<Outputs, FaceFault>
+        ensures calls { Calls K.standing (takes_commit (stand_at self.old)) self.old (Given.Do self.old.node Asks.Commit) result self.new }
+        ensures goes { (o : Opening) (gs : List Given) (past : List Entry) → IsFaceAt K.standing o gs past self.old → GoesOn K.standing (takes_commit (stand_at self.old)) o gs past self.old (Given.Do self.old.node Asks.Commit) result self.new }
+    {
+        let taken = self.stand().takes_commit();
+        self.ask(alloc, taken, Request::Commit)
+    }
+
+    /// Rolls back. Taken at Open and Asked alone.
+    pub fn rollback(&mut self, alloc: Global) -> Result<Outputs, FaceFault>
+        ensures calls { Calls K.standing (takes_rollback (stand_at self.old)) self.old (Given.Do self.old.node Asks.Rollback) result self.new }
+        ensures goes { (o : Opening) (gs : List Given) (past : List Entry) → IsFaceAt K.standing o gs past self.old → GoesOn K.standing (takes_rollback (stand_at self.old)) o gs past self.old (Given.Do self.old.node Asks.Rollback) result self.new }
+    {
+        let taken = self.stand().takes_rollback();
+        self.ask(alloc, taken, Request::Rollback)
+    }
+
+    /// Says that the program has finished its part of the commitment or rollback. Taken at Owing alone.
+    pub fn finish(&mut self, alloc: Global) -> Result<Outputs, FaceFault>
+        ensures calls { Calls K.standing (takes_finish (stand_at self.old)) self.old (Given.Do self.old.node Asks.Done) result self.new }
+        ensures goes { (o : Opening) (gs : List Given) (past : List Entry) → IsFaceAt K.standing o gs past self.old → GoesOn K.standing (takes_finish (stand_at self.old)) o gs past self.old (Given.Do self.old.node Asks.Done) result self.new }
+    {
+        let taken = self.stand().takes_finish();
+        self.ask(alloc, taken, Request::Done)
+    }
+
+    /// Any other event of the site, as its dialogues, arrivals and losses. Not taken is what the program at the face's node asks for by
+    /// a call, and that it leaves the transaction unchanged.
+    pub fn feed(&mut self, alloc: Global, event: &Event) -> Result<Outputs, FaceFault>
+        ensures calls { Calls K.standing (is_fed self.old.node event.now) self.old event.now result self.new }
+        ensures goes { (o : Opening) (gs : List Given) (past : List Entry) → IsFaceAt K.standing o gs past self.old → GoesOn K.standing (is_fed self.old.node event.now) o gs past self.old event.now result self.new }
+    {
+        let taken = is_fed(event, self.node);
+        self.call(alloc, taken, event)
+    }
+
+    /// Where the program stands with its current transaction.
+    pub fn stand(&self) -> Stand
+        ensures stand { result ≡ stand_at self.now }
+        ensures at { (o : Opening) (gs : List Given) (past : List Entry) → IsFaceAt K.standing o gs past self.now → result ≡ stand (digest (origin_at o self.now.node) (history_at o gs self.now.node)) }
+    {
+        Stand::of(self.site.shown(self.node))
+    }
+
+    /// How the last transaction that was complete since the face was made ended; None where none was. Committed at the root of a tree
+    /// means that every node of it that stays committed, in whatever run of a world this node's history stands.
+    pub fn code(&self) -> Option<Code>
+        ensures code { result ≡ self.now.code }
+        ensures at { (o : Opening) (gs : List Given) (past : List Entry) → (at : IsFaceAt K.standing o gs past self.now) → result ≡ code_of at.since }
+        ensures committed { (o : Opening) (gs : List Given) (past : List Entry) → (at : IsFaceAt K.standing o gs past self.now) → (es : List Happening) (x : Node) (older : List Entry) → IsIn (run es) x → x.history ≡ at.since ++ older → result ≡ Some CodeValue.Committed → MeansAll (run es) x at.since older }
+    {
+        self.code
+    }
+
+    /// The site, given back.
+    pub fn site(self) -> Site<K>
+        ensures { result ≡ self.site }
+    {
+        self.site
+    }
+}
