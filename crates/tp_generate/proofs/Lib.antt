@@ -1,3 +1,4 @@
+pub mod Counting
 pub mod Lists
 pub mod Prefixes
 pub mod Sites
