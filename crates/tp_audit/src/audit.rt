@@ -68,18 +68,31 @@ impl Audit {
         ensures disorder { (i : ℕ) → result ≡ Err (TheFault.Disorder i) → IsFirstOutOfOrder list.now (Some i) }
         ensures err { OnErr result ((logs : List SiteLog) → IsAuditOf logs self.old → IsAuditOf logs self.new) }
     {
-        if self.sites.contains_key(&SiteKey { name: *site }) {
+        if self.contains(site) {
             return Err(AddFault::Twice);
         }
         if let Some(index) = first_out_of_order(alloc, list)? {
             return Err(AddFault::Disorder { index });
         }
-        self.take(alloc, site, list)?;
+        self.add_in_order(alloc, site, list)?;
         Ok(())
     }
 
-    // Takes the log of a site that was not added. Without memory the logs are those that were added before.
-    fn take(&mut self, alloc: Global, site: &SiteName, list: &[LogRec]) -> Result<(), NoMemory>
+    /// The log of that site was added.
+    pub fn contains(&self, site: &SiteName) -> bool
+        ensures { (logs : List SiteLog) → IsAuditOf logs self.now → result ≡ is_added logs site.now }
+    {
+        self.sites.contains_key(&SiteKey { name: *site })
+    }
+
+    /// As `add`, for a list whose records are known to follow each other, and a site whose log was not added. Neither is tested.
+    pub fn add_in_order(
+        &mut self,
+        alloc: Global,
+        site: &SiteName,
+        list: &[LogRec],
+    ) -> Result<(), NoMemory>
+        requires { all_follow list.now ≡ true }
         ensures ok { OnOk result ((logs : List SiteLog) → is_added logs site.now ≡ false → IsAuditOf logs self.old → IsAuditOf (with_log logs site.now list.now) self.new) }
         ensures err { OnErr result ((logs : List SiteLog) → IsAuditOf logs self.old → IsAuditOf logs self.new) }
     {

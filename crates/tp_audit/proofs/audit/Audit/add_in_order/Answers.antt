@@ -2,7 +2,7 @@ use Rattle.std.proofs.Common.{subst, sym}
 use Rattle.tp_audit.specs.Entries.{keys_of, entries}
 use Rattle.tp_audit.specs.Audits.{IsAuditOf}
 use Rattle.tp_audit.proofs.Judging.{taken_log}
-use Rattle.tp_audit.proofs.audit.Audit.take.Goals as goal
+use Rattle.tp_audit.proofs.audit.Audit.add_in_order.Goals as goal
 
 pub returns-clause-ok : goal.returns-clause-ok
 returns-clause-ok c = λ logs missing is.
