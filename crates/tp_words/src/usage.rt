@@ -9,11 +9,14 @@ usage: tpnode COMMAND [--name NAME] [--number N] [--nodes K] [--rounds R]
   show      writes each record of the log
   check     writes each damage that stands in the log
   make      writes the schedule of number N, K nodes and R rounds
+  compact   makes the log as short as it can be
+  migrate   makes the log as short as it can be, in version 2
+  keys      writes each key of the store, with its value
 
   --name NAME   1 to 16 of a to z and 0 to 9; a where it is left out
   --number N    0 to 18446744073709551615; 1 where it is left out
   --nodes K     2 to 256; 2 where it is left out
   --rounds R    1 to 30; 1 where it is left out
 
-The log is the file tp.log in the current folder.
+The log is the file tp.log in the current folder, and the store is bound.log.
 ";

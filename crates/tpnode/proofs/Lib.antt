@@ -10,4 +10,6 @@ mod Undriven
 mod Transcribed
 mod Promised
 mod Asking
-mod Logged
+mod Dispatched
+mod Replayed
+mod Listed

@@ -1,31 +1,42 @@
 -- What a run of each command does: how it may end, what of source, sink and disk it leaves as it was, and what it writes.
 -- Which words ask for which command is said by tp_words.
-use Rattle.std.specs.Prelude.{ℕ, ◌≡◌, ◌&&◌, Bool, true, false, Option, Some, None, List, [], ◌∷◌, ◌++◌, codes}
-use Rattle.std.specs.List.{list_any}
-use Rattle.std.specs.Str.{bytes_eq}
-use Rattle.tp_names.specs.Bytes.{is_site_name}
+use Rattle.std.specs.Prelude.{ℕ, ◌≡◌, ◌⊎◌, ◌<◌, not, Bool, true, false, Option, Some, None, List, [], ◌∷◌}
 use Rattle.tp_outside.specs.Story.{Story}
-use Rattle.tp_model.specs.Generator.{schedule}
-use Rattle.tp_journal.specs.Told.{IsOn}
-use Rattle.tp_journal.specs.Records.{log_bytes}
+use Rattle.tp_model.specs.declared.verdict.What.{What}
 use Rattle.tp_words.specs.CommandLine.{Said}
-use Rattle.tp_words.specs.Asked.{Asks}
-use Rattle.tp_words.specs.declared.command.Plan.{Plan}
+use Rattle.tp_words.specs.Asked.{is_line, Asks}
 use Rattle.tp_words.specs.declared.command.Command.{Command}
 use Rattle.tpnode.specs.declared.status.Status.{Status}
+use Rattle.tpnode.specs.Status.{ok, findings, usage, bad_input, limit, foreign, read_fault, write_fault, disk_fault, no_memory, code_of, has}
 use Rattle.tpnode.specs.Shown.{shown}
-use Rattle.tpnode.specs.Replay.{Writes, WritesFront}
-use Rattle.tpnode.specs.Logs.{ShowsLog, ChecksLog}
+use Rattle.tpnode.specs.Replay.{Writes}
+use Rattle.tpnode.specs.Making.{Makes}
+use Rattle.tpnode.specs.Logs.{Formats, ShowsLog, ChecksLog, CompactsLog, MigratesLog}
+use Rattle.tpnode.specs.Keys.{ListsKeys}
 
--- ---- words that are refused
+-- ---- how each command may end
 
-abbrev pub built_words : List (List ℕ)
-built_words = codes "replay" ∷ codes "format" ∷ codes "show" ∷ codes "check" ∷ codes "make" ∷ []
+-- the exit codes of its endings; a command that is not built ends with usage
+abbrev pub exits : Command → List ℕ
+exits Command.Replay = ok ∷ bad_input ∷ limit ∷ read_fault ∷ write_fault ∷ no_memory ∷ []
+exits (Command.Node site) = usage ∷ []
+exits Command.Format = ok ∷ disk_fault ∷ []
+exits Command.Show = ok ∷ foreign ∷ write_fault ∷ disk_fault ∷ no_memory ∷ []
+exits Command.Check = ok ∷ findings ∷ foreign ∷ write_fault ∷ disk_fault ∷ no_memory ∷ []
+exits (Command.Make plan) = ok ∷ write_fault ∷ no_memory ∷ []
+exits (Command.Trial plan) = usage ∷ []
+exits Command.Compact = ok ∷ foreign ∷ disk_fault ∷ no_memory ∷ []
+exits Command.Migrate = ok ∷ limit ∷ foreign ∷ disk_fault ∷ no_memory ∷ []
+exits Command.Keys = ok ∷ foreign ∷ write_fault ∷ disk_fault ∷ no_memory ∷ []
+exits (Command.Tx site) = usage ∷ []
+exits Command.Audit = usage ∷ []
 
--- they are a command line, and the command is built
-abbrev pub is_run : Option Said → Bool
-is_run None = false
-is_run (Some s) = list_any (bytes_eq s.word) built_words && is_site_name s.name
+abbrev pub is_built : Command → Bool
+is_built c = not (has usage (exits c))
+
+-- the words are no command line, or that of a command that is not built
+abbrev pub IsRefused : Option Said → Type 0
+IsRefused said = (is_line said ≡ false) ⊎ ((c : Command) × Asks said c × (is_built c ≡ false))
 
 -- ---- a run
 
@@ -42,18 +53,6 @@ pub record Ran : Type 0 where
 
 -- ---- replay
 
-abbrev pub MayReplay : Status → Type 0
-MayReplay Status.Ok = Unit {0}
-MayReplay (Status.Findings n) = ⊥
-MayReplay Status.Usage = ⊥
-MayReplay (Status.BadInput at why) = Unit {0}
-MayReplay (Status.Limit what at) = Unit {0}
-MayReplay (Status.Foreign at) = ⊥
-MayReplay (Status.ReadFault faults) = Unit {0}
-MayReplay (Status.WriteFault faults) = Unit {0}
-MayReplay (Status.DiskFault faults) = ⊥
-MayReplay Status.NoMemory = Unit {0}
-
 -- on Ok the source was read to its end
 abbrev pub ReadsAll : Ran → Type 0
 ReadsAll r = (bytes : List ℕ) → r.left ≡ Some bytes → r.status ≡ Status.Ok → r.unread ≡ Some []
@@ -62,93 +61,54 @@ ReadsAll r = (bytes : List ℕ) → r.left ≡ Some bytes → r.status ≡ Statu
 abbrev pub WritesShown : Ran → Type 0
 WritesShown r = (bytes before : List ℕ) → r.left ≡ Some bytes → r.written ≡ Some before → Writes before (shown bytes) r.status r.output
 
-pub record Replays (r : Ran) (same_disk : Type 0) : Type 0 where
-  pub ends : MayReplay r.status
-  pub disk : same_disk
+-- a limit is reached in a line, which has a number from 1 on
+abbrev pub EndsInLine : Status → Type 0
+EndsInLine status = (what : What) (at : ℕ) → status ≡ Status.Limit what at → 0 < at
+
+pub record Replays (r : Ran) : Type 0 where
+  pub limits : EndsInLine r.status
   pub reads : ReadsAll r
   pub writes : WritesShown r
 
--- ---- make
-
-abbrev pub MayMake : Status → Type 0
-MayMake Status.Ok = Unit {0}
-MayMake (Status.Findings n) = ⊥
-MayMake Status.Usage = ⊥
-MayMake (Status.BadInput at why) = ⊥
-MayMake (Status.Limit what at) = ⊥
-MayMake (Status.Foreign at) = ⊥
-MayMake (Status.ReadFault faults) = ⊥
-MayMake (Status.WriteFault faults) = Unit {0}
-MayMake (Status.DiskFault faults) = ⊥
-MayMake Status.NoMemory = Unit {0}
-
--- a text is written after the bytes from before; or where the sink fails a prefix of it, and without memory nothing
-abbrev pub WritesText : List ℕ → List ℕ → Status → Option (List ℕ) → Type 0
-WritesText before text Status.Ok new = new ≡ Some (before ++ text)
-WritesText before text (Status.Findings n) new = ⊥
-WritesText before text Status.Usage new = ⊥
-WritesText before text (Status.BadInput at why) new = ⊥
-WritesText before text (Status.Limit what at) new = ⊥
-WritesText before text (Status.Foreign at) new = ⊥
-WritesText before text (Status.ReadFault faults) new = ⊥
-WritesText before text (Status.WriteFault faults) new = WritesFront before text new
-WritesText before text (Status.DiskFault faults) new = ⊥
-WritesText before text Status.NoMemory new = new ≡ Some before
-
-pub record Makes (plan : Plan) (r : Ran) (same_source same_disk : Type 0) : Type 0 where
-  pub ends : MayMake r.status
-  pub source : same_source
-  pub disk : same_disk
-  pub writes : (before : List ℕ) → r.written ≡ Some before → WritesText before (schedule plan.number plan.nodes plan.rounds) r.status r.output
-
--- ---- format
-
-abbrev pub MayFormat : Status → Type 0
-MayFormat Status.Ok = Unit {0}
-MayFormat (Status.Findings n) = ⊥
-MayFormat Status.Usage = ⊥
-MayFormat (Status.BadInput at why) = ⊥
-MayFormat (Status.Limit what at) = ⊥
-MayFormat (Status.Foreign at) = ⊥
-MayFormat (Status.ReadFault faults) = ⊥
-MayFormat (Status.WriteFault faults) = ⊥
-MayFormat (Status.DiskFault faults) = Unit {0}
-MayFormat Status.NoMemory = ⊥
-
--- on Ok the disk holds a log of version 2 with no records, and nothing else
-pub record Formats (r : Ran) (same_source same_sink : Type 0) : Type 0 where
-  pub ends : MayFormat r.status
-  pub source : same_source
-  pub sink : same_sink
-  pub formats : (story : Story) → r.told ≡ Some story → r.status ≡ Status.Ok → IsOn r.story (log_bytes true [])
-
 -- ---- every command
 
+-- what the command does, whose row names its relation; `same_sink` says that the sink is as it was
+abbrev pub Does : Command → Ran → Type 0 → Type 0
+Does Command.Replay r same_sink = Replays r
+Does (Command.Node site) r same_sink = Unit {0}
+Does Command.Format r same_sink = Formats r.status r.told r.story
+Does Command.Show r same_sink = ShowsLog r.status r.told r.story r.written r.output same_sink
+Does Command.Check r same_sink = ChecksLog r.status r.told r.story r.written r.output same_sink
+Does (Command.Make plan) r same_sink = Makes plan r.status r.written r.output same_sink
+Does (Command.Trial plan) r same_sink = Unit {0}
+Does Command.Compact r same_sink = CompactsLog r.status r.told r.story
+Does Command.Migrate r same_sink = MigratesLog r.status r.told r.story
+Does Command.Keys r same_sink = ListsKeys r.status r.told r.story r.written r.output
+Does (Command.Tx site) r same_sink = Unit {0}
+Does Command.Audit r same_sink = Unit {0}
+
+abbrev pub Unless : Bool → Type 0 → Type 0
+Unless true A = Unit {0}
+Unless false A = A
+
+-- What a run of the command does. Of source, sink and disk it leaves each as it was for which it has no fault; `same_source`,
+-- `same_sink` and `same_disk` say that each is so.
+pub record Runs (c : Command) (r : Ran) (same_source same_sink same_disk : Type 0) : Type 0 where
+  pub exit : has (code_of r.status) (exits c) ≡ true
+  pub source : Unless (has read_fault (exits c)) same_source
+  pub sink : Unless (has write_fault (exits c)) same_sink
+  pub disk : Unless (has disk_fault (exits c)) same_disk
+  pub does : Does c r same_sink
+
 -- nothing is done
-pub record Ends (status : Status) (r : Ran) (same_source same_sink same_disk : Type 0) : Type 0 where
+pub record Stays (status : Status) (r : Ran) (same_source same_sink same_disk : Type 0) : Type 0 where
   pub ends : r.status ≡ status
   pub source : same_source
   pub sink : same_sink
   pub disk : same_disk
 
--- what the command does; one that is not built is usage. `same_source`, `same_sink` and `same_disk` say that
--- each is as it was
-abbrev pub Runs : Command → Ran → Type 0 → Type 0 → Type 0 → Type 0
-Runs Command.Replay r same_source same_sink same_disk = Replays r same_disk
-Runs (Command.Node site) r same_source same_sink same_disk = Ends Status.Usage r same_source same_sink same_disk
-Runs Command.Format r same_source same_sink same_disk = Formats r same_source same_sink
-Runs Command.Show r same_source same_sink same_disk = same_source × ShowsLog r.status r.told r.story r.written r.output same_sink
-Runs Command.Check r same_source same_sink same_disk = same_source × ChecksLog r.status r.told r.story r.written r.output same_sink
-Runs (Command.Make plan) r same_source same_sink same_disk = Makes plan r same_source same_disk
-Runs (Command.Trial plan) r same_source same_sink same_disk = Ends Status.Usage r same_source same_sink same_disk
-Runs Command.Compact r same_source same_sink same_disk = Ends Status.Usage r same_source same_sink same_disk
-Runs Command.Migrate r same_source same_sink same_disk = Ends Status.Usage r same_source same_sink same_disk
-Runs Command.Keys r same_source same_sink same_disk = Ends Status.Usage r same_source same_sink same_disk
-Runs (Command.Tx site) r same_source same_sink same_disk = Ends Status.Usage r same_source same_sink same_disk
-Runs Command.Audit r same_source same_sink same_disk = Ends Status.Usage r same_source same_sink same_disk
-
 -- what is done with words: they are no command line, or memory is wanting before they are read; else the command that they ask for runs
 pub data Answers (said : Option Said) (r : Ran) (same_source same_sink same_disk : Type 0) : Type 0 where
-  Refused : is_run said ≡ false → Ends Status.Usage r same_source same_sink same_disk → Answers said r same_source same_sink same_disk
-  Unread : Ends Status.NoMemory r same_source same_sink same_disk → Answers said r same_source same_sink same_disk
+  Refused : is_line said ≡ false → Stays Status.Usage r same_source same_sink same_disk → Answers said r same_source same_sink same_disk
+  Unread : Stays Status.NoMemory r same_source same_sink same_disk → Answers said r same_source same_sink same_disk
   Asked : (c : Command) → Asks said c → Runs c r same_source same_sink same_disk → Answers said r same_source same_sink same_disk

@@ -3,5 +3,7 @@ pub mod Words
 pub mod Shown
 pub mod Replay
 pub mod Playing
+pub mod Making
 pub mod Logs
+pub mod Keys
 pub mod Commands

@@ -1,83 +1,25 @@
--- What the commands over a log do: how each may end, what it writes of the log, and what it leaves of the disk. What is foreign, and
--- what is shown and found of a log, is said by tp_log_tools.
-use Rattle.std.specs.Prelude.{ℕ, ◌≡◌, ◌⊎◌, ◌<◌, ◌^◌, Option, Some, List, length}
+-- What the commands over a log do: each ends as a call over the log on the disk answers, of which this file says what was written and what
+-- is left of the disk. What is foreign, and what is shown and found of a log, is said by tp_log_tools.
+use Rattle.std.specs.Prelude.{ℕ, ◌≡◌, ◌⊎◌, ◌<◌, ◌^◌, true, Option, Some, List, [], length, Result, Ok, Err, IfOk, IfErr, OnOk}
 use Rattle.tp_outside.specs.Story.{Story, seen}
 use Rattle.tp_logrec.specs.declared.record.LogRec.{LogRec}
-use Rattle.tp_logrec.specs.LogText.{Placed, IsLog}
-use Rattle.tp_model.specs.LogCommands.{placed_texts, started}
+use Rattle.tp_logrec.specs.LogText.{IsLog}
+use Rattle.tp_logrec.specs.Order.{brief}
+use Rattle.tp_journal.specs.Told.{IsOn}
+use Rattle.tp_journal.specs.Records.{log_bytes}
+use Rattle.tp_model.specs.declared.verdict.What.{What}
+use Rattle.tp_model.specs.LogCommands.{placed_texts}
+use Rattle.tp_streams.specs.declared.stop.Stop.{Stop}
 use Rattle.tp_log_tools.specs.Readings.{IsFile}
-use Rattle.tp_log_tools.specs.Opening.{CallsForeign, ReadsAs, HoldsThroughout}
-use Rattle.tp_log_tools.specs.Showing.{Shows, ShowsPart, Checks, finding_texts}
+use Rattle.tp_log_tools.specs.Opening.{HoldsThroughout}
+use Rattle.tp_log_tools.specs.Showing.{Shows, Checks, StopsShow, finding_texts}
+use Rattle.tp_log_tools.specs.Shortening.{Compacts, Migrates, StopsCompact, StopsMigrate}
 use Rattle.tpnode.specs.declared.status.Status.{Status}
+use Rattle.tpnode.specs.Status.{ended, ended_with}
 
--- ---- how a command may end
-
-abbrev pub MayShow : Status → Type 0
-MayShow Status.Ok = Unit {0}
-MayShow (Status.Findings n) = ⊥
-MayShow Status.Usage = ⊥
-MayShow (Status.BadInput at why) = ⊥
-MayShow (Status.Limit what at) = ⊥
-MayShow (Status.Foreign at) = Unit {0}
-MayShow (Status.ReadFault faults) = ⊥
-MayShow (Status.WriteFault faults) = Unit {0}
-MayShow (Status.DiskFault faults) = Unit {0}
-MayShow Status.NoMemory = Unit {0}
-
--- there is a finding, or nothing is found
-abbrev pub MayCheck : Status → Type 0
-MayCheck Status.Ok = Unit {0}
-MayCheck (Status.Findings n) = 0 < n
-MayCheck Status.Usage = ⊥
-MayCheck (Status.BadInput at why) = ⊥
-MayCheck (Status.Limit what at) = ⊥
-MayCheck (Status.Foreign at) = Unit {0}
-MayCheck (Status.ReadFault faults) = ⊥
-MayCheck (Status.WriteFault faults) = Unit {0}
-MayCheck (Status.DiskFault faults) = Unit {0}
-MayCheck Status.NoMemory = Unit {0}
-
--- ---- what is written
-
--- Of a log, whose file stood on the disk, lines are written after the bytes from before. Where it is foreign or the disk fails, none is;
--- where the sink fails or memory is wanting, a prefix of them.
-abbrev pub WritesLog : List ℕ → (List Placed → List ℕ) → Option (List ℕ) → Option (List ℕ) → Option Story → Status → Type 0
-WritesLog file texts old new left Status.Ok = Shows file texts old new left
-WritesLog file texts old new left (Status.Findings n) = ⊥
-WritesLog file texts old new left Status.Usage = ⊥
-WritesLog file texts old new left (Status.BadInput at why) = ⊥
-WritesLog file texts old new left (Status.Limit what at) = ⊥
-WritesLog file texts old new left (Status.Foreign at) = CallsForeign file at × ReadsAs left (started file)
-WritesLog file texts old new left (Status.ReadFault faults) = ⊥
-WritesLog file texts old new left (Status.WriteFault faults) = ShowsPart file texts old new left
-WritesLog file texts old new left (Status.DiskFault faults) = new ≡ old
-WritesLog file texts old new left Status.NoMemory = (new ≡ old) ⊎ ShowsPart file texts old new left
-
--- the same of the findings, of which there are so many
-abbrev pub WritesFindings : List ℕ → Option (List ℕ) → Option (List ℕ) → Option Story → Status → Type 0
-WritesFindings file old new left Status.Ok = Checks file 0 old new left
-WritesFindings file old new left (Status.Findings n) = Checks file n old new left
-WritesFindings file old new left Status.Usage = ⊥
-WritesFindings file old new left (Status.BadInput at why) = ⊥
-WritesFindings file old new left (Status.Limit what at) = ⊥
-WritesFindings file old new left (Status.Foreign at) = CallsForeign file at × ReadsAs left (started file)
-WritesFindings file old new left (Status.ReadFault faults) = ⊥
-WritesFindings file old new left (Status.WriteFault faults) = ShowsPart file finding_texts old new left
-WritesFindings file old new left (Status.DiskFault faults) = new ≡ old
-WritesFindings file old new left Status.NoMemory = (new ≡ old) ⊎ ShowsPart file finding_texts old new left
-
--- the sink is as it was where the log is foreign, and where the disk fails
-abbrev pub Keeps : Type 0 → Status → Type 0
-Keeps same_sink Status.Ok = Unit {0}
-Keeps same_sink (Status.Findings n) = Unit {0}
-Keeps same_sink Status.Usage = Unit {0}
-Keeps same_sink (Status.BadInput at why) = Unit {0}
-Keeps same_sink (Status.Limit what at) = Unit {0}
-Keeps same_sink (Status.Foreign at) = same_sink
-Keeps same_sink (Status.ReadFault faults) = Unit {0}
-Keeps same_sink (Status.WriteFault faults) = Unit {0}
-Keeps same_sink (Status.DiskFault faults) = same_sink
-Keeps same_sink Status.NoMemory = Unit {0}
+-- what is true of the file that the disk told
+abbrev pub OnFile : Option Story → (List ℕ → Type 0) → Type 0
+OnFile told P = (s : Story) → told ≡ Some s → IsFile (seen s) → P (seen s)
 
 -- ---- every moment
 
@@ -89,17 +31,51 @@ LeavesAlways P told story = (s : Story) (rs : List LogRec) → told ≡ Some s �
 abbrev pub IsLogOf : List LogRec → List ℕ → Type 0
 IsLogOf rs file = IsLog file rs
 
+-- or of their brief
+abbrev pub IsLogOrBrief : List LogRec → List ℕ → Type 0
+IsLogOrBrief rs file = IsLog file rs ⊎ IsLog file (brief rs)
+
 -- ---- the commands
 
--- The disk's story before and after, and what was written into the sink. No record that stood is lost.
+-- The disk's story before and after, and what was written into the sink.
+
+-- on Ok the disk holds a log of version 2 with no records, and nothing else
+abbrev pub Formats : Status → Option Story → Option Story → Type 0
+Formats status told story = (s : Story) → told ≡ Some s → status ≡ Status.Ok → IsOn story (log_bytes true [])
+
+-- Each record is written. The sink is as it was where the log is foreign, and where the disk fails; no record that stood is lost.
 pub record ShowsLog (status : Status) (told story : Option Story) (written output : Option (List ℕ)) (same_sink : Type 0) : Type 0 where
-  pub ends : MayShow status
-  pub writes : (s : Story) → told ≡ Some s → IsFile (seen s) → WritesLog (seen s) placed_texts written output story status
-  pub keeps : Keeps same_sink status
+  pub answer : Result (Unit {0}) Stop
+  pub ends : status ≡ ended answer
+  pub shows : OnOk answer (OnFile told (λ file. Shows file placed_texts written output story))
+  pub stopped : IfErr answer (λ stop. OnFile told (λ file. StopsShow file placed_texts written output story stop))
+  pub foreign : (at : ℕ) → answer ≡ Err (Stop.Foreign at) → same_sink
+  pub disk_fault : (faults : ℕ) → answer ≡ Err (Stop.DiskFault faults) → same_sink
   pub moments : LeavesAlways IsLogOf told story
 
+-- the same of the findings, with whose number the run ends
 pub record ChecksLog (status : Status) (told story : Option Story) (written output : Option (List ℕ)) (same_sink : Type 0) : Type 0 where
-  pub ends : MayCheck status
-  pub writes : (s : Story) → told ≡ Some s → IsFile (seen s) → WritesFindings (seen s) written output story status
-  pub keeps : Keeps same_sink status
+  pub answer : Result ℕ Stop
+  pub ends : status ≡ ended_with answer
+  pub checks : IfOk answer (λ n. OnFile told (λ file. Checks file n written output story))
+  pub stopped : IfErr answer (λ stop. OnFile told (λ file. StopsShow file finding_texts written output story stop))
+  pub foreign : (at : ℕ) → answer ≡ Err (Stop.Foreign at) → same_sink
+  pub disk_fault : (faults : ℕ) → answer ≡ Err (Stop.DiskFault faults) → same_sink
   pub moments : LeavesAlways IsLogOf told story
+
+-- The brief is put in the log's place. At no moment is there less than the brief.
+pub record CompactsLog (status : Status) (told story : Option Story) : Type 0 where
+  pub answer : Result (Unit {0}) Stop
+  pub ends : status ≡ ended answer
+  pub compacts : OnOk answer (OnFile told (λ file. Compacts file story))
+  pub stopped : IfErr answer (λ stop. OnFile told (λ file. StopsCompact file story stop))
+  pub moments : LeavesAlways IsLogOrBrief told story
+
+-- the same in version 2; the one limit is that of the log, at 0
+pub record MigratesLog (status : Status) (told story : Option Story) : Type 0 where
+  pub answer : Result (Unit {0}) Stop
+  pub ends : status ≡ ended answer
+  pub migrates : OnOk answer (OnFile told (λ file. Migrates file story))
+  pub stopped : IfErr answer (λ stop. OnFile told (λ file. StopsMigrate file story stop))
+  pub limits : (what : What) (at : ℕ) → answer ≡ Err (Stop.Limit what at) → (what ≡ What.Log) × (at ≡ 0)
+  pub moments : LeavesAlways IsLogOrBrief told story

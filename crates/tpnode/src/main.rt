@@ -1,13 +1,16 @@
 //! `tpnode`: replays a schedule over a tree of commitment nodes, and writes the exact transcript; makes schedules, and
-//! fresh logs; shows and checks a log.
+//! fresh logs; shows, checks and shortens a log; lists the keys of a store.
 //!
 //! Of a schedule, stops in an event and members are not built yet: a line that asks for one ends the run and says
 //! `unbuilt`.
 #![tactic(auto)]
 
 mod checking;
+mod compacting;
 mod formatting;
+mod listing;
 mod making;
+mod migrating;
 mod output;
 mod playing;
 mod replay;
@@ -25,8 +28,11 @@ pub use top::run;
 use tp_outside::{FileDisk, StdSink, StdSource};
 use tp_words::USAGE;
 
-/// The log, in the current folder.
+/// The log of a site, in the current folder.
 const LOG: &str = "tp.log";
+
+/// The log of a bound store, in the current folder.
+const STORE: &str = "bound.log";
 
 // The words after the program's name.
 fn words_given(rt: &HostRuntime) -> io::Result<Vec<String>> {
@@ -45,12 +51,20 @@ fn as_texts(alloc: Global, words: &[String]) -> Result<Vec<&str>, AllocError> {
     Ok(texts)
 }
 
+// The file of the disk that a command works on.
+fn file_for(words: &[&str]) -> &'static str {
+    match words.first() {
+        Some(word) if *word == "keys" => STORE,
+        _ => LOG,
+    }
+}
+
 fn main(rt: HostRuntime) -> io::Result<ExitCode> {
     let words = words_given(&rt)?;
     let texts = as_texts(rt.alloc(), &words)?;
     let mut source = StdSource::new(&rt);
     let mut sink = StdSink::new(&rt);
-    let disk = FileDisk::new(&rt, LOG);
+    let disk = FileDisk::new(&rt, file_for(&texts));
     let (status, _disk) = run(
         rt.alloc(),
         &texts,

@@ -55,7 +55,7 @@ pub enum Status {
 
 impl Status {
     ghost use Rattle.std.specs.Prelude.{◌≡◌};
-    ghost use Rattle.tpnode.specs.Status.{code_of, status_of};
+    ghost use Rattle.tpnode.specs.Status.{code_of, status_of, ended, ended_with};
 
     /// How a run ends that such a stop ends.
     pub(crate) fn of_stop(stop: Stop) -> Status
@@ -72,6 +72,27 @@ impl Status {
             Stop::WriteFault { faults } => Status::WriteFault { faults },
             Stop::DiskFault { faults } => Status::DiskFault { faults },
             Stop::NoMemory => Status::NoMemory,
+        }
+    }
+
+    /// How a run ends that a call ends with its answer.
+    pub(crate) fn of_answer(answer: Result<(), Stop>) -> Status
+        ensures { result ≡ ended answer }
+    {
+        match answer {
+            Ok(()) => Status::Ok,
+            Err(stop) => Status::of_stop(stop),
+        }
+    }
+
+    /// The same of a call that answers a number of findings.
+    pub(crate) fn of_findings(answer: Result<u64, Stop>) -> Status
+        ensures { result ≡ ended_with answer }
+    {
+        match answer {
+            Ok(0) => Status::Ok,
+            Ok(n) => Status::Findings { n },
+            Err(stop) => Status::of_stop(stop),
         }
     }
 

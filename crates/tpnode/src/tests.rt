@@ -75,6 +75,60 @@ fn a_schedule_is_made(rt: HostRuntime) {
     assert!(rt; status == Status::WriteFault { faults: 1 } && sink.bytes().is_empty());
 }
 
+// A log of boot 1 and boot 2, and the same of boot 2 alone in versions 1 and 2.
+const BOOTS: &[u8] =
+    b"OTPL\x01\x01\x00\x09\x01\0\0\0\0\0\0\0\x01\x01\x00\x09\x01\0\0\0\0\0\0\0\x02\x00";
+
+const BOOT_2: &[u8] = b"OTPL\x01\x01\x00\x09\x01\0\0\0\0\0\0\0\x02\x00";
+
+const BOOT_2_WIDE: &[u8] = b"OTPL\x01\x01\x00\x02\x07\x02\x01\x00\x09\x01\0\0\0\0\0\0\0\x02\x00";
+
+// A log of a damage.
+const DAMAGE: &[u8] =
+    b"OTPL\x01\x01\x00\x09\x01\0\0\0\0\0\0\0\x01\x01\x00\x1b\x05\x00\x01\x01a\0\0\0\0\0\0\0\x01\x00\x01\0\0\0\0\0\0\0\x02\x00\x01\x01\x00\x00";
+
+// A store of one key.
+const STORE: &[u8] =
+    b"OTPL\x01\x01\x00\x1d\x01\x01a\0\0\0\0\0\0\0\x01\x00\x01\0\0\0\0\0\0\0\x02\x00\x01\x01\x01k\x00\x01v\x01\x00\x15\x02\x01a\0\0\0\0\0\0\0\x01\x00\x01\0\0\0\0\0\0\0\x02\x00";
+
+// Commands, the disks they work on, how they end, what they write, and what they leave.
+const ON_DISKS: &[(&str, &[u8], Status, &str, &[u8])] = &[
+    ("show", BOOTS, Status::Ok, "5 boot 1\n17 boot 2\n", BOOTS),
+    ("check", BOOTS, Status::Ok, "", BOOTS),
+    (
+        "check",
+        DAMAGE,
+        Status::Findings { n: 1 },
+        "17 damage 1 a.1.1.2 - commit hazard\n",
+        DAMAGE,
+    ),
+    ("compact", BOOTS, Status::Ok, "", BOOT_2),
+    ("migrate", BOOTS, Status::Ok, "", BOOT_2_WIDE),
+    ("keys", STORE, Status::Ok, "6b 76\n", STORE),
+    ("compact", b"", Status::Foreign { at: 0 }, "", b""),
+    ("keys", b"", Status::Foreign { at: 0 }, "", b""),
+];
+
+// How a run of that command ends on a disk with these bytes, what it wrote, and the disk.
+fn on_disk(alloc: Global, command: &str, bytes: &[u8]) -> Option<(Status, MemSink, MemDisk)> {
+    let mut source = MemSource::new(alloc, Octets::new(alloc), Octets::new(alloc));
+    let mut sink = MemSink::new(alloc, Octets::new(alloc));
+    let disk = MemDisk::from(alloc, octets(alloc, bytes)?);
+    let members = Vec::new(alloc);
+    let (status, disk) = run(alloc, &[command], &mut source, &mut sink, disk, members);
+    Some((status, sink, disk))
+}
+
+#[test]
+fn commands_over_a_disk(rt: HostRuntime) {
+    for (command, bytes, wanted, text, left) in ON_DISKS {
+        let (status, sink, disk) = on_disk(rt.alloc(), command, bytes).expect(&rt, "in memory");
+        assert!(rt; status == *wanted, "{command}");
+        assert!(rt; sink.bytes() == text.as_bytes(), "{command}");
+        assert!(rt; disk.bytes() == *left, "{command}");
+    }
+}
+
 // The same of a replay.
 fn replayed(alloc: Global, text: &str, fails: Fails, written: &str) -> Option<Status> {
     status_of(alloc, &["replay"], text.as_bytes(), fails, written)

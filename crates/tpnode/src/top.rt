@@ -7,12 +7,15 @@ ghost use Rattle.tp_model.specs.Promises.{Promised};
 ghost use Rattle.tp_words.specs.CommandLine.{said};
 ghost use Rattle.tpnode.specs.Shown.{shown, is_whole};
 ghost use Rattle.tpnode.specs.Replay.{Writes, IsTranscript};
-ghost use Rattle.tpnode.specs.Commands.{is_run, Runs, Answers};
+ghost use Rattle.tpnode.specs.Commands.{IsRefused, Runs, Answers};
 ghost use Rattle.tpnode.specs.Words.{replay_words};
 
 use crate::checking::check_log;
+use crate::compacting::compact_log;
 use crate::formatting::format_log;
+use crate::listing::list_keys;
 use crate::making::make_schedule;
+use crate::migrating::migrate_log;
 use crate::replay::replay;
 use crate::showing::show_log;
 use crate::status::Status;
@@ -29,7 +32,8 @@ use tp_words::{Command, WordsFault, read};
 /// of that, and no closing lines after a source that failed. The world that the schedule leaves keeps all promises; members
 /// are not asked yet. `make` writes the schedule that is made by the plan. `format` makes the disk hold a fresh log. `show`
 /// writes each record of the disk's log with its place, and `check` each Damage that is its key's last record, of which it
-/// answers the number.
+/// answers the number. `compact` and `migrate` put the log's brief in its place. `keys` writes what the store on the disk
+/// holds.
 #[tactic(auto, using(crate::proofs::Transcribed::transcribed))]
 pub fn run<S: Source, K: Sink, D: Disk>(
     alloc: Global,
@@ -39,7 +43,7 @@ pub fn run<S: Source, K: Sink, D: Disk>(
     disk: D,
     _members: Vec<Box<dyn Member>>,
 ) -> (Status, D)
-    ensures usage { result.0 ≡ Status.Usage → is_run (said (map (λ w. w.now) words.now)) ≡ false }
+    ensures usage { result.0 ≡ Status.Usage → IsRefused (said (map (λ w. w.now) words.now)) }
     ensures ending { IsEnding (S.fault_count source.old) (S.fault_count source.new) (K.fault_count sink.old) (K.fault_count sink.new) (D.fault_count disk) (D.fault_count result.1) result.0 }
     ensures answers { Answers (said (map (λ w. w.now) words.now)) (record { status = result.0; left = S.left source.old; unread = S.left source.new; written = K.written sink.old; output = K.written sink.new; told = D.told disk; story = D.told result.1 }) (source.new ≡ source.old) (sink.new ≡ sink.old) (result.1 ≡ disk) }
     ensures read { map (λ w. w.now) words.now ≡ replay_words → (bytes : List ℕ) → S.left source.old ≡ Some bytes → result.0 ≡ Status.Ok → S.left source.new ≡ Some [] }
@@ -68,16 +72,15 @@ fn run_command<S: Source, K: Sink, D: Disk>(
     let mut disk = disk;
     match command {
         Command::Replay => (replay(alloc, source, sink), disk),
-        Command::Make(plan) => (make_schedule(alloc, plan, sink), disk),
         Command::Format => (format_log(&mut disk), disk),
         Command::Show => show_log(alloc, disk, sink),
         Command::Check => check_log(alloc, disk, sink),
-        Command::Node(_)
-        | Command::Trial(_)
-        | Command::Compact
-        | Command::Migrate
-        | Command::Keys
-        | Command::Tx(_)
-        | Command::Audit => (Status::Usage, disk),
+        Command::Make(plan) => (make_schedule(alloc, plan, sink), disk),
+        Command::Compact => compact_log(alloc, disk),
+        Command::Migrate => migrate_log(alloc, disk),
+        Command::Keys => list_keys(alloc, disk, sink),
+        Command::Node(_) | Command::Trial(_) | Command::Tx(_) | Command::Audit => {
+            (Status::Usage, disk)
+        }
     }
 }

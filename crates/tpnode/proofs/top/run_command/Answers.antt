@@ -1,7 +1,53 @@
+use Rattle.std.proofs.Common.{refl}
+use Rattle.tp_words.specs.declared.command.Command.{Command}
+use Rattle.tpnode.proofs.Dispatched.{runs_as}
+use Rattle.tpnode.proofs.Replayed.{replay_ends}
 use Rattle.tpnode.proofs.top.run_command.Goals as goal
 
+pub returns-in-Replay-clause-ending : goal.returns-in-Replay-clause-ending
+returns-in-Replay-clause-ending g c = (replay_ends _ _ _ _ _ _ _ c.replay.ensures.ending).cause
+
+pub returns-in-Format-clause-ending : goal.returns-in-Format-clause-ending
+returns-in-Format-clause-ending g c = (c.format_log.ensures.ends _ _ _ _).cause
+
 pub returns-in-Show-clause-ending : goal.returns-in-Show-clause-ending
-returns-in-Show-clause-ending g c = c.show_log.ensures.ending _ _
+returns-in-Show-clause-ending g c = (c.show_log.ensures.ends _ _).cause
 
 pub returns-in-Check-clause-ending : goal.returns-in-Check-clause-ending
-returns-in-Check-clause-ending g c = c.check_log.ensures.ending _ _
+returns-in-Check-clause-ending g c = (c.check_log.ensures.ends _ _).cause
+
+pub returns-in-Make-clause-ending : goal.returns-in-Make-clause-ending
+returns-in-Make-clause-ending g c = (c.make_schedule.ensures.ends _ _ _ _).cause
+
+pub returns-in-Compact-clause-ending : goal.returns-in-Compact-clause-ending
+returns-in-Compact-clause-ending g c = (c.compact_log.ensures.ends _ _ _ _).cause
+
+pub returns-in-Migrate-clause-ending : goal.returns-in-Migrate-clause-ending
+returns-in-Migrate-clause-ending g c = (c.migrate_log.ensures.ends _ _ _ _).cause
+
+pub returns-in-Keys-clause-ending : goal.returns-in-Keys-clause-ending
+returns-in-Keys-clause-ending g c = (c.list_keys.ensures.ends _ _).cause
+
+pub returns-in-Format-clause-runs : goal.returns-in-Format-clause-runs
+returns-in-Format-clause-runs g c =
+    runs_as c.args.command Command.Format _ _ _ _ c.in-Format.is (record { exit = (c.format_log.ensures.ends 0 0 0 0).exit; source = refl; sink = refl; disk = tt; does = c.format_log.ensures.formats })
+
+pub returns-in-Show-clause-runs : goal.returns-in-Show-clause-runs
+returns-in-Show-clause-runs g c =
+    runs_as c.args.command Command.Show _ _ _ _ c.in-Show.is (record { exit = (c.show_log.ensures.ends 0 0).exit; source = refl; sink = tt; disk = tt; does = c.show_log.ensures.shows })
+
+pub returns-in-Check-clause-runs : goal.returns-in-Check-clause-runs
+returns-in-Check-clause-runs g c =
+    runs_as c.args.command Command.Check _ _ _ _ c.in-Check.is (record { exit = (c.check_log.ensures.ends 0 0).exit; source = refl; sink = tt; disk = tt; does = c.check_log.ensures.checks })
+
+pub returns-in-Make-clause-runs : goal.returns-in-Make-clause-runs
+returns-in-Make-clause-runs g c =
+    runs_as c.args.command (Command.Make c.in-Make.plan) _ _ _ _ c.in-Make.is (record { exit = (c.make_schedule.ensures.ends 0 0 0 0).exit; source = refl; sink = tt; disk = refl; does = c.make_schedule.ensures.makes })
+
+pub returns-in-Compact-clause-runs : goal.returns-in-Compact-clause-runs
+returns-in-Compact-clause-runs g c =
+    runs_as c.args.command Command.Compact _ _ _ _ c.in-Compact.is (record { exit = (c.compact_log.ensures.ends 0 0 0 0).exit; source = refl; sink = refl; disk = tt; does = c.compact_log.ensures.compacts })
+
+pub returns-in-Migrate-clause-runs : goal.returns-in-Migrate-clause-runs
+returns-in-Migrate-clause-runs g c =
+    runs_as c.args.command Command.Migrate _ _ _ _ c.in-Migrate.is (record { exit = (c.migrate_log.ensures.ends 0 0 0 0).exit; source = refl; sink = refl; disk = tt; does = c.migrate_log.ensures.migrates })
