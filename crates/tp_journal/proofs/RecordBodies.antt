@@ -2,7 +2,8 @@
 use Rattle.std.proofs.Common.{◌≡◌, ℕ, zero, suc, slice_index_or, ◌+◌, ◌-◌, ◌<◌, ◌||◌, Bool, true, false, Option, Some, None, List, [], ◌∷◌, ◌++◌, length, take, refl, sym, ap, ◌∙◌, subst, arith, append_assoc, length-append}
 use Rattle.std.proofs.lemmas.List.{take_at}
 use Rattle.std.proofs.lemmas.Grind.{common_steps}
-use Rattle.std.specs.List.{AllByRecursion}
+use Rattle.std.proofs.lemmas.List.Elements.{All-from_recursion}
+use Rattle.std.specs.List.{All, AllByRecursion}
 use Rattle.tp_names.specs.Same.{is_name}
 use Rattle.tp_logrec.specs.declared.record.LogRec.{LogRec}
 use Rattle.tp_logrec.specs.RecordReading.{record_in, whole}
@@ -10,7 +11,7 @@ use Rattle.tp_logrec.specs.LogText.{version_mark}
 use Rattle.tp_journal.specs.Log.{blocks, counted, place_behind}
 use Rattle.tp_journal.specs.Read.{Takes}
 use Rattle.tp_journal.specs.declared.receipts.Receipt.{Receipt}
-use Rattle.tp_journal.specs.Records.{receipts_from, version_of, HasText, text, texts, marks, bodies_of, is_mark, is_some, is_text, record_body, places_from, first_place, IsPlaced, wide_of, with_rec, recs_in, recs_of, AreRecords, ReadsText}
+use Rattle.tp_journal.specs.Records.{receipts_from, placed, version_of, HasText, text, texts, marks, bodies_of, is_mark, is_some, is_text, record_body, places_from, first_place, IsPlaced, wide_of, with_rec, recs_in, recs_of, AreRecords, ReadsText}
 
 -- ---- the mark and the texts
 
@@ -101,6 +102,14 @@ pub fails : (wide : Bool) (rs : List LogRec) (body : List ℕ) → (wide ≡ fal
 fails true rs body other is = is
 fails false [] body other is = ap (λ b. is_mark body || b) is ∙ neither (is_mark body) (other refl refl)
 fails false (r ∷ rs) body other is = ap (λ w. is_text w body) (no_mark false r) ∙ is
+
+texts_from : (at : ℕ) (wide : Bool) (rs : List LogRec) → AllByRecursion (HasText wide) rs → AllByRecursion (λ r. HasText wide r.rec) (receipts_from at wide rs)
+texts_from at wide [] all = tt
+texts_from at wide (r ∷ rs) all = (all.0, texts_from (at + 3 + length (text wide r)) wide rs all.1)
+
+-- the records at their places have the texts that they have
+pub texts_placed : (wide : Bool) (rs : List LogRec) → AllByRecursion (HasText wide) rs → All (λ r. HasText wide r.rec) (placed wide rs)
+texts_placed wide rs all = All-from_recursion (λ r. HasText wide r.rec) (placed wide rs) (texts_from (first_place wide) wide rs all)
 
 pub text_passes : (wide : Bool) (rs : List LogRec) (r : LogRec) → HasText wide r → record_body (bodies_of wide rs) (text wide r) ≡ true
 text_passes wide rs r has = passes wide rs (text wide r) (is_text_of wide (text wide r) (Some r) (text_is_read wide r has))

@@ -204,6 +204,11 @@ impl<D: Disk> Keeper for Journal<D> {
         self.log.shelf().place(i)
     }
 
+    #[tactic(auto, using(crate::proofs::RecordBodies::texts_placed))]
+    fn texts(&self) {
+        let _list = self.list();
+    }
+
     fn faults(&self) -> u64 {
         self.log.disk().faults()
     }

@@ -6,6 +6,7 @@ use tp_logrec::LogRec;
 /// What keeps the records of a log: a journal, or a share of a log under a lock.
 pub trait Keeper {
     ghost use Rattle.std.specs.Prelude.{◌≡◌, ◌<◌, length, slice_index_or};
+    ghost use Rattle.std.specs.List.{All};
     ghost use Rattle.tp_journal.specs.Keeping.{Standing, Forces};
     ghost use Rattle.tp_journal.specs.Records.{HasText};
 
@@ -30,6 +31,10 @@ pub trait Keeper {
     fn place(&self, i: usize) -> u64
         requires { i < length (standing self.now).told }
         ensures { (d : _) → result ≡ (slice_index_or (standing self.now).told i d).place };
+
+    /// Each of those records has a text in the version of the log. It shows that, and answers nothing.
+    fn texts(&self)
+        ensures { All (λ r. HasText (standing self.now).wide r.rec) (standing self.now).told };
 
     /// The count of faults, which never falls.
     fn faults(&self) -> u64

@@ -128,6 +128,10 @@ impl<'a, D: Disk, R: Wait + Sync, L: Stood, M: Ledger> Keeper for LogShare<'a, D
         log.stood[i].place
     }
 
+    fn texts(&self) {
+        let _log = self.log;
+    }
+
     fn faults(&self) -> u64 {
         match self.spent {
             None => 0,

@@ -1,6 +1,7 @@
 //! A journal under a lock, with the records that stood when it was put there.
 ghost use Rattle.std.specs.Prelude.{◌≡◌, ◌<◌, ◌≤◌, ◌||◌, true, length, is_some, None, IfOk, IfErr};
-ghost use Rattle.tp_journal.specs.Records.{placed};
+ghost use Rattle.std.specs.List.{All};
+ghost use Rattle.tp_journal.specs.Records.{HasText, placed};
 ghost use Rattle.tp_shared_log.specs.Locks.{Extends, ShutRose, HadNoRoom};
 ghost use Rattle.tp_shared_log.specs.Images.{Leaves};
 
@@ -13,7 +14,8 @@ use tp_journal::{Journal, Keeper, Receipt};
 use tp_names::NoMemory;
 use tp_outside::Disk;
 
-/// A journal under a lock. The records that stood when it was put there are kept beside the lock and never change.
+/// A journal under a lock. The records that stood when it was put there are kept beside the lock and never change; each has a
+/// text.
 #[derive(Drop)]
 pub struct SharedLog<D: Disk, L: Stood, M: Ledger> {
     pub(crate) stood: Vec<Receipt>,
@@ -21,6 +23,7 @@ pub struct SharedLog<D: Disk, L: Stood, M: Ledger> {
     pub(crate) lock: Mutex<Locked<D, L, M>>,
     pub ghost stood_is: { stood.items ≡ L.stood },
     pub ghost wide_is: { wide ≡ L.wide },
+    pub ghost texts: { All (λ r. HasText L.wide r.rec) L.stood },
 }
 
 impl<D: Disk, L: Stood, M: Ledger> SharedLog<D, L, M> {
@@ -44,6 +47,7 @@ impl<D: Disk, L: Stood, M: Ledger> SharedLog<D, L, M> {
         let Ok(stood) = receipts_told(alloc, &journal) else {
             return Err((journal, NoMemory));
         };
+        journal.texts();
         let wide = journal.wide();
         let (locked, part, stake) = Locked::<D, L, M>::new(journal, first, second, shares);
         let lock = Mutex::new(locked);
