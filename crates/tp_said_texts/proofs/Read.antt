@@ -158,7 +158,7 @@ few_peer =
       ),
     )
 
-few_octets : (octets : List ℕ) (r : PeerRecord) → peer_in octets ≡ Some r → CarriesFew r
+pub few_octets : (octets : List ℕ) (r : PeerRecord) → peer_in octets ≡ Some r → CarriesFew r
 few_octets octets r h = go (read_peer octets) refl h
   where
     one : (v : PeerRecord) (rest : List ℕ) → read_peer octets ≡ Some (v, rest) → (elim rest as (λ _. Option PeerRecord) [ [] ↦ Some v | b ∷ bytes ↦ None ]) ≡ Some r → CarriesFew r

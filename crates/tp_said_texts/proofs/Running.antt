@@ -106,7 +106,7 @@ stands_started s h = record {
 
 -- ---- the records of one node
 
-shaped_at : (ver : LogVersion) (n : ℕ) (rs : List LogRec) → AreShaped ver rs → AreShaped ver (records_at n rs)
+pub shaped_at : (ver : LogVersion) (n : ℕ) (rs : List LogRec) → AreShaped ver rs → AreShaped ver (records_at n rs)
 shaped_at ver n [] h = tt
 shaped_at ver n (r ∷ rs) h = go (is_record_at n r) (shaped_at ver n rs h.1)
   where

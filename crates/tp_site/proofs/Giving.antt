@@ -1,18 +1,12 @@
 -- The outputs of an event as they go out.
-use Rattle.std.proofs.Common.{◌≡◌, ℕ, List, [], ◌∷◌, ◌++◌, map, refl, ap, sym, ◌∙◌, append_assoc}
-use Rattle.tp_names.specs.Grammar.{IsText}
+use Rattle.std.proofs.Common.{◌≡◌, ℕ, List, [], ◌∷◌, ◌++◌, map, refl, ap, sym, subst, ◌∙◌, append_assoc}
 use Rattle.tp_records.specs.declared.body.Output.{Output}
-use Rattle.tp_records.specs.declared.peer.PeerRecord.{PeerRecord}
-use Rattle.tp_records.specs.Bodies.{peer_bytes}
-use Rattle.tp_records.specs.BodyReading.{peer_grammar}
 use Rattle.tp_model.specs.Parts.{Out as OutValue, Tell, Send}
 use Rattle.tp_model.specs.NodeRun.{outputs_of}
 use Rattle.tp_node.specs.declared.outs.Out.{Out}
 use Rattle.tp_node.specs.Outs.{out_of}
+use Rattle.tp_said_texts.specs.Sizes.{IsShort, AreShort}
 use Rattle.tp_site.specs.Events.{opening_at, output_of}
-
-pub text_is : (r : PeerRecord) (octets : List ℕ) → IsText peer_grammar r octets → octets ≡ peer_bytes r
-text_is r octets t = sym t.1
 
 one_out : (name : List ℕ) (n : ℕ) (x : OutValue) (xs : List OutValue) → outputs_of (opening_at name) n (x ∷ xs) ≡ output_of name n x ∷ outputs_of (opening_at name) n xs
 one_out name n (Tell i) xs = refl
@@ -30,3 +24,13 @@ going_on name n whole made x left rest one more first is pushed was =
     ∙ ap (λ (l : List Output). made ++ l) (sym (one_out name n (out_of x) (map out_of rest)))
     ∙ ap (λ (l : List Out). made ++ outputs_of (opening_at name) n (map out_of l)) (sym first)
     ∙ was
+
+-- what is left to make has texts
+pub short_all : (items : List Out) (outs : List OutValue) → map out_of items ≡ outs → AreShort outs → AreShort (map out_of items)
+short_all items outs is h = subst AreShort (sym is) h
+
+pub short_first : (left rest : List Out) (x : Out) → left ≡ x ∷ rest → AreShort (map out_of left) → IsShort (out_of x)
+short_first left rest x is h = (subst (λ (l : List Out). AreShort (map out_of l)) is h).0
+
+pub short_rest : (left rest : List Out) (x : Out) → left ≡ x ∷ rest → AreShort (map out_of left) → AreShort (map out_of rest)
+short_rest left rest x is h = (subst (λ (l : List Out). AreShort (map out_of l)) is h).1

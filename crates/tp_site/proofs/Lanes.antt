@@ -1,6 +1,7 @@
 -- What a site that goes on over a log finds for the nodes of one lane.
 use Rattle.std.proofs.Common.{◌≡◌, ◌==◌, ◌%◌, ◌<◌, ◌+◌, ℕ, Bool, true, false, Option, Some, None, List, [], ◌∷◌, ◌++◌, length, map, take, refl, ap, sym, subst, ◌∙◌, arith, slice_index_or}
 use Rattle.std.proofs.lemmas.Bool.Decides.{nat_tests}
+use Rattle.std.proofs.Math.Seq.{take-length}
 use Rattle.tp_logrec.specs.declared.record.LogRec.{LogRec}
 use Rattle.tp_logrec.specs.declared.record.LogVersion.{LogVersion}
 use Rattle.tp_logrec.specs.declared.owner.Owner.{Owner}
@@ -96,6 +97,9 @@ told_lane i w (t ∷ told) k r old new h is more from =
     subst (λ (l : List LogRec). AreFrom (records_in i w l) new)
     (ap (λ (q : LogRec). map (λ x. x.rec) (take k (t ∷ told)) ++ q ∷ []) (is t) ∙ sym (told_more (t ∷ told) k t h))
     (more (map (λ q. q.rec) (take k (t ∷ told))) from)
+
+pub all_lane : (i w : ℕ) (told : List Receipt) (k : ℕ) (v : Nodes) → k ≡ length told → AreFrom (records_in i w (map (λ q. q.rec) (take k told))) v → AreFrom (records_in i w (map (λ q. q.rec) told)) v
+all_lane i w told k v is from = subst (λ (l : List Receipt). AreFrom (records_in i w (map (λ q. q.rec) l)) v) (ap (λ (n : ℕ). take n told) is ∙ take-length told) from
 
 pub resumed : {K : Type 0} (standing : K → Standing) (old : K) (name : List ℕ) (boot i w : ℕ) (v : Nodes) → IsLaneOf (standing old) name boot i w v
     → IsResumed standing old name boot i w (record { keeper = old; nodes = v; shut = None })

@@ -23,3 +23,5 @@ pub mod Runs
 pub mod Stepping
 pub mod Giving
 pub mod Settled
+pub mod Shaped
+pub mod Ordered

@@ -16,6 +16,7 @@ use Rattle.tp_journal.specs.Records.{version_of}
 use Rattle.tp_site.specs.Site.{Site, Plays, IsForced, IsUnforced, known_at}
 use Rattle.tp_site.specs.declared.faults.SiteFault.{SiteFault}
 use Rattle.tp_site.specs.declared.site.Played.{Played}
+use Rattle.tp_site_logs.specs.SiteLogs.{is_in_order}
 
 -- ---- one event, whatever came before
 
@@ -57,6 +58,10 @@ PlaysAsked standing old (Is n e) result new = Gives standing old n e result new
 -- the records of a keeper's own, oldest first
 abbrev pub kept_records : Standing → List LogRec
 kept_records s = map (λ r. r.rec) s.kept
+
+-- each follows those before it, and only branches have voted
+abbrev pub IsInOrder : Standing → Type 0
+IsInOrder s = is_in_order (kept_records s) ≡ true
 
 -- the history of a node after these events, newest entry first
 abbrev pub history_at : Opening → List Given → ℕ → List Entry

@@ -10,6 +10,7 @@ pub mod Calls
 pub mod Replies
 pub mod Answers
 pub mod Nodes
+pub mod Shaped
 pub mod Faults
 pub mod Site
 pub mod Events

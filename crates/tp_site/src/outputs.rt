@@ -1,30 +1,19 @@
 //! The outputs of an event as they go out of a site: records as octets.
 ghost use Rattle.std.specs.Prelude.{◌≡◌, IfOk};
-ghost use Rattle.tp_records.specs.Bodies.{peer_bytes};
 ghost use Rattle.tp_model.specs.NodeRun.{refusal_of};
 ghost use Rattle.tp_node.specs.Outs.{out_of};
 ghost use Rattle.tp_site.specs.Events.{given_out, output_of};
+ghost use Rattle.tp_said_texts.specs.Sizes.{IsShort, AreShort};
 
 use std::alloc::Global;
-use tp_names::{Addr, NoMemory, Octets};
+use tp_names::{Addr, NoMemory};
 use tp_node::{Out, Outs};
-use tp_records::{Output, Outputs, PeerRecord};
+use tp_records::{Output, Outputs};
 use tp_texts::peer_octets;
-
-// The octets of a record that goes out. Each has a text: one that had none would not be sent, as if there were no memory
-// for it.
-#[tactic(auto, using(crate::proofs::Giving::text_is))]
-fn octets_of(alloc: Global, rec: &PeerRecord) -> Result<Octets, NoMemory>
-    ensures { IfOk result (λ octets. octets ≡ peer_bytes rec.now) }
-{
-    match peer_octets(alloc, rec)? {
-        None => Err(NoMemory),
-        Some(octets) => Ok(octets),
-    }
-}
 
 // An output of a node as it goes out.
 fn output_of(alloc: Global, from: &Addr, out: Out) -> Result<Output, NoMemory>
+    requires { IsShort (out_of out) }
     ensures { IfOk result (λ output. output ≡ output_of from.now.site from.now.node (out_of out)) }
 {
     Ok(match out {
@@ -35,7 +24,7 @@ fn output_of(alloc: Global, from: &Addr, out: Out) -> Result<Output, NoMemory>
         Out::Send { to, rec } => Output::Send {
             from: *from,
             to,
-            octets: octets_of(alloc, &rec)?,
+            octets: peer_octets(alloc, &rec)?,
         },
     })
 }
@@ -52,12 +41,14 @@ fn refusal(alloc: Global, number: Option<u8>) -> Result<Outputs, NoMemory>
 }
 
 /// The outputs of an event of a node as they go out, after the number of a refusal, where there is one.
+#[tactic(auto, using(crate::proofs::Giving::short_all, crate::proofs::Giving::short_first, crate::proofs::Giving::short_rest))]
 pub(crate) fn outputs_of(
     alloc: Global,
     from: &Addr,
     number: Option<u8>,
     outs: Outs,
 ) -> Result<Outputs, NoMemory>
+    requires { AreShort outs }
     ensures { IfOk result (λ outputs. outputs ≡ given_out from.now.site from.now.node number outs) }
 {
     let mut outputs = refusal(alloc, number)?;

@@ -15,6 +15,10 @@ ghost use Rattle.tp_site.specs.Events.{IsAt, all_nodes};
 ghost use Rattle.tp_site.specs.Site.{Plays, Attempts, Settles, Records, Opens, Starts, IsFound, IsUnfound, told_records, opening_of, state_at, known_at};
 ghost use Rattle.tp_node.specs.State.{state_of, tree_in};
 ghost use Rattle.tp_site.specs.Faults.{site_fault, shut_by};
+ghost use Rattle.tp_site.specs.Shaped.{AreShapedNodes, IsShapedDraft};
+ghost use Rattle.tp_texts.specs.Shapes.{IsShaped};
+ghost use Rattle.tp_said_texts.specs.Standing.{IsShapedOption};
+ghost use Rattle.tp_said_texts.specs.Sizes.{AreShort, BringsFew};
 
 use crate::answer::breaks;
 use crate::draft::Draft;
@@ -27,7 +31,7 @@ use tp_logrec::{LogRec, LogVersion};
 use tp_model::{Phase, Refusal, TxFault};
 use tp_names::{NoMemory, SiteName};
 use tp_node::{NodeEvent, NodeState, NodeTree, Outs};
-use tp_texts::has_text;
+use tp_texts::shaped_has_text;
 
 /// What an event gives: its outputs, in order. With a number, it was refused by that, and the association that it came on
 /// was ended; the outputs are of that loss.
@@ -48,20 +52,21 @@ pub struct Site<K: Keeper> {
 
 impl<K: Keeper> Model for Site<K> {
     ghost use Rattle.tp_site.specs.Site.{Site as SiteValue};
+    ghost use Rattle.tp_site.specs.Shaped.{IsShapedSite};
 
     ghost Value = { SiteValue K };
 
     ghost view = { λ s. record { keeper = s.keeper; nodes = s.nodes; shut = s.shut } };
+
+    ghost invariant = { λ s. IsShapedSite K.standing s.keeper s.nodes };
 }
 
-// A record is forced that has a text, as each does: one that has none is not forced, as if there were no memory for it.
+// A record is forced, which has a text.
 fn force<K: Keeper>(alloc: Global, keeper: &mut K, rec: &LogRec) -> Result<(), ForceFault>
+    requires { IsShaped (version_of (K.standing keeper.old).wide) rec.now }
     ensures { Records K.standing keeper.old (Some rec.now) result keeper.new }
 {
-    let version = version_of(keeper);
-    if !has_text(version, rec) {
-        return Err(ForceFault::NoMemory);
-    }
+    shaped_has_text(version_of(keeper), rec);
     match keeper.force(alloc, rec) {
         Ok(_) => Ok(()),
         Err(fault) => Err(fault),
@@ -81,6 +86,7 @@ fn number_in(refusal: Option<Refusal>) -> Option<u8>
 impl<K: Keeper> Site<K> {
     // The record is forced, where there is one.
     fn force(&mut self, alloc: Global, rec: &Option<LogRec>) -> Result<(), ForceFault>
+        requires { IsShapedOption self.old.nodes.version rec.now }
         ensures forced { Records K.standing self.old.keeper rec.now result self.new.keeper }
         ensures nodes { self.new.nodes ≡ self.old.nodes }
         ensures shut { self.new.shut ≡ self.old.shut }
@@ -102,6 +108,8 @@ impl<K: Keeper> Site<K> {
         requires { self.old.shut ≡ None }
         ensures plain { (k : ℕ) → IsPlain (node_at self.old.nodes node) event.now k → result ≡ Err (SiteFault.Refused k) }
         ensures attempts { Attempts K.standing self.old node (event_of event.now) result draft.new self.new }
+        ensures shaped { IfOk result (λ refusal. IsShapedDraft self.new.nodes.version draft.new.move) }
+        ensures short { IfOk result (λ refusal. BringsFew (event_of event.now) → AreShort draft.new.move.outs) }
     {
         match self.nodes.answer_to(alloc, node, event, draft) {
             Ok(refusal) => {
@@ -118,6 +126,7 @@ impl<K: Keeper> Site<K> {
         requires there { has_node self.old.nodes number ≡ true }
         requires who { draft.old.who ≡ who_at self.old.nodes number }
         requires open { self.old.shut ≡ None }
+        requires shaped { IsShapedDraft self.old.nodes.version draft.old.move }
         ensures settled { Settles K.standing self.old number draft.old.move.next draft.old.move.rec result self.new }
         ensures outs { OnOk result (draft.new.move.outs ≡ draft.old.move.outs) }
     {
@@ -222,6 +231,8 @@ impl<K: Keeper> Site<K> {
 
     // The boot is forced, and the site stands on those nodes.
     fn open(alloc: Global, mut keeper: K, nodes: Nodes) -> Result<Site<K>, (K, StartFault)>
+        requires version { version_of (K.standing keeper).wide ≡ nodes.version }
+        requires shaped { AreShapedNodes nodes }
         ensures { Opens K.standing keeper nodes result }
     {
         let rec = LogRec::Boot { boot: nodes.boot() };
@@ -355,8 +366,10 @@ fn last_boot(records: &[LogRec]) -> u64
 // What the records of a log tell of the nodes of a site, for its next boot.
 fn found<K: Keeper>(alloc: Global, keeper: &K, name: SiteName) -> Result<Nodes, StartFault>
     ensures ok { IfOk result (IsFound (K.standing keeper.now) name) }
+    ensures shaped { IfOk result AreShapedNodes }
     ensures err { IfErr result (IsUnfound (K.standing keeper.now) name) }
 {
+    keeper.texts();
     let records = records_of(alloc, keeper)?;
     if let Some(i) = first_out_of_order(alloc, records.as_slice())? {
         return Err(StartFault::Foreign {

@@ -1,6 +1,6 @@
 -- Which peer records have a text, and what their octets are.
-use Rattle.std.specs.Prelude.{ℕ, ◌≤◌, Option, Some, None, List, length}
-use Rattle.tp_names.specs.Grammar.{HasText, IsText}
+use Rattle.std.specs.Prelude.{◌≤◌, length}
+use Rattle.tp_names.specs.Grammar.{HasText}
 use Rattle.tp_records.specs.declared.dialogue.DialogueRecord.{DialogueRecord}
 use Rattle.tp_records.specs.declared.peer.PeerRecord.{PeerRecord}
 use Rattle.tp_records.specs.BodyReading.{peer_grammar}
@@ -17,8 +17,3 @@ HasFewOctets _ = Unit {0}
 abbrev pub CarriesFew : PeerRecord → Type 0
 CarriesFew (PeerRecord.OnAssoc x y q r) = HasFewOctets r
 CarriesFew _ = Unit {0}
-
--- the octets that are the record's text; none where it has no text
-abbrev pub AreOctetsOf : PeerRecord → Option (List ℕ) → Type 0
-AreOctetsOf v None = HasText peer_grammar v → ⊥
-AreOctetsOf v (Some octets) = IsText peer_grammar v octets

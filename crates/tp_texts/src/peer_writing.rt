@@ -1,20 +1,20 @@
-//! The octets of a peer record, if it has any.
-ghost use Rattle.std.specs.Prelude.{IfOk};
-ghost use Rattle.tp_texts.specs.PeerTexts.{AreOctetsOf};
+//! The octets of a peer record.
+ghost use Rattle.std.specs.Prelude.{◌≡◌, IfOk};
+ghost use Rattle.tp_records.specs.Bodies.{peer_bytes};
+ghost use Rattle.tp_texts.specs.PeerTexts.{CarriesFew};
 
-use crate::peer_texts::peer_has_text;
+use crate::peer_texts::few_has_text;
 use std::alloc::Global;
 use tp_names::{NoMemory, Octets};
 use tp_records::{PeerRecord, encode_peer};
 
-/// The octets that are the text of a peer record, none where it has no text.
-pub fn peer_octets(alloc: Global, rec: &PeerRecord) -> Result<Option<Octets>, NoMemory>
-    ensures { IfOk result (AreOctetsOf rec.now) }
+/// The octets that are the text of a peer record, which carries no more of a user's octets than fit.
+pub fn peer_octets(alloc: Global, rec: &PeerRecord) -> Result<Octets, NoMemory>
+    requires { CarriesFew rec.now }
+    ensures { IfOk result (λ octets. octets ≡ peer_bytes rec.now) }
 {
-    if !peer_has_text(rec) {
-        return Ok(None);
-    }
+    few_has_text(rec);
     let mut octets = Octets::new(alloc);
     encode_peer(alloc, rec, &mut octets)?;
-    Ok(Some(octets))
+    Ok(octets)
 }

@@ -9,7 +9,8 @@ ghost use Rattle.tp_node.specs.NodeEvent.{event_of};
 ghost use Rattle.tp_site.specs.Answers.{IsPlain};
 ghost use Rattle.tp_site.specs.Nodes.{who_at, node_at};
 ghost use Rattle.tp_site.specs.Site.{known_at};
-ghost use Rattle.tp_site.specs.Events.{Gives, PlaysAsked, IsAt, StepsTo, opening_at};
+ghost use Rattle.tp_said_texts.specs.Sizes.{BringsFew};
+ghost use Rattle.tp_site.specs.Events.{Gives, PlaysAsked, IsAt, IsInOrder, StepsTo, opening_at};
 
 use crate::draft::Draft;
 use crate::faults::SiteFault;
@@ -33,7 +34,8 @@ impl<K: Keeper> Site<K> {
         event: &NodeEvent<'_>,
         draft: &mut Draft,
     ) -> Result<Outputs, SiteFault>
-        requires { self.old.shut ≡ None }
+        requires open { self.old.shut ≡ None }
+        requires few { BringsFew (event_of event.now) }
         ensures plain { (k : ℕ) → IsPlain (node_at self.old.nodes node) event.now k → result ≡ Err (SiteFault.Refused k) }
         ensures gives { Gives K.standing self.old node (event_of event.now) result self.new }
     {
@@ -52,7 +54,8 @@ impl<K: Keeper> Site<K> {
         node: u16,
         event: &NodeEvent<'_>,
     ) -> Result<Outputs, SiteFault>
-        requires { self.old.shut ≡ None }
+        requires open { self.old.shut ≡ None }
+        requires few { BringsFew (event_of event.now) }
         ensures plain { (k : ℕ) → IsPlain (node_at self.old.nodes node) event.now k → result ≡ Err (SiteFault.Refused k) }
         ensures gives { Gives K.standing self.old node (event_of event.now) result self.new }
     {
@@ -112,10 +115,11 @@ impl<K: Keeper> Site<K> {
     /// An event as it comes to the site. Its record is forced before any output is given; a refusal changes nothing. Octets
     /// that are not exactly one record are refused by 25, and a record for another site by 23. Where a record came out of
     /// phase and ends its association, the outputs begin with that refusal and go on with the loss. After a fault of the
-    /// disk every event is answered `Shut`. A user's request that is refused takes no memory, but where numbers are spent.
+    /// disk every event is answered `Shut`. Where the keeper's records follow each other, they do so after it. A user's request that is refused takes no memory, but where numbers are spent.
     pub fn event(&mut self, alloc: Global, event: &Event) -> Result<Outputs, SiteFault>
         ensures plays { PlaysAsked K.standing self.old (asked (opening_at self.old.nodes.site) event.now) result self.new }
         ensures steps { (mine : ℕ → Bool) (o : Opening) (gs : List Given) → IsAt K.standing mine o gs self.old → mine (node_of event.now) ≡ true → StepsTo K.standing mine o gs self.old event.now result self.new }
+        ensures order { (mine : ℕ → Bool) (o : Opening) (gs : List Given) → IsAt K.standing mine o gs self.old → mine (node_of event.now) ≡ true → IsInOrder (K.standing self.old.keeper) → IsInOrder (K.standing self.new.keeper) }
         ensures lasting { (K.standing self.new.keeper).lasting ≡ (K.standing self.old.keeper).lasting }
         ensures plain { (n : ℕ) (r : Asks) (k : ℕ) → event.now ≡ Given.Do n r → self.old.shut ≡ None → refused_plainly (who_at self.old.nodes n) (known_at self.old n) (Do r) ≡ Some k → result ≡ Err (SiteFault.Refused k) }
         ensures shut { (faults : ℕ) → self.old.shut ≡ Some faults → result ≡ Err (SiteFault.Shut faults) }

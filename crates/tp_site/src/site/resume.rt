@@ -5,6 +5,7 @@ ghost use Rattle.tp_model.specs.NodeRun.{Opening};
 ghost use Rattle.tp_model.specs.Lanes.{records_in};
 ghost use Rattle.tp_site.specs.Nodes.{AreFrom, IsSameSite};
 ghost use Rattle.tp_site.specs.Events.{IsAt};
+ghost use Rattle.tp_site.specs.Shaped.{AreShapedNodes};
 ghost use Rattle.tp_site.specs.Resume.{is_in_lane, is_record_in, IsLaneOf, IsStartedOn, Resumes};
 
 use crate::nodes::Nodes;
@@ -57,8 +58,10 @@ fn lane_of<K: Keeper>(
     lanes: u16,
 ) -> Result<Nodes, NoMemory>
     requires { lane < lanes }
-    ensures { IfOk result (IsLaneOf (K.standing keeper.now) name boot lane lanes) }
+    ensures lane { IfOk result (IsLaneOf (K.standing keeper.now) name boot lane lanes) }
+    ensures shaped { IfOk result AreShapedNodes }
 {
+    keeper.texts();
     let mut nodes = Nodes::new(alloc, name, boot, version_of(keeper));
     for i in 0..keeper.count() {
         recover(alloc, &mut nodes, keeper.rec(i), lane, lanes)?;

@@ -1,0 +1,162 @@
+-- A site whose nodes stand as the texts of its log ask stands so after its start, and after every event.
+use Rattle.std.proofs.Common.{if◌then◌else◌, ◌≡◌, ◌==◌, ◌%◌, ◌&&◌, ℕ, Bool, true, false, refl, ap, sym, subst, ◌∙◌, cond, arith, Option, Some, None, List, [], ◌∷◌, map, Result, Ok, Err}
+use Rattle.std.proofs.lemmas.Bool.Decides.{nat_tests}
+use Rattle.std.proofs.lemmas.List.Elements.{recursion_from_All}
+use Rattle.std.specs.List.{All, AllByRecursion}
+use Rattle.tp_logrec.specs.declared.record.LogRec.{LogRec}
+use Rattle.tp_logrec.specs.declared.record.LogVersion.{LogVersion}
+use Rattle.tp_logrec.specs.declared.owner.Owner.{Owner}
+use Rattle.tp_logrec.specs.Order.{owner_of}
+use Rattle.tp_texts.specs.Shapes.{IsShaped, AreShaped}
+use Rattle.tp_model.specs.Parts.{Who, Start, Event, Declare, Do, Arrive, Break, Lose, Heur, GiveUp, Retry, Purge, Crash, Digest}
+use Rattle.tp_model.specs.Events.{started, refusal, action, is_breaking}
+use Rattle.tp_model.specs.History.{broken_by}
+use Rattle.tp_model.specs.Lanes.{records_in}
+use Rattle.tp_model.specs.Node.{Move}
+use Rattle.tp_model.specs.NodeRun.{records_at}
+use Rattle.tp_steps.specs.Histories.{brought}
+use Rattle.tp_said_texts.specs.Standing.{IsShapedOption, IsShapedMove}
+use Rattle.tp_said_texts.specs.Sizes.{AreShort, BringsFew, IsShortRecord}
+use Rattle.tp_said_texts.specs.Texts.{HaveTexts}
+use Rattle.tp_said_texts.proofs.Kept.{start_stands, move_stands}
+use Rattle.tp_said_texts.proofs.Running.{shaped_at}
+use Rattle.tp_said_texts.proofs.Read.{texts_shaped}
+use Rattle.tp_said_texts.proofs.Short.{outputs_short}
+use Rattle.tp_journal.specs.Keeping.{Standing}
+use Rattle.tp_journal.specs.Records.{version_of, HasText}
+use Rattle.tp_journal.specs.declared.receipts.Receipt.{Receipt}
+use Rattle.tp_journal.specs.declared.faults.ForceFault.{ForceFault}
+use Rattle.tp_journal.specs.declared.faults.ForceFault.TheVariants as force
+use Rattle.tp_node.specs.NodeEvent.{Answer, Refuses, Happens, answer_at}
+use Rattle.tp_site.specs.Nodes.{Nodes, who_at, digest_at, IsSameSite, AreFrom}
+use Rattle.tp_site.specs.Site.{told_records, Records}
+use Rattle.tp_site.specs.Resume.{IsLaneOf}
+use Rattle.tp_site.specs.Shaped.{IsShapedNode, AreShapedNodes, IsShapedSite, IsShapedDraft}
+
+-- ---- the start
+
+have_texts : (wide : Bool) (told : List Receipt) → AllByRecursion (λ r. HasText wide r.rec) told → HaveTexts (version_of wide) (map (λ r. r.rec) told)
+have_texts wide [] h = tt
+have_texts wide (r ∷ told) h = (h.0, have_texts wide told h.1)
+
+-- the records that a keeper tells
+told_shaped : (s : Standing) → All (λ r. HasText s.wide r.rec) s.told → AreShaped (version_of s.wide) (told_records s)
+told_shaped s h = texts_shaped (version_of s.wide) (told_records s) (have_texts s.wide s.told (recursion_from_All (λ r. HasText s.wide r.rec) s.told h))
+
+node_started : (s : Start) → AreShaped s.version s.records → IsShapedNode s.version (started s)
+unfolding started
+node_started s h = record { version = refl; stands = start_stands s h }
+
+from_shaped : (rs : List LogRec) (v : Nodes) → AreShaped v.version rs → AreFrom rs v → AreShapedNodes v
+from_shaped rs v h from n =
+    subst (IsShapedNode v.version) (sym (from n)) (node_started (record { boot = v.boot; version = v.version; records = records_at n rs }) (shaped_at v.version n rs h))
+
+pub found_shaped : (s : Standing) (rs : List LogRec) (v : Nodes) → All (λ r. HasText s.wide r.rec) s.told → rs ≡ told_records s → v.version ≡ version_of s.wide → AreFrom rs v → AreShapedNodes v
+found_shaped s rs v h told is from = from_shaped rs v (subst (λ (l : List LogRec). AreShaped v.version l) (sym told) (subst (λ (x : LogVersion). AreShaped x (told_records s)) (sym is) (told_shaped s h))) from
+
+-- those of a lane
+lane_shaped : (ver : LogVersion) (i w : ℕ) (rs : List LogRec) → AreShaped ver rs → AreShaped ver (records_in i w rs)
+lane_shaped ver i w [] h = tt
+lane_shaped ver i w (r ∷ rs) h = go (owner_of r) (lane_shaped ver i w rs h.1)
+  where
+    go : (o : Option Owner) → AreShaped ver (records_in i w rs)
+        → AreShaped ver (elim o as (λ _. List LogRec) [ None ↦ records_in i w rs | Some p ↦ elim (p.node % w == i) as (λ _. List LogRec) [ true ↦ r ∷ records_in i w rs | false ↦ records_in i w rs ] ])
+    go None rest = rest
+    go (Some p) rest = by (p.node % w == i)
+      where
+        by : (b : Bool) → AreShaped ver (elim b as (λ _. List LogRec) [ true ↦ r ∷ records_in i w rs | false ↦ records_in i w rs ])
+        by true = (h.0, rest)
+        by false = rest
+
+pub resumed_shaped : (s : Standing) (name : List ℕ) (boot i w : ℕ) (v : Nodes) → All (λ r. HasText s.wide r.rec) s.told → IsLaneOf s name boot i w v → AreShapedNodes v
+resumed_shaped s name boot i w v h is =
+    from_shaped (records_in i w (told_records s)) v (subst (λ (x : LogVersion). AreShaped x (records_in i w (told_records s))) (sym is.version) (lane_shaped (version_of s.wide) i w (told_records s) (told_shaped s h))) is.from
+
+-- ---- an event
+
+-- the event that happens: the one that was asked, or the loss that follows it
+record HasHappened (who : Who) (d : Digest) (e : Event) (m : Move) : Type 0 where
+  event : Event
+  ok : refusal who d event ≡ None
+  is : action who d event ≡ m
+  brings : brought event ≡ brought e
+
+brought_broken : (e : Event) → brought (broken_by e) ≡ brought e
+brought_broken (Declare s) = refl
+brought_broken (Do r) = refl
+brought_broken (Arrive a r) = refl
+brought_broken (Break a r) = refl
+brought_broken (Lose p) = refl
+brought_broken (Heur o) = refl
+brought_broken (GiveUp p) = refl
+brought_broken Retry = refl
+brought_broken Purge = refl
+brought_broken Crash = refl
+
+-- where an answer breaks the association, the loss is accepted
+breaks : (who : Who) (d : Digest) (e : Event) → refusal who d e ≡ Some 24 → is_breaking who d e ≡ true → refusal who d (broken_by e) ≡ None
+unfolding refusal
+breaks who d (Arrive a r) h b = grind (arith, nat_tests)
+breaks who d e h b = absurd cc
+
+has_happened : (who : Who) (d : Digest) (e : Event) (k : Option ℕ) (m : Move) → answer_at who d e ≡ Happens k m → HasHappened who d e m
+has_happened who d e k m is = go (refusal who d e) refl is
+  where
+    broke : (n : ℕ) (b : Bool) → refusal who d e ≡ Some n → ((n == 24) && is_breaking who d e) ≡ b → (if b then Happens (Some n) (action who d (broken_by e)) else Refuses n) ≡ Happens k m → HasHappened who d e m
+    broke n false i j h = absurd cc
+    broke n true i j h =
+        let at : n ≡ 24 = grind (arith, nat_tests) in
+        let breaking : is_breaking who d e ≡ true = grind arith in
+        record { event = broken_by e; ok = breaks who d e (i ∙ ap (λ (x : ℕ). Some x) at) breaking; is = cc (h); brings = brought_broken e }
+
+    go : (o : Option ℕ) → refusal who d e ≡ o
+        → elim o as (λ _. Answer) [ None ↦ Happens None (action who d e) | Some n ↦ if (n == 24) && is_breaking who d e then Happens (Some n) (action who d (broken_by e)) else Refuses n ] ≡ Happens k m
+        → HasHappened who d e m
+    go None i h = record { event = e; ok = i; is = cc (h); brings = refl }
+    go (Some n) i h = broke n ((n == 24) && is_breaking who d e) i refl h
+
+pub drawn_shaped : (v : Nodes) (n : ℕ) (e : Event) (k : Option ℕ) (m : Move) → AreShapedNodes v → answer_at (who_at v n) (digest_at v n) e ≡ Happens k m → IsShapedDraft v.version m
+drawn_shaped v n e k m all is =
+    let a : HasHappened (who_at v n) (digest_at v n) e m = has_happened (who_at v n) (digest_at v n) e k m is in
+    let was : IsShapedNode v.version (digest_at v n) = all n in
+    let moved : IsShapedMove (digest_at v n) m = subst (IsShapedMove (digest_at v n)) a.is (move_stands (who_at v n) (digest_at v n) a.event a.ok was.stands) in
+    record {
+      rec = subst (λ (x : LogVersion). IsShapedOption x m.rec) was.version moved.rec;
+      next = record { version = moved.version ∙ was.version; stands = moved.next };
+    }
+
+pub drawn_short : (v : Nodes) (n : ℕ) (e : Event) (k : Option ℕ) (m : Move) → answer_at (who_at v n) (digest_at v n) e ≡ Happens k m → BringsFew e → AreShort m.outs
+drawn_short v n e k m is few =
+    let a : HasHappened (who_at v n) (digest_at v n) e m = has_happened (who_at v n) (digest_at v n) e k m is in
+    subst (λ (x : Move). AreShort x.outs) a.is (outputs_short (who_at v n) (digest_at v n) a.event a.ok (subst IsShortRecord (sym a.brings) few))
+
+-- ---- the nodes after it
+
+pub same_shaped : (old new : Nodes) → AreShapedNodes old → ((n : ℕ) → digest_at new n ≡ digest_at old n) → IsSameSite old new → AreShapedNodes new
+same_shaped old new all same site n = subst (λ (x : LogVersion). IsShapedNode x (digest_at new n)) (sym site.version) (subst (IsShapedNode old.version) (sym (same n)) (all n))
+
+pub put_shaped : (old new : Nodes) (n : ℕ) (d : Digest) → AreShapedNodes old → IsShapedNode old.version d → ((k : ℕ) → digest_at new k ≡ cond (n == k) d (digest_at old k)) → IsSameSite old new → AreShapedNodes new
+put_shaped old new n d all one put site k = subst (λ (x : LogVersion). IsShapedNode x (digest_at new k)) (sym site.version) (subst (IsShapedNode old.version) (sym (put k)) (go (n == k)))
+  where
+    go : (b : Bool) → IsShapedNode old.version (cond b d (digest_at old k))
+    go true = one
+    go false = all k
+
+-- ---- the keeper after it
+
+wide_recorded : {K : Type 0} (standing : K → Standing) (old new : K) (rec : Option LogRec) (result : Result (Unit {0}) ForceFault) → Records standing old rec result new → (standing new).wide ≡ (standing old).wide
+wide_recorded standing old new None (Ok u) h = ap (λ k. (standing k).wide) h
+wide_recorded standing old new (Some r) (Ok u) h = h.1.wide
+wide_recorded standing old new None (Err (force.Full size)) h = absurd h
+wide_recorded standing old new None (Err (force.DiskFault n)) h = absurd h
+wide_recorded standing old new None (Err (force.Shut n)) h = absurd h
+wide_recorded standing old new (Some r) (Err (force.Full size)) h = h.0.wide
+wide_recorded standing old new (Some r) (Err (force.DiskFault n)) h = h.0.wide
+wide_recorded standing old new (Some r) (Err (force.Shut n)) h = h.0.wide
+wide_recorded standing old new rec (Err force.NoMemory) h = ap (λ (s : Standing). s.wide) h
+
+pub recorded_shaped : {K : Type 0} (standing : K → Standing) (old new : K) (v : Nodes) (rec : Option LogRec) (result : Result (Unit {0}) ForceFault) → IsShapedSite standing old v → Records standing old rec result new → IsShapedSite standing new v
+recorded_shaped standing old new v rec result was h = record { wide = ap version_of (wide_recorded standing old new rec result h) ∙ was.wide; nodes = was.nodes }
+
+pub one_shaped : (ver here : LogVersion) (r : LogRec) → here ≡ ver → IsShapedOption ver (Some r) → IsShaped here r
+one_shaped ver here r same h = subst (λ (x : LogVersion). IsShaped x r) (sym same) h
