@@ -83,9 +83,9 @@ const BOOT_2: &[u8] = b"OTPL\x01\x01\x00\x09\x01\0\0\0\0\0\0\0\x02\x00";
 
 const BOOT_2_WIDE: &[u8] = b"OTPL\x01\x01\x00\x02\x07\x02\x01\x00\x09\x01\0\0\0\0\0\0\0\x02\x00";
 
-// A log of a damage.
+// A log of a boot, a commitment and its damage.
 const DAMAGE: &[u8] =
-    b"OTPL\x01\x01\x00\x09\x01\0\0\0\0\0\0\0\x01\x01\x00\x1b\x05\x00\x01\x01a\0\0\0\0\0\0\0\x01\x00\x01\0\0\0\0\0\0\0\x02\x00\x01\x01\x00\x00";
+    b"OTPL\x01\x01\x00\x09\x01\0\0\0\0\0\0\0\x01\x01\x00\x31\x04\x00\x01\x01a\0\0\0\0\0\0\0\x01\x00\x01\0\0\0\0\0\0\0\x02\x00\x01\x01b\x00\x02\x01a\0\0\0\0\0\0\0\x01\x00\x01\0\0\0\0\0\0\0\x03\x01\x00\x1b\x05\x00\x01\x01a\0\0\0\0\0\0\0\x01\x00\x01\0\0\0\0\0\0\0\x02\x00\x01\x01\x00\x00";
 
 // A store of one key.
 const STORE: &[u8] =
@@ -99,7 +99,7 @@ const ON_DISKS: &[(&str, &[u8], Status, &str, &[u8])] = &[
         "check",
         DAMAGE,
         Status::Findings { n: 1 },
-        "17 damage 1 a.1.1.2 - commit hazard\n",
+        "69 damage 1 a.1.1.2 - commit hazard\n",
         DAMAGE,
     ),
     ("compact", BOOTS, Status::Ok, "", BOOT_2),
