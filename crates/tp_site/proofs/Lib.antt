@@ -25,3 +25,4 @@ pub mod Giving
 pub mod Settled
 pub mod Shaped
 pub mod Ordered
+pub mod Asked

@@ -20,7 +20,7 @@ use Rattle.tp_site.specs.declared.site.Played.{Played}
 use Rattle.tp_site.specs.Nodes.{who_at}
 use Rattle.tp_node.specs.NodeEvent.{Answer, Refuses, Happens, answer_at}
 use Rattle.tp_site.specs.Site.{Site, IsSame, IsForced, IsUnforced, IsPlayed, IsHalted, rec_of, known_at}
-use Rattle.tp_site.specs.Events.{opening_at, given_out, Gives, Declines, PlaysAsked, kept_records, history_at, IsAt, answer_asked, answer_after, outputs_after, record_of, record_after, IsStepped, IsStopped, StepsTo}
+use Rattle.tp_site.specs.Events.{opening_at, rec_asked, given_out, Gives, Declines, PlaysAsked, kept_records, history_at, IsAt, answer_asked, answer_after, outputs_after, record_of, record_after, IsStepped, IsStopped, StepsTo}
 use Rattle.tp_site.proofs.Entries.{IsGained, has_gained, IsTurnedDown, turned_down}
 use Rattle.tp_site.proofs.Runs.{history_grown, asked_at, asked_by_name, outputs_by_name, run_asked, joined, run_next}
 
@@ -279,6 +279,18 @@ stepping {K} standing mine o gs old g result new at own plays = go (asked o g) r
     go (Is n e) i x =
         let node : node_of g ≡ n = asked_at o g n e i in
         gave standing mine o gs old g n e (record { at = at; own = subst (λ (j : ℕ). mine j ≡ true) node own; is = i; node = node }) result new x
+
+-- the record that an event asks for is that of the run
+pub record_is_asked : {K : Type 0} (standing : K → Standing) (mine : ℕ → Bool) (o : Opening) (gs : List Given) (old : Site K) (g : Given) → IsAt standing mine o gs old → mine (node_of g) ≡ true
+    → rec_asked old (asked (opening_at old.nodes.site) g) ≡ record_after o gs g
+record_is_asked standing mine o gs old g at own =
+    ap (λ (s : List ℕ). rec_asked old (asked (opening_at s) g)) at.site ∙ ap (rec_asked old) (asked_by_name o g) ∙ go (asked o g) refl
+  where
+    go : (a : Asked) → asked o g ≡ a → rec_asked old a ≡ record_after o gs g
+    go (Not_asked k) i = ap (λ (b : Asked). record_of (answer_asked o gs b).entry) (sym i)
+    go (Is n e) i =
+        let node : node_of g ≡ n = asked_at o g n e i in
+        recorded standing mine o gs old g n e (record { at = at; own = subst (λ (j : ℕ). mine j ≡ true) node own; is = i; node = node })
 
 -- ---- a site that is shut
 

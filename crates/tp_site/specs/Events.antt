@@ -13,7 +13,9 @@ use Rattle.tp_journal.specs.declared.faults.ForceFault.{ForceFault}
 use Rattle.tp_journal.specs.declared.faults.ForceFault.TheVariants as force
 use Rattle.tp_journal.specs.Keeping.{Standing}
 use Rattle.tp_journal.specs.Records.{version_of}
-use Rattle.tp_site.specs.Site.{Site, Plays, IsForced, IsUnforced, known_at}
+use Rattle.tp_site.specs.Nodes.{who_at}
+use Rattle.tp_site.specs.Site.{Site, Plays, IsForced, IsUnforced, known_at, rec_of}
+use Rattle.tp_node.specs.NodeEvent.{answer_at}
 use Rattle.tp_site.specs.declared.faults.SiteFault.{SiteFault}
 use Rattle.tp_site.specs.declared.site.Played.{Played}
 use Rattle.tp_site_logs.specs.SiteLogs.{is_in_order}
@@ -52,6 +54,11 @@ Declines old k (Err SiteFault.NoMemory) new = (old.shut ≡ None) × (new ≡ ol
 abbrev pub PlaysAsked : {K : Type 0} → (K → Standing) → Site K → Asked → Result (List Output) SiteFault → Site K → Type 0
 PlaysAsked standing old (Refuses k) result new = Declines old k result new
 PlaysAsked standing old (Is n e) result new = Gives standing old n e result new
+
+-- the record that it asks for
+abbrev pub rec_asked : {K : Type 0} → Site K → Asked → Option LogRec
+rec_asked old (Refuses k) = None
+rec_asked old (Is n e) = rec_of (answer_at (who_at old.nodes n) (known_at old n) e)
 
 -- ---- a list of events, from the start
 

@@ -7,7 +7,9 @@ ghost use Rattle.std.specs.Option.{option_map};
 ghost use Rattle.tp_logrec.specs.Order.{boots, last_number};
 ghost use Rattle.tp_model.specs.History.{state};
 ghost use Rattle.tp_model.specs.Refusal.{number_in};
-ghost use Rattle.tp_journal.specs.Records.{version_of};
+ghost use Rattle.tp_logrec.specs.declared.record.LogRec.{LogRec as TheRecord};
+ghost use Rattle.tp_model.specs.NodeRun.{boot_of};
+ghost use Rattle.tp_journal.specs.Records.{version_of, HasText};
 ghost use Rattle.tp_node.specs.NodeEvent.{event_of};
 ghost use Rattle.tp_site.specs.Answers.{IsPlain};
 ghost use Rattle.tp_site.specs.Nodes.{has_node, who_at, node_at};
@@ -15,7 +17,7 @@ ghost use Rattle.tp_site.specs.Events.{IsAt, all_nodes};
 ghost use Rattle.tp_site.specs.Site.{Plays, Attempts, Settles, Records, Opens, Starts, IsFound, IsUnfound, told_records, opening_of, state_at, known_at};
 ghost use Rattle.tp_node.specs.State.{state_of, tree_in};
 ghost use Rattle.tp_site.specs.Faults.{site_fault, shut_by};
-ghost use Rattle.tp_site.specs.Shaped.{AreShapedNodes, IsShapedDraft};
+ghost use Rattle.tp_site.specs.Shaped.{AreShapedNodes, IsShapedDraft, HasTextOption, HasTextIfStarted, IsEarly};
 ghost use Rattle.tp_texts.specs.Shapes.{IsShaped};
 ghost use Rattle.tp_said_texts.specs.Standing.{IsShapedOption};
 ghost use Rattle.tp_said_texts.specs.Sizes.{AreShort, BringsFew};
@@ -64,7 +66,8 @@ impl<K: Keeper> Model for Site<K> {
 // A record is forced, which has a text.
 fn force<K: Keeper>(alloc: Global, keeper: &mut K, rec: &LogRec) -> Result<(), ForceFault>
     requires { IsShaped (version_of (K.standing keeper.old).wide) rec.now }
-    ensures { Records K.standing keeper.old (Some rec.now) result keeper.new }
+    ensures forced { Records K.standing keeper.old (Some rec.now) result keeper.new }
+    ensures text { HasText (K.standing keeper.old).wide rec.now }
 {
     shaped_has_text(version_of(keeper), rec);
     match keeper.force(alloc, rec) {
@@ -88,6 +91,7 @@ impl<K: Keeper> Site<K> {
     fn force(&mut self, alloc: Global, rec: &Option<LogRec>) -> Result<(), ForceFault>
         requires { IsShapedOption self.old.nodes.version rec.now }
         ensures forced { Records K.standing self.old.keeper rec.now result self.new.keeper }
+        ensures text { HasTextOption (K.standing self.old.keeper).wide rec.now }
         ensures nodes { self.new.nodes ≡ self.old.nodes }
         ensures shut { self.new.shut ≡ self.old.shut }
     {
@@ -129,6 +133,7 @@ impl<K: Keeper> Site<K> {
         requires shaped { IsShapedDraft self.old.nodes.version draft.old.move }
         ensures settled { Settles K.standing self.old number draft.old.move.next draft.old.move.rec result self.new }
         ensures outs { OnOk result (draft.new.move.outs ≡ draft.old.move.outs) }
+        ensures text { HasTextOption (K.standing self.old.keeper).wide draft.old.move.rec }
     {
         if let Err(fault) = self.force(alloc, draft.rec()) {
             return Err(self.stop(fault));
@@ -148,6 +153,7 @@ impl<K: Keeper> Site<K> {
         ensures same { self.new ≡ self.old }
         ensures plain { (k : ℕ) → IsPlain (node_at self.old.nodes node) event.now k → IfErr result (λ fault. fault ≡ SiteFault.Refused k) }
         ensures refused { IfErr result (λ fault. Plays K.standing self.old node (event_of event.now) (Err fault) self.new) }
+        ensures early { IfErr result IsEarly }
     {
         match self.spare.take() {
             Some(draft) => Ok(draft),
@@ -166,6 +172,7 @@ impl<K: Keeper> Site<K> {
         requires { self.now.shut ≡ None }
         ensures plain { (k : ℕ) → IsPlain (node_at self.now.nodes node) event.now k → result ≡ Err (SiteFault.Refused k) }
         ensures refused { IfErr result (λ fault. Plays K.standing self.now node (event_of event.now) (Err fault) self.now) }
+        ensures early { IfErr result IsEarly }
     {
         if !breaks(event) {
             if let Some(refusal) = self.nodes.refused_at_once(alloc, node, event) {
@@ -233,7 +240,8 @@ impl<K: Keeper> Site<K> {
     fn open(alloc: Global, mut keeper: K, nodes: Nodes) -> Result<Site<K>, (K, StartFault)>
         requires version { version_of (K.standing keeper).wide ≡ nodes.version }
         requires shaped { AreShapedNodes nodes }
-        ensures { Opens K.standing keeper nodes result }
+        ensures opens { Opens K.standing keeper nodes result }
+        ensures text { HasTextIfStarted (K.standing keeper).wide (TheRecord.Boot nodes.boot) result }
     {
         let rec = LogRec::Boot { boot: nodes.boot() };
         match force(alloc, &mut keeper, &rec) {
@@ -252,6 +260,7 @@ impl<K: Keeper> Site<K> {
     pub fn start(alloc: Global, keeper: K, name: SiteName) -> Result<Site<K>, (K, StartFault)>
         ensures starts { Starts K.standing keeper name result }
         ensures at { IfOk result (λ site. (K.standing keeper).told ≡ (K.standing keeper).kept → IsAt K.standing all_nodes (opening_of (K.standing keeper) name) [] site) }
+        ensures text { HasTextIfStarted (K.standing keeper).wide (TheRecord.Boot (boot_of (opening_of (K.standing keeper) name))) result }
     {
         match found(alloc, &keeper, name) {
             Ok(nodes) => Site::open(alloc, keeper, nodes),

@@ -8,9 +8,11 @@ ghost use Rattle.tp_model.specs.NodeRun.{Opening, asked, node_of};
 ghost use Rattle.tp_node.specs.NodeEvent.{event_of};
 ghost use Rattle.tp_site.specs.Answers.{IsPlain};
 ghost use Rattle.tp_site.specs.Nodes.{who_at, node_at};
-ghost use Rattle.tp_site.specs.Site.{known_at};
+ghost use Rattle.tp_site.specs.Site.{known_at, rec_of};
+ghost use Rattle.tp_site.specs.Shaped.{HasTextIfAsked};
+ghost use Rattle.tp_node.specs.NodeEvent.{answer_at};
 ghost use Rattle.tp_said_texts.specs.Sizes.{BringsFew};
-ghost use Rattle.tp_site.specs.Events.{Gives, PlaysAsked, IsAt, IsInOrder, StepsTo, opening_at};
+ghost use Rattle.tp_site.specs.Events.{Gives, PlaysAsked, IsAt, IsInOrder, StepsTo, opening_at, rec_asked, record_after};
 
 use crate::draft::Draft;
 use crate::faults::SiteFault;
@@ -38,6 +40,7 @@ impl<K: Keeper> Site<K> {
         requires few { BringsFew (event_of event.now) }
         ensures plain { (k : ℕ) → IsPlain (node_at self.old.nodes node) event.now k → result ≡ Err (SiteFault.Refused k) }
         ensures gives { Gives K.standing self.old node (event_of event.now) result self.new }
+        ensures text { HasTextIfAsked (K.standing self.old.keeper).wide (rec_of (answer_at (who_at self.old.nodes node) (known_at self.old node) (event_of event.now))) result }
     {
         let refusal = self.attempt(alloc, node, event, draft)?;
         let site = self.name();
@@ -58,6 +61,7 @@ impl<K: Keeper> Site<K> {
         requires few { BringsFew (event_of event.now) }
         ensures plain { (k : ℕ) → IsPlain (node_at self.old.nodes node) event.now k → result ≡ Err (SiteFault.Refused k) }
         ensures gives { Gives K.standing self.old node (event_of event.now) result self.new }
+        ensures text { HasTextIfAsked (K.standing self.old.keeper).wide (rec_of (answer_at (who_at self.old.nodes node) (known_at self.old node) (event_of event.now))) result }
     {
         let mut draft = self.spare_draft(alloc, node, event)?;
         let outputs = self.give_on(alloc, node, event, &mut draft);
@@ -74,7 +78,8 @@ impl<K: Keeper> Site<K> {
         octets: &Octets,
     ) -> Result<Outputs, SiteFault>
         requires { self.old.shut ≡ None }
-        ensures { PlaysAsked K.standing self.old (asked (opening_at self.old.nodes.site) (Event.Arrive from to octets.now)) result self.new }
+        ensures plays { PlaysAsked K.standing self.old (asked (opening_at self.old.nodes.site) (Event.Arrive from to octets.now)) result self.new }
+        ensures text { HasTextIfAsked (K.standing self.old.keeper).wide (rec_asked self.old (asked (opening_at self.old.nodes.site) (Event.Arrive from to octets.now))) result }
     {
         let Some(rec) = read_whole_peer(alloc, octets.as_slice())? else {
             return Err(SiteFault::Refused(Refusal::BadRecord.number()));
@@ -91,6 +96,7 @@ impl<K: Keeper> Site<K> {
         requires { self.old.shut ≡ None }
         ensures plain { (n : ℕ) (r : Asks) (k : ℕ) → event.now ≡ Given.Do n r → refused_plainly (who_at self.old.nodes n) (known_at self.old n) (Do r) ≡ Some k → result ≡ Err (SiteFault.Refused k) }
         ensures plays { PlaysAsked K.standing self.old (asked (opening_at self.old.nodes.site) event.now) result self.new }
+        ensures text { HasTextIfAsked (K.standing self.old.keeper).wide (rec_asked self.old (asked (opening_at self.old.nodes.site) event.now)) result }
     {
         match event {
             Event::Declare { node, superior } => {
@@ -120,6 +126,7 @@ impl<K: Keeper> Site<K> {
         ensures plays { PlaysAsked K.standing self.old (asked (opening_at self.old.nodes.site) event.now) result self.new }
         ensures steps { (mine : ℕ → Bool) (o : Opening) (gs : List Given) → IsAt K.standing mine o gs self.old → mine (node_of event.now) ≡ true → StepsTo K.standing mine o gs self.old event.now result self.new }
         ensures order { (mine : ℕ → Bool) (o : Opening) (gs : List Given) → IsAt K.standing mine o gs self.old → mine (node_of event.now) ≡ true → IsInOrder (K.standing self.old.keeper) → IsInOrder (K.standing self.new.keeper) }
+        ensures text { (mine : ℕ → Bool) (o : Opening) (gs : List Given) → IsAt K.standing mine o gs self.old → mine (node_of event.now) ≡ true → HasTextIfAsked (K.standing self.old.keeper).wide (record_after o gs event.now) result }
         ensures lasting { (K.standing self.new.keeper).lasting ≡ (K.standing self.old.keeper).lasting }
         ensures plain { (n : ℕ) (r : Asks) (k : ℕ) → event.now ≡ Given.Do n r → self.old.shut ≡ None → refused_plainly (who_at self.old.nodes n) (known_at self.old n) (Do r) ≡ Some k → result ≡ Err (SiteFault.Refused k) }
         ensures shut { (faults : ℕ) → self.old.shut ≡ Some faults → result ≡ Err (SiteFault.Shut faults) }
