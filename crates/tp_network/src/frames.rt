@@ -80,6 +80,13 @@ impl Frames {
         }
     }
 
+    /// How many were sent.
+    pub fn count(&self) -> usize
+        ensures { result ≡ length self.now }
+    {
+        self.items.len()
+    }
+
     /// The frame of that number.
     #[tactic(auto, using(crate::proofs::Oldest::found_number, crate::proofs::Oldest::unfound_number))]
     pub fn find(&self, number: u16) -> Option<&Frame>

@@ -1,5 +1,5 @@
 //! A world, and its public calls.
-ghost use Rattle.std.specs.Prelude.{◌≡◌, ◌++◌, ◌∷◌, [], true, false, Err, IfOk, OnOk};
+ghost use Rattle.std.specs.Prelude.{◌≡◌, ◌++◌, ◌∷◌, [], true, false, Err, length, IfOk, OnOk};
 ghost use Rattle.tp_model.specs.LineText.{line_text};
 ghost use Rattle.tp_model.specs.Lines.{line as line_value};
 ghost use Rattle.tp_model.specs.World.{World as WorldValue, empty_world};
@@ -99,6 +99,13 @@ impl World {
         ensures { IfOk result (λ lines. (w : WorldValue) → Stands w self.now → lines ≡ closing w) }
     {
         closing_lines(alloc, self.trees.as_slice(), self.nodes.as_slice())
+    }
+
+    /// How many frames were sent.
+    pub fn frames_sent(&self) -> usize
+        ensures { (w : WorldValue) → Stands w self.now → result ≡ length w.frames }
+    {
+        self.frames.count()
     }
 
     // A line without its echo.
