@@ -9,6 +9,7 @@ usage: tpnode COMMAND [--name NAME] [--number N] [--nodes K] [--rounds R]
   show      writes each record of the log
   check     writes each damage that stands in the log
   make      writes the schedule of number N, K nodes and R rounds
+  trial     replays that schedule, writes what it came to
   compact   makes the log as short as it can be
   migrate   makes the log as short as it can be, in version 2
   keys      writes each key of the store, with its value

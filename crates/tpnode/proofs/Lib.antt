@@ -12,4 +12,5 @@ mod Promised
 mod Asking
 mod Dispatched
 mod Replayed
+mod Tried
 mod Listed

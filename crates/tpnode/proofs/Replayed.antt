@@ -6,7 +6,7 @@ use Rattle.tpnode.specs.declared.status.Status.{Status}
 use Rattle.tpnode.specs.Status.{Ends, IsLimitAt, IsReplayEnding}
 use Rattle.tpnode.specs.Commands.{exits, EndsInLine}
 
-limit_at : (what : What) (at : ℕ) → 0 < at → IsLimitAt what at
+pub limit_at : (what : What) (at : ℕ) → 0 < at → IsLimitAt what at
 limit_at What.Schedule at h = h
 limit_at What.Sites at h = h
 limit_at What.Nodes at h = h

@@ -11,6 +11,7 @@ use Rattle.tpnode.specs.Status.{ok, findings, usage, bad_input, limit, foreign, 
 use Rattle.tpnode.specs.Shown.{shown}
 use Rattle.tpnode.specs.Replay.{Writes}
 use Rattle.tpnode.specs.Making.{Makes}
+use Rattle.tpnode.specs.Trying.{Tries}
 use Rattle.tpnode.specs.Logs.{Formats, ShowsLog, ChecksLog, CompactsLog, MigratesLog}
 use Rattle.tpnode.specs.Keys.{ListsKeys}
 
@@ -24,7 +25,7 @@ exits Command.Format = ok ∷ disk_fault ∷ []
 exits Command.Show = ok ∷ foreign ∷ write_fault ∷ disk_fault ∷ no_memory ∷ []
 exits Command.Check = ok ∷ findings ∷ foreign ∷ write_fault ∷ disk_fault ∷ no_memory ∷ []
 exits (Command.Make plan) = ok ∷ write_fault ∷ no_memory ∷ []
-exits (Command.Trial plan) = usage ∷ []
+exits (Command.Trial plan) = ok ∷ bad_input ∷ limit ∷ write_fault ∷ no_memory ∷ []
 exits Command.Compact = ok ∷ foreign ∷ disk_fault ∷ no_memory ∷ []
 exits Command.Migrate = ok ∷ limit ∷ foreign ∷ disk_fault ∷ no_memory ∷ []
 exits Command.Keys = ok ∷ foreign ∷ write_fault ∷ disk_fault ∷ no_memory ∷ []
@@ -80,7 +81,7 @@ Does Command.Format r same_sink = Formats r.status r.told r.story
 Does Command.Show r same_sink = ShowsLog r.status r.told r.story r.written r.output same_sink
 Does Command.Check r same_sink = ChecksLog r.status r.told r.story r.written r.output same_sink
 Does (Command.Make plan) r same_sink = Makes plan r.status r.written r.output same_sink
-Does (Command.Trial plan) r same_sink = Unit {0}
+Does (Command.Trial plan) r same_sink = Tries plan r.written r.output same_sink r.status
 Does Command.Compact r same_sink = CompactsLog r.status r.told r.story
 Does Command.Migrate r same_sink = MigratesLog r.status r.told r.story
 Does Command.Keys r same_sink = ListsKeys r.status r.told r.story r.written r.output

@@ -4,6 +4,7 @@ pub mod Shown
 pub mod Replay
 pub mod Playing
 pub mod Making
+pub mod Trying
 pub mod Logs
 pub mod Keys
 pub mod Commands

@@ -1,5 +1,5 @@
-//! `tpnode`: replays a schedule over a tree of commitment nodes, and writes the exact transcript; makes schedules, and
-//! fresh logs; shows, checks and shortens a log; lists the keys of a store.
+//! `tpnode`: replays a schedule over a tree of commitment nodes, and writes the exact transcript; makes schedules and
+//! tries them; makes fresh logs, shows, checks and shortens a log; lists the keys of a store.
 //!
 //! Of a schedule, stops in an event and members are not built yet: a line that asks for one ends the run and says
 //! `unbuilt`.
@@ -8,6 +8,7 @@
 mod checking;
 mod compacting;
 mod formatting;
+mod held;
 mod listing;
 mod making;
 mod migrating;
@@ -19,6 +20,7 @@ mod status;
 #[cfg(test)]
 mod tests;
 mod top;
+mod trial;
 
 pub use status::{BadLine, Status};
 use std::alloc::{AllocError, Global};

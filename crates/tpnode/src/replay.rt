@@ -21,7 +21,7 @@ use tp_schedule::{Lines, LinesFault};
 use tp_world::World;
 
 /// One more than the number of the line that is after the last one in any schedule.
-const PAST_LINES: u64 = 1_048_578;
+pub const PAST_LINES: u64 = 1_048_578;
 
 // The status of a run that ends in the line of that number, since it is not handed out.
 fn unheard(fault: LinesFault, at: u64) -> Status
@@ -40,9 +40,9 @@ fn unheard(fault: LinesFault, at: u64) -> Status
     }
 }
 
-// Puts what the next line of the source shows, which has that number, at the end of `out`, and answers whether there was
-// one; the status where the run ends in it, and `out` stays as it was.
-fn play_next<S: Source>(
+/// Puts what the next line of the source shows, which has that number, at the end of `out`, and answers whether there was
+/// one; the status where the run ends in it, and `out` stays as it was.
+pub fn play_next<S: Source>(
     alloc: Global,
     lines: &mut Lines,
     source: &mut S,

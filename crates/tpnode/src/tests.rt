@@ -75,6 +75,18 @@ fn a_schedule_is_made(rt: HostRuntime) {
     assert!(rt; status == Status::WriteFault { faults: 1 } && sink.bytes().is_empty());
 }
 
+#[test]
+fn a_schedule_is_tried(rt: HostRuntime) {
+    let (status, sink) = ran(rt.alloc(), &["trial"], b"", NO_FAILS).expect(&rt, "in memory");
+    assert!(rt;
+        status == Status::Ok
+            && sink.bytes()
+                == b"lines 16\nframes 7\ncommit 1\nrollback 0\nmixed 0\nopen 0\n".as_slice()
+    );
+    let (status, sink) = ran(rt.alloc(), &["trial"], b"", (&[], &[1])).expect(&rt, "in memory");
+    assert!(rt; status == Status::WriteFault { faults: 1 } && sink.bytes().is_empty());
+}
+
 // A log of boot 1 and boot 2, and the same of boot 2 alone in versions 1 and 2.
 const BOOTS: &[u8] =
     b"OTPL\x01\x01\x00\x09\x01\0\0\0\0\0\0\0\x01\x01\x00\x09\x01\0\0\0\0\0\0\0\x02\x00";

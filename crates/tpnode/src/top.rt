@@ -19,6 +19,7 @@ use crate::migrating::migrate_log;
 use crate::replay::replay;
 use crate::showing::show_log;
 use crate::status::Status;
+use crate::trial::try_schedule;
 use std::alloc::Global;
 use tp_outside::{Disk, Sink, Source};
 use tp_records::Member;
@@ -27,13 +28,13 @@ use tp_words::{Command, WordsFault, read};
 /// Runs the command that the words after the program's name ask for, and hands the disk back. Each leaves the source, the
 /// sink and the disk as it was, where it has no fault status for it.
 ///
-/// `replay` reads a schedule from the source and writes what is shown of it to the sink: its transcript, up to the first
-/// line of a kind that is not built. Where the source or the sink fails, or memory is wanting, what is written is a prefix
-/// of that, and no closing lines after a source that failed. The world that the schedule leaves keeps all promises; members
-/// are not asked yet. `make` writes the schedule that is made by the plan. `format` makes the disk hold a fresh log. `show`
-/// writes each record of the disk's log with its place, and `check` each Damage that is its key's last record, of which it
-/// answers the number. `compact` and `migrate` put the log's brief in its place. `keys` writes what the store on the disk
-/// holds.
+/// `replay` reads a schedule from the source and writes what is shown of it to the sink: its transcript, up to the
+/// first line of a kind that is not built. Where the source or the sink fails, or memory is wanting, what is written is
+/// a prefix of that, and no closing lines after a source that failed. The world that the schedule leaves keeps all
+/// promises; members are not asked yet. `make` writes the schedule that is made by the plan, and `trial` replays it and
+/// writes what it came to. `format` makes the disk hold a fresh log. `show` writes each record of the disk's log with
+/// its place, and `check` each Damage that is its key's last record, of which it answers the number. `compact` and
+/// `migrate` put the log's brief in its place. `keys` writes what the store on the disk holds.
 #[tactic(auto, using(crate::proofs::Transcribed::transcribed))]
 pub fn run<S: Source, K: Sink, D: Disk>(
     alloc: Global,
@@ -76,11 +77,10 @@ fn run_command<S: Source, K: Sink, D: Disk>(
         Command::Show => show_log(alloc, disk, sink),
         Command::Check => check_log(alloc, disk, sink),
         Command::Make(plan) => (make_schedule(alloc, plan, sink), disk),
+        Command::Trial(plan) => (try_schedule(alloc, plan, sink), disk),
         Command::Compact => compact_log(alloc, disk),
         Command::Migrate => migrate_log(alloc, disk),
         Command::Keys => list_keys(alloc, disk, sink),
-        Command::Node(_) | Command::Trial(_) | Command::Tx(_) | Command::Audit => {
-            (Status::Usage, disk)
-        }
+        Command::Node(_) | Command::Tx(_) | Command::Audit => (Status::Usage, disk),
     }
 }

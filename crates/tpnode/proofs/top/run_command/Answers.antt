@@ -19,6 +19,9 @@ returns-in-Check-clause-ending g c = (c.check_log.ensures.ends _ _).cause
 pub returns-in-Make-clause-ending : goal.returns-in-Make-clause-ending
 returns-in-Make-clause-ending g c = (c.make_schedule.ensures.ends _ _ _ _).cause
 
+pub returns-in-Trial-clause-ending : goal.returns-in-Trial-clause-ending
+returns-in-Trial-clause-ending g c = (c.try_schedule.ensures.ends _ _ _ _).cause
+
 pub returns-in-Compact-clause-ending : goal.returns-in-Compact-clause-ending
 returns-in-Compact-clause-ending g c = (c.compact_log.ensures.ends _ _ _ _).cause
 
@@ -43,6 +46,10 @@ returns-in-Check-clause-runs g c =
 pub returns-in-Make-clause-runs : goal.returns-in-Make-clause-runs
 returns-in-Make-clause-runs g c =
     runs_as c.args.command (Command.Make c.in-Make.plan) _ _ _ _ c.in-Make.is (record { exit = (c.make_schedule.ensures.ends 0 0 0 0).exit; source = refl; sink = tt; disk = refl; does = c.make_schedule.ensures.makes })
+
+pub returns-in-Trial-clause-runs : goal.returns-in-Trial-clause-runs
+returns-in-Trial-clause-runs g c =
+    runs_as c.args.command (Command.Trial c.in-Trial.plan) _ _ _ _ c.in-Trial.is (record { exit = (c.try_schedule.ensures.ends 0 0 0 0).exit; source = refl; sink = tt; disk = refl; does = c.try_schedule.ensures.tries })
 
 pub returns-in-Compact-clause-runs : goal.returns-in-Compact-clause-runs
 returns-in-Compact-clause-runs g c =
