@@ -16,4 +16,5 @@ mod showing;
 pub use checking::check;
 pub use compacting::compact;
 pub use migrating::migrate;
+pub use opening::open_log;
 pub use showing::show;

@@ -26,7 +26,7 @@ fn stop_of(fault: StartFault) -> Stop
 }
 
 /// Starts the log of a disk, whose records are to follow each other; or answers why there is none.
-pub(crate) fn open_log<D: Disk>(alloc: Global, disk: D) -> Result<Journal<D>, (D, Stop)>
+pub fn open_log<D: Disk>(alloc: Global, disk: D) -> Result<Journal<D>, (D, Stop)>
     ensures unshut { IfOk result (λ j. j.shut ≡ None) }
     ensures ordered { IfOk result (λ j. all_follow j.list ≡ true) }
     ensures counted { IfOk result (λ j. D.fault_count disk ≤ D.fault_count j.disk) }

@@ -1,0 +1,4 @@
+pub mod Added
+pub mod Progress
+pub mod Listening
+pub mod Writing

@@ -1,0 +1,5 @@
+pub mod Frames
+pub mod AuditTranscript
+pub mod Hearing
+pub mod Adding
+pub mod Audited
