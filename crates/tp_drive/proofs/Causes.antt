@@ -1,0 +1,111 @@
+-- What a drive answers, from how its lanes ended and how its log was closed.
+use Rattle.std.proofs.Common.{◌≡◌, ℕ, ◌<◌, Bool, Option, Some, None, List, [], ◌++◌, take, drop, map, get_or, length, ap, sym, ◌∙◌, subst, arith}
+use Rattle.std.specs.List.{All}
+use Rattle.std.proofs.lemmas.List.{take_all, map-append, get_or-map, length-map}
+use Rattle.tp_records.specs.declared.body.Event.{Event as Given}
+use Rattle.tp_records.specs.declared.body.Output.{Output}
+use Rattle.tp_logrec.specs.declared.record.LogRec.{LogRec}
+use Rattle.tp_model.specs.NodeRun.{Opening, node_run, run_from}
+use Rattle.tp_model.specs.Lanes.{lane, lane_log, outputs_in, IsInterleaving}
+use Rattle.tp_runs.proofs.LaneRecords.{own_history_law}
+use Rattle.tp_journal.specs.declared.receipts.Receipt.{Receipt}
+use Rattle.tp_journal.specs.Journals.{Kept}
+use Rattle.tp_journal.specs.Records.{placed}
+use Rattle.tp_shared_log.specs.declared.unfit.Unfit.{Unfit}
+use Rattle.tp_shared_log.specs.Locks.{Extends, HadNoRoom, ShutRose}
+use Rattle.tp_drive.specs.declared.driven.DriveFault.{DriveFault}
+use Rattle.tp_drive.specs.declared.stop.Stop.{Stop}
+use Rattle.tp_drive.specs.Begun.{recs, booted}
+use Rattle.tp_drive.specs.Drives.{IsCause, IsDriven, IsPartDriven, Stops}
+use Rattle.tp_drive.specs.Runs.{AreRun, IsForcedBy}
+use Rattle.tp_drive.specs.Works.{EndsAt}
+use Rattle.tp_drive.proofs.Begins.{recs-placed}
+use Rattle.tp_drive.proofs.Interleavings.{interleaving_map}
+use Rattle.tp_drive.proofs.ReadBack.{read_after}
+
+module _ (o : Opening) (lanes : ℕ) (events : List Given) (outs : List (List (List Output))) (queues : List (List Receipt)) (stops : List (Option Stop)) (run : AreRun o lanes events outs queues stops) where
+  -- what a lane forced
+  forced_log : (i : ℕ) (l : List LogRec) (s : Option Stop) → i < lanes → IsForcedBy o lanes i events (get_or stops i s) (get_or (map recs queues) i l)
+  forced_log i l s h =
+      let r = run.each i [] [] s h in
+      subst (IsForcedBy o lanes i events (get_or stops i s)) (sym (get_or-map recs queues i [] l (omega (arith, h, run.queues_counted)))) r.forced
+
+  pub part_driven : (wide : Bool) (list : List LogRec) (receipts : List Receipt) → list ≡ booted o ++ recs receipts → IsInterleaving receipts queues → IsPartDriven o lanes events stops list
+  part_driven wide list receipts is woven = record {
+    more = recs receipts;
+    records = is;
+    logs = map recs queues;
+    counted = (length-map queues recs ∙ run.queues_counted, run.stops_counted);
+    each = forced_log;
+    woven = interleaving_map (λ (r : Receipt). r.rec) receipts queues woven;
+  }
+
+  -- ---- where no lane stopped
+
+  module _ (going : All (λ s. s ≡ None) stops) where
+    met_all : (i : ℕ) (met : ℕ) (s : Option Stop) → s ≡ None → EndsAt (length events) s met → take met events ≡ events
+    met_all i met s is ends = let at : EndsAt (length events) None met = subst (λ (t : Option Stop). EndsAt (length events) t met) is ends in take_all met events (omega (arith, at))
+
+    lane_forced : (i : ℕ) (l : List LogRec) → i < lanes → get_or (map recs queues) i l ≡ lane_log o events i lanes
+    lane_forced i l h =
+        let f = forced_log i l None h in
+        f.records ∙ ap (λ (gs : List Given). lane_log o gs i lanes) (met_all i f.met (get_or stops i None) (going i None (omega (arith, h, run.stops_counted))) f.ends)
+
+    -- each lane put out what one thread does for its events
+    pub lane_answers : (i : ℕ) (d : List (List Output)) → i < lanes → get_or outs i d ≡ outputs_in i lanes events (node_run o events).outputs
+    lane_answers i d h =
+        let r = run.each i d [] None h in
+        let all = met_all i r.forced.met (get_or stops i None) (going i None (omega (arith, h, run.stops_counted))) r.forced.ends in
+        r.answers ∙ ap (λ (gs : List Given). (run_from o [] (lane gs i lanes)).outputs) all ∙ sym (own_history_law o events i lanes).outputs
+
+    pub driven : (wide : Bool) (list : List LogRec) (receipts : List Receipt) (all : List (List Output)) → all ≡ (node_run o events).outputs → list ≡ booted o ++ recs receipts
+        → placed wide list ≡ placed wide (booted o) ++ receipts → IsInterleaving receipts queues → IsDriven o lanes events all receipts wide list
+    driven wide list receipts all one_thread is places woven = record {
+      one_thread = one_thread;
+      records = is;
+      places = places;
+      woven = record {
+        logs = map recs queues;
+        counted = length-map queues recs ∙ run.queues_counted;
+        each = lane_forced;
+        woven = interleaving_map (λ (r : Receipt). r.rec) receipts queues woven;
+      };
+    }
+
+-- ---- what is read back
+
+-- the list of a closed log, each record at its place
+pub kept_places : (stood : List Receipt) (wide : Bool) (o : Opening) (list : List LogRec) (many n : ℕ) (receipts : List Receipt) → stood ≡ placed wide (booted o) → Extends stood many (placed wide list) → n ≡ length stood
+    → receipts ≡ drop n (placed wide list) → placed wide list ≡ placed wide (booted o) ++ receipts
+kept_places stood wide o list many n receipts is extends here same =
+    read_after stood (placed wide list) receipts n here extends.begins same ∙ ap (λ (l : List Receipt). l ++ receipts) is
+
+pub kept_records_are : (wide : Bool) (o : Opening) (list : List LogRec) (receipts : List Receipt) → placed wide list ≡ placed wide (booted o) ++ receipts → list ≡ booted o ++ recs receipts
+kept_records_are wide o list receipts places =
+    sym (recs-placed wide list) ∙ ap recs places ∙ map-append (λ (r : Receipt). r.rec) (placed wide (booted o)) receipts ∙ ap (λ (l : List LogRec). l ++ recs receipts) (recs-placed wide (booted o))
+
+-- ---- why lanes stopped
+
+module _ {D : Type 0} (o : Opening) (lanes : ℕ) (events : List Given) (stops : List (Option Stop)) (before : ℕ) (j : Kept D) (now : ℕ) (part : IsPartDriven o lanes events stops j.list) where
+  full_stops : (unfit : Option Unfit) (size event : ℕ) → HadNoRoom j.gate unfit → IsCause stops j.shut unfit (DriveFault.Full size event) → Stops o lanes events before j now (DriveFault.Full size event)
+  full_stops None size event room c = absurd (cc (c.3))
+  full_stops (Some u) size event room c = record {
+    unshut = c.0;
+    too_long = omega (arith, room.0, c.2.0);
+    no_room = omega (arith, room.1, c.2.0, c.2.1);
+    stops = stops;
+    first = c.1;
+    part = part;
+  }
+
+  pub cause_stops : (unfit : Option Unfit) (f : DriveFault) → ShutRose before j.shut now → HadNoRoom j.gate unfit → IsCause stops j.shut unfit f → Stops o lanes events before j now f
+  cause_stops unfit (DriveFault.Start fault) rose room c = absurd c
+  cause_stops unfit (DriveFault.LogDiffers place receipt kept) rose room c = absurd c
+  cause_stops unfit (DriveFault.DiskFault faults) rose room c = record {
+    shut = c;
+    risen = subst (λ (s : Option ℕ). ShutRose before s now) c rose;
+    stops = stops;
+    part = part;
+  }
+  cause_stops unfit (DriveFault.Full size event) rose room c = full_stops unfit size event room c
+  cause_stops unfit DriveFault.NoMemory rose room c = tt

@@ -1,0 +1,14 @@
+pub mod Begins
+pub mod Booting
+pub mod Causes
+pub mod Dealt
+pub mod Ends
+pub mod Fresh
+pub mod Interleavings
+pub mod Lanes
+pub mod Outcomes
+pub mod Ran
+pub mod ReadBack
+pub mod Runs
+pub mod Sames
+pub mod Stepped

@@ -1,0 +1,23 @@
+-- What is said of a result on either side, and of a slice that was lent.
+use Rattle.std.proofs.Common.{◌≡◌, ℕ, false, Result, Ok, Err, IfErr, IfOk, OnOk, is_err, List, ◌++◌, take, drop, length, ap, ◌∙◌, arith}
+use Rattle.std.proofs.lemmas.List.{append-nil, drop_all, take_all}
+
+pub on_both : {A E : Type 0} (r : Result A E) (P Q R : Type 0) → OnOk r P → OnOk r Q → (P → Q → R) → OnOk r R
+on_both (Ok a) P Q R p q f = f p q
+on_both (Err e) P Q R p q f = tt
+
+pub on_ok : {A E : Type 0} (r : Result A E) (P : Type 0) → is_err r ≡ false → OnOk r P → P
+on_ok (Ok a) P is p = p
+on_ok (Err e) P is p = absurd (cc is)
+
+pub if_err : {A E : Type 0} (r : Result A E) (P Q : E → Type 0) → IfErr r P → ((e : E) → P e → Q e) → IfErr r Q
+if_err (Ok a) P Q p f = tt
+if_err (Err e) P Q p f = f e p
+
+pub if_ok : {A E : Type 0} (r : Result A E) (P Q : A → Type 0) → IfOk r P → ((a : A) → P a → Q a) → IfOk r Q
+if_ok (Ok a) P Q p f = f a p
+if_ok (Err e) P Q p f = tt
+
+-- a vector whose slice was lent has what the slice has
+pub lent_back : {A : Type 0} (xs ys : List A) (n : ℕ) → length xs ≡ n → length ys ≡ n → take n (xs ++ drop (length xs) ys) ≡ xs
+lent_back xs ys n h k = ap (λ l. take n (xs ++ l)) (drop_all (length xs) ys (omega (arith, h, k))) ∙ ap (take n) (append-nil xs) ∙ take_all n xs (omega (arith, h))

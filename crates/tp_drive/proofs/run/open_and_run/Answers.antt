@@ -1,0 +1,23 @@
+use Rattle.std.proofs.Common.{◌≡◌, length, map, ap, subst, arith, rules}
+use Rattle.std.specs.List.{sum_by}
+use Rattle.tp_drive.specs.Crews.{stop_of, stake_left}
+use Rattle.tp_drive.specs.Endings.{IsLeastStop}
+use Rattle.tp_drive.proofs.Begins.{begun_records}
+use Rattle.tp_drive.proofs.Outcomes.{lent_back}
+use Rattle.tp_drive.proofs.run.open_and_run.Goals as goal
+
+pub run_opened-requires-clause-stood : goal.run_opened-requires-clause-stood
+run_opened-requires-clause-stood g c = λ κs h. begun_records g.L.Stood.stood g.L.Stood.wide g.L.Begun.opening c.args.name c.args.boot c.requires.begun
+
+-- the lanes are those that ran
+pub returns-clause-stopped : goal.returns-clause-stopped
+returns-clause-stopped g c = λ event is.
+    let lanes = c.open_lanes.new.lanes in
+    let ran = c.run_opened.new.lanes in
+    let long : length ran ≡ lanes.len = search rules in
+    let all : length lanes.items ≡ lanes.len = search rules in
+    let same = lent_back ran lanes.items lanes.len long all in
+    let spent = c.run_opened.ensures.stopped event (subst (λ l. IsLeastStop (map stop_of l) event) same is) in
+    let counted : lanes.len ≡ c.args.count = c.in_ok-open_lanes.ensures.ok in
+    let given : length c.as_mut_slice.result.now ≡ lanes.len = search rules in
+    omega (arith, ap (sum_by stake_left) same, spent, counted, given)
