@@ -6,7 +6,7 @@ ghost use Rattle.tp_model.specs.declared.line.Action.{Action};
 ghost use Rattle.tp_model.specs.Happenings.{Crash, happens, task_at};
 ghost use Rattle.tp_laws.specs.Expansion.{IsOfRun};
 ghost use Rattle.tp_model.specs.Legal.{IsUnder};
-ghost use Rattle.tp_model.specs.Lines.{if_named, is_peer, is_frame, action_line, node_limit, node_line, skip_line, drain_line, show_line, image_line, within_limits};
+ghost use Rattle.tp_model.specs.Lines.{if_named, is_named, is_peer, is_frame, action_line, node_limit, node_line, skip_line, drain_line, show_line, image_line, within_limits};
 ghost use Rattle.tp_site.specs.NodeEvent.{event_of};
 ghost use Rattle.tp_world.specs.Placing.{boot_lines};
 ghost use Rattle.tp_world.specs.Declares.{superior_at, has_superior, HasCome};
@@ -32,9 +32,9 @@ const MOST_NODES: usize = 256;
 const PAST_FRAMES: u32 = 65536;
 
 impl World {
-    // A node of that number is declared.
+    /// A node of that number is declared.
     #[tactic(auto, using(crate::proofs::Stood::node_same))]
-    fn is_node(&self, node: u16) -> bool
+    pub fn is_node(&self, node: u16) -> bool
         ensures { (w : WorldValue) → Mirrors w self.now → result ≡ is_node w node }
     {
         self.nodes.addr(node).is_some()
@@ -48,6 +48,13 @@ impl World {
             None => true,
             Some(peer) => self.is_node(peer),
         }
+    }
+
+    /// All that a request of that node's user names is there.
+    pub fn is_named(&self, node: u16, request: &LineRequest) -> bool
+        ensures { (w : WorldValue) → Mirrors w self.now → result ≡ is_named w (Action.Do node request.now) }
+    {
+        self.is_node(node) && self.is_peer(peer_of(request))
     }
 
     // A frame of that number was sent.
@@ -138,7 +145,7 @@ impl World {
     ) -> Result<(), WorldFault>
         ensures { (w : WorldValue) → Mirrors w self.old → Gives (action_line w (Action.Do node request.now)) lines.old result lines.new self.new }
     {
-        if !self.is_node(node) || !self.is_peer(peer_of(request)) {
+        if !self.is_named(node, request) {
             return Err(WorldFault::Name);
         }
         self.ask(alloc, node, request, lines)

@@ -7,5 +7,5 @@ use Rattle.tp_world.proofs.world.World.request_line.Goals as goal
 pub returns : goal.returns
 returns c = λ w h.
     let a : Action = Action.Do c.args.node c.args.request.now in
-    let named : is_named w a ≡ true = grind (arith, c.is_node.ensures w h, c.is_peer.ensures w h, c.peer_of.ensures) in
+    let named : is_named w a ≡ true = grind (arith, c.is_named.ensures w h) in
     gives_action w a c.args.lines.now c.ask.new.lines c.ask.result c.ask.new.self named refl refl (c.ask.ensures w h)
