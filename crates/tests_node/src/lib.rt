@@ -13,6 +13,8 @@ mod commit;
 #[cfg(test)]
 mod dialogue;
 #[cfg(test)]
+mod event;
+#[cfg(test)]
 mod link;
 #[cfg(test)]
 mod recalled;

@@ -9,7 +9,7 @@ use tp_outside::MemDisk;
 use tp_records::{DialogueRecord, Indication, PeerRecord, Request};
 use tp_site::{NodeEvent, Out, Outs, Played, Site, SiteFault};
 
-type OnMemory = Site<Journal<MemDisk>>;
+pub(crate) type OnMemory = Site<Journal<MemDisk>>;
 
 // A log of version 2 with no records.
 fn empty(alloc: Global) -> Option<Octets> {
@@ -17,9 +17,9 @@ fn empty(alloc: Global) -> Option<Octets> {
 }
 
 // Shared control, commitment, unchained.
-const UNITS: u8 = 41;
+pub(crate) const UNITS: u8 = 41;
 
-fn at(node: u16) -> Option<Addr> {
+pub(crate) fn at(node: u16) -> Option<Addr> {
     if node == 1 {
         let site = named(b"a")?;
         return Some(Addr { site, node });
@@ -33,7 +33,7 @@ fn started(alloc: Global, name: &[u8], disk: MemDisk) -> Option<OnMemory> {
     Site::start(alloc, journal, name).ok()
 }
 
-fn fresh(alloc: Global, name: &[u8]) -> Option<OnMemory> {
+pub(crate) fn fresh(alloc: Global, name: &[u8]) -> Option<OnMemory> {
     started(alloc, name, MemDisk::from(alloc, empty(alloc)?))
 }
 
@@ -407,14 +407,24 @@ fn an_unknown_node_is_refused(rt: HostRuntime) {
     assert!(rt; site.state(7).is_none());
 }
 
-// The site of the branch, gone on with over its log for that lane of two.
-fn resumed(alloc: Global, lane: u16) -> Option<OnMemory> {
+// Site b, gone on with over its log for that lane of two.
+fn in_lane(alloc: Global, b: OnMemory, lane: u16) -> Option<OnMemory> {
     if lane >= 2 {
         return None;
     }
-    let Pair { b, .. } = readied(alloc)?;
     let name = named(b"b")?;
     Site::resume(alloc, b.keeper(), name, 1, lane, 2).ok()
+}
+
+// The site of the branch.
+fn resumed(alloc: Global, lane: u16) -> Option<OnMemory> {
+    let Pair { b, .. } = readied(alloc)?;
+    in_lane(alloc, b, lane)
+}
+
+// A site at which nothing has happened.
+pub(crate) fn lane_of(alloc: Global, lane: u16) -> Option<OnMemory> {
+    in_lane(alloc, fresh(alloc, b"b")?, lane)
 }
 
 #[test]
