@@ -1,0 +1,124 @@
+-- What was read of a source, and what is still to come.
+use Rattle.std.proofs.Common.{◌≡◌, ℕ, Option, Some, None, Result, Ok, Err, List, [], ◌∷◌, ◌++◌, refl, sym, ap, ◌∙◌, append_assoc}
+use Rattle.std.specs.Prelude.{option_map}
+use Rattle.std.proofs.lemmas.List.{append-nil}
+use Rattle.tp_records.specs.declared.body.Event.{Event as Given}
+use Rattle.tp_framing.specs.Frames.{Rest, stream}
+use Rattle.tp_model.specs.declared.verdict.What.{What}
+use Rattle.tp_model.specs.declared.verdict.Why.{Why}
+use Rattle.tp_model.specs.Transcript.{Ending, Done, Bad_input, At_limit}
+use Rattle.tp_model.specs.NodeTranscript.{Input, input_from, input_of, with_event}
+use Rattle.tp_streams.specs.declared.stop.Stop.{Stop}
+use Rattle.tp_streams.specs.Stops.{ended}
+use Rattle.tp_streams.specs.Taken.{Place, together, bytes_left, IsFor, IsCutOff}
+use Rattle.tp_streams.specs.Events.{EventPlace, events_from, input_at, events_left, first_event, answer_event}
+use Rattle.tp_serve.specs.Progress.{with_events, first_place}
+use Rattle.tp_serve.specs.Serving.{GoesOn, IsCutShort, IsInput}
+
+-- ---- with at most a million events
+
+million : (at declares : ℕ) (bs : List (List ℕ)) (rest : Rest) → events_from 1000000 at declares bs rest ≡ input_from at declares bs rest
+million at declares bs rest = refl
+
+pub from_start : (bytes : List ℕ) → input_at first_place (stream bytes) ≡ input_of bytes
+from_start bytes = million 1 0 (stream bytes).bodies (stream bytes).rest
+
+-- ---- events one after the other
+
+pub with_none : (x : Option Input) → x ≡ option_map (with_events []) x
+with_none None = refl
+with_none (Some i) = refl
+
+with_both : (gs : List Given) (g : Given) (i : Input) → with_events gs (with_event g i) ≡ with_events (gs ++ g ∷ []) i
+with_both gs g i = ap (λ (l : List Given). record { events = l; ending = i.ending }) (sym (append_assoc gs (g ∷ []) i.events))
+
+pub with_one : (gs : List Given) (g : Given) (x : Option Input) → option_map (with_events gs) (option_map (with_event g) x) ≡ option_map (with_events (gs ++ g ∷ [])) x
+with_one gs g None = refl
+with_one gs g (Some i) = ap (λ (j : Input). Some j) (with_both gs g i)
+
+-- ---- what the source tells
+
+-- it tells what is left, and the events to come are among these bytes
+pub record Tells (bytes : List ℕ) (gs : List Given) (place : EventPlace) (left : Option (List ℕ)) : Type 0 where
+  pub rest : List ℕ
+  pub is : left ≡ Some rest
+  pub input : input_of bytes ≡ with_events gs (input_at place (stream (place.place.held ++ rest)))
+
+pub tells : (bytes : List ℕ) (gs : List Given) (place : EventPlace) (first left : Option (List ℕ)) → first ≡ Some bytes → events_left first_place first ≡ option_map (with_events gs) (events_left place left) → Tells bytes gs place left
+tells bytes gs place first None is read =
+    absurd (let clash : Some (input_at first_place (stream bytes)) ≡ None = ap (events_left first_place) (sym is) ∙ read in cc)
+tells bytes gs place first (Some rest) is read =
+    let same : Some (input_at first_place (stream bytes)) ≡ Some (with_events gs (input_at place (stream (place.place.held ++ rest)))) = ap (events_left first_place) (sym is) ∙ read in
+    let e : input_at first_place (stream bytes) ≡ with_events gs (input_at place (stream (place.place.held ++ rest))) = cc in
+    record { rest = rest; is = refl; input = sym (from_start bytes) ∙ e }
+
+pub goes_on : (bytes : List ℕ) (gs : List Given) (place : EventPlace) (left : Option (List ℕ)) → Tells bytes gs place left → GoesOn bytes gs
+goes_on bytes gs place left t = record { more = (input_at place (stream (place.place.held ++ t.rest))).events; are = ap (λ (i : Input). i.events) t.input }
+
+-- ---- where nothing comes
+
+record IsEnd (i : Input) (ending : Ending) : Type 0 where
+  is : i ≡ record { events = []; ending = ending }
+
+ends_by : (gs : List Given) (e ending : Ending) (r : Result (Option Given) Stop) → ended ending ≡ r → first_event (record { events = gs; ending = e }) ≡ r
+    → ((x : Given) → Ok (Some x) ≡ r → ⊥) → ((d : Ending) → ended {A = Given} d ≡ r → d ≡ ending) → IsEnd (record { events = gs; ending = e }) ending
+ends_by [] e ending r is first not_one only = record { is = ap (λ (d : Ending). record { events = []; ending = d }) (only e first) }
+ends_by (g ∷ gs) e ending r is first not_one only = absurd (not_one g first)
+
+only_done : (d : Ending) → ended {A = Given} d ≡ Ok None → d ≡ Done
+only_done Done is = refl
+only_done (Bad_input at why) is = absurd cc
+only_done (At_limit what at) is = absurd cc
+
+only_bad : (n : ℕ) (w : Why) (d : Ending) → ended {A = Given} d ≡ Err (Stop.BadInput n w) → d ≡ Bad_input n w
+only_bad n w Done is = absurd cc
+only_bad n w (Bad_input at why) is = let a : at ≡ n = cc in let b : why ≡ w = cc in rw (a, b) refl
+only_bad n w (At_limit what at) is = absurd cc
+
+only_limit : (w : What) (n : ℕ) (d : Ending) → ended {A = Given} d ≡ Err (Stop.Limit w n) → d ≡ At_limit w n
+only_limit w n Done is = absurd cc
+only_limit w n (Bad_input at why) is = absurd cc
+only_limit w n (At_limit what at) is = let a : what ≡ w = cc in let b : at ≡ n = cc in rw (a, b) refl
+
+module _ (bytes : List ℕ) (gs : List Given) (place : EventPlace) (left : Option (List ℕ)) (unstopped : place.place.stop ≡ None) (t : Tells bytes gs place left) where
+  all : List ℕ
+  all = place.place.held ++ t.rest
+
+  answer_is : answer_event place (place.place.held ++ t.rest) ≡ first_event (input_at place (stream (place.place.held ++ t.rest)))
+  answer_is = ap (λ (o : Option Stop). elim o as (λ _. Result (Option Given) Stop) [ Some stop ↦ Err stop | None ↦ first_event (input_at place (stream (place.place.held ++ t.rest))) ]) unstopped
+
+  left_is : bytes_left place.place left ≡ Some (place.place.held ++ t.rest)
+  left_is = ap (together place.place.held) t.is
+
+  ends_so : (ending : Ending) (r : Result (Option Given) Stop) → ended ending ≡ r → r ≡ answer_event place (place.place.held ++ t.rest)
+      → ((x : Given) → Ok (Some x) ≡ r → ⊥) → ((d : Ending) → ended {A = Given} d ≡ r → d ≡ ending) → IsInput bytes gs ending
+  ends_so ending r is answer not_one only =
+      let i = input_at place (stream (place.place.held ++ t.rest)) in
+      let e : IsEnd (record { events = i.events; ending = i.ending }) ending = ends_by i.events i.ending ending r is (sym (answer ∙ answer_is)) not_one only in
+      t.input ∙ ap (with_events gs) e.is ∙ ap (λ (l : List Given). record { events = l; ending = ending }) (append-nil gs)
+
+  pub ends_done : IsFor (answer_event place) (bytes_left place.place left) (Ok None) → IsInput bytes gs Done
+  ends_done for = ends_so Done (Ok None) refl (for (place.place.held ++ t.rest) left_is) (λ x e. absurd cc) only_done
+
+  pub ends_bad : (n : ℕ) (w : Why) → IsFor (answer_event place) (bytes_left place.place left) (Err (Stop.BadInput n w)) → IsInput bytes gs (Bad_input n w)
+  ends_bad n w for = ends_so (Bad_input n w) (Err (Stop.BadInput n w)) refl (for (place.place.held ++ t.rest) left_is) (λ x e. absurd cc) (only_bad n w)
+
+  pub ends_limit : (w : What) (n : ℕ) → IsFor (answer_event place) (bytes_left place.place left) (Err (Stop.Limit w n)) → IsInput bytes gs (At_limit w n)
+  ends_limit w n for = ends_so (At_limit w n) (Err (Stop.Limit w n)) refl (for (place.place.held ++ t.rest) left_is) (λ x e. absurd cc) (only_limit w n)
+
+  pub ends_short : (new : Place) (unread : Option (List ℕ)) → IsCutOff place.place left new unread → IsCutShort bytes gs unread
+  ends_short new unread cut = go unread refl
+    where
+      go : (u : Option (List ℕ)) → unread ≡ u → IsCutShort bytes gs unread
+      go None is = absurd (let clash : None ≡ Some (place.place.held ++ t.rest) = ap (together new.held) (sym is) ∙ cut.bytes ∙ left_is in cc)
+      go (Some rest) is =
+          let same : Some (new.held ++ rest) ≡ Some (place.place.held ++ t.rest) = ap (together new.held) (sym is) ∙ cut.bytes ∙ left_is in
+          let e : place.place.held ++ t.rest ≡ new.held ++ rest = cc in
+          record {
+            place = place;
+            held = new.held;
+            rest = rest;
+            unread_is = is;
+            part = cut.part;
+            are = t.input ∙ ap (λ (l : List ℕ). with_events gs (input_at place (stream l))) e;
+          }

@@ -1,0 +1,10 @@
+pub mod Lists
+pub mod Runs
+pub mod Fitting
+pub mod Holding
+pub mod Served
+pub mod Replies
+pub mod Inputs
+pub mod Endings
+pub mod Starts
+pub mod Whole

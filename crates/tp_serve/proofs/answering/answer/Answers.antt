@@ -1,0 +1,23 @@
+use Rattle.std.proofs.Common.{refl, sym, subst, Err}
+use Rattle.tp_streams.specs.declared.stop.Stop.{Stop}
+use Rattle.tp_site.specs.Events.{all_nodes}
+use Rattle.tp_serve.specs.Answering.{Answers, IsAnswerStop}
+use Rattle.tp_serve.proofs.Replies.{given_so, refused_so, stops_so, answer_stop}
+use Rattle.tp_serve.proofs.answering.answer.Goals as goal
+
+pub returns-in-Ok-clause-answers : goal.returns-in-Ok-clause-answers
+returns-in-Ok-clause-answers g c o gs at is_open =
+    given_so g.K.Keeper.standing o gs c.args.at c.args.site.now c.args.event.now c.event.new.self c.in-Ok.outputs ((c.in-Ok.ensures {u = tt}).steps all_nodes o gs at refl) ((c.in-Ok.ensures {u = tt}).text all_nodes o gs at refl)
+
+pub returns-in_ok-refusal-in-Err-Refused-clause-answers : goal.returns-in_ok-refusal-in-Err-Refused-clause-answers
+returns-in_ok-refusal-in-Err-Refused-clause-answers g c o gs at is_open =
+    let steps = rw c.in-Err-Refused.field-0-is at ((c.in-Err-Refused.ensures {u = tt}).steps all_nodes o gs at refl) in
+    refused_so g.K.Keeper.standing o gs c.args.at c.args.site.now c.args.event.now c.event.new.self c.in-Err-Refused.number c.in_ok-refusal-in-Err-Refused.field-0 steps (c.in_ok-refusal-in-Err-Refused.ensures {u = tt})
+
+pub returns-in-Err : goal.returns-in-Err
+returns-in-Err g c = record {
+  answers = λ o gs at is_open.
+      subst (λ (s : Stop). Answers g.K.Keeper.standing o gs c.args.at c.args.site.now c.args.event.now (Err s) c.event.new.self) (sym c.stop_of.ensures)
+      (stops_so g.K.Keeper.standing o gs c.args.at c.args.site.now c.args.event.now c.event.new.self c.in-Err.fault is_open ((c.in-Err.ensures {u = tt}).steps all_nodes o gs at refl) ((c.in-Err.ensures {u = tt}).text all_nodes o gs at refl));
+  stops = subst (IsAnswerStop c.args.at) (sym c.stop_of.ensures) (answer_stop c.args.at c.in-Err.fault);
+}
