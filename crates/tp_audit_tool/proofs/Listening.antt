@@ -1,5 +1,5 @@
 -- How far a stream was read, and how the rest of it will be heard.
-use Rattle.std.proofs.Common.{◌≡◌, ℕ, suc, ◌⊎◌, inl, inr, Option, Some, None, Result, Ok, Err, List, [], ◌∷◌, ◌++◌, length, refl, sym, ap, ◌∙◌, subst}
+use Rattle.std.proofs.Common.{◌≡◌, ℕ, suc, ◌⊎◌, inl, inr, Option, Some, None, Result, Ok, Err, List, [], ◌∷◌, ◌++◌, length, refl, sym, ap, ◌∙◌, subst, arith}
 use Rattle.std.specs.Prelude.{option_map}
 use Rattle.tp_framing.specs.Frames.{Next, Part, Whole, Bad, next_in, Rest, Nothing, Short, Bad_length, Stream, stream, stream_from, ends_with, with_body, frame_bytes}
 use Rattle.tp_model.specs.NodeTranscript.{rest_ending}
@@ -68,25 +68,25 @@ goes_further start old new left rest h g body n way hands number q reached is = 
 }
 
 -- a stop of the definitions
-by_input : (bytes : List ℕ) (stop : Stop) → IsOfInput stop → heard bytes ≡ Err stop → StopsHearing bytes stop
-by_input bytes (Stop.BadInput at why) kind is = is
-by_input bytes (Stop.Limit what at) kind is = is
-by_input bytes (Stop.Foreign at) kind is = is
-by_input bytes (Stop.ReadFault faults) kind is = tt
-by_input bytes (Stop.WriteFault faults) kind is = kind
-by_input bytes (Stop.DiskFault faults) kind is = kind
-by_input bytes Stop.NoMemory kind is = tt
+by_input : (bytes : List ℕ) (number : ℕ) (stop : Stop) → IsOfInput number stop → heard bytes ≡ Err stop → StopsHearing bytes stop
+by_input bytes number (Stop.BadInput at why) kind is = is
+by_input bytes number (Stop.Limit what at) kind is = is
+by_input bytes number (Stop.Foreign at) kind is = is
+by_input bytes number (Stop.ReadFault faults) kind is = tt
+by_input bytes number (Stop.WriteFault faults) kind is = kind
+by_input bytes number (Stop.DiskFault faults) kind is = kind
+by_input bytes number Stop.NoMemory kind is = tt
 
-pub stops_or_starves : (bytes : List ℕ) (stop : Stop) → IsOfInput stop → (heard bytes ≡ Err stop) ⊎ (stop ≡ Stop.NoMemory) → StopsHearing bytes stop
-stops_or_starves bytes stop kind (inl is) = by_input bytes stop kind is
-stops_or_starves bytes stop kind (inr is) = subst (StopsHearing bytes) (sym is) tt
+pub stops_or_starves : (bytes : List ℕ) (number : ℕ) (stop : Stop) → IsOfInput number stop → (heard bytes ≡ Err stop) ⊎ (stop ≡ Stop.NoMemory) → StopsHearing bytes stop
+stops_or_starves bytes number stop kind (inl is) = by_input bytes number stop kind is
+stops_or_starves bytes number stop kind (inr is) = subst (StopsHearing bytes) (sym is) tt
 
 pub stops_here : (start : Option (List ℕ)) (old new : Place) (left rest : Option (List ℕ)) (h : Hearing) (body : List ℕ) (n : ℕ) (way : Way start old left h) → HandsOut old left body new rest → n ≡ new.at
-    → (stop : Stop) → IsOfInput stop → (heard_at n way.at body ≡ Err stop) ⊎ (stop ≡ Stop.NoMemory) → (bytes : List ℕ) → start ≡ Some bytes → StopsHearing bytes stop
-stops_here start old new left rest h body n way hands number stop kind (inr is) bytes there = stops_or_starves bytes stop kind (inr is)
+    → (stop : Stop) → IsOfInput n stop → (heard_at n way.at body ≡ Err stop) ⊎ (stop ≡ Stop.NoMemory) → (bytes : List ℕ) → start ≡ Some bytes → StopsHearing bytes stop
+stops_here start old new left rest h body n way hands number stop kind (inr is) bytes there = stops_or_starves bytes n stop kind (inr is)
 stops_here start old new left rest h body n way hands number stop kind (inl is) bytes there =
     let next = next_is bytes old new left rest way.at body (way.rest bytes there) hands in
-    by_input bytes stop kind (next.heard ∙ ap (λ r. elim r as (λ _. Result (List SiteLog) Stop) [ Err s ↦ Err s | Ok p ↦ heard_from (suc new.at) p (stream next.all).bodies (stream next.all).rest ]) (ap (λ m. heard_at m way.at body) (sym number) ∙ is))
+    by_input bytes n stop kind (next.heard ∙ ap (λ r. elim r as (λ _. Result (List SiteLog) Stop) [ Err s ↦ Err s | Ok p ↦ heard_from (suc new.at) p (stream next.all).bodies (stream next.all).rest ]) (ap (λ m. heard_at m way.at body) (sym number) ∙ is))
 
 -- ---- the end
 
@@ -133,23 +133,14 @@ stops_reading start p left h (Stop.WriteFault faults) old new way for stops byte
 stops_reading start p left h (Stop.DiskFault faults) old new way for stops bytes there = stops
 stops_reading start p left h Stop.NoMemory old new way for stops bytes there = tt
 
-pub frame_kind : (n old new : ℕ) (stop : Stop) → IsFrameStop n old new stop → IsHearStop old new stop
-frame_kind n old new (Stop.BadInput at why) stops = tt
-frame_kind n old new (Stop.Limit what at) stops = absurd stops
-frame_kind n old new (Stop.Foreign at) stops = absurd stops
-frame_kind n old new (Stop.ReadFault faults) stops = stops
-frame_kind n old new (Stop.WriteFault faults) stops = stops
-frame_kind n old new (Stop.DiskFault faults) stops = stops
-frame_kind n old new Stop.NoMemory stops = tt
-
-pub input_kind : (old new : ℕ) (stop : Stop) → IsOfInput stop → IsHearStop old new stop
-input_kind old new (Stop.BadInput at why) kind = tt
-input_kind old new (Stop.Limit what at) kind = tt
-input_kind old new (Stop.Foreign at) kind = tt
-input_kind old new (Stop.ReadFault faults) kind = absurd kind
-input_kind old new (Stop.WriteFault faults) kind = kind
-input_kind old new (Stop.DiskFault faults) kind = kind
-input_kind old new Stop.NoMemory kind = tt
+pub input_kind : (n number old new : ℕ) (stop : Stop) → number ≡ suc n → IsOfInput number stop → IsHearStop old new stop
+input_kind n number old new (Stop.BadInput at why) is kind = omega (arith, is, kind)
+input_kind n number old new (Stop.Limit what at) is kind = omega (arith, is, kind)
+input_kind n number old new (Stop.Foreign at) is kind = tt
+input_kind n number old new (Stop.ReadFault faults) is kind = absurd kind
+input_kind n number old new (Stop.WriteFault faults) is kind = kind
+input_kind n number old new (Stop.DiskFault faults) is kind = kind
+input_kind n number old new Stop.NoMemory is kind = tt
 
 -- the input is at its end
 pub record IsEnded (bytes : List ℕ) (at : Progress) (rest : Option (List ℕ)) : Type 0 where
@@ -178,7 +169,7 @@ hears_all start at q rest g end closes is bytes there = record {
   whole = (end bytes there).whole;
 }
 
-pub stops_closing : (start : Option (List ℕ)) (at : Progress) (rest : Option (List ℕ)) (stop : Stop) → ((bytes : List ℕ) → start ≡ Some bytes → IsEnded bytes at rest) → IsOfInput stop → (closed at ≡ Err stop) ⊎ (stop ≡ Stop.NoMemory)
+pub stops_closing : (start : Option (List ℕ)) (at : Progress) (rest : Option (List ℕ)) (number : ℕ) (stop : Stop) → ((bytes : List ℕ) → start ≡ Some bytes → IsEnded bytes at rest) → IsOfInput number stop → (closed at ≡ Err stop) ⊎ (stop ≡ Stop.NoMemory)
     → (bytes : List ℕ) → start ≡ Some bytes → StopsHearing bytes stop
-stops_closing start at rest stop end kind (inl is) bytes there = by_input bytes stop kind ((end bytes there).heard ∙ ap (λ r. elim r as (λ _. Result (List SiteLog) Stop) [ Err s ↦ Err s | Ok p ↦ Ok p.logs ]) is)
-stops_closing start at rest stop end kind (inr is) bytes there = stops_or_starves bytes stop kind (inr is)
+stops_closing start at rest number stop end kind (inl is) bytes there = by_input bytes number stop kind ((end bytes there).heard ∙ ap (λ r. elim r as (λ _. Result (List SiteLog) Stop) [ Err s ↦ Err s | Ok p ↦ Ok p.logs ]) is)
+stops_closing start at rest number stop end kind (inr is) bytes there = stops_or_starves bytes number stop kind (inr is)

@@ -1,5 +1,5 @@
 -- How an audit of a stream ends, and what was read and written then.
-use Rattle.std.specs.Prelude.{ℕ, ◌≡◌, Option, Some, Ok, Err, List, [], ◌++◌}
+use Rattle.std.specs.Prelude.{ℕ, ◌≡◌, ◌<◌, Option, Some, Ok, Err, List, [], ◌++◌}
 use Rattle.tp_streams.specs.declared.stop.Stop.{Stop}
 use Rattle.tp_streams.specs.Stops.{IsFaultOf}
 use Rattle.tp_streams.specs.Written.{WritesPrefix}
@@ -27,20 +27,20 @@ StopsHearing bytes (Stop.WriteFault faults) = ⊥
 StopsHearing bytes (Stop.DiskFault faults) = ⊥
 StopsHearing bytes Stop.NoMemory = Unit {0}
 
--- what stops the reading of a frame, or of a log
-abbrev pub IsOfInput : Stop → Type 0
-IsOfInput (Stop.BadInput at why) = Unit {0}
-IsOfInput (Stop.Limit what at) = Unit {0}
-IsOfInput (Stop.Foreign at) = Unit {0}
-IsOfInput (Stop.ReadFault faults) = ⊥
-IsOfInput (Stop.WriteFault faults) = ⊥
-IsOfInput (Stop.DiskFault faults) = ⊥
-IsOfInput Stop.NoMemory = Unit {0}
+-- what stops the reading of the frame with that number, or of a log
+abbrev pub IsOfInput : ℕ → Stop → Type 0
+IsOfInput number (Stop.BadInput at why) = at ≡ number
+IsOfInput number (Stop.Limit what at) = at ≡ number
+IsOfInput number (Stop.Foreign at) = Unit {0}
+IsOfInput number (Stop.ReadFault faults) = ⊥
+IsOfInput number (Stop.WriteFault faults) = ⊥
+IsOfInput number (Stop.DiskFault faults) = ⊥
+IsOfInput number Stop.NoMemory = Unit {0}
 
--- by the source's counts before and after
+-- by the source's counts before and after; frames are numbered from 1
 abbrev pub IsHearStop : ℕ → ℕ → Stop → Type 0
-IsHearStop old new (Stop.BadInput at why) = Unit {0}
-IsHearStop old new (Stop.Limit what at) = Unit {0}
+IsHearStop old new (Stop.BadInput at why) = 0 < at
+IsHearStop old new (Stop.Limit what at) = 0 < at
 IsHearStop old new (Stop.Foreign at) = Unit {0}
 IsHearStop old new (Stop.ReadFault faults) = IsFaultOf faults old new
 IsHearStop old new (Stop.WriteFault faults) = ⊥
@@ -74,8 +74,8 @@ StopsAudit bytes old new Stop.NoMemory = Unit {0}
 
 -- by the counts of the source and of the sink, each before and after
 abbrev pub IsAuditStop : ℕ → ℕ → ℕ → ℕ → Stop → Type 0
-IsAuditStop source read sink now (Stop.BadInput at why) = Unit {0}
-IsAuditStop source read sink now (Stop.Limit what at) = Unit {0}
+IsAuditStop source read sink now (Stop.BadInput at why) = 0 < at
+IsAuditStop source read sink now (Stop.Limit what at) = 0 < at
 IsAuditStop source read sink now (Stop.Foreign at) = Unit {0}
 IsAuditStop source read sink now (Stop.ReadFault faults) = IsFaultOf faults source read
 IsAuditStop source read sink now (Stop.WriteFault faults) = IsFaultOf faults sink now
@@ -83,11 +83,11 @@ IsAuditStop source read sink now (Stop.DiskFault faults) = ⊥
 IsAuditStop source read sink now Stop.NoMemory = Unit {0}
 
 -- but for a fault of the sink, the sink is as it was
-abbrev pub LeavesSink : {K : Type 0} → K → K → Stop → Type 0
-LeavesSink old new (Stop.BadInput at why) = new ≡ old
-LeavesSink old new (Stop.Limit what at) = new ≡ old
-LeavesSink old new (Stop.Foreign at) = new ≡ old
-LeavesSink old new (Stop.ReadFault faults) = new ≡ old
-LeavesSink old new (Stop.WriteFault faults) = Unit {0}
-LeavesSink old new (Stop.DiskFault faults) = new ≡ old
-LeavesSink old new Stop.NoMemory = new ≡ old
+abbrev pub LeavesSink : Type 0 → Stop → Type 0
+LeavesSink same (Stop.BadInput at why) = same
+LeavesSink same (Stop.Limit what at) = same
+LeavesSink same (Stop.Foreign at) = same
+LeavesSink same (Stop.ReadFault faults) = same
+LeavesSink same (Stop.WriteFault faults) = Unit {0}
+LeavesSink same (Stop.DiskFault faults) = same
+LeavesSink same Stop.NoMemory = same

@@ -1,5 +1,5 @@
 //! The log of one site, read on a disk of its own.
-ghost use Rattle.std.specs.Prelude.{◌≡◌, false, List, IfErr, OnOk};
+ghost use Rattle.std.specs.Prelude.{ℕ, ◌≡◌, false, List, IfErr, OnOk};
 ghost use Rattle.tp_model.specs.LogCommands.{opened};
 ghost use Rattle.tp_log_tools.specs.Readings.{IsFile};
 ghost use Rattle.tp_audit.specs.Audits.{IsAuditOf, is_added};
@@ -17,7 +17,7 @@ use tp_streams::Stop;
 // Why a log on a disk in memory is not read: such a disk fails where there is no memory.
 fn refusal_of(stop: Stop) -> Stop
     ensures value { result ≡ refusal_of stop }
-    ensures kind { IsOfInput result }
+    ensures kind { (number : ℕ) → IsOfInput number result }
 {
     match stop {
         Stop::Foreign { at } => Stop::Foreign { at },
@@ -34,7 +34,7 @@ pub(crate) fn add_log(
 ) -> Result<(), Stop>
     ensures ok { IsFile bytes → OnOk result ((logs : List SiteLog) → is_added logs site.now ≡ false → IsAuditOf logs audit.old → Adds logs site.now (opened bytes) audit.new) }
     ensures err { IsFile bytes → IfErr result (IsRefused (opened bytes)) }
-    ensures kinds { IfErr result IsOfInput }
+    ensures kinds { (number : ℕ) → IfErr result (IsOfInput number) }
 {
     let journal = match open_log(alloc, MemDisk::from(alloc, bytes)) {
         Ok(journal) => journal,

@@ -48,7 +48,7 @@ pub fn audit<S: Source, K: Sink>(alloc: Global, source: &mut S, sink: &mut K) ->
     ensures audits { IfOk result (λ n. (bytes : List ℕ) → S.left source.old ≡ Some bytes → Audits bytes n (S.left source.new) (K.written sink.old) (K.written sink.new)) }
     ensures stopped { IfErr result (λ stop. (bytes : List ℕ) → S.left source.old ≡ Some bytes → StopsAudit bytes (K.written sink.old) (K.written sink.new) stop) }
     ensures stops { IfErr result (IsAuditStop (S.fault_count source.old) (S.fault_count source.new) (K.fault_count sink.old) (K.fault_count sink.new)) }
-    ensures untouched { IfErr result (LeavesSink sink.old sink.new) }
+    ensures untouched { IfErr result (LeavesSink (sink.new ≡ sink.old)) }
     ensures source { S.fault_count source.old ≤ S.fault_count source.new }
     ensures sink { K.fault_count sink.old ≤ K.fault_count sink.new }
 {

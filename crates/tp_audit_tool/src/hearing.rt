@@ -34,7 +34,7 @@ pub(crate) struct Hearing {
 }
 
 impl Hearing {
-    ghost use Rattle.std.specs.Prelude.{◌+◌, ◌<◌, length, IfErr, OnOk};
+    ghost use Rattle.std.specs.Prelude.{ℕ, ◌+◌, ◌<◌, length, IfErr, OnOk};
     ghost use Rattle.tp_audit_tool.specs.AuditTranscript.{Progress, nothing_heard, closed, opens_at, goes_on_at, heard_at};
     ghost use Rattle.tp_audit_tool.specs.Audited.{IsOfInput};
     ghost use Rattle.tp_audit_tool.specs.Hearing.{IsAt, Reaches, room_of};
@@ -61,7 +61,7 @@ impl Hearing {
     /// Takes the body of the frame with that number.
     pub(crate) fn take(&mut self, alloc: Global, body: &[u8], at: u64) -> Result<(), Stop>
         ensures reaches { (p : Progress) → IsAt p self.old → Reaches (heard_at at p body.now) result self.new }
-        ensures kinds { IfErr result IsOfInput }
+        ensures kinds { IfErr result (IsOfInput at) }
         ensures less { OnOk result (room_of self.new < room_of self.old) }
     {
         let Some(frame) = read_frame(body) else {
@@ -76,7 +76,7 @@ impl Hearing {
     /// The log that is open is at its end: it is read, and added to the others.
     pub(crate) fn close(&mut self, alloc: Global) -> Result<(), Stop>
         ensures reaches { (p : Progress) → IsAt p self.old → Reaches (closed p) result self.new }
-        ensures kinds { IfErr result IsOfInput }
+        ensures kinds { (number : ℕ) → IfErr result (IsOfInput number) }
         ensures same { room_of self.new ≡ room_of self.old }
     {
         let Some(log) = self.pending.take() else {
@@ -89,7 +89,7 @@ impl Hearing {
     // The log of a site opens, and the one before it is at its end.
     fn open(&mut self, alloc: Global, site: &SiteName, at: u64) -> Result<(), Stop>
         ensures reaches { (p : Progress) → IsAt p self.old → Reaches (opens_at at p site.now) result self.new }
-        ensures kinds { IfErr result IsOfInput }
+        ensures kinds { IfErr result (IsOfInput at) }
         ensures less { OnOk result (room_of self.new < room_of self.old) }
     {
         self.close(alloc)?;
@@ -113,7 +113,7 @@ impl Hearing {
     // The log that is open goes on.
     fn go_on(&mut self, alloc: Global, bytes: &[u8], at: u64) -> Result<(), Stop>
         ensures reaches { (p : Progress) → IsAt p self.old → Reaches (goes_on_at at p bytes.now) result self.new }
-        ensures kinds { IfErr result IsOfInput }
+        ensures kinds { IfErr result (IsOfInput at) }
         ensures less { OnOk result (room_of self.new + length bytes.now ≡ room_of self.old) }
     {
         let Some(mut log) = self.pending.take() else {

@@ -1,12 +1,12 @@
-use Rattle.std.proofs.Common.{◌≡◌, ◌⊎◌, ◌∙◌, ap, sym, subst, Option, Some, Result, Ok, Err, List, ℕ, arith}
+use Rattle.std.proofs.Common.{◌≡◌, ◌⊎◌, ◌∙◌, ap, sym, subst, refl, Option, Some, Result, Ok, Err, List, ℕ, arith}
 use Rattle.std.specs.Result.{IfErr}
 use Rattle.std.proofs.lemmas.Result.{err_from_is_err_and}
 use Rattle.tp_streams.specs.declared.stop.Stop.{Stop}
 use Rattle.tp_streams.specs.Taken.{answer, bytes_left, IsFor, Leaves}
 use Rattle.tp_audit_tool.specs.declared.hearing.Hearing.{Hearing}
 use Rattle.tp_audit_tool.specs.AuditTranscript.{heard_at}
-use Rattle.tp_audit_tool.specs.Audited.{StopsHearing}
-use Rattle.tp_audit_tool.proofs.Listening.{begins, goes_further, stops_here, stops_reading, stops_closing, is_ended, hears_all}
+use Rattle.tp_audit_tool.specs.Audited.{StopsHearing, IsHearStop}
+use Rattle.tp_audit_tool.proofs.Listening.{begins, goes_further, stops_here, stops_reading, stops_closing, is_ended, hears_all, input_kind}
 use Rattle.tp_audit_tool.proofs.command.hear.Goals as goal
 
 pub loop-hearing-init : goal.loop-hearing-init
@@ -70,7 +70,7 @@ returns-in_err-close-clause-stopped g c =
     subst
     (λ (r : Result Hearing Stop). IfErr r (λ stop. (bytes : List ℕ) → start ≡ Some bytes → StopsHearing bytes stop))
     (sym (e.1 ∙ ap Err e.2))
-    (stops_closing start way.at rest c.in_err-close.field-0.0 (is_ended start p c.next.new.self left rest c.loop-hearing.hearing way for ends) c.in_err-close.ensures.kinds (c.in_err-close.ensures.reaches way.at way.is))
+    (stops_closing start way.at rest 1 c.in_err-close.field-0.0 (is_ended start p c.next.new.self left rest c.loop-hearing.hearing way for ends) (c.in_err-close.ensures.kinds 1) (c.in_err-close.ensures.reaches way.at way.is))
 
 pub returns-clause-heard : goal.returns-clause-heard
 returns-clause-heard g c =
@@ -83,3 +83,10 @@ returns-clause-heard g c =
     let ends = subst (λ (o : Option (List ℕ)). Leaves p left (Ok o) c.next.new.self rest) c.in_default.is c.in_ok-body.ensures.leaves in
     let reached = c.in_ok-close.ensures.reaches way.at way.is in
     hears_all start way.at reached.0 rest c.close.new.self (is_ended start p c.next.new.self left rest c.loop-hearing.hearing way for ends) reached.1 reached.2
+
+pub returns-in_err-close-clause-stops : goal.returns-in_err-close-clause-stops
+returns-in_err-close-clause-stops g c =
+    let e = err_from_is_err_and c.from_residual-in_err-close.result c.from_residual-in_err-close.ensures.1 in
+    let old = g.S.Source.fault_count c.args.source.now in
+    let new = g.S.Source.fault_count c.next.new.source in
+    subst (λ (r : Result Hearing Stop). IfErr r (IsHearStop old new)) (sym (e.1 ∙ ap Err e.2)) (input_kind 0 1 old new c.in_err-close.field-0.0 refl (c.in_err-close.ensures.kinds 1))

@@ -1,4 +1,8 @@
-use Rattle.std.proofs.Common.{◌<◌, Some, List, ℕ, ap, refl, sym, ◌∙◌, arith}
+use Rattle.std.proofs.Common.{◌<◌, Some, Result, Err, List, ℕ, ap, refl, sym, subst, ◌∙◌, arith}
+use Rattle.std.specs.Result.{IfErr}
+use Rattle.std.proofs.lemmas.Result.{err_from_is_err_and}
+use Rattle.tp_streams.specs.declared.stop.Stop.{Stop}
+use Rattle.tp_audit_tool.specs.Audited.{IsOfInput}
 use Rattle.tp_audit_tool.specs.declared.hearing.OpenLog.{OpenLog}
 use Rattle.tp_audit_tool.proofs.Progress.{opens, none_open}
 use Rattle.tp_audit_tool.proofs.hearing.Hearing.open.Goals as goal
@@ -13,3 +17,8 @@ returns-clause-reaches c = λ p is.
     opens c.args.at p reached.0 c.args.site.now mid _ reached.1 reached.2 (none_open p reached.0 reached.1)
     (sym (c.contains.ensures reached.0.logs reached.2.audit) ∙ c.if-contains.false) few refl
     (ap (λ (b : List ℕ). let l : OpenLog = record { site = c.args.site.now; bytes = b } in Some l) c.new.ensures) refl refl
+
+pub returns-in_err-close-clause-kinds : goal.returns-in_err-close-clause-kinds
+returns-in_err-close-clause-kinds c =
+    let e = err_from_is_err_and c.from_residual.result c.from_residual.ensures.1 in
+    subst (λ (r : Result (Unit {0}) Stop). IfErr r (IsOfInput c.args.at)) (sym (e.1 ∙ ap Err e.2)) (c.in_err-close.ensures.kinds c.args.at)
