@@ -11,8 +11,9 @@ use Rattle.tp_model.specs.World.{World, Node}
 use Rattle.tp_model.specs.Promises.{is_root, AllCommitted}
 use Rattle.tp_journal.specs.Keeping.{Standing}
 use Rattle.tp_site.specs.declared.faults.SiteFault.{SiteFault}
+use Rattle.tp_site.specs.Shaped.{HasTextIfAsked}
 use Rattle.tp_site.specs.Site.{Site, known_at}
-use Rattle.tp_site.specs.Events.{opening_at, PlaysAsked, IsAt, StepsTo, all_nodes, history_at}
+use Rattle.tp_site.specs.Events.{opening_at, PlaysAsked, IsAt, StepsTo, all_nodes, history_at, record_after}
 use Rattle.tx_face.specs.declared.stand.Stand.{Stand}
 use Rattle.tx_face.specs.declared.code.Code.{Code}
 use Rattle.tx_face.specs.declared.fault.FaceFault.{FaceFault}
@@ -111,8 +112,19 @@ events_by gs g (Err SiteFault.NoMemory) = gs
 -- one event after these
 pub record Goes {K : Type 0} (standing : K → Standing) (o : Opening) (gs : List Given) (past : List Entry) (old : Face K) (g : Given) (result : Result (List Output) SiteFault) (new : Face K) : Type 0 where
   pub steps : StepsTo standing all_nodes o gs old.site g result new.site
+  -- the record for which the keeper was asked has a text
+  pub text : HasTextIfAsked (standing old.site.keeper).wide (record_after o gs g) result
   pub node : new.node ≡ old.node
   pub at : IsFaceAt standing o (events_by gs g result) past new
+
+-- a face before its node is declared
+abbrev pub undeclared : {K : Type 0} → Site K → ℕ → Face K
+undeclared site n = record { site = site; node = n; code = None }
+
+-- the declaration after these events
+abbrev pub GoesMade : {K : Type 0} → (K → Standing) → Opening → List Given → Site K → ℕ → Result (Face K) (Site K × SiteFault) → Type 0
+GoesMade standing o gs site n (Ok face) = Goes standing o gs (history_at o gs n) (undeclared site n) (Given.Declare n None) (Ok []) face
+GoesMade standing o gs site n (Err (new, fault)) = Goes standing o gs (history_at o gs n) (undeclared site n) (Given.Declare n None) (Err fault) (undeclared new n)
 
 -- one call after these events
 abbrev pub GoesOn : {K : Type 0} → (K → Standing) → Bool → Opening → List Given → List Entry → Face K → Given → Result (List Output) FaceFault → Face K → Type 0

@@ -1,5 +1,5 @@
 //! The calls of demarcation, over a site.
-ghost use Rattle.std.specs.Prelude.{◌≡◌, ◌++◌, ◌∷◌, List, [], Some, None, IfOk, IfErr};
+ghost use Rattle.std.specs.Prelude.{◌≡◌, ◌++◌, false, List, [], Some, None, IfErr};
 ghost use Rattle.tp_records.specs.declared.body.Event.{Event as Given};
 ghost use Rattle.tp_records.specs.declared.request.Request.{Request as Asks};
 ghost use Rattle.tp_model.specs.Parts.{Entry};
@@ -8,11 +8,13 @@ ghost use Rattle.tp_model.specs.NodeRun.{Opening, origin_at, asked};
 ghost use Rattle.tp_model.specs.Happenings.{Happening, run};
 ghost use Rattle.tp_model.specs.Promises.{IsIn};
 ghost use Rattle.tp_model.specs.World.{Node};
-ghost use Rattle.tp_site.specs.Events.{PlaysAsked, opening_at, IsAt, all_nodes, history_at};
+ghost use Rattle.tp_site.specs.declared.faults.SiteFault.{SiteFault as SiteFaults};
+ghost use Rattle.tp_site.specs.Site.{known_at};
+ghost use Rattle.tp_site.specs.Events.{IsAt, all_nodes, history_at};
 ghost use Rattle.tx_face.specs.declared.code.Code.{Code as CodeValue};
 ghost use Rattle.tx_face.specs.Stands.{stand, takes_begin, takes_commit, takes_rollback, takes_finish};
 ghost use Rattle.tx_face.specs.Codes.{code_of};
-ghost use Rattle.tx_face.specs.Face.{stand_at, is_asked_by_call, is_fed, Plays, Calls, IsMade, IsFaceAt, Goes, GoesOn, MeansAll};
+ghost use Rattle.tx_face.specs.Face.{stand_at, is_asked_by_call, is_fed, Plays, Calls, IsMade, IsFaceAt, Goes, GoesMade, GoesOn, MeansAll};
 
 use crate::code::Code;
 use crate::fault::FaceFault;
@@ -66,10 +68,11 @@ fn is_asked_by_call(request: &Request) -> bool
 
 impl<K: Keeper> Face<K> {
     /// A face of the node of that number, which is declared as one without a superior: the site answers that event, and its faults
-    /// are those. Nothing was told yet.
+    /// are those: at a node that is not declared yet, of a site that is not shut, want of memory alone. Nothing was told yet.
     pub fn new(alloc: Global, site: Site<K>, node: u16) -> Result<Face<K>, (Site<K>, SiteFault)>
         ensures made { IsMade K.standing site node result }
-        ensures at { IfOk result (λ face. (o : Opening) (gs : List Given) → IsAt K.standing all_nodes o gs site → IsFaceAt K.standing o (gs ++ Given.Declare node None ∷ []) (history_at o gs node) face) }
+        ensures goes { (o : Opening) (gs : List Given) → IsAt K.standing all_nodes o gs site → GoesMade K.standing o gs site node result }
+        ensures fresh { (known_at site node).declared ≡ false → site.shut ≡ None → IfErr result (λ e. e.1 ≡ SiteFaults.NoMemory) }
     {
         let mut face = Face {
             site,
