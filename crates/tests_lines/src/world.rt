@@ -87,6 +87,7 @@ const NAMES: &[&str] = &[
     "retry 1\n",
     "show 1\n",
     "crash a\n",
+    "crash a at 1 fill 00 in purge 1\n",
     "image a\n",
 ];
 
@@ -100,7 +101,6 @@ fn names(rt: HostRuntime) {
 }
 
 const UNBUILT: &[&str] = &[
-    "crash a at 1 fill 00 in purge 1\n",
     "auto 1 1\n",
     "leave 1\n",
 ];

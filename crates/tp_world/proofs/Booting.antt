@@ -21,9 +21,9 @@ use Rattle.tp_model.specs.Links.{greatest}
 use Rattle.tp_model.specs.NodeRun.{Opening, boot_of, origin_at}
 use Rattle.tp_model.specs.World.{World, Node, Site, number_of, site_of, find_node}
 use Rattle.tp_laws.specs.SiteLogs.{log_of, only_branches_vote, forced_by, next_opening, StartsNext, TellsItsNodes}
-use Rattle.tp_site.specs.Site.{IsForced, IsUnforced, told_records, opening_of, known_at}
+use Rattle.tp_site.specs.Site.{IsForced, IsUnforced, IsStarted, IsUnstarted, told_records, opening_of, known_at}
 use Rattle.tp_world.specs.declared.site_slot.SiteSlot.{SiteSlot}
-use Rattle.tp_world.specs.Restarts.{IsReopened, IsStartable, HasRestarted, IsBootOver, stopped, turned_at, restarted_to}
+use Rattle.tp_world.specs.Restarts.{IsReopened, IsStartable, stopped, turned_at, restarted_to}
 use Rattle.tp_world.specs.Sites.{IsSite, IsLogged, known_by, unknown_at}
 use Rattle.tp_world.specs.Slots.{standing}
 use Rattle.tp_world.proofs.Found.{find_is}
@@ -53,58 +53,61 @@ startable w z x is next =
 
 -- ---- the log it starts on
 
-abbrev slot_on : SiteSlot → Kept MemDisk → SiteSlot
+abbrev pub slot_on : SiteSlot → Kept MemDisk → SiteSlot
 slot_on x j = record x { site = record (x.site) { keeper = j } }
 
-log_on : (z : Site) (x : SiteSlot) (j : Kept MemDisk) → IsSite z x → IsReopened x.site.keeper j → IsLogged z (slot_on x j)
+pub log_on : (z : Site) (x : SiteSlot) (j : Kept MemDisk) → IsSite z x → IsReopened x.site.keeper j → IsLogged z (slot_on x j)
 log_on z x j is again = record {
   list = again.list ∙ is.log.list;
   wide = again.wide ∙ is.log.wide;
   gate = ap (λ (n : ℕ). n + 1) again.gate ∙ is.log.gate;
   unshut = again.unshut;
   room = is.log.room;
+  closed = is.log.closed;
   bytes = again.bytes (1 ∷ framed (7 ∷ 2 ∷ []) ++ records_before z.disk.records (z.disk.gate ∷ z.disk.behind)) is.log.bytes;
 }
 
 opening_made : (a b : List ℕ) (v u : LogVersion) (rs qs : List LogRec) → a ≡ b → v ≡ u → rs ≡ qs → ◌≡◌ {A = Opening} (record { site = a; version = v; records = rs }) (record { site = b; version = u; records = qs })
 opening_made a b v u rs qs e f g = rw (e, f, g) refl
 
-opening_is : (z : Site) (x : SiteSlot) (j : Kept MemDisk) → IsSite z x → IsReopened x.site.keeper j → opening_of (standing j) x.site.nodes.site ≡ next_opening z
-opening_is z x j is again =
-    opening_made x.site.nodes.site z.name (version_of j.wide) LogVersion.Two (told_records (standing j)) (log_of z) is.name (ap version_of (again.wide ∙ is.log.wide))
-    (recs_of (first_place j.wide) j.wide j.list ∙ again.list ∙ is.log.list)
+opening_is : (z : Site) (x : SiteSlot) → IsSite z x → opening_of (standing x.site.keeper) x.site.nodes.site ≡ next_opening z
+opening_is z x is =
+    let j : Kept MemDisk = x.site.keeper in
+    opening_made x.site.nodes.site z.name (version_of j.wide) LogVersion.Two (told_records (standing j)) (log_of z) is.name (ap version_of is.log.wide)
+    (recs_of (first_place j.wide) j.wide j.list ∙ is.log.list)
 
 -- a boot that has no room would make the log of the definitions full
-pub boot_over : (w : World) (z : Site) (x : SiteSlot) → IsSite z x → StartsNext w z → IsBootOver x → nat_lt most_bytes (log_size (LogRec.Boot (suc z.boot) ∷ z.disk.records)) ≡ true
-boot_over w z x is next h =
-    let boot : boot_of (opening_of (standing h.journal) x.site.nodes.site) ≡ suc z.boot = ap boot_of (opening_is z x h.journal is h.again) ∙ next.boot in
-    log_over z (slot_on x h.journal) h.left (LogRec.Boot (suc z.boot)) h.size (log_on z x h.journal is h.again)
-    (subst (λ (n : ℕ). IsUnforced standing h.journal (Some (LogRec.Boot n)) (force.Full h.size) h.left) boot h.unstarted.unforced)
+pub boot_over : (w : World) (z : Site) (x : SiteSlot) (size : ℕ) (left : Kept MemDisk) → IsSite z x → StartsNext w z → IsUnstarted standing x.site.keeper x.site.nodes.site (force.Full size) left
+    → nat_lt most_bytes (log_size (LogRec.Boot (suc z.boot) ∷ z.disk.records)) ≡ true
+boot_over w z x size left is next h =
+    let boot : boot_of (opening_of (standing x.site.keeper) x.site.nodes.site) ≡ suc z.boot = ap boot_of (opening_is z x is) ∙ next.boot in
+    log_over z x left (LogRec.Boot (suc z.boot)) size is.log
+    (subst (λ (n : ℕ). IsUnforced standing x.site.keeper (Some (LogRec.Boot n)) (force.Full size) left) boot h.unforced)
 
 -- ---- the site
 
-module _ (w : World) (z : Site) (x y : SiteSlot) (is : IsSite z x) (next : StartsNext w z) (h : HasRestarted x y) where
+module _ (w : World) (z : Site) (x y : SiteSlot) (is : IsSite z x) (next : StartsNext w z) (h : IsStarted standing x.site.keeper x.site.nodes.site y.site) where
   boot_next : y.site.nodes.boot ≡ suc z.boot
-  boot_next = h.started.boot ∙ ap boot_of (opening_is z x h.journal is h.again) ∙ next.boot
+  boot_next = h.boot ∙ ap boot_of (opening_is z x is) ∙ next.boot
 
-  stored : IsForced standing h.journal (Some (LogRec.Boot (suc z.boot))) y.site.keeper
-  stored = subst (λ (n : ℕ). IsForced standing h.journal (Some (LogRec.Boot n)) y.site.keeper) boot_next h.started.forced
+  stored : IsForced standing x.site.keeper (Some (LogRec.Boot (suc z.boot))) y.site.keeper
+  stored = subst (λ (n : ℕ). IsForced standing x.site.keeper (Some (LogRec.Boot n)) y.site.keeper) boot_next h.forced
 
   log_next : IsLogged (booted z) y
-  log_next = let l = log_forced z (slot_on x h.journal) y (LogRec.Boot (suc z.boot)) (log_on z x h.journal is h.again) stored in record { list = l.list; wide = l.wide; gate = l.gate; unshut = l.unshut; room = l.room; bytes = l.bytes }
+  log_next = let l = log_forced z x y (LogRec.Boot (suc z.boot)) is.log stored in record { list = l.list; wide = l.wide; gate = l.gate; unshut = l.unshut; room = l.room; closed = l.closed; bytes = l.bytes }
 
   pub site_next : IsSite (booted z) y
   site_next = record {
-    name = h.started.site ∙ is.name;
+    name = h.site ∙ is.name;
     boot = boot_next;
-    version = h.started.version ∙ ap version_of (h.again.wide ∙ is.log.wide);
-    unshut = h.started.shut;
+    version = h.version ∙ ap version_of is.log.wide;
+    unshut = h.shut;
     log = log_next;
   }
 
   -- what is known of a node: what a start finds on its records
   known_next : (k : ℕ) → known_at y.site k ≡ digest (origin_at (next_opening z) k) []
-  known_next k = h.started.known k ∙ ap (λ (o : Opening). started (origin_at o k).start) (opening_is z x h.journal is h.again)
+  known_next k = h.known k ∙ ap (λ (o : Opening). started (origin_at o k).start) (opening_is z x is)
 
   unknown_next : unknown_at y ≡ started (record { boot = suc z.boot; version = LogVersion.Two; records = [] })
   unknown_next = go y.site.nodes.boot (suc z.boot) y.site.nodes.version LogVersion.Two site_next.boot site_next.version

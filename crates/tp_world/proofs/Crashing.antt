@@ -15,19 +15,25 @@ use Rattle.tp_model.specs.Disk.{disk_bytes}
 use Rattle.tp_model.specs.Happenings.{Turn, still, booted, restarted, restarted_at, crash_turn}
 use Rattle.tp_model.specs.Lines.{within_limits}
 use Rattle.tp_model.specs.Parts.{Digest}
-use Rattle.tp_model.specs.World.{World, Node, Site, site_of, find_node, find_site, put_site}
+use Rattle.tp_model.specs.World.{World, Node, Site, Frame, number_of, site_of, find_node, find_site, put_site}
 use Rattle.tp_laws.specs.SiteLogs.{DisksTell, DisksStart, StartsNext}
-use Rattle.tp_site.specs.Site.{known_at}
+use Rattle.tp_names.specs.declared.identifiers.Aaid.{Aaid}
+use Rattle.tp_journal.specs.declared.faults.ForceFault.TheVariants as force
+use Rattle.tp_model.specs.History.{digest}
+use Rattle.tp_site.specs.Site.{IsStarted, IsUnstarted, known_at}
+use Rattle.tp_site.specs.State.{tree_in}
+use Rattle.tp_world.specs.Slots.{standing}
 use Rattle.tp_network.specs.declared.nodes.NodeSlot.{NodeSlot}
 use Rattle.tp_world.specs.declared.fault.WorldFault.{WorldFault}
 use Rattle.tp_world.specs.declared.site_slot.SiteSlot.{SiteSlot}
 use Rattle.tp_world.specs.declared.world.World.{World as CodeWorld}
-use Rattle.tp_world.specs.Restarts.{stopped, as_it_is, turned_at, restarted_to, IsStartable, HasRestarted, IsBootOver, Restarts, IsStopped, IsRestartedTo}
+use Rattle.tp_world.specs.declared.restart.LostEntry.{LostEntry}
+use Rattle.tp_world.specs.Restarts.{stopped, as_it_is, turned_at, restarted_to, tree_before, IsStartable, StartsOn, IsStopped, IsRestartedTo}
 use Rattle.tp_world.specs.Sites.{IsSite, AreSites, KnowNodes, find_site_slot, place_of_site, known_by, unknown_at}
 use Rattle.tp_world.specs.World.{SitesStand, RestStands, Mirrors, Gives, AreNodes, are_apart, is_placed}
 use Rattle.tp_world.proofs.Booting.{startable, boot_over, site_next, knows_stopped}
 use Rattle.tp_world.proofs.Found.{AreThere, placed_there, put_site_there}
-use Rattle.tp_world.proofs.Known.{known_elsewhere}
+use Rattle.tp_world.proofs.Known.{known_here, known_elsewhere}
 use Rattle.tp_world.proofs.Limits.{not_full, within_all, within_log, gives_ok, gives_limit}
 use Rattle.tp_world.proofs.Newcomers.{some_there}
 use Rattle.tp_world.proofs.SiteLists.{IsFound, both_found, are_put, full_put, site_name}
@@ -74,17 +80,22 @@ module _ (w : World) (s : List ℕ) (xs : List SiteSlot) (x : SiteSlot) (stand :
   pub may_start : IsStartable x.site.keeper.list
   may_start = startable w at.site x at.is next
 
-  module _ (y : SiteSlot) (h : HasRestarted x y) where
+  module _ (y : SiteSlot) (h : IsStarted standing x.site.keeper x.site.nodes.site y.site) where
     pub site_again : IsSite (booted at.site) y
     site_again = site_next w at.site x y at.is next h
 
     pub name_again : y.site.nodes.site ≡ s
     name_again = site_again.name ∙ name
 
-    pub has_stopped : IsStopped w.nodes x y
-    has_stopped = record {
+    knows_tree : (n : Node) → find_node w.nodes (number_of n) ≡ Some n → is_name (site_of n) y.site.nodes.site ≡ true → tree_in (known_at x.site (number_of n)) ≡ tree_in (digest n.origin n.history)
+    knows_tree n found here =
+        let on : is_name (site_of n) s ≡ true = ap (is_name (site_of n)) (sym name_again) ∙ here in
+        ap tree_in (stand.known s x at.there (number_of n) ∙ ap (known_by s (unknown_at x)) found ∙ known_here s (unknown_at x) n on)
+
+    pub has_stopped : (old : SiteSlot) (lost : Option LostEntry) → ((k : ℕ) → tree_before old lost k ≡ tree_in (known_at x.site k)) → IsStopped w.nodes old lost y
+    has_stopped old lost trees = record {
       apart = apart;
-      known = λ k. stand.known s x at.there k ∙ ap (λ (a : List ℕ). known_by a (unknown_at x) (find_node w.nodes k)) (sym name_again);
+      trees = λ n found here. trees (number_of n) ∙ knows_tree n found here;
       found = subst (λ (a : List ℕ). (k : ℕ) → known_at y.site k ≡ known_by a (unknown_at y) (find_node (restarted_to stopped a 0 w.nodes) k)) (sym name_again)
           (knows_stopped w at.site x y at.is next h (tells s at.site at.found) s name);
     }
@@ -93,7 +104,7 @@ module _ (w : World) (s : List ℕ) (xs : List SiteSlot) (x : SiteSlot) (stand :
     pub restarted_none : (ns : List NodeSlot) → AreNodes w.nodes ns → IsRestartedTo w.nodes 0 y ns y
     restarted_none ns are = record {
       nodes = subst (λ (l : List Node). AreNodes l ns) (sym (none_turned y.site.nodes.site w.nodes)) are;
-      known = has_stopped.found;
+      known = (has_stopped x None (λ k. refl)).found;
       same = record { site = refl; boot = refl; version = refl };
       keeper = refl;
       unshut = site_again.unshut;
@@ -157,16 +168,16 @@ turn_for w s o = elim o as (λ _. Turn) [
   }
 ]
 
-module _ (w : World) (s : List ℕ) (old : CodeWorld) (x : SiteSlot) (stand : Mirrors w old) (tells : DisksTell w) (starts : DisksStart w) (at : IsThere w s old.sites.items x) where
+module _ (w : World) (s : List ℕ) (xs : List SiteSlot) (ns0 : List NodeSlot) (fs : List Frame) (ts : List Aaid) (x : SiteSlot) (stand : SitesStand w xs) (rest : RestStands w ns0 fs ts) (tells : DisksTell w) (starts : DisksStart w) (at : IsThere w s xs x) where
   turn_is : crash_turn w s ≡ turn_for w s (Some at.site)
   turn_is = ap (turn_for w s) at.found
 
-  module _ (y z : SiteSlot) (h : HasRestarted x y) (ns : List NodeSlot) (to : IsRestartedTo w.nodes (length w.nodes) y ns z) where
+  module _ (y z : SiteSlot) (h : IsStarted standing x.site.keeper x.site.nodes.site y.site) (ns : List NodeSlot) (to : IsRestartedTo w.nodes (length w.nodes) y ns z) where
     again : IsSite (booted at.site) y
-    again = site_again w s old.sites.items x stand.sites stand.rest.apart tells starts at y h
+    again = site_again w s xs x stand rest.apart tells starts at y h
 
     named : y.site.nodes.site ≡ s
-    named = name_again w s old.sites.items x stand.sites stand.rest.apart tells starts at y h
+    named = name_again w s xs x stand rest.apart tells starts at y h
 
     site : IsSite (booted at.site) z
     site = record {
@@ -180,6 +191,7 @@ module _ (w : World) (s : List ℕ) (old : CodeWorld) (x : SiteSlot) (stand : Mi
         gate = ap (λ j. j.gate + 1) to.keeper ∙ again.log.gate;
         unshut = ap (λ j. j.shut) to.keeper ∙ again.log.unshut;
         room = again.log.room;
+        closed = again.log.closed;
         bytes = subst (λ (j : Kept MemDisk). IsOn (Some (recorded j.disk).story) (disk_bytes (booted at.site).disk)) (sym to.keeper) again.log.bytes;
       };
     }
@@ -190,64 +202,64 @@ module _ (w : World) (s : List ℕ) (old : CodeWorld) (x : SiteSlot) (stand : Mi
     knows : (k : ℕ) → known_at z.site k ≡ known_by s (unknown_at z) (find_node (restarted_at s w.nodes) k)
     knows k = to.known k ∙ ap (λ (a : List ℕ). known_by a (unknown_at z) (find_node (restarted_to stopped y.site.nodes.site (length w.nodes) w.nodes) k)) named ∙ ap (λ (l : List Node). known_by s (unknown_at z) (find_node l k)) (all stopped)
 
-    lookup : (t : List ℕ) → find_site_slot (slice_set old.sites.items (place_of_site old.sites.items s) z) t ≡ cond (is_name s t) (Some z) (find_site_slot old.sites.items t)
-    lookup t = slot_put old.sites.items s z t at.within (to.same.site ∙ named)
+    lookup : (t : List ℕ) → find_site_slot (slice_set xs (place_of_site xs s) z) t ≡ cond (is_name s t) (Some z) (find_site_slot xs t)
+    lookup t = slot_put xs s z t at.within (to.same.site ∙ named)
 
-    all_known : KnowNodes (slice_set old.sites.items (place_of_site old.sites.items s) z) (restarted_at s w.nodes)
+    all_known : KnowNodes (slice_set xs (place_of_site xs s) z) (restarted_at s w.nodes)
     all_known t v is k = go (is_name s t) refl
       where
         go : (b : Bool) → is_name s t ≡ b → known_at v.site k ≡ known_by t (unknown_at v) (find_node (restarted_at s w.nodes) k)
         go true here =
-            let same : Some v ≡ Some z = sym is ∙ lookup t ∙ ap (λ (c : Bool). cond c (Some z) (find_site_slot old.sites.items t)) here in
+            let same : Some v ≡ Some z = sym is ∙ lookup t ∙ ap (λ (c : Bool). cond c (Some z) (find_site_slot xs t)) here in
             let one : v ≡ z = cc (same) in
             subst (λ (q : SiteSlot). known_at q.site k ≡ known_by t (unknown_at q) (find_node (restarted_at s w.nodes) k)) (sym one)
             (subst (λ (a : List ℕ). known_at z.site k ≡ known_by a (unknown_at z) (find_node (restarted_at s w.nodes) k)) (name_same s t here) (knows k))
         go false other =
-            let same : find_site_slot old.sites.items t ≡ Some v = sym (lookup t ∙ ap (λ (c : Bool). cond c (Some z) (find_site_slot old.sites.items t)) other) ∙ is in
-            stand.sites.known t v same k ∙ sym (known_other s t (unknown_at v) (find_node w.nodes k) other) ∙ ap (known_by t (unknown_at v)) (sym (find_restarted s w.nodes k))
+            let same : find_site_slot xs t ≡ Some v = sym (lookup t ∙ ap (λ (c : Bool). cond c (Some z) (find_site_slot xs t)) other) ∙ is in
+            stand.known t v same k ∙ sym (known_other s t (unknown_at v) (find_node w.nodes k) other) ∙ ap (known_by t (unknown_at v)) (sym (find_restarted s w.nodes k))
 
-    sites_after : SitesStand (after_crash_of w s at.site) (slice_set old.sites.items (place_of_site old.sites.items s) z)
+    sites_after : SitesStand (after_crash_of w s at.site) (slice_set xs (place_of_site xs s) z)
     sites_after = record {
-      sites = subst (λ (a : List ℕ). AreSites (put_site w.sites (booted at.site)) (slice_set old.sites.items (place_of_site old.sites.items a) z)) (site_name w.sites s at.site at.found) (are_put w.sites old.sites.items (booted at.site) z stand.sites.sites site);
+      sites = subst (λ (a : List ℕ). AreSites (put_site w.sites (booted at.site)) (slice_set xs (place_of_site xs a) z)) (site_name w.sites s at.site at.found) (are_put w.sites xs (booted at.site) z stand.sites site);
       known = all_known;
     }
 
-    rest_after : RestStands (after_crash_of w s at.site) ns old.frames old.trees.items
+    rest_after : RestStands (after_crash_of w s at.site) ns fs ts
     rest_after = record {
       nodes = subst (λ (l : List Node). AreNodes l ns) (all as_it_is) to.nodes;
-      apart = ap are_apart (sym (all_restarted s w.nodes)) ∙ apart_to restarted (λ n. refl) s 0 w.nodes ∙ stand.rest.apart;
-      placed = each_there w (after_crash_of w s at.site) (restarted_at s w.nodes) (after_there w s at.site) (placed_again w s w.nodes stand.rest.placed);
-      frames = stand.rest.frames;
-      few = stand.rest.few;
-      trees = stand.rest.trees;
-      undriven = stand.rest.undriven;
+      apart = ap are_apart (sym (all_restarted s w.nodes)) ∙ apart_to restarted (λ n. refl) s 0 w.nodes ∙ rest.apart;
+      placed = each_there w (after_crash_of w s at.site) (restarted_at s w.nodes) (after_there w s at.site) (placed_again w s w.nodes rest.placed);
+      frames = rest.frames;
+      few = rest.few;
+      trees = rest.trees;
+      undriven = rest.undriven;
     }
 
     -- the line
-    pub gives_crash : (new : CodeWorld) (before after : List OutLine) (u : Unit {0}) → new.sites.items ≡ slice_set old.sites.items (place_of_site old.sites.items s) z → new.nodes ≡ ns → new.frames ≡ old.frames → new.trees ≡ old.trees
+    pub gives_crash : (new : CodeWorld) (before after : List OutLine) (u : Unit {0}) → new.sites.items ≡ slice_set xs (place_of_site xs s) z → new.nodes ≡ ns → new.frames ≡ fs → new.trees.items ≡ ts
         → after ≡ before ++ OutLine.Log y.site.nodes.site (LogWords.Boot y.site.nodes.boot) ∷ [] → Gives (within_limits (crash_turn w s)) before (Ok u) after new
     gives_crash new before after u sites nodes frames trees lines =
         let t : Turn = turn_for w s (Some at.site) in
         let stands : Mirrors t.world new = record {
           sites = subst (SitesStand (after_crash_of w s at.site)) (sym sites) sites_after;
           rest = subst (λ (l : List NodeSlot). RestStands (after_crash_of w s at.site) l new.frames new.trees.items) (sym nodes)
-              (subst (λ fs. RestStands (after_crash_of w s at.site) ns fs new.trees.items) (sym frames)
-              (subst (λ ts. RestStands (after_crash_of w s at.site) ns old.frames ts.items) (sym trees) rest_after));
+              (subst (λ (l : List Frame). RestStands (after_crash_of w s at.site) ns l new.trees.items) (sym frames)
+              (subst (λ (l : List Aaid). RestStands (after_crash_of w s at.site) ns fs l) (sym trees) rest_after));
         } in
-        let within : within_limits (crash_turn w s) ≡ Ok t = ap within_limits turn_is ∙ within_all t (not_full (put_site w.sites (booted at.site)) (slice_set old.sites.items (place_of_site old.sites.items s) z) sites_after.sites) stand.rest.few in
+        let within : within_limits (crash_turn w s) ≡ Ok t = ap within_limits turn_is ∙ within_all t (not_full (put_site w.sites (booted at.site)) (slice_set xs (place_of_site xs s) z) sites_after.sites) rest.few in
         gives_ok (within_limits (crash_turn w s)) t before after new u within
         (lines ∙ ap (λ (a : List ℕ). before ++ OutLine.Log a (LogWords.Boot y.site.nodes.boot) ∷ []) named ∙ ap (λ (n : ℕ). before ++ OutLine.Log s (LogWords.Boot n) ∷ []) again.boot)
         stands
 
   -- or its log has no room for the boot
-  pub gives_full : (before after : List OutLine) (new : CodeWorld) → IsBootOver x → Gives (within_limits (crash_turn w s)) before (Err (WorldFault.Limit What.Log)) after new
-  gives_full before after new h =
+  pub gives_full : (before after : List OutLine) (new : CodeWorld) (size : ℕ) (left : Kept MemDisk) → IsUnstarted standing x.site.keeper x.site.nodes.site (force.Full size) left → Gives (within_limits (crash_turn w s)) before (Err (WorldFault.Limit What.Log)) after new
+  gives_full before after new size left h =
       gives_limit (within_limits (crash_turn w s)) What.Log before after new
       (ap within_limits turn_is ∙ within_log (turn_for w s (Some at.site))
-      (full_put w.sites s at.site (booted at.site) at.found (site_name w.sites s at.site at.found) (boot_over w at.site x at.is (starts s at.site at.found) h)))
+      (full_put w.sites s at.site (booted at.site) at.found (site_name w.sites s at.site at.found) (boot_over w at.site x size left at.is (starts s at.site at.found) h)))
 
-  pub gives_fault : (f : WorldFault) (before after : List OutLine) (new : CodeWorld) → Restarts x (Err f) → Gives (within_limits (crash_turn w s)) before (Err f) after new
+  pub gives_fault : (f : WorldFault) (before after : List OutLine) (new : CodeWorld) → StartsOn x.site.keeper x.site.nodes.site (Err f) → Gives (within_limits (crash_turn w s)) before (Err f) after new
   gives_fault WorldFault.Name before after new h = absurd h
-  gives_fault (WorldFault.Limit what) before after new h = subst (λ (q : What). Gives (within_limits (crash_turn w s)) before (Err (WorldFault.Limit q)) after new) (sym h.0) (gives_full before after new h.1)
+  gives_fault (WorldFault.Limit what) before after new h = subst (λ (q : What). Gives (within_limits (crash_turn w s)) before (Err (WorldFault.Limit q)) after new) (sym h.0) (gives_full before after new h.1 h.2 h.3)
   gives_fault WorldFault.Unbuilt before after new h = absurd h
   gives_fault WorldFault.NoMemory before after new h = tt

@@ -78,6 +78,28 @@ logged_sites w n (Some r) s = disk_there w.sites (site_of n) _ s
 abbrev pub turn_world : World → Node → EntryValue → World
 turn_world w n e = let v : World = logged (entered w n e) n e.rec in record v { frames = v.frames ++ frames_of (addr_of n) e.outs }
 
+-- all but the sites, and nothing is sent yet
+pub rest_entered : (w : World) (n : Node) (e : EntryValue) (old new : List NodeSlot) (fs : List Frame) (ts us : List Aaid) → RestStands w old fs ts → find_node w.nodes (number_of n) ≡ Some n → IsLegal n.origin n.superior (e ∷ n.history)
+    → AreChanged (number_of n) (change_by n e) old new → us ≡ ts ++ trees_of (tree_started (change_by n e)) → RestStands (logged (entered w n e) n e.rec) new fs us
+rest_entered w n e old new fs ts us r found legal changed started =
+    let v : World = logged (entered w n e) n e.rec in
+    let at : (v.nodes ≡ put_node w.nodes (with_entry n e)) = logged_nodes (entered w n e) n e.rec in
+    let there : AreThere w v = record {
+      nodes = λ k h. ap (λ (l : List Node). is_some (find_node l k)) at ∙ there_put w.nodes (with_entry n e) k ∙ h;
+      sites = λ s h. logged_sites (entered w n e) n e.rec s ∙ h;
+    } in
+    let place : is_placed w (with_entry n e) ≡ true = placed_found w w.nodes (number_of n) n found r.placed in
+    record {
+      nodes = subst (λ (l : List Node). AreNodes l new) (sym at) (nodes_entered w.nodes old new n e legal found r.nodes changed);
+      apart = ap are_apart at ∙ apart_put w.nodes (with_entry n e) ∙ r.apart;
+      placed = subst (λ (l : List Node). AllByRecursion (λ z. is_placed v z ≡ true) l) (sym at)
+          (each_placed w v (put_node w.nodes (with_entry n e)) there (placed_put w w.nodes (with_entry n e) place r.placed));
+      frames = r.frames ∙ sym (logged_frames (entered w n e) n e.rec);
+      few = subst (λ (l : List Frame). length l ≤ 65535) (sym (logged_frames (entered w n e) n e.rec)) r.few;
+      trees = started ∙ ap (λ (l : List Aaid). l ++ trees_of (tree_started (change_by n e))) r.trees ∙ ap (λ (o : Option Aaid). w.trees ++ trees_of o) (started_same n e) ∙ sym (logged_trees (entered w n e) n e.rec);
+      undriven = logged_drives (entered w n e) n e.rec ∙ r.undriven;
+    }
+
 -- what is known of the code's entry and of the world that it leaves
 pub record IsBehind (w : World) (n : Node) (e : EntryValue) (x : Entry) (first last : List OutLine) (old mid new : CodeWorld) : Type 0 where
   pub stands : Mirrors w old
@@ -96,29 +118,26 @@ pub rest_behind : (w : World) (n : Node) (e : EntryValue) (x : Entry) (first las
 rest_behind w n e x first last old mid new h =
     let r = h.stands.rest in
     let v : World = logged (entered w n e) n e.rec in
-    let at : (v.nodes ≡ put_node w.nodes (with_entry n e)) = logged_nodes (entered w n e) n e.rec in
     let frames : new.frames ≡ v.frames ++ frames_of (addr_of n) e.outs =
     h.settled.frames
     ∙ ap (λ (l : List Frame). l ++ frames_of (addr_of n) x.outs) (h.frames ∙ r.frames ∙ sym (logged_frames (entered w n e) n e.rec))
     ∙ ap (λ l. v.frames ++ frames_of (addr_of n) l) h.outs
     in
-    let there : AreThere w (turn_world w n e) = record {
-      nodes = λ k h. ap (λ (l : List Node). is_some (find_node l k)) at ∙ there_put w.nodes (with_entry n e) k ∙ h;
-      sites = λ s h. logged_sites (entered w n e) n e.rec s ∙ h;
-    } in
     let changed : AreChanged (number_of n) (change_by n e) old.nodes new.nodes =
     subst (λ (q : TreeChange). AreChanged (number_of n) q old.nodes new.nodes) h.change (subst (λ (l : List NodeSlot). AreChanged (number_of n) x.change l new.nodes) h.nodes h.settled.nodes)
     in
-    let place : is_placed w (with_entry n e) ≡ true = placed_found w w.nodes (number_of n) n h.found r.placed in
+    let trees : new.trees.items ≡ old.trees.items ++ trees_of (tree_started (change_by n e)) =
+    h.settled.trees ∙ ap (λ t. t.items ++ trees_of (tree_started x.change)) h.trees ∙ ap (λ (q : TreeChange). old.trees.items ++ trees_of (tree_started q)) h.change
+    in
+    let rest : RestStands v new.nodes old.frames new.trees.items = rest_entered w n e old.nodes new.nodes old.frames old.trees.items new.trees.items r h.found h.legal changed trees in
     record {
-      nodes = subst (λ (l : List Node). AreNodes l new.nodes) (sym at) (nodes_entered w.nodes old.nodes new.nodes n e h.legal h.found r.nodes changed);
-      apart = ap are_apart at ∙ apart_put w.nodes (with_entry n e) ∙ r.apart;
-      placed = subst (λ (l : List Node). AllByRecursion (λ z. is_placed (turn_world w n e) z ≡ true) l) (sym at)
-          (each_placed w (turn_world w n e) (put_node w.nodes (with_entry n e)) there (placed_put w w.nodes (with_entry n e) place r.placed));
+      nodes = rest.nodes;
+      apart = rest.apart;
+      placed = rest.placed;
       frames = frames;
       few = subst (λ (l : List Frame). length l ≤ 65535) frames (h.settled.few (subst (λ (l : List Frame). length l ≤ 65535) (sym (h.frames ∙ r.frames)) r.few));
-      trees = h.settled.trees ∙ ap (λ (l : List Aaid). l ++ trees_of (tree_started x.change)) (ap (λ t. t.items) h.trees ∙ r.trees) ∙ ap (λ (o : Option Aaid). w.trees ++ trees_of o) (ap tree_started h.change ∙ started_same n e) ∙ sym (logged_trees (entered w n e) n e.rec);
-      undriven = logged_drives (entered w n e) n e.rec ∙ r.undriven;
+      trees = rest.trees;
+      undriven = rest.undriven;
     }
 
 pub stands_behind : (w : World) (n : Node) (e : EntryValue) (x : Entry) (first last : List OutLine) (old mid new : CodeWorld) → IsBehind w n e x first last old mid new → Mirrors (turn_world w n e) new

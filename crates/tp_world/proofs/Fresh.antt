@@ -1,5 +1,5 @@
 -- A site that starts on a fresh log is the new site of the definitions.
-use Rattle.std.proofs.Common.{◌≡◌, ◌+◌, ◌++◌, ℕ, Bool, refl, ap, sym, ◌∙◌, subst, Some, List, [], ◌∷◌}
+use Rattle.std.proofs.Common.{◌≡◌, ◌+◌, ◌++◌, ℕ, Bool, refl, ap, sym, ◌∙◌, subst, Some, List, [], ◌∷◌, arith}
 use Rattle.tp_logrec.specs.declared.record.LogRec.{LogRec}
 use Rattle.tp_logrec.specs.declared.record.LogVersion.{LogVersion}
 use Rattle.tp_outside.specs.declared.mem_disk.MemDisk.{MemDisk}
@@ -38,6 +38,7 @@ first_log j name x blank (receipt, stores) = record {
   gate = stored_gate j x.site.keeper (LogRec.Boot 1) receipt stores ∙ boot_size j.gate j.wide blank.gate;
   unshut = stores.open_after;
   room = refl;
+  closed = λ e. absurd (omega (arith, e));
   bytes = bytes_forced fresh_disk j x.site.keeper (LogRec.Boot 1) receipt blank.wide (ap (λ (n : ℕ). n + 1) blank.gate) stores blank.bytes;
 }
 

@@ -7,6 +7,7 @@ mod Tellings
 mod SiteNames
 mod SiteLists
 mod DiskBytes
+mod NotForeign
 mod Logs
 mod Fresh
 mod Entries
@@ -35,3 +36,11 @@ mod Reopened
 mod Booting
 mod Crashing
 mod Imaged
+mod Halted
+mod Restarting
+mod Remaining
+mod LeftBy
+mod StopTurns
+mod StopTells
+mod StopCases
+mod StopDeeds

@@ -79,6 +79,7 @@ log_forced s x y r log (receipt, stores) =
       gate = stored_gate old new r receipt stores ∙ size;
       unshut = stores.open_after;
       room = let room = stores.room in grind (arith, nat_tests, room, size);
+      closed = λ e. absurd (omega (arith, e));
       bytes = bytes_forced s.disk old new r receipt log.wide log.gate stores log.bytes;
     }
 
@@ -89,6 +90,7 @@ log_kept s x y log same = record {
   gate = ap (λ (j : Kept MemDisk). j.gate + 1) same ∙ log.gate;
   unshut = ap (λ (j : Kept MemDisk). j.shut) same ∙ log.unshut;
   room = log.room;
+  closed = log.closed;
   bytes = subst (λ (j : Kept MemDisk). IsOn (Some (recorded j.disk).story) (disk_bytes s.disk)) (sym same) log.bytes;
 }
 
@@ -107,7 +109,7 @@ at_end : (rs : List LogRec) → slice_get rs (length rs) ≡ None
 at_end [] = refl
 at_end (r ∷ rs) = at_end rs
 
-at_pushed : (rs : List LogRec) (r : LogRec) → slice_get (rs ++ r ∷ []) (length rs) ≡ Some r
+pub at_pushed : (rs : List LogRec) (r : LogRec) → slice_get (rs ++ r ∷ []) (length rs) ≡ Some r
 at_pushed [] r = refl
 at_pushed (q ∷ rs) r = at_pushed rs r
 

@@ -1,10 +1,10 @@
 -- A journal that starts on a copy of another's bytes has its records, and finds no bytes that are foreign.
-use Rattle.std.proofs.Common.{◌≡◌, inl, inr, ◌⊎◌, ◌<◌, ◌^◌, ℕ, suc, Bool, true, false, refl, ap, sym, ◌∙◌, subst, arith, Option, Some, None, Err, List, [], ◌∷◌, ◌++◌, length}
+use Rattle.std.proofs.Common.{◌≡◌, inl, inr, ◌⊎◌, ◌<◌, ◌^◌, ℕ, suc, Bool, true, false, refl, ap, sym, ◌∙◌, subst, arith, Option, Some, None, Result, Ok, Err, List, [], ◌∷◌, ◌++◌, length}
 use Rattle.std.specs.List.{AllByRecursion}
 use Rattle.tp_logrec.specs.declared.record.LogRec.{LogRec}
 use Rattle.tp_outside.specs.declared.mem_disk.MemDisk.{MemDisk}
-use Rattle.tp_outside.specs.MemDisk.{recorded}
-use Rattle.tp_outside.specs.Story.{Story, Made, seen}
+use Rattle.tp_outside.specs.MemDisk.{Recorded, recorded, fresh}
+use Rattle.tp_outside.specs.Story.{Story, seen}
 use Rattle.tp_logrec.specs.LogText.{version_mark}
 use Rattle.tp_journal.specs.Foreign.{ArePassed, IsForeign}
 use Rattle.tp_journal.specs.Journals.{Kept, bodies_in}
@@ -22,7 +22,8 @@ use Rattle.tp_model.specs.Links.{greatest}
 use Rattle.tp_site.specs.Site.{told_records, Starts as Starts_at}
 use Rattle.tp_site.specs.declared.faults.StartFault.{StartFault as SiteStart}
 use Rattle.tp_world.specs.Slots.{standing}
-use Rattle.tp_world.specs.Restarts.{IsReopened}
+use Rattle.tp_world.specs.Restarts.{IsOpened, Opens, IsReopened, Reopens}
+use Rattle.tp_world.specs.declared.fault.WorldFault.{WorldFault}
 use Rattle.tp_world.proofs.Logs.{recs_of as logged_recs, kept_front}
 
 -- the bytes of a journal that is not shut stand for its bodies
@@ -34,39 +35,62 @@ stood s gate bodies None unshut is = go is.kept
     go (inr rests) = inl (subst (λ (f : List ℕ). StandsInFront f bodies) (sym rests.on.1) rests.stands)
 stood s gate bodies (Some n) unshut is = absurd (cc (unshut))
 
-pub reopened : (old j : Kept MemDisk) (bytes : List ℕ) (shut : Option ℕ) → shut ≡ None → IsStarted (Some (recorded old.disk).story) old.gate (bodies_in old) shut → AllByRecursion (HasText old.wide) old.list
-    → bytes ≡ seen (recorded old.disk).story → length bytes < 2 ^ 64 → Starts (Some (Made bytes)) (Some (recorded j.disk).story) j.gate (bodies_in j) × (j.shut ≡ None) → AllByRecursion (HasText j.wide) j.list → IsReopened old j
-reopened old j bytes shut unshut is texts same small started again =
-    let s : Story = (recorded old.disk).story in
-    let at = started.0.2 (Made bytes) refl in
-    let before : StandsFor bytes (bodies_in old) = subst (λ (f : List ℕ). StandsFor f (bodies_in old)) (sym same) (stood s old.gate (bodies_in old) shut unshut is) in
-    let after : StandsFor bytes (bodies_in j) = at.0 in
-    let one : bodies_in j ≡ bodies_in old = one_meaning bytes (bodies_in j) (bodies_in old) small after before in
+-- a journal that starts on bytes that stand for records has these
+pub opened : (file : List ℕ) (rs : List LogRec) (j : Kept MemDisk) (s : Story) → seen s ≡ file → length file < 2 ^ 64 → StandsFor file (bodies_of true rs) → AllByRecursion (HasText true) rs
+    → Starts (Some s) (Some (recorded j.disk).story) j.gate (bodies_in j) × (j.shut ≡ None) → AllByRecursion (HasText j.wide) j.list → IsOpened file rs j
+opened file rs j s same small stands texts started again =
+    let at = started.0.2 s refl in
+    let after : StandsFor file (bodies_in j) = subst (λ (f : List ℕ). StandsFor f (bodies_in j)) same at.0 in
+    let one : bodies_in j ≡ bodies_of true rs = one_meaning file (bodies_in j) (bodies_of true rs) small after stands in
     record {
-      list = sym (recs_is j.wide j.list again) ∙ ap recs_of one ∙ recs_is old.wide old.list texts;
-      wide = sym (wide_is j.wide j.list) ∙ ap wide_of one ∙ wide_is old.wide old.list;
-      gate = started.0.3 ∙ ap place_behind one ∙ sym is.place;
+      list = sym (recs_is j.wide j.list again) ∙ ap recs_of one ∙ recs_is true rs texts;
+      wide = sym (wide_is j.wide j.list) ∙ ap wide_of one ∙ wide_is true rs;
+      gate = started.0.3 ∙ ap place_behind one;
       unshut = started.1;
-      bytes = λ rest on. subst (λ (f : List ℕ). IsOn (Some (recorded j.disk).story) f) (kept_front bytes (bodies_in j) at.0 rest (same ∙ on.1) ∙ same ∙ on.1) at.3;
+      bytes = λ rest is. subst (λ (f : List ℕ). IsOn (Some (recorded j.disk).story) f) (kept_front (seen s) (bodies_in j) at.0 rest (same ∙ is) ∙ same) at.3;
     }
 
--- ---- no byte is foreign
+-- so has one that starts on the bytes of another
+pub reopened : (old j : Kept MemDisk) (file : List ℕ) (shut : Option ℕ) → old.wide ≡ true → shut ≡ None → IsStarted (Some (recorded old.disk).story) old.gate (bodies_in old) shut → file ≡ seen (recorded old.disk).story → IsOpened file old.list j → IsReopened old j
+reopened old j file shut wide unshut is same new = record {
+  list = new.list;
+  wide = new.wide ∙ sym wide;
+  gate = new.gate ∙ ap (λ (b : Bool). place_behind (bodies_of b old.list)) (sym wide) ∙ sym is.place;
+  unshut = new.unshut;
+  bytes = λ rest on. subst (λ (f : List ℕ). IsOn (Some (recorded j.disk).story) f) (same ∙ on.1) (new.bytes rest (same ∙ on.1));
+}
 
-passed_on : (before : List (List ℕ)) (rs : List LogRec) → AllByRecursion (HasText true) rs → ArePassed record_body (version_mark ∷ before) (texts true rs)
-passed_on before [] all = tt
-passed_on before (r ∷ rs) all = (ap is_some (text_is_read true r all.0), passed_on (before ++ text true r ∷ []) rs all.1)
+-- its bytes stand for its records
+pub stands_for : (old : Kept MemDisk) (file : List ℕ) (shut : Option ℕ) → old.wide ≡ true → shut ≡ None → IsStarted (Some (recorded old.disk).story) old.gate (bodies_in old) shut → file ≡ seen (recorded old.disk).story → StandsFor file (bodies_of true old.list)
+stands_for old file shut wide unshut is same =
+    subst (λ (b : Bool). StandsFor file (bodies_of b old.list)) wide (subst (λ (f : List ℕ). StandsFor f (bodies_in old)) (sym same) (stood (recorded old.disk).story old.gate (bodies_in old) shut unshut is))
 
-passed : (rs : List LogRec) → AllByRecursion (HasText true) rs → ArePassed record_body [] (bodies_of true rs)
-passed rs all = (refl, passed_on [] rs all)
+pub reopens : (old log : Kept MemDisk) (shut : Option ℕ) (disk : MemDisk) (r : Result (Kept MemDisk) WorldFault) → log ≡ old → shut ≡ log.shut → IsStarted (Some (recorded log.disk).story) log.gate (bodies_in log) shut → AllByRecursion (HasText log.wide) log.list
+    → recorded disk ≡ fresh (seen (recorded old.disk).story) []
+    → ((rs : List LogRec) → StandsFor (seen (recorded disk).story) (bodies_of true rs) → AllByRecursion (HasText true) rs → Opens (seen (recorded disk).story) rs r)
+    → old.shut ≡ None → old.wide ≡ true → Reopens old r
+reopens old log shut disk r same is started texts copied opens unshut wide = go r (opens old.list (stands_for old (seen (recorded disk).story) shut wide none here file_is) (subst (λ (b : Bool). AllByRecursion (HasText b) old.list) wide all))
+  where
+    file_is : seen (recorded disk).story ≡ seen (recorded old.disk).story
+    file_is = ap (λ (q : Recorded). seen q.story) copied
 
-pub never_foreign : (old : Kept MemDisk) (s : Story) (bytes : List ℕ) (shut : Option ℕ) (at : ℕ) → old.wide ≡ true → shut ≡ None → IsStarted (Some s) old.gate (bodies_in old) shut → AllByRecursion (HasText old.wide) old.list
-    → bytes ≡ seen s → length bytes < 2 ^ 64 → IsForeign record_body bytes at → ⊥
-never_foreign old s bytes shut at wide unshut is texts same small foreign =
-    let before : StandsFor bytes (bodies_in old) = subst (λ (f : List ℕ). StandsFor f (bodies_in old)) (sym same) (stood s old.gate (bodies_in old) shut unshut is) in
-    stands_for_nothing record_body bytes at (bodies_of true old.list) small foreign (subst (λ (b : Bool). StandsFor bytes (bodies_of b old.list)) wide before)
-    (passed old.list (subst (λ (b : Bool). AllByRecursion (HasText b) old.list) wide texts))
+    here : IsStarted (Some (recorded old.disk).story) old.gate (bodies_in old) shut
+    here = subst (λ (j : Kept MemDisk). IsStarted (Some (recorded j.disk).story) j.gate (bodies_in j) shut) same started
 
--- ---- nor any record
+    all : AllByRecursion (HasText old.wide) old.list
+    all = subst (λ (j : Kept MemDisk). AllByRecursion (HasText j.wide) j.list) same texts
+
+    none : shut ≡ None
+    none = is ∙ ap (λ (j : Kept MemDisk). j.shut) same ∙ unshut
+
+    go : (q : Result (Kept MemDisk) WorldFault) → Opens (seen (recorded disk).story) old.list q → Reopens old q
+    go (Ok j) h = reopened old j (seen (recorded disk).story) shut wide none here file_is h
+    go (Err WorldFault.Name) h = h
+    go (Err (WorldFault.Limit what)) h = h
+    go (Err WorldFault.Unbuilt) h = h
+    go (Err WorldFault.NoMemory) h = tt
+
+-- ---- no record is foreign, and there is a next boot
 
 pub in_order : (j : Kept MemDisk) (name : List ℕ) (new : Kept MemDisk) (at : ℕ) (rs : List LogRec) → j.list ≡ rs → all_follow rs ≡ true → Starts_at standing j name (Err (new, SiteStart.Foreign at)) → ⊥
 in_order j name new at rs list order h =

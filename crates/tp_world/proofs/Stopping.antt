@@ -15,7 +15,8 @@ use Rattle.tp_site.specs.State.{tree_in}
 use Rattle.tp_network.specs.Nodes.{AreChanged}
 use Rattle.tp_network.specs.declared.nodes.NodeSlot.{NodeSlot}
 use Rattle.tp_network.specs.declared.tree_summary.TreeChange.{TreeChange}
-use Rattle.tp_world.specs.Restarts.{stopped, as_it_is, turned_at, restarted_to, IsStopped, IsRestartedTo, RestartsTo}
+use Rattle.tp_world.specs.declared.restart.LostEntry.{LostEntry}
+use Rattle.tp_world.specs.Restarts.{stopped, as_it_is, turned_at, restarted_to, tree_before, IsStopped, IsRestartedTo, RestartsTo}
 use Rattle.tp_world.specs.Sites.{known_by, unknown_at}
 use Rattle.tp_world.specs.World.{AreNodes, IsNode}
 use Rattle.tp_world.specs.Slots.{SlotPlays, SlotAnswers}
@@ -34,13 +35,13 @@ self_number k = grind (arith, nat_tests)
 -- ---- what the sites know of the node
 
 -- before the stop, and as the site starts again
-module _ (ns : List Node) (i : ℕ) (first old : SiteSlot) (xs : List NodeSlot) (y : SiteSlot) (stop : IsStopped ns old first) (to : IsRestartedTo ns i first xs y) (n : Node) (at : slice_get ns i ≡ Some n)
+module _ (ns : List Node) (i : ℕ) (first old : SiteSlot) (lost : Option LostEntry) (xs : List NodeSlot) (y : SiteSlot) (stop : IsStopped ns old lost first) (to : IsRestartedTo ns i first xs y) (n : Node) (at : slice_get ns i ≡ Some n)
     (here : is_name (site_of n) first.site.nodes.site ≡ true) where
   abbrev s : List ℕ
   s = first.site.nodes.site
 
-  pub known_before : known_at old.site (number_of n) ≡ digest n.origin n.history
-  known_before = stop.known (number_of n) ∙ ap (known_by s (unknown_at old)) (find_at ns i n stop.apart at) ∙ known_here s (unknown_at old) n here
+  pub tree_stood : tree_before old lost (number_of n) ≡ tree_in (digest n.origin n.history)
+  tree_stood = stop.trees n (find_at ns i n stop.apart at) here
 
   pub known_stopped : known_at y.site (number_of n) ≡ digest n.origin (crashed n.history)
   known_stopped = to.known (number_of n) ∙ ap (known_by s (unknown_at y)) (found_to stopped (λ m. refl) s i ns n stop.apart at here) ∙ known_here s (unknown_at y) (stopped n) here
@@ -56,9 +57,9 @@ module _ (ns : List Node) (i : ℕ) (first old : SiteSlot) (xs : List NodeSlot) 
   change_made : (a b c d : Option NodeTree) → a ≡ b → c ≡ d → ◌≡◌ {A = TreeChange} (record { before = a; after = c; leaves = false; rec = None }) (record { before = b; after = d; leaves = false; rec = None })
   change_made a b c d p q = rw (p, q) refl
 
-  pub stop_is : (before after : Option NodeTree) → before ≡ tree_in (known_at old.site (number_of n)) → after ≡ tree_in (known_at y.site (number_of n))
+  pub stop_is : (before after : Option NodeTree) → before ≡ tree_before old lost (number_of n) → after ≡ tree_in (known_at y.site (number_of n))
       → ◌≡◌ {A = TreeChange} (record { before = before; after = after; leaves = false; rec = None }) (change_by n crash_entry)
-  stop_is before after b a = change_made before (tree_in (digest n.origin n.history)) after (tree_in (digest n.origin (crashed n.history))) (b ∙ ap tree_in known_before) (a ∙ ap tree_in known_stopped)
+  stop_is before after b a = change_made before (tree_in (digest n.origin n.history)) after (tree_in (digest n.origin (crashed n.history))) (b ∙ tree_stood) (a ∙ ap tree_in known_stopped)
 
   -- ---- the next one
 
@@ -123,7 +124,7 @@ pub is_here : (ns : List Node) (i : ℕ) (first : SiteSlot) (xs : List NodeSlot)
 is_here ns i first xs y x to self name b named is =
     ap (λ (a : Addr). is_name a.site first.site.nodes.site) (sym self.is.addr) ∙ ap (is_name x.addr.site) (sym to.same.site ∙ sym named) ∙ is
 
-module _ (ns : List Node) (i : ℕ) (first old : SiteSlot) (xs : List NodeSlot) (y : SiteSlot) (x : NodeSlot) (stop : IsStopped ns old first) (to : IsRestartedTo ns i first xs y) (self : IsSelf ns i xs x)
+module _ (ns : List Node) (i : ℕ) (first old : SiteSlot) (lost : Option LostEntry) (xs : List NodeSlot) (y : SiteSlot) (x : NodeSlot) (stop : IsStopped ns old lost first) (to : IsRestartedTo ns i first xs y) (self : IsSelf ns i xs x)
     (here : is_name (site_of self.node) first.site.nodes.site ≡ true) where
   abbrev n : Node
   n = self.node
@@ -136,10 +137,10 @@ module _ (ns : List Node) (i : ℕ) (first old : SiteSlot) (xs : List NodeSlot) 
   plays_it r z h = subst (λ (u : Option Addr). SlotPlays y (number_of n) (Event.Declare u) r z) self.is.superior (subst (λ (k : ℕ). SlotPlays y k (Event.Declare x.superior) r z) number h)
 
   who : who_at y.site.nodes (number_of n) ≡ n.origin.who
-  who = who_stopped ns i first old xs y stop to n self.at here
+  who = who_stopped ns i first old lost xs y stop to n self.at here
 
   known : known_at y.site (number_of n) ≡ digest n.origin (crashed n.history)
-  known = known_stopped ns i first old xs y stop to n self.at here
+  known = known_stopped ns i first old lost xs y stop to n self.at here
 
   pub node_never_refused : (a : Answer) (z : SiteSlot) → SlotPlays y x.addr.node (Event.Declare x.superior) (Ok a) z → a.entry ≡ None → ⊥
   node_never_refused a z h none = never_refused n y z who known a.number (subst (λ (o : Option Entry). SlotAnswers y (number_of n) (Event.Declare n.superior) a.number o z) none (plays_it (Ok a) z h))
@@ -147,14 +148,14 @@ module _ (ns : List Node) (i : ℕ) (first old : SiteSlot) (xs : List NodeSlot) 
   pub node_memory : (f : WorldFault) (z : SiteSlot) → SlotPlays y x.addr.node (Event.Declare x.superior) (Err f) z → f ≡ WorldFault.NoMemory
   node_memory f z h = memory_alone n y z who known f (plays_it (Err f) z h)
 
-  pub node_again : (before after : Option NodeTree) (a : Answer) (e : Entry) (z : SiteSlot) (mid last : List NodeSlot) → before ≡ tree_in (known_at old.site x.addr.node) → after ≡ tree_in (known_at y.site x.addr.node)
+  pub node_again : (before after : Option NodeTree) (a : Answer) (e : Entry) (z : SiteSlot) (mid last : List NodeSlot) → before ≡ tree_before old lost x.addr.node → after ≡ tree_in (known_at y.site x.addr.node)
       → AreChanged x.addr.node (record { before = before; after = after; leaves = false; rec = None }) xs mid → SlotPlays y x.addr.node (Event.Declare x.superior) (Ok a) z → a.entry ≡ Some e → AreChanged x.addr.node e.change mid last
       → IsRestartedTo ns (suc i) first last z
   node_again before after a e z mid last b f stops plays some declares =
       let change : record { before = before; after = after; leaves = false; rec = None } ≡ change_by n crash_entry =
-      stop_is ns i first old xs y stop to n self.at here before after (b ∙ ap (λ (k : ℕ). tree_in (known_at old.site k)) number) (f ∙ ap (λ (k : ℕ). tree_in (known_at y.site k)) number) in
+      stop_is ns i first old lost xs y stop to n self.at here before after (b ∙ ap (tree_before old lost) number) (f ∙ ap (λ (k : ℕ). tree_in (known_at y.site k)) number) in
       let answers : SlotAnswers y (number_of n) (Event.Declare n.superior) a.number (Some e) z = subst (λ (o : Option Entry). SlotAnswers y (number_of n) (Event.Declare n.superior) a.number o z) some (plays_it (Ok a) z plays) in
-      next_node ns i first old xs y stop to n self.at here x mid last e z self.is
+      next_node ns i first old lost xs y stop to n self.at here x mid last e z self.is
       (subst (λ (k : ℕ). AreChanged k (change_by n crash_entry) xs mid) number (subst (λ (c : TreeChange). AreChanged x.addr.node c xs mid) change stops))
       (again n y z who known a.number e answers)
       (subst (λ (k : ℕ). AreChanged k e.change mid last) number declares)

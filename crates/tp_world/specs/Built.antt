@@ -1,4 +1,4 @@
--- The lines that a world plays. Stops in an event and members are not built yet.
+-- The lines that a world plays: all but those that speak of members.
 use Rattle.std.specs.Prelude.{Bool, true, false}
 use Rattle.tp_model.specs.declared.line.Line.{Line}
 
@@ -15,7 +15,7 @@ is_built (Line.GiveUp n p) = true
 is_built (Line.Retry n) = true
 is_built (Line.Purge n) = true
 is_built (Line.Crash s) = true
-is_built (Line.CrashIn s k x l) = false
+is_built (Line.CrashIn s k x l) = true
 is_built (Line.Show n) = true
 is_built (Line.Image s) = true
 is_built (Line.Auto n k) = false

@@ -11,3 +11,5 @@ pub mod Settled
 pub mod Declares
 pub mod Drains
 pub mod Restarts
+pub mod Left
+pub mod Stops

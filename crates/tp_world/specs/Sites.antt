@@ -1,6 +1,6 @@
 -- A site of a world as the code keeps it, and the site of the definitions that it is: its log has exactly the records of the
 -- definitions' disk, and what it knows of each of its nodes is what follows from that node's whole history.
-use Rattle.std.specs.Prelude.{ℕ, suc, ◌≡◌, ◌+◌, nat_lt, true, false, Option, Some, None, List, [], ◌∷◌, reverse, if◌then◌else◌}
+use Rattle.std.specs.Prelude.{ℕ, suc, ◌≡◌, ◌≢◌, ◌+◌, nat_lt, true, false, Option, Some, None, List, [], ◌∷◌, reverse, if◌then◌else◌}
 use Rattle.tp_logrec.specs.declared.record.LogVersion.{LogVersion}
 use Rattle.tp_names.specs.Same.{is_name}
 use Rattle.tp_outside.specs.MemDisk.{recorded}
@@ -24,6 +24,7 @@ pub record IsLogged (s : Site) (x : SiteSlot) : Type 0 where
   pub gate : x.site.keeper.gate + 1 ≡ log_size s.disk.records
   pub unshut : x.site.keeper.shut ≡ None
   pub room : nat_lt most_bytes (log_size s.disk.records) ≡ false
+  pub closed : s.disk.gate ≢ 1
   -- its disk has the bytes of theirs, all of them
   pub bytes : IsOn (Some (recorded x.site.keeper.disk).story) (disk_bytes s.disk)
 

@@ -109,7 +109,7 @@ impl World {
     }
 
     // The entry stands in the node's summaries, and a tree that it starts is known.
-    fn enter(&mut self, node: u16, change: &TreeChange) -> Result<(), NoMemory>
+    pub(crate) fn enter(&mut self, node: u16, change: &TreeChange) -> Result<(), NoMemory>
         ensures { OnOk result (IsEntered node change.now self.old self.new) }
     {
         self.nodes.change(node, change)?;

@@ -1,18 +1,20 @@
 //! A world of nodes under a written schedule: sites with their logs in memory, frames between nodes, and trees.
 //!
 //! What a line does stands with the definitions of the service. No history is kept here: of each node and tree the few
-//! facts are kept that the closing lines ask. Stops in an event and members are not built yet.
+//! facts are kept that the closing lines ask. A line that speaks of members is none of this world's.
 #![tactic(auto)]
 
 mod closing;
 mod event;
 mod fault;
+mod left;
 mod play;
 mod requests;
 mod restart;
 mod shown;
 mod site_slot;
 mod sites;
+mod stop;
 mod world;
 
 pub use fault::WorldFault;

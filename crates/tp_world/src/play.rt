@@ -59,7 +59,7 @@ impl World {
 
     // A frame of that number was sent.
     #[tactic(auto, using(crate::proofs::Stood::frame_same))]
-    fn is_frame(&self, frame: u16) -> bool
+    pub(crate) fn is_frame(&self, frame: u16) -> bool
         ensures { (w : WorldValue) → Mirrors w self.now → result ≡ is_frame w frame }
     {
         self.frames.find(frame).is_some()

@@ -4,7 +4,8 @@ ghost use Rattle.tp_model.specs.Happenings.{crash_turn};
 ghost use Rattle.tp_model.specs.Lines.{within_limits};
 ghost use Rattle.tp_model.specs.World.{World as WorldValue, Node as NodeValue};
 ghost use Rattle.tp_laws.specs.SiteLogs.{DisksTell, DisksStart};
-ghost use Rattle.tp_world.specs.Restarts.{IsStopped, IsRestartedTo, RestartsTo};
+ghost use Rattle.tp_world.specs.Restarts.{tree_before, HasStoppedAs, IsStopped, IsRestartedTo, RestartsTo};
+ghost use Rattle.tp_world.specs.declared.site_slot.SiteSlot.{SiteSlot};
 ghost use Rattle.tp_world.specs.Sites.{place_of_site};
 ghost use Rattle.tp_world.specs.World.{Mirrors, Gives};
 
@@ -12,11 +13,31 @@ use crate::fault::WorldFault;
 use crate::site_slot::SiteSlot;
 use crate::world::World;
 use std::alloc::Global;
+use tp_journal::Journal;
 use tp_model::{LogWords, OutLine, OutLines};
 use tp_names::same::is_name;
 use tp_network::{Nodes, TreeChange};
+use tp_outside::MemDisk;
 use tp_records::{PeerRecord, Request};
-use tp_site::NodeEvent;
+use tp_site::{NodeEvent, NodeTree};
+
+/// An entry of a node that its site has played, and that is lost with its record.
+#[derive(Drop)]
+pub(crate) struct LostEntry {
+    pub(crate) node: u16,
+    /// The tree of the node's transaction before it.
+    pub(crate) tree: Option<NodeTree>,
+}
+
+// The tree of that node's transaction, without the entry that is lost.
+fn tree_before(old: &SiteSlot, lost: &Option<LostEntry>, node: u16) -> Option<NodeTree>
+    ensures { result ≡ tree_before old.now lost.now node }
+{
+    match lost {
+        Some(entry) if entry.node == node => entry.tree,
+        _ => old.tree(node),
+    }
+}
 
 // The node at that place stops and is declared again, where it is a node of the site, which has started again.
 fn restart_node(
@@ -24,9 +45,10 @@ fn restart_node(
     nodes: &mut Nodes,
     place: usize,
     old: &SiteSlot,
+    lost: &Option<LostEntry>,
     next: &mut SiteSlot,
 ) -> Result<(), WorldFault>
-    ensures { (ns : List NodeValue) (first : SiteSlot) → IsStopped ns old.now first → place < length ns → IsRestartedTo ns place first nodes.old next.old → RestartsTo ns (suc place) first result nodes.new next.new }
+    ensures { (ns : List NodeValue) (first : SiteSlot) → IsStopped ns old.now lost.now first → place < length ns → IsRestartedTo ns place first nodes.old next.old → RestartsTo ns (suc place) first result nodes.new next.new }
 {
     if place >= nodes.count() {
         return Err(WorldFault::Name);
@@ -38,7 +60,7 @@ fn restart_node(
         return Ok(());
     }
     let stop = TreeChange {
-        before: old.tree(at.node),
+        before: tree_before(old, lost, at.node),
         after: next.tree(at.node),
         leaves: false,
         rec: None,
@@ -59,17 +81,40 @@ fn restart_nodes(
     alloc: Global,
     nodes: &mut Nodes,
     old: &SiteSlot,
+    lost: &Option<LostEntry>,
     next: &mut SiteSlot,
 ) -> Result<(), WorldFault>
-    ensures { (ns : List NodeValue) → IsStopped ns old.now next.old → IsRestartedTo ns 0 next.old nodes.old next.old → RestartsTo ns (length ns) next.old result nodes.new next.new }
+    ensures { (ns : List NodeValue) → IsStopped ns old.now lost.now next.old → IsRestartedTo ns 0 next.old nodes.old next.old → RestartsTo ns (length ns) next.old result nodes.new next.new }
 {
     for place in 0..nodes.count() {
-        restart_node(alloc, nodes, place, old, next)?;
+        restart_node(alloc, nodes, place, old, lost, next)?;
     }
     Ok(())
 }
 
 impl World {
+    /// The site at that place has stopped, and starts again on that journal; its nodes are declared again. What it knew
+    /// is what it knows now, but for an entry that is lost.
+    pub(crate) fn restart(
+        &mut self,
+        alloc: Global,
+        place: usize,
+        journal: Journal<MemDisk>,
+        lost: &Option<LostEntry>,
+        lines: &mut OutLines,
+    ) -> Result<(), WorldFault>
+        requires { place < length self.old.sites.items }
+        ensures { (w : WorldValue) (s : List ℕ) (x : SiteSlot) → DisksTell w → DisksStart w → place ≡ place_of_site self.old.sites.items s → HasStoppedAs w self.old place lost.now journal x → Gives (within_limits (crash_turn w s)) lines.old result lines.new self.new }
+    {
+        let mut next = self.sites[place].started_on(alloc, journal)?;
+        let site = next.name();
+        let rec = LogWords::Boot { boot: next.boot() };
+        lines.push(alloc, OutLine::Log { site, rec })?;
+        restart_nodes(alloc, &mut self.nodes, &self.sites[place], lost, &mut next)?;
+        self.sites[place] = next;
+        Ok(())
+    }
+
     /// The site at that place stops, and starts again on its disk; its nodes are declared again.
     pub(crate) fn crash(
         &mut self,
@@ -80,12 +125,7 @@ impl World {
         requires { place < length self.old.sites.items }
         ensures { (w : WorldValue) (s : List ℕ) → DisksTell w → DisksStart w → Mirrors w self.old → place ≡ place_of_site self.old.sites.items s → Gives (within_limits (crash_turn w s)) lines.old result lines.new self.new }
     {
-        let mut next = self.sites[place].restarted(alloc)?;
-        let site = next.name();
-        let rec = LogWords::Boot { boot: next.boot() };
-        lines.push(alloc, OutLine::Log { site, rec })?;
-        restart_nodes(alloc, &mut self.nodes, &self.sites[place], &mut next)?;
-        self.sites[place] = next;
-        Ok(())
+        let journal = self.sites[place].reopened(alloc)?;
+        self.restart(alloc, place, journal, &None, lines)
     }
 }

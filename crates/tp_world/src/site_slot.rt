@@ -1,6 +1,10 @@
 //! A site of a world, on a log in memory.
-ghost use Rattle.std.specs.Prelude.{◌≡◌, true, IfOk, OnOk, Some, None};
-ghost use Rattle.tp_outside.specs.MemDisk.{recorded};
+ghost use Rattle.std.specs.Prelude.{◌≡◌, true, List, [], IfOk, OnOk, Some, None};
+ghost use Rattle.std.specs.List.{AllByRecursion};
+ghost use Rattle.tp_outside.specs.MemDisk.{recorded, fresh};
+ghost use Rattle.tp_logrec.specs.declared.record.LogRec.{LogRec};
+ghost use Rattle.tp_journal.specs.Log.{StandsFor};
+ghost use Rattle.tp_journal.specs.Records.{HasText, bodies_of};
 ghost use Rattle.tp_outside.specs.Story.{seen};
 ghost use Rattle.tp_journal.specs.Told.{IsOn};
 ghost use Rattle.std.specs.Option.{option_map};
@@ -9,7 +13,7 @@ ghost use Rattle.tp_model.specs.Outcomes.{is_unchanged};
 ghost use Rattle.tp_site.specs.NodeEvent.{event_of};
 ghost use Rattle.tp_site.specs.Site.{known_at, state_at};
 ghost use Rattle.tp_site.specs.State.{state_of, tree_in};
-ghost use Rattle.tp_world.specs.Restarts.{Reopens, IsStartable, Restarts};
+ghost use Rattle.tp_world.specs.Restarts.{Opens, Reopens, IsStartable, StartsOn};
 ghost use Rattle.tp_world.specs.Slots.{blank_file, IsBlank, IsFresh, shown_behind, Declares, SlotPlays};
 
 use crate::fault::WorldFault;
@@ -87,14 +91,11 @@ fn blank(alloc: Global, disk: MemDisk) -> Result<Journal<MemDisk>, NoMemory>
     }
 }
 
-// A journal on a copy of the bytes of another. A disk in memory fails for lack of memory alone.
-fn reopened(alloc: Global, journal: &Journal<MemDisk>) -> Result<Journal<MemDisk>, WorldFault>
-    ensures { journal.now.shut ≡ None → journal.now.wide ≡ true → Reopens journal.now result }
+/// A journal on that disk. A disk in memory fails for lack of memory alone.
+pub(crate) fn opened(alloc: Global, disk: MemDisk) -> Result<Journal<MemDisk>, WorldFault>
+    ensures { (rs : List LogRec) → StandsFor (seen (recorded disk).story) (bodies_of true rs) → AllByRecursion (HasText true) rs → Opens (seen (recorded disk).story) rs result }
 {
-    let _shut = journal.shut();
-    let _records = journal.list();
-    let bytes = journal.lent().bytes();
-    let disk = MemDisk::from(alloc, Octets::from_slice(alloc, bytes)?);
+    let _bytes = disk.bytes();
     match Journal::start(alloc, disk) {
         Ok(journal) => Ok(journal),
         Err((_disk, OpenFault::Foreign { .. })) => Err(WorldFault::Name),
@@ -114,11 +115,33 @@ impl SiteSlot {
         }
     }
 
-    /// The site as it starts again on its disk: it wants room for the next boot, and memory.
-    pub(crate) fn restarted(&self, alloc: Global) -> Result<SiteSlot, WorldFault>
-        ensures { self.now.site.keeper.shut ≡ None → self.now.site.keeper.wide ≡ true → IsStartable self.now.site.keeper.list → Restarts self.now result }
+    /// A disk with the bytes of its own.
+    pub(crate) fn copied(&self, alloc: Global) -> Result<MemDisk, NoMemory>
+        ensures { IfOk result (λ disk. recorded disk ≡ fresh (seen (recorded self.now.site.keeper.disk).story) []) }
     {
-        let journal = reopened(alloc, self.site.log())?;
+        let bytes = Octets::from_slice(alloc, self.bytes())?;
+        Ok(MemDisk::from(alloc, bytes))
+    }
+
+    /// A journal on the bytes of its disk.
+    pub(crate) fn reopened(&self, alloc: Global) -> Result<Journal<MemDisk>, WorldFault>
+        ensures { self.now.site.keeper.shut ≡ None → self.now.site.keeper.wide ≡ true → Reopens self.now.site.keeper result }
+    {
+        let log = self.site.log();
+        let _shut = log.shut();
+        let _records = log.list();
+        let disk = self.copied(alloc)?;
+        opened(alloc, disk)
+    }
+
+    /// The site as it starts on that journal: it wants room for the next boot, and memory.
+    pub(crate) fn started_on(
+        &self,
+        alloc: Global,
+        journal: Journal<MemDisk>,
+    ) -> Result<SiteSlot, WorldFault>
+        ensures { journal.shut ≡ None → IsStartable journal.list → StartsOn journal self.now.site.nodes.site result }
+    {
         match Site::start(alloc, journal, self.name()) {
             Ok(site) => Ok(SiteSlot { site }),
             Err((_journal, StartFault::Full { .. })) => Err(WorldFault::Limit { what: What::Log }),
@@ -162,6 +185,13 @@ impl SiteSlot {
         ensures { state_of result ≡ state (known_at self.now.site node) }
     {
         self.site.shown(node)
+    }
+
+    /// Its log.
+    pub(crate) fn log(&self) -> &Journal<MemDisk>
+        ensures { result.now ≡ self.now.site.keeper }
+    {
+        self.site.log()
     }
 
     /// All bytes of its disk.

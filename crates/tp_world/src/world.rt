@@ -11,6 +11,7 @@ ghost use Rattle.tp_world.specs.declared.fault.WorldFault.{WorldFault};
 
 use crate::closing::closing_lines;
 use crate::fault::WorldFault;
+use crate::left::Stop;
 use crate::site_slot::SiteSlot;
 use std::alloc::Global;
 use tp_model::{Line, OutLine, OutLines};
@@ -33,10 +34,7 @@ pub struct World {
 fn is_built(line: &Line) -> bool
     ensures { result ≡ is_built line.now }
 {
-    !matches!(
-        line,
-        Line::CrashIn { .. } | Line::Auto { .. } | Line::Leave { .. }
-    )
+    !matches!(line, Line::Auto { .. } | Line::Leave { .. })
 }
 
 // The line itself is shown.
@@ -126,6 +124,18 @@ impl World {
             Line::Drain => self.drain_line(alloc, lines),
             Line::Show { node } => self.show_line(alloc, *node, lines),
             Line::Crash { site } => self.crash_line(alloc, site, lines),
+            Line::CrashIn {
+                site,
+                at,
+                fill,
+                action,
+            } => {
+                let stop = Stop {
+                    call: *at,
+                    fill: *fill,
+                };
+                self.crash_in_line(alloc, site, &stop, action, lines)
+            }
             Line::Image { site } => self.image_line(alloc, site, lines),
             _ => self.event_line(alloc, line, lines),
         }

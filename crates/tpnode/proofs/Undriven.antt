@@ -6,12 +6,13 @@ use Rattle.tp_model.specs.declared.line.Action.{Action}
 use Rattle.tp_model.specs.declared.line.Line.{Line}
 use Rattle.tp_model.specs.declared.out_line.OutLine.{OutLine}
 use Rattle.tp_model.specs.declared.verdict.What.{What}
-use Rattle.tp_model.specs.Disk.{disk_bytes}
+use Rattle.tp_model.specs.declared.out_line.RecordFate.{RecordFate}
+use Rattle.tp_model.specs.Disk.{Remains, remains, disk_bytes}
 use Rattle.tp_model.specs.Parts.{Entry, Answer}
 use Rattle.tp_model.specs.History.{digest, answer, state}
-use Rattle.tp_model.specs.World.{World, Node, Site, addr_at, find_node, find_site, oldest_between, oldest_of_all}
-use Rattle.tp_model.specs.Happenings.{Declare, Does, Mark, Task, Turn, still, happens, task_of, after_lines, action_lines, action_turn, event_turn, entry_turn, entered, logged, declared_at, declare_turn, crash_turn}
-use Rattle.tp_model.specs.Lines.{Fault, Name, Over, state_line, within_limits, is_full, if_named, is_named, resolved, marked, marked_by, shows, action_line, node_line, node_limit, skip_line, then_result, drain_line, show_line, image_line, line}
+use Rattle.tp_model.specs.World.{World, Node, Site, addr_at, find_node, find_site, put_site, oldest_between, oldest_of_all}
+use Rattle.tp_model.specs.Happenings.{Declare, Does, Mark, Crash_in, Task, Turn, still, happens, task_of, after_lines, action_lines, action_turn, event_turn, entry_turn, entered, logged, declared_at, declare_turn, crash_turn, after_stop, stop_in_force, stop_in_entry, stop_in_task, task_here, crash_in_turn}
+use Rattle.tp_model.specs.Lines.{Fault, Name, Over, state_line, within_limits, is_full, if_named, is_named, resolved, marked, marked_by, shows, action_line, node_line, node_limit, skip_line, then_result, drain_line, show_line, image_line, stop_line, has_room_for, crash_in_line, line}
 use Rattle.tp_world.specs.Built.{is_built}
 
 abbrev Free : World → Type 0
@@ -63,6 +64,38 @@ crash_free w s f = go (find_site w.sites s) refl
     go None e = rw (crash_turn, e) f
     go (Some x) e = rw (crash_turn, e) f
 
+-- ---- a site stops in an event
+
+force_free : (w : World) (n : Node) (x : Site) (e : Entry) (st : Remains) → Free w → Free (stop_in_force w n x e st).world
+force_free w n x e st f = go st.fate
+  where
+    abbrev left : World
+    left = record w { sites = put_site w.sites (record x { disk = st.disk }) }
+
+    go : (fate : RecordFate) → Free (after_stop (elim fate as (λ _. World) [ RecordFate.Kept ↦ entered left n e | RecordFate.Lost ↦ left | RecordFate.None ↦ left ]) x.name fate).world
+    go RecordFate.Kept = crash_free (entered left n e) x.name f
+    go RecordFate.Lost = crash_free left x.name f
+    go RecordFate.None = crash_free left x.name f
+
+stopped_free : (w : World) (n : Node) (x : Site) (call fill : ℕ) (e : Option Entry) → Free w → Free (stop_in_entry w n x call fill e).world
+stopped_free w n x call fill None f = crash_free w x.name f
+stopped_free w n x call fill (Some e) f = go e.rec
+  where
+    go : (r : Option LogRec) → Free (elim r as (λ _. Turn) [ None ↦ after_stop (entered w n e) x.name RecordFate.None | Some q ↦ stop_in_force w n x e (remains call fill q x.disk) ]).world
+    go None = crash_free (entered w n e) x.name f
+    go (Some q) = force_free w n x e (remains call fill q x.disk) f
+
+crash_in_free : (w : World) (s : List ℕ) (call fill : ℕ) (d : Action) → Free w → Free (crash_in_turn w s call fill d).world
+crash_in_free w s call fill d f = go (find_site w.sites s)
+  where
+    by_task : (x : Site) (t : Option Task) → Free (elim t as (λ _. Turn) [ None ↦ still w | Some u ↦ after_lines (action_lines d) (stop_in_task w x call fill u) ]).world
+    by_task x None = f
+    by_task x (Some u) = stopped_free w u.node x call fill (answer u.node.origin u.node.history u.event).entry f
+
+    go : (o : Option Site) → Free (elim o as (λ _. Turn) [ None ↦ still w | Some x ↦ elim (task_here x (task_of w d)) as (λ _. Turn) [ None ↦ still w | Some t ↦ after_lines (action_lines d) (stop_in_task w x call fill t) ] ]).world
+    go None = f
+    go (Some x) = by_task x (task_here x (task_of w d))
+
 -- ---- lines
 
 abbrev LeavesFree : Result Turn Fault → Type 0
@@ -95,6 +128,17 @@ free_action_line w l f = free_named (is_named w l) _ (go (resolved w l))
     go : (o : Option Action) → LeavesFree (elim o as (λ _. Result Turn Fault) [ None ↦ Ok (shows w (OutLine.Nothing ∷ [])) | Some d ↦ within_limits (happens (marked_by w l) (Does d)) ])
     go None = f
     go (Some d) = free_within (happens (marked_by w l) (Does d)) (action_free (marked_by w l) d (free_marked w l f))
+
+free_crash_in_line : (w : World) (s : List ℕ) (call fill : ℕ) (l : Action) → Free w → LeavesFree (crash_in_line w s call fill l)
+free_crash_in_line w s call fill l f = free_named _ _ (go (has_room_for w s (resolved w l)))
+  where
+    stops : (o : Option Action) → Free (elim o as (λ _. Turn) [ None ↦ after_lines (OutLine.Nothing ∷ []) (after_stop w s RecordFate.None) | Some d ↦ happens (marked_by w l) (Crash_in s call fill d) ]).world
+    stops None = crash_free w s f
+    stops (Some d) = crash_in_free (marked_by w l) s call fill d (free_marked w l f)
+
+    go : (b : Bool) → LeavesFree (elim b as (λ _. Result Turn Fault) [ false ↦ Err (Over What.Log) | true ↦ within_limits (stop_line w s call fill l) ])
+    go false = tt
+    go true = free_within (stop_line w s call fill l) (stops (resolved w l))
 
 free_node_line : (w : World) (n : ℕ) (s : List ℕ) (under : Option ℕ) → Free w → LeavesFree (node_line w n s under)
 free_node_line w n s under f = free_named _ _ (go (node_limit w s))
@@ -159,7 +203,7 @@ free_line w (Line.GiveUp n p) b f = free_action_line w (Action.GiveUp n p) f
 free_line w (Line.Retry n) b f = free_action_line w (Action.Retry n) f
 free_line w (Line.Purge n) b f = free_action_line w (Action.Purge n) f
 free_line w (Line.Crash s) b f = free_named _ _ (free_within (crash_turn w s) (crash_free w s f))
-free_line w (Line.CrashIn s k x l) b f = absurd (grind (arith, b))
+free_line w (Line.CrashIn s k x l) b f = free_crash_in_line w s k x l f
 free_line w (Line.Show n) b f = free_show_line w n f
 free_line w (Line.Image s) b f = free_image_line w s f
 free_line w (Line.Auto n k) b f = absurd (grind (arith, b))

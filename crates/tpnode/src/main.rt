@@ -1,8 +1,7 @@
 //! `tpnode`: replays a schedule over a tree of commitment nodes, and writes the exact transcript; makes schedules and
 //! tries them; makes fresh logs, shows, checks and shortens a log; lists the keys of a store.
 //!
-//! Of a schedule, stops in an event and members are not built yet: a line that asks for one ends the run and says
-//! `unbuilt`.
+//! Of a schedule, members are not built yet: a line that speaks of one ends the run and says `unbuilt`.
 #![tactic(auto)]
 
 mod checking;

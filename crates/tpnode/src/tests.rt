@@ -176,7 +176,6 @@ fn refused_by(alloc: Global, line: &str) -> Option<BadLine> {
 }
 
 const NOT_BUILT: &[&str] = &[
-    "crash a at 1 fill 00 in do 1 commit",
     "auto 1 1",
     "leave 1",
 ];
