@@ -1,3 +1,4 @@
 pub mod Texts
 pub mod Sizes
+pub mod Begins
 pub mod Standing

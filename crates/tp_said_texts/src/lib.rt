@@ -2,15 +2,17 @@
 //! their bounds. Each is the contract of a function with an empty body.
 #![tactic(auto)]
 
-ghost use Rattle.std.specs.Prelude.{ℕ, ◌≡◌, Some, None, List};
+ghost use Rattle.std.specs.Prelude.{ℕ, ◌≡◌, true, Some, None, List};
 ghost use Rattle.tp_records.specs.declared.body.Event.{Event as Given};
 ghost use Rattle.tp_model.specs.Parts.{Who, Start, Event, Digest, Entry};
 ghost use Rattle.tp_model.specs.Events.{started, refusal, action};
 ghost use Rattle.tp_model.specs.History.{answer};
 ghost use Rattle.tp_model.specs.NodeRun.{Opening, origin_at, Is, asked, log_after};
+ghost use Rattle.tp_steps.specs.Trees.{out_tells};
 ghost use Rattle.tp_texts.specs.Shapes.{AreShaped};
 ghost use Rattle.tp_said_texts.specs.Texts.{HaveTexts};
 ghost use Rattle.tp_said_texts.specs.Sizes.{AreShort};
+ghost use Rattle.tp_said_texts.specs.Begins.{is_begin_told, takes_begin};
 ghost use Rattle.tp_said_texts.specs.Standing.{StandsShaped, IsShapedMove};
 
 /// Every record that a site forces is shaped as a text in its log asks: its key has a branch where it must, a superior is named
@@ -26,6 +28,12 @@ pub fn records_keep_their_shape()
 /// request with more is refused, and octets with more are no text of a record.
 pub fn outputs_carry_what_fits()
     ensures { (o : Opening) (g : Given) (n : ℕ) (e : Event) (h : List Entry) (y : Entry) → asked o g ≡ Is n e → (answer (origin_at o n) h e).entry ≡ Some y → AreShort y.outs }
+{}
+
+/// Whatever is known of a node, its user is told that a transaction of its superior begins by the Begin that is taken, and by no
+/// other event.
+pub fn only_a_begin_is_told_as_one()
+    ensures { (who : Who) (d : Digest) (e : Event) → refusal who d e ≡ None → out_tells is_begin_told (action who d e).outs ≡ true → takes_begin e ≡ true }
 {}
 
 /// What is kept true of a node, whatever its history: a start on records that are shaped as texts ask leaves it so, and every event

@@ -1,0 +1,4 @@
+pub mod Hearing
+pub mod Telling
+pub mod Begun
+pub mod Agree
