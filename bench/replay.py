@@ -1,5 +1,5 @@
 #!/usr/bin/env python3
-"""Measures `tpnode replay` on schedules of several shapes: instructions, processor time and peak memory.
+"""Measures `tpnode replay` on schedules of several shapes, and `tpnode trial`: instructions, processor time and peak memory.
 
 bench/replay.py                           measures the table below
 bench/replay.py SHAPE NODES ROUNDS        measures one schedule
@@ -11,10 +11,11 @@ environment give the same count, whatever else the machine does. Time and memory
 
 Shapes: pair (transactions of two nodes; NODES is not read), tree (binary), chain, star, burst (a tree, all requests before the
 deliveries), starburst, onesite (a tree on one site), idle (two of NODES nodes work), kept (transactions that each leave a kept
-one), refused (five refused requests a round), passstuck (a frame that stays beside one that is passed), data and stardata."""
+one), refused (five refused requests a round), passstuck (a frame that stays beside one that is passed), data and stardata. The shape trial
+is `tpnode trial` itself, which makes its schedule of so many nodes and rounds."""
 import os, resource, subprocess, sys, tempfile
 
-TABLE = [("pair", 2, 5000), ("chain", 256, 10), ("star", 256, 10), ("kept", 2, 2000), ("passstuck", 3, 10000)]
+TABLE = [("pair", 2, 5000), ("chain", 256, 10), ("star", 256, 10), ("kept", 2, 2000), ("passstuck", 3, 10000), ("trial", 256, 10)]
 UNITS = {"data": "s", "stardata": "s", "passstuck": "s"}
 STARS = ("star", "starburst", "stardata", "passstuck")
 
@@ -75,21 +76,21 @@ def schedule(shape, nodes, rounds):
     return "\n".join(lines) + "\n"
 
 
-def instructions(program, file):
+def instructions(command, file):
     with tempfile.TemporaryDirectory() as room, open(file) as given:
-        words = ["valgrind", "--tool=callgrind", f"--callgrind-out-file={room}/out", program, "replay"]
+        words = ["valgrind", "--tool=callgrind", f"--callgrind-out-file={room}/out", *command]
         ran = subprocess.run(words, stdin=given, stdout=subprocess.DEVNULL, stderr=subprocess.PIPE, text=True)
     found = [line for line in ran.stderr.split("\n") if "Collected" in line]
     return int(found[0].split(":")[1].replace(",", "")) if found else None
 
 
-def once(program, file):
+def once(command, file):
     """Processor seconds and peak memory in MB of one run, in a process of its own so that the peak is its own."""
     reads, writes = os.pipe()
     child = os.fork()
     if child == 0:
         with open(file) as given:
-            subprocess.run([program, "replay"], stdin=given, stdout=subprocess.DEVNULL)
+            subprocess.run(command, stdin=given, stdout=subprocess.DEVNULL)
         use = resource.getrusage(resource.RUSAGE_CHILDREN)
         os.write(writes, f"{use.ru_utime + use.ru_stime} {use.ru_maxrss / 1024}".encode())
         os._exit(0)
@@ -100,11 +101,13 @@ def once(program, file):
 
 
 def measure(program, shape, nodes, rounds):
+    is_trial = shape == "trial"
+    command = [program, *(["trial", "--nodes", str(nodes), "--rounds", str(rounds)] if is_trial else ["replay"])]
     with tempfile.NamedTemporaryFile("w", suffix=".schedule") as file:
-        file.write(schedule(shape, nodes, rounds))
+        file.write("" if is_trial else schedule(shape, nodes, rounds))
         file.flush()
-        counted = instructions(program, file.name)
-        runs = [once(program, file.name) for _ in range(5)]
+        counted = instructions(command, file.name)
+        runs = [once(command, file.name) for _ in range(5)]
     shown = f"{counted / 1e6:10.1f} M" if counted else "  (no valgrind)"
     print(f"{shape} {nodes} {rounds}:{shown} instructions, {min(t for t, _ in runs):.3f} s, {min(m for _, m in runs):.1f} MB", flush=True)
 
