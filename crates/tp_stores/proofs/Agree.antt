@@ -21,7 +21,7 @@ use Rattle.tp_steps.specs.Moves.{prelude}
 use Rattle.tp_steps.specs.Passages.{is_commit_told, is_rollback_told, is_commit_rec}
 use Rattle.tp_steps.specs.Trees.{out_tells, IsTreed}
 use Rattle.tp_steps.proofs.branches.Rolls.{phase_at}
-use Rattle.tp_steps.proofs.lemmas.Equality.{or_case, and_left}
+use Rattle.tp_steps.proofs.lemmas.Equality.{or_case, and_left, and_right}
 use Rattle.tp_steps.proofs.lemmas.Options.{some_same}
 use Rattle.tp_histories.specs.Worlds.{IsGood}
 use Rattle.tp_histories.proofs.trees.Late.{late_law}
@@ -33,7 +33,7 @@ use Rattle.tp_runs.proofs.Users.{users_see}
 use Rattle.tp_agreement.proofs.Agreed.{commits_alone}
 use Rattle.tp_said_texts.specs.Begins.{is_begin_told, takes_begin}
 use Rattle.tp_said_texts.proofs.Short.{begins_untold}
-use Rattle.tp_stores.specs.Stores.{told_in, IsHeardIn, heard_of, OnlyUnder, StoresAgree}
+use Rattle.tp_stores.specs.Stores.{told_in, IsHeardIn, heard_of, is_none, only_under, StoresAgree}
 use Rattle.tp_stores.proofs.Hearing.{last_begun, is_of, hears, is_commit, is_rollback, or_first, or_over, hears_append, committed_heard, rolled_back_heard}
 use Rattle.tp_stores.proofs.Telling.{some, some_told, heard_some, heard_none, hears_some, hears_of, some_weaker}
 use Rattle.tp_stores.proofs.Begun.{IsBegin, is_begin, crash_is, begun_law}
@@ -101,12 +101,16 @@ record IsOutcome (f g : Indication → Bool) (tells : List Out → Bool) : Type 
   tells_so : (outs : List Out) → out_tells g outs ≡ true → tells outs ≡ true
   now : IsNow g
 
-heard_told : (f g : Indication → Bool) (tells : List Out → Bool) → IsOutcome f g tells → (o : Origin) (up : Option Addr) (h : List Entry) (t : Aaid) (stops : Bool) (is : List Indication) → o.start.records ≡ [] → IsGrown o up h → OnlyUnder o h → IsHeardIn stops h is → hears f t None is ≡ true
+none_is : (o : Option Aaid) → is_none o ≡ true → o ≡ None
+none_is None h = refl
+none_is (Some t) h = absurd (cc (h))
+
+heard_told : (f g : Indication → Bool) (tells : List Out → Bool) → IsOutcome f g tells → (o : Origin) (up : Option Addr) (h : List Entry) (t : Aaid) (stops : Bool) (is : List Indication) → o.start.records ≡ [] → IsGrown o up h → only_under o h ≡ true → IsHeardIn stops h is → hears f t None is ≡ true
     → has_told_in tells o t h ≡ true
 heard_told f g tells k o up [] t stops is empty legal only in_all heard = absurd (let none = ap (hears f t None) in_all in cc (none, heard))
 heard_told f g tells k o up (e ∷ h) t stops is empty legal only in_all heard =
     elim (or_case (hears f t None before) (hears f t last own) (sym (ap (hears f t None) in_all.2 ∙ hears_append f t None before own) ∙ heard)) [
-      | inl i ↦ or_over (is_now t d.current && tells e.outs) (has_told_in tells o t h) (heard_told f g tells k o up h t (is_crash e.event) before empty legal.3 only.1 in_all.4 i)
+      | inl i ↦ or_over (is_now t d.current && tells e.outs) (has_told_in tells o t h) (heard_told f g tells k o up h t (is_crash e.event) before empty legal.3 (and_right (is_none (root_of d.current)) (only_under o h) only) in_all.4 i)
       | inr i ↦ new i
     ]
   where
@@ -149,7 +153,7 @@ heard_told f g tells k o up (e ∷ h) t stops is empty legal only in_all heard =
         told j =
             let none : some is_begin_told (told_in e.outs) ≡ false = some_told is_begin_told e.outs ∙ ap (λ (v : Entry). out_tells is_begin_told v.outs) (sym legal.1) ∙ begins_untold o.who d e.event legal.0 j in
             let quiet : some is_begin_told own ≡ false = heard_none is_begin_told stops (told_in e.outs) own in_all.3 none in
-            let under : root_of (Some c.0) ≡ None = ap root_of (sym c.1) ∙ only.0 in
+            let under : root_of (Some c.0) ≡ None = ap root_of (sym c.1) ∙ none_is (root_of d.current) (and_left (is_none (root_of d.current)) (only_under o h) only) in
             let of_last : is_of t last ≡ true = hears_of f t last own quiet i in
             let of_tree : is_aaid t (aaid_of c.0.key) ≡ true = ap (is_of t) (sym (begun_law o up h (is_crash e.event) before c.0 empty legal.3 in_all.4 c.1 under calm)) ∙ of_last in
             let at : is_now t d.current ≡ true = ap (is_now t) c.1 ∙ of_tree in

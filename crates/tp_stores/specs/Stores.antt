@@ -2,7 +2,7 @@
 -- disagree about its transaction. Which of its branches a store counts as committed, and that its content has the writes of exactly
 -- these, is no matter of this file.
 -- Statements alone; nothing is proved here.
-use Rattle.std.specs.Prelude.{◌≡◌, ◌&&◌, ◌||◌, Bool, true, false, None, List, [], ◌∷◌, ◌++◌}
+use Rattle.std.specs.Prelude.{◌≡◌, ◌&&◌, ◌||◌, Bool, true, false, Option, Some, None, List, [], ◌∷◌, ◌++◌}
 use Rattle.tp_names.specs.declared.identifiers.Aaid.{Aaid}
 use Rattle.tp_names.specs.Same.{is_aaid}
 use Rattle.tp_records.specs.declared.indication.Indication.{Indication}
@@ -22,6 +22,11 @@ abbrev pub told_in : List Out → List Indication
 told_in [] = []
 told_in (Tell i ∷ outs) = i ∷ told_in outs
 told_in (Send to r ∷ outs) = told_in outs
+
+-- and by a history, whose newest entry stands first: the oldest indication first
+abbrev pub all_told : List Entry → List Indication
+all_told [] = []
+all_told (e ∷ h) = all_told h ++ told_in e.outs
 
 -- of what an event tells, all is heard; or, where the site stops then, perhaps only the first of it
 abbrev pub IsHeardOf : Bool → List Indication → List Indication → Type 0
@@ -48,13 +53,17 @@ IsHeardAt x hs = IsHeardIn false x.history (heard_of hs)
 
 -- ---- a node that starts no transaction of its own
 
--- whatever happened came while the current transaction, where there was one, was a superior's
-abbrev pub OnlyUnder : Origin → List Entry → Type 0
-OnlyUnder o [] = Unit {0}
-OnlyUnder o (e ∷ h) = (root_of (digest o h).current ≡ None) × OnlyUnder o h
+abbrev pub is_none : Option Aaid → Bool
+is_none None = true
+is_none (Some t) = false
 
-abbrev pub IsBranchAlone : Node → Type 0
-IsBranchAlone x = OnlyUnder x.origin x.history
+-- whatever happened came while the current transaction, where there was one, was a superior's
+abbrev pub only_under : Origin → List Entry → Bool
+only_under o [] = true
+only_under o (e ∷ h) = is_none (root_of (digest o h).current) && only_under o h
+
+abbrev pub is_branch_alone : Node → Bool
+is_branch_alone x = only_under x.origin x.history
 
 -- ---- one tree
 
@@ -85,5 +94,5 @@ has_rolled_back t (h ∷ hs) = has_rolled_back t hs
 -- no store was told that a tree commits of which another was told that it rolls back
 abbrev pub StoresAgree : World → Type 0
 StoresAgree w =
-    (t : Aaid) (x y : Node) (hs gs : List Heard) → IsIn w x → IsIn w y → IsBranchAlone x → IsBranchAlone y → IsHeardAt x hs → IsHeardAt y gs
+    (t : Aaid) (x y : Node) (hs gs : List Heard) → IsIn w x → IsIn w y → is_branch_alone x ≡ true → is_branch_alone y ≡ true → IsHeardAt x hs → IsHeardAt y gs
     → has_committed t hs ≡ true → has_rolled_back t gs ≡ true → ⊥
