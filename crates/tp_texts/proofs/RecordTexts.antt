@@ -1,5 +1,5 @@
 -- Which log records have a text: those whose parts are read back, and no others.
-use Rattle.std.proofs.Common.{◌≡◌, ℕ, ◌<◌, ◌^◌, Option, List, [], ◌∷◌, ◌++◌, refl, sym, ap, ◌∙◌}
+use Rattle.std.proofs.Common.{◌≡◌, ℕ, ◌<◌, ◌^◌, Option, List, [], ◌∷◌, ◌++◌, Bool, true, false, IsTrue, refl, sym, ap, ◌∙◌}
 use Rattle.std.proofs.lemmas.List.{append-nil}
 use Rattle.tp_names.specs.declared.identifiers.Addr.{Addr}
 use Rattle.tp_names.specs.declared.identifiers.NodeKey.{NodeKey}
@@ -127,3 +127,7 @@ damage_judgement_given ver n k a o r cs h = (given ver (LogRec.Damage n k a o r 
 
 pub damage_children_given : (ver : LogVersion) (n : ℕ) (k : NodeKey) (a : Option Addr) (o : Outcome) (r : Report) (cs : List Child) → HasRecordText ver (LogRec.Damage n k a o r cs) → IsGiven (read_children ver) cs
 damage_children_given ver n k a o r cs h = (given ver (LogRec.Damage n k a o r cs) h).1.1
+
+-- a part that is not read back
+pub refused : {P : Type 0} (b : Bool) → b ≡ false → IsTrue b → P
+refused b is_false is_true = absurd (let clash : false ≡ true = sym is_false ∙ is_true in cc)

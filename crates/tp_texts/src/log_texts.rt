@@ -1,34 +1,34 @@
-//! Which records of a log have a text: those that are shaped as a text asks, since their types keep numbers and names within
-//! their bounds. A function here answers nothing: it shows that.
-ghost use Rattle.std.specs.Prelude.{◌≡◌, ◌≤◌, ◌++◌, true, false, length};
+//! Which records of a log have a text.
+ghost use Rattle.std.specs.Prelude.{◌≡◌, ◌++◌, ◌↔◌, IsTrue};
 ghost use Rattle.tp_names.specs.Bytes.{branch_bytes, maybe_bytes, key_bytes, outcome_bytes, report_bytes};
 ghost use Rattle.tp_names.specs.Grammar.{HasText};
-ghost use Rattle.tp_names.specs.Reports.{is_report_none};
 ghost use Rattle.tp_logrec.specs.RecordText.{superior_bytes, key_and_superior_bytes, children_bytes};
 ghost use Rattle.tp_logrec.specs.RecordReading.{read_some_branch, read_branch_key, read_branch_and_superior, read_key_and_superior, read_judgement, read_children, record_grammar};
 ghost use Rattle.tp_logrec.specs.declared.record.LogRec.{LogRec};
-ghost use Rattle.tp_texts.specs.Texts.{Takes, HasRecordText, most_children};
-ghost use Rattle.tp_texts.specs.Shapes.{is_there, has_branch, has_superior, IsShaped};
+ghost use Rattle.tp_texts.specs.Texts.{Takes, IsGiven, HasRecordText, most_children};
 
 use crate::parts::{aaid_reads, addr_reads, branch_reads, each_child_reads, key_reads};
 use tp_logrec::{LogRec, LogVersion};
 use tp_names::{Addr, BranchId, Children, NodeKey, Outcome, Report};
 
-/// A record that is shaped as a text in a log of that version asks has one.
-pub fn shaped_has_text(version: LogVersion, rec: &LogRec)
-    requires { IsShaped version rec.now }
-    ensures { HasText (record_grammar version) rec.now }
+/// The record has a text in a log of that version: its key has a branch where it must, it names a
+/// superior exactly where its key has a branch, it has no more children than fit, and a damage has
+/// a report.
+pub fn has_text(version: LogVersion, rec: &LogRec) -> bool
+    ensures { IsTrue result ↔ HasText (record_grammar version) rec.now }
 {
-    shaped_kind_has_text(version, rec);
+    record_has_text(version, rec)
 }
 
-/// Kind by kind.
-fn shaped_kind_has_text(version: LogVersion, rec: &LogRec)
-    requires { IsShaped version rec.now }
-    ensures { HasRecordText version rec.now }
+/// The answer, kind by kind.
+fn record_has_text(version: LogVersion, rec: &LogRec) -> bool
+    ensures { IsTrue result ↔ HasRecordText version rec.now }
 {
     match rec {
-        LogRec::Boot { boot } => boot_has_text(version, *boot),
+        LogRec::Boot { boot } => {
+            boot_has_text(version, *boot);
+            true
+        }
         LogRec::Ready {
             node,
             key,
@@ -52,7 +52,10 @@ fn shaped_kind_has_text(version: LogVersion, rec: &LogRec)
             report,
             owed,
         } => damage_has_text(version, *node, *key, *superior, (*side, *report), owed),
-        LogRec::End { node, key, outcome } => end_has_text(version, *node, *key, *outcome),
+        LogRec::End { node, key, outcome } => {
+            end_has_text(version, *node, *key, *outcome);
+            true
+        }
     }
 }
 
@@ -61,42 +64,38 @@ fn boot_has_text(version: LogVersion, boot: u64)
     ensures { HasRecordText version (LogRec.Boot boot) }
 {}
 
-#[tactic(auto, using(crate::proofs::RecordTexts::ready_text))]
-fn ready_has_text(version: LogVersion, node: u16, key: NodeKey, superior: Addr, children: &Children)
-    requires branch { has_branch key ≡ true }
-    requires few { length children.now ≤ most_children version }
-    ensures { HasRecordText version (LogRec.Ready node key superior children.now) }
+fn ready_has_text(
+    version: LogVersion,
+    node: u16,
+    key: NodeKey,
+    superior: Addr,
+    children: &Children,
+) -> bool
+    ensures { IsTrue result ↔ HasRecordText version (LogRec.Ready node key superior children.now) }
 {
-    branch_key_reads(key);
     addr_reads(superior);
-    children_read(version, children);
+    branch_key_reads(key) && children_read(version, children)
 }
 
-#[tactic(auto, using(crate::proofs::RecordTexts::heuristic_text))]
-fn heuristic_has_text(version: LogVersion, node: u16, key: NodeKey, outcome: Outcome)
-    requires { has_branch key ≡ true }
-    ensures { HasRecordText version (LogRec.Heuristic node key outcome) }
+#[tactic(auto, using(crate::proofs::RecordTexts::heuristic_text, crate::proofs::RecordTexts::heuristic_key_given))]
+fn heuristic_has_text(version: LogVersion, node: u16, key: NodeKey, outcome: Outcome) -> bool
+    ensures { IsTrue result ↔ HasRecordText version (LogRec.Heuristic node key outcome) }
 {
-    branch_key_reads(key);
+    branch_key_reads(key)
 }
 
-#[tactic(auto, using(crate::proofs::RecordTexts::commit_text))]
 fn commit_has_text(
     version: LogVersion,
     node: u16,
     key: NodeKey,
     superior: Option<Addr>,
     children: &Children,
-)
-    requires branch { has_superior superior ≡ has_branch key }
-    requires few { length children.now ≤ most_children version }
-    ensures { HasRecordText version (LogRec.Commit node key superior children.now) }
+) -> bool
+    ensures { IsTrue result ↔ HasRecordText version (LogRec.Commit node key superior children.now) }
 {
-    key_and_superior_read(key, superior);
-    children_read(version, children);
+    key_and_superior_read(key, superior) && children_read(version, children)
 }
 
-#[tactic(auto, using(crate::proofs::RecordTexts::damage_text))]
 fn damage_has_text(
     version: LogVersion,
     node: u16,
@@ -104,15 +103,12 @@ fn damage_has_text(
     superior: Option<Addr>,
     judgement: (Outcome, Report),
     owed: &Children,
-)
-    requires branch { has_superior superior ≡ has_branch key }
-    requires harm { is_report_none judgement.1 ≡ false }
-    requires few { length owed.now ≤ most_children version }
-    ensures { HasRecordText version (LogRec.Damage node key superior judgement.0 judgement.1 owed.now) }
+) -> bool
+    ensures { IsTrue result ↔ HasRecordText version (LogRec.Damage node key superior judgement.0 judgement.1 owed.now) }
 {
-    key_and_superior_read(key, superior);
-    judgement_reads(judgement.0, judgement.1);
-    children_read(version, owed);
+    key_and_superior_read(key, superior)
+        && judgement_reads(judgement.0, judgement.1)
+        && children_read(version, owed)
 }
 
 #[tactic(auto, using(crate::proofs::RecordTexts::end_text))]
@@ -122,69 +118,88 @@ fn end_has_text(version: LogVersion, node: u16, key: NodeKey, outcome: Outcome)
     key_reads(key);
 }
 
-/// A key with a branch is read back.
-#[tactic(auto, using(crate::proofs::RecordParts::branch_key_taken))]
-fn branch_key_reads(key: NodeKey)
-    requires { has_branch key ≡ true }
-    ensures { Takes read_branch_key (key_bytes key) key }
+/// A key with a branch is read back from its bytes.
+#[tactic(auto, using(crate::proofs::RecordParts::branch_key_taken, crate::proofs::RecordParts::branch_key_given))]
+fn branch_key_reads(key: NodeKey) -> bool
+    ensures reads { IsTrue result → Takes read_branch_key (key_bytes key) key }
+    ensures only { IsGiven read_branch_key key → IsTrue result }
 {
     aaid_reads(key.aaid);
-    some_branch_reads(key.branch);
+    some_branch_reads(key.branch)
 }
 
-#[tactic(auto, using(crate::proofs::RecordParts::branch_there_taken))]
-fn some_branch_reads(branch: Option<BranchId>)
-    requires { is_there branch ≡ true }
-    ensures { Takes read_some_branch (maybe_bytes branch_bytes branch) branch }
+#[tactic(auto, using(crate::proofs::RecordParts::branch_there_taken, crate::proofs::RecordParts::no_branch_given))]
+fn some_branch_reads(branch: Option<BranchId>) -> bool
+    ensures reads { IsTrue result → Takes read_some_branch (maybe_bytes branch_bytes branch) branch }
+    ensures only { IsGiven read_some_branch branch → IsTrue result }
 {
     match branch {
-        None => unreachable!(),
-        Some(branch) => branch_reads(branch),
+        None => false,
+        Some(branch) => {
+            branch_reads(branch);
+            true
+        }
     }
 }
 
-/// A key is read back with the superior's address after it, where it has a branch exactly if there is a superior.
-#[tactic(auto, using(crate::proofs::RecordParts::key_and_superior_taken))]
-fn key_and_superior_read(key: NodeKey, superior: Option<Addr>)
-    requires { has_superior superior ≡ has_branch key }
-    ensures { Takes read_key_and_superior (key_and_superior_bytes (key, superior)) (key, superior) }
+/// A key is read back with the superior's address after it, where it has a branch exactly if there
+/// is a superior.
+#[tactic(auto, using(crate::proofs::RecordParts::key_and_superior_taken, crate::proofs::RecordParts::key_and_superior_given))]
+fn key_and_superior_read(key: NodeKey, superior: Option<Addr>) -> bool
+    ensures reads { IsTrue result → Takes read_key_and_superior (key_and_superior_bytes (key, superior)) (key, superior) }
+    ensures only { IsGiven read_key_and_superior (key, superior) → IsTrue result }
 {
     aaid_reads(key.aaid);
-    branch_and_superior_read(key.branch, superior);
+    branch_and_superior_read(key.branch, superior)
 }
 
-#[tactic(auto, using(crate::proofs::RecordParts::neither_taken, crate::proofs::RecordParts::pair_taken))]
-fn branch_and_superior_read(branch: Option<BranchId>, superior: Option<Addr>)
-    requires { has_superior superior ≡ is_there branch }
-    ensures { Takes read_branch_and_superior (maybe_bytes branch_bytes branch ++ superior_bytes superior) (branch, superior) }
+#[tactic(auto, using(crate::proofs::RecordParts::neither_taken, crate::proofs::RecordParts::pair_taken, crate::proofs::RecordParts::branch_alone_given, crate::proofs::RecordParts::superior_alone_given))]
+fn branch_and_superior_read(branch: Option<BranchId>, superior: Option<Addr>) -> bool
+    ensures reads { IsTrue result → Takes read_branch_and_superior (maybe_bytes branch_bytes branch ++ superior_bytes superior) (branch, superior) }
+    ensures only { IsGiven read_branch_and_superior (branch, superior) → IsTrue result }
 {
     match (branch, superior) {
-        (None, None) => {}
+        (None, None) => true,
         (Some(branch), Some(addr)) => {
             branch_reads(branch);
             addr_reads(addr);
+            true
         }
-        (None, Some(_)) | (Some(_), None) => unreachable!(),
+        (None, Some(_)) | (Some(_), None) => false,
     }
 }
 
-/// A side and a report of damage are read back.
-#[tactic(auto, using(crate::proofs::RecordParts::hazard_taken, crate::proofs::RecordParts::mix_taken))]
-fn judgement_reads(side: Outcome, report: Report)
-    requires { is_report_none report ≡ false }
-    ensures { Takes read_judgement (outcome_bytes side ++ report_bytes report) (side, report) }
+/// A side and a report are read back where the report is one of damage.
+#[tactic(auto, using(crate::proofs::RecordParts::hazard_taken, crate::proofs::RecordParts::mix_taken, crate::proofs::RecordParts::no_harm_given))]
+fn judgement_reads(side: Outcome, report: Report) -> bool
+    ensures reads { IsTrue result → Takes read_judgement (outcome_bytes side ++ report_bytes report) (side, report) }
+    ensures only { IsGiven read_judgement (side, report) → IsTrue result }
 {
     match report {
-        Report::None => unreachable!(),
-        Report::Hazard | Report::Mix => {}
+        Report::None => false,
+        Report::Hazard | Report::Mix => true,
     }
 }
 
 /// As many children as fit are read back after their count.
-#[tactic(auto, using(crate::proofs::RecordParts::children_taken))]
-fn children_read(version: LogVersion, children: &Children)
-    requires { length children.now ≤ most_children version }
-    ensures { Takes (read_children version) (children_bytes version children.now) children.now }
+#[tactic(auto, using(crate::proofs::RecordParts::children_taken, crate::proofs::RecordParts::children_length))]
+fn children_read(version: LogVersion, children: &Children) -> bool
+    ensures reads { IsTrue result → Takes (read_children version) (children_bytes version children.now) children.now }
+    ensures only { IsGiven (read_children version) children.now → IsTrue result }
 {
+    if children.len() > most_children(version) {
+        return false;
+    }
     each_child_reads(children.as_slice());
+    true
+}
+
+/// How many children fit.
+fn most_children(version: LogVersion) -> usize
+    ensures { result ≡ most_children version }
+{
+    match version {
+        LogVersion::One => 32,
+        LogVersion::Two => 256,
+    }
 }

@@ -121,8 +121,7 @@ impl<K: Keeper> Site<K> {
     /// An event as it comes to the site. Its record is forced before any output is given; a refusal changes nothing. Octets
     /// that are not exactly one record are refused by 25, and a record for another site by 23. Where a record came out of
     /// phase and ends its association, the outputs begin with that refusal and go on with the loss. After a fault of the
-    /// disk every event is answered `Shut`. A user's request that is refused takes no memory, but where numbers are spent.
-    /// Where the keeper's records follow each other before it, they do so after it.
+    /// disk every event is answered `Shut`. Where the keeper's records follow each other, they do so after it. A user's request that is refused takes no memory, but where numbers are spent.
     pub fn event(&mut self, alloc: Global, event: &Event) -> Result<Outputs, SiteFault>
         ensures plays { PlaysAsked K.standing self.old (asked (opening_at self.old.nodes.site) event.now) result self.new }
         ensures steps { (mine : ℕ → Bool) (o : Opening) (gs : List Given) → IsAt K.standing mine o gs self.old → mine (node_of event.now) ≡ true → StepsTo K.standing mine o gs self.old event.now result self.new }

@@ -1,5 +1,5 @@
 -- What is shown of a record of each kind.
-use Rattle.tp_texts.proofs.log_texts.shaped_kind_has_text.Goals as goal
+use Rattle.tp_texts.proofs.shaped_texts.shaped_kind_has_text.Goals as goal
 
 pub returns-in-Ready : goal.returns-in-Ready
 returns-in-Ready c = rw c.in-Ready.is c.ready_has_text.ensures
