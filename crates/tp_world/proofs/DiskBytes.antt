@@ -1,5 +1,5 @@
 -- The bytes of a site's disk: those of the definitions, once one record more is forced.
-use Rattle.std.proofs.Common.{◌≡◌, ◌<◌, ◌+◌, ◌-◌, ◌/◌, ◌%◌, ◌^◌, ◌++◌, inl, inr, ◌⊎◌, ℕ, zero, suc, Bool, true, refl, ap, sym, ◌∙◌, subst, arith, Option, Some, List, [], ◌∷◌, length, take, drop, map, append_assoc, length-append}
+use Rattle.std.proofs.Common.{◌≡◌, ◌<◌, ◌+◌, ◌/◌, ◌%◌, ◌^◌, ◌++◌, inl, inr, ℕ, suc, Bool, refl, ap, sym, ◌∙◌, subst, arith, Some, List, [], ◌∷◌, length, take, drop, append_assoc, length-append}
 use Rattle.std.specs.List.{AllByRecursion}
 use Rattle.std.proofs.lemmas.List.{append-nil}
 use Rattle.tp_logrec.specs.declared.record.LogRec.{LogRec}
@@ -9,7 +9,7 @@ use Rattle.tp_outside.specs.Story.{Story, seen}
 use Rattle.tp_outside.proofs.Stories.{seen_is_image}
 use Rattle.tp_journal.specs.Log.{IsBody, StandsFor, counted, forced_bytes}
 use Rattle.tp_journal.specs.Records.{text, bodies_of}
-use Rattle.tp_journal.specs.Told.{IsOn, LeavesNow}
+use Rattle.tp_journal.specs.Told.{LeavesNow}
 use Rattle.tp_journal.proofs.RecordBodies.{bodies-push}
 use Rattle.tp_model.specs.Disk.{Disk, framed, framed_record, log_head, records_before, disk_bytes, forced, piece}
 use Rattle.tp_model.specs.Lines.{log_size}

@@ -1,18 +1,17 @@
 -- A site that has stopped, in the place of the one that stood there: the world with it.
-use Rattle.std.proofs.Common.{◌≡◌, ◌<◌, ◌+◌, ◌++◌, ℕ, zero, suc, Bool, true, false, cond, nat_lt, refl, ap, sym, ◌∙◌, subst, arith, Option, Some, None, Result, Ok, Err, List, [], ◌∷◌, length, reverse, slice_set, slice_index_or}
+use Rattle.std.proofs.Common.{◌≡◌, ◌<◌, ℕ, suc, Bool, true, false, cond, refl, ap, sym, ◌∙◌, subst, arith, Some, None, Result, Ok, Err, List, [], ◌∷◌, length, slice_set, slice_index_or}
 use Rattle.std.proofs.lemmas.List.{length-set, get_or-set_same, set-set}
 use Rattle.tp_names.specs.Same.{is_name}
 use Rattle.tp_names.proofs.Sames.{name_same, name_self}
-use Rattle.tp_logrec.specs.declared.record.LogRec.{LogRec}
 use Rattle.tp_outside.specs.declared.mem_disk.MemDisk.{MemDisk}
 use Rattle.tp_journal.specs.Journals.{Kept}
-use Rattle.tp_model.specs.World.{World, Node, Site, find_site, put_site, find_node}
+use Rattle.tp_model.specs.World.{World, Site, put_site, find_node}
 use Rattle.tp_site.specs.Site.{known_at}
 use Rattle.tp_site.specs.State.{tree_in}
 use Rattle.tp_model.specs.declared.out_line.OutLine.{OutLine}
 use Rattle.tp_model.specs.Happenings.{Turn}
 use Rattle.tp_model.specs.Lines.{Fault}
-use Rattle.tp_world.specs.Restarts.{tree_before, Reopens, HasStoppedAs}
+use Rattle.tp_world.specs.Restarts.{Reopens, HasStoppedAs}
 use Rattle.tp_world.specs.declared.fault.WorldFault.{WorldFault}
 use Rattle.tp_world.specs.Sites.{IsSite, IsLogged, AreSites, KnowNodes, find_site_slot, place_of_site, known_by, unknown_at}
 use Rattle.tp_world.specs.World.{SitesStand, RestStands, Mirrors, Gives}

@@ -1,5 +1,5 @@
 -- The image of a site's disk, in the code and in the definitions.
-use Rattle.std.proofs.Common.{◌≡◌, ◌++◌, ℕ, Bool, true, false, refl, ap, sym, ◌∙◌, Option, Some, None, Result, Ok, Err, List, [], ◌∷◌}
+use Rattle.std.proofs.Common.{◌≡◌, ◌++◌, ℕ, Bool, true, false, refl, ap, ◌∙◌, Option, Some, None, Result, Ok, Err, List, [], ◌∷◌}
 use Rattle.tp_outside.specs.MemDisk.{recorded}
 use Rattle.tp_outside.specs.Story.{seen}
 use Rattle.tp_model.specs.declared.out_line.OutLine.{OutLine}

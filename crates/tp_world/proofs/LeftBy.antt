@@ -1,25 +1,24 @@
 -- A force over a disk that stops: what it leaves is what the definitions say.
-use Rattle.std.proofs.Common.{◌≡◌, ◌⊎◌, inl, inr, ◌≤◌, ◌<◌, ◌+◌, ◌-◌, ◌^◌, ◌==◌, ◌++◌, ℕ, suc, max, nat_le, Bool, true, false, refl, ap, sym, ◌∙◌, subst, arith, Option, Some, None, Result, Ok, Err, List, [], ◌∷◌, length, reverse}
+use Rattle.std.proofs.Common.{◌≡◌, ◌⊎◌, inl, inr, ◌≤◌, ◌<◌, ◌+◌, ◌-◌, ◌^◌, ℕ, suc, max, nat_le, Bool, true, false, refl, ap, sym, ◌∙◌, subst, arith, Some, None, Result, Ok, Err, List, [], ◌∷◌, length, reverse}
 use Rattle.std.specs.List.{AllByRecursion}
 use Rattle.std.proofs.lemmas.Bool.Decides.{nat_tests}
 use Rattle.tp_logrec.specs.declared.record.LogRec.{LogRec}
 use Rattle.tp_outside.specs.Story.{Story, Made, Synced, seen, IsSettled}
 use Rattle.tp_outside.specs.Fill.{filled, filled_range}
-use Rattle.tp_outside.specs.MemDisk.{Recorded, recorded, fresh, settled, DiskSyncs}
+use Rattle.tp_outside.specs.MemDisk.{Recorded, recorded, fresh, settled}
 use Rattle.std.specs.Result.{IsErrAnd}
 use Rattle.tp_world.specs.declared.fault.WorldFault.{WorldFault}
-use Rattle.tp_outside.specs.FuseDisk.{Fused, fused, fault_count_of, Passes, IsReady, GoesOn, StopsAfter, Starves}
+use Rattle.tp_outside.specs.FuseDisk.{Fused, fused, fault_count_of, IsReady, GoesOn, StopsAfter, Starves}
 use Rattle.tp_outside.specs.declared.fuse_disk.FuseDisk.{FuseDisk}
 use Rattle.tp_outside.specs.declared.mem_disk.MemDisk.{MemDisk}
 use Rattle.tp_outside.proofs.Fills.{filled_is_image}
-use Rattle.tp_journal.specs.Foreign.{IsForeign, ArePassed}
 use Rattle.tp_journal.specs.Journals.{Kept, bodies_in}
 use Rattle.tp_journal.specs.Journals.{standing_of}
 use Rattle.tp_journal.specs.Keeping.{Standing, Stored, Forces}
 use Rattle.tp_journal.specs.declared.receipts.Receipt.{Receipt}
 use Rattle.tp_journal.specs.declared.faults.ForceFault.TheVariants as force
-use Rattle.tp_journal.specs.Log.{StandsFor, StandsInFront, place_behind}
-use Rattle.tp_journal.specs.Records.{HasText, text, bodies_of, wide_of, recs_of, record_body}
+use Rattle.tp_journal.specs.Log.{StandsInFront, place_behind}
+use Rattle.tp_journal.specs.Records.{HasText, text, bodies_of, wide_of, recs_of}
 use Rattle.tp_journal.specs.Start.{Starts, SyncsAlone}
 use Rattle.tp_journal.specs.Stops.{Opens, StopsOpening, body_piece, with_piece, with_gate}
 use Rattle.tp_journal.proofs.RecordBodies.{wide_is, recs_is}
@@ -29,7 +28,6 @@ use Rattle.tp_model.specs.Disk.{Disk, Remains, disk_bytes, forced, remains, rema
 use Rattle.tp_model.specs.Lines.{log_size, most_bytes}
 use Rattle.tp_world.specs.Left.{IsReadable, LeavesBy, IsFused, FuseStarts}
 use Rattle.tp_world.specs.declared.left.Stop.{Stop}
-use Rattle.tp_world.proofs.DiskBytes.{front, front_length}
 use Rattle.tp_world.proofs.Remaining.{stands_for_records, place_is, size_is, left_before_gate, left_at_gate, gate_remains, left_forced}
 
 -- ---- the start

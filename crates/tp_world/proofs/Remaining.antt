@@ -1,20 +1,18 @@
 -- The disk that a stop leaves: its bytes, and the records that a start finds on it.
-use Rattle.std.proofs.Common.{◌≡◌, ◌≢◌, ◌⊎◌, inl, inr, ◌≤◌, ◌<◌, ◌+◌, ◌-◌, ◌==◌, ◌^◌, ◌++◌, ℕ, zero, suc, nat_le, nat_lt, Bool, true, false, refl, ap, sym, ◌∙◌, subst, arith, Option, Some, None, List, [], ◌∷◌, length, take, drop, reverse, replicate, min, append_assoc, length-append}
+use Rattle.std.proofs.Common.{◌≡◌, ◌≢◌, ◌⊎◌, inl, inr, ◌<◌, ◌+◌, ◌-◌, ◌==◌, ◌^◌, ◌++◌, ℕ, suc, nat_le, Bool, true, false, refl, ap, sym, ◌∙◌, subst, arith, List, [], ◌∷◌, length, take, drop, reverse, replicate, min, append_assoc, length-append}
 use Rattle.std.specs.List.{AllByRecursion}
 use Rattle.std.proofs.lemmas.Bool.Decides.{nat_tests}
-use Rattle.std.proofs.lemmas.List.{append-nil, reverse-append, length-replicate}
+use Rattle.std.proofs.lemmas.List.{append-nil, reverse-append}
 use Rattle.tp_logrec.specs.declared.record.LogRec.{LogRec}
-use Rattle.tp_logrec.specs.declared.record.LogVersion.{LogVersion}
-use Rattle.tp_logrec.specs.RecordText.{record_bytes}
 use Rattle.tp_outside.specs.Fill.{filled_range}
-use Rattle.tp_journal.specs.Log.{IsBody, StandsInFront, blocks, counted, head, place_behind, forced_bytes}
+use Rattle.tp_journal.specs.Log.{StandsInFront, blocks, counted, head, place_behind}
 use Rattle.tp_journal.specs.Records.{HasText, text, bodies_of}
 use Rattle.tp_journal.specs.Stops.{body_piece, with_piece, with_gate}
 use Rattle.tp_journal.proofs.Appending.{blocks-push}
 use Rattle.tp_journal.proofs.RecordBodies.{bodies-push, texts_more}
 use Rattle.tp_journal.proofs.Sizes.{text_is_body, bodies_are}
 use Rattle.tp_model.specs.declared.out_line.RecordFate.{RecordFate}
-use Rattle.tp_model.specs.Disk.{Disk, Remains, framed_record, log_head, records_before, disk_bytes, forced, piece, remains, remains_before_gate, remains_at_gate}
+use Rattle.tp_model.specs.Disk.{Disk, Remains, framed_record, disk_bytes, forced, piece, remains, remains_before_gate, remains_at_gate}
 use Rattle.tp_model.specs.Lines.{log_size}
 use Rattle.tp_world.specs.Left.{IsReadable}
 use Rattle.tp_world.proofs.DiskBytes.{front, at_front, front_more, front_length, take_front, drop_front, counted_is, piece_length, forced_is}

@@ -1,20 +1,17 @@
 -- A journal that starts on a copy of another's bytes has its records, and finds no bytes that are foreign.
-use Rattle.std.proofs.Common.{◌≡◌, inl, inr, ◌⊎◌, ◌<◌, ◌^◌, ℕ, suc, Bool, true, false, refl, ap, sym, ◌∙◌, subst, arith, Option, Some, None, Result, Ok, Err, List, [], ◌∷◌, ◌++◌, length}
+use Rattle.std.proofs.Common.{◌≡◌, inl, inr, ◌⊎◌, ◌<◌, ◌^◌, ℕ, suc, Bool, true, false, refl, ap, sym, ◌∙◌, subst, arith, Option, Some, None, Result, Ok, Err, List, [], length}
 use Rattle.std.specs.List.{AllByRecursion}
 use Rattle.tp_logrec.specs.declared.record.LogRec.{LogRec}
 use Rattle.tp_outside.specs.declared.mem_disk.MemDisk.{MemDisk}
 use Rattle.tp_outside.specs.MemDisk.{Recorded, recorded, fresh}
 use Rattle.tp_outside.specs.Story.{Story, seen}
-use Rattle.tp_logrec.specs.LogText.{version_mark}
-use Rattle.tp_journal.specs.Foreign.{ArePassed, IsForeign}
 use Rattle.tp_journal.specs.Journals.{Kept, bodies_in}
 use Rattle.tp_journal.specs.Log.{StandsFor, StandsInFront, place_behind}
-use Rattle.tp_journal.specs.Records.{HasText, text, texts, bodies_of, record_body, is_some, wide_of, recs_of}
+use Rattle.tp_journal.specs.Records.{HasText, texts, bodies_of, wide_of, recs_of}
 use Rattle.tp_journal.specs.Start.{Starts}
 use Rattle.tp_journal.specs.Started.{IsStarted}
 use Rattle.tp_journal.specs.Told.{IsOn, RestsAt}
-use Rattle.tp_journal.proofs.Exclusion.{stands_for_nothing}
-use Rattle.tp_journal.proofs.RecordBodies.{wide_is, recs_is, text_is_read}
+use Rattle.tp_journal.proofs.RecordBodies.{wide_is, recs_is}
 use Rattle.tp_journal.proofs.Unique.{one_meaning}
 use Rattle.tp_logrec.specs.Order.{boots, last_number, all_follow}
 use Rattle.tp_journal.specs.Records.{first_place}

@@ -1,5 +1,5 @@
 -- A site that has stopped, and starts again on a journal, as the code does it.
-use Rattle.std.proofs.Common.{◌≡◌, ◌<◌, ℕ, refl, ap, sym, ◌∙◌, subst, Option, None, Result, Ok, Err, List, length, slice_set, slice_index_or}
+use Rattle.std.proofs.Common.{◌≡◌, ◌<◌, ℕ, ap, sym, ◌∙◌, subst, Option, None, Result, Ok, Err, List, length, slice_set, slice_index_or}
 use Rattle.tp_outside.specs.declared.mem_disk.MemDisk.{MemDisk}
 use Rattle.tp_journal.specs.Journals.{Kept}
 use Rattle.tp_model.specs.declared.out_line.OutLine.{OutLine}
@@ -7,8 +7,7 @@ use Rattle.tp_model.specs.Happenings.{crash_turn}
 use Rattle.tp_model.specs.Lines.{within_limits}
 use Rattle.tp_model.specs.World.{World}
 use Rattle.tp_laws.specs.SiteLogs.{DisksTell, DisksStart}
-use Rattle.tp_site.specs.Site.{IsStarted, known_at}
-use Rattle.tp_site.specs.State.{tree_in}
+use Rattle.tp_site.specs.Site.{IsStarted}
 use Rattle.tp_world.specs.Restarts.{tree_before, IsStartable, StartsOn, IsStopped, IsRestartedTo, HasStoppedAs}
 use Rattle.tp_world.specs.Slots.{standing}
 use Rattle.tp_world.specs.Sites.{place_of_site}

@@ -1,5 +1,5 @@
 -- A site that stops in an event: the world that its stop leaves, in the code and in the definitions.
-use Rattle.std.proofs.Common.{◌≡◌, ◌≢◌, ◌⊎◌, inl, inr, ◌≤◌, ◌<◌, ◌+◌, ◌-◌, ◌==◌, ◌++◌, ℕ, zero, suc, nat_lt, Bool, true, false, cond, refl, ap, sym, ◌∙◌, subst, arith, Option, Some, None, Result, Ok, Err, List, [], ◌∷◌, length, reverse, slice_set, slice_index_or, slice_get}
+use Rattle.std.proofs.Common.{◌≡◌, ◌≢◌, ◌⊎◌, inl, inr, ◌≤◌, ◌<◌, ◌+◌, ◌-◌, ◌==◌, ◌++◌, ℕ, suc, nat_lt, Bool, true, false, cond, refl, ap, sym, ◌∙◌, subst, arith, Option, Some, None, Result, Ok, Err, List, [], ◌∷◌, length, reverse, slice_set, slice_index_or, slice_get}
 use Rattle.std.specs.List.{AllByRecursion}
 use Rattle.std.specs.Option.{option_map, is_some}
 use Rattle.std.proofs.lemmas.Bool.Decides.{nat_tests}
@@ -12,8 +12,6 @@ use Rattle.tp_outside.specs.declared.mem_disk.MemDisk.{MemDisk}
 use Rattle.tp_outside.specs.MemDisk.{Recorded, recorded, fresh}
 use Rattle.tp_journal.specs.Journals.{Kept}
 use Rattle.tp_journal.specs.Records.{HasText, bodies_of}
-use Rattle.tp_journal.specs.Log.{place_behind}
-use Rattle.tp_model.specs.declared.out_line.LogWords.{LogWords}
 use Rattle.tp_model.specs.declared.out_line.OutLine.{OutLine}
 use Rattle.tp_model.specs.declared.out_line.RecordFate.{RecordFate}
 use Rattle.tp_model.specs.Disk.{Disk, Remains, disk_bytes, forced, remains}
@@ -21,7 +19,7 @@ use Rattle.tp_model.specs.Happenings.{Turn, trees_of, log_shown, entered, logged
 use Rattle.tp_model.specs.History.{digest}
 use Rattle.tp_model.specs.Lines.{Fault, log_size, most_bytes, within_limits}
 use Rattle.tp_model.specs.Parts.{Entry as EntryValue}
-use Rattle.tp_model.specs.World.{World, Node, Site, Frame, number_of, site_of, find_node, find_site, put_site}
+use Rattle.tp_model.specs.World.{World, Node, Site, Frame, number_of, site_of, find_site, put_site}
 use Rattle.tp_laws.specs.SiteLogs.{DisksTell, DisksStart}
 use Rattle.tp_node.specs.declared.state.NodeTree.{NodeTree}
 use Rattle.tp_site.specs.Site.{known_at}
@@ -34,11 +32,10 @@ use Rattle.tp_outside.specs.Story.{seen}
 use Rattle.tp_journal.specs.Log.{StandsFor}
 use Rattle.tp_world.specs.Restarts.{tree_before, IsOpened, Opens, HasStoppedAs}
 use Rattle.tp_world.specs.Settled.{tree_started, IsEntered}
-use Rattle.tp_world.specs.Sites.{IsSite, IsLogged, place_of_site}
+use Rattle.tp_world.specs.Sites.{IsLogged, place_of_site}
 use Rattle.tp_world.specs.Stops.{HasPlayed}
-use Rattle.tp_world.specs.World.{SitesStand, RestStands, Mirrors, Gives, IsEntry, after_entry, is_placed}
+use Rattle.tp_world.specs.World.{SitesStand, RestStands, Mirrors, Gives, after_entry}
 use Rattle.tp_world.specs.declared.fault.WorldFault.{WorldFault}
-use Rattle.tp_world.specs.declared.restart.LostEntry.{LostEntry}
 use Rattle.tp_world.specs.declared.site_slot.Entry.{Entry}
 use Rattle.tp_world.specs.declared.site_slot.SiteSlot.{SiteSlot}
 use Rattle.tp_world.specs.declared.world.World.{World as CodeWorld}

@@ -1,8 +1,8 @@
 -- A site that stops in an event of one of its nodes, from the answer of the site to the whole line.
 use Rattle.std.proofs.Common.{◌≡◌, ◌<◌, ◌+◌, ◌==◌, ◌&&◌, ◌++◌, not, ℕ, zero, suc, Bool, true, false, cond, refl, ap, sym, ◌∙◌, subst, arith, Option, Some, None, Result, Ok, Err, List, [], ◌∷◌, length, slice_set, slice_index_or}
-use Rattle.std.specs.Option.{option_map, is_some}
+use Rattle.std.specs.Option.{option_map}
 use Rattle.std.proofs.lemmas.Bool.Decides.{nat_tests}
-use Rattle.std.proofs.lemmas.List.{append-nil, get_or-set_same, set-set, set-get_or, length-set}
+use Rattle.std.proofs.lemmas.List.{get_or-set_same, set-set, set-get_or}
 use Rattle.tp_names.specs.declared.identifiers.Aaid.{Aaid}
 use Rattle.tp_names.specs.declared.identifiers.Addr.{Addr}
 use Rattle.tp_names.specs.Same.{is_name}
@@ -16,12 +16,10 @@ use Rattle.tp_model.specs.declared.out_line.RecordFate.{RecordFate}
 use Rattle.tp_model.specs.declared.verdict.What.{What}
 use Rattle.tp_model.specs.Disk.{disk_bytes}
 use Rattle.tp_model.specs.Happenings.{Task, Turn, Mark, Crash_in, happens, still, after_lines, action_lines, after_stop, stop_in_entry, stop_in_task, task_at, task_of, task_here}
-use Rattle.tp_model.specs.History.{digest}
 use Rattle.tp_model.specs.Legal.{IsUnder}
-use Rattle.tp_model.specs.Lines.{Fault, Over, is_full, is_named, crash_in_line, node_of, stands_at, has_room, has_room_for, record_of, resolved, marked, marked_by, stop_line, within_limits}
+use Rattle.tp_model.specs.Lines.{Fault, Over, is_named, crash_in_line, node_of, stands_at, has_room, has_room_for, record_of, resolved, marked, marked_by, within_limits}
 use Rattle.tp_model.specs.Parts.{Event, Entry as EntryValue}
 use Rattle.tp_model.specs.World.{World, Node, Site, Frame, addr_of, is_site, number_of, site_of, find_node, find_site, find_frame, mark_handed, oldest_from, oldest_between}
-use Rattle.tp_laws.specs.Expansion.{IsOfRun}
 use Rattle.tp_laws.specs.SiteLogs.{DisksTell, DisksStart}
 use Rattle.tp_laws.proofs.EveryLog.{disks_tell}
 use Rattle.tp_laws.proofs.LineRuns.{of_run}
@@ -30,7 +28,7 @@ use Rattle.tp_site.specs.Site.{known_at}
 use Rattle.tp_world.specs.Sites.{known_by, unknown_at, place_of_site}
 use Rattle.tp_world.specs.Slots.{SlotPlays, SlotAnswers}
 use Rattle.tp_world.specs.Stops.{StopsIn, HasPlayed, forced_by, stop_by, stop_judged, stop_deed, stop_named}
-use Rattle.tp_world.specs.World.{Mirrors, SitesStand, Gives, RestStands, PlaysAt, IsEntry, after_entry, entry_answered, is_placed}
+use Rattle.tp_world.specs.World.{Mirrors, SitesStand, Gives, RestStands, PlaysAt, after_entry, entry_answered}
 use Rattle.tp_world.specs.declared.fault.WorldFault.{WorldFault}
 use Rattle.tp_world.specs.declared.site_slot.Answer.{Answer}
 use Rattle.tp_world.specs.declared.site_slot.Entry.{Entry}

@@ -8,8 +8,7 @@ use Rattle.tp_logrec.specs.declared.record.LogRec.{LogRec}
 use Rattle.tp_model.specs.declared.out_line.OutLine.{OutLine}
 use Rattle.tp_model.specs.declared.verdict.What.{What}
 use Rattle.tp_model.specs.Disk.{forced}
-use Rattle.tp_model.specs.Happenings.{Task, Turn, entered, logged, still, after_lines, stop_in_task, task_here}
-use Rattle.tp_model.specs.History.{answer}
+use Rattle.tp_model.specs.Happenings.{Task, Turn, entered, logged, still, after_lines, stop_in_task}
 use Rattle.tp_model.specs.Lines.{Fault, Over, has_room, is_full, log_size, most_bytes, within_limits}
 use Rattle.tp_model.specs.Parts.{Event, Entry as EntryValue}
 use Rattle.tp_model.specs.World.{World, Node, Site, find_site, put_site, site_of}

@@ -1,5 +1,5 @@
 -- A site stops in the middle of an event, and how a line in which it does ends.
-use Rattle.std.specs.Prelude.{ℕ, ◌≡◌, ◌==◌, true, false, Option, Some, None, List, ◌∷◌, Result, Ok, Err, slice_set, slice_index_or}
+use Rattle.std.specs.Prelude.{ℕ, ◌≡◌, ◌==◌, true, false, Option, Some, None, List, ◌∷◌, Result, Err, slice_set, slice_index_or}
 use Rattle.tp_names.specs.Same.{is_name}
 use Rattle.tp_logrec.specs.declared.record.LogRec.{LogRec}
 use Rattle.tp_model.specs.declared.verdict.What.{What}
@@ -7,17 +7,15 @@ use Rattle.tp_model.specs.declared.line.Action.{Action}
 use Rattle.tp_model.specs.declared.out_line.OutLine.{OutLine}
 use Rattle.tp_model.specs.Happenings.{Task, Turn, still, after_lines, stop_in_task, task_here}
 use Rattle.tp_model.specs.History.{answer, digest}
-use Rattle.tp_model.specs.Legal.{IsUnder, IsLegal}
+use Rattle.tp_model.specs.Legal.{IsLegal}
 use Rattle.tp_model.specs.Lines.{Fault, Over, has_room, has_room_for, resolved, stop_line, within_limits}
-use Rattle.tp_model.specs.Parts.{Event, Entry as EntryValue}
+use Rattle.tp_model.specs.Parts.{Entry as EntryValue}
 use Rattle.tp_model.specs.World.{World, Node, Site, find_node, find_site, number_of, site_of}
 use Rattle.tp_laws.specs.Expansion.{IsOfRun}
 use Rattle.tp_laws.specs.SiteLogs.{DisksTell, DisksStart}
 use Rattle.tp_site.specs.Site.{known_at}
-use Rattle.tp_site.specs.State.{tree_in}
 use Rattle.tp_world.specs.Sites.{place_of_site}
-use Rattle.tp_world.specs.Slots.{SlotAnswers}
-use Rattle.tp_world.specs.World.{Mirrors, SitesStand, RestStands, IsEntry, after_entry, entry_answered}
+use Rattle.tp_world.specs.World.{Mirrors, SitesStand, RestStands, IsEntry, after_entry}
 use Rattle.tp_world.specs.declared.site_slot.Entry.{Entry}
 use Rattle.tp_world.specs.declared.site_slot.SiteSlot.{SiteSlot}
 use Rattle.tp_world.specs.declared.world.World.{World as CodeWorld}

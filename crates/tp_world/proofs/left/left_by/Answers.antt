@@ -1,4 +1,4 @@
-use Rattle.std.proofs.Common.{rules, ◌≡◌, ◌<◌, ◌+◌, ◌^◌, ℕ, max, true, false, ap, sym, ◌∙◌, subst, arith, Ok, Err, List, [], length, reverse}
+use Rattle.std.proofs.Common.{rules, ◌≡◌, ◌<◌, ◌+◌, ◌^◌, ℕ, max, true, ap, sym, ◌∙◌, subst, arith, Ok, Err, List, [], length, reverse}
 use Rattle.tp_outside.specs.FuseDisk.{fused}
 use Rattle.tp_outside.specs.Fill.{filled}
 use Rattle.tp_outside.specs.MemDisk.{Recorded, fresh}

@@ -1,6 +1,5 @@
 use Rattle.std.proofs.Common.{rules, refl, subst, Some}
 use Rattle.tp_outside.specs.MemDisk.{recorded}
-use Rattle.tp_journal.specs.Foreign.{IsForeign}
 use Rattle.tp_journal.specs.Records.{record_body}
 use Rattle.tp_journal.specs.Start.{RefusesStart}
 use Rattle.tp_journal.specs.declared.faults.StartFault.{StartFault}

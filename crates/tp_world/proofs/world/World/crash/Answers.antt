@@ -1,4 +1,4 @@
-use Rattle.std.proofs.Common.{ap, sym, ◌∙◌, subst, Err}
+use Rattle.std.proofs.Common.{sym, subst}
 use Rattle.tp_model.specs.Happenings.{crash_turn}
 use Rattle.tp_model.specs.Lines.{within_limits}
 use Rattle.tp_world.specs.World.{Gives}

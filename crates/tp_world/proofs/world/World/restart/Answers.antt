@@ -1,11 +1,10 @@
-use Rattle.std.proofs.Common.{◌++◌, ◌∷◌, [], ℕ, refl, ap, sym, ◌∙◌, subst, Ok, Err, List, length, slice_set}
+use Rattle.std.proofs.Common.{◌++◌, ◌∷◌, [], ℕ, refl, ap, sym, ◌∙◌, subst, Err, List, length, slice_set}
 use Rattle.tp_model.specs.declared.out_line.LogWords.{LogWords}
 use Rattle.tp_model.specs.declared.out_line.OutLine.{OutLine}
 use Rattle.tp_model.specs.Happenings.{crash_turn}
 use Rattle.tp_model.specs.Lines.{within_limits}
 use Rattle.tp_world.specs.World.{Gives}
 use Rattle.tp_world.specs.declared.fault.WorldFault.{WorldFault}
-use Rattle.tp_world.specs.declared.site_slot.SiteSlot.{SiteSlot}
 use Rattle.tp_world.specs.declared.world.World.{World as CodeWorld}
 use Rattle.tp_world.proofs.Crashing.{gives_crash}
 use Rattle.tp_world.proofs.Halted.{set_again}

@@ -1,4 +1,4 @@
-use Rattle.std.proofs.Common.{refl, ap, sym, ◌∙◌, subst, Option, Some, None}
+use Rattle.std.proofs.Common.{sym, ◌∙◌, subst, Option}
 use Rattle.tp_world.specs.Stops.{HasPlayed}
 use Rattle.tp_world.specs.declared.site_slot.Entry.{Entry}
 use Rattle.tp_world.proofs.StopCases.{entry_none, entry_forced, entry_plain}

@@ -1,11 +1,10 @@
-use Rattle.std.proofs.Common.{◌≡◌, ◌-◌, ℕ, refl, ap, sym, ◌∙◌, subst, arith, Some, None, Ok, Err, List, length, reverse, slice_get}
+use Rattle.std.proofs.Common.{◌≡◌, ◌-◌, ℕ, ap, sym, ◌∙◌, subst, arith, Some, None, Ok, Err, List, length, reverse, slice_get}
 use Rattle.std.specs.List.{AllByRecursion}
 use Rattle.std.specs.Option.{option_copied}
 use Rattle.tp_logrec.specs.declared.record.LogRec.{LogRec}
 use Rattle.tp_outside.specs.declared.mem_disk.MemDisk.{MemDisk}
 use Rattle.tp_journal.specs.Journals.{Kept}
 use Rattle.tp_journal.specs.Records.{HasText}
-use Rattle.tp_model.specs.declared.out_line.RecordFate.{RecordFate}
 use Rattle.tp_model.specs.Disk.{disk_bytes, remains}
 use Rattle.tp_model.specs.Happenings.{Turn, stop_in_force}
 use Rattle.tp_model.specs.Lines.{within_limits}

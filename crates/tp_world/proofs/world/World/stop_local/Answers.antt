@@ -1,15 +1,10 @@
-use Rattle.std.proofs.Common.{◌≡◌, ◌++◌, ◌∷◌, [], ℕ, true, refl, ap, sym, ◌∙◌, subst, Option, Some, None, Ok, Err}
+use Rattle.std.proofs.Common.{◌≡◌, [], ℕ, refl, ap, sym, ◌∙◌, subst, Option, Some, None, Ok, Err}
 use Rattle.std.proofs.lemmas.List.{append-nil}
-use Rattle.std.specs.Option.{option_map, option_copied}
 use Rattle.tp_outside.specs.MemDisk.{recorded, fresh}
 use Rattle.tp_outside.specs.Story.{seen}
-use Rattle.tp_model.specs.declared.line.Action.{Action}
-use Rattle.tp_model.specs.declared.out_line.OutLine.{OutLine}
-use Rattle.tp_model.specs.Happenings.{Task, task_at, task_of}
-use Rattle.tp_model.specs.Lines.{stands_at, node_of}
+use Rattle.tp_model.specs.Happenings.{Task, task_at}
 use Rattle.tp_model.specs.Parts.{Event}
-use Rattle.tp_model.specs.World.{Node, Frame, number_of, find_frame}
-use Rattle.tp_network.specs.Frames.{frame_of}
+use Rattle.tp_model.specs.World.{Node, number_of}
 use Rattle.tp_site.specs.NodeEvent.{event_of}
 use Rattle.tp_world.specs.Slots.{SlotPlays}
 use Rattle.tp_world.specs.Stops.{stop_deed}
@@ -18,8 +13,6 @@ use Rattle.tp_world.specs.declared.site_slot.SiteSlot.{SiteSlot}
 use Rattle.tp_world.proofs.Crashing.{same_index}
 use Rattle.tp_world.proofs.StopDeeds.{IsNodeAt, node_at, has_played, disk_before, play_stops, play_fails, deed}
 use Rattle.tp_world.proofs.StopTurns.{fails_with}
-use Rattle.tp_world.proofs.Stood.{frame_same}
-use Rattle.tp_world.proofs.Trying.{err_is, not_some, task_delivered}
 use Rattle.tp_world.proofs.world.World.stop_local.Goals as goal
 
 pub returns-in_err-answer : goal.returns-in_err-answer

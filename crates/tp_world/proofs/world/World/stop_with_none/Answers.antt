@@ -1,4 +1,4 @@
-use Rattle.std.proofs.Common.{ap, sym, ◌∙◌, subst, Err}
+use Rattle.std.proofs.Common.{sym, subst}
 use Rattle.tp_model.specs.declared.out_line.RecordFate.{RecordFate}
 use Rattle.tp_model.specs.Happenings.{after_stop}
 use Rattle.tp_model.specs.Lines.{within_limits}
