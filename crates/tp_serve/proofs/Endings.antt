@@ -10,7 +10,7 @@ use Rattle.tp_journal.specs.Keeping.{Standing}
 use Rattle.tp_streams.specs.declared.stop.Stop.{Stop}
 use Rattle.tp_streams.specs.Stops.{IsFaultOf, IsEventStop}
 use Rattle.tp_streams.specs.Taken.{Place, bytes_left, IsFor, IsCutOff}
-use Rattle.tp_streams.specs.Events.{EventPlace, events_left, answer_event, HandsEvent}
+use Rattle.tp_streams.specs.Events.{EventPlace, events_left, answer_event, HandsEvent, EndsEvents}
 use Rattle.tp_streams.specs.Written.{WritesPrefix}
 use Rattle.tp_site.specs.Site.{Site}
 use Rattle.tp_serve.specs.Progress.{IsServing, HasServed, ServesOne, IsServedStop, answer_bytes, with_events, first_place}
@@ -132,12 +132,12 @@ module _ {K : Type 0} (standing : K → Standing) (o : Opening) (begun : Option 
       told : (bytes : List ℕ) → left ≡ Some bytes → Tells bytes served.events place rest
       told bytes is = tells bytes served.events place left rest is served.read
 
-      pub all_served : IsFor (answer_event place) (bytes_left place.place rest) (Ok None) → Ends unread output (Ok tt) s
-      all_served for = record {
+      pub all_served : (new : EventPlace) → EndsEvents place rest new unread → IsFor (answer_event place) (bytes_left place.place rest) (Ok None) → Ends unread output (Ok tt) s
+      all_served new ends for = record {
         events = served.events;
         next = [];
         site = (served.serving, refl);
-        read = λ bytes is. ends_done bytes served.events place rest unstopped (told bytes is) for;
+        read = λ bytes is. ends_done bytes served.events place rest unstopped (told bytes is) new unread ends for;
         wrote = served.wrote;
       }
 

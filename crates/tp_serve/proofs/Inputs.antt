@@ -1,17 +1,19 @@
 -- What was read of a source, and what is still to come.
-use Rattle.std.proofs.Common.{◌≡◌, ℕ, Option, Some, None, Result, Ok, Err, List, [], ◌∷◌, ◌++◌, refl, sym, ap, ◌∙◌, append_assoc}
-use Rattle.std.specs.Prelude.{option_map}
+use Rattle.std.proofs.Common.{◌≡◌, ℕ, suc, ◌+◌, Bool, true, false, length, Option, Some, None, Result, Ok, Err, List, [], ◌∷◌, ◌++◌, refl, sym, ap, ◌∙◌, append_assoc}
+use Rattle.std.specs.Prelude.{option_map, nat_lt}
 use Rattle.std.proofs.lemmas.List.{append-nil}
 use Rattle.tp_records.specs.declared.body.Event.{Event as Given}
-use Rattle.tp_framing.specs.Frames.{Rest, stream}
+use Rattle.tp_records.specs.BodyReading.{event_in}
+use Rattle.tp_framing.specs.Frames.{Next, Part, Whole, Bad, next_in, Stream, Rest, Nothing, Short, Bad_length, with_body, ends_with, stream_from, stream}
 use Rattle.tp_model.specs.declared.verdict.What.{What}
 use Rattle.tp_model.specs.declared.verdict.Why.{Why}
 use Rattle.tp_model.specs.Transcript.{Ending, Done, Bad_input, At_limit}
-use Rattle.tp_model.specs.NodeTranscript.{Input, input_from, input_of, with_event}
+use Rattle.tp_model.specs.NodeTranscript.{Input, input_from, input_of, with_event, rest_ending, declared_by}
 use Rattle.tp_streams.specs.declared.stop.Stop.{Stop}
 use Rattle.tp_streams.specs.Stops.{ended}
 use Rattle.tp_streams.specs.Taken.{Place, together, bytes_left, IsFor, IsCutOff}
-use Rattle.tp_streams.specs.Events.{EventPlace, events_from, input_at, events_left, first_event, answer_event}
+use Rattle.tp_streams.proofs.Steps.{limits_by, events_by, events_step}
+use Rattle.tp_streams.specs.Events.{EventPlace, events_from, input_at, events_left, first_event, answer_event, EndsEvents}
 use Rattle.tp_serve.specs.Progress.{with_events, first_place}
 use Rattle.tp_serve.specs.Serving.{GoesOn, IsCutShort, IsInput}
 
@@ -80,6 +82,49 @@ only_limit w n Done is = absurd cc
 only_limit w n (Bad_input at why) is = absurd cc
 only_limit w n (At_limit what at) is = let a : what ≡ w = cc in let b : at ≡ n = cc in rw (a, b) refl
 
+-- ---- at the end of the input
+
+abbrev by_next : ℕ → Next → Stream
+by_next fuel Part = ends_with Short
+by_next fuel (Whole body rest) = with_body body (stream_from fuel rest)
+by_next fuel Bad = ends_with Bad_length
+
+by_next_is : (fuel : ℕ) (n : Next) → (elim n as (λ _. Stream) [ Part ↦ ends_with Short | Whole body rest ↦ with_body body (stream_from fuel rest) | Bad ↦ ends_with Bad_length ]) ≡ by_next fuel n
+by_next_is fuel Part = refl
+by_next_is fuel (Whole body rest) = refl
+by_next_is fuel Bad = refl
+
+not_empty : (fuel : ℕ) (n : Next) → (by_next fuel n).bodies ≡ [] → (by_next fuel n).rest ≡ Nothing → ⊥
+not_empty fuel Part none rest = absurd (let clash : Short ≡ Nothing = rest in cc)
+not_empty fuel (Whole body more) none rest = absurd (let clash : body ∷ (stream_from fuel more).bodies ≡ [] = none in cc)
+not_empty fuel Bad none rest = absurd (let clash : Bad_length ≡ Nothing = rest in cc)
+
+-- a stream with nothing in it has no bytes
+no_bytes : (bytes : List ℕ) → (stream bytes).bodies ≡ [] → (stream bytes).rest ≡ Nothing → bytes ≡ []
+no_bytes [] none rest = refl
+no_bytes (b ∷ bytes) none rest =
+    let same : stream (b ∷ bytes) ≡ by_next (length bytes) (next_in (b ∷ bytes)) = by_next_is (length bytes) (next_in (b ∷ bytes)) in
+    absurd (not_empty (length bytes) (next_in (b ∷ bytes)) (ap (λ (s : Stream). s.bodies) (sym same) ∙ none) (ap (λ (s : Stream). s.rest) (sym same) ∙ rest))
+
+clean_rest : (number : ℕ) (rest : Rest) → ended {A = Given} (rest_ending number rest) ≡ Ok None → rest ≡ Nothing
+clean_rest number Nothing is = refl
+clean_rest number Short is = absurd cc
+clean_rest number Bad_length is = absurd cc
+
+-- no event comes, and nothing is bad
+ends_clean : (most at declares : ℕ) (bodies : List (List ℕ)) (rest : Rest) → first_event (events_from most at declares bodies rest) ≡ Ok None → (bodies ≡ []) × (rest ≡ Nothing)
+ends_clean most at declares [] rest is = (refl, clean_rest at rest is)
+ends_clean most at declares (b ∷ bs) rest is = absurd (said (event_in b) (ap first_event (sym (events_step most at declares b bs rest)) ∙ is))
+  where
+    limits : (past over : Bool) (g : Given) (more : Input) → first_event (limits_by past over at g more) ≡ Ok None → ⊥
+    limits true over g more x = absurd cc
+    limits false true g more x = absurd cc
+    limits false false g more x = absurd cc
+
+    said : (o : Option Given) → first_event (events_by most at declares o (λ g. events_from most (suc at) (declares + declared_by g) bs rest)) ≡ Ok None → ⊥
+    said None x = absurd cc
+    said (Some g) x = limits (nat_lt most at) (nat_lt 256 (declares + declared_by g)) g (events_from most (suc at) (declares + declared_by g) bs rest) x
+
 module _ (bytes : List ℕ) (gs : List Given) (place : EventPlace) (left : Option (List ℕ)) (unstopped : place.place.stop ≡ None) (t : Tells bytes gs place left) where
   all : List ℕ
   all = place.place.held ++ t.rest
@@ -97,8 +142,22 @@ module _ (bytes : List ℕ) (gs : List Given) (place : EventPlace) (left : Optio
       let e : IsEnd (record { events = i.events; ending = i.ending }) ending = ends_by i.events i.ending ending r is (sym (answer ∙ answer_is)) not_one only in
       t.input ∙ ap (with_events gs) e.is ∙ ap (λ (l : List Given). record { events = l; ending = ending }) (append-nil gs)
 
-  pub ends_done : IsFor (answer_event place) (bytes_left place.place left) (Ok None) → IsInput bytes gs Done
-  ends_done for = ends_so Done (Ok None) refl (for (place.place.held ++ t.rest) left_is) (λ x e. absurd cc) only_done
+  empty_so : answer_event place (place.place.held ++ t.rest) ≡ Ok None → place.place.held ++ t.rest ≡ []
+  empty_so answer =
+      let clean = ends_clean place.most (suc place.place.at) place.declares (stream (place.place.held ++ t.rest)).bodies (stream (place.place.held ++ t.rest)).rest (sym answer_is ∙ answer) in
+      no_bytes (place.place.held ++ t.rest) clean.0 clean.1
+
+  all_read : (new : EventPlace) (unread : Option (List ℕ)) → EndsEvents place left new unread → place.place.held ++ t.rest ≡ [] → unread ≡ Some []
+  all_read new unread ends empty = go unread (ap (λ (h : List ℕ). together h unread) (sym ends.held) ∙ ends.bytes ∙ left_is ∙ ap (λ (l : List ℕ). Some l) empty)
+    where
+      go : (u : Option (List ℕ)) → together [] u ≡ Some [] → u ≡ Some []
+      go None is = absurd cc
+      go (Some l) is = is
+
+  pub ends_done : (new : EventPlace) (unread : Option (List ℕ)) → EndsEvents place left new unread → IsFor (answer_event place) (bytes_left place.place left) (Ok None) → IsInput bytes gs Done × (unread ≡ Some [])
+  ends_done new unread ends for =
+      let answer : Ok None ≡ answer_event place (place.place.held ++ t.rest) = for (place.place.held ++ t.rest) left_is in
+      (ends_so Done (Ok None) refl answer (λ x e. absurd cc) only_done, all_read new unread ends (empty_so (sym answer)))
 
   pub ends_bad : (n : ℕ) (w : Why) → IsFor (answer_event place) (bytes_left place.place left) (Err (Stop.BadInput n w)) → IsInput bytes gs (Bad_input n w)
   ends_bad n w for = ends_so (Bad_input n w) (Err (Stop.BadInput n w)) refl (for (place.place.held ++ t.rest) left_is) (λ x e. absurd cc) (only_bad n w)

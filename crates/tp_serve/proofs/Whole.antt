@@ -126,7 +126,7 @@ module _ (o : Opening) (events : List Given) (r : Ran) (fits : is_over o events 
 
   pub transcribed : (next : List Given) (result : Result (Unit {0}) Stop) → HasRead o bytes events next r.unread result → HasWritten before (written_of (node_run o events).outputs) r.output result
       → ((u : Unit {0}) → LeavesNow (λ c. IsLog c (log_after o events)) r.story) ⊎ ((n : ℕ) × (result ≡ Err (Stop.DiskFault n))) → Transcribes (node_transcript o bytes) before r result
-  transcribed next (Ok u) read wrote (inl log) = ended_so Done read wrote (log tt)
+  transcribed next (Ok u) read wrote (inl log) = ended_so Done read.0 wrote (log tt)
   transcribed next (Ok u) read wrote (inr x) = absurd (let clash = x.1 in cc)
   transcribed next (Err (Stop.BadInput at why)) read wrote (inl log) = ended_so (Bad_input at why) read wrote (log tt)
   transcribed next (Err (Stop.BadInput at why)) read wrote (inr x) = absurd (let clash = x.1 in cc)
@@ -141,7 +141,7 @@ module _ (o : Opening) (events : List Given) (r : Ran) (fits : is_over o events 
 -- ---- a site that had started
 
 goes_with : (o : Opening) (bytes : List ℕ) (events next : List Given) (unread : Option (List ℕ)) (result : Result (Unit {0}) Stop) → HasRead o bytes events next unread result → (next ≡ []) ⊎ ((n : ℕ) × (result ≡ Err (Stop.DiskFault n))) → GoesOn bytes (events ++ next)
-goes_with o bytes events next unread (Ok u) read (inl none) = subst (λ (l : List Given). GoesOn bytes (events ++ l)) (sym none) (subst (GoesOn bytes) (sym (append-nil events)) (input_goes bytes events Done read))
+goes_with o bytes events next unread (Ok u) read (inl none) = subst (λ (l : List Given). GoesOn bytes (events ++ l)) (sym none) (subst (GoesOn bytes) (sym (append-nil events)) (input_goes bytes events Done read.0))
 goes_with o bytes events next unread (Ok u) read (inr x) = absurd (let clash = x.1 in cc)
 goes_with o bytes events next unread (Err (Stop.BadInput at why)) read (inl none) = subst (λ (l : List Given). GoesOn bytes (events ++ l)) (sym none) (subst (GoesOn bytes) (sym (append-nil events)) (input_goes bytes events (Bad_input at why) read))
 goes_with o bytes events next unread (Err (Stop.BadInput at why)) read (inr x) = absurd (let clash = x.1 in cc)
@@ -219,6 +219,7 @@ module _ {K : Type 0} (standing : K → Standing) (name : List ℕ) (r : Ran) (f
       events = e.events;
       next = e.next;
       read = λ bytes is. goes_with began bytes e.events e.next r.unread result (e.read bytes is) ended.none;
+      all = λ bytes is res. (subst (HasRead began bytes e.events e.next r.unread) res (e.read bytes is)).1;
       cut = λ bytes n is res. subst (HasRead began bytes e.events e.next r.unread) res (e.read bytes is);
       wrote = λ before is. wrote_prefix before (written_of (node_run began e.events).outputs) r.output result (e.wrote before is);
       transcribes = λ bytes before is was. transcribed began e.events r ended.fits ended.texts bytes before e.next result (e.read bytes is) (e.wrote before was) ended.log;
@@ -265,6 +266,7 @@ module _ (name : List ℕ) (r : Ran) (idle : IsUntouched r) where
       events = [];
       next = [];
       read = λ bytes is. record { more = (input_of bytes).events; are = refl };
+      all = λ bytes is res. absurd (let clash = res in cc);
       cut = λ bytes n is res. absurd (let clash = res in cc);
       wrote = λ before is. none_prefix before [] r.output (idle.sink ∙ is);
       transcribes = λ bytes before is was. transcribed_before bytes before was x.spent;
@@ -280,6 +282,7 @@ module _ (name : List ℕ) (r : Ran) (idle : IsUntouched r) where
     events = [];
     next = [];
     read = λ bytes is. record { more = (input_of bytes).events; are = refl };
+    all = λ bytes is res. absurd (let clash = res in cc);
     cut = λ bytes m is res. absurd (let clash = res in cc);
     wrote = λ before is. none_prefix before [] r.output (idle.sink ∙ is);
     transcribes = λ bytes before is was. none_prefix before (node_transcript (opening name x.version x.listed) bytes).written r.output (idle.sink ∙ was);

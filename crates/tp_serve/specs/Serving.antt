@@ -50,7 +50,7 @@ IsLimited o bytes events what at =
 
 -- These events happened. Where the disk failed, it was with the one after them.
 abbrev pub HasRead : Opening → List ℕ → List Given → List Given → Option (List ℕ) → Result (Unit {0}) Stop → Type 0
-HasRead o bytes events next unread (Ok u) = IsInput bytes events Done
+HasRead o bytes events next unread (Ok u) = IsInput bytes events Done × (unread ≡ Some [])
 HasRead o bytes events next unread (Err (Stop.BadInput at why)) = IsInput bytes events (Bad_input at why)
 HasRead o bytes events next unread (Err (Stop.Limit what at)) = IsLimited o bytes events what at
 HasRead o bytes events next unread (Err (Stop.Foreign at)) = ⊥
@@ -148,6 +148,8 @@ pub record RunsOn (name : List ℕ) (r : Ran) (result : Result (Unit {0}) Stop) 
   pub next : List Given
   -- they are the first of the source's
   pub read : (bytes : List ℕ) → r.left ≡ Some bytes → GoesOn bytes (events ++ next)
+  -- on Ok it was read to its end
+  pub all : (bytes : List ℕ) → r.left ≡ Some bytes → result ≡ Ok tt → r.unread ≡ Some []
   -- where the source failed, each frame that was read whole was answered
   pub cut : (bytes : List ℕ) (faults : ℕ) → r.left ≡ Some bytes → result ≡ Err (Stop.ReadFault faults) → IsCutShort bytes events r.unread
   -- what was written is written of them

@@ -5,6 +5,7 @@ pub const USAGE: &str = "\
 usage: tpnode COMMAND [--name NAME] [--number N] [--nodes K] [--rounds R]
 
   replay    reads a schedule, writes its transcript
+  node      reads events of the site NAME in frames, writes its outputs in frames
   format    makes the log a fresh one of version 2
   show      writes each record of the log
   check     writes each damage that stands in the log

@@ -14,13 +14,14 @@ use Rattle.tpnode.specs.Making.{Makes}
 use Rattle.tpnode.specs.Trying.{Tries}
 use Rattle.tpnode.specs.Logs.{Formats, ShowsLog, ChecksLog, CompactsLog, MigratesLog}
 use Rattle.tpnode.specs.Keys.{ListsKeys}
+use Rattle.tpnode.specs.Sites.{ServesSite}
 
 -- ---- how each command may end
 
 -- the exit codes of its endings; a command that is not built ends with usage
 abbrev pub exits : Command → List ℕ
 exits Command.Replay = ok ∷ bad_input ∷ limit ∷ read_fault ∷ write_fault ∷ no_memory ∷ []
-exits (Command.Node site) = usage ∷ []
+exits (Command.Node site) = ok ∷ bad_input ∷ limit ∷ foreign ∷ read_fault ∷ write_fault ∷ disk_fault ∷ no_memory ∷ []
 exits Command.Format = ok ∷ disk_fault ∷ []
 exits Command.Show = ok ∷ foreign ∷ write_fault ∷ disk_fault ∷ no_memory ∷ []
 exits Command.Check = ok ∷ findings ∷ foreign ∷ write_fault ∷ disk_fault ∷ no_memory ∷ []
@@ -76,7 +77,7 @@ pub record Replays (r : Ran) : Type 0 where
 -- what the command does, whose row names its relation; `same_sink` says that the sink is as it was
 abbrev pub Does : Command → Ran → Type 0 → Type 0
 Does Command.Replay r same_sink = Replays r
-Does (Command.Node site) r same_sink = Unit {0}
+Does (Command.Node site) r same_sink = ServesSite site r.status r.told r.story r.left r.unread r.written r.output same_sink
 Does Command.Format r same_sink = Formats r.status r.told r.story
 Does Command.Show r same_sink = ShowsLog r.status r.told r.story r.written r.output same_sink
 Does Command.Check r same_sink = ChecksLog r.status r.told r.story r.written r.output same_sink

@@ -7,4 +7,5 @@ pub mod Making
 pub mod Trying
 pub mod Logs
 pub mod Keys
+pub mod Sites
 pub mod Commands

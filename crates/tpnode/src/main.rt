@@ -1,5 +1,6 @@
 //! `tpnode`: replays a schedule over a tree of commitment nodes, and writes the exact transcript; makes schedules and
-//! tries them; makes fresh logs, shows, checks and shortens a log; lists the keys of a store.
+//! tries them; runs one site on its log over frames of events; makes fresh logs, shows, checks and shortens a log; lists
+//! the keys of a store.
 //!
 //! Of a schedule, members are not built yet: a line that speaks of one ends the run and says `unbuilt`.
 #![tactic(auto)]
@@ -14,6 +15,7 @@ mod migrating;
 mod output;
 mod playing;
 mod replay;
+mod serving;
 mod showing;
 mod status;
 #[cfg(test)]

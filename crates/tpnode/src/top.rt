@@ -17,6 +17,7 @@ use crate::listing::list_keys;
 use crate::making::make_schedule;
 use crate::migrating::migrate_log;
 use crate::replay::replay;
+use crate::serving::serve_site;
 use crate::showing::show_log;
 use crate::status::Status;
 use crate::trial::try_schedule;
@@ -34,7 +35,8 @@ use tp_words::{Command, WordsFault, read};
 /// promises; members are not asked yet. `make` writes the schedule that is made by the plan, and `trial` replays it and
 /// writes what it came to. `format` makes the disk hold a fresh log. `show` writes each record of the disk's log with
 /// its place, and `check` each Damage that is its key's last record, of which it answers the number. `compact` and
-/// `migrate` put the log's brief in its place. `keys` writes what the store on the disk holds.
+/// `migrate` put the log's brief in its place. `keys` writes what the store on the disk holds. `node` is a site on the
+/// disk's log, which is given the events that the frames of the source say, and writes its outputs as frames.
 #[tactic(auto, using(crate::proofs::Transcribed::transcribed))]
 pub fn run<S: Source, K: Sink, D: Disk>(
     alloc: Global,
@@ -81,6 +83,7 @@ fn run_command<S: Source, K: Sink, D: Disk>(
         Command::Compact => compact_log(alloc, disk),
         Command::Migrate => migrate_log(alloc, disk),
         Command::Keys => list_keys(alloc, disk, sink),
-        Command::Node(_) | Command::Tx(_) | Command::Audit => (Status::Usage, disk),
+        Command::Node(name) => serve_site(alloc, name, source, sink, disk),
+        Command::Tx(_) | Command::Audit => (Status::Usage, disk),
     }
 }

@@ -2,7 +2,7 @@ use Rattle.std.proofs.Common.{◌≡◌, ◌<◌, Option, None, Result, Ok, Err,
 use Rattle.std.specs.Prelude.{IfErr}
 use Rattle.tp_records.specs.declared.body.Event.{Event as Given}
 use Rattle.tp_streams.specs.declared.stop.Stop.{Stop}
-use Rattle.tp_streams.specs.Events.{HandsEvent, LeavesEvents, answer_event}
+use Rattle.tp_streams.specs.Events.{HandsEvent, EndsEvents, LeavesEvents, answer_event}
 use Rattle.tp_streams.specs.Taken.{IsFor, bytes_left}
 use Rattle.tp_serve.specs.Progress.{ServesOne}
 use Rattle.tp_serve.specs.Serving.{EndsServing, IsEventsStop}
@@ -34,7 +34,8 @@ returns-in_default-clause-serves g c o begun faults serving =
     let said = c.in_ok-event.ensures {u = tt} in
     let event : IsFor (answer_event c.events.intake) (bytes_left c.events.intake.place rest) (Ok None) =
     subst (λ (x : Option Given). IsFor (answer_event c.events.intake) (bytes_left c.events.intake.place rest) (Ok x)) c.in_default.is said.event in
-    all_served g.J.Keeper.standing o begun faults left written c.events.intake rest output c.events.site (c.events.invariant.served o begun faults serving) c.events.invariant.unstopped unread event
+    let ends : EndsEvents c.events.intake rest c.next.new.self unread = subst (λ (x : Option Given). LeavesEvents c.events.intake rest (Ok x) c.next.new.self unread) c.in_default.is said.leaves in
+    all_served g.J.Keeper.standing o begun faults left written c.events.intake rest output c.events.site (c.events.invariant.served o begun faults serving) c.events.invariant.unstopped unread c.next.new.self ends event
 
 pub returns-in_err-serve_event-clause-serves : goal.returns-in_err-serve_event-clause-serves
 returns-in_err-serve_event-clause-serves g c =

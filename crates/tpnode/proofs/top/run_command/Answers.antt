@@ -58,3 +58,10 @@ returns-in-Compact-clause-runs g c =
 pub returns-in-Migrate-clause-runs : goal.returns-in-Migrate-clause-runs
 returns-in-Migrate-clause-runs g c =
     runs_as c.args.command Command.Migrate _ _ _ _ c.in-Migrate.is (record { exit = (c.migrate_log.ensures.ends 0 0 0 0).exit; source = refl; sink = refl; disk = tt; does = c.migrate_log.ensures.migrates })
+
+pub returns-in-Node-clause-ending : goal.returns-in-Node-clause-ending
+returns-in-Node-clause-ending g c = c.serve_site.ensures.ends.cause
+
+pub returns-in-Node-clause-runs : goal.returns-in-Node-clause-runs
+returns-in-Node-clause-runs g c =
+    runs_as c.args.command (Command.Node c.in-Node.name) _ _ _ _ c.in-Node.is (record { exit = c.serve_site.ensures.ends.exit; source = tt; sink = tt; disk = tt; does = c.serve_site.ensures.serves })
