@@ -14,6 +14,7 @@ usage: tpnode COMMAND [--name NAME] [--number N] [--nodes K] [--rounds R]
   compact   makes the log as short as it can be
   migrate   makes the log as short as it can be, in version 2
   keys      writes each key of the store, with its value
+  audit     reads the logs of several sites, writes whether they agree
 
   --name NAME   1 to 16 of a to z and 0 to 9; a where it is left out
   --number N    0 to 18446744073709551615; 1 where it is left out

@@ -14,3 +14,4 @@ mod Dispatched
 mod Replayed
 mod Tried
 mod Listed
+mod Judged

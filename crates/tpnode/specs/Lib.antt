@@ -8,4 +8,5 @@ pub mod Trying
 pub mod Logs
 pub mod Keys
 pub mod Sites
+pub mod Auditing
 pub mod Commands

@@ -1,10 +1,11 @@
 //! `tpnode`: replays a schedule over a tree of commitment nodes, and writes the exact transcript; makes schedules and
 //! tries them; runs one site on its log over frames of events; makes fresh logs, shows, checks and shortens a log; lists
-//! the keys of a store.
+//! the keys of a store; judges the logs of several sites together.
 //!
 //! Of a schedule, members are not built yet: a line that speaks of one ends the run and says `unbuilt`.
 #![tactic(auto)]
 
+mod auditing;
 mod checking;
 mod compacting;
 mod formatting;

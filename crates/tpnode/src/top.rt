@@ -10,6 +10,7 @@ ghost use Rattle.tpnode.specs.Replay.{Writes, IsTranscript};
 ghost use Rattle.tpnode.specs.Commands.{IsRefused, Runs, Answers};
 ghost use Rattle.tpnode.specs.Words.{replay_words};
 
+use crate::auditing::audit_logs;
 use crate::checking::check_log;
 use crate::compacting::compact_log;
 use crate::formatting::format_log;
@@ -37,6 +38,8 @@ use tp_words::{Command, WordsFault, read};
 /// its place, and `check` each Damage that is its key's last record, of which it answers the number. `compact` and
 /// `migrate` put the log's brief in its place. `keys` writes what the store on the disk holds. `node` is a site on the
 /// disk's log, which is given the events that the frames of the source say, and writes its outputs as frames.
+/// `audit` reads the logs of several sites, and writes whether two nodes of one tree ended apart, and what awaits each node
+/// that is in doubt.
 #[tactic(auto, using(crate::proofs::Transcribed::transcribed))]
 pub fn run<S: Source, K: Sink, D: Disk>(
     alloc: Global,
@@ -84,6 +87,7 @@ fn run_command<S: Source, K: Sink, D: Disk>(
         Command::Migrate => migrate_log(alloc, disk),
         Command::Keys => list_keys(alloc, disk, sink),
         Command::Node(name) => serve_site(alloc, name, source, sink, disk),
-        Command::Tx(_) | Command::Audit => (Status::Usage, disk),
+        Command::Audit => (audit_logs(alloc, source, sink), disk),
+        Command::Tx(_) => (Status::Usage, disk),
     }
 }

@@ -1,0 +1,33 @@
+-- How an audit ends, by what its call answers.
+use Rattle.std.proofs.Common.{ℕ, zero, suc, ◌<◌, Result, Ok, Err, refl, arith}
+use Rattle.std.specs.Prelude.{IfErr}
+use Rattle.tp_words.specs.declared.command.Command.{Command}
+use Rattle.tp_streams.specs.declared.stop.Stop.{Stop}
+use Rattle.tp_model.specs.declared.verdict.What.{What}
+use Rattle.tp_audit_tool.specs.Audited.{IsAuditStop}
+use Rattle.tpnode.specs.declared.status.Status.{Status}
+use Rattle.tpnode.specs.Status.{Ends, IsLimitAt, ended_with}
+use Rattle.tpnode.specs.Commands.{exits}
+
+limit_at : (what : What) (at : ℕ) → 0 < at → IsLimitAt what at
+limit_at What.Schedule at h = h
+limit_at What.Sites at h = h
+limit_at What.Nodes at h = h
+limit_at What.Frames at h = h
+limit_at What.Answers at h = h
+limit_at What.Events at h = h
+limit_at What.Log at h = tt
+limit_at What.Boots at h = tt
+
+-- the ending, by the counts of the source and of the sink
+pub judged : (read_old read_new write_old write_new disk_old disk_new : ℕ) (answer : Result ℕ Stop) → IfErr answer (IsAuditStop read_old read_new write_old write_new)
+    → Ends (exits Command.Audit) read_old read_new write_old write_new disk_old disk_new (ended_with answer)
+judged ro rn wo wn d e (Ok zero) stops = record { exit = refl; cause = tt }
+judged ro rn wo wn d e (Ok (suc n)) stops = record { exit = refl; cause = omega arith }
+judged ro rn wo wn d e (Err (Stop.BadInput at why)) stops = record { exit = refl; cause = stops }
+judged ro rn wo wn d e (Err (Stop.Limit what at)) stops = record { exit = refl; cause = limit_at what at stops }
+judged ro rn wo wn d e (Err (Stop.Foreign at)) stops = record { exit = refl; cause = tt }
+judged ro rn wo wn d e (Err (Stop.ReadFault faults)) stops = record { exit = refl; cause = stops }
+judged ro rn wo wn d e (Err (Stop.WriteFault faults)) stops = record { exit = refl; cause = stops }
+judged ro rn wo wn d e (Err (Stop.DiskFault faults)) stops = absurd stops
+judged ro rn wo wn d e (Err Stop.NoMemory) stops = record { exit = refl; cause = tt }
