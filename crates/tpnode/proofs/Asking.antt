@@ -1,5 +1,5 @@
 -- Which command a run is of: what words are refused, and that the one word `replay` asks for a replay.
-use Rattle.std.proofs.Common.{◌≡◌, ◌⊎◌, inl, inr, ℕ, not, Bool, true, false, Option, List, refl, ap, subst, codes, ◌∷◌, []}
+use Rattle.std.proofs.Common.{◌≡◌, inr, ℕ, not, Bool, true, false, Option, List, refl, ap, subst, codes, []}
 use Rattle.std.specs.Str.{bytes_eq}
 use Rattle.tp_words.specs.CommandLine.{Said, alone}
 use Rattle.tp_words.specs.Asked.{IsAsked, Asks}

@@ -1,12 +1,12 @@
 -- How the listing of a store's keys ends, by what its call answers.
-use Rattle.std.proofs.Common.{◌≡◌, ◌⊎◌, inl, inr, ℕ, Option, Some, List, ◌++◌, Ok, Err, refl}
+use Rattle.std.proofs.Common.{inl, inr, ℕ, Option, List, Ok, Err, refl}
 use Rattle.tp_outside.specs.Story.{Story}
 use Rattle.tp_streams.specs.declared.stop.Stop.{Stop}
 use Rattle.tp_bound.specs.Bounds.{Standing, Opens}
 use Rattle.tp_keys.specs.Printing.{Prints, PrintsSome, RefusesKeys}
 use Rattle.tpnode.specs.declared.status.Status.{Status}
 use Rattle.tpnode.specs.Status.{status_of}
-use Rattle.tpnode.specs.Keys.{OpensStore, Lists, ListsPart, StopsKeys, ListsKeys}
+use Rattle.tpnode.specs.Keys.{OpensStore, ListsPart, StopsKeys, ListsKeys}
 
 module _ (D : Type 0) (told story : Option Story) (written output : Option (List ℕ)) where
   abbrev opens_store : (b : Standing D) → Opens told story 0 b → OpensStore told story

@@ -1,5 +1,5 @@
 -- A replay ends as a command that has no disk.
-use Rattle.std.proofs.Common.{◌≡◌, ◌<◌, ℕ, refl, subst}
+use Rattle.std.proofs.Common.{◌<◌, ℕ, refl, subst}
 use Rattle.tp_model.specs.declared.verdict.What.{What}
 use Rattle.tp_words.specs.declared.command.Command.{Command}
 use Rattle.tpnode.specs.declared.status.Status.{Status}

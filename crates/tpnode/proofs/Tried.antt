@@ -1,10 +1,9 @@
 -- How a trial ends.
-use Rattle.std.proofs.Common.{◌≡◌, ◌∙◌, ◌<◌, ◌++◌, ℕ, true, Option, Some, None, List, [], ◌∷◌, length, Result, Ok, Err, refl, ap, sym, subst, arith}
+use Rattle.std.proofs.Common.{◌≡◌, ◌∙◌, ◌++◌, ℕ, Option, Some, None, List, [], ◌∷◌, length, Result, Ok, Err, refl, ap, sym, subst, arith}
 use Rattle.std.specs.Prelude.{IfErr, OnOk, OnErr}
 use Rattle.tp_model.specs.World.{World}
-use Rattle.tp_model.specs.Generator.{made, schedule, summary, summary_of}
-use Rattle.tp_model.specs.Transcript.{RawLine, Done, At_limit, transcript}
-use Rattle.tp_model.specs.declared.verdict.What.{What}
+use Rattle.tp_model.specs.Generator.{made, summary_of}
+use Rattle.tp_model.specs.Transcript.{RawLine, At_limit, transcript}
 use Rattle.tp_schedule.specs.LinesLeft.{Place}
 use Rattle.tp_generate.specs.declared.schedule.Schedule.{Schedule}
 use Rattle.tp_generate.specs.Making.{IsScheduleOf}
@@ -16,7 +15,7 @@ use Rattle.tp_streams.specs.Written.{WritesPrefix}
 use Rattle.tp_world.specs.World.{Stands}
 use Rattle.tp_world.specs.declared.world.World.{World as CodeWorld}
 use Rattle.tpnode.specs.declared.status.Status.{Status}
-use Rattle.tpnode.specs.Status.{ended, Ends as EndsBy, IsLineEnding, IsLimitAt}
+use Rattle.tpnode.specs.Status.{ended, Ends as EndsBy, IsLineEnding}
 use Rattle.tpnode.specs.Shown.{Ends, End, Shown, Stops, behind, closes, shown, shown_from, is_whole}
 use Rattle.tpnode.specs.Replay.{ending_of}
 use Rattle.tpnode.specs.Playing.{StopsSo, first_shown}

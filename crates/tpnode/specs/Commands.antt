@@ -1,6 +1,6 @@
 -- What a run of each command does: how it may end, what of source, sink and disk it leaves as it was, and what it writes.
 -- Which words ask for which command is said by tp_words.
-use Rattle.std.specs.Prelude.{ℕ, ◌≡◌, ◌⊎◌, ◌<◌, not, Bool, true, false, Option, Some, None, List, [], ◌∷◌}
+use Rattle.std.specs.Prelude.{ℕ, ◌≡◌, ◌⊎◌, ◌<◌, not, Bool, true, false, Option, Some, List, [], ◌∷◌}
 use Rattle.tp_outside.specs.Story.{Story}
 use Rattle.tp_model.specs.declared.verdict.What.{What}
 use Rattle.tp_words.specs.CommandLine.{Said}

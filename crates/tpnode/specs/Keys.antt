@@ -1,6 +1,6 @@
 -- What `keys` does with the store of keys and values on a disk: it ends as a call over the store answers, of which this file says what was
 -- written and what is left of the disk. What the bodies of a log stand for is said by tp_bound.
-use Rattle.std.specs.Prelude.{ℕ, ◌≡◌, ◌⊎◌, Option, Some, List, ◌++◌, Result, Ok, Err, OnOk, IfErr}
+use Rattle.std.specs.Prelude.{ℕ, ◌≡◌, ◌⊎◌, Option, Some, List, ◌++◌, Result, OnOk, IfErr}
 use Rattle.tp_outside.specs.Story.{Story, seen}
 use Rattle.tp_journal.specs.Gates.{any_body}
 use Rattle.tp_journal.specs.Start.{Starts, StaysSynced, StaysReadable}

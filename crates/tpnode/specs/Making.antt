@@ -1,5 +1,5 @@
 -- What `make` does: the schedule of its plan is written.
-use Rattle.std.specs.Prelude.{ℕ, ◌≡◌, Option, Some, List, ◌++◌, Result, Ok, Err, OnOk, OnErr}
+use Rattle.std.specs.Prelude.{ℕ, ◌≡◌, Option, Some, List, ◌++◌, Result, Err, OnOk, OnErr}
 use Rattle.tp_model.specs.Generator.{schedule}
 use Rattle.tp_words.specs.declared.command.Plan.{Plan}
 use Rattle.tp_streams.specs.declared.stop.Stop.{Stop}

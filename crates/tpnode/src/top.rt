@@ -1,5 +1,5 @@
 //! The program's one call.
-ghost use Rattle.std.specs.Prelude.{◌≡◌, ℕ, List, Some, [], map, true, false};
+ghost use Rattle.std.specs.Prelude.{◌≡◌, ℕ, List, Some, [], map, true};
 ghost use Rattle.tpnode.specs.Status.{IsEnding};
 ghost use Rattle.tp_records.specs.declared.request.Request.{Request};
 ghost use Rattle.std.specs.Prelude.{Option};

@@ -1,4 +1,4 @@
-use Rattle.std.proofs.Common.{◌≡◌, sym, subst, ap, arith, [], Some, None, Ok}
+use Rattle.std.proofs.Common.{sym, subst, ap, arith, [], Some, None, Ok}
 use Rattle.tpnode.specs.Playing.{PlaysNext}
 use Rattle.tpnode.proofs.SoFar.{SoFar, at_start, further}
 use Rattle.tpnode.proofs.Tried.{none_is_some, ends_at_line, ends_after_lines}
