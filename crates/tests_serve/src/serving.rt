@@ -89,7 +89,13 @@ fn served(
     left: &[u8],
 ) -> Option<Result<(), Stop>> {
     let disk = MemDisk::from(alloc, octets(alloc, log)?);
-    let (disk, served, same) = serves(alloc, disk, in_pieces(alloc, input, most, &[]), written, &[])?;
+    let (disk, served, same) = serves(
+        alloc,
+        disk,
+        in_pieces(alloc, input, most, &[]),
+        written,
+        &[],
+    )?;
     (same && disk.bytes() == left).then_some(served)
 }
 
