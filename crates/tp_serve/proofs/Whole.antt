@@ -56,7 +56,7 @@ wrote_prefix before bytes new (Err Stop.NoMemory) w = w
 
 -- ---- the transcript of a site that has started
 
-boot_text : (wide : Bool) (rs qs : List LogRec) (r : LogRec) → AllByRecursion (HasText wide) (rs ++ r ∷ qs) → HasText wide r
+pub boot_text : (wide : Bool) (rs qs : List LogRec) (r : LogRec) → AllByRecursion (HasText wide) (rs ++ r ∷ qs) → HasText wide r
 boot_text wide [] qs r texts = texts.0
 boot_text wide (x ∷ rs) qs r texts = boot_text wide rs qs r texts.1
 
@@ -66,7 +66,7 @@ transcript_by o bytes spent over is full =
     ap (λ (b : Bool). elim b as (λ _. NodeTranscript) [ true ↦ nothing_written o What.Boots | false ↦ elim (is_over o []) as (λ _. NodeTranscript) [ true ↦ nothing_written o What.Log | false ↦ limited o (input_of bytes) ] ]) is
     ∙ ap (λ (b : Bool). elim spent as (λ _. NodeTranscript) [ true ↦ nothing_written o What.Boots | false ↦ elim b as (λ _. NodeTranscript) [ true ↦ nothing_written o What.Log | false ↦ limited o (input_of bytes) ] ]) full
 
-not_spent : (o : Opening) → (boot_of o ≡ suc greatest → ⊥) → (boot_of o == suc greatest) ≡ false
+pub not_spent : (o : Opening) → (boot_of o ≡ suc greatest → ⊥) → (boot_of o == suc greatest) ≡ false
 not_spent o never = go (boot_of o == suc greatest) refl
   where
     go : (b : Bool) → (boot_of o == suc greatest) ≡ b → (boot_of o == suc greatest) ≡ false
@@ -158,13 +158,13 @@ goes_with o bytes events next unread (Err Stop.NoMemory) read (inl none) = subst
 goes_with o bytes events next unread (Err Stop.NoMemory) read (inr x) = absurd (let clash = x.1 in cc)
 
 -- what is so of it at the end
-record Ended (o : Opening) (events next : List Given) (begun story : Option Story) (result : Result (Unit {0}) Stop) : Type 0 where
-  fits : is_over o events ≡ false
-  texts : AllByRecursion (HasText (is_wide o.version)) (log_after o events)
-  log : ((u : Unit {0}) → LeavesNow (λ c. IsLog c (log_after o events)) story) ⊎ ((n : ℕ) × (result ≡ Err (Stop.DiskFault n)))
-  none : (next ≡ []) ⊎ ((n : ℕ) × (result ≡ Err (Stop.DiskFault n)))
-  moments : LeavesOnly (IsNodeImage o (events ++ next) 0) begun story
-  last : LeavesNow (IsNodeImage o (events ++ next) (length events)) story
+pub record Ended (o : Opening) (events next : List Given) (begun story : Option Story) (result : Result (Unit {0}) Stop) : Type 0 where
+  pub fits : is_over o events ≡ false
+  pub texts : AllByRecursion (HasText (is_wide o.version)) (log_after o events)
+  pub log : ((u : Unit {0}) → LeavesNow (λ c. IsLog c (log_after o events)) story) ⊎ ((n : ℕ) × (result ≡ Err (Stop.DiskFault n)))
+  pub none : (next ≡ []) ⊎ ((n : ℕ) × (result ≡ Err (Stop.DiskFault n)))
+  pub moments : LeavesOnly (IsNodeImage o (events ++ next) 0) begun story
+  pub last : LeavesNow (IsNodeImage o (events ++ next) (length events)) story
 
 module _ {K : Type 0} (standing : K → Standing) (o : Opening) (events next : List Given) (begun : Option Story) (faults : ℕ) (s : Site K) where
   image_of_all : (c : List ℕ) → IsLog c (log_after o events) → IsNodeImage o events (length events) c
@@ -183,7 +183,7 @@ module _ {K : Type 0} (standing : K → Standing) (o : Opening) (events next : L
         last = subst (λ (l : List Given). LeavesNow (IsNodeImage o l (length events)) story) same (now_weaker (λ c. IsLog c (log_after o events)) (IsNodeImage o events (length events)) story image_of_all x.0.log.last);
       }
 
-  ended_of : (result : Result (Unit {0}) Stop) → SiteLeft standing o events next begun faults s result → Ended o events next begun (standing s.keeper).story result
+  pub ended_of : (result : Result (Unit {0}) Stop) → SiteLeft standing o events next begun faults s result → Ended o events next begun (standing s.keeper).story result
   ended_of (Ok u) x = from_serving (Ok u) x
   ended_of (Err (Stop.BadInput at why)) x = from_serving (Err (Stop.BadInput at why)) x
   ended_of (Err (Stop.Limit what at)) x = from_serving (Err (Stop.Limit what at)) x

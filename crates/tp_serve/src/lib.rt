@@ -11,4 +11,6 @@ mod outgoing;
 mod serving;
 mod starting;
 
+pub use outgoing::put_outputs;
 pub use serving::serve;
+pub use starting::start;

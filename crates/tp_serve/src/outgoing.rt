@@ -130,11 +130,7 @@ pub(crate) fn put_output(alloc: Global, output: &Output, out: &mut Octets) -> Re
 }
 
 /// Puts the frames of outputs at the end of `out`, in order.
-pub(crate) fn put_outputs(
-    alloc: Global,
-    outputs: &[Output],
-    out: &mut Octets,
-) -> Result<(), NoMemory>
+pub fn put_outputs(alloc: Global, outputs: &[Output], out: &mut Octets) -> Result<(), NoMemory>
     ensures { OnOk result (out.new ≡ out.old ++ outputs_bytes outputs.now) }
 {
     for output in outputs {

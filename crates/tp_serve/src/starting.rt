@@ -44,11 +44,7 @@ fn unstarted_by(fault: StartFault) -> Stop
 }
 
 /// Starts a site of that name on the log of a disk, and forces its boot; or hands the disk back with the cause.
-pub(crate) fn start<D: Disk>(
-    alloc: Global,
-    disk: D,
-    name: SiteName,
-) -> Result<Site<Journal<D>>, (D, Stop)>
+pub fn start<D: Disk>(alloc: Global, disk: D, name: SiteName) -> Result<Site<Journal<D>>, (D, Stop)>
     ensures started { IfOk result (HasStarted (journal_of D.fault_count D.told D.fuse) name (D.told disk) (D.fault_count disk)) }
     ensures refused { IfErr result (λ e. (s : Story) → D.told disk ≡ Some s → IsFile (seen s) → NotStarted name s (D.told e.0) e.1) }
     ensures stops { IfErr result (λ e. IsStartStop (D.fault_count disk) (D.fault_count e.0) e.1) }

@@ -1,0 +1,131 @@
+-- How far a face has come with the frames of its source, and what it leaves where it stops.
+use Rattle.std.specs.Prelude.{ℕ, suc, ◌≡◌, ◌⊎◌, ◌+◌, true, false, Option, Some, None, option_map, List, [], ◌∷◌, ◌++◌, Result, Ok, Err}
+use Rattle.tp_outside.specs.Story.{Story}
+use Rattle.tp_records.specs.declared.body.Event.{Event as Given}
+use Rattle.tp_records.specs.declared.body.Output.{Output}
+use Rattle.tp_framing.specs.Frames.{Stream}
+use Rattle.tp_model.specs.declared.verdict.What.{What}
+use Rattle.tp_model.specs.declared.verdict.Why.{Why}
+use Rattle.tp_model.specs.Transcript.{Bad_input, At_limit}
+use Rattle.tp_model.specs.NodeRun.{Opening}
+use Rattle.tp_model.specs.NodeTranscript.{outputs_bytes, is_over}
+use Rattle.tp_journal.specs.Keeping.{Standing}
+use Rattle.tp_streams.specs.declared.stop.Stop.{Stop}
+use Rattle.tp_streams.specs.Stops.{IsFaultOf}
+use Rattle.tp_streams.specs.Taken.{Place, frames_left}
+use Rattle.tp_streams.specs.Written.{WritesPrefix}
+use Rattle.tp_site.specs.declared.faults.SiteFault.{SiteFault}
+use Rattle.tp_serve.specs.Answering.{stopped_by}
+use Rattle.tp_serve.specs.Progress.{IsServing, HasFailed}
+use Rattle.tx_face.specs.declared.fault.FaceFault.{FaceFault}
+use Rattle.tx_face.specs.Face.{Face, IsFaceAt, GoesOn}
+use Rattle.tp_tx.specs.Frames.{declared_in}
+use Rattle.tp_tx.specs.Transcript.{Asks, Not_taken, Nothing, An_event, Stops, Goes, TxTranscript, stand_after, events_with, refusing_frame, answer_bytes, turn, turn_by, after_bytes, turns_from, first_events}
+
+-- ---- the face after some events
+
+-- it is a face of node 1, and stands where the run of these events does; its log has room
+pub record IsRunning {K : Type 0} (standing : K → Standing) (o : Opening) (gs : List Given) (begun : Option Story) (faults : ℕ) (f : Face K) : Type 0 where
+  pub face : IsFaceAt standing o gs [] f
+  pub node : f.node ≡ 1
+  pub serving : IsServing standing o gs begun faults f.site
+
+-- ---- what a frame asks for
+
+-- the call of the face that it asks for
+abbrev pub CallsFor : {K : Type 0} → (K → Standing) → Opening → List Given → Asks → Face K → Result (List Output) FaceFault → Face K → Type 0
+CallsFor standing o gs Not_taken old result new = (result ≡ Err (FaceFault.Protocol (stand_after o gs))) × (new ≡ old)
+CallsFor standing o gs Nothing old result new = (result ≡ Ok []) × (new ≡ old)
+CallsFor standing o gs (An_event g) old result new = GoesOn standing true o gs [] old g result new
+
+-- the frames of what the call gave; or, where it did not happen, what that means for the program; or there is no memory for them
+abbrev pub PutsGiven : ℕ → Result (List Output) FaceFault → Result (Unit {0}) Stop → List ℕ → Type 0
+PutsGiven at (Ok outputs) (Ok u) out = out ≡ outputs_bytes outputs
+PutsGiven at (Ok outputs) (Err stop) out = stop ≡ Stop.NoMemory
+PutsGiven at (Err (FaceFault.Protocol s)) (Ok u) out = out ≡ refusing_frame s
+PutsGiven at (Err (FaceFault.Protocol s)) (Err stop) out = stop ≡ Stop.NoMemory
+PutsGiven at (Err (FaceFault.Site (SiteFault.Refused k))) (Ok u) out = out ≡ outputs_bytes (Output.Refused k ∷ [])
+PutsGiven at (Err (FaceFault.Site (SiteFault.Refused k))) (Err stop) out = stop ≡ Stop.NoMemory
+PutsGiven at (Err (FaceFault.Site fault)) (Ok u) out = ⊥
+PutsGiven at (Err (FaceFault.Site fault)) (Err stop) out = stop ≡ stopped_by at fault
+
+-- how the frame with that number was answered, and what it left of the face
+abbrev pub Responds : {K : Type 0} → (K → Standing) → Opening → List Given → Option Story → ℕ → ℕ → Asks → Result (Unit {0}) Stop → Face K → List ℕ → Type 0
+Responds standing o gs begun faults at a (Ok u) new out = IsRunning standing o (events_with gs a) begun faults new × (is_over o (events_with gs a) ≡ false) × (out ≡ answer_bytes o gs a)
+Responds standing o gs begun faults at a (Err (Stop.BadInput n why)) new out = ⊥
+Responds standing o gs begun faults at a (Err (Stop.Limit what n)) new out = IsRunning standing o gs begun faults new × (what ≡ What.Log) × (n ≡ at) × (is_over o (events_with gs a) ≡ true)
+Responds standing o gs begun faults at a (Err (Stop.Foreign n)) new out = ⊥
+Responds standing o gs begun faults at a (Err (Stop.ReadFault n)) new out = ⊥
+Responds standing o gs begun faults at a (Err (Stop.WriteFault n)) new out = ⊥
+Responds standing o gs begun faults at a (Err (Stop.DiskFault n)) new out = (g : Given) × (a ≡ An_event g) × HasFailed standing o gs g begun faults n new.site
+Responds standing o gs begun faults at a (Err Stop.NoMemory) new out = IsRunning standing o gs begun faults new ⊎ IsRunning standing o (events_with gs a) begun faults new
+
+-- the same, and its answer was written, or the sink failed
+abbrev pub AnswersFrame : {K : Type 0} → (K → Standing) → Opening → List Given → Option Story → ℕ → ℕ → Asks → Result (Unit {0}) Stop → Face K → Option (List ℕ) → Option (List ℕ) → Type 0
+AnswersFrame standing o gs begun faults at a (Ok u) f old new = IsRunning standing o (events_with gs a) begun faults f × ((before : List ℕ) → old ≡ Some before → new ≡ Some (before ++ answer_bytes o gs a))
+AnswersFrame standing o gs begun faults at a (Err (Stop.BadInput n why)) f old new = ⊥
+AnswersFrame standing o gs begun faults at a (Err (Stop.Limit what n)) f old new =
+    IsRunning standing o gs begun faults f × (what ≡ What.Log) × (n ≡ at) × (is_over o (events_with gs a) ≡ true) × (new ≡ old)
+AnswersFrame standing o gs begun faults at a (Err (Stop.Foreign n)) f old new = ⊥
+AnswersFrame standing o gs begun faults at a (Err (Stop.ReadFault n)) f old new = ⊥
+AnswersFrame standing o gs begun faults at a (Err (Stop.WriteFault n)) f old new =
+    IsRunning standing o (events_with gs a) begun faults f × ((before : List ℕ) → old ≡ Some before → WritesPrefix before (answer_bytes o gs a) new)
+AnswersFrame standing o gs begun faults at a (Err (Stop.DiskFault n)) f old new = (g : Given) × (a ≡ An_event g) × HasFailed standing o gs g begun faults n f.site × (new ≡ old)
+AnswersFrame standing o gs begun faults at a (Err Stop.NoMemory) f old new = (IsRunning standing o gs begun faults f ⊎ IsRunning standing o (events_with gs a) begun faults f) × (new ≡ old)
+
+-- what is counted of frames
+abbrev pub IsTxLimit : What → Type 0
+IsTxLimit What.Schedule = ⊥
+IsTxLimit What.Sites = ⊥
+IsTxLimit What.Nodes = Unit {0}
+IsTxLimit What.Frames = ⊥
+IsTxLimit What.Answers = ⊥
+IsTxLimit What.Events = Unit {0}
+IsTxLimit What.Log = Unit {0}
+IsTxLimit What.Boots = ⊥
+
+-- what stops the answering of a body that was taken, by the sink's counts before and after it
+abbrev pub IsBodyStop : ℕ → ℕ → ℕ → Stop → Type 0
+IsBodyStop at old new (Stop.BadInput n why) = (n ≡ at) × (why ≡ Why.Body)
+IsBodyStop at old new (Stop.Limit what n) = (n ≡ at) × IsTxLimit what
+IsBodyStop at old new (Stop.Foreign n) = ⊥
+IsBodyStop at old new (Stop.ReadFault n) = ⊥
+IsBodyStop at old new (Stop.WriteFault n) = IsFaultOf n old new
+IsBodyStop at old new (Stop.DiskFault n) = Unit {0}
+IsBodyStop at old new Stop.NoMemory = Unit {0}
+
+-- how the body of the frame with that number was answered, before which so many nodes were declared by frames; and what it left of
+-- the face, of the count, and of the sink
+abbrev pub AnswersBody : {K : Type 0} → (K → Standing) → Opening → List Given → Option Story → ℕ → ℕ → ℕ → List ℕ → Result (Unit {0}) Stop → Face K → ℕ → Option (List ℕ) → Option (List ℕ) → Type 0
+AnswersBody standing o gs begun faults at declares body (Ok u) f count old new =
+    (a : Asks) × (turn o gs at declares body ≡ Goes a) × IsRunning standing o (events_with gs a) begun faults f × (count ≡ declares + declared_in body) × ((before : List ℕ) → old ≡ Some before → new ≡ Some (before ++ answer_bytes o gs a))
+AnswersBody standing o gs begun faults at declares body (Err (Stop.BadInput n why)) f count old new =
+    IsRunning standing o gs begun faults f × (turn o gs at declares body ≡ Stops (Bad_input n why)) × (new ≡ old)
+AnswersBody standing o gs begun faults at declares body (Err (Stop.Limit what n)) f count old new =
+    IsRunning standing o gs begun faults f × (turn o gs at declares body ≡ Stops (At_limit what n)) × (new ≡ old)
+AnswersBody standing o gs begun faults at declares body (Err (Stop.Foreign n)) f count old new = ⊥
+AnswersBody standing o gs begun faults at declares body (Err (Stop.ReadFault n)) f count old new = ⊥
+AnswersBody standing o gs begun faults at declares body (Err (Stop.WriteFault n)) f count old new =
+    (a : Asks) × (turn o gs at declares body ≡ Goes a) × IsRunning standing o (events_with gs a) begun faults f × ((before : List ℕ) → old ≡ Some before → WritesPrefix before (answer_bytes o gs a) new)
+AnswersBody standing o gs begun faults at declares body (Err (Stop.DiskFault n)) f count old new =
+    (g : Given) × (turn o gs at declares body ≡ turn_by o gs at (An_event g)) × HasFailed standing o gs g begun faults n f.site × (new ≡ old)
+AnswersBody standing o gs begun faults at declares body (Err Stop.NoMemory) f count old new =
+    (IsRunning standing o gs begun faults f ⊎ ((a : Asks) × (turn o gs at declares body ≡ Goes a) × IsRunning standing o (events_with gs a) begun faults f)) × (new ≡ old)
+
+-- ---- all frames so far
+
+-- what is to come of a stream, where so many frames were read
+abbrev pub turns_at : Opening → List Given → ℕ → ℕ → Stream → TxTranscript
+turns_at o gs number declares s = turns_from o gs (suc number) declares s.bodies s.rest
+
+-- a reader of a stream begins so
+abbrev pub first_place : Place
+first_place = record { held = []; at = 0; stop = None }
+
+-- These frames were read and answered: what is still to come of the source came after them, and their answers were written.
+pub record HasRun {K : Type 0} (standing : K → Standing) (o : Opening) (begun : Option Story) (faults : ℕ) (place : Place) (declares : ℕ) (left rest written output : Option (List ℕ)) (f : Face K) : Type 0 where
+  pub events : List Given
+  pub bytes : List ℕ
+  pub running : IsRunning standing o events begun faults f
+  pub read : option_map (turns_at o first_events 0 0) (frames_left first_place left) ≡ option_map (λ s. after_bytes bytes (turns_at o events place.at declares s)) (frames_left place rest)
+  pub wrote : (before : List ℕ) → written ≡ Some before → output ≡ Some (before ++ bytes)

@@ -1,0 +1,166 @@
+//! A face that is given calls and events by a stream of frames.
+ghost use Rattle.std.specs.Prelude.{◌≡◌, ◌≤◌, ℕ, List, [], Option, Some, Err, IfOk, IfErr};
+ghost use Rattle.tp_outside.specs.Story.{Story, seen};
+ghost use Rattle.tp_records.specs.declared.body.Event.{Event as Given};
+ghost use Rattle.tp_model.specs.declared.verdict.What.{What as Limits};
+ghost use Rattle.tp_model.specs.NodeRun.{Opening};
+ghost use Rattle.tp_journal.specs.Told.{LeavesOnly};
+ghost use Rattle.tp_streams.specs.declared.stop.Stop.{Stop as TheStop};
+ghost use Rattle.tp_log_tools.specs.Readings.{IsFile};
+ghost use Rattle.tp_serve.specs.Images.{IsNodeImage};
+ghost use Rattle.tp_serve.specs.Progress.{journal_of, IsServing};
+ghost use Rattle.tp_serve.specs.Starting.{IsStartStop};
+ghost use Rattle.tp_serve.specs.Serving.{IsEventsStop, IsServeStop};
+ghost use Rattle.tp_tx.specs.Transcript.{asks, stand_after, first_events};
+ghost use Rattle.tp_tx.specs.Progress.{IsRunning, AnswersFrame, AnswersBody, IsBodyStop};
+ghost use Rattle.tp_tx.specs.Running.{EndsRunning};
+ghost use Rattle.tp_tx.specs.Transacting.{HasMade, NotMade, Transacts};
+
+use crate::admission::admit;
+use crate::answering::respond;
+use crate::frame::Frame;
+use std::alloc::Global;
+use tp_journal::{Journal, Keeper};
+use tp_names::{Octets, SiteName};
+use tp_outside::{Disk, Sink, Source};
+use tp_serve::start;
+use tp_site::Site;
+use tp_streams::{Intake, Stop, write_all};
+use tx_face::Face;
+
+/// The number of the root's node.
+const ROOT: u16 = 1;
+
+// Answers the frame with that number, and writes the answer whole. `out` is memory for it.
+fn answer_frame<J: Keeper, K: Sink>(
+    alloc: Global,
+    face: &mut Face<J>,
+    frame: &Frame,
+    at: u64,
+    out: &mut Octets,
+    sink: &mut K,
+) -> Result<(), Stop>
+    ensures answers { (o : Opening) (gs : List Given) (begun : Option Story) (faults : ℕ) → IsRunning J.standing o gs begun faults face.old → AnswersFrame J.standing o gs begun faults at (asks (stand_after o gs) frame.now) result face.new (K.written sink.old) (K.written sink.new) }
+    ensures stops { IfErr result (IsBodyStop at (K.fault_count sink.old) (K.fault_count sink.new)) }
+    ensures kept { K.fault_count sink.old ≤ K.fault_count sink.new }
+{
+    match respond(alloc, face, frame, at, out) {
+        Ok(()) => write_all(sink, out.as_slice()),
+        Err(stop) => Err(stop),
+    }
+}
+
+// The same of the body of that frame, where it is let in.
+fn answer_body<J: Keeper, K: Sink>(
+    alloc: Global,
+    face: &mut Face<J>,
+    body: &[u8],
+    at: u64,
+    declares: &mut u16,
+    out: &mut Octets,
+    sink: &mut K,
+) -> Result<(), Stop>
+    requires { declares.old ≤ 256 }
+    ensures answers { (o : Opening) (gs : List Given) (begun : Option Story) (faults : ℕ) → IsRunning J.standing o gs begun faults face.old → AnswersBody J.standing o gs begun faults at declares.old body.now result face.new declares.new (K.written sink.old) (K.written sink.new) }
+    ensures stops { IfErr result (IsBodyStop at (K.fault_count sink.old) (K.fault_count sink.new)) }
+    ensures few { declares.new ≤ 256 }
+    ensures kept { K.fault_count sink.old ≤ K.fault_count sink.new }
+{
+    match admit(alloc, body, at, declares) {
+        Ok(frame) => answer_frame(alloc, face, &frame, at, out, sink),
+        Err(stop) => Err(stop),
+    }
+}
+
+// Answers each frame of the source. The limit of frames comes before the loop is through.
+fn answer_frames<S: Source, K: Sink, J: Keeper>(
+    alloc: Global,
+    face: &mut Face<J>,
+    source: &mut S,
+    sink: &mut K,
+) -> Result<(), Stop>
+    ensures answers { (o : Opening) (begun : Option Story) (faults : ℕ) → IsRunning J.standing o first_events begun faults face.old
+        → EndsRunning J.standing o begun faults (S.left source.old) (S.left source.new) (K.written sink.old) (K.written sink.new) result face.new }
+    ensures stops { IfErr result (IsEventsStop (S.fault_count source.old) (S.fault_count source.new) (K.fault_count sink.old) (K.fault_count sink.new)) }
+    ensures read { S.fault_count source.old ≤ S.fault_count source.new }
+    ensures kept { K.fault_count sink.old ≤ K.fault_count sink.new }
+{
+    let mut intake = Intake::new(alloc);
+    let mut declares = 0;
+    let mut out = Octets::new(alloc);
+    'frames: for _ in 0..u64::MAX {
+        let Some(body) = intake.next(alloc, source)? else {
+            return Ok(());
+        };
+        answer_body(
+            alloc,
+            face,
+            body.as_slice(),
+            intake.at(),
+            &mut declares,
+            &mut out,
+            sink,
+        )?;
+    }
+    Err(Stop::NoMemory)
+}
+
+// A face of the site's node 1, or the disk back without memory.
+fn make_face<D: Disk>(alloc: Global, site: Site<Journal<D>>) -> Result<Face<Journal<D>>, D>
+    ensures made { IfOk result (λ f. (o : Opening) (begun : Option Story) (faults : ℕ) → IsServing (journal_of D.fault_count D.told D.fuse) o [] begun faults site → IsRunning (journal_of D.fault_count D.told D.fuse) o first_events begun faults f) }
+    ensures unmade { IfErr result (λ disk. (o : Opening) (begun : Option Story) (faults : ℕ) → IsServing (journal_of D.fault_count D.told D.fuse) o [] begun faults site → LeavesOnly (IsNodeImage o [] 0) begun (D.told disk)) }
+{
+    match Face::new(alloc, site, ROOT) {
+        Ok(face) => Ok(face),
+        Err((site, _)) => Err(site.keeper().disk()),
+    }
+}
+
+// A face of node 1 of a site that is started on the log of a disk; or the disk back with the cause.
+fn open_face<D: Disk>(alloc: Global, disk: D, name: SiteName) -> Result<Face<Journal<D>>, (D, Stop)>
+    ensures made { IfOk result (HasMade (journal_of D.fault_count D.told D.fuse) name (D.told disk) (D.fault_count disk)) }
+    ensures refused { IfErr result (λ e. (s : Story) → D.told disk ≡ Some s → IsFile (seen s) → NotMade name s (D.told e.0) e.1) }
+    ensures stops { IfErr result (λ e. IsStartStop (D.fault_count disk) (D.fault_count e.0) e.1) }
+{
+    let site = match start(alloc, disk, name) {
+        Ok(site) => site,
+        Err((disk, stop)) => return Err((disk, stop)),
+    };
+    match make_face(alloc, site) {
+        Ok(face) => Ok(face),
+        Err(disk) => Err((disk, Stop::NoMemory)),
+    }
+}
+
+/// Starts a site of that name on the log of a disk with a face of its node 1, answers each frame of the source, and hands the disk
+/// back. The answer is the frames of the outputs of what the frame asks for, a refusal among them, or the frame that says that a call
+/// is not taken; and then the frame with where the program stands and the code of the last completion. The record of an event is
+/// forced before a byte of its answer is written.
+///
+/// The frame that is no frame or says nothing ends it with `BadInput`, and `Limit` comes in the frame with which there would be more
+/// than 1,000,000 frames or 256 nodes declared by frames, or in which the record of the event has no room in the log. What came before
+/// was answered, and that frame is not. Before every frame `Foreign` tells the place at which the bytes of the disk are no log, or at
+/// which the first record stands that does not follow those before it, and a `Limit` at 0 that no boot number is left, or that the
+/// boot has no room; nothing is read then, and nothing written.
+pub fn transact<S: Source, K: Sink, D: Disk>(
+    alloc: Global,
+    name: SiteName,
+    source: &mut S,
+    sink: &mut K,
+    disk: D,
+) -> (D, Result<(), Stop>)
+    ensures transacts { (s : Story) → D.told disk ≡ Some s → IsFile (seen s)
+        → Transacts name (record { told = s; story = D.told result.0; left = S.left source.old; unread = S.left source.new; written = K.written sink.old; output = K.written sink.new }) result.1 }
+    ensures stops { IfErr result.1 (IsServeStop (D.fault_count disk) (D.fault_count result.0) (S.fault_count source.old) (S.fault_count source.new) (K.fault_count sink.old) (K.fault_count sink.new)) }
+    ensures foreign { (at : ℕ) → result.1 ≡ Err (TheStop.Foreign at) → (source.new ≡ source.old) × (sink.new ≡ sink.old) }
+    ensures before { (what : Limits) → result.1 ≡ Err (TheStop.Limit what 0) → (source.new ≡ source.old) × (sink.new ≡ sink.old) }
+    ensures read { S.fault_count source.old ≤ S.fault_count source.new }
+    ensures kept { K.fault_count sink.old ≤ K.fault_count sink.new }
+{
+    let mut face = match open_face(alloc, disk, name) {
+        Ok(face) => face,
+        Err((disk, stop)) => return (disk, Err(stop)),
+    };
+    let served = answer_frames(alloc, &mut face, source, sink);
+    (face.site().keeper().disk(), served)
+}
