@@ -66,16 +66,17 @@ crash_free w s f = go (find_site w.sites s) refl
 
 -- ---- a site stops in an event
 
+abbrev left_with : World → Site → Remains → World
+left_with w x st = record w { sites = put_site w.sites (record x { disk = st.disk }) }
+
 force_free : (w : World) (n : Node) (x : Site) (e : Entry) (st : Remains) → Free w → Free (stop_in_force w n x e st).world
 force_free w n x e st f = go st.fate
   where
-    abbrev left : World
-    left = record w { sites = put_site w.sites (record x { disk = st.disk }) }
-
-    go : (fate : RecordFate) → Free (after_stop (elim fate as (λ _. World) [ RecordFate.Kept ↦ entered left n e | RecordFate.Lost ↦ left | RecordFate.None ↦ left ]) x.name fate).world
-    go RecordFate.Kept = crash_free (entered left n e) x.name f
-    go RecordFate.Lost = crash_free left x.name f
-    go RecordFate.None = crash_free left x.name f
+    go : (fate : RecordFate)
+        → Free (after_stop (elim fate as (λ _. World) [ RecordFate.Kept ↦ entered (left_with w x st) n e | RecordFate.Lost ↦ left_with w x st | RecordFate.None ↦ left_with w x st ]) x.name fate).world
+    go RecordFate.Kept = crash_free (entered (left_with w x st) n e) x.name f
+    go RecordFate.Lost = crash_free (left_with w x st) x.name f
+    go RecordFate.None = crash_free (left_with w x st) x.name f
 
 stopped_free : (w : World) (n : Node) (x : Site) (call fill : ℕ) (e : Option Entry) → Free w → Free (stop_in_entry w n x call fill e).world
 stopped_free w n x call fill None f = crash_free w x.name f
