@@ -1,7 +1,5 @@
 -- The lines of a driven world.
 use Rattle.std.proofs.Common.{◌≡◌, ◌++◌, ◌&&◌, ℕ, Bool, true, false, refl, ap, sym, ◌∙◌, subst, append_assoc, Option, List, [], ◌∷◌, Result, Ok, Err, length, drop, nat_eq}
-use Rattle.std.specs.declared.alloc.Global.{Global}
-use Rattle.std.specs.declared.dyn_box.DynBox.{DynBox}
 use Rattle.std.specs.Map.{lookup}
 use Rattle.std.proofs.lemmas.List.{append-nil}
 use Rattle.std.specs.Prelude.{IfOk}
@@ -49,7 +47,7 @@ told_waits w t before mid from steady at is =
     d : ℕ → Option ℕ
     d = driver_of t.world.drives
 
-module _ {I : Type 0} {F : I → Type 0} (allowed : DynBox I Global F → List Answer → Type 0) (w : World) (l : Line) (old new : DrivenWorld I F) where
+module _ {M : Type 0} (allowed : M → List Answer → Type 0) (w : World) (l : Line) (old new : DrivenWorld M) where
   -- its answers were run
   module _ (t : Turn) (before mid after : List OutLine) (shown : is_silent l ≡ false) (is : line (length (members_of old)) w l ≡ Ok t) (lines : mid ≡ before ++ t.lines) where
     all_run : puts_of t.world t.told ≡ puts_of t.world t.told → (from : ℕ) → waits t.world mid from ≡ puts_of t.world t.told
@@ -99,7 +97,7 @@ module _ {I : Type 0} {F : I → Type 0} (allowed : DynBox I Global F → List A
       k = length (members_of old)
 
       ended_by : (g : Fault) → line 0 (memberless w) l ≡ Err g → IsEnded allowed (members_of old) (members_of new) k w l g
-      ended_by g h = subst (λ (xs : List (Option (DynBox I Global F))). IsEnded allowed (members_of old) xs k w l g) (sym same)
+      ended_by g h = subst (λ (xs : List (Option M)). IsEnded allowed (members_of old) xs k w l g) (sym same)
           (ended_by_line allowed (members_of old) k w l g (fault_with (line k w l) g (sym (line_without k w l shown) ∙ h)))
 
       go : (f : WorldFault) → WorldPlaysAfter (memberless w) l before (Err f) mid between → PlaysAfter allowed w l before (Err f) after old new
@@ -112,7 +110,7 @@ module _ {I : Type 0} {F : I → Type 0} (allowed : DynBox I Global F → List A
 
   -- it names what is not there
   line_unnamed : (before after : List OutLine) → line (length (members_of old)) w l ≡ Err Name → members_of new ≡ members_of old → PlaysAfter allowed w l before (Err WorldFault.Name) after old new
-  line_unnamed before after is same = subst (λ (xs : List (Option (DynBox I Global F))). IsEnded allowed (members_of old) xs (length (members_of old)) w l Name) (sym same)
+  line_unnamed before after is same = subst (λ (xs : List (Option M)). IsEnded allowed (members_of old) xs (length (members_of old)) w l Name) (sym same)
       (ended_by_line allowed (members_of old) (length (members_of old)) w l Name is)
 
   pub no_node : (n k : ℕ) (before after : List OutLine) → l ≡ Line.Auto n k → is_node w n ≡ false → members_of new ≡ members_of old → PlaysAfter allowed w l before (Err WorldFault.Name) after old new
@@ -160,11 +158,11 @@ module _ {I : Type 0} {F : I → Type 0} (allowed : DynBox I Global F → List A
       quiet (happens w (DriveNode n k)) before after
       (ap (line (length (members_of old)) w) is ∙ ap (λ (b : Bool). if_named b (Ok (happens w (DriveNode n k)))) (ap (λ (b : Bool). b && is_member_there (length (members_of old)) w k) node ∙ (sym (stands.members.there k) ∙ there)))
       refl refl same
-      (subst (λ (xs : List (Option (DynBox I Global F))). Gave allowed (members_of old) xs [] []) (sym slots) (gave_none allowed (members_of old)))
-      (ap (λ (xs : List (Option (DynBox I Global F))). length xs) slots)
+      (subst (λ (xs : List (Option M)). Gave allowed (members_of old) xs [] []) (sym slots) (gave_none allowed (members_of old)))
+      (ap (λ (xs : List (Option M)). length xs) slots)
       (record {
         world = subst (λ (v : CodeWorld). WorldStands (memberless w) v) (sym world) stands.world;
-        members = subst (λ (xs : List (Option (DynBox I Global F))). MembersStand (happens w (DriveNode n k)).world xs new.members.drivers.entries) (sym slots)
+        members = subst (λ (xs : List (Option M)). MembersStand (happens w (DriveNode n k)).world xs new.members.drivers.entries) (sym slots)
             (members_drive w (members_of old) old.members.drivers.entries new.members.drivers.entries n k there noted stands.members);
       })
 
@@ -189,6 +187,6 @@ echo_silent l h = sym (ap (λ (b : Bool). elim b as (λ _. List OutLine) [ true 
 
 -- ---- the closing lines
 
-pub closes_so : {I : Type 0} {F : I → Type 0} (v : DrivenWorld I F) (r : Result (List OutLine) NoMemory) → IfOk r (λ lines. (w : World) → WorldStands w v.world → lines ≡ closing w) → IfOk r (λ lines. (w : World) → Stands w v → lines ≡ closing w)
+pub closes_so : {M : Type 0} (v : DrivenWorld M) (r : Result (List OutLine) NoMemory) → IfOk r (λ lines. (w : World) → WorldStands w v.world → lines ≡ closing w) → IfOk r (λ lines. (w : World) → Stands w v → lines ≡ closing w)
 closes_so v (Ok lines) h = λ w stands. h (memberless w) stands.world
 closes_so v (Err f) h = tt

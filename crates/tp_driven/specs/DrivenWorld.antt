@@ -1,7 +1,5 @@
 -- How a driven world of the code stands for a world of the definitions, and what a line does in it.
 use Rattle.std.specs.Prelude.{◌≡◌, ◌++◌, Bool, false, Option, List, [], length, Result, Ok, Err}
-use Rattle.std.specs.declared.dyn_box.DynBox.{DynBox}
-use Rattle.std.specs.declared.alloc.Global.{Global}
 use Rattle.tp_records.specs.Answers.{Answer}
 use Rattle.tp_model.specs.declared.line.Line.{Line}
 use Rattle.tp_model.specs.declared.out_line.OutLine.{OutLine}
@@ -15,19 +13,19 @@ use Rattle.tp_driven.specs.Running.{StandsWith}
 use Rattle.tp_driven.specs.declared.driven_world.DrivenWorld.{DrivenWorld}
 
 -- the members that were handed in; of one that was dropped its place is left
-abbrev pub members_of : {I : Type 0} → {F : I → Type 0} → DrivenWorld I F → List (Option (DynBox I Global F))
+abbrev pub members_of : {M : Type 0} → DrivenWorld M → List (Option M)
 members_of v = v.members.slots.items
 
 -- a line has ended the run
-abbrev pub has_ended : {I : Type 0} → {F : I → Type 0} → DrivenWorld I F → Bool
+abbrev pub has_ended : {M : Type 0} → DrivenWorld M → Bool
 has_ended v = v.ended
 
 -- the world without members is that of the definitions, and its members are there and drive the nodes that they drive
-abbrev pub Stands : {I : Type 0} → {F : I → Type 0} → World → DrivenWorld I F → Type 0
+abbrev pub Stands : {M : Type 0} → World → DrivenWorld M → Type 0
 Stands w v = StandsWith w v.world v.members.slots.items v.members.drivers.entries
 
 -- it was played to its end: it shows, after the lines that stood before, what the definitions show after its echo
-pub record PlaysOut {I : Type 0} {F : I → Type 0} (allowed : DynBox I Global F → List Answer → Type 0) (w : World) (l : Line) (before after : List OutLine) (old new : DrivenWorld I F) : Type 0 where
+pub record PlaysOut {M : Type 0} (allowed : M → List Answer → Type 0) (w : World) (l : Line) (before after : List OutLine) (old new : DrivenWorld M) : Type 0 where
   pub world : World
   pub shown : List OutLine
   pub is : after ≡ before ++ shown
@@ -35,7 +33,7 @@ pub record PlaysOut {I : Type 0} {F : I → Type 0} (allowed : DynBox I Global F
   pub stands : Stands world new
 
 -- for some answers that the members may give: one for each indication that was put to them. Out of memory is the free answer
-abbrev pub PlaysAfter : {I : Type 0} → {F : I → Type 0} → (DynBox I Global F → List Answer → Type 0) → World → Line → List OutLine → Result (Unit {0}) WorldFault → List OutLine → DrivenWorld I F → DrivenWorld I F → Type 0
+abbrev pub PlaysAfter : {M : Type 0} → (M → List Answer → Type 0) → World → Line → List OutLine → Result (Unit {0}) WorldFault → List OutLine → DrivenWorld M → DrivenWorld M → Type 0
 PlaysAfter allowed w l before (Ok u) after old new = PlaysOut allowed w l before after old new
 PlaysAfter allowed w l before (Err WorldFault.Name) after old new = IsEnded allowed (members_of old) (members_of new) (length (members_of old)) w l Name
 PlaysAfter allowed w l before (Err (WorldFault.Limit what)) after old new = IsEnded allowed (members_of old) (members_of new) (length (members_of old)) w l (Over what)
@@ -43,9 +41,9 @@ PlaysAfter allowed w l before (Err WorldFault.Unbuilt) after old new = is_built 
 PlaysAfter allowed w l before (Err WorldFault.NoMemory) after old new = Unit {0}
 
 -- it shows its echo first
-abbrev pub PlaysEchoed : {I : Type 0} → {F : I → Type 0} → (DynBox I Global F → List Answer → Type 0) → World → Line → Result (Unit {0}) WorldFault → List OutLine → DrivenWorld I F → DrivenWorld I F → Type 0
+abbrev pub PlaysEchoed : {M : Type 0} → (M → List Answer → Type 0) → World → Line → Result (Unit {0}) WorldFault → List OutLine → DrivenWorld M → DrivenWorld M → Type 0
 PlaysEchoed allowed w l r after old new = PlaysAfter allowed w l (echo l) r after old new
 
-abbrev pub Plays : {I : Type 0} → {F : I → Type 0} → (DynBox I Global F → List Answer → Type 0) → World → Line → Result (List OutLine) WorldFault → DrivenWorld I F → DrivenWorld I F → Type 0
+abbrev pub Plays : {M : Type 0} → (M → List Answer → Type 0) → World → Line → Result (List OutLine) WorldFault → DrivenWorld M → DrivenWorld M → Type 0
 Plays allowed w l (Ok lines) old new = PlaysEchoed allowed w l (Ok tt) lines old new
 Plays allowed w l (Err f) old new = PlaysEchoed allowed w l (Err f) [] old new

@@ -13,6 +13,7 @@ use crate::requests::line_request;
 use std::alloc::Global;
 use tp_model::{Line, LineRequest, OutLine, OutLines, What};
 use tp_names::{NoMemory, Octets};
+use tp_records::Member;
 use tp_schedule::write_line;
 use tp_world::{World, WorldFault};
 
@@ -58,16 +59,16 @@ fn answer(
 
 // What the lines tell from that place on is put to members, up to the first answer that is a request, which is run. It is
 // answered where the rest of the queue begins; nothing where all was put and no member asked for a thing.
-fn answer_next(
+fn answer_next<M: Member>(
     alloc: Global,
     world: &mut World,
-    members: &mut Members,
+    members: &mut Members<M>,
     before: u64,
     from: usize,
     lines: &mut OutLines,
 ) -> Result<Option<usize>, WorldFault>
     ensures { (w : WorldValue) → WorldStands (memberless w) world.old → MembersStand w members.old.slots.items members.old.drivers.entries
-        → RunsNext allowed before w from lines.old result lines.new world.new members.old.slots.items members.new.slots.items members.new.drivers.entries }
+        → RunsNext M.allowed before w from lines.old result lines.new world.new members.old.slots.items members.new.slots.items members.new.drivers.entries }
 {
     let Some((asked, next)) = next_request(alloc, members, lines.as_slice(), from)? else {
         return Ok(None);
@@ -78,15 +79,15 @@ fn answer_next(
 }
 
 /// What the lines tell from that place on is put to members, and what they ask for is run; what is shown of it joins the lines.
-pub(crate) fn answer_all(
+pub(crate) fn answer_all<M: Member>(
     alloc: Global,
     world: &mut World,
-    members: &mut Members,
+    members: &mut Members<M>,
     from: usize,
     lines: &mut OutLines,
 ) -> Result<(), WorldFault>
     ensures { (w : WorldValue) → WorldStands (memberless w) world.old → MembersStand w members.old.slots.items members.old.drivers.entries
-        → RunsAll allowed w from lines.old result lines.new world.new members.old.slots.items members.new.slots.items members.new.drivers.entries }
+        → RunsAll M.allowed w from lines.old result lines.new world.new members.old.slots.items members.new.slots.items members.new.drivers.entries }
 {
     let mut from = from;
     for before in 0..PAST_ANSWERS {

@@ -15,11 +15,11 @@ use tp_records::Member;
 use tp_world::{World, WorldFault};
 
 /// A world of nodes under a written schedule, with the members that were handed in, numbered from 1. Members are changed by
-/// being told alone, and one that is dropped is dropped in its line.
+/// being told alone, and one that is dropped is dropped in its line. Members of several kinds are an enum of the caller.
 #[derive(Drop)]
-pub struct DrivenWorld {
+pub struct DrivenWorld<M> {
     world: World,
-    members: Members,
+    members: Members<M>,
     ended: bool,
 }
 
@@ -30,9 +30,9 @@ pub fn is_silent(line: &Line) -> bool
     matches!(line, Line::Auto { .. } | Line::Leave { .. })
 }
 
-impl DrivenWorld {
+impl<M: Member> DrivenWorld<M> {
     /// The world with no node, no frame and no site, and with those members.
-    pub fn new(alloc: Global, members: Vec<Box<dyn Member>>) -> Result<DrivenWorld, NoMemory>
+    pub fn new(alloc: Global, members: Vec<M>) -> Result<DrivenWorld<M>, NoMemory>
         ensures stands { IfOk result (λ v. Stands empty_world v) }
         ensures members { IfOk result (λ v. members_of v ≡ map (λ m. Some m) members.items) }
         ensures going { IfOk result (λ v. has_ended v ≡ false) }
@@ -61,7 +61,7 @@ impl DrivenWorld {
     /// What a line shows, with its echo, and what the answers of members show. After a fault the run has ended, and nothing more
     /// is said of the world.
     pub fn line(&mut self, alloc: Global, line: &Line) -> Result<OutLines, WorldFault>
-        ensures plays { (w : WorldValue) → Stands w self.old → Plays allowed w line.now result self.old self.new }
+        ensures plays { (w : WorldValue) → Stands w self.old → Plays M.allowed w line.now result self.old self.new }
         ensures ended { OnErr result (has_ended self.new ≡ true) }
         ensures going { OnOk result (has_ended self.new ≡ has_ended self.old) }
     {
@@ -83,7 +83,7 @@ impl DrivenWorld {
         line: &Line,
         lines: &mut OutLines,
     ) -> Result<(), WorldFault>
-        ensures plays { (w : WorldValue) → Stands w self.old → PlaysAfter allowed w line.now lines.old result lines.new self.old self.new }
+        ensures plays { (w : WorldValue) → Stands w self.old → PlaysAfter M.allowed w line.now lines.old result lines.new self.old self.new }
         ensures ended { OnErr result (has_ended self.new ≡ true) }
         ensures going { OnOk result (has_ended self.new ≡ has_ended self.old) }
     {
@@ -103,7 +103,7 @@ impl DrivenWorld {
         line: &Line,
         lines: &mut OutLines,
     ) -> Result<(), WorldFault>
-        ensures plays { (w : WorldValue) → Stands w self.old → lines.old ≡ [] → PlaysEchoed allowed w line.now result lines.new self.old self.new }
+        ensures plays { (w : WorldValue) → Stands w self.old → lines.old ≡ [] → PlaysEchoed M.allowed w line.now result lines.new self.old self.new }
         ensures same { has_ended self.new ≡ has_ended self.old }
     {
         if !is_silent(line) {
@@ -119,7 +119,7 @@ impl DrivenWorld {
         line: &Line,
         lines: &mut OutLines,
     ) -> Result<(), WorldFault>
-        ensures plays { (w : WorldValue) → Stands w self.old → PlaysAfter allowed w line.now lines.old result lines.new self.old self.new }
+        ensures plays { (w : WorldValue) → Stands w self.old → PlaysAfter M.allowed w line.now lines.old result lines.new self.old self.new }
         ensures same { has_ended self.new ≡ has_ended self.old }
     {
         match line {
@@ -136,7 +136,7 @@ impl DrivenWorld {
         line: &Line,
         lines: &mut OutLines,
     ) -> Result<(), WorldFault>
-        ensures plays { (w : WorldValue) → Stands w self.old → is_silent line.now ≡ false → PlaysAfter allowed w line.now lines.old result lines.new self.old self.new }
+        ensures plays { (w : WorldValue) → Stands w self.old → is_silent line.now ≡ false → PlaysAfter M.allowed w line.now lines.old result lines.new self.old self.new }
         ensures same { has_ended self.new ≡ has_ended self.old }
     {
         let from = lines.as_slice().len();
@@ -146,7 +146,7 @@ impl DrivenWorld {
 
     // A member drives a node.
     fn auto_line(&mut self, node: u16, member: u16) -> Result<(), WorldFault>
-        ensures plays { (w : WorldValue) (lines : List OutLine) → Stands w self.old → PlaysAfter allowed w (Line.Auto node member) lines result lines self.old self.new }
+        ensures plays { (w : WorldValue) (lines : List OutLine) → Stands w self.old → PlaysAfter M.allowed w (Line.Auto node member) lines result lines self.old self.new }
         ensures same { has_ended self.new ≡ has_ended self.old }
     {
         if !self.world.is_node(node) {
@@ -161,7 +161,7 @@ impl DrivenWorld {
 
     // A member is dropped.
     fn leave_line(&mut self, member: u16) -> Result<(), WorldFault>
-        ensures plays { (w : WorldValue) (lines : List OutLine) → Stands w self.old → PlaysAfter allowed w (Line.Leave member) lines result lines self.old self.new }
+        ensures plays { (w : WorldValue) (lines : List OutLine) → Stands w self.old → PlaysAfter M.allowed w (Line.Leave member) lines result lines self.old self.new }
         ensures same { has_ended self.new ≡ has_ended self.old }
     {
         if !self.members.is_there(member) {

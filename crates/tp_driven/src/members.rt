@@ -20,20 +20,20 @@ pub(crate) struct Asked {
 
 /// The members that were handed in, numbered from 1, and the members that drive nodes. One that was dropped has left its place.
 #[derive(Drop)]
-pub(crate) struct Members {
-    slots: Vec<Option<Box<dyn Member>>>,
+pub(crate) struct Members<M> {
+    slots: Vec<Option<M>>,
     drivers: HashMap<u16, u16>,
 }
 
 // An indication is put to the member, where it is there.
-fn tell(
+fn tell<M: Member>(
     alloc: Global,
-    slot: &mut Option<Box<dyn Member>>,
+    slot: &mut Option<M>,
     node: u16,
     indication: &Indication,
 ) -> Result<Option<Request>, NoMemory>
     ensures there { IfOk result (λ a. is_there slot.new ≡ is_there slot.old) }
-    ensures may { is_there slot.old ≡ true → IfOk result (λ a. (rest : List Answer) → may allowed slot.new rest → may allowed slot.old (record { node = node; indication = indication.now; request = a } ∷ rest)) }
+    ensures may { is_there slot.old ≡ true → IfOk result (λ a. (rest : List Answer) → may M.allowed slot.new rest → may M.allowed slot.old (record { node = node; indication = indication.now; request = a } ∷ rest)) }
 {
     match slot {
         None => Ok(None),
@@ -41,9 +41,9 @@ fn tell(
     }
 }
 
-impl Members {
+impl<M: Member> Members<M> {
     /// All of them are there, and drive no node.
-    pub(crate) fn new(alloc: Global, members: Vec<Box<dyn Member>>) -> Result<Members, NoMemory>
+    pub(crate) fn new(alloc: Global, members: Vec<M>) -> Result<Members<M>, NoMemory>
         ensures { IfOk result (λ m. (m.slots.items ≡ map (λ x. Some x) members.items) × (m.drivers.entries ≡ [])) }
     {
         let mut slots = Vec::new(alloc);
@@ -104,7 +104,7 @@ impl Members {
         indication: &Indication,
     ) -> Result<Option<Request>, NoMemory>
         ensures same { OnOk result (AreSame self.old.slots.items self.new.slots.items × (self.new.drivers ≡ self.old.drivers)) }
-        ensures gave { is_there (slot_at self.old.slots.items member) ≡ true → IfOk result (λ a. Gave allowed self.old.slots.items self.new.slots.items (record { member = member; node = node; indication = indication.now } ∷ []) (a ∷ [])) }
+        ensures gave { is_there (slot_at self.old.slots.items member) ≡ true → IfOk result (λ a. Gave M.allowed self.old.slots.items self.new.slots.items (record { member = member; node = node; indication = indication.now } ∷ []) (a ∷ [])) }
     {
         let place = member as usize;
         if place == 0 || place > self.slots.len() {
@@ -116,7 +116,7 @@ impl Members {
     // What a line tells a user is put to the member that drives the node, if one does.
     fn ask(&mut self, alloc: Global, line: &OutLine) -> Result<Option<Asked>, NoMemory>
         ensures same { OnOk result (AreSame self.old.slots.items self.new.slots.items × (self.new.drivers ≡ self.old.drivers)) }
-        ensures asks { IfOk result (λ a. Asks allowed self.old.slots.items self.new.slots.items (puts_in (driver_in self.old.slots.items self.old.drivers.entries) (line.now ∷ [])) a) }
+        ensures asks { IfOk result (λ a. Asks M.allowed self.old.slots.items self.new.slots.items (puts_in (driver_in self.old.slots.items self.old.drivers.entries) (line.now ∷ [])) a) }
     {
         let OutLine::Tell { node, indication } = line else {
             return Ok(None);
@@ -136,14 +136,14 @@ impl Members {
 
 /// What the lines tell users, from that place on, is put to the members that drive the nodes, up to the first answer that
 /// is a request. It is handed out with the place where the rest begins.
-pub(crate) fn next_request(
+pub(crate) fn next_request<M: Member>(
     alloc: Global,
-    members: &mut Members,
+    members: &mut Members<M>,
     lines: &[OutLine],
     from: usize,
 ) -> Result<Option<(Asked, usize)>, NoMemory>
     ensures same { OnOk result (AreSame members.old.slots.items members.new.slots.items × (members.new.drivers ≡ members.old.drivers)) }
-    ensures asks { IfOk result (λ a. AsksFrom allowed members.old.slots.items members.new.slots.items (driver_in members.old.slots.items members.old.drivers.entries) lines.now from a) }
+    ensures asks { IfOk result (λ a. AsksFrom M.allowed members.old.slots.items members.new.slots.items (driver_in members.old.slots.items members.old.drivers.entries) lines.now from a) }
 {
     for place in from..lines.len() {
         if let Some(asked) = members.ask(alloc, &lines[place])? {

@@ -12,4 +12,4 @@ invariant-loop-before g l =
     → WorldStands (memberless w) l.fn.world
     → MembersStand w l.fn.members.slots.items l.fn.members.drivers.entries
     → (l.before ≤ 4096)
-    × RunsOn (λ z. (goal.Member-dyn g (z.vtable, z.value)).allowed z.value) 0 w l.fn.from l.fn.lines l.before l.from l.lines l.world l.fn.members.slots.items l.members.slots.items l.members.drivers.entries
+    × RunsOn g.M.Member.allowed 0 w l.fn.from l.fn.lines l.before l.from l.lines l.world l.fn.members.slots.items l.members.slots.items l.members.drivers.entries

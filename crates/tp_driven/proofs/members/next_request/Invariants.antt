@@ -7,4 +7,4 @@ abbrev pub invariant-loop-place : goal.invariant-loop-place
 invariant-loop-place g l =
     AreSame l.fn.members.slots.items l.members.slots.items
     × (l.members.drivers ≡ l.fn.members.drivers)
-    × Passed (λ z. (goal.Member-dyn g (z.vtable, z.value)).allowed z.value) l.fn.members.slots.items l.members.slots.items (driver_in l.fn.members.slots.items l.fn.members.drivers.entries) l.fn.lines l.fn.from l.place
+    × Passed g.M.Member.allowed l.fn.members.slots.items l.members.slots.items (driver_in l.fn.members.slots.items l.fn.members.drivers.entries) l.fn.lines l.fn.from l.place
