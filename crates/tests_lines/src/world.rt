@@ -100,10 +100,7 @@ fn names(rt: HostRuntime) {
     }
 }
 
-const UNBUILT: &[&str] = &[
-    "auto 1 1\n",
-    "leave 1\n",
-];
+const UNBUILT: &[&str] = &["auto 1 1\n", "leave 1\n"];
 
 /// Lines of kinds that are not built end the run.
 #[test]

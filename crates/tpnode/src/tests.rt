@@ -175,10 +175,7 @@ fn refused_by(alloc: Global, line: &str) -> Option<BadLine> {
     }
 }
 
-const NOT_BUILT: &[&str] = &[
-    "auto 1 1",
-    "leave 1",
-];
+const NOT_BUILT: &[&str] = &["auto 1 1", "leave 1"];
 
 #[test]
 fn kinds_of_lines_that_are_not_built(rt: HostRuntime) {
