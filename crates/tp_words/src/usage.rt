@@ -6,6 +6,7 @@ usage: tpnode COMMAND [--name NAME] [--number N] [--nodes K] [--rounds R]
 
   replay    reads a schedule, writes its transcript
   node      reads events of the site NAME in frames, writes its outputs in frames
+  tx        reads calls of a root's program, writes stand and code after each answer
   format    makes the log a fresh one of version 2
   show      writes each record of the log
   check     writes each damage that stands in the log

@@ -15,6 +15,7 @@ use Rattle.tpnode.specs.Trying.{Tries}
 use Rattle.tpnode.specs.Logs.{Formats, ShowsLog, ChecksLog, CompactsLog, MigratesLog}
 use Rattle.tpnode.specs.Keys.{ListsKeys}
 use Rattle.tpnode.specs.Sites.{ServesSite}
+use Rattle.tpnode.specs.Faces.{ServesFace}
 use Rattle.tpnode.specs.Auditing.{AuditsLogs}
 
 -- ---- how each command may end
@@ -31,7 +32,7 @@ exits (Command.Trial plan) = ok ∷ bad_input ∷ limit ∷ write_fault ∷ no_m
 exits Command.Compact = ok ∷ foreign ∷ disk_fault ∷ no_memory ∷ []
 exits Command.Migrate = ok ∷ limit ∷ foreign ∷ disk_fault ∷ no_memory ∷ []
 exits Command.Keys = ok ∷ foreign ∷ write_fault ∷ disk_fault ∷ no_memory ∷ []
-exits (Command.Tx site) = usage ∷ []
+exits (Command.Tx site) = ok ∷ bad_input ∷ limit ∷ foreign ∷ read_fault ∷ write_fault ∷ disk_fault ∷ no_memory ∷ []
 exits Command.Audit = ok ∷ findings ∷ bad_input ∷ limit ∷ foreign ∷ read_fault ∷ write_fault ∷ no_memory ∷ []
 
 abbrev pub is_built : Command → Bool
@@ -87,7 +88,7 @@ Does (Command.Trial plan) r same_sink = Tries plan r.written r.output same_sink 
 Does Command.Compact r same_sink = CompactsLog r.status r.told r.story
 Does Command.Migrate r same_sink = MigratesLog r.status r.told r.story
 Does Command.Keys r same_sink = ListsKeys r.status r.told r.story r.written r.output
-Does (Command.Tx site) r same_sink = Unit {0}
+Does (Command.Tx site) r same_sink = ServesFace site r.status r.told r.story r.left r.unread r.written r.output same_sink
 Does Command.Audit r same_sink = AuditsLogs r.status r.left r.unread r.written r.output same_sink
 
 abbrev pub Unless : Bool → Type 0 → Type 0

@@ -8,5 +8,6 @@ pub mod Trying
 pub mod Logs
 pub mod Keys
 pub mod Sites
+pub mod Faces
 pub mod Auditing
 pub mod Commands

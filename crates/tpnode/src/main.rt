@@ -1,6 +1,6 @@
 //! `tpnode`: replays a schedule over a tree of commitment nodes, and writes the exact transcript; makes schedules and
-//! tries them; runs one site on its log over frames of events; makes fresh logs, shows, checks and shortens a log; lists
-//! the keys of a store; judges the logs of several sites together.
+//! tries them; runs one site on its log over frames of events, or a root's face of one over frames of calls; makes fresh
+//! logs, shows, checks and shortens a log; lists the keys of a store; judges the logs of several sites together.
 //!
 //! Of a schedule, members are not built yet: a line that speaks of one ends the run and says `unbuilt`.
 #![tactic(auto)]
@@ -22,6 +22,7 @@ mod status;
 #[cfg(test)]
 mod tests;
 mod top;
+mod transacting;
 mod trial;
 
 pub use status::{BadLine, Status};

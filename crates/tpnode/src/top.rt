@@ -21,6 +21,7 @@ use crate::replay::replay;
 use crate::serving::serve_site;
 use crate::showing::show_log;
 use crate::status::Status;
+use crate::transacting::serve_face;
 use crate::trial::try_schedule;
 use std::alloc::Global;
 use tp_outside::{Disk, Sink, Source};
@@ -37,7 +38,8 @@ use tp_words::{Command, WordsFault, read};
 /// writes what it came to. `format` makes the disk hold a fresh log. `show` writes each record of the disk's log with
 /// its place, and `check` each Damage that is its key's last record, of which it answers the number. `compact` and
 /// `migrate` put the log's brief in its place. `keys` writes what the store on the disk holds. `node` is a site on the
-/// disk's log, which is given the events that the frames of the source say, and writes its outputs as frames.
+/// disk's log, which is given the events that the frames of the source say, and writes its outputs as frames. `tx` is a
+/// face of node 1 of such a site, which is given calls and events, and ends each answer with its stand and its code.
 /// `audit` reads the logs of several sites, and writes whether two nodes of one tree ended apart, and what awaits each node
 /// that is in doubt.
 #[tactic(auto, using(crate::proofs::Transcribed::transcribed))]
@@ -88,6 +90,6 @@ fn run_command<S: Source, K: Sink, D: Disk>(
         Command::Keys => list_keys(alloc, disk, sink),
         Command::Node(name) => serve_site(alloc, name, source, sink, disk),
         Command::Audit => (audit_logs(alloc, source, sink), disk),
-        Command::Tx(_) => (Status::Usage, disk),
+        Command::Tx(name) => serve_face(alloc, name, source, sink, disk),
     }
 }

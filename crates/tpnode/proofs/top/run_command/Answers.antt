@@ -72,3 +72,10 @@ returns-in-Node-clause-ending g c = c.serve_site.ensures.ends.cause
 pub returns-in-Node-clause-runs : goal.returns-in-Node-clause-runs
 returns-in-Node-clause-runs g c =
     runs_as c.args.command (Command.Node c.in-Node.name) _ _ _ _ c.in-Node.is (record { exit = c.serve_site.ensures.ends.exit; source = tt; sink = tt; disk = tt; does = c.serve_site.ensures.serves })
+
+pub returns-in-Tx-clause-ending : goal.returns-in-Tx-clause-ending
+returns-in-Tx-clause-ending g c = c.serve_face.ensures.ends.cause
+
+pub returns-in-Tx-clause-runs : goal.returns-in-Tx-clause-runs
+returns-in-Tx-clause-runs g c =
+    runs_as c.args.command (Command.Tx c.in-Tx.name) _ _ _ _ c.in-Tx.is (record { exit = c.serve_face.ensures.ends.exit; source = tt; sink = tt; disk = tt; does = c.serve_face.ensures.serves })
