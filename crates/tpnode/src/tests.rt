@@ -154,7 +154,7 @@ fn built_lines_are_replayed(rt: HostRuntime) {
     assert!(rt; matches!(status, Some(Status::Ok)));
 }
 
-const NO_COMMANDS: &[&[&str]] = &[&[], &["play"], &["audit"], &["replay", "--name", "A"]];
+const NO_COMMANDS: &[&[&str]] = &[&[], &["play"], &["replay", "--name", "A"]];
 
 #[test]
 fn words_that_ask_for_no_command(rt: HostRuntime) {
