@@ -161,7 +161,7 @@ pub record RunsOn (name : List ℕ) (r : Ran) (result : Result (Unit {0}) Stop) 
   pub moments : LeavesOnly (IsNodeImage (opening name version listed) (events ++ next) 0) (Some (Synced r.told)) r.story
   pub last : LeavesNow (IsNodeImage (opening name version listed) (events ++ next) (length events)) r.story
 
--- the log was not opened, for want of memory or since the disk failed
+-- the log was not opened, since there was no memory or the disk failed
 abbrev pub IsIdle : Ran → Type 0
 IsIdle r = IsUnopened r.told r.story × IsUntouched r
 

@@ -142,7 +142,7 @@ pub has_made : {K : Type 0} (standing : K → Standing) (name : List ℕ) (told 
     → ((o : Opening) (begun : Option Story) (faults : ℕ) → IsServing standing o [] begun faults s → IsRunning standing o first_events begun faults f) → HasMade standing name told faults f
 has_made standing name told faults s f h makes = record { version = h.version; listed = h.listed; running = makes (opening name h.version h.listed) (option_map Synced told) faults h.serving; opens = h.opens }
 
--- and no face, for want of memory
+-- and no face, since there is no memory
 pub has_failed : {K : Type 0} (standing : K → Standing) (name : List ℕ) (told new : Option Story) (faults : ℕ) (s : Site K) (story : Story) → HasStarted standing name told faults s → told ≡ Some story → IsFile (seen story)
     → ((o : Opening) (begun : Option Story) (faults : ℕ) → IsServing standing o [] begun faults s → LeavesOnly (IsNodeImage o [] 0) begun new) → FailsBefore name story new
 has_failed standing name told new faults s story h is file leaves = record {

@@ -68,7 +68,7 @@ fn is_asked_by_call(request: &Request) -> bool
 
 impl<K: Keeper> Face<K> {
     /// A face of the node of that number, which is declared as one without a superior: the site answers that event, and its faults
-    /// are those: at a node that is not declared yet, of a site that is not shut, want of memory alone. Nothing was told yet.
+    /// are those: at a node that is not declared yet, of a site that is not shut, out of memory alone. Nothing was told yet.
     pub fn new(alloc: Global, site: Site<K>, node: u16) -> Result<Face<K>, (Site<K>, SiteFault)>
         ensures made { IsMade K.standing site node result }
         ensures goes { (o : Opening) (gs : List Given) → IsAt K.standing all_nodes o gs site → GoesMade K.standing o gs site node result }
