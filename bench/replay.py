@@ -1,13 +1,16 @@
 #!/usr/bin/env python3
-"""Measures `tpnode replay` on schedules of several shapes, and `tpnode trial`: instructions, processor time and peak memory.
+"""Measures `tpnode replay` on schedules of several shapes, and `tpnode trial`, beside a plain Rust program of the same meaning:
+instructions, processor time and peak memory.
 
 bench/replay.py                           measures the table below
 bench/replay.py SHAPE NODES ROUNDS        measures one schedule
 bench/replay.py --write SHAPE NODES ROUNDS    writes the schedule to standard output
 
 It runs the proved program where it stands, crates/tpnode/out/tpnode (`rt run` or `rt ci` leaves it there), or the one that the
-variable TPNODE names. Instructions are counted by `valgrind --tool=callgrind` over the whole process: the same binary, input and
-environment give the same count, whatever else the machine does. Time and memory are the least of five runs.
+variable TPNODE names. The plain Rust program is bench/peer, which `rustc` builds anew, or the one that the variable PEER names; where
+there is no rustc it is left out. Both must write the same bytes. Instructions are counted by `valgrind --tool=callgrind` over the whole process: the same binary, input and
+environment give the same count, whatever else the machine does. Time and memory are the least of five runs;
+no memory is shown below that of the Python that starts them, about 11 MB.
 
 Shapes: pair (transactions of two nodes; NODES is not read), tree (binary), chain, star, burst (a tree, all requests before the
 deliveries), starburst, onesite (a tree on one site), idle (two of NODES nodes work), kept (transactions that each leave a kept
@@ -100,16 +103,41 @@ def once(command, file):
         return tuple(float(word) for word in told.read().split())
 
 
-def measure(program, shape, nodes, rounds):
+def built(top, room):
+    """The plain Rust program, none where it can't be built here."""
+    if "PEER" in os.environ:
+        return os.environ["PEER"]
+    flags = ["--edition", "2021", "-C", "opt-level=3", "-C", "codegen-units=1", "-C", "lto=fat", "-C", "panic=abort"]
+    try:
+        ran = subprocess.run(["rustc", *flags, "-o", f"{room}/peer", f"{top}/bench/peer/main.rs"], stderr=subprocess.DEVNULL)
+    except OSError:
+        return None
+    return f"{room}/peer" if ran.returncode == 0 else None
+
+
+def written(command, file):
+    with open(file) as given:
+        return subprocess.run(command, stdin=given, stdout=subprocess.PIPE).stdout
+
+
+def measure(program, peer, shape, nodes, rounds):
     is_trial = shape == "trial"
-    command = [program, *(["trial", "--nodes", str(nodes), "--rounds", str(rounds)] if is_trial else ["replay"])]
+    ours = [program, *(["trial", "--nodes", str(nodes), "--rounds", str(rounds)] if is_trial else ["replay"])]
+    theirs = [peer, *(["trial", "1", str(nodes), str(rounds)] if is_trial else ["replay"])] if peer else None
     with tempfile.NamedTemporaryFile("w", suffix=".schedule") as file:
         file.write("" if is_trial else schedule(shape, nodes, rounds))
         file.flush()
-        counted = instructions(command, file.name)
-        runs = [once(command, file.name) for _ in range(5)]
-    shown = f"{counted / 1e6:10.1f} M" if counted else "  (no valgrind)"
-    print(f"{shape} {nodes} {rounds}:{shown} instructions, {min(t for t, _ in runs):.3f} s, {min(m for _, m in runs):.1f} MB", flush=True)
+        commands = [it for it in (ours, theirs) if it]
+        if theirs and written(ours, file.name) != written(theirs, file.name):
+            sys.exit(f"{shape} {nodes} {rounds}: the two programs write different bytes")
+        counts = [instructions(it, file.name) for it in commands]
+        # (in turns, since other work on the machine disturbs both)
+        runs = [[once(it, file.name) for it in commands] for _ in range(5)]
+    figures = [[count and count / 1e6, min(run[i][0] for run in runs) * 1e3, min(run[i][1] for run in runs)] for i, count in enumerate(counts)]
+    cells = []
+    for mine, *other in zip(*figures):
+        cells.append("-" if mine is None else f"{mine:.1f}" + (f" / {other[0]:.1f} = {mine / other[0]:.1f}" if other else ""))
+    print(f"| {shape} {nodes} {rounds} | " + " | ".join(cells) + " |", flush=True)
 
 
 def main(words):
@@ -121,8 +149,12 @@ def main(words):
     if not os.path.isfile(program):
         sys.exit(f"{program} is not built: `rt run` in crates/tpnode, or name a binary in TPNODE")
     table = [(words[0], int(words[1]), int(words[2]))] if len(words) == 3 else TABLE
-    for shape, nodes, rounds in table:
-        measure(program, shape, nodes, rounds)
+    with tempfile.TemporaryDirectory() as room:
+        peer = built(top, room)
+        print("| Schedule | " + " | ".join(f"{it}, ours{' / plain Rust = ratio' if peer else ''}" for it in ("Instructions in millions", "Processor time in ms", "Peak memory in MB")) + " |")
+        print("|---|---|---|---|", flush=True)
+        for shape, nodes, rounds in table:
+            measure(program, peer, shape, nodes, rounds)
 
 
 if __name__ == "__main__":
