@@ -31,8 +31,13 @@ def frames_of(log):
     return frame(b"\x40" + NAME_B) + b"".join(frame(b"\x41" + frame(it)) for it in pieces)
 
 
-for records in map(int, sys.argv[2:] or ["250000", "500000", "1000000"]):
-    before = resource.getrusage(resource.RUSAGE_CHILDREN).ru_utime
-    ran = subprocess.run([sys.argv[1], "audit"], input=frames_of(log_of(records)), capture_output=True, check=True)
-    used = resource.getrusage(resource.RUSAGE_CHILDREN)
-    print(f"{records} records: {used.ru_utime - before:.2f} s, at most {used.ru_maxrss // 1024} MB, {ran.stdout.decode().split()[0]}")
+def main(program, counts):
+    for records in map(int, counts or ["250000", "500000", "1000000"]):
+        before = resource.getrusage(resource.RUSAGE_CHILDREN).ru_utime
+        ran = subprocess.run([program, "audit"], input=frames_of(log_of(records)), capture_output=True, check=True)
+        used = resource.getrusage(resource.RUSAGE_CHILDREN)
+        print(f"{records} records: {used.ru_utime - before:.2f} s, at most {used.ru_maxrss // 1024} MB, {ran.stdout.decode().split()[0]}")
+
+
+if __name__ == "__main__":
+    main(sys.argv[1], sys.argv[2:])

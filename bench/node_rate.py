@@ -11,7 +11,7 @@ two. No proof and no test depends on it.
 Site b is given the frames of a node that takes part in one transaction after another: it begins, is told to prepare, votes,
 is told to commit, and is done. The loop forces the very records that the node left, and the two files are compared.
 
-The program is crates/tpnode/out/tpnode: `rt run` in that crate builds it.
+The program is crates/tpnode/out/tpnode, which `rt run` in that crate builds, or the one that the variable TPNODE names.
 """
 import os
 import pathlib
@@ -22,7 +22,7 @@ import tempfile
 import time
 
 ROOT = pathlib.Path(__file__).resolve().parent.parent
-PROGRAM = ROOT / "crates" / "tpnode" / "out" / "tpnode"
+PROGRAM = pathlib.Path(os.environ.get("TPNODE", ROOT / "crates" / "tpnode" / "out" / "tpnode"))
 
 # A fresh log of version 2.
 FRESH = b"OTPL\x01\x01\x00\x02\x07\x02\x00"

@@ -2,7 +2,9 @@
 //!
 //! It is what `tpnode replay` is measured beside. It keeps each site's log to the byte and starts a site that crashed from what
 //! stands there; nothing of it is proved. `peer replay` reads a schedule from standard input; `peer trial N K R` makes the
-//! schedule of number N with K nodes and R rounds, replays it, and writes the summary. Not built: members.
+//! schedule of number N with K nodes and R rounds, replays it, and writes the summary; `peer show` writes each record of `tp.log` in
+//! the current folder. Not built: members.
+mod log;
 mod node;
 mod schedule;
 mod value;
@@ -18,6 +20,7 @@ fn main() -> ExitCode {
     let ended = match words.iter().map(String::as_str).collect::<Vec<_>>()[..] {
         ["replay"] => replay(),
         ["trial", number, nodes, rounds] => trial(number, nodes, rounds),
+        ["show"] => show(),
         _ => Err((2, "usage".into())),
     };
     match ended {
@@ -108,4 +111,12 @@ fn trial(number: &str, nodes: &str, rounds: &str) -> Ended {
         .count();
     println!("mixed {mixed}\nopen {}", closing(b" open"));
     Ok(())
+}
+
+fn show() -> Ended {
+    let log = std::fs::read("tp.log").map_err(|_| (8, "disk fault".to_string()))?;
+    let out = log::show(&log).map_err(|at| (5, format!("foreign log at {at}")))?;
+    io::stdout()
+        .write_all(&out)
+        .map_err(|_| (7, "write fault".into()))
 }

@@ -1,9 +1,9 @@
 //! Names, marks, identifiers, units, records.
 
 /// A site, by its place in the world's table of names.
-pub type Site = u8;
+pub type Site = u16;
 
-#[derive(Clone, Copy, PartialEq, Eq)]
+#[derive(Clone, Copy, PartialEq, Eq, Hash)]
 pub struct Mark {
     pub boot: u64,
     pub count: u64,
@@ -11,13 +11,13 @@ pub struct Mark {
 }
 
 /// The identifier of a tree or of a branch: the site that drew its mark.
-#[derive(Clone, Copy, PartialEq, Eq)]
+#[derive(Clone, Copy, PartialEq, Eq, Hash)]
 pub struct Id {
     pub site: Site,
     pub mark: Mark,
 }
 
-#[derive(Clone, Copy, PartialEq, Eq)]
+#[derive(Clone, Copy, PartialEq, Eq, Hash)]
 pub struct Key {
     pub aaid: Id,
     pub branch: Option<Id>,
@@ -219,7 +219,7 @@ pub enum Record {
     },
 }
 
-/// A hasher for small numbers.
+/// A hasher for numbers.
 #[derive(Default)]
 pub struct Quick(u64);
 
