@@ -41,19 +41,19 @@ use Rattle.tp_stores.proofs.Begun.{IsBegin, is_begin, crash_is, begun_law}
 -- ---- an event that tells an outcome
 
 -- nothing is told in a crash
-crash_tells : (f : Indication → Bool) (o : Origin) (up : Option Addr) (e : Entry) (h : List Entry) → IsGrown o up (e ∷ h) → e.event ≡ Event.Crash → out_tells f e.outs ≡ true → ⊥
+pub crash_tells : (f : Indication → Bool) (o : Origin) (up : Option Addr) (e : Entry) (h : List Entry) → IsGrown o up (e ∷ h) → e.event ≡ Event.Crash → out_tells f e.outs ≡ true → ⊥
 crash_tells f o up e h legal is told =
     let none : e.outs ≡ [] = ap (λ (v : Entry). v.outs) (sym legal.1) ∙ ap (λ (v : Event). (action o.who (digest o h) v).outs) is in
     absurd (cc (told, ap (out_tells f) none))
 
 -- it has a current transaction
-abbrev IsNow : (Indication → Bool) → Type 0
+abbrev pub IsNow : (Indication → Bool) → Type 0
 IsNow g = (o : Origin) (up : Option Addr) (e : Entry) (h : List Entry) (t : Aaid) → IsGrown o up (e ∷ h) → out_tells g e.outs ≡ true → (c : Current) × ((digest o h).current ≡ Some c)
 
 neither : (a b : Bool) → a ≡ false → b ≡ false → (a || b) ≡ true → ⊥
 neither a b i j h = let off : (a || b) ≡ false = rw (i, j) refl in absurd (cc (off, h))
 
-now_commit : IsNow is_commit_told
+pub now_commit : IsNow is_commit_told
 now_commit o up e h t legal told = go (entered o e h legal.0)
   where
     d : Digest
@@ -96,16 +96,16 @@ now_rollback o up e h t legal told = go (entered o e h legal.0)
 
 -- ---- an outcome that was heard
 
-record IsOutcome (f g : Indication → Bool) (tells : List Out → Bool) : Type 0 where
-  weaker : (i : Indication) → f i ≡ true → g i ≡ true
-  tells_so : (outs : List Out) → out_tells g outs ≡ true → tells outs ≡ true
-  now : IsNow g
+pub record IsOutcome (f g : Indication → Bool) (tells : List Out → Bool) : Type 0 where
+  pub weaker : (i : Indication) → f i ≡ true → g i ≡ true
+  pub tells_so : (outs : List Out) → out_tells g outs ≡ true → tells outs ≡ true
+  pub now : IsNow g
 
-none_is : (o : Option Aaid) → is_none o ≡ true → o ≡ None
+pub none_is : (o : Option Aaid) → is_none o ≡ true → o ≡ None
 none_is None h = refl
 none_is (Some t) h = absurd (cc (h))
 
-heard_told : (f g : Indication → Bool) (tells : List Out → Bool) → IsOutcome f g tells → (o : Origin) (up : Option Addr) (h : List Entry) (t : Aaid) (stops : Bool) (is : List Indication) → o.start.records ≡ [] → IsGrown o up h → only_under o h ≡ true → IsHeardIn stops h is → hears f t None is ≡ true
+pub heard_told : (f g : Indication → Bool) (tells : List Out → Bool) → IsOutcome f g tells → (o : Origin) (up : Option Addr) (h : List Entry) (t : Aaid) (stops : Bool) (is : List Indication) → o.start.records ≡ [] → IsGrown o up h → only_under o h ≡ true → IsHeardIn stops h is → hears f t None is ≡ true
     → has_told_in tells o t h ≡ true
 heard_told f g tells k o up [] t stops is empty legal only in_all heard = absurd (let none = ap (hears f t None) in_all in cc (none, heard))
 heard_told f g tells k o up (e ∷ h) t stops is empty legal only in_all heard =
@@ -164,19 +164,19 @@ heard_told f g tells k o up (e ∷ h) t stops is empty legal only in_all heard =
         go true j = let b : IsBegin e.event = is_begin e.event j in begun b (find_arc d.arcs b.from.node) refl
         go false j = told j
 
-commit_weaker : (i : Indication) → is_commit i ≡ true → is_commit_told i ≡ true
+pub commit_weaker : (i : Indication) → is_commit i ≡ true → is_commit_told i ≡ true
 commit_weaker Indication.Commit h = refl
 commit_weaker i h = absurd (cc (h))
 
-rollback_weaker : (i : Indication) → is_rollback i ≡ true → is_rollback_told i ≡ true
+pub rollback_weaker : (i : Indication) → is_rollback i ≡ true → is_rollback_told i ≡ true
 rollback_weaker Indication.Rollback h = refl
 rollback_weaker i h = absurd (cc (h))
 
-commit_tells : (outs : List Out) → tells_commit outs ≡ out_tells is_commit_told outs
+pub commit_tells : (outs : List Out) → tells_commit outs ≡ out_tells is_commit_told outs
 commit_tells (o ∷ outs) = let rest = commit_tells outs in grind (arith, rest)
 commit_tells _ = refl
 
-rollback_tells : (outs : List Out) → tells_rollback outs ≡ out_tells is_rollback_told outs
+pub rollback_tells : (outs : List Out) → tells_rollback outs ≡ out_tells is_rollback_told outs
 rollback_tells (o ∷ outs) = let rest = rollback_tells outs in grind (arith, rest)
 rollback_tells _ = refl
 

@@ -3,3 +3,8 @@ pub mod Telling
 pub mod Begun
 pub mod Agree
 pub mod Whole
+pub mod AskedTurns
+pub mod AskedMoves
+pub mod Votes
+pub mod Served
+pub mod Counted

@@ -11,7 +11,7 @@ whole : (stops : Bool) (told : List Indication) → IsHeardOf stops told told
 whole false told = refl
 whole true told = ([], sym (append-nil told))
 
-all_heard : (stops : Bool) (h : List Entry) (is : List Indication) → is ≡ all_told h → IsHeardIn stops h is
+pub all_heard : (stops : Bool) (h : List Entry) (is : List Indication) → is ≡ all_told h → IsHeardIn stops h is
 all_heard stops [] is same = same
 all_heard stops (e ∷ h) is same = (all_told h, told_in e.outs, same, whole stops (told_in e.outs), all_heard (is_crash e.event) h (all_told h) refl)
 
