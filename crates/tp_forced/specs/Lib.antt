@@ -1,0 +1,2 @@
+pub mod TreeLog
+pub mod Taken
