@@ -1,6 +1,6 @@
 -- That an option of whole numbers has one in its range wherever clap found a value of it.
 use Rattle.std.proofs.Common.{◌≡◌, ◌∙◌, ◌⊎◌, inl, inr, ◌<◌, ℕ, zero, suc, Bool, true, false, List, [], ◌∷◌, length, map, Option, Some, None, refl, ap, sym, subst, arith, codes}
-use Rattle.std.specs.Prelude.{option_map, slice_get, Result, Ok, Err, IfOk, filter}
+use Rattle.std.specs.Prelude.{option_map, unwrap_or, slice_get, Result, Ok, Err, IfOk, filter}
 use Rattle.std.specs.List.{All, slice_index_or}
 use Rattle.std.specs.Str.{bytes_eq}
 use Rattle.std.specs.Borrow.{Bor}
@@ -29,6 +29,7 @@ use Rattle.clap.specs.declared.parser.matches.Found.{Found}
 use Rattle.clap.specs.declared.parser.matches.MatchedArg.{MatchedArg}
 use Rattle.tp_words.specs.CommandLine.{program, command_rule}
 use Rattle.tp_words.specs.Given.{IsNumberIn, HoldsNumbers}
+use Rattle.tp_words.specs.DriveLine.{drive_program}
 
 -- ---- rules with one name
 
@@ -55,7 +56,7 @@ of_name Q id (r ∷ rs) h = go (bytes_eq r.id id) refl h (of_name Q id rs)
     go false e (inr q) more = rw e (more q)
 
 -- one rule alone has the name, and takes numbers in the range
-record IsSole (rs : List Rule) (id : List ℕ) (least most : ℕ) : Type 0 where
+pub record IsSole (rs : List Rule) (id : List ℕ) (least most : ℕ) : Type 0 where
   rule : Rule
   sole : filter (λ r. bytes_eq r.id id) rs ≡ rule ∷ []
   parser : rule.parser ≡ Some (Unsigned least most)
@@ -118,66 +119,113 @@ value_in c f id least most o values no_groups named = λ t is. go (matched_of f 
         let got = entry_by_id (EntryPasses c) f.entries.items id x values e in
         entry x got.0 got.1 ((bytes_eq-Decides got.0.0.now id).0 got.2) got.3 t (rw e at is)
 
--- ---- the program's options
+-- the text that an option has, or another
+pub text_or : (o : Option (Bor (List ℕ))) (t : Option (List ℕ)) (d r : Bor (List ℕ)) → option_map (λ s. s.now) o ≡ t → r ≡ unwrap_or o d → r.now ≡ unwrap_or t d.now
+text_or None t d r e is = ap (λ s. s.now) is ∙ ap (λ v. unwrap_or v d.now) e
+text_or (Some s) t d r e is = ap (λ s. s.now) is ∙ ap (λ v. unwrap_or v d.now) e
 
--- the command is the program's, as it was made or as it was built
-abbrev IsOfProgram : Command → Type 0
-IsOfProgram c = (app_of c ≡ program) ⊎ (app_of c ≡ built program)
+-- ---- the options of a command line
+
+-- the command is that of the command line, as it was made or as it was built
+abbrev IsOf : App → Command → Type 0
+IsOf p c = (app_of c ≡ p) ⊎ (app_of c ≡ built p)
+
+-- a command line that is plain, before it is built and after
+pub record IsPlainLine (p : App) : Type 0 where
+  pub made : p.top.is_plain ≡ true
+  pub built_too : (built p).top.is_plain ≡ true
+  pub buildable : is_buildable p ≡ true
+
+-- one of its rules alone has the name, and takes numbers in the range
+pub record IsNumberOf (p : App) (id : List ℕ) (least most : ℕ) : Type 0 where
+  pub made : IsSole p.top.rules id least most
+  pub built_too : IsSole (built p).top.rules id least most
+  pub named : id ≡ [] → ⊥
 
 rules_are : (c : Command) (a : App) → app_of c ≡ a → map rule_of (args_of c) ≡ a.top.rules
 rules_are c a e = ap (λ (b : App). b.top.rules) e
 
-number_sole : (c : Command) → IsOfProgram c → IsSole (map rule_of (args_of c)) (codes "number") 0 18446744073709551615
-number_sole c (inl e) = subst (λ rs. IsSole rs (codes "number") 0 18446744073709551615) (sym (rules_are c program e))
-    (record { rule = slice_index_or (program.top.rules) 2 command_rule; sole = refl; parser = refl })
-number_sole c (inr e) = subst (λ rs. IsSole rs (codes "number") 0 18446744073709551615) (sym (rules_are c (built program) e))
-    (record { rule = slice_index_or ((built program).top.rules) 2 command_rule; sole = refl; parser = refl })
+is_plain : (p : App) (c : Command) → IsPlainLine p → IsOf p c → (app_of c).top.is_plain ≡ true
+is_plain p c plain (inl e) = ap (λ (a : App). a.top.is_plain) e ∙ plain.made
+is_plain p c plain (inr e) = ap (λ (a : App). a.top.is_plain) e ∙ plain.built_too
 
-nodes_sole : (c : Command) → IsOfProgram c → IsSole (map rule_of (args_of c)) (codes "nodes") 2 256
-nodes_sole c (inl e) = subst (λ rs. IsSole rs (codes "nodes") 2 256) (sym (rules_are c program e))
-    (record { rule = slice_index_or (program.top.rules) 3 command_rule; sole = refl; parser = refl })
-nodes_sole c (inr e) = subst (λ rs. IsSole rs (codes "nodes") 2 256) (sym (rules_are c (built program) e))
-    (record { rule = slice_index_or ((built program).top.rules) 3 command_rule; sole = refl; parser = refl })
+pub number_in : (p : App) (c : Command) (f : Found) (id : List ℕ) (least most : ℕ) → IsPlainLine p → IsOf p c → ValuesPass c f → IsNumberOf p id least most → IsNumberIn least most (one_text f id)
+number_in p c f id least most plain of values n =
+    value_in c f id least most (is_option c id least most (sole of)) values (plain_fields c (is_plain p c plain of)).groups n.named
+  where
+    sole : IsOf p c → IsSole (map rule_of (args_of c)) id least most
+    sole (inl e) = subst (λ rs. IsSole rs id least most) (sym (rules_are c p e)) n.made
+    sole (inr e) = subst (λ rs. IsSole rs id least most) (sym (rules_are c (built p) e)) n.built_too
 
-rounds_sole : (c : Command) → IsOfProgram c → IsSole (map rule_of (args_of c)) (codes "rounds") 1 30
-rounds_sole c (inl e) = subst (λ rs. IsSole rs (codes "rounds") 1 30) (sym (rules_are c program e))
-    (record { rule = slice_index_or (program.top.rules) 4 command_rule; sole = refl; parser = refl })
-rounds_sole c (inr e) = subst (λ rs. IsSole rs (codes "rounds") 1 30) (sym (rules_are c (built program) e))
-    (record { rule = slice_index_or ((built program).top.rules) 4 command_rule; sole = refl; parser = refl })
-
-is_plain : (c : Command) → IsOfProgram c → (app_of c).top.is_plain ≡ true
-is_plain c (inl e) = ap (λ (a : App). a.top.is_plain) e
-is_plain c (inr e) = ap (λ (a : App). a.top.is_plain) e
-
-holds_numbers : (c : Command) (f : Found) → IsOfProgram c → ValuesPass c f → HoldsNumbers f
-holds_numbers c f of values =
-    let none = (plain_fields c (is_plain c of)).groups in
-    record {
-      number = value_in c f (codes "number") 0 18446744073709551615 (is_option c _ _ _ (number_sole c of)) values none (λ e. cc);
-      nodes = value_in c f (codes "nodes") 2 256 (is_option c _ _ _ (nodes_sole c of)) values none (λ e. cc);
-      rounds = value_in c f (codes "rounds") 1 30 (is_option c _ _ _ (rounds_sole c of)) values none (λ e. cc);
-    }
-
--- of a parse of the program's command line
-pub numbers_found : (old new : Command) (words : List (List ℕ)) (r : Result ArgMatches Error) → app_of old ≡ program
+-- what holds of all values that pass holds of what a parse finds
+pub values_found : (p : App) (Q : Found → Type 0) → IsPlainLine p → ((c : Command) (f : Found) → IsOf p c → ValuesPass c f → Q f)
+    → (old new : Command) (words : List (List ℕ)) (r : Result ArgMatches Error) → app_of old ≡ p
     → IfOk r (λ m. BuildsTo old new × ((out-Command new).has_globals ≡ false → IsParsed new (found_of m) (has_subcommand m)) × HasMatchesOf (app_of old) words m)
     → BuildsOrBreaks old new → (is_broken new ≡ true → IsErrAnd r (λ e. kind_of e ≡ OutOfMemory))
-    → IfOk r (λ m. HoldsNumbers (found_of m))
-numbers_found old new words (Err e) is ok after fails = tt
-numbers_found old new words (Ok m) is ok after fails = elim after [
+    → IfOk r (λ m. Q (found_of m))
+values_found p Q plain holds old new words (Err e) is ok after fails = tt
+values_found p Q plain holds old new words (Ok m) is ok after fails = elim after [
   | inl broken ↦ absurd (fails broken)
-  | inr builds ↦ all (elim builds.2 [ inl same ↦ inl (same ∙ is) | inr made ↦ inr (made (ap is_buildable is) ∙ ap built is) ])
+  | inr builds ↦ all (elim builds.2 [ inl same ↦ inl (same ∙ is) | inr made ↦ inr (made (ap is_buildable is ∙ plain.buildable) ∙ ap built is) ])
 ]
   where
-    all : IsOfProgram new → HoldsNumbers (found_of m)
-    all of = holds_numbers new (found_of m) of (ok.1 (plain_fields new (is_plain new of)).globals).values
+    all : IsOf p new → Q (found_of m)
+    all of = holds new (found_of m) of (ok.1 (plain_fields new (is_plain p new plain of)).globals).values
 
--- and the rows that were found
-pub rows_found : (old new : Command) (words : List (List ℕ)) (r : Result ArgMatches Error) → app_of old ≡ program
+-- and so the rows that are found
+pub rows_found : (p : App) → is_simple p ≡ true → (old new : Command) (words : List (List ℕ)) (r : Result ArgMatches Error) → app_of old ≡ p
     → IfOk r (λ m. BuildsTo old new × ((out-Command new).has_globals ≡ false → IsParsed new (found_of m) (has_subcommand m)) × HasMatchesOf (app_of old) words m)
-    → IfOk r (λ m. rows_of (found_of m) ≡ matches_of program words)
-rows_found old new words (Err e) is ok = tt
-rows_found old new words (Ok m) is ok = (ok.2 (ap is_simple is)).0 ∙ ap (λ (a : App). matches_of a words) is
+    → IfOk r (λ m. rows_of (found_of m) ≡ matches_of p words)
+rows_found p simple old new words (Err e) is ok = tt
+rows_found p simple old new words (Ok m) is ok = (ok.2 (ap is_simple is ∙ simple)).0 ∙ ap (λ (a : App). matches_of a words) is
+
+-- ---- those of tpnode
+
+is_number : IsNumberOf program (codes "number") 0 18446744073709551615
+is_number = record {
+  made = record { rule = slice_index_or (program.top.rules) 2 command_rule; sole = refl; parser = refl };
+  built_too = record { rule = slice_index_or ((built program).top.rules) 2 command_rule; sole = refl; parser = refl };
+  named = λ e. cc;
+}
+
+are_nodes : IsNumberOf program (codes "nodes") 2 256
+are_nodes = record {
+  made = record { rule = slice_index_or (program.top.rules) 3 command_rule; sole = refl; parser = refl };
+  built_too = record { rule = slice_index_or ((built program).top.rules) 3 command_rule; sole = refl; parser = refl };
+  named = λ e. cc;
+}
+
+are_rounds : IsNumberOf program (codes "rounds") 1 30
+are_rounds = record {
+  made = record { rule = slice_index_or (program.top.rules) 4 command_rule; sole = refl; parser = refl };
+  built_too = record { rule = slice_index_or ((built program).top.rules) 4 command_rule; sole = refl; parser = refl };
+  named = λ e. cc;
+}
+
+pub program_is_plain : IsPlainLine program
+program_is_plain = record { made = refl; built_too = refl; buildable = refl }
+
+pub holds_numbers : (c : Command) (f : Found) → IsOf program c → ValuesPass c f → HoldsNumbers f
+holds_numbers c f of values = record {
+  number = number_in program c f (codes "number") 0 18446744073709551615 program_is_plain of values is_number;
+  nodes = number_in program c f (codes "nodes") 2 256 program_is_plain of values are_nodes;
+  rounds = number_in program c f (codes "rounds") 1 30 program_is_plain of values are_rounds;
+}
+
+-- ---- those of tpdrive
+
+are_workers : IsNumberOf drive_program (codes "workers") 1 16
+are_workers = record {
+  made = record { rule = slice_index_or (drive_program.top.rules) 1 command_rule; sole = refl; parser = refl };
+  built_too = record { rule = slice_index_or ((built drive_program).top.rules) 1 command_rule; sole = refl; parser = refl };
+  named = λ e. cc;
+}
+
+pub drive_is_plain : IsPlainLine drive_program
+drive_is_plain = record { made = refl; built_too = refl; buildable = refl }
+
+pub holds_workers : (c : Command) (f : Found) → IsOf drive_program c → ValuesPass c f → IsNumberIn 1 16 (one_text f (codes "workers"))
+holds_workers c f of values = number_in drive_program c f (codes "workers") 1 16 drive_is_plain of values are_workers
 
 -- ---- out of memory before a parse
 

@@ -28,17 +28,17 @@ rules = (built program).top.rules
 
 -- ---- one word
 
-abbrev at : Held → Waiting → ℕ → Walk
+abbrev pub at : Held → Waiting → ℕ → Walk
 at h waiting position = record { held = h; waiting = waiting; position = position; is_trailing = false; stopped = None }
 
 -- a word that does not begin with a hyphen is no flag
-plain_met : (c : List Rule) (waiting : Waiting) (position x : ℕ) (xs : List ℕ) (h : Held) → (x == 45) ≡ false
+pub plain_met : (c : List Rule) (waiting : Waiting) (position x : ℕ) (xs : List ℕ) (h : Held) → (x == 45) ≡ false
     → word_met c [] false waiting position (x ∷ xs) h ≡ plain_word c waiting (x ∷ xs) h
 plain_met c idle position x xs h e = rw (not_dashes x xs e, no_long x xs e, no_short x xs e) refl
 plain_met c (option id) position x xs h e = rw (not_dashes x xs e, no_long x xs e, no_short x xs e) refl
 plain_met c positional position x xs h e = rw (not_dashes x xs e, no_long x xs e, no_short x xs e) refl
 
-walked_plain : (c : List Rule) (waiting : Waiting) (position x : ℕ) (xs : List ℕ) (h : Held) → (x == 45) ≡ false
+pub walked_plain : (c : List Rule) (waiting : Waiting) (position x : ℕ) (xs : List ℕ) (h : Held) → (x == 45) ≡ false
     → walked c [] (at h waiting position) (x ∷ xs)
     ≡ after_step c (x ∷ xs) (at h waiting position) (plain_word c waiting (x ∷ xs) h).0 (plain_word c waiting (x ∷ xs) h).1
 unfolding walked
@@ -127,7 +127,7 @@ setting_passes s h rest b e =
 abbrev row_of : Setting → Row
 row_of s = record { id = option_of s; values = value_of s ∷ []; count = None; source = Some CommandLine; reading = AsWritten }
 
-at_row-missing : (id : List ℕ) (change : Row → List Row) (missing rows : List Row) → has_row id rows ≡ false → at_row id change missing rows ≡ rows ++ missing
+pub at_row-missing : (id : List ℕ) (change : Row → List Row) (missing rows : List Row) → has_row id rows ≡ false → at_row id change missing rows ≡ rows ++ missing
 at_row-missing id change missing [] h = refl
 at_row-missing id change missing (r ∷ rs) h = go (bytes_eq r.id id) refl (at_row-missing id change missing rs)
   where
@@ -137,7 +137,7 @@ at_row-missing id change missing (r ∷ rs) h = go (bytes_eq r.id id) refl (at_r
     go false e more = rw e (ap (λ xs. r ∷ xs) (more (rw e at h)))
 
 -- the first row that passes the test, with one row more at the end
-find-push : (p : Row → Bool) (rows : List Row) (r : Row) → p r ≡ false → find p (rows ++ r ∷ []) ≡ find p rows
+pub find-push : (p : Row → Bool) (rows : List Row) (r : Row) → p r ≡ false → find p (rows ++ r ∷ []) ≡ find p rows
 find-push p [] r misses = rw misses refl
 find-push p (x ∷ xs) r misses = go (p x) refl (find-push p xs r misses)
   where
@@ -145,7 +145,7 @@ find-push p (x ∷ xs) r misses = go (p x) refl (find-push p xs r misses)
     go true e more = rw e refl
     go false e more = rw e more
 
-find-none : (p : Row → Bool) (rows : List Row) (r : Row) → list_any p rows ≡ false → p r ≡ true → find p (rows ++ r ∷ []) ≡ Some r
+pub find-none : (p : Row → Bool) (rows : List Row) (r : Row) → list_any p rows ≡ false → p r ≡ true → find p (rows ++ r ∷ []) ≡ Some r
 find-none p [] r none passes = rw passes refl
 find-none p (x ∷ xs) r none passes = go (p x) refl (λ h. find-none p xs r h passes)
   where
@@ -153,7 +153,7 @@ find-none p (x ∷ xs) r none passes = go (p x) refl (λ h. find-none p xs r h p
     go true e more = let n : true ≡ false = rw e at none in cc
     go false e more = rw e (more (rw e at none))
 
-list_any-push : (p : Row → Bool) (rows : List Row) (r : Row) → list_any p rows ≡ false → p r ≡ false → list_any p (rows ++ r ∷ []) ≡ false
+pub list_any-push : (p : Row → Bool) (rows : List Row) (r : Row) → list_any p rows ≡ false → p r ≡ false → list_any p (rows ++ r ∷ []) ≡ false
 list_any-push p [] r none misses = rw misses refl
 list_any-push p (x ∷ xs) r none misses = go (p x) refl (λ h. list_any-push p xs r h misses)
   where
@@ -162,7 +162,7 @@ list_any-push p (x ∷ xs) r none misses = go (p x) refl (λ h. list_any-push p 
     go false e more = rw e (more (rw e at none))
 
 -- values of an option that has no row yet are a row at the end
-with_values-missing : (id : List ℕ) (v : List ℕ) (rows : List Row) → has_row id rows ≡ false
+pub with_values-missing : (id : List ℕ) (v : List ℕ) (rows : List Row) → has_row id rows ≡ false
     → with_values id AsWritten CommandLine (v ∷ []) (without id rows)
     ≡ rows ++ record { id = id; values = v ∷ []; count = None; source = Some CommandLine; reading = AsWritten } ∷ []
 with_values-missing id v rows free =
@@ -292,11 +292,11 @@ record Ends (h : Held) (settings : List Setting) (s : Said) : Type 0 where
   rows : List Row
   holds : Holds held rows (with_settings s settings) []
 
-both : (a b : Bool) → (a && b) ≡ true → (a ≡ true) × (b ≡ true)
+pub both : (a b : Bool) → (a && b) ≡ true → (a ≡ true) × (b ≡ true)
 both true b h = (refl, h)
 both false b h = let n : false ≡ true = h in cc
 
-not_true : (a : Bool) → not a ≡ true → a ≡ false
+pub not_true : (a : Bool) → not a ≡ true → a ≡ false
 not_true true h = let n : false ≡ true = h in cc
 not_true false h = refl
 
@@ -320,7 +320,7 @@ settings_end (o ∷ os) h rows s now ranges apart =
 -- ---- the end
 
 -- rules without defaults leave the rows as they are
-no_default : (rs : List Rule) → list_all (λ a. is_empty a.defaults) rs ≡ true → (rows : List Row)
+pub no_default : (rs : List Rule) → list_all (λ a. is_empty a.defaults) rs ≡ true → (rows : List Row)
     → (fold with_default rows rs ≡ rows) × (defaults_fault rows rs ≡ [])
 unfolding defaults_fault
 no_default [] h rows = (refl, refl)

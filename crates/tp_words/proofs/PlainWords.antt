@@ -45,7 +45,7 @@ command_begins (x ∷ xs) h = go (x == 45) refl
 
 -- ---- values
 
-site_begins : (s : List ℕ) → is_site_name s ≡ true → Begins s
+pub site_begins : (s : List ℕ) → is_site_name s ≡ true → Begins s
 site_begins [] h = let e : false ≡ true = h in cc
 site_begins (x ∷ xs) h = record { first = x; rest = xs; is = refl; plain = grind (arith, nat_tests) }
 

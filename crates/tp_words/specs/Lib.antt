@@ -3,3 +3,5 @@ pub mod CommandLine
 pub mod Asked
 pub mod Given
 pub mod Plain
+pub mod DriveLine
+pub mod DrivePlain

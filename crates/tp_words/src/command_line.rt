@@ -97,7 +97,7 @@ fn found<'a>(matches: &ArgMatches<'a>) -> Given<'a>
 }
 
 // The value of an option of whole numbers, or its default.
-fn number(matches: &ArgMatches, option: &str, default: u64) -> u64
+pub(crate) fn number(matches: &ArgMatches, option: &str, default: u64) -> u64
     requires { IsNumberIn 0 18446744073709551615 (one_text (found_of matches.now) option.now) }
     ensures { result ≡ option_map_or number_of (one_text (found_of matches.now) option.now) default }
 {
@@ -136,7 +136,7 @@ fn command_word<'a>(alloc: Global) -> Arg<'a>
 }
 
 // An option with one value, of any text.
-fn option<'a>(alloc: Global, name: &'a str) -> Arg<'a>
+pub(crate) fn option<'a>(alloc: Global, name: &'a str) -> Arg<'a>
     ensures rule { rule_of result ≡ option_rule name.entry.now }
     ensures local { result.global ≡ false }
 {
@@ -144,7 +144,7 @@ fn option<'a>(alloc: Global, name: &'a str) -> Arg<'a>
 }
 
 // An option whose value is one of these numbers.
-fn number_option<'a>(alloc: Global, name: &'a str, numbers: ValueParser<'a>) -> Arg<'a>
+pub(crate) fn number_option<'a>(alloc: Global, name: &'a str, numbers: ValueParser<'a>) -> Arg<'a>
     ensures rule { rule_of result ≡ record (option_rule name.entry.now) { parser = Some numbers.entry } }
     ensures local { result.global ≡ false }
 {

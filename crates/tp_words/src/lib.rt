@@ -1,17 +1,22 @@
 //! The words of the command line, and what they ask for.
 //!
-//! `read` makes a `Command` of the words after the program's name, by the kit's `clap`, and `USAGE` is
-//! the text that says what can be typed. What a command does is no matter of this crate.
+//! `read` makes a `Command` of the words after the name of `tpnode`, by the kit's `clap`, and `read_drive` a `Drive` of those
+//! after the name of `tpdrive`. `USAGE` and `DRIVE_USAGE` are the texts that say what can be typed. What is done then is no
+//! matter of this crate.
 #![tactic(auto)]
 
 mod command;
 mod command_line;
+mod drive;
+mod drive_line;
 mod fault;
 mod laws;
 mod usage;
 
 pub use command::{Command, Plan};
 pub use command_line::read;
+pub use drive::Drive;
+pub use drive_line::read_drive;
 pub use fault::WordsFault;
 pub use laws::plain_words_are_taken;
-pub use usage::USAGE;
+pub use usage::{DRIVE_USAGE, USAGE};

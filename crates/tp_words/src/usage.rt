@@ -24,3 +24,15 @@ usage: tpnode COMMAND [--name NAME] [--number N] [--nodes K] [--rounds R]
 
 The log is the file tp.log in the current folder, and the store is bound.log.
 ";
+
+/// The same of `tpdrive`.
+pub const DRIVE_USAGE: &str = "\
+usage: tpdrive [--name NAME] [--workers W]
+
+  reads events of the site NAME in frames, has W workers do them, writes its outputs in frames
+
+  --name NAME    1 to 16 of a to z and 0 to 9; a where it is left out
+  --workers W    1 to 16; 1 where it is left out
+
+The log is the file tp.log in the current folder.
+";

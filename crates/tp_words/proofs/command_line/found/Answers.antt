@@ -1,15 +1,10 @@
-use Rattle.std.proofs.Common.{◌≡◌, ◌∙◌, ap, ℕ, List, codes, Some, None, Option, Bor}
-use Rattle.std.specs.Prelude.{option_map, unwrap_or}
+use Rattle.std.proofs.Common.{◌∙◌, ap, codes}
 use Rattle.std.specs.Option.{option_map_or}
 use Rattle.clap.specs.Words.{found_of}
 use Rattle.clap.proofs.WalkLemmas.{first_value-rows, one_text-rows}
 use Rattle.tp_words.specs.CommandLine.{number_of}
+use Rattle.tp_words.proofs.Numbers.{text_or}
 use Rattle.tp_words.proofs.command_line.found.Goals as goal
-
--- the text that an option has, or another
-text_or : (o : Option (Bor (List ℕ))) (t : Option (List ℕ)) (d r : Bor (List ℕ)) → option_map (λ s. s.now) o ≡ t → r ≡ unwrap_or o d → r.now ≡ unwrap_or t d.now
-text_or None t d r e is = ap (λ s. s.now) is ∙ ap (λ v. unwrap_or v d.now) e
-text_or (Some s) t d r e is = ap (λ s. s.now) is ∙ ap (λ v. unwrap_or v d.now) e
 
 pub returns : goal.returns
 returns c =
