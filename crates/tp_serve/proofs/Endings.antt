@@ -5,7 +5,7 @@ use Rattle.std.proofs.lemmas.List.{append-nil}
 use Rattle.tp_outside.specs.Story.{Story}
 use Rattle.tp_records.specs.declared.body.Event.{Event as Given}
 use Rattle.tp_model.specs.NodeRun.{Opening, node_run}
-use Rattle.tp_model.specs.NodeTranscript.{written_of}
+use Rattle.tp_model.specs.NodeTranscript.{written_of, input_of}
 use Rattle.tp_journal.specs.Keeping.{Standing}
 use Rattle.tp_streams.specs.declared.stop.Stop.{Stop}
 use Rattle.tp_streams.specs.Stops.{IsFaultOf, IsEventStop}
@@ -129,7 +129,7 @@ module _ {K : Type 0} (standing : K → Standing) (o : Opening) (begun : Option 
     -- ---- no event comes
 
     module _ (unstopped : place.place.stop ≡ None) (unread : Option (List ℕ)) where
-      told : (bytes : List ℕ) → left ≡ Some bytes → Tells bytes served.events place rest
+      told : (bytes : List ℕ) → left ≡ Some bytes → Tells (input_of bytes) served.events place rest
       told bytes is = tells bytes served.events place left rest is served.read
 
       pub all_served : (new : EventPlace) → EndsEvents place rest new unread → IsFor (answer_event place) (bytes_left place.place rest) (Ok None) → Ends unread output (Ok tt) s
@@ -137,7 +137,7 @@ module _ {K : Type 0} (standing : K → Standing) (o : Opening) (begun : Option 
         events = served.events;
         next = [];
         site = (served.serving, refl);
-        read = λ bytes is. ends_done bytes served.events place rest unstopped (told bytes is) new unread ends for;
+        read = λ bytes is. ends_done (input_of bytes) served.events place rest unstopped (told bytes is) new unread ends for;
         wrote = served.wrote;
       }
 
@@ -147,14 +147,14 @@ module _ {K : Type 0} (standing : K → Standing) (o : Opening) (begun : Option 
         events = served.events;
         next = [];
         site = (served.serving, refl);
-        read = λ bytes is. ends_bad bytes served.events place rest unstopped (told bytes is) n why for;
+        read = λ bytes is. ends_bad (input_of bytes) served.events place rest unstopped (told bytes is) n why for;
         wrote = served.wrote;
       }
       none_served (Stop.Limit what n) count now new for cause cut = record {
         events = served.events;
         next = [];
         site = (served.serving, refl);
-        read = λ bytes is. inl (ends_limit bytes served.events place rest unstopped (told bytes is) what n for);
+        read = λ bytes is. inl (ends_limit (input_of bytes) served.events place rest unstopped (told bytes is) what n for);
         wrote = served.wrote;
       }
       none_served (Stop.Foreign n) count now new for cause cut = absurd cause
@@ -162,7 +162,7 @@ module _ {K : Type 0} (standing : K → Standing) (o : Opening) (begun : Option 
         events = served.events;
         next = [];
         site = (served.serving, refl);
-        read = λ bytes is. ends_short bytes served.events place rest unstopped (told bytes is) new unread (cut n refl);
+        read = λ bytes is. ends_short bytes served.events place rest (told bytes is) new unread (cut n refl);
         wrote = served.wrote;
       }
       none_served (Stop.WriteFault n) count now new for cause cut = absurd cause

@@ -1,5 +1,5 @@
 -- What was read of a source, and what is still to come.
-use Rattle.std.proofs.Common.{◌≡◌, ℕ, suc, ◌+◌, Bool, true, false, length, Option, Some, None, Result, Ok, Err, List, [], ◌∷◌, ◌++◌, refl, sym, ap, ◌∙◌, append_assoc}
+use Rattle.std.proofs.Common.{◌≡◌, ℕ, suc, ◌+◌, Bool, true, false, length, Option, Some, None, Result, Ok, Err, List, [], ◌∷◌, ◌++◌, refl, sym, ap, subst, ◌∙◌, append_assoc}
 use Rattle.std.specs.Prelude.{option_map, nat_lt}
 use Rattle.std.proofs.lemmas.List.{append-nil}
 use Rattle.tp_records.specs.declared.body.Event.{Event as Given}
@@ -15,7 +15,7 @@ use Rattle.tp_streams.specs.Taken.{Place, together, bytes_left, IsFor, IsCutOff}
 use Rattle.tp_streams.proofs.Steps.{limits_by, events_by, events_step}
 use Rattle.tp_streams.specs.Events.{EventPlace, events_from, input_at, events_left, first_event, answer_event, EndsEvents}
 use Rattle.tp_serve.specs.Progress.{with_events, first_place}
-use Rattle.tp_serve.specs.Serving.{GoesOn, IsCutShort, IsInput}
+use Rattle.tp_serve.specs.Serving.{GoesOn, IsCutShort}
 
 -- ---- with at most a million events
 
@@ -40,21 +40,27 @@ with_one gs g (Some i) = ap (λ (j : Input). Some j) (with_both gs g i)
 
 -- ---- what the source tells
 
--- it tells what is left, and the events to come are among these bytes
-pub record Tells (bytes : List ℕ) (gs : List Given) (place : EventPlace) (left : Option (List ℕ)) : Type 0 where
+-- where the reader of a source of so many events at most begins
+abbrev pub begins : ℕ → EventPlace
+begins most = record { place = record { held = []; at = 0; stop = None }; declares = 0; most = most }
+
+-- it tells what is left, and the events to come are among those of the whole input
+pub record Tells (whole : Input) (gs : List Given) (place : EventPlace) (left : Option (List ℕ)) : Type 0 where
   pub rest : List ℕ
   pub is : left ≡ Some rest
-  pub input : input_of bytes ≡ with_events gs (input_at place (stream (place.place.held ++ rest)))
+  pub input : whole ≡ with_events gs (input_at place (stream (place.place.held ++ rest)))
 
-pub tells : (bytes : List ℕ) (gs : List Given) (place : EventPlace) (first left : Option (List ℕ)) → first ≡ Some bytes → events_left first_place first ≡ option_map (with_events gs) (events_left place left) → Tells bytes gs place left
-tells bytes gs place first None is read =
-    absurd (let clash : Some (input_at first_place (stream bytes)) ≡ None = ap (events_left first_place) (sym is) ∙ read in cc)
-tells bytes gs place first (Some rest) is read =
-    let same : Some (input_at first_place (stream bytes)) ≡ Some (with_events gs (input_at place (stream (place.place.held ++ rest)))) = ap (events_left first_place) (sym is) ∙ read in
-    let e : input_at first_place (stream bytes) ≡ with_events gs (input_at place (stream (place.place.held ++ rest))) = cc in
-    record { rest = rest; is = refl; input = sym (from_start bytes) ∙ e }
+pub tells_from : (most : ℕ) (bytes : List ℕ) (gs : List Given) (place : EventPlace) (first left : Option (List ℕ)) → first ≡ Some bytes → events_left (begins most) first ≡ option_map (with_events gs) (events_left place left) → Tells (input_at (begins most) (stream bytes)) gs place left
+tells_from most bytes gs place first None is read =
+    absurd (let clash : Some (input_at (begins most) (stream bytes)) ≡ None = ap (events_left (begins most)) (sym is) ∙ read in cc)
+tells_from most bytes gs place first (Some rest) is read =
+    let same : Some (input_at (begins most) (stream bytes)) ≡ Some (with_events gs (input_at place (stream (place.place.held ++ rest)))) = ap (events_left (begins most)) (sym is) ∙ read in
+    record { rest = rest; is = refl; input = cc }
 
-pub goes_on : (bytes : List ℕ) (gs : List Given) (place : EventPlace) (left : Option (List ℕ)) → Tells bytes gs place left → GoesOn bytes gs
+pub tells : (bytes : List ℕ) (gs : List Given) (place : EventPlace) (first left : Option (List ℕ)) → first ≡ Some bytes → events_left first_place first ≡ option_map (with_events gs) (events_left place left) → Tells (input_of bytes) gs place left
+tells bytes gs place first left is read = subst (λ (i : Input). Tells i gs place left) (from_start bytes) (tells_from 1000000 bytes gs place first left is read)
+
+pub goes_on : (bytes : List ℕ) (gs : List Given) (place : EventPlace) (left : Option (List ℕ)) → Tells (input_of bytes) gs place left → GoesOn bytes gs
 goes_on bytes gs place left t = record { more = (input_at place (stream (place.place.held ++ t.rest))).events; are = ap (λ (i : Input). i.events) t.input }
 
 -- ---- where nothing comes
@@ -125,7 +131,7 @@ ends_clean most at declares (b ∷ bs) rest is = absurd (said (event_in b) (ap f
     said None x = absurd cc
     said (Some g) x = limits (nat_lt most at) (nat_lt 256 (declares + declared_by g)) g (events_from most (suc at) (declares + declared_by g) bs rest) x
 
-module _ (bytes : List ℕ) (gs : List Given) (place : EventPlace) (left : Option (List ℕ)) (unstopped : place.place.stop ≡ None) (t : Tells bytes gs place left) where
+module _ (whole : Input) (gs : List Given) (place : EventPlace) (left : Option (List ℕ)) (unstopped : place.place.stop ≡ None) (t : Tells whole gs place left) where
   all : List ℕ
   all = place.place.held ++ t.rest
 
@@ -136,7 +142,7 @@ module _ (bytes : List ℕ) (gs : List Given) (place : EventPlace) (left : Optio
   left_is = ap (together place.place.held) t.is
 
   ends_so : (ending : Ending) (r : Result (Option Given) Stop) → ended ending ≡ r → r ≡ answer_event place (place.place.held ++ t.rest)
-      → ((x : Given) → Ok (Some x) ≡ r → ⊥) → ((d : Ending) → ended {A = Given} d ≡ r → d ≡ ending) → IsInput bytes gs ending
+      → ((x : Given) → Ok (Some x) ≡ r → ⊥) → ((d : Ending) → ended {A = Given} d ≡ r → d ≡ ending) → whole ≡ record { events = gs; ending = ending }
   ends_so ending r is answer not_one only =
       let i = input_at place (stream (place.place.held ++ t.rest)) in
       let e : IsEnd (record { events = i.events; ending = i.ending }) ending = ends_by i.events i.ending ending r is (sym (answer ∙ answer_is)) not_one only in
@@ -154,24 +160,25 @@ module _ (bytes : List ℕ) (gs : List Given) (place : EventPlace) (left : Optio
       go None is = absurd cc
       go (Some l) is = is
 
-  pub ends_done : (new : EventPlace) (unread : Option (List ℕ)) → EndsEvents place left new unread → IsFor (answer_event place) (bytes_left place.place left) (Ok None) → IsInput bytes gs Done × (unread ≡ Some [])
+  pub ends_done : (new : EventPlace) (unread : Option (List ℕ)) → EndsEvents place left new unread → IsFor (answer_event place) (bytes_left place.place left) (Ok None) → (whole ≡ record { events = gs; ending = Done }) × (unread ≡ Some [])
   ends_done new unread ends for =
       let answer : Ok None ≡ answer_event place (place.place.held ++ t.rest) = for (place.place.held ++ t.rest) left_is in
       (ends_so Done (Ok None) refl answer (λ x e. absurd cc) only_done, all_read new unread ends (empty_so (sym answer)))
 
-  pub ends_bad : (n : ℕ) (w : Why) → IsFor (answer_event place) (bytes_left place.place left) (Err (Stop.BadInput n w)) → IsInput bytes gs (Bad_input n w)
+  pub ends_bad : (n : ℕ) (w : Why) → IsFor (answer_event place) (bytes_left place.place left) (Err (Stop.BadInput n w)) → whole ≡ record { events = gs; ending = Bad_input n w }
   ends_bad n w for = ends_so (Bad_input n w) (Err (Stop.BadInput n w)) refl (for (place.place.held ++ t.rest) left_is) (λ x e. absurd cc) (only_bad n w)
 
-  pub ends_limit : (w : What) (n : ℕ) → IsFor (answer_event place) (bytes_left place.place left) (Err (Stop.Limit w n)) → IsInput bytes gs (At_limit w n)
+  pub ends_limit : (w : What) (n : ℕ) → IsFor (answer_event place) (bytes_left place.place left) (Err (Stop.Limit w n)) → whole ≡ record { events = gs; ending = At_limit w n }
   ends_limit w n for = ends_so (At_limit w n) (Err (Stop.Limit w n)) refl (for (place.place.held ++ t.rest) left_is) (λ x e. absurd cc) (only_limit w n)
 
+module _ (bytes : List ℕ) (gs : List Given) (place : EventPlace) (left : Option (List ℕ)) (t : Tells (input_of bytes) gs place left) where
   pub ends_short : (new : Place) (unread : Option (List ℕ)) → IsCutOff place.place left new unread → IsCutShort bytes gs unread
   ends_short new unread cut = go unread refl
     where
       go : (u : Option (List ℕ)) → unread ≡ u → IsCutShort bytes gs unread
-      go None is = absurd (let clash : None ≡ Some (place.place.held ++ t.rest) = ap (together new.held) (sym is) ∙ cut.bytes ∙ left_is in cc)
+      go None is = absurd (let clash : None ≡ Some (place.place.held ++ t.rest) = ap (together new.held) (sym is) ∙ cut.bytes ∙ ap (together place.place.held) t.is in cc)
       go (Some rest) is =
-          let same : Some (new.held ++ rest) ≡ Some (place.place.held ++ t.rest) = ap (together new.held) (sym is) ∙ cut.bytes ∙ left_is in
+          let same : Some (new.held ++ rest) ≡ Some (place.place.held ++ t.rest) = ap (together new.held) (sym is) ∙ cut.bytes ∙ ap (together place.place.held) t.is in
           let e : place.place.held ++ t.rest ≡ new.held ++ rest = cc in
           record {
             place = place;
