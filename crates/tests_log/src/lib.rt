@@ -1,9 +1,11 @@
 //! Tests of the log's crates, over their public calls: the outside, the log on a disk and its commands, the log
-//! under a lock, and the store that is bound to a log.
+//! under a lock and workers on it, and the store that is bound to a log.
 #![tactic(auto)]
 
 #[cfg(test)]
 mod bound;
+#[cfg(test)]
+mod driven;
 #[cfg(test)]
 mod journal;
 #[cfg(test)]

@@ -1,4 +1,4 @@
-//! Tests of the parts of a node and of a site, over their public calls.
+//! Tests of the parts of a node, over their public calls.
 //!
 //! A test shows what no clause says: that calls succeed with ample memory, and that their answers are those
 //! of worked examples and of an independent machine.
@@ -13,15 +13,9 @@ mod commit;
 #[cfg(test)]
 mod dialogue;
 #[cfg(test)]
-mod event;
-#[cfg(test)]
 mod link;
 #[cfg(test)]
-mod recalled;
-#[cfg(test)]
 mod recover;
-#[cfg(test)]
-mod site;
 #[cfg(test)]
 mod table;
 #[cfg(test)]

@@ -1,4 +1,4 @@
-//! What no clause says: that a drive can succeed, that two workers run at once, and which fault comes of a failing disk.
+//! Workers on one log: that a drive can succeed, that two workers run at once, and which fault comes of a failing disk.
 
 use std::alloc::Global;
 use std::sync::atomic::{AtomicU64, Ordering};

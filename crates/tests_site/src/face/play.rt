@@ -1,33 +1,11 @@
 //! A face of node 1 at site a, and node 2 at site b, step by step.
+use crate::site::{OnMemory, UNITS, at, fresh};
 use std::alloc::Global;
 use tp_journal::Journal;
-use tp_names::{Addr, Octets, Outcome, SiteName};
+use tp_names::{Octets, Outcome};
 use tp_outside::MemDisk;
 use tp_records::{Event, Output, Outputs, Request};
-use tp_site::Site;
 use tx_face::{Face, FaceFault};
-
-pub(crate) type OnMemory = Journal<MemDisk>;
-
-// A log of version 2 with no records.
-fn empty(alloc: Global) -> Option<Octets> {
-    Octets::from_slice(alloc, &[0x4f, 0x54, 0x50, 0x4c, 1, 1, 0, 2, 7, 2, 0]).ok()
-}
-
-// Shared control, commitment, unchained.
-const UNITS: u8 = 41;
-
-fn addr(site: &[u8], node: u16) -> Option<Addr> {
-    let site = SiteName::new(site)?;
-    Some(Addr { site, node })
-}
-
-fn started(alloc: Global, name: &[u8]) -> Option<Site<OnMemory>> {
-    let name = SiteName::new(name)?;
-    let disk = MemDisk::from(alloc, empty(alloc)?);
-    let journal = Journal::start(alloc, disk).ok()?;
-    Site::start(alloc, journal, name).ok()
-}
 
 /// A step of the play. Those with a node's name are node 2's.
 #[derive(Clone, Copy)]
@@ -49,8 +27,8 @@ pub(crate) enum Step {
 /// The two sites, and the event that is the arrival of what was sent last.
 #[derive(Drop)]
 pub(crate) struct Pair {
-    pub(crate) face: Face<OnMemory>,
-    branch: Site<OnMemory>,
+    pub(crate) face: Face<Journal<MemDisk>>,
+    branch: OnMemory,
     sent: Option<Event>,
 }
 
@@ -78,9 +56,9 @@ fn last_sent(alloc: Global, outputs: &[Output]) -> Option<Event> {
 impl Pair {
     /// Both nodes are declared.
     pub(crate) fn new(alloc: Global) -> Option<Pair> {
-        let face = Face::new(alloc, started(alloc, b"a")?, 1).ok()?;
-        let mut branch = started(alloc, b"b")?;
-        let superior = Some(addr(b"a", 1)?);
+        let face = Face::new(alloc, fresh(alloc, b"a")?, 1).ok()?;
+        let mut branch = fresh(alloc, b"b")?;
+        let superior = Some(at(1)?);
         branch
             .event(alloc, &Event::Declare { node: 2, superior })
             .ok()?;
@@ -107,7 +85,7 @@ impl Pair {
             Step::BeginDialogue => Event::Do {
                 node: 1,
                 request: Request::BeginDialogue {
-                    addr: addr(b"b", 2)?,
+                    addr: at(2)?,
                     units: UNITS,
                 },
             },

@@ -1,6 +1,10 @@
-//! What no clause says: that calls succeed, and what a program is told in worked examples.
-use crate::play::{OnMemory, Pair, Step, after};
+//! Demarcation: a root's program in worked examples from the first call to the last, and each call at each stand.
+mod play;
+
+use crate::face::play::{Pair, Step, after};
 use std::alloc::Global;
+use tp_journal::Journal;
+use tp_outside::MemDisk;
 use tp_records::{Event, Outputs, Request};
 use tx_face::{Code, Face, FaceFault, Stand};
 
@@ -84,11 +88,19 @@ enum Call {
     FeedUnchanged,
 }
 
-fn fed(alloc: Global, face: &mut Face<OnMemory>, request: Request) -> Result<Outputs, FaceFault> {
+fn fed(
+    alloc: Global,
+    face: &mut Face<Journal<MemDisk>>,
+    request: Request,
+) -> Result<Outputs, FaceFault> {
     face.feed(alloc, &Event::Do { node: 1, request })
 }
 
-fn make(alloc: Global, face: &mut Face<OnMemory>, call: Call) -> Result<Outputs, FaceFault> {
+fn make(
+    alloc: Global,
+    face: &mut Face<Journal<MemDisk>>,
+    call: Call,
+) -> Result<Outputs, FaceFault> {
     match call {
         Call::Begin => face.begin(alloc, 2),
         Call::Commit => face.commit(alloc),

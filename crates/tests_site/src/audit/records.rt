@@ -1,20 +1,9 @@
 //! Logs as lists of records.
+use crate::values::{at_b, mark, named};
 use std::alloc::Global;
 use tp_audit::{AddFault, Audit, FateState, Verdict};
 use tp_logrec::LogRec;
-use tp_names::{Aaid, Addr, BranchId, Child, Children, Mark, NodeKey, Outcome, SiteName};
-
-fn named(name: &[u8]) -> Option<SiteName> {
-    SiteName::new(name)
-}
-
-fn mark(count: u64) -> Mark {
-    Mark {
-        boot: 1,
-        node: 1,
-        count,
-    }
-}
+use tp_names::{Aaid, Addr, BranchId, Child, Children, NodeKey, Outcome};
 
 // The tree a.1.1.1.
 fn tree() -> Option<Aaid> {
@@ -41,12 +30,8 @@ fn leaf() -> Option<NodeKey> {
 
 // Its root, node 1 of site a, commits with node 2 of site b as its child.
 fn commit(alloc: Global) -> Option<LogRec> {
-    let addr = Addr {
-        site: named(b"b")?,
-        node: 2,
-    };
     let child = Child {
-        addr,
+        addr: at_b(2)?,
         branch: branch()?,
     };
     Some(LogRec::Commit {

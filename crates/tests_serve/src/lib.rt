@@ -1,5 +1,0 @@
-//! Tests of the loop of a site over frames of events.
-#![tactic(auto)]
-
-#[cfg(test)]
-mod serving;
