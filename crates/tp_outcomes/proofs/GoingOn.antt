@@ -1,0 +1,231 @@
+-- In every run, a node stays, and its history goes on.
+use Rattle.std.proofs.Common.{◌≡◌, ◌⊎◌, inl, inr, ℕ, Bool, true, false, cond, refl, ap, sym, subst, ◌∙◌, arith, Option, Some, None, List, [], ◌∷◌, ◌++◌, ◌==◌}
+use Rattle.std.proofs.lemmas.Bool.Decides.{nat_tests}
+use Rattle.tp_names.specs.declared.identifiers.Addr.{Addr}
+use Rattle.tp_names.specs.Same.{is_name}
+use Rattle.tp_logrec.specs.declared.record.LogRec.{LogRec}
+use Rattle.tp_model.specs.declared.line.Action.{Action}
+use Rattle.tp_model.specs.declared.out_line.RecordFate.{RecordFate}
+use Rattle.tp_model.specs.Parts.{Event, Entry}
+use Rattle.tp_model.specs.History.{answer, with_entry, crashed, crash_entry}
+use Rattle.tp_model.specs.Disk.{Remains, remains}
+use Rattle.tp_model.specs.World.{World, Node, Site, number_of, site_of, find_node, put_node, addr_at, find_site, put_site}
+use Rattle.tp_model.specs.Happenings.{Turn, still, after_lines, action_lines, after_stop, crash_turn, restarted, restarted_at, Happening, Task, task_of, entered, logged, entry_turn, event_turn, action_turn, new_node, declared_at, declare_turn, stop_in_force, stop_in_entry, stop_in_task, task_here, crash_in_turn, happens, run}
+use Rattle.tp_model.specs.Promises.{IsIn}
+use Rattle.tp_outcomes.specs.Staying.{GoesOn, NodesStay}
+use Rattle.tp_histories.proofs.worlds.Nodes.{find_is, find_put}
+use Rattle.tp_histories.proofs.worlds.Traversal.{Ready, ready_of, logged_nodes}
+
+-- ---- a node, and lists of nodes
+
+pub goes_still : (x : Node) → GoesOn x x
+goes_still x = record { origin = refl; superior = refl; since = []; history = refl }
+
+joined : (xs ys zs : List Entry) → xs ++ (ys ++ zs) ≡ (xs ++ ys) ++ zs
+joined [] ys zs = refl
+joined (x ∷ xs) ys zs = ap (λ (l : List Entry). x ∷ l) (joined xs ys zs)
+
+pub goes_then : (x y z : Node) → GoesOn x y → GoesOn y z → GoesOn x z
+goes_then x y z a b = record {
+  origin = b.origin ∙ a.origin;
+  superior = b.superior ∙ a.superior;
+  since = b.since ++ a.since;
+  history = b.history ∙ ap (λ (l : List Entry). b.since ++ l) a.history ∙ joined b.since a.since x.history;
+}
+
+goes_with : (x : Node) (es : List Entry) → GoesOn x (record x { history = es ++ x.history })
+goes_with x es = record { origin = refl; superior = refl; since = es; history = refl }
+
+-- each node of the first list is in the second, later
+abbrev pub Onward : List Node → List Node → Type 0
+Onward ns ms = (n : ℕ) (x : Node) → find_node ns n ≡ Some x → (y : Node) × (find_node ms n ≡ Some y) × GoesOn x y
+
+onward_same : (ns ms : List Node) → ms ≡ ns → Onward ns ms
+onward_same ns ms h n x i = (x, ap (λ (l : List Node). find_node l n) h ∙ i, goes_still x)
+
+onward_then : (ns ms ls : List Node) → Onward ns ms → Onward ms ls → Onward ns ls
+onward_then ns ms ls a b n x i =
+    let y = a n x i in
+    let z = b n y.0 y.1 in
+    (z.0, z.1, goes_then x y.0 z.0 y.2 z.2)
+
+found_more : (ns ms : List Node) (n : ℕ) (x : Node) → find_node ns n ≡ Some x → find_node (ns ++ ms) n ≡ Some x
+found_more [] ms n x h = absurd (cc (h))
+found_more (y ∷ ns) ms n x h = go (number_of y == n) refl (found_more ns ms n x)
+  where
+    eq : (l : List Node) (b : Bool) → (number_of y == n) ≡ b → find_node (y ∷ l) n ≡ elim b as (λ _. Option Node) [ true ↦ Some y | false ↦ find_node l n ]
+    eq l b i = ap (λ (v : Bool). elim v as (λ _. Option Node) [ true ↦ Some y | false ↦ find_node l n ]) i
+
+    go : (b : Bool) → (number_of y == n) ≡ b → (find_node ns n ≡ Some x → find_node (ns ++ ms) n ≡ Some x) → find_node (y ∷ (ns ++ ms)) n ≡ Some x
+    go true i rest = eq (ns ++ ms) true i ∙ sym (eq ns true i) ∙ h
+    go false i rest = eq (ns ++ ms) false i ∙ rest (sym (eq ns false i) ∙ h)
+
+onward_more : (ns ms : List Node) → Onward ns (ns ++ ms)
+onward_more ns ms n x i = (x, found_more ns ms n x i, goes_still x)
+
+-- a node's history gains entries
+onward_put : (ns : List Node) (u : Node) (es : List Entry) → find_node ns (number_of u) ≡ Some u → Onward ns (put_node ns (record u { history = es ++ u.history }))
+onward_put ns u es here n x i = go (number_of u == n) refl
+  where
+    v : Node
+    v = record u { history = es ++ u.history }
+
+    at : find_node (put_node ns v) n ≡ cond (number_of u == n) (Some v) (find_node ns n)
+    at = find_put ns v u n here
+
+    go : (b : Bool) → (number_of u == n) ≡ b → (y : Node) × (find_node (put_node ns v) n ≡ Some y) × GoesOn x y
+    go false j = (x, at ∙ ap (λ (b : Bool). cond b (Some v) (find_node ns n)) j ∙ i, goes_still x)
+    go true j =
+        let num : number_of u ≡ n = grind (arith, nat_tests, j) in
+        let same : u ≡ x = some_node u x (sym here ∙ ap (find_node ns) num ∙ i) in
+        (v, at ∙ ap (λ (b : Bool). cond b (Some v) (find_node ns n)) j, subst (λ (z : Node). GoesOn z v) same (goes_with u es))
+      where
+        some_node : (a b : Node) → Some a ≡ Some b → a ≡ b
+        some_node a b k = cc (k)
+
+-- ---- a stop
+
+restarted_goes : (x : Node) → GoesOn x (restarted x)
+restarted_goes x = go (answer x.origin (crashed x.history) (Event.Declare x.superior)).entry
+  where
+    go : (o : Option Entry) → GoesOn x (record x { history = with_entry o (crashed x.history) })
+    go None = goes_with x (crash_entry ∷ [])
+    go (Some e) = goes_with x (e ∷ crash_entry ∷ [])
+
+onward_restart : (name : List ℕ) (ns : List Node) → Onward ns (restarted_at name ns)
+onward_restart name [] n x i = absurd (cc (i))
+onward_restart name (u ∷ ns) n x i = go (is_name (site_of u) name) refl (number_of u == n) refl (onward_restart name ns n x)
+  where
+    list : Bool → List Node
+    list b = elim b as (λ _. List Node) [ true ↦ restarted u ∷ restarted_at name ns | false ↦ u ∷ restarted_at name ns ]
+
+    some_node : (a b : Node) → Some a ≡ Some b → a ≡ b
+    some_node a b k = cc (k)
+
+    eq : (v : Node) (l : List Node) (b : Bool) → (number_of v == n) ≡ b → find_node (v ∷ l) n ≡ elim b as (λ _. Option Node) [ true ↦ Some v | false ↦ find_node l n ]
+    eq v l b j = ap (λ (w : Bool). elim w as (λ _. Option Node) [ true ↦ Some v | false ↦ find_node l n ]) j
+
+    go : (b : Bool) → is_name (site_of u) name ≡ b → (c : Bool) → (number_of u == n) ≡ c → (find_node ns n ≡ Some x → (y : Node) × (find_node (restarted_at name ns) n ≡ Some y) × GoesOn x y)
+        → (y : Node) × (find_node (restarted_at name (u ∷ ns)) n ≡ Some y) × GoesOn x y
+    go true j true k rest =
+        let same : u ≡ x = some_node u x (sym (eq u ns true k) ∙ i) in
+        (restarted u, ap (λ (b : Bool). find_node (list b) n) j ∙ eq (restarted u) (restarted_at name ns) true k, subst (λ (z : Node). GoesOn z (restarted u)) same (restarted_goes u))
+    go false j true k rest =
+        let same : u ≡ x = some_node u x (sym (eq u ns true k) ∙ i) in
+        (u, ap (λ (b : Bool). find_node (list b) n) j ∙ eq u (restarted_at name ns) true k, subst (λ (z : Node). GoesOn z u) same (goes_still u))
+    go true j false k rest =
+        let r = rest (sym (eq u ns false k) ∙ i) in
+        (r.0, ap (λ (b : Bool). find_node (list b) n) j ∙ eq (restarted u) (restarted_at name ns) false k ∙ r.1, r.2)
+    go false j false k rest =
+        let r = rest (sym (eq u ns false k) ∙ i) in
+        (r.0, ap (λ (b : Bool). find_node (list b) n) j ∙ eq u (restarted_at name ns) false k ∙ r.1, r.2)
+
+onward_crash : (w : World) (name : List ℕ) → Onward w.nodes (crash_turn w name).world.nodes
+onward_crash w name = go (find_site w.sites name) refl
+  where
+    go : (o : Option Site) → find_site w.sites name ≡ o → Onward w.nodes (crash_turn w name).world.nodes
+    go None i = rw (i, crash_turn) (onward_same w.nodes w.nodes refl)
+    go (Some x) i = rw (i, crash_turn) (onward_restart name w.nodes)
+
+-- ---- an event
+
+onward_entered : (w : World) (t : Task) (e : Entry) → Ready w t → Onward w.nodes (entered w t.node e).nodes
+onward_entered w t e r = onward_put w.nodes t.node (e ∷ []) r.here
+
+onward_entry : (w : World) (t : Task) (number : Option ℕ) (o : Option Entry) → Ready w t → Onward w.nodes (entry_turn w t.node number o).world.nodes
+onward_entry w t number None r = onward_same w.nodes w.nodes refl
+onward_entry w t number (Some e) r = subst (λ (l : List Node). Onward w.nodes l) (sym (logged_nodes (entered w t.node e) t.node e.rec)) (onward_entered w t e r)
+
+onward_action : (w : World) (d : Action) → Onward w.nodes (action_turn w d).world.nodes
+onward_action w d = go (task_of w d) refl
+  where
+    go : (o : Option Task) → task_of w d ≡ o → Onward w.nodes (action_turn w d).world.nodes
+    go None i = rw (i, action_turn) (onward_same w.nodes w.nodes refl)
+    go (Some t) i =
+        let a = answer t.node.origin t.node.history t.event in
+        rw (i, action_turn) (onward_entry w t a.number a.entry (ready_of w d t i))
+
+onward_force : (w : World) (t : Task) (x : Site) (e : Entry) (st : Remains) → Ready w t → Onward w.nodes (stop_in_force w t.node x e st).world.nodes
+onward_force w t x e st r = go st.fate
+  where
+    v : World
+    v = record w { sites = put_site w.sites (record x { disk = st.disk }) }
+
+    go : (f : RecordFate) → Onward w.nodes (crash_turn (elim f [ RecordFate.Kept ↦ entered v t.node e | RecordFate.Lost ↦ v | RecordFate.None ↦ v ]) x.name).world.nodes
+    go RecordFate.Kept = onward_then w.nodes (entered v t.node e).nodes _ (onward_put w.nodes t.node (e ∷ []) r.here) (onward_crash (entered v t.node e) x.name)
+    go RecordFate.Lost = onward_crash v x.name
+    go RecordFate.None = onward_crash v x.name
+
+onward_stop : (w : World) (t : Task) (x : Site) (call fill : ℕ) (o : Option Entry) → Ready w t → Onward w.nodes (stop_in_entry w t.node x call fill o).world.nodes
+onward_stop w t x call fill None r = onward_crash w x.name
+onward_stop w t x call fill (Some e) r = go e.rec
+  where
+    go : (q : Option LogRec)
+        → Onward w.nodes (elim q as (λ _. Turn) [
+          | None ↦ after_stop (entered w t.node e) x.name RecordFate.None
+          | Some l ↦ stop_in_force w t.node x e (remains call fill l x.disk)
+        ]).world.nodes
+    go None = onward_then w.nodes (entered w t.node e).nodes _ (onward_entered w t e r) (onward_crash (entered w t.node e) x.name)
+    go (Some l) = onward_force w t x e (remains call fill l x.disk) r
+
+onward_crash_in : (w : World) (name : List ℕ) (call fill : ℕ) (d : Action) → Onward w.nodes (crash_in_turn w name call fill d).world.nodes
+onward_crash_in w name call fill d = go (find_site w.sites name) refl
+  where
+    one_task : (x : Site) (t u : Task) → task_here x (Some t) ≡ Some u → t ≡ u
+    one_task x t u j = grind (arith, j)
+
+    here : (x : Site) (o : Option Task) → task_of w d ≡ o → (b : Option Task) → task_here x o ≡ b
+        → Onward w.nodes (elim b as (λ _. Turn) [ None ↦ still w | Some t ↦ after_lines (action_lines d) (stop_in_task w x call fill t) ]).world.nodes
+    here x o i None j = onward_same w.nodes w.nodes refl
+    here x None i (Some u) j = absurd cc
+    here x (Some t) i (Some u) j =
+        let same : t ≡ u = one_task x t u j in
+        onward_stop w u x call fill (answer u.node.origin u.node.history u.event).entry (subst (λ (v : Task). Ready w v) same (ready_of w d t i))
+
+    go : (o : Option Site) → find_site w.sites name ≡ o → Onward w.nodes (crash_in_turn w name call fill d).world.nodes
+    go None i = rw (i, crash_in_turn) (onward_same w.nodes w.nodes refl)
+    go (Some x) i = rw (i, crash_in_turn) (here x (task_of w d) refl (task_here x (task_of w d)) refl)
+
+-- ---- a declaration
+
+onward_declared : (w : World) (n : ℕ) (name : List ℕ) (up : Option Addr) → Onward w.nodes (declared_at w n name up).world.nodes
+onward_declared w n name up = go (find_site w.sites name) refl
+  where
+    go : (o : Option Site) → find_site w.sites name ≡ o → Onward w.nodes (declared_at w n name up).world.nodes
+    go None i = rw (i, declared_at) (onward_more w.nodes (new_node name n 1 up ∷ []))
+    go (Some x) i = rw (i, declared_at) (onward_more w.nodes (new_node name n x.boot up ∷ []))
+
+onward_declare : (w : World) (n : ℕ) (name : List ℕ) (under : Option ℕ) → Onward w.nodes (declare_turn w n name under).world.nodes
+onward_declare w n name under = go (find_node w.nodes n) refl
+  where
+    above : (o : Option Addr) → Onward w.nodes (elim o as (λ _. Turn) [ None ↦ still w | Some a ↦ declared_at w n name (Some a) ]).world.nodes
+    above None = onward_same w.nodes w.nodes refl
+    above (Some a) = onward_declared w n name (Some a)
+
+    below : (u : Option ℕ) → Onward w.nodes (elim u as (λ _. Turn) [ None ↦ declared_at w n name None | Some p ↦ elim (addr_at w p) as (λ _. Turn) [ None ↦ still w | Some a ↦ declared_at w n name (Some a) ] ]).world.nodes
+    below None = onward_declared w n name None
+    below (Some p) = above (addr_at w p)
+
+    go : (o : Option Node) → find_node w.nodes n ≡ o → Onward w.nodes (declare_turn w n name under).world.nodes
+    go None i = rw (i, declare_turn) (below under)
+    go (Some x) i = rw (i, declare_turn) (onward_same w.nodes w.nodes refl)
+
+-- ---- every run
+
+onward_happens : (w : World) (e : Happening) → Onward w.nodes (happens w e).world.nodes
+onward_happens w (Happening.Declare n name under) = onward_declare w n name under
+onward_happens w (Happening.Does d) = onward_action w d
+onward_happens w (Happening.Mark i) = onward_same w.nodes w.nodes refl
+onward_happens w (Happening.Crash name) = onward_crash w name
+onward_happens w (Happening.Crash_in name call fill d) = onward_crash_in w name call fill d
+onward_happens w (Happening.Drive n k) = onward_same w.nodes w.nodes refl
+onward_happens w (Happening.Drop k) = onward_same w.nodes w.nodes refl
+
+pub onward_run : (more es : List Happening) → Onward (run es).nodes (run (more ++ es)).nodes
+onward_run [] es = onward_same (run es).nodes (run es).nodes refl
+onward_run (e ∷ more) es = onward_then (run es).nodes (run (more ++ es)).nodes (run (e ∷ (more ++ es))).nodes (onward_run more es) (onward_happens (run (more ++ es)) e)
+
+pub nodes_stay : (more es : List Happening) → NodesStay more es
+nodes_stay more es x here =
+    let y = onward_run more es (number_of x) x here in
+    (y.0, ap (find_node (run (more ++ es)).nodes) (find_is (run (more ++ es)).nodes (number_of x) y.0 y.1) ∙ y.1, y.2)

@@ -1,0 +1,5 @@
+pub mod Shown
+pub mod GoingOn
+pub mod Staying
+pub mod Starting
+pub mod TreesListed

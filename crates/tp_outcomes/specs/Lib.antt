@@ -1,0 +1,4 @@
+pub mod Shown
+pub mod Staying
+pub mod Starting
+pub mod Agreement
