@@ -1,0 +1,816 @@
+"""Money is moved between stores by transactions over real processes that are killed.
+
+trials/run cluster [--program CMD] [--short] [--transfers N] [--sites N] [--seed N] [--wrong | --right] [--compact] ..
+
+Each site is a process `node` with a folder and a `tp.log` of its own. The sites speak through relays in this script, which
+delay, repeat, reorder and drop what they carry, and lose associations, by a seed. Several trees stand over the sites, each
+with a root, nodes between, stores at its leaves, and a witness that leaves each transaction. The users are scripts. About
+every tenth transfer a site is killed by SIGKILL, at any moment, its stores forget what they held in memory, and it is started
+again on its files. A run ends when no node has anything to do. Then the logs and the stores are judged.
+
+Then the same with one wrong site: each kill of it takes the last record off its log, as though it had answered before it forced.
+Such a run must end with faults, or the trial shows nothing (--wrong does this alone, --right leaves it out). With --compact a log is compacted before every third start, at times by a process that is killed too.
+"""
+import argparse
+import heapq
+import os
+import random
+import selectors
+import shutil
+import signal
+import subprocess
+import sys
+import tempfile
+import time
+
+import bank
+import tools
+import wire
+
+UNITS = [0x29, 0x29, 0x2A, 0x2D, 0x2E]  # commit and unchained: shared or polarized, with handshakes or without
+START = 1000  # what each account has at first
+NONE = b"\x00"
+RETRY = 0.15  # seconds from one retry to the next
+
+
+class Node:
+    def __init__(self, number, site, superior, tree, kind):
+        self.number, self.site, self.superior, self.tree, self.kind = number, site, superior, tree, kind
+        self.children = []
+        self.address = wire.address(site.name, number)
+        self.store = None
+        self.forget()
+        site.nodes.append(self)
+        if superior is not None:
+            superior.children.append(self)
+
+    def closes(self, delay=0.0):
+        """The dialogue with the superior is over, or was not opened: the next comes after this delay."""
+        self.live, self.opened, self.not_before = False, None, time.monotonic() + delay
+
+    def forget(self):
+        """What the node's user knows right after its site has stopped."""
+        self.live = False  # at the superior's end: the dialogue with this node is live
+        self.opened = None  # when the superior asked for it, where it has
+        self.not_before = 0.0  # when the superior asks for it again at the earliest
+        self.transfer = None  # the transfer that is current at this node, where its user knows
+        self.busy = False
+        self.retrying, self.patience = False, 0
+        self.started = False  # a start has not shown yet whether the node is idle
+
+
+class Transfer:
+    def __init__(self, number, source, target, amount, witness):
+        self.number, self.source, self.target, self.amount = number, source, target, amount
+        self.leaves = [source, target]
+        self.path = set()
+        for leaf in self.leaves + ([witness] if witness else []):
+            at = leaf
+            while at is not None:
+                self.path.add(at)
+                at = at.superior
+        self.key = b"t%d" % number
+        self.identifier = None  # the identifier, once it is drawn
+        self.begun = set()  # the stores that take part
+        self.awaited = len({node for node in self.path if node.superior is source.tree.root})
+        self.asked = self.spoilt = False
+        self.since = time.monotonic()
+
+
+class Tree:
+    """A root with its nodes, and the transfers that its user makes one after the other."""
+
+    def __init__(self, index, cluster):
+        self.index, self.cluster, self.current = index, cluster, None
+        sites, draw = cluster.sites, cluster.draw
+        take = lambda k: sites[(index + k) % len(sites)]
+        number = lambda: cluster.new_number()
+        self.root = Node(number(), take(0), None, self, "root")
+        between = [Node(number(), take(1), self.root, self, "between")]
+        if draw.random() < 0.5:
+            between.append(Node(number(), take(2), draw.choice([self.root, between[0]]), self, "between"))
+        self.leaves = []
+        for k in range(draw.randint(2, 4)):
+            above = self.root if k == 0 and draw.random() < 0.5 else draw.choice(between)
+            leaf = Node(number(), take(2 + k), above, self, "leaf")
+            os.makedirs(os.path.join(leaf.site.folder, "store-%d" % leaf.number))
+            leaf.store = bank.Store(os.path.join(leaf.site.folder, "store-%d" % leaf.number, "bound.log"))
+            self.leaves.append(leaf)
+        self.witness = Node(number(), take(1), draw.choice(between), self, "witness")
+        self.nodes = [self.root] + between + self.leaves + [self.witness]
+
+
+class Site:
+    def __init__(self, name, cluster, folder):
+        self.name, self.cluster, self.folder = name, cluster, folder
+        self.ready = False  # it has answered since its start
+        self.nodes, self.process, self.up, self.starts, self.refused = [], None, False, 0, None
+        os.makedirs(folder)
+        with open(os.path.join(folder, "tp.log"), "wb") as log:
+            log.write(wire.FRESH)
+
+    def start(self):
+        self.errors = open(os.path.join(self.folder, "errors"), "ab")
+        self.process = subprocess.Popen(
+            self.cluster.program + ["node", "--name", self.name], cwd=self.folder, bufsize=0,
+            stdin=subprocess.PIPE, stdout=subprocess.PIPE, stderr=self.errors)
+        os.set_blocking(self.process.stdin.fileno(), False)
+        os.set_blocking(self.process.stdout.fileno(), False)
+        self.cluster.selector.register(self.process.stdout, selectors.EVENT_READ, self)
+        self.ready = False
+        self.up, self.waiting, self.outgoing, self.incoming, self.refused = True, [], bytearray(), bytearray(), None
+        self.starts += 1
+        if self.cluster.record:
+            path = os.path.join(self.cluster.record, "%s-%s-%d" % (os.path.basename(self.cluster.folder), self.name, self.starts))
+            shutil.copyfile(os.path.join(self.folder, "tp.log"), path + ".log")
+            self.given = open(path + ".frames", "wb")
+        for node in self.nodes:
+            self.give(wire.declare(node.number, node.superior.address if node.superior else None))
+        for node in self.nodes:
+            node.busy = node.started = node.retrying = True
+            self.give(wire.retry(node.number), node, ("retry", None))
+
+    def give(self, body, node=None, what=None):
+        if self.up:
+            self.cluster.counts["events"] += 1
+            self.waiting.append((node, what))
+            self.outgoing += wire.frame(body)
+            self.write()
+
+    def write(self):
+        if not self.outgoing:
+            return
+        try:
+            size = os.write(self.process.stdin.fileno(), self.outgoing)
+        except BlockingIOError:
+            return
+        except BrokenPipeError:
+            self.cluster.unexpected(self)
+            return
+        if self.cluster.record:
+            self.given.write(self.outgoing[:size])
+        del self.outgoing[:size]
+
+    def read(self):
+        """Takes what the process wrote; False where it wrote its last."""
+        while True:
+            try:
+                piece = os.read(self.process.stdout.fileno(), 1 << 16)
+            except BlockingIOError:
+                return True
+            if not piece:
+                return False
+            self.incoming += piece
+            bodies, size = wire.frames_in(self.incoming)
+            del self.incoming[:size]
+            for body in bodies:
+                self.take(body)
+
+    def take(self, body):
+        cluster, code = self.cluster, body[0]
+        if not self.ready:
+            cluster.note_down(self.name, "answers")
+        self.ready = True
+        if not self.waiting:
+            cluster.fault("a frame that no event asked for: %s" % body.hex())
+            return
+        node, what = self.waiting[0]
+        if code == 0x13 and len(body) == 1:
+            self.waiting.pop(0)
+            if self.refused:
+                cluster.note_down(self.name, "refused", self.refused, what and what[0], node and node.number)
+            if what is not None:
+                cluster.over(node, what, self.refused)
+            self.refused = None
+        elif code == 0x12:
+            self.refused = body[1]
+            cluster.counts["refused"] += 1
+        elif code == 0x11:
+            sender, _, at = wire.read_address(body, 1)
+            target, number, at = wire.read_address(body, at)
+            cluster.send(sender, target, number, body[at + 2 :], node, what)
+        elif code == 0x10:
+            cluster.told(cluster.nodes[body[1] << 8 | body[2]], body[3], body[4:])
+        else:
+            cluster.fault("an output of an unknown kind: %s" % body.hex())
+
+    def kill(self):
+        cluster, draw = self.cluster, self.cluster.draw
+        cluster.note_down(self.name, "killed")
+        self.process.send_signal(signal.SIGKILL)
+        self.up = False
+        cluster.selector.unregister(self.process.stdout)
+        self.process.wait()
+        # What had been written is on its way: at times it is lost with the machine.
+        if draw.random() < 0.8:
+            self.read()
+        self.ready = False
+        self.close()
+        cluster.counts["kills"] += 1
+        if cluster.wrong and self is cluster.sites[0]:
+            self.cut_back()
+        self.scramble()
+        for node in self.nodes:
+            if node.store is not None:
+                node.store.crash()
+            if node.superior is not None:
+                cluster.later(draw.uniform(0, 0.02), "lose", node.superior, node)
+            for child in node.children:
+                child.closes()
+                cluster.later(draw.uniform(0, 0.02), "lose", child, node)
+            node.busy = node.retrying = node.started = False
+
+    def close(self):
+        if self.cluster.record:
+            self.given.close()
+        self.process.stdin.close()
+        self.process.stdout.close()
+        self.errors.close()
+
+    def log(self):
+        with open(os.path.join(self.folder, "tp.log"), "rb") as file:
+            return file.read()
+
+    def cut_back(self):
+        log = self.log()
+        if log[4] == 2:
+            return
+        places, _ = wire.gates_of(log)
+        if places and wire.body_at(log, places[-1])[0] != 1:
+            with open(os.path.join(self.folder, "tp.log"), "r+b") as file:
+                file.seek(places[-1])
+                file.write(NONE)
+            self.cluster.counts["cut"] += 1
+
+    def scramble(self):
+        """What stands after the closing gate is no part of the log: it may be anything."""
+        log, draw = self.log(), self.cluster.draw
+        if log[4] == 2 or draw.random() < 0.5:
+            return
+        _, gate = wire.gates_of(log)
+        rest = draw.choice([bytes(80), b"\x01" * 80, b"\xff" * 80, draw.randbytes(80)])
+        with open(os.path.join(self.folder, "tp.log"), "r+b") as file:
+            file.seek(gate + 1)
+            file.write(rest[: max(len(log) - gate - 1, draw.choice([0, 80]))])
+
+    def compact(self):
+        """The log is made short while the site is down; at times that process is killed, too."""
+        words = self.cluster.program + [self.cluster.draw.choice(["compact", "migrate"])]
+        process = subprocess.Popen(words, cwd=self.folder, stderr=subprocess.PIPE)
+        if self.cluster.draw.random() < 0.5:
+            time.sleep(self.cluster.draw.uniform(0, 0.01))
+            process.kill()
+            self.cluster.counts["compactions killed"] += process.wait() != 0
+        said = process.communicate()[1]
+        if process.returncode not in (0, -9):
+            self.cluster.fault("%s: status %d, %s" % (words[-1], process.returncode, said))
+        self.cluster.counts["compactions"] += process.returncode == 0
+
+
+class Cluster:
+    def __init__(self, options, sites, transfers, seed, folder, wrong):
+        self.program, self.wrong, self.compacting, self.record = options.program, wrong, options.compact, options.record
+        self.draw = random.Random(seed)
+        self.folder, self.goal, self.kill_rate, self.slow = folder, transfers, options.kill_rate, options.slow
+        self.patience = round(4 * self.slow / RETRY)
+        self.selector, self.heap, self.order = selectors.DefaultSelector(), [], 0
+        self.counts = dict.fromkeys(
+            ["begun", "complete", "rolled back", "unheard", "kills", "events", "refused", "carried", "dropped", "repeated",
+             "overtaken", "lost associations", "left", "cut", "compactions", "compactions killed"], 0)
+        self.faults, self.nodes, self.addresses = [], {}, {}
+        self.arrived_last, self.past = {}, []
+        self.quiet = False
+        self.transfers, self.by_identifier, self.complete = [], {}, []
+        self.asked = {}  # what each store was asked: node and tree to words
+        self.sites = [Site("s%d" % k, self, os.path.join(folder, "s%d" % k)) for k in range(sites)]
+        self.trees = [Tree(k, self) for k in range(options.trees * sites)]
+        for site in self.sites:
+            for node in site.nodes:
+                node.patience = self.patience
+                self.nodes[node.number] = node
+                self.addresses[node.address] = node
+
+    def new_number(self):
+        self.order += 1
+        return self.order
+
+    def fault(self, text):
+        self.faults.append(text)
+
+    def note_down(self, *words):
+        if self.trace:
+            print("%.4f" % time.monotonic(), *words, file=self.trace)
+
+    def later(self, delay, *what):
+        self.order += 1
+        heapq.heappush(self.heap, (time.monotonic() + delay, self.order, what))
+
+    # The relays.
+
+    def send(self, sender, target, number, record, node, what):
+        draw, kind = self.draw, record[0]
+        if kind == 4 and what is not None and what[0] == "begin":
+            self.learn(record, what[1])
+        here, there = self.addresses[sender], self.addresses[target]
+        body = wire.arrive(sender, target, record)
+        self.counts["carried"] += 1
+        now, pair = time.monotonic(), (sender, target)
+        delay = draw.uniform(0, 0.002) if draw.random() < 0.97 else draw.uniform(0, 0.03)
+        on_association = kind <= 4
+        if not self.quiet:
+            x = draw.random()
+            if x < 0.004:
+                self.counts["dropped"] += 1
+                if on_association:
+                    self.lose_both(here, there)
+                return
+            if x < 0.014:
+                self.counts["repeated"] += 1
+                self.later(draw.uniform(0, 0.05), "arrive", there, body)
+            elif x < 0.017:
+                # It comes late, and others of its pair overtake it.
+                self.counts["overtaken"] += 1
+                self.later(delay + 0.005, "arrive", there, body)
+                if on_association:
+                    self.lose_both(here, there)
+                return
+            elif x < 0.018:
+                self.lose_both(here, there)
+            if draw.random() < 0.003 and self.past:
+                # One that was carried long ago comes again.
+                self.later(delay, "arrive", *draw.choice(self.past))
+            if len(self.past) < 4000:
+                self.past.append((there, body))
+            else:
+                self.past[draw.randrange(4000)] = (there, body)
+        at = now + delay
+        if on_association:
+            at = max(at, self.arrived_last.get(pair, 0))
+            self.arrived_last[pair] = at
+        self.order += 1
+        heapq.heappush(self.heap, (at, self.order, ("arrive", there, body)))
+
+    def learn(self, record, transfer):
+        """The identifier of a transfer's tree, from the first Begin that its root sends (it stands after two marks and a number)."""
+        if record[45] == 0x0C and transfer.identifier is None:
+            transfer.identifier = bytes(record[46 : wire.end_of_identifier(record, 46)])
+            self.by_identifier[transfer.identifier] = transfer
+
+    def lose_both(self, one, other):
+        self.counts["lost associations"] += 1
+        self.later(self.draw.uniform(0, 0.02), "lose", one, other)
+        self.later(self.draw.uniform(0, 0.02), "lose", other, one)
+
+    # The users.
+
+    def ask(self, node, request, rest=b"", what=None):
+        self.note_down(node.kind, node.number, "asks", "%02x" % request, rest.hex())
+        node.site.give(wire.do(node.number, request, rest), node, what)
+
+    def over(self, node, what, refused):
+        """An event that somebody waits for is over."""
+        word, subject = what
+        if word == "retry":
+            self.over_retry(node, refused)
+        elif word == "open" and refused is not None:
+            # The superior has a transaction still, or it waits for an answer that does not come.
+            if self.draw.random() < 0.2:
+                self.lose_both(node, subject)
+            subject.closes(self.draw.uniform(0.02, 0.1))
+        elif word == "accept" and refused == 7:
+            self.ask(node, wire.REJECT)
+        elif word == "leave" and refused is None:
+            node.busy = False
+            self.counts["left"] += 1
+        elif word == "begin":
+            self.over_begin(node, subject, refused)
+
+    def over_retry(self, node, refused):
+        node.retrying = False
+        if refused is None:
+            node.started = False
+        elif refused == 12 and node.started:
+            # After a start there is nothing that the node has to say: it has no transaction.
+            node.busy = node.started = False
+            node.transfer = None
+            if node.kind == "root" and node.tree.current is not None:
+                # It rolled back with the stop, or its completion went unheard.
+                self.counts["unheard"] += 1
+                node.tree.current = None
+
+    def over_begin(self, node, transfer, refused):
+        if refused is None:
+            node.busy, node.started = True, False
+        else:
+            transfer.spoilt = True
+        if node.kind == "root":
+            transfer.awaited -= 1
+            if transfer.awaited == 0 and transfer.spoilt and node.tree.current is transfer:
+                if node.busy:
+                    self.ask(node, wire.ROLLBACK)
+                else:
+                    node.tree.current = node.transfer = None
+        elif refused is not None and node.transfer is transfer:
+            self.ask(node, wire.ROLLBACK)
+
+    def told(self, node, code, rest):
+        word = wire.TOLD[code]
+        self.note_down(node.kind, node.number, word, rest.hex())
+        getattr(self, "told_" + word.replace("-", "_"), self.told_nothing)(node, rest)
+
+    def told_nothing(self, node, rest):
+        pass
+
+    def told_begin_dialogue(self, node, rest):
+        self.ask(node, wire.ACCEPT, rest[2:], ("accept", None))
+
+    def told_begun_dialogue(self, node, rest):
+        child = self.nodes[rest[0] << 8 | rest[1]]
+        child.live, child.opened = True, None
+
+    def told_rejected(self, node, rest):
+        self.nodes[rest[0] << 8 | rest[1]].closes(self.draw.uniform(0.02, 0.1))
+
+    def told_p_abort(self, node, rest):
+        peer = self.nodes[rest[0] << 8 | rest[1]]
+        if peer.superior is node:
+            peer.closes(self.draw.uniform(0, 0.05))
+
+    told_end_dialogue = told_u_abort = told_p_abort
+
+    def told_begin_transaction(self, node, rest):
+        tree = bytes(rest[2:])
+        transfer = self.by_identifier.get(tree)
+        if transfer is None:
+            return self.fault("node %d was told of a tree that no root began" % node.number)
+        node.transfer, node.busy, node.started = transfer, True, False
+        if node.kind == "leaf":
+            self.note(node, tree, "begin")
+            node.store.begin(tree)
+            transfer.begun.add(node)
+            self.move(transfer)
+        elif node.kind == "between":
+            self.begin_on(node, transfer)
+
+    def begin_on(self, node, transfer):
+        for child in node.children:
+            if child in transfer.path:
+                self.ask(node, wire.BEGIN_TRANSACTION, wire.short(child.number), ("begin", transfer))
+
+    def move(self, transfer):
+        """Once both stores take part, the root's user says what each account is to have, and asks for commitment."""
+        root = transfer.source.tree.root
+        if transfer.asked or not transfer.begun >= set(transfer.leaves) or root.tree.current is not transfer:
+            return
+        transfer.asked = True
+        for leaf, change in ((transfer.source, -transfer.amount), (transfer.target, transfer.amount)):
+            left = int(leaf.store.content.get(b"account", b"%d" % START)) + change
+            for write in (bank.put(b"account", b"%d" % left), bank.put(transfer.key, b"%d" % change)):
+                self.say(root, leaf, write)
+        self.ask(root, wire.ROLLBACK if self.draw.random() < 0.04 else wire.COMMIT)
+
+    def say(self, node, leaf, write):
+        """Hands a write down: to the store itself, or to the node on the way, with the store's number before it."""
+        step = leaf
+        while step.superior is not node:
+            step = step.superior
+        data = write if step is leaf else wire.short(leaf.number) + write
+        self.ask(node, wire.DATA, wire.short(step.number) + wire.octets(data))
+
+    def told_data(self, node, rest):
+        data = rest[4:]
+        if node.kind == "leaf":
+            node.store.data(data)
+        elif node.kind == "between":
+            self.say(node, self.nodes[data[0] << 8 | data[1]], data[2:])
+
+    def told_prepare(self, node, rest):
+        votes = self.draw.random() > 0.02
+        if node.kind == "leaf":
+            self.note(node, node.transfer.identifier if node.transfer else b"", "prepare")
+            votes = votes and node.store.prepare()
+        elif node.kind == "witness" and votes:
+            return self.ask(node, wire.UNCHANGED, b"", ("leave", None))
+        self.ask(node, wire.COMMIT if votes else wire.ROLLBACK)
+
+    def told_commit(self, node, rest):
+        node.busy, node.started = True, False
+        if node.kind == "leaf":
+            store = node.store
+            tree = node.transfer.identifier if node.transfer else b""
+            self.note(node, tree, "commit")
+            if store.undecided is not None and store.undecided[0] != tree:
+                self.fault("store %d is told to commit in another tree than its own" % node.number)
+            if store.undecided is None and tree not in store.kept:
+                self.fault("store %d is told to commit what it was not asked to prepare" % node.number)
+            store.commit()
+        self.ask(node, wire.DONE)
+
+    def told_rollback(self, node, rest):
+        node.busy, node.started = True, False
+        if node.kind == "leaf":
+            tree = node.transfer.identifier if node.transfer else b""
+            self.note(node, tree, "rollback")
+            if tree in node.store.kept:
+                self.fault("store %d is told to roll back what it keeps" % node.number)
+            node.store.rollback()
+        self.ask(node, wire.DONE)
+
+    def note(self, node, tree, word):
+        """What a store is asked: nothing twice, but for an order to commit that a retry tells again until it is done."""
+        asked = self.asked.setdefault((node.number, tree), set())
+        again = node.site.waiting[0][1]
+        if word in asked and not (word == "commit" and again is not None and again[0] == "retry"):
+            self.fault("store %d is told %s twice" % (node.number, word))
+        asked.add(word)
+
+    def ended(self, node, outcome):
+        node.busy, node.started = False, False
+        transfer, tree = node.transfer, node.tree
+        if node.kind == "root" and tree.current is not None:
+            tree.current = None
+            self.counts["complete" if outcome == "commit" else "rolled back"] += 1
+            if outcome == "commit":
+                self.complete.append(transfer)
+                if not self.quiet and self.draw.random() < self.kill_rate:
+                    self.later(self.draw.uniform(0, 0.03), "kill")
+        if node.kind != "leaf":
+            node.transfer = None
+
+    def told_commit_complete(self, node, rest):
+        if rest != NONE:
+            self.fault("node %d completes with a report" % node.number)
+        self.ended(node, "commit")
+
+    def told_rollback_complete(self, node, rest):
+        if rest != NONE:
+            self.fault("node %d rolls back with a report" % node.number)
+        self.ended(node, "rollback")
+
+    # The run.
+
+    def unexpected(self, site):
+        status = site.process.wait()
+        site.up = False
+        self.selector.unregister(site.process.stdout)
+        site.close()
+        with open(os.path.join(site.folder, "errors"), "rb") as file:
+            self.fault("site %s ended by itself, status %d, %r" % (site.name, status, file.read()[-200:]))
+        self.stopped = True
+
+    def act(self, what):
+        if what[0] == "arrive":
+            if what[1].site.ready:
+                what[1].site.give(what[2])
+        elif what[0] == "lose":
+            self.note_down("lose", what[1].number, what[2].number)
+            what[1].site.give(wire.lose(what[1].number, what[2].number))
+        elif what[0] == "kill":
+            up = [site for site in self.sites if site.up]
+            if up and not self.quiet:
+                site = self.draw.choice(up)
+                if self.wrong and self.sites[0].up and self.draw.random() < 0.5:
+                    site = self.sites[0]
+                site.kill()
+                self.later(self.draw.choice([0, 0, self.draw.uniform(0, 0.05), self.draw.uniform(0, 0.3)]), "start", site)
+        elif what[0] == "start":
+            if self.compacting and what[1].starts % 3 == 0:
+                what[1].compact()
+            what[1].start()
+
+    def tend(self):
+        """What users do from time to time: open dialogues, begin transfers, ask for a retry, give up waiting."""
+        now = time.monotonic()
+        for tree in self.trees:
+            for node in tree.nodes[1:]:
+                above = node.superior
+                if node.live or now < node.not_before or not (above.site.ready and node.site.ready):
+                    continue
+                if node.opened is None:
+                    node.opened = now
+                    self.ask(above, wire.BEGIN_DIALOGUE, node.address + bytes([self.draw.choice(UNITS)]), ("open", node))
+                elif now > node.opened + self.slow:
+                    self.lose_both(above, node)
+                    node.closes(0.1)
+            if tree.current is None and not self.quiet and tree.root.site.ready and not tree.root.busy:
+                self.begin(tree)
+            elif tree.current is not None and now > tree.current.since + 4 * self.slow:
+                tree.current.since = now
+                self.ask(tree.root, wire.ROLLBACK)
+
+    def begin(self, tree):
+        if self.counts["begun"] >= 4 * self.goal:
+            return
+        source, target = self.draw.sample(tree.leaves, 2)
+        transfer = Transfer(len(self.transfers), source, target, self.draw.randint(1, 50),
+                            tree.witness if self.draw.random() < 0.2 else None)
+        if not all(node.live for node in transfer.path if node.superior is not None):
+            return
+        self.transfers.append(transfer)
+        self.counts["begun"] += 1
+        tree.current = tree.root.transfer = transfer
+        self.begin_on(tree.root, transfer)
+
+    def retry_all(self):
+        for node in self.nodes.values():
+            if not (node.busy or node.started):
+                node.patience = self.patience
+            elif not node.retrying and node.site.up:
+                node.retrying = True
+                node.patience -= 1
+                if node.patience == 0:
+                    # One end may have lost what the other still has: every connection of the node is made anew.
+                    node.patience = self.patience
+                    for peer in node.children + ([node.superior] if node.superior else []):
+                        self.lose_both(node, peer)
+                node.site.give(wire.retry(node.number), node, ("retry", None))
+
+    def idle(self):
+        return all(site.up and not site.waiting for site in self.sites) and not self.heap and not any(
+            node.busy or node.started for node in self.nodes.values()) and not any(tree.current for tree in self.trees)
+
+    def run(self, patience):
+        for tree in self.trees:
+            self.note_down([(n.kind, n.number, n.site.name, n.superior and n.superior.number) for n in tree.nodes])
+        self.stopped = False
+        for site in self.sites:
+            site.start()
+        next_tend = next_retry = 0.0
+        rest_by = None
+        begun = time.monotonic()
+        while not self.stopped:
+            now = time.monotonic()
+            while self.heap and self.heap[0][0] <= now:
+                self.act(heapq.heappop(self.heap)[2])
+            if now >= next_tend:
+                self.tend()
+                next_tend = now + 0.003
+            if now >= next_retry:
+                self.retry_all()
+                next_retry = now + RETRY
+            if not self.quiet and (len(self.complete) >= self.goal or self.counts["begun"] >= 4 * self.goal):
+                self.quiet, rest_by = True, now + patience
+            if self.quiet and self.idle():
+                break
+            if self.quiet and now > rest_by:
+                self.fault("not at rest: " + ", ".join("%s %d" % (n.kind, n.number) for n in self.nodes.values() if n.busy or n.started))
+                break
+            if not self.quiet and now > begun + patience + self.goal:
+                self.fault("too slow: %d complete" % len(self.complete))
+                break
+            wait = min([next_tend, next_retry] + [entry[0] for entry in self.heap[:1]]) - now
+            for key, _ in self.selector.select(max(0, wait)):
+                site = key.data
+                if site.up and not site.read():
+                    self.unexpected(site)
+            for site in self.sites:
+                if site.up:
+                    site.write()
+        self.counts["seconds"] = round(time.monotonic() - begun)
+
+    def stop(self):
+        """Every site reads its input to the end, and ends well."""
+        for site in self.sites:
+            if not site.up:
+                continue
+            os.set_blocking(site.process.stdout.fileno(), True)
+            site.process.stdin.close()
+            if self.record:
+                site.given.close()
+            rest = site.process.stdout.read()
+            status = site.process.wait()
+            if status != 0 or (rest and self.quiet and not self.faults):
+                self.fault("site %s ends with status %d and %d more bytes" % (site.name, status, len(rest)))
+            site.process.stdout.close()
+            site.errors.close()
+
+    # The judgement.
+
+    def command(self, words, folder, given=b""):
+        return subprocess.run(self.program + words, cwd=folder, input=given, capture_output=True)
+
+    def judge(self):
+        logs = [(site.name, site.log()) for site in self.sites]
+        audit = self.command(["audit"], self.folder, wire.audit_frames(logs))
+        if (audit.returncode, audit.stdout) != (0, b"yes\n"):
+            self.fault("audit: status %d, %s" % (audit.returncode, audit.stdout[:200].decode()))
+        self.counts["records"] = self.counts["bytes"] = 0
+        for site in self.sites:
+            shown, checked = (self.command([word], site.folder) for word in ("show", "check"))
+            if shown.returncode or checked.returncode or checked.stdout:
+                self.fault("show and check of %s: %d, %d" % (site.name, shown.returncode, checked.returncode))
+            last = {}
+            for line in shown.stdout.decode().splitlines():
+                words = line.split()
+                self.counts["records"] += 1
+                if words[1] != "boot":
+                    last[tuple(words[2:5])] = words[1]
+            open_keys = [key for key, word in last.items() if word != "end"]
+            if open_keys:
+                self.fault("%d keys of %s have no end, as %s" % (len(open_keys), site.name, open_keys[0]))
+            self.counts["bytes"] += len(site.log())
+        self.judge_stores()
+
+    def judge_stores(self):
+        total = wanted = 0
+        for tree in self.trees:
+            for leaf in tree.leaves:
+                leaf.store.crash()
+                shown = self.command(["keys"], os.path.dirname(leaf.store.path))
+                lines = dict(line.split() for line in shown.stdout.decode().splitlines())
+                if shown.returncode or lines != {k.hex(): v.hex() for k, v in leaf.store.content.items()}:
+                    self.fault("keys of store %d, status %d" % (leaf.number, shown.returncode))
+                if leaf.store.undecided is not None and leaf.store.undecided[0] in [t.identifier for t in self.complete]:
+                    self.fault("store %d has not decided what is complete" % leaf.number)
+                entries = sum(int(v) for k, v in leaf.store.content.items() if k != b"account")
+                account = int(leaf.store.content.get(b"account", b"%d" % START))
+                if account != START + entries:
+                    self.fault("the account of store %d is not what was moved" % leaf.number)
+                total, wanted = total + account, wanted + START
+        if total != wanted:
+            self.fault("there were %d in all stores, and there are %d" % (wanted, total))
+        complete = set(self.complete)
+        self.counts["unheard and kept"] = 0
+        for transfer in self.transfers:
+            stands = [leaf.store.content.get(transfer.key) for leaf in transfer.leaves]
+            both = [b"%d" % -transfer.amount, b"%d" % transfer.amount]
+            if transfer in complete and stands != both:
+                self.fault("transfer %d is complete and does not stand at both stores" % transfer.number)
+            elif stands != both and stands != [None, None]:
+                self.fault("transfer %d stands at one store" % transfer.number)
+            elif transfer not in complete and stands == both:
+                self.counts["unheard and kept"] += 1
+
+
+def one_run(options, sites, transfers, seed, wrong):
+    folder = tempfile.mkdtemp(prefix="cluster-", dir=options.folder)
+    cluster = Cluster(options, sites, transfers, seed, folder, wrong)
+    cluster.trace = open(options.trace, "w", buffering=1) if options.trace else None
+    try:
+        cluster.run(options.patience)
+        cluster.stop()
+        cluster.judge()
+    finally:
+        for site in cluster.sites:
+            if site.process is not None and site.process.poll() is None:
+                site.process.kill()
+        if options.keep or (cluster.faults and not wrong):
+            print("kept: %s" % folder)
+        else:
+            shutil.rmtree(folder)
+    return cluster
+
+
+def campaign(options, sizes, transfers, wrong):
+    """Runs of so many sites each; their sums, their faults, and how many of them had one."""
+    totals, faults, caught = {}, [], 0
+    for k, sites in enumerate(sizes):
+        cluster = one_run(options, sites, -(-transfers // len(sizes)), options.seed + k, wrong)
+        for word, count in cluster.counts.items():
+            totals[word] = totals.get(word, 0) + count
+        print("%d sites, seed %d%s: %s" % (sites, options.seed + k, ", one wrong" if wrong else "", tools.counted(cluster.counts)), flush=True)
+        for fault in cluster.faults[:3 if wrong else 20]:
+            print("  %s" % fault, flush=True)
+        faults += cluster.faults
+        caught += bool(cluster.faults)
+    return totals, faults, caught
+
+
+def main():
+    parser = argparse.ArgumentParser(prog="trials/run cluster")
+    tools.add_program(parser)
+    parser.add_argument("--transfers", type=int, default=10000, help="transfers that a root is told complete, over all runs")
+    parser.add_argument("--sites", type=int, help="sites of each run; 3 to 9 in turn where it is not given")
+    parser.add_argument("--trees", type=int, default=2, help="trees for each site, each with a transfer at a time")
+    parser.add_argument("--seed", type=int, default=1)
+    parser.add_argument("--kill-rate", type=float, default=0.115, help="kills for each complete transfer")
+    parser.add_argument("--folder", help="where the sites' folders are made")
+    parser.add_argument("--patience", type=float, default=120, help="seconds in which a run must come to rest")
+    parser.add_argument("--slow", type=float, default=0.5, help="seconds after which a user no longer waits for a dialogue")
+    parser.add_argument("--keep", action="store_true", help="leave the folders of the sites where they are")
+    parser.add_argument("--wrong", action="store_true", help="the runs with a wrong site alone")
+    parser.add_argument("--right", action="store_true", help="the runs without a wrong site alone")
+    parser.add_argument("--compact", action="store_true")
+    parser.add_argument("--trace", help="a file for what the users ask and are told")
+    parser.add_argument("--record", help="a folder for what each process found as its log, and for the frames that it was given")
+    parser.add_argument("--short", action="store_true")
+    options = parser.parse_args()
+    tools.set_program(options)
+    sizes = [options.sites] if options.sites else [3, 6, 9] if options.short else list(range(3, 10))
+    transfers = 150 if options.short else options.transfers
+    status = 0
+    if not options.wrong:
+        totals, faults, _ = campaign(options, sizes, transfers, False)
+        status |= bool(faults)
+        print("cluster: %d faults, %s" % (len(faults), tools.counted(totals)))
+    if not options.right:
+        options.kill_rate, options.patience = 0.4, 10
+        totals, _, caught = campaign(options, sizes, max(150, transfers // 10), True)
+        status |= caught == 0
+        print("cluster: with a site that answers before it forces %d of %d runs were caught, %d records taken back, %d kills" % (
+            caught, len(sizes), totals["cut"], totals["kills"]))
+    sys.exit(status)
+
+
+if __name__ == "__main__":
+    main()

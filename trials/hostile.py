@@ -1,0 +1,531 @@
+"""Streams, logs and frames that no honest peer gives: cut short, cut in two, changed in each byte, of each code, at random, at
+each limit.
+
+trials/run hostile [--program CMD] [--beside CMD] [--short] [--frames N] [--only PART] [--seed N]
+
+Always: the exit status is one of the command's, standard error has the line of that status, nothing crashes or hangs, what comes
+before the first change is answered as it was, and a log that was taken opens again.
+
+--beside names a second machine that follows the same rules. It is started once, reads a line for each case (the words, the input
+and the log, as pairs of digits, parted by tabs, `-` for nothing) and answers with a line (status, its text, the output, the log).
+Then every byte of output, every byte of the log, the status and its text must be the same. A case that differs is left in a folder.
+"""
+import argparse
+import os
+import random
+import re
+import shlex
+import shutil
+import subprocess
+import sys
+import tempfile
+
+import bank
+import preload
+import stops
+import streams
+import tools
+import wire
+
+TEXTS = {
+    0: r"$", 1: r"findings [1-9]\d*$", 2: r"usage", 3: r"bad input at [1-9]\d*: (long|word|number|name|short|length|body)$",
+    4: r"limit (schedule|sites|nodes|frames|answers|events|log|boots) at \d+$", 5: r"foreign log at \d+$", 6: r"read fault$",
+    7: r"write fault$", 8: r"disk fault$", 9: r"no memory$",
+}
+ALLOWED = {
+    "replay": {0, 3, 4}, "node": {0, 3, 4, 5}, "tx": {0, 3, 4, 5}, "show": {0, 5}, "check": {0, 1, 5}, "keys": {0, 5}, "make": {0},
+    "compact": {0, 5}, "migrate": {0, 4, 5}, "audit": {0, 1, 3, 4, 5}, "format": {0},
+}
+DIALOGUE = [0x01, 0x03, 0x04, 0x05, 0x06, 0x07, 0x08, 0x09, 0x0A, 0x0B, 0x0D, 0x0E, 0x0F, 0x11, 0x13, 0x14]
+LIMIT = 268435456
+
+
+class Hostile:
+    def __init__(self, options, folder):
+        self.options, self.program, self.folder = options, options.program, folder
+        self.draw = random.Random(options.seed)
+        self.counts = dict.fromkeys(["cases", "frames", "compared", "well", "bad input", "limit", "foreign", "findings", "differ"], 0)
+        self.refused = {}
+        self.faults, self.kept = [], tempfile.mkdtemp(prefix="hostile-kept-")
+        self.beside = None
+        if options.beside:
+            self.beside = subprocess.Popen(shlex.split(options.beside), stdin=subprocess.PIPE, stdout=subprocess.PIPE, text=True)
+
+    def run(self, words, given=b"", log=wire.FRESH, compare=True):
+        """Status, its text, output and log; judged by what holds of every run, and beside the second machine."""
+        path = os.path.join(self.folder, "bound.log" if words[0] == "keys" else "tp.log")
+        with open(path, "wb") as file:
+            file.write(log)
+        try:
+            run = subprocess.run(self.program + words, cwd=self.folder, input=given, capture_output=True, timeout=300)
+        except subprocess.TimeoutExpired:
+            return self.fault(words, given, log, "does not end") or (-1, "", b"", b"")
+        with open(path, "rb") as file:
+            after = file.read()
+        text = run.stderr.decode().rstrip("\n").split(": ", 1)[-1] if run.stderr else ""
+        self.counts["cases"] += 1
+        word = {0: "well", 1: "findings", 3: "bad input", 4: "limit", 5: "foreign"}.get(run.returncode)
+        if word:
+            self.counts[word] += 1
+        if run.returncode not in ALLOWED[words[0]] or not re.match(TEXTS.get(run.returncode, "(?!)"), text):
+            self.fault(words, given, log, "status %d, %r" % (run.returncode, run.stderr[-200:]))
+        if words[0] in ("show", "check", "keys", "audit") and run.returncode == 5 and run.stdout:
+            self.fault(words, given, log, "a foreign log, and %d bytes of output" % len(run.stdout))
+        if self.beside and compare:
+            self.compare(words, given, log, (run.returncode, text, run.stdout, after))
+        return run.returncode, text, run.stdout, after
+
+    def compare(self, words, given, log, ours):
+        self.beside.stdin.write("%s\t%s\t%s\n" % (" ".join(words), given.hex() or "-", log.hex() or "-"))
+        self.beside.stdin.flush()
+        status, text, out, after = self.beside.stdout.readline().rstrip("\n").split("\t")
+        theirs = int(status), text, bytes.fromhex(out.replace("-", "")), bytes.fromhex(after.replace("-", ""))
+        self.counts["compared"] += 1
+        if ours != theirs:
+            self.counts["differ"] += 1
+            same = [a == b for a, b in zip(ours, theirs)]
+            self.fault(words, given, log, "differs from the machine beside it: %s and %s, output %s, log %s" % (ours[:2], theirs[:2], same[2], same[3]))
+
+    def fault(self, words, given, log, text):
+        at = os.path.join(self.kept, "%d" % len(self.faults))
+        self.faults.append(text)
+        if len(self.faults) <= 50:
+            for suffix, content in ((".in", given), (".log", log)):
+                with open(at + suffix, "wb") as file:
+                    file.write(content)
+            print("  %s: %s (%s)" % (" ".join(words), text, at), flush=True)
+
+    # Worked streams.
+
+    def answers(self, words, bodies, log):
+        """What each frame of a stream is answered with."""
+        out = self.run(words, streams.stream(bodies), log)[2]
+        pieces, at, last = [], 0, 0x30 if words[0] == "tx" else 0x13
+        for body in wire.frames_in(out)[0]:
+            if not pieces or pieces[-1][1]:
+                pieces.append([b"", False])
+            pieces[-1][0] += wire.frame(body)
+            pieces[-1][1] = body[0] == last
+        return [piece for piece, _ in pieces]
+
+    def prefixes(self, words, bodies, log, step):
+        answers = self.answers(words, bodies, log)
+        stream = streams.stream(bodies)
+        ends = [len(streams.stream(bodies[:k])) for k in range(len(bodies) + 1)]
+        for size in range(0, len(stream), step):
+            whole = max(k for k, end in enumerate(ends) if end <= size)
+            want = (0, "") if size in ends else (3, "bad input at %d: short" % (whole + 1))
+            status, text, out, _ = self.run(words, stream[:size], log)
+            if (status, text, out) != (*want, b"".join(answers[:whole])):
+                self.fault(words, stream[:size], log, "a prefix of %d bytes: %d, %s, %d bytes" % (size, status, text, len(out)))
+
+    def cuts(self, library, words, given, log, step):
+        whole = self.run(words, given, log)
+        for size in range(1, len(given), step):
+            with open(os.path.join(self.folder, "tp.log"), "wb") as file:
+                file.write(log)
+            run = library.run(self.program, words, self.folder, given, cut=size)
+            self.counts["cases"] += 1
+            if (run.returncode, run.stdout) != (whole[0], whole[2]):
+                self.fault(words, given, log, "cut in two at %d: %d" % (size, run.returncode))
+
+    def changed(self, words, stream, log, step, answers=None, ends=None):
+        for at in range(0, len(stream), step):
+            for new in {0, 255, stream[at] ^ 1, stream[at] ^ 255} - {stream[at]}:
+                given = stream[:at] + bytes([new]) + stream[at + 1 :]
+                out = self.run(words, given, log)[2]
+                if answers is not None:
+                    whole = max(k for k, end in enumerate(ends) if end <= at)
+                    before = b"".join(answers[:whole])
+                    if out[: len(before)] != before:
+                        self.fault(words, given, log, "byte %d changed, and what comes before is answered otherwise" % at)
+
+    def changed_log(self, log, words, step):
+        for at in range(0, len(log), step):
+            for new in {0, 1, 255, log[at] ^ 1} - {log[at]}:
+                self.run(words, b"", log[:at] + bytes([new]) + log[at + 1 :])
+
+    def worked(self):
+        short = self.options.short
+        step = 7 if short else 1
+        library = preload.Library(self.folder)
+        shows = {
+            "a subordinate": (["node", "--name", "b"], streams.subordinate(2)),
+            "a decision": (["node", "--name", "b"], streams.subordinate(1, True)),
+            "a root": (["node", "--name", "a"], streams.root(2)),
+            "tx": (["tx", "--name", "a"], streams.root(1, asked=False)),
+        }
+        logs = []
+        for name, (words, bodies) in shows.items():
+            stream = streams.stream(bodies)
+            ends = [len(streams.stream(bodies[:k])) for k in range(len(bodies) + 1)]
+            self.prefixes(words, bodies, wire.FRESH, step)
+            self.cuts(library, words, stream, wire.FRESH, step)
+            self.changed(words, stream, wire.FRESH, step, self.answers(words, bodies, wire.FRESH), ends)
+            logs.append(self.run(words, stream, wire.FRESH)[3])
+            self.say(name)
+        frames = wire.audit_frames([("a", logs[2]), ("b", logs[0])])
+        self.cuts(library, ["audit"], frames, wire.FRESH, step)
+        self.changed(["audit"], frames, wire.FRESH, step)
+        for size in range(0, len(frames), step):
+            self.run(["audit"], frames[:size])
+        schedule = (tools.ROOT / "examples" / "plain-commit.schedule").read_bytes()
+        self.changed(["replay"], schedule, wire.FRESH, step)
+        self.cuts(library, ["replay"], schedule, wire.FRESH, step)
+        for size in range(0, len(schedule), step):
+            self.run(["replay"], schedule[:size])
+        self.say("audit and replay")
+        store = stops.store_log()
+        for log, commands in ((logs[1], ["show", "check", "compact", "migrate", "node"]), (store, ["keys"])):
+            for word in commands:
+                self.changed_log(log, [word], step)
+                for size in range(0, len(log), step):
+                    self.run([word], b"", log[:size])
+        self.say("logs")
+
+    def codes(self):
+        """Each code with no, one and two octets, as a body, a record, a dialogue record, a log record, a block of a store."""
+        tails = [b""] + [bytes([a]) for a in (0, 1, 2, 255)] + [bytes([a, b]) for a in (0, 1, 255) for b in (0, 1, 2, 255)]
+        if self.options.short:
+            tails = tails[:3] + tails[-2:]
+        begun = streams.subordinate(1)[:4]
+        association = streams.Association(streams.ROOT, streams.LEAF, wire.mark(1, 1, 1), wire.mark(1, 2, 1))
+        association.count = 1
+        for code in range(256):
+            for tail in tails:
+                text = bytes([code]) + tail
+                node = streams.stream(begun)
+                self.run(["node", "--name", "b"], node + wire.frame(text) + wire.frame(wire.retry(2)))
+                self.run(["node", "--name", "b"], node + wire.frame(wire.arrive(streams.ROOT, streams.LEAF, text)))
+                association.count = 1
+                self.run(["node", "--name", "b"], node + wire.frame(association.says(text)) + wire.frame(wire.retry(2)))
+                self.run(["node", "--name", "b"], node + wire.frame(wire.do(2, code, tail)))
+                if code not in (0x41,):
+                    self.run(["audit"], wire.frame(b"\x40\x01a") + wire.frame(text))
+                self.run(["tx"], wire.frame(text) + wire.frame(b"\x24"))
+                self.run(["show"], b"", wire.log_of([stops.BOOT_1, text]))
+                self.run(["keys"], b"", wire.log_of([text], wide=False))
+        self.say("codes")
+
+    # Random frames.
+
+    def recordings(self):
+        """What the sites of a small cluster were given, with the logs that they found."""
+        folder = os.path.join(self.folder, "recordings")
+        os.makedirs(folder)
+        words = [sys.executable, "-B", str(tools.ROOT / "trials" / "cluster.py"), "--right", "--sites", "3", "--transfers",
+                 "40" if self.options.short else "400", "--kill-rate", "0.3", "--seed", str(self.options.seed), "--record", folder,
+                 "--program", shlex.join(self.program)]
+        run = subprocess.run(words, capture_output=True, text=True)
+        if run.returncode != 0:
+            sys.exit("no recordings: %s" % run.stdout)
+        found = []
+        for name in sorted(os.listdir(folder)):
+            if name.endswith(".frames"):
+                with open(os.path.join(folder, name), "rb") as file:
+                    bodies = wire.frames_in(file.read())[0]
+                with open(os.path.join(folder, name[:-7] + ".log"), "rb") as file:
+                    found.append((name.split("-")[-2], bodies, file.read()))
+        return found
+
+    def random(self):
+        goal = self.options.frames or (20000 if self.options.short else 1000000)
+        found = self.recordings()
+        while self.counts["frames"] < goal:
+            site, bodies, log = self.draw.choice(found)
+            at = 0 if self.draw.random() < 0.7 else self.draw.randrange(max(1, len(bodies)))
+            bodies = bodies[:at + 400]
+            mutant = Mutant(self.draw, site, bodies, self.draw.choice([0, 0.01, 0.05, 0.2, 0.5]))
+            given = b"".join(map(wire.frame, mutant.bodies))
+            if self.draw.random() < 0.1:
+                given = self.spoilt(given)
+            status, _, out, after = self.run(["node", "--name", site], given, log)
+            answered = wire.frames_in(out)[0]
+            self.counts["frames"] += sum(body[0] == 0x13 for body in answered)
+            for body in answered:
+                if body[0] == 0x12:
+                    self.refused[body[1]] = self.refused.get(body[1], 0) + 1
+            again = self.run(["show"], b"", after, compare=False)
+            if again[0] != 0:
+                self.fault(["node"], given, log, "it leaves a log that show does not take")
+        self.say("random frames, refusals: " + ", ".join("%d: %d" % it for it in sorted(self.refused.items())))
+
+    def spoilt(self, given):
+        draw = self.draw
+        if not given:
+            return given
+        at = draw.randrange(len(given))
+        return draw.choice([
+            given[:at], given[:at] + bytes([draw.randrange(256)]) + given[at + 1 :], given + b"\x00\x00", given + b"\x08\x01",
+            given + wire.frame(draw.randbytes(draw.randint(1, 40))), given[:at] + draw.randbytes(draw.randint(1, 8)) + given[at:]])
+
+    # Limits.
+
+    def limit(self, words, given, want, log=wire.FRESH):
+        status, text, out, _ = self.run(words, given, log, compare=False)
+        if (status, text) != want:
+            self.fault(words, given[:1000], log[:1000], "at a limit: %d, %s where %s is due" % (status, text, want))
+        return out
+
+    def limits(self):
+        most = 1000000
+        one, called = wire.frame(wire.retry(1)), wire.frame(b"\x24")
+        for words, given in ((["node"], one), (["tx"], called)):
+            out = self.limit(words, given * most, (0, ""))
+            more = self.limit(words, given * (most + 1), (4, "limit events at %d" % (most + 1)))
+            if out != more:
+                self.fault(words, b"", b"", "the frame at the limit of events is answered")
+        self.say("events")
+        declared = b"".join(wire.frame(wire.declare(k)) for k in range(1, 257))
+        for words in (["node"], ["tx"]):
+            self.limit(words, declared, (0, ""))
+            self.limit(words, declared + wire.frame(wire.declare(1)), (4, "limit nodes at 257"))
+            self.limit(words, wire.frame(wire.declare(1)) * 256 + one, (0, ""))
+            self.limit(words, wire.frame(wire.declare(1)) * 257, (4, "limit nodes at 257"))
+        self.limit(["node"], wire.frame(b"\x03" + wire.address("z" * 16, 1) * 2 + wire.octets(bytes(2000))), (0, ""))
+        self.limit(["node"], wire.short(2049) + bytes(2049), (3, "bad input at 1: length"))
+        self.limit(["node"], b"\x00\x00", (3, "bad input at 1: length"))
+        line = lambda k, site: b"node %d %s\n" % (k, site)
+        nodes = b"".join(line(k, b"a") for k in range(1, 257))
+        self.limit(["replay"], nodes, (0, ""))
+        self.limit(["replay"], nodes + line(257, b"a"), (4, "limit nodes at 257"))
+        sites = b"".join(line(k, b"s%d" % k) for k in range(1, 17))
+        self.limit(["replay"], sites, (0, ""))
+        self.limit(["replay"], sites + line(17, b"s17"), (4, "limit sites at 17"))
+        self.limit(["replay"], sites + line(17, b"s1"), (0, ""))
+        logs = [("s%d" % k, wire.FRESH) for k in range(17)]
+        self.limit(["audit"], wire.audit_frames(logs[:16]), (0, ""))
+        self.limit(["audit"], wire.audit_frames(logs), (4, "limit sites at 33"))
+        self.limit(["replay"], b"#" + b" " * 8191 + b"\n", (0, ""))
+        self.limit(["replay"], b"#" + b" " * 8192 + b"\n", (3, "bad input at 1: long"))
+        full = (b"#" + b" " * 1022 + b"\n") * 1024
+        self.limit(["replay"], full, (0, ""))
+        self.limit(["replay"], full + b"\n", (4, "limit schedule at 1025"))
+        start = b"node 1 a\nnode 2 b under 1\ndo 1 begin-dialogue 2 scu\npass 1 2\ndo 2 accept scu\npass 2 1\n"
+        sends = b"do 1 data 2 -\n"
+        self.limit(["replay"], start + sends * 65533, (0, ""))
+        self.limit(["replay"], start + sends * 65534, (4, "limit frames at %d" % (6 + 65534)))
+        self.say("nodes, sites, lines, schedules, frames")
+        self.boots()
+        if self.options.short:
+            return
+        self.big_log()
+
+    def boots(self):
+        spent = lambda boot: wire.log_of([b"\x01" + boot.to_bytes(8, "big")])
+        self.limit(["node"], one_frame(), (0, ""), spent(2**64 - 2))
+        self.limit(["node"], one_frame(), (4, "limit boots at 0"), spent(2**64 - 1))
+        self.limit(["tx"], b"", (4, "limit boots at 0"), spent(2**64 - 1))
+
+    def big_log(self):
+        """A log whose closing gate stands where the record Boot of a start has just room, and one byte behind."""
+        name = "n" * 16
+        children = b"".join(wire.address(name, k) + wire.text_of_site(name) + wire.mark(1, 1, 10 + k) for k in range(1, 257))
+        bodies, size, k = [b"\x07\x02", stops.BOOT_1], 5 + 5 + 12, 1
+        goal = LIMIT - 13  # the closing gate's place before Boot
+        pair = lambda k, some: (b"\x04\x00\x01\x01a" + wire.mark(1, 1, 1000 + k) + b"\x00" + wire.short(some) + children[: 54 * some],
+                                b"\x06\x00\x01\x01a" + wire.mark(1, 1, 1000 + k) + b"\x00\x01")
+        cost = lambda two: sum(3 + len(body) for body in two)
+        while size + cost(pair(k, 256)) <= goal - 20000:
+            two = pair(k, 256)
+            bodies += two
+            size += cost(two)
+            k += 1
+        # The rest to the byte: pairs with fewer children, and a longer name of the tree.
+        for exact in (goal, goal + 1):
+            rest, here, j = [], size, k
+            while here < exact:
+                left = exact - here
+                fits = [(some, long) for some in range(256, -1, -1) for long in range(1, 17)
+                        if pair_cost(some, long) == left or pair_cost(some, long) <= left - 120]
+                exactly = [it for it in fits if pair_cost(*it) == left]
+                some, long = exactly[0] if exactly else fits[self.draw.randrange(len(fits))]
+                tree = wire.text_of_site("t" * long) + wire.mark(1, 1, 1000000 + j)
+                two = (b"\x04\x00\x01" + tree + b"\x00" + wire.short(some) + children[: 54 * some], b"\x06\x00\x01" + tree + b"\x00\x01")
+                rest += two
+                here += cost(two)
+                j += 1
+            log = b"OTPL\x01" + b"".join(map(wire.block, bodies + rest)) + b"\x00"
+            assert len(log) == exact + 1, (len(log), exact)
+            if exact == goal:
+                ready = streams.stream(streams.subordinate(1)[:7]).replace(wire.mark(1, 2, 1), wire.mark(2, 2, 1))
+                self.limit(["node", "--name", "b"], ready, (4, "limit log at 7"), log)
+            else:
+                self.limit(["node", "--name", "b"], b"", (4, "limit log at 0"), log)
+            self.limit(["compact"], b"", (0, ""), log)
+        self.say("a log of %d bytes" % LIMIT)
+        frames = wire.frame(b"\x40\x01a") + wire.frame(b"\x41" + wire.octets(wire.FRESH))
+        pieces, rest = divmod(LIMIT - len(wire.FRESH), 2000)
+        frames += wire.frame(b"\x41" + wire.octets(bytes(2000))) * pieces
+        last = lambda size: wire.frame(b"\x41" + wire.octets(bytes(size)))
+        self.limit(["audit"], frames + last(rest), (0, ""))
+        self.limit(["audit"], frames + last(rest + 1), (4, "limit log at %d" % (3 + pieces)))
+        self.say("audit of %d bytes" % LIMIT)
+
+    def say(self, what):
+        print("%s: %s" % (what, tools.counted(self.counts)), flush=True)
+
+
+def one_frame():
+    return wire.frame(wire.retry(1))
+
+
+def pair_cost(some, long):
+    """What a Commit of a root with so many children and its End take, where the tree's site has a name of that length."""
+    key = 1 + long + 18 + 1
+    return 3 + 1 + 2 + key + 2 + 54 * some + 3 + 1 + 2 + key + 1
+
+
+class Mutant:
+    """An honest stream with frames left out, said twice, changed, and put in, the counts of its associations kept in step."""
+
+    def __init__(self, draw, site, bodies, rate):
+        self.draw, self.site, self.bodies = draw, site, []
+        self.shift, self.sent = {}, {}
+        self.names, self.numbers, self.marks, self.keys, self.senders = set(), set(), [], [], []
+        for body in bodies:
+            self.learn(body)
+        for body in bodies:
+            if draw.random() >= rate:
+                self.add(body)
+                continue
+            self.change(body)
+
+    def learn(self, body):
+        if body[0] in (1, 2):
+            self.numbers.add(body[1] << 8 | body[2])
+        if body[0] == 3:
+            sender, _, at = wire.read_address(body, 1)
+            target, _, at = wire.read_address(body, at)
+            record = body[at + 2 :]
+            self.senders.append((sender, target))
+            if record[0] == 4:
+                self.marks.append((sender, target, bytes(record[1:37])))
+                if record[45] == 0x0C:
+                    self.learn_key(record, 46)
+            elif record[0] >= 5:
+                self.learn_key(record, 1)
+
+    def learn_key(self, record, at):
+        middle = wire.end_of_identifier(record, at)
+        self.keys.append(bytes(record[at : wire.end_of_identifier(record, middle)]))
+
+    def add(self, body):
+        """The frame, with the count of its association in step with what was left out and put in."""
+        place = self.place_of_count(body)
+        if place is not None:
+            pair = body[place - 36 : place]
+            count = int.from_bytes(body[place : place + 8], "big") + self.shift.get(pair, 0)
+            self.sent[pair] = count + 1
+            if 0 <= count < 2**64:
+                body = body[:place] + count.to_bytes(8, "big") + body[place + 8 :]
+        self.bodies.append(body)
+
+    @staticmethod
+    def place_of_count(body):
+        if body[0] != 3:
+            return None
+        _, _, at = wire.read_address(body, 1)
+        _, _, at = wire.read_address(body, at)
+        return at + 2 + 37 if len(body) > at + 2 + 45 and body[at + 2] == 4 else None
+
+    def change(self, body):
+        draw = self.draw
+        x = draw.random()
+        if x < 0.15:
+            place = self.place_of_count(body)
+            if place is not None:
+                pair = body[place - 36 : place]
+                self.shift[pair] = self.shift.get(pair, 0) - 1
+            return
+        if x < 0.25:
+            self.bodies += [body, body]
+            return
+        if x < 0.33:
+            at = draw.randrange(len(body))
+            self.bodies.append(body[:at] + bytes([draw.choice([0, 1, 255, body[at] ^ 1, draw.randrange(256)])]) + body[at + 1 :])
+            return
+        if x < 0.60 and self.marks:
+            self.say_on(*draw.choice(self.marks[-8:] if draw.random() < 0.5 else self.marks))
+        elif x < 0.75 and self.keys and self.senders:
+            self.recover()
+        elif x < 0.90:
+            self.ask()
+        else:
+            self.happen()
+        self.add(body)
+
+    def say_on(self, sender, target, pair):
+        """A record on an association that is known, mostly with the next count."""
+        draw = self.draw
+        count = self.sent.get(pair, 0) if draw.random() < 0.95 else draw.choice([0, 1, 7, 2**64 - 1])
+        code = draw.choice(DIALOGUE + [0x02, 0x0C, 0x10, 0x12])
+        rest = b""
+        if code == 0x02:
+            rest = wire.octets(bytes(draw.choice([0, 1, 1024])))
+        elif code == 0x0C and self.keys:
+            rest = draw.choice(self.keys) + bytes([draw.randrange(3)])
+        elif code in (0x10, 0x12):
+            rest = bytes([draw.choice([0, 0, 1, 2])])
+        text = b"\x04" + pair + (count % 2**64).to_bytes(8, "big") + bytes([code]) + rest
+        if draw.random() < 0.03:
+            text = b"\x03" + pair[:18] + draw.choice([b"\x00", b"\x01" + pair[18:]])
+        else:
+            self.shift[pair] = self.shift.get(pair, 0) + 1
+            self.sent[pair] = count + 1
+        self.bodies.append(wire.arrive(sender, target, text))
+
+    def recover(self):
+        draw = self.draw
+        sender, target = draw.choice(self.senders)
+        code = draw.choice([5, 6, 7, 7, 8])
+        rest = draw.choice([b"\x01", b"\x02\x00", b"\x02\x01", b"\x02\x02", b"\x03", b"\x04"]) if code == 7 else b""
+        self.bodies.append(wire.arrive(sender, target, bytes([code]) + draw.choice(self.keys[-6:]) + rest))
+
+    def number(self):
+        return self.draw.choice(sorted(self.numbers)) if self.numbers and self.draw.random() < 0.97 else self.draw.randrange(65536)
+
+    def ask(self):
+        draw = self.draw
+        code = draw.randint(1, 0x14)
+        rest = b""
+        if code == 1:
+            rest = wire.address(draw.choice([self.site, "s0", "s1", "zz"]), self.number()) + bytes([draw.choice([0x29, 0x2D, 0x2A, 0x1A, 1, 2, 5, 64])])
+        elif code == 2:
+            rest = bytes([draw.choice([0x29, 0x29, 1, 0, 255])])
+        elif code == 5:
+            rest = wire.short(self.number()) + wire.octets(bytes(draw.choice([0, 1, 1024, 1025, 2000])))
+        elif code == 4 or 6 <= code <= 0x10:
+            rest = wire.short(self.number())
+        self.bodies.append(wire.do(self.number(), code, rest))
+
+    def happen(self):
+        draw, node = self.draw, wire.short(self.number())
+        code = draw.choice([1, 4, 5, 6, 7, 8])
+        rest = {1: b"\x00", 4: wire.short(self.number()), 5: bytes([draw.choice([1, 2])]), 6: wire.short(self.number())}.get(code, b"")
+        self.bodies.append(bytes([code]) + node + rest)
+
+
+def main():
+    parser = argparse.ArgumentParser(prog="trials/run hostile")
+    tools.add_program(parser)
+    parser.add_argument("--beside", help="a second machine")
+    parser.add_argument("--short", action="store_true")
+    parser.add_argument("--frames", type=int, help="random frames")
+    parser.add_argument("--only", choices=["worked", "codes", "random", "limits"])
+    parser.add_argument("--seed", type=int, default=1)
+    options = parser.parse_args()
+    tools.set_program(options)
+    folder = tempfile.mkdtemp(prefix="hostile-")
+    trial = Hostile(options, folder)
+    for part in [options.only] if options.only else ["worked", "codes", "random", "limits"]:
+        getattr(trial, part)()
+    shutil.rmtree(folder)
+    if not trial.faults:
+        shutil.rmtree(trial.kept)
+    print("hostile: %d faults, %s" % (len(trial.faults), tools.counted(trial.counts)))
+    sys.exit(1 if trial.faults else 0)
+
+
+if __name__ == "__main__":
+    main()

@@ -1,0 +1,276 @@
+"""A library that stands between a program and the C library: it stops the program in a call, lets calls fail, and tells which
+calls came. It is compiled from the text below into a temporary folder, and is no part of any program.
+
+What it does is said by the environment:
+
+TRIAL_DISK    the name of the file that is the disk
+TRIAL_TRACE   a file to which each call is added as a line: its name and its numbers
+TRIAL_STOP    K FILL: the program stops in the K-th call that changes the disk (pwrite, ftruncate, fsync). Every byte that was
+              written since the last sync, and in that call, is then what FILL says: two digits (that byte everywhere), `new`,
+              `old` (the file is as the last sync left it), `mix SEED` (each byte old or new), `any SEED` (any bytes)
+TRIAL_FAIL    NAME K HOW: the K-th call of that name fails: read (of standard input), write (to standard output), open, statx,
+              pread, pwrite, ftruncate, fsync, malloc. HOW is `none`, `half` or `all`: how much of a write is made all the same
+TRIAL_CUT     N: the first read of standard input gives at most so many bytes
+TRIAL_SHORT   SEED: reads and writes do less than they are asked to, and those of the disk are interrupted
+"""
+import os
+import pathlib
+import subprocess
+
+STOPPED = 77
+
+SOURCE = r"""
+#define _GNU_SOURCE
+#include <errno.h>
+#include <fcntl.h>
+#include <stdarg.h>
+#include <stdint.h>
+#include <stdio.h>
+#include <stdlib.h>
+#include <string.h>
+#include <sys/stat.h>
+#include <sys/syscall.h>
+#include <unistd.h>
+
+extern void *__libc_malloc(size_t);
+extern void *__libc_realloc(void *, size_t);
+
+enum { MOST = 1 << 22 };
+static int disk = -1, trace = -1, changes, stop_at, fail_at, fail_count;
+static char fill[32], fail_name[16], fail_how[16];
+static uint64_t seed, short_seed;
+static uint8_t base[MOST], now[MOST], loose[MOST];
+static long base_size, loose_size;
+static size_t cut;
+static int awake;
+
+static void wake(void) {
+    if (awake) return;
+    awake = 1;
+    const char *it = getenv("TRIAL_TRACE");
+    if (it) trace = syscall(SYS_openat, AT_FDCWD, it, O_WRONLY | O_CREAT | O_APPEND, 0666);
+    if ((it = getenv("TRIAL_STOP"))) sscanf(it, "%d %31s %lu", &stop_at, fill, &seed);
+    if ((it = getenv("TRIAL_FAIL"))) sscanf(it, "%15s %d %15s", fail_name, &fail_at, fail_how);
+    if ((it = getenv("TRIAL_CUT"))) cut = strtoul(it, 0, 10);
+    if ((it = getenv("TRIAL_SHORT"))) short_seed = strtoull(it, 0, 10) * 2 + 1;
+}
+
+static void tell(const char *name, long a, long b) {
+    char line[64];
+    if (trace < 0) return;
+    int n = snprintf(line, sizeof line, "%s %ld %ld\n", name, a, b);
+    syscall(SYS_write, trace, line, n);
+}
+
+static uint32_t draw(uint64_t *s) {
+    *s = *s * 6364136223846793005u + 1442695040888963407u;
+    return *s >> 33;
+}
+
+static long size_of_disk(void) { return lseek(disk, 0, SEEK_END); }
+
+static void settle(void) {
+    base_size = size_of_disk();
+    if (base_size > MOST) base_size = MOST;
+    syscall(SYS_pread64, disk, base, base_size, 0);
+    memset(loose, 0, MOST > loose_size ? loose_size : MOST);
+    loose_size = 0;
+}
+
+static void loosen(long at, long size) {
+    for (long i = at; i < at + size && i < MOST; i++) loose[i] = 1;
+    if (at + size > loose_size) loose_size = at + size < MOST ? at + size : MOST;
+}
+
+static void stop(void) {
+    long size = size_of_disk();
+    syscall(SYS_pread64, disk, now, size, 0);
+    if (!strcmp(fill, "old")) {
+        memcpy(now, base, base_size);
+        size = base_size;
+    } else if (strcmp(fill, "new")) {
+        uint64_t s = seed * 2 + 1;
+        for (long i = 0; i < size; i++) {
+            uint8_t was = i < base_size ? base[i] : 0;
+            if (!loose[i]) continue;
+            if (!strcmp(fill, "mix")) now[i] = draw(&s) & 1 ? was : now[i];
+            else now[i] = !strcmp(fill, "any") ? draw(&s) : strtoul(fill, 0, 16);
+        }
+    }
+    syscall(SYS_ftruncate, disk, size);
+    syscall(SYS_pwrite64, disk, now, size, 0);
+    tell("stopped", changes, size);
+    _exit(STOPPED_STATUS);
+}
+
+static int fails(const char *name) {
+    return fail_at && !strcmp(name, fail_name) && ++fail_count == fail_at;
+}
+
+/* How much of a write is made although it fails. */
+static size_t made(size_t size) { return !strcmp(fail_how, "all") ? size : !strcmp(fail_how, "half") ? size / 2 : 0; }
+
+static int stops(int fd) { return fd == disk && ++changes == stop_at; }
+
+/* Less than what is asked, at times; 0 for an interruption. */
+static size_t shortened(size_t size) {
+    if (!short_seed || size == 0) return size;
+    uint32_t x = draw(&short_seed);
+    if (x % 4 == 0) return 0;
+    return x % 4 == 1 ? size : 1 + x / 4 % size;
+}
+
+int open(const char *path, int flags, ...) {
+    va_list more;
+    va_start(more, flags);
+    int mode = flags & O_CREAT ? va_arg(more, int) : 0;
+    va_end(more);
+    wake();
+    const char *name = getenv("TRIAL_DISK");
+    int ours = name && !strcmp(path, name);
+    if (ours) {
+        tell("open", 0, 0);
+        if (fails("open")) { errno = EIO; return -1; }
+    }
+    int fd = syscall(SYS_openat, AT_FDCWD, path, flags, mode);
+    if (ours && fd >= 0) { disk = fd; settle(); }
+    return fd;
+}
+
+ssize_t read(int fd, void *to, size_t size) {
+    wake();
+    if (fd == 0) {
+        if (fails("read")) { tell("read", -1, size); errno = EIO; return -1; }
+        /* An interrupted read would be a read fault: no signal has a handler, so none is interrupted. */
+        size_t less = shortened(size);
+        if (less == 0) less = size;
+        if (cut && cut < less) less = cut;
+        cut = 0;
+        ssize_t got = syscall(SYS_read, fd, to, less);
+        tell("read", got, size);
+        return got;
+    }
+    return syscall(SYS_read, fd, to, size);
+}
+
+ssize_t write(int fd, const void *from, size_t size) {
+    wake();
+    if (fd == 1) {
+        if (fails("write")) {
+            if (made(size)) syscall(SYS_write, fd, from, made(size));
+            tell("write", -1, size);
+            errno = EIO;
+            return -1;
+        }
+        size_t less = shortened(size);
+        if (less == 0) less = size;
+        ssize_t done = syscall(SYS_write, fd, from, less);
+        tell("write", done, size);
+        return done;
+    }
+    return syscall(SYS_write, fd, from, size);
+}
+
+int statx(int at, const char *path, int flags, unsigned mask, struct statx *to) {
+    wake();
+    if (at == disk && disk >= 0) {
+        tell("statx", 0, 0);
+        if (fails("statx")) { errno = EIO; return -1; }
+    }
+    return syscall(SYS_statx, at, path, flags, mask, to);
+}
+
+ssize_t pread(int fd, void *to, size_t size, off_t at) {
+    wake();
+    if (fd == disk) {
+        tell("pread", at, size);
+        if (fails("pread")) { errno = EIO; return -1; }
+        size_t less = shortened(size);
+        if (less == 0 && size) { errno = EINTR; return -1; }
+        size = less;
+    }
+    return syscall(SYS_pread64, fd, to, size, at);
+}
+
+ssize_t pwrite(int fd, const void *from, size_t size, off_t at) {
+    wake();
+    if (fd == disk) {
+        tell("pwrite", at, size);
+        int failed = fails("pwrite");
+        if (failed) size = made(size);
+        size_t less = failed ? size : shortened(size);
+        if (less == 0 && size) { errno = EINTR; return -1; }
+        int stopped = stops(fd);
+        ssize_t done = less ? syscall(SYS_pwrite64, fd, from, less, at) : 0;
+        loosen(at < base_size ? at : base_size, at < base_size ? less : at - base_size + less);
+        if (stopped) stop();
+        if (failed) { errno = TRIAL_ERRNO; return -1; }
+        return done;
+    }
+    return syscall(SYS_pwrite64, fd, from, size, at);
+}
+
+int ftruncate(int fd, off_t size) {
+    wake();
+    if (fd == disk) {
+        tell("ftruncate", size, 0);
+        int failed = fails("ftruncate"), stopped = stops(fd);
+        long old = size_of_disk();
+        int done = failed && !made(2) ? 0 : syscall(SYS_ftruncate, fd, size);
+        if (size > old) loosen(old, size - old);
+        if (stopped) stop();
+        if (failed) { errno = EIO; return -1; }
+        return done;
+    }
+    return syscall(SYS_ftruncate, fd, size);
+}
+
+static int synced(int fd, const char *name, long number) {
+    wake();
+    if (fd != disk) return syscall(number, fd);
+    tell(name, 0, 0);
+    int failed = fails("fsync");
+    if (stops(fd)) stop();
+    if (failed) { errno = EIO; return -1; }
+    settle();
+    return 0;
+}
+
+int fsync(int fd) { return synced(fd, "fsync", SYS_fsync); }
+int fdatasync(int fd) { return synced(fd, "fsync", SYS_fdatasync); }
+
+void *malloc(size_t size) {
+    wake();
+    if (fails("malloc")) { tell("malloc", size, 0); return 0; }
+    return __libc_malloc(size);
+}
+
+void *realloc(void *was, size_t size) {
+    wake();
+    if (size && fails("malloc")) { tell("malloc", size, 0); return 0; }
+    return __libc_realloc(was, size);
+}
+"""
+
+
+class Library:
+    def __init__(self, folder):
+        source = pathlib.Path(folder) / "preload.c"
+        text = SOURCE.replace("STOPPED_STATUS", str(STOPPED)).replace("TRIAL_ERRNO", "ENOSPC")
+        source.write_text(text)
+        self.path = str(source.with_suffix(".so"))
+        subprocess.run(["cc", "-O1", "-fno-builtin", "-shared", "-fPIC", "-o", self.path, source], check=True)
+
+    def run(self, program, words, folder, given=b"", disk="tp.log", stop=None, fail=None, short=None, cut=None, trace=None):
+        """Runs the program in that folder with the library before it."""
+        extra = {"LD_PRELOAD": self.path, "TRIAL_DISK": disk}
+        for name, value in (("STOP", stop), ("FAIL", fail), ("SHORT", short), ("CUT", cut), ("TRACE", trace)):
+            if value is not None:
+                extra["TRIAL_" + name] = str(value)
+        return subprocess.run(program + words, cwd=folder, input=given, capture_output=True, env={**os.environ, **extra})
+
+
+def calls_of(trace):
+    """The calls of a trace as (name, number, number)."""
+    with open(trace) as lines:
+        return [(name, int(a), int(b)) for name, a, b in map(str.split, lines)]
