@@ -47,11 +47,7 @@ impl<R: Files<File = File>> FileDisk<'_, R> {
         if self.file.is_some() {
             return Ok(());
         }
-        let mut how = OpenOptions::new();
-        how.read(true);
-        how.write(true);
-        how.create(true);
-        match how.open(self.files, self.path) {
+        match how_to_open().open(self.files, self.path) {
             Ok(file) => {
                 self.file = Some(file);
                 Ok(())
@@ -61,7 +57,16 @@ impl<R: Files<File = File>> FileDisk<'_, R> {
     }
 }
 
-fn read_part(file: &File, at: u64, buf: &mut [u8]) -> io::Result<usize>
+// For reading and writing, made empty where there is none.
+pub(crate) fn how_to_open() -> OpenOptions {
+    let mut how = OpenOptions::new();
+    how.read(true);
+    how.write(true);
+    how.create(true);
+    how
+}
+
+pub(crate) fn read_part(file: &File, at: u64, buf: &mut [u8]) -> io::Result<usize>
     ensures fits { IfOk result (λ n. n ≤ length buf.old) }
     ensures rest { IfOk result (λ n. drop n buf.new ≡ drop n buf.old) }
 {
