@@ -1,5 +1,5 @@
 -- A write and a sync over a fuse, done or stopped, and two such runs, one after the other.
-use Rattle.std.proofs.Common.{◌≡◌, ◌≢◌, ◌⊎◌, inl, inr, ◌+◌, ◌<◌, ◌≤◌, ◌^◌, ◌==◌, ℕ, true, false, Option, Some, None, List, [], length, sym, ap, ◌∙◌, subst, arith}
+use Rattle.std.proofs.Common.{◌≡◌, ◌≢◌, ◌⊎◌, inl, inr, ◌+◌, ◌<◌, ◌≤◌, ◌^◌, ◌==◌, ℕ, true, false, Option, Some, None, List, [], length, refl, sym, ap, ◌∙◌, subst, arith}
 use Rattle.std.proofs.lemmas.Bool.Decides.{nat_tests}
 use Rattle.tp_outside.specs.Faults.{one_more, HasRisen}
 use Rattle.tp_outside.specs.Story.{Wrote, Synced, seen, IsSettled}
@@ -7,8 +7,8 @@ use Rattle.tp_outside.specs.Disk.{IsWritten, Writes}
 use Rattle.tp_outside.specs.Fill.{filled, filled_range}
 use Rattle.tp_outside.specs.MemDisk.{Recorded, IsCounted, DiskWrites, DiskSyncs}
 use Rattle.tp_outside.specs.declared.mem_disk.Attempt.{Attempt}
-use Rattle.tp_outside.specs.declared.mem_disk.Attempt.TheVariants.{Failed, Starved}
-use Rattle.tp_outside.specs.FuseDisk.{Fused, Passes, StopsIn, StarvesBelow, FuseFails, IsMade, OnFuse, IsReady, GoesOn, StopsAfter, Starves}
+use Rattle.tp_outside.specs.declared.mem_disk.Attempt.TheVariants.{Done, Failed, Starved}
+use Rattle.tp_outside.specs.FuseDisk.{Fused, refuse, step, Passes, StopsIn, StarvesBelow, FuseFails, IsMade, OnFuse, IsReady, GoesOn, StopsAfter, Starves}
 use Rattle.tp_outside.proofs.Fills.{filled_is_image}
 use Rattle.tp_outside.proofs.Stories.{split_le}
 
@@ -54,6 +54,32 @@ starves_in effect f g rises running starves = record { running = ap (λ (x : Fus
 
 counted_starved : (old new : Recorded) → IsCounted old Starved new → HasRisen old.starved new.starved
 counted_starved old new counts = let rose : new.starved ≡ one_more old.starved = ap (λ (r : Recorded). r.starved) counts.counts in omega (arith, rose)
+
+-- a changing call below found memory, and the fuse counted it
+module _ (effect : Recorded → Attempt → Recorded → Type 0) (old new : Fused) (disk : Recorded) (running : old.stopped ≡ false) where
+  made_below : (came : Attempt) → ¬ (came ≡ Starved) → effect old.disk came disk → IsMade effect old.disk disk
+  made_below Done fed does = inl does
+  made_below Failed fed does = inr does
+  made_below Starved fed does = absurd (fed refl)
+
+  pub counted_fails : (came : Attempt) → ¬ (came ≡ Starved) → effect old.disk came disk
+      → (new.stopped ≡ true) × (new ≡ refuse (step old disk)) ⊎ (new.stopped ≡ false) × (new ≡ step old disk) × (came ≡ Failed) → FuseFails effect (IsMade effect) old new
+  counted_fails came fed does (inl (after, is)) =
+      let below : disk ≡ new.disk = sym (ap (λ (f : Fused). f.disk) is) in
+      inr (inl (record {
+        before = running;
+        after = after;
+        steps = is ∙ ap (λ (d : Recorded). refuse (step old d)) below;
+        leaves = subst (IsMade effect old.disk) below (made_below came fed does);
+      }))
+  counted_fails came fed does (inr (after, is, failed)) =
+      let below : disk ≡ new.disk = sym (ap (λ (f : Fused). f.disk) is) in
+      inr (inr (inl (record {
+        before = running;
+        after = after;
+        steps = is ∙ ap (λ (d : Recorded). step old d) below;
+        failed = subst (effect old.disk Failed) below (subst (λ (a : Attempt). effect old.disk a disk) failed does);
+      })))
 
 -- a disk that fails at no listed call
 never : (old new : Recorded) → old.fails ≡ [] → IsCounted old Failed new → ⊥

@@ -1,9 +1,9 @@
 -- A disk in memory as its callers see it, and what its changing calls do, by what comes of them.
-use Rattle.std.specs.Prelude.{◌≡◌, ℕ, Bool, true, false, Some, List, Contains, reverse}
+use Rattle.std.specs.Prelude.{◌≡◌, ℕ, Bool, true, false, Some, List, Contains}
 use Rattle.tp_outside.specs.Faults.{one_more}
 use Rattle.tp_outside.specs.Story.{Story, Made, Synced, seen}
 use Rattle.tp_outside.specs.Disk.{Writes, Resizes}
-use Rattle.tp_outside.specs.Changes.{story_from}
+use Rattle.tp_outside.specs.Changes.{story_after}
 use Rattle.tp_outside.specs.declared.mem_disk.Attempt.{Attempt}
 use Rattle.tp_outside.specs.declared.mem_disk.Attempt.TheVariants.{Done, Failed, Starved}
 use Rattle.tp_outside.specs.declared.mem_disk.MemDisk.{MemDisk}
@@ -21,7 +21,7 @@ pub record Recorded : Type 0 where
   pub starved : ℕ
 
 abbrev pub story_of : MemDisk → Story
-story_of m = story_from m.bytes.items (reverse m.changes.items)
+story_of m = story_after m.bytes.items m.changes
 
 abbrev pub recorded : MemDisk → Recorded
 recorded m = record { story = story_of m; fails = m.fails.items; calls = m.calls; faults = m.faults; starved = m.starved }

@@ -1,33 +1,98 @@
 //! What is done to the bytes of a disk in memory, and the record of it.
-ghost use Rattle.std.specs.Prelude.{◌≡◌, ◌≤◌, ◌+◌, ◌++◌, length, take, drop, reverse, OnOk, OnErr, IfOk, Some};
+ghost use Rattle.std.specs.Prelude.{ℕ, List, [], ◌∷◌, false, ◌≡◌, ◌≤◌, ◌<◌, ◌+◌, ◌^◌, ◌++◌, length, take, drop, IfOk, OnOk, OnErr, Some, vec_len, vec_capacity};
 ghost use Rattle.tp_outside.specs.Disk.{IsWritten, IsResized, Writes, Resizes};
-ghost use Rattle.tp_outside.specs.Changes.{story_from};
+ghost use Rattle.tp_outside.specs.Story.{Synced, Made};
+ghost use Rattle.tp_outside.specs.Changes.{story_after};
 
 use std::alloc::{AllocError, Global};
 
-/// A changing call, with what it takes to undo it: the bytes that stood from `kept` on.
-#[derive(Drop)]
-pub enum Change {
-    Write {
-        at: u64,
-        len: u64,
-        kept: u64,
-        before: Vec<u8>,
-    },
-    Resize {
-        len: u64,
-        kept: u64,
-        before: Vec<u8>,
-    },
-    Sync,
+/// The most bytes that a disk in memory holds.
+const MOST_BYTES: usize = u32::MAX as usize;
+
+/// A call that changed the bytes, of which there were `was`.
+#[derive(Clone, Copy)]
+pub enum Call {
+    Write { at: u32, len: u32, was: u32 },
+    Resize { len: u32, was: u32 },
+    /// Of a sync with no call before it.
+    Nothing,
 }
 
-// The bytes from a place on.
-fn tail(bytes: &[u8], from: usize, alloc: Global) -> Result<Vec<u8>, AllocError>
-    requires { from ≤ length bytes.now }
-    ensures { IfOk result (λ v. v.items ≡ drop from bytes.now) }
-{
-    Ok(bytes[from..].to_vec(alloc)?)
+/// A call, and whether a sync came next.
+#[derive(Clone, Copy)]
+pub struct Change {
+    pub call: Call,
+    pub synced: bool,
+}
+
+/// What was done to the bytes of a disk, with what it takes to undo it: the bytes that each call wrote over or cut off.
+/// The newest come last.
+#[derive(Drop)]
+pub struct Changes {
+    pub items: Vec<Change>,
+    pub lost: Vec<u8>,
+}
+
+impl Changes {
+    /// Nothing was done.
+    pub fn new(alloc: Global) -> Changes
+        ensures { (now : List ℕ) → story_after now result ≡ Made now }
+    {
+        Changes {
+            items: Vec::new(alloc),
+            lost: Vec::new(alloc),
+        }
+    }
+
+    /// Forgets what was done.
+    pub fn clear(&mut self)
+        ensures { (now : List ℕ) → story_after now self.new ≡ Made now }
+    {
+        self.items.clear();
+        self.lost.clear();
+    }
+
+    // Makes room for a call, and keeps the bytes that it is to write over or cut off.
+    fn keep(&mut self, lost: &[u8]) -> Result<(), AllocError>
+        ensures items { self.new.items.items ≡ self.old.items.items }
+        ensures room { OnOk result (vec_len self.new.items < vec_capacity self.new.items) }
+        ensures ok { OnOk result (self.new.lost.items ≡ self.old.lost.items ++ lost.now) }
+        ensures err { OnErr result (self.new.lost.items ≡ self.old.lost.items) }
+    {
+        self.items.reserve(1)?;
+        self.lost.extend_from_slice(lost)
+    }
+
+    // A call was made, for which there is room.
+    fn add(&mut self, call: Call)
+        requires { vec_len self.old.items < vec_capacity self.old.items }
+        ensures items { self.new.items.items ≡ self.old.items.items ++ record { call = call; synced = false } ∷ [] }
+        ensures lost { self.new.lost.items ≡ self.old.lost.items }
+    {
+        let change = Change {
+            call,
+            synced: false,
+        };
+        self.items.push(change).unwrap();
+    }
+
+    /// A sync was made.
+    pub fn sync(&mut self) -> Result<(), AllocError>
+        ensures ok { OnOk result ((now : List ℕ) → story_after now self.new ≡ Synced (story_after now self.old)) }
+        ensures err { OnErr result ((now : List ℕ) → story_after now self.new ≡ story_after now self.old) }
+    {
+        let count = self.items.len();
+        if count > 0 && !self.items[count - 1].synced {
+            self.items[count - 1].synced = true;
+            return Ok(());
+        }
+        let alone = Change {
+            call: Call::Nothing,
+            synced: true,
+        };
+        self.items.push(alone)?;
+        Ok(())
+    }
 }
 
 // Puts a piece over what stands there.
@@ -50,6 +115,17 @@ fn overwrite(bytes: &mut Vec<u8>, at: usize, piece: &[u8]) -> Result<(), AllocEr
     Ok(())
 }
 
+// Where so many bytes at a place end, if a disk in memory may be that long.
+fn end_of(at: usize, len: usize) -> Result<usize, AllocError>
+    ensures { IfOk result (λ end. (end ≡ at + len) × (end < 2 ^ 32)) }
+{
+    let end = at.checked_add(len).ok_or(AllocError)?;
+    if end > MOST_BYTES {
+        return Err(AllocError);
+    }
+    Ok(end)
+}
+
 fn resize(bytes: &mut Vec<u8>, len: usize) -> Result<(), AllocError>
     ensures ok { OnOk result (IsResized len bytes.old.items bytes.new.items) }
     ensures err { OnErr result (bytes.new.items ≡ bytes.old.items) }
@@ -61,45 +137,56 @@ fn resize(bytes: &mut Vec<u8>, len: usize) -> Result<(), AllocError>
 /// made is told of.
 pub(crate) fn write(
     bytes: &mut Vec<u8>,
-    changes: &mut Vec<Change>,
+    changes: &mut Changes,
     at: u64,
     piece: &[u8],
 ) -> Result<(), AllocError>
-    ensures ok { OnOk result (Writes at piece.now (Some (story_from bytes.old.items (reverse changes.old.items))) (Some (story_from bytes.new.items (reverse changes.new.items)))) }
-    ensures err { OnErr result (story_from bytes.new.items (reverse changes.new.items) ≡ story_from bytes.old.items (reverse changes.old.items)) }
+    ensures ok { OnOk result (Writes at piece.now (Some (story_after bytes.old.items changes.old)) (Some (story_after bytes.new.items changes.new))) }
+    ensures err { OnErr result (story_after bytes.new.items changes.new ≡ story_after bytes.old.items changes.old) }
 {
-    let kept = (at as usize).min(bytes.len());
-    let before = tail(bytes, kept, *bytes.allocator())?;
-    changes.reserve(1)?;
-    overwrite(bytes, at as usize, piece)?;
-    let change = Change::Write {
-        at,
-        len: piece.len() as u64,
-        kept: kept as u64,
-        before,
-    };
-    changes.push(change).unwrap();
+    let was = bytes.len();
+    let from = at as usize;
+    let end = end_of(from, piece.len())?;
+    if was > MOST_BYTES {
+        return Err(AllocError);
+    }
+    let kept = changes.lost.len();
+    changes.keep(&bytes[from.min(was)..end.min(was)])?;
+    if let Err(fault) = overwrite(bytes, from, piece) {
+        changes.lost.truncate(kept);
+        return Err(fault);
+    }
+    changes.add(Call::Write {
+        at: from as u32,
+        len: piece.len() as u32,
+        was: was as u32,
+    });
     Ok(())
 }
 
 /// Sets the length, with zeros after the old end.
 pub(crate) fn set_len(
     bytes: &mut Vec<u8>,
-    changes: &mut Vec<Change>,
+    changes: &mut Changes,
     len: u64,
 ) -> Result<(), AllocError>
-    ensures ok { OnOk result (Resizes len (Some (story_from bytes.old.items (reverse changes.old.items))) (Some (story_from bytes.new.items (reverse changes.new.items)))) }
-    ensures err { OnErr result (story_from bytes.new.items (reverse changes.new.items) ≡ story_from bytes.old.items (reverse changes.old.items)) }
+    ensures ok { OnOk result (Resizes len (Some (story_after bytes.old.items changes.old)) (Some (story_after bytes.new.items changes.new))) }
+    ensures err { OnErr result (story_after bytes.new.items changes.new ≡ story_after bytes.old.items changes.old) }
 {
-    let kept = (len as usize).min(bytes.len());
-    let before = tail(bytes, kept, *bytes.allocator())?;
-    changes.reserve(1)?;
-    resize(bytes, len as usize)?;
-    let change = Change::Resize {
-        len,
-        kept: kept as u64,
-        before,
-    };
-    changes.push(change).unwrap();
+    let was = bytes.len();
+    let end = len as usize;
+    if was > MOST_BYTES || end > MOST_BYTES {
+        return Err(AllocError);
+    }
+    let kept = changes.lost.len();
+    changes.keep(&bytes[end.min(was)..])?;
+    if let Err(fault) = resize(bytes, end) {
+        changes.lost.truncate(kept);
+        return Err(fault);
+    }
+    changes.add(Call::Resize {
+        len: end as u32,
+        was: was as u32,
+    });
     Ok(())
 }

@@ -1,10 +1,10 @@
-//! A disk in memory. It keeps a record of its changing calls, from which its story follows, and fails at listed calls and
-//! where there is no memory to grow.
+//! A disk in memory, of up to 4 GiB less one byte. It keeps a record of its changing calls, from which its story follows,
+//! and fails at listed calls and where there is no memory to grow, or no more than that fits.
 ghost use Rattle.std.specs.Prelude.{◌≡◌, ◌≤◌, ◌⊎◌, ◌↔◌, [], IsTrue, IsOk, IfOk, OnOk, OnErr, Contains, Some, length, drop};
 ghost use Rattle.tp_outside.specs.Faults.{HasRisen, one_more};
 ghost use Rattle.tp_outside.specs.Disk.{HasLength, Reads, Writes, MayWrite, Resizes, MayResize, Syncs};
 
-use crate::changes::{self, Change};
+use crate::changes::{self, Changes};
 use crate::{Disk, Failed, due};
 use std::alloc::Global;
 use tp_names::Octets;
@@ -24,7 +24,7 @@ pub enum Attempt {
 #[derive(Drop)]
 pub struct MemDisk {
     bytes: Vec<u8>,
-    changes: Vec<Change>,
+    changes: Changes,
     fails: Vec<u8>,
     calls: u64,
     faults: u64,
@@ -42,7 +42,7 @@ impl MemDisk {
     {
         MemDisk {
             bytes: bytes.into_vec(),
-            changes: Vec::new(alloc),
+            changes: Changes::new(alloc),
             fails: Vec::new(alloc),
             calls: 0,
             faults: 0,
@@ -57,7 +57,7 @@ impl MemDisk {
     {
         MemDisk {
             bytes: bytes.into_vec(),
-            changes: Vec::new(alloc),
+            changes: Changes::new(alloc),
             fails: calls.into_vec(),
             calls: 0,
             faults: 0,
@@ -125,7 +125,7 @@ impl MemDisk {
         ensures kept { (recorded self.old).faults ≤ (recorded self.new).faults }
     {
         let due = self.is_next_due();
-        let made = due || self.changes.push(Change::Sync).is_ok();
+        let made = due || self.changes.sync().is_ok();
         self.count(made, due)
     }
 

@@ -1,15 +1,17 @@
-use Rattle.std.proofs.Common.{◌≡◌, ℕ, [], ◌∷◌, ◌++◌, length, drop, min, rules, ◌∙◌, ap}
-use Rattle.tp_outside.specs.declared.changes.Change.TheVariants.{Resize}
+use Rattle.std.proofs.Common.{◌≡◌, ℕ, [], ◌∷◌, ◌++◌, drop, length, min, false, rules, arith, ap, ◌∙◌}
+use Rattle.std.proofs.lemmas.Grind.{common_steps}
+use Rattle.tp_outside.specs.declared.changes.Call.TheVariants.{Resize}
 use Rattle.tp_outside.proofs.Records.{resizes}
 use Rattle.tp_outside.proofs.changes.set_len.Goals as goal
 
 pub returns-clause-ok : goal.returns-clause-ok
 returns-clause-ok c =
     let old = c.args.bytes.now.items in
-    let kept : c.min-kept.result ≡ min c.args.len (length old) = search rules in
-    let tail : c.in_ok-before.before.items ≡ drop (min c.args.len (length old)) old = grind rules in
-    let pushed = rw c.unwrap.ensures at c.push.ensures.items in
-    let is : c.push.new.self.items ≡ c.args.changes.now.items ++ Resize c.args.len (min c.args.len (length old)) c.in_ok-before.before ∷ [] =
-    pushed ∙ ap (λ l. l ++ Resize c.args.len c.min-kept.result c.in_ok-before.before ∷ []) c.reserve.ensures.items
-    ∙ ap (λ (k : ℕ). c.args.changes.now.items ++ Resize c.args.len k c.in_ok-before.before ∷ []) kept in
-    resizes old _ _ _ c.args.len c.in_ok-before.before tail is (c.in_ok-resize.ensures {u = tt}).ok
+    let list = c.args.changes.now.items.items in
+    let from : c.min.result ≡ min c.args.len (length old) = search rules in
+    let lost : c.add.new.self.lost.items ≡ c.args.changes.now.lost.items ++ drop (min c.args.len (length old)) old = grind (arith, common_steps, from, c.deref.ensures.value) in
+    let was : c.len-was.result ≡ length old = omega (arith, c.len-was.ensures, c.args.bytes.now.ok.0) in
+    let items : c.add.new.self.items.items ≡ list ++ record { call = Resize c.args.len (length old); synced = false } ∷ [] =
+    c.add.ensures.items ∙ ap (λ l. l ++ record { call = Resize c.args.len c.len-was.result; synced = false } ∷ []) c.keep.ensures.items
+    ∙ ap (λ (n : ℕ). list ++ record { call = Resize c.args.len n; synced = false } ∷ []) was in
+    resizes old _ _ _ c.args.len _ _ lost items (c.in_default.ensures {u = tt}).ok

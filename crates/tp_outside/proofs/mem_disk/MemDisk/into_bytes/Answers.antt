@@ -1,6 +1,6 @@
-use Rattle.std.proofs.Common.{sym, reverse}
-use Rattle.tp_outside.proofs.Records.{seen_from}
+use Rattle.std.proofs.Common.{sym}
+use Rattle.tp_outside.proofs.Records.{seen_after}
 use Rattle.tp_outside.proofs.mem_disk.MemDisk.into_bytes.Goals as goal
 
 pub returns : goal.returns
-returns c = sym (seen_from c.args.self.bytes.items (reverse c.args.self.changes.items))
+returns c = sym (seen_after c.args.self.bytes.items c.args.self.changes)
