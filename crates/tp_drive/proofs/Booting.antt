@@ -1,11 +1,12 @@
 -- A log on which a site has just started, and what it was before.
-use Rattle.std.proofs.Common.{◌≡◌, ◌≤◌, ℕ, ◌+◌, ◌-◌, Option, Ok, List, [], ◌∷◌, ◌++◌, take, length, length-append, refl, ap, sym, ◌∙◌, subst, arith}
+use Rattle.std.proofs.Common.{◌≡◌, true, ◌≤◌, ℕ, ◌+◌, ◌-◌, Option, Ok, List, [], ◌∷◌, ◌++◌, take, length, length-append, refl, ap, sym, ◌∙◌, subst, arith}
 use Rattle.std.proofs.lemmas.List.{map-append, take-append-le, take_all}
 use Rattle.tp_outside.specs.Story.{Story}
 use Rattle.tp_shared_log.specs.Images.{Leaves}
 use Rattle.tp_shared_log.proofs.Placed.{length-placed}
 use Rattle.tp_records.specs.declared.body.Event.{Event as Given}
 use Rattle.tp_logrec.specs.declared.record.LogRec.{LogRec}
+use Rattle.tp_logrec.specs.Order.{all_follow}
 use Rattle.tp_model.specs.NodeRun.{Opening, boot_of}
 use Rattle.tp_journal.specs.declared.receipts.Receipt.{Receipt}
 use Rattle.tp_journal.specs.Journals.{Kept}
@@ -14,7 +15,7 @@ use Rattle.tp_journal.specs.Records.{placed, version_of}
 use Rattle.tp_site.specs.Site.{Site, IsStarted}
 use Rattle.tp_drive.specs.declared.driven.DriveFault.{DriveFault}
 use Rattle.tp_drive.specs.Begun.{IsBegun, recs, booted}
-use Rattle.tp_drive.specs.Drives.{Fails, IsShut, LeavesBooted, Stops, opening_on}
+use Rattle.tp_drive.specs.Drives.{Fails, HasBootText, IsShut, LeavesBooted, Stops, opening_on}
 use Rattle.tp_drive.proofs.Begins.{recs-placed}
 
 -- what the site started on, read off the log with its boot
@@ -29,6 +30,7 @@ front rs r =
 
 -- the journal of a site that has started
 pub record HasBooted {D : Type 0} (old : Kept D) (name : List ℕ) (boot : ℕ) (new : Kept D) : Type 0 where
+  pub order : all_follow old.list ≡ true
   pub list : new.list ≡ old.list ++ LogRec.Boot boot ∷ []
   pub wide : new.wide ≡ old.wide
   pub number : boot ≡ boot_of (opening_on old name)
@@ -39,6 +41,7 @@ module _ {D : Type 0} (standing : Kept D → Standing) (old : Kept D) (name : Li
       let forced = is.forced.1 in
       let places : placed s.keeper.wide s.keeper.list ≡ placed old.wide old.list ++ is.forced.0 ∷ [] = sym (kept s.keeper) ∙ forced.kept ∙ ap (λ l. l ++ is.forced.0 ∷ []) (kept old) in
       record {
+        order = ap all_follow (sym (ap recs (told old) ∙ recs-placed old.wide old.list)) ∙ is.order;
         list = sym (recs-placed s.keeper.wide s.keeper.list) ∙ ap recs places ∙ map-append (λ (r : Receipt). r.rec) (placed old.wide old.list) (is.forced.0 ∷ [])
             ∙ ap (λ (l : List LogRec). l ++ is.forced.0.rec ∷ []) (recs-placed old.wide old.list) ∙ ap (λ (r : LogRec). old.list ++ r ∷ []) forced.same;
         wide = sym (wide s.keeper) ∙ forced.wide ∙ wide old;
@@ -77,13 +80,23 @@ stops_fails standing old name lanes events o before new (DriveFault.DiskFault fa
 stops_fails standing old name lanes events o before new (DriveFault.Full size event) is le s = subst (λ p. Stops p lanes events before new (standing new).faults (DriveFault.Full size event)) is s
 stops_fails standing old name lanes events o before new DriveFault.NoMemory is le s = tt
 
+-- the boot was not refused
+pub stops_text : {D : Type 0} (standing : Kept D → Standing) (old : Kept D) (name : List ℕ) (lanes : ℕ) (events : List Given) (o : Opening) (before : ℕ) (new : Kept D) (f : DriveFault) → Stops o lanes events before new (standing new).faults f → HasBootText standing old name new f
+stops_text standing old name lanes events o before new (DriveFault.Start fault) s = absurd s
+stops_text standing old name lanes events o before new (DriveFault.LogDiffers place receipt kept) s = tt
+stops_text standing old name lanes events o before new (DriveFault.DiskFault faults) s = tt
+stops_text standing old name lanes events o before new (DriveFault.Full size event) s = tt
+stops_text standing old name lanes events o before new DriveFault.NoMemory s = tt
+
 -- ---- what a crash leaves
 
 module _ {D : Type 0} (standing : Kept D → Standing) (old : Kept D) (name : List ℕ) (s : Site (Kept D)) (is : IsStarted standing old name s) (b : HasBooted old name s.nodes.boot s.keeper) where
-  pub leaves_booted : (stood : List Receipt) (told : Option Story) (new : Kept D) → stood ≡ placed s.keeper.wide s.keeper.list → Leaves (standing s.keeper).story (length stood) new.wide new.list new.shut told → LeavesBooted standing old name told new
-  leaves_booted stood told new same leaves =
+  pub leaves_booted : (stood : List Receipt) (told : Option Story) (new : Kept D) → stood ≡ placed s.keeper.wide s.keeper.list → new.wide ≡ s.keeper.wide → Leaves (standing s.keeper).story (length stood) new.wide new.list new.shut told → LeavesBooted standing old name told new
+  leaves_booted stood told new same wide leaves =
       let many : length stood ≡ length old.list + 1 = ap length same ∙ length-placed s.keeper.wide s.keeper.list ∙ ap length b.list ∙ length-append old.list (LogRec.Boot s.nodes.boot ∷ []) in
       record {
+        order = b.order;
+        wide = wide ∙ b.wide;
         receipt = is.forced.0;
         started = standing s.keeper;
         forced = subst (λ (n : ℕ). Forces (standing old) (LogRec.Boot n) (Ok is.forced.0) (standing s.keeper)) b.number is.forced.1;

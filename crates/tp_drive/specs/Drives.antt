@@ -5,6 +5,7 @@ use Rattle.tp_outside.specs.Story.{Story}
 use Rattle.tp_records.specs.declared.body.Event.{Event as Given}
 use Rattle.tp_records.specs.declared.body.Output.{Output}
 use Rattle.tp_logrec.specs.declared.record.LogRec.{LogRec}
+use Rattle.tp_logrec.specs.Order.{all_follow}
 use Rattle.tp_model.specs.NodeRun.{Opening, boot_of, node_run}
 use Rattle.tp_model.specs.Lanes.{IsInterleaving}
 use Rattle.tp_journal.specs.declared.receipts.Receipt.{Receipt}
@@ -14,7 +15,8 @@ use Rattle.tp_journal.specs.Log.{most_bytes}
 use Rattle.tp_journal.specs.Records.{placed, version_of}
 use Rattle.tp_shared_log.specs.Images.{Leaves}
 use Rattle.tp_shared_log.specs.declared.unfit.Unfit.{Unfit}
-use Rattle.tp_site.specs.Site.{Starts}
+use Rattle.tp_site.specs.Shaped.{HasTextIfStarted}
+use Rattle.tp_site.specs.Site.{Site, Starts, opening_of}
 use Rattle.tp_drive.specs.declared.driven.DriveFault.{DriveFault}
 use Rattle.tp_drive.specs.declared.stop.Stop.{Stop}
 use Rattle.tp_drive.specs.Begun.{recs, booted}
@@ -75,6 +77,14 @@ abbrev pub Fails : {D : Type 0} → (Kept D → Standing) → Kept D → List �
 Fails standing old name lanes events new (DriveFault.Start fault) = Starts standing old name (Err (new, fault))
 Fails standing old name lanes events new fault = Stops (opening_on old name) lanes events (standing old).faults new (standing new).faults fault
 
+-- where the boot was refused, it has a text
+abbrev pub HasBootText : {D : Type 0} → (Kept D → Standing) → Kept D → List ℕ → Kept D → DriveFault → Type 0
+HasBootText {D} standing old name new (DriveFault.Start fault) = HasTextIfStarted {A = Site (Kept D)} (standing old).wide (LogRec.Boot (boot_of (opening_of (standing old) name))) (Err (new, fault))
+HasBootText standing old name new (DriveFault.LogDiffers place receipt kept) = Unit {0}
+HasBootText standing old name new (DriveFault.DiskFault faults) = Unit {0}
+HasBootText standing old name new (DriveFault.Full size event) = Unit {0}
+HasBootText standing old name new DriveFault.NoMemory = Unit {0}
+
 -- the site has started
 abbrev pub HasStarted : DriveFault → Type 0
 HasStarted (DriveFault.Start fault) = ⊥
@@ -83,9 +93,11 @@ HasStarted (DriveFault.DiskFault faults) = Unit {0}
 HasStarted (DriveFault.Full size event) = Unit {0}
 HasStarted DriveFault.NoMemory = Unit {0}
 
--- The boot was forced. From then on a crash left the first of the records that the log has now, with the boot at least, and now it
+-- The records that the site started on follow one another, and the boot was forced. From then on a crash left the first of the records that the log has now, with the boot at least, and now it
 -- leaves all of them; of a log that is shut perhaps also the one that was being forced.
 pub record LeavesBooted {D : Type 0} (standing : Kept D → Standing) (old : Kept D) (name : List ℕ) (told : Option Story) (new : Kept D) : Type 0 where
+  pub order : all_follow old.list ≡ true
+  pub wide : new.wide ≡ old.wide
   pub receipt : Receipt
   pub started : Standing
   pub forced : Forces (standing old) (LogRec.Boot (boot_of (opening_on old name))) (Ok receipt) started

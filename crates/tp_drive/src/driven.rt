@@ -5,7 +5,7 @@ use tp_journal::{Journal, Receipt, Receipts};
 use tp_outside::Disk;
 use tp_site::StartFault;
 
-/// What the workers did.
+/// What the workers did. The log is open.
 #[derive(Drop)]
 pub struct Driven<D: Disk> {
     /// The outputs of each event.
@@ -28,7 +28,7 @@ pub enum DriveFault {
         receipt: Receipt,
         kept: Receipt,
     },
-    /// Lanes stopped, and the log is shut with that count of faults.
+    /// The disk failed under a lane, and the log is shut with that count of faults.
     DiskFault {
         faults: u64,
     },

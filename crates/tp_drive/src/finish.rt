@@ -1,5 +1,5 @@
 //! After the joins: the receipts are compared, the fault is found, and the outputs are put in order.
-ghost use Rattle.std.specs.Prelude.{◌≡◌, ◌≤◌, ◌||◌, ℕ, true, List, [], is_some, IfOk, IfErr, IfNone, IfSome, length, map};
+ghost use Rattle.std.specs.Prelude.{◌≡◌, ◌≤◌, ◌||◌, ℕ, true, List, [], None, is_some, IfOk, IfErr, IfNone, IfSome, length, map};
 ghost use Rattle.std.specs.List.{All, sum_by};
 ghost use Rattle.tp_journal.specs.Records.{placed};
 ghost use Rattle.tp_shared_log.specs.Locks.{Extends, ShutRose, HadNoRoom};
@@ -41,6 +41,7 @@ pub fn finish<D: Disk, L: Begun>(
     requires shut { ShutRose L.faults journal.shut (D.fault_count journal.disk) }
     requires unfit { HadNoRoom journal.gate unfit }
     ensures done { IfOk result (λ d. IsDriven L.opening count events.now d.outs d.receipts d.journal.wide d.journal.list) }
+    ensures open { IfOk result (λ d. d.journal.shut ≡ None) }
     ensures stops { IfErr result (λ e. Stops L.opening count events.now L.faults e.0 (D.fault_count e.0.disk) e.1) }
     ensures journal { (IfErr result (λ e. e.0 ≡ journal)) × (IfOk result (λ d. d.journal ≡ journal)) }
 {
@@ -77,22 +78,20 @@ pub fn finish<D: Disk, L: Begun>(
     })
 }
 
-// Why lanes stopped.
+// Why not all events were done: the log is shut, or else lanes stopped.
 fn fault_of(stops: &[Option<Stop>], shut: Option<u64>, unfit: Option<Unfit>) -> Option<DriveFault>
     requires { (event : ℕ) → IsLeastStop stops.now event → (is_some shut || is_some unfit) ≡ true }
     ensures none { IfNone result (All (λ s. s ≡ None) stops.now) }
+    ensures open { IfNone result (shut ≡ None) }
     ensures some { IfSome result (λ f. IsCause stops.now shut unfit f) }
 {
-    let event = match ending_of(stops) {
-        Ended::All => return None,
-        Ended::NoMemory => None,
-        Ended::Stopped(event) => Some(event),
-    };
     if let Some(faults) = shut {
         return Some(DriveFault::DiskFault { faults });
     }
-    let Some(event) = event else {
-        return Some(DriveFault::NoMemory);
+    let event = match ending_of(stops) {
+        Ended::All => return None,
+        Ended::NoMemory => return Some(DriveFault::NoMemory),
+        Ended::Stopped(event) => event,
     };
     let Some(unfit) = unfit else {
         unreachable!();

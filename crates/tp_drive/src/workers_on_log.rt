@@ -3,7 +3,7 @@ ghost use Rattle.std.specs.Prelude.{◌≡◌, ◌≤◌, None, IfOk, IfErr, len
 ghost use Rattle.tp_journal.specs.Records.{placed};
 ghost use Rattle.tp_journal.specs.Journals.{standing_of};
 ghost use Rattle.tp_drive.specs.Begun.{IsBegun};
-ghost use Rattle.tp_drive.specs.Drives.{Fails, HasStarted, IsDriven, LeavesBooted, Stops, opening_on};
+ghost use Rattle.tp_drive.specs.Drives.{Fails, HasBootText, HasStarted, IsDriven, LeavesBooted, Stops, opening_on};
 ghost use Rattle.tp_shared_log.specs.Images.{Leaves};
 
 use crate::Gate;
@@ -38,9 +38,11 @@ pub fn drive<R: Threads + Wait + Sync, D: Disk + Send, G: Gate + Sync>(
 ) -> Result<Driven<D>, (Journal<D>, DriveFault)>
     requires { (1 ≤ workers) × (workers ≤ 16) }
     ensures done { IfOk result (λ d. IsDriven (opening_on journal name) workers events.now d.outs d.receipts d.journal.wide d.journal.list) }
+    ensures open { IfOk result (λ d. d.journal.shut ≡ None) }
     ensures images { IfOk result (λ d. LeavesBooted (λ j. standing_of j (D.fault_count j.disk) (D.told j.disk) (D.fuse j.disk)) journal name (D.told d.journal.disk) d.journal) }
     ensures images_left { IfErr result (λ e. HasStarted e.1 → LeavesBooted (λ j. standing_of j (D.fault_count j.disk) (D.told j.disk) (D.fuse j.disk)) journal name (D.told e.0.disk) e.0) }
     ensures fails { IfErr result (λ e. Fails (λ j. standing_of j (D.fault_count j.disk) (D.told j.disk) (D.fuse j.disk)) journal name workers events.now e.0 e.1) }
+    ensures text { IfErr result (λ e. HasBootText (λ j. standing_of j (D.fault_count j.disk) (D.told j.disk) (D.fuse j.disk)) journal name e.0 e.1) }
 {
     let site = match Site::start(alloc, journal, name) {
         Ok(site) => site,
@@ -81,6 +83,9 @@ fn on_log<
     requires first { (first.name ≡ L.name) × (first.parts ≡ L.parts) × (first.parts ≡ count) }
     requires second { (second.name ≡ M.name) × (second.parts ≡ M.parts) × (second.parts ≡ count) }
     ensures done { IfOk result (λ d. IsDriven L.opening count events.now d.outs d.receipts d.journal.wide d.journal.list) }
+    ensures open { IfOk result (λ d. d.journal.shut ≡ None) }
+    ensures wide { IfOk result (λ d. d.journal.wide ≡ L.wide) }
+    ensures wide_left { IfErr result (λ e. e.0.wide ≡ L.wide) }
     ensures images { IfOk result (λ d. Leaves L.story (length L.stood) d.journal.wide d.journal.list d.journal.shut (D.told d.journal.disk)) }
     ensures images_left { IfErr result (λ e. Leaves L.story (length L.stood) e.0.wide e.0.list e.0.shut (D.told e.0.disk)) }
     ensures stops { IfErr result (λ e. Stops L.opening count events.now L.faults e.0 (D.fault_count e.0.disk) e.1) }

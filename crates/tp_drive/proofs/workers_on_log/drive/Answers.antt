@@ -5,8 +5,8 @@ use Rattle.tp_shared_log.specs.Images.{Leaves}
 use Rattle.tp_model.specs.NodeRun.{Opening}
 use Rattle.tp_drive.specs.Begun.{IsBegun}
 use Rattle.tp_drive.specs.Drives.{IsDriven, opening_on}
-use Rattle.tp_drive.proofs.Booting.{front_begun, front_of, front_same, has_booted, leaves_booted, stops_fails}
-use Rattle.tp_drive.proofs.Outcomes.{if_err, if_ok}
+use Rattle.tp_drive.proofs.Booting.{front_begun, front_of, front_same, has_booted, leaves_booted, stops_fails, stops_text}
+use Rattle.tp_drive.proofs.Outcomes.{if_err, if_errs, if_oks}
 use Rattle.tp_drive.proofs.workers_on_log.drive.Goals as goal
 
 -- the site has just started on the log
@@ -45,9 +45,9 @@ returns-clause-images g c =
     let name = c.args.name in
     let booted = has_booted _ c.args.journal name site (λ j. refl) (λ j. refl) (λ j. refl) c.in-Ok.ensures.starts in
     let keeper = c.keeper-journal in
-    if_ok c.on_log.result _ _ c.on_log.ensures.images
-    (λ d leaves. leaves_booted (λ (j : Kept _). standing_of j (g.D.Disk.fault_count j.disk) (g.D.Disk.told j.disk) (g.D.Disk.fuse j.disk)) c.args.journal name site c.in-Ok.ensures.starts booted
-    (placed keeper.result.wide keeper.result.list) (g.D.Disk.told d.journal.disk) d.journal (ap (λ (j : Kept _). placed j.wide j.list) keeper.ensures)
+    if_oks c.on_log.result _ _ _ c.on_log.ensures.wide c.on_log.ensures.images
+    (λ d wide leaves. leaves_booted (λ (j : Kept _). standing_of j (g.D.Disk.fault_count j.disk) (g.D.Disk.told j.disk) (g.D.Disk.fuse j.disk)) c.args.journal name site c.in-Ok.ensures.starts booted
+    (placed keeper.result.wide keeper.result.list) (g.D.Disk.told d.journal.disk) d.journal (ap (λ (j : Kept _). placed j.wide j.list) keeper.ensures) (wide ∙ ap (λ (j : Kept _). j.wide) keeper.ensures)
     (subst (λ (j : Kept _). Leaves (g.D.Disk.told j.disk) (length (placed keeper.result.wide keeper.result.list)) d.journal.wide d.journal.list d.journal.shut (g.D.Disk.told d.journal.disk)) keeper.ensures leaves))
 
 pub returns-clause-images_left : goal.returns-clause-images_left
@@ -56,7 +56,12 @@ returns-clause-images_left g c =
     let name = c.args.name in
     let booted = has_booted _ c.args.journal name site (λ j. refl) (λ j. refl) (λ j. refl) c.in-Ok.ensures.starts in
     let keeper = c.keeper-journal in
-    if_err c.on_log.result _ _ c.on_log.ensures.images_left
-    (λ e leaves begun. leaves_booted (λ (j : Kept _). standing_of j (g.D.Disk.fault_count j.disk) (g.D.Disk.told j.disk) (g.D.Disk.fuse j.disk)) c.args.journal name site c.in-Ok.ensures.starts booted
-    (placed keeper.result.wide keeper.result.list) (g.D.Disk.told e.0.disk) e.0 (ap (λ (j : Kept _). placed j.wide j.list) keeper.ensures)
+    if_errs c.on_log.result _ _ _ c.on_log.ensures.wide_left c.on_log.ensures.images_left
+    (λ e wide leaves begun. leaves_booted (λ (j : Kept _). standing_of j (g.D.Disk.fault_count j.disk) (g.D.Disk.told j.disk) (g.D.Disk.fuse j.disk)) c.args.journal name site c.in-Ok.ensures.starts booted
+    (placed keeper.result.wide keeper.result.list) (g.D.Disk.told e.0.disk) e.0 (ap (λ (j : Kept _). placed j.wide j.list) keeper.ensures) (wide ∙ ap (λ (j : Kept _). j.wide) keeper.ensures)
     (subst (λ (j : Kept _). Leaves (g.D.Disk.told j.disk) (length (placed keeper.result.wide keeper.result.list)) e.0.wide e.0.list e.0.shut (g.D.Disk.told e.0.disk)) keeper.ensures leaves))
+
+pub returns-clause-text : goal.returns-clause-text
+returns-clause-text g c =
+    if_err c.on_log.result _ _ c.on_log.ensures.stops
+    (λ e s. stops_text (λ (j : Kept _). standing_of j (g.D.Disk.fault_count j.disk) (g.D.Disk.told j.disk) (g.D.Disk.fuse j.disk)) c.args.journal c.args.name c.args.workers c.args.events.now (front_of c.keeper-journal.result c.args.name) (g.D.Disk.fault_count c.keeper-journal.result.disk) e.0 e.1 s)
