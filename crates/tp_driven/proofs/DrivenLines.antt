@@ -16,6 +16,7 @@ use Rattle.tp_model.specs.Trees.{closing}
 use Rattle.tp_model.specs.Transcript.{Put, answered, echo, is_silent, puts_of}
 use Rattle.tp_members.specs.Expansion.{memberless}
 use Rattle.tp_members.proofs.Memberless.{line_without}
+use Rattle.tp_world.specs.Built.{is_built}
 use Rattle.tp_world.specs.World.{Stands as WorldStands, PlaysAfter as WorldPlaysAfter}
 use Rattle.tp_world.specs.declared.fault.WorldFault.{WorldFault}
 use Rattle.tp_world.specs.declared.world.World.{World as CodeWorld}
@@ -33,6 +34,26 @@ use Rattle.tp_driven.proofs.Running.{puts_are, played_line, ended_line, ended_by
 use Rattle.tp_driven.proofs.Answered.{IsWith, with_members, fault_with}
 
 -- ---- a line that is shown
+
+-- the world without members plays it
+all_built : (l : Line) → is_silent l ≡ false → is_built l ≡ false → ⊥
+all_built (Line.Node n s u) h e = absurd cc
+all_built (Line.Do n r) h e = absurd cc
+all_built (Line.Pass a b) h e = absurd cc
+all_built (Line.Skip a b) h e = absurd cc
+all_built (Line.Again j) h e = absurd cc
+all_built Line.Drain h e = absurd cc
+all_built (Line.Lose n p) h e = absurd cc
+all_built (Line.Heur n o) h e = absurd cc
+all_built (Line.GiveUp n p) h e = absurd cc
+all_built (Line.Retry n) h e = absurd cc
+all_built (Line.Purge n) h e = absurd cc
+all_built (Line.Crash s) h e = absurd cc
+all_built (Line.CrashIn s j x l) h e = absurd cc
+all_built (Line.Show n) h e = absurd cc
+all_built (Line.Image s) h e = absurd cc
+all_built (Line.Auto n j) h e = absurd cc
+all_built (Line.Leave j) h e = absurd cc
 
 drop_front : {A : Type 0} (xs ys : List A) → drop (length xs) (xs ++ ys) ≡ ys
 drop_front [] ys = refl
@@ -103,7 +124,7 @@ module _ {M : Type 0} (allowed : M → List Answer → Type 0) (w : World) (l : 
       go : (f : WorldFault) → WorldPlaysAfter (memberless w) l before (Err f) mid between → PlaysAfter allowed w l before (Err f) after old new
       go WorldFault.Name h = ended_by Name (h 0)
       go (WorldFault.Limit what) h = ended_by (Over what) (h 0)
-      go WorldFault.Unbuilt h = h
+      go WorldFault.Unbuilt h = absurd (all_built l shown h)
       go WorldFault.NoMemory h = tt
 
   -- ---- a line that speaks of members

@@ -1,5 +1,5 @@
 //! A world in which members drive nodes, and its public calls.
-ghost use Rattle.std.specs.Prelude.{◌≡◌, [], List, false, true, map, Some, IfOk, OnOk, OnErr};
+ghost use Rattle.std.specs.Prelude.{◌≡◌, [], List, false, true, map, length, Some, IfOk, OnOk, OnErr};
 ghost use Rattle.tp_model.specs.declared.out_line.OutLine.{OutLine};
 ghost use Rattle.tp_model.specs.Trees.{closing};
 ghost use Rattle.tp_model.specs.Transcript.{is_silent};
@@ -49,6 +49,13 @@ impl<M: Member> DrivenWorld<M> {
         ensures { result ≡ has_ended self.now }
     {
         self.ended
+    }
+
+    /// How many frames were sent.
+    pub fn frames_sent(&self) -> usize
+        ensures { (w : WorldValue) → Stands w self.now → result ≡ length w.frames }
+    {
+        self.world.frames_sent()
     }
 
     /// One line for each tree, in the order of their starts.
