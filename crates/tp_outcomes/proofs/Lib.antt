@@ -3,3 +3,4 @@ pub mod GoingOn
 pub mod Staying
 pub mod Starting
 pub mod TreesListed
+pub mod CountedThere

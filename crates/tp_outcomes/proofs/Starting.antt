@@ -290,19 +290,21 @@ own_start o up (e ∷ h) t empty legal once m = go (starts_case o e h) (or_case 
         rooted y (Grew x u b i j key act l f cn dr kn) = absurd (held y x u i j key)
         rooted y (Rooted u j key act f dr kn was) = (tree_at o.who s.boot s.drawn, ap (λ (v : Current). v.key) (some_same c.0 u (sym c.1 ∙ j)) ∙ key)
 
-        drawn : IsDrawn o.who s next t → suc 0 ≤ times_in t (starts o (e ∷ h))
-        drawn y =
-            let r = rooted y (course_entry o up e h legal) in
-            let same : t ≡ r.0 = aaids_equal t r.0 (ap (λ (k : Key). is_aaid t (aaid_of k)) (sym r.1) ∙ c.2) in
-            let key : c.0.key ≡ Root t = r.1 ∙ ap (λ (v : Aaid). Root v) (sym same) in
-            let start : started d next ≡ Some t = made c.0 c.1 key in
-            last (times_in t (starts o h)) (times_in t (starts o (e ∷ h))) (some_more o e h t t true start (aaid_same t))
+        -- the tree that the root has is the one that is current
+        begun_root : (u : Aaid) × (c.0.key ≡ Root u) → suc 0 ≤ times_in t (starts o (e ∷ h))
+        begun_root r = last (times_in t (starts o h)) (times_in t (starts o (e ∷ h))) (some_more o e h t t true (made c.0 c.1 (key r)) (aaid_same t))
           where
+            key : (r : (u : Aaid) × (c.0.key ≡ Root u)) → c.0.key ≡ Root t
+            key r = r.1 ∙ ap (λ (v : Aaid). Root v) (sym (aaids_equal t r.0 (ap (λ (k : Key). is_aaid t (aaid_of k)) (sym r.1) ∙ c.2)))
+
             made : (x : Current) → next.current ≡ Some x → x.key ≡ Root t → started d next ≡ Some t
             made x i k = rw (i, k, off, started) refl
 
             last : (a b : ℕ) → b ≡ a + 1 → suc 0 ≤ b
             last a b k = omega (arith, k)
+
+        drawn : IsDrawn o.who s next t → suc 0 ≤ times_in t (starts o (e ∷ h))
+        drawn y = begun_root (rooted y (course_entry o up e h legal))
 
     go : Starts o e h → (is_now t next.current ≡ true) ⊎ (is_member o t h ≡ true) → (is_member o t h ≡ true → (has_taken_begin t h ≡ true) ⊎ (suc 0 ≤ times_in t (starts o h)))
         → (has_taken_begin t (e ∷ h) ≡ true) ⊎ (suc 0 ≤ times_in t (starts o (e ∷ h)))

@@ -2,3 +2,4 @@ pub mod Shown
 pub mod Staying
 pub mod Starting
 pub mod Agreement
+pub mod Counting

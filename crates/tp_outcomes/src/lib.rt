@@ -10,6 +10,7 @@ ghost use Rattle.tp_outcomes.specs.Shown.{OneIsShown, ToldOfTrees, LeftIsUntold}
 ghost use Rattle.tp_outcomes.specs.Staying.{NodesStay, OutcomesStay};
 ghost use Rattle.tp_outcomes.specs.Starting.{BelongsSo, ListedOnce, ClosesOnce};
 ghost use Rattle.tp_outcomes.specs.Agreement.{TreesAgree};
+ghost use Rattle.tp_outcomes.specs.Counting.{CountedIsThere};
 
 /// In every run, whatever nodes decided by themselves: where the user of one node of a tree was told commit, or that the
 /// commitment is complete, no user of the tree was told rollback, or that a rollback is complete. And each of these four is
@@ -49,4 +50,10 @@ pub fn a_tree_has_one_closing_line()
 /// Commit and was complete with none; and a tree is entered once, hangs together, and is listed once.
 pub fn the_nodes_of_a_tree_agree()
     ensures { (es : List Happening) → TreesAgree (run es) }
+{}
+
+/// In every run, where a node counts a branch, there is a node at its end: it is in the tree as that branch of the node, and
+/// logged Ready for it.
+pub fn a_counted_branch_is_there()
+    ensures { (es : List Happening) → CountedIsThere (run es) }
 {}
