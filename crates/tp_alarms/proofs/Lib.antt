@@ -1,0 +1,3 @@
+pub mod CausedTurns
+pub mod CausedMoves
+pub mod Causes
