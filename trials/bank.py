@@ -1,6 +1,6 @@
 """A bound store that a script plays: what docs/SERVICE.md says of bound data, kept in a file `bound.log` of docs/FORMATS.md.
 
-Each answer is given after the file has it. A store that is opened again knows what stands in its file, and nothing else.
+Each answer is given after the file has it, and where it is asked for after the disk has it. A store that is opened again knows what stands in its file, and nothing else.
 """
 import os
 
@@ -23,8 +23,8 @@ def read_put(data):
 
 
 class Store:
-    def __init__(self, path):
-        self.path = path
+    def __init__(self, path, forced=False):
+        self.path, self.forced = path, forced
         if not os.path.exists(path):
             with open(path, "wb") as new:
                 new.write(wire.FRESH_STORE)
@@ -66,9 +66,14 @@ class Store:
         return writes
 
     def append(self, body):
-        os.pwrite(self.file, wire.frame(body) + b"\x00", self.gate + 1)
-        os.pwrite(self.file, b"\x01", self.gate)
+        self.write(wire.frame(body) + b"\x00", self.gate + 1)
+        self.write(b"\x01", self.gate)
         self.gate += 3 + len(body)
+
+    def write(self, piece, at):
+        os.pwrite(self.file, piece, at)
+        if self.forced:
+            os.fdatasync(self.file)
 
     def keep(self):
         tree, writes = self.undecided

@@ -283,12 +283,15 @@ class Cluster:
         self.transfers, self.by_identifier, self.complete = [], {}, []
         self.asked = {}  # what each store was asked: node and tree to words
         self.sites = [Site("s%d" % k, self, os.path.join(folder, "s%d" % k)) for k in range(sites)]
-        self.trees = [Tree(k, self) for k in range(options.trees * sites)]
+        self.trees = [self.make_tree(k) for k in range(options.trees * sites)]
         for site in self.sites:
             for node in site.nodes:
                 node.patience = self.patience
                 self.nodes[node.number] = node
                 self.addresses[node.address] = node
+
+    def make_tree(self, index):
+        return Tree(index, self)
 
     def new_number(self):
         self.order += 1
@@ -637,7 +640,7 @@ class Cluster:
             site.start()
         next_tend = next_retry = 0.0
         rest_by = None
-        begun = time.monotonic()
+        begun = self.begun_at = time.monotonic()
         while not self.stopped:
             now = time.monotonic()
             while self.heap and self.heap[0][0] <= now:

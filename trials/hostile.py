@@ -28,7 +28,7 @@ import tools
 import wire
 
 TEXTS = {
-    0: r"$", 1: r"findings [1-9]\d*$", 2: r"usage", 3: r"bad input at [1-9]\d*: (long|word|number|name|short|length|body)$",
+    0: r"$", 1: r"findings [1-9]\d*$", 2: r"usage", 3: r"bad input at [1-9]\d*: (long|word|number|name|short|length|body|unbuilt)$",
     4: r"limit (schedule|sites|nodes|frames|answers|events|log|boots) at \d+$", 5: r"foreign log at \d+$", 6: r"read fault$",
     7: r"write fault$", 8: r"disk fault$", 9: r"no memory$",
 }
@@ -71,7 +71,7 @@ class Hostile:
             self.fault(words, given, log, "status %d, %r" % (run.returncode, run.stderr[-200:]))
         if words[0] in ("show", "check", "keys", "audit") and run.returncode == 5 and run.stdout:
             self.fault(words, given, log, "a foreign log, and %d bytes of output" % len(run.stdout))
-        if self.beside and compare:
+        if self.beside and compare and not text.endswith("unbuilt"):
             self.compare(words, given, log, (run.returncode, text, run.stdout, after))
         return run.returncode, text, run.stdout, after
 

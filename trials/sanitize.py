@@ -1,0 +1,180 @@
+"""The commands under valgrind, and their inputs mutated without end.
+
+trials/run sanitize [--program CMD] [--short] [--seconds N] [--seed N]
+
+First each command runs under valgrind (memcheck) on worked inputs: no read or write out of place, no use of what was never written,
+nothing lost, and the same output and log as without it. Then a mutator takes worked inputs and logs, changes them (bits, bytes,
+numbers, pieces taken out, said twice, put in, crossed with another input), and runs the command, for so many seconds. It keeps an input
+that ends in a way that was not seen yet, and goes on from it. No run may end by a signal, take more than its time, or end with a status
+that is not one of the command's.
+"""
+import argparse
+import os
+import random
+import re
+import shutil
+import subprocess
+import sys
+import tempfile
+import time
+
+import hostile
+import stops
+import streams
+import tools
+import wire
+
+VALGRIND = ["valgrind", "-q", "--error-exitcode=99", "--leak-check=full", "--show-leak-kinds=all", "--errors-for-leak-kinds=definite,indirect"]
+NUMBERS = [0, 1, 2, 0x1F, 0x20, 0x21, 0x7F, 0x80, 0xFE, 0xFF]
+
+
+class Input:
+    def __init__(self, words, given=b"", log=wire.FRESH):
+        self.words, self.given, self.log = words, given, log
+
+
+class Sanitize:
+    def __init__(self, options, folder):
+        self.options, self.program, self.folder = options, options.program, folder
+        self.draw = random.Random(options.seed)
+        self.faults, self.kept = [], tempfile.mkdtemp(prefix="sanitize-kept-")
+        self.counts = dict.fromkeys(["under valgrind", "mutants", "kept inputs", "seconds"], 0)
+        self.ways = {}
+
+    def run(self, case, before=()):
+        disk = "bound.log" if case.words[0] == "keys" else "tp.log"
+        path = os.path.join(self.folder, disk)
+        with open(path, "wb") as file:
+            file.write(case.log)
+        try:
+            run = subprocess.run([*before, *self.program, *case.words], cwd=self.folder, input=case.given, capture_output=True,
+                                 timeout=120 if before else 20)
+        except subprocess.TimeoutExpired:
+            self.fault(case, "does not end")
+            return None, b""
+        with open(path, "rb") as file:
+            return run, file.read()
+
+    def fault(self, case, text):
+        at = os.path.join(self.kept, "%d" % len(self.faults))
+        self.faults.append(text)
+        for suffix, content in ((".in", case.given), (".log", case.log)):
+            with open(at + suffix, "wb") as file:
+                file.write(content)
+        print("  %s: %s (%s)" % (" ".join(case.words), text, at), flush=True)
+
+    def worked(self):
+        node = lambda words, bodies, log=wire.FRESH: Input(words, streams.stream(bodies), log)
+        cases = [
+            node(["node", "--name", "b"], streams.subordinate(3)), node(["node", "--name", "b"], streams.subordinate(2, True)),
+            node(["node", "--name", "b"], streams.subordinate(2), wire.FRESH[:5] + b"\x00"),
+            node(["node", "--name", "a"], streams.root(3)), node(["tx", "--name", "a"], streams.root(2, asked=False)),
+            Input(["make", "--nodes", "5", "--rounds", "2"]), Input(["trial", "--nodes", "5", "--rounds", "2"]), Input(["format"]),
+            Input(["keys"], b"", stops.store_log()),
+        ]
+        logs = [self.run(case)[1] for case in cases[:4]]
+        for log in logs:
+            cases += [Input([word], b"", log) for word in ("show", "check", "compact", "migrate")]
+        cases.append(Input(["audit"], wire.audit_frames([("a", logs[3]), ("b", logs[0])])))
+        for name in ("all-logs.hex", "one-log-missing.hex"):
+            cases.append(Input(["audit"], bytes.fromhex((tools.ROOT / "examples" / name).read_text())))
+        for path in sorted((tools.ROOT / "examples").glob("*.schedule")):
+            cases.append(Input(["replay"], path.read_bytes()))
+        return cases
+
+    def valgrind(self, cases):
+        if shutil.which("valgrind") is None:
+            print("valgrind is not installed: left out", flush=True)
+            return
+        for case in cases:
+            plain, after = self.run(case)
+            run, log = self.run(case, VALGRIND)
+            self.counts["under valgrind"] += 1
+            said = [line for line in run.stderr.splitlines() if line.startswith(b"==")] if run else []
+            if run is None or said or (run.returncode, run.stdout, log) != (plain.returncode, plain.stdout, after):
+                self.fault(case, "under valgrind: %s" % b" ".join(said[:4]).decode())
+        print("valgrind: %s" % tools.counted(self.counts), flush=True)
+
+    def mutate(self, cases):
+        cases = [case for case in cases if case.words[0] not in ("make", "trial", "format")]
+        until = time.monotonic() + (self.options.seconds or (20 if self.options.short else 3600))
+        begun, by_command = time.monotonic(), {}
+        for case in cases:
+            by_command.setdefault(case.words[0], []).append(case)
+        weights = {"node": 4, "replay": 3, "audit": 3, "keys": 2, "tx": 2}
+        names = list(by_command)
+        while time.monotonic() < until:
+            name = self.draw.choices(names, [weights.get(it, 1) for it in names])[0]
+            case = self.mutant(self.draw.choice(by_command[name]), by_command[name])
+            run, after = self.run(case)
+            self.counts["mutants"] += 1
+            if run is None:
+                continue
+            text = run.stderr.decode(errors="replace").rstrip("\n").split(": ", 1)[-1]
+            if run.returncode not in hostile.ALLOWED[name] or not re.match(hostile.TEXTS.get(run.returncode, "(?!)"), text):
+                self.fault(case, "status %d, %r" % (run.returncode, run.stderr[-200:]))
+            way = (name, run.returncode, re.sub(r"\d+", "N", text), len(run.stdout).bit_length(), len(after).bit_length())
+            self.ways[way] = self.ways.get(way, 0) + 1
+            if self.ways[way] == 1:
+                by_command[name].append(case)
+                self.counts["kept inputs"] += 1
+        self.counts["seconds"] = round(time.monotonic() - begun)
+        statuses = {}
+        for (name, status, _, _, _), count in self.ways.items():
+            statuses[name, status] = statuses.get((name, status), 0) + count
+        print("mutants: " + ", ".join("%s %d: %d" % (*it, count) for it, count in sorted(statuses.items())), flush=True)
+
+    def mutant(self, case, others):
+        given, log = bytearray(case.given), bytearray(case.log)
+        disk = case.words[0] in ("show", "check", "keys", "compact", "migrate") or (case.words[0] in ("node", "tx") and self.draw.random() < 0.2)
+        other = self.draw.choice(others)
+        for _ in range(self.draw.choice([1, 1, 2, 4, 16])):
+            self.change(log if disk else given, other.log if disk else other.given)
+        return Input(case.words, bytes(given), bytes(log))
+
+    def change(self, text, other):
+        draw = self.draw
+        at = draw.randrange(len(text)) if text else 0
+        x = draw.randrange(8)
+        if x == 0 and text:
+            text[at] ^= 1 << draw.randrange(8)
+        elif x == 1 and text:
+            text[at] = draw.choice(NUMBERS)
+        elif x == 2 and text:
+            text[at] = draw.randrange(256)
+        elif x == 3:
+            del text[at : at + draw.choice([1, 2, 4, 20, len(text)])]
+        elif x == 4:
+            text[at:at] = draw.randbytes(draw.choice([1, 2, 8, 40]))
+        elif x == 5:
+            text[at:at] = text[at : at + draw.choice([1, 8, 64, 300])]
+        elif x == 6 and other:
+            start = draw.randrange(len(other))
+            text[at:] = other[start:]
+        elif x == 7 and text:
+            size = draw.choice([2, 8])
+            text[at : at + size] = draw.choice([0, 1, 255, 256, 2047, 2048, 2**63, 2**64 - 1, len(text)]).to_bytes(8, "big")[-size:]
+
+
+def main():
+    parser = argparse.ArgumentParser(prog="trials/run sanitize")
+    tools.add_program(parser)
+    parser.add_argument("--short", action="store_true")
+    parser.add_argument("--seconds", type=float, help="how long the mutator runs")
+    parser.add_argument("--seed", type=int, default=1)
+    options = parser.parse_args()
+    tools.set_program(options)
+    folder = tempfile.mkdtemp(prefix="sanitize-")
+    trial = Sanitize(options, folder)
+    cases = trial.worked()
+    trial.valgrind(cases[::4] if options.short else cases)
+    trial.mutate(cases)
+    shutil.rmtree(folder)
+    if not trial.faults:
+        shutil.rmtree(trial.kept)
+    print("sanitize: %d faults, %s" % (len(trial.faults), tools.counted(trial.counts)))
+    sys.exit(1 if trial.faults else 0)
+
+
+if __name__ == "__main__":
+    main()
