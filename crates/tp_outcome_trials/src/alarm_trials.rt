@@ -1,0 +1,32 @@
+//! Worked examples of where reports come from.
+//!
+//! Each function has an empty body; its clauses are the example.
+ghost use Rattle.std.specs.Prelude.{◌≡◌, ◌&&◌, not, true, false, Some, None};
+ghost use Rattle.tp_names.specs.declared.outcome.Outcome.{Outcome};
+ghost use Rattle.tp_names.specs.declared.outcome.Report.{Report};
+ghost use Rattle.tp_trials.specs.Trials.{deep_reported, deep_completed, holds, decision_after};
+ghost use Rattle.tp_outcome_trials.specs.Telling.{given_up, backed, commits_with, rolls_with, hears_of, gave_up};
+
+/// The last of three nodes decides to roll back by itself: it completes with mix, and so do those above it, who heard of it.
+/// That mix is told only where the node itself decided would be false.
+pub fn mix_comes_from_below()
+    ensures last { (holds (commits_with Report.Mix) deep_reported 3 && not (holds (hears_of Report.Mix) deep_reported 3)) ≡ true }
+    ensures decided { decision_after deep_reported 3 ≡ Some Outcome.Rollback }
+    ensures middle { (holds (commits_with Report.Mix) deep_reported 2 && holds (hears_of Report.Mix) deep_reported 2) ≡ true }
+    ensures undecided { decision_after deep_reported 2 ≡ None }
+    ensures none { (not (holds (commits_with Report.Mix) deep_completed 1) && not (holds (hears_of Report.Mix) deep_completed 1)) ≡ true }
+{}
+
+/// The second of three nodes gives up its branch: it completes with hazard, and so does the root, which heard of it and gave
+/// up nothing. That hazard is told only where the node itself gave up a branch would be false.
+pub fn hazard_comes_from_below()
+    ensures middle { (holds (commits_with Report.Hazard) given_up 2 && holds gave_up given_up 2) ≡ true }
+    ensures root { (holds (commits_with Report.Hazard) given_up 1 && holds (hears_of Report.Hazard) given_up 1) ≡ true }
+    ensures kept { holds gave_up given_up 1 ≡ false }
+{}
+
+/// A branch that decided to commit by itself rolls with its superior: its rollback is complete with mix.
+pub fn a_rollback_is_mixed()
+    ensures mixed { holds (rolls_with Report.Mix) backed 2 ≡ true }
+    ensures decided { decision_after backed 2 ≡ Some Outcome.Commit }
+{}
