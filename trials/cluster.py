@@ -9,7 +9,11 @@ every tenth transfer a site is killed by SIGKILL, at any moment, its stores forg
 again on its files. A run ends when no node has anything to do. Then the logs and the stores are judged.
 
 Then the same with one wrong site: each kill of it takes the last record off its log, as though it had answered before it forced.
-Such a run must end with faults, or the trial shows nothing (--wrong does this alone, --right leaves it out). With --compact a log is compacted before every third start, at times by a process that is killed too.
+Such a run must end with faults, or the trial shows nothing (--wrong does this alone, --right leaves it out).
+
+With --compact a log is compacted before every third start, at times by a process that is killed too. With --heuristic ready nodes
+decide by themselves at times, committing ones give branches up, and kept transactions are purged: then a commitment may be complete
+with a report, and all else is judged as before.
 """
 import argparse
 import heapq
@@ -55,7 +59,7 @@ class Node:
         self.not_before = 0.0  # when the superior asks for it again at the earliest
         self.transfer = None  # the transfer that is current at this node, where its user knows
         self.busy = False
-        self.retrying, self.patience = False, 0
+        self.retrying, self.says, self.patience = False, False, 0
         self.started = False  # a start has not shown yet whether the node is idle
 
 
@@ -240,7 +244,7 @@ class Site:
             with open(os.path.join(self.folder, "tp.log"), "r+b") as file:
                 file.seek(places[-1])
                 file.write(NONE)
-            self.cluster.counts["cut"] += 1
+            self.cluster.counts["records taken back"] += 1
 
     def scramble(self):
         """What stands after the closing gate is no part of the log: it may be anything."""
@@ -269,14 +273,21 @@ class Site:
 
 class Cluster:
     def __init__(self, options, sites, transfers, seed, folder, wrong):
-        self.program, self.wrong, self.compacting, self.record = options.program, wrong, options.compact, options.record
+        self.program, self.wrong, self.record = options.program, wrong, options.record
+        self.compacting, self.heuristic = options.compact, options.heuristic
         self.draw = random.Random(seed)
         self.folder, self.goal, self.kill_rate, self.slow = folder, transfers, options.kill_rate, options.slow
         self.patience = round(4 * self.slow / RETRY)
         self.selector, self.heap, self.order = selectors.DefaultSelector(), [], 0
         self.counts = dict.fromkeys(
             ["begun", "complete", "rolled back", "unheard", "kills", "events", "refused", "carried", "dropped", "repeated",
-             "overtaken", "lost associations", "left", "cut", "compactions", "compactions killed"], 0)
+             "overtaken", "lost associations", "left"], 0)
+        if wrong:
+            self.counts["records taken back"] = 0
+        if self.compacting:
+            self.counts.update({"compactions": 0, "compactions killed": 0})
+        if self.heuristic:
+            self.counts.update({"decisions": 0, "given up": 0, "purged": 0, "complete with a report": 0})
         self.faults, self.nodes, self.addresses = [], {}, {}
         self.arrived_last, self.past = {}, []
         self.quiet = False
@@ -385,13 +396,17 @@ class Cluster:
         elif word == "leave" and refused is None:
             node.busy = False
             self.counts["left"] += 1
+        elif word == "count" and refused is None:
+            self.counts[subject] += 1
         elif word == "begin":
             self.over_begin(node, subject, refused)
 
     def over_retry(self, node, refused):
         node.retrying = False
+        node.says = refused != 12
         if refused is None:
-            node.started = False
+            # What it says may be of a transaction that is kept: then it has no other for all that is known.
+            node.started = node.started and self.heuristic
         elif refused == 12 and node.started:
             # After a start there is nothing that the node has to say: it has no transaction.
             node.busy = node.started = False
@@ -495,9 +510,13 @@ class Cluster:
         elif node.kind == "witness" and votes:
             return self.ask(node, wire.UNCHANGED, b"", ("leave", None))
         self.ask(node, wire.COMMIT if votes else wire.ROLLBACK)
+        self.meddle(node, 0x05, "decisions", bytes([self.draw.choice([1, 2])]))
 
     def told_commit(self, node, rest):
         node.busy, node.started = True, False
+        if node.children:
+            self.meddle(node, 0x06, "given up", wire.short(self.draw.choice(node.children).number))
+        self.meddle(node, 0x08, "purged")
         if node.kind == "leaf":
             store = node.store
             tree = node.transfer.identifier if node.transfer else b""
@@ -541,12 +560,16 @@ class Cluster:
             node.transfer = None
 
     def told_commit_complete(self, node, rest):
-        if rest != NONE:
+        if rest != NONE and not self.heuristic:
             self.fault("node %d completes with a report" % node.number)
+        if rest != NONE and node.kind == "root":
+            # Nothing is promised of its stores: it counts neither as complete nor as rolled back.
+            self.counts["complete with a report"] += 1
+            node.tree.current = None
         self.ended(node, "commit")
 
     def told_rollback_complete(self, node, rest):
-        if rest != NONE:
+        if rest != NONE and not self.heuristic:
             self.fault("node %d rolls back with a report" % node.number)
         self.ended(node, "rollback")
 
@@ -568,6 +591,8 @@ class Cluster:
         elif what[0] == "lose":
             self.note_down("lose", what[1].number, what[2].number)
             what[1].site.give(wire.lose(what[1].number, what[2].number))
+        elif what[0] == "meddle":
+            what[1].site.give(what[2], what[1], ("count", what[3]))
         elif what[0] == "kill":
             up = [site for site in self.sites if site.up]
             if up and not self.quiet:
@@ -618,19 +643,27 @@ class Cluster:
         for node in self.nodes.values():
             if not (node.busy or node.started):
                 node.patience = self.patience
-            elif not node.retrying and node.site.up:
-                node.retrying = True
+            if node.retrying or not node.site.up or not (node.busy or node.started or self.heuristic):
+                continue
+            node.retrying = True
+            node.site.give(wire.retry(node.number), node, ("retry", None))
+            if node.busy or node.started:
                 node.patience -= 1
-                if node.patience == 0:
-                    # One end may have lost what the other still has: every connection of the node is made anew.
-                    node.patience = self.patience
-                    for peer in node.children + ([node.superior] if node.superior else []):
-                        self.lose_both(node, peer)
-                node.site.give(wire.retry(node.number), node, ("retry", None))
+            if node.patience == 0:
+                # One end may have lost what the other still has: every connection of the node is made anew.
+                node.patience = self.patience
+                for peer in node.children + ([node.superior] if node.superior else []):
+                    self.lose_both(node, peer)
+
+    def meddle(self, node, code, name, rest=b"", rate=0.03):
+        """A decision of a node's own, a branch given up, a purge: each is refused where it does not apply."""
+        if self.heuristic and not self.quiet and self.draw.random() < rate:
+            body = bytes([code]) + wire.short(node.number) + rest
+            self.later(self.draw.uniform(0, 0.02), "meddle", node, body, name)
 
     def idle(self):
         return all(site.up and not site.waiting for site in self.sites) and not self.heap and not any(
-            node.busy or node.started for node in self.nodes.values()) and not any(tree.current for tree in self.trees)
+            node.busy or node.started or (node.says and self.heuristic) for node in self.nodes.values()) and not any(tree.current for tree in self.trees)
 
     def run(self, patience):
         for tree in self.trees:
@@ -700,7 +733,7 @@ class Cluster:
         self.counts["records"] = self.counts["bytes"] = 0
         for site in self.sites:
             shown, checked = (self.command([word], site.folder) for word in ("show", "check"))
-            if shown.returncode or checked.returncode or checked.stdout:
+            if shown.returncode or checked.returncode != (1 if checked.stdout else 0) or (checked.stdout and not self.heuristic):
                 self.fault("show and check of %s: %d, %d" % (site.name, shown.returncode, checked.returncode))
             last = {}
             for line in shown.stdout.decode().splitlines():
@@ -708,7 +741,7 @@ class Cluster:
                 self.counts["records"] += 1
                 if words[1] != "boot":
                     last[tuple(words[2:5])] = words[1]
-            open_keys = [key for key, word in last.items() if word != "end"]
+            open_keys = [key for key, word in last.items() if word != "end" and not (word == "damage" and self.heuristic)]
             if open_keys:
                 self.fault("%d keys of %s have no end, as %s" % (len(open_keys), site.name, open_keys[0]))
             self.counts["bytes"] += len(site.log())
@@ -794,6 +827,7 @@ def main():
     parser.add_argument("--wrong", action="store_true", help="the runs with a wrong site alone")
     parser.add_argument("--right", action="store_true", help="the runs without a wrong site alone")
     parser.add_argument("--compact", action="store_true")
+    parser.add_argument("--heuristic", action="store_true")
     parser.add_argument("--trace", help="a file for what the users ask and are told")
     parser.add_argument("--record", help="a folder for what each process found as its log, and for the frames that it was given")
     parser.add_argument("--short", action="store_true")
@@ -811,7 +845,7 @@ def main():
         totals, _, caught = campaign(options, sizes, max(150, transfers // 10), True)
         status |= caught == 0
         print("cluster: with a site that answers before it forces %d of %d runs were caught, %d records taken back, %d kills" % (
-            caught, len(sizes), totals["cut"], totals["kills"]))
+            caught, len(sizes), totals["records taken back"], totals["kills"]))
     sys.exit(status)
 
 

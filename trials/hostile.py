@@ -186,12 +186,13 @@ class Hostile:
     def codes(self):
         """Each code with no, one and two octets, as a body, a record, a dialogue record, a log record, a block of a store."""
         tails = [b""] + [bytes([a]) for a in (0, 1, 2, 255)] + [bytes([a, b]) for a in (0, 1, 255) for b in (0, 1, 2, 255)]
+        codes = range(256)
         if self.options.short:
-            tails = tails[:3] + tails[-2:]
+            codes, tails = [*range(0x46), 0x7F, 0x80, 0xFF], [b"", b"\x01", b"\x00\x01"]
         begun = streams.subordinate(1)[:4]
         association = streams.Association(streams.ROOT, streams.LEAF, wire.mark(1, 1, 1), wire.mark(1, 2, 1))
         association.count = 1
-        for code in range(256):
+        for code in codes:
             for tail in tails:
                 text = bytes([code]) + tail
                 node = streams.stream(begun)
