@@ -7,10 +7,12 @@ standard output, memory): that call alone fails, a write with nothing, half or a
 that docs/SERVICE.md gives that command for that fault, standard error has its line, standard output is exactly what had been
 written before (of the failing write as much as it made), no call of the disk comes after, and the disk opens to a list that some
 moment of the run without a fault had. Where reads and writes are only short, and those of the disk interrupted, nothing changes.
+The program is started with its standard streams closed, too, and with words that are none.
 """
 import argparse
 import os
 import shutil
+import subprocess
 import sys
 import tempfile
 
@@ -30,7 +32,8 @@ class Failing(stops.Stops):
     def __init__(self, options, folder):
         stops.Stops.__init__(self, options, folder)
         self.counts = dict.fromkeys(["runs", "failing calls", "failing wishes for memory", "wishes that nobody misses",
-                                     "wishes of the command line, status 1", "short runs", "restarts"], 0)
+                                     "wishes of the command line, status 1", "short runs", "restarts", "closed streams", "words",
+                                     "words that are no text, status 1"], 0)
         self.most = 12 if options.short else 400
 
     def traced(self, case, **how):
@@ -127,6 +130,32 @@ class Failing(stops.Stops):
         elif case.look == "show" and found is not None:
             self.restart(case, image, found, where)
 
+    def closed(self, case):
+        """The program is started with some of its three standard streams closed: the log is not taken for one of them."""
+        for streams_closed in ([0], [1], [2], [0, 1], [1, 2], [0, 1, 2]):
+            for given in (case.given, case.given + b"\x00\x00"):
+                self.put(case, case.start)
+                close = lambda: [os.close(number) for number in streams_closed]
+                run = subprocess.run(self.program + case.words, cwd=self.folder, input=given, stdout=subprocess.DEVNULL,
+                                     stderr=subprocess.DEVNULL, preexec_fn=close)
+                self.counts["closed streams"] += 1
+                image = self.content(case)
+                if self.look(case, image) is None:
+                    self.fault(case, "with %s closed the log is overwritten (status %d): %s" % (
+                        streams_closed, run.returncode, image[:16]))
+
+    def words(self):
+        """Words that are none, and what they end with."""
+        for words, status in (([], 2), (["play"], 2), (["node", "--name"], 2), (["node", "--name", "A"], 2), (["node", "--name", "a" * 17], 2),
+                              (["make", "--nodes", "1"], 2), (["make", "--rounds", "31"], 2), (["make", "--number", str(2**64)], 2),
+                              (["format", "more"], 2), (["--help"], 2), ([b"\xff"], 2), (["node", "--name", b"\xff"], 2)):
+            run = subprocess.run(self.program + words, cwd=self.folder, stdin=subprocess.DEVNULL, capture_output=True)
+            self.counts["words"] += 1
+            if run.returncode != status and b"\xff" in words and run.returncode == 1:
+                self.counts["words that are no text, status 1"] += 1
+            elif run.returncode != status:
+                self.fault(stops.Case("words", words, b"", 0), "%s end with %d" % (words, run.returncode))
+
     def shorten(self, case, seed, whole, image):
         run, _, now = self.traced(case, short=seed)
         self.counts["short runs"] += 1
@@ -162,6 +191,9 @@ def main():
         if options.short and case.name not in SHORT:
             continue
         print("%s: %d failing calls" % (case.name, trial.try_case(case)), flush=True)
+        if case.name in ("node: two transactions of a subordinate", "tx: two transactions", "show"):
+            trial.closed(case)
+    trial.words()
     shutil.rmtree(folder)
     print("failing: %d faults, %s" % (len(trial.faults), tools.counted(trial.counts)))
     sys.exit(1 if trial.faults else 0)
