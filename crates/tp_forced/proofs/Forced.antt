@@ -1,6 +1,6 @@
 -- What the order of a tree's records gives: nothing follows an end, a clear commitment is three records of a branch and two of a
 -- root, and what left, or rolled before it was ready, is in no log.
-use Rattle.std.proofs.Common.{if◌then◌else◌, ◌≡◌, ◌⊎◌, inl, inr, ℕ, Bool, true, false, refl, ap, sym, subst, ◌∙◌, arith, Option, Some, None, List, [], ◌∷◌, ◌++◌, ◌&&◌, ◌||◌}
+use Rattle.std.proofs.Common.{if◌then◌else◌, ◌≡◌, ◌⊎◌, inl, inr, ℕ, Bool, true, false, refl, ap, sym, subst, ◌∙◌, Option, Some, None, List, [], ◌∷◌, ◌++◌, ◌&&◌, ◌||◌}
 use Rattle.std.specs.Prelude.{not}
 use Rattle.tp_names.specs.declared.identifiers.Aaid.{Aaid}
 use Rattle.tp_names.specs.declared.identifiers.NodeKey.{NodeKey}
@@ -8,18 +8,17 @@ use Rattle.tp_names.specs.declared.identifiers.Addr.{Addr}
 use Rattle.tp_names.specs.declared.children.Child.{Child}
 use Rattle.tp_names.specs.declared.outcome.Outcome.{Outcome}
 use Rattle.tp_names.specs.declared.outcome.Report.{Report}
-use Rattle.tp_names.specs.Same.{is_aaid, is_key}
+use Rattle.tp_names.specs.Same.{is_aaid}
 use Rattle.tp_logrec.specs.declared.record.LogRec.{LogRec}
 use Rattle.tp_logrec.specs.Order.{is_end}
 use Rattle.tp_model.specs.Parts.{Origin, Entry}
-use Rattle.tp_model.specs.Recovery.{is_commit, is_root_key, is_nothing_owed}
+use Rattle.tp_model.specs.Recovery.{is_commit, is_root_key}
 use Rattle.tp_model.specs.History.{digest, records}
-use Rattle.tp_model.specs.Outcomes.{is_now, is_unchanged, has_left, has_commit_of, last_decision, decision_in, is_member, decided, rolled}
-use Rattle.tp_model.specs.World.{Node, number_of}
+use Rattle.tp_model.specs.Outcomes.{is_now, is_unchanged, has_left, has_commit_of, last_decision, decision_in, is_member, decided}
+use Rattle.tp_model.specs.World.{number_of}
 use Rattle.tp_model.specs.Happenings.{Happening, run}
-use Rattle.tp_model.specs.Promises.{IsIn, is_of_tree, has_logged}
+use Rattle.tp_model.specs.Promises.{is_of_tree}
 use Rattle.tp_steps.specs.Clearing.{damages_tree, has_damage}
-use Rattle.tp_histories.specs.Members.{IsOnce}
 use Rattle.tp_histories.specs.Fates.{IsFated, has_ready_in}
 use Rattle.tp_reports.specs.Clearing.{has_cleared, ends_tree}
 use Rattle.tp_forced.specs.TreeLog.{Stage, when, after_vote, after_order, after_record, is_of_key, if_own, next_stage, of_tree, stage, forced_of, EndsLast, CommitsIn, Of_branch, Of_root, CommitsForceSo, RollsUnforced}
@@ -34,7 +33,7 @@ use Rattle.tp_runs.proofs.Bare.{left_is_bare}
 use Rattle.tp_agreement.proofs.Logs.{later_member}
 use Rattle.tp_reports.proofs.ClearedLaw.{cleared_law}
 use Rattle.tp_forced.proofs.Stages.{no_records}
-use Rattle.tp_forced.proofs.TreeLogs.{IsStagedLog, staged_run}
+use Rattle.tp_forced.proofs.TreeLogs.{staged_run}
 
 -- ---- the newest record
 

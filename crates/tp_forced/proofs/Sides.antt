@@ -1,5 +1,5 @@
 -- What a node keeps of one tree, and what a record makes of it.
-use Rattle.std.proofs.Common.{if◌then◌else◌, ◌≡◌, inl, inr, ℕ, Bool, true, false, refl, ap, sym, subst, ◌∙◌, arith, Option, Some, None, List, [], ◌∷◌, ◌&&◌}
+use Rattle.std.proofs.Common.{if◌then◌else◌, ◌≡◌, Bool, true, false, refl, ap, sym, ◌∙◌, arith, Option, Some, None, List, [], ◌∷◌, ◌&&◌}
 use Rattle.std.specs.Prelude.{not}
 use Rattle.tp_names.specs.declared.identifiers.Aaid.{Aaid}
 use Rattle.tp_names.specs.declared.identifiers.NodeKey.{NodeKey}
@@ -10,7 +10,7 @@ use Rattle.tp_logrec.specs.declared.record.LogRec.{LogRec}
 use Rattle.tp_model.specs.declared.recovery.Kept.{Kept}
 use Rattle.tp_model.specs.Recovery.{is_commit, is_root_key, is_nothing_owed, find_kept, put_kept, without_kept, kept_by, kept_after, not_forgotten}
 use Rattle.tp_runs.specs.Bare.{keeps_tree}
-use Rattle.tp_forced.specs.TreeLog.{Stage, when, after_vote, after_decision, after_order, after_damage, after_end, after_record, is_of_key, if_own, next_stage}
+use Rattle.tp_forced.specs.TreeLog.{Stage, when, after_vote, after_decision, after_order, after_damage, after_end, after_record, is_of_key, if_own}
 use Rattle.tp_steps.proofs.log.ApartLog.{keys_equal}
 use Rattle.tp_steps.proofs.lemmas.Options.{some_same}
 use Rattle.tp_forced.proofs.Stages.{own_key, tree_stage, log_step}

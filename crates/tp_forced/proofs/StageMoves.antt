@@ -1,6 +1,5 @@
 -- Every event of a node forces a record of a tree that may stand at the tree's stage, or none.
-use Rattle.std.proofs.Common.{if◌then◌else◌, ◌≡◌, ◌≤◌, ◌⊎◌, inl, inr, ℕ, suc, Bool, true, false, refl, ap, sym, subst, ◌∙◌, arith, Option, Some, None, List, [], ◌∷◌, ◌&&◌}
-use Rattle.std.specs.Prelude.{not}
+use Rattle.std.proofs.Common.{if◌then◌else◌, ◌≡◌, ◌≤◌, ◌⊎◌, inl, inr, ℕ, Bool, true, false, refl, ap, sym, subst, ◌∙◌, arith, Option, Some, None, List, [], ◌∷◌, ◌&&◌}
 use Rattle.tp_names.specs.declared.identifiers.Aaid.{Aaid}
 use Rattle.tp_names.specs.declared.identifiers.BranchId.{BranchId}
 use Rattle.tp_names.specs.declared.identifiers.NodeKey.{NodeKey}
@@ -15,11 +14,11 @@ use Rattle.tp_model.specs.declared.arc.Phase.{Phase}
 use Rattle.tp_model.specs.declared.transaction.TxEvent.{TxEvent}
 use Rattle.tp_model.specs.declared.recovery.Kept.{Kept}
 use Rattle.tp_model.specs.declared.recovery.KeptEvent.{KeptEvent}
-use Rattle.tp_model.specs.Parts.{Who, Event, Arc, Root, Under, Current, Digest}
+use Rattle.tp_model.specs.Parts.{Who, Event, Arc, Root, Current, Digest}
 use Rattle.tp_model.specs.Dialogues.{is_nil}
 use Rattle.tp_model.specs.Arcs.{find_arc}
 use Rattle.tp_model.specs.Transactions.{Transaction, Turn, aaid_of, node_key, transacted}
-use Rattle.tp_model.specs.Recovery.{is_commit, is_nothing_owed, find_owed, without_owed, rec_of_done, settled, find_kept, not_forgotten}
+use Rattle.tp_model.specs.Recovery.{is_commit, is_nothing_owed, find_owed, without_owed, rec_of_done, settled, find_kept}
 use Rattle.tp_model.specs.Node.{Move, move, followed, perform, next_mark, with_mark_drawn, phase_of, seen, remaining, fresh_current, may_begin_on, begin_on, turned, keep}
 use Rattle.tp_model.specs.Outcomes.{is_now}
 use Rattle.tp_model.specs.Promises.{is_of_tree}
@@ -27,7 +26,7 @@ use Rattle.tp_steps.specs.Moves.{Moves, IsPut, IsFound}
 use Rattle.tp_steps.specs.Passages.{IsLogged}
 use Rattle.tp_steps.specs.Traces.{is_old}
 use Rattle.tp_runs.specs.Bare.{rec_of_tree}
-use Rattle.tp_forced.specs.TreeLog.{Stage, next_stage, after_record}
+use Rattle.tp_forced.specs.TreeLog.{Stage, after_record}
 use Rattle.tp_steps.proofs.links.Marks.{new_mark, drawn_old}
 use Rattle.tp_steps.proofs.words.Treed.{now_some, old_kept}
 use Rattle.tp_steps.proofs.log.Owned.{key_aaid}
@@ -37,7 +36,7 @@ use Rattle.tp_steps.proofs.lemmas.Equality.{aaids_equal}
 use Rattle.tp_steps.proofs.lemmas.Options.{some_same}
 use Rattle.tp_steps.proofs.every.BeginCases.{begun_over, begin_cases}
 use Rattle.tp_runs.proofs.Bare.{logged_tree}
-use Rattle.tp_forced.proofs.Stages.{fits, is_away, own_stage, own_key, keyed, log_step, tree_stage, not_of_tree, of_its_tree}
+use Rattle.tp_forced.proofs.Stages.{fits, is_away, own_stage, own_key, keyed, log_step, not_of_tree, of_its_tree}
 use Rattle.tp_forced.proofs.Sides.{Side, side_of, sides, stood, sides_same, sides_after, found_side, is_odd}
 use Rattle.tp_forced.proofs.StageTurns.{Staged, staged_turn}
 

@@ -1,10 +1,7 @@
 -- Every event of a transaction forces a record that may stand at its stage, or none, and goes on in a phase that fits the next stage.
-use Rattle.std.proofs.Common.{if◌then◌else◌, ◌≡◌, ◌⊎◌, inl, inr, ℕ, Bool, true, false, refl, ap, sym, subst, ◌∙◌, arith, Option, Some, None, List, [], ◌∷◌, ◌&&◌, ◌||◌}
+use Rattle.std.proofs.Common.{if◌then◌else◌, ◌≡◌, ◌⊎◌, inl, inr, ℕ, Bool, true, false, refl, ap, sym, ◌∙◌, arith, Option, Some, None, List, [], ◌&&◌, ◌||◌}
 use Rattle.std.specs.Prelude.{not}
-use Rattle.tp_names.specs.declared.identifiers.Aaid.{Aaid}
-use Rattle.tp_names.specs.declared.identifiers.BranchId.{BranchId}
 use Rattle.tp_names.specs.declared.identifiers.NodeKey.{NodeKey}
-use Rattle.tp_names.specs.declared.identifiers.Addr.{Addr}
 use Rattle.tp_names.specs.declared.outcome.Outcome.{Outcome}
 use Rattle.tp_names.specs.declared.outcome.Report.{Report}
 use Rattle.tp_names.specs.Reports.{join, is_report_none}
@@ -14,11 +11,11 @@ use Rattle.tp_model.specs.declared.transaction.TxEvent.{TxEvent}
 use Rattle.tp_model.specs.declared.transaction.TxOut.{TxOut}
 use Rattle.tp_model.specs.Parts.{Key, Root, Under}
 use Rattle.tp_model.specs.Dialogues.{is_active, is_ready, is_committing, is_rolling}
-use Rattle.tp_model.specs.Transactions.{Row, Transaction, Turn, turn, and_then, before, node_key, superior_of, is_under, children_of, owed_of, all_done, own_damage, reports_of, all_rolled_back, with_row, with_arc_lost, log_ready, log_commit, log_end, log_damage, log_heuristic, is_own_commit, rollback_rec, complete_commit, complete_rollback, begin_rolling, ask_commit, order, leave, count_branch, end_branch, branch_left, transacted, refused_tx, is_decided}
+use Rattle.tp_model.specs.Transactions.{Row, Transaction, Turn, turn, and_then, before, node_key, is_under, children_of, owed_of, all_done, own_damage, reports_of, all_rolled_back, with_row, with_arc_lost, log_ready, log_commit, log_end, log_damage, log_heuristic, rollback_rec, complete_commit, complete_rollback, begin_rolling, ask_commit, order, leave, count_branch, end_branch, branch_left, transacted, refused_tx, is_decided}
 use Rattle.tp_steps.specs.Turns.{Turns, vote, decide}
 use Rattle.tp_steps.specs.Moves.{IsPut, is_took}
-use Rattle.tp_forced.specs.TreeLog.{Stage, when, next_stage, after_record}
-use Rattle.tp_steps.proofs.every.EveryTurn.{every_turn, quiet_rollback}
+use Rattle.tp_forced.specs.TreeLog.{Stage, when, after_record}
+use Rattle.tp_steps.proofs.every.EveryTurn.{every_turn}
 use Rattle.tp_steps.proofs.log.Passed.{later_rec}
 use Rattle.tp_steps.proofs.words.Fair.{row_phase}
 use Rattle.tp_steps.proofs.words.FairTurns.{lost_phase}

@@ -1,5 +1,5 @@
 -- In every run, a node takes each record of an association at most once.
-use Rattle.std.proofs.Common.{◌≡◌, ◌≤◌, ◌⊎◌, inl, inr, ℕ, zero, suc, Bool, true, false, refl, ap, sym, subst, ◌∙◌, arith, Option, Some, None, List, [], ◌∷◌, ◌&&◌, ◌==◌, length}
+use Rattle.std.proofs.Common.{◌≡◌, ◌≤◌, inl, inr, ℕ, zero, suc, Bool, true, false, refl, ap, sym, subst, ◌∙◌, arith, Option, None, List, [], ◌∷◌, ◌&&◌, ◌==◌, length}
 use Rattle.std.proofs.lemmas.Bool.Decides.{nat_tests}
 use Rattle.tp_names.specs.declared.identifiers.Mark.{Mark}
 use Rattle.tp_names.specs.declared.identifiers.Addr.{Addr}

@@ -1,20 +1,16 @@
 -- In every run, the records that a node forced of a tree have one key, and each may stand where it stands.
-use Rattle.std.proofs.Common.{◌≡◌, ◌⊎◌, inl, inr, ℕ, Bool, true, false, refl, ap, sym, subst, ◌∙◌, arith, Option, Some, None, List, [], ◌∷◌, ◌&&◌, ◌||◌}
+use Rattle.std.proofs.Common.{◌≡◌, Bool, true, false, refl, ap, sym, ◌∙◌, arith, Option, Some, None, List, [], ◌∷◌, ◌||◌}
 use Rattle.tp_names.specs.declared.identifiers.Aaid.{Aaid}
 use Rattle.tp_names.specs.declared.identifiers.NodeKey.{NodeKey}
-use Rattle.tp_names.specs.declared.identifiers.BranchId.{BranchId}
 use Rattle.tp_names.specs.declared.identifiers.Addr.{Addr}
 use Rattle.tp_names.specs.declared.outcome.Outcome.{Outcome}
 use Rattle.tp_names.specs.Same.{is_aaid}
-use Rattle.tp_records.specs.declared.dialogue.DialogueRecord.{DialogueRecord}
-use Rattle.tp_records.specs.declared.peer.PeerRecord.{PeerRecord}
-use Rattle.tp_logrec.specs.declared.record.LogRec.{LogRec}
 use Rattle.tp_model.specs.declared.arc.Phase.{Phase}
-use Rattle.tp_model.specs.Parts.{Who, Origin, Event, Entry, Arc, Key, Under, Current, Digest}
-use Rattle.tp_model.specs.Dialogues.{is_active, is_ready, is_committing}
+use Rattle.tp_model.specs.Parts.{Origin, Entry, Key, Under, Current, Digest}
+use Rattle.tp_model.specs.Dialogues.{is_ready, is_committing}
 use Rattle.tp_model.specs.Transactions.{aaid_of, node_key}
 use Rattle.tp_model.specs.Recovery.{not_forgotten}
-use Rattle.tp_model.specs.Node.{fresh_current, phase_of}
+use Rattle.tp_model.specs.Node.{fresh_current}
 use Rattle.tp_model.specs.Events.{action, started, recovered_current}
 use Rattle.tp_model.specs.History.{digest, records}
 use Rattle.tp_model.specs.Outcomes.{is_now}
@@ -24,7 +20,7 @@ use Rattle.tp_model.specs.Promises.{IsIn, is_of_tree, has_record}
 use Rattle.tp_model.specs.Legal.{IsGrown}
 use Rattle.tp_steps.specs.Moves.{prelude}
 use Rattle.tp_steps.specs.Traces.{is_old}
-use Rattle.tp_histories.specs.Members.{is_known, is_own, is_begun_by, has_taken_begin, IsOnce}
+use Rattle.tp_histories.specs.Members.{is_known, is_own, has_taken_begin, IsOnce}
 use Rattle.tp_runs.specs.Bare.{IsBare, keeps_tree}
 use Rattle.tp_forced.specs.TreeLog.{Stage, of_tree, stage, OneLog}
 use Rattle.tp_steps.proofs.every.EveryEvent.{every_move}
@@ -37,7 +33,7 @@ use Rattle.tp_histories.proofs.worlds.Good.{good_run}
 use Rattle.tp_histories.proofs.worlds.Unique.{unique_run}
 use Rattle.tp_runs.proofs.Bare.{bare_law}
 use Rattle.tp_forced.proofs.Stages.{fits, is_away, is_blank, log_stage, log_step, log_more, no_records}
-use Rattle.tp_forced.proofs.Sides.{sides, stood, sides_same, none_kept}
+use Rattle.tp_forced.proofs.Sides.{sides, sides_same, none_kept}
 use Rattle.tp_forced.proofs.StageMoves.{Fits, StagedMove, IsStagedMove, staged_moves}
 
 pub record IsStagedLog (o : Origin) (h : List Entry) (t : Aaid) : Type 0 where

@@ -1,6 +1,5 @@
 -- In every run, a branch that a node counts is a node of the tree, which logged Ready for it.
 use Rattle.std.proofs.Common.{◌≡◌, ◌⊎◌, inl, inr, ℕ, Bool, true, false, refl, ap, sym, subst, ◌∙◌, arith, Option, Some, None, List, [], ◌∷◌, ◌&&◌, ◌||◌, ◌+◌, ◌==◌}
-use Rattle.std.specs.Prelude.{not}
 use Rattle.std.proofs.lemmas.Bool.Decides.{nat_tests}
 use Rattle.tp_names.specs.declared.identifiers.Aaid.{Aaid}
 use Rattle.tp_names.specs.declared.identifiers.BranchId.{BranchId}
@@ -11,7 +10,7 @@ use Rattle.tp_records.specs.declared.dialogue.DialogueRecord.{DialogueRecord}
 use Rattle.tp_records.specs.declared.peer.PeerRecord.{PeerRecord}
 use Rattle.tp_logrec.specs.declared.record.LogRec.{LogRec}
 use Rattle.tp_model.specs.declared.transaction.TxEvent.{TxEvent}
-use Rattle.tp_model.specs.Parts.{Origin, Event, Out, Entry, Branch, Current, Digest}
+use Rattle.tp_model.specs.Parts.{Origin, Out, Entry, Branch, Current, Digest}
 use Rattle.tp_model.specs.Transactions.{aaid_of, child_of}
 use Rattle.tp_model.specs.Events.{action}
 use Rattle.tp_model.specs.History.{digest, records, with_rec}
@@ -19,7 +18,7 @@ use Rattle.tp_model.specs.Outcomes.{is_now, rolls}
 use Rattle.tp_model.specs.Questions.{is_at}
 use Rattle.tp_model.specs.World.{Node, number_of, addr_of, find_node}
 use Rattle.tp_model.specs.Happenings.{Happening, run}
-use Rattle.tp_model.specs.Promises.{IsIn, IsOf, IsBranchOf, is_counted, is_counted_in, has_begun, has_record, is_ready_of as is_ready_rec}
+use Rattle.tp_model.specs.Promises.{IsIn, IsBranchOf, is_counted, is_counted_in, has_begun}
 use Rattle.tp_model.specs.Legal.{IsGrown, is_apart, are_apart}
 use Rattle.tp_steps.specs.Moves.{IsAsked, prelude}
 use Rattle.tp_steps.specs.Facts.{find_branch, BranchKey, HasPlaceAt, IsHeard, has_ready_of, is_vote, is_voted, each_vote, ends, words_to}
@@ -30,7 +29,7 @@ use Rattle.tp_histories.specs.Members.{has_taken_begin, is_begun_by}
 use Rattle.tp_histories.specs.Worlds.{IsGood}
 use Rattle.tp_histories.specs.Upward.{deeds_of}
 use Rattle.tp_outcomes.specs.Counting.{CountedIsThere}
-use Rattle.tp_steps.proofs.words.Leaves.{aaid_same, branch_same}
+use Rattle.tp_steps.proofs.words.Leaves.{aaid_same}
 use Rattle.tp_steps.proofs.log.KinTurns.{kin}
 use Rattle.tp_steps.proofs.lemmas.Equality.{aaids_equal, branches_equal, or_case, and_left, and_right}
 use Rattle.tp_steps.proofs.lemmas.Options.{some_same}

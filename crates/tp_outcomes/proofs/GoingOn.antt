@@ -1,5 +1,5 @@
 -- In every run, a node stays, and its history goes on.
-use Rattle.std.proofs.Common.{◌≡◌, ◌⊎◌, inl, inr, ℕ, Bool, true, false, cond, refl, ap, sym, subst, ◌∙◌, arith, Option, Some, None, List, [], ◌∷◌, ◌++◌, ◌==◌}
+use Rattle.std.proofs.Common.{◌≡◌, ℕ, Bool, true, false, cond, refl, ap, sym, subst, ◌∙◌, arith, Option, Some, None, List, [], ◌∷◌, ◌++◌, ◌==◌}
 use Rattle.std.proofs.lemmas.Bool.Decides.{nat_tests}
 use Rattle.tp_names.specs.declared.identifiers.Addr.{Addr}
 use Rattle.tp_names.specs.Same.{is_name}
@@ -10,8 +10,7 @@ use Rattle.tp_model.specs.Parts.{Event, Entry}
 use Rattle.tp_model.specs.History.{answer, with_entry, crashed, crash_entry}
 use Rattle.tp_model.specs.Disk.{Remains, remains}
 use Rattle.tp_model.specs.World.{World, Node, Site, number_of, site_of, find_node, put_node, addr_at, find_site, put_site}
-use Rattle.tp_model.specs.Happenings.{Turn, still, after_lines, action_lines, after_stop, crash_turn, restarted, restarted_at, Happening, Task, task_of, entered, logged, entry_turn, event_turn, action_turn, new_node, declared_at, declare_turn, stop_in_force, stop_in_entry, stop_in_task, task_here, crash_in_turn, happens, run}
-use Rattle.tp_model.specs.Promises.{IsIn}
+use Rattle.tp_model.specs.Happenings.{Turn, still, after_lines, action_lines, after_stop, crash_turn, restarted, restarted_at, Happening, Task, task_of, entered, entry_turn, action_turn, new_node, declared_at, declare_turn, stop_in_force, stop_in_entry, stop_in_task, task_here, crash_in_turn, happens, run}
 use Rattle.tp_outcomes.specs.Staying.{GoesOn, NodesStay}
 use Rattle.tp_histories.proofs.worlds.Nodes.{find_is, find_put}
 use Rattle.tp_histories.proofs.worlds.Traversal.{Ready, ready_of, logged_nodes}

@@ -1,10 +1,9 @@
 -- In every run, one outcome is shown in a tree, and what is told of an outcome is told of a tree.
-use Rattle.std.proofs.Common.{◌≡◌, ◌⊎◌, inl, inr, ℕ, Bool, true, false, refl, ap, sym, ◌∙◌, arith, Option, Some, None, List, [], ◌∷◌, ◌++◌, ◌&&◌, ◌||◌}
+use Rattle.std.proofs.Common.{◌≡◌, ◌⊎◌, inl, inr, ℕ, Bool, true, false, refl, ap, sym, ◌∙◌, arith, Option, Some, None, List, [], ◌∷◌, ◌&&◌, ◌||◌}
 use Rattle.tp_names.specs.declared.identifiers.Aaid.{Aaid}
 use Rattle.tp_names.specs.declared.identifiers.BranchId.{BranchId}
 use Rattle.tp_names.specs.declared.identifiers.Mark.{Mark}
 use Rattle.tp_names.specs.declared.identifiers.Addr.{Addr}
-use Rattle.tp_names.specs.declared.outcome.Outcome.{Outcome}
 use Rattle.tp_records.specs.declared.indication.Indication.{Indication}
 use Rattle.tp_records.specs.declared.dialogue.DialogueRecord.{DialogueRecord}
 use Rattle.tp_records.specs.declared.dialogue.Holder.{Holder}
@@ -14,24 +13,24 @@ use Rattle.tp_model.specs.declared.transaction.TxOut.{TxOut}
 use Rattle.tp_model.specs.Parts.{Who, Origin, Event, Out, Entry, Arc, Under, Current, Digest}
 use Rattle.tp_model.specs.Dialogues.{Sight, Acts, Nothing_happens, Out_of_phase, begun_by, named_holder}
 use Rattle.tp_model.specs.declared.arc.Side.{Side}
-use Rattle.tp_model.specs.Arcs.{find_arc, with_dialogue, performed}
+use Rattle.tp_model.specs.Arcs.{find_arc, with_dialogue}
 use Rattle.tp_model.specs.Transactions.{aaid_of}
-use Rattle.tp_model.specs.Node.{Move, move, followed, perform, next_mark, fresh_current, begin_on, begin_each, begin_chained, chained_peers}
+use Rattle.tp_model.specs.Node.{Move, move, perform, next_mark, fresh_current, begin_on, begin_each, begin_chained, chained_peers}
 use Rattle.tp_model.specs.Arrivals.{sight_at, take_begin, take_record, take_on}
 use Rattle.tp_model.specs.Events.{action}
 use Rattle.tp_model.specs.History.{digest, records}
-use Rattle.tp_model.specs.Outcomes.{is_now, is_member, is_commit_of, has_commit_of, last_decision, decision_in, decided, decision, rolls, rolled, has_left, is_unchanged, told}
+use Rattle.tp_model.specs.Outcomes.{is_now, is_member, has_commit_of, last_decision, decided, decision, rolls, rolled, has_left, is_unchanged, told}
 use Rattle.tp_model.specs.World.{Node, number_of}
 use Rattle.tp_model.specs.Happenings.{Happening, run}
-use Rattle.tp_model.specs.Promises.{IsIn, IsOf, tells_commit, tells_rollback, has_told_in, told_of, is_of_tree, has_record, has_logged}
+use Rattle.tp_model.specs.Promises.{IsOf, tells_commit, tells_rollback, has_told_in, told_of, is_of_tree, has_record, has_logged}
 use Rattle.tp_model.specs.Legal.{IsGrown}
 use Rattle.tp_steps.specs.Moves.{prelude}
-use Rattle.tp_steps.specs.Passages.{asks_tell, is_commit_told, is_rollback_told}
+use Rattle.tp_steps.specs.Passages.{is_commit_told, is_rollback_told}
 use Rattle.tp_steps.specs.Trees.{out_tells, IsTreed}
 use Rattle.tp_outcomes.specs.Shown.{OneIsShown, tells_outcome, IsToldOfATree, ToldOfTrees, LeftIsUntold}
 use Rattle.tp_steps.proofs.links.Told.{told_append, told_performed}
 use Rattle.tp_steps.proofs.every.BeginCases.{begin_cases}
-use Rattle.tp_steps.proofs.lemmas.Equality.{or_case, and_left, and_right}
+use Rattle.tp_steps.proofs.lemmas.Equality.{or_case, and_left}
 use Rattle.tp_histories.proofs.trees.Late.{late_law}
 use Rattle.tp_histories.proofs.trees.Knowing.{Came, As_it_was, By_begin, By_crash, came_by}
 use Rattle.tp_histories.proofs.trees.Behind.{treed_rolls}

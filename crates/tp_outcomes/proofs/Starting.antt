@@ -1,5 +1,5 @@
 -- In every legal history, a node starts a tree at most once, and the trees that it starts are those of its own that it is in.
-use Rattle.std.proofs.Common.{if◌then◌else◌, ◌≡◌, ◌≤◌, ◌⊎◌, inl, inr, ℕ, zero, suc, Bool, true, false, refl, ap, sym, subst, ◌∙◌, arith, Option, Some, None, List, [], ◌∷◌, ◌++◌, ◌+◌, ◌&&◌, ◌||◌, ◌==◌}
+use Rattle.std.proofs.Common.{if◌then◌else◌, ◌≡◌, ◌≤◌, ◌⊎◌, inl, inr, ℕ, zero, suc, Bool, true, false, refl, ap, sym, subst, ◌∙◌, arith, Option, Some, None, List, [], ◌∷◌, ◌++◌, ◌+◌, ◌||◌, ◌==◌}
 use Rattle.std.proofs.lemmas.Bool.Decides.{nat_tests}
 use Rattle.tp_names.specs.declared.identifiers.Aaid.{Aaid}
 use Rattle.tp_names.specs.declared.identifiers.BranchId.{BranchId}
@@ -16,10 +16,9 @@ use Rattle.tp_model.specs.Events.{refusal, recovered_current, action}
 use Rattle.tp_model.specs.History.{digest}
 use Rattle.tp_model.specs.Legal.{IsLegal, IsGrown}
 use Rattle.tp_model.specs.Questions.{is_crash}
-use Rattle.tp_model.specs.Outcomes.{is_now, is_member, is_unchanged, rolls, root_of, started}
+use Rattle.tp_model.specs.Outcomes.{is_now, is_member, is_unchanged, rolls, started}
 use Rattle.tp_model.specs.Happenings.{trees_of}
 use Rattle.tp_steps.specs.Moves.{prelude, begun_in, counted_in, IsLate}
-use Rattle.tp_steps.specs.Traces.{is_old}
 use Rattle.tp_steps.specs.Trees.{IsDrawn, IsTreed}
 use Rattle.tp_histories.specs.Members.{is_own, is_known, is_begun_by, has_taken_begin, IsOnce}
 use Rattle.tp_outcomes.specs.Starting.{starts, times_in}

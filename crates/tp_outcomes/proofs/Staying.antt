@@ -1,5 +1,5 @@
 -- In every run, what is so of a node in a tree stays so, whatever happens after it.
-use Rattle.std.proofs.Common.{if◌then◌else◌, ◌≡◌, ◌⊎◌, inl, inr, ℕ, Bool, true, false, refl, ap, sym, subst, ◌∙◌, arith, Option, Some, None, List, [], ◌∷◌, ◌++◌, ◌&&◌, ◌||◌}
+use Rattle.std.proofs.Common.{if◌then◌else◌, ◌≡◌, ◌⊎◌, inl, inr, ℕ, Bool, true, false, refl, ap, sym, subst, ◌∙◌, arith, Option, Some, None, List, [], ◌∷◌, ◌++◌, ◌||◌}
 use Rattle.tp_names.specs.declared.identifiers.Aaid.{Aaid}
 use Rattle.tp_names.specs.declared.identifiers.NodeKey.{NodeKey}
 use Rattle.tp_names.specs.declared.identifiers.Addr.{Addr}
@@ -9,14 +9,13 @@ use Rattle.tp_names.specs.Same.{is_aaid}
 use Rattle.tp_logrec.specs.declared.record.LogRec.{LogRec}
 use Rattle.tp_model.specs.declared.arc.Phase.{Phase}
 use Rattle.tp_model.specs.Parts.{Origin, Out, Entry, Current}
-use Rattle.tp_model.specs.Dialogues.{is_ready, is_rolling}
-use Rattle.tp_model.specs.Transactions.{aaid_of}
+use Rattle.tp_model.specs.Dialogues.{is_rolling}
 use Rattle.tp_model.specs.Node.{phase_of}
 use Rattle.tp_model.specs.History.{digest, records, with_rec}
 use Rattle.tp_model.specs.Outcomes.{is_now, is_member, is_commit_of, has_commit_of, last_decision, decision_in, decided, decision, rolled, has_left, told, completed_none}
 use Rattle.tp_model.specs.World.{Node, number_of, find_node}
 use Rattle.tp_model.specs.Happenings.{Happening, run}
-use Rattle.tp_model.specs.Promises.{IsIn, told_of, is_of_tree, has_told_in}
+use Rattle.tp_model.specs.Promises.{is_of_tree, has_told_in}
 use Rattle.tp_model.specs.Legal.{IsGrown}
 use Rattle.tp_histories.specs.Members.{IsOnce}
 use Rattle.tp_histories.specs.Fates.{IsFated}
@@ -26,15 +25,13 @@ use Rattle.tp_steps.proofs.branches.Rolls.{phase_at}
 use Rattle.tp_steps.proofs.lemmas.Options.{some_same}
 use Rattle.tp_steps.proofs.lemmas.Words.{commit_more}
 use Rattle.tp_histories.proofs.trees.Fated.{fated_law}
-use Rattle.tp_histories.proofs.worlds.Nodes.{find_is}
 use Rattle.tp_histories.proofs.worlds.Good.{good_run}
 use Rattle.tp_histories.proofs.worlds.Unique.{unique_run}
 use Rattle.tp_agreement.proofs.OwingLaw.{rolled_more}
 use Rattle.tp_agreement.proofs.Logs.{later_member}
 use Rattle.tp_forced.proofs.Stages.{is_away, fits}
-use Rattle.tp_forced.proofs.StageMoves.{Fits}
 use Rattle.tp_forced.proofs.TreeLogs.{IsStagedLog, staged_law}
-use Rattle.tp_forced.proofs.Forced.{Newest, newest}
+use Rattle.tp_forced.proofs.Forced.{newest}
 use Rattle.tp_outcomes.proofs.GoingOn.{onward_run}
 
 -- ---- a decision stands after a Ready, and nothing else

@@ -1,5 +1,5 @@
 -- In every run, the world lists each tree that has a node once, and closes it with one line.
-use Rattle.std.proofs.Common.{◌≡◌, ◌≤◌, ◌⊎◌, inl, inr, ℕ, zero, suc, Bool, true, false, cond, refl, ap, sym, subst, ◌∙◌, arith, Option, Some, None, List, [], ◌∷◌, ◌++◌, ◌+◌, ◌==◌, ◌&&◌}
+use Rattle.std.proofs.Common.{◌≡◌, ◌≤◌, inl, inr, ℕ, zero, suc, Bool, true, false, cond, refl, ap, sym, subst, ◌∙◌, arith, Option, Some, None, List, [], ◌∷◌, ◌++◌, ◌+◌, ◌==◌, ◌&&◌}
 use Rattle.std.proofs.lemmas.Bool.Decides.{nat_tests}
 use Rattle.tp_names.specs.declared.identifiers.Aaid.{Aaid}
 use Rattle.tp_names.specs.declared.identifiers.Addr.{Addr}
@@ -9,18 +9,16 @@ use Rattle.tp_logrec.specs.declared.record.LogRec.{LogRec}
 use Rattle.tp_model.specs.declared.line.Action.{Action}
 use Rattle.tp_model.specs.declared.out_line.OutLine.{OutLine}
 use Rattle.tp_model.specs.declared.out_line.RecordFate.{RecordFate}
-use Rattle.tp_model.specs.Parts.{Origin, Event, Entry, Root, Under, Key, Current, Digest}
-use Rattle.tp_model.specs.Dialogues.{is_ready, is_committing}
-use Rattle.tp_model.specs.Transactions.{aaid_of}
-use Rattle.tp_model.specs.History.{digest, answer, entry_of, grown, with_entry, crashed, crash_entry, refuse}
+use Rattle.tp_model.specs.Parts.{Origin, Event, Entry}
+use Rattle.tp_model.specs.History.{digest, answer, entry_of, grown, with_entry, crashed, crash_entry}
 use Rattle.tp_model.specs.Legal.{IsLegal, IsGrown, IsUnder}
 use Rattle.tp_model.specs.Disk.{Remains, remains}
-use Rattle.tp_model.specs.Outcomes.{is_now, is_member, root_of, started as tree_started}
+use Rattle.tp_model.specs.Outcomes.{started as tree_started}
 use Rattle.tp_model.specs.World.{World, Node, Site, number_of, site_of, find_node, put_node, addr_at, find_site, put_site}
-use Rattle.tp_model.specs.Trees.{members_of, all_told, some_told, deciders, agreed_line, closing_line, closing_from, closing}
-use Rattle.tp_model.specs.Happenings.{Turn, still, after_lines, action_lines, after_stop, crash_turn, restarted, restarted_at, trees_of, Happening, Task, task_of, entered, logged, entry_turn, event_turn, action_turn, new_node, declared_at, declare_turn, stop_in_force, stop_in_entry, stop_in_task, task_here, crash_in_turn, happens, run}
+use Rattle.tp_model.specs.Trees.{members_of, all_told, some_told, deciders, closing_line, closing_from}
+use Rattle.tp_model.specs.Happenings.{Turn, still, after_lines, action_lines, after_stop, crash_turn, restarted, restarted_at, trees_of, Happening, Task, task_of, entered, logged, entry_turn, action_turn, new_node, declared_at, declare_turn, stop_in_force, stop_in_entry, stop_in_task, task_here, crash_in_turn, happens, run}
 use Rattle.tp_model.specs.Promises.{IsIn, IsOf, is_root}
-use Rattle.tp_histories.specs.Members.{has_taken_begin, is_own, IsOnce}
+use Rattle.tp_histories.specs.Members.{has_taken_begin, IsOnce}
 use Rattle.tp_outcomes.specs.Starting.{starts, times_in, BelongsSo, ListedOnce, is_line_of, lines_of, ClosesOnce}
 use Rattle.tp_steps.proofs.lemmas.Equality.{aaids_equal, and_right}
 use Rattle.tp_steps.proofs.words.Leaves.{name_same}

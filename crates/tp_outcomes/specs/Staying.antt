@@ -1,5 +1,5 @@
 -- What stays of a node in a tree, whatever happens after it.
-use Rattle.std.specs.Prelude.{◌≡◌, Bool, true, Option, Some, List, ◌++◌}
+use Rattle.std.specs.Prelude.{◌≡◌, Bool, true, Some, List, ◌++◌}
 use Rattle.tp_names.specs.declared.identifiers.Aaid.{Aaid}
 use Rattle.tp_names.specs.declared.outcome.Outcome.{Outcome}
 use Rattle.tp_model.specs.Parts.{Out, Entry}
