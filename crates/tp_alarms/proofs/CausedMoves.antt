@@ -90,7 +90,7 @@ ok_left k u h c i =
       own = ap (own_ok k) (left_own u c i) ∙ h.own;
     }
 
-turns : (who : Who) (k : Known) (t : Aaid) (f : TxEvent) (s d : Digest) (c : Current) → d.current ≡ Some c → s.current ≡ Some c → (is_aaid t (aaid_of c.key) ≡ true → Adds k f) → IsPut f (seen who d.arcs c) → IsCausedMove k t s d (turned who f d c)
+turns : (who : Who) (k : Known) (t : Aaid) (f : TxEvent) (s d : Digest) (c : Current) → d.current ≡ Some c → s.current ≡ Some c → (is_aaid t (aaid_of c.key) ≡ true → Adds k f (seen who d.arcs c)) → IsPut f (seen who d.arcs c) → IsCausedMove k t s d (turned who f d c)
 turns who k t f s d c now at adds put ok = go (is_aaid t (aaid_of c.key)) refl
   where
     q : Transaction
@@ -157,7 +157,7 @@ begins who k t s d q ok = begin_cases (CausedMove k t s) who q d (record { ok = 
 fresh_ok : (k : Known) (u : Aaid) → IsOkNow k (fresh_current (Root u))
 fresh_ok k u = record { branches = refl; decision = refl; own = refl }
 
-pub caused_moves : (who : Who) (e : Event) (s : Digest) (k : Known) (t : Aaid) → ((c : Current) (f : TxEvent) → s.current ≡ Some c → IsAsked e c f → is_aaid t (aaid_of c.key) ≡ true → Adds k f) → Moves who e s (IsCausedMove k t s)
+pub caused_moves : (who : Who) (e : Event) (s : Digest) (k : Known) (t : Aaid) → ((c : Current) (f : TxEvent) (arcs : List Arc) → s.current ≡ Some c → IsAsked e c f → is_aaid t (aaid_of c.key) ≡ true → Adds k f (seen who arcs c)) → Moves who e s (IsCausedMove k t s)
 caused_moves who e s k t adds = record {
   still = λ d ok. record { ok = ok; tells = λ n. refl };
   chain = λ d a f one two still. chained who k t s d a f one two;
@@ -166,7 +166,7 @@ caused_moves who e s k t adds = record {
   drops_arc = λ d p m at one ok. one ok;
   notes_kept = λ d ks m held one ok. one ok;
   keeps = λ d x f held ok. record { ok = ok; tells = λ n. told_performed (is_bad k) d.arcs (settled x f).outs ∙ tells_none (is_bad k) (settled x f).outs (bad_outcome k) (settled_spoken x f) };
-  turns = λ d c f now at asked put gone. turns who k t f s d c now at (λ own. adds c f at asked own) put;
+  turns = λ d c f now at asked put gone. turns who k t f s d c now at (λ own. adds c f d.arcs at asked own) put;
   begins = λ d q free. begins who k t s d q;
   roots = λ d m nil may one ok. one (λ c is own. subst (λ (v : Current). IsOkNow k v) (some_same (fresh_current (Root (record { owner = who.site; mark = next_mark who d }))) c is) (fresh_ok k (record { owner = who.site; mark = next_mark who d })));
 }

@@ -14,8 +14,8 @@ use Rattle.tp_records.specs.declared.peer.RecState.{RecState}
 use Rattle.tp_model.specs.declared.transaction.TxEvent.{TxEvent}
 use Rattle.tp_model.specs.declared.transaction.TxOut.{TxOut}
 use Rattle.tp_model.specs.Parts.{Branch}
-use Rattle.tp_model.specs.Dialogues.{is_ready}
-use Rattle.tp_model.specs.Transactions.{Row, Transaction, Turn, turn, and_then, before, aaid_of, is_under_at, find_row, put_row, with_row, with_arc_lost, all_done, all_rolled_back, report_of_branch, reports_of, own_damage, carry_up, forgets, done_up, ends_down, end_up, prepare_each, all_prepared, is_own_commit, complete_commit, complete_rollback, begin_rolling, ask_commit, order, leave, count_branch, end_branch, branch_left, retried, transacted}
+use Rattle.tp_model.specs.Dialogues.{is_ready, is_committing, is_rolling}
+use Rattle.tp_model.specs.Transactions.{Row, Transaction, Turn, turn, and_then, before, aaid_of, is_under_at, row_holds, find_row, find_row_by_id, is_open_in_commit, put_row, with_row, with_arc_lost, all_done, all_rolled_back, report_of_branch, reports_of, own_damage, carry_up, forgets, done_up, ends_down, end_up, prepare_each, all_prepared, is_own_commit, complete_commit, complete_rollback, begin_rolling, ask_commit, order, leave, count_branch, end_branch, branch_left, retried, transacted}
 use Rattle.tp_steps.specs.Turns.{Turns, vote, decide, shut_given_up, row_dead, is_outcome_told}
 use Rattle.tp_steps.specs.Moves.{IsPut}
 use Rattle.tp_steps.specs.Passages.{asks_tell}
@@ -77,10 +77,10 @@ is_bad k (Indication.RollbackComplete r) = not (has_cause k Outcome.Commit r)
 is_bad k _ = false
 
 -- what the event adds
-pub record Adds (k : Known) (e : TxEvent) : Type 0 where
-  pub done : (p : ℕ) (r : Report) → e ≡ TxEvent.Took p (DialogueRecord.Done r) → may_hear k r ≡ true
-  pub rolled : (p : ℕ) (r : Report) → e ≡ TxEvent.Took p (DialogueRecord.RolledBack r) → may_hear k r ≡ true
-  pub replied : (b : BranchId) (r : Report) → e ≡ TxEvent.Reply b (RecState.Done r) → may_hear k r ≡ true
+pub record Adds (k : Known) (e : TxEvent) (s : Transaction) : Type 0 where
+  pub done : (p : ℕ) (r : Report) → e ≡ TxEvent.Took p (DialogueRecord.Done r) → is_committing s.phase ≡ true → row_holds s.rows p (λ b. not b.ended && not b.left) ≡ true → may_hear k r ≡ true
+  pub rolled : (p : ℕ) (r : Report) → e ≡ TxEvent.Took p (DialogueRecord.RolledBack r) → is_rolling s.phase ≡ true → row_holds s.rows p (λ b. not b.ended && not b.left) ≡ true → may_hear k r ≡ true
+  pub replied : (b : BranchId) (w : Row) (r : Report) → e ≡ TxEvent.Reply b (RecState.Done r) → find_row_by_id s.rows b ≡ Some w → is_open_in_commit s w.branch ≡ true → may_hear k r ≡ true
   pub gives : (p : ℕ) → e ≡ TxEvent.GiveUp p → k.gave ≡ true
   pub decides : (o : Outcome) → e ≡ TxEvent.Heur o → k.decides o ≡ true
 
@@ -341,7 +341,7 @@ caused_rollback k t h = go (not t.owes && all_rolled_back t.rows && (t.superior_
 
 -- ---- every event
 
-caused_turns : (k : Known) (e : TxEvent) (s : Transaction) → Adds k e → Turns e s (IsCaused k)
+caused_turns : (k : Known) (e : TxEvent) (s : Transaction) → Adds k e s → Turns e s (IsCaused k)
 caused_turns k e s adds = record {
   still = λ t. caused_same k t t [] (λ h. h) refl;
   first = λ t u outs a one two. caused_first k t u outs a one two;
@@ -362,9 +362,9 @@ caused_turns k e s adds = record {
   closes_left = λ q is. caused_row k s _ q _ (λ w i. i) refl;
   gives_up = λ q r is c found. caused_given k q r s (adds.gives q is);
   counts = λ q is act row. caused_count k q s;
-  ends_done = λ q r is c row. caused_end k q r s (adds.done q r is);
-  ends_replied = λ b w r is found o. caused_end k w.branch.peer.node r s (adds.replied b r is);
-  ends_rolled = λ q r is c row. caused_end k q r s (adds.rolled q r is);
+  ends_done = λ q r is c row. caused_end k q r s (adds.done q r is c row);
+  ends_replied = λ b w r is found o. caused_end k w.branch.peer.node r s (adds.replied b w r is found o);
+  ends_rolled = λ q r is c row. caused_end k q r s (adds.rolled q r is c row);
   leaves_below = λ q w t is left at act. caused_left k q t;
   leaves_rolling = λ q w t is left at c. caused_end k q _ t refl;
   votes = λ t act asked all under. caused_vote k t;
@@ -376,5 +376,5 @@ caused_turns k e s adds = record {
   leaves = λ is act under asked all. caused_leave k s;
 }
 
-pub caused_turn : (k : Known) (e : TxEvent) (s : Transaction) → Adds k e → IsPut e s → IsCaused k s (transacted e s)
+pub caused_turn : (k : Known) (e : TxEvent) (s : Transaction) → Adds k e s → IsPut e s → IsCaused k s (transacted e s)
 caused_turn k e s adds put = every_turn e s (IsCaused k) (caused_turns k e s adds) put

@@ -17,10 +17,11 @@ use Rattle.tp_records.specs.declared.peer.RecState.{RecState}
 use Rattle.tp_logrec.specs.declared.record.LogRec.{LogRec}
 use Rattle.tp_model.specs.declared.arc.Phase.{Phase}
 use Rattle.tp_model.specs.declared.transaction.TxEvent.{TxEvent}
-use Rattle.tp_model.specs.Parts.{Who, Origin, Event, Out, Entry, Branch, Under, Current, Digest}
-use Rattle.tp_model.specs.Dialogues.{is_ready, is_committing}
-use Rattle.tp_model.specs.Transactions.{aaid_of, node_key}
-use Rattle.tp_model.specs.Node.{Move, move, fresh_current, phase_of, passage, passed, restarted, turned, transact}
+use Rattle.tp_model.specs.Parts.{Who, Origin, Event, Out, Entry, Arc, Branch, Under, Current, Digest}
+use Rattle.tp_model.specs.Dialogues.{is_ready, is_committing, is_rolling}
+use Rattle.tp_model.specs.Transactions.{Row, Transaction, aaid_of, node_key, row_holds, find_row, find_row_by_id, is_open_in_commit}
+use Rattle.tp_model.specs.Arrivals.{find_branch_by_id}
+use Rattle.tp_model.specs.Node.{Move, move, seen, seen_row, seen_rows, fresh_current, phase_of, passage, passed, restarted, turned, transact}
 use Rattle.tp_model.specs.Events.{action, recovered, named_again, recovered_current}
 use Rattle.tp_model.specs.History.{digest, records, with_rec}
 use Rattle.tp_model.specs.Outcomes.{is_now, last_decision, decision}
@@ -29,17 +30,20 @@ use Rattle.tp_model.specs.Happenings.{Happening, run}
 use Rattle.tp_model.specs.Promises.{IsIn, has_told_in}
 use Rattle.tp_model.specs.Legal.{IsGrown}
 use Rattle.tp_steps.specs.Moves.{IsAsked, prelude}
+use Rattle.tp_steps.specs.Facts.{find_branch}
 use Rattle.tp_steps.specs.Trees.{out_tells}
 use Rattle.tp_histories.specs.Members.{IsOnce}
-use Rattle.tp_alarms.specs.Causes.{same_report, tells_committed, tells_rolled_back, hears, gives_up, has_met, has_heard, has_given_up, ReportsHaveCauses}
+use Rattle.tp_alarms.specs.Causes.{same_report, tells_committed, tells_rolled_back, is_awaited, hears, gives_up, is_met, has_met, has_heard, has_given_up, ReportsHaveCauses}
 use Rattle.tp_steps.proofs.every.EveryEvent.{every_move}
 use Rattle.tp_steps.proofs.log.Owned.{key_aaid}
+use Rattle.tp_steps.proofs.words.HeardTurned.{seen_find}
 use Rattle.tp_steps.proofs.lemmas.Equality.{or_case, and_left, and_right, both_true}
 use Rattle.tp_steps.proofs.lemmas.Options.{some_same}
 use Rattle.tp_histories.proofs.trees.Late.{late_law}
 use Rattle.tp_histories.proofs.trees.Knowing.{Came, As_it_was, By_begin, By_crash, came_by, nil_now, current_none}
 use Rattle.tp_histories.proofs.worlds.Good.{good_run}
 use Rattle.tp_histories.proofs.worlds.Unique.{unique_run}
+use Rattle.tp_agreement.proofs.OwingLaw.{rows_by_id}
 use Rattle.tp_outcomes.proofs.Staying.{decision_step}
 use Rattle.tp_alarms.proofs.CausedTurns.{Known, may_hear, branch_ok, decision_ok, own_ok, has_cause, is_bad, Adds}
 use Rattle.tp_alarms.proofs.CausedMoves.{branches_ok, IsOkNow, IsOkAt, CausedMove, IsCausedMove, caused_moves}
@@ -109,8 +113,8 @@ cause_wider k l w u Report.None h = refl
 cause_wider k l w u Report.Hazard h = or_wider k.gave (k.heard Report.Hazard) l.gave (l.heard Report.Hazard) w.gave (w.heard Report.Hazard) h
 cause_wider k l w u Report.Mix h = or_wider (k.decides u) (k.heard Report.Mix) (l.decides u) (l.heard Report.Mix) (w.decides u) (w.heard Report.Mix) h
 
-met_more : (f : Event → Bool) (o : Origin) (t : Aaid) (e : Entry) (h : List Entry) → has_met f o t h ≡ true → has_met f o t (e ∷ h) ≡ true
-met_more f o t e h i = or_wider false (has_met f o t h) (is_now t (digest o h).current && f e.event) (has_met f o t h) (λ j. absurd (cc (j))) (λ j. j) i
+met_more : (f : Current → Event → Bool) (o : Origin) (t : Aaid) (e : Entry) (h : List Entry) → has_met f o t h ≡ true → has_met f o t (e ∷ h) ≡ true
+met_more f o t e h i = or_wider false (has_met f o t h) (is_met f t (digest o h).current e.event) (has_met f o t h) (λ j. absurd (cc (j))) (λ j. j) i
 
 wider : (o : Origin) (up : Option Addr) (e : Entry) (h : List Entry) (t : Aaid) → o.start.records ≡ [] → IsGrown o up (e ∷ h) → IsOnce o (e ∷ h) → IsWider (known_of o t h) (known_of o t (e ∷ h))
 wider o up e h t empty legal once = record {
@@ -130,11 +134,11 @@ is_adding (TxEvent.GiveUp p) = true
 is_adding (TxEvent.Heur o) = true
 is_adding _ = false
 
-plain : (k : Known) (f : TxEvent) → is_adding f ≡ false → Adds k f
-plain k f h = record {
-  done = λ p r i. absurd (cc (ap is_adding i, h));
-  rolled = λ p r i. absurd (cc (ap is_adding i, h));
-  replied = λ b r i. absurd (cc (ap is_adding i, h));
+plain : (k : Known) (f : TxEvent) (s : Transaction) → is_adding f ≡ false → Adds k f s
+plain k f s h = record {
+  done = λ p r i c row. absurd (cc (ap is_adding i, h));
+  rolled = λ p r i c row. absurd (cc (ap is_adding i, h));
+  replied = λ b w r i found o. absurd (cc (ap is_adding i, h));
   gives = λ p i. absurd (cc (ap is_adding i, h));
   decides = λ o i. absurd (cc (ap is_adding i, h));
 }
@@ -144,88 +148,143 @@ same_self Report.None = refl
 same_self Report.Hazard = refl
 same_self Report.Mix = refl
 
-hears_it : (k : Known) (r : Report) → ((s : Report) → same_report s r ≡ true → k.heard s ≡ true) → may_hear k r ≡ true
+hears_it : (k : Known) (r : Report) → ((v : Report) → same_report v r ≡ true → k.heard v ≡ true) → may_hear k r ≡ true
 hears_it k Report.None f = refl
 hears_it k Report.Hazard f = f Report.Hazard refl
 hears_it k Report.Mix f = f Report.Mix refl
 
-took_done : (k : Known) (p : ℕ) (r : Report) → may_hear k r ≡ true → Adds k (TxEvent.Took p (DialogueRecord.Done r))
-took_done k p r h = record {
-  done = λ q s i. ap (may_hear k) (sym (one p q r s i)) ∙ h;
-  rolled = λ q s i. absurd (cc (i));
-  replied = λ b s i. absurd (cc (i));
+abbrev IsWaited : Transaction → ℕ → Type 0
+IsWaited s p = row_holds s.rows p (λ b. not b.ended && not b.left) ≡ true
+
+took_done : (k : Known) (p : ℕ) (r : Report) (s : Transaction) → (is_committing s.phase ≡ true → IsWaited s p → may_hear k r ≡ true) → Adds k (TxEvent.Took p (DialogueRecord.Done r)) s
+took_done k p r s h = record {
+  done = λ q v i c row. ap (may_hear k) (sym (one p q r v i)) ∙ h c (subst (λ (n : ℕ). IsWaited s n) (sym (at p q r v i)) row);
+  rolled = λ q v i c row. absurd (cc (i));
+  replied = λ b w v i found o. absurd (cc (i));
   gives = λ q i. absurd (cc (i));
   decides = λ o i. absurd (cc (i));
 }
   where
-    one : (p q : ℕ) (r s : Report) → TxEvent.Took p (DialogueRecord.Done r) ≡ TxEvent.Took q (DialogueRecord.Done s) → r ≡ s
-    one p q r s i = cc (i)
+    one : (p q : ℕ) (r v : Report) → TxEvent.Took p (DialogueRecord.Done r) ≡ TxEvent.Took q (DialogueRecord.Done v) → r ≡ v
+    one p q r v i = cc (i)
 
-took_rolled : (k : Known) (p : ℕ) (r : Report) → may_hear k r ≡ true → Adds k (TxEvent.Took p (DialogueRecord.RolledBack r))
-took_rolled k p r h = record {
-  done = λ q s i. absurd (cc (i));
-  rolled = λ q s i. ap (may_hear k) (sym (one p q r s i)) ∙ h;
-  replied = λ b s i. absurd (cc (i));
+    at : (p q : ℕ) (r v : Report) → TxEvent.Took p (DialogueRecord.Done r) ≡ TxEvent.Took q (DialogueRecord.Done v) → p ≡ q
+    at p q r v i = cc (i)
+
+took_rolled : (k : Known) (p : ℕ) (r : Report) (s : Transaction) → (is_rolling s.phase ≡ true → IsWaited s p → may_hear k r ≡ true) → Adds k (TxEvent.Took p (DialogueRecord.RolledBack r)) s
+took_rolled k p r s h = record {
+  done = λ q v i c row. absurd (cc (i));
+  rolled = λ q v i c row. ap (may_hear k) (sym (one p q r v i)) ∙ h c (subst (λ (n : ℕ). IsWaited s n) (sym (at p q r v i)) row);
+  replied = λ b w v i found o. absurd (cc (i));
   gives = λ q i. absurd (cc (i));
   decides = λ o i. absurd (cc (i));
 }
   where
-    one : (p q : ℕ) (r s : Report) → TxEvent.Took p (DialogueRecord.RolledBack r) ≡ TxEvent.Took q (DialogueRecord.RolledBack s) → r ≡ s
-    one p q r s i = cc (i)
+    one : (p q : ℕ) (r v : Report) → TxEvent.Took p (DialogueRecord.RolledBack r) ≡ TxEvent.Took q (DialogueRecord.RolledBack v) → r ≡ v
+    one p q r v i = cc (i)
 
-took_reply : (k : Known) (b : BranchId) (r : Report) → may_hear k r ≡ true → Adds k (TxEvent.Reply b (RecState.Done r))
-took_reply k b r h = record {
-  done = λ q s i. absurd (cc (i));
-  rolled = λ q s i. absurd (cc (i));
-  replied = λ c s i. ap (may_hear k) (sym (one b c r s i)) ∙ h;
+    at : (p q : ℕ) (r v : Report) → TxEvent.Took p (DialogueRecord.RolledBack r) ≡ TxEvent.Took q (DialogueRecord.RolledBack v) → p ≡ q
+    at p q r v i = cc (i)
+
+took_reply : (k : Known) (b : BranchId) (r : Report) (s : Transaction) → ((w : Row) → find_row_by_id s.rows b ≡ Some w → is_open_in_commit s w.branch ≡ true → may_hear k r ≡ true) → Adds k (TxEvent.Reply b (RecState.Done r)) s
+took_reply k b r s h = record {
+  done = λ q v i c row. absurd (cc (i));
+  rolled = λ q v i c row. absurd (cc (i));
+  replied = λ d w v i found o. ap (may_hear k) (sym (one b d r v i)) ∙ h w (ap (find_row_by_id s.rows) (at b d r v i) ∙ found) o;
   gives = λ q i. absurd (cc (i));
   decides = λ o i. absurd (cc (i));
 }
   where
-    one : (b c : BranchId) (r s : Report) → TxEvent.Reply b (RecState.Done r) ≡ TxEvent.Reply c (RecState.Done s) → r ≡ s
-    one b c r s i = cc (i)
+    one : (b d : BranchId) (r v : Report) → TxEvent.Reply b (RecState.Done r) ≡ TxEvent.Reply d (RecState.Done v) → r ≡ v
+    one b d r v i = cc (i)
 
-gave_up : (k : Known) (p : ℕ) → k.gave ≡ true → Adds k (TxEvent.GiveUp p)
-gave_up k p h = record { done = λ q s i. absurd (cc (i)); rolled = λ q s i. absurd (cc (i)); replied = λ b s i. absurd (cc (i)); gives = λ q i. h; decides = λ o i. absurd (cc (i)) }
+    at : (b d : BranchId) (r v : Report) → TxEvent.Reply b (RecState.Done r) ≡ TxEvent.Reply d (RecState.Done v) → b ≡ d
+    at b d r v i = cc (i)
 
-decided_so : (k : Known) (u : Outcome) → k.decides u ≡ true → Adds k (TxEvent.Heur u)
-decided_so k u h = record { done = λ q s i. absurd (cc (i)); rolled = λ q s i. absurd (cc (i)); replied = λ b s i. absurd (cc (i)); gives = λ q i. absurd (cc (i)); decides = λ o i. ap k.decides (sym (one u o i)) ∙ h }
+gave_up : (k : Known) (p : ℕ) (s : Transaction) → k.gave ≡ true → Adds k (TxEvent.GiveUp p) s
+gave_up k p s h = record { done = λ q v i c row. absurd (cc (i)); rolled = λ q v i c row. absurd (cc (i)); replied = λ b w v i found o. absurd (cc (i)); gives = λ q i. h; decides = λ o i. absurd (cc (i)) }
+
+decided_so : (k : Known) (u : Outcome) (s : Transaction) → k.decides u ≡ true → Adds k (TxEvent.Heur u) s
+decided_so k u s h = record { done = λ q v i c row. absurd (cc (i)); rolled = λ q v i c row. absurd (cc (i)); replied = λ b w v i found o. absurd (cc (i)); gives = λ q i. absurd (cc (i)); decides = λ o i. ap k.decides (sym (one u o i)) ∙ h }
   where
     one : (u o : Outcome) → TxEvent.Heur u ≡ TxEvent.Heur o → u ≡ o
     one u o i = cc (i)
 
-adds_request : (k : Known) (q : Request) (c : Current) (f : TxEvent) → IsAsked (Event.Do q) c f → Adds k f
-adds_request k (Request.UAbort p) c f a = subst (λ (g : TxEvent). Adds k g) (sym a.0) (plain k (TxEvent.User (Request.UAbort p)) refl)
-adds_request k (Request.DeferEnd p) c f a = subst (λ (g : TxEvent). Adds k g) (sym a) (plain k (TxEvent.User (Request.DeferEnd p)) refl)
-adds_request k (Request.DeferGrant p) c f a = subst (λ (g : TxEvent). Adds k g) (sym a) (plain k (TxEvent.User (Request.DeferGrant p)) refl)
-adds_request k (Request.Prepare p) c f a = subst (λ (g : TxEvent). Adds k g) (sym a) (plain k (TxEvent.User (Request.Prepare p)) refl)
-adds_request k Request.Commit c f a = subst (λ (g : TxEvent). Adds k g) (sym a) (plain k (TxEvent.User Request.Commit) refl)
-adds_request k Request.Done c f a = subst (λ (g : TxEvent). Adds k g) (sym a) (plain k (TxEvent.User Request.Done) refl)
-adds_request k Request.Rollback c f a = subst (λ (g : TxEvent). Adds k g) (sym a) (plain k (TxEvent.User Request.Rollback) refl)
-adds_request k Request.Unchanged c f a = subst (λ (g : TxEvent). Adds k g) (sym a) (plain k (TxEvent.User Request.Unchanged) refl)
-adds_request k q c f a = absurd a
+-- the branch at a row is awaited
+awaited_row : (arcs : List Arc) (bs : List Branch) (p : ℕ) → row_holds (seen_rows arcs bs) p (λ b. not b.ended && not b.left) ≡ true → is_awaited (find_branch bs p) ≡ true
+awaited_row arcs bs p h = go (find_branch bs p) refl
+  where
+    found : (o : Option Branch) → find_branch bs p ≡ o → find_row (seen_rows arcs bs) p ≡ elim o as (λ _. Option Row) [ None ↦ None | Some b ↦ Some (seen_row arcs b) ]
+    found o i = seen_find arcs bs p ∙ ap (λ (v : Option Branch). elim v as (λ _. Option Row) [ None ↦ None | Some b ↦ Some (seen_row arcs b) ]) i
 
-adds_asked : (k : Known) (e : Event) (c : Current) (f : TxEvent) → ((r : Report) → hears r e ≡ true → k.heard r ≡ true) → (gives_up e ≡ true → k.gave ≡ true) → ((u : Outcome) → e ≡ Event.Heur u → k.decides u ≡ true) → IsAsked e c f → Adds k f
-adds_asked k (Event.Declare s) c f heard gave decides a = absurd a
-adds_asked k (Event.Do q) c f heard gave decides a = adds_request k q c f a
-adds_asked k (Event.Arrive from (PeerRecord.ShutAssoc x None)) c f heard gave decides a = absurd a
-adds_asked k (Event.Arrive from (PeerRecord.ShutAssoc x (Some y))) c f heard gave decides a = subst (λ (g : TxEvent). Adds k g) (sym a) (plain k (TxEvent.Lost from.node) refl)
-adds_asked k (Event.Arrive from (PeerRecord.OnAssoc x y q (DialogueRecord.Done r))) c f heard gave decides a = subst (λ (g : TxEvent). Adds k g) (sym a) (took_done k from.node r (hears_it k r heard))
-adds_asked k (Event.Arrive from (PeerRecord.OnAssoc x y q (DialogueRecord.RolledBack r))) c f heard gave decides a = subst (λ (g : TxEvent). Adds k g) (sym a) (took_rolled k from.node r (hears_it k r heard))
-adds_asked k (Event.Arrive from (PeerRecord.OnAssoc x y q r)) c f heard gave decides a = subst (λ (g : TxEvent). Adds k g) (sym a) (plain k (TxEvent.Took from.node r) refl)
-adds_asked k (Event.Arrive from (PeerRecord.RecCommit u b)) c f heard gave decides a = subst (λ (g : TxEvent). Adds k g) (sym a.0) (plain k TxEvent.Ordered refl)
-adds_asked k (Event.Arrive from (PeerRecord.RecReply u b RecState.Commit)) c f heard gave decides a = subst (λ (g : TxEvent). Adds k g) (sym a.0) (plain k (TxEvent.Reply b RecState.Commit) refl)
-adds_asked k (Event.Arrive from (PeerRecord.RecReply u b (RecState.Done r))) c f heard gave decides a = subst (λ (g : TxEvent). Adds k g) (sym a.0) (took_reply k b r (hears_it k r heard))
-adds_asked k (Event.Arrive from (PeerRecord.RecReply u b RecState.Unknown)) c f heard gave decides a = subst (λ (g : TxEvent). Adds k g) (sym a.0) (plain k (TxEvent.Reply b RecState.Unknown) refl)
-adds_asked k (Event.Arrive from (PeerRecord.RecReply u b RecState.RetryLater)) c f heard gave decides a = subst (λ (g : TxEvent). Adds k g) (sym a.0) (plain k (TxEvent.Reply b RecState.RetryLater) refl)
-adds_asked k (Event.Arrive from r) c f heard gave decides a = absurd a
-adds_asked k (Event.Break from r) c f heard gave decides a = subst (λ (g : TxEvent). Adds k g) (sym a) (plain k (TxEvent.Lost from.node) refl)
-adds_asked k (Event.Lose p) c f heard gave decides a = subst (λ (g : TxEvent). Adds k g) (sym a) (plain k (TxEvent.Lost p) refl)
-adds_asked k (Event.Heur u) c f heard gave decides a = subst (λ (g : TxEvent). Adds k g) (sym a) (decided_so k u (decides u refl))
-adds_asked k (Event.GiveUp p) c f heard gave decides a = subst (λ (g : TxEvent). Adds k g) (sym a) (gave_up k p (gave refl))
-adds_asked k Event.Retry c f heard gave decides a = subst (λ (g : TxEvent). Adds k g) (sym a) (plain k TxEvent.Retry refl)
-adds_asked k Event.Purge c f heard gave decides a = absurd a
-adds_asked k Event.Crash c f heard gave decides a = absurd a
+    go : (o : Option Branch) → find_branch bs p ≡ o → is_awaited o ≡ true
+    go None i = sym (ap (λ (v : Option Row). elim v as (λ _. Bool) [ None ↦ false | Some r ↦ not r.branch.ended && not r.branch.left ]) (found None i)) ∙ h
+    go (Some b) i = sym (ap (λ (v : Option Row). elim v as (λ _. Bool) [ None ↦ false | Some r ↦ not r.branch.ended && not r.branch.left ]) (found (Some b) i)) ∙ h
+
+awaited_id : (c : Current) (b : BranchId) (w : Row) (v : Bool) → find_branch_by_id c.branches b ≡ Some w.branch → (v && not w.branch.ended && not w.branch.left) ≡ true → is_awaited (find_branch_by_id c.branches b) ≡ true
+awaited_id c b w v at o =
+    ap is_awaited at
+    ∙ both_true (not w.branch.ended) (not w.branch.left) (and_right v (not w.branch.ended) (and_left (v && not w.branch.ended) (not w.branch.left) o)) (and_right (v && not w.branch.ended) (not w.branch.left) o)
+
+-- what an event tells of a node, where it adds to what is known
+record Telling (k : Known) (e : Event) (c : Current) : Type 0 where
+  heard : (r : Report) → hears r c e ≡ true → k.heard r ≡ true
+  gave : gives_up c e ≡ true → k.gave ≡ true
+  decides : (u : Outcome) → e ≡ Event.Heur u → k.decides u ≡ true
+
+heard_done : (who : Who) (k : Known) (arcs : List Arc) (from : Addr) (x y : Mark) (q : ℕ) (r : Report) (c : Current) → Telling k (Event.Arrive from (PeerRecord.OnAssoc x y q (DialogueRecord.Done r))) c → Adds k (TxEvent.Took from.node (DialogueRecord.Done r)) (seen who arcs c)
+heard_done who k arcs from x y q r c tell =
+    took_done k from.node r (seen who arcs c)
+    (λ now row. hears_it k r
+    (λ v i. tell.heard v (both_true (is_committing c.phase && is_awaited (find_branch c.branches from.node)) (same_report v r) (both_true (is_committing c.phase) (is_awaited (find_branch c.branches from.node)) now (awaited_row arcs c.branches from.node row)) i)))
+
+heard_rolled : (who : Who) (k : Known) (arcs : List Arc) (from : Addr) (x y : Mark) (q : ℕ) (r : Report) (c : Current) → Telling k (Event.Arrive from (PeerRecord.OnAssoc x y q (DialogueRecord.RolledBack r))) c → Adds k (TxEvent.Took from.node (DialogueRecord.RolledBack r)) (seen who arcs c)
+heard_rolled who k arcs from x y q r c tell =
+    took_rolled k from.node r (seen who arcs c)
+    (λ now row. hears_it k r
+    (λ v i. tell.heard v (both_true (is_rolling c.phase && is_awaited (find_branch c.branches from.node)) (same_report v r) (both_true (is_rolling c.phase) (is_awaited (find_branch c.branches from.node)) now (awaited_row arcs c.branches from.node row)) i)))
+
+heard_reply : (who : Who) (k : Known) (arcs : List Arc) (from : Addr) (u : Aaid) (b : BranchId) (r : Report) (c : Current) → is_aaid (aaid_of c.key) u ≡ true → Telling k (Event.Arrive from (PeerRecord.RecReply u b (RecState.Done r))) c → Adds k (TxEvent.Reply b (RecState.Done r)) (seen who arcs c)
+heard_reply who k arcs from u b r c tree tell =
+    took_reply k b r (seen who arcs c)
+    (λ w found o. let now : is_committing c.phase ≡ true = and_left (is_committing c.phase) (not w.branch.ended) (and_left (is_committing c.phase && not w.branch.ended) (not w.branch.left) o) in
+    let waits : is_awaited (find_branch_by_id c.branches b) ≡ true = awaited_id c b w (is_committing c.phase) (rows_by_id arcs c.branches b w found) o in
+    hears_it k r
+    (λ v i. tell.heard v (both_true (is_committing c.phase && is_awaited (find_branch_by_id c.branches b) && is_aaid (aaid_of c.key) u) (same_report v r)
+    (both_true (is_committing c.phase && is_awaited (find_branch_by_id c.branches b)) (is_aaid (aaid_of c.key) u) (both_true (is_committing c.phase) (is_awaited (find_branch_by_id c.branches b)) now waits) tree) i)))
+
+adds_request : (k : Known) (q : Request) (c : Current) (f : TxEvent) (s : Transaction) → IsAsked (Event.Do q) c f → Adds k f s
+adds_request k (Request.UAbort p) c f s a = subst (λ (g : TxEvent). Adds k g s) (sym a.0) (plain k (TxEvent.User (Request.UAbort p)) s refl)
+adds_request k (Request.DeferEnd p) c f s a = subst (λ (g : TxEvent). Adds k g s) (sym a) (plain k (TxEvent.User (Request.DeferEnd p)) s refl)
+adds_request k (Request.DeferGrant p) c f s a = subst (λ (g : TxEvent). Adds k g s) (sym a) (plain k (TxEvent.User (Request.DeferGrant p)) s refl)
+adds_request k (Request.Prepare p) c f s a = subst (λ (g : TxEvent). Adds k g s) (sym a) (plain k (TxEvent.User (Request.Prepare p)) s refl)
+adds_request k Request.Commit c f s a = subst (λ (g : TxEvent). Adds k g s) (sym a) (plain k (TxEvent.User Request.Commit) s refl)
+adds_request k Request.Done c f s a = subst (λ (g : TxEvent). Adds k g s) (sym a) (plain k (TxEvent.User Request.Done) s refl)
+adds_request k Request.Rollback c f s a = subst (λ (g : TxEvent). Adds k g s) (sym a) (plain k (TxEvent.User Request.Rollback) s refl)
+adds_request k Request.Unchanged c f s a = subst (λ (g : TxEvent). Adds k g s) (sym a) (plain k (TxEvent.User Request.Unchanged) s refl)
+adds_request k q c f s a = absurd a
+
+adds_asked : (who : Who) (k : Known) (e : Event) (c : Current) (f : TxEvent) (arcs : List Arc) → Telling k e c → IsAsked e c f → Adds k f (seen who arcs c)
+adds_asked who k (Event.Declare n) c f arcs tell a = absurd a
+adds_asked who k (Event.Do q) c f arcs tell a = adds_request k q c f (seen who arcs c) a
+adds_asked who k (Event.Arrive from (PeerRecord.ShutAssoc x None)) c f arcs tell a = absurd a
+adds_asked who k (Event.Arrive from (PeerRecord.ShutAssoc x (Some y))) c f arcs tell a = subst (λ (g : TxEvent). Adds k g (seen who arcs c)) (sym a) (plain k (TxEvent.Lost from.node) (seen who arcs c) refl)
+adds_asked who k (Event.Arrive from (PeerRecord.OnAssoc x y q (DialogueRecord.Done r))) c f arcs tell a = subst (λ (g : TxEvent). Adds k g (seen who arcs c)) (sym a) (heard_done who k arcs from x y q r c tell)
+adds_asked who k (Event.Arrive from (PeerRecord.OnAssoc x y q (DialogueRecord.RolledBack r))) c f arcs tell a = subst (λ (g : TxEvent). Adds k g (seen who arcs c)) (sym a) (heard_rolled who k arcs from x y q r c tell)
+adds_asked who k (Event.Arrive from (PeerRecord.OnAssoc x y q r)) c f arcs tell a = subst (λ (g : TxEvent). Adds k g (seen who arcs c)) (sym a) (plain k (TxEvent.Took from.node r) (seen who arcs c) refl)
+adds_asked who k (Event.Arrive from (PeerRecord.RecCommit u b)) c f arcs tell a = subst (λ (g : TxEvent). Adds k g (seen who arcs c)) (sym a.0) (plain k TxEvent.Ordered (seen who arcs c) refl)
+adds_asked who k (Event.Arrive from (PeerRecord.RecReply u b RecState.Commit)) c f arcs tell a = subst (λ (g : TxEvent). Adds k g (seen who arcs c)) (sym a.0) (plain k (TxEvent.Reply b RecState.Commit) (seen who arcs c) refl)
+adds_asked who k (Event.Arrive from (PeerRecord.RecReply u b (RecState.Done r))) c f arcs tell a = subst (λ (g : TxEvent). Adds k g (seen who arcs c)) (sym a.0) (heard_reply who k arcs from u b r c a.1 tell)
+adds_asked who k (Event.Arrive from (PeerRecord.RecReply u b RecState.Unknown)) c f arcs tell a = subst (λ (g : TxEvent). Adds k g (seen who arcs c)) (sym a.0) (plain k (TxEvent.Reply b RecState.Unknown) (seen who arcs c) refl)
+adds_asked who k (Event.Arrive from (PeerRecord.RecReply u b RecState.RetryLater)) c f arcs tell a = subst (λ (g : TxEvent). Adds k g (seen who arcs c)) (sym a.0) (plain k (TxEvent.Reply b RecState.RetryLater) (seen who arcs c) refl)
+adds_asked who k (Event.Arrive from r) c f arcs tell a = absurd a
+adds_asked who k (Event.Break from r) c f arcs tell a = subst (λ (g : TxEvent). Adds k g (seen who arcs c)) (sym a) (plain k (TxEvent.Lost from.node) (seen who arcs c) refl)
+adds_asked who k (Event.Lose p) c f arcs tell a = subst (λ (g : TxEvent). Adds k g (seen who arcs c)) (sym a) (plain k (TxEvent.Lost p) (seen who arcs c) refl)
+adds_asked who k (Event.Heur u) c f arcs tell a = subst (λ (g : TxEvent). Adds k g (seen who arcs c)) (sym a) (decided_so k u (seen who arcs c) (tell.decides u refl))
+adds_asked who k (Event.GiveUp p) c f arcs tell a = subst (λ (g : TxEvent). Adds k g (seen who arcs c)) (sym a) (gave_up k p (seen who arcs c) (tell.gave refl))
+adds_asked who k Event.Retry c f arcs tell a = subst (λ (g : TxEvent). Adds k g (seen who arcs c)) (sym a) (plain k TxEvent.Retry (seen who arcs c) refl)
+adds_asked who k Event.Purge c f arcs tell a = absurd a
+adds_asked who k Event.Crash c f arcs tell a = absurd a
 
 -- ---- a decision is logged
 
@@ -300,14 +359,14 @@ step o up e h t empty legal once ok = record { made = moved before }
         go (By_crash is cur) = subst (λ (v : Option Current). IsOkAt k t v) (sym cur) (recovered_ok k t d.current old)
 
     -- an event that the transaction takes comes while the tree is current
-    met : (c : Current) → s.current ≡ Some c → is_aaid t (aaid_of c.key) ≡ true → (g : Event → Bool) → ((from : Addr) (x y : Mark) (q : ℕ) (u : Aaid) (b : BranchId) (hd : Holder) → g (Event.Arrive from (PeerRecord.OnAssoc x y q (DialogueRecord.Begin u b hd))) ≡ false)
-        → g Event.Crash ≡ false → g e.event ≡ true → has_met g o t (e ∷ h) ≡ true
+    met : (c : Current) → s.current ≡ Some c → is_aaid t (aaid_of c.key) ≡ true → (g : Current → Event → Bool)
+        → ((from : Addr) (x y : Mark) (q : ℕ) (u : Aaid) (b : BranchId) (hd : Holder) → g c (Event.Arrive from (PeerRecord.OnAssoc x y q (DialogueRecord.Begin u b hd))) ≡ false) → g c Event.Crash ≡ false → g c e.event ≡ true → has_met g o t (e ∷ h) ≡ true
     met c at own g begin crash i = go came
       where
         go : Came o.who d e.event → has_met g o t (e ∷ h) ≡ true
-        go (As_it_was j) = let n : is_now t d.current ≡ true = ap (is_now t) (sym j ∙ at) ∙ own in rw (n, i) refl
-        go (By_begin from x y q u b hd a is found cur nil above) = absurd (cc (sym (ap g is) ∙ i, begin from x y q u b hd))
-        go (By_crash is cur) = absurd (cc (sym (ap g is) ∙ i, crash))
+        go (As_it_was j) = let n : is_met g t d.current e.event ≡ true = ap (λ (v : Option Current). is_met g t v e.event) (sym j ∙ at) ∙ both_true (is_aaid t (aaid_of c.key)) (g c e.event) own i in rw n refl
+        go (By_begin from x y q u b hd a is found cur nil above) = absurd (cc (sym (ap (g c) is) ∙ i, begin from x y q u b hd))
+        go (By_crash is cur) = absurd (cc (sym (ap (g c) is) ∙ i, crash))
 
     decided : (c : Current) → s.current ≡ Some c → is_aaid t (aaid_of c.key) ≡ true → (u : Outcome) → e.event ≡ Event.Heur u → is_so u (decision o t (e ∷ h)) ≡ true
     decided c at own u is =
@@ -315,9 +374,13 @@ step o up e h t empty legal once ok = record { made = moved before }
         let rec : e.rec ≡ Some (LogRec.Heuristic o.who.node (node_key c.key) u) = ap (λ (v : Entry). v.rec) (sym legal.1) ∙ ap (λ (v : Event). (action o.who d v).rec) is ∙ heur_rec o.who d c u now in
         is_so_of u (decision o t (e ∷ h)) (ap (λ (v : Option LogRec). last_decision t (with_rec v (records o h))) rec ∙ heur_decision t o.who.node c u (records o h) own)
 
-    adds : (c : Current) (f : TxEvent) → s.current ≡ Some c → IsAsked e.event c f → is_aaid t (aaid_of c.key) ≡ true → Adds k f
-    adds c f at asked own =
-        adds_asked k e.event c f (λ r i. met c at own (hears r) (λ from x y q u b hd. refl) refl i) (λ i. met c at own gives_up (λ from x y q u b hd. refl) refl i) (decided c at own) asked
+    adds : (c : Current) (f : TxEvent) (arcs : List Arc) → s.current ≡ Some c → IsAsked e.event c f → is_aaid t (aaid_of c.key) ≡ true → Adds k f (seen o.who arcs c)
+    adds c f arcs at asked own =
+        adds_asked o.who k e.event c f arcs (record {
+          heard = λ r i. met c at own (hears r) (λ from x y q u b hd. refl) refl i;
+          gave = λ i. met c at own gives_up (λ from x y q u b hd. refl) refl i;
+          decides = decided c at own;
+        }) asked
 
     moved : IsCausedMove k t s s (action o.who d e.event)
     moved = every_move o.who d e.event (IsCausedMove k t s) (caused_moves o.who e.event s k t adds) (late_law o up h legal.3) legal.0
@@ -328,7 +391,7 @@ ok_law o up (e ∷ h) t empty legal once = (step o up e h t empty legal once (ok
 
 -- ---- what is told
 
-same_is : (r s : Report) → same_report r s ≡ true → r ≡ s
+pub same_is : (r s : Report) → same_report r s ≡ true → r ≡ s
 same_is Report.None Report.None h = refl
 same_is Report.Hazard Report.Hazard h = refl
 same_is Report.Mix Report.Mix h = refl

@@ -5,11 +5,20 @@
 
 ghost use Rattle.std.specs.Prelude.{List};
 ghost use Rattle.tp_model.specs.Happenings.{Happening, run};
+ghost use Rattle.tp_alarms.specs.Alarms.{NoFalseAlarm};
 ghost use Rattle.tp_alarms.specs.Causes.{ReportsHaveCauses};
 
 /// In every run, where a node's user was told that a commitment, or a rollback, is complete with mix, the node decided the
-/// other outcome by itself in the tree, or took a branch's word that it is done, or rolled back, with mix, while the tree was
-/// current; and with hazard, the node gave up a branch while the tree was current, or took such a word with hazard.
+/// other outcome by itself in the tree, or took such a word of a branch, which was neither done nor left, with mix: that it is
+/// done, while the tree was committing, over an association or as a reply, or that it rolled back, while the tree rolled. And
+/// with hazard, the node gave up a branch while the tree was current, or took such a word with hazard.
 pub fn reports_have_causes()
     ensures { (es : List Happening) → ReportsHaveCauses (run es) }
+{}
+
+/// In every run, where a node's user was told that a commitment is complete with a report, a node of the tree, at that node or
+/// below it, decided by itself to roll back, or gave up a branch while the tree was current, or took the report of an awaited
+/// branch as a reply, which comes where an association was lost.
+pub fn no_report_is_a_false_alarm()
+    ensures { (es : List Happening) → NoFalseAlarm (run es) }
 {}

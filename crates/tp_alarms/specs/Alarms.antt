@@ -1,0 +1,44 @@
+-- No report of a commitment is a false alarm: behind it stands a node at or below, which decided to roll back, gave up a branch,
+-- or took a branch's report as a reply.
+use Rattle.std.specs.Prelude.{◌≡◌, ◌&&◌, ◌||◌, not, Bool, true, false, Some, List, [], ◌∷◌}
+use Rattle.tp_names.specs.declared.identifiers.Aaid.{Aaid}
+use Rattle.tp_names.specs.declared.outcome.Outcome.{Outcome}
+use Rattle.tp_names.specs.Reports.{is_report_none}
+use Rattle.tp_names.specs.Same.{is_aaid}
+use Rattle.tp_records.specs.declared.indication.Indication.{Indication}
+use Rattle.tp_records.specs.declared.peer.PeerRecord.{PeerRecord}
+use Rattle.tp_records.specs.declared.peer.RecState.{RecState}
+use Rattle.tp_model.specs.Parts.{Event, Out, Current}
+use Rattle.tp_model.specs.Dialogues.{is_committing}
+use Rattle.tp_model.specs.Transactions.{aaid_of}
+use Rattle.tp_model.specs.Arrivals.{find_branch_by_id}
+use Rattle.tp_model.specs.Outcomes.{decision}
+use Rattle.tp_model.specs.World.{World, Node}
+use Rattle.tp_model.specs.Promises.{IsIn, IsBelow, has_told_in}
+use Rattle.tp_alarms.specs.Causes.{is_awaited, has_met, has_given_up}
+
+-- a commitment is complete with a report
+abbrev pub tells_reported : List Out → Bool
+tells_reported [] = false
+tells_reported (Out.Tell (Indication.CommitComplete r) ∷ outs) = not (is_report_none r) || tells_reported outs
+tells_reported (_ ∷ outs) = tells_reported outs
+
+-- an awaited branch's report comes as a reply
+abbrev pub replies : Current → Event → Bool
+replies c (Event.Arrive a (PeerRecord.RecReply u b (RecState.Done r))) = is_committing c.phase && is_awaited (find_branch_by_id c.branches b) && is_aaid (aaid_of c.key) u && not (is_report_none r)
+replies c _ = false
+
+-- what a report begins with
+pub data Begins (t : Aaid) (x : Node) : Type 0 where
+  decided : decision x.origin t x.history ≡ Some Outcome.Rollback → Begins t x
+  gave_up : has_given_up t x ≡ true → Begins t x
+  was_replied : has_met replies x.origin t x.history ≡ true → Begins t x
+
+-- at a node, or at one below it
+pub record HasCause (w : World) (t : Aaid) (x : Node) : Type 0 where
+  pub node : Node
+  pub below : IsBelow w t x node
+  pub begins : Begins t node
+
+abbrev pub NoFalseAlarm : World → Type 0
+NoFalseAlarm w = (t : Aaid) (x : Node) → IsIn w x → has_told_in tells_reported x.origin t x.history ≡ true → HasCause w t x
