@@ -48,7 +48,7 @@ class Sanitize:
             file.write(case.log)
         try:
             run = subprocess.run([*before, *self.program, *case.words], cwd=self.folder, input=case.given, capture_output=True,
-                                 timeout=120 if before else 20)
+                                 timeout=300 if before else 60)
         except subprocess.TimeoutExpired:
             self.fault(case, "does not end")
             return None, b""
