@@ -1,0 +1,200 @@
+-- What a drive over the log of a disk says of that disk.
+use Rattle.std.proofs.Common.{◌≡◌, inl, inr, ◌≤◌, ◌<◌, ◌+◌, ℕ, Bool, true, Option, Some, None, Err, List, [], ◌∷◌, ◌++◌, length, refl, sym, ap, subst, ◌∙◌, arith}
+use Rattle.tp_outside.specs.Faults.{HasRisen}
+use Rattle.tp_outside.specs.Story.{Story, Synced, seen}
+use Rattle.tp_outside.specs.FuseDisk.{Fused}
+use Rattle.tp_records.specs.declared.body.Event.{Event as Given}
+use Rattle.tp_records.specs.declared.body.Output.{Output}
+use Rattle.tp_logrec.specs.declared.record.LogRec.{LogRec}
+use Rattle.tp_logrec.specs.Order.{all_follow}
+use Rattle.tp_model.specs.LogCommands.{records_of}
+use Rattle.tp_model.specs.NodeRun.{Opening, boot_of}
+use Rattle.tp_journal.specs.declared.faults.StartFault.{StartFault as JournalFault}
+use Rattle.tp_journal.specs.declared.receipts.Receipt.{Receipt}
+use Rattle.tp_journal.specs.Journals.{Kept}
+use Rattle.tp_journal.specs.Keeping.{Standing}
+use Rattle.tp_journal.specs.Log.{StandsFor, StandsForEither, most_bytes, place_behind}
+use Rattle.tp_journal.specs.Records.{bodies_of, first_place, placed, record_body, version_of}
+use Rattle.tp_journal.specs.Start.{RefusesStart}
+use Rattle.tp_journal.specs.Told.{LeavesOnly, LeavesNow}
+use Rattle.tp_shared_log.specs.Images.{Leaves, StandsForFirst}
+use Rattle.tp_log_tools.specs.Readings.{IsFile, as_placed}
+use Rattle.tp_log_tools.proofs.Opened.{starts_open}
+use Rattle.tp_log_tools.proofs.Shortened.{records_placed}
+use Rattle.tp_site.specs.declared.faults.StartFault.{StartFault}
+use Rattle.tp_site.specs.Shaped.{HasTextIfStarted}
+use Rattle.tp_site.specs.Site.{Site, Starts, opening_of}
+use Rattle.tp_drive.specs.declared.driven.DriveFault.{DriveFault}
+use Rattle.tp_drive.specs.Begun.{booted, recs}
+use Rattle.tp_drive.specs.Drives.{Fails, HasBootText, HasStarted, IsDriven, LeavesBooted, opening_on}
+use Rattle.tp_drive.specs.Merging.{IsOther}
+use Rattle.tp_drive.proofs.Begins.{recs-placed}
+use Rattle.tp_serve.specs.Progress.{is_wide, journal_of}
+use Rattle.tp_serve.specs.Starting.{opening, NotStarted, unread_by, unstarted_by}
+use Rattle.tp_serve.proofs.Holding.{goes_on, wide_so}
+use Rattle.tp_serve.proofs.Starts.{HasOpened, not_started, unread}
+use Rattle.tp_drive_tool.specs.declared.status.Status.{Status}
+use Rattle.tp_drive_tool.specs.Status.{driven_status, start_status, unread_status}
+use Rattle.tp_drive_tool.specs.Driving.{BeginsOn, HasDriven, HasOther, HasPart, IsDriveCause, IsFullAt, IsMoment, IsShutBy, LeavesLog, NotDriven}
+
+-- ---- the log that is left
+
+-- the log on which a site of that opening began, with its boot or without
+abbrev HasBegun : Opening → List ℕ → Type 0
+HasBegun o file = StandsForEither (bodies_of (is_wide o.version) o.records) (bodies_of (is_wide o.version) (booted o)) file
+
+abbrev HasFirst : Opening → List LogRec → List ℕ → Type 0
+HasFirst o list file = StandsForFirst (length o.records + 1) (is_wide o.version) list file
+
+-- the boot, and then the workers
+moments : (o : Opening) (list : List LogRec) (s : Story) (mid told : Option Story) → LeavesOnly (HasBegun o) (Some (Synced s)) mid → LeavesOnly (HasFirst o list) mid told → LeavesOnly (IsMoment o list) (Some (Synced s)) told
+moments o list s mid told first second =
+    goes_on (HasBegun o) (HasFirst o list) (IsMoment o list) (Some (Synced s)) mid told (λ file x. inl x) (λ file x. inr x) first second
+
+left_log : (o : Opening) (list : List LogRec) (shut : Option ℕ) (s : Story) (mid told : Option Story) → LeavesOnly (HasBegun o) (Some (Synced s)) mid
+    → Leaves mid (length o.records + 1) (is_wide o.version) list shut told → LeavesLog o list shut s told
+left_log o list None s mid told first leaves =
+    let left : Leaves (Some first.0) (length o.records + 1) (is_wide o.version) list None told =
+    subst (λ (m : Option Story). Leaves m (length o.records + 1) (is_wide o.version) list None told) first.1 leaves in
+    let since : LeavesOnly (HasFirst o list) (Some first.0) told = (left.now, left.tells, left.since) in (
+      moments o list s mid told first (subst (λ (m : Option Story). LeavesOnly (HasFirst o list) m told) (sym first.1) since),
+      subst (LeavesNow (λ file. StandsFor file (bodies_of (is_wide o.version) list))) (sym left.tells) left.last,
+    )
+left_log o list (Some faults) s mid told first leaves =
+    let left : Leaves (Some first.0) (length o.records + 1) (is_wide o.version) list (Some faults) told =
+    subst (λ (m : Option Story). Leaves m (length o.records + 1) (is_wide o.version) list (Some faults) told) first.1 leaves in
+    let more : List LogRec = list ++ left.0 ∷ [] in
+    let since : LeavesOnly (HasFirst o more) (Some first.0) told = (left.1.now, left.1.tells, left.1.since) in (
+      left.0,
+      moments o more s mid told first (subst (λ (m : Option Story). LeavesOnly (HasFirst o more) m told) (sym first.1) since),
+      subst (LeavesNow (StandsForEither (bodies_of (is_wide o.version) list) (bodies_of (is_wide o.version) more))) (sym left.1.tells) left.1.last,
+    )
+
+-- ---- a log that is not opened
+
+pub unread_so : (name : List ℕ) (workers : ℕ) (events : List Given) (s : Story) (new : Option Story) (fault : JournalFault) → NotStarted name s new (unread_by fault) → NotDriven name workers events s new (unread_status fault)
+unread_so name workers events s new (JournalFault.Foreign at) x = x
+unread_so name workers events s new (JournalFault.DiskFault n) x = inl x
+unread_so name workers events s new JournalFault.NoMemory x = tt
+
+pub unread_cause : (old new : Option Story) (before after : ℕ) (fault : JournalFault) → RefusesStart record_body old new before after fault → IsDriveCause before after (unread_status fault)
+unread_cause old new before after (JournalFault.Foreign at) x = tt
+unread_cause old new before after (JournalFault.DiskFault n) x = x.2
+unread_cause old new before after JournalFault.NoMemory x = tt
+
+-- ---- a site that does not start
+
+unstarted_so : (name : List ℕ) (workers : ℕ) (events : List Given) (s : Story) (new : Option Story) (fault : StartFault) → NotStarted name s new (unstarted_by fault) → NotDriven name workers events s new (start_status fault)
+unstarted_so name workers events s new (StartFault.Foreign at) x = x
+unstarted_so name workers events s new StartFault.BootsSpent x = inl x
+unstarted_so name workers events s new (StartFault.Full size) x = inl x
+unstarted_so name workers events s new (StartFault.DiskFault n) x = inl x
+unstarted_so name workers events s new (StartFault.Shut n) x = inl x
+unstarted_so name workers events s new StartFault.NoMemory x = tt
+
+module _ {D : Type 0} (faults : D → ℕ) (told : D → Option Story) (fuse : D → Option Fused) (disk : D) (j : Kept D) (has : HasOpened faults told disk j) (name : List ℕ) (workers : ℕ) (events : List Given) where
+  abbrev st : Kept D → Standing
+  st = journal_of faults told fuse
+
+  abbrev o : Opening
+  o = opening_on j name
+
+  wide_is : j.wide ≡ is_wide (version_of j.wide)
+  wide_is = wide_so j.wide (version_of j.wide) refl
+
+  unstarted_cause : (fault : StartFault) (new : Kept D) → Starts st j name (Err (new, fault)) → IsDriveCause (faults disk) (faults new.disk) (start_status fault)
+  unstarted_cause (StartFault.Foreign at) new x = tt
+  unstarted_cause StartFault.BootsSpent new x = inl (refl, tt)
+  unstarted_cause (StartFault.Full size) new x = inl (refl, tt)
+  unstarted_cause (StartFault.DiskFault n) new x = omega (arith, has.counted, x.unforced.1)
+  unstarted_cause (StartFault.Shut n) new x = absurd (let clash : None ≡ Some n = sym has.unshut ∙ x.unforced.1 in cc)
+  unstarted_cause StartFault.NoMemory new x = tt
+
+  pub drive_cause : (fault : DriveFault) (new : Kept D) → Fails st j name workers events new fault → IsDriveCause (faults disk) (faults new.disk) (driven_status fault)
+  drive_cause (DriveFault.Start fault) new x = unstarted_cause fault new x
+  drive_cause (DriveFault.LogDiffers place receipt kept) new x = tt
+  drive_cause (DriveFault.DiskFault n) new x = omega (arith, has.counted, x.risen)
+  drive_cause (DriveFault.Full size event) new x = inr refl
+  drive_cause DriveFault.NoMemory new x = tt
+
+  module _ (s : Story) (is : told disk ≡ Some s) (file : IsFile (seen s)) where
+    begins : all_follow j.list ≡ true → BeginsOn name s o
+    begins order = record {
+      version = version_of j.wide;
+      listed = as_placed (placed j.wide j.list);
+      opens = (starts_open (told disk) (told j.disk) j.wide j.list j.gate has.starts has.texts order s is file).opens;
+      is = ap (λ (l : List LogRec). let p : Opening = record { site = name; version = version_of j.wide; records = l } in p) (sym (records_placed j.wide (first_place j.wide) j.list));
+    }
+
+    kept_is : recs (placed j.wide j.list) ≡ j.list
+    kept_is = recs-placed j.wide j.list
+
+    begun : (new : Kept D) (b : LeavesBooted st j name (told new.disk) new) → LeavesOnly (HasBegun o) (Some (Synced s)) b.started.story
+    begun new b =
+        goes_on (λ c. StandsFor c (bodies_of j.wide j.list)) _ (HasBegun o) (Some (Synced s)) (told j.disk) b.started.story
+        (λ c x. inl (subst (λ (w : Bool). StandsFor c (bodies_of w j.list)) wide_is x))
+        (λ c x. subst (λ (w : Bool). StandsForEither (bodies_of w j.list) (bodies_of w (booted o)) c) wide_is (subst (λ (l : List LogRec). StandsForEither (bodies_of j.wide l) (bodies_of j.wide (l ++ LogRec.Boot (boot_of o) ∷ [])) c) kept_is x))
+        (has.starts.2 s is).2 b.forced.moments
+
+    leaves : (new : Kept D) → LeavesBooted st j name (told new.disk) new → LeavesLog o new.list new.shut s (told new.disk)
+    leaves new b =
+        left_log o new.list new.shut s b.started.story (told new.disk) (begun new b)
+        (subst (λ (w : Bool). Leaves b.started.story (length o.records + 1) w new.list new.shut (told new.disk)) (b.wide ∙ wide_is) b.leaves)
+
+    pub driven : (new : Kept D) (outs : List (List Output)) (receipts : List Receipt) → LeavesBooted st j name (told new.disk) new → new.shut ≡ None → IsDriven o workers events outs receipts new.wide new.list
+        → HasDriven name workers events s (told new.disk) outs
+    driven new outs receipts b unshut d = record {
+      o = o;
+      begins = begins b.order;
+      one_thread = d.one_thread;
+      more = recs receipts;
+      woven = d.woven;
+      leaves = subst (λ (l : List LogRec). LeavesLog o l None s (told new.disk)) d.records (subst (λ (shut : Option ℕ). LeavesLog o new.list shut s (told new.disk)) unshut (leaves new b));
+    }
+
+    pub not_driven : (fault : DriveFault) (new : Kept D) → Fails st j name workers events new fault → HasBootText st j name new fault → (HasStarted fault → LeavesBooted st j name (told new.disk) new)
+        → new.gate ≡ place_behind (bodies_of new.wide new.list) → NotDriven name workers events s (told new.disk) (driven_status fault)
+    not_driven (DriveFault.Start fault) new x text started gate =
+        unstarted_so name workers events s (told new.disk) fault (not_started faults told fuse disk j has name s is file fault new x text)
+    not_driven (DriveFault.LogDiffers place receipt kept) new x text started gate =
+        let b = started tt in
+        record {
+          o = o;
+          begins = begins b.order;
+          shut = new.shut;
+          list = new.list;
+          leaves = leaves new b;
+          other = subst (λ (w : Bool). IsOther (placed w new.list) receipt kept) (b.wide ∙ wide_is) x.0;
+          there = x.1;
+        }
+    not_driven (DriveFault.DiskFault n) new x text started gate =
+        let b = started tt in
+        inr (record {
+          stops = x.stops;
+          list = new.list;
+          part = record {
+            o = o;
+            begins = begins b.order;
+            part = x.part;
+            leaves = subst (λ (shut : Option ℕ). LeavesLog o new.list shut s (told new.disk)) x.shut (leaves new b);
+          };
+        })
+    not_driven (DriveFault.Full size event) new x text started gate =
+        let b = started tt in
+        let place : new.gate ≡ place_behind (bodies_of (is_wide (version_of j.wide)) new.list) = gate ∙ ap (λ (w : Bool). place_behind (bodies_of w new.list)) (b.wide ∙ wide_is) in
+        inr (
+          refl,
+          record {
+            stops = x.stops;
+            list = new.list;
+            part = record {
+              o = o;
+              begins = begins b.order;
+              part = x.part;
+              leaves = subst (λ (shut : Option ℕ). LeavesLog o new.list shut s (told new.disk)) x.unshut (leaves new b);
+            };
+            first = x.first;
+            no_room = omega (arith, x.too_long, x.no_room, place);
+          },
+        )
+    not_driven DriveFault.NoMemory new x text started gate = tt

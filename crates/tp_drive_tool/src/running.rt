@@ -1,0 +1,94 @@
+//! The one call of `tpdrive`.
+ghost use Rattle.std.specs.Prelude.{◌≡◌, ℕ, map, false};
+ghost use Rattle.tp_model.specs.NodeTranscript.{written_of};
+ghost use Rattle.tp_words.specs.DriveLine.{drive_said, is_drive};
+ghost use Rattle.tp_drive_tool.specs.declared.status.Status.{Status as TheStatus};
+ghost use Rattle.tp_drive_tool.specs.Running.{Answers, Does, IsEnding, IsSilent, Writes};
+
+use crate::Status;
+use crate::driving::drive_on;
+use crate::reading::read_events;
+use crate::text::text_of;
+use std::alloc::Global;
+use std::sync::Wait;
+use std::thread::Threads;
+use tp_drive::{Gate, OutputsByEvent};
+use tp_outside::{Disk, Sink, Source};
+use tp_streams::write_all;
+use tp_words::{Drive, WordsFault, read_drive};
+
+/// Reads all events of the source, 100,000 at most, then starts the site that the words name on the log of the disk, has as
+/// many workers as they ask for do the events, writes the outputs of all events, and hands the disk back. What is written is
+/// what one thread puts out, whatever the number of workers.
+///
+/// An input that is bad, or that passes a limit, ends the run before the disk is touched. Then comes `Foreign`, and a `Limit` at
+/// 0 where no boot number is left or the boot has no room, and then the faults of the drive. With every status but `Ok` and
+/// `WriteFault` nothing is written.
+pub fn run_drive<R: Threads + Wait + Sync, S: Source, K: Sink, D: Disk + Send, G: Gate + Sync>(
+    rt: &R,
+    alloc: Global,
+    words: &[&str],
+    source: &mut S,
+    sink: &mut K,
+    disk: D,
+    gate: &G,
+) -> (Status, D)
+    ensures usage { result.0 ≡ TheStatus.Usage → is_drive (drive_said (map (λ w. w.now) words.now)) ≡ false }
+    ensures answers { Answers (drive_said (map (λ w. w.now) words.now)) (record { told = D.told disk; story = D.told result.1; left = S.left source.old; unread = S.left source.new; written = K.written sink.old; output = K.written sink.new }) result.0 (source.new ≡ source.old) (sink.new ≡ sink.old) (result.1 ≡ disk) }
+    ensures silent { IsSilent result.0 → sink.new ≡ sink.old }
+    ensures ending { IsEnding (S.fault_count source.old) (S.fault_count source.new) (K.fault_count sink.old) (K.fault_count sink.new) (D.fault_count disk) (D.fault_count result.1) result.0 }
+{
+    match read_drive(alloc, words) {
+        Ok(asked) => run_asked(rt, alloc, asked, source, sink, disk, gate),
+        Err(WordsFault::Usage) => (Status::Usage, disk),
+        Err(WordsFault::NoMemory) => (Status::NoMemory, disk),
+    }
+}
+
+// The same for a site and a number of workers.
+fn run_asked<R: Threads + Wait + Sync, S: Source, K: Sink, D: Disk + Send, G: Gate + Sync>(
+    rt: &R,
+    alloc: Global,
+    asked: Drive,
+    source: &mut S,
+    sink: &mut K,
+    disk: D,
+    gate: &G,
+) -> (Status, D)
+    ensures does { Does asked (record { told = D.told disk; story = D.told result.1; left = S.left source.old; unread = S.left source.new; written = K.written sink.old; output = K.written sink.new }) (result.1 ≡ disk) result.0 }
+    ensures silent { IsSilent result.0 → sink.new ≡ sink.old }
+    ensures ending { IsEnding (S.fault_count source.old) (S.fault_count source.new) (K.fault_count sink.old) (K.fault_count sink.new) (D.fault_count disk) (D.fault_count result.1) result.0 }
+{
+    let events = match read_events(alloc, source) {
+        Ok(events) => events,
+        Err(stop) => return (Status::of_stop(stop), disk),
+    };
+    let (disk, driven) = drive_on(
+        rt,
+        alloc,
+        asked.name,
+        asked.workers,
+        events.as_slice(),
+        disk,
+        gate,
+    );
+    match driven {
+        Ok(outs) => (write_outputs(alloc, &outs, sink), disk),
+        Err(status) => (status, disk),
+    }
+}
+
+// Writes the frames of the outputs of each event, and that of Over after each.
+fn write_outputs<K: Sink>(alloc: Global, outs: &OutputsByEvent, sink: &mut K) -> Status
+    ensures writes { Writes (written_of outs.now) (K.written sink.old) (K.written sink.new) result }
+    ensures silent { IsSilent result → sink.new ≡ sink.old }
+    ensures cause { (n : ℕ) → IsEnding n n (K.fault_count sink.old) (K.fault_count sink.new) n n result }
+{
+    let Ok(text) = text_of(alloc, outs.as_slice()) else {
+        return Status::NoMemory;
+    };
+    match write_all(sink, text.as_slice()) {
+        Ok(()) => Status::Ok,
+        Err(stop) => Status::of_stop(stop),
+    }
+}
