@@ -1,5 +1,6 @@
 pub mod Reports
 pub mod Notes
+pub mod Noted
 pub mod Courses
 pub mod Events
 pub mod Known

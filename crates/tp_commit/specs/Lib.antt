@@ -3,3 +3,4 @@ pub mod Branch
 pub mod Rules
 pub mod Disposition
 pub mod Standing
+pub mod Waiting

@@ -1,6 +1,8 @@
 //! The current transaction of a node.
 ghost use Rattle.std.specs.Prelude.{◌≡◌, ◌<◌, ◌≤◌, ◌&&◌, ◌++◌, [], ◌∷◌, true, false, IsTrue, Ok, IfOk, OnOk, Some, length, slice_index_or, slice_set, vec_capacity};
 ghost use Rattle.tp_model.specs.Transactions.{Row as RowValue, node_key, superior_of, situation_of, row_holds, is_under, is_under_at, fresh_branch};
+ghost use Rattle.tp_model.specs.Node.{branches_of};
+ghost use Rattle.tp_commit.specs.Waiting.{waits_beside, owes_beside};
 ghost use Rattle.tp_commit.specs.Branch.{key_from, has_superior, begun, found, found_by, tells_transaction, idle_rows, child_at, seen_at};
 
 use crate::row::Row;
@@ -306,6 +308,20 @@ impl Branch {
     {
         self.rows.push(Row::fresh(child, true))?;
         Ok(())
+    }
+
+    /// A branch with another peer is neither counted nor left.
+    pub fn waits_beside(&self, peer: u16) -> bool
+        ensures { result ≡ waits_beside (branches_of self.now.rows) peer }
+    {
+        rows::waits_beside(self.rows.as_slice(), peer)
+    }
+
+    /// A branch with another peer is neither done, left nor given up.
+    pub fn owes_beside(&self, peer: u16) -> bool
+        ensures { result ≡ owes_beside (branches_of self.now.rows) peer }
+    {
+        rows::owes_beside(self.rows.as_slice(), peer)
     }
 
     /// The transaction came over the arc with that peer.

@@ -2,7 +2,9 @@
 ghost use Rattle.std.specs.Prelude.{◌≡◌, Bool};
 ghost use Rattle.tp_model.specs.Transactions.{with_row, with_arc_lost, is_under, is_own_commit, complete_commit, complete_rollback, begin_rolling, order, settle, ask_commit, leave, all_done, all_rolled_back, all_settled};
 ghost use Rattle.tp_model.specs.Dialogues.{is_active};
+ghost use Rattle.tp_model.specs.Node.{branches_of};
 ghost use Rattle.tp_commit.specs.Row.{noted, noted_at};
+ghost use Rattle.tp_commit.specs.Waiting.{with_counted, with_ended};
 ghost use Rattle.tp_commit.specs.Rules.{turn_of, is_committed, is_rolled_back, is_settled};
 
 use crate::row::Note;
@@ -53,6 +55,24 @@ impl Branch {
         ensures { self.new ≡ record self.old { rows = noted_at self.old.rows arc note } }
     {
         rows::note_at(self.rows.as_mut_slice(), arc, note);
+    }
+
+    /// The branch with that peer is counted, where there is one.
+    #[tactic(auto, using(crate::proofs::Noted::counted_at))]
+    pub fn count(&mut self, peer: u16)
+        ensures branches { branches_of self.new.rows ≡ with_counted (branches_of self.old.rows) peer }
+        ensures rest { self.new ≡ record self.old { rows = self.new.rows } }
+    {
+        self.note_at(peer, Note::Counted);
+    }
+
+    /// The branch with that peer is done, with that report, where there is one.
+    #[tactic(auto, using(crate::proofs::Noted::ended_at))]
+    pub fn end(&mut self, peer: u16, report: Report)
+        ensures branches { branches_of self.new.rows ≡ with_ended (branches_of self.old.rows) peer report }
+        ensures rest { self.new ≡ record self.old { rows = self.new.rows } }
+    {
+        self.note_at(peer, Note::Ended(report));
     }
 
     // Notes it on the branch with that peer.

@@ -3,6 +3,8 @@ ghost use Rattle.std.specs.Prelude.{◌≡◌, ◌+◌, ◌≤◌, ◌++◌, Ok,
 ghost use Rattle.tp_model.specs.Transactions.{find_row, find_row_by_id, all_settled, all_done, all_rolled_back, all_left, all_prepared, children_of, owed_of, reports_of, report_of_branch, carry_down, forgets, ends_down, prepare_each, ask_each, fresh_rows};
 ghost use Rattle.tp_commit.specs.Row.{noted_at, record_of};
 ghost use Rattle.tp_commit.specs.Branch.{standing_rows};
+ghost use Rattle.tp_commit.specs.Waiting.{waits_beside, owes_beside, with_counted, with_ended};
+ghost use Rattle.tp_model.specs.Node.{branches_of};
 
 use crate::row::{Note, Row};
 use std::alloc::Global;
@@ -81,6 +83,30 @@ pub(crate) fn all_left(rows: &[Row]) -> bool
         }
     }
     true
+}
+
+/// A branch with another peer is neither counted nor left.
+pub(crate) fn waits_beside(rows: &[Row], peer: u16) -> bool
+    ensures { result ≡ waits_beside (branches_of rows.now) peer }
+{
+    for row in rows {
+        if row.peer.node != peer && !(row.counted || row.left) {
+            return true;
+        }
+    }
+    false
+}
+
+/// A branch with another peer is neither done, left nor given up.
+pub(crate) fn owes_beside(rows: &[Row], peer: u16) -> bool
+    ensures { result ≡ owes_beside (branches_of rows.now) peer }
+{
+    for row in rows {
+        if row.peer.node != peer && !(row.ended || row.left || row.given_up) {
+            return true;
+        }
+    }
+    false
 }
 
 /// Notes it on the first branch with that peer.
