@@ -1,4 +1,5 @@
 //! One node of a site.
+mod noted;
 mod origin;
 
 ghost use Rattle.std.specs.Prelude.{◌≡◌, ◌⊎◌, ◌==◌, ◌&&◌, ◌||◌, not, true, [], ◌∷◌, ◌+◌, ◌++◌, nat_le, nat_lt, slice_get, Option, Some, None, IfOk, IfSome, IsSome, IsTrue, OnOk, OnErr};

@@ -127,7 +127,7 @@ impl Node {
 
     /// Why a record is refused that arrives, but for the want of numbers.
     #[tactic(auto, unfolding(tp_model::specs::Arrivals::refused_arrival))]
-    pub(crate) fn refused_arrival(&self, from: &Addr, rec: &PeerRecord) -> Option<Refusal>
+    pub fn refused_arrival(&self, from: &Addr, rec: &PeerRecord) -> Option<Refusal>
         ensures { number_in result ≡ refused_arrival self.now.who self.now.digest from.now rec.now }
     {
         match rec {
