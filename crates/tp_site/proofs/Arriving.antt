@@ -69,7 +69,7 @@ accept_opening who d from x y u a ok found =
 pub accept_there : (who : Who) (d : Digest) (from : Addr) (x y : Mark) (u : ℕ) (a : Arc) → find_arc d.arcs from.node ≡ Some a → do_arrival who from (PeerRecord.AcceptAssoc x y u) d ≡ take_accept who a x y u d
 accept_there who d from x y u a found = ap (λ (o : Option Arc). elim o as (λ _. Move) [ None ↦ move [] d | Some b ↦ take_accept who b x y u d ]) found
 
-from_dropped : (l : Link) (x y : Mark) (q : ℕ) (o : Option ℕ) → elim (dropped_by l x y q) as (λ _. Option ℕ) [ Some n ↦ Some n | None ↦ o ] ≡ None → dropped_by l x y q ≡ None
+pub from_dropped : (l : Link) (x y : Mark) (q : ℕ) (o : Option ℕ) → elim (dropped_by l x y q) as (λ _. Option ℕ) [ Some n ↦ Some n | None ↦ o ] ≡ None → dropped_by l x y q ≡ None
 from_dropped l x y q o h = go (dropped_by l x y q) refl
   where
     go : (p : Option ℕ) → dropped_by l x y q ≡ p → dropped_by l x y q ≡ None

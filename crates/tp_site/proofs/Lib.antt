@@ -12,6 +12,8 @@ pub mod Arriving
 pub mod Recovered
 pub mod Quiet
 pub mod Answered
+pub mod Noted
+pub mod Applied
 pub mod Numbered
 pub mod Starting
 pub mod Recalling

@@ -12,6 +12,7 @@ pub mod Answers
 pub mod Nodes
 pub mod Shaped
 pub mod Faults
+pub mod InPlace
 pub mod Site
 pub mod Events
 pub mod Recalled

@@ -1,5 +1,5 @@
 //! The nodes of a site.
-ghost use Rattle.std.specs.Prelude.{ℕ, ◌≡◌, ◌==◌, ◌++◌, ◌∷◌, cond, true, List, [], IfOk, OnOk};
+ghost use Rattle.std.specs.Prelude.{ℕ, ◌≡◌, ◌==◌, ◌++◌, ◌∷◌, cond, true, List, [], None, IfOk, IfSome, OnOk};
 ghost use Rattle.tp_logrec.specs.declared.record.LogRec.{LogRec as LogRecord};
 ghost use Rattle.std.specs.Option.{option_copied};
 ghost use Rattle.tp_model.specs.Events.{started};
@@ -8,15 +8,17 @@ ghost use Rattle.tp_node.specs.NodeEvent.{event_of, answer_at, refused_at_once};
 ghost use Rattle.tp_site.specs.Answers.{IsAnswer, IsPlain};
 ghost use Rattle.tp_site.specs.Nodes.{has_node, who_at, digest_at, node_at, find_node, unknown_start, IsSameSite, AreFrom};
 ghost use Rattle.tp_node.specs.Node.{recovered_by};
+ghost use Rattle.tp_site.specs.InPlace.{IsPlanned, run_in_place};
 
 use crate::draft::Draft;
+use crate::in_place;
 use std::alloc::Global;
 use std::collections::HashMap;
 use std::marker::Model;
 use tp_logrec::{LogRec, LogVersion};
 use tp_model::{Refusal, TxFault};
 use tp_names::{NoMemory, SiteName};
-use tp_node::{Node, NodeEvent};
+use tp_node::{Node, NodeEvent, Outs};
 
 /// The nodes of a site, by their numbers.
 #[derive(Debug, Drop)]
@@ -111,6 +113,36 @@ impl Nodes {
             Some(node) => draft.answer_to(alloc, node, event),
             None => draft.answer_to(alloc, &self.unknown(alloc, node), event),
         }
+    }
+
+    /// What an event of the node of that number says that is run on the node itself; none of one that is run on a draft.
+    #[tactic(auto, using(crate::proofs::Numbered::found))]
+    pub(crate) fn plan(
+        &self,
+        alloc: Global,
+        number: u16,
+        event: &NodeEvent<'_>,
+    ) -> Result<Option<Outs>, NoMemory>
+        ensures there { IfOk result (λ plan. IfSome plan (λ outs. has_node self.now number ≡ true)) }
+        ensures planned { IfOk result (λ plan. IfSome plan (IsPlanned (node_at self.now number) event.now)) }
+    {
+        match self.find(number) {
+            None => Ok(None),
+            Some(node) => in_place::plan(alloc, node, event),
+        }
+    }
+
+    /// An event of the node of that number is run on the node itself.
+    pub(crate) fn apply(&mut self, number: u16, event: &NodeEvent<'_>)
+        requires there { has_node self.old number ≡ true }
+        requires refused { refused_at_once (who_at self.old number) (digest_at self.old number) event.now ≡ None }
+        ensures put { (n : ℕ) → digest_at self.new n ≡ cond (number == n) (run_in_place event.now (digest_at self.old number)) (digest_at self.old n) }
+        ensures site { IsSameSite self.old self.new }
+    {
+        let Some(place) = self.nodes.get_mut(&number) else {
+            return;
+        };
+        in_place::apply(place, event);
     }
 
     /// Room for the node of that number is made; nothing is known of it that was not.

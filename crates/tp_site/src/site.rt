@@ -17,6 +17,7 @@ ghost use Rattle.tp_site.specs.Events.{IsAt, all_nodes};
 ghost use Rattle.tp_site.specs.Site.{Plays, Attempts, Settles, Records, Opens, Starts, IsFound, IsUnfound, told_records, opening_of, state_at, known_at};
 ghost use Rattle.tp_node.specs.State.{state_of, tree_in};
 ghost use Rattle.tp_site.specs.Faults.{site_fault, shut_by};
+ghost use Rattle.tp_site.specs.InPlace.{IsPlanned};
 ghost use Rattle.tp_site.specs.Shaped.{AreShapedNodes, IsShapedDraft, HasTextOption, HasTextIfStarted, IsEarly};
 ghost use Rattle.tp_texts.specs.Shapes.{IsShaped};
 ghost use Rattle.tp_said_texts.specs.Standing.{IsShapedOption};
@@ -219,10 +220,37 @@ impl<K: Keeper> Site<K> {
         if let Some(faults) = self.shut {
             return Err(SiteFault::Shut { faults });
         }
+        if let Some(outs) = self.nodes.plan(alloc, node, event)? {
+            return Ok(self.happen(node, event, outs));
+        }
+        self.play_drawn(alloc, node, event)
+    }
+
+    // An event of the node of that number, drawn up on a draft.
+    fn play_drawn(
+        &mut self,
+        alloc: Global,
+        node: u16,
+        event: &NodeEvent<'_>,
+    ) -> Result<Played, SiteFault>
+        requires { self.old.shut ≡ None }
+        ensures { Plays K.standing self.old node (event_of event.now) result self.new }
+    {
         let mut draft = self.spare_draft(alloc, node, event)?;
         let played = self.play_on(alloc, node, event, &mut draft);
         self.spare = Some(draft);
         played
+    }
+
+    // An event that is planned is run on its node itself.
+    fn happen(&mut self, node: u16, event: &NodeEvent<'_>, outs: Outs) -> Played
+        requires there { has_node self.old.nodes node ≡ true }
+        requires planned { IsPlanned (node_at self.old.nodes node) event.now outs }
+        requires open { self.old.shut ≡ None }
+        ensures { Plays K.standing self.old node (event_of event.now) (Ok result) self.new }
+    {
+        self.nodes.apply(node, event);
+        Played { number: None, outs }
     }
 
     // What a fault of the log means for the site.

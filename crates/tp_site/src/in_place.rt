@@ -1,0 +1,136 @@
+//! Events that are run on their node itself, and not on a draft of it: what they say is known before anything is so.
+ghost use Rattle.std.specs.Prelude.{◌≡◌, None, IfOk, IfSome};
+ghost use Rattle.tp_model.specs.Arrivals.{refused_arrival};
+ghost use Rattle.tp_model.specs.Disposition.{sight_value};
+ghost use Rattle.tp_node.specs.declared.event.NodeEvent.{NodeEvent};
+ghost use Rattle.tp_node.specs.Begins.{with_digest};
+ghost use Rattle.tp_node.specs.NodeEvent.{refused_at_once};
+ghost use Rattle.tp_site.specs.InPlace.{IsPlanned, run_in_place, arrived_in_place, is_only_noted, is_acting, acts_at, told_of};
+
+use std::alloc::Global;
+use tp_model::Disposition;
+use tp_names::{Addr, NoMemory, Report};
+use tp_node::{Node, NodeEvent, Outs};
+use tp_records::{DialogueRecord, Indication, PeerRecord};
+
+// A Ready or a Done that is only noted on its branch.
+fn is_only_noted(node: &Node, peer: u16, rec: &DialogueRecord) -> bool
+    ensures { result ≡ is_only_noted node.now.digest peer rec.now }
+{
+    match rec {
+        DialogueRecord::Ready => node.only_counts(peer),
+        DialogueRecord::Done { .. } => node.only_ends(peer),
+        _ => false,
+    }
+}
+
+fn is_acting(disposition: Disposition) -> bool
+    ensures { result ≡ is_acting (sight_value disposition) }
+{
+    match disposition {
+        Disposition::Acts => true,
+        Disposition::Nothing | Disposition::OutOfPhase => false,
+    }
+}
+
+// The record acts on the arc with that peer.
+#[tactic(auto, using(crate::proofs::Noted::acts_none))]
+fn acts(node: &Node, peer: u16, rec: &DialogueRecord) -> bool
+    ensures { result ≡ acts_at node.now.who node.now.digest peer rec.now }
+{
+    let Some(tie) = node.find(peer) else {
+        return false;
+    };
+    is_acting(node.disposition(&tie, rec))
+}
+
+// What the user is told of a Ready or of a Done.
+fn told(alloc: Global, peer: u16, rec: &DialogueRecord) -> Result<Outs, NoMemory>
+    ensures { IfOk result (λ outs. outs ≡ told_of peer rec.now) }
+{
+    let mut outs = Outs::new(alloc);
+    match rec {
+        DialogueRecord::Ready => outs.tell(Indication::Ready { peer })?,
+        DialogueRecord::Done { report } => {
+            let report = *report;
+            if report != Report::None {
+                outs.tell(Indication::HeuristicReport { peer, report })?;
+            }
+        }
+        _ => {}
+    }
+    Ok(outs)
+}
+
+// Of a record that arrives.
+fn plan_arrival(
+    alloc: Global,
+    node: &Node,
+    from: Addr,
+    rec: &PeerRecord,
+) -> Result<Option<Outs>, NoMemory>
+    ensures { IfOk result (λ plan. IfSome plan (IsPlanned node.now (NodeEvent.Arrive from rec.entry))) }
+{
+    let PeerRecord::OnAssoc { rec: said, .. } = rec else {
+        return Ok(None);
+    };
+    let _drawn = node.drawn();
+    let peer = from.node;
+    if !is_only_noted(node, peer, said) {
+        return Ok(None);
+    }
+    if let Some(_refusal) = node.refused_arrival(&from, rec) {
+        return Ok(None);
+    }
+    if !acts(node, peer, said) {
+        return Ok(None);
+    }
+    Ok(Some(told(alloc, peer, said)?))
+}
+
+/// What an event says that is run on its node itself; none of one that is run on a draft.
+pub(crate) fn plan(
+    alloc: Global,
+    node: &Node,
+    event: &NodeEvent<'_>,
+) -> Result<Option<Outs>, NoMemory>
+    ensures { IfOk result (λ plan. IfSome plan (IsPlanned node.now event.now)) }
+{
+    match event {
+        NodeEvent::Arrive { from, rec } => plan_arrival(alloc, node, *from, rec),
+        _ => Ok(None),
+    }
+}
+
+// A record that arrives.
+fn apply_arrival(node: &mut Node, from: Addr, rec: &PeerRecord)
+    requires { refused_arrival node.old.who node.old.digest from rec.now ≡ None }
+    ensures { node.new ≡ with_digest node.old (arrived_in_place from.node rec.now node.old.digest) }
+{
+    let PeerRecord::OnAssoc { x, y, seq, rec } = rec else {
+        return;
+    };
+    let peer = from.node;
+    match rec {
+        DialogueRecord::Ready => {
+            node.take(peer, *x, *y, *seq, rec);
+            node.count(peer);
+        }
+        DialogueRecord::Done { report } => {
+            node.take(peer, *x, *y, *seq, rec);
+            node.end(peer, *report);
+        }
+        _ => {}
+    }
+}
+
+/// An event that is planned happens.
+pub(crate) fn apply(node: &mut Node, event: &NodeEvent<'_>)
+    requires { refused_at_once node.old.who node.old.digest event.now ≡ None }
+    ensures { node.new ≡ with_digest node.old (run_in_place event.now node.old.digest) }
+{
+    match event {
+        NodeEvent::Arrive { from, rec } => apply_arrival(node, *from, rec),
+        _ => {}
+    }
+}
