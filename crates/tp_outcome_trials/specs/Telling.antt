@@ -17,7 +17,8 @@ use Rattle.tp_histories.specs.Members.{has_taken_begin}
 use Rattle.tp_forced.specs.TreeLog.{forced_of}
 use Rattle.tp_forced.specs.Taken.{times_taken}
 use Rattle.tp_outcomes.specs.Starting.{starts, times_in, lines_of}
-use Rattle.tp_alarms.specs.Causes.{tells_committed, tells_rolled_back, has_heard, has_given_up}
+use Rattle.tp_alarms.specs.Alarms.{replies}
+use Rattle.tp_alarms.specs.Causes.{tells_committed, tells_rolled_back, has_met, has_heard, has_given_up}
 use Rattle.tp_trials.specs.Trials.{begun, readied, deep_readied, told_unknown, damaged, tree, branch, lower_branch, first_mark, node_after}
 
 -- ---- more runs
@@ -115,3 +116,6 @@ hears_of r x = has_heard r tree x
 
 abbrev pub gave_up : Node → Bool
 gave_up x = has_given_up tree x
+
+abbrev pub was_replied : Node → Bool
+was_replied x = has_met replies x.origin tree x.history
