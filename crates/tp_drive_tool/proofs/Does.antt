@@ -1,5 +1,5 @@
 -- What a run does, by what its parts answer.
-use Rattle.std.proofs.Common.{◌≡◌, inl, inr, ℕ, Option, Some, List, refl, subst}
+use Rattle.std.proofs.Common.{◌≡◌, inl, inr, ℕ, Option, Some, List, subst}
 use Rattle.tp_outside.specs.Story.{Story, seen}
 use Rattle.tp_records.specs.declared.body.Event.{Event as Given}
 use Rattle.tp_records.specs.declared.body.Output.{Output}

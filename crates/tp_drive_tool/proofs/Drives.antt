@@ -1,19 +1,17 @@
 -- What a drive over the log of a disk says of that disk.
-use Rattle.std.proofs.Common.{◌≡◌, inl, inr, ◌≤◌, ◌<◌, ◌+◌, ℕ, Bool, true, Option, Some, None, Err, List, [], ◌∷◌, ◌++◌, length, refl, sym, ap, subst, ◌∙◌, arith}
-use Rattle.tp_outside.specs.Faults.{HasRisen}
+use Rattle.std.proofs.Common.{◌≡◌, inl, inr, ◌+◌, ℕ, Bool, true, Option, Some, None, Err, List, [], ◌∷◌, ◌++◌, length, refl, sym, ap, subst, ◌∙◌, arith}
 use Rattle.tp_outside.specs.Story.{Story, Synced, seen}
 use Rattle.tp_outside.specs.FuseDisk.{Fused}
 use Rattle.tp_records.specs.declared.body.Event.{Event as Given}
 use Rattle.tp_records.specs.declared.body.Output.{Output}
 use Rattle.tp_logrec.specs.declared.record.LogRec.{LogRec}
 use Rattle.tp_logrec.specs.Order.{all_follow}
-use Rattle.tp_model.specs.LogCommands.{records_of}
 use Rattle.tp_model.specs.NodeRun.{Opening, boot_of}
 use Rattle.tp_journal.specs.declared.faults.StartFault.{StartFault as JournalFault}
 use Rattle.tp_journal.specs.declared.receipts.Receipt.{Receipt}
 use Rattle.tp_journal.specs.Journals.{Kept}
 use Rattle.tp_journal.specs.Keeping.{Standing}
-use Rattle.tp_journal.specs.Log.{StandsFor, StandsForEither, most_bytes, place_behind}
+use Rattle.tp_journal.specs.Log.{StandsFor, StandsForEither, place_behind}
 use Rattle.tp_journal.specs.Records.{bodies_of, first_place, placed, record_body, version_of}
 use Rattle.tp_journal.specs.Start.{RefusesStart}
 use Rattle.tp_journal.specs.Told.{LeavesOnly, LeavesNow}
@@ -22,20 +20,18 @@ use Rattle.tp_log_tools.specs.Readings.{IsFile, as_placed}
 use Rattle.tp_log_tools.proofs.Opened.{starts_open}
 use Rattle.tp_log_tools.proofs.Shortened.{records_placed}
 use Rattle.tp_site.specs.declared.faults.StartFault.{StartFault}
-use Rattle.tp_site.specs.Shaped.{HasTextIfStarted}
-use Rattle.tp_site.specs.Site.{Site, Starts, opening_of}
+use Rattle.tp_site.specs.Site.{Starts}
 use Rattle.tp_drive.specs.declared.driven.DriveFault.{DriveFault}
 use Rattle.tp_drive.specs.Begun.{booted, recs}
 use Rattle.tp_drive.specs.Drives.{Fails, HasBootText, HasStarted, IsDriven, LeavesBooted, opening_on}
 use Rattle.tp_drive.specs.Merging.{IsOther}
 use Rattle.tp_drive.proofs.Begins.{recs-placed}
 use Rattle.tp_serve.specs.Progress.{is_wide, journal_of}
-use Rattle.tp_serve.specs.Starting.{opening, NotStarted, unread_by, unstarted_by}
+use Rattle.tp_serve.specs.Starting.{NotStarted, unread_by, unstarted_by}
 use Rattle.tp_serve.proofs.Holding.{goes_on, wide_so}
-use Rattle.tp_serve.proofs.Starts.{HasOpened, not_started, unread}
-use Rattle.tp_drive_tool.specs.declared.status.Status.{Status}
+use Rattle.tp_serve.proofs.Starts.{HasOpened, not_started}
 use Rattle.tp_drive_tool.specs.Status.{driven_status, start_status, unread_status}
-use Rattle.tp_drive_tool.specs.Driving.{BeginsOn, HasDriven, HasOther, HasPart, IsDriveCause, IsFullAt, IsMoment, IsShutBy, LeavesLog, NotDriven}
+use Rattle.tp_drive_tool.specs.Driving.{BeginsOn, HasDriven, IsDriveCause, IsMoment, LeavesLog, NotDriven}
 
 -- ---- the log that is left
 

@@ -1,6 +1,6 @@
 -- What workers do of the events of a site on the log of a disk: the outputs and the log that is left; or why not all was done.
 -- What one thread puts out is said by tp_model, and how lanes part events between them by tp_drive.
-use Rattle.std.specs.Prelude.{ℕ, ◌≡◌, ◌≤◌, ◌<◌, ◌+◌, ◌⊎◌, Bool, Option, Some, None, List, [], ◌∷◌, ◌++◌, length}
+use Rattle.std.specs.Prelude.{ℕ, ◌≡◌, ◌<◌, ◌+◌, ◌⊎◌, Option, Some, None, List, [], ◌∷◌, ◌++◌, length}
 use Rattle.tp_outside.specs.Faults.{HasRisen}
 use Rattle.tp_outside.specs.Story.{Story, Synced, seen}
 use Rattle.tp_records.specs.declared.body.Event.{Event as Given}

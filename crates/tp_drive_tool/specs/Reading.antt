@@ -1,14 +1,12 @@
 -- The whole input: the events that its frames say, up to the limits of a drive.
 use Rattle.std.specs.Prelude.{ℕ, ◌≡◌, ◌<◌, Option, Some, List, []}
 use Rattle.tp_records.specs.declared.body.Event.{Event as Given}
-use Rattle.tp_framing.specs.Frames.{Part, next_in, Stream, stream}
-use Rattle.tp_model.specs.declared.verdict.What.{What}
-use Rattle.tp_model.specs.declared.verdict.Why.{Why}
+use Rattle.tp_framing.specs.Frames.{Stream, stream}
 use Rattle.tp_model.specs.Transcript.{Ending, Done, Bad_input, At_limit}
 use Rattle.tp_model.specs.NodeTranscript.{Input}
 use Rattle.tp_streams.specs.declared.stop.Stop.{Stop}
 use Rattle.tp_streams.specs.Stops.{IsFaultOf, IsOfEvents}
-use Rattle.tp_streams.specs.Events.{EventPlace, events_from, input_at}
+use Rattle.tp_streams.specs.Events.{events_from}
 
 -- an input of 100,000 events at most
 abbrev pub input_of : List ℕ → Input

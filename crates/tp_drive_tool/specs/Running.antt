@@ -1,5 +1,5 @@
 -- A whole run: which events the input says, what workers do of them, what is written, and how it ends.
-use Rattle.std.specs.Prelude.{ℕ, ◌≡◌, ◌⊎◌, ◌<◌, ◌++◌, Bool, false, Option, Some, List}
+use Rattle.std.specs.Prelude.{ℕ, ◌≡◌, ◌⊎◌, ◌<◌, ◌++◌, false, Option, Some, List}
 use Rattle.tp_outside.specs.Faults.{HasRisen}
 use Rattle.tp_outside.specs.Story.{Story, seen}
 use Rattle.tp_records.specs.declared.body.Event.{Event as Given}

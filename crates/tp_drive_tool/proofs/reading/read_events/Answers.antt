@@ -1,4 +1,4 @@
-use Rattle.std.proofs.Common.{◌≡◌, List, ℕ, Option, Some, None, Result, Ok, Err, IfErr, sym, ap, subst, arith, rules}
+use Rattle.std.proofs.Common.{◌≡◌, List, ℕ, Option, Some, None, Ok, Err, IfErr, sym, subst, arith, rules}
 use Rattle.tp_records.specs.declared.body.Event.{Event as Given}
 use Rattle.tp_streams.specs.Taken.{IsFor, bytes_left}
 use Rattle.tp_streams.specs.Events.{EndsEvents, HandsEvent, LeavesEvents, answer_event}

@@ -1,4 +1,4 @@
-use Rattle.tp_drive_tool.specs.Running.{Answers, Asked}
+use Rattle.tp_drive_tool.specs.Running.{Asked}
 use Rattle.tp_drive_tool.proofs.running.run_drive.Goals as goal
 
 pub returns-in-Ok-clause-answers : goal.returns-in-Ok-clause-answers
