@@ -1,6 +1,6 @@
 -- Front parts of what is written.
 use Rattle.std.proofs.Common.{◌++◌, ℕ, List, [], refl, sym, ap, ◌∙◌, append_assoc}
-use Rattle.tpnode.specs.Replay.{IsFront}
+use Rattle.tpnode.specs.Written.{IsFront}
 
 -- nothing, and all of it
 pub front_none : (ys : List ℕ) → IsFront [] ys

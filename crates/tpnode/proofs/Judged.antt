@@ -5,7 +5,6 @@ use Rattle.tp_words.specs.declared.command.Command.{Command}
 use Rattle.tp_streams.specs.declared.stop.Stop.{Stop}
 use Rattle.tp_model.specs.declared.verdict.What.{What}
 use Rattle.tp_audit_tool.specs.Audited.{IsAuditStop}
-use Rattle.tpnode.specs.declared.status.Status.{Status}
 use Rattle.tpnode.specs.Status.{Ends, IsLimitAt, ended_with}
 use Rattle.tpnode.specs.Commands.{exits}
 

@@ -1,14 +1,12 @@
 mod Fronts
 mod Pending
-mod Behind
+mod Cuts
 mod Texts
 mod Ended
 mod Left
 mod SoFar
 mod Ending
-mod Undriven
-mod Transcribed
-mod Promised
+mod Alone
 mod Asking
 mod Dispatched
 mod Replayed

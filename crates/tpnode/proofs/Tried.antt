@@ -1,9 +1,12 @@
 -- How a trial ends.
-use Rattle.std.proofs.Common.{◌≡◌, ◌∙◌, ◌++◌, ℕ, Option, Some, None, List, [], ◌∷◌, length, Result, Ok, Err, refl, ap, sym, subst, arith}
+use Rattle.std.proofs.Common.{◌≡◌, ◌∙◌, ◌++◌, ℕ, Option, Some, None, List, [], length, map, Result, Ok, Err, refl, ap, sym, subst, arith}
 use Rattle.std.specs.Prelude.{IfErr, OnOk, OnErr}
+use Rattle.tp_records.specs.Answers.{Answer}
 use Rattle.tp_model.specs.World.{World}
 use Rattle.tp_model.specs.Generator.{made, summary_of}
-use Rattle.tp_model.specs.Transcript.{RawLine, At_limit, transcript}
+use Rattle.tp_model.specs.Transcript.{Transcript, Ending, Done, Bad_input, At_limit, raw_lines, transcript, transcript_with}
+use Rattle.tp_model.specs.OutText.{out_texts}
+use Rattle.tp_model.specs.Trees.{closing}
 use Rattle.tp_schedule.specs.LinesLeft.{Place}
 use Rattle.tp_generate.specs.declared.schedule.Schedule.{Schedule}
 use Rattle.tp_generate.specs.Making.{IsScheduleOf}
@@ -12,19 +15,19 @@ use Rattle.tp_words.specs.declared.command.Plan.{Plan}
 use Rattle.tp_streams.specs.declared.stop.Stop.{Stop}
 use Rattle.tp_streams.specs.Stops.{IsWriteStop}
 use Rattle.tp_streams.specs.Written.{WritesPrefix}
-use Rattle.tp_world.specs.World.{Stands}
-use Rattle.tp_world.specs.declared.world.World.{World as CodeWorld}
+use Rattle.tp_driven.specs.DrivenWorld.{members_of, Stands}
+use Rattle.tp_driven.specs.declared.driven_world.DrivenWorld.{DrivenWorld}
 use Rattle.tpnode.specs.declared.status.Status.{Status}
 use Rattle.tpnode.specs.Status.{ended, Ends as EndsBy, IsLineEnding}
-use Rattle.tpnode.specs.Shown.{Ends, End, Shown, Stops, behind, closes, shown, shown_from, is_whole}
-use Rattle.tpnode.specs.Replay.{ending_of}
-use Rattle.tpnode.specs.Playing.{StopsSo, first_shown}
+use Rattle.tpnode.specs.Transcribing.{past_bad, past_limit}
+use Rattle.tpnode.specs.Playing.{EndsNext, IsLast}
 use Rattle.tpnode.specs.Commands.{exits}
 use Rattle.tpnode.specs.Making.{made_by}
-use Rattle.tpnode.specs.Trying.{summed_up, IsPlayed, IsTrialStop, Tries}
+use Rattle.tpnode.specs.Trying.{summed_up, alone, IsPlayed, IsTrialStop, Tries}
 use Rattle.tpnode.proofs.Replayed.{limit_at}
-use Rattle.tpnode.proofs.SoFar.{SoFar, stops_there}
-use Rattle.tpnode.proofs.Transcribed.{transcribed}
+use Rattle.tpnode.proofs.SoFar.{SoFar, Whole}
+use Rattle.tpnode.proofs.Ending.{stops_as, closed, closed_world, whole_read}
+use Rattle.tpnode.proofs.Alone.{unanswered, same_with}
 
 -- ---- the lines
 
@@ -35,52 +38,52 @@ IsNone (Some all) = ⊥
 pub none_is_some : (all : List ℕ) → None ≡ Some all → ⊥
 none_is_some all e = subst IsNone e tt
 
--- the replay ends at the first of the lines that are left
-pub ends_at_line : (at : ℕ) (bytes : List ℕ) (v : CodeWorld) (place : Place) (left start now : Option (List ℕ)) (pending : List ℕ) (status : Status)
-    → (s : SoFar at bytes v place left start now pending) → IsLineEnding 0 0 status → StopsSo at place.before s.world s.lines status → IsTrialStop (shown bytes) status
-ends_at_line at bytes v place left start now pending status s = go status
-  where
-    ends_there : (e : End) (first : RawLine) (rest : List RawLine) → s.lines ≡ first ∷ rest → first_shown at place.before s.world first ≡ Stops e → (shown bytes).ending ≡ e
-    ends_there e first rest is ends =
-        ap (λ r. r.ending)
-        (s.shows
-        ∙ ap (λ ls. behind s.text (shown_from at place.before s.world ls)) is
-        ∙ ap (behind s.text) (stops_there at place.before s.world first rest e ends))
+-- no member was there to answer
+is_alone : {M : Type 0} (allowed : M → List Answer → Type 0) (bytes : List ℕ) (now : List (Option M)) (text : List ℕ) (e : Ending) (w : Whole allowed (map (λ (m : M). Some m) []) now (λ answers. transcript_with 0 bytes answers) text e)
+    → alone bytes ≡ record { written = text; ending = e; world = w.world; puts = w.puts }
+is_alone allowed bytes now text e w = ap (transcript_with 0 bytes) (sym (unanswered allowed now w.puts w.answers w.each w.gave)) ∙ w.is
 
-    go : (st : Status) → IsLineEnding 0 0 st → StopsSo at place.before s.world s.lines st → IsTrialStop (shown bytes) st
-    go Status.Ok some h = h
-    go (Status.Findings n) some h = h
-    go Status.Usage some h = h
-    go (Status.BadInput n why) some h = (some, ends_there (ending_of n why) h.first h.rest h.is h.ends)
-    go (Status.Limit what n) some h = (some, ends_there (Ends (At_limit what n)) h.first h.rest h.is h.ends)
-    go (Status.Foreign n) some h = h
-    go (Status.ReadFault n) some h = absurd (let risen = some.risen in omega (arith, risen))
-    go (Status.WriteFault n) some h = h
-    go (Status.DiskFault n) some h = h
-    go Status.NoMemory some h = tt
+module _ {M : Type 0} (allowed : M → List Answer → Type 0) (at : ℕ) (bytes : List ℕ) (v : DrivenWorld M) (place : Place) (left start now : Option (List ℕ)) (pending : List ℕ) (new : DrivenWorld M) (unread : Option (List ℕ))
+    (s : SoFar allowed [] at bytes v place left start now pending) where
+  -- the replay ends at the first of the lines that are left
+  pub ends_at_line : (status : Status) → IsLineEnding 0 0 status → EndsNext allowed at place.before s.world s.lines status unread v new → IsTrialStop (alone bytes) status
+  ends_at_line Status.Ok some h = h
+  ends_at_line (Status.Findings n) some h = h
+  ends_at_line Status.Usage some h = h
+  ends_at_line (Status.BadInput n why) some h =
+      (some, ap (λ (t : Transcript). t.ending) (is_alone allowed bytes (members_of new) s.text (Bad_input n why) (stops_as allowed [] at bytes v place left start now pending s new n (past_bad why s.lines) unread (Bad_input n why) h)))
+  ends_at_line (Status.Limit what n) some h =
+      (some, ap (λ (t : Transcript). t.ending) (is_alone allowed bytes (members_of new) s.text (At_limit what n) (stops_as allowed [] at bytes v place left start now pending s new n (past_limit what s.lines) unread (At_limit what n) h)))
+  ends_at_line (Status.Foreign n) some h = h
+  ends_at_line (Status.ReadFault n) some h = absurd (let risen = some.risen in omega (arith, risen))
+  ends_at_line (Status.WriteFault n) some h = h
+  ends_at_line (Status.DiskFault n) some h = h
+  ends_at_line Status.NoMemory some h = tt
 
--- no line is left
-pub ends_after_lines : (at : ℕ) (bytes : List ℕ) (v : CodeWorld) (place : Place) (left start now : Option (List ℕ)) (pending : List ℕ) (new : CodeWorld)
-    → (s : SoFar at bytes v place left start now pending) → s.lines ≡ [] → Stands s.world new → IsPlayed (shown bytes) new
-ends_after_lines at bytes v place left start now pending new s none stands =
-    let is : shown bytes ≡ behind s.text (closes s.world) = s.shows ∙ ap (λ ls. behind s.text (shown_from at place.before s.world ls)) none in
-    (ap (λ r. r.ending) is, subst (λ r. Stands r.world new) (sym is) stands)
+  -- no line is left
+  pub ends_after_lines : IsLast s.lines unread v new → IsPlayed (alone bytes) new
+  ends_after_lines h =
+      let none : raw_lines bytes ≡ s.read = whole_read allowed [] at bytes v place left start now pending s h.none in
+      let w : Whole allowed (map (λ (m : M). Some m) []) (members_of v) (λ answers. transcript_with 0 bytes answers) (s.text ++ out_texts (closing s.world)) Done = closed allowed [] at bytes v place left start now pending s bytes none in
+      let is : alone bytes ≡ record { written = s.text ++ out_texts (closing s.world); ending = Done; world = w.world; puts = w.puts } = is_alone allowed bytes (members_of v) (s.text ++ out_texts (closing s.world)) Done w in
+      let world : (alone bytes).world ≡ s.world = ap (λ (t : Transcript). t.world) is ∙ closed_world allowed [] at bytes v place left start now pending s bytes none in
+      (ap (λ (t : Transcript). t.ending) is, subst (λ (u : World). Stands u new) (sym world) (subst (λ (x : DrivenWorld M). Stands s.world x) (sym h.same) s.stands))
 
 -- ---- the summary
 
 -- what is summed up of the world that is left is the summary of the definitions
-pub summed : (plan : Plan) (m : Schedule) (new : CodeWorld) (text : List ℕ) → IsScheduleOf plan.number plan.nodes plan.rounds m → IsPlayed (shown m.text) new
+pub summed : {M : Type 0} (plan : Plan) (m : Schedule) (new : DrivenWorld M) (text : List ℕ) → IsScheduleOf plan.number plan.nodes plan.rounds m → IsPlayed (alone m.text) new
     → ((w : World) → Stands w new → text ≡ summary_of m.lines w) → text ≡ summed_up plan
 summed plan m new text is played sums =
-    let t = transcribed m.text [] (ap is_whole played.0) in
-    sums (shown m.text).world played.1
-    ∙ ap (λ n. summary_of n (shown m.text).world) is.lines
-    ∙ ap (summary_of (length (made plan.number plan.nodes plan.rounds))) (sym t.world)
+    let same : transcript m.text [] ≡ alone m.text = same_with 3 m.text played.0 in
+    sums (alone m.text).world played.1
+    ∙ ap (λ n. summary_of n (alone m.text).world) is.lines
+    ∙ ap (λ (t : Transcript). summary_of (length (made plan.number plan.nodes plan.rounds)) t.world) (sym same)
     ∙ ap (λ b. summary_of (length (made plan.number plan.nodes plan.rounds)) (transcript b []).world) is.text
 
-pub stopped_of : (plan : Plan) (m : Schedule) (status : Status) → IsScheduleOf plan.number plan.nodes plan.rounds m → IsTrialStop (shown m.text) status
-    → IsTrialStop (shown (made_by plan)) status
-stopped_of plan m status is h = subst (λ b. IsTrialStop (shown b) status) is.text h
+pub stopped_of : (plan : Plan) (m : Schedule) (status : Status) → IsScheduleOf plan.number plan.nodes plan.rounds m → IsTrialStop (alone m.text) status
+    → IsTrialStop (alone (made_by plan)) status
+stopped_of plan m status is h = subst (λ b. IsTrialStop (alone b) status) is.text h
 
 -- ---- the command
 
@@ -96,7 +99,7 @@ tries_written plan text written output same old new (Err (Stop.WriteFault n)) is
 tries_written plan text written output same old new (Err (Stop.DiskFault n)) is whole prefix h = absurd h
 tries_written plan text written output same old new (Err Stop.NoMemory) is whole prefix h = absurd h
 
-pub tries_stopped : (plan : Plan) (written output : Option (List ℕ)) (same : Type 0) (status : Status) → same → IsTrialStop (shown (made_by plan)) status → Tries plan written output same status
+pub tries_stopped : (plan : Plan) (written output : Option (List ℕ)) (same : Type 0) (status : Status) → same → IsTrialStop (alone (made_by plan)) status → Tries plan written output same status
 tries_stopped plan written output same Status.Ok is h = absurd h
 tries_stopped plan written output same (Status.Findings n) is h = h
 tries_stopped plan written output same Status.Usage is h = h
@@ -109,7 +112,7 @@ tries_stopped plan written output same (Status.DiskFault n) is h = h
 tries_stopped plan written output same Status.NoMemory is h = is
 
 module _ (plan : Plan) (a b c d e f : ℕ) where
-  pub trial_ends : (s : Shown) (status : Status) → IsTrialStop s status → EndsBy (exits (Command.Trial plan)) a b c d e f status
+  pub trial_ends : (s : Transcript) (status : Status) → IsTrialStop s status → EndsBy (exits (Command.Trial plan)) a b c d e f status
   trial_ends s Status.Ok h = absurd h
   trial_ends s (Status.Findings n) h = absurd h
   trial_ends s Status.Usage h = absurd h

@@ -1,7 +1,8 @@
 pub mod Status
 pub mod Words
-pub mod Shown
-pub mod Replay
+pub mod Written
+pub mod Voters
+pub mod Transcribing
 pub mod Playing
 pub mod Making
 pub mod Trying

@@ -1,6 +1,6 @@
 -- What the commands over a log do: each ends as a call over the log on the disk answers, of which this file says what was written and what
 -- is left of the disk. What is foreign, and what is shown and found of a log, is said by tp_log_tools.
-use Rattle.std.specs.Prelude.{ℕ, ◌≡◌, ◌⊎◌, ◌<◌, ◌^◌, true, Option, Some, List, [], length, Result, Ok, Err, IfOk, IfErr, OnOk}
+use Rattle.std.specs.Prelude.{ℕ, ◌≡◌, ◌⊎◌, ◌<◌, ◌^◌, true, Option, Some, List, [], length, Result, Err, IfOk, IfErr, OnOk}
 use Rattle.tp_outside.specs.Story.{Story, seen}
 use Rattle.tp_logrec.specs.declared.record.LogRec.{LogRec}
 use Rattle.tp_logrec.specs.LogText.{IsLog}

@@ -5,7 +5,6 @@ use Rattle.std.specs.List.{list_any}
 use Rattle.tp_model.specs.declared.verdict.What.{What}
 use Rattle.tp_streams.specs.declared.stop.Stop.{Stop}
 use Rattle.tp_streams.specs.Stops.{IsFaultOf}
-use Rattle.tpnode.specs.declared.status.BadLine.{BadLine}
 use Rattle.tpnode.specs.declared.status.Status.{Status}
 
 -- ---- exit codes
@@ -60,7 +59,7 @@ has code codes = list_any (λ c. code == c) codes
 
 -- how a run ends that such a stop ends
 abbrev pub status_of : Stop → Status
-status_of (Stop.BadInput at why) = Status.BadInput at (BadLine.Bad why)
+status_of (Stop.BadInput at why) = Status.BadInput at why
 status_of (Stop.Limit what at) = Status.Limit what at
 status_of (Stop.Foreign at) = Status.Foreign at
 status_of (Stop.ReadFault faults) = Status.ReadFault faults

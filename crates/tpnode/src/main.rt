@@ -2,7 +2,7 @@
 //! tries them; runs one site on its log over frames of events, or a root's face of one over frames of calls; makes fresh
 //! logs, shows, checks and shortens a log; lists the keys of a store; judges the logs of several sites together.
 //!
-//! Of a schedule, members are not built yet: a line that speaks of one ends the run and says `unbuilt`.
+//! In a schedule, member 1 is willing and member 2 unwilling.
 #![tactic(auto)]
 
 mod auditing;
@@ -24,14 +24,17 @@ mod tests;
 mod top;
 mod transacting;
 mod trial;
+mod voter;
 
-pub use status::{BadLine, Status};
+pub use status::Status;
 use std::alloc::{AllocError, Global};
 use std::process::ExitCode;
 use std::{env, io};
 pub use top::run;
 use tp_outside::{FileDisk, StdSink, StdSource};
+use tp_records::{Unwilling, Willing};
 use tp_words::USAGE;
+use voter::Voter;
 
 /// The log of a site, in the current folder.
 const LOG: &str = "tp.log";
@@ -64,20 +67,22 @@ fn file_for(words: &[&str]) -> &'static str {
     }
 }
 
+// The members of the program: member 1 is willing, member 2 unwilling.
+fn members(alloc: Global) -> Result<Vec<Voter>, AllocError> {
+    let mut members = Vec::new(alloc);
+    members.push(Voter::Willing(Willing))?;
+    members.push(Voter::Unwilling(Unwilling))?;
+    Ok(members)
+}
+
 fn main(rt: HostRuntime) -> io::Result<ExitCode> {
     let words = words_given(&rt)?;
     let texts = as_texts(rt.alloc(), &words)?;
     let mut source = StdSource::new(&rt);
     let mut sink = StdSink::new(&rt);
     let disk = FileDisk::new(&rt, file_for(&texts));
-    let (status, _disk) = run(
-        rt.alloc(),
-        &texts,
-        &mut source,
-        &mut sink,
-        disk,
-        Vec::new(rt.alloc()),
-    );
+    let members = members(rt.alloc())?;
+    let (status, _disk) = run(rt.alloc(), &texts, &mut source, &mut sink, disk, members);
     if status != Status::Ok {
         eprintln!(rt; "tpnode: {status}")?;
     }

@@ -1,6 +1,6 @@
 //! What is written goes out whole, and in long pieces.
 ghost use Rattle.std.specs.Prelude.{◌≡◌, ◌≤◌, ◌++◌, ℕ, [], List, Some, IfErr, OnErr, OnOk};
-ghost use Rattle.tpnode.specs.Replay.{WritesFront, WroteBut};
+ghost use Rattle.tpnode.specs.Written.{WritesFront, WroteBut};
 ghost use Rattle.tp_streams.specs.Stops.{IsFaultOf};
 
 use crate::status::WriteFault;

@@ -1,23 +1,25 @@
 //! One line of a schedule, from its bytes to the bytes that it shows.
 ghost use Rattle.std.specs.Prelude.{◌≡◌, ◌++◌, ◌∷◌, [], IfErr, OnErr, OnOk};
 ghost use Rattle.tp_names.specs.Writing.{Keeps};
-ghost use Rattle.tp_model.specs.LineReading.{read_line};
+ghost use Rattle.tp_model.specs.LineReading.{Says, read_line};
 ghost use Rattle.tp_model.specs.declared.out_line.OutLine.{OutLine};
 ghost use Rattle.tp_model.specs.LineText.{line_text};
 ghost use Rattle.tp_model.specs.OutText.{out_text, out_texts};
+ghost use Rattle.tp_model.specs.Transcript.{echo};
 ghost use Rattle.tp_model.specs.World.{World as WorldValue};
-ghost use Rattle.tp_world.specs.World.{Stands};
+ghost use Rattle.tp_driven.specs.DrivenWorld.{Stands};
 ghost use Rattle.tpnode.specs.Status.{IsEndAt};
-ghost use Rattle.tpnode.specs.Shown.{line_shown, reading_shown};
-ghost use Rattle.tpnode.specs.Playing.{IsShown, unread_as, unplayed_as};
+ghost use Rattle.tpnode.specs.Playing.{ShowsReading, unread_as, unplayed_as};
 
-use crate::status::{BadLine, Status};
+use crate::status::Status;
 use std::alloc::Global;
+use tp_driven::{DrivenWorld, is_silent};
 use tp_model::{Line, OutLines, Why};
 use tp_names::{NoMemory, Octets};
+use tp_records::Member;
 use tp_schedule::{LineFault, read_line, write_line};
 use tp_transcript::write_out;
-use tp_world::{World, WorldFault};
+use tp_world::WorldFault;
 
 /// Puts the text of these lines, each with its end, at the end of `out`. Without memory `out` stays as it was.
 pub fn write_texts(alloc: Global, lines: &OutLines, out: &mut Octets) -> Result<(), NoMemory>
@@ -53,10 +55,7 @@ fn unread(fault: LineFault, at: u64) -> Status
         LineFault::Number => Why::Number,
         LineFault::NoMemory => return Status::NoMemory,
     };
-    Status::BadInput {
-        at,
-        why: BadLine::Bad(why),
-    }
+    Status::BadInput { at, why }
 }
 
 // The status of a run that ends in the line of that number, since the world does not play it.
@@ -64,15 +63,8 @@ fn unplayed(fault: WorldFault, at: u64) -> Status
     ensures { result ≡ unplayed_as at fault }
 {
     match fault {
-        WorldFault::Name => Status::BadInput {
-            at,
-            why: BadLine::Bad(Why::Name),
-        },
+        WorldFault::Name | WorldFault::Unbuilt => Status::BadInput { at, why: Why::Name },
         WorldFault::Limit { what } => Status::Limit { what, at },
-        WorldFault::Unbuilt => Status::BadInput {
-            at,
-            why: BadLine::Unbuilt,
-        },
         WorldFault::NoMemory => Status::NoMemory,
     }
 }
@@ -118,12 +110,31 @@ fn append_echo(alloc: Global, line: &Line, out: &mut Octets) -> Result<(), NoMem
     Ok(())
 }
 
-// Puts what a line shows at the end of `out`; the status where the run ends in it, and `out` stays as it was. The lines
-// are room for what it shows.
-#[tactic(auto, using(crate::proofs::Ended::plays_shown, crate::proofs::Ended::unplayed_ends, crate::proofs::Ended::unplayed_at))]
-fn play_line(
+// Puts the echo of a line, where it is shown, and the text of what it shows at the end of `out`. Without memory `out` stays
+// as it was.
+#[tactic(auto, using(crate::proofs::Ended::echo_and, crate::proofs::Ended::no_echo_and))]
+fn write_played(
     alloc: Global,
-    world: &mut World,
+    line: &Line,
+    lines: &OutLines,
+    out: &mut Octets,
+) -> Result<(), NoMemory>
+    ensures ok { OnOk result (out.new ≡ out.old ++ out_texts (echo line.now ++ lines.now)) }
+    ensures err { OnErr result (out.new ≡ out.old) }
+{
+    if is_silent(line) {
+        write_texts(alloc, lines, out)
+    } else {
+        write_shown(alloc, line, lines, out)
+    }
+}
+
+// Puts what a line shows at the end of `out`; the status where the run ends in it, and `out` stays as it was. The lines are
+// room for what it shows.
+#[tactic(auto, using(crate::proofs::Ended::unplayed_at))]
+fn play_line<M: Member>(
+    alloc: Global,
+    world: &mut DrivenWorld<M>,
     line: &Line,
     at: u64,
     lines: &mut OutLines,
@@ -131,11 +142,11 @@ fn play_line(
 ) -> Result<(), Status>
     ensures ending { IfErr result (IsEndAt at) }
     ensures same { OnErr result (out.new ≡ out.old) }
-    ensures shown { (w : WorldValue) → Stands w world.old → IsShown (line_shown at w line.now) result out.old out.new world.new }
+    ensures shown { (w : WorldValue) → Stands w world.old → ShowsReading world.old world.new M.allowed at w (Says line.now) result out.old out.new }
 {
     lines.clear();
     match world.play(alloc, line, lines) {
-        Ok(()) => match write_shown(alloc, line, lines, out) {
+        Ok(()) => match write_played(alloc, line, lines, out) {
             Ok(()) => Ok(()),
             Err(NoMemory) => Err(Status::NoMemory),
         },
@@ -143,12 +154,12 @@ fn play_line(
     }
 }
 
-#[tactic(auto, using(crate::proofs::Ended::blank_shown, crate::proofs::Ended::said_shown, crate::proofs::Ended::unread_ends, crate::proofs::Ended::unread_at))]
 /// Puts what the line of that number, without its end, shows at the end of `out`; the status where the run ends in it,
 /// and `out` stays as it was. The lines are room for what it shows.
-pub fn play_text(
+#[tactic(auto, using(crate::proofs::Ended::said_shows, crate::proofs::Ended::unread_ends, crate::proofs::Ended::unread_at))]
+pub fn play_text<M: Member>(
     alloc: Global,
-    world: &mut World,
+    world: &mut DrivenWorld<M>,
     text: &[u8],
     at: u64,
     lines: &mut OutLines,
@@ -156,7 +167,7 @@ pub fn play_text(
 ) -> Result<(), Status>
     ensures ending { IfErr result (IsEndAt at) }
     ensures same { OnErr result (out.new ≡ out.old) }
-    ensures shown { (w : WorldValue) → Stands w world.old → IsShown (reading_shown at w (read_line text.now)) result out.old out.new world.new }
+    ensures shown { (w : WorldValue) → Stands w world.old → ShowsReading world.old world.new M.allowed at w (read_line text.now) result out.old out.new }
 {
     match read_line(alloc, text) {
         Ok(None) => Ok(()),

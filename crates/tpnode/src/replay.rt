@@ -1,24 +1,26 @@
-//! A schedule out of a source, and its transcript into a sink, line by line.
-ghost use Rattle.std.specs.Prelude.{◌≡◌, ◌≢◌, ◌<◌, ◌≤◌, ◌++◌, ℕ, true, false, List, Some, None, [], IfErr, IfOk, OnErr, OnOk};
+//! A schedule out of a source, played in a world with members, and its transcript into a sink, line by line.
+ghost use Rattle.std.specs.Prelude.{◌≡◌, ◌<◌, ◌≤◌, ◌++◌, ℕ, true, false, length, List, Some, None, [], IfErr, IfOk, OnErr, OnOk};
+ghost use Rattle.tp_model.specs.OutText.{out_texts};
 ghost use Rattle.tp_model.specs.Transcript.{RawLine};
+ghost use Rattle.tp_model.specs.Trees.{closing};
 ghost use Rattle.tp_model.specs.World.{World as WorldValue};
 ghost use Rattle.tp_schedule.specs.LinesLeft.{lines_left};
-ghost use Rattle.tp_world.specs.World.{Stands};
+ghost use Rattle.tp_driven.specs.DrivenWorld.{Stands};
 ghost use Rattle.tp_streams.specs.Stops.{IsFaultOf};
 ghost use Rattle.tpnode.specs.Status.{IsReplayEnding, IsInputEnding, IsLineEnding};
-ghost use Rattle.tpnode.specs.Shown.{shown, closes};
-ghost use Rattle.tpnode.specs.Replay.{Plays, Writes};
 ghost use Rattle.tpnode.specs.Playing.{PlaysNext, unheard_as};
+ghost use Rattle.tpnode.specs.Transcribing.{may_of, ReadsSo, Transcribes, TranscribesOn};
 
 use crate::output::{write_all, write_long};
 use crate::playing::{play_text, write_texts};
-use crate::status::{BadLine, Status, WriteFault};
+use crate::status::{Status, WriteFault};
 use std::alloc::Global;
+use tp_driven::DrivenWorld;
 use tp_model::{OutLines, What, Why};
 use tp_names::{NoMemory, Octets};
 use tp_outside::{Sink, Source};
+use tp_records::Member;
 use tp_schedule::{Lines, LinesFault};
-use tp_world::World;
 
 /// One more than the number of the line that is after the last one in any schedule.
 pub const PAST_LINES: u64 = 1_048_578;
@@ -29,10 +31,7 @@ fn unheard(fault: LinesFault, at: u64) -> Status
 {
     match fault {
         LinesFault::ReadFault { faults } => Status::ReadFault { faults },
-        LinesFault::Long => Status::BadInput {
-            at,
-            why: BadLine::Bad(Why::Long),
-        },
+        LinesFault::Long => Status::BadInput { at, why: Why::Long },
         LinesFault::Limit => Status::Limit {
             what: What::Schedule,
             at,
@@ -42,11 +41,11 @@ fn unheard(fault: LinesFault, at: u64) -> Status
 
 /// Puts what the next line of the source shows, which has that number, at the end of `out`, and answers whether there was
 /// one; the status where the run ends in it, and `out` stays as it was.
-pub fn play_next<S: Source>(
+pub fn play_next<S: Source, M: Member>(
     alloc: Global,
     lines: &mut Lines,
     source: &mut S,
-    world: &mut World,
+    world: &mut DrivenWorld<M>,
     at: u64,
     shown: &mut OutLines,
     out: &mut Octets,
@@ -58,7 +57,7 @@ pub fn play_next<S: Source>(
     ensures unfaulted { result ≡ Ok true → lines.new.fault ≡ None }
     ensures same { OnErr result (out.new ≡ out.old) }
     ensures ended { result ≡ Ok false → out.new ≡ out.old }
-    ensures plays { (w : WorldValue) (ls : List RawLine) → Stands w world.old → lines_left lines.old (S.left source.old) ≡ Some ls → PlaysNext at lines.old.before w ls result out.old out.new lines.new (S.left source.new) world.new }
+    ensures plays { (w : WorldValue) (ls : List RawLine) → Stands w world.old → lines_left lines.old (S.left source.old) ≡ Some ls → PlaysNext world.old world.new M.allowed at lines.old.before w ls result out.old out.new lines.new (S.left source.new) }
 {
     match lines.next(source) {
         Ok(None) => Ok(false),
@@ -71,30 +70,33 @@ pub fn play_next<S: Source>(
 }
 
 // Puts the closing lines at the end of `out`. Without memory `out` stays as it was.
-fn close(alloc: Global, world: &World, out: &mut Octets) -> Result<(), NoMemory>
-    ensures ok { (w : WorldValue) → Stands w world.now → OnOk result (out.new ≡ out.old ++ (closes w).closing) }
+fn close<M: Member>(alloc: Global, world: &DrivenWorld<M>, out: &mut Octets) -> Result<(), NoMemory>
+    ensures ok { (w : WorldValue) → Stands w world.now → OnOk result (out.new ≡ out.old ++ out_texts (closing w)) }
     ensures err { OnErr result (out.new ≡ out.old) }
 {
     let lines = world.closing(alloc)?;
     write_texts(alloc, &lines, out)
 }
 
-// Plays the schedule, and answers how it ends. What it shows is put at the end of `out`, and written as it gets long: what
-// is in `out` in the end is still to be written.
-fn play_all<S: Source, K: Sink>(
+// Plays the schedule in a world with these members, and answers how it ends. What it shows is put at the end of `out`, and
+// written as it gets long: what is in `out` in the end is still to be written.
+fn play_all<S: Source, K: Sink, M: Member>(
     alloc: Global,
     source: &mut S,
     sink: &mut K,
+    members: Vec<M>,
     out: &mut Octets,
 ) -> Result<Status, WriteFault>
     requires { out.old ≡ [] }
     ensures kept { K.fault_count sink.old ≤ K.fault_count sink.new }
     ensures ending { IfOk result (IsInputEnding (S.fault_count source.old) (S.fault_count source.new)) }
     ensures fault { IfErr result (λ f. IsFaultOf f.faults (K.fault_count sink.old) (K.fault_count sink.new)) }
-    ensures read { (bytes : List ℕ) → S.left source.old ≡ Some bytes → result ≡ Ok Status.Ok → S.left source.new ≡ Some [] }
-    ensures plays { (bytes before : List ℕ) → S.left source.old ≡ Some bytes → K.written sink.old ≡ Some before → Plays before (shown bytes) result out.new (K.written sink.new) }
+    ensures reads { (bytes : List ℕ) → S.left source.old ≡ Some bytes → IfOk result (λ status. ReadsSo bytes status (S.left source.new)) }
+    ensures plays { (bytes : List ℕ) → S.left source.old ≡ Some bytes → TranscribesOn (may_of M.allowed members.items) (length members.items) bytes result (S.left source.new) out.new (K.written sink.old) (K.written sink.new) }
 {
-    let mut world = World::new(alloc);
+    let Ok(mut world) = DrivenWorld::new(alloc, members) else {
+        return Ok(Status::NoMemory);
+    };
     let mut lines = Lines::new();
     let mut shown = OutLines::new(alloc);
     for at in 1..PAST_LINES {
@@ -119,14 +121,19 @@ fn play_all<S: Source, K: Sink>(
     })
 }
 
-/// Reads a schedule from the source, and writes its transcript to the sink as it goes, in long pieces.
-pub fn replay<S: Source, K: Sink>(alloc: Global, source: &mut S, sink: &mut K) -> Status
+/// Reads a schedule from the source, and writes its transcript with these members to the sink as it goes, in long pieces.
+pub fn replay<S: Source, K: Sink, M: Member>(
+    alloc: Global,
+    source: &mut S,
+    sink: &mut K,
+    members: Vec<M>,
+) -> Status
     ensures ending { IsReplayEnding (S.fault_count source.old) (S.fault_count source.new) (K.fault_count sink.old) (K.fault_count sink.new) result }
-    ensures read { (bytes : List ℕ) → S.left source.old ≡ Some bytes → result ≡ Status.Ok → S.left source.new ≡ Some [] }
-    ensures transcript { (bytes before : List ℕ) → S.left source.old ≡ Some bytes → K.written sink.old ≡ Some before → Writes before (shown bytes) result (K.written sink.new) }
+    ensures reads { (bytes : List ℕ) → S.left source.old ≡ Some bytes → ReadsSo bytes result (S.left source.new) }
+    ensures transcript { (bytes : List ℕ) → S.left source.old ≡ Some bytes → Transcribes (may_of M.allowed members.items) (length members.items) bytes result (S.left source.new) (K.written sink.old) (K.written sink.new) }
 {
     let mut out = Octets::new(alloc);
-    let status = match play_all(alloc, source, sink, &mut out) {
+    let status = match play_all(alloc, source, sink, members, &mut out) {
         Ok(status) => status,
         Err(WriteFault { faults }) => return Status::WriteFault { faults },
     };

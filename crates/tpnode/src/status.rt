@@ -3,24 +3,6 @@ use std::fmt;
 use tp_model::{What, Why};
 use tp_streams::Stop;
 
-/// Why a line is bad.
-#[derive(Clone, Copy, Debug, PartialEq, Eq)]
-pub enum BadLine {
-    /// It is no line, or it names what is taken or not there.
-    Bad(Why),
-    /// The program does not do this yet.
-    Unbuilt,
-}
-
-impl fmt::Display for BadLine {
-    fn fmt<W: fmt::Write>(&self, f: &mut fmt::Formatter<W>) -> fmt::Result {
-        match self {
-            BadLine::Bad(why) => write!(f, "{why}"),
-            BadLine::Unbuilt => write!(f, "unbuilt"),
-        }
-    }
-}
-
 /// The sink failed: its count, right after the call that failed.
 #[derive(Clone, Copy)]
 pub struct WriteFault {
@@ -38,7 +20,7 @@ pub enum Status {
     /// The words ask for no command that is built.
     Usage,
     /// The line at that number is the first that is bad.
-    BadInput { at: u64, why: BadLine },
+    BadInput { at: u64, why: Why },
     /// A count would pass its limit in the line at that number.
     Limit { what: What, at: u64 },
     /// The bytes of the log are no log, or its records do not follow each other; they go wrong at that place.
@@ -62,10 +44,7 @@ impl Status {
         ensures { result ≡ status_of stop }
     {
         match stop {
-            Stop::BadInput { at, why } => Status::BadInput {
-                at,
-                why: BadLine::Bad(why),
-            },
+            Stop::BadInput { at, why } => Status::BadInput { at, why },
             Stop::Limit { what, at } => Status::Limit { what, at },
             Stop::Foreign { at } => Status::Foreign { at },
             Stop::ReadFault { faults } => Status::ReadFault { faults },

@@ -28,7 +28,8 @@ fn ran(alloc: Global, words: &[&str], bytes: &[u8], fails: Fails) -> Option<(Sta
     let mut source = MemSource::new(alloc, bytes, reads);
     let mut sink = MemSink::new(alloc, writes);
     let disk = MemDisk::from(alloc, Octets::new(alloc));
-    let (status, _disk) = run(alloc, words, &mut source, &mut sink, disk, Vec::new(alloc));
+    let members = members(alloc).ok()?;
+    let (status, _disk) = run(alloc, words, &mut source, &mut sink, disk, members);
     Some((status, sink))
 }
 
@@ -53,7 +54,7 @@ fn formatted(alloc: Global, fails: &[u8]) -> Option<(Status, MemDisk)> {
         octets(alloc, b"what stood there")?,
         octets(alloc, fails)?,
     );
-    let members = Vec::new(alloc);
+    let members = members(alloc).ok()?;
     Some(run(alloc, &["format"], &mut source, &mut sink, disk, members))
 }
 
@@ -126,7 +127,7 @@ fn on_disk(alloc: Global, command: &str, bytes: &[u8]) -> Option<(Status, MemSin
     let mut source = MemSource::new(alloc, Octets::new(alloc), Octets::new(alloc));
     let mut sink = MemSink::new(alloc, Octets::new(alloc));
     let disk = MemDisk::from(alloc, octets(alloc, bytes)?);
-    let members = Vec::new(alloc);
+    let members = members(alloc).ok()?;
     let (status, disk) = run(alloc, &[command], &mut source, &mut sink, disk, members);
     Some((status, sink, disk))
 }
@@ -146,11 +147,18 @@ fn replayed(alloc: Global, text: &str, fails: Fails, written: &str) -> Option<St
     status_of(alloc, &["replay"], text.as_bytes(), fails, written)
 }
 
+const DRIVEN: &str = "node 1 a\nnode 2 b under 1\nauto 2 1\ndo 1 begin-dialogue 2 scu\ndrain\n";
+
+const ANSWERED: &str =
+    "> node 1 a\nlog a boot 1\n> node 2 b under 1\nlog b boot 1\n> do 1 begin-dialogue 2 scu\nsend 1 1 2 open 1.1.1 scu\n> drain\ntake 1\ntell 2 begin-dialogue 1 scu\n> do 2 accept scu\nsend 2 2 1 accept 1.1.1 1.2.1 scu\n";
+
 #[test]
-fn built_lines_are_replayed(rt: HostRuntime) {
+fn schedules_are_replayed(rt: HostRuntime) {
     let status = replayed(rt.alloc(), SCHEDULE, NO_FAILS, TRANSCRIPT);
     assert!(rt; matches!(status, Some(Status::Ok)));
     let status = replayed(rt.alloc(), "", NO_FAILS, "");
+    assert!(rt; matches!(status, Some(Status::Ok)));
+    let status = replayed(rt.alloc(), DRIVEN, NO_FAILS, ANSWERED);
     assert!(rt; matches!(status, Some(Status::Ok)));
 }
 
@@ -167,21 +175,11 @@ fn words_that_ask_for_no_command(rt: HostRuntime) {
 const DECLARED: &str = "> node 1 a\nlog a boot 1\n> node 2 b under 1\nlog b boot 1\n";
 
 // Why a run of that line after two nodes, which alone show anything, is refused at it.
-fn refused_by(alloc: Global, line: &str) -> Option<BadLine> {
+fn refused_by(alloc: Global, line: &str) -> Option<Why> {
     let text = format!(in alloc; "node 1 a\nnode 2 b under 1\n{line}\n").ok()?;
     match replayed(alloc, text.as_str(), NO_FAILS, DECLARED)? {
         Status::BadInput { at: 3, why } => Some(why),
         _ => None,
-    }
-}
-
-const NOT_BUILT: &[&str] = &["auto 1 1", "leave 1"];
-
-#[test]
-fn kinds_of_lines_that_are_not_built(rt: HostRuntime) {
-    for line in NOT_BUILT {
-        let why = refused_by(rt.alloc(), line);
-        assert!(rt; matches!(why, Some(BadLine::Unbuilt)), "{line}");
     }
 }
 
@@ -193,13 +191,16 @@ const BAD: &[(&str, Why)] = &[
     ("pass 1 3", Why::Name),
     ("again 1", Why::Name),
     ("node 2 c", Why::Name),
+    ("auto 3 1", Why::Name),
+    ("auto 1 3", Why::Name),
+    ("leave 3", Why::Name),
 ];
 
 #[test]
 fn lines_that_are_bad(rt: HostRuntime) {
     for (line, wanted) in BAD {
         let why = refused_by(rt.alloc(), line);
-        assert!(rt; why == Some(BadLine::Bad(*wanted)), "{line}");
+        assert!(rt; why == Some(*wanted), "{line}");
     }
 }
 
@@ -267,15 +268,7 @@ const ENDINGS: &[(Status, &str, u8)] = &[
     (
         Status::BadInput {
             at: 2,
-            why: BadLine::Unbuilt,
-        },
-        "bad input at 2: unbuilt",
-        3,
-    ),
-    (
-        Status::BadInput {
-            at: 2,
-            why: BadLine::Bad(Why::Word),
+            why: Why::Word,
         },
         "bad input at 2: word",
         3,

@@ -1,19 +1,20 @@
 //! A made schedule, replayed in memory, and what it came to.
-ghost use Rattle.std.specs.Prelude.{◌≡◌, ℕ, IfOk, IfErr, OnOk};
+ghost use Rattle.std.specs.Prelude.{◌≡◌, ℕ, [], IfOk, IfErr, OnOk};
 ghost use Rattle.tp_words.specs.declared.command.Command.{Command};
 ghost use Rattle.tp_model.specs.World.{World as WorldValue, empty_world};
 ghost use Rattle.tp_model.specs.Generator.{summary_of};
-ghost use Rattle.tp_world.specs.World.{Stands};
+ghost use Rattle.tp_driven.specs.DrivenWorld.{members_of, Stands};
 ghost use Rattle.tpnode.specs.Status.{Ends};
-ghost use Rattle.tpnode.specs.Shown.{shown};
 ghost use Rattle.tpnode.specs.Commands.{exits};
 ghost use Rattle.tpnode.specs.Making.{made_by};
-ghost use Rattle.tpnode.specs.Trying.{summed_up, IsPlayed, IsTrialStop, Tries};
+ghost use Rattle.tpnode.specs.Trying.{summed_up, alone, IsPlayed, IsTrialStop, Tries};
 
 use crate::held::Held;
 use crate::replay::{PAST_LINES, play_next};
 use crate::status::Status;
+use crate::voter::Voter;
 use std::alloc::Global;
+use tp_driven::DrivenWorld;
 use tp_generate::{schedule_of, write_summary};
 use tp_model::{OutLines, What};
 use tp_names::{NoMemory, Octets};
@@ -21,7 +22,6 @@ use tp_outside::Sink;
 use tp_schedule::Lines;
 use tp_streams::write_all;
 use tp_words::Plan;
-use tp_world::World;
 
 /// Replays the schedule of the plan, and writes what it came to.
 #[tactic(auto, using(crate::proofs::Tried::trial_ends, crate::proofs::Tried::written_ends, crate::proofs::Tried::tries_written, crate::proofs::Tried::tries_stopped))]
@@ -39,14 +39,17 @@ pub fn try_schedule<K: Sink>(alloc: Global, plan: Plan, sink: &mut K) -> Status
 #[tactic(auto, using(crate::proofs::Tried::stopped_of))]
 fn replayed(alloc: Global, plan: Plan) -> Result<Octets, Status>
     ensures summary { IfOk result (λ text. text ≡ summed_up plan) }
-    ensures stopped { IfErr result (IsTrialStop (shown (made_by plan))) }
+    ensures stopped { IfErr result (IsTrialStop (alone (made_by plan))) }
 {
     let made = match schedule_of(alloc, plan.number, plan.nodes, plan.rounds) {
         Ok(made) => made,
         Err(NoMemory) => return Err(Status::NoMemory),
     };
     let lines = made.lines;
-    let mut world = World::new(alloc);
+    let nobody: Vec<Voter> = Vec::new(alloc);
+    let Ok(mut world) = DrivenWorld::new(alloc, nobody) else {
+        return Err(Status::NoMemory);
+    };
     if let Err(status) = play_made(alloc, made.text, &mut world) {
         return Err(status);
     }
@@ -56,11 +59,12 @@ fn replayed(alloc: Global, plan: Plan) -> Result<Octets, Status>
     }
 }
 
-// Plays a schedule in memory over a world with nothing in it. What its lines show is kept nowhere.
-fn play_made(alloc: Global, text: Octets, world: &mut World) -> Result<(), Status>
-    requires { Stands empty_world world.old }
-    ensures played { OnOk result (IsPlayed (shown text) world.new) }
-    ensures stopped { IfErr result (IsTrialStop (shown text)) }
+// Plays a schedule in memory over a world with nothing in it and no member. What its lines show is kept nowhere.
+fn play_made(alloc: Global, text: Octets, world: &mut DrivenWorld<Voter>) -> Result<(), Status>
+    requires empty { Stands empty_world world.old }
+    requires alone { members_of world.old ≡ [] }
+    ensures played { OnOk result (IsPlayed (alone text) world.new) }
+    ensures stopped { IfErr result (IsTrialStop (alone text)) }
 {
     let mut source = Held::new(alloc, text);
     let mut lines = Lines::new();
@@ -88,7 +92,7 @@ fn play_made(alloc: Global, text: Octets, world: &mut World) -> Result<(), Statu
 }
 
 // The summary of a replay of so many lines that left this world.
-fn sum_up(alloc: Global, lines: u64, world: &World) -> Result<Octets, NoMemory>
+fn sum_up(alloc: Global, lines: u64, world: &DrivenWorld<Voter>) -> Result<Octets, NoMemory>
     ensures { IfOk result (λ text. (w : WorldValue) → Stands w world.now → text ≡ summary_of lines w) }
 {
     let closing = world.closing(alloc)?;

@@ -1,12 +1,11 @@
-use Rattle.std.proofs.Common.{◌≡◌, sym, subst, [], Ok}
-use Rattle.std.proofs.lemmas.List.{append-nil}
+use Rattle.std.proofs.Common.{◌≡◌, subst, refl, Ok}
 use Rattle.std.specs.Prelude.{IfSome}
 use Rattle.tp_model.specs.LineReading.{Blank, read_line}
 use Rattle.tp_schedule.specs.Answers.{answered}
-use Rattle.tpnode.proofs.Ended.{blank_shown}
+use Rattle.tpnode.proofs.Ended.{blank_shows}
 use Rattle.tpnode.proofs.playing.play_text.Goals as goal
 
 pub returns-in-Ok-None-clause-shown : goal.returns-in-Ok-None-clause-shown
-returns-in-Ok-None-clause-shown c = λ w h.
+returns-in-Ok-None-clause-shown g c = λ w h.
     let is : Blank ≡ read_line c.args.text.now = subst (λ v. IfSome (answered (Ok v)) (λ reading. reading ≡ read_line c.args.text.now)) c.in-Ok-None.field-0-is (c.in-Ok-None.ensures {u = tt}) in
-    ([], w, sym (append-nil c.args.out.now), blank_shown c.args.at w (read_line c.args.text.now) is, h)
+    blank_shows _ c.args.at w c.args.world.now c.args.world.now (read_line c.args.text.now) c.args.out.now c.args.out.now is h refl refl

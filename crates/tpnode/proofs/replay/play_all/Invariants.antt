@@ -8,5 +8,5 @@ invariant-loop-at g l = record {
   read : g.S.Source.fault_count l.fn.source ≤ g.S.Source.fault_count l.source;
   written : g.K.Sink.fault_count l.fn.sink ≤ g.K.Sink.fault_count l.sink;
   so_far : (bytes : List ℕ) → g.S.Source.left l.fn.source ≡ Some bytes
-      → SoFar l.at bytes l.world l.lines (g.S.Source.left l.source) (g.K.Sink.written l.fn.sink) (g.K.Sink.written l.sink) l.out;
+      → SoFar g.M.Member.allowed l.fn.members.items l.at bytes l.world l.lines (g.S.Source.left l.source) (g.K.Sink.written l.fn.sink) (g.K.Sink.written l.sink) l.out;
 }

@@ -1,11 +1,21 @@
 use Rattle.std.proofs.Common.{refl}
 use Rattle.tp_words.specs.declared.command.Command.{Command}
 use Rattle.tpnode.proofs.Dispatched.{runs_as}
-use Rattle.tpnode.proofs.Replayed.{replay_ends}
+use Rattle.tpnode.proofs.Replayed.{replay_ends, replay_limits}
 use Rattle.tpnode.proofs.top.run_command.Goals as goal
 
 pub returns-in-Replay-clause-ending : goal.returns-in-Replay-clause-ending
 returns-in-Replay-clause-ending g c = (replay_ends _ _ _ _ _ _ _ c.replay.ensures.ending).cause
+
+pub returns-in-Replay-clause-runs : goal.returns-in-Replay-clause-runs
+returns-in-Replay-clause-runs g c =
+    runs_as c.args.command Command.Replay _ _ _ _ c.in-Replay.is (record {
+      exit = (replay_ends _ _ _ _ 0 0 _ c.replay.ensures.ending).exit;
+      source = tt;
+      sink = tt;
+      disk = refl;
+      does = record { limits = replay_limits _ _ _ _ _ c.replay.ensures.ending; reads = c.replay.ensures.reads; writes = c.replay.ensures.transcript };
+    })
 
 pub returns-in-Format-clause-ending : goal.returns-in-Format-clause-ending
 returns-in-Format-clause-ending g c = (c.format_log.ensures.ends _ _ _ _).cause
