@@ -17,7 +17,7 @@ use Rattle.tp_records.specs.declared.peer.PeerRecord.{PeerRecord}
 use Rattle.tp_records.specs.declared.peer.RecState.{RecState}
 use Rattle.tp_logrec.specs.declared.record.LogRec.{LogRec}
 use Rattle.tp_model.specs.declared.transaction.TxEvent.{TxEvent}
-use Rattle.tp_model.specs.Parts.{Origin, Event, Out, Entry, Live, Idle, Branch, Current, Digest}
+use Rattle.tp_model.specs.Parts.{Origin, Event, Out, Entry, Live, Branch, Current, Digest}
 use Rattle.tp_model.specs.Dialogues.{is_committing, is_rolling}
 use Rattle.tp_model.specs.Arcs.{link_with}
 use Rattle.tp_model.specs.Transactions.{aaid_of}
@@ -25,7 +25,7 @@ use Rattle.tp_model.specs.Arrivals.{find_branch_by_id}
 use Rattle.tp_model.specs.Node.{phase_of}
 use Rattle.tp_model.specs.Events.{refusal}
 use Rattle.tp_model.specs.History.{digest, records}
-use Rattle.tp_model.specs.Outcomes.{is_now, is_member, decided, rolled, has_left, decision, tells_complete_none, completed_none}
+use Rattle.tp_model.specs.Outcomes.{is_now, decided, rolled, decision, tells_complete_none, completed_none}
 use Rattle.tp_model.specs.Questions.{is_at}
 use Rattle.tp_model.specs.World.{Node, Frame, number_of, addr_of, find_node}
 use Rattle.tp_model.specs.Happenings.{Happening, run}
@@ -45,7 +45,7 @@ use Rattle.tp_histories.specs.Members.{IsOnce, IsUnique, is_own, is_known, has_t
 use Rattle.tp_histories.specs.Fates.{IsFated}
 use Rattle.tp_histories.specs.Upward.{deeds_of}
 use Rattle.tp_runs.specs.Heeded.{heeds_event, heeds}
-use Rattle.tp_alarms.specs.Causes.{same_report, tells_committed, is_awaited, hears, is_met, has_met, has_given_up}
+use Rattle.tp_alarms.specs.Causes.{same_report, tells_committed, is_awaited, hears, is_met, has_met}
 use Rattle.tp_alarms.specs.Alarms.{tells_reported, replies, Begins, HasCause, NoFalseAlarm}
 use Rattle.tp_steps.proofs.lemmas.Equality.{aaids_equal, or_case, and_left, and_right, both_true}
 use Rattle.tp_steps.proofs.lemmas.Options.{some_same}

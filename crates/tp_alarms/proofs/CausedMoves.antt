@@ -1,33 +1,26 @@
 -- Every event of a node: where the reports that its transaction of a tree holds have causes, those after it have, and no other
 -- report is told.
-use Rattle.std.proofs.Common.{◌≡◌, ◌⊎◌, inl, inr, ℕ, Bool, true, false, refl, ap, sym, subst, ◌∙◌, arith, Option, Some, None, List, [], ◌∷◌, ◌++◌, ◌&&◌, ◌||◌, ◌==◌}
-use Rattle.std.specs.Prelude.{not}
+use Rattle.std.proofs.Common.{◌≡◌, ℕ, Bool, true, false, refl, ap, sym, subst, ◌∙◌, arith, Option, Some, None, List, [], ◌∷◌, ◌++◌, ◌&&◌, ◌||◌}
 use Rattle.tp_names.specs.declared.identifiers.Aaid.{Aaid}
 use Rattle.tp_names.specs.declared.identifiers.BranchId.{BranchId}
-use Rattle.tp_names.specs.declared.identifiers.Addr.{Addr}
-use Rattle.tp_names.specs.declared.outcome.Outcome.{Outcome}
-use Rattle.tp_names.specs.declared.outcome.Report.{Report}
 use Rattle.tp_names.specs.Same.{is_aaid}
 use Rattle.tp_records.specs.declared.indication.Indication.{Indication}
 use Rattle.tp_records.specs.declared.dialogue.DialogueRecord.{DialogueRecord}
 use Rattle.tp_model.specs.declared.arc.Side.{Side}
 use Rattle.tp_model.specs.declared.transaction.TxEvent.{TxEvent}
 use Rattle.tp_model.specs.declared.transaction.TxOut.{TxOut}
-use Rattle.tp_model.specs.declared.recovery.Kept.{Kept}
-use Rattle.tp_model.specs.declared.recovery.KeptEvent.{KeptEvent}
-use Rattle.tp_model.specs.Parts.{Who, Event, Out, Arc, Root, Branch, Current, Digest}
+use Rattle.tp_model.specs.Parts.{Who, Event, Arc, Root, Branch, Current, Digest}
 use Rattle.tp_model.specs.Dialogues.{is_nil, begun_by, named_holder}
 use Rattle.tp_model.specs.Arcs.{find_arc, with_dialogue}
 use Rattle.tp_model.specs.Transactions.{Row, Transaction, Turn, aaid_of, fresh_branch, transacted}
 use Rattle.tp_model.specs.Recovery.{settled}
-use Rattle.tp_model.specs.Node.{Move, move, followed, perform, next_mark, with_mark_drawn, seen, seen_rows, branches_of, remaining, fresh_current, passage, is_leaving, entered, may_begin_on, begin_on, turned, keep}
+use Rattle.tp_model.specs.Node.{Move, followed, next_mark, seen, seen_rows, branches_of, remaining, fresh_current, passage, is_leaving, entered, may_begin_on, begin_on, turned}
 use Rattle.tp_model.specs.Outcomes.{is_now}
 use Rattle.tp_steps.specs.Turns.{is_outcome_told}
-use Rattle.tp_steps.specs.Moves.{Moves, IsAsked, IsPut, are_spoken}
-use Rattle.tp_steps.specs.Passages.{asks_tell}
+use Rattle.tp_steps.specs.Moves.{Moves, IsAsked, IsPut}
 use Rattle.tp_steps.specs.Trees.{out_tells}
 use Rattle.tp_steps.proofs.links.Told.{told_append, told_performed, told_played}
-use Rattle.tp_steps.proofs.words.Treed.{now_some, tells_none}
+use Rattle.tp_steps.proofs.words.Treed.{tells_none}
 use Rattle.tp_steps.proofs.words.Hushed.{settled_spoken}
 use Rattle.tp_steps.proofs.log.Passed.{passed_turn}
 use Rattle.tp_steps.proofs.log.Sound.{left_is, left_branches}

@@ -1,10 +1,7 @@
 -- Every event of a transaction whose reports have causes leaves one whose reports have causes, and tells no other report.
-use Rattle.std.proofs.Common.{if◌then◌else◌, ◌≡◌, ◌⊎◌, inl, inr, ℕ, Bool, true, false, refl, ap, sym, subst, ◌∙◌, arith, Option, Some, None, List, [], ◌∷◌, ◌++◌, ◌&&◌, ◌||◌, ◌==◌}
+use Rattle.std.proofs.Common.{if◌then◌else◌, ◌≡◌, ◌⊎◌, inl, inr, ℕ, Bool, true, false, refl, ap, sym, subst, ◌∙◌, Option, Some, None, List, [], ◌∷◌, ◌++◌, ◌&&◌, ◌||◌, ◌==◌}
 use Rattle.std.specs.Prelude.{not}
-use Rattle.std.proofs.lemmas.Bool.Decides.{nat_tests}
-use Rattle.tp_names.specs.declared.identifiers.Aaid.{Aaid}
 use Rattle.tp_names.specs.declared.identifiers.BranchId.{BranchId}
-use Rattle.tp_names.specs.declared.identifiers.Addr.{Addr}
 use Rattle.tp_names.specs.declared.outcome.Outcome.{Outcome}
 use Rattle.tp_names.specs.declared.outcome.Report.{Report}
 use Rattle.tp_names.specs.Reports.{join}
@@ -15,13 +12,13 @@ use Rattle.tp_model.specs.declared.transaction.TxEvent.{TxEvent}
 use Rattle.tp_model.specs.declared.transaction.TxOut.{TxOut}
 use Rattle.tp_model.specs.Parts.{Branch}
 use Rattle.tp_model.specs.Dialogues.{is_ready, is_committing, is_rolling}
-use Rattle.tp_model.specs.Transactions.{Row, Transaction, Turn, turn, and_then, before, aaid_of, is_under_at, row_holds, find_row, find_row_by_id, is_open_in_commit, put_row, with_row, with_arc_lost, all_done, all_rolled_back, report_of_branch, reports_of, own_damage, carry_up, forgets, done_up, ends_down, end_up, prepare_each, all_prepared, is_own_commit, complete_commit, complete_rollback, begin_rolling, ask_commit, order, leave, count_branch, end_branch, branch_left, retried, transacted}
-use Rattle.tp_steps.specs.Turns.{Turns, vote, decide, shut_given_up, row_dead, is_outcome_told}
+use Rattle.tp_model.specs.Transactions.{Row, Transaction, Turn, turn, and_then, before, aaid_of, is_under_at, row_holds, find_row, find_row_by_id, is_open_in_commit, put_row, with_row, with_arc_lost, all_done, all_rolled_back, report_of_branch, reports_of, own_damage, carry_up, forgets, done_up, ends_down, end_up, all_prepared, is_own_commit, complete_commit, complete_rollback, begin_rolling, ask_commit, order, leave, count_branch, end_branch, branch_left, transacted}
+use Rattle.tp_steps.specs.Turns.{Turns, vote, decide, shut_given_up, is_outcome_told}
 use Rattle.tp_steps.specs.Moves.{IsPut}
 use Rattle.tp_steps.specs.Passages.{asks_tell}
 use Rattle.tp_steps.proofs.every.EveryTurn.{every_turn}
-use Rattle.tp_steps.proofs.lemmas.Joined.{IsJoined, joined_up, joined_down, joined_prepare, joined_forgets, joined_ends, joined_end_up, joined_done, joined_report, joined_retried, joined_ask, joined_commit, joined_rolls, joined_order, joined_leaves}
-use Rattle.tp_steps.proofs.lemmas.Phases.{tell_append, IsUntold, untold}
+use Rattle.tp_steps.proofs.lemmas.Joined.{joined_up, joined_prepare, joined_forgets, joined_done, joined_report, joined_retried, joined_ask, joined_commit, joined_rolls, joined_order, joined_leaves}
+use Rattle.tp_steps.proofs.lemmas.Phases.{IsUntold, untold}
 use Rattle.tp_steps.proofs.lemmas.Equality.{and_left, and_right, both_true}
 
 -- ---- what is known of a tree

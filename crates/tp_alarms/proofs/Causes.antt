@@ -1,5 +1,5 @@
 -- In every run, a completion that tells a report has its cause at the node, or at a branch that told it.
-use Rattle.std.proofs.Common.{if◌then◌else◌, ◌≡◌, ◌⊎◌, inl, inr, ℕ, Bool, true, false, refl, ap, sym, subst, ◌∙◌, arith, Option, Some, None, List, [], ◌∷◌, ◌&&◌, ◌||◌}
+use Rattle.std.proofs.Common.{if◌then◌else◌, ◌≡◌, ◌⊎◌, inl, inr, ℕ, Bool, true, false, refl, ap, sym, subst, ◌∙◌, Option, Some, None, List, [], ◌∷◌, ◌&&◌, ◌||◌}
 use Rattle.std.specs.Prelude.{not}
 use Rattle.tp_names.specs.declared.identifiers.Aaid.{Aaid}
 use Rattle.tp_names.specs.declared.identifiers.BranchId.{BranchId}
@@ -21,7 +21,7 @@ use Rattle.tp_model.specs.Parts.{Who, Origin, Event, Out, Entry, Arc, Branch, Un
 use Rattle.tp_model.specs.Dialogues.{is_ready, is_committing, is_rolling}
 use Rattle.tp_model.specs.Transactions.{Row, Transaction, aaid_of, node_key, row_holds, find_row, find_row_by_id, is_open_in_commit}
 use Rattle.tp_model.specs.Arrivals.{find_branch_by_id}
-use Rattle.tp_model.specs.Node.{Move, move, seen, seen_row, seen_rows, fresh_current, phase_of, passage, passed, restarted, turned, transact}
+use Rattle.tp_model.specs.Node.{Move, move, seen, seen_row, seen_rows, fresh_current, passage, passed, restarted, turned, transact}
 use Rattle.tp_model.specs.Events.{action, recovered, named_again, recovered_current}
 use Rattle.tp_model.specs.History.{digest, records, with_rec}
 use Rattle.tp_model.specs.Outcomes.{is_now, last_decision, decision}

@@ -1,7 +1,6 @@
 -- What nodes forced, started and took in the runs of the worked examples, and what their users were told.
-use Rattle.std.specs.Prelude.{ℕ, suc, ◌==◌, ◌++◌, Bool, true, false, Option, Some, None, List, [], ◌∷◌, reverse}
+use Rattle.std.specs.Prelude.{ℕ, suc, ◌==◌, ◌++◌, Bool, true, false, Some, None, List, [], ◌∷◌, reverse}
 use Rattle.tp_names.specs.declared.identifiers.NodeKey.{NodeKey}
-use Rattle.tp_names.specs.declared.outcome.Outcome.{Outcome}
 use Rattle.tp_names.specs.declared.outcome.Report.{Report}
 use Rattle.tp_records.specs.declared.peer.PeerRecord.{PeerRecord}
 use Rattle.tp_logrec.specs.declared.record.LogRec.{LogRec}
@@ -19,7 +18,7 @@ use Rattle.tp_forced.specs.Taken.{times_taken}
 use Rattle.tp_outcomes.specs.Starting.{starts, times_in, lines_of}
 use Rattle.tp_alarms.specs.Alarms.{replies}
 use Rattle.tp_alarms.specs.Causes.{tells_committed, tells_rolled_back, has_met, has_heard, has_given_up}
-use Rattle.tp_trials.specs.Trials.{begun, readied, deep_readied, told_unknown, damaged, tree, branch, lower_branch, first_mark, node_after}
+use Rattle.tp_trials.specs.Trials.{begun, deep_readied, told_unknown, damaged, tree, branch, lower_branch, first_mark, node_after}
 
 -- ---- more runs
 
