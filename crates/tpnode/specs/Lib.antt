@@ -2,6 +2,8 @@ pub mod Status
 pub mod Words
 pub mod Written
 pub mod Voters
+pub mod Participants
+pub mod Storing
 pub mod Transcribing
 pub mod Playing
 pub mod Making

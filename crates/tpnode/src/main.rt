@@ -2,7 +2,7 @@
 //! tries them; runs one site on its log over frames of events, or a root's face of one over frames of calls; makes fresh
 //! logs, shows, checks and shortens a log; lists the keys of a store; judges the logs of several sites together.
 //!
-//! In a schedule, member 1 is willing and member 2 unwilling.
+//! In a schedule, member 1 is willing, member 2 unwilling, and member 3 the store of node 2 on `bound.log`.
 #![tactic(auto)]
 
 mod auditing;
@@ -14,11 +14,13 @@ mod listing;
 mod making;
 mod migrating;
 mod output;
+mod participant;
 mod playing;
 mod replay;
 mod serving;
 mod showing;
 mod status;
+mod storing;
 #[cfg(test)]
 mod tests;
 mod top;
@@ -26,21 +28,25 @@ mod transacting;
 mod trial;
 mod voter;
 
+use participant::participants;
 pub use status::Status;
 use std::alloc::{AllocError, Global};
 use std::process::ExitCode;
 use std::{env, io};
+use storing::{open_store, status_of};
 pub use top::run;
-use tp_outside::{FileDisk, StdSink, StdSource};
-use tp_records::{Unwilling, Willing};
+use tp_bound::Bound;
+use tp_outside::{Disk, FileDisk, StdSink, StdSource};
 use tp_words::USAGE;
-use voter::Voter;
 
 /// The log of a site, in the current folder.
 const LOG: &str = "tp.log";
 
 /// The log of a bound store, in the current folder.
 const STORE: &str = "bound.log";
+
+/// The node of the store that is member 3.
+const STORE_NODE: u16 = 2;
 
 // The words after the program's name.
 fn words_given(rt: &HostRuntime) -> io::Result<Vec<String>> {
@@ -67,22 +73,23 @@ fn file_for(words: &[&str]) -> &'static str {
     }
 }
 
-// The members of the program: member 1 is willing, member 2 unwilling.
-fn members(alloc: Global) -> Result<Vec<Voter>, AllocError> {
-    let mut members = Vec::new(alloc);
-    members.push(Voter::Willing(Willing))?;
-    members.push(Voter::Unwilling(Unwilling))?;
-    Ok(members)
+// The store that is member 3, which `replay` alone has, on its disk.
+fn store_for<D: Disk + Drop>(
+    alloc: Global,
+    words: &[&str],
+    disk: D,
+) -> Result<Option<Bound<D>>, Status> {
+    match words.first() {
+        Some(word) if *word == "replay" => match open_store(alloc, disk, STORE_NODE) {
+            Ok(store) => Ok(Some(store)),
+            Err((_, fault)) => Err(status_of(fault)),
+        },
+        _ => Ok(None),
+    }
 }
 
-fn main(rt: HostRuntime) -> io::Result<ExitCode> {
-    let words = words_given(&rt)?;
-    let texts = as_texts(rt.alloc(), &words)?;
-    let mut source = StdSource::new(&rt);
-    let mut sink = StdSink::new(&rt);
-    let disk = FileDisk::new(&rt, file_for(&texts));
-    let members = members(rt.alloc())?;
-    let (status, _disk) = run(rt.alloc(), &texts, &mut source, &mut sink, disk, members);
+// The exit code of a run that ends so, which is said where it is not Ok.
+fn end(rt: &HostRuntime, status: Status) -> io::Result<ExitCode> {
     if status != Status::Ok {
         eprintln!(rt; "tpnode: {status}")?;
     }
@@ -90,4 +97,19 @@ fn main(rt: HostRuntime) -> io::Result<ExitCode> {
         eprint!(rt; "{USAGE}")?;
     }
     Ok(ExitCode::from(status.code()))
+}
+
+fn main(rt: HostRuntime) -> io::Result<ExitCode> {
+    let words = words_given(&rt)?;
+    let texts = as_texts(rt.alloc(), &words)?;
+    let store = match store_for(rt.alloc(), &texts, FileDisk::new(&rt, STORE)) {
+        Ok(store) => store,
+        Err(status) => return end(&rt, status),
+    };
+    let mut source = StdSource::new(&rt);
+    let mut sink = StdSink::new(&rt);
+    let disk = FileDisk::new(&rt, file_for(&texts));
+    let members = participants(rt.alloc(), store)?;
+    let (status, _disk) = run(rt.alloc(), &texts, &mut source, &mut sink, disk, members);
+    end(&rt, status)
 }

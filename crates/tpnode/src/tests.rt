@@ -1,5 +1,6 @@
 //! What no clause says: whole runs, with expected bytes from outside, and the texts of endings.
 use super::*;
+use tp_journal::StartFault;
 use tp_model::{What, Why};
 use tp_names::Octets;
 use tp_outside::{MemDisk, MemSink, MemSource};
@@ -28,7 +29,7 @@ fn ran(alloc: Global, words: &[&str], bytes: &[u8], fails: Fails) -> Option<(Sta
     let mut source = MemSource::new(alloc, bytes, reads);
     let mut sink = MemSink::new(alloc, writes);
     let disk = MemDisk::from(alloc, Octets::new(alloc));
-    let members = members(alloc).ok()?;
+    let members = participants::<MemDisk>(alloc, None).ok()?;
     let (status, _disk) = run(alloc, words, &mut source, &mut sink, disk, members);
     Some((status, sink))
 }
@@ -54,7 +55,7 @@ fn formatted(alloc: Global, fails: &[u8]) -> Option<(Status, MemDisk)> {
         octets(alloc, b"what stood there")?,
         octets(alloc, fails)?,
     );
-    let members = members(alloc).ok()?;
+    let members = participants::<MemDisk>(alloc, None).ok()?;
     Some(run(alloc, &["format"], &mut source, &mut sink, disk, members))
 }
 
@@ -127,7 +128,7 @@ fn on_disk(alloc: Global, command: &str, bytes: &[u8]) -> Option<(Status, MemSin
     let mut source = MemSource::new(alloc, Octets::new(alloc), Octets::new(alloc));
     let mut sink = MemSink::new(alloc, Octets::new(alloc));
     let disk = MemDisk::from(alloc, octets(alloc, bytes)?);
-    let members = members(alloc).ok()?;
+    let members = participants::<MemDisk>(alloc, None).ok()?;
     let (status, disk) = run(alloc, &[command], &mut source, &mut sink, disk, members);
     Some((status, sink, disk))
 }
@@ -253,6 +254,53 @@ fn after_one_piece(alloc: Global) -> Option<Status> {
 fn a_write_fault_comes_after_what_was_written(rt: HostRuntime) {
     let status = after_one_piece(rt.alloc());
     assert!(rt; matches!(status, Some(Status::WriteFault { faults: 1 })));
+}
+
+// Node 1 gives node 2 a write, or what is none, and asks for commitment; member 3 drives node 2.
+const GIVES_A_WRITE: &str =
+    "node 1 a\nnode 2 b under 1\nauto 2 3\ndo 1 begin-dialogue 2 scu\ndrain\ndrain\ndo 1 begin-transaction 2\ndo 1 data 2 01016b000176\ndo 1 commit\ndrain\ndrain\ndo 1 done\ndrain\n";
+
+const GIVES_NO_WRITE: &str =
+    "node 1 a\nnode 2 b under 1\nauto 2 3\ndo 1 begin-dialogue 2 scu\ndrain\ndrain\ndo 1 begin-transaction 2\ndo 1 data 2 ff\ndo 1 commit\ndrain\ndrain\ndo 1 done\ndrain\n";
+
+// What a replay writes where member 3 is a store of node 2 whose disk was empty.
+fn with_store(alloc: Global, schedule: &str) -> Option<(Status, MemSink)> {
+    let disk = MemDisk::from(alloc, Octets::new(alloc));
+    let Ok(store) = open_store(alloc, disk, STORE_NODE) else {
+        return None;
+    };
+    let members = participants(alloc, Some(store)).ok()?;
+    let bytes = octets(alloc, schedule.as_bytes())?;
+    let mut source = MemSource::new(alloc, bytes, Octets::new(alloc));
+    let mut sink = MemSink::new(alloc, Octets::new(alloc));
+    let disk = MemDisk::from(alloc, Octets::new(alloc));
+    let (status, _disk) = run(alloc, &["replay"], &mut source, &mut sink, disk, members);
+    Some((status, sink))
+}
+
+#[test]
+fn a_store_drives_a_node(rt: HostRuntime) {
+    let (status, sink) = with_store(rt.alloc(), GIVES_A_WRITE).expect(&rt, "in memory");
+    assert!(rt; status == Status::Ok && sink.bytes().ends_with(b"tree a.1.1.2 agreed commit\n"));
+    let (status, sink) = with_store(rt.alloc(), GIVES_NO_WRITE).expect(&rt, "in memory");
+    assert!(rt; status == Status::Ok && sink.bytes().ends_with(b"tree a.1.1.2 agreed rollback\n"));
+}
+
+// A store is not opened on a disk that has no log, nor on one that fails.
+fn not_opened(alloc: Global, bytes: &[u8], fails: &[u8]) -> Option<StartFault> {
+    let disk = MemDisk::failing(alloc, octets(alloc, bytes)?, octets(alloc, fails)?);
+    match open_store(alloc, disk, STORE_NODE) {
+        Ok(_) => None,
+        Err((_, fault)) => Some(fault),
+    }
+}
+
+#[test]
+fn a_store_is_not_opened(rt: HostRuntime) {
+    let fault = not_opened(rt.alloc(), b"no log", &[]);
+    assert!(rt; fault == Some(StartFault::Foreign { at: 0 }));
+    let fault = not_opened(rt.alloc(), b"", &[1]);
+    assert!(rt; fault == Some(StartFault::DiskFault { faults: 1 }));
 }
 
 fn is_shown_as(alloc: Global, status: Status, text: &str) -> bool {
