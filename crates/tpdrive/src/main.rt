@@ -6,7 +6,7 @@ use std::process::ExitCode;
 use std::{env, io};
 use tp_drive::OpenGate;
 use tp_drive_tool::{Status, run_drive};
-use tp_outside::{FileDisk, StdSink, StdSource};
+use tp_outside::{FileDisk, HeldStreams, StdSink, StdSource};
 use tp_words::DRIVE_USAGE;
 
 /// The log of the site, in the current folder.
@@ -29,18 +29,38 @@ fn as_texts(alloc: Global, words: &[String]) -> Result<Vec<&str>, AllocError> {
     Ok(texts)
 }
 
-// Tells how a run ended that did not end well.
-fn tell(rt: &HostRuntime, status: &Status) -> io::Result<()> {
-    match status {
-        Status::Ok => Ok(()),
-        Status::Usage => eprint!(rt; "tpdrive: {status}\n{DRIVE_USAGE}"),
-        _ => eprintln!(rt; "tpdrive: {status}"),
+// How a run ends that has no words: they are no text, or memory is wanting for them.
+fn wordless(fault: &io::Error) -> Status {
+    match fault.kind() {
+        io::ErrorKind::InvalidData => Status::Usage,
+        _ => Status::NoMemory,
     }
 }
 
+// The exit code of a run that ends so, which is said where it is not Ok.
+fn end(rt: &HostRuntime, status: &Status) -> io::Result<ExitCode> {
+    match status {
+        Status::Ok => {}
+        Status::Usage => eprint!(rt; "tpdrive: {status}\n{DRIVE_USAGE}")?,
+        _ => eprintln!(rt; "tpdrive: {status}")?,
+    }
+    Ok(ExitCode::from(status.code()))
+}
+
 fn main(rt: HostRuntime) -> io::Result<ExitCode> {
-    let words = words_given(&rt)?;
-    let texts = as_texts(rt.alloc(), &words)?;
+    // (to the end: a log that is opened meanwhile has no stream's number)
+    let _streams = match HeldStreams::hold(&rt) {
+        Ok(streams) => streams,
+        Err(_) => return end(&rt, &Status::DiskFault { faults: 1 }),
+    };
+    let words = match words_given(&rt) {
+        Ok(words) => words,
+        Err(fault) => return end(&rt, &wordless(&fault)),
+    };
+    let texts = match as_texts(rt.alloc(), &words) {
+        Ok(texts) => texts,
+        Err(AllocError) => return end(&rt, &Status::NoMemory),
+    };
     let mut source = StdSource::new(&rt);
     let mut sink = StdSink::new(&rt);
     let disk = FileDisk::new(&rt, LOG);
@@ -53,6 +73,5 @@ fn main(rt: HostRuntime) -> io::Result<ExitCode> {
         disk,
         &OpenGate,
     );
-    tell(&rt, &status)?;
-    Ok(ExitCode::from(status.code()))
+    end(&rt, &status)
 }
