@@ -36,7 +36,7 @@ use std::{env, io};
 use storing::{open_store, status_of};
 pub use top::run;
 use tp_bound::Bound;
-use tp_outside::{Disk, FileDisk, StdSink, StdSource};
+use tp_outside::{Disk, FileDisk, HeldStreams, StdSink, StdSource};
 use tp_words::USAGE;
 
 /// The log of a site, in the current folder.
@@ -99,17 +99,38 @@ fn end(rt: &HostRuntime, status: Status) -> io::Result<ExitCode> {
     Ok(ExitCode::from(status.code()))
 }
 
-fn main(rt: HostRuntime) -> io::Result<ExitCode> {
-    let words = words_given(&rt)?;
+// How a run ends that has no words: they are no text, or memory is wanting for them.
+fn wordless(fault: &io::Error) -> Status {
+    match fault.kind() {
+        io::ErrorKind::InvalidData => Status::Usage,
+        _ => Status::NoMemory,
+    }
+}
+
+fn run_words(rt: &HostRuntime) -> io::Result<Status> {
+    let words = words_given(rt)?;
     let texts = as_texts(rt.alloc(), &words)?;
-    let store = match store_for(rt.alloc(), &texts, FileDisk::new(&rt, STORE)) {
+    let store = match store_for(rt.alloc(), &texts, FileDisk::new(rt, STORE)) {
         Ok(store) => store,
-        Err(status) => return end(&rt, status),
+        Err(status) => return Ok(status),
     };
-    let mut source = StdSource::new(&rt);
-    let mut sink = StdSink::new(&rt);
-    let disk = FileDisk::new(&rt, file_for(&texts));
+    let mut source = StdSource::new(rt);
+    let mut sink = StdSink::new(rt);
+    let disk = FileDisk::new(rt, file_for(&texts));
     let members = participants(rt.alloc(), store)?;
     let (status, _disk) = run(rt.alloc(), &texts, &mut source, &mut sink, disk, members);
+    Ok(status)
+}
+
+fn main(rt: HostRuntime) -> io::Result<ExitCode> {
+    // (to the end: a log that is opened meanwhile has no stream's number)
+    let streams = HeldStreams::hold(&rt);
+    let status = match &streams {
+        Ok(_) => match run_words(&rt) {
+            Ok(status) => status,
+            Err(fault) => wordless(&fault),
+        },
+        Err(_) => Status::DiskFault { faults: 1 },
+    };
     end(&rt, status)
 }
