@@ -32,8 +32,7 @@ class Failing(stops.Stops):
     def __init__(self, options, folder):
         stops.Stops.__init__(self, options, folder)
         self.counts = dict.fromkeys(["runs", "failing calls", "failing wishes for memory", "wishes that nobody misses",
-                                     "wishes of the command line, status 1", "short runs", "restarts", "closed streams", "words",
-                                     "words that are no text, status 1"], 0)
+                                     "short runs", "restarts", "closed streams", "words"], 0)
         self.most = 12 if options.short else 400
 
     def traced(self, case, **how):
@@ -98,10 +97,6 @@ class Failing(stops.Stops):
             # What wished for that memory does without it.
             self.counts["wishes that nobody misses"] += 1
             return
-        if kind == "malloc" and (run.returncode, run.stdout, seen) == (1, b"", [call for call in seen if call[0] == "malloc"]):
-            # While the words of the command line are read the program does not know yet how to say that there is no memory.
-            self.counts["wishes of the command line, status 1"] += 1
-            return
         said = run.stderr.rstrip(b"\n").rsplit(b": ", 1)[-1]
         if (run.returncode, said) != (status, text):
             self.fault(case, where + "status %d, %r" % (run.returncode, run.stderr))
@@ -151,9 +146,7 @@ class Failing(stops.Stops):
                               (["format", "more"], 2), (["--help"], 2), ([b"\xff"], 2), (["node", "--name", b"\xff"], 2)):
             run = subprocess.run(self.program + words, cwd=self.folder, stdin=subprocess.DEVNULL, capture_output=True)
             self.counts["words"] += 1
-            if run.returncode != status and b"\xff" in words and run.returncode == 1:
-                self.counts["words that are no text, status 1"] += 1
-            elif run.returncode != status:
+            if run.returncode != status:
                 self.fault(stops.Case("words", words, b"", 0), "%s end with %d" % (words, run.returncode))
 
     def shorten(self, case, seed, whole, image):
