@@ -1,10 +1,14 @@
 #!/usr/bin/env python3
 """How long `tpnode audit` takes for the log of one site with so many records, each transaction a Ready and an End with rollback:
 bench/audit.py TPNODE [RECORDS ..]"""
+import os
 import resource
 import struct
 import subprocess
 import sys
+
+sys.path.insert(0, os.path.dirname(os.path.abspath(__file__)))
+import table
 
 NAME_A, NAME_B = b"\x01a", b"\x01b"
 
@@ -31,13 +35,15 @@ def frames_of(log):
     return frame(b"\x40" + NAME_B) + b"".join(frame(b"\x41" + frame(it)) for it in pieces)
 
 
-def main(program, counts):
+def rows(program, counts):
     for records in map(int, counts or ["250000", "500000", "1000000"]):
         before = resource.getrusage(resource.RUSAGE_CHILDREN).ru_utime
         ran = subprocess.run([program, "audit"], input=frames_of(log_of(records)), capture_output=True, check=True)
         used = resource.getrusage(resource.RUSAGE_CHILDREN)
-        print(f"{records} records: {used.ru_utime - before:.2f} s, at most {used.ru_maxrss // 1024} MB, {ran.stdout.decode().split()[0]}")
+        if ran.stdout.split()[0] != b"yes":
+            sys.exit(f"{records}: the audit says {ran.stdout.decode()}")
+        yield f"`audit` of a log of {records:,} records", "processor s", used.ru_utime - before, None, None
 
 
 if __name__ == "__main__":
-    main(sys.argv[1], sys.argv[2:])
+    table.show(rows(sys.argv[1], sys.argv[2:]))

@@ -20,6 +20,9 @@ import sys
 import tempfile
 import time
 
+sys.path.insert(0, os.path.dirname(os.path.abspath(__file__)))
+import table
+
 ROOT = pathlib.Path(__file__).resolve().parent.parent
 NODE = os.environ.get("TPNODE", str(ROOT / "crates" / "tpnode" / "out" / "tpnode"))
 DRIVE = os.environ.get("TPDRIVE", str(ROOT / "crates" / "tpdrive" / "out" / "tpdrive"))
@@ -98,9 +101,8 @@ def seconds(words, given, where):
     return time.monotonic() - start, ended.stdout
 
 
-def main():
-    folder = pathlib.Path(sys.argv[1] if len(sys.argv) > 1 else ".").resolve()
-    nodes, transactions, rounds = (int(sys.argv[k]) if len(sys.argv) > k else d for k, d in ((2, 16), (3, 20), (4, 5)))
+def rows(folder=".", nodes=16, transactions=20, rounds=5, on="a real file"):
+    folder, nodes, transactions, rounds = pathlib.Path(folder).resolve(), int(nodes), int(transactions), int(rounds)
     lists = [frames(2 + n, transactions) for n in range(nodes)]
     given = b"".join(b"".join(turn) for turn in zip(*lists))
     events, records = sum(map(len, lists)), 3 * nodes * transactions
@@ -125,10 +127,12 @@ def main():
                     outputs.add(written)
             if len(outputs) != 1:
                 sys.exit("the outputs differ")
-    print(f"{events} events, {records} records")
-    for name in runs:
-        took = statistics.median(times[name])
-        print(f"{name + ':':20} {events / took:9.0f} events a second, {records / took:7.0f} records a second")
+    took = {name: statistics.median(times[name]) for name in runs}
+    for workers in (1, 2, 4):
+        yield f"`tpdrive` with {workers} workers on {on}", "events a second", events / took[f"drive, {workers} workers"], events / took["node"], "`tpnode node`"
+    for group in (4, 16) if on == "a real file" else ():
+        yield f"a C loop, {group} records with a pair of syncs", "records a second", records / took[f"C loop, {group} a sync"], records / took["C loop, 1 a sync"], "one record"
 
 
-main()
+if __name__ == "__main__":
+    table.show(rows(*sys.argv[1:]))

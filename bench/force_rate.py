@@ -19,6 +19,9 @@ import sys
 import tempfile
 import time
 
+sys.path.insert(0, os.path.dirname(os.path.abspath(__file__)))
+import table
+
 ROOT = pathlib.Path(__file__).resolve().parent.parent
 CRATES = ["tp_names", "tp_outside", "tp_logrec", "tp_journal"]
 
@@ -120,10 +123,8 @@ def seconds(program, where):
     return time.monotonic() - start
 
 
-def main():
-    where = pathlib.Path(sys.argv[1] if len(sys.argv) > 1 else ".").resolve()
-    records = int(sys.argv[2]) if len(sys.argv) > 2 else 200
-    rounds = int(sys.argv[3]) if len(sys.argv) > 3 else 20
+def rows(folder=".", records=200, rounds=20):
+    where, records, rounds = pathlib.Path(folder).resolve(), int(records), int(rounds)
     with tempfile.TemporaryDirectory() as temporary:
         journal, loop = build(pathlib.Path(temporary), records)
         times = {"journal": [], "loop": []}
@@ -136,9 +137,8 @@ def main():
         os.remove(where / "force_rate.journal")
         os.remove(where / "force_rate.loop")
     journal_rate, loop_rate = (records / statistics.median(times[name]) for name in ("journal", "loop"))
-    print(f"journal: {journal_rate:.0f} records a second")
-    print(f"C loop:  {loop_rate:.0f} records a second")
-    print(f"ratio:   {journal_rate / loop_rate:.2f}")
+    yield "a journal alone on a real file", "records forced in a second", journal_rate, loop_rate, "C with the same writes and syncs"
 
 
-main()
+if __name__ == "__main__":
+    table.show(rows(*sys.argv[1:]))

@@ -18,6 +18,9 @@ one), refused (five refused requests a round), passstuck (a frame that stays bes
 is `tpnode trial` itself, which makes its schedule of so many nodes and rounds."""
 import os, resource, subprocess, sys, tempfile
 
+sys.path.insert(0, os.path.dirname(os.path.abspath(__file__)))
+import table
+
 TABLE = [("pair", 2, 5000), ("chain", 256, 10), ("star", 256, 10), ("kept", 2, 2000), ("passstuck", 3, 10000), ("trial", 256, 10)]
 UNITS = {"data": "s", "stardata": "s", "passstuck": "s"}
 STARS = ("star", "starburst", "stardata", "passstuck")
@@ -120,7 +123,18 @@ def written(command, file):
         return subprocess.run(command, stdin=given, stdout=subprocess.PIPE).stdout
 
 
+def named(shape, nodes, rounds):
+    names = {
+        "pair": f"`replay` of {rounds} transactions of two nodes",
+        "kept": f"`replay` of {rounds} transactions that each leave a kept one",
+        "passstuck": f"`replay` of {rounds} frames passed beside one that waits",
+        "trial": f"`trial` of {nodes} nodes and {rounds} rounds",
+    }
+    return names.get(shape, f"`replay` of {rounds} rounds of a {shape} of {nodes} nodes")
+
+
 def measure(program, peer, shape, nodes, rounds):
+    """The rows of one schedule."""
     is_trial = shape == "trial"
     ours = [program, *(["trial", "--nodes", str(nodes), "--rounds", str(rounds)] if is_trial else ["replay"])]
     theirs = [peer, *(["trial", "1", str(nodes), str(rounds)] if is_trial else ["replay"])] if peer else None
@@ -134,10 +148,8 @@ def measure(program, peer, shape, nodes, rounds):
         # (in turns, since other work on the machine disturbs both)
         runs = [[once(it, file.name) for it in commands] for _ in range(5)]
     figures = [[count and count / 1e6, min(run[i][0] for run in runs) * 1e3, min(run[i][1] for run in runs)] for i, count in enumerate(counts)]
-    cells = []
-    for mine, *other in zip(*figures):
-        cells.append("-" if mine is None else f"{mine:.1f}" + (f" / {other[0]:.1f} = {mine / other[0]:.1f}" if other else ""))
-    print(f"| {shape} {nodes} {rounds} | " + " | ".join(cells) + " |", flush=True)
+    for unit, (mine, *other) in zip(("millions of instructions", "processor ms", "MB"), zip(*figures)):
+        yield named(shape, nodes, rounds), unit, mine, *((other[0], "plain Rust") if other else (None, None))
 
 
 def main(words):
@@ -148,13 +160,10 @@ def main(words):
     program = os.environ.get("TPNODE", f"{top}/crates/tpnode/out/tpnode")
     if not os.path.isfile(program):
         sys.exit(f"{program} is not built: `rt run` in crates/tpnode, or name a binary in TPNODE")
-    table = [(words[0], int(words[1]), int(words[2]))] if len(words) == 3 else TABLE
+    asked = [(words[0], int(words[1]), int(words[2]))] if len(words) == 3 else TABLE
     with tempfile.TemporaryDirectory() as room:
         peer = built(top, room)
-        print("| Schedule | " + " | ".join(f"{it}, ours{' / plain Rust = ratio' if peer else ''}" for it in ("Instructions in millions", "Processor time in ms", "Peak memory in MB")) + " |")
-        print("|---|---|---|---|", flush=True)
-        for shape, nodes, rounds in table:
-            measure(program, peer, shape, nodes, rounds)
+        table.show(row for it in asked for row in measure(program, peer, *it))
 
 
 if __name__ == "__main__":

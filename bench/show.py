@@ -12,17 +12,14 @@ import tempfile
 sys.path.insert(0, os.path.dirname(os.path.abspath(__file__)))
 import audit
 import replay
+import table
 
 
-def main(words):
-    top = os.path.dirname(os.path.dirname(os.path.abspath(__file__)))
-    program = os.environ.get("TPNODE", f"{top}/crates/tpnode/out/tpnode")
+def rows(program, peer, counts):
+    there = os.getcwd()
     with tempfile.TemporaryDirectory() as room:
-        peer = replay.built(top, room)
         os.chdir(room)
-        print("| Records | Bytes | Processor time in s, ours / plain Rust = ratio | Peak memory in MB |")
-        print("|---|---|---|---|")
-        for records in [int(word) for word in words] or [250_000, 500_000, 1_000_000]:
+        for records in counts or [500_000, 1_000_000]:
             with open("tp.log", "wb") as file:
                 file.write(audit.log_of(records))
             commands = [[it, "show"] for it in (program, peer) if it]
@@ -30,11 +27,16 @@ def main(words):
                 sys.exit(f"{records}: the two programs write different bytes")
             runs = [[replay.once(it, os.devnull) for it in commands] for _ in range(5)]
             figures = [(min(run[i][0] for run in runs), min(run[i][1] for run in runs)) for i in range(len(commands))]
-            cells = [
-                f"{mine:.2f}" + (f" / {other[0]:.2f} = {mine / other[0]:.1f}" if other else "")
-                for mine, *other in zip(*figures)
-            ]
-            print(f"| {records} | {os.path.getsize('tp.log')} | " + " | ".join(cells) + " |", flush=True)
+            for unit, (mine, *other) in zip(("processor s", "MB"), zip(*figures)):
+                yield f"`show` of {records:,} records", unit, mine, *((other[0], "plain Rust") if other else (None, None))
+        os.chdir(there)
+
+
+def main(words):
+    top = os.path.dirname(os.path.dirname(os.path.abspath(__file__)))
+    program = os.environ.get("TPNODE", f"{top}/crates/tpnode/out/tpnode")
+    with tempfile.TemporaryDirectory() as room:
+        table.show(rows(program, replay.built(top, room), [int(word) for word in words]))
 
 
 if __name__ == "__main__":

@@ -2,7 +2,7 @@
 """How fast records are decoded and encoded, beside `memcpy` of the same bytes.
 
 Builds a static library of `tp_records` and a C program over it in a temporary folder, and runs it. The program goes
-through the texts below, one behind the other, until it has decoded and encoded again a million bodies (events and
+through the texts below, one after the other, until it has decoded and encoded again a million bodies (events and
 outputs of every kind) and a million peer records. For each sort it prints the records and the bytes in a second, what
 `memcpy` copies of the same bytes in a second, text by text and into the same kind of buffer, and the ratio of the two.
 
@@ -10,7 +10,7 @@ What is decoded is dropped after it was encoded, and the buffer is used again: s
 memory that a record with octets takes, and of writing, and none of a file or a connection. It is time of the processor,
 so that other programs do not count. What comes out is as long as what went in, or the program says so and fails.
 
-Run it as `bench/records [RECORDS]` from anywhere; it wants `rt` and `clang`. Only a proved library is built: where
+Run it as `bench/records.py [RECORDS]` from anywhere; it wants `rt` and `clang`. Only a proved library is built: where
 `rt check` was not run in the crates before, that takes minutes. It is no part of the gate.
 """
 import os
@@ -19,6 +19,9 @@ import shutil
 import subprocess
 import sys
 import tempfile
+
+sys.path.insert(0, os.path.dirname(os.path.abspath(__file__)))
+import table
 
 TOP = os.path.dirname(os.path.dirname(os.path.abspath(__file__)))
 BELOW = ["tp_names", "tp_units", "tp_records"]
@@ -169,10 +172,7 @@ static int sort(const char *name, uint64_t (*run)(const uint8_t *, size_t, uint6
         printf("%s: %llu bytes came out of %llu\n", name, (unsigned long long)coded, (unsigned long long)copied);
         return 1;
     }
-    printf("%s: %llu records of %zu kinds of text, %.1f bytes each\n", name, (unsigned long long)records, count, (double)copied / records);
-    printf("  decoded and encoded: %.0f records, %.1f MB in a second\n", records / (b - a), coded / (b - a) / 1e6);
-    printf("  memcpy:              %.0f records, %.1f MB in a second\n", records / (c - b), copied / (c - b) / 1e6);
-    printf("  ratio: memcpy is %.1f times as fast\n", (b - a) / (c - b));
+    printf("%.0f %.0f\n", records / (b - a), records / (c - b));
     return 0;
 }
 
@@ -203,8 +203,7 @@ def heap():
     return f"{kit}/c/liblibc_c.a"
 
 
-def main():
-    records = sys.argv[1] if len(sys.argv) > 1 else "1000000"
+def rows(records="1000000"):
     with open(f"{TOP}/crates.txt") as file:
         lines = [line for line in file if re.match(rf"({'|'.join(BELOW)}):", line)]
     with tempfile.TemporaryDirectory() as folder:
@@ -219,8 +218,13 @@ def main():
         write(f"{folder}/main.c", PROGRAM)
         library = f"{folder}/crates/records_c/out/librecords_c.a"
         subprocess.run(["clang", "-O2", "-o", f"{folder}/main", f"{folder}/main.c", library, heap()], check=True)
-        sys.exit(subprocess.run([f"{folder}/main", records]).returncode)
+        ran = subprocess.run([f"{folder}/main", records], capture_output=True, text=True)
+        if ran.returncode:
+            sys.exit(ran.stdout)
+        for sort, line in zip(("bodies", "peer records"), ran.stdout.splitlines()):
+            ours, theirs = map(float, line.split())
+            yield f"{sort} decoded and encoded", "a second", ours, theirs, "`memcpy` of their bytes"
 
 
 if __name__ == "__main__":
-    main()
+    table.show(rows(*sys.argv[1:]))

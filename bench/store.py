@@ -9,7 +9,7 @@ the store, and of the library's map with the same keys and values.
 The disk is one in memory, so the time is that of reading and of the map, and none of a file. What is found is counted, and
 the program fails where a key is missing.
 
-Run it as `bench/store [KEYS ..]` from anywhere; it wants `rt` and `clang`. Only a proved library is built: where `rt check`
+Run it as `bench/store.py [KEYS ..]` from anywhere; it wants `rt` and `clang`. Only a proved library is built: where `rt check`
 was not run in the crates before, that takes minutes. It is no part of the gate.
 """
 import os
@@ -20,6 +20,9 @@ import struct
 import subprocess
 import sys
 import tempfile
+
+sys.path.insert(0, os.path.dirname(os.path.abspath(__file__)))
+import table
 
 TOP = os.path.dirname(os.path.dirname(os.path.abspath(__file__)))
 BELOW = ["tp_names", "tp_outside", "tp_units", "tp_records", "tp_logrec", "tp_journal", "tp_bound"]
@@ -135,8 +138,7 @@ int main(int argc, char **argv) {
     double open = taken(bench_store, log, len, keys, all, 0);
     double store = (taken(bench_store, log, len, keys, all, 3) - taken(bench_store, log, len, keys, all, 0)) / 3;
     double map = (taken(bench_map, log, len, keys, all, 3) - taken(bench_map, log, len, keys, all, 0)) / 3;
-    printf("%zu keys, a log of %.1f MB: opened in %.2f s; each key found in %.2f s, by the map alone in %.2f s\n",
-           all / 10, len / 1e6, open, store, map);
+    printf("%.3f %.3f %.3f\n", open, store, map);
     return 0;
 }
 """
@@ -168,8 +170,8 @@ def heap():
     return f"{kit}/c/liblibc_c.a"
 
 
-def main():
-    counts = [int(word) for word in sys.argv[1:]] or [250_000, 500_000, 1_000_000]
+def rows(*counts):
+    counts = [int(word) for word in counts] or [250_000, 500_000, 1_000_000]
     with open(f"{TOP}/crates.txt") as file:
         lines = [line for line in file if re.match(rf"({'|'.join(BELOW)}):", line)]
     with tempfile.TemporaryDirectory() as folder:
@@ -189,8 +191,11 @@ def main():
             write(f"{folder}/log", log_of(keys))
             random.Random(2).shuffle(keys)
             write(f"{folder}/keys", b"".join(keys))
-            subprocess.run([f"{folder}/main", f"{folder}/log", f"{folder}/keys"], check=True)
+            ran = subprocess.run([f"{folder}/main", f"{folder}/log", f"{folder}/keys"], check=True, capture_output=True)
+            opened, by_store, by_map = map(float, ran.stdout.split())
+            yield f"a bound store of {count:,} keys opened", "processor s", opened, None, None
+            yield "each of its keys found once", "processor s", by_store, by_map, "the library's map"
 
 
 if __name__ == "__main__":
-    main()
+    table.show(rows(*sys.argv[1:]))

@@ -1,10 +1,10 @@
 #!/usr/bin/env python3
 """How fast a schedule is cut into lines and read, beside `wc -l` of the same bytes.
 
-Usage: bench/lines [ROUNDS]
+Usage: bench/lines.py [ROUNDS]
 
 A program over `tp_schedule` reads a mebibyte of schedule from standard input (the lines of the worked examples, one
-behind the other) with `Lines`, and reads each line with `read_line`; `wc -l` counts the lines of the same file. Both are
+after the other) with `Lines`, and reads each line with `read_line`; `wc -l` counts the lines of the same file. Both are
 started anew in each of the rounds (default 40), which take turns; what is printed is the median of each in bytes a
 second, with the start of the process in it, and beside them the time of a program that reads nothing. The counts of lines
 are compared. It wants `rt`; where `rt check` was not run in the crates before, the first run takes minutes. It is no part
@@ -17,6 +17,9 @@ import subprocess
 import sys
 import tempfile
 import time
+
+sys.path.insert(0, str(pathlib.Path(__file__).resolve().parent))
+import table
 
 ROOT = pathlib.Path(__file__).resolve().parent.parent
 MOST = 1048576
@@ -126,8 +129,8 @@ def run(words, path):
         return time.monotonic() - start, (done.stdout.split() or [b""])[0]
 
 
-def main():
-    rounds = int(sys.argv[1]) if len(sys.argv) > 1 else 40
+def rows(rounds=40):
+    rounds = int(rounds)
     with tempfile.TemporaryDirectory() as temporary:
         folder = pathlib.Path(temporary)
         program = build(folder)
@@ -143,11 +146,9 @@ def main():
             times["nothing"].append(run(["true"], path)[0])
             if lines != counted:
                 sys.exit(f"{lines} lines, and wc counts {counted}")
-    print(f"{size} bytes, {int(counted)} lines")
-    for name, took in times.items():
-        middle = statistics.median(took)
-        rate = "" if name == "nothing" else f"{size / middle / 1e6:8.0f} MB a second"
-        print(f"{name + ':':22}{middle * 1000:8.2f} ms{rate}")
+    ours, theirs = (statistics.median(times[name]) * 1000 for name in ("Lines and read_line", "wc -l"))
+    yield f"a schedule of {size:,} bytes cut into {int(counted):,} lines and read", "ms, a process each", ours, theirs, "`wc -l`"
 
 
-main()
+if __name__ == "__main__":
+    table.show(rows(*sys.argv[1:]))
