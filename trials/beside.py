@@ -87,8 +87,8 @@ class Calm(cluster.Cluster):
         self.counts["carried"] += 1
         self.addresses[target].site.give(wire.arrive(sender, target, record))
 
-    def ended(self, node, outcome):
-        cluster.Cluster.ended(self, node, outcome)
+    def ended(self, node, outcome, report=cluster.NONE):
+        cluster.Cluster.ended(self, node, outcome, report)
         if node.kind == "root" and not self.quiet:
             self.begin(node.tree)
 
@@ -194,7 +194,7 @@ def main():
     tools.set_program(options)
     options.transfers = options.transfers or (200 if options.short else 2000)
     rounds = options.rounds or (1 if options.short else 5)
-    options.compact, options.heuristic, options.record, options.kill_rate, options.slow = False, False, None, 0, 5
+    options.compact, options.heuristic, options.tx, options.record, options.kill_rate, options.slow = False, False, False, None, 0, 5
     if not os.path.isdir("/usr/lib/postgresql"):
         print("beside: not run, PostgreSQL is not installed")
         return

@@ -1,6 +1,6 @@
 """Money is moved between stores by transactions over real processes that are killed.
 
-trials/run cluster [--program CMD] [--short] [--transfers N] [--sites N] [--seed N] [--wrong | --right] [--compact] ..
+trials/run cluster [--program CMD] [--short] [--transfers N] [--sites N] [--seed N] [--wrong | --right] [--compact] [--tx] ..
 
 Each site is a process `node` with a folder and a `tp.log` of its own. The sites speak through relays in this script, which
 delay, repeat, reorder and drop what they carry, and lose associations, by a seed. Several trees stand over the sites, each
@@ -13,7 +13,7 @@ Such a run must end with faults, or the trial shows nothing (--wrong does this a
 
 With --compact a log is compacted before every third start, at times by a process that is killed too. With --heuristic ready nodes
 decide by themselves at times, committing ones give branches up, and kept transactions are purged: then a commitment may be complete
-with a report, and all else is judged as before.
+with a report, and all else is judged as before. With --tx the first site is a process `tx`: the user of its node 1 calls the face.
 """
 import argparse
 import heapq
@@ -35,11 +35,15 @@ UNITS = [0x29, 0x29, 0x2A, 0x2D, 0x2E]  # commit and unchained: shared or polari
 START = 1000  # what each account has at first
 NONE = b"\x00"
 RETRY = 0.15  # seconds from one retry to the next
+CALLS = {wire.BEGIN_TRANSACTION: 0x20, wire.COMMIT: 0x21, wire.ROLLBACK: 0x22, wire.DONE: 0x23}
+CODES = {(outcome, report): 1 + 3 * k + report for k, outcome in enumerate(("commit", "rollback")) for report in range(3)}
+PROTOCOL = 0x100  # a call at the wrong stand, beside the numbers of refusal
 
 
 class Node:
     def __init__(self, number, site, superior, tree, kind):
         self.number, self.site, self.superior, self.tree, self.kind = number, site, superior, tree, kind
+        self.face = site.face and number == 1
         self.children = []
         self.address = wire.address(site.name, number)
         self.store = None
@@ -91,11 +95,13 @@ class Tree:
         number = lambda: cluster.new_number()
         self.root = Node(number(), take(0), None, self, "root")
         between = [Node(number(), take(1), self.root, self, "between")]
+        # A face begins on one branch.
+        tops = [between[0]] if self.root.face else [self.root]
         if draw.random() < 0.5:
-            between.append(Node(number(), take(2), draw.choice([self.root, between[0]]), self, "between"))
+            between.append(Node(number(), take(2), draw.choice(tops + [between[0]]), self, "between"))
         self.leaves = []
         for k in range(draw.randint(2, 4)):
-            above = self.root if k == 0 and draw.random() < 0.5 else draw.choice(between)
+            above = draw.choice(tops) if k == 0 and draw.random() < 0.5 else draw.choice(between)
             leaf = Node(number(), take(2 + k), above, self, "leaf")
             os.makedirs(os.path.join(leaf.site.folder, "store-%d" % leaf.number))
             leaf.store = bank.Store(os.path.join(leaf.site.folder, "store-%d" % leaf.number, "bound.log"))
@@ -107,6 +113,7 @@ class Tree:
 class Site:
     def __init__(self, name, cluster, folder):
         self.name, self.cluster, self.folder = name, cluster, folder
+        self.face = cluster.with_face and not cluster.sites
         self.ready = False  # it has answered since its start
         self.nodes, self.process, self.up, self.starts, self.refused = [], None, False, 0, None
         os.makedirs(folder)
@@ -116,13 +123,13 @@ class Site:
     def start(self):
         self.errors = open(os.path.join(self.folder, "errors"), "ab")
         self.process = subprocess.Popen(
-            self.cluster.program + ["node", "--name", self.name], cwd=self.folder, bufsize=0,
+            self.cluster.program + ["tx" if self.face else "node", "--name", self.name], cwd=self.folder, bufsize=0,
             stdin=subprocess.PIPE, stdout=subprocess.PIPE, stderr=self.errors)
         os.set_blocking(self.process.stdin.fileno(), False)
         os.set_blocking(self.process.stdout.fileno(), False)
         self.cluster.selector.register(self.process.stdout, selectors.EVENT_READ, self)
         self.ready = False
-        self.up, self.waiting, self.outgoing, self.incoming, self.refused = True, [], bytearray(), bytearray(), None
+        self.up, self.waiting, self.outgoing, self.incoming, self.refused, self.ended = True, [], bytearray(), bytearray(), None, None
         self.starts += 1
         if self.cluster.record:
             path = os.path.join(self.cluster.record, "%s-%s-%d" % (os.path.basename(self.cluster.folder), self.name, self.starts))
@@ -179,8 +186,9 @@ class Site:
             cluster.fault("a frame that no event asked for: %s" % body.hex())
             return
         node, what = self.waiting[0]
-        if code == 0x13 and len(body) == 1:
+        if code == (0x30 if self.face else 0x13) and len(body) == (3 if self.face else 1):
             self.waiting.pop(0)
+            self.judge_face(body)
             if self.refused:
                 cluster.note_down(self.name, "refused", self.refused, what and what[0], node and node.number)
             if what is not None:
@@ -189,6 +197,9 @@ class Site:
         elif code == 0x12:
             self.refused = body[1]
             cluster.counts["refused"] += 1
+        elif code == 0x31 and self.face:
+            self.refused = PROTOCOL + body[1]
+            cluster.counts["wrong stand"] += 1
         elif code == 0x11:
             sender, _, at = wire.read_address(body, 1)
             target, number, at = wire.read_address(body, at)
@@ -197,6 +208,14 @@ class Site:
             cluster.told(cluster.nodes[body[1] << 8 | body[2]], body[3], body[4:])
         else:
             cluster.fault("an output of an unknown kind: %s" % body.hex())
+
+    def judge_face(self, body):
+        """The code of a face is that of the last completion that its user was told."""
+        if self.face and self.ended is not None:
+            if body[2] != self.ended:
+                self.cluster.fault("the code of a face is %d, and its user was told of the completion %d" % (body[2], self.ended))
+            self.cluster.counts["codes"] += 1
+            self.ended = None
 
     def kill(self):
         cluster, draw = self.cluster, self.cluster.draw
@@ -274,7 +293,7 @@ class Site:
 class Cluster:
     def __init__(self, options, sites, transfers, seed, folder, wrong):
         self.program, self.wrong, self.record = options.program, wrong, options.record
-        self.compacting, self.heuristic = options.compact, options.heuristic
+        self.compacting, self.heuristic, self.with_face = options.compact, options.heuristic, options.tx
         self.draw = random.Random(seed)
         self.folder, self.goal, self.kill_rate, self.slow = folder, transfers, options.kill_rate, options.slow
         self.patience = round(4 * self.slow / RETRY)
@@ -284,6 +303,8 @@ class Cluster:
              "overtaken", "lost associations", "left"], 0)
         if wrong:
             self.counts["records taken back"] = 0
+        if self.with_face:
+            self.counts.update({"completions of a face": 0, "wrong stand": 0, "codes": 0})
         if self.compacting:
             self.counts.update({"compactions": 0, "compactions killed": 0})
         if self.heuristic:
@@ -293,7 +314,9 @@ class Cluster:
         self.quiet = False
         self.transfers, self.by_identifier, self.complete = [], {}, []
         self.asked = {}  # what each store was asked: node and tree to words
-        self.sites = [Site("s%d" % k, self, os.path.join(folder, "s%d" % k)) for k in range(sites)]
+        self.sites = []
+        for k in range(sites):
+            self.sites.append(Site("s%d" % k, self, os.path.join(folder, "s%d" % k)))
         self.trees = [self.make_tree(k) for k in range(options.trees * sites)]
         for site in self.sites:
             for node in site.nodes:
@@ -379,7 +402,8 @@ class Cluster:
 
     def ask(self, node, request, rest=b"", what=None):
         self.note_down(node.kind, node.number, "asks", "%02x" % request, rest.hex())
-        node.site.give(wire.do(node.number, request, rest), node, what)
+        body = bytes([CALLS[request]]) + rest if node.face and request in CALLS else wire.do(node.number, request, rest)
+        node.site.give(body, node, what)
 
     def over(self, node, what, refused):
         """An event that somebody waits for is over."""
@@ -546,9 +570,12 @@ class Cluster:
             self.fault("store %d is told %s twice" % (node.number, word))
         asked.add(word)
 
-    def ended(self, node, outcome):
+    def ended(self, node, outcome, report=NONE):
         node.busy, node.started = False, False
         transfer, tree = node.transfer, node.tree
+        if node.face:
+            node.site.ended = CODES[outcome, report[0]]
+            self.counts["completions of a face"] += 1
         if node.kind == "root" and tree.current is not None:
             tree.current = None
             self.counts["complete" if outcome == "commit" else "rolled back"] += 1
@@ -566,12 +593,12 @@ class Cluster:
             # Nothing is promised of its stores: it counts neither as complete nor as rolled back.
             self.counts["complete with a report"] += 1
             node.tree.current = None
-        self.ended(node, "commit")
+        self.ended(node, "commit", rest)
 
     def told_rollback_complete(self, node, rest):
         if rest != NONE and not self.heuristic:
             self.fault("node %d rolls back with a report" % node.number)
-        self.ended(node, "rollback")
+        self.ended(node, "rollback", rest)
 
     # The run.
 
@@ -828,6 +855,7 @@ def main():
     parser.add_argument("--right", action="store_true", help="the runs without a wrong site alone")
     parser.add_argument("--compact", action="store_true")
     parser.add_argument("--heuristic", action="store_true")
+    parser.add_argument("--tx", action="store_true", help="the first site is a process tx")
     parser.add_argument("--trace", help="a file for what the users ask and are told")
     parser.add_argument("--record", help="a folder for what each process found as its log, and for the frames that it was given")
     parser.add_argument("--short", action="store_true")

@@ -1,14 +1,15 @@
 """Streams, logs and frames that no honest peer gives: cut short, cut in two, changed in each byte, of each code, at random, at
 each limit.
 
-trials/run hostile [--program CMD] [--beside CMD] [--short] [--frames N] [--only PART] [--seed N]
+trials/run hostile [--program CMD] [--drive CMD] [--beside CMD] [--short] [--frames N] [--only PART] [--seed N]
 
 Always: the exit status is one of the command's, standard error has the line of that status, nothing crashes or hangs, what comes
 before the first change is answered as it was, and a log that was taken opens again.
 
 --beside names a second machine that follows the same rules. It is started once, reads a line for each case (the words, the input
-and the log, as pairs of digits, parted by tabs, `-` for nothing) and answers with a line (status, its text, the output, the log).
-Then every byte of output, every byte of the log, the status and its text must be the same. A case that differs is left in a folder.
+and the disk, as pairs of digits, parted by tabs, `-` for nothing) and answers with a line (status, its text, the output, the disk).
+Then every byte of output, every byte of the disk, the status and its text must be the same. A case that differs is left in a folder.
+The disk is `tp.log`, for `keys` and `replay` `bound.log`.
 """
 import argparse
 import os
@@ -19,8 +20,9 @@ import shutil
 import subprocess
 import sys
 import tempfile
+import threading
 
-import bank
+import bound
 import preload
 import stops
 import streams
@@ -33,16 +35,35 @@ TEXTS = {
     7: r"write fault$", 8: r"disk fault$", 9: r"no memory$",
 }
 ALLOWED = {
-    "replay": {0, 3, 4}, "node": {0, 3, 4, 5}, "tx": {0, 3, 4, 5}, "show": {0, 5}, "check": {0, 1, 5}, "keys": {0, 5}, "make": {0},
-    "compact": {0, 5}, "migrate": {0, 4, 5}, "audit": {0, 1, 3, 4, 5}, "format": {0},
+    "replay": {0, 3, 4, 5}, "node": {0, 3, 4, 5}, "tx": {0, 3, 4, 5}, "show": {0, 5}, "check": {0, 1, 5}, "keys": {0, 5}, "make": {0},
+    "compact": {0, 5}, "migrate": {0, 4, 5}, "audit": {0, 1, 3, 4, 5}, "format": {0}, "drive": {0, 3, 4, 5}, "trial": {0, 4},
 }
 DIALOGUE = [0x01, 0x03, 0x04, 0x05, 0x06, 0x07, 0x08, 0x09, 0x0A, 0x0B, 0x0D, 0x0E, 0x0F, 0x11, 0x13, 0x14]
 LIMIT = 268435456
 
 
+def disk_of(words):
+    return "bound.log" if words[0] in ("keys", "replay") else "tp.log"
+
+
+def fresh_for(words):
+    return wire.FRESH_STORE if disk_of(words) == "bound.log" else wire.FRESH
+
+
+def said(run):
+    """The line of a status on standard error, without the program's name; after it usage may stand."""
+    return run.err.decode(errors="replace").split("\n")[0].split(": ", 1)[-1]
+
+
+def is_due(words, run):
+    """Whether a run ends with a status of its command, and says so."""
+    return run.status in ALLOWED[words[0]] and re.match(TEXTS[run.status], said(run)) is not None
+
+
 class Hostile:
     def __init__(self, options, folder):
-        self.options, self.program, self.folder = options, options.program, folder
+        self.options, self.folder = options, folder
+        self.library = preload.Library(folder)
         self.draw = random.Random(options.seed)
         self.counts = dict.fromkeys(["cases", "frames", "compared", "well", "bad input", "limit", "foreign", "findings", "differ"], 0)
         self.refused = {}
@@ -51,40 +72,52 @@ class Hostile:
         if options.beside:
             self.beside = subprocess.Popen(shlex.split(options.beside), stdin=subprocess.PIPE, stdout=subprocess.PIPE, text=True)
 
-    def run(self, words, given=b"", log=wire.FRESH, compare=True):
-        """Status, its text, output and log; judged by what holds of every run, and beside the second machine."""
-        path = os.path.join(self.folder, "bound.log" if words[0] == "keys" else "tp.log")
-        with open(path, "wb") as file:
-            file.write(log)
-        try:
-            run = subprocess.run(self.program + words, cwd=self.folder, input=given, capture_output=True, timeout=300)
-        except subprocess.TimeoutExpired:
-            return self.fault(words, given, log, "does not end") or (-1, "", b"", b"")
-        with open(path, "rb") as file:
-            after = file.read()
-        text = run.stderr.decode().rstrip("\n").split(": ", 1)[-1] if run.stderr else ""
+    def run(self, words, given=b"", log=None, compare=True):
+        return self.run_all(words, [(given, fresh_for(words) if log is None else log)], compare)[0]
+
+    def run_all(self, words, cases, compare=True):
+        """Status, its text, output and disk for each (input, disk); judged by what holds of every run, and beside the second machine."""
+        beside = compare and self.beside is not None
+        if beside:
+            telling = threading.Thread(target=self.tell_beside, args=(words, cases))
+            telling.start()
+        runs = self.library.run_all(tools.command_of(self.options, words), [(given, log, {}) for given, log in cases], disk_of(words))
+        all_ours = []
+        for (given, log), run in zip(cases, runs):
+            ours = run.status, said(run), run.out, run.disk
+            all_ours.append(ours)
+            self.judge(words, given, log, run)
+            if beside:
+                self.compare(words, given, log, ours)
+        if beside:
+            telling.join()
+        return all_ours
+
+    def judge(self, words, given, log, run):
         self.counts["cases"] += 1
-        word = {0: "well", 1: "findings", 3: "bad input", 4: "limit", 5: "foreign"}.get(run.returncode)
+        word = {0: "well", 1: "findings", 3: "bad input", 4: "limit", 5: "foreign"}.get(run.status)
         if word:
             self.counts[word] += 1
-        if run.returncode not in ALLOWED[words[0]] or not re.match(TEXTS.get(run.returncode, "(?!)"), text):
-            self.fault(words, given, log, "status %d, %r" % (run.returncode, run.stderr[-200:]))
-        if words[0] in ("show", "check", "keys", "audit") and run.returncode == 5 and run.stdout:
-            self.fault(words, given, log, "a foreign log, and %d bytes of output" % len(run.stdout))
-        if self.beside and compare and not text.endswith("unbuilt"):
-            self.compare(words, given, log, (run.returncode, text, run.stdout, after))
-        return run.returncode, text, run.stdout, after
+        if run.status is None:
+            self.fault(words, given, log, "does not end")
+        elif not is_due(words, run):
+            self.fault(words, given, log, "status %d, %r" % (run.status, run.err[-200:]))
+        if run.status == 5 and run.out or words[0] == "drive" and run.status and (run.out or run.status == 3 and run.disk != log):
+            self.fault(words, given, log, "status %d, and %d bytes of output" % (run.status, len(run.out)))
+
+    def tell_beside(self, words, cases):
+        for given, log in cases:
+            self.beside.stdin.write("%s\t%s\t%s\n" % (" ".join(words), given.hex() or "-", log.hex() or "-"))
+        self.beside.stdin.flush()
 
     def compare(self, words, given, log, ours):
-        self.beside.stdin.write("%s\t%s\t%s\n" % (" ".join(words), given.hex() or "-", log.hex() or "-"))
-        self.beside.stdin.flush()
         status, text, out, after = self.beside.stdout.readline().rstrip("\n").split("\t")
         theirs = int(status), text, bytes.fromhex(out.replace("-", "")), bytes.fromhex(after.replace("-", ""))
         self.counts["compared"] += 1
         if ours != theirs:
             self.counts["differ"] += 1
             same = [a == b for a, b in zip(ours, theirs)]
-            self.fault(words, given, log, "differs from the machine beside it: %s and %s, output %s, log %s" % (ours[:2], theirs[:2], same[2], same[3]))
+            self.fault(words, given, log, "differs from the machine beside it: %s and %s, output %s, disk %s" % (ours[:2], theirs[:2], same[2], same[3]))
 
     def fault(self, words, given, log, text):
         at = os.path.join(self.kept, "%d" % len(self.faults))
@@ -108,47 +141,45 @@ class Hostile:
             pieces[-1][1] = body[0] == last
         return [piece for piece, _ in pieces]
 
-    def prefixes(self, words, bodies, log, step):
-        answers = self.answers(words, bodies, log)
+    def prefixes(self, words, bodies, step):
+        answers = self.answers(words, bodies, wire.FRESH)
         stream = streams.stream(bodies)
         ends = [len(streams.stream(bodies[:k])) for k in range(len(bodies) + 1)]
-        for size in range(0, len(stream), step):
+        sizes = range(0, len(stream), step)
+        for size, (status, text, out, _) in zip(sizes, self.run_all(words, [(stream[:size], wire.FRESH) for size in sizes])):
             whole = max(k for k, end in enumerate(ends) if end <= size)
             want = (0, "") if size in ends else (3, "bad input at %d: short" % (whole + 1))
-            status, text, out, _ = self.run(words, stream[:size], log)
             if (status, text, out) != (*want, b"".join(answers[:whole])):
-                self.fault(words, stream[:size], log, "a prefix of %d bytes: %d, %s, %d bytes" % (size, status, text, len(out)))
+                self.fault(words, stream[:size], wire.FRESH, "a prefix of %d bytes: %d, %s, %d bytes" % (size, status, text, len(out)))
 
-    def cuts(self, library, words, given, log, step):
+    def cuts(self, words, given, log, step):
         whole = self.run(words, given, log)
-        for size in range(1, len(given), step):
-            with open(os.path.join(self.folder, "tp.log"), "wb") as file:
-                file.write(log)
-            run = library.run(self.program, words, self.folder, given, cut=size)
+        sizes = range(1, len(given), step)
+        runs = self.library.run_all(tools.command_of(self.options, words), [(given, log, {"cut": size}) for size in sizes], disk_of(words))
+        for size, run in zip(sizes, runs):
             self.counts["cases"] += 1
-            if (run.returncode, run.stdout) != (whole[0], whole[2]):
-                self.fault(words, given, log, "cut in two at %d: %d" % (size, run.returncode))
+            if (run.status, run.out, run.disk) != (whole[0], whole[2], whole[3]):
+                self.fault(words, given, log, "cut in two at %d: %s" % (size, run.status))
 
     def changed(self, words, stream, log, step, answers=None, ends=None):
-        for at in range(0, len(stream), step):
-            for new in {0, 255, stream[at] ^ 1, stream[at] ^ 255} - {stream[at]}:
-                given = stream[:at] + bytes([new]) + stream[at + 1 :]
-                out = self.run(words, given, log)[2]
-                if answers is not None:
-                    whole = max(k for k, end in enumerate(ends) if end <= at)
-                    before = b"".join(answers[:whole])
-                    if out[: len(before)] != before:
-                        self.fault(words, given, log, "byte %d changed, and what comes before is answered otherwise" % at)
+        """Each byte changed in four ways; what comes before is answered as it was, where that is told."""
+        changes = [(at, new) for at in range(0, len(stream), step) for new in sorted({0, 255, stream[at] ^ 1, stream[at] ^ 255} - {stream[at]})]
+        cases = [(stream[:at] + bytes([new]) + stream[at + 1 :], log) for at, new in changes]
+        for (at, _), case, (_, _, out, _) in zip(changes, cases, self.run_all(words, cases)):
+            if answers is not None:
+                whole = max(k for k, end in enumerate(ends) if end <= at)
+                before = b"".join(answers[:whole])
+                if out[: len(before)] != before:
+                    self.fault(words, *case, "byte %d changed, and what comes before is answered otherwise" % at)
 
     def changed_log(self, log, words, step):
-        for at in range(0, len(log), step):
-            for new in {0, 1, 255, log[at] ^ 1} - {log[at]}:
-                self.run(words, b"", log[:at] + bytes([new]) + log[at + 1 :])
+        places = range(0, len(log), step)
+        self.run_all(words, [(b"", log[:at] + bytes([new]) + log[at + 1 :]) for at in places for new in sorted({0, 1, 255, log[at] ^ 1} - {log[at]})])
+        self.run_all(words, [(b"", log[:size]) for size in places])
 
     def worked(self):
         short = self.options.short
         step = 7 if short else 1
-        library = preload.Library(self.folder)
         shows = {
             "a subordinate": (["node", "--name", "b"], streams.subordinate(2)),
             "a decision": (["node", "--name", "b"], streams.subordinate(1, True)),
@@ -159,28 +190,31 @@ class Hostile:
         for name, (words, bodies) in shows.items():
             stream = streams.stream(bodies)
             ends = [len(streams.stream(bodies[:k])) for k in range(len(bodies) + 1)]
-            self.prefixes(words, bodies, wire.FRESH, step)
-            self.cuts(library, words, stream, wire.FRESH, step)
+            self.prefixes(words, bodies, step)
+            self.cuts(words, stream, wire.FRESH, step)
             self.changed(words, stream, wire.FRESH, step, self.answers(words, bodies, wire.FRESH), ends)
             logs.append(self.run(words, stream, wire.FRESH)[3])
             self.say(name)
+        if self.options.drive:
+            for workers in ("1", "3"):
+                words, stream = ["drive", "--name", "b", "--workers", workers], streams.stream(streams.subordinate(1, True))
+                self.cuts(words, stream, wire.FRESH, step)
+                self.changed(words, stream, wire.FRESH, step)
+                self.run_all(words, [(stream[:size], wire.FRESH) for size in range(0, len(stream), step)])
+            self.say("workers")
         frames = wire.audit_frames([("a", logs[2]), ("b", logs[0])])
-        self.cuts(library, ["audit"], frames, wire.FRESH, step)
+        self.cuts(["audit"], frames, wire.FRESH, step)
         self.changed(["audit"], frames, wire.FRESH, step)
-        for size in range(0, len(frames), step):
-            self.run(["audit"], frames[:size])
-        schedule = (tools.ROOT / "examples" / "plain-commit.schedule").read_bytes()
-        self.changed(["replay"], schedule, wire.FRESH, step)
-        self.cuts(library, ["replay"], schedule, wire.FRESH, step)
-        for size in range(0, len(schedule), step):
-            self.run(["replay"], schedule[:size])
+        self.run_all(["audit"], [(frames[:size], wire.FRESH) for size in range(0, len(frames), step)])
+        store = bound.log()
+        for schedule in ((tools.ROOT / "examples" / "plain-commit.schedule").read_bytes(), bound.schedule((True, False))):
+            self.changed(["replay"], schedule, store, step)
+            self.cuts(["replay"], schedule, store, step)
+            self.run_all(["replay"], [(schedule[:size], store) for size in range(0, len(schedule), step)])
         self.say("audit and replay")
-        store = stops.store_log()
-        for log, commands in ((logs[1], ["show", "check", "compact", "migrate", "node"]), (store, ["keys"])):
+        for log, commands in ((logs[1], ["show", "check", "compact", "migrate", "node"]), (store, ["keys", "replay"])):
             for word in commands:
                 self.changed_log(log, [word], step)
-                for size in range(0, len(log), step):
-                    self.run([word], b"", log[:size])
         self.say("logs")
 
     def codes(self):
@@ -192,34 +226,39 @@ class Hostile:
         begun = streams.subordinate(1)[:4]
         association = streams.Association(streams.ROOT, streams.LEAF, wire.mark(1, 1, 1), wire.mark(1, 2, 1))
         association.count = 1
+        node = streams.stream(begun)
+        retry = wire.frame(wire.retry(2))
+        cases = {}
         for code in codes:
             for tail in tails:
                 text = bytes([code]) + tail
-                node = streams.stream(begun)
-                self.run(["node", "--name", "b"], node + wire.frame(text) + wire.frame(wire.retry(2)))
-                self.run(["node", "--name", "b"], node + wire.frame(wire.arrive(streams.ROOT, streams.LEAF, text)))
                 association.count = 1
-                self.run(["node", "--name", "b"], node + wire.frame(association.says(text)) + wire.frame(wire.retry(2)))
-                self.run(["node", "--name", "b"], node + wire.frame(wire.do(2, code, tail)))
-                if code not in (0x41,):
-                    self.run(["audit"], wire.frame(b"\x40\x01a") + wire.frame(text))
-                self.run(["tx"], wire.frame(text) + wire.frame(b"\x24"))
-                self.run(["show"], b"", wire.log_of([stops.BOOT_1, text]))
-                self.run(["keys"], b"", wire.log_of([text], wide=False))
+                told = [wire.frame(text) + retry, wire.frame(wire.arrive(streams.ROOT, streams.LEAF, text)),
+                        wire.frame(association.says(text)) + retry, wire.frame(wire.do(2, code, tail))]
+                cases.setdefault("node --name b", []).extend((node + it, wire.FRESH) for it in told)
+                cases.setdefault("audit", []).append((wire.frame(b"\x40\x01a") + wire.frame(text), wire.FRESH))
+                cases.setdefault("tx", []).append((wire.frame(text) + wire.frame(b"\x24"), wire.FRESH))
+                cases.setdefault("show", []).append((b"", wire.log_of([stops.BOOT_1, text])))
+                cases.setdefault("keys", []).append((b"", wire.log_of([text], wide=False)))
+                if self.options.drive:
+                    cases.setdefault("drive --workers 2", []).append((wire.frame(text) + wire.frame(wire.retry(1)), wire.FRESH))
+        for words, some in cases.items():
+            self.run_all(words.split(), some)
         self.say("codes")
 
     # Random frames.
 
     def recordings(self):
-        """What the sites of a small cluster were given, with the logs that they found."""
+        """What the sites of small clusters were given, with the logs that they found: long streams, and short ones of sites that were killed."""
         folder = os.path.join(self.folder, "recordings")
         os.makedirs(folder)
-        words = [sys.executable, "-B", str(tools.ROOT / "trials" / "cluster.py"), "--right", "--sites", "3", "--transfers",
-                 "40" if self.options.short else "400", "--kill-rate", "0.3", "--seed", str(self.options.seed), "--record", folder,
-                 "--program", shlex.join(self.program)]
-        run = subprocess.run(words, capture_output=True, text=True)
-        if run.returncode != 0:
-            sys.exit("no recordings: %s" % run.stdout)
+        for kill_rate in ("0.3", "0.02"):
+            words = [sys.executable, "-B", str(tools.ROOT / "trials" / "cluster.py"), "--right", "--sites", "3", "--transfers",
+                     "40" if self.options.short else "400", "--kill-rate", kill_rate, "--seed", str(self.options.seed), "--record", folder,
+                     "--program", shlex.join(self.options.program)]
+            run = subprocess.run(words, capture_output=True, text=True)
+            if run.returncode != 0:
+                sys.exit("no recordings: %s" % run.stdout)
         found = []
         for name in sorted(os.listdir(folder)):
             if name.endswith(".frames"):
@@ -227,20 +266,23 @@ class Hostile:
                     bodies = wire.frames_in(file.read())[0]
                 with open(os.path.join(folder, name[:-7] + ".log"), "rb") as file:
                     found.append((name.split("-")[-2], bodies, file.read()))
+        print("%d recordings of %d frames" % (len(found), sum(len(bodies) for _, bodies, _ in found)), flush=True)
         return found
 
     def random(self):
         goal = self.options.frames or (20000 if self.options.short else 1000000)
         found = self.recordings()
+        streams = next_word = 0
         while self.counts["frames"] < goal:
             site, bodies, log = self.draw.choice(found)
             at = 0 if self.draw.random() < 0.7 else self.draw.randrange(max(1, len(bodies)))
-            bodies = bodies[:at + 400]
+            bodies = bodies[: at + self.draw.choice([400, 400, 4000])]
             mutant = Mutant(self.draw, site, bodies, self.draw.choice([0, 0.01, 0.05, 0.2, 0.5]))
             given = b"".join(map(wire.frame, mutant.bodies))
             if self.draw.random() < 0.1:
                 given = self.spoilt(given)
-            status, _, out, after = self.run(["node", "--name", site], given, log)
+            status, text, out, after = self.run(["node", "--name", site], given, log)
+            streams += 1
             answered = wire.frames_in(out)[0]
             self.counts["frames"] += sum(body[0] == 0x13 for body in answered)
             for body in answered:
@@ -249,7 +291,29 @@ class Hostile:
             again = self.run(["show"], b"", after, compare=False)
             if again[0] != 0:
                 self.fault(["node"], given, log, "it leaves a log that show does not take")
-        self.say("random frames, refusals: " + ", ".join("%d: %d" % it for it in sorted(self.refused.items())))
+            if self.options.drive and streams % 10 == 0:
+                self.workers(site, given, log, (status, text, out, after))
+            if self.counts["frames"] >= next_word:
+                next_word = self.counts["frames"] + 50000
+                self.say("%d random streams" % streams)
+        self.say("random frames in %d streams, refusals: %s" % (streams, ", ".join("%d: %d" % it for it in sorted(self.refused.items()))))
+
+    def workers(self, site, given, log, alone):
+        """Workers answer as one does, and their log has each node's records in their order."""
+        words = ["drive", "--name", site, "--workers", str(self.draw.choice([1, 2, 3, 8, 16]))]
+        status, text, out, after = self.run(words, given, log, compare=False)
+        self.counts["streams of workers"] = self.counts.get("streams of workers", 0) + 1
+        wants = alone[:2], alone[2] if alone[0] == 0 else b"", self.by_node(alone[3]) if alone[0] == 0 else self.by_node(log)
+        if ((status, text), out, self.by_node(after)) != wants:
+            self.fault(words, given, log, "workers end with %d, %s, and do not as one" % (status, text))
+
+    def by_node(self, log):
+        """The records that show writes, each node's in their order."""
+        nodes = {}
+        for line in self.run(["show"], b"", log, compare=False)[2].decode().splitlines():
+            words = line.split()[1:]
+            nodes.setdefault("" if words[0] == "boot" else words[1], []).append(words)
+        return nodes
 
     def spoilt(self, given):
         draw = self.draw
@@ -262,23 +326,28 @@ class Hostile:
 
     # Limits.
 
-    def limit(self, words, given, want, log=wire.FRESH):
+    def limit(self, words, given, want, log=None):
         status, text, out, _ = self.run(words, given, log, compare=False)
+        self.counts["limits"] = self.counts.get("limits", 0) + 1
         if (status, text) != want:
-            self.fault(words, given[:1000], log[:1000], "at a limit: %d, %s where %s is due" % (status, text, want))
+            self.fault(words, given[:1000], (log or b"")[:1000], "at a limit: %d, %s where %s is due" % (status, text, want))
         return out
 
     def limits(self):
-        most = 1000000
+        """Each limit at its exact place: the last that is well, and the first that is not."""
         one, called = wire.frame(wire.retry(1)), wire.frame(b"\x24")
-        for words, given in ((["node"], one), (["tx"], called)):
+        for words, given, most in ((["node"], one, 1000000), (["tx"], called, 1000000), (["drive", "--workers", "4"], one, 100000)):
+            if words[0] == "drive" and not self.options.drive:
+                continue
             out = self.limit(words, given * most, (0, ""))
             more = self.limit(words, given * (most + 1), (4, "limit events at %d" % (most + 1)))
-            if out != more:
+            if more != (b"" if words[0] == "drive" else out):
                 self.fault(words, b"", b"", "the frame at the limit of events is answered")
         self.say("events")
         declared = b"".join(wire.frame(wire.declare(k)) for k in range(1, 257))
-        for words in (["node"], ["tx"]):
+        for words in (["node"], ["tx"], ["drive"]):
+            if words[0] == "drive" and not self.options.drive:
+                continue
             self.limit(words, declared, (0, ""))
             self.limit(words, declared + wire.frame(wire.declare(1)), (4, "limit nodes at 257"))
             self.limit(words, wire.frame(wire.declare(1)) * 256 + one, (0, ""))
@@ -308,15 +377,62 @@ class Hostile:
         self.limit(["replay"], start + sends * 65534, (4, "limit frames at %d" % (6 + 65534)))
         self.say("nodes, sites, lines, schedules, frames")
         self.boots()
+        self.rooms()
+        self.answers_in_a_line()
+        self.bound_data()
+        self.say("boots, room, answers, bound data")
         if self.options.short:
             return
         self.big_log()
+        self.big_store()
+
+    def rooms(self):
+        """32 subordinates on a log of version 1, 256 on one of version 2; 1,024 octets of data."""
+        for log, most in ((wire.FRESH[:5] + b"\x00", 32), (wire.FRESH, 256)):
+            begun = [wire.do(1, wire.BEGIN_DIALOGUE, wire.address("b", k) + streams.UNITS) for k in range(2, most + 3)]
+            out = self.limit(["node"], streams.stream([wire.declare(1)] + begun), (0, ""), log)
+            refused = [body for body in wire.frames_in(out)[0] if body[0] == 0x12]
+            last = wire.frames_in(out)[0][-2:]
+            if refused != [b"\x12\x0d"] or last != [b"\x12\x0d", b"\x13"]:
+                self.fault(["node"], b"", log, "the %d-th subordinate: %s" % (most + 1, refused[:3]))
+        root = streams.root(1)[:4]
+        for size, refusals in ((1024, []), (1025, [b"\x12\x0d"])):
+            out = self.limit(["node"], streams.stream(root + [wire.do(1, wire.DATA, wire.short(2) + wire.octets(bytes(size)))]), (0, ""))
+            if [body for body in wire.frames_in(out)[0] if body[0] == 0x12] != refusals:
+                self.fault(["node"], b"", b"", "data of %d octets" % size)
+
+    def answers_in_a_line(self):
+        """As many answers of members in one line as we know how to bring about: three of each of 255 subordinates. The limit is 4,096."""
+        out = ["node 1 a"] + ["node %d %s under 1" % (k, "abcdefghijklmnop"[k % 16]) for k in range(2, 257)]
+        out += ["auto %d 1" % k for k in range(2, 257)]
+        arcs = range(2, 257)
+        out += ["do 1 begin-dialogue %d shcu" % k for k in arcs] + ["drain", "drain"]
+        out += ["do 1 handshake %d" % k for k in arcs] + ["do 1 begin-transaction %d" % k for k in arcs]
+        out += ["do 1 prepare %d" % k for k in arcs] + ["do 1 rollback", "drain"]
+        said = self.limit(["replay"], bound.text_of(out), (0, "")).decode()
+        self.counts["answers in a line"] = said[said.rindex("> drain") :].count("> do ")
+        if self.counts["answers in a line"] != 3 * 255:
+            self.fault(["replay"], bound.text_of(out), b"", "%d answers in a line" % self.counts["answers in a line"])
+
+    def bound_data(self):
+        """A key has 1 to 64 bytes, a value 0 to 900, the writes of a transaction 60,000 bytes: else the store votes for rollback."""
+        put = lambda key, value: b"\x01" + bytes([key]) + bytes(key) + wire.short(value) + bytes(value)
+        full = [put(64, 900)] * 61
+        for writes, keeps in (([put(1, 0)], True), ([put(64, 900)], True), ([put(65, 0)], False), ([put(0, 0)], False), ([put(1, 901)], False),
+                              (full + [put(64, 884)], True), (full + [put(64, 885)], False)):
+            lines = bound.OPENING + ["do 1 begin-transaction 2"] + ["do 1 data 2 " + it.hex() for it in writes] + ["do 1 commit", "drain"]
+            said = self.limit(["replay"], bound.text_of(lines), (0, ""))
+            if (b"> do 2 commit" in said, b"> do 2 rollback" in said) != (keeps, not keeps):
+                self.fault(["replay"], bound.text_of(lines), b"", "%d writes, the last of %d bytes" % (len(writes), len(writes[-1])))
 
     def boots(self):
         spent = lambda boot: wire.log_of([b"\x01" + boot.to_bytes(8, "big")])
         self.limit(["node"], one_frame(), (0, ""), spent(2**64 - 2))
         self.limit(["node"], one_frame(), (4, "limit boots at 0"), spent(2**64 - 1))
         self.limit(["tx"], b"", (4, "limit boots at 0"), spent(2**64 - 1))
+        if self.options.drive:
+            self.limit(["drive"], one_frame(), (0, ""), spent(2**64 - 2))
+            self.limit(["drive"], one_frame(), (4, "limit boots at 0"), spent(2**64 - 1))
 
     def big_log(self):
         """A log whose closing gate stands where the record Boot of a start has just room, and one byte behind."""
@@ -349,10 +465,14 @@ class Hostile:
             log = b"OTPL\x01" + b"".join(map(wire.block, bodies + rest)) + b"\x00"
             assert len(log) == exact + 1, (len(log), exact)
             if exact == goal:
+                if self.options.drive:
+                    self.limit(["drive", "--name", "b"], b"", (0, ""), log)
                 ready = streams.stream(streams.subordinate(1)[:7]).replace(wire.mark(1, 2, 1), wire.mark(2, 2, 1))
                 self.limit(["node", "--name", "b"], ready, (4, "limit log at 7"), log)
             else:
                 self.limit(["node", "--name", "b"], b"", (4, "limit log at 0"), log)
+                if self.options.drive:
+                    self.limit(["drive", "--name", "b"], b"", (4, "limit log at 0"), log)
             self.limit(["compact"], b"", (0, ""), log)
         self.say("a log of %d bytes" % LIMIT)
         frames = wire.frame(b"\x40\x01a") + wire.frame(b"\x41" + wire.octets(wire.FRESH))
@@ -362,6 +482,32 @@ class Hostile:
         self.limit(["audit"], frames + last(rest), (0, ""))
         self.limit(["audit"], frames + last(rest + 1), (4, "limit log at %d" % (3 + pieces)))
         self.say("audit of %d bytes" % LIMIT)
+
+    def big_store(self):
+        """A store in whose file a Bind has just room, with 256 bytes to spare, and one byte less."""
+        drop = bytes([bound.bank.DROP]) + bound.tree(1)
+        new = bound.bind(1)
+        goal = LIMIT - 1 - 256 - len(new) - 3  # the closing gate's place before the Bind
+        key = lambda size: bound.bank.put(bytes([size]) * 8, bytes(size))
+        pair = lambda sizes: [bytes([bound.bank.BIND]) + bound.tree(1) + wire.short(len(sizes)) + b"".join(key(it) for it in sizes), drop]
+        cost = lambda two: sum(3 + len(body) for body in two)
+        whole = pair([200] * 280)
+        bodies, size = [], 5
+        while size + cost(whole) <= goal - 2000:
+            bodies += whole
+            size += cost(whole)
+        for exact, word in ((goal, b"> do 2 commit"), (goal + 1, b"> do 2 rollback")):
+            rest, left = [], exact - size
+            while left:
+                empty = cost(pair([0]))
+                now = left if left <= empty + 200 else empty + 200 if left > 2 * (empty + 200) else left // 2
+                rest += pair([now - empty])
+                left -= now
+            log = b"OTPL\x01" + b"".join(map(wire.block, bodies + rest)) + b"\x00"
+            assert len(log) == exact + 1, (len(log), exact)
+            if word not in self.limit(["replay"], bound.ONE_MORE, (0, ""), log):
+                self.fault(["replay"], bound.ONE_MORE, b"", "a store of %d bytes votes otherwise" % len(log))
+        self.say("a store of %d bytes" % LIMIT)
 
     def say(self, what):
         print("%s: %s" % (what, tools.counted(self.counts)), flush=True)

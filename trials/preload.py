@@ -12,17 +12,29 @@ TRIAL_FAIL    NAME K HOW: the K-th call of that name fails: read (of standard in
               pread, pwrite, ftruncate, fsync, malloc. HOW is `none`, `half` or `all`: how much of a write is made all the same
 TRIAL_CUT     N: the first read of standard input gives at most so many bytes
 TRIAL_SHORT   SEED: reads and writes do less than they are asked to, and those of the disk are interrupted
+TRIAL_SERVER  NUMBER: the program is loaded and does not begin. For each message over the socket of that number, a count N, it makes N
+              copies of itself, one after the other, each in one of the folders 0 to N - 1. A copy has what is said above from the
+              lines of the file `set`, reads `in`, writes `out` and `err`, and begins; the statuses are answered together. A run
+              costs then what the program does, and not what loading it does
 """
 import os
 import pathlib
+import shutil
+import signal
+import socket
 import subprocess
+import tempfile
+import typing
 
-STOPPED = 77
+STOPPED, SPOILT = 77, 78
+CHANGES = ("pwrite", "ftruncate", "fsync")  # the calls that change the disk
+MOST_LOADED, MOST_AT_ONCE = 60, 256
 
 SOURCE = r"""
 #define _GNU_SOURCE
 #include <errno.h>
 #include <fcntl.h>
+#include <signal.h>
 #include <stdarg.h>
 #include <stdint.h>
 #include <stdio.h>
@@ -30,6 +42,7 @@ SOURCE = r"""
 #include <string.h>
 #include <sys/stat.h>
 #include <sys/syscall.h>
+#include <sys/wait.h>
 #include <unistd.h>
 
 extern void *__libc_malloc(size_t);
@@ -53,6 +66,56 @@ static void wake(void) {
     if ((it = getenv("TRIAL_FAIL"))) sscanf(it, "%15s %d %15s", fail_name, &fail_at, fail_how);
     if ((it = getenv("TRIAL_CUT"))) cut = strtoul(it, 0, 10);
     if ((it = getenv("TRIAL_SHORT"))) short_seed = strtoull(it, 0, 10) * 2 + 1;
+}
+
+static void stands_for(int number, const char *path, int flags) {
+    int fd = syscall(SYS_openat, AT_FDCWD, path, flags, 0666);
+    if (fd < 0) _exit(SPOILT_STATUS);
+    syscall(SYS_dup3, fd, number, 0);
+    syscall(SYS_close, fd);
+}
+
+/* A copy that has not begun: the file `set` of its folder has the seconds that it may take, and lines NAME=VALUE. */
+static void become(int number) {
+    static char text[512], name[12];
+    snprintf(name, sizeof name, "%d", number);
+    if (chdir(name)) _exit(SPOILT_STATUS);
+    int fd = syscall(SYS_openat, AT_FDCWD, "set", O_RDONLY);
+    if (fd < 0 || syscall(SYS_read, fd, text, sizeof text - 1) < 0) _exit(SPOILT_STATUS);
+    syscall(SYS_close, fd);
+    char *next = text;
+    alarm(strtoul(strsep(&next, "\n"), 0, 10));
+    for (char *line; (line = strsep(&next, "\n"));) {
+        char *value = strchr(line, '=');
+        if (!value) continue;
+        *value = 0;
+        setenv(line, value + 1, 1);
+    }
+    stands_for(0, "in", O_RDONLY);
+    stands_for(1, "out", O_WRONLY | O_CREAT | O_TRUNC);
+    stands_for(2, "err", O_WRONLY | O_CREAT | O_TRUNC);
+    awake = 0;
+}
+
+__attribute__((constructor)) static void serve(void) {
+    static int statuses[MOST_AT_ONCE];
+    const char *it = getenv("TRIAL_SERVER");
+    if (!it) return;
+    awake = 1;
+    int line = atoi(it), count;
+    while (syscall(SYS_read, line, &count, sizeof count) == sizeof count && count <= MOST_AT_ONCE) {
+        for (int i = 0; i < count; i++) {
+            pid_t child = fork();
+            if (child == 0) {
+                syscall(SYS_close, line);
+                become(i);
+                return;
+            }
+            if (child < 0 || waitpid(child, &statuses[i], 0) != child) _exit(SPOILT_STATUS);
+        }
+        if (syscall(SYS_write, line, statuses, count * sizeof(int)) < 0) _exit(SPOILT_STATUS);
+    }
+    _exit(0);
 }
 
 static void tell(const char *name, long a, long b) {
@@ -253,21 +316,98 @@ void *realloc(void *was, size_t size) {
 """
 
 
+class Result(typing.NamedTuple):
+    """What came of a run: its status (below 0 a signal; none where it took too long), what it wrote, its disk, and its calls."""
+
+    status: typing.Optional[int]
+    out: bytes
+    err: bytes
+    disk: bytes
+    calls: list
+
+
 class Library:
+    """The library, compiled into a folder, and the programs that are loaded with it."""
+
     def __init__(self, folder):
-        source = pathlib.Path(folder) / "preload.c"
-        text = SOURCE.replace("STOPPED_STATUS", str(STOPPED)).replace("TRIAL_ERRNO", "ENOSPC")
+        self.folder = pathlib.Path(folder)
+        source = self.folder / "preload.c"
+        text = SOURCE
+        for word, number in (("STOPPED_STATUS", STOPPED), ("SPOILT_STATUS", SPOILT), ("MOST_AT_ONCE", MOST_AT_ONCE), ("TRIAL_ERRNO", "ENOSPC")):
+            text = text.replace(word, str(number))
         source.write_text(text)
         self.path = str(source.with_suffix(".so"))
         subprocess.run(["cc", "-O1", "-fno-builtin", "-shared", "-fPIC", "-o", self.path, source], check=True)
+        self.loaded = {}
 
-    def run(self, program, words, folder, given=b"", disk="tp.log", stop=None, fail=None, short=None, cut=None, trace=None):
-        """Runs the program in that folder with the library before it."""
-        extra = {"LD_PRELOAD": self.path, "TRIAL_DISK": disk}
-        for name, value in (("STOP", stop), ("FAIL", fail), ("SHORT", short), ("CUT", cut), ("TRACE", trace)):
-            if value is not None:
-                extra["TRIAL_" + name] = str(value)
-        return subprocess.run(program + words, cwd=folder, input=given, capture_output=True, env={**os.environ, **extra})
+    def run_all(self, command, runs, disk="tp.log", seconds=300):
+        """Runs the command once for each of (input, disk, settings). The settings are those above, by their last word."""
+        loaded = self.loaded.get(tuple(command))
+        if loaded is None:
+            if len(self.loaded) >= MOST_LOADED:
+                self.loaded.pop(next(iter(self.loaded))).end()
+            loaded = self.loaded[tuple(command)] = Loaded(self.path, command, self.folder)
+        results = []
+        for at in range(0, len(runs), MOST_AT_ONCE):
+            results += loaded.run_all(runs[at : at + MOST_AT_ONCE], disk, seconds)
+        return results
+
+    def run(self, command, given=b"", content=b"", disk="tp.log", seconds=300, **settings):
+        return self.run_all(command, [(given, content, settings)], disk, seconds)[0]
+
+
+class Loaded:
+    """A program with its words, loaded once in a folder of its own, and run from there again and again."""
+
+    def __init__(self, library, command, folder):
+        self.command, self.folder = command, tempfile.mkdtemp(dir=folder)
+        self.socket, theirs = socket.socketpair(socket.AF_UNIX, socket.SOCK_SEQPACKET)
+        extra = {"LD_PRELOAD": library, "TRIAL_SERVER": str(theirs.fileno())}
+        self.process = subprocess.Popen(command, cwd=self.folder, pass_fds=[theirs.fileno()], env={**os.environ, **extra},
+                                        stdin=subprocess.DEVNULL, stdout=subprocess.DEVNULL, stderr=subprocess.DEVNULL)
+        theirs.close()
+        self.places = []
+
+    def run_all(self, runs, disk, seconds):
+        while len(self.places) < len(runs):
+            place = os.path.join(self.folder, str(len(self.places)))
+            os.mkdir(place)
+            self.places.append(place)
+        for place, (given, content, settings) in zip(self.places, runs):
+            lines = ["%d" % seconds, "TRIAL_DISK=" + disk]
+            lines += ["TRIAL_%s=%s" % (name.upper(), value) for name, value in settings.items() if value is not None]
+            put(place + "/set", "\n".join(lines).encode())
+            put(place + "/in", given)
+            put(place + "/" + disk, content)
+            if "trace" in settings:
+                put(place + "/" + settings["trace"], b"")
+        self.socket.send(len(runs).to_bytes(4, "little"))
+        answer = self.socket.recv(4 * len(runs))
+        if len(answer) != 4 * len(runs):
+            raise RuntimeError("%s can be run no more" % self.command)
+        statuses = [int.from_bytes(answer[at : at + 4], "little") for at in range(0, len(answer), 4)]
+        return [self.result(place, disk, status, run[2]) for place, status, run in zip(self.places, statuses, runs)]
+
+    @staticmethod
+    def result(place, disk, status, settings):
+        status = os.waitstatus_to_exitcode(status)
+        calls = calls_of(place + "/" + settings["trace"]) if "trace" in settings else []
+        return Result(None if status == -signal.SIGALRM else status, got(place + "/out"), got(place + "/err"), got(place + "/" + disk), calls)
+
+    def end(self):
+        self.socket.close()
+        self.process.wait()
+        shutil.rmtree(self.folder)
+
+
+def put(path, content):
+    with open(path, "wb", buffering=0) as file:
+        file.write(content)
+
+
+def got(path):
+    with open(path, "rb", buffering=0) as file:
+        return file.read()
 
 
 def calls_of(trace):

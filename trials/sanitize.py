@@ -1,6 +1,6 @@
 """The commands under valgrind, and their inputs mutated without end.
 
-trials/run sanitize [--program CMD] [--short] [--seconds N] [--seed N]
+trials/run sanitize [--program CMD] [--drive CMD] [--short] [--seconds N] [--seed N]
 
 First each command runs under valgrind (memcheck) on worked inputs: no read or write out of place, no use of what was never written,
 nothing lost, and the same output and log as without it. Then a mutator takes worked inputs and logs, changes them (bits, bytes,
@@ -18,42 +18,48 @@ import sys
 import tempfile
 import time
 
+import bound
 import hostile
-import stops
+import preload
 import streams
 import tools
 import wire
 
 VALGRIND = ["valgrind", "-q", "--error-exitcode=99", "--leak-check=full", "--show-leak-kinds=all", "--errors-for-leak-kinds=definite,indirect"]
+WEIGHTS = {"node": 4, "replay": 3, "audit": 3, "keys": 2, "tx": 2, "drive": 2}
 NUMBERS = [0, 1, 2, 0x1F, 0x20, 0x21, 0x7F, 0x80, 0xFE, 0xFF]
 
 
 class Input:
-    def __init__(self, words, given=b"", log=wire.FRESH):
-        self.words, self.given, self.log = words, given, log
+    """A run of a command: its words, its input, and its disk."""
+
+    def __init__(self, words, given=b"", log=None):
+        self.words, self.given, self.log = words, given, hostile.fresh_for(words) if log is None else log
 
 
 class Sanitize:
     def __init__(self, options, folder):
-        self.options, self.program, self.folder = options, options.program, folder
+        self.options, self.folder = options, folder
+        self.library = preload.Library(folder)
         self.draw = random.Random(options.seed)
         self.faults, self.kept = [], tempfile.mkdtemp(prefix="sanitize-kept-")
         self.counts = dict.fromkeys(["under valgrind", "mutants", "kept inputs", "seconds"], 0)
-        self.ways = {}
+        self.ways = set()
 
-    def run(self, case, before=()):
-        disk = "bound.log" if case.words[0] == "keys" else "tp.log"
-        path = os.path.join(self.folder, disk)
-        with open(path, "wb") as file:
-            file.write(case.log)
-        try:
-            run = subprocess.run([*before, *self.program, *case.words], cwd=self.folder, input=case.given, capture_output=True,
-                                 timeout=300 if before else 60)
-        except subprocess.TimeoutExpired:
-            self.fault(case, "does not end")
-            return None, b""
-        with open(path, "rb") as file:
-            return run, file.read()
+    def run_all(self, words, cases):
+        """Runs of inputs that have the same words."""
+        runs = [(case.given, case.log, {}) for case in cases]
+        return self.library.run_all(tools.command_of(self.options, words), runs, hostile.disk_of(words), 60)
+
+    def run(self, case):
+        return self.run_all(case.words, [case])[0]
+
+    def run_under(self, before, case):
+        """The run under another program, as its status, output, errors and disk."""
+        path = os.path.join(self.folder, hostile.disk_of(case.words))
+        preload.put(path, case.log)
+        run = subprocess.run([*before, *tools.command_of(self.options, case.words)], cwd=self.folder, input=case.given, capture_output=True)
+        return preload.Result(run.returncode, run.stdout, run.stderr, preload.got(path), [])
 
     def fault(self, case, text):
         at = os.path.join(self.kept, "%d" % len(self.faults))
@@ -70,9 +76,13 @@ class Sanitize:
             node(["node", "--name", "b"], streams.subordinate(2), wire.FRESH[:5] + b"\x00"),
             node(["node", "--name", "a"], streams.root(3)), node(["tx", "--name", "a"], streams.root(2, asked=False)),
             Input(["make", "--nodes", "5", "--rounds", "2"]), Input(["trial", "--nodes", "5", "--rounds", "2"]), Input(["format"]),
-            Input(["keys"], b"", stops.store_log()),
+            Input(["keys"], b"", bound.log()), Input(["keys"], b"", bound.log(decided=False)),
+            Input(["replay"], bound.schedule((True, False, True))), Input(["replay"], bound.schedule((True, False)), bound.log(decided=False)),
         ]
-        logs = [self.run(case)[1] for case in cases[:4]]
+        if self.options.drive:
+            cases += [node(["drive", "--name", "b", "--workers", "2"], streams.subordinate(3)),
+                      node(["drive", "--name", "a"], streams.root(2))]
+        logs = [self.run(case).disk for case in cases[:4]]
         for log in logs:
             cases += [Input([word], b"", log) for word in ("show", "check", "compact", "migrate")]
         cases.append(Input(["audit"], wire.audit_frames([("a", logs[3]), ("b", logs[0])])))
@@ -87,46 +97,51 @@ class Sanitize:
             print("valgrind is not installed: left out", flush=True)
             return
         for case in cases:
-            plain, after = self.run(case)
-            run, log = self.run(case, VALGRIND)
+            plain, run = self.run(case), self.run_under(VALGRIND, case)
             self.counts["under valgrind"] += 1
-            said = [line for line in run.stderr.splitlines() if line.startswith(b"==")] if run else []
-            if run is None or said or (run.returncode, run.stdout, log) != (plain.returncode, plain.stdout, after):
-                self.fault(case, "under valgrind: %s" % b" ".join(said[:4]).decode())
+            said = [line for line in run.err.splitlines() if line.startswith(b"==")]
+            if said or (run.status, run.out, run.disk) != (plain.status, plain.out, plain.disk):
+                self.fault(case, "under valgrind: status %d, %s" % (run.status, b" ".join(said[:4]).decode()))
         print("valgrind: %s" % tools.counted(self.counts), flush=True)
 
     def mutate(self, cases):
         cases = [case for case in cases if case.words[0] not in ("make", "trial", "format")]
-        until = time.monotonic() + (self.options.seconds or (20 if self.options.short else 3600))
-        begun, by_command = time.monotonic(), {}
+        begun = next_word = time.monotonic()
+        until = begun + (self.options.seconds or (20 if self.options.short else 3600))
+        inputs, self.ends = {}, {}
         for case in cases:
-            by_command.setdefault(case.words[0], []).append(case)
-        weights = {"node": 4, "replay": 3, "audit": 3, "keys": 2, "tx": 2}
-        names = list(by_command)
+            inputs.setdefault(tuple(case.words), []).append(case)
+        names = list(inputs)
+        weights = [WEIGHTS.get(words[0], 1) / sum(it[0] == words[0] for it in names) for words in names]
         while time.monotonic() < until:
-            name = self.draw.choices(names, [weights.get(it, 1) for it in names])[0]
-            case = self.mutant(self.draw.choice(by_command[name]), by_command[name])
-            run, after = self.run(case)
-            self.counts["mutants"] += 1
-            if run is None:
-                continue
-            text = run.stderr.decode(errors="replace").rstrip("\n").split(": ", 1)[-1]
-            if run.returncode not in hostile.ALLOWED[name] or not re.match(hostile.TEXTS.get(run.returncode, "(?!)"), text):
-                self.fault(case, "status %d, %r" % (run.returncode, run.stderr[-200:]))
-            way = (name, run.returncode, re.sub(r"\d+", "N", text), len(run.stdout).bit_length(), len(after).bit_length())
-            self.ways[way] = self.ways.get(way, 0) + 1
-            if self.ways[way] == 1:
-                by_command[name].append(case)
-                self.counts["kept inputs"] += 1
-        self.counts["seconds"] = round(time.monotonic() - begun)
-        statuses = {}
-        for (name, status, _, _, _), count in self.ways.items():
-            statuses[name, status] = statuses.get((name, status), 0) + count
-        print("mutants: " + ", ".join("%s %d: %d" % (*it, count) for it, count in sorted(statuses.items())), flush=True)
+            words = self.draw.choices(names, weights)[0]
+            mutants = [self.mutant(self.draw.choice(inputs[words]), inputs[words]) for _ in range(50)]
+            for case, run in zip(mutants, self.run_all(list(words), mutants)):
+                self.judge(case, run, inputs[words])
+            self.counts["seconds"] = round(time.monotonic() - begun)
+            if time.monotonic() > next_word:
+                next_word += 300
+                print("mutants: %s" % tools.counted(self.counts), flush=True)
+        print("mutants by command and status: " + ", ".join("%s %s: %d" % (*it, count) for it, count in sorted(self.ends.items())), flush=True)
+
+    def judge(self, case, run, inputs):
+        self.counts["mutants"] += 1
+        if run.status is None:
+            return self.fault(case, "does not end")
+        end = (case.words[0], run.status)
+        self.ends[end] = self.ends.get(end, 0) + 1
+        if not hostile.is_due(case.words, run):
+            self.fault(case, "status %d, %r" % (run.status, run.err[-200:]))
+        way = (*end, re.sub(r"\d+", "N", hostile.said(run)), len(run.out).bit_length(), len(run.disk).bit_length())
+        if way not in self.ways:
+            self.ways.add(way)
+            inputs.append(case)
+            self.counts["kept inputs"] += 1
 
     def mutant(self, case, others):
         given, log = bytearray(case.given), bytearray(case.log)
-        disk = case.words[0] in ("show", "check", "keys", "compact", "migrate") or (case.words[0] in ("node", "tx") and self.draw.random() < 0.2)
+        disk = case.words[0] in ("show", "check", "keys", "compact", "migrate") or (
+            case.words[0] in ("node", "tx", "drive", "replay") and self.draw.random() < 0.2)
         other = self.draw.choice(others)
         for _ in range(self.draw.choice([1, 1, 2, 4, 16])):
             self.change(log if disk else given, other.log if disk else other.given)

@@ -1,23 +1,21 @@
 """A program is stopped in each call that changes its disk, and what the disk holds then is opened.
 
-trials/run stops [--program CMD] [--short] [--full]
+trials/run stops [--program CMD] [--drive CMD] [--short] [--full] [--only WORD]
 
 For each command that has a disk, and each of its changing calls: the process stops in that call, and every byte that was not
 synced is 00, 01 or ff, or as it was, or as it was to be, or some of each, or anything. Then: what had been written to standard
 output is exactly what was written before that call in a run without a stop; the file opens to the list of records before or
-after, which of the two as docs/FORMATS.md says; and a site that starts on it goes on. The number of changing calls of each run
-is a constant of this file. --full tries all 256 values of the byte.
-
-The store's Bind, Keep and Drop are reached by no program yet: here they are blocks of a store that a script wrote, opened by keys.
+after, which of the two as docs/FORMATS.md says; and a site, or a store, that starts on it goes on. The number of changing calls of
+each run is a constant of this file. --full tries all 256 values of the byte.
 """
 import argparse
 import os
 import shutil
-import subprocess
 import sys
 import tempfile
 
 import bank
+import bound
 import preload
 import streams
 import tools
@@ -28,63 +26,64 @@ BOOT_1 = b"\x01" + (1).to_bytes(8, "big")
 
 
 class Case:
-    def __init__(self, name, words, start, calls, given=b"", disk="tp.log", look="show"):
-        self.name, self.words, self.start, self.calls = name, words, start, calls
-        self.given, self.disk, self.look = given, disk, look
+    """A run of a command: its words, its input, what its disk holds at first, and how many calls of it change the disk."""
+
+    def __init__(self, name, words, start, calls, given=b"", disk="tp.log"):
+        self.name, self.words, self.start, self.calls, self.given, self.disk = name, words, start, calls, given, disk
+        self.store = disk == "bound.log"
+        # A run that makes its log: until that is done the file may be none.
+        self.makes = words[0] == "format" or self.store and start == b""
+        # What a store in it is to do with each transaction: keep it, or drop it.
+        self.transactions = (True, False, True)
 
 
 class Stops:
     def __init__(self, options, folder):
-        self.program, self.folder = options.program, folder
+        self.options = options
         self.library = preload.Library(folder)
         self.fills = FILLS[1:4] if options.short else FILLS
         if options.full:
             self.fills = ["%02x" % k for k in range(256)] + FILLS[3:]
-        self.counts = dict.fromkeys(["runs", "calls", "stops", "lists before", "lists after", "no log", "restarts"], 0)
+        self.counts = dict.fromkeys(["runs", "calls", "stops", "lists before", "lists after", "no log", "files", "starts"], 0)
+        self.looked, self.started = {}, set()
         self.faults = []
 
     def fault(self, case, text):
         self.faults.append("%s: %s" % (case.name, text))
-        print("  " + self.faults[-1], flush=True)
+        if len(self.faults) < 100:
+            print("  " + self.faults[-1], flush=True)
 
-    def put(self, case, content):
-        with open(os.path.join(self.folder, case.disk), "wb") as file:
-            file.write(content)
+    def run_all(self, words, runs, disk="tp.log"):
+        return self.library.run_all(tools.command_of(self.options, words), runs, disk)
 
-    def content(self, case):
-        with open(os.path.join(self.folder, case.disk), "rb") as file:
-            return file.read()
+    def runs(self, case, settings):
+        """Runs of a case, with each of these settings."""
+        return self.run_all(case.words, [(case.given, case.start, it) for it in settings], case.disk)
 
-    def plain(self, words, given=b""):
-        return subprocess.run(self.program + words, cwd=self.folder, input=given, capture_output=True)
-
-    def look(self, case, content):
-        """The lines of show, or of keys, of a copy of that file; None where it is no log."""
-        self.put(case, content)
-        shown = self.plain([case.look])
-        if shown.returncode == 5:
-            return None
-        if shown.returncode != 0:
-            self.fault(case, "%s ends with %d" % (case.look, shown.returncode))
-        return words_of(shown.stdout)
-
-    def reference(self, case):
-        """A run without a stop: its calls, what it wrote, and the list of records after each sync."""
-        trace = os.path.join(self.folder, "trace")
-        if os.path.exists(trace):
-            os.remove(trace)
-        self.put(case, case.start)
-        run = self.library.run(self.program, case.words, self.folder, case.given, case.disk, trace=trace)
-        if run.returncode != 0:
-            self.fault(case, "ends with %d: %s" % (run.returncode, run.stderr))
-        return preload.calls_of(trace), run.stdout, self.content(case)
+    def look(self, case, contents):
+        """What those files open to: the lines of show, or of keys with the bodies of a store; None where it is no log."""
+        new = [it for it in dict.fromkeys(contents) if (case.store, it) not in self.looked]
+        shown = self.run_all(["keys" if case.store else "show"], [(b"", it, {}) for it in new], case.disk)
+        self.counts["files"] += len(new)
+        for content, run in zip(new, shown):
+            found = None
+            if run.status not in (0, 5):
+                self.fault(case, "what it leaves cannot be shown: status %s" % run.status)
+            if run.status == 0:
+                found = words_of(run.out)
+                if case.store:
+                    found = (bound.bodies(content), found)
+            self.looked[case.store, content] = found
+        return [self.looked[case.store, it] for it in contents]
 
     def try_case(self, case):
-        calls, written, _ = self.reference(case)
+        whole = self.runs(case, [{"trace": "trace"}])[0]
+        if whole.status != 0:
+            self.fault(case, "ends with %s: %s" % (whole.status, whole.err))
         self.counts["runs"] += 1
         changes, out = [], 0
-        for name, one, _ in calls:
-            if name in ("pwrite", "ftruncate", "fsync"):
+        for name, one, _ in whole.calls:
+            if name in preload.CHANGES:
                 changes.append((name, out))
             elif name == "write":
                 out += one
@@ -92,58 +91,57 @@ class Stops:
             self.fault(case, "has %d changing calls, where it had %d" % (len(changes), case.calls))
         self.counts["calls"] += len(changes)
         # What the file holds at each sync: a stop in it, with all that was written.
-        lists = [self.look(case, case.start)]
-        before = []  # for each call the number of syncs that are done
-        for k, (name, _) in enumerate(changes, 1):
-            before.append(len(lists) - 1)
-            if name == "fsync":
-                lists.append(self.look(case, self.stop(case, k, "new")[1]))
+        syncs = [k for k, (name, _) in enumerate(changes, 1) if name == "fsync"]
+        lists = self.look(case, [case.start] + [it.disk for it in self.runs(case, [{"stop": "%d new" % k} for k in syncs])])
         for k, (_, out) in enumerate(changes, 1):
-            for fill in self.fills:
-                run, image = self.stop(case, k, fill)
-                self.judge(case, k, fill, run, image, written[:out], lists[before[k - 1]], lists[before[k - 1] + 1])
+            done = sum(it < k for it in syncs)
+            runs = self.runs(case, [{"stop": "%d %s" % (k, fill)} for fill in self.fills])
+            found = self.look(case, [run.disk for run in runs])
+            for fill, run, it in zip(self.fills, runs, found):
+                self.judge(case, "call %d, fill %s: " % (k, fill), fill, run, it, whole.out[:out], lists[done], lists[done + 1])
+            self.start_all(case, [(run.disk, it) for run, it in zip(runs, found)], "call %d: " % k)
+        self.looked.clear()
+        self.started.clear()
         return changes
 
-    def stop(self, case, k, fill):
-        self.put(case, case.start)
-        run = self.library.run(self.program, case.words, self.folder, case.given, case.disk, stop="%d %s" % (k, fill))
-        return run, self.content(case)
-
-    def judge(self, case, k, fill, run, image, written, before, after):
-        where = "call %d, fill %s: " % (k, fill)
+    def judge(self, case, where, fill, run, found, written, before, after):
         self.counts["stops"] += 1
-        if run.returncode != preload.STOPPED or run.stdout != written:
-            self.fault(case, where + "status %d, %d bytes of output and not %d" % (run.returncode, len(run.stdout), len(written)))
-        found = self.look(case, image)
-        if found == before and found == after:
+        if run.status != preload.STOPPED or run.out != written:
+            self.fault(case, where + "status %s, %d bytes of output and not %d" % (run.status, len(run.out), len(written)))
+        if found == before:
             self.counts["lists before"] += 1
         elif found == after:
             self.counts["lists after"] += 1
-        elif found == before:
-            self.counts["lists before"] += 1
-        elif found is None and case.words[0] == "format":
+        elif found is None and case.makes:
             self.counts["no log"] += 1
         else:
-            self.fault(case, where + "the list is neither that before nor that after: %s" % found)
+            self.fault(case, where + "the list is neither that before nor that after: %s" % (found,))
             return
-        if before != after and found in (before, after) and case.words[0] in ("node", "tx"):
+        if before != after and found in (before, after) and not case.makes and case.words[0] in ("node", "tx", "drive", "replay"):
             # The gate decides: the record is kept exactly where that byte is 01.
-            places, _ = wire.gates_of(image)
             kept = found == after
-            if fill in ("00", "ff", "old") and kept or fill in ("01", "new") and not kept:
+            if fill in ("01", "new") and not kept or (fill == "old" or is_byte(fill) and fill != "01") and kept:
                 self.fault(case, where + "the record is %s" % ("kept" if kept else "lost"))
-        if case.look == "show" and found is not None:
-            self.restart(case, image, found, where)
 
-    def restart(self, case, image, found, where):
-        self.put(case, image)
+    def start_all(self, case, files, where):
+        """A site, or a store, starts on each of these files, of which is said what they open to, and goes on."""
         name = case.words[2] if len(case.words) > 2 else "a"
-        again = self.plain(["node", "--name", name])
-        shown = words_of(self.plain(["show"]).stdout)
-        boots = sum(words[0] == "boot" for words in found)
-        if again.returncode != 0 or again.stdout or shown[:-1] != found or shown[-1][0] != "boot":
-            self.fault(case, where + "a start on it: status %d, %s after %d boots" % (again.returncode, shown[-1:], boots))
-        self.counts["restarts"] += 1
+        new = {content: found for content, found in files if found is not None and content not in self.started}
+        self.started.update(new)
+        self.counts["starts"] += len(new)
+        words, given = (["replay"], bound.ONE_MORE) if case.store else (["node", "--name", name], b"")
+        runs = self.run_all(words, [(given, content, {}) for content in new], case.disk)
+        for found, run, now in zip(new.values(), runs, self.look(case, [run.disk for run in runs])):
+            if case.store:
+                well = now == bound.after_one_more(found[0])
+            else:
+                well = run.out == b"" and now is not None and now[:-1] == found and now[-1][0] == "boot"
+            if run.status != 0 or not well:
+                self.fault(case, where + "a start on %s: status %s, and then %s" % (found, run.status, now))
+
+
+def is_byte(fill):
+    return len(fill) == 2
 
 
 def words_of(shown):
@@ -153,28 +151,15 @@ def words_of(shown):
 
 
 def node_log(stops, words, start, bodies):
-    case = Case("making a log", words, start, 0, streams.stream(bodies))
-    stops.put(case, case.start)
-    run = stops.plain(words, case.given)
-    if run.returncode != 0:
-        sys.exit("a log cannot be made: %s" % run.stderr)
-    return stops.content(case)
-
-
-def store_log():
-    tree = lambda k: b"\x01a" + wire.mark(1, 1, k)
-    bodies = []
-    for k, word in ((1, bank.KEEP), (2, bank.DROP), (3, bank.KEEP)):
-        writes = [bank.put(b"account", b"%d" % (100 * k)), bank.put(b"t%d" % k, b"%d" % k)]
-        bodies.append(bytes([bank.BIND]) + tree(k) + wire.short(2) + b"".join(writes))
-        bodies.append(bytes([word]) + tree(k))
-    return wire.log_of(bodies, wide=False)
+    run = stops.run_all(words, [(streams.stream(bodies), start, {})])[0]
+    if run.status != 0:
+        sys.exit("a log cannot be made: %s" % run.err)
+    return run.disk
 
 
 def cut_compactions(stops, words, start, steps):
     """The files that a compaction leaves where it stops after the selector was written."""
-    case = Case("cut", words, start, 0)
-    return [stops.stop(case, k, "new")[1] for k in steps]
+    return [it.disk for it in stops.runs(Case("cut", words, start, 0), [{"stop": "%d new" % k} for k in steps])]
 
 
 def cases(stops):
@@ -202,7 +187,16 @@ def cases(stops):
         for k, image in enumerate(cut_compactions(stops, [word], log, (6, 8))):
             yield Case("show of a cut %s, %d" % (word, k + 1), ["show"], image, 7)
             yield Case("node on a cut %s, %d" % (word, k + 1), ["node", "--name", "b"], image, 11)
-    yield Case("keys", ["keys"], store_log(), 1, disk="bound.log", look="keys")
+    store, in_doubt = bound.log(), bound.log(decided=False)
+    transactions = bound.schedule((True, False, True))
+    yield Case("keys", ["keys"], store, 1, disk="bound.log")
+    yield Case("keys of a store in doubt", ["keys"], in_doubt, 1, disk="bound.log")
+    yield Case("replay: a store that is made", ["replay"], b"", 28, transactions, "bound.log")
+    yield Case("replay: a store binds, keeps, drops", ["replay"], store, 25, transactions, "bound.log")
+    yield Case("replay: a store in doubt", ["replay"], in_doubt, 29, transactions, "bound.log")
+    if stops.options.drive:
+        yield Case("drive: two transactions of a subordinate", ["drive", "--name", "b"], wire.FRESH, 29, sub)
+        yield Case("drive: two transactions of a root", ["drive", "--name", "a"], wire.FRESH, 21, root)
 
 
 def main():
@@ -210,11 +204,14 @@ def main():
     tools.add_program(parser)
     parser.add_argument("--short", action="store_true")
     parser.add_argument("--full", action="store_true")
+    parser.add_argument("--only", default="", help="the cases whose names have this")
     options = parser.parse_args()
     tools.set_program(options)
     folder = tempfile.mkdtemp(prefix="stops-")
     stops = Stops(options, folder)
     for case in cases(stops):
+        if options.only not in case.name:
+            continue
         changes = stops.try_case(case)
         print("%s: %d changing calls" % (case.name, len(changes)), flush=True)
     shutil.rmtree(folder)

@@ -6,16 +6,27 @@ import sys
 
 ROOT = pathlib.Path(__file__).resolve().parent.parent
 PROGRAM = ROOT / "crates" / "tpnode" / "out" / "tpnode"
+DRIVE = ROOT / "crates" / "tpdrive" / "out" / "tpdrive"
 
 
 def add_program(parser):
     parser.add_argument("--program", help="the command that is tried, %s where it is not given" % PROGRAM.relative_to(ROOT))
+    parser.add_argument("--drive", help="the command of the workers, %s where it is not given" % DRIVE.relative_to(ROOT))
 
 
 def set_program(options):
     options.program = shlex.split(options.program) if options.program else [str(PROGRAM)]
     if os.sep in options.program[0] and not os.access(options.program[0], os.X_OK):
         sys.exit("%s is not there: build it by `rt run` in crates/tpnode, or name another by --program" % options.program[0])
+    options.drive = shlex.split(options.drive) if options.drive else [str(DRIVE)]
+    if os.sep in options.drive[0] and not os.access(options.drive[0], os.X_OK):
+        print("%s is not there: the workers are left out" % options.drive[0], flush=True)
+        options.drive = None
+
+
+def command_of(options, words):
+    """The command line of these words. The first of them is a command of tpnode, or `drive` for the workers."""
+    return options.drive + words[1:] if words[:1] == ["drive"] else options.program + words
 
 
 def counted(counts):
