@@ -129,7 +129,8 @@ def rows(folder=".", nodes=16, transactions=20, rounds=5, on="a real file"):
                 sys.exit("the outputs differ")
     took = {name: statistics.median(times[name]) for name in runs}
     for workers in (1, 2, 4):
-        yield f"`tpdrive` with {workers} workers on {on}", "events a second", events / took[f"drive, {workers} workers"], events / took["node"], "`tpnode node`"
+        many = "s" if workers > 1 else ""
+        yield f"`tpdrive` with {workers} worker{many} on {on}", "events a second", events / took[f"drive, {workers} workers"], events / took["node"], "`tpnode node`"
     for group in (4, 16) if on == "a real file" else ():
         yield f"a C loop, {group} records with a pair of syncs", "records a second", records / took[f"C loop, {group} a sync"], records / took["C loop, 1 a sync"], "one record"
 
