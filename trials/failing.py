@@ -181,12 +181,12 @@ def cases(trial):
 
 def main():
     parser = argparse.ArgumentParser(prog="trials/run failing")
-    tools.add_program(parser)
+    tools.add_program(parser, workers=True)
     parser.add_argument("--short", action="store_true")
     parser.add_argument("--only", default="", help="the cases whose names have this")
     options = parser.parse_args()
     options.full = False
-    tools.set_program(options)
+    tools.set_program(options, workers=True)
     folder = tempfile.mkdtemp(prefix="failing-")
     trial = Failing(options, folder)
     for case in cases(trial):
@@ -196,6 +196,7 @@ def main():
         if case.name in ("node: two transactions of a subordinate", "tx: two transactions", "show"):
             trial.closed(case)
     trial.words()
+    trial.library.end()
     shutil.rmtree(folder)
     print("failing: %d faults, %s" % (len(trial.faults), tools.counted(trial.counts)))
     sys.exit(1 if trial.faults else 0)

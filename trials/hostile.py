@@ -655,18 +655,19 @@ class Mutant:
 
 def main():
     parser = argparse.ArgumentParser(prog="trials/run hostile")
-    tools.add_program(parser)
+    tools.add_program(parser, workers=True)
     parser.add_argument("--beside", help="a second machine")
     parser.add_argument("--short", action="store_true")
     parser.add_argument("--frames", type=int, help="random frames")
     parser.add_argument("--only", choices=["worked", "codes", "random", "limits"])
     parser.add_argument("--seed", type=int, default=1)
     options = parser.parse_args()
-    tools.set_program(options)
+    tools.set_program(options, workers=True)
     folder = tempfile.mkdtemp(prefix="hostile-")
     trial = Hostile(options, folder)
     for part in [options.only] if options.only else ["worked", "codes", "random", "limits"]:
         getattr(trial, part)()
+    trial.library.end()
     shutil.rmtree(folder)
     if not trial.faults:
         shutil.rmtree(trial.kept)

@@ -352,6 +352,11 @@ class Library:
             results += loaded.run_all(runs[at : at + MOST_AT_ONCE], disk, seconds)
         return results
 
+    def end(self):
+        for loaded in self.loaded.values():
+            loaded.end()
+        self.loaded.clear()
+
     def run(self, command, given=b"", content=b"", disk="tp.log", seconds=300, **settings):
         return self.run_all(command, [(given, content, settings)], disk, seconds)[0]
 

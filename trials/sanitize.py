@@ -1,6 +1,6 @@
 """The commands under valgrind, and their inputs mutated without end.
 
-trials/run sanitize [--program CMD] [--drive CMD] [--short] [--seconds N] [--seed N]
+trials/run sanitize [--program CMD] [--drive CMD] [--short] [--seconds N] [--only PART] [--seed N]
 
 First each command runs under valgrind (memcheck) on worked inputs: no read or write out of place, no use of what was never written,
 nothing lost, and the same output and log as without it. Then a mutator takes worked inputs and logs, changes them (bits, bytes,
@@ -173,17 +173,21 @@ class Sanitize:
 
 def main():
     parser = argparse.ArgumentParser(prog="trials/run sanitize")
-    tools.add_program(parser)
+    tools.add_program(parser, workers=True)
     parser.add_argument("--short", action="store_true")
     parser.add_argument("--seconds", type=float, help="how long the mutator runs")
+    parser.add_argument("--only", choices=["valgrind", "mutants"])
     parser.add_argument("--seed", type=int, default=1)
     options = parser.parse_args()
-    tools.set_program(options)
+    tools.set_program(options, workers=True)
     folder = tempfile.mkdtemp(prefix="sanitize-")
     trial = Sanitize(options, folder)
     cases = trial.worked()
-    trial.valgrind(cases[::4] if options.short else cases)
-    trial.mutate(cases)
+    if options.only != "mutants":
+        trial.valgrind(cases[::4] if options.short else cases)
+    if options.only != "valgrind":
+        trial.mutate(cases)
+    trial.library.end()
     shutil.rmtree(folder)
     if not trial.faults:
         shutil.rmtree(trial.kept)

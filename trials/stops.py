@@ -201,12 +201,12 @@ def cases(stops):
 
 def main():
     parser = argparse.ArgumentParser(prog="trials/run stops")
-    tools.add_program(parser)
+    tools.add_program(parser, workers=True)
     parser.add_argument("--short", action="store_true")
     parser.add_argument("--full", action="store_true")
     parser.add_argument("--only", default="", help="the cases whose names have this")
     options = parser.parse_args()
-    tools.set_program(options)
+    tools.set_program(options, workers=True)
     folder = tempfile.mkdtemp(prefix="stops-")
     stops = Stops(options, folder)
     for case in cases(stops):
@@ -214,6 +214,7 @@ def main():
             continue
         changes = stops.try_case(case)
         print("%s: %d changing calls" % (case.name, len(changes)), flush=True)
+    stops.library.end()
     shutil.rmtree(folder)
     print("stops: %d faults, %s" % (len(stops.faults), tools.counted(stops.counts)))
     sys.exit(1 if stops.faults else 0)

@@ -1,4 +1,5 @@
 """What the trials share: which program is tried, temporary folders, lines of counts."""
+import argparse
 import os
 import pathlib
 import shlex
@@ -9,17 +10,17 @@ PROGRAM = ROOT / "crates" / "tpnode" / "out" / "tpnode"
 DRIVE = ROOT / "crates" / "tpdrive" / "out" / "tpdrive"
 
 
-def add_program(parser):
+def add_program(parser, workers=False):
     parser.add_argument("--program", help="the command that is tried, %s where it is not given" % PROGRAM.relative_to(ROOT))
-    parser.add_argument("--drive", help="the command of the workers, %s where it is not given" % DRIVE.relative_to(ROOT))
+    parser.add_argument("--drive", help="the command of the workers, %s where it is not given" % DRIVE.relative_to(ROOT) if workers else argparse.SUPPRESS)
 
 
-def set_program(options):
+def set_program(options, workers=False):
     options.program = shlex.split(options.program) if options.program else [str(PROGRAM)]
     if os.sep in options.program[0] and not os.access(options.program[0], os.X_OK):
         sys.exit("%s is not there: build it by `rt run` in crates/tpnode, or name another by --program" % options.program[0])
     options.drive = shlex.split(options.drive) if options.drive else [str(DRIVE)]
-    if os.sep in options.drive[0] and not os.access(options.drive[0], os.X_OK):
+    if workers and os.sep in options.drive[0] and not os.access(options.drive[0], os.X_OK):
         print("%s is not there: the workers are left out" % options.drive[0], flush=True)
         options.drive = None
 
