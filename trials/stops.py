@@ -9,12 +9,10 @@ after, which of the two as docs/FORMATS.md says; and a site, or a store, that st
 each run is a constant of this file. --full tries all 256 values of the byte.
 """
 import argparse
-import os
 import shutil
 import sys
 import tempfile
 
-import bank
 import bound
 import preload
 import streams
@@ -35,6 +33,8 @@ class Case:
         self.makes = words[0] == "format" or self.store and start == b""
         # What a store in it is to do with each transaction: keep it, or drop it.
         self.transactions = (True, False, True)
+        # Workers force records of different nodes in any order.
+        self.order_open = words[0] == "drive" and "--workers" in words
 
 
 class Stops:
@@ -93,12 +93,14 @@ class Stops:
         # What the file holds at each sync: a stop in it, with all that was written.
         syncs = [k for k, (name, _) in enumerate(changes, 1) if name == "fsync"]
         lists = self.look(case, [case.start] + [it.disk for it in self.runs(case, [{"stop": "%d new" % k} for k in syncs])])
+        whole_list = self.look(case, [whole.disk])[0]
         for k, (_, out) in enumerate(changes, 1):
             done = sum(it < k for it in syncs)
             runs = self.runs(case, [{"stop": "%d %s" % (k, fill)} for fill in self.fills])
             found = self.look(case, [run.disk for run in runs])
+            view = (lambda it: without_order(it, whole_list)) if case.order_open else (lambda it: it)
             for fill, run, it in zip(self.fills, runs, found):
-                self.judge(case, "call %d, fill %s: " % (k, fill), fill, run, it, whole.out[:out], lists[done], lists[done + 1])
+                self.judge(case, "call %d, fill %s: " % (k, fill), fill, run, view(it), whole.out[:out], view(lists[done]), view(lists[done + 1]))
             self.start_all(case, [(run.disk, it) for run, it in zip(runs, found)], "call %d: " % k)
         self.looked.clear()
         self.started.clear()
@@ -138,6 +140,16 @@ class Stops:
                 well = run.out == b"" and now is not None and now[:-1] == found and now[-1][0] == "boot"
             if run.status != 0 or not well:
                 self.fault(case, where + "a start on %s: status %s, and then %s" % (found, run.status, now))
+
+
+def without_order(found, whole):
+    """How many records there are, where each node has its first ones of the whole list; else the list itself."""
+    of_node = lambda records: lambda node: [it for it in records if (it[1] if it[0] != "boot" else None) == node]
+    for node in {it[1] if it[0] != "boot" else None for it in found or []}:
+        mine = of_node(found)(node)
+        if mine != of_node(whole)(node)[: len(mine)]:
+            return found
+    return len(found) if found is not None else None
 
 
 def is_byte(fill):
@@ -197,6 +209,8 @@ def cases(stops):
     if stops.options.drive:
         yield Case("drive: two transactions of a subordinate", ["drive", "--name", "b"], wire.FRESH, 29, sub)
         yield Case("drive: two transactions of a root", ["drive", "--name", "a"], wire.FRESH, 21, root)
+        workers = streams.stream(streams.subordinates((2, 3, 4), 2))
+        yield Case("drive: three nodes on three workers", ["drive", "--name", "b", "--workers", "3"], wire.FRESH, 77, workers)
 
 
 def main():

@@ -21,24 +21,29 @@ class Association:
         return arrive(self.sender, self.target, text)
 
 
-def subordinate(transactions, damage=False):
-    """Node 2 of site b under node 1 of site a: Ready, Commit and End of each transaction; with damage a Heuristic, a Damage, too."""
-    x, y = mark(1, 1, 1), mark(1, 2, 1)
-    out = [declare(2, ROOT), arrive(ROOT, LEAF, b"\x01" + x + UNITS), do(2, wire.ACCEPT, UNITS)]
-    root = Association(ROOT, LEAF, x, y)
+def subordinate(transactions, damage=False, node=2):
+    """A node of site b under node 1 of site a: Ready, Commit and End of each transaction; with damage a Heuristic, a Damage, too."""
+    leaf, x, y = address("b", node), mark(1, 1, 1), mark(1, node, 1)
+    out = [declare(node, ROOT), arrive(ROOT, leaf, b"\x01" + x + UNITS), do(node, wire.ACCEPT, UNITS)]
+    root = Association(ROOT, leaf, x, y)
     for k in range(transactions):
         tree, branch = b"\x01a" + mark(1, 1, 2 * k + 2), b"\x01a" + mark(1, 1, 2 * k + 3)
         out.append(root.says(b"\x0c" + tree + branch + b"\x00"))
         out.append(root.says(b"\x02" + octets(b"work %d" % k)))
         out.append(root.says(b"\x0d"))
-        out.append(do(2, wire.COMMIT))
+        out.append(do(node, wire.COMMIT))
         if damage:
-            out.append(b"\x05" + short(2) + b"\x02")
+            out.append(b"\x05" + short(node) + b"\x02")
         out.append(root.says(b"\x0f"))
-        out.append(do(2, wire.DONE))
+        out.append(do(node, wire.DONE))
         if damage:
-            out.append(arrive(ROOT, LEAF, b"\x08" + tree + branch))
+            out.append(arrive(ROOT, leaf, b"\x08" + tree + branch))
     return out
+
+
+def subordinates(nodes, transactions):
+    """Several nodes of site b, as they come to them in turns."""
+    return [body for bodies in zip(*(subordinate(transactions, node=node) for node in nodes)) for body in bodies]
 
 
 def root(transactions, asked=True):
