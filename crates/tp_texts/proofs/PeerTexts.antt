@@ -1,20 +1,18 @@
 -- Which peer records have a text: all whose parts are read back, and of those on an association none with more octets than fit.
-use Rattle.std.proofs.Common.{◌≡◌, ℕ, ◌<◌, ◌≤◌, ◌^◌, Option, Some, List, [], ◌∷◌, ◌++◌, length, refl, sym, ap, ◌∙◌, arith}
+use Rattle.std.proofs.Common.{◌≡◌, ℕ, ◌<◌, ◌^◌, Option, List, [], ◌∷◌, ◌++◌, refl, sym, ap, ◌∙◌}
 use Rattle.std.proofs.lemmas.List.{append-nil}
 use Rattle.tp_names.specs.declared.identifiers.Mark.{Mark}
 use Rattle.tp_names.specs.declared.identifiers.Aaid.{Aaid}
 use Rattle.tp_names.specs.declared.identifiers.BranchId.{BranchId}
-use Rattle.tp_names.specs.Bytes.{byte_bytes, long_bytes, mark_bytes, aaid_bytes, branch_bytes, maybe_bytes, octets_bytes}
-use Rattle.tp_names.specs.Reading.{Reader, make, ◌and◌, applied, read_long, read_mark, read_aaid, read_branch, read_maybe, read_octets}
-use Rattle.tp_names.proofs.Sequences.{some_pair, Both, both_parts}
-use Rattle.tp_names.proofs.Counts.{OctetsParts, octets_parts}
+use Rattle.tp_names.specs.Bytes.{byte_bytes, long_bytes, mark_bytes, aaid_bytes, branch_bytes, maybe_bytes}
+use Rattle.tp_names.specs.Reading.{Reader, make, ◌and◌, read_long, read_mark, read_aaid, read_branch, read_maybe}
 use Rattle.tp_records.specs.declared.dialogue.DialogueRecord.{DialogueRecord}
 use Rattle.tp_records.specs.declared.peer.PeerRecord.{PeerRecord}
 use Rattle.tp_records.specs.declared.peer.RecState.{RecState}
 use Rattle.tp_records.specs.Bodies.{dialogue_bytes, state_bytes, peer_bytes}
 use Rattle.tp_records.specs.BodyReading.{read_units, read_dialogue, read_state, read_peer}
 use Rattle.tp_texts.specs.Texts.{Takes}
-use Rattle.tp_texts.specs.PeerTexts.{HasPeerText, HasFewOctets}
+use Rattle.tp_texts.specs.PeerTexts.{HasPeerText}
 use Rattle.tp_texts.proofs.TakenValues.{made, both, long_taken}
 use Rattle.tp_texts.proofs.PeerParts.{state_taken}
 
@@ -61,42 +59,3 @@ pub forget_text : (a : Aaid) (b : BranchId) → Takes read_aaid (aaid_bytes a) a
 forget_text a b x y =
     kind_taken (make (λ a b. PeerRecord.Forget a b) and read_aaid and read_branch) (aaid_bytes a ++ branch_bytes b) (PeerRecord.Forget a b) 8 (λ bytes. refl) refl
     (both (both (made (λ a b. PeerRecord.Forget a b)) x) y)
-
--- ---- and no others
-
--- what is read as octets of a user fits
-read_few : (bytes xs rest : List ℕ) → (make (λ xs. DialogueRecord.UserData xs) and read_octets 1024) bytes ≡ Some (DialogueRecord.UserData xs, rest) → length xs ≤ 1024
-read_few bytes xs rest h =
-    let b : Both (make (λ xs. DialogueRecord.UserData xs) bytes) (read_octets 1024) (DialogueRecord.UserData xs) rest = both_parts (make (λ xs. DialogueRecord.UserData xs) bytes) (read_octets 1024) (DialogueRecord.UserData xs) rest h in
-    let made_is = some_pair (λ xs. DialogueRecord.UserData xs) b.made bytes b.middle b.first in
-    let value : DialogueRecord.UserData xs ≡ DialogueRecord.UserData b.part = b.value ∙ ap (λ (f : List ℕ → DialogueRecord). f b.part) (sym made_is.0) in
-    let same : xs ≡ b.part = cc in
-    let x : OctetsParts 1024 b.middle b.part rest = octets_parts 1024 b.middle b.part rest b.second in
-    omega (arith, ap length same, x.fits)
-
-few_of : (d : DialogueRecord) → read_dialogue (dialogue_bytes d) ≡ Some (d, []) → HasFewOctets d
-few_of (DialogueRecord.UserData xs) h = read_few (octets_bytes xs) xs [] h
-few_of _ h = tt
-
-abbrev on_assoc : Mark → Mark → ℕ → DialogueRecord → PeerRecord
-on_assoc m n s d = PeerRecord.OnAssoc m n s d
-
-abbrev read_front : Reader (DialogueRecord → PeerRecord)
-read_front = make on_assoc and read_mark and read_mark and read_long
-
-abbrev front_bytes : Mark → Mark → ℕ → List ℕ
-front_bytes m n s = (mark_bytes m ++ mark_bytes n) ++ long_bytes s
-
--- the dialogue's record is read back after the association's marks
-dialogue_of : (m n : Mark) (s : ℕ) (d : DialogueRecord) (text : List ℕ) → applied (Some (on_assoc m n s, text)) read_dialogue ≡ Some (on_assoc m n s d, []) → read_dialogue text ≡ Some (d, [])
-dialogue_of m n s d text h =
-    let b : Both (Some (on_assoc m n s, text)) read_dialogue (on_assoc m n s d) [] = both_parts (Some (on_assoc m n s, text)) read_dialogue (on_assoc m n s d) [] h in
-    let front = some_pair (on_assoc m n s) b.made text b.middle b.first in
-    let value : on_assoc m n s d ≡ on_assoc m n s b.part = b.value ∙ ap (λ (f : DialogueRecord → PeerRecord). f b.part) (sym front.0) in
-    let same : b.part ≡ d = cc in
-    ap read_dialogue front.1 ∙ b.second ∙ ap (λ (e : DialogueRecord). Some (e, [])) same
-
-pub on_assoc_few : (m n : Mark) (s : ℕ) (d : DialogueRecord) → s < 2 ^ 64 → Takes read_mark (mark_bytes m) m → Takes read_mark (mark_bytes n) n → HasPeerText (PeerRecord.OnAssoc m n s d) → HasFewOctets d
-on_assoc_few m n s d h x y has =
-    let front : Takes read_front (front_bytes m n s) (on_assoc m n s) = both (both (both (made on_assoc) x) y) (long_taken s h) in
-    few_of d (dialogue_of m n s d (dialogue_bytes d) (ap (λ (o : Option ((DialogueRecord → PeerRecord) × List ℕ)). applied o read_dialogue) (sym (front.reads (dialogue_bytes d))) ∙ has.text))

@@ -13,6 +13,6 @@ mod shaped_texts;
 
 pub use log_texts::has_text;
 pub use peer_reading::read_whole_peer;
-pub use peer_texts::{few_has_text, peer_has_text};
+pub use peer_texts::few_has_text;
 pub use peer_writing::peer_octets;
 pub use shaped_texts::shaped_has_text;

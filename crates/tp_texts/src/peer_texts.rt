@@ -1,5 +1,4 @@
 //! Which peer records have a text: all but those with more of a user's octets than fit.
-ghost use Rattle.std.specs.Prelude.{◌↔◌, IsTrue};
 ghost use Rattle.tp_names.specs.Bytes.{byte_bytes, mark_bytes, maybe_bytes};
 ghost use Rattle.tp_names.specs.Reading.{read_mark, read_maybe};
 ghost use Rattle.tp_names.specs.Grammar.{HasText};
@@ -14,23 +13,16 @@ use tp_names::{Aaid, BranchId, Mark};
 use tp_records::{DialogueRecord, PeerRecord, RecState};
 use tp_units::Units;
 
-/// The record has a text: what it carries of a user's octets fits.
-pub fn peer_has_text(rec: &PeerRecord) -> bool
-    ensures { IsTrue result ↔ HasText peer_grammar rec.now }
-{
-    kind_has_text(rec)
-}
-
 /// A record that carries no more of a user's octets than fit has a text. It shows that, and answers nothing.
 pub fn few_has_text(rec: &PeerRecord)
     requires { CarriesFew rec.now }
     ensures { HasText peer_grammar rec.now }
 {
-    few_kind_has_text(rec);
+    kind_has_text(rec);
 }
 
 /// Kind by kind.
-fn few_kind_has_text(rec: &PeerRecord)
+fn kind_has_text(rec: &PeerRecord)
     requires { CarriesFew rec.now }
     ensures { HasPeerText rec.now }
 {
@@ -38,7 +30,7 @@ fn few_kind_has_text(rec: &PeerRecord)
         PeerRecord::OpenAssoc { x, units } => open_has_text(*x, *units),
         PeerRecord::AcceptAssoc { x, y, units } => accept_has_text(*x, *y, *units),
         PeerRecord::ShutAssoc { x, y } => shut_has_text(*x, *y),
-        PeerRecord::OnAssoc { x, y, seq, rec } => few_on_assoc_has_text(*x, *y, *seq, rec),
+        PeerRecord::OnAssoc { x, y, seq, rec } => on_assoc_has_text(*x, *y, *seq, rec),
         PeerRecord::RecReady { aaid, branch } => names_have_text(*aaid, *branch),
         PeerRecord::RecCommit { aaid, branch } => names_have_text(*aaid, *branch),
         PeerRecord::RecReply {
@@ -51,54 +43,13 @@ fn few_kind_has_text(rec: &PeerRecord)
 }
 
 #[tactic(auto, using(crate::proofs::PeerTexts::on_assoc_text))]
-fn few_on_assoc_has_text(x: Mark, y: Mark, seq: u64, rec: &DialogueRecord)
+fn on_assoc_has_text(x: Mark, y: Mark, seq: u64, rec: &DialogueRecord)
     requires { HasFewOctets rec.now }
     ensures { HasPeerText (PeerRecord.OnAssoc x y seq rec.now) }
 {
     mark_reads(x);
     mark_reads(y);
-    let _reads = dialogue_reads(rec);
-}
-
-/// The answer, kind by kind.
-fn kind_has_text(rec: &PeerRecord) -> bool
-    ensures { IsTrue result ↔ HasPeerText rec.now }
-{
-    match rec {
-        PeerRecord::OpenAssoc { x, units } => {
-            open_has_text(*x, *units);
-            true
-        }
-        PeerRecord::AcceptAssoc { x, y, units } => {
-            accept_has_text(*x, *y, *units);
-            true
-        }
-        PeerRecord::ShutAssoc { x, y } => {
-            shut_has_text(*x, *y);
-            true
-        }
-        PeerRecord::OnAssoc { x, y, seq, rec } => on_assoc_has_text(*x, *y, *seq, rec),
-        PeerRecord::RecReady { aaid, branch } => {
-            names_have_text(*aaid, *branch);
-            true
-        }
-        PeerRecord::RecCommit { aaid, branch } => {
-            names_have_text(*aaid, *branch);
-            true
-        }
-        PeerRecord::RecReply {
-            aaid,
-            branch,
-            state,
-        } => {
-            reply_has_text(*aaid, *branch, *state);
-            true
-        }
-        PeerRecord::Forget { aaid, branch } => {
-            names_have_text(*aaid, *branch);
-            true
-        }
-    }
+    dialogue_reads(rec);
 }
 
 #[tactic(auto, using(crate::proofs::PeerTexts::open_text))]
@@ -124,15 +75,6 @@ fn shut_has_text(x: Mark, y: Option<Mark>)
 {
     mark_reads(x);
     maybe_mark_reads(y);
-}
-
-#[tactic(auto, using(crate::proofs::PeerTexts::on_assoc_text, crate::proofs::PeerTexts::on_assoc_few))]
-fn on_assoc_has_text(x: Mark, y: Mark, seq: u64, rec: &DialogueRecord) -> bool
-    ensures { IsTrue result ↔ HasPeerText (PeerRecord.OnAssoc x y seq rec.now) }
-{
-    mark_reads(x);
-    mark_reads(y);
-    dialogue_reads(rec)
 }
 
 /// The three kinds that tell nothing but the names of a transaction and of a branch.
@@ -172,18 +114,16 @@ fn units_read(units: Units)
 }
 
 /// A record of a dialogue is read back where what it carries of a user's octets fits.
-#[tactic(auto, using(crate::proofs::PeerParts::dialogue_taken))]
-fn dialogue_reads(rec: &DialogueRecord) -> bool
-    ensures reads { IsTrue result → Takes read_dialogue (dialogue_bytes rec.now) rec.now }
-    ensures only { HasFewOctets rec.now → IsTrue result }
+fn dialogue_reads(rec: &DialogueRecord)
+    requires { HasFewOctets rec.now }
+    ensures { Takes read_dialogue (dialogue_bytes rec.now) rec.now }
 {
     match rec {
-        DialogueRecord::UserData { octets } => octets.len() <= 1024,
         DialogueRecord::Begin { aaid, branch, .. } => {
             aaid_reads(*aaid);
             branch_reads(*branch);
-            true
         }
-        _ => true,
+        DialogueRecord::UserData { .. } => {}
+        _ => {}
     }
 }
