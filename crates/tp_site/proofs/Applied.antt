@@ -15,8 +15,8 @@ use Rattle.tp_site.specs.InPlace.{IsPlanned, run_in_place, arrived_in_place, not
 use Rattle.tp_site.specs.Nodes.{Nodes, node_at, digest_at, IsSameSite}
 use Rattle.tp_site.specs.Shaped.{IsShapedSite}
 use Rattle.tp_site.specs.Site.{Site, IsPlayed}
-use Rattle.tp_site.proofs.Answered.{happens}
-use Rattle.tp_site.proofs.Quiet.{refused_not}
+use Rattle.tp_draft.proofs.Answered.{happens}
+use Rattle.tp_draft.proofs.Quiet.{refused_not}
 use Rattle.tp_site.proofs.Shaped.{drawn_shaped, put_shaped}
 
 -- no mark is drawn

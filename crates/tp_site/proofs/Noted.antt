@@ -30,9 +30,9 @@ use Rattle.tp_node.specs.Noted.{counted_in, ended_in}
 use Rattle.tp_node.proofs.Arriving.{at_peer}
 use Rattle.tp_node.proofs.Seen.{sight_seen}
 use Rattle.tp_site.specs.InPlace.{is_only_noted, is_acting, acts_at, told_of, taken_on, noted_on, arrived_in_place, IsPlanned}
-use Rattle.tp_site.proofs.Arriving.{taken_number, taken_there, from_dropped}
-use Rattle.tp_site.proofs.Turns.{seen_again}
-use Rattle.tp_site.proofs.Beginnings.{branches_seen}
+use Rattle.tp_draft.proofs.Arriving.{taken_number, taken_there, from_dropped}
+use Rattle.tp_draft.proofs.Turns.{seen_again}
+use Rattle.tp_draft.proofs.Beginnings.{branches_seen}
 
 -- ---- rows and branches
 

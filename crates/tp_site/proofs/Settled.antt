@@ -3,7 +3,7 @@ use Rattle.std.proofs.Common.{◌≡◌, ◌==◌, ℕ, refl, ap, ◌∙◌, sub
 use Rattle.tp_logrec.specs.declared.record.LogRec.{LogRec}
 use Rattle.tp_model.specs.Parts.{Event}
 use Rattle.tp_journal.specs.Keeping.{Standing}
-use Rattle.tp_site.specs.Draft.{Draft}
+use Rattle.tp_draft.specs.Draft.{Draft}
 use Rattle.tp_site.specs.Site.{Site, IsForced, IsAttempted, IsSettled, IsPlayed, known_at}
 
 -- the draft whose outputs were taken out of it

@@ -2,13 +2,6 @@ pub use Rattle.tp_node.specs.Outs
 pub use Rattle.tp_node.specs.State
 pub use Rattle.tp_node.specs.Node
 pub use Rattle.tp_node.specs.NodeEvent
-pub mod Draft
-pub mod Begins
-pub mod Passage
-pub mod Talk
-pub mod Calls
-pub mod Replies
-pub mod Answers
 pub mod Nodes
 pub mod Shaped
 pub mod Faults

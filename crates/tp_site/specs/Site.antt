@@ -16,7 +16,7 @@ use Rattle.tp_journal.specs.Keeping.{Standing, Forces}
 use Rattle.tp_journal.specs.Records.{version_of}
 use Rattle.tp_journal.specs.Disorder.{IsFirstOutOfOrder}
 use Rattle.tp_site.specs.Nodes.{Nodes, IsSameSite, AreFrom, has_node, who_at, digest_at}
-use Rattle.tp_site.specs.Draft.{Draft}
+use Rattle.tp_draft.specs.Draft.{Draft}
 use Rattle.tp_model.specs.declared.refusal.Refusal.{Refusal}
 use Rattle.tp_model.specs.Refusal.{number_in}
 use Rattle.tp_node.specs.NodeEvent.{Answer, Refuses, Happens, answer_at}

@@ -2,22 +2,15 @@
 //!
 //! An event runs on a draft: a copy of its node, the record that is to be forced, and the outputs. All
 //! memory is taken there, before anything is so. Then the record is forced, the draft takes the node's
-//! place, and the outputs are given. What a rule does stands with the definitions of the service, and a
-//! draft is what they call a move. A Ready or a Done that is only noted forces no record: what it says is worked out
+//! place, and the outputs are given. A Ready or a Done that is only noted forces no record: what it says is worked out
 //! first, and then it is noted on the node itself, which takes no memory.
 #![tactic(auto)]
 
-mod answer;
-mod arrival;
-mod copies;
-mod draft;
 mod faults;
 mod in_place;
-mod loss;
 mod nodes;
 mod outputs;
 mod recalled;
-mod recovery;
 mod site;
 
 pub use faults::{SiteFault, StartFault};

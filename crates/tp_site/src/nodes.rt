@@ -5,16 +5,16 @@ ghost use Rattle.std.specs.Option.{option_copied};
 ghost use Rattle.tp_model.specs.Events.{started};
 ghost use Rattle.tp_model.specs.Refusal.{number_in};
 ghost use Rattle.tp_node.specs.NodeEvent.{event_of, answer_at, refused_at_once};
-ghost use Rattle.tp_site.specs.Answers.{IsAnswer, IsPlain};
+ghost use Rattle.tp_draft.specs.Answers.{IsAnswer, IsPlain};
 ghost use Rattle.tp_site.specs.Nodes.{has_node, who_at, digest_at, node_at, find_node, unknown_start, IsSameSite, AreFrom};
 ghost use Rattle.tp_node.specs.Node.{recovered_by};
 ghost use Rattle.tp_site.specs.InPlace.{IsPlanned, run_in_place};
 
-use crate::draft::Draft;
 use crate::in_place;
 use std::alloc::Global;
 use std::collections::HashMap;
 use std::marker::Model;
+use tp_draft::Draft;
 use tp_logrec::{LogRec, LogVersion};
 use tp_model::{Refusal, TxFault};
 use tp_names::{NoMemory, SiteName};

@@ -11,7 +11,7 @@ ghost use Rattle.tp_logrec.specs.declared.record.LogRec.{LogRec as TheRecord};
 ghost use Rattle.tp_model.specs.NodeRun.{boot_of};
 ghost use Rattle.tp_journal.specs.Records.{version_of, HasText};
 ghost use Rattle.tp_node.specs.NodeEvent.{event_of};
-ghost use Rattle.tp_site.specs.Answers.{IsPlain};
+ghost use Rattle.tp_draft.specs.Answers.{IsPlain};
 ghost use Rattle.tp_site.specs.Nodes.{has_node, who_at, node_at};
 ghost use Rattle.tp_site.specs.Events.{IsAt, all_nodes};
 ghost use Rattle.tp_site.specs.Site.{Plays, Attempts, Settles, Records, Opens, Starts, IsFound, IsUnfound, told_records, opening_of, state_at, known_at};
@@ -23,12 +23,11 @@ ghost use Rattle.tp_texts.specs.Shapes.{IsShaped};
 ghost use Rattle.tp_said_texts.specs.Standing.{IsShapedOption};
 ghost use Rattle.tp_said_texts.specs.Sizes.{AreShort, BringsFew};
 
-use crate::answer::breaks;
-use crate::draft::Draft;
 use crate::faults::{SiteFault, StartFault};
 use crate::nodes::Nodes;
 use std::alloc::Global;
 use std::marker::Model;
+use tp_draft::{Draft, breaks};
 use tp_journal::{ForceFault, Keeper, first_out_of_order};
 use tp_logrec::{LogRec, LogVersion};
 use tp_model::{Phase, Refusal, TxFault};
@@ -163,7 +162,7 @@ impl<K: Keeper> Site<K> {
     }
 
     // The first draft, but where the event is refused at once.
-    #[tactic(auto, using(crate::proofs::Answered::refused_plain))]
+    #[tactic(auto, using(tp_draft::proofs::Answered::refused_plain))]
     fn first_draft(
         &self,
         alloc: Global,

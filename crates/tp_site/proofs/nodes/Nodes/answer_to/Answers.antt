@@ -2,7 +2,7 @@
 use Rattle.std.proofs.Common.{◌≡◌, refl, sym, ◌∙◌, subst}
 use Rattle.tp_model.specs.Parts.{Who, Digest}
 use Rattle.tp_node.specs.Node.{Node}
-use Rattle.tp_site.specs.Answers.{IsPlain}
+use Rattle.tp_draft.specs.Answers.{IsPlain}
 use Rattle.tp_site.specs.Nodes.{who_at}
 use Rattle.tp_site.proofs.Numbered.{unfound}
 use Rattle.tp_site.proofs.nodes.Nodes.answer_to.Goals as goal

@@ -1,0 +1,13 @@
+use Rattle.std.proofs.Common.{ap, subst, ◌∙◌}
+use Rattle.tp_draft.specs.Draft.{Draft, Plays}
+use Rattle.tp_node.specs.Node.{Node}
+use Rattle.tp_draft.specs.Passage.{giving}
+use Rattle.tp_draft.proofs.Turns.{given}
+use Rattle.tp_draft.proofs.draft.Draft.give.Goals as goal
+
+pub returns : goal.returns
+returns c =
+    let v = c.self.inside in
+    let drafted : Node → Draft = λ w. record { who = w.who; move = record { rec = v.rec; outs = v.outs; next = w.digest } } in
+    subst (λ (a : Draft). Plays c.perform.result a c.perform.new.self (giving c.args.branch.now)) c.self.view_is
+    (given c.perform.result (drafted v.node) (drafted c.step.new.self) c.perform.new.self c.args.branch.now c.as_slice.result.now (c.as_slice.ensures ∙ c.in_ok-grants.ensures {u = tt}) (ap drafted c.step.ensures) c.perform.ensures)

@@ -1,0 +1,17 @@
+use Rattle.std.proofs.Common.{◌≡◌, ◌∙◌, sym, subst, Some}
+use Rattle.std.specs.List.{slice_get}
+use Rattle.tp_draft.specs.Draft.{Draft}
+use Rattle.tp_draft.proofs.Retries.{purge_oldest}
+use Rattle.tp_model.specs.declared.recovery.KeptEvent.{KeptEvent}
+use Rattle.tp_model.specs.Recovery.{settled}
+use Rattle.tp_model.specs.Node.{keep}
+use Rattle.tp_model.specs.Events.{purge}
+use Rattle.tp_draft.proofs.Drafts.{plays_same_at}
+use Rattle.tp_draft.proofs.draft.Draft.purge.Goals as goal
+
+pub returns-in-Some : goal.returns-in-Some
+returns-in-Some c =
+    let a = c.args.self.now in
+    let k = c.in-Some.one in
+    let first : slice_get a.move.next.kept 0 ≡ Some k = subst (λ (x : Draft). slice_get x.move.next.kept 0 ≡ Some k) c.self.view_is (sym (c.in_ok-oldest.ensures {u = tt}) ∙ c.in-Some.is) in
+    plays_same_at c.settle_by.result a c.settle_by.new.self (λ who. purge) (λ who. keep (settled k KeptEvent.Purge)) (purge_oldest a.move.next k first) c.settle_by.ensures

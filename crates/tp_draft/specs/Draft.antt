@@ -1,0 +1,42 @@
+-- A draft: what an event makes of a node, before any of it is so. It is what the definitions call a move,
+-- and each rule goes on from where the one before it left it.
+use Rattle.std.specs.Prelude.{◌≡◌, true, Result, Ok, Err}
+use Rattle.tp_names.specs.declared.identifiers.NodeKey.{NodeKey}
+use Rattle.tp_model.specs.declared.recovery.KeptEvent.{KeptEvent}
+use Rattle.tp_model.specs.Recovery.{with_forget, noted}
+use Rattle.tp_node.specs.Node.{Node}
+use Rattle.tp_model.specs.Parts.{Who, Digest}
+use Rattle.tp_model.specs.Node.{Move, followed}
+use Rattle.tp_model.specs.Events.{needs_numbers}
+use Rattle.tp_node.specs.declared.halt.Halt.{Halt}
+use Rattle.tp_draft.specs.declared.draft.Draft.TheInside.{Inside}
+
+pub record Draft : Type 0 where
+  pub who : Who
+  pub move : Move
+
+abbrev pub draft_of : Inside → Draft
+draft_of v = record { who = v.node.who; move = record { rec = v.rec; outs = v.outs; next = v.node.digest } }
+
+-- a rule, at what the draft has come to
+abbrev pub goes_on : Draft → (Who → Digest → Move) → Draft
+goes_on a f = record a { move = followed a.move (f a.who) }
+
+-- how a rule answers: it is carried out; or it wants more numbers than there are; without memory nothing
+-- is said
+abbrev pub Plays : Result (Unit {0}) Halt → Draft → Draft → (Who → Digest → Move) → Type 0
+Plays (Ok u) old new f = new ≡ goes_on old f
+Plays (Err Halt.NumbersSpent) old new f = needs_numbers (followed old.move (f old.who)) ≡ true
+Plays (Err Halt.NoMemory) old new f = Unit {0}
+
+abbrev pub without_value : {A : Type 0} → Result A Halt → Result (Unit {0}) Halt
+without_value (Ok a) = Ok tt
+without_value (Err e) = Err e
+
+-- the node, as the draft has it by now
+abbrev pub node_in : Draft → Node
+node_in a = record { who = a.who; digest = a.move.next }
+
+-- Forget is noted of the kept transaction of that key
+abbrev pub forgetting : NodeKey → Digest → Digest
+forgetting k d = record d { kept = with_forget d.kept k (λ x. noted x KeptEvent.Forget) }

@@ -1,0 +1,7 @@
+pub mod Draft
+pub mod Begins
+pub mod Passage
+pub mod Talk
+pub mod Calls
+pub mod Replies
+pub mod Answers

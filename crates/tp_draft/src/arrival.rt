@@ -1,0 +1,97 @@
+//! Records that arrive and are not refused.
+ghost use Rattle.std.specs.Prelude.{◌≡◌, None};
+ghost use Rattle.tp_records.specs.declared.peer.PeerRecord.{PeerRecord};
+ghost use Rattle.tp_model.specs.Arrivals.{refused_arrival, do_arrival};
+ghost use Rattle.tp_draft.specs.Draft.{Plays};
+
+use crate::draft::Draft;
+use std::alloc::Global;
+use tp_names::{Addr, Mark};
+use tp_node::{Halt, key_of};
+use tp_records::{DialogueRecord, PeerRecord};
+use tp_units::Units;
+
+impl Draft {
+    // The superior offers a dialogue, where there is none with it.
+    #[tactic(auto, using(crate::proofs::Arriving::open_declared, crate::proofs::Arriving::open_side, crate::proofs::Arriving::open_alone))]
+    fn open_from(&mut self, from: Addr, x: Mark, units: Units) -> Result<(), Halt>
+        requires { refused_arrival self.old.who self.old.move.next from (PeerRecord.OpenAssoc x units) ≡ None }
+        ensures { Plays result self.old self.new (λ who. do_arrival who from (PeerRecord.OpenAssoc x units)) }
+    {
+        match self.node().find(from.node) {
+            None => self.take_open(from, x, units),
+            Some(_) => unreachable!(),
+        }
+    }
+
+    // The peer answers the call with that mark.
+    #[tactic(auto, using(crate::proofs::Arriving::accept_opening, crate::proofs::Arriving::accept_there))]
+    fn accept_from(
+        &mut self,
+        alloc: Global,
+        from: Addr,
+        x: Mark,
+        y: Mark,
+        units: Units,
+    ) -> Result<(), Halt>
+        requires { refused_arrival self.old.who self.old.move.next from (PeerRecord.AcceptAssoc x y units) ≡ None }
+        ensures { Plays result self.old self.new (λ who. do_arrival who from (PeerRecord.AcceptAssoc x y units)) }
+    {
+        match self.node().find(from.node) {
+            None => Ok(()),
+            Some(tie) => self.take_accept(alloc, &tie, x, y, units),
+        }
+    }
+
+    // A record comes on the association with that pair.
+    #[tactic(auto, using(crate::proofs::Arriving::taken_number, crate::proofs::Arriving::taken_there))]
+    fn take_from(
+        &mut self,
+        alloc: Global,
+        from: Addr,
+        x: Mark,
+        y: Mark,
+        seq: u64,
+        rec: &DialogueRecord,
+    ) -> Result<(), Halt>
+        requires { refused_arrival self.old.who self.old.move.next from (PeerRecord.OnAssoc x y seq rec.now) ≡ None }
+        ensures { Plays result self.old self.new (λ who. do_arrival who from (PeerRecord.OnAssoc x y seq rec.now)) }
+    {
+        match self.node().find(from.node) {
+            None => Ok(()),
+            Some(tie) => self.take_on(alloc, &tie, x, y, seq, rec),
+        }
+    }
+
+    /// A record that is not refused is taken.
+    pub(crate) fn do_arrival(
+        &mut self,
+        alloc: Global,
+        from: Addr,
+        rec: &PeerRecord,
+    ) -> Result<(), Halt>
+        requires { refused_arrival self.old.who self.old.move.next from rec.now ≡ None }
+        ensures { Plays result self.old self.new (λ who. do_arrival who from rec.now) }
+    {
+        match rec {
+            PeerRecord::OpenAssoc { x, units } => self.open_from(from, *x, *units),
+            PeerRecord::AcceptAssoc { x, y, units } => {
+                self.accept_from(alloc, from, *x, *y, *units)
+            }
+            PeerRecord::ShutAssoc { y, .. } => self.take_shut(alloc, from.node, *y),
+            PeerRecord::OnAssoc { x, y, seq, rec } => {
+                self.take_from(alloc, from, *x, *y, *seq, rec)
+            }
+            PeerRecord::RecReady { aaid, branch } => self.take_question(from, *aaid, *branch),
+            PeerRecord::RecCommit { aaid, branch } => {
+                self.take_order(alloc, from, *aaid, *branch)
+            }
+            PeerRecord::RecReply {
+                aaid,
+                branch,
+                state,
+            } => self.take_reply(alloc, from, *aaid, *branch, *state),
+            PeerRecord::Forget { aaid, branch } => self.take_forget(alloc, &key_of(aaid, branch)),
+        }
+    }
+}

@@ -1,0 +1,101 @@
+//! An event of a node on a draft of it.
+ghost use Rattle.std.specs.Prelude.{◌≡◌, false, [], OnOk, None};
+ghost use Rattle.tp_model.specs.Node.{move};
+ghost use Rattle.tp_model.specs.Events.{action, needs_numbers, says_nothing};
+ghost use Rattle.tp_model.specs.Parts.{Declare};
+ghost use Rattle.tp_draft.specs.Draft.{Plays, node_in};
+ghost use Rattle.tp_node.specs.NodeEvent.{event_of, refused_at_once};
+
+use crate::draft::Draft;
+use std::alloc::Global;
+use std::mem::replace;
+use tp_logrec::LogRec;
+use tp_model::TxEvent;
+use tp_names::{Addr, NoMemory};
+use tp_node::{Halt, Node, NodeEvent, Outs};
+
+impl Draft {
+    /// A draft of that node, on which nothing has happened.
+    pub fn of(alloc: Global, node: Node) -> Draft
+        ensures { result ≡ record { who = node.who; move = move [] node.digest } }
+    {
+        Draft {
+            node,
+            rec: None,
+            outs: Outs::new(alloc),
+        }
+    }
+
+    /// Begins anew as a draft of that node, on which nothing has happened, in the memory that it has.
+    pub(crate) fn begin(&mut self, alloc: Global, node: &Node) -> Result<(), NoMemory>
+        ensures { OnOk result (self.new ≡ record { who = node.now.who; move = move [] node.now.digest }) }
+    {
+        self.node.copy_from(alloc, node)?;
+        self.rec = None;
+        self.outs = Outs::new(alloc);
+        Ok(())
+    }
+
+    /// The record that is to be forced.
+    pub fn rec(&self) -> &Option<LogRec>
+        ensures { result.now ≡ self.now.move.rec }
+    {
+        &self.rec
+    }
+
+    /// The node, as the draft has it by now, takes that place.
+    pub fn put_node(&mut self, alloc: Global, place: &mut Node)
+        ensures node { place.new ≡ node_in self.old }
+        ensures outs { self.new.move.outs ≡ self.old.move.outs }
+    {
+        place.turn_into(alloc, &mut self.node);
+    }
+
+    /// The outputs, which it has no more.
+    pub fn take_outs(&mut self, alloc: Global) -> Outs
+        ensures outs { result ≡ self.old.move.outs }
+        ensures rest { self.new ≡ record self.old { move = record self.old.move { outs = [] } } }
+    {
+        replace(&mut self.outs, Outs::new(alloc))
+    }
+
+    /// Nothing goes out.
+    pub(crate) fn says_nothing(&self) -> bool
+        ensures { result ≡ says_nothing self.now.move.outs }
+    {
+        self.outs.is_empty()
+    }
+
+    /// It wants a number that an association has not. A mark that the counter has not is never drawn.
+    pub(crate) fn is_spent(&self) -> bool
+        ensures { result ≡ needs_numbers self.now.move }
+    {
+        self.outs.is_spent() || self.node.is_spent()
+    }
+
+    // The node is declared.
+    fn declare(&mut self, alloc: Global, superior: Option<Addr>) -> Result<(), Halt>
+        requires { self.old.move.next.declared ≡ false }
+        ensures { Plays result self.old self.new (λ who d. action who d (Declare superior)) }
+    {
+        self.node.declare(alloc, superior);
+        Ok(())
+    }
+
+    /// An event that is not refused happens.
+    pub(crate) fn happen(&mut self, alloc: Global, event: &NodeEvent<'_>) -> Result<(), Halt>
+        requires { refused_at_once self.old.who self.old.move.next event.now ≡ None }
+        ensures { Plays result self.old self.new (λ who d. action who d (event_of event.now)) }
+    {
+        match event {
+            NodeEvent::Declare { superior } => self.declare(alloc, *superior),
+            NodeEvent::Do { request } => self.do_request(alloc, request),
+            NodeEvent::Arrive { from, rec } => self.do_arrival(alloc, *from, rec),
+            NodeEvent::Lose { peer } => self.lose(alloc, *peer),
+            NodeEvent::Heur { outcome } => self.transact(alloc, &TxEvent::Heur(*outcome)),
+            NodeEvent::GiveUp { peer } => self.transact(alloc, &TxEvent::GiveUp { arc: *peer }),
+            NodeEvent::Retry => self.retry(alloc),
+            NodeEvent::Purge => self.purge(alloc),
+        }
+    }
+}
