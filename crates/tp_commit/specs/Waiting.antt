@@ -10,9 +10,12 @@ abbrev pub is_owing : Branch → Bool
 is_owing b = not (b.ended || b.left || b.given_up)
 
 -- a branch with another peer is so
+abbrev pub is_beside : (Branch → Bool) → ℕ → Branch → Bool
+is_beside f p b = not (b.peer.node == p) && f b
+
 abbrev pub some_beside : (Branch → Bool) → List Branch → ℕ → Bool
 some_beside f [] p = false
-some_beside f (b ∷ bs) p = (not (b.peer.node == p) && f b) || some_beside f bs p
+some_beside f (b ∷ bs) p = is_beside f p b || some_beside f bs p
 
 abbrev pub waits_beside : List Branch → ℕ → Bool
 waits_beside bs p = some_beside is_waited_for bs p

@@ -1,9 +1,9 @@
 //! The branches of a transaction, in the order in which they were begun.
 ghost use Rattle.std.specs.Prelude.{◌≡◌, ◌+◌, ◌≤◌, ◌++◌, Ok, IfOk, OnOk, length, vec_capacity};
-ghost use Rattle.tp_model.specs.Transactions.{find_row, find_row_by_id, all_settled, all_done, all_rolled_back, all_left, all_prepared, children_of, owed_of, reports_of, report_of_branch, carry_down, forgets, ends_down, prepare_each, ask_each, fresh_rows};
+ghost use Rattle.tp_model.specs.Transactions.{find_row, find_row_by_id, all_settled, all_done, all_rolled_back, all_left, all_prepared, children_of, owed_of, reports_of, report_of_branch, carry_down, forgets, ends_down, prepare_each, ask_each, fresh_rows, is_waited_for};
 ghost use Rattle.tp_commit.specs.Row.{noted_at, record_of};
 ghost use Rattle.tp_commit.specs.Branch.{standing_rows};
-ghost use Rattle.tp_commit.specs.Waiting.{waits_beside, owes_beside, with_counted, with_ended};
+ghost use Rattle.tp_commit.specs.Waiting.{is_beside, is_owing, waits_beside, owes_beside, with_counted, with_ended};
 ghost use Rattle.tp_model.specs.Node.{branches_of};
 
 use crate::row::{Note, Row};
@@ -85,24 +85,49 @@ pub(crate) fn all_left(rows: &[Row]) -> bool
     true
 }
 
-/// A branch with another peer is neither counted nor left.
+// The branch is with another peer, and neither counted nor left.
+fn waits_at(row: &Row, peer: u16) -> bool
+    ensures { result ≡ is_beside is_waited_for peer row.now.branch }
+{
+    row.peer.node != peer && !(row.counted || row.left)
+}
+
+// The branch is with another peer, and neither done, left nor given up.
+fn owes_at(row: &Row, peer: u16) -> bool
+    ensures { result ≡ is_beside is_owing peer row.now.branch }
+{
+    row.peer.node != peer && !(row.ended || row.left || row.given_up)
+}
+
+/// A branch with another peer is neither counted nor left. The last one is looked at first: branches answer in their order more
+/// often than not.
 pub(crate) fn waits_beside(rows: &[Row], peer: u16) -> bool
     ensures { result ≡ waits_beside (branches_of rows.now) peer }
 {
+    if let Some(row) = rows.last() {
+        if waits_at(row, peer) {
+            return true;
+        }
+    }
     for row in rows {
-        if row.peer.node != peer && !(row.counted || row.left) {
+        if waits_at(row, peer) {
             return true;
         }
     }
     false
 }
 
-/// A branch with another peer is neither done, left nor given up.
+/// A branch with another peer is neither done, left nor given up. The last one is looked at first.
 pub(crate) fn owes_beside(rows: &[Row], peer: u16) -> bool
     ensures { result ≡ owes_beside (branches_of rows.now) peer }
 {
+    if let Some(row) = rows.last() {
+        if owes_at(row, peer) {
+            return true;
+        }
+    }
     for row in rows {
-        if row.peer.node != peer && !(row.ended || row.left || row.given_up) {
+        if owes_at(row, peer) {
             return true;
         }
     }
