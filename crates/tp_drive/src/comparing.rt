@@ -1,9 +1,10 @@
 //! Whether two records are the same.
 ghost use Rattle.std.specs.Prelude.{◌≡◌, ◌≢◌, MatchBool};
+ghost use Rattle.tp_logrec.specs.declared.record.LogRec.{LogRec as LogRecord};
 
 use tp_logrec::LogRec;
 use tp_names::same::{is_addr, is_addr_option, is_branch, is_key};
-use tp_names::{Addr, Child, Children, NodeKey};
+use tp_names::{Addr, Child, Children, NodeKey, Outcome, Report};
 
 fn is_place(a: &Addr, b: &Addr) -> bool
     ensures { MatchBool result (a.now ≡ b.now) (a.now ≢ b.now) }
@@ -49,123 +50,170 @@ fn is_owner(node: u16, key: &NodeKey, n: u16, k: &NodeKey) -> bool
     is_key(key, k)
 }
 
-/// The same record: of one kind, with the same fields.
-pub fn is_same(a: &LogRec, b: &LogRec) -> bool
-    ensures { MatchBool result (a.now ≡ b.now) (a.now ≢ b.now) }
+// The record is the Ready of these parts.
+fn is_ready(node: u16, key: &NodeKey, superior: &Addr, children: &Children, rec: &LogRec) -> bool
+    ensures { MatchBool result (LogRecord.Ready node key.now superior.now children.now ≡ rec.now) (LogRecord.Ready node key.now superior.now children.now ≢ rec.now) }
 {
-    match (a, b) {
-        (LogRec::Boot { boot }, LogRec::Boot { boot: other }) => boot == other,
-        (
-            LogRec::Ready {
-                node,
-                key,
-                superior,
-                children,
-            },
-            LogRec::Ready {
-                node: n,
-                key: k,
-                superior: s,
-                children: c,
-            },
-        ) => {
-            if !is_owner(*node, key, *n, k) {
+    match rec {
+        LogRec::Ready {
+            node: n,
+            key: k,
+            superior: s,
+            children: c,
+        } => {
+            if !is_owner(node, key, *n, k) {
                 return false;
             }
             if !is_place(superior, s) {
                 return false;
             }
-            if !are_children(children, c) {
-                return false;
-            }
-            true
-        }
-        (
-            LogRec::Heuristic { node, key, outcome },
-            LogRec::Heuristic {
-                node: n,
-                key: k,
-                outcome: o,
-            },
-        ) => {
-            if !is_owner(*node, key, *n, k) {
-                return false;
-            }
-            outcome == o
-        }
-        (
-            LogRec::Commit {
-                node,
-                key,
-                superior,
-                children,
-            },
-            LogRec::Commit {
-                node: n,
-                key: k,
-                superior: s,
-                children: c,
-            },
-        ) => {
-            if !is_owner(*node, key, *n, k) {
-                return false;
-            }
-            if !is_superior(superior, s) {
-                return false;
-            }
-            if !are_children(children, c) {
-                return false;
-            }
-            true
-        }
-        (
-            LogRec::Damage {
-                node,
-                key,
-                superior,
-                side,
-                report,
-                owed,
-            },
-            LogRec::Damage {
-                node: n,
-                key: k,
-                superior: s,
-                side: d,
-                report: r,
-                owed: o,
-            },
-        ) => {
-            if !is_owner(*node, key, *n, k) {
-                return false;
-            }
-            if !is_superior(superior, s) {
-                return false;
-            }
-            if side != d {
-                return false;
-            }
-            if report != r {
-                return false;
-            }
-            if !are_children(owed, o) {
-                return false;
-            }
-            true
-        }
-        (
-            LogRec::End { node, key, outcome },
-            LogRec::End {
-                node: n,
-                key: k,
-                outcome: o,
-            },
-        ) => {
-            if !is_owner(*node, key, *n, k) {
-                return false;
-            }
-            outcome == o
+            are_children(children, c)
         }
         _ => false,
+    }
+}
+
+// The record is the Heuristic of these parts.
+fn is_heuristic(node: u16, key: &NodeKey, outcome: Outcome, rec: &LogRec) -> bool
+    ensures { MatchBool result (LogRecord.Heuristic node key.now outcome ≡ rec.now) (LogRecord.Heuristic node key.now outcome ≢ rec.now) }
+{
+    match rec {
+        LogRec::Heuristic {
+            node: n,
+            key: k,
+            outcome: o,
+        } => {
+            if !is_owner(node, key, *n, k) {
+                return false;
+            }
+            outcome == *o
+        }
+        _ => false,
+    }
+}
+
+// The record is the Commit of these parts.
+fn is_commit(
+    node: u16,
+    key: &NodeKey,
+    superior: &Option<Addr>,
+    children: &Children,
+    rec: &LogRec,
+) -> bool
+    ensures { MatchBool result (LogRecord.Commit node key.now superior.now children.now ≡ rec.now) (LogRecord.Commit node key.now superior.now children.now ≢ rec.now) }
+{
+    match rec {
+        LogRec::Commit {
+            node: n,
+            key: k,
+            superior: s,
+            children: c,
+        } => {
+            if !is_owner(node, key, *n, k) {
+                return false;
+            }
+            if !is_superior(superior, s) {
+                return false;
+            }
+            are_children(children, c)
+        }
+        _ => false,
+    }
+}
+
+// The record is the Damage of these parts.
+fn is_damage(
+    node: u16,
+    key: &NodeKey,
+    superior: &Option<Addr>,
+    judgement: (Outcome, Report),
+    owed: &Children,
+    rec: &LogRec,
+) -> bool
+    ensures { MatchBool result (LogRecord.Damage node key.now superior.now judgement.0 judgement.1 owed.now ≡ rec.now) (LogRecord.Damage node key.now superior.now judgement.0 judgement.1 owed.now ≢ rec.now) }
+{
+    match rec {
+        LogRec::Damage {
+            node: n,
+            key: k,
+            superior: s,
+            side,
+            report,
+            owed: o,
+        } => {
+            if !is_owner(node, key, *n, k) {
+                return false;
+            }
+            if !is_superior(superior, s) {
+                return false;
+            }
+            if judgement.0 != *side {
+                return false;
+            }
+            if judgement.1 != *report {
+                return false;
+            }
+            are_children(owed, o)
+        }
+        _ => false,
+    }
+}
+
+// The record is the End of these parts.
+fn is_end(node: u16, key: &NodeKey, outcome: Outcome, rec: &LogRec) -> bool
+    ensures { MatchBool result (LogRecord.End node key.now outcome ≡ rec.now) (LogRecord.End node key.now outcome ≢ rec.now) }
+{
+    match rec {
+        LogRec::End {
+            node: n,
+            key: k,
+            outcome: o,
+        } => {
+            if !is_owner(node, key, *n, k) {
+                return false;
+            }
+            outcome == *o
+        }
+        _ => false,
+    }
+}
+
+fn is_boot(boot: u64, rec: &LogRec) -> bool
+    ensures { MatchBool result (LogRecord.Boot boot ≡ rec.now) (LogRecord.Boot boot ≢ rec.now) }
+{
+    match rec {
+        LogRec::Boot { boot: other } => boot == *other,
+        _ => false,
+    }
+}
+
+/// The same record: of one kind, with the same fields.
+pub fn is_same(a: &LogRec, b: &LogRec) -> bool
+    ensures { MatchBool result (a.now ≡ b.now) (a.now ≢ b.now) }
+{
+    match a {
+        LogRec::Boot { boot } => is_boot(*boot, b),
+        LogRec::Ready {
+            node,
+            key,
+            superior,
+            children,
+        } => is_ready(*node, key, superior, children, b),
+        LogRec::Heuristic { node, key, outcome } => is_heuristic(*node, key, *outcome, b),
+        LogRec::Commit {
+            node,
+            key,
+            superior,
+            children,
+        } => is_commit(*node, key, superior, children, b),
+        LogRec::Damage {
+            node,
+            key,
+            superior,
+            side,
+            report,
+            owed,
+        } => is_damage(*node, key, superior, (*side, *report), owed, b),
+        LogRec::End { node, key, outcome } => is_end(*node, key, *outcome, b),
     }
 }
