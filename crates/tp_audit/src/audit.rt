@@ -44,7 +44,7 @@ impl Audit {
     ghost use Rattle.tp_journal.specs.Disorder.{IsFirstOutOfOrder};
     ghost use Rattle.std.specs.Prelude.{Some};
     ghost use Rattle.tp_audit.specs.declared.faults.AddFault.{AddFault as TheFault};
-    ghost use Rattle.tp_audit.specs.Entries.{SiteLog};
+    ghost use Rattle.tp_audit.specs.Entries.{SiteLog, keys_of};
     ghost use Rattle.tp_audit.specs.Verdicts.{verdict};
     ghost use Rattle.tp_audit.specs.Fates.{fates};
     ghost use Rattle.tp_audit.specs.Audits.{IsAuditOf, is_added, with_log};
@@ -97,10 +97,25 @@ impl Audit {
         ensures err { OnErr result ((logs : List SiteLog) → IsAuditOf logs self.old → IsAuditOf logs self.new) }
     {
         let keys = summaries(alloc, list)?;
+        self.add_keys(alloc, site, list, &keys)
+    }
+
+    // The same, with what is known of the keys of the list.
+    fn add_keys(
+        &mut self,
+        alloc: Global,
+        site: &SiteName,
+        list: &[LogRec],
+        keys: &IndexMap<Owner, Summary>,
+    ) -> Result<(), NoMemory>
+        requires { keys.now.entries ≡ summaries (keys_of list.now) }
+        ensures ok { OnOk result ((logs : List SiteLog) → is_added logs site.now ≡ false → IsAuditOf logs self.old → IsAuditOf (with_log logs site.now list.now) self.new) }
+        ensures err { OnErr result ((logs : List SiteLog) → IsAuditOf logs self.old → IsAuditOf logs self.new) }
+    {
         let recalled = Recalled::from_records(alloc, *site, LogVersion::Two, list)?;
         self.ledger.reserve(keys.len())?;
         self.sites.insert(SiteKey { name: *site }, recalled)?;
-        enter_all(&mut self.ledger, site, &keys);
+        enter_all(&mut self.ledger, site, keys);
         Ok(())
     }
 

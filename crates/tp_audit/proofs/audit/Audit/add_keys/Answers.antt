@@ -2,7 +2,7 @@ use Rattle.std.proofs.Common.{subst, sym}
 use Rattle.tp_audit.specs.Entries.{keys_of, entries}
 use Rattle.tp_audit.specs.Audits.{IsAuditOf}
 use Rattle.tp_audit.proofs.Judging.{taken_log}
-use Rattle.tp_audit.proofs.audit.Audit.add_in_order.Goals as goal
+use Rattle.tp_audit.proofs.audit.Audit.add_keys.Goals as goal
 
 pub returns-clause-ok : goal.returns-clause-ok
 returns-clause-ok c = λ logs missing is.
@@ -10,4 +10,4 @@ returns-clause-ok c = λ logs missing is.
     let kept = c.in_ok-reserve.ensures.same (entries logs) old.ledger in
     taken_log logs c.args.site.now c.args.list.now c.in_ok-recalled.recalled _ _ missing c.in_ok-recalled.ensures old
     c.in_ok-insert.ensures.updates.0
-    (c.enter_all.ensures (entries logs) (keys_of c.args.list.now) kept c.in_ok-keys.ensures)
+    (c.enter_all.ensures (entries logs) (keys_of c.args.list.now) kept c.requires)
