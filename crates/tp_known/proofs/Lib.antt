@@ -10,3 +10,4 @@ pub mod deferral
 pub mod rests
 pub mod whole
 pub mod passages
+pub mod prepares

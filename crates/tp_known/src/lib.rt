@@ -3,13 +3,15 @@
 //! Each function has an empty body; its clauses are the law. A start is one that a log can give, and events may be hostile.
 #![tactic(auto)]
 
-ghost use Rattle.std.specs.Prelude.{ℕ, ◌≡◌, true, Option, List};
+ghost use Rattle.std.specs.Prelude.{ℕ, ◌≡◌, true, Option, Some, List};
 ghost use Rattle.tp_names.specs.declared.identifiers.Addr.{Addr};
-ghost use Rattle.tp_model.specs.Parts.{Origin, Entry};
-ghost use Rattle.tp_model.specs.Legal.{IsLegal};
+ghost use Rattle.tp_model.specs.Parts.{Origin, Entry, Current};
+ghost use Rattle.tp_model.specs.History.{digest};
+ghost use Rattle.tp_model.specs.Legal.{IsLegal, DigestAgrees};
 ghost use Rattle.tp_model.specs.Consistency.{agrees};
 ghost use Rattle.tp_histories.specs.Known.{declared_agrees, superior_agrees, boot_agrees};
 ghost use Rattle.tp_runs.specs.Known.{known_agrees, drawn_agrees, kept_agrees, phase_agrees, key_agrees, above_agrees, branches_agree, asked_agrees};
+ghost use Rattle.tp_known.specs.Reaching.{IsReached, IsProper};
 ghost use Rattle.tp_known.specs.Known.{agrees_in_parts, decision_agrees, told_prepare_agrees, rests_agrees, awaits_agrees, owes_agrees, superior_rolled_agrees, node_agrees, deferral_agrees, links_agree, link_agrees, control_agrees, below_as_asked, order_agrees, own_agrees, due_agrees, counted_agrees, left_agrees, given_up_agrees, ended_agrees, prepared_agrees, marks_agree};
 
 /// The parts together are the whole: where each of them agrees, what is known agrees with every question.
@@ -112,20 +114,29 @@ pub fn links_are_known()
     ensures peer { (o : Origin) (up : Option Addr) (h : List Entry) → IsLegal o up h → (p : ℕ) → link_agrees o p h ≡ true }
 {}
 
-/// In every legal history a branch of the current transaction was counted if its Ready acted since the key was begun and since
-/// the last crash; it left if its leaving acted since then while the key was active; it was given up if the node gave it up
-/// since then; and it ended if a record or a reply ended it since then, with the report of the first that did. Where it is
-/// known to which branches Prepare was said, all marks are.
+/// In every legal history a branch of the current transaction was told to prepare if an entry said Prepare to it since the key
+/// was begun and since the last crash; it was counted if its Ready acted since then; it left if its leaving acted since then
+/// while the key was active; it was given up if the node gave it up since then; and it ended if a record or a reply ended it
+/// since then, with the report of the first that did. So all its marks are known.
 pub fn marks_are_known()
+    ensures prepared { (o : Origin) (up : Option Addr) (h : List Entry) → IsLegal o up h → prepared_agrees o h ≡ true }
     ensures counted { (o : Origin) (up : Option Addr) (h : List Entry) → IsLegal o up h → counted_agrees o h ≡ true }
     ensures left { (o : Origin) (up : Option Addr) (h : List Entry) → IsLegal o up h → left_agrees o h ≡ true }
     ensures given_up { (o : Origin) (up : Option Addr) (h : List Entry) → IsLegal o up h → given_up_agrees o h ≡ true }
     ensures ended { (o : Origin) (up : Option Addr) (h : List Entry) → IsLegal o up h → ended_agrees o h ≡ true }
-    ensures all { (o : Origin) (up : Option Addr) (h : List Entry) → IsLegal o up h → prepared_agrees o h ≡ true → marks_agree o h ≡ true }
+    ensures all { (o : Origin) (up : Option Addr) (h : List Entry) → IsLegal o up h → marks_agree o h ≡ true }
 {}
 
-/// In every legal history in which it is known which branches Prepare was said to, all that is known is what the questions
-/// answer.
-pub fn the_rest_makes_the_whole()
-    ensures { (o : Origin) (up : Option Addr) (h : List Entry) → IsLegal o up h → prepared_agrees o h ≡ true → agrees o h ≡ true }
+/// In every legal history, all that is known of the node is what the questions to its whole history answer.
+pub fn the_whole_is_known()
+    ensures { DigestAgrees }
+{}
+
+/// A branch whose word is still awaited can be reached: in every legal history, while the current transaction is active, the
+/// association with a branch that has neither answered nor ended is live. So the Prepare that a commitment says to each
+/// branch goes out to each that was not told before; and no branch of an active transaction has answered, or ended, that was
+/// not told to prepare.
+pub fn awaited_branches_are_reached()
+    ensures live { (o : Origin) (up : Option Addr) (h : List Entry) (p : ℕ) → IsLegal o up h → IsReached p (digest o h) }
+    ensures told { (o : Origin) (up : Option Addr) (h : List Entry) (c : Current) → IsLegal o up h → (digest o h).current ≡ Some c → IsProper c }
 {}

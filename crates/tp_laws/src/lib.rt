@@ -4,8 +4,6 @@
 #![tactic(auto)]
 
 ghost use Rattle.std.specs.Prelude.{ℕ, ◌≡◌, ◌≤◌, ◌+◌, Option, Some, List, [], true};
-ghost use Rattle.tp_names.specs.declared.identifiers.Addr.{Addr};
-ghost use Rattle.tp_model.specs.Parts.{Origin, Entry};
 ghost use Rattle.tp_model.specs.History.{digest, again, crashed};
 ghost use Rattle.tp_records.specs.declared.body.Event.{Event as Given};
 ghost use Rattle.tp_model.specs.NodeRun.{Opening, boot_of};
@@ -13,7 +11,7 @@ ghost use Rattle.tp_model.specs.Lanes.{IsOwnHistory};
 ghost use Rattle.tp_model.specs.Happenings.{Happening, run};
 ghost use Rattle.tp_model.specs.Promises.{AllLegal, IsIn, PrefixTaken, WhatUsersSee, OneHolder, OneOutcome, DrainedCommits, Headline, ParentAndChild, MixedIsNamed, Promised, ReportFree, Reports};
 ghost use Rattle.tp_model.specs.World.{Node, Site, find_site, empty_world};
-ghost use Rattle.tp_model.specs.Legal.{is_start, are_in_order, RestartIsCrash, RecordsFollow, StartsAgain, IsLegal};
+ghost use Rattle.tp_model.specs.Legal.{is_start, are_in_order, RestartIsCrash, RecordsFollow, StartsAgain, DigestAgrees};
 ghost use Rattle.tp_histories.specs.Members.{IsUnique};
 ghost use Rattle.tp_runs.specs.Hanging.{HangsTogether};
 ghost use Rattle.tp_site_logs.specs.SiteLogs.{DisksTell, DisksStart, next_opening, stops};
@@ -27,8 +25,6 @@ ghost use Rattle.tp_model.specs.Transcript.{transcript_with};
 ghost use Rattle.tp_model.specs.Expand.{played_all, IsExpanded};
 ghost use Rattle.tp_members.specs.Expansion.{LeavesItsWorld, ClosesAlike, IsWrittenOut, SpeaksOfNone, IsOfRun};
 ghost use Rattle.tp_runs.specs.RolledSeen.{RolledIsSeen};
-ghost use Rattle.tp_model.specs.Consistency.{agrees};
-ghost use Rattle.tp_known.specs.Known.{prepared_agrees};
 
 /// In every run, every node's history is one that grew from an empty log by events that were accepted.
 pub fn all_legal()
@@ -221,8 +217,7 @@ pub fn rolling_is_seen()
     ensures { RolledIsSeen }
 {}
 
-/// In every legal history in which it is known which branches Prepare was said to, all that is known is what the questions
-/// answer.
-pub fn the_rest_makes_the_whole()
-    ensures { (o : Origin) (up : Option Addr) (h : List Entry) → IsLegal o up h → prepared_agrees o h ≡ true → agrees o h ≡ true }
+/// In every legal history, all that is known of the node is what the questions to its whole history answer.
+pub fn the_whole_is_known()
+    ensures { DigestAgrees }
 {}

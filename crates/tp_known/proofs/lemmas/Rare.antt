@@ -11,16 +11,16 @@ pub record IsRare (g : DialogueRecord → Bool) : Type 0 where
   pub rolled : (r : Report) → g (DialogueRecord.RolledBack r) ≡ false
   pub abort : g DialogueRecord.UAbort ≡ false
 
-abbrev IsSilent : (DialogueRecord → Bool) → Transaction → Turn → Type 0
+abbrev pub IsSilent : (DialogueRecord → Bool) → Transaction → Turn → Type 0
 IsSilent g t a = carries_none g a.outs ≡ true
 
-more : (g : DialogueRecord → Bool) (xs ys : List TxOut) → carries_none g xs ≡ true → carries_none g ys ≡ true → carries_none g (xs ++ ys) ≡ true
+pub more : (g : DialogueRecord → Bool) (xs ys : List TxOut) → carries_none g xs ≡ true → carries_none g ys ≡ true → carries_none g (xs ++ ys) ≡ true
 more g xs ys h i = none_more g xs ys ∙ rw (h, i) refl
 
-up : (g : DialogueRecord → Bool) (t : Transaction) (r : DialogueRecord) → g r ≡ false → carries_none g (carry_up t r) ≡ true
+pub up : (g : DialogueRecord → Bool) (t : Transaction) (r : DialogueRecord) → g r ≡ false → carries_none g (carry_up t r) ≡ true
 up g t r h = grind (arith, h)
 
-down : (g : DialogueRecord → Bool) (rows : List Row) (r : DialogueRecord) → g r ≡ false → carries_none g (carry_down rows r) ≡ true
+pub down : (g : DialogueRecord → Bool) (rows : List Row) (r : DialogueRecord) → g r ≡ false → carries_none g (carry_down rows r) ≡ true
 down g [] r h = refl
 down g (w ∷ rows) r h = grind (arith, h, down g rows r h)
 
@@ -43,31 +43,31 @@ asking g a (w ∷ rows) = grind (arith, asking g a rows)
 ending_up : (g : DialogueRecord → Bool) (t : Transaction) → carries_none g (end_up t) ≡ true
 ending_up g t = grind arith
 
-ordering : (g : DialogueRecord → Bool) → IsRare g → (t : Transaction) → IsSilent g t (order t)
+pub ordering : (g : DialogueRecord → Bool) → g DialogueRecord.Commit ≡ false → (t : Transaction) → IsSilent g t (order t)
 unfolding order
-ordering g rare t = more g (carry_down t.rows DialogueRecord.Commit) (TxOut.Tell Indication.Commit ∷ []) (down g t.rows DialogueRecord.Commit rare.commit) refl
+ordering g off t = more g (carry_down t.rows DialogueRecord.Commit) (TxOut.Tell Indication.Commit ∷ []) (down g t.rows DialogueRecord.Commit off) refl
 
-rolling : (g : DialogueRecord → Bool) → IsRare g → (asked : Bool) (t : Transaction) → IsSilent g t (begin_rolling asked t)
+pub rolling : (g : DialogueRecord → Bool) → g DialogueRecord.Rollback ≡ false → (asked : Bool) (t : Transaction) → IsSilent g t (begin_rolling asked t)
 unfolding begin_rolling
-rolling g rare asked t =
+rolling g off asked t =
     let told : List TxOut = if asked then [] else TxOut.Tell Indication.Rollback ∷ [] in
     more g (told ++ carry_up t DialogueRecord.Rollback) (carry_down t.rows DialogueRecord.Rollback)
-    (more g told (carry_up t DialogueRecord.Rollback) (grind arith) (up g t DialogueRecord.Rollback rare.rollback)) (down g t.rows DialogueRecord.Rollback rare.rollback)
+    (more g told (carry_up t DialogueRecord.Rollback) (grind arith) (up g t DialogueRecord.Rollback off)) (down g t.rows DialogueRecord.Rollback off)
 
-committing : (g : DialogueRecord → Bool) → IsRare g → (t : Transaction) → IsSilent g t (complete_commit t)
+pub committing : (g : DialogueRecord → Bool) → ((r : Report) → g (DialogueRecord.Done r) ≡ false) → (t : Transaction) → IsSilent g t (complete_commit t)
 unfolding complete_commit
-committing g rare t =
+committing g off t =
     let f = forgetting g (aaid_of t.key) t.rows in
     let e = ending g t.rows in
     let u = ending_up g t in
-    let d : (r : Report) → carries_none g (done_up t r) ≡ true = λ r. let one = rare.done r in grind (arith, one) in
+    let d : (r : Report) → carries_none g (done_up t r) ≡ true = λ r. let one = off r in grind (arith, one) in
     grind (arith, none_more, f, e, u, d)
 
-unrolling : (g : DialogueRecord → Bool) → IsRare g → (t : Transaction) → IsSilent g t (complete_rollback t)
+pub unrolling : (g : DialogueRecord → Bool) → ((r : Report) → g (DialogueRecord.RolledBack r) ≡ false) → (t : Transaction) → IsSilent g t (complete_rollback t)
 unfolding complete_rollback
-unrolling g rare t = let u : (r : Report) → carries_none g (carry_up t (DialogueRecord.RolledBack r)) ≡ true = λ r. up g t (DialogueRecord.RolledBack r) (rare.rolled r) in grind (arith, none_more, u)
+unrolling g off t = let u : (r : Report) → carries_none g (carry_up t (DialogueRecord.RolledBack r)) ≡ true = λ r. up g t (DialogueRecord.RolledBack r) (off r) in grind (arith, none_more, u)
 
-retrying : (g : DialogueRecord → Bool) (t : Transaction) → carries_none g (retried t) ≡ true
+pub retrying : (g : DialogueRecord → Bool) (t : Transaction) → carries_none g (retried t) ≡ true
 retrying g t = let a = asking g (aaid_of t.key) t.rows in grind (arith, none_more, a)
 
 abbrev carried_alone : (DialogueRecord → Bool) → DialogueRecord → Bool
@@ -105,11 +105,11 @@ silent_turns g rare e s off no_end no_grant = record {
   leaves_below = λ q w t is left at act. refl;
   leaves_rolling = λ q w t is left at c. refl;
   votes = λ t act asked all under. up g t DialogueRecord.Ready rare.ready;
-  orders_root = λ t act asked all root. ordering g rare t;
-  orders_ready = λ ready is. ordering g rare s;
-  rolls = λ t asked f ok. rolling g rare asked t;
-  completes_commit = λ t c. committing g rare t;
-  completes_rollback = λ t c. unrolling g rare t;
+  orders_root = λ t act asked all root. ordering g rare.commit t;
+  orders_ready = λ ready is. ordering g rare.commit s;
+  rolls = λ t asked f ok. rolling g rare.rollback asked t;
+  completes_commit = λ t c. committing g rare.done t;
+  completes_rollback = λ t c. unrolling g rare.rolled t;
   leaves = λ is act under asked all. absurd (cc (ap is_leaving is, off));
 }
 

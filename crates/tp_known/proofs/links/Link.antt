@@ -19,7 +19,7 @@ idle_start : (who : Who) (p : ℕ) (d : Digest) → link_with d.arcs p ≡ Idle 
 idle_start who p d idle = start_over who p d ∙ ap (sent_more (count_to p (try_start who d).outs)) idle
 
 -- an event of the transaction, whether a root is begun after it or not
-transact_so : (Q : Move → Type 0) (who : Who) (f : TxEvent) (d : Digest) (c : Current) → d.current ≡ Some c → Q (turned who f d c) → Q (followed (turned who f d c) (try_start who)) → Q (transact who f d)
+pub transact_so : (Q : Move → Type 0) (who : Who) (f : TxEvent) (d : Digest) (c : Current) → d.current ≡ Some c → Q (turned who f d c) → Q (followed (turned who f d c) (try_start who)) → Q (transact who f d)
 unfolding transact
 transact_so Q who f d c now one two = grind (arith, is_over, passed, turned)
 
@@ -133,13 +133,13 @@ shut_step o up from x (Some y) rec outs h p legal known i =
     closed_step o p (Event.Arrive from (PeerRecord.ShutAssoc x (Some y))) rec outs h known (rw i refl) (ap (link_with (action o.who (digest o h) (Event.Arrive from (PeerRecord.ShutAssoc x (Some y)))).next.arcs) (sym at) ∙ lost_idle o.who (Event.Lose from.node) (digest o h) (late_law o up h legal.3) from.node (λ c. refl))
 
 -- the offer of the superior is refused
-record IsRefused (who : Who) (d : Digest) (p : ℕ) : Type 0 where
-  top : Addr
-  superior : d.superior ≡ Some top
-  link : link_with (reject d).next.arcs p ≡ (if top.node == p then Idle else link_with d.arcs p)
-  silent : (count_to p (reject d).outs ≡ 0) × (told_committed (reject d).outs ≡ false)
+pub record IsRefused (who : Who) (d : Digest) (p : ℕ) : Type 0 where
+  pub top : Addr
+  pub superior : d.superior ≡ Some top
+  pub link : link_with (reject d).next.arcs p ≡ (if top.node == p then Idle else link_with d.arcs p)
+  pub silent : (count_to p (reject d).outs ≡ 0) × (told_committed (reject d).outs ≡ false)
 
-refused_link : (who : Who) (d : Digest) (p : ℕ) → refusal who d (Event.Do Request.Reject) ≡ None → IsRefused who d p
+pub refused_link : (who : Who) (d : Digest) (p : ℕ) → refusal who d (Event.Do Request.Reject) ≡ None → IsRefused who d p
 unfolding refusal refused_request reject
 refused_link who d p ok = grind (arith, find_arc_is, link_without, superior_found)
 
@@ -165,7 +165,7 @@ reject_step o up rec outs h p legal known =
 
 -- ---- records that end it, where they act
 
-counted_link : (r : DialogueRecord) (n p : ℕ) (d : Digest) → link_with (counted r n d).arcs p ≡ (if n == p then with_one_taken (link_with d.arcs p) else link_with d.arcs p)
+pub counted_link : (r : DialogueRecord) (n p : ℕ) (d : Digest) → link_with (counted r n d).arcs p ≡ (if n == p then with_one_taken (link_with d.arcs p) else link_with d.arcs p)
 counted_link r n p d = grind (arith, link_counted, link_dialogue)
 
 -- a record that does not act is counted alone

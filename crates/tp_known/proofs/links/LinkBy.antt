@@ -1,5 +1,5 @@
 -- The link of an arc after an entry that does not end it by itself is what the questions answer.
-use Rattle.tp_known.proofs.Vocabulary.{if◌then◌else◌, ◌≡◌, ◌⊎◌, inl, inr, ℕ, suc, Bool, true, false, refl, ap, sym, ◌∙◌, arith, Option, Some, None, List, [], ◌∷◌, ◌&&◌, ◌||◌, ◌==◌, not, length, nat_tests, Mark, Addr, Request, DialogueRecord, PeerRecord, LogRec, Side, Deferral, TxOut, Who, Origin, Event, Entry, Out, Link, Idle, Opening, Offered, Live, Arc, Current, Digest, is_live, is_idle, with_one_taken, is_end_deferred, fresh_dialogue, find_arc, link_of, link_with, is_live_with_peer, put_arc, is_under_at, has_branch_at, refused_request, call, accept, Move, move, perform, next_mark, with_mark_drawn, superior_arc, is_end_deferred_at, refused_arrival, refusal, action, after_crash, started, digest, said_to, acting_from, is_record, is_abort, is_end_dialogue, is_left_end, is_at, is_up, was_branch, superior_in, took_one, sent_more, link_by, count_records, deferral_in, is_put_off_end, closes_by_deferral, link_in, is_unchanged, IsGrown, closes_at, prelude, called, accepted_by, accepted_on, linked, counted_in, count_to, IsLinked, first_part, every_move, step_move, find_arc_is, the, plain_law, late_law, linked_moves, link_append, link_put, link_counted, superior_found}
+use Rattle.tp_known.proofs.Vocabulary.{is_crash, if◌then◌else◌, ◌≡◌, ◌⊎◌, inl, inr, ℕ, suc, Bool, true, false, refl, ap, sym, ◌∙◌, arith, Option, Some, None, List, [], ◌∷◌, ◌&&◌, ◌||◌, ◌==◌, not, length, nat_tests, Mark, Addr, Request, DialogueRecord, PeerRecord, LogRec, Side, Deferral, TxOut, Who, Origin, Event, Entry, Out, Link, Idle, Opening, Offered, Live, Arc, Current, Digest, is_live, is_idle, with_one_taken, is_end_deferred, fresh_dialogue, find_arc, link_of, link_with, is_live_with_peer, put_arc, is_under_at, has_branch_at, refused_request, call, accept, Move, move, perform, next_mark, with_mark_drawn, superior_arc, is_end_deferred_at, refused_arrival, refusal, action, after_crash, started, digest, said_to, acting_from, is_record, is_abort, is_end_dialogue, is_left_end, is_at, is_up, was_branch, superior_in, took_one, sent_more, link_by, count_records, deferral_in, is_put_off_end, closes_by_deferral, link_in, is_unchanged, IsGrown, closes_at, prelude, called, accepted_by, accepted_on, linked, counted_in, count_to, IsLinked, first_part, every_move, step_move, find_arc_is, the, plain_law, late_law, linked_moves, link_append, link_put, link_counted, superior_found}
 use Rattle.tp_model.specs.Questions as asks
 use Rattle.tp_known.proofs.deferral.Defers.{put, told_committed}
 use Rattle.tp_known.proofs.deferral.Deferral.{committed_tells, acting_plain, answer_dead, known_law}
@@ -188,26 +188,26 @@ live_taken : (l : Link) → is_live l ≡ true → is_live (with_one_taken l) �
 live_taken Idle h = h
 live_taken _ h = h
 
-live_first : (who : Who) (d : Digest) (e : Event) (p : ℕ) → refusal who d e ≡ None → is_live_with_peer d.arcs p ≡ true → (is_live_with_peer (prelude who d e).arcs p ≡ true) ⊎ (link_with (prelude who d e).arcs p ≡ Idle)
-unfolding after_crash
-live_first who d (Event.Do (Request.BeginDialogue a u)) p ok live = go (a.node == p) refl
+-- one that was live is live as long as the node does not crash
+pub live_kept : (who : Who) (d : Digest) (e : Event) (p : ℕ) → refusal who d e ≡ None → is_crash e ≡ false → is_live_with_peer d.arcs p ≡ true → is_live_with_peer (prelude who d e).arcs p ≡ true
+live_kept who d (Event.Do (Request.BeginDialogue a u)) p ok off live = go (a.node == p) refl
   where
     is : link_with (called who a u d).arcs p ≡ (if a.node == p then Opening (next_mark who d) else link_with d.arcs p)
     is = called_link who d a u p ok
 
-    go : (b : Bool) → (a.node == p) ≡ b → (is_live_with_peer (called who a u d).arcs p ≡ true) ⊎ (link_with (called who a u d).arcs p ≡ Idle)
+    go : (b : Bool) → (a.node == p) ≡ b → is_live_with_peer (called who a u d).arcs p ≡ true
     go true i = absurd (let at : a.node ≡ p = grind (arith, nat_tests, i) in let none : link_with d.arcs p ≡ Idle = ap link_of (ap (find_arc d.arcs) (sym at) ∙ call_free who d a u ok) in let off : is_live_with_peer d.arcs p ≡ false = ap is_live none in cc (live, off))
-    go false i = inl (ap is_live (is ∙ rw i refl) ∙ live)
-live_first who d (Event.Do (Request.Accept u)) p ok live = go (k.top.node == p) refl
+    go false i = ap is_live (is ∙ rw i refl) ∙ live
+live_kept who d (Event.Do (Request.Accept u)) p ok off live = go (k.top.node == p) refl
   where
     k : IsAccepted who d u p
     k = accepted_link who d u p ok
 
-    go : (b : Bool) → (k.top.node == p) ≡ b → (is_live_with_peer (accepted_by who u (superior_arc d) d).arcs p ≡ true) ⊎ (link_with (accepted_by who u (superior_arc d) d).arcs p ≡ Idle)
-    go true i = let now : link_with (accepted_by who u (superior_arc d) d).arcs p ≡ Live k.mark (next_mark who d) 0 0 = k.link ∙ rw i refl in inl (ap is_live now)
-    go false i = let now : link_with (accepted_by who u (superior_arc d) d).arcs p ≡ link_with d.arcs p = k.link ∙ rw i refl in inl (ap is_live now ∙ live)
-live_first who d (Event.Do r) p ok live = inl live
-live_first who d (Event.Arrive from (PeerRecord.OpenAssoc x u)) p ok live = go (from.node == p) refl
+    go : (b : Bool) → (k.top.node == p) ≡ b → is_live_with_peer (accepted_by who u (superior_arc d) d).arcs p ≡ true
+    go true i = let now : link_with (accepted_by who u (superior_arc d) d).arcs p ≡ Live k.mark (next_mark who d) 0 0 = k.link ∙ rw i refl in ap is_live now
+    go false i = let now : link_with (accepted_by who u (superior_arc d) d).arcs p ≡ link_with d.arcs p = k.link ∙ rw i refl in ap is_live now ∙ live
+live_kept who d (Event.Do r) p ok off live = live
+live_kept who d (Event.Arrive from (PeerRecord.OpenAssoc x u)) p ok off live = go (from.node == p) refl
   where
     new : Arc
     new = record { peer = from; link = Offered x; dialogue = fresh_dialogue u Side.Subordinate }
@@ -215,27 +215,32 @@ live_first who d (Event.Arrive from (PeerRecord.OpenAssoc x u)) p ok live = go (
     dead : (l : Link) → is_idle l ≡ true → is_live l ≡ true → ⊥
     dead l h i = grind (arith, h, i)
 
-    go : (b : Bool) → (from.node == p) ≡ b → (is_live (link_of (if b then Some new else find_arc d.arcs p)) ≡ true) ⊎ (link_of (if b then Some new else find_arc d.arcs p) ≡ Idle)
+    go : (b : Bool) → (from.node == p) ≡ b → is_live (link_of (if b then Some new else find_arc d.arcs p)) ≡ true
     go true i = absurd (let at : from.node ≡ p = grind (arith, nat_tests, i) in dead (link_with d.arcs p) (ap (λ (n : ℕ). is_idle (link_with d.arcs n)) (sym at) ∙ offer_idle who d from x u ok) live)
-    go false i = inl live
-live_first who d (Event.Arrive from (PeerRecord.AcceptAssoc x y u)) p ok live = go (from.node == p) refl
+    go false i = live
+live_kept who d (Event.Arrive from (PeerRecord.AcceptAssoc x y u)) p ok off live = go (from.node == p) refl
   where
     k : IsConfirmed who d from x y u p
     k = confirmed_link who d from x y u p ok
 
-    go : (b : Bool) → (from.node == p) ≡ b → (is_live_with_peer (linked (find_arc d.arcs from.node) x y u d).arcs p ≡ true) ⊎ (link_with (linked (find_arc d.arcs from.node) x y u d).arcs p ≡ Idle)
-    go true i = let now : link_with (linked (find_arc d.arcs from.node) x y u d).arcs p ≡ Live x y 0 0 = k.link ∙ rw i refl in inl (ap is_live now)
-    go false i = let now : link_with (linked (find_arc d.arcs from.node) x y u d).arcs p ≡ link_with d.arcs p = k.link ∙ rw i refl in inl (ap is_live now ∙ live)
-live_first who d (Event.Arrive from (PeerRecord.OnAssoc x y q r)) p ok live = go (from.node == p) refl
+    go : (b : Bool) → (from.node == p) ≡ b → is_live_with_peer (linked (find_arc d.arcs from.node) x y u d).arcs p ≡ true
+    go true i = let now : link_with (linked (find_arc d.arcs from.node) x y u d).arcs p ≡ Live x y 0 0 = k.link ∙ rw i refl in ap is_live now
+    go false i = let now : link_with (linked (find_arc d.arcs from.node) x y u d).arcs p ≡ link_with d.arcs p = k.link ∙ rw i refl in ap is_live now ∙ live
+live_kept who d (Event.Arrive from (PeerRecord.OnAssoc x y q r)) p ok off live = go (from.node == p) refl
   where
     is : link_with (prelude who d (the from x y q r)).arcs p ≡ (if from.node == p then with_one_taken (link_with d.arcs p) else link_with d.arcs p)
     is = taken_link who d from x y q r p
 
-    go : (b : Bool) → (from.node == p) ≡ b → (is_live_with_peer (prelude who d (the from x y q r)).arcs p ≡ true) ⊎ (link_with (prelude who d (the from x y q r)).arcs p ≡ Idle)
-    go true i = inl (ap is_live (is ∙ rw i refl) ∙ live_taken (link_with d.arcs p) live)
-    go false i = inl (ap is_live (is ∙ rw i refl) ∙ live)
+    go : (b : Bool) → (from.node == p) ≡ b → is_live_with_peer (prelude who d (the from x y q r)).arcs p ≡ true
+    go true i = ap is_live (is ∙ rw i refl) ∙ live_taken (link_with d.arcs p) live
+    go false i = ap is_live (is ∙ rw i refl) ∙ live
+live_kept who d Event.Crash p ok off live = absurd (cc (off))
+live_kept who d e p ok off live = live
+
+live_first : (who : Who) (d : Digest) (e : Event) (p : ℕ) → refusal who d e ≡ None → is_live_with_peer d.arcs p ≡ true → (is_live_with_peer (prelude who d e).arcs p ≡ true) ⊎ (link_with (prelude who d e).arcs p ≡ Idle)
+unfolding after_crash
 live_first who d Event.Crash p ok live = inr refl
-live_first who d e p ok live = inl live
+live_first who d e p ok live = inl (live_kept who d e p ok refl live)
 
 more_live : (n : ℕ) (l : Link) → is_live l ≡ true → is_live (sent_more n l) ≡ true
 more_live n Idle h = h

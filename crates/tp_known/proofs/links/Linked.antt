@@ -27,7 +27,7 @@ over_performed p b d outs m arcs said spoken shuts =
     over_quiet p b d m (ap told_committed said ∙ told_performed is_committed_told d.arcs outs ∙ spoken_untold is_committed_told plain_committed outs spoken)
     (ap (λ (xs : List Arc). link_with xs p) arcs ∙ shuts_performed d.arcs outs p (apart_spoken outs spoken) ∙ rw shuts refl ∙ ap (λ (os : List Out). sent_more (count_to p os) (link_with d.arcs p)) (sym said))
 
-unshut_said : (e : Event) (p : ℕ) (outs : List TxOut) → closes_at e p ≡ false → are_said e outs ≡ true → shuts_in p outs ≡ false
+pub unshut_said : (e : Event) (p : ℕ) (outs : List TxOut) → closes_at e p ≡ false → are_said e outs ≡ true → shuts_in p outs ≡ false
 unshut_said e p [] off h = refl
 unshut_said e p (TxOut.Tell i ∷ outs) off h = unshut_said e p outs off h
 unshut_said e p (TxOut.Carry q r ∷ outs) off h = unshut_said e p outs off (and_right (is_said e (TxOut.Carry q r)) (are_said e outs) h)
@@ -39,7 +39,7 @@ unshut_said e p (TxOut.Close q ∷ outs) off h = go (q == p) refl (unshut_said e
     go true i rest = absurd (let same : q ≡ p = grind (arith, nat_tests, i) in let on : closes_at e p ≡ true = ap (closes_at e) (sym same) ∙ and_left (closes_at e q) (are_said e outs) h in cc (on, off))
     go false i rest = rest
 
-unshut_settled : (p : ℕ) (k : Kept) (f : KeptEvent) → shuts_in p (settled k f).outs ≡ false
+pub unshut_settled : (p : ℕ) (k : Kept) (f : KeptEvent) → shuts_in p (settled k f).outs ≡ false
 unfolding settled
 unshut_settled p k (KeptEvent.Done a b r) = grind arith
 unshut_settled p k _ = refl
@@ -47,7 +47,7 @@ unshut_settled p k _ = refl
 -- ---- an event of the transaction
 
 -- it ends no association that the event of the node does not end
-closes_so : (e : Event) (c : Current) (f : TxEvent) (p : ℕ) → IsAsked e c f → closes_at e p ≡ false → closes_by f p ≡ false
+pub closes_so : (e : Event) (c : Current) (f : TxEvent) (p : ℕ) → IsAsked e c f → closes_at e p ≡ false → closes_by f p ≡ false
 closes_so e c f p h1 h2 = grind arith
 
 -- an event that defers something completes nothing

@@ -1,10 +1,11 @@
--- In every legal history all marks of the branches are what the questions answer, where those of the branches told to prepare are.
-use Rattle.tp_known.proofs.Vocabulary.{Bool, List, None, Option, Some, [], refl, true, ◌&&◌, ◌==◌, ◌∷◌, ◌≡◌, rank, NodeKey, Addr, Origin, Entry, Branch, Current, IsLegal, node_key, digest, prepared_in, left_in, given_up_in, ended_in, same_bool, is_ended, report_of, agrees_branches, each_branch, prepared_agrees, marks_agree, and_left, and_right}
+-- In every legal history all marks of the branches are what the questions answer.
+use Rattle.tp_known.proofs.Vocabulary.{Bool, List, None, Option, Some, [], refl, true, ◌&&◌, ◌==◌, ◌∷◌, ◌≡◌, rank, NodeKey, Addr, Origin, Entry, Branch, Current, IsLegal, node_key, digest, prepared_in, left_in, given_up_in, ended_in, same_bool, is_ended, report_of, agrees_branches, each_branch, marks_agree, and_left, and_right}
 use Rattle.tp_model.specs.Keys.{counted_in}
 use Rattle.tp_model.specs.Consistency.{child_of}
 use Rattle.tp_known.proofs.marks.Marked.{given_up_law}
 use Rattle.tp_known.proofs.marks.Taken.{counted_law, left_law}
 use Rattle.tp_known.proofs.marks.Ended.{ended_law}
+use Rattle.tp_known.proofs.prepares.Told.{prepared_law}
 
 all_marks : (o : Origin) (k : NodeKey) (h : List Entry) (bs : List Branch) → each_branch (λ b. same_bool b.prepared (prepared_in o k b.peer.node h)) bs ≡ true → each_branch (λ b. same_bool b.counted (counted_in o k b.peer.node h)) bs ≡ true
     → each_branch (λ b. same_bool b.left (left_in o k b.peer.node h)) bs ≡ true → each_branch (λ b. same_bool b.given_up (given_up_in o k b.peer.node h)) bs ≡ true
@@ -24,8 +25,8 @@ all_marks o k h (b ∷ bs) p c l g e =
     together : (a b c d e f g : Bool) → a ≡ true → b ≡ true → c ≡ true → d ≡ true → e ≡ true → f ≡ true → g ≡ true → ((a && b && c && d && e && f) && g) ≡ true
     together a b c d e f g h1 h2 h3 h4 h5 h6 h7 = rw (h1, h2, h3, h4, h5, h6, h7) refl
 
-pub all_marks_law : (o : Origin) (up : Option Addr) (h : List Entry) → IsLegal o up h → prepared_agrees o h ≡ true → marks_agree o h ≡ true
-all_marks_law o up h legal prepared = go (digest o h).current prepared (counted_law o up h legal) (left_law o up h legal) (given_up_law o up h legal) (ended_law o up h legal)
+pub all_marks_law : (o : Origin) (up : Option Addr) (h : List Entry) → IsLegal o up h → marks_agree o h ≡ true
+all_marks_law o up h legal = go (digest o h).current (prepared_law o up h legal) (counted_law o up h legal) (left_law o up h legal) (given_up_law o up h legal) (ended_law o up h legal)
   where
     each : (NodeKey → Branch → Bool) → Option Current → Bool
     each f v = elim v [ None ↦ true | Some c ↦ each_branch (f (node_key c.key)) c.branches ]

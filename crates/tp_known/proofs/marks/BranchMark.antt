@@ -1,12 +1,9 @@
 -- A mark of the branch with a peer: false where the branch is new, and touched by some events of the transaction alone.
 use Rattle.tp_known.proofs.Vocabulary.{Bool, List, None, Option, Some, [], ap, arith, false, if◌then◌else◌, refl, sym, true, ℕ, ◌++◌, ◌==◌, ◌||◌, ◌∙◌, ◌∷◌, ◌≡◌, nat_tests, BranchId, Child, Report, DialogueRecord, PeerRecord, RecState, Arc, Branch, Current, Event, Who, Row, Transaction, Turn, all_prepared, ask_commit, begin_rolling, branch_left, complete_commit, complete_rollback, count_branch, end_branch, find_row, fresh_branch, fresh_rows, leave, order, put_row, row_holds, settle, transacted, with_arc_lost, with_row, TxEvent, TxOut, remaining, seen, seen_rows, named_again, IsAsked, TurnSteps, asks_tell, find_branch, is_left_word, row_dead, find_put, row_is, step_turn}
+use Rattle.tp_known.specs.Reaching.{marked}
 use Rattle.tp_known.proofs.orders.Told.{IsRaised, always, none_told}
 use Rattle.tp_steps.proofs.words.HeardTurned.{left_find}
 use Rattle.tp_control.proofs.LedEvents.{seen_holds}
-
--- the branch with p has the mark w
-abbrev pub marked : (Branch → Bool) → ℕ → Current → Bool
-marked w p c = elim (find_branch c.branches p) as (λ _. Bool) [ None ↦ false | Some b ↦ w b ]
 
 -- the mark w of the branch with p stays as it is, but where the event is one of these
 pub record IsMarking (w : Branch → Bool) (p : ℕ) (hits : TxEvent → Bool) : Type 0 where
@@ -177,7 +174,7 @@ hit_by hits Event.Retry = hits TxEvent.Retry
 hit_by hits Event.Purge = false
 hit_by hits Event.Crash = false
 
-hits_so : (hits : TxEvent → Bool) (e : Event) (c : Current) (f : TxEvent) → IsAsked e c f → hit_by hits e ≡ false → hits f ≡ false
+pub hits_so : (hits : TxEvent → Bool) (e : Event) (c : Current) (f : TxEvent) → IsAsked e c f → hit_by hits e ≡ false → hits f ≡ false
 hits_so hits e c f h1 h2 = grind arith
 
 pub seen_marked : (w : Branch → Bool) (p : ℕ) (who : Who) (arcs : List Arc) (c : Current) → row_holds (seen who arcs c).rows p w ≡ marked w p c

@@ -6,7 +6,8 @@ use Rattle.tp_known.proofs.marks.Unended.{is_unclean, clean_law}
 use Rattle.tp_known.proofs.marks.Marked.{IsBranchMark, each_found, marked_law, spread_law}
 use Rattle.tp_known.proofs.marks.Replied.{Raised, is_committing_named, not_both, named_so, raised_id, raised_so, raises, reply, reply_turn, tree_so}
 use Rattle.tp_known.proofs.marks.Ends.{ended_by, ends, ends_calm, ends_marking, ends_step, has_rank, is_ended_at, is_open, phase_now, report_is, report_of, and_off}
-use Rattle.tp_known.proofs.marks.BranchMark.{hit_by, left_marked, marked, unmarked}
+use Rattle.tp_known.specs.Reaching.{marked}
+use Rattle.tp_known.proofs.marks.BranchMark.{hit_by, left_marked, unmarked}
 use Rattle.tp_known.proofs.orders.Told.{least, started_from}
 use Rattle.tp_known.proofs.orders.Rolled.{nothing_there}
 use Rattle.tp_histories.proofs.trees.Entered.{entered}

@@ -1,6 +1,7 @@
 -- That a branch has ended, with a report of some rank, is raised by the record, or the reply, that ends it: a mark as others.
 use Rattle.tp_known.proofs.Vocabulary.{Bool, List, None, Option, Some, ap, arith, false, if◌then◌else◌, inl, inr, not, refl, sym, true, ℕ, ◌&&◌, ◌==◌, ◌||◌, ◌∙◌, ◌≡◌, ◌⊎◌, nat_tests, Aaid, Addr, Child, Mark, NodeKey, Report, is_branch, rank, DialogueRecord, PeerRecord, RecState, LogRec, Acts, is_active, Branch, Current, Entry, Event, Origin, Out, IsLegal, Phase, Row, Transaction, and_then, branch_left, complete_rollback, end_branch, find_row, node_key, put_row, row_holds, settle, sight_of_tx, takes, takes_left, with_row, TxEvent, acting_from, is_left_record, is_record, action, refusal, digest, seen, ending_report, phase_in, replied_report, report_by, is_left_word, row_dead, IsStep, key_self, phase_law, find_put, row_is, row_phase, the}
-use Rattle.tp_known.proofs.marks.BranchMark.{IsMarking, hit_by, marked, row_put, row_same, rows_completed, rows_settled, rows_unrolled, seen_marked}
+use Rattle.tp_known.specs.Reaching.{marked}
+use Rattle.tp_known.proofs.marks.BranchMark.{IsMarking, hit_by, row_put, row_same, rows_completed, rows_settled, rows_unrolled, seen_marked}
 use Rattle.tp_known.proofs.handshakes.TouchedEntry.{acting_is}
 use Rattle.tp_known.proofs.marks.Taken.{held_row, is_taken, left_row, taken_mark}
 use Rattle.tp_histories.proofs.known.KnownPhase.{phase_at}

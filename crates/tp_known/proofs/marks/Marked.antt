@@ -2,7 +2,8 @@
 use Rattle.tp_known.proofs.Vocabulary.{Bool, List, None, Option, Some, [], ap, arith, false, if◌then◌else◌, inl, inr, refl, subst, sym, true, ℕ, ◌==◌, ◌||◌, ◌∙◌, ◌∷◌, ◌≡◌, nat_tests, Aaid, Addr, BranchId, Child, NodeKey, DialogueRecord, Holder, PeerRecord, LogRec, Branch, Current, Digest, Entry, Event, Origin, Out, Who, is_apart, IsLegal, Row, Transaction, Turn, and_then, child_of, complete_commit, find_row, fresh_branch, node_key, refused_tx, row_holds, transacted, turn, with_row, TxEvent, TxOut, action, recovered_current, refusal, begun_by_peer, is_give_up_of, some_since, digest, same_bool, seen, transact, turned, IsLate, IsPut, prelude, now_agrees, each_branch, given_up_agrees, find_branch, out_tells, IsMark, IsStep, mark_law, started_again, bool_self, crash_next, kin, late_law, left_is, no_begin, passed_turn, plain_give_up, some_same}
 use Rattle.tp_model.specs.Legal.{are_apart}
 use Rattle.tp_histories.specs.Restart.{IsFounded}
-use Rattle.tp_known.proofs.marks.BranchMark.{IsMarking, again_same, hit_by, left_marked, marked, rows_completed, row_put, unmarked}
+use Rattle.tp_known.specs.Reaching.{marked}
+use Rattle.tp_known.proofs.marks.BranchMark.{IsMarking, again_same, hit_by, left_marked, rows_completed, row_put, unmarked}
 use Rattle.tp_known.proofs.orders.Told.{always, least, none_told, raised_event, raised_step, started_from}
 use Rattle.tp_histories.proofs.log.WellLog.{founded_by, well_law, well_start}
 use Rattle.tp_known.proofs.orders.Rolled.{nothing_there}
@@ -17,7 +18,7 @@ pub record IsBranchMark (w : Branch → Bool) (p : ℕ) (hits : TxEvent → Bool
   pub begin : (n : ℕ) (t : Aaid) (b : BranchId) (k : Holder) → hits (TxEvent.Took n (DialogueRecord.Begin t b k)) ≡ false
 
 -- the event that begins a key hits none
-begun_calm : (hits : TxEvent → Bool) → ((n : ℕ) (t : Aaid) (b : BranchId) (k : Holder) → hits (TxEvent.Took n (DialogueRecord.Begin t b k)) ≡ false) → (o : Origin) (h : List Entry) (ev : Event) (rec : Option LogRec) (outs : List Out) (j : NodeKey)
+pub begun_calm : (hits : TxEvent → Bool) → ((n : ℕ) (t : Aaid) (b : BranchId) (k : Holder) → hits (TxEvent.Took n (DialogueRecord.Begin t b k)) ≡ false) → (o : Origin) (h : List Entry) (ev : Event) (rec : Option LogRec) (outs : List Out) (j : NodeKey)
     → begun_by_peer o (record { event = ev; rec = rec; outs = outs }) h ≡ Some j → hit_by hits ev ≡ false
 begun_calm hits h1 o h ev rec outs j h2 = grind (arith, no_begin)
 
@@ -25,7 +26,7 @@ begun_calm hits h1 o h ev rec outs j h2 = grind (arith, no_begin)
 pub again_marked : (w : Branch → Bool) (p : ℕ) → ((c : Child) → w (fresh_branch c) ≡ false) → (v : Option Current) (c : Current) → recovered_current v ≡ Some c → marked w p c ≡ false
 again_marked w p h1 v c h2 = grind (arith, again_same, marked, some_same)
 
-quiet_told : (outs : List Out) → out_tells none_told outs ≡ false
+pub quiet_told : (outs : List Out) → out_tells none_told outs ≡ false
 quiet_told [] = refl
 quiet_told (Out.Tell i ∷ outs) = quiet_told outs
 quiet_told (Out.Send a r ∷ outs) = quiet_told outs

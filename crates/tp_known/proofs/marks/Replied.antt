@@ -5,7 +5,8 @@ use Rattle.tp_model.specs.Legal.{are_apart}
 use Rattle.tp_steps.proofs.log.Owned.{branch_tree, key_aaid}
 use Rattle.tp_known.proofs.marks.Ends.{end_put, ending, has_rank, is_ended_at, is_open, report_of}
 use Rattle.tp_agreement.proofs.OwingLaw.{id_found, rows_by_id, same_peer}
-use Rattle.tp_known.proofs.marks.BranchMark.{marked, row_same, rows_completed, seen_marked}
+use Rattle.tp_known.specs.Reaching.{marked}
+use Rattle.tp_known.proofs.marks.BranchMark.{row_same, rows_completed, seen_marked}
 use Rattle.tp_steps.proofs.words.HeardTurned.{branch_is, seen_find}
 
 pub three : (a b c : Bool) → (a && b && c) ≡ true → (a ≡ true) × ((b && c) ≡ true)

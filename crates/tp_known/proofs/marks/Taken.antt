@@ -2,7 +2,8 @@
 -- if its leaving acted while the key was active.
 use Rattle.tp_known.proofs.Vocabulary.{Bool, List, None, Option, Some, [], ap, arith, false, if◌then◌else◌, inl, inr, not, refl, subst, sym, true, ℕ, ◌&&◌, ◌==◌, ◌||◌, ◌∙◌, ◌∷◌, ◌≡◌, ◌≤◌, nat_tests, Addr, Mark, NodeKey, Report, DialogueRecord, PeerRecord, Acts, Nothing_happens, Out_of_phase, Sight, acts_nothing_or_out, acts_or_nothing, acts_or_out, cleared, is_active, is_committing, is_rolling, Arc, Branch, Current, Digest, Entry, Event, Key, Origin, Who, IsGrown, IsLegal, Move, move, seen, seen_rows, transact, turned, Row, Transaction, Turn, acts, count_branch, find_row, row_holds, sight_of_tx, takes, turn, transacted, with_row, and_then, branch_left, complete_rollback, end_branch, node_key, put_row, settle, takes_left, TxEvent, acting_from, is_record, is_left_record, action, refusal, digest, find_arc, with_dialogue, with_link, is_ready_record, is_active_in, left_in, sight_at, sight_of, take_on, take_record, woken_by, with_one_taken, Phase, IsPut, prelude, counted_agrees, left_agrees, is_left_word, row_dead, IsStep, find_arc_is, on_none, the, late_law, left_is, passed_turn, plain_arrival, before_it, key_law, key_self, find_put, row_is, row_phase}
 use Rattle.tp_known.proofs.marks.Marked.{IsBranchMark, each_law, marked_law}
-use Rattle.tp_known.proofs.marks.BranchMark.{IsMarking, hit_by, left_marked, marked, row_put, rows_settled, unmarked, row_same, rows_unrolled, seen_marked}
+use Rattle.tp_known.specs.Reaching.{marked}
+use Rattle.tp_known.proofs.marks.BranchMark.{IsMarking, hit_by, left_marked, row_put, rows_settled, unmarked, row_same, rows_unrolled, seen_marked}
 use Rattle.tp_known.proofs.handshakes.TouchedEntry.{acting_is}
 use Rattle.tp_known.proofs.orders.Told.{least, started_from}
 use Rattle.tp_control.proofs.LedEvents.{seen_holds}
@@ -34,7 +35,7 @@ pub sight_now : (who : Who) (d : Digest) (a : Arc) (c : Current) (r : DialogueRe
 unfolding sight_of
 sight_now who d a c r h1 h2 h3 = grind arith
 
-no_acting : (who : Who) (d : Digest) (a : Arc) (r : DialogueRecord) → is_taken r ≡ true → d.current ≡ None → sight_at who d a r ≡ Acts → ⊥
+pub no_acting : (who : Who) (d : Digest) (a : Arc) (r : DialogueRecord) → is_taken r ≡ true → d.current ≡ None → sight_at who d a r ≡ Acts → ⊥
 unfolding sight_of
 no_acting who d a r h1 h2 h3 = grind arith
 

@@ -3,7 +3,8 @@ use Rattle.tp_known.proofs.Vocabulary.{Bool, List, None, Option, Some, [], ap, a
 use Rattle.tp_histories.proofs.trees.Entered.{entered}
 use Rattle.tp_known.proofs.orders.Told.{IsRaised, none_told, raised_event}
 use Rattle.tp_known.proofs.marks.Marked.{again_marked}
-use Rattle.tp_known.proofs.marks.BranchMark.{left_marked, lost_same, marked, more_same, prepared_same, row_put, row_same, rows_completed, rows_unrolled, seen_marked}
+use Rattle.tp_known.specs.Reaching.{marked}
+use Rattle.tp_known.proofs.marks.BranchMark.{left_marked, lost_same, more_same, prepared_same, row_put, row_same, rows_completed, rows_unrolled, seen_marked}
 
 abbrev pub is_unclean : Branch → Bool
 is_unclean b = not b.ended && not (rank b.report == 0)

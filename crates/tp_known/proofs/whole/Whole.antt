@@ -1,5 +1,5 @@
 -- The parts of what is known, put together.
-use Rattle.tp_known.proofs.Vocabulary.{◌≡◌, Bool, true, refl, Option, List, ◌&&◌, Addr, Origin, Entry, agrees, IsLegal, declared_agrees, superior_agrees, boot_agrees, known_agrees, drawn_agrees, kept_agrees, phase_agrees, key_agrees, above_agrees, branches_agree, asked_agrees, prepared_agrees, arcs_agree, links_agree, order_agrees, control_agrees, awaits_agrees, due_agrees, deferral_agrees, rests_agrees, marks_agree, told_prepare_agrees, owes_agrees, superior_rolled_agrees, decision_agrees, own_agrees, node_agrees, current_agrees, declared_law, superior_law, boot_law, known_agrees_law, kept_agrees_law, phase_agrees_law, key_agrees_law, above_law, branches_law, asked_agrees_law}
+use Rattle.tp_known.proofs.Vocabulary.{◌≡◌, Bool, true, refl, Option, List, ◌&&◌, Addr, Origin, Entry, agrees, IsLegal, declared_agrees, superior_agrees, boot_agrees, known_agrees, drawn_agrees, kept_agrees, phase_agrees, key_agrees, above_agrees, branches_agree, asked_agrees, arcs_agree, links_agree, order_agrees, control_agrees, awaits_agrees, due_agrees, deferral_agrees, rests_agrees, marks_agree, told_prepare_agrees, owes_agrees, superior_rolled_agrees, decision_agrees, own_agrees, node_agrees, current_agrees, declared_law, superior_law, boot_law, known_agrees_law, kept_agrees_law, phase_agrees_law, key_agrees_law, above_law, branches_law, asked_agrees_law}
 use Rattle.tp_known.proofs.whole.Parts.{whole}
 use Rattle.tp_known.proofs.marks.AllMarks.{all_marks_law}
 use Rattle.tp_runs.proofs.KnownDrawn.{drawn_agrees_law}
@@ -30,16 +30,16 @@ arcs_law o up h legal =
     seven : (a b c d e f g : Bool) → a ≡ true → b ≡ true → c ≡ true → d ≡ true → e ≡ true → f ≡ true → g ≡ true → (a && b && c && d && e && f && g) ≡ true
     seven a b c d e f g i j k l m n p = rw (i, j, k, l, m, n, p) refl
 
-current_law : (o : Origin) (up : Option Addr) (h : List Entry) → IsLegal o up h → marks_agree o h ≡ true → current_agrees o h ≡ true
-current_law o up h legal marks =
+pub current_law : (o : Origin) (up : Option Addr) (h : List Entry) → IsLegal o up h → current_agrees o h ≡ true
+current_law o up h legal =
     eleven (phase_agrees o h) (key_agrees o h) (above_agrees o h) (branches_agree o h) (marks_agree o h) (told_prepare_agrees o h) (asked_agrees o h) (owes_agrees o h) (superior_rolled_agrees o h) (decision_agrees o h) (own_agrees o h)
-    (phase_agrees_law o up h legal) (key_agrees_law o up h legal) (above_law o up h legal) (branches_law o up h legal) marks (told_prepare_agrees_law o up h legal) (asked_agrees_law o up h legal) (owes_agrees_law o up h legal) (superior_rolled_agrees_law o up h legal) (decision_agrees_law o up h legal) (own_agrees_law o up h legal)
+    (phase_agrees_law o up h legal) (key_agrees_law o up h legal) (above_law o up h legal) (branches_law o up h legal) (all_marks_law o up h legal) (told_prepare_agrees_law o up h legal) (asked_agrees_law o up h legal) (owes_agrees_law o up h legal) (superior_rolled_agrees_law o up h legal) (decision_agrees_law o up h legal) (own_agrees_law o up h legal)
   where
     eleven : (p k a b m t s w r d n : Bool) → p ≡ true → k ≡ true → a ≡ true → b ≡ true → m ≡ true → t ≡ true → s ≡ true → w ≡ true → r ≡ true → d ≡ true → n ≡ true → (p && k && a && b && m && t && s && w && r && d && n) ≡ true
     eleven p k a b m t s w r d n hp hk ha hb hm ht hs hw hr hd hn = rw (hp, hk, ha, hb, hm, ht, hs, hw, hr, hd, hn) refl
 
-pub rest_law : (o : Origin) (up : Option Addr) (h : List Entry) → IsLegal o up h → prepared_agrees o h ≡ true → agrees o h ≡ true
-rest_law o up h legal prepared = whole o h (three (node_agrees o h) (arcs_agree o h) (current_agrees o h) (node_law o up h legal) (arcs_law o up h legal) (current_law o up h legal (all_marks_law o up h legal prepared)))
+pub whole_law : (o : Origin) (up : Option Addr) (h : List Entry) → IsLegal o up h → agrees o h ≡ true
+whole_law o up h legal = whole o h (three (node_agrees o h) (arcs_agree o h) (current_agrees o h) (node_law o up h legal) (arcs_law o up h legal) (current_law o up h legal))
   where
     three : (a b c : Bool) → a ≡ true → b ≡ true → c ≡ true → (a && b && c) ≡ true
     three a b c i j k = rw (i, j, k) refl

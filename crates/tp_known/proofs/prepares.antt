@@ -1,0 +1,5 @@
+pub mod Unsaid
+pub mod Proper
+pub mod Pending
+pub mod Closed
+pub mod Told
