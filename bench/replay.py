@@ -9,14 +9,13 @@ bench/replay.py --write SHAPE NODES ROUNDS    writes the schedule to standard ou
 It runs the proved program where it stands, crates/tpnode/out/tpnode (`rt run` or `rt ci` leaves it there), or the one that the
 variable TPNODE names. The plain Rust program is bench/peer, which `rustc` builds anew, or the one that the variable PEER names; where
 there is no rustc it is left out. Both must write the same bytes. Instructions are counted by `valgrind --tool=callgrind` over the whole process: the same binary, input and
-environment give the same count, whatever else the machine does. Time and memory are the least of five runs;
-no memory is shown below that of the Python that starts them, about 11 MB.
+environment give the same count, whatever else the machine does. Time and memory are the least of five runs.
 
 Shapes: pair (transactions of two nodes; NODES is not read), tree (binary), chain, star, burst (a tree, all requests before the
 deliveries), starburst, onesite (a tree on one site), idle (two of NODES nodes work), kept (transactions that each leave a kept
 one), refused (five refused requests a round), passstuck (a frame that stays beside one that is passed), data and stardata. The shape trial
 is `tpnode trial` itself, which makes its schedule of so many nodes and rounds."""
-import os, resource, subprocess, sys, tempfile
+import atexit, functools, os, shutil, subprocess, sys, tempfile
 
 sys.path.insert(0, os.path.dirname(os.path.abspath(__file__)))
 import table
@@ -90,26 +89,53 @@ def instructions(command, file):
     return int(found[0].split(":")[1].replace(",", "")) if found else None
 
 
+# Runs a program, and writes its processor seconds and its peak memory in KB to the file that the first word names. It is small, so
+# that the peak is the program's own; one that Python starts is never shown below what Python takes.
+LAUNCHER = r"""
+#include <stdio.h>
+#include <sys/resource.h>
+#include <sys/wait.h>
+#include <unistd.h>
+
+int main(int count, char **words) {
+    struct rusage use;
+    int status;
+    pid_t child = count > 2 ? fork() : -1;
+    if (child == 0) {
+        execv(words[2], words + 2);
+        _exit(127);
+    }
+    if (child < 0 || wait4(child, &status, 0, &use) != child) return 1;
+    FILE *out = fopen(words[1], "w");
+    if (!out) return 1;
+    fprintf(out, "%f %ld\n", use.ru_utime.tv_sec + use.ru_stime.tv_sec + (use.ru_utime.tv_usec + use.ru_stime.tv_usec) / 1e6, use.ru_maxrss);
+    return fclose(out) != 0;
+}
+"""
+
+
+@functools.cache
+def launcher():
+    room = tempfile.mkdtemp()
+    atexit.register(shutil.rmtree, room)
+    with open(f"{room}/launcher.c", "w") as file:
+        file.write(LAUNCHER)
+    subprocess.run(["cc", "-O2", "-o", f"{room}/launcher", f"{room}/launcher.c"], check=True)
+    return f"{room}/launcher"
+
+
 def once(command, file):
-    """Processor seconds and peak memory in MB of one run, in a process of its own so that the peak is its own."""
-    reads, writes = os.pipe()
-    child = os.fork()
-    if child == 0:
-        with open(file) as given:
-            subprocess.run(command, stdin=given, stdout=subprocess.DEVNULL)
-        use = resource.getrusage(resource.RUSAGE_CHILDREN)
-        os.write(writes, f"{use.ru_utime + use.ru_stime} {use.ru_maxrss / 1024}".encode())
-        os._exit(0)
-    os.waitpid(child, 0)
-    os.close(writes)
-    with os.fdopen(reads) as told:
-        return tuple(float(word) for word in told.read().split())
+    """Processor seconds and peak memory in MB of one run."""
+    with tempfile.NamedTemporaryFile("r") as told, open(file) as given:
+        subprocess.run([launcher(), told.name, *command], stdin=given, stdout=subprocess.DEVNULL, stderr=subprocess.DEVNULL, check=True)
+        seconds, peak = told.read().split()
+    return float(seconds), int(peak) / 1024
 
 
 def built(top, room):
     """The plain Rust program, none where it can't be built here."""
     if "PEER" in os.environ:
-        return os.environ["PEER"]
+        return os.path.realpath(os.environ["PEER"])
     flags = ["--edition", "2021", "-C", "opt-level=3", "-C", "codegen-units=1", "-C", "lto=fat", "-C", "panic=abort"]
     try:
         ran = subprocess.run(["rustc", *flags, "-o", f"{room}/peer", f"{top}/bench/peer/main.rs"], stderr=subprocess.DEVNULL)
@@ -160,6 +186,7 @@ def main(words):
     program = os.environ.get("TPNODE", f"{top}/crates/tpnode/out/tpnode")
     if not os.path.isfile(program):
         sys.exit(f"{program} is not built: `rt run` in crates/tpnode, or name a binary in TPNODE")
+    program = os.path.realpath(program)
     asked = [(words[0], int(words[1]), int(words[2]))] if len(words) == 3 else TABLE
     with tempfile.TemporaryDirectory() as room:
         peer = built(top, room)

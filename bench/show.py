@@ -34,7 +34,7 @@ def rows(program, peer, counts):
 
 def main(words):
     top = os.path.dirname(os.path.dirname(os.path.abspath(__file__)))
-    program = os.environ.get("TPNODE", f"{top}/crates/tpnode/out/tpnode")
+    program = os.path.realpath(os.environ.get("TPNODE", f"{top}/crates/tpnode/out/tpnode"))
     with tempfile.TemporaryDirectory() as room:
         table.show(rows(program, replay.built(top, room), [int(word) for word in words]))
 
