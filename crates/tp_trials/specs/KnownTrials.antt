@@ -15,8 +15,10 @@ use Rattle.tp_records.specs.declared.peer.PeerRecord.{PeerRecord}
 use Rattle.tp_records.specs.declared.peer.RecState.{RecState}
 use Rattle.tp_logrec.specs.declared.record.LogVersion.{LogVersion}
 use Rattle.tp_logrec.specs.declared.record.LogRec.{LogRec}
-use Rattle.tp_model.specs.Parts.{Origin, Event, Declare, Do, Arrive, Heur, GiveUp, Entry}
+use Rattle.tp_model.specs.Parts.{Origin, Event, Declare, Do, Arrive, Lose, Heur, GiveUp, Entry}
 use Rattle.tp_model.specs.History.{grown, refuse}
+use Rattle.tp_model.specs.Questions.{said_to, has_said}
+use Rattle.tp_model.specs.Keys.{is_prepare_record}
 
 -- a node in the middle, with a superior and one subordinate, that starts on those records
 abbrev pub starting : ℕ → List LogRec → Origin
@@ -250,3 +252,29 @@ foretelling_next =
 
 abbrev pub breaking_off : List Event
 breaking_off = Do (Request.UAbort 1) ∷ []
+
+-- the node's own tree has two branches; it tells the first one to prepare, or loses the other one
+abbrev pub forking : List Event
+forking =
+    Declare None
+    ∷ Do (Request.BeginDialogue below 41)
+    ∷ Arrive below (PeerRecord.AcceptAssoc (mark_of 2 1) (mark_of 3 1) 41)
+    ∷ Do (Request.BeginDialogue beside 41)
+    ∷ Arrive beside (PeerRecord.AcceptAssoc (mark_of 2 2) (mark_of 4 1) 41)
+    ∷ Do (Request.BeginTransaction 3)
+    ∷ Do (Request.BeginTransaction 4)
+    ∷ []
+
+abbrev pub fork_key : NodeKey
+fork_key = record { aaid = record { owner = codes "b"; mark = mark_of 2 3 }; branch = None }
+
+abbrev pub telling_first : List Event
+telling_first = Do (Request.Prepare 3) ∷ []
+
+abbrev pub losing : List Event
+losing = Lose 4 ∷ []
+
+-- the newest entry says Prepare to the peer
+abbrev pub tells_now : ℕ → List Entry → Bool
+tells_now p [] = false
+tells_now p (e ∷ h) = has_said is_prepare_record (said_to p e.outs)

@@ -1,7 +1,7 @@
 //! Worked examples of what is known of a node: histories in which the laws of the parts say something.
 //!
 //! Each function has an empty body; its clauses are the example.
-ghost use Rattle.std.specs.Prelude.{◌≡◌, ◌&&◌, true, false, Some, None, [], ◌∷◌, length};
+ghost use Rattle.std.specs.Prelude.{◌≡◌, ◌&&◌, ◌||◌, true, false, Some, None, [], ◌∷◌, length};
 ghost use Rattle.tp_names.specs.declared.outcome.Outcome.{Outcome};
 ghost use Rattle.tp_names.specs.declared.outcome.Report.{Report};
 ghost use Rattle.tp_model.specs.declared.arc.Phase.{Phase};
@@ -10,8 +10,8 @@ ghost use Rattle.tp_model.specs.Parts.{Idle, Live, No_response, Response_due, Re
 ghost use Rattle.tp_model.specs.Legal.{is_start};
 ghost use Rattle.tp_model.specs.Consistency.{agrees, not_idle, peers_in};
 ghost use Rattle.tp_model.specs.Questions.{declared_in, drawn_in, awaits_in, rests_in, deferral_in, link_in, holds_in, due_in};
-ghost use Rattle.tp_model.specs.Keys.{phase_in, superior_for, superior_since, branches_in, kept_in, known_in, decision_for, asked_in, told_prepare_in, owes_in, superior_rolled_in, own_in, counted_in, left_in, given_up_in, ended_in};
-ghost use Rattle.tp_trials.specs.KnownTrials.{middle, as_branch, as_root, as_damaged, fits, grows, linked, foretelling, forgetting, branch_key, root_key, deciding, beginning, asking, preparing, leaving, responding, speaking, polarized, shaking, answering, ordering, finishing, unknowing, own_key, above, one_child, foretold_key, deferring, rolling, committing, completing, mark_of, handing, entrusting, replying, calling, recalling, granting, readying, giving_up, leaving_below, own_child, ending_below};
+ghost use Rattle.tp_model.specs.Keys.{phase_in, superior_for, superior_since, branches_in, kept_in, known_in, decision_for, asked_in, told_prepare_in, owes_in, superior_rolled_in, own_in, counted_in, left_in, given_up_in, ended_in, prepared_in};
+ghost use Rattle.tp_trials.specs.KnownTrials.{middle, as_branch, as_root, as_damaged, fits, grows, linked, foretelling, forgetting, branch_key, root_key, deciding, beginning, asking, preparing, leaving, responding, speaking, polarized, shaking, answering, ordering, finishing, unknowing, own_key, above, one_child, foretold_key, deferring, rolling, committing, completing, mark_of, handing, entrusting, replying, calling, recalling, granting, readying, giving_up, leaving_below, own_child, ending_below, forking, fork_key, telling_first, losing, tells_now};
 
 /// A node is declared under its superior, and linked with it and with a subordinate: it has drawn a mark for each.
 pub fn a_node_is_linked()
@@ -191,4 +191,29 @@ pub fn a_branch_is_marked()
     ensures left { left_in middle own_key 3 (grows middle (grows middle (grows middle [] beginning) asking) leaving_below) ≡ true }
     ensures all { agrees middle (grows middle (grows middle (grows middle (grows middle [] beginning) asking) readying) giving_up) ≡ true }
     ensures behind { agrees middle (grows middle (grows middle (grows middle (grows middle [] beginning) asking) readying) ending_below) ≡ true }
+{}
+
+/// A root has two branches, and tells the first one to prepare. When its user asks for commitment, only the other one is told
+/// then, and both were; so the questions look back over the whole transaction, and not at the entry in which it was asked.
+pub fn branches_are_told_to_prepare()
+    ensures legal { (fits middle [] forking && fits middle (grows middle [] forking) telling_first && fits middle (grows middle (grows middle [] forking) telling_first) asking) ≡ true }
+    ensures before { (prepared_in middle fork_key 3 (grows middle [] forking) || prepared_in middle fork_key 4 (grows middle [] forking)) ≡ false }
+    ensures first { prepared_in middle fork_key 3 (grows middle (grows middle [] forking) telling_first) ≡ true }
+    ensures other { prepared_in middle fork_key 4 (grows middle (grows middle [] forking) telling_first) ≡ false }
+    ensures told { (prepared_in middle fork_key 3 (grows middle (grows middle (grows middle [] forking) telling_first) asking) && prepared_in middle fork_key 4 (grows middle (grows middle (grows middle [] forking) telling_first) asking)) ≡ true }
+    ensures now { tells_now 4 (grows middle (grows middle (grows middle [] forking) telling_first) asking) ≡ true }
+    ensures not_again { tells_now 3 (grows middle (grows middle (grows middle [] forking) telling_first) asking) ≡ false }
+    ensures all { agrees middle (grows middle (grows middle (grows middle [] forking) telling_first) asking) ≡ true }
+{}
+
+/// A branch whose word is awaited is on a live association only while the transaction is active: the loss of that association
+/// rolls the transaction back, and then the branch has not answered, and cannot be reached.
+pub fn an_awaited_branch_is_lost()
+    ensures legal { (fits middle [] forking && fits middle (grows middle [] forking) losing) ≡ true }
+    ensures active { phase_in middle fork_key (grows middle [] forking) ≡ Phase.Active }
+    ensures live { link_in middle 4 (grows middle [] forking) ≡ Live (mark_of 2 2) (mark_of 4 1) 1 0 }
+    ensures rolling { phase_in middle fork_key (grows middle (grows middle [] forking) losing) ≡ Phase.Rolling }
+    ensures lost { link_in middle 4 (grows middle (grows middle [] forking) losing) ≡ Idle }
+    ensures unanswered { (counted_in middle fork_key 4 (grows middle (grows middle [] forking) losing) || left_in middle fork_key 4 (grows middle (grows middle [] forking) losing)) ≡ false }
+    ensures all { agrees middle (grows middle (grows middle [] forking) losing) ≡ true }
 {}
