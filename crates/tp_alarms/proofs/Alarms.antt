@@ -1,6 +1,6 @@
--- In every run, behind a report of a commitment stands a node at or below that decided to roll back, gave up a branch, or took a
--- branch's report as a reply: a Done with a report that a node heeds is of a branch whose own commitment was complete with one.
-use Rattle.std.proofs.Common.{◌≡◌, ◌≤◌, ◌⊎◌, inl, inr, ℕ, zero, suc, Bool, true, false, refl, ap, sym, subst, ◌∙◌, arith, Option, Some, None, List, [], ◌∷◌, ◌++◌, ◌&&◌, ◌||◌, ◌==◌, length, slice_get}
+-- In every run, behind a report of a commitment stands a node at or below that decided to roll back, or gave up a branch: a Done with
+-- a report that a node heeds, over an association or as a reply, is of a branch whose own commitment was complete with one.
+use Rattle.std.proofs.Common.{if◌then◌else◌, ◌≡◌, ◌≤◌, ◌⊎◌, inl, inr, ℕ, zero, suc, Bool, true, false, refl, ap, sym, subst, ◌∙◌, arith, Option, Some, None, List, [], ◌∷◌, ◌++◌, ◌&&◌, ◌||◌, ◌==◌, length, slice_get}
 use Rattle.std.specs.Prelude.{not}
 use Rattle.std.proofs.lemmas.Bool.Decides.{nat_tests}
 use Rattle.tp_names.specs.declared.identifiers.Aaid.{Aaid}
@@ -9,7 +9,8 @@ use Rattle.tp_names.specs.declared.identifiers.Addr.{Addr}
 use Rattle.tp_names.specs.declared.identifiers.BranchId.{BranchId}
 use Rattle.tp_names.specs.declared.outcome.Outcome.{Outcome}
 use Rattle.tp_names.specs.declared.outcome.Report.{Report}
-use Rattle.tp_names.specs.Same.{is_aaid}
+use Rattle.tp_names.specs.Same.{is_aaid, is_addr, is_branch}
+use Rattle.tp_names.specs.declared.identifiers.NodeKey.{NodeKey}
 use Rattle.tp_names.specs.Reports.{is_report_none}
 use Rattle.tp_records.specs.declared.indication.Indication.{Indication}
 use Rattle.tp_records.specs.declared.dialogue.DialogueRecord.{DialogueRecord}
@@ -17,11 +18,11 @@ use Rattle.tp_records.specs.declared.peer.PeerRecord.{PeerRecord}
 use Rattle.tp_records.specs.declared.peer.RecState.{RecState}
 use Rattle.tp_logrec.specs.declared.record.LogRec.{LogRec}
 use Rattle.tp_model.specs.declared.transaction.TxEvent.{TxEvent}
-use Rattle.tp_model.specs.Parts.{Origin, Event, Out, Entry, Live, Branch, Current, Digest}
+use Rattle.tp_model.specs.Parts.{Who, Origin, Event, Out, Entry, Live, Branch, Current, Digest}
 use Rattle.tp_model.specs.Dialogues.{is_committing, is_rolling}
 use Rattle.tp_model.specs.Arcs.{link_with}
-use Rattle.tp_model.specs.Transactions.{aaid_of}
-use Rattle.tp_model.specs.Arrivals.{find_branch_by_id}
+use Rattle.tp_model.specs.Transactions.{aaid_of, child_of, node_key}
+use Rattle.tp_model.specs.Arrivals.{Named, current_of, find_branch_by_id, is_branch_of, key_of_branch, named_by_key, named_by_branch, child_addr, is_other, refused_arrival}
 use Rattle.tp_model.specs.Node.{phase_of}
 use Rattle.tp_model.specs.Events.{refusal}
 use Rattle.tp_model.specs.History.{digest, records}
@@ -29,8 +30,9 @@ use Rattle.tp_model.specs.Outcomes.{is_now, decided, rolled, decision, tells_com
 use Rattle.tp_model.specs.Questions.{is_at}
 use Rattle.tp_model.specs.World.{Node, Frame, number_of, addr_of, find_node}
 use Rattle.tp_model.specs.Happenings.{Happening, run}
-use Rattle.tp_model.specs.Promises.{IsIn, IsOf, IsBranchOf, IsBelow, below as one_below, told_of, has_begun, has_told_in, completes, tells_commit}
-use Rattle.tp_model.specs.Legal.{IsGrown}
+use Rattle.tp_model.specs.Promises.{IsIn, IsOf, IsBranchOf, IsBelow, below as one_below, told_of, has_begun, has_told_in, completes, tells_commit, has_record, is_of_tree}
+use Rattle.tp_model.specs.Legal.{IsGrown, is_apart, are_apart}
+use Rattle.tp_model.specs.declared.arc.Phase.{Phase}
 use Rattle.tp_steps.specs.Moves.{IsAsked, prelude}
 use Rattle.tp_steps.specs.Facts.{BranchKey, find_branch}
 use Rattle.tp_steps.specs.Branches.{may_end}
@@ -46,8 +48,8 @@ use Rattle.tp_histories.specs.Fates.{IsFated}
 use Rattle.tp_histories.specs.Upward.{deeds_of}
 use Rattle.tp_runs.specs.Heeded.{heeds_event, heeds}
 use Rattle.tp_alarms.specs.Causes.{same_report, tells_committed, is_awaited, hears, is_met, has_met}
-use Rattle.tp_alarms.specs.Alarms.{tells_reported, replies, Begins, HasCause, NoFalseAlarm}
-use Rattle.tp_steps.proofs.lemmas.Equality.{aaids_equal, or_case, and_left, and_right, both_true}
+use Rattle.tp_alarms.specs.Alarms.{tells_reported, Begins, HasCause, NoFalseAlarm}
+use Rattle.tp_steps.proofs.lemmas.Equality.{aaids_equal, addrs_equal, or_case, and_left, and_right, both_true}
 use Rattle.tp_steps.proofs.lemmas.Options.{some_same}
 use Rattle.tp_steps.proofs.lemmas.Words.{commit_more}
 use Rattle.tp_steps.proofs.every.Preludes.{Taken, takes_next}
@@ -66,14 +68,23 @@ use Rattle.tp_agreement.proofs.Marked.{Marked, MayMark}
 use Rattle.tp_agreement.proofs.Accounts.{Accounts, marked_key}
 use Rattle.tp_agreement.proofs.AccountSteps.{Rules}
 use Rattle.tp_agreement.proofs.LeftDown.{Below, below_tail, accounts_of}
-use Rattle.tp_agreement.proofs.OwingLaw.{done_word, damaged_word, rolled_more}
+use Rattle.tp_steps.proofs.log.KinTurns.{kin}
+use Rattle.tp_steps.proofs.every.EveryEvent.{plain_arrival}
+use Rattle.tp_agreement.proofs.Agreed.{never_two}
+use Rattle.tp_agreement.proofs.Settled.{is_bound_phase}
+use Rattle.tp_agreement.proofs.Unknown.{current_found, own_with}
+use Rattle.tp_agreement.proofs.OwingLaw.{damaged_word, rolled_more, spread_at}
+use Rattle.tp_runs.proofs.Bare.{left_is_bare}
+use Rattle.tp_reports.proofs.ClearedReplies.{damage_replied}
 use Rattle.tp_agreement.proofs.RollsUp.{below_run}
 use Rattle.tp_reports.proofs.Finished.{Ending, Goes_on, It_rolled, It_left, It_was_told, ending_law}
-use Rattle.tp_reports.proofs.ClearedLaw.{IsCleared, cleared_law}
+use Rattle.tp_reports.proofs.ClearedLaw.{IsCleared, cleared_law, damage_is_known}
 use Rattle.tp_drained.proofs.NoRolling.{no_own_link}
 use Rattle.tp_drained.proofs.DrainedUp.{IsWithin, none_within, branch_within, all_within}
-use Rattle.tp_outcomes.proofs.Shown.{told_member, left_untold}
+use Rattle.tp_outcomes.proofs.Shown.{told_member}
 use Rattle.tp_outcomes.proofs.Starting.{taken_member}
+use Rattle.tp_outcomes.proofs.CountedThere.{TookReady, said_above}
+use Rattle.tp_alarms.proofs.Answered.{none_apart, was_ready}
 use Rattle.tp_alarms.proofs.Causes.{same_is, reports_have_causes}
 
 -- ---- an event in a history
@@ -225,7 +236,7 @@ not_drawn ns fs x y t good unique hx hy above known own =
 data Hearing (c : Current) (e : Event) : Type 0 where
   A_word : (a : Addr) (m k : Mark) (q : ℕ) (r : Report) → e ≡ Event.Arrive a (PeerRecord.OnAssoc m k q (DialogueRecord.Done r)) → is_committing c.phase ≡ true → is_awaited (find_branch c.branches a.node) ≡ true → is_report_none r ≡ false → Hearing c e
   A_rollback : is_rolling c.phase ≡ true → Hearing c e
-  A_reply : replies c e ≡ true → Hearing c e
+  A_reply : (a : Addr) (u : Aaid) (b : BranchId) (r : Report) → e ≡ Event.Arrive a (PeerRecord.RecReply u b (RecState.Done r)) → is_committing c.phase ≡ true → is_awaited (find_branch_by_id c.branches b) ≡ true → is_aaid (aaid_of c.key) u ≡ true → is_report_none r ≡ false → Hearing c e
 
 some_report : (r s : Report) → is_report_none r ≡ false → same_report r s ≡ true → is_report_none s ≡ false
 some_report r s some same = sym (ap is_report_none (same_is r s same)) ∙ some
@@ -239,8 +250,10 @@ hearing c (Event.Arrive a (PeerRecord.OnAssoc m k q (DialogueRecord.RolledBack s
     A_rollback (and_left (is_rolling c.phase) (is_awaited (find_branch c.branches a.node)) (and_left (is_rolling c.phase && is_awaited (find_branch c.branches a.node)) (same_report r s) h))
 hearing c (Event.Arrive a (PeerRecord.RecReply u b (RecState.Done s))) r some h =
     let front : (is_committing c.phase && is_awaited (find_branch_by_id c.branches b) && is_aaid (aaid_of c.key) u) ≡ true = and_left (is_committing c.phase && is_awaited (find_branch_by_id c.branches b) && is_aaid (aaid_of c.key) u) (same_report r s) h in
-    let one : is_report_none s ≡ false = some_report r s some (and_right (is_committing c.phase && is_awaited (find_branch_by_id c.branches b) && is_aaid (aaid_of c.key) u) (same_report r s) h) in
-    A_reply (both_true (is_committing c.phase && is_awaited (find_branch_by_id c.branches b) && is_aaid (aaid_of c.key) u) (not (is_report_none s)) front (ap not one))
+    let both : (is_committing c.phase && is_awaited (find_branch_by_id c.branches b)) ≡ true = and_left (is_committing c.phase && is_awaited (find_branch_by_id c.branches b)) (is_aaid (aaid_of c.key) u) front in
+    A_reply a u b s refl (and_left (is_committing c.phase) (is_awaited (find_branch_by_id c.branches b)) both) (and_right (is_committing c.phase) (is_awaited (find_branch_by_id c.branches b)) both)
+    (and_right (is_committing c.phase && is_awaited (find_branch_by_id c.branches b)) (is_aaid (aaid_of c.key) u) front)
+    (some_report r s some (and_right (is_committing c.phase && is_awaited (find_branch_by_id c.branches b) && is_aaid (aaid_of c.key) u) (same_report r s) h))
 hearing c e r some h = absurd (cc (h))
 
 -- a branch whose commitment was complete with a report
@@ -254,9 +267,14 @@ branch_found : (o : Option Branch) → is_awaited o ≡ true → (b : Branch) ×
 branch_found None h = absurd (cc (h))
 branch_found (Some b) h = (b, refl)
 
--- a branch that is kept for its damage, of a tree that it commits, was complete with a report
-damaged_told : (es : List Happening) (t : Aaid) (y : Node) → IsOf (run es) t y → decided y.origin t y.history ≡ true → has_damage t (records y.origin y.history) ≡ true → has_told_in tells_reported y.origin t y.history ≡ true
-damaged_told es t y of did damage = go (ending_law y.origin y.superior y.history t empty legal once of.of_tree)
+-- a node that left logged no damage of the tree
+bare_damage : (t : Aaid) (rs : List LogRec) → has_record (is_of_tree t) rs ≡ false → has_damage t rs ≡ false
+bare_damage t [] h = refl
+bare_damage t (r ∷ rs) h = grind (arith, h, bare_damage t rs)
+
+-- a branch that is kept for its damage, of a tree that did not roll back there, was complete with a report
+damaged_told : (es : List Happening) (t : Aaid) (y : Node) → IsOf (run es) t y → (rolled y.origin t y.history ≡ true → ⊥) → has_damage t (records y.origin y.history) ≡ true → has_told_in tells_reported y.origin t y.history ≡ true
+damaged_told es t y of never damage = go (ending_law y.origin y.superior y.history t empty legal once of.of_tree)
   where
     empty : y.origin.start.records ≡ []
     empty = (good_run es).fresh (number_of y) y of.here
@@ -273,26 +291,82 @@ damaged_told es t y of did damage = go (ending_law y.origin y.superior y.history
     cleared : IsCleared y.origin y.history t
     cleared = cleared_law y.origin y.superior y.history t empty legal once
 
-    untold : told_of t y ≡ None → ⊥
-    untold none = on (decision y.origin t y.history) refl
-      where
-        on : (o : Option Outcome) → decision y.origin t y.history ≡ o → ⊥
-        on None i = let told : told_of t y ≡ Some Outcome.Commit = grind (arith, i, did) in cc (sym none ∙ told)
-        on (Some u) i = let told : told_of t y ≡ Some u = grind (arith, i) in cc (sym none ∙ told)
-
     go : Ending y.origin y.history t → has_told_in tells_reported y.origin t y.history ≡ true
-    go (Goes_on n) = absurd (fated.never_both did (fated.rolling n (cleared.damage_now damage n)))
-    go (It_rolled r) = absurd (fated.never_both did r)
-    go (It_left l) = absurd (untold (left_untold es t y of.here l))
+    go (Goes_on n) = absurd (never (fated.rolling n (cleared.damage_now damage n)))
+    go (It_rolled r) = absurd (never r)
+    go (It_left l) = absurd (let off : has_damage t (records y.origin y.history) ≡ false = bare_damage t (records y.origin y.history) (left_is_bare es t y of l) in cc (off, damage))
     go (It_was_told i) = elim (told_split completes tells_complete_none tells_reported complete_split y.origin t y.history i) [
       | inl j ↦ absurd (cc (cleared.clear_whole (cleared.completed (told_none_is y.origin t y.history j)), damage))
       | inr j ↦ j
     ]
 
+-- a node just below one that commits the tree, which logged the tree's damage, is such a branch
+kin_reported : (es : List Happening) (t : Aaid) (x y : Node) → IsOf (run es) t x → decided x.origin t x.history ≡ true → IsIn (run es) y → is_at y.superior (number_of x) ≡ true → has_damage t (records y.origin y.history) ≡ true → Reported es t x
+kin_reported es t x y x_of done hy under damage = record { id = begin.id; node = y; branch = branch; told = damaged_told es t y of (never_two es t x y x_of of done) damage }
+  where
+    ns : List Node
+    ns = (run es).nodes
+
+    good : IsGood ns (run es).frames
+    good = good_run es
+
+    hx : IsIn (run es) x
+    hx = x_of.here
+
+    empty_x : x.origin.start.records ≡ []
+    empty_x = good.fresh (number_of x) x hx
+
+    empty_y : y.origin.start.records ≡ []
+    empty_y = good.fresh (number_of y) y hy
+
+    legal_y : IsGrown y.origin y.superior y.history
+    legal_y = good.legal (number_of y) y hy
+
+    once_y : IsOnce y.origin y.history
+    once_y = (unique_run es).once (number_of y) y hy
+
+    known_x : is_known x.origin t x.history ≡ true
+    known_x = (fated_law x.origin x.superior x.history t empty_x (good.legal (number_of x) x hx) ((unique_run es).once (number_of x) x hx)).commit_known done
+
+    known_y : is_known y.origin t y.history ≡ true
+    known_y = damage_is_known y.origin y.superior y.history t empty_y legal_y once_y damage
+
+    took : has_taken_begin t y.history ≡ true
+    took = by (is_own y.origin.who t) refl
+      where
+        by : (v : Bool) → is_own y.origin.who t ≡ v → has_taken_begin t y.history ≡ true
+        by true i = absurd (not_drawn ns (run es).frames x y t good (unique_run es) hx hy under known_x i)
+        by false i = grind (arith, known_y, i)
+
+    of : IsOf (run es) t y
+    of = record { here = hy; of_tree = taken_member y.origin y.superior y.history t legal_y took }
+
+    begin : TookBegin y.superior y.history t
+    begin = took_begin y.origin y.superior y.history t legal_y took
+
+    begun : PeerRecord
+    begun = PeerRecord.OnAssoc begin.x begin.y begin.seq (DialogueRecord.Begin t begin.id begin.holder)
+
+    from : begin.from ≡ addr_of x
+    from =
+        let sb : Sender ns begin.from (number_of y) begun =
+        was_sent ns (run es).frames begin.from (number_of y) begun good.sent (good.taken (number_of y) y begin.from begun hy (took_has y.history begin.from begin.x begin.y begin.seq (DialogueRecord.Begin t begin.id begin.holder) begin.took)) in
+        let up : is_at (Some begin.superior) (number_of x) ≡ true = ap (λ (v : Option Addr). is_at v (number_of x)) (sym begin.is) ∙ under in
+        let node : begin.superior.node ≡ number_of x = grind (arith, nat_tests, up) in
+        let one : begin.from.node ≡ number_of x = sym begin.at ∙ node in
+        let same : sb.node ≡ x = some_same sb.node x (sym sb.found ∙ ap (find_node ns) one ∙ hx) in
+        sym sb.is ∙ ap addr_of same
+
+    branch : IsBranchOf (run es) t begin.id x y
+    branch = record {
+      superior = x_of;
+      child = of;
+      begun = ap (λ (v : Addr). has_begun t begin.id v y.history) (sym from) ∙ began_from y.history begin.from begin.x begin.y begin.seq t begin.id begin.holder begin.took;
+    }
 -- a Done with a report that is heeded in a commitment is of such a branch
 word_reported : (es : List Happening) (t : Aaid) (x : Node) → IsOf (run es) t x → decided x.origin t x.history ≡ true → (f : Current → Event → Bool) (w : Found f x.origin t x.history) (a : Addr) (m k : Mark) (q : ℕ) (r : Report)
     → w.entry.event ≡ Event.Arrive a (PeerRecord.OnAssoc m k q (DialogueRecord.Done r)) → is_committing w.current.phase ≡ true → is_awaited (find_branch w.current.branches a.node) ≡ true → is_report_none r ≡ false → Reported es t x
-word_reported es t x x_of done f w a m k q r is committing waits some = record { id = begin.id; node = y; branch = branch; told = damaged_told es t y of did damage }
+word_reported es t x x_of done f w a m k q r is committing waits some = kin_reported es t x y x_of done hy under damage
   where
     ns : List Node
     ns = (run es).nodes
@@ -407,62 +481,151 @@ word_reported es t x x_of done f w a m k q r is committing waits some = record {
     damage : has_damage t (records y.origin y.history) ≡ true
     damage = subst (λ (u : Aaid). has_damage u (records y.origin y.history) ≡ true) (sym tree) (damaged_word x.origin x.superior (number_of y) g rs w.entry w.rest rules old j may_end mark r refl committing some)
 
-    did : decided y.origin t y.history ≡ true
-    did = subst (λ (u : Aaid). decided y.origin u y.history ≡ true) (sym tree) committed
+-- ---- a reply with a report
+
+-- the branch that is named in a reply is where it comes from
+plain_done : (who : Who) (d : Digest) (from : Addr) (t : Aaid) (b : BranchId) (r : Report) → refused_arrival who d from (PeerRecord.RecReply t b (RecState.Done r)) ≡ None → is_other (child_addr (named_by_branch d t b) b) from ≡ false
+unfolding refused_arrival
+plain_done who d from t b r ok = go (is_other (child_addr (named_by_branch d t b) b) from) refl
+  where
+    go : (v : Bool) → is_other (child_addr (named_by_branch d t b) b) from ≡ v → v ≡ false
+    go false i = refl
+    go true i = absurd (grind (arith, ok, i))
+
+reply_from : (who : Who) (d : Digest) (from : Addr) (t : Aaid) (b : BranchId) (r : Report) (c : Current) (v : Branch) → refused_arrival who d from (PeerRecord.RecReply t b (RecState.Done r)) ≡ None → d.current ≡ Some c → is_aaid (aaid_of c.key) t ≡ true → find_branch_by_id c.branches b ≡ Some v → is_addr v.peer from ≡ true
+reply_from who d from t b r c v ok now tree found = no_other (ap (λ (o : Option Addr). is_other o from) (sym child) ∙ plain_done who d from t b r ok)
+  where
+    no_other : is_other (Some v.peer) from ≡ false → is_addr v.peer from ≡ true
+    no_other h = grind (arith, h)
+
+    of_tree : current_of d t ≡ Some c
+    of_tree = current_found d t c now tree
+
+    key : key_of_branch d t b ≡ Some (node_key c.key)
+    key = rw (of_tree, key_of_branch) (rw (found, is_branch_of) refl)
+
+    at : (named_by_branch d t b).current ≡ Some c
+    at = ap (λ (o : Option NodeKey). (elim o as (λ _. Named) [ None ↦ record { current = None; kept = None } | Some z ↦ named_by_key d z ]).current) key ∙ own_with d c now
+
+    child : child_addr (named_by_branch d t b) b ≡ Some v.peer
+    child = rw (at, child_addr) (rw found refl)
+
+-- it is the one that stands at its number
+by_number : (bs : List Branch) (b : BranchId) (v : Branch) → are_apart (kin bs) ≡ true → find_branch_by_id bs b ≡ Some v → find_branch bs v.peer.node ≡ Some v
+by_number [] b v apart h = absurd (cc (h))
+by_number (x ∷ bs) b v apart h = go (is_branch x.id b) refl (by_number bs b v (and_right (is_apart (child_of x) (kin bs)) (are_apart (kin bs)) apart))
+  where
+    self : (x.peer.node == x.peer.node) ≡ true
+    self = grind (arith, nat_tests)
+
+    go : (k : Bool) → is_branch x.id b ≡ k → (find_branch_by_id bs b ≡ Some v → find_branch bs v.peer.node ≡ Some v) → find_branch (x ∷ bs) v.peer.node ≡ Some v
+    go true i rest =
+        let one : Some x ≡ Some v = rw i at h in
+        let same : x ≡ v = some_same x v one in
+        subst (λ (y : Branch). find_branch (x ∷ bs) y.peer.node ≡ Some y) same (rw self refl)
+    go false i rest = on (x.peer.node == v.peer.node) refl (rest (rw i at h))
       where
-        said : (g.committed j.0 && (not (is_report_none r) || g.completed j.0) && (is_report_none r || g.damaged j.0)) ≡ true
-        said = done_word x.origin x.superior (number_of y) g rs w.entry w.rest rules old j may_end mark r refl committing
+        on : (k : Bool) → (x.peer.node == v.peer.node) ≡ k → find_branch bs v.peer.node ≡ Some v → (if k then Some x else find_branch bs v.peer.node) ≡ Some v
+        on false j found = found
+        on true j found =
+            absurd (let none : find_branch bs v.peer.node ≡ None = none_apart (child_of x) bs v.peer.node (and_left (is_apart (child_of x) (kin bs)) (are_apart (kin bs)) apart) (grind (arith, nat_tests, j)) in
+            let no : None ≡ Some v = sym none ∙ found in
+            cc (no))
 
-        committed : g.committed j.0 ≡ true
-        committed = and_left (g.committed j.0) (not (is_report_none r) || g.completed j.0) (and_left (g.committed j.0 && (not (is_report_none r) || g.completed j.0)) (is_report_none r || g.damaged j.0) said)
+taken_behind : (before : List Entry) (h : List Entry) (a : Addr) (r : PeerRecord) → HasTaken h a r → HasTaken (before ++ h) a r
+taken_behind [] h a r s = s
+taken_behind (e ∷ before) h a r s = inr (taken_behind before h a r s)
 
-    empty_y : y.origin.start.records ≡ []
-    empty_y = good.fresh (number_of y) y hy
+-- a reply with a report that a commitment awaits is of such a branch
+reply_reported : (es : List Happening) (t : Aaid) (x : Node) → IsOf (run es) t x → decided x.origin t x.history ≡ true → (f : Current → Event → Bool) (w : Found f x.origin t x.history) (a : Addr) (u : Aaid) (b : BranchId) (r : Report)
+    → w.entry.event ≡ Event.Arrive a (PeerRecord.RecReply u b (RecState.Done r)) → is_committing w.current.phase ≡ true → is_awaited (find_branch_by_id w.current.branches b) ≡ true → is_aaid (aaid_of w.current.key) u ≡ true → is_report_none r ≡ false → Reported es t x
+reply_reported es t x x_of done f w a u b r is committing waits same some = kin_reported es t x y x_of done hy under damage
+  where
+    ns : List Node
+    ns = (run es).nodes
 
-    legal_y : IsGrown y.origin y.superior y.history
-    legal_y = good.legal (number_of y) y hy
+    good : IsGood ns (run es).frames
+    good = good_run es
 
-    once_y : IsOnce y.origin y.history
-    once_y = (unique_run es).once (number_of y) y hy
+    hx : IsIn (run es) x
+    hx = x_of.here
 
-    known_x : is_known x.origin t x.history ≡ true
-    known_x = (fated_law x.origin x.superior x.history t empty_x (good.legal (number_of x) x hx) ((unique_run es).once (number_of x) x hx)).commit_known done
+    c : Current
+    c = w.current
 
-    known_y : is_known y.origin t y.history ≡ true
-    known_y = (fated_law y.origin y.superior y.history t empty_y legal_y once_y).commit_known did
+    d : Digest
+    d = digest x.origin w.rest
 
-    took : has_taken_begin t y.history ≡ true
-    took = by (is_own y.origin.who t) refl
+    word : PeerRecord
+    word = PeerRecord.RecReply u b (RecState.Done r)
+
+    empty_x : x.origin.start.records ≡ []
+    empty_x = good.fresh (number_of x) x hx
+
+    legal : IsGrown x.origin x.superior (w.entry ∷ w.rest)
+    legal = legal_at x.origin x.superior w.before w.entry w.rest (subst (λ (h : List Entry). IsGrown x.origin x.superior h) w.is (good.legal (number_of x) x hx))
+
+    s : Sender ns a (number_of x) word
+    s = was_sent ns (run es).frames a (number_of x) word good.sent (good.taken (number_of x) x a word hx (subst (λ (h : List Entry). HasTaken h a word) (sym w.is) (taken_at w.before w.entry w.rest a word (ap brought is))))
+
+    y : Node
+    y = s.node
+
+    number : number_of y ≡ a.node
+    number = ap (λ (v : Addr). v.node) s.is
+
+    hy : find_node ns (number_of y) ≡ Some y
+    hy = ap (find_node ns) number ∙ s.found
+
+    v : (v : Branch) × (find_branch_by_id c.branches b ≡ Some v)
+    v = branch_found (find_branch_by_id c.branches b) waits
+
+    plain : refused_arrival x.origin.who d a word ≡ None
+    plain = plain_arrival x.origin.who d a word (subst (λ (e : Event). refusal x.origin.who d e ≡ None) is legal.0)
+
+    peer : v.0.peer ≡ a
+    peer = addrs_equal v.0.peer a (reply_from x.origin.who d a u b r c v.0 plain w.at same v.1)
+
+    stays : v.0.left ≡ false
+    stays = gone v.0 (ap is_awaited (sym v.1) ∙ waits)
       where
-        by : (v : Bool) → is_own y.origin.who t ≡ v → has_taken_begin t y.history ≡ true
-        by true i = absurd (not_drawn ns (run es).frames x y t good (unique_run es) hx hy under known_x i)
-        by false i = grind (arith, known_y, i)
+        gone : (z : Branch) → is_awaited (Some z) ≡ true → z.left ≡ false
+        gone z h = grind (arith, h)
 
-    of : IsOf (run es) t y
-    of = record { here = hy; of_tree = taken_member y.origin y.superior y.history t legal_y took }
+    bound : is_bound_phase c.phase ≡ true
+    bound = late c.phase committing
+      where
+        late : (q : Phase) → is_committing q ≡ true → is_bound_phase q ≡ true
+        late q h = grind (arith, h)
 
-    begin : TookBegin y.superior y.history t
-    begin = took_begin y.origin y.superior y.history t legal_y took
+    ready : TookReady w.rest v.0.peer.node
+    ready = was_ready x.origin x.superior w.rest v.0.peer.node c v.0 empty_x legal.3 w.at bound (by_number c.branches b v.0 (spread_at x.origin x.superior w.rest empty_x legal.3 c w.at) v.1) stays
 
-    begun : PeerRecord
-    begun = PeerRecord.OnAssoc begin.x begin.y begin.seq (DialogueRecord.Begin t begin.id begin.holder)
+    vote : PeerRecord
+    vote = PeerRecord.OnAssoc ready.x ready.y ready.seq DialogueRecord.Ready
 
-    from : begin.from ≡ addr_of x
-    from =
-        let sb : Sender ns begin.from (number_of y) begun =
-        was_sent ns (run es).frames begin.from (number_of y) begun good.sent (good.taken (number_of y) y begin.from begun hy (took_has y.history begin.from begin.x begin.y begin.seq (DialogueRecord.Begin t begin.id begin.holder) begin.took)) in
-        let up : is_at (Some begin.superior) (number_of x) ≡ true = ap (λ (v : Option Addr). is_at v (number_of x)) (sym begin.is) ∙ under in
-        let node : begin.superior.node ≡ number_of x = grind (arith, nat_tests, up) in
-        let one : begin.from.node ≡ number_of x = sym begin.at ∙ node in
-        let same : sb.node ≡ x = some_same sb.node x (sym sb.found ∙ ap (find_node ns) one ∙ hx) in
-        sym sb.is ∙ ap addr_of same
+    voter : Sender ns ready.from (number_of x) vote
+    voter = was_sent ns (run es).frames ready.from (number_of x) vote good.sent (good.taken (number_of x) x ready.from vote hx (subst (λ (h : List Entry). HasTaken h ready.from vote) (sym w.is) (taken_behind w.before (w.entry ∷ w.rest) ready.from vote (inr ready.took))))
 
-    branch : IsBranchOf (run es) t begin.id x y
-    branch = record {
-      superior = x_of;
-      child = of;
-      begun = ap (λ (v : Addr). has_begun t begin.id v y.history) (sym from) ∙ began_from y.history begin.from begin.x begin.y begin.seq t begin.id begin.holder begin.took;
-    }
+    voted : voter.node ≡ y
+    voted = some_same voter.node y (sym voter.found ∙ ap (find_node ns) (ready.at ∙ ap (λ (z : Addr). z.node) peer) ∙ s.found)
+
+    here : IsIn (run es) voter.node
+    here = subst (λ (z : Node). IsIn (run es) z) (sym voted) hy
+
+    above : is_at voter.node.superior (number_of x) ≡ true
+    above =
+        subst (λ (n : ℕ). is_at voter.node.superior n ≡ true) voter.at
+        (said_above voter.node.origin voter.node.superior voter.node.history voter.to ready.x ready.y ready.seq (good.fresh (number_of voter.node) voter.node here) (good.legal (number_of voter.node) voter.node here) voter.sent)
+
+    under : is_at y.superior (number_of x) ≡ true
+    under = subst (λ (z : Node). is_at z.superior (number_of x) ≡ true) voted above
+
+    tree : u ≡ t
+    tree = sym (aaids_equal (aaid_of c.key) u same) ∙ sym (aaids_equal t (aaid_of c.key) w.own)
+
+    damage : has_damage t (records y.origin y.history) ≡ true
+    damage = subst (λ (z : Aaid). has_damage z (records y.origin y.history) ≡ true) tree (damage_replied y.origin y.superior y.history s.to u b r (good.fresh (number_of y) y hy) (good.legal (number_of y) y hy) ((unique_run es).once (number_of y) y hy) some s.sent)
 
 -- ---- down to where it begins
 
@@ -502,20 +665,6 @@ cause_next es t x of told = by (told_split tells_reported (tells_committed Repor
         let late : rolled x.origin t (w.before ++ w.entry ∷ w.rest) ≡ true = rolled_at x.origin t w.before (w.entry ∷ w.rest) (rolled_more x.origin w.entry w.rest t early) in
         (fated_law x.origin x.superior x.history t empty legal once).never_both done (subst (λ (h : List Entry). rolled x.origin t h ≡ true) (sym w.is) late)
 
-    replied : (f : Current → Event → Bool) (w : Found f x.origin t x.history) → replies w.current w.entry.event ≡ true → has_met replies x.origin t x.history ≡ true
-    replied f w i = subst (λ (h : List Entry). has_met replies x.origin t h ≡ true) (sym w.is) (more w.before)
-      where
-        first : has_met replies x.origin t (w.entry ∷ w.rest) ≡ true
-        first = let n : is_met replies t (digest x.origin w.rest).current w.entry.event ≡ true = ap (λ (v : Option Current). is_met replies t v w.entry.event) w.at ∙ both_true (is_aaid t (aaid_of w.current.key)) (replies w.current w.entry.event) w.own i in rw n refl
-
-        more : (before : List Entry) → has_met replies x.origin t (before ++ w.entry ∷ w.rest) ≡ true
-        more [] = first
-        more (e ∷ h) = later (is_met replies t (digest x.origin (h ++ w.entry ∷ w.rest)).current e.event) (has_met replies x.origin t (h ++ w.entry ∷ w.rest)) (more h)
-          where
-            later : (u v : Bool) → v ≡ true → (u || v) ≡ true
-            later true v j = refl
-            later false v j = j
-
     heard : (r : Report) → is_report_none r ≡ false → has_met (hears r) x.origin t x.history ≡ true → HasCause (run es) t x ⊎ Reported es t x
     heard r some m = on (hearing w.current w.entry.event r some w.met)
       where
@@ -525,7 +674,7 @@ cause_next es t x of told = by (told_split tells_reported (tells_committed Repor
         on : Hearing w.current w.entry.event → HasCause (run es) t x ⊎ Reported es t x
         on (A_word a n k q v is committing waits report) = inr (word_reported es t x of done (hears r) w a n k q v is committing waits report)
         on (A_rollback roll) = absurd (rolls (hears r) w roll)
-        on (A_reply i) = itself (Begins.was_replied (replied (hears r) w i))
+        on (A_reply a u b v is committing waits same some) = inr (reply_reported es t x of done (hears r) w a u b v is committing waits same some)
 
     by : (has_told_in (tells_committed Report.Mix) x.origin t x.history ≡ true) ⊎ (has_told_in (tells_committed Report.Hazard) x.origin t x.history ≡ true) → HasCause (run es) t x ⊎ Reported es t x
     by (inl i) = elim ((reports_have_causes es).mixed_commit t x of.here i) [ inl j ↦ itself (Begins.decided j) | inr j ↦ heard Report.Mix refl j ]

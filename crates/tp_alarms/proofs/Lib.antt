@@ -1,3 +1,4 @@
+pub mod Answered
 pub mod Alarms
 pub mod CausedTurns
 pub mod CausedMoves

@@ -1,5 +1,4 @@
--- No report of a commitment is a false alarm: behind it stands a node at or below, which decided to roll back, gave up a branch,
--- or took a branch's report as a reply.
+-- No report of a commitment is a false alarm: behind it stands a node at or below, which decided to roll back or gave up a branch.
 use Rattle.std.specs.Prelude.{◌≡◌, ◌&&◌, ◌||◌, not, Bool, true, false, Some, List, [], ◌∷◌}
 use Rattle.tp_names.specs.declared.identifiers.Aaid.{Aaid}
 use Rattle.tp_names.specs.declared.outcome.Outcome.{Outcome}
@@ -23,16 +22,10 @@ tells_reported [] = false
 tells_reported (Out.Tell (Indication.CommitComplete r) ∷ outs) = not (is_report_none r) || tells_reported outs
 tells_reported (_ ∷ outs) = tells_reported outs
 
--- an awaited branch's report comes as a reply
-abbrev pub replies : Current → Event → Bool
-replies c (Event.Arrive a (PeerRecord.RecReply u b (RecState.Done r))) = is_committing c.phase && is_awaited (find_branch_by_id c.branches b) && is_aaid (aaid_of c.key) u && not (is_report_none r)
-replies c _ = false
-
 -- what a report begins with
 pub data Begins (t : Aaid) (x : Node) : Type 0 where
   decided : decision x.origin t x.history ≡ Some Outcome.Rollback → Begins t x
   gave_up : has_given_up t x ≡ true → Begins t x
-  was_replied : has_met replies x.origin t x.history ≡ true → Begins t x
 
 -- at a node, or at one below it
 pub record HasCause (w : World) (t : Aaid) (x : Node) : Type 0 where

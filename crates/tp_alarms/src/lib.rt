@@ -17,8 +17,8 @@ pub fn reports_have_causes()
 {}
 
 /// In every run, where a node's user was told that a commitment is complete with a report, a node of the tree, at that node or
-/// below it, decided by itself to roll back, or gave up a branch while the tree was current, or took the report of an awaited
-/// branch as a reply, which comes where an association was lost.
+/// below it, decided by itself to roll back, or gave up a branch while the tree was current: whether its branches' reports came
+/// over their associations, or as replies after one was lost.
 pub fn no_report_is_a_false_alarm()
     ensures { (es : List Happening) → NoFalseAlarm (run es) }
 {}

@@ -52,15 +52,15 @@ use Rattle.tp_outcomes.proofs.Starting.{taken_member}
 
 -- ---- Ready was taken
 
-record TookReady (h : List Entry) (p : ℕ) : Type 0 where
-  from : Addr
-  x : Mark
-  y : Mark
-  seq : ℕ
-  at : from.node ≡ p
-  took : HasTaken h from (PeerRecord.OnAssoc x y seq DialogueRecord.Ready)
+pub record TookReady (h : List Entry) (p : ℕ) : Type 0 where
+  pub from : Addr
+  pub x : Mark
+  pub y : Mark
+  pub seq : ℕ
+  pub at : from.node ≡ p
+  pub took : HasTaken h from (PeerRecord.OnAssoc x y seq DialogueRecord.Ready)
 
-took_ready : (o : Origin) (up : Option Addr) (h : List Entry) (p : ℕ) (j : BranchKey) → o.start.records ≡ [] → IsGrown o up h → Marked counted_of (digest o h).current p j → TookReady h p
+pub took_ready : (o : Origin) (up : Option Addr) (h : List Entry) (p : ℕ) (j : BranchKey) → o.start.records ≡ [] → IsGrown o up h → Marked counted_of (digest o h).current p j → TookReady h p
 took_ready o up [] p j empty legal m = absurd (let off : None ≡ Some m.current = sym (current_none o empty) ∙ m.at in cc (off))
 took_ready o up (e ∷ h) p j empty legal m = go (marking_event o.who d e.event counted_of may_count counts_mark (late_law o up h legal.3) legal.0 p j m) (took_ready o up h p j empty legal.3)
   where
@@ -103,7 +103,7 @@ no_vote rs n (w ∷ ws) h i = go (is_vote w) refl (no_vote rs (ends w + n) ws)
     go true j rest = absurd (grind (arith, h, j))
     go false j rest = rest (grind (arith, h, j)) (grind (arith, i, j))
 
-said_above : (o : Origin) (up : Option Addr) (h : List Entry) (a : Addr) (x y : Mark) (q : ℕ) → o.start.records ≡ [] → IsGrown o up h → HasSent h a (PeerRecord.OnAssoc x y q DialogueRecord.Ready) → is_at up a.node ≡ true
+pub said_above : (o : Origin) (up : Option Addr) (h : List Entry) (a : Addr) (x y : Mark) (q : ℕ) → o.start.records ≡ [] → IsGrown o up h → HasSent h a (PeerRecord.OnAssoc x y q DialogueRecord.Ready) → is_at up a.node ≡ true
 said_above o up [] a x y q empty legal s = absurd s
 said_above o up (e ∷ h) a x y q empty legal (inr s) = said_above o up h a x y q empty legal.3 s
 said_above o up (e ∷ h) a x y q empty legal (inl s) = go (is_at up a.node) refl
