@@ -1,14 +1,21 @@
 -- What nodes forced, started and took in the runs of the worked examples, and what their users were told.
-use Rattle.std.specs.Prelude.{ℕ, suc, ◌==◌, ◌++◌, Bool, true, false, Some, None, List, [], ◌∷◌, reverse}
+use Rattle.std.specs.Prelude.{ℕ, suc, ◌==◌, ◌&&◌, ◌++◌, not, codes, Bool, true, false, Some, None, List, [], ◌∷◌, reverse}
 use Rattle.tp_names.specs.declared.identifiers.NodeKey.{NodeKey}
+use Rattle.tp_names.specs.declared.outcome.Outcome.{Outcome}
 use Rattle.tp_names.specs.declared.outcome.Report.{Report}
+use Rattle.tp_names.specs.Same.{is_aaid}
+use Rattle.tp_names.specs.Reports.{is_report_none}
 use Rattle.tp_records.specs.declared.peer.PeerRecord.{PeerRecord}
+use Rattle.tp_records.specs.declared.peer.RecState.{RecState}
 use Rattle.tp_logrec.specs.declared.record.LogRec.{LogRec}
 use Rattle.tp_model.specs.declared.line.Action.{Action}
 use Rattle.tp_model.specs.declared.line.LineRequest.{LineRequest}
 use Rattle.tp_model.specs.declared.out_line.LogWords.{LogWords}
-use Rattle.tp_model.specs.Parts.{Event, Entry}
-use Rattle.tp_model.specs.Happenings.{Happening, Does, log_shown, run}
+use Rattle.tp_model.specs.Parts.{Event, Entry, Current}
+use Rattle.tp_model.specs.Dialogues.{is_committing}
+use Rattle.tp_model.specs.Transactions.{aaid_of}
+use Rattle.tp_model.specs.Arrivals.{find_branch_by_id}
+use Rattle.tp_model.specs.Happenings.{Happening, Does, Crash, log_shown, run}
 use Rattle.tp_model.specs.World.{Node}
 use Rattle.tp_model.specs.Trees.{closing}
 use Rattle.tp_model.specs.Promises.{tells_commit, tells_rollback, has_told_in}
@@ -16,8 +23,7 @@ use Rattle.tp_histories.specs.Members.{has_taken_begin}
 use Rattle.tp_forced.specs.TreeLog.{forced_of}
 use Rattle.tp_forced.specs.Taken.{times_taken}
 use Rattle.tp_outcomes.specs.Starting.{starts, times_in, lines_of}
-use Rattle.tp_alarms.specs.Alarms.{replies}
-use Rattle.tp_alarms.specs.Causes.{tells_committed, tells_rolled_back, has_met, has_heard, has_given_up}
+use Rattle.tp_alarms.specs.Causes.{tells_committed, tells_rolled_back, is_awaited, has_met, has_heard, has_given_up}
 use Rattle.tp_trials.specs.Trials.{begun, deep_readied, told_unknown, damaged, tree, branch, lower_branch, first_mark, node_after}
 
 -- ---- more runs
@@ -45,6 +51,24 @@ given_up =
 -- the branch decided to commit by itself, rolls with its superior and is done with it
 abbrev pub backed : List Happening
 backed = damaged ++ (Does (Action.Do 2 LineRequest.Done) ∷ Does (Action.Again 7) ∷ Does (Action.Again 8) ∷ [])
+
+-- the last of three nodes decides to roll back by itself and stops; it learns the order, and says Done, beside the associations
+abbrev pub deep_mixed : List Happening
+deep_mixed =
+    deep_readied
+    ++ (Does (Action.Heur 3 Outcome.Rollback)
+    ∷ Does (Action.Again 10)
+    ∷ Does (Action.Again 11)
+    ∷ Crash (codes "c")
+    ∷ Does (Action.Retry 3)
+    ∷ Does (Action.Again 13)
+    ∷ Does (Action.Again 14)
+    ∷ Does (Action.Do 3 LineRequest.Done)
+    ∷ Does (Action.Again 15)
+    ∷ Does (Action.Do 2 LineRequest.Done)
+    ∷ Does (Action.Again 17)
+    ∷ Does (Action.Do 1 LineRequest.Done)
+    ∷ [])
 
 -- ---- what was forced of the tree, newest first
 
@@ -115,6 +139,11 @@ hears_of r x = has_heard r tree x
 
 abbrev pub gave_up : Node → Bool
 gave_up x = has_given_up tree x
+
+-- an awaited branch's report came as a reply
+abbrev pub replies : Current → Event → Bool
+replies c (Event.Arrive a (PeerRecord.RecReply u b (RecState.Done r))) = is_committing c.phase && is_awaited (find_branch_by_id c.branches b) && is_aaid (aaid_of c.key) u && not (is_report_none r)
+replies c _ = false
 
 abbrev pub was_replied : Node → Bool
 was_replied x = has_met replies x.origin tree x.history

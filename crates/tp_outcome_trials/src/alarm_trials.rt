@@ -5,7 +5,7 @@ ghost use Rattle.std.specs.Prelude.{◌≡◌, ◌&&◌, not, true, false, Some,
 ghost use Rattle.tp_names.specs.declared.outcome.Outcome.{Outcome};
 ghost use Rattle.tp_names.specs.declared.outcome.Report.{Report};
 ghost use Rattle.tp_trials.specs.Trials.{deep_reported, deep_completed, holds, decision_after};
-ghost use Rattle.tp_outcome_trials.specs.Telling.{given_up, backed, commits_with, rolls_with, hears_of, gave_up, was_replied};
+ghost use Rattle.tp_outcome_trials.specs.Telling.{given_up, deep_mixed, backed, commits_with, rolls_with, hears_of, gave_up, was_replied};
 
 /// The last of three nodes decides to roll back by itself: it completes with mix, and so do those above it, who heard of it.
 /// That mix is told only where the node itself decided would be false.
@@ -16,6 +16,18 @@ pub fn mix_comes_from_below()
     ensures undecided { decision_after deep_reported 2 ≡ None }
     ensures root { (holds (commits_with Report.Mix) deep_reported 1 && not (holds gave_up deep_reported 1) && not (holds was_replied deep_reported 1)) ≡ true }
     ensures none { (not (holds (commits_with Report.Mix) deep_completed 1) && not (holds (hears_of Report.Mix) deep_completed 1)) ≡ true }
+{}
+
+/// The last of three nodes decides to roll back by itself and stops: its report comes to the second as a reply, and goes on to
+/// the root. That a report which came as a reply has no cause among the nodes would be false; and so would it that the node which
+/// took the reply, or the one above it, decided anything itself or gave up a branch.
+pub fn mix_comes_as_a_reply()
+    ensures last { (holds (commits_with Report.Mix) deep_mixed 3 && not (holds (hears_of Report.Mix) deep_mixed 3)) ≡ true }
+    ensures decided { decision_after deep_mixed 3 ≡ Some Outcome.Rollback }
+    ensures middle { (holds (commits_with Report.Mix) deep_mixed 2 && holds was_replied deep_mixed 2 && not (holds gave_up deep_mixed 2)) ≡ true }
+    ensures undecided { decision_after deep_mixed 2 ≡ None }
+    ensures root { (holds (commits_with Report.Mix) deep_mixed 1 && not (holds was_replied deep_mixed 1) && not (holds gave_up deep_mixed 1)) ≡ true }
+    ensures above { decision_after deep_mixed 1 ≡ None }
 {}
 
 /// The second of three nodes gives up its branch: it completes with hazard, and so does the root, which heard of it and gave
