@@ -119,7 +119,7 @@ class Failing(stops.Stops):
         changes = [name for name, _, _ in whole.calls if name in preload.CHANGES]
         at = [i for i, name in enumerate(changes) if name == kind][k - 1]
         # The start of a store syncs once, and what is not there is made by three calls before; each body takes four.
-        room = (at - (4 if case.makes else 1)) // 4
+        room = (at - (1 if case.start else 4)) // 4
         key = case.name, room
         if key not in self.said:
             replay = lambda text: self.run_all(["replay"], [(text, wire.FRESH_STORE, {})], case.disk)[0].out

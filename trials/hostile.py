@@ -249,23 +249,20 @@ class Hostile:
     # Random frames.
 
     def recordings(self):
-        """What the sites of small clusters were given, with the logs that they found: long streams, and short ones of sites that were killed."""
-        folder = os.path.join(self.folder, "recordings")
-        os.makedirs(folder)
-        for kill_rate in ("0.3", "0.02"):
+        """What the sites of small clusters were given, as (words, bodies, log): long streams, short ones of sites that were killed, calls of tx."""
+        found = []
+        for kind in (["--kill-rate", "0.3"], ["--kill-rate", "0.02"], ["--kill-rate", "0.2", "--tx"]):
+            folder = tempfile.mkdtemp(prefix="recordings-", dir=self.folder)
             words = [sys.executable, "-B", str(tools.ROOT / "trials" / "cluster.py"), "--right", "--sites", "3", "--transfers",
-                     "40" if self.options.short else "400", "--kill-rate", kill_rate, "--seed", str(self.options.seed), "--record", folder,
+                     "40" if self.options.short else "400", "--seed", str(self.options.seed), "--record", folder,
                      "--program", shlex.join(self.options.program)]
-            run = subprocess.run(words, capture_output=True, text=True)
+            run = subprocess.run(words + kind, capture_output=True, text=True)
             if run.returncode != 0:
                 sys.exit("no recordings: %s" % run.stdout)
-        found = []
-        for name in sorted(os.listdir(folder)):
-            if name.endswith(".frames"):
-                with open(os.path.join(folder, name), "rb") as file:
-                    bodies = wire.frames_in(file.read())[0]
-                with open(os.path.join(folder, name[:-7] + ".log"), "rb") as file:
-                    found.append((name.split("-")[-2], bodies, file.read()))
+            for name in sorted(it for it in os.listdir(folder) if it.endswith(".frames")):
+                site, path = name.split("-")[-2], os.path.join(folder, name[:-7])
+                command = "tx" if "--tx" in kind and site == "s0" else "node"
+                found.append(([command, "--name", site], wire.frames_in(preload.got(path + ".frames"))[0], preload.got(path + ".log")))
         print("%d recordings of %d frames" % (len(found), sum(len(bodies) for _, bodies, _ in found)), flush=True)
         return found
 
@@ -274,25 +271,23 @@ class Hostile:
         found = self.recordings()
         streams = next_word = 0
         while self.counts["frames"] < goal:
-            site, bodies, log = self.draw.choice(found)
+            words, bodies, log = self.draw.choice(found)
             at = 0 if self.draw.random() < 0.7 else self.draw.randrange(max(1, len(bodies)))
             bodies = bodies[: at + self.draw.choice([400, 400, 4000])]
-            mutant = Mutant(self.draw, site, bodies, self.draw.choice([0, 0.01, 0.05, 0.2, 0.5]))
-            given = b"".join(map(wire.frame, mutant.bodies))
+            given = b"".join(map(wire.frame, Mutant(self.draw, words, bodies, self.draw.choice([0, 0.01, 0.05, 0.2, 0.5])).bodies))
             if self.draw.random() < 0.1:
                 given = self.spoilt(given)
-            status, text, out, after = self.run(["node", "--name", site], given, log)
+            status, text, out, after = self.run(words, given, log)
             streams += 1
             answered = wire.frames_in(out)[0]
-            self.counts["frames"] += sum(body[0] == 0x13 for body in answered)
+            self.counts["frames"] += sum(body[0] == (0x30 if words[0] == "tx" else 0x13) for body in answered)
             for body in answered:
                 if body[0] == 0x12:
                     self.refused[body[1]] = self.refused.get(body[1], 0) + 1
-            again = self.run(["show"], b"", after, compare=False)
-            if again[0] != 0:
-                self.fault(["node"], given, log, "it leaves a log that show does not take")
-            if self.options.drive and streams % 10 == 0:
-                self.workers(site, given, log, (status, text, out, after))
+            if self.run([self.draw.choice(["show", "show", "check", "compact", "migrate"])], b"", after)[0] not in (0, 1):
+                self.fault(words, given, log, "it leaves what is no log")
+            if self.options.drive and words[0] == "node" and streams % 10 == 0:
+                self.workers(words[2], given, log, (status, text, out, after))
             if self.counts["frames"] >= next_word:
                 next_word = self.counts["frames"] + 50000
                 self.say("%d random streams" % streams)
@@ -526,8 +521,8 @@ def pair_cost(some, long):
 class Mutant:
     """An honest stream with frames left out, said twice, changed, and put in, the counts of its associations kept in step."""
 
-    def __init__(self, draw, site, bodies, rate):
-        self.draw, self.site, self.bodies = draw, site, []
+    def __init__(self, draw, words, bodies, rate):
+        self.draw, self.site, self.with_calls, self.bodies = draw, words[2], words[0] == "tx", []
         self.shift, self.sent = {}, {}
         self.names, self.numbers, self.marks, self.keys, self.senders = set(), set(), [], [], []
         for body in bodies:
@@ -596,6 +591,8 @@ class Mutant:
             self.say_on(*draw.choice(self.marks[-8:] if draw.random() < 0.5 else self.marks))
         elif x < 0.75 and self.keys and self.senders:
             self.recover()
+        elif x < 0.90 and self.with_calls:
+            self.bodies.append(draw.choice([b"\x20" + wire.short(self.number()), b"\x21", b"\x22", b"\x23", b"\x24"]))
         elif x < 0.90:
             self.ask()
         else:

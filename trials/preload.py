@@ -12,6 +12,7 @@ TRIAL_FAIL    NAME K HOW: the K-th call of that name fails: read (of standard in
               pread, pwrite, ftruncate, fsync, malloc. HOW is `none`, `half` or `all`: how much of a write is made all the same
 TRIAL_CUT     N: the first read of standard input gives at most so many bytes
 TRIAL_SHORT   SEED: reads and writes do less than they are asked to, and those of the disk are interrupted
+TRIAL_LIES    1: a sync is answered well, and makes nothing durable
 TRIAL_SERVER  NUMBER: the program is loaded and does not begin. For each message over the socket of that number, a count N, it makes N
               copies of itself, one after the other, each in one of the folders 0 to N - 1. A copy has what is said above from the
               lines of the file `set`, reads `in`, writes `out` and `err`, and begins; the statuses are answered together. A run
@@ -55,7 +56,7 @@ static uint64_t seed, short_seed;
 static uint8_t base[MOST], now[MOST], loose[MOST];
 static long base_size, loose_size;
 static size_t cut;
-static int awake;
+static int awake, lies;
 
 static void wake(void) {
     if (awake) return;
@@ -64,6 +65,7 @@ static void wake(void) {
     if (it) trace = syscall(SYS_openat, AT_FDCWD, it, O_WRONLY | O_CREAT | O_APPEND, 0666);
     if ((it = getenv("TRIAL_STOP"))) sscanf(it, "%d %31s %lu", &stop_at, fill, &seed);
     if ((it = getenv("TRIAL_FAIL"))) sscanf(it, "%15s %d %15s", fail_name, &fail_at, fail_how);
+    lies = getenv("TRIAL_LIES") != 0;
     if ((it = getenv("TRIAL_CUT"))) cut = strtoul(it, 0, 10);
     if ((it = getenv("TRIAL_SHORT"))) short_seed = strtoull(it, 0, 10) * 2 + 1;
 }
@@ -295,7 +297,7 @@ static int synced(int fd, const char *name, long number) {
     int failed = fails("fsync");
     if (stops(fd)) stop();
     if (failed) { errno = EIO; return -1; }
-    settle();
+    if (!lies) settle();
     return 0;
 }
 

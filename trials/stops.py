@@ -29,8 +29,8 @@ class Case:
     def __init__(self, name, words, start, calls, given=b"", disk="tp.log"):
         self.name, self.words, self.start, self.calls, self.given, self.disk = name, words, start, calls, given, disk
         self.store = disk == "bound.log"
-        # A run that makes its log: until that is done the file may be none.
-        self.makes = words[0] == "format" or self.store and start == b""
+        # While a log is made anew the file may be none.
+        self.makes = words[0] == "format"
         # What a store in it is to do with each transaction: keep it, or drop it.
         self.transactions = (True, False, True)
         # Workers force records of different nodes in any order.
@@ -119,7 +119,7 @@ class Stops:
         else:
             self.fault(case, where + "the list is neither that before nor that after: %s" % (found,))
             return
-        if before != after and found in (before, after) and not case.makes and case.words[0] in ("node", "tx", "drive", "replay"):
+        if before not in (None, after) and found in (before, after) and case.words[0] in ("node", "tx", "drive", "replay"):
             # The gate decides: the record is kept exactly where that byte is 01.
             kept = found == after
             if fill in ("01", "new") and not kept or (fill == "old" or is_byte(fill) and fill != "01") and kept:
@@ -213,6 +213,26 @@ def cases(stops):
         yield Case("drive: three nodes on three workers", ["drive", "--name", "b", "--workers", "3"], wire.FRESH, 77, workers)
 
 
+class Lying(Stops):
+    """The same over a disk whose syncs make nothing durable, as though the program did not sync: a trial that is worth something finds it."""
+
+    def runs(self, case, settings):
+        return Stops.runs(self, case, [{**it, "lies": 1} for it in settings])
+
+    def fault(self, case, text):
+        self.faults.append(case.name)
+
+
+def try_lies(stops, folder, chosen):
+    """How many of the cases that force a record are caught."""
+    lying = Lying(stops.options, folder)
+    lying.library, lying.fills = stops.library, FILLS[:4]
+    tried = [case for case in chosen if case.words[0] in ("node", "tx", "drive", "replay") and case.calls > 5]
+    for case in tried:
+        lying.try_case(case)
+    return len(tried), len(set(lying.faults))
+
+
 def main():
     parser = argparse.ArgumentParser(prog="trials/run stops")
     tools.add_program(parser, workers=True)
@@ -223,13 +243,16 @@ def main():
     tools.set_program(options, workers=True)
     folder = tempfile.mkdtemp(prefix="stops-")
     stops = Stops(options, folder)
-    for case in cases(stops):
-        if options.only not in case.name:
-            continue
+    chosen = [case for case in cases(stops) if options.only in case.name]
+    for case in chosen:
         changes = stops.try_case(case)
         print("%s: %d changing calls" % (case.name, len(changes)), flush=True)
+    tried, caught = try_lies(stops, folder, chosen)
+    if caught < tried:
+        stops.faults.append("over a disk whose syncs make nothing durable no fault is found")
     stops.library.end()
     shutil.rmtree(folder)
+    print("stops: over a disk whose syncs make nothing durable %d of %d cases are caught" % (caught, tried))
     print("stops: %d faults, %s" % (len(stops.faults), tools.counted(stops.counts)))
     sys.exit(1 if stops.faults else 0)
 
