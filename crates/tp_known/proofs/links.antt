@@ -4,3 +4,5 @@ pub mod Linked
 pub mod LinkBy
 pub mod GivenUp
 pub mod Link
+pub mod Kin
+pub mod Named

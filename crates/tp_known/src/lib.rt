@@ -5,12 +5,15 @@
 
 ghost use Rattle.std.specs.Prelude.{ℕ, ◌≡◌, true, Option, Some, List};
 ghost use Rattle.tp_names.specs.declared.identifiers.Addr.{Addr};
-ghost use Rattle.tp_model.specs.Parts.{Origin, Entry, Current};
+ghost use Rattle.tp_model.specs.Parts.{Origin, Entry, Arc, Current};
+ghost use Rattle.tp_model.specs.Arcs.{find_arc};
+ghost use Rattle.tp_names.specs.declared.identifiers.NodeKey.{NodeKey};
 ghost use Rattle.tp_model.specs.History.{digest};
 ghost use Rattle.tp_model.specs.Legal.{IsLegal, DigestAgrees};
-ghost use Rattle.tp_model.specs.Consistency.{agrees};
+ghost use Rattle.tp_model.specs.Consistency.{agrees, is_quiet};
 ghost use Rattle.tp_histories.specs.Known.{declared_agrees, superior_agrees, boot_agrees};
 ghost use Rattle.tp_runs.specs.Known.{known_agrees, drawn_agrees, kept_agrees, phase_agrees, key_agrees, above_agrees, branches_agree, asked_agrees};
+ghost use Rattle.tp_known.specs.Named.{address_in, units_in};
 ghost use Rattle.tp_known.specs.Reaching.{IsReached, IsProper};
 ghost use Rattle.tp_known.specs.Known.{agrees_in_parts, decision_agrees, told_prepare_agrees, rests_agrees, awaits_agrees, owes_agrees, superior_rolled_agrees, node_agrees, deferral_agrees, links_agree, link_agrees, control_agrees, below_as_asked, order_agrees, own_agrees, due_agrees, counted_agrees, left_agrees, given_up_agrees, ended_agrees, prepared_agrees, marks_agree};
 
@@ -23,7 +26,7 @@ pub fn parts_are_the_whole()
 /// with; its boot number is that of its start and one more for each crash; it has drawn as many marks in this boot as the
 /// greatest count among those that it sent; it is known from its log if a key stood there at its last start; and it keeps
 /// the transactions whose last record is a damage, in the order in which their keys came into the log, each as that record
-/// says, with whether a Forget came for it since.
+/// says, with whether a Forget came for it since. The version of its log is that of its start.
 pub fn a_node_is_known()
     ensures declared { (o : Origin) (up : Option Addr) (h : List Entry) → IsLegal o up h → declared_agrees o h ≡ true }
     ensures superior { (o : Origin) (up : Option Addr) (h : List Entry) → IsLegal o up h → superior_agrees o h ≡ true }
@@ -32,14 +35,16 @@ pub fn a_node_is_known()
     ensures log { (o : Origin) (up : Option Addr) (h : List Entry) → IsLegal o up h → known_agrees o h ≡ true }
     ensures kept { (o : Origin) (up : Option Addr) (h : List Entry) → IsLegal o up h → kept_agrees o h ≡ true }
     ensures all { (o : Origin) (up : Option Addr) (h : List Entry) → IsLegal o up h → node_agrees o h ≡ true }
+    ensures version { (o : Origin) (up : Option Addr) (h : List Entry) → IsLegal o up h → (digest o h).version ≡ o.start.version }
 {}
 
 /// In every legal history the phase of the current transaction is that of its key: active since it was begun, rolling since
 /// the event that rolled it, ready or committing by its last record; and every other key that was begun or logged is in no
-/// phase.
+/// phase. So is any key but the current one, those that stand in the start's records alone among them.
 pub fn phases_are_known()
     ensures phase { (o : Origin) (up : Option Addr) (h : List Entry) → IsLegal o up h → phase_agrees o h ≡ true }
     ensures key { (o : Origin) (up : Option Addr) (h : List Entry) → IsLegal o up h → key_agrees o h ≡ true }
+    ensures every { (o : Origin) (up : Option Addr) (h : List Entry) (k : NodeKey) → IsLegal o up h → is_quiet o h (Some k) ≡ true }
 {}
 
 /// In every legal history the superior of the current transaction is who sent its Begin, or whom its last record names, and
@@ -112,6 +117,13 @@ pub fn deferrals_are_known()
 pub fn links_are_known()
     ensures link { (o : Origin) (up : Option Addr) (h : List Entry) → IsLegal o up h → links_agree o h ≡ true }
     ensures peer { (o : Origin) (up : Option Addr) (h : List Entry) → IsLegal o up h → (p : ℕ) → link_agrees o p h ≡ true }
+{}
+
+/// In every legal history an arc has the address at which its peer was last asked for a dialogue, or offered one, and the
+/// functional units that were last proposed or agreed on it.
+pub fn arcs_are_named()
+    ensures address { (o : Origin) (up : Option Addr) (h : List Entry) (p : ℕ) (a : Arc) → IsLegal o up h → find_arc (digest o h).arcs p ≡ Some a → address_in p h ≡ Some a.peer }
+    ensures units { (o : Origin) (up : Option Addr) (h : List Entry) (p : ℕ) (a : Arc) → IsLegal o up h → find_arc (digest o h).arcs p ≡ Some a → units_in p h ≡ a.dialogue.units }
 {}
 
 /// In every legal history a branch of the current transaction was told to prepare if an entry said Prepare to it since the key

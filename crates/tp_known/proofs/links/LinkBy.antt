@@ -8,7 +8,7 @@ use Rattle.tp_known.proofs.links.Linked.{IsOver, over_steps, begun_arcs, on_prel
 
 -- ---- what an accepted event opens
 
-call_free : (who : Who) (d : Digest) (a : Addr) (u : ℕ) → refusal who d (Event.Do (Request.BeginDialogue a u)) ≡ None → find_arc d.arcs a.node ≡ None
+pub call_free : (who : Who) (d : Digest) (a : Addr) (u : ℕ) → refusal who d (Event.Do (Request.BeginDialogue a u)) ≡ None → find_arc d.arcs a.node ≡ None
 unfolding refusal refused_request
 call_free who d a u ok = grind (arith, ok)
 
