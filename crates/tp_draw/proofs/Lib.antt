@@ -1,0 +1,4 @@
+pub mod Shaped
+pub mod FirstEnds
+pub mod OneLane
+pub mod Escaping

@@ -1,0 +1,13 @@
+pub mod Texts
+pub mod Lanes
+pub mod Ends
+pub mod Shapes
+pub mod Tones
+pub mod Labels
+pub mod Svg
+pub mod Mermaid
+pub mod Pictures
+pub mod Plans
+pub mod Pieces
+pub mod Laws
+pub mod Escapes

@@ -1,0 +1,15 @@
+-- What each piece of a picture's text is as bytes.
+use Rattle.std.specs.Prelude.{ℕ, List, [], ◌∷◌}
+use Rattle.tp_model.specs.Words.{decimal}
+use Rattle.tp_draw.specs.declared.piece.Piece.{Piece}
+use Rattle.tp_draw.specs.Texts.{escaped, plain}
+
+abbrev pub piece_text : Piece → List ℕ
+piece_text (Piece.Text t) = t.now
+piece_text (Piece.Number n) = decimal n
+piece_text (Piece.Escaped t) = escaped t.now
+piece_text (Piece.Plain t) = plain t.now
+
+abbrev pub piece_texts : List Piece → List (List ℕ)
+piece_texts [] = []
+piece_texts (p ∷ ps) = piece_text p ∷ piece_texts ps

@@ -1,0 +1,37 @@
+//! Laws of pictures.
+//!
+//! Each function has an empty body; its clause is the law.
+ghost use Rattle.std.specs.Prelude.{◌≡◌, ℕ, List, map, true};
+ghost use Rattle.tp_model.specs.declared.out_line.OutLine.{OutLine};
+ghost use Rattle.tp_draw.specs.Texts.{escaped};
+ghost use Rattle.tp_draw.specs.Escapes.{is_text};
+ghost use Rattle.tp_draw.specs.Lanes.{lanes_of};
+ghost use Rattle.tp_draw.specs.Ends.{end_of};
+ghost use Rattle.tp_draw.specs.Shapes.{place_of};
+ghost use Rattle.tp_draw.specs.Laws.{shapes, sends, arrows, arrow_of, logs, marks, mark_of_log, Says, is_named, HasOneLane};
+
+/// The arrows of a picture are those of the frames that were sent, one for each, in order: each goes from the lane of
+/// the node that sent it to that of the node to which it was sent, and to the frame's end.
+pub fn each_send_is_one_arrow()
+    ensures { (os : List OutLine) → arrows (shapes os) ≡ map (arrow_of os) (sends os) }
+{}
+
+/// The marks of a picture are those of the records in the log, one for each, in order.
+pub fn each_log_line_is_one_mark()
+    ensures { (os : List OutLine) → marks (shapes os) ≡ map (mark_of_log os) (logs os) }
+{}
+
+/// An arrow ends in the row of the first line that says that its frame was taken or lost; where no line says either, it has no end.
+pub fn an_arrow_ends_where_its_frame_does()
+    ensures { (os : List OutLine) (k : ℕ) → Says k os (end_of os k) }
+{}
+
+/// Each node that a transcript names has one lane.
+pub fn each_node_has_one_lane()
+    ensures { (os : List OutLine) (n : ℕ) → is_named n os ≡ true → HasOneLane n (lanes_of os) (place_of os n) }
+{}
+
+/// A text stands in an SVG file as text alone, whatever its octets are.
+pub fn text_is_escaped()
+    ensures { (xs : List ℕ) → is_text (escaped xs) ≡ true }
+{}
