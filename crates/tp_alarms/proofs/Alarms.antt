@@ -1,13 +1,11 @@
 -- In every run, behind a report of a commitment stands a node at or below that decided to roll back, or gave up a branch: a Done with
 -- a report that a node heeds, over an association or as a reply, is of a branch whose own commitment was complete with one.
 use Rattle.std.proofs.Common.{if◌then◌else◌, ◌≡◌, ◌≤◌, ◌⊎◌, inl, inr, ℕ, zero, suc, Bool, true, false, refl, ap, sym, subst, ◌∙◌, arith, Option, Some, None, List, [], ◌∷◌, ◌++◌, ◌&&◌, ◌||◌, ◌==◌, length, slice_get}
-use Rattle.std.specs.Prelude.{not}
 use Rattle.std.proofs.lemmas.Bool.Decides.{nat_tests}
 use Rattle.tp_names.specs.declared.identifiers.Aaid.{Aaid}
 use Rattle.tp_names.specs.declared.identifiers.Mark.{Mark}
 use Rattle.tp_names.specs.declared.identifiers.Addr.{Addr}
 use Rattle.tp_names.specs.declared.identifiers.BranchId.{BranchId}
-use Rattle.tp_names.specs.declared.outcome.Outcome.{Outcome}
 use Rattle.tp_names.specs.declared.outcome.Report.{Report}
 use Rattle.tp_names.specs.Same.{is_aaid, is_addr, is_branch}
 use Rattle.tp_names.specs.declared.identifiers.NodeKey.{NodeKey}
@@ -26,11 +24,11 @@ use Rattle.tp_model.specs.Arrivals.{Named, current_of, find_branch_by_id, is_bra
 use Rattle.tp_model.specs.Node.{phase_of}
 use Rattle.tp_model.specs.Events.{refusal}
 use Rattle.tp_model.specs.History.{digest, records}
-use Rattle.tp_model.specs.Outcomes.{is_now, decided, rolled, decision, tells_complete_none, completed_none}
+use Rattle.tp_model.specs.Outcomes.{is_now, decided, rolled, tells_complete_none, completed_none}
 use Rattle.tp_model.specs.Questions.{is_at}
 use Rattle.tp_model.specs.World.{Node, Frame, number_of, addr_of, find_node}
 use Rattle.tp_model.specs.Happenings.{Happening, run}
-use Rattle.tp_model.specs.Promises.{IsIn, IsOf, IsBranchOf, IsBelow, below as one_below, told_of, has_begun, has_told_in, completes, tells_commit, has_record, is_of_tree}
+use Rattle.tp_model.specs.Promises.{IsIn, IsOf, IsBranchOf, IsBelow, below as one_below, has_begun, has_told_in, completes, tells_commit, has_record, is_of_tree}
 use Rattle.tp_model.specs.Legal.{IsGrown, is_apart, are_apart}
 use Rattle.tp_model.specs.declared.arc.Phase.{Phase}
 use Rattle.tp_steps.specs.Moves.{IsAsked, prelude}
@@ -363,6 +361,7 @@ kin_reported es t x y x_of done hy under damage = record { id = begin.id; node =
       child = of;
       begun = ap (λ (v : Addr). has_begun t begin.id v y.history) (sym from) ∙ began_from y.history begin.from begin.x begin.y begin.seq t begin.id begin.holder begin.took;
     }
+
 -- a Done with a report that is heeded in a commitment is of such a branch
 word_reported : (es : List Happening) (t : Aaid) (x : Node) → IsOf (run es) t x → decided x.origin t x.history ≡ true → (f : Current → Event → Bool) (w : Found f x.origin t x.history) (a : Addr) (m k : Mark) (q : ℕ) (r : Report)
     → w.entry.event ≡ Event.Arrive a (PeerRecord.OnAssoc m k q (DialogueRecord.Done r)) → is_committing w.current.phase ≡ true → is_awaited (find_branch w.current.branches a.node) ≡ true → is_report_none r ≡ false → Reported es t x

@@ -4,7 +4,6 @@ use Rattle.std.proofs.Common.{if◌then◌else◌, ◌≡◌, ◌⊎◌, inl, in
 use Rattle.std.proofs.lemmas.Bool.Decides.{nat_tests}
 use Rattle.tp_names.specs.declared.identifiers.Addr.{Addr}
 use Rattle.tp_names.specs.declared.children.Child.{Child}
-use Rattle.tp_records.specs.declared.dialogue.DialogueRecord.{DialogueRecord}
 use Rattle.tp_model.specs.declared.transaction.TxEvent.{TxEvent}
 use Rattle.tp_model.specs.declared.arc.Phase.{Phase}
 use Rattle.tp_model.specs.Parts.{Who, Origin, Event, Entry, Arc, Under, Branch, Current, Digest}
@@ -12,10 +11,10 @@ use Rattle.tp_model.specs.Dialogues.{is_active, is_ready, is_committing}
 use Rattle.tp_model.specs.Arcs.{find_arc}
 use Rattle.tp_model.specs.Transactions.{Row, Transaction, Turn, aaid_of, child_of, is_under_at, find_row, with_row, with_arc_lost, all_settled, all_done, all_rolled_back, complete_commit, complete_rollback, begin_rolling, order, leave, ask_commit, count_branch, end_branch, branch_left, fresh_branch, transacted}
 use Rattle.tp_model.specs.Node.{Move, next_mark, with_mark_drawn, phase_of, seen, seen_row, may_begin_on, begin_on, fresh_current, turned}
-use Rattle.tp_model.specs.Events.{action, named_again, recovered, recovered_current, after_crash}
+use Rattle.tp_model.specs.Events.{action, named_again, recovered_current, after_crash}
 use Rattle.tp_model.specs.History.{digest}
 use Rattle.tp_model.specs.Legal.{IsGrown, is_apart, are_apart}
-use Rattle.tp_steps.specs.Facts.{BranchKey, find_branch}
+use Rattle.tp_steps.specs.Facts.{find_branch}
 use Rattle.tp_steps.specs.Heeding.{has_answered}
 use Rattle.tp_steps.specs.Turns.{vote, row_dead, Turns}
 use Rattle.tp_steps.specs.Moves.{Moves, IsPut, prelude}

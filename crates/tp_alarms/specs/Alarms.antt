@@ -1,20 +1,14 @@
 -- No report of a commitment is a false alarm: behind it stands a node at or below, which decided to roll back or gave up a branch.
-use Rattle.std.specs.Prelude.{◌≡◌, ◌&&◌, ◌||◌, not, Bool, true, false, Some, List, [], ◌∷◌}
+use Rattle.std.specs.Prelude.{◌≡◌, ◌||◌, not, Bool, true, false, Some, List, [], ◌∷◌}
 use Rattle.tp_names.specs.declared.identifiers.Aaid.{Aaid}
 use Rattle.tp_names.specs.declared.outcome.Outcome.{Outcome}
 use Rattle.tp_names.specs.Reports.{is_report_none}
-use Rattle.tp_names.specs.Same.{is_aaid}
 use Rattle.tp_records.specs.declared.indication.Indication.{Indication}
-use Rattle.tp_records.specs.declared.peer.PeerRecord.{PeerRecord}
-use Rattle.tp_records.specs.declared.peer.RecState.{RecState}
-use Rattle.tp_model.specs.Parts.{Event, Out, Current}
-use Rattle.tp_model.specs.Dialogues.{is_committing}
-use Rattle.tp_model.specs.Transactions.{aaid_of}
-use Rattle.tp_model.specs.Arrivals.{find_branch_by_id}
+use Rattle.tp_model.specs.Parts.{Out}
 use Rattle.tp_model.specs.Outcomes.{decision}
 use Rattle.tp_model.specs.World.{World, Node}
 use Rattle.tp_model.specs.Promises.{IsIn, IsBelow, has_told_in}
-use Rattle.tp_alarms.specs.Causes.{is_awaited, has_met, has_given_up}
+use Rattle.tp_alarms.specs.Causes.{has_given_up}
 
 -- a commitment is complete with a report
 abbrev pub tells_reported : List Out → Bool

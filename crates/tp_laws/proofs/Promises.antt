@@ -1,9 +1,7 @@
 -- The headline, and all that is promised of a world.
-use Rattle.std.proofs.Common.{◌≡◌, inl, inr, Bool, true, false, refl, arith, List}
-use Rattle.tp_model.specs.Outcomes.{has_left}
+use Rattle.std.proofs.Common.{List}
 use Rattle.tp_model.specs.Happenings.{Happening, run}
-use Rattle.tp_model.specs.Promises.{DrainedCommits, Headline, Promised}
-use Rattle.tp_drained.specs.DrainedTrees.{SettledCloses}
+use Rattle.tp_model.specs.Promises.{Headline, Promised}
 use Rattle.tp_agreement.proofs.Agreed.{one_outcome}
 use Rattle.tp_runs.proofs.Breaks.{associations}
 use Rattle.tp_control.proofs.EndsRounds.{control_is_one}
@@ -12,10 +10,7 @@ use Rattle.tp_agreement.proofs.ParentChild.{parent_and_child}
 use Rattle.tp_reports.proofs.Reported.{reports}
 use Rattle.tp_histories.proofs.worlds.Starts.{all_legal}
 use Rattle.tp_runs.proofs.Users.{users_see}
-use Rattle.tp_reports.proofs.ReportFree.{clear_is_committed, report_free, commit_closes}
-use Rattle.tp_drained.proofs.DrainedUp.{IsDone}
-use Rattle.tp_drained.proofs.DrainedDown.{all_ordered}
-use Rattle.tp_drained.proofs.DrainedDone.{all_done}
+use Rattle.tp_reports.proofs.ReportFree.{report_free}
 use Rattle.tp_drained.proofs.DrainedCommits.{drained_commits}
 
 -- ---- the headline

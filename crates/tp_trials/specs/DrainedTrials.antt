@@ -1,5 +1,5 @@
 -- A tree of four nodes that is drained, and the same one while a frame waits, for worked examples of what a drained tree has done.
-use Rattle.std.specs.Prelude.{ℕ, ◌==◌, ◌&&◌, ◌||◌, not, Bool, true, false, Some, None, List, [], ◌∷◌, ◌++◌, reverse, codes}
+use Rattle.std.specs.Prelude.{ℕ, ◌==◌, ◌&&◌, ◌||◌, not, Bool, true, false, Option, Some, None, List, [], ◌∷◌, ◌++◌, reverse, codes}
 use Rattle.tp_names.specs.declared.identifiers.Aaid.{Aaid}
 use Rattle.tp_names.specs.Same.{is_aaid, is_mark, is_addr}
 use Rattle.tp_records.specs.declared.dialogue.DialogueRecord.{DialogueRecord}
@@ -127,6 +127,23 @@ each_node g (x ∷ xs) = g x && each_node g xs
 
 abbrev pub is_each : (Node → Bool) → List Happening → Bool
 is_each g es = each_node g (world_after es).nodes
+
+-- the event by which a frame's record was taken where it went
+abbrev pub taken_as : Frame → List Entry → Option Event
+taken_as f [] = None
+taken_as f (e ∷ h) = elim (takes_frame f e.event) [ true ↦ Some e.event | false ↦ taken_as f h ]
+
+abbrev pub taken_at : World → Frame → Option Event
+taken_at w f = elim (find_node w.nodes f.to.node) [ None ↦ None | Some y ↦ taken_as f y.history ]
+
+abbrev pub takings : World → List Frame → List (Option Event)
+takings w [] = []
+takings w (f ∷ fs) = taken_at w f ∷ takings w fs
+
+-- and the event by which it should be
+abbrev pub arrivals : List Frame → List (Option Event)
+arrivals [] = []
+arrivals (f ∷ fs) = Some (Event.Arrive f.from f.rec) ∷ arrivals fs
 
 -- each frame was taken
 abbrev pub is_emptied : List Happening → Bool

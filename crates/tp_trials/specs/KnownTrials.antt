@@ -278,3 +278,10 @@ losing = Lose 4 ∷ []
 abbrev pub tells_now : ℕ → List Entry → Bool
 tells_now p [] = false
 tells_now p (e ∷ h) = has_said is_prepare_record (said_to p e.outs)
+
+-- the user breaks off the dialogue below, and asks for one with a node of that number at another site
+abbrev pub moved : Addr
+moved = record { site = codes "d"; node = 3 }
+
+abbrev pub moving : List Event
+moving = Do (Request.UAbort 3) ∷ Do (Request.BeginDialogue moved 25) ∷ []

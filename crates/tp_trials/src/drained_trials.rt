@@ -6,9 +6,10 @@ ghost use Rattle.tp_trials.specs.Trials.{deep, holds};
 ghost use Rattle.tp_steps.specs.Facts.{is_order};
 ghost use Rattle.tp_steps.specs.Heeding.{is_answer};
 ghost use Rattle.tp_drained.specs.Drained.{is_done};
+ghost use Rattle.tp_drained.specs.DrainedTrees.{IsSettled};
 ghost use Rattle.tp_names.specs.declared.outcome.Outcome.{Outcome};
 ghost use Rattle.tp_model.specs.declared.out_line.OutLine.{OutLine};
-ghost use Rattle.tp_trials.specs.DrainedTrials.{drained, waiting, ordering, finishing, tree_of_four, closing_of, is_each, is_emptied, is_inside, is_unowing, is_unfailed, has_answered, has_departed, has_completed, waits_in_active, says_to, took_answer, took_order, took_done, is_in_it, has_not_rolled, sent_by, taken_by};
+ghost use Rattle.tp_trials.specs.DrainedTrials.{drained, waiting, ordering, finishing, tree_of_four, world_after, closing_of, is_each, is_emptied, is_inside, is_unowing, is_unfailed, has_answered, has_departed, has_completed, waits_in_active, says_to, took_answer, took_order, took_done, is_in_it, has_not_rolled, sent_by, taken_by};
 
 /// Four nodes in one tree without a failure: each user asked for commitment, or left, each frame was taken, and no user owes
 /// its done. The one that left apart, each logged Commit and was told that it is complete, with no report.
@@ -30,6 +31,11 @@ pub fn a_frame_that_waits_holds_the_tree_up()
     ensures unfailed { is_each is_unfailed waiting ≡ true }
     ensures answered { is_each has_answered waiting ≡ true }
     ensures incomplete { (holds has_completed waiting 1 || holds has_completed waiting 2 || holds has_completed waiting 4) ≡ false }
+{}
+
+/// The drained tree of four nodes is one that is settled, as the law of the closing line asks for it: the law is of something.
+pub fn a_drained_tree_is_settled()
+    ensures { IsSettled (world_after drained) tree_of_four }
 {}
 
 /// The drained tree's closing line says that all agree on commitment; while the frame waits, the tree is open.

@@ -11,7 +11,8 @@ ghost use Rattle.tp_model.specs.Legal.{is_start};
 ghost use Rattle.tp_model.specs.Consistency.{agrees, not_idle, peers_in};
 ghost use Rattle.tp_model.specs.Questions.{declared_in, drawn_in, awaits_in, rests_in, deferral_in, link_in, holds_in, due_in};
 ghost use Rattle.tp_model.specs.Keys.{phase_in, superior_for, superior_since, branches_in, kept_in, known_in, decision_for, asked_in, told_prepare_in, owes_in, superior_rolled_in, own_in, counted_in, left_in, given_up_in, ended_in, prepared_in};
-ghost use Rattle.tp_trials.specs.KnownTrials.{middle, as_branch, as_root, as_damaged, fits, grows, linked, foretelling, forgetting, branch_key, root_key, deciding, beginning, asking, preparing, leaving, responding, speaking, polarized, shaking, answering, ordering, finishing, unknowing, own_key, above, one_child, foretold_key, deferring, rolling, committing, completing, mark_of, handing, entrusting, replying, calling, recalling, granting, readying, giving_up, leaving_below, own_child, ending_below, forking, fork_key, telling_first, losing, tells_now};
+ghost use Rattle.tp_known.specs.Named.{address_in, units_in};
+ghost use Rattle.tp_trials.specs.KnownTrials.{middle, as_branch, as_root, as_damaged, fits, grows, linked, foretelling, forgetting, branch_key, root_key, deciding, beginning, asking, preparing, leaving, responding, speaking, polarized, shaking, answering, ordering, finishing, unknowing, own_key, above, one_child, foretold_key, deferring, rolling, committing, completing, mark_of, handing, entrusting, replying, calling, recalling, granting, readying, giving_up, leaving_below, own_child, ending_below, forking, fork_key, telling_first, losing, tells_now, below, moved, moving};
 
 /// A node is declared under its superior, and linked with it and with a subordinate: it has drawn a mark for each.
 pub fn a_node_is_linked()
@@ -216,4 +217,16 @@ pub fn an_awaited_branch_is_lost()
     ensures lost { link_in middle 4 (grows middle (grows middle [] forking) losing) ≡ Idle }
     ensures unanswered { (counted_in middle fork_key 4 (grows middle (grows middle [] forking) losing) || left_in middle fork_key 4 (grows middle (grows middle [] forking) losing)) ≡ false }
     ensures all { agrees middle (grows middle (grows middle [] forking) losing) ≡ true }
+{}
+
+/// A dialogue is broken off, and another one asked for with a node of the same number at another site: the arc has the address and
+/// the units that were asked for last, and not those of the first one.
+pub fn an_arc_is_named_anew()
+    ensures legal { (fits middle [] linked && fits middle (grows middle [] linked) moving) ≡ true }
+    ensures first { address_in 3 (grows middle [] linked) ≡ Some below }
+    ensures proposed { units_in 3 (grows middle [] linked) ≡ 41 }
+    ensures last { address_in 3 (grows middle (grows middle [] linked) moving) ≡ Some moved }
+    ensures anew { units_in 3 (grows middle (grows middle [] linked) moving) ≡ 25 }
+    ensures above { address_in 1 (grows middle (grows middle [] linked) moving) ≡ Some above }
+    ensures all { agrees middle (grows middle (grows middle [] linked) moving) ≡ true }
 {}
