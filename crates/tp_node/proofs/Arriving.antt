@@ -1,11 +1,13 @@
 -- The arc that a record is about, and the units that a peer chooses.
 use Rattle.std.proofs.Common.{◌≡◌, ℕ, Bool, true, false, Option, Some, None, ap, sym}
+use Rattle.std.specs.Prelude.{if◌then◌else◌}
 use Rattle.tp_units.specs.Units.{bad_answer}
 use Rattle.std.specs.Cmp.{unsigned_Decides}
 use Rattle.tp_node.proofs.Beginnings.{peer_found}
 use Rattle.tp_names.specs.declared.identifiers.Addr.{Addr}
-use Rattle.tp_model.specs.Parts.{Arc, Digest}
-use Rattle.tp_model.specs.Arcs.{find_arc}
+use Rattle.tp_names.specs.Same.{is_addr}
+use Rattle.tp_model.specs.Parts.{Link, Idle, Arc, Digest}
+use Rattle.tp_model.specs.Arcs.{find_arc, link_from}
 use Rattle.tp_model.specs.Arrivals.{is_bad_answer, units_of}
 
 -- the arc that is found by its peer's number
@@ -19,3 +21,11 @@ bad_there d from u a found = ap (λ (o : Option Arc). elim (bad_answer (units_of
 
 pub bad_not : (d : Digest) (from : Addr) (u : ℕ) → find_arc d.arcs from.node ≡ None → is_bad_answer d from u ≡ elim (bad_answer 0 u) as (λ _. Bool) [ None ↦ false | Some b ↦ true ]
 bad_not d from u found = ap (λ (o : Option Arc). elim (bad_answer (units_of o) u) as (λ _. Bool) [ None ↦ false | Some b ↦ true ]) found
+
+-- ---- the association with an address
+
+pub from_found : (d : Digest) (from : Addr) (a : Arc) → find_arc d.arcs from.node ≡ Some a → link_from d.arcs from ≡ (if is_addr a.peer from then a.link else Idle)
+from_found d from a found = ap (λ (o : Option Arc). elim o as (λ _. Link) [ None ↦ Idle | Some b ↦ if is_addr b.peer from then b.link else Idle ]) found
+
+pub from_none : (d : Digest) (from : Addr) → find_arc d.arcs from.node ≡ None → link_from d.arcs from ≡ Idle
+from_none d from none = ap (λ (o : Option Arc). elim o as (λ _. Link) [ None ↦ Idle | Some b ↦ if is_addr b.peer from then b.link else Idle ]) none

@@ -36,7 +36,7 @@ peer_found (b ∷ arcs) p a found = go (b.peer.node == p) refl (peer_found arcs 
 
 -- ---- Begin on an arc
 
-on_found : (who : Who) (p : ℕ) (d : Digest) (c : Current) (a : Arc) → d.current ≡ Some c → find_arc d.arcs p ≡ Some a → may_begin_on who d a ≡ true
+pub on_found : (who : Who) (p : ℕ) (d : Digest) (c : Current) (a : Arc) → d.current ≡ Some c → find_arc d.arcs p ≡ Some a → may_begin_on who d a ≡ true
     → begun_on who p d ≡ (begun_at who a d, Some (DialogueRecord.Begin (aaid_of c.key) (new_branch who d) (named_holder a.dialogue)))
 on_found who p d c a e f g = grind (arith, e, f, g)
 

@@ -1,5 +1,6 @@
 pub mod Arriving
 pub mod Beginnings
+pub mod Begun
 pub mod BranchesById
 pub mod Calls
 pub mod KeptEntries
@@ -16,3 +17,4 @@ pub mod Steps
 pub mod Talks
 pub mod Turns
 pub mod Shares
+pub mod Takes

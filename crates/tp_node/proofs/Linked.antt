@@ -1,6 +1,7 @@
 -- The associations of arcs: an end calls its subordinates, and answers its superior.
-use Rattle.std.proofs.Common.{◌≡◌, ℕ, zero, suc, Bool, true, false, ◌&&◌, Option, Some, None, List, [], ◌∷◌, ◌++◌, map, slice_set, refl, ap, sym, ◌∙◌, arith}
+use Rattle.std.proofs.Common.{◌≡◌, ℕ, zero, suc, Bool, true, false, ◌&&◌, Option, Some, None, List, [], ◌∷◌, ◌++◌, map, slice_get, slice_set, refl, ap, sym, subst, ◌∙◌, arith}
 use Rattle.std.specs.Prelude.{◌==◌, cond}
+use Rattle.std.specs.Option.{option_map}
 use Rattle.std.specs.Cmp.{unsigned_Decides}
 use Rattle.std.proofs.lemmas.Bool.Decides.{nat_tests}
 use Rattle.std.proofs.lemmas.Grind.{common_steps}
@@ -18,7 +19,8 @@ use Rattle.tp_tree.specs.Invocation.{Invocation, ties_of, arcs_of, with_tie, wit
 use Rattle.tp_node.specs.declared.arc_step.ArcStep.{ArcStep}
 use Rattle.tp_node.specs.ArcStep.{stepped_ties, stepped_tree}
 use Rattle.tp_node.specs.Arcs.{side_with, is_on, all_on, is_sided, fits_link, all_fit, is_linked, Arcs, value_of}
-use Rattle.tp_node.proofs.Sides.{side_found, on_side, on_itself, apart_added}
+use Rattle.tp_node.specs.SharedArcs.{Stands}
+use Rattle.tp_node.proofs.Sides.{side_found, sided_with, on_side, on_itself, apart_added, near_found, tie_there}
 
 -- ---- counting keeps it
 
@@ -286,3 +288,32 @@ calls_below Side.Subordinate (Live z w s t) x h o = absurd (let clash : false �
 
 pub bound_live : (l : Link) (x y : Mark) → is_opening_with l x ≡ true → bound_by l x y ≡ (None, Live x y 0 0)
 bound_live l x y o = grind (arith, common_steps, o)
+
+-- the arc at a place
+pub near_fits : (v : Invocation) (i p : ℕ) (t : Tie) → is_sided v ≡ true → is_linked v ≡ true → Some t ≡ slice_get v.below i → t.addr.node ≡ p → (t.dialogue.side ≡ side_with v.superior p) × (fits_link (side_with v.superior p) t.link ≡ true)
+near_fits v i p t h l at is =
+    let found : find_tie (ties_of v) p ≡ Some t = ap (find_tie (ties_of v)) (sym is) ∙ near_found v i t h (sym at) in
+    (side_found v p t h found, link_found v p t h l found)
+
+-- ---- the whole arc in place
+
+some_addr : (a b : Addr) → Some a ≡ Some b → a ≡ b
+some_addr a b h = ap (λ (o : Option Addr). elim o as (λ _. Addr) [ None ↦ a | Some x ↦ x ]) h
+
+pub stands_kept : (v : Invocation) (d : Arcs) (p : ℕ) (t u : Tie) → value_of (record { tree = v }) ≡ d → is_sided v ≡ true → is_linked v ≡ true → find_tie (ties_of v) p ≡ Some t → find_arc (arcs_of v) p ≡ Some (arc_of t)
+    → u.addr.node ≡ p → Stands d u → (is_sided (with_tie v p u) ≡ true) × (is_linked (with_tie v p u) ≡ true)
+stands_kept v d p t u is h l tie found at stands =
+    let s : Stands (value_of (record { tree = v })) u = subst (λ (x : Arcs). Stands x u) (sym is) stands in
+    let addr : u.addr ≡ t.addr = some_addr u.addr t.addr (sym s.there ∙ ap (λ (n : ℕ). option_map (λ (a : Arc). a.peer) (find_arc (arcs_of v) n)) at ∙ ap (option_map (λ (a : Arc). a.peer)) found) in
+    let side : u.dialogue.side ≡ t.dialogue.side = s.side ∙ ap (side_with v.superior) at ∙ sym (side_found v p t h tie) in
+    let fits : fits_link (side_with v.superior p) u.link ≡ true = sym (ap (λ (n : ℕ). fits_link (side_with v.superior n) u.link) at) ∙ s.link in (
+      sided_with v p t u h tie addr side,
+      linked_with v p t u h l tie fits,
+    )
+
+pub put_kept : (v : Invocation) (d : Arcs) (u : Tie) → value_of (record { tree = v }) ≡ d → is_sided v ≡ true → is_linked v ≡ true → Stands d u
+    → (is_sided (with_tie v u.addr.node u) ≡ true) × (is_linked (with_tie v u.addr.node u) ≡ true)
+put_kept v d u is h l stands =
+    let s : Stands (value_of (record { tree = v })) u = subst (λ (x : Arcs). Stands x u) (sym is) stands in
+    let found = tie_there v u.addr.node u.addr s.there in
+    stands_kept v d u.addr.node found.0 u is h l found.1 found.2 refl stands

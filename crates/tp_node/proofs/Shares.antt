@@ -73,24 +73,6 @@ dialogue_put (c ∷ arcs) p a b d h is = go (c.peer.node == p) refl (dialogue_pu
         let tail = rest (sym first ∙ h) is in
         grind (arith, nat_tests, e, number, tail)
 
--- both
-pub both_put : (arcs : List Arc) (a b : Arc) (p : ℕ) → a.peer.node ≡ p → find_arc arcs p ≡ Some b → b.peer ≡ a.peer → with_link (with_dialogue arcs p (λ _. a.dialogue)) p (λ _. a.link) ≡ put_arc arcs a
-both_put [] a b p at h same = refl
-both_put (c ∷ arcs) a b p at h same = go (c.peer.node == p) refl (both_put arcs a b p at)
-  where
-    go : (v : Bool) → (c.peer.node == p) ≡ v
-        → (find_arc arcs p ≡ Some b → b.peer ≡ a.peer → with_link (with_dialogue arcs p (λ _. a.dialogue)) p (λ _. a.link) ≡ put_arc arcs a)
-        → with_link (with_dialogue (c ∷ arcs) p (λ _. a.dialogue)) p (λ _. a.link) ≡ put_arc (c ∷ arcs) a
-    go true e rest =
-        let first : find_arc (c ∷ arcs) p ≡ Some c = grind (arith, e) in
-        let is : Some c ≡ Some b = sym first ∙ h in
-        let peer : c.peer ≡ a.peer = ap (λ (o : Option Arc). elim o as (λ _. Addr) [ None ↦ a.peer | Some x ↦ x.peer ]) is ∙ same in
-        grind (arith, nat_tests, e, at, peer)
-    go false e rest =
-        let first : find_arc (c ∷ arcs) p ≡ find_arc arcs p = grind (arith, e) in
-        let tail = rest (sym first ∙ h) same in
-        grind (arith, nat_tests, e, at, tail)
-
 -- ---- the arcs with the one that stands aside
 
 pub aside_found : (v : Arcs) (t : Tie) (p : ℕ) → Stands v t → t.addr.node ≡ p → find_arc (put_arc v.arcs (arc_of t)) p ≡ Some (arc_of t)
@@ -102,14 +84,6 @@ aside_found v t p s at = go (find_arc v.arcs t.addr.node) refl s.there
 
 pub others_found : (v : Arcs) (t : Tie) (p : ℕ) → (t.addr.node == p) ≡ false → find_arc (put_arc v.arcs (arc_of t)) p ≡ find_arc v.arcs p
 others_found v t p n = put_others v.arcs (arc_of t) p n
-
--- written over the one with its peer, in two steps
-pub written_both : (v : Arcs) (t : Tie) → Stands v t → with_link (with_dialogue v.arcs t.addr.node (λ _. t.dialogue.dialogue)) t.addr.node (λ _. t.link) ≡ put_arc v.arcs (arc_of t)
-written_both v t s = go (find_arc v.arcs t.addr.node) refl s.there
-  where
-    go : (o : Option Arc) → find_arc v.arcs t.addr.node ≡ o → option_map (λ (a : Arc). a.peer) o ≡ Some t.addr → with_link (with_dialogue v.arcs t.addr.node (λ _. t.dialogue.dialogue)) t.addr.node (λ _. t.link) ≡ put_arc v.arcs (arc_of t)
-    go None e h = absurd (cc)
-    go (Some b) e h = both_put v.arcs (arc_of t) b t.addr.node refl e (ap (λ (o : Option Addr). elim o as (λ _. Addr) [ None ↦ t.addr | Some x ↦ x ]) h)
 
 -- what is found among the arcs with the change
 pub found_in : (v : Arcs) (x : Option Tie) (p : ℕ) → StandsIn v x → find_arc (changed v x).arcs p ≡ elim (aside_at x p) as (λ _. Option Arc) [ None ↦ find_arc v.arcs p | Some t ↦ Some (arc_of t) ]

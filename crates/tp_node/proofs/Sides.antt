@@ -1,6 +1,7 @@
 -- Arcs that are kept with the node's side, and what goes out on them.
-use Rattle.std.proofs.Common.{◌≡◌, ◌<◌, ℕ, zero, suc, Bool, true, false, Option, Some, None, List, [], ◌∷◌, ◌++◌, length, map, slice_set, slice_get, slice_index_or, refl, ap, sym, ◌∙◌, arith}
-use Rattle.std.specs.Prelude.{◌==◌}
+use Rattle.std.proofs.Common.{◌≡◌, ◌<◌, ℕ, zero, suc, Bool, true, false, Option, Some, None, List, [], ◌∷◌, ◌++◌, length, map, take, drop, slice_set, slice_get, slice_index_or, refl, ap, sym, ◌∙◌, arith}
+use Rattle.std.specs.Prelude.{◌==◌, if◌then◌else◌}
+use Rattle.std.specs.Option.{option_map}
 use Rattle.std.proofs.lemmas.Bool.Decides.{nat_tests}
 use Rattle.std.proofs.lemmas.Grind.{common_steps}
 use Rattle.tp_names.specs.declared.identifiers.Addr.{Addr}
@@ -9,14 +10,14 @@ use Rattle.tp_names.specs.Same.{is_mark}
 use Rattle.tp_records.specs.declared.dialogue.DialogueRecord.{DialogueRecord}
 use Rattle.tp_model.specs.declared.arc.Side.{Side}
 use Rattle.tp_model.specs.Parts.{Link, Dialogue, Idle, Opening, Offered, Live, Arc, Out}
-use Rattle.tp_model.specs.Arcs.{find_arc, with_dialogue, with_link, carried_on, carried, shut_says, shut_with, without_arc}
+use Rattle.tp_model.specs.Arcs.{find_arc, put_arc, with_dialogue, with_link, carried_on, carried, shut_says, shut_with, without_arc}
 use Rattle.tp_model.specs.Events.{some_past_numbers}
 use Rattle.tp_dialogue.specs.Dialogue.{End}
 use Rattle.tp_link.specs.Link.{is_next, with_one_sent}
 use Rattle.tp_tree.specs.declared.tie.Tie.{Tie}
-use Rattle.tp_tree.specs.Tie.{arc_of, find_tie, place_of, without_ties}
-use Rattle.tp_tree.specs.Invocation.{Invocation, ties_of, arcs_of, with_tie, without_tie, WritesLink, WritesDialogue}
-use Rattle.tp_node.specs.Arcs.{side_with, is_same_side, is_on, all_on, is_absent, is_apart, is_sided, count_subordinates_in, next_on, is_spent, outs_next, Arcs, value_of}
+use Rattle.tp_tree.specs.Tie.{arc_of, is_with, find_tie, place_of, without_ties}
+use Rattle.tp_tree.specs.Invocation.{Invocation, ties_of, arcs_of, with_below, with_tie, without_tie, WritesLink, WritesDialogue}
+use Rattle.tp_node.specs.Arcs.{side_with, is_same_side, is_on, all_on, is_absent, is_apart, is_at, is_sided, count_subordinates_in, next_on, is_spent, outs_next, Arcs, value_of}
 
 -- ---- sides
 
@@ -225,3 +226,94 @@ link_written v d p t l w found is =
 pub dialogue_written : (v : Invocation) (d : Arcs) (p : ℕ) (t : Tie) (e : End) → WritesDialogue v p → find_tie (ties_of v) p ≡ Some t → value_of (record { tree = v }) ≡ d → value_of (record { tree = with_tie v p (record t { dialogue = e }) }) ≡ record d { arcs = with_dialogue d.arcs p (λ _. e.dialogue) }
 dialogue_written v d p t e w found is =
     written v d p (record t { dialogue = e }) (with_dialogue d.arcs p (λ _. e.dialogue)) (w t (record t { dialogue = e }) (λ _. e.dialogue) found refl ∙ ap (λ (x : Arcs). with_dialogue x.arcs p (λ _. e.dialogue)) is) is
+
+-- ---- an arc written over the one with its peer
+
+arc_found : (ts : List Tie) (p : ℕ) → find_arc (map arc_of ts) p ≡ option_map arc_of (find_tie ts p)
+arc_found [] p = refl
+arc_found (t ∷ ts) p = grind (arith, common_steps, arc_found ts p)
+
+put_in : (ts : List Tie) (u : Tie) → map arc_of (slice_set ts (place_of ts u.addr.node) u) ≡ put_arc (map arc_of ts) (arc_of u)
+put_in [] u = refl
+put_in (t ∷ ts) u = grind (arith, common_steps, nat_tests, put_in ts u)
+
+put_among : (v : Invocation) (u : Tie) → arcs_of (with_tie v u.addr.node u) ≡ put_arc (arcs_of v) (arc_of u)
+put_among v u = grind (arith, common_steps, put_in v.below u)
+
+pub put_written : (v : Invocation) (d : Arcs) (u : Tie) → value_of (record { tree = v }) ≡ d → value_of (record { tree = with_tie v u.addr.node u }) ≡ record d { arcs = put_arc d.arcs (arc_of u) }
+put_written v d u is = written v d u.addr.node u (put_arc d.arcs (arc_of u)) (put_among v u ∙ ap (λ (x : Arcs). put_arc x.arcs (arc_of u)) is) is
+
+-- it is there
+pub tie_there : (v : Invocation) (p : ℕ) (a : Addr) → option_map (λ (x : Arc). x.peer) (find_arc (arcs_of v) p) ≡ Some a → (t : Tie) × (find_tie (ties_of v) p ≡ Some t) × (find_arc (arcs_of v) p ≡ Some (arc_of t))
+tie_there v p a there = go (find_tie (ties_of v) p) refl
+  where
+    found : find_arc (arcs_of v) p ≡ option_map arc_of (find_tie (ties_of v) p)
+    found = arc_found (ties_of v) p
+
+    go : (o : Option Tie) → find_tie (ties_of v) p ≡ o → (t : Tie) × (find_tie (ties_of v) p ≡ Some t) × (find_arc (arcs_of v) p ≡ Some (arc_of t))
+    go None e = absurd (let clash : None ≡ Some a = sym (ap (λ (o : Option Tie). option_map (λ (x : Arc). x.peer) (option_map arc_of o)) e) ∙ sym (ap (option_map (λ (x : Arc). x.peer)) found) ∙ there in cc (clash))
+    go (Some t) e = (t, e, found ∙ ap (option_map arc_of) e)
+
+-- ---- and looked for at a place
+
+pub at_within : (ts : List Tie) (i p : ℕ) → is_at ts i p ≡ true → i < length ts
+at_within [] i p h = absurd (cc (h))
+at_within (t ∷ ts) zero p h = omega arith
+at_within (t ∷ ts) (suc i) p h = let rest = at_within ts i p h in omega (arith, rest)
+
+at_there : (ts : List Tie) (i p : ℕ) → is_at ts i p ≡ true → is_absent ts p ≡ false
+at_there [] i p h = absurd (cc (h))
+at_there (t ∷ ts) zero p h = grind (arith, h)
+at_there (t ∷ ts) (suc i) p h = grind (arith, at_there ts i p, h)
+
+place_at : (ts : List Tie) (i p : ℕ) → is_apart ts ≡ true → is_at ts i p ≡ true → place_of ts p ≡ i
+place_at [] i p a h = absurd (cc (h))
+place_at (t ∷ ts) zero p a h = grind (arith, h)
+place_at (t ∷ ts) (suc i) p a h = grind (arith, common_steps, nat_tests, a, at_there ts i p, place_at ts i p, h)
+
+above_apart : (v : Invocation) (i p : ℕ) → is_sided v ≡ true → is_at v.below i p ≡ true → is_with v.above p ≡ false
+above_apart v i p h at = go (slice_get v.below i) refl at
+  where
+    go : (o : Option Tie) → slice_get v.below i ≡ o → elim o as (λ _. Bool) [ None ↦ false | Some t ↦ t.addr.node == p ] ≡ true → is_with v.above p ≡ false
+    go None e a = absurd (cc (a))
+    go (Some t) e a = above v.above refl
+      where
+        below : find_tie v.below t.addr.node ≡ Some t
+        below = grind (arith, common_steps, h, apart_at v.below i t, e)
+
+        on : is_on Side.Superior v.superior t ≡ true
+        on = grind (arith, common_steps, h, find_on Side.Superior v.superior v.below t.addr.node t, below)
+
+        above : (o : Option Tie) → v.above ≡ o → is_with o p ≡ false
+        above None n = refl
+        above (Some u) n = grind (arith, common_steps, nat_tests, n, h, on, a, same_side (side_with v.superior t.addr.node) Side.Superior, same_side (side_with v.superior u.addr.node) Side.Subordinate)
+
+pub written_at : (v : Invocation) (i : ℕ) (t : Tie) → is_sided v ≡ true → is_at v.below i t.addr.node ≡ true → record v { below = slice_set v.below i t } ≡ with_tie v t.addr.node t
+written_at v i t h at =
+    let apart : is_apart v.below ≡ true = grind (arith, common_steps, h) in
+    let place : place_of v.below t.addr.node ≡ i = place_at v.below i t.addr.node apart at in
+    let other : is_with v.above t.addr.node ≡ false = above_apart v i t.addr.node h at in
+    sym (ap (λ (b : Bool). if b then record v { above = Some t } else record v { below = slice_set v.below (place_of v.below t.addr.node) t }) other
+    ∙ ap (λ (n : ℕ). record v { below = slice_set v.below n t }) place)
+
+set_length : (ts : List Tie) (i : ℕ) (t : Tie) → length (slice_set ts i t) ≡ length ts
+set_length [] i t = refl
+set_length (x ∷ ts) zero t = refl
+set_length (x ∷ ts) (suc i) t = ap suc (set_length ts i t)
+
+taken : (xs ys : List Tie) → length ys ≡ length xs → take (length xs) (ys ++ drop (length ys) xs) ≡ ys
+taken [] [] e = refl
+taken [] (y ∷ ys) e = absurd (omega (arith, e))
+taken (x ∷ xs) [] e = absurd (omega (arith, e))
+taken (x ∷ xs) (y ∷ ys) e = ap (λ (l : List Tie). y ∷ l) (taken xs ys (omega (arith, e)))
+
+pub below_set : (v : Invocation) (i : ℕ) (t : Tie) → with_below v (slice_set v.below i t) ≡ record v { below = slice_set v.below i t }
+below_set v i t = ap (λ (ts : List Tie). record v { below = ts }) (taken v.below (slice_set v.below i t) (set_length v.below i t))
+
+set_none : (ts : List Tie) (p : ℕ) (t : Tie) → find_tie ts p ≡ None → slice_set ts (place_of ts p) t ≡ ts
+set_none [] p t h = refl
+set_none (x ∷ ts) p t h = grind (arith, set_none ts p t, h)
+
+-- there is none
+pub unwritten : (v : Invocation) (p : ℕ) (t : Tie) → None ≡ find_tie (ties_of v) p → v ≡ with_tie v p t
+unwritten v p t h = grind (arith, common_steps, h, set_none v.below p t)

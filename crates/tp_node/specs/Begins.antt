@@ -1,15 +1,17 @@
 -- Begin on an arc, but for its record, which goes out last: what it makes of what is known of a node, and the record.
-use Rattle.std.specs.Prelude.{ℕ, ◌&&◌, not, Bool, if◌then◌else◌, Option, Some, None, [], ◌∷◌, ◌++◌}
+use Rattle.std.specs.Prelude.{ℕ, ◌&&◌, not, Bool, false, nat_lt, if◌then◌else◌, Option, Some, None, List, [], ◌∷◌, ◌++◌, length}
 use Rattle.tp_names.specs.declared.identifiers.Aaid.{Aaid}
 use Rattle.tp_names.specs.declared.identifiers.BranchId.{BranchId}
 use Rattle.tp_names.specs.declared.children.Child.{Child}
 use Rattle.tp_records.specs.declared.dialogue.DialogueRecord.{DialogueRecord}
 use Rattle.tp_model.specs.declared.arc.Side.{Side}
-use Rattle.tp_model.specs.Parts.{Who, Arc, Current, Digest}
+use Rattle.tp_model.specs.Parts.{Who, Arc, Current, Digest, Out}
 use Rattle.tp_model.specs.Dialogues.{is_nil, begun_by, named_holder}
-use Rattle.tp_model.specs.Arcs.{find_arc, with_dialogue}
+use Rattle.tp_model.specs.Links.{greatest}
+use Rattle.tp_model.specs.Arcs.{find_arc, with_dialogue, carried}
 use Rattle.tp_model.specs.Transactions.{aaid_of, fresh_branch}
 use Rattle.tp_model.specs.Node.{next_mark, with_mark_drawn, may_begin_on, phase_of, may_root, has_none, chained_peers}
+use Rattle.tp_node.specs.Arcs.{is_spent}
 use Rattle.tp_node.specs.Node.{Node}
 
 -- the tree of the current transaction
@@ -43,6 +45,27 @@ begun_on who p d = elim d.current [
         else (d, None)
   ]
 ]
+
+-- the record goes out too: the node after it, and what goes out
+abbrev pub begun_sent : Who → ℕ → Digest → Digest × List Out
+begun_sent who p d =
+    let b = begun_on who p d in
+    elim b.1 [
+      | None ↦ (b.0, [])
+      | Some r ↦ let s = carried b.0.arcs p r in (record b.0 { arcs = s.0 }, s.1)
+    ]
+
+-- a transaction has the memory for 256 branches from its start on
+abbrev pub has_place_below : Option Current → Bool
+has_place_below o = elim o [ None ↦ false | Some c ↦ nat_lt (length c.branches) 256 ]
+
+-- nothing can be wanting for it: there is memory for the branch, the counter has a mark, Begin may be sent on the arc, and
+-- its association has a number
+abbrev pub can_begin : Who → ℕ → Digest → Bool
+can_begin who p d =
+    has_place_below d.current
+    && nat_lt d.drawn greatest
+    && elim (find_arc d.arcs p) [ None ↦ false | Some a ↦ may_begin_on who d a && not (is_spent a.link) ]
 
 abbrev pub with_digest : Node → Digest → Node
 with_digest v d = record v { digest = d }

@@ -9,6 +9,7 @@ pub mod Halt
 pub mod Begins
 pub mod ArcStep
 pub mod Passage
+pub mod Directory
 pub mod Noted
 pub mod Calls
 pub mod Sights

@@ -1,9 +1,11 @@
 -- The arcs of a node that copies of it share, and the one of them that has changed and stands aside.
-use Rattle.std.specs.Prelude.{ℕ, ◌≡◌, ◌==◌, ◌≤◌, Bool, true, false, not, if◌then◌else◌, Option, Some, None, vec_capacity}
+use Rattle.std.specs.Prelude.{ℕ, ◌≡◌, ◌==◌, ◌≤◌, Bool, true, false, not, if◌then◌else◌, Option, Some, None, List, vec_capacity}
 use Rattle.std.specs.Option.{option_map}
 use Rattle.std.specs.Arc.{arc_value}
-use Rattle.tp_model.specs.Parts.{Arc}
-use Rattle.tp_model.specs.Arcs.{find_arc, put_arc}
+use Rattle.tp_model.specs.Parts.{Dialogue, Arc}
+use Rattle.tp_model.specs.Dialogues.{woken}
+use Rattle.tp_model.specs.Links.{with_one_taken}
+use Rattle.tp_model.specs.Arcs.{find_arc, put_arc, with_dialogue, with_link}
 use Rattle.tp_tree.specs.declared.tie.Tie.{Tie}
 use Rattle.tp_tree.specs.Tie.{arc_of}
 use Rattle.tp_node.specs.Arcs.{Arcs, side_with, fits_link, count_subordinates_in}
@@ -43,3 +45,15 @@ aside_at (Some t) p = if t.addr.node == p then Some t else None
 abbrev pub is_other : Option Tie → ℕ → Bool
 is_other None p = false
 is_other (Some t) p = not (t.addr.node == p)
+
+-- ---- a record is taken
+
+-- the dialogue, where the record wakes it and where it does not
+abbrev pub woken_if : Bool → Dialogue → Dialogue
+woken_if true d = woken d
+woken_if false d = d
+
+-- it is counted on the arc with that peer, and ends its rest where it wakes it
+abbrev pub taken_in : Bool → ℕ → List Arc → List Arc
+taken_in true p arcs = with_dialogue (with_link arcs p with_one_taken) p woken
+taken_in false p arcs = with_link arcs p with_one_taken

@@ -1,11 +1,12 @@
 //! The arcs of a node.
-ghost use Rattle.std.specs.Prelude.{◌≡◌, ◌⊎◌, ◌≤◌, true, [], Option, None, map, IfOk, IfSome, OnOk, OnErr, vec_capacity};
+ghost use Rattle.std.specs.Prelude.{◌≡◌, ◌⊎◌, ◌<◌, ◌≤◌, true, [], Option, None, length, map, slice_set, IfOk, IfSome, OnOk, OnErr, vec_capacity};
 ghost use Rattle.std.specs.Option.{option_map, option_copied};
-ghost use Rattle.tp_model.specs.Arcs.{find_arc, without_arc, with_dialogue, with_link};
+ghost use Rattle.tp_model.specs.Arcs.{find_arc, put_arc, without_arc, with_dialogue, with_link};
 ghost use Rattle.tp_tree.specs.Tie.{arc_of};
-ghost use Rattle.tp_tree.specs.Invocation.{with_arc};
-ghost use Rattle.tp_node.specs.Arcs.{side_with, fits_link, has_place, new_arc, count_subordinates_in};
+ghost use Rattle.tp_tree.specs.Invocation.{with_arc, with_tie};
+ghost use Rattle.tp_node.specs.Arcs.{side_with, fits_link, has_place, new_arc, count_subordinates_in, is_sided, is_at};
 ghost use Rattle.tp_node.specs.ArcStep.{stepped_arcs};
+ghost use Rattle.tp_node.specs.SharedArcs.{Stands};
 
 use crate::arc_step::ArcStep;
 use std::alloc::Global;
@@ -81,19 +82,21 @@ impl Arcs {
         }
     }
 
-    /// The arc with that peer.
-    #[tactic(auto, using(crate::proofs::Sides::side_found, crate::proofs::Linked::link_found))]
-    pub(crate) fn find(&self, peer: u16) -> Option<Tie>
+    /// The arc with that peer: it is looked for at that place among the subordinates' first.
+    pub(crate) fn find(&self, place: usize, peer: u16) -> Option<Tie>
         ensures arc { option_map arc_of result ≡ find_arc self.now.arcs peer }
         ensures side { IfSome result (λ t. t.dialogue.side ≡ side_with self.now.superior peer) }
         ensures link { IfSome result (λ t. fits_link (side_with self.now.superior peer) t.link ≡ true) }
     {
-        self.tree.get(peer).copied()
+        self.near(place, peer).copied()
     }
 
-    /// The arc with that peer, where it stands: it is sought at that place among the subordinates' first.
+    /// The arc with that peer, where it stands: it is looked for at that place among the subordinates' first.
+    #[tactic(auto, using(crate::proofs::Sides::side_found, crate::proofs::Linked::link_found))]
     pub(crate) fn near(&self, place: usize, peer: u16) -> Option<&Tie>
-        ensures { option_map arc_of (option_copied result) ≡ find_arc self.now.arcs peer }
+        ensures arc { option_map arc_of (option_copied result) ≡ find_arc self.now.arcs peer }
+        ensures side { IfSome result (λ t. t.now.dialogue.side ≡ side_with self.now.superior peer) }
+        ensures link { IfSome result (λ t. fits_link (side_with self.now.superior peer) t.now.link ≡ true) }
     {
         match self.tree.subordinates().get(place) {
             Some(tie) if tie.addr().node == peer => Some(tie),
@@ -111,6 +114,11 @@ impl Arcs {
         }
         ties.extend_from_slice(self.tree.subordinates())?;
         Ok(ties)
+    }
+
+    /// The arcs to subordinates.
+    pub(crate) fn below(&self) -> &[Tie] {
+        self.tree.subordinates()
     }
 
     /// How many arcs lead to subordinates.
@@ -155,6 +163,14 @@ impl Arcs {
         self.tree.remove(peer);
     }
 
+    /// Puts that arc in the place of the one with its peer, which is looked for at that place among the subordinates' first.
+    pub(crate) fn put(&mut self, place: usize, tie: &Tie)
+        requires { Stands self.old tie.now }
+        ensures { self.new ≡ record self.old { arcs = put_arc self.old.arcs (arc_of tie.now) } }
+    {
+        write(&mut self.tree, place, tie);
+    }
+
     /// Changes the link of the arc with that peer, where there is one.
     #[tactic(auto, using(crate::proofs::Sides::sided_with, crate::proofs::Linked::linked_with, crate::proofs::Sides::with_link_none))]
     pub(crate) fn put_link(&mut self, peer: u16, link: Link)
@@ -185,5 +201,39 @@ impl Arcs {
         ensures { self.new ≡ record self.old { arcs = stepped_arcs step self.old.superior branch.now self.old.arcs } }
     {
         step.take_tree(branch, &mut self.tree);
+    }
+}
+
+// The arc at that place is with that peer.
+fn is_at(ties: &[Tie], place: usize, peer: u16) -> bool
+    ensures { result ≡ is_at ties.now place peer }
+{
+    match ties.get(place) {
+        None => false,
+        Some(tie) => tie.addr().node == peer,
+    }
+}
+
+// Writes that arc at that place.
+fn write_at(ties: &mut [Tie], place: usize, tie: &Tie)
+    requires { place < length ties.old }
+    ensures { ties.new ≡ slice_set ties.old place tie.now }
+{
+    ties[place] = *tie;
+}
+
+// Writes that arc over the one with its peer, which is looked for at that place among the subordinates' first.
+#[tactic(auto, using(crate::proofs::Sides::at_within, crate::proofs::Sides::written_at, crate::proofs::Sides::unwritten))]
+fn write(tree: &mut Invocation, place: usize, tie: &Tie)
+    requires { is_sided tree.old ≡ true }
+    ensures { tree.new ≡ with_tie tree.old tie.now.addr.node tie.now }
+{
+    let peer = tie.addr().node;
+    if is_at(tree.subordinates(), place, peer) {
+        write_at(tree.subordinates_mut(), place, tie);
+        return;
+    }
+    if let Some(own) = tree.tie(peer) {
+        *own = *tie;
     }
 }

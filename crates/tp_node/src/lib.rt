@@ -7,6 +7,7 @@
 
 mod arc_step;
 mod arcs;
+mod directory;
 mod disposition;
 mod event;
 mod halt;

@@ -1,10 +1,11 @@
 //! One node of a site.
+mod begun;
 mod noted;
 mod origin;
 
-ghost use Rattle.std.specs.Prelude.{◌≡◌, ◌⊎◌, ◌==◌, ◌&&◌, ◌||◌, not, true, [], ◌∷◌, ◌+◌, ◌++◌, nat_le, nat_lt, slice_get, Option, Some, None, IfOk, IfSome, IsSome, IsTrue, OnOk, OnErr};
+ghost use Rattle.std.specs.Prelude.{◌≡◌, ◌⊎◌, ◌==◌, ◌&&◌, ◌||◌, not, true, [], ◌∷◌, ◌+◌, ◌++◌, nat_le, nat_lt, slice_get, Ok, Option, Some, None, IfOk, IfErr, IfSome, IsSome, IsTrue, OnOk, OnErr};
 ghost use Rattle.std.specs.Option.{option_map, option_copied, is_some};
-ghost use Rattle.tp_model.specs.Dialogues.{is_nil, is_late, first, said, heard, begun_by, cleared, woken, named_holder};
+ghost use Rattle.tp_model.specs.Dialogues.{is_nil, is_late, first, said, heard, begun_by, cleared, named_holder};
 ghost use Rattle.tp_model.specs.Links.{greatest, is_idle, is_opening_with, dropped_by, with_one_taken};
 ghost use Rattle.tp_model.specs.Arcs.{find_arc, link_with, with_link, with_dialogue, without_arc, shut_with, carried};
 ghost use Rattle.tp_model.specs.Node.{branches_of, seen, remaining, entered, grants, phase_of, has_asked, is_superior, side_at, situation_at, may_root, may_begin_on, is_chained_below, chained_peers, fresh_current, superior_arc, next_mark, with_mark_drawn};
@@ -18,7 +19,7 @@ ghost use Rattle.tp_tree.specs.Tie.{arc_of};
 ghost use Rattle.tp_commit.specs.Branch.{has_superior, key_from};
 ghost use Rattle.tp_model.specs.Disposition.{sight_value};
 ghost use Rattle.tp_model.specs.Refusal.{number_in};
-ghost use Rattle.tp_model.specs.Arrivals.{sight_in_tx, woken_by, current_with, current_of as current_in};
+ghost use Rattle.tp_model.specs.Arrivals.{sight_in_tx, is_response, woken_by, current_with, current_of as current_in};
 ghost use Rattle.tp_node.specs.State.{state_of, tree_in};
 ghost use Rattle.tp_node.specs.Node.{current_of, with_arcs, has_place_at};
 ghost use Rattle.tp_node.specs.Outs.{outs_of_option};
@@ -31,7 +32,7 @@ ghost use Rattle.tp_model.specs.Parts.{Opening, Offered, Live};
 ghost use Rattle.tp_model.specs.declared.arc.Side.{Side};
 ghost use Rattle.tp_tree.specs.Invocation.{with_arc};
 ghost use Rattle.tp_node.specs.Halt.{OnSpent};
-ghost use Rattle.tp_node.specs.Begins.{aaid_in, with_branch, begun_on, with_digest, may_start};
+ghost use Rattle.tp_node.specs.Begins.{aaid_in, with_branch, begun_on, has_place_below, with_digest, may_start};
 
 use crate::arc_step::{ArcStep, is_granting};
 use crate::halt::Halt;
@@ -662,7 +663,8 @@ impl Node {
     /// Adds a branch to the current transaction, after the others.
     #[tactic(auto, using(crate::proofs::Beginnings::branches_more))]
     fn add_branch(&mut self, child: &Child) -> Result<(), NoMemory>
-        ensures { OnOk result (self.new ≡ with_digest self.old (record self.old.digest { current = with_branch child.now self.old.digest.current })) }
+        ensures added { OnOk result (self.new ≡ with_digest self.old (record self.old.digest { current = with_branch child.now self.old.digest.current })) }
+        ensures memory { has_place_below self.old.digest.current ≡ true → result ≡ Ok tt }
     {
         let Some(branch) = &mut self.current else {
             return Ok(());
@@ -927,19 +929,6 @@ impl Node {
         self.put_dialogue(peer, dialogue);
     }
 
-    /// The arc with that peer rests no more, where there is one.
-    #[tactic(auto, using(crate::proofs::Talks::put_none, crate::proofs::Beginnings::dialogue_put))]
-    pub(crate) fn wake(&mut self, peer: u16)
-        ensures { self.new ≡ with_arcs self.old (with_dialogue self.old.digest.arcs peer woken) }
-    {
-        let Some(tie) = self.find(peer) else {
-            return;
-        };
-        let mut dialogue = tie.dialogue;
-        dialogue.wake();
-        self.put_dialogue(peer, dialogue);
-    }
-
     // A transaction begins on the arc with that peer, where there is one.
     #[tactic(auto, using(crate::proofs::Talks::put_none, crate::proofs::Beginnings::dialogue_put))]
     fn begin_dialogue(&mut self, peer: u16, holder: Holder)
@@ -973,41 +962,27 @@ impl Node {
         self.begin_transaction(alloc, key, Some(superior))
     }
 
-    /// The record with that pair and number is taken on the arc with that peer, where there is one.
-    #[tactic(auto, using(crate::proofs::Linked::fits_taken))]
-    pub(crate) fn count_taken(&mut self, peer: u16, x: Mark, y: Mark, seq: u64)
-        requires { dropped_by (link_with self.old.digest.arcs peer) x y seq ≡ None }
-        ensures { self.new ≡ with_arcs self.old (with_link self.old.digest.arcs peer with_one_taken) }
-    {
-        let Some(tie) = self.find(peer) else {
-            return;
-        };
-        let mut link = tie.link;
-        let Ok(()) = link.take(x, y, seq) else {
-            return;
-        };
-        self.put_link(peer, link);
-    }
-
     /// A record with that pair and number is taken on the arc with that peer; any but a response ends the arc's rest.
+    #[tactic(auto, using(crate::proofs::Takes::woken_so))]
     pub fn take(&mut self, peer: u16, x: Mark, y: Mark, seq: u64, rec: &DialogueRecord)
         requires { dropped_by (link_with self.old.digest.arcs peer) x y seq ≡ None }
         ensures { self.new ≡ with_digest self.old (woken_by rec.now peer (record self.old.digest { arcs = with_link self.old.digest.arcs peer with_one_taken })) }
     {
-        self.count_taken(peer, x, y, seq);
-        match rec {
-            DialogueRecord::Response => {}
-            _ => self.wake(peer),
+        match &mut self.arcs {
+            None => {}
+            Some(arcs) => arcs.take(peer, x, y, seq, is_waking(rec)),
         }
     }
 
     /// A branch begins on the arc with that peer, where Begin may be sent: it has a new identifier, and control is
-    /// where its holder is. Gives the record that is to go out.
+    /// where its holder is. Gives the record that is to go out. It takes no memory where the transaction has fewer than 256
+    /// branches.
     #[tactic(auto, using(crate::proofs::Beginnings::begun_record, crate::proofs::Beginnings::begun_spent))]
     pub fn begin_branch(&mut self, peer: u16) -> Result<Option<DialogueRecord>, Halt>
         ensures node { OnOk result (self.new ≡ with_digest self.old (begun_on self.old.who peer self.old.digest).0) }
         ensures rec { IfOk result (λ rec. rec ≡ (begun_on self.old.who peer self.old.digest).1) }
         ensures spent { OnSpent result (nat_lt greatest (begun_on self.old.who peer self.old.digest).0.drawn ≡ true) }
+        ensures memory { has_place_below self.old.digest.current ≡ true → IfErr result (λ halt. halt ≡ Halt.NumbersSpent) }
     {
         let (Some(aaid), Some(tie)) = (self.aaid(), self.find(peer)) else {
             return Ok(None);
@@ -1032,7 +1007,8 @@ impl Node {
     #[tactic(auto, unfolding(tp_model::specs::Dialogues::begun_by))]
     fn begin_on(&mut self, tie: &Tie, branch: BranchId) -> Result<(), NoMemory>
         requires { tie.now.dialogue.side ≡ side_at self.old.digest (arc_of tie.now).peer.node }
-        ensures { OnOk result (self.new ≡ with_digest self.old (record self.old.digest {
+        ensures memory { has_place_below self.old.digest.current ≡ true → result ≡ Ok tt }
+        ensures begun { OnOk result (self.new ≡ with_digest self.old (record self.old.digest {
           arcs = with_dialogue self.old.digest.arcs (arc_of tie.now).peer.node (λ _. begun_by (named_holder (arc_of tie.now).dialogue) tie.now.dialogue.side (arc_of tie.now).dialogue);
           current = with_branch (record { addr = (arc_of tie.now).peer; branch = branch }) self.old.digest.current;
         })) }
@@ -1057,6 +1033,16 @@ fn release(arcs: &mut Option<SharedArcs>)
     };
     if is_shared {
         *arcs = None;
+    }
+}
+
+// Any record but a response ends the rest of its arc.
+fn is_waking(rec: &DialogueRecord) -> bool
+    ensures { result ≡ not (is_response rec.now) }
+{
+    match rec {
+        DialogueRecord::Response => false,
+        _ => true,
     }
 }
 

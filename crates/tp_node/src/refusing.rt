@@ -1,5 +1,8 @@
 //! Why a node refuses an event, and a record that arrives among them. It takes no memory.
-ghost use Rattle.std.specs.Prelude.{◌≡◌, [], ◌∷◌};
+ghost use Rattle.std.specs.Prelude.{◌≡◌, [], ◌∷◌, if◌then◌else◌};
+ghost use Rattle.tp_names.specs.Same.{is_addr};
+ghost use Rattle.tp_model.specs.Parts.{Idle};
+ghost use Rattle.tp_tree.specs.Tie.{arc_of};
 ghost use Rattle.tp_model.specs.Dialogues.{first};
 ghost use Rattle.tp_model.specs.Parts.{Do};
 ghost use Rattle.tp_model.specs.Events.{refused_plainly, unless_missing, is_no_node};
@@ -24,6 +27,7 @@ use tp_names::same::{is_addr, is_mark};
 use tp_names::{Aaid, Addr, BranchId, Mark, NodeKey};
 use tp_records::{DialogueRecord, PeerRecord, RecState, Request};
 use tp_recover::answer;
+use tp_tree::Tie;
 use tp_units::{Units, choose};
 
 impl Node {
@@ -104,7 +108,7 @@ impl Node {
     }
 
     // A record comes on an association.
-    #[tactic(auto, using(crate::proofs::Arriving::at_peer))]
+    #[tactic(auto, using(crate::proofs::Arriving::at_peer, crate::proofs::Arriving::from_found, crate::proofs::Arriving::from_none))]
     fn refused_on(
         &self,
         from: &Addr,
@@ -115,14 +119,14 @@ impl Node {
     ) -> Option<Refusal>
         ensures { number_in result ≡ refused_on self.now.who self.now.digest from.now x y seq rec.now }
     {
-        let mut link = self.link_from(from);
+        let Some(tie) = self.find(from.node) else {
+            return Some(OldAssociation);
+        };
+        let mut link = link_of(&tie, from);
         if let Err(dropped) = link.take(x, y, seq) {
             return Some(dropped.refusal());
         }
-        match self.find(from.node) {
-            None => Some(OldAssociation),
-            Some(tie) => out_of_phase(self.disposition(&tie, rec)),
-        }
+        out_of_phase(self.disposition(&tie, rec))
     }
 
     /// Why a record is refused that arrives, but for the want of numbers.
@@ -213,8 +217,8 @@ impl Node {
         }
     }
 
-    // Of a request.
-    fn refused_do(&self, request: &Request) -> Option<Refusal>
+    /// Why a request is refused before anything is tried. It takes no memory.
+    pub fn refused_do(&self, request: &Request) -> Option<Refusal>
         ensures { number_in result ≡ refused_plainly self.now.who self.now.digest (Do request.now) }
     {
         let needs_declaring = matches!(request, Request::BeginDialogue { .. });
@@ -247,6 +251,17 @@ impl Node {
             NodeEvent::Retry => self.unless_missing(None),
             NodeEvent::Purge => self.unless_missing(self.refused_purge()),
         }
+    }
+}
+
+// The association of the arc, where it is with that address.
+fn link_of(tie: &Tie, from: &Addr) -> Link
+    ensures { result ≡ (if is_addr (arc_of tie.now).peer from.now then (arc_of tie.now).link else Idle) }
+{
+    if is_addr(&tie.addr(), from) {
+        tie.link
+    } else {
+        Link::idle()
     }
 }
 

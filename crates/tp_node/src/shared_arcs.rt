@@ -1,7 +1,8 @@
 //! The arcs of a node, which its copies share.
-ghost use Rattle.std.specs.Prelude.{◌≡◌, ◌⊎◌, true, [], Option, None, Some, map, IfOk, IfSome, OnOk, OnErr};
+ghost use Rattle.std.specs.Prelude.{◌≡◌, ◌⊎◌, true, false, [], Option, None, Some, map, IfOk, IfSome, OnOk, OnErr};
 ghost use Rattle.std.specs.Option.{option_map, option_copied};
-ghost use Rattle.tp_model.specs.Arcs.{find_arc, put_arc, without_arc, with_dialogue, with_link, carried, shut_with};
+ghost use Rattle.tp_model.specs.Links.{dropped_by, with_one_taken};
+ghost use Rattle.tp_model.specs.Arcs.{find_arc, put_arc, link_with, without_arc, with_dialogue, with_link, carried, shut_with};
 ghost use Rattle.tp_model.specs.Events.{some_past_numbers};
 ghost use Rattle.tp_tree.specs.Tie.{arc_of, place_of};
 ghost use Rattle.tp_tree.specs.Invocation.{with_arc};
@@ -9,10 +10,11 @@ ghost use Rattle.tp_link.specs.Link.{with_one_sent};
 ghost use Rattle.tp_node.specs.Arcs.{side_with, fits_link, has_place, new_arc, count_subordinates_in, next_on, is_spent, outs_next};
 ghost use Rattle.tp_node.specs.ArcStep.{stepped_arcs};
 ghost use Rattle.tp_node.specs.Outs.{outs_of_option};
-ghost use Rattle.tp_node.specs.SharedArcs.{Stands, aside_at, is_other};
+ghost use Rattle.tp_node.specs.SharedArcs.{Stands, aside_at, is_other, taken_in, woken_if};
 
 use crate::arc_step::ArcStep;
 use crate::arcs::Arcs;
+use crate::directory::Directory;
 use crate::outs::Out;
 use std::alloc::Global;
 use std::marker::Model;
@@ -38,6 +40,7 @@ pub(crate) struct SharedArcs {
     shared: Option<Arc<Arcs>>,
     change: Option<Tie>,
     spare: Vec<Tie>,
+    directory: Directory,
 }
 
 impl Model for SharedArcs {
@@ -62,6 +65,7 @@ impl SharedArcs {
             shared: None,
             change: None,
             spare: Vec::new(alloc),
+            directory: Directory::new(),
         }
     }
 
@@ -70,6 +74,7 @@ impl SharedArcs {
         ensures copy { OnOk result (self.new ≡ other.now) }
         ensures same { OnErr result (self.new ≡ self.old) }
     {
+        self.directory = other.directory.copy()?;
         match &other.shared {
             None => {
                 self.own.copy_from(&other.own)?;
@@ -127,10 +132,10 @@ impl SharedArcs {
         ensures link { IfSome result (λ t. fits_link (side_with self.now.superior peer) t.link ≡ true) }
     {
         let Some(all) = &self.shared else {
-            return self.own.find(peer);
+            return self.own.find(self.directory.of(peer), peer);
         };
         match aside_at(&self.change, peer) {
-            None => all.find(peer),
+            None => all.find(self.directory.of(peer), peer),
             Some(tie) => Some(*tie),
         }
     }
@@ -180,7 +185,7 @@ impl SharedArcs {
         };
         let mut own = all.copy_into(replace(&mut self.spare, Vec::new(alloc)));
         if let Some(tie) = self.change.take() {
-            write(&mut own, &tie);
+            own.put(self.directory.of(tie.addr().node), &tie);
         }
         own
     }
@@ -220,6 +225,7 @@ impl SharedArcs {
         ensures { self.new ≡ record self.old { arcs = without_arc self.old.arcs peer } }
     {
         let mut own = self.take_own();
+        self.directory.forget();
         own.remove(peer);
         self.put_own(own);
     }
@@ -231,12 +237,12 @@ impl SharedArcs {
         ensures { self.new ≡ record self.old { arcs = put_arc self.old.arcs (arc_of tie) } }
     {
         if self.shared.is_none() {
-            write(&mut self.own, &tie);
+            self.own.put(self.directory.of(tie.addr().node), &tie);
             return;
         }
         if is_other(&self.change, tie.addr().node) {
             let mut own = self.take_own();
-            write(&mut own, &tie);
+            own.put(self.directory.of(tie.addr().node), &tie);
             self.put_own(own);
             return;
         }
@@ -275,6 +281,19 @@ impl SharedArcs {
         };
         tie.dialogue = dialogue;
         self.set(tie);
+    }
+
+    /// The record with that pair and number is taken on the arc with that peer, where there is one, and ends its rest where
+    /// it wakes it.
+    #[tactic(auto, using(crate::proofs::Takes::none_taken))]
+    pub(crate) fn take(&mut self, peer: u16, x: Mark, y: Mark, seq: u64, wakes: bool)
+        requires { dropped_by (link_with self.old.arcs peer) x y seq ≡ None }
+        ensures { self.new ≡ record self.old { arcs = taken_in wakes peer self.old.arcs } }
+    {
+        let Some(tie) = self.find(peer) else {
+            return;
+        };
+        self.set(taken(&tie, x, y, seq, wakes));
     }
 
     /// What a passage of the transaction does to the arcs, to each in place.
@@ -316,7 +335,7 @@ impl SharedArcs {
         let Some(all) = Arc::get_mut(shared) else {
             return;
         };
-        write(all, tie);
+        all.put(self.directory.of(tie.addr().node), tie);
         self.change = None;
     }
 
@@ -337,6 +356,7 @@ impl SharedArcs {
         let Some(all) = Arc::get_mut(&mut shared) else {
             return;
         };
+        self.directory.learn(alloc, self.own.below());
         swap(all, &mut self.own);
         self.shared = Some(shared);
         self.change = None;
@@ -355,12 +375,11 @@ impl SharedArcs {
         ensures spent { OnErr result (some_past_numbers (carried self.old.arcs peer rec).1 ≡ true) }
         ensures same { OnErr result (self.new ≡ self.old) }
     {
-        let Some(tie) = self.find(peer) else {
+        let Some(mut tie) = self.find(peer) else {
             return Ok(None);
         };
-        let mut link = tie.link;
-        let next = next_on(&mut link)?;
-        self.put_link(peer, link);
+        let next = next_on(&mut tie.link)?;
+        self.set(tie);
         Ok(sent(tie.addr(), next, rec))
     }
 
@@ -382,14 +401,22 @@ impl SharedArcs {
     }
 }
 
-// Writes that arc over the one with its peer.
-#[tactic(auto, using(crate::proofs::Shares::written_both))]
-fn write(arcs: &mut Arcs, tie: &Tie)
-    requires { Stands arcs.old tie.now }
-    ensures { arcs.new ≡ record arcs.old { arcs = put_arc arcs.old.arcs (arc_of tie.now) } }
+// The arc on which the record with that pair and number is taken, and whose rest ends where the record wakes it.
+fn taken(tie: &Tie, x: Mark, y: Mark, seq: u64, wakes: bool) -> Tie
+    requires { dropped_by (arc_of tie.now).link x y seq ≡ None }
+    ensures addr { result.addr ≡ tie.now.addr }
+    ensures link { result.link ≡ with_one_taken tie.now.link }
+    ensures side { result.dialogue.side ≡ tie.now.dialogue.side }
+    ensures dialogue { result.dialogue.dialogue ≡ woken_if wakes tie.now.dialogue.dialogue }
 {
-    arcs.put_dialogue(tie.addr().node, tie.dialogue);
-    arcs.put_link(tie.addr().node, tie.link);
+    let mut tie = *tie;
+    let Ok(()) = tie.link.take(x, y, seq) else {
+        unreachable!()
+    };
+    if wakes {
+        tie.dialogue.wake();
+    }
+    tie
 }
 
 // The arc that stands aside, where it is with that peer.
@@ -435,11 +462,12 @@ fn put(ties: &mut [Tie], tie: &Tie)
     }
 }
 
-// The pair and the number of the next record on a link, where it is live, and the record is counted.
+/// The pair and the number of the next record on a link, where it is live, and the record is counted.
 #[tactic(auto, using(crate::proofs::Sides::next_is))]
-fn next_on(link: &mut Link) -> Result<Option<(Mark, Mark, u64)>, NumbersSpent>
+pub(crate) fn next_on(link: &mut Link) -> Result<Option<(Mark, Mark, u64)>, NumbersSpent>
     ensures next { IfOk result (λ next. next ≡ next_on link.old) }
     ensures counted { OnOk result (link.new ≡ with_one_sent link.old) }
+    ensures unspent { OnOk result (is_spent link.old ≡ false) }
     ensures spent { OnErr result (is_spent link.old ≡ true) }
 {
     match link.state() {
@@ -449,7 +477,8 @@ fn next_on(link: &mut Link) -> Result<Option<(Mark, Mark, u64)>, NumbersSpent>
     }
 }
 
-fn sent(to: Addr, next: Option<(Mark, Mark, u64)>, rec: DialogueRecord) -> Option<Out>
+/// A record with that pair and number, where they are given.
+pub(crate) fn sent(to: Addr, next: Option<(Mark, Mark, u64)>, rec: DialogueRecord) -> Option<Out>
     ensures { outs_of_option result ≡ outs_next to rec next }
 {
     let (x, y, seq) = next?;

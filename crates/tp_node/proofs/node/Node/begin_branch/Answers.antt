@@ -29,7 +29,7 @@ returns-clause-node c =
     let site : c.self.inside.site ≡ v.who.site = ap (λ (x : Node). x.who.site) c.self.view_is in
     let id : (record { superior = c.self.inside.site; mark = c.in_ok-draw.field-0 }) ≡ new_branch v.who v.digest =
     ap (λ x. let b : BranchId = record { superior = x; mark = c.in_ok-draw.field-0 } in b) site ∙ ap (λ x. let b : BranchId = record { superior = v.who.site; mark = x } in b) c.in_ok-draw.ensures.mark in
-    c.in_ok-begin_on.ensures {u = tt}
+    (c.in_ok-begin_on.ensures {u = tt}).begun
     ∙ ap (λ (w : Node). with_digest w (made w.digest.arcs w.digest (record { superior = c.self.inside.site; mark = c.in_ok-draw.field-0 }))) c.in_ok-draw.ensures.drawn
     ∙ ap (λ (b : BranchId). with_digest v (made v.digest.arcs (with_mark_drawn v.digest) b)) id
     ∙ ap (with_digest v) (begun_is v.who c.args.peer v.digest a t.dialogue.side c.in-Some-Some.aaid (sym c.in-Some-Some.ensures) (sym c.in-Some-Some.ensures'.arc) c.in-Some-Some.ensures'.side (sym c.if-not-may_begin_on.ensures))

@@ -12,4 +12,4 @@ invariant_of-self-2 c =
     let held = subst (λ o. elim o as (λ _. Type 0) [ None ↦ Unit {0} | Some s ↦ StandsIn (arc_value s) v.change × (count_subordinates_in (arc_value s).superior (arc_value s).arcs ≤ vec_capacity v.spare) ]) c.in-Some.is c.self.invariant in
     let fits : count_subordinates_in c.in-Some-get_mut.all.now.superior c.in-Some-get_mut.all.now.arcs ≤ vec_capacity v.spare =
     subst (λ (a : Arcs). count_subordinates_in a.superior a.arcs ≤ vec_capacity v.spare) (sym (c.in-Some-get_mut.ensures {u = tt}).value) held.1 in
-    (tt, still_fits c.in-Some-get_mut.all.now c.write.new.arcs c.in-Some-change.tie (vec_capacity v.spare) c.write.ensures fits)
+    (tt, still_fits c.in-Some-get_mut.all.now c.put.new.self c.in-Some-change.tie (vec_capacity v.spare) c.put.ensures fits)

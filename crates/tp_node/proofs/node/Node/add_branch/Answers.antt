@@ -1,0 +1,12 @@
+use Rattle.std.proofs.Common.{◌∙◌, ap, sym}
+use Rattle.std.specs.Option.{option_map}
+use Rattle.tp_node.specs.Node.{Node, current_of}
+use Rattle.tp_node.specs.Begins.{has_place_below}
+use Rattle.tp_node.proofs.Begun.{rows_left}
+use Rattle.tp_node.proofs.node.Node.add_branch.Goals as goal
+
+pub returns-clause-memory : goal.returns-clause-memory
+returns-clause-memory c h =
+    c.add.ensures.memory
+    (rows_left c.in-Some.branch
+    (sym (ap (λ o. has_place_below (option_map current_of o)) c.in-Some.is) ∙ ap (λ (n : Node). has_place_below n.digest.current) c.self.view_is ∙ h))
