@@ -1,0 +1,4 @@
+pub mod Lines
+pub mod Arrived
+pub mod ReadOn
+pub mod Drawn

@@ -1,0 +1,4 @@
+pub mod Transcripts
+pub mod Asked
+pub mod Status
+pub mod Runs

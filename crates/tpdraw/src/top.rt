@@ -1,0 +1,86 @@
+//! The program's one call.
+ghost use Rattle.std.specs.Prelude.{◌≡◌, ◌≢◌, ◌↔◌, ℕ, List, Some, None, map, IfOk, IfErr};
+ghost use Rattle.tpdraw.specs.Asked.{asked};
+ghost use Rattle.tpdraw.specs.Transcripts.{IsUnread};
+ghost use Rattle.tpdraw.specs.Runs.{IsEnding, Draws, IsPicture, IsInputStop, WritesText};
+ghost use Rattle.tpdraw.specs.declared.status.Status.{Status};
+
+use crate::Status;
+use crate::intake::read_all;
+use crate::reading::read_transcript;
+use std::alloc::Global;
+use tp_draw::{Kind, draw};
+use tp_names::Octets;
+use tp_outside::{Sink, Source};
+use tp_streams::write_all;
+
+/// Reads a transcript to the end of the source, and writes its picture to the sink, as SVG or, with the word `--mermaid`, as
+/// Mermaid text. Nothing is written but that picture, and nothing of it before the whole input was read and is a
+/// transcript; where the sink fails, a prefix of it is written. Other words are usage, and nothing is read.
+pub fn run<S: Source, K: Sink>(
+    alloc: Global,
+    words: &[&str],
+    source: &mut S,
+    sink: &mut K,
+) -> Status
+    ensures usage { (result ≡ Status.Usage) ↔ (asked (map (λ w. w.now) words.now) ≡ None) }
+    ensures unread { result ≡ Status.Usage → source.new ≡ source.old }
+    ensures ending { IsEnding (S.fault_count source.old) (S.fault_count source.new) (K.fault_count sink.old) (K.fault_count sink.new) result }
+    ensures draws { Draws (asked (map (λ w. w.now) words.now)) (S.left source.old) result (K.written sink.old) (K.written sink.new) }
+{
+    match asked(words) {
+        None => Status::Usage,
+        Some(kind) => draw_input(alloc, kind, source, sink),
+    }
+}
+
+// The form of the picture that the words ask for.
+fn asked(words: &[&str]) -> Option<Kind>
+    ensures { result ≡ asked (map (λ w. w.now) words.now) }
+{
+    match words {
+        [] => Some(Kind::Svg),
+        [word] if *word == "--mermaid" => Some(Kind::Mermaid),
+        _ => None,
+    }
+}
+
+fn draw_input<S: Source, K: Sink>(alloc: Global, kind: Kind, source: &mut S, sink: &mut K) -> Status
+    ensures asked { result ≢ Status.Usage }
+    ensures ending { IsEnding (S.fault_count source.old) (S.fault_count source.new) (K.fault_count sink.old) (K.fault_count sink.new) result }
+    ensures draws { Draws (Some kind) (S.left source.old) result (K.written sink.old) (K.written sink.new) }
+{
+    match picture_of(alloc, kind, source) {
+        Ok(picture) => write_picture(sink, picture.as_slice()),
+        Err(status) => status,
+    }
+}
+
+// The picture of all that the source has left.
+fn picture_of<S: Source>(alloc: Global, kind: Kind, source: &mut S) -> Result<Octets, Status>
+    ensures pictured { IfOk result (λ text. (bytes : List ℕ) → S.left source.old ≡ Some bytes → IsPicture kind bytes text) }
+    ensures stops { IfErr result (IsInputStop (S.left source.old) (S.fault_count source.old) (S.fault_count source.new)) }
+{
+    let bytes = read_all(alloc, source)?;
+    picture_of_bytes(alloc, kind, bytes.as_slice())
+}
+
+fn picture_of_bytes(alloc: Global, kind: Kind, bytes: &[u8]) -> Result<Octets, Status>
+    ensures pictured { IfOk result (IsPicture kind bytes.now) }
+    ensures stops { IfErr result (IsUnread bytes.now) }
+{
+    let lines = read_transcript(alloc, bytes)?;
+    let picture = draw(alloc, lines.as_slice(), kind)?;
+    Ok(picture)
+}
+
+fn write_picture<K: Sink>(sink: &mut K, text: &[u8]) -> Status
+    ensures { WritesText text.now (K.fault_count sink.old) (K.fault_count sink.new) (K.written sink.old) (K.written sink.new) result }
+{
+    match write_all(sink, text) {
+        Ok(()) => Status::Ok,
+        Err(_) => Status::WriteFault {
+            faults: sink.faults(),
+        },
+    }
+}
