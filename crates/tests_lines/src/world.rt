@@ -89,6 +89,8 @@ const NAMES: &[&str] = &[
     "crash a\n",
     "crash a at 1 fill 00 in purge 1\n",
     "image a\n",
+    "node 1 a\nauto 1 1\n",
+    "leave 1\n",
 ];
 
 /// Names that are taken or not there end the run.
@@ -97,16 +99,5 @@ fn names(rt: HostRuntime) {
     for schedule in NAMES {
         let fault = fault_of(rt.alloc(), schedule);
         assert!(rt; matches!(fault, Some(WorldFault::Name)), "{schedule}");
-    }
-}
-
-const UNBUILT: &[&str] = &["auto 1 1\n", "leave 1\n"];
-
-/// Lines of kinds that are not built end the run.
-#[test]
-fn unbuilt(rt: HostRuntime) {
-    for schedule in UNBUILT {
-        let fault = fault_of(rt.alloc(), schedule);
-        assert!(rt; matches!(fault, Some(WorldFault::Unbuilt)), "{schedule}");
     }
 }

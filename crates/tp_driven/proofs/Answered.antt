@@ -17,7 +17,7 @@ use Rattle.tp_model.specs.Transcript.{Put, answer_turn, line_request, puts_of}
 use Rattle.tp_members.specs.Expansion.{memberless}
 use Rattle.tp_members.proofs.Memberless.{turn_without, result_without, line_without}
 use Rattle.tp_world.specs.World.{Stands as WorldStands, PlaysAfter as WorldPlaysAfter}
-use Rattle.tp_world.specs.declared.fault.WorldFault.{WorldFault}
+use Rattle.tp_world_parts.specs.declared.fault.WorldFault.{WorldFault}
 use Rattle.tp_world.specs.declared.world.World.{World as CodeWorld}
 use Rattle.tp_driven.specs.Told.{told_in, puts_by, puts_in}
 use Rattle.tp_driven.specs.Members.{AreSame, AsksFor, AsksFrom, Gave, driver_in, silent}
@@ -60,9 +60,8 @@ pub runs_as_line : (b : ℕ) (w : World) (n : ℕ) (r : LineRequest) (ls mid aft
     → WorldPlaysAfter w (Line.Do n r) mid res after new → RunsAnswer b w n r ls res after new
 runs_as_line b w n r ls mid after (Ok u) new small is h =
     (h.0, answer_small b w n r small ∙ h.1 0, h.2 ∙ ap (λ (x : List OutLine). x ++ h.0.lines) is ∙ append_assoc ls (OutLine.Echo (line_text (Line.Do n r)) ∷ []) h.0.lines, h.3)
-runs_as_line b w n r ls mid after (Err WorldFault.Name) new small is h = answer_small b w n r small ∙ h 0
+runs_as_line b w n r ls mid after (Err WorldFault.Name) new small is h = answer_small b w n r small ∙ h 0 (λ _. refl)
 runs_as_line b w n r ls mid after (Err (WorldFault.Limit what)) new small is h = answer_small b w n r small ∙ h 0
-runs_as_line b w n r ls mid after (Err WorldFault.Unbuilt) new small is h = absurd cc
 runs_as_line b w n r ls mid after (Err WorldFault.NoMemory) new small is h = tt
 
 -- past the limit
@@ -191,7 +190,6 @@ module _ {M : Type 0} (allowed : M → List Answer → Type 0) (b : ℕ) (w : Wo
     fails : (f : WorldFault) (shown : List OutLine) (new : CodeWorld) → RunsAnswer b (memberless w) x.node (line_request x.request) ls (Err f) shown new → RunsNext allowed b w from ls (Err f) shown new xs ys fs
     fails WorldFault.Name shown new h = ends Name h
     fails (WorldFault.Limit what) shown new h = ends (Over what) h
-    fails WorldFault.Unbuilt shown new h = absurd h
     fails WorldFault.NoMemory shown new h = tt
 
     -- however the answer is named
@@ -241,7 +239,6 @@ module _ {M : Type 0} (allowed : M → List Answer → Type 0) (w : World) (from
     all_failed : (f : WorldFault) → RunsNext allowed b so.world i mid (Err f) shown new ys zs fs → RunsAll allowed w from ls (Err f) shown new xs zs fs
     all_failed WorldFault.Name h = all_ended Name h
     all_failed (WorldFault.Limit what) h = all_ended (Over what) h
-    all_failed WorldFault.Unbuilt h = absurd h
     all_failed WorldFault.NoMemory h = tt
 
     -- however the last one is named

@@ -16,9 +16,8 @@ use Rattle.tp_model.specs.Trees.{closing}
 use Rattle.tp_model.specs.Transcript.{Put, answered, echo, is_silent, puts_of}
 use Rattle.tp_members.specs.Expansion.{memberless}
 use Rattle.tp_members.proofs.Memberless.{line_without}
-use Rattle.tp_world.specs.Built.{is_built}
 use Rattle.tp_world.specs.World.{Stands as WorldStands, PlaysAfter as WorldPlaysAfter}
-use Rattle.tp_world.specs.declared.fault.WorldFault.{WorldFault}
+use Rattle.tp_world_parts.specs.declared.fault.WorldFault.{WorldFault}
 use Rattle.tp_world.specs.declared.world.World.{World as CodeWorld}
 use Rattle.tp_driven.specs.Told.{puts_by, puts_in}
 use Rattle.tp_driven.specs.Members.{is_there, slot_at, now_driven, HasLeft, Gave}
@@ -34,26 +33,6 @@ use Rattle.tp_driven.proofs.Running.{puts_are, played_line, ended_line, ended_by
 use Rattle.tp_driven.proofs.Answered.{IsWith, with_members, fault_with}
 
 -- ---- a line that is shown
-
--- the world without members plays it
-all_built : (l : Line) → is_silent l ≡ false → is_built l ≡ false → ⊥
-all_built (Line.Node n s u) h e = absurd cc
-all_built (Line.Do n r) h e = absurd cc
-all_built (Line.Pass a b) h e = absurd cc
-all_built (Line.Skip a b) h e = absurd cc
-all_built (Line.Again j) h e = absurd cc
-all_built Line.Drain h e = absurd cc
-all_built (Line.Lose n p) h e = absurd cc
-all_built (Line.Heur n o) h e = absurd cc
-all_built (Line.GiveUp n p) h e = absurd cc
-all_built (Line.Retry n) h e = absurd cc
-all_built (Line.Purge n) h e = absurd cc
-all_built (Line.Crash s) h e = absurd cc
-all_built (Line.CrashIn s j x l) h e = absurd cc
-all_built (Line.Show n) h e = absurd cc
-all_built (Line.Image s) h e = absurd cc
-all_built (Line.Auto n j) h e = absurd cc
-all_built (Line.Leave j) h e = absurd cc
 
 drop_front : {A : Type 0} (xs ys : List A) → drop (length xs) (xs ++ ys) ≡ ys
 drop_front [] ys = refl
@@ -92,7 +71,6 @@ module _ {M : Type 0} (allowed : M → List Answer → Type 0) (w : World) (l : 
     by_answers from (Ok u) queue h = all_run refl from queue h
     by_answers from (Err WorldFault.Name) queue h = one_ended Name from queue h
     by_answers from (Err (WorldFault.Limit what)) queue h = one_ended (Over what) from queue h
-    by_answers from (Err WorldFault.Unbuilt) queue h = absurd h
     by_answers from (Err WorldFault.NoMemory) queue h = tt
 
   pub line_answered : (before mid after : List OutLine) (from : ℕ) (r : Result (Unit {0}) WorldFault) (between : CodeWorld) → is_silent l ≡ false → Stands w old → from ≡ length before
@@ -122,9 +100,8 @@ module _ {M : Type 0} (allowed : M → List Answer → Type 0) (w : World) (l : 
           (ended_by_line allowed (members_of old) k w l g (fault_with (line k w l) g (sym (line_without k w l shown) ∙ h)))
 
       go : (f : WorldFault) → WorldPlaysAfter (memberless w) l before (Err f) mid between → PlaysAfter allowed w l before (Err f) after old new
-      go WorldFault.Name h = ended_by Name (h 0)
+      go WorldFault.Name h = ended_by Name (h 0 (λ _. refl))
       go (WorldFault.Limit what) h = ended_by (Over what) (h 0)
-      go WorldFault.Unbuilt h = absurd (all_built l shown h)
       go WorldFault.NoMemory h = tt
 
   -- ---- a line that speaks of members
@@ -193,7 +170,6 @@ module _ {M : Type 0} (allowed : M → List Answer → Type 0) (w : World) (l : 
   pub any_lines : (before after first last : List OutLine) (f : WorldFault) → PlaysAfter allowed w l before (Err f) after old new → PlaysAfter allowed w l first (Err f) last old new
   any_lines before after first last WorldFault.Name h = h
   any_lines before after first last (WorldFault.Limit what) h = h
-  any_lines before after first last WorldFault.Unbuilt h = h
   any_lines before after first last WorldFault.NoMemory h = tt
 
   -- the echo stands before

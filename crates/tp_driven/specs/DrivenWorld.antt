@@ -1,12 +1,12 @@
 -- How a driven world of the code stands for a world of the definitions, and what a line does in it.
-use Rattle.std.specs.Prelude.{◌≡◌, ◌++◌, Bool, false, Option, List, [], length, Result, Ok, Err}
+use Rattle.std.specs.Prelude.{◌≡◌, ◌++◌, Bool, Option, List, [], length, Result, Ok, Err}
 use Rattle.tp_records.specs.Answers.{Answer}
 use Rattle.tp_model.specs.declared.line.Line.{Line}
 use Rattle.tp_model.specs.declared.out_line.OutLine.{OutLine}
 use Rattle.tp_model.specs.World.{World}
 use Rattle.tp_model.specs.Lines.{Name, Over}
 use Rattle.tp_model.specs.Transcript.{echo}
-use Rattle.tp_world.specs.declared.fault.WorldFault.{WorldFault}
+use Rattle.tp_world_parts.specs.declared.fault.WorldFault.{WorldFault}
 use Rattle.tp_driven.specs.Answers.{IsPlayed, IsEnded}
 use Rattle.tp_driven.specs.Running.{StandsWith}
 use Rattle.tp_driven.specs.declared.driven_world.DrivenWorld.{DrivenWorld}
@@ -36,7 +36,6 @@ abbrev pub PlaysAfter : {M : Type 0} → (M → List Answer → Type 0) → Worl
 PlaysAfter allowed w l before (Ok u) after old new = PlaysOut allowed w l before after old new
 PlaysAfter allowed w l before (Err WorldFault.Name) after old new = IsEnded allowed (members_of old) (members_of new) (length (members_of old)) w l Name
 PlaysAfter allowed w l before (Err (WorldFault.Limit what)) after old new = IsEnded allowed (members_of old) (members_of new) (length (members_of old)) w l (Over what)
-PlaysAfter allowed w l before (Err WorldFault.Unbuilt) after old new = ⊥
 PlaysAfter allowed w l before (Err WorldFault.NoMemory) after old new = Unit {0}
 
 -- it shows its echo first

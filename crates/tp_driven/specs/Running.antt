@@ -11,7 +11,7 @@ use Rattle.tp_model.specs.Lines.{Name, Over}
 use Rattle.tp_model.specs.Transcript.{Put, answer_turn}
 use Rattle.tp_members.specs.Expansion.{memberless}
 use Rattle.tp_world.specs.World.{Stands as WorldStands}
-use Rattle.tp_world.specs.declared.fault.WorldFault.{WorldFault}
+use Rattle.tp_world_parts.specs.declared.fault.WorldFault.{WorldFault}
 use Rattle.tp_world.specs.declared.world.World.{World as CodeWorld}
 use Rattle.tp_driven.specs.Told.{puts_in}
 use Rattle.tp_driven.specs.Answers.{HaveRun, HaveEnded}
@@ -23,7 +23,6 @@ RunsAnswer before w n r lines (Ok u) shown new =
     (t : Turn) × (answer_turn before w n r ≡ Ok t) × (shown ≡ lines ++ OutLine.Echo (line_text (Line.Do n r)) ∷ t.lines) × WorldStands t.world new
 RunsAnswer before w n r lines (Err WorldFault.Name) shown new = answer_turn before w n r ≡ Err Name
 RunsAnswer before w n r lines (Err (WorldFault.Limit what)) shown new = answer_turn before w n r ≡ Err (Over what)
-RunsAnswer before w n r lines (Err WorldFault.Unbuilt) shown new = ⊥
 RunsAnswer before w n r lines (Err WorldFault.NoMemory) shown new = Unit {0}
 
 -- what waits in the world, where the lines from that place on are the queue
@@ -57,12 +56,10 @@ RunsNext allowed before w from lines (Ok None) shown new xs ys fs = RunsOut allo
 RunsNext allowed before w from lines (Ok (Some next)) shown new xs ys fs = (before < 4096) × RunsOn allowed before w from lines (suc before) next shown new xs ys fs
 RunsNext allowed before w from lines (Err WorldFault.Name) shown new xs ys fs = HaveEnded allowed xs ys before w (waits w lines from) Name
 RunsNext allowed before w from lines (Err (WorldFault.Limit what)) shown new xs ys fs = HaveEnded allowed xs ys before w (waits w lines from) (Over what)
-RunsNext allowed before w from lines (Err WorldFault.Unbuilt) shown new xs ys fs = ⊥
 RunsNext allowed before w from lines (Err WorldFault.NoMemory) shown new xs ys fs = Unit {0}
 
 abbrev pub RunsAll : {M : Type 0} → (M → List Answer → Type 0) → World → ℕ → List OutLine → Result (Unit {0}) WorldFault → List OutLine → CodeWorld → List (Option M) → List (Option M) → List (ℕ × ℕ) → Type 0
 RunsAll allowed w from lines (Ok u) shown new xs ys fs = RunsOut allowed 0 w from lines shown new xs ys fs
 RunsAll allowed w from lines (Err WorldFault.Name) shown new xs ys fs = HaveEnded allowed xs ys 0 w (waits w lines from) Name
 RunsAll allowed w from lines (Err (WorldFault.Limit what)) shown new xs ys fs = HaveEnded allowed xs ys 0 w (waits w lines from) (Over what)
-RunsAll allowed w from lines (Err WorldFault.Unbuilt) shown new xs ys fs = ⊥
 RunsAll allowed w from lines (Err WorldFault.NoMemory) shown new xs ys fs = Unit {0}

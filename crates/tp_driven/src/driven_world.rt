@@ -12,7 +12,7 @@ use std::alloc::Global;
 use tp_model::{Line, OutLines};
 use tp_names::NoMemory;
 use tp_records::Member;
-use tp_world::{World, WorldFault};
+use tp_world::{World, WorldFault, is_silent};
 
 /// A world of nodes under a written schedule, with the members that were handed in, numbered from 1. Members are changed by
 /// being told alone, and one that is dropped is dropped in its line. Members of several kinds are an enum of the caller.
@@ -21,13 +21,6 @@ pub struct DrivenWorld<M> {
     world: World,
     members: Members<M>,
     ended: bool,
-}
-
-/// The line speaks of members, and nothing is shown of it.
-pub fn is_silent(line: &Line) -> bool
-    ensures { result ≡ is_silent line.now }
-{
-    matches!(line, Line::Auto { .. } | Line::Leave { .. })
 }
 
 impl<M: Member> DrivenWorld<M> {

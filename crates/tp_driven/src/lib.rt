@@ -7,4 +7,5 @@ mod driven_world;
 mod members;
 mod requests;
 
-pub use driven_world::{DrivenWorld, is_silent};
+pub use driven_world::DrivenWorld;
+pub use tp_world::is_silent;

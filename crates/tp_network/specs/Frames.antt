@@ -1,13 +1,14 @@
 -- The frames of a world as the code keeps them, and those of the definitions that they are.
 use Rattle.std.specs.Prelude.{ℕ, suc, ◌≡◌, ◌≤◌, ◌==◌, ◌&&◌, Bool, Option, Some, None, List, [], ◌∷◌, map, length, if◌then◌else◌}
 use Rattle.tp_model.specs.World.{Frame as FrameValue, mark_handed}
+use Rattle.tp_network.specs.FrameRecord.{record_of}
 use Rattle.tp_network.specs.Waiting.{queue_at, waiting_from}
 use Rattle.tp_network.specs.declared.fault.SendFault.{SendFault}
 use Rattle.tp_network.specs.declared.frames.Frame.{Frame}
 use Rattle.tp_network.specs.declared.frames.Frames.TheInside.{Inside}
 
 abbrev pub frame_of : Frame → FrameValue
-frame_of f = record { from = f.from; to = f.to; rec = f.rec; handed = f.handed }
+frame_of f = record { from = f.from; to = f.to; rec = record_of f.rec; handed = f.handed }
 
 abbrev pub frames_of : Inside → List FrameValue
 frames_of v = map frame_of v.items.items

@@ -5,6 +5,7 @@ ghost use Rattle.tp_model.specs.World.{find_frame, mark_handed, oldest_from};
 ghost use Rattle.tp_network.specs.Frames.{frame_of, handed_over, is_between, leading, IsFull};
 
 use crate::fault::SendFault;
+use crate::frame_record::FrameRecord;
 use crate::waiting::Waiting;
 use std::alloc::Global;
 use std::marker::Model;
@@ -19,7 +20,7 @@ const MOST_FRAMES: usize = 65535;
 pub struct Frame {
     pub from: Addr,
     pub to: Addr,
-    pub rec: PeerRecord,
+    pub rec: FrameRecord,
     pub handed: bool,
 }
 
@@ -136,7 +137,7 @@ impl Frames {
         let frame = Frame {
             from,
             to,
-            rec,
+            rec: FrameRecord::of(alloc, rec)?,
             handed: false,
         };
         self.push(alloc, number, frame)?;

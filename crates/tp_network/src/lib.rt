@@ -5,6 +5,7 @@
 #![tactic(auto)]
 
 mod fault;
+mod frame_record;
 mod frames;
 mod nodes;
 mod queue;
@@ -15,6 +16,7 @@ mod tree_summary;
 mod waiting;
 
 pub use fault::SendFault;
+pub use frame_record::{DialogueWord, FrameRecord};
 pub use frames::{Frame, Frames};
 pub use nodes::{NodeSlot, Nodes};
 pub use tree_outcomes::{OutcomesByTree, TreeOutcomes};

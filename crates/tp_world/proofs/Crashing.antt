@@ -22,23 +22,24 @@ use Rattle.tp_journal.specs.declared.faults.ForceFault.TheVariants as force
 use Rattle.tp_model.specs.History.{digest}
 use Rattle.tp_site.specs.Site.{IsStarted, IsUnstarted, known_at}
 use Rattle.tp_site.specs.State.{tree_in}
-use Rattle.tp_world.specs.Slots.{standing}
+use Rattle.tp_world_parts.specs.Slots.{standing}
 use Rattle.tp_network.specs.declared.nodes.NodeSlot.{NodeSlot}
-use Rattle.tp_world.specs.declared.fault.WorldFault.{WorldFault}
-use Rattle.tp_world.specs.declared.site_slot.SiteSlot.{SiteSlot}
+use Rattle.tp_world_parts.specs.declared.fault.WorldFault.{WorldFault}
+use Rattle.tp_world_parts.specs.declared.site_slot.SiteSlot.{SiteSlot}
 use Rattle.tp_world.specs.declared.world.World.{World as CodeWorld}
-use Rattle.tp_world.specs.declared.restart.LostEntry.{LostEntry}
-use Rattle.tp_world.specs.Restarts.{stopped, as_it_is, turned_at, restarted_to, tree_before, IsStartable, StartsOn, IsStopped, IsRestartedTo}
-use Rattle.tp_world.specs.Sites.{IsSite, AreSites, KnowNodes, find_site_slot, place_of_site, known_by, unknown_at}
-use Rattle.tp_world.specs.World.{SitesStand, RestStands, Mirrors, Gives, AreNodes, are_apart, is_placed}
+use Rattle.tp_world_parts.specs.declared.restart.LostEntry.{LostEntry}
+use Rattle.tp_world_parts.specs.Restarts.{stopped, as_it_is, turned_at, restarted_to, tree_before, IsStartable, StartsOn, IsStopped, IsRestartedTo}
+use Rattle.tp_world_parts.specs.Sites.{IsSite, AreSites, KnowNodes, find_site_slot, place_of_site, known_by, unknown_at}
+use Rattle.tp_world_parts.specs.Standing.{SitesStand, RestStands, AreNodes, are_apart, is_placed}
+use Rattle.tp_world.specs.World.{Mirrors, Gives}
 use Rattle.tp_world.proofs.Booting.{startable, boot_over, site_next, knows_stopped}
-use Rattle.tp_world.proofs.Found.{AreThere, placed_there, put_site_there}
-use Rattle.tp_world.proofs.Known.{known_here, known_elsewhere}
+use Rattle.tp_world_parts.proofs.Found.{AreThere, placed_there, put_site_there}
+use Rattle.tp_world_parts.proofs.Known.{known_here, known_elsewhere}
 use Rattle.tp_world.proofs.Limits.{not_full, within_all, within_log, gives_ok, gives_limit}
-use Rattle.tp_world.proofs.Newcomers.{some_there}
-use Rattle.tp_world.proofs.SiteLists.{IsFound, both_found, are_put, full_put, site_name}
-use Rattle.tp_world.proofs.SiteNames.{slot_found, slot_put}
-use Rattle.tp_world.proofs.Turned.{turned_here, turned_there, apart_to, find_turned, none_turned, all_turned, all_restarted}
+use Rattle.tp_world_parts.proofs.Newcomers.{some_there}
+use Rattle.tp_world_parts.proofs.SiteLists.{IsFound, both_found, are_put, full_put, site_name}
+use Rattle.tp_world_parts.proofs.SiteNames.{slot_found, slot_put}
+use Rattle.tp_world_parts.proofs.Turned.{turned_here, turned_there, apart_to, find_turned, none_turned, all_turned, all_restarted}
 
 -- ---- the site at the place of the name
 
@@ -261,5 +262,4 @@ module _ (w : World) (s : List ℕ) (xs : List SiteSlot) (ns0 : List NodeSlot) (
   pub gives_fault : (f : WorldFault) (before after : List OutLine) (new : CodeWorld) → StartsOn x.site.keeper x.site.nodes.site (Err f) → Gives (within_limits (crash_turn w s)) before (Err f) after new
   gives_fault WorldFault.Name before after new h = absurd h
   gives_fault (WorldFault.Limit what) before after new h = subst (λ (q : What). Gives (within_limits (crash_turn w s)) before (Err (WorldFault.Limit q)) after new) (sym h.0) (gives_full before after new h.1 h.2 h.3)
-  gives_fault WorldFault.Unbuilt before after new h = absurd h
   gives_fault WorldFault.NoMemory before after new h = tt

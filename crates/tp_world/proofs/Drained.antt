@@ -7,8 +7,9 @@ use Rattle.tp_model.specs.Happenings.{Mark, Turn, Told, happens, still}
 use Rattle.tp_model.specs.Lines.{Fault, within_limits, shows, then_turn, then_result, drain_line}
 use Rattle.tp_network.specs.Frames.{is_between}
 use Rattle.tp_world.specs.Drains.{handed, Hands, IsDrained}
-use Rattle.tp_world.specs.World.{AreNodes, SitesStand, Mirrors, Gives}
-use Rattle.tp_world.specs.declared.fault.WorldFault.{WorldFault}
+use Rattle.tp_world_parts.specs.Standing.{AreNodes, SitesStand}
+use Rattle.tp_world.specs.World.{Mirrors, Gives}
+use Rattle.tp_world_parts.specs.declared.fault.WorldFault.{WorldFault}
 use Rattle.tp_world.specs.declared.world.World.{World as CodeWorld}
 use Rattle.tp_world.proofs.Limits.{Given, given}
 
@@ -128,7 +129,6 @@ drained_last w most done before lines v u over d =
 breaks_gives : (w : World) (most : ℕ) (t : Turn) (n k : ℕ) (f : WorldFault) (before lines after : List OutLine) (new : CodeWorld) (r : Result Turn Fault) → drain_line most w ≡ then_result t (drain_line (suc n) t.world) → oldest_of_all t.world ≡ Some k
     → within_limits (handed t.world k) ≡ r → Gives r lines (Err f) after new → Gives (drain_line most w) before (Err f) after new
 breaks_gives w most t n k WorldFault.NoMemory before lines after new r e o i h = tt
-breaks_gives w most t n k WorldFault.Unbuilt before lines after new r e o i h = absurd h
 breaks_gives w most t n k WorldFault.Name before lines after new (Ok x) e o i h = absurd h
 breaks_gives w most t n k (WorldFault.Limit what) before lines after new (Ok x) e o i h = absurd h
 breaks_gives w most t n k WorldFault.Name before lines after new (Err g) e o i h =

@@ -7,10 +7,10 @@ use Rattle.tp_model.specs.declared.verdict.What.{What}
 use Rattle.tp_model.specs.World.{Site}
 use Rattle.tp_model.specs.Happenings.{Turn}
 use Rattle.tp_model.specs.Lines.{Fault, Name, Over, is_full, within_limits}
-use Rattle.tp_world.specs.Sites.{AreSites}
+use Rattle.tp_world_parts.specs.Sites.{AreSites}
 use Rattle.tp_world.specs.World.{Mirrors, Gives}
-use Rattle.tp_world.specs.declared.fault.WorldFault.{WorldFault}
-use Rattle.tp_world.specs.declared.site_slot.SiteSlot.{SiteSlot}
+use Rattle.tp_world_parts.specs.declared.fault.WorldFault.{WorldFault}
+use Rattle.tp_world_parts.specs.declared.site_slot.SiteSlot.{SiteSlot}
 use Rattle.tp_world.specs.declared.world.World.{World as CodeWorld}
 
 pub not_full : (ss : List Site) (xs : List SiteSlot) → AreSites ss xs → is_full ss ≡ false

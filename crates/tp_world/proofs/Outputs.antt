@@ -7,7 +7,7 @@ use Rattle.tp_model.specs.Parts.{Out}
 use Rattle.tp_model.specs.World.{Frame}
 use Rattle.tp_model.specs.Happenings.{out_lines, frames_of}
 use Rattle.tp_world.specs.Settled.{AreGiven, GivesOuts}
-use Rattle.tp_world.specs.declared.fault.WorldFault.{WorldFault}
+use Rattle.tp_world_parts.specs.declared.fault.WorldFault.{WorldFault}
 use Rattle.tp_world.specs.declared.world.World.{World as CodeWorld}
 
 -- one, and then the rest
@@ -90,5 +90,4 @@ pub going_fault : (from : Addr) (o : Out) (outs some rest : List Out) (before li
     → AreGoing from outs some before lines old now → GivesOuts from (o ∷ []) lines (Err f) after now new → GivesOuts from outs before (Err f) after old last
 going_fault from o outs some rest before lines after old now new last WorldFault.Name e g h = absurd h
 going_fault from o outs some rest before lines after old now new last (WorldFault.Limit what) e g h = (h.0, going_past from o outs some rest before lines old now e g h.1)
-going_fault from o outs some rest before lines after old now new last WorldFault.Unbuilt e g h = absurd h
 going_fault from o outs some rest before lines after old now new last WorldFault.NoMemory e g h = tt

@@ -11,12 +11,13 @@ use Rattle.tp_model.specs.World.{World, Node, Frame, number_of, site_of, addr_of
 use Rattle.tp_model.specs.Happenings.{Turn, entry_turn, entered, logged, log_lines, log_shown, refused_lines, out_lines, frames_of, after_lines}
 use Rattle.tp_model.specs.Lines.{within_limits, is_full}
 use Rattle.tp_world.specs.Settled.{forced_lines, entry_lines, SettlesSome}
-use Rattle.tp_world.specs.World.{Mirrors, SitesStand, AreNodes, IsEntry, after_entry, Gives}
-use Rattle.tp_world.specs.declared.fault.WorldFault.{WorldFault}
+use Rattle.tp_world_parts.specs.Standing.{SitesStand, AreNodes, IsEntry, after_entry}
+use Rattle.tp_world.specs.World.{Mirrors, Gives}
+use Rattle.tp_world_parts.specs.declared.fault.WorldFault.{WorldFault}
 use Rattle.tp_network.specs.declared.tree_summary.TreeChange.{TreeChange}
-use Rattle.tp_world.specs.declared.site_slot.Entry.{Entry}
+use Rattle.tp_world_parts.specs.declared.site_slot.Entry.{Entry}
 use Rattle.tp_world.specs.declared.world.World.{World as CodeWorld}
-use Rattle.tp_world.proofs.Entered.{change_by}
+use Rattle.tp_world_parts.proofs.Entered.{change_by}
 use Rattle.tp_world.proofs.EntryTurns.{IsBehind, turn_world, stands_behind, logged_frames}
 use Rattle.tp_world.proofs.Limits.{not_full, within_all, within_frames, within_log, gives_ok, gives_limit}
 
@@ -64,7 +65,6 @@ none_gives w n dl before first after number (Ok u) old mid new h e s =
     (subst (λ (v : CodeWorld). Mirrors w v) (sym s.0) now)
 none_gives w n dl before first after number (Err WorldFault.Name) old mid new h e s = absurd s
 none_gives w n dl before first after number (Err (WorldFault.Limit what)) old mid new h e s = absurd s
-none_gives w n dl before first after number (Err WorldFault.Unbuilt) old mid new h e s = absurd s
 none_gives w n dl before first after number (Err WorldFault.NoMemory) old mid new h e s = tt
 
 -- ---- with one
@@ -125,7 +125,6 @@ some_gives w n e x dl before first after number (Err (WorldFault.Limit what)) ol
     let past : 65535 < length t.world.frames = subst (λ (k : ℕ). 65535 < k) count s.1 in
     subst (λ (q : What). Gives (within_limits t) before (Err (WorldFault.Limit q)) after new) (sym s.0)
     (gives_limit (within_limits t) What.Frames before after new (within_frames t (not_full v.sites mid.sites.items h.sites.sites) past))
-some_gives w n e x dl before first after number (Err WorldFault.Unbuilt) old mid new h start s = absurd s
 some_gives w n e x dl before first after number (Err WorldFault.NoMemory) old mid new h start s = tt
 
 pub answer_gives : (w : World) (n : Node) (ent : Option EntryValue) (x : Option Entry) (dl before first after : List OutLine) (number : Option ℕ) (r : Result (Unit {0}) WorldFault) (old mid new : CodeWorld)

@@ -26,28 +26,30 @@ use Rattle.tp_site.specs.Site.{known_at}
 use Rattle.tp_site.specs.State.{tree_in}
 use Rattle.tp_network.specs.Nodes.{AreChanged}
 use Rattle.tp_network.specs.declared.tree_summary.TreeChange.{TreeChange}
-use Rattle.tp_world.specs.Left.{IsReadable, LeavesBy}
-use Rattle.tp_world.specs.declared.left.Stop.{Stop}
+use Rattle.tp_world_parts.specs.Left.{IsReadable, LeavesBy}
+use Rattle.tp_world_parts.specs.declared.left.Stop.{Stop}
 use Rattle.tp_outside.specs.Story.{seen}
 use Rattle.tp_journal.specs.Log.{StandsFor}
-use Rattle.tp_world.specs.Restarts.{tree_before, IsOpened, Opens, HasStoppedAs}
+use Rattle.tp_world_parts.specs.Restarts.{tree_before, IsOpened, Opens}
+use Rattle.tp_world.specs.Halts.{HasStoppedAs}
 use Rattle.tp_world.specs.Settled.{tree_started, IsEntered}
-use Rattle.tp_world.specs.Sites.{IsLogged, place_of_site}
+use Rattle.tp_world_parts.specs.Sites.{IsLogged, place_of_site}
 use Rattle.tp_world.specs.Stops.{HasPlayed}
-use Rattle.tp_world.specs.World.{SitesStand, RestStands, Mirrors, Gives, after_entry}
-use Rattle.tp_world.specs.declared.fault.WorldFault.{WorldFault}
-use Rattle.tp_world.specs.declared.site_slot.Entry.{Entry}
-use Rattle.tp_world.specs.declared.site_slot.SiteSlot.{SiteSlot}
+use Rattle.tp_world_parts.specs.Standing.{SitesStand, RestStands, after_entry}
+use Rattle.tp_world.specs.World.{Mirrors, Gives}
+use Rattle.tp_world_parts.specs.declared.fault.WorldFault.{WorldFault}
+use Rattle.tp_world_parts.specs.declared.site_slot.Entry.{Entry}
+use Rattle.tp_world_parts.specs.declared.site_slot.SiteSlot.{SiteSlot}
 use Rattle.tp_world.specs.declared.world.World.{World as CodeWorld}
 use Rattle.tp_world.proofs.Booting.{slot_on}
 use Rattle.tp_world.proofs.Crashing.{IsThere, place_there, same_index}
-use Rattle.tp_world.proofs.Entered.{change_by}
+use Rattle.tp_world_parts.proofs.Entered.{change_by}
 use Rattle.tp_world.proofs.EntryTurns.{rest_entered}
-use Rattle.tp_world.proofs.Found.{AreThere, each_placed, put_site_there}
+use Rattle.tp_world_parts.proofs.Found.{AreThere, each_placed, put_site_there}
 use Rattle.tp_world.proofs.Halted.{stood_there, set_again, slot_stands, stopped_as_it_is}
-use Rattle.tp_world.proofs.Logs.{at_pushed}
-use Rattle.tp_world.proofs.Remaining.{stands_for_records, IsKept, IsLost, kept_or_lost, place_is, texts_before, text_last, remains_readable}
-use Rattle.tp_world.proofs.SiteLists.{site_name}
+use Rattle.tp_world_parts.proofs.Logs.{at_pushed}
+use Rattle.tp_world_parts.proofs.Remaining.{stands_for_records, IsKept, IsLost, kept_or_lost, place_is, texts_before, text_last, remains_readable}
+use Rattle.tp_world_parts.proofs.SiteLists.{site_name}
 use Rattle.tp_world.proofs.StopTells.{IsLike, put_tells, put_starts, find_put_site}
 
 -- ---- the journal on what is left
@@ -304,13 +306,11 @@ module _ (w : World) (s : List ℕ) (z : Site) (n : Node) (e : EntryValue) (r : 
 pub left_fails : (stop : Stop) (r : LogRec) (d : Disk) (f : WorldFault) (q : Result Turn Fault) (before after : List OutLine) (v : CodeWorld) → LeavesBy stop r d (Err f) → Gives q before (Err f) after v
 left_fails stop r d WorldFault.Name q before after v h = absurd h
 left_fails stop r d (WorldFault.Limit what) q before after v h = absurd h
-left_fails stop r d WorldFault.Unbuilt q before after v h = absurd h
 left_fails stop r d WorldFault.NoMemory q before after v h = tt
 
 pub opens_fails : (file : List ℕ) (rs : List LogRec) (f : WorldFault) (q : Result Turn Fault) (before after : List OutLine) (v : CodeWorld) → Opens file rs (Err f) → Gives q before (Err f) after v
 opens_fails file rs WorldFault.Name q before after v h = absurd h
 opens_fails file rs (WorldFault.Limit what) q before after v h = absurd h
-opens_fails file rs WorldFault.Unbuilt q before after v h = absurd h
 opens_fails file rs WorldFault.NoMemory q before after v h = tt
 
 -- ---- the entry that the history gains

@@ -25,25 +25,26 @@ use Rattle.tp_laws.proofs.EveryLog.{disks_tell}
 use Rattle.tp_laws.proofs.LineRuns.{of_run}
 use Rattle.tp_laws.proofs.NextStart.{disks_start}
 use Rattle.tp_site.specs.Site.{known_at}
-use Rattle.tp_world.specs.Sites.{known_by, unknown_at, place_of_site}
-use Rattle.tp_world.specs.Slots.{SlotPlays, SlotAnswers}
+use Rattle.tp_world_parts.specs.Sites.{known_by, unknown_at, place_of_site}
+use Rattle.tp_world_parts.specs.Slots.{SlotPlays, SlotAnswers}
 use Rattle.tp_world.specs.Stops.{StopsIn, HasPlayed, forced_by, stop_by, stop_judged, stop_deed, stop_named}
-use Rattle.tp_world.specs.World.{Mirrors, SitesStand, Gives, RestStands, PlaysAt, after_entry, entry_answered}
-use Rattle.tp_world.specs.declared.fault.WorldFault.{WorldFault}
-use Rattle.tp_world.specs.declared.site_slot.Answer.{Answer}
-use Rattle.tp_world.specs.declared.site_slot.Entry.{Entry}
-use Rattle.tp_world.specs.declared.site_slot.SiteSlot.{SiteSlot}
+use Rattle.tp_world_parts.specs.Standing.{SitesStand, RestStands, PlaysAt, after_entry, entry_answered}
+use Rattle.tp_world.specs.World.{Mirrors, Gives}
+use Rattle.tp_world_parts.specs.declared.fault.WorldFault.{WorldFault}
+use Rattle.tp_world_parts.specs.declared.site_slot.Answer.{Answer}
+use Rattle.tp_world_parts.specs.declared.site_slot.Entry.{Entry}
+use Rattle.tp_world_parts.specs.declared.site_slot.SiteSlot.{SiteSlot}
 use Rattle.tp_world.specs.declared.world.World.{World as CodeWorld}
 use Rattle.tp_world.proofs.Crashing.{IsThere, place_there}
-use Rattle.tp_world.proofs.Entered.{legal_found}
-use Rattle.tp_world.proofs.Found.{find_is, find_self, placed_found}
-use Rattle.tp_world.proofs.Grown.{answered_legal}
+use Rattle.tp_world_parts.proofs.Entered.{legal_found}
+use Rattle.tp_world_parts.proofs.Found.{find_is, find_self, placed_found}
+use Rattle.tp_world_parts.proofs.Grown.{answered_legal}
 use Rattle.tp_world.proofs.Halted.{place_put}
-use Rattle.tp_world.proofs.Known.{known_here}
+use Rattle.tp_world_parts.proofs.Known.{known_here}
 use Rattle.tp_world.proofs.Limits.{not_full}
-use Rattle.tp_world.proofs.Placed.{plays_at}
+use Rattle.tp_world_parts.proofs.Placed.{plays_at}
 use Rattle.tp_world.proofs.Resolved.{gives_named}
-use Rattle.tp_world.proofs.SiteLists.{site_name}
+use Rattle.tp_world_parts.proofs.SiteLists.{site_name}
 use Rattle.tp_network.specs.Nodes.{address_at}
 use Rattle.tp_world.proofs.Stood.{address_stood}
 use Rattle.tp_world.proofs.StopTells.{happens_on, event_tells, event_starts}
@@ -145,7 +146,6 @@ module _ (w : World) (s : List ℕ) (z : Site) (place : ℕ) (v : CodeWorld) (st
       go (WorldFault.Limit what) i =
           subst (λ (q : What). Gives (stop_judged w s z call fill (record { node = n; event = e })) before (Err (WorldFault.Limit q)) after new) (sym i.0)
           (judged_full w s z n e stops.site here call fill before after new (not_full w.sites xs stand.sites) i.1)
-      go WorldFault.Unbuilt i = absurd i
       go WorldFault.NoMemory i = tt
 
   pub play_stops : (a : Answer) (call fill : ℕ) (r : Result (Unit {0}) WorldFault) (before after : List OutLine) (new : CodeWorld) → SlotPlays x (number_of n) e (Ok a) y

@@ -13,10 +13,11 @@ use Rattle.tp_model.specs.Lines.{Fault, Over, has_room, is_full, log_size, most_
 use Rattle.tp_model.specs.Parts.{Event, Entry as EntryValue}
 use Rattle.tp_model.specs.World.{World, Node, Site, find_site, put_site, site_of}
 use Rattle.tp_world.specs.Stops.{forced_in, stop_judged, stop_deed}
-use Rattle.tp_world.specs.World.{Gives, after_entry, entry_answered}
-use Rattle.tp_world.specs.declared.fault.WorldFault.{WorldFault}
+use Rattle.tp_world_parts.specs.Standing.{after_entry, entry_answered}
+use Rattle.tp_world.specs.World.{Gives}
+use Rattle.tp_world_parts.specs.declared.fault.WorldFault.{WorldFault}
 use Rattle.tp_world.specs.declared.world.World.{World as CodeWorld}
-use Rattle.tp_world.proofs.SiteLists.{full_put, site_name}
+use Rattle.tp_world_parts.proofs.SiteLists.{full_put, site_name}
 
 -- ---- lines that are shown first
 
@@ -25,7 +26,6 @@ pub fault_same : (f : Fault) (r : Result (Unit {0}) WorldFault) (first before af
 fault_same f (Ok u) first before after v h = absurd h
 fault_same f (Err WorldFault.Name) first before after v h = h
 fault_same f (Err (WorldFault.Limit what)) first before after v h = h
-fault_same f (Err WorldFault.Unbuilt) first before after v h = absurd h
 fault_same f (Err WorldFault.NoMemory) first before after v h = tt
 
 -- what a `?` hands on, of another name of the same result
@@ -37,7 +37,6 @@ turn_behind : (ls : List OutLine) (t : Turn) (r : Result (Unit {0}) WorldFault) 
 turn_behind ls t (Ok u) before first after v start h = (h.0 ∙ ap (λ (l : List OutLine). l ++ t.lines) start ∙ append_assoc before ls t.lines, h.1)
 turn_behind ls t (Err WorldFault.Name) before first after v start h = absurd h
 turn_behind ls t (Err (WorldFault.Limit what)) before first after v start h = absurd h
-turn_behind ls t (Err WorldFault.Unbuilt) before first after v start h = absurd h
 turn_behind ls t (Err WorldFault.NoMemory) before first after v start h = tt
 
 pub gives_behind : (ls : List OutLine) (t : Turn) (r : Result (Unit {0}) WorldFault) (before first after : List OutLine) (v : CodeWorld) → first ≡ before ++ ls → Gives (within_limits t) first r after v → Gives (within_limits (after_lines ls t)) before r after v

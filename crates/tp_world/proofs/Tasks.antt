@@ -11,13 +11,14 @@ use Rattle.tp_model.specs.Happenings.{Task, task_at, entry_turn, still, after_li
 use Rattle.tp_model.specs.Lines.{within_limits}
 use Rattle.tp_network.specs.Nodes.{address_at}
 use Rattle.tp_world.specs.Settled.{Settles}
-use Rattle.tp_world.specs.World.{Mirrors, SitesStand, PlaysAt, Gives, after_entry, entry_answered, number_answered, task_turn}
-use Rattle.tp_world.specs.declared.fault.WorldFault.{WorldFault}
-use Rattle.tp_world.specs.declared.site_slot.Answer.{Answer}
-use Rattle.tp_world.specs.declared.site_slot.SiteSlot.{SiteSlot}
+use Rattle.tp_world_parts.specs.Standing.{SitesStand, PlaysAt, after_entry, entry_answered, number_answered}
+use Rattle.tp_world.specs.World.{Mirrors, Gives, task_turn}
+use Rattle.tp_world_parts.specs.declared.fault.WorldFault.{WorldFault}
+use Rattle.tp_world_parts.specs.declared.site_slot.Answer.{Answer}
+use Rattle.tp_world_parts.specs.declared.site_slot.SiteSlot.{SiteSlot}
 use Rattle.tp_world.specs.declared.world.World.{World as CodeWorld}
-use Rattle.tp_world.proofs.Entered.{legal_found}
-use Rattle.tp_world.proofs.Grown.{answered_legal}
+use Rattle.tp_world_parts.proofs.Entered.{legal_found}
+use Rattle.tp_world_parts.proofs.Grown.{answered_legal}
 use Rattle.tp_world.proofs.Limits.{not_full, within_all, gives_ok}
 use Rattle.tp_world.proofs.Settling.{IsAnswered, answer_gives, log_gives}
 use Rattle.tp_world.proofs.Stood.{address_stood}
@@ -69,7 +70,6 @@ played_fault w ls o e place f xs before after new p =
     go (WorldFault.Limit what) i =
         subst (λ (q : What). Gives (within_limits (task_turn w ls (Some (record { node = p.node; event = e })))) before (Err (WorldFault.Limit q)) after new) (sym i.0)
         (log_gives w p.node (entry_answered p.node e) ls before after (number_answered p.node e) new i.1)
-    go WorldFault.Unbuilt i = absurd i
     go WorldFault.NoMemory i = tt
 
 -- there is no such node

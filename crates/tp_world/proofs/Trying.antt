@@ -2,7 +2,6 @@
 use Rattle.std.proofs.Common.{◌≡◌, ℕ, true, refl, ap, sym, subst, ◌∙◌, Option, Some, None, List, Result, Ok, Err, length}
 use Rattle.std.specs.Vec.{with_items}
 use Rattle.std.specs.Option.{option_map}
-use Rattle.std.specs.Result.{IsErrAnd}
 use Rattle.std.proofs.lemmas.List.{with_items_is}
 use Rattle.tp_names.specs.declared.identifiers.Addr.{Addr}
 use Rattle.tp_records.specs.declared.request.Request.{Request}
@@ -13,13 +12,14 @@ use Rattle.tp_model.specs.Happenings as model
 use Rattle.tp_model.specs.declared.line.Action.{Action}
 use Rattle.tp_model.specs.Happenings.{Task, task_at, task_of}
 use Rattle.tp_network.specs.Nodes.{address_at}
-use Rattle.tp_world.specs.Requests.{request_in}
-use Rattle.tp_world.specs.World.{Mirrors, SitesStand, PlaysAt, are_apart, is_placed}
-use Rattle.tp_world.specs.declared.fault.WorldFault.{WorldFault}
-use Rattle.tp_world.specs.declared.site_slot.Answer.{Answer}
-use Rattle.tp_world.specs.declared.site_slot.SiteSlot.{SiteSlot}
+use Rattle.tp_world_parts.specs.Requests.{request_in}
+use Rattle.tp_world_parts.specs.Standing.{SitesStand, PlaysAt, are_apart, is_placed}
+use Rattle.tp_world.specs.World.{Mirrors}
+use Rattle.tp_world_parts.specs.declared.fault.WorldFault.{WorldFault}
+use Rattle.tp_world_parts.specs.declared.site_slot.Answer.{Answer}
+use Rattle.tp_world_parts.specs.declared.site_slot.SiteSlot.{SiteSlot}
 use Rattle.tp_world.specs.declared.world.World.{World as CodeWorld}
-use Rattle.tp_world.proofs.Found.{find_self, placed_found}
+use Rattle.tp_world_parts.proofs.Found.{find_self, placed_found}
 use Rattle.tp_world.proofs.Stood.{address_stood, frame_same}
 
 abbrev pub found_task : Option Node → Event → Option Task
@@ -56,11 +56,6 @@ lent_back v xs = record v { sites = with_items v.sites xs }
 
 pub lent_items : (v : CodeWorld) (lent xs : List SiteSlot) → lent ≡ v.sites.items → length xs ≡ length lent → (lent_back v xs).sites.items ≡ xs
 lent_items v lent xs same keeps = with_items_is v.sites xs (keeps ∙ ap length same ∙ sym v.sites.ok.0)
-
--- what a `?` hands on
-pub err_is : {A E : Type 0} (r : Result A E) (f : E) → IsErrAnd r (λ y. y ≡ f) → r ≡ Err f
-err_is (Ok x) f h = absurd h
-err_is (Err y) f h = ap (λ (q : _). Err q) h
 
 -- ---- there is no such node
 

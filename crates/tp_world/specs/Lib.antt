@@ -1,15 +1,7 @@
-pub mod Faults
-pub mod Summary
-pub mod Told
-pub mod Requests
-pub mod Sites
-pub mod Slots
 pub mod World
-pub mod Placing
-pub mod Built
+pub mod LocalEvents
 pub mod Settled
+pub mod Halts
 pub mod Declares
 pub mod Drains
-pub mod Restarts
-pub mod Left
 pub mod Stops

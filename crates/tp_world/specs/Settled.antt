@@ -10,10 +10,10 @@ use Rattle.tp_model.specs.Parts.{Out}
 use Rattle.tp_model.specs.Happenings.{out_lines, frames_of, refused_lines, trees_of}
 use Rattle.tp_network.specs.TreeSummary.{is_in}
 use Rattle.tp_network.specs.Nodes.{AreChanged}
-use Rattle.tp_world.specs.declared.fault.WorldFault.{WorldFault}
+use Rattle.tp_world_parts.specs.declared.fault.WorldFault.{WorldFault}
 use Rattle.tp_network.specs.declared.tree_summary.TreeChange.{TreeChange}
-use Rattle.tp_world.specs.declared.site_slot.Entry.{Entry}
-use Rattle.tp_world.specs.declared.site_slot.Answer.{Answer}
+use Rattle.tp_world_parts.specs.declared.site_slot.Entry.{Entry}
+use Rattle.tp_world_parts.specs.declared.site_slot.Answer.{Answer}
 use Rattle.tp_world.specs.declared.world.World.{World as CodeWorld}
 
 -- the tree that a step starts
@@ -49,7 +49,6 @@ abbrev pub GivesOuts : Addr → List Out → List OutLine → Result (Unit {0}) 
 GivesOuts from outs before (Ok u) after old new = AreGiven from outs before after old new
 GivesOuts from outs before (Err WorldFault.Name) after old new = ⊥
 GivesOuts from outs before (Err (WorldFault.Limit what)) after old new = (what ≡ What.Frames) × (65535 < length old.frames + length (frames_of from outs))
-GivesOuts from outs before (Err WorldFault.Unbuilt) after old new = ⊥
 GivesOuts from outs before (Err WorldFault.NoMemory) after old new = Unit {0}
 
 -- ---- an entry
@@ -74,7 +73,6 @@ abbrev pub SettlesEntry : Addr → Entry → List OutLine → Result (Unit {0}) 
 SettlesEntry place x before (Ok u) after old new = IsSettledEntry place x before after old new
 SettlesEntry place x before (Err WorldFault.Name) after old new = ⊥
 SettlesEntry place x before (Err (WorldFault.Limit what)) after old new = (what ≡ What.Frames) × (65535 < length old.frames + length (frames_of place x.outs))
-SettlesEntry place x before (Err WorldFault.Unbuilt) after old new = ⊥
 SettlesEntry place x before (Err WorldFault.NoMemory) after old new = Unit {0}
 
 -- ---- an answer
@@ -88,7 +86,6 @@ SettlesSome place (Some x) before r after old new = SettlesEntry place x before 
 SettlesSome place None before (Ok u) after old new = (new ≡ old) × (after ≡ before)
 SettlesSome place None before (Err WorldFault.Name) after old new = ⊥
 SettlesSome place None before (Err (WorldFault.Limit what)) after old new = ⊥
-SettlesSome place None before (Err WorldFault.Unbuilt) after old new = ⊥
 SettlesSome place None before (Err WorldFault.NoMemory) after old new = Unit {0}
 
 abbrev pub Settles : Addr → Answer → List OutLine → Result (Unit {0}) WorldFault → List OutLine → CodeWorld → CodeWorld → Type 0

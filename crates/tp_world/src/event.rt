@@ -9,15 +9,10 @@ ghost use Rattle.tp_model.specs.Lines.{within_limits};
 ghost use Rattle.tp_model.specs.Parts.{Send};
 ghost use Rattle.tp_site.specs.NodeEvent.{event_of};
 ghost use Rattle.tp_site.specs.Outs.{out_of};
-ghost use Rattle.tp_world.specs.Sites.{place_of_site};
+ghost use Rattle.tp_world_parts.specs.Sites.{place_of_site};
 ghost use Rattle.tp_world.specs.Settled.{tree_started, entry_lines, GivesOuts, IsEntered, SettlesEntry, Settles};
 ghost use Rattle.tp_world.specs.World.{Mirrors, Gives, task_turn};
 
-use crate::fault::WorldFault;
-use crate::requests::request_in;
-use crate::shown::{refused_shown, sent_shown};
-use crate::site_slot::{Answer, Entry};
-use crate::sites::{play_at, site_place};
 use crate::world::World;
 use std::alloc::Global;
 use tp_model::{LineRequest, OutLine, OutLines};
@@ -25,6 +20,10 @@ use tp_names::{Aaid, Addr, NoMemory, SiteName};
 use tp_network::{TreeChange, is_in};
 use tp_records::{PeerRecord, Request};
 use tp_site::{NodeEvent, Out, Outs};
+use tp_world_parts::{
+    Answer, Entry, WorldFault, arrive_at, play_at, refused_shown, request_in, sent_shown,
+    site_place,
+};
 
 // The tree that an entry starts.
 fn started(change: &TreeChange) -> Option<Aaid>
@@ -99,12 +98,7 @@ impl World {
             return Ok(());
         };
         lines.push(alloc, OutLine::Take { frame: number })?;
-        let _request: Option<&Request> = None;
-        let event = NodeEvent::Arrive {
-            from: frame.from,
-            rec: &frame.rec,
-        };
-        let answer = play_at(alloc, self.sites.as_mut_slice(), &at, &event)?;
+        let answer = arrive_at(alloc, self.sites.as_mut_slice(), &at, frame)?;
         self.settle(alloc, &at, answer, lines)
     }
 

@@ -8,20 +8,17 @@ ghost use Rattle.tp_laws.specs.Expansion.{IsOfRun};
 ghost use Rattle.tp_model.specs.Legal.{IsUnder};
 ghost use Rattle.tp_model.specs.Lines.{if_named, is_named, is_peer, is_frame, action_line, node_limit, node_line, skip_line, drain_line, show_line, image_line, within_limits};
 ghost use Rattle.tp_site.specs.NodeEvent.{event_of};
-ghost use Rattle.tp_world.specs.Placing.{boot_lines};
+ghost use Rattle.tp_world_parts.specs.Placing.{boot_lines};
 ghost use Rattle.tp_world.specs.Declares.{superior_at, has_superior, HasCome};
 ghost use Rattle.tp_world.specs.Drains.{Hands};
 ghost use Rattle.tp_world.specs.World.{Mirrors, Gives, task_turn};
 
-use crate::fault::WorldFault;
-use crate::requests::peer_of;
-use crate::shown::state_shown;
-use crate::sites::{declare_at, state_at};
 use crate::world::World;
 use std::alloc::Global;
 use tp_model::{LineRequest, LogWords, OutLine, OutLines, What};
 use tp_names::{Addr, NoMemory, Octets, SiteName};
 use tp_site::NodeEvent;
+use tp_world_parts::{WorldFault, declare_at, peer_of, state_at, state_shown};
 
 /// The most sites and nodes.
 const MOST_SITES: usize = 16;

@@ -15,17 +15,12 @@ ghost use Rattle.tp_model.specs.World.{World as WorldValue, Node as NodeValue, S
 ghost use Rattle.tp_laws.specs.Expansion.{IsOfRun};
 ghost use Rattle.tp_laws.specs.SiteLogs.{DisksTell, DisksStart};
 ghost use Rattle.tp_site.specs.NodeEvent.{event_of};
-ghost use Rattle.tp_world.specs.Restarts.{HasStoppedAs};
-ghost use Rattle.tp_world.specs.Sites.{place_of_site};
+ghost use Rattle.tp_world.specs.Halts.{HasStoppedAs};
+ghost use Rattle.tp_world_parts.specs.Sites.{place_of_site};
 ghost use Rattle.tp_world.specs.Stops.{HasPlayed, StopsIn, stop_deed, stop_named};
 ghost use Rattle.tp_world.specs.World.{Mirrors, Gives};
-ghost use Rattle.tp_world.specs.declared.site_slot.SiteSlot.{SiteSlot};
+ghost use Rattle.tp_world_parts.specs.declared.site_slot.SiteSlot.{SiteSlot};
 
-use crate::fault::WorldFault;
-use crate::left::{Stop, left_by};
-use crate::requests::request_in;
-use crate::restart::LostEntry;
-use crate::site_slot::{Entry, opened};
 use crate::world::World;
 use std::alloc::Global;
 use tp_journal::Journal;
@@ -35,6 +30,7 @@ use tp_names::same::is_name;
 use tp_outside::MemDisk;
 use tp_records::{PeerRecord, Request};
 use tp_site::NodeEvent;
+use tp_world_parts::{Entry, LostEntry, Stop, WorldFault, left_by, opened, request_in};
 
 impl World {
     // The site at that place has stopped, with that fate of a record, and starts again.
@@ -186,12 +182,7 @@ impl World {
         let node = frame.to.node;
         lines.push(alloc, OutLine::Take { frame: number })?;
         let disk = self.sites[place].copied(alloc)?;
-        let _request: Option<&Request> = None;
-        let event = NodeEvent::Arrive {
-            from: frame.from,
-            rec: &frame.rec,
-        };
-        let answer = self.sites[place].play(alloc, node, &event)?;
+        let answer = self.sites[place].arrive(alloc, node, frame)?;
         self.stop_in_entry(alloc, place, disk, node, &answer.entry, stop, lines)
     }
 

@@ -1,18 +1,14 @@
 //! A world, and its public calls.
-ghost use Rattle.std.specs.Prelude.{◌≡◌, ◌++◌, ◌∷◌, [], true, false, Err, length, IfOk, OnOk};
+ghost use Rattle.std.specs.Prelude.{◌≡◌, ◌++◌, ◌∷◌, [], true, false, length, IfOk, OnOk};
 ghost use Rattle.tp_model.specs.LineText.{line_text};
 ghost use Rattle.tp_model.specs.Lines.{line as line_value};
 ghost use Rattle.tp_model.specs.World.{World as WorldValue, empty_world};
 ghost use Rattle.tp_model.specs.Trees.{closing};
 ghost use Rattle.tp_laws.specs.Expansion.{IsOfRun};
 ghost use Rattle.tp_world.specs.World.{Mirrors, Stands, Plays, PlaysAfter, Gives};
-ghost use Rattle.tp_world.specs.Built.{is_built, is_local};
-ghost use Rattle.tp_world.specs.declared.fault.WorldFault.{WorldFault};
+ghost use Rattle.tp_model.specs.Transcript.{is_silent};
+ghost use Rattle.tp_world.specs.LocalEvents.{is_local};
 
-use crate::closing::closing_lines;
-use crate::fault::WorldFault;
-use crate::left::Stop;
-use crate::site_slot::SiteSlot;
 use std::alloc::Global;
 use tp_model::{Line, OutLine, OutLines};
 use tp_names::{Aaid, NoMemory, Octets};
@@ -20,6 +16,7 @@ use tp_network::{Frames, Nodes};
 use tp_records::{PeerRecord, Request};
 use tp_schedule::write_line;
 use tp_site::NodeEvent;
+use tp_world_parts::{SiteSlot, Stop, WorldFault, closing_lines};
 
 /// A world of nodes under a written schedule: its nodes, sites and frames, and its trees in the order of their starts.
 #[derive(Drop)]
@@ -30,11 +27,11 @@ pub struct World {
     pub(crate) trees: Vec<Aaid>,
 }
 
-// Lines of these kinds are played.
-fn is_built(line: &Line) -> bool
-    ensures { result ≡ is_built line.now }
+/// The line speaks of members, and nothing is shown of it.
+pub fn is_silent(line: &Line) -> bool
+    ensures { result ≡ is_silent line.now }
 {
-    !matches!(line, Line::Auto { .. } | Line::Leave { .. })
+    matches!(line, Line::Auto { .. } | Line::Leave { .. })
 }
 
 // The line itself is shown.
@@ -60,13 +57,13 @@ impl World {
         }
     }
 
-    /// What a line shows, with its echo. After a fault the run has ended, and nothing more is said of the world.
+    /// What a line shows, with its echo. No member is there, so a line that speaks of one ends the run. After a fault the run
+    /// has ended, and nothing more is said of the world.
     pub fn line(&mut self, alloc: Global, line: &Line) -> Result<OutLines, WorldFault>
-        ensures unbuilt { is_built line.now ≡ false → result ≡ Err WorldFault.Unbuilt }
-        ensures plays { (w : WorldValue) → Stands w self.old → Plays w line.now result self.new }
+        ensures { (w : WorldValue) → Stands w self.old → Plays w line.now result self.new }
     {
-        if !is_built(line) {
-            return Err(WorldFault::Unbuilt);
+        if is_silent(line) {
+            return Err(WorldFault::Name);
         }
         let mut lines = OutLines::new(alloc);
         echo(alloc, line, &mut lines)?;
@@ -82,11 +79,10 @@ impl World {
         line: &Line,
         lines: &mut OutLines,
     ) -> Result<(), WorldFault>
-        ensures unbuilt { is_built line.now ≡ false → result ≡ Err WorldFault.Unbuilt }
-        ensures plays { (w : WorldValue) → Stands w self.old → PlaysAfter w line.now lines.old result lines.new self.new }
+        ensures { (w : WorldValue) → Stands w self.old → PlaysAfter w line.now lines.old result lines.new self.new }
     {
-        if !is_built(line) {
-            return Err(WorldFault::Unbuilt);
+        if is_silent(line) {
+            return Err(WorldFault::Name);
         }
         self.shown_line(alloc, line, lines)
     }
@@ -113,7 +109,7 @@ impl World {
         line: &Line,
         lines: &mut OutLines,
     ) -> Result<(), WorldFault>
-        ensures { (w : WorldValue) → IsOfRun w → Mirrors w self.old → is_built line.now ≡ true → Gives (line_value 0 w line.now) lines.old result lines.new self.new }
+        ensures { (w : WorldValue) → IsOfRun w → Mirrors w self.old → is_silent line.now ≡ false → Gives (line_value 0 w line.now) lines.old result lines.new self.new }
     {
         match line {
             Line::Node { node, site, under } => self.node_line(alloc, *node, *site, *under, lines),
@@ -167,7 +163,7 @@ impl World {
             }
             Line::Retry { node } => self.local_line(alloc, *node, &NodeEvent::Retry, lines),
             Line::Purge { node } => self.local_line(alloc, *node, &NodeEvent::Purge, lines),
-            _ => Err(WorldFault::Unbuilt),
+            _ => Err(WorldFault::Name),
         }
     }
 }

@@ -1,15 +1,15 @@
 -- Where no member is there, none answers; and a schedule that comes to its end without members does so with any number of them.
-use Rattle.std.proofs.Common.{◌≡◌, ◌∙◌, ◌==◌, ◌+◌, ◌++◌, ◌&&◌, not, ℕ, zero, suc, nat_le, nat_lt, eq-eqb, Bool, true, false, refl, sym, ap, subst, Option, Some, None, List, [], ◌∷◌, length, map, Result, Ok, Err, arith}
-use Rattle.std.proofs.lemmas.Bool.Decides.{nat_tests}
+use Rattle.std.proofs.Common.{◌≡◌, ◌∙◌, ◌==◌, ◌+◌, ◌++◌, ℕ, zero, suc, nat_lt, eq-eqb, Bool, true, false, refl, sym, ap, subst, Option, Some, None, List, [], ◌∷◌, length, map, Result, Ok, Err, arith}
 use Rattle.tp_records.specs.declared.request.Request.{Request}
 use Rattle.tp_records.specs.Answers.{Answer}
 use Rattle.tp_model.specs.declared.line.Line.{Line}
 use Rattle.tp_model.specs.declared.verdict.What.{What}
 use Rattle.tp_model.specs.LineReading.{Reading, Blank, Faulty, Says, read_line}
-use Rattle.tp_model.specs.World.{World, empty_world, is_node}
-use Rattle.tp_model.specs.Happenings.{Drive, Drop, Turn, happens}
-use Rattle.tp_model.specs.Lines.{Fault, Name, Over, if_named, is_dropped, is_member_there, line}
+use Rattle.tp_model.specs.World.{World, empty_world}
+use Rattle.tp_model.specs.Happenings.{Turn}
+use Rattle.tp_model.specs.Lines.{Fault, Name, Over, line}
 use Rattle.tp_model.specs.Transcript.{Put, Play, RawLine, Transcript, Done, Bad_input, At_limit, raw_lines, content, taken_by, echo, is_silent, puts_of, answers_of, answered, stopped, with_lines, breaks, ends, behind, fault_ending, transcript_from, transcript_with}
+use Rattle.tp_world.proofs.Lines.{members_same, unnamed}
 use Rattle.tp_driven.specs.Members.{slot_at, may, Gave}
 use Rattle.tpnode.proofs.SoFar.{may_nothing}
 
@@ -33,59 +33,6 @@ unanswered allowed now (q ∷ puts) (a ∷ answers) each gave = absurd (go (q.me
     go false e h = absurd cc
 
 -- ---- any number of members
-
-and_false : (b : Bool) → (b && false) ≡ false
-and_false true = refl
-and_false false = refl
-
--- none is there
-nobody : (w : World) (k : ℕ) → is_member_there 0 w k ≡ false
-nobody w k = go (nat_le 1 k) refl (nat_le k 0) refl
-  where
-    go : (a : Bool) → nat_le 1 k ≡ a → (b : Bool) → nat_le k 0 ≡ b → (a && b && not (is_dropped w.dropped k)) ≡ false
-    go false x b y = refl
-    go true x false y = refl
-    go true x true y = absurd (grind (arith, nat_tests, x, y))
-
--- a line that speaks of one ends the run
-unnamed : (w : World) (l : Line) → is_silent l ≡ true → line 0 w l ≡ Err Name
-unnamed w (Line.Node n s u) h = absurd cc
-unnamed w (Line.Do n r) h = absurd cc
-unnamed w (Line.Pass a b) h = absurd cc
-unnamed w (Line.Skip a b) h = absurd cc
-unnamed w (Line.Again j) h = absurd cc
-unnamed w Line.Drain h = absurd cc
-unnamed w (Line.Lose n p) h = absurd cc
-unnamed w (Line.Heur n o) h = absurd cc
-unnamed w (Line.GiveUp n p) h = absurd cc
-unnamed w (Line.Retry n) h = absurd cc
-unnamed w (Line.Purge n) h = absurd cc
-unnamed w (Line.Crash s) h = absurd cc
-unnamed w (Line.CrashIn s j x l) h = absurd cc
-unnamed w (Line.Show n) h = absurd cc
-unnamed w (Line.Image s) h = absurd cc
-unnamed w (Line.Auto n k) h = ap (λ (b : Bool). if_named (is_node w n && b) (Ok (happens w (Drive n k)))) (nobody w k) ∙ ap (λ (b : Bool). if_named b (Ok (happens w (Drive n k)))) (and_false (is_node w n))
-unnamed w (Line.Leave k) h = ap (λ (b : Bool). if_named b (Ok (happens w (Drop k)))) (nobody w k)
-
--- to others it does not matter how many there are
-members_same : (k : ℕ) (w : World) (l : Line) → is_silent l ≡ false → line k w l ≡ line 0 w l
-members_same k w (Line.Node n s u) h = refl
-members_same k w (Line.Do n r) h = refl
-members_same k w (Line.Pass a b) h = refl
-members_same k w (Line.Skip a b) h = refl
-members_same k w (Line.Again j) h = refl
-members_same k w Line.Drain h = refl
-members_same k w (Line.Lose n p) h = refl
-members_same k w (Line.Heur n o) h = refl
-members_same k w (Line.GiveUp n p) h = refl
-members_same k w (Line.Retry n) h = refl
-members_same k w (Line.Purge n) h = refl
-members_same k w (Line.Crash s) h = refl
-members_same k w (Line.CrashIn s j x l) h = refl
-members_same k w (Line.Show n) h = refl
-members_same k w (Line.Image s) h = refl
-members_same k w (Line.Auto n j) h = absurd cc
-members_same k w (Line.Leave j) h = absurd cc
 
 not_done : (at : ℕ) (f : Fault) → fault_ending at f ≡ Done → ⊥
 not_done at Name e = grind (arith, e)

@@ -1,19 +1,36 @@
--- Which command a run is of: what words are refused, and that the one word `replay` asks for a replay.
-use Rattle.std.proofs.Common.{◌≡◌, inr, ℕ, not, Bool, true, false, Option, List, refl, ap, subst, codes, []}
+-- Which command a run is of: none ends with usage, and the one word `replay` asks for a replay.
+use Rattle.std.proofs.Common.{◌≡◌, ℕ, Bool, true, false, List, refl, sym, ◌∙◌, subst, codes, []}
 use Rattle.std.specs.Str.{bytes_eq}
 use Rattle.tp_records.specs.Answers.{Answer}
-use Rattle.tp_words.specs.CommandLine.{Said, alone}
-use Rattle.tp_words.specs.Asked.{IsAsked, Asks}
+use Rattle.tp_words.specs.CommandLine.{alone}
+use Rattle.tp_words.specs.Asked.{IsAsked}
 use Rattle.tp_words.specs.Plain.{IsPlain}
 use Rattle.tp_words.specs.declared.command.Command.{Command}
 use Rattle.tp_words.specs.declared.fault.WordsFault.{WordsFault}
 use Rattle.tpnode.specs.declared.status.Status.{Status}
-use Rattle.tpnode.specs.Status.{code_of, has}
-use Rattle.tpnode.specs.Commands.{exits, IsRefused, Ran, Runs}
+use Rattle.tpnode.specs.Status.{usage, code_of, has}
+use Rattle.tpnode.specs.Commands.{exits, Ran, Runs}
 
--- a run ends with usage only where its command is not built
-pub usage_of : {may : ℕ → List Answer → Type 0} {members : ℕ} (line : Option Said) (c : Command) (r : Ran) (source sink disk : Type 0) → Asks line c → Runs may members c r source sink disk → r.status ≡ Status.Usage → IsRefused line
-usage_of line c r source sink disk asks runs is = inr (c, asks, ap not (subst (λ s. has (code_of s) (exits c) ≡ true) is runs.exit))
+-- no run of a command ends with usage
+no_exit : (c : Command) → has usage (exits c) ≡ false
+no_exit Command.Replay = refl
+no_exit (Command.Node site) = refl
+no_exit Command.Format = refl
+no_exit Command.Show = refl
+no_exit Command.Check = refl
+no_exit (Command.Make plan) = refl
+no_exit (Command.Trial plan) = refl
+no_exit Command.Compact = refl
+no_exit Command.Migrate = refl
+no_exit Command.Keys = refl
+no_exit (Command.Tx site) = refl
+no_exit Command.Audit = refl
+
+pub never_usage : {may : ℕ → List Answer → Type 0} {members : ℕ} (c : Command) (r : Ran) (source sink disk : Type 0) → Runs may members c r source sink disk → r.status ≡ Status.Usage → ⊥
+never_usage c r source sink disk runs is = go (sym (no_exit c) ∙ subst (λ s. has (code_of s) (exits c) ≡ true) is runs.exit)
+  where
+    go : false ≡ true → ⊥
+    go h = absurd cc
 
 -- ---- the one word
 

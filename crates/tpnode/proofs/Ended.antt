@@ -19,7 +19,7 @@ use Rattle.tp_schedule.specs.AtHand.{together}
 use Rattle.tp_schedule.specs.LinesLeft.{Place, answer, first_of, judged, most_read, unless_read, IsFor, IsAhead, lines_left}
 use Rattle.tp_schedule.specs.declared.line_fault.LineFault.{LineFault}
 use Rattle.tp_schedule.specs.declared.lines_fault.LinesFault.{LinesFault}
-use Rattle.tp_world.specs.declared.fault.WorldFault.{WorldFault}
+use Rattle.tp_world_parts.specs.declared.fault.WorldFault.{WorldFault}
 use Rattle.tp_driven.specs.Answers.{IsEnded}
 use Rattle.tp_driven.specs.Members.{Gave}
 use Rattle.tp_driven.specs.DrivenWorld.{members_of, Stands, PlaysAfter}
@@ -50,7 +50,6 @@ unread_at at LineFault.NoMemory = tt
 pub unplayed_at : (at : ℕ) (f : WorldFault) → IsEndAt at (unplayed_as at f)
 unplayed_at at WorldFault.Name = refl
 unplayed_at at (WorldFault.Limit what) = refl
-unplayed_at at WorldFault.Unbuilt = refl
 unplayed_at at WorldFault.NoMemory = tt
 
 -- ---- a line
@@ -99,7 +98,6 @@ module _ {M : Type 0} (allowed : M → List Answer → Type 0) (at : ℕ) (w : W
       go : (f : WorldFault) → PlaysAfter allowed w x before (Err f) lines old new → EndsReading allowed at w (Says x) (unplayed_as at f) old new
       go WorldFault.Name h = (refl, stops_line x Name h)
       go (WorldFault.Limit what) h = (refl, stops_line x (Over what) h)
-      go WorldFault.Unbuilt h = absurd h
       go WorldFault.NoMemory h = tt
 
   -- ---- what was read

@@ -1,6 +1,6 @@
 -- What a run of each command does: how it may end, what of source, sink and disk it leaves as it was, and what it writes.
 -- Which words ask for which command is said by tp_words.
-use Rattle.std.specs.Prelude.{ℕ, ◌≡◌, ◌⊎◌, ◌<◌, not, Bool, true, false, Option, Some, List, [], ◌∷◌}
+use Rattle.std.specs.Prelude.{ℕ, ◌≡◌, ◌<◌, Bool, true, false, Option, Some, List, [], ◌∷◌}
 use Rattle.tp_outside.specs.Story.{Story}
 use Rattle.tp_records.specs.Answers.{Answer}
 use Rattle.tp_model.specs.declared.verdict.What.{What}
@@ -8,7 +8,7 @@ use Rattle.tp_words.specs.CommandLine.{Said}
 use Rattle.tp_words.specs.Asked.{is_line, Asks}
 use Rattle.tp_words.specs.declared.command.Command.{Command}
 use Rattle.tpnode.specs.declared.status.Status.{Status}
-use Rattle.tpnode.specs.Status.{ok, findings, usage, bad_input, limit, foreign, read_fault, write_fault, disk_fault, no_memory, code_of, has}
+use Rattle.tpnode.specs.Status.{ok, findings, bad_input, limit, foreign, read_fault, write_fault, disk_fault, no_memory, code_of, has}
 use Rattle.tpnode.specs.Transcribing.{ReadsSo, Transcribes}
 use Rattle.tpnode.specs.Making.{Makes}
 use Rattle.tpnode.specs.Trying.{Tries}
@@ -20,7 +20,7 @@ use Rattle.tpnode.specs.Auditing.{AuditsLogs}
 
 -- ---- how each command may end
 
--- the exit codes of its endings; a command that is not built ends with usage
+-- the exit codes of its endings
 abbrev pub exits : Command → List ℕ
 exits Command.Replay = ok ∷ bad_input ∷ limit ∷ read_fault ∷ write_fault ∷ no_memory ∷ []
 exits (Command.Node site) = ok ∷ bad_input ∷ limit ∷ foreign ∷ read_fault ∷ write_fault ∷ disk_fault ∷ no_memory ∷ []
@@ -34,13 +34,6 @@ exits Command.Migrate = ok ∷ limit ∷ foreign ∷ disk_fault ∷ no_memory �
 exits Command.Keys = ok ∷ foreign ∷ write_fault ∷ disk_fault ∷ no_memory ∷ []
 exits (Command.Tx site) = ok ∷ bad_input ∷ limit ∷ foreign ∷ read_fault ∷ write_fault ∷ disk_fault ∷ no_memory ∷ []
 exits Command.Audit = ok ∷ findings ∷ bad_input ∷ limit ∷ foreign ∷ read_fault ∷ write_fault ∷ no_memory ∷ []
-
-abbrev pub is_built : Command → Bool
-is_built c = not (has usage (exits c))
-
--- the words are no command line, or that of a command that is not built
-abbrev pub IsRefused : Option Said → Type 0
-IsRefused said = (is_line said ≡ false) ⊎ ((c : Command) × Asks said c × (is_built c ≡ false))
 
 -- ---- a run
 

@@ -11,7 +11,7 @@ use Rattle.tp_model.specs.Transcript.{Put, Play, RawLine, Transcript, Ending, Ba
 use Rattle.tp_schedule.specs.declared.line_fault.LineFault.{LineFault}
 use Rattle.tp_schedule.specs.declared.lines_fault.LinesFault.{LinesFault}
 use Rattle.tp_schedule.specs.LinesLeft.{Place, first_length, lines_left}
-use Rattle.tp_world.specs.declared.fault.WorldFault.{WorldFault}
+use Rattle.tp_world_parts.specs.declared.fault.WorldFault.{WorldFault}
 use Rattle.tp_driven.specs.Members.{Gave}
 use Rattle.tp_driven.specs.DrivenWorld.{members_of, Stands}
 use Rattle.tp_driven.specs.declared.driven_world.DrivenWorld.{DrivenWorld}
@@ -28,8 +28,6 @@ unread_as at LineFault.NoMemory = Status.NoMemory
 abbrev pub unplayed_as : ℕ → WorldFault → Status
 unplayed_as at WorldFault.Name = Status.BadInput at Why.Name
 unplayed_as at (WorldFault.Limit what) = Status.Limit what at
--- a driven world never answers so
-unplayed_as at WorldFault.Unbuilt = Status.BadInput at Why.Name
 unplayed_as at WorldFault.NoMemory = Status.NoMemory
 
 -- or since it is not handed out

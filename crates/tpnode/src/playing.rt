@@ -63,7 +63,7 @@ fn unplayed(fault: WorldFault, at: u64) -> Status
     ensures { result ≡ unplayed_as at fault }
 {
     match fault {
-        WorldFault::Name | WorldFault::Unbuilt => Status::BadInput { at, why: Why::Name },
+        WorldFault::Name => Status::BadInput { at, why: Why::Name },
         WorldFault::Limit { what } => Status::Limit { what, at },
         WorldFault::NoMemory => Status::NoMemory,
     }

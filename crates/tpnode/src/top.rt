@@ -1,13 +1,14 @@
 //! The program's one call.
-ghost use Rattle.std.specs.Prelude.{◌≡◌, ◌⊎◌, ℕ, List, Option, Some, [], map, length};
+ghost use Rattle.std.specs.Prelude.{◌≡◌, ◌⊎◌, ℕ, List, Option, Some, [], false, map, length};
 ghost use Rattle.tp_records.specs.declared.request.Request.{Request};
 ghost use Rattle.tp_outside.specs.Faults.{HasRisen};
 ghost use Rattle.tp_model.specs.Promises.{Promised};
 ghost use Rattle.tp_model.specs.Transcript.{transcript_with};
+ghost use Rattle.tp_words.specs.Asked.{is_line};
 ghost use Rattle.tp_words.specs.CommandLine.{said};
 ghost use Rattle.tpnode.specs.Status.{IsEnding};
 ghost use Rattle.tpnode.specs.Transcribing.{may_of, IsComplete, ReadsSo, Transcribes};
-ghost use Rattle.tpnode.specs.Commands.{IsRefused, Runs, Answers};
+ghost use Rattle.tpnode.specs.Commands.{Runs, Answers};
 ghost use Rattle.tpnode.specs.Words.{replay_words};
 
 use crate::auditing::audit_logs;
@@ -50,7 +51,7 @@ pub fn run<S: Source, K: Sink, D: Disk, M: Member>(
     disk: D,
     members: Vec<M>,
 ) -> (Status, D)
-    ensures usage { result.0 ≡ Status.Usage → IsRefused (said (map (λ w. w.now) words.now)) }
+    ensures usage { result.0 ≡ Status.Usage → is_line (said (map (λ w. w.now) words.now)) ≡ false }
     ensures ending { IsEnding (S.fault_count source.old) (S.fault_count source.new) (K.fault_count sink.old) (K.fault_count sink.new) (D.fault_count disk) (D.fault_count result.1) result.0 }
     ensures answers { Answers (may_of M.allowed members.items) (length members.items) (said (map (λ w. w.now) words.now)) (record { status = result.0; left = S.left source.old; unread = S.left source.new; written = K.written sink.old; output = K.written sink.new; told = D.told disk; story = D.told result.1 }) (source.new ≡ source.old) (sink.new ≡ sink.old) (result.1 ≡ disk) }
     ensures reads { map (λ w. w.now) words.now ≡ replay_words → (bytes : List ℕ) → S.left source.old ≡ Some bytes → ReadsSo bytes result.0 (S.left source.new) }

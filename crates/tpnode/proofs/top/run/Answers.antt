@@ -1,19 +1,18 @@
-use Rattle.std.proofs.Common.{map, [], codes, refl, ap, sym, ◌∙◌, Some, Err, inl, inr}
+use Rattle.std.proofs.Common.{[], codes, refl, ap, sym, ◌∙◌, Some, Err, inr}
 use Rattle.std.proofs.lemmas.List.{append-nil}
 use Rattle.tp_model.specs.Promises.{Promised}
 use Rattle.tp_model.specs.Transcript.{transcript_with}
 use Rattle.tp_laws.proofs.LineRuns.{transcripts_leave_runs, of_run}
 use Rattle.tp_laws.proofs.Promises.{promised}
-use Rattle.tp_words.specs.CommandLine.{said}
 use Rattle.tpnode.specs.Commands.{Refused, Asked}
 use Rattle.tpnode.proofs.SoFar.{tells_none}
 use Rattle.tpnode.proofs.Ending.{completes}
-use Rattle.tpnode.proofs.Asking.{usage_of, replays, plain_replay, no_usage}
+use Rattle.tpnode.proofs.Asking.{never_usage, replays, plain_replay, no_usage}
 use Rattle.tpnode.proofs.top.run.Goals as goal
 
 pub returns-in-Ok-clause-usage : goal.returns-in-Ok-clause-usage
 returns-in-Ok-clause-usage g c = λ e.
-    usage_of (said (map (λ w. w.now) c.args.words.now)) c.in-Ok.command _ _ _ _ (c.in-Ok.ensures.ok) c.run_command.ensures.runs e
+    absurd (never_usage c.in-Ok.command _ _ _ _ c.run_command.ensures.runs e)
 
 pub returns-in-Ok-clause-answers : goal.returns-in-Ok-clause-answers
 returns-in-Ok-clause-answers g c = Asked c.in-Ok.command c.in-Ok.ensures.ok c.run_command.ensures.runs
@@ -37,7 +36,7 @@ returns-in-Ok-clause-complete g c = λ is bytes has all read written.
     ((replays c.in-Ok.command _ _ _ _ (c.in-Ok.ensures.plain (codes "replay") [] plain_replay is) c.run_command.ensures.runs).does.writes bytes has) read written
 
 pub returns-in-Err-Usage-clause-usage : goal.returns-in-Err-Usage-clause-usage
-returns-in-Err-Usage-clause-usage g c = λ e. inl (c.in-Err-Usage.ensures.usage (ap Err c.in-Err-Usage.field-0-is))
+returns-in-Err-Usage-clause-usage g c = λ e. c.in-Err-Usage.ensures.usage (ap Err c.in-Err-Usage.field-0-is)
 
 pub returns-in-Err-Usage-clause-answers : goal.returns-in-Err-Usage-clause-answers
 returns-in-Err-Usage-clause-answers g c =

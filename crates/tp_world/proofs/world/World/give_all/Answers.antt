@@ -3,7 +3,7 @@ use Rattle.std.specs.Vec.Iter.{into_iter_items}
 use Rattle.tp_site.specs.Outs.{out_of}
 use Rattle.tp_world.specs.Settled.{GivesOuts}
 use Rattle.tp_world.proofs.Outputs.{going_on, going_fault}
-use Rattle.tp_world.proofs.Trying.{err_is}
+use Rattle.tp_world_parts.proofs.Handed.{err_is}
 use Rattle.tp_world.proofs.world.World.give_all.Goals as goal
 
 pub loop-out-preserved : goal.loop-out-preserved

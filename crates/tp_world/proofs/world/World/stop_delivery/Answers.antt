@@ -8,11 +8,13 @@ use Rattle.tp_model.specs.Happenings.{Task, task_at, task_of}
 use Rattle.tp_model.specs.Lines.{stands_at}
 use Rattle.tp_model.specs.Parts.{Event}
 use Rattle.tp_model.specs.World.{Node, Frame, number_of, find_frame}
+use Rattle.tp_network.specs.FrameRecord.{record_of}
 use Rattle.tp_network.specs.Frames.{frame_of}
-use Rattle.tp_world.specs.Slots.{SlotPlays}
+use Rattle.tp_world_parts.specs.Slots.{SlotPlays}
 use Rattle.tp_world.specs.Stops.{stop_deed}
-use Rattle.tp_world.specs.World.{Gives, entry_answered}
-use Rattle.tp_world.specs.declared.site_slot.SiteSlot.{SiteSlot}
+use Rattle.tp_world_parts.specs.Standing.{entry_answered}
+use Rattle.tp_world.specs.World.{Gives}
+use Rattle.tp_world_parts.specs.declared.site_slot.SiteSlot.{SiteSlot}
 use Rattle.tp_world.proofs.Crashing.{same_index}
 use Rattle.tp_world.proofs.StopDeeds.{IsNodeAt, node_at, has_played, disk_before, play_stops, play_fails, deed}
 use Rattle.tp_world.proofs.StopTurns.{fails_with}
@@ -32,7 +34,7 @@ returns-in_err-answer c = λ w s z stops stand.
     let v = c.args.self.now in
     let k = c.args.number in
     let f = c.in-Some.frame.now in
-    let e : Event = Event.Arrive f.from f.rec in
+    let e : Event = Event.Arrive f.from (record_of f.rec) in
     let there = ap (λ o. option_map frame_of (option_copied o)) (sym c.in-Some.is) ∙ c.find.ensures in
     let found : find_frame w.frames k ≡ Some (frame_of f) = sym (there ∙ frame_same w v k stops.mirrors) in
     let on : stands_at w s (Some f.to.node) ≡ true = ap (λ (o : Option Frame). stands_at w s (elim o as (λ _. Option ℕ) [ None ↦ None | Some g ↦ Some g.to.node ])) (sym found) ∙ stand in
@@ -40,7 +42,7 @@ returns-in_err-answer c = λ w s z stops stand.
     let task = task_delivered w v k (Some (frame_of f)) stops.mirrors there in
     let n = at.node in
     let x = c.index_mut.result.now in
-    let y = c.play.new.self in
+    let y = c.arrive.new.self in
     let is = sym c.index_mut.ensures.value in
     let stop = c.args.stop.now in
     let g = c.in_err-answer.field-0.0 in
@@ -56,7 +58,7 @@ returns c = λ w s z stops stand.
     let v = c.args.self.now in
     let k = c.args.number in
     let f = c.in-Some.frame.now in
-    let e : Event = Event.Arrive f.from f.rec in
+    let e : Event = Event.Arrive f.from (record_of f.rec) in
     let there = ap (λ o. option_map frame_of (option_copied o)) (sym c.in-Some.is) ∙ c.find.ensures in
     let found : find_frame w.frames k ≡ Some (frame_of f) = sym (there ∙ frame_same w v k stops.mirrors) in
     let on : stands_at w s (Some f.to.node) ≡ true = ap (λ (o : Option Frame). stands_at w s (elim o as (λ _. Option ℕ) [ None ↦ None | Some g ↦ Some g.to.node ])) (sym found) ∙ stand in
@@ -64,7 +66,7 @@ returns c = λ w s z stops stand.
     let task = task_delivered w v k (Some (frame_of f)) stops.mirrors there in
     let n = at.node in
     let x = c.index_mut.result.now in
-    let y = c.play.new.self in
+    let y = c.arrive.new.self in
     let is = sym c.index_mut.ensures.value in
     let stop = c.args.stop.now in
     let a = c.in_ok-answer.answer in

@@ -1,6 +1,6 @@
 use Rattle.std.proofs.Common.{sym, ◌∙◌, subst, Option}
 use Rattle.tp_world.specs.Stops.{HasPlayed}
-use Rattle.tp_world.specs.declared.site_slot.Entry.{Entry}
+use Rattle.tp_world_parts.specs.declared.site_slot.Entry.{Entry}
 use Rattle.tp_world.proofs.StopCases.{entry_none, entry_forced, entry_plain}
 use Rattle.tp_world.proofs.world.World.stop_in_entry.Goals as goal
 

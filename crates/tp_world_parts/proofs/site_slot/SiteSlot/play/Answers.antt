@@ -1,0 +1,27 @@
+use Rattle.std.proofs.Common.{◌≡◌, length, ap, ◌∙◌}
+use Rattle.std.specs.Option.{option_map}
+use Rattle.tp_model.specs.Happenings.{log_shown}
+use Rattle.tp_model.specs.Outcomes.{is_unchanged}
+use Rattle.tp_site.specs.NodeEvent.{event_of}
+use Rattle.tp_site.specs.Site.{known_at}
+use Rattle.tp_site.specs.State.{tree_in}
+use Rattle.tp_world_parts.specs.Slots.{shown_behind}
+use Rattle.tp_world_parts.proofs.Logs.{shown_forced}
+use Rattle.tp_world_parts.proofs.Entries.{step_made}
+use Rattle.tp_world_parts.proofs.site_slot.SiteSlot.play.Goals as goal
+
+-- what is shown after the records from before is the record of the move
+pub returns-in-Ok : goal.returns-in-Ok
+returns-in-Ok c =
+    let old = c.args.self.now.site in
+    let new = c.play.new.self in
+    let move = c.in-Ok.ensures.0 in
+    let rec : c.forced.result ≡ option_map log_shown move.rec =
+    c.forced.ensures ∙ ap (λ l. shown_behind l (length c.records-count.result.now)) c.records.ensures ∙ ap (λ l. shown_behind new.keeper.list (length l)) c.records-count.ensures
+    ∙ shown_forced old.keeper new.keeper move.rec c.in-Ok.ensures.1.forced in
+    record {
+      move = move;
+      played = c.in-Ok.ensures.1;
+      change = step_made c.tree-before.result (tree_in (known_at old c.args.node)) c.tree.result (tree_in (known_at new c.args.node)) c.is_unchanged.result (is_unchanged (event_of c.args.event.now)) c.forced.result (option_map log_shown move.rec)
+          c.tree-before.ensures c.tree.ensures c.is_unchanged.ensures rec;
+    }

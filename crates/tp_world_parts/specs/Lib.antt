@@ -1,0 +1,10 @@
+pub mod Faults
+pub mod Summary
+pub mod Told
+pub mod Requests
+pub mod Sites
+pub mod Standing
+pub mod Slots
+pub mod Placing
+pub mod Restarts
+pub mod Left

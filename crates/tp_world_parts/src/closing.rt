@@ -1,0 +1,85 @@
+//! The lines that close a transcript.
+ghost use Rattle.std.specs.Prelude.{◌≡◌, IfOk};
+ghost use Rattle.tp_names.specs.declared.identifiers.Aaid.{Aaid as AaidValue};
+ghost use Rattle.tp_network.specs.TreeOutcomes.{outcomes_in, outcomes_at};
+ghost use Rattle.tp_world_parts.specs.Told.{decides_in, deciders_at, line_by, closing_at};
+
+use crate::shown::placed;
+use std::alloc::Global;
+use tp_model::{NodeNumbers, OutLine, OutLines};
+use tp_names::{Aaid, NoMemory, Outcome};
+use tp_network::{NodeSlot, OutcomesByTree, TreeOutcomes, TreeSummary};
+
+// A node of the tree that logged a decision.
+fn decides(summary: &TreeSummary) -> bool
+    ensures { result ≡ decides_in summary.now }
+{
+    summary.member && summary.decision.is_some()
+}
+
+// Those that logged a decision, ascending.
+fn deciders(alloc: Global, tree: &Aaid, nodes: &[NodeSlot]) -> Result<NodeNumbers, NoMemory>
+    ensures { IfOk result (λ numbers. numbers ≡ deciders_at tree.now nodes.now) }
+{
+    let mut numbers = NodeNumbers::new(alloc);
+    let mut i = nodes.len();
+    while i > 0 {
+        i -= 1;
+        let summary = nodes[i].summaries.summary(tree);
+        if decides(&summary) {
+            numbers = placed(alloc, nodes[i].addr.node, &numbers)?;
+        }
+    }
+    Ok(numbers)
+}
+
+// The line of a tree whose staying nodes were told that.
+fn closing_line(
+    alloc: Global,
+    tree: &Aaid,
+    outcomes: TreeOutcomes,
+    nodes: &[NodeSlot],
+) -> Result<OutLine, NoMemory>
+    ensures { IfOk result (λ line. line ≡ line_by tree.now nodes.now outcomes) }
+{
+    let aaid = *tree;
+    if outcomes.some_committed && outcomes.some_rolled_back {
+        let by = deciders(alloc, tree, nodes)?;
+        return Ok(OutLine::Mixed { aaid, by });
+    }
+    let outcome = match (outcomes.all_committed, outcomes.all_rolled_back) {
+        (true, _) => Outcome::Commit,
+        (false, true) => Outcome::Rollback,
+        (false, false) => return Ok(OutLine::Open { aaid }),
+    };
+    Ok(OutLine::Agreed { aaid, outcome })
+}
+
+// One line for each of the trees.
+fn lines_of(
+    alloc: Global,
+    trees: &[Aaid],
+    all: &OutcomesByTree,
+    nodes: &[NodeSlot],
+) -> Result<OutLines, NoMemory>
+    ensures { ((t : AaidValue) → outcomes_in all.now t ≡ outcomes_at nodes.now t) → IfOk result (λ lines. lines ≡ closing_at nodes.now trees.now) }
+{
+    let mut lines = OutLines::new(alloc);
+    for i in 0..trees.len() {
+        let line = closing_line(alloc, &trees[i], all.at(&trees[i]), nodes)?;
+        lines.push(alloc, line)?;
+    }
+    Ok(lines)
+}
+
+/// One line for each of the trees. What each node did in trees is looked at once.
+pub fn closing_lines(
+    alloc: Global,
+    trees: &[Aaid],
+    nodes: &[NodeSlot],
+) -> Result<OutLines, NoMemory>
+    ensures { IfOk result (λ lines. lines ≡ closing_at nodes.now trees.now) }
+{
+    let all = OutcomesByTree::of(alloc, nodes)?;
+    lines_of(alloc, trees, &all, nodes)
+}

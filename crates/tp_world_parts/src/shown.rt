@@ -1,0 +1,187 @@
+//! What lines show of records.
+ghost use Rattle.std.specs.Prelude.{◌≡◌, ◌∷◌, [], Some, IfOk};
+ghost use Rattle.tp_model.specs.Happenings.{log_shown, sent_shown, refused_lines};
+ghost use Rattle.tp_model.specs.Lines.{phase_shown, state_line};
+ghost use Rattle.tp_model.specs.Trees.{placed};
+ghost use Rattle.tp_site.specs.State.{state_of};
+
+use std::alloc::Global;
+use tp_logrec::LogRec;
+use tp_model::{LogWords, NodeNumbers, OutLine, Phase, PhaseWord, SentWords};
+use tp_names::{NoMemory, Octets};
+use tp_records::{DialogueRecord, PeerRecord};
+use tp_site::NodeState;
+
+/// A record of a log.
+pub(crate) fn log_shown(rec: &LogRec) -> LogWords
+    ensures { result ≡ log_shown rec.now }
+{
+    match rec {
+        LogRec::Boot { boot } => LogWords::Boot { boot: *boot },
+        LogRec::Ready { node, key, .. } => LogWords::Ready {
+            node: *node,
+            key: *key,
+        },
+        LogRec::Heuristic { node, key, outcome } => LogWords::Heuristic {
+            node: *node,
+            key: *key,
+            outcome: *outcome,
+        },
+        LogRec::Commit { node, key, .. } => LogWords::Commit {
+            node: *node,
+            key: *key,
+        },
+        LogRec::Damage {
+            node,
+            key,
+            side,
+            report,
+            ..
+        } => LogWords::Damage {
+            node: *node,
+            key: *key,
+            side: *side,
+            report: *report,
+        },
+        LogRec::End { node, key, outcome } => LogWords::End {
+            node: *node,
+            key: *key,
+            outcome: *outcome,
+        },
+    }
+}
+
+fn dialogue_shown(alloc: Global, rec: &DialogueRecord) -> Result<DialogueRecord, NoMemory>
+    ensures { IfOk result (λ copy. copy ≡ rec.now) }
+{
+    Ok(match rec {
+        DialogueRecord::EndDialogue => DialogueRecord::EndDialogue,
+        DialogueRecord::UserData { octets } => DialogueRecord::UserData {
+            octets: Octets::from_slice(alloc, octets.as_slice())?,
+        },
+        DialogueRecord::UError => DialogueRecord::UError,
+        DialogueRecord::UAbort => DialogueRecord::UAbort,
+        DialogueRecord::Grant => DialogueRecord::Grant,
+        DialogueRecord::AskControl => DialogueRecord::AskControl,
+        DialogueRecord::Handshake => DialogueRecord::Handshake,
+        DialogueRecord::HandshakeGrant => DialogueRecord::HandshakeGrant,
+        DialogueRecord::Response => DialogueRecord::Response,
+        DialogueRecord::DeferEnd => DialogueRecord::DeferEnd,
+        DialogueRecord::DeferGrant => DialogueRecord::DeferGrant,
+        DialogueRecord::Begin {
+            aaid,
+            branch,
+            holder,
+        } => DialogueRecord::Begin {
+            aaid: *aaid,
+            branch: *branch,
+            holder: *holder,
+        },
+        DialogueRecord::Prepare => DialogueRecord::Prepare,
+        DialogueRecord::Ready => DialogueRecord::Ready,
+        DialogueRecord::Commit => DialogueRecord::Commit,
+        DialogueRecord::Done { report } => DialogueRecord::Done { report: *report },
+        DialogueRecord::Rollback => DialogueRecord::Rollback,
+        DialogueRecord::RolledBack { report } => DialogueRecord::RolledBack { report: *report },
+        DialogueRecord::Left => DialogueRecord::Left,
+        DialogueRecord::LeftEnd => DialogueRecord::LeftEnd,
+    })
+}
+
+/// A record that is sent.
+pub fn sent_shown(alloc: Global, rec: &PeerRecord) -> Result<SentWords, NoMemory>
+    ensures { IfOk result (λ words. words ≡ sent_shown rec.now) }
+{
+    Ok(match rec {
+        PeerRecord::OpenAssoc { x, units } => SentWords::OpenAssoc {
+            x: *x,
+            units: *units,
+        },
+        PeerRecord::AcceptAssoc { x, y, units } => SentWords::AcceptAssoc {
+            x: *x,
+            y: *y,
+            units: *units,
+        },
+        PeerRecord::ShutAssoc { x, y } => SentWords::ShutAssoc { x: *x, y: *y },
+        PeerRecord::OnAssoc { seq, rec, .. } => SentWords::OnAssoc {
+            seq: *seq,
+            rec: dialogue_shown(alloc, rec)?,
+        },
+        PeerRecord::RecReady { aaid, branch } => SentWords::RecReady {
+            aaid: *aaid,
+            branch: *branch,
+        },
+        PeerRecord::RecCommit { aaid, branch } => SentWords::RecCommit {
+            aaid: *aaid,
+            branch: *branch,
+        },
+        PeerRecord::RecReply {
+            aaid,
+            branch,
+            state,
+        } => SentWords::RecReply {
+            aaid: *aaid,
+            branch: *branch,
+            state: *state,
+        },
+        PeerRecord::Forget { aaid, branch } => SentWords::Forget {
+            aaid: *aaid,
+            branch: *branch,
+        },
+    })
+}
+
+/// A refusal: 21 and 22 are dropped.
+pub fn refused_shown(number: u8) -> OutLine
+    ensures { refused_lines (Some number) ≡ result ∷ [] }
+{
+    if number == 21 || number == 22 {
+        OutLine::Dropped { number }
+    } else {
+        OutLine::Refused { number }
+    }
+}
+
+fn phase_shown(state: &NodeState) -> PhaseWord
+    ensures { result ≡ phase_shown (state_of state.now) }
+{
+    match state.phase {
+        Phase::Nil => PhaseWord::Nil,
+        Phase::Active if state.asked => PhaseWord::Asked,
+        Phase::Active => PhaseWord::Active,
+        Phase::Ready => PhaseWord::Ready,
+        Phase::Committing => PhaseWord::Committing,
+        Phase::Rolling => PhaseWord::Rolling,
+    }
+}
+
+/// What is shown of a node.
+pub fn state_shown(node: u16, state: &NodeState) -> OutLine
+    ensures { result ≡ state_line node (state_of state.now) }
+{
+    OutLine::State {
+        node,
+        phase: phase_shown(state),
+        kept: state.kept,
+    }
+}
+
+/// The numbers in ascending order, with one more.
+#[tactic(auto, using(crate::proofs::Ascending::place_here, crate::proofs::Ascending::place_past, crate::proofs::Ascending::place_on))]
+pub(crate) fn placed(alloc: Global, number: u16, numbers: &NodeNumbers) -> Result<NodeNumbers, NoMemory>
+    ensures { IfOk result (λ all. all ≡ placed number numbers.now) }
+{
+    let mut all = NodeNumbers::new(alloc);
+    let mut is_placed = false;
+    for other in numbers.as_slice() {
+        if !is_placed && number < *other {
+            all.push(alloc, number)?;
+            is_placed = true;
+        }
+        all.push(alloc, *other)?;
+    }
+    if !is_placed {
+        all.push(alloc, number)?;
+    }
+    Ok(all)
+}
