@@ -15,7 +15,7 @@ use Rattle.tp_model.specs.Outcomes.{is_now, is_member, decided, rolled, has_left
 use Rattle.tp_model.specs.declared.out_line.OutLine.{OutLine}
 use Rattle.tp_model.specs.Trees.{members_of, closing_line}
 use Rattle.tp_model.specs.World.{World, Node, Frame, find_node}
-use Rattle.tp_model.specs.Happenings.{Happening, Declare, Does, run}
+use Rattle.tp_model.specs.Happenings.{Happening, Declare, Does, Crash, run}
 use Rattle.tp_model.specs.Promises.{has_told_in}
 use Rattle.tp_histories.specs.Traces.{sent_on, taken_on}
 use Rattle.tp_steps.specs.Facts.{is_order}
@@ -93,6 +93,16 @@ finishing =
     ∷ Does (Action.Do 2 LineRequest.Done)
     ∷ Does (Action.Again 19)
     ∷ [])
+
+-- two nodes crash, after the tree is drained, and while the last order is not taken
+abbrev pub crashing : List Happening
+crashing = Crash (codes "b") ∷ Crash (codes "d") ∷ []
+
+abbrev pub outlasting : List Happening
+outlasting = drained ++ crashing
+
+abbrev pub interrupted : List Happening
+interrupted = waiting ++ crashing
 
 -- ---- what is asked of them
 

@@ -9,7 +9,7 @@ ghost use Rattle.tp_drained.specs.Drained.{is_done};
 ghost use Rattle.tp_drained.specs.DrainedTrees.{IsSettled};
 ghost use Rattle.tp_names.specs.declared.outcome.Outcome.{Outcome};
 ghost use Rattle.tp_model.specs.declared.out_line.OutLine.{OutLine};
-ghost use Rattle.tp_trials.specs.DrainedTrials.{drained, waiting, ordering, finishing, tree_of_four, world_after, closing_of, is_each, is_emptied, is_inside, is_unowing, is_unfailed, has_answered, has_departed, has_completed, waits_in_active, says_to, took_answer, took_order, took_done, is_in_it, has_not_rolled, sent_by, taken_by};
+ghost use Rattle.tp_trials.specs.DrainedTrials.{drained, waiting, ordering, finishing, outlasting, interrupted, tree_of_four, world_after, closing_of, is_each, is_emptied, is_inside, is_unowing, is_unfailed, has_answered, has_departed, has_completed, waits_in_active, says_to, took_answer, took_order, took_done, is_in_it, has_not_rolled, sent_by, taken_by};
 
 /// Four nodes in one tree without a failure: each user asked for commitment, or left, each frame was taken, and no user owes
 /// its done. The one that left apart, each logged Commit and was told that it is complete, with no report.
@@ -42,6 +42,26 @@ pub fn a_drained_tree_is_settled()
 pub fn a_drained_tree_closes()
     ensures agreed { closing_of drained ≡ OutLine.Agreed tree_of_four Outcome.Commit }
     ensures open_yet { closing_of waiting ≡ OutLine.Open tree_of_four }
+{}
+
+/// The same tree while the user of its root owes its done: each frame was taken, nothing failed and each user asked, or left; but
+/// the root has not completed. Each node that stays was told commit, so the closing line says already that all agree.
+pub fn a_user_that_owes_its_done_holds_the_tree_up()
+    ensures emptied { is_emptied finishing ≡ true }
+    ensures owes { is_each is_unowing finishing ≡ false }
+    ensures unfailed { is_each is_unfailed finishing ≡ true }
+    ensures answered { is_each has_answered finishing ≡ true }
+    ensures incomplete { holds has_completed finishing 1 ≡ false }
+    ensures agreed { closing_of finishing ≡ OutLine.Agreed tree_of_four Outcome.Commit }
+{}
+
+/// Two of the four nodes crash after the tree was settled: they have failed now, and the closing line still says that all agree on
+/// commitment. Where they crash while the last order is not taken, the tree is open.
+pub fn a_settled_tree_outlasts_a_crash()
+    ensures failed { (holds is_unfailed outlasting 2 || holds is_unfailed outlasting 4) ≡ false }
+    ensures complete { (holds has_completed outlasting 1 && holds has_completed outlasting 2 && holds has_completed outlasting 4) ≡ true }
+    ensures agreed { closing_of outlasting ≡ OutLine.Agreed tree_of_four Outcome.Commit }
+    ensures open_yet { closing_of interrupted ≡ OutLine.Open tree_of_four }
 {}
 
 /// A node that has asked for commitment waits for its branch in active, and leaves nothing undone.
