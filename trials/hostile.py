@@ -30,7 +30,7 @@ import tools
 import wire
 
 TEXTS = {
-    0: r"$", 1: r"findings [1-9]\d*$", 2: r"usage", 3: r"bad input at [1-9]\d*: (long|word|number|name|short|length|body|unbuilt)$",
+    0: r"$", 1: r"findings [1-9]\d*$", 2: r"usage", 3: r"bad input at [1-9]\d*: (long|word|number|name|short|length|body)$",
     4: r"limit (schedule|sites|nodes|frames|answers|events|log|boots) at \d+$", 5: r"foreign log at \d+$", 6: r"read fault$",
     7: r"write fault$", 8: r"disk fault$", 9: r"no memory$",
 }
