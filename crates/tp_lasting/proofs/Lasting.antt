@@ -1,16 +1,15 @@
 -- From a root that was complete with no report, or left, down the tree as it is later.
-use Rattle.std.proofs.Common.{◌≡◌, ◌≤◌, ◌<◌, ◌⊎◌, inl, inr, ℕ, suc, zero, Bool, true, false, refl, ap, sym, subst, ◌∙◌, arith, List, [], ◌∷◌, ◌++◌, ◌&&◌, ◌==◌, length}
-use Rattle.std.specs.List.{Any, slice_index_or}
+use Rattle.std.proofs.Common.{◌≡◌, ◌≤◌, ◌<◌, ◌⊎◌, inl, inr, ℕ, suc, zero, Bool, true, false, refl, ap, sym, subst, ◌∙◌, arith, List, [], ◌∷◌, ◌++◌, ◌==◌, length}
+use Rattle.std.specs.List.{slice_index_or}
 use Rattle.std.proofs.lemmas.Bool.Decides.{nat_tests}
 use Rattle.std.proofs.Math.Nat.{le_refl}
 use Rattle.tp_names.specs.declared.identifiers.Aaid.{Aaid}
 use Rattle.tp_names.specs.Same.{is_aaid, is_name}
 use Rattle.tp_model.specs.Outcomes.{has_left, completed_none}
-use Rattle.tp_model.specs.History.{records}
 use Rattle.tp_model.specs.Trees.{stays}
 use Rattle.tp_model.specs.World.{Node, number_of, site_of}
 use Rattle.tp_model.specs.Happenings.{Happening, run}
-use Rattle.tp_model.specs.Promises.{IsOf, is_root, HasCommitted}
+use Rattle.tp_model.specs.Promises.{IsOf, is_root}
 use Rattle.tp_drained.specs.DrainedTrees.{IsSettled}
 use Rattle.tp_outcomes.specs.Starting.{times_in}
 use Rattle.tp_outcomes.specs.Staying.{StaysSo}
