@@ -10,7 +10,7 @@ mod Tasks
 mod Trying
 mod Drained
 mod Resolved
-mod Lines
+pub mod Lines
 mod Coming
 mod Shows
 mod Booting
