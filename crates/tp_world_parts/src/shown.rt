@@ -168,7 +168,11 @@ pub fn state_shown(node: u16, state: &NodeState) -> OutLine
 
 /// The numbers in ascending order, with one more.
 #[tactic(auto, using(crate::proofs::Ascending::place_here, crate::proofs::Ascending::place_past, crate::proofs::Ascending::place_on))]
-pub(crate) fn placed(alloc: Global, number: u16, numbers: &NodeNumbers) -> Result<NodeNumbers, NoMemory>
+pub(crate) fn placed(
+    alloc: Global,
+    number: u16,
+    numbers: &NodeNumbers,
+) -> Result<NodeNumbers, NoMemory>
     ensures { IfOk result (λ all. all ≡ placed number numbers.now) }
 {
     let mut all = NodeNumbers::new(alloc);
