@@ -6,6 +6,8 @@
 #![tactic(auto)]
 
 #[cfg(test)]
+mod driven;
+#[cfg(test)]
 mod generated;
 #[cfg(test)]
 mod lists;
