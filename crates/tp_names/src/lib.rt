@@ -15,6 +15,7 @@ mod octets;
 mod outcome;
 mod reading;
 pub mod same;
+mod sequence;
 mod site_name;
 mod writing;
 
@@ -27,6 +28,7 @@ pub use no_memory::NoMemory;
 pub use octets::Octets;
 pub use outcome::{Outcome, Report, reports_join};
 pub use reading::Cursor;
+pub use sequence::Sequence;
 pub use site_name::SiteName;
 pub use writing::{
     write_aaid, write_addr, write_branch, write_byte, write_child, write_key, write_long,

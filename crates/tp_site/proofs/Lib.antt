@@ -1,5 +1,6 @@
 pub mod Recovered
 pub mod Noted
+pub mod Begun
 pub mod Applied
 pub mod Numbered
 pub mod Starting

@@ -1,5 +1,5 @@
 -- A Ready or a Done that acts, and is only noted on its branch.
-use Rattle.std.proofs.Common.{◌≡◌, ◌≤◌, ◌==◌, ℕ, Bool, true, false, ◌&&◌, ◌||◌, ◌++◌, Option, Some, None, List, [], ◌∷◌, refl, ap, sym, ◌∙◌, arith, Bor}
+use Rattle.std.proofs.Common.{◌≡◌, ◌≤◌, ◌==◌, ℕ, Bool, true, false, ◌&&◌, ◌||◌, ◌++◌, Option, Some, None, List, [], ◌∷◌, refl, ap, sym, subst, ◌∙◌, arith, Bor}
 use Rattle.std.specs.Prelude.{not, if◌then◌else◌}
 use Rattle.std.proofs.lemmas.Bool.Decides.{nat_tests}
 use Rattle.tp_names.specs.declared.identifiers.Addr.{Addr}
@@ -324,12 +324,24 @@ told_numbers p (DialogueRecord.Done x) = go (is_report_none x)
     go false = refl
 told_numbers p _ = refl
 
+-- no mark is drawn
+noted_drawn : (p : ℕ) (r : DialogueRecord) (d : Digest) → (noted_on p r d).drawn ≡ d.drawn
+noted_drawn p DialogueRecord.Ready d = refl
+noted_drawn p (DialogueRecord.Done x) d = refl
+noted_drawn p _ d = refl
+
+arrived_drawn : (p : ℕ) (r : PeerRecord) (d : Digest) → (arrived_in_place p r d).drawn ≡ d.drawn
+arrived_drawn p (PeerRecord.OnAssoc x y q r) d = noted_drawn p r d
+arrived_drawn p _ d = refl
+
 -- what is planned of a record that arrives
 pub planned : (v : Node) (from : Addr) (b : Bor PeerRecord) (x y : Mark) (q : ℕ) (r : DialogueRecord) (outs : List Out) → b.now ≡ PeerRecord.OnAssoc x y q r → refused_arrival v.who v.digest from b.now ≡ None
     → acts_at v.who v.digest from.node r ≡ true → is_only_noted v.digest from.node r ≡ true → outs ≡ told_of from.node r → v.digest.drawn ≤ greatest → IsPlanned v (NodeEvent.Arrive from b) outs
 planned v from b x y q r outs is ok acts noted said drawn = record {
   refused = ok;
+  sure = refl;
   drawn = drawn;
+  marks = subst (λ (n : ℕ). n ≤ greatest) (sym (arrived_drawn from.node b.now v.digest)) drawn;
   move =
       ap (λ (z : PeerRecord). do_arrival v.who from z v.digest) is
       ∙ arrives v.who v.digest from x y q r acts noted

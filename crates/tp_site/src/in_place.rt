@@ -1,17 +1,17 @@
 //! Events that are run on their node itself, and not on a draft of it: what they say is known before anything is so.
-ghost use Rattle.std.specs.Prelude.{◌≡◌, None, IfOk, IfSome};
+ghost use Rattle.std.specs.Prelude.{◌≡◌, true, None, IfOk, IfSome};
 ghost use Rattle.tp_model.specs.Arrivals.{refused_arrival};
 ghost use Rattle.tp_model.specs.Disposition.{sight_value};
 ghost use Rattle.tp_node.specs.declared.event.NodeEvent.{NodeEvent};
 ghost use Rattle.tp_node.specs.Begins.{with_digest};
 ghost use Rattle.tp_node.specs.NodeEvent.{refused_at_once};
-ghost use Rattle.tp_site.specs.InPlace.{IsPlanned, run_in_place, arrived_in_place, is_only_noted, is_acting, acts_at, told_of};
+ghost use Rattle.tp_site.specs.InPlace.{IsPlanned, run_in_place, can_run, arrived_in_place, asked_in_place, can_ask, is_only_noted, is_acting, acts_at, told_of};
 
 use std::alloc::Global;
 use tp_model::Disposition;
 use tp_names::{Addr, NoMemory, Report};
 use tp_node::{Node, NodeEvent, Outs};
-use tp_records::{DialogueRecord, Indication, PeerRecord};
+use tp_records::{DialogueRecord, Indication, PeerRecord, Request};
 
 // A Ready or a Done that is only noted on its branch.
 fn is_only_noted(node: &Node, peer: u16, rec: &DialogueRecord) -> bool
@@ -88,6 +88,24 @@ fn plan_arrival(
     Ok(Some(told(alloc, peer, said)?))
 }
 
+// Of a request: a Begin for which nothing can be wanting.
+fn plan_request(alloc: Global, node: &Node, request: &Request) -> Result<Option<Outs>, NoMemory>
+    ensures { IfOk result (λ plan. IfSome plan (IsPlanned node.now (NodeEvent.Do request.entry))) }
+{
+    let Request::BeginTransaction { peer } = request else {
+        return Ok(None);
+    };
+    let Some(out) = node.plan_begin(*peer) else {
+        return Ok(None);
+    };
+    if let Some(_refusal) = node.refused_do(request) {
+        return Ok(None);
+    }
+    let mut outs = Outs::new(alloc);
+    outs.push(out)?;
+    Ok(Some(outs))
+}
+
 /// What an event says that is run on its node itself; none of one that is run on a draft.
 pub(crate) fn plan(
     alloc: Global,
@@ -97,6 +115,7 @@ pub(crate) fn plan(
     ensures { IfOk result (λ plan. IfSome plan (IsPlanned node.now event.now)) }
 {
     match event {
+        NodeEvent::Do { request } => plan_request(alloc, node, request),
         NodeEvent::Arrive { from, rec } => plan_arrival(alloc, node, *from, rec),
         _ => Ok(None),
     }
@@ -124,12 +143,25 @@ fn apply_arrival(node: &mut Node, from: Addr, rec: &PeerRecord)
     }
 }
 
+// A request.
+fn apply_request(node: &mut Node, request: &Request)
+    requires { can_ask node.old.who request.now node.old.digest ≡ true }
+    ensures { node.new ≡ with_digest node.old (asked_in_place node.old.who request.now node.old.digest) }
+{
+    match request {
+        Request::BeginTransaction { peer } => node.begin_planned(*peer),
+        _ => {}
+    }
+}
+
 /// An event that is planned happens.
 pub(crate) fn apply(node: &mut Node, event: &NodeEvent<'_>)
-    requires { refused_at_once node.old.who node.old.digest event.now ≡ None }
-    ensures { node.new ≡ with_digest node.old (run_in_place event.now node.old.digest) }
+    requires refused { refused_at_once node.old.who node.old.digest event.now ≡ None }
+    requires sure { can_run node.old.who event.now node.old.digest ≡ true }
+    ensures { node.new ≡ with_digest node.old (run_in_place node.old.who event.now node.old.digest) }
 {
     match event {
+        NodeEvent::Do { request } => apply_request(node, request),
         NodeEvent::Arrive { from, rec } => apply_arrival(node, *from, rec),
         _ => {}
     }

@@ -8,11 +8,11 @@ ghost use Rattle.tp_node.specs.NodeEvent.{event_of, answer_at, refused_at_once};
 ghost use Rattle.tp_draft.specs.Answers.{IsAnswer, IsPlain};
 ghost use Rattle.tp_site.specs.Nodes.{has_node, who_at, digest_at, node_at, find_node, unknown_start, IsSameSite, AreFrom};
 ghost use Rattle.tp_node.specs.Node.{recovered_by};
-ghost use Rattle.tp_site.specs.InPlace.{IsPlanned, run_in_place};
+ghost use Rattle.tp_site.specs.InPlace.{IsPlanned, run_in_place, can_run};
 
 use crate::in_place;
+use indexmap::IndexMap;
 use std::alloc::Global;
-use std::collections::HashMap;
 use std::marker::Model;
 use tp_draft::Draft;
 use tp_logrec::{LogRec, LogVersion};
@@ -26,7 +26,7 @@ pub(crate) struct Nodes {
     site: SiteName,
     boot: u64,
     version: LogVersion,
-    nodes: HashMap<u16, Node>,
+    nodes: IndexMap<u16, Node>,
 }
 
 impl Model for Nodes {
@@ -48,7 +48,7 @@ impl Nodes {
             site,
             boot,
             version,
-            nodes: HashMap::new(alloc),
+            nodes: IndexMap::new(alloc),
         }
     }
 
@@ -136,7 +136,8 @@ impl Nodes {
     pub(crate) fn apply(&mut self, number: u16, event: &NodeEvent<'_>)
         requires there { has_node self.old number ≡ true }
         requires refused { refused_at_once (who_at self.old number) (digest_at self.old number) event.now ≡ None }
-        ensures put { (n : ℕ) → digest_at self.new n ≡ cond (number == n) (run_in_place event.now (digest_at self.old number)) (digest_at self.old n) }
+        requires sure { can_run (who_at self.old number) event.now (digest_at self.old number) ≡ true }
+        ensures put { (n : ℕ) → digest_at self.new n ≡ cond (number == n) (run_in_place (who_at self.old number) event.now (digest_at self.old number)) (digest_at self.old n) }
         ensures site { IsSameSite self.old self.new }
     {
         let Some(place) = self.nodes.get_mut(&number) else {
