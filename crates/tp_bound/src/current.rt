@@ -82,7 +82,7 @@ impl Current {
     {
         let len = self.texts.len();
         self.texts.extend_from_slice(alloc, text)?;
-        match self.writes.push(write) {
+        match self.writes.push(alloc, write) {
             Ok(()) => Ok(()),
             Err(no_memory) => {
                 self.texts.truncate(len);

@@ -94,7 +94,7 @@ fn so_many_writes(alloc: Global, count: u16, cursor: &mut Cursor) -> Result<Writ
     let mut list = Writes::new(alloc);
     for _round in 0..count {
         let write = write(alloc, cursor)?;
-        list.push(write)?;
+        list.push(alloc, write)?;
     }
     Ok(list)
 }

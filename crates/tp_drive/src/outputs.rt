@@ -1,56 +1,16 @@
 //! What was put out for each event, in the order of the events.
-ghost use Rattle.std.specs.Prelude.{◌≡◌, ◌<◌, ℕ, List, [], ◌∷◌, ◌++◌, OnErr, IfOk, length, slice_index_or};
+ghost use Rattle.std.specs.Prelude.{◌≡◌, ◌<◌, ℕ, List, IfOk, length, slice_index_or};
 ghost use Rattle.tp_records.specs.declared.body.Output.{Output};
 ghost use Rattle.tp_model.specs.Lanes.{outputs_in};
 
 use crate::event_nodes::lane_of;
 use std::alloc::Global;
 use std::collections::VecDeque;
-use std::marker::Model;
-use tp_names::NoMemory;
+use tp_names::{NoMemory, Sequence};
 use tp_records::{Event, Outputs};
 
 /// The outputs of each event, in the order of the events.
-#[derive(Drop)]
-pub struct OutputsByEvent {
-    items: Vec<Outputs>,
-}
-
-impl Model for OutputsByEvent {
-    ghost use Rattle.std.specs.Prelude.{List};
-    ghost use Rattle.tp_records.specs.declared.body.Output.{Output};
-
-    ghost Value = { List (List Output) };
-
-    ghost view = { λ s. s.items.items };
-}
-
-impl OutputsByEvent {
-    /// The outputs of no event.
-    pub fn new(alloc: Global) -> OutputsByEvent
-        ensures { result ≡ [] }
-    {
-        OutputsByEvent {
-            items: Vec::new(alloc),
-        }
-    }
-
-    /// Puts the outputs of one event more at the end; without memory the list stays as it was.
-    pub fn push(&mut self, outs: Outputs) -> Result<(), NoMemory>
-        ensures ok { IfOk result (λ _. self.new ≡ self.old ++ outs ∷ []) }
-        ensures err { OnErr result (self.new ≡ self.old) }
-    {
-        self.items.push(outs)?;
-        Ok(())
-    }
-
-    /// The outputs of each event, in order.
-    pub fn as_slice(&self) -> &[Outputs]
-        ensures { result.now ≡ self.now }
-    {
-        self.items.as_slice()
-    }
-}
+pub type OutputsByEvent = Sequence<Outputs>;
 
 /// Puts the outputs of the lanes in the order of the events.
 pub fn by_event(
@@ -72,7 +32,7 @@ pub fn by_event(
         let Some(out) = lane.pop_front() else {
             unreachable!();
         };
-        all.push(out)?;
+        all.push(alloc, out)?;
     }
     Ok(all)
 }

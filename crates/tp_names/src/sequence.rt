@@ -1,12 +1,12 @@
 //! A list of values of one type.
-ghost use Rattle.std.specs.Prelude.{◌≡◌, List, [], ◌∷◌, ◌++◌, OnErr, IfOk};
+ghost use Rattle.std.specs.Prelude.{◌≡◌, ◌==◌, List, [], ◌∷◌, ◌++◌, length, OnErr, OnOk, IfOk};
 
 use crate::NoMemory;
 use std::alloc::Global;
 use std::marker::Model;
 
 /// A list of values, which contracts see as that list.
-#[derive(Drop)]
+#[derive(Clone, Debug, Drop)]
 pub struct Sequence<T> {
     items: Vec<T>,
 }
@@ -27,6 +27,35 @@ impl<T: Drop> Sequence<T> {
         Sequence {
             items: Vec::new(alloc),
         }
+    }
+
+    /// The values of a vector, which takes no memory.
+    pub fn from_vec(items: Vec<T>) -> Sequence<T>
+        ensures { result ≡ items.items }
+    {
+        Sequence { items }
+    }
+
+    /// The vector with these values, which takes no memory.
+    pub fn into_vec(self) -> Vec<T>
+        ensures { result.items ≡ self }
+    {
+        let Sequence { items } = self;
+        items
+    }
+
+    /// How many values there are.
+    pub fn len(&self) -> usize
+        ensures { result ≡ length self.now }
+    {
+        self.items.len()
+    }
+
+    /// Whether there are none.
+    pub fn is_empty(&self) -> bool
+        ensures { result ≡ (length self.now == 0) }
+    {
+        self.items.is_empty()
     }
 
     /// Puts a value at the end; without memory the list stays as it was.
@@ -50,5 +79,25 @@ impl<T: Drop> Sequence<T> {
         ensures { result.now ≡ self.now }
     {
         self.items.as_slice()
+    }
+}
+
+impl<T: Copy> Sequence<T> {
+    /// A copy of these values.
+    pub fn from_slice(alloc: Global, values: &[T]) -> Result<Sequence<T>, NoMemory>
+        ensures { IfOk result (λ list. list ≡ values.now) }
+    {
+        Ok(Sequence {
+            items: Vec::from_slice(alloc, values)?,
+        })
+    }
+
+    /// Puts values at the end; without memory the list stays as it was.
+    pub fn extend_from_slice(&mut self, _alloc: Global, values: &[T]) -> Result<(), NoMemory>
+        ensures ok { OnOk result (self.new ≡ self.old ++ values.now) }
+        ensures err { OnErr result (self.new ≡ self.old) }
+    {
+        self.items.extend_from_slice(values)?;
+        Ok(())
     }
 }
