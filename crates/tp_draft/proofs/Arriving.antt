@@ -15,7 +15,7 @@ use Rattle.tp_model.specs.Links.{is_idle, is_opening_with, dropped_by}
 use Rattle.tp_model.specs.Arcs.{find_arc, link_from}
 use Rattle.tp_model.specs.Node.{Move, move, side_at}
 use Rattle.tp_model.specs.Arrivals.{refused_arrival, refused_on, is_bad_answer, do_arrival, take_accept, take_on}
-use Rattle.tp_node.specs.Arcs.{fits_link}
+use Rattle.tp_node_parts.specs.Arcs.{fits_link}
 
 pub open_declared : (who : Who) (d : Digest) (from : Addr) (x : Mark) (u : ℕ) → refused_arrival who d from (PeerRecord.OpenAssoc x u) ≡ None → d.declared ≡ true
 unfolding refused_arrival
