@@ -74,17 +74,11 @@ abbrev pub Reaches : TxEvent → Current → List Arc → List Arc → Type 0
 Reaches (TxEvent.Begun cs) c arcs later = (is_rolling c.phase ≡ false) × AreNew cs later c × AreAlike arcs later
 Reaches (TxEvent.User (Request.UAbort p)) c arcs later = (is_active c.phase ≡ true) × AreAlike arcs later
 Reaches (TxEvent.User (Request.DeferEnd p)) c arcs later = (is_active c.phase ≡ true) × (is_under_at c.key p ≡ false) × IsPutOff p arcs later
-Reaches (TxEvent.User _) c arcs later = AreAlike arcs later
 Reaches (TxEvent.Took p DialogueRecord.UAbort) c arcs later = IsCut p arcs later
 Reaches (TxEvent.Took p DialogueRecord.DeferEnd) c arcs later = (is_active c.phase ≡ true) × (is_under_at c.key p ≡ true) × IsPutOff p arcs later
 Reaches (TxEvent.Took p DialogueRecord.LeftEnd) c arcs later = (is_under_at c.key p ≡ false) × AreAlike arcs later
-Reaches (TxEvent.Took p _) c arcs later = AreAlike arcs later
 Reaches (TxEvent.Lost p) c arcs later = IsCut p arcs later
-Reaches (TxEvent.Heur o) c arcs later = AreAlike arcs later
-Reaches (TxEvent.GiveUp p) c arcs later = AreAlike arcs later
-Reaches TxEvent.Ordered c arcs later = AreAlike arcs later
-Reaches (TxEvent.Reply b s) c arcs later = AreAlike arcs later
-Reaches TxEvent.Retry c arcs later = AreAlike arcs later
+Reaches _ c arcs later = AreAlike arcs later
 
 -- a record that is out of phase changes nothing of the transaction; another event is none that it refuses
 abbrev pub IsTakenUp : TxEvent → Transaction → Type 0

@@ -6,7 +6,7 @@ use Rattle.tp_names.specs.Same.{is_branch}
 use Rattle.tp_logrec.specs.declared.record.LogRec.{LogRec}
 use Rattle.tp_logrec.specs.Order.{all_follow}
 use Rattle.tp_names.specs.declared.identifiers.Addr.{Addr}
-use Rattle.tp_model.specs.Parts.{Origin, Event, Declare, Do, Arrive, Break, Lose, Heur, GiveUp, Retry, Purge, Crash, Entry}
+use Rattle.tp_model.specs.Parts.{Origin, Event, Declare, Entry}
 use Rattle.tp_model.specs.History.{digest, refuse, entry_of, records, again, crashed}
 use Rattle.tp_model.specs.Consistency.{agrees}
 
@@ -46,15 +46,7 @@ is_start o = all_follow (LogRec.Boot o.start.boot ∷ o.start.records) && are_ow
 -- a declaration names the one superior that the node has
 abbrev pub IsUnder : Option Addr → Event → Type 0
 IsUnder up (Declare s) = s ≡ up
-IsUnder up (Do r) = Unit {0}
-IsUnder up (Arrive a r) = Unit {0}
-IsUnder up (Break a r) = Unit {0}
-IsUnder up (Lose p) = Unit {0}
-IsUnder up (Heur u) = Unit {0}
-IsUnder up (GiveUp p) = Unit {0}
-IsUnder up Retry = Unit {0}
-IsUnder up Purge = Unit {0}
-IsUnder up Crash = Unit {0}
+IsUnder up _ = Unit {0}
 
 -- each entry is of an event that was accepted then, and is what the event does
 abbrev pub IsGrown : Origin → Option Addr → List Entry → Type 0

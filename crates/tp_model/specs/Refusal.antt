@@ -30,28 +30,9 @@ number_of Refusal.BadRecord = 25
 
 -- a transcript shows 21 and 22 as dropped, the others as refused
 abbrev pub is_dropped : Refusal → Bool
-is_dropped Refusal.NoDialogue = false
-is_dropped Refusal.WrongPhase = false
-is_dropped Refusal.WrongControl = false
-is_dropped Refusal.UnitAbsent = false
-is_dropped Refusal.HandshakeOpen = false
-is_dropped Refusal.NoTransaction = false
-is_dropped Refusal.TransactionOpen = false
-is_dropped Refusal.NotAsked = false
-is_dropped Refusal.AlreadyAsked = false
-is_dropped Refusal.NotInReady = false
-is_dropped Refusal.AlreadyDecided = false
-is_dropped Refusal.NothingOwed = false
-is_dropped Refusal.TooMany = false
-is_dropped Refusal.NotKept = false
-is_dropped Refusal.StillOwed = false
-is_dropped Refusal.NoNode = false
-is_dropped Refusal.NumbersSpent = false
 is_dropped Refusal.OldAssociation = true
 is_dropped Refusal.OutOfOrder = true
-is_dropped Refusal.WrongSite = false
-is_dropped Refusal.OutOfPhase = false
-is_dropped Refusal.BadRecord = false
+is_dropped _ = false
 
 -- the number of a refusal, where there is one
 abbrev pub number_in : Option Refusal → Option ℕ
