@@ -15,13 +15,15 @@ use Rattle.tp_records.specs.declared.peer.RecState.{RecState}
 use Rattle.tp_model.specs.declared.transaction.TxEvent.{TxEvent}
 use Rattle.tp_model.specs.Parts.{Who, Origin, Event, Out, Entry, Arc, Key, Under, Branch, Current, Digest}
 use Rattle.tp_model.specs.Dialogues.{is_nil, is_rolling}
-use Rattle.tp_model.specs.Transactions.{Row, Transaction, Turn, aaid_of, is_decided, fresh_rows, transacted}
+use Rattle.tp_model.specs.Transactions.{Row, Transaction, Turn, aaid_of, fresh_rows, transacted}
+use Rattle.std.specs.Prelude.{is_some}
 use Rattle.tp_model.specs.Recovery.{settled}
 use Rattle.tp_model.specs.Node.{Move, move, followed, perform, next_mark, seen_rows, seen, branches_of, remaining, passage, is_leaving, entered, begin_on, fresh_current, turned, keep}
 use Rattle.tp_model.specs.Events.{action}
 use Rattle.tp_model.specs.History.{digest}
 use Rattle.tp_model.specs.Outcomes.{is_now, is_failure, tells_complete_none, completed_none}
-use Rattle.tp_model.specs.Promises.{completes, has_told_in}
+use Rattle.tp_model.specs.Promises.{has_told_in}
+use Rattle.tp_model.specs.Questions.{tells_commit_complete}
 use Rattle.tp_steps.specs.Turns.{is_outcome_told}
 use Rattle.tp_steps.specs.Moves.{Moves, IsAsked, IsPut, prelude}
 use Rattle.tp_steps.specs.Trees.{out_tells}
@@ -54,7 +56,7 @@ clear_branches [] = true
 clear_branches (b ∷ bs) = is_clear_branch b && clear_branches bs
 
 abbrev clear_at : Current → Bool
-clear_at c = is_rolling c.phase || is_nil c.phase || (not (is_decided c.decision) && clear_branches c.branches)
+clear_at c = is_rolling c.phase || is_nil c.phase || (not (is_some c.decision) && clear_branches c.branches)
 
 -- of the tree
 abbrev pub IsClearIn : Aaid → Option Current → Type 0
@@ -73,13 +75,13 @@ rows_more [] n = refl
 rows_more (r ∷ rs) n = ap (λ v. is_clear_branch r.branch && v) (rows_more rs n)
 
 clear_seen : (who : Who) (arcs : List Arc) (c : Current) → is_clear (seen who arcs c) ≡ clear_at c
-clear_seen who arcs c = ap (λ v. is_rolling c.phase || is_nil c.phase || (not (is_decided c.decision) && v)) (rows_seen arcs c.branches)
+clear_seen who arcs c = ap (λ v. is_rolling c.phase || is_nil c.phase || (not (is_some c.decision) && v)) (rows_seen arcs c.branches)
 
 clear_left : (t : Transaction) (u : Current) → remaining t ≡ Some u → is_clear t ≡ true → clear_at u ≡ true
 clear_left t u is h =
     let left = left_is t u is in
     let rows : clear_branches u.branches ≡ clear_rows t.rows = ap clear_branches (left_branches t u is) ∙ rows_left t.rows in
-    made (is_rolling u.phase) (is_nil u.phase) (is_decided u.decision) (clear_branches u.branches) (is_rolling t.phase) (is_nil t.phase) (is_decided t.decision) (clear_rows t.rows) (ap is_rolling left.1) (ap is_nil left.1) (ap is_decided left.2) rows h
+    made (is_rolling u.phase) (is_nil u.phase) (is_some u.decision) (clear_branches u.branches) (is_rolling t.phase) (is_nil t.phase) (is_some t.decision) (clear_rows t.rows) (ap is_rolling left.1) (ap is_nil left.1) (ap is_some left.2) rows h
   where
     made : (a b c d x y z w : Bool) → a ≡ x → b ≡ y → c ≡ z → d ≡ w → (x || y || (not z && w)) ≡ true → (a || b || (not c && d)) ≡ true
     made a b c d x y z w i j k l h = rw (i, j, k, l) h
@@ -149,7 +151,7 @@ begun_clear t who arcs c n k u is tree =
     let next : Transaction = (transacted (TxEvent.Begun (n ∷ [])) (seen who arcs c)).next in
     let key : u.key ≡ c.key = (left_is next u is).0 in
     let old : is_clear (seen who arcs c) ≡ true = clear_seen who arcs c ∙ k c refl (ap (is_aaid t) (ap aaid_of (sym key)) ∙ tree) in
-    clear_left next u is (ap (λ v. is_rolling c.phase || is_nil c.phase || (not (is_decided c.decision) && v)) (rows_more (seen_rows arcs c.branches) n) ∙ old)
+    clear_left next u is (ap (λ v. is_rolling c.phase || is_nil c.phase || (not (is_some c.decision) && v)) (rows_more (seen_rows arcs c.branches) n) ∙ old)
 
 clear_begin : (t : Aaid) (who : Who) (q : ℕ) (d : Digest) → IsClearIn t d.current → IsClearIn t (begin_on who q d).next.current
 clear_begin t who q d old = begin_cases (λ (m : Move). IsClearIn t m.next.current) who q d old (λ c a i found may. begun_clear t who d.arcs c (record { addr = a.peer; branch = record { superior = who.site; mark = next_mark who d } }) (subst (IsClearIn t) i old))
@@ -286,7 +288,7 @@ clear_law o up [] t k took = λ c is tree. absurd (cc (current_none o k.fresh, i
 clear_law o up (e ∷ h) t k took =
     (entry_moves o up e h t k took.0).clear (entry_prelude o up e h t k (clear_law o up h t (unfailed_before o up e h k).1 took.1))
 
-report_step : (o : Origin) (up : Option Addr) (e : Entry) (h : List Entry) (t : Aaid) → IsUnfailed o up (e ∷ h) → AreClear t o (e ∷ h) → is_now t (digest o h).current ≡ true → completes e.outs ≡ true → tells_complete_none e.outs ≡ true
+report_step : (o : Origin) (up : Option Addr) (e : Entry) (h : List Entry) (t : Aaid) → IsUnfailed o up (e ∷ h) → AreClear t o (e ∷ h) → is_now t (digest o h).current ≡ true → tells_commit_complete e.outs ≡ true → tells_complete_none e.outs ≡ true
 report_step o up e h t k took now told = complete_tells e.outs ∙ ap (λ (v : Entry). out_tells is_complete_none v.outs) (sym k.grown.1) ∙ (entry_moves o up e h t k took.0).tells (entry_prelude o up e h t k clear) (here (came_by o.who d e.event k.grown.0)) said
   where
     d : Digest
@@ -303,17 +305,17 @@ report_step o up e h t k took now told = complete_tells e.outs ∙ ap (λ (v : E
     here (By_begin from x y q u b g a is found cur nil above) = absurd (cc (now, nil_now d t (late_law o up h k.grown.3) nil))
     here (By_crash is cur) = absurd (cc (ap is_failure is, (unfailed_before o up e h k).0))
 
-report_then : (o : Origin) (up : Option Addr) (e : Entry) (h : List Entry) (t : Aaid) → IsUnfailed o up (e ∷ h) → AreClear t o (e ∷ h) → has_told_in completes o t (e ∷ h) ≡ true → (has_told_in completes o t h ≡ true → completed_none o t h ≡ true) → completed_none o t (e ∷ h) ≡ true
-report_then o up e h t k took told rest = go (or_case (is_now t (digest o h).current && completes e.outs) (has_told_in completes o t h) told)
+report_then : (o : Origin) (up : Option Addr) (e : Entry) (h : List Entry) (t : Aaid) → IsUnfailed o up (e ∷ h) → AreClear t o (e ∷ h) → has_told_in tells_commit_complete o t (e ∷ h) ≡ true → (has_told_in tells_commit_complete o t h ≡ true → completed_none o t h ≡ true) → completed_none o t (e ∷ h) ≡ true
+report_then o up e h t k took told rest = go (or_case (is_now t (digest o h).current && tells_commit_complete e.outs) (has_told_in tells_commit_complete o t h) told)
   where
-    go : ((is_now t (digest o h).current && completes e.outs) ≡ true) ⊎ (has_told_in completes o t h ≡ true) → completed_none o t (e ∷ h) ≡ true
+    go : ((is_now t (digest o h).current && tells_commit_complete e.outs) ≡ true) ⊎ (has_told_in tells_commit_complete o t h ≡ true) → completed_none o t (e ∷ h) ≡ true
     go (inr j) = let more = rest j in grind (arith, more)
     go (inl j) =
-        let now : is_now t (digest o h).current ≡ true = and_left (is_now t (digest o h).current) (completes e.outs) j in
-        let none : tells_complete_none e.outs ≡ true = report_step o up e h t k took now (and_right (is_now t (digest o h).current) (completes e.outs) j) in
+        let now : is_now t (digest o h).current ≡ true = and_left (is_now t (digest o h).current) (tells_commit_complete e.outs) j in
+        let none : tells_complete_none e.outs ≡ true = report_step o up e h t k took now (and_right (is_now t (digest o h).current) (tells_commit_complete e.outs) j) in
         rw (now, none) refl
 
-pub report_law : (o : Origin) (up : Option Addr) (h : List Entry) (t : Aaid) → IsUnfailed o up h → AreClear t o h → has_told_in completes o t h ≡ true → completed_none o t h ≡ true
+pub report_law : (o : Origin) (up : Option Addr) (h : List Entry) (t : Aaid) → IsUnfailed o up h → AreClear t o h → has_told_in tells_commit_complete o t h ≡ true → completed_none o t h ≡ true
 report_law o up [] t k took told = absurd (cc (told))
 report_law o up (e ∷ h) t k took told = report_then o up e h t k took told (report_law o up h t (unfailed_before o up e h k).1 took.1)
 

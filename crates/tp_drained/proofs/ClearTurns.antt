@@ -13,7 +13,8 @@ use Rattle.tp_model.specs.declared.transaction.TxEvent.{TxEvent}
 use Rattle.tp_model.specs.declared.transaction.TxOut.{TxOut}
 use Rattle.tp_model.specs.Parts.{Branch}
 use Rattle.tp_model.specs.Dialogues.{is_nil, is_active, is_ready, is_committing, is_rolling}
-use Rattle.tp_model.specs.Transactions.{Row, Transaction, Turn, turn, and_then, before, row_holds, find_row, find_row_by_id, is_open_in_commit, put_row, with_row, with_arc_lost, is_under_at, all_done, all_rolled_back, is_decided, reports_of, report_of_branch, own_damage, carry_up, tell_report, all_prepared, complete_commit, complete_rollback, begin_rolling, order, ask_commit, leave, count_branch, end_branch, branch_left, transacted}
+use Rattle.tp_model.specs.Transactions.{Row, Transaction, Turn, turn, and_then, before, row_holds, find_row, find_row_by_id, is_open_in_commit, put_row, with_row, with_arc_lost, is_under_at, all_done, all_rolled_back, reports_of, report_of_branch, own_damage, carry_up, tell_report, all_prepared, complete_commit, complete_rollback, begin_rolling, order, ask_commit, leave, count_branch, end_branch, branch_left, transacted}
+use Rattle.std.specs.Prelude.{is_some}
 use Rattle.tp_steps.specs.Turns.{Turns, is_outcome_told, vote, row_dead}
 use Rattle.tp_steps.specs.Moves.{IsPut}
 use Rattle.tp_steps.specs.Passages.{asks_tell}
@@ -44,7 +45,7 @@ clear_rows (r ∷ rs) = is_clear_branch r.branch && clear_rows rs
 
 -- it rolls or is over, or it decided nothing and no branch reported anything
 abbrev pub is_clear : Transaction → Bool
-is_clear t = is_rolling t.phase || is_nil t.phase || (not (is_decided t.decision) && clear_rows t.rows)
+is_clear t = is_rolling t.phase || is_nil t.phase || (not (is_some t.decision) && clear_rows t.rows)
 
 record IsClearing (t : Transaction) (a : Turn) : Type 0 where
   clear : is_clear t ≡ true → is_clear a.next ≡ true
@@ -81,7 +82,7 @@ is_with t q f keeps h = go (is_rolling t.phase || is_nil t.phase) refl
     go true i = let same : (is_rolling (with_row t q f).phase || is_nil (with_row t q f).phase) ≡ true = ap (λ (x : Phase). is_rolling x || is_nil x) phase ∙ i in grind (arith, same)
     go false i =
         let rows : clear_rows (with_row t q f).rows ≡ true = clear_row t q f keeps (grind (arith, h, i)) in
-        let free : is_decided (with_row t q f).decision ≡ false = ap is_decided (row_decision t q f) ∙ grind (arith, h, i) in
+        let free : is_some (with_row t q f).decision ≡ false = ap is_some (row_decision t q f) ∙ grind (arith, h, i) in
         grind (arith, rows, free)
 
 with_quiet : (t : Transaction) (outs : List TxOut) (q : ℕ) (f : Row → Row) → asks_tell is_complete outs ≡ false → ((r : Row) → is_clear_branch r.branch ≡ true → is_clear_branch (f r).branch ≡ true) → IsClearing t (turn outs (with_row t q f))
@@ -112,7 +113,7 @@ joined t a b m outs next one two = record {
 
 ask_clear : (t : Transaction) → IsClearing t (ask_commit t)
 unfolding ask_commit
-ask_clear t = quiet t (ask_commit t) ((still_prepare t.rows).1 is_complete) (λ h. ap (λ v. is_rolling t.phase || is_nil t.phase || (not (is_decided t.decision) && v)) (prepared_clear t.rows) ∙ h)
+ask_clear t = quiet t (ask_commit t) ((still_prepare t.rows).1 is_complete) (λ h. ap (λ v. is_rolling t.phase || is_nil t.phase || (not (is_some t.decision) && v)) (prepared_clear t.rows) ∙ h)
 
 count_clear : (t : Transaction) (q : ℕ) → IsClearing t (count_branch q t)
 unfolding count_branch
@@ -157,7 +158,7 @@ none_joined (r ∷ rs) h = both (report_of_branch r.branch) (reports_of rs) (gri
     both Report.Hazard y i j = absurd (cc (i))
     both Report.Mix y i j = absurd (cc (i))
 
-none_damage : (o : Option Outcome) (r : Report) → is_decided o ≡ false → is_report_none r ≡ true → is_report_none (join (own_damage o) r) ≡ true
+none_damage : (o : Option Outcome) (r : Report) → is_some o ≡ false → is_report_none r ≡ true → is_report_none (join (own_damage o) r) ≡ true
 none_damage None Report.None h i = refl
 none_damage (Some o) r h i = absurd (cc (h))
 none_damage None _ h i = absurd (cc (i))

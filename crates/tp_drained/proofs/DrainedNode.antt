@@ -21,8 +21,9 @@ use Rattle.tp_model.specs.Events.{action, recovered, recovered_current, current_
 use Rattle.tp_model.specs.History.{digest, records, with_rec}
 use Rattle.tp_model.specs.Legal.{IsGrown, IsLegal}
 use Rattle.tp_model.specs.Questions.{is_at, said_to, has_said}
-use Rattle.tp_model.specs.Outcomes.{is_now, is_unchanged, is_commit_request, is_failure, has_asked, has_left, decided, rolled, tells_complete_none, completed_none, is_member, has_commit_of}
-use Rattle.tp_model.specs.Promises.{has_told_in, has_record, is_bound_of, completes, tells_commit}
+use Rattle.tp_model.specs.Outcomes.{is_now, is_unchanged, is_commit_request, is_failure, has_left, decided, rolled, tells_complete_none, completed_none, is_member, has_commit_of, has_asked_commit}
+use Rattle.tp_model.specs.Promises.{has_told_in, has_record, is_bound_of, tells_commit}
+use Rattle.tp_model.specs.Questions.{tells_commit_complete}
 use Rattle.tp_steps.specs.Moves.{prelude}
 use Rattle.tp_steps.specs.Traces.{sent_of, is_old}
 use Rattle.tp_steps.specs.Trees.{IsLoggedIn}
@@ -200,16 +201,16 @@ bound_by t (LogRec.Heuristic n k u ∷ rs) h = bound_by t rs h
 bound_by t (LogRec.Damage n k s u r cs ∷ rs) h = bound_by t rs h
 bound_by t (LogRec.End n k u ∷ rs) h = bound_by t rs h
 
-complete_commits : (outs : List Out) → completes outs ≡ true → tells_commit outs ≡ true
+complete_commits : (outs : List Out) → tells_commit_complete outs ≡ true → tells_commit outs ≡ true
 complete_commits [] h = h
 complete_commits (Out.Tell Indication.Commit ∷ outs) h = refl
 complete_commits (Out.Tell (Indication.CommitComplete r) ∷ outs) h = refl
 complete_commits (o ∷ outs) h = let rest = complete_commits outs in grind (arith, h, rest)
 
-pub complete_told : (o : Origin) (t : Aaid) (h : List Entry) → has_told_in completes o t h ≡ true → has_told_in tells_commit o t h ≡ true
+pub complete_told : (o : Origin) (t : Aaid) (h : List Entry) → has_told_in tells_commit_complete o t h ≡ true → has_told_in tells_commit o t h ≡ true
 complete_told o t [] i = i
-complete_told o t (e ∷ h) i = elim (or_case (is_now t (digest o h).current && completes e.outs) (has_told_in completes o t h) i) [
-  | inl j ↦ told_first tells_commit o t e h (and_left (is_now t (digest o h).current) (completes e.outs) j) (complete_commits e.outs (and_right (is_now t (digest o h).current) (completes e.outs) j))
+complete_told o t (e ∷ h) i = elim (or_case (is_now t (digest o h).current && tells_commit_complete e.outs) (has_told_in tells_commit_complete o t h) i) [
+  | inl j ↦ told_first tells_commit o t e h (and_left (is_now t (digest o h).current) (tells_commit_complete e.outs) j) (complete_commits e.outs (and_right (is_now t (digest o h).current) (tells_commit_complete e.outs) j))
   | inr j ↦ told_more tells_commit o t e h (complete_told o t h j)
 ]
 
@@ -222,7 +223,7 @@ pub data Stands (o : Origin) (h : List Entry) (t : Aaid) : Type 0 where
 -- and, once it has committed, is committing or was told that the commitment is complete
 pub data Commits (o : Origin) (h : List Entry) (t : Aaid) : Type 0 where
   Is_committing : (c : Current) → (digest o h).current ≡ Some c → is_aaid t (aaid_of c.key) ≡ true → is_committing c.phase ≡ true → Commits o h t
-  Was_told : has_told_in completes o t h ≡ true → Commits o h t
+  Was_told : has_told_in tells_commit_complete o t h ≡ true → Commits o h t
 
 pub stands_law : (o : Origin) (up : Option Addr) (h : List Entry) (t : Aaid) → IsLegal o up h → IsUnfailed o up h → rolled o t h ≡ false → is_member o t h ≡ true → Stands o h t
 stands_law o up h t legal u whole member = go (ending_law o up h t u.fresh u.grown u.once member)
@@ -256,9 +257,9 @@ commits_law o up h t u whole stays member done = go (ending_law o up h t u.fresh
 
 -- ---- whether commitment was asked for
 
-asked_known : (o : Origin) (up : Option Addr) (h : List Entry) (t : Aaid) → IsUnfailed o up h → has_asked o t h ≡ true → is_known o t h ≡ true
+asked_known : (o : Origin) (up : Option Addr) (h : List Entry) (t : Aaid) → IsUnfailed o up h → has_asked_commit o t h ≡ true → is_known o t h ≡ true
 asked_known o up [] t u a = absurd (cc (a))
-asked_known o up (e ∷ h) t u a = elim (or_case (is_now t (digest o h).current && is_commit_request e.event) (has_asked o t h) a) [
+asked_known o up (e ∷ h) t u a = elim (or_case (is_now t (digest o h).current && is_commit_request e.event) (has_asked_commit o t h) a) [
   | inl i ↦ known_more o up e h t u.grown (now_known o up h t u.fresh u.grown.3 (and_left (is_now t (digest o h).current) (is_commit_request e.event) i))
   | inr i ↦ known_more o up e h t u.grown (asked_known o up h t (unfailed_before o up e h u).1 i)
 ]
@@ -276,9 +277,9 @@ plain_before o up e h t u known n = (before, go (entered o e h u.grown.0))
     go (Begun from v b a begun calm cur nil quiet by) = absurd (cc (before, nil_now (digest o h) t (late_law o up h u.grown.3) nil))
     go (Plain calm none same) = same
 
-pub asked_now : (o : Origin) (up : Option Addr) (h : List Entry) (t : Aaid) (c : Current) → IsUnfailed o up h → has_asked o t h ≡ true → (digest o h).current ≡ Some c → is_aaid t (aaid_of c.key) ≡ true → c.asked ≡ true
+pub asked_now : (o : Origin) (up : Option Addr) (h : List Entry) (t : Aaid) (c : Current) → IsUnfailed o up h → has_asked_commit o t h ≡ true → (digest o h).current ≡ Some c → is_aaid t (aaid_of c.key) ≡ true → c.asked ≡ true
 asked_now o up [] t c u a at tree = absurd (cc (a))
-asked_now o up (e ∷ h) t c u a at tree = go (step_of o.who d e.event (late_law o up h u.grown.3) u.grown.0 c at) (or_case (is_now t d.current && is_commit_request e.event) (has_asked o t h) a) (λ v i j k. asked_now o up h t v (unfailed_before o up e h u).1 i j k)
+asked_now o up (e ∷ h) t c u a at tree = go (step_of o.who d e.event (late_law o up h u.grown.3) u.grown.0 c at) (or_case (is_now t d.current && is_commit_request e.event) (has_asked_commit o t h) a) (λ v i j k. asked_now o up h t v (unfailed_before o up e h u).1 i j k)
   where
     d : Digest
     d = digest o h
@@ -286,12 +287,12 @@ asked_now o up (e ∷ h) t c u a at tree = go (step_of o.who d e.event (late_law
     s : Digest
     s = prelude o.who d e.event
 
-    known : ((is_now t d.current && is_commit_request e.event) ≡ true) ⊎ (has_asked o t h ≡ true) → is_known o t h ≡ true
+    known : ((is_now t d.current && is_commit_request e.event) ≡ true) ⊎ (has_asked_commit o t h ≡ true) → is_known o t h ≡ true
     known (inl i) = now_known o up h t u.fresh u.grown.3 (and_left (is_now t d.current) (is_commit_request e.event) i)
     known (inr i) = asked_known o up h t (unfailed_before o up e h u).1 i
 
-    go : IsStep (λ v. v.asked) o.who s (is_commit_request e.event) c → ((is_now t d.current && is_commit_request e.event) ≡ true) ⊎ (has_asked o t h ≡ true)
-        → ((v : Current) → has_asked o t h ≡ true → d.current ≡ Some v → is_aaid t (aaid_of v.key) ≡ true → v.asked ≡ true) → c.asked ≡ true
+    go : IsStep (λ v. v.asked) o.who s (is_commit_request e.event) c → ((is_now t d.current && is_commit_request e.event) ≡ true) ⊎ (has_asked_commit o t h ≡ true)
+        → ((v : Current) → has_asked_commit o t h ≡ true → d.current ≡ Some v → is_aaid t (aaid_of v.key) ≡ true → v.asked ≡ true) → c.asked ≡ true
     go (inl w) (inl i) rest = let now = and_right (is_now t d.current) (is_commit_request e.event) i in w.3 ∙ rw now refl
     go (inl w) (inr i) rest =
         let same = (plain_before o up e h t u (known (inr i)) (ap (is_now t) at ∙ tree)).1 in

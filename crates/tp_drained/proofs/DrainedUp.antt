@@ -9,7 +9,7 @@ use Rattle.tp_model.specs.Parts.{Branch, Current}
 use Rattle.tp_model.specs.Dialogues.{is_active, is_committing}
 use Rattle.tp_model.specs.Transactions.{aaid_of}
 use Rattle.tp_model.specs.History.{digest, records}
-use Rattle.tp_model.specs.Outcomes.{is_now, has_left, has_asked}
+use Rattle.tp_model.specs.Outcomes.{is_now, has_left, has_asked_commit}
 use Rattle.tp_model.specs.Questions.{is_at}
 use Rattle.tp_model.specs.World.{Node, number_of, addr_of, find_node}
 use Rattle.tp_model.specs.Happenings.{Happening, run}
@@ -153,7 +153,7 @@ found_is f c p v found h = rw (found, branch_is) at h
 
 pub answered_up : (es : List Happening) (t : Aaid) → IsDone es t → (k : ℕ) (x : Node) → IsWithin es k x → IsOf (run es) t x → IsAnswered t x
 answered_up es t d zero x le of = absurd (none_within es t x of le)
-answered_up es t d (suc k) x le of = go (or_case (has_asked x.origin t x.history) (has_left x.origin t x.history) (d.asked x of)) (λ b z branch. answered_up es t d k z (branch_within es t b k x z branch le) branch.child)
+answered_up es t d (suc k) x le of = go (or_case (has_asked_commit x.origin t x.history) (has_left x.origin t x.history) (d.asked x of)) (λ b z branch. answered_up es t d k z (branch_within es t b k x z branch le) branch.child)
   where
     u : IsUnfailed x.origin x.superior x.history
     u = unfailed_at es t d x of
@@ -161,7 +161,7 @@ answered_up es t d (suc k) x le of = go (or_case (has_asked x.origin t x.history
     undone : (c : Current) → is_active c.phase ≡ true → c.asked ≡ true → are_settled c.branches ≡ true → is_left_undone c ≡ true
     undone c h i j = rw (h, i, j, is_left_undone, is_left_unsettled) refl
 
-    never : (c : Current) → (digest x.origin x.history).current ≡ Some c → is_aaid t (aaid_of c.key) ≡ true → is_active c.phase ≡ true → has_asked x.origin t x.history ≡ true
+    never : (c : Current) → (digest x.origin x.history).current ≡ Some c → is_aaid t (aaid_of c.key) ≡ true → is_active c.phase ≡ true → has_asked_commit x.origin t x.history ≡ true
         → ((b : BranchId) (z : Node) → IsBranchOf (run es) t b x z → IsAnswered t z) → ⊥
     never c at tree active asked rest =
         let settled : are_settled c.branches ≡ true = all_settled_at c.branches (spread_at x.origin x.superior x.history u.fresh u.grown c at) (λ p v found.
@@ -169,12 +169,12 @@ answered_up es t d (suc k) x le of = go (or_case (has_asked x.origin t x.history
         found_is has_answered c p v found (subst (λ (n : ℕ). branch_is has_answered c n ≡ true) z.1 (branch_answered es t d v.id x z.0 z.2 (rest v.id z.0 z.2) c at tree active)))) in
         cc (undone c active (asked_now x.origin x.superior x.history t c u asked at tree) settled, prompt_run es x c of.here at)
 
-    stood : Stands x.origin x.history t → has_asked x.origin t x.history ≡ true → ((b : BranchId) (z : Node) → IsBranchOf (run es) t b x z → IsAnswered t z) → IsAnswered t x
+    stood : Stands x.origin x.history t → has_asked_commit x.origin t x.history ≡ true → ((b : BranchId) (z : Node) → IsBranchOf (run es) t b x z → IsAnswered t z) → IsAnswered t x
     stood (Is_active c at tree active) asked rest = absurd (never c at tree active asked rest)
     stood (Is_bound r) asked rest = inr r
     stood (Has_left l) asked rest = inl l
 
-    go : (has_asked x.origin t x.history ≡ true) ⊎ (has_left x.origin t x.history ≡ true) → ((b : BranchId) (z : Node) → IsBranchOf (run es) t b x z → IsAnswered t z) → IsAnswered t x
+    go : (has_asked_commit x.origin t x.history ≡ true) ⊎ (has_left x.origin t x.history ≡ true) → ((b : BranchId) (z : Node) → IsBranchOf (run es) t b x z → IsAnswered t z) → IsAnswered t x
     go (inr l) rest = inl l
     go (inl asked) rest = stood (stands_law x.origin x.superior x.history t (all_legal es x of.here) u (nobody_rolls es t d.calm x of) of.of_tree) asked rest
 

@@ -19,7 +19,8 @@ use Rattle.tp_model.specs.Requests.{has_branch_at}
 use Rattle.tp_model.specs.History.{digest}
 use Rattle.tp_model.specs.Legal.{IsGrown}
 use Rattle.tp_model.specs.Outcomes.{is_now, decided, rolled, is_unchanged, tells_complete_none, completed_none, has_failed}
-use Rattle.tp_model.specs.Promises.{completes, has_told_in}
+use Rattle.tp_model.specs.Promises.{has_told_in}
+use Rattle.tp_model.specs.Questions.{tells_commit_complete}
 use Rattle.tp_model.specs.Questions.{heard_from, is_record}
 use Rattle.tp_histories.specs.Histories.{IsSentIn}
 use Rattle.tp_steps.specs.Traces.{sent_of}
@@ -148,4 +149,4 @@ took_clear t o (e ∷ h) = (not (is_now t (digest o h).current) || is_clear_even
 
 -- a commitment that is complete is so with no report
 abbrev pub ClearReport : Origin → List Entry → Type 0
-ClearReport o h = (t : Aaid) → took_clear t o h ≡ true → has_told_in completes o t h ≡ true → completed_none o t h ≡ true
+ClearReport o h = (t : Aaid) → took_clear t o h ≡ true → has_told_in tells_commit_complete o t h ≡ true → completed_none o t h ≡ true

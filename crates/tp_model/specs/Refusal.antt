@@ -1,6 +1,6 @@
 -- The refusals by their names: the number of each, which the definitions of the service speak of, and how a call
 -- answers by one. When each comes stands with what it refuses: `Dialogues`, `Requests`, `Transactions`, `Arrivals`.
-use Rattle.std.specs.Prelude.{ℕ, ◌≡◌, Bool, true, false, Option, Some, None, Result, Ok, Err, List, [], ◌∷◌}
+use Rattle.std.specs.Prelude.{ℕ, ◌≡◌, Bool, true, false, Option, Some, None, Result, Ok, Err}
 use Rattle.tp_model.specs.declared.refusal.Refusal.{Refusal}
 use Rattle.tp_model.specs.declared.transaction.TxFault.{TxFault}
 
@@ -38,11 +38,6 @@ is_dropped _ = false
 abbrev pub number_in : Option Refusal → Option ℕ
 number_in None = None
 number_in (Some r) = Some (number_of r)
-
--- tests with their refusals, by the numbers of these
-abbrev pub numbered : List (Bool × Refusal) → List (Bool × ℕ)
-numbered [] = []
-numbered (t ∷ ts) = (t.0, number_of t.1) ∷ numbered ts
 
 -- the number by which a call refuses
 abbrev pub number_answered : {A : Type 0} → Result A Refusal → Option ℕ
