@@ -25,6 +25,7 @@ ghost use Rattle.tp_model.specs.Transcript.{transcript_with};
 ghost use Rattle.tp_model.specs.Expand.{played_all, IsExpanded};
 ghost use Rattle.tp_members.specs.Expansion.{LeavesItsWorld, ClosesAlike, IsWrittenOut, SpeaksOfNone, IsOfRun};
 ghost use Rattle.tp_runs.specs.RolledSeen.{RolledIsSeen};
+ghost use Rattle.tp_laws.specs.Whole.{AllPromised};
 
 /// In every run, every node's history is one that grew from an empty log by events that were accepted.
 pub fn all_legal()
@@ -127,6 +128,12 @@ pub fn headline()
 /// its branches, reports, and the closing line of a mixed tree.
 pub fn the_promises_are_kept()
     ensures { (es : List Happening) → Promised (run es) }
+{}
+
+/// In every run, all that the laws say of the world that it leaves: the promises above, and of the nodes of each tree what they are
+/// told, log, force and report.
+pub fn all_that_is_promised_is_kept()
+    ensures { (es : List Happening) → AllPromised (run es) }
 {}
 
 /// What lines leave, for every number of members and every list of answers, is what a list of happenings leaves; so is what
