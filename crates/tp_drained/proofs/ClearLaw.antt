@@ -1,4 +1,5 @@
--- In every legal history without a failure a commitment whose branches reported nothing is complete with no report.
+-- In every legal history, where nothing failed while the tree was current, a commitment whose branches reported nothing is complete
+-- with no report.
 use Rattle.std.proofs.Common.{◌≡◌, ◌⊎◌, inl, inr, ℕ, Bool, true, false, refl, ap, sym, subst, ◌∙◌, arith, Option, Some, None, List, [], ◌∷◌, ◌++◌, ◌&&◌, ◌||◌, not}
 use Rattle.tp_names.specs.declared.identifiers.Addr.{Addr}
 use Rattle.tp_names.specs.declared.identifiers.Aaid.{Aaid}
@@ -41,7 +42,7 @@ use Rattle.tp_histories.proofs.upward.SpeaksUp.{complete_tells}
 use Rattle.tp_steps.proofs.links.Told.{told_append, told_performed, told_played}
 use Rattle.tp_drained.proofs.Calm.{is_calm}
 use Rattle.tp_drained.proofs.LiveEvents.{quiet_begin, spoken_quiet}
-use Rattle.tp_drained.proofs.LiveLaw.{unfailed_before}
+use Rattle.tp_drained.proofs.LiveLaw.{unfailed_before, recovered_now}
 use Rattle.tp_drained.proofs.Said.{out_weaker}
 use Rattle.tp_drained.proofs.ClearTurns.{is_complete, brings_none, is_clear_branch, clear_rows, is_clear, clears}
 use Rattle.tp_steps.proofs.every.BeginCases.{begin_cases}
@@ -240,7 +241,7 @@ abbrev pub AreClear : Aaid → Origin → List Entry → Type 0
 AreClear t o [] = Unit {0}
 AreClear t o (e ∷ h) = BringsNone o.who t e.event (prelude o.who (digest o h) e.event) × AreClear t o h
 
-entry_moves : (o : Origin) (up : Option Addr) (e : Entry) (h : List Entry) (t : Aaid) → IsUnfailed o up (e ∷ h) → BringsNone o.who t e.event (prelude o.who (digest o h) e.event) → IsClearMove t (prelude o.who (digest o h) e.event) (prelude o.who (digest o h) e.event) (action o.who (digest o h) e.event)
+entry_moves : (o : Origin) (up : Option Addr) (e : Entry) (h : List Entry) (t : Aaid) → IsUnfailed t o up (e ∷ h) → BringsNone o.who t e.event (prelude o.who (digest o h) e.event) → IsClearMove t (prelude o.who (digest o h) e.event) (prelude o.who (digest o h) e.event) (action o.who (digest o h) e.event)
 entry_moves o up e h t k brings = every_move o.who d e.event (IsClearMove t s) (clear_moves t o.who e.event s brings) (late_law o up h k.grown.3) k.grown.0
   where
     d : Digest
@@ -249,8 +250,20 @@ entry_moves o up e h t k brings = every_move o.who d e.event (IsClearMove t s) (
     s : Digest
     s = prelude o.who d e.event
 
-brings_entry : (o : Origin) (up : Option Addr) (e : Entry) (h : List Entry) (t : Aaid) → IsUnfailed o up (e ∷ h) → took_clear t o (e ∷ h) ≡ true → BringsNone o.who t e.event (prelude o.who (digest o h) e.event)
-brings_entry o up e h t k took c f arcs at tree asked = (calm_event e.event c f calm asked, clear_brings t e.event c f (seen o.who arcs c) (go (came_by o.who d e.event k.grown.0) c at tree) tree asked (brought_by f))
+-- an event that leaves the tree current in its prelude is no failure
+pub calm_prelude : (o : Origin) (up : Option Addr) (e : Entry) (h : List Entry) (t : Aaid) → IsUnfailed t o up (e ∷ h) → is_now t (prelude o.who (digest o h) e.event).current ≡ true → is_failure e.event ≡ false
+calm_prelude o up e h t k now = go (came_by o.who d e.event k.grown.0)
+  where
+    d : Digest
+    d = digest o h
+
+    go : Came o.who d e.event → is_failure e.event ≡ false
+    go (As_it_was i) = (unfailed_before t o up e h k).0 (ap (is_now t) (sym i) ∙ now)
+    go (By_begin from x y q u b g a is found cur nil above) = ap is_failure is
+    go (By_crash is cur) = (unfailed_before t o up e h k).0 (recovered_now t d.current (ap (is_now t) (sym cur) ∙ now))
+
+brings_entry : (o : Origin) (up : Option Addr) (e : Entry) (h : List Entry) (t : Aaid) → IsUnfailed t o up (e ∷ h) → took_clear t o (e ∷ h) ≡ true → BringsNone o.who t e.event (prelude o.who (digest o h) e.event)
+brings_entry o up e h t k took c f arcs at tree asked = (calm_event e.event c f (calm_prelude o up e h t k (ap (is_now t) at ∙ tree)) asked, clear_brings t e.event c f (seen o.who arcs c) (go (came_by o.who d e.event k.grown.0) c at tree) tree asked (brought_by f))
   where
     d : Digest
     d = digest o h
@@ -258,42 +271,39 @@ brings_entry o up e h t k took c f arcs at tree asked = (calm_event e.event c f 
     s : Digest
     s = prelude o.who d e.event
 
-    calm : is_failure e.event ≡ false
-    calm = (unfailed_before o up e h k).0
-
     event : is_now t d.current ≡ true → is_clear_event t e.event ≡ true
     event now = grind (arith, took, now)
 
     go : Came o.who d e.event → (c : Current) → s.current ≡ Some c → is_aaid t (aaid_of c.key) ≡ true → is_clear_event t e.event ≡ true
     go (As_it_was i) c at tree = event (ap (is_now t) (sym i ∙ at) ∙ tree)
     go (By_begin from x y q u b g a is found cur nil above) c at tree = ap (is_clear_event t) is
-    go (By_crash is cur) c at tree = absurd (cc (ap is_failure is, calm))
+    go (By_crash is cur) c at tree = ap (is_clear_event t) is
 
-are_clear : (o : Origin) (up : Option Addr) (h : List Entry) (t : Aaid) → IsUnfailed o up h → took_clear t o h ≡ true → AreClear t o h
+are_clear : (o : Origin) (up : Option Addr) (h : List Entry) (t : Aaid) → IsUnfailed t o up h → took_clear t o h ≡ true → AreClear t o h
 are_clear o up [] t k took = tt
-are_clear o up (e ∷ h) t k took = (brings_entry o up e h t k took, are_clear o up h t (unfailed_before o up e h k).1 (and_right (not (is_now t (digest o h).current) || is_clear_event t e.event) (took_clear t o h) took))
+are_clear o up (e ∷ h) t k took = (brings_entry o up e h t k took, are_clear o up h t (unfailed_before t o up e h k).1 (and_right (not (is_now t (digest o h).current) || is_clear_event t e.event) (took_clear t o h) took))
 
-entry_prelude : (o : Origin) (up : Option Addr) (e : Entry) (h : List Entry) (t : Aaid) → IsUnfailed o up (e ∷ h) → IsClearIn t (digest o h).current → IsClearIn t (prelude o.who (digest o h) e.event).current
+entry_prelude : (o : Origin) (up : Option Addr) (e : Entry) (h : List Entry) (t : Aaid) → IsUnfailed t o up (e ∷ h) → IsClearIn t (digest o h).current → IsClearIn t (prelude o.who (digest o h) e.event).current
 entry_prelude o up e h t k old = go (came_by o.who (digest o h) e.event k.grown.0)
   where
     go : Came o.who (digest o h) e.event → IsClearIn t (prelude o.who (digest o h) e.event).current
-    go (As_it_was i) = subst (IsClearIn t) (sym i) old
-    go (By_begin from x y q u b g a is found cur nil above) = subst (IsClearIn t) (sym cur) (fresh_clear t (Under u b a.peer))
-    go (By_crash is cur) = absurd (cc (ap is_failure is, (unfailed_before o up e h k).0))
+    go (As_it_was i) c at tree = old c (sym i ∙ at) tree
+    go (By_begin from x y q u b g a is found cur nil above) c at tree = fresh_clear t (Under u b a.peer) c (sym cur ∙ at) tree
+    go (By_crash is cur) c at tree = absurd (cc (ap is_failure is, (unfailed_before t o up e h k).0 (recovered_now t (digest o h).current (ap (is_now t) (sym cur ∙ at) ∙ tree))))
 
-clear_law : (o : Origin) (up : Option Addr) (h : List Entry) (t : Aaid) → IsUnfailed o up h → AreClear t o h → IsClearIn t (digest o h).current
+clear_law : (o : Origin) (up : Option Addr) (h : List Entry) (t : Aaid) → IsUnfailed t o up h → AreClear t o h → IsClearIn t (digest o h).current
 clear_law o up [] t k took = λ c is tree. absurd (cc (current_none o k.fresh, is))
 clear_law o up (e ∷ h) t k took =
-    (entry_moves o up e h t k took.0).clear (entry_prelude o up e h t k (clear_law o up h t (unfailed_before o up e h k).1 took.1))
+    (entry_moves o up e h t k took.0).clear (entry_prelude o up e h t k (clear_law o up h t (unfailed_before t o up e h k).1 took.1))
 
-report_step : (o : Origin) (up : Option Addr) (e : Entry) (h : List Entry) (t : Aaid) → IsUnfailed o up (e ∷ h) → AreClear t o (e ∷ h) → is_now t (digest o h).current ≡ true → completes e.outs ≡ true → tells_complete_none e.outs ≡ true
+report_step : (o : Origin) (up : Option Addr) (e : Entry) (h : List Entry) (t : Aaid) → IsUnfailed t o up (e ∷ h) → AreClear t o (e ∷ h) → is_now t (digest o h).current ≡ true → completes e.outs ≡ true → tells_complete_none e.outs ≡ true
 report_step o up e h t k took now told = complete_tells e.outs ∙ ap (λ (v : Entry). out_tells is_complete_none v.outs) (sym k.grown.1) ∙ (entry_moves o up e h t k took.0).tells (entry_prelude o up e h t k clear) (here (came_by o.who d e.event k.grown.0)) said
   where
     d : Digest
     d = digest o h
 
     clear : IsClearIn t d.current
-    clear = clear_law o up h t (unfailed_before o up e h k).1 took.1
+    clear = clear_law o up h t (unfailed_before t o up e h k).1 took.1
 
     said : out_tells is_complete (action o.who d e.event).outs ≡ true
     said = ap (λ (v : Entry). out_tells is_complete v.outs) k.grown.1 ∙ sym (completes_told e.outs) ∙ told
@@ -301,9 +311,9 @@ report_step o up e h t k took now told = complete_tells e.outs ∙ ap (λ (v : E
     here : Came o.who d e.event → is_now t (prelude o.who d e.event).current ≡ true
     here (As_it_was i) = ap (is_now t) i ∙ now
     here (By_begin from x y q u b g a is found cur nil above) = absurd (cc (now, nil_now d t (late_law o up h k.grown.3) nil))
-    here (By_crash is cur) = absurd (cc (ap is_failure is, (unfailed_before o up e h k).0))
+    here (By_crash is cur) = absurd (cc (ap is_failure is, (unfailed_before t o up e h k).0 now))
 
-report_then : (o : Origin) (up : Option Addr) (e : Entry) (h : List Entry) (t : Aaid) → IsUnfailed o up (e ∷ h) → AreClear t o (e ∷ h) → has_told_in completes o t (e ∷ h) ≡ true → (has_told_in completes o t h ≡ true → completed_none o t h ≡ true) → completed_none o t (e ∷ h) ≡ true
+report_then : (o : Origin) (up : Option Addr) (e : Entry) (h : List Entry) (t : Aaid) → IsUnfailed t o up (e ∷ h) → AreClear t o (e ∷ h) → has_told_in completes o t (e ∷ h) ≡ true → (has_told_in completes o t h ≡ true → completed_none o t h ≡ true) → completed_none o t (e ∷ h) ≡ true
 report_then o up e h t k took told rest = go (or_case (is_now t (digest o h).current && completes e.outs) (has_told_in completes o t h) told)
   where
     go : ((is_now t (digest o h).current && completes e.outs) ≡ true) ⊎ (has_told_in completes o t h ≡ true) → completed_none o t (e ∷ h) ≡ true
@@ -313,9 +323,9 @@ report_then o up e h t k took told rest = go (or_case (is_now t (digest o h).cur
         let none : tells_complete_none e.outs ≡ true = report_step o up e h t k took now (and_right (is_now t (digest o h).current) (completes e.outs) j) in
         rw (now, none) refl
 
-pub report_law : (o : Origin) (up : Option Addr) (h : List Entry) (t : Aaid) → IsUnfailed o up h → AreClear t o h → has_told_in completes o t h ≡ true → completed_none o t h ≡ true
+pub report_law : (o : Origin) (up : Option Addr) (h : List Entry) (t : Aaid) → IsUnfailed t o up h → AreClear t o h → has_told_in completes o t h ≡ true → completed_none o t h ≡ true
 report_law o up [] t k took told = absurd (cc (told))
-report_law o up (e ∷ h) t k took told = report_then o up e h t k took told (report_law o up h t (unfailed_before o up e h k).1 took.1)
+report_law o up (e ∷ h) t k took told = report_then o up e h t k took told (report_law o up h t (unfailed_before t o up e h k).1 took.1)
 
-pub clear_report : (o : Origin) (up : Option Addr) (h : List Entry) → IsUnfailed o up h → ClearReport o h
-clear_report o up h k t took = report_law o up h t k (are_clear o up h t k took)
+pub clear_report : (t : Aaid) (o : Origin) (up : Option Addr) (h : List Entry) → IsUnfailed t o up h → ClearReport t o h
+clear_report t o up h k took = report_law o up h t k (are_clear o up h t k took)

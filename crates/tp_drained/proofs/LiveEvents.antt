@@ -148,7 +148,7 @@ aside_still d g same grows = record { alive = λ old c p is need. grows c p (sym
 aside_none : (d : Digest) (m : Move) → m.next.current ≡ None → out_tells is_outcome_told m.outs ≡ false → logs_ready_or_commit m.rec ≡ false → IsAside d m
 aside_none d m none quiet plain = record { alive = λ old c p is need. absurd (cc (none, is)); quiet = quiet; plain = plain }
 
-no_transact : (who : Who) (f : TxEvent) (g : Digest) → g.current ≡ None → transact who f g ≡ move [] g
+pub no_transact : (who : Who) (f : TxEvent) (g : Digest) → g.current ≡ None → transact who f g ≡ move [] g
 unfolding transact
 no_transact who f g none = ap (λ (o : Option Current). elim o as (λ _. Move) [ None ↦ move [] g | Some c ↦ restarted who (passed who f g c) (turned who f g c) ]) none
 

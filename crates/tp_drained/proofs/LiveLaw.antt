@@ -1,11 +1,11 @@
--- In every legal history without a failure the arcs that the current transaction needs are live.
+-- What is put to the current transaction by an event that is no failure; histories in which nothing failed in a tree.
 use Rattle.std.proofs.Common.{if◌then◌else◌, ◌≡◌, inl, inr, ℕ, Bool, true, false, refl, ap, sym, subst, ◌∙◌, arith, Option, Some, None, List, [], ◌∷◌, ◌&&◌, ◌||◌, ◌==◌}
 use Rattle.std.proofs.lemmas.Bool.Decides.{nat_tests}
 use Rattle.tp_names.specs.declared.identifiers.Addr.{Addr}
 use Rattle.tp_names.specs.declared.identifiers.Aaid.{Aaid}
 use Rattle.tp_names.specs.declared.identifiers.BranchId.{BranchId}
 use Rattle.tp_names.specs.declared.identifiers.NodeKey.{NodeKey}
-use Rattle.tp_names.specs.Same.{is_key}
+use Rattle.tp_names.specs.Same.{is_aaid, is_key}
 use Rattle.tp_records.specs.declared.request.Request.{Request}
 use Rattle.tp_records.specs.declared.dialogue.DialogueRecord.{DialogueRecord}
 use Rattle.tp_records.specs.declared.peer.PeerRecord.{PeerRecord}
@@ -14,23 +14,21 @@ use Rattle.tp_model.specs.declared.transaction.TxEvent.{TxEvent}
 use Rattle.tp_model.specs.Parts.{Who, Origin, Event, Entry, Arc, Branch, Current, Digest}
 use Rattle.tp_model.specs.Dialogues.{is_nil, is_ready, Sight, Acts, Nothing_happens, Out_of_phase}
 use Rattle.tp_model.specs.Arcs.{find_arc, is_live_with_peer}
-use Rattle.tp_model.specs.Transactions.{Transaction, node_key, is_under_at, all_left, refused_tx}
+use Rattle.tp_model.specs.Transactions.{Transaction, aaid_of, node_key, is_under_at, all_left, refused_tx}
 use Rattle.tp_model.specs.AmongArcs.{IsAmongArcs, Reaches, IsTakenUp, IsPutOff}
 use Rattle.tp_model.specs.Node.{Move, seen_rows, seen, transact}
 use Rattle.tp_model.specs.Arrivals.{branch_key, named_by_key, named_by_branch, is_current_ready, sight_at}
-use Rattle.tp_model.specs.Events.{action}
+use Rattle.tp_model.specs.Events.{recovered_current, action}
 use Rattle.tp_model.specs.History.{digest}
 use Rattle.tp_model.specs.Legal.{is_start, IsGrown, IsLegal}
-use Rattle.tp_model.specs.Outcomes.{is_failure, has_failed}
+use Rattle.tp_model.specs.Outcomes.{is_now, is_failure}
 use Rattle.tp_steps.specs.Moves.{IsPut, is_took}
 use Rattle.tp_steps.specs.Puts.{Put, put, counted_arcs, put_by_record, put_on, put_where_ready, is_committing_named, put_by_peer, put_by_request, put_by, with_others, IsPutTo}
-use Rattle.tp_drained.specs.Drained.{IsUnfailed, BranchLive, SuperiorLive}
+use Rattle.tp_drained.specs.Drained.{has_failed_in, IsUnfailed}
 use Rattle.tp_histories.proofs.order.InOrderLaw.{among_law, empty_apart}
-use Rattle.tp_histories.proofs.trees.Knowing.{current_none}
-use Rattle.tp_histories.proofs.order.PutLaw.{put_law}
 use Rattle.tp_drained.proofs.Calm.{is_calm, leaves_with_end}
 use Rattle.tp_drained.proofs.LiveTurned.{IsAlive, alive_transact}
-use Rattle.tp_drained.proofs.LiveEvents.{IsApart, retry_aside, aside_event}
+use Rattle.tp_drained.proofs.LiveEvents.{IsApart, retry_aside}
 use Rattle.tp_drained.proofs.ClearTurns.{wild}
 
 -- ---- what is put to the transaction by an event that is no failure
@@ -187,7 +185,7 @@ alive_others d Event.Retry m calm k = (retry_aside m.next.kept m.next).alive k
 alive_others d (Event.Break from r) m calm k = absurd (cc (calm))
 alive_others d e m calm k = k
 
-alive_put : (who : Who) (d : Digest) (e : Event) (c : Current) (x : Put) → d.current ≡ Some c → is_nil c.phase ≡ false → is_failure e ≡ false → IsPutTo who d e c x → IsCalmPut d x → IsAlive d → IsAlive (action who d e).next
+pub alive_put : (who : Who) (d : Digest) (e : Event) (c : Current) (x : Put) → d.current ≡ Some c → is_nil c.phase ≡ false → is_failure e ≡ false → IsPutTo who d e c x → IsCalmPut d x → IsAlive d → IsAlive (action who d e).next
 alive_put who d e c x i late calm k f old =
     let g : Digest = record d { arcs = x.arcs } in
     subst (λ (m : Move). IsAlive m.next) (sym k.acts)
@@ -197,50 +195,34 @@ alive_put who d e c x i late calm k f old =
     (λ u p j is. let same : c ≡ u = cc (i, j) in subst (λ (v : Current). is_under_at v.key p ≡ false) same (leaves_below x.event c d.arcs x.arcs k.reaches p is))
     (λ u p j need. let same : c ≡ u = cc (i, j) in reaches_live x.event c d.arcs x.arcs f.calm k.reaches p ∙ old u p j need)))
 
--- ---- every history
+-- ---- histories
 
 pub legal_of : (o : Origin) (up : Option Addr) (h : List Entry) → o.start.records ≡ [] → IsGrown o up h → IsLegal o up h
 legal_of o up h none grown = record { start = rw (none, is_start) refl; grown = grown }
 
-pub unfailed_before : (o : Origin) (up : Option Addr) (e : Entry) (h : List Entry) → IsUnfailed o up (e ∷ h) → (is_failure e.event ≡ false) × IsUnfailed o up h
-unfailed_before o up e h k = (either (is_failure e.event) (has_failed h) k.calm, record { fresh = k.fresh; grown = k.grown.3; once = k.once.1; calm = other (is_failure e.event) (has_failed h) k.calm })
+pub unfailed_before : (t : Aaid) (o : Origin) (up : Option Addr) (e : Entry) (h : List Entry) → IsUnfailed t o up (e ∷ h) → (is_now t (digest o h).current ≡ true → is_failure e.event ≡ false) × IsUnfailed t o up h
+unfailed_before t o up e h k = (
+  λ now. either (is_now t (digest o h).current) (is_failure e.event) (has_failed_in o t h) now k.calm,
+  record { fresh = k.fresh; grown = k.grown.3; once = k.once.1; calm = other (is_now t (digest o h).current && is_failure e.event) (has_failed_in o t h) k.calm },
+)
   where
-    either : (a b : Bool) → (a || b) ≡ false → a ≡ false
-    either a b h = grind (arith, h)
+    either : (n a b : Bool) → n ≡ true → (n && a || b) ≡ false → a ≡ false
+    either n a b i h = grind (arith, i, h)
 
     other : (a b : Bool) → (a || b) ≡ false → b ≡ false
     other a b h = grind (arith, h)
+
+-- an entry of the tree is no failure
+pub calm_entry : (t : Aaid) (o : Origin) (up : Option Addr) (e : Entry) (h : List Entry) (c : Current) → IsUnfailed t o up (e ∷ h) → (digest o h).current ≡ Some c → is_aaid t (aaid_of c.key) ≡ true → is_failure e.event ≡ false
+calm_entry t o up e h c k i tree = (unfailed_before t o up e h k).0 (ap (is_now t) i ∙ tree)
+
+-- what is current after a crash was so before it
+pub recovered_now : (t : Aaid) (o : Option Current) → is_now t (recovered_current o) ≡ true → is_now t o ≡ true
+recovered_now t None h = h
+recovered_now t (Some c) h = grind (arith, h)
 
 pub among_of : (o : Origin) (up : Option Addr) (h : List Entry) (c : Current) → o.start.records ≡ [] → IsGrown o up h → (digest o h).current ≡ Some c → IsAmongArcs (digest o h).arcs c
 among_of o up h c none grown i = among_law o up h c (legal_of o up h none grown) (empty_apart o none) i
 
 pub apart_of : (o : Origin) (up : Option Addr) (h : List Entry) → o.start.records ≡ [] → IsGrown o up h → IsApart (digest o h)
 apart_of o up h none grown c p i under = (among_of o up h c none grown i).apart p under
-
-alive_step : (o : Origin) (up : Option Addr) (e : Entry) (h : List Entry) → IsUnfailed o up (e ∷ h) → IsAlive (digest o h) → IsAlive (digest o (e ∷ h))
-alive_step o up e h k old = go d.current refl
-  where
-    d : Digest
-    d = digest o h
-
-    calm : is_failure e.event ≡ false
-    calm = (unfailed_before o up e h k).0
-
-    on : (c : Current) → d.current ≡ Some c → (v : Option Put) → put_by o.who d e.event ≡ v → IsAlive (action o.who d e.event).next
-    on c i None j = (aside_event o.who d e.event calm k.grown.0 (apart_of o up h k.fresh k.grown.3) (inl j)).alive old
-    on c i (Some x) j =
-        alive_put o.who d e.event c x i (among_of o up h c k.fresh k.grown.3 i).current calm (put_law o up h e.event c x (legal_of o up h k.fresh k.grown.3) (empty_apart o k.fresh) k.grown.0 i j) (calm_put o.who d e.event x calm j) old
-
-    go : (v : Option Current) → d.current ≡ v → IsAlive (action o.who d e.event).next
-    go None i = (aside_event o.who d e.event calm k.grown.0 (apart_of o up h k.fresh k.grown.3) (inr i)).alive old
-    go (Some c) i = on c i (put_by o.who d e.event) refl
-
-pub alive_law : (o : Origin) (up : Option Addr) (h : List Entry) → IsUnfailed o up h → IsAlive (digest o h)
-alive_law o up [] k = λ c p is need. absurd (cc (current_none o k.fresh, is))
-alive_law o up (e ∷ h) k = alive_step o up e h k (alive_law o up h (unfailed_before o up e h k).1)
-
-pub branch_live : (o : Origin) (up : Option Addr) (h : List Entry) → IsUnfailed o up h → BranchLive o h
-branch_live o up h k c b p now found off = alive_law o up h k c p now (grind (arith, found, off))
-
-pub superior_live : (o : Origin) (up : Option Addr) (h : List Entry) → IsUnfailed o up h → SuperiorLive o h
-superior_live o up h k c p now under = alive_law o up h k c p now (rw under refl)

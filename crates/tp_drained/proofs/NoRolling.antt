@@ -20,7 +20,7 @@ use Rattle.tp_model.specs.Node.{seen}
 use Rattle.tp_model.specs.Arrivals.{branch_key, named_by_key, is_current_ready, sight_at}
 use Rattle.tp_model.specs.Events.{refusal, action, started}
 use Rattle.tp_model.specs.History.{digest, records, entry_of}
-use Rattle.tp_model.specs.Outcomes.{is_now, is_member, is_failure, has_failed, rolls, rolls_by_rollback, is_crash_in_active, rolled}
+use Rattle.tp_model.specs.Outcomes.{is_now, is_member, is_failure, rolls, rolls_by_rollback, is_crash_in_active, rolled}
 use Rattle.tp_model.specs.Questions.{sent_more, is_at}
 use Rattle.tp_model.specs.World.{Node, Frame, number_of, addr_of, find_node, put_node}
 use Rattle.tp_model.specs.Happenings.{Happening, frames_of, run}
@@ -36,6 +36,7 @@ use Rattle.tp_steps.specs.Upward.{Deeds, holds_at}
 use Rattle.tp_histories.specs.Upward.{deeds_of}
 use Rattle.tp_steps.specs.Moves.{prelude}
 use Rattle.tp_runs.specs.Heeded.{heeds_event, heeds}
+use Rattle.tp_drained.specs.Drained.{has_failed_in}
 use Rattle.tp_drained.specs.DrainedWorlds.{NobodyRolls}
 use Rattle.tp_histories.proofs.worlds.Nodes.{find_put, find_append}
 use Rattle.tp_histories.proofs.trees.Late.{late_law}
@@ -224,9 +225,9 @@ superior_node ns fs z p good hz above = go z.superior refl
 
 -- ---- in a world
 
--- no node of the tree failed
+-- nothing failed in the tree
 abbrev pub IsCalm : List Node → Aaid → Type 0
-IsCalm ns t = (x : Node) → find_node ns (number_of x) ≡ Some x → is_member x.origin t x.history ≡ true → has_failed x.history ≡ false
+IsCalm ns t = (x : Node) → find_node ns (number_of x) ≡ Some x → is_member x.origin t x.history ≡ true → has_failed_in x.origin t x.history ≡ false
 
 abbrev pub NoneRolled : List Node → Type 0
 NoneRolled ns = (t : Aaid) → IsCalm ns t → (x : Node) → find_node ns (number_of x) ≡ Some x → rolled x.origin t x.history ≡ true → ⊥
@@ -406,18 +407,18 @@ none_event ns fs z e st told tied p t calm x hx r = go (number_of z == number_of
     both_false false b h = (refl, h)
     both_false true b h = absurd (cc (h))
 
-    -- no node of the tree had failed
+    -- nothing had failed in the tree
     before : IsCalm ns t
     before v hv m = on (number_of z == number_of v) refl
       where
-        on : (b : Bool) → (number_of z == number_of v) ≡ b → has_failed v.history ≡ false
+        on : (b : Bool) → (number_of z == number_of v) ≡ b → has_failed_in v.origin t v.history ≡ false
         on false i = calm v (grind (arith, at (number_of v), i, hv)) m
         on true i =
             let number : number_of z ≡ number_of v = grind (arith, nat_tests, i) in
             let same : v ≡ z = some_same v z (sym hv ∙ ap (find_node ns) (sym number) ∙ st.accepts.here) in
             let member : is_member y.origin t y.history ≡ true = later_member z.origin t (entry_of z.origin z.history e) z.history (subst (λ (u : Node). is_member u.origin t u.history ≡ true) same m) in
-            let fine : has_failed y.history ≡ false = calm y here member in
-            subst (λ (u : Node). has_failed u.history ≡ false) (sym same) ((both_false (is_failure e) (has_failed z.history) fine).1)
+            let fine : has_failed_in y.origin t y.history ≡ false = calm y here member in
+            subst (λ (u : Node). has_failed_in u.origin t u.history ≡ false) (sym same) ((both_false (is_now t (digest z.origin z.history).current && is_failure e) (has_failed_in z.origin t z.history) fine).1)
 
     mine : rolled y.origin t y.history ≡ true → ⊥
     mine roll = elim (or_case (is_now t (digest z.origin z.history).current && (rolls z.origin.who (digest z.origin z.history) e || is_crash_in_active (digest z.origin z.history) e)) (rolled z.origin t z.history) roll) [
@@ -427,7 +428,7 @@ none_event ns fs z e st told tied p t calm x hx r = go (number_of z == number_of
     ]
       where
         fine : is_now t (digest z.origin z.history).current ≡ true → is_failure e ≡ false
-        fine n = (both_false (is_failure e) (has_failed z.history) (calm y here (later_member z.origin t (entry_of z.origin z.history e) z.history (member_head z.origin t z.history n)))).0
+        fine n = let both : (is_now t (digest z.origin z.history).current && is_failure e) ≡ false = (both_false (is_now t (digest z.origin z.history).current && is_failure e) (has_failed_in z.origin t z.history) (calm y here (later_member z.origin t (entry_of z.origin z.history e) z.history (member_head z.origin t z.history n)))).0 in grind (arith, n, both)
 
         crashed : (d : Digest) (f : Event) → is_crash_in_active d f ≡ true → is_failure f ≡ false → ⊥
         crashed d Event.Crash h k = cc (k)
