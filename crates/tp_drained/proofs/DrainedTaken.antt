@@ -26,7 +26,7 @@ use Rattle.tp_runs.specs.Framed.{is_stop, has_stopped, IsFrameTo}
 use Rattle.tp_steps.specs.Traces.{fits, sent_of}
 use Rattle.tp_histories.specs.Traces.{sent_on, taken_on, history_at}
 use Rattle.tp_drained.specs.Drained.{has_failed_in}
-use Rattle.tp_drained.specs.DrainedWorlds.{HasCome, HasSentIn, IsDrainedTree, FramesDrain, NoFailureInTree, AllTaken}
+use Rattle.tp_drained.specs.DrainedWorlds.{HasCome, HasSentIn, IsDrainedTree, AllCame, AllTaken, FramesDrain, NoFailureInTree, WordsAreTaken}
 use Rattle.tp_steps.specs.Moves.{prelude}
 use Rattle.tp_histories.proofs.worlds.Good.{good_run}
 use Rattle.tp_runs.proofs.Framed.{goes_out}
@@ -85,15 +85,18 @@ in_sent o t [] a r k = k
 in_sent o t (e ∷ h) a r (inl k) = inl k.1
 in_sent o t (e ∷ h) a r (inr k) = inr (in_sent o t h a r k)
 
+pub all_came : (es : List Happening) → AllCame (run es)
+all_came es t drained fine x z a r x_in sent there =
+    let f = frame_is (run es).frames (addr_of x) a r (goes_out es x x_in.here (never_stopped x.history (fine x x_in)) a r sent) in
+    let here : find_node (run es).nodes f.0.to.node ≡ Some z = ap (λ (b : Addr). find_node (run es).nodes b.node) f.3 ∙ there in
+    let took = came_any f.0.from f.0.rec z.history (drained.taken x z f.0 x_in f.1 f.2 here) in
+    subst (λ (s : PeerRecord). HasCome z.history (addr_of x) s) f.4 (subst (λ (b : Addr). HasCome z.history b f.0.rec) f.2 took)
+
 pub frames_drain : (es : List Happening) → FramesDrain (run es)
 frames_drain es t drained fine = record { taken = came; settled = drained.settled }
   where
     came : (x z : Node) (a : Addr) (r : PeerRecord) → IsOf (run es) t x → HasSentIn x.origin t x.history a r → find_node (run es).nodes a.node ≡ Some z → HasCome z.history (addr_of x) r
-    came x z a r x_in sent there =
-        let f = frame_is (run es).frames (addr_of x) a r (goes_out es x x_in.here (never_stopped x.history (fine x x_in)) a r (in_sent x.origin t x.history a r sent)) in
-        let here : find_node (run es).nodes f.0.to.node ≡ Some z = ap (λ (b : Addr). find_node (run es).nodes b.node) f.3 ∙ there in
-        let took = came_any f.0.from f.0.rec z.history (drained.taken x z f.0 x_in f.1 f.2 here) in
-        subst (λ (s : PeerRecord). HasCome z.history (addr_of x) s) f.4 (subst (λ (b : Addr). HasCome z.history b f.0.rec) f.2 took)
+    came x z a r x_in sent there = all_came es t drained fine x z a r x_in (in_sent x.origin t x.history a r sent) there
 
 unfailed_in : (o : Origin) (t : Aaid) (h : List Entry) → has_failed h ≡ false → has_failed_in o t h ≡ false
 unfailed_in o t [] fine = refl
@@ -193,8 +196,36 @@ at_end : (xs ys : List DialogueRecord) (r : DialogueRecord) → slice_get (xs ++
 at_end [] ys r = refl
 at_end (x ∷ xs) ys r = at_end xs ys r
 
+beyond : (n : ℕ) → suc n ≤ n → ⊥
+beyond n h = omega (arith, h)
+
 pub all_taken : (es : List Happening) → AllTaken (run es)
-all_taken es t drained x z a m k q r x_in z_in at sent =
+all_taken es t drained fine x z m k x_in z_in = go pre.0 both
+  where
+    sent : List DialogueRecord
+    sent = sent_on m k (number_of z) x.history
+
+    taken : List DialogueRecord
+    taken = taken_on m k (number_of x) z.history
+
+    pre : (more : List DialogueRecord) × (sent_on m k (number_of z) (history_at (run es).nodes (number_of x)) ≡ taken_on m k (number_of x) (history_at (run es).nodes (number_of z)) ++ more)
+    pre = prefix_list (run es).nodes (run es).frames (good_run es) (number_of z) (number_of x) m k
+
+    both : sent ≡ taken ++ pre.0
+    both =
+        ap (sent_on m k (number_of z)) (sym (history_is (run es).nodes (number_of x) x x_in.here)) ∙ pre.1
+        ∙ ap (λ (h : List Entry). taken_on m k (number_of x) h ++ pre.0) (history_is (run es).nodes (number_of z) z z_in)
+
+    go : (more : List DialogueRecord) → sent ≡ taken ++ more → sent ≡ taken
+    go [] is = is ∙ append-nil taken
+    go (r ∷ more) is =
+        let w = sent_with x.origin x.superior x.history (number_of z) m k (length taken) r ((good_run es).legal (number_of x) x x_in.here) (ap (λ (rs : List DialogueRecord). slice_get rs (length taken)) is ∙ at_end taken more r) in
+        let there : find_node (run es).nodes w.0.node ≡ Some z = ap (find_node (run es).nodes) w.1 ∙ z_in in
+        let took = come_took z.history (addr_of x) m k (length taken) r (all_came es t drained fine x z w.0 (PeerRecord.OnAssoc m k (length taken) r) x_in w.2 there) in
+        absurd (beyond (length taken) (taken_below z.origin z.superior z.history (addr_of x) m k (length taken) r ((good_run es).legal (number_of z) z z_in) took))
+
+pub words_are_taken : (es : List Happening) → WordsAreTaken (run es)
+words_are_taken es t drained x z a m k q r x_in z_in at sent =
     taken_below z.origin z.superior z.history (addr_of x) m k q r ((good_run es).legal (number_of z) z z_in)
     (come_took z.history (addr_of x) m k q r (drained.taken x z a (PeerRecord.OnAssoc m k q r) x_in sent (ap (find_node (run es).nodes) at ∙ z_in)))
 
@@ -259,7 +290,7 @@ within (c ∷ before) w rest (x ∷ xs) ys is l =
 
 pub taken_at : (es : List Happening) (t : Aaid) → IsDrainedTree (run es) t → (x z : Node) (m k : Mark) (before : List DialogueRecord) (w : DialogueRecord) (rest : List DialogueRecord) → IsOf (run es) t x → IsIn (run es) z
     → sent_on m k (number_of z) x.history ≡ before ++ w ∷ rest → WasSaid x.origin t x.history (number_of z) m k (length before) w → (less : List DialogueRecord) × (taken_on m k (number_of x) z.history ≡ before ++ w ∷ less)
-taken_at es t drained x z m k before w rest x_in z_in sent said = within before w rest (taken_on m k (number_of x) z.history) pre.0 (sym sent ∙ both) (all_taken es t drained x z said.0 m k (length before) w x_in z_in said.1 said.2)
+taken_at es t drained x z m k before w rest x_in z_in sent said = within before w rest (taken_on m k (number_of x) z.history) pre.0 (sym sent ∙ both) (words_are_taken es t drained x z said.0 m k (length before) w x_in z_in said.1 said.2)
   where
     pre : (more : List DialogueRecord) × (sent_on m k (number_of z) (history_at (run es).nodes (number_of x)) ≡ taken_on m k (number_of x) (history_at (run es).nodes (number_of z)) ++ more)
     pre = prefix_list (run es).nodes (run es).frames (good_run es) (number_of z) (number_of x) m k

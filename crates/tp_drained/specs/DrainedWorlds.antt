@@ -44,6 +44,18 @@ abbrev pub HasCome : List Entry → Addr → PeerRecord → Type 0
 HasCome [] a r = ⊥
 HasCome (e ∷ h) a r = (e.event ≡ Event.Arrive a r) ⊎ HasCome h a r
 
+-- whatever a node of the tree sent to a node that is there came to it
+abbrev pub AllCame : World → Type 0
+AllCame w =
+    (t : Aaid) → IsDrained w t → IsFailureFree w t
+    → (x z : Node) (a : Addr) (r : PeerRecord) → IsOf w t x → HasSent x.history a r → find_node w.nodes a.node ≡ Some z → HasCome z.history (addr_of x) r
+
+-- what a node of the tree sent with a pair of marks is what the other end took with it, record by record
+abbrev pub AllTaken : World → Type 0
+AllTaken w =
+    (t : Aaid) → IsDrained w t → IsFailureFree w t
+    → (x z : Node) (m k : Mark) → IsOf w t x → IsIn w z → sent_on m k (number_of z) x.history ≡ taken_on m k (number_of x) z.history
+
 -- the record is a Begin of the tree
 abbrev pub is_begin_in : Aaid → PeerRecord → Bool
 is_begin_in t (PeerRecord.OnAssoc x y q (DialogueRecord.Begin u b i)) = is_aaid t u
@@ -68,8 +80,8 @@ abbrev pub NoFailureInTree : World → Type 0
 NoFailureInTree w = (t : Aaid) → IsFailureFree w t → IsUnfailedTree w t
 
 -- a record that a node of the tree sent in it with a pair of marks was taken with it: the other end took as many at least
-abbrev pub AllTaken : World → Type 0
-AllTaken w =
+abbrev pub WordsAreTaken : World → Type 0
+WordsAreTaken w =
     (t : Aaid) → IsDrainedTree w t
     → (x z : Node) (a : Addr) (m k : Mark) (q : ℕ) (r : DialogueRecord) → IsOf w t x → IsIn w z → a.node ≡ number_of z → HasSentIn x.origin t x.history a (PeerRecord.OnAssoc m k q r)
     → suc q ≤ length (taken_on m k (number_of x) z.history)

@@ -3,16 +3,20 @@
 //! Each is the contract of a function with an empty body.
 ghost use Rattle.std.specs.Prelude.{List};
 ghost use Rattle.tp_model.specs.Happenings.{Happening, run};
-ghost use Rattle.tp_drained.specs.DrainedWorlds.{NobodyRolls, AllTaken, FramesDrain, NoFailureInTree, BranchesAreThere, AnswersAreTaken, OrdersAreTaken, DonesDecided, DonesAreTaken};
+ghost use Rattle.tp_drained.specs.DrainedWorlds.{NobodyRolls, AllCame, AllTaken, WordsAreTaken, FramesDrain, NoFailureInTree, BranchesAreThere, AnswersAreTaken, OrdersAreTaken, DonesDecided, DonesAreTaken};
 
 /// In every run, nobody rolls in a tree in which nothing failed while it was current.
 pub fn nobody_rolls_in_a_tree_without_failure()
     ensures { (es : List Happening) → NobodyRolls (run es) }
 {}
 
-/// In every run, what a node of a drained tree said in it with a pair of marks was taken at its place by the other end.
+/// In every run, what a node of a drained tree without failure sent to a node that is there came to it, and on each pair of
+/// marks the other end took just what it sent, record by record, where no node of the tree ever failed and each of their frames was
+/// taken. Where these are asked of the tree's own time alone, what was said in the tree was taken at its place.
 pub fn what_a_drained_tree_says_is_taken()
-    ensures { (es : List Happening) → AllTaken (run es) }
+    ensures came { (es : List Happening) → AllCame (run es) }
+    ensures taken { (es : List Happening) → AllTaken (run es) }
+    ensures words { (es : List Happening) → WordsAreTaken (run es) }
 {}
 
 /// In every run, a tree whose nodes never failed, and whose frames were all taken, is drained and without failure in its own time.
