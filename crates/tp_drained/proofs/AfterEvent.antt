@@ -1,18 +1,22 @@
 -- What an event that is no failure leaves of the current transaction, while its tree is current: what was put to it leaves what
 -- remains of the turn; where nothing is put, it stays, and branches may begin. What is noted of a branch stays.
 use Rattle.std.proofs.Common.{if◌then◌else◌, ◌≡◌, inl, inr, ℕ, Bool, true, false, refl, ap, sym, subst, ◌∙◌, arith, Option, Some, None, List, [], ◌∷◌}
+use Rattle.tp_names.specs.declared.identifiers.Mark.{Mark}
 use Rattle.tp_names.specs.declared.identifiers.Addr.{Addr}
+use Rattle.tp_records.specs.declared.peer.PeerRecord.{PeerRecord}
 use Rattle.tp_names.specs.declared.identifiers.Aaid.{Aaid}
 use Rattle.tp_names.specs.declared.children.Child.{Child}
 use Rattle.tp_names.specs.Same.{is_aaid}
 use Rattle.tp_model.specs.declared.arc.Phase.{Phase}
 use Rattle.tp_model.specs.declared.transaction.TxEvent.{TxEvent}
+use Rattle.tp_model.specs.declared.transaction.TxOut.{TxOut}
 use Rattle.tp_model.specs.declared.recovery.Kept.{Kept}
 use Rattle.tp_model.specs.Parts.{Who, Origin, Event, Entry, Arc, Branch, Current, Digest}
 use Rattle.tp_model.specs.Dialogues.{is_nil}
 use Rattle.tp_model.specs.Arcs.{find_arc}
 use Rattle.tp_model.specs.Transactions.{Transaction, aaid_of, row_holds, transacted}
-use Rattle.tp_model.specs.Node.{Move, move, followed, next_mark, seen, remaining, passage, is_leaving, is_over, may_begin_on, begin_on, try_start, restarted, passed, turned, transact}
+use Rattle.tp_model.specs.Arrivals.{broken_pair}
+use Rattle.tp_model.specs.Node.{Move, move, followed, perform, next_mark, seen, remaining, passage, is_leaving, is_over, may_begin_on, begin_on, try_start, restarted, passed, turned, transact}
 use Rattle.tp_model.specs.Events.{retry_each}
 use Rattle.tp_model.specs.History.{digest}
 use Rattle.tp_model.specs.Outcomes.{is_now, is_failure}
@@ -34,7 +38,7 @@ use Rattle.tp_steps.proofs.log.Sound.{left_is, left_branches}
 use Rattle.tp_steps.proofs.words.Leaves.{aaid_same}
 use Rattle.tp_steps.proofs.branches.Heeding.{heeding_event}
 use Rattle.tp_drained.proofs.LiveTurned.{holds_left, more_branches}
-use Rattle.tp_drained.proofs.LiveLaw.{calm_put, calm_is_put, legal_of, calm_entry, among_of}
+use Rattle.tp_drained.proofs.LiveLaw.{mild_put, legal_of, mild_entry, no_crash, among_of}
 use Rattle.tp_steps.proofs.every.BeginCases.{begun_over, begin_cases}
 use Rattle.tp_control.proofs.LedEvents.{seen_holds}
 
@@ -79,10 +83,14 @@ pub retry_current : (ks : List Kept) (d : Digest) → (retry_each ks d).next.cur
 retry_current [] d = refl
 retry_current (k ∷ ks) d = retry_current ks _
 
-pub others_current : (d : Digest) (e : Event) (m : Move) → is_failure e ≡ false → (with_others d e m).next.current ≡ m.next.current
-others_current d Event.Retry m calm = retry_current m.next.kept m.next
-others_current d (Event.Break from r) m calm = absurd (cc (calm))
-others_current d e m calm = refl
+pub others_current : (d : Digest) (e : Event) (m : Move) → (with_others d e m).next.current ≡ m.next.current
+others_current d Event.Retry m = retry_current m.next.kept m.next
+others_current d (Event.Break from r) m = go (broken_pair r)
+  where
+    go : (o : Option (Mark × Mark)) → (elim o as (λ _. Move) [ None ↦ m | Some xy ↦ followed (perform (TxOut.Recovery from (PeerRecord.ShutAssoc xy.0 (Some xy.1)) ∷ []) d) (λ g. m) ]).next.current ≡ m.next.current
+    go None = refl
+    go (Some xy) = refl
+others_current d e m = refl
 
 -- ---- what an entry leaves, while the tree is current
 
@@ -121,9 +129,6 @@ after_event t o up h e c u k i is tree now = go (put_by o.who d e.event) refl
     d : Digest
     d = digest o h
 
-    calm : is_failure e.event ≡ false
-    calm = calm_entry t o up e h c k i tree
-
     late : is_nil c.phase ≡ false
     late = (among_of o up h c k.fresh k.grown.3 i).current
 
@@ -133,15 +138,15 @@ after_event t o up h e c u k i is tree now = go (put_by o.who d e.event) refl
     aside : put_by o.who d e.event ≡ None → IsLeftAlone o.who d e.event c → IsAfter o h e c u
     aside j (Stays same) = let s = itself c u (sym same ∙ is) in Untouched j s.0 s.1 s.2
     aside j (Begins p g may at same) = let s = begin_after o.who p g c u at (ap (λ (x : Digest). x.current) (sym same) ∙ is) in Untouched j s.0 s.1 s.2
-    aside j (Stops crash same) = absurd (cc (ap is_failure crash, calm))
+    aside j (Stops crash same) = absurd (no_crash t o up e h k (ap (is_now t) i ∙ tree) crash)
 
     go : (v : Option Put) → put_by o.who d e.event ≡ v → IsAfter o h e c u
     go None j = aside j (alone_law o up h e.event c k.grown.3 k.grown.0 i j)
     go (Some x) j =
         let g : Digest = record d { arcs = x.arcs } in
         let to : IsPutTo o.who d e.event c x = put_law o up h e.event c x (legal_of o up h k.fresh k.grown.3) (empty_apart o k.fresh) k.grown.0 i j in
-        let next : (transact o.who x.event g).next.current ≡ Some u = sym (others_current d e.event (transact o.who x.event g) calm) ∙ ap (λ (m : Move). m.next.current) (sym to.acts) ∙ is in
-        Was_put x j (calm_is_put o.who d e.event c x i late to (calm_put o.who d e.event x calm j)) (transact_current o.who x.event g c t u i old next now)
+        let next : (transact o.who x.event g).next.current ≡ Some u = sym (others_current d e.event (transact o.who x.event g)) ∙ ap (λ (m : Move). m.next.current) (sym to.acts) ∙ is in
+        Was_put x j (mild_put o.who d e.event c x i late k.grown.0 (mild_entry t o up e h c k i tree) to j).put (transact_current o.who x.event g c t u i old next now)
 
 -- ---- what is noted of a branch stays
 

@@ -53,7 +53,7 @@ use Rattle.tp_agreement.proofs.OwingLaw.{Replied, replied_by, rows_by_id, spread
 use Rattle.tp_reports.proofs.ClearedLaw.{IsCleared, cleared_law, damage_record}
 use Rattle.tp_reports.proofs.ClearedReplies.{damage_replied}
 use Rattle.tp_drained.proofs.ClearTurns.{brings_none}
-use Rattle.tp_drained.proofs.ClearLaw.{BringsNone, AreClear, Brings, Nothing_brought, By_word, By_answer, brought_by, calm_event, calm_prelude}
+use Rattle.tp_drained.proofs.ClearLaw.{BringsNone, AreClear, Brings, Nothing_brought, By_word, By_answer, brought_by, bare_event, bare_prelude}
 use Rattle.tp_drained.proofs.DrainedBranches.{branches_are_there}
 use Rattle.tp_drained.proofs.LiveLaw.{unfailed_before}
 use Rattle.tp_drained.proofs.DrainedRows.{row_begun, later_found, first_found}
@@ -105,7 +105,7 @@ part_tail es t x e h k = record {
 
 brings_nothing : (es : List Happening) (t : Aaid) → IsDrainedTree (run es) t → (x : Node) → IsOf (run es) t x → AreComplete es t x → (e : Entry) (h : List Entry) → IsPart es t x (e ∷ h)
     → BringsNone x.origin.who t e.event (prelude x.origin.who (digest x.origin h) e.event)
-brings_nothing es t drained x of all e h part c f arcs at tree asked = (calm_event e.event c f calm asked, by (brought_by f))
+brings_nothing es t drained x of all e h part c f arcs at tree asked = (bare_event e.event c f (bare_prelude x.origin x.superior e h t c part.unfailed at tree) asked, by (brought_by f))
   where
     o : Origin
     o = x.origin
@@ -118,9 +118,6 @@ brings_nothing es t drained x of all e h part c f arcs at tree asked = (calm_eve
 
     part_h : IsPart es t x h
     part_h = part_tail es t x e h part
-
-    calm : is_failure e.event ≡ false
-    calm = calm_prelude o x.superior e h t part.unfailed (ap (is_now t) at ∙ tree)
 
     same : aaid_of c.key ≡ t
     same = sym (aaids_equal t (aaid_of c.key) tree)

@@ -37,7 +37,7 @@ use Rattle.tp_runs.specs.Heeded.{is_heeded}
 use Rattle.tp_drained.specs.DrainedWorlds.{DonesAreTaken, TakesDecided, DoneDecided, DonesDecided}
 use Rattle.tp_histories.proofs.worlds.Nodes.{find_append}
 use Rattle.tp_drained.specs.Drained.{IsUnfailed, is_done}
-use Rattle.tp_drained.proofs.LiveLaw.{unfailed_before}
+use Rattle.tp_drained.proofs.LiveLaw.{unfailed_before, no_crash}
 use Rattle.tp_histories.proofs.trees.Late.{late_law, late_prelude}
 use Rattle.tp_steps.proofs.lemmas.Equality.{and_left}
 use Rattle.tp_steps.proofs.branches.Rolls.{phase_at}
@@ -195,7 +195,7 @@ stands_there o up (e ∷ h) a x y q t b i u s n = go s (stands_there o up h a x 
         at : is_now t d.current ≡ true → Came o.who d e.event → key_at (digest o (e ∷ h)).current a.node ≡ Some (t, b)
         at before (As_it_was cur) = stays (ap (λ (w : Option Current). key_at w a.node) cur ∙ rest v before)
         at before (By_begin from z v r c j g l is found cur nil above) = absurd (cc (before, nil_now d t (late_law o up h legal.3) nil))
-        at before (By_crash is cur) = absurd (cc ((unfailed_before t o up e h u).0 before, ap is_failure is))
+        at before (By_crash is cur) = absurd (no_crash t o up e h u before is)
 
 found_there : (bs : List Branch) (p : ℕ) (b : Branch) → find_branch bs p ≡ Some b → has_branch_at bs p ≡ true
 found_there [] p b h = absurd (cc (h))

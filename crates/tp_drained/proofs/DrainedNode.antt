@@ -47,7 +47,7 @@ use Rattle.tp_runs.proofs.KnownBranches.{log_current}
 use Rattle.tp_agreement.proofs.Bounds.{commit_bound}
 use Rattle.tp_histories.proofs.trees.Fated.{fated_law}
 use Rattle.tp_runs.proofs.Users.{sees_commit}
-use Rattle.tp_drained.proofs.LiveLaw.{unfailed_before}
+use Rattle.tp_drained.proofs.LiveLaw.{unfailed_before, no_crash}
 use Rattle.tp_drained.proofs.DrainedWords.{under_superior}
 use Rattle.tp_drained.proofs.Said.{says_ready, says_done, says_leaving}
 use Rattle.tp_reports.proofs.Finished.{Ending, Goes_on, It_rolled, It_left, It_was_told, ending_law}
@@ -90,9 +90,6 @@ pub told_more : (test : List Out → Bool) (o : Origin) (t : Aaid) (e : Entry) (
 told_more test o t e h i = rw i (grind arith)
 
 -- ---- histories without a failure
-
-no_crash : (e : Event) → is_failure e ≡ false → e ≡ Event.Crash → ⊥
-no_crash e h is = absurd (cc (ap is_failure (sym is) ∙ h))
 
 -- an entry that logs leaves the transaction as it was before the event's own work
 pub logs_plain : (o : Origin) (up : Option Addr) (e : Entry) (h : List Entry) → IsGrown o up (e ∷ h) → (e.rec ≡ None → ⊥) → (prelude o.who (digest o h) e.event).current ≡ (digest o h).current
@@ -272,7 +269,7 @@ plain_before o up e h t u known n = (before, go (entered o e h u.grown.0))
     before = now_then o up e h t u.fresh u.grown u.once known n
 
     go : Entered o e h → (prelude o.who (digest o h) e.event).current ≡ (digest o h).current
-    go (Crashed is) = absurd (no_crash e.event ((unfailed_before t o up e h u).0 before) is)
+    go (Crashed is) = absurd (no_crash t o up e h u before is)
     go (Begun from v b a begun calm cur nil quiet by) = absurd (cc (before, nil_now (digest o h) t (late_law o up h u.grown.3) nil))
     go (Plain calm none same) = same
 

@@ -48,7 +48,7 @@ use Rattle.tp_runs.proofs.Bare.{bare_law}
 use Rattle.tp_agreement.proofs.ReadyDown.{bound_begins, bound_tree}
 use Rattle.tp_agreement.proofs.Bounds.{commit_bound}
 use Rattle.tp_drained.proofs.Said.{says_commit}
-use Rattle.tp_drained.proofs.LiveLaw.{unfailed_before, recovered_now}
+use Rattle.tp_drained.proofs.LiveLaw.{unfailed_before, no_crash, recovered_now}
 use Rattle.tp_drained.proofs.DrainedDones.{stands_there}
 use Rattle.tp_drained.proofs.DrainedNode.{logs_plain, is_said, told_first, told_more}
 use Rattle.tp_steps.proofs.log.Owned.{key_aaid}
@@ -145,7 +145,7 @@ no_stop t o up e h u now crash = go e.event refl crash
     go : (f : Event) → e.event ≡ f → is_crash f ≡ true → ⊥
     go Event.Crash i c =
         let before : is_now t (digest o h).current ≡ true = recovered_now t (digest o h).current (ap (λ (v : Event). is_now t (action o.who (digest o h) v).next.current) (sym i) ∙ now) in
-        cc (ap is_failure i, (unfailed_before t o up e h u).0 before)
+        no_crash t o up e h u before i
     go f i c = absurd (cc (c))
 
 begun_among : (o : Origin) (up : Option Addr) (h : List Entry) (k : NodeKey) (a : Addr) (b : BranchId) → IsUnfailed k.aaid o up h → is_now k.aaid (digest o h).current ≡ true → HasChild a b (branches_in o k h) → SentOne a k.aaid b (HasSent h)

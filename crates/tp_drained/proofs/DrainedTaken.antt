@@ -1,6 +1,6 @@
 -- What a node of a drained tree sent in the tree was taken at its place; a tree whose nodes never failed, and whose frames were all
 -- taken, is drained.
-use Rattle.std.proofs.Common.{◌≡◌, ◌≤◌, ◌<◌, ◌⊎◌, inl, inr, ℕ, zero, suc, Bool, true, false, refl, ap, sym, subst, ◌∙◌, arith, Option, Some, List, [], ◌∷◌, ◌++◌, ◌+◌, ◌&&◌, ◌||◌, ◌==◌, length, slice_get}
+use Rattle.std.proofs.Common.{◌≡◌, ◌≤◌, ◌<◌, ◌⊎◌, inl, inr, ℕ, zero, suc, Bool, true, false, refl, ap, sym, subst, ◌∙◌, arith, Option, Some, None, List, [], ◌∷◌, ◌++◌, ◌+◌, ◌&&◌, ◌||◌, ◌==◌, length, slice_get}
 use Rattle.std.proofs.lemmas.Bool.Decides.{nat_tests}
 use Rattle.std.proofs.lemmas.List.{append-nil}
 use Rattle.std.specs.List.{Any, slice_index_or}
@@ -11,8 +11,9 @@ use Rattle.tp_names.specs.declared.identifiers.Mark.{Mark}
 use Rattle.tp_records.specs.declared.dialogue.DialogueRecord.{DialogueRecord}
 use Rattle.tp_records.specs.declared.dialogue.Holder.{Holder}
 use Rattle.tp_records.specs.declared.peer.PeerRecord.{PeerRecord}
-use Rattle.tp_names.specs.Same.{is_mark}
-use Rattle.tp_model.specs.Parts.{Origin, Event, Entry, Out, Link, Live, Digest}
+use Rattle.tp_names.specs.Same.{is_aaid, is_mark}
+use Rattle.tp_model.specs.Parts.{Origin, Event, Entry, Out, Link, Live, Current, Digest}
+use Rattle.tp_model.specs.Transactions.{aaid_of}
 use Rattle.tp_model.specs.Arcs.{link_with}
 use Rattle.tp_model.specs.Events.{action}
 use Rattle.tp_model.specs.History.{digest}
@@ -25,7 +26,7 @@ use Rattle.tp_histories.specs.Histories.{IsSentIn, HasSent}
 use Rattle.tp_runs.specs.Framed.{is_stop, has_stopped, IsFrameTo}
 use Rattle.tp_steps.specs.Traces.{fits, sent_of}
 use Rattle.tp_histories.specs.Traces.{sent_on, taken_on, history_at}
-use Rattle.tp_drained.specs.Drained.{has_failed_in}
+use Rattle.tp_drained.specs.Drained.{touches, fails_in, has_failed_in}
 use Rattle.tp_drained.specs.DrainedWorlds.{HasCome, HasSentIn, IsDrainedTree, AllCame, AllTaken, FramesDrain, NoFailureInTree, WordsAreTaken}
 use Rattle.tp_steps.specs.Moves.{prelude}
 use Rattle.tp_histories.proofs.worlds.Good.{good_run}
@@ -100,10 +101,18 @@ frames_drain es t drained fine = record { taken = came; settled = drained.settle
 
 unfailed_in : (o : Origin) (t : Aaid) (h : List Entry) → has_failed h ≡ false → has_failed_in o t h ≡ false
 unfailed_in o t [] fine = refl
-unfailed_in o t (e ∷ h) fine = both (is_now t (digest o h).current) (is_failure e.event) (has_failed h) (has_failed_in o t h) fine (unfailed_in o t h)
+unfailed_in o t (e ∷ h) fine = both (fails_in t (digest o h).current e.event) (is_failure e.event) (has_failed h) (has_failed_in o t h) (fails (digest o h).current) fine (unfailed_in o t h)
   where
-    both : (n a b c : Bool) → (a || b) ≡ false → (b ≡ false → c ≡ false) → (n && a || c) ≡ false
-    both n a b c h rest = let old : b ≡ false = grind (arith, h) in let new = rest old in grind (arith, h, new)
+    off : (v w : Bool) → (v && false && w) ≡ false
+    off true w = refl
+    off false w = refl
+
+    fails : (v : Option Current) → is_failure e.event ≡ false → fails_in t v e.event ≡ false
+    fails None i = refl
+    fails (Some c) i = rw i (off (is_aaid t (aaid_of c.key)) (touches c e.event))
+
+    both : (n a b c : Bool) → (a ≡ false → n ≡ false) → (a || b) ≡ false → (b ≡ false → c ≡ false) → (n || c) ≡ false
+    both n a b c first h rest = let here : a ≡ false = grind (arith, h) in let old : b ≡ false = grind (arith, h) in let one = first here in let new = rest old in grind (arith, one, new)
 
 pub no_failure_in_tree : (es : List Happening) → NoFailureInTree (run es)
 no_failure_in_tree es t fine x of = unfailed_in x.origin t x.history (fine x of)

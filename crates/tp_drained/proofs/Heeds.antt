@@ -37,7 +37,7 @@ use Rattle.tp_histories.proofs.trees.Knowing.{known_more, now_known}
 use Rattle.tp_histories.proofs.worlds.TreeMembers.{now_then}
 use Rattle.tp_histories.proofs.trees.Fated.{fated_law}
 use Rattle.tp_steps.proofs.branches.Heeding.{heeding_event}
-use Rattle.tp_drained.proofs.LiveLaw.{calm_put, calm_is_put, legal_of, unfailed_before, calm_entry, among_of}
+use Rattle.tp_drained.proofs.LiveLaw.{mild_put, legal_of, unfailed_before, mild_entry, among_of}
 use Rattle.tp_histories.proofs.order.InOrderLaw.{empty_apart}
 use Rattle.tp_histories.proofs.order.PutLaw.{put_law}
 use Rattle.tp_steps.proofs.log.Passed.{passed_turn}
@@ -372,9 +372,6 @@ order_now o up h e c p t k i tree above early at = go (put_by o.who d e.event) r
     w : DialogueRecord
     w = DialogueRecord.Commit
 
-    calm : is_failure e.event ≡ false
-    calm = calm_entry t o up e h c k i tree
-
     under : is_under_at c.key a.peer.node ≡ true
     under = ap (is_under_at c.key) at.1 ∙ above
 
@@ -394,13 +391,13 @@ order_now o up h e c p t k i tree above early at = go (put_by o.who d e.event) r
         let g : Digest = record d { arcs = x.arcs } in
         let took : TxEvent.Took a.peer.node w ≡ x.event = event_of x (TxEvent.Took a.peer.node w) put_is.0 (sym some ∙ j) in
         let to : IsPutTo o.who d e.event c x = put_law o up h e.event c x (legal_of o up h k.fresh k.grown.3) (empty_apart o k.fresh) k.grown.0 i j in
-        let put : IsPut x.event s = calm_is_put o.who d e.event c x i (among_of o up h c k.fresh k.grown.3 i).current to (calm_put o.who d e.event x calm j) in
+        let put : IsPut x.event s = (mild_put o.who d e.event c x i (among_of o up h c k.fresh k.grown.3 i).current k.grown.0 (mild_entry t o up e h c k i tree) to j).put in
         let fine : refused_tx x.event s ≡ None = subst (λ (f : TxEvent). refused_tx f s ≡ None) took (order_ready o.who d.arcs x.arcs c a.peer.node under early acts.1) in
         let heeded = (heeding_event x.event s put).orders a.peer.node (sym took) fine under early in
         let next : Transaction = (transacted x.event s).next in
         let over : is_over (passed o.who x.event g c) ≡ false = enters_not_over (is_leaving x.event) c.phase next.phase heeded.0 heeded.1 in
         let u = remains_committing next heeded.1 in
-        let now : (digest o (e ∷ h)).current ≡ Some u.0 = ap (λ (m : Move). m.next.current) to.acts ∙ others_current d e.event (transact o.who x.event g) calm ∙ transact_forward o.who x.event g c i over ∙ u.1 in
+        let now : (digest o (e ∷ h)).current ≡ Some u.0 = ap (λ (m : Move). m.next.current) to.acts ∙ others_current d e.event (transact o.who x.event g) ∙ transact_forward o.who x.event g c i over ∙ u.1 in
         let key : u.0.key ≡ c.key = u.2 ∙ IsPassed.key (passed_turn x.event s put) in
         (fated_law o up (e ∷ h) t k.fresh k.grown k.once).committing (ap (is_now t) now ∙ ap (λ (y : Key). is_aaid t (aaid_of y)) key ∙ tree) (ap is_committing (phase_at (digest o (e ∷ h)) u.0 now) ∙ u.3)
 

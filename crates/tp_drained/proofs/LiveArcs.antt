@@ -36,14 +36,10 @@ use Rattle.tp_histories.proofs.trees.Knowing.{current_none}
 use Rattle.tp_histories.proofs.order.PutLaw.{put_law, alone_law}
 use Rattle.tp_drained.proofs.LiveTurned.{IsAlive, alive_start}
 use Rattle.tp_drained.proofs.LiveEvents.{no_transact, retry_aside, aside_event}
-use Rattle.tp_drained.proofs.LiveLaw.{calm_put, calm_is_put, alive_put, legal_of, unfailed_before, recovered_now, among_of, apart_of}
+use Rattle.tp_drained.proofs.LiveLaw.{calm_put, calm_is_put, failure_is_put, mild_put, mild_aside, alive_put, legal_of, unfailed_before, mild_entry, recovered_now, among_of, apart_of}
 use Rattle.tp_drained.proofs.AfterEvent.{over_none, remains_none, retry_current, begin_after}
 
 -- ---- a tree that begins
-
-rollback_ok : (who : Who) (d : Digest) (c : Current) → refused_request who d Request.Rollback ≡ None → d.current ≡ Some c → refused_tx (TxEvent.User Request.Rollback) (seen who d.arcs c) ≡ None
-unfolding refused_request refused_tx
-rollback_ok who d c ok i = grind (arith, ok, i)
 
 begun_other : (t : Aaid) (who : Who) (p : ℕ) (g : Digest) (c : Current) → g.current ≡ Some c → is_aaid t (aaid_of c.key) ≡ false → is_now t (begin_on who p g).next.current ≡ true → ⊥
 begun_other t who p g c at other n =
@@ -55,48 +51,6 @@ stopped_other t c other n = cc (recovered_now t (Some c) n, other)
 
 alive_none : (d : Digest) → d.current ≡ None → IsAlive d
 alive_none d none c p is need = absurd (cc (none, is))
-
-same_put : (who : Who) (c : Current) (f : TxEvent) (arcs : List Arc) (x : Put) → put f arcs ≡ Some x → IsPut f (seen who arcs c) → IsPut x.event (seen who x.arcs c)
-same_put who c f arcs x h k =
-    let same : ◌≡◌ {A = Put} (record { event = f; arcs = arcs }) x = cc (h) in
-    subst (λ (y : Put). IsPut y.event (seen who y.arcs c)) same k
-
--- so is a failure put to what is current
-failure_is_put : (who : Who) (d : Digest) (e : Event) (c : Current) (x : Put) → d.current ≡ Some c → is_nil c.phase ≡ false → refusal who d e ≡ None → is_failure e ≡ true → put_by who d e ≡ Some x → IsPut x.event (seen who x.arcs c)
-unfolding refused_tx
-failure_is_put who d (Event.Do (Request.UAbort p)) c x i late ok fails h = go (situation_at who d p).branch refl h
-  where
-    go : (b : Bool) → (situation_at who d p).branch ≡ b → (if b then put (TxEvent.User (Request.UAbort p)) d.arcs else None) ≡ Some x → IsPut x.event (seen who x.arcs c)
-    go false j h = absurd (cc (h))
-    go true j h =
-        same_put who c (TxEvent.User (Request.UAbort p)) d.arcs x h
-        (record { late = late; ok = λ off. refl; abort = λ q is. abort_active who d p c (plain_request who d (Request.UAbort p) ok) j i late; ordered = λ is. cc (is); not_begun = λ arcs is. cc (is) })
-failure_is_put who d (Event.Do Request.Rollback) c x i late ok fails h = same_put who c (TxEvent.User Request.Rollback) d.arcs x h (record { late = late; ok = λ off. rollback_ok who d c (plain_request who d Request.Rollback ok) i; abort = λ q is. cc (is); ordered = λ is. cc (is); not_begun = λ arcs is. cc (is) })
-failure_is_put who d (Event.Arrive from (PeerRecord.ShutAssoc y (Some z))) c x i late ok fails h =
-    same_put who c (TxEvent.Lost from.node) (without_arc d.arcs from.node) x h (record { late = late; ok = λ off. refl; abort = λ q is. cc (is); ordered = λ is. cc (is); not_begun = λ arcs is. cc (is) })
-failure_is_put who d (Event.Arrive from (PeerRecord.OnAssoc y z q DialogueRecord.UAbort)) c x i late ok fails h = go (find_arc d.arcs from.node) h
-  where
-    on : (a : Arc) (v : Sight) → elim v as (λ _. Option Put) [ Acts ↦ put_by_record a.peer.node (counted_arcs d.arcs a.peer.node) DialogueRecord.UAbort | Nothing_happens ↦ None | Out_of_phase ↦ None ] ≡ Some x → IsPut x.event (seen who x.arcs c)
-    on a Acts h = same_put who c (TxEvent.Took a.peer.node DialogueRecord.UAbort) _ x h (record { late = late; ok = λ off. absurd (cc (off)); abort = λ q is. cc (is); ordered = λ is. cc (is); not_begun = λ arcs is. cc (is) })
-    on a Nothing_happens h = absurd (cc (h))
-    on a Out_of_phase h = absurd (cc (h))
-
-    go : (o : Option Arc) → elim o as (λ _. Option Put) [ None ↦ None | Some a ↦ put_on who d a DialogueRecord.UAbort ] ≡ Some x → IsPut x.event (seen who x.arcs c)
-    go None h = absurd (cc (h))
-    go (Some a) h = on a (sight_at who d a DialogueRecord.UAbort) h
-failure_is_put who d (Event.Break from r) c x i late ok fails h = go (broken_pair r) h
-  where
-    go : (o : Option (Mark × Mark)) → elim o as (λ _. Option Put) [ None ↦ None | Some xy ↦ put (TxEvent.Lost from.node) (without_arc d.arcs from.node) ] ≡ Some x → IsPut x.event (seen who x.arcs c)
-    go None h = absurd (cc (h))
-    go (Some xy) h = same_put who c (TxEvent.Lost from.node) (without_arc d.arcs from.node) x h (record { late = late; ok = λ off. refl; abort = λ q is. cc (is); ordered = λ is. cc (is); not_begun = λ arcs is. cc (is) })
-failure_is_put who d (Event.Lose p) c x i late ok fails h =
-    same_put who c (TxEvent.Lost p) (without_arc d.arcs p) x h (record { late = late; ok = λ off. refl; abort = λ q is. cc (is); ordered = λ is. cc (is); not_begun = λ arcs is. cc (is) })
-failure_is_put who d (Event.Heur o) c x i late ok fails h =
-    same_put who c (TxEvent.Heur o) d.arcs x h (record { late = late; ok = λ off. plain_heur who d o c ok i; abort = λ q is. cc (is); ordered = λ is. cc (is); not_begun = λ arcs is. cc (is) })
-failure_is_put who d (Event.GiveUp p) c x i late ok fails h =
-    same_put who c (TxEvent.GiveUp p) d.arcs x h (record { late = late; ok = λ off. plain_give_up who d p c ok i; abort = λ q is. cc (is); ordered = λ is. cc (is); not_begun = λ arcs is. cc (is) })
-failure_is_put who d Event.Crash c x i late ok fails h = absurd (cc (h))
-failure_is_put who d e c x i late ok fails h = absurd (cc (fails))
 
 -- what follows the turn of another tree
 next_alive : (t : Aaid) (who : Who) (f : TxEvent) (g : Digest) (c : Current) → g.current ≡ Some c → is_aaid t (aaid_of c.key) ≡ false → IsPut f (seen who g.arcs c) → is_now t (transact who f g).next.current ≡ true → IsAlive (transact who f g).next
@@ -205,17 +159,15 @@ alive_step t o up e h k now old = go d.current refl
     d : Digest
     d = digest o h
 
-    calm : is_failure e.event ≡ false
-    calm = (unfailed_before t o up e h k).0 now
-
-    on : (c : Current) → d.current ≡ Some c → (v : Option Put) → put_by o.who d e.event ≡ v → IsAlive (action o.who d e.event).next
-    on c i None j = (aside_event o.who d e.event calm k.grown.0 (apart_of o up h k.fresh k.grown.3) (inl j)).alive old
-    on c i (Some x) j =
-        alive_put o.who d e.event c x i (among_of o up h c k.fresh k.grown.3 i).current calm (put_law o up h e.event c x (legal_of o up h k.fresh k.grown.3) (empty_apart o k.fresh) k.grown.0 i j) (calm_put o.who d e.event x calm j) old
+    on : (c : Current) → d.current ≡ Some c → is_aaid t (aaid_of c.key) ≡ true → (v : Option Put) → put_by o.who d e.event ≡ v → IsAlive (action o.who d e.event).next
+    on c i tree None j = (mild_aside o.who d e.event c i (mild_entry t o up e h c k i tree) k.grown.0 (apart_of o up h k.fresh k.grown.3) j).alive old
+    on c i tree (Some x) j =
+        let to : IsPutTo o.who d e.event c x = put_law o up h e.event c x (legal_of o up h k.fresh k.grown.3) (empty_apart o k.fresh) k.grown.0 i j in
+        alive_put o.who d e.event c x i to (mild_put o.who d e.event c x i (among_of o up h c k.fresh k.grown.3 i).current k.grown.0 (mild_entry t o up e h c k i tree) to j) old
 
     go : (v : Option Current) → d.current ≡ v → IsAlive (action o.who d e.event).next
-    go None i = (aside_event o.who d e.event calm k.grown.0 (apart_of o up h k.fresh k.grown.3) (inr i)).alive old
-    go (Some c) i = on c i (put_by o.who d e.event) refl
+    go None i = absurd (cc (now, ap (is_now t) i))
+    go (Some c) i = on c i (sym (ap (is_now t) i) ∙ now) (put_by o.who d e.event) refl
 
 pub alive_law : (t : Aaid) (o : Origin) (up : Option Addr) (h : List Entry) → IsUnfailed t o up h → is_now t (digest o h).current ≡ true → IsAlive (digest o h)
 alive_law t o up [] k now = alive_none (digest o []) (current_none o k.fresh)

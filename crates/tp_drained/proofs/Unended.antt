@@ -25,7 +25,7 @@ use Rattle.tp_agreement.proofs.Marked.{Marked, MayMark, IsMark, marking_event}
 use Rattle.tp_agreement.proofs.Accounts.{marked_back}
 use Rattle.tp_steps.proofs.log.Passed.{passed_turn}
 use Rattle.tp_steps.proofs.log.Sound.{left_is}
-use Rattle.tp_drained.proofs.LiveLaw.{unfailed_before, recovered_now, among_of}
+use Rattle.tp_drained.proofs.LiveLaw.{unfailed_before, no_crash, recovered_now, among_of}
 use Rattle.tp_drained.proofs.AfterEvent.{IsAfter, Untouched, Was_put, after_event}
 use Rattle.tp_steps.proofs.lemmas.Options.{some_same}
 
@@ -90,7 +90,7 @@ ended_step t o up e h k rest u p j now same m = go (marking_event o.who d e.even
         let empty : None ≡ Some x.branch = ap (λ (c : Current). find_branch c.branches p) same ∙ x.found in
         absurd (cc (empty))
     came x (By_crash is cur) =
-        absurd (cc (ap is_failure is, (unfailed_before t o up e h k).0 (recovered_now t d.current (ap (is_now t) (sym cur ∙ x.at) ∙ tree_of x.current x.branch.id x.key))))
+        absurd (no_crash t o up e h k (recovered_now t d.current (ap (is_now t) (sym cur ∙ x.at) ∙ tree_of x.current x.branch.id x.key)) is)
 
     go : Marked ended_of (prelude o.who d e.event).current p j ⊎ MayMark o.who e.event (prelude o.who d e.event) may_end p j → is_over_work u.phase ≡ true
     go (inl x) = let b = marked_back o.who d e.event ended_of may_end p j ends_mark k.grown.0 x in by b.current b.branch.id b.at b.key (rest b.current p j b.at (tree_of b.current b.branch.id b.key) b)

@@ -8,6 +8,7 @@ use Rattle.tp_names.specs.declared.identifiers.Addr.{Addr}
 use Rattle.tp_names.specs.declared.outcome.Report.{Report}
 use Rattle.tp_names.specs.Same.{is_aaid}
 use Rattle.tp_names.specs.Reports.{is_report_none}
+use Rattle.tp_records.specs.declared.request.Request.{Request}
 use Rattle.tp_records.specs.declared.dialogue.DialogueRecord.{DialogueRecord}
 use Rattle.tp_records.specs.declared.peer.PeerRecord.{PeerRecord}
 use Rattle.tp_records.specs.declared.peer.RecState.{RecState}
@@ -15,6 +16,7 @@ use Rattle.tp_model.specs.Parts.{Origin, Event, Entry, Live, Branch, Current}
 use Rattle.tp_model.specs.Dialogues.{is_committing}
 use Rattle.tp_model.specs.Arcs.{link_with, is_live_with_peer}
 use Rattle.tp_model.specs.Transactions.{aaid_of, is_under_at}
+use Rattle.tp_model.specs.AmongArcs.{is_peer}
 use Rattle.tp_model.specs.Requests.{has_branch_at}
 use Rattle.tp_model.specs.History.{digest}
 use Rattle.tp_model.specs.Legal.{IsGrown}
@@ -29,13 +31,37 @@ use Rattle.tp_steps.specs.Passages.{is_commit_rec}
 use Rattle.tp_steps.specs.Heeding.{is_answer, has_answered, has_ended}
 use Rattle.tp_steps.specs.Outspoken.{is_ready_rec}
 
--- a failure came while the tree was current
+-- ---- failures in a tree
+
+-- the peer with whom a dialogue fails by the event
+abbrev pub failing_peer : Event → Option ℕ
+failing_peer (Event.Declare s) = None
+failing_peer (Event.Do (Request.UAbort p)) = Some p
+failing_peer (Event.Do r) = None
+failing_peer (Event.Arrive from r) = Some from.node
+failing_peer (Event.Break from r) = Some from.node
+failing_peer (Event.Lose p) = Some p
+failing_peer (Event.Heur u) = None
+failing_peer (Event.GiveUp p) = None
+failing_peer Event.Retry = None
+failing_peer Event.Purge = None
+failing_peer Event.Crash = None
+
+-- that peer is the transaction's superior, or has a branch of it; or what fails is the node itself
+abbrev pub touches : Current → Event → Bool
+touches c e = elim (failing_peer e) [ None ↦ true | Some p ↦ is_peer c p ]
+
+-- a failure of the tree, where it is current
+abbrev pub fails_in : Aaid → Option Current → Event → Bool
+fails_in t None e = false
+fails_in t (Some c) e = is_aaid t (aaid_of c.key) && is_failure e && touches c e
+
+-- one came
 abbrev pub has_failed_in : Origin → Aaid → List Entry → Bool
 has_failed_in o t [] = false
-has_failed_in o t (e ∷ h) = is_now t (digest o h).current && is_failure e.event || has_failed_in o t h
+has_failed_in o t (e ∷ h) = fails_in t (digest o h).current e.event || has_failed_in o t h
 
--- a legal history of a node whose log was empty at first, which entered each tree once, and in which nothing failed while the
--- tree was current
+-- a legal history of a node whose log was empty at first, which entered each tree once, and in which nothing of the tree failed
 pub record IsUnfailed (t : Aaid) (o : Origin) (up : Option Addr) (h : List Entry) : Type 0 where
   pub fresh : o.start.records ≡ []
   pub grown : IsGrown o up h
