@@ -27,7 +27,7 @@ use Rattle.tp_histories.specs.Traces.{sent_on, taken_on}
 use Rattle.tp_steps.specs.Facts.{is_order, BranchKey, begins_by, last_from, each_under, is_ordered, IsHeard}
 use Rattle.tp_steps.specs.Trees.{commits_tree}
 use Rattle.tp_histories.specs.Members.{is_begun_by, has_taken_begin, is_own, IsOnce}
-use Rattle.tp_drained.specs.DrainedWorlds.{says, OrdersAreTaken}
+use Rattle.tp_drained.specs.DrainedWorlds.{is_word_of, says, OrdersAreTaken}
 use Rattle.tp_histories.proofs.trees.Late.{late_law}
 use Rattle.tp_steps.proofs.words.Leaves.{aaid_same}
 use Rattle.tp_steps.proofs.lemmas.Equality.{aaids_equal, and_left, and_right}
@@ -64,6 +64,10 @@ record Ordered (o : Origin) (h : List Entry) (t : Aaid) (p : ℕ) : Type 0 where
   last : last_from None before ≡ Some (t, id)
   said : WasSaid o t h p x y (length before) word
 
+order_of_tree : (t : Aaid) (x y : Mark) (n : ℕ) (r : DialogueRecord) → is_order r ≡ true → is_word_of t true (PeerRecord.OnAssoc x y n r) ≡ true
+order_of_tree t x y n DialogueRecord.Commit h = refl
+order_of_tree t x y n r h = absurd (cc (h))
+
 order_word : (r : DialogueRecord) → is_order r ≡ true → is_word r ≡ true
 order_word DialogueRecord.Commit h = refl
 order_word r h = absurd (cc (h))
@@ -91,7 +95,7 @@ ordered o up h t p empty legal once told = record {
   kind = word.kind;
   sent = more.1 ∙ ap (λ (rs : List DialogueRecord). rs ++ more.0) sent ∙ append_assoc before (word.word ∷ word.rest) more.0;
   last = last_append None first word.before ∙ key.1 ∙ made key.0 tree;
-  said = was_said o up t e b h p l.0 l.1 word.before word.word word.rest m.moment legal_now m.now sent;
+  said = was_said o up t e b h p l.0 l.1 word.before word.word word.rest m.moment legal_now m.now (λ n. order_of_tree t l.0 l.1 n word.word word.kind) sent;
 }
   where
     m : ToldThen (says p is_order) o t h

@@ -27,7 +27,7 @@ use Rattle.tp_runs.specs.Framed.{is_stop, has_stopped, IsFrameTo}
 use Rattle.tp_steps.specs.Traces.{fits, sent_of}
 use Rattle.tp_histories.specs.Traces.{sent_on, taken_on, history_at}
 use Rattle.tp_drained.specs.Drained.{touches, fails_in, has_failed_in}
-use Rattle.tp_drained.specs.DrainedWorlds.{HasCome, HasSentIn, IsDrainedTree, AllCame, AllTaken, FramesDrain, NoFailureInTree, WordsAreTaken}
+use Rattle.tp_drained.specs.DrainedWorlds.{HasCome, is_word_of, HasSaidIn, IsDrainedTree, AllCame, AllTaken, FramesDrain, NoFailureInTree, WordsAreTaken}
 use Rattle.tp_steps.specs.Moves.{prelude}
 use Rattle.tp_histories.proofs.worlds.Good.{good_run}
 use Rattle.tp_runs.proofs.Framed.{goes_out}
@@ -81,7 +81,7 @@ came_any a r h k = come_at a r h k.0 k.1 k.2 k.3 k.4
 
 -- ---- what was sent went out, and came
 
-in_sent : (o : Origin) (t : Aaid) (h : List Entry) (a : Addr) (r : PeerRecord) → HasSentIn o t h a r → HasSent h a r
+in_sent : (o : Origin) (t : Aaid) (h : List Entry) (a : Addr) (r : PeerRecord) → HasSaidIn o t h a r → HasSent h a r
 in_sent o t [] a r k = k
 in_sent o t (e ∷ h) a r (inl k) = inl k.1
 in_sent o t (e ∷ h) a r (inr k) = inr (in_sent o t h a r k)
@@ -96,7 +96,7 @@ all_came es t drained fine x z a r x_in sent there =
 pub frames_drain : (es : List Happening) → FramesDrain (run es)
 frames_drain es t drained fine = record { taken = came; settled = drained.settled }
   where
-    came : (x z : Node) (a : Addr) (r : PeerRecord) → IsOf (run es) t x → HasSentIn x.origin t x.history a r → find_node (run es).nodes a.node ≡ Some z → HasCome z.history (addr_of x) r
+    came : (x z : Node) (a : Addr) (r : PeerRecord) → IsOf (run es) t x → HasSaidIn x.origin t x.history a r → find_node (run es).nodes a.node ≡ Some z → HasCome z.history (addr_of x) r
     came x z a r x_in sent there = all_came es t drained fine x z a r x_in (in_sent x.origin t x.history a r sent) there
 
 unfailed_in : (o : Origin) (t : Aaid) (h : List Entry) → has_failed h ≡ false → has_failed_in o t h ≡ false
@@ -242,20 +242,20 @@ words_are_taken es t drained x z a m k q r x_in z_in at sent =
 
 -- it was sent in the tree, with that number
 abbrev pub WasSaid : Origin → Aaid → List Entry → ℕ → Mark → Mark → ℕ → DialogueRecord → Type 0
-WasSaid o t h p x y q r = (a : Addr) × (a.node ≡ p) × HasSentIn o t h a (PeerRecord.OnAssoc x y q r)
+WasSaid o t h p x y q r = (a : Addr) × (a.node ≡ p) × HasSaidIn o t h a (PeerRecord.OnAssoc x y q r)
 
 -- by an entry that came while the tree was current
-sent_since_in : (o : Origin) (t : Aaid) (e : Entry) (b h : List Entry) (a : Addr) (r : PeerRecord) → IsMoment e b h → is_now t (digest o b).current ≡ true → IsSentIn e.outs a r → HasSentIn o t h a r
-sent_since_in o t e b [] a r m now s = absurd m
-sent_since_in o t e b (f ∷ h) a r (inl m) now s =
+sent_since_in : (o : Origin) (t : Aaid) (e : Entry) (b h : List Entry) (a : Addr) (r : PeerRecord) → IsMoment e b h → is_now t (digest o b).current ≡ true → is_word_of t true r ≡ true → IsSentIn e.outs a r → HasSaidIn o t h a r
+sent_since_in o t e b [] a r m now word s = absurd m
+sent_since_in o t e b (f ∷ h) a r (inl m) now word s =
     let here : is_now t (digest o h).current ≡ true = subst (λ (l : List Entry). is_now t (digest o l).current ≡ true) (sym m.1) now in
-    inl (rw here refl, subst (λ (v : Entry). IsSentIn v.outs a r) (sym m.0) s)
-sent_since_in o t e b (f ∷ h) a r (inr m) now s = inr (sent_since_in o t e b h a r m now s)
+    inl (ap (λ (v : Bool). is_word_of t v r) here ∙ word, subst (λ (v : Entry). IsSentIn v.outs a r) (sym m.0) s)
+sent_since_in o t e b (f ∷ h) a r (inr m) now word s = inr (sent_since_in o t e b h a r m now word s)
 
 -- a Begin of the tree was
-pub begin_sent_in : (o : Origin) (t : Aaid) (h : List Entry) (a : Addr) (x y : Mark) (q : ℕ) (b : BranchId) (i : Holder) → HasSent h a (PeerRecord.OnAssoc x y q (DialogueRecord.Begin t b i)) → HasSentIn o t h a (PeerRecord.OnAssoc x y q (DialogueRecord.Begin t b i))
+pub begin_sent_in : (o : Origin) (t : Aaid) (h : List Entry) (a : Addr) (x y : Mark) (q : ℕ) (b : BranchId) (i : Holder) → HasSent h a (PeerRecord.OnAssoc x y q (DialogueRecord.Begin t b i)) → HasSaidIn o t h a (PeerRecord.OnAssoc x y q (DialogueRecord.Begin t b i))
 begin_sent_in o t [] a x y q b i s = s
-begin_sent_in o t (e ∷ h) a x y q b i (inl s) = let same = aaid_same t in inl (rw same (grind arith), s)
+begin_sent_in o t (e ∷ h) a x y q b i (inl s) = inl (aaid_same t, s)
 begin_sent_in o t (e ∷ h) a x y q b i (inr s) = inr (begin_sent_in o t h a x y q b i s)
 
 get_below : (xs : List DialogueRecord) (k : ℕ) (r : DialogueRecord) → slice_get xs k ≡ Some r → suc k ≤ length xs
@@ -267,9 +267,9 @@ longer : (xs ys : List DialogueRecord) → length xs ≤ length (xs ++ ys)
 longer [] ys = omega arith
 longer (x ∷ xs) ys = let l = longer xs ys in omega (arith, l)
 
-pub was_said : (o : Origin) (up : Option Addr) (t : Aaid) (e : Entry) (b h : List Entry) (p : ℕ) (x y : Mark) (before : List DialogueRecord) (w : DialogueRecord) (rest : List DialogueRecord) → IsMoment e b h → IsGrown o up (e ∷ b) → is_now t (digest o b).current ≡ true
+pub was_said : (o : Origin) (up : Option Addr) (t : Aaid) (e : Entry) (b h : List Entry) (p : ℕ) (x y : Mark) (before : List DialogueRecord) (w : DialogueRecord) (rest : List DialogueRecord) → IsMoment e b h → IsGrown o up (e ∷ b) → is_now t (digest o b).current ≡ true → ((n : ℕ) → is_word_of t true (PeerRecord.OnAssoc x y n w) ≡ true)
     → sent_on x y p (e ∷ b) ≡ (sent_on x y p b ++ before) ++ w ∷ rest → WasSaid o t h p x y (length (sent_on x y p b ++ before)) w
-was_said o up t e b h p x y before w rest m legal now is = go (sent_split o up e b p x y k w legal (ap (λ (rs : List DialogueRecord). slice_get rs k) is ∙ at_end (sent_on x y p b ++ before) rest w))
+was_said o up t e b h p x y before w rest m legal now word is = go (sent_split o up e b p x y k w legal (ap (λ (rs : List DialogueRecord). slice_get rs k) is ∙ at_end (sent_on x y p b ++ before) rest w))
   where
     k : ℕ
     k = length (sent_on x y p b ++ before)
@@ -279,7 +279,7 @@ was_said o up t e b h p x y before w rest m legal now is = go (sent_split o up e
 
     go : (slice_get (sent_on x y p b) k ≡ Some w) ⊎ (a : Addr) × (a.node ≡ p) × IsSentIn e.outs a (PeerRecord.OnAssoc x y k w) → WasSaid o t h p x y k w
     go (inl old) = absurd (over (length (sent_on x y p b)) k (get_below (sent_on x y p b) k w old) (longer (sent_on x y p b) before))
-    go (inr s) = (s.0, s.1, sent_since_in o t e b h s.0 (PeerRecord.OnAssoc x y k w) m now s.2)
+    go (inr s) = (s.0, s.1, sent_since_in o t e b h s.0 (PeerRecord.OnAssoc x y k w) m now (word k) s.2)
 
 -- the other end took it at its place
 within : (before : List DialogueRecord) (w : DialogueRecord) (rest xs ys : List DialogueRecord) → before ++ w ∷ rest ≡ xs ++ ys → suc (length before) ≤ length xs → (less : List DialogueRecord) × (xs ≡ before ++ w ∷ less)

@@ -35,7 +35,7 @@ use Rattle.tp_steps.specs.Upward.{voting_from, each_up, Deeds, may_say}
 use Rattle.tp_histories.specs.Upward.{deeds_of, SpeaksUp}
 use Rattle.tp_runs.specs.Heeded.{is_heeded, heeds_event, heeds}
 use Rattle.tp_steps.specs.Heeding.{is_answer}
-use Rattle.tp_drained.specs.DrainedWorlds.{IsDrainedTree, says, AnswersAreTaken}
+use Rattle.tp_drained.specs.DrainedWorlds.{is_word_of, IsDrainedTree, says, AnswersAreTaken}
 use Rattle.tp_histories.proofs.trees.Late.{late_law}
 use Rattle.tp_steps.proofs.lemmas.Equality.{aaids_equal, and_left, and_right, both_true}
 use Rattle.tp_steps.proofs.lemmas.Words.{ends_append}
@@ -103,6 +103,14 @@ pub record SaidUp (o : Origin) (h : List Entry) (t : Aaid) (p : ℕ) (f : Dialog
   pub place : slice_get (begun_keys (taken_on x y p h)) (ends_in before) ≡ Some (t, id)
   pub said : WasSaid o t h p x y (length before) word
 
+word_of_tree : (t : Aaid) (x y : Mark) (n : ℕ) (r : DialogueRecord) → is_upward r ≡ true → is_word_of t true (PeerRecord.OnAssoc x y n r) ≡ true
+word_of_tree t x y n DialogueRecord.Ready h = refl
+word_of_tree t x y n (DialogueRecord.Done r) h = refl
+word_of_tree t x y n (DialogueRecord.RolledBack r) h = refl
+word_of_tree t x y n DialogueRecord.Left h = refl
+word_of_tree t x y n DialogueRecord.LeftEnd h = refl
+word_of_tree t x y n r h = absurd (cc (h))
+
 upward_word : (r : DialogueRecord) → is_upward r ≡ true → is_word r ≡ true
 upward_word DialogueRecord.Ready h = refl
 upward_word (DialogueRecord.Done r) h = refl
@@ -167,7 +175,7 @@ said_up o up h t p f empty legal once above taken upward told = record {
   kind = word.kind;
   sent = more.1 ∙ ap (λ (rs : List DialogueRecord). rs ++ more.0) sent ∙ append_assoc before (word.word ∷ word.rest) more.0;
   place = key_stays (taken_on l.0 l.1 p (e ∷ b)) (taken_on l.0 l.1 p h) took.0 (ends_in before) (t, under.0) took.1 place;
-  said = was_said o up t e b h p l.0 l.1 word.before word.word word.rest m.moment legal_now m.now sent;
+  said = was_said o up t e b h p l.0 l.1 word.before word.word word.rest m.moment legal_now m.now (λ n. word_of_tree t l.0 l.1 n word.word (upward word.word word.kind)) sent;
 }
   where
     m : ToldThen (says p f) o t h

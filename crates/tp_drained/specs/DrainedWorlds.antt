@@ -23,6 +23,7 @@ use Rattle.tp_model.specs.Promises.{IsIn, IsOf, IsBranchOf, IsDrained, IsFailure
 use Rattle.tp_histories.specs.Histories.{IsSentIn, HasSent}
 use Rattle.tp_histories.specs.Traces.{sent_on, taken_on}
 use Rattle.tp_steps.specs.Facts.{is_order, ends_in, begun_keys}
+use Rattle.tp_steps.specs.Moves.{is_word}
 use Rattle.tp_steps.specs.Upward.{holds_at}
 use Rattle.tp_steps.specs.Heeding.{is_answer}
 use Rattle.tp_drained.specs.Drained.{has_failed_in, took_in, is_done}
@@ -56,19 +57,27 @@ AllTaken w =
     (t : Aaid) → IsDrained w t → IsFailureFree w t
     → (x z : Node) (m k : Mark) → IsOf w t x → IsIn w z → sent_on m k (number_of z) x.history ≡ taken_on m k (number_of x) z.history
 
--- the record is a Begin of the tree
-abbrev pub is_begin_in : Aaid → PeerRecord → Bool
-is_begin_in t (PeerRecord.OnAssoc x y q (DialogueRecord.Begin u b i)) = is_aaid t u
-is_begin_in t _ = false
+-- the record is a word of the tree: a Begin of it, or one that counts for its outcome, from an entry that came while the tree was
+-- current
+abbrev pub is_word_of : Aaid → Bool → PeerRecord → Bool
+is_word_of t now (PeerRecord.OpenAssoc x u) = false
+is_word_of t now (PeerRecord.AcceptAssoc x y u) = false
+is_word_of t now (PeerRecord.ShutAssoc x y) = false
+is_word_of t now (PeerRecord.OnAssoc x y q (DialogueRecord.Begin u b i)) = is_aaid t u
+is_word_of t now (PeerRecord.OnAssoc x y q r) = now && is_word r
+is_word_of t now (PeerRecord.RecReady u b) = false
+is_word_of t now (PeerRecord.RecCommit u b) = false
+is_word_of t now (PeerRecord.RecReply u b s) = false
+is_word_of t now (PeerRecord.Forget u b) = false
 
--- the record was sent in the tree: by an entry that came while the tree was current, or as a Begin of the tree
-abbrev pub HasSentIn : Origin → Aaid → List Entry → Addr → PeerRecord → Type 0
-HasSentIn o t [] a r = ⊥
-HasSentIn o t (e ∷ h) a r = ((is_now t (digest o h).current || is_begin_in t r) ≡ true) × IsSentIn e.outs a r ⊎ HasSentIn o t h a r
+-- such a word was sent
+abbrev pub HasSaidIn : Origin → Aaid → List Entry → Addr → PeerRecord → Type 0
+HasSaidIn o t [] a r = ⊥
+HasSaidIn o t (e ∷ h) a r = (is_word_of t (is_now t (digest o h).current) r ≡ true) × IsSentIn e.outs a r ⊎ HasSaidIn o t h a r
 
--- what a node of the tree sent in it to a node that is there came to it, and no node of the tree owes its done
+-- each word of the tree that a node of it sent to a node that is there came to it, and no node of the tree owes its done
 pub record IsDrainedTree (w : World) (t : Aaid) : Type 0 where
-  pub taken : (x z : Node) (a : Addr) (r : PeerRecord) → IsOf w t x → HasSentIn x.origin t x.history a r → find_node w.nodes a.node ≡ Some z → HasCome z.history (addr_of x) r
+  pub taken : (x z : Node) (a : Addr) (r : PeerRecord) → IsOf w t x → HasSaidIn x.origin t x.history a r → find_node w.nodes a.node ≡ Some z → HasCome z.history (addr_of x) r
   pub settled : (x : Node) → IsOf w t x → is_owed x.origin t x.history ≡ false
 
 -- where no node of a tree ever failed, what a node of it sent went out: once every frame of its nodes is taken, the tree is drained
@@ -79,11 +88,11 @@ FramesDrain w = (t : Aaid) → IsDrained w t → IsFailureFree w t → IsDrained
 abbrev pub NoFailureInTree : World → Type 0
 NoFailureInTree w = (t : Aaid) → IsFailureFree w t → IsUnfailedTree w t
 
--- a record that a node of the tree sent in it with a pair of marks was taken with it: the other end took as many at least
+-- a word of the tree that a node of it sent with a pair of marks was taken with it: the other end took as many records at least
 abbrev pub WordsAreTaken : World → Type 0
 WordsAreTaken w =
     (t : Aaid) → IsDrainedTree w t
-    → (x z : Node) (a : Addr) (m k : Mark) (q : ℕ) (r : DialogueRecord) → IsOf w t x → IsIn w z → a.node ≡ number_of z → HasSentIn x.origin t x.history a (PeerRecord.OnAssoc m k q r)
+    → (x z : Node) (a : Addr) (m k : Mark) (q : ℕ) (r : DialogueRecord) → IsOf w t x → IsIn w z → a.node ≡ number_of z → HasSaidIn x.origin t x.history a (PeerRecord.OnAssoc m k q r)
     → suc q ≤ length (taken_on m k (number_of x) z.history)
 
 -- ---- branches
