@@ -22,7 +22,7 @@ use Rattle.tp_steps.specs.Clearing.{is_complete_none}
 use Rattle.tp_steps.proofs.every.EveryTurn.{every_turn}
 use Rattle.tp_steps.proofs.words.Fair.{row_phase}
 use Rattle.tp_steps.proofs.lemmas.Phases.{tell_append, still_up, still_prepare, IsUntold, untold}
-use Rattle.tp_drained.proofs.Calm.{is_calm, retried_untold, completion_tells}
+use Rattle.tp_drained.proofs.Calm.{is_calm, is_given, retried_untold, completion_tells}
 use Rattle.tp_steps.proofs.log.TurnLog.{row_decision}
 use Rattle.tp_steps.proofs.lemmas.Joined.{joined_rolls, joined_order, joined_leaves}
 
@@ -224,8 +224,8 @@ none_replied e s b w r is found now h =
 pub wild : (e f : TxEvent) → e ≡ f → is_calm e ≡ true → is_calm f ≡ false → ⊥
 wild e f is calm off = cc (ap is_calm is, calm, off)
 
-clearing_turns : (e : TxEvent) (s : Transaction) → is_calm e ≡ true → brings_none e s ≡ true → Turns e s IsClearing
-clearing_turns e s calm none = record {
+clearing_turns : (e : TxEvent) (s : Transaction) → is_given e ≡ false → brings_none e s ≡ true → Turns e s IsClearing
+clearing_turns e s bare none = record {
   still = λ t. quiet t (turn [] t) refl (λ h. h);
   first = λ t u outs a one two. joined t (turn outs u) a (before outs a) refl refl one two;
   chain = λ t a f one two q. joined t a (f a.next) (and_then a f) refl refl one two;
@@ -239,11 +239,11 @@ clearing_turns e s calm none = record {
   prepares = λ q. with_quiet s (TxOut.Carry q DialogueRecord.Prepare ∷ []) q (λ r. record r { branch = record r.branch { prepared = true } }) refl (λ r k. k);
   asks = λ act n told. ask_clear s;
   asks_again = quiet s _ (retried_untold is_complete refl s) (λ h. h);
-  decides = λ o is ready. absurd (wild e (TxEvent.Heur o) is calm refl);
+  decides = λ o is ready. absurd (cc (ap is_given is, bare));
   aborts = λ q. lost_quiet s (TxOut.Carry q DialogueRecord.UAbort ∷ TxOut.Close q ∷ []) q refl;
   loses_arc = λ q l. lost_quiet s [] q refl;
   closes_left = λ q is. with_quiet s (TxOut.Close q ∷ []) q row_dead refl (λ r k. k);
-  gives_up = λ q r is c found. absurd (wild e (TxEvent.GiveUp q) is calm refl);
+  gives_up = λ q r is c found. absurd (cc (ap is_given is, bare));
   counts = λ q is act h. count_clear s q;
   ends_done = λ q x is c h. end_clear s q x (none_said e s q x is c h none);
   ends_replied = λ b w x is found now. end_clear s w.branch.peer.node x (none_replied e s b w x is found now none);
@@ -259,6 +259,6 @@ clearing_turns e s calm none = record {
   leaves = λ is act under asked all. leave_clear s;
 }
 
-pub clears : (e : TxEvent) (s : Transaction) → IsPut e s → is_calm e ≡ true → brings_none e s ≡ true → is_clear s ≡ true
+pub clears : (e : TxEvent) (s : Transaction) → IsPut e s → is_given e ≡ false → brings_none e s ≡ true → is_clear s ≡ true
     → (is_clear (transacted e s).next ≡ true) × (asks_tell is_complete (transacted e s).outs ≡ true → asks_tell is_complete_none (transacted e s).outs ≡ true)
-clears e s put calm none h = let k = every_turn e s IsClearing (clearing_turns e s calm none) put in (k.clear h, k.tells h)
+clears e s put bare none h = let k = every_turn e s IsClearing (clearing_turns e s bare none) put in (k.clear h, k.tells h)

@@ -66,13 +66,13 @@ done_above es t k x z c v branch at tree found done =
     let u = unfailed_at es t k x branch.superior in
     let said = done_up z.origin z.superior z.history t (number_of x) (unfailed_at es t k z branch.child) (below_at es t v.id x z branch) done in
     let took = dones_are_taken es t k.drained k.calm v.id x z branch said (ap (is_now t) at ∙ tree) in
-    found_is has_ended c (number_of z) v found (heeds_done x.origin x.superior x.history u t c (number_of z) took at tree)
+    found_is has_ended c (number_of z) v found (heeds_done t x.origin x.superior x.history u c (number_of z) took at tree)
 
 done_up_to : (es : List Happening) (t : Aaid) → IsDone es t → (k : ℕ) (x : Node) → IsWithin es k x → IsOf (run es) t x → has_left x.origin t x.history ≡ false → completed_none x.origin t x.history ≡ true
 done_up_to es t d zero x le of stay = absurd (none_within es t x of le)
 done_up_to es t d (suc k) x le of stay = go (λ b z branch. done_up_to es t d k z (branch_within es t b k x z branch le) branch.child)
   where
-    u : IsUnfailed x.origin x.superior x.history
+    u : IsUnfailed t x.origin x.superior x.history
     u = unfailed_at es t d x of
 
     done : decided x.origin t x.history ≡ true
