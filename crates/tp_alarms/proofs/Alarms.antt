@@ -28,7 +28,8 @@ use Rattle.tp_model.specs.Outcomes.{is_now, decided, rolled, tells_complete_none
 use Rattle.tp_model.specs.Questions.{is_at}
 use Rattle.tp_model.specs.World.{Node, Frame, number_of, addr_of, find_node}
 use Rattle.tp_model.specs.Happenings.{Happening, run}
-use Rattle.tp_model.specs.Promises.{IsIn, IsOf, IsBranchOf, IsBelow, below as one_below, has_begun, has_told_in, completes, tells_commit, has_record, is_of_tree}
+use Rattle.tp_model.specs.Promises.{IsIn, IsOf, IsBranchOf, IsBelow, below as one_below, has_begun, has_told_in, tells_commit, has_record, is_of_tree}
+use Rattle.tp_model.specs.Questions.{tells_commit_complete}
 use Rattle.tp_model.specs.Legal.{IsGrown, is_apart, are_apart}
 use Rattle.tp_model.specs.declared.arc.Phase.{Phase}
 use Rattle.tp_steps.specs.Moves.{IsAsked, prelude}
@@ -131,7 +132,7 @@ rolled_at o t (x ∷ xs) h r = rolled_more o x (xs ++ h) t (rolled_at o t xs h r
 
 -- ---- what is told
 
-complete_split : (outs : List Out) → completes outs ≡ true → (tells_complete_none outs ≡ true) ⊎ (tells_reported outs ≡ true)
+complete_split : (outs : List Out) → tells_commit_complete outs ≡ true → (tells_complete_none outs ≡ true) ⊎ (tells_reported outs ≡ true)
 complete_split [] h = absurd (cc (h))
 complete_split (Out.Tell (Indication.CommitComplete Report.None) ∷ outs) h = inl refl
 complete_split (Out.Tell (Indication.CommitComplete Report.Hazard) ∷ outs) h = inr refl
@@ -293,7 +294,7 @@ damaged_told es t y of never damage = go (ending_law y.origin y.superior y.histo
     go (Goes_on n) = absurd (never (fated.rolling n (cleared.damage_now damage n)))
     go (It_rolled r) = absurd (never r)
     go (It_left l) = absurd (let off : has_damage t (records y.origin y.history) ≡ false = bare_damage t (records y.origin y.history) (left_is_bare es t y of l) in cc (off, damage))
-    go (It_was_told i) = elim (told_split completes tells_complete_none tells_reported complete_split y.origin t y.history i) [
+    go (It_was_told i) = elim (told_split tells_commit_complete tells_complete_none tells_reported complete_split y.origin t y.history i) [
       | inl j ↦ absurd (cc (cleared.clear_whole (cleared.completed (told_none_is y.origin t y.history j)), damage))
       | inr j ↦ j
     ]

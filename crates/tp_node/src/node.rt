@@ -11,7 +11,7 @@ ghost use Rattle.tp_model.specs.Arcs.{find_arc, link_with, with_link, with_dialo
 ghost use Rattle.tp_model.specs.Node.{branches_of, seen, remaining, entered, grants, phase_of, has_asked, is_superior, side_at, situation_at, may_root, may_begin_on, is_chained_below, chained_peers, fresh_current, superior_arc, next_mark, with_mark_drawn};
 ghost use Rattle.tp_model.specs.Events.{is_no_node, refused_of_current, refused_purge, some_past_numbers};
 ghost use Rattle.tp_records.specs.declared.request.Request.{Request};
-ghost use Rattle.tp_model.specs.Requests.{refused_of_tx, refused_request, refused_at, room, count_below, count_gone, count_subordinates, has_branch_at, is_branch_below, is_some_arc};
+ghost use Rattle.tp_model.specs.Requests.{refused_of_tx, refused_request, refused_at, room, count_below, count_gone, count_subordinates, has_branch_at, is_branch_below};
 ghost use Rattle.tp_model.specs.History.{state};
 ghost use Rattle.tp_model.specs.Recovery.{kept_after, find_kept, with_forget, noted};
 ghost use Rattle.tp_model.specs.declared.recovery.KeptEvent.{KeptEvent};
@@ -33,6 +33,7 @@ ghost use Rattle.tp_model.specs.declared.arc.Side.{Side};
 ghost use Rattle.tp_tree.specs.Invocation.{with_arc};
 ghost use Rattle.tp_node.specs.Halt.{OnSpent};
 ghost use Rattle.tp_node.specs.Begins.{aaid_in, with_branch, begun_on, has_place_below, with_digest, may_start};
+ghost use Rattle.tp_model.specs.declared.refusal.Refusal.TheVariants.{NoDialogue, NoTransaction};
 
 use crate::halt::Halt;
 use crate::passage::Passage;
@@ -458,7 +459,7 @@ impl Node {
 
     // No new dialogue can be asked for with that peer now.
     fn is_taken(&self, peer: u16) -> bool
-        ensures { result ≡ ((peer == self.now.who.node) || is_superior self.now.digest peer || is_some_arc (find_arc self.now.digest.arcs peer) || is_branch_below self.now.digest peer || is_late (phase_of self.now.digest)) }
+        ensures { result ≡ ((peer == self.now.who.node) || is_superior self.now.digest peer || is_some (find_arc self.now.digest.arcs peer) || is_branch_below self.now.digest peer || is_late (phase_of self.now.digest)) }
     {
         peer == self.number
             || self.side(peer) == Side::Subordinate
@@ -481,7 +482,7 @@ impl Node {
 
     // Of a begin-transaction, by others than the arc.
     fn refused_root(&self) -> Option<Refusal>
-        ensures { number_in result ≡ first ((is_nil (phase_of self.now.digest) && not (may_root self.now.digest), 6) ∷ []) }
+        ensures { number_in result ≡ first ((is_nil (phase_of self.now.digest) && not (may_root self.now.digest), NoTransaction) ∷ []) }
     {
         if self.phase() == Phase::Nil && !self.may_root() {
             Some(NoTransaction)
@@ -539,7 +540,7 @@ impl Node {
 
     /// Of a loss.
     pub(crate) fn refused_loss(&self, peer: u16) -> Option<Refusal>
-        ensures { number_in result ≡ first ((is_idle (link_with self.now.digest.arcs peer), 1) ∷ []) }
+        ensures { number_in result ≡ first ((is_idle (link_with self.now.digest.arcs peer), NoDialogue) ∷ []) }
     {
         match self.find(peer) {
             Some(tie) if tie.link.state() != LinkState::Idle => None,
