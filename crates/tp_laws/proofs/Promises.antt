@@ -11,7 +11,7 @@ use Rattle.tp_histories.proofs.worlds.Starts.{all_legal}
 use Rattle.tp_runs.proofs.Users.{users_see}
 use Rattle.tp_reports.proofs.ReportFree.{report_free, report_free_closes}
 use Rattle.tp_reports.proofs.Reported.{reports, done_below}
-use Rattle.tp_drained.proofs.DrainedCommits.{drained_commits, settled_closes}
+use Rattle.tp_drained.proofs.DrainedCommits.{drained_commits, settled_closes, tree_commits, tree_closes}
 use Rattle.tp_forced.proofs.TreeLogs.{one_log}
 use Rattle.tp_forced.proofs.Forced.{ends_last, commits_force_so, rolls_unforced}
 use Rattle.tp_forced.proofs.TakenOnce.{taken_once}
@@ -52,6 +52,8 @@ all_promised es = record {
   closed = closes_once es;
   report_free_closes = report_free_closes es;
   settled_closes = settled_closes es;
+  settled_tree = tree_commits es;
+  settled_tree_closes = tree_closes es;
   done_below = done_below es;
   one_log = one_log es;
   ends_last = ends_last es;

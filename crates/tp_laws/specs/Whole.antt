@@ -4,7 +4,7 @@
 use Rattle.tp_model.specs.World.{World}
 use Rattle.tp_model.specs.Promises.{Promised}
 use Rattle.tp_reports.specs.Reports.{ReportFreeCloses, DoneBelow}
-use Rattle.tp_drained.specs.DrainedTrees.{SettledCloses}
+use Rattle.tp_drained.specs.DrainedTrees.{SettledCloses, SettledTreeCommits, SettledTreeCloses}
 use Rattle.tp_forced.specs.Taken.{TakenOnce}
 use Rattle.tp_forced.specs.TreeLog.{OneLog, EndsLast, CommitsForceSo, RollsUnforced}
 use Rattle.tp_outcomes.specs.Agreement.{TreesAgree}
@@ -30,6 +30,9 @@ pub record AllPromised (w : World) : Type 0 where
   pub closed : ClosesOnce w
   pub report_free_closes : ReportFreeCloses w
   pub settled_closes : SettledCloses w
+  -- and so where it is drained, and nothing of it failed, in the time in which it is current at its nodes: each that stays committed
+  pub settled_tree : SettledTreeCommits w
+  pub settled_tree_closes : SettledTreeCloses w
   -- a Done with no report speaks for its branch
   pub done_below : DoneBelow w
   -- what a node forces of a tree: under one key, in one order, nothing after the end, three records where all is clear, none where
