@@ -6,6 +6,7 @@ use Rattle.tp_names.specs.declared.identifiers.Mark.{Mark}
 use Rattle.tp_names.specs.declared.identifiers.Aaid.{Aaid}
 use Rattle.tp_names.specs.declared.identifiers.BranchId.{BranchId}
 use Rattle.tp_names.specs.declared.identifiers.Addr.{Addr}
+use Rattle.tp_names.specs.declared.outcome.Outcome.{Outcome}
 use Rattle.tp_names.specs.declared.outcome.Report.{Report}
 use Rattle.tp_names.specs.Reports.{is_report_none}
 use Rattle.tp_names.specs.Same.{is_aaid}
@@ -91,7 +92,7 @@ done_decided ns fs x e y st unique hy above a m k q r is at = go (slice_get keys
     heeded = word_taken ns fs x y a m k q (DialogueRecord.Done r) now unique hy above at
 
     held : holds_at keys n g.committed ≡ true
-    held = and_left (holds_at keys n g.committed) (not (is_report_none r) || holds_at keys n g.completed) (and_left (holds_at keys n g.committed && (not (is_report_none r) || holds_at keys n g.completed)) (is_report_none r || holds_at keys n g.damaged) (and_left (holds_at keys n g.committed && (not (is_report_none r) || holds_at keys n g.completed) && (is_report_none r || holds_at keys n g.damaged)) true heeded))
+    held = and_left (holds_at keys n g.committed) (not (is_report_none r) || holds_at keys n g.completed) (and_left (holds_at keys n g.committed && (not (is_report_none r) || holds_at keys n g.completed)) (is_report_none r || holds_at keys n g.damaged) (and_left (holds_at keys n g.committed && (not (is_report_none r) || holds_at keys n g.completed) && (is_report_none r || holds_at keys n g.damaged)) (holds_at keys n (g.told Outcome.Commit r)) (and_left (holds_at keys n g.committed && (not (is_report_none r) || holds_at keys n g.completed) && (is_report_none r || holds_at keys n g.damaged) && holds_at keys n (g.told Outcome.Commit r)) true heeded)))
 
     hx : find_node ns (number_of x) ≡ Some x
     hx = st.accepts.here
