@@ -21,6 +21,8 @@ use Rattle.tp_outcomes.proofs.CountedThere.{counted_is_there}
 use Rattle.tp_outcomes.proofs.TreesAgree.{trees_agree}
 use Rattle.tp_alarms.proofs.Causes.{reports_have_causes}
 use Rattle.tp_alarms.proofs.Alarms.{no_false_alarm}
+use Rattle.tp_alarms.proofs.Commitments.{commitments_apart}
+use Rattle.tp_alarms.proofs.Rollbacks.{rollbacks_apart}
 use Rattle.tp_laws.specs.Whole.{AllPromised}
 
 -- ---- the headline
@@ -62,4 +64,6 @@ all_promised es = record {
   taken_once = taken_once es;
   causes = reports_have_causes es;
   no_false_alarm = no_false_alarm es;
+  commitments_apart = commitments_apart es;
+  rollbacks_apart = rollbacks_apart es;
 }

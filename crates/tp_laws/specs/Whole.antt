@@ -13,6 +13,7 @@ use Rattle.tp_outcomes.specs.Shown.{ToldOfTrees, LeftIsUntold}
 use Rattle.tp_outcomes.specs.Starting.{ClosesOnce}
 use Rattle.tp_alarms.specs.Causes.{ReportsHaveCauses}
 use Rattle.tp_alarms.specs.Alarms.{NoFalseAlarm}
+use Rattle.tp_alarms.specs.Apart.{CommitmentsAreApart, RollbacksAreApart}
 
 pub record AllPromised (w : World) : Type 0 where
   -- legal histories, associations, control, the headline, what users see, a node and its branches, reports, mixed trees
@@ -45,3 +46,6 @@ pub record AllPromised (w : World) : Type 0 where
   -- a report has its cause at the node or in a branch's word; and a node at or below decided to roll back, or gave up a branch
   pub causes : ReportsHaveCauses w
   pub no_false_alarm : NoFalseAlarm w
+  -- and behind mix stands a decision of the other outcome, behind hazard a branch given up
+  pub commitments_apart : CommitmentsAreApart w
+  pub rollbacks_apart : RollbacksAreApart w
