@@ -3,7 +3,7 @@
 use crate::values::{at_b, named};
 use std::alloc::Global;
 use tp_journal::{Journal, Keeper};
-use tp_model::Phase;
+use tp_model::{Phase, Refusal};
 use tp_names::{Addr, Octets};
 use tp_outside::MemDisk;
 use tp_records::{DialogueRecord, Indication, PeerRecord, Request};
@@ -169,8 +169,8 @@ fn all_stepped(
         } else {
             stepped(alloc, b, *node, step, &sent)?
         };
-        let Played { number, outs } = played;
-        if number.is_some() {
+        let Played { refusal, outs } = played;
+        if refusal.is_some() {
             return None;
         }
         sent = outs;
@@ -354,13 +354,13 @@ fn shuts(rec: &PeerRecord) -> bool {
     matches!(rec, PeerRecord::ShutAssoc { .. })
 }
 
-// Prepare arrives at the root in place of Ready: the number of the refusal, and whether the association is ended.
-fn out_of_phase(alloc: Global, pair: &mut Pair) -> Option<(u8, bool)> {
+// Prepare arrives at the root in place of Ready: the refusal, and whether the association is ended.
+fn out_of_phase(alloc: Global, pair: &mut Pair) -> Option<(Refusal, bool)> {
     let rec = prepare_for(first_sent(pair.outs.as_slice())?)?;
     let from = at(2)?;
     let played = arrive(alloc, &mut pair.a, 1, from, &rec).ok()?;
-    let number = played.number?;
-    Some((number, shuts(first_sent(played.outs.as_slice())?)))
+    let refusal = played.refusal?;
+    Some((refusal, shuts(first_sent(played.outs.as_slice())?)))
 }
 
 #[test]
@@ -369,7 +369,7 @@ fn a_record_out_of_phase_ends_its_association(rt: HostRuntime) {
         panic!(rt; "a step was refused")
     };
     let answer = out_of_phase(rt.alloc(), &mut pair);
-    assert!(rt; matches!(answer, Some((24, true))));
+    assert!(rt; matches!(answer, Some((Refusal::OutOfPhase, true))));
 }
 
 // The second is asked to prepare, on a disk that fails at that call.

@@ -51,7 +51,7 @@ applied_shaped standing keeper here old new n e outs same was plan put site =
 pub applied : {K : Type 0} (standing : K → Standing) (here : Site K) (keeper : K) (old new : Nodes) (shut : Option ℕ) (n : ℕ) (e : NodeEvent) (outs : List Out)
     → (let s : Site K = record { keeper = keeper; nodes = old; shut = shut } in s ≡ here) → IsPlanned (node_at here.nodes n) e outs → here.shut ≡ None
     → ((k : ℕ) → digest_at new k ≡ cond (n == k) (run_in_place (who_at old n) e (digest_at old n)) (digest_at old k)) → IsSameSite old new
-    → (x : Move) × IsPlayed standing here n (event_of e) (record { number = None; outs = outs }) (record { keeper = keeper; nodes = new; shut = shut }) x
+    → (x : Move) × IsPlayed standing here n (event_of e) (record { refusal = None; outs = outs }) (record { keeper = keeper; nodes = new; shut = shut }) x
 applied standing here keeper old new shut n e outs same plan is put site =
     let nodes : old ≡ here.nodes = ap (λ s. s.nodes) same in
     let after : Digest = run_in_place (who_at here.nodes n) e (digest_at here.nodes n) in (

@@ -1,17 +1,15 @@
 -- A Begin that is planned: what it answers.
-use Rattle.std.proofs.Common.{◌≡◌, ◌≤◌, ℕ, suc, Bool, true, false, Option, Some, None, List, [], ◌∷◌, ◌++◌, refl, ap, sym, subst, ◌∙◌, arith, Bor}
+use Rattle.std.proofs.Common.{◌≡◌, ◌≤◌, ℕ, suc, true, Option, Some, None, List, [], ◌∷◌, ◌++◌, refl, ap, sym, subst, ◌∙◌, arith, Bor}
 use Rattle.std.specs.Prelude.{nat_lt}
 use Rattle.std.proofs.lemmas.Bool.Decides.{nat_tests}
-use Rattle.std.proofs.lemmas.Grind.{common_steps}
 use Rattle.tp_records.specs.declared.request.Request.{Request}
 use Rattle.tp_records.specs.declared.dialogue.DialogueRecord.{DialogueRecord}
-use Rattle.tp_model.specs.declared.transaction.TxOut.{TxOut}
-use Rattle.tp_model.specs.Parts.{Who, Arc, Current, Digest, Out}
+use Rattle.tp_model.specs.Parts.{Who, Current, Digest, Out}
 use Rattle.tp_model.specs.Arcs.{carried}
 use Rattle.tp_model.specs.Links.{greatest}
 use Rattle.tp_model.specs.Requests.{begin_transaction, do_request}
 use Rattle.tp_model.specs.Node.{Move, move, perform, begin_on, start_root}
-use Rattle.tp_model.specs.Events.{action, some_past_numbers, refused_plainly}
+use Rattle.tp_model.specs.Events.{some_past_numbers, refused_plainly}
 use Rattle.tp_model.specs.Parts.{Do}
 use Rattle.tp_node.specs.declared.event.NodeEvent.{NodeEvent}
 use Rattle.tp_node.specs.Node.{Node}

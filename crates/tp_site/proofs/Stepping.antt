@@ -9,6 +9,7 @@ use Rattle.tp_model.specs.Parts.{Who, Origin, Event, Entry, Digest, Answer as To
 use Rattle.tp_model.specs.Events.{action, refusal, is_breaking}
 use Rattle.tp_model.specs.History.{digest, answer, entry_of, broken_by}
 use Rattle.tp_model.specs.Node.{Move}
+use Rattle.tp_model.specs.Refusal.{number_in}
 use Rattle.tp_model.specs.NodeRun.{Opening, Asked, Refuses as Not_asked, Is, asked, node_of, origin_at, boot_of, history_of, with_entry, entry_record, entry_outputs, outputs_of, refusal_of, NodeRun, run_from, log_after}
 use Rattle.tp_journal.specs.declared.receipts.Receipt.{Receipt}
 use Rattle.tp_journal.specs.declared.faults.ForceFault.{ForceFault}
@@ -55,11 +56,11 @@ parted a number entry i j = rw (← i, ← j) refl
 
 -- ---- the keeper
 
-wide_forced : {K : Type 0} (standing : K → Standing) (old new : K) (rec : Option LogRec) → IsForced standing old rec new → (standing new).wide ≡ (standing old).wide
+pub wide_forced : {K : Type 0} (standing : K → Standing) (old new : K) (rec : Option LogRec) → IsForced standing old rec new → (standing new).wide ≡ (standing old).wide
 wide_forced standing old new None f = ap (λ k. (standing k).wide) f
 wide_forced standing old new (Some r) f = f.1.wide
 
-kept_forced : {K : Type 0} (standing : K → Standing) (old new : K) (rec : Option LogRec) → IsForced standing old rec new
+pub kept_forced : {K : Type 0} (standing : K → Standing) (old new : K) (rec : Option LogRec) → IsForced standing old rec new
     → kept_records (standing new) ≡ kept_records (standing old) ++ elim rec as (λ _. List LogRec) [ None ↦ [] | Some r ↦ r ∷ [] ]
 kept_forced standing old new None f = ap (λ k. kept_records (standing k)) f ∙ sym (append-nil (kept_records (standing old)))
 kept_forced standing old new (Some r) f =
@@ -141,8 +142,8 @@ module _ {K : Type 0} (standing : K → Standing) (mine : ℕ → Bool) (o : Ope
   ran = run_next o gs g (Is n e) next.is
 
   module _ (p : Played) (m : Move) (new : Site K) (x : IsPlayed standing old n e p new m) where
-    gained : IsGained (origin_at o n) h e p.number m
-    gained = has_gained (origin_at o n) h e p.number m (sym answered ∙ x.answer)
+    gained : IsGained (origin_at o n) h e (number_in p.refusal) m
+    gained = has_gained (origin_at o n) h e (number_in p.refusal) m (sym answered ∙ x.answer)
 
     histories : (k : ℕ) → history_at o (gs ++ g ∷ []) k ≡ cond (n == k) (gained.entry ∷ history_at o gs n) (history_at o gs k)
     unfolding h
@@ -174,20 +175,20 @@ module _ {K : Type 0} (standing : K → Standing) (mine : ℕ → Bool) (o : Ope
         ∙ ap (λ (q : Option LogRec). o.records ++ LogRec.Boot (boot_of o) ∷ ((run_from o [] gs).log ++ elim q as (λ _. List LogRec) [ None ↦ [] | Some r ↦ r ∷ [] ])) (sym gained.rec)
         ∙ ap (λ (l : List LogRec). o.records ++ LogRec.Boot (boot_of o) ∷ l) (sym log)
 
-    outputs : (outs : List Output) → outs ≡ given_out old.nodes.site n p.number p.outs → outs ≡ outputs_after o gs g
+    outputs : (outs : List Output) → outs ≡ given_out old.nodes.site n (number_in p.refusal) p.outs → outs ≡ outputs_after o gs g
     outputs outs same =
         same
-        ∙ ap (λ (s : List ℕ). given_out s n p.number p.outs) next.at.site
-        ∙ ap (λ (l : List Output). refusal_of p.number ++ l) (outputs_by_name o n p.outs ∙ ap (outputs_of o n) (x.outs ∙ sym gained.outs) ∙ ap (λ (j : ℕ). outputs_of o j gained.entry.outs) (sym next.node))
+        ∙ ap (λ (s : List ℕ). given_out s n (number_in p.refusal) p.outs) next.at.site
+        ∙ ap (λ (l : List Output). refusal_of (number_in p.refusal) ++ l) (outputs_by_name o n p.outs ∙ ap (outputs_of o n) (x.outs ∙ sym gained.outs) ∙ ap (λ (j : ℕ). outputs_of o j gained.entry.outs) (sym next.node))
         ∙ ap (λ (a : Told). refusal_of a.number ++ entry_outputs o (node_of g) a.entry) (sym answer_is)
       where
-        answer_is : ◌≡◌ {A = Told} (answer_after o gs g) (record { number = p.number; entry = Some gained.entry })
-        answer_is = told ∙ parted (answer (origin_at o n) h e) p.number (Some gained.entry) gained.number_is gained.entry_is
+        answer_is : ◌≡◌ {A = Told} (answer_after o gs g) (record { number = (number_in p.refusal); entry = Some gained.entry })
+        answer_is = told ∙ parted (answer (origin_at o n) h e) (number_in p.refusal) (Some gained.entry) gained.number_is gained.entry_is
 
     record_is : m.rec ≡ record_after o gs g
     record_is = sym gained.rec ∙ ap record_of (sym gained.entry_is) ∙ ap (λ (a : Told). record_of a.entry) (sym told)
 
-    stepped : (outs : List Output) → outs ≡ given_out old.nodes.site n p.number p.outs → IsStepped standing mine o gs old g outs new
+    stepped : (outs : List Output) → outs ≡ given_out old.nodes.site n (number_in p.refusal) p.outs → IsStepped standing mine o gs old g outs new
     stepped outs same = record {
       at = record {
         site = x.site.site ∙ next.at.site;

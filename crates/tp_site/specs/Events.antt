@@ -9,6 +9,7 @@ use Rattle.tp_records.specs.Bodies.{peer_bytes}
 use Rattle.tp_model.specs.Parts.{Event, Entry, Answer, Out, Tell, Send}
 use Rattle.tp_model.specs.History.{answer, digest}
 use Rattle.tp_model.specs.NodeRun.{Opening, boot_of, origin_at, Asked, Refuses, Is, asked, node_of, history_of, refusal_of, outputs_of, entry_outputs, run_from, log_after}
+use Rattle.tp_model.specs.Refusal.{number_in}
 use Rattle.tp_journal.specs.declared.faults.ForceFault.{ForceFault}
 use Rattle.tp_journal.specs.declared.faults.ForceFault.TheVariants as force
 use Rattle.tp_journal.specs.Keeping.{Standing}
@@ -37,7 +38,7 @@ output_of name n (Send to r) = Output.Send (record { site = name; node = n }) to
 
 -- the node of that number plays it, and its outputs go out
 abbrev pub Gives : {K : Type 0} → (K → Standing) → Site K → ℕ → Event → Result (List Output) SiteFault → Site K → Type 0
-Gives standing old n e (Ok outputs) new = (p : Played) × Plays standing old n e (Ok p) new × (outputs ≡ given_out old.nodes.site n p.number p.outs)
+Gives standing old n e (Ok outputs) new = (p : Played) × Plays standing old n e (Ok p) new × (outputs ≡ given_out old.nodes.site n (number_in p.refusal) p.outs)
 Gives standing old n e (Err fault) new = Plays standing old n e (Err fault) new
 
 -- it is refused by that number before any node is asked

@@ -47,14 +47,6 @@ HasTextIfAsked wide rec (Err (SiteFault.DiskFault faults)) = HasTextOption wide 
 HasTextIfAsked wide rec (Err (SiteFault.Shut faults)) = Unit {0}
 HasTextIfAsked wide rec (Err SiteFault.NoMemory) = Unit {0}
 
--- no keeper was asked yet
-abbrev pub IsEarly : SiteFault → Type 0
-IsEarly (SiteFault.Refused k) = Unit {0}
-IsEarly (SiteFault.Full size) = ⊥
-IsEarly (SiteFault.DiskFault faults) = ⊥
-IsEarly (SiteFault.Shut faults) = ⊥
-IsEarly SiteFault.NoMemory = Unit {0}
-
 -- and so it is of the boot of a start
 abbrev pub HasTextIfStarted : {A B : Type 0} → Bool → LogRec → Result A (B × StartFault) → Type 0
 HasTextIfStarted wide boot (Ok a) = HasText wide boot

@@ -21,7 +21,10 @@ use Rattle.tp_model.specs.declared.refusal.Refusal.{Refusal}
 use Rattle.tp_model.specs.Refusal.{number_in}
 use Rattle.tp_node.specs.NodeEvent.{Answer, Refuses, Happens, answer_at}
 use Rattle.tp_site.specs.declared.site.Played.{Played}
+use Rattle.tp_model.specs.declared.transaction.TxFault.{TxFault}
 use Rattle.tp_site.specs.declared.faults.SiteFault.{SiteFault}
+use Rattle.tp_site.specs.declared.faults.LogFault.{LogFault}
+use Rattle.tp_site.specs.Faults.{shut_by}
 use Rattle.tp_site.specs.declared.faults.StartFault.{StartFault}
 
 pub record Site (K : Type 0) : Type 0 where
@@ -68,7 +71,7 @@ rec_of (Happens n m) = m.rec
 
 -- it happens: its record was forced, its outputs are given, and the node is what it makes of it
 pub record IsPlayed {K : Type 0} (standing : K → Standing) (old : Site K) (n : ℕ) (e : Event) (p : Played) (new : Site K) (m : Move) : Type 0 where
-  pub answer : answer_at (who_at old.nodes n) (known_at old n) e ≡ Happens p.number m
+  pub answer : answer_at (who_at old.nodes n) (known_at old n) e ≡ Happens (number_in p.refusal) m
   pub outs : p.outs ≡ m.outs
   pub forced : IsForced standing old.keeper m.rec new.keeper
   pub known : (k : ℕ) → known_at new k ≡ cond (n == k) m.next (known_at old k)
@@ -97,8 +100,8 @@ Plays standing old n e (Err SiteFault.NoMemory) new = IsSame old new × (standin
 -- ---- the two steps of it
 
 -- an answer is known, and nothing of it is so
-pub record IsAttempted {K : Type 0} (old : Site K) (n : ℕ) (e : Event) (number : Option ℕ) (a : Draft) (new : Site K) : Type 0 where
-  pub answer : answer_at (who_at old.nodes n) (known_at old n) e ≡ Happens number a.move
+pub record IsAttempted {K : Type 0} (old : Site K) (n : ℕ) (e : Event) (refusal : Option Refusal) (a : Draft) (new : Site K) : Type 0 where
+  pub answer : answer_at (who_at old.nodes n) (known_at old n) e ≡ Happens (number_in refusal) a.move
   pub who : a.who ≡ who_at new.nodes n
   pub there : has_node new.nodes n ≡ true
   pub same : IsSame old new
@@ -106,14 +109,11 @@ pub record IsAttempted {K : Type 0} (old : Site K) (n : ℕ) (e : Event) (number
   pub open_before : old.shut ≡ None
   pub open_after : new.shut ≡ None
 
-abbrev pub Attempts : {K : Type 0} → (K → Standing) → Site K → ℕ → Event → Result (Option Refusal) SiteFault → Draft → Site K → Type 0
-Attempts standing old n e (Ok refusal) a new = IsAttempted old n e (number_in refusal) a new
-Attempts standing old n e (Err (SiteFault.Refused k)) a new =
+abbrev pub Attempts : {K : Type 0} → (K → Standing) → Site K → ℕ → Event → Result (Option Refusal) TxFault → Draft → Site K → Type 0
+Attempts standing old n e (Ok refusal) a new = IsAttempted old n e refusal a new
+Attempts standing old n e (Err (TxFault.Refused k)) a new =
     (answer_at (who_at old.nodes n) (known_at old n) e ≡ Refuses k) × (old.shut ≡ None) × (new ≡ old)
-Attempts standing old n e (Err (SiteFault.Full size)) a new = ⊥
-Attempts standing old n e (Err (SiteFault.DiskFault faults)) a new = ⊥
-Attempts standing old n e (Err (SiteFault.Shut faults)) a new = ⊥
-Attempts standing old n e (Err SiteFault.NoMemory) a new = IsSame old new × (new.keeper ≡ old.keeper) × (old.shut ≡ None) × (new.shut ≡ None)
+Attempts standing old n e (Err TxFault.NoMemory) a new = IsSame old new × (new.keeper ≡ old.keeper) × (old.shut ≡ None) × (new.shut ≡ None)
 
 -- the node has become that, and its record is forced
 pub record IsSettled {K : Type 0} (standing : K → Standing) (old : Site K) (n : ℕ) (d : Digest) (rec : Option LogRec) (new : Site K) : Type 0 where
@@ -122,13 +122,10 @@ pub record IsSettled {K : Type 0} (standing : K → Standing) (old : Site K) (n 
   pub site : IsSameSite old.nodes new.nodes
   pub shut : new.shut ≡ old.shut
 
-abbrev pub Settles : {K : Type 0} → (K → Standing) → Site K → ℕ → Digest → Option LogRec → Result (Unit {0}) SiteFault → Site K → Type 0
+-- without it, the nodes are as before; a fault of the disk shuts the site
+abbrev pub Settles : {K : Type 0} → (K → Standing) → Site K → ℕ → Digest → Option LogRec → Result (Unit {0}) ForceFault → Site K → Type 0
 Settles standing old n d rec (Ok u) new = IsSettled standing old n d rec new
-Settles standing old n d rec (Err (SiteFault.Refused k)) new = ⊥
-Settles standing old n d rec (Err (SiteFault.Full size)) new = IsUnforced standing old.keeper rec (force.Full size) new.keeper × (new.nodes ≡ old.nodes) × (new.shut ≡ old.shut)
-Settles standing old n d rec (Err (SiteFault.DiskFault faults)) new = IsUnforced standing old.keeper rec (force.DiskFault faults) new.keeper × (new.nodes ≡ old.nodes) × (new.shut ≡ Some faults)
-Settles standing old n d rec (Err (SiteFault.Shut faults)) new = IsUnforced standing old.keeper rec (force.Shut faults) new.keeper × (new.nodes ≡ old.nodes) × (new.shut ≡ old.shut)
-Settles standing old n d rec (Err SiteFault.NoMemory) new = (standing new.keeper ≡ standing old.keeper) × (new.nodes ≡ old.nodes) × (new.shut ≡ old.shut)
+Settles standing old n d rec (Err fault) new = Records standing old.keeper rec (Err fault) new.keeper × (new.nodes ≡ old.nodes) × (new.shut ≡ shut_by fault old.shut)
 
 -- ---- the start
 
@@ -180,23 +177,16 @@ pub record IsFound (standing : Standing) (name : List ℕ) (v : Nodes) : Type 0 
   pub version : v.version ≡ version_of standing.wide
   pub from : AreFrom (told_records standing) v
 
-abbrev pub IsUnfound : Standing → List ℕ → StartFault → Type 0
-IsUnfound standing name (StartFault.Foreign at) = IsForeign standing.told (told_records standing) at
-IsUnfound standing name StartFault.BootsSpent = (all_follow (told_records standing) ≡ true) × (boot_of (opening_of standing name) ≡ suc greatest)
-IsUnfound standing name (StartFault.Full size) = ⊥
-IsUnfound standing name (StartFault.DiskFault faults) = ⊥
-IsUnfound standing name (StartFault.Shut faults) = ⊥
-IsUnfound standing name StartFault.NoMemory = Unit {0}
+abbrev pub IsUnfound : Standing → List ℕ → LogFault → Type 0
+IsUnfound standing name (LogFault.Foreign at) = IsForeign standing.told (told_records standing) at
+IsUnfound standing name LogFault.BootsSpent = (all_follow (told_records standing) ≡ true) × (boot_of (opening_of standing name) ≡ suc greatest)
+-- the free answer
+IsUnfound standing name LogFault.NoMemory = Unit {0}
 
 -- the boot is forced, and the site stands on those nodes
-abbrev pub Opens : {K : Type 0} → (K → Standing) → K → Nodes → Result (Site K) (K × StartFault) → Type 0
+abbrev pub Opens : {K : Type 0} → (K → Standing) → K → Nodes → Result (Site K) (K × ForceFault) → Type 0
 Opens standing old v (Ok s) = (s.nodes ≡ v) × IsForced standing old (Some (LogRec.Boot v.boot)) s.keeper × (s.shut ≡ None)
-Opens standing old v (Err (new, StartFault.Foreign at)) = ⊥
-Opens standing old v (Err (new, StartFault.BootsSpent)) = ⊥
-Opens standing old v (Err (new, StartFault.Full size)) = IsUnforced standing old (Some (LogRec.Boot v.boot)) (force.Full size) new
-Opens standing old v (Err (new, StartFault.DiskFault faults)) = IsUnforced standing old (Some (LogRec.Boot v.boot)) (force.DiskFault faults) new
-Opens standing old v (Err (new, StartFault.Shut faults)) = IsUnforced standing old (Some (LogRec.Boot v.boot)) (force.Shut faults) new
-Opens standing old v (Err (new, StartFault.NoMemory)) = standing new ≡ standing old
+Opens standing old v (Err (new, fault)) = Records standing old (Some (LogRec.Boot v.boot)) (Err fault) new
 
 -- ---- what is shown
 

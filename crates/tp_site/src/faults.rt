@@ -2,10 +2,11 @@
 ghost use Rattle.std.specs.Prelude.{◌≡◌};
 ghost use Rattle.tp_site.specs.declared.faults.SiteFault.{SiteFault};
 ghost use Rattle.tp_site.specs.declared.faults.StartFault.{StartFault};
-ghost use Rattle.tp_site.specs.Faults.{site_fault, start_fault};
+ghost use Rattle.tp_site.specs.Faults.{fault_of, site_fault, start_fault, unfound};
 
 use thiserror::Error;
 use tp_journal::ForceFault;
+use tp_model::TxFault;
 use tp_names::NoMemory;
 
 /// Why an event does not happen at a site.
@@ -49,6 +50,38 @@ impl From<ForceFault> for SiteFault {
     }
 }
 
+impl From<TxFault> for SiteFault {
+    ghost from_gives = { λ f e. e ≡ fault_of f };
+
+    fn from(fault: TxFault) -> SiteFault {
+        match fault {
+            TxFault::Refused(number) => SiteFault::Refused(number),
+            TxFault::NoMemory => SiteFault::NoMemory,
+        }
+    }
+}
+
+/// Why the records of a log tell of no nodes.
+#[derive(Clone, Copy, Debug, PartialEq, Eq)]
+pub(crate) enum LogFault {
+    /// The record at that place may not stand after those before it.
+    Foreign { at: u64 },
+    /// The last boot number is the greatest.
+    BootsSpent,
+    /// No memory could be had.
+    NoMemory,
+}
+
+impl From<NoMemory> for LogFault {
+    ghost use Rattle.tp_site.specs.declared.faults.LogFault.{LogFault as TheFault};
+
+    ghost from_gives = { λ _ e. e ≡ TheFault.NoMemory };
+
+    fn from(_error: NoMemory) -> LogFault {
+        LogFault::NoMemory
+    }
+}
+
 /// Why a site does not start.
 #[derive(Clone, Copy, Debug, PartialEq, Eq, Error)]
 pub enum StartFault {
@@ -89,6 +122,18 @@ impl From<ForceFault> for StartFault {
             ForceFault::DiskFault { faults } => StartFault::DiskFault { faults },
             ForceFault::Shut { faults } => StartFault::Shut { faults },
             ForceFault::NoMemory => StartFault::NoMemory,
+        }
+    }
+}
+
+impl From<LogFault> for StartFault {
+    ghost from_gives = { λ f e. e ≡ unfound f };
+
+    fn from(fault: LogFault) -> StartFault {
+        match fault {
+            LogFault::Foreign { at } => StartFault::Foreign { at },
+            LogFault::BootsSpent => StartFault::BootsSpent,
+            LogFault::NoMemory => StartFault::NoMemory,
         }
     }
 }

@@ -1,11 +1,13 @@
 //! The outputs of an event as they go out of a site: records as octets.
 ghost use Rattle.std.specs.Prelude.{◌≡◌, IfOk};
 ghost use Rattle.tp_model.specs.NodeRun.{refusal_of};
+ghost use Rattle.tp_model.specs.Refusal.{number_in};
 ghost use Rattle.tp_node_parts.specs.Outs.{out_of};
 ghost use Rattle.tp_site.specs.Events.{given_out, output_of};
 ghost use Rattle.tp_said_texts.specs.Sizes.{IsShort, AreShort};
 
 use std::alloc::Global;
+use tp_model::Refusal;
 use tp_names::{Addr, NoMemory};
 use tp_node_parts::{Out, Outs};
 use tp_records::{Output, Outputs};
@@ -29,12 +31,13 @@ fn output_of(alloc: Global, from: &Addr, out: Out) -> Result<Output, NoMemory>
     })
 }
 
-// The number of an answer, where there is one.
-fn refusal(alloc: Global, number: Option<u8>) -> Result<Outputs, NoMemory>
-    ensures { IfOk result (λ outputs. outputs ≡ refusal_of number) }
+// The number of a refusal, where there is one.
+fn refused(alloc: Global, refusal: Option<Refusal>) -> Result<Outputs, NoMemory>
+    ensures { IfOk result (λ outputs. outputs ≡ refusal_of (number_in refusal)) }
 {
     let mut outputs = Outputs::new(alloc);
-    if let Some(number) = number {
+    if let Some(refusal) = refusal {
+        let number = refusal.number();
         outputs.push(alloc, Output::Refused { number })?;
     }
     Ok(outputs)
@@ -45,13 +48,13 @@ fn refusal(alloc: Global, number: Option<u8>) -> Result<Outputs, NoMemory>
 pub(crate) fn outputs_of(
     alloc: Global,
     from: &Addr,
-    number: Option<u8>,
+    refusal: Option<Refusal>,
     outs: Outs,
 ) -> Result<Outputs, NoMemory>
     requires { AreShort outs }
-    ensures { IfOk result (λ outputs. outputs ≡ given_out from.now.site from.now.node number outs) }
+    ensures { IfOk result (λ outputs. outputs ≡ given_out from.now.site from.now.node (number_in refusal) outs) }
 {
-    let mut outputs = refusal(alloc, number)?;
+    let mut outputs = refused(alloc, refusal)?;
     for out in outs.into_vec() {
         let output = output_of(alloc, from, out)?;
         outputs.push(alloc, output)?;

@@ -6,7 +6,6 @@ ghost use Rattle.std.specs.Prelude.{ℕ, ◌≡◌, true, [], IfOk, IfErr, OnOk,
 ghost use Rattle.std.specs.Option.{option_map};
 ghost use Rattle.tp_logrec.specs.Order.{boots, last_number};
 ghost use Rattle.tp_model.specs.History.{state};
-ghost use Rattle.tp_model.specs.Refusal.{number_in};
 ghost use Rattle.tp_logrec.specs.declared.record.LogRec.{LogRec as TheRecord};
 ghost use Rattle.tp_model.specs.NodeRun.{boot_of};
 ghost use Rattle.tp_journal.specs.Records.{version_of, HasText};
@@ -16,14 +15,14 @@ ghost use Rattle.tp_site.specs.Nodes.{has_node, who_at, node_at};
 ghost use Rattle.tp_site.specs.Events.{IsAt, all_nodes};
 ghost use Rattle.tp_site.specs.Site.{Plays, Attempts, Settles, Records, Opens, Starts, IsFound, IsUnfound, told_records, opening_of, state_at, known_at};
 ghost use Rattle.tp_node.specs.State.{state_of, tree_in};
-ghost use Rattle.tp_site.specs.Faults.{site_fault, shut_by};
+ghost use Rattle.tp_site.specs.Faults.{fault_of, shut_by};
 ghost use Rattle.tp_site.specs.InPlace.{IsPlanned};
-ghost use Rattle.tp_site.specs.Shaped.{AreShapedNodes, IsShapedDraft, HasTextOption, HasTextIfStarted, IsEarly};
+ghost use Rattle.tp_site.specs.Shaped.{AreShapedNodes, IsShapedDraft, HasTextOption, HasTextIfStarted};
 ghost use Rattle.tp_texts.specs.Shapes.{IsShaped};
 ghost use Rattle.tp_said_texts.specs.Standing.{IsShapedOption};
 ghost use Rattle.tp_said_texts.specs.Sizes.{AreShort, BringsFew};
 
-use crate::faults::{SiteFault, StartFault};
+use crate::faults::{LogFault, SiteFault, StartFault};
 use crate::nodes::Nodes;
 use std::alloc::Global;
 use std::marker::Model;
@@ -36,11 +35,11 @@ use tp_node::{NodeEvent, NodeState, NodeTree};
 use tp_node_parts::Outs;
 use tp_texts::shaped_has_text;
 
-/// What an event gives: its outputs, in order. With a number, it was refused by that, and the association that it came on
+/// What an event gives: its outputs, in order. With a refusal, it was refused by that, and the association that it came on
 /// was ended; the outputs are of that loss.
 #[derive(Drop)]
 pub struct Played {
-    pub number: Option<u8>,
+    pub refusal: Option<Refusal>,
     pub outs: Outs,
 }
 
@@ -77,16 +76,6 @@ fn force<K: Keeper>(alloc: Global, keeper: &mut K, rec: &LogRec) -> Result<(), F
     }
 }
 
-// The number of a refusal, where there is one.
-fn number_in(refusal: Option<Refusal>) -> Option<u8>
-    ensures { result ≡ number_in refusal }
-{
-    match refusal {
-        Some(refusal) => Some(refusal.number()),
-        None => None,
-    }
-}
-
 impl<K: Keeper> Site<K> {
     // The record is forced, where there is one.
     fn force(&mut self, alloc: Global, rec: &Option<LogRec>) -> Result<(), ForceFault>
@@ -109,25 +98,20 @@ impl<K: Keeper> Site<K> {
         node: u16,
         event: &NodeEvent<'_>,
         draft: &mut Draft,
-    ) -> Result<Option<Refusal>, SiteFault>
+    ) -> Result<Option<Refusal>, TxFault>
         requires { self.old.shut ≡ None }
-        ensures plain { (k : ℕ) → IsPlain (node_at self.old.nodes node) event.now k → result ≡ Err (SiteFault.Refused k) }
+        ensures plain { (k : ℕ) → IsPlain (node_at self.old.nodes node) event.now k → result ≡ Err (TxFault.Refused k) }
         ensures attempts { Attempts K.standing self.old node (event_of event.now) result draft.new self.new }
         ensures shaped { IfOk result (λ refusal. IsShapedDraft self.new.nodes.version draft.new.move) }
         ensures short { IfOk result (λ refusal. BringsFew (event_of event.now) → AreShort draft.new.move.outs) }
     {
-        match self.nodes.answer_to(alloc, node, event, draft) {
-            Ok(refusal) => {
-                self.nodes.prepare(alloc, node)?;
-                Ok(refusal)
-            }
-            Err(TxFault::Refused(number)) => Err(SiteFault::Refused(number)),
-            Err(TxFault::NoMemory) => Err(SiteFault::NoMemory),
-        }
+        let refusal = self.nodes.answer_to(alloc, node, event, draft)?;
+        self.nodes.prepare(alloc, node)?;
+        Ok(refusal)
     }
 
     // The record is forced, and the node takes the place of what it was.
-    fn settle(&mut self, alloc: Global, number: u16, draft: &mut Draft) -> Result<(), SiteFault>
+    fn settle(&mut self, alloc: Global, number: u16, draft: &mut Draft) -> Result<(), ForceFault>
         requires there { has_node self.old.nodes number ≡ true }
         requires who { draft.old.who ≡ who_at self.old.nodes number }
         requires open { self.old.shut ≡ None }
@@ -137,7 +121,8 @@ impl<K: Keeper> Site<K> {
         ensures text { HasTextOption (K.standing self.old.keeper).wide draft.old.move.rec }
     {
         if let Err(fault) = self.force(alloc, draft.rec()) {
-            return Err(self.stop(fault));
+            self.stop(fault);
+            return Err(fault);
         }
         self.nodes.put(alloc, number, draft);
         Ok(())
@@ -149,12 +134,11 @@ impl<K: Keeper> Site<K> {
         alloc: Global,
         node: u16,
         event: &NodeEvent<'_>,
-    ) -> Result<Box<Draft>, SiteFault>
+    ) -> Result<Box<Draft>, TxFault>
         requires { self.old.shut ≡ None }
         ensures same { self.new ≡ self.old }
-        ensures plain { (k : ℕ) → IsPlain (node_at self.old.nodes node) event.now k → IfErr result (λ fault. fault ≡ SiteFault.Refused k) }
-        ensures refused { IfErr result (λ fault. Plays K.standing self.old node (event_of event.now) (Err fault) self.new) }
-        ensures early { IfErr result IsEarly }
+        ensures plain { (k : ℕ) → IsPlain (node_at self.old.nodes node) event.now k → IfErr result (λ fault. fault ≡ TxFault.Refused k) }
+        ensures refused { IfErr result (λ fault. Plays K.standing self.old node (event_of event.now) (Err (fault_of fault)) self.new) }
     {
         match self.spare.take() {
             Some(draft) => Ok(draft),
@@ -169,15 +153,14 @@ impl<K: Keeper> Site<K> {
         alloc: Global,
         node: u16,
         event: &NodeEvent<'_>,
-    ) -> Result<Box<Draft>, SiteFault>
+    ) -> Result<Box<Draft>, TxFault>
         requires { self.now.shut ≡ None }
-        ensures plain { (k : ℕ) → IsPlain (node_at self.now.nodes node) event.now k → result ≡ Err (SiteFault.Refused k) }
-        ensures refused { IfErr result (λ fault. Plays K.standing self.now node (event_of event.now) (Err fault) self.now) }
-        ensures early { IfErr result IsEarly }
+        ensures plain { (k : ℕ) → IsPlain (node_at self.now.nodes node) event.now k → result ≡ Err (TxFault.Refused k) }
+        ensures refused { IfErr result (λ fault. Plays K.standing self.now node (event_of event.now) (Err (fault_of fault)) self.now) }
     {
         if !breaks(event) {
             if let Some(refusal) = self.nodes.refused_at_once(alloc, node, event) {
-                return Err(SiteFault::Refused(refusal.number()));
+                return Err(TxFault::Refused(refusal.number()));
             }
         }
         let draft = self.new_draft(alloc)?;
@@ -189,6 +172,7 @@ impl<K: Keeper> Site<K> {
     }
 
     // An event of the node of that number, drawn up on that draft.
+    #[tactic(auto, using(crate::proofs::Settled::attempted, crate::proofs::Settled::halted))]
     fn play_on(
         &mut self,
         alloc: Global,
@@ -202,7 +186,7 @@ impl<K: Keeper> Site<K> {
         let refusal = self.attempt(alloc, node, event, draft)?;
         self.settle(alloc, node, draft)?;
         Ok(Played {
-            number: number_in(refusal),
+            refusal,
             outs: draft.take_outs(alloc),
         })
     }
@@ -250,26 +234,27 @@ impl<K: Keeper> Site<K> {
         ensures { Plays K.standing self.old node (event_of event.now) (Ok result) self.new }
     {
         self.nodes.apply(node, event);
-        Played { number: None, outs }
+        Played {
+            refusal: None,
+            outs,
+        }
     }
 
     // What a fault of the log means for the site.
-    fn stop(&mut self, fault: ForceFault) -> SiteFault
-        ensures fault { result ≡ site_fault fault }
-        ensures site { self.new ≡ record self.old { shut = shut_by fault self.old.shut } }
+    fn stop(&mut self, fault: ForceFault)
+        ensures { self.new ≡ record self.old { shut = shut_by fault self.old.shut } }
     {
         if let ForceFault::DiskFault { faults } = fault {
             self.shut = Some(faults);
         }
-        SiteFault::from(fault)
     }
 
     // The boot is forced, and the site stands on those nodes.
-    fn open(alloc: Global, mut keeper: K, nodes: Nodes) -> Result<Site<K>, (K, StartFault)>
+    fn open(alloc: Global, mut keeper: K, nodes: Nodes) -> Result<Site<K>, (K, ForceFault)>
         requires version { version_of (K.standing keeper).wide ≡ nodes.version }
         requires shaped { AreShapedNodes nodes }
         ensures opens { Opens K.standing keeper nodes result }
-        ensures text { HasTextIfStarted (K.standing keeper).wide (TheRecord.Boot nodes.boot) result }
+        ensures text { HasText (K.standing keeper).wide (TheRecord.Boot nodes.boot) }
     {
         let rec = LogRec::Boot { boot: nodes.boot() };
         match force(alloc, &mut keeper, &rec) {
@@ -279,20 +264,25 @@ impl<K: Keeper> Site<K> {
                 spare: None,
                 shut: None,
             }),
-            Err(fault) => Err((keeper, StartFault::from(fault))),
+            Err(fault) => Err((keeper, fault)),
         }
     }
 
     /// Starts a site of that name on the records of a log, and forces its boot: the boot number after the last, or 1. It
     /// stands then where a run of no events does.
+    #[tactic(auto, using(crate::proofs::Settled::unfound_starts, crate::proofs::Settled::opened_starts, crate::proofs::Settled::opened_at))]
     pub fn start(alloc: Global, keeper: K, name: SiteName) -> Result<Site<K>, (K, StartFault)>
         ensures starts { Starts K.standing keeper name result }
         ensures at { IfOk result (λ site. (K.standing keeper).told ≡ (K.standing keeper).kept → IsAt K.standing all_nodes (opening_of (K.standing keeper) name) [] site) }
         ensures text { HasTextIfStarted (K.standing keeper).wide (TheRecord.Boot (boot_of (opening_of (K.standing keeper) name))) result }
     {
-        match found(alloc, &keeper, name) {
-            Ok(nodes) => Site::open(alloc, keeper, nodes),
-            Err(fault) => Err((keeper, fault)),
+        let nodes = match found(alloc, &keeper, name) {
+            Ok(nodes) => nodes,
+            Err(fault) => return Err((keeper, StartFault::from(fault))),
+        };
+        match Site::open(alloc, keeper, nodes) {
+            Ok(site) => Ok(site),
+            Err((keeper, fault)) => Err((keeper, StartFault::from(fault))),
         }
     }
 
@@ -401,7 +391,7 @@ fn last_boot(records: &[LogRec]) -> u64
 }
 
 // What the records of a log tell of the nodes of a site, for its next boot.
-fn found<K: Keeper>(alloc: Global, keeper: &K, name: SiteName) -> Result<Nodes, StartFault>
+fn found<K: Keeper>(alloc: Global, keeper: &K, name: SiteName) -> Result<Nodes, LogFault>
     ensures ok { IfOk result (IsFound (K.standing keeper.now) name) }
     ensures shaped { IfOk result AreShapedNodes }
     ensures err { IfErr result (IsUnfound (K.standing keeper.now) name) }
@@ -409,13 +399,13 @@ fn found<K: Keeper>(alloc: Global, keeper: &K, name: SiteName) -> Result<Nodes, 
     keeper.texts();
     let records = records_of(alloc, keeper)?;
     if let Some(i) = first_out_of_order(alloc, records.as_slice())? {
-        return Err(StartFault::Foreign {
+        return Err(LogFault::Foreign {
             at: keeper.place(i),
         });
     }
     let last = last_boot(records.as_slice());
     if last == u64::MAX {
-        return Err(StartFault::BootsSpent);
+        return Err(LogFault::BootsSpent);
     }
     let nodes = Nodes::from_records(
         alloc,

@@ -26,7 +26,7 @@ use Rattle.tp_laws.proofs.LineRuns.{of_run}
 use Rattle.tp_laws.proofs.NextStart.{disks_start}
 use Rattle.tp_site.specs.Site.{known_at}
 use Rattle.tp_world_parts.specs.Sites.{known_by, unknown_at, place_of_site}
-use Rattle.tp_world_parts.specs.Slots.{SlotPlays, SlotAnswers}
+use Rattle.tp_world_parts.specs.Slots.{SlotPlays, SlotAnswers, entry_told}
 use Rattle.tp_world.specs.Stops.{StopsIn, HasPlayed, forced_by, stop_by, stop_judged, stop_deed, stop_named}
 use Rattle.tp_world_parts.specs.Standing.{SitesStand, RestStands, PlaysAt, after_entry, entry_answered}
 use Rattle.tp_world.specs.World.{Mirrors, Gives}
@@ -53,11 +53,10 @@ use Rattle.tp_world.proofs.StopTurns.{deed_gives, judged_room, judged_full}
 -- ---- the answer of the site
 
 -- its name is the same, and of every other node it knows what it knew
-pub slot_kept : (x y : SiteSlot) (n : ℕ) (e : Event) (number : Option ℕ) (entry : Option Entry) → SlotAnswers x n e number entry y
+pub slot_kept : (x y : SiteSlot) (n : ℕ) (e : Event) (a : Answer) → SlotAnswers x n e a y
     → (y.site.nodes.site ≡ x.site.nodes.site) × ((k : ℕ) → ((n == k) ≡ false) → known_at y.site k ≡ known_at x.site k)
-slot_kept x y n e None None h = absurd h
-slot_kept x y n e (Some m) None h = (ap (λ (q : SiteSlot). q.site.nodes.site) h.1, λ k other. ap (λ (q : SiteSlot). known_at q.site k) h.1)
-slot_kept x y n e number (Some entry) h = (h.played.site.site, λ k other. h.played.known k ∙ ap (λ (b : Bool). cond b h.move.next (known_at x.site k)) other)
+slot_kept x y n e (Answer.Refused m) h = (ap (λ (q : SiteSlot). q.site.nodes.site) h.1, λ k other. ap (λ (q : SiteSlot). known_at q.site k) h.1)
+slot_kept x y n e (Answer.Happened refusal entry) h = (h.played.site.site, λ k other. h.played.known k ∙ ap (λ (b : Bool). cond b h.move.next (known_at x.site k)) other)
 
 -- the node of that number at the site
 pub record IsNodeAt (w : World) (s : List ℕ) (k : ℕ) : Type 0 where
@@ -104,9 +103,9 @@ module _ (w : World) (s : List ℕ) (z : Site) (place : ℕ) (v : CodeWorld) (st
 
   -- it has answered
   pub has_played : (a : Answer) (d : Action) (mid : CodeWorld) → SlotPlays x (number_of n) e (Ok a) y → task_of w d ≡ Some (record { node = n; event = e }) → ((up : Option Addr) → IsUnder up e)
-      → mid.sites.items ≡ slice_set xs place y → mid.nodes ≡ v.nodes → mid.frames ≡ v.frames → mid.trees.items ≡ v.trees.items → HasPlayed w s z n (entry_answered n e) x place a.entry mid
+      → mid.sites.items ≡ slice_set xs place y → mid.nodes ≡ v.nodes → mid.frames ≡ v.frames → mid.trees.items ≡ v.trees.items → HasPlayed w s z n (entry_answered n e) x place (entry_told a) mid
   has_played a d mid h task under sites nodes frames trees =
-      let kept = slot_kept x y (number_of n) e a.number a.entry h in
+      let kept = slot_kept x y (number_of n) e a h in
       let p = plays (Ok a) h in
       let slot : slice_index_or mid.sites.items place x ≡ y = ap (λ (l : List SiteSlot). slice_index_or l place x) sites ∙ get_or-set_same xs place y x within in
       let y_name : y.site.nodes.site ≡ s = kept.0 ∙ at.is.name ∙ ap (λ (q : Site). q.name) site_is ∙ z_name in

@@ -11,6 +11,7 @@ use Rattle.tp_model.specs.Happenings.{Task, task_at, entry_turn, still, after_li
 use Rattle.tp_model.specs.Lines.{within_limits}
 use Rattle.tp_network.specs.Nodes.{address_at}
 use Rattle.tp_world.specs.Settled.{Settles}
+use Rattle.tp_world_parts.specs.Slots.{number_told, entry_told}
 use Rattle.tp_world_parts.specs.Standing.{SitesStand, PlaysAt, after_entry, entry_answered, number_answered}
 use Rattle.tp_world.specs.World.{Mirrors, Gives, task_turn}
 use Rattle.tp_world_parts.specs.declared.fault.WorldFault.{WorldFault}
@@ -34,7 +35,7 @@ pub record IsPlayedIn (old mid : CodeWorld) (xs : List SiteSlot) : Type 0 where
   pub trees : mid.trees ≡ old.trees
 
 answered : (w : World) (o : Option Task) (e : Event) (place : Addr) (a : Answer) (xs : List SiteSlot) (old mid : CodeWorld) → Mirrors w old → ((up : Option Addr) → IsUnder up e)
-    → (p : IsPlayed w o e place (Ok a) xs) → IsPlayedIn old mid xs → IsAnswered w p.node (entry_answered p.node e) a.entry old mid
+    → (p : IsPlayed w o e place (Ok a) xs) → IsPlayedIn old mid xs → IsAnswered w p.node (entry_answered p.node e) (entry_told a) old mid
 answered w o e place a xs old mid h under p i =
     let n : Node = p.node in
     record {
@@ -56,7 +57,7 @@ played_gives w ls o e place a xs before first after r old mid new h under p i st
     let settled : Settles (addr_of n) a first r after mid new = subst (λ (q : Addr). Settles q a first r after mid new) p.place s in
     subst (λ (q : Option Task). Gives (within_limits (task_turn w ls q)) before r after new) (sym p.task)
     (subst (λ (k : Option ℕ). Gives (within_limits (after_lines ls (entry_turn w n k (entry_answered n e)))) before r after new) p.plays.0
-    (answer_gives w n (entry_answered n e) a.entry ls before first after a.number r old mid new (answered w o e place a xs old mid h under p i) start settled))
+    (answer_gives w n (entry_answered n e) (entry_told a) ls before first after (number_told a) r old mid new (answered w o e place a xs old mid h under p i) start settled))
 
 -- ---- it has not
 

@@ -12,6 +12,7 @@ use Rattle.tp_network.specs.TreeSummary.{is_in}
 use Rattle.tp_network.specs.Nodes.{AreChanged}
 use Rattle.tp_world_parts.specs.declared.fault.WorldFault.{WorldFault}
 use Rattle.tp_network.specs.declared.tree_summary.TreeChange.{TreeChange}
+use Rattle.tp_world_parts.specs.Slots.{number_told, entry_told}
 use Rattle.tp_world_parts.specs.declared.site_slot.Entry.{Entry}
 use Rattle.tp_world_parts.specs.declared.site_slot.Answer.{Answer}
 use Rattle.tp_world.specs.declared.world.World.{World as CodeWorld}
@@ -79,7 +80,7 @@ SettlesEntry place x before (Err WorldFault.NoMemory) after old new = Unit {0}
 
 -- the lines that stand before the outputs
 abbrev pub head_lines : List ℕ → Answer → List OutLine
-head_lines site a = entry_lines site a.entry ++ refused_lines a.number
+head_lines site a = entry_lines site (entry_told a) ++ refused_lines (number_told a)
 
 abbrev pub SettlesSome : Addr → Option Entry → List OutLine → Result (Unit {0}) WorldFault → List OutLine → CodeWorld → CodeWorld → Type 0
 SettlesSome place (Some x) before r after old new = SettlesEntry place x before r after old new
@@ -89,4 +90,4 @@ SettlesSome place None before (Err (WorldFault.Limit what)) after old new = ⊥
 SettlesSome place None before (Err WorldFault.NoMemory) after old new = Unit {0}
 
 abbrev pub Settles : Addr → Answer → List OutLine → Result (Unit {0}) WorldFault → List OutLine → CodeWorld → CodeWorld → Type 0
-Settles place a before r after old new = SettlesSome place a.entry (before ++ head_lines place.site a) r after old new
+Settles place a before r after old new = SettlesSome place (entry_told a) (before ++ head_lines place.site a) r after old new

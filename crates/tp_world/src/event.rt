@@ -7,15 +7,16 @@ ghost use Rattle.tp_model.specs.Happenings.{Does, task_at, happens, refused_line
 ghost use Rattle.tp_model.specs.Legal.{IsUnder};
 ghost use Rattle.tp_model.specs.Lines.{within_limits};
 ghost use Rattle.tp_model.specs.Parts.{Send};
+ghost use Rattle.tp_model.specs.Refusal.{number_in};
 ghost use Rattle.tp_site.specs.NodeEvent.{event_of};
 ghost use Rattle.tp_site.specs.Outs.{out_of};
 ghost use Rattle.tp_world_parts.specs.Sites.{place_of_site};
-ghost use Rattle.tp_world.specs.Settled.{tree_started, entry_lines, GivesOuts, IsEntered, SettlesEntry, Settles};
+ghost use Rattle.tp_world.specs.Settled.{tree_started, forced_lines, GivesOuts, IsEntered, SettlesEntry, Settles};
 ghost use Rattle.tp_world.specs.World.{Mirrors, Gives, task_turn};
 
 use crate::world::World;
 use std::alloc::Global;
-use tp_model::{LineRequest, OutLine, OutLines};
+use tp_model::{LineRequest, OutLine, OutLines, Refusal};
 use tp_names::{Aaid, Addr, NoMemory, SiteName};
 use tp_network::{TreeChange, is_in};
 use tp_records::{PeerRecord, Request};
@@ -197,11 +198,16 @@ impl World {
     ) -> Result<(), WorldFault>
         ensures { Settles at.now answer lines.old result lines.new self.old self.new }
     {
-        show_record(alloc, at, &answer.entry, lines)?;
-        show_refusal(alloc, answer.number, lines)?;
-        match answer.entry {
-            None => Ok(()),
-            Some(entry) => self.settle_entry(alloc, at, entry, lines),
+        match answer {
+            Answer::Refused(number) => {
+                lines.push(alloc, refused_shown(number))?;
+                Ok(())
+            }
+            Answer::Happened { refusal, entry } => {
+                show_record(alloc, at, &entry, lines)?;
+                show_refusal(alloc, refusal, lines)?;
+                self.settle_entry(alloc, at, entry, lines)
+            }
         }
     }
 }
@@ -210,14 +216,11 @@ impl World {
 fn show_record(
     alloc: Global,
     at: &Addr,
-    entry: &Option<Entry>,
+    entry: &Entry,
     lines: &mut OutLines,
 ) -> Result<(), NoMemory>
-    ensures { OnOk result (lines.new ≡ lines.old ++ entry_lines at.now.site entry.now) }
+    ensures { OnOk result (lines.new ≡ lines.old ++ forced_lines at.now.site entry.now.change.rec) }
 {
-    let Some(entry) = entry else {
-        return Ok(());
-    };
     match entry.change.rec {
         None => Ok(()),
         Some(rec) => {
@@ -228,11 +231,15 @@ fn show_record(
 }
 
 // A refusal is shown.
-fn show_refusal(alloc: Global, number: Option<u8>, lines: &mut OutLines) -> Result<(), NoMemory>
-    ensures { OnOk result (lines.new ≡ lines.old ++ refused_lines number) }
+fn show_refusal(
+    alloc: Global,
+    refusal: Option<Refusal>,
+    lines: &mut OutLines,
+) -> Result<(), NoMemory>
+    ensures { OnOk result (lines.new ≡ lines.old ++ refused_lines (number_in refusal)) }
 {
-    match number {
+    match refusal {
         None => Ok(()),
-        Some(number) => lines.push(alloc, refused_shown(number)),
+        Some(refusal) => lines.push(alloc, refused_shown(refusal.number())),
     }
 }

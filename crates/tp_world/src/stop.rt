@@ -17,6 +17,7 @@ ghost use Rattle.tp_laws.specs.SiteLogs.{DisksTell, DisksStart};
 ghost use Rattle.tp_site.specs.NodeEvent.{event_of};
 ghost use Rattle.tp_world.specs.Halts.{HasStoppedAs};
 ghost use Rattle.tp_world_parts.specs.Sites.{place_of_site};
+ghost use Rattle.tp_world_parts.specs.Slots.{entry_told};
 ghost use Rattle.tp_world.specs.Stops.{HasPlayed, StopsIn, stop_deed, stop_named};
 ghost use Rattle.tp_world.specs.World.{Mirrors, Gives};
 ghost use Rattle.tp_world_parts.specs.declared.site_slot.SiteSlot.{SiteSlot};
@@ -30,7 +31,7 @@ use tp_names::same::is_name;
 use tp_outside::MemDisk;
 use tp_records::{PeerRecord, Request};
 use tp_site::NodeEvent;
-use tp_world_parts::{Entry, LostEntry, Stop, WorldFault, left_by, opened, request_in};
+use tp_world_parts::{Answer, Entry, LostEntry, Stop, WorldFault, left_by, opened, request_in};
 
 impl World {
     // The site at that place has stopped, with that fate of a record, and starts again.
@@ -104,16 +105,17 @@ impl World {
         place: usize,
         disk: MemDisk,
         node: u16,
-        entry: &Option<Entry>,
+        answer: &Answer,
         stop: &Stop,
         lines: &mut OutLines,
     ) -> Result<(), WorldFault>
         requires { place < length self.old.sites.items }
-        ensures { (w : WorldValue) (s : List ℕ) (z : SiteValue) (n : NodeValue) (ent : Option EntryValue) (x : SiteSlot) → HasPlayed w s z n ent x place entry.now self.old → node ≡ number_of n → recorded disk ≡ fresh (disk_bytes z.disk) []
+        ensures { (w : WorldValue) (s : List ℕ) (z : SiteValue) (n : NodeValue) (ent : Option EntryValue) (x : SiteSlot) → HasPlayed w s z n ent x place (entry_told answer.now) self.old → node ≡ number_of n → recorded disk ≡ fresh (disk_bytes z.disk) []
             → Gives (within_limits (stop_in_entry w n z stop.now.call stop.now.fill ent)) lines.old result lines.new self.new }
     {
-        let Some(entry) = entry else {
-            return self.stop_with_none(alloc, place, lines);
+        let entry = match answer {
+            Answer::Refused(_) => return self.stop_with_none(alloc, place, lines),
+            Answer::Happened { entry, .. } => entry,
         };
         if entry.change.rec.is_some() {
             return self.stop_in_force(alloc, place, disk, node, entry, stop, lines);
@@ -138,7 +140,7 @@ impl World {
     {
         let disk = self.sites[place].copied(alloc)?;
         let answer = self.sites[place].play(alloc, node, event)?;
-        self.stop_in_entry(alloc, place, disk, node, &answer.entry, stop, lines)
+        self.stop_in_entry(alloc, place, disk, node, &answer, stop, lines)
     }
 
     // The site at that place stops in a request of the user of its node of that number.
@@ -183,7 +185,7 @@ impl World {
         lines.push(alloc, OutLine::Take { frame: number })?;
         let disk = self.sites[place].copied(alloc)?;
         let answer = self.sites[place].arrive(alloc, node, frame)?;
-        self.stop_in_entry(alloc, place, disk, node, &answer.entry, stop, lines)
+        self.stop_in_entry(alloc, place, disk, node, &answer, stop, lines)
     }
 
     // The site at that place stops as the oldest frame between the nodes is handed over; where there is none there is no

@@ -11,6 +11,8 @@ use Rattle.tp_model.specs.History.{digest, with_entry, crashed}
 use Rattle.tp_model.specs.Legal.{IsLegal, IsGrown}
 use Rattle.tp_model.specs.Node.{Move}
 use Rattle.tp_model.specs.Outcomes.{is_unchanged}
+use Rattle.tp_model.specs.declared.refusal.Refusal.{Refusal}
+use Rattle.tp_model.specs.Refusal.{number_in}
 use Rattle.tp_model.specs.Parts.{Who, Origin, Event, Digest, Entry as EntryValue}
 use Rattle.tp_model.specs.World.{Node, number_of}
 use Rattle.tp_site.specs.NodeEvent.{Answer as Said, Happens, answer_at}
@@ -18,7 +20,7 @@ use Rattle.tp_site.specs.Nodes.{who_at, IsSameSite}
 use Rattle.tp_site.specs.Site.{IsForced, IsUnforced, known_at, rec_of}
 use Rattle.tp_site.specs.State.{tree_in}
 use Rattle.tp_world_parts.specs.Restarts.{stopped}
-use Rattle.tp_world_parts.specs.Slots.{standing, SlotPlays, SlotAnswers, HasHappened, IsOver}
+use Rattle.tp_world_parts.specs.Slots.{standing, SlotPlays, HasHappened, IsRefused, IsOver}
 use Rattle.tp_world_parts.specs.declared.fault.WorldFault.{WorldFault}
 use Rattle.tp_world_parts.specs.declared.site_slot.Entry.{Entry}
 use Rattle.tp_world_parts.specs.declared.site_slot.SiteSlot.{SiteSlot}
@@ -63,10 +65,10 @@ module _ (n : Node) (y z : SiteSlot) (who : who_at y.site.nodes (number_of n) �
       ∙ ap (λ (d : Digest). answer_at n.origin.who d (Event.Declare n.superior)) known
       ∙ not_refused n.origin.who n.origin n.history n.superior
 
-  pub again : (number : Option ℕ) (x : Entry) → HasHappened y (number_of n) (Event.Declare n.superior) number x z → IsAgain n y x z
-  again number x h =
+  pub again : (refusal : Option Refusal) (x : Entry) → HasHappened y (number_of n) (Event.Declare n.superior) refusal x z → IsAgain n y x z
+  again refusal x h =
       let m : Move = action n.origin.who (digest n.origin (crashed n.history)) (Event.Declare n.superior) in
-      let same : Happens number h.move ≡ Happens None m = sym h.played.answer ∙ answer_again in
+      let same : Happens (number_in refusal) h.move ≡ Happens None m = sym h.played.answer ∙ answer_again in
       let move : h.move ≡ m = cc (same) in
       let g : IsGained n.origin (crashed n.history) (Event.Declare n.superior) None m = has_gained n.origin (crashed n.history) (Event.Declare n.superior) None m (not_refused n.origin.who n.origin n.history n.superior) in
       let next : h.move.next ≡ digest n.origin (g.entry ∷ crashed n.history) = ap (λ (v : Move). v.next) move ∙ sym g.next in
@@ -87,9 +89,8 @@ module _ (n : Node) (y z : SiteSlot) (who : who_at y.site.nodes (number_of n) �
         unshut = h.played.open_after;
       }
 
-  pub never_refused : (number : Option ℕ) → SlotAnswers y (number_of n) (Event.Declare n.superior) number None z → ⊥
-  never_refused None h = absurd h
-  never_refused (Some k) h = absurd (let clash = sym h.0 ∙ answer_again in cc (clash))
+  pub never_refused : (k : ℕ) → IsRefused y (number_of n) (Event.Declare n.superior) k z → ⊥
+  never_refused k h = absurd (let clash = sym h.0 ∙ answer_again in cc (clash))
 
   -- it wants memory alone
   pub memory_alone : (f : WorldFault) → SlotPlays y (number_of n) (Event.Declare n.superior) (Err f) z → f ≡ WorldFault.NoMemory

@@ -12,11 +12,14 @@ use Rattle.tp_model.specs.declared.out_line.OutLine.{OutLine}
 use Rattle.tp_model.specs.Happenings.{Turn, still, new_node, new_site, with_node, declared_at}
 use Rattle.tp_model.specs.History.{digest, grown, with_entry}
 use Rattle.tp_model.specs.Node.{Move}
+use Rattle.tp_model.specs.declared.refusal.Refusal.{Refusal}
+use Rattle.tp_model.specs.Refusal.{number_in}
 use Rattle.tp_model.specs.Parts.{Who, Origin, Event, Digest, Entry as EntryValue}
 use Rattle.tp_model.specs.World.{World, Node, Site, number_of, site_of, find_node, find_site, put_site, is_node, is_site}
 use Rattle.tp_site.specs.NodeEvent.{Happens, answer_at}
 use Rattle.tp_site.specs.Nodes.{who_at}
 use Rattle.tp_site.specs.Site.{IsForced, known_at}
+use Rattle.tp_world_parts.specs.declared.site_slot.Answer.{Answer}
 use Rattle.tp_world_parts.specs.declared.site_slot.Entry.{Entry}
 use Rattle.tp_world_parts.specs.declared.site_slot.SiteSlot.{SiteSlot}
 use Rattle.tp_world_parts.specs.Placing.{boot_shown, boot_lines, IsAt, IsSiteThere, IsDeclaredAt}
@@ -62,9 +65,9 @@ module _ (w : World) (n : Node) (s : Option Addr) (z : Site) (xs : List SiteSlot
       ∙ declared_first n.origin.who n.origin s records
 
   -- it has happened with no record
-  came : (number : Option ℕ) (v : Entry) (h : HasHappened x (number_of n) (Event.Declare s) number v y) → SitesStand (with_node w n) (slice_set xs (place_of_site xs (site_of n)) y)
-  came number v h =
-      let same : Happens number h.move ≡ Happens None (action n.origin.who (digest n.origin []) (Event.Declare s)) = sym h.played.answer ∙ asked in
+  came : (refusal : Option Refusal) (v : Entry) (h : HasHappened x (number_of n) (Event.Declare s) refusal v y) → SitesStand (with_node w n) (slice_set xs (place_of_site xs (site_of n)) y)
+  came refusal v h =
+      let same : Happens (number_in refusal) h.move ≡ Happens None (action n.origin.who (digest n.origin []) (Event.Declare s)) = sym h.played.answer ∙ asked in
       let move : h.move ≡ action n.origin.who (digest n.origin []) (Event.Declare s) = cc (same) in
       let none : IsForced standing x.site.keeper None y.site.keeper = subst (λ (m : Move). IsForced standing x.site.keeper m.rec y.site.keeper) move h.played.forced in
       let next : digest n.origin n.history ≡ h.move.next = ap (digest n.origin) grew ∙ next_of move in
@@ -89,10 +92,9 @@ module _ (w : World) (n : Node) (s : Option Addr) (z : Site) (xs : List SiteSlot
           has_gained n.origin [] (Event.Declare s) None (action n.origin.who (digest n.origin []) (Event.Declare s)) (declared_first n.origin.who n.origin s records) in
           ap (λ (e : Option EntryValue). digest n.origin (with_entry e [])) g.entry_is ∙ g.next ∙ ap (λ (m : Move). m.next) (sym move)
 
-  came_in : (number : Option ℕ) (v : Option Entry) → SlotAnswers x (number_of n) (Event.Declare s) number v y → SitesStand (with_node w n) (slice_set xs (place_of_site xs (site_of n)) y)
-  came_in number (Some v) h = came number v h
-  came_in None None h = absurd h
-  came_in (Some k) None h = absurd (let clash = sym h.0 ∙ asked in cc (clash))
+  came_in : (a : Answer) → SlotAnswers x (number_of n) (Event.Declare s) a y → SitesStand (with_node w n) (slice_set xs (place_of_site xs (site_of n)) y)
+  came_in (Answer.Happened refusal v) h = came refusal v h
+  came_in (Answer.Refused k) h = absurd (let clash = sym h.0 ∙ asked in cc (clash))
 
 -- the node is declared at a site that is there
 pub declared_there : (w : World) (a : Addr) (s : Option Addr) (z : Site) (xs : List SiteSlot) (x y : SiteSlot) → SitesStand w xs → find_site w.sites a.site ≡ Some z → find_node w.nodes a.node ≡ None
@@ -101,7 +103,7 @@ declared_there w a s z xs x y stand found free at (answer, plays) =
     let both : IsFound z a.site xs = both_found w.sites xs a.site z stand.sites found in
     let self : Some both.slot ≡ Some x = sym both.found ∙ slot_found xs a.site x (slot_there xs a.site both.slot both.found) ∙ ap Some at in
     let same : both.slot ≡ x = cc (self) in
-    came_in w (new_node a.site a.node z.boot s) s z xs x y stand found free (both.found ∙ self) (subst (λ (v : SiteSlot). IsSite z v) same both.site) refl refl refl refl answer.number answer.entry plays
+    came_in w (new_node a.site a.node z.boot s) s z xs x y stand found free (both.found ∙ self) (subst (λ (v : SiteSlot). IsSite z v) same both.site) refl refl refl refl answer plays
 
 -- ---- a new site
 

@@ -13,6 +13,8 @@ use Rattle.tp_model.specs.History.{digest}
 use Rattle.tp_model.specs.Lines.{is_full}
 use Rattle.tp_model.specs.Node.{Move}
 use Rattle.tp_model.specs.Outcomes.{is_unchanged}
+use Rattle.tp_model.specs.declared.refusal.Refusal.{Refusal}
+use Rattle.tp_model.specs.Refusal.{number_in}
 use Rattle.tp_model.specs.Parts.{Who, Event, Digest, Entry as EntryValue}
 use Rattle.tp_model.specs.World.{World, Node, Site, addr_of, number_of, site_of, find_node, put_node, find_site, put_site, is_node}
 use Rattle.tp_site.specs.NodeEvent.{Answer as Said, Refuses, Happens, answer_at}
@@ -25,7 +27,7 @@ use Rattle.tp_world_parts.specs.declared.site_slot.Entry.{Entry}
 use Rattle.tp_world_parts.specs.declared.site_slot.SiteSlot.{SiteSlot}
 use Rattle.tp_world_parts.specs.Summary.{change_of}
 use Rattle.tp_world_parts.specs.Sites.{IsSite, IsLogged, AreSites, find_site_slot, place_of_site, known_by, unknown_at}
-use Rattle.tp_world_parts.specs.Slots.{standing, SlotPlays, SlotAnswers, HasHappened, IsOver}
+use Rattle.tp_world_parts.specs.Slots.{standing, SlotPlays, SlotAnswers, HasHappened, IsOver, number_told, entry_told}
 use Rattle.tp_world_parts.specs.Standing.{SitesStand, IsEntry, PlaysAt, is_placed, after_entry, number_answered, entry_answered}
 use Rattle.tp_world_parts.proofs.SiteNames.{slot_found, slot_there, slot_name}
 use Rattle.tp_world_parts.proofs.SiteLists.{IsFound, both_found, are_put, put_self, full_put, site_name}
@@ -104,8 +106,8 @@ module _ (w : World) (n : Node) (e : Event) (xs : List SiteSlot) (stand : SitesS
   gains number m is = has_gained n.origin n.history e number m (sym asked ∙ is)
 
   -- the site after the move
-  site_moved : (y : SiteSlot) (number : Option ℕ) (x : Entry) (h : HasHappened at.slot (number_of n) e number x y) → IsSite (site_after at.site h.move.rec) y
-  site_moved y number x h = record {
+  site_moved : (y : SiteSlot) (refusal : Option Refusal) (x : Entry) (h : HasHappened at.slot (number_of n) e refusal x y) → IsSite (site_after at.site h.move.rec) y
+  site_moved y refusal x h = record {
     name = h.played.site.site ∙ at.is.name ∙ sym (after_name at.site h.move.rec);
     boot = h.played.site.boot ∙ at.is.boot ∙ sym (after_boot at.site h.move.rec);
     version = h.played.site.version ∙ at.is.version;
@@ -113,21 +115,21 @@ module _ (w : World) (n : Node) (e : Event) (xs : List SiteSlot) (stand : SitesS
     log = log_after at.site at.slot y h.move.rec at.is.log h.played.forced;
   }
 
-  sites_moved : (y : SiteSlot) (number : Option ℕ) (x : Entry) (h : HasHappened at.slot (number_of n) e number x y) → AreSites (put_site w.sites (site_after at.site h.move.rec)) (slice_set xs (place_of_site xs (site_of n)) y)
-  sites_moved y number x h =
+  sites_moved : (y : SiteSlot) (refusal : Option Refusal) (x : Entry) (h : HasHappened at.slot (number_of n) e refusal x y) → AreSites (put_site w.sites (site_after at.site h.move.rec)) (slice_set xs (place_of_site xs (site_of n)) y)
+  sites_moved y refusal x h =
       let name : (site_after at.site h.move.rec).name ≡ site_of n = after_name at.site h.move.rec ∙ site_name w.sites (site_of n) at.site at.found in
       subst (λ (a : List ℕ). AreSites (put_site w.sites (site_after at.site h.move.rec)) (slice_set xs (place_of_site xs a) y)) name
-      (are_put w.sites xs (site_after at.site h.move.rec) y stand.sites (site_moved y number x h))
+      (are_put w.sites xs (site_after at.site h.move.rec) y stand.sites (site_moved y refusal x h))
 
   -- the world after the entry
-  stands_behind : (y : SiteSlot) (number : Option ℕ) (x : Entry) (h : HasHappened at.slot (number_of n) e number x y) (g : IsGained n.origin n.history e number h.move)
+  stands_behind : (y : SiteSlot) (refusal : Option Refusal) (x : Entry) (h : HasHappened at.slot (number_of n) e refusal x y) (g : IsGained n.origin n.history e (number_in refusal) h.move)
       → SitesStand (logged (entered w n g.entry) n g.entry.rec) (slice_set xs (place_of_site xs (site_of n)) y)
-  stands_behind y number x h g =
+  stands_behind y refusal x h g =
       let m : Node = record n { history = g.entry ∷ n.history } in
       let sites : (logged (entered w n g.entry) n g.entry.rec).sites ≡ put_site w.sites (site_after at.site h.move.rec) =
       after_sites w n g.entry at.site at.found g.entry.rec ∙ ap (λ (r : Option LogRec). put_site w.sites (site_after at.site r)) g.rec in
       record {
-        sites = subst (λ (ss : List Site). AreSites ss (slice_set xs (place_of_site xs (site_of n)) y)) (sym sites) (sites_moved y number x h);
+        sites = subst (λ (ss : List Site). AreSites ss (slice_set xs (place_of_site xs (site_of n)) y)) (sym sites) (sites_moved y refusal x h);
         known = know_put w.nodes (logged (entered w n g.entry) n g.entry.rec).nodes m
             (λ k. ap (λ (ns : List Node). find_node ns k) (after_nodes w n g.entry g.entry.rec) ∙ find_put w.nodes m n k found)
             xs at.slot y stand.known at.there at.within h.played.site
@@ -135,9 +137,9 @@ module _ (w : World) (n : Node) (e : Event) (xs : List SiteSlot) (stand : SitesS
             (λ k. h.played.known k ∙ ap (λ (d : Digest). cond (number_of n == k) d (known_at at.slot.site k)) (sym g.next));
       }
 
-  same_step : (y : SiteSlot) (number : Option ℕ) (x : Entry) (h : HasHappened at.slot (number_of n) e number x y) (g : IsGained n.origin n.history e number h.move)
+  same_step : (y : SiteSlot) (refusal : Option Refusal) (x : Entry) (h : HasHappened at.slot (number_of n) e refusal x y) (g : IsGained n.origin n.history e (number_in refusal) h.move)
       → x.change ≡ change_of (digest n.origin n.history) g.entry (digest n.origin (g.entry ∷ n.history))
-  same_step y number x h g =
+  same_step y refusal x h g =
       let self : (number_of n == number_of n) ≡ true = grind (arith, nat_tests) in
       let behind : known_at y.site (number_of n) ≡ digest n.origin (g.entry ∷ n.history) =
       h.played.known (number_of n) ∙ ap (λ (b : Bool). cond b h.move.next (known_at at.slot.site (number_of n))) self ∙ sym g.next in
@@ -146,13 +148,13 @@ module _ (w : World) (n : Node) (e : Event) (xs : List SiteSlot) (stand : SitesS
       (option_map log_shown h.move.rec) (option_map log_shown g.entry.rec) (ap tree_in at.known) (ap tree_in behind) (sym g.leaves) (ap (option_map log_shown) (sym g.rec))
 
   -- what it answers, and the entry
-  happened : (y : SiteSlot) (number : Option ℕ) (x : Entry) → HasHappened at.slot (number_of n) e number x y
-      → (number ≡ number_answered n e) × IsEntry n (entry_answered n e) (Some x) × SitesStand (after_entry w n (entry_answered n e)) (slice_set xs (place_of_site xs (site_of n)) y)
-  happened y number x h =
-      let g : IsGained n.origin n.history e number h.move = gains number h.move h.played.answer in (
+  happened : (y : SiteSlot) (refusal : Option Refusal) (x : Entry) → HasHappened at.slot (number_of n) e refusal x y
+      → (number_in refusal ≡ number_answered n e) × IsEntry n (entry_answered n e) (Some x) × SitesStand (after_entry w n (entry_answered n e)) (slice_set xs (place_of_site xs (site_of n)) y)
+  happened y refusal x h =
+      let g : IsGained n.origin n.history e (number_in refusal) h.move = gains (number_in refusal) h.move h.played.answer in (
         sym g.number_is,
-        subst (λ (o : Option EntryValue). IsEntry n o (Some x)) (sym g.entry_is) (h.played.outs ∙ sym g.outs, same_step y number x h g),
-        subst (λ (o : Option EntryValue). SitesStand (after_entry w n o) (slice_set xs (place_of_site xs (site_of n)) y)) (sym g.entry_is) (stands_behind y number x h g),
+        subst (λ (o : Option EntryValue). IsEntry n o (Some x)) (sym g.entry_is) (h.played.outs ∙ sym g.outs, same_step y refusal x h g),
+        subst (λ (o : Option EntryValue). SitesStand (after_entry w n o) (slice_set xs (place_of_site xs (site_of n)) y)) (sym g.entry_is) (stands_behind y refusal x h g),
       )
 
   -- it is refused
@@ -187,18 +189,17 @@ module _ (w : World) (n : Node) (e : Event) (xs : List SiteSlot) (stand : SitesS
   unmoved : (x : SiteSlot) → slice_index_or xs (place_of_site xs (site_of n)) x ≡ x → slice_set xs (place_of_site xs (site_of n)) x ≡ xs
   unmoved x is = ap (slice_set xs (place_of_site xs (site_of n))) (sym is) ∙ set-get_or xs (place_of_site xs (site_of n)) x
 
-  answers : (y : SiteSlot) (number : Option ℕ) (x : Option Entry) → slice_index_or xs (place_of_site xs (site_of n)) at.slot ≡ at.slot → SlotAnswers at.slot (number_of n) e number x y
-      → (number ≡ number_answered n e) × IsEntry n (entry_answered n e) x × SitesStand (after_entry w n (entry_answered n e)) (slice_set xs (place_of_site xs (site_of n)) y)
-  answers y number (Some x) is h = happened y number x h
-  answers y None None is h = absurd h
-  answers y (Some k) None is h =
+  answers : (y : SiteSlot) (a : Answer) → slice_index_or xs (place_of_site xs (site_of n)) at.slot ≡ at.slot → SlotAnswers at.slot (number_of n) e a y
+      → (number_told a ≡ number_answered n e) × IsEntry n (entry_answered n e) (entry_told a) × SitesStand (after_entry w n (entry_answered n e)) (slice_set xs (place_of_site xs (site_of n)) y)
+  answers y (Answer.Happened refusal x) is h = happened y refusal x h
+  answers y (Answer.Refused k) is h =
       let r = refused k h.0 in
       let same : slice_set xs (place_of_site xs (site_of n)) y ≡ xs = ap (slice_set xs (place_of_site xs (site_of n))) h.1 ∙ unmoved at.slot is in
       (r.0, r.1, subst (SitesStand (after_entry w n (entry_answered n e))) (sym same) r.2)
 
   plays : (y : SiteSlot) (r : Result Answer WorldFault) → slice_index_or xs (place_of_site xs (site_of n)) at.slot ≡ at.slot → SlotPlays at.slot (number_of n) e r y
       → PlaysAt w n e r (slice_set xs (place_of_site xs (site_of n)) y)
-  plays y (Ok a) is h = answers y a.number a.entry is h
+  plays y (Ok a) is h = answers y a is h
   plays y (Err WorldFault.Name) is h = absurd h
   plays y (Err (WorldFault.Limit what)) is h = (h.0, over y h.1)
   plays y (Err WorldFault.NoMemory) is h = tt

@@ -7,6 +7,7 @@ use Rattle.tp_names.proofs.Sames.{name_same}
 use Rattle.tp_model.specs.Happenings.{restarted}
 use Rattle.tp_model.specs.History.{digest, crash_entry, crashed}
 use Rattle.tp_model.specs.Parts.{Who, Event}
+use Rattle.tp_model.specs.declared.refusal.Refusal.{Refusal}
 use Rattle.tp_model.specs.World.{Node, number_of, site_of, find_node, put_node}
 use Rattle.tp_node.specs.declared.state.NodeTree.{NodeTree}
 use Rattle.tp_site.specs.Nodes.{who_at}
@@ -19,7 +20,7 @@ use Rattle.tp_world_parts.specs.declared.restart.LostEntry.{LostEntry}
 use Rattle.tp_world_parts.specs.Restarts.{stopped, as_it_is, turned_at, restarted_to, tree_before, IsStopped, IsRestartedTo, RestartsTo}
 use Rattle.tp_world_parts.specs.Sites.{known_by, unknown_at}
 use Rattle.tp_world_parts.specs.Standing.{AreNodes, IsNode}
-use Rattle.tp_world_parts.specs.Slots.{SlotPlays, SlotAnswers}
+use Rattle.tp_world_parts.specs.Slots.{SlotPlays, HasHappened}
 use Rattle.tp_world_parts.specs.declared.fault.WorldFault.{WorldFault}
 use Rattle.tp_world_parts.specs.declared.site_slot.Answer.{Answer}
 use Rattle.tp_world_parts.specs.declared.site_slot.Entry.{Entry}
@@ -142,22 +143,22 @@ module _ (ns : List Node) (i : ℕ) (first old : SiteSlot) (lost : Option LostEn
   known : known_at y.site (number_of n) ≡ digest n.origin (crashed n.history)
   known = known_stopped ns i first old lost xs y stop to n self.at here
 
-  pub node_never_refused : (a : Answer) (z : SiteSlot) → SlotPlays y x.addr.node (Event.Declare x.superior) (Ok a) z → a.entry ≡ None → ⊥
-  node_never_refused a z h none = never_refused n y z who known a.number (subst (λ (o : Option Entry). SlotAnswers y (number_of n) (Event.Declare n.superior) a.number o z) none (plays_it (Ok a) z h))
+  pub node_never_refused : (k : ℕ) (z : SiteSlot) → SlotPlays y x.addr.node (Event.Declare x.superior) (Ok (Answer.Refused k)) z → ⊥
+  node_never_refused k z h = never_refused n y z who known k (plays_it (Ok (Answer.Refused k)) z h)
 
   pub node_memory : (f : WorldFault) (z : SiteSlot) → SlotPlays y x.addr.node (Event.Declare x.superior) (Err f) z → f ≡ WorldFault.NoMemory
   node_memory f z h = memory_alone n y z who known f (plays_it (Err f) z h)
 
-  pub node_again : (before after : Option NodeTree) (a : Answer) (e : Entry) (z : SiteSlot) (mid last : List NodeSlot) → before ≡ tree_before old lost x.addr.node → after ≡ tree_in (known_at y.site x.addr.node)
-      → AreChanged x.addr.node (record { before = before; after = after; leaves = false; rec = None }) xs mid → SlotPlays y x.addr.node (Event.Declare x.superior) (Ok a) z → a.entry ≡ Some e → AreChanged x.addr.node e.change mid last
+  pub node_again : (before after : Option NodeTree) (refusal : Option Refusal) (e : Entry) (z : SiteSlot) (mid last : List NodeSlot) → before ≡ tree_before old lost x.addr.node → after ≡ tree_in (known_at y.site x.addr.node)
+      → AreChanged x.addr.node (record { before = before; after = after; leaves = false; rec = None }) xs mid → SlotPlays y x.addr.node (Event.Declare x.superior) (Ok (Answer.Happened refusal e)) z → AreChanged x.addr.node e.change mid last
       → IsRestartedTo ns (suc i) first last z
-  node_again before after a e z mid last b f stops plays some declares =
+  node_again before after refusal e z mid last b f stops plays declares =
       let change : record { before = before; after = after; leaves = false; rec = None } ≡ change_by n crash_entry =
       stop_is ns i first old lost xs y stop to n self.at here before after (b ∙ ap (tree_before old lost) number) (f ∙ ap (λ (k : ℕ). tree_in (known_at y.site k)) number) in
-      let answers : SlotAnswers y (number_of n) (Event.Declare n.superior) a.number (Some e) z = subst (λ (o : Option Entry). SlotAnswers y (number_of n) (Event.Declare n.superior) a.number o z) some (plays_it (Ok a) z plays) in
+      let happened : HasHappened y (number_of n) (Event.Declare n.superior) refusal e z = plays_it (Ok (Answer.Happened refusal e)) z plays in
       next_node ns i first old lost xs y stop to n self.at here x mid last e z self.is
       (subst (λ (k : ℕ). AreChanged k (change_by n crash_entry) xs mid) number (subst (λ (c : TreeChange). AreChanged x.addr.node c xs mid) change stops))
-      (again n y z who known a.number e answers)
+      (again n y z who known refusal e happened)
       (subst (λ (k : ℕ). AreChanged k e.change mid last) number declares)
 
 -- ---- the loop

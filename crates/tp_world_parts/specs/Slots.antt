@@ -11,10 +11,12 @@ use Rattle.tp_journal.specs.Log.{head, blocks}
 use Rattle.tp_journal.specs.Records.{bodies_of}
 use Rattle.tp_journal.specs.Told.{IsOn}
 use Rattle.tp_model.specs.declared.out_line.LogWords.{LogWords}
+use Rattle.tp_model.specs.declared.refusal.Refusal.{Refusal}
 use Rattle.tp_model.specs.declared.verdict.What.{What}
 use Rattle.tp_model.specs.Happenings.{log_shown, new_site}
 use Rattle.tp_model.specs.Node.{Move}
 use Rattle.tp_model.specs.Outcomes.{is_unchanged}
+use Rattle.tp_model.specs.Refusal.{number_in}
 use Rattle.tp_names.specs.declared.identifiers.Addr.{Addr}
 use Rattle.tp_model.specs.Parts.{Event, Declare}
 use Rattle.tp_site.specs.Nodes.{who_at}
@@ -58,9 +60,9 @@ pub record IsFresh (name : List ℕ) (x : SiteSlot) : Type 0 where
 -- ---- an event
 
 -- it has happened: the site has played it, and the step is what it shows of trees
-pub record HasHappened (old : SiteSlot) (n : ℕ) (e : Event) (number : Option ℕ) (x : Entry) (new : SiteSlot) : Type 0 where
+pub record HasHappened (old : SiteSlot) (n : ℕ) (e : Event) (refusal : Option Refusal) (x : Entry) (new : SiteSlot) : Type 0 where
   pub move : Move
-  pub played : IsPlayed standing old.site n e (record { number = number; outs = x.outs }) new.site move
+  pub played : IsPlayed standing old.site n e (record { refusal = refusal; outs = x.outs }) new.site move
   pub change : x.change ≡ record {
     before = tree_in (known_at old.site n);
     after = tree_in (known_at new.site n);
@@ -69,20 +71,28 @@ pub record HasHappened (old : SiteSlot) (n : ℕ) (e : Event) (number : Option �
   }
 
 -- it is refused by that number, and nothing has changed
-abbrev pub IsRefused : SiteSlot → ℕ → Event → Option ℕ → SiteSlot → Type 0
-IsRefused old n e None new = ⊥
-IsRefused old n e (Some k) new = (answer_at (who_at old.site.nodes n) (known_at old.site n) e ≡ Refuses k) × (new ≡ old)
+abbrev pub IsRefused : SiteSlot → ℕ → Event → ℕ → SiteSlot → Type 0
+IsRefused old n e k new = (answer_at (who_at old.site.nodes n) (known_at old.site n) e ≡ Refuses k) × (new ≡ old)
 
-abbrev pub SlotAnswers : SiteSlot → ℕ → Event → Option ℕ → Option Entry → SiteSlot → Type 0
-SlotAnswers old n e number None new = IsRefused old n e number new
-SlotAnswers old n e number (Some x) new = HasHappened old n e number x new
+abbrev pub SlotAnswers : SiteSlot → ℕ → Event → Answer → SiteSlot → Type 0
+SlotAnswers old n e (Answer.Refused k) new = IsRefused old n e k new
+SlotAnswers old n e (Answer.Happened refusal x) new = HasHappened old n e refusal x new
+
+-- the number of the refusal that is answered, and the entry that the node's history gains
+abbrev pub number_told : Answer → Option ℕ
+number_told (Answer.Refused k) = Some k
+number_told (Answer.Happened refusal x) = number_in refusal
+
+abbrev pub entry_told : Answer → Option Entry
+entry_told (Answer.Refused k) = None
+entry_told (Answer.Happened refusal x) = Some x
 
 -- the log has no room for the event's record
 abbrev pub IsOver : SiteSlot → ℕ → Event → SiteSlot → Type 0
 IsOver old n e new = (size : ℕ) × IsUnforced standing old.site.keeper (rec_of (answer_at (who_at old.site.nodes n) (known_at old.site n) e)) (force.Full size) new.site.keeper
 
 abbrev pub SlotPlays : SiteSlot → ℕ → Event → Result Answer WorldFault → SiteSlot → Type 0
-SlotPlays old n e (Ok a) new = SlotAnswers old n e a.number a.entry new
+SlotPlays old n e (Ok a) new = SlotAnswers old n e a new
 SlotPlays old n e (Err WorldFault.Name) new = ⊥
 SlotPlays old n e (Err (WorldFault.Limit what)) new = (what ≡ What.Log) × IsOver old n e new
 SlotPlays old n e (Err WorldFault.NoMemory) new = Unit {0}

@@ -14,6 +14,7 @@ use Rattle.tp_model.specs.Lines.{is_full}
 use Rattle.tp_world_parts.specs.Summary.{summary, change_of}
 use Rattle.tp_network.specs.TreeSummaries.{summary_at}
 use Rattle.tp_world_parts.specs.Sites.{AreSites, KnowNodes}
+use Rattle.tp_world_parts.specs.Slots.{number_told, entry_told}
 use Rattle.tp_world_parts.specs.declared.fault.WorldFault.{WorldFault}
 use Rattle.tp_network.specs.declared.nodes.NodeSlot.{NodeSlot}
 use Rattle.tp_world_parts.specs.declared.site_slot.SiteSlot.{SiteSlot}
@@ -98,7 +99,7 @@ entry_answered n e = (answer n.origin n.history e).entry
 -- anything of the event is so
 abbrev pub PlaysAt : World → Node → Event → Result Answer WorldFault → List SiteSlot → Type 0
 PlaysAt w n e (Ok a) new =
-    (a.number ≡ number_answered n e) × IsEntry n (entry_answered n e) a.entry × SitesStand (after_entry w n (entry_answered n e)) new
+    (number_told a ≡ number_answered n e) × IsEntry n (entry_answered n e) (entry_told a) × SitesStand (after_entry w n (entry_answered n e)) new
 PlaysAt w n e (Err WorldFault.Name) new = ⊥
 PlaysAt w n e (Err (WorldFault.Limit what)) new = (what ≡ What.Log) × (is_full (after_entry w n (entry_answered n e)).sites ≡ true)
 PlaysAt w n e (Err WorldFault.NoMemory) new = Unit {0}

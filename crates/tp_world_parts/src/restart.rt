@@ -5,7 +5,7 @@ ghost use Rattle.tp_world_parts.specs.Restarts.{tree_before, IsStopped, IsRestar
 ghost use Rattle.tp_world_parts.specs.declared.site_slot.SiteSlot.{SiteSlot};
 
 use crate::fault::WorldFault;
-use crate::site_slot::SiteSlot;
+use crate::site_slot::{Answer, SiteSlot};
 use std::alloc::Global;
 use tp_names::same::is_name;
 use tp_network::{Nodes, TreeChange};
@@ -60,8 +60,9 @@ fn restart_node(
     let _rec: Option<&PeerRecord> = None;
     let _request: Option<&Request> = None;
     let answer = next.play(alloc, at.node, &NodeEvent::Declare { superior })?;
-    let Some(entry) = answer.entry else {
-        return Err(WorldFault::Name);
+    let entry = match answer {
+        Answer::Refused(_) => return Err(WorldFault::Name),
+        Answer::Happened { entry, .. } => entry,
     };
     nodes.change(at.node, &entry.change)?;
     Ok(())

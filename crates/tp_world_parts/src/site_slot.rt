@@ -22,7 +22,7 @@ use crate::shown::log_shown;
 use std::alloc::Global;
 use tp_journal::{Journal, StartFault as OpenFault, format};
 use tp_logrec::LogRec;
-use tp_model::{LogWords, What};
+use tp_model::{LogWords, Refusal, What};
 use tp_names::{Addr, NoMemory, Octets, SiteName};
 use tp_network::{Frame, FrameRecord, TreeChange};
 use tp_outside::MemDisk;
@@ -36,11 +36,17 @@ pub struct Entry {
     pub change: TreeChange,
 }
 
-/// What a node answers to an event: the number of a refusal, and the entry that its history gains.
+/// What a node answers to an event.
 #[derive(Drop)]
-pub struct Answer {
-    pub number: Option<u8>,
-    pub entry: Option<Entry>,
+pub enum Answer {
+    /// It is refused by that number, and nothing has changed.
+    Refused(u8),
+    /// It has happened, and the node's history gains that entry. With a refusal, a record was refused by that, and the
+    /// association that it came on was ended; the entry is of that loss.
+    Happened {
+        refusal: Option<Refusal>,
+        entry: Entry,
+    },
 }
 
 /// A site of a world.
@@ -214,9 +220,9 @@ impl SiteSlot {
         let before = self.tree(node);
         let count = self.records().len();
         match self.site.play(alloc, node, event) {
-            Ok(played) => Ok(Answer {
-                number: played.number,
-                entry: Some(Entry {
+            Ok(played) => Ok(Answer::Happened {
+                refusal: played.refusal,
+                entry: Entry {
                     outs: played.outs,
                     change: TreeChange {
                         before,
@@ -224,12 +230,9 @@ impl SiteSlot {
                         leaves: is_unchanged(event),
                         rec: forced(self.records(), count),
                     },
-                }),
+                },
             }),
-            Err(SiteFault::Refused(number)) => Ok(Answer {
-                number: Some(number),
-                entry: None,
-            }),
+            Err(SiteFault::Refused(number)) => Ok(Answer::Refused(number)),
             Err(SiteFault::Full { .. }) => Err(WorldFault::Limit { what: What::Log }),
             Err(_) => Err(WorldFault::NoMemory),
         }

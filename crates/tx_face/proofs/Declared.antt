@@ -8,6 +8,7 @@ use Rattle.tp_model.specs.Events.{refusal, action}
 use Rattle.tp_model.specs.History.{broken_by}
 use Rattle.tp_model.specs.Node.{Move}
 use Rattle.tp_model.specs.NodeRun.{asked}
+use Rattle.tp_model.specs.Refusal.{number_in}
 use Rattle.tp_journal.specs.Keeping.{Standing}
 use Rattle.tp_node.specs.NodeEvent.{Answer, Refuses, Happens, answer_at}
 use Rattle.tp_site.specs.declared.site.Played.{Played}
@@ -37,10 +38,10 @@ quiet who d s = go (refusal who d (Event.Declare s))
 pub declared_quietly : {K : Type 0} (standing : K → Standing) (old : Site K) (n : ℕ) (outputs : List Output) (new : Site K) → PlaysAsked standing old (asked (opening_at old.nodes.site) (Given.Declare n None)) (Ok outputs) new → outputs ≡ []
 declared_quietly standing old n outputs new plays = by plays.0 plays.1.0 plays.1.1 plays.2
   where
-    by : (p : Played) (m : Move) → IsPlayed standing old n (Event.Declare None) p new m → outputs ≡ given_out old.nodes.site n p.number p.outs → outputs ≡ []
+    by : (p : Played) (m : Move) → IsPlayed standing old n (Event.Declare None) p new m → outputs ≡ given_out old.nodes.site n (number_in p.refusal) p.outs → outputs ≡ []
     by p m played is =
-        let still : IsQuiet (Happens p.number m) = subst IsQuiet played.answer (quiet (who_at old.nodes n) (known_at old n) None) in
-        is ∙ ap (given_out old.nodes.site n p.number) (played.outs ∙ still.1) ∙ ap (λ (k : Option ℕ). given_out old.nodes.site n k []) still.0
+        let still : IsQuiet (Happens (number_in p.refusal) m) = subst IsQuiet played.answer (quiet (who_at old.nodes n) (known_at old n) None) in
+        is ∙ ap (given_out old.nodes.site n (number_in p.refusal)) (played.outs ∙ still.1) ∙ ap (λ (k : Option ℕ). given_out old.nodes.site n k []) still.0
 
 -- and asks for no record; nor is it refused, where the node is not declared
 abbrev IsUnrecorded : Answer → Type 0

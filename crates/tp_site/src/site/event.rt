@@ -16,7 +16,7 @@ ghost use Rattle.tp_site.specs.Events.{Gives, PlaysAsked, IsAt, IsInOrder, Steps
 
 use crate::faults::SiteFault;
 use crate::outputs::outputs_of;
-use crate::site::{Site, number_in};
+use crate::site::Site;
 use std::alloc::Global;
 use tp_draft::Draft;
 use tp_journal::Keeper;
@@ -29,6 +29,7 @@ use tp_texts::read_whole_peer;
 
 impl<K: Keeper> Site<K> {
     // An event of the node of that number, drawn up on that draft. All that goes out is made before the record is forced.
+    #[tactic(auto, using(crate::proofs::Settled::attempted, crate::proofs::Settled::halted))]
     fn give_on(
         &mut self,
         alloc: Global,
@@ -45,7 +46,7 @@ impl<K: Keeper> Site<K> {
         let refusal = self.attempt(alloc, node, event, draft)?;
         let site = self.name();
         let outs = draft.take_outs(alloc);
-        let outputs = outputs_of(alloc, &Addr { site, node }, number_in(refusal), outs)?;
+        let outputs = outputs_of(alloc, &Addr { site, node }, refusal, outs)?;
         self.settle(alloc, node, draft)?;
         Ok(outputs)
     }

@@ -7,11 +7,11 @@ use Rattle.tp_site.specs.Shaped.{IsShapedDraft}
 use Rattle.tp_site.proofs.Shaped.{drawn_shaped, drawn_short}
 use Rattle.tp_site.proofs.site.Site.attempt.Goals as goal
 
-pub returns-in_ok-prepare-in-Ok-clause-shaped : goal.returns-in_ok-prepare-in-Ok-clause-shaped
-returns-in_ok-prepare-in-Ok-clause-shaped g c =
+pub returns-clause-shaped : goal.returns-clause-shaped
+returns-clause-shaped g c =
     let drawn = c.answer_to.new.draft.move in
     subst (λ (v : LogVersion). IsShapedDraft v drawn) (sym c.prepare.ensures.site.version)
-    (drawn_shaped c.self.inside.nodes c.args.node (event_of c.args.event.now) (number_in c.in-Ok.refusal) drawn c.self.invariant.nodes c.in-Ok.ensures.answer.0)
+    (drawn_shaped c.self.inside.nodes c.args.node (event_of c.args.event.now) (number_in c.in_ok-refusal.refusal) drawn c.self.invariant.nodes c.in_ok-refusal.ensures.answer.0)
 
-pub returns-in_ok-prepare-in-Ok-clause-short : goal.returns-in_ok-prepare-in-Ok-clause-short
-returns-in_ok-prepare-in-Ok-clause-short g c = drawn_short c.self.inside.nodes c.args.node (event_of c.args.event.now) (number_in c.in-Ok.refusal) c.answer_to.new.draft.move c.in-Ok.ensures.answer.0
+pub returns-clause-short : goal.returns-clause-short
+returns-clause-short g c = drawn_short c.self.inside.nodes c.args.node (event_of c.args.event.now) (number_in c.in_ok-refusal.refusal) c.answer_to.new.draft.move c.in_ok-refusal.ensures.answer.0

@@ -11,14 +11,13 @@ returns-clause-gives g c =
     let tried = (c.in_ok-refusal.ensures).attempts in
     let old = c.args.self.now in
     let drawn = c.attempt.new.draft in
-    let number = number_in c.in_ok-refusal.refusal in (
-      record { number = number; outs = drawn.move.outs },
+    let refusal = c.in_ok-refusal.refusal in (
+      record { refusal = refusal; outs = drawn.move.outs },
       (
         drawn.move,
-        settled g.K.Keeper.standing old c.attempt.new.self c.settle.new.self c.args.node (event_of c.args.event.now) number drawn c.take_outs-outs.new.self tried c.take_outs-outs.ensures.rest ((c.in_ok-settle.ensures {u = tt}).settled),
+        settled g.K.Keeper.standing old c.attempt.new.self c.settle.new.self c.args.node (event_of c.args.event.now) refusal drawn c.take_outs-outs.new.self tried c.take_outs-outs.ensures.rest ((c.in_ok-settle.ensures {u = tt}).settled),
       ),
       c.in_ok-outputs.ensures
-          ∙ ap (λ s. given_out s c.args.node c.number_in.result c.take_outs-outs.result) (c.name-site.ensures ∙ tried.same.site.site)
-          ∙ ap (λ k. given_out old.nodes.site c.args.node k c.take_outs-outs.result) c.number_in.ensures
-          ∙ ap (given_out old.nodes.site c.args.node number) c.take_outs-outs.ensures.outs,
+          ∙ ap (λ s. given_out s c.args.node (number_in refusal) c.take_outs-outs.result) (c.name-site.ensures ∙ tried.same.site.site)
+          ∙ ap (given_out old.nodes.site c.args.node (number_in refusal)) c.take_outs-outs.ensures.outs,
     )
