@@ -8,6 +8,8 @@
 #[cfg(test)]
 mod audit;
 #[cfg(test)]
+mod cuttings;
+#[cfg(test)]
 mod event;
 #[cfg(test)]
 mod face;

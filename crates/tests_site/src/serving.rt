@@ -10,9 +10,9 @@ use tp_serve::serve;
 use tp_streams::Stop;
 
 // A log of version 1 with no records, and with boot 1.
-const FRESH: &[u8] = &[0x4f, 0x54, 0x50, 0x4c, 1, 0];
+pub(crate) const FRESH: &[u8] = &[0x4f, 0x54, 0x50, 0x4c, 1, 0];
 
-const BOOTED: &[u8] = &[
+pub(crate) const BOOTED: &[u8] = &[
     0x4f, 0x54, 0x50, 0x4c, 1, 1, 0, 9, 1, 0, 0, 0, 0, 0, 0, 0, 1, 0,
 ];
 
@@ -32,7 +32,7 @@ fn octets(alloc: Global, bytes: &[u8]) -> Option<Octets> {
 
 /// Bytes in memory, each call so many at most.
 #[derive(Drop)]
-struct Pieces {
+pub(crate) struct Pieces {
     source: MemSource,
     most: usize,
     ghost some: { 0 < most },
@@ -53,7 +53,7 @@ impl Source for Pieces {
     }
 }
 
-fn in_pieces(alloc: Global, bytes: &[u8], most: usize, fails: &[u8]) -> Option<Pieces> {
+pub(crate) fn in_pieces(alloc: Global, bytes: &[u8], most: usize, fails: &[u8]) -> Option<Pieces> {
     if most == 0 {
         return None;
     }
@@ -63,15 +63,16 @@ fn in_pieces(alloc: Global, bytes: &[u8], most: usize, fails: &[u8]) -> Option<P
     })
 }
 
-// How the loop of site a ends on that disk and source, and whether it writes these bytes; and the disk.
-fn serves<D: Disk + Drop>(
+// How the loop of that site ends on that disk and source, and whether it writes these bytes; and the disk.
+pub(crate) fn serves<D: Disk + Drop>(
     alloc: Global,
+    site: &[u8],
     disk: D,
     source: Option<Pieces>,
     written: &[u8],
     fails: &[u8],
 ) -> Option<(D, Result<(), Stop>, bool)> {
-    let name = SiteName::new(b"a")?;
+    let name = SiteName::new(site)?;
     let mut source = source?;
     let mut sink = MemSink::new(alloc, octets(alloc, fails)?);
     let (disk, served) = serve(alloc, name, &mut source, &mut sink, disk);
@@ -91,6 +92,7 @@ fn served(
     let disk = MemDisk::from(alloc, octets(alloc, log)?);
     let (disk, served, same) = serves(
         alloc,
+        b"a",
         disk,
         in_pieces(alloc, input, most, &[]),
         written,
@@ -150,6 +152,7 @@ fn fails(
     let disk = MemDisk::failing(alloc, octets(alloc, FRESH)?, octets(alloc, changes)?);
     let (_disk, served, same) = serves(
         alloc,
+        b"a",
         disk,
         in_pieces(alloc, INPUT, 6, reads),
         written,
@@ -171,7 +174,7 @@ fn the_outside_fails(rt: HostRuntime) {
 // Whether a machine that stops at that call leaves these bytes, each range that was not synced being the fill.
 fn leaves(alloc: Global, call: u64, fill: u8, image: &[u8]) -> Option<bool> {
     let disk = FuseDisk::new(MemDisk::from(alloc, octets(alloc, FRESH)?), call, fill);
-    let (disk, served, same) = serves(alloc, disk, in_pieces(alloc, &[], 1, &[]), &[], &[])?;
+    let (disk, served, same) = serves(alloc, b"a", disk, in_pieces(alloc, &[], 1, &[]), &[], &[])?;
     let failed = matches!(served, Err(Stop::DiskFault { .. }));
     Some(failed && same && disk.image().bytes() == image)
 }

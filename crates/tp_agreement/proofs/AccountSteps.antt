@@ -1,10 +1,11 @@
 -- The accounts of a branch, from one entry of its superior's history to the next.
-use Rattle.std.proofs.Common.{◌≡◌, ◌≤◌, ◌+◌, ◌⊎◌, inl, inr, ℕ, zero, suc, Bool, true, false, refl, ap, sym, subst, ◌∙◌, arith, Option, Some, None, List, [], ◌∷◌, ◌++◌, ◌||◌, ◌==◌, not, nat_le, length, length-append, slice_get}
+use Rattle.std.proofs.Common.{◌≡◌, ◌≤◌, ◌+◌, ◌⊎◌, ◌&&◌, inl, inr, ℕ, zero, suc, Bool, true, false, refl, ap, sym, subst, ◌∙◌, arith, Option, Some, None, List, [], ◌∷◌, ◌++◌, ◌||◌, ◌==◌, not, nat_le, length, length-append, slice_get}
 use Rattle.std.proofs.lemmas.Bool.Decides.{nat_tests}
 use Rattle.std.proofs.lemmas.List.{append-nil}
 use Rattle.tp_names.specs.declared.identifiers.Aaid.{Aaid}
 use Rattle.tp_names.specs.declared.identifiers.Addr.{Addr}
 use Rattle.tp_names.specs.declared.identifiers.Mark.{Mark}
+use Rattle.tp_names.specs.declared.outcome.Outcome.{Outcome}
 use Rattle.tp_names.specs.Same.{is_mark}
 use Rattle.tp_records.specs.declared.dialogue.DialogueRecord.{DialogueRecord}
 use Rattle.tp_records.specs.declared.peer.PeerRecord.{PeerRecord}
@@ -243,7 +244,7 @@ heeded_vote ks g rs n v r i h = absurd (grind (arith, i))
 pub debt_word : (ks : List BranchKey) (g : Deeds) (rs : List LogRec) (n : ℕ) (v : Bool) (r : DialogueRecord) (j : BranchKey) → is_end r ≡ true → v ≡ true → slice_get ks n ≡ Some j → is_heeded ks g rs n v r ≡ true → (g.rolled j.0 ≡ true → ⊥) → (w : _) × (r ≡ DialogueRecord.Done w)
 debt_word ks g rs n v (DialogueRecord.Done w) j i vt at h never = (w, refl)
 debt_word ks g rs n v (DialogueRecord.RolledBack w) j i vt at h never =
-    let one : holds_at ks n g.rolled ≡ true = and_left (holds_at ks n g.rolled) true (grind (arith, h)) in
+    let one : holds_at ks n g.rolled ≡ true = and_left (holds_at ks n g.rolled) (holds_at ks n (g.told Outcome.Rollback w)) (and_left (holds_at ks n g.rolled && holds_at ks n (g.told Outcome.Rollback w)) true h) in
     absurd (never (rw (at, holds_at) at one))
 debt_word ks g rs n v DialogueRecord.Left j i vt at h never = absurd (grind (arith, h, vt))
 debt_word ks g rs n v DialogueRecord.LeftEnd j i vt at h never = absurd (grind (arith, h, vt))

@@ -7,6 +7,7 @@ use Rattle.tp_names.specs.declared.identifiers.Mark.{Mark}
 use Rattle.tp_names.specs.declared.identifiers.BranchId.{BranchId}
 use Rattle.tp_names.specs.declared.identifiers.Addr.{Addr}
 use Rattle.tp_names.specs.declared.children.Child.{Child}
+use Rattle.tp_names.specs.declared.outcome.Outcome.{Outcome}
 use Rattle.tp_names.specs.declared.outcome.Report.{Report}
 use Rattle.tp_names.specs.Same.{is_aaid, is_branch, is_addr}
 use Rattle.tp_names.specs.Reports.{is_report_none}
@@ -61,7 +62,7 @@ use Rattle.tp_histories.proofs.pairs.Committed.{committed_prelude, own_law}
 use Rattle.tp_agreement.proofs.SettledAt.{settled_law}
 use Rattle.tp_agreement.proofs.Marked.{Marked, MayMark}
 use Rattle.tp_agreement.proofs.Accounts.{leaves_word, asked_took, TookWord, Balanced, keys_to, ends_from, votes_from, Accounts, last_at, marked_key, open_most}
-use Rattle.tp_agreement.proofs.AccountSteps.{Rules, heeded_at, zero_or_one, open_counted, bound_phase}
+use Rattle.tp_agreement.proofs.AccountSteps.{Rules, heeded_at, voted_ready, zero_or_one, open_counted, bound_phase}
 use Rattle.tp_agreement.proofs.AccountLaw.{took_mark, left_key, holds_long}
 use Rattle.tp_agreement.proofs.LeftDown.{Below, below_tail, accounts_of}
 use Rattle.tp_agreement.proofs.BelowRuns.{TookKey, behind_key, current_took}
@@ -259,7 +260,7 @@ id_found (x ∷ bs) b w h = go (is_branch x.id b) refl (id_found bs b w)
 
 -- what Done with that report tells of the tree
 abbrev pub done_tells : Deeds → Aaid → Report → Bool
-done_tells g t r = g.committed t && (not (is_report_none r) || g.completed t) && (is_report_none r || g.damaged t)
+done_tells g t r = g.committed t && (not (is_report_none r) || g.completed t) && (is_report_none r || g.damaged t) && g.told Outcome.Commit r t
 
 -- Done that is taken in a commitment is of this branch
 pub done_word : (o : Origin) (up : Option Addr) (p : ℕ) (g : Deeds) (rs : List LogRec) (e : Entry) (h : List Entry) → Rules o up p g rs e h → Accounts o p g rs h → (j : BranchKey) (may : TxEvent → Transaction → ℕ → Bool) (m : MayMark o.who e.event (prelude o.who (digest o h) e.event) may p j) (r : Report)
@@ -287,11 +288,11 @@ done_word o up p g rs e h rules old j may m r word committing = rw (place, holds
     n : ℕ
     n = ends_from t.x t.y p h
 
-    said : (holds_at ks n g.committed && (not (is_report_none r) || holds_at ks n g.completed) && (is_report_none r || holds_at ks n g.damaged)) ≡ true
-    said = and_left (holds_at ks n g.committed && (not (is_report_none r) || holds_at ks n g.completed) && (is_report_none r || holds_at ks n g.damaged)) true (heeded_at p g rs e.event h t.from t.x t.y t.seq (DialogueRecord.Done r) t.is t.at rules.heeded)
+    said : (holds_at ks n g.committed && (not (is_report_none r) || holds_at ks n g.completed) && (is_report_none r || holds_at ks n g.damaged) && holds_at ks n (g.told Outcome.Commit r)) ≡ true
+    said = and_left (holds_at ks n g.committed && (not (is_report_none r) || holds_at ks n g.completed) && (is_report_none r || holds_at ks n g.damaged) && holds_at ks n (g.told Outcome.Commit r)) true (heeded_at p g rs e.event h t.from t.x t.y t.seq (DialogueRecord.Done r) t.is t.at rules.heeded)
 
     held : holds_at ks n g.committed ≡ true
-    held = and_left (holds_at ks n g.committed) (not (is_report_none r) || holds_at ks n g.completed) (and_left (holds_at ks n g.committed && (not (is_report_none r) || holds_at ks n g.completed)) (is_report_none r || holds_at ks n g.damaged) said)
+    held = and_left (holds_at ks n g.committed) (not (is_report_none r) || holds_at ks n g.completed) (and_left (holds_at ks n g.committed && (not (is_report_none r) || holds_at ks n g.completed)) (is_report_none r || holds_at ks n g.damaged) (and_left (holds_at ks n g.committed && (not (is_report_none r) || holds_at ks n g.completed) && (is_report_none r || holds_at ks n g.damaged)) (holds_at ks n (g.told Outcome.Commit r)) said))
 
     long : suc n ≤ length ks
     long = holds_long ks n g.committed held
@@ -326,16 +327,70 @@ done_word o up p g rs e h rules old j may m r word committing = rw (place, holds
     place : slice_get ks n ≡ Some j
     place = last_at (sent_on t.x t.y p h) n j rows (exactly (length ks) n long (least (old.balance t.x t.y sent t.seq live)))
 
+done_front : (o : Origin) (up : Option Addr) (p : ℕ) (g : Deeds) (rs : List LogRec) (e : Entry) (h : List Entry) → Rules o up p g rs e h → Accounts o p g rs h → (j : BranchKey) (may : TxEvent → Transaction → ℕ → Bool) (m : MayMark o.who e.event (prelude o.who (digest o h) e.event) may p j) (r : Report)
+    → m.event ≡ TxEvent.Took p (DialogueRecord.Done r) → is_committing m.current.phase ≡ true → (g.committed j.0 && (not (is_report_none r) || g.completed j.0) && (is_report_none r || g.damaged j.0)) ≡ true
+done_front o up p g rs e h rules old j may m r word committing =
+    and_left (g.committed j.0 && (not (is_report_none r) || g.completed j.0) && (is_report_none r || g.damaged j.0)) (g.told Outcome.Commit r j.0) (done_word o up p g rs e h rules old j may m r word committing)
+
+-- its user was told so, with that report
+pub told_word : (o : Origin) (up : Option Addr) (p : ℕ) (g : Deeds) (rs : List LogRec) (e : Entry) (h : List Entry) → Rules o up p g rs e h → Accounts o p g rs h → (j : BranchKey) (may : TxEvent → Transaction → ℕ → Bool) (m : MayMark o.who e.event (prelude o.who (digest o h) e.event) may p j) (r : Report)
+    → m.event ≡ TxEvent.Took p (DialogueRecord.Done r) → is_committing m.current.phase ≡ true → g.told Outcome.Commit r j.0 ≡ true
+told_word o up p g rs e h rules old j may m r word committing =
+    and_right (g.committed j.0 && (not (is_report_none r) || g.completed j.0) && (is_report_none r || g.damaged j.0)) (g.told Outcome.Commit r j.0) (done_word o up p g rs e h rules old j may m r word committing)
+
 committed_word : (o : Origin) (up : Option Addr) (p : ℕ) (g : Deeds) (rs : List LogRec) (e : Entry) (h : List Entry) → Rules o up p g rs e h → Accounts o p g rs h → (j : BranchKey) (m : MayMark o.who e.event (prelude o.who (digest o h) e.event) may_end p j) (r : Report)
     → m.event ≡ TxEvent.Took p (DialogueRecord.Done r) → is_committing m.current.phase ≡ true → g.committed j.0 ≡ true
 committed_word o up p g rs e h rules old j m r word committing =
-    and_left (g.committed j.0) (not (is_report_none r) || g.completed j.0) (and_left (g.committed j.0 && (not (is_report_none r) || g.completed j.0)) (is_report_none r || g.damaged j.0) (done_word o up p g rs e h rules old j may_end m r word committing))
+    and_left (g.committed j.0) (not (is_report_none r) || g.completed j.0) (and_left (g.committed j.0 && (not (is_report_none r) || g.completed j.0)) (is_report_none r || g.damaged j.0) (done_front o up p g rs e h rules old j may_end m r word committing))
+
+-- RolledBack that is taken where the tree stands is of this branch, and its user was told so, with that report
+pub backed_word : (o : Origin) (up : Option Addr) (p : ℕ) (g : Deeds) (rs : List LogRec) (e : Entry) (h : List Entry) → Rules o up p g rs e h → Accounts o p g rs h → (j : BranchKey) (from : Addr) (x y : Mark) (q : ℕ) (r : Report)
+    → e.event ≡ Event.Arrive from (PeerRecord.OnAssoc x y q (DialogueRecord.RolledBack r)) → from.node ≡ p → Marked (λ b. true) (digest o h).current p j → g.told Outcome.Rollback r j.0 ≡ true
+backed_word o up p g rs e h rules old j from x y q r is at stands = by (old.balance x y sent q live)
+  where
+    d : Digest
+    d = digest o h
+
+    ok : refusal o.who d (Event.Arrive from (PeerRecord.OnAssoc x y q (DialogueRecord.RolledBack r))) ≡ None
+    ok = subst (λ (f : Event). refusal o.who d f ≡ None) is rules.legal.0
+
+    sent : ℕ
+    sent = (takes_next o.who d from x y q (DialogueRecord.RolledBack r) ok).sent
+
+    live : link_with d.arcs p ≡ Live x y sent q
+    live = ap (link_with d.arcs) (sym at) ∙ (takes_next o.who d from x y q (DialogueRecord.RolledBack r) ok).live
+
+    ks : List BranchKey
+    ks = keys_to x y p h
+
+    n : ℕ
+    n = ends_from x y p h
+
+    said : (holds_at ks n g.rolled && holds_at ks n (g.told Outcome.Rollback r)) ≡ true
+    said = and_left (holds_at ks n g.rolled && holds_at ks n (g.told Outcome.Rollback r)) true (heeded_at p g rs e.event h from x y q (DialogueRecord.RolledBack r) is at rules.heeded)
+
+    back : holds_at ks n g.rolled ≡ true
+    back = and_left (holds_at ks n g.rolled) (holds_at ks n (g.told Outcome.Rollback r)) said
+
+    told : holds_at ks n (g.told Outcome.Rollback r) ≡ true
+    told = and_right (holds_at ks n g.rolled) (holds_at ks n (g.told Outcome.Rollback r)) said
+
+    exactly : (a b k : ℕ) → suc b ≤ a → a ≤ b + k → k ≤ 1 → a ≡ suc b
+    exactly a b k h i j = omega (arith, h, i, j)
+
+    by : Balanced o h ks n (votes_from x y p h) (open_at d.current p) → g.told Outcome.Rollback r j.0 ≡ true
+    by (inl b) =
+        let place = last_at (sent_on x y p h) n j ((paired_law o up h rules.empty rules.legal.3).rows p x y sent q live j (marked_key (λ b. true) d p j (late_law o up h rules.legal.3) stands)) (exactly (length ks) n (open_at d.current p) (holds_long ks n g.rolled back) b (open_most d.current p)) in
+        rw (place, holds_at) at told
+    by (inr debt) =
+        let rolls : g.rolled debt.key.0 ≡ true = (let at = debt.at in rw (at, holds_at) at back) in
+        absurd (rules.never debt.key rolls (voted_ready ks rs n debt.key debt.at (old.voted x y debt.voted)) debt.done)
 
 -- and with no report, of one that was complete with none
 pub completed_word : (o : Origin) (up : Option Addr) (p : ℕ) (g : Deeds) (rs : List LogRec) (e : Entry) (h : List Entry) → Rules o up p g rs e h → Accounts o p g rs h → (j : BranchKey) (may : TxEvent → Transaction → ℕ → Bool) (m : MayMark o.who e.event (prelude o.who (digest o h) e.event) may p j) (r : Report)
     → m.event ≡ TxEvent.Took p (DialogueRecord.Done r) → is_committing m.current.phase ≡ true → is_report_none r ≡ true → g.completed j.0 ≡ true
 completed_word o up p g rs e h rules old j may m r word committing none =
-    go (is_report_none r) none (and_right (g.committed j.0) (not (is_report_none r) || g.completed j.0) (and_left (g.committed j.0 && (not (is_report_none r) || g.completed j.0)) (is_report_none r || g.damaged j.0) (done_word o up p g rs e h rules old j may m r word committing)))
+    go (is_report_none r) none (and_right (g.committed j.0) (not (is_report_none r) || g.completed j.0) (and_left (g.committed j.0 && (not (is_report_none r) || g.completed j.0)) (is_report_none r || g.damaged j.0) (done_front o up p g rs e h rules old j may m r word committing)))
   where
     go : (v : Bool) → v ≡ true → (not v || g.completed j.0) ≡ true → g.completed j.0 ≡ true
     go true i h = h
@@ -345,7 +400,7 @@ completed_word o up p g rs e h rules old j may m r word committing none =
 pub damaged_word : (o : Origin) (up : Option Addr) (p : ℕ) (g : Deeds) (rs : List LogRec) (e : Entry) (h : List Entry) → Rules o up p g rs e h → Accounts o p g rs h → (j : BranchKey) (may : TxEvent → Transaction → ℕ → Bool) (m : MayMark o.who e.event (prelude o.who (digest o h) e.event) may p j) (r : Report)
     → m.event ≡ TxEvent.Took p (DialogueRecord.Done r) → is_committing m.current.phase ≡ true → is_report_none r ≡ false → g.damaged j.0 ≡ true
 damaged_word o up p g rs e h rules old j may m r word committing some =
-    go (is_report_none r) some (and_right (g.committed j.0 && (not (is_report_none r) || g.completed j.0)) (is_report_none r || g.damaged j.0) (done_word o up p g rs e h rules old j may m r word committing))
+    go (is_report_none r) some (and_right (g.committed j.0 && (not (is_report_none r) || g.completed j.0)) (is_report_none r || g.damaged j.0) (done_front o up p g rs e h rules old j may m r word committing))
   where
     go : (v : Bool) → v ≡ false → (v || g.damaged j.0) ≡ true → g.damaged j.0 ≡ true
     go false i h = h

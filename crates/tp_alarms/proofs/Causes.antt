@@ -33,7 +33,8 @@ use Rattle.tp_steps.specs.Moves.{IsAsked, prelude}
 use Rattle.tp_steps.specs.Facts.{find_branch}
 use Rattle.tp_steps.specs.Trees.{out_tells}
 use Rattle.tp_histories.specs.Members.{IsOnce}
-use Rattle.tp_alarms.specs.Causes.{same_report, tells_committed, tells_rolled_back, is_awaited, hears, gives_up, is_met, has_met, has_heard, has_given_up, ReportsHaveCauses}
+use Rattle.tp_steps.specs.Clearing.{same_report}
+use Rattle.tp_alarms.specs.Causes.{tells_committed, tells_rolled_back, is_awaited, hears, gives_up, is_met, has_met, has_heard, has_given_up, ReportsHaveCauses}
 use Rattle.tp_steps.proofs.every.EveryEvent.{every_move}
 use Rattle.tp_steps.proofs.log.Owned.{key_aaid}
 use Rattle.tp_steps.proofs.words.HeardTurned.{seen_find}

@@ -1,5 +1,10 @@
-pub mod Answered
+pub mod Heard
 pub mod Alarms
 pub mod CausedTurns
 pub mod CausedMoves
 pub mod Causes
+pub mod Rollbacks
+pub mod VoicedTurns
+pub mod VoicedMoves
+pub mod Voiced
+pub mod Commitments

@@ -17,17 +17,7 @@ use Rattle.tp_model.specs.Outcomes.{decision}
 use Rattle.tp_model.specs.World.{World, Node}
 use Rattle.tp_model.specs.Promises.{IsIn, has_told_in}
 use Rattle.tp_steps.specs.Facts.{find_branch}
-
-abbrev pub same_report : Report → Report → Bool
-same_report Report.None Report.None = true
-same_report Report.None Report.Hazard = false
-same_report Report.None Report.Mix = false
-same_report Report.Hazard Report.None = false
-same_report Report.Hazard Report.Hazard = true
-same_report Report.Hazard Report.Mix = false
-same_report Report.Mix Report.None = false
-same_report Report.Mix Report.Hazard = false
-same_report Report.Mix Report.Mix = true
+use Rattle.tp_steps.specs.Clearing.{same_report}
 
 -- ---- what is told
 

@@ -1,4 +1,5 @@
-//! That no report is a false alarm at a node: a completion that tells mix or hazard has its cause there, or a branch told it.
+//! That no report is a false alarm: a completion that tells mix or hazard has its cause at the node, or a branch told it; and down the
+//! tree mix has behind it a decision of the other outcome, and hazard a branch that was given up.
 //!
 //! Each law is the contract of a function with an empty body.
 #![tactic(auto)]
@@ -6,6 +7,7 @@
 ghost use Rattle.std.specs.Prelude.{List};
 ghost use Rattle.tp_model.specs.Happenings.{Happening, run};
 ghost use Rattle.tp_alarms.specs.Alarms.{NoFalseAlarm};
+ghost use Rattle.tp_alarms.specs.Apart.{CommitmentsAreApart, RollbacksAreApart};
 ghost use Rattle.tp_alarms.specs.Causes.{ReportsHaveCauses};
 
 /// In every run, where a node's user was told that a commitment, or a rollback, is complete with mix, the node decided the
@@ -21,4 +23,18 @@ pub fn reports_have_causes()
 /// over their associations, or as replies after one was lost.
 pub fn no_report_is_a_false_alarm()
     ensures { (es : List Happening) → NoFalseAlarm (run es) }
+{}
+
+/// In every run, where a node's user was told that a rollback is complete with mix, a node of the tree, at that node or below it,
+/// decided by itself to commit. And no rollback is ever complete with hazard.
+pub fn a_rollback_tells_no_false_mix()
+    ensures { (es : List Happening) → RollbacksAreApart (run es) }
+{}
+
+/// In every run, where a node's user was told that a commitment is complete with mix, a node of the tree, at that node or below it,
+/// decided by itself to roll back; and with hazard, such a node gave up a branch while the tree was current: whether its branches'
+/// reports came over their associations, or as replies after one was lost, and also where a branch learned of its own branch's mix
+/// only after its user was told hazard.
+pub fn a_commitment_tells_mix_and_hazard_apart()
+    ensures { (es : List Happening) → CommitmentsAreApart (run es) }
 {}

@@ -11,7 +11,7 @@ use Rattle.tp_model.specs.Requests.{has_branch_at}
 use Rattle.tp_model.specs.Node.{is_end_deferred_at, seen_rows, seen, branches_of}
 use Rattle.tp_commit.specs.declared.row.Note.{Note}
 use Rattle.tp_commit.specs.Row.{noted, noted_at}
-use Rattle.tp_model.specs.AmongArcs.{are_distinct, is_peer, IsAmongArcs, IsAlike, IsCut, IsPutOff, is_named, AreNew}
+use Rattle.tp_model.specs.AmongArcs.{are_distinct, is_peer, IsAmongArcs, IsAlike, IsCut, IsPutOff, AreNew, is_child_at}
 use Rattle.tp_commit.proofs.Marks.{IsLater, IsMarked, has_row_at}
 use Rattle.tp_commit.proofs.Passages.{peer_of}
 
@@ -199,16 +199,16 @@ has_append : (ms ns : List ℕ) (q : ℕ) → has_number (ms ++ ns) q ≡ (has_n
 has_append [] ns q = refl
 has_append (m ∷ ms) ns q = grind (arith, has_append ms ns q)
 
-named_is : (cs : List Child) (q : ℕ) → has_number (numbers_of (fresh_rows cs)) q ≡ is_named cs q
+named_is : (cs : List Child) (q : ℕ) → has_number (numbers_of (fresh_rows cs)) q ≡ is_child_at cs q
 named_is [] q = refl
 named_is (x ∷ xs) q = ap (λ b. (x.addr.node == q) || b) (named_is xs q)
 
 -- what is known of each new branch
-new_is : (cs : List Child) (arcs : List Arc) (c : Current) (q : ℕ) → AreNew cs arcs c → is_named cs q ≡ true → (is_live_with_peer arcs q ≡ true) × (is_peer c q ≡ false)
+new_is : (cs : List Child) (arcs : List Arc) (c : Current) (q : ℕ) → AreNew cs arcs c → is_child_at cs q ≡ true → (is_live_with_peer arcs q ≡ true) × (is_peer c q ≡ false)
 new_is [] arcs c q new h = absurd cc
 new_is (x ∷ xs) arcs c q new h = go (x.addr.node == q) refl (new_is xs arcs c q new.4) h
   where
-    go : (b : Bool) → (x.addr.node == q) ≡ b → (is_named xs q ≡ true → (is_live_with_peer arcs q ≡ true) × (is_peer c q ≡ false)) → (b || is_named xs q) ≡ true → (is_live_with_peer arcs q ≡ true) × (is_peer c q ≡ false)
+    go : (b : Bool) → (x.addr.node == q) ≡ b → (is_child_at xs q ≡ true → (is_live_with_peer arcs q ≡ true) × (is_peer c q ≡ false)) → (b || is_child_at xs q) ≡ true → (is_live_with_peer arcs q ≡ true) × (is_peer c q ≡ false)
     go true i rest j =
         let same : x.addr.node ≡ q = grind (arith, nat_tests, i) in
         (sym (ap (is_live_with_peer arcs) same) ∙ new.0, sym (ap (is_peer c) same) ∙ new.2)
@@ -232,9 +232,9 @@ pub begun_among : (who : Who) (arcs : List Arc) (c : Current) (cs : List Child) 
     → let t : Transaction = seen who arcs c in let u : Transaction = record t { rows = t.rows ++ fresh_rows cs } in IsAmongArcs arcs (left_of u)
 begun_among who arcs c cs among calm new = record {
   current = among.current;
-  distinct = differ_is rows ∙ ap all_differ (append_numbers old (fresh_rows cs)) ∙ differ_append (numbers_of old) (numbers_of (fresh_rows cs)) old_differ (new_differ cs arcs c new) (λ q h. other q (old_has q ∙ h) (is_named cs q) refl);
-  apart = λ p h. has p ∙ ap (λ b. b || is_named cs p) (among.apart p h) ∙ unnamed p h (is_named cs p) refl;
-  put_off = λ p h off. put p off (is_named cs p) refl h;
+  distinct = differ_is rows ∙ ap all_differ (append_numbers old (fresh_rows cs)) ∙ differ_append (numbers_of old) (numbers_of (fresh_rows cs)) old_differ (new_differ cs arcs c new) (λ q h. other q (old_has q ∙ h) (is_child_at cs q) refl);
+  apart = λ p h. has p ∙ ap (λ b. b || is_child_at cs p) (among.apart p h) ∙ unnamed p h (is_child_at cs p) refl;
+  put_off = λ p h off. put p off (is_child_at cs p) refl h;
   forgotten = λ rolls p h. absurd (cc (rolls, calm));
 }
   where
@@ -250,7 +250,7 @@ begun_among who arcs c cs among calm new = record {
     old_differ : all_differ (numbers_of old) ≡ true
     old_differ = sym (differ_is old) ∙ ap are_distinct (branches_seen arcs c.branches) ∙ among.distinct
 
-    has : (q : ℕ) → has_branch_at (branches_of rows) q ≡ (has_branch_at c.branches q || is_named cs q)
+    has : (q : ℕ) → has_branch_at (branches_of rows) q ≡ (has_branch_at c.branches q || is_child_at cs q)
     has q =
         has_is rows q ∙ ap (λ ns. has_number ns q) (append_numbers old (fresh_rows cs)) ∙ has_append (numbers_of old) (numbers_of (fresh_rows cs)) q
         ∙ ap (λ b. b || has_number (numbers_of (fresh_rows cs)) q) (sym (old_has q)) ∙ ap (λ b. has_branch_at c.branches q || b) (named_is cs q)
@@ -263,15 +263,15 @@ begun_among who arcs c cs among calm new = record {
     or_left true b h = h
     or_left false b h = refl
 
-    other : (q : ℕ) → has_branch_at c.branches q ≡ true → (b : Bool) → is_named cs q ≡ b → has_number (numbers_of (fresh_rows cs)) q ≡ false
+    other : (q : ℕ) → has_branch_at c.branches q ≡ true → (b : Bool) → is_child_at cs q ≡ b → has_number (numbers_of (fresh_rows cs)) q ≡ false
     other q h true i = absurd (cc (h, or_right (is_under_at c.key q) (has_branch_at c.branches q) (new_is cs arcs c q new i).1))
     other q h false i = named_is cs q ∙ i
 
-    unnamed : (q : ℕ) → is_under_at c.key q ≡ true → (b : Bool) → is_named cs q ≡ b → is_named cs q ≡ false
+    unnamed : (q : ℕ) → is_under_at c.key q ≡ true → (b : Bool) → is_child_at cs q ≡ b → is_child_at cs q ≡ false
     unnamed q h true i = absurd (cc (h, or_left (is_under_at c.key q) (has_branch_at c.branches q) (new_is cs arcs c q new i).1))
     unnamed q h false i = i
 
-    put : (q : ℕ) → is_end_deferred_at arcs q ≡ true → (b : Bool) → is_named cs q ≡ b → is_peer (left_of (let u : Transaction = record (seen who arcs c) { rows = rows } in u)) q ≡ true → is_live_with_peer arcs q ≡ true
+    put : (q : ℕ) → is_end_deferred_at arcs q ≡ true → (b : Bool) → is_child_at cs q ≡ b → is_peer (left_of (let u : Transaction = record (seen who arcs c) { rows = rows } in u)) q ≡ true → is_live_with_peer arcs q ≡ true
     put q off true i h = (new_is cs arcs c q new i).0
     put q off false i h = among.put_off q (peer q i h) off
       where
@@ -279,5 +279,5 @@ begun_among who arcs c cs among calm new = record {
         or_none true = refl
         or_none false = refl
 
-        peer : (q : ℕ) → is_named cs q ≡ false → (is_under_at c.key q || has_branch_at (branches_of rows) q) ≡ true → is_peer c q ≡ true
+        peer : (q : ℕ) → is_child_at cs q ≡ false → (is_under_at c.key q || has_branch_at (branches_of rows) q) ≡ true → is_peer c q ≡ true
         peer q i h = ap (λ b. is_under_at c.key q || b) (sym (has q ∙ ap (λ b. has_branch_at c.branches q || b) i ∙ or_none (has_branch_at c.branches q))) ∙ h

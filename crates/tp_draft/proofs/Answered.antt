@@ -6,10 +6,11 @@ use Rattle.tp_model.specs.Parts.{Who, Digest, Event, Declare, Do, Arrive, Lose, 
 use Rattle.tp_model.specs.Dialogues.{first}
 use Rattle.tp_model.specs.Arrivals.{refused_arrival, break_off}
 use Rattle.tp_model.specs.Node.{Move}
-use Rattle.tp_model.specs.Events.{action, refusal, refused_plainly, unless_spent, unless_missing, needs_numbers, says_nothing, retry, is_no_node, is_breaking, is_24, has_pair, refused_for_numbers}
+use Rattle.tp_model.specs.Events.{action, refusal, refused_plainly, unless_spent, unless_missing, needs_numbers, says_nothing, retry, is_no_node, is_breaking, is_out_of_phase, has_pair, refused_for_numbers}
 use Rattle.tp_model.specs.History.{broken_by}
 use Rattle.tp_node.specs.declared.event.NodeEvent.{NodeEvent}
 use Rattle.tp_node.specs.NodeEvent.{Answer, Refuses, Happens, event_of, refused_at_once, breaks, answer_at}
+use Rattle.tp_model.specs.declared.refusal.Refusal.{Refusal}
 
 -- the answer by the number that refuses the event, and by whether it ends an association
 abbrev by_number : Option ℕ → Bool → Move → Move → Answer
@@ -47,7 +48,7 @@ arrives who d from r n b h is =
     ∙ ap (λ (x : Bool). if x then unless_spent (break_off who from r d) (Some n) else Some n) is
 
 breaks_so : (who : Who) (d : Digest) (from : Addr) (r : PeerRecord) (n : ℕ) → refused_arrival who d from r ≡ Some n → is_breaking who d (Arrive from r) ≡ (has_pair r && (n == 24))
-breaks_so who d from r n h = ap (λ (x : Option ℕ). has_pair r && is_24 x) h
+breaks_so who d from r n h = ap (λ (x : Option ℕ). has_pair r && is_out_of_phase x) h
 
 never : (n : ℕ) → ((n == 24) && false) ≡ false
 never n = grind arith
@@ -70,8 +71,8 @@ refused_whole who d (NodeEvent.Heur o) n h b = refuses who d (Heur o) n h (never
 refused_whole who d (NodeEvent.GiveUp p) n h b = refuses who d (GiveUp p) n (plainly n (refused_plainly who d (GiveUp p)) (action who d (GiveUp p)) h) (never n)
 refused_whole who d NodeEvent.Retry n h b = refuses who d Retry n (go (is_no_node d) refl h) (never n)
   where
-    go : (x : Bool) → is_no_node d ≡ x → unless_missing x None ≡ Some n → unless_missing (is_no_node d) (first ((says_nothing (retry who d).outs, 12) ∷ [])) ≡ Some n
-    go true i j = ap (λ (x : Bool). unless_missing x (first ((says_nothing (retry who d).outs, 12) ∷ []))) i ∙ j
+    go : (x : Bool) → is_no_node d ≡ x → unless_missing x None ≡ Some n → unless_missing (is_no_node d) (first ((says_nothing (retry who d).outs, Refusal.NothingOwed) ∷ [])) ≡ Some n
+    go true i j = ap (λ (x : Bool). unless_missing x (first ((says_nothing (retry who d).outs, Refusal.NothingOwed) ∷ []))) i ∙ j
     go false i j = absurd (cc (j))
 refused_whole who d NodeEvent.Purge n h b = refuses who d Purge n h (never n)
 

@@ -15,7 +15,9 @@ use Rattle.tp_model.specs.Links.{is_idle, is_opening_with, dropped_by}
 use Rattle.tp_model.specs.Arcs.{find_arc, link_from}
 use Rattle.tp_model.specs.Node.{Move, move, side_at}
 use Rattle.tp_model.specs.Arrivals.{refused_arrival, refused_on, is_bad_answer, do_arrival, take_accept, take_on}
-use Rattle.tp_node.specs.Arcs.{fits_link}
+use Rattle.tp_node_parts.specs.Arcs.{fits_link}
+use Rattle.tp_model.specs.declared.refusal.Refusal.{Refusal}
+use Rattle.tp_model.specs.Refusal.{number_of}
 
 pub open_declared : (who : Who) (d : Digest) (from : Addr) (x : Mark) (u : ℕ) → refused_arrival who d from (PeerRecord.OpenAssoc x u) ≡ None → d.declared ≡ true
 unfolding refused_arrival
@@ -42,8 +44,8 @@ unfolding refused_arrival
 open_alone who d from x u a side ok found fits = not_idle side a.link fits (grind (arith, common_steps, ok, found))
 
 -- the first test of a list is not met
-first_off : (x : Bool) (n : ℕ) (ts : List (Bool × ℕ)) → first ((x, n) ∷ ts) ≡ None → (x ≡ false) × (first ts ≡ None)
-first_off true n ts h = absurd (let clash : Some n ≡ None = h in cc)
+first_off : (x : Bool) (n : Refusal) (ts : List (Bool × Refusal)) → first ((x, n) ∷ ts) ≡ None → (x ≡ false) × (first ts ≡ None)
+first_off true n ts h = absurd (let clash : Some (number_of n) ≡ None = h in cc)
 first_off false n ts h = (refl, h)
 
 not_not : (x : Bool) → not x ≡ false → x ≡ true
@@ -63,8 +65,8 @@ from_opening d from x a opens found = go (is_addr a.peer from) refl
 pub accept_opening : (who : Who) (d : Digest) (from : Addr) (x y : Mark) (u : ℕ) (a : Arc) → refused_arrival who d from (PeerRecord.AcceptAssoc x y u) ≡ None → find_arc d.arcs from.node ≡ Some a → is_opening_with a.link x ≡ true
 unfolding refused_arrival
 accept_opening who d from x y u a ok found =
-    let rest = (first_off (not d.declared) 23 ((not (is_opening_with (link_from d.arcs from) x), 21) ∷ (is_bad_answer d from u, 24) ∷ []) ok).1 in
-    from_opening d from x a (not_not (is_opening_with (link_from d.arcs from) x) (first_off (not (is_opening_with (link_from d.arcs from) x)) 21 ((is_bad_answer d from u, 24) ∷ []) rest).0) found
+    let rest = (first_off (not d.declared) Refusal.WrongSite ((not (is_opening_with (link_from d.arcs from) x), Refusal.OldAssociation) ∷ (is_bad_answer d from u, Refusal.OutOfPhase) ∷ []) ok).1 in
+    from_opening d from x a (not_not (is_opening_with (link_from d.arcs from) x) (first_off (not (is_opening_with (link_from d.arcs from) x)) Refusal.OldAssociation ((is_bad_answer d from u, Refusal.OutOfPhase) ∷ []) rest).0) found
 
 pub accept_there : (who : Who) (d : Digest) (from : Addr) (x y : Mark) (u : ℕ) (a : Arc) → find_arc d.arcs from.node ≡ Some a → do_arrival who from (PeerRecord.AcceptAssoc x y u) d ≡ take_accept who a x y u d
 accept_there who d from x y u a found = ap (λ (o : Option Arc). elim o as (λ _. Move) [ None ↦ move [] d | Some b ↦ take_accept who b x y u d ]) found

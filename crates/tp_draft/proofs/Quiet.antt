@@ -22,6 +22,7 @@ use Rattle.tp_model.specs.Node.{Move, move, followed, Passage, passage, Stays, p
 use Rattle.tp_model.specs.Events.{action, refusal, retry, retry_each, purge, needs_numbers, some_past_numbers, says_nothing, is_no_node, refused_plainly, unless_missing, unless_spent, is_breaking}
 use Rattle.tp_node.specs.declared.event.NodeEvent.{NodeEvent}
 use Rattle.tp_node.specs.NodeEvent.{event_of, refused_at_once, is_retry}
+use Rattle.tp_model.specs.declared.refusal.Refusal.{Refusal}
 
 -- ---- what goes out is an indication, or a record outside every association
 
@@ -193,11 +194,11 @@ refusal_tried who d (NodeEvent.Arrive from r) h n = arriving (refused_plainly wh
 refusal_tried who d (NodeEvent.Lose p) h n = plainly (refused_plainly who d (Lose p)) (action who d (Lose p)) n
 refusal_tried who d (NodeEvent.Heur o) h n = n ∙ sym (quietly None (action who d (Heur o)) (heur_quiet who o d h))
 refusal_tried who d (NodeEvent.GiveUp p) h n = plainly (refused_plainly who d (GiveUp p)) (action who d (GiveUp p)) n
-refusal_tried who d NodeEvent.Retry h n = go (is_no_node d) n refl ∙ sym (quietly (first ((says_nothing (retry who d).outs, 12) ∷ [])) (action who d Retry) (retry_quiet who d h))
+refusal_tried who d NodeEvent.Retry h n = go (is_no_node d) n refl ∙ sym (quietly (first ((says_nothing (retry who d).outs, Refusal.NothingOwed) ∷ [])) (action who d Retry) (retry_quiet who d h))
   where
-    go : (b : Bool) → unless_missing b None ≡ None → is_no_node d ≡ b → unless_missing (is_no_node d) (first ((says_nothing (retry who d).outs, 12) ∷ [])) ≡ first ((says_nothing (retry who d).outs, 12) ∷ [])
+    go : (b : Bool) → unless_missing b None ≡ None → is_no_node d ≡ b → unless_missing (is_no_node d) (first ((says_nothing (retry who d).outs, Refusal.NothingOwed) ∷ [])) ≡ first ((says_nothing (retry who d).outs, Refusal.NothingOwed) ∷ [])
     go true i j = absurd (cc (i))
-    go false i j = ap (λ (b : Bool). unless_missing b (first ((says_nothing (retry who d).outs, 12) ∷ []))) j
+    go false i j = ap (λ (b : Bool). unless_missing b (first ((says_nothing (retry who d).outs, Refusal.NothingOwed) ∷ []))) j
 refusal_tried who d NodeEvent.Purge h n = n ∙ sym (quietly None (action who d Purge) (purge_quiet d h))
 
 pub refused_spent : (who : Who) (d : Digest) (e : NodeEvent) → d.drawn ≤ greatest → refused_at_once who d e ≡ None → needs_numbers (action who d (event_of e)) ≡ true → refusal who d (event_of e) ≡ Some 17

@@ -10,9 +10,11 @@ use Rattle.tp_model.specs.declared.arc.Side.{Side}
 use Rattle.tp_model.specs.Parts.{Who, Arc, Digest}
 use Rattle.tp_model.specs.Arcs.{find_arc}
 use Rattle.tp_model.specs.Node.{side_at, has_asked}
-use Rattle.tp_model.specs.Requests.{refused_request, is_some_bit, room, count_below, count_gone, count_subordinates}
+use Rattle.tp_model.specs.Requests.{refused_request, room, count_below, count_gone, count_subordinates}
+use Rattle.std.specs.Prelude.{is_some}
 use Rattle.tp_model.specs.Dialogues.{first}
 use Rattle.tp_node.specs.Node.{has_place_at}
+use Rattle.tp_model.specs.declared.refusal.Refusal.{Refusal}
 
 pub call_other : (who : Who) (d : Digest) (a : Addr) (u : ℕ) → refused_request who d (Request.BeginDialogue a u) ≡ None → find_arc d.arcs a.node ≡ None
 unfolding refused_request
@@ -28,12 +30,12 @@ call_side who d a u ok = grind (arith, common_steps, ok)
 
 pub call_place : (who : Who) (d : Digest) (a : Addr) (u : ℕ) → refused_request who d (Request.BeginDialogue a u) ≡ None → has_place_at Side.Superior d ≡ true
 unfolding refused_request
-call_place who d a u ok = below (count_below d d.arcs) (elim d.current as (λ _. ℕ) [ None ↦ 0 | Some c ↦ count_gone d.arcs c.branches ]) (room d.version) (last _ (is_some_bit (bad_bit u)) (has_asked d) (nat_le (room d.version) (count_subordinates d)) ok)
+call_place who d a u ok = below (count_below d d.arcs) (elim d.current as (λ _. ℕ) [ None ↦ 0 | Some c ↦ count_gone d.arcs c.branches ]) (room d.version) (last _ (is_some (bad_bit u)) (has_asked d) (nat_le (room d.version) (count_subordinates d)) ok)
   where
     below : (m n k : ℕ) → nat_le k (m + n) ≡ false → nat_lt m k ≡ true
     below m n k h = grind (arith, nat_tests, h)
 
-    last : (x y z w : Bool) → first ((x, 2) ∷ (y, 4) ∷ (z, 9) ∷ (w, 13) ∷ []) ≡ None → w ≡ false
+    last : (x y z w : Bool) → first ((x, Refusal.WrongPhase) ∷ (y, Refusal.UnitAbsent) ∷ (z, Refusal.AlreadyAsked) ∷ (w, Refusal.TooMany) ∷ []) ≡ None → w ≡ false
     last true y z w h = absurd (let clash : Some 2 ≡ None = h in cc)
     last false true z w h = absurd (let clash : Some 4 ≡ None = h in cc)
     last false false true w h = absurd (let clash : Some 9 ≡ None = h in cc)

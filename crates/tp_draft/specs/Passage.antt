@@ -9,8 +9,8 @@ use Rattle.tp_model.specs.declared.transaction.TxEvent.{TxEvent}
 use Rattle.tp_model.specs.Transactions.{Transaction, transacted, step_of}
 use Rattle.tp_model.specs.Recovery.{kept_after}
 use Rattle.tp_model.specs.Node.{Move, move, followed, perform, remaining, entered, played, committed_arcs, grants, is_commit_complete, is_leaving, passage, Passage as PassageValue}
-use Rattle.tp_node.specs.declared.arc_step.ArcStep.{ArcStep}
-use Rattle.tp_node.specs.ArcStep.{stepped_arcs}
+use Rattle.tp_node_parts.specs.declared.arc_step.ArcStep.{ArcStep}
+use Rattle.tp_node_parts.specs.ArcStep.{stepped_arcs}
 
 -- ---- a turn, of the transaction t
 

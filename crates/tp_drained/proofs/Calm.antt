@@ -26,6 +26,7 @@ use Rattle.tp_model.specs.Questions.{logs_ready_or_commit}
 use Rattle.tp_model.specs.Dialogues.{is_nil, is_active, is_ready, is_rolling, Sight, Acts, Nothing_happens, Out_of_phase}
 use Rattle.tp_model.specs.Transactions.{Row, Transaction, Turn, turn, and_then, before, aaid_of, is_under, is_under_at, reports_of, own_damage, log_end, log_damage, owed_of, forgets, done_up, ends_down, end_up, find_row, find_row_by_id, with_row, all_settled, all_done, all_rolled_back, carry_up, complete_commit, complete_rollback, begin_rolling, roll, order, settle, ask_commit, leave, count_branch, end_branch, branch_left, complete, superior_rolls, takes_left, takes, by_user, ask_each, retried, replied, is_open_in_commit, tell_report, sight_of_tx, transacted}
 use Rattle.tp_steps.specs.Turns.{vote, row_dead}
+use Rattle.tp_model.specs.Transactions.{row_holds, is_waited_for, with_arc_lost, lost_arc}
 use Rattle.tp_steps.specs.Facts.{spoken, stays}
 use Rattle.tp_steps.specs.Passages.{asks_tell}
 use Rattle.tp_steps.specs.Clearing.{is_complete_none}
@@ -47,6 +48,29 @@ is_calm (TxEvent.GiveUp p) = false
 is_calm TxEvent.Ordered = true
 is_calm (TxEvent.Reply b s) = true
 is_calm TxEvent.Retry = true
+
+-- it is no failure, or one of a dialogue with another peer that is not the superior
+abbrev pub spares : TxEvent → Key → ℕ → Bool
+spares (TxEvent.Took q DialogueRecord.UAbort) k p = not (q == p) && not (is_under_at k q)
+spares (TxEvent.Lost q) k p = not (q == p) && not (is_under_at k q)
+spares e k p = is_calm e
+
+pub calm_spares : (e : TxEvent) (k : Key) (p : ℕ) → is_calm e ≡ true → spares e k p ≡ true
+calm_spares (TxEvent.Took q DialogueRecord.UAbort) k p h = absurd (cc (h))
+calm_spares (TxEvent.Took q r) k p h = h
+calm_spares (TxEvent.Lost q) k p h = absurd (cc (h))
+calm_spares e k p h = h
+
+-- the node decides, or gives a branch up
+abbrev pub is_given : TxEvent → Bool
+is_given (TxEvent.Heur o) = true
+is_given (TxEvent.GiveUp p) = true
+is_given _ = false
+
+pub calm_not_given : (e : TxEvent) → is_calm e ≡ true → is_given e ≡ false
+calm_not_given (TxEvent.Heur o) h = absurd (cc (h))
+calm_not_given (TxEvent.GiveUp p) h = absurd (cc (h))
+calm_not_given e h = refl
 
 -- the peer leaves, and its arc ends with that
 abbrev pub leaves_with_end : TxEvent → ℕ → Bool
@@ -349,8 +373,40 @@ dead_other p q s other =
     same : find_row (with_row s q row_dead).rows p ≡ find_row s.rows p
     same = row_with s q row_dead p (λ r. refl) ∙ rw other refl
 
-keeps_take : (p q : ℕ) (s : Transaction) (r : DialogueRecord) → is_calm (TxEvent.Took q r) ≡ true → leaves_with_end (TxEvent.Took q r) p ≡ false → is_nil s.phase ≡ false → IsKeeping p s (takes q r s)
-keeps_take p q s DialogueRecord.UAbort calm off late = absurd (cc (calm))
+-- an arc of another peer goes
+dead_arc : (p q : ℕ) (s : Transaction) → (q == p) ≡ false → IsKeeping p s (turn [] (with_row s q row_dead))
+dead_arc p q s other =
+    keeps_quiet p s (turn [] (with_row s q row_dead)) (λ n. ap is_nil (row_phase s q row_dead) ∙ n) (λ n. refl) (row_up s q row_dead) (ap live_row same) (row_key s q row_dead) (λ l. absurd (cc (l))) refl
+  where
+    same : find_row (with_row s q row_dead).rows p ≡ find_row s.rows p
+    same = row_with s q row_dead p (λ r. refl) ∙ rw other refl
+
+keeps_lost : (p q : ℕ) (s : Transaction) → (not (q == p) && not (is_under_at s.key q)) ≡ true → is_nil s.phase ≡ false → IsKeeping p s (lost_arc q s)
+unfolding lost_arc
+keeps_lost p q s spared late = subst (λ (u : Transaction). IsKeeping p s (after u)) (sym same) (go (is_active s.phase && (is_under_at s.key q || row_holds s.rows q is_waited_for)) (is_rolling s.phase))
+  where
+    other : (q == p) ≡ false
+    other = grind (arith, spared)
+
+    off : is_under_at s.key q ≡ false
+    off = grind (arith, spared)
+
+    g : Transaction
+    g = with_row s q row_dead
+
+    after : Transaction → Turn
+    after u = if is_active s.phase && (is_under_at s.key q || row_holds s.rows q is_waited_for) then roll false u else if is_rolling s.phase then complete_rollback u else turn [] u
+
+    same : with_arc_lost s q ≡ g
+    same = rw off refl
+
+    go : (a b : Bool) → IsKeeping p s (if a then roll false g else if b then complete_rollback g else turn [] g)
+    go true b = keeps_first p s g [] (roll false g) (dead_arc p q s other) (keeps_roll p false g (ap is_nil (row_phase s q row_dead) ∙ late))
+    go false true = keeps_first p s g [] (complete_rollback g) (dead_arc p q s other) (keeps_rollback p g)
+    go false false = dead_arc p q s other
+
+keeps_take : (p q : ℕ) (s : Transaction) (r : DialogueRecord) → spares (TxEvent.Took q r) s.key p ≡ true → leaves_with_end (TxEvent.Took q r) p ≡ false → is_nil s.phase ≡ false → IsKeeping p s (takes q r s)
+keeps_take p q s DialogueRecord.UAbort calm off late = keeps_first p s s (TxOut.Tell (Indication.UAbort q) ∷ []) (lost_arc q s) (keeps_still p s (TxOut.Tell (Indication.UAbort q) ∷ []) refl refl) (keeps_lost p q s calm late)
 keeps_take p q s DialogueRecord.DeferEnd calm off late = keeps_quiet p s (takes q DialogueRecord.DeferEnd s) (λ n. n) (λ n. refl) refl refl refl (λ l. absurd (cc (l))) refl
 keeps_take p q s DialogueRecord.DeferGrant calm off late = keeps_still p s (TxOut.Tell (Indication.DeferGrant q) ∷ []) refl refl
 keeps_take p q s DialogueRecord.Prepare calm off late = keeps_quiet p s (takes q DialogueRecord.Prepare s) (λ n. n) (λ n. refl) refl refl refl (λ l. absurd (cc (l))) refl
@@ -397,7 +453,7 @@ ask_stays a p (r ∷ rows) = grind (arith, ask_stays a p rows)
 retried_stays : (p : ℕ) (t : Transaction) → stays true p (retried t) ≡ true
 retried_stays p t = grind (arith, ask_stays)
 
-pub keeps_event : (e : TxEvent) (p : ℕ) (s : Transaction) → is_calm e ≡ true → leaves_with_end e p ≡ false → is_nil s.phase ≡ false → IsKeeping p s (transacted e s)
+pub keeps_event : (e : TxEvent) (p : ℕ) (s : Transaction) → spares e s.key p ≡ true → leaves_with_end e p ≡ false → is_nil s.phase ≡ false → IsKeeping p s (transacted e s)
 keeps_event (TxEvent.User r) p s calm off late = keeps_user p s r calm late
 keeps_event (TxEvent.Took q r) p s calm off late = go (sight_of_tx s q r)
   where
@@ -405,6 +461,7 @@ keeps_event (TxEvent.Took q r) p s calm off late = go (sight_of_tx s q r)
     go Acts = keeps_take p q s r calm off late
     go Nothing_happens = keeps_still p s [] refl refl
     go Out_of_phase = keeps_still p s [] refl refl
+keeps_event (TxEvent.Lost q) p s calm off late = keeps_first p s s (TxOut.Tell (Indication.PAbort q) ∷ []) (lost_arc q s) (keeps_still p s (TxOut.Tell (Indication.PAbort q) ∷ []) refl refl) (keeps_lost p q s calm late)
 keeps_event TxEvent.Ordered p s calm off late = keeps_order p s late
 keeps_event (TxEvent.Reply b r) p s calm off late = keeps_reply p s b r late
 keeps_event TxEvent.Retry p s calm off late = keeps_still p s (retried s) (retried_stays p s) (retried_untold is_complete_none refl s)

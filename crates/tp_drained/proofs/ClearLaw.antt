@@ -1,4 +1,5 @@
--- In every legal history without a failure a commitment whose branches reported nothing is complete with no report.
+-- In every legal history, where nothing failed while the tree was current, a commitment whose branches reported nothing is complete
+-- with no report.
 use Rattle.std.proofs.Common.{◌≡◌, ◌⊎◌, inl, inr, ℕ, Bool, true, false, refl, ap, sym, subst, ◌∙◌, arith, Option, Some, None, List, [], ◌∷◌, ◌++◌, ◌&&◌, ◌||◌, not}
 use Rattle.tp_names.specs.declared.identifiers.Addr.{Addr}
 use Rattle.tp_names.specs.declared.identifiers.Aaid.{Aaid}
@@ -15,19 +16,21 @@ use Rattle.tp_records.specs.declared.peer.RecState.{RecState}
 use Rattle.tp_model.specs.declared.transaction.TxEvent.{TxEvent}
 use Rattle.tp_model.specs.Parts.{Who, Origin, Event, Out, Entry, Arc, Key, Under, Branch, Current, Digest}
 use Rattle.tp_model.specs.Dialogues.{is_nil, is_rolling}
-use Rattle.tp_model.specs.Transactions.{Row, Transaction, Turn, aaid_of, is_decided, fresh_rows, transacted}
+use Rattle.tp_model.specs.Transactions.{Row, Transaction, Turn, aaid_of, fresh_rows, transacted}
+use Rattle.std.specs.Prelude.{is_some}
 use Rattle.tp_model.specs.Recovery.{settled}
 use Rattle.tp_model.specs.Node.{Move, move, followed, perform, next_mark, seen_rows, seen, branches_of, remaining, passage, is_leaving, entered, begin_on, fresh_current, turned, keep}
 use Rattle.tp_model.specs.Events.{action}
 use Rattle.tp_model.specs.History.{digest}
 use Rattle.tp_model.specs.Outcomes.{is_now, is_failure, tells_complete_none, completed_none}
-use Rattle.tp_model.specs.Promises.{completes, has_told_in}
+use Rattle.tp_model.specs.Promises.{has_told_in}
+use Rattle.tp_model.specs.Questions.{tells_commit_complete}
 use Rattle.tp_steps.specs.Turns.{is_outcome_told}
 use Rattle.tp_steps.specs.Moves.{Moves, IsAsked, IsPut, prelude}
 use Rattle.tp_steps.specs.Trees.{out_tells}
 use Rattle.tp_steps.specs.Passages.{asks_tell, IsPassed}
 use Rattle.tp_steps.specs.Clearing.{is_complete_none}
-use Rattle.tp_drained.specs.Drained.{IsUnfailed, is_clear_event, took_clear, ClearReport}
+use Rattle.tp_drained.specs.Drained.{touches, IsUnfailed, is_clear_event, took_clear, ClearReport}
 use Rattle.tp_steps.proofs.every.EveryEvent.{every_move}
 use Rattle.tp_steps.proofs.lemmas.Equality.{aaids_equal, or_case, and_left, and_right}
 use Rattle.tp_agreement.proofs.Accounts.{asked_took}
@@ -39,9 +42,9 @@ use Rattle.tp_steps.proofs.log.Passed.{passed_turn}
 use Rattle.tp_steps.proofs.log.Sound.{left_is, left_branches}
 use Rattle.tp_histories.proofs.upward.SpeaksUp.{complete_tells}
 use Rattle.tp_steps.proofs.links.Told.{told_append, told_performed, told_played}
-use Rattle.tp_drained.proofs.Calm.{is_calm}
+use Rattle.tp_drained.proofs.Calm.{is_given}
 use Rattle.tp_drained.proofs.LiveEvents.{quiet_begin, spoken_quiet}
-use Rattle.tp_drained.proofs.LiveLaw.{unfailed_before}
+use Rattle.tp_drained.proofs.LiveLaw.{unfailed_before, mild_entry, no_crash, recovered_now}
 use Rattle.tp_drained.proofs.Said.{out_weaker}
 use Rattle.tp_drained.proofs.ClearTurns.{is_complete, brings_none, is_clear_branch, clear_rows, is_clear, clears}
 use Rattle.tp_steps.proofs.every.BeginCases.{begin_cases}
@@ -54,7 +57,7 @@ clear_branches [] = true
 clear_branches (b ∷ bs) = is_clear_branch b && clear_branches bs
 
 abbrev clear_at : Current → Bool
-clear_at c = is_rolling c.phase || is_nil c.phase || (not (is_decided c.decision) && clear_branches c.branches)
+clear_at c = is_rolling c.phase || is_nil c.phase || (not (is_some c.decision) && clear_branches c.branches)
 
 -- of the tree
 abbrev pub IsClearIn : Aaid → Option Current → Type 0
@@ -73,13 +76,13 @@ rows_more [] n = refl
 rows_more (r ∷ rs) n = ap (λ v. is_clear_branch r.branch && v) (rows_more rs n)
 
 clear_seen : (who : Who) (arcs : List Arc) (c : Current) → is_clear (seen who arcs c) ≡ clear_at c
-clear_seen who arcs c = ap (λ v. is_rolling c.phase || is_nil c.phase || (not (is_decided c.decision) && v)) (rows_seen arcs c.branches)
+clear_seen who arcs c = ap (λ v. is_rolling c.phase || is_nil c.phase || (not (is_some c.decision) && v)) (rows_seen arcs c.branches)
 
 clear_left : (t : Transaction) (u : Current) → remaining t ≡ Some u → is_clear t ≡ true → clear_at u ≡ true
 clear_left t u is h =
     let left = left_is t u is in
     let rows : clear_branches u.branches ≡ clear_rows t.rows = ap clear_branches (left_branches t u is) ∙ rows_left t.rows in
-    made (is_rolling u.phase) (is_nil u.phase) (is_decided u.decision) (clear_branches u.branches) (is_rolling t.phase) (is_nil t.phase) (is_decided t.decision) (clear_rows t.rows) (ap is_rolling left.1) (ap is_nil left.1) (ap is_decided left.2) rows h
+    made (is_rolling u.phase) (is_nil u.phase) (is_some u.decision) (clear_branches u.branches) (is_rolling t.phase) (is_nil t.phase) (is_some t.decision) (clear_rows t.rows) (ap is_rolling left.1) (ap is_nil left.1) (ap is_some left.2) rows h
   where
     made : (a b c d x y z w : Bool) → a ≡ x → b ≡ y → c ≡ z → d ≡ w → (x || y || (not z && w)) ≡ true → (a || b || (not c && d)) ≡ true
     made a b c d x y z w i j k l h = rw (i, j, k, l) h
@@ -119,7 +122,7 @@ clear_then t s d a f one two = record {
 
 -- what a transaction of the tree is asked brings no report
 abbrev pub BringsNone : Who → Aaid → Event → Digest → Type 0
-BringsNone who t e s = (c : Current) (f : TxEvent) (arcs : List Arc) → s.current ≡ Some c → is_aaid t (aaid_of c.key) ≡ true → IsAsked e c f → (is_calm f ≡ true) × (brings_none f (seen who arcs c) ≡ true)
+BringsNone who t e s = (c : Current) (f : TxEvent) (arcs : List Arc) → s.current ≡ Some c → is_aaid t (aaid_of c.key) ≡ true → IsAsked e c f → (is_given f ≡ false) × (brings_none f (seen who arcs c) ≡ true)
 
 clear_turned : (t : Aaid) (who : Who) (e : Event) (s d : Digest) (c : Current) (f : TxEvent) → BringsNone who t e s → d.current ≡ Some c → s.current ≡ Some c → IsAsked e c f → IsPut f (seen who d.arcs c) → IsClearMove t s d (turned who f d c)
 clear_turned t who e s d c f brings now at asked put = record {
@@ -149,7 +152,7 @@ begun_clear t who arcs c n k u is tree =
     let next : Transaction = (transacted (TxEvent.Begun (n ∷ [])) (seen who arcs c)).next in
     let key : u.key ≡ c.key = (left_is next u is).0 in
     let old : is_clear (seen who arcs c) ≡ true = clear_seen who arcs c ∙ k c refl (ap (is_aaid t) (ap aaid_of (sym key)) ∙ tree) in
-    clear_left next u is (ap (λ v. is_rolling c.phase || is_nil c.phase || (not (is_decided c.decision) && v)) (rows_more (seen_rows arcs c.branches) n) ∙ old)
+    clear_left next u is (ap (λ v. is_rolling c.phase || is_nil c.phase || (not (is_some c.decision) && v)) (rows_more (seen_rows arcs c.branches) n) ∙ old)
 
 clear_begin : (t : Aaid) (who : Who) (q : ℕ) (d : Digest) → IsClearIn t d.current → IsClearIn t (begin_on who q d).next.current
 clear_begin t who q d old = begin_cases (λ (m : Move). IsClearIn t m.next.current) who q d old (λ c a i found may. begun_clear t who d.arcs c (record { addr = a.peer; branch = record { superior = who.site; mark = next_mark who d } }) (subst (IsClearIn t) i old))
@@ -173,43 +176,53 @@ clear_moves t who e s brings = record {
 
 -- ---- the event of an entry
 
-calm_request : (r : Request) (c : Current) (f : TxEvent) → is_failure (Event.Do r) ≡ false → IsAsked (Event.Do r) c f → is_calm f ≡ true
-calm_request (Request.UAbort p) c f calm asked = absurd (cc (calm))
-calm_request Request.Rollback c f calm asked = absurd (cc (calm))
-calm_request (Request.DeferEnd p) c f calm asked = rw asked refl
-calm_request (Request.DeferGrant p) c f calm asked = rw asked refl
-calm_request (Request.Prepare p) c f calm asked = rw asked refl
-calm_request Request.Commit c f calm asked = rw asked refl
-calm_request Request.Done c f calm asked = rw asked refl
-calm_request Request.Unchanged c f calm asked = rw asked refl
-calm_request r c f calm asked = absurd asked
+-- the node decides, or gives a branch up
+abbrev pub is_given_event : Event → Bool
+is_given_event (Event.Heur o) = true
+is_given_event (Event.GiveUp p) = true
+is_given_event _ = false
 
-calm_record : (from : Addr) (r : PeerRecord) (c : Current) (f : TxEvent) → is_failure (Event.Arrive from r) ≡ false → IsAsked (Event.Arrive from r) c f → is_calm f ≡ true
-calm_record from (PeerRecord.OpenAssoc x u) c f calm asked = absurd asked
-calm_record from (PeerRecord.AcceptAssoc x y u) c f calm asked = absurd asked
-calm_record from (PeerRecord.ShutAssoc x None) c f calm asked = absurd asked
-calm_record from (PeerRecord.ShutAssoc x (Some y)) c f calm asked = absurd (cc (calm))
-calm_record from (PeerRecord.OnAssoc x y q DialogueRecord.UAbort) c f calm asked = absurd (cc (calm))
-calm_record from (PeerRecord.OnAssoc x y q r) c f calm asked = rw asked refl
-calm_record from (PeerRecord.RecReady u b) c f calm asked = absurd asked
-calm_record from (PeerRecord.RecCommit u b) c f calm asked = rw (asked.0) refl
-calm_record from (PeerRecord.RecReply u b RecState.Commit) c f calm asked = rw (asked.0) refl
-calm_record from (PeerRecord.RecReply u b (RecState.Done r)) c f calm asked = rw (asked.0) refl
-calm_record from (PeerRecord.RecReply u b RecState.Unknown) c f calm asked = rw (asked.0) refl
-calm_record from (PeerRecord.RecReply u b RecState.RetryLater) c f calm asked = rw (asked.0) refl
-calm_record from (PeerRecord.Forget u b) c f calm asked = absurd asked
+bare_request : (r : Request) (c : Current) (f : TxEvent) → IsAsked (Event.Do r) c f → is_given f ≡ false
+bare_request (Request.UAbort p) c f asked = rw (asked.0) refl
+bare_request Request.Rollback c f asked = rw asked refl
+bare_request (Request.DeferEnd p) c f asked = rw asked refl
+bare_request (Request.DeferGrant p) c f asked = rw asked refl
+bare_request (Request.Prepare p) c f asked = rw asked refl
+bare_request Request.Commit c f asked = rw asked refl
+bare_request Request.Done c f asked = rw asked refl
+bare_request Request.Unchanged c f asked = rw asked refl
+bare_request r c f asked = absurd asked
 
-pub calm_event : (e : Event) (c : Current) (f : TxEvent) → is_failure e ≡ false → IsAsked e c f → is_calm f ≡ true
-calm_event (Event.Declare s) c f calm asked = absurd asked
-calm_event (Event.Do r) c f calm asked = calm_request r c f calm asked
-calm_event (Event.Arrive from r) c f calm asked = calm_record from r c f calm asked
-calm_event (Event.Break from r) c f calm asked = absurd (cc (calm))
-calm_event (Event.Lose p) c f calm asked = absurd (cc (calm))
-calm_event (Event.Heur o) c f calm asked = absurd (cc (calm))
-calm_event (Event.GiveUp p) c f calm asked = absurd (cc (calm))
-calm_event Event.Retry c f calm asked = rw asked refl
-calm_event Event.Purge c f calm asked = absurd asked
-calm_event Event.Crash c f calm asked = absurd asked
+bare_record : (from : Addr) (r : PeerRecord) (c : Current) (f : TxEvent) → IsAsked (Event.Arrive from r) c f → is_given f ≡ false
+bare_record from (PeerRecord.OpenAssoc x u) c f asked = absurd asked
+bare_record from (PeerRecord.AcceptAssoc x y u) c f asked = absurd asked
+bare_record from (PeerRecord.ShutAssoc x None) c f asked = absurd asked
+bare_record from (PeerRecord.ShutAssoc x (Some y)) c f asked = rw asked refl
+bare_record from (PeerRecord.OnAssoc x y q r) c f asked = rw asked refl
+bare_record from (PeerRecord.RecReady u b) c f asked = absurd asked
+bare_record from (PeerRecord.RecCommit u b) c f asked = rw (asked.0) refl
+bare_record from (PeerRecord.RecReply u b RecState.Commit) c f asked = rw (asked.0) refl
+bare_record from (PeerRecord.RecReply u b (RecState.Done r)) c f asked = rw (asked.0) refl
+bare_record from (PeerRecord.RecReply u b RecState.Unknown) c f asked = rw (asked.0) refl
+bare_record from (PeerRecord.RecReply u b RecState.RetryLater) c f asked = rw (asked.0) refl
+bare_record from (PeerRecord.Forget u b) c f asked = absurd asked
+
+pub bare_event : (e : Event) (c : Current) (f : TxEvent) → is_given_event e ≡ false → IsAsked e c f → is_given f ≡ false
+bare_event (Event.Declare s) c f bare asked = absurd asked
+bare_event (Event.Do r) c f bare asked = bare_request r c f asked
+bare_event (Event.Arrive from r) c f bare asked = bare_record from r c f asked
+bare_event (Event.Break from r) c f bare asked = rw asked refl
+bare_event (Event.Lose p) c f bare asked = rw asked refl
+bare_event (Event.Heur o) c f bare asked = absurd (cc (bare))
+bare_event (Event.GiveUp p) c f bare asked = absurd (cc (bare))
+bare_event Event.Retry c f bare asked = rw asked refl
+bare_event Event.Purge c f bare asked = absurd asked
+bare_event Event.Crash c f bare asked = absurd asked
+
+given_fails : (c : Current) (e : Event) → (is_failure e && touches c e) ≡ false → is_given_event e ≡ false
+given_fails c (Event.Heur o) h = absurd (cc (h))
+given_fails c (Event.GiveUp p) h = absurd (cc (h))
+given_fails c e h = refl
 
 -- what can bring a report: a branch's Done, or its reply
 pub data Brings (f : TxEvent) : Type 0 where
@@ -240,7 +253,7 @@ abbrev pub AreClear : Aaid → Origin → List Entry → Type 0
 AreClear t o [] = Unit {0}
 AreClear t o (e ∷ h) = BringsNone o.who t e.event (prelude o.who (digest o h) e.event) × AreClear t o h
 
-entry_moves : (o : Origin) (up : Option Addr) (e : Entry) (h : List Entry) (t : Aaid) → IsUnfailed o up (e ∷ h) → BringsNone o.who t e.event (prelude o.who (digest o h) e.event) → IsClearMove t (prelude o.who (digest o h) e.event) (prelude o.who (digest o h) e.event) (action o.who (digest o h) e.event)
+entry_moves : (o : Origin) (up : Option Addr) (e : Entry) (h : List Entry) (t : Aaid) → IsUnfailed t o up (e ∷ h) → BringsNone o.who t e.event (prelude o.who (digest o h) e.event) → IsClearMove t (prelude o.who (digest o h) e.event) (prelude o.who (digest o h) e.event) (action o.who (digest o h) e.event)
 entry_moves o up e h t k brings = every_move o.who d e.event (IsClearMove t s) (clear_moves t o.who e.event s brings) (late_law o up h k.grown.3) k.grown.0
   where
     d : Digest
@@ -249,8 +262,17 @@ entry_moves o up e h t k brings = every_move o.who d e.event (IsClearMove t s) (
     s : Digest
     s = prelude o.who d e.event
 
-brings_entry : (o : Origin) (up : Option Addr) (e : Entry) (h : List Entry) (t : Aaid) → IsUnfailed o up (e ∷ h) → took_clear t o (e ∷ h) ≡ true → BringsNone o.who t e.event (prelude o.who (digest o h) e.event)
-brings_entry o up e h t k took c f arcs at tree asked = (calm_event e.event c f calm asked, clear_brings t e.event c f (seen o.who arcs c) (go (came_by o.who d e.event k.grown.0) c at tree) tree asked (brought_by f))
+-- where the tree is current in the prelude, the node neither decides nor gives up
+pub bare_prelude : (o : Origin) (up : Option Addr) (e : Entry) (h : List Entry) (t : Aaid) (c : Current) → IsUnfailed t o up (e ∷ h) → (prelude o.who (digest o h) e.event).current ≡ Some c → is_aaid t (aaid_of c.key) ≡ true → is_given_event e.event ≡ false
+bare_prelude o up e h t c k at tree = go (came_by o.who (digest o h) e.event k.grown.0)
+  where
+    go : Came o.who (digest o h) e.event → is_given_event e.event ≡ false
+    go (As_it_was i) = given_fails c e.event (mild_entry t o up e h c k (sym i ∙ at) tree)
+    go (By_begin from x y q u b g a is found cur nil above) = ap is_given_event is
+    go (By_crash is cur) = ap is_given_event is
+
+brings_entry : (o : Origin) (up : Option Addr) (e : Entry) (h : List Entry) (t : Aaid) → IsUnfailed t o up (e ∷ h) → took_clear t o (e ∷ h) ≡ true → BringsNone o.who t e.event (prelude o.who (digest o h) e.event)
+brings_entry o up e h t k took c f arcs at tree asked = (bare_event e.event c f (bare_prelude o up e h t c k at tree) asked, clear_brings t e.event c f (seen o.who arcs c) (go (came_by o.who d e.event k.grown.0) c at tree) tree asked (brought_by f))
   where
     d : Digest
     d = digest o h
@@ -258,42 +280,39 @@ brings_entry o up e h t k took c f arcs at tree asked = (calm_event e.event c f 
     s : Digest
     s = prelude o.who d e.event
 
-    calm : is_failure e.event ≡ false
-    calm = (unfailed_before o up e h k).0
-
     event : is_now t d.current ≡ true → is_clear_event t e.event ≡ true
     event now = grind (arith, took, now)
 
     go : Came o.who d e.event → (c : Current) → s.current ≡ Some c → is_aaid t (aaid_of c.key) ≡ true → is_clear_event t e.event ≡ true
     go (As_it_was i) c at tree = event (ap (is_now t) (sym i ∙ at) ∙ tree)
     go (By_begin from x y q u b g a is found cur nil above) c at tree = ap (is_clear_event t) is
-    go (By_crash is cur) c at tree = absurd (cc (ap is_failure is, calm))
+    go (By_crash is cur) c at tree = ap (is_clear_event t) is
 
-are_clear : (o : Origin) (up : Option Addr) (h : List Entry) (t : Aaid) → IsUnfailed o up h → took_clear t o h ≡ true → AreClear t o h
+are_clear : (o : Origin) (up : Option Addr) (h : List Entry) (t : Aaid) → IsUnfailed t o up h → took_clear t o h ≡ true → AreClear t o h
 are_clear o up [] t k took = tt
-are_clear o up (e ∷ h) t k took = (brings_entry o up e h t k took, are_clear o up h t (unfailed_before o up e h k).1 (and_right (not (is_now t (digest o h).current) || is_clear_event t e.event) (took_clear t o h) took))
+are_clear o up (e ∷ h) t k took = (brings_entry o up e h t k took, are_clear o up h t (unfailed_before t o up e h k).1 (and_right (not (is_now t (digest o h).current) || is_clear_event t e.event) (took_clear t o h) took))
 
-entry_prelude : (o : Origin) (up : Option Addr) (e : Entry) (h : List Entry) (t : Aaid) → IsUnfailed o up (e ∷ h) → IsClearIn t (digest o h).current → IsClearIn t (prelude o.who (digest o h) e.event).current
+entry_prelude : (o : Origin) (up : Option Addr) (e : Entry) (h : List Entry) (t : Aaid) → IsUnfailed t o up (e ∷ h) → IsClearIn t (digest o h).current → IsClearIn t (prelude o.who (digest o h) e.event).current
 entry_prelude o up e h t k old = go (came_by o.who (digest o h) e.event k.grown.0)
   where
     go : Came o.who (digest o h) e.event → IsClearIn t (prelude o.who (digest o h) e.event).current
-    go (As_it_was i) = subst (IsClearIn t) (sym i) old
-    go (By_begin from x y q u b g a is found cur nil above) = subst (IsClearIn t) (sym cur) (fresh_clear t (Under u b a.peer))
-    go (By_crash is cur) = absurd (cc (ap is_failure is, (unfailed_before o up e h k).0))
+    go (As_it_was i) c at tree = old c (sym i ∙ at) tree
+    go (By_begin from x y q u b g a is found cur nil above) c at tree = fresh_clear t (Under u b a.peer) c (sym cur ∙ at) tree
+    go (By_crash is cur) c at tree = absurd (no_crash t o up e h k (recovered_now t (digest o h).current (ap (is_now t) (sym cur ∙ at) ∙ tree)) is)
 
-clear_law : (o : Origin) (up : Option Addr) (h : List Entry) (t : Aaid) → IsUnfailed o up h → AreClear t o h → IsClearIn t (digest o h).current
+clear_law : (o : Origin) (up : Option Addr) (h : List Entry) (t : Aaid) → IsUnfailed t o up h → AreClear t o h → IsClearIn t (digest o h).current
 clear_law o up [] t k took = λ c is tree. absurd (cc (current_none o k.fresh, is))
 clear_law o up (e ∷ h) t k took =
-    (entry_moves o up e h t k took.0).clear (entry_prelude o up e h t k (clear_law o up h t (unfailed_before o up e h k).1 took.1))
+    (entry_moves o up e h t k took.0).clear (entry_prelude o up e h t k (clear_law o up h t (unfailed_before t o up e h k).1 took.1))
 
-report_step : (o : Origin) (up : Option Addr) (e : Entry) (h : List Entry) (t : Aaid) → IsUnfailed o up (e ∷ h) → AreClear t o (e ∷ h) → is_now t (digest o h).current ≡ true → completes e.outs ≡ true → tells_complete_none e.outs ≡ true
+report_step : (o : Origin) (up : Option Addr) (e : Entry) (h : List Entry) (t : Aaid) → IsUnfailed t o up (e ∷ h) → AreClear t o (e ∷ h) → is_now t (digest o h).current ≡ true → tells_commit_complete e.outs ≡ true → tells_complete_none e.outs ≡ true
 report_step o up e h t k took now told = complete_tells e.outs ∙ ap (λ (v : Entry). out_tells is_complete_none v.outs) (sym k.grown.1) ∙ (entry_moves o up e h t k took.0).tells (entry_prelude o up e h t k clear) (here (came_by o.who d e.event k.grown.0)) said
   where
     d : Digest
     d = digest o h
 
     clear : IsClearIn t d.current
-    clear = clear_law o up h t (unfailed_before o up e h k).1 took.1
+    clear = clear_law o up h t (unfailed_before t o up e h k).1 took.1
 
     said : out_tells is_complete (action o.who d e.event).outs ≡ true
     said = ap (λ (v : Entry). out_tells is_complete v.outs) k.grown.1 ∙ sym (completes_told e.outs) ∙ told
@@ -301,21 +320,21 @@ report_step o up e h t k took now told = complete_tells e.outs ∙ ap (λ (v : E
     here : Came o.who d e.event → is_now t (prelude o.who d e.event).current ≡ true
     here (As_it_was i) = ap (is_now t) i ∙ now
     here (By_begin from x y q u b g a is found cur nil above) = absurd (cc (now, nil_now d t (late_law o up h k.grown.3) nil))
-    here (By_crash is cur) = absurd (cc (ap is_failure is, (unfailed_before o up e h k).0))
+    here (By_crash is cur) = absurd (no_crash t o up e h k now is)
 
-report_then : (o : Origin) (up : Option Addr) (e : Entry) (h : List Entry) (t : Aaid) → IsUnfailed o up (e ∷ h) → AreClear t o (e ∷ h) → has_told_in completes o t (e ∷ h) ≡ true → (has_told_in completes o t h ≡ true → completed_none o t h ≡ true) → completed_none o t (e ∷ h) ≡ true
-report_then o up e h t k took told rest = go (or_case (is_now t (digest o h).current && completes e.outs) (has_told_in completes o t h) told)
+report_then : (o : Origin) (up : Option Addr) (e : Entry) (h : List Entry) (t : Aaid) → IsUnfailed t o up (e ∷ h) → AreClear t o (e ∷ h) → has_told_in tells_commit_complete o t (e ∷ h) ≡ true → (has_told_in tells_commit_complete o t h ≡ true → completed_none o t h ≡ true) → completed_none o t (e ∷ h) ≡ true
+report_then o up e h t k took told rest = go (or_case (is_now t (digest o h).current && tells_commit_complete e.outs) (has_told_in tells_commit_complete o t h) told)
   where
-    go : ((is_now t (digest o h).current && completes e.outs) ≡ true) ⊎ (has_told_in completes o t h ≡ true) → completed_none o t (e ∷ h) ≡ true
+    go : ((is_now t (digest o h).current && tells_commit_complete e.outs) ≡ true) ⊎ (has_told_in tells_commit_complete o t h ≡ true) → completed_none o t (e ∷ h) ≡ true
     go (inr j) = let more = rest j in grind (arith, more)
     go (inl j) =
-        let now : is_now t (digest o h).current ≡ true = and_left (is_now t (digest o h).current) (completes e.outs) j in
-        let none : tells_complete_none e.outs ≡ true = report_step o up e h t k took now (and_right (is_now t (digest o h).current) (completes e.outs) j) in
+        let now : is_now t (digest o h).current ≡ true = and_left (is_now t (digest o h).current) (tells_commit_complete e.outs) j in
+        let none : tells_complete_none e.outs ≡ true = report_step o up e h t k took now (and_right (is_now t (digest o h).current) (tells_commit_complete e.outs) j) in
         rw (now, none) refl
 
-pub report_law : (o : Origin) (up : Option Addr) (h : List Entry) (t : Aaid) → IsUnfailed o up h → AreClear t o h → has_told_in completes o t h ≡ true → completed_none o t h ≡ true
+pub report_law : (o : Origin) (up : Option Addr) (h : List Entry) (t : Aaid) → IsUnfailed t o up h → AreClear t o h → has_told_in tells_commit_complete o t h ≡ true → completed_none o t h ≡ true
 report_law o up [] t k took told = absurd (cc (told))
-report_law o up (e ∷ h) t k took told = report_then o up e h t k took told (report_law o up h t (unfailed_before o up e h k).1 took.1)
+report_law o up (e ∷ h) t k took told = report_then o up e h t k took told (report_law o up h t (unfailed_before t o up e h k).1 took.1)
 
-pub clear_report : (o : Origin) (up : Option Addr) (h : List Entry) → IsUnfailed o up h → ClearReport o h
-clear_report o up h k t took = report_law o up h t k (are_clear o up h t k took)
+pub clear_report : (t : Aaid) (o : Origin) (up : Option Addr) (h : List Entry) → IsUnfailed t o up h → ClearReport t o h
+clear_report t o up h k took = report_law o up h t k (are_clear o up h t k took)

@@ -13,7 +13,8 @@ use Rattle.tp_model.specs.declared.transaction.TxEvent.{TxEvent}
 use Rattle.tp_model.specs.declared.transaction.TxOut.{TxOut}
 use Rattle.tp_model.specs.Parts.{Branch}
 use Rattle.tp_model.specs.Dialogues.{is_nil, is_active, is_ready, is_committing, is_rolling}
-use Rattle.tp_model.specs.Transactions.{Row, Transaction, Turn, turn, and_then, before, row_holds, find_row, find_row_by_id, is_open_in_commit, put_row, with_row, with_arc_lost, is_under_at, all_done, all_rolled_back, is_decided, reports_of, report_of_branch, own_damage, carry_up, tell_report, all_prepared, complete_commit, complete_rollback, begin_rolling, order, ask_commit, leave, count_branch, end_branch, branch_left, transacted}
+use Rattle.tp_model.specs.Transactions.{Row, Transaction, Turn, turn, and_then, before, row_holds, find_row, find_row_by_id, is_open_in_commit, put_row, with_row, with_arc_lost, is_under_at, all_done, all_rolled_back, reports_of, report_of_branch, own_damage, carry_up, tell_report, all_prepared, complete_commit, complete_rollback, begin_rolling, order, ask_commit, leave, count_branch, end_branch, branch_left, transacted}
+use Rattle.std.specs.Prelude.{is_some}
 use Rattle.tp_steps.specs.Turns.{Turns, is_outcome_told, vote, row_dead}
 use Rattle.tp_steps.specs.Moves.{IsPut}
 use Rattle.tp_steps.specs.Passages.{asks_tell}
@@ -21,7 +22,7 @@ use Rattle.tp_steps.specs.Clearing.{is_complete_none}
 use Rattle.tp_steps.proofs.every.EveryTurn.{every_turn}
 use Rattle.tp_steps.proofs.words.Fair.{row_phase}
 use Rattle.tp_steps.proofs.lemmas.Phases.{tell_append, still_up, still_prepare, IsUntold, untold}
-use Rattle.tp_drained.proofs.Calm.{is_calm, retried_untold, completion_tells}
+use Rattle.tp_drained.proofs.Calm.{is_calm, is_given, retried_untold, completion_tells}
 use Rattle.tp_steps.proofs.log.TurnLog.{row_decision}
 use Rattle.tp_steps.proofs.lemmas.Joined.{joined_rolls, joined_order, joined_leaves}
 
@@ -44,7 +45,7 @@ clear_rows (r ∷ rs) = is_clear_branch r.branch && clear_rows rs
 
 -- it rolls or is over, or it decided nothing and no branch reported anything
 abbrev pub is_clear : Transaction → Bool
-is_clear t = is_rolling t.phase || is_nil t.phase || (not (is_decided t.decision) && clear_rows t.rows)
+is_clear t = is_rolling t.phase || is_nil t.phase || (not (is_some t.decision) && clear_rows t.rows)
 
 record IsClearing (t : Transaction) (a : Turn) : Type 0 where
   clear : is_clear t ≡ true → is_clear a.next ≡ true
@@ -81,7 +82,7 @@ is_with t q f keeps h = go (is_rolling t.phase || is_nil t.phase) refl
     go true i = let same : (is_rolling (with_row t q f).phase || is_nil (with_row t q f).phase) ≡ true = ap (λ (x : Phase). is_rolling x || is_nil x) phase ∙ i in grind (arith, same)
     go false i =
         let rows : clear_rows (with_row t q f).rows ≡ true = clear_row t q f keeps (grind (arith, h, i)) in
-        let free : is_decided (with_row t q f).decision ≡ false = ap is_decided (row_decision t q f) ∙ grind (arith, h, i) in
+        let free : is_some (with_row t q f).decision ≡ false = ap is_some (row_decision t q f) ∙ grind (arith, h, i) in
         grind (arith, rows, free)
 
 with_quiet : (t : Transaction) (outs : List TxOut) (q : ℕ) (f : Row → Row) → asks_tell is_complete outs ≡ false → ((r : Row) → is_clear_branch r.branch ≡ true → is_clear_branch (f r).branch ≡ true) → IsClearing t (turn outs (with_row t q f))
@@ -112,7 +113,7 @@ joined t a b m outs next one two = record {
 
 ask_clear : (t : Transaction) → IsClearing t (ask_commit t)
 unfolding ask_commit
-ask_clear t = quiet t (ask_commit t) ((still_prepare t.rows).1 is_complete) (λ h. ap (λ v. is_rolling t.phase || is_nil t.phase || (not (is_decided t.decision) && v)) (prepared_clear t.rows) ∙ h)
+ask_clear t = quiet t (ask_commit t) ((still_prepare t.rows).1 is_complete) (λ h. ap (λ v. is_rolling t.phase || is_nil t.phase || (not (is_some t.decision) && v)) (prepared_clear t.rows) ∙ h)
 
 count_clear : (t : Transaction) (q : ℕ) → IsClearing t (count_branch q t)
 unfolding count_branch
@@ -157,7 +158,7 @@ none_joined (r ∷ rs) h = both (report_of_branch r.branch) (reports_of rs) (gri
     both Report.Hazard y i j = absurd (cc (i))
     both Report.Mix y i j = absurd (cc (i))
 
-none_damage : (o : Option Outcome) (r : Report) → is_decided o ≡ false → is_report_none r ≡ true → is_report_none (join (own_damage o) r) ≡ true
+none_damage : (o : Option Outcome) (r : Report) → is_some o ≡ false → is_report_none r ≡ true → is_report_none (join (own_damage o) r) ≡ true
 none_damage None Report.None h i = refl
 none_damage (Some o) r h i = absurd (cc (h))
 none_damage None _ h i = absurd (cc (i))
@@ -223,8 +224,8 @@ none_replied e s b w r is found now h =
 pub wild : (e f : TxEvent) → e ≡ f → is_calm e ≡ true → is_calm f ≡ false → ⊥
 wild e f is calm off = cc (ap is_calm is, calm, off)
 
-clearing_turns : (e : TxEvent) (s : Transaction) → is_calm e ≡ true → brings_none e s ≡ true → Turns e s IsClearing
-clearing_turns e s calm none = record {
+clearing_turns : (e : TxEvent) (s : Transaction) → is_given e ≡ false → brings_none e s ≡ true → Turns e s IsClearing
+clearing_turns e s bare none = record {
   still = λ t. quiet t (turn [] t) refl (λ h. h);
   first = λ t u outs a one two. joined t (turn outs u) a (before outs a) refl refl one two;
   chain = λ t a f one two q. joined t a (f a.next) (and_then a f) refl refl one two;
@@ -238,11 +239,11 @@ clearing_turns e s calm none = record {
   prepares = λ q. with_quiet s (TxOut.Carry q DialogueRecord.Prepare ∷ []) q (λ r. record r { branch = record r.branch { prepared = true } }) refl (λ r k. k);
   asks = λ act n told. ask_clear s;
   asks_again = quiet s _ (retried_untold is_complete refl s) (λ h. h);
-  decides = λ o is ready. absurd (wild e (TxEvent.Heur o) is calm refl);
+  decides = λ o is ready. absurd (cc (ap is_given is, bare));
   aborts = λ q. lost_quiet s (TxOut.Carry q DialogueRecord.UAbort ∷ TxOut.Close q ∷ []) q refl;
   loses_arc = λ q l. lost_quiet s [] q refl;
   closes_left = λ q is. with_quiet s (TxOut.Close q ∷ []) q row_dead refl (λ r k. k);
-  gives_up = λ q r is c found. absurd (wild e (TxEvent.GiveUp q) is calm refl);
+  gives_up = λ q r is c found. absurd (cc (ap is_given is, bare));
   counts = λ q is act h. count_clear s q;
   ends_done = λ q x is c h. end_clear s q x (none_said e s q x is c h none);
   ends_replied = λ b w x is found now. end_clear s w.branch.peer.node x (none_replied e s b w x is found now none);
@@ -258,6 +259,6 @@ clearing_turns e s calm none = record {
   leaves = λ is act under asked all. leave_clear s;
 }
 
-pub clears : (e : TxEvent) (s : Transaction) → IsPut e s → is_calm e ≡ true → brings_none e s ≡ true → is_clear s ≡ true
+pub clears : (e : TxEvent) (s : Transaction) → IsPut e s → is_given e ≡ false → brings_none e s ≡ true → is_clear s ≡ true
     → (is_clear (transacted e s).next ≡ true) × (asks_tell is_complete (transacted e s).outs ≡ true → asks_tell is_complete_none (transacted e s).outs ≡ true)
-clears e s put calm none h = let k = every_turn e s IsClearing (clearing_turns e s calm none) put in (k.clear h, k.tells h)
+clears e s put bare none h = let k = every_turn e s IsClearing (clearing_turns e s bare none) put in (k.clear h, k.tells h)

@@ -41,7 +41,7 @@ use Rattle.tp_histories.proofs.trees.Knowing.{begin_arc}
 use Rattle.tp_histories.proofs.worlds.Good.{good_run, Sender, was_sent}
 use Rattle.tp_histories.proofs.worlds.Unique.{TookOn}
 use Rattle.tp_runs.proofs.Hanging.{staying_event, began_from}
-use Rattle.tp_drained.proofs.DrainedTaken.{come_took, all_came}
+use Rattle.tp_drained.proofs.DrainedTaken.{come_took, begin_sent_in}
 
 -- ---- an association that opens was confirmed by its peer
 
@@ -190,7 +190,7 @@ begun_member o up (e ∷ h) from x y q t b i legal (inl k) =
 -- ---- in a drained tree
 
 pub branches_are_there : (es : List Happening) → BranchesAreThere (run es)
-branches_are_there es t drained fine x p b x_in begun = (
+branches_are_there es t drained x p b x_in begun = (
   z.0,
   find_is (run es).nodes p z.0 z.1,
   record {
@@ -226,4 +226,4 @@ branches_are_there es t drained fine x p b x_in begun = (
     took : TookOn z.0.history (addr_of x) begun.1 begun.2 begun.3 (DialogueRecord.Begin t b begun.4)
     took =
         come_took z.0.history (addr_of x) begun.1 begun.2 begun.3 (DialogueRecord.Begin t b begun.4)
-        (all_came es t drained fine x z.0 begun.0 (PeerRecord.OnAssoc begun.1 begun.2 begun.3 (DialogueRecord.Begin t b begun.4)) x_in begun.6 (ap (find_node (run es).nodes) begun.5 ∙ z.1))
+        (drained.taken x z.0 begun.0 (PeerRecord.OnAssoc begun.1 begun.2 begun.3 (DialogueRecord.Begin t b begun.4)) x_in (begin_sent_in x.origin t x.history begun.0 begun.1 begun.2 begun.3 b begun.4 begun.6) (ap (find_node (run es).nodes) begun.5 ∙ z.1))

@@ -19,10 +19,10 @@ use Rattle.tp_model.specs.Arrivals.{find_branch_by_id}
 use Rattle.tp_model.specs.Node.{seen, seen_rows}
 use Rattle.tp_model.specs.History.{digest, records}
 use Rattle.tp_model.specs.Legal.{IsLegal, is_apart, are_apart}
-use Rattle.tp_model.specs.Outcomes.{is_failure, has_left, completed_none}
+use Rattle.tp_model.specs.Outcomes.{is_now, is_failure, has_left, completed_none}
 use Rattle.tp_model.specs.World.{Node, number_of, find_node}
 use Rattle.tp_model.specs.Happenings.{Happening, run}
-use Rattle.tp_model.specs.Promises.{IsOf, IsBranchOf, IsDrained, IsFailureFree}
+use Rattle.tp_model.specs.Promises.{IsOf, IsBranchOf}
 use Rattle.tp_steps.specs.Histories.{brought}
 use Rattle.tp_histories.specs.Histories.{HasSent, HasTaken}
 use Rattle.tp_histories.specs.Worlds.{IsGood}
@@ -33,6 +33,7 @@ use Rattle.tp_histories.specs.Upward.{deeds_of}
 use Rattle.tp_runs.specs.Heeded.{heeds_event, heeds}
 use Rattle.tp_steps.specs.Branches.{may_end}
 use Rattle.tp_steps.specs.Clearing.{has_damage}
+use Rattle.tp_drained.specs.DrainedWorlds.{IsDrainedTree, IsUnfailedTree}
 use Rattle.tp_drained.specs.Drained.{IsUnfailed}
 use Rattle.tp_steps.proofs.lemmas.Equality.{aaids_equal, addrs_equal, and_left, and_right}
 use Rattle.tp_steps.proofs.lemmas.Words.{commit_more}
@@ -52,7 +53,7 @@ use Rattle.tp_agreement.proofs.OwingLaw.{Replied, replied_by, rows_by_id, spread
 use Rattle.tp_reports.proofs.ClearedLaw.{IsCleared, cleared_law, damage_record}
 use Rattle.tp_reports.proofs.ClearedReplies.{damage_replied}
 use Rattle.tp_drained.proofs.ClearTurns.{brings_none}
-use Rattle.tp_drained.proofs.ClearLaw.{BringsNone, AreClear, Brings, Nothing_brought, By_word, By_answer, brought_by, calm_event}
+use Rattle.tp_drained.proofs.ClearLaw.{BringsNone, AreClear, Brings, Nothing_brought, By_word, By_answer, brought_by, bare_event, bare_prelude}
 use Rattle.tp_drained.proofs.DrainedBranches.{branches_are_there}
 use Rattle.tp_drained.proofs.LiveLaw.{unfailed_before}
 use Rattle.tp_drained.proofs.DrainedRows.{row_begun, later_found, first_found}
@@ -87,7 +88,7 @@ found_at (x ∷ bs) b w apart h = go (is_branch x.id b) refl (found_at bs b w (a
 
 -- a part of the node's history
 record IsPart (es : List Happening) (t : Aaid) (x : Node) (h : List Entry) : Type 0 where
-  unfailed : IsUnfailed x.origin x.superior h
+  unfailed : IsUnfailed t x.origin x.superior h
   legal : IsLegal x.origin x.superior h
   sent : (a : Addr) (r : PeerRecord) → HasSent h a r → HasSent x.history a r
   taken : (a : Addr) (r : PeerRecord) → HasTaken h a r → HasTaken x.history a r
@@ -95,16 +96,16 @@ record IsPart (es : List Happening) (t : Aaid) (x : Node) (h : List Entry) : Typ
 
 part_tail : (es : List Happening) (t : Aaid) (x : Node) (e : Entry) (h : List Entry) → IsPart es t x (e ∷ h) → IsPart es t x h
 part_tail es t x e h k = record {
-  unfailed = (unfailed_before x.origin x.superior e h k.unfailed).1;
+  unfailed = (unfailed_before t x.origin x.superior e h k.unfailed).1;
   legal = record { start = k.legal.start; grown = k.legal.grown.3 };
   sent = λ a r s. k.sent a r (inr s);
   taken = λ a r s. k.taken a r (inr s);
   below = λ b z branch. below_tail x.origin x.superior (number_of z) (deeds_of z.origin z.history) (records z.origin z.history) e h (k.below b z branch);
 }
 
-brings_nothing : (es : List Happening) (t : Aaid) → IsDrained (run es) t → IsFailureFree (run es) t → (x : Node) → IsOf (run es) t x → AreComplete es t x → (e : Entry) (h : List Entry) → IsPart es t x (e ∷ h)
+brings_nothing : (es : List Happening) (t : Aaid) → IsDrainedTree (run es) t → (x : Node) → IsOf (run es) t x → AreComplete es t x → (e : Entry) (h : List Entry) → IsPart es t x (e ∷ h)
     → BringsNone x.origin.who t e.event (prelude x.origin.who (digest x.origin h) e.event)
-brings_nothing es t drained fine x of all e h part c f arcs at tree asked = (calm_event e.event c f calm asked, by (brought_by f))
+brings_nothing es t drained x of all e h part c f arcs at tree asked = (bare_event e.event c f (bare_prelude x.origin x.superior e h t c part.unfailed at tree) asked, by (brought_by f))
   where
     o : Origin
     o = x.origin
@@ -118,17 +119,14 @@ brings_nothing es t drained fine x of all e h part c f arcs at tree asked = (cal
     part_h : IsPart es t x h
     part_h = part_tail es t x e h part
 
-    calm : is_failure e.event ≡ false
-    calm = let all_calm = part.unfailed.calm in grind (arith, all_calm)
-
     same : aaid_of c.key ≡ t
     same = sym (aaids_equal t (aaid_of c.key) tree)
 
     -- the branch with the peer is a node of the tree
     branch_there : (p : ℕ) (v : Branch) → d.current ≡ Some c → find_branch c.branches p ≡ Some v → (z : Node) × (number_of z ≡ p) × IsBranchOf (run es) t v.id x z
     branch_there p v now found =
-        let b = row_begun o x.superior h c p v part_h.legal part_h.unfailed now found in
-        branches_are_there es t drained fine x p v.id of (b.0, b.1, b.2, b.3, b.4, b.5, part_h.sent b.0 (PeerRecord.OnAssoc b.1 b.2 b.3 (DialogueRecord.Begin t v.id b.4)) (subst (λ (u : Aaid). HasSent h b.0 (PeerRecord.OnAssoc b.1 b.2 b.3 (DialogueRecord.Begin u v.id b.4))) same b.6))
+        let b = row_begun t o x.superior h c p v part_h.legal part_h.unfailed now tree found in
+        branches_are_there es t drained x p v.id of (b.0, b.1, b.2, b.3, b.4, b.5, part_h.sent b.0 (PeerRecord.OnAssoc b.1 b.2 b.3 (DialogueRecord.Begin t v.id b.4)) (subst (λ (u : Aaid). HasSent h b.0 (PeerRecord.OnAssoc b.1 b.2 b.3 (DialogueRecord.Begin u v.id b.4))) same b.6))
 
     word : (p : ℕ) (r : Report) → f ≡ TxEvent.Took p (DialogueRecord.Done r) → is_report_none r ≡ false → is_committing c.phase ≡ true → (w : Row) → find_row (seen_rows arcs c.branches) p ≡ Some w → ⊥
     word p r is some committing w row = by_branch (branch_there p w.branch now found)
@@ -230,12 +228,12 @@ brings_nothing es t drained fine x of all e h part c f arcs at tree asked = (cal
         go false i None k = rw (i, k) refl
         go false i (Some w) k = absurd (reply b r is i w k)
 
-clear_part : (es : List Happening) (t : Aaid) → IsDrained (run es) t → IsFailureFree (run es) t → (x : Node) → IsOf (run es) t x → AreComplete es t x → (h : List Entry) → IsPart es t x h → AreClear t x.origin h
-clear_part es t drained fine x of all [] part = tt
-clear_part es t drained fine x of all (e ∷ h) part = (brings_nothing es t drained fine x of all e h part, clear_part es t drained fine x of all h (part_tail es t x e h part))
+clear_part : (es : List Happening) (t : Aaid) → IsDrainedTree (run es) t → (x : Node) → IsOf (run es) t x → AreComplete es t x → (h : List Entry) → IsPart es t x h → AreClear t x.origin h
+clear_part es t drained x of all [] part = tt
+clear_part es t drained x of all (e ∷ h) part = (brings_nothing es t drained x of all e h part, clear_part es t drained x of all h (part_tail es t x e h part))
 
-pub all_clear : (es : List Happening) (t : Aaid) → IsDrained (run es) t → IsFailureFree (run es) t → (x : Node) → IsOf (run es) t x → AreComplete es t x → AreClear t x.origin x.history
-all_clear es t drained fine x of all = clear_part es t drained fine x of all x.history (record {
+pub all_clear : (es : List Happening) (t : Aaid) → IsDrainedTree (run es) t → IsUnfailedTree (run es) t → (x : Node) → IsOf (run es) t x → AreComplete es t x → AreClear t x.origin x.history
+all_clear es t drained fine x of all = clear_part es t drained x of all x.history (record {
   unfailed = record {
     fresh = (good_run es).fresh (number_of x) x of.here;
     grown = (good_run es).legal (number_of x) x of.here;

@@ -10,7 +10,8 @@ use Rattle.tp_model.specs.History.{digest, records}
 use Rattle.tp_model.specs.Outcomes.{is_now, is_owed, decided, has_left, completed_none}
 use Rattle.tp_model.specs.World.{Node, number_of}
 use Rattle.tp_model.specs.Happenings.{Happening, run}
-use Rattle.tp_model.specs.Promises.{IsOf, IsBranchOf, has_told_in, completes, has_record, is_ready_of}
+use Rattle.tp_model.specs.Promises.{IsOf, IsBranchOf, has_told_in, has_record, is_ready_of}
+use Rattle.tp_model.specs.Questions.{tells_commit_complete}
 use Rattle.tp_steps.specs.Facts.{find_branch, has_ready_of}
 use Rattle.tp_histories.specs.Undone.{are_done, is_left_incomplete, is_left_undone}
 use Rattle.tp_steps.specs.Heeding.{has_answered, has_ended}
@@ -65,13 +66,13 @@ done_above es t k x z c v branch at tree found done =
     let u = unfailed_at es t k x branch.superior in
     let said = done_up z.origin z.superior z.history t (number_of x) (unfailed_at es t k z branch.child) (below_at es t v.id x z branch) done in
     let took = dones_are_taken es t k.drained k.calm v.id x z branch said (ap (is_now t) at ∙ tree) in
-    found_is has_ended c (number_of z) v found (heeds_done x.origin x.superior x.history u t c (number_of z) took at tree)
+    found_is has_ended c (number_of z) v found (heeds_done t x.origin x.superior x.history u c (number_of z) took at tree)
 
 done_up_to : (es : List Happening) (t : Aaid) → IsDone es t → (k : ℕ) (x : Node) → IsWithin es k x → IsOf (run es) t x → has_left x.origin t x.history ≡ false → completed_none x.origin t x.history ≡ true
 done_up_to es t d zero x le of stay = absurd (none_within es t x of le)
 done_up_to es t d (suc k) x le of stay = go (λ b z branch. done_up_to es t d k z (branch_within es t b k x z branch le) branch.child)
   where
-    u : IsUnfailed x.origin x.superior x.history
+    u : IsUnfailed t x.origin x.superior x.history
     u = unfailed_at es t d x of
 
     done : decided x.origin t x.history ≡ true
@@ -98,7 +99,7 @@ done_up_to es t d (suc k) x le of stay = go (λ b z branch. done_up_to es t d k 
             on true i = left_above es t d x z.0 c v z.2 at tree here i
             on false i = done_above es t d x z.0 c v z.2 at tree here (rest v.id z.0 z.2 i)
 
-    told : ((b : BranchId) (z : Node) → IsBranchOf (run es) t b x z → has_left z.origin t z.history ≡ false → completed_none z.origin t z.history ≡ true) → Commits x.origin x.history t → has_told_in completes x.origin t x.history ≡ true
+    told : ((b : BranchId) (z : Node) → IsBranchOf (run es) t b x z → has_left z.origin t z.history ≡ false → completed_none z.origin t z.history ≡ true) → Commits x.origin x.history t → has_told_in tells_commit_complete x.origin t x.history ≡ true
     told rest (Was_told i) = i
     told rest (Is_committing c at tree now) =
         let all : are_done c.branches ≡ true = all_done_at c.branches (spread_at x.origin x.superior x.history u.fresh u.grown c at) (ended rest c at tree) in

@@ -6,6 +6,7 @@ use Rattle.tp_names.specs.declared.identifiers.Mark.{Mark}
 use Rattle.tp_names.specs.declared.identifiers.Aaid.{Aaid}
 use Rattle.tp_names.specs.declared.identifiers.BranchId.{BranchId}
 use Rattle.tp_names.specs.declared.identifiers.Addr.{Addr}
+use Rattle.tp_names.specs.declared.outcome.Outcome.{Outcome}
 use Rattle.tp_names.specs.declared.outcome.Report.{Report}
 use Rattle.tp_names.specs.Reports.{is_report_none}
 use Rattle.tp_names.specs.Same.{is_aaid}
@@ -18,7 +19,7 @@ use Rattle.tp_model.specs.Transactions.{aaid_of}
 use Rattle.tp_model.specs.Requests.{has_branch_at}
 use Rattle.tp_model.specs.Events.{action}
 use Rattle.tp_model.specs.History.{digest, records}
-use Rattle.tp_model.specs.Outcomes.{is_now, decided, is_failure, has_failed}
+use Rattle.tp_model.specs.Outcomes.{is_now, decided, is_failure}
 use Rattle.tp_model.specs.Questions.{is_at}
 use Rattle.tp_model.specs.World.{Node, Frame, number_of, find_node, put_node}
 use Rattle.tp_model.specs.Happenings.{Happening, run}
@@ -36,7 +37,8 @@ use Rattle.tp_histories.specs.Upward.{deeds_of}
 use Rattle.tp_runs.specs.Heeded.{is_heeded}
 use Rattle.tp_drained.specs.DrainedWorlds.{DonesAreTaken, TakesDecided, DoneDecided, DonesDecided}
 use Rattle.tp_histories.proofs.worlds.Nodes.{find_append}
-use Rattle.tp_drained.specs.Drained.{is_done}
+use Rattle.tp_drained.specs.Drained.{IsUnfailed, is_done}
+use Rattle.tp_drained.proofs.LiveLaw.{unfailed_before, no_crash}
 use Rattle.tp_histories.proofs.trees.Late.{late_law, late_prelude}
 use Rattle.tp_steps.proofs.lemmas.Equality.{and_left}
 use Rattle.tp_steps.proofs.branches.Rolls.{phase_at}
@@ -90,7 +92,7 @@ done_decided ns fs x e y st unique hy above a m k q r is at = go (slice_get keys
     heeded = word_taken ns fs x y a m k q (DialogueRecord.Done r) now unique hy above at
 
     held : holds_at keys n g.committed ≡ true
-    held = and_left (holds_at keys n g.committed) (not (is_report_none r) || holds_at keys n g.completed) (and_left (holds_at keys n g.committed && (not (is_report_none r) || holds_at keys n g.completed)) (is_report_none r || holds_at keys n g.damaged) (and_left (holds_at keys n g.committed && (not (is_report_none r) || holds_at keys n g.completed) && (is_report_none r || holds_at keys n g.damaged)) true heeded))
+    held = and_left (holds_at keys n g.committed) (not (is_report_none r) || holds_at keys n g.completed) (and_left (holds_at keys n g.committed && (not (is_report_none r) || holds_at keys n g.completed)) (is_report_none r || holds_at keys n g.damaged) (and_left (holds_at keys n g.committed && (not (is_report_none r) || holds_at keys n g.completed) && (is_report_none r || holds_at keys n g.damaged)) (holds_at keys n (g.told Outcome.Commit r)) (and_left (holds_at keys n g.committed && (not (is_report_none r) || holds_at keys n g.completed) && (is_report_none r || holds_at keys n g.damaged) && holds_at keys n (g.told Outcome.Commit r)) true heeded)))
 
     hx : find_node ns (number_of x) ≡ Some x
     hx = st.accepts.here
@@ -152,14 +154,20 @@ dones_run es = (law (λ ns fs. IsUnique ns × DonesDecided ns) (record {
 
 -- ---- a branch that was begun stands with its peer as long as the tree is current
 
-calm_parts : (e : Entry) (h : List Entry) → has_failed (e ∷ h) ≡ false → (is_failure e.event ≡ false) × (has_failed h ≡ false)
-calm_parts e h f = (grind (arith, f), grind (arith, f))
-
-pub stands_there : (o : Origin) (up : Option Addr) (h : List Entry) (a : Addr) (x y : Mark) (q : ℕ) (t : Aaid) (b : BranchId) (i : Holder) → o.start.records ≡ [] → IsGrown o up h → IsOnce o h → has_failed h ≡ false
+pub stands_there : (o : Origin) (up : Option Addr) (h : List Entry) (a : Addr) (x y : Mark) (q : ℕ) (t : Aaid) (b : BranchId) (i : Holder) → IsUnfailed t o up h
     → HasSent h a (PeerRecord.OnAssoc x y q (DialogueRecord.Begin t b i)) → is_now t (digest o h).current ≡ true → key_at (digest o h).current a.node ≡ Some (t, b)
-stands_there o up [] a x y q t b i empty legal once calm s n = absurd s
-stands_there o up (e ∷ h) a x y q t b i empty legal once calm s n = go s (stands_there o up h a x y q t b i empty legal.3 once.1 (calm_parts e h calm).1)
+stands_there o up [] a x y q t b i u s n = absurd s
+stands_there o up (e ∷ h) a x y q t b i u s n = go s (stands_there o up h a x y q t b i (unfailed_before t o up e h u).1)
   where
+    empty : o.start.records ≡ []
+    empty = u.fresh
+
+    legal : IsGrown o up (e ∷ h)
+    legal = u.grown
+
+    once : IsOnce o (e ∷ h)
+    once = u.once
+
     d : Digest
     d = digest o h
 
@@ -186,9 +194,9 @@ stands_there o up (e ∷ h) a x y q t b i empty legal once calm s n = go s (stan
     go (inr v) rest = at (now_then o up e h t empty legal once (sent_known o up h a x y q t b i empty legal.3 v) n) (came_by o.who d e.event legal.0)
       where
         at : is_now t d.current ≡ true → Came o.who d e.event → key_at (digest o (e ∷ h)).current a.node ≡ Some (t, b)
-        at before (As_it_was cur) = stays (ap (λ (u : Option Current). key_at u a.node) cur ∙ rest v before)
-        at before (By_begin from z u r c j g l is found cur nil above) = absurd (cc (before, nil_now d t (late_law o up h legal.3) nil))
-        at before (By_crash is cur) = absurd (cc ((calm_parts e h calm).0, ap is_failure is))
+        at before (As_it_was cur) = stays (ap (λ (w : Option Current). key_at w a.node) cur ∙ rest v before)
+        at before (By_begin from z v r c j g l is found cur nil above) = absurd (cc (before, nil_now d t (late_law o up h legal.3) nil))
+        at before (By_crash is cur) = absurd (no_crash t o up e h u before is)
 
 found_there : (bs : List Branch) (p : ℕ) (b : Branch) → find_branch bs p ≡ Some b → has_branch_at bs p ≡ true
 found_there [] p b h = absurd (cc (h))
@@ -220,7 +228,7 @@ dones_are_taken es t drained fine b x z branch told now =
     hx = branch.superior.here
 
     k : Reached x.origin x.history t (number_of z) is_done
-    k = reached_up es t drained fine b x z branch is_done done_up told now
+    k = reached_up es t drained b x z branch is_done done_up told now
 
     legal : IsGrown x.origin x.superior (k.entry ∷ k.behind)
     legal = moment_legal x.origin x.superior k.entry k.behind x.history k.moment (good.legal (number_of x) x hx)
@@ -231,8 +239,13 @@ dones_are_taken es t drained fine b x z branch told now =
     empty : x.origin.start.records ≡ []
     empty = good.fresh (number_of x) x hx
 
-    calm : has_failed k.behind ≡ false
-    calm = (calm_parts k.entry k.behind (moment_of (λ h. has_failed h ≡ false) (λ f h i. (calm_parts f h i).1) k.entry k.behind x.history k.moment (fine x branch.superior))).1
+    unfailed : IsUnfailed t x.origin x.superior k.behind
+    unfailed = (unfailed_before t x.origin x.superior k.entry k.behind (moment_of (IsUnfailed t x.origin x.superior) (λ f h u. (unfailed_before t x.origin x.superior f h u).1) k.entry k.behind x.history k.moment (record {
+      fresh = empty;
+      grown = good.legal (number_of x) x hx;
+      once = (unique_run es).once (number_of x) x hx;
+      calm = fine x branch.superior;
+    }))).1
 
     decisions : DoneDecided x.origin (number_of z) (k.entry ∷ k.behind)
     decisions = moment_of (DoneDecided x.origin (number_of z)) (λ f h p. p.1) k.entry k.behind x.history k.moment (dones_run es x z hx branch.child.here (branch_above es t b x z branch))
@@ -252,6 +265,6 @@ dones_are_taken es t drained fine b x z branch told now =
 
     there : has_branch_at k.current.branches (number_of z) ≡ true
     there =
-        let key = stands_there x.origin x.superior k.behind k.to k.x k.y k.number t k.id k.holder empty legal.3 once.1 calm k.begun is_current in
+        let key = stands_there x.origin x.superior k.behind k.to k.x k.y k.number t k.id k.holder unfailed k.begun is_current in
         let f = key_branch k.current k.to.node (t, k.id) (ap (λ (u : Option Current). key_at u k.to.node) (sym k.now) ∙ key) in
         found_there k.current.branches (number_of z) f.0 (subst (λ (n : ℕ). find_branch k.current.branches n ≡ Some f.0) k.there f.1)

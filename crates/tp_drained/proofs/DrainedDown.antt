@@ -49,10 +49,10 @@ root_ordered es t k x of root (inr r) = elim (bound_by t (records x.origin x.his
 branch_ordered : (es : List Happening) (t : Aaid) → IsDone es t → (b : BranchId) (x z : Node) → IsBranchOf (run es) t b x z → decided x.origin t x.history ≡ true → IsOrdered t z
 branch_ordered es t k b x z branch done = go (has_left z.origin t z.history) refl
   where
-    ux : IsUnfailed x.origin x.superior x.history
+    ux : IsUnfailed t x.origin x.superior x.history
     ux = unfailed_at es t k x branch.superior
 
-    uz : IsUnfailed z.origin z.superior z.history
+    uz : IsUnfailed t z.origin z.superior z.history
     uz = unfailed_at es t k z branch.child
 
     s : SentBegin x z t b
@@ -71,7 +71,7 @@ branch_ordered es t k b x z branch done = go (has_left z.origin t z.history) ref
 
     heeded : has_left z.origin t z.history ≡ false → is_now t (digest z.origin z.history).current ≡ true → decided z.origin t z.history ≡ true
     heeded stays now =
-        heeds_commit z.origin z.superior z.history uz t (number_of x) (nobody_rolls es t k.calm z branch.child) (orders_are_taken es t k.drained k.calm b x z branch (said stays) now)
+        heeds_commit t z.origin z.superior z.history uz (number_of x) (nobody_rolls es t k.calm z branch.child) (orders_are_taken es t k.drained b x z branch (said stays) now)
 
     stood : has_left z.origin t z.history ≡ false → Ending z.origin z.history t → IsOrdered t z
     stood stays (Goes_on n) = inr (heeded stays n)

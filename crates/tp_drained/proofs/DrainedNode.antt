@@ -21,8 +21,9 @@ use Rattle.tp_model.specs.Events.{action, recovered, recovered_current, current_
 use Rattle.tp_model.specs.History.{digest, records, with_rec}
 use Rattle.tp_model.specs.Legal.{IsGrown, IsLegal}
 use Rattle.tp_model.specs.Questions.{is_at, said_to, has_said}
-use Rattle.tp_model.specs.Outcomes.{is_now, is_unchanged, is_commit_request, is_failure, has_asked, has_left, decided, rolled, tells_complete_none, completed_none, is_member, has_commit_of}
-use Rattle.tp_model.specs.Promises.{has_told_in, has_record, is_bound_of, completes, tells_commit}
+use Rattle.tp_model.specs.Outcomes.{is_now, is_unchanged, is_commit_request, is_failure, has_left, decided, rolled, tells_complete_none, completed_none, is_member, has_commit_of, has_asked_commit}
+use Rattle.tp_model.specs.Promises.{has_told_in, has_record, is_bound_of, tells_commit}
+use Rattle.tp_model.specs.Questions.{tells_commit_complete}
 use Rattle.tp_steps.specs.Moves.{prelude}
 use Rattle.tp_steps.specs.Traces.{sent_of, is_old}
 use Rattle.tp_steps.specs.Trees.{IsLoggedIn}
@@ -47,7 +48,7 @@ use Rattle.tp_runs.proofs.KnownBranches.{log_current}
 use Rattle.tp_agreement.proofs.Bounds.{commit_bound}
 use Rattle.tp_histories.proofs.trees.Fated.{fated_law}
 use Rattle.tp_runs.proofs.Users.{sees_commit}
-use Rattle.tp_drained.proofs.LiveLaw.{unfailed_before}
+use Rattle.tp_drained.proofs.LiveLaw.{unfailed_before, no_crash}
 use Rattle.tp_drained.proofs.DrainedWords.{under_superior}
 use Rattle.tp_drained.proofs.Said.{says_ready, says_done, says_leaving}
 use Rattle.tp_reports.proofs.Finished.{Ending, Goes_on, It_rolled, It_left, It_was_told, ending_law}
@@ -90,9 +91,6 @@ pub told_more : (test : List Out → Bool) (o : Origin) (t : Aaid) (e : Entry) (
 told_more test o t e h i = rw i (grind arith)
 
 -- ---- histories without a failure
-
-no_crash : (e : Event) → is_failure e ≡ false → e ≡ Event.Crash → ⊥
-no_crash e h is = absurd (cc (ap is_failure (sym is) ∙ h))
 
 -- an entry that logs leaves the transaction as it was before the event's own work
 pub logs_plain : (o : Origin) (up : Option Addr) (e : Entry) (h : List Entry) → IsGrown o up (e ∷ h) → (e.rec ≡ None → ⊥) → (prelude o.who (digest o h) e.event).current ≡ (digest o h).current
@@ -200,16 +198,16 @@ bound_by t (LogRec.Heuristic n k u ∷ rs) h = bound_by t rs h
 bound_by t (LogRec.Damage n k s u r cs ∷ rs) h = bound_by t rs h
 bound_by t (LogRec.End n k u ∷ rs) h = bound_by t rs h
 
-complete_commits : (outs : List Out) → completes outs ≡ true → tells_commit outs ≡ true
+complete_commits : (outs : List Out) → tells_commit_complete outs ≡ true → tells_commit outs ≡ true
 complete_commits [] h = h
 complete_commits (Out.Tell Indication.Commit ∷ outs) h = refl
 complete_commits (Out.Tell (Indication.CommitComplete r) ∷ outs) h = refl
 complete_commits (o ∷ outs) h = let rest = complete_commits outs in grind (arith, h, rest)
 
-pub complete_told : (o : Origin) (t : Aaid) (h : List Entry) → has_told_in completes o t h ≡ true → has_told_in tells_commit o t h ≡ true
+pub complete_told : (o : Origin) (t : Aaid) (h : List Entry) → has_told_in tells_commit_complete o t h ≡ true → has_told_in tells_commit o t h ≡ true
 complete_told o t [] i = i
-complete_told o t (e ∷ h) i = elim (or_case (is_now t (digest o h).current && completes e.outs) (has_told_in completes o t h) i) [
-  | inl j ↦ told_first tells_commit o t e h (and_left (is_now t (digest o h).current) (completes e.outs) j) (complete_commits e.outs (and_right (is_now t (digest o h).current) (completes e.outs) j))
+complete_told o t (e ∷ h) i = elim (or_case (is_now t (digest o h).current && tells_commit_complete e.outs) (has_told_in tells_commit_complete o t h) i) [
+  | inl j ↦ told_first tells_commit o t e h (and_left (is_now t (digest o h).current) (tells_commit_complete e.outs) j) (complete_commits e.outs (and_right (is_now t (digest o h).current) (tells_commit_complete e.outs) j))
   | inr j ↦ told_more tells_commit o t e h (complete_told o t h j)
 ]
 
@@ -222,9 +220,9 @@ pub data Stands (o : Origin) (h : List Entry) (t : Aaid) : Type 0 where
 -- and, once it has committed, is committing or was told that the commitment is complete
 pub data Commits (o : Origin) (h : List Entry) (t : Aaid) : Type 0 where
   Is_committing : (c : Current) → (digest o h).current ≡ Some c → is_aaid t (aaid_of c.key) ≡ true → is_committing c.phase ≡ true → Commits o h t
-  Was_told : has_told_in completes o t h ≡ true → Commits o h t
+  Was_told : has_told_in tells_commit_complete o t h ≡ true → Commits o h t
 
-pub stands_law : (o : Origin) (up : Option Addr) (h : List Entry) (t : Aaid) → IsLegal o up h → IsUnfailed o up h → rolled o t h ≡ false → is_member o t h ≡ true → Stands o h t
+pub stands_law : (o : Origin) (up : Option Addr) (h : List Entry) (t : Aaid) → IsLegal o up h → IsUnfailed t o up h → rolled o t h ≡ false → is_member o t h ≡ true → Stands o h t
 stands_law o up h t legal u whole member = go (ending_law o up h t u.fresh u.grown u.once member)
   where
     fated : IsFated o h t
@@ -243,7 +241,7 @@ stands_law o up h t legal u whole member = go (ending_law o up h t u.fresh u.gro
     go (It_left l) = Has_left l
     go (It_was_told x) = Is_bound (commit_bound t (records o h) (sees_commit o up h t u.fresh u.grown u.once (complete_told o t h x)))
 
-pub commits_law : (o : Origin) (up : Option Addr) (h : List Entry) (t : Aaid) → IsUnfailed o up h → rolled o t h ≡ false → has_left o t h ≡ false → is_member o t h ≡ true → decided o t h ≡ true → Commits o h t
+pub commits_law : (o : Origin) (up : Option Addr) (h : List Entry) (t : Aaid) → IsUnfailed t o up h → rolled o t h ≡ false → has_left o t h ≡ false → is_member o t h ≡ true → decided o t h ≡ true → Commits o h t
 commits_law o up h t u whole stays member done = go (ending_law o up h t u.fresh u.grown u.once member)
   where
     go : Ending o h t → Commits o h t
@@ -256,15 +254,15 @@ commits_law o up h t u whole stays member done = go (ending_law o up h t u.fresh
 
 -- ---- whether commitment was asked for
 
-asked_known : (o : Origin) (up : Option Addr) (h : List Entry) (t : Aaid) → IsUnfailed o up h → has_asked o t h ≡ true → is_known o t h ≡ true
+asked_known : (o : Origin) (up : Option Addr) (h : List Entry) (t : Aaid) → IsUnfailed t o up h → has_asked_commit o t h ≡ true → is_known o t h ≡ true
 asked_known o up [] t u a = absurd (cc (a))
-asked_known o up (e ∷ h) t u a = elim (or_case (is_now t (digest o h).current && is_commit_request e.event) (has_asked o t h) a) [
+asked_known o up (e ∷ h) t u a = elim (or_case (is_now t (digest o h).current && is_commit_request e.event) (has_asked_commit o t h) a) [
   | inl i ↦ known_more o up e h t u.grown (now_known o up h t u.fresh u.grown.3 (and_left (is_now t (digest o h).current) (is_commit_request e.event) i))
-  | inr i ↦ known_more o up e h t u.grown (asked_known o up h t (unfailed_before o up e h u).1 i)
+  | inr i ↦ known_more o up e h t u.grown (asked_known o up h t (unfailed_before t o up e h u).1 i)
 ]
 
 -- the current transaction of a known tree is that of before
-pub plain_before : (o : Origin) (up : Option Addr) (e : Entry) (h : List Entry) (t : Aaid) → IsUnfailed o up (e ∷ h) → is_known o t h ≡ true → is_now t (digest o (e ∷ h)).current ≡ true
+pub plain_before : (o : Origin) (up : Option Addr) (e : Entry) (h : List Entry) (t : Aaid) → IsUnfailed t o up (e ∷ h) → is_known o t h ≡ true → is_now t (digest o (e ∷ h)).current ≡ true
     → (is_now t (digest o h).current ≡ true) × ((prelude o.who (digest o h) e.event).current ≡ (digest o h).current)
 plain_before o up e h t u known n = (before, go (entered o e h u.grown.0))
   where
@@ -272,13 +270,13 @@ plain_before o up e h t u known n = (before, go (entered o e h u.grown.0))
     before = now_then o up e h t u.fresh u.grown u.once known n
 
     go : Entered o e h → (prelude o.who (digest o h) e.event).current ≡ (digest o h).current
-    go (Crashed is) = absurd (no_crash e.event ((unfailed_before o up e h u).0) is)
+    go (Crashed is) = absurd (no_crash t o up e h u before is)
     go (Begun from v b a begun calm cur nil quiet by) = absurd (cc (before, nil_now (digest o h) t (late_law o up h u.grown.3) nil))
     go (Plain calm none same) = same
 
-pub asked_now : (o : Origin) (up : Option Addr) (h : List Entry) (t : Aaid) (c : Current) → IsUnfailed o up h → has_asked o t h ≡ true → (digest o h).current ≡ Some c → is_aaid t (aaid_of c.key) ≡ true → c.asked ≡ true
+pub asked_now : (o : Origin) (up : Option Addr) (h : List Entry) (t : Aaid) (c : Current) → IsUnfailed t o up h → has_asked_commit o t h ≡ true → (digest o h).current ≡ Some c → is_aaid t (aaid_of c.key) ≡ true → c.asked ≡ true
 asked_now o up [] t c u a at tree = absurd (cc (a))
-asked_now o up (e ∷ h) t c u a at tree = go (step_of o.who d e.event (late_law o up h u.grown.3) u.grown.0 c at) (or_case (is_now t d.current && is_commit_request e.event) (has_asked o t h) a) (λ v i j k. asked_now o up h t v (unfailed_before o up e h u).1 i j k)
+asked_now o up (e ∷ h) t c u a at tree = go (step_of o.who d e.event (late_law o up h u.grown.3) u.grown.0 c at) (or_case (is_now t d.current && is_commit_request e.event) (has_asked_commit o t h) a) (λ v i j k. asked_now o up h t v (unfailed_before t o up e h u).1 i j k)
   where
     d : Digest
     d = digest o h
@@ -286,12 +284,12 @@ asked_now o up (e ∷ h) t c u a at tree = go (step_of o.who d e.event (late_law
     s : Digest
     s = prelude o.who d e.event
 
-    known : ((is_now t d.current && is_commit_request e.event) ≡ true) ⊎ (has_asked o t h ≡ true) → is_known o t h ≡ true
+    known : ((is_now t d.current && is_commit_request e.event) ≡ true) ⊎ (has_asked_commit o t h ≡ true) → is_known o t h ≡ true
     known (inl i) = now_known o up h t u.fresh u.grown.3 (and_left (is_now t d.current) (is_commit_request e.event) i)
-    known (inr i) = asked_known o up h t (unfailed_before o up e h u).1 i
+    known (inr i) = asked_known o up h t (unfailed_before t o up e h u).1 i
 
-    go : IsStep (λ v. v.asked) o.who s (is_commit_request e.event) c → ((is_now t d.current && is_commit_request e.event) ≡ true) ⊎ (has_asked o t h ≡ true)
-        → ((v : Current) → has_asked o t h ≡ true → d.current ≡ Some v → is_aaid t (aaid_of v.key) ≡ true → v.asked ≡ true) → c.asked ≡ true
+    go : IsStep (λ v. v.asked) o.who s (is_commit_request e.event) c → ((is_now t d.current && is_commit_request e.event) ≡ true) ⊎ (has_asked_commit o t h ≡ true)
+        → ((v : Current) → has_asked_commit o t h ≡ true → d.current ≡ Some v → is_aaid t (aaid_of v.key) ≡ true → v.asked ≡ true) → c.asked ≡ true
     go (inl w) (inl i) rest = let now = and_right (is_now t d.current) (is_commit_request e.event) i in w.3 ∙ rw now refl
     go (inl w) (inr i) rest =
         let same = (plain_before o up e h t u (known (inr i)) (ap (is_now t) at ∙ tree)).1 in
@@ -329,9 +327,9 @@ none_ready : (t : Aaid) (r : Option LogRec) → ready_opt t r ≡ true → r ≡
 none_ready t r h is = absurd (cc (ap (ready_opt t) is, h))
 
 -- who logged Ready of a tree has taken its Begin
-pub ready_begun : (o : Origin) (up : Option Addr) (h : List Entry) (t : Aaid) → IsUnfailed o up h → has_ready_in t (records o h) ≡ true → has_taken_begin t h ≡ true
+pub ready_begun : (o : Origin) (up : Option Addr) (h : List Entry) (t : Aaid) → IsUnfailed t o up h → has_ready_in t (records o h) ≡ true → has_taken_begin t h ≡ true
 ready_begun o up [] t u r = let none : has_ready_in t (records o []) ≡ false = ap (λ (rs : List LogRec). has_ready_in t (reverse rs)) u.fresh in absurd (cc (none, r))
-ready_begun o up (e ∷ h) t u r = go (ready_split t e.rec (records o h) r) (ready_begun o up h t (unfailed_before o up e h u).1)
+ready_begun o up (e ∷ h) t u r = go (ready_split t e.rec (records o h) r) (ready_begun o up h t (unfailed_before t o up e h u).1)
   where
     d : Digest
     d = digest o h
@@ -359,9 +357,9 @@ ready_begun o up (e ∷ h) t u r = go (ready_split t e.rec (records o h) r) (rea
     go (inl i) rest = let r = new i in rw r (grind arith)
     go (inr i) rest = let r = rest i in rw r (grind arith)
 
-pub ready_up : (o : Origin) (up : Option Addr) (h : List Entry) (t : Aaid) (p : ℕ) → IsUnfailed o up h → IsBelow o up t p → has_ready_in t (records o h) ≡ true → has_told_in (says p is_answer) o t h ≡ true
+pub ready_up : (o : Origin) (up : Option Addr) (h : List Entry) (t : Aaid) (p : ℕ) → IsUnfailed t o up h → IsBelow o up t p → has_ready_in t (records o h) ≡ true → has_told_in (says p is_answer) o t h ≡ true
 ready_up o up [] t p u k r = let none : has_ready_in t (records o []) ≡ false = ap (λ (rs : List LogRec). has_ready_in t (reverse rs)) u.fresh in absurd (cc (none, r))
-ready_up o up (e ∷ h) t p u k r = go (ready_split t e.rec (records o h) r) (ready_up o up h t p (unfailed_before o up e h u).1 k)
+ready_up o up (e ∷ h) t p u k r = go (ready_split t e.rec (records o h) r) (ready_up o up h t p (unfailed_before t o up e h u).1 k)
   where
     d : Digest
     d = digest o h
@@ -375,15 +373,15 @@ ready_up o up (e ∷ h) t p u k r = go (ready_split t e.rec (records o h) r) (re
         let c = ready_in t (prelude o.who d e.event) e.rec logs i in
         let at : d.current ≡ Some c.1 = sym (logs_plain o up e h u.grown (none_ready t e.rec i)) ∙ c.2 in
         let under = (under_superior o up h t p c.1 u.fresh u.grown.3 k.other k.above at c.3).3 in
-        told_first (says p is_answer) o t e h (ap (is_now t) at ∙ c.3) (is_said o h e p DialogueRecord.Ready is_answer (says_ready o up h e u c.0 c.1 p at under) refl)
+        told_first (says p is_answer) o t e h (ap (is_now t) at ∙ c.3) (is_said o h e p DialogueRecord.Ready is_answer (says_ready t o up h e u c.0 c.1 p at c.3 under) refl)
 
     go : (ready_opt t e.rec ≡ true) ⊎ (has_ready_in t (records o h) ≡ true) → (has_ready_in t (records o h) ≡ true → has_told_in (says p is_answer) o t h ≡ true) → has_told_in (says p is_answer) o t (e ∷ h) ≡ true
     go (inl i) rest = new i
     go (inr i) rest = told_more (says p is_answer) o t e h (rest i)
 
-pub left_up : (o : Origin) (up : Option Addr) (h : List Entry) (t : Aaid) (p : ℕ) → IsUnfailed o up h → IsBelow o up t p → has_left o t h ≡ true → has_told_in (says p is_answer) o t h ≡ true
+pub left_up : (o : Origin) (up : Option Addr) (h : List Entry) (t : Aaid) (p : ℕ) → IsUnfailed t o up h → IsBelow o up t p → has_left o t h ≡ true → has_told_in (says p is_answer) o t h ≡ true
 left_up o up [] t p u k l = absurd (cc (l))
-left_up o up (e ∷ h) t p u k l = go (or_case (is_now t d.current && is_unchanged e.event) (has_left o t h) l) (left_up o up h t p (unfailed_before o up e h u).1 k)
+left_up o up (e ∷ h) t p u k l = go (or_case (is_now t d.current && is_unchanged e.event) (has_left o t h) l) (left_up o up h t p (unfailed_before t o up e h u).1 k)
   where
     d : Digest
     d = digest o h
@@ -392,7 +390,7 @@ left_up o up (e ∷ h) t p u k l = go (or_case (is_now t d.current && is_unchang
     new n i =
         let c = now_some t d.current n in
         let under = (under_superior o up h t p c.0 u.fresh u.grown.3 k.other k.above c.1 c.2).3 in
-        told_first (says p is_answer) o t e h n (elim (says_leaving o up h e u i c.0 p c.1 under) [
+        told_first (says p is_answer) o t e h n (elim (says_leaving t o up h e u i c.0 p c.1 c.2 under) [
           | inl s ↦ is_said o h e p DialogueRecord.Left is_answer s refl
           | inr s ↦ is_said o h e p DialogueRecord.LeftEnd is_answer s refl
         ])
@@ -401,9 +399,9 @@ left_up o up (e ∷ h) t p u k l = go (or_case (is_now t d.current && is_unchang
     go (inl i) rest = new (and_left (is_now t d.current) (is_unchanged e.event) i) (and_right (is_now t d.current) (is_unchanged e.event) i)
     go (inr i) rest = told_more (says p is_answer) o t e h (rest i)
 
-pub done_up : (o : Origin) (up : Option Addr) (h : List Entry) (t : Aaid) (p : ℕ) → IsUnfailed o up h → IsBelow o up t p → completed_none o t h ≡ true → has_told_in (says p is_done) o t h ≡ true
+pub done_up : (o : Origin) (up : Option Addr) (h : List Entry) (t : Aaid) (p : ℕ) → IsUnfailed t o up h → IsBelow o up t p → completed_none o t h ≡ true → has_told_in (says p is_done) o t h ≡ true
 done_up o up [] t p u k l = absurd (cc (l))
-done_up o up (e ∷ h) t p u k l = go (or_case (is_now t d.current && tells_complete_none e.outs) (completed_none o t h) l) (done_up o up h t p (unfailed_before o up e h u).1 k)
+done_up o up (e ∷ h) t p u k l = go (or_case (is_now t d.current && tells_complete_none e.outs) (completed_none o t h) l) (done_up o up h t p (unfailed_before t o up e h u).1 k)
   where
     d : Digest
     d = digest o h
@@ -412,7 +410,7 @@ done_up o up (e ∷ h) t p u k l = go (or_case (is_now t d.current && tells_comp
     new n i =
         let c = now_some t d.current n in
         let under = (under_superior o up h t p c.0 u.fresh u.grown.3 k.other k.above c.1 c.2).3 in
-        told_first (says p is_done) o t e h n (is_said o h e p (DialogueRecord.Done Report.None) is_done (says_done o up h e u i c.0 p c.1 under) refl)
+        told_first (says p is_done) o t e h n (is_said o h e p (DialogueRecord.Done Report.None) is_done (says_done t o up h e u i c.0 p c.1 c.2 under) refl)
 
     go : ((is_now t d.current && tells_complete_none e.outs) ≡ true) ⊎ (completed_none o t h ≡ true) → (completed_none o t h ≡ true → has_told_in (says p is_done) o t h ≡ true) → has_told_in (says p is_done) o t (e ∷ h) ≡ true
     go (inl i) rest = new (and_left (is_now t d.current) (tells_complete_none e.outs) i) (and_right (is_now t d.current) (tells_complete_none e.outs) i)

@@ -1,5 +1,5 @@
 -- In a drained tree without failure a branch takes its superior's order while the tree is current.
-use Rattle.std.proofs.Common.{◌≡◌, ◌⊎◌, inl, inr, ℕ, Bool, true, false, refl, ap, sym, subst, ◌∙◌, arith, Option, Some, None, List, [], ◌∷◌, ◌++◌, ◌&&◌, ◌||◌, not, append_assoc}
+use Rattle.std.proofs.Common.{◌≡◌, ◌⊎◌, inl, inr, ℕ, Bool, true, false, refl, ap, sym, subst, ◌∙◌, arith, Option, Some, None, List, [], ◌∷◌, ◌++◌, ◌&&◌, ◌||◌, not, length, append_assoc}
 use Rattle.tp_names.specs.declared.identifiers.Mark.{Mark}
 use Rattle.tp_names.specs.declared.identifiers.Aaid.{Aaid}
 use Rattle.tp_names.specs.declared.identifiers.BranchId.{BranchId}
@@ -27,7 +27,7 @@ use Rattle.tp_histories.specs.Traces.{sent_on, taken_on}
 use Rattle.tp_steps.specs.Facts.{is_order, BranchKey, begins_by, last_from, each_under, is_ordered, IsHeard}
 use Rattle.tp_steps.specs.Trees.{commits_tree}
 use Rattle.tp_histories.specs.Members.{is_begun_by, has_taken_begin, is_own, IsOnce}
-use Rattle.tp_drained.specs.DrainedWorlds.{says, OrdersAreTaken}
+use Rattle.tp_drained.specs.DrainedWorlds.{is_word_of, says, OrdersAreTaken}
 use Rattle.tp_histories.proofs.trees.Late.{late_law}
 use Rattle.tp_steps.proofs.words.Leaves.{aaid_same}
 use Rattle.tp_steps.proofs.lemmas.Equality.{aaids_equal, and_left, and_right}
@@ -44,7 +44,7 @@ use Rattle.tp_histories.proofs.worlds.Good.{good_run}
 use Rattle.tp_histories.proofs.worlds.Unique.{unique_run}
 use Rattle.tp_agreement.proofs.AccountSteps.{took_case, took_here}
 use Rattle.tp_agreement.proofs.BelowRuns.{branch_above}
-use Rattle.tp_drained.proofs.DrainedTaken.{all_taken}
+use Rattle.tp_drained.proofs.DrainedTaken.{WasSaid, was_said, taken_at}
 use Rattle.tp_drained.proofs.Moments.{moment_legal, moment_once, now_since, sent_since, TakenThen, taken_then, took_then, ToldThen, told_then, Said, said_word}
 use Rattle.tp_drained.proofs.DrainedWords.{said_words, live_parts, same_current, under_superior, heard_word}
 use Rattle.tp_agreement.proofs.RollsUp.{known_taken}
@@ -52,7 +52,7 @@ use Rattle.tp_agreement.proofs.RollsUp.{known_taken}
 -- ---- what a superior ordered in a tree
 
 -- Commit, after the Begin of the tree
-record Ordered (h : List Entry) (t : Aaid) (p : ℕ) : Type 0 where
+record Ordered (o : Origin) (h : List Entry) (t : Aaid) (p : ℕ) : Type 0 where
   x : Mark
   y : Mark
   before : List DialogueRecord
@@ -62,6 +62,11 @@ record Ordered (h : List Entry) (t : Aaid) (p : ℕ) : Type 0 where
   kind : is_order word ≡ true
   sent : sent_on x y p h ≡ before ++ word ∷ rest
   last : last_from None before ≡ Some (t, id)
+  said : WasSaid o t h p x y (length before) word
+
+order_of_tree : (t : Aaid) (x y : Mark) (n : ℕ) (r : DialogueRecord) → is_order r ≡ true → is_word_of t true (PeerRecord.OnAssoc x y n r) ≡ true
+order_of_tree t x y n DialogueRecord.Commit h = refl
+order_of_tree t x y n r h = absurd (cc (h))
 
 order_word : (r : DialogueRecord) → is_order r ≡ true → is_word r ≡ true
 order_word DialogueRecord.Commit h = refl
@@ -79,7 +84,7 @@ stands_under f g k before r rest each kind =
     let one : (not (f r) || g (last_from k before)) ≡ true = and_left (not (f r) || g (last_from k before)) (each_under f g (begins_by (last_from k before) r) rest) tail in
     rw kind at one
 
-ordered : (o : Origin) (up : Option Addr) (h : List Entry) (t : Aaid) (p : ℕ) → o.start.records ≡ [] → IsGrown o up h → IsOnce o h → has_told_in (says p is_order) o t h ≡ true → Ordered h t p
+ordered : (o : Origin) (up : Option Addr) (h : List Entry) (t : Aaid) (p : ℕ) → o.start.records ≡ [] → IsGrown o up h → IsOnce o h → has_told_in (says p is_order) o t h ≡ true → Ordered o h t p
 ordered o up h t p empty legal once told = record {
   x = l.0;
   y = l.1;
@@ -90,6 +95,7 @@ ordered o up h t p empty legal once told = record {
   kind = word.kind;
   sent = more.1 ∙ ap (λ (rs : List DialogueRecord). rs ++ more.0) sent ∙ append_assoc before (word.word ∷ word.rest) more.0;
   last = last_append None first word.before ∙ key.1 ∙ made key.0 tree;
+  said = was_said o up t e b h p l.0 l.1 word.before word.word word.rest m.moment legal_now m.now (λ n. order_of_tree t l.0 l.1 n word.word word.kind) sent;
 }
   where
     m : ToldThen (says p is_order) o t h
@@ -113,8 +119,8 @@ ordered o up h t p empty legal once told = record {
     outs : List Out
     outs = (action o.who d e.event).outs
 
-    said : has_said is_order (said_to p outs) ≡ true
-    said = ap (λ (v : Entry). has_said is_order (said_to p v.outs)) legal_now.1 ∙ m.tells
+    tells : has_said is_order (said_to p outs) ≡ true
+    tells = ap (λ (v : Entry). has_said is_order (said_to p v.outs)) legal_now.1 ∙ m.tells
 
     current : s.current ≡ d.current
     current = same_current o up e b t legal_now m.now (λ none. absurd (cc (m.tells, ap (says p is_order) none)))
@@ -124,13 +130,13 @@ ordered o up h t p empty legal once told = record {
 
     live : (v : Bool) → is_live (link_with s.arcs p) ≡ v → is_live (link_with s.arcs p) ≡ true
     live true i = i
-    live false i = absurd (said_words is_order order_word (said_to p outs) said (heard.dead i))
+    live false i = absurd (said_words is_order order_word (said_to p outs) tells (heard.dead i))
 
     l : (x : Mark) × (y : Mark) × (n : ℕ) × (k : ℕ) × (link_with s.arcs p ≡ Live x y n k)
     l = live_parts (link_with s.arcs p) (live (is_live (link_with s.arcs p)) refl)
 
     word : Said is_order (said_to p outs)
-    word = said_word is_order (said_to p outs) said
+    word = said_word is_order (said_to p outs) tells
 
     first : List DialogueRecord
     first = sent_on l.0 l.1 p b
@@ -199,7 +205,7 @@ begun_taken (e ∷ h) x y p t id i = go (took_case e.event p x y) (begun_taken h
     go (inr w) rest = word w.0 w.1 w.2 w.3 (sym (ap (last_from (last_from None (taken_on x y p h))) (took_here p e.event w.0 x y w.1 w.2 w.3 w.4)) ∙ last) rest
 
 pub orders_are_taken : (es : List Happening) → OrdersAreTaken (run es)
-orders_are_taken es t drained fine b x z branch told now =
+orders_are_taken es t drained b x z branch told now =
     took_then (λ d. is_aaid t (aaid_of d.key) && is_under_at d.key (number_of x)) is_order z.origin (number_of x) m.entry m.behind z.history m.moment c.0 c.1 (rw (c.2, under.3) refl)
     (heard_word is_order (number_of x) m.entry.event m.from said.x said.y m.seq said.word m.is m.at said.kind)
   where
@@ -221,11 +227,14 @@ orders_are_taken es t drained fine b x z branch told now =
     once : IsOnce z.origin z.history
     once = (unique_run es).once (number_of z) z hz
 
-    said : Ordered x.history t (number_of z)
+    said : Ordered x.origin x.history t (number_of z)
     said = ordered x.origin x.superior x.history t (number_of z) (good.fresh (number_of x) x hx) (good.legal (number_of x) x hx) ((unique_run es).once (number_of x) x hx) told
 
+    took : (less : List DialogueRecord) × (taken_on said.x said.y (number_of x) z.history ≡ said.before ++ said.word ∷ less)
+    took = taken_at es t drained x z said.x said.y said.before said.word said.rest branch.superior hz said.sent said.said
+
     m : TakenThen z.history said.x said.y (number_of x) said.before said.word
-    m = taken_then z.history said.x said.y (number_of x) said.before said.word said.rest (sym (all_taken es t drained fine x z said.x said.y branch.superior hz) ∙ said.sent)
+    m = taken_then z.history said.x said.y (number_of x) said.before said.word took.0 took.1
 
     legal_now : IsGrown z.origin z.superior (m.entry ∷ m.behind)
     legal_now = moment_legal z.origin z.superior m.entry m.behind z.history m.moment legal

@@ -9,17 +9,17 @@ use Rattle.tp_model.specs.Parts.{Branch, Current}
 use Rattle.tp_model.specs.Dialogues.{is_active, is_committing}
 use Rattle.tp_model.specs.Transactions.{aaid_of}
 use Rattle.tp_model.specs.History.{digest, records}
-use Rattle.tp_model.specs.Outcomes.{is_now, has_left, has_asked}
+use Rattle.tp_model.specs.Outcomes.{is_now, has_left, has_asked_commit}
 use Rattle.tp_model.specs.Questions.{is_at}
 use Rattle.tp_model.specs.World.{Node, number_of, addr_of, find_node}
 use Rattle.tp_model.specs.Happenings.{Happening, run}
-use Rattle.tp_model.specs.Promises.{IsOf, IsBranchOf, IsDrained, IsFailureFree, AllAsked, has_told_in, has_logged, is_bound_of}
+use Rattle.tp_model.specs.Promises.{IsOf, IsBranchOf, AllAsked, has_told_in, has_logged, is_bound_of}
 use Rattle.tp_histories.specs.Worlds.{place}
 use Rattle.tp_steps.specs.Facts.{find_branch}
 use Rattle.tp_histories.specs.Undone.{are_settled, is_left_unsettled, is_left_undone}
 use Rattle.tp_steps.specs.Heeding.{is_answer, has_answered}
 use Rattle.tp_drained.specs.Drained.{IsUnfailed, branch_is}
-use Rattle.tp_drained.specs.DrainedWorlds.{HasBegun, says}
+use Rattle.tp_drained.specs.DrainedWorlds.{IsUnfailedTree, IsDrainedTree, HasBegun, says}
 use Rattle.tp_steps.proofs.lemmas.Equality.{or_case, aaids_equal}
 use Rattle.tp_steps.proofs.branches.Rolls.{phase_at}
 use Rattle.tp_histories.proofs.worlds.Good.{good_run}
@@ -42,11 +42,11 @@ use Rattle.tp_drained.proofs.DrainedRows.{row_begun, all_settled_at}
 
 -- a tree that the sentence speaks of
 pub record IsDone (es : List Happening) (t : Aaid) : Type 0 where
-  pub drained : IsDrained (run es) t
-  pub calm : IsFailureFree (run es) t
+  pub drained : IsDrainedTree (run es) t
+  pub calm : IsUnfailedTree (run es) t
   pub asked : AllAsked (run es) t
 
-pub unfailed_at : (es : List Happening) (t : Aaid) → IsDone es t → (x : Node) → IsOf (run es) t x → IsUnfailed x.origin x.superior x.history
+pub unfailed_at : (es : List Happening) (t : Aaid) → IsDone es t → (x : Node) → IsOf (run es) t x → IsUnfailed t x.origin x.superior x.history
 unfailed_at es t k x of = record {
   fresh = (good_run es).fresh (number_of x) x of.here;
   grown = (good_run es).legal (number_of x) x of.here;
@@ -113,8 +113,8 @@ pub answer_heeded : (es : List Happening) (t : Aaid) → IsDone es t → (b : Br
     → (c : Current) → (digest x.origin x.history).current ≡ Some c → is_aaid t (aaid_of c.key) ≡ true → branch_is has_answered c (number_of z) ≡ true
 answer_heeded es t k b x z branch said c at tree =
     let u = unfailed_at es t k x branch.superior in
-    let took = answers_are_taken es t k.drained k.calm b x z branch said (ap (is_now t) at ∙ tree) in
-    heeds_ready x.origin x.superior x.history u t c (number_of z) (nobody_rolls es t k.calm x branch.superior) took at tree
+    let took = answers_are_taken es t k.drained b x z branch said (ap (is_now t) at ∙ tree) in
+    heeds_ready t x.origin x.superior x.history u c (number_of z) (nobody_rolls es t k.calm x branch.superior) took at tree
 
 -- it has left, or is bound by a record
 abbrev pub IsAnswered : Aaid → Node → Type 0
@@ -127,10 +127,10 @@ branch_answered : (es : List Happening) (t : Aaid) → IsDone es t → (b : Bran
     → (c : Current) → (digest x.origin x.history).current ≡ Some c → is_aaid t (aaid_of c.key) ≡ true → is_active c.phase ≡ true → branch_is has_answered c (number_of z) ≡ true
 branch_answered es t k b x z branch answered c at tree active = answer_heeded es t k b x z branch (said answered) c at tree
   where
-    uz : IsUnfailed z.origin z.superior z.history
+    uz : IsUnfailed t z.origin z.superior z.history
     uz = unfailed_at es t k z branch.child
 
-    ux : IsUnfailed x.origin x.superior x.history
+    ux : IsUnfailed t x.origin x.superior x.history
     ux = unfailed_at es t k x branch.superior
 
     said : IsAnswered t z → has_told_in (says (number_of x) is_answer) z.origin t z.history ≡ true
@@ -143,8 +143,8 @@ branch_answered es t k b x z branch answered c at tree active = answer_heeded es
 pub branch_at : (es : List Happening) (t : Aaid) → IsDone es t → (x : Node) → IsOf (run es) t x → (c : Current) (p : ℕ) (v : Branch) → (digest x.origin x.history).current ≡ Some c → is_aaid t (aaid_of c.key) ≡ true → find_branch c.branches p ≡ Some v
     → (z : Node) × (number_of z ≡ p) × IsBranchOf (run es) t v.id x z
 branch_at es t k x of c p v at tree found =
-    let begun = row_begun x.origin x.superior x.history c p v (all_legal es x of.here) (unfailed_at es t k x of) at found in
-    branches_are_there es t k.drained k.calm x p v.id of (subst (λ (u : Aaid). HasBegun x.history p u v.id) (sym (aaids_equal t (aaid_of c.key) tree)) begun)
+    let begun = row_begun t x.origin x.superior x.history c p v (all_legal es x of.here) (unfailed_at es t k x of) at tree found in
+    branches_are_there es t k.drained x p v.id of (subst (λ (u : Aaid). HasBegun x.history p u v.id) (sym (aaids_equal t (aaid_of c.key) tree)) begun)
 
 pub found_is : (f : Branch → Bool) (c : Current) (p : ℕ) (v : Branch) → find_branch c.branches p ≡ Some v → branch_is f c p ≡ true → f v ≡ true
 found_is f c p v found h = rw (found, branch_is) at h
@@ -153,15 +153,15 @@ found_is f c p v found h = rw (found, branch_is) at h
 
 pub answered_up : (es : List Happening) (t : Aaid) → IsDone es t → (k : ℕ) (x : Node) → IsWithin es k x → IsOf (run es) t x → IsAnswered t x
 answered_up es t d zero x le of = absurd (none_within es t x of le)
-answered_up es t d (suc k) x le of = go (or_case (has_asked x.origin t x.history) (has_left x.origin t x.history) (d.asked x of)) (λ b z branch. answered_up es t d k z (branch_within es t b k x z branch le) branch.child)
+answered_up es t d (suc k) x le of = go (or_case (has_asked_commit x.origin t x.history) (has_left x.origin t x.history) (d.asked x of)) (λ b z branch. answered_up es t d k z (branch_within es t b k x z branch le) branch.child)
   where
-    u : IsUnfailed x.origin x.superior x.history
+    u : IsUnfailed t x.origin x.superior x.history
     u = unfailed_at es t d x of
 
     undone : (c : Current) → is_active c.phase ≡ true → c.asked ≡ true → are_settled c.branches ≡ true → is_left_undone c ≡ true
     undone c h i j = rw (h, i, j, is_left_undone, is_left_unsettled) refl
 
-    never : (c : Current) → (digest x.origin x.history).current ≡ Some c → is_aaid t (aaid_of c.key) ≡ true → is_active c.phase ≡ true → has_asked x.origin t x.history ≡ true
+    never : (c : Current) → (digest x.origin x.history).current ≡ Some c → is_aaid t (aaid_of c.key) ≡ true → is_active c.phase ≡ true → has_asked_commit x.origin t x.history ≡ true
         → ((b : BranchId) (z : Node) → IsBranchOf (run es) t b x z → IsAnswered t z) → ⊥
     never c at tree active asked rest =
         let settled : are_settled c.branches ≡ true = all_settled_at c.branches (spread_at x.origin x.superior x.history u.fresh u.grown c at) (λ p v found.
@@ -169,12 +169,12 @@ answered_up es t d (suc k) x le of = go (or_case (has_asked x.origin t x.history
         found_is has_answered c p v found (subst (λ (n : ℕ). branch_is has_answered c n ≡ true) z.1 (branch_answered es t d v.id x z.0 z.2 (rest v.id z.0 z.2) c at tree active)))) in
         cc (undone c active (asked_now x.origin x.superior x.history t c u asked at tree) settled, prompt_run es x c of.here at)
 
-    stood : Stands x.origin x.history t → has_asked x.origin t x.history ≡ true → ((b : BranchId) (z : Node) → IsBranchOf (run es) t b x z → IsAnswered t z) → IsAnswered t x
+    stood : Stands x.origin x.history t → has_asked_commit x.origin t x.history ≡ true → ((b : BranchId) (z : Node) → IsBranchOf (run es) t b x z → IsAnswered t z) → IsAnswered t x
     stood (Is_active c at tree active) asked rest = absurd (never c at tree active asked rest)
     stood (Is_bound r) asked rest = inr r
     stood (Has_left l) asked rest = inl l
 
-    go : (has_asked x.origin t x.history ≡ true) ⊎ (has_left x.origin t x.history ≡ true) → ((b : BranchId) (z : Node) → IsBranchOf (run es) t b x z → IsAnswered t z) → IsAnswered t x
+    go : (has_asked_commit x.origin t x.history ≡ true) ⊎ (has_left x.origin t x.history ≡ true) → ((b : BranchId) (z : Node) → IsBranchOf (run es) t b x z → IsAnswered t z) → IsAnswered t x
     go (inr l) rest = inl l
     go (inl asked) rest = stood (stands_law x.origin x.superior x.history t (all_legal es x of.here) u (nobody_rolls es t d.calm x of) of.of_tree) asked rest
 

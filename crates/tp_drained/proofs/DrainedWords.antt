@@ -22,7 +22,7 @@ use Rattle.tp_model.specs.Questions.{is_at, said_to, has_said, heard_from, is_re
 use Rattle.tp_model.specs.World.{Node, number_of, addr_of, find_node}
 use Rattle.tp_model.specs.Happenings.{Happening, run}
 use Rattle.tp_model.specs.Legal.{IsGrown}
-use Rattle.tp_model.specs.Promises.{IsBranchOf, IsDrained, IsFailureFree, has_told_in}
+use Rattle.tp_model.specs.Promises.{IsBranchOf, has_told_in}
 use Rattle.tp_histories.specs.Histories.{HasSent}
 use Rattle.tp_histories.specs.Worlds.{IsGood}
 use Rattle.tp_steps.specs.Moves.{is_word, prelude}
@@ -35,7 +35,7 @@ use Rattle.tp_steps.specs.Upward.{voting_from, each_up, Deeds, may_say}
 use Rattle.tp_histories.specs.Upward.{deeds_of, SpeaksUp}
 use Rattle.tp_runs.specs.Heeded.{is_heeded, heeds_event, heeds}
 use Rattle.tp_steps.specs.Heeding.{is_answer}
-use Rattle.tp_drained.specs.DrainedWorlds.{says, AnswersAreTaken}
+use Rattle.tp_drained.specs.DrainedWorlds.{is_word_of, IsDrainedTree, says, AnswersAreTaken}
 use Rattle.tp_histories.proofs.trees.Late.{late_law}
 use Rattle.tp_steps.proofs.lemmas.Equality.{aaids_equal, and_left, and_right, both_true}
 use Rattle.tp_steps.proofs.lemmas.Words.{ends_append}
@@ -58,7 +58,7 @@ use Rattle.tp_agreement.proofs.Accounts.{get_long}
 use Rattle.tp_agreement.proofs.AccountSteps.{heeded_at}
 use Rattle.tp_agreement.proofs.BelowRuns.{branch_above}
 use Rattle.tp_agreement.proofs.RollsUp.{tied_run}
-use Rattle.tp_drained.proofs.DrainedTaken.{sent_with, all_taken}
+use Rattle.tp_drained.proofs.DrainedTaken.{sent_with, WasSaid, was_said, taken_at}
 use Rattle.tp_drained.proofs.Moments.{IsMoment, moment_of, moment_legal, moment_once, now_since, sent_since, taken_since, key_stays, TakenThen, taken_then, took_then, ToldThen, told_then, Said, said_word}
 use Rattle.tp_steps.proofs.lemmas.Options.{some_same}
 
@@ -101,6 +101,15 @@ pub record SaidUp (o : Origin) (h : List Entry) (t : Aaid) (p : ℕ) (f : Dialog
   pub kind : f word ≡ true
   pub sent : sent_on x y p h ≡ before ++ word ∷ rest
   pub place : slice_get (begun_keys (taken_on x y p h)) (ends_in before) ≡ Some (t, id)
+  pub said : WasSaid o t h p x y (length before) word
+
+word_of_tree : (t : Aaid) (x y : Mark) (n : ℕ) (r : DialogueRecord) → is_upward r ≡ true → is_word_of t true (PeerRecord.OnAssoc x y n r) ≡ true
+word_of_tree t x y n DialogueRecord.Ready h = refl
+word_of_tree t x y n (DialogueRecord.Done r) h = refl
+word_of_tree t x y n (DialogueRecord.RolledBack r) h = refl
+word_of_tree t x y n DialogueRecord.Left h = refl
+word_of_tree t x y n DialogueRecord.LeftEnd h = refl
+word_of_tree t x y n r h = absurd (cc (h))
 
 upward_word : (r : DialogueRecord) → is_upward r ≡ true → is_word r ≡ true
 upward_word DialogueRecord.Ready h = refl
@@ -166,6 +175,7 @@ said_up o up h t p f empty legal once above taken upward told = record {
   kind = word.kind;
   sent = more.1 ∙ ap (λ (rs : List DialogueRecord). rs ++ more.0) sent ∙ append_assoc before (word.word ∷ word.rest) more.0;
   place = key_stays (taken_on l.0 l.1 p (e ∷ b)) (taken_on l.0 l.1 p h) took.0 (ends_in before) (t, under.0) took.1 place;
+  said = was_said o up t e b h p l.0 l.1 word.before word.word word.rest m.moment legal_now m.now (λ n. word_of_tree t l.0 l.1 n word.word (upward word.word word.kind)) sent;
 }
   where
     m : ToldThen (says p f) o t h
@@ -370,12 +380,12 @@ reached o up h t p f g rs x y before w rest id empty legal once heeded is at kin
     c = now_some t (digest o b).current (now_since o up t e b h empty legal once m.moment (sent_known o up b sent.0 x y i.0 t id i.1 empty legal_now.3 sent.2) now)
 
 -- in a drained tree without failure
-pub reached_up : (es : List Happening) (t : Aaid) → IsDrained (run es) t → IsFailureFree (run es) t → (b : BranchId) (x z : Node) → IsBranchOf (run es) t b x z → (f : DialogueRecord → Bool) → ((r : DialogueRecord) → f r ≡ true → is_upward r ≡ true)
+pub reached_up : (es : List Happening) (t : Aaid) → IsDrainedTree (run es) t → (b : BranchId) (x z : Node) → IsBranchOf (run es) t b x z → (f : DialogueRecord → Bool) → ((r : DialogueRecord) → f r ≡ true → is_upward r ≡ true)
     → has_told_in (says (number_of x) f) z.origin t z.history ≡ true → is_now t (digest x.origin x.history).current ≡ true → Reached x.origin x.history t (number_of z) f
-reached_up es t drained fine b x z branch f upward told now =
-    reached x.origin x.superior x.history t (number_of z) f (deeds_of z.origin z.history) (records z.origin z.history) said.x said.y said.before said.word said.rest said.id
+reached_up es t drained b x z branch f upward told now =
+    reached x.origin x.superior x.history t (number_of z) f (deeds_of z.origin z.history) (records z.origin z.history) said.x said.y said.before said.word took.0 said.id
     (good.fresh (number_of x) x hx) (good.legal (number_of x) x hx) ((unique_run es).once (number_of x) x hx) ((tied_run es).heeds x z hx hz above)
-    (sym (all_taken es t drained fine z x said.x said.y branch.child hx) ∙ said.sent)
+    took.1
     (key_stays (taken_on said.x said.y (number_of x) z.history) (sent_on said.x said.y (number_of z) x.history) pre.0 (ends_in said.before) (t, said.id) began said.place) said.kind (upward said.word said.kind) now
   where
     good : IsGood (run es).nodes (run es).frames
@@ -393,6 +403,9 @@ reached_up es t drained fine b x z branch f upward told now =
     said : SaidUp z.origin z.history t (number_of x) f
     said = said_up z.origin z.superior z.history t (number_of x) f (good.fresh (number_of z) z hz) (good.legal (number_of z) z hz) ((unique_run es).once (number_of z) z hz) above
         (begun_up z.origin z.superior z.history t b (addr_of x) (good.legal (number_of z) z hz) branch.begun).taken upward told
+
+    took : (less : List DialogueRecord) × (taken_on said.x said.y (number_of z) x.history ≡ said.before ++ said.word ∷ less)
+    took = taken_at es t drained z x said.x said.y said.before said.word said.rest branch.child hx said.sent said.said
 
     pre : (more : List DialogueRecord) × (sent_on said.x said.y (number_of z) (history_at (run es).nodes (number_of x)) ≡ taken_on said.x said.y (number_of x) (history_at (run es).nodes (number_of z)) ++ more)
     pre = prefix_list (run es).nodes (run es).frames good (number_of z) (number_of x) said.x said.y
@@ -412,7 +425,7 @@ answer_up DialogueRecord.LeftEnd h = refl
 answer_up r h = absurd (cc (h))
 
 pub answers_are_taken : (es : List Happening) → AnswersAreTaken (run es)
-answers_are_taken es t drained fine b x z branch told now =
-    let k = reached_up es t drained fine b x z branch is_answer answer_up told now in
+answers_are_taken es t drained b x z branch told now =
+    let k = reached_up es t drained b x z branch is_answer answer_up told now in
     took_then (λ d. is_aaid t (aaid_of d.key)) is_answer x.origin (number_of z) k.entry k.behind x.history k.moment k.current k.now k.tree
     (heard_word is_answer (number_of z) k.entry.event k.from k.x k.y k.seq k.word k.is k.at k.kind)

@@ -37,7 +37,7 @@ use Rattle.tp_histories.proofs.trees.Knowing.{known_more, now_known}
 use Rattle.tp_histories.proofs.worlds.TreeMembers.{now_then}
 use Rattle.tp_histories.proofs.trees.Fated.{fated_law}
 use Rattle.tp_steps.proofs.branches.Heeding.{heeding_event}
-use Rattle.tp_drained.proofs.LiveLaw.{calm_put, calm_is_put, legal_of, unfailed_before, among_of}
+use Rattle.tp_drained.proofs.LiveLaw.{mild_put, legal_of, unfailed_before, mild_entry, among_of}
 use Rattle.tp_histories.proofs.order.InOrderLaw.{empty_apart}
 use Rattle.tp_histories.proofs.order.PutLaw.{put_law}
 use Rattle.tp_steps.proofs.log.Passed.{passed_turn}
@@ -156,13 +156,10 @@ some_current : (v : Option Current) (g : Current → Bool) → elim v as (λ _. 
 some_current None g h = absurd (cc (h))
 some_current (Some c) g h = (c, refl, h)
 
-one_tree : (t : Aaid) (j k : Key) → is_aaid t (aaid_of j) ≡ true → is_aaid t (aaid_of k) ≡ true → is_aaid (aaid_of j) (aaid_of k) ≡ true
-one_tree t j k h i = subst (λ (x : Aaid). is_aaid x (aaid_of k) ≡ true) (aaids_equal t (aaid_of j) h) i
-
 -- where something was taken of the tree, it is known
-took_known : (o : Origin) (up : Option Addr) (h : List Entry) (t : Aaid) (g : Current → Bool) (f : DialogueRecord → Bool) (p : ℕ) → ((c : Current) → g c ≡ true → is_aaid t (aaid_of c.key) ≡ true) → IsUnfailed o up h → took_in g f o p h ≡ true → is_known o t h ≡ true
+took_known : (o : Origin) (up : Option Addr) (h : List Entry) (t : Aaid) (g : Current → Bool) (f : DialogueRecord → Bool) (p : ℕ) → ((c : Current) → g c ≡ true → is_aaid t (aaid_of c.key) ≡ true) → IsUnfailed t o up h → took_in g f o p h ≡ true → is_known o t h ≡ true
 took_known o up [] t g f p tree k took = absurd (cc (took))
-took_known o up (e ∷ h) t g f p tree k took = go (or_case new (took_in g f o p h) took) (took_known o up h t g f p tree (unfailed_before o up e h k).1)
+took_known o up (e ∷ h) t g f p tree k took = go (or_case new (took_in g f o p h) took) (took_known o up h t g f p tree (unfailed_before t o up e h k).1)
   where
     new : Bool
     new = elim (digest o h).current as (λ _. Bool) [ None ↦ false | Some c ↦ g c ] && is_record f (heard_from p e.event)
@@ -174,17 +171,17 @@ took_known o up (e ∷ h) t g f p tree k took = go (or_case new (took_in g f o p
         known_more o up e h t k.grown (now_known o up h t k.fresh k.grown.3 (ap (is_now t) at.1 ∙ tree at.0 at.2))
 
 -- so it was current before the entry, where it is after it
-took_before : (o : Origin) (up : Option Addr) (e : Entry) (h : List Entry) (t : Aaid) (g : Current → Bool) (f : DialogueRecord → Bool) (p : ℕ) (u : Current) → ((c : Current) → g c ≡ true → is_aaid t (aaid_of c.key) ≡ true) → IsUnfailed o up (e ∷ h)
+took_before : (o : Origin) (up : Option Addr) (e : Entry) (h : List Entry) (t : Aaid) (g : Current → Bool) (f : DialogueRecord → Bool) (p : ℕ) (u : Current) → ((c : Current) → g c ≡ true → is_aaid t (aaid_of c.key) ≡ true) → IsUnfailed t o up (e ∷ h)
     → took_in g f o p h ≡ true → (digest o (e ∷ h)).current ≡ Some u → is_aaid t (aaid_of u.key) ≡ true → (c : Current) × ((digest o h).current ≡ Some c) × (is_aaid t (aaid_of c.key) ≡ true)
 took_before o up e h t g f p u tree k took now same =
     now_some t (digest o h).current
-    (now_then o up e h t k.fresh k.grown k.once (took_known o up h t g f p tree (unfailed_before o up e h k).1 took) (ap (is_now t) now ∙ same))
+    (now_then o up e h t k.fresh k.grown k.once (took_known o up h t g f p tree (unfailed_before t o up e h k).1 took) (ap (is_now t) now ∙ same))
 
 either_off : (a b : Bool) → (a || b) ≡ false → b ≡ false
 either_off a b h = grind (arith, h)
 
 -- a tree that did not roll is not rolling
-not_rolling : (o : Origin) (up : Option Addr) (h : List Entry) (t : Aaid) (c : Current) → IsUnfailed o up h → rolled o t h ≡ false → (digest o h).current ≡ Some c → is_aaid t (aaid_of c.key) ≡ true → is_rolling c.phase ≡ false
+not_rolling : (o : Origin) (up : Option Addr) (h : List Entry) (t : Aaid) (c : Current) → IsUnfailed t o up h → rolled o t h ≡ false → (digest o h).current ≡ Some c → is_aaid t (aaid_of c.key) ≡ true → is_rolling c.phase ≡ false
 not_rolling o up h t c k off now same = go (is_rolling c.phase) refl
   where
     go : (b : Bool) → is_rolling c.phase ≡ b → b ≡ false
@@ -197,9 +194,9 @@ word_of f (Some w) h = (w, refl, h)
 
 -- ---- answers of branches
 
-answers_now : (o : Origin) (up : Option Addr) (h : List Entry) (e : Entry) (c u : Current) (p : ℕ) (w : DialogueRecord) → IsUnfailed o up (e ∷ h) → (digest o h).current ≡ Some c → (digest o (e ∷ h)).current ≡ Some u → is_aaid (aaid_of c.key) (aaid_of u.key) ≡ true
+answers_now : (t : Aaid) (o : Origin) (up : Option Addr) (h : List Entry) (e : Entry) (c u : Current) (p : ℕ) (w : DialogueRecord) → IsUnfailed t o up (e ∷ h) → (digest o h).current ≡ Some c → (digest o (e ∷ h)).current ≡ Some u → is_aaid t (aaid_of c.key) ≡ true → is_aaid t (aaid_of u.key) ≡ true
     → is_rolling c.phase ≡ false → is_answer w ≡ true → Comes o.who (digest o h) e.event p w → branch_is has_answered u p ≡ true
-answers_now o up h e c u p w k i is same still word at = go (after_event o up h e c u k i is same)
+answers_now t o up h e c u p w k i is tree same still word at = go (after_event t o up h e c u k i is tree same)
   where
     d : Digest
     d = digest o h
@@ -224,8 +221,8 @@ answers_now o up h e c u p w k i is same still word at = go (after_event o up h 
         let heeded = (heeding_event x.event (seen o.who x.arcs c) put).answers a.peer.node w (sym took) word fine still in
         subst (λ (n : ℕ). branch_is has_answered u n ≡ true) at.1 (holds_after o.who x.arcs c u (transacted x.event (seen o.who x.arcs c)).next a.peer.node has_answered rest heeded.1)
 
-ready_step : (o : Origin) (up : Option Addr) (e : Entry) (h : List Entry) → IsUnfailed o up (e ∷ h) → HeedsReady o h → HeedsReady o (e ∷ h)
-ready_step o up e h k rest t u p off took now same = go (or_case new (took_in (λ d. is_aaid t (aaid_of d.key)) is_answer o p h) took)
+ready_step : (t : Aaid) (o : Origin) (up : Option Addr) (e : Entry) (h : List Entry) → IsUnfailed t o up (e ∷ h) → HeedsReady t o h → HeedsReady t o (e ∷ h)
+ready_step t o up e h k rest u p off took now same = go (or_case new (took_in (λ d. is_aaid t (aaid_of d.key)) is_answer o p h) took)
   where
     old : rolled o t h ≡ false
     old = either_off _ (rolled o t h) off
@@ -236,16 +233,16 @@ ready_step o up e h k rest t u p off took now same = go (or_case new (took_in (�
     go : (new ≡ true) ⊎ (took_in (λ d. is_aaid t (aaid_of d.key)) is_answer o p h ≡ true) → branch_is has_answered u p ≡ true
     go (inr j) =
         let c = took_before o up e h t (λ d. is_aaid t (aaid_of d.key)) is_answer p u (λ x y. y) k j now same in
-        stays_counted o up h e k c.0 u p c.1 now (one_tree t c.0.key u.key c.2 same) (rest t c.0 p old j c.1 c.2)
+        stays_counted t o up h e k c.0 u p c.1 now c.2 same (rest c.0 p old j c.1 c.2)
     go (inl j) =
         let c = some_current (digest o h).current (λ x. is_aaid t (aaid_of x.key)) (and_left _ (is_record is_answer (heard_from p e.event)) j) in
         let w = word_of is_answer (heard_from p e.event) (and_right _ (is_record is_answer (heard_from p e.event)) j) in
-        answers_now o up h e c.0 u p w.0 k c.1 now (one_tree t c.0.key u.key c.2 same) (not_rolling o up h t c.0 (unfailed_before o up e h k).1 old c.1 c.2) w.2
+        answers_now t o up h e c.0 u p w.0 k c.1 now c.2 same (not_rolling o up h t c.0 (unfailed_before t o up e h k).1 old c.1 c.2) w.2
         (comes o.who (digest o h) e.event p w.0 k.grown.0 (hears e.event p w.0 w.1))
 
-pub heeds_ready : (o : Origin) (up : Option Addr) (h : List Entry) → IsUnfailed o up h → HeedsReady o h
-heeds_ready o up [] k = λ t c p off took now same. absurd (cc (took))
-heeds_ready o up (e ∷ h) k = ready_step o up e h k (heeds_ready o up h (unfailed_before o up e h k).1)
+pub heeds_ready : (t : Aaid) (o : Origin) (up : Option Addr) (h : List Entry) → IsUnfailed t o up h → HeedsReady t o h
+heeds_ready t o up [] k = λ c p off took now same. absurd (cc (took))
+heeds_ready t o up (e ∷ h) k = ready_step t o up e h k (heeds_ready t o up h (unfailed_before t o up e h k).1)
 
 -- ---- a branch that is done
 
@@ -257,9 +254,9 @@ there : (arcs : List Arc) (bs : List Branch) (p : ℕ) → has_branch_at bs p �
 there arcs [] p h = absurd (cc (h))
 there arcs (b ∷ bs) p h = grind (arith, h, there arcs bs p)
 
-done_now : (o : Origin) (up : Option Addr) (h : List Entry) (e : Entry) (c u : Current) (p : ℕ) (r : Report) → IsUnfailed o up (e ∷ h) → (digest o h).current ≡ Some c → (digest o (e ∷ h)).current ≡ Some u → is_aaid (aaid_of c.key) (aaid_of u.key) ≡ true
+done_now : (t : Aaid) (o : Origin) (up : Option Addr) (h : List Entry) (e : Entry) (c u : Current) (p : ℕ) (r : Report) → IsUnfailed t o up (e ∷ h) → (digest o h).current ≡ Some c → (digest o (e ∷ h)).current ≡ Some u → is_aaid t (aaid_of c.key) ≡ true → is_aaid t (aaid_of u.key) ≡ true
     → is_committing c.phase ≡ true → has_branch_at c.branches p ≡ true → Comes o.who (digest o h) e.event p (DialogueRecord.Done r) → branch_is has_ended u p ≡ true
-done_now o up h e c u p r k i is same late branch at = subst (λ (n : ℕ). branch_is has_ended u n ≡ true) at.1 (on (row_holds (seen_rows d.arcs c.branches) a.peer.node (λ x. not x.ended && not x.left)) refl)
+done_now t o up h e c u p r k i is tree same late branch at = subst (λ (n : ℕ). branch_is has_ended u n ≡ true) at.1 (on (row_holds (seen_rows d.arcs c.branches) a.peer.node (λ x. not x.ended && not x.left)) refl)
   where
     d : Digest
     d = digest o h
@@ -274,7 +271,7 @@ done_now o up h e c u p r k i is same late branch at = subst (λ (n : ℕ). bran
     here = ap (has_branch_at c.branches) at.1 ∙ branch
 
     after : IsAfter o h e c u
-    after = after_event o up h e c u k i is same
+    after = after_event t o up h e c u k i is tree same
 
     put_is : (later : List Arc) × (put_by_record a.peer.node (counted_arcs d.arcs a.peer.node) w ≡ Some (record { event = TxEvent.Took a.peer.node w; arcs = later }))
     put_is = put_word a.peer.node (counted_arcs d.arcs a.peer.node) w refl
@@ -306,8 +303,8 @@ is_done_in t p d = is_aaid t (aaid_of d.key) && is_committing d.phase && has_bra
 done_tree : (t : Aaid) (p : ℕ) (c : Current) → is_done_in t p c ≡ true → is_aaid t (aaid_of c.key) ≡ true
 done_tree t p c h = grind (arith, h)
 
-done_step : (o : Origin) (up : Option Addr) (e : Entry) (h : List Entry) → IsUnfailed o up (e ∷ h) → HeedsDone o h → HeedsDone o (e ∷ h)
-done_step o up e h k rest t u p took now same = go (or_case new (took_in (is_done_in t p) is_done o p h) took)
+done_step : (t : Aaid) (o : Origin) (up : Option Addr) (e : Entry) (h : List Entry) → IsUnfailed t o up (e ∷ h) → HeedsDone t o h → HeedsDone t o (e ∷ h)
+done_step t o up e h k rest u p took now same = go (or_case new (took_in (is_done_in t p) is_done o p h) took)
   where
     new : Bool
     new = elim (digest o h).current as (λ _. Bool) [ None ↦ false | Some c ↦ is_done_in t p c ] && is_record is_done (heard_from p e.event)
@@ -318,17 +315,17 @@ done_step o up e h k rest t u p took now same = go (or_case new (took_in (is_don
     go : (new ≡ true) ⊎ (took_in (is_done_in t p) is_done o p h ≡ true) → branch_is has_ended u p ≡ true
     go (inr j) =
         let c = took_before o up e h t (is_done_in t p) is_done p u (done_tree t p) k j now same in
-        stays_ended o up h e k c.0 u p c.1 now (one_tree t c.0.key u.key c.2 same) (rest t c.0 p j c.1 c.2)
+        stays_ended t o up h e k c.0 u p c.1 now c.2 same (rest c.0 p j c.1 c.2)
     go (inl j) =
         let c = some_current (digest o h).current (is_done_in t p) (and_left _ (is_record is_done (heard_from p e.event)) j) in
         let w = word_of is_done (heard_from p e.event) (and_right _ (is_record is_done (heard_from p e.event)) j) in
         let r = done_word w.0 w.2 in
         let m = parts (is_aaid t (aaid_of c.0.key)) (is_committing c.0.phase) (has_branch_at c.0.branches p) c.2 in
-        done_now o up h e c.0 u p r.0 k c.1 now (one_tree t c.0.key u.key m.0 same) m.1 m.2 (comes o.who (digest o h) e.event p (DialogueRecord.Done r.0) k.grown.0 (hears e.event p (DialogueRecord.Done r.0) (w.1 ∙ ap (λ (v : DialogueRecord). Some v) r.1)))
+        done_now t o up h e c.0 u p r.0 k c.1 now m.0 same m.1 m.2 (comes o.who (digest o h) e.event p (DialogueRecord.Done r.0) k.grown.0 (hears e.event p (DialogueRecord.Done r.0) (w.1 ∙ ap (λ (v : DialogueRecord). Some v) r.1)))
 
-pub heeds_done : (o : Origin) (up : Option Addr) (h : List Entry) → IsUnfailed o up h → HeedsDone o h
-heeds_done o up [] k = λ t c p took now same. absurd (cc (took))
-heeds_done o up (e ∷ h) k = done_step o up e h k (heeds_done o up h (unfailed_before o up e h k).1)
+pub heeds_done : (t : Aaid) (o : Origin) (up : Option Addr) (h : List Entry) → IsUnfailed t o up h → HeedsDone t o h
+heeds_done t o up [] k = λ c p took now same. absurd (cc (took))
+heeds_done t o up (e ∷ h) k = done_step t o up e h k (heeds_done t o up h (unfailed_before t o up e h k).1)
 
 -- ---- the superior's order
 
@@ -362,7 +359,7 @@ early_of Phase.Rolling a b c = absurd (cc (b))
 early_of _ a b c = refl
 
 -- a node that is ready goes on to commit
-order_now : (o : Origin) (up : Option Addr) (h : List Entry) (e : Entry) (c : Current) (p : ℕ) (t : Aaid) → IsUnfailed o up (e ∷ h) → (digest o h).current ≡ Some c → is_aaid t (aaid_of c.key) ≡ true → is_under_at c.key p ≡ true
+order_now : (o : Origin) (up : Option Addr) (h : List Entry) (e : Entry) (c : Current) (p : ℕ) (t : Aaid) → IsUnfailed t o up (e ∷ h) → (digest o h).current ≡ Some c → is_aaid t (aaid_of c.key) ≡ true → is_under_at c.key p ≡ true
     → (is_active c.phase || is_ready c.phase) ≡ true → Comes o.who (digest o h) e.event p DialogueRecord.Commit → decided o t (e ∷ h) ≡ true
 order_now o up h e c p t k i tree above early at = go (put_by o.who d e.event) refl
   where
@@ -374,9 +371,6 @@ order_now o up h e c p t k i tree above early at = go (put_by o.who d e.event) r
 
     w : DialogueRecord
     w = DialogueRecord.Commit
-
-    calm : is_failure e.event ≡ false
-    calm = (unfailed_before o up e h k).0
 
     under : is_under_at c.key a.peer.node ≡ true
     under = ap (is_under_at c.key) at.1 ∙ above
@@ -397,18 +391,18 @@ order_now o up h e c p t k i tree above early at = go (put_by o.who d e.event) r
         let g : Digest = record d { arcs = x.arcs } in
         let took : TxEvent.Took a.peer.node w ≡ x.event = event_of x (TxEvent.Took a.peer.node w) put_is.0 (sym some ∙ j) in
         let to : IsPutTo o.who d e.event c x = put_law o up h e.event c x (legal_of o up h k.fresh k.grown.3) (empty_apart o k.fresh) k.grown.0 i j in
-        let put : IsPut x.event s = calm_is_put o.who d e.event c x i (among_of o up h c k.fresh k.grown.3 i).current to (calm_put o.who d e.event x calm j) in
+        let put : IsPut x.event s = (mild_put o.who d e.event c x i (among_of o up h c k.fresh k.grown.3 i).current k.grown.0 (mild_entry t o up e h c k i tree) to j).put in
         let fine : refused_tx x.event s ≡ None = subst (λ (f : TxEvent). refused_tx f s ≡ None) took (order_ready o.who d.arcs x.arcs c a.peer.node under early acts.1) in
         let heeded = (heeding_event x.event s put).orders a.peer.node (sym took) fine under early in
         let next : Transaction = (transacted x.event s).next in
         let over : is_over (passed o.who x.event g c) ≡ false = enters_not_over (is_leaving x.event) c.phase next.phase heeded.0 heeded.1 in
         let u = remains_committing next heeded.1 in
-        let now : (digest o (e ∷ h)).current ≡ Some u.0 = ap (λ (m : Move). m.next.current) to.acts ∙ others_current d e.event (transact o.who x.event g) calm ∙ transact_forward o.who x.event g c i over ∙ u.1 in
+        let now : (digest o (e ∷ h)).current ≡ Some u.0 = ap (λ (m : Move). m.next.current) to.acts ∙ others_current d e.event (transact o.who x.event g) ∙ transact_forward o.who x.event g c i over ∙ u.1 in
         let key : u.0.key ≡ c.key = u.2 ∙ IsPassed.key (passed_turn x.event s put) in
         (fated_law o up (e ∷ h) t k.fresh k.grown k.once).committing (ap (is_now t) now ∙ ap (λ (y : Key). is_aaid t (aaid_of y)) key ∙ tree) (ap is_committing (phase_at (digest o (e ∷ h)) u.0 now) ∙ u.3)
 
-order_step : (o : Origin) (up : Option Addr) (e : Entry) (h : List Entry) → IsUnfailed o up (e ∷ h) → HeedsCommit o h → HeedsCommit o (e ∷ h)
-order_step o up e h k rest t p off took = go (or_case new (took_in below is_order o p h) took)
+order_step : (t : Aaid) (o : Origin) (up : Option Addr) (e : Entry) (h : List Entry) → IsUnfailed t o up (e ∷ h) → HeedsCommit t o h → HeedsCommit t o (e ∷ h)
+order_step t o up e h k rest p off took = go (or_case new (took_in below is_order o p h) took)
   where
     below : Current → Bool
     below c = is_aaid t (aaid_of c.key) && is_under_at c.key p
@@ -426,10 +420,10 @@ order_step o up e h k rest t p off took = go (or_case new (took_in below is_orde
     phase : (c : Current) → (digest o h).current ≡ Some c → is_aaid t (aaid_of c.key) ≡ true → is_under_at c.key p ≡ true → Comes o.who (digest o h) e.event p DialogueRecord.Commit → (b : Bool) → is_committing c.phase ≡ b → decided o t (e ∷ h) ≡ true
     phase c i tree above at true j = commit_more t e.rec (records o h) ((fated_law o up h t k.fresh k.grown.3 k.once.1).committing (ap (is_now t) i ∙ tree) (ap is_committing (phase_at (digest o h) c i) ∙ j))
     phase c i tree above at false j =
-        order_now o up h e c p t k i tree above (early_of c.phase (among_of o up h c k.fresh k.grown.3 i).current (not_rolling o up h t c (unfailed_before o up e h k).1 old i tree) j) at
+        order_now o up h e c p t k i tree above (early_of c.phase (among_of o up h c k.fresh k.grown.3 i).current (not_rolling o up h t c (unfailed_before t o up e h k).1 old i tree) j) at
 
     go : (new ≡ true) ⊎ (took_in below is_order o p h ≡ true) → decided o t (e ∷ h) ≡ true
-    go (inr j) = commit_more t e.rec (records o h) (rest t p old j)
+    go (inr j) = commit_more t e.rec (records o h) (rest p old j)
     go (inl j) =
         let c = some_current (digest o h).current below (and_left _ (is_record is_order (heard_from p e.event)) j) in
         let w = word_of is_order (heard_from p e.event) (and_right _ (is_record is_order (heard_from p e.event)) j) in
@@ -437,6 +431,6 @@ order_step o up e h k rest t p off took = go (or_case new (took_in below is_orde
         phase c.0 c.1 (and_left (is_aaid t (aaid_of c.0.key)) (is_under_at c.0.key p) c.2) (and_right (is_aaid t (aaid_of c.0.key)) (is_under_at c.0.key p) c.2)
         (comes o.who (digest o h) e.event p DialogueRecord.Commit k.grown.0 (hears e.event p DialogueRecord.Commit (w.1 ∙ ap (λ (v : DialogueRecord). Some v) same))) (is_committing c.0.phase) refl
 
-pub heeds_commit : (o : Origin) (up : Option Addr) (h : List Entry) → IsUnfailed o up h → HeedsCommit o h
-heeds_commit o up [] k = λ t p off took. absurd (cc (took))
-heeds_commit o up (e ∷ h) k = order_step o up e h k (heeds_commit o up h (unfailed_before o up e h k).1)
+pub heeds_commit : (t : Aaid) (o : Origin) (up : Option Addr) (h : List Entry) → IsUnfailed t o up h → HeedsCommit t o h
+heeds_commit t o up [] k = λ p off took. absurd (cc (took))
+heeds_commit t o up (e ∷ h) k = order_step t o up e h k (heeds_commit t o up h (unfailed_before t o up e h k).1)

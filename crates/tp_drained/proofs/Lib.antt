@@ -10,6 +10,7 @@ pub mod LiveTurned
 pub mod LiveEvents
 pub mod LiveLaw
 pub mod AfterEvent
+pub mod LiveArcs
 pub mod Heeds
 pub mod Unended
 pub mod Said

@@ -148,7 +148,7 @@ aside_still d g same grows = record { alive = λ old c p is need. grows c p (sym
 aside_none : (d : Digest) (m : Move) → m.next.current ≡ None → out_tells is_outcome_told m.outs ≡ false → logs_ready_or_commit m.rec ≡ false → IsAside d m
 aside_none d m none quiet plain = record { alive = λ old c p is need. absurd (cc (none, is)); quiet = quiet; plain = plain }
 
-no_transact : (who : Who) (f : TxEvent) (g : Digest) → g.current ≡ None → transact who f g ≡ move [] g
+pub no_transact : (who : Who) (f : TxEvent) (g : Digest) → g.current ≡ None → transact who f g ≡ move [] g
 unfolding transact
 no_transact who f g none = ap (λ (o : Option Current). elim o as (λ _. Move) [ None ↦ move [] g | Some c ↦ restarted who (passed who f g c) (turned who f g c) ]) none
 
@@ -359,6 +359,19 @@ end_aside who d p ok = aside_perform d d (TxOut.Carry p DialogueRecord.EndDialog
         let same : p ≡ q = grind (arith, nat_tests, i) in
         absurd (cc (is_peer_no who d c q is need, ap (λ (n : ℕ). (situation_at who d n).branch) (sym same) ∙ refused_end who d p ok))
 
+-- a dialogue that is no branch is aborted
+pub aborts_aside : (who : Who) (d : Digest) (p : ℕ) → (situation_at who d p).branch ≡ false → IsAside d (perform (TxOut.Carry p DialogueRecord.UAbort ∷ TxOut.Close p ∷ []) d)
+aborts_aside who d p off = aside_perform d d (TxOut.Carry p DialogueRecord.UAbort ∷ TxOut.Close p ∷ []) refl refl (same_arcs d) (λ c q is need live. rw (other c q is need (p == q) refl) refl)
+  where
+    other : (c : Current) (q : ℕ) → d.current ≡ Some c → needs c q ≡ true → (b : Bool) → (p == q) ≡ b → b ≡ false
+    other c q is need false i = refl
+    other c q is need true i =
+        let same : p ≡ q = grind (arith, nat_tests, i) in
+        absurd (cc (is_peer_no who d c q is need, ap (λ (n : ℕ). (situation_at who d n).branch) (sym same) ∙ off))
+
+pub nothing_aside : (d : Digest) → IsAside d (move [] d)
+nothing_aside d = aside_still d d refl (same_arcs d)
+
 request_aside : (who : Who) (d : Digest) (r : Request) → is_failure (Event.Do r) ≡ false → refused_request who d r ≡ None → IsNone (put_by_request who d r) d → IsAside d (do_request who r d)
 request_aside who d (Request.BeginDialogue a u) calm ok h = call_aside who d a u
 request_aside who d (Request.Accept u) calm ok h = accept_aside who d u
@@ -414,6 +427,9 @@ counted_live r q d p = go (is_response r)
 
 counted_same : (r : DialogueRecord) (q : ℕ) (d : Digest) → (woken_by r q (record d { arcs = with_link d.arcs q with_one_taken })).current ≡ d.current
 counted_same r q d = grind arith
+
+pub counted_aside : (d : Digest) (q : ℕ) (r : DialogueRecord) → IsAside d (move [] (woken_by r q (record d { arcs = with_link d.arcs q with_one_taken })))
+counted_aside d q r = aside_still d (woken_by r q (record d { arcs = with_link d.arcs q with_one_taken })) (counted_same r q d) (λ c p is need live. counted_live r q d p ∙ live)
 
 hear_aside : (d : Digest) (p : ℕ) (h : Heard) (i : Indication) → is_outcome_told i ≡ false → IsAside d (perform (TxOut.Tell i ∷ []) (record d { arcs = with_dialogue d.arcs p (heard h) }))
 hear_aside d p h i none = aside_says d (record d { arcs = with_dialogue d.arcs p (heard h) }) (TxOut.Tell i ∷ []) refl (rw none refl) refl (changed d p (heard h))

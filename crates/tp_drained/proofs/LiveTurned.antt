@@ -27,7 +27,7 @@ use Rattle.tp_steps.proofs.log.Passed.{passed_turn}
 use Rattle.tp_steps.proofs.branches.Rowed.{rowed_turn}
 use Rattle.tp_steps.proofs.log.Sound.{left_is, left_branches}
 use Rattle.tp_steps.proofs.every.EveryRecord.{find_arc_is}
-use Rattle.tp_drained.proofs.Calm.{is_calm, leaves_with_end, keeps_event}
+use Rattle.tp_drained.proofs.Calm.{spares, leaves_with_end, keeps_event}
 use Rattle.tp_steps.proofs.every.BeginCases.{begun_over, begin_cases}
 use Rattle.tp_control.proofs.LedEvents.{seen_holds}
 
@@ -104,9 +104,9 @@ was_open f s p put h = go (find_row (transacted f s).next.rows p) refl
             let later : row_holds (transacted f s).next.rows p has_ended ≡ true = (heeding_event f s put).ended p ended in
             absurd (grind (arith, h, later, i))
 
-pub alive_turned : (who : Who) (f : TxEvent) (d : Digest) (c : Current) → d.current ≡ Some c → IsPut f (seen who d.arcs c) → is_calm f ≡ true → ((p : ℕ) → leaves_with_end f p ≡ true → is_under_at c.key p ≡ false)
+pub alive_turned : (who : Who) (f : TxEvent) (d : Digest) (c : Current) → d.current ≡ Some c → IsPut f (seen who d.arcs c) → ((p : ℕ) → needs c p ≡ true → spares f c.key p ≡ true) → ((p : ℕ) → leaves_with_end f p ≡ true → is_under_at c.key p ≡ false)
     → IsAlive d → IsAlive (turned who f d c).next
-alive_turned who f d c now put calm above old u p is need = go (is_under_at c.key p) refl
+alive_turned who f d c now put spare above old u p is need = go (is_under_at c.key p) refl
   where
     s : Transaction
     s = seen who d.arcs c
@@ -126,8 +126,8 @@ alive_turned who f d c now put calm above old u p is need = go (is_under_at c.ke
     after : stays true p a.outs ≡ true → is_live_with_peer d.arcs p ≡ true → is_live_with_peer (turned who f d c).next.arcs p ≡ true
     after st live = (agrees_played d s w a.outs d.arcs p (apart_turn f s put)).live ∙ ap (λ v. stays v p a.outs) live ∙ st
 
-    shut : leaves_with_end f p ≡ false → stays true p a.outs ≡ true
-    shut off = (keeps_event f p s calm off put.late).shut left.3
+    shut : needs c p ≡ true → leaves_with_end f p ≡ false → stays true p a.outs ≡ true
+    shut need off = (keeps_event f p s (spare p need) off put.late).shut left.3
 
     branch : is_under_at c.key p ≡ false → row_holds a.next.rows p is_open ≡ true
     branch i =
@@ -135,11 +135,14 @@ alive_turned who f d c now put calm above old u p is need = go (is_under_at c.ke
         let now_open : branch_is is_open u p ≡ true = grind (arith, need, off) in
         sym (holds_left a.next.rows p is_open) ∙ ap (λ (bs : List Branch). elim (find_branch bs p) as (λ _. Bool) [ None ↦ false | Some b ↦ is_open b ]) (sym (left_branches a.next u is)) ∙ now_open
 
+    needed : row_holds s.rows p is_open ≡ true → needs c p ≡ true
+    needed h = let was : branch_is is_open c p ≡ true = sym (seen_holds d.arcs c.branches p is_open) ∙ h in grind (arith, was)
+
     before : row_holds s.rows p is_open ≡ true → is_live_with_peer d.arcs p ≡ true
-    before h = let was : branch_is is_open c p ≡ true = sym (seen_holds d.arcs c.branches p is_open) ∙ h in old c p now (grind (arith, was))
+    before h = old c p now (needed h)
 
     aside : is_under_at c.key p ≡ false → (v : Bool) → leaves_with_end f p ≡ v → is_live_with_peer (turned who f d c).next.arcs p ≡ true
-    aside i false j = after (shut j) (before (was_open f s p put (branch i)))
+    aside i false j = let was = was_open f s p put (branch i) in after (shut (needed was) j) (before was)
     aside i true j = elim (leaves_closed f s p j) [
       | inl same ↦ after (ap (λ (b : Turn). stays true p b.outs) same) (before (was_open f s p put (branch i)))
       | inr ended ↦ absurd (clash (find_row a.next.rows p) (branch i) ended)
@@ -153,7 +156,7 @@ alive_turned who f d c now put calm above old u p is need = go (is_under_at c.ke
     go true i = under_live (leaves_with_end f p) refl
       where
         under_live : (v : Bool) → leaves_with_end f p ≡ v → is_live_with_peer (turned who f d c).next.arcs p ≡ true
-        under_live false j = after (shut j) (old c p now (rw i refl))
+        under_live false j = after (shut (rw i refl) j) (old c p now (rw i refl))
         under_live true j = absurd (cc (above p j, i))
     go false i = aside i (leaves_with_end f p) refl
 
@@ -241,10 +244,10 @@ alive_start who d old = go (is_nil (phase_of d) && may_root d && not (has_none (
 
 -- ---- an event of the transaction at the node
 
-pub alive_transact : (who : Who) (f : TxEvent) (d : Digest) → ((c : Current) → d.current ≡ Some c → IsPut f (seen who d.arcs c)) → is_calm f ≡ true → ((c : Current) (p : ℕ) → d.current ≡ Some c → leaves_with_end f p ≡ true → is_under_at c.key p ≡ false)
-    → IsAlive d → IsAlive (transact who f d).next
+pub alive_transact : (who : Who) (f : TxEvent) (d : Digest) → ((c : Current) → d.current ≡ Some c → IsPut f (seen who d.arcs c)) → ((c : Current) (p : ℕ) → d.current ≡ Some c → needs c p ≡ true → spares f c.key p ≡ true)
+    → ((c : Current) (p : ℕ) → d.current ≡ Some c → leaves_with_end f p ≡ true → is_under_at c.key p ≡ false) → IsAlive d → IsAlive (transact who f d).next
 unfolding transact
-alive_transact who f d put calm above old = go d.current refl
+alive_transact who f d put spare above old = go d.current refl
   where
     over : (c : Current) → IsAlive (turned who f d c).next → (b : Bool) → IsAlive (if b then followed (turned who f d c) (try_start who) else turned who f d c).next
     over c one true = alive_start who (turned who f d c).next one
@@ -252,4 +255,4 @@ alive_transact who f d put calm above old = go d.current refl
 
     go : (o : Option Current) → d.current ≡ o → IsAlive (elim o as (λ _. Move) [ None ↦ move [] d | Some c ↦ restarted who (passed who f d c) (turned who f d c) ]).next
     go None i = old
-    go (Some c) i = over c (alive_turned who f d c i (put c i) calm (λ p. above c p i) old) (is_over (passed who f d c))
+    go (Some c) i = over c (alive_turned who f d c i (put c i) (λ p. spare c p i) (λ p. above c p i) old) (is_over (passed who f d c))

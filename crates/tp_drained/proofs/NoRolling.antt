@@ -12,15 +12,15 @@ use Rattle.tp_records.specs.declared.peer.PeerRecord.{PeerRecord}
 use Rattle.tp_records.specs.declared.peer.RecState.{RecState}
 use Rattle.tp_logrec.specs.declared.record.LogRec.{LogRec}
 use Rattle.tp_model.specs.Parts.{Who, Origin, Event, Entry, Link, Idle, Live, Arc, Key, Root, Under, Branch, Current, Digest}
-use Rattle.tp_model.specs.Dialogues.{is_ready}
+use Rattle.tp_model.specs.Dialogues.{is_active, is_ready}
 use Rattle.tp_model.specs.Arcs.{find_arc, link_with}
 use Rattle.tp_model.specs.Transactions.{Row, Transaction, aaid_of, node_key, is_under_at, find_row, sight_of_tx, acts}
 use Rattle.tp_model.specs.Requests.{refused_request}
-use Rattle.tp_model.specs.Node.{seen}
+use Rattle.tp_model.specs.Node.{seen, situation_at}
 use Rattle.tp_model.specs.Arrivals.{branch_key, named_by_key, is_current_ready, sight_at}
 use Rattle.tp_model.specs.Events.{refusal, action, started}
 use Rattle.tp_model.specs.History.{digest, records, entry_of}
-use Rattle.tp_model.specs.Outcomes.{is_now, is_member, is_failure, has_failed, rolls, rolls_by_rollback, is_crash_in_active, rolled}
+use Rattle.tp_model.specs.Outcomes.{is_now, is_member, is_failure, rolls, rolls_by_rollback, is_active_at, is_fatal, is_waited_for_at, is_crash_in_active, rolled}
 use Rattle.tp_model.specs.Questions.{sent_more, is_at}
 use Rattle.tp_model.specs.World.{Node, Frame, number_of, addr_of, find_node, put_node}
 use Rattle.tp_model.specs.Happenings.{Happening, frames_of, run}
@@ -36,6 +36,10 @@ use Rattle.tp_steps.specs.Upward.{Deeds, holds_at}
 use Rattle.tp_histories.specs.Upward.{deeds_of}
 use Rattle.tp_steps.specs.Moves.{prelude}
 use Rattle.tp_runs.specs.Heeded.{heeds_event, heeds}
+use Rattle.tp_model.specs.AmongArcs.{is_peer}
+use Rattle.tp_model.specs.Requests.{has_branch_at}
+use Rattle.tp_drained.specs.Drained.{touches, fails_in, has_failed_in}
+use Rattle.tp_steps.proofs.every.EveryMove.{abort_peer}
 use Rattle.tp_drained.specs.DrainedWorlds.{NobodyRolls}
 use Rattle.tp_histories.proofs.worlds.Nodes.{find_put, find_append}
 use Rattle.tp_histories.proofs.trees.Late.{late_law}
@@ -112,6 +116,35 @@ cause who d (Event.Do r) h f = absurd (cc (h))
 cause who d (Event.Break from r) h f = absurd (cc (f))
 cause who d (Event.Lose p) h f = absurd (cc (f))
 cause who d e h f = absurd (cc (h))
+
+-- a loss that rolls the transaction is of its superior or of a branch
+waited_there : (bs : List Branch) (p : ℕ) → is_waited_for_at bs p ≡ true → has_branch_at bs p ≡ true
+waited_there [] p h = absurd (cc (h))
+waited_there (b ∷ bs) p h = grind (arith, h, waited_there bs p)
+
+fatal_peer : (d : Digest) (c : Current) (p : ℕ) → d.current ≡ Some c → is_fatal d p ≡ true → is_peer c p ≡ true
+fatal_peer d c p i h = go (is_under_at c.key p) refl
+  where
+    one : (is_active c.phase && (is_under_at c.key p || is_waited_for_at c.branches p)) ≡ true
+    one = rw (i, is_fatal) at h
+
+    go : (v : Bool) → is_under_at c.key p ≡ v → is_peer c p ≡ true
+    go true j = rw j refl
+    go false j = let waited : is_waited_for_at c.branches p ≡ true = grind (arith, one, j) in let there = waited_there c.branches p waited in rw there (grind arith)
+
+-- so what rolls it is a failure of it, or none
+rolls_calm : (who : Who) (d : Digest) (e : Event) (c : Current) → d.current ≡ Some c → rolls who d e ≡ true → (is_failure e && touches c e) ≡ false → is_failure e ≡ false
+rolls_calm who d (Event.Do (Request.UAbort p)) c i h m = absurd (cc (abort_peer who d p c (and_right (is_active_at d) (situation_at who d p).branch h) i, m))
+rolls_calm who d (Event.Do Request.Rollback) c i h m = absurd (cc (m))
+rolls_calm who d (Event.Do r) c i h m = absurd (cc (h))
+rolls_calm who d (Event.Arrive from (PeerRecord.OnAssoc x y q DialogueRecord.UAbort)) c i h m = absurd (cc (fatal_peer d c from.node i h, m))
+rolls_calm who d (Event.Arrive from (PeerRecord.OnAssoc x y q r)) c i h m = refl
+rolls_calm who d (Event.Arrive from (PeerRecord.ShutAssoc x (Some y))) c i h m = absurd (cc (fatal_peer d c from.node i h, m))
+rolls_calm who d (Event.Arrive from (PeerRecord.ShutAssoc x None)) c i h m = refl
+rolls_calm who d (Event.Arrive from r) c i h m = refl
+rolls_calm who d (Event.Break from r) c i h m = absurd (cc (fatal_peer d c from.node i h, m))
+rolls_calm who d (Event.Lose p) c i h m = absurd (cc (fatal_peer d c p i h, m))
+rolls_calm who d e c i h m = absurd (cc (h))
 
 reply_ready : (d : Digest) (c : Current) (t : Aaid) (b : BranchId) → d.current ≡ Some c → is_current_ready (named_by_key d (branch_key t b)) ≡ true → is_ready c.phase ≡ true
 reply_ready d c t b now h = go (is_key (node_key c.key) (branch_key t b)) refl
@@ -224,9 +257,9 @@ superior_node ns fs z p good hz above = go z.superior refl
 
 -- ---- in a world
 
--- no node of the tree failed
+-- nothing failed in the tree
 abbrev pub IsCalm : List Node → Aaid → Type 0
-IsCalm ns t = (x : Node) → find_node ns (number_of x) ≡ Some x → is_member x.origin t x.history ≡ true → has_failed x.history ≡ false
+IsCalm ns t = (x : Node) → find_node ns (number_of x) ≡ Some x → is_member x.origin t x.history ≡ true → has_failed_in x.origin t x.history ≡ false
 
 abbrev pub NoneRolled : List Node → Type 0
 NoneRolled ns = (t : Aaid) → IsCalm ns t → (x : Node) → find_node ns (number_of x) ≡ Some x → rolled x.origin t x.history ≡ true → ⊥
@@ -406,18 +439,18 @@ none_event ns fs z e st told tied p t calm x hx r = go (number_of z == number_of
     both_false false b h = (refl, h)
     both_false true b h = absurd (cc (h))
 
-    -- no node of the tree had failed
+    -- nothing had failed in the tree
     before : IsCalm ns t
     before v hv m = on (number_of z == number_of v) refl
       where
-        on : (b : Bool) → (number_of z == number_of v) ≡ b → has_failed v.history ≡ false
+        on : (b : Bool) → (number_of z == number_of v) ≡ b → has_failed_in v.origin t v.history ≡ false
         on false i = calm v (grind (arith, at (number_of v), i, hv)) m
         on true i =
             let number : number_of z ≡ number_of v = grind (arith, nat_tests, i) in
             let same : v ≡ z = some_same v z (sym hv ∙ ap (find_node ns) (sym number) ∙ st.accepts.here) in
             let member : is_member y.origin t y.history ≡ true = later_member z.origin t (entry_of z.origin z.history e) z.history (subst (λ (u : Node). is_member u.origin t u.history ≡ true) same m) in
-            let fine : has_failed y.history ≡ false = calm y here member in
-            subst (λ (u : Node). has_failed u.history ≡ false) (sym same) ((both_false (is_failure e) (has_failed z.history) fine).1)
+            let fine : has_failed_in y.origin t y.history ≡ false = calm y here member in
+            subst (λ (u : Node). has_failed_in u.origin t u.history ≡ false) (sym same) ((both_false (fails_in t (digest z.origin z.history).current e) (has_failed_in z.origin t z.history) fine).1)
 
     mine : rolled y.origin t y.history ≡ true → ⊥
     mine roll = elim (or_case (is_now t (digest z.origin z.history).current && (rolls z.origin.who (digest z.origin z.history) e || is_crash_in_active (digest z.origin z.history) e)) (rolled z.origin t z.history) roll) [
@@ -426,16 +459,27 @@ none_event ns fs z e st told tied p t calm x hx r = go (number_of z == number_of
           (or_case (rolls z.origin.who (digest z.origin z.history) e) (is_crash_in_active (digest z.origin z.history) e) (and_right (is_now t (digest z.origin z.history).current) (rolls z.origin.who (digest z.origin z.history) e || is_crash_in_active (digest z.origin z.history) e) now))
     ]
       where
-        fine : is_now t (digest z.origin z.history).current ≡ true → is_failure e ≡ false
-        fine n = (both_false (is_failure e) (has_failed z.history) (calm y here (later_member z.origin t (entry_of z.origin z.history e) z.history (member_head z.origin t z.history n)))).0
+        d : Digest
+        d = digest z.origin z.history
 
-        crashed : (d : Digest) (f : Event) → is_crash_in_active d f ≡ true → is_failure f ≡ false → ⊥
-        crashed d Event.Crash h k = cc (k)
-        crashed d f h k = absurd (grind (arith, h))
+        rest : (a b v : Bool) → a ≡ true → (a && b && v) ≡ false → (b && v) ≡ false
+        rest a b v i h = grind (arith, i, h)
 
-        new : is_now t (digest z.origin z.history).current ≡ true → (rolls z.origin.who (digest z.origin z.history) e ≡ true) ⊎ (is_crash_in_active (digest z.origin z.history) e ≡ true) → ⊥
-        new n (inl k) = let b = rolled_before ns fs z e told t st tied n k (fine n) in p t before b.node b.here b.is
-        new n (inr k) = crashed (digest z.origin z.history) e k (fine n)
+        mild : (c : Current) → d.current ≡ Some c → is_aaid t (aaid_of c.key) ≡ true → (is_failure e && touches c e) ≡ false
+        mild c i tree =
+            let there = calm y here (later_member z.origin t (entry_of z.origin z.history e) z.history (member_head z.origin t z.history (ap (is_now t) i ∙ tree))) in
+            rest (is_aaid t (aaid_of c.key)) (is_failure e) (touches c e) tree (ap (λ (v : Option Current). fails_in t v e) (sym i) ∙ (both_false (fails_in t d.current e) (has_failed_in z.origin t z.history) there).0)
+
+        crashed : (c : Current) (f : Event) → is_crash_in_active d f ≡ true → (is_failure f && touches c f) ≡ false → ⊥
+        crashed c Event.Crash h k = cc (k)
+        crashed c f h k = absurd (grind (arith, h))
+
+        new : is_now t d.current ≡ true → (rolls z.origin.who d e ≡ true) ⊎ (is_crash_in_active d e ≡ true) → ⊥
+        new n r = by (now_some t d.current n) r
+          where
+            by : (c : Current) × (d.current ≡ Some c) × (is_aaid t (aaid_of c.key) ≡ true) → (rolls z.origin.who d e ≡ true) ⊎ (is_crash_in_active d e ≡ true) → ⊥
+            by c (inl k) = let b = rolled_before ns fs z e told t st tied n k (rolls_calm z.origin.who d e c.0 c.1 k (mild c.0 c.1 c.2)) in p t before b.node b.here b.is
+            by c (inr k) = crashed c.0 e k (mild c.0 c.1 c.2)
 
     go : (b : Bool) → (number_of z == number_of x) ≡ b → ⊥
     go true i =

@@ -1,6 +1,6 @@
--- One node in a history without a failure: its open branches and its superior stand on live arcs, what it decides it says on
--- them, what it takes of a transaction it heeds as long as the transaction is current, and a commitment whose branches report
--- nothing is complete with no report.
+-- One node and a tree in which nothing failed while the tree was current there: its open branches and its superior stand on live
+-- arcs, what it decides of the tree it says on them, what it takes of the tree it heeds as long as the tree is current, and a
+-- commitment whose branches report nothing is complete with no report.
 use Rattle.std.specs.Prelude.{ℕ, ◌≡◌, ◌⊎◌, ◌&&◌, ◌||◌, not, Bool, true, false, Option, Some, None, List, [], ◌∷◌}
 use Rattle.tp_names.specs.declared.identifiers.Mark.{Mark}
 use Rattle.tp_names.specs.declared.identifiers.Aaid.{Aaid}
@@ -8,6 +8,7 @@ use Rattle.tp_names.specs.declared.identifiers.Addr.{Addr}
 use Rattle.tp_names.specs.declared.outcome.Report.{Report}
 use Rattle.tp_names.specs.Same.{is_aaid}
 use Rattle.tp_names.specs.Reports.{is_report_none}
+use Rattle.tp_records.specs.declared.request.Request.{Request}
 use Rattle.tp_records.specs.declared.dialogue.DialogueRecord.{DialogueRecord}
 use Rattle.tp_records.specs.declared.peer.PeerRecord.{PeerRecord}
 use Rattle.tp_records.specs.declared.peer.RecState.{RecState}
@@ -15,11 +16,13 @@ use Rattle.tp_model.specs.Parts.{Origin, Event, Entry, Live, Branch, Current}
 use Rattle.tp_model.specs.Dialogues.{is_committing}
 use Rattle.tp_model.specs.Arcs.{link_with, is_live_with_peer}
 use Rattle.tp_model.specs.Transactions.{aaid_of, is_under_at}
+use Rattle.tp_model.specs.AmongArcs.{is_peer}
 use Rattle.tp_model.specs.Requests.{has_branch_at}
 use Rattle.tp_model.specs.History.{digest}
 use Rattle.tp_model.specs.Legal.{IsGrown}
-use Rattle.tp_model.specs.Outcomes.{is_now, decided, rolled, is_unchanged, tells_complete_none, completed_none, has_failed}
-use Rattle.tp_model.specs.Promises.{completes, has_told_in}
+use Rattle.tp_model.specs.Outcomes.{is_now, decided, rolled, is_unchanged, tells_complete_none, completed_none, is_failure}
+use Rattle.tp_model.specs.Promises.{has_told_in}
+use Rattle.tp_model.specs.Questions.{tells_commit_complete}
 use Rattle.tp_model.specs.Questions.{heard_from, is_record}
 use Rattle.tp_histories.specs.Histories.{IsSentIn}
 use Rattle.tp_steps.specs.Traces.{sent_of}
@@ -29,25 +32,57 @@ use Rattle.tp_steps.specs.Passages.{is_commit_rec}
 use Rattle.tp_steps.specs.Heeding.{is_answer, has_answered, has_ended}
 use Rattle.tp_steps.specs.Outspoken.{is_ready_rec}
 
--- a legal history of a node whose log was empty at first, which entered each tree once, and in which nothing failed
-pub record IsUnfailed (o : Origin) (up : Option Addr) (h : List Entry) : Type 0 where
+-- ---- failures in a tree
+
+-- the peer with whom a dialogue fails by the event
+abbrev pub failing_peer : Event → Option ℕ
+failing_peer (Event.Declare s) = None
+failing_peer (Event.Do (Request.UAbort p)) = Some p
+failing_peer (Event.Do r) = None
+failing_peer (Event.Arrive from r) = Some from.node
+failing_peer (Event.Break from r) = Some from.node
+failing_peer (Event.Lose p) = Some p
+failing_peer (Event.Heur u) = None
+failing_peer (Event.GiveUp p) = None
+failing_peer Event.Retry = None
+failing_peer Event.Purge = None
+failing_peer Event.Crash = None
+
+-- that peer is the transaction's superior, or has a branch of it; or what fails is the node itself
+abbrev pub touches : Current → Event → Bool
+touches c e = elim (failing_peer e) [ None ↦ true | Some p ↦ is_peer c p ]
+
+-- a failure of the tree, where it is current
+abbrev pub fails_in : Aaid → Option Current → Event → Bool
+fails_in t None e = false
+fails_in t (Some c) e = is_aaid t (aaid_of c.key) && is_failure e && touches c e
+
+-- one came
+abbrev pub has_failed_in : Origin → Aaid → List Entry → Bool
+has_failed_in o t [] = false
+has_failed_in o t (e ∷ h) = fails_in t (digest o h).current e.event || has_failed_in o t h
+
+-- a legal history of a node whose log was empty at first, which entered each tree once, and in which nothing of the tree failed
+pub record IsUnfailed (t : Aaid) (o : Origin) (up : Option Addr) (h : List Entry) : Type 0 where
   pub fresh : o.start.records ≡ []
   pub grown : IsGrown o up h
   pub once : IsOnce o h
-  pub calm : has_failed h ≡ false
+  pub calm : has_failed_in o t h ≡ false
 
 -- ---- arcs
 
--- a branch that has neither ended nor left is on a live arc
-abbrev pub BranchLive : Origin → List Entry → Type 0
-BranchLive o h =
-    (c : Current) (b : Branch) (p : ℕ) → (digest o h).current ≡ Some c → find_branch c.branches p ≡ Some b → has_ended b ≡ false → is_live_with_peer (digest o h).arcs p ≡ true
+-- a branch of the tree that has neither ended nor left is on a live arc
+abbrev pub BranchLive : Aaid → Origin → List Entry → Type 0
+BranchLive t o h =
+    (c : Current) (b : Branch) (p : ℕ) → (digest o h).current ≡ Some c → is_aaid t (aaid_of c.key) ≡ true → find_branch c.branches p ≡ Some b → has_ended b ≡ false
+    → is_live_with_peer (digest o h).arcs p ≡ true
 
--- and so is the superior of the current transaction
-abbrev pub SuperiorLive : Origin → List Entry → Type 0
-SuperiorLive o h = (c : Current) (p : ℕ) → (digest o h).current ≡ Some c → is_under_at c.key p ≡ true → is_live_with_peer (digest o h).arcs p ≡ true
+-- and so is the superior in the tree
+abbrev pub SuperiorLive : Aaid → Origin → List Entry → Type 0
+SuperiorLive t o h =
+    (c : Current) (p : ℕ) → (digest o h).current ≡ Some c → is_aaid t (aaid_of c.key) ≡ true → is_under_at c.key p ≡ true → is_live_with_peer (digest o h).arcs p ≡ true
 
--- ---- what an entry e after the history h says
+-- ---- what an entry e after the history h says, where the tree is current before it
 
 abbrev pub IsOneOf : DialogueRecord → List DialogueRecord → Type 0
 IsOneOf r [] = ⊥
@@ -68,25 +103,25 @@ pub record IsSaid (o : Origin) (h : List Entry) (e : Entry) (p : ℕ) (r : Dialo
   pub goes : IsSentIn e.outs to (PeerRecord.OnAssoc x y number r)
 
 -- one that logs Ready says so to its superior
-abbrev pub SaysReady : Origin → List Entry → Entry → Type 0
-SaysReady o h e = is_ready_rec e.rec ≡ true → (c : Current) (p : ℕ) → (digest o h).current ≡ Some c → is_under_at c.key p ≡ true → IsSaid o h e p DialogueRecord.Ready
+abbrev pub SaysReady : Aaid → Origin → List Entry → Entry → Type 0
+SaysReady t o h e = is_ready_rec e.rec ≡ true → (c : Current) (p : ℕ) → (digest o h).current ≡ Some c → is_aaid t (aaid_of c.key) ≡ true → is_under_at c.key p ≡ true → IsSaid o h e p DialogueRecord.Ready
 
 -- one that logs Commit orders it to each branch that has not left after it
-abbrev pub SaysCommit : Origin → List Entry → Entry → Type 0
-SaysCommit o h e =
-    is_commit_rec e.rec ≡ true → (c : Current) (b : Branch) (p : ℕ) → (digest o (e ∷ h)).current ≡ Some c → find_branch c.branches p ≡ Some b → b.left ≡ false
+abbrev pub SaysCommit : Aaid → Origin → List Entry → Entry → Type 0
+SaysCommit t o h e =
+    is_commit_rec e.rec ≡ true → is_now t (digest o h).current ≡ true → (c : Current) (b : Branch) (p : ℕ) → (digest o (e ∷ h)).current ≡ Some c → find_branch c.branches p ≡ Some b → b.left ≡ false
     → IsSaid o h e p DialogueRecord.Commit
 
 -- one that tells commit-complete with no report says Done with no report to the superior
-abbrev pub SaysDone : Origin → List Entry → Entry → Type 0
-SaysDone o h e =
-    tells_complete_none e.outs ≡ true → (c : Current) (p : ℕ) → (digest o h).current ≡ Some c → is_under_at c.key p ≡ true
+abbrev pub SaysDone : Aaid → Origin → List Entry → Entry → Type 0
+SaysDone t o h e =
+    tells_complete_none e.outs ≡ true → (c : Current) (p : ℕ) → (digest o h).current ≡ Some c → is_aaid t (aaid_of c.key) ≡ true → is_under_at c.key p ≡ true
     → IsSaid o h e p (DialogueRecord.Done Report.None)
 
 -- one that leaves says Left or LeftEnd
-abbrev pub SaysLeaving : Origin → List Entry → Entry → Type 0
-SaysLeaving o h e =
-    is_unchanged e.event ≡ true → (c : Current) (p : ℕ) → (digest o h).current ≡ Some c → is_under_at c.key p ≡ true
+abbrev pub SaysLeaving : Aaid → Origin → List Entry → Entry → Type 0
+SaysLeaving t o h e =
+    is_unchanged e.event ≡ true → (c : Current) (p : ℕ) → (digest o h).current ≡ Some c → is_aaid t (aaid_of c.key) ≡ true → is_under_at c.key p ≡ true
     → IsSaid o h e p DialogueRecord.Left ⊎ IsSaid o h e p DialogueRecord.LeftEnd
 
 -- ---- what a node heeds
@@ -104,34 +139,34 @@ is_done (DialogueRecord.Done r) = true
 is_done _ = false
 
 -- of a tree in which it did not roll: a branch whose answer was taken has answered, while the tree is current
-abbrev pub HeedsReady : Origin → List Entry → Type 0
-HeedsReady o h =
-    (t : Aaid) (c : Current) (p : ℕ) → rolled o t h ≡ false → took_in (λ d. is_aaid t (aaid_of d.key)) is_answer o p h ≡ true → (digest o h).current ≡ Some c
+abbrev pub HeedsReady : Aaid → Origin → List Entry → Type 0
+HeedsReady t o h =
+    (c : Current) (p : ℕ) → rolled o t h ≡ false → took_in (λ d. is_aaid t (aaid_of d.key)) is_answer o p h ≡ true → (digest o h).current ≡ Some c
     → is_aaid t (aaid_of c.key) ≡ true → branch_is has_answered c p ≡ true
 
 -- where the superior's Commit was taken, Commit is logged
-abbrev pub HeedsCommit : Origin → List Entry → Type 0
-HeedsCommit o h = (t : Aaid) (p : ℕ) → rolled o t h ≡ false → took_in (λ d. is_aaid t (aaid_of d.key) && is_under_at d.key p) is_order o p h ≡ true → decided o t h ≡ true
+abbrev pub HeedsCommit : Aaid → Origin → List Entry → Type 0
+HeedsCommit t o h = (p : ℕ) → rolled o t h ≡ false → took_in (λ d. is_aaid t (aaid_of d.key) && is_under_at d.key p) is_order o p h ≡ true → decided o t h ≡ true
 
 -- a branch whose Done was taken in committing has ended, while the tree is current
-abbrev pub HeedsDone : Origin → List Entry → Type 0
-HeedsDone o h =
-    (t : Aaid) (c : Current) (p : ℕ) → took_in (λ d. is_aaid t (aaid_of d.key) && is_committing d.phase && has_branch_at d.branches p) is_done o p h ≡ true
+abbrev pub HeedsDone : Aaid → Origin → List Entry → Type 0
+HeedsDone t o h =
+    (c : Current) (p : ℕ) → took_in (λ d. is_aaid t (aaid_of d.key) && is_committing d.phase && has_branch_at d.branches p) is_done o p h ≡ true
     → (digest o h).current ≡ Some c → is_aaid t (aaid_of c.key) ≡ true → branch_is has_ended c p ≡ true
 
 -- ---- what is noted of a branch stays
 
--- after the entry e, while its transaction is current
-abbrev pub Keeps : (Branch → Bool) → Origin → List Entry → Entry → Type 0
-Keeps f o h e =
-    (c d : Current) (p : ℕ) → (digest o h).current ≡ Some c → (digest o (e ∷ h)).current ≡ Some d → is_aaid (aaid_of c.key) (aaid_of d.key) ≡ true
+-- after the entry e, while the tree is current
+abbrev pub Keeps : (Branch → Bool) → Aaid → Origin → List Entry → Entry → Type 0
+Keeps f t o h e =
+    (c d : Current) (p : ℕ) → (digest o h).current ≡ Some c → (digest o (e ∷ h)).current ≡ Some d → is_aaid t (aaid_of c.key) ≡ true → is_aaid t (aaid_of d.key) ≡ true
     → branch_is f c p ≡ true → branch_is f d p ≡ true
 
-abbrev pub StaysCounted : Origin → List Entry → Entry → Type 0
-StaysCounted o h e = Keeps has_answered o h e
+abbrev pub StaysCounted : Aaid → Origin → List Entry → Entry → Type 0
+StaysCounted t o h e = Keeps has_answered t o h e
 
-abbrev pub StaysEnded : Origin → List Entry → Entry → Type 0
-StaysEnded o h e = Keeps has_ended o h e
+abbrev pub StaysEnded : Aaid → Origin → List Entry → Entry → Type 0
+StaysEnded t o h e = Keeps has_ended t o h e
 
 -- ---- reports
 
@@ -147,5 +182,5 @@ took_clear t o [] = true
 took_clear t o (e ∷ h) = (not (is_now t (digest o h).current) || is_clear_event t e.event) && took_clear t o h
 
 -- a commitment that is complete is so with no report
-abbrev pub ClearReport : Origin → List Entry → Type 0
-ClearReport o h = (t : Aaid) → took_clear t o h ≡ true → has_told_in completes o t h ≡ true → completed_none o t h ≡ true
+abbrev pub ClearReport : Aaid → Origin → List Entry → Type 0
+ClearReport t o h = took_clear t o h ≡ true → has_told_in tells_commit_complete o t h ≡ true → completed_none o t h ≡ true

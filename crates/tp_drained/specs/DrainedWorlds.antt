@@ -1,6 +1,7 @@
 -- What a drained tree without failure says of the nodes that stand beside each other in it: nobody rolls, what one end said
--- the other took, and a branch's answer, a superior's order and a branch's end are taken while they still count.
-use Rattle.std.specs.Prelude.{ℕ, ◌≡◌, ◌&&◌, ◌⊎◌, Bool, true, false, Some, List, [], ◌∷◌}
+-- in the tree the other took, and a branch's answer, a superior's order and a branch's end are taken while they still count.
+-- Failures and frames are asked of the time in which the tree is current at its nodes.
+use Rattle.std.specs.Prelude.{ℕ, suc, ◌≤◌, ◌≡◌, ◌&&◌, ◌||◌, ◌⊎◌, Bool, true, false, Some, List, [], ◌∷◌, length}
 use Rattle.tp_names.specs.declared.identifiers.Aaid.{Aaid}
 use Rattle.tp_names.specs.declared.identifiers.BranchId.{BranchId}
 use Rattle.tp_names.specs.declared.identifiers.Mark.{Mark}
@@ -15,22 +16,27 @@ use Rattle.tp_model.specs.Dialogues.{is_committing}
 use Rattle.tp_model.specs.Transactions.{aaid_of, is_under_at}
 use Rattle.tp_model.specs.Requests.{has_branch_at}
 use Rattle.tp_model.specs.History.{digest}
-use Rattle.tp_model.specs.Outcomes.{is_now, decided, rolled}
+use Rattle.tp_model.specs.Outcomes.{is_now, decided, rolled, is_owed}
 use Rattle.tp_model.specs.Questions.{is_at, said_to, has_said}
 use Rattle.tp_model.specs.World.{World, Node, number_of, addr_of, find_node}
 use Rattle.tp_model.specs.Promises.{IsIn, IsOf, IsBranchOf, IsDrained, IsFailureFree, has_told_in}
-use Rattle.tp_histories.specs.Histories.{HasSent}
+use Rattle.tp_histories.specs.Histories.{IsSentIn, HasSent}
 use Rattle.tp_histories.specs.Traces.{sent_on, taken_on}
 use Rattle.tp_steps.specs.Facts.{is_order, ends_in, begun_keys}
+use Rattle.tp_steps.specs.Moves.{is_word}
 use Rattle.tp_steps.specs.Upward.{holds_at}
 use Rattle.tp_steps.specs.Heeding.{is_answer}
-use Rattle.tp_drained.specs.Drained.{took_in, is_done}
+use Rattle.tp_drained.specs.Drained.{has_failed_in, took_in, is_done}
 
--- ---- nobody rolls
+-- ---- no failure in the tree
 
--- no node of a tree whose nodes did not fail rolled in it
+-- at no node of the tree a failure came while the tree was current there
+abbrev pub IsUnfailedTree : World → Aaid → Type 0
+IsUnfailedTree w t = (x : Node) → IsOf w t x → has_failed_in x.origin t x.history ≡ false
+
+-- no node of a tree in which nothing failed rolled in it
 abbrev pub NobodyRolls : World → Type 0
-NobodyRolls w = (t : Aaid) → IsFailureFree w t → (x : Node) → IsOf w t x → rolled x.origin t x.history ≡ false
+NobodyRolls w = (t : Aaid) → IsUnfailedTree w t → (x : Node) → IsOf w t x → rolled x.origin t x.history ≡ false
 
 -- ---- what is said is taken
 
@@ -51,6 +57,44 @@ AllTaken w =
     (t : Aaid) → IsDrained w t → IsFailureFree w t
     → (x z : Node) (m k : Mark) → IsOf w t x → IsIn w z → sent_on m k (number_of z) x.history ≡ taken_on m k (number_of x) z.history
 
+-- the record is a word of the tree: a Begin of it, or one that counts for its outcome, from an entry that came while the tree was
+-- current
+abbrev pub is_word_of : Aaid → Bool → PeerRecord → Bool
+is_word_of t now (PeerRecord.OpenAssoc x u) = false
+is_word_of t now (PeerRecord.AcceptAssoc x y u) = false
+is_word_of t now (PeerRecord.ShutAssoc x y) = false
+is_word_of t now (PeerRecord.OnAssoc x y q (DialogueRecord.Begin u b i)) = is_aaid t u
+is_word_of t now (PeerRecord.OnAssoc x y q r) = now && is_word r
+is_word_of t now (PeerRecord.RecReady u b) = false
+is_word_of t now (PeerRecord.RecCommit u b) = false
+is_word_of t now (PeerRecord.RecReply u b s) = false
+is_word_of t now (PeerRecord.Forget u b) = false
+
+-- such a word was sent
+abbrev pub HasSaidIn : Origin → Aaid → List Entry → Addr → PeerRecord → Type 0
+HasSaidIn o t [] a r = ⊥
+HasSaidIn o t (e ∷ h) a r = (is_word_of t (is_now t (digest o h).current) r ≡ true) × IsSentIn e.outs a r ⊎ HasSaidIn o t h a r
+
+-- each word of the tree that a node of it sent to a node that is there came to it, and no node of the tree owes its done
+pub record IsDrainedTree (w : World) (t : Aaid) : Type 0 where
+  pub taken : (x z : Node) (a : Addr) (r : PeerRecord) → IsOf w t x → HasSaidIn x.origin t x.history a r → find_node w.nodes a.node ≡ Some z → HasCome z.history (addr_of x) r
+  pub settled : (x : Node) → IsOf w t x → is_owed x.origin t x.history ≡ false
+
+-- where no node of a tree ever failed, what a node of it sent went out: once every frame of its nodes is taken, the tree is drained
+abbrev pub FramesDrain : World → Type 0
+FramesDrain w = (t : Aaid) → IsDrained w t → IsFailureFree w t → IsDrainedTree w t
+
+-- so it is with failures
+abbrev pub NoFailureInTree : World → Type 0
+NoFailureInTree w = (t : Aaid) → IsFailureFree w t → IsUnfailedTree w t
+
+-- a word of the tree that a node of it sent with a pair of marks was taken with it: the other end took as many records at least
+abbrev pub WordsAreTaken : World → Type 0
+WordsAreTaken w =
+    (t : Aaid) → IsDrainedTree w t
+    → (x z : Node) (a : Addr) (m k : Mark) (q : ℕ) (r : DialogueRecord) → IsOf w t x → IsIn w z → a.node ≡ number_of z → HasSaidIn x.origin t x.history a (PeerRecord.OnAssoc m k q r)
+    → suc q ≤ length (taken_on m k (number_of x) z.history)
+
 -- ---- branches
 
 -- the peer was sent the Begin of the branch
@@ -60,7 +104,7 @@ HasBegun h p t b = (a : Addr) × (m : Mark) × (k : Mark) × (q : ℕ) × (i : H
 -- each branch that a node of the tree began is a node of the tree
 abbrev pub BranchesAreThere : World → Type 0
 BranchesAreThere w =
-    (t : Aaid) → IsDrained w t → IsFailureFree w t
+    (t : Aaid) → IsDrainedTree w t
     → (x : Node) (p : ℕ) (b : BranchId) → IsOf w t x → HasBegun x.history p t b → (z : Node) × (number_of z ≡ p) × IsBranchOf w t b x z
 
 -- ---- words, while the tree is current
@@ -73,14 +117,14 @@ says p f outs = has_said f (said_to p outs)
 -- current still
 abbrev pub AnswersAreTaken : World → Type 0
 AnswersAreTaken w =
-    (t : Aaid) → IsDrained w t → IsFailureFree w t → (b : BranchId) (x z : Node) → IsBranchOf w t b x z
+    (t : Aaid) → IsDrainedTree w t → (b : BranchId) (x z : Node) → IsBranchOf w t b x z
     → has_told_in (says (number_of x) is_answer) z.origin t z.history ≡ true → is_now t (digest x.origin x.history).current ≡ true
     → took_in (λ d. is_aaid t (aaid_of d.key)) is_answer x.origin (number_of z) x.history ≡ true
 
 -- a branch that was ordered to commit in the tree: it took the order while the tree was current, if it is current still
 abbrev pub OrdersAreTaken : World → Type 0
 OrdersAreTaken w =
-    (t : Aaid) → IsDrained w t → IsFailureFree w t → (b : BranchId) (x z : Node) → IsBranchOf w t b x z
+    (t : Aaid) → IsDrainedTree w t → (b : BranchId) (x z : Node) → IsBranchOf w t b x z
     → has_told_in (says (number_of z) is_order) x.origin t x.history ≡ true → is_now t (digest z.origin z.history).current ≡ true
     → took_in (λ d. is_aaid t (aaid_of d.key) && is_under_at d.key (number_of x)) is_order z.origin (number_of x) z.history ≡ true
 
@@ -104,6 +148,6 @@ DonesDecided ns =
 -- current still
 abbrev pub DonesAreTaken : World → Type 0
 DonesAreTaken w =
-    (t : Aaid) → IsDrained w t → IsFailureFree w t → (b : BranchId) (x z : Node) → IsBranchOf w t b x z
+    (t : Aaid) → IsDrainedTree w t → IsUnfailedTree w t → (b : BranchId) (x z : Node) → IsBranchOf w t b x z
     → has_told_in (says (number_of x) is_done) z.origin t z.history ≡ true → is_now t (digest x.origin x.history).current ≡ true
     → took_in (λ d. is_aaid t (aaid_of d.key) && is_committing d.phase && has_branch_at d.branches (number_of z)) is_done x.origin (number_of z) x.history ≡ true

@@ -1,5 +1,6 @@
-//! One node in a history without a failure: where it stands, what it says and what it heeds. Such a history is a legal one whose
-//! log was empty at first, which enters each tree once, and in which nothing failed.
+//! One node and a tree in which nothing failed there: where it stands, what it says and what it heeds. The history is a legal one
+//! whose log was empty at first, which enters each tree once, and in which no failure came while the tree was current; what
+//! failed before the tree or after it does not count.
 //!
 //! Each function has an empty body; its clauses are the law.
 #![tactic(auto)]
@@ -7,56 +8,67 @@
 pub mod worlds;
 
 ghost use Rattle.std.specs.Prelude.{Option, List, ◌∷◌};
+ghost use Rattle.tp_names.specs.declared.identifiers.Aaid.{Aaid};
 ghost use Rattle.tp_names.specs.declared.identifiers.Addr.{Addr};
 ghost use Rattle.tp_model.specs.Parts.{Origin, Entry};
 ghost use Rattle.tp_drained.specs.Drained.{IsUnfailed, BranchLive, SuperiorLive, StaysCounted, StaysEnded, HeedsReady, HeedsCommit, HeedsDone, SaysReady, SaysCommit, SaysDone, SaysLeaving, ClearReport};
 ghost use Rattle.tp_model.specs.Happenings.{Happening, run};
 ghost use Rattle.tp_model.specs.Promises.{DrainedCommits};
-ghost use Rattle.tp_drained.specs.DrainedTrees.{SettledCloses};
+ghost use Rattle.tp_drained.specs.DrainedTrees.{SettledTreeCommits, SettledTreeCloses, SettledInItsTime, SettledCloses};
 
-/// In every legal history without a failure each branch of the current transaction that has neither ended nor left is on a
-/// live arc, and so is the superior that the transaction came from.
+/// While a tree in which nothing failed is current, each branch of it that has neither ended nor left is on a live arc, and so is
+/// the superior that it came from.
 pub fn an_open_branch_has_a_live_arc()
-    ensures branches { (o : Origin) (up : Option Addr) (h : List Entry) → IsUnfailed o up h → BranchLive o h }
-    ensures superior { (o : Origin) (up : Option Addr) (h : List Entry) → IsUnfailed o up h → SuperiorLive o h }
+    ensures branches { (t : Aaid) (o : Origin) (up : Option Addr) (h : List Entry) → IsUnfailed t o up h → BranchLive t o h }
+    ensures superior { (t : Aaid) (o : Origin) (up : Option Addr) (h : List Entry) → IsUnfailed t o up h → SuperiorLive t o h }
 {}
 
-/// In every legal history without a failure a branch that is counted or has left stays so, and so does one that has ended or left,
-/// while its tree is current.
+/// Of a tree in which nothing failed a branch that is counted or has left stays so, and so does one that has ended or left, while
+/// the tree is current.
 pub fn what_is_noted_of_a_branch_stays()
-    ensures answered { (o : Origin) (up : Option Addr) (h : List Entry) (e : Entry) → IsUnfailed o up (e ∷ h) → StaysCounted o h e }
-    ensures ended { (o : Origin) (up : Option Addr) (h : List Entry) (e : Entry) → IsUnfailed o up (e ∷ h) → StaysEnded o h e }
+    ensures answered { (t : Aaid) (o : Origin) (up : Option Addr) (h : List Entry) (e : Entry) → IsUnfailed t o up (e ∷ h) → StaysCounted t o h e }
+    ensures ended { (t : Aaid) (o : Origin) (up : Option Addr) (h : List Entry) (e : Entry) → IsUnfailed t o up (e ∷ h) → StaysEnded t o h e }
 {}
 
-/// In every legal history without a failure what is taken of a tree that did not roll is heeded: a branch whose answer was taken has
-/// answered as long as the tree is current; where the superior's Commit was taken, Commit is logged; and a branch whose Done was
-/// taken in committing has ended as long as the tree is current.
+/// What is taken of a tree in which nothing failed, and that did not roll, is heeded: a branch whose answer was taken has answered
+/// as long as the tree is current; where the superior's Commit was taken, Commit is logged; and a branch whose Done was taken in
+/// committing has ended as long as the tree is current.
 pub fn what_a_node_takes_it_heeds()
-    ensures answers { (o : Origin) (up : Option Addr) (h : List Entry) → IsUnfailed o up h → HeedsReady o h }
-    ensures orders { (o : Origin) (up : Option Addr) (h : List Entry) → IsUnfailed o up h → HeedsCommit o h }
-    ensures ends { (o : Origin) (up : Option Addr) (h : List Entry) → IsUnfailed o up h → HeedsDone o h }
+    ensures answers { (t : Aaid) (o : Origin) (up : Option Addr) (h : List Entry) → IsUnfailed t o up h → HeedsReady t o h }
+    ensures orders { (t : Aaid) (o : Origin) (up : Option Addr) (h : List Entry) → IsUnfailed t o up h → HeedsCommit t o h }
+    ensures ends { (t : Aaid) (o : Origin) (up : Option Addr) (h : List Entry) → IsUnfailed t o up h → HeedsDone t o h }
 {}
 
-/// In every legal history without a failure what is decided goes out on the live arcs: one that logs Ready says so to its
-/// superior; one that logs Commit orders it to each branch that has not left; one that tells its user that the commitment is
+/// What is decided of a tree in which nothing failed goes out on the live arcs: an entry of the tree that logs Ready says so to the
+/// superior; one that logs Commit orders it to each branch that has not left; one that tells the user that the commitment is
 /// complete with no report says Done with no report; and one that leaves says so.
 pub fn what_a_node_decides_it_says()
-    ensures ready { (o : Origin) (up : Option Addr) (h : List Entry) (e : Entry) → IsUnfailed o up (e ∷ h) → SaysReady o h e }
-    ensures commit { (o : Origin) (up : Option Addr) (h : List Entry) (e : Entry) → IsUnfailed o up (e ∷ h) → SaysCommit o h e }
-    ensures done { (o : Origin) (up : Option Addr) (h : List Entry) (e : Entry) → IsUnfailed o up (e ∷ h) → SaysDone o h e }
-    ensures leaving { (o : Origin) (up : Option Addr) (h : List Entry) (e : Entry) → IsUnfailed o up (e ∷ h) → SaysLeaving o h e }
+    ensures ready { (t : Aaid) (o : Origin) (up : Option Addr) (h : List Entry) (e : Entry) → IsUnfailed t o up (e ∷ h) → SaysReady t o h e }
+    ensures commit { (t : Aaid) (o : Origin) (up : Option Addr) (h : List Entry) (e : Entry) → IsUnfailed t o up (e ∷ h) → SaysCommit t o h e }
+    ensures done { (t : Aaid) (o : Origin) (up : Option Addr) (h : List Entry) (e : Entry) → IsUnfailed t o up (e ∷ h) → SaysDone t o h e }
+    ensures leaving { (t : Aaid) (o : Origin) (up : Option Addr) (h : List Entry) (e : Entry) → IsUnfailed t o up (e ∷ h) → SaysLeaving t o h e }
 {}
 
-/// In every legal history without a failure a commitment that is complete is so with no report, where no Done that came while its
+/// A commitment in a tree in which nothing failed, once it is complete, is so with no report, where no Done that came while the
 /// tree was current had one.
 pub fn branches_without_a_report_leave_none()
-    ensures { (o : Origin) (up : Option Addr) (h : List Entry) → IsUnfailed o up h → ClearReport o h }
+    ensures { (t : Aaid) (o : Origin) (up : Option Addr) (h : List Entry) → IsUnfailed t o up h → ClearReport t o h }
+{}
+
+/// In every run, a tree has committed where each user asked for commitment or left and, of the time in which the tree was current
+/// at its nodes, nothing failed there, what was sent was taken, and no user owes its done: every node that stays logged Commit and
+/// was told that it is complete, with no report; and the tree's closing line says that all agree on commitment. What failed at
+/// these nodes before the tree began there, or after it was over, does not count.
+pub fn a_settled_tree_has_committed()
+    ensures nodes { (es : List Happening) → SettledTreeCommits (run es) }
+    ensures line { (es : List Happening) → SettledTreeCloses (run es) }
 {}
 
 /// In every run, a drained tree without failure whose users all asked for commitment, or left, has committed: where each frame that
 /// its nodes sent was taken and no user owes its done, every node that stays logged Commit and was told that it is complete, with no
-/// report; and the tree's closing line says that all agree on commitment.
+/// report; and the tree's closing line says that all agree on commitment. Such a tree is settled in its own time.
 pub fn a_drained_tree_has_committed()
     ensures nodes { (es : List Happening) → DrainedCommits (run es) }
     ensures line { (es : List Happening) → SettledCloses (run es) }
+    ensures settled { (es : List Happening) → SettledInItsTime (run es) }
 {}

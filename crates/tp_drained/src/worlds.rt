@@ -3,32 +3,40 @@
 //! Each is the contract of a function with an empty body.
 ghost use Rattle.std.specs.Prelude.{List};
 ghost use Rattle.tp_model.specs.Happenings.{Happening, run};
-ghost use Rattle.tp_drained.specs.DrainedWorlds.{NobodyRolls, AllCame, AllTaken, BranchesAreThere, AnswersAreTaken, OrdersAreTaken, DonesDecided, DonesAreTaken};
+ghost use Rattle.tp_drained.specs.DrainedWorlds.{NobodyRolls, AllCame, AllTaken, WordsAreTaken, FramesDrain, NoFailureInTree, BranchesAreThere, AnswersAreTaken, OrdersAreTaken, DonesDecided, DonesAreTaken};
 
-/// In every run, nobody rolls in a tree whose nodes did not fail.
+/// In every run, nobody rolls in a tree in which nothing failed while it was current.
 pub fn nobody_rolls_in_a_tree_without_failure()
     ensures { (es : List Happening) → NobodyRolls (run es) }
 {}
 
-/// In every run, what a node of a drained tree without failure sent to a node that is there came to it; and on each pair of
-/// marks the other end took just what it sent, record by record.
+/// In every run, what a node of a drained tree without failure sent to a node that is there came to it, and on each pair of
+/// marks the other end took just what it sent, record by record, where no node of the tree ever failed and each of their frames was
+/// taken. Where these are asked of the tree's own time alone, what was said in the tree was taken at its place.
 pub fn what_a_drained_tree_says_is_taken()
     ensures came { (es : List Happening) → AllCame (run es) }
     ensures taken { (es : List Happening) → AllTaken (run es) }
+    ensures words { (es : List Happening) → WordsAreTaken (run es) }
 {}
 
-/// In every run, each branch that a node of a drained tree without failure began is a node of the tree.
+/// In every run, a tree whose nodes never failed, and whose frames were all taken, is drained and without failure in its own time.
+pub fn frames_that_are_taken_drain_a_tree()
+    ensures drained { (es : List Happening) → FramesDrain (run es) }
+    ensures unfailed { (es : List Happening) → NoFailureInTree (run es) }
+{}
+
+/// In every run, each branch that a node of a drained tree began is a node of the tree.
 pub fn branches_of_a_drained_tree_are_there()
     ensures { (es : List Happening) → BranchesAreThere (run es) }
 {}
 
-/// In every run, in a drained tree without failure a branch's answer is taken, by Ready or by leaving, while the tree is current
+/// In every run, in a drained tree a branch's answer is taken, by Ready or by leaving, while the tree is current
 /// at its superior, where it is current still.
 pub fn answers_of_branches_are_taken()
     ensures { (es : List Happening) → AnswersAreTaken (run es) }
 {}
 
-/// In every run, in a drained tree without failure a branch takes its superior's order to commit while the tree is current at
+/// In every run, in a drained tree a branch takes its superior's order to commit while the tree is current at
 /// the branch, where it is current still.
 pub fn orders_of_superiors_are_taken()
     ensures { (es : List Happening) → OrdersAreTaken (run es) }

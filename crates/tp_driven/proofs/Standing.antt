@@ -3,7 +3,7 @@ use Rattle.std.proofs.Common.{◌≡◌, ◌==◌, ◌&&◌, ◌||◌, not, nat_
 use Rattle.std.proofs.lemmas.Bool.Decides.{nat_tests}
 use Rattle.std.specs.Map.{lookup}
 use Rattle.tp_records.specs.Answers.{Answer}
-use Rattle.tp_model.specs.World.{World, Drive, empty_world, driver_of, driven, undriven, without}
+use Rattle.tp_model.specs.World.{World, Drive, empty_world, driver_of, driven, undriven, without_member}
 use Rattle.tp_model.specs.Happenings.{Drive as DriveNode, Drop, happens}
 use Rattle.tp_model.specs.Lines.{is_dropped, is_member_there}
 use Rattle.tp_driven.specs.Members.{is_there, slot_at, driver_in, now_driven, may, AreSame, HasLeft, Gave}
@@ -122,18 +122,18 @@ abbrev but : ℕ → Option ℕ → Option ℕ
 but k None = None
 but k (Some j) = elim (j == k) [ true ↦ None | false ↦ Some j ]
 
-none_without : (ds : List Drive) (k m : ℕ) → is_undriven ds m ≡ true → driver_of (without ds k) m ≡ None
+none_without : (ds : List Drive) (k m : ℕ) → is_undriven ds m ≡ true → driver_of (without_member ds k) m ≡ None
 none_without [] k m h = refl
 none_without (d ∷ ds) k m h = go (d.member == k) (none_without ds k m (grind (arith, h)))
   where
     other : (d.node == m) ≡ false
     other = grind (arith, h)
 
-    go : (a : Bool) → driver_of (without ds k) m ≡ None → driver_of (elim a as (λ _. List Drive) [ true ↦ without ds k | false ↦ d ∷ without ds k ]) m ≡ None
+    go : (a : Bool) → driver_of (without_member ds k) m ≡ None → driver_of (elim a as (λ _. List Drive) [ true ↦ without_member ds k | false ↦ d ∷ without_member ds k ]) m ≡ None
     go true more = more
-    go false more = ap (λ (c : Bool). elim c as (λ _. Option ℕ) [ true ↦ Some d.member | false ↦ driver_of (without ds k) m ]) other ∙ more
+    go false more = ap (λ (c : Bool). elim c as (λ _. Option ℕ) [ true ↦ Some d.member | false ↦ driver_of (without_member ds k) m ]) other ∙ more
 
-driver_without : (ds : List Drive) (k m : ℕ) → are_alone ds ≡ true → driver_of (without ds k) m ≡ but k (driver_of ds m)
+driver_without : (ds : List Drive) (k m : ℕ) → are_alone ds ≡ true → driver_of (without_member ds k) m ≡ but k (driver_of ds m)
 driver_without [] k m h = refl
 driver_without (d ∷ ds) k m h = go (d.member == k) (d.node == m) refl refl (driver_without ds k m (grind (arith, h)))
   where
@@ -143,27 +143,27 @@ driver_without (d ∷ ds) k m h = go (d.member == k) (d.node == m) refl refl (dr
     to : Bool → Option ℕ → Option ℕ
     to b o = elim b [ true ↦ Some d.member | false ↦ o ]
 
-    go : (a b : Bool) → (d.member == k) ≡ a → (d.node == m) ≡ b → driver_of (without ds k) m ≡ but k (driver_of ds m)
-        → driver_of (elim a as (λ _. List Drive) [ true ↦ without ds k | false ↦ d ∷ without ds k ]) m ≡ but k (to b (driver_of ds m))
+    go : (a b : Bool) → (d.member == k) ≡ a → (d.node == m) ≡ b → driver_of (without_member ds k) m ≡ but k (driver_of ds m)
+        → driver_of (elim a as (λ _. List Drive) [ true ↦ without_member ds k | false ↦ d ∷ without_member ds k ]) m ≡ but k (to b (driver_of ds m))
     go true true e f more = none_without ds k m (subst (λ (n : ℕ). is_undriven ds n ≡ true) (grind (arith, nat_tests, f)) free)
         ∙ sym (ap (λ (c : Bool). elim c as (λ _. Option ℕ) [ true ↦ None | false ↦ Some d.member ]) e)
     go true false e f more = more
-    go false true e f more = ap (λ (c : Bool). to c (driver_of (without ds k) m)) f ∙ sym (ap (λ (c : Bool). elim c as (λ _. Option ℕ) [ true ↦ None | false ↦ Some d.member ]) e)
-    go false false e f more = ap (λ (c : Bool). to c (driver_of (without ds k) m)) f ∙ more
+    go false true e f more = ap (λ (c : Bool). to c (driver_of (without_member ds k) m)) f ∙ sym (ap (λ (c : Bool). elim c as (λ _. Option ℕ) [ true ↦ None | false ↦ Some d.member ]) e)
+    go false false e f more = ap (λ (c : Bool). to c (driver_of (without_member ds k) m)) f ∙ more
 
-undriven_without : (ds : List Drive) (k m : ℕ) → is_undriven ds m ≡ true → is_undriven (without ds k) m ≡ true
+undriven_without : (ds : List Drive) (k m : ℕ) → is_undriven ds m ≡ true → is_undriven (without_member ds k) m ≡ true
 undriven_without [] k m h = refl
 undriven_without (d ∷ ds) k m h = go (d.member == k) (undriven_without ds k m (grind (arith, h)))
   where
-    go : (a : Bool) → is_undriven (without ds k) m ≡ true → is_undriven (elim a as (λ _. List Drive) [ true ↦ without ds k | false ↦ d ∷ without ds k ]) m ≡ true
+    go : (a : Bool) → is_undriven (without_member ds k) m ≡ true → is_undriven (elim a as (λ _. List Drive) [ true ↦ without_member ds k | false ↦ d ∷ without_member ds k ]) m ≡ true
     go true more = more
     go false more = grind (arith, h, more)
 
-alone_without : (ds : List Drive) (k : ℕ) → are_alone ds ≡ true → are_alone (without ds k) ≡ true
+alone_without : (ds : List Drive) (k : ℕ) → are_alone ds ≡ true → are_alone (without_member ds k) ≡ true
 alone_without [] k h = refl
 alone_without (d ∷ ds) k h = go (d.member == k) (alone_without ds k (grind (arith, h))) (undriven_without ds k d.node (grind (arith, h)))
   where
-    go : (a : Bool) → are_alone (without ds k) ≡ true → is_undriven (without ds k) d.node ≡ true → are_alone (elim a as (λ _. List Drive) [ true ↦ without ds k | false ↦ d ∷ without ds k ]) ≡ true
+    go : (a : Bool) → are_alone (without_member ds k) ≡ true → is_undriven (without_member ds k) d.node ≡ true → are_alone (elim a as (λ _. List Drive) [ true ↦ without_member ds k | false ↦ d ∷ without_member ds k ]) ≡ true
     go true more still = more
     go false more still = grind (arith, more, still)
 

@@ -11,7 +11,8 @@ use Rattle.tp_model.specs.declared.transaction.TxEvent.{TxEvent}
 use Rattle.tp_model.specs.declared.transaction.TxOut.{TxOut}
 use Rattle.tp_model.specs.Parts.{Key, Root, Under}
 use Rattle.tp_model.specs.Dialogues.{is_active, is_ready, is_committing, is_rolling}
-use Rattle.tp_model.specs.Transactions.{Row, Transaction, Turn, turn, and_then, before, node_key, is_under, children_of, owed_of, all_done, own_damage, reports_of, all_rolled_back, with_row, with_arc_lost, log_ready, log_commit, log_end, log_damage, log_heuristic, rollback_rec, complete_commit, complete_rollback, begin_rolling, ask_commit, order, leave, count_branch, end_branch, branch_left, transacted, refused_tx, is_decided}
+use Rattle.tp_model.specs.Transactions.{Row, Transaction, Turn, turn, and_then, before, node_key, is_under, children_of, owed_of, all_done, own_damage, reports_of, all_rolled_back, with_row, with_arc_lost, log_ready, log_commit, log_end, log_damage, log_heuristic, rollback_rec, complete_commit, complete_rollback, begin_rolling, ask_commit, order, leave, count_branch, end_branch, branch_left, transacted, refused_tx}
+use Rattle.std.specs.Prelude.{is_some}
 use Rattle.tp_steps.specs.Turns.{Turns, vote, decide}
 use Rattle.tp_steps.specs.Moves.{IsPut, is_took}
 use Rattle.tp_forced.specs.TreeLog.{Stage, when, after_record}
@@ -131,7 +132,7 @@ staged_decide k e s o put is ready g own fit = go (ready_stage s.phase s.decisio
     free : refused_tx (TxEvent.Heur o) s ≡ None
     free = ap (λ (f : TxEvent). refused_tx f s) (sym is) ∙ put.ok (ap is_took is)
 
-    undecided : is_decided s.decision ≡ false
+    undecided : is_some s.decision ≡ false
     undecided = grind (arith, free, ready)
 
     go : VotedAs s.decision g → Staged k s.key g (decide o s)
@@ -145,7 +146,7 @@ staged_decide k e s o put is ready g own fit = go (ready_stage s.phase s.decisio
         decided : (p : Phase) → is_ready p ≡ true → fits p (Some o) (Stage.Decided o) ≡ true
         decided Phase.Ready h = outcome_self o
         decided _ h = absurd (cc (h))
-    go (By_itself u i j) = absurd (cc (undecided, ap is_decided i))
+    go (By_itself u i j) = absurd (cc (undecided, ap is_some i))
 
 staged_rolling : (k : NodeKey) (asked : Bool) (t : Transaction) → (is_active t.phase || is_ready t.phase) ≡ true → IsStaged k t (begin_rolling asked t)
 unfolding begin_rolling

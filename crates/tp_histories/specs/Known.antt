@@ -6,7 +6,7 @@ use Rattle.tp_model.specs.Parts.{Origin, Entry, Arc}
 use Rattle.tp_steps.specs.Ends.{is_there}
 use Rattle.tp_model.specs.History.{digest}
 use Rattle.tp_model.specs.Questions.{declared_in, superior_in, boot_in}
-use Rattle.tp_model.specs.Consistency.{same_bool}
+use Rattle.tp_histories.specs.KnownTests.{same_bool}
 
 -- ---- the node
 

@@ -12,4 +12,5 @@ pub mod Undone
 pub mod Upward
 pub mod Answering
 pub mod Pairs
+pub mod KnownTests
 pub mod Known

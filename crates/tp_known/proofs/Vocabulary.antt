@@ -34,7 +34,7 @@ pub use Rattle.tp_model.specs.Parts.{Arc, Dialogue, Link, Live, Offered, Opening
 pub use Rattle.tp_model.specs.Transactions.{Transaction, acts, is_under_at, transacted, row_holds, find_row, Row, fresh_rows, node_key, Turn, is_under, aaid_of, carry_up, carry_down, prepare_each, forgets, done_up, ends_down, end_up, ask_each, retried, turn, and_then, with_row, takes, put_row, with_arc_lost, all_prepared, all_done, child_of, fresh_branch, takes_left, find_row_by_id, is_open_in_commit, with_branch, before, log_ready, roll, superior_rolls, rollback_rec, superior_of}
 unfoldable pub use Rattle.tp_model.specs.Transactions.{leave, sight_of_tx, situation_of, refused_tx, ask_commit, order, count_branch, end_branch, branch_left, complete_commit, complete_rollback, begin_rolling, settle}
 pub use Rattle.tp_model.specs.Arcs.{carried, find_arc, is_live_with_peer, link_of, performed, with_dialogue, with_dialogues, with_link, without_arc, carried_on, link_with, put_arc, performed_one}
-pub use Rattle.tp_model.specs.Questions.{has_said, said_to, Cause, Begun_by, cause_by, holder_in, acting_from, was_branch, is_up, is_at, completes, enters, Completed_below, Granted_away, Granted_here, Handshake_granted_here, Left_transaction, is_grant_record, is_handshake_grant_record, is_left_record, Nothing_said, last_cause, holds_by, is_granting_cause, is_response_record, is_record, tells_commit_complete, tells_rollback_complete, logs_ready_or_commit, heard_from, holds_in, is_begin, units_before, is_defer_end_record, is_defer_grant_record, ends_deferral, set_deferral, deferral_in, is_handshake_record, clears_handshakes, owes_response_in, due_in, awaits_in, is_left_end, link_in, superior_in, shuts_to, is_abort, is_end_dialogue, took_one, sent_more, link_by, is_put_off_end, closes_by_deferral, count_records, is_crash, is_left_only, rests_in}
+pub use Rattle.tp_model.specs.Questions.{has_said, said_to, Cause, Begun_by, cause_by, holder_in, acting_from, was_branch, is_up, is_at, completes, enters, Completed_below, Granted_away, Granted_here, Handshake_granted_here, Left_transaction, is_grant_record, is_handshake_grant_record, is_left_record, Nothing_said, last_cause, holds_by, is_granting_cause, is_record, tells_commit_complete, tells_rollback_complete, logs_ready_or_commit, heard_from, holds_in, is_begin, units_before, is_defer_end_record, is_defer_grant_record, ends_deferral, set_deferral, deferral_in, is_handshake_record, clears_handshakes, owes_response_in, due_in, awaits_in, is_left_end, link_in, superior_in, shuts_to, is_abort, is_end_dialogue, sent_more, link_by, closes_by_deferral, count_records, is_crash, is_left_only, rests_in}
 pub use Rattle.tp_model.specs.Node.{is_granting, grants, Move, move, followed, perform, phase_of, fresh_current, begin_each, begin_chained, chained_peers, situation_at, next_mark, superior_arc, restarted, is_over, seen, turned, passage, left_arcs, is_arc_below, is_end_deferred_at, with_mark_drawn, has_none, may_root, is_superior, seen_rows, branches_of, may_begin_on, remaining, Passage, Leaves, is_leaving, is_arc_of, Commits, Enters, Falls, Falls_at_once, Rolls_back, Stays, keep, without_deferral, completed_arcs, committed_arcs, committed_dialogue, split_at_completion, side_at, passed, with_begun, is_up_ending, perform_commit, seen_row}
 unfoldable pub use Rattle.tp_model.specs.Node.{begin_on, transact, entered, played, try_start, start_root}
 pub use Rattle.tp_model.specs.Links.{is_live, with_one_taken, is_idle}
@@ -47,10 +47,12 @@ pub use Rattle.tp_model.specs.Requests.{has_branch_at}
 unfoldable pub use Rattle.tp_model.specs.Requests.{refused_request, call, abort, reject, accept}
 pub use Rattle.tp_model.specs.Outcomes.{rolls, is_unchanged, is_fatal, rolls_by_record}
 pub use Rattle.tp_model.specs.Legal.{IsGrown, IsLegal, IsUnder, is_apart, is_start, is_own_record, are_own_records}
-pub use Rattle.tp_model.specs.Consistency.{same_bool, number_of_deferral, number_of_due, below, without, peers_in, agrees_order, agrees_up, asked_for, is_number, not_idle, same_list, same_link, is_ended, report_of, agrees_branches, same_option, same_child, number_of_phase, children_of, agrees_arc, agrees_arcs, agrees_current, agrees}
+pub use Rattle.tp_model.specs.Consistency.{peers_in, asked_for, not_idle, report_of, all_children, without_peer, peers_below}
+pub use Rattle.tp_histories.specs.KnownTests.{same_bool, number_of_deferral, number_of_due, agrees_order, agrees_up, is_number, same_list, same_link, agrees_branches, same_option, same_child, number_of_phase, agrees_arc, agrees_arcs, agrees_current, agrees}
+pub use Rattle.std.specs.Prelude.{is_some}
 pub use Rattle.tp_model.specs.Recovery.{forget_to}
 unfoldable pub use Rattle.tp_model.specs.Recovery.{settled, kept_by}
-pub use Rattle.tp_model.specs.Keys.{prepared_in, left_in, given_up_in, ended_in, begins, report_by, some_since, is_active_in, is_current_key, is_rolling_in, last_of, phase_by_rec, replied_report, rolls_for, ending_report, phase_in, begun_by_peer, is_give_up_of, is_ready_record, tells_order, is_done_request, owes_in, rolled_with_damage, own_in, is_damage_rec, is_rollback_record, superior_rolled_by, superior_rolled_in, decision_since, decision_for, tells_prepare, told_prepare_in, superior_for, branches_in, asked_in}
+pub use Rattle.tp_model.specs.Keys.{prepared_in, left_in, given_up_in, ended_in, begins, report_by, some_since, is_active_in, is_current_key, is_rolling_in, last_of, phase_by_rec, replied_report, rolls_for, ending_report, phase_in, takes_begin, is_give_up_of, is_ready_record, tells_order, is_done_request, owes_in, rolled_with_damage, own_in, is_damage_rec, is_rollback_record, superior_rolled_by, superior_rolled_in, decision_since, decision_for, tells_prepare, told_prepare_in, superior_for, branches_in, asked_in}
 pub use Rattle.tp_steps.specs.Moves.{some_leads, prelude, IsLate, called, accepted_by, accepted_on, linked, counted_in, begun_in, is_said, are_said, are_spoken, gives_to, responds_to, is_word, IsChange, By_waking, By_saying, By_hearing, By_beginning, By_leaving, said_by, heard_by, left_by, begun_by_record, IsAsked, IsPut, Moves, is_spoken, closes_at, wakes, grants_to, hands_to, shakes_with, are_apart, may_put_off, IsSettling, is_apart_record}
 pub use Rattle.tp_steps.specs.Ends.{are_separate, is_there}
 pub use Rattle.tp_steps.specs.Steps.{Steps, puts_off_at, is_deferring, is_deferred_by, first_begin, AreAlike}

@@ -1,3 +1,5 @@
 pub mod Parts
 pub mod Quiet
+pub mod Tested
+pub mod Testing
 pub mod Whole

@@ -10,9 +10,12 @@ use Rattle.tp_model.specs.Arcs.{link_with}
 use Rattle.tp_model.specs.History.{digest}
 use Rattle.tp_model.specs.Questions.{link_in, holds_in, awaits_in, due_in, deferral_in, rests_in}
 use Rattle.tp_model.specs.Keys.{told_prepare_in, superior_rolled_in, owes_in, decision_for, own_in, prepared_in, counted_in, left_in, given_up_in, ended_in}
-use Rattle.tp_model.specs.Consistency.{same_bool, same_list, same_option, same_link, number_of_due, number_of_deferral, agrees_order, agrees_branches, child_of, is_ended, report_of, below, is_number, peers_in}
+use Rattle.tp_model.specs.Consistency.{report_of, peers_in, peers_below}
+use Rattle.tp_histories.specs.KnownTests.{same_bool, same_list, same_option, same_link, number_of_due, number_of_deferral, agrees_order, agrees_branches, is_number}
+use Rattle.std.specs.Prelude.{is_some}
 use Rattle.tp_runs.specs.Known.{all_arcs, now_agrees, known_agrees, drawn_agrees, kept_agrees, phase_agrees, key_agrees, above_agrees, branches_agree, asked_agrees}
 use Rattle.tp_histories.specs.Known.{with_an_arc, declared_agrees, superior_agrees, boot_agrees}
+use Rattle.tp_model.specs.Transactions.{child_of}
 
 abbrev pub links_agree : Origin → List Entry → Bool
 links_agree o h = all_arcs (λ a. same_link a.link (link_in o a.peer.node h) && not (is_idle a.link)) (digest o h).arcs
@@ -26,7 +29,7 @@ order_agrees o h = agrees_order o h
 
 -- the arcs below are those to the nodes asked for a dialogue, in that order
 abbrev pub below_as_asked : Origin → List Entry → Bool
-below_as_asked o h = same_list is_number (below (digest o h) (digest o h).arcs) (with_an_arc (digest o h).arcs (peers_in h))
+below_as_asked o h = same_list is_number (peers_below (digest o h) (digest o h).arcs) (with_an_arc (digest o h).arcs (peers_in h))
 
 -- control, handshake, deferral and rest are asked of a live arc; control, of a polarized one
 abbrev pub all_live : Origin → List Entry → (Arc → Bool) → Bool
@@ -66,7 +69,7 @@ given_up_agrees o h = now_agrees o h (λ k c. each_branch (λ b. same_bool b.giv
 
 -- that it has ended, and with which report
 abbrev pub ended_agrees : Origin → List Entry → Bool
-ended_agrees o h = now_agrees o h (λ k c. each_branch (λ b. same_bool b.ended (is_ended (ended_in o k (child_of b) h)) && (rank b.report == rank (report_of (ended_in o k (child_of b) h)))) c.branches)
+ended_agrees o h = now_agrees o h (λ k c. each_branch (λ b. same_bool b.ended (is_some (ended_in o k (child_of b) h)) && (rank b.report == rank (report_of (ended_in o k (child_of b) h)))) c.branches)
 
 -- all of them
 abbrev pub marks_agree : Origin → List Entry → Bool

@@ -10,7 +10,8 @@ ghost use Rattle.tp_model.specs.Arcs.{find_arc};
 ghost use Rattle.tp_names.specs.declared.identifiers.NodeKey.{NodeKey};
 ghost use Rattle.tp_model.specs.History.{digest};
 ghost use Rattle.tp_model.specs.Legal.{IsLegal, DigestAgrees};
-ghost use Rattle.tp_model.specs.Consistency.{agrees, is_quiet};
+ghost use Rattle.tp_model.specs.Consistency.{IsKnown};
+ghost use Rattle.tp_histories.specs.KnownTests.{agrees, is_quiet};
 ghost use Rattle.tp_histories.specs.Known.{declared_agrees, superior_agrees, boot_agrees};
 ghost use Rattle.tp_runs.specs.Known.{known_agrees, drawn_agrees, kept_agrees, phase_agrees, key_agrees, above_agrees, branches_agree, asked_agrees};
 ghost use Rattle.tp_known.specs.Named.{address_in, units_in};
@@ -142,6 +143,13 @@ pub fn marks_are_known()
 /// In every legal history, all that is known of the node is what the questions to its whole history answer.
 pub fn the_whole_is_known()
     ensures { DigestAgrees }
+{}
+
+/// A test that computes stands for it: it holds wherever all that is known is what the questions answer; and where it holds,
+/// every key but the current one is in no phase, and the version of the log is that of the start, it is so.
+pub fn what_is_known_is_tested()
+    ensures known { (o : Origin) (h : List Entry) → IsKnown o h → agrees o h ≡ true }
+    ensures tested { (o : Origin) (h : List Entry) → agrees o h ≡ true → ((k : NodeKey) → is_quiet o h (Some k) ≡ true) → (digest o h).version ≡ o.start.version → IsKnown o h }
 {}
 
 /// A branch whose word is still awaited can be reached: in every legal history, while the current transaction is active, the

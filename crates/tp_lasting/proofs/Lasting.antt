@@ -10,7 +10,7 @@ use Rattle.tp_model.specs.Trees.{stays}
 use Rattle.tp_model.specs.World.{Node, number_of, site_of}
 use Rattle.tp_model.specs.Happenings.{Happening, run}
 use Rattle.tp_model.specs.Promises.{IsOf, is_root}
-use Rattle.tp_drained.specs.DrainedTrees.{IsSettled}
+use Rattle.tp_drained.specs.DrainedTrees.{IsSettledTree}
 use Rattle.tp_outcomes.specs.Starting.{times_in}
 use Rattle.tp_outcomes.specs.Staying.{StaysSo}
 use Rattle.tp_lasting.specs.Lasting.{CommittedForGood, ClosedForGood}
@@ -23,7 +23,7 @@ use Rattle.tp_agreement.proofs.Agreed.{no_less, rank, less}
 use Rattle.tp_agreement.proofs.RollsUp.{left_down}
 use Rattle.tp_reports.proofs.ClearedLaw.{IsCleared, cleared_law}
 use Rattle.tp_reports.proofs.ReportFree.{clear_is_committed, clear_below, commit_closes}
-use Rattle.tp_drained.proofs.DrainedCommits.{drained_commits}
+use Rattle.tp_drained.proofs.DrainedCommits.{tree_commits}
 use Rattle.tp_outcomes.proofs.Staying.{outcomes_stay}
 use Rattle.tp_outcomes.proofs.TreesListed.{listed_once}
 
@@ -41,7 +41,7 @@ listed t (v ∷ ts) (suc k) u l at is = more (is_aaid t v) (listed t ts k u (les
     more true i = omega (arith, i)
     more false i = i
 
-pub root_settled : (more es : List Happening) (t : Aaid) → IsSettled (run es) t → (y : Node) → IsOf (run (more ++ es)) t y → is_root t y ≡ true → (has_left y.origin t y.history ≡ true) ⊎ (completed_none y.origin t y.history ≡ true)
+pub root_settled : (more es : List Happening) (t : Aaid) → IsSettledTree (run es) t → (y : Node) → IsOf (run (more ++ es)) t y → is_root t y ≡ true → (has_left y.origin t y.history ≡ true) ⊎ (completed_none y.origin t y.history ≡ true)
 root_settled more es t settled y of root = go (has_left x.origin t x.history) refl
   where
     r : (x : Node) × IsOf (run es) t x × (is_root t x ≡ true)
@@ -64,7 +64,7 @@ root_settled more es t settled y of root = go (has_left x.origin t x.history) re
 
     go : (b : Bool) → has_left x.origin t x.history ≡ b → (has_left y.origin t y.history ≡ true) ⊎ (completed_none y.origin t y.history ≡ true)
     go true i = inl (stay.leaves i)
-    go false i = inr (stay.clears (drained_commits es t settled.started settled.drained settled.unfailed settled.asked x r.1 (rw i refl)).complete)
+    go false i = inr (stay.clears (tree_commits es t settled x r.1 (rw i refl)).complete)
 
 -- ---- down from it
 
@@ -79,7 +79,7 @@ settled_down fs t top (suc k) y false i le of =
       | inr clear ↦ clear_below fs t u.id u.superior y u.branch clear
     ]
 
-complete_for_good : (more es : List Happening) (t : Aaid) → IsSettled (run es) t → (y : Node) → IsOf (run (more ++ es)) t y → stays t y ≡ true → completed_none y.origin t y.history ≡ true
+complete_for_good : (more es : List Happening) (t : Aaid) → IsSettledTree (run es) t → (y : Node) → IsOf (run (more ++ es)) t y → stays t y ≡ true → completed_none y.origin t y.history ≡ true
 complete_for_good more es t settled y of stay = elim (settled_down (more ++ es) t (root_settled more es t settled) (rank (more ++ es) y) y (is_root t y) refl (le_refl (rank (more ++ es) y)) of) [
   | inl gone ↦ absurd (grind (arith, gone, stay))
   | inr clear ↦ clear

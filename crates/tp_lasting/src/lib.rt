@@ -1,4 +1,5 @@
-//! A tree that was settled once has committed for good: a failure that comes later does not touch it.
+//! A tree that was settled once has committed for good: a failure that comes later does not touch it, nor one that came at its
+//! nodes while the tree was not current there.
 //!
 //! Each law is the contract of a function with an empty body.
 #![tactic(auto)]
@@ -7,8 +8,8 @@ ghost use Rattle.std.specs.Prelude.{List};
 ghost use Rattle.tp_model.specs.Happenings.{Happening};
 ghost use Rattle.tp_lasting.specs.Lasting.{CommittedForGood, ClosedForGood};
 
-/// Where at some time of a run a tree was drained, nothing had failed at its nodes until then, and each user had asked for
-/// commitment, or left: whatever happens after that, crashes, lost associations and nodes that enter the tree with it, each node
+/// Where at some time of a run a tree was drained, nothing had failed at its nodes until then while it was current there, and each
+/// user had asked for commitment, or left: whatever happens after that, crashes, lost associations and nodes that enter the tree with it, each node
 /// of the tree that stays has logged Commit, and was told that it is complete, with no report; and its closing line says so.
 pub fn a_settled_tree_has_committed_for_good()
     ensures nodes { (more es : List Happening) → CommittedForGood more es }

@@ -7,11 +7,23 @@ use Rattle.tp_runs.proofs.Breaks.{associations}
 use Rattle.tp_control.proofs.EndsRounds.{control_is_one}
 use Rattle.tp_agreement.proofs.Mixed.{mixed_is_named}
 use Rattle.tp_agreement.proofs.ParentChild.{parent_and_child}
-use Rattle.tp_reports.proofs.Reported.{reports}
 use Rattle.tp_histories.proofs.worlds.Starts.{all_legal}
 use Rattle.tp_runs.proofs.Users.{users_see}
-use Rattle.tp_reports.proofs.ReportFree.{report_free}
-use Rattle.tp_drained.proofs.DrainedCommits.{drained_commits}
+use Rattle.tp_reports.proofs.ReportFree.{report_free, report_free_closes}
+use Rattle.tp_reports.proofs.Reported.{reports, done_below}
+use Rattle.tp_drained.proofs.DrainedCommits.{drained_commits, settled_closes, tree_commits, tree_closes}
+use Rattle.tp_forced.proofs.TreeLogs.{one_log}
+use Rattle.tp_forced.proofs.Forced.{ends_last, commits_force_so, rolls_unforced}
+use Rattle.tp_forced.proofs.TakenOnce.{taken_once}
+use Rattle.tp_outcomes.proofs.Shown.{told_of_trees, left_untold}
+use Rattle.tp_outcomes.proofs.TreesListed.{closes_once}
+use Rattle.tp_outcomes.proofs.CountedThere.{counted_is_there}
+use Rattle.tp_outcomes.proofs.TreesAgree.{trees_agree}
+use Rattle.tp_alarms.proofs.Causes.{reports_have_causes}
+use Rattle.tp_alarms.proofs.Alarms.{no_false_alarm}
+use Rattle.tp_alarms.proofs.Commitments.{commitments_apart}
+use Rattle.tp_alarms.proofs.Rollbacks.{rollbacks_apart}
+use Rattle.tp_laws.specs.Whole.{AllPromised}
 
 -- ---- the headline
 
@@ -30,4 +42,28 @@ promised es = record {
   family = parent_and_child es;
   reports = reports es;
   mixed = mixed_is_named es;
+}
+
+pub all_promised : (es : List Happening) → AllPromised (run es)
+all_promised es = record {
+  promised = promised es;
+  trees = trees_agree es;
+  counted = counted_is_there es;
+  told = told_of_trees es;
+  left = left_untold es;
+  closed = closes_once es;
+  report_free_closes = report_free_closes es;
+  settled_closes = settled_closes es;
+  settled_tree = tree_commits es;
+  settled_tree_closes = tree_closes es;
+  done_below = done_below es;
+  one_log = one_log es;
+  ends_last = ends_last es;
+  commits_force = commits_force_so es;
+  rolls_unforced = rolls_unforced es;
+  taken_once = taken_once es;
+  causes = reports_have_causes es;
+  no_false_alarm = no_false_alarm es;
+  commitments_apart = commitments_apart es;
+  rollbacks_apart = rollbacks_apart es;
 }

@@ -15,7 +15,7 @@ ghost use Rattle.tp_model.specs.Legal.{is_start, are_in_order, RestartIsCrash, R
 ghost use Rattle.tp_histories.specs.Members.{IsUnique};
 ghost use Rattle.tp_runs.specs.Hanging.{HangsTogether};
 ghost use Rattle.tp_site_logs.specs.SiteLogs.{DisksTell, DisksStart, next_opening, stops};
-ghost use Rattle.tp_drained.specs.DrainedTrees.{SettledCloses};
+ghost use Rattle.tp_drained.specs.DrainedTrees.{SettledCloses, SettledTreeCommits, SettledTreeCloses, SettledInItsTime};
 ghost use Rattle.tp_agreement.specs.Logs.{CommitsAlone, LogsAgree};
 ghost use Rattle.tp_reports.specs.Reports.{ReportFreeCommits, ReportFreeCloses, DoneBelow};
 ghost use Rattle.tp_records.specs.declared.request.Request.{Request};
@@ -25,6 +25,7 @@ ghost use Rattle.tp_model.specs.Transcript.{transcript_with};
 ghost use Rattle.tp_model.specs.Expand.{played_all, IsExpanded};
 ghost use Rattle.tp_members.specs.Expansion.{LeavesItsWorld, ClosesAlike, IsWrittenOut, SpeaksOfNone, IsOfRun};
 ghost use Rattle.tp_runs.specs.RolledSeen.{RolledIsSeen};
+ghost use Rattle.tp_laws.specs.Whole.{AllPromised};
 
 /// In every run, every node's history is one that grew from an empty log by events that were accepted.
 pub fn all_legal()
@@ -111,6 +112,15 @@ pub fn a_drained_tree_has_committed()
     ensures line { (es : List Happening) → SettledCloses (run es) }
 {}
 
+/// So it is where this is asked of the time in which the tree is current at its nodes, and of what is the tree's: what they sent in
+/// the tree was taken, and nothing failed in it. A failure at a node before the tree began there, or after it was over, does not
+/// count, nor do the frames of such a time. What is said of the whole life of the nodes is a case of it.
+pub fn a_settled_tree_has_committed()
+    ensures nodes { (es : List Happening) → SettledTreeCommits (run es) }
+    ensures line { (es : List Happening) → SettledTreeCloses (run es) }
+    ensures whole { (es : List Happening) → SettledInItsTime (run es) }
+{}
+
 /// In every run, a tree whose closing line says that it is mixed names there at least one node that logged a decision.
 pub fn mixed_is_named()
     ensures { (es : List Happening) → MixedIsNamed (run es) }
@@ -127,6 +137,12 @@ pub fn headline()
 /// its branches, reports, and the closing line of a mixed tree.
 pub fn the_promises_are_kept()
     ensures { (es : List Happening) → Promised (run es) }
+{}
+
+/// In every run, all that the laws say of the world that it leaves: the promises above, and of the nodes of each tree what they are
+/// told, log, force and report.
+pub fn all_that_is_promised_is_kept()
+    ensures { (es : List Happening) → AllPromised (run es) }
 {}
 
 /// What lines leave, for every number of members and every list of answers, is what a list of happenings leaves; so is what

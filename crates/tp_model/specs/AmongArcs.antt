@@ -57,15 +57,15 @@ pub record IsPutOff (p : ℕ) (arcs later : List Arc) : Type 0 where
   pub ends : is_end_deferred_at later p ≡ true
   pub others : (q : ℕ) → (q == p) ≡ false → IsAlike q arcs later
 
-abbrev pub is_named : List Child → ℕ → Bool
-is_named [] p = false
-is_named (x ∷ xs) p = (x.addr.node == p) || is_named xs p
+abbrev pub is_child_at : List Child → ℕ → Bool
+is_child_at [] p = false
+is_child_at (x ∷ xs) p = (x.addr.node == p) || is_child_at xs p
 
 -- new branches: on live arcs on which no end is deferred, none of them the transaction's, each named once
 abbrev pub AreNew : List Child → List Arc → Current → Type 0
 AreNew [] arcs c = Unit {0}
 AreNew (x ∷ xs) arcs c =
-    (is_live_with_peer arcs x.addr.node ≡ true) × (is_end_deferred_at arcs x.addr.node ≡ false) × (is_peer c x.addr.node ≡ false) × (is_named xs x.addr.node ≡ false) × AreNew xs arcs c
+    (is_live_with_peer arcs x.addr.node ≡ true) × (is_end_deferred_at arcs x.addr.node ≡ false) × (is_peer c x.addr.node ≡ false) × (is_child_at xs x.addr.node ≡ false) × AreNew xs arcs c
 
 -- a deferred end stands on its arc by now, and an arc that is lost is gone; any other event leaves the arcs
 -- as they look. The user aborts a branch and defers an end while the transaction is active, and so is the
@@ -74,17 +74,11 @@ abbrev pub Reaches : TxEvent → Current → List Arc → List Arc → Type 0
 Reaches (TxEvent.Begun cs) c arcs later = (is_rolling c.phase ≡ false) × AreNew cs later c × AreAlike arcs later
 Reaches (TxEvent.User (Request.UAbort p)) c arcs later = (is_active c.phase ≡ true) × AreAlike arcs later
 Reaches (TxEvent.User (Request.DeferEnd p)) c arcs later = (is_active c.phase ≡ true) × (is_under_at c.key p ≡ false) × IsPutOff p arcs later
-Reaches (TxEvent.User _) c arcs later = AreAlike arcs later
 Reaches (TxEvent.Took p DialogueRecord.UAbort) c arcs later = IsCut p arcs later
 Reaches (TxEvent.Took p DialogueRecord.DeferEnd) c arcs later = (is_active c.phase ≡ true) × (is_under_at c.key p ≡ true) × IsPutOff p arcs later
 Reaches (TxEvent.Took p DialogueRecord.LeftEnd) c arcs later = (is_under_at c.key p ≡ false) × AreAlike arcs later
-Reaches (TxEvent.Took p _) c arcs later = AreAlike arcs later
 Reaches (TxEvent.Lost p) c arcs later = IsCut p arcs later
-Reaches (TxEvent.Heur o) c arcs later = AreAlike arcs later
-Reaches (TxEvent.GiveUp p) c arcs later = AreAlike arcs later
-Reaches TxEvent.Ordered c arcs later = AreAlike arcs later
-Reaches (TxEvent.Reply b s) c arcs later = AreAlike arcs later
-Reaches TxEvent.Retry c arcs later = AreAlike arcs later
+Reaches _ c arcs later = AreAlike arcs later
 
 -- a record that is out of phase changes nothing of the transaction; another event is none that it refuses
 abbrev pub IsTakenUp : TxEvent → Transaction → Type 0

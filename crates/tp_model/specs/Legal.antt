@@ -6,13 +6,13 @@ use Rattle.tp_names.specs.Same.{is_branch}
 use Rattle.tp_logrec.specs.declared.record.LogRec.{LogRec}
 use Rattle.tp_logrec.specs.Order.{all_follow}
 use Rattle.tp_names.specs.declared.identifiers.Addr.{Addr}
-use Rattle.tp_model.specs.Parts.{Origin, Event, Declare, Do, Arrive, Break, Lose, Heur, GiveUp, Retry, Purge, Crash, Entry}
+use Rattle.tp_model.specs.Parts.{Origin, Event, Declare, Entry}
 use Rattle.tp_model.specs.History.{digest, refuse, entry_of, records, again, crashed}
-use Rattle.tp_model.specs.Consistency.{agrees}
+use Rattle.tp_model.specs.Consistency.{IsKnown}
 
 -- ---- a start
 
--- the record is one of the node, and its key, where it is a root's, is of an earlier boot
+-- a key of a root is of an earlier boot
 abbrev pub is_older : ℕ → NodeKey → Bool
 is_older boot k = elim k.branch [ None ↦ nat_lt k.aaid.mark.boot boot | Some b ↦ true ]
 
@@ -25,6 +25,7 @@ abbrev pub are_apart : List Child → Bool
 are_apart [] = true
 are_apart (c ∷ cs) = is_apart c cs && are_apart cs
 
+-- a record of the node, of an earlier boot, whose children can be told apart by their numbers and by their identifiers
 abbrev pub is_own_record : ℕ → ℕ → LogRec → Bool
 is_own_record node boot (LogRec.Boot n) = false
 is_own_record node boot (LogRec.Ready n k s cs) = (n == node) && is_older boot k && are_apart cs
@@ -46,22 +47,14 @@ is_start o = all_follow (LogRec.Boot o.start.boot ∷ o.start.records) && are_ow
 -- a declaration names the one superior that the node has
 abbrev pub IsUnder : Option Addr → Event → Type 0
 IsUnder up (Declare s) = s ≡ up
-IsUnder up (Do r) = Unit {0}
-IsUnder up (Arrive a r) = Unit {0}
-IsUnder up (Break a r) = Unit {0}
-IsUnder up (Lose p) = Unit {0}
-IsUnder up (Heur u) = Unit {0}
-IsUnder up (GiveUp p) = Unit {0}
-IsUnder up Retry = Unit {0}
-IsUnder up Purge = Unit {0}
-IsUnder up Crash = Unit {0}
+IsUnder up _ = Unit {0}
 
 -- each entry is of an event that was accepted then, and is what the event does
 abbrev pub IsGrown : Origin → Option Addr → List Entry → Type 0
 IsGrown o up [] = Unit {0}
 IsGrown o up (e ∷ h) = (refuse o h e.event ≡ None) × (entry_of o h e.event ≡ e) × IsUnder up e.event × IsGrown o up h
 
--- the history of a node with that superior: it grew from a start that a log can give
+-- the history of a node with that superior: it grew from a start on records such as its own histories leave
 pub record IsLegal (o : Origin) (up : Option Addr) (h : List Entry) : Type 0 where
   pub start : is_start o ≡ true
   pub grown : IsGrown o up h
@@ -70,7 +63,7 @@ pub record IsLegal (o : Origin) (up : Option Addr) (h : List Entry) : Type 0 whe
 
 -- what is known after a history is what the questions to it answer
 abbrev pub DigestAgrees : Type 0
-DigestAgrees = (o : Origin) (up : Option Addr) (h : List Entry) → IsLegal o up h → agrees o h ≡ true
+DigestAgrees = (o : Origin) (up : Option Addr) (h : List Entry) → IsLegal o up h → IsKnown o h
 
 -- a crash, and a start over the records with the same boot number, leave the same
 abbrev pub RestartIsCrash : Type 0

@@ -162,36 +162,23 @@ is_leaving (TxEvent.User Request.Unchanged) = true
 is_leaving _ = false
 
 abbrev pub passage : Bool → Phase → Phase → Passage
-passage leaving Phase.Nil next = Stays
 passage leaving Phase.Active Phase.Nil = if leaving then Leaves else Falls_at_once
-passage leaving Phase.Active Phase.Active = Stays
 passage leaving Phase.Active Phase.Ready = Enters
 passage leaving Phase.Active Phase.Committing = Enters
 passage leaving Phase.Active Phase.Rolling = Falls
 passage leaving Phase.Ready Phase.Nil = Falls_at_once
-passage leaving Phase.Ready Phase.Active = Stays
-passage leaving Phase.Ready Phase.Ready = Stays
 passage leaving Phase.Ready Phase.Committing = Enters
 passage leaving Phase.Ready Phase.Rolling = Falls
 passage leaving Phase.Committing Phase.Nil = Commits
-passage leaving Phase.Committing Phase.Active = Stays
-passage leaving Phase.Committing Phase.Ready = Stays
-passage leaving Phase.Committing Phase.Committing = Stays
-passage leaving Phase.Committing Phase.Rolling = Stays
 passage leaving Phase.Rolling Phase.Nil = Rolls_back
-passage leaving Phase.Rolling Phase.Active = Stays
-passage leaving Phase.Rolling Phase.Ready = Stays
-passage leaving Phase.Rolling Phase.Committing = Stays
-passage leaving Phase.Rolling Phase.Rolling = Stays
+passage leaving _ _ = Stays
 
 abbrev pub is_over : Passage → Bool
-is_over Stays = false
-is_over Enters = false
-is_over Falls = false
 is_over Falls_at_once = true
 is_over Commits = true
 is_over Rolls_back = true
 is_over Leaves = true
+is_over _ = false
 
 -- the arc is a branch of the transaction
 abbrev pub is_arc_of : Transaction → Arc → Bool
@@ -207,13 +194,10 @@ without_deferral d = record d { deferral = Deferral.None }
 -- ready, committing or rolling is entered: control and handshakes are cleared on every branch, and
 -- a rollback forgets what was deferred
 unfoldable pub entered : Transaction → Passage → List Arc → List Arc
-entered t Stays arcs = arcs
 entered t Enters arcs = with_dialogues arcs (is_arc_of t) (λ a. cleared a.dialogue)
 entered t Falls arcs = with_dialogues arcs (is_arc_of t) (λ a. without_deferral (cleared a.dialogue))
 entered t Falls_at_once arcs = with_dialogues arcs (is_arc_of t) (λ a. without_deferral (cleared a.dialogue))
-entered t Commits arcs = arcs
-entered t Rolls_back arcs = arcs
-entered t Leaves arcs = arcs
+entered t _ arcs = arcs
 
 -- at its completion the superior side holds control again
 abbrev pub completed_arcs : Digest → Transaction → Outcome → List Arc → List Arc
@@ -262,13 +246,11 @@ perform_commit d t outs arcs =
 
 -- the outputs of a transaction at the arcs, with what its passage does to control
 unfoldable pub played : Digest → Transaction → Passage → List TxOut → List Arc → List Arc × List Out
-played d t Stays outs arcs = performed arcs outs
-played d t Enters outs arcs = performed arcs outs
-played d t Falls outs arcs = performed arcs outs
 played d t Falls_at_once outs arcs = let p = performed arcs outs in (completed_arcs d t Outcome.Rollback p.0, p.1)
 played d t Commits outs arcs = perform_commit d t outs arcs
 played d t Rolls_back outs arcs = let p = performed arcs outs in (completed_arcs d t Outcome.Rollback p.0, p.1)
 played d t Leaves outs arcs = let p = performed arcs outs in (left_arcs t p.0, p.1)
+played d t _ outs arcs = performed arcs outs
 
 -- ---- transactions begin
 

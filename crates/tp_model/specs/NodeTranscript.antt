@@ -34,13 +34,7 @@ size_of ver rs = 6 + length (log_text ver rs)
 
 abbrev pub is_declare : Given → Bool
 is_declare (Given.Declare n s) = true
-is_declare (Given.Do n r) = false
-is_declare (Given.Arrive from to octets) = false
-is_declare (Given.Lose n p) = false
-is_declare (Given.Heur n u) = false
-is_declare (Given.GiveUp n p) = false
-is_declare (Given.Retry n) = false
-is_declare (Given.Purge n) = false
+is_declare _ = false
 
 abbrev pub declared_by : Given → ℕ
 declared_by g = elim (is_declare g) [ true ↦ 1 | false ↦ 0 ]

@@ -23,6 +23,7 @@ use Rattle.tp_model.specs.Legal.{IsLegal}
 use Rattle.tp_model.specs.Traces.{sent_on, taken_on}
 use Rattle.tp_model.specs.World.{World, Node, Frame, number_of, site_of, addr_of, find_node}
 use Rattle.tp_model.specs.Trees.{stays, members_of, closing_line}
+use Rattle.tp_model.specs.Questions.{tells_commit_complete}
 
 -- ---- a node and a tree
 
@@ -209,15 +210,10 @@ abbrev pub has_sent_done_none : Origin → Aaid → BranchId → List Entry → 
 has_sent_done_none o t b [] = false
 has_sent_done_none o t b (e ∷ h) = some_out (is_done_none t b (is_now t (digest o h).current)) e.outs || has_sent_done_none o t b h
 
-abbrev pub completes : List Out → Bool
-completes [] = false
-completes (Out.Tell (Indication.CommitComplete r) ∷ outs) = true
-completes (_ ∷ outs) = completes outs
-
 -- while the superior has not completed, a Done with no report means that all at and below the branch are told commit
 abbrev pub Reports : World → Type 0
 Reports w =
-    (t : Aaid) (b : BranchId) (x y z : Node) → IsBranchOf w t b x y → has_told_in completes x.origin t x.history ≡ false
+    (t : Aaid) (b : BranchId) (x y z : Node) → IsBranchOf w t b x y → has_told_in tells_commit_complete x.origin t x.history ≡ false
     → has_sent_done_none y.origin t b y.history ≡ true → IsBelow w t y z → stays t z ≡ true → told_of t z ≡ Some Outcome.Commit
 
 -- ---- closing lines

@@ -1,6 +1,6 @@
 -- The refusals by their names: the number of each, which the definitions of the service speak of, and how a call
 -- answers by one. When each comes stands with what it refuses: `Dialogues`, `Requests`, `Transactions`, `Arrivals`.
-use Rattle.std.specs.Prelude.{ℕ, ◌≡◌, Bool, true, false, Option, Some, None, Result, Ok, Err, List, [], ◌∷◌}
+use Rattle.std.specs.Prelude.{ℕ, ◌≡◌, Bool, true, false, Option, Some, None, Result, Ok, Err}
 use Rattle.tp_model.specs.declared.refusal.Refusal.{Refusal}
 use Rattle.tp_model.specs.declared.transaction.TxFault.{TxFault}
 
@@ -30,38 +30,14 @@ number_of Refusal.BadRecord = 25
 
 -- a transcript shows 21 and 22 as dropped, the others as refused
 abbrev pub is_dropped : Refusal → Bool
-is_dropped Refusal.NoDialogue = false
-is_dropped Refusal.WrongPhase = false
-is_dropped Refusal.WrongControl = false
-is_dropped Refusal.UnitAbsent = false
-is_dropped Refusal.HandshakeOpen = false
-is_dropped Refusal.NoTransaction = false
-is_dropped Refusal.TransactionOpen = false
-is_dropped Refusal.NotAsked = false
-is_dropped Refusal.AlreadyAsked = false
-is_dropped Refusal.NotInReady = false
-is_dropped Refusal.AlreadyDecided = false
-is_dropped Refusal.NothingOwed = false
-is_dropped Refusal.TooMany = false
-is_dropped Refusal.NotKept = false
-is_dropped Refusal.StillOwed = false
-is_dropped Refusal.NoNode = false
-is_dropped Refusal.NumbersSpent = false
 is_dropped Refusal.OldAssociation = true
 is_dropped Refusal.OutOfOrder = true
-is_dropped Refusal.WrongSite = false
-is_dropped Refusal.OutOfPhase = false
-is_dropped Refusal.BadRecord = false
+is_dropped _ = false
 
 -- the number of a refusal, where there is one
 abbrev pub number_in : Option Refusal → Option ℕ
 number_in None = None
 number_in (Some r) = Some (number_of r)
-
--- tests with their refusals, by the numbers of these
-abbrev pub numbered : List (Bool × Refusal) → List (Bool × ℕ)
-numbered [] = []
-numbered (t ∷ ts) = (t.0, number_of t.1) ∷ numbered ts
 
 -- the number by which a call refuses
 abbrev pub number_answered : {A : Type 0} → Result A Refusal → Option ℕ

@@ -143,23 +143,9 @@ pub record AreAllowed (may : ℕ → List Answer → Type 0) (puts : List Put) (
 
 -- the line speaks of members, and nothing is shown of it
 abbrev pub is_silent : Line → Bool
-is_silent (Line.Node n s p) = false
-is_silent (Line.Do n r) = false
-is_silent (Line.Pass a b) = false
-is_silent (Line.Skip a b) = false
-is_silent (Line.Again k) = false
-is_silent Line.Drain = false
-is_silent (Line.Lose n p) = false
-is_silent (Line.Heur n o) = false
-is_silent (Line.GiveUp n p) = false
-is_silent (Line.Retry n) = false
-is_silent (Line.Purge n) = false
-is_silent (Line.Crash s) = false
-is_silent (Line.CrashIn s k x l) = false
-is_silent (Line.Show n) = false
-is_silent (Line.Image s) = false
 is_silent (Line.Auto n k) = true
 is_silent (Line.Leave k) = true
+is_silent _ = false
 
 -- what is shown of the line itself
 abbrev pub echo : Line → List OutLine

@@ -2,7 +2,7 @@
 ghost use Rattle.std.specs.Prelude.{◌≡◌};
 ghost use Rattle.tp_model.specs.Dialogues.{first};
 ghost use Rattle.tp_model.specs.Requests.{least};
-ghost use Rattle.tp_model.specs.Refusal.{number_of, number_in, numbered, is_dropped};
+ghost use Rattle.tp_model.specs.Refusal.{number_of, number_in, is_dropped};
 
 use thiserror::Error;
 
@@ -97,7 +97,7 @@ impl Refusal {
 
     /// The refusal of the first test that holds.
     pub fn first(tests: &[(bool, Refusal)]) -> Option<Refusal>
-        ensures { number_in result ≡ first (numbered tests.now) }
+        ensures { number_in result ≡ first tests.now }
     {
         for test in tests {
             if test.0 {

@@ -1,12 +1,11 @@
 -- A Begin for which nothing can be wanting: what it makes of the node, and what goes out.
-use Rattle.std.proofs.Common.{◌≡◌, ◌+◌, ◌<◌, ◌≤◌, ℕ, zero, suc, Bool, true, false, Option, Some, None, IfSome, List, [], ◌∷◌, ◌++◌, length, refl, ap, sym, subst, ◌∙◌, arith}
-use Rattle.std.specs.Prelude.{◌==◌, ◌&&◌, not, cond, nat_lt, nat_le}
+use Rattle.std.proofs.Common.{◌≡◌, ◌+◌, ◌<◌, ℕ, suc, Bool, true, false, Option, Some, None, IfSome, List, [], ◌∷◌, length, refl, ap, sym, ◌∙◌, arith}
+use Rattle.std.specs.Prelude.{◌==◌, ◌&&◌, not, nat_lt}
 use Rattle.std.proofs.lemmas.Bool.Decides.{nat_tests}
 use Rattle.std.proofs.lemmas.Grind.{common_steps}
 use Rattle.std.specs.Cmp.{unsigned_Decides}
 use Rattle.tp_names.specs.declared.identifiers.Addr.{Addr}
 use Rattle.tp_names.specs.declared.identifiers.Aaid.{Aaid}
-use Rattle.tp_names.specs.declared.identifiers.Mark.{Mark}
 use Rattle.tp_records.specs.declared.dialogue.DialogueRecord.{DialogueRecord}
 use Rattle.tp_model.specs.declared.arc.Side.{Side}
 use Rattle.tp_model.specs.Parts.{Who, Link, Idle, Opening, Offered, Live, Arc, Dialogue, Current, Digest, Out}
@@ -16,12 +15,12 @@ use Rattle.tp_model.specs.Links.{greatest}
 use Rattle.tp_model.specs.Events.{some_past_numbers}
 use Rattle.tp_model.specs.Transactions.{Row, Transaction, aaid_of}
 use Rattle.tp_model.specs.Node.{branches_of, may_begin_on}
-use Rattle.tp_node.specs.declared.outs.Out.{Out as CodeOut}
-use Rattle.tp_node.specs.Outs.{out_of, outs_of_option}
+use Rattle.tp_node_parts.specs.declared.outs.Out.{Out as CodeOut}
+use Rattle.tp_node_parts.specs.Outs.{out_of, outs_of_option}
 use Rattle.tp_node.specs.Node.{current_of}
-use Rattle.tp_node.specs.Arcs.{next_on, is_spent, outs_next}
-use Rattle.tp_node.specs.Begins.{aaid_in, new_branch, begun_at, begun_on, begun_sent, has_place_below, can_begin}
-use Rattle.tp_node.proofs.Sides.{carried_next}
+use Rattle.tp_node_parts.specs.Arcs.{next_on, is_spent, outs_next}
+use Rattle.tp_node.specs.Begins.{aaid_in, new_branch, begun_on, begun_sent, has_place_below, can_begin}
+use Rattle.tp_node_parts.proofs.Sides.{carried_next}
 use Rattle.tp_node.proofs.Beginnings.{peer_found, on_found}
 
 -- ---- there is memory for one branch more

@@ -1,15 +1,8 @@
-pub mod Arcs
-pub mod SharedArcs
-pub mod Outs
 pub mod State
-pub mod Kept
-pub mod KeptTable
 pub mod Node
 pub mod Halt
 pub mod Begins
-pub mod ArcStep
 pub mod Passage
-pub mod Directory
 pub mod Noted
 pub mod Calls
 pub mod Sights

@@ -5,29 +5,19 @@
 //! a time. It knows nothing of the order of these steps in an event, of a log's place, nor of other nodes.
 #![tactic(auto)]
 
-mod arc_step;
-mod arcs;
-mod directory;
 mod disposition;
 mod event;
 mod halt;
-mod kept;
-mod kept_map;
-mod kept_table;
 mod look;
 mod named;
 mod node;
-mod outs;
 mod passage;
 mod refusing;
-mod shared_arcs;
 mod state;
 
-pub use arc_step::ArcStep;
 pub use event::NodeEvent;
 pub use halt::Halt;
 pub use named::key_of;
 pub use node::Node;
-pub use outs::{Out, Outs};
 pub use passage::{Passage, is_leaving};
 pub use state::{NodeState, NodeTree};

@@ -4,10 +4,10 @@ ghost use Rattle.tp_model.specs.Arcs.{is_live_with_peer};
 ghost use Rattle.tp_model.specs.Node.{is_end_deferred_at, is_up_live, is_up_ending, branches_of, seen_rows, seen};
 ghost use Rattle.tp_node.specs.Node.{arcs_in, current_of};
 
-use crate::shared_arcs::SharedArcs;
 use tp_commit::Branch;
 use tp_link::LinkState;
 use tp_model::Deferral;
+use tp_node_parts::SharedArcs;
 
 // Whether the arc with that peer is live, and whether an end is deferred on it. The arc of a branch stands at the place of
 // the branch where all subordinates are branches, each begun in turn.

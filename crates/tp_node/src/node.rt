@@ -3,7 +3,7 @@ mod begun;
 mod noted;
 mod origin;
 
-ghost use Rattle.std.specs.Prelude.{◌≡◌, ◌⊎◌, ◌==◌, ◌&&◌, ◌||◌, not, true, [], ◌∷◌, ◌+◌, ◌++◌, nat_le, nat_lt, slice_get, Ok, Option, Some, None, IfOk, IfErr, IfSome, IsSome, IsTrue, OnOk, OnErr};
+ghost use Rattle.std.specs.Prelude.{◌≡◌, ◌==◌, ◌&&◌, ◌||◌, not, true, [], ◌∷◌, ◌+◌, ◌++◌, nat_le, nat_lt, slice_get, Ok, Option, Some, None, IfOk, IfErr, IfSome, IsTrue, OnOk, OnErr};
 ghost use Rattle.std.specs.Option.{option_map, option_copied, is_some};
 ghost use Rattle.tp_model.specs.Dialogues.{is_nil, is_late, first, said, heard, begun_by, cleared, named_holder};
 ghost use Rattle.tp_model.specs.Links.{greatest, is_idle, is_opening_with, dropped_by, with_one_taken};
@@ -11,7 +11,7 @@ ghost use Rattle.tp_model.specs.Arcs.{find_arc, link_with, with_link, with_dialo
 ghost use Rattle.tp_model.specs.Node.{branches_of, seen, remaining, entered, grants, phase_of, has_asked, is_superior, side_at, situation_at, may_root, may_begin_on, is_chained_below, chained_peers, fresh_current, superior_arc, next_mark, with_mark_drawn};
 ghost use Rattle.tp_model.specs.Events.{is_no_node, refused_of_current, refused_purge, some_past_numbers};
 ghost use Rattle.tp_records.specs.declared.request.Request.{Request};
-ghost use Rattle.tp_model.specs.Requests.{refused_of_tx, refused_request, refused_at, room, count_below, count_gone, count_subordinates, has_branch_at, is_branch_below, is_some_arc};
+ghost use Rattle.tp_model.specs.Requests.{refused_of_tx, refused_request, refused_at, room, count_below, count_gone, count_subordinates, has_branch_at, is_branch_below};
 ghost use Rattle.tp_model.specs.History.{state};
 ghost use Rattle.tp_model.specs.Recovery.{kept_after, find_kept, with_forget, noted};
 ghost use Rattle.tp_model.specs.declared.recovery.KeptEvent.{KeptEvent};
@@ -22,25 +22,22 @@ ghost use Rattle.tp_model.specs.Refusal.{number_in};
 ghost use Rattle.tp_model.specs.Arrivals.{sight_in_tx, is_response, woken_by, current_with, current_of as current_in};
 ghost use Rattle.tp_node.specs.State.{state_of, tree_in};
 ghost use Rattle.tp_node.specs.Node.{current_of, with_arcs, has_place_at};
-ghost use Rattle.tp_node.specs.Outs.{outs_of_option};
-ghost use Rattle.tp_node.specs.ArcStep.{stepped_arcs};
+ghost use Rattle.tp_node_parts.specs.Outs.{outs_of_option};
+ghost use Rattle.tp_node_parts.specs.ArcStep.{stepped_arcs};
 ghost use Rattle.tp_node.specs.Passage.{passage_of};
 ghost use Rattle.tp_dialogue.specs.Kinds.{asked_value, heard_value};
-ghost use Rattle.tp_node.specs.Arcs.{fits_link, new_arc};
+ghost use Rattle.tp_node_parts.specs.Arcs.{fits_link, new_arc};
 ghost use Rattle.tp_node.specs.Calls.{offer_of, offer_on, answered, begun_under};
 ghost use Rattle.tp_model.specs.Parts.{Opening, Offered, Live};
 ghost use Rattle.tp_model.specs.declared.arc.Side.{Side};
 ghost use Rattle.tp_tree.specs.Invocation.{with_arc};
 ghost use Rattle.tp_node.specs.Halt.{OnSpent};
 ghost use Rattle.tp_node.specs.Begins.{aaid_in, with_branch, begun_on, has_place_below, with_digest, may_start};
+ghost use Rattle.tp_model.specs.declared.refusal.Refusal.TheVariants.{NoDialogue, NoTransaction};
 
-use crate::arc_step::{ArcStep, is_granting};
 use crate::halt::Halt;
-use crate::kept_table::KeptTable;
-use crate::outs::Out;
 use crate::passage::Passage;
-use crate::shared_arcs::SharedArcs;
-use crate::{NodeState, NodeTree, kept, look};
+use crate::{NodeState, NodeTree, look};
 use std::alloc::Global;
 use std::marker::Model;
 use std::mem::swap;
@@ -59,6 +56,7 @@ use tp_names::same::{is_aaid, is_key};
 use tp_names::{
     Aaid, Addr, BranchId, Child, Counter, Mark, NoMemory, NodeKey, NumbersSpent, Outcome, SiteName,
 };
+use tp_node_parts::{ArcStep, KeptTable, Out, SharedArcs, is_granting, kept, release};
 use tp_records::{DialogueRecord, Holder, Request};
 use tp_recover::refused;
 use tp_tree::Tie;
@@ -461,7 +459,7 @@ impl Node {
 
     // No new dialogue can be asked for with that peer now.
     fn is_taken(&self, peer: u16) -> bool
-        ensures { result ≡ ((peer == self.now.who.node) || is_superior self.now.digest peer || is_some_arc (find_arc self.now.digest.arcs peer) || is_branch_below self.now.digest peer || is_late (phase_of self.now.digest)) }
+        ensures { result ≡ ((peer == self.now.who.node) || is_superior self.now.digest peer || is_some (find_arc self.now.digest.arcs peer) || is_branch_below self.now.digest peer || is_late (phase_of self.now.digest)) }
     {
         peer == self.number
             || self.side(peer) == Side::Subordinate
@@ -484,7 +482,7 @@ impl Node {
 
     // Of a begin-transaction, by others than the arc.
     fn refused_root(&self) -> Option<Refusal>
-        ensures { number_in result ≡ first ((is_nil (phase_of self.now.digest) && not (may_root self.now.digest), 6) ∷ []) }
+        ensures { number_in result ≡ first ((is_nil (phase_of self.now.digest) && not (may_root self.now.digest), NoTransaction) ∷ []) }
     {
         if self.phase() == Phase::Nil && !self.may_root() {
             Some(NoTransaction)
@@ -542,7 +540,7 @@ impl Node {
 
     /// Of a loss.
     pub(crate) fn refused_loss(&self, peer: u16) -> Option<Refusal>
-        ensures { number_in result ≡ first ((is_idle (link_with self.now.digest.arcs peer), 1) ∷ []) }
+        ensures { number_in result ≡ first ((is_idle (link_with self.now.digest.arcs peer), NoDialogue) ∷ []) }
     {
         match self.find(peer) {
             Some(tie) if tie.link.state() != LinkState::Idle => None,
@@ -709,7 +707,7 @@ impl Node {
     }
 
     /// What the transaction does to the arcs where it passes so, before anything is said.
-    #[tactic(auto, unfolding(tp_model::specs::Node::entered), using(crate::proofs::Steps::entered_arcs, crate::proofs::Steps::fallen_arcs))]
+    #[tactic(auto, unfolding(tp_model::specs::Node::entered), using(tp_node_parts::proofs::Steps::entered_arcs, tp_node_parts::proofs::Steps::fallen_arcs))]
     pub fn enter(&mut self, branch: &Branch, passage: Passage)
         ensures { self.new ≡ with_arcs self.old (entered branch.now (passage_of passage) self.old.digest.arcs) }
     {
@@ -838,7 +836,7 @@ impl Node {
     }
 
     /// The peer answers the call on that arc: it is live, with a new dialogue.
-    #[tactic(auto, using(crate::proofs::Linked::calls_below, crate::proofs::Linked::bound_live))]
+    #[tactic(auto, using(tp_node_parts::proofs::Linked::calls_below, tp_node_parts::proofs::Linked::bound_live))]
     pub fn bind(&mut self, tie: &Tie, x: Mark, y: Mark, units: Units)
         requires arc { find_arc self.old.digest.arcs (arc_of tie.now).peer.node ≡ Some (arc_of tie.now) }
         requires link { fits_link (side_at self.old.digest (arc_of tie.now).peer.node) tie.now.link ≡ true }
@@ -963,7 +961,7 @@ impl Node {
     }
 
     /// A record with that pair and number is taken on the arc with that peer; any but a response ends the arc's rest.
-    #[tactic(auto, using(crate::proofs::Takes::woken_so))]
+    #[tactic(auto, using(tp_node_parts::proofs::Takes::woken_so))]
     pub fn take(&mut self, peer: u16, x: Mark, y: Mark, seq: u64, rec: &DialogueRecord)
         requires { dropped_by (link_with self.old.digest.arcs peer) x y seq ≡ None }
         ensures { self.new ≡ with_digest self.old (woken_by rec.now peer (record self.old.digest { arcs = with_link self.old.digest.arcs peer with_one_taken })) }
@@ -1020,19 +1018,6 @@ impl Node {
             addr: tie.addr(),
             branch,
         })
-    }
-}
-
-// Arcs that may be shared are given back.
-fn release(arcs: &mut Option<SharedArcs>)
-    ensures { (arcs.new ≡ arcs.old) ⊎ (arcs.new ≡ None) }
-{
-    let is_shared = match arcs {
-        None => false,
-        Some(arcs) => arcs.is_shared(),
-    };
-    if is_shared {
-        *arcs = None;
     }
 }
 

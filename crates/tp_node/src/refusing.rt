@@ -14,6 +14,7 @@ ghost use Rattle.tp_records.specs.declared.peer.PeerRecord.{PeerRecord};
 ghost use Rattle.tp_model.specs.Links.{is_opening_with, is_live_with, is_idle};
 ghost use Rattle.tp_model.specs.Arcs.{link_from, link_with};
 ghost use Rattle.tp_model.specs.Arrivals.{is_from_superior, is_shut_by, is_other, is_misplaced_order, is_bad_answer, refused_arrival, refused_on, kept_superior, child_addr, named_by_key, named_by_branch, refused_reply};
+ghost use Rattle.tp_model.specs.declared.refusal.Refusal.TheVariants.{WrongSite};
 
 use crate::event::NodeEvent;
 use crate::named::key_of;
@@ -173,14 +174,14 @@ impl Node {
 
     // Of a record that the superior says of that key.
     fn refused_of_superior(&self, from: &Addr, key: &NodeKey) -> Option<Refusal>
-        ensures { number_in result ≡ first ((is_other (kept_superior (named_by_key self.now.digest key.now)) from.now, 23) ∷ []) }
+        ensures { number_in result ≡ first ((is_other (kept_superior (named_by_key self.now.digest key.now)) from.now, WrongSite) ∷ []) }
     {
         Refusal::first(&[(is_other(&self.superior_by_key(key), from), WrongSite)])
     }
 
     // Of a record that a branch says.
     fn refused_of_branch(&self, from: &Addr, aaid: &Aaid, branch: &BranchId) -> Option<Refusal>
-        ensures { number_in result ≡ first ((is_other (child_addr (named_by_branch self.now.digest aaid.now branch.now) branch.now) from.now, 23) ∷ []) }
+        ensures { number_in result ≡ first ((is_other (child_addr (named_by_branch self.now.digest aaid.now branch.now) branch.now) from.now, WrongSite) ∷ []) }
     {
         Refusal::first(&[(
             is_other(&self.child_by_branch(aaid, branch), from),

@@ -50,7 +50,7 @@ given_up =
 
 -- the branch decided to commit by itself, rolls with its superior and is done with it
 abbrev pub backed : List Happening
-backed = damaged ++ (Does (Action.Do 2 LineRequest.Done) ∷ Does (Action.Again 7) ∷ Does (Action.Again 8) ∷ [])
+backed = damaged ++ (Does (Action.Do 2 LineRequest.Done) ∷ Does (Action.Again 5) ∷ Does (Action.Again 7) ∷ Does (Action.Again 8) ∷ [])
 
 -- the last of three nodes decides to roll back by itself and stops; it learns the order, and says Done, beside the associations
 abbrev pub deep_mixed : List Happening
@@ -67,6 +67,28 @@ deep_mixed =
     ∷ Does (Action.Again 15)
     ∷ Does (Action.Do 2 LineRequest.Done)
     ∷ Does (Action.Again 17)
+    ∷ Does (Action.Do 1 LineRequest.Done)
+    ∷ [])
+
+-- the second of three nodes gives up the last, which decided to roll back by itself, and tells its user; then it learns of the mix, and
+-- says so to the root
+abbrev pub late_mix : List Happening
+late_mix =
+    deep_readied
+    ++ (Does (Action.Heur 3 Outcome.Rollback)
+    ∷ Does (Action.Again 10)
+    ∷ Does (Action.Again 11)
+    ∷ Crash (codes "c")
+    ∷ Does (Action.Retry 3)
+    ∷ Does (Action.Again 13)
+    ∷ Does (Action.Again 14)
+    ∷ Does (Action.Do 3 LineRequest.Done)
+    ∷ Does (Action.GiveUp 2 3)
+    ∷ Does (Action.Lose 2 1)
+    ∷ Does (Action.Do 2 LineRequest.Done)
+    ∷ Does (Action.Again 15)
+    ∷ Does (Action.Retry 2)
+    ∷ Does (Action.Again 19)
     ∷ Does (Action.Do 1 LineRequest.Done)
     ∷ [])
 

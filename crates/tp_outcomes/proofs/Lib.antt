@@ -4,3 +4,4 @@ pub mod Staying
 pub mod Starting
 pub mod TreesListed
 pub mod CountedThere
+pub mod TreesAgree

@@ -16,7 +16,7 @@ use Rattle.tp_model.specs.Events.{refusal, recovered_current, action}
 use Rattle.tp_model.specs.History.{digest}
 use Rattle.tp_model.specs.Legal.{IsLegal, IsGrown}
 use Rattle.tp_model.specs.Questions.{is_crash}
-use Rattle.tp_model.specs.Outcomes.{is_now, is_member, is_unchanged, rolls, started}
+use Rattle.tp_model.specs.Outcomes.{is_now, is_member, is_unchanged, rolls, root_started}
 use Rattle.tp_model.specs.Happenings.{trees_of}
 use Rattle.tp_steps.specs.Moves.{prelude, begun_in, counted_in, IsLate}
 use Rattle.tp_steps.specs.Trees.{IsDrawn, IsTreed}
@@ -58,7 +58,7 @@ one_time t u b i = ap (λ (v : Bool). elim v as (λ _. ℕ) [ true ↦ 1 | false
 
 -- ---- what starts was not current, and is drawn
 
-pub started_parts : (d e : Digest) (t : Aaid) → started d e ≡ Some t → (c : Current) × (e.current ≡ Some c) × (c.key ≡ Root t) × (is_now t d.current ≡ false)
+pub started_parts : (d e : Digest) (t : Aaid) → root_started d e ≡ Some t → (c : Current) × (e.current ≡ Some c) × (c.key ≡ Root t) × (is_now t d.current ≡ false)
 started_parts d e t h = go e.current refl
   where
     none : (u : Aaid) → (if is_now u d.current then None else Some u) ≡ Some t → (b : Bool) → is_now u d.current ≡ b → (u ≡ t) × (is_now u d.current ≡ false)
@@ -67,13 +67,13 @@ started_parts d e t h = go e.current refl
 
     on : (c : Current) → e.current ≡ Some c → (k : Key) → c.key ≡ k → (c : Current) × (e.current ≡ Some c) × (c.key ≡ Root t) × (is_now t d.current ≡ false)
     on c i (Root u) j =
-        let made : started d e ≡ (if is_now u d.current then None else Some u) = rw (i, j, started) refl in
+        let made : root_started d e ≡ (if is_now u d.current then None else Some u) = rw (i, j, root_started) refl in
         let p = none u (sym made ∙ h) (is_now u d.current) refl in
         (c, i, j ∙ ap (λ (v : Aaid). Root v) p.0, ap (λ (v : Aaid). is_now v d.current) (sym p.0) ∙ p.1)
-    on c i (Under u b a) j = absurd (let made : started d e ≡ None = rw (i, j, started) refl in cc (made, h))
+    on c i (Under u b a) j = absurd (let made : root_started d e ≡ None = rw (i, j, root_started) refl in cc (made, h))
 
     go : (o : Option Current) → e.current ≡ o → (c : Current) × (e.current ≡ Some c) × (c.key ≡ Root t) × (is_now t d.current ≡ false)
-    go None i = absurd (let made : started d e ≡ None = rw (i, started) refl in cc (made, h))
+    go None i = absurd (let made : root_started d e ≡ None = rw (i, root_started) refl in cc (made, h))
     go (Some c) i = on c i c.key refl
 
 -- in an entry that starts it
@@ -93,7 +93,7 @@ recovered_now t (Some x) c h k = go (is_ready x.phase || is_committing x.phase) 
 pub root_now : (t : Aaid) (v : Option Current) (c : Current) → v ≡ Some c → c.key ≡ Root t → is_now t v ≡ true
 root_now t v c i k = ap (is_now t) i ∙ ap (λ (j : Key). is_aaid t (aaid_of j)) k ∙ aaid_same t
 
-pub is_started : (o : Origin) (up : Option Addr) (e : Entry) (h : List Entry) (t : Aaid) → IsLegal o up (e ∷ h) → started (digest o h) (digest o (e ∷ h)) ≡ Some t → IsStarted o e h t
+pub is_started : (o : Origin) (up : Option Addr) (e : Entry) (h : List Entry) (t : Aaid) → IsLegal o up (e ∷ h) → root_started (digest o h) (digest o (e ∷ h)) ≡ Some t → IsStarted o e h t
 is_started o up e h t legal start = go (entered o e h legal.grown.0)
   where
     d : Digest
@@ -157,27 +157,27 @@ new_start o up e h t empty legal once m s =
 
 -- the tree that an entry starts, if it starts one
 data Starts (o : Origin) (e : Entry) (h : List Entry) : Type 0 where
-  None_starts : started (digest o h) (digest o (e ∷ h)) ≡ None → Starts o e h
-  One_starts : (t : Aaid) → started (digest o h) (digest o (e ∷ h)) ≡ Some t → Starts o e h
+  None_starts : root_started (digest o h) (digest o (e ∷ h)) ≡ None → Starts o e h
+  One_starts : (t : Aaid) → root_started (digest o h) (digest o (e ∷ h)) ≡ Some t → Starts o e h
 
 starts_case : (o : Origin) (e : Entry) (h : List Entry) → Starts o e h
-starts_case o e h = go (started (digest o h) (digest o (e ∷ h))) refl
+starts_case o e h = go (root_started (digest o h) (digest o (e ∷ h))) refl
   where
-    go : (v : Option Aaid) → started (digest o h) (digest o (e ∷ h)) ≡ v → Starts o e h
+    go : (v : Option Aaid) → root_started (digest o h) (digest o (e ∷ h)) ≡ v → Starts o e h
     go None i = None_starts i
     go (Some t) i = One_starts t i
 
-none_more : (o : Origin) (e : Entry) (h : List Entry) (t : Aaid) → started (digest o h) (digest o (e ∷ h)) ≡ None → times_in t (starts o (e ∷ h)) ≡ times_in t (starts o h)
+none_more : (o : Origin) (e : Entry) (h : List Entry) (t : Aaid) → root_started (digest o h) (digest o (e ∷ h)) ≡ None → times_in t (starts o (e ∷ h)) ≡ times_in t (starts o h)
 none_more o e h t i =
-    times_append t (starts o h) (trees_of (started (digest o h) (digest o (e ∷ h)))) ∙ ap (λ (v : Option Aaid). times_in t (starts o h) + times_in t (trees_of v)) i ∙ zero_right (times_in t (starts o h))
+    times_append t (starts o h) (trees_of (root_started (digest o h) (digest o (e ∷ h)))) ∙ ap (λ (v : Option Aaid). times_in t (starts o h) + times_in t (trees_of v)) i ∙ zero_right (times_in t (starts o h))
   where
     zero_right : (n : ℕ) → n + 0 ≡ n
     zero_right n = omega arith
 
-some_more : (o : Origin) (e : Entry) (h : List Entry) (t u : Aaid) (b : Bool) → started (digest o h) (digest o (e ∷ h)) ≡ Some u → is_aaid t u ≡ b
+some_more : (o : Origin) (e : Entry) (h : List Entry) (t u : Aaid) (b : Bool) → root_started (digest o h) (digest o (e ∷ h)) ≡ Some u → is_aaid t u ≡ b
     → times_in t (starts o (e ∷ h)) ≡ times_in t (starts o h) + elim b as (λ _. ℕ) [ true ↦ 1 | false ↦ 0 ]
 some_more o e h t u b i j =
-    times_append t (starts o h) (trees_of (started (digest o h) (digest o (e ∷ h)))) ∙ ap (λ (v : Option Aaid). times_in t (starts o h) + times_in t (trees_of v)) i
+    times_append t (starts o h) (trees_of (root_started (digest o h) (digest o (e ∷ h)))) ∙ ap (λ (v : Option Aaid). times_in t (starts o h) + times_in t (trees_of v)) i
     ∙ ap (λ (n : ℕ). times_in t (starts o h) + n) (one_time t u b j)
 
 pub start_member : (o : Origin) (up : Option Addr) (h : List Entry) (t : Aaid) → IsLegal o up h → suc 0 ≤ times_in t (starts o h) → is_member o t h ≡ true
@@ -243,7 +243,7 @@ own_start o up (e ∷ h) t empty legal once m = go (starts_case o e h) (or_case 
     begun_now i = rw i refl
 
     more : suc 0 ≤ times_in t (starts o h) → suc 0 ≤ times_in t (starts o (e ∷ h))
-    more n = wider (times_in t (starts o h)) (times_in t (trees_of (started d next))) (times_in t (starts o (e ∷ h))) (times_append t (starts o h) (trees_of (started d next))) n
+    more n = wider (times_in t (starts o h)) (times_in t (trees_of (root_started d next))) (times_in t (starts o (e ∷ h))) (times_append t (starts o h) (trees_of (root_started d next))) n
       where
         wider : (a b c : ℕ) → c ≡ a + b → suc 0 ≤ a → suc 0 ≤ c
         wider a b c k l = omega (arith, k, l)
@@ -296,8 +296,8 @@ own_start o up (e ∷ h) t empty legal once m = go (starts_case o e h) (or_case 
             key : (r : (u : Aaid) × (c.0.key ≡ Root u)) → c.0.key ≡ Root t
             key r = r.1 ∙ ap (λ (v : Aaid). Root v) (sym (aaids_equal t r.0 (ap (λ (k : Key). is_aaid t (aaid_of k)) (sym r.1) ∙ c.2)))
 
-            made : (x : Current) → next.current ≡ Some x → x.key ≡ Root t → started d next ≡ Some t
-            made x i k = rw (i, k, off, started) refl
+            made : (x : Current) → next.current ≡ Some x → x.key ≡ Root t → root_started d next ≡ Some t
+            made x i k = rw (i, k, off, root_started) refl
 
             last : (a b : ℕ) → b ≡ a + 1 → suc 0 ≤ b
             last a b k = omega (arith, k)
@@ -334,10 +334,10 @@ start_drew o up (e ∷ h) t legal n = go (starts_case o e h) (start_drew o up h 
             less a b k l = omega (arith, k, l)
 
 -- where a tree that goes on is no new one, nothing starts
-pub none_started : (d e : Digest) → ((c : Current) (t : Aaid) → e.current ≡ Some c → c.key ≡ Root t → is_now t d.current ≡ true) → started d e ≡ None
-none_started d e same = go (started d e) refl
+pub none_started : (d e : Digest) → ((c : Current) (t : Aaid) → e.current ≡ Some c → c.key ≡ Root t → is_now t d.current ≡ true) → root_started d e ≡ None
+none_started d e same = go (root_started d e) refl
   where
-    go : (v : Option Aaid) → started d e ≡ v → started d e ≡ None
+    go : (v : Option Aaid) → root_started d e ≡ v → root_started d e ≡ None
     go None i = i
     go (Some t) i = let p = started_parts d e t i in absurd (cc (same p.0 t p.1 p.2, p.3))
 

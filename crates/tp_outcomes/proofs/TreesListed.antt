@@ -13,7 +13,7 @@ use Rattle.tp_model.specs.Parts.{Origin, Event, Entry}
 use Rattle.tp_model.specs.History.{digest, answer, entry_of, grown, with_entry, crashed, crash_entry}
 use Rattle.tp_model.specs.Legal.{IsLegal, IsGrown, IsUnder}
 use Rattle.tp_model.specs.Disk.{Remains, remains}
-use Rattle.tp_model.specs.Outcomes.{started as tree_started}
+use Rattle.tp_model.specs.Outcomes.{root_started as root_started}
 use Rattle.tp_model.specs.World.{World, Node, Site, number_of, site_of, find_node, put_node, addr_at, find_site, put_site}
 use Rattle.tp_model.specs.Trees.{members_of, all_told, some_told, deciders, closing_line, closing_from}
 use Rattle.tp_model.specs.Happenings.{Turn, still, after_lines, action_lines, after_stop, crash_turn, restarted, restarted_at, trees_of, Happening, Task, task_of, entered, logged, entry_turn, action_turn, new_node, declared_at, declare_turn, stop_in_force, stop_in_entry, stop_in_task, task_here, crash_in_turn, happens, run}
@@ -55,14 +55,14 @@ zero_right n = omega arith
 
 -- what the entry starts is of the node's number
 abbrev StartsOwn : Node → Entry → Type 0
-StartsOwn n e = (u : Aaid) → tree_started (digest n.origin n.history) (digest n.origin (e ∷ n.history)) ≡ Some u → u.mark.node ≡ number_of n
+StartsOwn n e = (u : Aaid) → root_started (digest n.origin n.history) (digest n.origin (e ∷ n.history)) ≡ Some u → u.mark.node ≡ number_of n
 
 counted_entry : (ns : List Node) (ts : List Aaid) (n : Node) (e : Entry) → find_node ns (number_of n) ≡ Some n → StartsOwn n e → Counted ns ts
-    → Counted (put_node ns (record n { history = e ∷ n.history })) (ts ++ trees_of (tree_started (digest n.origin n.history) (digest n.origin (e ∷ n.history))))
+    → Counted (put_node ns (record n { history = e ∷ n.history })) (ts ++ trees_of (root_started (digest n.origin n.history) (digest n.origin (e ∷ n.history))))
 counted_entry ns ts n e here own c t = times_append t ts (trees_of s) ∙ go (number_of n == t.mark.node) refl
   where
     s : Option Aaid
-    s = tree_started (digest n.origin n.history) (digest n.origin (e ∷ n.history))
+    s = root_started (digest n.origin n.history) (digest n.origin (e ∷ n.history))
 
     v : Node
     v = record n { history = e ∷ n.history }
@@ -95,7 +95,7 @@ counted_entry ns ts n e here own c t = times_append t ts (trees_of s) ∙ go (nu
 crash_starts : (o : Origin) (h : List Entry) → starts o (crashed h) ≡ starts o h
 crash_starts o h = ap (λ (v : Option Aaid). starts o h ++ trees_of v) none ∙ empty_right (starts o h)
   where
-    none : tree_started (digest o h) (digest o (crashed h)) ≡ None
+    none : root_started (digest o h) (digest o (crashed h)) ≡ None
     none = none_started (digest o h) (digest o (crashed h)) (λ c t i k. recovered_now t (digest o h).current c (sym (crash_next o crash_entry h refl) ∙ i) k)
 
     empty_right : (us : List Aaid) → us ++ [] ≡ us

@@ -5,7 +5,7 @@ use Rattle.tp_names.specs.Same.{is_aaid}
 use Rattle.tp_model.specs.declared.out_line.OutLine.{OutLine}
 use Rattle.tp_model.specs.Parts.{Origin, Entry}
 use Rattle.tp_model.specs.History.{digest}
-use Rattle.tp_model.specs.Outcomes.{started, is_member}
+use Rattle.tp_model.specs.Outcomes.{is_member, root_started}
 use Rattle.tp_model.specs.World.{World, Node}
 use Rattle.tp_model.specs.Trees.{closing}
 use Rattle.tp_model.specs.Happenings.{trees_of}
@@ -16,7 +16,7 @@ use Rattle.tp_histories.specs.Members.{has_taken_begin}
 
 abbrev pub starts : Origin → List Entry → List Aaid
 starts o [] = []
-starts o (e ∷ h) = starts o h ++ trees_of (started (digest o h) (digest o (e ∷ h)))
+starts o (e ∷ h) = starts o h ++ trees_of (root_started (digest o h) (digest o (e ∷ h)))
 
 abbrev pub times_in : Aaid → List Aaid → ℕ
 times_in t [] = 0

@@ -17,7 +17,8 @@ use Rattle.tp_model.specs.Node.{phase_of}
 use Rattle.tp_model.specs.Events.{action, recovered_current}
 use Rattle.tp_model.specs.History.{digest, records}
 use Rattle.tp_model.specs.Outcomes.{is_now, is_member, rolls, is_crash_in_active, rolled, has_left, tells_complete_none, completed_none}
-use Rattle.tp_model.specs.Promises.{has_told_in, completes}
+use Rattle.tp_model.specs.Promises.{has_told_in}
+use Rattle.tp_model.specs.Questions.{tells_commit_complete}
 use Rattle.tp_model.specs.Legal.{IsGrown}
 use Rattle.tp_histories.specs.Histories.{IsSentIn}
 use Rattle.tp_steps.specs.Moves.{IsLate, prelude}
@@ -45,7 +46,7 @@ pub data Ending (o : Origin) (h : List Entry) (t : Aaid) : Type 0 where
   Goes_on : is_now t (digest o h).current ≡ true → Ending o h t
   It_rolled : rolled o t h ≡ true → Ending o h t
   It_left : has_left o t h ≡ true → Ending o h t
-  It_was_told : has_told_in completes o t h ≡ true → Ending o h t
+  It_was_told : has_told_in tells_commit_complete o t h ≡ true → Ending o h t
 
 ending_step : (o : Origin) (up : Option Addr) (e : Entry) (h : List Entry) (t : Aaid) → o.start.records ≡ [] → IsGrown o up (e ∷ h) → IsOnce o (e ∷ h) → Ending o h t → Ending o (e ∷ h) t
 ending_step o up e h t empty legal once before = start before
@@ -69,7 +70,7 @@ ending_step o up e h t empty legal once before = start before
     ends now n (Now_rolls m r) = It_rolled (rolled_here o up e h t legal m r)
     ends now n (Rolled_on r) = let c = now_some t s.current n in It_rolled (rolling_here o up e h t empty legal once c.0 c.1 c.2 (ap is_rolling (sym (phase_at s c.0 c.1)) ∙ r))
     ends now n (Now_leaves m u) = It_left (rw (now, u) refl)
-    ends now n (Now_told m x) = let told : completes e.outs ≡ true = completes_told e.outs ∙ ap (out_tells is_complete) (sym outs) ∙ x in It_was_told (rw (now, told) refl)
+    ends now n (Now_told m x) = let told : tells_commit_complete e.outs ≡ true = completes_told e.outs ∙ ap (out_tells is_complete) (sym outs) ∙ x in It_was_told (rw (now, told) refl)
 
     on : is_now t d.current ≡ true → is_now t s.current ≡ true → Ending o (e ∷ h) t
     on now n = elim (k.over late (prelude_old o up e h t empty legal once n) n) [ inl i ↦ Goes_on i | inr i ↦ ends now n i ]

@@ -20,7 +20,7 @@ use Rattle.tp_model.specs.Recovery.{settled}
 use Rattle.tp_model.specs.Node.{Move, move, followed, perform, committed_arcs, grants, split_at_completion, played, Passage, Commits, passage, next_mark, with_mark_drawn, phase_of, seen, remaining, is_leaving, entered, with_begun, may_begin_on, begin_on, turned, keep}
 use Rattle.tp_model.specs.Events.{refusal, action}
 use Rattle.tp_model.specs.Outcomes.{is_now, is_unchanged, rolls}
-use Rattle.tp_model.specs.Promises.{completes}
+use Rattle.tp_model.specs.Questions.{tells_commit_complete}
 use Rattle.tp_model.specs.Questions.{said_to, has_said}
 use Rattle.tp_steps.specs.Turns.{falls}
 use Rattle.tp_steps.specs.Moves.{Moves, IsAsked, IsPut, IsLate, are_spoken, is_word, prelude, IsAmong}
@@ -92,7 +92,7 @@ abbrev pub is_complete : Indication → Bool
 is_complete (Indication.CommitComplete r) = true
 is_complete _ = false
 
-pub completes_told : (outs : List Out) → completes outs ≡ out_tells is_complete outs
+pub completes_told : (outs : List Out) → tells_commit_complete outs ≡ out_tells is_complete outs
 completes_told (Out.Tell i ∷ outs) = grind (arith, completes_told outs)
 completes_told (Out.Send a r ∷ outs) = completes_told outs
 completes_told _ = refl

@@ -16,7 +16,8 @@ use Rattle.tp_model.specs.Outcomes.{is_now, decided, rolled, has_left}
 use Rattle.tp_model.specs.Questions.{is_at}
 use Rattle.tp_model.specs.World.{Node, number_of, find_node}
 use Rattle.tp_model.specs.Happenings.{Happening, run}
-use Rattle.tp_model.specs.Promises.{IsIn, IsOf, IsBranchOf, IsBelow, has_told_in, completes, is_done_none, some_out, has_sent_done_none, Reports}
+use Rattle.tp_model.specs.Promises.{IsIn, IsOf, IsBranchOf, IsBelow, has_told_in, is_done_none, some_out, has_sent_done_none, Reports}
+use Rattle.tp_model.specs.Questions.{tells_commit_complete}
 use Rattle.tp_model.specs.Legal.{IsGrown}
 use Rattle.tp_steps.specs.Histories.{brought}
 use Rattle.tp_histories.specs.Histories.{IsSentIn, HasSent, HasTaken}
@@ -95,7 +96,7 @@ answered_commits n C S o (e ∷ h) z t b r k at (inr a) = answered_commits n C S
 
 -- ---- every run
 
-reported : (es : List Happening) (t : Aaid) (b : BranchId) (x y : Node) → IsBranchOf (run es) t b x y → has_told_in completes x.origin t x.history ≡ false → has_sent_done_none y.origin t b y.history ≡ true
+reported : (es : List Happening) (t : Aaid) (b : BranchId) (x y : Node) → IsBranchOf (run es) t b x y → has_told_in tells_commit_complete x.origin t x.history ≡ false → has_sent_done_none y.origin t b y.history ≡ true
     → (has_left y.origin t y.history ≡ true) ⊎ (has_cleared t (records y.origin y.history) ≡ true)
 reported es t b x y branch untold sent = elim (said_how y.origin y.superior y.history t b empty legal once sent) [
   | inl i ↦ inr i
@@ -208,7 +209,7 @@ below_clear es t y z (IsBelow.below b w v i branch) h = elim (below_clear es t y
   | inr clear ↦ cleared_down es t b w z branch clear
 ]
 
-clear_under : (es : List Happening) (t : Aaid) (b : BranchId) (x y z : Node) → IsBranchOf (run es) t b x y → has_told_in completes x.origin t x.history ≡ false → has_sent_done_none y.origin t b y.history ≡ true → IsBelow (run es) t y z → stays t z ≡ true
+clear_under : (es : List Happening) (t : Aaid) (b : BranchId) (x y z : Node) → IsBranchOf (run es) t b x y → has_told_in tells_commit_complete x.origin t x.history ≡ false → has_sent_done_none y.origin t b y.history ≡ true → IsBelow (run es) t y z → stays t z ≡ true
     → has_cleared t (records z.origin z.history) ≡ true
 clear_under es t b x y z branch untold sent under stay = elim (below_clear es t y z under (reported es t b x y branch untold sent)) [ inl gone ↦ absurd (grind (arith, gone, stay)) | inr clear ↦ clear ]
 

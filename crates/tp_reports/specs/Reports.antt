@@ -10,7 +10,8 @@ use Rattle.tp_model.specs.History.{digest, records}
 use Rattle.tp_model.specs.Outcomes.{is_now, rolled, has_left, completed_none}
 use Rattle.tp_model.specs.Questions.{is_at}
 use Rattle.tp_model.specs.World.{World, Node}
-use Rattle.tp_model.specs.Promises.{IsOf, IsBranchOf, told_of, IsBelow, HasCommitted, has_told_in, completes, has_sent_done_none, is_root}
+use Rattle.tp_model.specs.Promises.{IsOf, IsBranchOf, told_of, IsBelow, HasCommitted, has_told_in, has_sent_done_none, is_root}
+use Rattle.tp_model.specs.Questions.{tells_commit_complete}
 use Rattle.tp_histories.specs.Histories.{HasTaken}
 use Rattle.tp_reports.specs.Clearing.{has_cleared, KeepsAt}
 use Rattle.tp_model.specs.Trees.{stays, members_of, closing_line}
@@ -42,7 +43,7 @@ ReportFreeCloses w = (t : Aaid) → IsReportFree w t → closing_line t (members
 -- a Done with no report means, while the superior has not completed, that every staying node at and below the branch has committed
 abbrev pub DoneBelow : World → Type 0
 DoneBelow w =
-    (t : Aaid) (b : BranchId) (x y z : Node) → IsBranchOf w t b x y → has_told_in completes x.origin t x.history ≡ false → has_sent_done_none y.origin t b y.history ≡ true → IsBelow w t y z → stays t z ≡ true
+    (t : Aaid) (b : BranchId) (x y z : Node) → IsBranchOf w t b x y → has_told_in tells_commit_complete x.origin t x.history ≡ false → has_sent_done_none y.origin t b y.history ≡ true → IsBelow w t y z → stays t z ≡ true
     → HasCommitted t z
 
 -- ---- what became of a tree at a node that took the Begin of its branch

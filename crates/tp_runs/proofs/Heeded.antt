@@ -4,17 +4,22 @@ use Rattle.std.proofs.lemmas.Bool.Decides.{nat_tests}
 use Rattle.tp_names.specs.declared.identifiers.Mark.{Mark}
 use Rattle.tp_names.specs.declared.identifiers.Aaid.{Aaid}
 use Rattle.tp_names.specs.declared.identifiers.Addr.{Addr}
+use Rattle.tp_names.specs.declared.outcome.Outcome.{Outcome}
+use Rattle.tp_names.specs.declared.outcome.Report.{Report}
 use Rattle.tp_records.specs.declared.dialogue.DialogueRecord.{DialogueRecord}
 use Rattle.tp_records.specs.declared.peer.PeerRecord.{PeerRecord}
 use Rattle.tp_logrec.specs.declared.record.LogRec.{LogRec}
 use Rattle.tp_model.specs.Parts.{Origin, Event, Entry}
 use Rattle.tp_model.specs.History.{records, entry_of}
 use Rattle.tp_model.specs.Outcomes.{rolled, has_left, completed_none}
+use Rattle.tp_model.specs.Promises.{has_told_in}
 use Rattle.tp_model.specs.Questions.{is_at}
 use Rattle.tp_model.specs.World.{Node, Frame, number_of, find_node, put_node}
 use Rattle.tp_model.specs.Happenings.{Happening, run}
 use Rattle.tp_model.specs.Legal.{IsGrown}
 use Rattle.tp_steps.specs.Histories.{brought}
+use Rattle.tp_steps.specs.Trees.{out_tells}
+use Rattle.tp_steps.specs.Clearing.{is_complete}
 use Rattle.tp_histories.specs.Histories.{HasSent, HasTaken}
 use Rattle.tp_histories.specs.Worlds.{place, IsGood, grown_node, Comes}
 use Rattle.tp_histories.specs.Traces.{sent_on, taken_on}
@@ -45,6 +50,7 @@ record Grows (g k : Deeds) (rs ls : List LogRec) : Type 0 where
   left : (t : Aaid) → g.left t ≡ true → k.left t ≡ true
   completed : (t : Aaid) → g.completed t ≡ true → k.completed t ≡ true
   damaged : (t : Aaid) → g.damaged t ≡ true → k.damaged t ≡ true
+  told : (u : Outcome) (r : Report) (t : Aaid) → g.told u r t ≡ true → k.told u r t ≡ true
   voted : (ks : List BranchKey) (n : ℕ) → is_voted ks rs n ≡ true → is_voted ks ls n ≡ true
 
 holds_more : (ks more : List BranchKey) (n : ℕ) (f g : Aaid → Bool) → ((t : Aaid) → f t ≡ true → g t ≡ true) → holds_at ks n f ≡ true → holds_at (ks ++ more) n g ≡ true
@@ -73,7 +79,7 @@ vote_kept true c d f h = f h
 heeded_more : (g k : Deeds) (rs ls : List LogRec) → Grows g k rs ls → (ks : List BranchKey) (n : ℕ) (v : Bool) (r : DialogueRecord) → is_heeded ks g rs n v r ≡ true → is_heeded ks k ls n v r ≡ true
 heeded_more g k rs ls w ks n v r h =
     both_true (may_say ks k n v r) (not (is_vote r) || is_voted ks ls n)
-    (say_wider ks ks g k (λ m. (λ i. holds_grown ks m g.committed k.committed w.committed i, λ i. holds_grown ks m g.rolled k.rolled w.rolled i, λ i. holds_grown ks m g.left k.left w.left i, λ i. holds_grown ks m g.completed k.completed w.completed i, λ i. holds_grown ks m g.damaged k.damaged w.damaged i)) n v r (and_left (may_say ks g n v r) (not (is_vote r) || is_voted ks rs n) h))
+    (say_wider ks ks g k (λ m. (λ i. holds_grown ks m g.committed k.committed w.committed i, λ i. holds_grown ks m g.rolled k.rolled w.rolled i, λ i. holds_grown ks m g.left k.left w.left i, λ i. holds_grown ks m g.completed k.completed w.completed i, λ i. holds_grown ks m g.damaged k.damaged w.damaged i, λ u r i. holds_grown ks m (g.told u r) (k.told u r) (w.told u r) i)) n v r (and_left (may_say ks g n v r) (not (is_vote r) || is_voted ks rs n) h))
     (vote_kept (is_vote r) (is_voted ks rs n) (is_voted ks ls n) (w.voted ks n) (and_right (may_say ks g n v r) (not (is_vote r) || is_voted ks rs n) h))
 
 event_more : (g k : Deeds) (rs ls : List LogRec) → Grows g k rs ls → (p : ℕ) (h : List Entry) (e : Event) → heeds_event g rs p h e ≡ true → heeds_event k ls p h e ≡ true
@@ -97,6 +103,7 @@ grown o e h = record {
   left = λ t i. let r : has_left o t h ≡ true = i in rw r (grind arith);
   completed = λ t i. let r : completed_none o t h ≡ true = i in rw r (grind arith);
   damaged = λ t i. damage_more t e.rec (records o h) i;
+  told = λ u r t i. let s : has_told_in (out_tells (is_complete u r)) o t h ≡ true = i in rw s (grind arith);
   voted = λ ks n i. go ks n (slice_get ks n) refl i;
 }
   where
@@ -146,7 +153,7 @@ pub word_taken : (ns : List Node) (fs : List Frame) (x y : Node) (a : Addr) (m k
 word_taken ns fs x y a m k q r st unique here under at =
     both_true (may_say (begun_keys (sent_on m k (number_of y) x.history)) g n v r) (not (is_vote r) || is_voted (begun_keys (sent_on m k (number_of y) x.history)) rs n)
     (subst (λ (ks : List BranchKey). may_say ks g n v r ≡ true) (sym wide)
-    (say_wider heard (heard ++ begun_keys down.0) g g (λ j. (λ i. holds_more heard (begun_keys down.0) j g.committed g.committed (λ t h. h) i, λ i. holds_more heard (begun_keys down.0) j g.rolled g.rolled (λ t h. h) i, λ i. holds_more heard (begun_keys down.0) j g.left g.left (λ t h. h) i, λ i. holds_more heard (begun_keys down.0) j g.completed g.completed (λ t h. h) i, λ i. holds_more heard (begun_keys down.0) j g.damaged g.damaged (λ t h. h) i)) n v r
+    (say_wider heard (heard ++ begun_keys down.0) g g (λ j. (λ i. holds_more heard (begun_keys down.0) j g.committed g.committed (λ t h. h) i, λ i. holds_more heard (begun_keys down.0) j g.rolled g.rolled (λ t h. h) i, λ i. holds_more heard (begun_keys down.0) j g.left g.left (λ t h. h) i, λ i. holds_more heard (begun_keys down.0) j g.completed g.completed (λ t h. h) i, λ i. holds_more heard (begun_keys down.0) j g.damaged g.damaged (λ t h. h) i, λ u r i. holds_more heard (begun_keys down.0) j (g.told u r) (g.told u r) (λ t h. h) i)) n v r
     (said_there heard g before next.0 r (subst (λ (l : List DialogueRecord). each_up (may_say heard g) 0 false l ≡ true) sent (speaks.words (number_of x) m k under)))))
     (subst (λ (ks : List BranchKey). (not (is_vote r) || is_voted ks rs n) ≡ true) (sym wide)
     (vote_kept (is_vote r) (is_voted heard rs n) (is_voted (heard ++ begun_keys down.0) rs n) (voted_wide heard (begun_keys down.0) rs n)

@@ -18,10 +18,10 @@ use Rattle.tp_model.specs.Recovery.{settled}
 use Rattle.tp_model.specs.Transactions.{Row, Transaction, Turn, aaid_of, node_key, with_row, with_arc_lost, complete_commit, complete_rollback, begin_rolling, order, settle, ask_commit, leave, count_branch, end_branch, branch_left, transacted}
 use Rattle.tp_model.specs.Node.{Move, move, followed, perform, next_mark, with_mark_drawn, seen, remaining, with_begun, may_begin_on, begin_on, is_over, is_leaving, passage, try_start, restarted, transact, fresh_current, turned, keep}
 use Rattle.tp_model.specs.Outcomes.{is_commit_request}
-use Rattle.tp_model.specs.Keys.{begun_by_peer, asked_in}
+use Rattle.tp_model.specs.Keys.{takes_begin, asked_in}
 use Rattle.tp_model.specs.History.{digest}
 use Rattle.tp_model.specs.Events.{refusal, action}
-use Rattle.tp_model.specs.Consistency.{same_bool}
+use Rattle.tp_histories.specs.KnownTests.{same_bool}
 use Rattle.tp_model.specs.Legal.{IsLegal}
 use Rattle.tp_steps.specs.Turns.{row_dead}
 use Rattle.tp_steps.specs.TurnSteps.{TurnSteps}
@@ -320,7 +320,7 @@ step_of who d e late ok u is = go (is_commit_request e) refl
 
 -- ---- every legal history
 
-taken_off : (o : Origin) (h : List Entry) (ev : Event) (rec : _) (outs : _) (j : NodeKey) → begun_by_peer o (record { event = ev; rec = rec; outs = outs }) h ≡ Some j → is_commit_request ev ≡ false
+taken_off : (o : Origin) (h : List Entry) (ev : Event) (rec : _) (outs : _) (j : NodeKey) → takes_begin o (record { event = ev; rec = rec; outs = outs }) h ≡ Some j → is_commit_request ev ≡ false
 taken_off o h (Event.Do r) rec outs j b = absurd (cc (b))
 taken_off o h _ rec outs j b = refl
 

@@ -19,8 +19,9 @@ use Rattle.tp_model.specs.Events.{fresh_branches, recovered_current, recovered, 
 use Rattle.tp_model.specs.History.{digest, with_rec, records, again, crashed}
 use Rattle.tp_model.specs.Questions.{is_crash, boot_in, drawn_in}
 use Rattle.tp_model.specs.Outcomes.{rolls, is_unchanged}
-use Rattle.tp_model.specs.Keys.{logs_of, begun_by_peer, begins, begun_children, named_children, branches_in, sender_of, named_superior, superior_since, superior_for}
-use Rattle.tp_model.specs.Consistency.{same_list, same_child, children_of}
+use Rattle.tp_model.specs.Keys.{logs_of, takes_begin, begins, begun_children, named_children, branches_in, sender_of, named_superior, superior_since, superior_for}
+use Rattle.tp_model.specs.Consistency.{all_children}
+use Rattle.tp_histories.specs.KnownTests.{same_list, same_child}
 use Rattle.tp_model.specs.Legal.{IsLegal}
 use Rattle.tp_steps.specs.Moves.{prelude}
 use Rattle.tp_steps.specs.Steps.{first_begin}
@@ -151,7 +152,7 @@ key_under t b a k h = ap (λ (x : Key). is_key (node_key x) (record { aaid = t; 
 pub no_both : (x : Option Current) (c : Current) → x ≡ None → x ≡ Some c → ⊥
 no_both x c h i = cc (h, i)
 
-family_taken : (o : Origin) (up : Option Addr) (e : Entry) (h : List Entry) → IsLegal o up (e ∷ h) → (from : Addr) (t : Aaid) (b : BranchId) (a : Addr) → is_crash e.event ≡ false → begun_by_peer o e h ≡ Some (record { aaid = t; branch = Some b })
+family_taken : (o : Origin) (up : Option Addr) (e : Entry) (h : List Entry) → IsLegal o up (e ∷ h) → (from : Addr) (t : Aaid) (b : BranchId) (a : Addr) → is_crash e.event ≡ false → takes_begin o e h ≡ Some (record { aaid = t; branch = Some b })
     → (prelude o.who (digest o h) e.event).current ≡ Some (fresh_current (Under t b a)) → (rolls o.who (digest o h) e.event ≡ false) × (is_unchanged e.event ≡ false) × ((action o.who (digest o h) e.event).rec ≡ None)
     → (sender_of e.event ≡ Some from) × (is_addr a from ≡ true) → IsFamily o (e ∷ h)
 family_taken o up e h legal from t b a calm begun cur quiet sent u is = go (course_entry o up e h legal)
@@ -200,7 +201,7 @@ family_taken o up e h legal from t b a calm begun cur quiet sent u is = go (cour
             none : (f l v : Bool) → (false || f || l || v) ≡ true → f ≡ false → l ≡ false → v ≡ false → ⊥
             none f l v h i j k = grind (arith, h, i, j, k)
 
-family_plain : (o : Origin) (up : Option Addr) (e : Entry) (h : List Entry) → IsLegal o up (e ∷ h) → is_crash e.event ≡ false → begun_by_peer o e h ≡ None → (prelude o.who (digest o h) e.event).current ≡ (digest o h).current → IsFamily o h → IsFamily o (e ∷ h)
+family_plain : (o : Origin) (up : Option Addr) (e : Entry) (h : List Entry) → IsLegal o up (e ∷ h) → is_crash e.event ≡ false → takes_begin o e h ≡ None → (prelude o.who (digest o h) e.event).current ≡ (digest o h).current → IsFamily o h → IsFamily o (e ∷ h)
 family_plain o up e h legal calm begun same was u is = go (subst (λ (v : Option Current). Course o.who (rolls o.who d e.event) (is_unchanged e.event) s.drawn v s.boot s.drawn m) same (course_entry o up e h legal))
   where
     d : Digest
@@ -260,7 +261,7 @@ family_law o up (e ∷ h) legal = go (entered o e h legal.grown.0) (family_law o
     go (Begun from t b a begun c cur nil quiet sent) was = family_taken o up e h legal from t b a.peer c begun cur quiet sent
     go (Plain c begun same) was = family_plain o up e h legal c begun same was
 
-kin_children : (bs : List Branch) → children_of bs ≡ kin bs
+kin_children : (bs : List Branch) → all_children bs ≡ kin bs
 kin_children [] = refl
 kin_children (b ∷ bs) = ap (λ (cs : List Child). record { addr = b.peer; branch = b.id } ∷ cs) (kin_children bs)
 
@@ -274,7 +275,7 @@ above_law o up h legal = go (digest o h).current refl
 pub branches_law : (o : Origin) (up : Option Addr) (h : List Entry) → IsLegal o up h → branches_agree o h ≡ true
 branches_law o up h legal = go (digest o h).current refl
   where
-    go : (v : Option Current) → (digest o h).current ≡ v → elim v as (λ _. Bool) [ None ↦ true | Some c ↦ same_list same_child (children_of c.branches) (branches_in o (node_key c.key) h) ] ≡ true
+    go : (v : Option Current) → (digest o h).current ≡ v → elim v as (λ _. Bool) [ None ↦ true | Some c ↦ same_list same_child (all_children c.branches) (branches_in o (node_key c.key) h) ] ≡ true
     go None i = refl
     go (Some c) i =
         ap (λ (cs : List Child). same_list same_child cs (branches_in o (node_key c.key) h)) (kin_children c.branches)

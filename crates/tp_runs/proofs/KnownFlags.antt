@@ -14,7 +14,7 @@ use Rattle.tp_model.specs.Transactions.{aaid_of, node_key}
 use Rattle.tp_model.specs.Node.{Move, fresh_current}
 use Rattle.tp_model.specs.Questions.{is_crash, boot_in, drawn_in}
 use Rattle.tp_model.specs.Outcomes.{rolls, is_unchanged}
-use Rattle.tp_model.specs.Keys.{logs_of, begun_by_peer, begins, some_since}
+use Rattle.tp_model.specs.Keys.{logs_of, takes_begin, begins, some_since}
 use Rattle.tp_model.specs.History.{digest}
 use Rattle.tp_model.specs.Events.{action, named_again, recovered, recovered_current}
 use Rattle.tp_model.specs.Legal.{IsLegal}
@@ -56,7 +56,7 @@ pub record IsMark (V : Type 0) (zero : V) (g : Current → V) (q : Origin → No
   pub goes : (o : Origin) (k : NodeKey) (e : Entry) (h : List Entry) → is_crash e.event ≡ false → begins o k e h ≡ false → q o k (e ∷ h) ≡ f o k e h (q o k h)
   pub step : (o : Origin) (up : Option Addr) (e : Entry) (h : List Entry) → IsLegal o up (e ∷ h) → is_crash e.event ≡ false → (u : Current) → (action o.who (digest o h) e.event).next.current ≡ Some u
       → IsStepTo V zero g o.who (prelude o.who (digest o h) e.event) (f o (node_key u.key) e h) u
-  pub taken : (o : Origin) (up : Option Addr) (e : Entry) (h : List Entry) → IsLegal o up (e ∷ h) → (k j : NodeKey) → begun_by_peer o e h ≡ Some j → f o k e h zero ≡ zero
+  pub taken : (o : Origin) (up : Option Addr) (e : Entry) (h : List Entry) → IsLegal o up (e ∷ h) → (k j : NodeKey) → takes_begin o e h ≡ Some j → f o k e h zero ≡ zero
 
 abbrev IsMarkIn : (V : Type 0) → (Current → V) → (Origin → NodeKey → List Entry → V) → Origin → List Entry → Type 0
 IsMarkIn V g q o h = (c : Current) → (digest o h).current ≡ Some c → g c ≡ q o (node_key c.key) h
@@ -70,7 +70,7 @@ not_new who s c u sound is key n =
     cc (same, new)
 
 mark_taken : (V : Type 0) (zero : V) (g : Current → V) (q : Origin → NodeKey → List Entry → V) (f : Origin → NodeKey → Entry → List Entry → V → V) → IsMark V zero g q f → (o : Origin) (up : Option Addr) (e : Entry) (h : List Entry) → IsLegal o up (e ∷ h) → (t : Aaid) (b : BranchId) (a : Addr) → is_crash e.event ≡ false
-    → begun_by_peer o e h ≡ Some (record { aaid = t; branch = Some b }) → (prelude o.who (digest o h) e.event).current ≡ Some (fresh_current (Under t b a)) → (rolls o.who (digest o h) e.event ≡ false) × (is_unchanged e.event ≡ false) × ((action o.who (digest o h) e.event).rec ≡ None) → IsMarkIn V g q o (e ∷ h)
+    → takes_begin o e h ≡ Some (record { aaid = t; branch = Some b }) → (prelude o.who (digest o h) e.event).current ≡ Some (fresh_current (Under t b a)) → (rolls o.who (digest o h) e.event ≡ false) × (is_unchanged e.event ≡ false) × ((action o.who (digest o h) e.event).rec ≡ None) → IsMarkIn V g q o (e ∷ h)
 mark_taken V zero g q f mark o up e h legal t b a calm begun cur quiet u is = go (mark.step o up e h legal calm u is)
   where
     d : Digest
@@ -136,7 +136,7 @@ mark_law V zero g q f mark o up (e ∷ h) legal = go (entered o e h legal.grown.
     first_outs : first_begin m.outs ≡ first_begin e.outs
     first_outs = ap first_begin outs
 
-    plain : is_crash e.event ≡ false → begun_by_peer o e h ≡ None → s.current ≡ d.current → IsMarkIn V g q o h → IsMarkIn V g q o (e ∷ h)
+    plain : is_crash e.event ≡ false → takes_begin o e h ≡ None → s.current ≡ d.current → IsMarkIn V g q o h → IsMarkIn V g q o (e ∷ h)
     plain calm begun same was u is = on (course_entry o up e h legal) (mark.step o up e h legal calm u is)
       where
         start : (x : Aaid × BranchId) → first_begin m.outs ≡ Some x → s.drawn ≡ drawn_in o h
@@ -198,7 +198,7 @@ pub record IsFlag (g : Current → Bool) (q : Origin → NodeKey → Entry → L
   pub again : (k : Key) (p : Phase) (bs : List Branch) (u : Option Outcome) → g (recovered k p bs u) ≡ false
   pub step : (o : Origin) (up : Option Addr) (e : Entry) (h : List Entry) → IsLegal o up (e ∷ h) → is_crash e.event ≡ false → (u : Current) → (action o.who (digest o h) e.event).next.current ≡ Some u
       → IsStep g o.who (prelude o.who (digest o h) e.event) (q o (node_key u.key) e h) u
-  pub taken : (o : Origin) (up : Option Addr) (e : Entry) (h : List Entry) → IsLegal o up (e ∷ h) → (k j : NodeKey) → begun_by_peer o e h ≡ Some j → q o k e h ≡ false
+  pub taken : (o : Origin) (up : Option Addr) (e : Entry) (h : List Entry) → IsLegal o up (e ∷ h) → (k j : NodeKey) → takes_begin o e h ≡ Some j → q o k e h ≡ false
 
 -- what a start gives back
 pub recovered_is : (V : Type 0) (v : Current → V) (g : Current → V) → ((k : Key) (p : Phase) (bs : List Branch) (u : Option Outcome) → g (recovered k p bs u) ≡ v (recovered k p bs u)) → (o : Option Current) (c : Current) → recovered_current o ≡ Some c → g c ≡ v c

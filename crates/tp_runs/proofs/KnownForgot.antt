@@ -23,7 +23,7 @@ use Rattle.tp_model.specs.Events.{recovered_current, after_crash, started, is_kn
 use Rattle.tp_model.specs.History.{digest, entry_of, with_rec, records}
 use Rattle.tp_model.specs.Questions.{is_crash}
 use Rattle.tp_model.specs.Keys.{has_key, last_of, is_kept_commit, is_forget_of, ends_key, forgot_in, known_in, has_keys, standing_keys}
-use Rattle.tp_model.specs.Consistency.{same_list, same_kept, same_child}
+use Rattle.tp_histories.specs.KnownTests.{same_list, same_kept, same_child}
 use Rattle.tp_model.specs.Legal.{IsLegal}
 use Rattle.tp_steps.specs.Moves.{Moves, prelude, begun_in, counted_in}
 use Rattle.tp_steps.specs.Steps.{IsNotedBy, Steps}

@@ -14,8 +14,9 @@ use Rattle.tp_model.specs.Events.{recovered_current, current_from, after_crash, 
 use Rattle.tp_model.specs.History.{digest}
 use Rattle.tp_model.specs.Questions.{is_crash, tells_rollback_complete, boot_in, drawn_in}
 use Rattle.tp_model.specs.Outcomes.{rolls, is_unchanged}
-use Rattle.tp_model.specs.Keys.{logs_of, begun_by_peer, begun_key, begins, is_current_key, rolls_for, is_active_in, is_rolling_in, phase_in}
-use Rattle.tp_model.specs.Consistency.{number_of_phase, is_current, is_quiet, key_logged, others_quiet}
+use Rattle.tp_model.specs.Keys.{logs_of, takes_begin, begun_key, begins, is_current_key, rolls_for, is_active_in, is_rolling_in, phase_in}
+use Rattle.tp_model.specs.Consistency.{is_current}
+use Rattle.tp_histories.specs.KnownTests.{number_of_phase, is_quiet, key_logged, others_quiet}
 use Rattle.tp_model.specs.Legal.{IsLegal}
 use Rattle.tp_steps.specs.Moves.{IsLate, prelude}
 use Rattle.tp_steps.specs.Steps.{first_begin}
@@ -117,7 +118,7 @@ key_same : (k : NodeKey) (c u : Current) (b : Bool) → u.key ≡ c.key → is_k
 key_same k c u b same i = ap (λ (j : Key). is_key k (node_key j)) same ∙ i
 
 -- an entry that takes a Begin
-step_taken : (o : Origin) (up : Option Addr) (e : Entry) (h : List Entry) (k : NodeKey) → IsLegal o up (e ∷ h) → (t : Aaid) (b : BranchId) (a : Addr) → begun_by_peer o e h ≡ Some (record { aaid = t; branch = Some b })
+step_taken : (o : Origin) (up : Option Addr) (e : Entry) (h : List Entry) (k : NodeKey) → IsLegal o up (e ∷ h) → (t : Aaid) (b : BranchId) (a : Addr) → takes_begin o e h ≡ Some (record { aaid = t; branch = Some b })
     → (prelude o.who (digest o h) e.event).current ≡ Some (fresh_current (Under t b a)) → is_nil (phase_of (digest o h)) ≡ true
     → (rolls o.who (digest o h) e.event ≡ false) × (is_unchanged e.event ≡ false) × ((action o.who (digest o h) e.event).rec ≡ None) → StepAt o e h k
 step_taken o up e h k legal t b a begun cur nil quiet = go (course_entry o up e h legal)
@@ -168,7 +169,7 @@ step_taken o up e h k legal t b a begun cur nil quiet = go (course_entry o up e 
     go (Rooted u j key act f dr kn (inr w)) = absurd (let no : is_active Phase.Nil ≡ true = alive w.0 Phase.Nil w.1 w.2 in cc (no))
 
 -- any other entry but a crash
-step_plain : (o : Origin) (up : Option Addr) (e : Entry) (h : List Entry) (k : NodeKey) → IsLegal o up (e ∷ h) → is_crash e.event ≡ false → begun_by_peer o e h ≡ None → (prelude o.who (digest o h) e.event).current ≡ (digest o h).current → StepAt o e h k
+step_plain : (o : Origin) (up : Option Addr) (e : Entry) (h : List Entry) (k : NodeKey) → IsLegal o up (e ∷ h) → is_crash e.event ≡ false → takes_begin o e h ≡ None → (prelude o.who (digest o h) e.event).current ≡ (digest o h).current → StepAt o e h k
 step_plain o up e h k legal calm begun same = go (subst (λ (v : Option Current). Course o.who fall left s.drawn v s.boot s.drawn m) same (course_entry o up e h legal))
   where
     d : Digest

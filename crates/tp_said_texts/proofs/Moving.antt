@@ -43,6 +43,7 @@ use Rattle.tp_texts.specs.Shapes.{IsShaped}
 use Rattle.tp_said_texts.proofs.Places.{peers, has, is_up, below, gone, is_at, are_apart, count_is, gone_is, counted, gone_more, apart_more}
 use Rattle.tp_said_texts.proofs.Turning.{IsShapedOption, IsFit, Logs, logs_turn}
 use Rattle.tp_said_texts.proofs.Standing.{IsShapedKept, AreShapedKept, each_kept, kept_in, IsFitCurrent, HasPlaces, IsBare, Stands, Thins, thins_same, thins_without, thins_performed, thins_played, peers_dialogue, peers_link, peers_put, stands_arcs, stands_drawn, stands_kept, stands_fresh}
+use Rattle.tp_model.specs.declared.refusal.Refusal.{Refusal}
 
 pub record Keeps (d : Digest) (m : Move) : Type 0 where
   pub version : m.next.version ≡ d.version
@@ -422,7 +423,7 @@ called_by_declared who d a u ok = on d.declared d.known (not_missing (is_no_node
     on false true h = absurd (cc (h))
     on false false h = absurd (cc (h))
 
-last_of : (a b c d : Bool) → first ((a, 2) ∷ (b, 4) ∷ (c, 9) ∷ (d, 13) ∷ []) ≡ None → d ≡ false
+last_of : (a b c d : Bool) → first ((a, Refusal.WrongPhase) ∷ (b, Refusal.UnitAbsent) ∷ (c, Refusal.AlreadyAsked) ∷ (d, Refusal.TooMany) ∷ []) ≡ None → d ≡ false
 last_of true b c d h = absurd (cc (h))
 last_of false true c d h = absurd (cc (h))
 last_of false false true d h = absurd (cc (h))

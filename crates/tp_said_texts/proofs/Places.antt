@@ -5,7 +5,8 @@ use Rattle.tp_names.specs.declared.identifiers.Addr.{Addr}
 use Rattle.tp_names.specs.declared.children.Child.{Child}
 use Rattle.tp_model.specs.Parts.{Arc, Branch, Digest}
 use Rattle.tp_model.specs.Arcs.{find_arc}
-use Rattle.tp_model.specs.Requests.{is_some_arc, count_below, count_gone}
+use Rattle.tp_model.specs.Requests.{count_below, count_gone}
+use Rattle.std.specs.Prelude.{is_some}
 use Rattle.tp_steps.proofs.log.KinTurns.{kin}
 
 -- the numbers of the peers with which there are arcs
@@ -49,11 +50,11 @@ pub count_is : (d : Digest) (arcs : List Arc) → count_below d arcs ≡ below d
 count_is d [] = refl
 count_is d (a ∷ arcs) = rw (count_is d arcs) refl
 
-pub some_is : (arcs : List Arc) (p : ℕ) → is_some_arc (find_arc arcs p) ≡ has (peers arcs) p
+pub some_is : (arcs : List Arc) (p : ℕ) → is_some (find_arc arcs p) ≡ has (peers arcs) p
 some_is [] p = refl
 some_is (a ∷ arcs) p = go (a.peer.node == p) (some_is arcs p)
   where
-    go : (b : Bool) → is_some_arc (find_arc arcs p) ≡ has (peers arcs) p → is_some_arc (if b then Some a else find_arc arcs p) ≡ (b || has (peers arcs) p)
+    go : (b : Bool) → is_some (find_arc arcs p) ≡ has (peers arcs) p → is_some (if b then Some a else find_arc arcs p) ≡ (b || has (peers arcs) p)
     go true rest = refl
     go false rest = rest
 

@@ -18,7 +18,8 @@ use tp_draft::Draft;
 use tp_logrec::{LogRec, LogVersion};
 use tp_model::{Refusal, TxFault};
 use tp_names::{NoMemory, SiteName};
-use tp_node::{Node, NodeEvent, Outs};
+use tp_node::{Node, NodeEvent};
+use tp_node_parts::Outs;
 
 /// The nodes of a site, by their numbers.
 #[derive(Debug, Drop)]

@@ -31,7 +31,8 @@ use tp_journal::{ForceFault, Keeper, first_out_of_order};
 use tp_logrec::{LogRec, LogVersion};
 use tp_model::{Phase, Refusal, TxFault};
 use tp_names::{NoMemory, SiteName};
-use tp_node::{NodeEvent, NodeState, NodeTree, Outs};
+use tp_node::{NodeEvent, NodeState, NodeTree};
+use tp_node_parts::Outs;
 use tp_texts::shaped_has_text;
 
 /// What an event gives: its outputs, in order. With a refusal, it was refused by that, and the association that it came on

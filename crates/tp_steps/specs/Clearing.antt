@@ -1,7 +1,9 @@
 -- Commitments that end clear, that is with no report, and those that are kept for their damage. What a node knows of the ends of
 -- its branches by then: each is done with no report, or has left.
-use Rattle.std.specs.Prelude.{◌||◌, Bool, false, Option, Some, None, List, [], ◌∷◌}
+use Rattle.std.specs.Prelude.{◌||◌, Bool, true, false, Option, Some, None, List, [], ◌∷◌}
 use Rattle.tp_names.specs.declared.identifiers.Aaid.{Aaid}
+use Rattle.tp_names.specs.declared.outcome.Outcome.{Outcome}
+use Rattle.tp_names.specs.declared.outcome.Report.{Report}
 use Rattle.tp_names.specs.Same.{is_aaid}
 use Rattle.tp_names.specs.Reports.{is_report_none}
 use Rattle.tp_records.specs.declared.indication.Indication.{Indication}
@@ -10,6 +12,23 @@ use Rattle.tp_logrec.specs.declared.record.LogRec.{LogRec}
 abbrev pub is_complete_none : Indication → Bool
 is_complete_none (Indication.CommitComplete r) = is_report_none r
 is_complete_none _ = false
+
+abbrev pub same_report : Report → Report → Bool
+same_report Report.None Report.None = true
+same_report Report.None Report.Hazard = false
+same_report Report.None Report.Mix = false
+same_report Report.Hazard Report.None = false
+same_report Report.Hazard Report.Hazard = true
+same_report Report.Hazard Report.Mix = false
+same_report Report.Mix Report.None = false
+same_report Report.Mix Report.Hazard = false
+same_report Report.Mix Report.Mix = true
+
+-- a commitment, or a rollback, is complete with that report
+abbrev pub is_complete : Outcome → Report → Indication → Bool
+is_complete Outcome.Commit r (Indication.CommitComplete s) = same_report r s
+is_complete Outcome.Rollback r (Indication.RollbackComplete s) = same_report r s
+is_complete _ r _ = false
 
 -- a Damage, whatever its side
 abbrev pub damages_tree : Aaid → Option LogRec → Bool

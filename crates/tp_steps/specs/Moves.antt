@@ -255,6 +255,11 @@ abbrev pub owes_branch : BranchId → List Kept → Bool
 owes_branch b [] = false
 owes_branch b (k ∷ ks) = elim (find_owed k.owed b) [ None ↦ false | Some c ↦ true ] || owes_branch b ks
 
+-- a commitment of the tree is kept with that report, below that superior
+abbrev pub KeepsFor : List Kept → Addr → Aaid → Report → Type 0
+KeepsFor [] a t r = ⊥
+KeepsFor (k ∷ ks) a t r = (is_commit k.side ≡ true) × (k.key.aaid ≡ t) × (k.superior ≡ Some a) × (k.report ≡ r) ⊎ KeepsFor ks a t r
+
 -- ---- what goes out beside the associations, in the event e whose prelude left s
 
 -- the record goes to that address
@@ -267,8 +272,8 @@ IsRecoveryIn (TxOut.Recovery b q ∷ outs) a r = (b ≡ a) × (q ≡ r) ⊎ IsRe
 IsRecoveryIn (TxOut.Close p ∷ outs) a r = IsRecoveryIn outs a r
 
 -- outside its transaction a node never asks whether to commit, and orders it to a branch that a kept transaction owes; that it
--- knows of nothing is an answer, and so is Done, or it is said of a commitment. Forget outside a transaction answers a Done of a
--- branch that nothing is known of
+-- knows of nothing is an answer, and so is Done, or it is said of a commitment that is kept, with its report, to its superior.
+-- Forget outside a transaction answers a Done of a branch that nothing is known of
 abbrev pub IsSaid : Event → Digest → Digest → Addr → PeerRecord → Type 0
 IsSaid e s d a (PeerRecord.OpenAssoc x u) = Unit {0}
 IsSaid e s d a (PeerRecord.AcceptAssoc x y u) = Unit {0}
@@ -278,7 +283,7 @@ IsSaid e s d a (PeerRecord.RecReady t b) = ⊥
 IsSaid e s d a (PeerRecord.RecCommit t b) = owes_branch b d.kept ≡ true
 IsSaid e s d a (PeerRecord.RecReply t b RecState.Commit) = Unit {0}
 IsSaid e s d a (PeerRecord.RecReply t b (RecState.Done r)) =
-    (is_committed_in t d ≡ true) × (is_report_none r ≡ true → keeps_idle d.kept ≡ true) × (keeps_commit t d.kept ≡ true)
+    (is_committed_in t d ≡ true) × (is_report_none r ≡ true → keeps_idle d.kept ≡ true) × (keeps_commit t d.kept ≡ true) × KeepsFor d.kept a t r
     ⊎ (e ≡ Event.Arrive a (PeerRecord.RecCommit t b)) × (answer (known_of (named_by_key s (branch_key t b)) b) Question.RecCommit ≡ Some (RecState.Done r))
 IsSaid e s d a (PeerRecord.RecReply t b RecState.Unknown) =
     (e ≡ Event.Arrive a (PeerRecord.RecReady t b)) × (answer (known_of (named_by_branch s t b) b) Question.RecReady ≡ Some RecState.Unknown)

@@ -3,6 +3,8 @@
 -- that of its transaction.
 use Rattle.std.specs.Prelude.{ℕ, ◌+◌, ◌≡◌, ◌&&◌, ◌||◌, not, Bool, true, false, Some, None, List, [], ◌∷◌, slice_get}
 use Rattle.tp_names.specs.declared.identifiers.Aaid.{Aaid}
+use Rattle.tp_names.specs.declared.outcome.Outcome.{Outcome}
+use Rattle.tp_names.specs.declared.outcome.Report.{Report}
 use Rattle.tp_names.specs.Reports.{is_report_none}
 use Rattle.tp_records.specs.declared.request.Request.{Request}
 use Rattle.tp_records.specs.declared.dialogue.DialogueRecord.{DialogueRecord}
@@ -11,7 +13,7 @@ use Rattle.tp_model.specs.Dialogues.{is_nil, is_active, is_committing, is_rollin
 use Rattle.tp_model.specs.Transactions.{Transaction, Turn, aaid_of, is_under_at}
 use Rattle.tp_steps.specs.Turns.{falls, loses}
 use Rattle.tp_steps.specs.Passages.{is_commit_rec, asks_tell, IsPassed}
-use Rattle.tp_steps.specs.Clearing.{is_complete_none}
+use Rattle.tp_steps.specs.Clearing.{is_complete_none, is_complete}
 use Rattle.tp_steps.specs.Owing.{is_damage_rec}
 use Rattle.tp_steps.specs.Facts.{is_vote, is_end, ends, BranchKey, spoken, stays, id_at, sees, HasPlace, IsFair}
 
@@ -39,6 +41,8 @@ pub record Deeds : Type 0 where
   pub completed : Aaid → Bool
   -- it is kept for its damage
   pub damaged : Aaid → Bool
+  -- its user was told that it is complete: the commitment, or the rollback, with that report
+  pub told : Outcome → Report → Aaid → Bool
 
 -- it holds of the tree whose Begin stands at that place
 abbrev pub holds_at : List BranchKey → ℕ → (Aaid → Bool) → Bool
@@ -46,9 +50,9 @@ holds_at ks n g = elim (slice_get ks n) [ None ↦ false | Some k ↦ g k.0 ]
 
 abbrev pub may_say : List BranchKey → Deeds → ℕ → Bool → DialogueRecord → Bool
 may_say ks g n v DialogueRecord.Ready = not v
-may_say ks g n v (DialogueRecord.Done r) = holds_at ks n g.committed && (not (is_report_none r) || holds_at ks n g.completed) && (is_report_none r || holds_at ks n g.damaged)
+may_say ks g n v (DialogueRecord.Done r) = holds_at ks n g.committed && (not (is_report_none r) || holds_at ks n g.completed) && (is_report_none r || holds_at ks n g.damaged) && holds_at ks n (g.told Outcome.Commit r)
 may_say ks g n v DialogueRecord.Rollback = holds_at ks n g.rolled
-may_say ks g n v (DialogueRecord.RolledBack r) = holds_at ks n g.rolled
+may_say ks g n v (DialogueRecord.RolledBack r) = holds_at ks n g.rolled && holds_at ks n (g.told Outcome.Rollback r)
 may_say ks g n v DialogueRecord.Left = not v && holds_at ks n g.left
 may_say ks g n v DialogueRecord.LeftEnd = not v && holds_at ks n g.left
 may_say ks g n v _ = true
@@ -68,6 +72,7 @@ pub record Tells (g : Deeds) (e : TxEvent) (s t : Transaction) (a : Turn) : Type
   pub leaves : e ≡ TxEvent.User Request.Unchanged → g.left (aaid_of t.key) ≡ true
   pub completes : asks_tell is_complete_none a.outs ≡ true → g.completed (aaid_of t.key) ≡ true
   pub damages : is_damage_rec a.rec ≡ true → g.damaged (aaid_of t.key) ≡ true
+  pub tells : (u : Outcome) (r : Report) → asks_tell (is_complete u r) a.outs ≡ true → g.told u r (aaid_of t.key) ≡ true
 
 pub record Rises (e : TxEvent) (s : Transaction) (p : ℕ) (t : Transaction) (a : Turn) : Type 0 where
   pub words : (ks : List BranchKey) (g : Deeds) (n : ℕ) (v : Bool) → id_at t p ≡ None → HasPlace ks n t p → Votes v t p → Tells g e s t a → each_up (may_say ks g) n v (spoken true p a.outs) ≡ true

@@ -11,7 +11,8 @@ use Rattle.tp_model.specs.Transactions.{aaid_of, is_under_at}
 use Rattle.tp_model.specs.Requests.{has_branch_at}
 use Rattle.tp_model.specs.History.{digest}
 use Rattle.tp_model.specs.Outcomes.{decided, rolled, is_unchanged, tells_complete_none, completed_none}
-use Rattle.tp_model.specs.Promises.{completes, has_told_in}
+use Rattle.tp_model.specs.Promises.{has_told_in}
+use Rattle.tp_model.specs.Questions.{tells_commit_complete}
 use Rattle.tp_model.specs.Questions.{said_to, has_said, is_left_record}
 use Rattle.tp_model.specs.World.{Node}
 use Rattle.tp_steps.specs.Facts.{is_vote, is_order}
@@ -73,7 +74,7 @@ heeded_done p x =
 
 -- no report was taken in the tree, and its commitment is complete with none
 abbrev pub ended_clear : Node → Bool
-ended_clear x = took_clear tree_of_four x.origin x.history && has_told_in completes x.origin tree_of_four x.history && completed_none x.origin tree_of_four x.history
+ended_clear x = took_clear tree_of_four x.origin x.history && has_told_in tells_commit_complete x.origin tree_of_four x.history && completed_none x.origin tree_of_four x.history
 
 abbrev pub never_rolled : Node → Bool
 never_rolled x = not (rolled x.origin tree_of_four x.history)

@@ -13,7 +13,8 @@ use Rattle.tp_model.specs.History.{digest}
 use Rattle.tp_model.specs.Outcomes.{is_member, completed_none, decided, rolled, decision, has_left, told}
 use Rattle.tp_model.specs.World.{Node, find_node, addr_of}
 use Rattle.tp_model.specs.Happenings.{Happening, Declare, Does, Crash, run}
-use Rattle.tp_model.specs.Promises.{is_counted, has_begun, is_of_tree, is_ready_of, has_logged, holds_at, has_told_in, completes, has_sent_done_none, is_root}
+use Rattle.tp_model.specs.Promises.{is_counted, has_begun, is_of_tree, is_ready_of, has_logged, holds_at, has_told_in, has_sent_done_none, is_root}
+use Rattle.tp_model.specs.Questions.{tells_commit_complete}
 use Rattle.tp_steps.specs.Facts.{is_order, is_vote, is_end}
 use Rattle.tp_histories.specs.Traces.{sent_on, taken_on}
 use Rattle.tp_histories.specs.Control.{answered}
@@ -282,7 +283,7 @@ abbrev pub is_clear : Node → Bool
 is_clear x = completed_none x.origin tree x.history
 
 abbrev pub is_complete : Node → Bool
-is_complete x = has_told_in completes x.origin tree x.history
+is_complete x = has_told_in tells_commit_complete x.origin tree x.history
 
 -- a Done with no report was sent, of the branch of the second node, and of the third
 abbrev pub has_said_done : Node → Bool

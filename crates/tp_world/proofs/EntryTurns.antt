@@ -9,7 +9,7 @@ use Rattle.tp_model.specs.declared.out_line.LogWords.{LogWords}
 use Rattle.tp_model.specs.Parts.{Current, Entry as EntryValue, Key, Root, Under}
 use Rattle.tp_model.specs.History.{digest}
 use Rattle.tp_model.specs.Legal.{IsLegal}
-use Rattle.tp_model.specs.Outcomes.{started, is_now, root_of}
+use Rattle.tp_model.specs.Outcomes.{root_started, is_now, root_of}
 use Rattle.tp_model.specs.World.{World, Node, Frame, number_of, site_of, addr_of, find_node, put_node, find_site}
 use Rattle.tp_model.specs.Happenings.{entered, logged, frames_of, trees_of}
 use Rattle.tp_site.specs.State.{tree_of}
@@ -51,7 +51,7 @@ starts before (Some c) leaves rec = go c.key
     go (Root t) = here t (is_in t (option_map tree_of before)) ∙ ap (λ (b : Bool). if b then None else Some t) (in_now t before)
     go (Under t b a) = refl
 
-pub started_same : (n : Node) (e : EntryValue) → tree_started (change_by n e) ≡ started (digest n.origin n.history) (digest n.origin (e ∷ n.history))
+pub started_same : (n : Node) (e : EntryValue) → tree_started (change_by n e) ≡ root_started (digest n.origin n.history) (digest n.origin (e ∷ n.history))
 started_same n e = starts (digest n.origin n.history).current (digest n.origin (e ∷ n.history)).current (change_by n e).leaves (change_by n e).rec
 
 -- ---- the world after an entry

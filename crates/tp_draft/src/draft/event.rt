@@ -12,7 +12,8 @@ use std::mem::replace;
 use tp_logrec::LogRec;
 use tp_model::TxEvent;
 use tp_names::{Addr, NoMemory};
-use tp_node::{Halt, Node, NodeEvent, Outs};
+use tp_node::{Halt, Node, NodeEvent};
+use tp_node_parts::Outs;
 
 impl Draft {
     /// A draft of that node, on which nothing has happened.

@@ -1,4 +1,4 @@
-use Rattle.tp_drained.proofs.LiveLaw.{branch_live, superior_live}
+use Rattle.tp_drained.proofs.LiveArcs.{branch_live, superior_live}
 use Rattle.tp_drained.proofs.an_open_branch_has_a_live_arc.Goals as goal
 
 pub returns-clause-branches : goal.returns-clause-branches

@@ -22,7 +22,7 @@ use Rattle.tp_model.specs.Recovery.{not_forgotten}
 use Rattle.tp_model.specs.Events.{recovered, recovered_current, fresh_branches}
 use Rattle.tp_model.specs.History.{digest, records}
 use Rattle.tp_model.specs.Questions.{tells_rollback_complete}
-use Rattle.tp_model.specs.Keys.{last_of, begun_tree, phase_by_rec}
+use Rattle.tp_model.specs.Keys.{last_of, Begun, first_begun, phase_by_rec}
 use Rattle.tp_steps.specs.Steps.{first_begin}
 use Rattle.tp_steps.specs.Trees.{out_tells}
 use Rattle.tp_steps.proofs.log.TurnLog.{key_self}
@@ -198,7 +198,7 @@ step_of l r f t p q s down gone = record {
 
 -- ---- what outputs begin and tell
 
-pub begun_first : (outs : List Out) → begun_tree outs ≡ elim (first_begin outs) as (λ _. Option (Aaid × Mark)) [ None ↦ None | Some k ↦ Some (k.0, k.1.mark) ]
+pub begun_first : (outs : List Out) → first_begun outs ≡ elim (first_begin outs) as (λ _. Option Begun) [ None ↦ None | Some k ↦ Some (record { tree = k.0; branch = k.1 }) ]
 begun_first (Out.Tell i ∷ outs) = begun_first outs
 begun_first (Out.Send a _ ∷ outs) = let rest = begun_first outs in grind (arith, rest)
 begun_first _ = refl

@@ -11,7 +11,7 @@ use Rattle.tp_model.specs.Arcs.{find_arc}
 use Rattle.tp_model.specs.Events.{after_crash, started, action}
 use Rattle.tp_model.specs.History.{digest}
 use Rattle.tp_model.specs.Questions.{declared_by, declared_in, superior_by, superior_in, boot_by, boot_in}
-use Rattle.tp_model.specs.Consistency.{same_bool}
+use Rattle.tp_histories.specs.KnownTests.{same_bool}
 use Rattle.tp_model.specs.Legal.{IsGrown, IsLegal}
 use Rattle.tp_steps.specs.Moves.{prelude, begun_in, counted_in}
 use Rattle.tp_steps.specs.Traces.{IsLinked}

@@ -26,7 +26,7 @@ use Rattle.tp_model.specs.Events.{refusal, action}
 use Rattle.tp_model.specs.History.{digest}
 use Rattle.tp_model.specs.Questions.{is_crash, heard_from, acting_from, boot_in, drawn_in}
 use Rattle.tp_model.specs.Outcomes.{rolls, is_unchanged}
-use Rattle.tp_model.specs.Keys.{begun_tree, is_drawn_here, begun_root, begun_by_peer, begun_key, begins, sender_of}
+use Rattle.tp_model.specs.Keys.{Begun as Begin_sent, first_begun, is_own_tree, is_drawn_here, starts_tree, takes_begin, begun_key, begins, sender_of}
 use Rattle.tp_steps.specs.Moves.{prelude, begun_in, counted_in}
 use Rattle.tp_steps.specs.Steps.{first_begin}
 use Rattle.tp_steps.proofs.every.EveryMove.{quiet_followed, quiet_each}
@@ -40,11 +40,11 @@ use Rattle.tp_steps.proofs.words.Leaves.{name_same}
 
 pub data Entered (o : Origin) (e : Entry) (h : List Entry) : Type 0 where
   Crashed : e.event ≡ Event.Crash → Entered o e h
-  Begun : (from : Addr) (t : Aaid) (b : BranchId) (a : Arc) → begun_by_peer o e h ≡ Some (record { aaid = t; branch = Some b }) → is_crash e.event ≡ false
+  Begun : (from : Addr) (t : Aaid) (b : BranchId) (a : Arc) → takes_begin o e h ≡ Some (record { aaid = t; branch = Some b }) → is_crash e.event ≡ false
       → (prelude o.who (digest o h) e.event).current ≡ Some (fresh_current (Under t b a.peer)) → is_nil (phase_of (digest o h)) ≡ true
       → (rolls o.who (digest o h) e.event ≡ false) × (is_unchanged e.event ≡ false) × ((action o.who (digest o h) e.event).rec ≡ None)
       → (sender_of e.event ≡ Some from) × (is_addr a.peer from ≡ true) → Entered o e h
-  Plain : is_crash e.event ≡ false → begun_by_peer o e h ≡ None → (prelude o.who (digest o h) e.event).current ≡ (digest o h).current → Entered o e h
+  Plain : is_crash e.event ≡ false → takes_begin o e h ≡ None → (prelude o.who (digest o h) e.event).current ≡ (digest o h).current → Entered o e h
 
 -- ---- a Begin
 
@@ -75,16 +75,16 @@ begin_from who d from x y q t b h a ok i = go (is_addr a.peer from) refl
     go false j = absurd (grind (arith, ok, i, j))
 
 begin_heard : (o : Origin) (h : List Entry) (from : Addr) (x y : Mark) (q : ℕ) (t : Aaid) (b : BranchId) (k : Holder) (a : Arc) (rec : Option LogRec) (outs : List Out) → find_arc (digest o h).arcs from.node ≡ Some a → sight_at o.who (digest o h) a (DialogueRecord.Begin t b k) ≡ Acts
-    → begun_by_peer o (record { event = Event.Arrive from (PeerRecord.OnAssoc x y q (DialogueRecord.Begin t b k)); rec = rec; outs = outs }) h ≡ Some (record { aaid = t; branch = Some b })
+    → takes_begin o (record { event = Event.Arrive from (PeerRecord.OnAssoc x y q (DialogueRecord.Begin t b k)); rec = rec; outs = outs }) h ≡ Some (record { aaid = t; branch = Some b })
 begin_heard o h from x y q t b k a rec outs found sight =
     let self : (from.node == from.node) ≡ true = number_self from.node from.node refl in
     let on : acts (sight_at o.who (digest o h) a (DialogueRecord.Begin t b k)) ≡ true = ap acts sight in
-    rw (self, begun_by_peer, acting_from, heard_from) (rw (found, on) refl)
+    rw (self, takes_begin, acting_from, heard_from) (rw (found, on) refl)
 
 -- ---- every event
 
 pub no_begin : (o : Origin) (h : List Entry) (from : Addr) (x y : Mark) (q : ℕ) (r : DialogueRecord) (rec : Option LogRec) (outs : List Out) → ((t : Aaid) (b : BranchId) (k : Holder) → r ≡ DialogueRecord.Begin t b k → ⊥)
-    → begun_by_peer o (record { event = Event.Arrive from (PeerRecord.OnAssoc x y q r); rec = rec; outs = outs }) h ≡ None
+    → takes_begin o (record { event = Event.Arrive from (PeerRecord.OnAssoc x y q r); rec = rec; outs = outs }) h ≡ None
 no_begin o h from x y q (DialogueRecord.Begin t b k) rec outs off = absurd (off t b k refl)
 no_begin o h from x y q r rec outs off = grind arith
 
@@ -112,34 +112,31 @@ entered o e h ok = entered_at o h e.event e.rec e.outs ok
 
 -- ---- the key that is begun
 
-pub begins_peer : (o : Origin) (k j : NodeKey) (e : Entry) (h : List Entry) → begun_by_peer o e h ≡ Some j → begins o k e h ≡ is_key k j
+pub begins_peer : (o : Origin) (k j : NodeKey) (e : Entry) (h : List Entry) → takes_begin o e h ≡ Some j → begins o k e h ≡ is_key k j
 begins_peer o k j e h i =
-    let one : begun_key o e h ≡ Some j = ap (λ (v : Option NodeKey). elim v as (λ _. Option NodeKey) [ Some x ↦ Some x | None ↦ begun_root o e h ]) i in
+    let one : begun_key o e h ≡ Some j = ap (λ (v : Option NodeKey). elim v as (λ _. Option NodeKey) [ Some x ↦ Some x | None ↦ starts_tree o e h ]) i in
     ap (λ (v : Option NodeKey). elim v as (λ _. Bool) [ None ↦ false | Some x ↦ is_key k x ]) one
 
-root_key : (o : Origin) (k : NodeKey) (e : Entry) (h : List Entry) → begun_by_peer o e h ≡ None → (v : Option NodeKey) → begun_root o e h ≡ v → begins o k e h ≡ elim v as (λ _. Bool) [ None ↦ false | Some x ↦ is_key k x ]
+root_key : (o : Origin) (k : NodeKey) (e : Entry) (h : List Entry) → takes_begin o e h ≡ None → (v : Option NodeKey) → starts_tree o e h ≡ v → begins o k e h ≡ elim v as (λ _. Bool) [ None ↦ false | Some x ↦ is_key k x ]
 root_key o k e h i v j =
-    let one : begun_key o e h ≡ v = ap (λ (v : Option NodeKey). elim v as (λ _. Option NodeKey) [ Some x ↦ Some x | None ↦ begun_root o e h ]) i ∙ j in
+    let one : begun_key o e h ≡ v = ap (λ (v : Option NodeKey). elim v as (λ _. Option NodeKey) [ Some x ↦ Some x | None ↦ starts_tree o e h ]) i ∙ j in
     ap (λ (v : Option NodeKey). elim v as (λ _. Bool) [ None ↦ false | Some x ↦ is_key k x ]) one
 
-abbrev root_test : Origin → List Entry → Aaid × Mark → Bool
-root_test o h f = is_name f.0.owner o.who.site && is_drawn_here o f.0.mark h && nat_lt f.0.mark.count f.1.count
-
-root_by : (o : Origin) (e : Entry) (h : List Entry) (t : Aaid) (b : BranchId) → first_begin e.outs ≡ Some (t, b) → (v : Bool) → root_test o h (t, b.mark) ≡ v
-    → begun_root o e h ≡ (if v then Some (record { aaid = t; branch = None }) else None)
+root_by : (o : Origin) (e : Entry) (h : List Entry) (t : Aaid) (b : BranchId) → first_begin e.outs ≡ Some (t, b) → (v : Bool) → is_own_tree o (record { tree = t; branch = b }) h ≡ v
+    → starts_tree o e h ≡ (if v then Some (record { aaid = t; branch = None }) else None)
 root_by o e h t b i v j =
-    let tree : begun_tree e.outs ≡ Some (t, b.mark) = begun_first e.outs ∙ ap (λ (x : Option (Aaid × BranchId)). elim x as (λ _. Option (Aaid × Mark)) [ None ↦ None | Some k ↦ Some (k.0, k.1.mark) ]) i in
-    ap (λ (x : Option (Aaid × Mark)). elim x as (λ _. Option NodeKey) [ None ↦ None | Some f ↦ if root_test o h f then Some (record { aaid = f.0; branch = None }) else None ]) tree
+    let tree : first_begun e.outs ≡ Some (record { tree = t; branch = b }) = begun_first e.outs ∙ ap (λ (x : Option (Aaid × BranchId)). elim x as (λ _. Option Begin_sent) [ None ↦ None | Some k ↦ Some (record { tree = k.0; branch = k.1 }) ]) i in
+    ap (λ (x : Option Begin_sent). elim x as (λ _. Option NodeKey) [ None ↦ None | Some f ↦ if is_own_tree o f h then Some (record { aaid = f.tree; branch = None }) else None ]) tree
     ∙ ap (λ (c : Bool). if◌then◌else◌ {A = Option NodeKey} c (Some (record { aaid = t; branch = None })) None) j
 
 -- an entry that sends no Begin begins no root
-pub begins_none_at : (o : Origin) (k : NodeKey) (e : Entry) (h : List Entry) → begun_by_peer o e h ≡ None → first_begin e.outs ≡ None → begins o k e h ≡ false
+pub begins_none_at : (o : Origin) (k : NodeKey) (e : Entry) (h : List Entry) → takes_begin o e h ≡ None → first_begin e.outs ≡ None → begins o k e h ≡ false
 begins_none_at o k e h i none =
-    let tree : begun_tree e.outs ≡ None = begun_first e.outs ∙ ap (λ (x : Option (Aaid × BranchId)). elim x as (λ _. Option (Aaid × Mark)) [ None ↦ None | Some j ↦ Some (j.0, j.1.mark) ]) none in
-    root_key o k e h i None (ap (λ (x : Option (Aaid × Mark)). elim x as (λ _. Option NodeKey) [ None ↦ None | Some f ↦ if root_test o h f then Some (record { aaid = f.0; branch = None }) else None ]) tree)
+    let tree : first_begun e.outs ≡ None = begun_first e.outs ∙ ap (λ (x : Option (Aaid × BranchId)). elim x as (λ _. Option Begin_sent) [ None ↦ None | Some j ↦ Some (record { tree = j.0; branch = j.1 }) ]) none in
+    root_key o k e h i None (ap (λ (x : Option Begin_sent). elim x as (λ _. Option NodeKey) [ None ↦ None | Some f ↦ if is_own_tree o f h then Some (record { aaid = f.tree; branch = None }) else None ]) tree)
 
 -- nor does one whose first branch has the first mark that it draws
-pub begins_grown : (o : Origin) (k : NodeKey) (e : Entry) (h : List Entry) (t : Aaid) (b : BranchId) → begun_by_peer o e h ≡ None → first_begin e.outs ≡ Some (t, b) → b.mark.count ≡ suc (drawn_in o h) → begins o k e h ≡ false
+pub begins_grown : (o : Origin) (k : NodeKey) (e : Entry) (h : List Entry) (t : Aaid) (b : BranchId) → takes_begin o e h ≡ None → first_begin e.outs ≡ Some (t, b) → b.mark.count ≡ suc (drawn_in o h) → begins o k e h ≡ false
 begins_grown o k e h t b i first count = root_key o k e h i None (root_by o e h t b first false off)
   where
     between : (m n : ℕ) → (nat_lt m n && nat_lt n (suc m)) ≡ false
@@ -148,17 +145,17 @@ begins_grown o k e h t b i first count = root_key o k e h i None (root_by o e h 
     last : (x y z u v : Bool) → (u && v) ≡ false → (x && (y && z && u) && v) ≡ false
     last x y z u v h = grind (arith, h)
 
-    off : root_test o h (t, b.mark) ≡ false
+    off : is_own_tree o (record { tree = t; branch = b }) h ≡ false
     off =
         ap (λ (n : ℕ). is_name t.owner o.who.site && is_drawn_here o t.mark h && nat_lt t.mark.count n) count
         ∙ last (is_name t.owner o.who.site) (t.mark.node == o.who.node) (t.mark.boot == boot_in o h) (nat_lt (drawn_in o h) t.mark.count) (nat_lt t.mark.count (suc (drawn_in o h))) (between (drawn_in o h) t.mark.count)
 
-pub begins_rooted : (o : Origin) (k : NodeKey) (e : Entry) (h : List Entry) → begun_by_peer o e h ≡ None → first_begin e.outs ≡ Some (tree_at o.who (boot_in o h) (drawn_in o h), branch_at o.who (boot_in o h) (drawn_in o h))
+pub begins_rooted : (o : Origin) (k : NodeKey) (e : Entry) (h : List Entry) → takes_begin o e h ≡ None → first_begin e.outs ≡ Some (tree_at o.who (boot_in o h) (drawn_in o h), branch_at o.who (boot_in o h) (drawn_in o h))
     → begins o k e h ≡ is_key k (record { aaid = tree_at o.who (boot_in o h) (drawn_in o h); branch = None })
 begins_rooted o k e h i first = root_key o k e h i (Some (record { aaid = tree_at o.who (boot_in o h) (drawn_in o h); branch = None })) (root_by o e h (tree_at o.who (boot_in o h) (drawn_in o h)) (branch_at o.who (boot_in o h) (drawn_in o h)) first true on)
   where
     up : (n : ℕ) → nat_lt n (suc n) ≡ true
     up n = grind (arith, nat_tests)
 
-    on : root_test o h (tree_at o.who (boot_in o h) (drawn_in o h), (branch_at o.who (boot_in o h) (drawn_in o h)).mark) ≡ true
+    on : is_own_tree o (record { tree = tree_at o.who (boot_in o h) (drawn_in o h); branch = branch_at o.who (boot_in o h) (drawn_in o h) }) h ≡ true
     on = rw (name_same o.who.site, number_self o.who.node o.who.node refl, number_self (boot_in o h) (boot_in o h) refl, up (drawn_in o h), up (suc (drawn_in o h))) refl

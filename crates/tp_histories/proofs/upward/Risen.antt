@@ -7,6 +7,7 @@ use Rattle.tp_names.specs.declared.identifiers.NodeKey.{NodeKey}
 use Rattle.tp_names.specs.declared.identifiers.Addr.{Addr}
 use Rattle.tp_names.specs.Same.{is_aaid}
 use Rattle.tp_records.specs.declared.request.Request.{Request}
+use Rattle.tp_records.specs.declared.indication.Indication.{Indication}
 use Rattle.tp_records.specs.declared.dialogue.DialogueRecord.{DialogueRecord}
 use Rattle.tp_records.specs.declared.peer.PeerRecord.{PeerRecord}
 use Rattle.tp_records.specs.declared.peer.RecState.{RecState}
@@ -31,7 +32,7 @@ use Rattle.tp_steps.specs.Moves.{IsAskedByRecord, IsAskedByRequest, IsAsked, IsP
 use Rattle.tp_steps.specs.Passages.{is_commit_rec, IsLogged}
 use Rattle.tp_steps.specs.Trees.{commits_tree, out_tells}
 use Rattle.tp_steps.specs.Facts.{only_words, spoken, stays, is_begin, ends_in, none_of, BranchKey, id_at, find_branch, key_at, HasPlace, HasPlaceAt, words_to, IsHeard, Reads}
-use Rattle.tp_steps.specs.Clearing.{is_complete_none, damages_tree}
+use Rattle.tp_steps.specs.Clearing.{is_complete_none, is_complete, damages_tree}
 use Rattle.tp_steps.specs.Owing.{is_damage_rec}
 use Rattle.tp_steps.proofs.links.Told.{told_append, told_played}
 use Rattle.tp_steps.specs.Upward.{voting_from, each_up, Deeds, may_say, Votes, Tells, Rises, IsRising}
@@ -197,6 +198,7 @@ risen_turned who e f d s c p sup fall shut reads now at asked put gone = go (is_
       leaves = λ h. k.leaves c at (unchanged_asked e c (subst (λ (x : TxEvent). IsAsked e c x) h asked));
       completes = λ h. k.completes c at (told_played is_complete_none d t w a.outs (entered t w d.arcs) ∙ h);
       damages = λ h. k.damages c at (damage_of t a.rec a.next rising.passed.logs h);
+      tells = λ u r h. k.tells c at u r (told_played (is_complete u r) d t w a.outs (entered t w d.arcs) ∙ h);
     }
 
     go : (b : Bool) → is_live (link_with d.arcs p) ≡ b → IsRisen e p fall s d m
@@ -276,15 +278,16 @@ risen_begins who e p q fall s d = begin_cases (IsRisen e p fall s d) who q d sti
 
 -- ---- chains
 
-tells_part : (g : Deeds) (e : Event) (fall : Bool) (s : Digest) (m a : Move) → ((f : Option LogRec → Bool) → f None ≡ false → f a.rec ≡ true → f m.rec ≡ true) → (out_tells is_complete_none a.outs ≡ true → out_tells is_complete_none m.outs ≡ true) → TellsAt g e fall s m → TellsAt g e fall s a
+tells_part : (g : Deeds) (e : Event) (fall : Bool) (s : Digest) (m a : Move) → ((f : Option LogRec → Bool) → f None ≡ false → f a.rec ≡ true → f m.rec ≡ true) → ((q : Indication → Bool) → out_tells q a.outs ≡ true → out_tells q m.outs ≡ true) → TellsAt g e fall s m → TellsAt g e fall s a
 tells_part g e fall s m a more told k = record {
   committing = k.committing;
   commits = λ c i h. k.commits c i (more (commits_tree (aaid_of c.key)) refl h);
   rolling = k.rolling;
   falls = k.falls;
   leaves = k.leaves;
-  completes = λ c i h. k.completes c i (told h);
+  completes = λ c i h. k.completes c i (told is_complete_none h);
   damages = λ c i h. k.damages c i (more (damages_tree (aaid_of c.key)) refl h);
+  tells = λ c i u r h. k.tells c i u r (told (is_complete u r) h);
 }
 
 first_rec : (a b : Option LogRec) → (a ≡ None) ⊎ (b ≡ None) → (f : Option LogRec → Bool) → f None ≡ false → f a ≡ true → f (elim b as (λ _. Option LogRec) [ None ↦ a | Some r ↦ Some r ]) ≡ true
@@ -316,10 +319,10 @@ risen_then e p sup fall shut s d a f heard_a heard_b one two quiet = go (is_live
     split = ap only_words (said_append p a.outs b.outs) ∙ words_append (said_to p a.outs) (said_to p b.outs)
 
     tells_a : (g : Deeds) → TellsAt g e fall s m → TellsAt g e fall s a
-    tells_a g k = tells_part g e fall s m a (first_rec a.rec b.rec quiet) (λ h. told_append is_complete_none a.outs b.outs ∙ rw h refl) k
+    tells_a g k = tells_part g e fall s m a (first_rec a.rec b.rec quiet) (λ q h. told_append q a.outs b.outs ∙ rw h refl) k
 
     tells_b : (g : Deeds) → TellsAt g e fall s m → TellsAt g e fall s b
-    tells_b g k = tells_part g e fall s m b (second_rec a.rec b.rec) (λ h. told_append is_complete_none a.outs b.outs ∙ rw h (grind arith)) k
+    tells_b g k = tells_part g e fall s m b (second_rec a.rec b.rec) (λ q h. told_append q a.outs b.outs ∙ rw h (grind arith)) k
 
     -- the peer is no branch, as no Begin goes to it
     still_free : key_at d.current p ≡ None → none_of is_begin wa ≡ true → is_live (link_with a.next.arcs p) ≡ true → key_at a.next.current p ≡ None

@@ -3,6 +3,8 @@ use Rattle.std.proofs.Common.{◌≡◌, ◌+◌, ◌⊎◌, inl, inr, ℕ, suc,
 use Rattle.tp_names.specs.declared.identifiers.Mark.{Mark}
 use Rattle.tp_names.specs.declared.identifiers.Aaid.{Aaid}
 use Rattle.tp_names.specs.declared.identifiers.Addr.{Addr}
+use Rattle.tp_names.specs.declared.outcome.Outcome.{Outcome}
+use Rattle.tp_names.specs.declared.outcome.Report.{Report}
 use Rattle.tp_names.specs.Same.{is_aaid}
 use Rattle.tp_records.specs.declared.indication.Indication.{Indication}
 use Rattle.tp_records.specs.declared.dialogue.DialogueRecord.{DialogueRecord}
@@ -16,14 +18,15 @@ use Rattle.tp_model.specs.Node.{next_mark, phase_of, fresh_current}
 use Rattle.tp_model.specs.Events.{refusal, action, after_crash, recovered_current, started}
 use Rattle.tp_model.specs.History.{digest, records}
 use Rattle.tp_model.specs.Outcomes.{is_now, rolls, is_unchanged, decided, rolled, has_left, tells_complete_none, completed_none}
+use Rattle.tp_model.specs.Promises.{has_told_in}
 use Rattle.tp_model.specs.Questions.{said_to, is_at}
 use Rattle.tp_model.specs.Legal.{IsGrown}
 use Rattle.tp_steps.specs.Moves.{prelude}
 use Rattle.tp_steps.specs.Traces.{sent_of, took_of}
 use Rattle.tp_histories.specs.Traces.{sent_on, taken_on}
 use Rattle.tp_steps.specs.Trees.{commits_tree, out_tells}
-use Rattle.tp_steps.specs.Passages.{is_commit_told, is_commit_rec}
-use Rattle.tp_steps.specs.Clearing.{is_complete_none, damages_tree, has_damage}
+use Rattle.tp_steps.specs.Passages.{is_commit_told, is_rollback_told, is_commit_rec}
+use Rattle.tp_steps.specs.Clearing.{is_complete_none, is_complete, damages_tree, has_damage}
 use Rattle.tp_histories.specs.Members.{IsOnce}
 use Rattle.tp_histories.specs.Fates.{IsFated}
 use Rattle.tp_steps.specs.Facts.{ends_in, BranchKey, begun_keys, last_from, words_to, key_at, KnowsAt, IsHeard}
@@ -34,7 +37,7 @@ use Rattle.tp_steps.proofs.every.Preludes.{Prelinked, As_before, Now_idle, Now_c
 use Rattle.tp_histories.proofs.marks.Traced.{Told, traced_law, live_before, long_of}
 use Rattle.tp_steps.proofs.lemmas.Words.{keys_append, commit_more, damage_first, damage_more}
 use Rattle.tp_steps.proofs.words.Leaves.{aaid_same}
-use Rattle.tp_steps.proofs.lemmas.Equality.{both_true}
+use Rattle.tp_steps.proofs.lemmas.Equality.{or_case, both_true}
 use Rattle.tp_histories.proofs.trees.Knowing.{Came, As_it_was, By_begin, By_crash, came_by}
 use Rattle.tp_histories.proofs.trees.Behind.{treed_rolls, commit_first}
 use Rattle.tp_histories.proofs.trees.Entered.{Entered, Crashed, Begun, Plain, entered}
@@ -88,7 +91,20 @@ complete_commit_told (Out.Tell Indication.Commit ∷ outs) h = refl
 complete_commit_told (Out.Tell (Indication.CommitComplete r) ∷ outs) h = refl
 complete_commit_told (Out.Tell i ∷ outs) h = let some : out_tells is_complete_none outs ≡ true = grind (arith, h) in rw (complete_commit_told outs some) (grind arith)
 
-tells_event : (o : Origin) (up : Option Addr) (e : Entry) (h : List Entry) → o.start.records ≡ [] → IsGrown o up (e ∷ h) → IsOnce o h
+told_weaker : (f g : Indication → Bool) → ((i : Indication) → f i ≡ true → g i ≡ true) → (outs : List Out) → out_tells f outs ≡ true → out_tells g outs ≡ true
+told_weaker f g w [] h = h
+told_weaker f g w (Out.Send a r ∷ outs) h = told_weaker f g w outs h
+told_weaker f g w (Out.Tell i ∷ outs) h = elim (or_case (f i) (out_tells f outs) h) [ inl j ↦ (let k : g i ≡ true = w i j in rw k refl) | inr j ↦ (let k : out_tells g outs ≡ true = told_weaker f g w outs j in rw k (grind arith)) ]
+
+complete_committed : (r : Report) (i : Indication) → is_complete Outcome.Commit r i ≡ true → is_commit_told i ≡ true
+complete_committed r (Indication.CommitComplete s) h = refl
+complete_committed r i h = absurd (cc (h))
+
+complete_rolled : (r : Report) (i : Indication) → is_complete Outcome.Rollback r i ≡ true → is_rollback_told i ≡ true
+complete_rolled r (Indication.RollbackComplete s) h = refl
+complete_rolled r i h = absurd (cc (h))
+
+pub tells_event : (o : Origin) (up : Option Addr) (e : Entry) (h : List Entry) → o.start.records ≡ [] → IsGrown o up (e ∷ h) → IsOnce o h
     → TellsAt (deeds_of o (e ∷ h)) e.event (rolls o.who (digest o h) e.event) (prelude o.who (digest o h) e.event) (action o.who (digest o h) e.event)
 tells_event o up e h empty legal once = record {
   committing = λ c at i. let b = before o.who d e.event c legal.0 at (not_active_committing c.phase i) in commit_more (aaid_of c.key) e.rec (records o h) ((fated (aaid_of c.key)).committing b.now (ap is_committing b.phase ∙ i));
@@ -98,6 +114,7 @@ tells_event o up e h empty legal once = record {
   leaves = λ c at i. left_now c i (came_by o.who d e.event legal.0) at;
   completes = λ c at i. done_now c i (entered o e h legal.0) at;
   damages = λ c at i. damage_first (aaid_of c.key) e.rec (records o h) (ap (damages_tree (aaid_of c.key)) (ap (λ (f : Entry). f.rec) (sym legal.1)) ∙ i);
+  tells = λ c at u r i. told_now u r c i (entered o e h legal.0) at;
 }
   where
     d : Digest
@@ -127,6 +144,25 @@ tells_event o up e h empty legal once = record {
         let none : is_commit_rec (action o.who d e.event).rec ≡ false = ap is_commit_rec facts.2 in
         absurd (cc (k.2, or_from (is_committing k.0.phase) (is_commit_rec (action o.who d e.event).rec) off none))
     done_now c told (Crashed is) at = absurd (cc (told, ap (λ (f : Event). out_tells is_complete_none (action o.who d f).outs) is))
+
+    -- and with any report
+    told_now : (u : Outcome) (r : Report) (c : Current) → out_tells (is_complete u r) (action o.who d e.event).outs ≡ true → Entered o e h → (prelude o.who d e.event).current ≡ Some c → has_told_in (out_tells (is_complete u r)) o (aaid_of c.key) (e ∷ h) ≡ true
+    told_now u r c told (Plain calm none same) at =
+        let now : is_now (aaid_of c.key) d.current ≡ true = ap (is_now (aaid_of c.key)) (sym same ∙ at) ∙ aaid_same (aaid_of c.key) in
+        let tell : out_tells (is_complete u r) e.outs ≡ true = ap (λ (f : Entry). out_tells (is_complete u r) f.outs) (sym legal.1) ∙ told in
+        rw (now, tell) refl
+    told_now Outcome.Commit r c told (Begun from t b a key calm cur nil facts sent) at =
+        let k = (treed_rolls o.who d e.event (aaid_of c.key) 0 (late_law o up h legal.3) legal.0).tells_commit (told_weaker (is_complete Outcome.Commit r) is_commit_told (complete_committed r) (action o.who d e.event).outs told) in
+        let same = some_same (fresh_current (Under t b a.peer)) k.0 (sym cur ∙ k.1) in
+        let off : is_committing k.0.phase ≡ false = ap (λ (u : Current). is_committing u.phase) (sym same) in
+        let none : is_commit_rec (action o.who d e.event).rec ≡ false = ap is_commit_rec facts.2 in
+        absurd (cc (k.2, or_from (is_committing k.0.phase) (is_commit_rec (action o.who d e.event).rec) off none))
+    told_now Outcome.Rollback r c told (Begun from t b a key calm cur nil facts sent) at =
+        let k = (treed_rolls o.who d e.event (aaid_of c.key) 0 (late_law o up h legal.3) legal.0).tells_rollback (told_weaker (is_complete Outcome.Rollback r) is_rollback_told (complete_rolled r) (action o.who d e.event).outs told) in
+        let same = some_same (fresh_current (Under t b a.peer)) k.0 (sym cur ∙ k.1) in
+        let off : is_rolling k.0.phase ≡ false = ap (λ (u : Current). is_rolling u.phase) (sym same) in
+        absurd (cc (k.2, or_from (is_rolling k.0.phase) (rolls o.who d e.event) off facts.0))
+    told_now u r c told (Crashed is) at = absurd (cc (told, ap (λ (f : Event). out_tells (is_complete u r) (action o.who d f).outs) is))
 
 -- ---- Ready before the event
 
@@ -184,6 +220,7 @@ wider o e h ks more n = (
   λ i. later (λ t. has_left o t h) (λ t. has_left o t (e ∷ h)) (λ t j. rw j (grind arith)) i,
   λ i. later (λ t. completed_none o t h) (λ t. completed_none o t (e ∷ h)) (λ t j. rw j (grind arith)) i,
   λ i. later (λ t. has_damage t (records o h)) (λ t. has_damage t (records o (e ∷ h))) (λ t j. damage_more t e.rec (records o h) j) i,
+  λ u r i. later (λ t. has_told_in (out_tells (is_complete u r)) o t h) (λ t. has_told_in (out_tells (is_complete u r)) o t (e ∷ h)) (λ t j. rw j (grind arith)) i,
 )
   where
     later : (f g : Aaid → Bool) → ((t : Aaid) → f t ≡ true → g t ≡ true) → holds_at ks n f ≡ true → holds_at (ks ++ more) n g ≡ true

@@ -1,5 +1,5 @@
 -- The last cause of control in a history, entry by entry, and what the signs of an entry tell of it.
-use Rattle.tp_known.proofs.Vocabulary.{Bool, List, None, Option, Some, [], ap, arith, false, if◌then◌else◌, not, refl, sym, true, ℕ, ◌&&◌, ◌||◌, ◌∙◌, ◌∷◌, ◌≡◌, or-false, or-true, DialogueRecord, Holder, Indication, Cause, Nothing_said, Begun_by, Granted_away, Granted_here, Handshake_granted_here, Left_transaction, Completed_below, cause_by, last_cause, holds_by, is_granting_cause, holder_in, has_said, said_to, is_grant_record, is_handshake_grant_record, is_left_record, is_response_record, is_record, acting_from, completes, was_branch, is_up, enters, tells_commit_complete, tells_rollback_complete, logs_ready_or_commit, Side, Out, Entry, Origin, digest, is_live, rolls, is_unchanged, link_with, out_tells}
+use Rattle.tp_known.proofs.Vocabulary.{Bool, List, None, Option, Some, [], ap, arith, false, if◌then◌else◌, not, refl, sym, true, ℕ, ◌&&◌, ◌||◌, ◌∙◌, ◌∷◌, ◌≡◌, or-false, or-true, DialogueRecord, Holder, Indication, Cause, Nothing_said, Begun_by, Granted_away, Granted_here, Handshake_granted_here, Left_transaction, Completed_below, cause_by, last_cause, holds_by, is_granting_cause, holder_in, has_said, said_to, is_grant_record, is_handshake_grant_record, is_left_record, is_record, acting_from, completes, was_branch, is_up, enters, tells_commit_complete, tells_rollback_complete, logs_ready_or_commit, Side, Out, Entry, Origin, digest, is_live, rolls, is_unchanged, link_with, out_tells, is_response}
 use Rattle.tp_model.specs.Questions.{Entered}
 use Rattle.tp_known.proofs.control.Signs.{Signs, effect}
 use Rattle.tp_known.proofs.control.Arcs.{is_gift}
@@ -172,7 +172,7 @@ cause_shown o p e h above branch fall left x moot stays begun given over logged 
 
 pub last_more : (o : Origin) (p : ℕ) (r : Bool) (h : List Entry) → last_cause o p r h ≡ ((last_cause o p false h).0, r || (last_cause o p false h).1)
 last_more o p r [] = rw (or-false r) refl
-last_more o p r (e ∷ h) = go (cause_by o p e h) (is_live (link_with (digest o h).arcs p)) (has_said is_response_record (said_to p e.outs)) (last_more o p (r || has_said is_response_record (said_to p e.outs)) h) (last_more o p (has_said is_response_record (said_to p e.outs)) h)
+last_more o p r (e ∷ h) = go (cause_by o p e h) (is_live (link_with (digest o h).arcs p)) (has_said is_response (said_to p e.outs)) (last_more o p (r || has_said is_response (said_to p e.outs)) h) (last_more o p (has_said is_response (said_to p e.outs)) h)
   where
     or_or : (a b c : Bool) → ((a || b) || c) ≡ (a || (b || c))
     or_or true b c = refl
@@ -189,16 +189,16 @@ last_more o p r (e ∷ h) = go (cause_by o p e h) (is_live (link_with (digest o 
     go None true a one two = one ∙ rw (two, or_or r a Was.1) refl
 
 pub last_some : (o : Origin) (p : ℕ) (e : Entry) (h : List Entry) (c : Cause) → cause_by o p e h ≡ Some c → last_cause o p false (e ∷ h) ≡ (c, false)
-last_some o p e h c i = ap (λ (v : Option Cause). elim v as (λ _. Cause × Bool) [ Some c ↦ (c, false) | None ↦ if not (is_live (link_with (digest o h).arcs p)) then (Nothing_said, false) else last_cause o p (has_said is_response_record (said_to p e.outs)) h ]) i
+last_some o p e h c i = ap (λ (v : Option Cause). elim v as (λ _. Cause × Bool) [ Some c ↦ (c, false) | None ↦ if not (is_live (link_with (digest o h).arcs p)) then (Nothing_said, false) else last_cause o p (has_said is_response (said_to p e.outs)) h ]) i
 
 pub last_dead : (o : Origin) (p : ℕ) (e : Entry) (h : List Entry) → cause_by o p e h ≡ None → is_live (link_with (digest o h).arcs p) ≡ false → last_cause o p false (e ∷ h) ≡ (Nothing_said, false)
 last_dead o p e h i dead =
-    ap (λ (v : Option Cause). elim v as (λ _. Cause × Bool) [ Some c ↦ (c, false) | None ↦ if not (is_live (link_with (digest o h).arcs p)) then (Nothing_said, false) else last_cause o p (has_said is_response_record (said_to p e.outs)) h ]) i
-    ∙ ap (λ (b : Bool). if not b then (Nothing_said, false) else last_cause o p (has_said is_response_record (said_to p e.outs)) h) dead
+    ap (λ (v : Option Cause). elim v as (λ _. Cause × Bool) [ Some c ↦ (c, false) | None ↦ if not (is_live (link_with (digest o h).arcs p)) then (Nothing_said, false) else last_cause o p (has_said is_response (said_to p e.outs)) h ]) i
+    ∙ ap (λ (b : Bool). if not b then (Nothing_said, false) else last_cause o p (has_said is_response (said_to p e.outs)) h) dead
 
-pub last_on : (o : Origin) (p : ℕ) (e : Entry) (h : List Entry) (a : Bool) → cause_by o p e h ≡ None → is_live (link_with (digest o h).arcs p) ≡ true → has_said is_response_record (said_to p e.outs) ≡ a
+pub last_on : (o : Origin) (p : ℕ) (e : Entry) (h : List Entry) (a : Bool) → cause_by o p e h ≡ None → is_live (link_with (digest o h).arcs p) ≡ true → has_said is_response (said_to p e.outs) ≡ a
     → last_cause o p false (e ∷ h) ≡ ((last_cause o p false h).0, a || (last_cause o p false h).1)
 last_on o p e h a i live said =
-    ap (λ (v : Option Cause). elim v as (λ _. Cause × Bool) [ Some c ↦ (c, false) | None ↦ if not (is_live (link_with (digest o h).arcs p)) then (Nothing_said, false) else last_cause o p (has_said is_response_record (said_to p e.outs)) h ]) i
-    ∙ ap (λ (b : Bool). if not b then (Nothing_said, false) else last_cause o p (has_said is_response_record (said_to p e.outs)) h) live
+    ap (λ (v : Option Cause). elim v as (λ _. Cause × Bool) [ Some c ↦ (c, false) | None ↦ if not (is_live (link_with (digest o h).arcs p)) then (Nothing_said, false) else last_cause o p (has_said is_response (said_to p e.outs)) h ]) i
+    ∙ ap (λ (b : Bool). if not b then (Nothing_said, false) else last_cause o p (has_said is_response (said_to p e.outs)) h) live
     ∙ ap (λ (b : Bool). last_cause o p b h) said ∙ last_more o p a h

@@ -5,6 +5,7 @@ use Rattle.tp_histories.specs.Traces.{own_old}
 use Rattle.tp_known.proofs.control.Moves.{IsBareAt, IsPast}
 use Rattle.tp_known.proofs.control.Arcs.{Same, control_at, control_from, control_of, held, is_ruled, ruled_live, ruled_of, same_keeps, same_self, same_taken, waits}
 use Rattle.tp_runs.proofs.AtPeer.{find_put}
+use Rattle.tp_model.specs.declared.refusal.Refusal.{Refusal}
 
 abbrev pub side_with : Option Addr → ℕ → Side
 side_with up p = if is_at up p then Side.Subordinate else Side.Superior
@@ -76,9 +77,9 @@ first_put who up p d s a x y u side was now arcs found dead sided alone = go (a.
 
 accept_nil : (who : Who) (d : Digest) (u : ℕ) → refusal who d (Event.Do (Request.Accept u)) ≡ None → is_nil (phase_of d) ≡ true
 unfolding refused_request
-accept_nil who d u ok = third _ _ (is_nil (phase_of d)) 1 4 7 (plain_request who d (Request.Accept u) ok)
+accept_nil who d u ok = third _ _ (is_nil (phase_of d)) Refusal.NoDialogue Refusal.UnitAbsent Refusal.TransactionOpen (plain_request who d (Request.Accept u) ok)
   where
-    third : (a b c : Bool) (k l n : ℕ) → first ((a, k) ∷ (b, l) ∷ (not c, n) ∷ []) ≡ None → c ≡ true
+    third : (a b c : Bool) (k l n : Refusal) → first ((a, k) ∷ (b, l) ∷ (not c, n) ∷ []) ≡ None → c ≡ true
     third false false true k l n h = refl
     third _ _ _ k l n h = absurd (cc (h))
 

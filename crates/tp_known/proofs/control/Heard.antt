@@ -1,5 +1,5 @@
 -- After a Grant, a handshake or both from a peer, control is as its last cause says.
-use Rattle.tp_known.proofs.Vocabulary.{Bool, List, None, Option, Some, [], ap, arith, false, if◌then◌else◌, inl, inr, not, refl, subst, sym, true, ℕ, ◌&&◌, ◌==◌, ◌||◌, ◌∙◌, ◌∷◌, ◌≡◌, ◌⊎◌, and-false, nat_tests, Addr, Mark, DialogueRecord, Indication, PeerRecord, Cause, Granted_here, Handshake_granted_here, cause_by, has_said, said_to, is_left_record, is_response_record, is_record, acting_from, was_branch, is_up, is_at, completes, enters, Who, Origin, Event, Entry, Digest, Arc, Dialogue, Current, Branch, Sight, Acts, Nothing_happens, Out_of_phase, acts_or_out, Heard, Hear_grant, Hear_handshake, Hear_handshake_grant, heard, woken, is_polarized, gives_control, is_silenced, is_late, arrived, action, sight_at, sight_of, take_on, take_record, woken_by, Move, move, perform, situation_at, acts, is_under_at, find_arc, is_live_with_peer, with_dialogue, with_link, with_one_taken, is_live, TxOut, digest, entry_of, has_branch_at, rolls, is_unchanged, IsLate, find_branch, the, find_arc_is, on_none, is_rolled_told, keeps_taken, late_law, link_dialogue, plain_arrival}
+use Rattle.tp_known.proofs.Vocabulary.{Bool, List, None, Option, Some, [], ap, arith, false, if◌then◌else◌, inl, inr, not, refl, subst, sym, true, ℕ, ◌&&◌, ◌==◌, ◌||◌, ◌∙◌, ◌∷◌, ◌≡◌, ◌⊎◌, and-false, nat_tests, Addr, Mark, DialogueRecord, Indication, PeerRecord, Cause, Granted_here, Handshake_granted_here, cause_by, has_said, said_to, is_left_record, is_record, acting_from, was_branch, is_up, is_at, completes, enters, Who, Origin, Event, Entry, Digest, Arc, Dialogue, Current, Branch, Sight, Acts, Nothing_happens, Out_of_phase, acts_or_out, Heard, Hear_grant, Hear_handshake, Hear_handshake_grant, heard, woken, is_polarized, gives_control, is_silenced, is_late, arrived, action, sight_at, sight_of, take_on, take_record, woken_by, Move, move, perform, situation_at, acts, is_under_at, find_arc, is_live_with_peer, with_dialogue, with_link, with_one_taken, is_live, TxOut, digest, entry_of, has_branch_at, rolls, is_unchanged, IsLate, find_branch, the, find_arc_is, on_none, is_rolled_told, keeps_taken, late_law, link_dialogue, plain_arrival, is_response}
 use Rattle.tp_control.proofs.HoldingEvents.{silenced}
 use Rattle.tp_known.proofs.control.Causes.{by_cause, side_of_end, cause_of, cause_from, cause_is, cause_shown, last_some, last_on, is_moot, IsMoot}
 use Rattle.tp_known.proofs.control.Arcs.{is_ruled, control_at, control_of, control_from, ruled_live, same_dialogue, same_taken, same_then, dialogue_gets, Same}
@@ -113,7 +113,7 @@ untold : (o : Origin) (up : Option Addr) (h : List Entry) (e : Event) (p : ℕ) 
     → v ≡ control_at p (digest o h).arcs → IsControlBy o up h e p
 untold o up h e p v was t moot stays still unleft same =
     took_control o up h e p v was t
-    (λ ruled. same ∙ was.is ruled ∙ sym (ap (λ (z : Cause × Bool). by_cause (side_of_end (is_at up p)) z.0 z.1) (last_on o p (entry_of o h e) h false cause (ruled_live p (digest o h).arcs ruled) (ap (has_said is_response_record) t.said))))
+    (λ ruled. same ∙ was.is ruled ∙ sym (ap (λ (z : Cause × Bool). by_cause (side_of_end (is_at up p)) z.0 z.1) (last_on o p (entry_of o h e) h false cause (ruled_live p (digest o h).arcs ruled) (ap (has_said is_response) t.said))))
     (λ c top ruled is under late. same ∙ was.past top c is under late ruled)
   where
     m : Move

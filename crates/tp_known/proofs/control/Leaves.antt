@@ -1,5 +1,5 @@
 -- After the leaving of the node itself, control is as its last cause says.
-use Rattle.tp_known.proofs.Vocabulary.{Bool, List, None, Option, Some, [], ap, append-nil, arith, false, if◌then◌else◌, inl, inr, not, refl, subst, sym, true, ℕ, ◌&&◌, ◌++◌, ◌==◌, ◌||◌, ◌∙◌, ◌∷◌, ◌≡◌, and-false, or-true, nat_tests, Addr, Outcome, DialogueRecord, Holder, Indication, Request, LogRec, Cause, Left_transaction, Completed_below, Granted_away, Begun_by, cause_by, holder_in, has_said, said_to, is_left_record, is_response_record, was_branch, is_up, is_at, completes, enters, tells_commit_complete, tells_rollback_complete, logs_ready_or_commit, Who, Origin, Event, Entry, Digest, Arc, Dialogue, Current, Key, Root, Under, completed, rested, cleared, is_polarized, is_nil, is_active, is_rolling, refusal, action, refused_request, has_branch_at, Move, move, followed, phase_of, transact, is_over, seen, turned, entered, played, left_arcs, is_arc_below, is_end_deferred_at, try_start, start_root, begin_each, begin_chained, chained_peers, with_mark_drawn, fresh_current, has_none, may_root, next_mark, Transaction, leave, row_holds, is_under_at, is_live_with_peer, performed, carried, without_arc, with_dialogues, Phase, Side, TxEvent, TxOut, digest, is_live, IsLate, out_tells, left_active, IsPlaced, headed_law, placed_law, under_headed, is_rolled_told, keeps_performed, said_both, said_carried, late_law, link_left, link_without, said_append, plain_request, quiet_each, seen_branch, step_start, separate_law, thins_turned, tells_rolled, told_performed}
+use Rattle.tp_known.proofs.Vocabulary.{Bool, List, None, Option, Some, [], ap, append-nil, arith, false, if◌then◌else◌, inl, inr, not, refl, subst, sym, true, ℕ, ◌&&◌, ◌++◌, ◌==◌, ◌||◌, ◌∙◌, ◌∷◌, ◌≡◌, and-false, or-true, nat_tests, Addr, Outcome, DialogueRecord, Holder, Indication, Request, LogRec, Cause, Left_transaction, Completed_below, Granted_away, Begun_by, cause_by, holder_in, has_said, said_to, is_left_record, was_branch, is_up, is_at, completes, enters, tells_commit_complete, tells_rollback_complete, logs_ready_or_commit, Who, Origin, Event, Entry, Digest, Arc, Dialogue, Current, Key, Root, Under, completed, rested, cleared, is_polarized, is_nil, is_active, is_rolling, refusal, action, refused_request, has_branch_at, Move, move, followed, phase_of, transact, is_over, seen, turned, entered, played, left_arcs, is_arc_below, is_end_deferred_at, try_start, start_root, begin_each, begin_chained, chained_peers, with_mark_drawn, fresh_current, has_none, may_root, next_mark, Transaction, leave, row_holds, is_under_at, is_live_with_peer, performed, carried, without_arc, with_dialogues, Phase, Side, TxEvent, TxOut, digest, is_live, IsLate, out_tells, left_active, IsPlaced, headed_law, placed_law, under_headed, is_rolled_told, keeps_performed, said_both, said_carried, late_law, link_left, link_without, said_append, plain_request, quiet_each, seen_branch, step_start, separate_law, thins_turned, tells_rolled, told_performed, is_response}
 use Rattle.tp_model.specs.Questions.{Entered}
 use Rattle.tp_known.proofs.control.Arcs.{is_ruled, control_at, control_from, ruled_live, same_performed, same_dialogues, dialogues_get, is_gift}
 use Rattle.tp_known.proofs.control.Turned.{completed_above}
@@ -279,8 +279,8 @@ leaving_control o up h p g was = go (digest o h).current refl
             gift : has_said is_gift (said_to p m.outs) ≡ false
             gift = said_so is_gift begun.0 ∙ and-false under
 
-            unanswered : has_said is_response_record (said_to p m.outs) ≡ false
-            unanswered = said_so is_response_record st.unsaid.1 ∙ and-false under
+            unanswered : has_said is_response (said_to p m.outs) ≡ false
+            unanswered = said_so is_response st.unsaid.1 ∙ and-false under
 
             left_said : (has_said is_left_record (said_to p m.outs) || (was_branch o p h && false)) ≡ under
             left_said = rw (said_so is_left_record st.unsaid.0) (flat under (was_branch o p h))

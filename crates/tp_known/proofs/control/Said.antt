@@ -1,5 +1,5 @@
 -- After a request that gives control to a peer, or answers its handshake, control is as its last cause says.
-use Rattle.tp_known.proofs.Vocabulary.{Bool, List, None, Option, Some, ap, arith, false, refl, sym, true, ℕ, ◌&&◌, ◌||◌, ◌∙◌, ◌∷◌, ◌≡◌, and-false, Addr, DialogueRecord, Request, Cause, Granted_away, cause_by, last_cause, has_said, said_to, is_left_record, is_response_record, was_branch, is_up, is_at, Who, Origin, Event, Entry, Digest, Arc, Dialogue, Ask_grant, Ask_respond, Ask_handshake_grant, said, is_polarized, gives_control, refused_on_arc, refusal, action, refused_request, Move, digest, entry_of, find_arc, plain_request}
+use Rattle.tp_known.proofs.Vocabulary.{Bool, List, None, Option, Some, ap, arith, false, refl, sym, true, ℕ, ◌&&◌, ◌||◌, ◌∙◌, ◌∷◌, ◌≡◌, and-false, Addr, DialogueRecord, Request, Cause, Granted_away, cause_by, last_cause, has_said, said_to, is_left_record, was_branch, is_up, is_at, Who, Origin, Event, Entry, Digest, Arc, Dialogue, Ask_grant, Ask_respond, Ask_handshake_grant, said, is_polarized, gives_control, refused_on_arc, refusal, action, refused_request, Move, digest, entry_of, find_arc, plain_request, is_response}
 use Rattle.tp_known.proofs.control.Events.{Spoken, speaks_so, spoken_control}
 use Rattle.tp_known.proofs.control.Causes.{by_cause, by_response, side_of_end, cause_of, cause_shown, last_some, last_on}
 use Rattle.tp_known.proofs.control.Arcs.{is_ruled, control_at, control_of, control_from, ruled_live}
@@ -91,4 +91,4 @@ respond_control o up h p g was =
         cause_shown o p (entry_of o h e) h (is_up o p h) (was_branch o p h) false false (signs p m) (λ r i. absurd (cc (i))) refl refl refl refl refl refl refl refl unleft
         ∙ ap (cause_of (is_up o p h) (was_branch o p h) false false) s.signs in
         ap after (was.is ruled) ∙ by_response (side_of_end (is_at up p)) c.0 c.1
-        ∙ sym (ap (λ (z : Cause × Bool). by_cause (side_of_end (is_at up p)) z.0 z.1) (last_on o p (entry_of o h e) h true cause live (ap (has_said is_response_record) s.said)))
+        ∙ sym (ap (λ (z : Cause × Bool). by_cause (side_of_end (is_at up p)) z.0 z.1) (last_on o p (entry_of o h e) h true cause live (ap (has_said is_response) s.said)))

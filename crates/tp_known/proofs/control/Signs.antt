@@ -1,5 +1,5 @@
 -- What an event shows of control on the arc with a peer, by what it says and logs, and what that makes of control.
-use Rattle.tp_known.proofs.Vocabulary.{Bool, List, None, Option, Some, [], ap, false, if◌then◌else◌, not, refl, true, ℕ, ◌&&◌, ◌++◌, ◌||◌, ◌∙◌, ◌∷◌, ◌≡◌, ◌⊎◌, or-false, Holder, DialogueRecord, holder_in, has_said, said_to, is_left_record, is_response_record, logs_ready_or_commit, is_holder, Side, Digest, Move, followed, out_tells, is_rolled_told, said_append, said_both, tells_rolled, told_append}
+use Rattle.tp_known.proofs.Vocabulary.{Bool, List, None, Option, Some, [], ap, false, if◌then◌else◌, not, refl, true, ℕ, ◌&&◌, ◌++◌, ◌||◌, ◌∙◌, ◌∷◌, ◌≡◌, ◌⊎◌, or-false, Holder, DialogueRecord, holder_in, has_said, said_to, is_left_record, logs_ready_or_commit, is_holder, Side, Digest, Move, followed, out_tells, is_rolled_told, said_append, said_both, tells_rolled, told_append, is_response}
 use Rattle.tp_known.proofs.control.Arcs.{is_gift}
 use Rattle.tp_known.proofs.orders.OverTold.{is_over_told}
 use Rattle.tp_known.proofs.passages.Shown.{logs_joined}
@@ -28,7 +28,7 @@ signs_of rs over rolled logged = record {
   rolled = rolled;
   logged = logged;
   left = has_said is_left_record rs;
-  answered = has_said is_response_record rs;
+  answered = has_said is_response rs;
 }
 
 abbrev pub signs : ℕ → Move → Signs
@@ -91,7 +91,7 @@ signs_then p a f none =
     let b : Move = f a.next in
     let begun : holder_in (said_to p (a.outs ++ b.outs)) ≡ elim (holder_in (said_to p a.outs)) as (λ _. Option Holder) [ None ↦ holder_in (said_to p b.outs) | Some k ↦ Some k ] =
     ap holder_in (said_append p a.outs b.outs) ∙ holder_more (said_to p a.outs) (said_to p b.outs) in
-    rw (begun, said_both is_gift p a.outs b.outs, told_append is_over_told a.outs b.outs, told_append is_rolled_told a.outs b.outs, logs_joined a.rec b.rec none, said_both is_left_record p a.outs b.outs, said_both is_response_record p a.outs b.outs) refl
+    rw (begun, said_both is_gift p a.outs b.outs, told_append is_over_told a.outs b.outs, told_append is_rolled_told a.outs b.outs, logs_joined a.rec b.rec none, said_both is_left_record p a.outs b.outs, said_both is_response p a.outs b.outs) refl
 
 -- ---- a record that is a sign
 
@@ -115,7 +115,7 @@ is_shift _ = false
 pub record Unshifted (rs : List DialogueRecord) : Type 0 where
   pub begun : holder_in rs ≡ None
   pub left : has_said is_left_record rs ≡ false
-  pub answered : has_said is_response_record rs ≡ false
+  pub answered : has_said is_response rs ≡ false
 
 pub unshifted : (rs : List DialogueRecord) → has_said is_shift rs ≡ false → Unshifted rs
 unshifted [] h = record { begun = refl; left = refl; answered = refl }

@@ -1,6 +1,6 @@
 -- In every legal history the response that is owed on a live arc gives control if the handshake that asks for it was the last
 -- word on control there.
-use Rattle.tp_known.proofs.Vocabulary.{if◌then◌else◌, ◌≡◌, ◌⊎◌, inl, inr, ℕ, Bool, true, false, refl, ap, sym, subst, ◌∙◌, arith, Option, Some, None, List, [], ◌∷◌, ◌++◌, ◌&&◌, ◌||◌, ◌==◌, not, Addr, DialogueRecord, Holder, PeerRecord, Side, Who, Origin, Event, Entry, Due, No_response, Response_due, Response_with_control, Dialogue, Arc, Digest, is_live, Acts, Heard, Hear_handshake_grant, is_due, is_polarized, gives_control, without_control, said, heard, begun_by, cleared, woken, rested, completed, fresh_dialogue, arrived, find_arc, link_of, is_live_with_peer, sight_of, sight_at, Move, is_superior, refusal, action, started, digest, rolls, Cause, Begun_by, Granted_away, Granted_here, Handshake_granted_here, Left_transaction, Completed_below, said_to, has_said, acting_from, is_record, is_handshake_record, is_handshake_grant_record, is_response_record, is_at, cause_by, last_cause, is_granting_cause, clears_handshakes, owes_response_in, due_in, number_of_due, IsGrown, IsLegal, prelude, due_agrees, part_at, part_same, all_found, first_dialogue, on_live, plain_arrival, sight_acts, number_self, late_law, separate_law}
+use Rattle.tp_known.proofs.Vocabulary.{if◌then◌else◌, ◌≡◌, ◌⊎◌, inl, inr, ℕ, Bool, true, false, refl, ap, sym, subst, ◌∙◌, arith, Option, Some, None, List, [], ◌∷◌, ◌++◌, ◌&&◌, ◌||◌, ◌==◌, not, Addr, DialogueRecord, Holder, PeerRecord, Side, Who, Origin, Event, Entry, Due, No_response, Response_due, Response_with_control, Dialogue, Arc, Digest, is_live, Acts, Heard, Hear_handshake_grant, is_due, is_polarized, gives_control, without_control, said, heard, begun_by, cleared, woken, rested, completed, fresh_dialogue, arrived, find_arc, link_of, is_live_with_peer, sight_of, sight_at, Move, is_superior, refusal, action, started, digest, rolls, Cause, Begun_by, Granted_away, Granted_here, Handshake_granted_here, Left_transaction, Completed_below, said_to, has_said, acting_from, is_record, is_handshake_record, is_handshake_grant_record, is_at, cause_by, last_cause, is_granting_cause, clears_handshakes, owes_response_in, due_in, number_of_due, IsGrown, IsLegal, prelude, due_agrees, part_at, part_same, all_found, first_dialogue, on_live, plain_arrival, sight_acts, number_self, late_law, separate_law, is_response}
 use Rattle.tp_model.specs.Questions.{Entered}
 use Rattle.tp_known.proofs.handshakes.Talks.{says_none, hears_none, Tells, TalkSo, Talk, Speaks_there, Hears_there, Silent, talk_of}
 use Rattle.tp_known.proofs.handshakes.Touches.{Touch, Waking, Saying, Hearing, touched, run, FitTouches, when}
@@ -178,7 +178,7 @@ granting_is c h = absurd (cc (h))
 -- it is this handshake by the entry, or it was before, and no other cause came
 abbrev IsGranted : Origin → ℕ → Entry → List Entry → Type 0
 IsGranted o p e h = ((cause_by o p e h ≡ Some Handshake_granted_here) × ((last_cause o p false (e ∷ h)).1 ≡ false))
-    ⊎ ((cause_by o p e h ≡ None) × (is_live_with_peer (digest o h).arcs p ≡ true) × (is_granting_cause (last_cause o p false h).0 ≡ true) × ((last_cause o p false (e ∷ h)).1 ≡ (has_said is_response_record (said_to p e.outs) || (last_cause o p false h).1)))
+    ⊎ ((cause_by o p e h ≡ None) × (is_live_with_peer (digest o h).arcs p ≡ true) × (is_granting_cause (last_cause o p false h).0 ≡ true) × ((last_cause o p false (e ∷ h)).1 ≡ (has_said is_response (said_to p e.outs) || (last_cause o p false h).1)))
 
 granted_so : (o : Origin) (p : ℕ) (e : Entry) (h : List Entry) → is_granting_cause (last_cause o p false (e ∷ h)).0 ≡ true → IsGranted o p e h
 granted_so o p e h is = grind (arith, granting_is, last_dead, last_on, last_some)
@@ -217,7 +217,7 @@ unshaken_held o p h e is =
 
 -- and the entry that hears one says no response
 shaken_unsaid : (o : Origin) (p : ℕ) (e : Entry) (h : List Entry) → Talk o p h e.event (action o.who (digest o h) e.event) → said_to p e.outs ≡ said_to p (action o.who (digest o h) e.event).outs → is_record is_handshake_record (acting_from o p e.event h) ≡ true
-    → has_said is_response_record (said_to p e.outs) ≡ false
+    → has_said is_response (said_to p e.outs) ≡ false
 shaken_unsaid o p e h h1 h2 h3 = grind (arith, unshaken)
 
 -- what was answered is owed no more
@@ -242,10 +242,10 @@ answered_law o up (e ∷ h) p legal live is said_it = go (granted_so o p e h is)
     go (inl k) was = absurd (let off = k.1 in cc (off, said_it))
     go (inr k) was =
         rw (k.1, owes_response_in)
-        (pick (is_record is_handshake_record (acting_from o p e.event h)) (is_record is_handshake_grant_record (acting_from o p e.event h)) (clears_handshakes o p e h) (has_said is_response_record (said_to p e.outs)) (owes_response_in o p h) (unshaken_now (is_record is_handshake_record (acting_from o p e.event h)) refl) (none_acting o p e h k.0) (λ i. was k.1 k.2 (last i)))
+        (pick (is_record is_handshake_record (acting_from o p e.event h)) (is_record is_handshake_grant_record (acting_from o p e.event h)) (clears_handshakes o p e h) (has_said is_response (said_to p e.outs)) (owes_response_in o p h) (unshaken_now (is_record is_handshake_record (acting_from o p e.event h)) refl) (none_acting o p e h k.0) (λ i. was k.1 k.2 (last i)))
       where
-        last : has_said is_response_record (said_to p e.outs) ≡ false → (last_cause o p false h).1 ≡ true
-        last i = or_last (has_said is_response_record (said_to p e.outs)) (last_cause o p false h).1 (sym k.3 ∙ said_it) i
+        last : has_said is_response (said_to p e.outs) ≡ false → (last_cause o p false h).1 ≡ true
+        last i = or_last (has_said is_response (said_to p e.outs)) (last_cause o p false h).1 (sym k.3 ∙ said_it) i
 
         unshaken_now : (b : Bool) → is_record is_handshake_record (acting_from o p e.event h) ≡ b → b ≡ false
         unshaken_now false i = refl

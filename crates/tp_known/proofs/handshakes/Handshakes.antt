@@ -1,6 +1,6 @@
 -- In every legal history a live arc waits for a response, or owes one, if a handshake went out on it, or came, and nothing
 -- answered or cleared it since.
-use Rattle.tp_known.proofs.Vocabulary.{if◌then◌else◌, ◌≡◌, ◌⊎◌, inl, inr, ℕ, Bool, true, false, refl, ap, sym, ◌∙◌, arith, Option, Some, None, List, [], ◌∷◌, ◌++◌, ◌||◌, not, or_parts, nat_tests, Mark, Addr, DialogueRecord, Side, Origin, Event, Entry, Due, No_response, Dialogue, Arc, Digest, is_live, Asked, Ask_end, Ask_data, Ask_abort, Ask_handshake, Ask_respond, Ask_handshake_grant, Ask_begin, Ask_defer_end, Ask_defer_grant, Ask_prepare, Heard, Hear_end, Hear_data, Hear_handshake, Hear_handshake_grant, Hear_response, Hear_defer_end, Hear_defer_grant, is_due, said, heard, begun_by, cleared, woken, rested, completed, fresh_dialogue, without_control, find_arc, link_of, is_live_with_peer, Move, is_superior, action, started, digest, rolls, said_to, has_said, acting_from, is_record, is_left_record, is_handshake_record, is_handshake_grant_record, is_response_record, clears_handshakes, awaits_in, owes_response_in, same_bool, IsGrown, IsLegal, prelude, awaits_agrees, part_at, part_none, part_same, all_found, first_part, the, bool_self, late_law, separate_law}
+use Rattle.tp_known.proofs.Vocabulary.{if◌then◌else◌, ◌≡◌, ◌⊎◌, inl, inr, ℕ, Bool, true, false, refl, ap, sym, ◌∙◌, arith, Option, Some, None, List, [], ◌∷◌, ◌++◌, ◌||◌, not, or_parts, nat_tests, Mark, Addr, DialogueRecord, Side, Origin, Event, Entry, Due, No_response, Dialogue, Arc, Digest, is_live, Asked, Ask_end, Ask_data, Ask_abort, Ask_handshake, Ask_respond, Ask_handshake_grant, Ask_begin, Ask_defer_end, Ask_defer_grant, Ask_prepare, Heard, Hear_end, Hear_data, Hear_handshake, Hear_handshake_grant, Hear_response, Hear_defer_end, Hear_defer_grant, is_due, said, heard, begun_by, cleared, woken, rested, completed, fresh_dialogue, without_control, find_arc, link_of, is_live_with_peer, Move, is_superior, action, started, digest, rolls, said_to, has_said, acting_from, is_record, is_left_record, is_handshake_record, is_handshake_grant_record, clears_handshakes, awaits_in, owes_response_in, same_bool, IsGrown, IsLegal, prelude, awaits_agrees, part_at, part_none, part_same, all_found, first_part, the, bool_self, late_law, separate_law, is_response}
 use Rattle.tp_known.proofs.handshakes.Talks.{is_put_off_ask, is_put_off_heard, says_none, hears_none, Speaks, Tells, TalkSo, Talk, Speaks_there, Hears_there, Silent, talk_of}
 use Rattle.tp_known.proofs.handshakes.Touches.{Touch, Waking, Saying, Hearing, touched, run, some_touch, FitsTouch, FitTouches, when}
 use Rattle.tp_known.proofs.handshakes.TouchedMoves.{is_shaking, said_shaking, shakes, is_arc_in}
@@ -211,11 +211,11 @@ picked : (a b c d u v w x y : Bool) → a ≡ u → b ≡ v → c ≡ w → d �
 picked a b c d u v w x y i j k l = rw (i, j, k, l) refl
 
 awaits_on : (o : Origin) (p : ℕ) (e : Entry) (h : List Entry) → is_live_with_peer (digest o h).arcs p ≡ true
-    → awaits_in o p (e ∷ h) ≡ pick (has_said is_handshake_record (said_to p e.outs)) (has_said is_handshake_grant_record (said_to p e.outs)) (clears_handshakes o p e h) (is_record is_response_record (acting_from o p e.event h)) (awaits_in o p h)
+    → awaits_in o p (e ∷ h) ≡ pick (has_said is_handshake_record (said_to p e.outs)) (has_said is_handshake_grant_record (said_to p e.outs)) (clears_handshakes o p e h) (is_record is_response (acting_from o p e.event h)) (awaits_in o p h)
 awaits_on o p e h live = rw (live, awaits_in) refl
 
 owes_on : (o : Origin) (p : ℕ) (e : Entry) (h : List Entry) → is_live_with_peer (digest o h).arcs p ≡ true
-    → owes_response_in o p (e ∷ h) ≡ pick (is_record is_handshake_record (acting_from o p e.event h)) (is_record is_handshake_grant_record (acting_from o p e.event h)) (clears_handshakes o p e h) (has_said is_response_record (said_to p e.outs)) (owes_response_in o p h)
+    → owes_response_in o p (e ∷ h) ≡ pick (is_record is_handshake_record (acting_from o p e.event h)) (is_record is_handshake_grant_record (acting_from o p e.event h)) (clears_handshakes o p e h) (has_said is_response (said_to p e.outs)) (owes_response_in o p h)
 owes_on o p e h live = rw (live, owes_response_in) refl
 
 -- of a word that is no shaking
@@ -236,7 +236,7 @@ shaking_one r h = grind (arith, h)
 shaking_two : (r : DialogueRecord) → is_handshake_grant_record r ≡ true → is_shaking r ≡ true
 shaking_two r h = grind (arith, h)
 
-shaking_three : (r : DialogueRecord) → is_response_record r ≡ true → is_shaking r ≡ true
+shaking_three : (r : DialogueRecord) → is_response r ≡ true → is_shaking r ≡ true
 shaking_three r h = grind (arith, h)
 
 last_pick : (c b : Bool) → pick false false c false b ≡ (if c then false else b)
@@ -247,11 +247,11 @@ awaits_question : IsShakeQuestion awaits_in asks_shake no_ask no_heard hears_res
 awaits_question = record {
   dead = λ o p e h dead. rw (dead, awaits_in) refl;
   speaks = λ o p e h a r live s says acting none.
-      awaits_on o p e h live ∙ picked _ _ _ _ (has_said is_handshake_record (r ∷ [])) (has_said is_handshake_grant_record (r ∷ [])) false false (awaits_in o p h) (ap (has_said is_handshake_record) says) (ap (has_said is_handshake_grant_record) says) none (ap (is_record is_response_record) acting) ∙ speaks a r s (awaits_in o p h);
+      awaits_on o p e h live ∙ picked _ _ _ _ (has_said is_handshake_record (r ∷ [])) (has_said is_handshake_grant_record (r ∷ [])) false false (awaits_in o p h) (ap (has_said is_handshake_record) says) (ap (has_said is_handshake_grant_record) says) none (ap (is_record is_response) acting) ∙ speaks a r s (awaits_in o p h);
   hears = λ o p e h k r live t says acting none.
-      awaits_on o p e h live ∙ picked _ _ _ _ false false false (is_response_record r) (awaits_in o p h) (ap (has_said is_handshake_record) says) (ap (has_said is_handshake_grant_record) says) none (ap (is_record is_response_record) acting) ∙ hears k r t (awaits_in o p h);
+      awaits_on o p e h live ∙ picked _ _ _ _ false false false (is_response r) (awaits_in o p h) (ap (has_said is_handshake_record) says) (ap (has_said is_handshake_grant_record) says) none (ap (is_record is_response) acting) ∙ hears k r t (awaits_in o p h);
   silent = λ o p e h live says acting.
-      awaits_on o p e h live ∙ picked _ _ _ _ false false (clears_handshakes o p e h) false (awaits_in o p h) (none_shaking is_handshake_record shaking_one (said_to p e.outs) says) (none_shaking is_handshake_grant_record shaking_two (said_to p e.outs) says) refl (none_acting is_response_record shaking_three (acting_from o p e.event h) acting) ∙ last_pick (clears_handshakes o p e h) (awaits_in o p h);
+      awaits_on o p e h live ∙ picked _ _ _ _ false false (clears_handshakes o p e h) false (awaits_in o p h) (none_shaking is_handshake_record shaking_one (said_to p e.outs) says) (none_shaking is_handshake_grant_record shaking_two (said_to p e.outs) says) refl (none_acting is_response shaking_three (acting_from o p e.event h) acting) ∙ last_pick (clears_handshakes o p e h) (awaits_in o p h);
 }
   where
     speaks : (a : Asked) (r : DialogueRecord) → Speaks a r → (b : Bool) → pick (has_said is_handshake_record (r ∷ [])) (has_said is_handshake_grant_record (r ∷ [])) false false b ≡ (if asks_shake a then true else if no_ask a then false else b)
@@ -264,7 +264,7 @@ awaits_question = record {
     speaks Ask_prepare r s b = absurd s
     speaks _ r s b = rw s refl
 
-    hears : (k : Heard) (r : DialogueRecord) → Tells k r → (b : Bool) → pick false false false (is_response_record r) b ≡ (if no_heard k then true else if hears_response k then false else b)
+    hears : (k : Heard) (r : DialogueRecord) → Tells k r → (b : Bool) → pick false false false (is_response r) b ≡ (if no_heard k then true else if hears_response k then false else b)
     hears Hear_data r s b = rw (s.1) refl
     hears Hear_end r s b = absurd s
     hears Hear_defer_end r s b = absurd s
@@ -303,14 +303,14 @@ owes_question : IsShakeQuestion owes_response_in no_ask says_response hears_shak
 owes_question = record {
   dead = λ o p e h dead. rw (dead, owes_response_in) refl;
   speaks = λ o p e h a r live s says acting none.
-      owes_on o p e h live ∙ picked _ _ _ _ false false false (has_said is_response_record (r ∷ [])) (owes_response_in o p h) (ap (is_record is_handshake_record) acting) (ap (is_record is_handshake_grant_record) acting) none (ap (has_said is_response_record) says) ∙ speaks a r s (owes_response_in o p h);
+      owes_on o p e h live ∙ picked _ _ _ _ false false false (has_said is_response (r ∷ [])) (owes_response_in o p h) (ap (is_record is_handshake_record) acting) (ap (is_record is_handshake_grant_record) acting) none (ap (has_said is_response) says) ∙ speaks a r s (owes_response_in o p h);
   hears = λ o p e h k r live t says acting none.
-      owes_on o p e h live ∙ picked _ _ _ _ (is_handshake_record r) (is_handshake_grant_record r) false false (owes_response_in o p h) (ap (is_record is_handshake_record) acting) (ap (is_record is_handshake_grant_record) acting) none (ap (has_said is_response_record) says) ∙ hears k r t (owes_response_in o p h);
+      owes_on o p e h live ∙ picked _ _ _ _ (is_handshake_record r) (is_handshake_grant_record r) false false (owes_response_in o p h) (ap (is_record is_handshake_record) acting) (ap (is_record is_handshake_grant_record) acting) none (ap (has_said is_response) says) ∙ hears k r t (owes_response_in o p h);
   silent = λ o p e h live says acting.
-      owes_on o p e h live ∙ picked _ _ _ _ false false (clears_handshakes o p e h) false (owes_response_in o p h) (none_acting is_handshake_record shaking_one (acting_from o p e.event h) acting) (none_acting is_handshake_grant_record shaking_two (acting_from o p e.event h) acting) refl (none_shaking is_response_record shaking_three (said_to p e.outs) says) ∙ last_pick (clears_handshakes o p e h) (owes_response_in o p h);
+      owes_on o p e h live ∙ picked _ _ _ _ false false (clears_handshakes o p e h) false (owes_response_in o p h) (none_acting is_handshake_record shaking_one (acting_from o p e.event h) acting) (none_acting is_handshake_grant_record shaking_two (acting_from o p e.event h) acting) refl (none_shaking is_response shaking_three (said_to p e.outs) says) ∙ last_pick (clears_handshakes o p e h) (owes_response_in o p h);
 }
   where
-    speaks : (a : Asked) (r : DialogueRecord) → Speaks a r → (b : Bool) → pick false false false (has_said is_response_record (r ∷ [])) b ≡ (if no_ask a then true else if says_response a then false else b)
+    speaks : (a : Asked) (r : DialogueRecord) → Speaks a r → (b : Bool) → pick false false false (has_said is_response (r ∷ [])) b ≡ (if no_ask a then true else if says_response a then false else b)
     speaks Ask_data r s b = rw (s.1) refl
     speaks Ask_end r s b = absurd s
     speaks Ask_abort r s b = absurd s

@@ -1,5 +1,5 @@
 -- In every legal history the arcs below stand in the order in which their dialogues were asked for, as the questions answer.
-use Rattle.tp_known.proofs.Vocabulary.{Bool, List, None, Option, Some, [], ap, arith, false, if◌then◌else◌, not, refl, sym, true, ℕ, ◌&&◌, ◌++◌, ◌==◌, ◌||◌, ◌∙◌, ◌∷◌, ◌≡◌, subst, or-false, nat_tests, Addr, Mark, DialogueRecord, PeerRecord, Request, is_at, link_in, Origin, Entry, Digest, Arc, Event, Idle, Link, Live, Offered, Opening, Who, digest, entry_of, below, without, peers_in, agrees_order, agrees_up, asked_for, is_number, not_idle, same_list, is_superior, Move, next_mark, superior_arc, with_mark_drawn, find_arc, link_with, is_idle, IsGrown, IsLegal, Side, action, after_crash, refusal, started, call, refused_request, fresh_dialogue, refused_arrival, with_an_arc, below_as_asked, is_there, are_separate, IsLinked, accepted_by, accepted_on, begun_in, counted_in, linked, prelude, numbers, busy_there, Thins, separate_law, thins_moves, thins_put, thins_self, thins_taken, thins_then, superior_at, every_move, late_law, linked_moves}
+use Rattle.tp_known.proofs.Vocabulary.{Bool, List, None, Option, Some, [], ap, arith, false, if◌then◌else◌, not, refl, sym, true, ℕ, ◌&&◌, ◌++◌, ◌==◌, ◌||◌, ◌∙◌, ◌∷◌, ◌≡◌, subst, or-false, nat_tests, Addr, Mark, DialogueRecord, PeerRecord, Request, is_at, link_in, Origin, Entry, Digest, Arc, Event, Idle, Link, Live, Offered, Opening, Who, digest, entry_of, peers_in, agrees_order, agrees_up, asked_for, is_number, not_idle, same_list, is_superior, Move, next_mark, superior_arc, with_mark_drawn, find_arc, link_with, is_idle, IsGrown, IsLegal, Side, action, after_crash, refusal, started, call, refused_request, fresh_dialogue, refused_arrival, with_an_arc, below_as_asked, is_there, are_separate, IsLinked, accepted_by, accepted_on, begun_in, counted_in, linked, prelude, numbers, busy_there, Thins, separate_law, thins_moves, thins_put, thins_self, thins_taken, thins_then, superior_at, every_move, late_law, linked_moves, without_peer, peers_below}
 use Rattle.tp_known.proofs.links.Link.{link_law}
 use Rattle.tp_control.specs.Leading.{opens}
 use Rattle.tp_known.proofs.control.Quiet.{Grows, undeclared}
@@ -11,11 +11,11 @@ abbrev beneath : Option Addr → List ℕ → List ℕ
 beneath s [] = []
 beneath s (p ∷ ps) = if is_at s p then beneath s ps else p ∷ beneath s ps
 
-below_is : (d : Digest) (arcs : List Arc) → below d arcs ≡ beneath d.superior (numbers arcs)
+below_is : (d : Digest) (arcs : List Arc) → peers_below d arcs ≡ beneath d.superior (numbers arcs)
 below_is d [] = refl
 below_is d (a ∷ arcs) = go (is_superior d a.peer.node) refl (below_is d arcs)
   where
-    go : (b : Bool) → is_superior d a.peer.node ≡ b → below d arcs ≡ beneath d.superior (numbers arcs) → (if b then below d arcs else a.peer.node ∷ below d arcs) ≡ beneath d.superior (a.peer.node ∷ numbers arcs)
+    go : (b : Bool) → is_superior d a.peer.node ≡ b → peers_below d arcs ≡ beneath d.superior (numbers arcs) → (if b then peers_below d arcs else a.peer.node ∷ peers_below d arcs) ≡ beneath d.superior (a.peer.node ∷ numbers arcs)
     go true i rest = let at : is_at d.superior a.peer.node ≡ true = sym (superior_at d a.peer.node) ∙ i in rw (at, beneath) rest
     go false i rest = let at : is_at d.superior a.peer.node ≡ false = sym (superior_at d a.peer.node) ∙ i in rw (at, beneath, rest) refl
 
@@ -47,29 +47,29 @@ in_append p (x ∷ xs) ys = go (x == p) (in_append p xs ys)
     go true rest = refl
     go false rest = rest
 
-in_without : (p q : ℕ) (qs : List ℕ) → is_in q qs ≡ false → is_in q (without p qs) ≡ false
+in_without : (p q : ℕ) (qs : List ℕ) → is_in q qs ≡ false → is_in q (without_peer p qs) ≡ false
 in_without p q [] h = refl
 in_without p q (r ∷ qs) h = go (r == p) (in_without p q qs (grind (arith, h)))
   where
-    go : (b : Bool) → is_in q (without p qs) ≡ false → is_in q (if b then qs else r ∷ without p qs) ≡ false
+    go : (b : Bool) → is_in q (without_peer p qs) ≡ false → is_in q (if b then qs else r ∷ without_peer p qs) ≡ false
     go true rest = grind (arith, h)
     go false rest = let off : (r == q) ≡ false = grind (arith, h) in rw (off, rest) refl
 
-gone_without : (p : ℕ) (qs : List ℕ) → are_single qs ≡ true → is_in p (without p qs) ≡ false
+gone_without : (p : ℕ) (qs : List ℕ) → are_single qs ≡ true → is_in p (without_peer p qs) ≡ false
 gone_without p [] h = refl
 gone_without p (r ∷ qs) h = go (r == p) refl (gone_without p qs (grind (arith, h)))
   where
-    go : (b : Bool) → (r == p) ≡ b → is_in p (without p qs) ≡ false → is_in p (if b then qs else r ∷ without p qs) ≡ false
+    go : (b : Bool) → (r == p) ≡ b → is_in p (without_peer p qs) ≡ false → is_in p (if b then qs else r ∷ without_peer p qs) ≡ false
     go true i rest = let at : r ≡ p = grind (arith, nat_tests, i) in ap (λ (n : ℕ). is_in n qs) (sym at) ∙ grind (arith, h)
     go false i rest = rw (i, rest) refl
 
-single_without : (p : ℕ) (qs : List ℕ) → are_single qs ≡ true → are_single (without p qs) ≡ true
+single_without : (p : ℕ) (qs : List ℕ) → are_single qs ≡ true → are_single (without_peer p qs) ≡ true
 single_without p [] h = refl
 single_without p (r ∷ qs) h = go (r == p) (single_without p qs (grind (arith, h)))
   where
-    go : (b : Bool) → are_single (without p qs) ≡ true → are_single (if b then qs else r ∷ without p qs) ≡ true
+    go : (b : Bool) → are_single (without_peer p qs) ≡ true → are_single (if b then qs else r ∷ without_peer p qs) ≡ true
     go true rest = grind (arith, h)
-    go false rest = let off : is_in r (without p qs) ≡ false = in_without p r qs (grind (arith, h)) in rw (off, rest) refl
+    go false rest = let off : is_in r (without_peer p qs) ≡ false = in_without p r qs (grind (arith, h)) in rw (off, rest) refl
 
 single_end : (p : ℕ) (qs : List ℕ) → are_single qs ≡ true → is_in p qs ≡ false → are_single (qs ++ p ∷ []) ≡ true
 single_end p [] h off = refl
@@ -108,12 +108,12 @@ those_in xs ys (p ∷ ps) k = go (is_there p xs) refl (is_there p ys) refl (thos
     go false i false j rest = rest
 
 -- after a call the number stands at the end
-those_called : (xs ys : List Arc) (n : ℕ) (ps : List ℕ) → are_single ps ≡ true → is_there n xs ≡ false → ((p : ℕ) → (p == n) ≡ false → is_there p xs ≡ false → is_there p ys ≡ false) → with_an_arc ys (with_an_arc xs ps) ≡ with_an_arc ys (without n ps)
+those_called : (xs ys : List Arc) (n : ℕ) (ps : List ℕ) → are_single ps ≡ true → is_there n xs ≡ false → ((p : ℕ) → (p == n) ≡ false → is_there p xs ≡ false → is_there p ys ≡ false) → with_an_arc ys (with_an_arc xs ps) ≡ with_an_arc ys (without_peer n ps)
 those_called xs ys n [] h off k = refl
 those_called xs ys n (p ∷ ps) h off k = go (p == n) refl (is_there p xs) refl (is_there p ys) refl (those_called xs ys n ps (grind (arith, h)) off k)
   where
-    go : (a : Bool) → (p == n) ≡ a → (b : Bool) → is_there p xs ≡ b → (c : Bool) → is_there p ys ≡ c → with_an_arc ys (with_an_arc xs ps) ≡ with_an_arc ys (without n ps)
-        → with_an_arc ys (if b then p ∷ with_an_arc xs ps else with_an_arc xs ps) ≡ with_an_arc ys (if a then ps else p ∷ without n ps)
+    go : (a : Bool) → (p == n) ≡ a → (b : Bool) → is_there p xs ≡ b → (c : Bool) → is_there p ys ≡ c → with_an_arc ys (with_an_arc xs ps) ≡ with_an_arc ys (without_peer n ps)
+        → with_an_arc ys (if b then p ∷ with_an_arc xs ps else with_an_arc xs ps) ≡ with_an_arc ys (if a then ps else p ∷ without_peer n ps)
     go true i true j c l rest = absurd (let at : p ≡ n = grind (arith, nat_tests, i) in let no : is_there p xs ≡ false = ap (λ (m : ℕ). is_there m xs) at ∙ off in cc (j, no))
     go true i false j c l rest = those_in xs ys ps (λ q at gone. k q (apart q at) gone)
       where
@@ -130,7 +130,7 @@ those_called xs ys n (p ∷ ps) h off k = go (p == n) refl (is_there p xs) refl 
 -- ---- the history
 
 pub record IsOrder (o : Origin) (h : List Entry) : Type 0 where
-  pub order : below (digest o h) (digest o h).arcs ≡ with_an_arc (digest o h).arcs (peers_in h)
+  pub order : peers_below (digest o h) (digest o h).arcs ≡ with_an_arc (digest o h).arcs (peers_in h)
   pub apart : (p : ℕ) → is_in p (peers_in h) ≡ true → is_at (digest o h).superior p ≡ false
   pub single : are_single (peers_in h) ≡ true
   pub idle : (digest o h).declared ≡ false → peers_in h ≡ []
@@ -158,7 +158,7 @@ found_none p (a ∷ arcs) h = go (a.peer.node == p) h (found_none p arcs)
 
 -- the arcs after an event are fewer, and nobody new is asked
 pub order_same : (o : Origin) (h : List Entry) (n : Digest) (ps : List ℕ) → IsOrder o h → are_separate (digest o h).arcs ≡ true → numbers n.arcs ≡ with_an_arc n.arcs (numbers (digest o h).arcs) → ((p : ℕ) → is_in p (peers_in h) ≡ true → is_there p (digest o h).arcs ≡ false → is_there p n.arcs ≡ false)
-    → n.superior ≡ (digest o h).superior → ps ≡ peers_in h → below n n.arcs ≡ with_an_arc n.arcs ps
+    → n.superior ≡ (digest o h).superior → ps ≡ peers_in h → peers_below n n.arcs ≡ with_an_arc n.arcs ps
 order_same o h n ps was apart fewer none same asked =
     below_is n n.arcs ∙ ap (λ (s : Option Addr). beneath s (numbers n.arcs)) same ∙ ap (beneath (digest o h).superior) fewer ∙ beneath_those (digest o h).superior n.arcs (numbers (digest o h).arcs)
     ∙ ap (with_an_arc n.arcs) (sym (below_is (digest o h) (digest o h).arcs) ∙ was.order) ∙ those_in (digest o h).arcs n.arcs (peers_in h) none ∙ sym (ap (with_an_arc n.arcs) asked)
@@ -228,11 +228,11 @@ order_plain o up h e g was thin top same asked = record {
     all = thins_then d.arcs s.arcs m.next.arcs thin (every_move o.who d e (λ a b. Thins a.arcs b.next.arcs) (thins_moves o.who e s) (late_law o up h g.grown) g.ok)
 
 -- a dialogue is asked for
-below_end : (d : Digest) (arcs : List Arc) (a : Arc) → is_superior d a.peer.node ≡ false → below d (arcs ++ a ∷ []) ≡ below d arcs ++ a.peer.node ∷ []
+below_end : (d : Digest) (arcs : List Arc) (a : Arc) → is_superior d a.peer.node ≡ false → peers_below d (arcs ++ a ∷ []) ≡ peers_below d arcs ++ a.peer.node ∷ []
 below_end d [] a off = rw off refl
 below_end d (b ∷ arcs) a off = go (is_superior d b.peer.node) (below_end d arcs a off)
   where
-    go : (v : Bool) → below d (arcs ++ a ∷ []) ≡ below d arcs ++ a.peer.node ∷ [] → (if v then below d (arcs ++ a ∷ []) else b.peer.node ∷ below d (arcs ++ a ∷ [])) ≡ (if v then below d arcs else b.peer.node ∷ below d arcs) ++ a.peer.node ∷ []
+    go : (v : Bool) → peers_below d (arcs ++ a ∷ []) ≡ peers_below d arcs ++ a.peer.node ∷ [] → (if v then peers_below d (arcs ++ a ∷ []) else b.peer.node ∷ peers_below d (arcs ++ a ∷ [])) ≡ (if v then peers_below d arcs else b.peer.node ∷ peers_below d arcs) ++ a.peer.node ∷ []
     go true rest = rest
     go false rest = rw rest refl
 
@@ -260,11 +260,11 @@ record Called (d : Digest) (n : ℕ) : Type 0 where
 
 called_so : (who : Who) (d : Digest) (a : Addr) (u : ℕ) → refusal who d (Event.Do (Request.BeginDialogue a u)) ≡ None → Called d a.node
 unfolding refusal refused_request
-called_so who d a u ok = grind (arith, below)
+called_so who d a u ok = grind (arith, peers_below)
 
 order_called : (o : Origin) (up : Option Addr) (h : List Entry) (a : Addr) (u : ℕ) → Grows o up h (Event.Do (Request.BeginDialogue a u)) → IsOrder o h → IsOrderBy o h (Event.Do (Request.BeginDialogue a u))
 unfolding call
-order_called o up h a u g was = record { order = order; apart = apart; single = single_end a.node (without a.node (peers_in h)) (single_without a.node (peers_in h) was.single) (gone_without a.node (peers_in h) was.single); idle = λ off. absurd (cc (off, k.declared)) }
+order_called o up h a u g was = record { order = order; apart = apart; single = single_end a.node (without_peer a.node (peers_in h)) (single_without a.node (peers_in h) was.single) (gone_without a.node (peers_in h) was.single); idle = λ off. absurd (cc (off, k.declared)) }
   where
     d : Digest
     d = digest o h
@@ -287,23 +287,23 @@ order_called o up h a u g was = record { order = order; apart = apart; single = 
     here : is_there a.node xs ≡ true
     here = there_end a.node d.arcs new ∙ rw (gone, self) refl
 
-    order : below (record (with_mark_drawn d) { arcs = xs }) xs ≡ with_an_arc xs (without a.node (peers_in h) ++ a.node ∷ [])
+    order : peers_below (record (with_mark_drawn d) { arcs = xs }) xs ≡ with_an_arc xs (without_peer a.node (peers_in h) ++ a.node ∷ [])
     order =
         below_end d d.arcs new k.below ∙ ap (λ (ps : List ℕ). ps ++ a.node ∷ []) (was.order ∙ sym (those_more d.arcs xs (peers_in h) (λ p i. there_end p d.arcs new ∙ rw i refl)) ∙ those_called d.arcs xs a.node (peers_in h) was.single gone (λ p i j. there_end p d.arcs new ∙ rw (j, other p i) refl))
-        ∙ sym (those_append xs (without a.node (peers_in h)) (a.node ∷ []) ∙ rw here refl)
+        ∙ sym (those_append xs (without_peer a.node (peers_in h)) (a.node ∷ []) ∙ rw here refl)
       where
         other : (p : ℕ) → (p == a.node) ≡ false → (a.node == p) ≡ false
         other p i = grind (arith, nat_tests, i)
 
-    apart : (p : ℕ) → is_in p (without a.node (peers_in h) ++ a.node ∷ []) ≡ true → is_at d.superior p ≡ false
-    apart p at = either (is_in p (without a.node (peers_in h))) refl (a.node == p) refl (sym (in_append p (without a.node (peers_in h)) (a.node ∷ [])) ∙ at)
+    apart : (p : ℕ) → is_in p (without_peer a.node (peers_in h) ++ a.node ∷ []) ≡ true → is_at d.superior p ≡ false
+    apart p at = either (is_in p (without_peer a.node (peers_in h))) refl (a.node == p) refl (sym (in_append p (without_peer a.node (peers_in h)) (a.node ∷ [])) ∙ at)
       where
-        either : (v : Bool) → is_in p (without a.node (peers_in h)) ≡ v → (w : Bool) → (a.node == p) ≡ w → (v || (w || false)) ≡ true → is_at d.superior p ≡ false
+        either : (v : Bool) → is_in p (without_peer a.node (peers_in h)) ≡ v → (w : Bool) → (a.node == p) ≡ w → (v || (w || false)) ≡ true → is_at d.superior p ≡ false
         either true i w j e = was.apart p (old (is_in p (peers_in h)) refl)
           where
             old : (b : Bool) → is_in p (peers_in h) ≡ b → is_in p (peers_in h) ≡ true
             old true z = z
-            old false z = absurd (let off : is_in p (without a.node (peers_in h)) ≡ false = in_without a.node p (peers_in h) z in cc (i, off))
+            old false z = absurd (let off : is_in p (without_peer a.node (peers_in h)) ≡ false = in_without a.node p (peers_in h) z in cc (i, off))
         either false i true j e = let same : a.node ≡ p = grind (arith, nat_tests, j) in ap (is_at d.superior) (sym same) ∙ sym (superior_at d a.node) ∙ k.below
         either false i false j e = absurd (cc (e))
 
@@ -321,7 +321,7 @@ unfolding refusal refused_arrival
 offered_so who d from x u ok = grind arith
 
 order_offered : (o : Origin) (up : Option Addr) (h : List Entry) (from : Addr) (x : Mark) (u : ℕ) → Grows o up h (Event.Arrive from (PeerRecord.OpenAssoc x u)) → IsOrder o h → IsOrderBy o h (Event.Arrive from (PeerRecord.OpenAssoc x u))
-order_offered o up h from x u g was = grind (arith, below, offered_so, superior_at, those_front)
+order_offered o up h from x u g was = grind (arith, peers_below, offered_so, superior_at, those_front)
 
 -- a declaration
 order_declared : (o : Origin) (up : Option Addr) (h : List Entry) (s : Option Addr) → Grows o up h (Event.Declare s) → IsOrder o h → IsOrderBy o h (Event.Declare s)
@@ -377,12 +377,12 @@ up_agrees o h links = grind arith
 pub asked_law : (o : Origin) (up : Option Addr) (h : List Entry) → IsLegal o up h → below_as_asked o h ≡ true
 asked_law o up h legal =
     let k : IsOrder o h = order_known o up h legal.grown in
-    ap (same_list is_number (below (digest o h) (digest o h).arcs)) (sym k.order) ∙ same_numbers (below (digest o h) (digest o h).arcs)
+    ap (same_list is_number (peers_below (digest o h) (digest o h).arcs)) (sym k.order) ∙ same_numbers (peers_below (digest o h) (digest o h).arcs)
 
 pub order_law : (o : Origin) (up : Option Addr) (h : List Entry) → IsLegal o up h → agrees_order o h ≡ true
 order_law o up h legal =
     let links : AreIdle o h = λ p. sym (ap is_idle (link_law o up h legal.grown p)) in
     let k : IsOrder o h = order_known o up h legal.grown in
-    let all : same_list is_number (below (digest o h) (digest o h).arcs) (not_idle o h (peers_in h)) ≡ true =
-    ap (same_list is_number (below (digest o h) (digest o h).arcs)) (busy_those o h (separate_law o up h legal.grown) links (peers_in h) ∙ sym k.order) ∙ same_numbers (below (digest o h) (digest o h).arcs) in
+    let all : same_list is_number (peers_below (digest o h) (digest o h).arcs) (not_idle o h (peers_in h)) ≡ true =
+    ap (same_list is_number (peers_below (digest o h) (digest o h).arcs)) (busy_those o h (separate_law o up h legal.grown) links (peers_in h) ∙ sym k.order) ∙ same_numbers (peers_below (digest o h) (digest o h).arcs) in
     rw (all, up_agrees o h links) refl

@@ -1,5 +1,5 @@
 -- In every legal history the link of every arc is what the questions answer.
-use Rattle.tp_known.proofs.Vocabulary.{if◌then◌else◌, ◌≡◌, ◌+◌, inl, inr, ℕ, Bool, true, false, refl, ap, sym, subst, ◌∙◌, arith, Option, Some, None, List, [], ◌∷◌, ◌++◌, ◌&&◌, ◌||◌, ◌==◌, not, and-false, nat_tests, Mark, Aaid, BranchId, Addr, Request, Indication, DialogueRecord, Holder, PeerRecord, LogRec, Side, TxEvent, TxOut, Who, Origin, Event, Entry, Out, Link, Idle, Arc, Under, Branch, Current, Digest, is_live, is_idle, with_one_taken, is_nil, is_active, Sight, Acts, Nothing_happens, Out_of_phase, acts_or_out, begun_by, cleared, find_arc, link_of, link_with, is_live_with_peer, without_arc, with_dialogue, performed, Transaction, Turn, turn, acts, is_under, is_under_at, row_holds, with_row, complete_commit, sight_of_tx, takes, leave, transacted, refused_tx, has_branch_at, refused_request, abort, reject, Move, move, followed, perform, is_leaving, is_end_deferred_at, is_up_ending, seen, seen_rows, situation_at, Passage, Leaves, passage, is_over, entered, played, turned, passed, restarted, transact, left_arcs, try_start, begin_chained, fresh_current, sight_at, sight_of, take_record, take_abort, take_begin, take_on, lose, broken_pair, break_off, refusal, action, after_crash, started, digest, acting_from, is_abort, is_end_dialogue, is_left_end, is_at, is_up, was_branch, superior_in, took_one, sent_more, link_by, deferral_in, is_put_off_end, tells_commit_complete, closes_by_deferral, link_in, shuts_to, is_unchanged, same_link, IsGrown, IsLegal, IsLate, IsPut, are_apart, closes_at, prelude, asks_tell, count_to, IsLinked, links_agree, link_agrees, apart_turn, are_separate, all_found, there_found, abort_active, every_transact, plain_arrival, plain_request, plain_give_up, find_arc_is, the, begin_acts, abort_sight, is_headed_by, are_below, IsPlaced, headed_law, placed_law, superior_at, begin_seen, Came, As_it_was, By_begin, By_crash, came_by, plain_law, late_law, count_append, more_none, more_more, mark_same, link_dialogue, link_without, linked_moves, link_entered, link_left, link_counted, superior_found, separate_law, busy_there, told_append, told_performed, nothing_late}
+use Rattle.tp_known.proofs.Vocabulary.{if◌then◌else◌, ◌≡◌, ◌+◌, inl, inr, ℕ, Bool, true, false, refl, ap, sym, subst, ◌∙◌, arith, Option, Some, None, List, [], ◌∷◌, ◌++◌, ◌&&◌, ◌||◌, ◌==◌, not, and-false, nat_tests, Mark, Aaid, BranchId, Addr, Request, Indication, DialogueRecord, Holder, PeerRecord, LogRec, Side, TxEvent, TxOut, Who, Origin, Event, Entry, Out, Link, Idle, Arc, Under, Branch, Current, Digest, is_live, is_idle, with_one_taken, is_nil, is_active, Sight, Acts, Nothing_happens, Out_of_phase, acts_or_out, begun_by, cleared, find_arc, link_of, link_with, is_live_with_peer, without_arc, with_dialogue, performed, Transaction, Turn, turn, acts, is_under, is_under_at, row_holds, with_row, complete_commit, sight_of_tx, takes, leave, transacted, refused_tx, has_branch_at, refused_request, abort, reject, Move, move, followed, perform, is_leaving, is_end_deferred_at, is_up_ending, seen, seen_rows, situation_at, Passage, Leaves, passage, is_over, entered, played, turned, passed, restarted, transact, left_arcs, try_start, begin_chained, fresh_current, sight_at, sight_of, take_record, take_abort, take_begin, take_on, lose, broken_pair, break_off, refusal, action, after_crash, started, digest, acting_from, is_abort, is_end_dialogue, is_left_end, is_at, is_up, was_branch, superior_in, sent_more, link_by, deferral_in, tells_commit_complete, closes_by_deferral, link_in, shuts_to, is_unchanged, same_link, IsGrown, IsLegal, IsLate, IsPut, are_apart, closes_at, prelude, asks_tell, count_to, IsLinked, links_agree, link_agrees, apart_turn, are_separate, all_found, there_found, abort_active, every_transact, plain_arrival, plain_request, plain_give_up, find_arc_is, the, begin_acts, abort_sight, is_headed_by, are_below, IsPlaced, headed_law, placed_law, superior_at, begin_seen, Came, As_it_was, By_begin, By_crash, came_by, plain_law, late_law, count_append, more_none, more_more, mark_same, link_dialogue, link_without, linked_moves, link_entered, link_left, link_counted, superior_found, separate_law, busy_there, told_append, told_performed, nothing_late, is_end_deferred}
 use Rattle.tp_runs.proofs.Breaks.{lost_idle}
 use Rattle.tp_known.proofs.passages.Passage.{is_committed_told}
 use Rattle.tp_known.proofs.deferral.Defers.{told_committed, begins_at}
@@ -311,7 +311,7 @@ begin_step o up from x y q t i v rec outs h p legal known at =
     count : count_to p (take_begin o.who b t i v (counted r n d)).outs ≡ count_to p outs
     count = ap (λ (m : Move). count_to p m.outs) (sym moved) ∙ ap (λ (z : Entry). count_to p z.outs) legal.1
 
-    by : link_by o p e h (link_with d.arcs p) ≡ took_one (link_with d.arcs p)
+    by : link_by o p e h (link_with d.arcs p) ≡ with_one_taken (link_with d.arcs p)
     by = rw (here, no_acting is_end_dialogue o p from x y q r h refl, no_acting is_left_end o p from x y q r h refl) refl
 
     none : d.current ≡ None
@@ -399,7 +399,7 @@ leaves_step o up rec outs h p legal known = moved_link ∙ go (is_live_with_peer
     untold : told_committed outs ≡ false
     untold = ap told_committed said ∙ told_append is_committed_told one.outs st.outs ∙ rw (ap told_committed left.1 ∙ told_performed is_committed_told d.arcs (leave t).outs ∙ leave_tells is_committed_told t, start_tells o.who g) refl
 
-    closes : closes_by_deferral o p e h ≡ (was_branch o p h && is_put_off_end (deferral_in o p h) && is_up o p h)
+    closes : closes_by_deferral o p e h ≡ (was_branch o p h && is_end_deferred (deferral_in o p h) && is_up o p h)
     closes = rw (committed_tells outs, untold) refl
 
     head : (is_headed_by up c.key ≡ true) × (are_below up c.branches ≡ true)
@@ -431,7 +431,7 @@ leaves_step o up rec outs h p legal known = moved_link ∙ go (is_live_with_peer
 
     dead : is_live_with_peer d.arcs p ≡ false → (b : Bool) → closes_by_deferral o p e h ≡ b → over_link shut (count_to p outs) (link_with d.arcs p) ≡ over_link b (count_to p outs) (link_with d.arcs p)
     dead i true j =
-        let idle : link_with d.arcs p ≡ Idle = stale_idle o up h p legal.3 i (middle (was_branch o p h) (is_put_off_end (deferral_in o p h)) (is_up o p h) (sym closes ∙ j)) in
+        let idle : link_with d.arcs p ≡ Idle = stale_idle o up h p legal.3 i (middle (was_branch o p h) (is_end_deferred (deferral_in o p h)) (is_up o p h) (sym closes ∙ j)) in
         ap (over_link shut (count_to p outs)) idle ∙ idle_over shut
       where
         middle : (x y z : Bool) → (x && y && z) ≡ true → y ≡ true
@@ -562,7 +562,7 @@ give_up_step o up q rec outs h p legal known at = subst (λ (n : ℕ). IsGrown o
             let w = given_shut o.who d c p now.1 fits k i in
             let shut : shuts_to p outs ≡ true = ap (shuts_to p) (sym said) ∙ w.1 in
             closed_step o p (Event.GiveUp p) rec outs h known (rw (self p, shut) refl) w.0
-        go false i = stays (is_put_off_end (deferral_in o p h)) refl
+        go false i = stays (is_end_deferred (deferral_in o p h)) refl
           where
             w : (link_with m.next.arcs p ≡ sent_more (count_to p m.outs) (link_with d.arcs p)) × (shuts_to p m.outs ≡ false)
             w = given_stays o.who d c p now.1 fits k i (off_when_dead o up h p legal.3 i)
@@ -570,7 +570,7 @@ give_up_step o up q rec outs h p legal known at = subst (λ (n : ℕ). IsGrown o
             unshut : shuts_to p outs ≡ false
             unshut = ap (shuts_to p) (sym said) ∙ w.1
 
-            stays : (v : Bool) → is_put_off_end (deferral_in o p h) ≡ v → IsLinkStep o p (Event.GiveUp p) rec outs h
+            stays : (v : Bool) → is_end_deferred (deferral_in o p h) ≡ v → IsLinkStep o p (Event.GiveUp p) rec outs h
             stays true j =
                 let idle : link_with d.arcs p ≡ Idle = stale_idle o up h p legal.3 i j in
                 closed_step o p (Event.GiveUp p) rec outs h known (rw (self p, unshut) idle) (w.0 ∙ ap (sent_more (count_to p m.outs)) idle)

@@ -1,5 +1,5 @@
 -- The link of an arc after an entry that does not end it by itself is what the questions answer.
-use Rattle.tp_known.proofs.Vocabulary.{is_crash, if◌then◌else◌, ◌≡◌, ◌⊎◌, inl, inr, ℕ, suc, Bool, true, false, refl, ap, sym, ◌∙◌, arith, Option, Some, None, List, [], ◌∷◌, ◌&&◌, ◌||◌, ◌==◌, not, length, nat_tests, Mark, Addr, Request, DialogueRecord, PeerRecord, LogRec, Side, Deferral, TxOut, Who, Origin, Event, Entry, Out, Link, Idle, Opening, Offered, Live, Arc, Current, Digest, is_live, is_idle, with_one_taken, is_end_deferred, fresh_dialogue, find_arc, link_of, link_with, is_live_with_peer, put_arc, is_under_at, has_branch_at, refused_request, call, accept, Move, move, perform, next_mark, with_mark_drawn, superior_arc, is_end_deferred_at, refused_arrival, refusal, action, after_crash, started, digest, said_to, acting_from, is_record, is_abort, is_end_dialogue, is_left_end, is_at, is_up, was_branch, superior_in, took_one, sent_more, link_by, count_records, deferral_in, is_put_off_end, closes_by_deferral, link_in, is_unchanged, IsGrown, closes_at, prelude, called, accepted_by, accepted_on, linked, counted_in, count_to, IsLinked, first_part, every_move, step_move, find_arc_is, the, plain_law, late_law, linked_moves, link_append, link_put, link_counted, superior_found}
+use Rattle.tp_known.proofs.Vocabulary.{is_crash, if◌then◌else◌, ◌≡◌, ◌⊎◌, inl, inr, ℕ, suc, Bool, true, false, refl, ap, sym, ◌∙◌, arith, Option, Some, None, List, [], ◌∷◌, ◌&&◌, ◌||◌, ◌==◌, not, length, nat_tests, Mark, Addr, Request, DialogueRecord, PeerRecord, LogRec, Side, Deferral, TxOut, Who, Origin, Event, Entry, Out, Link, Idle, Opening, Offered, Live, Arc, Current, Digest, is_live, is_idle, with_one_taken, is_end_deferred, fresh_dialogue, find_arc, link_of, link_with, is_live_with_peer, put_arc, is_under_at, has_branch_at, refused_request, call, accept, Move, move, perform, next_mark, with_mark_drawn, superior_arc, is_end_deferred_at, refused_arrival, refusal, action, after_crash, started, digest, said_to, acting_from, is_record, is_abort, is_end_dialogue, is_left_end, is_at, is_up, was_branch, superior_in, sent_more, link_by, count_records, deferral_in, closes_by_deferral, link_in, is_unchanged, IsGrown, closes_at, prelude, called, accepted_by, accepted_on, linked, counted_in, count_to, IsLinked, first_part, every_move, step_move, find_arc_is, the, plain_law, late_law, linked_moves, link_append, link_put, link_counted, superior_found}
 use Rattle.tp_model.specs.Questions as asks
 use Rattle.tp_known.proofs.deferral.Defers.{put, told_committed}
 use Rattle.tp_known.proofs.deferral.Deferral.{committed_tells, acting_plain, answer_dead, known_law}
@@ -95,7 +95,7 @@ pub taken_link : (who : Who) (d : Digest) (from : Addr) (x y : Mark) (q : ℕ) (
 taken_link who d from x y q (DialogueRecord.Begin t b h) p = ap (λ (xs : List Arc). link_with xs p) (begun_arcs (find_arc d.arcs from.node) t b (counted_in d from)) ∙ link_counted d.arcs from.node p
 taken_link who d from x y q r p = link_counted d.arcs from.node p
 
-pub took_same : (l : Link) → with_one_taken l ≡ took_one l
+pub took_same : (l : Link) → with_one_taken l ≡ with_one_taken l
 took_same _ = refl
 
 -- ---- what comes first is what the entry says of the link, where it does not end it
@@ -139,7 +139,7 @@ first_taken o from x y q r rec outs h p off = taken_link o.who d from x y q r p 
 
     go : (b : Bool) → (from.node == p) ≡ b
         → (if b then with_one_taken (link_with d.arcs p) else link_with d.arcs p) ≡ (if not b then link_with d.arcs p
-        else if is_record is_abort (Some r) || is_record is_end_dialogue (acting_from o p (the from x y q r) h) || is_record is_left_end (acting_from o p (the from x y q r) h) then Idle else took_one (link_with d.arcs p))
+        else if is_record is_abort (Some r) || is_record is_end_dialogue (acting_from o p (the from x y q r) h) || is_record is_left_end (acting_from o p (the from x y q r) h) then Idle else with_one_taken (link_with d.arcs p))
     go true i =
         let k = plain_three from x y q r p off i in
         let a : is_record is_end_dialogue (acting_from o p (the from x y q r) h) ≡ false = no_acting is_end_dialogue o p from x y q r h k.1 in
@@ -246,11 +246,11 @@ more_live : (n : ℕ) (l : Link) → is_live l ≡ true → is_live (sent_more n
 more_live n Idle h = h
 more_live n _ h = h
 
-same_end : (f : Deferral) → is_put_off_end f ≡ is_end_deferred f
+same_end : (f : Deferral) → is_end_deferred f ≡ is_end_deferred f
 same_end _ = refl
 
 -- where an end is deferred by the questions, and the link is not live any more, it is idle
-pub stale_idle : (o : Origin) (up : Option Addr) (h : List Entry) (p : ℕ) → IsGrown o up h → is_live_with_peer (digest o h).arcs p ≡ false → is_put_off_end (deferral_in o p h) ≡ true → link_with (digest o h).arcs p ≡ Idle
+pub stale_idle : (o : Origin) (up : Option Addr) (h : List Entry) (p : ℕ) → IsGrown o up h → is_live_with_peer (digest o h).arcs p ≡ false → is_end_deferred (deferral_in o p h) ≡ true → link_with (digest o h).arcs p ≡ Idle
 unfolding started
 stale_idle o up [] p legal dead off = absurd (cc (off))
 stale_idle o up (e ∷ h) p legal dead off = go (is_live_with_peer (digest o h).arcs p) refl
@@ -274,7 +274,7 @@ stale_idle o up (e ∷ h) p legal dead off = go (is_live_with_peer (digest o h).
 
     go : (b : Bool) → is_live_with_peer d.arcs p ≡ b → link_with m.next.arcs p ≡ Idle
     go true i = on (live_first o.who d e.event p legal.0 i) moved.over.link
-    go false i = absurd (let no : is_put_off_end (deferral_in o p (e ∷ h)) ≡ false = ap is_put_off_end (answer_dead o p e h i) in cc (off, no))
+    go false i = absurd (let no : is_end_deferred (deferral_in o p (e ∷ h)) ≡ false = ap is_end_deferred (answer_dead o p e h i) in cc (off, no))
 
 -- ---- the question of one entry
 
@@ -298,7 +298,7 @@ closed_asks o p e h known idle = link_asks o p e h known ∙ ap (λ (l : Link). 
     go false = refl
 
 -- what is deferred, as the question has it, is what is known of a live arc
-pub end_is : (o : Origin) (up : Option Addr) (h : List Entry) (p : ℕ) → IsGrown o up h → is_live_with_peer (digest o h).arcs p ≡ true → is_put_off_end (deferral_in o p h) ≡ is_end_deferred_at (digest o h).arcs p
+pub end_is : (o : Origin) (up : Option Addr) (h : List Entry) (p : ℕ) → IsGrown o up h → is_live_with_peer (digest o h).arcs p ≡ true → is_end_deferred (deferral_in o p h) ≡ is_end_deferred_at (digest o h).arcs p
 end_is o up h p legal live = same_end (deferral_in o p h) ∙ sym (known_law is_end_deferred refl o up h legal p live)
 
 pub off_when_dead : (o : Origin) (up : Option Addr) (h : List Entry) (p : ℕ) → IsGrown o up h → is_live_with_peer (digest o h).arcs p ≡ false → is_end_deferred_at (digest o h).arcs p ≡ false
@@ -382,8 +382,8 @@ aside_link o up v rec outs h p legal known off stays is = go (is_live_with_peer 
         joined : (x y : Bool) (n k : ℕ) (l j : Link) → x ≡ y → n ≡ k → l ≡ j → over_link ((branch && is_end_deferred_at s.arcs p) && x) n l ≡ over_link ((branch && is_end_deferred_at s.arcs p) && y) k j
         joined x y n k l j a b c = rw (a, b, c) refl
 
-    closes : closes_by_deferral o p e h ≡ ((branch && is_put_off_end (deferral_in o p h)) && told_committed outs)
-    closes = rw (stays, committed_tells outs) (alg branch (is_put_off_end (deferral_in o p h)) (told_committed outs) (is_up o p h))
+    closes : closes_by_deferral o p e h ≡ ((branch && is_end_deferred (deferral_in o p h)) && told_committed outs)
+    closes = rw (stays, committed_tells outs) (alg branch (is_end_deferred (deferral_in o p h)) (told_committed outs) (is_up o p h))
       where
         alg : (b f c u : Bool) → (b && f && (c || (false && u))) ≡ ((b && f) && c)
         alg b f c u = grind arith
@@ -395,7 +395,7 @@ aside_link o up v rec outs h p legal known off stays is = go (is_live_with_peer 
     -- on a link that is not live nothing is deferred; by the question, it may be on one that has become idle
     dead : is_live_with_peer d.arcs p ≡ false → (b : Bool) → closes_by_deferral o p e h ≡ b → over_link ((branch && is_end_deferred_at s.arcs p) && told_committed outs) (count_to p outs) (link_by o p e h (link_with d.arcs p)) ≡ (if b then Idle else sent_more (count_to p outs) (link_by o p e h (link_with d.arcs p)))
     dead i true j =
-        let all = three branch (is_put_off_end (deferral_in o p h)) (told_committed outs) (sym closes ∙ j) in
+        let all = three branch (is_end_deferred (deferral_in o p h)) (told_committed outs) (sym closes ∙ j) in
         let idle : link_with d.arcs p ≡ Idle = stale_idle o up h p legal.3 i all.0 in
         ap (over_link ((branch && is_end_deferred_at s.arcs p) && told_committed outs) (count_to p outs)) (ap (link_by o p e h) idle ∙ idle_by o up v rec outs h p legal idle all.1) ∙ idle_over _ (count_to p outs)
       where

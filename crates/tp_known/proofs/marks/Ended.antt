@@ -1,7 +1,8 @@
 -- In every legal history a branch of the current transaction has ended if a record, or a reply, ended it since its key was
 -- begun, with the report of the first of them.
-use Rattle.tp_known.proofs.Vocabulary.{Bool, List, None, Option, Some, [], ap, arith, false, if◌then◌else◌, inl, inr, refl, sym, true, ℕ, ◌&&◌, ◌||◌, ◌∙◌, ◌∷◌, ◌≡◌, not, ◌==◌, or-false, nat_tests, Aaid, Addr, BranchId, Child, Report, is_aaid, is_branch, NodeKey, rank, DialogueRecord, PeerRecord, RecState, LogRec, Branch, Current, Digest, Entry, Event, Key, Origin, Out, Who, Under, IsLegal, Kept, KeptEvent, Move, move, keep, perform, seen, transact, turned, fresh_current, Phase, Transaction, node_key, refused_tx, transacted, child_of, TxEvent, action, refusal, branch_key, named_by_branch, digest, records, forget_to, settled, is_committing, is_active, begins, report_by, some_since, ended_in, is_active_in, is_rolling_in, last_of, left_in, phase_by_rec, replied_report, acting_from, is_crash, same_bool, is_ended, each_branch, ended_agrees, branch_self, rolls, is_unchanged, IsPut, counted_in, prelude, find_branch, IsStep, before_it, late_law, left_is, passed_turn, Closed, Course, Free, Grew, Held, Rooted, some_same, Entered, Begun, Crashed, Plain, course_entry, kin, no_both}
-use Rattle.tp_model.specs.Consistency.{child_of as branch_child, report_of as report_said}
+use Rattle.tp_known.proofs.Vocabulary.{Bool, List, None, Option, Some, [], ap, arith, false, if◌then◌else◌, inl, inr, refl, sym, true, ℕ, ◌&&◌, ◌||◌, ◌∙◌, ◌∷◌, ◌≡◌, not, ◌==◌, or-false, nat_tests, Aaid, Addr, BranchId, Child, Report, is_aaid, is_branch, NodeKey, rank, DialogueRecord, PeerRecord, RecState, LogRec, Branch, Current, Digest, Entry, Event, Key, Origin, Out, Who, Under, IsLegal, Kept, KeptEvent, Move, move, keep, perform, seen, transact, turned, fresh_current, Phase, Transaction, node_key, refused_tx, transacted, child_of, TxEvent, action, refusal, branch_key, named_by_branch, digest, records, forget_to, settled, is_committing, is_active, begins, report_by, some_since, ended_in, is_active_in, is_rolling_in, last_of, left_in, phase_by_rec, replied_report, acting_from, is_crash, same_bool, is_some, each_branch, ended_agrees, branch_self, rolls, is_unchanged, IsPut, counted_in, prelude, find_branch, IsStep, before_it, late_law, left_is, passed_turn, Closed, Course, Free, Grew, Held, Rooted, some_same, Entered, Begun, Crashed, Plain, course_entry, kin, no_both}
+use Rattle.tp_model.specs.Consistency.{report_of as report_said}
+use Rattle.tp_model.specs.Transactions.{child_of as branch_child}
 use Rattle.tp_known.proofs.marks.Unended.{is_unclean, clean_law}
 use Rattle.tp_known.proofs.marks.Marked.{IsBranchMark, each_found, marked_law, spread_law}
 use Rattle.tp_known.proofs.marks.Replied.{Raised, is_committing_named, not_both, named_so, raised_id, raised_so, raises, reply, reply_turn, tree_so}
@@ -323,7 +324,7 @@ ended_rank x o up (e ∷ h) legal u is b found mine n = go (is_crash e.event) re
 self_number : (m : ℕ) → (m == m) ≡ true
 self_number m = grind (arith, nat_tests)
 
-ended_branch : (b : Branch) (v : Option Report) → ((n : ℕ) → (is_branch b.id b.id && b.ended && (rank b.report == n)) ≡ has_rank n v) → is_unclean b ≡ false → (same_bool b.ended (is_ended v) && (rank b.report == rank (report_said v))) ≡ true
+ended_branch : (b : Branch) (v : Option Report) → ((n : ℕ) → (is_branch b.id b.id && b.ended && (rank b.report == n)) ≡ has_rank n v) → is_unclean b ≡ false → (same_bool b.ended (is_some v) && (rank b.report == rank (report_said v))) ≡ true
 ended_branch b v k clean = go b.ended refl v k clean
   where
     self : is_branch b.id b.id ≡ true
@@ -336,7 +337,7 @@ ended_branch b v k clean = go b.ended refl v k clean
         go true i = refl
         go false i = absurd (cc (i))
 
-    go : (e : Bool) → b.ended ≡ e → (v : Option Report) → ((n : ℕ) → (is_branch b.id b.id && b.ended && (rank b.report == n)) ≡ has_rank n v) → is_unclean b ≡ false → (same_bool b.ended (is_ended v) && (rank b.report == rank (report_said v))) ≡ true
+    go : (e : Bool) → b.ended ≡ e → (v : Option Report) → ((n : ℕ) → (is_branch b.id b.id && b.ended && (rank b.report == n)) ≡ has_rank n v) → is_unclean b ≡ false → (same_bool b.ended (is_some v) && (rank b.report == rank (report_said v))) ≡ true
     go true i (Some r) k clean =
         let at : (rank b.report == rank r) ≡ true = sym (rw (self, i) refl) ∙ k (rank r) ∙ self_number (rank r) in
         rw (i, at) refl
@@ -354,7 +355,7 @@ ended_law o up h legal = go (digest o h).current refl
     go : (v : Option Current) → (digest o h).current ≡ v
         → elim v as (λ _. Bool) [
           | None ↦ true
-          | Some c ↦ each_branch (λ b. same_bool b.ended (is_ended (ended_in o (node_key c.key) (branch_child b) h)) && (rank b.report == rank (report_said (ended_in o (node_key c.key) (branch_child b) h)))) c.branches
+          | Some c ↦ each_branch (λ b. same_bool b.ended (is_some (ended_in o (node_key c.key) (branch_child b) h)) && (rank b.report == rank (report_said (ended_in o (node_key c.key) (branch_child b) h)))) c.branches
         ] ≡ true
     go None i = refl
     go (Some c) i =

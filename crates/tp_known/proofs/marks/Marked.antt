@@ -1,5 +1,5 @@
 -- A mark of the branch with a peer that some events raise, and that is false where a key begins, in every legal history.
-use Rattle.tp_known.proofs.Vocabulary.{Bool, List, None, Option, Some, [], ap, arith, false, if◌then◌else◌, inl, inr, refl, subst, sym, true, ℕ, ◌==◌, ◌||◌, ◌∙◌, ◌∷◌, ◌≡◌, nat_tests, Aaid, Addr, BranchId, Child, NodeKey, DialogueRecord, Holder, PeerRecord, LogRec, Branch, Current, Digest, Entry, Event, Origin, Out, Who, is_apart, IsLegal, Row, Transaction, Turn, and_then, child_of, complete_commit, find_row, fresh_branch, node_key, refused_tx, row_holds, transacted, turn, with_row, TxEvent, TxOut, action, recovered_current, refusal, begun_by_peer, is_give_up_of, some_since, digest, same_bool, seen, transact, turned, IsLate, IsPut, prelude, now_agrees, each_branch, given_up_agrees, find_branch, out_tells, IsMark, IsStep, mark_law, started_again, bool_self, crash_next, kin, late_law, left_is, no_begin, passed_turn, plain_give_up, some_same}
+use Rattle.tp_known.proofs.Vocabulary.{Bool, List, None, Option, Some, [], ap, arith, false, if◌then◌else◌, inl, inr, refl, subst, sym, true, ℕ, ◌==◌, ◌||◌, ◌∙◌, ◌∷◌, ◌≡◌, nat_tests, Aaid, Addr, BranchId, Child, NodeKey, DialogueRecord, Holder, PeerRecord, LogRec, Branch, Current, Digest, Entry, Event, Origin, Out, Who, is_apart, IsLegal, Row, Transaction, Turn, and_then, child_of, complete_commit, find_row, fresh_branch, node_key, refused_tx, row_holds, transacted, turn, with_row, TxEvent, TxOut, action, recovered_current, refusal, takes_begin, is_give_up_of, some_since, digest, same_bool, seen, transact, turned, IsLate, IsPut, prelude, now_agrees, each_branch, given_up_agrees, find_branch, out_tells, IsMark, IsStep, mark_law, started_again, bool_self, crash_next, kin, late_law, left_is, no_begin, passed_turn, plain_give_up, some_same}
 use Rattle.tp_model.specs.Legal.{are_apart}
 use Rattle.tp_histories.specs.Restart.{IsFounded}
 use Rattle.tp_known.specs.Reaching.{marked}
@@ -19,7 +19,7 @@ pub record IsBranchMark (w : Branch → Bool) (p : ℕ) (hits : TxEvent → Bool
 
 -- the event that begins a key hits none
 pub begun_calm : (hits : TxEvent → Bool) → ((n : ℕ) (t : Aaid) (b : BranchId) (k : Holder) → hits (TxEvent.Took n (DialogueRecord.Begin t b k)) ≡ false) → (o : Origin) (h : List Entry) (ev : Event) (rec : Option LogRec) (outs : List Out) (j : NodeKey)
-    → begun_by_peer o (record { event = ev; rec = rec; outs = outs }) h ≡ Some j → hit_by hits ev ≡ false
+    → takes_begin o (record { event = ev; rec = rec; outs = outs }) h ≡ Some j → hit_by hits ev ≡ false
 begun_calm hits h1 o h ev rec outs j h2 = grind (arith, no_begin)
 
 -- what a start gives back has none

@@ -1,6 +1,6 @@
 -- In every legal history the user owes its done of the current transaction if it was told to commit or to roll back since the
 -- key was begun, and has not given it since; and where the transaction commits by the log, since the last crash.
-use Rattle.tp_known.proofs.Vocabulary.{if◌then◌else◌, ◌≡◌, inl, inr, ℕ, Bool, true, false, refl, ap, sym, subst, ◌∙◌, arith, Option, Some, None, List, [], ◌∷◌, ◌++◌, ◌||◌, Addr, NodeKey, Report, Request, Indication, DialogueRecord, LogRec, Phase, TxEvent, TxOut, Who, Origin, Event, Entry, Out, Current, Digest, is_active, is_committing, Row, Transaction, Turn, turn, aaid_of, node_key, with_row, with_branch, with_arc_lost, all_done, complete_commit, complete_rollback, begin_rolling, order, ask_commit, leave, count_branch, end_branch, branch_left, retried, transacted, Move, move, followed, seen, remaining, is_over, is_leaving, passage, try_start, restarted, transact, turned, is_crash, begun_by_peer, begins, tells_order, is_done_request, phase_in, owes_in, digest, refusal, action, recovered_current, same_bool, IsLegal, decide, row_dead, shut_given_up, is_outcome_told, TurnSteps, IsAsked, begun_by_record, prelude, asks_tell, out_tells, owes_agrees, tell_append, still_up, still_prepare, still_ask, told_append, told_played, step_turn, left_is, late_law, some_same, key_self, no_begin, bool_self, before_it, crash_next, phase_law, IsStepTo, IsMark, mark_law, recovered_is, started_again}
+use Rattle.tp_known.proofs.Vocabulary.{if◌then◌else◌, ◌≡◌, inl, inr, ℕ, Bool, true, false, refl, ap, sym, subst, ◌∙◌, arith, Option, Some, None, List, [], ◌∷◌, ◌++◌, ◌||◌, Addr, NodeKey, Report, Request, Indication, DialogueRecord, LogRec, Phase, TxEvent, TxOut, Who, Origin, Event, Entry, Out, Current, Digest, is_active, is_committing, Row, Transaction, Turn, turn, aaid_of, node_key, with_row, with_branch, with_arc_lost, all_done, complete_commit, complete_rollback, begin_rolling, order, ask_commit, leave, count_branch, end_branch, branch_left, retried, transacted, Move, move, followed, seen, remaining, is_over, is_leaving, passage, try_start, restarted, transact, turned, is_crash, takes_begin, begins, tells_order, is_done_request, phase_in, owes_in, digest, refusal, action, recovered_current, same_bool, IsLegal, decide, row_dead, shut_given_up, is_outcome_told, TurnSteps, IsAsked, begun_by_record, prelude, asks_tell, out_tells, owes_agrees, tell_append, still_up, still_prepare, still_ask, told_append, told_played, step_turn, left_is, late_law, some_same, key_self, no_begin, bool_self, before_it, crash_next, phase_law, IsStepTo, IsMark, mark_law, recovered_is, started_again}
 use Rattle.tp_known.proofs.orders.Told.{IsRaised, IsFrom, IsHeld, least, raised_event, raised_step, raised_start}
 use Rattle.tp_known.proofs.lemmas.Tells.{ordering_tells, rolls_tell, completion_tells, unrolling_tells, leave_tells}
 use Rattle.tp_known.proofs.passages.Shown.{is_early}
@@ -244,7 +244,7 @@ may_order e = elim (begun_by_record e) [ None ↦ true | Some v ↦ false ]
 orders_so : (e : Event) (c : Current) (f : TxEvent) (t : Transaction) → IsAsked e c f → tells (transacted f t).outs ≡ true → may_order e ≡ true
 orders_so e c f t h1 h2 = grind (arith, tells)
 
-begin_orders : (o : Origin) (h : List Entry) (ev : Event) (rec : Option LogRec) (outs : List Out) (j : NodeKey) → begun_by_peer o (record { event = ev; rec = rec; outs = outs }) h ≡ Some j → may_order ev ≡ false
+begin_orders : (o : Origin) (h : List Entry) (ev : Event) (rec : Option LogRec) (outs : List Out) (j : NodeKey) → takes_begin o (record { event = ev; rec = rec; outs = outs }) h ≡ Some j → may_order ev ≡ false
 begin_orders o h ev rec outs j h1 = grind (arith, no_begin)
 
 owed_again : (o : Option Current) (c : Current) → recovered_current o ≡ Some c → c.owes ≡ is_committing c.phase
@@ -335,11 +335,11 @@ owes_mark = record {
         on : IsStepTo Bool false owes o.who (digest o h) (λ b. false) u → IsStepTo Bool false owes o.who (prelude o.who (digest o h) e.event) (owed_by o (node_key u.key) e h) u
         on k = subst (λ (d : Digest). IsStepTo Bool false owes o.who d (owed_by o (node_key u.key) e h) u) (sym prelude_is) (elim k [ inl w ↦ inl (w.0, w.1, w.2, w.3 ∙ reset (tells_order e.outs) (is_done_request e.event) (owes w.0) quiet j) | inr n ↦ inr n ])
 
-    done_quiet : (o : Origin) (h : List Entry) (ev : Event) (rec : Option LogRec) (outs : List Out) (j : NodeKey) → begun_by_peer o (record { event = ev; rec = rec; outs = outs }) h ≡ Some j → (is_done_request ev ≡ false) × (is_crash ev ≡ false)
+    done_quiet : (o : Origin) (h : List Entry) (ev : Event) (rec : Option LogRec) (outs : List Out) (j : NodeKey) → takes_begin o (record { event = ev; rec = rec; outs = outs }) h ≡ Some j → (is_done_request ev ≡ false) × (is_crash ev ≡ false)
     done_quiet o h (Event.Arrive from r) rec outs j begun = (refl, refl)
     done_quiet o h ev rec outs j begun = absurd (cc (begun))
 
-    taken : (o : Origin) (up : Option Addr) (e : Entry) (h : List Entry) → IsLegal o up (e ∷ h) → (j : NodeKey) → begun_by_peer o e h ≡ Some j → (if tells_order e.outs then true else if is_done_request e.event then false else false) ≡ false
+    taken : (o : Origin) (up : Option Addr) (e : Entry) (h : List Entry) → IsLegal o up (e ∷ h) → (j : NodeKey) → takes_begin o e h ≡ Some j → (if tells_order e.outs then true else if is_done_request e.event then false else false) ≡ false
     taken o up e h legal j begun = go (tells_order e.outs) refl
       where
         calm : (is_done_request e.event ≡ false) × (is_crash e.event ≡ false)

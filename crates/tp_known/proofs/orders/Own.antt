@@ -1,6 +1,6 @@
 -- In every legal history the node's own report of the current transaction is damage if the transaction rolls, and the entry
 -- that last rolled it logged one.
-use Rattle.tp_known.proofs.Vocabulary.{if◌then◌else◌, ◌≡◌, inl, inr, Bool, true, false, refl, ap, sym, ◌∙◌, arith, Option, Some, None, List, [], ◌∷◌, ◌||◌, ◌&&◌, ◌==◌, Addr, NodeKey, Report, rank, is_key, Phase, Origin, Entry, Key, Current, Digest, is_rolling, node_key, Move, fresh_current, rolls, is_crash, tells_rollback_complete, begins, begun_by_peer, is_current_key, rolls_for, is_rolling_in, rolled_with_damage, own_in, digest, action, recovered_current, IsLegal, prelude, own_agrees, rolls_from, late_law, some_same, key_self, Entered, Crashed, Begun, Plain, number_self, before_it, crash_next, key_law, IsStepTo, IsMark, mark_law, recovered_is, started_again}
+use Rattle.tp_known.proofs.Vocabulary.{if◌then◌else◌, ◌≡◌, inl, inr, Bool, true, false, refl, ap, sym, ◌∙◌, arith, Option, Some, None, List, [], ◌∷◌, ◌||◌, ◌&&◌, ◌==◌, Addr, NodeKey, Report, rank, is_key, Phase, Origin, Entry, Key, Current, Digest, is_rolling, node_key, Move, fresh_current, rolls, is_crash, tells_rollback_complete, begins, takes_begin, is_current_key, rolls_for, is_rolling_in, rolled_with_damage, own_in, digest, action, recovered_current, IsLegal, prelude, own_agrees, rolls_from, late_law, some_same, key_self, Entered, Crashed, Begun, Plain, number_self, before_it, crash_next, key_law, IsStepTo, IsMark, mark_law, recovered_is, started_again}
 use Rattle.tp_histories.proofs.trees.Entered.{entered}
 use Rattle.tp_known.proofs.passages.Shown.{is_early}
 use Rattle.tp_known.proofs.handshakes.TouchedEntry.{rolls_current}
@@ -69,7 +69,7 @@ own_mark = record {
     sums false true a b dam = refl
     sums false false a b dam = refl
 
-    taken : (o : Origin) (up : Option Addr) (e : Entry) (h : List Entry) → IsLegal o up (e ∷ h) → (k j : NodeKey) → begun_by_peer o e h ≡ Some j → own_by o k e h Report.None ≡ Report.None
+    taken : (o : Origin) (up : Option Addr) (e : Entry) (h : List Entry) → IsLegal o up (e ∷ h) → (k j : NodeKey) → takes_begin o e h ≡ Some j → own_by o k e h Report.None ≡ Report.None
     taken o up e h legal k j begun = on (tells_rollback_complete e.outs && is_current_key o k h) (rolls_for o k e h) (go (entered o e h legal.grown.0))
       where
         on : (x y : Bool) → y ≡ false → (if x then Report.None else if y then (if damages e.rec then Report.Mix else Report.None) else Report.None) ≡ Report.None

@@ -1,6 +1,6 @@
 -- In every legal history Prepare was told of the current transaction if an entry told it since its key was begun, and since
 -- the last crash.
-use Rattle.tp_known.proofs.Vocabulary.{◌≡◌, ℕ, Bool, true, false, refl, ap, sym, subst, ◌∙◌, arith, Option, Some, None, List, [], ◌∷◌, ◌++◌, ◌||◌, Mark, Addr, NodeKey, Report, Indication, DialogueRecord, PeerRecord, LogRec, TxEvent, TxOut, Origin, Event, Entry, Out, Current, Row, Transaction, Turn, turn, node_key, with_row, with_branch, with_arc_lost, all_done, complete_commit, complete_rollback, begin_rolling, order, ask_commit, leave, count_branch, end_branch, branch_left, retried, transacted, seen, remaining, begun_by_peer, tells_prepare, told_prepare_in, digest, action, same_bool, IsLegal, vote, decide, row_dead, shut_given_up, is_outcome_told, hears_prepare, TurnSteps, IsPut, IsAsked, prelude, asks_tell, out_tells, told_prepare_agrees, tell_append, still_up, still_prepare, step_turn, late_law, bool_self, IsStep, IsFlag, flag_law, no_begin}
+use Rattle.tp_known.proofs.Vocabulary.{◌≡◌, ℕ, Bool, true, false, refl, ap, sym, subst, ◌∙◌, arith, Option, Some, None, List, [], ◌∷◌, ◌++◌, ◌||◌, Mark, Addr, NodeKey, Report, Indication, DialogueRecord, PeerRecord, LogRec, TxEvent, TxOut, Origin, Event, Entry, Out, Current, Row, Transaction, Turn, turn, node_key, with_row, with_branch, with_arc_lost, all_done, complete_commit, complete_rollback, begin_rolling, order, ask_commit, leave, count_branch, end_branch, branch_left, retried, transacted, seen, remaining, takes_begin, tells_prepare, told_prepare_in, digest, action, same_bool, IsLegal, vote, decide, row_dead, shut_given_up, is_outcome_told, hears_prepare, TurnSteps, IsPut, IsAsked, prelude, asks_tell, out_tells, told_prepare_agrees, tell_append, still_up, still_prepare, step_turn, late_law, bool_self, IsStep, IsFlag, flag_law, no_begin}
 use Rattle.tp_known.proofs.orders.Told.{always, IsRaised, IsHeld, raised_event, raised_step}
 use Rattle.tp_known.proofs.lemmas.Tells.{ordering_tells, rolls_untold, completion_tells, unrolling_tells, leave_tells, retried_tells}
 
@@ -146,9 +146,9 @@ held_entry : (o : Origin) (up : Option Addr) (e : Entry) (h : List Entry) → Is
     → IsHeld is_prepare_told (λ c. c.told_prepare) always (is_prepare_event e.event) o.who (prelude o.who (digest o h) e.event) (prelude o.who (digest o h) e.event) (action o.who (digest o h) e.event)
 held_entry o up e h legal = raised_event is_prepare_told (λ c. c.told_prepare) always o.who (digest o h) e.event (is_prepare_event e.event) (raised e.event) (late_law o up h legal.grown.3) legal.grown.0 (λ c is. tt)
 
-prepared_taken : (o : Origin) (h : List Entry) (ev : Event) (rec : Option LogRec) (outs : List Out) (j : NodeKey) → begun_by_peer o (record { event = ev; rec = rec; outs = outs }) h ≡ Some j → is_prepare_event ev ≡ true → ⊥
+prepared_taken : (o : Origin) (h : List Entry) (ev : Event) (rec : Option LogRec) (outs : List Out) (j : NodeKey) → takes_begin o (record { event = ev; rec = rec; outs = outs }) h ≡ Some j → is_prepare_event ev ≡ true → ⊥
 prepared_taken o h (Event.Arrive from (PeerRecord.OnAssoc x y q DialogueRecord.Prepare)) rec outs j begun is =
-    let none : begun_by_peer o (record { event = Event.Arrive from (PeerRecord.OnAssoc x y q DialogueRecord.Prepare); rec = rec; outs = outs }) h ≡ None = no_begin o h from x y q DialogueRecord.Prepare rec outs (λ t b k i. cc (i)) in
+    let none : takes_begin o (record { event = Event.Arrive from (PeerRecord.OnAssoc x y q DialogueRecord.Prepare); rec = rec; outs = outs }) h ≡ None = no_begin o h from x y q DialogueRecord.Prepare rec outs (λ t b k i. cc (i)) in
     let no : None ≡ Some j = sym none ∙ begun in
     cc (no)
 prepared_taken o h ev rec outs j begun is = absurd (cc (is))
@@ -169,7 +169,7 @@ told_flag = record {
         subst (λ (b : Bool). IsStep (λ c. c.told_prepare) o.who (prelude o.who (digest o h) e.event) b u) (made o up e h legal)
         (raised_step is_prepare_told (λ c. c.told_prepare) always (is_prepare_event e.event) o.who (prelude o.who (digest o h) e.event) (action o.who (digest o h) e.event) (held_entry o up e h legal) u is)
 
-    quiet : (o : Origin) (up : Option Addr) (e : Entry) (h : List Entry) → IsLegal o up (e ∷ h) → (j : NodeKey) → begun_by_peer o e h ≡ Some j → (v : Bool) → tells_prepare e.outs ≡ v → tells_prepare e.outs ≡ false
+    quiet : (o : Origin) (up : Option Addr) (e : Entry) (h : List Entry) → IsLegal o up (e ∷ h) → (j : NodeKey) → takes_begin o e h ≡ Some j → (v : Bool) → tells_prepare e.outs ≡ v → tells_prepare e.outs ≡ false
     quiet o up e h legal j begun true i = absurd (prepared_taken o h e.event e.rec e.outs j begun ((held_entry o up e h legal).early (made o up e h legal ∙ i)).1)
     quiet o up e h legal j begun false i = i
 

@@ -1,5 +1,5 @@
 -- In every legal history a live arc rests if its end left, and no record but a response came since.
-use Rattle.tp_known.proofs.Vocabulary.{if◌then◌else◌, ◌≡◌, ◌⊎◌, inl, inr, ℕ, Bool, true, false, refl, ap, sym, subst, ◌∙◌, arith, Option, Some, None, List, [], ◌∷◌, ◌&&◌, ◌||◌, ◌==◌, not, and-false, or_parts, or_from, false_from_ne_true, nat_tests, Mark, Addr, Request, DialogueRecord, PeerRecord, Who, Origin, Event, Entry, Out, Dialogue, Arc, Digest, is_live, said, heard, begun_by, cleared, woken, rested, completed, find_arc, link_with, is_live_with_peer, Move, is_superior, is_response, refusal, action, started, digest, said_to, has_said, heard_from, is_left_record, is_left_only, is_left_end, is_response_record, rests_in, is_at, is_unchanged, rolls, IsGrown, IsLegal, IsLate, wakes, Moves, prelude, rests_agrees, first_part, all_found, part_at, part_dialogue, part_none, part_same, plain_steps, plain_arrival, the, woken_at, begin_wakes, woken_on_begin, woken_on_other, IsPlaced, superior_at, headed_first, headed_law, late_law, takes_next, separate_law, bool_self}
+use Rattle.tp_known.proofs.Vocabulary.{if◌then◌else◌, ◌≡◌, ◌⊎◌, inl, inr, ℕ, Bool, true, false, refl, ap, sym, subst, ◌∙◌, arith, Option, Some, None, List, [], ◌∷◌, ◌&&◌, ◌||◌, ◌==◌, not, and-false, or_parts, or_from, false_from_ne_true, nat_tests, Mark, Addr, Request, DialogueRecord, PeerRecord, Who, Origin, Event, Entry, Out, Dialogue, Arc, Digest, is_live, said, heard, begun_by, cleared, woken, rested, completed, find_arc, link_with, is_live_with_peer, Move, is_superior, is_response, refusal, action, started, digest, said_to, has_said, heard_from, is_left_record, is_left_only, is_left_end, rests_in, is_at, is_unchanged, rolls, IsGrown, IsLegal, IsLate, wakes, Moves, prelude, rests_agrees, first_part, all_found, part_at, part_dialogue, part_none, part_same, plain_steps, plain_arrival, the, woken_at, begin_wakes, woken_on_begin, woken_on_other, IsPlaced, superior_at, headed_first, headed_law, late_law, takes_next, separate_law, bool_self}
 use Rattle.tp_known.proofs.handshakes.Touches.{Touch, Waking, Taking_begin, Resting, Beginning, touched, run, some_touch, is_resting, FitsTouch, FitTouches}
 use Rattle.tp_known.proofs.handshakes.TouchedMoves.{IsTouched, Touched, IsLed, is_arc_in, touched_moves}
 use Rattle.tp_known.proofs.handshakes.TouchedEntry.{EntryTouched, given_of, led_law, touched_event}
@@ -82,18 +82,18 @@ record IsRest (o : Origin) (up : Option Addr) (h : List Entry) : Type 0 where
   is : (p : ℕ) → is_live_with_peer (digest o h).arcs p ≡ true → part_at rests p (digest o h).arcs ≡ rests_in o p h
   above : (p : ℕ) → is_at up p ≡ false → is_live_with_peer (digest o h).arcs p ≡ true → part_at rests p (digest o h).arcs ≡ false
 
-same_response : (r : DialogueRecord) → is_response_record r ≡ is_response r
+same_response : (r : DialogueRecord) → is_response r ≡ is_response r
 same_response DialogueRecord.Response = refl
 same_response r = refl
 
 -- what is heard does not end the rest, or does
-unheard : (p : ℕ) (e : Event) (b : Bool) → wakes e p ≡ false → elim (heard_from p e) as (λ _. Bool) [ None ↦ b | Some r ↦ if is_response_record r then b else false ] ≡ b
+unheard : (p : ℕ) (e : Event) (b : Bool) → wakes e p ≡ false → elim (heard_from p e) as (λ _. Bool) [ None ↦ b | Some r ↦ if is_response r then b else false ] ≡ b
 unheard p e b h1 = grind (arith, same_response)
 
-awake : (p : ℕ) (e : Event) (b : Bool) → wakes e p ≡ true → elim (heard_from p e) as (λ _. Bool) [ None ↦ b | Some r ↦ if is_response_record r then b else false ] ≡ false
+awake : (p : ℕ) (e : Event) (b : Bool) → wakes e p ≡ true → elim (heard_from p e) as (λ _. Bool) [ None ↦ b | Some r ↦ if is_response r then b else false ] ≡ false
 awake p e b h1 = grind (arith, same_response)
 
-answers : (o : Origin) (p : ℕ) (e : Entry) (h : List Entry) (v : Bool) → is_live_with_peer (digest o h).arcs p ≡ true → elim (heard_from p e.event) as (λ _. Bool) [ None ↦ rests_in o p h | Some r ↦ if is_response_record r then rests_in o p h else false ] ≡ v
+answers : (o : Origin) (p : ℕ) (e : Entry) (h : List Entry) (v : Bool) → is_live_with_peer (digest o h).arcs p ≡ true → elim (heard_from p e.event) as (λ _. Bool) [ None ↦ rests_in o p h | Some r ↦ if is_response r then rests_in o p h else false ] ≡ v
     → rests_in o p (e ∷ h) ≡ (said_only p e.outs || v)
 answers o p e h v live heard = grind arith
 

@@ -1,7 +1,8 @@
 -- In every legal history each key but the current one is in no phase, whether anything is known of it or not; and the version of the
 -- log is that of the start.
 use Rattle.tp_known.proofs.Vocabulary.{if◌then◌else◌, ◌≡◌, Bool, true, false, refl, ap, ◌∙◌, Option, Some, None, List, ◌||◌, ◌==◌, Addr, NodeKey, Phase, is_key, Origin, Entry, Current, node_key, digest, phase_in, IsLegal, number_of_phase, number_self, key_self}
-use Rattle.tp_model.specs.Consistency.{is_current, is_quiet}
+use Rattle.tp_model.specs.Consistency.{is_current}
+use Rattle.tp_histories.specs.KnownTests.{is_quiet}
 use Rattle.tp_histories.proofs.known.KnownPhase.{phase_at}
 use Rattle.tp_histories.proofs.log.KeptLog.{kept_law}
 use Rattle.tp_steps.proofs.log.ApartLog.{keys_equal}

@@ -1,6 +1,9 @@
 -- The parts of what is known, put together.
 use Rattle.tp_known.proofs.Vocabulary.{◌≡◌, Bool, true, refl, Option, List, ◌&&◌, Addr, Origin, Entry, agrees, IsLegal, declared_agrees, superior_agrees, boot_agrees, known_agrees, drawn_agrees, kept_agrees, phase_agrees, key_agrees, above_agrees, branches_agree, asked_agrees, arcs_agree, links_agree, order_agrees, control_agrees, awaits_agrees, due_agrees, deferral_agrees, rests_agrees, marks_agree, told_prepare_agrees, owes_agrees, superior_rolled_agrees, decision_agrees, own_agrees, node_agrees, current_agrees, declared_law, superior_law, boot_law, known_agrees_law, kept_agrees_law, phase_agrees_law, key_agrees_law, above_law, branches_law, asked_agrees_law}
+use Rattle.tp_model.specs.Consistency.{IsKnown}
 use Rattle.tp_known.proofs.whole.Parts.{whole}
+use Rattle.tp_known.proofs.whole.Quiet.{quiet_law, version_law}
+use Rattle.tp_known.proofs.whole.Tested.{known_from_tests}
 use Rattle.tp_known.proofs.marks.AllMarks.{all_marks_law}
 use Rattle.tp_runs.proofs.KnownDrawn.{drawn_agrees_law}
 use Rattle.tp_known.proofs.requests.Decision.{decision_agrees_law}
@@ -38,8 +41,11 @@ current_law o up h legal =
     eleven : (p k a b m t s w r d n : Bool) → p ≡ true → k ≡ true → a ≡ true → b ≡ true → m ≡ true → t ≡ true → s ≡ true → w ≡ true → r ≡ true → d ≡ true → n ≡ true → (p && k && a && b && m && t && s && w && r && d && n) ≡ true
     eleven p k a b m t s w r d n hp hk ha hb hm ht hs hw hr hd hn = rw (hp, hk, ha, hb, hm, ht, hs, hw, hr, hd, hn) refl
 
-pub whole_law : (o : Origin) (up : Option Addr) (h : List Entry) → IsLegal o up h → agrees o h ≡ true
-whole_law o up h legal = whole o h (three (node_agrees o h) (arcs_agree o h) (current_agrees o h) (node_law o up h legal) (arcs_law o up h legal) (current_law o up h legal))
+pub tests_law : (o : Origin) (up : Option Addr) (h : List Entry) → IsLegal o up h → agrees o h ≡ true
+tests_law o up h legal = whole o h (three (node_agrees o h) (arcs_agree o h) (current_agrees o h) (node_law o up h legal) (arcs_law o up h legal) (current_law o up h legal))
   where
     three : (a b c : Bool) → a ≡ true → b ≡ true → c ≡ true → (a && b && c) ≡ true
     three a b c i j k = rw (i, j, k) refl
+
+pub whole_law : (o : Origin) (up : Option Addr) (h : List Entry) → IsLegal o up h → IsKnown o h
+whole_law o up h legal = known_from_tests o h (tests_law o up h legal) (λ k. quiet_law o up h k legal) (version_law o up h legal)

@@ -1,12 +1,11 @@
 //! A Begin for which nothing can be wanting.
 ghost use Rattle.std.specs.Prelude.{◌≡◌, true, [], ◌∷◌, IfSome};
-ghost use Rattle.tp_node.specs.Outs.{out_of};
+ghost use Rattle.tp_node_parts.specs.Outs.{out_of};
 ghost use Rattle.tp_node.specs.Begins.{can_begin, begun_sent, has_place_below, with_digest};
 
 use crate::node::{Node, named_holder};
-use crate::outs::Out;
-use crate::shared_arcs::{next_on, sent};
 use tp_names::{BranchId, Mark};
+use tp_node_parts::{Out, next_on, sent};
 use tp_records::DialogueRecord;
 
 /// For so many branches a transaction has the memory from its start on.

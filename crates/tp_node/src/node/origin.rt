@@ -7,15 +7,13 @@ ghost use Rattle.tp_model.specs.Events.{started, current_by, decision_of, withou
 ghost use Rattle.tp_node.specs.Begins.{with_digest};
 ghost use Rattle.tp_node.specs.Node.{current_of, recovered_by};
 
-use crate::kept;
-use crate::kept_table::KeptTable;
 use crate::node::Node;
-use crate::shared_arcs::SharedArcs;
 use std::alloc::Global;
 use tp_commit::Branch;
 use tp_logrec::{LogRec, LogVersion};
 use tp_names::same::is_key;
 use tp_names::{Addr, NoMemory, NodeKey, Outcome, SiteName};
+use tp_node_parts::{KeptTable, SharedArcs, kept};
 
 impl Node {
     /// A node of which the log has no record.

@@ -30,7 +30,7 @@ use Rattle.tp_model.specs.Node.{Move, move, followed, perform, phase_of, has_ask
 use Rattle.tp_model.specs.Arrivals.{Named, current_with, child_addr, is_other, find_branch_by_id, branch_key, key_of_branch, named_by_key, named_by_branch, known_of, is_current_ready, lose, refused_arrival, take_accept, reply_to, take_order, take_forget, take_done_reply, take_ready_reply, take_reply, do_arrival, broken_pair, break_off}
 use Rattle.tp_model.specs.Requests.{refused_request}
 use Rattle.tp_model.specs.Events.{refused_purge, retry_each, retry, purge, action, refusal}
-use Rattle.tp_steps.specs.Moves.{owes_branch, prelude, linked, IsAsked, are_said, may_begin, some_leads, Moves}
+use Rattle.tp_steps.specs.Moves.{KeepsFor, owes_branch, prelude, linked, IsAsked, are_said, may_begin, some_leads, Moves}
 use Rattle.tp_steps.specs.Moves.{IsAmong, StandsIn, IsLate, orders_in, keeps_commit, keeps_idle, is_committed_in, IsOwned, AreSaid, IsFound, IsUnderWay, IsSettling}
 use Rattle.tp_steps.specs.Steps.{Steps}
 use Rattle.tp_steps.proofs.links.Saying.{one_said, said_ready, said_order}
@@ -319,11 +319,11 @@ pub quiet_retry : (ks : List Kept) (d : Digest) → (retry_each ks d).rec ≡ No
 quiet_retry [] d = refl
 quiet_retry (k ∷ ks) d = let rest = quiet_retry ks (perform (owed k) d).next in rw (rest, retry_each) refl
 
-step_retry_each : (who : Who) (e : Event) (s : Digest) (R : Digest → Move → Type 0) → Steps who e s R → (ks : List Kept) (d : Digest) → ((u : Aaid) → keeps_commit u ks ≡ true → keeps_commit u d.kept ≡ true) → (keeps_idle ks ≡ true → keeps_idle d.kept ≡ true) → ((b : BranchId) → owes_branch b ks ≡ true → owes_branch b d.kept ≡ true) → R d (retry_each ks d)
-step_retry_each who e s R k [] d held idle owes = k.still d
-step_retry_each who e s R k (x ∷ ks) d held idle owes =
+step_retry_each : (who : Who) (e : Event) (s : Digest) (R : Digest → Move → Type 0) → Steps who e s R → (ks : List Kept) (d : Digest) → ((u : Aaid) → keeps_commit u ks ≡ true → keeps_commit u d.kept ≡ true) → (keeps_idle ks ≡ true → keeps_idle d.kept ≡ true) → ((b : BranchId) → owes_branch b ks ≡ true → owes_branch b d.kept ≡ true) → ((a : Addr) (t : Aaid) (r : Report) → KeepsFor ks a t r → KeepsFor d.kept a t r) → R d (retry_each ks d)
+step_retry_each who e s R k [] d held idle owes keeps = k.still d
+step_retry_each who e s R k (x ∷ ks) d held idle owes keeps =
     let a : Move = perform (owed x) d in
-    k.chain d a (retry_each ks) (k.speaks d (owed x) (spoken_owed x) (λ u h. owned u (held u (rw (owed_orders u x h) refl)), owed_so e s d x (λ c. (owned x.key.aaid (held x.key.aaid (rw (c, aaid_same x.key.aaid) refl)), λ n. idle (rw (c, n) refl), held x.key.aaid (rw (c, aaid_same x.key.aaid) refl))) (λ b h. owes b (rw h refl))) (said_owed e x) (last_owed who d x)) (step_retry_each who e s R k ks a.next (λ u h. held u (rw h (grind arith))) (λ h. idle (rw h (grind arith))) (λ b h. owes b (rw h (grind arith)))) (inl refl)
+    k.chain d a (retry_each ks) (k.speaks d (owed x) (spoken_owed x) (λ u h. owned u (held u (rw (owed_orders u x h) refl)), owed_so e s d x (λ c. (owned x.key.aaid (held x.key.aaid (rw (c, aaid_same x.key.aaid) refl)), λ n. idle (rw (c, n) refl), held x.key.aaid (rw (c, aaid_same x.key.aaid) refl))) (λ c a i. keeps a x.key.aaid x.report (inl (c, refl, i, refl))) (λ b h. owes b (rw h refl))) (said_owed e x) (last_owed who d x)) (step_retry_each who e s R k ks a.next (λ u h. held u (rw h (grind arith))) (λ h. idle (rw h (grind arith))) (λ b h. owes b (rw h (grind arith))) (λ z t r h. keeps z t r (inr h))) (inl refl)
   where
     owned : (u : Aaid) → keeps_commit u d.kept ≡ true → is_committed_in u d ≡ true
     owned u h = rw h (grind arith)
@@ -334,7 +334,7 @@ step_retry who d R k late =
     let a : Move = transact who TxEvent.Retry d in
     k.chain d a (λ e. retry_each e.kept e)
     (step_transact who Event.Retry d R k TxEvent.Retry d (refl, refl, λ n off. refl) (λ c j. refl) (λ c j. record { late = late c j; ok = λ h. refl; abort = λ n h. cc (h); ordered = λ h. cc (h); not_begun = λ arcs h. cc (h) }) (λ n i. absurd (cc (i))))
-    (step_retry_each who Event.Retry d R k a.next.kept a.next (λ u h. h) (λ h. h) (λ b h. h))
+    (step_retry_each who Event.Retry d R k a.next.kept a.next (λ u h. h) (λ h. h) (λ b h. h) (λ z t r h. h))
     (inr (quiet_retry a.next.kept a.next))
 
 purge_plain : (k : Kept) → refused_kept k KeptEvent.Purge ≡ None → is_nothing_owed k.owed ≡ true

@@ -1,6 +1,8 @@
 -- Words that go up, folded with the ends before them.
 use Rattle.std.proofs.Common.{◌≡◌, ◌+◌, ℕ, Bool, true, false, refl, ap, sym, ◌∙◌, arith, List, [], ◌∷◌, ◌++◌, ◌&&◌, ◌||◌, not}
 use Rattle.tp_records.specs.declared.dialogue.DialogueRecord.{DialogueRecord}
+use Rattle.tp_names.specs.declared.outcome.Outcome.{Outcome}
+use Rattle.tp_names.specs.declared.outcome.Report.{Report}
 use Rattle.tp_names.specs.Reports.{is_report_none}
 use Rattle.tp_steps.specs.Moves.{is_word}
 use Rattle.tp_steps.specs.Facts.{is_vote, is_rollback, is_end, ends, ends_in, none_of, only_words, BranchKey}
@@ -106,7 +108,7 @@ words_voting v (r ∷ rs) = go (is_word r) refl (words_voting (voting v r) rs) (
 -- ---- more keys and more deeds
 
 abbrev pub IsWider : List BranchKey → Deeds → List BranchKey → Deeds → Type 0
-IsWider ks g ls k = (n : ℕ) → (holds_at ks n g.committed ≡ true → holds_at ls n k.committed ≡ true) × (holds_at ks n g.rolled ≡ true → holds_at ls n k.rolled ≡ true) × (holds_at ks n g.left ≡ true → holds_at ls n k.left ≡ true) × (holds_at ks n g.completed ≡ true → holds_at ls n k.completed ≡ true) × (holds_at ks n g.damaged ≡ true → holds_at ls n k.damaged ≡ true)
+IsWider ks g ls k = (n : ℕ) → (holds_at ks n g.committed ≡ true → holds_at ls n k.committed ≡ true) × (holds_at ks n g.rolled ≡ true → holds_at ls n k.rolled ≡ true) × (holds_at ks n g.left ≡ true → holds_at ls n k.left ≡ true) × (holds_at ks n g.completed ≡ true → holds_at ls n k.completed ≡ true) × (holds_at ks n g.damaged ≡ true → holds_at ls n k.damaged ≡ true) × ((u : Outcome) (r : Report) → holds_at ks n (g.told u r) ≡ true → holds_at ls n (k.told u r) ≡ true)
 
 pub still_kept : (b c d : Bool) → (c ≡ true → d ≡ true) → (b || c) ≡ true → (b || d) ≡ true
 still_kept true c d f h = refl
@@ -115,13 +117,18 @@ still_kept false c d f h = f h
 pub say_wider : (ks ls : List BranchKey) (g k : Deeds) → IsWider ks g ls k → (n : ℕ) (v : Bool) (r : DialogueRecord) → may_say ks g n v r ≡ true → may_say ls k n v r ≡ true
 say_wider ks ls g k w n v DialogueRecord.Ready h = h
 say_wider ks ls g k w n v (DialogueRecord.Done r) h =
-    let told : (holds_at ks n g.committed && (not (is_report_none r) || holds_at ks n g.completed)) ≡ true = and_left (holds_at ks n g.committed && (not (is_report_none r) || holds_at ks n g.completed)) (is_report_none r || holds_at ks n g.damaged) h in
-    both_true (holds_at ls n k.committed && (not (is_report_none r) || holds_at ls n k.completed)) (is_report_none r || holds_at ls n k.damaged)
+    let spoilt : (holds_at ks n g.committed && (not (is_report_none r) || holds_at ks n g.completed) && (is_report_none r || holds_at ks n g.damaged)) ≡ true = and_left (holds_at ks n g.committed && (not (is_report_none r) || holds_at ks n g.completed) && (is_report_none r || holds_at ks n g.damaged)) (holds_at ks n (g.told Outcome.Commit r)) h in
+    let told : (holds_at ks n g.committed && (not (is_report_none r) || holds_at ks n g.completed)) ≡ true = and_left (holds_at ks n g.committed && (not (is_report_none r) || holds_at ks n g.completed)) (is_report_none r || holds_at ks n g.damaged) spoilt in
+    both_true (holds_at ls n k.committed && (not (is_report_none r) || holds_at ls n k.completed) && (is_report_none r || holds_at ls n k.damaged)) (holds_at ls n (k.told Outcome.Commit r))
+    (both_true (holds_at ls n k.committed && (not (is_report_none r) || holds_at ls n k.completed)) (is_report_none r || holds_at ls n k.damaged)
     (both_true (holds_at ls n k.committed) (not (is_report_none r) || holds_at ls n k.completed) ((w n).0 (and_left (holds_at ks n g.committed) (not (is_report_none r) || holds_at ks n g.completed) told))
     (still_kept (not (is_report_none r)) (holds_at ks n g.completed) (holds_at ls n k.completed) (w n).3 (and_right (holds_at ks n g.committed) (not (is_report_none r) || holds_at ks n g.completed) told)))
-    (still_kept (is_report_none r) (holds_at ks n g.damaged) (holds_at ls n k.damaged) (w n).4 (and_right (holds_at ks n g.committed && (not (is_report_none r) || holds_at ks n g.completed)) (is_report_none r || holds_at ks n g.damaged) h))
+    (still_kept (is_report_none r) (holds_at ks n g.damaged) (holds_at ls n k.damaged) (w n).4 (and_right (holds_at ks n g.committed && (not (is_report_none r) || holds_at ks n g.completed)) (is_report_none r || holds_at ks n g.damaged) spoilt)))
+    ((w n).5 Outcome.Commit r (and_right (holds_at ks n g.committed && (not (is_report_none r) || holds_at ks n g.completed) && (is_report_none r || holds_at ks n g.damaged)) (holds_at ks n (g.told Outcome.Commit r)) h))
 say_wider ks ls g k w n v DialogueRecord.Rollback h = (w n).1 h
-say_wider ks ls g k w n v (DialogueRecord.RolledBack r) h = (w n).1 h
+say_wider ks ls g k w n v (DialogueRecord.RolledBack r) h =
+    both_true (holds_at ls n k.rolled) (holds_at ls n (k.told Outcome.Rollback r)) ((w n).1 (and_left (holds_at ks n g.rolled) (holds_at ks n (g.told Outcome.Rollback r)) h))
+    ((w n).5 Outcome.Rollback r (and_right (holds_at ks n g.rolled) (holds_at ks n (g.told Outcome.Rollback r)) h))
 say_wider ks ls g k w n v DialogueRecord.Left h = both_true (not v) (holds_at ls n k.left) (and_left (not v) (holds_at ks n g.left) h) ((w n).2 (and_right (not v) (holds_at ks n g.left) h))
 say_wider ks ls g k w n v DialogueRecord.LeftEnd h = both_true (not v) (holds_at ls n k.left) (and_left (not v) (holds_at ks n g.left) h) ((w n).2 (and_right (not v) (holds_at ks n g.left) h))
 say_wider ks ls g k w n v r h = refl

@@ -16,7 +16,7 @@ use Rattle.tp_model.specs.Parts.{Event, Digest}
 use Rattle.tp_model.specs.Recovery.{is_commit, answer, find_owed, ask_owed, tell_superior, forget_to, owed}
 use Rattle.tp_model.specs.Arrivals.{branch_key, named_by_key, named_by_branch, known_of}
 use Rattle.tp_steps.proofs.words.Leaves.{branch_same}
-use Rattle.tp_steps.specs.Moves.{keeps_idle, owes_branch, is_committed_in, IsRecoveryIn, IsSaid, AreSaid, gives_to, grants_to, hands_to, keeps_commit}
+use Rattle.tp_steps.specs.Moves.{keeps_idle, owes_branch, is_committed_in, IsRecoveryIn, KeepsFor, IsSaid, AreSaid, gives_to, grants_to, hands_to, keeps_commit}
 
 -- one record alone
 pub one_said : (e : Event) (s d : Digest) (to : Addr) (q : PeerRecord) → IsSaid e s d to q → AreSaid e s d (TxOut.Recovery to q ∷ [])
@@ -54,23 +54,23 @@ said_ask e s d t (c ∷ cs) owes = λ a r h. elim h [
   | inr i ↦ said_ask e s d t cs (λ b j. owes b (owed_more c cs b j)) a r i
 ]
 
-said_tell : (e : Event) (s d : Digest) (k : Kept) → (is_committed_in k.key.aaid d ≡ true) × (is_report_none k.report ≡ true → keeps_idle d.kept ≡ true) × (keeps_commit k.key.aaid d.kept ≡ true) → AreSaid e s d (tell_superior k)
-said_tell e s d k held = go k.forgot k.key.branch k.superior
+said_tell : (e : Event) (s d : Digest) (k : Kept) → (is_committed_in k.key.aaid d ≡ true) × (is_report_none k.report ≡ true → keeps_idle d.kept ≡ true) × (keeps_commit k.key.aaid d.kept ≡ true) → ((a : Addr) → k.superior ≡ Some a → KeepsFor d.kept a k.key.aaid k.report) → AreSaid e s d (tell_superior k)
+said_tell e s d k held keeps = go k.forgot k.key.branch k.superior refl
   where
-    go : (f : Bool) (b : Option BranchId) (u : Option Addr)
+    go : (f : Bool) (b : Option BranchId) (u : Option Addr) → k.superior ≡ u
         → AreSaid e s d (if f then [] else elim b as (λ _. List TxOut) [ None ↦ [] | Some i ↦ elim u as (λ _. List TxOut) [ None ↦ [] | Some a ↦ TxOut.Recovery a (PeerRecord.RecReply k.key.aaid i (RecState.Done k.report)) ∷ [] ] ])
-    go true b u = λ a r h. absurd h
-    go false None u = λ a r h. absurd h
-    go false (Some i) None = λ a r h. absurd h
-    go false (Some i) (Some a) = one_said e s d a (PeerRecord.RecReply k.key.aaid i (RecState.Done k.report)) (inl held)
+    go true b u is = λ a r h. absurd h
+    go false None u is = λ a r h. absurd h
+    go false (Some i) None is = λ a r h. absurd h
+    go false (Some i) (Some a) is = one_said e s d a (PeerRecord.RecReply k.key.aaid i (RecState.Done k.report)) (inl (held.0, held.1, held.2, keeps a is))
 
 pub said_owed : (e : Event) (s d : Digest) (k : Kept) → (is_commit k.side ≡ true → (is_committed_in k.key.aaid d ≡ true) × (is_report_none k.report ≡ true → keeps_idle d.kept ≡ true) × (keeps_commit k.key.aaid d.kept ≡ true))
-    → ((b : BranchId) → elim (find_owed k.owed b) as (λ _. Bool) [ None ↦ false | Some c ↦ true ] ≡ true → owes_branch b d.kept ≡ true) → AreSaid e s d (owed k)
+    → (is_commit k.side ≡ true → (a : Addr) → k.superior ≡ Some a → KeepsFor d.kept a k.key.aaid k.report) → ((b : BranchId) → elim (find_owed k.owed b) as (λ _. Bool) [ None ↦ false | Some c ↦ true ] ≡ true → owes_branch b d.kept ≡ true) → AreSaid e s d (owed k)
 unfolding owed
-said_owed e s d k held owes = go (is_commit k.side) refl
+said_owed e s d k held keeps owes = go (is_commit k.side) refl
   where
     go : (b : Bool) → is_commit k.side ≡ b → AreSaid e s d (if b then ask_owed k.key.aaid k.owed ++ tell_superior k else [])
-    go true i = said_append e s d (ask_owed k.key.aaid k.owed) (tell_superior k) (said_ask e s d k.key.aaid k.owed owes) (said_tell e s d k (held i))
+    go true i = said_append e s d (ask_owed k.key.aaid k.owed) (tell_superior k) (said_ask e s d k.key.aaid k.owed owes) (said_tell e s d k (held i) (keeps i))
     go false i = λ a r h. absurd h
 
 pub said_forget : (s d : Digest) (a : Addr) (t : Aaid) (b : BranchId) (r : Report) → (named_by_branch s t b).current ≡ None → AreSaid (Event.Arrive a (PeerRecord.RecReply t b (RecState.Done r))) s d (forget_to a (branch_key t b) b r)

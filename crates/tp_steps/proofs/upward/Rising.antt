@@ -18,7 +18,7 @@ use Rattle.tp_model.specs.Transactions.{Row, Transaction, Turn, turn, and_then, 
 use Rattle.tp_steps.specs.Turns.{Turns, vote, decide, falls, loses}
 use Rattle.tp_steps.specs.Moves.{IsPut}
 use Rattle.tp_steps.specs.Passages.{is_commit_rec, asks_tell, IsPassed}
-use Rattle.tp_steps.specs.Clearing.{is_complete_none}
+use Rattle.tp_steps.specs.Clearing.{is_complete_none, same_report, is_complete}
 use Rattle.tp_steps.specs.Owing.{is_damage_rec}
 use Rattle.tp_steps.specs.Facts.{is_rollback, is_end, ends_in, none_of, spoken, stays, id_at, sees, BranchKey, HasPlace, IsFair, Facts}
 use Rattle.tp_steps.specs.Upward.{voting, voting_from, each_up, Deeds, holds_at, may_say, Votes, Tells, Rises, IsRising}
@@ -171,13 +171,18 @@ rise_vote e s p t fair passed act = record {
     votes v w false i = λ h. absurd (cc (act, (w h).2))
 
 -- what stands among outputs is told
-told_in : (f : Indication → Bool) (i : Indication) (xs ys zs ws : List TxOut) → f i ≡ true → asks_tell f (xs ++ ys ++ (TxOut.Tell i ∷ []) ++ zs ++ ws) ≡ true
+pub told_in : (f : Indication → Bool) (i : Indication) (xs ys zs ws : List TxOut) → f i ≡ true → asks_tell f (xs ++ ys ++ (TxOut.Tell i ∷ []) ++ zs ++ ws) ≡ true
 told_in f i xs ys zs ws h =
     tell_append f (xs ++ ys ++ (TxOut.Tell i ∷ []) ++ zs) ws
     ∙ rw (tell_append f (xs ++ ys ++ (TxOut.Tell i ∷ [])) zs, tell_append f (xs ++ ys) (TxOut.Tell i ∷ []), h) (any (asks_tell f (xs ++ ys)) (asks_tell f zs) (asks_tell f ws))
   where
     any : (a b c : Bool) → (((a || (true || false)) || b) || c) ≡ true
     any a b c = grind arith
+
+pub report_self : (r : Report) → same_report r r ≡ true
+report_self Report.None = refl
+report_self Report.Hazard = refl
+report_self Report.Mix = refl
 
 rise_commit : (e : TxEvent) (s : Transaction) (p : ℕ) (t : Transaction) → IsFair e s p t (complete_commit t) → IsPassed e s t (complete_commit t) → is_committing t.phase ≡ true → IsRising e s p t (complete_commit t)
 unfolding complete_commit
@@ -208,7 +213,14 @@ rise_commit e s p t fair passed c = go (not t.owes && all_done t.rows) fair pass
     go false f q = rise_quiet e s p t (turn [] t) f q refl (λ h. h)
     go true f q =
         let r : Report = join (own_damage t.decision) (reports_of t.rows) in
-        rise_last e s p t (over r) (DialogueRecord.Done r) f q refl (commit_said t p r) late (λ ks g n v place w k under. both_true (holds_at ks n g.committed && (not (is_report_none r) || holds_at ks n g.completed)) (is_report_none r || holds_at ks n g.damaged) (both_true (holds_at ks n g.committed) (not (is_report_none r) || holds_at ks n g.completed) (key_tree t ks n p g.committed place late under (k.committing c)) (clear ks g n r (is_report_none r) refl place k under)) (spoilt ks g n r (is_report_none r) refl place k under))
+        rise_last e s p t (over r) (DialogueRecord.Done r) f q refl (commit_said t p r) late
+        (λ ks g n v place w k under.
+        both_true (holds_at ks n g.committed && (not (is_report_none r) || holds_at ks n g.completed) && (is_report_none r || holds_at ks n g.damaged)) (holds_at ks n (g.told Outcome.Commit r))
+        (both_true (holds_at ks n g.committed && (not (is_report_none r) || holds_at ks n g.completed)) (is_report_none r || holds_at ks n g.damaged)
+        (both_true (holds_at ks n g.committed) (not (is_report_none r) || holds_at ks n g.completed) (key_tree t ks n p g.committed place late under (k.committing c)) (clear ks g n r (is_report_none r) refl place k under))
+        (spoilt ks g n r (is_report_none r) refl place k under))
+        (key_tree t ks n p (g.told Outcome.Commit r) place late under
+        (k.tells Outcome.Commit r (told_in (is_complete Outcome.Commit r) (Indication.CommitComplete r) (forgets (aaid_of t.key) t.rows) (done_up t r) (ends_down t.rows) (end_up t) (report_self r)))))
 
 rise_rollback : (e : TxEvent) (s : Transaction) (p : ℕ) (t : Transaction) → IsFair e s p t (complete_rollback t) → IsPassed e s t (complete_rollback t) → is_rolling t.phase ≡ true → IsRising e s p t (complete_rollback t)
 unfolding complete_rollback
@@ -220,12 +232,19 @@ rise_rollback e s p t fair passed c = go (not t.owes && all_rolled_back t.rows &
     over : Report → Turn
     over r = turn (carry_up t (DialogueRecord.RolledBack r) ++ (TxOut.Tell (Indication.RollbackComplete r) ∷ [])) (record t { phase = Phase.Nil })
 
+    last : (a b : Bool) → b ≡ true → (a || (b || false)) ≡ true
+    last a b h = rw h (grind arith)
+
     go : (b : Bool) → IsFair e s p t (if b then over (join t.own (reports_of t.rows)) else turn [] t) → IsPassed e s t (if b then over (join t.own (reports_of t.rows)) else turn [] t)
         → IsRising e s p t (if b then over (join t.own (reports_of t.rows)) else turn [] t)
     go false f q = rise_quiet e s p t (turn [] t) f q refl (λ h. h)
     go true f q =
         let r : Report = join t.own (reports_of t.rows) in
-        rise_last e s p t (over r) (DialogueRecord.RolledBack r) f q refl (rollback_said t p r) late (λ ks g n v place w k under. key_tree t ks n p g.rolled place late under (k.rolling c))
+        rise_last e s p t (over r) (DialogueRecord.RolledBack r) f q refl (rollback_said t p r) late
+        (λ ks g n v place w k under.
+        both_true (holds_at ks n g.rolled) (holds_at ks n (g.told Outcome.Rollback r)) (key_tree t ks n p g.rolled place late under (k.rolling c))
+        (key_tree t ks n p (g.told Outcome.Rollback r) place late under
+        (k.tells Outcome.Rollback r (tell_append (is_complete Outcome.Rollback r) (carry_up t (DialogueRecord.RolledBack r)) (TxOut.Tell (Indication.RollbackComplete r) ∷ []) ∙ last (asks_tell (is_complete Outcome.Rollback r) (carry_up t (DialogueRecord.RolledBack r))) (same_report r r) (report_self r)))))
 
 silent_active : (v : Bool) (t : Transaction) (p : ℕ) → is_active t.phase ≡ true → Votes v t p → not v ≡ true
 silent_active false t p act w = refl
@@ -362,6 +381,7 @@ rise_then e s p t a b r which one two saw kept = go (stays true p a.outs) refl
       leaves = k.leaves;
       completes = λ h. k.completes (tell_append is_complete_none a.outs b.outs ∙ rw h refl);
       damages = λ h. elim which [ inl i ↦ absurd (cc (ap is_damage_rec i.0, h)) | inr i ↦ k.damages (ap is_damage_rec i.1 ∙ h) ];
+      tells = λ u x h. k.tells u x (tell_append (is_complete u x) a.outs b.outs ∙ rw h refl);
     }
 
     tells_second : (g : Deeds) → Tells g e s t m → Tells g e s a.next b
@@ -373,6 +393,7 @@ rise_then e s p t a b r which one two saw kept = go (stays true p a.outs) refl
       leaves = λ h. tree g.left (k.leaves h);
       completes = λ h. tree g.completed (k.completes (tell_append is_complete_none a.outs b.outs ∙ rw h (grind arith)));
       damages = λ h. tree g.damaged (elim which [ inl i ↦ k.damages (ap is_damage_rec i.1 ∙ h) | inr i ↦ absurd (cc (ap is_damage_rec i.0, h)) ]);
+      tells = λ u x h. tree (g.told u x) (k.tells u x (tell_append (is_complete u x) a.outs b.outs ∙ rw h (grind arith)));
     }
 
     go : (c : Bool) → stays true p a.outs ≡ c → Rises e s p t m

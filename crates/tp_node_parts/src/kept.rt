@@ -1,0 +1,113 @@
+//! The kept transactions of a node: what a record of the log makes of them.
+ghost use Rattle.std.specs.Prelude.{◌≡◌, ◌||◌, IfOk, OnOk};
+ghost use Rattle.tp_model.specs.Recovery.{is_commit, with_forget, noted, kept_by, put_kept};
+ghost use Rattle.tp_model.specs.declared.recovery.KeptEvent.{KeptEvent};
+
+use crate::kept_table::KeptTable;
+use std::alloc::Global;
+use tp_logrec::LogRec;
+use tp_model::Kept;
+use tp_names::{Children, NoMemory, NodeKey, Outcome};
+
+// Takes the place of the one with its key, whose Forget stays noted, or stands after the others.
+#[tactic(auto, using(crate::proofs::KeptPlaces::put_new, crate::proofs::KeptPlaces::put_again))]
+fn put(alloc: Global, kept: &mut KeptTable, next: Kept) -> Result<(), NoMemory>
+    ensures { OnOk result (kept.new ≡ put_kept kept.old next) }
+{
+    let forgot = match kept.find(&next.key) {
+        None => next.forgot,
+        Some(one) => one.forgot,
+    };
+    kept.put(alloc, Kept { forgot, ..next })
+}
+
+fn copied(alloc: Global, children: &Children) -> Result<Children, NoMemory>
+    ensures { IfOk result (λ copy. copy ≡ children.now) }
+{
+    let mut copy = Children::new(alloc);
+    copy.extend_from_slice(alloc, children.as_slice())?;
+    Ok(copy)
+}
+
+/// An equal one.
+pub fn copy(alloc: Global, kept: &Kept) -> Result<Kept, NoMemory>
+    ensures { IfOk result (λ copy. copy ≡ kept.now) }
+{
+    Ok(Kept {
+        node: kept.node,
+        key: kept.key,
+        superior: kept.superior,
+        side: kept.side,
+        report: kept.report,
+        owed: copied(alloc, &kept.owed)?,
+        forgot: kept.forgot,
+    })
+}
+
+// Forget is noted of it once one was taken, where it is a commitment.
+fn is_forgotten(kept: &Kept) -> bool
+    ensures { result ≡ (is_commit kept.now.side || kept.now.forgot) }
+{
+    kept.side == Outcome::Commit || kept.forgot
+}
+
+/// Forget is noted of the one with that key, where there is one and it is a commitment.
+#[tactic(auto, using(crate::proofs::KeptPlaces::noted_not, crate::proofs::KeptPlaces::noted_there))]
+pub fn note_forget(alloc: Global, kept: &mut KeptTable, key: &NodeKey) -> Result<(), NoMemory>
+    ensures { OnOk result (kept.new ≡ with_forget kept.old key.now (λ x. noted x KeptEvent.Forget)) }
+{
+    let Some(one) = kept.find(key) else {
+        return Ok(());
+    };
+    let mut next = copy(alloc, one)?;
+    next.forgot = is_forgotten(one);
+    kept.put(alloc, next)
+}
+
+/// Equal ones, in order.
+pub fn copies(alloc: Global, kept: &KeptTable) -> Result<Vec<Kept>, NoMemory>
+    ensures { IfOk result (λ copies. copies.items ≡ kept.now) }
+{
+    let mut copies = Vec::new(alloc);
+    for place in 0..kept.len() {
+        let Some(one) = kept.get(place) else {
+            unreachable!()
+        };
+        copies.push(copy(alloc, one)?)?;
+    }
+    Ok(copies)
+}
+
+/// What a record makes of the kept transactions: a Damage keeps its key, and an End lets it go.
+#[tactic(auto, unfolding(tp_model::specs::Recovery::kept_by))]
+pub fn keep(alloc: Global, kept: &mut KeptTable, rec: &LogRec) -> Result<(), NoMemory>
+    ensures { OnOk result (kept.new ≡ kept_by rec.now kept.old) }
+{
+    match rec {
+        LogRec::Damage {
+            node,
+            key,
+            superior,
+            side,
+            report,
+            owed,
+        } => put(
+            alloc,
+            kept,
+            Kept {
+                node: *node,
+                key: *key,
+                superior: *superior,
+                side: *side,
+                report: *report,
+                owed: copied(alloc, owed)?,
+                forgot: false,
+            },
+        ),
+        LogRec::End { key, .. } => kept.remove(key),
+        LogRec::Boot { .. }
+        | LogRec::Ready { .. }
+        | LogRec::Heuristic { .. }
+        | LogRec::Commit { .. } => Ok(()),
+    }
+}

@@ -1,0 +1,20 @@
+//! What a node keeps, but for its current transaction: its arcs and its kept transactions, which copies of the node share
+//! with it, and the outputs of an event.
+//!
+//! An arc is found by its peer's number, and a kept transaction by its key. Each change is that of the definitions, and
+//! stands aside until no copy has the rest. Nothing here knows of other nodes, nor of a log's place.
+#![tactic(auto)]
+
+mod arc_step;
+mod arcs;
+mod directory;
+pub mod kept;
+mod kept_map;
+mod kept_table;
+mod outs;
+mod shared_arcs;
+
+pub use arc_step::{ArcStep, is_granting};
+pub use kept_table::KeptTable;
+pub use outs::{Out, Outs};
+pub use shared_arcs::{SharedArcs, next_on, release, sent};
