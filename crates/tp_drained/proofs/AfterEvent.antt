@@ -19,7 +19,7 @@ use Rattle.tp_model.specs.Arrivals.{broken_pair}
 use Rattle.tp_model.specs.Node.{Move, move, followed, perform, next_mark, seen, remaining, passage, is_leaving, is_over, may_begin_on, begin_on, try_start, restarted, passed, turned, transact}
 use Rattle.tp_model.specs.Events.{retry_each}
 use Rattle.tp_model.specs.History.{digest}
-use Rattle.tp_model.specs.Outcomes.{is_now, is_failure}
+use Rattle.tp_model.specs.Outcomes.{is_now}
 use Rattle.tp_steps.specs.Traces.{is_old}
 use Rattle.tp_steps.specs.Trees.{IsTreed}
 use Rattle.tp_steps.specs.Moves.{IsPut}
@@ -35,7 +35,6 @@ use Rattle.tp_histories.proofs.worlds.TreeMembers.{now_old}
 use Rattle.tp_histories.proofs.order.InOrderLaw.{empty_apart}
 use Rattle.tp_histories.proofs.order.PutLaw.{put_law, alone_law}
 use Rattle.tp_steps.proofs.log.Sound.{left_is, left_branches}
-use Rattle.tp_steps.proofs.words.Leaves.{aaid_same}
 use Rattle.tp_steps.proofs.branches.Heeding.{heeding_event}
 use Rattle.tp_drained.proofs.LiveTurned.{holds_left, more_branches}
 use Rattle.tp_drained.proofs.LiveLaw.{mild_put, legal_of, mild_entry, no_crash, among_of}

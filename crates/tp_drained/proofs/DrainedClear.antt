@@ -19,7 +19,7 @@ use Rattle.tp_model.specs.Arrivals.{find_branch_by_id}
 use Rattle.tp_model.specs.Node.{seen, seen_rows}
 use Rattle.tp_model.specs.History.{digest, records}
 use Rattle.tp_model.specs.Legal.{IsLegal, is_apart, are_apart}
-use Rattle.tp_model.specs.Outcomes.{is_now, is_failure, has_left, completed_none}
+use Rattle.tp_model.specs.Outcomes.{has_left, completed_none}
 use Rattle.tp_model.specs.World.{Node, number_of, find_node}
 use Rattle.tp_model.specs.Happenings.{Happening, run}
 use Rattle.tp_model.specs.Promises.{IsOf, IsBranchOf}

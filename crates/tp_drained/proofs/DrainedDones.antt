@@ -19,7 +19,7 @@ use Rattle.tp_model.specs.Transactions.{aaid_of}
 use Rattle.tp_model.specs.Requests.{has_branch_at}
 use Rattle.tp_model.specs.Events.{action}
 use Rattle.tp_model.specs.History.{digest, records}
-use Rattle.tp_model.specs.Outcomes.{is_now, decided, is_failure}
+use Rattle.tp_model.specs.Outcomes.{is_now, decided}
 use Rattle.tp_model.specs.Questions.{is_at}
 use Rattle.tp_model.specs.World.{Node, Frame, number_of, find_node, put_node}
 use Rattle.tp_model.specs.Happenings.{Happening, run}

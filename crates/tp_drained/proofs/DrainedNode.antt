@@ -21,7 +21,7 @@ use Rattle.tp_model.specs.Events.{action, recovered, recovered_current, current_
 use Rattle.tp_model.specs.History.{digest, records, with_rec}
 use Rattle.tp_model.specs.Legal.{IsGrown, IsLegal}
 use Rattle.tp_model.specs.Questions.{is_at, said_to, has_said}
-use Rattle.tp_model.specs.Outcomes.{is_now, is_unchanged, is_commit_request, is_failure, has_left, decided, rolled, tells_complete_none, completed_none, is_member, has_commit_of, has_asked_commit}
+use Rattle.tp_model.specs.Outcomes.{is_now, is_unchanged, is_commit_request, has_asked_commit, has_left, decided, rolled, tells_complete_none, completed_none, is_member, has_commit_of}
 use Rattle.tp_model.specs.Promises.{has_told_in, has_record, is_bound_of, tells_commit}
 use Rattle.tp_model.specs.Questions.{tells_commit_complete}
 use Rattle.tp_steps.specs.Moves.{prelude}

@@ -19,7 +19,7 @@ use Rattle.tp_model.specs.History.{digest, records}
 use Rattle.tp_model.specs.Legal.{IsGrown, IsLegal, is_apart, are_apart}
 use Rattle.tp_model.specs.Keys.{begins, begun_children, branches_in, named_children}
 use Rattle.tp_model.specs.Questions.{is_crash}
-use Rattle.tp_model.specs.Outcomes.{is_now, is_failure, decided, has_commit_of}
+use Rattle.tp_model.specs.Outcomes.{is_now, decided, has_commit_of}
 use Rattle.tp_model.specs.Promises.{has_told_in, has_record, is_bound_of}
 use Rattle.tp_histories.specs.Members.{is_known, IsOnce}
 use Rattle.tp_histories.specs.Histories.{IsSentIn, HasSent}

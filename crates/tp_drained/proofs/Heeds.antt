@@ -19,7 +19,7 @@ use Rattle.tp_model.specs.Node.{Move, seen_rows, seen, branches_of, remaining, p
 use Rattle.tp_model.specs.Arrivals.{sight_at, sight_of, refused_arrival}
 use Rattle.tp_model.specs.Events.{refusal}
 use Rattle.tp_model.specs.History.{digest, records}
-use Rattle.tp_model.specs.Outcomes.{is_now, is_failure, decided, rolled}
+use Rattle.tp_model.specs.Outcomes.{is_now, decided, rolled}
 use Rattle.tp_model.specs.Questions.{heard_from, is_record}
 use Rattle.tp_histories.specs.Members.{is_known}
 use Rattle.tp_steps.specs.Moves.{IsPut}
@@ -30,7 +30,7 @@ use Rattle.tp_steps.specs.Puts.{Put, counted_arcs, put_by_record, put_on, put_by
 use Rattle.tp_drained.specs.Drained.{branch_is, took_in, is_done, IsUnfailed, HeedsReady, HeedsCommit, HeedsDone}
 use Rattle.tp_steps.proofs.every.EveryEvent.{plain_arrival}
 use Rattle.tp_steps.proofs.every.EveryRecord.{find_arc_is}
-use Rattle.tp_steps.proofs.lemmas.Equality.{aaids_equal, or_case, and_left, and_right}
+use Rattle.tp_steps.proofs.lemmas.Equality.{or_case, and_left, and_right}
 use Rattle.tp_steps.proofs.branches.Rolls.{phase_at}
 use Rattle.tp_steps.proofs.lemmas.Words.{commit_more}
 use Rattle.tp_histories.proofs.trees.Knowing.{known_more, now_known}

@@ -1,6 +1,6 @@
 -- In every legal history the arcs that the current transaction needs are live, where nothing failed while its tree was current: a
 -- tree begins on live arcs, whatever happened before it.
-use Rattle.std.proofs.Common.{if◌then◌else◌, ◌≡◌, inl, inr, ℕ, Bool, true, false, refl, ap, sym, subst, ◌∙◌, arith, Option, Some, None, List, [], ◌∷◌}
+use Rattle.std.proofs.Common.{if◌then◌else◌, ◌≡◌, inr, ℕ, Bool, true, false, refl, ap, sym, subst, ◌∙◌, arith, Option, Some, None, List, [], ◌∷◌}
 use Rattle.tp_names.specs.declared.identifiers.Mark.{Mark}
 use Rattle.tp_names.specs.declared.identifiers.Addr.{Addr}
 use Rattle.tp_names.specs.declared.identifiers.Aaid.{Aaid}
@@ -12,22 +12,20 @@ use Rattle.tp_model.specs.declared.transaction.TxEvent.{TxEvent}
 use Rattle.tp_model.specs.declared.transaction.TxOut.{TxOut}
 use Rattle.tp_model.specs.Parts.{Who, Origin, Event, Entry, Arc, Key, Current, Digest}
 use Rattle.tp_model.specs.Links.{with_one_taken}
-use Rattle.tp_model.specs.Dialogues.{is_nil, Sight, Acts, Nothing_happens, Out_of_phase}
-use Rattle.tp_model.specs.Arcs.{find_arc, is_live_with_peer, without_arc, with_link}
-use Rattle.tp_model.specs.Transactions.{Transaction, aaid_of, is_under_at, refused_tx, transacted}
-use Rattle.tp_model.specs.Requests.{refused_request, abort}
-use Rattle.tp_model.specs.Node.{Move, move, followed, perform, seen, situation_at, remaining, passage, is_leaving, is_over, begin_on, try_start, restarted, passed, turned, transact}
+use Rattle.tp_model.specs.Dialogues.{Sight, Acts, Nothing_happens, Out_of_phase}
+use Rattle.tp_model.specs.Arcs.{find_arc, with_link}
+use Rattle.tp_model.specs.Transactions.{Transaction, aaid_of, transacted}
+use Rattle.tp_model.specs.Requests.{abort}
+use Rattle.tp_model.specs.Node.{Move, move, followed, perform, seen, situation_at, remaining, is_leaving, is_over, begin_on, try_start, restarted, passed, turned, transact}
 use Rattle.tp_model.specs.Arrivals.{broken_pair, break_off, lose, take_abort, take_record, take_on, woken_by, sight_at}
-use Rattle.tp_model.specs.Events.{recovered_current, after_crash, action, refusal}
+use Rattle.tp_model.specs.Events.{recovered_current, after_crash, action}
 use Rattle.tp_model.specs.History.{digest}
 use Rattle.tp_model.specs.Outcomes.{is_now, is_failure}
 use Rattle.tp_steps.specs.Moves.{IsPut}
 use Rattle.tp_steps.specs.Passages.{IsPassed}
-use Rattle.tp_steps.specs.Puts.{Put, put, counted_arcs, put_by_record, put_on, put_by, with_others, IsPutTo}
+use Rattle.tp_steps.specs.Puts.{Put, put, put_by, with_others, IsPutTo}
 use Rattle.tp_histories.specs.Puts.{IsLeftAlone, Stays, Begins, Stops}
 use Rattle.tp_drained.specs.Drained.{IsUnfailed, BranchLive, SuperiorLive}
-use Rattle.tp_steps.proofs.every.EveryMove.{abort_active}
-use Rattle.tp_steps.proofs.every.EveryEvent.{plain_request, plain_heur, plain_give_up}
 use Rattle.tp_steps.proofs.words.Treed.{now_some}
 use Rattle.tp_steps.proofs.log.Sound.{left_is}
 use Rattle.tp_steps.proofs.log.Passed.{passed_turn}

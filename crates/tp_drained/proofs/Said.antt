@@ -22,7 +22,7 @@ use Rattle.tp_model.specs.Node.{Move, move, perform, seen_row, seen_rows, seen, 
 use Rattle.tp_model.specs.Arrivals.{sight_at, broken_pair}
 use Rattle.tp_model.specs.Events.{retry_each, action}
 use Rattle.tp_model.specs.History.{digest}
-use Rattle.tp_model.specs.Outcomes.{is_now, is_failure}
+use Rattle.tp_model.specs.Outcomes.{is_now}
 use Rattle.tp_model.specs.Questions.{said_to, logs_ready_or_commit}
 use Rattle.tp_steps.specs.Turns.{is_outcome_told}
 use Rattle.tp_steps.specs.Moves.{is_word, IsPut, prelude, counted_in}
@@ -61,7 +61,7 @@ use Rattle.tp_histories.proofs.order.InOrderLaw.{empty_apart}
 use Rattle.tp_histories.proofs.order.PutLaw.{put_law}
 use Rattle.tp_drained.proofs.Calm.{spares, leaves_with_end, IsKeeping, keeps_event, live_row, one_first}
 use Rattle.tp_drained.proofs.LiveTurned.{is_open, needs, was_open, leaves_closed}
-use Rattle.tp_drained.proofs.LiveEvents.{IsAside, retry_aside, aside_event, quiet_start as start_tells}
+use Rattle.tp_drained.proofs.LiveEvents.{IsAside, retry_aside, quiet_start as start_tells}
 use Rattle.tp_drained.proofs.LiveLaw.{IsMildPut, mild_put, mild_aside, needed_peer, leaves_below, legal_of, unfailed_before, mild_entry, among_of, apart_of}
 use Rattle.tp_drained.proofs.LiveArcs.{alive_law}
 use Rattle.tp_drained.proofs.AfterEvent.{over_none, transact_forward, others_current}

@@ -13,7 +13,7 @@ use Rattle.tp_model.specs.Dialogues.{is_nil, is_active, is_ready, is_committing,
 use Rattle.tp_model.specs.Transactions.{Row, Transaction, aaid_of, find_row_by_id, is_open_in_commit, transacted}
 use Rattle.tp_model.specs.Node.{seen, fresh_current}
 use Rattle.tp_model.specs.History.{digest}
-use Rattle.tp_model.specs.Outcomes.{is_now, is_failure}
+use Rattle.tp_model.specs.Outcomes.{is_now}
 use Rattle.tp_steps.specs.Moves.{prelude}
 use Rattle.tp_steps.specs.Facts.{BranchKey, find_branch}
 use Rattle.tp_steps.specs.Passages.{may_move, IsPassed}

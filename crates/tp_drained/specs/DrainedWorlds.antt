@@ -1,7 +1,7 @@
 -- What a drained tree without failure says of the nodes that stand beside each other in it: nobody rolls, what one end said
 -- in the tree the other took, and a branch's answer, a superior's order and a branch's end are taken while they still count.
--- Failures and frames are asked of the time in which the tree is current at its nodes.
-use Rattle.std.specs.Prelude.{ℕ, suc, ◌≤◌, ◌≡◌, ◌&&◌, ◌||◌, ◌⊎◌, Bool, true, false, Some, List, [], ◌∷◌, length}
+-- Failures are asked of the time in which the tree is current at its nodes, and frames of the tree's own words.
+use Rattle.std.specs.Prelude.{ℕ, suc, ◌≤◌, ◌≡◌, ◌&&◌, ◌⊎◌, Bool, true, false, Some, List, [], ◌∷◌, length}
 use Rattle.tp_names.specs.declared.identifiers.Aaid.{Aaid}
 use Rattle.tp_names.specs.declared.identifiers.BranchId.{BranchId}
 use Rattle.tp_names.specs.declared.identifiers.Mark.{Mark}
@@ -80,7 +80,7 @@ pub record IsDrainedTree (w : World) (t : Aaid) : Type 0 where
   pub taken : (x z : Node) (a : Addr) (r : PeerRecord) → IsOf w t x → HasSaidIn x.origin t x.history a r → find_node w.nodes a.node ≡ Some z → HasCome z.history (addr_of x) r
   pub settled : (x : Node) → IsOf w t x → is_owed x.origin t x.history ≡ false
 
--- where no node of a tree ever failed, what a node of it sent went out: once every frame of its nodes is taken, the tree is drained
+-- where no node of a tree ever failed, what they sent went out: once every frame of them is taken, the tree is drained
 abbrev pub FramesDrain : World → Type 0
 FramesDrain w = (t : Aaid) → IsDrained w t → IsFailureFree w t → IsDrainedTree w t
 

@@ -1,6 +1,7 @@
 //! One node and a tree in which nothing failed there: where it stands, what it says and what it heeds. The history is a legal one
-//! whose log was empty at first, which enters each tree once, and in which no failure came while the tree was current; what
-//! failed before the tree or after it does not count.
+//! whose log was empty at first, which enters each tree once, and in which no failure of the tree came while it was current: none
+//! of the node itself, and none of a dialogue with its superior or a branch of it. What failed before the tree or after it, or of
+//! another dialogue, does not count.
 //!
 //! Each function has an empty body; its clauses are the law.
 #![tactic(auto)]
@@ -55,10 +56,10 @@ pub fn branches_without_a_report_leave_none()
     ensures { (t : Aaid) (o : Origin) (up : Option Addr) (h : List Entry) → IsUnfailed t o up h → ClearReport t o h }
 {}
 
-/// In every run, a tree has committed where each user asked for commitment or left and, of the time in which the tree was current
-/// at its nodes, nothing failed there, what was sent was taken, and no user owes its done: every node that stays logged Commit and
-/// was told that it is complete, with no report; and the tree's closing line says that all agree on commitment. What failed at
-/// these nodes before the tree began there, or after it was over, does not count.
+/// In every run, a tree has committed where each user asked for commitment or left, each word of the tree was taken, no user owes its
+/// done, and nothing failed in the tree while it was current at its nodes: every node that stays logged Commit and was told that it
+/// is complete, with no report; and the tree's closing line says that all agree on commitment. What failed at these nodes before the
+/// tree began there or after it was over, or of another dialogue, does not count, nor do the frames of it.
 pub fn a_settled_tree_has_committed()
     ensures nodes { (es : List Happening) → SettledTreeCommits (run es) }
     ensures line { (es : List Happening) → SettledTreeCloses (run es) }

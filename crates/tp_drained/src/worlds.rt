@@ -5,14 +5,14 @@ ghost use Rattle.std.specs.Prelude.{List};
 ghost use Rattle.tp_model.specs.Happenings.{Happening, run};
 ghost use Rattle.tp_drained.specs.DrainedWorlds.{NobodyRolls, AllCame, AllTaken, WordsAreTaken, FramesDrain, NoFailureInTree, BranchesAreThere, AnswersAreTaken, OrdersAreTaken, DonesDecided, DonesAreTaken};
 
-/// In every run, nobody rolls in a tree in which nothing failed while it was current.
+/// In every run, nobody rolls in a tree in which nothing failed while it was current at its nodes.
 pub fn nobody_rolls_in_a_tree_without_failure()
     ensures { (es : List Happening) → NobodyRolls (run es) }
 {}
 
-/// In every run, what a node of a drained tree without failure sent to a node that is there came to it, and on each pair of
-/// marks the other end took just what it sent, record by record, where no node of the tree ever failed and each of their frames was
-/// taken. Where these are asked of the tree's own time alone, what was said in the tree was taken at its place.
+/// In every run, where no node of a tree ever failed and each of their frames was taken, what they sent to a node that is there came
+/// to it, and on each pair of marks the other end took just what was sent, record by record. Of a tree that is drained in its own
+/// time each word was taken at its place.
 pub fn what_a_drained_tree_says_is_taken()
     ensures came { (es : List Happening) → AllCame (run es) }
     ensures taken { (es : List Happening) → AllTaken (run es) }

@@ -1,5 +1,5 @@
 //! A tree that was settled once has committed for good: a failure that comes later does not touch it, nor one that came at its
-//! nodes while the tree was not current there.
+//! nodes before the tree, or of another dialogue.
 //!
 //! Each law is the contract of a function with an empty body.
 #![tactic(auto)]
@@ -8,7 +8,7 @@ ghost use Rattle.std.specs.Prelude.{List};
 ghost use Rattle.tp_model.specs.Happenings.{Happening};
 ghost use Rattle.tp_lasting.specs.Lasting.{CommittedForGood, ClosedForGood};
 
-/// Where at some time of a run a tree was drained, nothing had failed at its nodes until then while it was current there, and each
+/// Where at some time of a run a tree was drained, nothing had failed in it until then while it was current at its nodes, and each
 /// user had asked for commitment, or left: whatever happens after that, crashes, lost associations and nodes that enter the tree with it, each node
 /// of the tree that stays has logged Commit, and was told that it is complete, with no report; and its closing line says so.
 pub fn a_settled_tree_has_committed_for_good()

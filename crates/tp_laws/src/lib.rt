@@ -112,9 +112,9 @@ pub fn a_drained_tree_has_committed()
     ensures line { (es : List Happening) → SettledCloses (run es) }
 {}
 
-/// So it is where this is asked of the time in which the tree is current at its nodes, and of what is the tree's: what they sent in
-/// the tree was taken, and nothing failed in it. A failure at a node before the tree began there, or after it was over, does not
-/// count, nor do the frames of such a time. What is said of the whole life of the nodes is a case of it.
+/// So it is where this is asked of what is the tree's alone: its words were taken, and nothing failed in it while it was current at
+/// its nodes. A failure at a node before the tree began there or after it was over, or of another dialogue, does not count, nor do
+/// the frames of it. What is said of the whole life of the nodes is a case of it.
 pub fn a_settled_tree_has_committed()
     ensures nodes { (es : List Happening) → SettledTreeCommits (run es) }
     ensures line { (es : List Happening) → SettledTreeCloses (run es) }

@@ -13,7 +13,7 @@ use Rattle.tp_steps.proofs.lemmas.Options.{some_same}
 use Rattle.tp_steps.proofs.lemmas.Equality.{and_left, and_right}
 use Rattle.tp_trials.specs.DrainedTrials.{tree_of_four, world_after, takes_frame, taken_as, taken_at, takings, arrivals, each_node, is_each, is_unowing, is_unfailed, has_answered}
 
-off : (b : Bool) → not b ≡ true → b ≡ false
+pub off : (b : Bool) → not b ≡ true → b ≡ false
 off true h = absurd (cc (h))
 off false h = refl
 
@@ -25,7 +25,7 @@ each_found g (y ∷ ys) n x all at = step (number_of y == n) (each_found g ys n 
     step true later h = sym (ap g (some_same y x h)) ∙ and_left (g y) (each_node g ys) all
     step false later h = later h
 
-any_first : {X : Type 0} (P : X → Type 0) (x : X) (xs : List X) → P x → Any P (x ∷ xs)
+pub any_first : {X : Type 0} (P : X → Type 0) (x : X) (xs : List X) → P x → Any P (x ∷ xs)
 any_first P x xs h = (0, x, omega arith, refl, h)
 
 any_later : {X : Type 0} (P : X → Type 0) (x : X) (xs : List X) → Any P xs → Any P (x ∷ xs)
@@ -39,11 +39,11 @@ as_taken f (e ∷ h) v i = step (takes_frame f e.event) (as_taken f h v) i
     step true later j = any_first (λ z. z.event ≡ v) e h (some_same e.event v j)
     step false later j = any_later (λ z. z.event ≡ v) e h (later j)
 
-first_of : List (Option Event) → Option Event
+unfoldable pub first_of : List (Option Event) → Option Event
 first_of [] = None
 first_of (v ∷ vs) = v
 
-rest_of : List (Option Event) → List (Option Event)
+unfoldable pub rest_of : List (Option Event) → List (Option Event)
 rest_of [] = []
 rest_of (v ∷ vs) = vs
 

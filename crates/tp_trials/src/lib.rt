@@ -12,3 +12,4 @@ pub mod report_trials;
 pub mod seen_trials;
 pub mod site_log_trials;
 pub mod trials;
+pub mod troubled_trials;
