@@ -1,5 +1,5 @@
 -- What an event does that is no failure of the current transaction; histories in which nothing failed in a tree.
-use Rattle.std.proofs.Common.{if◌then◌else◌, ◌≡◌, ◌⊎◌, inl, inr, ℕ, suc, Bool, true, false, refl, ap, sym, subst, ◌∙◌, arith, Option, Some, None, List, [], ◌∷◌, ◌&&◌, ◌||◌, ◌==◌}
+use Rattle.std.proofs.Common.{not, if◌then◌else◌, ◌≡◌, ◌⊎◌, inl, inr, ℕ, suc, Bool, true, false, refl, ap, sym, subst, ◌∙◌, arith, Option, Some, None, List, [], ◌∷◌, ◌&&◌, ◌||◌, ◌==◌}
 use Rattle.std.proofs.lemmas.Bool.Decides.{nat_tests}
 use Rattle.tp_names.specs.declared.identifiers.Mark.{Mark}
 use Rattle.tp_names.specs.declared.identifiers.Addr.{Addr}
@@ -18,8 +18,8 @@ use Rattle.tp_model.specs.Links.{with_one_taken}
 use Rattle.tp_model.specs.Dialogues.{is_nil, is_ready, Sight, Acts, Nothing_happens, Out_of_phase}
 use Rattle.tp_model.specs.Arcs.{find_arc, is_live_with_peer, without_arc, with_link}
 use Rattle.tp_model.specs.Transactions.{Transaction, aaid_of, node_key, is_under_at, all_left, refused_tx}
-use Rattle.tp_model.specs.AmongArcs.{IsAmongArcs, Reaches, IsTakenUp, IsPutOff, IsCut, is_peer}
-use Rattle.tp_model.specs.Requests.{has_branch_at, refused_request, abort}
+use Rattle.tp_model.specs.AmongArcs.{IsAmongArcs, Reaches, IsTakenUp, IsPutOff, IsCut}
+use Rattle.tp_model.specs.Requests.{refused_request, abort}
 use Rattle.tp_model.specs.Node.{Move, move, followed, perform, seen_rows, seen, situation_at, transact}
 use Rattle.tp_model.specs.Arrivals.{branch_key, named_by_key, named_by_branch, is_current_ready, sight_at, broken_pair, break_off, lose, take_record, take_on, woken_by}
 use Rattle.tp_model.specs.Events.{recovered_current, action, refusal}
@@ -29,7 +29,7 @@ use Rattle.tp_model.specs.Outcomes.{is_now, is_failure}
 use Rattle.tp_steps.specs.Facts.{find_branch}
 use Rattle.tp_steps.specs.Moves.{IsPut, is_took}
 use Rattle.tp_steps.specs.Puts.{Put, put, counted_arcs, put_by_record, put_on, put_where_ready, is_committing_named, put_by_peer, put_by_request, put_by, with_others, IsPutTo}
-use Rattle.tp_drained.specs.Drained.{branch_is, touches, fails_in, has_failed_in, IsUnfailed}
+use Rattle.tp_drained.specs.Drained.{branch_is, is_done_with, depends_on, touches, fails_in, has_failed_in, IsUnfailed}
 use Rattle.tp_steps.proofs.every.EveryRecord.{find_arc_is}
 use Rattle.tp_steps.proofs.every.EveryMove.{abort_active, abort_peer}
 use Rattle.tp_steps.proofs.every.EveryEvent.{plain_request, plain_heur, plain_give_up}
@@ -187,7 +187,7 @@ pub leaves_below : (f : TxEvent) (c : Current) (arcs later : List Arc) → Reach
 leaves_below (TxEvent.Took q DialogueRecord.LeftEnd) c arcs later h p is = let at : q ≡ p = grind (arith, nat_tests, is) in subst (λ (n : ℕ). is_under_at c.key n ≡ false) at h.0
 leaves_below f c arcs later h p is = absurd (cc (is))
 
--- ---- an event that is no failure, or one of a dialogue that is none of the transaction's
+-- ---- an event that is no failure, or one of a dialogue that the transaction does not depend on
 
 rollback_ok : (who : Who) (d : Digest) (c : Current) → refused_request who d Request.Rollback ≡ None → d.current ≡ Some c → refused_tx (TxEvent.User Request.Rollback) (seen who d.arcs c) ≡ None
 unfolding refused_request refused_tx
@@ -235,10 +235,10 @@ failure_is_put who d (Event.GiveUp p) c x i late ok fails h =
 failure_is_put who d Event.Crash c x i late ok fails h = absurd (cc (h))
 failure_is_put who d e c x i late ok fails h = absurd (cc (fails))
 
--- neither its superior nor a branch of it is lost
+-- no dialogue that the transaction depends on is lost
 record Elsewhere (c : Current) (x : Put) : Type 0 where
   peer : ℕ
-  off : is_peer c peer ≡ false
+  off : depends_on c peer ≡ false
   is : (x.event ≡ TxEvent.Lost peer) ⊎ (x.event ≡ TxEvent.Took peer DialogueRecord.UAbort)
 
 event_is : (f : TxEvent) (arcs : List Arc) (x : Put) → put f arcs ≡ Some x → x.event ≡ f
@@ -254,7 +254,7 @@ elsewhere who d (Event.Arrive from (PeerRecord.ShutAssoc y (Some z))) c x i fail
 elsewhere who d (Event.Arrive from (PeerRecord.OnAssoc y z q DialogueRecord.UAbort)) c x i fails off h = go (find_arc d.arcs from.node) refl h
   where
     on : (a : Arc) → a.peer.node ≡ from.node → (v : Sight) → elim v as (λ _. Option Put) [ Acts ↦ put_by_record a.peer.node (counted_arcs d.arcs a.peer.node) DialogueRecord.UAbort | Nothing_happens ↦ None | Out_of_phase ↦ None ] ≡ Some x → Elsewhere c x
-    on a at Acts h = record { peer = a.peer.node; off = ap (is_peer c) at ∙ off; is = inr (event_is (TxEvent.Took a.peer.node DialogueRecord.UAbort) _ x h) }
+    on a at Acts h = record { peer = a.peer.node; off = ap (depends_on c) at ∙ off; is = inr (event_is (TxEvent.Took a.peer.node DialogueRecord.UAbort) _ x h) }
     on a at Nothing_happens h = absurd (cc (h))
     on a at Out_of_phase h = absurd (cc (h))
 
@@ -276,8 +276,8 @@ elsewhere who d e c x i fails off h = absurd (cc (fails))
 -- so the transaction's own arcs and rows stay
 pub record IsMildPut (who : Who) (d : Digest) (c : Current) (x : Put) : Type 0 where
   pub put : IsPut x.event (seen who x.arcs c)
-  pub spare : (p : ℕ) → is_peer c p ≡ true → spares x.event c.key p ≡ true
-  pub reached : (p : ℕ) → is_peer c p ≡ true → is_live_with_peer x.arcs p ≡ is_live_with_peer d.arcs p
+  pub spare : (p : ℕ) → needs c p ≡ true → spares x.event c.key p ≡ true
+  pub reached : (p : ℕ) → needs c p ≡ true → is_live_with_peer x.arcs p ≡ is_live_with_peer d.arcs p
   pub bare : is_given x.event ≡ false
   -- as at some peer at least
   pub some : (p : ℕ) × (leaves_with_end x.event p ≡ false) × (spares x.event c.key p ≡ true)
@@ -287,17 +287,29 @@ other_peer : (f : TxEvent) → (q : ℕ) × (leaves_with_end f q ≡ false)
 other_peer (TxEvent.Took q DialogueRecord.LeftEnd) = (suc q, grind (arith, nat_tests))
 other_peer f = (0, refl)
 
-apart : (c : Current) (p q : ℕ) → is_peer c p ≡ true → is_peer c q ≡ false → (p == q) ≡ false
+-- an arc that is needed is one that the transaction depends on
+needed_depends : (c : Current) (p : ℕ) → needs c p ≡ true → depends_on c p ≡ true
+needed_depends c p need = go (is_under_at c.key p) refl
+  where
+    on : (o : Option Branch) → elim o as (λ _. Bool) [ None ↦ false | Some b ↦ is_open b ] ≡ true → elim o as (λ _. Bool) [ None ↦ false | Some b ↦ not (is_done_with b) ] ≡ true
+    on None h = absurd (cc (h))
+    on (Some b) h = grind (arith, h)
+
+    go : (v : Bool) → is_under_at c.key p ≡ v → depends_on c p ≡ true
+    go true i = rw i refl
+    go false i = let stands : branch_is is_open c p ≡ true = grind (arith, need, i) in let there : branch_is (λ b. not (is_done_with b)) c p ≡ true = on (find_branch c.branches p) stands in rw there (grind arith)
+
+apart : (c : Current) (p q : ℕ) → needs c p ≡ true → depends_on c q ≡ false → (p == q) ≡ false
 apart c p q on off = go (p == q) refl
   where
     go : (b : Bool) → (p == q) ≡ b → b ≡ false
     go false i = refl
-    go true i = let same : p ≡ q = grind (arith, nat_tests, i) in absurd (cc (sym (ap (is_peer c) same) ∙ on, off))
+    go true i = let same : p ≡ q = grind (arith, nat_tests, i) in absurd (cc (sym (ap (depends_on c) same) ∙ needed_depends c p on, off))
 
 mirrored : (p q : ℕ) → (p == q) ≡ false → (q == p) ≡ false
 mirrored p q h = grind (arith, nat_tests, h)
 
-not_under : (c : Current) (q : ℕ) → is_peer c q ≡ false → is_under_at c.key q ≡ false
+not_under : (c : Current) (q : ℕ) → depends_on c q ≡ false → is_under_at c.key q ≡ false
 not_under c q h = grind (arith, h)
 
 spared : (c : Current) (x : Put) (w : Elsewhere c x) (p : ℕ) → (w.peer == p) ≡ false → spares x.event c.key p ≡ true
@@ -357,18 +369,6 @@ mild_put who d e c x i late ok mild to h = go (is_failure e) refl (touches c e) 
     go true j false k m = aside j k
     go true j true k m = absurd (grind (arith, m, j, k))
 
-found_branch : (bs : List Branch) (p : ℕ) → elim (find_branch bs p) as (λ _. Bool) [ None ↦ false | Some b ↦ is_open b ] ≡ true → has_branch_at bs p ≡ true
-found_branch [] p h = absurd (cc (h))
-found_branch (b ∷ bs) p h = grind (arith, h, found_branch bs p)
-
--- what is needed is the transaction's
-pub needed_peer : (c : Current) (p : ℕ) → needs c p ≡ true → is_peer c p ≡ true
-needed_peer c p need = go (is_under_at c.key p) refl
-  where
-    go : (v : Bool) → is_under_at c.key p ≡ v → is_peer c p ≡ true
-    go true i = rw i refl
-    go false i = let stands : branch_is is_open c p ≡ true = grind (arith, need, i) in let there = found_branch c.branches p stands in rw there (grind arith)
-
 alive_others : (d : Digest) (e : Event) (m : Move) → IsAlive m.next → IsAlive (with_others d e m).next
 alive_others d Event.Retry m k = (retry_aside m.next.kept m.next).alive k
 alive_others d (Event.Break from r) m k = go (broken_pair r)
@@ -385,9 +385,9 @@ alive_put who d e c x i k f old =
     (alive_others d e (transact who x.event g)
     (alive_transact who x.event g
     (λ u j. let same : c ≡ u = cc (i, j) in subst (λ (v : Current). IsPut x.event (seen who x.arcs v)) same f.put)
-    (λ u p j need. let same : c ≡ u = cc (i, j) in subst (λ (v : Current). needs v p ≡ true → spares x.event v.key p ≡ true) same (λ n. f.spare p (needed_peer c p n)) need)
+    (λ u p j need. let same : c ≡ u = cc (i, j) in subst (λ (v : Current). needs v p ≡ true → spares x.event v.key p ≡ true) same (λ n. f.spare p n) need)
     (λ u p j is. let same : c ≡ u = cc (i, j) in subst (λ (v : Current). is_under_at v.key p ≡ false) same (leaves_below x.event c d.arcs x.arcs k.reaches p is))
-    (λ u p j need. let same : c ≡ u = cc (i, j) in f.reached p (needed_peer c p (subst (λ (v : Current). needs v p ≡ true) (sym same) need)) ∙ old u p j need)))
+    (λ u p j need. let same : c ≡ u = cc (i, j) in f.reached p (subst (λ (v : Current). needs v p ≡ true) (sym same) need) ∙ old u p j need)))
 
 -- ---- one that puts nothing to it
 

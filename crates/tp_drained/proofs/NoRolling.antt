@@ -1,5 +1,5 @@
 -- In every run, no node of a tree whose nodes did not fail rolls in it: who rolls first was told so by one that rolled.
-use Rattle.std.proofs.Common.{◌≡◌, ◌⊎◌, inl, inr, ℕ, Bool, true, false, cond, refl, ap, sym, subst, ◌∙◌, arith, Option, Some, None, List, [], ◌∷◌, ◌++◌, ◌&&◌, ◌||◌, ◌==◌, length, slice_get}
+use Rattle.std.proofs.Common.{not, ◌≡◌, ◌⊎◌, inl, inr, ℕ, Bool, true, false, cond, refl, ap, sym, subst, ◌∙◌, arith, Option, Some, None, List, [], ◌∷◌, ◌++◌, ◌&&◌, ◌||◌, ◌==◌, length, slice_get}
 use Rattle.std.proofs.lemmas.Bool.Decides.{nat_tests}
 use Rattle.tp_names.specs.declared.identifiers.Mark.{Mark}
 use Rattle.tp_names.specs.declared.identifiers.Aaid.{Aaid}
@@ -36,9 +36,7 @@ use Rattle.tp_steps.specs.Upward.{Deeds, holds_at}
 use Rattle.tp_histories.specs.Upward.{deeds_of}
 use Rattle.tp_steps.specs.Moves.{prelude}
 use Rattle.tp_runs.specs.Heeded.{heeds_event, heeds}
-use Rattle.tp_model.specs.AmongArcs.{is_peer}
-use Rattle.tp_model.specs.Requests.{has_branch_at}
-use Rattle.tp_drained.specs.Drained.{touches, fails_in, has_failed_in}
+use Rattle.tp_drained.specs.Drained.{is_done_with, depends_on, touches, fails_in, has_failed_in}
 use Rattle.tp_steps.proofs.every.EveryMove.{abort_peer}
 use Rattle.tp_drained.specs.DrainedWorlds.{NobodyRolls}
 use Rattle.tp_histories.proofs.worlds.Nodes.{find_put, find_append}
@@ -118,17 +116,17 @@ cause who d (Event.Lose p) h f = absurd (cc (f))
 cause who d e h f = absurd (cc (h))
 
 -- a loss that rolls the transaction is of its superior or of a branch
-waited_there : (bs : List Branch) (p : ℕ) → is_waited_for_at bs p ≡ true → has_branch_at bs p ≡ true
+waited_there : (bs : List Branch) (p : ℕ) → is_waited_for_at bs p ≡ true → elim (find_branch bs p) as (λ _. Bool) [ None ↦ false | Some b ↦ not (is_done_with b) ] ≡ true
 waited_there [] p h = absurd (cc (h))
 waited_there (b ∷ bs) p h = grind (arith, h, waited_there bs p)
 
-fatal_peer : (d : Digest) (c : Current) (p : ℕ) → d.current ≡ Some c → is_fatal d p ≡ true → is_peer c p ≡ true
+fatal_peer : (d : Digest) (c : Current) (p : ℕ) → d.current ≡ Some c → is_fatal d p ≡ true → depends_on c p ≡ true
 fatal_peer d c p i h = go (is_under_at c.key p) refl
   where
     one : (is_active c.phase && (is_under_at c.key p || is_waited_for_at c.branches p)) ≡ true
     one = rw (i, is_fatal) at h
 
-    go : (v : Bool) → is_under_at c.key p ≡ v → is_peer c p ≡ true
+    go : (v : Bool) → is_under_at c.key p ≡ v → depends_on c p ≡ true
     go true j = rw j refl
     go false j = let waited : is_waited_for_at c.branches p ≡ true = grind (arith, one, j) in let there = waited_there c.branches p waited in rw there (grind arith)
 

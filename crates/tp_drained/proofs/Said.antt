@@ -62,7 +62,7 @@ use Rattle.tp_histories.proofs.order.PutLaw.{put_law}
 use Rattle.tp_drained.proofs.Calm.{spares, leaves_with_end, IsKeeping, keeps_event, live_row, one_first}
 use Rattle.tp_drained.proofs.LiveTurned.{is_open, needs, was_open, leaves_closed}
 use Rattle.tp_drained.proofs.LiveEvents.{IsAside, retry_aside, quiet_start as start_tells}
-use Rattle.tp_drained.proofs.LiveLaw.{IsMildPut, mild_put, mild_aside, needed_peer, leaves_below, legal_of, unfailed_before, mild_entry, among_of, apart_of}
+use Rattle.tp_drained.proofs.LiveLaw.{IsMildPut, mild_put, mild_aside, leaves_below, legal_of, unfailed_before, mild_entry, among_of, apart_of}
 use Rattle.tp_drained.proofs.LiveArcs.{alive_law}
 use Rattle.tp_drained.proofs.AfterEvent.{over_none, transact_forward, others_current}
 use Rattle.tp_drained.proofs.Unended.{may_end_over, clash, unended_law}
@@ -240,13 +240,13 @@ entry_live : (t : Aaid) (o : Origin) (up : Option Addr) (h : List Entry) (e : En
 entry_live t o up h e c x p k need = alive_law t o up h (unfailed_before t o up e h k.unfailed).1 (ap (is_now t) k.now ∙ k.tree) c p k.now need
 
 entry_reached : (t : Aaid) (o : Origin) (up : Option Addr) (h : List Entry) (e : Entry) (c : Current) (x : Put) (p : ℕ) → IsEntry t o up h e c x → needs c p ≡ true → is_live_with_peer (digest o h).arcs p ≡ true → is_live_with_peer x.arcs p ≡ true
-entry_reached t o up h e c x p k need live = (entry_mild t o up h e c x k).reached p (needed_peer c p need) ∙ live
+entry_reached t o up h e c x p k need live = (entry_mild t o up h e c x k).reached p need ∙ live
 
 entry_keeps : (t : Aaid) (o : Origin) (up : Option Addr) (h : List Entry) (e : Entry) (c : Current) (x : Put) (p : ℕ) → IsEntry t o up h e c x → spares x.event c.key p ≡ true → leaves_with_end x.event p ≡ false → IsKeeping p (seen o.who x.arcs c) (transacted x.event (seen o.who x.arcs c))
 entry_keeps t o up h e c x p k spare off = keeps_event x.event p (seen o.who x.arcs c) spare off (IsPut.late (entry_put t o up h e c x k))
 
 entry_spares : (t : Aaid) (o : Origin) (up : Option Addr) (h : List Entry) (e : Entry) (c : Current) (x : Put) (p : ℕ) → IsEntry t o up h e c x → needs c p ≡ true → spares x.event c.key p ≡ true
-entry_spares t o up h e c x p k need = (entry_mild t o up h e c x k).spare p (needed_peer c p need)
+entry_spares t o up h e c x p k need = (entry_mild t o up h e c x k).spare p need
 
 entry_rec : (t : Aaid) (o : Origin) (up : Option Addr) (h : List Entry) (e : Entry) (c : Current) (x : Put) → IsEntry t o up h e c x → e.rec ≡ (transacted x.event (seen o.who x.arcs c)).rec
 entry_rec t o up h e c x k =

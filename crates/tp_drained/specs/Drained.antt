@@ -34,23 +34,30 @@ use Rattle.tp_steps.specs.Outspoken.{is_ready_rec}
 
 -- ---- failures in a tree
 
--- the peer with whom a dialogue fails by the event
-abbrev pub failing_peer : Event → Option ℕ
-failing_peer (Event.Declare s) = None
-failing_peer (Event.Do (Request.UAbort p)) = Some p
-failing_peer (Event.Do r) = None
-failing_peer (Event.Arrive from r) = Some from.node
-failing_peer (Event.Break from r) = Some from.node
-failing_peer (Event.Lose p) = Some p
-failing_peer (Event.Heur u) = None
-failing_peer (Event.GiveUp p) = None
-failing_peer Event.Retry = None
-failing_peer Event.Purge = None
-failing_peer Event.Crash = None
+abbrev pub branch_is : (Branch → Bool) → Current → ℕ → Bool
+branch_is f c p = elim (find_branch c.branches p) [ None ↦ false | Some b ↦ f b ]
 
--- that peer is the transaction's superior, or has a branch of it; or what fails is the node itself
+-- the transaction is done with the branch: it left, or was counted and has ended
+abbrev pub is_done_with : Branch → Bool
+is_done_with b = b.left || b.counted && b.ended
+
+-- the peer is its superior, or has a branch of it that it is not done with
+abbrev pub depends_on : Current → ℕ → Bool
+depends_on c p = is_under_at c.key p || branch_is (λ b. not (is_done_with b)) c p
+
+-- what fails by the event is the node itself, or a dialogue that the transaction depends on; the user aborts a branch
 abbrev pub touches : Current → Event → Bool
-touches c e = elim (failing_peer e) [ None ↦ true | Some p ↦ is_peer c p ]
+touches c (Event.Declare s) = true
+touches c (Event.Do (Request.UAbort p)) = is_peer c p
+touches c (Event.Do r) = true
+touches c (Event.Arrive from r) = depends_on c from.node
+touches c (Event.Break from r) = depends_on c from.node
+touches c (Event.Lose p) = depends_on c p
+touches c (Event.Heur u) = true
+touches c (Event.GiveUp p) = true
+touches c Event.Retry = true
+touches c Event.Purge = true
+touches c Event.Crash = true
 
 -- a failure of the tree, where it is current
 abbrev pub fails_in : Aaid → Option Current → Event → Bool
@@ -125,9 +132,6 @@ SaysLeaving t o h e =
     → IsSaid o h e p DialogueRecord.Left ⊎ IsSaid o h e p DialogueRecord.LeftEnd
 
 -- ---- what a node heeds
-
-abbrev pub branch_is : (Branch → Bool) → Current → ℕ → Bool
-branch_is f c p = elim (find_branch c.branches p) [ None ↦ false | Some b ↦ f b ]
 
 -- such a record was taken from the peer, while such a transaction was current
 abbrev pub took_in : (Current → Bool) → (DialogueRecord → Bool) → Origin → ℕ → List Entry → Bool

@@ -11,8 +11,7 @@ use Rattle.tp_drained.specs.DrainedWorlds.{IsDrainedTree, IsUnfailedTree}
 -- ---- premises of the tree's own time
 
 -- each word of the tree that its nodes sent came where it went and no user owes its done; while the tree was current at a node
--- nothing failed there that is the node's own, nor a dialogue with the tree's superior or a branch of it; and each user asked for
--- commitment or left
+-- neither the node failed nor a dialogue there that the tree depended on; and each user asked for commitment or left
 pub record IsSettledTree (w : World) (t : Aaid) : Type 0 where
   pub started : Any (λ u. u ≡ t) w.trees
   pub drained : IsDrainedTree w t

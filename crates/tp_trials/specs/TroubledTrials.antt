@@ -49,7 +49,8 @@ beginning =
     ∷ Does (Action.Again 10)
     ∷ []
 
--- the root aborts the dialogue with the fourth node, and that frame is not taken; the tree commits
+-- the root aborts the dialogue with the fourth node, and that frame is not taken; the tree commits, and its first two nodes lose their
+-- association while the user of the root still owes its done
 abbrev pub troubled : List Happening
 troubled =
     beginning
@@ -67,6 +68,8 @@ troubled =
     ∷ Does (Action.Again 18)
     ∷ Does (Action.Do 2 LineRequest.Done)
     ∷ Does (Action.Again 19)
+    ∷ Does (Action.Lose 2 1)
+    ∷ Does (Action.Lose 1 2)
     ∷ Does (Action.Do 1 LineRequest.Done)
     ∷ [])
 

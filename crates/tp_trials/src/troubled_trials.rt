@@ -9,9 +9,9 @@ ghost use Rattle.tp_trials.specs.Trials.{holds};
 ghost use Rattle.tp_trials.specs.DrainedTrials.{world_after, is_emptied, is_unfailed as never_failed};
 ghost use Rattle.tp_trials.specs.TroubledTrials.{troubled, broken, tree_of_three, is_inside, is_each_inside, is_unfailed, has_completed, closing_in};
 
-/// Three nodes in one tree, and a fourth one that is none of it. Two of the three lost their association before the tree, and while
-/// it stands the root aborts its dialogue with the fourth, whose frame is never taken. The tree is settled in its own time all the
-/// same: each of the three logged Commit and was told that it is complete, with no report, and the closing line says so.
+/// Three nodes in one tree, and a fourth one that is none of it. The first two lost their association before the tree; while it stands
+/// the root aborts its dialogue with the fourth, and that frame is never taken; and the first two lose their association again, once
+/// the second is done and before the first is. The tree is settled in its own time all the same: each of the three logged Commit and was told that it is complete, with no report, and the closing line says so.
 pub fn a_tree_is_settled_in_its_own_time()
     ensures settled { IsSettledTree (world_after troubled) tree_of_three }
     ensures inside { (holds is_inside troubled 1 && holds is_inside troubled 2 && holds is_inside troubled 3 && not (holds is_inside troubled 4)) ≡ true }
