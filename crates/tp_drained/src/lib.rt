@@ -1,7 +1,7 @@
 //! One node and a tree in which nothing failed there: where it stands, what it says and what it heeds. The history is a legal one
 //! whose log was empty at first, which enters each tree once, and in which no failure of the tree came while it was current: none
-//! of the node itself, and none of a dialogue with its superior or with a branch of it that had neither left nor ended. What failed
-//! before the tree or after it, or of another dialogue, does not count.
+//! of the node itself, and none of a dialogue with its superior or with a branch of it that had neither left nor, once counted,
+//! ended. What failed before the tree or after it, or of another dialogue, does not count.
 //!
 //! Each function has an empty body; its clauses are the law.
 #![tactic(auto)]
