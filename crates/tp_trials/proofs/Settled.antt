@@ -1,13 +1,12 @@
 -- From what is computed of a run to a tree that is settled in it.
-use Rattle.std.proofs.Common.{◌≡◌, ◌<◌, ℕ, zero, suc, Bool, true, false, refl, ap, sym, subst, ◌∙◌, arith, Option, Some, None, List, [], ◌∷◌, ◌&&◌, ◌==◌, length}
+use Rattle.std.proofs.Common.{◌≡◌, ◌<◌, ℕ, zero, suc, Bool, true, false, refl, ap, sym, subst, ◌∙◌, arith, Option, Some, None, List, [], ◌∷◌, ◌==◌, length}
 use Rattle.std.specs.Prelude.{not}
 use Rattle.std.specs.List.{Any, slice_index_or}
-use Rattle.tp_names.specs.declared.identifiers.Aaid.{Aaid}
 use Rattle.tp_model.specs.Parts.{Event, Entry}
 use Rattle.tp_model.specs.World.{World, Node, Frame, number_of, find_node}
 use Rattle.tp_model.specs.Outcomes.{is_owed, has_failed}
 use Rattle.tp_model.specs.Happenings.{Happening}
-use Rattle.tp_model.specs.Promises.{IsOf, HasTaken}
+use Rattle.tp_model.specs.Promises.{HasTaken}
 use Rattle.tp_drained.specs.DrainedTrees.{IsSettled}
 use Rattle.tp_steps.proofs.lemmas.Options.{some_same}
 use Rattle.tp_steps.proofs.lemmas.Equality.{and_left, and_right}

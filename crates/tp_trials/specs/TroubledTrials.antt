@@ -1,20 +1,20 @@
 -- A tree of three nodes that had lost an association before it, and whose root aborts another dialogue while it stands, for a worked
 -- example of a tree that is settled in its own time.
-use Rattle.std.specs.Prelude.{ℕ, ◌&&◌, not, Bool, true, false, Option, Some, None, List, [], ◌∷◌, ◌++◌, codes}
+use Rattle.std.specs.Prelude.{◌&&◌, not, Bool, true, false, Some, None, List, [], ◌∷◌, ◌++◌, codes}
 use Rattle.tp_names.specs.declared.identifiers.Aaid.{Aaid}
 use Rattle.tp_names.specs.declared.identifiers.Addr.{Addr}
 use Rattle.tp_model.specs.declared.line.Action.{Action}
 use Rattle.tp_model.specs.declared.line.LineRequest.{LineRequest}
 use Rattle.tp_model.specs.declared.out_line.OutLine.{OutLine}
-use Rattle.tp_model.specs.Parts.{Origin, Event, Out, Entry}
+use Rattle.tp_model.specs.Parts.{Origin, Out, Entry}
 use Rattle.tp_model.specs.History.{digest}
 use Rattle.tp_model.specs.Outcomes.{is_now, is_member, decided, has_asked_or_left, completed_none, is_owed}
 use Rattle.tp_model.specs.Trees.{members_of, closing_line}
-use Rattle.tp_model.specs.World.{World, Node, Frame, addr_of}
+use Rattle.tp_model.specs.World.{Node, Frame, addr_of}
 use Rattle.tp_model.specs.Happenings.{Happening, Declare, Does}
 use Rattle.tp_drained.specs.Drained.{has_failed_in}
 use Rattle.tp_drained.specs.DrainedWorlds.{is_word_of}
-use Rattle.tp_trials.specs.DrainedTrials.{world_after, taken_at}
+use Rattle.tp_trials.specs.DrainedTrials.{world_after}
 
 -- ---- the runs, oldest first
 
