@@ -7,8 +7,8 @@ use Rattle.tp_words.specs.Asked.{IsAsked}
 use Rattle.tp_words.specs.Plain.{IsPlain}
 use Rattle.tp_words.specs.declared.command.Command.{Command}
 use Rattle.tp_words.specs.declared.fault.WordsFault.{WordsFault}
-use Rattle.tpnode.specs.declared.status.Status.{Status}
-use Rattle.tpnode.specs.Status.{usage, code_of, has}
+use Rattle.tp_replay.specs.declared.status.Status.{Status}
+use Rattle.tp_replay.specs.Status.{usage, code_of, has}
 use Rattle.tpnode.specs.Commands.{exits, Ran, Runs}
 
 -- no run of a command ends with usage

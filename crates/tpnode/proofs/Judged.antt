@@ -1,22 +1,12 @@
 -- How an audit ends, by what its call answers.
-use Rattle.std.proofs.Common.{ℕ, zero, suc, ◌<◌, Result, Ok, Err, refl, arith}
+use Rattle.std.proofs.Common.{ℕ, zero, suc, Result, Ok, Err, refl, arith}
 use Rattle.std.specs.Prelude.{IfErr}
 use Rattle.tp_words.specs.declared.command.Command.{Command}
 use Rattle.tp_streams.specs.declared.stop.Stop.{Stop}
-use Rattle.tp_model.specs.declared.verdict.What.{What}
 use Rattle.tp_audit_tool.specs.Audited.{IsAuditStop}
-use Rattle.tpnode.specs.Status.{Ends, IsLimitAt, ended_with}
+use Rattle.tp_replay.specs.Status.{Ends, ended_with}
+use Rattle.tp_replay.proofs.Limits.{limit_at}
 use Rattle.tpnode.specs.Commands.{exits}
-
-limit_at : (what : What) (at : ℕ) → 0 < at → IsLimitAt what at
-limit_at What.Schedule at h = h
-limit_at What.Sites at h = h
-limit_at What.Nodes at h = h
-limit_at What.Frames at h = h
-limit_at What.Answers at h = h
-limit_at What.Events at h = h
-limit_at What.Log at h = tt
-limit_at What.Boots at h = tt
 
 -- the ending, by the counts of the source and of the sink
 pub judged : (read_old read_new write_old write_new disk_old disk_new : ℕ) (answer : Result ℕ Stop) → IfErr answer (IsAuditStop read_old read_new write_old write_new)

@@ -1,15 +1,5 @@
-mod Fronts
-mod Pending
-mod Cuts
-mod Texts
-mod Ended
-mod Left
-mod SoFar
-mod Ending
-mod Alone
 mod Asking
 mod Dispatched
 mod Replayed
-mod Tried
 mod Listed
 mod Judged

@@ -4,8 +4,8 @@ use Rattle.tp_outside.specs.Story.{Story}
 use Rattle.tp_streams.specs.declared.stop.Stop.{Stop}
 use Rattle.tp_bound.specs.Bounds.{Standing, Opens}
 use Rattle.tp_keys.specs.Printing.{Prints, PrintsSome, RefusesKeys}
-use Rattle.tpnode.specs.declared.status.Status.{Status}
-use Rattle.tpnode.specs.Status.{status_of}
+use Rattle.tp_replay.specs.declared.status.Status.{Status}
+use Rattle.tp_replay.specs.Status.{status_of}
 use Rattle.tpnode.specs.Keys.{OpensStore, ListsPart, StopsKeys, ListsKeys}
 
 module _ (D : Type 0) (told story : Option Story) (written output : Option (List ℕ)) where

@@ -1,20 +1,10 @@
 -- A replay ends as a command that has no disk.
-use Rattle.std.proofs.Common.{◌<◌, ℕ, refl, subst}
-use Rattle.tp_model.specs.declared.verdict.What.{What}
+use Rattle.std.proofs.Common.{ℕ, refl, subst}
 use Rattle.tp_words.specs.declared.command.Command.{Command}
-use Rattle.tpnode.specs.declared.status.Status.{Status}
-use Rattle.tpnode.specs.Status.{Ends, IsLimitAt, IsReplayEnding}
+use Rattle.tp_replay.specs.declared.status.Status.{Status}
+use Rattle.tp_replay.specs.Status.{Ends, IsReplayEnding}
+use Rattle.tp_replay.proofs.Limits.{limit_at}
 use Rattle.tpnode.specs.Commands.{exits, EndsInLine}
-
-pub limit_at : (what : What) (at : ℕ) → 0 < at → IsLimitAt what at
-limit_at What.Schedule at h = h
-limit_at What.Sites at h = h
-limit_at What.Nodes at h = h
-limit_at What.Frames at h = h
-limit_at What.Answers at h = h
-limit_at What.Events at h = h
-limit_at What.Log at h = tt
-limit_at What.Boots at h = tt
 
 pub replay_ends : (a b c d old new : ℕ) (status : Status) → IsReplayEnding a b c d status → Ends (exits Command.Replay) a b c d old new status
 replay_ends a b c d old new Status.Ok h = record { exit = refl; cause = tt }

@@ -3,8 +3,8 @@
 use Rattle.std.specs.Prelude.{ℕ, ◌≡◌, Option, Some, List, Result, IfOk, IfErr}
 use Rattle.tp_streams.specs.declared.stop.Stop.{Stop}
 use Rattle.tp_audit_tool.specs.Audited.{Audits, StopsAudit, LeavesSink}
-use Rattle.tpnode.specs.declared.status.Status.{Status}
-use Rattle.tpnode.specs.Status.{ended_with}
+use Rattle.tp_replay.specs.declared.status.Status.{Status}
+use Rattle.tp_replay.specs.Status.{ended_with}
 
 -- one finding where two nodes of a tree ended apart
 pub record AuditsLogs (status : Status) (left unread written output : Option (List ℕ)) (same_sink : Type 0) : Type 0 where

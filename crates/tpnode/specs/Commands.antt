@@ -7,11 +7,11 @@ use Rattle.tp_model.specs.declared.verdict.What.{What}
 use Rattle.tp_words.specs.CommandLine.{Said}
 use Rattle.tp_words.specs.Asked.{is_line, Asks}
 use Rattle.tp_words.specs.declared.command.Command.{Command}
-use Rattle.tpnode.specs.declared.status.Status.{Status}
-use Rattle.tpnode.specs.Status.{ok, findings, bad_input, limit, foreign, read_fault, write_fault, disk_fault, no_memory, code_of, has}
-use Rattle.tpnode.specs.Transcribing.{ReadsSo, Transcribes}
-use Rattle.tpnode.specs.Making.{Makes}
-use Rattle.tpnode.specs.Trying.{Tries}
+use Rattle.tp_replay.specs.declared.status.Status.{Status}
+use Rattle.tp_replay.specs.Status.{ok, findings, bad_input, limit, foreign, read_fault, write_fault, disk_fault, no_memory, code_of, has}
+use Rattle.tp_replay.specs.Transcribing.{ReadsSo, Transcribes}
+use Rattle.tp_replay.specs.Making.{Makes}
+use Rattle.tp_replay.specs.Trying.{Tries}
 use Rattle.tpnode.specs.Logs.{Formats, ShowsLog, ChecksLog, CompactsLog, MigratesLog}
 use Rattle.tpnode.specs.Keys.{ListsKeys}
 use Rattle.tpnode.specs.Sites.{ServesSite}
@@ -70,8 +70,8 @@ Does may members (Command.Node site) r same_sink = ServesSite site r.status r.to
 Does may members Command.Format r same_sink = Formats r.status r.told r.story
 Does may members Command.Show r same_sink = ShowsLog r.status r.told r.story r.written r.output same_sink
 Does may members Command.Check r same_sink = ChecksLog r.status r.told r.story r.written r.output same_sink
-Does may members (Command.Make plan) r same_sink = Makes plan r.status r.written r.output same_sink
-Does may members (Command.Trial plan) r same_sink = Tries plan r.written r.output same_sink r.status
+Does may members (Command.Make plan) r same_sink = Makes plan.number plan.nodes plan.rounds r.status r.written r.output same_sink
+Does may members (Command.Trial plan) r same_sink = Tries plan.number plan.nodes plan.rounds r.written r.output same_sink r.status
 Does may members Command.Compact r same_sink = CompactsLog r.status r.told r.story
 Does may members Command.Migrate r same_sink = MigratesLog r.status r.told r.story
 Does may members Command.Keys r same_sink = ListsKeys r.status r.told r.story r.written r.output

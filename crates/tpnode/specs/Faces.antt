@@ -6,8 +6,8 @@ use Rattle.tp_model.specs.declared.verdict.What.{What}
 use Rattle.tp_streams.specs.declared.stop.Stop.{Stop}
 use Rattle.tp_log_tools.specs.Readings.{IsFile}
 use Rattle.tp_tx.specs.Transacting.{Transacts}
-use Rattle.tpnode.specs.declared.status.Status.{Status}
-use Rattle.tpnode.specs.Status.{ended}
+use Rattle.tp_replay.specs.declared.status.Status.{Status}
+use Rattle.tp_replay.specs.Status.{ended}
 
 -- Before every frame, where the log is foreign, no boot number is left or the boot has no room, nothing is read and nothing written.
 pub record ServesFace (name : List ℕ) (status : Status) (told story : Option Story) (left unread written output : Option (List ℕ)) (same_sink : Type 0) : Type 0 where

@@ -11,8 +11,8 @@ use Rattle.tp_bound.specs.Bounds.{BreaksAt, IsStarted}
 use Rattle.tp_bound.specs.declared.store.Store.{Store}
 use Rattle.tp_bound.specs.Stores.{opened, Stands}
 use Rattle.tp_keys.specs.Lines.{key_lines}
-use Rattle.tpnode.specs.declared.status.Status.{Status}
-use Rattle.tpnode.specs.Status.{ended}
+use Rattle.tp_replay.specs.declared.status.Status.{Status}
+use Rattle.tp_replay.specs.Status.{ended}
 
 -- The disk told a store's log, and holds it as a start leaves it.
 pub record OpensStore (told story : Option Story) : Type 0 where

@@ -1,13 +1,4 @@
-pub mod Status
 pub mod Words
-pub mod Written
-pub mod Voters
-pub mod Participants
-pub mod Storing
-pub mod Transcribing
-pub mod Playing
-pub mod Making
-pub mod Trying
 pub mod Logs
 pub mod Keys
 pub mod Sites

@@ -14,8 +14,8 @@ use Rattle.tp_log_tools.specs.Readings.{IsFile}
 use Rattle.tp_log_tools.specs.Opening.{HoldsThroughout}
 use Rattle.tp_log_tools.specs.Showing.{Shows, Checks, StopsShow, finding_texts}
 use Rattle.tp_log_tools.specs.Shortening.{Compacts, Migrates, StopsCompact, StopsMigrate}
-use Rattle.tpnode.specs.declared.status.Status.{Status}
-use Rattle.tpnode.specs.Status.{ended, ended_with}
+use Rattle.tp_replay.specs.declared.status.Status.{Status}
+use Rattle.tp_replay.specs.Status.{ended, ended_with}
 
 -- what is true of the file that the disk told
 abbrev pub OnFile : Option Story → (List ℕ → Type 0) → Type 0

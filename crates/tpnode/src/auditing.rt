@@ -1,14 +1,14 @@
 //! The logs of several sites, judged together.
 ghost use Rattle.std.specs.Prelude.{◌≡◌, ℕ};
 ghost use Rattle.tp_words.specs.declared.command.Command.{Command};
-ghost use Rattle.tpnode.specs.Status.{Ends};
+ghost use Rattle.tp_replay.specs.Status.{Ends};
 ghost use Rattle.tpnode.specs.Commands.{exits};
 ghost use Rattle.tpnode.specs.Auditing.{AuditsLogs};
 
-use crate::status::Status;
 use std::alloc::Global;
 use tp_audit_tool::audit;
 use tp_outside::{Sink, Source};
+use tp_replay::Status;
 
 /// Reads frames that hold the logs of several sites, and writes the verdict over them and the fate of each node that is in
 /// doubt.

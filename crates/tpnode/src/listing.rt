@@ -1,14 +1,14 @@
 //! The keys of a bound store, written as lines.
 ghost use Rattle.std.specs.Prelude.{ℕ};
 ghost use Rattle.tp_words.specs.declared.command.Command.{Command};
-ghost use Rattle.tpnode.specs.Status.{Ends};
+ghost use Rattle.tp_replay.specs.Status.{Ends};
 ghost use Rattle.tpnode.specs.Commands.{exits};
 ghost use Rattle.tpnode.specs.Keys.{ListsKeys};
 
-use crate::status::Status;
 use std::alloc::Global;
 use tp_keys::keys;
 use tp_outside::{Disk, Sink};
+use tp_replay::Status;
 
 /// Writes a line for each key of the store that the disk holds, in ascending order, and hands the disk back.
 #[tactic(auto, using(crate::proofs::Listed::lists_stopped))]

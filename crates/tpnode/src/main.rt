@@ -6,37 +6,22 @@
 #![tactic(auto)]
 
 mod auditing;
-mod checking;
-mod compacting;
-mod formatting;
-mod held;
 mod listing;
-mod making;
-mod migrating;
-mod output;
-mod participant;
-mod playing;
-mod replay;
+mod logs;
 mod serving;
-mod showing;
-mod status;
-mod storing;
 #[cfg(test)]
 mod tests;
 mod top;
 mod transacting;
-mod trial;
-mod voter;
 
-use participant::participants;
-pub use status::Status;
 use std::alloc::{AllocError, Global};
 use std::process::ExitCode;
 use std::{env, io};
-use storing::{open_store, status_of};
 pub use top::run;
 use tp_bound::Bound;
 use tp_outside::{Disk, FileDisk, HeldStreams, StdSink, StdSource};
+pub use tp_replay::Status;
+use tp_replay::{open_store, participants, status_of};
 use tp_words::USAGE;
 
 /// The log of a site, in the current folder.

@@ -1,14 +1,14 @@
 //! A site that is given the events of frames.
 ghost use Rattle.std.specs.Prelude.{◌≡◌, ℕ};
 ghost use Rattle.tp_words.specs.declared.command.Command.{Command};
-ghost use Rattle.tpnode.specs.Status.{Ends};
+ghost use Rattle.tp_replay.specs.Status.{Ends};
 ghost use Rattle.tpnode.specs.Commands.{exits};
 ghost use Rattle.tpnode.specs.Sites.{ServesSite};
 
-use crate::status::Status;
 use std::alloc::Global;
 use tp_names::SiteName;
 use tp_outside::{Disk, Sink, Source};
+use tp_replay::Status;
 use tp_serve::serve;
 
 /// Starts the site of that name on the disk's log, answers each event that the frames of the source say, and hands the

@@ -46,29 +46,6 @@ fn status_of(
     (sink.bytes() == written.as_bytes()).then_some(status)
 }
 
-// How a format ends on a disk whose listed changing calls fail, and what it then holds.
-fn formatted(alloc: Global, fails: &[u8]) -> Option<(Status, MemDisk)> {
-    let mut source = MemSource::new(alloc, Octets::new(alloc), Octets::new(alloc));
-    let mut sink = MemSink::new(alloc, Octets::new(alloc));
-    let disk = MemDisk::failing(
-        alloc,
-        octets(alloc, b"what stood there")?,
-        octets(alloc, fails)?,
-    );
-    let members = participants::<MemDisk>(alloc, None).ok()?;
-    Some(run(alloc, &["format"], &mut source, &mut sink, disk, members))
-}
-
-#[test]
-fn a_log_is_made_fresh(rt: HostRuntime) {
-    let (status, disk) = formatted(rt.alloc(), &[]).expect(&rt, "in memory");
-    assert!(rt;
-        status == Status::Ok && disk.bytes() == b"OTPL\x01\x01\x00\x02\x07\x02\x00".as_slice()
-    );
-    let (status, _disk) = formatted(rt.alloc(), &[1]).expect(&rt, "in memory");
-    assert!(rt; status == Status::DiskFault { faults: 1 });
-}
-
 #[test]
 fn a_schedule_is_made(rt: HostRuntime) {
     let (status, sink) = ran(rt.alloc(), &["make"], b"", NO_FAILS).expect(&rt, "in memory");
@@ -97,6 +74,9 @@ const BOOT_2: &[u8] = b"OTPL\x01\x01\x00\x09\x01\0\0\0\0\0\0\0\x02\x00";
 
 const BOOT_2_WIDE: &[u8] = b"OTPL\x01\x01\x00\x02\x07\x02\x01\x00\x09\x01\0\0\0\0\0\0\0\x02\x00";
 
+// A fresh log.
+const FRESH: &[u8] = b"OTPL\x01\x01\x00\x02\x07\x02\x00";
+
 // A log of a boot, a commitment and its damage.
 const DAMAGE: &[u8] =
     b"OTPL\x01\x01\x00\x09\x01\0\0\0\0\0\0\0\x01\x01\x00\x31\x04\x00\x01\x01a\0\0\0\0\0\0\0\x01\x00\x01\0\0\0\0\0\0\0\x02\x00\x01\x01b\x00\x02\x01a\0\0\0\0\0\0\0\x01\x00\x01\0\0\0\0\0\0\0\x03\x01\x00\x1b\x05\x00\x01\x01a\0\0\0\0\0\0\0\x01\x00\x01\0\0\0\0\0\0\0\x02\x00\x01\x01\x00\x00";
@@ -107,6 +87,7 @@ const STORE: &[u8] =
 
 // Commands, the disks they work on, how they end, what they write, and what they leave.
 const ON_DISKS: &[(&str, &[u8], Status, &str, &[u8])] = &[
+    ("format", b"what stood there", Status::Ok, "", FRESH),
     ("show", BOOTS, Status::Ok, "5 boot 1\n17 boot 2\n", BOOTS),
     ("check", BOOTS, Status::Ok, "", BOOTS),
     (
@@ -123,11 +104,16 @@ const ON_DISKS: &[(&str, &[u8], Status, &str, &[u8])] = &[
     ("keys", b"", Status::Foreign { at: 0 }, "", b""),
 ];
 
-// How a run of that command ends on a disk with these bytes, what it wrote, and the disk.
-fn on_disk(alloc: Global, command: &str, bytes: &[u8]) -> Option<(Status, MemSink, MemDisk)> {
+// How a run of that command ends on a disk with these bytes whose listed changing calls fail, what it wrote, and the disk.
+fn on_disk(
+    alloc: Global,
+    command: &str,
+    bytes: &[u8],
+    fails: &[u8],
+) -> Option<(Status, MemSink, MemDisk)> {
     let mut source = MemSource::new(alloc, Octets::new(alloc), Octets::new(alloc));
     let mut sink = MemSink::new(alloc, Octets::new(alloc));
-    let disk = MemDisk::from(alloc, octets(alloc, bytes)?);
+    let disk = MemDisk::failing(alloc, octets(alloc, bytes)?, octets(alloc, fails)?);
     let members = participants::<MemDisk>(alloc, None).ok()?;
     let (status, disk) = run(alloc, &[command], &mut source, &mut sink, disk, members);
     Some((status, sink, disk))
@@ -136,11 +122,19 @@ fn on_disk(alloc: Global, command: &str, bytes: &[u8]) -> Option<(Status, MemSin
 #[test]
 fn commands_over_a_disk(rt: HostRuntime) {
     for (command, bytes, wanted, text, left) in ON_DISKS {
-        let (status, sink, disk) = on_disk(rt.alloc(), command, bytes).expect(&rt, "in memory");
+        let ended = on_disk(rt.alloc(), command, bytes, &[]);
+        let (status, sink, disk) = ended.expect(&rt, "in memory");
         assert!(rt; status == *wanted, "{command}");
         assert!(rt; sink.bytes() == text.as_bytes(), "{command}");
         assert!(rt; disk.bytes() == *left, "{command}");
     }
+}
+
+#[test]
+fn a_disk_fault_is_told_with_the_count(rt: HostRuntime) {
+    let ended = on_disk(rt.alloc(), "format", b"what stood there", &[1]);
+    let (status, _sink, _disk) = ended.expect(&rt, "in memory");
+    assert!(rt; status == Status::DiskFault { faults: 1 });
 }
 
 // The same of a replay.

@@ -6,27 +6,20 @@ ghost use Rattle.tp_model.specs.Promises.{Promised};
 ghost use Rattle.tp_model.specs.Transcript.{transcript_with};
 ghost use Rattle.tp_words.specs.Asked.{is_line};
 ghost use Rattle.tp_words.specs.CommandLine.{said};
-ghost use Rattle.tpnode.specs.Status.{IsEnding};
-ghost use Rattle.tpnode.specs.Transcribing.{may_of, IsComplete, ReadsSo, Transcribes};
+ghost use Rattle.tp_replay.specs.Status.{IsEnding};
+ghost use Rattle.tp_replay.specs.Transcribing.{may_of, IsComplete, ReadsSo, Transcribes};
 ghost use Rattle.tpnode.specs.Commands.{Runs, Answers};
 ghost use Rattle.tpnode.specs.Words.{replay_words};
 
 use crate::auditing::audit_logs;
-use crate::checking::check_log;
-use crate::compacting::compact_log;
-use crate::formatting::format_log;
 use crate::listing::list_keys;
-use crate::making::make_schedule;
-use crate::migrating::migrate_log;
-use crate::replay::replay;
+use crate::logs::{check_log, compact_log, format_log, migrate_log, show_log};
 use crate::serving::serve_site;
-use crate::showing::show_log;
-use crate::status::Status;
 use crate::transacting::serve_face;
-use crate::trial::try_schedule;
 use std::alloc::Global;
 use tp_outside::{Disk, Sink, Source};
 use tp_records::Member;
+use tp_replay::{Status, make_schedule, replay, try_schedule};
 use tp_words::{Command, WordsFault, read};
 
 /// Runs the command that the words after the program's name ask for, and hands the disk back. Each leaves the source, the
@@ -84,8 +77,14 @@ fn run_command<S: Source, K: Sink, D: Disk, M: Member>(
         Command::Format => (format_log(&mut disk), disk),
         Command::Show => show_log(alloc, disk, sink),
         Command::Check => check_log(alloc, disk, sink),
-        Command::Make(plan) => (make_schedule(alloc, plan, sink), disk),
-        Command::Trial(plan) => (try_schedule(alloc, plan, sink), disk),
+        Command::Make(plan) => (
+            make_schedule(alloc, plan.number, plan.nodes, plan.rounds, sink),
+            disk,
+        ),
+        Command::Trial(plan) => (
+            try_schedule(alloc, plan.number, plan.nodes, plan.rounds, sink),
+            disk,
+        ),
         Command::Compact => compact_log(alloc, disk),
         Command::Migrate => migrate_log(alloc, disk),
         Command::Keys => list_keys(alloc, disk, sink),

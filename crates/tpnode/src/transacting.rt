@@ -1,14 +1,14 @@
 //! A face of a site that is given the calls and events of frames.
 ghost use Rattle.std.specs.Prelude.{◌≡◌, ℕ};
 ghost use Rattle.tp_words.specs.declared.command.Command.{Command};
-ghost use Rattle.tpnode.specs.Status.{Ends};
+ghost use Rattle.tp_replay.specs.Status.{Ends};
 ghost use Rattle.tpnode.specs.Commands.{exits};
 ghost use Rattle.tpnode.specs.Faces.{ServesFace};
 
-use crate::status::Status;
 use std::alloc::Global;
 use tp_names::SiteName;
 use tp_outside::{Disk, Sink, Source};
+use tp_replay::Status;
 use tp_tx::transact;
 
 /// Starts the site of that name on the disk's log with a face of its node 1, answers each call and each event that the frames

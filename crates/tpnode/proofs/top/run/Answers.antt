@@ -5,8 +5,8 @@ use Rattle.tp_model.specs.Transcript.{transcript_with}
 use Rattle.tp_laws.proofs.LineRuns.{transcripts_leave_runs, of_run}
 use Rattle.tp_laws.proofs.Promises.{promised}
 use Rattle.tpnode.specs.Commands.{Refused, Asked}
-use Rattle.tpnode.proofs.SoFar.{tells_none}
-use Rattle.tpnode.proofs.Ending.{completes}
+use Rattle.tp_replay.proofs.SoFar.{tells_none}
+use Rattle.tp_replay.proofs.Ending.{completes}
 use Rattle.tpnode.proofs.Asking.{never_usage, replays, plain_replay, no_usage}
 use Rattle.tpnode.proofs.top.run.Goals as goal
 

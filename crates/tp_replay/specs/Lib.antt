@@ -1,0 +1,9 @@
+pub mod Status
+pub mod Written
+pub mod Voters
+pub mod Participants
+pub mod Storing
+pub mod Transcribing
+pub mod Playing
+pub mod Making
+pub mod Trying

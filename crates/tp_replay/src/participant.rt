@@ -1,0 +1,51 @@
+//! The members of `replay`.
+ghost use Rattle.std.specs.Prelude.{◌≡◌, IfOk};
+ghost use Rattle.tp_replay.specs.Participants.{numbered};
+
+use crate::voter::Voter;
+use std::alloc::{AllocError, Global};
+use tp_bound::Bound;
+use tp_names::NoMemory;
+use tp_outside::Disk;
+use tp_records::{Indication, Member, Request, Unwilling, Willing};
+
+/// A member that always votes alike, or a bound store.
+#[derive(Drop)]
+pub enum Participant<D: Disk> {
+    Alike(Voter),
+    Stored(Bound<D>),
+}
+
+impl<D: Disk + Drop> Member for Participant<D> {
+    ghost use Rattle.tp_replay.specs.Participants.{may_answer};
+
+    ghost allowed = { λ m answers. may_answer m answers };
+
+    fn told(
+        &mut self,
+        alloc: Global,
+        node: u16,
+        ind: &Indication,
+    ) -> Result<Option<Request>, NoMemory> {
+        match self {
+            Participant::Alike(voter) => voter.told(alloc, node, ind),
+            Participant::Stored(store) => Member::told(store, alloc, node, ind),
+        }
+    }
+}
+
+/// Member 1 is willing, member 2 unwilling, and member 3 the store, where there is one.
+pub fn participants<D: Disk + Drop>(
+    alloc: Global,
+    store: Option<Bound<D>>,
+) -> Result<Vec<Participant<D>>, AllocError>
+    ensures { IfOk result (λ members. members.items ≡ numbered store) }
+{
+    let mut members = Vec::new(alloc);
+    members.push(Participant::Alike(Voter::Willing(Willing)))?;
+    members.push(Participant::Alike(Voter::Unwilling(Unwilling)))?;
+    if let Some(store) = store {
+        members.push(Participant::Stored(store))?;
+    }
+    Ok(members)
+}

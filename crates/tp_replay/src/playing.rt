@@ -1,0 +1,177 @@
+//! One line of a schedule, from its bytes to the bytes that it shows.
+ghost use Rattle.std.specs.Prelude.{◌≡◌, ◌++◌, ◌∷◌, [], IfErr, OnErr, OnOk};
+ghost use Rattle.tp_names.specs.Writing.{Keeps};
+ghost use Rattle.tp_model.specs.LineReading.{Says, read_line};
+ghost use Rattle.tp_model.specs.declared.out_line.OutLine.{OutLine};
+ghost use Rattle.tp_model.specs.LineText.{line_text};
+ghost use Rattle.tp_model.specs.OutText.{out_text, out_texts};
+ghost use Rattle.tp_model.specs.Transcript.{echo};
+ghost use Rattle.tp_model.specs.World.{World as WorldValue};
+ghost use Rattle.tp_driven.specs.DrivenWorld.{Stands};
+ghost use Rattle.tp_replay.specs.Status.{IsEndAt};
+ghost use Rattle.tp_replay.specs.Playing.{ShowsReading, unread_as, unplayed_as};
+
+use crate::status::Status;
+use std::alloc::Global;
+use tp_driven::{DrivenWorld, is_silent};
+use tp_model::{Line, OutLines, Why};
+use tp_names::{NoMemory, Octets};
+use tp_records::Member;
+use tp_schedule::{LineFault, read_line, write_line};
+use tp_transcript::write_out;
+use tp_world::WorldFault;
+
+/// Puts the text of these lines, each with its end, at the end of `out`. Without memory `out` stays as it was.
+pub fn write_texts(alloc: Global, lines: &OutLines, out: &mut Octets) -> Result<(), NoMemory>
+    ensures ok { OnOk result (out.new ≡ out.old ++ out_texts lines.now) }
+    ensures err { OnErr result (out.new ≡ out.old) }
+{
+    let len = out.len();
+    let written = append_texts(alloc, lines, out);
+    if written.is_err() {
+        out.truncate(len);
+    }
+    written
+}
+
+fn append_texts(alloc: Global, lines: &OutLines, out: &mut Octets) -> Result<(), NoMemory>
+    ensures ok { OnOk result (out.new ≡ out.old ++ out_texts lines.now) }
+    ensures err { OnErr result (Keeps out.old out.new) }
+{
+    for line in lines.as_slice() {
+        write_out(alloc, line, out)?;
+        out.push(alloc, b'\n')?;
+    }
+    Ok(())
+}
+
+// The status of a run that ends in the line of that number, since it does not read.
+fn unread(fault: LineFault, at: u64) -> Status
+    ensures { result ≡ unread_as at fault }
+{
+    let why = match fault {
+        LineFault::Long => Why::Long,
+        LineFault::Word => Why::Word,
+        LineFault::Number => Why::Number,
+        LineFault::NoMemory => return Status::NoMemory,
+    };
+    Status::BadInput { at, why }
+}
+
+// The status of a run that ends in the line of that number, since the world does not play it.
+fn unplayed(fault: WorldFault, at: u64) -> Status
+    ensures { result ≡ unplayed_as at fault }
+{
+    match fault {
+        WorldFault::Name => Status::BadInput { at, why: Why::Name },
+        WorldFault::Limit { what } => Status::Limit { what, at },
+        WorldFault::NoMemory => Status::NoMemory,
+    }
+}
+
+// Puts the echo of a line and the text of what it shows at the end of `out`. Without memory `out` stays as it was.
+fn write_shown(
+    alloc: Global,
+    line: &Line,
+    lines: &OutLines,
+    out: &mut Octets,
+) -> Result<(), NoMemory>
+    ensures ok { OnOk result (out.new ≡ out.old ++ out_texts (OutLine.Echo (line_text line.now) ∷ lines.now)) }
+    ensures err { OnErr result (out.new ≡ out.old) }
+{
+    let len = out.len();
+    let written = append_shown(alloc, line, lines, out);
+    if written.is_err() {
+        out.truncate(len);
+    }
+    written
+}
+
+fn append_shown(
+    alloc: Global,
+    line: &Line,
+    lines: &OutLines,
+    out: &mut Octets,
+) -> Result<(), NoMemory>
+    ensures ok { OnOk result (out.new ≡ out.old ++ out_texts (OutLine.Echo (line_text line.now) ∷ lines.now)) }
+    ensures err { OnErr result (Keeps out.old out.new) }
+{
+    append_echo(alloc, line, out)?;
+    append_texts(alloc, lines, out)
+}
+
+fn append_echo(alloc: Global, line: &Line, out: &mut Octets) -> Result<(), NoMemory>
+    ensures ok { OnOk result (out.new ≡ out.old ++ (out_text (OutLine.Echo (line_text line.now)) ++ 10 ∷ [])) }
+    ensures err { OnErr result (Keeps out.old out.new) }
+{
+    out.extend_from_slice(alloc, b"> ")?;
+    write_line(alloc, line, out)?;
+    out.push(alloc, b'\n')?;
+    Ok(())
+}
+
+// Puts the echo of a line, where it is shown, and the text of what it shows at the end of `out`. Without memory `out` stays
+// as it was.
+#[tactic(auto, using(crate::proofs::Ended::echo_and, crate::proofs::Ended::no_echo_and))]
+fn write_played(
+    alloc: Global,
+    line: &Line,
+    lines: &OutLines,
+    out: &mut Octets,
+) -> Result<(), NoMemory>
+    ensures ok { OnOk result (out.new ≡ out.old ++ out_texts (echo line.now ++ lines.now)) }
+    ensures err { OnErr result (out.new ≡ out.old) }
+{
+    if is_silent(line) {
+        write_texts(alloc, lines, out)
+    } else {
+        write_shown(alloc, line, lines, out)
+    }
+}
+
+// Puts what a line shows at the end of `out`; the status where the run ends in it, and `out` stays as it was. The lines are
+// room for what it shows.
+#[tactic(auto, using(crate::proofs::Ended::unplayed_at))]
+fn play_line<M: Member>(
+    alloc: Global,
+    world: &mut DrivenWorld<M>,
+    line: &Line,
+    at: u64,
+    lines: &mut OutLines,
+    out: &mut Octets,
+) -> Result<(), Status>
+    ensures ending { IfErr result (IsEndAt at) }
+    ensures same { OnErr result (out.new ≡ out.old) }
+    ensures shown { (w : WorldValue) → Stands w world.old → ShowsReading world.old world.new M.allowed at w (Says line.now) result out.old out.new }
+{
+    lines.clear();
+    match world.play(alloc, line, lines) {
+        Ok(()) => match write_played(alloc, line, lines, out) {
+            Ok(()) => Ok(()),
+            Err(NoMemory) => Err(Status::NoMemory),
+        },
+        Err(fault) => Err(unplayed(fault, at)),
+    }
+}
+
+/// Puts what the line of that number, without its end, shows at the end of `out`; the status where the run ends in it,
+/// and `out` stays as it was. The lines are room for what it shows.
+#[tactic(auto, using(crate::proofs::Ended::said_shows, crate::proofs::Ended::unread_ends, crate::proofs::Ended::unread_at))]
+pub fn play_text<M: Member>(
+    alloc: Global,
+    world: &mut DrivenWorld<M>,
+    text: &[u8],
+    at: u64,
+    lines: &mut OutLines,
+    out: &mut Octets,
+) -> Result<(), Status>
+    ensures ending { IfErr result (IsEndAt at) }
+    ensures same { OnErr result (out.new ≡ out.old) }
+    ensures shown { (w : WorldValue) → Stands w world.old → ShowsReading world.old world.new M.allowed at w (read_line text.now) result out.old out.new }
+{
+    match read_line(alloc, text) {
+        Ok(None) => Ok(()),
+        Ok(Some(line)) => play_line(alloc, world, &line, at, lines, out),
+        Err(fault) => Err(unread(fault, at)),
+    }
+}

@@ -1,0 +1,144 @@
+//! A schedule out of a source, played in a world with members, and its transcript into a sink, line by line.
+ghost use Rattle.std.specs.Prelude.{◌≡◌, ◌<◌, ◌≤◌, ◌++◌, ℕ, true, false, length, List, Some, None, [], IfErr, IfOk, OnErr, OnOk};
+ghost use Rattle.tp_model.specs.OutText.{out_texts};
+ghost use Rattle.tp_model.specs.Transcript.{RawLine};
+ghost use Rattle.tp_model.specs.Trees.{closing};
+ghost use Rattle.tp_model.specs.World.{World as WorldValue};
+ghost use Rattle.tp_schedule.specs.LinesLeft.{lines_left};
+ghost use Rattle.tp_driven.specs.DrivenWorld.{Stands};
+ghost use Rattle.tp_streams.specs.Stops.{IsFaultOf};
+ghost use Rattle.tp_replay.specs.Status.{IsReplayEnding, IsInputEnding, IsLineEnding};
+ghost use Rattle.tp_replay.specs.Playing.{PlaysNext, unheard_as};
+ghost use Rattle.tp_replay.specs.Transcribing.{may_of, ReadsSo, Transcribes, TranscribesOn};
+
+use crate::output::{write_all, write_long};
+use crate::playing::{play_text, write_texts};
+use crate::status::{Status, WriteFault};
+use std::alloc::Global;
+use tp_driven::DrivenWorld;
+use tp_model::{OutLines, What, Why};
+use tp_names::{NoMemory, Octets};
+use tp_outside::{Sink, Source};
+use tp_records::Member;
+use tp_schedule::{Lines, LinesFault};
+
+/// One more than the number of the line that is after the last one in any schedule.
+pub const PAST_LINES: u64 = 1_048_578;
+
+// The status of a run that ends in the line of that number, since it is not handed out.
+fn unheard(fault: LinesFault, at: u64) -> Status
+    ensures { result ≡ unheard_as at fault }
+{
+    match fault {
+        LinesFault::ReadFault { faults } => Status::ReadFault { faults },
+        LinesFault::Long => Status::BadInput { at, why: Why::Long },
+        LinesFault::Limit => Status::Limit {
+            what: What::Schedule,
+            at,
+        },
+    }
+}
+
+/// Puts what the next line of the source shows, which has that number, at the end of `out`, and answers whether there was
+/// one; the status where the run ends in it, and `out` stays as it was.
+pub fn play_next<S: Source, M: Member>(
+    alloc: Global,
+    lines: &mut Lines,
+    source: &mut S,
+    world: &mut DrivenWorld<M>,
+    at: u64,
+    shown: &mut OutLines,
+    out: &mut Octets,
+) -> Result<bool, Status>
+    requires numbered { 0 < at }
+    requires unfaulted { lines.old.fault ≡ None }
+    ensures kept { S.fault_count source.old ≤ S.fault_count source.new }
+    ensures ending { IfErr result (IsLineEnding (S.fault_count source.old) (S.fault_count source.new)) }
+    ensures unfaulted { result ≡ Ok true → lines.new.fault ≡ None }
+    ensures same { OnErr result (out.new ≡ out.old) }
+    ensures ended { result ≡ Ok false → out.new ≡ out.old }
+    ensures plays { (w : WorldValue) (ls : List RawLine) → Stands w world.old → lines_left lines.old (S.left source.old) ≡ Some ls → PlaysNext world.old world.new M.allowed at lines.old.before w ls result out.old out.new lines.new (S.left source.new) }
+{
+    match lines.next(source) {
+        Ok(None) => Ok(false),
+        Ok(Some(text)) => match play_text(alloc, world, text, at, shown, out) {
+            Ok(()) => Ok(true),
+            Err(status) => Err(status),
+        },
+        Err(fault) => Err(unheard(fault, at)),
+    }
+}
+
+// Puts the closing lines at the end of `out`. Without memory `out` stays as it was.
+fn close<M: Member>(alloc: Global, world: &DrivenWorld<M>, out: &mut Octets) -> Result<(), NoMemory>
+    ensures ok { (w : WorldValue) → Stands w world.now → OnOk result (out.new ≡ out.old ++ out_texts (closing w)) }
+    ensures err { OnErr result (out.new ≡ out.old) }
+{
+    let lines = world.closing(alloc)?;
+    write_texts(alloc, &lines, out)
+}
+
+// Plays the schedule in a world with these members, and answers how it ends. What it shows is put at the end of `out`, and
+// written as it gets long: what is in `out` in the end is still to be written.
+fn play_all<S: Source, K: Sink, M: Member>(
+    alloc: Global,
+    source: &mut S,
+    sink: &mut K,
+    members: Vec<M>,
+    out: &mut Octets,
+) -> Result<Status, WriteFault>
+    requires { out.old ≡ [] }
+    ensures kept { K.fault_count sink.old ≤ K.fault_count sink.new }
+    ensures ending { IfOk result (IsInputEnding (S.fault_count source.old) (S.fault_count source.new)) }
+    ensures fault { IfErr result (λ f. IsFaultOf f.faults (K.fault_count sink.old) (K.fault_count sink.new)) }
+    ensures reads { (bytes : List ℕ) → S.left source.old ≡ Some bytes → IfOk result (λ status. ReadsSo bytes status (S.left source.new)) }
+    ensures plays { (bytes : List ℕ) → S.left source.old ≡ Some bytes → TranscribesOn (may_of M.allowed members.items) (length members.items) bytes result (S.left source.new) out.new (K.written sink.old) (K.written sink.new) }
+{
+    let Ok(mut world) = DrivenWorld::new(alloc, members) else {
+        return Ok(Status::NoMemory);
+    };
+    let mut lines = Lines::new();
+    let mut shown = OutLines::new(alloc);
+    for at in 1..PAST_LINES {
+        match play_next(alloc, &mut lines, source, &mut world, at, &mut shown, out) {
+            Ok(true) => {
+                if let Err(fault) = write_long(sink, out) {
+                    return Err(fault);
+                }
+            }
+            Ok(false) => {
+                return match close(alloc, &world, out) {
+                    Ok(()) => Ok(Status::Ok),
+                    Err(NoMemory) => Ok(Status::NoMemory),
+                };
+            }
+            Err(status) => return Ok(status),
+        }
+    }
+    Ok(Status::Limit {
+        what: What::Schedule,
+        at: PAST_LINES,
+    })
+}
+
+/// Reads a schedule from the source, and writes its transcript with these members to the sink as it goes, in long pieces.
+pub fn replay<S: Source, K: Sink, M: Member>(
+    alloc: Global,
+    source: &mut S,
+    sink: &mut K,
+    members: Vec<M>,
+) -> Status
+    ensures ending { IsReplayEnding (S.fault_count source.old) (S.fault_count source.new) (K.fault_count sink.old) (K.fault_count sink.new) result }
+    ensures reads { (bytes : List ℕ) → S.left source.old ≡ Some bytes → ReadsSo bytes result (S.left source.new) }
+    ensures transcript { (bytes : List ℕ) → S.left source.old ≡ Some bytes → Transcribes (may_of M.allowed members.items) (length members.items) bytes result (S.left source.new) (K.written sink.old) (K.written sink.new) }
+{
+    let mut out = Octets::new(alloc);
+    let status = match play_all(alloc, source, sink, members, &mut out) {
+        Ok(status) => status,
+        Err(WriteFault { faults }) => return Status::WriteFault { faults },
+    };
+    match write_all(sink, out.as_slice()) {
+        Ok(()) => status,
+        Err(WriteFault { faults }) => Status::WriteFault { faults },
+    }
+}
