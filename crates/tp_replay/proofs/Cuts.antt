@@ -76,11 +76,11 @@ size_of_lines (b ∷ bs) = go (b == 10) refl (size_of_lines bs)
 
 -- they come first; before other bytes they are that line still, if it has an end
 record FirstCut (bs : List ℕ) (l : RawLine) (ls : List RawLine) : Type 0 where
-  front : List ℕ
+  prefix : List ℕ
   rest : List ℕ
-  is : bs ≡ front ++ rest
+  is : bs ≡ prefix ++ rest
   others : raw_lines rest ≡ ls
-  again : (more : List ℕ) → (l.ended ≡ true) ⊎ (more ≡ []) → raw_lines (front ++ more) ≡ l ∷ raw_lines more
+  again : (more : List ℕ) → (l.ended ≡ true) ⊎ (more ≡ []) → raw_lines (prefix ++ more) ≡ l ∷ raw_lines more
   last : l.ended ≡ false → ls ≡ []
 
 first_cut : (bs : List ℕ) (l : RawLine) (ls : List RawLine) → raw_lines bs ≡ l ∷ ls → FirstCut bs l ls
@@ -92,7 +92,7 @@ first_cut (b ∷ bs) l ls is = go (b == 10) refl (λ l ls is. first_cut bs l ls 
         let one : fed ≡ l = grind (arith, same) in
         let others : raw_lines bs ≡ ls = grind (arith, same) in
         subst (λ (x : RawLine). FirstCut (b ∷ bs) x ls) one (record {
-          front = b ∷ [];
+          prefix = b ∷ [];
           rest = bs;
           is = refl;
           others = others;
@@ -114,7 +114,7 @@ first_cut (b ∷ bs) l ls is = go (b == 10) refl (λ l ls is. first_cut bs l ls 
         let one : single ≡ l = grind (arith, same) in
         let none : [] ≡ ls = grind (arith, same) in
         subst (λ (x : RawLine). FirstCut (b ∷ bs) x ls) one (record {
-          front = b ∷ [];
+          prefix = b ∷ [];
           rest = bs;
           is = refl;
           others = e ∙ none;
@@ -126,11 +126,11 @@ first_cut (b ∷ bs) l ls is = go (b == 10) refl (λ l ls is. first_cut bs l ls 
         let one : longer x ≡ l = grind (arith, same) in
         let others : xs ≡ ls = grind (arith, same) in
         subst (λ (y : RawLine). FirstCut (b ∷ bs) y ls) one (record {
-          front = b ∷ c.front;
+          prefix = b ∷ c.prefix;
           rest = c.rest;
           is = ap (λ (m : List ℕ). b ∷ m) c.is;
           others = c.others ∙ others;
-          again = λ more h. by_byte b (c.front ++ more) byte ∙ ap (before_first b) (c.again more h);
+          again = λ more h. by_byte b (c.prefix ++ more) byte ∙ ap (before_first b) (c.again more h);
           last = λ e. sym others ∙ c.last e;
         })
 
@@ -141,10 +141,10 @@ first_cut (b ∷ bs) l ls is = go (b == 10) refl (λ l ls is. first_cut bs l ls 
 -- ---- the bytes of some
 
 pub record Cut (bs : List ℕ) (first rest : List RawLine) : Type 0 where
-  pub front : List ℕ
+  pub prefix : List ℕ
   pub behind : List ℕ
-  pub is : bs ≡ front ++ behind
-  pub first_lines : raw_lines front ≡ first
+  pub is : bs ≡ prefix ++ behind
+  pub first_lines : raw_lines prefix ≡ first
   pub other_lines : raw_lines behind ≡ rest
 
 none_of : (xs ys : List RawLine) → xs ++ ys ≡ [] → xs ≡ []
@@ -152,18 +152,18 @@ none_of [] ys e = refl
 none_of (x ∷ xs) ys e = absurd (grind (arith, e))
 
 pub cut_at : (bs : List ℕ) (first rest : List RawLine) → raw_lines bs ≡ first ++ rest → Cut bs first rest
-cut_at bs [] rest is = record { front = []; behind = bs; is = refl; first_lines = refl; other_lines = is }
+cut_at bs [] rest is = record { prefix = []; behind = bs; is = refl; first_lines = refl; other_lines = is }
 cut_at bs (l ∷ first) rest is =
     let c : FirstCut bs l (first ++ rest) = first_cut bs l (first ++ rest) is in
     let d : Cut c.rest first rest = cut_at c.rest first rest c.others in
     record {
-      front = c.front ++ d.front;
+      prefix = c.prefix ++ d.prefix;
       behind = d.behind;
-      is = c.is ∙ ap (λ (m : List ℕ). c.front ++ m) d.is ∙ sym (append_assoc c.front d.front d.behind);
-      first_lines = c.again d.front (whole c d l.ended refl) ∙ ap (λ (ls : List RawLine). l ∷ ls) d.first_lines;
+      is = c.is ∙ ap (λ (m : List ℕ). c.prefix ++ m) d.is ∙ sym (append_assoc c.prefix d.prefix d.behind);
+      first_lines = c.again d.prefix (whole c d l.ended refl) ∙ ap (λ (ls : List RawLine). l ∷ ls) d.first_lines;
       other_lines = d.other_lines;
     }
   where
-    whole : (c : FirstCut bs l (first ++ rest)) (d : Cut c.rest first rest) (e : Bool) → l.ended ≡ e → (l.ended ≡ true) ⊎ (d.front ≡ [])
+    whole : (c : FirstCut bs l (first ++ rest)) (d : Cut c.rest first rest) (e : Bool) → l.ended ≡ e → (l.ended ≡ true) ⊎ (d.prefix ≡ [])
     whole c d true h = inl h
-    whole c d false h = inr (raw_none d.front (d.first_lines ∙ none_of first rest (c.last h)))
+    whole c d false h = inr (raw_none d.prefix (d.first_lines ∙ none_of first rest (c.last h)))

@@ -25,8 +25,9 @@ use Rattle.tp_driven.specs.Members.{Gave}
 use Rattle.tp_driven.specs.DrivenWorld.{members_of, Stands, PlaysAfter}
 use Rattle.tp_driven.specs.declared.driven_world.DrivenWorld.{DrivenWorld}
 use Rattle.tp_driven.proofs.Gave.{gave_none}
-use Rattle.tp_replay.specs.declared.status.Status.{Status}
-use Rattle.tp_replay.specs.Status.{IsEndAt}
+use Rattle.tp_replay.specs.declared.stop.LineStop.{LineStop}
+use Rattle.tp_replay.specs.declared.stop.InputStop.{InputStop}
+use Rattle.tp_replay.specs.Stops.{IsNumbered}
 use Rattle.tp_replay.specs.Transcribing.{ReadsTo, past_bad, past_limit}
 use Rattle.tp_replay.specs.Playing.{unread_as, unplayed_as, unheard_as, Stops, from_reading, Shows, EndsIn, EndsReading, ShowsReading, ShowsNext, EndsAt, EndsNext}
 use Rattle.tp_replay.proofs.Left.{Parted, answers_first, reads_to}
@@ -39,18 +40,18 @@ echo_and l ls h = sym (ap (λ (b : Bool). out_texts ((elim b as (λ _. List OutL
 pub no_echo_and : (l : Line) (ls : List OutLine) → is_silent l ≡ true → out_texts ls ≡ out_texts (echo l ++ ls)
 no_echo_and l ls h = sym (ap (λ (b : Bool). out_texts ((elim b as (λ _. List OutLine) [ true ↦ [] | false ↦ OutLine.Echo (line_text l) ∷ [] ]) ++ ls)) h)
 
--- ---- at that line
+-- ---- in a line with a number
 
-pub unread_at : (at : ℕ) (f : LineFault) → IsEndAt at (unread_as at f)
-unread_at at LineFault.Long = refl
-unread_at at LineFault.Word = refl
-unread_at at LineFault.Number = refl
-unread_at at LineFault.NoMemory = tt
+pub unread_numbered : (at : ℕ) (f : LineFault) → 0 < at → IsNumbered (unread_as at f)
+unread_numbered at LineFault.Long h = h
+unread_numbered at LineFault.Word h = h
+unread_numbered at LineFault.Number h = h
+unread_numbered at LineFault.NoMemory h = tt
 
-pub unplayed_at : (at : ℕ) (f : WorldFault) → IsEndAt at (unplayed_as at f)
-unplayed_at at WorldFault.Name = refl
-unplayed_at at (WorldFault.Limit what) = refl
-unplayed_at at WorldFault.NoMemory = tt
+pub unplayed_numbered : (at : ℕ) (f : WorldFault) → 0 < at → IsNumbered (unplayed_as at f)
+unplayed_numbered at WorldFault.Name h = h
+unplayed_numbered at (WorldFault.Limit what) h = h
+unplayed_numbered at WorldFault.NoMemory h = tt
 
 -- ---- a line
 
@@ -92,8 +93,8 @@ module _ {M : Type 0} (allowed : M → List Answer → Type 0) (at : ℕ) (w : W
           ≡ record { written = []; ending = fault_ending at f; world = h.play.world; puts = h.play.puts }
       ended later rest o e = ap (λ (o : Option Fault). elim o as (λ _. Transcript) [ Some g ↦ breaks at g (record h.play { left = later }) | None ↦ behind (record h.play { left = later }) (rest later h.play.world) ]) e
 
-  pub line_ends : (x : Line) (f : WorldFault) (before lines : List OutLine) (status : Status) → status ≡ unplayed_as at f → PlaysAfter allowed w x before (Err f) lines old new → EndsReading allowed at w (Says x) status old new
-  line_ends x f before lines status is h = subst (λ (s : Status). EndsReading allowed at w (Says x) s old new) (sym is) (go f h)
+  pub line_ends : (x : Line) (f : WorldFault) (before lines : List OutLine) (stop : LineStop) → stop ≡ unplayed_as at f → PlaysAfter allowed w x before (Err f) lines old new → EndsReading allowed at w (Says x) stop old new
+  line_ends x f before lines stop is h = subst (λ (s : LineStop). EndsReading allowed at w (Says x) s old new) (sym is) (go f h)
     where
       go : (f : WorldFault) → PlaysAfter allowed w x before (Err f) lines old new → EndsReading allowed at w (Says x) (unplayed_as at f) old new
       go WorldFault.Name h = (refl, stops_line x Name h)
@@ -111,15 +112,15 @@ module _ {M : Type 0} (allowed : M → List Answer → Type 0) (at : ℕ) (w : W
     stands = stands;
   }))
 
-  pub said_shows : (x : Line) (r : Reading) (a : Result (Unit {0}) Status) (out shown : List ℕ) → Says x ≡ r → ShowsReading old new allowed at w (Says x) a out shown → ShowsReading old new allowed at w r a out shown
+  pub said_shows : (x : Line) (r : Reading) (a : Result (Unit {0}) LineStop) (out shown : List ℕ) → Says x ≡ r → ShowsReading old new allowed at w (Says x) a out shown → ShowsReading old new allowed at w r a out shown
   said_shows x r a out shown is h = subst (λ (q : Reading). ShowsReading old new allowed at w q a out shown) is h
 
   faulty_ends : (why : Why) (r : Reading) → Faulty why ≡ r → members_of new ≡ members_of old → EndsIn allowed at w r (Bad_input at why) old new
   faulty_ends why r is same = subst (λ (q : Reading). EndsIn allowed at w q (Bad_input at why) old new) is
       (λ rest. record { put = []; given = []; world = w; each = refl; stops = λ later. refl; gave = subst (λ (xs : List (Option M)). Gave allowed (members_of old) xs [] []) (sym same) (gave_none allowed (members_of old)) })
 
-  pub unread_ends : (f : LineFault) (r : Reading) (status : Status) → status ≡ unread_as at f → IfSome (answered (Err f)) (λ reading. reading ≡ r) → members_of new ≡ members_of old → EndsReading allowed at w r status old new
-  unread_ends f r status now is same = subst (λ (s : Status). EndsReading allowed at w r s old new) (sym now) (go f is)
+  pub unread_ends : (f : LineFault) (r : Reading) (stop : LineStop) → stop ≡ unread_as at f → IfSome (answered (Err f)) (λ reading. reading ≡ r) → members_of new ≡ members_of old → EndsReading allowed at w r stop old new
+  unread_ends f r stop now is same = subst (λ (s : LineStop). EndsReading allowed at w r s old new) (sym now) (go f is)
     where
       go : (f : LineFault) → IfSome (answered (Err f)) (λ reading. reading ≡ r) → EndsReading allowed at w r (unread_as at f) old new
       go LineFault.Long is = (refl, faulty_ends Why.Long r is same)
@@ -210,17 +211,10 @@ module _ {M : Type 0} (allowed : M → List Answer → Type 0) (at : ℕ) (w : W
     few_limit What.Log = omega arith
     few_limit What.Boots = omega arith
 
-    pub ends_first : (status : Status) → ReadsTo 12288 ls unread → EndsReading allowed at w (read_line text) status old new → EndsNext allowed at p.before w ls status unread old new
-    ends_first Status.Ok reads h = h
-    ends_first (Status.Findings n) reads h = h
-    ends_first Status.Usage reads h = h
-    ends_first (Status.BadInput n why) reads h = stops_first n (past_bad why ls) (Bad_input n why) reads (few_bad why) h
-    ends_first (Status.Limit what n) reads h = stops_first n (past_limit what ls) (At_limit what n) reads (few_limit what) h
-    ends_first (Status.Foreign n) reads h = h
-    ends_first (Status.ReadFault n) reads h = absurd h
-    ends_first (Status.WriteFault n) reads h = h
-    ends_first (Status.DiskFault n) reads h = h
-    ends_first Status.NoMemory reads h = tt
+    pub ends_first : (stop : LineStop) → ReadsTo 12288 ls unread → EndsReading allowed at w (read_line text) stop old new → EndsNext allowed at p.before w ls (InputStop.Line stop) unread old new
+    ends_first (LineStop.BadInput n why) reads h = stops_first n (past_bad why ls) (Bad_input n why) reads (few_bad why) h
+    ends_first (LineStop.Limit what n) reads h = stops_first n (past_limit what ls) (At_limit what n) reads (few_limit what) h
+    ends_first LineStop.NoMemory reads h = tt
 
   -- one that is not handed out
   first_stops : (before most : ℕ) (l : RawLine) (ls : List RawLine) (e : Ending) (unread : Option (List ℕ)) → ((answers : List (Option Request)) → transcript_from k at before answers w (l ∷ ls) ≡ ends w e) → members_of new ≡ members_of old → ReadsTo most (l ∷ ls) unread
@@ -238,9 +232,9 @@ module _ {M : Type 0} (allowed : M → List Answer → Type 0) (at : ℕ) (w : W
     reads = reads;
   }
 
-  pub unheard_ends : (p : Place) (left : Option (List ℕ)) (ls : List RawLine) (f : LinesFault) (status : Status) (unread : Option (List ℕ)) → status ≡ unheard_as at f → p.fault ≡ None → lines_left p left ≡ Some ls
-      → IsFor (answer p) (together p.held left) (Err f) → IsAhead (together p.held left) unread (Err f) → members_of new ≡ members_of old → EndsNext allowed at p.before w ls status unread old new
-  unheard_ends p left ls f status unread now unfaulted is for_these ahead same = subst (λ (s : Status). EndsNext allowed at p.before w ls s unread old new) (sym now) (go f ls (answers_first p left ls (Err f) unfaulted is for_these) (reads_to p left ls unread (Err f) is ahead))
+  pub unheard_ends : (p : Place) (left : Option (List ℕ)) (ls : List RawLine) (f : LinesFault) (stop : InputStop) (unread : Option (List ℕ)) → stop ≡ unheard_as at f → p.fault ≡ None → lines_left p left ≡ Some ls
+      → IsFor (answer p) (together p.held left) (Err f) → IsAhead (together p.held left) unread (Err f) → members_of new ≡ members_of old → EndsNext allowed at p.before w ls stop unread old new
+  unheard_ends p left ls f stop unread now unfaulted is for_these ahead same = subst (λ (s : InputStop). EndsNext allowed at p.before w ls s unread old new) (sym now) (go f ls (answers_first p left ls (Err f) unfaulted is for_these) (reads_to p left ls unread (Err f) is ahead))
     where
       long : (l : RawLine) (ls : List RawLine) (answers : List (Option Request)) → Err LinesFault.Long ≡ judged p.before l → transcript_from k at p.before answers w (l ∷ ls) ≡ ends w (Bad_input at Why.Long)
       long l ls answers e = cases (nat_lt 1048576 (p.before + taken_by l)) refl (nat_lt 8192 (length (content l))) refl

@@ -1,4 +1,4 @@
-mod Fronts
+mod Prefixes
 mod Pending
 mod Cuts
 mod Texts

@@ -13,11 +13,12 @@ use Rattle.tp_driven.specs.Members.{slot_at, may, Gave}
 use Rattle.tp_driven.specs.DrivenWorld.{members_of, Stands}
 use Rattle.tp_driven.specs.declared.driven_world.DrivenWorld.{DrivenWorld}
 use Rattle.tp_driven.proofs.Gave.{gave_none, gave_more, answers_joined}
-use Rattle.tp_replay.specs.Written.{IsFront, WroteBut}
+use Rattle.tp_streams.specs.Written.{IsPrefix}
+use Rattle.tp_replay.specs.Written.{WroteBut}
 use Rattle.tp_replay.specs.Transcribing.{may_of, AreGiven, TellsAll, TellsSome}
 use Rattle.tp_replay.specs.Playing.{after_text, Leads, Stops, ShowsNext}
 use Rattle.tp_replay.proofs.Cuts.{takes_some}
-use Rattle.tp_replay.proofs.Fronts.{front_trans}
+use Rattle.tp_replay.proofs.Prefixes.{prefix_trans}
 use Rattle.tp_replay.proofs.Pending.{wrote_more, wrote_some}
 
 -- ---- what members may answer
@@ -119,7 +120,7 @@ module _ {M : Type 0} (allowed : M → List Answer → Type 0) (ms : List M) (by
   whole_some now text e h = record {
     answers = h.answers;
     given = (are_allowed now text e h).own;
-    front = ([], ap (λ (t : Transcript). t.written) h.is ∙ sym (append-nil text));
+    prefix = ([], ap (λ (t : Transcript). t.written) h.is ∙ sym (append-nil text));
   }
 
   pub tells_some : (now : List (Option M)) (rest : List (Option Request) → Transcript) (text : List ℕ) → Goes allowed first now all_of text rest → TellsSome (may_of allowed ms) (length ms) bytes text
@@ -127,7 +128,7 @@ module _ {M : Type 0} (allowed : M → List Answer → Type 0) (ms : List M) (by
     answers = h.given;
     given = λ k. subst (λ (t : Transcript). may_of allowed ms k (answers_of k t.puts h.given)) (sym is)
         (subst (may_of allowed ms k) (sym (more_put k h.put (rest []).puts h.given h.each)) (own_of allowed ms now h.put h.given h.gave k));
-    front = ((rest []).written, ap (λ (t : Transcript). t.written) is);
+    prefix = ((rest []).written, ap (λ (t : Transcript). t.written) is);
   }
     where
       is : all_of h.given ≡ after_text text h.put (rest [])
@@ -137,12 +138,12 @@ module _ {M : Type 0} (allowed : M → List Answer → Type 0) (ms : List M) (by
   tells_none = record {
     answers = [];
     given = λ k. subst (may_of allowed ms k) (sym (unanswered k (all_of []).puts)) (may_nothing allowed (slot_at first k));
-    front = ((all_of []).written, refl);
+    prefix = ((all_of []).written, refl);
   }
 
 -- of a text, a prefix
-pub tells_front : (may : ℕ → List Answer → Type 0) (members : ℕ) (bytes text part : List ℕ) → TellsSome may members bytes text → IsFront part text → TellsSome may members bytes part
-tells_front may members bytes text part h front = record { answers = h.answers; given = h.given; front = front_trans part text (transcript_with members bytes h.answers).written front h.front }
+pub tells_prefix : (may : ℕ → List Answer → Type 0) (members : ℕ) (bytes text part : List ℕ) → TellsSome may members bytes text → IsPrefix part text → TellsSome may members bytes part
+tells_prefix may members bytes text part h prefix = record { answers = h.answers; given = h.given; prefix = prefix_trans part text (transcript_with members bytes h.answers).written prefix h.prefix }
 
 -- ---- how far it has come
 

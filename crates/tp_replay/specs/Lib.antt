@@ -1,3 +1,4 @@
+pub mod Stops
 pub mod Status
 pub mod Written
 pub mod Voters

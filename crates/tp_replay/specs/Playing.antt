@@ -1,4 +1,4 @@
--- What the code answers of one line in a driven world: the bytes that it shows, or how the run ends in it. Out of memory is the free
+-- What the code answers of one line in a driven world: the bytes that it shows, or what stops the run in it. Out of memory is the free
 -- answer.
 use Rattle.std.specs.Prelude.{ℕ, suc, ◌≡◌, ◌+◌, ◌++◌, nat_lt, Bool, true, false, Option, Some, None, List, [], ◌∷◌, length, Result, Ok, Err}
 use Rattle.tp_records.specs.declared.request.Request.{Request}
@@ -15,26 +15,27 @@ use Rattle.tp_world_parts.specs.declared.fault.WorldFault.{WorldFault}
 use Rattle.tp_driven.specs.Members.{Gave}
 use Rattle.tp_driven.specs.DrivenWorld.{members_of, Stands}
 use Rattle.tp_driven.specs.declared.driven_world.DrivenWorld.{DrivenWorld}
-use Rattle.tp_replay.specs.declared.status.Status.{Status}
+use Rattle.tp_replay.specs.declared.stop.LineStop.{LineStop}
+use Rattle.tp_replay.specs.declared.stop.InputStop.{InputStop}
 use Rattle.tp_replay.specs.Transcribing.{ReadsTo, past_bad, past_limit}
 
--- the status of a run that ends in the line of that number, since it does not read, or since the world does not play it
-abbrev pub unread_as : ℕ → LineFault → Status
-unread_as at LineFault.Long = Status.BadInput at Why.Long
-unread_as at LineFault.Word = Status.BadInput at Why.Word
-unread_as at LineFault.Number = Status.BadInput at Why.Number
-unread_as at LineFault.NoMemory = Status.NoMemory
+-- what stops a run in the line of that number, since it does not read, or since the world does not play it
+abbrev pub unread_as : ℕ → LineFault → LineStop
+unread_as at LineFault.Long = LineStop.BadInput at Why.Long
+unread_as at LineFault.Word = LineStop.BadInput at Why.Word
+unread_as at LineFault.Number = LineStop.BadInput at Why.Number
+unread_as at LineFault.NoMemory = LineStop.NoMemory
 
-abbrev pub unplayed_as : ℕ → WorldFault → Status
-unplayed_as at WorldFault.Name = Status.BadInput at Why.Name
-unplayed_as at (WorldFault.Limit what) = Status.Limit what at
-unplayed_as at WorldFault.NoMemory = Status.NoMemory
+abbrev pub unplayed_as : ℕ → WorldFault → LineStop
+unplayed_as at WorldFault.Name = LineStop.BadInput at Why.Name
+unplayed_as at (WorldFault.Limit what) = LineStop.Limit what at
+unplayed_as at WorldFault.NoMemory = LineStop.NoMemory
 
 -- or since it is not handed out
-abbrev pub unheard_as : ℕ → LinesFault → Status
-unheard_as at (LinesFault.ReadFault faults) = Status.ReadFault faults
-unheard_as at LinesFault.Long = Status.BadInput at Why.Long
-unheard_as at LinesFault.Limit = Status.Limit What.Schedule at
+abbrev pub unheard_as : ℕ → LinesFault → InputStop
+unheard_as at (LinesFault.ReadFault faults) = InputStop.ReadFault faults
+unheard_as at LinesFault.Long = InputStop.Line (LineStop.BadInput at Why.Long)
+unheard_as at LinesFault.Limit = InputStop.Line (LineStop.Limit What.Schedule at)
 
 -- ---- one step of a transcript, for some answers that were given
 
@@ -81,21 +82,14 @@ pub record Shows {M : Type 0} (allowed : M → List Answer → Type 0) (at : ℕ
 abbrev pub EndsIn : {M : Type 0} → (M → List Answer → Type 0) → ℕ → World → Reading → Ending → DrivenWorld M → DrivenWorld M → Type 0
 EndsIn allowed at w r e old new = (rest : List (Option Request) → World → Transcript) → Stops allowed (members_of old) (members_of new) (from_reading (length (members_of old)) at w r rest) e
 
-abbrev pub EndsReading : {M : Type 0} → (M → List Answer → Type 0) → ℕ → World → Reading → Status → DrivenWorld M → DrivenWorld M → Type 0
-EndsReading allowed at w r Status.Ok old new = ⊥
-EndsReading allowed at w r (Status.Findings n) old new = ⊥
-EndsReading allowed at w r Status.Usage old new = ⊥
-EndsReading allowed at w r (Status.BadInput n why) old new = (n ≡ at) × EndsIn allowed at w r (Bad_input n why) old new
-EndsReading allowed at w r (Status.Limit what n) old new = (n ≡ at) × EndsIn allowed at w r (At_limit what n) old new
-EndsReading allowed at w r (Status.Foreign n) old new = ⊥
-EndsReading allowed at w r (Status.ReadFault faults) old new = ⊥
-EndsReading allowed at w r (Status.WriteFault faults) old new = ⊥
-EndsReading allowed at w r (Status.DiskFault faults) old new = ⊥
-EndsReading allowed at w r Status.NoMemory old new = Unit {0}
+abbrev pub EndsReading : {M : Type 0} → (M → List Answer → Type 0) → ℕ → World → Reading → LineStop → DrivenWorld M → DrivenWorld M → Type 0
+EndsReading allowed at w r (LineStop.BadInput n why) old new = (n ≡ at) × EndsIn allowed at w r (Bad_input n why) old new
+EndsReading allowed at w r (LineStop.Limit what n) old new = (n ≡ at) × EndsIn allowed at w r (At_limit what n) old new
+EndsReading allowed at w r LineStop.NoMemory old new = Unit {0}
 
-abbrev pub ShowsReading : {M : Type 0} → DrivenWorld M → DrivenWorld M → (M → List Answer → Type 0) → ℕ → World → Reading → Result (Unit {0}) Status → List ℕ → List ℕ → Type 0
+abbrev pub ShowsReading : {M : Type 0} → DrivenWorld M → DrivenWorld M → (M → List Answer → Type 0) → ℕ → World → Reading → Result (Unit {0}) LineStop → List ℕ → List ℕ → Type 0
 ShowsReading old new allowed at w r (Ok u) out shown = Shows allowed at w r out shown old new
-ShowsReading old new allowed at w r (Err status) out shown = EndsReading allowed at w r status old new
+ShowsReading old new allowed at w r (Err stop) out shown = EndsReading allowed at w r stop old new
 
 -- ---- the next line of a source
 
@@ -120,18 +114,15 @@ pub record EndsAt {M : Type 0} (allowed : M → List Answer → Type 0) (at befo
   pub stops : Stops allowed (members_of old) (members_of new) (λ answers. transcript_from (length (members_of old)) at before answers w ls) e
   pub reads : ReadsTo most ls unread
 
-abbrev pub EndsNext : {M : Type 0} → (M → List Answer → Type 0) → ℕ → ℕ → World → List RawLine → Status → Option (List ℕ) → DrivenWorld M → DrivenWorld M → Type 0
-EndsNext allowed at before w ls Status.Ok unread old new = ⊥
-EndsNext allowed at before w ls (Status.Findings n) unread old new = ⊥
-EndsNext allowed at before w ls Status.Usage unread old new = ⊥
-EndsNext allowed at before w ls (Status.BadInput n why) unread old new = EndsAt allowed at before w ls n (Bad_input n why) (past_bad why ls) unread old new
-EndsNext allowed at before w ls (Status.Limit what n) unread old new = EndsAt allowed at before w ls n (At_limit what n) (past_limit what ls) unread old new
-EndsNext allowed at before w ls (Status.Foreign n) unread old new = ⊥
--- the source failed, before the end of the first of them was read
-EndsNext allowed at before w ls (Status.ReadFault faults) unread old new = ReadsTo (first_length ls) ls unread
-EndsNext allowed at before w ls (Status.WriteFault faults) unread old new = ⊥
-EndsNext allowed at before w ls (Status.DiskFault faults) unread old new = ⊥
-EndsNext allowed at before w ls Status.NoMemory unread old new = Unit {0}
+abbrev pub EndsFirst : {M : Type 0} → (M → List Answer → Type 0) → ℕ → ℕ → World → List RawLine → LineStop → Option (List ℕ) → DrivenWorld M → DrivenWorld M → Type 0
+EndsFirst allowed at before w ls (LineStop.BadInput n why) unread old new = EndsAt allowed at before w ls n (Bad_input n why) (past_bad why ls) unread old new
+EndsFirst allowed at before w ls (LineStop.Limit what n) unread old new = EndsAt allowed at before w ls n (At_limit what n) (past_limit what ls) unread old new
+EndsFirst allowed at before w ls LineStop.NoMemory unread old new = Unit {0}
+
+-- or the source failed, before the end of the first of them was read
+abbrev pub EndsNext : {M : Type 0} → (M → List Answer → Type 0) → ℕ → ℕ → World → List RawLine → InputStop → Option (List ℕ) → DrivenWorld M → DrivenWorld M → Type 0
+EndsNext allowed at before w ls (InputStop.Line stop) unread old new = EndsFirst allowed at before w ls stop unread old new
+EndsNext allowed at before w ls (InputStop.ReadFault faults) unread old new = ReadsTo (first_length ls) ls unread
 
 -- there is none, and nothing is left to read
 pub record IsLast {M : Type 0} (ls : List RawLine) (unread : Option (List ℕ)) (old new : DrivenWorld M) : Type 0 where
@@ -139,7 +130,7 @@ pub record IsLast {M : Type 0} (ls : List RawLine) (unread : Option (List ℕ)) 
   pub ended : unread ≡ Some []
   pub same : new ≡ old
 
-abbrev pub PlaysNext : {M : Type 0} → DrivenWorld M → DrivenWorld M → (M → List Answer → Type 0) → ℕ → ℕ → World → List RawLine → Result Bool Status → List ℕ → List ℕ → Place → Option (List ℕ) → Type 0
+abbrev pub PlaysNext : {M : Type 0} → DrivenWorld M → DrivenWorld M → (M → List Answer → Type 0) → ℕ → ℕ → World → List RawLine → Result Bool InputStop → List ℕ → List ℕ → Place → Option (List ℕ) → Type 0
 PlaysNext old new allowed at before w ls (Ok true) out shown place unread = ShowsNext allowed at before w ls out shown place unread old new
 PlaysNext old new allowed at before w ls (Ok false) out shown place unread = IsLast ls unread old new
-PlaysNext old new allowed at before w ls (Err status) out shown place unread = EndsNext allowed at before w ls status unread old new
+PlaysNext old new allowed at before w ls (Err stop) out shown place unread = EndsNext allowed at before w ls stop unread old new

@@ -6,6 +6,10 @@ use Rattle.tp_model.specs.declared.verdict.What.{What}
 use Rattle.tp_streams.specs.declared.stop.Stop.{Stop}
 use Rattle.tp_streams.specs.Stops.{IsFaultOf}
 use Rattle.tp_replay.specs.declared.status.Status.{Status}
+use Rattle.tp_replay.specs.declared.stop.LineStop.{LineStop}
+use Rattle.tp_replay.specs.declared.stop.InputStop.{InputStop}
+use Rattle.tp_replay.specs.declared.stop.ReplayStop.{ReplayStop}
+use Rattle.tp_replay.specs.declared.stop.TrialStop.{TrialStop}
 
 -- ---- exit codes
 
@@ -81,46 +85,26 @@ abbrev pub ended_with : Result ℕ Stop → Status
 ended_with (Ok n) = found n
 ended_with (Err stop) = status_of stop
 
--- ---- parts of a run
+-- ---- what a replay answers
 
--- the run ends in the line of that number
-abbrev pub IsEndAt : ℕ → Status → Type 0
-IsEndAt line Status.Ok = ⊥
-IsEndAt line (Status.Findings n) = ⊥
-IsEndAt line Status.Usage = ⊥
-IsEndAt line (Status.BadInput at why) = at ≡ line
-IsEndAt line (Status.Limit what at) = at ≡ line
-IsEndAt line (Status.Foreign at) = ⊥
-IsEndAt line (Status.ReadFault faults) = ⊥
-IsEndAt line (Status.WriteFault faults) = ⊥
-IsEndAt line (Status.DiskFault faults) = ⊥
-IsEndAt line Status.NoMemory = Unit {0}
+-- how a run ends that stops in a line
+abbrev pub line_status : LineStop → Status
+line_status (LineStop.BadInput at why) = Status.BadInput at why
+line_status (LineStop.Limit what at) = Status.Limit what at
+line_status LineStop.NoMemory = Status.NoMemory
 
--- what ends a run at the next line, by the source's counts before and after it
-abbrev pub IsLineEnding : ℕ → ℕ → Status → Type 0
-IsLineEnding old new Status.Ok = ⊥
-IsLineEnding old new (Status.Findings n) = ⊥
-IsLineEnding old new Status.Usage = ⊥
-IsLineEnding old new (Status.BadInput at why) = 0 < at
-IsLineEnding old new (Status.Limit what at) = 0 < at
-IsLineEnding old new (Status.Foreign at) = ⊥
-IsLineEnding old new (Status.ReadFault faults) = IsFaultOf faults old new
-IsLineEnding old new (Status.WriteFault faults) = ⊥
-IsLineEnding old new (Status.DiskFault faults) = ⊥
-IsLineEnding old new Status.NoMemory = Unit {0}
+-- or that a replay ends with its answer
+abbrev pub replay_status : Result (Unit {0}) ReplayStop → Status
+replay_status (Ok u) = Status.Ok
+replay_status (Err (ReplayStop.Input (InputStop.Line stop))) = line_status stop
+replay_status (Err (ReplayStop.Input (InputStop.ReadFault faults))) = Status.ReadFault faults
+replay_status (Err (ReplayStop.WriteFault faults)) = Status.WriteFault faults
 
--- how the input ends, by the source's counts before and after it: as it is to, or by what ends a run at one of its lines
-abbrev pub IsInputEnding : ℕ → ℕ → Status → Type 0
-IsInputEnding old new Status.Ok = Unit {0}
-IsInputEnding old new (Status.Findings n) = ⊥
-IsInputEnding old new Status.Usage = ⊥
-IsInputEnding old new (Status.BadInput at why) = 0 < at
-IsInputEnding old new (Status.Limit what at) = 0 < at
-IsInputEnding old new (Status.Foreign at) = ⊥
-IsInputEnding old new (Status.ReadFault faults) = IsFaultOf faults old new
-IsInputEnding old new (Status.WriteFault faults) = ⊥
-IsInputEnding old new (Status.DiskFault faults) = ⊥
-IsInputEnding old new Status.NoMemory = Unit {0}
+-- or a trial
+abbrev pub trial_status : Result (Unit {0}) TrialStop → Status
+trial_status (Ok u) = Status.Ok
+trial_status (Err (TrialStop.Line stop)) = line_status stop
+trial_status (Err (TrialStop.WriteFault faults)) = Status.WriteFault faults
 
 -- ---- a whole run
 
@@ -152,16 +136,3 @@ IsEnding read_old read_new write_old write_new disk_old disk_new Status.NoMemory
 pub record Ends (codes : List ℕ) (read_old read_new write_old write_new disk_old disk_new : ℕ) (status : Status) : Type 0 where
   pub exit : has (code_of status) codes ≡ true
   pub cause : IsEnding read_old read_new write_old write_new disk_old disk_new status
-
--- the same of a replay, which has no disk
-abbrev pub IsReplayEnding : ℕ → ℕ → ℕ → ℕ → Status → Type 0
-IsReplayEnding read_old read_new write_old write_new Status.Ok = Unit {0}
-IsReplayEnding read_old read_new write_old write_new (Status.Findings n) = ⊥
-IsReplayEnding read_old read_new write_old write_new Status.Usage = ⊥
-IsReplayEnding read_old read_new write_old write_new (Status.BadInput at why) = 0 < at
-IsReplayEnding read_old read_new write_old write_new (Status.Limit what at) = 0 < at
-IsReplayEnding read_old read_new write_old write_new (Status.Foreign at) = ⊥
-IsReplayEnding read_old read_new write_old write_new (Status.ReadFault faults) = IsFaultOf faults read_old read_new
-IsReplayEnding read_old read_new write_old write_new (Status.WriteFault faults) = IsFaultOf faults write_old write_new
-IsReplayEnding read_old read_new write_old write_new (Status.DiskFault faults) = ⊥
-IsReplayEnding read_old read_new write_old write_new Status.NoMemory = Unit {0}

@@ -11,8 +11,13 @@ use Rattle.tp_model.specs.Transcript.{Put, answers_of, AreAllowed, RawLine, raw_
 use Rattle.tp_schedule.specs.LinesLeft.{first_length, first_taken}
 use Rattle.tp_driven.specs.Members.{slot_at, may}
 use Rattle.tp_replay.specs.declared.status.Status.{Status}
-use Rattle.tp_replay.specs.declared.status.WriteFault.{WriteFault}
-use Rattle.tp_replay.specs.Written.{IsFront, Writes, WritesBut}
+use Rattle.tp_replay.specs.declared.stop.LineStop.{LineStop}
+use Rattle.tp_replay.specs.declared.stop.InputStop.{InputStop}
+use Rattle.tp_replay.specs.declared.stop.ReplayStop.{ReplayStop}
+use Rattle.tp_replay.specs.declared.stop.WriteFault.{WriteFault}
+use Rattle.tp_replay.specs.Status.{replay_status}
+use Rattle.tp_streams.specs.Written.{IsPrefix}
+use Rattle.tp_replay.specs.Written.{Writes, WritesBut}
 
 -- ---- members
 
@@ -59,18 +64,23 @@ past_limit What.Boots ls = 12288
 abbrev pub lines_from : ℕ → List ℕ → List RawLine
 lines_from at bytes = drop (at - 1) (raw_lines bytes)
 
--- How far the source was read: to its end, or hardly past the line that ends the run.
-abbrev pub ReadsSo : List ℕ → Status → Option (List ℕ) → Type 0
-ReadsSo bytes Status.Ok unread = unread ≡ Some []
-ReadsSo bytes (Status.Findings n) unread = ⊥
-ReadsSo bytes Status.Usage unread = ⊥
-ReadsSo bytes (Status.BadInput at why) unread = ReadsTo (past_bad why (lines_from at bytes)) (lines_from at bytes) unread
-ReadsSo bytes (Status.Limit what at) unread = ReadsTo (past_limit what (lines_from at bytes)) (lines_from at bytes) unread
-ReadsSo bytes (Status.Foreign at) unread = ⊥
-ReadsSo bytes (Status.ReadFault faults) unread = Unit {0}
-ReadsSo bytes (Status.WriteFault faults) unread = Unit {0}
-ReadsSo bytes (Status.DiskFault faults) unread = ⊥
-ReadsSo bytes Status.NoMemory unread = Unit {0}
+-- hardly past the line that stops the replay
+abbrev pub ReadsLine : List ℕ → LineStop → Option (List ℕ) → Type 0
+ReadsLine bytes (LineStop.BadInput at why) unread = ReadsTo (past_bad why (lines_from at bytes)) (lines_from at bytes) unread
+ReadsLine bytes (LineStop.Limit what at) unread = ReadsTo (past_limit what (lines_from at bytes)) (lines_from at bytes) unread
+ReadsLine bytes LineStop.NoMemory unread = Unit {0}
+
+-- How far the source was read: to its end, or till the reading stopped.
+abbrev pub ReadsInput : List ℕ → Result (Unit {0}) InputStop → Option (List ℕ) → Type 0
+ReadsInput bytes (Ok u) unread = unread ≡ Some []
+ReadsInput bytes (Err (InputStop.Line stop)) unread = ReadsLine bytes stop unread
+ReadsInput bytes (Err (InputStop.ReadFault faults)) unread = Unit {0}
+
+-- the same of a replay, whose sink may fail before
+abbrev pub Reads : List ℕ → Result (Unit {0}) ReplayStop → Option (List ℕ) → Type 0
+Reads bytes (Ok u) unread = ReadsInput bytes (Ok u) unread
+Reads bytes (Err (ReplayStop.Input stop)) unread = ReadsInput bytes (Err stop) unread
+Reads bytes (Err (ReplayStop.WriteFault faults)) unread = Unit {0}
 
 -- ---- what is to be written
 
@@ -85,7 +95,7 @@ pub record TellsAll (may : ℕ → List Answer → Type 0) (members : ℕ) (byte
 pub record TellsSome (may : ℕ → List Answer → Type 0) (members : ℕ) (bytes text : List ℕ) : Type 0 where
   pub answers : List (Option Request)
   pub given : AreGiven may (transcript_with members bytes answers).puts answers
-  pub front : IsFront text (transcript_with members bytes answers).written
+  pub prefix : IsPrefix text (transcript_with members bytes answers).written
 
 -- The transcript of some whole lines, but for its closing lines; of the rest no line's end was read.
 pub record TellsLines (may : ℕ → List Answer → Type 0) (members : ℕ) (bytes : List ℕ) (unread : Option (List ℕ)) (text : List ℕ) : Type 0 where
@@ -99,31 +109,51 @@ pub record TellsLines (may : ℕ → List Answer → Type 0) (members : ℕ) (by
   pub whole : (transcript_with members lines answers).written ≡ text ++ out_texts (closing (transcript_with members lines answers).world)
   pub short : ReadsTo (first_length (raw_lines rest)) (raw_lines rest) unread
 
--- by how the run ends
-abbrev pub Tells : (ℕ → List Answer → Type 0) → ℕ → List ℕ → Status → Option (List ℕ) → List ℕ → Type 0
-Tells may members bytes Status.Ok unread text = TellsAll may members bytes Done text
-Tells may members bytes (Status.Findings n) unread text = ⊥
-Tells may members bytes Status.Usage unread text = ⊥
-Tells may members bytes (Status.BadInput at why) unread text = TellsAll may members bytes (Bad_input at why) text
-Tells may members bytes (Status.Limit what at) unread text = TellsAll may members bytes (At_limit what at) text
-Tells may members bytes (Status.Foreign at) unread text = ⊥
-Tells may members bytes (Status.ReadFault faults) unread text = TellsLines may members bytes unread text
-Tells may members bytes (Status.WriteFault faults) unread text = TellsSome may members bytes text
-Tells may members bytes (Status.DiskFault faults) unread text = ⊥
-Tells may members bytes Status.NoMemory unread text = TellsSome may members bytes text
+-- by the line that stops the replay
+abbrev pub TellsLine : (ℕ → List Answer → Type 0) → ℕ → List ℕ → LineStop → List ℕ → Type 0
+TellsLine may members bytes (LineStop.BadInput at why) text = TellsAll may members bytes (Bad_input at why) text
+TellsLine may members bytes (LineStop.Limit what at) text = TellsAll may members bytes (At_limit what at) text
+TellsLine may members bytes LineStop.NoMemory text = TellsSome may members bytes text
+
+-- by how far the schedule is read
+abbrev pub TellsInput : (ℕ → List Answer → Type 0) → ℕ → List ℕ → Result (Unit {0}) InputStop → Option (List ℕ) → List ℕ → Type 0
+TellsInput may members bytes (Ok u) unread text = TellsAll may members bytes Done text
+TellsInput may members bytes (Err (InputStop.Line stop)) unread text = TellsLine may members bytes stop text
+TellsInput may members bytes (Err (InputStop.ReadFault faults)) unread text = TellsLines may members bytes unread text
+
+-- and where the sink fails
+abbrev pub Tells : (ℕ → List Answer → Type 0) → ℕ → List ℕ → Result (Unit {0}) ReplayStop → Option (List ℕ) → List ℕ → Type 0
+Tells may members bytes (Ok u) unread text = TellsInput may members bytes (Ok u) unread text
+Tells may members bytes (Err (ReplayStop.Input stop)) unread text = TellsInput may members bytes (Err stop) unread text
+Tells may members bytes (Err (ReplayStop.WriteFault faults)) unread text = TellsSome may members bytes text
 
 -- ---- what is written
 
--- Of a source that tells its bytes: the run has a text, which is that of its ending; where the sink tells what was written, just that text
--- was written after it.
-abbrev pub Transcribes : (ℕ → List Answer → Type 0) → ℕ → List ℕ → Status → Option (List ℕ) → Option (List ℕ) → Option (List ℕ) → Type 0
-Transcribes may members bytes status unread old new = Writes (Tells may members bytes status unread) old new
-
 -- before the last bytes are written, which may be cut short
-abbrev pub TranscribesOn : (ℕ → List Answer → Type 0) → ℕ → List ℕ → Result Status WriteFault → Option (List ℕ) → List ℕ → Option (List ℕ) → Option (List ℕ) → Type 0
-TranscribesOn may members bytes (Ok status) unread pending old new = WritesBut (λ text. Tells may members bytes status unread text × TellsSome may members bytes text) pending old new
+abbrev pub TranscribesOn : (ℕ → List Answer → Type 0) → ℕ → List ℕ → Result (Result (Unit {0}) InputStop) WriteFault → Option (List ℕ) → List ℕ → Option (List ℕ) → Option (List ℕ) → Type 0
+TranscribesOn may members bytes (Ok input) unread pending old new = WritesBut (λ text. TellsInput may members bytes input unread text × TellsSome may members bytes text) pending old new
 -- the sink failed
 TranscribesOn may members bytes (Err fault) unread pending old new = Writes (TellsSome may members bytes) old new
+
+-- what the replay answers once all bytes are written
+abbrev pub replay_of : Result (Unit {0}) InputStop → Result (Unit {0}) ReplayStop
+replay_of (Ok u) = Ok u
+replay_of (Err stop) = Err (ReplayStop.Input stop)
+
+-- ---- a run
+
+-- It ends as the replay answers: so far it has read the source.
+pub record ReadsSo (bytes : List ℕ) (status : Status) (unread : Option (List ℕ)) : Type 0 where
+  pub answer : Result (Unit {0}) ReplayStop
+  pub ends : status ≡ replay_status answer
+  pub reads : Reads bytes answer unread
+
+-- Of a source that tells its bytes: the run has a text, which is that of its ending; where the sink tells what was written, just that text
+-- was written after it.
+pub record Transcribes (may : ℕ → List Answer → Type 0) (members : ℕ) (bytes : List ℕ) (status : Status) (unread old new : Option (List ℕ)) : Type 0 where
+  pub answer : Result (Unit {0}) ReplayStop
+  pub ends : status ≡ replay_status answer
+  pub writes : Writes (Tells may members bytes answer unread) old new
 
 -- every transcript of these bytes comes to its end, whatever the members answer of what they may
 abbrev pub IsComplete : (ℕ → List Answer → Type 0) → ℕ → List ℕ → Type 0

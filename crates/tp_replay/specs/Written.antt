@@ -1,13 +1,5 @@
--- What is written of a text, where the sink tells it.
+-- What is written of a text, where the sink tells it. Prefixes are those of tp_streams.
 use Rattle.std.specs.Prelude.{ℕ, ◌≡◌, Option, Some, List, ◌++◌}
-
--- the first is a prefix of the second
-abbrev pub IsFront : List ℕ → List ℕ → Type 0
-IsFront xs ys = (more : List ℕ) × (ys ≡ xs ++ more)
-
--- some of it was written
-abbrev pub WritesFront : List ℕ → List ℕ → Option (List ℕ) → Type 0
-WritesFront before all new = (part : List ℕ) × IsFront part all × (new ≡ Some (before ++ part))
 
 -- the text was written, but for the pending bytes at its end
 abbrev pub WroteBut : List ℕ → List ℕ → List ℕ → Option (List ℕ) → Type 0

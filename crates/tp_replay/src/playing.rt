@@ -1,5 +1,5 @@
 //! One line of a schedule, from its bytes to the bytes that it shows.
-ghost use Rattle.std.specs.Prelude.{◌≡◌, ◌++◌, ◌∷◌, [], IfErr, OnErr, OnOk};
+ghost use Rattle.std.specs.Prelude.{◌≡◌, ◌<◌, ◌++◌, ◌∷◌, [], IfErr, OnErr, OnOk};
 ghost use Rattle.tp_names.specs.Writing.{Keeps};
 ghost use Rattle.tp_model.specs.LineReading.{Says, read_line};
 ghost use Rattle.tp_model.specs.declared.out_line.OutLine.{OutLine};
@@ -8,10 +8,10 @@ ghost use Rattle.tp_model.specs.OutText.{out_text, out_texts};
 ghost use Rattle.tp_model.specs.Transcript.{echo};
 ghost use Rattle.tp_model.specs.World.{World as WorldValue};
 ghost use Rattle.tp_driven.specs.DrivenWorld.{Stands};
-ghost use Rattle.tp_replay.specs.Status.{IsEndAt};
+ghost use Rattle.tp_replay.specs.Stops.{IsNumbered};
 ghost use Rattle.tp_replay.specs.Playing.{ShowsReading, unread_as, unplayed_as};
 
-use crate::status::Status;
+use crate::stop::LineStop;
 use std::alloc::Global;
 use tp_driven::{DrivenWorld, is_silent};
 use tp_model::{Line, OutLines, Why};
@@ -45,27 +45,27 @@ fn append_texts(alloc: Global, lines: &OutLines, out: &mut Octets) -> Result<(),
     Ok(())
 }
 
-// The status of a run that ends in the line of that number, since it does not read.
-fn unread(fault: LineFault, at: u64) -> Status
+// What stops a run in the line of that number, since it does not read.
+fn unread(fault: LineFault, at: u64) -> LineStop
     ensures { result ≡ unread_as at fault }
 {
     let why = match fault {
         LineFault::Long => Why::Long,
         LineFault::Word => Why::Word,
         LineFault::Number => Why::Number,
-        LineFault::NoMemory => return Status::NoMemory,
+        LineFault::NoMemory => return LineStop::NoMemory,
     };
-    Status::BadInput { at, why }
+    LineStop::BadInput { at, why }
 }
 
-// The status of a run that ends in the line of that number, since the world does not play it.
-fn unplayed(fault: WorldFault, at: u64) -> Status
+// What stops a run in the line of that number, since the world does not play it.
+fn unplayed(fault: WorldFault, at: u64) -> LineStop
     ensures { result ≡ unplayed_as at fault }
 {
     match fault {
-        WorldFault::Name => Status::BadInput { at, why: Why::Name },
-        WorldFault::Limit { what } => Status::Limit { what, at },
-        WorldFault::NoMemory => Status::NoMemory,
+        WorldFault::Name => LineStop::BadInput { at, why: Why::Name },
+        WorldFault::Limit { what } => LineStop::Limit { what, at },
+        WorldFault::NoMemory => LineStop::NoMemory,
     }
 }
 
@@ -129,9 +129,9 @@ fn write_played(
     }
 }
 
-// Puts what a line shows at the end of `out`; the status where the run ends in it, and `out` stays as it was. The lines are
+// Puts what a line shows at the end of `out`; or tells what stops the run in it, and `out` stays as it was. The lines are
 // room for what it shows.
-#[tactic(auto, using(crate::proofs::Ended::unplayed_at))]
+#[tactic(auto, using(crate::proofs::Ended::unplayed_numbered))]
 fn play_line<M: Member>(
     alloc: Global,
     world: &mut DrivenWorld<M>,
@@ -139,8 +139,9 @@ fn play_line<M: Member>(
     at: u64,
     lines: &mut OutLines,
     out: &mut Octets,
-) -> Result<(), Status>
-    ensures ending { IfErr result (IsEndAt at) }
+) -> Result<(), LineStop>
+    requires numbered { 0 < at }
+    ensures ending { IfErr result IsNumbered }
     ensures same { OnErr result (out.new ≡ out.old) }
     ensures shown { (w : WorldValue) → Stands w world.old → ShowsReading world.old world.new M.allowed at w (Says line.now) result out.old out.new }
 {
@@ -148,15 +149,15 @@ fn play_line<M: Member>(
     match world.play(alloc, line, lines) {
         Ok(()) => match write_played(alloc, line, lines, out) {
             Ok(()) => Ok(()),
-            Err(NoMemory) => Err(Status::NoMemory),
+            Err(NoMemory) => Err(LineStop::NoMemory),
         },
         Err(fault) => Err(unplayed(fault, at)),
     }
 }
 
-/// Puts what the line of that number, without its end, shows at the end of `out`; the status where the run ends in it,
-/// and `out` stays as it was. The lines are room for what it shows.
-#[tactic(auto, using(crate::proofs::Ended::said_shows, crate::proofs::Ended::unread_ends, crate::proofs::Ended::unread_at))]
+/// Puts what the line of that number, without its end, shows at the end of `out`; or tells what stops the run
+/// in it, and `out` stays as it was. The lines are room for what it shows.
+#[tactic(auto, using(crate::proofs::Ended::said_shows, crate::proofs::Ended::unread_ends, crate::proofs::Ended::unread_numbered))]
 pub fn play_text<M: Member>(
     alloc: Global,
     world: &mut DrivenWorld<M>,
@@ -164,8 +165,9 @@ pub fn play_text<M: Member>(
     at: u64,
     lines: &mut OutLines,
     out: &mut Octets,
-) -> Result<(), Status>
-    ensures ending { IfErr result (IsEndAt at) }
+) -> Result<(), LineStop>
+    requires numbered { 0 < at }
+    ensures ending { IfErr result IsNumbered }
     ensures same { OnErr result (out.new ≡ out.old) }
     ensures shown { (w : WorldValue) → Stands w world.old → ShowsReading world.old world.new M.allowed at w (read_line text.now) result out.old out.new }
 {

@@ -7,13 +7,14 @@ ghost use Rattle.tp_model.specs.World.{World as WorldValue};
 ghost use Rattle.tp_schedule.specs.LinesLeft.{lines_left};
 ghost use Rattle.tp_driven.specs.DrivenWorld.{Stands};
 ghost use Rattle.tp_streams.specs.Stops.{IsFaultOf};
-ghost use Rattle.tp_replay.specs.Status.{IsReplayEnding, IsInputEnding, IsLineEnding};
+ghost use Rattle.tp_replay.specs.Stops.{IsInputStop, IsReplayStop};
 ghost use Rattle.tp_replay.specs.Playing.{PlaysNext, unheard_as};
-ghost use Rattle.tp_replay.specs.Transcribing.{may_of, ReadsSo, Transcribes, TranscribesOn};
+ghost use Rattle.tp_replay.specs.Transcribing.{may_of, replay_of, Reads, ReadsInput, Tells, TranscribesOn};
+ghost use Rattle.tp_replay.specs.Written.{Writes};
 
 use crate::output::{write_all, write_long};
 use crate::playing::{play_text, write_texts};
-use crate::status::{Status, WriteFault};
+use crate::stop::{InputStop, LineStop, ReplayStop, WriteFault};
 use std::alloc::Global;
 use tp_driven::DrivenWorld;
 use tp_model::{OutLines, What, Why};
@@ -25,22 +26,22 @@ use tp_schedule::{Lines, LinesFault};
 /// One more than the number of the line that is after the last one in any schedule.
 pub const PAST_LINES: u64 = 1_048_578;
 
-// The status of a run that ends in the line of that number, since it is not handed out.
-fn unheard(fault: LinesFault, at: u64) -> Status
+// What stops a run at the line of that number, since it is not handed out.
+fn unheard(fault: LinesFault, at: u64) -> InputStop
     ensures { result ≡ unheard_as at fault }
 {
     match fault {
-        LinesFault::ReadFault { faults } => Status::ReadFault { faults },
-        LinesFault::Long => Status::BadInput { at, why: Why::Long },
-        LinesFault::Limit => Status::Limit {
+        LinesFault::ReadFault { faults } => InputStop::ReadFault { faults },
+        LinesFault::Long => InputStop::Line(LineStop::BadInput { at, why: Why::Long }),
+        LinesFault::Limit => InputStop::Line(LineStop::Limit {
             what: What::Schedule,
             at,
-        },
+        }),
     }
 }
 
 /// Puts what the next line of the source shows, which has that number, at the end of `out`, and answers whether there was
-/// one; the status where the run ends in it, and `out` stays as it was.
+/// one; or tells what stops the run there, and `out` stays as it was.
 pub fn play_next<S: Source, M: Member>(
     alloc: Global,
     lines: &mut Lines,
@@ -49,11 +50,11 @@ pub fn play_next<S: Source, M: Member>(
     at: u64,
     shown: &mut OutLines,
     out: &mut Octets,
-) -> Result<bool, Status>
+) -> Result<bool, InputStop>
     requires numbered { 0 < at }
     requires unfaulted { lines.old.fault ≡ None }
     ensures kept { S.fault_count source.old ≤ S.fault_count source.new }
-    ensures ending { IfErr result (IsLineEnding (S.fault_count source.old) (S.fault_count source.new)) }
+    ensures ending { IfErr result (IsInputStop (S.fault_count source.old) (S.fault_count source.new)) }
     ensures unfaulted { result ≡ Ok true → lines.new.fault ≡ None }
     ensures same { OnErr result (out.new ≡ out.old) }
     ensures ended { result ≡ Ok false → out.new ≡ out.old }
@@ -63,7 +64,7 @@ pub fn play_next<S: Source, M: Member>(
         Ok(None) => Ok(false),
         Ok(Some(text)) => match play_text(alloc, world, text, at, shown, out) {
             Ok(()) => Ok(true),
-            Err(status) => Err(status),
+            Err(stop) => Err(InputStop::Line(stop)),
         },
         Err(fault) => Err(unheard(fault, at)),
     }
@@ -78,7 +79,7 @@ fn close<M: Member>(alloc: Global, world: &DrivenWorld<M>, out: &mut Octets) -> 
     write_texts(alloc, &lines, out)
 }
 
-// Plays the schedule in a world with these members, and answers how it ends. What it shows is put at the end of `out`, and
+// Plays the schedule in a world with these members, and answers what stops its reading, if anything does. What it shows is put at the end of `out`, and
 // written as it gets long: what is in `out` in the end is still to be written.
 fn play_all<S: Source, K: Sink, M: Member>(
     alloc: Global,
@@ -86,16 +87,16 @@ fn play_all<S: Source, K: Sink, M: Member>(
     sink: &mut K,
     members: Vec<M>,
     out: &mut Octets,
-) -> Result<Status, WriteFault>
+) -> Result<Result<(), InputStop>, WriteFault>
     requires { out.old ≡ [] }
     ensures kept { K.fault_count sink.old ≤ K.fault_count sink.new }
-    ensures ending { IfOk result (IsInputEnding (S.fault_count source.old) (S.fault_count source.new)) }
+    ensures ending { IfOk result (λ input. IfErr input (IsInputStop (S.fault_count source.old) (S.fault_count source.new))) }
     ensures fault { IfErr result (λ f. IsFaultOf f.faults (K.fault_count sink.old) (K.fault_count sink.new)) }
-    ensures reads { (bytes : List ℕ) → S.left source.old ≡ Some bytes → IfOk result (λ status. ReadsSo bytes status (S.left source.new)) }
+    ensures reads { (bytes : List ℕ) → S.left source.old ≡ Some bytes → IfOk result (λ input. ReadsInput bytes input (S.left source.new)) }
     ensures plays { (bytes : List ℕ) → S.left source.old ≡ Some bytes → TranscribesOn (may_of M.allowed members.items) (length members.items) bytes result (S.left source.new) out.new (K.written sink.old) (K.written sink.new) }
 {
     let Ok(mut world) = DrivenWorld::new(alloc, members) else {
-        return Ok(Status::NoMemory);
+        return Ok(Err(InputStop::Line(LineStop::NoMemory)));
     };
     let mut lines = Lines::new();
     let mut shown = OutLines::new(alloc);
@@ -108,17 +109,27 @@ fn play_all<S: Source, K: Sink, M: Member>(
             }
             Ok(false) => {
                 return match close(alloc, &world, out) {
-                    Ok(()) => Ok(Status::Ok),
-                    Err(NoMemory) => Ok(Status::NoMemory),
+                    Ok(()) => Ok(Ok(())),
+                    Err(NoMemory) => Ok(Err(InputStop::Line(LineStop::NoMemory))),
                 };
             }
-            Err(status) => return Ok(status),
+            Err(stop) => return Ok(Err(stop)),
         }
     }
-    Ok(Status::Limit {
+    Ok(Err(InputStop::Line(LineStop::Limit {
         what: What::Schedule,
         at: PAST_LINES,
-    })
+    })))
+}
+
+// What stops a replay whose bytes are all written.
+fn all_written(input: Result<(), InputStop>) -> Result<(), ReplayStop>
+    ensures { result ≡ replay_of input }
+{
+    match input {
+        Ok(()) => Ok(()),
+        Err(stop) => Err(ReplayStop::Input(stop)),
+    }
 }
 
 /// Reads a schedule from the source, and writes its transcript with these members to the sink as it goes, in long pieces.
@@ -127,18 +138,18 @@ pub fn replay<S: Source, K: Sink, M: Member>(
     source: &mut S,
     sink: &mut K,
     members: Vec<M>,
-) -> Status
-    ensures ending { IsReplayEnding (S.fault_count source.old) (S.fault_count source.new) (K.fault_count sink.old) (K.fault_count sink.new) result }
-    ensures reads { (bytes : List ℕ) → S.left source.old ≡ Some bytes → ReadsSo bytes result (S.left source.new) }
-    ensures transcript { (bytes : List ℕ) → S.left source.old ≡ Some bytes → Transcribes (may_of M.allowed members.items) (length members.items) bytes result (S.left source.new) (K.written sink.old) (K.written sink.new) }
+) -> Result<(), ReplayStop>
+    ensures stop { IfErr result (IsReplayStop (S.fault_count source.old) (S.fault_count source.new) (K.fault_count sink.old) (K.fault_count sink.new)) }
+    ensures reads { (bytes : List ℕ) → S.left source.old ≡ Some bytes → Reads bytes result (S.left source.new) }
+    ensures transcript { (bytes : List ℕ) → S.left source.old ≡ Some bytes → Writes (Tells (may_of M.allowed members.items) (length members.items) bytes result (S.left source.new)) (K.written sink.old) (K.written sink.new) }
 {
     let mut out = Octets::new(alloc);
-    let status = match play_all(alloc, source, sink, members, &mut out) {
-        Ok(status) => status,
-        Err(WriteFault { faults }) => return Status::WriteFault { faults },
+    let input = match play_all(alloc, source, sink, members, &mut out) {
+        Ok(input) => input,
+        Err(WriteFault { faults }) => return Err(ReplayStop::WriteFault { faults }),
     };
     match write_all(sink, out.as_slice()) {
-        Ok(()) => status,
-        Err(WriteFault { faults }) => Status::WriteFault { faults },
+        Ok(()) => all_written(input),
+        Err(WriteFault { faults }) => Err(ReplayStop::WriteFault { faults }),
     }
 }

@@ -1,13 +1,8 @@
 //! How a run ends: the status, its exit code, and its text.
+use crate::stop::{InputStop, LineStop, ReplayStop, TrialStop};
 use std::fmt;
 use tp_model::{What, Why};
 use tp_streams::Stop;
-
-/// The sink failed: its count, right after the call that failed.
-#[derive(Clone, Copy)]
-pub struct WriteFault {
-    pub faults: u64,
-}
 
 /// The ending of a run. Lines are numbered from 1, comments too; `faults` is the count of the object
 /// that failed, right after the call that failed.
@@ -37,7 +32,7 @@ pub enum Status {
 
 impl Status {
     ghost use Rattle.std.specs.Prelude.{◌≡◌};
-    ghost use Rattle.tp_replay.specs.Status.{code_of, status_of, ended, ended_with};
+    ghost use Rattle.tp_replay.specs.Status.{code_of, status_of, ended, ended_with, line_status, replay_status, trial_status};
 
     /// How a run ends that such a stop ends.
     pub fn of_stop(stop: Stop) -> Status
@@ -72,6 +67,39 @@ impl Status {
             Ok(0) => Status::Ok,
             Ok(n) => Status::Findings { n },
             Err(stop) => Status::of_stop(stop),
+        }
+    }
+
+    fn of_line(stop: LineStop) -> Status
+        ensures { result ≡ line_status stop }
+    {
+        match stop {
+            LineStop::BadInput { at, why } => Status::BadInput { at, why },
+            LineStop::Limit { what, at } => Status::Limit { what, at },
+            LineStop::NoMemory => Status::NoMemory,
+        }
+    }
+
+    /// How a run ends that a replay ends with its answer.
+    pub fn of_replay(answer: Result<(), ReplayStop>) -> Status
+        ensures { result ≡ replay_status answer }
+    {
+        match answer {
+            Ok(()) => Status::Ok,
+            Err(ReplayStop::Input(InputStop::Line(stop))) => Status::of_line(stop),
+            Err(ReplayStop::Input(InputStop::ReadFault { faults })) => Status::ReadFault { faults },
+            Err(ReplayStop::WriteFault { faults }) => Status::WriteFault { faults },
+        }
+    }
+
+    /// The same of a trial.
+    pub fn of_trial(answer: Result<(), TrialStop>) -> Status
+        ensures { result ≡ trial_status answer }
+    {
+        match answer {
+            Ok(()) => Status::Ok,
+            Err(TrialStop::Line(stop)) => Status::of_line(stop),
+            Err(TrialStop::WriteFault { faults }) => Status::WriteFault { faults },
         }
     }
 

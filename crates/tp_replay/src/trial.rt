@@ -1,14 +1,15 @@
 //! A made schedule, replayed in memory, and what it came to.
-ghost use Rattle.std.specs.Prelude.{◌≡◌, ◌≤◌, ℕ, [], IfOk, IfErr, OnOk};
+ghost use Rattle.std.specs.Prelude.{◌≡◌, ◌≤◌, [], IfOk, IfErr, OnOk};
 ghost use Rattle.tp_model.specs.World.{World as WorldValue, empty_world};
 ghost use Rattle.tp_model.specs.Generator.{schedule, summary, summary_of};
 ghost use Rattle.tp_driven.specs.DrivenWorld.{members_of, Stands};
-ghost use Rattle.tp_replay.specs.Status.{Ends};
-ghost use Rattle.tp_replay.specs.Trying.{trial_exits, alone, IsPlayed, IsTrialStop, Tries};
+ghost use Rattle.tp_replay.specs.Stops.{IsTrialStop};
+ghost use Rattle.tp_replay.specs.Trying.{alone, IsPlayed, StopsAt, TriesSchedule};
 
 use crate::held::Held;
+use crate::output::write_all;
 use crate::replaying::{PAST_LINES, play_next};
-use crate::status::Status;
+use crate::stop::{InputStop, LineStop, TrialStop, WriteFault};
 use crate::voter::Voter;
 use std::alloc::Global;
 use tp_driven::DrivenWorld;
@@ -17,58 +18,60 @@ use tp_model::{OutLines, What};
 use tp_names::{NoMemory, Octets};
 use tp_outside::Sink;
 use tp_schedule::Lines;
-use tp_streams::write_all;
 
 /// Replays the schedule that `make_schedule` writes of these, with no members, and writes what it came to.
-#[tactic(auto, using(crate::proofs::Tried::trial_ends, crate::proofs::Tried::written_ends, crate::proofs::Tried::tries_written, crate::proofs::Tried::tries_stopped))]
+#[tactic(auto, using(crate::proofs::Tried::stops_numbered))]
 pub fn try_schedule<K: Sink>(
     alloc: Global,
     number: u64,
     nodes: u16,
     rounds: u8,
     sink: &mut K,
-) -> Status
+) -> Result<(), TrialStop>
     requires { nodes ≤ 256 }
-    ensures ends { (read_old read_new disk_old disk_new : ℕ) → Ends trial_exits read_old read_new (K.fault_count sink.old) (K.fault_count sink.new) disk_old disk_new result }
-    ensures tries { Tries number nodes rounds (K.written sink.old) (K.written sink.new) (sink.new ≡ sink.old) result }
+    ensures stop { IfErr result (IsTrialStop (K.fault_count sink.old) (K.fault_count sink.new)) }
+    ensures tries { TriesSchedule number nodes rounds (K.written sink.old) (K.written sink.new) (sink.new ≡ sink.old) result }
 {
     match replayed(alloc, number, nodes, rounds) {
-        Ok(summary) => Status::of_answer(write_all(sink, summary.as_slice())),
-        Err(status) => status,
+        Ok(summary) => match write_all(sink, summary.as_slice()) {
+            Ok(()) => Ok(()),
+            Err(WriteFault { faults }) => Err(TrialStop::WriteFault { faults }),
+        },
+        Err(stop) => Err(TrialStop::Line(stop)),
     }
 }
 
-// The summary of the replay of that schedule; the status where the replay ends at one of its lines.
+// The summary of the replay of that schedule; or what stops the replay at one of its lines.
 #[tactic(auto, using(crate::proofs::Tried::stopped_of))]
-fn replayed(alloc: Global, number: u64, nodes: u16, rounds: u8) -> Result<Octets, Status>
+fn replayed(alloc: Global, number: u64, nodes: u16, rounds: u8) -> Result<Octets, LineStop>
     requires { nodes ≤ 256 }
     ensures summary { IfOk result (λ text. text ≡ summary number nodes rounds) }
-    ensures stopped { IfErr result (IsTrialStop (alone (schedule number nodes rounds))) }
+    ensures stopped { IfErr result (StopsAt (alone (schedule number nodes rounds))) }
 {
     let made = match schedule_of(alloc, number, nodes, rounds) {
         Ok(made) => made,
-        Err(NoMemory) => return Err(Status::NoMemory),
+        Err(NoMemory) => return Err(LineStop::NoMemory),
     };
     let lines = made.lines;
     let nobody: Vec<Voter> = Vec::new(alloc);
     let Ok(mut world) = DrivenWorld::new(alloc, nobody) else {
-        return Err(Status::NoMemory);
+        return Err(LineStop::NoMemory);
     };
-    if let Err(status) = play_made(alloc, made.text, &mut world) {
-        return Err(status);
+    if let Err(stop) = play_made(alloc, made.text, &mut world) {
+        return Err(stop);
     }
     match sum_up(alloc, lines, &world) {
         Ok(summary) => Ok(summary),
-        Err(NoMemory) => Err(Status::NoMemory),
+        Err(NoMemory) => Err(LineStop::NoMemory),
     }
 }
 
 // Plays a schedule in memory over a world with nothing in it and no member. What its lines show is kept nowhere.
-fn play_made(alloc: Global, text: Octets, world: &mut DrivenWorld<Voter>) -> Result<(), Status>
+fn play_made(alloc: Global, text: Octets, world: &mut DrivenWorld<Voter>) -> Result<(), LineStop>
     requires empty { Stands empty_world world.old }
     requires alone { members_of world.old ≡ [] }
     ensures played { OnOk result (IsPlayed (alone text) world.new) }
-    ensures stopped { IfErr result (IsTrialStop (alone text)) }
+    ensures stopped { IfErr result (StopsAt (alone text)) }
 {
     let mut source = Held::new(alloc, text);
     let mut lines = Lines::new();
@@ -86,10 +89,12 @@ fn play_made(alloc: Global, text: Octets, world: &mut DrivenWorld<Voter>) -> Res
         ) {
             Ok(true) => out.truncate(0),
             Ok(false) => return Ok(()),
-            Err(status) => return Err(status),
+            Err(InputStop::Line(stop)) => return Err(stop),
+            // (the source never fails)
+            Err(InputStop::ReadFault { .. }) => unreachable!(),
         }
     }
-    Err(Status::Limit {
+    Err(LineStop::Limit {
         what: What::Schedule,
         at: PAST_LINES,
     })

@@ -73,7 +73,10 @@ fn run_command<S: Source, K: Sink, D: Disk, M: Member>(
 {
     let mut disk = disk;
     match command {
-        Command::Replay => (replay(alloc, source, sink, members), disk),
+        Command::Replay => {
+            let answer = replay(alloc, source, sink, members);
+            (Status::of_replay(answer), disk)
+        }
         Command::Format => (format_log(&mut disk), disk),
         Command::Show => show_log(alloc, disk, sink),
         Command::Check => check_log(alloc, disk, sink),
@@ -81,10 +84,10 @@ fn run_command<S: Source, K: Sink, D: Disk, M: Member>(
             make_schedule(alloc, plan.number, plan.nodes, plan.rounds, sink),
             disk,
         ),
-        Command::Trial(plan) => (
-            try_schedule(alloc, plan.number, plan.nodes, plan.rounds, sink),
-            disk,
-        ),
+        Command::Trial(plan) => {
+            let answer = try_schedule(alloc, plan.number, plan.nodes, plan.rounds, sink);
+            (Status::of_trial(answer), disk)
+        }
         Command::Compact => compact_log(alloc, disk),
         Command::Migrate => migrate_log(alloc, disk),
         Command::Keys => list_keys(alloc, disk, sink),

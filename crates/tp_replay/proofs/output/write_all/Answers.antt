@@ -22,8 +22,8 @@ loop-at-preserved g c = record {
       rw (now, took c.args.text.now c.loop-at.at c.in-Ok.count (c.in-Ok.ensures {u = tt}).within, more c.args.text.now c.loop-at.at c.in-Ok.count, append_assoc);
 }
 
-pub returns-in-Err-clause-front : goal.returns-in-Err-clause-front
-returns-in-Err-clause-front g c = λ before h. (
+pub returns-in-Err-clause-prefix : goal.returns-in-Err-clause-prefix
+returns-in-Err-clause-prefix g c = λ before h. (
   take c.loop-at.at c.args.text.now,
   (drop c.loop-at.at c.args.text.now, sym (take-append-drop c.loop-at.at c.args.text.now)),
   (c.in-Err.ensures {u = tt}).same ∙ c.loop-at.invariant.so_far before h,

@@ -2,11 +2,11 @@ use Rattle.std.proofs.Common.{◌≡◌, sym, subst, ap, ◌∙◌, arith, lengt
 use Rattle.std.specs.Prelude.{IfOk, IfErr}
 use Rattle.std.proofs.lemmas.List.{append-nil}
 use Rattle.tp_streams.specs.Stops.{IsFaultOf}
-use Rattle.tp_replay.specs.Status.{IsInputEnding}
-use Rattle.tp_replay.specs.Transcribing.{may_of, ReadsSo, TranscribesOn}
+use Rattle.tp_replay.specs.Stops.{IsInputStop}
+use Rattle.tp_replay.specs.Transcribing.{may_of, ReadsInput, TranscribesOn}
 use Rattle.tp_replay.specs.Playing.{PlaysNext}
 use Rattle.tp_replay.proofs.SoFar.{at_start, further, tells_none}
-use Rattle.tp_replay.proofs.Ending.{input_ending, ends_so, reads_so, starves_so, closes_so, fails_so}
+use Rattle.tp_replay.proofs.Ending.{input_stop, ends_so, reads_so, starves_so, closes_so, fails_so}
 use Rattle.tp_replay.proofs.replaying.play_all.Goals as goal
 use Rattle.tp_replay.proofs.replaying.play_all.Goals.{in-Ok-close, in-Err-close}
 
@@ -44,7 +44,7 @@ returns-in-Err-write_long-clause-plays g c = λ bytes is.
     ((c.in-Ok-true.ensures {u = tt}).plays s.world s.lines s.stands s.ahead) in
     fails_so _ c.args.members.items c.loop-at.at bytes c.loop-at.world c.loop-at.lines (g.S.Source.left c.loop-at.source) (g.K.Sink.written c.args.sink.now) (g.K.Sink.written c.loop-at.sink)
     c.loop-at.out s c.play_next.new.out c.play_next.new.lines (g.S.Source.left c.play_next.new.source) c.play_next.new.world (g.K.Sink.written c.write_long.new.sink) n
-    (c.in-Err-write_long.ensures {u = tt}).front
+    (c.in-Err-write_long.ensures {u = tt}).prefix
 
 pub returns-in_default-clause-plays : goal.returns-in_default-clause-plays
 returns-in_default-clause-plays g c = λ bytes is. record {
@@ -56,8 +56,8 @@ returns-in_default-clause-plays g c = λ bytes is. record {
 pub returns-in-Ok-false-clause-ending : goal.returns-in-Ok-false-clause-ending
 returns-in-Ok-false-clause-ending g c =
     elim c.match-close.branch [
-      | in-Ok-close w ↦ subst (λ r. IfOk r (IsInputEnding (g.S.Source.fault_count c.args.source.now) (g.S.Source.fault_count c.play_next.new.source))) (sym w.result-is) tt
-      | in-Err-close w ↦ subst (λ r. IfOk r (IsInputEnding (g.S.Source.fault_count c.args.source.now) (g.S.Source.fault_count c.play_next.new.source))) (sym w.result-is) tt
+      | in-Ok-close w ↦ subst (λ r. IfOk r (λ input. IfErr input (IsInputStop (g.S.Source.fault_count c.args.source.now) (g.S.Source.fault_count c.play_next.new.source)))) (sym w.result-is) tt
+      | in-Err-close w ↦ subst (λ r. IfOk r (λ input. IfErr input (IsInputStop (g.S.Source.fault_count c.args.source.now) (g.S.Source.fault_count c.play_next.new.source)))) (sym w.result-is) tt
     ]
 
 pub returns-in-Ok-false-clause-fault : goal.returns-in-Ok-false-clause-fault
@@ -69,7 +69,7 @@ returns-in-Ok-false-clause-fault g c =
 
 pub returns-in-Err-clause-ending : goal.returns-in-Err-clause-ending
 returns-in-Err-clause-ending g c =
-    input_ending (g.S.Source.fault_count c.args.source.now) (g.S.Source.fault_count c.loop-at.source) (g.S.Source.fault_count c.play_next.new.source) c.in-Err.status c.loop-at.invariant.read (c.in-Err.ensures {u = tt}).ending
+    input_stop (g.S.Source.fault_count c.args.source.now) (g.S.Source.fault_count c.loop-at.source) (g.S.Source.fault_count c.play_next.new.source) c.in-Err.stop c.loop-at.invariant.read (c.in-Err.ensures {u = tt}).ending
 
 pub returns-in-Ok-false-clause-reads : goal.returns-in-Ok-false-clause-reads
 returns-in-Ok-false-clause-reads g c = λ bytes is.
@@ -79,8 +79,8 @@ returns-in-Ok-false-clause-reads g c = λ bytes is.
     c.in-Ok-false.field-0-test
     ((c.in-Ok-false.ensures {u = tt}).plays s.world s.lines s.stands s.ahead) in
     elim c.match-close.branch [
-      | in-Ok-close w ↦ subst (λ r. IfOk r (λ status. ReadsSo bytes status (g.S.Source.left c.play_next.new.source))) (sym w.result-is) last.ended
-      | in-Err-close w ↦ subst (λ r. IfOk r (λ status. ReadsSo bytes status (g.S.Source.left c.play_next.new.source))) (sym w.result-is) tt
+      | in-Ok-close w ↦ subst (λ r. IfOk r (λ input. ReadsInput bytes input (g.S.Source.left c.play_next.new.source))) (sym w.result-is) last.ended
+      | in-Err-close w ↦ subst (λ r. IfOk r (λ input. ReadsInput bytes input (g.S.Source.left c.play_next.new.source))) (sym w.result-is) tt
     ]
 
 pub returns-in-Ok-false-clause-plays : goal.returns-in-Ok-false-clause-plays
@@ -105,13 +105,13 @@ returns-in-Ok-false-clause-plays g c = λ bytes is.
 pub returns-in-Err-clause-plays : goal.returns-in-Err-clause-plays
 returns-in-Err-clause-plays g c = λ bytes is.
     let s = c.loop-at.invariant.so_far bytes is in
-    ends_so _ c.args.members.items c.loop-at.at bytes c.loop-at.world c.loop-at.lines (g.S.Source.left c.loop-at.source) (g.K.Sink.written c.args.sink.now) (g.K.Sink.written c.loop-at.sink) c.loop-at.out s c.play_next.new.out c.in-Err.status
+    ends_so _ c.args.members.items c.loop-at.at bytes c.loop-at.world c.loop-at.lines (g.S.Source.left c.loop-at.source) (g.K.Sink.written c.args.sink.now) (g.K.Sink.written c.loop-at.sink) c.loop-at.out s c.play_next.new.out c.in-Err.stop
     (g.S.Source.left c.play_next.new.source) c.play_next.new.world (c.in-Err.ensures {u = tt}).same ((c.in-Err.ensures {u = tt}).plays s.world s.lines s.stands s.ahead)
 
 pub returns-in-Err-clause-reads : goal.returns-in-Err-clause-reads
 returns-in-Err-clause-reads g c = λ bytes is.
     let s = c.loop-at.invariant.so_far bytes is in
-    reads_so _ c.args.members.items c.loop-at.at bytes c.loop-at.world c.loop-at.lines (g.S.Source.left c.loop-at.source) (g.K.Sink.written c.args.sink.now) (g.K.Sink.written c.loop-at.sink) c.loop-at.out s c.in-Err.status
+    reads_so _ c.args.members.items c.loop-at.at bytes c.loop-at.world c.loop-at.lines (g.S.Source.left c.loop-at.source) (g.K.Sink.written c.args.sink.now) (g.K.Sink.written c.loop-at.sink) c.loop-at.out s c.in-Err.stop
     (g.S.Source.left c.play_next.new.source) c.play_next.new.world ((c.in-Err.ensures {u = tt}).plays s.world s.lines s.stands s.ahead)
 
 pub returns-clause-plays : goal.returns-clause-plays

@@ -36,7 +36,7 @@ returns-in-Err-play_text-clause-plays g c = λ w ls h is.
     (parted c.args.lines.now left ls c.in-Ok-Some.text.now c.next.follows.lender-at-none rest c.requires.unfaulted is
     (subst (λ v. IsFor (answer c.args.lines.now) (together c.args.lines.now.held left) (shown (Ok v))) c.in-Ok-Some.field-0-is (c.in-Ok-Some.ensures {u = tt}).line)
     (subst (λ v. Leaves c.args.lines.now left (shown v) c.next.follows.lender-at-none rest) (c.in-Ok-Some.is ∙ ap Ok c.in-Ok-Some.field-0-is) c.next.follows.holds-at-none))
-    c.in-Err-play_text.status
+    c.in-Err-play_text.stop
     (reads_to c.args.lines.now left ls rest (Ok (Some c.in-Ok-Some.text.now)) is
     (subst (λ v. IsAhead (together c.args.lines.now.held left) rest (shown (Ok v))) c.in-Ok-Some.field-0-is ((c.in-Ok-Some.ensures {u = tt}).ahead c.requires.unfaulted)))
     ((c.in-Err-play_text.ensures {u = tt}).shown w h)

@@ -33,11 +33,11 @@ returns-in-Ok-false-clause-played c =
     c.in-Ok-false.field-0-test
     ((c.in-Ok-false.ensures {u = tt}).plays s.world s.lines s.stands s.ahead))
 
-pub returns-in-Err-clause-stopped : goal.returns-in-Err-clause-stopped
-returns-in-Err-clause-stopped c =
+pub returns-in-Err-Line-clause-stopped : goal.returns-in-Err-Line-clause-stopped
+returns-in-Err-Line-clause-stopped c =
     let s = c.loop-at.invariant.so_far in
-    ends_at_line may_vote c.loop-at.at c.args.text c.loop-at.world c.loop-at.lines (Some c.loop-at.source.source.left) None None c.loop-at.out c.play_next.new.world (Some c.play_next.new.source.source.left) s c.in-Err.status
-    (c.in-Err.ensures {u = tt}).ending ((c.in-Err.ensures {u = tt}).plays s.world s.lines s.stands s.ahead)
+    ends_at_line may_vote c.loop-at.at c.args.text c.loop-at.world c.loop-at.lines (Some c.loop-at.source.source.left) None None c.loop-at.out c.play_next.new.world (Some c.play_next.new.source.source.left) s c.in-Err-Line.stop
+    (c.in-Err-Line.ensures {u = tt}).ending ((c.in-Err-Line.ensures {u = tt}).plays s.world s.lines s.stands s.ahead)
 
 pub returns-clause-stopped : goal.returns-clause-stopped
 returns-clause-stopped c =

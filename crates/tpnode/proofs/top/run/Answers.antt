@@ -7,6 +7,7 @@ use Rattle.tp_laws.proofs.Promises.{promised}
 use Rattle.tpnode.specs.Commands.{Refused, Asked}
 use Rattle.tp_replay.proofs.SoFar.{tells_none}
 use Rattle.tp_replay.proofs.Ending.{completes}
+use Rattle.tpnode.proofs.Replayed.{out_of_memory}
 use Rattle.tpnode.proofs.Asking.{never_usage, replays, plain_replay, no_usage}
 use Rattle.tpnode.proofs.top.run.Goals as goal
 
@@ -57,8 +58,11 @@ returns-in-Err-Usage-clause-complete g c = λ is bytes has all read written. abs
 pub returns-clause-promised : goal.returns-clause-promised
 returns-clause-promised g c = λ bytes answers. of_run Promised promised (transcript_with _ bytes answers).world (transcripts_leave_runs _ bytes answers)
 
+pub returns-clause-reads : goal.returns-clause-reads
+returns-clause-reads g c = λ is bytes has. record { answer = out_of_memory; ends = refl; reads = tt }
+
 pub returns-clause-transcript : goal.returns-clause-transcript
-returns-clause-transcript g c = λ is bytes has. record { text = []; tells = tells_none _ c.args.members.items bytes; written = λ before was. was ∙ ap Some (sym (append-nil before)) }
+returns-clause-transcript g c = λ is bytes has. record { answer = out_of_memory; ends = refl; writes = record { text = []; tells = tells_none _ c.args.members.items bytes; written = λ before was. was ∙ ap Some (sym (append-nil before)) } }
 
 pub returns-clause-complete : goal.returns-clause-complete
 returns-clause-complete g c = λ is bytes has all read written. inr refl
