@@ -2,7 +2,7 @@
 use tp_model::{What, Why};
 
 /// What stops a replay in a line. Lines are numbered from 1, comments too.
-#[derive(Clone, Copy, Debug, PartialEq, Eq)]
+#[derive(Clone, Copy)]
 pub enum LineStop {
     /// The line at that number is the first that is bad.
     BadInput { at: u64, why: Why },
@@ -13,7 +13,7 @@ pub enum LineStop {
 }
 
 /// What stops the reading of a schedule.
-#[derive(Clone, Copy, Debug, PartialEq, Eq)]
+#[derive(Clone, Copy)]
 pub enum InputStop {
     /// It stops in a line.
     Line(LineStop),
@@ -28,7 +28,7 @@ pub struct WriteFault {
 }
 
 /// What stops a replay.
-#[derive(Clone, Copy, Debug, PartialEq, Eq)]
+#[derive(Clone, Copy)]
 pub enum ReplayStop {
     /// Its schedule is not read to the end.
     Input(InputStop),
@@ -37,7 +37,7 @@ pub enum ReplayStop {
 }
 
 /// What stops a trial.
-#[derive(Clone, Copy, Debug, PartialEq, Eq)]
+#[derive(Clone, Copy)]
 pub enum TrialStop {
     /// The replay stops in a line.
     Line(LineStop),

@@ -3,7 +3,8 @@ ghost use Rattle.std.specs.Prelude.{◌≡◌, ◌≤◌, [], IfOk, IfErr, OnOk}
 ghost use Rattle.tp_model.specs.World.{World as WorldValue, empty_world};
 ghost use Rattle.tp_model.specs.Generator.{schedule, summary, summary_of};
 ghost use Rattle.tp_driven.specs.DrivenWorld.{members_of, Stands};
-ghost use Rattle.tp_replay.specs.Stops.{IsTrialStop};
+ghost use Rattle.tp_replay.specs.declared.stop.InputStop.{InputStop as TheInputStop};
+ghost use Rattle.tp_replay.specs.Stops.{IsInputStop, IsTrialStop};
 ghost use Rattle.tp_replay.specs.Trying.{alone, IsPlayed, StopsAt, TriesSchedule};
 
 use crate::held::Held;
@@ -66,6 +67,17 @@ fn replayed(alloc: Global, number: u64, nodes: u16, rounds: u8) -> Result<Octets
     }
 }
 
+// What stops the reading of a source that never fails.
+fn of_lines(stop: InputStop) -> LineStop
+    requires { IsInputStop 0 0 stop }
+    ensures { stop ≡ TheInputStop.Line result }
+{
+    match stop {
+        InputStop::Line(stop) => stop,
+        InputStop::ReadFault { .. } => unreachable!(),
+    }
+}
+
 // Plays a schedule in memory over a world with nothing in it and no member. What its lines show is kept nowhere.
 fn play_made(alloc: Global, text: Octets, world: &mut DrivenWorld<Voter>) -> Result<(), LineStop>
     requires empty { Stands empty_world world.old }
@@ -89,9 +101,7 @@ fn play_made(alloc: Global, text: Octets, world: &mut DrivenWorld<Voter>) -> Res
         ) {
             Ok(true) => out.truncate(0),
             Ok(false) => return Ok(()),
-            Err(InputStop::Line(stop)) => return Err(stop),
-            // (the source never fails)
-            Err(InputStop::ReadFault { .. }) => unreachable!(),
+            Err(stop) => return Err(of_lines(stop)),
         }
     }
     Err(LineStop::Limit {

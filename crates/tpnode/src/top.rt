@@ -2,7 +2,7 @@
 ghost use Rattle.std.specs.Prelude.{◌≡◌, ◌⊎◌, ℕ, List, Option, Some, [], false, map, length};
 ghost use Rattle.tp_records.specs.declared.request.Request.{Request};
 ghost use Rattle.tp_outside.specs.Faults.{HasRisen};
-ghost use Rattle.tp_model.specs.Promises.{Promised};
+ghost use Rattle.tp_laws.specs.Whole.{AllPromised};
 ghost use Rattle.tp_model.specs.Transcript.{transcript_with};
 ghost use Rattle.tp_words.specs.Asked.{is_line};
 ghost use Rattle.tp_words.specs.CommandLine.{said};
@@ -50,7 +50,7 @@ pub fn run<S: Source, K: Sink, D: Disk, M: Member>(
     ensures reads { map (λ w. w.now) words.now ≡ replay_words → (bytes : List ℕ) → S.left source.old ≡ Some bytes → ReadsSo bytes result.0 (S.left source.new) }
     ensures disk { map (λ w. w.now) words.now ≡ replay_words → result.1 ≡ disk }
     ensures transcript { map (λ w. w.now) words.now ≡ replay_words → (bytes : List ℕ) → S.left source.old ≡ Some bytes → Transcribes (may_of M.allowed members.items) (length members.items) bytes result.0 (S.left source.new) (K.written sink.old) (K.written sink.new) }
-    ensures promised { (bytes : List ℕ) (answers : List (Option Request)) → Promised (transcript_with (length members.items) bytes answers).world }
+    ensures promised { (bytes : List ℕ) (answers : List (Option Request)) → AllPromised (transcript_with (length members.items) bytes answers).world }
     ensures complete { map (λ w. w.now) words.now ≡ replay_words → (bytes : List ℕ) → S.left source.old ≡ Some bytes → IsComplete (may_of M.allowed members.items) (length members.items) bytes → ¬ (HasRisen (S.fault_count source.old) (S.fault_count source.new)) → ¬ (HasRisen (K.fault_count sink.old) (K.fault_count sink.new)) → (result.0 ≡ Status.Ok) ⊎ (result.0 ≡ Status.NoMemory) }
 {
     match read(alloc, words) {

@@ -1,4 +1,4 @@
-use Rattle.std.proofs.Common.{◌++◌, subst, sym, ap, ◌∙◌, Some}
+use Rattle.std.proofs.Common.{◌++◌, length, subst, sym, ap, ◌∙◌, Some}
 use Rattle.std.specs.Prelude.{IfErr}
 use Rattle.tp_replay.specs.Stops.{IsReplayStop}
 use Rattle.tp_replay.specs.Transcribing.{may_of, Reads, Tells}
@@ -18,7 +18,7 @@ returns-in-Ok-write_all-clause-reads g c = λ bytes is.
 
 pub returns-in-Ok-write_all-clause-transcript : goal.returns-in-Ok-write_all-clause-transcript
 returns-in-Ok-write_all-clause-transcript g c = λ bytes is.
-    subst (λ r. Writes (Tells (may_of g.M.Member.allowed c.args.members.items) _ bytes r (g.S.Source.left c.play_all.new.source)) (g.K.Sink.written c.args.sink.now) (g.K.Sink.written c.write_all.new.sink)) (sym c.all_written.ensures)
+    subst (λ r. Writes (Tells (may_of g.M.Member.allowed c.args.members.items) (length c.args.members.items) bytes r (g.S.Source.left c.play_all.new.source)) (g.K.Sink.written c.args.sink.now) (g.K.Sink.written c.write_all.new.sink)) (sym c.all_written.ensures)
     (finishes _ _ bytes c.in-Ok.input _ c.play_all.new.out _ (g.K.Sink.written c.play_all.new.sink) (g.K.Sink.written c.write_all.new.sink)
     ((c.in-Ok.ensures {u = tt}).plays bytes is)
     (λ all h. (c.in-Ok-write_all.ensures {u = tt}).whole all h ∙ ap (λ t. Some (all ++ t)) c.as_slice.ensures))

@@ -1,5 +1,7 @@
 use Rattle.std.proofs.Common.{ap, subst, arith, [], Some, None, Ok}
-use Rattle.tp_replay.specs.Playing.{PlaysNext}
+use Rattle.tp_replay.specs.declared.stop.InputStop.{InputStop}
+use Rattle.tp_replay.specs.Stops.{IsInputStop}
+use Rattle.tp_replay.specs.Playing.{PlaysNext, EndsNext}
 use Rattle.tp_replay.specs.Voters.{may_vote}
 use Rattle.tp_replay.proofs.SoFar.{at_start, further}
 use Rattle.tp_replay.proofs.Tried.{none_is_some, ends_at_line, ends_after_lines}
@@ -33,11 +35,14 @@ returns-in-Ok-false-clause-played c =
     c.in-Ok-false.field-0-test
     ((c.in-Ok-false.ensures {u = tt}).plays s.world s.lines s.stands s.ahead))
 
-pub returns-in-Err-Line-clause-stopped : goal.returns-in-Err-Line-clause-stopped
-returns-in-Err-Line-clause-stopped c =
+pub returns-in-Err-clause-stopped : goal.returns-in-Err-clause-stopped
+returns-in-Err-clause-stopped c =
     let s = c.loop-at.invariant.so_far in
-    ends_at_line may_vote c.loop-at.at c.args.text c.loop-at.world c.loop-at.lines (Some c.loop-at.source.source.left) None None c.loop-at.out c.play_next.new.world (Some c.play_next.new.source.source.left) s c.in-Err-Line.stop
-    (c.in-Err-Line.ensures {u = tt}).ending ((c.in-Err-Line.ensures {u = tt}).plays s.world s.lines s.stands s.ahead)
+    let unread = Some c.play_next.new.source.source.left in
+    ends_at_line may_vote c.loop-at.at c.args.text c.loop-at.world c.loop-at.lines (Some c.loop-at.source.source.left) None None c.loop-at.out c.play_next.new.world unread s c.of_lines.result
+    (subst (λ (x : InputStop). IsInputStop 0 0 x) c.of_lines.ensures (c.in-Err.ensures {u = tt}).ending)
+    (subst (λ (x : InputStop). EndsNext may_vote c.loop-at.at c.loop-at.lines.before s.world s.lines x unread c.loop-at.world c.play_next.new.world) c.of_lines.ensures
+    ((c.in-Err.ensures {u = tt}).plays s.world s.lines s.stands s.ahead))
 
 pub returns-clause-stopped : goal.returns-clause-stopped
 returns-clause-stopped c =

@@ -1,9 +1,9 @@
 use Rattle.std.proofs.Common.{[], codes, refl, ap, sym, ◌∙◌, Some, Err, inr}
 use Rattle.std.proofs.lemmas.List.{append-nil}
-use Rattle.tp_model.specs.Promises.{Promised}
+use Rattle.tp_laws.specs.Whole.{AllPromised}
 use Rattle.tp_model.specs.Transcript.{transcript_with}
 use Rattle.tp_laws.proofs.LineRuns.{transcripts_leave_runs, of_run}
-use Rattle.tp_laws.proofs.Promises.{promised}
+use Rattle.tp_laws.proofs.Promises.{all_promised}
 use Rattle.tpnode.specs.Commands.{Refused, Asked}
 use Rattle.tp_replay.proofs.SoFar.{tells_none}
 use Rattle.tp_replay.proofs.Ending.{completes}
@@ -25,7 +25,7 @@ pub returns-in-Ok-clause-disk : goal.returns-in-Ok-clause-disk
 returns-in-Ok-clause-disk g c = λ is. (replays c.in-Ok.command _ _ _ _ (c.in-Ok.ensures.plain (codes "replay") [] plain_replay is) c.run_command.ensures.runs).disk
 
 pub returns-in-Ok-clause-promised : goal.returns-in-Ok-clause-promised
-returns-in-Ok-clause-promised g c = λ bytes answers. of_run Promised promised (transcript_with _ bytes answers).world (transcripts_leave_runs _ bytes answers)
+returns-in-Ok-clause-promised g c = λ bytes answers. of_run AllPromised all_promised (transcript_with _ bytes answers).world (transcripts_leave_runs _ bytes answers)
 
 pub returns-in-Ok-clause-transcript : goal.returns-in-Ok-clause-transcript
 returns-in-Ok-clause-transcript g c = λ is bytes has.
@@ -47,7 +47,7 @@ pub returns-in-Err-Usage-clause-reads : goal.returns-in-Err-Usage-clause-reads
 returns-in-Err-Usage-clause-reads g c = λ is bytes has. absurd (no_usage (sym c.in-Err-Usage.field-0-is ∙ c.in-Err-Usage.ensures.plain (codes "replay") [] plain_replay is))
 
 pub returns-in-Err-Usage-clause-promised : goal.returns-in-Err-Usage-clause-promised
-returns-in-Err-Usage-clause-promised g c = λ bytes answers. of_run Promised promised (transcript_with _ bytes answers).world (transcripts_leave_runs _ bytes answers)
+returns-in-Err-Usage-clause-promised g c = λ bytes answers. of_run AllPromised all_promised (transcript_with _ bytes answers).world (transcripts_leave_runs _ bytes answers)
 
 pub returns-in-Err-Usage-clause-transcript : goal.returns-in-Err-Usage-clause-transcript
 returns-in-Err-Usage-clause-transcript g c = λ is bytes has. absurd (no_usage (sym c.in-Err-Usage.field-0-is ∙ c.in-Err-Usage.ensures.plain (codes "replay") [] plain_replay is))
@@ -56,7 +56,7 @@ pub returns-in-Err-Usage-clause-complete : goal.returns-in-Err-Usage-clause-comp
 returns-in-Err-Usage-clause-complete g c = λ is bytes has all read written. absurd (no_usage (sym c.in-Err-Usage.field-0-is ∙ c.in-Err-Usage.ensures.plain (codes "replay") [] plain_replay is))
 
 pub returns-clause-promised : goal.returns-clause-promised
-returns-clause-promised g c = λ bytes answers. of_run Promised promised (transcript_with _ bytes answers).world (transcripts_leave_runs _ bytes answers)
+returns-clause-promised g c = λ bytes answers. of_run AllPromised all_promised (transcript_with _ bytes answers).world (transcripts_leave_runs _ bytes answers)
 
 pub returns-clause-reads : goal.returns-clause-reads
 returns-clause-reads g c = λ is bytes has. record { answer = out_of_memory; ends = refl; reads = tt }
