@@ -5,19 +5,19 @@ use Rattle.tpnode.proofs.Replayed.{replay_ends, replay_limits, trial_ends}
 use Rattle.tpnode.proofs.top.run_command.Goals as goal
 
 pub returns-in-Replay-clause-ending : goal.returns-in-Replay-clause-ending
-returns-in-Replay-clause-ending g c = (replay_ends _ _ _ _ _ _ c.replay.result _ c.of_replay.ensures c.replay.ensures.stop).cause
+returns-in-Replay-clause-ending g c = (replay_ends _ _ _ _ _ _ c.replay-answer.result _ c.of_replay.ensures c.replay-answer.ensures.stop).cause
 
 pub returns-in-Replay-clause-runs : goal.returns-in-Replay-clause-runs
 returns-in-Replay-clause-runs g c =
     runs_as c.args.command Command.Replay _ _ _ _ c.in-Replay.is (record {
-      exit = (replay_ends _ _ _ _ 0 0 c.replay.result _ c.of_replay.ensures c.replay.ensures.stop).exit;
+      exit = (replay_ends _ _ _ _ 0 0 c.replay-answer.result _ c.of_replay.ensures c.replay-answer.ensures.stop).exit;
       source = tt;
       sink = tt;
       disk = refl;
       does = record {
-        limits = replay_limits _ _ _ _ c.replay.result _ c.of_replay.ensures c.replay.ensures.stop;
-        reads = λ bytes is. record { answer = c.replay.result; ends = c.of_replay.ensures; reads = c.replay.ensures.reads bytes is };
-        writes = λ bytes is. record { answer = c.replay.result; ends = c.of_replay.ensures; writes = c.replay.ensures.transcript bytes is };
+        limits = replay_limits _ _ _ _ c.replay-answer.result _ c.of_replay.ensures c.replay-answer.ensures.stop;
+        reads = λ bytes is. record { answer = c.replay-answer.result; ends = c.of_replay.ensures; reads = c.replay-answer.ensures.reads bytes is };
+        writes = λ bytes is. record { answer = c.replay-answer.result; ends = c.of_replay.ensures; writes = c.replay-answer.ensures.transcript bytes is };
       };
     })
 
@@ -34,7 +34,7 @@ pub returns-in-Make-clause-ending : goal.returns-in-Make-clause-ending
 returns-in-Make-clause-ending g c = (c.make_schedule.ensures.ends _ _ _ _).cause
 
 pub returns-in-Trial-clause-ending : goal.returns-in-Trial-clause-ending
-returns-in-Trial-clause-ending g c = (trial_ends _ _ _ _ _ _ c.in-Trial.plan c.try_schedule.result _ c.of_trial.ensures c.try_schedule.ensures.stop).cause
+returns-in-Trial-clause-ending g c = (trial_ends _ _ _ _ _ _ c.in-Trial.plan c.try_schedule-answer.result _ c.of_trial.ensures c.try_schedule-answer.ensures.stop).cause
 
 pub returns-in-Compact-clause-ending : goal.returns-in-Compact-clause-ending
 returns-in-Compact-clause-ending g c = (c.compact_log.ensures.ends _ _ _ _).cause
@@ -70,7 +70,7 @@ returns-in-Make-clause-runs g c =
 
 pub returns-in-Trial-clause-runs : goal.returns-in-Trial-clause-runs
 returns-in-Trial-clause-runs g c =
-    runs_as c.args.command (Command.Trial c.in-Trial.plan) _ _ _ _ c.in-Trial.is (record { exit = (trial_ends 0 0 _ _ 0 0 c.in-Trial.plan c.try_schedule.result _ c.of_trial.ensures c.try_schedule.ensures.stop).exit; source = refl; sink = tt; disk = refl; does = record { answer = c.try_schedule.result; ends = c.of_trial.ensures; tries = c.try_schedule.ensures.tries } })
+    runs_as c.args.command (Command.Trial c.in-Trial.plan) _ _ _ _ c.in-Trial.is (record { exit = (trial_ends 0 0 _ _ 0 0 c.in-Trial.plan c.try_schedule-answer.result _ c.of_trial.ensures c.try_schedule-answer.ensures.stop).exit; source = refl; sink = tt; disk = refl; does = record { answer = c.try_schedule-answer.result; ends = c.of_trial.ensures; tries = c.try_schedule-answer.ensures.tries } })
 
 pub returns-in-Compact-clause-runs : goal.returns-in-Compact-clause-runs
 returns-in-Compact-clause-runs g c =
