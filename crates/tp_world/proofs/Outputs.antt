@@ -7,7 +7,7 @@ use Rattle.tp_model.specs.Parts.{Out}
 use Rattle.tp_model.specs.World.{Frame}
 use Rattle.tp_model.specs.Happenings.{out_lines, frames_of}
 use Rattle.tp_world.specs.Settled.{AreGiven, GivesOuts}
-use Rattle.tp_world_parts.specs.declared.fault.WorldFault.{WorldFault}
+use Rattle.tp_network.specs.declared.fault.SendFault.{SendFault}
 use Rattle.tp_world.specs.declared.world.World.{World as CodeWorld}
 
 -- one, and then the rest
@@ -86,8 +86,7 @@ going_past from o outs some rest before lines old now e g past =
     let parts : length (frames_of from some) ≡ length (frames_of from (o ∷ [])) + length (frames_of from rest) = ap (λ (l : List Out). length (frames_of from l)) e ∙ ap length (frames_then from o rest) ∙ length-append (frames_of from (o ∷ [])) (frames_of from rest) in
     omega (arith, all, parts, past)
 
-pub going_fault : (from : Addr) (o : Out) (outs some rest : List Out) (before lines after : List OutLine) (old now new last : CodeWorld) (f : WorldFault) → some ≡ o ∷ rest
+pub going_fault : (from : Addr) (o : Out) (outs some rest : List Out) (before lines after : List OutLine) (old now new last : CodeWorld) (f : SendFault) → some ≡ o ∷ rest
     → AreGoing from outs some before lines old now → GivesOuts from (o ∷ []) lines (Err f) after now new → GivesOuts from outs before (Err f) after old last
-going_fault from o outs some rest before lines after old now new last WorldFault.Name e g h = absurd h
-going_fault from o outs some rest before lines after old now new last (WorldFault.Limit what) e g h = (h.0, going_past from o outs some rest before lines old now e g h.1)
-going_fault from o outs some rest before lines after old now new last WorldFault.NoMemory e g h = tt
+going_fault from o outs some rest before lines after old now new last SendFault.Full e g h = going_past from o outs some rest before lines old now e g h
+going_fault from o outs some rest before lines after old now new last SendFault.NoMemory e g h = tt

@@ -13,7 +13,9 @@ use Rattle.tp_model.specs.Lines.{within_limits, is_full}
 use Rattle.tp_world.specs.Settled.{forced_lines, entry_lines, SettlesSome}
 use Rattle.tp_world_parts.specs.Standing.{SitesStand, AreNodes, IsEntry, after_entry}
 use Rattle.tp_world.specs.World.{Mirrors, Gives}
+use Rattle.tp_world_parts.specs.Faults.{sending_fault}
 use Rattle.tp_world_parts.specs.declared.fault.WorldFault.{WorldFault}
+use Rattle.tp_network.specs.declared.fault.SendFault.{SendFault}
 use Rattle.tp_network.specs.declared.tree_summary.TreeChange.{TreeChange}
 use Rattle.tp_world_parts.specs.declared.site_slot.Entry.{Entry}
 use Rattle.tp_world.specs.declared.world.World.{World as CodeWorld}
@@ -52,20 +54,24 @@ stands_still w n x old mid h =
       };
     }
 
+-- what is said of the run where a frame is not sent
+abbrev pub told_by : Result (Unit {0}) SendFault → Result (Unit {0}) WorldFault
+told_by (Ok u) = Ok u
+told_by (Err f) = Err (sending_fault f)
+
 -- ---- without an entry
 
-none_gives : (w : World) (n : Node) (dl before first after : List OutLine) (number : Option ℕ) (r : Result (Unit {0}) WorldFault) (old mid new : CodeWorld)
+none_gives : (w : World) (n : Node) (dl before first after : List OutLine) (number : Option ℕ) (r : Result (Unit {0}) SendFault) (old mid new : CodeWorld)
     → IsAnswered w n None None old mid → first ≡ before ++ dl → SettlesSome (addr_of n) None (first ++ ([] ++ refused_lines number)) r after mid new
-    → Gives (within_limits (after_lines dl (entry_turn w n number None))) before r after new
+    → Gives (within_limits (after_lines dl (entry_turn w n number None))) before (told_by r) after new
 none_gives w n dl before first after number (Ok u) old mid new h e s =
     let t : Turn = after_lines dl (entry_turn w n number None) in
     let now : Mirrors w mid = stands_still w n None old mid h in
     gives_ok (within_limits t) t before after new u (within_all t (not_full w.sites mid.sites.items now.sites.sites) now.rest.few)
     (s.1 ∙ ap (λ (l : List OutLine). l ++ refused_lines number) e ∙ append_assoc before dl (refused_lines number))
     (subst (λ (v : CodeWorld). Mirrors w v) (sym s.0) now)
-none_gives w n dl before first after number (Err WorldFault.Name) old mid new h e s = absurd s
-none_gives w n dl before first after number (Err (WorldFault.Limit what)) old mid new h e s = absurd s
-none_gives w n dl before first after number (Err WorldFault.NoMemory) old mid new h e s = tt
+none_gives w n dl before first after number (Err SendFault.Full) old mid new h e s = absurd s
+none_gives w n dl before first after number (Err SendFault.NoMemory) old mid new h e s = tt
 
 -- ---- with one
 
@@ -90,9 +96,9 @@ lines_same w n e x dl before first number mid start outs step frames =
 abbrev entry_behind : World → Node → Option ℕ → EntryValue → List OutLine → Turn
 entry_behind w n number e dl = after_lines dl (entry_turn w n number (Some e))
 
-some_gives : (w : World) (n : Node) (e : EntryValue) (x : Entry) (dl before first after : List OutLine) (number : Option ℕ) (r : Result (Unit {0}) WorldFault) (old mid new : CodeWorld)
+some_gives : (w : World) (n : Node) (e : EntryValue) (x : Entry) (dl before first after : List OutLine) (number : Option ℕ) (r : Result (Unit {0}) SendFault) (old mid new : CodeWorld)
     → IsAnswered w n (Some e) (Some x) old mid → first ≡ before ++ dl → SettlesSome (addr_of n) (Some x) (first ++ (forced_lines (site_of n) x.change.rec ++ refused_lines number)) r after mid new
-    → Gives (within_limits (entry_behind w n number e dl)) before r after new
+    → Gives (within_limits (entry_behind w n number e dl)) before (told_by r) after new
 some_gives w n e x dl before first after number (Ok u) old mid new h start s =
     let t : Turn = entry_behind w n number e dl in
     let head : List OutLine = first ++ (forced_lines (site_of n) x.change.rec ++ refused_lines number) in
@@ -112,8 +118,7 @@ some_gives w n e x dl before first after number (Ok u) old mid new h start s =
     gives_ok (within_limits t) t before after new u (within_all t (not_full t.world.sites new.sites.items now.sites.sites) now.rest.few)
     (s.lines ∙ lines_same w n e x dl before first number mid start h.entry.0 h.entry.1 (h.frames ∙ h.stands.rest.frames))
     now
-some_gives w n e x dl before first after number (Err WorldFault.Name) old mid new h start s = absurd s
-some_gives w n e x dl before first after number (Err (WorldFault.Limit what)) old mid new h start s =
+some_gives w n e x dl before first after number (Err SendFault.Full) old mid new h start s =
     let t : Turn = entry_behind w n number e dl in
     let v : World = logged (entered w n e) n e.rec in
     let fs : mid.frames ≡ v.frames = h.frames ∙ h.stands.rest.frames ∙ sym (logged_frames (entered w n e) n e.rec) in
@@ -122,14 +127,13 @@ some_gives w n e x dl before first after number (Err (WorldFault.Limit what)) ol
     ∙ ap (λ (l : List Out). length v.frames + length (frames_of (addr_of n) l)) h.entry.0
     ∙ sym (length-append v.frames (frames_of (addr_of n) e.outs))
     in
-    let past : 65535 < length t.world.frames = subst (λ (k : ℕ). 65535 < k) count s.1 in
-    subst (λ (q : What). Gives (within_limits t) before (Err (WorldFault.Limit q)) after new) (sym s.0)
-    (gives_limit (within_limits t) What.Frames before after new (within_frames t (not_full v.sites mid.sites.items h.sites.sites) past))
-some_gives w n e x dl before first after number (Err WorldFault.NoMemory) old mid new h start s = tt
+    let past : 65535 < length t.world.frames = subst (λ (k : ℕ). 65535 < k) count s in
+    gives_limit (within_limits t) What.Frames before after new (within_frames t (not_full v.sites mid.sites.items h.sites.sites) past)
+some_gives w n e x dl before first after number (Err SendFault.NoMemory) old mid new h start s = tt
 
-pub answer_gives : (w : World) (n : Node) (ent : Option EntryValue) (x : Option Entry) (dl before first after : List OutLine) (number : Option ℕ) (r : Result (Unit {0}) WorldFault) (old mid new : CodeWorld)
+pub answer_gives : (w : World) (n : Node) (ent : Option EntryValue) (x : Option Entry) (dl before first after : List OutLine) (number : Option ℕ) (r : Result (Unit {0}) SendFault) (old mid new : CodeWorld)
     → IsAnswered w n ent x old mid → first ≡ before ++ dl → SettlesSome (addr_of n) x (first ++ (entry_lines (site_of n) x ++ refused_lines number)) r after mid new
-    → Gives (within_limits (after_lines dl (entry_turn w n number ent))) before r after new
+    → Gives (within_limits (after_lines dl (entry_turn w n number ent))) before (told_by r) after new
 answer_gives w n None None dl before first after number r old mid new h start s = none_gives w n dl before first after number r old mid new h start s
 answer_gives w n None (Some x) dl before first after number r old mid new h start s = absurd h.entry
 answer_gives w n (Some e) None dl before first after number r old mid new h start s = absurd h.entry

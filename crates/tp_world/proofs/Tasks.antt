@@ -14,6 +14,7 @@ use Rattle.tp_world.specs.Settled.{Settles}
 use Rattle.tp_world_parts.specs.Slots.{number_told, entry_told}
 use Rattle.tp_world_parts.specs.Standing.{SitesStand, PlaysAt, after_entry, entry_answered, number_answered}
 use Rattle.tp_world.specs.World.{Mirrors, Gives, task_turn}
+use Rattle.tp_network.specs.declared.fault.SendFault.{SendFault}
 use Rattle.tp_world_parts.specs.declared.fault.WorldFault.{WorldFault}
 use Rattle.tp_world_parts.specs.declared.site_slot.Answer.{Answer}
 use Rattle.tp_world_parts.specs.declared.site_slot.SiteSlot.{SiteSlot}
@@ -21,7 +22,7 @@ use Rattle.tp_world.specs.declared.world.World.{World as CodeWorld}
 use Rattle.tp_world_parts.proofs.Entered.{legal_found}
 use Rattle.tp_world_parts.proofs.Grown.{answered_legal}
 use Rattle.tp_world.proofs.Limits.{not_full, within_all, gives_ok}
-use Rattle.tp_world.proofs.Settling.{IsAnswered, answer_gives, log_gives}
+use Rattle.tp_world.proofs.Settling.{IsAnswered, told_by, answer_gives, log_gives}
 use Rattle.tp_world.proofs.Stood.{address_stood}
 use Rattle.tp_world.proofs.Trying.{IsPlayed, found_task}
 
@@ -49,14 +50,14 @@ answered w o e place a xs old mid h under p i =
       trees = i.trees;
     }
 
-pub played_gives : (w : World) (ls : List OutLine) (o : Option Task) (e : Event) (place : Addr) (a : Answer) (xs : List SiteSlot) (before first after : List OutLine) (r : Result (Unit {0}) WorldFault) (old mid new : CodeWorld)
+pub played_gives : (w : World) (ls : List OutLine) (o : Option Task) (e : Event) (place : Addr) (a : Answer) (xs : List SiteSlot) (before first after : List OutLine) (r : Result (Unit {0}) SendFault) (old mid new : CodeWorld)
     → Mirrors w old → ((up : Option Addr) → IsUnder up e) → IsPlayed w o e place (Ok a) xs → IsPlayedIn old mid xs → first ≡ before ++ ls → Settles place a first r after mid new
-    → Gives (within_limits (task_turn w ls o)) before r after new
+    → Gives (within_limits (task_turn w ls o)) before (told_by r) after new
 played_gives w ls o e place a xs before first after r old mid new h under p i start s =
     let n : Node = p.node in
     let settled : Settles (addr_of n) a first r after mid new = subst (λ (q : Addr). Settles q a first r after mid new) p.place s in
-    subst (λ (q : Option Task). Gives (within_limits (task_turn w ls q)) before r after new) (sym p.task)
-    (subst (λ (k : Option ℕ). Gives (within_limits (after_lines ls (entry_turn w n k (entry_answered n e)))) before r after new) p.plays.0
+    subst (λ (q : Option Task). Gives (within_limits (task_turn w ls q)) before (told_by r) after new) (sym p.task)
+    (subst (λ (k : Option ℕ). Gives (within_limits (after_lines ls (entry_turn w n k (entry_answered n e)))) before (told_by r) after new) p.plays.0
     (answer_gives w n (entry_answered n e) (entry_told a) ls before first after (number_told a) r old mid new (answered w o e place a xs old mid h under p i) start settled))
 
 -- ---- it has not

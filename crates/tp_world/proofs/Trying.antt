@@ -1,5 +1,5 @@
 -- A node is asked for its answer: the code's look-ups, and the task of the definitions.
-use Rattle.std.proofs.Common.{◌≡◌, ℕ, true, refl, ap, sym, subst, ◌∙◌, Option, Some, None, List, Result, Ok, Err, length}
+use Rattle.std.proofs.Common.{◌≡◌, ℕ, true, refl, ap, sym, subst, ◌∙◌, Option, Some, None, List, Result, length}
 use Rattle.std.specs.Vec.{with_items}
 use Rattle.std.specs.Option.{option_map}
 use Rattle.std.proofs.lemmas.List.{with_items_is}

@@ -5,12 +5,11 @@ use Rattle.tp_names.specs.declared.identifiers.Aaid.{Aaid}
 use Rattle.tp_names.specs.declared.identifiers.Addr.{Addr}
 use Rattle.tp_model.specs.declared.out_line.LogWords.{LogWords}
 use Rattle.tp_model.specs.declared.out_line.OutLine.{OutLine}
-use Rattle.tp_model.specs.declared.verdict.What.{What}
 use Rattle.tp_model.specs.Parts.{Out}
 use Rattle.tp_model.specs.Happenings.{out_lines, frames_of, refused_lines, trees_of}
 use Rattle.tp_network.specs.TreeSummary.{is_in}
 use Rattle.tp_network.specs.Nodes.{AreChanged}
-use Rattle.tp_world_parts.specs.declared.fault.WorldFault.{WorldFault}
+use Rattle.tp_network.specs.declared.fault.SendFault.{SendFault}
 use Rattle.tp_network.specs.declared.tree_summary.TreeChange.{TreeChange}
 use Rattle.tp_world_parts.specs.Slots.{number_told, entry_told}
 use Rattle.tp_world_parts.specs.declared.site_slot.Entry.{Entry}
@@ -46,11 +45,10 @@ pub record AreGiven (from : Addr) (outs : List Out) (before after : List OutLine
   pub trees : new.trees ≡ old.trees
 
 -- or there are more frames than have numbers
-abbrev pub GivesOuts : Addr → List Out → List OutLine → Result (Unit {0}) WorldFault → List OutLine → CodeWorld → CodeWorld → Type 0
+abbrev pub GivesOuts : Addr → List Out → List OutLine → Result (Unit {0}) SendFault → List OutLine → CodeWorld → CodeWorld → Type 0
 GivesOuts from outs before (Ok u) after old new = AreGiven from outs before after old new
-GivesOuts from outs before (Err WorldFault.Name) after old new = ⊥
-GivesOuts from outs before (Err (WorldFault.Limit what)) after old new = (what ≡ What.Frames) × (65535 < length old.frames + length (frames_of from outs))
-GivesOuts from outs before (Err WorldFault.NoMemory) after old new = Unit {0}
+GivesOuts from outs before (Err SendFault.Full) after old new = 65535 < length old.frames + length (frames_of from outs)
+GivesOuts from outs before (Err SendFault.NoMemory) after old new = Unit {0}
 
 -- ---- an entry
 
@@ -70,11 +68,10 @@ pub record IsSettledEntry (at : Addr) (x : Entry) (before after : List OutLine) 
   pub few : length old.frames ≤ 65535 → length new.frames ≤ 65535
   pub lines : after ≡ before ++ out_lines at.node (length old.frames) x.outs
 
-abbrev pub SettlesEntry : Addr → Entry → List OutLine → Result (Unit {0}) WorldFault → List OutLine → CodeWorld → CodeWorld → Type 0
+abbrev pub SettlesEntry : Addr → Entry → List OutLine → Result (Unit {0}) SendFault → List OutLine → CodeWorld → CodeWorld → Type 0
 SettlesEntry place x before (Ok u) after old new = IsSettledEntry place x before after old new
-SettlesEntry place x before (Err WorldFault.Name) after old new = ⊥
-SettlesEntry place x before (Err (WorldFault.Limit what)) after old new = (what ≡ What.Frames) × (65535 < length old.frames + length (frames_of place x.outs))
-SettlesEntry place x before (Err WorldFault.NoMemory) after old new = Unit {0}
+SettlesEntry place x before (Err SendFault.Full) after old new = 65535 < length old.frames + length (frames_of place x.outs)
+SettlesEntry place x before (Err SendFault.NoMemory) after old new = Unit {0}
 
 -- ---- an answer
 
@@ -82,12 +79,11 @@ SettlesEntry place x before (Err WorldFault.NoMemory) after old new = Unit {0}
 abbrev pub head_lines : List ℕ → Answer → List OutLine
 head_lines site a = entry_lines site (entry_told a) ++ refused_lines (number_told a)
 
-abbrev pub SettlesSome : Addr → Option Entry → List OutLine → Result (Unit {0}) WorldFault → List OutLine → CodeWorld → CodeWorld → Type 0
+abbrev pub SettlesSome : Addr → Option Entry → List OutLine → Result (Unit {0}) SendFault → List OutLine → CodeWorld → CodeWorld → Type 0
 SettlesSome place (Some x) before r after old new = SettlesEntry place x before r after old new
 SettlesSome place None before (Ok u) after old new = (new ≡ old) × (after ≡ before)
-SettlesSome place None before (Err WorldFault.Name) after old new = ⊥
-SettlesSome place None before (Err (WorldFault.Limit what)) after old new = ⊥
-SettlesSome place None before (Err WorldFault.NoMemory) after old new = Unit {0}
+SettlesSome place None before (Err SendFault.Full) after old new = ⊥
+SettlesSome place None before (Err SendFault.NoMemory) after old new = Unit {0}
 
-abbrev pub Settles : Addr → Answer → List OutLine → Result (Unit {0}) WorldFault → List OutLine → CodeWorld → CodeWorld → Type 0
+abbrev pub Settles : Addr → Answer → List OutLine → Result (Unit {0}) SendFault → List OutLine → CodeWorld → CodeWorld → Type 0
 Settles place a before r after old new = SettlesSome place (entry_told a) (before ++ head_lines place.site a) r after old new

@@ -18,7 +18,7 @@ use crate::world::World;
 use std::alloc::Global;
 use tp_model::{LineRequest, OutLine, OutLines, Refusal};
 use tp_names::{Aaid, Addr, NoMemory, SiteName};
-use tp_network::{TreeChange, is_in};
+use tp_network::{SendFault, TreeChange, is_in};
 use tp_records::{PeerRecord, Request};
 use tp_site::{NodeEvent, Out, Outs};
 use tp_world_parts::{
@@ -60,7 +60,8 @@ impl World {
             return Ok(());
         };
         let answer = play_at(alloc, self.sites.as_mut_slice(), &at, event)?;
-        self.settle(alloc, &at, answer, lines)
+        self.settle(alloc, &at, answer, lines)?;
+        Ok(())
     }
 
     /// A request of the user of that node, where the node is there and the peer that it names.
@@ -100,7 +101,8 @@ impl World {
         };
         lines.push(alloc, OutLine::Take { frame: number })?;
         let answer = arrive_at(alloc, self.sites.as_mut_slice(), &at, frame)?;
-        self.settle(alloc, &at, answer, lines)
+        self.settle(alloc, &at, answer, lines)?;
+        Ok(())
     }
 
     // The entry stands in the node's summaries, and a tree that it starts is known.
@@ -122,7 +124,7 @@ impl World {
         to: Addr,
         rec: PeerRecord,
         lines: &mut OutLines,
-    ) -> Result<(), WorldFault>
+    ) -> Result<(), SendFault>
         ensures { GivesOuts from.now (Send to rec ∷ []) lines.old result lines.new self.old self.new }
     {
         let words = sent_shown(alloc, &rec)?;
@@ -145,7 +147,7 @@ impl World {
         from: &Addr,
         out: Out,
         lines: &mut OutLines,
-    ) -> Result<(), WorldFault>
+    ) -> Result<(), SendFault>
         ensures { GivesOuts from.now (out_of out ∷ []) lines.old result lines.new self.old self.new }
     {
         match out {
@@ -165,7 +167,7 @@ impl World {
         from: &Addr,
         outs: Outs,
         lines: &mut OutLines,
-    ) -> Result<(), WorldFault>
+    ) -> Result<(), SendFault>
         ensures { GivesOuts from.now outs lines.old result lines.new self.old self.new }
     {
         for out in outs.into_vec() {
@@ -181,7 +183,7 @@ impl World {
         at: &Addr,
         entry: Entry,
         lines: &mut OutLines,
-    ) -> Result<(), WorldFault>
+    ) -> Result<(), SendFault>
         ensures { SettlesEntry at.now entry lines.old result lines.new self.old self.new }
     {
         self.enter(at.node, &entry.change)?;
@@ -195,7 +197,7 @@ impl World {
         at: &Addr,
         answer: Answer,
         lines: &mut OutLines,
-    ) -> Result<(), WorldFault>
+    ) -> Result<(), SendFault>
         ensures { Settles at.now answer lines.old result lines.new self.old self.new }
     {
         match answer {

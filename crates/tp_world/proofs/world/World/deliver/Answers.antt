@@ -9,6 +9,7 @@ use Rattle.tp_network.specs.FrameRecord.{record_of}
 use Rattle.tp_network.specs.Frames.{frame_of}
 use Rattle.tp_world.specs.World.{Gives, task_turn}
 use Rattle.tp_world.proofs.Tasks.{played_gives, played_fault, missing_gives, none_gives}
+use Rattle.tp_world_parts.specs.Faults.{sending_fault}
 use Rattle.tp_world_parts.proofs.Handed.{err_is}
 use Rattle.tp_world.proofs.Trying.{is_played, not_some, lent_back, lent_items, task_delivered}
 use Rattle.tp_world.proofs.world.World.deliver.Goals as goal
@@ -47,6 +48,23 @@ returns-in_err-answer c = λ w h.
     (played_fault w (OutLine.Take k ∷ []) (task_at w f.to.node e) e c.in-Some-addr.at g c.arrive_at.new.sites c.args.lines.now c.push.new.self new
     (is_played w v f.to.node e c.in-Some-addr.at (Err g) c.as_mut_slice.result.now c.arrive_at.new.sites h (sym c.in-Some-addr.is ∙ c.addr.ensures) c.as_mut_slice.ensures.value (c.in_err-answer.ensures {u = tt} w))))
 
+pub returns-in_err-settle : goal.returns-in_err-settle
+returns-in_err-settle c = λ w h.
+    let v = c.args.self.now in
+    let k = c.args.number in
+    let f = c.in-Some.frame.now in
+    let e : Event = Arrive f.from (record_of f.rec) in
+    let a = c.in_ok-answer.answer in
+    let mid = lent_back v c.arrive_at.new.sites in
+    let g = c.in_err-settle.field-0.0 in
+    subst (λ r. Gives (within_limits (task_turn w (OutLine.Take k ∷ []) (task_of w (Action.Again k)))) c.args.lines.now r c.settle.new.lines c.settle.new.self) (sym (err_is c.from_residual-in_err-settle.result (sending_fault g) c.from_residual-in_err-settle.ensures.1))
+    (subst (λ o. Gives (within_limits (task_turn w (OutLine.Take k ∷ []) o)) c.args.lines.now (Err (sending_fault g)) c.settle.new.lines c.settle.new.self)
+    (sym (task_delivered w v k (Some (frame_of f)) h (ap (λ o. option_map frame_of (option_copied o)) (sym c.in-Some.is) ∙ c.find.ensures)))
+    (played_gives w (OutLine.Take k ∷ []) (task_at w f.to.node e) e c.in-Some-addr.at a c.arrive_at.new.sites c.args.lines.now c.push.new.self c.settle.new.lines (Err g) v mid c.settle.new.self h (λ up. tt)
+    (is_played w v f.to.node e c.in-Some-addr.at (Ok a) c.as_mut_slice.result.now c.arrive_at.new.sites h (sym c.in-Some-addr.is ∙ c.addr.ensures) c.as_mut_slice.ensures.value (c.in_ok-answer.ensures {u = tt} w))
+    (record { sites = lent_items v c.as_mut_slice.result.now c.arrive_at.new.sites c.as_mut_slice.ensures.value c.arrive_at.auto.sites; nodes = refl; frames = refl; trees = refl })
+    (c.in_ok-push.ensures {u = tt}).ok (c.in_err-settle.ensures {u = tt})))
+
 pub returns : goal.returns
 returns c = λ w h.
     let v = c.args.self.now in
@@ -55,9 +73,9 @@ returns c = λ w h.
     let e : Event = Arrive f.from (record_of f.rec) in
     let a = c.in_ok-answer.answer in
     let mid = lent_back v c.arrive_at.new.sites in
-    subst (λ o. Gives (within_limits (task_turn w (OutLine.Take k ∷ []) o)) c.args.lines.now c.settle.result c.settle.new.lines c.settle.new.self)
+    subst (λ o. Gives (within_limits (task_turn w (OutLine.Take k ∷ []) o)) c.args.lines.now (Ok tt) c.settle.new.lines c.settle.new.self)
     (sym (task_delivered w v k (Some (frame_of f)) h (ap (λ o. option_map frame_of (option_copied o)) (sym c.in-Some.is) ∙ c.find.ensures)))
-    (played_gives w (OutLine.Take k ∷ []) (task_at w f.to.node e) e c.in-Some-addr.at a c.arrive_at.new.sites c.args.lines.now c.push.new.self c.settle.new.lines c.settle.result v mid c.settle.new.self h (λ up. tt)
+    (played_gives w (OutLine.Take k ∷ []) (task_at w f.to.node e) e c.in-Some-addr.at a c.arrive_at.new.sites c.args.lines.now c.push.new.self c.settle.new.lines (Ok tt) v mid c.settle.new.self h (λ up. tt)
     (is_played w v f.to.node e c.in-Some-addr.at (Ok a) c.as_mut_slice.result.now c.arrive_at.new.sites h (sym c.in-Some-addr.is ∙ c.addr.ensures) c.as_mut_slice.ensures.value (c.in_ok-answer.ensures {u = tt} w))
     (record { sites = lent_items v c.as_mut_slice.result.now c.arrive_at.new.sites c.as_mut_slice.ensures.value c.arrive_at.auto.sites; nodes = refl; frames = refl; trees = refl })
-    (c.in_ok-push.ensures {u = tt}).ok c.settle.ensures)
+    (c.in_ok-push.ensures {u = tt}).ok (c.in_ok-settle.ensures {u = tt}))
