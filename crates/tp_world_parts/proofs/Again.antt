@@ -1,5 +1,5 @@
 -- A node that stops and is declared again: its history, and what its site answers.
-use Rattle.std.proofs.Common.{◌≡◌, ◌==◌, ℕ, Bool, true, cond, refl, ap, sym, ◌∙◌, subst, arith, Option, Some, None, Err, List, ◌∷◌}
+use Rattle.std.proofs.Common.{◌≡◌, ◌==◌, ℕ, Bool, true, cond, refl, ap, sym, ◌∙◌, subst, arith, Option, None, Err, List, ◌∷◌}
 use Rattle.std.specs.Option.{option_map}
 use Rattle.std.proofs.lemmas.Bool.Decides.{nat_tests}
 use Rattle.tp_names.specs.declared.identifiers.Addr.{Addr}

@@ -2,12 +2,10 @@ use Rattle.std.proofs.Common.{◌≡◌, suc, true, false, ap, sym, ◌∙◌, s
 use Rattle.tp_names.specs.Same.{is_name}
 use Rattle.tp_model.specs.Parts.{Event}
 use Rattle.tp_model.specs.World.{site_of}
-use Rattle.tp_network.specs.Nodes.{AreChanged}
 use Rattle.tp_world_parts.specs.Restarts.{RestartsTo}
 use Rattle.tp_world_parts.specs.declared.fault.WorldFault.{WorldFault}
 use Rattle.tp_world_parts.specs.Slots.{SlotPlays}
 use Rattle.tp_world_parts.specs.declared.site_slot.Answer.{Answer}
-use Rattle.tp_world_parts.specs.declared.site_slot.Entry.{Entry}
 use Rattle.tp_world_parts.proofs.Stopping.{IsSelf, at_self, is_here, node_never_refused, node_again, node_memory, next_apart}
 use Rattle.tp_world_parts.proofs.Handed.{err_is}
 use Rattle.tp_world_parts.proofs.Turned.{none_past}
