@@ -1,12 +1,9 @@
-//! Tests of the definitions' lists, of the two languages of lines, of schedules made of a number, and of a world under a
-//! schedule.
+//! Tests of the definitions' lists, of the two languages of lines, and of schedules made of a number.
 //!
 //! They call what the crates below offer to all, and show what no clause says: texts from outside, worked
 //! examples, and that calls succeed. Each module has one subject.
 #![tactic(auto)]
 
-#[cfg(test)]
-mod driven;
 #[cfg(test)]
 mod generated;
 #[cfg(test)]
@@ -29,5 +26,3 @@ mod transcript_faults;
 mod transcript_texts;
 #[cfg(test)]
 mod values;
-#[cfg(test)]
-mod world;

@@ -1,5 +1,4 @@
-//! Tests of a site and of what stands on it, over their public calls: its loop over frames of events, demarcation, and the
-//! audit of logs.
+//! Tests of a site and of what stands on it, over their public calls: demarcation, and the audit of logs.
 //!
 //! A test shows what no clause says: that calls succeed with ample memory, and that their answers are those
 //! of worked examples.
@@ -8,15 +7,11 @@
 #[cfg(test)]
 mod audit;
 #[cfg(test)]
-mod cuttings;
-#[cfg(test)]
 mod event;
 #[cfg(test)]
 mod face;
 #[cfg(test)]
 mod recalled;
-#[cfg(test)]
-mod serving;
 #[cfg(test)]
 mod site;
 #[cfg(test)]

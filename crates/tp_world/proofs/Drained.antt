@@ -107,8 +107,6 @@ drained_next w most done before lines after old new more d h = go d.left refl
           stands = g.stands;
         }
 
--- ---- how it ends
-
 stops_gives : (w : World) (most done : ℕ) (before lines after : List OutLine) (old new : CodeWorld) (u : Unit {0}) (d : IsDrained w most done before lines old) → drain_line d.left d.turn.world ≡ Ok (shows d.turn.world [])
     → after ≡ lines → Mirrors d.turn.world new → Gives (drain_line most w) before (Ok u) after new
 stops_gives w most done before lines after old new u d e same h =

@@ -1,7 +1,5 @@
-//! A world of nodes under a written schedule: sites with their logs in memory, frames between nodes, and trees.
-//!
-//! What a line does stands with the definitions of the service. No history is kept here: of each node and tree the few
-//! facts are kept that the closing lines ask. No member is there.
+//! A world of nodes under a written schedule: sites with their logs in memory, frames between nodes, and trees. What a line does
+//! stands with the definitions. No history is kept, but the few facts that the closing lines ask; and no member is there.
 #![tactic(auto)]
 
 mod event;

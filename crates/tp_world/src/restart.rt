@@ -17,8 +17,7 @@ use tp_outside::MemDisk;
 use tp_world_parts::{LostEntry, SiteSlot, WorldFault, restart_nodes};
 
 impl World {
-    /// The site at that place has stopped, and starts again on that journal; its nodes are declared again. What it knew
-    /// is what it knows now, but for an entry that is lost.
+    /// The stopped site at that place starts again on that journal, and its nodes are declared again; only a lost entry is gone.
     pub(crate) fn restart(
         &mut self,
         alloc: Global,

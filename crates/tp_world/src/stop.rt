@@ -188,8 +188,7 @@ impl World {
         self.stop_in_entry(alloc, place, disk, node, &answer, stop, lines)
     }
 
-    // The site at that place stops as the oldest frame between the nodes is handed over; where there is none there is no
-    // event.
+    // The site at that place stops as the oldest frame between the nodes is handed over, where there is one.
     fn stop_pass(
         &mut self,
         alloc: Global,

@@ -57,8 +57,7 @@ impl World {
         }
     }
 
-    /// What a line shows, with its echo. No member is there, so a line that speaks of one ends the run. After a fault the run
-    /// has ended, and nothing more is said of the world.
+    /// What a line shows, with its echo. One that speaks of a member ends the run. After a fault nothing is said of the world.
     pub fn line(&mut self, alloc: Global, line: &Line) -> Result<OutLines, WorldFault>
         ensures { (w : WorldValue) → Stands w self.old → Plays w line.now result self.new }
     {
@@ -71,8 +70,7 @@ impl World {
         Ok(lines)
     }
 
-    /// What a line shows, without its echo, after the lines that are shown. After a fault the run has ended, and nothing
-    /// more is said of the world nor of the lines.
+    /// What a line shows, without its echo, after the lines that are shown. After a fault nothing is said of world or lines.
     pub fn play(
         &mut self,
         alloc: Global,
