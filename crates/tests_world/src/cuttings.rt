@@ -17,32 +17,38 @@ const B: &[u8] = &[1, b'b', 0, 2];
 
 const OVER: &[u8] = &[0, 1, 0x13];
 
-/// Frames that site b is given, in order, each in pieces, and what it writes for each: a node is declared under one of site a; an
-/// arrival that is no record, one for another site, one that opens an association, the same again; the dialogue is accepted; and
-/// a record with number 0 breaks the association.
-const EXCHANGE: &[(&[&[u8]], &[&[u8]])] = &[
-    (&[&[0, 8, 1, 0, 2, 1], A], &[OVER]),
+/// Frames that site b is given, by their numbers, each in pieces, and what it writes for each: a node is declared under one of
+/// site a; an arrival that is no record, one for another site, one that opens an association, the same again; the dialogue is
+/// accepted; and a record with number 0 breaks the association.
+const EXCHANGE: &[(u64, &[&[u8]], &[&[u8]])] = &[
+    (1, &[&[0, 8, 1, 0, 2, 1], A], &[OVER]),
     (
+        2,
         &[&[0, 0x0c, 3], A, B, &[0, 1, 0xff]],
         &[&[0, 2, 0x12, 0x19], OVER],
     ),
     (
+        3,
         &[&[0, 0x1f, 3], A, &[1, b'c', 0, 2, 0, 0x14, 1], X, &[0x29]],
         &[&[0, 2, 0x12, 0x17], OVER],
     ),
     (
+        4,
         &[&[0, 0x1f, 3], A, B, &[0, 0x14, 1], X, &[0x29]],
         &[&[0, 7, 0x10, 0, 2, 1, 0, 1, 0x29], OVER],
     ),
     (
+        5,
         &[&[0, 0x1f, 3], A, B, &[0, 0x14, 1], X, &[0x29]],
         &[&[0, 2, 0x12, 0x15], OVER],
     ),
     (
+        6,
         &[&[0, 5, 2, 0, 2, 2, 0x29]],
         &[&[0, 0x31, 0x11], B, A, &[0, 0x26, 2], X, Y, &[0x29], OVER],
     ),
     (
+        7,
         &[&[0, 0x39, 3], A, B, &[0, 0x2e, 4], X, Y, &[0; 8], &[0x0e]],
         &[
             &[0, 2, 0x12, 0x18, 0, 0x31, 0x11],
@@ -85,8 +91,8 @@ fn are_short(alloc: Global, input: &[u8], start: usize, written: &[u8], frame: u
         at: frame,
         why: Why::Short,
     };
-    for cut in start + 1..input.len() {
-        if ends(alloc, &input[..cut], 16, written) != Some(Err(stop)) {
+    for cut in start..input.len() {
+        if cut > start && ends(alloc, &input[..cut], 16, written) != Some(Err(stop)) {
             return false;
         }
     }
@@ -107,12 +113,10 @@ fn are_pieces_alike(alloc: Global, input: &[u8], written: &[u8]) -> bool {
 fn are_cut_so(alloc: Global) -> Option<bool> {
     let mut input = Octets::new(alloc);
     let mut written = Octets::new(alloc);
-    let mut frame = 0;
-    for (given, told) in EXCHANGE {
-        frame += 1;
+    for (frame, given, told) in EXCHANGE {
         let start = input.len();
         append(alloc, &mut input, given).ok()?;
-        let short = are_short(alloc, input.as_slice(), start, written.as_slice(), frame);
+        let short = are_short(alloc, input.as_slice(), start, written.as_slice(), *frame);
         append(alloc, &mut written, told).ok()?;
         let whole = ends(alloc, input.as_slice(), 16, written.as_slice());
         if !short || whole != Some(Ok(())) {
