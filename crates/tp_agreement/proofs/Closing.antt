@@ -49,6 +49,7 @@ use Rattle.tp_steps.proofs.links.Wrapped.{Agrees, agrees_played, words_append}
 use Rattle.tp_steps.proofs.lemmas.Words.{keys_append}
 use Rattle.tp_histories.proofs.trees.Late.{late_remaining}
 use Rattle.tp_steps.proofs.words.Fair.{at_most_none}
+use Rattle.tp_steps.proofs.links.Whole.{whole_turn}
 
 -- ---- which events close a branch
 
@@ -163,7 +164,7 @@ pub turned_none : (who : Who) (f : TxEvent) (d : Digest) (c : Current) (p : ℕ)
 turned_none who f d c p put =
     let t : Transaction = seen who d.arcs c in
     let a : Turn = transacted f t in
-    let agrees : Agrees p (is_live (link_with d.arcs p)) a.outs (turned who f d c).outs (is_live (link_with (turned who f d c).next.arcs p)) = agrees_played d t (passed who f d c) a.outs d.arcs p (apart_turn f t put) in
+    let agrees : Agrees p (is_live (link_with d.arcs p)) a.outs (turned who f d c).outs (is_live (link_with (turned who f d c).next.arcs p)) = agrees_played d t (passed who f d c) a (whole_turn f t) d.arcs p (apart_turn f t put) in
     ap begun_keys agrees.words ∙ no_keys (is_live (link_with d.arcs p)) p a.outs (passed_turn f t put).begins
 
 pub opens_transact : (who : Who) (f : TxEvent) (d : Digest) (p : ℕ) → ((c : Current) → d.current ≡ Some c → IsPut f (seen who d.arcs c)) → Opens p (transact who f d)

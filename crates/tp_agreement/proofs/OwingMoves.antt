@@ -27,7 +27,7 @@ use Rattle.tp_model.specs.Dialogues.{is_nil, is_active, is_committing, is_rollin
 use Rattle.tp_model.specs.Arcs.{find_arc, link_with, with_dialogue, carried_on, carried, shut_says, shut_with, performed_one, performed}
 use Rattle.tp_model.specs.Transactions.{Row, Transaction, Turn, aaid_of, node_key, find_row, row_holds, is_under_at, fresh_branch, situation_of, transacted}
 use Rattle.tp_model.specs.Recovery.{is_commit, find_owed, without_owed, is_nothing_owed, rec_of_done, settled, find_kept, put_kept, without_kept, kept_by, kept_after, not_forgotten}
-use Rattle.tp_model.specs.Node.{Move, move, followed, perform, next_mark, with_mark_drawn, phase_of, seen, seen_row, seen_rows, situation_at, fresh_current, remaining, branches_of, Passage, Commits, passage, is_leaving, entered, played, split_at_completion, perform_commit, committed_arcs, grants, with_begun, may_begin_on, begin_on, keep, turned}
+use Rattle.tp_model.specs.Node.{Move, move, followed, perform, next_mark, with_mark_drawn, phase_of, seen, seen_row, seen_rows, situation_at, fresh_current, remaining, branches_of, Passage, Commits, passage, is_leaving, entered, played, perform_commit, committed_arcs, grants, with_begun, may_begin_on, begin_on, keep, turned, around_grants}
 use Rattle.tp_model.specs.Events.{refusal, action}
 use Rattle.tp_model.specs.Links.{is_live}
 use Rattle.tp_model.specs.Outcomes.{is_now, is_unchanged, rolls}
@@ -51,7 +51,7 @@ use Rattle.tp_steps.proofs.every.EveryRecord.{find_arc_is}
 use Rattle.tp_steps.proofs.links.Apart.{apart_spoken}
 use Rattle.tp_steps.proofs.words.Hushed.{spoken_none, settled_spoken}
 use Rattle.tp_steps.proofs.branches.Rolls.{rolls_so}
-use Rattle.tp_steps.proofs.links.Wrapped.{split_joins, agrees_performed}
+use Rattle.tp_steps.proofs.links.Wrapped.{agrees_performed}
 use Rattle.tp_agreement.proofs.Closing.{turned_none}
 use Rattle.tp_histories.proofs.worlds.TreeMembers.{sent_counts}
 use Rattle.tp_agreement.proofs.Marked.{MayMark}
@@ -69,6 +69,7 @@ use Rattle.tp_steps.proofs.lemmas.Options.{some_same}
 use Rattle.std.proofs.lemmas.Bool.{not-true}
 use Rattle.tp_steps.proofs.log.StandLog.{key_other}
 use Rattle.tp_steps.proofs.branches.Outspoken.{recovery_first, recovery_later}
+use Rattle.tp_steps.proofs.links.Whole.{IsWhole, whole_turn}
 
 -- ---- what goes out at the arcs
 
@@ -198,24 +199,23 @@ none_granted t (a ∷ arcs) z r h = go _ h (none_granted t arcs z r)
     go true i rest = rest i
     go false i rest = rest i
 
-sent_commit : (d : Digest) (t : Transaction) (outs : List TxOut) (arcs : List Arc) (z : Addr) (r : PeerRecord) → is_recovery r ≡ true → IsSentIn (perform_commit d t outs arcs).1 z r → IsRecoveryIn outs z r
-sent_commit d t outs arcs z r k h =
-    let s = split_at_completion outs in
+sent_commit : (d : Digest) (t : Transaction) (s : List TxOut × List TxOut) (arcs : List Arc) (z : Addr) (r : PeerRecord) → is_recovery r ≡ true → IsSentIn (perform_commit d t s arcs).1 z r → IsRecoveryIn (s.0 ++ s.1) z r
+sent_commit d t s arcs z r k h =
     let one = performed arcs s.0 in
     let two = performed (committed_arcs d t one.0) (grants t one.0) in
     let three = performed two.0 s.1 in
-    subst (λ (l : List TxOut). IsRecoveryIn l z r) (split_joins outs) (elim (sent_split (one.1 ++ two.1) three.1 z r h) [
+    elim (sent_split (one.1 ++ two.1) three.1 z r h) [
       | inr i ↦ recovery_later s.0 s.1 z r (sent_performed two.0 s.1 z r k i)
       | inl i ↦ elim (sent_split one.1 two.1 z r i) [
         | inl j ↦ recovery_first s.0 s.1 z r (sent_performed arcs s.0 z r k j)
         | inr j ↦ absurd (none_granted t one.0 z r (sent_performed (committed_arcs d t one.0) (grants t one.0) z r k j))
       ]
-    ])
+    ]
 
-pub sent_played : (d : Digest) (t : Transaction) (w : Passage) (outs : List TxOut) (arcs : List Arc) (z : Addr) (r : PeerRecord) → is_recovery r ≡ true → IsSentIn (played d t w outs arcs).1 z r → IsRecoveryIn outs z r
+pub sent_played : (d : Digest) (t : Transaction) (w : Passage) (asks : Turn) → IsWhole asks → (arcs : List Arc) (z : Addr) (r : PeerRecord) → is_recovery r ≡ true → IsSentIn (played d t w asks arcs).1 z r → IsRecoveryIn asks.outs z r
 unfolding played
-sent_played d t Commits outs arcs z r k h = sent_commit d t outs arcs z r k h
-sent_played d t _ outs arcs z r k h = sent_performed arcs outs z r k h
+sent_played d t Commits asks whole arcs z r k h = subst (λ (l : List TxOut). IsRecoveryIn l z r) whole (sent_commit d t (around_grants asks) arcs z r k h)
+sent_played d t _ asks whole arcs z r k h = sent_performed arcs asks.outs z r k h
 
 -- ---- kept transactions
 
@@ -502,7 +502,7 @@ kept_damage t p b ks n k up x cs tree owes =
 
 owing_turned : (who : Who) (e : Event) (fall : Bool) (s : Digest) (f : TxEvent) (d : Digest) (c : Current) → (falls f (seen who d.arcs c) ≡ true → fall ≡ true) → d.current ≡ Some c → s.current ≡ Some c → IsAsked e c f → IsPut f (seen who d.arcs c) → IsOwingMove who e fall s d (turned who f d c)
 owing_turned who e fall s f d c so now at asked put = record {
-  says = λ z r h. word_of e s d m z r (λ k. word z r (own.says z r (sent_played d q w a.outs (entered q w d.arcs) z r k h)));
+  says = λ z r h. word_of e s d m z r (λ k. word z r (own.says z r (sent_played d q w a (whole_turn f q) (entered q w d.arcs) z r k h)));
   rolls = λ u h. elim (rollback_rec u a.rec d.kept h) [
     | inl i ↦ inl i
     | inr k ↦ inr (ap (is_now u) at ∙ back_key q a.rec a.next u own.passed.logs k, so (own.rolls (back_rolls u a.rec k)))

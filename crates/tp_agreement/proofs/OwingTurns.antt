@@ -16,7 +16,7 @@ use Rattle.tp_model.specs.declared.transaction.TxEvent.{TxEvent}
 use Rattle.tp_model.specs.declared.transaction.TxOut.{TxOut}
 use Rattle.tp_model.specs.Parts.{Key, Root, Under}
 use Rattle.tp_model.specs.Dialogues.{is_active, is_ready, is_committing, is_rolling}
-use Rattle.tp_model.specs.Transactions.{Row, Transaction, Turn, turn, and_then, before, aaid_of, node_key, superior_of, is_under_at, find_row, with_row, with_arc_lost, all_done, owed_of, child_of, report_of_branch, reports_of, own_damage, log_ready, log_end, log_damage, forgets, done_up, ends_down, end_up, retried, complete_commit, complete_rollback, begin_rolling, order, ask_commit, leave, count_branch, end_branch, branch_left, transacted}
+use Rattle.tp_model.specs.Transactions.{Row, Transaction, Turn, turn, and_then, before, aaid_of, node_key, superior_of, is_under_at, find_row, with_row, with_arc_lost, all_done, owed_of, child_of, report_of_branch, reports_of, own_damage, log_ready, log_end, log_damage, forgets, done_up, ends_down, end_up, retried, complete_commit, complete_rollback, begin_rolling, order, ask_commit, leave, count_branch, end_branch, branch_left, transacted, completion_of}
 use Rattle.tp_steps.specs.Turns.{Turns, vote, decide, shut_given_up, row_dead, falls}
 use Rattle.tp_steps.specs.Moves.{IsPut, IsRecoveryIn}
 use Rattle.tp_steps.specs.Passages.{may_move, is_commit_rec, IsPassed}
@@ -169,7 +169,7 @@ owing_commit e s t passed c = go (not t.owes && all_done t.rows) refl
     outs = forgets (aaid_of t.key) t.rows ++ done_up t x ++ (TxOut.Tell (Indication.CommitComplete x) ∷ []) ++ ends_down t.rows ++ end_up t
 
     over : Turn
-    over = record { rec = Some (if is_report_none x then log_end t Outcome.Commit else log_damage t Outcome.Commit x (owed_of t.rows)); outs = outs; next = record t { phase = Phase.Nil } }
+    over = record { rec = Some (if is_report_none x then log_end t Outcome.Commit else log_damage t Outcome.Commit x (owed_of t.rows)); outs = outs; completion = completion_of t x; next = record t { phase = Phase.Nil } }
 
     says : (a : Turn) → (is_report_none x || is_damage_rec a.rec) ≡ true → SaysOwn t a outs
     says a spoilt =

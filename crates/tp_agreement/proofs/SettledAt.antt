@@ -38,6 +38,7 @@ use Rattle.tp_histories.proofs.pairs.PairedSteps.{paired_law, told_entry}
 use Rattle.tp_agreement.proofs.Settled.{is_settled, is_bound_phase, Settled, settled_turn}
 use Rattle.tp_steps.proofs.every.BeginCases.{begun_over, begin_cases}
 use Rattle.tp_steps.proofs.lemmas.Options.{some_same}
+use Rattle.tp_steps.proofs.links.Whole.{whole_turn}
 
 abbrev pub SettledAt : Digest → Type 0
 SettledAt d = (c : Current) → d.current ≡ Some c → is_bound_phase c.phase ≡ true → (p : ℕ) (b : Branch) → find_branch c.branches p ≡ Some b → is_live (link_with d.arcs p) ≡ true → is_settled b ≡ true
@@ -92,7 +93,7 @@ keeps_turned who f d c now put gone old u at bound p b found live = ap is_settle
     w = row_left a.next p u b at found
 
     agrees : Agrees p (is_live (link_with d.arcs p)) a.outs (turned who f d c).outs (is_live (link_with (turned who f d c).next.arcs p))
-    agrees = agrees_played d t (passed who f d c) a.outs d.arcs p (apart_turn f t put)
+    agrees = agrees_played d t (passed who f d c) a (whole_turn f t) d.arcs p (apart_turn f t put)
 
     was : is_live (link_with d.arcs p) ≡ true
     was = stays_back (is_live (link_with d.arcs p)) p a.outs (sym agrees.live ∙ live)

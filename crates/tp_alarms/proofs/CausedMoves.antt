@@ -28,6 +28,7 @@ use Rattle.tp_steps.proofs.lemmas.Equality.{and_left, and_right, both_true}
 use Rattle.tp_steps.proofs.lemmas.Options.{some_same}
 use Rattle.tp_steps.proofs.every.BeginCases.{begun_over, begin_cases}
 use Rattle.tp_alarms.proofs.CausedTurns.{Known, branch_ok, rows_ok, decision_ok, own_ok, IsOk, is_bad, Adds, Caused, caused_turn}
+use Rattle.tp_steps.proofs.links.Whole.{whole_turn}
 
 -- ---- what is current
 
@@ -109,7 +110,7 @@ turns who k t f s d c now at adds put ok = go (is_aaid t (aaid_of c.key)) refl
         let w = passage (is_leaving f) q.phase a.next.phase in
         record {
           ok = λ v is own. ok_left k a.next caused.ok v is;
-          tells = λ n. told_played (is_bad k) d q w a.outs (entered q w d.arcs) ∙ caused.tells;
+          tells = λ n. told_played (is_bad k) d q w a (whole_turn f q) (entered q w d.arcs) ∙ caused.tells;
         }
 
 chained : (who : Who) (k : Known) (t : Aaid) (s d : Digest) (a : Move) (f : Digest → Move) → IsCausedMove k t s d a → IsCausedMove k t s a.next (f a.next) → IsCausedMove k t s d (followed a f)

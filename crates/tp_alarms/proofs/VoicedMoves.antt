@@ -37,6 +37,7 @@ use Rattle.tp_steps.proofs.links.Told.{told_append, told_played}
 use Rattle.tp_steps.proofs.every.BeginCases.{begun_over, begin_cases}
 use Rattle.tp_agreement.proofs.OwingMoves.{sent_split, sent_performed, sent_played, settled_silent}
 use Rattle.tp_alarms.proofs.VoicedTurns.{Voices, fits_reply, fits_superior, fits_kept, fits_rec, is_key_fit, Voiced, voiced_turn, fit_in}
+use Rattle.tp_steps.proofs.links.Whole.{whole_turn}
 
 abbrev pub kept_fit : Voices → Aaid → List Kept → Bool
 kept_fit v t [] = true
@@ -198,7 +199,7 @@ said_fits v t e s d bring old z u b r (inr i) = go (is_report_none r) refl (is_a
 turns : (who : Who) (v : Voices) (t : Aaid) (e : Event) (f : TxEvent) (s d : Digest) (c : Current) → Brings v t e s → s.current ≡ Some c → IsPut f (seen who d.arcs c) → IsVoicedMove v t s d (turned who f d c)
 turns who v t e f s d c bring at put told old = record {
   kept = after_fit v t a.rec d.kept voiced.rec old;
-  says = λ z u b r h. fit_in v t a.outs z u b r voiced.outs (sent_played d q w a.outs (entered q w d.arcs) z (PeerRecord.RecReply u b (RecState.Done r)) refl h);
+  says = λ z u b r h. fit_in v t a.outs z u b r voiced.outs (sent_played d q w a (whole_turn f q) (entered q w d.arcs) z (PeerRecord.RecReply u b (RecState.Done r)) refl h);
 }
   where
     q : Transaction
@@ -211,7 +212,7 @@ turns who v t e f s d c bring at put told old = record {
     w = passage (is_leaving f) q.phase a.next.phase
 
     voiced : Voiced v t a
-    voiced = (voiced_turn v t f q put).voiced (bring.keys c at) (λ r own h. told c r at own (told_played (is_complete Outcome.Commit r) d q w a.outs (entered q w d.arcs) ∙ h))
+    voiced = (voiced_turn v t f q put).voiced (bring.keys c at) (λ r own h. told c r at own (told_played (is_complete Outcome.Commit r) d q w a (whole_turn f q) (entered q w d.arcs) ∙ h))
 
 chained : (v : Voices) (t : Aaid) (s d : Digest) (a : Move) (f : Digest → Move) → IsVoicedMove v t s d a → IsVoicedMove v t s a.next (f a.next) → IsVoicedMove v t s d (followed a f)
 chained v t s d a f one two told old =

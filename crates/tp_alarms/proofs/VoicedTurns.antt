@@ -14,7 +14,7 @@ use Rattle.tp_records.specs.declared.dialogue.DialogueRecord.{DialogueRecord}
 use Rattle.tp_records.specs.declared.peer.PeerRecord.{PeerRecord}
 use Rattle.tp_records.specs.declared.peer.RecState.{RecState}
 use Rattle.tp_logrec.specs.declared.record.LogRec.{LogRec}
-use Rattle.tp_model.specs.Transactions.{aaid_of, Transaction, node_key, Turn, turn, all_done, all_rolled_back, reports_of, own_damage, carry_up, forgets, done_up, ends_down, end_up, is_own_commit, complete_commit, complete_rollback, begin_rolling, ask_commit, order, leave, count_branch, end_branch, branch_left, transacted, superior_of, owed_of, log_ready, log_end, log_damage}
+use Rattle.tp_model.specs.Transactions.{aaid_of, Transaction, node_key, Turn, turn, all_done, all_rolled_back, reports_of, own_damage, carry_up, forgets, done_up, ends_down, end_up, is_own_commit, complete_commit, complete_rollback, begin_rolling, ask_commit, order, leave, count_branch, end_branch, branch_left, transacted, superior_of, owed_of, log_ready, log_end, log_damage, completion_of}
 use Rattle.tp_model.specs.declared.arc.Phase.{Phase}
 use Rattle.tp_model.specs.declared.transaction.TxEvent.{TxEvent}
 use Rattle.tp_model.specs.Parts.{Under, Root, Key}
@@ -129,6 +129,7 @@ voiced_commit v t q key told = go (not q.owes && all_done q.rows) told
     over = record {
       rec = Some (if is_report_none r then log_end q Outcome.Commit else log_damage q Outcome.Commit r (owed_of q.rows));
       outs = forgets (aaid_of q.key) q.rows ++ done_up q r ++ (TxOut.Tell (Indication.CommitComplete r) ∷ []) ++ ends_down q.rows ++ end_up q;
+      completion = completion_of q r;
       next = record q { phase = Phase.Nil };
     }
 

@@ -13,7 +13,7 @@ use Rattle.tp_model.specs.declared.transaction.TxOut.{TxOut}
 use Rattle.tp_model.specs.Parts.{Who, Arc, Key, Root, Under, Current}
 use Rattle.tp_model.specs.Dialogues.{Sight, Acts, Nothing_happens, Out_of_phase, is_active, is_ready, is_committing, is_rolling}
 use Rattle.tp_model.specs.Arcs.{is_live_with_peer}
-use Rattle.tp_model.specs.Transactions.{Row, Transaction, Turn, turn, and_then, is_under_at, find_row, find_row_by_id, with_row, with_arc_lost, complete_commit, complete_rollback, roll, order, settle, ask_commit, count_branch, end_branch, complete, leave, lost_arc, superior_rolls, takes, sight_of_tx, is_open_in_commit, replied, by_user, refused_user, transacted, retried}
+use Rattle.tp_model.specs.Transactions.{Row, Transaction, Turn, turn, and_then, is_under_at, find_row, find_row_by_id, with_row, with_arc_lost, complete_commit, complete_rollback, roll, order, settle, ask_commit, count_branch, end_branch, complete, leave, lost_arc, superior_rolls, takes, sight_of_tx, is_open_in_commit, replied, by_user, refused_user, transacted, retried, after}
 use Rattle.tp_model.specs.Node.{is_end_deferred_at, is_up_live, is_up_ending, seen}
 use Rattle.tp_commit.specs.declared.row.Note.{Note}
 use Rattle.tp_commit.specs.Row.{noted}
@@ -102,7 +102,7 @@ goes_rolled : (p : ℕ) (t : Transaction) (r : _) → Goes t (and_then (end_bran
 goes_rolled p t r late = still_then t (end_branch p r t) (complete_rollback (end_branch p r t).next) _ (still_end p r t) (goes_rollback (end_branch p r t).next late)
 
 -- something is told, and then it goes on
-goes_told : (t : Transaction) (i : Indication) (a : Turn) → Goes t a → Goes t (record { rec = a.rec; outs = TxOut.Tell i ∷ a.outs; next = a.next })
+goes_told : (t : Transaction) (i : Indication) (a : Turn) → Goes t a → Goes t (record { rec = a.rec; outs = TxOut.Tell i ∷ a.outs; completion = after (TxOut.Tell i ∷ []) a.completion; next = a.next })
 goes_told t i a goes late = let still = goes late in record { node = still.node; key = still.key; up = still.up; up_ends = still.up_ends; rows = still.rows; outs = still.outs; commits = still.commits }
 
 acts_under : (t : Transaction) (p : ℕ) → sight_of_tx t p DialogueRecord.Rollback ≡ Acts → is_committing t.phase ≡ false

@@ -7,7 +7,7 @@ use Rattle.tp_model.specs.declared.transaction.TxOut.{TxOut}
 use Rattle.tp_model.specs.Parts.{Arc, Digest}
 use Rattle.tp_model.specs.Dialogues.{is_nil, is_committing, is_rolling, cleared}
 use Rattle.tp_model.specs.Arcs.{find_arc, is_live_with_peer, without_arc, with_dialogues, carried, shut_with, performed}
-use Rattle.tp_model.specs.Transactions.{Transaction, is_under_at}
+use Rattle.tp_model.specs.Transactions.{Transaction, is_under_at, Turn}
 use Rattle.tp_model.specs.Node.{is_end_deferred_at, without_deferral, is_arc_of, Passage, Stays, Enters, Falls, Falls_at_once, Commits, Rolls_back, Leaves, passage, is_over, entered, played}
 use Rattle.tp_model.specs.AmongArcs.{IsAlike, IsCut}
 use Rattle.tp_commit.proofs.Arcs.{alike, alike_carried, alike_performed, shuts_none, live_gone, ends_gone, alike_others, alike_cleared, live_forgotten, ends_forgotten}
@@ -38,15 +38,15 @@ not_over leaving Phase.Rolling Phase.Ready h = refl
 not_over leaving Phase.Rolling Phase.Committing h = refl
 not_over leaving Phase.Rolling Phase.Rolling h = refl
 
-pub lasting : (d : Digest) (t : Transaction) (w : Passage) (outs : List TxOut) (arcs : List Arc) → is_over w ≡ false → (played d t w outs arcs).0 ≡ (performed arcs outs).0
+pub lasting : (d : Digest) (t : Transaction) (w : Passage) (asks : Turn) (arcs : List Arc) → is_over w ≡ false → (played d t w asks arcs).0 ≡ (performed arcs asks.outs).0
 unfolding played
-lasting d t Stays outs arcs h = refl
-lasting d t Enters outs arcs h = refl
-lasting d t Falls outs arcs h = refl
-lasting d t Falls_at_once outs arcs h = absurd cc
-lasting d t Commits outs arcs h = absurd cc
-lasting d t Rolls_back outs arcs h = absurd cc
-lasting d t Leaves outs arcs h = absurd cc
+lasting d t Stays asks arcs h = refl
+lasting d t Enters asks arcs h = refl
+lasting d t Falls asks arcs h = refl
+lasting d t Falls_at_once asks arcs h = absurd cc
+lasting d t Commits asks arcs h = absurd cc
+lasting d t Rolls_back asks arcs h = absurd cc
+lasting d t Leaves asks arcs h = absurd cc
 
 -- ---- what a passage does to an arc of the transaction
 

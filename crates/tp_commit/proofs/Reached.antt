@@ -9,7 +9,7 @@ use Rattle.tp_model.specs.declared.transaction.TxOut.{TxOut}
 use Rattle.tp_model.specs.Parts.{Who, Arc, Key, Root, Under, Branch, Current}
 use Rattle.tp_model.specs.Dialogues.{is_active, is_rolling}
 use Rattle.tp_model.specs.Arcs.{is_live_with_peer}
-use Rattle.tp_model.specs.Transactions.{is_waited_for, row_holds, complete_rollback, Row, Transaction, Turn, turn, is_under_at, find_row, with_row, with_arc_lost, roll, lost_arc, takes, sight_of_tx, by_user, transacted}
+use Rattle.tp_model.specs.Transactions.{is_waited_for, row_holds, complete_rollback, Row, Transaction, Turn, turn, is_under_at, find_row, with_row, with_arc_lost, roll, lost_arc, takes, sight_of_tx, by_user, transacted, after}
 use Rattle.tp_model.specs.Requests.{has_branch_at}
 use Rattle.tp_model.specs.Node.{is_up_live, is_up_ending, seen_row, seen_rows, seen}
 use Rattle.tp_commit.specs.declared.row.Note.{Note}
@@ -68,7 +68,7 @@ unfolding sight_of_tx
 end_acts t p = refl
 
 abbrev told_before : List TxOut → Turn → Turn
-told_before outs a = record { rec = a.rec; outs = outs ++ a.outs; next = a.next }
+told_before outs a = record { rec = a.rec; outs = outs ++ a.outs; completion = after outs a.completion; next = a.next }
 
 -- ---- an end that is deferred
 

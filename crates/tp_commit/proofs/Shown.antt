@@ -74,7 +74,7 @@ pub arcs_are : (who : Who) (f : TxEvent) (d : Digest) (c : Current) → is_nil (
 arcs_are who f d c late =
     let t : Transaction = seen who d.arcs c in
     let a : Turn = transacted f t in
-    lasting d t (passage (is_leaving f) t.phase a.next.phase) a.outs (mid_of who f d c) (not_over (is_leaving f) t.phase a.next.phase late)
+    lasting d t (passage (is_leaving f) t.phase a.next.phase) a (mid_of who f d c) (not_over (is_leaving f) t.phase a.next.phase late)
 
 -- unless the transaction is over after the event: it stands for what the node then knows, in order among the arcs
 pub record IsShown (who : Who) (f : TxEvent) (d : Digest) (c : Current) : Type 0 where

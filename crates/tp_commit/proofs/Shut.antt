@@ -9,7 +9,7 @@ use Rattle.tp_model.specs.declared.transaction.TxOut.{TxOut}
 use Rattle.tp_model.specs.Parts.{Who, Arc, Key, Root, Under, Branch, Current, Digest}
 use Rattle.tp_model.specs.Dialogues.{Sight, Acts, Nothing_happens, Out_of_phase, is_nil, is_active, is_committing, is_rolling}
 use Rattle.tp_model.specs.Arcs.{is_live_with_peer, without_arc, carried, shut_with, performed}
-use Rattle.tp_model.specs.Transactions.{Row, Transaction, Turn, turn, and_then, is_under_at, find_row, with_row, with_arc_lost, complete_commit, roll, takes_left, takes, sight_of_tx, transacted, refused_tx}
+use Rattle.tp_model.specs.Transactions.{Row, Transaction, Turn, turn, and_then, is_under_at, find_row, with_row, with_arc_lost, complete_commit, roll, takes_left, takes, sight_of_tx, transacted, refused_tx, after}
 use Rattle.tp_model.specs.Node.{is_end_deferred_at, is_up_live, is_up_ending, seen_row, seen_rows, seen}
 use Rattle.tp_model.specs.Requests.{has_branch_at}
 use Rattle.tp_commit.specs.declared.row.Note.{Note}
@@ -157,7 +157,7 @@ left_shows who d c p among other late = go (sight_of_tx t p DialogueRecord.LeftE
     a = takes_left p u
 
     closed : Turn → Turn
-    closed b = record { rec = b.rec; outs = TxOut.Close p ∷ b.outs; next = b.next }
+    closed b = record { rec = b.rec; outs = TxOut.Close p ∷ b.outs; completion = after (TxOut.Close p ∷ []) b.completion; next = b.next }
 
     acted : takes p DialogueRecord.LeftEnd t ≡ closed a
     acted = ap (λ (v : Transaction). closed (takes_left p v)) (noted_row t p Note.Lost)

@@ -10,7 +10,7 @@ use Rattle.tp_model.specs.declared.arc.Phase.{Phase}
 use Rattle.tp_model.specs.declared.transaction.TxOut.{TxOut}
 use Rattle.tp_model.specs.Parts.{Key, Root, Under}
 use Rattle.tp_model.specs.Dialogues.{is_nil, is_active, is_committing, is_rolling}
-use Rattle.tp_model.specs.Transactions.{Row, Transaction, Turn, turn, and_then, is_under, is_under_at, row_holds, is_waited_for, with_arc_lost, all_settled, all_done, all_rolled_back, log_ready, carry_up, carry_down, tell_report, complete_commit, complete_rollback, begin_rolling, roll, order, settle, prepare_each, ask_commit, count_branch, end_branch, branch_left, lost_arc, complete, superior_rolls, takes_left, ask_each, retried}
+use Rattle.tp_model.specs.Transactions.{Row, Transaction, Turn, turn, and_then, is_under, is_under_at, row_holds, is_waited_for, with_arc_lost, all_settled, all_done, all_rolled_back, log_ready, carry_up, carry_down, tell_report, complete_commit, complete_rollback, begin_rolling, roll, order, settle, prepare_each, ask_commit, count_branch, end_branch, branch_left, lost_arc, complete, superior_rolls, takes_left, ask_each, retried, logging, part_by_part}
 use Rattle.tp_commit.specs.declared.row.Note.{Note}
 use Rattle.tp_commit.specs.Row.{noted_at}
 use Rattle.tp_commit.proofs.Notes.{noted_row}
@@ -32,7 +32,7 @@ Goes t a = is_nil a.next.phase ≡ false → IsStill t a
 
 -- ---- chains
 
-pub still_then : (t : Transaction) (a b : Turn) (r : Option LogRec) → IsStill t a → IsStill a.next b → IsStill t (record { rec = r; outs = a.outs ++ b.outs; next = b.next })
+pub still_then : (t : Transaction) (a b : Turn) (r : Option LogRec) → IsStill t a → IsStill a.next b → IsStill t (record { rec = r; outs = a.outs ++ b.outs; completion = part_by_part a.completion b.completion; next = b.next })
 still_then t a b r one two = record {
   node = two.node ∙ one.node;
   key = two.key ∙ one.key;
@@ -43,7 +43,7 @@ still_then t a b r one two = record {
   commits = λ h. two.commits (one.commits h);
 }
 
-pub goes_then : (t : Transaction) (a b : Turn) (r : Option LogRec) → IsStill t a → Goes a.next b → Goes t (record { rec = r; outs = a.outs ++ b.outs; next = b.next })
+pub goes_then : (t : Transaction) (a b : Turn) (r : Option LogRec) → IsStill t a → Goes a.next b → Goes t (record { rec = r; outs = a.outs ++ b.outs; completion = part_by_part a.completion b.completion; next = b.next })
 goes_then t a b r one two late = still_then t a b r one (two late)
 
 -- ---- outputs
@@ -143,7 +143,7 @@ still_begin asked t not_yet = record {
 pub goes_roll : (asked : Bool) (t : Transaction) → is_committing t.phase ≡ false → Goes t (roll asked t)
 goes_roll asked t not_yet = goes_then t (begin_rolling asked t) (complete_rollback (begin_rolling asked t).next) _ (still_begin asked t not_yet) (goes_rollback (begin_rolling asked t).next)
 
-still_vote : (t : Transaction) (r : Option LogRec) → is_active t.phase ≡ true → IsStill t (record { rec = r; outs = carry_up t DialogueRecord.Ready; next = record t { phase = Phase.Ready } })
+still_vote : (t : Transaction) (r : Option LogRec) → is_active t.phase ≡ true → IsStill t (logging r (turn (carry_up t DialogueRecord.Ready) (record t { phase = Phase.Ready })))
 still_vote t r active = record {
   node = refl;
   key = refl;

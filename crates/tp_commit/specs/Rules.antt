@@ -12,7 +12,7 @@ use Rattle.tp_model.specs.declared.transaction.TxEvent.{TxEvent}
 use Rattle.tp_model.specs.declared.transaction.TxOut.{TxOut}
 use Rattle.tp_model.specs.Parts.{Root, Under}
 use Rattle.tp_model.specs.Dialogues.{is_active, is_rolling}
-use Rattle.tp_model.specs.Transactions.{Transaction, Turn, turn, and_then, with_row, with_branch, with_arc_lost, find_row, ask_commit, leave, count_branch, end_branch, branch_left, settle, order, begin_rolling, complete_commit, complete_rollback, log_heuristic, retried, all_done, all_rolled_back, all_settled, own_damage, reports_of, is_under_at, row_holds, is_waited_for, roll, transacted}
+use Rattle.tp_model.specs.Transactions.{Transaction, Turn, turn, and_then, with_row, with_branch, with_arc_lost, find_row, ask_commit, leave, count_branch, end_branch, branch_left, settle, order, begin_rolling, complete_commit, complete_rollback, log_heuristic, retried, all_done, all_rolled_back, all_settled, own_damage, reports_of, is_under_at, row_holds, is_waited_for, roll, transacted, logging}
 use Rattle.tp_commit.specs.declared.rule.Rule.{Rule}
 use Rattle.tp_commit.specs.declared.rule.Course.{Course}
 
@@ -71,7 +71,7 @@ turn_of Rule.Order t = order t
 turn_of (Rule.BeginRolling asked) t = begin_rolling asked t
 turn_of Rule.CompleteCommit t = complete_commit t
 turn_of Rule.CompleteRollback t = complete_rollback t
-turn_of (Rule.Decide o) t = record { rec = Some (log_heuristic t o); outs = []; next = record t { decision = Some o } }
+turn_of (Rule.Decide o) t = logging (Some (log_heuristic t o)) (turn [] (record t { decision = Some o }))
 turn_of (Rule.GiveUp p) t = give_up_branch p t
 turn_of Rule.Retry t = turn (retried t) t
 

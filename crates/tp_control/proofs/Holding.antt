@@ -11,8 +11,8 @@ use Rattle.tp_model.specs.declared.transaction.TxOut.{TxOut}
 use Rattle.tp_model.specs.Parts.{Event, Dialogue, Arc, Branch, Digest}
 use Rattle.tp_model.specs.Dialogues.{is_nil, is_active, Asked, Ask_grant, Heard, said, heard, cleared, begun_by, completed, rested, woken}
 use Rattle.tp_model.specs.Arcs.{find_arc, without_arc, with_dialogue, with_dialogues, carried_on, carried, shut_with, performed_one, performed}
-use Rattle.tp_model.specs.Transactions.{Transaction, is_under_at, row_holds}
-use Rattle.tp_model.specs.Node.{is_superior, side_at, seen_rows, Passage, Enters, Falls, Falls_at_once, Commits, Rolls_back, Leaves, passage, is_arc_of, is_arc_below, without_deferral, entered, played, completed_arcs, left_arcs, committed_dialogue, committed_arcs, grants, split_at_completion, perform_commit}
+use Rattle.tp_model.specs.Transactions.{Transaction, is_under_at, row_holds, Turn}
+use Rattle.tp_model.specs.Node.{is_superior, side_at, seen_rows, Passage, Enters, Falls, Falls_at_once, Commits, Rolls_back, Leaves, passage, is_arc_of, is_arc_below, without_deferral, entered, played, completed_arcs, left_arcs, committed_dialogue, committed_arcs, grants, perform_commit, around_grants}
 use Rattle.tp_steps.specs.Moves.{IsChange, By_waking, By_saying, By_hearing, By_beginning, By_leaving, heard_by, begun_by_record}
 use Rattle.tp_steps.specs.Facts.{find_branch}
 use Rattle.tp_control.specs.Holding.{is_holding, holding_at, gains_at}
@@ -246,9 +246,8 @@ left_over t arcs p bare =
 left_none : (t : Transaction) (arcs : List Arc) (p : ℕ) → is_under_at t.key p ≡ true → holding_at p (left_arcs t arcs) ≡ false
 left_none t arcs p under = clears_dialogues _ _ _ p (λ a same. subst (λ (n : ℕ). is_under_at t.key n ≡ true) (sym same) under) (λ a. rested_none a.dialogue)
 
-commit_gains : (d : Digest) (t : Transaction) (outs : List TxOut) (arcs : List Arc) (p : ℕ) → Faces d t p → Gains false p arcs (perform_commit d t outs arcs).0
-commit_gains d t outs arcs p f =
-    let s = split_at_completion outs in
+commit_gains : (d : Digest) (t : Transaction) (s : List TxOut × List TxOut) (arcs : List Arc) (p : ℕ) → Faces d t p → Gains false p arcs (perform_commit d t s arcs).0
+commit_gains d t s arcs p f =
     let one : List Arc = (performed arcs s.0).0 in
     let mid : List Arc = committed_arcs d t one in
     let two : List Arc = (performed mid (grants t one)).0 in
@@ -256,13 +255,13 @@ commit_gains d t outs arcs p f =
     (gains_then false p one mid (performed two s.1).0 (committed_over d t one p f)
     (gains_then false p mid two (performed two s.1).0 (gains_performed false mid (grants t one) p) (gains_performed false two s.1 p)))
 
-pub played_gains : (d : Digest) (t : Transaction) (w : Passage) (outs : List TxOut) (arcs : List Arc) (p : ℕ) → Faces d t p → Gains false p arcs (played d t w outs arcs).0
+pub played_gains : (d : Digest) (t : Transaction) (w : Passage) (asks : Turn) (arcs : List Arc) (p : ℕ) → Faces d t p → Gains false p arcs (played d t w asks arcs).0
 unfolding played
-played_gains d t Falls_at_once outs arcs p f = let s = performed arcs outs in gains_then false p arcs s.0 (completed_arcs d t Outcome.Rollback s.0) (gains_performed false arcs outs p) (completed_over d t Outcome.Rollback s.0 p f)
-played_gains d t Commits outs arcs p f = commit_gains d t outs arcs p f
-played_gains d t Rolls_back outs arcs p f = let s = performed arcs outs in gains_then false p arcs s.0 (completed_arcs d t Outcome.Rollback s.0) (gains_performed false arcs outs p) (completed_over d t Outcome.Rollback s.0 p f)
-played_gains d t Leaves outs arcs p f = let s = performed arcs outs in gains_then false p arcs s.0 (left_arcs t s.0) (gains_performed false arcs outs p) (left_over t s.0 p f.bare)
-played_gains d t _ outs arcs p f = gains_performed false arcs outs p
+played_gains d t Falls_at_once asks arcs p f = let s = performed arcs asks.outs in gains_then false p arcs s.0 (completed_arcs d t Outcome.Rollback s.0) (gains_performed false arcs asks.outs p) (completed_over d t Outcome.Rollback s.0 p f)
+played_gains d t Commits asks arcs p f = commit_gains d t (around_grants asks) arcs p f
+played_gains d t Rolls_back asks arcs p f = let s = performed arcs asks.outs in gains_then false p arcs s.0 (completed_arcs d t Outcome.Rollback s.0) (gains_performed false arcs asks.outs p) (completed_over d t Outcome.Rollback s.0 p f)
+played_gains d t Leaves asks arcs p f = let s = performed arcs asks.outs in gains_then false p arcs s.0 (left_arcs t s.0) (gains_performed false arcs asks.outs p) (left_over t s.0 p f.bare)
+played_gains d t _ asks arcs p f = gains_performed false arcs asks.outs p
 
 -- a passage that enters or falls clears the superior's arc; so does leaving
 pub entered_none : (t : Transaction) (w : Passage) (arcs : List Arc) (p : ℕ) → is_under_at t.key p ≡ true → (w ≡ Enters) ⊎ (w ≡ Falls) ⊎ (w ≡ Falls_at_once) → holding_at p (entered t w arcs) ≡ false
@@ -280,26 +279,26 @@ entered_none t w arcs p under (inr (inr i)) = rw i (clears_dialogues arcs _ _ p 
     here : (a : Arc) → a.peer.node ≡ p → is_arc_of t a ≡ true
     here a same = let at : is_under_at t.key a.peer.node ≡ true = subst (λ (n : ℕ). is_under_at t.key n ≡ true) (sym same) under in rw at refl
 
-played_left : (d : Digest) (t : Transaction) (outs : List TxOut) (arcs : List Arc) (p : ℕ) → is_under_at t.key p ≡ true → holding_at p (played d t Leaves outs arcs).0 ≡ false
+played_left : (d : Digest) (t : Transaction) (asks : Turn) (arcs : List Arc) (p : ℕ) → is_under_at t.key p ≡ true → holding_at p (played d t Leaves asks arcs).0 ≡ false
 unfolding played
-played_left d t outs arcs p under = left_none t (performed arcs outs).0 p under
+played_left d t asks arcs p under = left_none t (performed arcs asks.outs).0 p under
 
 -- from a transaction that is active, or holds no control, to one that is no longer active
-pub passed_none : (d : Digest) (t : Transaction) (leaving : Bool) (next : Phase) (outs : List TxOut) (arcs : List Arc) (p : ℕ) → Faces d t p → is_under_at t.key p ≡ true → is_nil t.phase ≡ false → (is_active t.phase ≡ false → holding_at p arcs ≡ false) → is_active next ≡ false
-    → holding_at p (played d t (passage leaving t.phase next) outs (entered t (passage leaving t.phase next) arcs)).0 ≡ false
-passed_none d t leaving next outs arcs p f under late none after = go (is_active t.phase) refl
+pub passed_none : (d : Digest) (t : Transaction) (leaving : Bool) (next : Phase) (asks : Turn) (arcs : List Arc) (p : ℕ) → Faces d t p → is_under_at t.key p ≡ true → is_nil t.phase ≡ false → (is_active t.phase ≡ false → holding_at p arcs ≡ false) → is_active next ≡ false
+    → holding_at p (played d t (passage leaving t.phase next) asks (entered t (passage leaving t.phase next) arcs)).0 ≡ false
+passed_none d t leaving next asks arcs p f under late none after = go (is_active t.phase) refl
   where
     w : Passage
     w = passage leaving t.phase next
 
-    all : Gains false p arcs (played d t w outs (entered t w arcs)).0
-    all = gains_then false p arcs (entered t w arcs) (played d t w outs (entered t w arcs)).0 (entered_gains t w arcs p) (played_gains d t w outs (entered t w arcs) p f)
+    all : Gains false p arcs (played d t w asks (entered t w arcs)).0
+    all = gains_then false p arcs (entered t w arcs) (played d t w asks (entered t w arcs)).0 (entered_gains t w arcs p) (played_gains d t w asks (entered t w arcs) p f)
 
-    cleared_so : (w ≡ Enters) ⊎ (w ≡ Falls) ⊎ (w ≡ Falls_at_once) → holding_at p (played d t w outs (entered t w arcs)).0 ≡ false
-    cleared_so is = none_gained p (entered t w arcs) (played d t w outs (entered t w arcs)).0 (played_gains d t w outs (entered t w arcs) p f) (entered_none t w arcs p under is)
+    cleared_so : (w ≡ Enters) ⊎ (w ≡ Falls) ⊎ (w ≡ Falls_at_once) → holding_at p (played d t w asks (entered t w arcs)).0 ≡ false
+    cleared_so is = none_gained p (entered t w arcs) (played d t w asks (entered t w arcs)).0 (played_gains d t w asks (entered t w arcs) p f) (entered_none t w arcs p under is)
 
-    left_so : w ≡ Leaves → holding_at p (played d t w outs (entered t w arcs)).0 ≡ false
-    left_so is = subst (λ (v : Passage). holding_at p (played d t v outs (entered t w arcs)).0 ≡ false) (sym is) (played_left d t outs (entered t w arcs) p under)
+    left_so : w ≡ Leaves → holding_at p (played d t w asks (entered t w arcs)).0 ≡ false
+    left_so is = subst (λ (v : Passage). holding_at p (played d t v asks (entered t w arcs)).0 ≡ false) (sym is) (played_left d t asks (entered t w arcs) p under)
 
     is_act : (q : Phase) → is_active q ≡ true → q ≡ Phase.Active
     is_act Phase.Active h = refl
@@ -316,8 +315,8 @@ passed_none d t leaving next outs arcs p f under late none after = go (is_active
     which l Phase.Committing h = inr (inl refl)
     which l Phase.Rolling h = inr (inr (inl refl))
 
-    go : (b : Bool) → is_active t.phase ≡ b → holding_at p (played d t w outs (entered t w arcs)).0 ≡ false
-    go false i = none_gained p arcs (played d t w outs (entered t w arcs)).0 all (none i)
+    go : (b : Bool) → is_active t.phase ≡ b → holding_at p (played d t w asks (entered t w arcs)).0 ≡ false
+    go false i = none_gained p arcs (played d t w asks (entered t w arcs)).0 all (none i)
     go true i =
         let act : t.phase ≡ Phase.Active = is_act t.phase i in
         let same : w ≡ passage leaving Phase.Active next = ap (λ (q : Phase). passage leaving q next) act in

@@ -14,7 +14,7 @@ use Rattle.tp_model.specs.Dialogues.{is_nil, is_active, begun_by, named_holder}
 use Rattle.tp_model.specs.Arcs.{find_arc, link_with, without_arc, with_dialogue, performed}
 use Rattle.tp_model.specs.Transactions.{Transaction, Turn, aaid_of, is_under_at, row_holds, transacted}
 use Rattle.tp_model.specs.Recovery.{settled}
-use Rattle.tp_model.specs.Node.{Move, move, followed, perform, next_mark, with_mark_drawn, is_superior, phase_of, seen, passage, is_leaving, Passage, Commits, entered, played, committed_arcs, grants, split_at_completion, perform_commit, turned, fresh_current, with_begun, may_begin_on, begin_on, keep, remaining}
+use Rattle.tp_model.specs.Node.{Move, move, followed, perform, next_mark, with_mark_drawn, is_superior, phase_of, seen, passage, is_leaving, Passage, Commits, entered, played, committed_arcs, grants, perform_commit, turned, fresh_current, with_begun, may_begin_on, begin_on, keep, remaining, around_grants}
 use Rattle.tp_model.specs.Questions.{said_to}
 use Rattle.tp_model.specs.Events.{refusal, action}
 use Rattle.tp_steps.specs.Moves.{IsPut, IsLate, IsChange, prelude, gives_to, Moves}
@@ -30,6 +30,7 @@ use Rattle.tp_steps.proofs.log.Passed.{passed_turn}
 use Rattle.tp_control.proofs.Returns.{returns_turn, returns_then, returns_performed, returns_grants, returns_split, returns_said, returns_settled}
 use Rattle.tp_control.proofs.Holding.{Gains, gains_self, gains_then, none_gained, gains_dialogue, gains_without, gains_performed, change_gains, entered_gains, Faces, played_gains, passed_none, bare_rows}
 use Rattle.tp_steps.proofs.every.BeginCases.{begun_over, begin_cases}
+use Rattle.tp_steps.proofs.links.Whole.{IsWhole, whole_turn}
 
 -- ---- moves that change no transaction
 
@@ -67,10 +68,9 @@ holding_after g p d u m same less one = record { gains = gains; past = past; ove
 
 -- ---- an event of the transaction
 
-commit_returns : (d : Digest) (t : Transaction) (outs : List TxOut) (arcs : List Arc) (p : ℕ) → row_holds t.rows p (λ b. true) ≡ false → returns_in p outs ≡ false → none_of is_returning (said_to p (perform_commit d t outs arcs).1) ≡ true
-commit_returns d t outs arcs p bare none =
-    let s = split_at_completion outs in
-    let parts = returns_split p outs none in
+commit_returns : (d : Digest) (t : Transaction) (s : List TxOut × List TxOut) (arcs : List Arc) (p : ℕ) → row_holds t.rows p (λ b. true) ≡ false → returns_in p (s.0 ++ s.1) ≡ false → none_of is_returning (said_to p (perform_commit d t s arcs).1) ≡ true
+commit_returns d t s arcs p bare none =
+    let parts = returns_split p s none in
     let one = performed arcs s.0 in
     let mid : List Arc = committed_arcs d t one.0 in
     let two = performed mid (grants t one.0) in
@@ -79,10 +79,10 @@ commit_returns d t outs arcs p bare none =
     (returns_then p one.1 two.1 (returns_performed arcs s.0 p (grind (arith, parts))) (returns_performed mid (grants t one.0) p (returns_grants p t one.0 bare)))
     (returns_performed two.0 s.1 p (grind (arith, parts)))
 
-played_returns : (d : Digest) (t : Transaction) (w : Passage) (outs : List TxOut) (arcs : List Arc) (p : ℕ) → row_holds t.rows p (λ b. true) ≡ false → returns_in p outs ≡ false → none_of is_returning (said_to p (played d t w outs arcs).1) ≡ true
+played_returns : (d : Digest) (t : Transaction) (w : Passage) (asks : Turn) → IsWhole asks → (arcs : List Arc) (p : ℕ) → row_holds t.rows p (λ b. true) ≡ false → returns_in p asks.outs ≡ false → none_of is_returning (said_to p (played d t w asks arcs).1) ≡ true
 unfolding played
-played_returns d t Commits outs arcs p bare none = commit_returns d t outs arcs p bare none
-played_returns d t _ outs arcs p bare none = returns_performed arcs outs p none
+played_returns d t Commits asks whole arcs p bare none = commit_returns d t (around_grants asks) arcs p bare (ap (returns_in p) whole ∙ none)
+played_returns d t _ asks whole arcs p bare none = returns_performed arcs asks.outs p none
 
 record StaysIn (t : Transaction) (c : Current) : Type 0 where
   key : c.key ≡ t.key
@@ -121,7 +121,7 @@ holding_turned who g f d c p above bare now put key = record { gains = gains; pa
     f_is = record { side = above; bare = rows }
 
     lowers : Gains false p d.arcs m.next.arcs
-    lowers = gains_then false p d.arcs (entered t w d.arcs) m.next.arcs (entered_gains t w d.arcs p) (played_gains d t w a.outs (entered t w d.arcs) p f_is)
+    lowers = gains_then false p d.arcs (entered t w d.arcs) m.next.arcs (entered_gains t w d.arcs p) (played_gains d t w a (entered t w d.arcs) p f_is)
 
     widen : (b : Bool) → (b || false) ≡ true → (b || g) ≡ true
     widen true h = refl
@@ -131,7 +131,7 @@ holding_turned who g f d c p above bare now put key = record { gains = gains; pa
     gains h = widen (holding_at p d.arcs) (lowers h)
 
     ended : IsPastHolding p d → is_under_at c.key p ≡ true → is_active a.next.phase ≡ false → holding_at p m.next.arcs ≡ false
-    ended old under after = passed_none d t (is_leaving f) a.next.phase a.outs d.arcs p f_is under put.late (λ done. old c now under done) after
+    ended old under after = passed_none d t (is_leaving f) a.next.phase a d.arcs p f_is under put.late (λ done. old c now under done) after
 
     past : IsPastHolding p d → IsPastHolding p m.next
     past old x is under done =
@@ -147,7 +147,7 @@ holding_turned who g f d c p above bare now put key = record { gains = gains; pa
         under_one c p h = grind (arith, h)
 
     returns : none_of is_returning (said_to p m.outs) ≡ true
-    returns = played_returns d t w a.outs (entered t w d.arcs) p rows (returns_turn f t p put)
+    returns = played_returns d t w a (whole_turn f t) (entered t w d.arcs) p rows (returns_turn f t p put)
 
 -- ---- a transaction begins on an arc
 

@@ -13,7 +13,7 @@ use Rattle.tp_model.specs.Links.{is_live}
 use Rattle.tp_model.specs.Dialogues.{is_nil, is_polarized, is_chained, is_unchained, Ask_grant, said, cleared, completed, rested}
 use Rattle.tp_model.specs.Arcs.{find_arc, link_with, without_arc, with_dialogues, carried_on, carried, shut_with, performed_one, performed}
 use Rattle.tp_model.specs.Transactions.{Row, Transaction, Turn, is_under_at, find_row, row_holds, transacted}
-use Rattle.tp_model.specs.Node.{Move, is_superior, side_at, seen_row, seen_rows, seen, branches_of, remaining, Passage, Stays, Enters, Falls, Falls_at_once, Commits, Rolls_back, Leaves, passage, is_leaving, is_over, is_arc_of, is_arc_below, without_deferral, entered, played, completed_arcs, left_arcs, is_granting, grants, committed_dialogue, committed_arcs, split_at_completion, perform_commit, turned}
+use Rattle.tp_model.specs.Node.{Move, is_superior, side_at, seen_row, seen_rows, seen, branches_of, remaining, Passage, Stays, Enters, Falls, Falls_at_once, Commits, Rolls_back, Leaves, passage, is_leaving, is_over, is_arc_of, is_arc_below, without_deferral, entered, played, completed_arcs, left_arcs, is_granting, grants, committed_dialogue, committed_arcs, perform_commit, turned, around_grants}
 use Rattle.tp_model.specs.Questions.{said_to}
 use Rattle.tp_steps.specs.Turns.{loses}
 use Rattle.tp_steps.specs.Moves.{are_apart, IsPut}
@@ -27,14 +27,15 @@ use Rattle.tp_control.specs.Leading.{carried_to, some_closing, opens, lags, is_s
 use Rattle.tp_steps.proofs.every.EveryRecord.{find_arc_is}
 use Rattle.tp_steps.proofs.links.Links.{said_append}
 use Rattle.tp_steps.proofs.lemmas.Words.{dead_stays}
-use Rattle.tp_steps.proofs.links.Linked.{split_apart, link_entered, link_committed}
+use Rattle.tp_steps.proofs.links.Linked.{link_entered, link_committed, parts_apart}
 use Rattle.tp_histories.proofs.marks.Separate.{thins_performed}
-use Rattle.tp_steps.proofs.links.Wrapped.{Agrees, split_joins, agrees_performed, agrees_played}
+use Rattle.tp_steps.proofs.links.Wrapped.{Agrees, agrees_performed, agrees_played}
 use Rattle.tp_steps.proofs.links.Apart.{apart_grants, apart_turn}
 use Rattle.tp_steps.proofs.words.HeardTurned.{seen_sees, seen_find, left_find}
 use Rattle.tp_control.proofs.Returns.{returns_turn}
 use Rattle.tp_control.proofs.LedWords.{is_opening, begun_plain, closed_plain, given_plain, quiet_plain, given_later, insert_flag, insert_rounds, insert_given, said_performed, plain_carried}
 use Rattle.tp_control.proofs.Leading.{carried_append, leading_turn}
+use Rattle.tp_steps.proofs.links.Whole.{IsWhole, whole_turn}
 
 -- ---- branches and rows
 
@@ -370,19 +371,19 @@ record OverGoes (arcs : List Arc) (p : ℕ) (row : Bool) (ws rs : List DialogueR
   goes : Goes ws rs grants
   over : OverAt arcs p row grants b
 
-commit_at : (d : Digest) (t : Transaction) (outs : List TxOut) (arcs : List Arc) (p : ℕ) (b : Arc) → is_under_at t.key p ≡ false → is_superior d p ≡ false → are_apart outs ≡ true → are_separate arcs ≡ true → is_live (link_with arcs p) ≡ true
-    → is_live (link_with (perform_commit d t outs arcs).0 p) ≡ true → find_arc (perform_commit d t outs arcs).0 p ≡ Some b → OverGoes arcs p (has_row t p) (carried_to true p outs) (said_to p (perform_commit d t outs arcs).1) b
+commit_at : (d : Digest) (t : Transaction) (s : List TxOut × List TxOut) (arcs : List Arc) (p : ℕ) (b : Arc) → is_under_at t.key p ≡ false → is_superior d p ≡ false → are_apart (s.0 ++ s.1) ≡ true → are_separate arcs ≡ true → is_live (link_with arcs p) ≡ true
+    → is_live (link_with (perform_commit d t s arcs).0 p) ≡ true → find_arc (perform_commit d t s arcs).0 p ≡ Some b → OverGoes arcs p (has_row t p) (carried_to true p (s.0 ++ s.1)) (said_to p (perform_commit d t s arcs).1) b
 unfolding said completed
-commit_at d t outs arcs p b down below apart sep live after h = go (is_granting t mid_was.arc) refl
+commit_at d t s arcs p b down below apart sep live after h = go (is_granting t mid_was.arc) refl
   where
     s0 : List TxOut
-    s0 = (split_at_completion outs).0
+    s0 = s.0
 
     s1 : List TxOut
-    s1 = (split_at_completion outs).1
+    s1 = s.1
 
     parts : (are_apart s0 && are_apart s1) ≡ true
-    parts = split_apart outs apart
+    parts = parts_apart s apart
 
     one : List Arc
     one = (performed arcs s0).0
@@ -441,8 +442,8 @@ commit_at d t outs arcs p b down below apart sep live after h = go (is_granting 
     ge : List DialogueRecord
     ge = carried_to true p (grants t one)
 
-    words : carried_to true p outs ≡ us ++ vs
-    words = ap (carried_to true p) (sym (split_joins outs)) ∙ carried_append true p s0 s1 ∙ rw stays_one refl
+    words : carried_to true p (s.0 ++ s.1) ≡ us ++ vs
+    words = carried_append true p s0 s1 ∙ rw stays_one refl
 
     out_one : said_to p (performed arcs s0).1 ≡ us
     out_one = said_performed arcs s0 p (grind (arith, parts)) ∙ ap (λ (x : Bool). carried_to x p s0) live
@@ -453,7 +454,7 @@ commit_at d t outs arcs p b down below apart sep live after h = go (is_granting 
     out_last : said_to p (performed two s1).1 ≡ vs
     out_last = said_performed two s1 p (grind (arith, parts)) ∙ ap (λ (x : Bool). carried_to x p s1) live_two
 
-    all : said_to p (perform_commit d t outs arcs).1 ≡ (us ++ ge) ++ vs
+    all : said_to p (perform_commit d t s arcs).1 ≡ (us ++ ge) ++ vs
     all =
         said_append p ((performed arcs s0).1 ++ (performed mid (grants t one)).1) (performed two s1).1
         ∙ three (said_to p ((performed arcs s0).1 ++ (performed mid (grants t one)).1)) (us ++ ge) (said_to p (performed two s1).1) vs (said_append p (performed arcs s0).1 (performed mid (grants t one)).1 ∙ three (said_to p (performed arcs s0).1) us (said_to p (performed mid (grants t one)).1) ge out_one out_two) out_last
@@ -473,7 +474,7 @@ commit_at d t outs arcs p b down below apart sep live after h = go (is_granting 
     side : side_at d mid_was.arc.peer.node ≡ Side.Superior
     side = below_side d p mid_was.arc below at
 
-    go : (x : Bool) → is_granting t mid_was.arc ≡ x → OverGoes arcs p (has_row t p) (carried_to true p outs) (said_to p (perform_commit d t outs arcs).1) b
+    go : (x : Bool) → is_granting t mid_was.arc ≡ x → OverGoes arcs p (has_row t p) (carried_to true p (s.0 ++ s.1)) (said_to p (perform_commit d t s arcs).1) b
     go true i =
         let yes : has_row t p ≡ true = sym (chosen t mid_was.arc p at down).1 ∙ grind (arith, i) in
         let un : is_unchained mid_was.arc.dialogue ≡ true = grind (arith, i) in
@@ -524,36 +525,38 @@ commit_at d t outs arcs p b down below apart sep live after h = go (is_granting 
 
 -- ---- the passages by their phases
 
-goes_quiet : (d : Digest) (t : Transaction) (w : Passage) (outs : List TxOut) (arcs : List Arc) (p : ℕ) (b : Arc) → is_over w ≡ false → is_under_at t.key p ≡ false → are_apart outs ≡ true → is_live (link_with arcs p) ≡ true
-    → find_arc (played d t w outs (entered t w arcs)).0 p ≡ Some b → PassedAt arcs p (has_row t p) b
+goes_quiet : (d : Digest) (t : Transaction) (w : Passage) (asks : Turn) (arcs : List Arc) (p : ℕ) (b : Arc) → is_over w ≡ false → is_under_at t.key p ≡ false → are_apart asks.outs ≡ true → is_live (link_with arcs p) ≡ true
+    → find_arc (played d t w asks (entered t w arcs)).0 p ≡ Some b → PassedAt arcs p (has_row t p) b
 unfolding played
-goes_quiet d t Stays outs arcs p b w down apart live h = quiet_at t Stays outs arcs p b down h
-goes_quiet d t Enters outs arcs p b w down apart live h = quiet_at t Enters outs arcs p b down h
-goes_quiet d t Falls outs arcs p b w down apart live h = quiet_at t Falls outs arcs p b down h
-goes_quiet d t _ outs arcs p b w down apart live h = absurd (cc (w))
+goes_quiet d t Stays asks arcs p b w down apart live h = quiet_at t Stays asks.outs arcs p b down h
+goes_quiet d t Enters asks arcs p b w down apart live h = quiet_at t Enters asks.outs arcs p b down h
+goes_quiet d t Falls asks arcs p b w down apart live h = quiet_at t Falls asks.outs arcs p b down h
+goes_quiet d t _ asks arcs p b w down apart live h = absurd (cc (w))
 
 said_entered : (t : Transaction) (w : Passage) (outs : List TxOut) (arcs : List Arc) (p : ℕ) → are_apart outs ≡ true → is_live (link_with arcs p) ≡ true → said_to p (performed (entered t w arcs) outs).1 ≡ carried_to true p outs
 said_entered t w outs arcs p apart live = said_performed (entered t w arcs) outs p apart ∙ ap (λ (x : Bool). carried_to x p outs) (ap is_live (link_entered t w arcs p) ∙ live)
 
-said_quiet : (d : Digest) (t : Transaction) (w : Passage) (outs : List TxOut) (arcs : List Arc) (p : ℕ) → is_over w ≡ false → are_apart outs ≡ true → is_live (link_with arcs p) ≡ true → said_to p (played d t w outs (entered t w arcs)).1 ≡ carried_to true p outs
+said_quiet : (d : Digest) (t : Transaction) (w : Passage) (asks : Turn) (arcs : List Arc) (p : ℕ) → is_over w ≡ false → are_apart asks.outs ≡ true → is_live (link_with arcs p) ≡ true → said_to p (played d t w asks (entered t w arcs)).1 ≡ carried_to true p asks.outs
 unfolding played
-said_quiet d t Stays outs arcs p w apart live = said_entered t Stays outs arcs p apart live
-said_quiet d t Enters outs arcs p w apart live = said_entered t Enters outs arcs p apart live
-said_quiet d t Falls outs arcs p w apart live = said_entered t Falls outs arcs p apart live
-said_quiet d t _ outs arcs p w apart live = absurd (cc (w))
+said_quiet d t Stays asks arcs p w apart live = said_entered t Stays asks.outs arcs p apart live
+said_quiet d t Enters asks arcs p w apart live = said_entered t Enters asks.outs arcs p apart live
+said_quiet d t Falls asks arcs p w apart live = said_entered t Falls asks.outs arcs p apart live
+said_quiet d t _ asks arcs p w apart live = absurd (cc (w))
 
-goes_over : (d : Digest) (t : Transaction) (w : Passage) (outs : List TxOut) (arcs : List Arc) (p : ℕ) (b : Arc) → is_over w ≡ true → is_under_at t.key p ≡ false → is_superior d p ≡ false → are_apart outs ≡ true → are_separate arcs ≡ true → is_live (link_with arcs p) ≡ true
-    → is_live (link_with (played d t w outs (entered t w arcs)).0 p) ≡ true → find_arc (played d t w outs (entered t w arcs)).0 p ≡ Some b
-    → OverGoes arcs p (has_row t p) (carried_to true p outs) (said_to p (played d t w outs (entered t w arcs)).1) b
+goes_over : (d : Digest) (t : Transaction) (w : Passage) (asks : Turn) → IsWhole asks → (arcs : List Arc) (p : ℕ) (b : Arc) → is_over w ≡ true → is_under_at t.key p ≡ false → is_superior d p ≡ false → are_apart asks.outs ≡ true → are_separate arcs ≡ true → is_live (link_with arcs p) ≡ true
+    → is_live (link_with (played d t w asks (entered t w arcs)).0 p) ≡ true → find_arc (played d t w asks (entered t w arcs)).0 p ≡ Some b
+    → OverGoes arcs p (has_row t p) (carried_to true p asks.outs) (said_to p (played d t w asks (entered t w arcs)).1) b
 unfolding played entered
-goes_over d t Falls_at_once outs arcs p b w down below apart sep live after h =
-    record { grants = false; goes = As_carried (said_entered t Falls_at_once outs arcs p apart live) refl; over = completed_at d t Falls_at_once Outcome.Rollback outs arcs p b down below h }
-goes_over d t Commits outs arcs p b w down below apart sep live after h = commit_at d t outs arcs p b down below apart sep live after h
-goes_over d t Rolls_back outs arcs p b w down below apart sep live after h =
-    record { grants = false; goes = As_carried (said_entered t Rolls_back outs arcs p apart live) refl; over = completed_at d t Rolls_back Outcome.Rollback outs arcs p b down below h }
-goes_over d t Leaves outs arcs p b w down below apart sep live after h =
-    record { grants = false; goes = As_carried (said_entered t Leaves outs arcs p apart live) refl; over = left_at d t Leaves outs arcs p b down h }
-goes_over d t _ outs arcs p b w down below apart sep live after h = absurd (cc (w))
+goes_over d t Falls_at_once asks whole arcs p b w down below apart sep live after h =
+    record { grants = false; goes = As_carried (said_entered t Falls_at_once asks.outs arcs p apart live) refl; over = completed_at d t Falls_at_once Outcome.Rollback asks.outs arcs p b down below h }
+goes_over d t Commits asks whole arcs p b w down below apart sep live after h =
+    subst (λ (l : List TxOut). OverGoes arcs p (has_row t p) (carried_to true p l) (said_to p (perform_commit d t (around_grants asks) arcs).1) b) whole
+    (commit_at d t (around_grants asks) arcs p b down below (ap are_apart whole ∙ apart) sep live after h)
+goes_over d t Rolls_back asks whole arcs p b w down below apart sep live after h =
+    record { grants = false; goes = As_carried (said_entered t Rolls_back asks.outs arcs p apart live) refl; over = completed_at d t Rolls_back Outcome.Rollback asks.outs arcs p b down below h }
+goes_over d t Leaves asks whole arcs p b w down below apart sep live after h =
+    record { grants = false; goes = As_carried (said_entered t Leaves asks.outs arcs p apart live) refl; over = left_at d t Leaves asks.outs arcs p b down h }
+goes_over d t _ asks whole arcs p b w down below apart sep live after h = absurd (cc (w))
 
 pub over_nil : (leaving : Bool) (h g : Phase) → is_nil h ≡ false → is_over (passage leaving h g) ≡ is_nil g
 over_nil leaving Phase.Nil g late = absurd (cc (late))
@@ -733,7 +736,7 @@ led_turned who f d c p sent k r now put down below sep gone answered old after =
     apart = apart_turn f t put
 
     agrees : Agrees p (is_live (link_with d.arcs p)) a.outs m.outs (is_live (link_with m.next.arcs p))
-    agrees = agrees_played d t w a.outs d.arcs p apart
+    agrees = agrees_played d t w a (whole_turn f t) d.arcs p apart
 
     live : is_live (link_with d.arcs p) ≡ true
     live = back (is_live (link_with d.arcs p)) agrees.live
@@ -803,7 +806,7 @@ led_turned who f d c p sent k r now put down below sep gone answered old after =
         on = over_nil (is_leaving f) t.phase a.next.phase put.late ∙ i
 
         said : rs ≡ ws
-        said = said_quiet d t w a.outs d.arcs p on apart live
+        said = said_quiet d t w a d.arcs p on apart live
 
         same_row : has_branch m.next.current p ≡ has_branch d.current p
         same_row = stays_left a.next p i ∙ same_ids p t a.next is.fair.same.ids ∙ sym row_same
@@ -811,7 +814,7 @@ led_turned who f d c p sent k r now put down below sep gone answered old after =
         keep : (g : Dialogue) → dialogue_at p m.next.arcs ≡ Some g → IsKept g (has_branch m.next.current p) (given k (sent ++ rs)) r
         keep g at =
             let b = found_of m.next.arcs p g at in
-            let was = goes_quiet d t w a.outs d.arcs p b.0 on down apart live b.1 in
+            let was = goes_quiet d t w a d.arcs p b.0 on down apart live b.1 in
             let first : IsKept was.arc.dialogue (has_branch d.current p) (given k sent) r = old.kept was.arc.dialogue (dialogue_is d.arcs p was.arc was.found) in
             let step : IsKept g (has_branch d.current p) (given k sent) r = kept_passes (has_branch d.current p) was.arc.dialogue g (given k sent) r (subst (λ (x : Bool). Passes x was.arc.dialogue g) (sym row_same) (subst (λ (h : Dialogue). Passes (has_row t p) was.arc.dialogue h) b.2 was.passes)) first in
             let count : given k (sent ++ rs) ≡ given k sent = ap (λ (xs : List DialogueRecord). given k (sent ++ xs)) said ∙ given_plain k sent ws plain in
@@ -838,7 +841,7 @@ led_turned who f d c p sent k r now put down below sep gone answered old after =
         }
           where
             g : OverGoes d.arcs p (has_row t p) ws rs b
-            g = goes_over d t w a.outs d.arcs p b on down below apart sep live after j
+            g = goes_over d t w a (whole_turn f t) d.arcs p b on down below apart sep live after j
 
             same_found : (h : Dialogue) → dialogue_at p m.next.arcs ≡ Some h → b.dialogue ≡ h
             same_found h at = let eq : Some b.dialogue ≡ Some h = sym (dialogue_is m.next.arcs p b j) ∙ at in cc (eq)

@@ -10,7 +10,7 @@ use Rattle.tp_model.specs.Parts.{Event, Out, Arc}
 use Rattle.tp_model.specs.Arcs.{carried, performed_one, performed}
 use Rattle.tp_model.specs.Transactions.{Transaction, forgets, row_holds, transacted}
 use Rattle.tp_model.specs.Recovery.{settled}
-use Rattle.tp_model.specs.Node.{grants, split_at_completion}
+use Rattle.tp_model.specs.Node.{grants}
 use Rattle.tp_model.specs.Questions.{said_to}
 use Rattle.tp_steps.specs.Moves.{IsPut, gives_to, grants_to, hands_to, are_said, are_spoken, closes_at}
 use Rattle.tp_steps.specs.Facts.{none_of}
@@ -79,9 +79,8 @@ returns_grants p t (a ∷ arcs) h = go (a.peer.node == p) refl (returns_grants p
         grind (arith, none, rest)
     go false i rest = grind (arith, i, rest)
 
-pub returns_split : (p : ℕ) (outs : List TxOut) → returns_in p outs ≡ false → (returns_in p (split_at_completion outs).0 || returns_in p (split_at_completion outs).1) ≡ false
-returns_split p [] h = refl
-returns_split p (o ∷ outs) h = grind (arith, h, returns_append p (o ∷ []) outs, returns_split p outs)
+pub returns_split : (p : ℕ) (s : List TxOut × List TxOut) → returns_in p (s.0 ++ s.1) ≡ false → (returns_in p s.0 || returns_in p s.1) ≡ false
+returns_split p s h = sym (returns_append p s.0 s.1) ∙ h
 
 -- what is said outside transactions carries control by a request alone
 pub returns_said : (e : Event) (p : ℕ) (outs : List TxOut) → gives_to e p ≡ false → are_said e outs ≡ true → are_spoken outs ≡ true → returns_in p outs ≡ false

@@ -1,5 +1,6 @@
 pub mod Drafts
 pub mod Beginnings
+pub mod Parted
 pub mod Turns
 pub mod Talks
 pub mod Retries

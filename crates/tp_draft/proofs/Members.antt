@@ -12,7 +12,7 @@ use Rattle.tp_model.specs.declared.arc.Phase.{Phase}
 use Rattle.tp_model.specs.declared.transaction.TxEvent.{TxEvent}
 use Rattle.tp_model.specs.declared.transaction.TxOut.{TxOut}
 use Rattle.tp_model.specs.Dialogues.{is_active, is_ready, is_rolling, Sight, Acts, Nothing_happens, Out_of_phase}
-use Rattle.tp_model.specs.Transactions.{Row, Transaction, Turn, turn, find_row, find_row_by_id, put_row, row_holds, with_row, with_arc_lost, is_under, is_under_at, is_waited_for, is_open_in_commit, all_prepared, all_settled, all_done, all_rolled_back, order, settle, complete, complete_commit, complete_rollback, begin_rolling, roll, ask_commit, leave, count_branch, end_branch, branch_left, lost_arc, superior_rolls, takes_left, takes, by_user, sight_of_tx, replied, give_up, transacted}
+use Rattle.tp_model.specs.Transactions.{Row, Transaction, Turn, turn, find_row, find_row_by_id, put_row, row_holds, with_row, with_arc_lost, is_under, is_under_at, is_waited_for, is_open_in_commit, all_prepared, all_settled, all_done, all_rolled_back, order, settle, complete, complete_commit, complete_rollback, begin_rolling, roll, ask_commit, leave, count_branch, end_branch, branch_left, lost_arc, superior_rolls, takes_left, takes, by_user, sight_of_tx, replied, give_up, transacted, part_by_part}
 use Rattle.tp_commit.specs.Branch.{standing, standing_rows, begins}
 
 -- the same place in the tree, and branches with the same peers
@@ -201,7 +201,7 @@ replied_on b (RecState.Done r) t = go (find_row_by_id t.rows b)
     done row =
         let a : Turn = end_branch row.branch.peer.node r t in
         let e : Turn = complete_commit a.next in
-        if is_open_in_commit t row.branch then record { rec = elim e.rec as (λ _. Option LogRec) [ None ↦ a.rec | Some x ↦ Some x ]; outs = a.outs ++ e.outs; next = e.next } else turn [] t
+        if is_open_in_commit t row.branch then record { rec = elim e.rec as (λ _. Option LogRec) [ None ↦ a.rec | Some x ↦ Some x ]; outs = a.outs ++ e.outs; completion = part_by_part a.completion e.completion; next = e.next } else turn [] t
 
     go : (o : Option Row) → IsOnArcsOf t (elim o as (λ _. Turn) [ None ↦ turn [] t | Some row ↦ done row ]).next
     go None = same t
@@ -221,7 +221,7 @@ give_up_on p t = go (find_row t.rows p)
     up r =
         let a : Turn = turn (if r.live then TxOut.Shut p ∷ [] else []) gone in
         let e : Turn = complete_commit a.next in
-        record { rec = elim e.rec as (λ _. Option LogRec) [ None ↦ a.rec | Some x ↦ Some x ]; outs = a.outs ++ e.outs; next = e.next }
+        record { rec = elim e.rec as (λ _. Option LogRec) [ None ↦ a.rec | Some x ↦ Some x ]; outs = a.outs ++ e.outs; completion = part_by_part a.completion e.completion; next = e.next }
 
     go : (o : Option Row) → IsOnArcsOf t (elim o as (λ _. Turn) [ None ↦ turn [] t | Some r ↦ up r ]).next
     go None = same t

@@ -16,7 +16,7 @@ use Rattle.tp_model.specs.Links.{greatest}
 use Rattle.tp_model.specs.Arcs.{performed}
 use Rattle.tp_model.specs.Dialogues.{first}
 use Rattle.tp_model.specs.Arrivals.{break_off}
-use Rattle.tp_model.specs.Transactions.{Row, Transaction, retried, ask_each, transacted}
+use Rattle.tp_model.specs.Transactions.{Row, Transaction, retried, ask_each, transacted, Turn}
 use Rattle.tp_model.specs.Recovery.{owed, ask_owed, tell_superior, settled}
 use Rattle.tp_model.specs.Node.{Move, move, followed, Passage, passage, Stays, passed, turned, restarted, transact, played, entered, seen}
 use Rattle.tp_model.specs.Events.{action, refusal, retry, retry_each, purge, needs_numbers, some_past_numbers, says_nothing, is_no_node, refused_plainly, unless_missing, unless_spent, is_breaking}
@@ -102,14 +102,14 @@ both_false a b h i = grind (arith, h, i)
 turned_quiet : (who : Who) (e : TxEvent) (d : Digest) (c : Current) → passed who e d c ≡ Stays → are_plain (transacted e (seen who d.arcs c)).outs ≡ true → d.drawn ≤ greatest → needs_numbers (turned who e d c) ≡ false
 unfolding played entered
 turned_quiet who e d c stays plain h =
-    ap (λ (w : Passage). nat_lt greatest d.drawn || some_past_numbers (played d t w outs (entered t w d.arcs)).1) stays
-    ∙ both_false (nat_lt greatest d.drawn) (some_past_numbers (performed d.arcs outs).1) (within d.drawn h) (plain_past outs d.arcs plain)
+    ap (λ (w : Passage). nat_lt greatest d.drawn || some_past_numbers (played d t w a (entered t w d.arcs)).1) stays
+    ∙ both_false (nat_lt greatest d.drawn) (some_past_numbers (performed d.arcs a.outs).1) (within d.drawn h) (plain_past a.outs d.arcs plain)
   where
     t : Transaction
     t = seen who d.arcs c
 
-    outs : List TxOut
-    outs = (transacted e t).outs
+    a : Turn
+    a = transacted e t
 
 stays_put : (p : Phase) → passage false p p ≡ Stays
 stays_put Phase.Nil = refl

@@ -13,11 +13,11 @@ use Rattle.tp_model.specs.Dialogues.{is_grant_deferred, is_unchained, Ask_grant,
 use Rattle.tp_model.specs.Arcs.{with_dialogues, performed}
 use Rattle.tp_model.specs.Transactions.{Transaction, is_under_at, transacted, step_of}
 use Rattle.tp_commit.specs.Branch.{standing, begins}
-use Rattle.tp_model.specs.Node.{Move, move, followed, side_at, is_arc_of, is_arc_below, is_granting, without_deferral, entered, completed_arcs, left_arcs, grants, committed_dialogue, committed_arcs, split_at_completion, perform_commit, played, Passage, Stays, Enters, Falls, Falls_at_once, Commits, Rolls_back, Leaves}
+use Rattle.tp_model.specs.Node.{Move, move, followed, side_at, is_arc_of, is_arc_below, is_granting, without_deferral, entered, completed_arcs, left_arcs, grants, committed_dialogue, committed_arcs, perform_commit, played, Passage, Stays, Enters, Falls, Falls_at_once, Commits, Rolls_back, Leaves}
 use Rattle.tp_draft.specs.Draft.{Draft, goes_on}
 use Rattle.tp_draft.proofs.Members.{IsOnArcsOf, turned_on}
 use Rattle.tp_draft.proofs.Turns.{turning_same}
-use Rattle.tp_draft.specs.Passage.{entering, playing, settling, turning, passing, turning_by}
+use Rattle.tp_draft.specs.Passage.{entering, playing, settling, turning, passing, turning_by, played_outs, around_completion}
 
 arc_test : (t u : Transaction) → IsOnArcsOf t u → is_arc_of u ≡ is_arc_of t
 arc_test t u on = λ i a. is_under_at (on.key i) a.peer.node || on.rows a.peer.node i
@@ -60,22 +60,21 @@ dialogue_same t u on d = λ i a. let over : Dialogue = completed Outcome.Commit 
 committed_same : (t u : Transaction) → IsOnArcsOf t u → (d : Digest) (arcs : List Arc) → committed_arcs d u arcs ≡ committed_arcs d t arcs
 committed_same t u on d arcs = λ i. with_dialogues arcs (arc_test t u on i) (dialogue_same t u on d i)
 
-commit_same : (t u : Transaction) → IsOnArcsOf t u → (d : Digest) (outs : List TxOut) (arcs : List Arc) → perform_commit d u outs arcs ≡ perform_commit d t outs arcs
-commit_same t u on d outs arcs =
-    let s : List TxOut × List TxOut = split_at_completion outs in
+commit_same : (t u : Transaction) → IsOnArcsOf t u → (d : Digest) (s : List TxOut × List TxOut) (arcs : List Arc) → perform_commit d u s arcs ≡ perform_commit d t s arcs
+commit_same t u on d s arcs =
     let first : List Arc × List Out = performed arcs s.0 in
     λ i.
     let given : List Arc × List Out = performed (committed_same t u on d first.0 i) (grants_same t u on first.0 i) in
     let last : List Arc × List Out = performed given.0 s.1 in
     (last.0, first.1 ++ given.1 ++ last.1)
 
-played_same : (t u : Transaction) → IsOnArcsOf t u → (d : Digest) (w : Passage) (outs : List TxOut) (arcs : List Arc) → played d u w outs arcs ≡ played d t w outs arcs
+played_same : (t u : Transaction) → IsOnArcsOf t u → (d : Digest) (w : Passage) (outs : List TxOut) (arcs : List Arc) → played_outs d u w outs arcs ≡ played_outs d t w outs arcs
 unfolding played
 played_same t u on d Stays outs arcs = refl
 played_same t u on d Enters outs arcs = refl
 played_same t u on d Falls outs arcs = refl
 played_same t u on d Falls_at_once outs arcs = let p : List Arc × List Out = performed arcs outs in λ i. (completed_same t u on d Outcome.Rollback p.0 i, p.1)
-played_same t u on d Commits outs arcs = commit_same t u on d outs arcs
+played_same t u on d Commits outs arcs = commit_same t u on d (around_completion outs) arcs
 played_same t u on d Rolls_back outs arcs = let p : List Arc × List Out = performed arcs outs in λ i. (completed_same t u on d Outcome.Rollback p.0 i, p.1)
 played_same t u on d Leaves outs arcs = let p : List Arc × List Out = performed arcs outs in λ i. (left_same t u on p.0 i, p.1)
 

@@ -11,19 +11,20 @@ use Rattle.tp_model.specs.Recovery.{kept_after}
 use Rattle.tp_commit.specs.Branch.{standing, standing_rows}
 use Rattle.std.specs.Option.{option_map}
 use Rattle.tp_model.specs.declared.transaction.TxOut.{TxOut}
-use Rattle.tp_model.specs.Node.{Move, move, followed, perform, branches_of, seen, remaining, turned, passed, restarted, transact, try_start, is_over, Passage as PassageValue, committed_arcs, grants, entered, split_at_completion, is_commit_complete, played, Stays, Enters, Falls, Falls_at_once, Commits, Rolls_back, Leaves}
+use Rattle.tp_model.specs.Node.{Move, move, followed, perform, branches_of, seen, remaining, turned, passed, restarted, transact, try_start, is_over, Passage as PassageValue, committed_arcs, grants, entered, played, Stays, Enters, Falls, Falls_at_once, Commits, Rolls_back, Leaves, perform_commit}
 use Rattle.tp_model.specs.Arcs.{performed}
 use Rattle.tp_node.specs.declared.halt.Halt.{Halt}
 use Rattle.tp_node_parts.specs.declared.arc_step.ArcStep.{ArcStep}
 use Rattle.tp_node.specs.declared.passage.Passage.{Passage}
 use Rattle.tp_draft.specs.Draft.{Draft, goes_on, Plays}
 use Rattle.tp_node_parts.specs.ArcStep.{stepped_arcs}
-use Rattle.tp_draft.specs.Passage.{giving, completing, speaking, settling, turning, passing, turning_by, playing, said_then, place_of_completion}
+use Rattle.tp_draft.specs.Passage.{giving, completing, speaking, settling, turning, passing, turning_by, playing, said_then, place_of_completion, played_outs}
 use Rattle.tp_node.specs.Passage.{passage_of}
 use Rattle.tp_draft.proofs.Drafts.{plays_alike, plays_same_at, plays_halted_at, followed_silent, append_again}
 use Rattle.tp_node_parts.proofs.Steps.{done_arcs, rolled_arcs, gone_arcs}
 use Rattle.tp_node.specs.Node.{current_of}
 use Rattle.tp_draft.proofs.Beginnings.{branches_seen, start_rises}
+use Rattle.tp_draft.proofs.Parted.{parted_turn}
 
 -- what is seen anew is seen of what is kept
 pub seen_again : (who : Who) (arcs : List Arc) (c : Current) → current_of (seen who arcs c) ≡ c
@@ -47,28 +48,12 @@ given r a b c t gs said is p =
     ) p
 
 -- what is said at a completed commitment, in its parts
-pub split_is : (outs : List TxOut) → split_at_completion outs ≡ (take (place_of_completion outs) outs, drop (place_of_completion outs) outs)
-split_is [] = refl
-split_is (o ∷ outs) = go (is_commit_complete o) refl (split_is outs)
-  where
-    go : (b : Bool) → is_commit_complete o ≡ b → split_at_completion outs ≡ (take (place_of_completion outs) outs, drop (place_of_completion outs) outs)
-        → split_at_completion (o ∷ outs) ≡ (take (place_of_completion (o ∷ outs)) (o ∷ outs), drop (place_of_completion (o ∷ outs)) (o ∷ outs))
-    go true e f = grind (arith, e)
-    go false e f = grind (arith, e, f)
-
 pub commit_parts : (t : Transaction) (outs : List TxOut) (who : Who) (d : Digest) → playing t Commits outs who d ≡ followed (perform (take (place_of_completion outs) outs) d) (completing t (drop (place_of_completion outs) outs) who)
-unfolding played
 commit_parts t outs who d =
     let first : List Arc × List Out = performed d.arcs (take (place_of_completion outs) outs) in
-    let back : List Arc = committed_arcs d t first.0 in
-    let gave : List Arc × List Out = performed back (grants t first.0) in
+    let gave : List Arc × List Out = performed (committed_arcs d t first.0) (grants t first.0) in
     let last : List Arc × List Out = performed gave.0 (drop (place_of_completion outs) outs) in
-    ap (λ (s : List TxOut × List TxOut).
-    let f : List Arc × List Out = performed d.arcs s.0 in
-    let g : List Arc × List Out = performed (committed_arcs d t f.0) (grants t f.0) in
-    let l : List Arc × List Out = performed g.0 s.1 in
-    move (f.1 ++ g.1 ++ l.1) (record d { arcs = l.0 })) (split_is outs)
-    ∙ ap (λ (l : List Out). move l (record d { arcs = last.0 })) (append_again first.1 gave.1 last.1)
+    ap (λ (l : List Out). move l (record d { arcs = last.0 })) (append_again first.1 gave.1 last.1)
 
 pub says_plainly : (t : Transaction) (outs : List TxOut) (w : Passage) → (w ≡ Passage.Stays) ⊎ ((w ≡ Passage.Enters) ⊎ (w ≡ Passage.Falls)) → (who : Who) (d : Digest) → playing t (passage_of w) outs who d ≡ perform outs d
 unfolding played
@@ -125,16 +110,16 @@ turning_same a t n e w s is does leaves =
     ∙ ap (λ (x : Transaction). goes_on a (turning t (passing t e) (step_of (transacted e t)) x)) leaves
     ∙ ap (λ (o : Option Current). record a { move = followed a.move (λ d. followed (speaking t (passing t e) (transacted e t).outs a.who d) (λ d'. record { rec = (transacted e t).rec; outs = []; next = record d' { current = o; kept = kept_after (transacted e t).rec d'.kept } })) }) (remaining_stands (transacted e t).next)
 
--- what is played at the arcs does not read them elsewhere
-played_alike : (d : Digest) (arcs here : List Arc) (t : Transaction) (w : PassageValue) (outs : List TxOut) → played (record d { arcs = here }) t w outs arcs ≡ played d t w outs arcs
+-- what is played of a turn reads its outputs, and not the arcs elsewhere
+playing_turn : (e : TxEvent) (d : Digest) (arcs : List Arc) (t : Transaction) (w : PassageValue) → played_outs (record d { arcs = arcs }) t w (transacted e t).outs arcs ≡ played d t w (transacted e t) arcs
 unfolding played
-played_alike d arcs here t Stays outs = refl
-played_alike d arcs here t Enters outs = refl
-played_alike d arcs here t Falls outs = refl
-played_alike d arcs here t Falls_at_once outs = refl
-played_alike d arcs here t Commits outs = refl
-played_alike d arcs here t Rolls_back outs = refl
-played_alike d arcs here t Leaves outs = refl
+playing_turn e d arcs t Stays = refl
+playing_turn e d arcs t Enters = refl
+playing_turn e d arcs t Falls = refl
+playing_turn e d arcs t Falls_at_once = refl
+playing_turn e d arcs t Commits = ap (λ (s : List TxOut × List TxOut). perform_commit d t s arcs) (parted_turn e t)
+playing_turn e d arcs t Rolls_back = refl
+playing_turn e d arcs t Leaves = refl
 
 abbrev pub without_current : Draft → Draft
 without_current a = record a { move = record a.move { next = record a.move.next { current = None } } }
@@ -170,9 +155,9 @@ turned_by who e d c =
     let a : Turn = transacted e t in
     let w : PassageValue = passing t e in
     let made : Option LogRec → List Out → List Arc → Move = λ r outs arcs. record { rec = r; outs = outs; next = record d { arcs = arcs; current = remaining a.next; kept = kept_after a.rec d.kept } } in
-    let p : List Arc × List Out = played d t w a.outs (entered t w d.arcs) in
-    let q : List Arc × List Out = played (record d { arcs = entered t w d.arcs }) t w a.outs (entered t w d.arcs) in
-    let same : q ≡ p = played_alike d (entered t w d.arcs) (entered t w d.arcs) t w a.outs in
+    let p : List Arc × List Out = played d t w a (entered t w d.arcs) in
+    let q : List Arc × List Out = played_outs (record d { arcs = entered t w d.arcs }) t w a.outs (entered t w d.arcs) in
+    let same : q ≡ p = playing_turn e d (entered t w d.arcs) t w in
     ap (λ (x : List Arc × List Out). made a.rec x.1 x.0) (sym same)
     ∙ ap (λ (r : Option LogRec). made r q.1 q.0) (logged a.rec)
     ∙ ap (λ (l : List Out). made (elim a.rec as (λ _. Option LogRec) [ None ↦ None | Some r ↦ Some r ]) l q.0) (sym (none_more q.1))

@@ -1,16 +1,17 @@
 -- A turn of the transaction step by step: entering, what is said, and what stays.
-use Rattle.std.specs.Prelude.{ℕ, suc, cond, Option, List, [], ◌∷◌}
+use Rattle.std.specs.Prelude.{ℕ, suc, cond, Option, List, [], ◌∷◌, Bool, true, false, take, drop}
 use Rattle.tp_logrec.specs.declared.record.LogRec.{LogRec}
 use Rattle.tp_model.specs.declared.transaction.TxOut.{TxOut}
 use Rattle.tp_model.specs.declared.transaction.Step.{Step}
-use Rattle.tp_model.specs.Parts.{Who, Arc, Digest}
+use Rattle.tp_model.specs.Parts.{Who, Arc, Digest, Out}
 use Rattle.tp_model.specs.Arcs.{performed}
 use Rattle.tp_model.specs.declared.transaction.TxEvent.{TxEvent}
-use Rattle.tp_model.specs.Transactions.{Transaction, transacted, step_of}
+use Rattle.tp_model.specs.Transactions.{Transaction, transacted, step_of, turn}
 use Rattle.tp_model.specs.Recovery.{kept_after}
-use Rattle.tp_model.specs.Node.{Move, move, followed, perform, remaining, entered, played, committed_arcs, grants, is_commit_complete, is_leaving, passage, Passage as PassageValue}
+use Rattle.tp_model.specs.Node.{Move, move, followed, perform, remaining, entered, played, committed_arcs, grants, is_leaving, passage, Passage as PassageValue, perform_commit, Commits}
 use Rattle.tp_node_parts.specs.declared.arc_step.ArcStep.{ArcStep}
 use Rattle.tp_node_parts.specs.ArcStep.{stepped_arcs}
+use Rattle.tp_records.specs.declared.indication.Indication.{Indication}
 
 -- ---- a turn, of the transaction t
 
@@ -20,8 +21,27 @@ with_arcs_by f d = move [] (record d { arcs = f d })
 abbrev pub entering : Transaction → PassageValue → Who → Digest → Move
 entering t w who = with_arcs_by (λ d. entered t w d.arcs)
 
+-- the indication of a completed commitment
+abbrev pub is_commit_complete : TxOut → Bool
+is_commit_complete (TxOut.Tell (Indication.CommitComplete r)) = true
+is_commit_complete _ = false
+
+-- where it stands; after the others where there is none
+abbrev pub place_of_completion : List TxOut → ℕ
+place_of_completion [] = 0
+place_of_completion (o ∷ outs) = cond (is_commit_complete o) 0 (suc (place_of_completion outs))
+
+-- the outputs before it, and that one with those after it
+abbrev pub around_completion : List TxOut → List TxOut × List TxOut
+around_completion outs = (take (place_of_completion outs) outs, drop (place_of_completion outs) outs)
+
+-- what a passage makes of the outputs of a turn: of a completed commitment they are cut where the Grants come
+abbrev pub played_outs : Digest → Transaction → PassageValue → List TxOut → List Arc → List Arc × List Out
+played_outs d t Commits outs arcs = perform_commit d t (around_completion outs) arcs
+played_outs d t w outs arcs = played d t w (turn outs t) arcs
+
 abbrev pub playing : Transaction → PassageValue → List TxOut → Who → Digest → Move
-playing t w outs who d = let p = played d t w outs d.arcs in move p.1 (record d { arcs = p.0 })
+playing t w outs who d = let p = played_outs d t w outs d.arcs in move p.1 (record d { arcs = p.0 })
 
 -- it is logged, and n is what it has become
 abbrev pub settling : Option LogRec → Transaction → Who → Digest → Move
@@ -43,11 +63,6 @@ giving t who d = followed (with_arcs_by (λ e. committed_arcs e t e.arcs) d) (λ
 -- from the Grants on
 abbrev pub completing : Transaction → List TxOut → Who → Digest → Move
 completing t outs who d = followed (giving t who d) (perform outs)
-
--- where the indication of a completed commitment stands; after the others where there is none
-abbrev pub place_of_completion : List TxOut → ℕ
-place_of_completion [] = 0
-place_of_completion (o ∷ outs) = cond (is_commit_complete o) 0 (suc (place_of_completion outs))
 
 -- what is said, and then what a passage does to the arcs
 abbrev pub said_then : ArcStep → Transaction → List TxOut → Who → Digest → Move

@@ -3,7 +3,7 @@ mod event;
 
 ghost use Rattle.std.specs.Prelude.{◌≡◌, ◌≤◌, true, length, [], ◌∷◌, Some, None, IfOk, OnOk, OnErr};
 ghost use Rattle.tp_model.specs.declared.transaction.TxOut.{TxOut};
-ghost use Rattle.tp_model.specs.Node.{move, perform, begin_on, begin_each, begin_chained, start_root, try_start, transact, keep, side_at, is_over, Commits, is_commit_complete, next_mark, with_mark_drawn};
+ghost use Rattle.tp_model.specs.Node.{move, perform, begin_on, begin_each, begin_chained, start_root, try_start, transact, keep, side_at, is_over, Commits, next_mark, with_mark_drawn};
 ghost use Rattle.tp_commit.specs.Branch.{begins};
 ghost use Rattle.tp_draft.specs.Draft.{Plays, node_in, forgetting, goes_on, without_value};
 ghost use Rattle.tp_draft.specs.Begins.{opened_root, named_begun};
@@ -25,7 +25,7 @@ ghost use Rattle.tp_model.specs.Questions.{is_begin};
 ghost use Rattle.tp_model.specs.Recovery.{settled, refused_kept};
 ghost use Rattle.tp_dialogue.specs.Kinds.{asked_value, heard_value};
 ghost use Rattle.tp_draft.specs.Talk.{speaking_on, deferring, telling_heard, taking_deferral};
-ghost use Rattle.tp_draft.specs.Passage.{said_then, giving, completing, playing, speaking, settling, turning, passing, turning_by, place_of_completion};
+ghost use Rattle.tp_draft.specs.Passage.{said_then, giving, completing, playing, speaking, settling, turning, passing, turning_by, is_commit_complete, place_of_completion};
 ghost use Rattle.tp_node.specs.Passage.{passage_of};
 ghost use Rattle.tp_model.specs.Links.{greatest, is_opening_with, dropped_by};
 

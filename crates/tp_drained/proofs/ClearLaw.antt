@@ -49,6 +49,7 @@ use Rattle.tp_drained.proofs.Said.{out_weaker}
 use Rattle.tp_drained.proofs.ClearTurns.{is_complete, brings_none, is_clear_branch, clear_rows, is_clear, clears}
 use Rattle.tp_steps.proofs.every.BeginCases.{begin_cases}
 use Rattle.tp_reports.proofs.Finishing.{completes_told}
+use Rattle.tp_steps.proofs.links.Whole.{whole_turn}
 
 -- ---- what is current
 
@@ -142,7 +143,7 @@ clear_turned t who e s d c f brings now at asked put = record {
     key u is = (left_is a.next u is).0 ∙ IsPassed.key (passed_turn f q put)
 
     played : (g : Indication → Bool) → out_tells g (turned who f d c).outs ≡ asks_tell g a.outs
-    played g = told_played g d q (passage (is_leaving f) q.phase a.next.phase) a.outs (entered q (passage (is_leaving f) q.phase a.next.phase) d.arcs)
+    played g = told_played g d q (passage (is_leaving f) q.phase a.next.phase) a (whole_turn f q) (entered q (passage (is_leaving f) q.phase a.next.phase) d.arcs)
 
     done : IsClearIn t d.current → is_aaid t (aaid_of c.key) ≡ true → (is_clear a.next ≡ true) × (asks_tell is_complete a.outs ≡ true → asks_tell is_complete_none a.outs ≡ true)
     done k tree = let b = brings c f d.arcs at tree asked in clears f q put b.0 b.1 (clear_seen who d.arcs c ∙ k c now tree)

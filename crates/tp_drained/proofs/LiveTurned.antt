@@ -30,6 +30,7 @@ use Rattle.tp_steps.proofs.every.EveryRecord.{find_arc_is}
 use Rattle.tp_drained.proofs.Calm.{spares, leaves_with_end, keeps_event}
 use Rattle.tp_steps.proofs.every.BeginCases.{begun_over, begin_cases}
 use Rattle.tp_control.proofs.LedEvents.{seen_holds}
+use Rattle.tp_steps.proofs.links.Whole.{whole_turn}
 
 -- ---- branches among the arcs
 
@@ -124,7 +125,7 @@ alive_turned who f d c now put spare above old u p is need = go (is_under_at c.k
     key = left.0 ∙ IsPassed.key (passed_turn f s put)
 
     after : stays true p a.outs ≡ true → is_live_with_peer d.arcs p ≡ true → is_live_with_peer (turned who f d c).next.arcs p ≡ true
-    after st live = (agrees_played d s w a.outs d.arcs p (apart_turn f s put)).live ∙ ap (λ v. stays v p a.outs) live ∙ st
+    after st live = (agrees_played d s w a (whole_turn f s) d.arcs p (apart_turn f s put)).live ∙ ap (λ v. stays v p a.outs) live ∙ st
 
     shut : needs c p ≡ true → leaves_with_end f p ≡ false → stays true p a.outs ≡ true
     shut need off = (keeps_event f p s (spare p need) off put.late).shut left.3

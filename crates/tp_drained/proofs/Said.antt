@@ -70,6 +70,7 @@ use Rattle.tp_runs.proofs.Bare.{unchanged_is}
 use Rattle.tp_control.proofs.LedEvents.{seen_holds}
 use Rattle.tp_reports.proofs.ClearingMoves.{complete_outcome}
 use Rattle.tp_drained.proofs.DrainedWords.{live_parts}
+use Rattle.tp_steps.proofs.links.Whole.{whole_turn}
 
 -- ---- records among others
 
@@ -274,7 +275,7 @@ entry_says t o up h e c x p r k need live says = record { x = pair.0; y = pair.1
     w = passage (is_leaving x.event) s.phase a.next.phase
 
     words : words_to p (turned o.who x.event g c).outs ≡ spoken true p a.outs
-    words = (agrees_played g s w a.outs x.arcs p (apart_turn x.event s (entry_put t o up h e c x k))).words ∙ ap (λ v. spoken v p a.outs) (entry_reached t o up h e c x p k need live)
+    words = (agrees_played g s w a (whole_turn x.event s) x.arcs p (apart_turn x.event s (entry_put t o up h e c x k))).words ∙ ap (λ v. spoken v p a.outs) (entry_reached t o up h e c x p k need live)
 
     turn_says : IsOneOf r (said_to p (turned o.who x.event g c).outs)
     turn_says = only_one r (said_to p (turned o.who x.event g c).outs) (subst (IsOneOf r) (sym words) says)
@@ -390,7 +391,7 @@ transact_tells who f g c i = ap (λ (o : Option Current). out_tells is_complete_
     s = seen who g.arcs c
 
     one : out_tells is_complete_none m.outs ≡ asks_tell is_complete_none (transacted f s).outs
-    one = told_played is_complete_none g s (passed who f g c) (transacted f s).outs (entered s (passed who f g c) g.arcs)
+    one = told_played is_complete_none g s (passed who f g c) (transacted f s) (whole_turn f s) (entered s (passed who f g c) g.arcs)
 
     last : (b : Bool) → (b || false) ≡ b
     last true = refl

@@ -31,11 +31,11 @@ pub use Rattle.tp_model.specs.declared.arc.Deferral.{Deferral}
 pub use Rattle.tp_model.specs.Dialogues.{is_polarized, gives_control, Sight, Acts, Nothing_happens, Out_of_phase, without_control, is_holder, is_late, is_rolling, is_superior_side, is_nil, first, fresh_dialogue, acts_or_out, Heard, Hear_grant, Hear_handshake, Hear_handshake_grant, is_silenced, is_due, is_active, named_holder, Asked, is_ready, Ask_abort, Ask_begin, Ask_control, Ask_data, Ask_defer_end, Ask_defer_grant, Ask_end, Ask_error, Ask_grant, Ask_handshake, Ask_handshake_grant, Ask_prepare, Ask_respond, Hear_control, Hear_data, Hear_defer_end, Hear_defer_grant, Hear_end, Hear_error, Hear_response, is_end_deferred, is_grant_deferred, is_unchained, is_committing, acts_nothing_or_out, acts_or_nothing}
 unfoldable pub use Rattle.tp_model.specs.Dialogues.{begun_by, woken, heard, arrived, completed, rested, cleared, said, refused_on_arc}
 pub use Rattle.tp_model.specs.Parts.{Arc, Dialogue, Link, Live, Offered, Opening, Out, Idle, Who, Origin, Event, Entry, Digest, Current, Due, No_response, Response_due, Response_with_control, Under, Branch, Key, Root, Tell, Send}
-pub use Rattle.tp_model.specs.Transactions.{Transaction, acts, is_under_at, transacted, row_holds, find_row, Row, fresh_rows, node_key, Turn, is_under, aaid_of, carry_up, carry_down, prepare_each, forgets, done_up, ends_down, end_up, ask_each, retried, turn, and_then, with_row, takes, put_row, with_arc_lost, all_prepared, all_done, child_of, fresh_branch, takes_left, find_row_by_id, is_open_in_commit, with_branch, before, log_ready, roll, superior_rolls, rollback_rec, superior_of}
+pub use Rattle.tp_model.specs.Transactions.{Transaction, part_by_part, acts, is_under_at, transacted, row_holds, find_row, Row, fresh_rows, node_key, Turn, is_under, aaid_of, carry_up, carry_down, prepare_each, forgets, done_up, ends_down, end_up, ask_each, retried, turn, and_then, with_row, takes, put_row, with_arc_lost, all_prepared, all_done, child_of, fresh_branch, takes_left, find_row_by_id, is_open_in_commit, with_branch, before, log_ready, roll, superior_rolls, rollback_rec, superior_of}
 unfoldable pub use Rattle.tp_model.specs.Transactions.{leave, sight_of_tx, situation_of, refused_tx, ask_commit, order, count_branch, end_branch, branch_left, complete_commit, complete_rollback, begin_rolling, settle}
 pub use Rattle.tp_model.specs.Arcs.{carried, find_arc, is_live_with_peer, link_of, performed, with_dialogue, with_dialogues, with_link, without_arc, carried_on, link_with, put_arc, performed_one}
 pub use Rattle.tp_model.specs.Questions.{has_said, said_to, Cause, Begun_by, cause_by, holder_in, acting_from, was_branch, is_up, is_at, completes, enters, Completed_below, Granted_away, Granted_here, Handshake_granted_here, Left_transaction, is_grant_record, is_handshake_grant_record, is_left_record, Nothing_said, last_cause, holds_by, is_granting_cause, is_record, tells_commit_complete, tells_rollback_complete, logs_ready_or_commit, heard_from, holds_in, is_begin, units_before, is_defer_end_record, is_defer_grant_record, ends_deferral, set_deferral, deferral_in, is_handshake_record, clears_handshakes, owes_response_in, due_in, awaits_in, is_left_end, link_in, superior_in, shuts_to, is_abort, is_end_dialogue, sent_more, link_by, closes_by_deferral, count_records, is_crash, is_left_only, rests_in}
-pub use Rattle.tp_model.specs.Node.{is_granting, grants, Move, move, followed, perform, phase_of, fresh_current, begin_each, begin_chained, chained_peers, situation_at, next_mark, superior_arc, restarted, is_over, seen, turned, passage, left_arcs, is_arc_below, is_end_deferred_at, with_mark_drawn, has_none, may_root, is_superior, seen_rows, branches_of, may_begin_on, remaining, Passage, Leaves, is_leaving, is_arc_of, Commits, Enters, Falls, Falls_at_once, Rolls_back, Stays, keep, without_deferral, completed_arcs, committed_arcs, committed_dialogue, split_at_completion, side_at, passed, with_begun, is_up_ending, perform_commit, seen_row}
+pub use Rattle.tp_model.specs.Node.{is_granting, grants, Move, move, followed, perform, phase_of, fresh_current, begin_each, begin_chained, chained_peers, situation_at, next_mark, superior_arc, restarted, is_over, seen, turned, passage, left_arcs, is_arc_below, is_end_deferred_at, with_mark_drawn, has_none, may_root, is_superior, seen_rows, branches_of, may_begin_on, remaining, Passage, Leaves, is_leaving, is_arc_of, Commits, Enters, Falls, Falls_at_once, Rolls_back, Stays, keep, without_deferral, completed_arcs, committed_arcs, committed_dialogue, around_grants, side_at, passed, with_begun, is_up_ending, perform_commit, seen_row}
 unfoldable pub use Rattle.tp_model.specs.Node.{begin_on, transact, entered, played, try_start, start_root}
 pub use Rattle.tp_model.specs.Links.{is_live, with_one_taken, is_idle}
 pub use Rattle.tp_model.specs.Events.{action, named_again, recovered, recovered_current, key_in_log, current_in_log, decision_of, without_current, current_by, current_from}
@@ -70,7 +70,8 @@ pub use Rattle.tp_steps.proofs.every.EveryEvent.{plain_arrival, step_move, plain
 pub use Rattle.tp_steps.proofs.every.EveryMove.{quiet_each, step_chained, seen_branch, step_start, quiet_start, plain_steps, every_start, ends_dialogue, step_transact, abort_active, every_transact}
 pub use Rattle.tp_steps.proofs.links.Told.{told_performed, told_append, told_played}
 pub use Rattle.tp_steps.proofs.every.Preludes.{superior_found, link_counted, link_append, link_put, Prelinked, As_before, Now_idle, Now_called, Now_offered, Now_accepted, Now_confirmed, Took_one, called_at, prelinked, takes_next}
-pub use Rattle.tp_steps.proofs.links.Linked.{link_left, linked_moves, link_entered, split_apart}
+pub use Rattle.tp_steps.proofs.links.Whole.{IsWhole, whole_turn}
+pub use Rattle.tp_steps.proofs.links.Linked.{link_left, linked_moves, link_entered, parts_apart}
 pub use Rattle.tp_steps.proofs.every.Course.{tells_rolled, first_performed, first_played, spoken_none, Closed, Course, Free, Grew, Held, Rooted, some_same}
 pub use Rattle.tp_steps.proofs.log.Sound.{left_branches, left_is}
 pub use Rattle.tp_steps.proofs.log.KinTurns.{kids_left, kids_seen, kin, kin_turn, kids_more}
@@ -93,7 +94,7 @@ pub use Rattle.tp_histories.proofs.trees.Fallen.{down_turn, sight_acts, abort_si
 pub use Rattle.tp_histories.proofs.known.KnownPhase.{rolled_tells}
 pub use Rattle.tp_histories.proofs.trees.Entered.{Entered, Crashed, Begun, Plain, no_begin}
 pub use Rattle.tp_runs.specs.Known.{now_agrees, all_arcs, known_agrees, drawn_agrees, kept_agrees, phase_agrees, key_agrees, above_agrees, branches_agree, asked_agrees}
-pub use Rattle.tp_runs.proofs.AtPeer.{said_carried, Keeps, keeps_dialogues, keeps_performed, keeps_taken, keeps_without, part_at, said_both, said_none, keeps_append, keeps_front, all_found, carries_none, live_back, split_none, first_part, part_dialogue, part_none, none_more, keeps_self, keeps_then, part_same, first_dialogue, carries_not, there_found}
+pub use Rattle.tp_runs.proofs.AtPeer.{said_carried, Keeps, keeps_dialogues, keeps_performed, keeps_taken, keeps_without, part_at, said_both, said_none, keeps_append, keeps_front, all_found, carries_none, live_back, parts_none, first_part, part_dialogue, part_none, none_more, keeps_self, keeps_then, part_same, first_dialogue, carries_not, there_found}
 pub use Rattle.tp_runs.proofs.CourseSteps.{means_of, leaves_so}
 pub use Rattle.tp_runs.proofs.KnownKeys.{nothing_late, course_entry, phase_law, crash_next, key_law, sound_at, started_current, phase_agrees_law, key_agrees_law}
 pub use Rattle.tp_runs.proofs.RollsBy.{left_active, down_event, IsDownMove}

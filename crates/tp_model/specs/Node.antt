@@ -8,7 +8,6 @@ use Rattle.tp_names.specs.declared.children.Child.{Child}
 use Rattle.tp_names.specs.declared.outcome.Outcome.{Outcome}
 use Rattle.tp_names.specs.declared.outcome.Report.{Report}
 use Rattle.tp_records.specs.declared.request.Request.{Request}
-use Rattle.tp_records.specs.declared.indication.Indication.{Indication}
 use Rattle.tp_records.specs.declared.dialogue.DialogueRecord.{DialogueRecord}
 use Rattle.tp_records.specs.declared.dialogue.Holder.{Holder}
 use Rattle.tp_logrec.specs.declared.record.LogRec.{LogRec}
@@ -225,32 +224,25 @@ committed_dialogue d t a =
 abbrev pub committed_arcs : Digest → Transaction → List Arc → List Arc
 committed_arcs d t arcs = with_dialogues arcs (is_arc_of t) (committed_dialogue d t)
 
--- the outputs before the one that tells of a completed commitment, and that one with those after it
-abbrev pub is_commit_complete : TxOut → Bool
-is_commit_complete (TxOut.Tell (Indication.CommitComplete r)) = true
-is_commit_complete _ = false
+-- what is asked for before the Grants of a completed commitment, and after them
+abbrev pub around_grants : Turn → List TxOut × List TxOut
+around_grants a = let c = a.completion in (c.before ++ c.forgets ++ c.done, c.told ++ c.ends_down ++ c.end_up)
 
-abbrev pub split_at_completion : List TxOut → List TxOut × List TxOut
-split_at_completion [] = ([], [])
-split_at_completion (o ∷ outs) =
-    if is_commit_complete o then ([], o ∷ outs) else (let s = split_at_completion outs in (o ∷ s.0, s.1))
-
--- the Grants stand before the indication of a completed commitment
-abbrev pub perform_commit : Digest → Transaction → List TxOut → List Arc → List Arc × List Out
-perform_commit d t outs arcs =
-    let s = split_at_completion outs in
-    let first = performed arcs s.0 in
+-- at a completed commitment the Grants stand between the two
+abbrev pub perform_commit : Digest → Transaction → List TxOut × List TxOut → List Arc → List Arc × List Out
+perform_commit d t parts arcs =
+    let first = performed arcs parts.0 in
     let given = performed (committed_arcs d t first.0) (grants t first.0) in
-    let last = performed given.0 s.1 in
+    let last = performed given.0 parts.1 in
     (last.0, first.1 ++ given.1 ++ last.1)
 
--- the outputs of a transaction at the arcs, with what its passage does to control
-unfoldable pub played : Digest → Transaction → Passage → List TxOut → List Arc → List Arc × List Out
-played d t Falls_at_once outs arcs = let p = performed arcs outs in (completed_arcs d t Outcome.Rollback p.0, p.1)
-played d t Commits outs arcs = perform_commit d t outs arcs
-played d t Rolls_back outs arcs = let p = performed arcs outs in (completed_arcs d t Outcome.Rollback p.0, p.1)
-played d t Leaves outs arcs = let p = performed arcs outs in (left_arcs t p.0, p.1)
-played d t _ outs arcs = performed arcs outs
+-- the outputs of a turn of the transaction at the arcs, with what its passage does to control
+unfoldable pub played : Digest → Transaction → Passage → Turn → List Arc → List Arc × List Out
+played d t Falls_at_once a arcs = let p = performed arcs a.outs in (completed_arcs d t Outcome.Rollback p.0, p.1)
+played d t Commits a arcs = perform_commit d t (around_grants a) arcs
+played d t Rolls_back a arcs = let p = performed arcs a.outs in (completed_arcs d t Outcome.Rollback p.0, p.1)
+played d t Leaves a arcs = let p = performed arcs a.outs in (left_arcs t p.0, p.1)
+played d t _ a arcs = performed arcs a.outs
 
 -- ---- transactions begin
 
@@ -338,7 +330,7 @@ turned who e d c =
     let t : Transaction = seen who d.arcs c in
     let a : Turn = transacted e t in
     let w : Passage = passage (is_leaving e) t.phase a.next.phase in
-    let p = played d t w a.outs (entered t w d.arcs) in
+    let p = played d t w a (entered t w d.arcs) in
     record {
       rec = a.rec;
       outs = p.1;

@@ -48,6 +48,7 @@ use Rattle.tp_reports.proofs.MarkTurns.{is_of, are_of, keeps_of, asks_in, IsMark
 use Rattle.tp_steps.proofs.every.BeginCases.{begun_over, begin_cases}
 use Rattle.tp_steps.proofs.lemmas.EachKept.{IsEach, each_after}
 use Rattle.tp_steps.proofs.lemmas.Options.{some_same}
+use Rattle.tp_steps.proofs.links.Whole.{whole_turn}
 
 -- ---- the kept transactions of a node
 
@@ -133,7 +134,7 @@ left_of n t h c i = ap (λ (bs : List Branch). are_of n (kin bs)) (left_branches
 marking_turned : (who : Who) (f : TxEvent) (d : Digest) (c : Current) → d.current ≡ Some c → IsPut f (seen who d.arcs c) → IsMarking who d (turned who f d c)
 marking_turned who f d c now put = record {
   marked = λ h. (λ u i. left_of who.node a.next (ap (are_of who.node) own.0 ∙ kids_of h) u i, after_of who.node a.rec d.kept h.1 (own.1 who.node (kids_of h)).0);
-  orders = λ h z t b sent. asks_in who.node a.outs z t b (own.1 who.node (kids_of h)).1 (sent_played d q w a.outs (entered q w d.arcs) z (PeerRecord.RecCommit t b) refl sent);
+  orders = λ h z t b sent. asks_in who.node a.outs z t b (own.1 who.node (kids_of h)).1 (sent_played d q w a (whole_turn f q) (entered q w d.arcs) z (PeerRecord.RecCommit t b) refl sent);
   begins = λ t p b h. absurd (none t p b h);
 }
   where

@@ -80,6 +80,7 @@ use Rattle.tp_steps.proofs.every.BeginCases.{begun_over, begin_cases}
 use Rattle.tp_steps.proofs.lemmas.EachKept.{IsOne, one_without, one_after, one_noted}
 use Rattle.tp_steps.proofs.lemmas.Options.{some_same}
 use Rattle.tp_steps.proofs.lemmas.KeptList.{noted_key}
+use Rattle.tp_steps.proofs.links.Whole.{whole_turn}
 
 -- ---- records of a tree
 
@@ -461,18 +462,18 @@ departs_is f h = absurd (cc (h))
 clearing_turned : (who : Who) (e : Event) (fall : Bool) (s : Digest) (t : Aaid) (f : TxEvent) (d : Digest) (c : Current) → (falls f (seen who d.arcs c) ≡ true → fall ≡ true) → d.current ≡ Some c → s.current ≡ Some c → IsAsked e c f → IsPut f (seen who d.arcs c)
     → IsClearingMove who e fall s t d (turned who f d c)
 clearing_turned who e fall s t f d c so now at asked put = record {
-  tells = λ n h. clear_tree t q a.next a.rec own.passed.logs (tree_at n) (own.tells (sym (told_played is_complete_none d q w a.outs (entered q w d.arcs)) ∙ h));
+  tells = λ n h. clear_tree t q a.next a.rec own.passed.logs (tree_at n) (own.tells (sym (told_played is_complete_none d q w a (whole_turn f q) (entered q w d.arcs)) ∙ h));
   says = λ z b h.
-      let r = sent_played d q w a.outs (entered q w d.arcs) z (PeerRecord.RecReply t b (RecState.Done Report.None)) refl h in
+      let r = sent_played d q w a (whole_turn f q) (entered q w d.arcs) z (PeerRecord.RecReply t b (RecState.Done Report.None)) refl h in
       let same : t ≡ aaid_of c.key = ((owing_turn f q put).says z (PeerRecord.RecReply t b (RecState.Done Report.None)) r).0 in
       let tree : is_aaid t (aaid_of c.key) ≡ true = ap (is_aaid t) (sym same) ∙ aaid_same t in
       let clear = own.says z t b r in
       inl (ap (is_now t) at ∙ tree, ap is_committing (phase_at s c at) ∙ (own.clears clear).0, clear_tree t q a.next a.rec own.passed.logs tree clear);
   spoils = λ z b x some h.
-      let w = (owing_turn f q put).says z (PeerRecord.RecReply t b (RecState.Done x)) (sent_played d q w a.outs (entered q w d.arcs) z (PeerRecord.RecReply t b (RecState.Done x)) refl h) in
+      let w = (owing_turn f q put).says z (PeerRecord.RecReply t b (RecState.Done x)) (sent_played d q w a (whole_turn f q) (entered q w d.arcs) z (PeerRecord.RecReply t b (RecState.Done x)) refl h) in
       inl (damage_tree t q a.next a.rec own.passed.logs (ap (is_aaid t) (sym w.0) ∙ aaid_same t) (spoilt (is_report_none x) (is_damage_rec a.rec) some w.2));
   forgets = λ z b h.
-      let r = own.forgets z t b (sent_played d q w a.outs (entered q w d.arcs) z (PeerRecord.Forget t b) refl h) in
+      let r = own.forgets z t b (sent_played d q w a (whole_turn f q) (entered q w d.arcs) z (PeerRecord.Forget t b) refl h) in
       inl (damage_tree t q a.next a.rec own.passed.logs (ap (is_aaid t) (sym r.0) ∙ aaid_same t) r.1);
   clears = λ h. let k = own.clears (tree_clear t a.rec h) in inr (c, at, ends_key t q a.next a.rec own.passed.logs h, k.0, k.1);
   decides = λ late old n next rolling. decides next rolling;

@@ -17,7 +17,7 @@ use Rattle.tp_model.specs.declared.transaction.TxEvent.{TxEvent}
 use Rattle.tp_model.specs.declared.transaction.TxOut.{TxOut}
 use Rattle.tp_model.specs.Parts.{Key, Root, Under}
 use Rattle.tp_model.specs.Dialogues.{is_nil, is_committing, is_rolling}
-use Rattle.tp_model.specs.Transactions.{Row, Transaction, Turn, turn, and_then, before, aaid_of, is_under_at, is_open_in_commit, find_row, find_row_by_id, with_row, with_arc_lost, all_done, owed_of, report_of_branch, reports_of, own_damage, log_ready, log_end, log_damage, tell_report, forgets, done_up, ends_down, end_up, rollback_rec, complete_commit, complete_rollback, begin_rolling, order, ask_commit, leave, count_branch, end_branch, branch_left, transacted}
+use Rattle.tp_model.specs.Transactions.{Row, Transaction, Turn, turn, and_then, before, aaid_of, is_under_at, is_open_in_commit, find_row, find_row_by_id, with_row, with_arc_lost, all_done, owed_of, report_of_branch, reports_of, own_damage, log_ready, log_end, log_damage, tell_report, forgets, done_up, ends_down, end_up, rollback_rec, complete_commit, complete_rollback, begin_rolling, order, ask_commit, leave, count_branch, end_branch, branch_left, transacted, completion_of}
 use Rattle.tp_steps.specs.Turns.{Turns, vote, decide, shut_given_up, row_dead, falls, is_outcome_told, is_left_word}
 use Rattle.tp_steps.specs.Moves.{IsPut, IsRecoveryIn}
 use Rattle.tp_steps.specs.Passages.{may_move, asks_tell, is_commit_rec, IsPassed}
@@ -198,7 +198,7 @@ clearing_commit e s t passed c = go (not t.owes && all_done t.rows) refl (is_rep
     outs = forgets (aaid_of t.key) t.rows ++ done_up t x ++ (TxOut.Tell (Indication.CommitComplete x) ∷ []) ++ ends_down t.rows ++ end_up t
 
     over : Bool → Turn
-    over v = record { rec = Some (if v then log_end t Outcome.Commit else log_damage t Outcome.Commit x (owed_of t.rows)); outs = outs; next = record t { phase = Phase.Nil } }
+    over v = record { rec = Some (if v then log_end t Outcome.Commit else log_damage t Outcome.Commit x (owed_of t.rows)); outs = outs; completion = completion_of t x; next = record t { phase = Phase.Nil } }
 
     is : (v w : Bool) → (not t.owes && all_done t.rows) ≡ v → is_report_none x ≡ w → complete_commit t ≡ (if v then over w else turn [] t)
     is v w i j = rw (i, j) refl

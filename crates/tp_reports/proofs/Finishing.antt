@@ -17,7 +17,7 @@ use Rattle.tp_model.specs.Arcs.{find_arc, with_dialogue, without_arc, performed}
 use Rattle.tp_model.specs.Transactions.{Transaction, Turn, aaid_of, transacted}
 use Rattle.tp_model.specs.declared.recovery.Kept.{Kept}
 use Rattle.tp_model.specs.Recovery.{settled}
-use Rattle.tp_model.specs.Node.{Move, move, followed, perform, committed_arcs, grants, split_at_completion, played, Passage, Commits, passage, next_mark, with_mark_drawn, phase_of, seen, remaining, is_leaving, entered, with_begun, may_begin_on, begin_on, turned, keep}
+use Rattle.tp_model.specs.Node.{Move, move, followed, perform, committed_arcs, grants, played, Passage, Commits, passage, next_mark, with_mark_drawn, phase_of, seen, remaining, is_leaving, entered, with_begun, may_begin_on, begin_on, turned, keep, around_grants}
 use Rattle.tp_model.specs.Events.{refusal, action}
 use Rattle.tp_model.specs.Outcomes.{is_now, is_unchanged, rolls}
 use Rattle.tp_model.specs.Questions.{tells_commit_complete}
@@ -42,7 +42,7 @@ use Rattle.tp_steps.proofs.words.Treed.{old_kept}
 use Rattle.tp_histories.proofs.trees.TreedMoves.{treed_moves}
 use Rattle.tp_histories.proofs.trees.Knowing.{nil_now}
 use Rattle.tp_histories.proofs.upward.Risen.{unchanged_asked}
-use Rattle.tp_runs.proofs.AtPeer.{carries_none, said_none, said_both, split_none}
+use Rattle.tp_runs.proofs.AtPeer.{carries_none, said_none, said_both, parts_none}
 use Rattle.tp_steps.proofs.branches.Outspoken.{outspoken_event}
 use Rattle.tp_reports.proofs.ClearingTurns.{clearing_turn}
 use Rattle.tp_reports.proofs.ClearingMoves.{clear_tree, tree_clear, ends_key, damage_after, settled_ends}
@@ -51,6 +51,7 @@ use Rattle.tp_model.specs.declared.recovery.KeptEvent.{KeptEvent}
 use Rattle.tp_reports.proofs.DoneTurns.{is_clear_done, IsDoneTurn, done_turns, IsToldTurn, told_turns}
 use Rattle.tp_runs.proofs.Bare.{among_tree, forgotten_tree}
 use Rattle.tp_steps.proofs.every.BeginCases.{begun_over, begin_cases}
+use Rattle.tp_steps.proofs.links.Whole.{IsWhole, whole_turn}
 
 -- ---- Done with no report, at the arcs
 
@@ -73,18 +74,18 @@ none_grants t (a ∷ arcs) = grind (arith, none_grants t arcs)
 abbrev pub says_clear : ℕ → List Out → Bool
 says_clear p outs = has_said is_clear_done (said_to p outs)
 
-none_played : (d : Digest) (t : Transaction) (w : Passage) (outs : List TxOut) (arcs : List Arc) (p : ℕ) → carries_none is_clear_done outs ≡ true → says_clear p (played d t w outs arcs).1 ≡ false
+none_played : (d : Digest) (t : Transaction) (w : Passage) (asks : Turn) → IsWhole asks → (arcs : List Arc) (p : ℕ) → carries_none is_clear_done asks.outs ≡ true → says_clear p (played d t w asks arcs).1 ≡ false
 unfolding played
-none_played d t Commits outs arcs p h =
-    let s = split_at_completion outs in
-    let k = split_none is_clear_done outs h in
+none_played d t Commits asks whole arcs p h =
+    let s = around_grants asks in
+    let k = parts_none is_clear_done s (ap (carries_none is_clear_done) whole ∙ h) in
     let one = performed arcs s.0 in
     let mid : List Arc = committed_arcs d t one.0 in
     let two = performed mid (grants t one.0) in
     let three = performed two.0 s.1 in
     said_both is_clear_done p (one.1 ++ two.1) three.1
     ∙ rw (said_both is_clear_done p one.1 two.1, said_none is_clear_done p arcs s.0 (and_left (carries_none is_clear_done s.0) (carries_none is_clear_done s.1) k), said_none is_clear_done p mid (grants t one.0) (none_grants t one.0), said_none is_clear_done p two.0 s.1 (and_right (carries_none is_clear_done s.0) (carries_none is_clear_done s.1) k)) refl
-none_played d t _ outs arcs p h = said_none is_clear_done p arcs outs h
+none_played d t _ asks whole arcs p h = said_none is_clear_done p arcs asks.outs h
 
 -- ---- a node
 
@@ -142,7 +143,7 @@ finishing_turned who e fall s t f d c so now at asked put = record {
   over = λ late old n. over (late c now) (ap (is_now t) (sym now) ∙ n) (is_nil a.next.phase) refl;
   says = λ p n h. says p n h (every_turn f q IsDoneTurn (done_turns f q) put);
   keeps = λ h. damage_after t a.rec d.kept h;
-  clears = λ h. inr (ap (is_now t) at ∙ ends_key t q a.next a.rec own.passed.logs h, ap is_committing (phase_at s c at) ∙ (own.clears (tree_clear t a.rec h)).0, told_played is_complete_none d q w a.outs (entered q w d.arcs) ∙ every_turn f q IsToldTurn (told_turns f q) put (tree_clear t a.rec h));
+  clears = λ h. inr (ap (is_now t) at ∙ ends_key t q a.next a.rec own.passed.logs h, ap is_committing (phase_at s c at) ∙ (own.clears (tree_clear t a.rec h)).0, told_played is_complete_none d q w a (whole_turn f q) (entered q w d.arcs) ∙ every_turn f q IsToldTurn (told_turns f q) put (tree_clear t a.rec h));
 }
   where
     q : Transaction
@@ -164,11 +165,11 @@ finishing_turned who e fall s t f d c so now at asked put = record {
     spoken = outspoken_event f q put
 
     says : (p : ℕ) → is_now t s.current ≡ true → says_clear p m.outs ≡ true → IsDoneTurn q a → (ends_tree t m.rec ≡ true) × (is_committing (phase_of s) ≡ true)
-    says p n h (inl i) = absurd (cc (none_played d q w a.outs (entered q w d.arcs) p i, h))
+    says p n h (inl i) = absurd (cc (none_played d q w a (whole_turn f q) (entered q w d.arcs) p i, h))
     says p n h (inr i) = (clear_tree t q a.next a.rec own.passed.logs (ap (is_now t) (sym at) ∙ n) i, ap is_committing (phase_at s c at) ∙ (own.clears i).0)
 
     told : is_committing c.phase ≡ true → is_nil a.next.phase ≡ true → out_tells is_complete m.outs ≡ true
-    told committing nil = let k = spoken.completes committing nil in told_played is_complete d q w a.outs (entered q w d.arcs) ∙ asked_complete a.outs k.0 k.1
+    told committing nil = let k = spoken.completes committing nil in told_played is_complete d q w a (whole_turn f q) (entered q w d.arcs) ∙ asked_complete a.outs k.0 k.1
 
     keeping : (r : Option LogRec) → IsLogged q r a.next → is_keeping_rec r ≡ true → is_committing c.phase ≡ true
     keeping (Some (LogRec.Damage n j u o x cs)) l h = l.1 h

@@ -6,7 +6,7 @@ use Rattle.tp_model.specs.declared.transaction.TxOut.{TxOut}
 use Rattle.tp_model.specs.Parts.{Out, Link, Idle, Opening, Offered, Live, Dialogue, Arc, Digest, Who, Event}
 use Rattle.tp_model.specs.Links.{is_live, with_one_taken}
 use Rattle.tp_model.specs.Arcs.{find_arc, link_with, is_live_with_peer, without_arc, with_dialogue, with_link, with_dialogues, carried_on, carried, shut_with, performed_one, performed, link_of, put_arc}
-use Rattle.tp_model.specs.Node.{Move, is_commit_complete, next_mark, superior_arc, split_at_completion}
+use Rattle.tp_model.specs.Node.{Move, next_mark, superior_arc}
 use Rattle.tp_model.specs.Questions.{said_to, has_said, sent_more}
 use Rattle.tp_steps.specs.Moves.{is_apart_record, prelude, called, accepted_by, accepted_on, linked, counted_in}
 use Rattle.tp_steps.specs.Traces.{IsLinked}
@@ -228,19 +228,10 @@ live_back p d m k live = elim k.over.link [
   | inr i ↦ absurd (let off : is_live (link_with m.next.arcs p) ≡ false = ap is_live i in cc (off, live))
 ]
 
--- ---- outputs around the one that tells of a completed commitment
+-- ---- outputs in two parts
 
-pub split_none : (g : DialogueRecord → Bool) (outs : List TxOut) → carries_none g outs ≡ true → (carries_none g (split_at_completion outs).0 && carries_none g (split_at_completion outs).1) ≡ true
-split_none g [] h = refl
-split_none g (o ∷ outs) h = go (is_commit_complete o) (split_none g outs (and_right (carries_not g o) (carries_none g outs) h))
-  where
-    put : (a b c : Bool) → a ≡ true → (b && c) ≡ true → ((a && b) && c) ≡ true
-    put a b c i j = grind (arith, i, j)
-
-    go : (v : Bool) → (carries_none g (split_at_completion outs).0 && carries_none g (split_at_completion outs).1) ≡ true
-        → (carries_none g (if◌then◌else◌ {A = List TxOut × List TxOut} v ([], o ∷ outs) (let s = split_at_completion outs in (o ∷ s.0, s.1))).0 && carries_none g (if◌then◌else◌ {A = List TxOut × List TxOut} v ([], o ∷ outs) (let s = split_at_completion outs in (o ∷ s.0, s.1))).1) ≡ true
-    go true rest = h
-    go false rest = put (carries_not g o) (carries_none g (split_at_completion outs).0) (carries_none g (split_at_completion outs).1) (and_left (carries_not g o) (carries_none g outs) h) rest
+pub parts_none : (g : DialogueRecord → Bool) (s : List TxOut × List TxOut) → carries_none g (s.0 ++ s.1) ≡ true → (carries_none g s.0 && carries_none g s.1) ≡ true
+parts_none g s h = sym (none_more g s.0 s.1) ∙ h
 
 -- ---- a property that is given
 

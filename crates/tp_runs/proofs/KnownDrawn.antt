@@ -20,9 +20,9 @@ use Rattle.tp_model.specs.Parts.{Who, Origin, Event, Entry, Out, Link, Idle, Ope
 use Rattle.tp_model.specs.Links.{is_live}
 use Rattle.tp_model.specs.Dialogues.{begun_by, named_holder}
 use Rattle.tp_model.specs.Arcs.{find_arc, link_of, link_with, with_dialogue, carried, carried_on, performed_one, performed}
-use Rattle.tp_model.specs.Transactions.{Transaction, before, aaid_of, forgets, transacted}
+use Rattle.tp_model.specs.Transactions.{Transaction, before, aaid_of, forgets, transacted, Turn}
 use Rattle.tp_model.specs.Recovery.{settled}
-use Rattle.tp_model.specs.Node.{Move, move, perform, next_mark, with_mark_drawn, superior_arc, seen, Passage, Commits, played, split_at_completion, perform_commit, committed_arcs, grants, with_begun, may_begin_on, begin_on, turned}
+use Rattle.tp_model.specs.Node.{Move, move, perform, next_mark, with_mark_drawn, superior_arc, seen, Passage, Commits, played, perform_commit, committed_arcs, grants, with_begun, may_begin_on, begin_on, turned, around_grants}
 use Rattle.tp_model.specs.Requests.{call, accept}
 use Rattle.tp_model.specs.Events.{action, after_crash, started}
 use Rattle.tp_model.specs.History.{digest}
@@ -42,16 +42,16 @@ use Rattle.tp_steps.proofs.links.Apart.{apart_grants, apart_turn, apart_spoken}
 use Rattle.tp_steps.proofs.log.Passed.{passed_turn}
 use Rattle.tp_steps.proofs.lemmas.Phases.{none_append}
 use Rattle.tp_steps.proofs.words.Hushed.{settled_spoken}
-use Rattle.tp_steps.proofs.links.Linked.{split_apart, linked_moves}
+use Rattle.tp_steps.proofs.links.Linked.{linked_moves, parts_apart}
 use Rattle.tp_steps.proofs.links.Links.{link_dialogue}
 use Rattle.tp_steps.proofs.every.Preludes.{marks_same}
-use Rattle.tp_steps.proofs.links.Wrapped.{split_joins}
 use Rattle.tp_histories.proofs.trees.Late.{late_law}
 use Rattle.tp_histories.proofs.marks.Separate.{Thins, thins_moves, thins_dialogue, thins_without, separate_prelude, separate_law}
 use Rattle.tp_steps.proofs.every.Course.{spoken_none}
 use Rattle.tp_histories.proofs.known.KnownPlain.{number_self, plain_law}
 use Rattle.tp_steps.proofs.every.BeginCases.{begun_over, begin_cases}
 use Rattle.tp_steps.proofs.words.TurnWords.{AreTurnWords, turn_words}
+use Rattle.tp_steps.proofs.links.Whole.{IsWhole, whole_turn}
 
 -- ---- a transaction offers and answers no association
 
@@ -178,15 +178,14 @@ grants_plain : (t : Transaction) (arcs : List Arc) → (begins_none (grants t ar
 grants_plain t [] = (refl, refl)
 grants_plain t (a ∷ arcs) = let rest = grants_plain t arcs in (grind (arith, rest.0), grind (arith, rest.1))
 
-commit_count : (who : Who) (d : Digest) (t : Transaction) (outs : List TxOut) (arcs : List Arc) → begins_none outs ≡ true → are_apart outs ≡ true → offers_none outs ≡ true → nat_le (own_counts who d.boot (perform_commit d t outs arcs).1) d.drawn ≡ true
-commit_count who d t outs arcs h k l =
-    let s = split_at_completion outs in
-    let parts = split_apart outs k in
+commit_count : (who : Who) (d : Digest) (t : Transaction) (s : List TxOut × List TxOut) (arcs : List Arc) → begins_none (s.0 ++ s.1) ≡ true → are_apart (s.0 ++ s.1) ≡ true → offers_none (s.0 ++ s.1) ≡ true → nat_le (own_counts who d.boot (perform_commit d t s arcs).1) d.drawn ≡ true
+commit_count who d t s arcs h k l =
+    let parts = parts_apart s k in
     let one = performed arcs s.0 in
     let two = performed (committed_arcs d t one.0) (grants t one.0) in
     let three = performed two.0 s.1 in
-    let both : (begins_none s.0 && begins_none s.1) ≡ true = sym (none_append s.0 s.1) ∙ ap begins_none (split_joins outs) ∙ h in
-    let last : (offers_none s.0 && offers_none s.1) ≡ true = sym (offers_append s.0 s.1) ∙ ap offers_none (split_joins outs) ∙ l in
+    let both : (begins_none s.0 && begins_none s.1) ≡ true = sym (none_append s.0 s.1) ∙ h in
+    let last : (offers_none s.0 && offers_none s.1) ≡ true = sym (offers_append s.0 s.1) ∙ l in
     let plain = grants_plain t one.0 in
     let a = performed_count who d arcs s.0 (and_left (begins_none s.0) (begins_none s.1) both) (and_left (are_apart s.0) (are_apart s.1) parts) (offers_last who d s.0 (and_left (offers_none s.0) (offers_none s.1) last)) in
     let b = performed_count who d (committed_arcs d t one.0) (grants t one.0) plain.0 (apart_grants t one.0) (offers_last who d (grants t one.0) plain.1) in
@@ -194,10 +193,10 @@ commit_count who d t outs arcs h k l =
     ap (λ (n : ℕ). nat_le n d.drawn) (counts_append who d.boot (one.1 ++ two.1) three.1 ∙ ap (λ (n : ℕ). greater n (own_counts who d.boot three.1)) (counts_append who d.boot one.1 two.1))
     ∙ greater_le (greater (own_counts who d.boot one.1) (own_counts who d.boot two.1)) (own_counts who d.boot three.1) d.drawn (greater_le (own_counts who d.boot one.1) (own_counts who d.boot two.1) d.drawn a b) c
 
-played_count : (who : Who) (d : Digest) (t : Transaction) (w : Passage) (outs : List TxOut) (arcs : List Arc) → begins_none outs ≡ true → are_apart outs ≡ true → offers_none outs ≡ true → nat_le (own_counts who d.boot (played d t w outs arcs).1) d.drawn ≡ true
+played_count : (who : Who) (d : Digest) (t : Transaction) (w : Passage) (asks : Turn) → IsWhole asks → (arcs : List Arc) → begins_none asks.outs ≡ true → are_apart asks.outs ≡ true → offers_none asks.outs ≡ true → nat_le (own_counts who d.boot (played d t w asks arcs).1) d.drawn ≡ true
 unfolding played
-played_count who d t Commits outs arcs h k l = commit_count who d t outs arcs h k l
-played_count who d t _ outs arcs h k l = performed_count who d arcs outs h k (offers_last who d outs l)
+played_count who d t Commits asks whole arcs h k l = commit_count who d t (around_grants asks) arcs (ap begins_none whole ∙ h) (ap are_apart whole ∙ k) (ap offers_none whole ∙ l)
+played_count who d t _ asks whole arcs h k l = performed_count who d arcs asks.outs h k (offers_last who d asks.outs l)
 
 -- the first Begin counts for the mark of its branch
 first_count : (who : Who) (boot : ℕ) (outs : List Out) (t : Aaid) (b : BranchId) → first_begin outs ≡ Some (t, b) → nat_le (count_of who boot b.mark) (own_counts who boot outs) ≡ true
@@ -257,7 +256,7 @@ settled_last who d k KeptEvent.Purge = refl
 draws_turned : (who : Who) (d : Digest) (c : Current) (f : TxEvent) → IsPut f (seen who d.arcs c) → d.drawn ≡ greater (own_counts who d.boot (turned who f d c).outs) d.drawn
 draws_turned who d c f put =
     let t : Transaction = seen who d.arcs c in
-    sym (greater_within (own_counts who d.boot (turned who f d c).outs) d.drawn (played_count who d t _ (transacted f t).outs _ (passed_turn f t put).begins (apart_turn f t put) (offers_turn f t put)))
+    sym (greater_within (own_counts who d.boot (turned who f d c).outs) d.drawn (played_count who d t _ (transacted f t) (whole_turn f t) _ (passed_turn f t put).begins (apart_turn f t put) (offers_turn f t put)))
 
 own_next : (who : Who) (boot n : ℕ) → count_of who boot (record { boot = boot; node = who.node; count = n }) ≡ n
 own_next who boot n = grind (arith, nat_tests)

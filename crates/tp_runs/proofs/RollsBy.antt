@@ -41,6 +41,7 @@ use Rattle.tp_histories.proofs.marks.Separate.{thins_turned}
 use Rattle.tp_steps.proofs.log.Sound.{left_is}
 use Rattle.tp_steps.proofs.every.Course.{tells_rolled, first_none_append, first_played}
 use Rattle.tp_steps.proofs.every.EveryEvent.{plain_request}
+use Rattle.tp_steps.proofs.links.Whole.{whole_turn}
 
 -- ---- an event that rolls
 
@@ -80,7 +81,7 @@ down_transact who f d c now fall =
     down = down_turn f t fall
 
     tells : tells_rolled m ≡ asks_tell is_rolled_told a.outs
-    tells = told_played is_rolled_told d t _ a.outs _
+    tells = told_played is_rolled_told d t _ a (whole_turn f t) _
 
     more : (b : Bool) → tells_rolled m ≡ true → tells_rolled (if b then followed m (try_start who) else m) ≡ true
     more true h = told_append is_rolled_told m.outs (try_start who m.next).outs ∙ rw h refl
@@ -246,7 +247,7 @@ left_transact who d c now act apart put =
     m = turned who f d c
 
     quiet : first_begin m.outs ≡ None
-    quiet = first_played d t _ (transacted f t).outs _ (passed_turn f t put).begins (apart_turn f t put)
+    quiet = first_played d t _ (transacted f t) (whole_turn f t) _ (passed_turn f t put).begins (apart_turn f t put)
 
     over : (p : Phase) → is_active p ≡ true → is_over (passage true p Phase.Nil) ≡ true
     over Phase.Nil h = absurd (cc (h))

@@ -175,7 +175,7 @@ keeps_turn : (who : Who) (d : Digest) (c : Current) (f : TxEvent) → d.current 
 keeps_turn who d c f now put = record {
   version = refl;
   stands = λ s.
-      stands_arcs (record d { current = remaining a.next; kept = kept_after a.rec d.kept }) _ (thins_played d t w a.outs d.arcs)
+      stands_arcs (record d { current = remaining a.next; kept = kept_after a.rec d.kept }) _ (thins_played d t w a d.arcs)
       (stands_kept (record d { current = remaining a.next }) (kept_after a.rec d.kept) (kept_more d.version a.rec d.kept (rec s) s.kept)
       (stands_after d c (remaining a.next) now (late_remaining a.next) (λ x at. after s x at) s));
   rec = λ s. rec s;

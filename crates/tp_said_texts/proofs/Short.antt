@@ -1,5 +1,5 @@
 -- No event puts more of a user's octets into an output than fit in a record, and none but a Begin that is taken tells of one.
-use Rattle.std.proofs.Common.{if◌then◌else◌, ◌≡◌, ◌≤◌, ◌==◌, ◌&&◌, ◌||◌, not, nat_lt, ℕ, suc, Bool, true, false, refl, ◌∙◌, arith, Option, Some, None, List, [], ◌∷◌, ◌++◌, length}
+use Rattle.std.proofs.Common.{if◌then◌else◌, ◌≡◌, ◌≤◌, ◌==◌, ◌&&◌, ◌||◌, not, nat_lt, ℕ, suc, Bool, true, false, refl, ◌∙◌, arith, Option, Some, None, List, [], ◌∷◌, ◌++◌, length, subst, sym}
 use Rattle.std.proofs.lemmas.Bool.Decides.{nat_tests}
 use Rattle.tp_names.specs.declared.identifiers.Aaid.{Aaid}
 use Rattle.tp_names.specs.declared.identifiers.BranchId.{BranchId}
@@ -27,7 +27,7 @@ use Rattle.tp_model.specs.Dialogues.{Sight, Acts, Nothing_happens, Out_of_phase,
 use Rattle.tp_model.specs.Arcs.{find_arc, put_arc, without_arc, with_link, with_dialogue, carried_on, carried, shut_says, shut_with, performed_one, performed}
 use Rattle.tp_model.specs.Transactions.{Row, Transaction, Turn, turn, and_then, is_under, is_under_at, find_row, find_row_by_id, row_holds, with_row, with_arc_lost, is_waited_for, all_settled, done_up, complete_commit, complete_rollback, begin_rolling, roll, order, settle, ask_commit, leave, count_branch, end_branch, branch_left, lost_arc, complete, by_user, superior_rolls, takes_left, takes, sight_of_tx, is_open_in_commit, replied, give_up, aaid_of, transacted}
 use Rattle.tp_model.specs.Recovery.{forget_to, is_commit, settled, noted, ask_owed, tell_superior, owed, find_kept, with_forget}
-use Rattle.tp_model.specs.Node.{next_mark, with_mark_drawn, superior_arc, may_root, phase_of, has_asked, seen, situation_at, Move, move, followed, perform, Passage, Commits, grants, is_granting, split_at_completion, is_commit_complete, perform_commit, committed_arcs, played, fresh_current, may_begin_on, begin_on, begin_each, begin_chained, chained_peers, start_root, has_none, try_start, restarted, is_over, passed, turned, transact, keep}
+use Rattle.tp_model.specs.Node.{next_mark, with_mark_drawn, superior_arc, may_root, phase_of, has_asked, seen, situation_at, Move, move, followed, perform, Passage, Commits, grants, is_granting, perform_commit, committed_arcs, played, fresh_current, may_begin_on, begin_on, begin_each, begin_chained, chained_peers, start_root, has_none, try_start, restarted, is_over, passed, turned, transact, keep, around_grants}
 use Rattle.tp_model.specs.Requests.{refused_request, speak, call, accept, reject, abort, begin_transaction, do_request}
 use Rattle.tp_model.specs.Arrivals.{Named, branch_key, named_by_key, named_by_branch, is_current_ready, lose, take_abort, take_begin, take_record, woken_by, sight_at, take_on, take_accept, reply_to, take_order, take_forget, take_done_reply, take_ready_reply, do_arrival, broken_pair, break_off}
 use Rattle.tp_model.specs.Events.{retry_each, retry, purge, refusal, action}
@@ -39,6 +39,7 @@ use Rattle.tp_steps.specs.Histories.{brought}
 use Rattle.tp_steps.specs.Trees.{out_tells}
 use Rattle.tp_said_texts.specs.Sizes.{IsShort, AreShort, IsShortRecord, BringsFew}
 use Rattle.tp_said_texts.specs.Begins.{is_begin_told, takes_begin}
+use Rattle.tp_steps.proofs.links.Whole.{IsWhole, whole_turn}
 
 -- ---- what is said of it
 
@@ -296,28 +297,23 @@ module _ (sized may : Bool) where
     before : AreShortOuts s.0
     behind : AreShortOuts s.1
 
-  short_split : (outs : List TxOut) → AreShortOuts outs → AreParts (split_at_completion outs)
-  short_split [] h = record { before = tt; behind = tt }
-  short_split (o ∷ outs) h = go (is_commit_complete o) (short_split outs h.1)
-    where
-      go : (b : Bool) → AreParts (split_at_completion outs) → AreParts (if◌then◌else◌ {A = List TxOut × List TxOut} b ([], o ∷ outs) (let s = split_at_completion outs in (o ∷ s.0, s.1)))
-      go true rest = record { before = tt; behind = h }
-      go false rest = record { before = (h.0, rest.before); behind = rest.behind }
+  short_split : (xs ys : List TxOut) → AreShortOuts (xs ++ ys) → AreParts (xs, ys)
+  short_split [] ys h = record { before = tt; behind = h }
+  short_split (x ∷ xs) ys h = let rest : AreParts (xs, ys) = short_split xs ys h.1 in record { before = (h.0, rest.before); behind = rest.behind }
 
-  short_commit : (d : Digest) (t : Transaction) (outs : List TxOut) (arcs : List Arc) → AreShortOuts outs → AreSaid (perform_commit d t outs arcs).1
-  short_commit d t outs arcs h =
-      let s = split_at_completion outs in
-      let p : AreParts s = short_split outs h in
+  short_commit : (d : Digest) (t : Transaction) (s : List TxOut × List TxOut) (arcs : List Arc) → AreShortOuts (s.0 ++ s.1) → AreSaid (perform_commit d t s arcs).1
+  short_commit d t s arcs h =
+      let p : AreParts s = short_split s.0 s.1 h in
       let one : List Arc = (performed arcs s.0).0 in
       let mid : List Arc = committed_arcs d t one in
       short_append ((performed arcs s.0).1 ++ (performed mid (grants t one)).1) _
       (short_append (performed arcs s.0).1 (performed mid (grants t one)).1 (short_performed arcs s.0 p.before) (short_performed mid (grants t one) (short_grants t one)))
       (short_performed (performed mid (grants t one)).0 s.1 p.behind)
 
-  short_played : (d : Digest) (t : Transaction) (w : Passage) (outs : List TxOut) (arcs : List Arc) → AreShortOuts outs → AreSaid (played d t w outs arcs).1
+  short_played : (d : Digest) (t : Transaction) (w : Passage) (asks : Turn) → IsWhole asks → (arcs : List Arc) → AreShortOuts asks.outs → AreSaid (played d t w asks arcs).1
   unfolding played
-  short_played d t Commits outs arcs h = short_commit d t outs arcs h
-  short_played d t _ outs arcs h = short_performed arcs outs h
+  short_played d t Commits asks whole arcs h = short_commit d t (around_grants asks) arcs (subst AreShortOuts (sym whole) h)
+  short_played d t _ asks whole arcs h = short_performed arcs asks.outs h
 
   -- ---- events of a node
 
@@ -363,7 +359,7 @@ module _ (sized may : Bool) where
   gives_transact who f d = go d.current
     where
       turn_gives : (c : Current) → Gives (turned who f d c)
-      turn_gives c = short_played d _ _ _ _ (says_turn f (seen who d.arcs c))
+      turn_gives c = short_played d _ _ (transacted f (seen who d.arcs c)) (whole_turn f (seen who d.arcs c)) _ (says_turn f (seen who d.arcs c))
 
       go : (o : Option Current) → Gives (elim o as (λ _. Move) [ None ↦ move [] d | Some c ↦ restarted who (passed who f d c) (turned who f d c) ])
       go None = tt

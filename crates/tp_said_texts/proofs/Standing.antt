@@ -11,8 +11,8 @@ use Rattle.tp_model.specs.declared.recovery.Kept.{Kept}
 use Rattle.tp_model.specs.Parts.{Out, Link, Dialogue, Arc, Key, Current, Digest}
 use Rattle.tp_model.specs.Dialogues.{is_active, is_ready}
 use Rattle.tp_model.specs.Arcs.{find_arc, put_arc, without_arc, with_dialogue, with_dialogues, with_link, carried_on, carried, shut_with, performed_one, performed}
-use Rattle.tp_model.specs.Transactions.{Transaction, is_under}
-use Rattle.tp_model.specs.Node.{Passage, Enters, Falls, Falls_at_once, Commits, Rolls_back, Leaves, entered, played, split_at_completion, perform_commit, committed_arcs, grants, fresh_current}
+use Rattle.tp_model.specs.Transactions.{Transaction, is_under, Turn}
+use Rattle.tp_model.specs.Node.{Passage, Enters, Falls, Falls_at_once, Commits, Rolls_back, Leaves, entered, played, perform_commit, committed_arcs, grants, fresh_current, around_grants}
 use Rattle.tp_steps.specs.Moves.{IsLate, StandsIn}
 use Rattle.tp_steps.proofs.log.KinTurns.{kin}
 use Rattle.tp_steps.proofs.lemmas.EachKept.{IsEach}
@@ -186,25 +186,24 @@ thins_entered t Falls arcs = thins_dialogues arcs _ _
 thins_entered t Falls_at_once arcs = thins_dialogues arcs _ _
 thins_entered t _ arcs = thins_same arcs arcs refl
 
-thins_commit : (d : Digest) (t : Transaction) (outs : List TxOut) (arcs : List Arc) → Thins arcs (perform_commit d t outs arcs).0
-thins_commit d t outs arcs =
-    let s = split_at_completion outs in
+thins_commit : (d : Digest) (t : Transaction) (s : List TxOut × List TxOut) (arcs : List Arc) → Thins arcs (perform_commit d t s arcs).0
+thins_commit d t s arcs =
     let one : List Arc = (performed arcs s.0).0 in
     let mid : List Arc = committed_arcs d t one in
     let two : List Arc = (performed mid (grants t one)).0 in
     thins_then arcs one (performed two s.1).0 (thins_performed arcs s.0)
     (thins_then one mid (performed two s.1).0 (thins_dialogues one _ _) (thins_then mid two (performed two s.1).0 (thins_performed mid (grants t one)) (thins_performed two s.1)))
 
-thins_after : (d : Digest) (t : Transaction) (w : Passage) (outs : List TxOut) (arcs : List Arc) → Thins arcs (played d t w outs arcs).0
+thins_after : (d : Digest) (t : Transaction) (w : Passage) (asks : Turn) (arcs : List Arc) → Thins arcs (played d t w asks arcs).0
 unfolding played
-thins_after d t Falls_at_once outs arcs = thins_then arcs (performed arcs outs).0 _ (thins_performed arcs outs) (thins_dialogues (performed arcs outs).0 _ _)
-thins_after d t Commits outs arcs = thins_commit d t outs arcs
-thins_after d t Rolls_back outs arcs = thins_then arcs (performed arcs outs).0 _ (thins_performed arcs outs) (thins_dialogues (performed arcs outs).0 _ _)
-thins_after d t Leaves outs arcs = thins_then arcs (performed arcs outs).0 _ (thins_performed arcs outs) (thins_then (performed arcs outs).0 _ _ (thins_dialogues (performed arcs outs).0 _ _) (thins_dialogues _ _ _))
-thins_after d t _ outs arcs = thins_performed arcs outs
+thins_after d t Falls_at_once asks arcs = thins_then arcs (performed arcs asks.outs).0 _ (thins_performed arcs asks.outs) (thins_dialogues (performed arcs asks.outs).0 _ _)
+thins_after d t Commits asks arcs = thins_commit d t (around_grants asks) arcs
+thins_after d t Rolls_back asks arcs = thins_then arcs (performed arcs asks.outs).0 _ (thins_performed arcs asks.outs) (thins_dialogues (performed arcs asks.outs).0 _ _)
+thins_after d t Leaves asks arcs = thins_then arcs (performed arcs asks.outs).0 _ (thins_performed arcs asks.outs) (thins_then (performed arcs asks.outs).0 _ _ (thins_dialogues (performed arcs asks.outs).0 _ _) (thins_dialogues _ _ _))
+thins_after d t _ asks arcs = thins_performed arcs asks.outs
 
-pub thins_played : (d : Digest) (t : Transaction) (w : Passage) (outs : List TxOut) (arcs : List Arc) → Thins arcs (played d t w outs (entered t w arcs)).0
-thins_played d t w outs arcs = thins_then arcs (entered t w arcs) _ (thins_entered t w arcs) (thins_after d t w outs (entered t w arcs))
+pub thins_played : (d : Digest) (t : Transaction) (w : Passage) (asks : Turn) (arcs : List Arc) → Thins arcs (played d t w asks (entered t w arcs)).0
+thins_played d t w asks arcs = thins_then arcs (entered t w arcs) _ (thins_entered t w arcs) (thins_after d t w asks (entered t w arcs))
 
 -- ---- what stays
 

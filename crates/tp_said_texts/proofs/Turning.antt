@@ -12,7 +12,7 @@ use Rattle.tp_model.specs.declared.transaction.TxEvent.{TxEvent}
 use Rattle.tp_model.specs.declared.transaction.TxOut.{TxOut}
 use Rattle.tp_model.specs.Parts.{Key, Root, Under}
 use Rattle.tp_model.specs.Dialogues.{is_active, is_ready}
-use Rattle.tp_model.specs.Transactions.{Row, Transaction, Turn, and_then, with_row, with_arc_lost, is_under, node_key, superior_of, child_of, children_of, owed_of, all_done, own_damage, reports_of, forgets, done_up, ends_down, end_up, aaid_of, is_own_commit, log_damage, log_end, complete_commit, complete_rollback, begin_rolling, order, ask_commit, leave, count_branch, end_branch, branch_left, transacted}
+use Rattle.tp_model.specs.Transactions.{Row, Transaction, Turn, and_then, with_row, with_arc_lost, is_under, node_key, superior_of, child_of, children_of, owed_of, all_done, own_damage, reports_of, forgets, done_up, ends_down, end_up, aaid_of, is_own_commit, log_damage, log_end, complete_commit, complete_rollback, begin_rolling, order, ask_commit, leave, count_branch, end_branch, branch_left, transacted, completion_of, no_completion}
 use Rattle.tp_steps.specs.Turns.{Turns, row_dead, vote}
 use Rattle.tp_steps.specs.Moves.{IsPut}
 use Rattle.tp_steps.proofs.every.EveryTurn.{every_turn}
@@ -75,11 +75,11 @@ quiet ver t a none key phase kin = record {
 row_key : (t : Transaction) (p : ℕ) (f : Row → Row) → (with_row t p f).key ≡ t.key
 row_key t p f = grind arith
 
-row : (ver : LogVersion) (e : TxEvent) (s t : Transaction) (p : ℕ) (f : Row → Row) (outs : List TxOut) → IsKin t (record { rec = None; outs = outs; next = with_row t p f }) → Logs ver t (record { rec = None; outs = outs; next = with_row t p f })
-row ver e s t p f outs kin = quiet ver t (record { rec = None; outs = outs; next = with_row t p f }) refl (row_key t p f) (row_phase t p f) kin
+row : (ver : LogVersion) (e : TxEvent) (s t : Transaction) (p : ℕ) (f : Row → Row) (outs : List TxOut) → IsKin t (record { rec = None; outs = outs; completion = no_completion outs; next = with_row t p f }) → Logs ver t (record { rec = None; outs = outs; completion = no_completion outs; next = with_row t p f })
+row ver e s t p f outs kin = quiet ver t (record { rec = None; outs = outs; completion = no_completion outs; next = with_row t p f }) refl (row_key t p f) (row_phase t p f) kin
 
-lost : (ver : LogVersion) (t : Transaction) (p : ℕ) (outs : List TxOut) → IsKin t (record { rec = None; outs = outs; next = with_arc_lost t p }) → Logs ver t (record { rec = None; outs = outs; next = with_arc_lost t p })
-lost ver t p outs kin = quiet ver t (record { rec = None; outs = outs; next = with_arc_lost t p }) refl (lost_key t p) (phase_lost t p) kin
+lost : (ver : LogVersion) (t : Transaction) (p : ℕ) (outs : List TxOut) → IsKin t (record { rec = None; outs = outs; completion = no_completion outs; next = with_arc_lost t p }) → Logs ver t (record { rec = None; outs = outs; completion = no_completion outs; next = with_arc_lost t p })
+lost ver t p outs kin = quiet ver t (record { rec = None; outs = outs; completion = no_completion outs; next = with_arc_lost t p }) refl (lost_key t p) (phase_lost t p) kin
 
 -- ---- those that log
 
@@ -121,8 +121,9 @@ logs_commit ver t = go (not t.owes && all_done t.rows)
     go : (b : Bool) → Logs ver t (if b then (record {
       rec = Some (if is_report_none r then log_end t Outcome.Commit else log_damage t Outcome.Commit r (owed_of t.rows));
       outs = forgets (aaid_of t.key) t.rows ++ done_up t r ++ (TxOut.Tell (Indication.CommitComplete r) ∷ []) ++ ends_down t.rows ++ end_up t;
+      completion = completion_of t r;
       next = record t { phase = Phase.Nil };
-    }) else (record { rec = None; outs = []; next = t }))
+    }) else (record { rec = None; outs = []; completion = no_completion []; next = t }))
     go true = record { next = λ f. record { under = λ h. absurd (cc (h)); few = f.few }; active = λ h. absurd (cc (h)); rec = λ f. rec f (is_report_none r) refl }
     go false = record { next = λ f. f; active = λ h. h; rec = λ f. tt }
 

@@ -18,7 +18,7 @@ use Rattle.tp_model.specs.Parts.{Who, Link, Idle, Arc, Branch, Current, Digest, 
 use Rattle.tp_model.specs.Dialogues.{Sight, Acts, Nothing_happens, Out_of_phase, is_active, is_committing, is_nil}
 use Rattle.tp_model.specs.Links.{greatest, dropped_by}
 use Rattle.tp_model.specs.Arcs.{find_arc, link_from, link_with, performed}
-use Rattle.tp_model.specs.Transactions.{Row, Transaction, Turn, turn, find_row, put_row, with_branch, all_settled, all_done, tell_report, settle, complete_commit, count_branch, end_branch, takes, transacted, sight_of_tx}
+use Rattle.tp_model.specs.Transactions.{Row, Transaction, Turn, turn, find_row, put_row, with_branch, all_settled, all_done, tell_report, settle, complete_commit, count_branch, end_branch, takes, transacted, sight_of_tx, after}
 use Rattle.tp_model.specs.Recovery.{kept_after}
 use Rattle.tp_model.specs.Node.{Move, move, Passage, passage, Stays, passed, turned, restarted, transact, played, entered, seen, branches_of, remaining, is_leaving, is_superior}
 use Rattle.tp_model.specs.Arrivals.{refused_arrival, refused_on, do_arrival, take_record, sight_at, sight_of}
@@ -107,7 +107,7 @@ nothing_more (o ∷ outs) = ap (λ (l : List TxOut). o ∷ l) (nothing_more outs
 
 -- a rule that says so much, and another one that does nothing
 abbrev joined : List TxOut → Turn → Turn
-joined outs a = record { rec = elim a.rec as (λ _. Option LogRec) [ None ↦ None | Some r ↦ Some r ]; outs = outs ++ a.outs; next = a.next }
+joined outs a = record { rec = elim a.rec as (λ _. Option LogRec) [ None ↦ None | Some r ↦ Some r ]; outs = outs ++ a.outs; completion = after outs a.completion; next = a.next }
 
 abbrev by_sight : Turn → Transaction → Sight → Turn
 by_sight a t s = elim s as (λ _. Turn) [ Acts ↦ a | Nothing_happens ↦ turn [] t | Out_of_phase ↦ turn [] t ]
@@ -145,7 +145,7 @@ stays_put Phase.Rolling = refl
 -- what a turn of the transaction makes of the node
 abbrev by_passage : Who → Digest → Transaction → Turn → Passage → Move
 by_passage who d t a w =
-    let p : List Arc × List Out = played d t w a.outs (entered t w d.arcs) in
+    let p : List Arc × List Out = played d t w a (entered t w d.arcs) in
     restarted who w (record { rec = a.rec; outs = p.1; next = record d { arcs = p.0; current = remaining a.next; kept = kept_after a.rec d.kept } })
 
 abbrev by_current : Who → TxEvent → Digest → Option Current → Move

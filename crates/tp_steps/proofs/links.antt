@@ -1,6 +1,7 @@
 pub mod Saying
 pub mod Links
 pub mod Apart
+pub mod Whole
 pub mod Linked
 pub mod Marks
 pub mod Wrapped

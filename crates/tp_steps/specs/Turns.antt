@@ -13,7 +13,7 @@ use Rattle.tp_model.specs.declared.arc.Phase.{Phase}
 use Rattle.tp_model.specs.declared.transaction.TxEvent.{TxEvent}
 use Rattle.tp_model.specs.declared.transaction.TxOut.{TxOut}
 use Rattle.tp_model.specs.Dialogues.{is_active, is_ready, is_committing, is_rolling}
-use Rattle.tp_model.specs.Transactions.{Row, Transaction, Turn, turn, and_then, before, is_under, is_under_at, find_row, find_row_by_id, row_holds, with_row, with_branch, with_arc_lost, is_waited_for, all_settled, all_left, log_ready, log_heuristic, carry_up, complete_commit, complete_rollback, begin_rolling, order, ask_commit, leave, count_branch, end_branch, branch_left, retried, is_open_in_commit}
+use Rattle.tp_model.specs.Transactions.{Row, Transaction, Turn, turn, and_then, before, is_under, is_under_at, find_row, find_row_by_id, row_holds, with_row, with_branch, with_arc_lost, is_waited_for, all_settled, all_left, log_ready, log_heuristic, carry_up, complete_commit, complete_rollback, begin_rolling, order, ask_commit, leave, count_branch, end_branch, branch_left, retried, is_open_in_commit, logging}
 
 -- ---- what an event is to its transaction
 
@@ -81,10 +81,10 @@ is_outcome_told _ = false
 -- ---- steps that are written out in no rule of their own
 
 abbrev pub vote : Transaction → Turn
-vote t = record { rec = log_ready t; outs = carry_up t DialogueRecord.Ready; next = record t { phase = Phase.Ready } }
+vote t = logging (log_ready t) (turn (carry_up t DialogueRecord.Ready) (record t { phase = Phase.Ready }))
 
 abbrev pub decide : Outcome → Transaction → Turn
-decide o t = record { rec = Some (log_heuristic t o); outs = []; next = record t { decision = Some o } }
+decide o t = logging (Some (log_heuristic t o)) (turn [] (record t { decision = Some o }))
 
 abbrev pub shut_given_up : ℕ → Row → Transaction → Turn
 shut_given_up p r t =

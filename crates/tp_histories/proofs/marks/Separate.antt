@@ -18,7 +18,7 @@ use Rattle.tp_model.specs.Dialogues.{begun_by, named_holder, fresh_dialogue}
 use Rattle.tp_model.specs.Arcs.{find_arc, link_with, put_arc, without_arc, with_dialogue, with_link, with_dialogues, carried_on, carried, shut_with, performed_one, performed}
 use Rattle.tp_model.specs.Transactions.{Transaction, Turn, aaid_of, transacted}
 use Rattle.tp_model.specs.Recovery.{settled}
-use Rattle.tp_model.specs.Node.{Move, next_mark, superior_arc, seen, Passage, Stays, Enters, Falls, Falls_at_once, Commits, Rolls_back, Leaves, passage, is_leaving, entered, played, completed_arcs, left_arcs, split_at_completion, perform_commit, committed_arcs, grants, may_begin_on, begin_on, turned}
+use Rattle.tp_model.specs.Node.{Move, next_mark, superior_arc, seen, Passage, Stays, Enters, Falls, Falls_at_once, Commits, Rolls_back, Leaves, passage, is_leaving, entered, played, completed_arcs, left_arcs, perform_commit, committed_arcs, grants, may_begin_on, begin_on, turned, around_grants}
 use Rattle.tp_model.specs.Requests.{refused_request}
 use Rattle.tp_model.specs.Arrivals.{refused_arrival}
 use Rattle.tp_model.specs.Events.{refusal, after_crash, started}
@@ -205,9 +205,8 @@ thins_entered t Commits arcs = thins_self arcs
 thins_entered t Rolls_back arcs = thins_self arcs
 thins_entered t Leaves arcs = thins_self arcs
 
-thins_commit : (d : Digest) (t : Transaction) (outs : List TxOut) (arcs : List Arc) → Thins arcs (perform_commit d t outs arcs).0
-thins_commit d t outs arcs =
-    let s = split_at_completion outs in
+thins_commit : (d : Digest) (t : Transaction) (s : List TxOut × List TxOut) (arcs : List Arc) → Thins arcs (perform_commit d t s arcs).0
+thins_commit d t s arcs =
     let one : List Arc = (performed arcs s.0).0 in
     let mid : List Arc = committed_arcs d t one in
     let two : List Arc = (performed mid (grants t one)).0 in
@@ -222,13 +221,13 @@ thins_completed d t o arcs = thins_dialogues arcs _ _
 thins_left : (t : Transaction) (arcs : List Arc) → Thins arcs (left_arcs t arcs)
 thins_left t arcs = thins_then arcs _ (left_arcs t arcs) (thins_dialogues arcs _ _) (thins_dialogues _ _ _)
 
-thins_played : (d : Digest) (t : Transaction) (w : Passage) (outs : List TxOut) (arcs : List Arc) → Thins arcs (played d t w outs arcs).0
+thins_played : (d : Digest) (t : Transaction) (w : Passage) (asks : Turn) (arcs : List Arc) → Thins arcs (played d t w asks arcs).0
 unfolding played
-thins_played d t Falls_at_once outs arcs = let s = performed arcs outs in thins_then arcs s.0 (completed_arcs d t Outcome.Rollback s.0) (thins_performed arcs outs) (thins_completed d t Outcome.Rollback s.0)
-thins_played d t Commits outs arcs = thins_commit d t outs arcs
-thins_played d t Rolls_back outs arcs = let s = performed arcs outs in thins_then arcs s.0 (completed_arcs d t Outcome.Rollback s.0) (thins_performed arcs outs) (thins_completed d t Outcome.Rollback s.0)
-thins_played d t Leaves outs arcs = let s = performed arcs outs in thins_then arcs s.0 (left_arcs t s.0) (thins_performed arcs outs) (thins_left t s.0)
-thins_played d t _ outs arcs = thins_performed arcs outs
+thins_played d t Falls_at_once asks arcs = let s = performed arcs asks.outs in thins_then arcs s.0 (completed_arcs d t Outcome.Rollback s.0) (thins_performed arcs asks.outs) (thins_completed d t Outcome.Rollback s.0)
+thins_played d t Commits asks arcs = thins_commit d t (around_grants asks) arcs
+thins_played d t Rolls_back asks arcs = let s = performed arcs asks.outs in thins_then arcs s.0 (completed_arcs d t Outcome.Rollback s.0) (thins_performed arcs asks.outs) (thins_completed d t Outcome.Rollback s.0)
+thins_played d t Leaves asks arcs = let s = performed arcs asks.outs in thins_then arcs s.0 (left_arcs t s.0) (thins_performed arcs asks.outs) (thins_left t s.0)
+thins_played d t _ asks arcs = thins_performed arcs asks.outs
 
 -- ---- the steps
 
@@ -238,7 +237,7 @@ thins_turned who f d c =
     let a : Turn = transacted f t in
     let w : Passage = passage (is_leaving f) t.phase a.next.phase in
     let arcs : List Arc = entered t w d.arcs in
-    thins_then d.arcs arcs (played d t w a.outs arcs).0 (thins_entered t w d.arcs) (thins_played d t w a.outs arcs)
+    thins_then d.arcs arcs (played d t w a arcs).0 (thins_entered t w d.arcs) (thins_played d t w a arcs)
 
 pub thins_begins : (who : Who) (q : ℕ) (d : Digest) → Thins d.arcs (begin_on who q d).next.arcs
 thins_begins who q d = begin_cases (λ (m : Move). Thins d.arcs m.next.arcs) who q d (thins_self d.arcs) on

@@ -31,6 +31,7 @@ use Rattle.tp_steps.proofs.links.Told.{told_played}
 use Rattle.tp_steps.proofs.words.Treed.{none_and, no_one, now_left, phase_left, children_seen, children_left, one_branch, begun_some, begins_spoken}
 use Rattle.std.proofs.Math.Nat.{le_refl}
 use Rattle.tp_steps.proofs.lemmas.Options.{some_same}
+use Rattle.tp_steps.proofs.links.Whole.{whole_turn}
 
 -- ---- an event of the transaction
 
@@ -113,8 +114,8 @@ treed_turned who e f d s c fall t p falls_so now at put = record {
   binds = λ l o. bound_in t q a.rec a.next passed.logs;
   commits = λ l n h. committed n (passed.commits (ap is_committing (sym (phases n)) ∙ h)) a.rec refl passed.logs;
   rolling = λ l n h. rolled n (passed.rolling (ap is_rolling (sym (phases n)) ∙ h));
-  tells_commit = λ h. (c, at, passed.tells_commit (sym (told_played is_commit_told d q w a.outs (entered q w d.arcs)) ∙ h));
-  tells_rollback = λ h. (c, at, fallen (passed.tells_rollback (sym (told_played is_rollback_told d q w a.outs (entered q w d.arcs)) ∙ h)));
+  tells_commit = λ h. (c, at, passed.tells_commit (sym (told_played is_commit_told d q w a (whole_turn f q) (entered q w d.arcs)) ∙ h));
+  tells_rollback = λ h. (c, at, fallen (passed.tells_rollback (sym (told_played is_rollback_told d q w a (whole_turn f q) (entered q w d.arcs)) ∙ h)));
 }
   where
     q : Transaction
@@ -134,7 +135,7 @@ treed_turned who e f d s c fall t p falls_so now at put = record {
 
     none : begins_of t (words_to p m.outs) ≡ 0
     none =
-        let agrees : Agrees p (is_live (link_with d.arcs p)) a.outs m.outs (is_live (link_with m.next.arcs p)) = agrees_played d q w a.outs d.arcs p (apart_turn f q put) in
+        let agrees : Agrees p (is_live (link_with d.arcs p)) a.outs m.outs (is_live (link_with m.next.arcs p)) = agrees_played d q w a (whole_turn f q) d.arcs p (apart_turn f q put) in
         ap (begins_of t) agrees.words ∙ begins_spoken t (is_live (link_with d.arcs p)) p a.outs passed.begins
 
     here : is_now t m.next.current ≡ true → is_now t d.current ≡ true

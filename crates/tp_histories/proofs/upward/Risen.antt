@@ -52,6 +52,7 @@ use Rattle.tp_steps.proofs.upward.Rising.{rising_turn}
 use Rattle.tp_steps.proofs.every.BeginCases.{begun_over, begin_cases}
 use Rattle.tp_steps.proofs.lemmas.Options.{some_same}
 use Rattle.tp_steps.proofs.log.Owned.{key_aaid}
+use Rattle.tp_steps.proofs.links.Whole.{whole_turn}
 
 -- ---- moves that say nothing upwards that matters
 
@@ -161,7 +162,7 @@ risen_turned who e f d s c p sup fall shut reads now at asked put gone = go (is_
     m = turned who f d c
 
     agrees : Agrees p (is_live (link_with d.arcs p)) a.outs m.outs (is_live (link_with m.next.arcs p))
-    agrees = agrees_played d t w a.outs d.arcs p (apart_turn f t put)
+    agrees = agrees_played d t w a (whole_turn f t) d.arcs p (apart_turn f t put)
 
     rising : IsRising f t p t a
     rising = rising_turn f t p put
@@ -196,9 +197,9 @@ risen_turned who e f d s c p sup fall shut reads now at asked put gone = go (is_
       rolling = λ h. k.rolling c at h;
       falls = λ h. k.falls c at (reads.falls_so c f d.arcs at asked h);
       leaves = λ h. k.leaves c at (unchanged_asked e c (subst (λ (x : TxEvent). IsAsked e c x) h asked));
-      completes = λ h. k.completes c at (told_played is_complete_none d t w a.outs (entered t w d.arcs) ∙ h);
+      completes = λ h. k.completes c at (told_played is_complete_none d t w a (whole_turn f t) (entered t w d.arcs) ∙ h);
       damages = λ h. k.damages c at (damage_of t a.rec a.next rising.passed.logs h);
-      tells = λ u r h. k.tells c at u r (told_played (is_complete u r) d t w a.outs (entered t w d.arcs) ∙ h);
+      tells = λ u r h. k.tells c at u r (told_played (is_complete u r) d t w a (whole_turn f t) (entered t w d.arcs) ∙ h);
     }
 
     go : (b : Bool) → is_live (link_with d.arcs p) ≡ b → IsRisen e p fall s d m

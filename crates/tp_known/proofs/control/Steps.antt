@@ -1,5 +1,5 @@
 -- Every event that makes no change of its own to the dialogue with a peer changes control on it as its signs tell.
-use Rattle.tp_known.proofs.Vocabulary.{Bool, List, None, Option, Some, [], ap, arith, false, if◌then◌else◌, inl, inr, not, refl, subst, suc, sym, true, ℕ, ◌&&◌, ◌==◌, ◌||◌, ◌∙◌, ◌∷◌, ◌≡◌, ◌≤◌, ◌⊎◌, Addr, Child, is_late, is_nil, is_rolling, is_polarized, Current, Who, Event, Digest, Arc, Branch, Dialogue, Key, Idle, Move, move, followed, perform, seen, Passage, Leaves, passage, is_leaving, entered, played, turned, is_superior, is_arc_of, remaining, phase_of, fresh_current, keep, with_mark_drawn, is_over, restarted, transact, try_start, is_at, has_said, said_to, logs_ready_or_commit, Phase, Transaction, Turn, is_under_at, row_holds, transacted, TxEvent, TxOut, has_branch_at, is_live, is_live_with_peer, with_dialogue, without_arc, link_with, is_unchanged, settled, falls, loses, IsAsked, IsChange, IsLate, IsPut, Moves, gives_to, responds_to, IsLinked, Steps, asks_tell, out_tells, IsHeadedMove, IsPlaced, dead_without, headed_moves, placed_arcs, superior_at, Thins, thins_dialogue, thins_moves, thins_without, thins_entered, carries_none, keeps_without, live_back, said_none, is_rolled_told, staged_turn, kids_left, kids_seen, kin, kin_turn, late_fresh, late_moves, leaves_so, left_branches, left_is, link_dialogue, linked_moves, passed_turn, seen_branch, quiet_start, step_start, settled_spoken, tells_rolled, told_played, nothing_late}
+use Rattle.tp_known.proofs.Vocabulary.{Bool, List, None, Option, Some, [], ap, arith, false, if◌then◌else◌, inl, inr, not, refl, subst, suc, sym, true, ℕ, ◌&&◌, ◌==◌, ◌||◌, ◌∙◌, ◌∷◌, ◌≡◌, ◌≤◌, ◌⊎◌, Addr, Child, is_late, is_nil, is_rolling, is_polarized, Current, Who, Event, Digest, Arc, Branch, Dialogue, Key, Idle, Move, move, followed, perform, seen, Passage, Leaves, passage, is_leaving, entered, played, turned, is_superior, is_arc_of, remaining, phase_of, fresh_current, keep, with_mark_drawn, is_over, restarted, transact, try_start, is_at, has_said, said_to, logs_ready_or_commit, Phase, Transaction, Turn, is_under_at, row_holds, transacted, TxEvent, has_branch_at, is_live, is_live_with_peer, with_dialogue, without_arc, link_with, is_unchanged, settled, falls, loses, IsAsked, IsChange, IsLate, IsPut, Moves, gives_to, responds_to, IsLinked, Steps, asks_tell, out_tells, IsHeadedMove, IsPlaced, dead_without, headed_moves, placed_arcs, superior_at, Thins, thins_dialogue, thins_moves, thins_without, thins_entered, carries_none, keeps_without, live_back, said_none, is_rolled_told, staged_turn, kids_left, kids_seen, kin, kin_turn, late_fresh, late_moves, leaves_so, left_branches, left_is, link_dialogue, linked_moves, passed_turn, seen_branch, quiet_start, step_start, settled_spoken, tells_rolled, told_played, nothing_late, whole_turn}
 use Rattle.tp_known.proofs.control.Moves.{IsWell, Stands, Controls, IsPast, IsBareAt, is_branch_at, stands_moved, stands_quiet, stands_performed, stands_begins, well_then, unsigned, unsigned_settled}
 use Rattle.tp_known.proofs.control.Turned.{Meets, Plays, Over, played_control, entered_control, gift_alien, shift_alien}
 use Rattle.tp_known.proofs.control.Arcs.{Alike, control_at, is_gift, is_ruled, ruled_live, same_dialogue, same_self, same_without}
@@ -31,9 +31,9 @@ compare g c k b above z h1 h2 = grind arith
 late_over : (p q : Phase) → is_over (passage false p q) ≡ true → clears (passage false p q) ≡ false → is_late p ≡ true
 late_over p q h1 h2 = grind arith
 
-ungiven : (p : ℕ) (d : Digest) (t : Transaction) (w : Passage) (outs : List TxOut) (xs : List Arc) → is_over w ≡ false → carries_none is_gift outs ≡ true → has_said is_gift (said_to p (played d t w outs xs).1) ≡ false
+ungiven : (p : ℕ) (d : Digest) (t : Transaction) (w : Passage) (asks : Turn) (xs : List Arc) → is_over w ≡ false → carries_none is_gift asks.outs ≡ true → has_said is_gift (said_to p (played d t w asks xs).1) ≡ false
 unfolding played
-ungiven p d t w outs xs h1 h2 = grind (arith, said_none)
+ungiven p d t w asks xs h1 h2 = grind (arith, said_none)
 
 abbrev child_at : List Child → ℕ → Bool
 child_at [] p = false
@@ -99,13 +99,13 @@ stands_turned up p branch fall old s who e d c f given now at asked put link wel
     gifts = none_narrow is_gift gift_alien a.outs alien
 
     uns : Unshifted (said_to p m.outs)
-    uns = unshifted (said_to p m.outs) (said_played is_shift refl d t w a.outs xs p (none_narrow is_shift shift_alien a.outs alien))
+    uns = unshifted (said_to p m.outs) (said_played is_shift refl d t w a (whole_turn f t) xs p (none_narrow is_shift shift_alien a.outs alien))
 
     told_over : out_tells is_over_told m.outs ≡ asks_tell is_over_told a.outs
-    told_over = told_played is_over_told d t w a.outs xs
+    told_over = told_played is_over_told d t w a (whole_turn f t) xs
 
     told_rolled : tells_rolled m ≡ asks_tell is_rolled_told a.outs
-    told_rolled = told_played is_rolled_told d t w a.outs xs
+    told_rolled = told_played is_rolled_told d t w a (whole_turn f t) xs
 
     rolling : is_rolling (phase_of m.next) ≡ is_rolling a.next.phase
     rolling = rolling_left a.next
@@ -148,7 +148,7 @@ stands_turned up p branch fall old s who e d c f given now at asked put link wel
 
     both : (h : is_ruled p m.next.arcs ≡ true) → Plays p above branch w xs m.next.arcs m.outs × (is_ruled p d.arcs ≡ true) × (control_at p xs ≡ (if clears w && branch then (false, false) else control_at p d.arcs))
     both h =
-        let k : Plays p above branch w xs m.next.arcs m.outs = played_control p above branch d t w a.outs xs never (meets (live_back p d m link (ruled_live p m.next.arcs h))) ((thins_entered t w d.arcs).apart well.0) gifts h in
+        let k : Plays p above branch w xs m.next.arcs m.outs = played_control p above branch d t w a (whole_turn f t) xs never (meets (live_back p d m link (ruled_live p m.next.arcs h))) ((thins_entered t w d.arcs).apart well.0) gifts h in
         let l = entered_control p branch t w d.arcs all k.ruled in
         (k, l.0, l.1)
 
@@ -195,7 +195,7 @@ stands_turned up p branch fall old s who e d c f given now at asked put link wel
         branch_kin u.branches p ∙ ap (λ (cs : List Child). child_at cs p) same ∙ sym (branch_kin c.branches p) ∙ st.bare top c now (live_back p d m link live)
 
     calm : remaining a.next ≡ Some c → signs p m ≡ no_signs
-    calm is = rw (uns.begun, ungiven p d t w a.outs xs unended gifts, told_is ∙ unended, none_rolled (tells_rolled m) refl, none_logged (logs_ready_or_commit a.rec) refl, uns.left, uns.answered) refl
+    calm is = rw (uns.begun, ungiven p d t w a xs unended gifts, told_is ∙ unended, none_rolled (tells_rolled m) refl, none_logged (logs_ready_or_commit a.rec) refl, uns.left, uns.answered) refl
       where
         left : (c.phase ≡ a.next.phase) × (is_nil a.next.phase ≡ false)
         left = let l = left_is a.next c is in (l.1, l.3)

@@ -1,5 +1,5 @@
 -- An event of the transaction changes control on the arc with a peer as its signs tell.
-use Rattle.tp_known.proofs.Vocabulary.{Bool, List, None, Option, Some, ap, false, if◌then◌else◌, not, refl, subst, sym, true, ℕ, ◌&&◌, ◌++◌, ◌||◌, ◌∙◌, ◌≡◌, or-false, Outcome, DialogueRecord, is_polarized, gives_control, without_control, cleared, completed, said, Ask_grant, Due, No_response, Arc, Dialogue, Digest, Out, Passage, Stays, Enters, Falls, Falls_at_once, Commits, Rolls_back, Leaves, entered, played, without_deferral, completed_arcs, committed_arcs, committed_dialogue, grants, split_at_completion, is_superior, side_at, is_arc_of, is_arc_below, is_granting, is_over, has_said, said_to, Side, Transaction, is_under_at, row_holds, TxOut, find_arc, performed, with_dialogues, are_separate, and_left, and_right, carries_none, said_both, split_none, said_none, find_arc_is, thins_performed}
+use Rattle.tp_known.proofs.Vocabulary.{Bool, List, None, Option, Some, ap, false, if◌then◌else◌, not, refl, subst, sym, true, ℕ, ◌&&◌, ◌++◌, ◌||◌, ◌∙◌, ◌≡◌, or-false, Outcome, DialogueRecord, is_polarized, gives_control, without_control, cleared, completed, said, Ask_grant, Due, No_response, Arc, Dialogue, Digest, Out, Passage, Stays, Enters, Falls, Falls_at_once, Commits, Rolls_back, Leaves, entered, played, without_deferral, completed_arcs, committed_arcs, committed_dialogue, grants, is_superior, side_at, is_arc_of, is_arc_below, is_granting, is_over, has_said, said_to, Side, Transaction, is_under_at, row_holds, TxOut, find_arc, performed, with_dialogues, are_separate, and_left, and_right, carries_none, said_both, said_none, find_arc_is, thins_performed, around_grants, parts_none, Turn, IsWhole}
 use Rattle.tp_known.proofs.control.Arcs.{control_at, control_from, control_of, dialogues_get, granting_at, grants_say, is_gift, is_ruled, ruled_live, same_dialogues, same_performed}
 use Rattle.tp_known.proofs.rests.Foreign.{is_foreign}
 use Rattle.tp_known.proofs.passages.Shown.{clears}
@@ -128,23 +128,23 @@ plays_back p above branch w d t xs outs on meets none h =
     let no : has_said is_gift (said_to p (performed xs outs).1) ≡ false = said_none is_gift p xs outs none in
     record { ruled = one.0; control = two.1 ∙ ap (Over above branch false) one.1 ∙ rw (on, no) refl; gift = λ i. absurd (cc (i, no)) }
 
-pub played_control : (p : ℕ) (above branch : Bool) (d : Digest) (t : Transaction) (w : Passage) (outs : List TxOut) (xs : List Arc) → (w ≡ Leaves → ⊥) → Meets p above branch d t → are_separate xs ≡ true → carries_none is_gift outs ≡ true
-    → is_ruled p (played d t w outs xs).0 ≡ true → Plays p above branch w xs (played d t w outs xs).0 (played d t w outs xs).1
+pub played_control : (p : ℕ) (above branch : Bool) (d : Digest) (t : Transaction) (w : Passage) (asks : Turn) → IsWhole asks → (xs : List Arc) → (w ≡ Leaves → ⊥) → Meets p above branch d t → are_separate xs ≡ true → carries_none is_gift asks.outs ≡ true
+    → is_ruled p (played d t w asks xs).0 ≡ true → Plays p above branch w xs (played d t w asks xs).0 (played d t w asks xs).1
 unfolding played
-played_control p above branch d t Stays outs xs other meets apart none h = plays_still p above branch Stays xs outs refl none h
-played_control p above branch d t Enters outs xs other meets apart none h = plays_still p above branch Enters xs outs refl none h
-played_control p above branch d t Falls outs xs other meets apart none h = plays_still p above branch Falls xs outs refl none h
-played_control p above branch d t Falls_at_once outs xs other meets apart none h = plays_back p above branch Falls_at_once d t xs outs refl meets none h
-played_control p above branch d t Rolls_back outs xs other meets apart none h = plays_back p above branch Rolls_back d t xs outs refl meets none h
-played_control p above branch d t Leaves outs xs other meets apart none h = absurd (other refl)
-played_control p above branch d t Commits outs xs other meets apart none h =
+played_control p above branch d t Stays asks whole xs other meets apart none h = plays_still p above branch Stays xs asks.outs refl none h
+played_control p above branch d t Enters asks whole xs other meets apart none h = plays_still p above branch Enters xs asks.outs refl none h
+played_control p above branch d t Falls asks whole xs other meets apart none h = plays_still p above branch Falls xs asks.outs refl none h
+played_control p above branch d t Falls_at_once asks whole xs other meets apart none h = plays_back p above branch Falls_at_once d t xs asks.outs refl meets none h
+played_control p above branch d t Rolls_back asks whole xs other meets apart none h = plays_back p above branch Rolls_back d t xs asks.outs refl meets none h
+played_control p above branch d t Leaves asks whole xs other meets apart none h = absurd (other refl)
+played_control p above branch d t Commits asks whole xs other meets apart none h =
     record { ruled = one.0; control = three.1 ∙ two.1 ∙ mid.1 ∙ rw (one.1, sym gifts) refl; gift = λ i. needed (sym gifts ∙ i) }
   where
     s : List TxOut × List TxOut
-    s = split_at_completion outs
+    s = around_grants asks
 
     parts : (carries_none is_gift s.0 && carries_none is_gift s.1) ≡ true
-    parts = split_none is_gift outs none
+    parts = parts_none is_gift s (ap (carries_none is_gift) whole ∙ none)
 
     first : List Arc × List Out
     first = performed xs s.0

@@ -623,7 +623,7 @@ unfolding entered played leave
 left_turned who d c act =
     let t : Transaction = seen who d.arcs c in
     let is : passage true c.phase Phase.Nil ≡ Leaves = ap (λ (p : Phase). passage true p Phase.Nil) (active_is c.phase act) in
-    (ap (λ (w : Passage). (played d t w (leave t).outs (entered t w d.arcs)).0) is, ap (λ (w : Passage). (played d t w (leave t).outs (entered t w d.arcs)).1) is, is)
+    (ap (λ (w : Passage). (played d t w (leave t) (entered t w d.arcs)).0) is, ap (λ (w : Passage). (played d t w (leave t) (entered t w d.arcs)).1) is, is)
 
 -- who may leave: the user of an active transaction with a superior
 pub may_leave : (who : Who) (d : Digest) → IsLate d → refused_request who d Request.Unchanged ≡ None → (c : Current) × (d.current ≡ Some c) × (is_active c.phase ≡ true) × (is_under c.key ≡ true)

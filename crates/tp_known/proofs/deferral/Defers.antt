@@ -1,5 +1,5 @@
 -- What becomes in an event of what is deferred on a live arc, and what the event says there: instances of the steps of a node.
-use Rattle.tp_known.proofs.Vocabulary.{if◌then◌else◌, ◌≡◌, ◌⊎◌, inl, inr, ℕ, Bool, true, false, refl, ap, sym, subst, ◌∙◌, arith, Option, Some, None, List, [], ◌∷◌, ◌++◌, ◌&&◌, ◌||◌, ◌==◌, not, or-true, nat_tests, Outcome, has_bit, Indication, DialogueRecord, Holder, PeerRecord, Phase, Side, Deferral, TxEvent, TxOut, Kept, KeptEvent, Who, Event, Out, Dialogue, Arc, Current, Digest, is_live, is_rolling, Asked, Ask_end, Ask_defer_end, Ask_defer_grant, Heard, Hear_end, Hear_defer_end, Hear_defer_grant, said, heard, begun_by, cleared, woken, completed, named_holder, find_arc, is_live_with_peer, without_arc, with_dialogue, with_dialogues, carried, performed, Transaction, Turn, is_under_at, row_holds, transacted, has_branch_at, settled, Move, move, followed, perform, phase_of, seen, begin_on, is_leaving, Passage, Stays, Enters, Falls, Falls_at_once, Commits, Rolls_back, Leaves, side_at, passage, entered, played, without_deferral, is_arc_of, committed_dialogue, committed_arcs, grants, split_at_completion, turned, keep, said_to, has_said, is_begin, is_defer_end_record, is_defer_grant_record, is_unchanged, falls, is_outcome_told, IsPut, IsAsked, IsChange, By_waking, By_saying, By_hearing, By_beginning, By_leaving, begun_by_record, is_spoken, are_spoken, closes_at, is_said, are_said, Moves, is_deferring, is_deferred_by, puts_off_at, first_begin, asks_tell, out_tells, IsLinked, part_at, Keeps, keeps_self, keeps_then, part_dialogue, part_none, part_same, keeps_dialogues, keeps_without, keeps_performed, said_both, carries_none, said_carried, said_none, live_back, seen_branch, find_arc_is, leaves_so, first_performed, first_played, spoken_none, apart_spoken, apart_turn, passed_turn, phase_at, settled_spoken, link_dialogue, link_dialogues, linked_moves, row_phase, is_rolled_told, told_append, told_performed, told_played, and_right}
+use Rattle.tp_known.proofs.Vocabulary.{if◌then◌else◌, ◌≡◌, ◌⊎◌, inl, inr, ℕ, Bool, true, false, refl, ap, sym, subst, ◌∙◌, arith, Option, Some, None, List, [], ◌∷◌, ◌++◌, ◌&&◌, ◌||◌, ◌==◌, not, or-true, nat_tests, Outcome, has_bit, Indication, DialogueRecord, Holder, PeerRecord, Phase, Side, Deferral, TxEvent, TxOut, Kept, KeptEvent, Who, Event, Out, Dialogue, Arc, Current, Digest, is_live, is_rolling, Asked, Ask_end, Ask_defer_end, Ask_defer_grant, Heard, Hear_end, Hear_defer_end, Hear_defer_grant, said, heard, begun_by, cleared, woken, completed, named_holder, find_arc, is_live_with_peer, without_arc, with_dialogue, with_dialogues, carried, performed, Transaction, Turn, is_under_at, row_holds, transacted, has_branch_at, settled, Move, move, followed, perform, phase_of, seen, begin_on, is_leaving, Passage, Stays, Enters, Falls, Falls_at_once, Commits, Rolls_back, Leaves, side_at, passage, entered, played, without_deferral, is_arc_of, committed_dialogue, committed_arcs, grants, turned, keep, said_to, has_said, is_begin, is_defer_end_record, is_defer_grant_record, is_unchanged, falls, is_outcome_told, IsPut, IsAsked, IsChange, By_waking, By_saying, By_hearing, By_beginning, By_leaving, begun_by_record, is_spoken, are_spoken, closes_at, is_said, are_said, Moves, is_deferring, is_deferred_by, puts_off_at, first_begin, asks_tell, out_tells, IsLinked, part_at, Keeps, keeps_self, keeps_then, part_dialogue, part_none, part_same, keeps_dialogues, keeps_without, keeps_performed, said_both, carries_none, said_carried, said_none, live_back, seen_branch, find_arc_is, leaves_so, first_performed, first_played, spoken_none, apart_spoken, apart_turn, passed_turn, phase_at, settled_spoken, link_dialogue, link_dialogues, linked_moves, row_phase, is_rolled_told, told_append, told_performed, told_played, and_right, around_grants, whole_turn}
 use Rattle.tp_known.proofs.deferral.Silent.{defer_peer, silent_turned, still_turned}
 use Rattle.tp_known.proofs.passages.Passage.{is_committed_told, drops, ends, IsPassage, passage_turn}
 use Rattle.tp_known.proofs.lemmas.Begins.{begun_child, begin_word, begin_arcs, sent_begin, begins_so}
@@ -95,37 +95,37 @@ twice : (b x : Bool) → (not b && (not b && x)) ≡ (not (b && true) && x)
 twice true x = refl
 twice false x = refl
 
-turned_arcs : (k : Deferral → Bool) → k Deferral.None ≡ false → (p : ℕ) (d : Digest) (t : Transaction) (w : Passage) (outs : List TxOut) (arcs : List Arc) (b : Bool) → ((a : Arc) → a.peer.node ≡ p → is_arc_of t a ≡ b) → (w ≡ Leaves → ⊥)
-    → is_live_with_peer (played d t w outs (entered t w arcs)).0 p ≡ true → IsTurned k p b w arcs (played d t w outs (entered t w arcs)).0
+turned_arcs : (k : Deferral → Bool) → k Deferral.None ≡ false → (p : ℕ) (d : Digest) (t : Transaction) (w : Passage) (asks : Turn) (arcs : List Arc) (b : Bool) → ((a : Arc) → a.peer.node ≡ p → is_arc_of t a ≡ b) → (w ≡ Leaves → ⊥)
+    → is_live_with_peer (played d t w asks (entered t w arcs)).0 p ≡ true → IsTurned k p b w arcs (played d t w asks (entered t w arcs)).0
 unfolding entered played
-turned_arcs k none p d t Stays outs arcs b all other live =
-    let u = keeps_performed loose p arcs outs live in
-    let v = keeps_performed (put k) p arcs outs live in
+turned_arcs k none p d t Stays asks arcs b all other live =
+    let u = keeps_performed loose p arcs asks.outs live in
+    let v = keeps_performed (put k) p arcs asks.outs live in
     record { live = u.0; units = u.1; deferral = v.1 ∙ not_off b (part_at (put k) p arcs) }
-turned_arcs k none p d t Enters outs arcs b all other live =
+turned_arcs k none p d t Enters asks arcs b all other live =
     let xs : List Arc = with_dialogues arcs (is_arc_of t) (λ a. cleared a.dialogue) in
-    let u = keeps_then loose p arcs xs (performed xs outs).0 (keeps_dialogues loose p arcs (is_arc_of t) (λ a. cleared a.dialogue) (λ a at is. loose_cleared a.dialogue)) (keeps_performed loose p xs outs) live in
-    let v = keeps_then (put k) p arcs xs (performed xs outs).0 (keeps_dialogues (put k) p arcs (is_arc_of t) (λ a. cleared a.dialogue) (λ a at is. put_cleared k a.dialogue)) (keeps_performed (put k) p xs outs) live in
+    let u = keeps_then loose p arcs xs (performed xs asks.outs).0 (keeps_dialogues loose p arcs (is_arc_of t) (λ a. cleared a.dialogue) (λ a at is. loose_cleared a.dialogue)) (keeps_performed loose p xs asks.outs) live in
+    let v = keeps_then (put k) p arcs xs (performed xs asks.outs).0 (keeps_dialogues (put k) p arcs (is_arc_of t) (λ a. cleared a.dialogue) (λ a at is. put_cleared k a.dialogue)) (keeps_performed (put k) p xs asks.outs) live in
     record { live = u.0; units = u.1; deferral = v.1 ∙ not_off b (part_at (put k) p arcs) }
-turned_arcs k none p d t Falls outs arcs b all other live =
+turned_arcs k none p d t Falls asks arcs b all other live =
     let xs : List Arc = with_dialogues arcs (is_arc_of t) (λ a. without_deferral (cleared a.dialogue)) in
-    let u = keeps_then loose p arcs xs (performed xs outs).0 (keeps_dialogues loose p arcs (is_arc_of t) (λ a. without_deferral (cleared a.dialogue)) (λ a at is. loose_cleared a.dialogue)) (keeps_performed loose p xs outs) live in
-    let v = keeps_performed (put k) p xs outs live in
+    let u = keeps_then loose p arcs xs (performed xs asks.outs).0 (keeps_dialogues loose p arcs (is_arc_of t) (λ a. without_deferral (cleared a.dialogue)) (λ a at is. loose_cleared a.dialogue)) (keeps_performed loose p xs asks.outs) live in
+    let v = keeps_performed (put k) p xs asks.outs live in
     record { live = u.0; units = u.1; deferral = v.1 ∙ dropped_part k p arcs (is_arc_of t) (λ a. without_deferral (cleared a.dialogue)) b all (λ a. none) ∙ not_on b (part_at (put k) p arcs) }
-turned_arcs k none p d t Falls_at_once outs arcs b all other live =
+turned_arcs k none p d t Falls_at_once asks arcs b all other live =
     let xs : List Arc = with_dialogues arcs (is_arc_of t) (λ a. without_deferral (cleared a.dialogue)) in
-    let ys : List Arc = (performed xs outs).0 in
+    let ys : List Arc = (performed xs asks.outs).0 in
     let up : is_live_with_peer ys p ≡ true = ap is_live (sym (link_dialogues ys _ _ p)) ∙ live in
-    let u = keeps_then loose p arcs xs ys (keeps_dialogues loose p arcs (is_arc_of t) (λ a. without_deferral (cleared a.dialogue)) (λ a at is. loose_cleared a.dialogue)) (keeps_performed loose p xs outs) up in
+    let u = keeps_then loose p arcs xs ys (keeps_dialogues loose p arcs (is_arc_of t) (λ a. without_deferral (cleared a.dialogue)) (λ a at is. loose_cleared a.dialogue)) (keeps_performed loose p xs asks.outs) up in
     let w = keeps_dialogues loose p ys (is_arc_of t) (λ a. completed Outcome.Rollback (side_at d a.peer.node) a.dialogue) (λ a at is. loose_completed Outcome.Rollback _ a.dialogue) live in
-    let v = keeps_performed (put k) p xs outs up in
+    let v = keeps_performed (put k) p xs asks.outs up in
     record {
       live = u.0;
       units = w.1 ∙ u.1;
       deferral = dropped_part k p ys (is_arc_of t) _ b all (λ a. put_completed k none _ a.dialogue) ∙ ap (λ (x : Bool). not b && x) (v.1 ∙ dropped_part k p arcs (is_arc_of t) (λ a. without_deferral (cleared a.dialogue)) b all (λ a. none)) ∙ twice b (part_at (put k) p arcs);
     }
-turned_arcs k none p d t Commits outs arcs b all other live =
-    let s = split_at_completion outs in
+turned_arcs k none p d t Commits asks arcs b all other live =
+    let s = around_grants asks in
     let one : List Arc = (performed arcs s.0).0 in
     let mid : List Arc = committed_arcs d t one in
     let two : List Arc = (performed mid (grants t one)).0 in
@@ -148,18 +148,18 @@ turned_arcs k none p d t Commits outs arcs b all other live =
   where
     both_same : (x y z w : Bool) → x ≡ y → z ≡ w → (not (b && x) && z) ≡ (not (b && y) && w)
     both_same x y z w i j = rw (i, j) refl
-turned_arcs k none p d t Rolls_back outs arcs b all other live =
-    let ys : List Arc = (performed arcs outs).0 in
+turned_arcs k none p d t Rolls_back asks arcs b all other live =
+    let ys : List Arc = (performed arcs asks.outs).0 in
     let up : is_live_with_peer ys p ≡ true = ap is_live (sym (link_dialogues ys _ _ p)) ∙ live in
-    let u = keeps_performed loose p arcs outs up in
+    let u = keeps_performed loose p arcs asks.outs up in
     let w = keeps_dialogues loose p ys (is_arc_of t) (λ a. completed Outcome.Rollback (side_at d a.peer.node) a.dialogue) (λ a at is. loose_completed Outcome.Rollback _ a.dialogue) live in
-    let v = keeps_performed (put k) p arcs outs up in
+    let v = keeps_performed (put k) p arcs asks.outs up in
     record {
       live = u.0;
       units = w.1 ∙ u.1;
       deferral = dropped_part k p ys (is_arc_of t) _ b all (λ a. put_completed k none _ a.dialogue) ∙ ap (λ (x : Bool). not b && x) v.1 ∙ not_on b (part_at (put k) p arcs);
     }
-turned_arcs k none p d t Leaves outs arcs b all other live = absurd (other refl)
+turned_arcs k none p d t Leaves asks arcs b all other live = absurd (other refl)
 
 -- ---- from d on to what a move makes of it; `branch`: the arc is a branch at first; `fall`: the event rolls
 
@@ -278,7 +278,7 @@ plain_turned k none who p branch fall e s d c f given now at asked fits off live
   live = moved.live;
   units = moved.units;
   kept = kept (branch && (drops w || (ends w && part_at loose p d.arcs))) refl;
-  begun = λ h. absurd (let no : said_begin p m.outs ≡ false = unbegun p m.outs (first_played d t w a.outs (entered t w d.arcs) (passed_turn f t fits).begins (apart_turn f t fits)) in cc (h, no));
+  begun = λ h. absurd (let no : said_begin p m.outs ≡ false = unbegun p m.outs (first_played d t w a (whole_turn f t) (entered t w d.arcs) (passed_turn f t fits).begins (apart_turn f t fits)) in cc (h, no));
   unrolled = λ b h. down (let one : drops w ≡ true = way.told (sym rb ∙ h) in rw (b, one) refl);
   committed = λ b h u. down (let one : ends w ≡ true = way.ended ∙ sym cm ∙ h in rw (b, one, u) (or-true (drops w)));
   rolled = λ b flat on. down (let one : drops w ≡ true = way.rolled (sym (ap is_rolling (phase_at d c now)) ∙ flat) (sym (rolling_left a.next) ∙ on) in rw (b, one) refl);
@@ -300,16 +300,16 @@ plain_turned k none who p branch fall e s d c f given now at asked fits off live
     way = passage_turn f t off fits
 
     rb : told_rolled m.outs ≡ asks_tell is_rolled_told a.outs
-    rb = told_played is_rolled_told d t w a.outs (entered t w d.arcs)
+    rb = told_played is_rolled_told d t w a (whole_turn f t) (entered t w d.arcs)
 
     cm : told_committed m.outs ≡ asks_tell is_committed_told a.outs
-    cm = told_played is_committed_told d t w a.outs (entered t w d.arcs)
+    cm = told_played is_committed_told d t w a (whole_turn f t) (entered t w d.arcs)
 
     all : (x : Arc) → x.peer.node ≡ p → is_arc_of t x ≡ branch
     all x i = ap (λ (n : ℕ). is_under_at c.key n || row_holds t.rows n (λ b. true)) i ∙ ap (λ (v : Bool). is_under_at c.key p || v) (seen_branch d.arcs c.branches p) ∙ given.is_branch c at
 
     moved : IsTurned k p branch w d.arcs m.next.arcs
-    moved = turned_arcs k none p d t w a.outs d.arcs branch all way.left live
+    moved = turned_arcs k none p d t w a d.arcs branch all way.left live
 
     down : (branch && (drops w || (ends w && part_at loose p d.arcs))) ≡ true → part_at (put k) p m.next.arcs ≡ false
     down h = moved.deferral ∙ rw h refl

@@ -1,5 +1,5 @@
 -- Records that no turn says but where its user leaves, or defers something.
-use Rattle.tp_known.proofs.Vocabulary.{◌≡◌, ℕ, Bool, false, ap, ◌∙◌, arith, Option, Some, None, List, [], Request, DialogueRecord, Phase, TxEvent, TxOut, Who, Current, Digest, performed, Transaction, Turn, transacted, Move, move, passed, restarted, transact, turned, seen, is_leaving, Passage, Stays, passage, entered, played, said_to, has_said, IsPut}
+use Rattle.tp_known.proofs.Vocabulary.{◌≡◌, ℕ, Bool, false, ap, ◌∙◌, arith, Option, Some, None, List, [], Request, DialogueRecord, Phase, TxEvent, TxOut, Who, Current, Digest, performed, Transaction, Turn, transacted, Move, move, passed, restarted, transact, turned, seen, is_leaving, Passage, Stays, passage, entered, played, said_to, has_said, IsPut, whole_turn}
 use Rattle.tp_known.proofs.lemmas.Rare.{IsRare, silent_turn}
 use Rattle.tp_known.proofs.rests.Foreign.{said_played}
 
@@ -15,7 +15,7 @@ silent_turned g rare grant who f d c p off plain put =
     let t : Transaction = seen who d.arcs c in
     let a : Turn = transacted f t in
     let w : Passage = passage (is_leaving f) t.phase a.next.phase in
-    said_played g grant d t w a.outs (entered t w d.arcs) p (silent_turn g rare f t off (λ q is. absurd (cc (ap defer_peer is, plain))) (λ q is. absurd (cc (ap defer_peer is, plain))) put)
+    said_played g grant d t w a (whole_turn f t) (entered t w d.arcs) p (silent_turn g rare f t off (λ q is. absurd (cc (ap defer_peer is, plain))) (λ q is. absurd (cc (ap defer_peer is, plain))) put)
 
 -- ---- turns that change no phase
 
@@ -29,7 +29,7 @@ still_turned who f d c same =
     let t : Transaction = seen who d.arcs c in
     let a : Turn = transacted f t in
     let is : passage (is_leaving f) c.phase a.next.phase ≡ Stays = stays_same (is_leaving f) c.phase a.next.phase same in
-    (ap (λ (w : Passage). (played d t w a.outs (entered t w d.arcs)).0) is, ap (λ (w : Passage). (played d t w a.outs (entered t w d.arcs)).1) is)
+    (ap (λ (w : Passage). (played d t w a (entered t w d.arcs)).0) is, ap (λ (w : Passage). (played d t w a (entered t w d.arcs)).1) is)
 
 pub still_transact : (who : Who) (f : TxEvent) (d : Digest) (c : Current) → d.current ≡ Some c → (transacted f (seen who d.arcs c)).next.phase ≡ c.phase
     → ((transact who f d).next.arcs ≡ (performed d.arcs (transacted f (seen who d.arcs c)).outs).0) × ((transact who f d).outs ≡ (performed d.arcs (transacted f (seen who d.arcs c)).outs).1)

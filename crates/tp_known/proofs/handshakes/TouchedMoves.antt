@@ -1,5 +1,5 @@
 -- What every step of a node makes of the dialogue with one peer, by what it logs and says: an instance of the steps of a node.
-use Rattle.tp_known.proofs.Vocabulary.{if◌then◌else◌, ◌≡◌, ◌⊎◌, inl, inr, ℕ, Bool, true, false, refl, ap, sym, subst, ◌∙◌, arith, Option, Some, None, List, [], ◌∷◌, ◌++◌, ◌&&◌, ◌||◌, ◌==◌, not, or-true, and_parts, or_parts, or_right, nat_tests, Aaid, BranchId, Addr, Outcome, Request, Indication, DialogueRecord, Holder, Phase, Side, TxEvent, TxOut, Who, Event, Out, Dialogue, Arc, Key, Root, Under, Current, Digest, is_live, is_nil, is_active, is_rolling, is_unchained, is_grant_deferred, begun_by, named_holder, is_live_with_peer, without_arc, with_dialogue, carried, performed, find_arc, Transaction, Turn, is_under_at, row_holds, leave, transacted, has_branch_at, settled, is_end_deferred_at, Move, move, followed, perform, is_superior, seen, seen_rows, phase_of, begin_on, is_leaving, Passage, Stays, Leaves, passage, is_over, is_arc_of, is_granting, entered, played, left_arcs, turned, keep, may_begin_on, said_to, has_said, is_begin, is_left_record, is_grant_record, logs_ready_or_commit, is_left_end, is_unchanged, falls, asks_tell, out_tells, IsLinked, IsPut, IsAsked, are_spoken, is_said, is_word, grants_to, hands_to, shakes_with, responds_to, Moves, part_at, part_same, keeps_performed, said_both, carries_none, said_carried, said_none, live_back, step_turn, seen_branch, leaves_so, tells_rolled, settled_spoken, linked_moves, link_left, passed_turn, is_rolled_told, staged_turn, told_append, told_performed, told_played, find_arc_is}
+use Rattle.tp_known.proofs.Vocabulary.{if◌then◌else◌, ◌≡◌, ◌⊎◌, inl, inr, ℕ, Bool, true, false, refl, ap, sym, subst, ◌∙◌, arith, Option, Some, None, List, [], ◌∷◌, ◌++◌, ◌&&◌, ◌||◌, ◌==◌, not, or-true, and_parts, or_parts, or_right, nat_tests, Aaid, BranchId, Addr, Outcome, Request, Indication, DialogueRecord, Holder, Phase, Side, TxEvent, TxOut, Who, Event, Out, Dialogue, Arc, Key, Root, Under, Current, Digest, is_live, is_nil, is_active, is_rolling, is_unchained, is_grant_deferred, begun_by, named_holder, is_live_with_peer, without_arc, with_dialogue, carried, performed, find_arc, Transaction, Turn, is_under_at, row_holds, leave, transacted, has_branch_at, settled, is_end_deferred_at, Move, move, followed, perform, is_superior, seen, seen_rows, phase_of, begin_on, is_leaving, Passage, Stays, Leaves, passage, is_over, is_arc_of, is_granting, entered, played, left_arcs, turned, keep, may_begin_on, said_to, has_said, is_begin, is_left_record, is_grant_record, logs_ready_or_commit, is_left_end, is_unchanged, falls, asks_tell, out_tells, IsLinked, IsPut, IsAsked, are_spoken, is_said, is_word, grants_to, hands_to, shakes_with, responds_to, Moves, part_at, part_same, keeps_performed, said_both, carries_none, said_carried, said_none, live_back, step_turn, seen_branch, leaves_so, tells_rolled, settled_spoken, linked_moves, link_left, passed_turn, is_rolled_told, staged_turn, told_append, told_performed, told_played, find_arc_is, whole_turn}
 use Rattle.tp_model.specs.AmongArcs.{is_peer}
 use Rattle.tp_known.proofs.rests.Foreign.{is_foreign, IsForeign, none_narrow, foreign_turn, foreign_settled, said_played, granted_played, ungranted_played, said_none_to}
 use Rattle.tp_known.proofs.orders.OverTold.{is_over_told, over_turn}
@@ -359,19 +359,19 @@ passing_marks : (w : Passage) → (some_touch is_ending (passing_by w) ≡ false
 passing_marks Stays = (refl, refl, refl)
 passing_marks _ = (refl, refl, refl)
 
-ending_passage : (d : Digest) (t : Transaction) (p : ℕ) (w : Passage) (outs : List TxOut) (arcs : List Arc) → (w ≡ Leaves → ⊥) → some_touch is_ending (ending_by d t p w outs arcs) ≡ is_over w
-ending_passage d t p Leaves outs arcs other = absurd (other refl)
-ending_passage d t p _ outs arcs other = refl
+ending_passage : (d : Digest) (t : Transaction) (p : ℕ) (w : Passage) (asks : Turn) (arcs : List Arc) → (w ≡ Leaves → ⊥) → some_touch is_ending (ending_by d t p w asks arcs) ≡ is_over w
+ending_passage d t p Leaves asks arcs other = absurd (other refl)
+ending_passage d t p _ asks arcs other = refl
 
-ending_marks : (d : Digest) (t : Transaction) (p : ℕ) (w : Passage) (outs : List TxOut) (arcs : List Arc) → (some_touch is_passing (ending_by d t p w outs arcs) ≡ false) × (some_touch is_resting (ending_by d t p w outs arcs) ≡ false) × (some_touch is_beginning (ending_by d t p w outs arcs) ≡ false)
-ending_marks d t p Stays outs arcs = (refl, refl, refl)
-ending_marks d t p _ outs arcs = (refl, refl, refl)
+ending_marks : (d : Digest) (t : Transaction) (p : ℕ) (w : Passage) (asks : Turn) (arcs : List Arc) → (some_touch is_passing (ending_by d t p w asks arcs) ≡ false) × (some_touch is_resting (ending_by d t p w asks arcs) ≡ false) × (some_touch is_beginning (ending_by d t p w asks arcs) ≡ false)
+ending_marks d t p Stays asks arcs = (refl, refl, refl)
+ending_marks d t p _ asks arcs = (refl, refl, refl)
 
 passing_fits : (e : Event) (p : ℕ) (up b : Bool) (w : Passage) → FitTouches e p up (when b (passing_by w))
 passing_fits e p up b w = grind arith
 
-ending_fits : (e : Event) (p : ℕ) (up b : Bool) (d : Digest) (t : Transaction) (w : Passage) (outs : List TxOut) (arcs : List Arc) → is_superior d p ≡ up → FitTouches e p up (when b (ending_by d t p w outs arcs))
-ending_fits e p up b d t w outs arcs is = grind arith
+ending_fits : (e : Event) (p : ℕ) (up b : Bool) (d : Digest) (t : Transaction) (w : Passage) (asks : Turn) (arcs : List Arc) → is_superior d p ≡ up → FitTouches e p up (when b (ending_by d t p w asks arcs))
+ending_fits e p up b d t w asks arcs is = grind arith
 
 foreign_left : IsForeign is_left_record
 foreign_left DialogueRecord.Left h = absurd (cc (h))
@@ -398,17 +398,17 @@ plain_turned who p branch fall up e s d c f given at branch_is side asked put of
   touches = ts ++ us;
   live = made.0;
   made = made.1;
-  fits = fit_more e p up ts us (passing_fits e p up branch w) (ending_fits e p up branch d t w a.outs xs side);
+  fits = fit_more e p up ts us (passing_fits e p up branch w) (ending_fits e p up branch d t w a xs side);
   passing = λ h. let k = and_parts branch (clears w) (sym passes ∙ h) in cause k.0 (why k.1 (step_turn f t (IsShown f t) (shown_turns f t) put (clears_early t.phase a.next.phase (plain k.1)).0));
   logged = λ b l. passes ∙ rw (b, clear (logs_clear t a.next a.rec l (passed_turn f t put).logs)) refl;
   rolled = λ b fa nr h. passes ∙ rw (b, clear (clears_down c.phase a.next.phase (given.early fa c at) (ends (is_rolling (phase_of m.next)) (tells_rolled m) h (λ i. sym (rolling_left a.next) ∙ i) (λ i. (staged_turn f t put).ended (sym told ∙ i))))) refl;
   ends_so = λ h. let k = and_parts branch (is_over w) (sym finishes ∙ h) in rw (k.0, over ∙ sym over_w ∙ k.1) (or-true (is_unchanged e));
   ends = λ b h. finishes ∙ rw (b, over_w ∙ sym over ∙ h) refl;
-  rests = some_more is_resting ts us ∙ rw (some_when is_resting branch (passing_by w), (passing_marks w).1, some_when is_resting branch (ending_by d t p w a.outs xs), (ending_marks d t p w a.outs xs).1) (nothing branch) ∙ sym (said_played is_left_record refl d t w a.outs xs p (none_narrow is_left_record foreign_left a.outs outs));
-  begins = some_more is_beginning ts us ∙ rw (some_when is_beginning branch (passing_by w), (passing_marks w).2, some_when is_beginning branch (ending_by d t p w a.outs xs), (ending_marks d t p w a.outs xs).2) (nothing branch) ∙ sym (said_played is_begin refl d t w a.outs xs p (none_narrow is_begin foreign_begin a.outs outs));
+  rests = some_more is_resting ts us ∙ rw (some_when is_resting branch (passing_by w), (passing_marks w).1, some_when is_resting branch (ending_by d t p w a xs), (ending_marks d t p w a xs).1) (nothing branch) ∙ sym (said_played is_left_record refl d t w a (whole_turn f t) xs p (none_narrow is_left_record foreign_left a.outs outs));
+  begins = some_more is_beginning ts us ∙ rw (some_when is_beginning branch (passing_by w), (passing_marks w).2, some_when is_beginning branch (ending_by d t p w a xs), (ending_marks d t p w a xs).2) (nothing branch) ∙ sym (said_played is_begin refl d t w a (whole_turn f t) xs p (none_narrow is_begin foreign_begin a.outs outs));
   grants = λ g h. granted branch refl (is_over w) refl (sym finishes ∙ h);
-  words = λ k. said_played is_shaking refl d t w a.outs xs p (none_narrow is_shaking foreign_shaking a.outs outs);
-  open_end = end_less (said_to p m.outs) (said_played is_left_record refl d t w a.outs xs p (none_narrow is_left_record foreign_left a.outs outs));
+  words = λ k. said_played is_shaking refl d t w a (whole_turn f t) xs p (none_narrow is_shaking foreign_shaking a.outs outs);
+  open_end = end_less (said_to p m.outs) (said_played is_left_record refl d t w a (whole_turn f t) xs p (none_narrow is_left_record foreign_left a.outs outs));
 }
   where
     t : Transaction
@@ -430,7 +430,7 @@ plain_turned who p branch fall up e s d c f given at branch_is side asked put of
     ts = when branch (passing_by w)
 
     us : List Touch
-    us = when branch (ending_by d t p w a.outs xs)
+    us = when branch (ending_by d t p w a xs)
 
     never : w ≡ Leaves → ⊥
     never h = no_leaving t.phase a.next.phase (ap (λ (b : Bool). passage b t.phase a.next.phase) (sym off) ∙ h)
@@ -445,13 +445,13 @@ plain_turned who p branch fall up e s d c f given at branch_is side asked put of
     all x i = ap (λ (n : ℕ). is_under_at c.key n || row_holds t.rows n (λ b. true)) i ∙ arc_is
 
     made : (is_live_with_peer d.arcs p ≡ true) × ((g : Dialogue → Bool) → part_at g p m.next.arcs ≡ part_at (λ z. g (run (ts ++ us) z)) p d.arcs)
-    made = made_then p d.arcs xs m.next.arcs ts us (made_entered p t w d.arcs branch all) (made_played p d t w a.outs xs branch all never) live
+    made = made_then p d.arcs xs m.next.arcs ts us (made_entered p t w d.arcs branch all) (made_played p d t w a xs branch all never) live
 
     told : tells_rolled m ≡ asks_tell is_rolled_told a.outs
-    told = told_played is_rolled_told d t w a.outs xs
+    told = told_played is_rolled_told d t w a (whole_turn f t) xs
 
     over : tells_over m ≡ is_nil a.next.phase
-    over = told_played is_over_told d t w a.outs xs ∙ sym (over_turn f t put off)
+    over = told_played is_over_told d t w a (whole_turn f t) xs ∙ sym (over_turn f t put off)
 
     over_w : is_over w ≡ is_nil a.next.phase
     over_w = ap (λ (b : Bool). is_over (passage b t.phase a.next.phase)) off ∙ over_is t.phase a.next.phase put.late
@@ -466,10 +466,10 @@ plain_turned who p branch fall up e s d c f given at branch_is side asked put of
     nothing b = grind arith
 
     passes : some_touch is_passing (ts ++ us) ≡ (branch && clears w)
-    passes = some_more is_passing ts us ∙ rw (some_when is_passing branch (passing_by w), passing_passage w, some_when is_passing branch (ending_by d t p w a.outs xs), (ending_marks d t p w a.outs xs).0) (flat (branch && clears w) branch)
+    passes = some_more is_passing ts us ∙ rw (some_when is_passing branch (passing_by w), passing_passage w, some_when is_passing branch (ending_by d t p w a xs), (ending_marks d t p w a xs).0) (flat (branch && clears w) branch)
 
     finishes : some_touch is_ending (ts ++ us) ≡ (branch && is_over w)
-    finishes = some_more is_ending ts us ∙ rw (some_when is_ending branch (passing_by w), (passing_marks w).0, some_when is_ending branch (ending_by d t p w a.outs xs), ending_passage d t p w a.outs xs never) (less (branch && is_over w) branch)
+    finishes = some_more is_ending ts us ∙ rw (some_when is_ending branch (passing_by w), (passing_marks w).0, some_when is_ending branch (ending_by d t p w a xs), ending_passage d t p w a xs never) (less (branch && is_over w) branch)
 
     clear : clears (passage false t.phase a.next.phase) ≡ true → clears w ≡ true
     clear h = ap (λ (b : Bool). clears (passage b t.phase a.next.phase)) off ∙ h
@@ -500,8 +500,8 @@ plain_turned who p branch fall up e s d c f given at branch_is side asked put of
         not_granting u v y z k h = grind (arith, h)
 
     granted : (b : Bool) → branch ≡ b → (o : Bool) → is_over w ≡ o → (branch && is_over w) ≡ false → said_grant p m.outs ≡ false
-    granted false i o j h = granted_played d t w a.outs xs p (none i) (none_narrow is_grant_record foreign_grant a.outs outs)
-    granted true i false j h = ungranted_played d t w a.outs xs p (λ k. let on : is_over w ≡ true = ap is_over k in cc (on, j)) (none_narrow is_grant_record foreign_grant a.outs outs)
+    granted false i o j h = granted_played d t w a (whole_turn f t) xs p (none i) (none_narrow is_grant_record foreign_grant a.outs outs)
+    granted true i false j h = ungranted_played d t w a xs p (λ k. let on : is_over w ≡ true = ap is_over k in cc (on, j)) (none_narrow is_grant_record foreign_grant a.outs outs)
     granted true i true j h = absurd (let on : (branch && is_over w) ≡ true = rw (i, j) refl in cc (on, h))
 
 -- ---- the leaver: Left goes to the superior, whose arc rests; the arcs below are as after a completion

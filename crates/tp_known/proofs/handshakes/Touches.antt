@@ -1,5 +1,5 @@
 -- What becomes of the dialogue with one peer, as a list of the changes that it is made of.
-use Rattle.tp_known.proofs.Vocabulary.{if◌then◌else◌, ◌≡◌, ℕ, Bool, true, false, refl, ap, sym, ◌∙◌, arith, Option, Some, None, List, [], ◌∷◌, ◌++◌, ◌||◌, ◌==◌, Outcome, Holder, Side, TxOut, Event, Dialogue, Arc, Digest, Asked, Ask_grant, Heard, said, heard, begun_by, cleared, woken, rested, completed, find_arc, is_live_with_peer, without_arc, with_dialogue, with_dialogues, performed, Transaction, is_under_at, side_at, Passage, Stays, Enters, Falls, Falls_at_once, Commits, Rolls_back, Leaves, is_arc_of, is_arc_below, without_deferral, entered, completed_arcs, left_arcs, is_granting, committed_dialogue, committed_arcs, grants, split_at_completion, played, IsChange, By_waking, By_saying, By_hearing, By_beginning, By_leaving, wakes, said_by, heard_by, begun_by_record, left_by, part_at, Keeps, part_dialogue, part_same, keeps_without, keeps_performed, find_arc_is, link_dialogue, link_dialogues, is_unchanged}
+use Rattle.tp_known.proofs.Vocabulary.{if◌then◌else◌, ◌≡◌, ℕ, Bool, true, false, refl, ap, sym, ◌∙◌, arith, Option, Some, None, List, [], ◌∷◌, ◌++◌, ◌||◌, ◌==◌, Outcome, Holder, Side, TxOut, Event, Dialogue, Arc, Digest, Asked, Ask_grant, Heard, said, heard, begun_by, cleared, woken, rested, completed, find_arc, is_live_with_peer, without_arc, with_dialogue, with_dialogues, performed, Transaction, is_under_at, side_at, Passage, Stays, Enters, Falls, Falls_at_once, Commits, Rolls_back, Leaves, is_arc_of, is_arc_below, without_deferral, entered, completed_arcs, left_arcs, is_granting, committed_dialogue, committed_arcs, grants, played, IsChange, By_waking, By_saying, By_hearing, By_beginning, By_leaving, wakes, said_by, heard_by, begun_by_record, left_by, part_at, Keeps, part_dialogue, part_same, keeps_without, keeps_performed, find_arc_is, link_dialogue, link_dialogues, is_unchanged, around_grants, Turn}
 
 pub data Touch : Type 0 where
   Waking : Touch
@@ -158,14 +158,14 @@ made_entered p t _ arcs b all = made_none p arcs b
 abbrev granting_at : Transaction → ℕ → List Arc → Bool
 granting_at t p arcs = elim (find_arc arcs p) [ None ↦ false | Some a ↦ is_granting t a ]
 
-abbrev pub ending_by : Digest → Transaction → ℕ → Passage → List TxOut → List Arc → List Touch
-ending_by d t p Stays outs arcs = []
-ending_by d t p Enters outs arcs = []
-ending_by d t p Falls outs arcs = []
-ending_by d t p Falls_at_once outs arcs = Ending Outcome.Rollback (side_at d p) false ∷ []
-ending_by d t p Commits outs arcs = Ending Outcome.Commit (side_at d p) (granting_at t p (performed arcs (split_at_completion outs).0).0) ∷ []
-ending_by d t p Rolls_back outs arcs = Ending Outcome.Rollback (side_at d p) false ∷ []
-ending_by d t p Leaves outs arcs = []
+abbrev pub ending_by : Digest → Transaction → ℕ → Passage → Turn → List Arc → List Touch
+ending_by d t p Stays asks arcs = []
+ending_by d t p Enters asks arcs = []
+ending_by d t p Falls asks arcs = []
+ending_by d t p Falls_at_once asks arcs = Ending Outcome.Rollback (side_at d p) false ∷ []
+ending_by d t p Commits asks arcs = Ending Outcome.Commit (side_at d p) (granting_at t p (performed arcs (around_grants asks).0).0) ∷ []
+ending_by d t p Rolls_back asks arcs = Ending Outcome.Rollback (side_at d p) false ∷ []
+ending_by d t p Leaves asks arcs = []
 
 made_completed : (p : ℕ) (d : Digest) (t : Transaction) (o : Outcome) (arcs : List Arc) (b : Bool) → ((a : Arc) → a.peer.node ≡ p → is_arc_of t a ≡ b) → IsMade p arcs (completed_arcs d t o arcs) (when b (Ending o (side_at d p) false ∷ []))
 made_completed p d t o arcs b all =
@@ -182,13 +182,13 @@ made_committed p d t arcs b all =
         ap (λ (n : ℕ). touched (Ending Outcome.Commit (side_at d n) (granting_at t p arcs)) a.dialogue) (sym at)
         ∙ ap (λ (o : Option Arc). touched (Ending Outcome.Commit (side_at d a.peer.node) (elim o as (λ _. Bool) [ None ↦ false | Some x ↦ is_granting t x ])) a.dialogue) found
 
-pub made_played : (p : ℕ) (d : Digest) (t : Transaction) (w : Passage) (outs : List TxOut) (arcs : List Arc) (b : Bool) → ((a : Arc) → a.peer.node ≡ p → is_arc_of t a ≡ b) → (w ≡ Leaves → ⊥) → IsMade p arcs (played d t w outs arcs).0 (when b (ending_by d t p w outs arcs))
+pub made_played : (p : ℕ) (d : Digest) (t : Transaction) (w : Passage) (asks : Turn) (arcs : List Arc) (b : Bool) → ((a : Arc) → a.peer.node ≡ p → is_arc_of t a ≡ b) → (w ≡ Leaves → ⊥) → IsMade p arcs (played d t w asks arcs).0 (when b (ending_by d t p w asks arcs))
 unfolding played
-made_played p d t Falls_at_once outs arcs b all other =
-    let s = performed arcs outs in
-    made_then p arcs s.0 (completed_arcs d t Outcome.Rollback s.0) [] (when b (Ending Outcome.Rollback (side_at d p) false ∷ [])) (made_performed p arcs outs) (made_completed p d t Outcome.Rollback s.0 b all)
-made_played p d t Commits outs arcs b all other =
-    let s = split_at_completion outs in
+made_played p d t Falls_at_once asks arcs b all other =
+    let s = performed arcs asks.outs in
+    made_then p arcs s.0 (completed_arcs d t Outcome.Rollback s.0) [] (when b (Ending Outcome.Rollback (side_at d p) false ∷ [])) (made_performed p arcs asks.outs) (made_completed p d t Outcome.Rollback s.0 b all)
+made_played p d t Commits asks arcs b all other =
+    let s = around_grants asks in
     let one : List Arc = (performed arcs s.0).0 in
     let mid : List Arc = committed_arcs d t one in
     let two : List Arc = (performed mid (grants t one)).0 in
@@ -196,11 +196,11 @@ made_played p d t Commits outs arcs b all other =
     let ts : List Touch = when b (Ending Outcome.Commit (side_at d p) (granting_at t p one) ∷ []) in
     made_then p arcs one last [] ts (made_performed p arcs s.0)
     (made_after p one two last ts (made_after p one mid two ts (made_committed p d t one b all) (made_performed p mid (grants t one))) (made_performed p two s.1))
-made_played p d t Rolls_back outs arcs b all other =
-    let s = performed arcs outs in
-    made_then p arcs s.0 (completed_arcs d t Outcome.Rollback s.0) [] (when b (Ending Outcome.Rollback (side_at d p) false ∷ [])) (made_performed p arcs outs) (made_completed p d t Outcome.Rollback s.0 b all)
-made_played p d t Leaves outs arcs b all other = absurd (other refl)
-made_played p d t _ outs arcs b all other = made_after p arcs arcs (performed arcs outs).0 (when b []) (made_none p arcs b) (made_performed p arcs outs)
+made_played p d t Rolls_back asks arcs b all other =
+    let s = performed arcs asks.outs in
+    made_then p arcs s.0 (completed_arcs d t Outcome.Rollback s.0) [] (when b (Ending Outcome.Rollback (side_at d p) false ∷ [])) (made_performed p arcs asks.outs) (made_completed p d t Outcome.Rollback s.0 b all)
+made_played p d t Leaves asks arcs b all other = absurd (other refl)
+made_played p d t _ asks arcs b all other = made_after p arcs arcs (performed arcs asks.outs).0 (when b []) (made_none p arcs b) (made_performed p arcs asks.outs)
 
 -- its user leaves: below it is over, and the superior's arc rests
 pub made_left : (p : ℕ) (t : Transaction) (arcs : List Arc) (b c : Bool) → ((a : Arc) → a.peer.node ≡ p → is_arc_below t a ≡ b) → is_under_at t.key p ≡ c → IsMade p arcs (left_arcs t arcs) (when b (Ending Outcome.Rollback Side.Superior false ∷ []) ++ when c (Resting ∷ []))

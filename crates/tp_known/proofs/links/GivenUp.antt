@@ -1,6 +1,5 @@
 -- A branch that is given up: its association is shut where it is live, and nothing else shuts one.
-use Rattle.tp_known.proofs.Vocabulary.{if◌then◌else◌, ◌≡◌, ℕ, Bool, true, false, refl, ap, sym, ◌∙◌, arith, Option, Some, None, List, [], ◌∷◌, ◌++◌, ◌&&◌, ◌||◌, ◌==◌, not, nat_tests, Aaid, Report, DialogueRecord, PeerRecord, TxEvent, TxOut, Who, Event, Out, Link, Idle, Arc, Root, Branch, Current, Digest, is_live_with_peer, carried_on, carried, performed_one, performed, Row, Transaction, Turn, turn, and_then, aaid_of, find_row, row_holds, with_row, forgets, done_up, ends_down, end_up, complete_commit, transacted, refused_tx, Move, next_mark, with_mark_drawn, is_end_deferred_at, seen, seen_rows, begin_on, begin_each, chained_peers, begin_chained, start_root, try_start, fresh_current, split_at_completion, committed_arcs, grants, Passage, Commits, played, refusal, shuts_to, and_left, and_right, plain_give_up, find_arc_is}
-use Rattle.tp_steps.proofs.links.Wrapped.{split_joins}
+use Rattle.tp_known.proofs.Vocabulary.{if◌then◌else◌, ◌≡◌, ℕ, Bool, true, false, refl, ap, sym, ◌∙◌, arith, Option, Some, None, List, [], ◌∷◌, ◌++◌, ◌&&◌, ◌||◌, ◌==◌, not, nat_tests, Aaid, Report, DialogueRecord, PeerRecord, TxEvent, TxOut, Who, Event, Out, Link, Idle, Arc, Root, Branch, Current, Digest, is_live_with_peer, carried_on, carried, performed_one, performed, Row, Transaction, Turn, turn, and_then, aaid_of, find_row, row_holds, with_row, forgets, done_up, ends_down, end_up, complete_commit, transacted, refused_tx, Move, next_mark, with_mark_drawn, is_end_deferred_at, seen, seen_rows, begin_on, begin_each, chained_peers, begin_chained, start_root, try_start, fresh_current, committed_arcs, grants, Passage, Commits, played, refusal, shuts_to, and_left, and_right, plain_give_up, find_arc_is, around_grants, IsWhole}
 use Rattle.tp_known.proofs.lemmas.Begins.{begin_word, begin_arcs, begins_so}
 
 -- ---- the branch
@@ -58,6 +57,16 @@ given_row q = record q { branch = record q.branch { given_up = true }; live = fa
 pub given_outs : (t : Transaction) (p : ℕ) (r : Row) → find_row t.rows p ≡ Some r → (transacted (TxEvent.GiveUp p) t).outs ≡ (if r.live then TxOut.Shut p ∷ [] else []) ++ (complete_commit (with_row t p given_row)).outs
 given_outs t p r h = ap (λ (o : Option Row). (elim o as (λ _. Turn) [ None ↦ turn [] t | Some w ↦ and_then (turn (if w.live then TxOut.Shut p ∷ [] else []) (with_row t p given_row)) complete_commit ]).outs) h
 
+-- and where its association is live
+pub given_turn : (t : Transaction) (p : ℕ) (r : Row) → find_row t.rows p ≡ Some r → r.live ≡ true → transacted (TxEvent.GiveUp p) t ≡ and_then (turn (TxOut.Shut p ∷ []) (with_row t p given_row)) complete_commit
+given_turn t p r h live = ap found h ∙ ap shut live
+  where
+    shut : Bool → Turn
+    shut b = and_then (turn (if b then TxOut.Shut p ∷ [] else []) (with_row t p given_row)) complete_commit
+
+    found : Option Row → Turn
+    found o = elim o as (λ _. Turn) [ None ↦ turn [] t | Some w ↦ shut w.live ]
+
 -- ---- outputs that shut an association with the peer
 
 pub shuts_to_append : (p : ℕ) (xs ys : List Out) → shuts_to p (xs ++ ys) ≡ (shuts_to p xs || shuts_to p ys)
@@ -77,7 +86,7 @@ keeps_shut p (TxOut.Shut q) = not (q == p)
 keeps_shut p (TxOut.Recovery a r) = not (is_shut r)
 keeps_shut p (TxOut.Close q) = true
 
-abbrev keep_shut : ℕ → List TxOut → Bool
+abbrev pub keep_shut : ℕ → List TxOut → Bool
 keep_shut p [] = true
 keep_shut p (o ∷ outs) = keeps_shut p o && keep_shut p outs
 
@@ -111,17 +120,17 @@ keep_grants : (p : ℕ) (t : Transaction) (arcs : List Arc) → keep_shut p (gra
 keep_grants p t [] = refl
 keep_grants p t (a ∷ arcs) = grind (arith, keep_grants p t arcs)
 
-pub unshut_played : (d : Digest) (t : Transaction) (w : Passage) (outs : List TxOut) (arcs : List Arc) (p : ℕ) → keep_shut p outs ≡ true → shuts_to p (played d t w outs arcs).1 ≡ false
+pub unshut_played : (d : Digest) (t : Transaction) (w : Passage) (asks : Turn) → IsWhole asks → (arcs : List Arc) (p : ℕ) → keep_shut p asks.outs ≡ true → shuts_to p (played d t w asks arcs).1 ≡ false
 unfolding played
-unshut_played d t Commits outs arcs p h =
-    let s = split_at_completion outs in
-    let both : (keep_shut p s.0 && keep_shut p s.1) ≡ true = sym (keep_append p s.0 s.1) ∙ ap (keep_shut p) (split_joins outs) ∙ h in
+unshut_played d t Commits asks whole arcs p h =
+    let s = around_grants asks in
+    let both : (keep_shut p s.0 && keep_shut p s.1) ≡ true = sym (keep_append p s.0 s.1) ∙ ap (keep_shut p) whole ∙ h in
     let one = performed arcs s.0 in
     let two = performed (committed_arcs d t one.0) (grants t one.0) in
     let three = performed two.0 s.1 in
     shuts_to_append p (one.1 ++ two.1) three.1
     ∙ rw (shuts_to_append p one.1 two.1, unshut_performed p arcs s.0 (and_left (keep_shut p s.0) (keep_shut p s.1) both), unshut_performed p (committed_arcs d t one.0) (grants t one.0) (keep_grants p t one.0), unshut_performed p two.0 s.1 (and_right (keep_shut p s.0) (keep_shut p s.1) both)) refl
-unshut_played d t _ outs arcs p h = unshut_performed p arcs outs h
+unshut_played d t _ asks whole arcs p h = unshut_performed p arcs asks.outs h
 
 keep_forgets : (p : ℕ) (a : Aaid) (rows : List Row) → keep_shut p (forgets a rows) ≡ true
 keep_forgets p a [] = refl
@@ -167,12 +176,13 @@ unshut_start who p d = grind (arith, unshut_root)
 first_shut : (p : ℕ) (arcs : List Arc) (outs : List TxOut) → is_live_with_peer arcs p ≡ true → shuts_to p (performed arcs (TxOut.Shut p ∷ outs)).1 ≡ true
 first_shut p arcs outs live = grind (arith, nat_tests, find_arc_is, shuts_to_append)
 
-pub shut_played : (d : Digest) (t : Transaction) (w : Passage) (outs : List TxOut) (arcs : List Arc) (p : ℕ) → is_live_with_peer arcs p ≡ true → shuts_to p (played d t w (TxOut.Shut p ∷ outs) arcs).1 ≡ true
+pub shut_played : (d : Digest) (t u : Transaction) (w : Passage) (f : Transaction → Turn) (arcs : List Arc) (p : ℕ) → is_live_with_peer arcs p ≡ true → shuts_to p (played d t w (and_then (turn (TxOut.Shut p ∷ []) u) f) arcs).1 ≡ true
 unfolding played
-shut_played d t Commits outs arcs p live =
-    let s = split_at_completion outs in
-    let one = performed arcs (TxOut.Shut p ∷ s.0) in
+shut_played d t u Commits f arcs p live =
+    let s = around_grants (and_then (turn (TxOut.Shut p ∷ []) u) f) in
+    let c = (f u).completion in
+    let one = performed arcs s.0 in
     let two = performed (committed_arcs d t one.0) (grants t one.0) in
     let three = performed two.0 s.1 in
-    shuts_to_append p (one.1 ++ two.1) three.1 ∙ rw (shuts_to_append p one.1 two.1, first_shut p arcs s.0 live) refl
-shut_played d t _ outs arcs p live = first_shut p arcs outs live
+    shuts_to_append p (one.1 ++ two.1) three.1 ∙ rw (shuts_to_append p one.1 two.1, first_shut p arcs (c.before ++ c.forgets ++ c.done) live) refl
+shut_played d t u _ f arcs p live = first_shut p arcs (f u).outs live

@@ -1,5 +1,5 @@
 -- An arc keeps its peer and its units in every event, from the event's prelude on: an instance of the steps of a node.
-use Rattle.tp_known.proofs.Vocabulary.{if◌then◌else◌, ◌≡◌, ℕ, Bool, true, false, refl, ap, sym, ◌∙◌, arith, Option, Some, None, List, [], ◌∷◌, ◌==◌, nat_tests, Addr, Outcome, DialogueRecord, Side, TxEvent, TxOut, Who, Event, Out, Link, Dialogue, Arc, Current, Digest, Heard, Asked, said, heard, begun_by, cleared, woken, completed, rested, named_holder, find_arc, without_arc, with_dialogue, with_dialogues, with_link, carried, carried_on, performed_one, performed, Transaction, Turn, transacted, settled, Move, is_arc_of, is_arc_below, is_granting, is_leaving, Passage, Stays, Enters, Falls, Falls_at_once, Commits, Rolls_back, Leaves, passage, entered, played, completed_arcs, committed_arcs, committed_dialogue, left_arcs, grants, side_at, without_deferral, split_at_completion, turned, begin_on, seen, Moves, IsChange, By_waking, By_saying, By_hearing, By_beginning, By_leaving}
+use Rattle.tp_known.proofs.Vocabulary.{if◌then◌else◌, ◌≡◌, ℕ, Bool, true, false, refl, ap, sym, ◌∙◌, arith, Option, Some, None, List, [], ◌∷◌, ◌==◌, nat_tests, Addr, Outcome, DialogueRecord, Side, TxEvent, TxOut, Who, Event, Out, Link, Dialogue, Arc, Current, Digest, Heard, Asked, said, heard, begun_by, cleared, woken, completed, rested, named_holder, find_arc, without_arc, with_dialogue, with_dialogues, with_link, carried, carried_on, performed_one, performed, Transaction, Turn, transacted, settled, Move, is_arc_of, is_arc_below, is_granting, is_leaving, Passage, Stays, Enters, Falls, Falls_at_once, Commits, Rolls_back, Leaves, passage, entered, played, completed_arcs, committed_arcs, committed_dialogue, left_arcs, grants, side_at, without_deferral, turned, begin_on, seen, Moves, IsChange, By_waking, By_saying, By_hearing, By_beginning, By_leaving, around_grants}
 use Rattle.tp_steps.proofs.lemmas.Options.{some_same}
 use Rattle.tp_model.specs.Arcs.{shut_says, shut_with}
 use Rattle.tp_model.specs.Dialogues.{Ask_grant}
@@ -143,10 +143,10 @@ kin_left p t arcs =
     kin_then p arcs mid (left_arcs t arcs) (kin_dialogues p (is_arc_below t) (λ a. completed Outcome.Rollback Side.Superior a.dialogue) (λ a. completed_units Outcome.Rollback Side.Superior a.dialogue) arcs)
     (kin_dialogues p _ (λ a. rested a.dialogue) (λ a. rested_units a.dialogue) mid)
 
-kin_committed : (p : ℕ) (d : Digest) (t : Transaction) (outs : List TxOut) (arcs : List Arc) → IsKin p arcs (played d t Commits outs arcs).0
+kin_committed : (p : ℕ) (d : Digest) (t : Transaction) (asks : Turn) (arcs : List Arc) → IsKin p arcs (played d t Commits asks arcs).0
 unfolding played
-kin_committed p d t outs arcs =
-    let s = split_at_completion outs in
+kin_committed p d t asks arcs =
+    let s = around_grants asks in
     let one = performed arcs s.0 in
     let mid : List Arc = committed_arcs d t one.0 in
     let two = performed mid (grants t one.0) in
@@ -154,22 +154,22 @@ kin_committed p d t outs arcs =
     kin_then p arcs one.0 three.0 (kin_performed p arcs s.0)
     (kin_then p one.0 mid three.0 (kin_dialogues p (is_arc_of t) (committed_dialogue d t) (committed_units d t) one.0) (kin_then p mid two.0 three.0 (kin_performed p mid (grants t one.0)) (kin_performed p two.0 s.1)))
 
-kin_played : (p : ℕ) (d : Digest) (t : Transaction) (w : Passage) (outs : List TxOut) (arcs : List Arc) → IsKin p arcs (played d t w outs arcs).0
+kin_played : (p : ℕ) (d : Digest) (t : Transaction) (w : Passage) (asks : Turn) (arcs : List Arc) → IsKin p arcs (played d t w asks arcs).0
 unfolding played
-kin_played p d t Stays outs arcs = kin_performed p arcs outs
-kin_played p d t Enters outs arcs = kin_performed p arcs outs
-kin_played p d t Falls outs arcs = kin_performed p arcs outs
-kin_played p d t Falls_at_once outs arcs = kin_then p arcs (performed arcs outs).0 (completed_arcs d t Outcome.Rollback (performed arcs outs).0) (kin_performed p arcs outs) (kin_over p d t Outcome.Rollback (performed arcs outs).0)
-kin_played p d t Commits outs arcs = kin_committed p d t outs arcs
-kin_played p d t Rolls_back outs arcs = kin_then p arcs (performed arcs outs).0 (completed_arcs d t Outcome.Rollback (performed arcs outs).0) (kin_performed p arcs outs) (kin_over p d t Outcome.Rollback (performed arcs outs).0)
-kin_played p d t Leaves outs arcs = kin_then p arcs (performed arcs outs).0 (left_arcs t (performed arcs outs).0) (kin_performed p arcs outs) (kin_left p t (performed arcs outs).0)
+kin_played p d t Stays asks arcs = kin_performed p arcs asks.outs
+kin_played p d t Enters asks arcs = kin_performed p arcs asks.outs
+kin_played p d t Falls asks arcs = kin_performed p arcs asks.outs
+kin_played p d t Falls_at_once asks arcs = kin_then p arcs (performed arcs asks.outs).0 (completed_arcs d t Outcome.Rollback (performed arcs asks.outs).0) (kin_performed p arcs asks.outs) (kin_over p d t Outcome.Rollback (performed arcs asks.outs).0)
+kin_played p d t Commits asks arcs = kin_committed p d t asks arcs
+kin_played p d t Rolls_back asks arcs = kin_then p arcs (performed arcs asks.outs).0 (completed_arcs d t Outcome.Rollback (performed arcs asks.outs).0) (kin_performed p arcs asks.outs) (kin_over p d t Outcome.Rollback (performed arcs asks.outs).0)
+kin_played p d t Leaves asks arcs = kin_then p arcs (performed arcs asks.outs).0 (left_arcs t (performed arcs asks.outs).0) (kin_performed p arcs asks.outs) (kin_left p t (performed arcs asks.outs).0)
 
 kin_turned : (who : Who) (f : TxEvent) (d : Digest) (c : Current) (p : ℕ) → IsKin p d.arcs (turned who f d c).next.arcs
 kin_turned who f d c p =
     let t : Transaction = seen who d.arcs c in
     let a : Turn = transacted f t in
     let w : Passage = passage (is_leaving f) t.phase a.next.phase in
-    kin_then p d.arcs (entered t w d.arcs) (turned who f d c).next.arcs (kin_entered p t w d.arcs) (kin_played p d t w a.outs (entered t w d.arcs))
+    kin_then p d.arcs (entered t w d.arcs) (turned who f d c).next.arcs (kin_entered p t w d.arcs) (kin_played p d t w a (entered t w d.arcs))
 
 -- ---- the steps
 

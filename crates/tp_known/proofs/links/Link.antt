@@ -1,12 +1,12 @@
 -- In every legal history the link of every arc is what the questions answer.
-use Rattle.tp_known.proofs.Vocabulary.{if◌then◌else◌, ◌≡◌, ◌+◌, inl, inr, ℕ, Bool, true, false, refl, ap, sym, subst, ◌∙◌, arith, Option, Some, None, List, [], ◌∷◌, ◌++◌, ◌&&◌, ◌||◌, ◌==◌, not, and-false, nat_tests, Mark, Aaid, BranchId, Addr, Request, Indication, DialogueRecord, Holder, PeerRecord, LogRec, Side, TxEvent, TxOut, Who, Origin, Event, Entry, Out, Link, Idle, Arc, Under, Branch, Current, Digest, is_live, is_idle, with_one_taken, is_nil, is_active, Sight, Acts, Nothing_happens, Out_of_phase, acts_or_out, begun_by, cleared, find_arc, link_of, link_with, is_live_with_peer, without_arc, with_dialogue, performed, Transaction, Turn, turn, acts, is_under, is_under_at, row_holds, with_row, complete_commit, sight_of_tx, takes, leave, transacted, refused_tx, has_branch_at, refused_request, abort, reject, Move, move, followed, perform, is_leaving, is_end_deferred_at, is_up_ending, seen, seen_rows, situation_at, Passage, Leaves, passage, is_over, entered, played, turned, passed, restarted, transact, left_arcs, try_start, begin_chained, fresh_current, sight_at, sight_of, take_record, take_abort, take_begin, take_on, lose, broken_pair, break_off, refusal, action, after_crash, started, digest, acting_from, is_abort, is_end_dialogue, is_left_end, is_at, is_up, was_branch, superior_in, sent_more, link_by, deferral_in, tells_commit_complete, closes_by_deferral, link_in, shuts_to, is_unchanged, same_link, IsGrown, IsLegal, IsLate, IsPut, are_apart, closes_at, prelude, asks_tell, count_to, IsLinked, links_agree, link_agrees, apart_turn, are_separate, all_found, there_found, abort_active, every_transact, plain_arrival, plain_request, plain_give_up, find_arc_is, the, begin_acts, abort_sight, is_headed_by, are_below, IsPlaced, headed_law, placed_law, superior_at, begin_seen, Came, As_it_was, By_begin, By_crash, came_by, plain_law, late_law, count_append, more_none, more_more, mark_same, link_dialogue, link_without, linked_moves, link_entered, link_left, link_counted, superior_found, separate_law, busy_there, told_append, told_performed, nothing_late, is_end_deferred}
+use Rattle.tp_known.proofs.Vocabulary.{if◌then◌else◌, ◌≡◌, ◌+◌, inl, inr, ℕ, Bool, true, false, refl, ap, sym, subst, ◌∙◌, arith, Option, Some, None, List, [], ◌∷◌, ◌++◌, ◌&&◌, ◌||◌, ◌==◌, not, and-false, nat_tests, Mark, Aaid, BranchId, Addr, Request, Indication, DialogueRecord, Holder, PeerRecord, LogRec, Side, TxEvent, TxOut, Who, Origin, Event, Entry, Out, Link, Idle, Arc, Under, Branch, Current, Digest, is_live, is_idle, with_one_taken, is_nil, is_active, Sight, Acts, Nothing_happens, Out_of_phase, acts_or_out, begun_by, cleared, find_arc, link_of, link_with, is_live_with_peer, without_arc, with_dialogue, performed, Transaction, Turn, turn, acts, is_under, is_under_at, row_holds, with_row, complete_commit, sight_of_tx, takes, leave, transacted, refused_tx, has_branch_at, refused_request, abort, reject, Move, move, followed, perform, is_leaving, is_end_deferred_at, is_up_ending, seen, seen_rows, situation_at, Passage, Leaves, passage, is_over, entered, played, turned, passed, restarted, transact, left_arcs, try_start, begin_chained, fresh_current, sight_at, sight_of, take_record, take_abort, take_begin, take_on, lose, broken_pair, break_off, refusal, action, after_crash, started, digest, acting_from, is_abort, is_end_dialogue, is_left_end, is_at, is_up, was_branch, superior_in, sent_more, link_by, deferral_in, tells_commit_complete, closes_by_deferral, link_in, shuts_to, is_unchanged, same_link, IsGrown, IsLegal, IsLate, IsPut, are_apart, closes_at, prelude, asks_tell, count_to, IsLinked, links_agree, link_agrees, apart_turn, are_separate, all_found, there_found, abort_active, every_transact, plain_arrival, plain_request, plain_give_up, find_arc_is, the, begin_acts, abort_sight, is_headed_by, are_below, IsPlaced, headed_law, placed_law, superior_at, begin_seen, Came, As_it_was, By_begin, By_crash, came_by, plain_law, late_law, count_append, more_none, more_more, mark_same, link_dialogue, link_without, linked_moves, link_entered, link_left, link_counted, superior_found, separate_law, busy_there, told_append, told_performed, nothing_late, is_end_deferred, whole_turn}
 use Rattle.tp_runs.proofs.Breaks.{lost_idle}
 use Rattle.tp_known.proofs.passages.Passage.{is_committed_told}
 use Rattle.tp_known.proofs.deferral.Defers.{told_committed, begins_at}
 use Rattle.tp_known.proofs.deferral.Deferral.{branch_now, branch_none, now_some, committed_tells, counted, taken_arc, acting_is, left_turned, may_leave, above_is}
 use Rattle.tp_known.proofs.links.Shuts.{shuts_in, shuts_append, over_link, over_then, shuts_performed, shuts_played, shutless_up, up_shut, up_ends_at, ends_at, put_ends, seen_ends, closing_commits}
 use Rattle.tp_known.proofs.links.Linked.{start_over, start_tells, chained_over}
-use Rattle.tp_known.proofs.links.GivenUp.{IsGivenUp, no_give_up, given_up, given_row, given_outs, shuts_to_append, keep_commit, unshut_played, unshut_start, shut_played}
+use Rattle.tp_known.proofs.links.GivenUp.{IsGivenUp, no_give_up, given_up, given_row, given_outs, shuts_to_append, keep_commit, unshut_played, unshut_start, shut_played, given_turn, keep_shut}
 use Rattle.tp_known.proofs.links.LinkBy.{IsLinkKnown, link_asks, closed_asks, end_is, off_when_dead, stale_idle, took_same, no_acting, aside_link}
 use Rattle.tp_known.proofs.lemmas.Tells.{leave_tells}
 
@@ -36,7 +36,7 @@ closed_transact who f d c p now fits shuts = transact_so (λ m. link_with m.next
     w = passage (is_leaving f) t.phase a.next.phase
 
     idle : link_with (turned who f d c).next.arcs p ≡ Idle
-    idle = shuts_played d t w a.outs (entered t w d.arcs) p (apart_turn f t fits) ∙ rw shuts refl
+    idle = shuts_played d t w a (whole_turn f t) (entered t w d.arcs) p (apart_turn f t fits) ∙ rw shuts refl
 
 self : (n : ℕ) → (n == n) ≡ true
 self n = grind (arith, nat_tests)
@@ -481,7 +481,7 @@ given_shut who d c p now fits k live = (
     there = ap is_live (link_entered t w d.arcs p) ∙ live
 
     shut : shuts_to p m.outs ≡ true
-    shut = ap (λ (os : List TxOut). shuts_to p (played d t w os (entered t w d.arcs)).1) outs ∙ shut_played d t w rest (entered t w d.arcs) p there
+    shut = ap (λ (b : Turn). shuts_to p (played d t w b (entered t w d.arcs)).1) (given_turn t p k.row k.found (k.live ∙ live)) ∙ shut_played d t (with_row t p given_row) w complete_commit (entered t w d.arcs) p there
 
 -- on another: nothing is shut, and the link stays
 given_stays : (who : Who) (d : Digest) (c : Current) (p : ℕ) → d.current ≡ Some c → IsPut (TxEvent.GiveUp p) (seen who d.arcs c) → IsGivenUp who d c p → is_live_with_peer d.arcs p ≡ false → is_end_deferred_at d.arcs p ≡ false
@@ -516,10 +516,10 @@ given_stays who d c p now fits k dead off = (
     shuts = ap (shuts_in p) outs ∙ (closing_commits p u).shuts ∙ ap (λ (b : Bool). b && asks_tell is_committed_told (complete_commit u).outs) (given_ends who d c p k off)
 
     unshut : shuts_to p m.outs ≡ false
-    unshut = ap (λ (os : List TxOut). shuts_to p (played d t w os (entered t w d.arcs)).1) outs ∙ unshut_played d t w (complete_commit u).outs (entered t w d.arcs) p (keep_commit p u)
+    unshut = unshut_played d t w a (whole_turn (TxEvent.GiveUp p) t) (entered t w d.arcs) p (ap (keep_shut p) outs ∙ keep_commit p u)
 
     one : link_with m.next.arcs p ≡ sent_more (count_to p m.outs) (link_with d.arcs p)
-    one = shuts_played d t w a.outs (entered t w d.arcs) p (apart_turn (TxEvent.GiveUp p) t fits) ∙ ap (λ (b : Bool). over_link b (count_to p m.outs) (link_with (entered t w d.arcs) p)) shuts ∙ ap (sent_more (count_to p m.outs)) (link_entered t w d.arcs p)
+    one = shuts_played d t w a (whole_turn (TxEvent.GiveUp p) t) (entered t w d.arcs) p (apart_turn (TxEvent.GiveUp p) t fits) ∙ ap (λ (b : Bool). over_link b (count_to p m.outs) (link_with (entered t w d.arcs) p)) shuts ∙ ap (sent_more (count_to p m.outs)) (link_entered t w d.arcs p)
 
     two : link_with st.next.arcs p ≡ sent_more (count_to p (m.outs ++ st.outs)) (link_with d.arcs p)
     two = start_over who p m.next ∙ ap (sent_more (count_to p st.outs)) one ∙ sym (ap (λ (n : ℕ). sent_more n (link_with d.arcs p)) (count_append p m.outs st.outs) ∙ more_more (count_to p m.outs) (count_to p st.outs) (link_with d.arcs p))

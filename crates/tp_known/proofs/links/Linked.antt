@@ -1,6 +1,6 @@
 -- What becomes in an event of the link with a peer that the event does not end by itself, and that an end is deferred on live
 -- arcs alone: instances of the steps of a node.
-use Rattle.tp_known.proofs.Vocabulary.{◌≡◌, ℕ, Bool, true, false, refl, ap, sym, subst, ◌∙◌, arith, Option, Some, None, List, [], ◌∷◌, ◌&&◌, ◌||◌, ◌==◌, nat_tests, Mark, Aaid, BranchId, Addr, Request, DialogueRecord, PeerRecord, Side, TxEvent, TxOut, Kept, KeptEvent, Who, Origin, Event, Entry, Out, Link, Opening, Offered, Live, Dialogue, Arc, Current, Digest, Asked, Ask_defer_end, Heard, Hear_defer_end, said, heard, begun_by, cleared, woken, named_holder, fresh_dialogue, find_arc, link_with, is_live_with_peer, without_arc, with_dialogue, performed, Transaction, Turn, is_under_at, transacted, has_branch_at, settled, Move, move, followed, perform, next_mark, superior_arc, is_end_deferred_at, seen, begin_on, is_leaving, Passage, passage, entered, turned, keep, try_start, begin_chained, after_crash, started, digest, sent_more, is_unchanged, IsGrown, IsPut, IsAsked, IsChange, By_waking, By_saying, By_hearing, By_beginning, By_leaving, closes_at, is_said, are_said, are_spoken, may_put_off, prelude, accepted_by, accepted_on, linked, begun_in, counted_in, Moves, puts_off_at, AreAlike, Steps, asks_tell, count_to, apart_spoken, apart_turn, leaves_so, and_left, and_right, step_start, step_chained, every_move, settled_spoken, late_law, count_append, more_none, link_dialogue, link_without, link_entered, told_append, told_performed, told_played}
+use Rattle.tp_known.proofs.Vocabulary.{◌≡◌, ℕ, Bool, true, false, refl, ap, sym, subst, ◌∙◌, arith, Option, Some, None, List, [], ◌∷◌, ◌&&◌, ◌||◌, ◌==◌, nat_tests, Mark, Aaid, BranchId, Addr, Request, DialogueRecord, PeerRecord, Side, TxEvent, TxOut, Kept, KeptEvent, Who, Origin, Event, Entry, Out, Link, Opening, Offered, Live, Dialogue, Arc, Current, Digest, Asked, Ask_defer_end, Heard, Hear_defer_end, said, heard, begun_by, cleared, woken, named_holder, fresh_dialogue, find_arc, link_with, is_live_with_peer, without_arc, with_dialogue, performed, Transaction, Turn, is_under_at, transacted, has_branch_at, settled, Move, move, followed, perform, next_mark, superior_arc, is_end_deferred_at, seen, begin_on, is_leaving, Passage, passage, entered, turned, keep, try_start, begin_chained, after_crash, started, digest, sent_more, is_unchanged, IsGrown, IsPut, IsAsked, IsChange, By_waking, By_saying, By_hearing, By_beginning, By_leaving, closes_at, is_said, are_said, are_spoken, may_put_off, prelude, accepted_by, accepted_on, linked, begun_in, counted_in, Moves, puts_off_at, AreAlike, Steps, asks_tell, count_to, apart_spoken, apart_turn, leaves_so, and_left, and_right, step_start, step_chained, every_move, settled_spoken, late_law, count_append, more_none, link_dialogue, link_without, link_entered, told_append, told_performed, told_played, whole_turn}
 use Rattle.tp_steps.proofs.lemmas.Alike.{ends_other, live_same}
 use Rattle.tp_steps.proofs.links.Fading.{Keeps, Fades, fades_self, fades_then, fades_dialogue, fades_taken, fades_put, fades_front, fades_back, fades_without, fades_performed, keeps_said, keeps_heard, keeps_woken, keeps_cleared, keeps_begun}
 use Rattle.tp_steps.proofs.order.InOrder.{live_stays, fades_turned}
@@ -57,7 +57,7 @@ puts_tell e c f p t h1 h2 = grind arith
 over_turned : (who : Who) (e : Event) (s d : Digest) (c : Current) (f : TxEvent) (p : ℕ) (branch : Bool) → (is_under_at c.key p || has_branch_at c.branches p) ≡ branch → closes_at e p ≡ false → is_leaving f ≡ false → IsAsked e c f → IsPut f (seen who d.arcs c) → AreAlike e d s
     → IsOver p (branch && is_end_deferred_at s.arcs p) d (turned who f d c)
 over_turned who e s d c f p branch is off stays asked fits alike =
-    shuts_played d t w a.outs (entered t w d.arcs) p (apart_turn f t fits)
+    shuts_played d t w a (whole_turn f t) (entered t w d.arcs) p (apart_turn f t fits)
     ∙ joined (shuts_in p a.outs) (b && told_committed m.outs) (count_to p m.outs) (link_with (entered t w d.arcs) p) (link_with d.arcs p) shut (link_entered t w d.arcs p)
   where
     t : Transaction
@@ -76,7 +76,7 @@ over_turned who e s d c f p branch is off stays asked fits alike =
     b = branch && is_end_deferred_at s.arcs p
 
     told : told_committed m.outs ≡ asks_tell is_committed_told a.outs
-    told = told_played is_committed_told d t w a.outs (entered t w d.arcs)
+    told = told_played is_committed_told d t w a (whole_turn f t) (entered t w d.arcs)
 
     joined : (x y : Bool) (n : ℕ) (l k : Link) → x ≡ y → l ≡ k → over_link x n l ≡ over_link y n k
     joined x y n l k i j = rw (i, j) refl

@@ -1,8 +1,7 @@
 -- Which associations an event of a transaction ends: those whose end is deferred, where the user is told that a commitment is
 -- complete, and the one that the event itself ends. An instance of the steps of a turn.
-use Rattle.tp_known.proofs.Vocabulary.{if◌then◌else◌, ◌≡◌, ◌+◌, ◌⊎◌, inl, inr, ℕ, Bool, true, false, refl, ap, sym, ◌∙◌, arith, Option, Some, List, [], ◌∷◌, ◌++◌, ◌&&◌, ◌||◌, ◌==◌, nat_tests, Aaid, Report, Request, Indication, DialogueRecord, LogRec, TxEvent, TxOut, Who, Link, Idle, Arc, Key, Root, Under, Branch, Current, Digest, Sight, Acts, Nothing_happens, Out_of_phase, link_with, performed_one, performed, Row, Transaction, Turn, turn, and_then, aaid_of, is_under_at, find_row, put_row, with_row, with_arc_lost, all_prepared, all_done, carry_up, carry_down, forgets, done_up, ends_down, end_up, ask_each, retried, prepare_each, complete_commit, complete_rollback, begin_rolling, order, ask_commit, count_branch, end_branch, branch_left, sight_of_tx, takes, transacted, has_branch_at, is_end_deferred_at, is_leaving, seen, seen_rows, is_up_ending, split_at_completion, committed_arcs, grants, perform_commit, Passage, played, sent_more, TurnSteps, loses, is_outcome_told, vote, row_dead, shut_given_up, IsPut, are_apart, asks_tell, count_to, apart_grants, step_turn, and_left, and_right, row_is, count_append, more_none, more_more, link_dialogues, link_without, carried_elsewhere, link_elsewhere, link_here, recovery_silent, shut_silent, split_apart, tell_append, still_up, still_prepare}
+use Rattle.tp_known.proofs.Vocabulary.{if◌then◌else◌, ◌≡◌, ◌+◌, ◌⊎◌, inl, inr, ℕ, Bool, true, false, refl, ap, sym, ◌∙◌, arith, Option, Some, List, [], ◌∷◌, ◌++◌, ◌&&◌, ◌||◌, ◌==◌, nat_tests, Aaid, Report, Request, Indication, DialogueRecord, LogRec, TxEvent, TxOut, Who, Link, Idle, Arc, Key, Root, Under, Branch, Current, Digest, Sight, Acts, Nothing_happens, Out_of_phase, link_with, performed_one, performed, Row, Transaction, Turn, turn, and_then, aaid_of, is_under_at, find_row, put_row, with_row, with_arc_lost, all_prepared, all_done, carry_up, carry_down, forgets, done_up, ends_down, end_up, ask_each, retried, prepare_each, complete_commit, complete_rollback, begin_rolling, order, ask_commit, count_branch, end_branch, branch_left, sight_of_tx, takes, transacted, has_branch_at, is_end_deferred_at, is_leaving, seen, seen_rows, is_up_ending, committed_arcs, grants, perform_commit, Passage, played, sent_more, TurnSteps, loses, is_outcome_told, vote, row_dead, shut_given_up, IsPut, are_apart, asks_tell, count_to, apart_grants, step_turn, and_left, and_right, row_is, count_append, more_none, more_more, link_dialogues, link_without, carried_elsewhere, link_elsewhere, link_here, recovery_silent, shut_silent, tell_append, still_up, still_prepare, around_grants, parts_apart, IsWhole, link_left, Falls_at_once, Rolls_back, Leaves, Commits, part_by_part}
 use Rattle.tp_steps.specs.Moves.{is_apart}
-use Rattle.tp_steps.proofs.links.Wrapped.{split_joins}
 use Rattle.tp_known.proofs.passages.Passage.{is_committed_told}
 use Rattle.tp_known.proofs.lemmas.Tells.{ordering_tells, rolls_untold, completion_tells, unrolling_tells, retried_tells}
 
@@ -46,10 +45,9 @@ shuts_grants : (p : ℕ) (t : Transaction) (arcs : List Arc) → shuts_in p (gra
 shuts_grants p t [] = refl
 shuts_grants p t (a ∷ arcs) = grind (arith, shuts_grants p t arcs)
 
-shuts_commit : (d : Digest) (t : Transaction) (outs : List TxOut) (arcs : List Arc) (p : ℕ) → are_apart outs ≡ true → link_with (perform_commit d t outs arcs).0 p ≡ over_link (shuts_in p outs) (count_to p (perform_commit d t outs arcs).1) (link_with arcs p)
-shuts_commit d t outs arcs p h =
-    let s = split_at_completion outs in
-    let parts = split_apart outs h in
+shuts_commit : (d : Digest) (t : Transaction) (s : List TxOut × List TxOut) (arcs : List Arc) (p : ℕ) → are_apart (s.0 ++ s.1) ≡ true → link_with (perform_commit d t s arcs).0 p ≡ over_link (shuts_in p (s.0 ++ s.1)) (count_to p (perform_commit d t s arcs).1) (link_with arcs p)
+shuts_commit d t s arcs p h =
+    let parts = parts_apart s h in
     let one = performed arcs s.0 in
     let mid : List Arc = committed_arcs d t one.0 in
     let two = performed mid (grants t one.0) in
@@ -59,15 +57,21 @@ shuts_commit d t outs arcs p h =
     let third : link_with three.0 p ≡ over_link (shuts_in p s.1) (count_to p three.1) (link_with two.0 p) = shuts_performed two.0 s.1 p (and_right (are_apart s.0) (are_apart s.1) parts) in
     third ∙ ap (over_link (shuts_in p s.1) (count_to p three.1)) (second ∙ ap (over_link false (count_to p two.1)) first ∙ over_then (shuts_in p s.0) false (count_to p one.1) (count_to p two.1) (link_with arcs p))
     ∙ over_then (shuts_in p s.0 || false) (shuts_in p s.1) (count_to p one.1 + count_to p two.1) (count_to p three.1) (link_with arcs p)
-    ∙ joined (shuts_in p s.0) (shuts_in p s.1) (count_to p one.1 + count_to p two.1 + count_to p three.1) (count_to p (one.1 ++ two.1 ++ three.1)) (sym (count_append p (one.1 ++ two.1) three.1 ∙ ap (λ (n : ℕ). n + count_to p three.1) (count_append p one.1 two.1))) (sym (ap (shuts_in p) (sym (split_joins outs)) ∙ shuts_append p s.0 s.1))
+    ∙ joined (shuts_in p s.0) (shuts_in p s.1) (count_to p one.1 + count_to p two.1 + count_to p three.1) (count_to p (one.1 ++ two.1 ++ three.1)) (sym (count_append p (one.1 ++ two.1) three.1 ∙ ap (λ (n : ℕ). n + count_to p three.1) (count_append p one.1 two.1))) (sym (shuts_append p s.0 s.1))
   where
     joined : (a b : Bool) (m n : ℕ) {c : Bool} → m ≡ n → (a || b) ≡ c → over_link ((a || false) || b) m (link_with arcs p) ≡ over_link c n (link_with arcs p)
     joined true b m n i j = ap (λ (v : Bool). over_link v n (link_with arcs p)) j
     joined false b m n i j = ap (λ (k : ℕ). over_link b k (link_with arcs p)) i ∙ ap (λ (v : Bool). over_link v n (link_with arcs p)) j
 
-pub shuts_played : (d : Digest) (t : Transaction) (w : Passage) (outs : List TxOut) (arcs : List Arc) (p : ℕ) → are_apart outs ≡ true → link_with (played d t w outs arcs).0 p ≡ over_link (shuts_in p outs) (count_to p (played d t w outs arcs).1) (link_with arcs p)
+pub shuts_played : (d : Digest) (t : Transaction) (w : Passage) (asks : Turn) → IsWhole asks → (arcs : List Arc) (p : ℕ) → are_apart asks.outs ≡ true → link_with (played d t w asks arcs).0 p ≡ over_link (shuts_in p asks.outs) (count_to p (played d t w asks arcs).1) (link_with arcs p)
 unfolding played
-shuts_played d t w outs arcs p h1 = grind (arith, link_dialogues, shuts_commit, shuts_performed)
+shuts_played d t Commits asks whole arcs p h =
+    let s = around_grants asks in
+    shuts_commit d t s arcs p (ap are_apart whole ∙ h) ∙ ap (λ (l : List TxOut). over_link (shuts_in p l) (count_to p (perform_commit d t s arcs).1) (link_with arcs p)) whole
+shuts_played d t Falls_at_once asks whole arcs p h = link_dialogues _ _ _ p ∙ shuts_performed arcs asks.outs p h
+shuts_played d t Rolls_back asks whole arcs p h = link_dialogues _ _ _ p ∙ shuts_performed arcs asks.outs p h
+shuts_played d t Leaves asks whole arcs p h = link_left t (performed arcs asks.outs).0 p ∙ shuts_performed arcs asks.outs p h
+shuts_played d t _ asks whole arcs p h = shuts_performed arcs asks.outs p h
 
 -- ---- ends that are deferred, as a transaction sees them
 
@@ -127,7 +131,7 @@ none_and false = refl
 closing_quiet : (p : ℕ) (t : Transaction) (a : Turn) → shuts_in p a.outs ≡ false → asks_tell is_committed_told a.outs ≡ false → ends_at p a.next ≡ ends_at p t → IsClosing p t a
 closing_quiet p t a none untold same = record { shuts = none ∙ none_and (ends_at p t) ∙ ap (λ (v : Bool). ends_at p t && v) (sym untold); ends = same }
 
-closing_then : (p : ℕ) (t : Transaction) (a b : Turn) (r : Option LogRec) → IsClosing p t a → IsClosing p a.next b → IsClosing p t (record { rec = r; outs = a.outs ++ b.outs; next = b.next })
+closing_then : (p : ℕ) (t : Transaction) (a b : Turn) (r : Option LogRec) → IsClosing p t a → IsClosing p a.next b → IsClosing p t (record { rec = r; outs = a.outs ++ b.outs; completion = part_by_part a.completion b.completion; next = b.next })
 closing_then p t a b r one two = record {
   shuts =
       shuts_append p a.outs b.outs ∙ rw (one.shuts, two.shuts, one.ends, tell_append is_committed_told a.outs b.outs) (flat (ends_at p t) (asks_tell is_committed_told a.outs) (asks_tell is_committed_told b.outs));

@@ -1,6 +1,6 @@
 -- In every legal history the user owes its done of the current transaction if it was told to commit or to roll back since the
 -- key was begun, and has not given it since; and where the transaction commits by the log, since the last crash.
-use Rattle.tp_known.proofs.Vocabulary.{if◌then◌else◌, ◌≡◌, inl, inr, ℕ, Bool, true, false, refl, ap, sym, subst, ◌∙◌, arith, Option, Some, None, List, [], ◌∷◌, ◌++◌, ◌||◌, Addr, NodeKey, Report, Request, Indication, DialogueRecord, LogRec, Phase, TxEvent, TxOut, Who, Origin, Event, Entry, Out, Current, Digest, is_active, is_committing, Row, Transaction, Turn, turn, aaid_of, node_key, with_row, with_branch, with_arc_lost, all_done, complete_commit, complete_rollback, begin_rolling, order, ask_commit, leave, count_branch, end_branch, branch_left, retried, transacted, Move, move, followed, seen, remaining, is_over, is_leaving, passage, try_start, restarted, transact, turned, is_crash, takes_begin, begins, tells_order, is_done_request, phase_in, owes_in, digest, refusal, action, recovered_current, same_bool, IsLegal, decide, row_dead, shut_given_up, is_outcome_told, TurnSteps, IsAsked, begun_by_record, prelude, asks_tell, out_tells, owes_agrees, tell_append, still_up, still_prepare, still_ask, told_append, told_played, step_turn, left_is, late_law, some_same, key_self, no_begin, bool_self, before_it, crash_next, phase_law, IsStepTo, IsMark, mark_law, recovered_is, started_again}
+use Rattle.tp_known.proofs.Vocabulary.{if◌then◌else◌, ◌≡◌, inl, inr, ℕ, Bool, true, false, refl, ap, sym, subst, ◌∙◌, arith, Option, Some, None, List, [], ◌∷◌, ◌++◌, ◌||◌, Addr, NodeKey, Report, Request, Indication, DialogueRecord, LogRec, Phase, TxEvent, TxOut, Who, Origin, Event, Entry, Out, Current, Digest, is_active, is_committing, Row, Transaction, Turn, turn, aaid_of, node_key, with_row, with_branch, with_arc_lost, all_done, complete_commit, complete_rollback, begin_rolling, order, ask_commit, leave, count_branch, end_branch, branch_left, retried, transacted, Move, move, followed, seen, remaining, is_over, is_leaving, passage, try_start, restarted, transact, turned, is_crash, takes_begin, begins, tells_order, is_done_request, phase_in, owes_in, digest, refusal, action, recovered_current, same_bool, IsLegal, decide, row_dead, shut_given_up, is_outcome_told, TurnSteps, IsAsked, begun_by_record, prelude, asks_tell, out_tells, owes_agrees, tell_append, still_up, still_prepare, still_ask, told_append, told_played, step_turn, left_is, late_law, some_same, key_self, no_begin, bool_self, before_it, crash_next, phase_law, IsStepTo, IsMark, mark_law, recovered_is, started_again, whole_turn}
 use Rattle.tp_known.proofs.orders.Told.{IsRaised, IsFrom, IsHeld, least, raised_event, raised_step, raised_start}
 use Rattle.tp_known.proofs.lemmas.Tells.{ordering_tells, rolls_tell, completion_tells, unrolling_tells, leave_tells}
 use Rattle.tp_known.proofs.passages.Shown.{is_early}
@@ -203,7 +203,7 @@ done_event who d = go d.current refl
         let t : Transaction = seen who d.arcs c in
         let k = done_turn t in
         record {
-          quiet = told_played is_order_told d t _ (transacted f t).outs _ ∙ k.1;
+          quiet = told_played is_order_told d t _ (transacted f t) (whole_turn f t) _ ∙ k.1;
           from = λ u is. let owed : u.owes ≡ false = (left_owes (transacted f t).next u is).0 ∙ k.0 in (inl (c, i, (left_is (transacted f t).next u is).0 ∙ done_key t, owed), owed);
         }
 

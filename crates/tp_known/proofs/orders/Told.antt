@@ -1,6 +1,6 @@
 -- Flags of the current transaction that are raised by what the user is told, and fall with nothing but a new key: an instance
 -- of the steps of a node.
-use Rattle.tp_known.proofs.Vocabulary.{if◌then◌else◌, ◌≡◌, ◌≤◌, ◌⊎◌, inl, inr, ℕ, suc, Bool, true, false, refl, ap, sym, subst, ◌∙◌, arith, Option, Some, None, List, [], ◌∷◌, ◌++◌, ◌||◌, Child, Indication, TxEvent, TxOut, Who, Event, Out, Tell, Send, Arc, Key, Root, Current, Digest, without_arc, with_dialogue, Transaction, Turn, transacted, settled, Move, move, followed, perform, next_mark, seen, remaining, begin_on, try_start, is_over, passed, restarted, transact, fresh_current, turned, keep, refusal, action, is_outcome_told, Steps, IsPut, IsAsked, IsLate, prelude, asks_tell, out_tells, is_old, told_append, told_performed, told_played, step_start, step_move, left_is, passed_turn, settled_spoken, some_same, IsNew, IsStep, root_in, next_new}
+use Rattle.tp_known.proofs.Vocabulary.{if◌then◌else◌, ◌≡◌, ◌≤◌, ◌⊎◌, inl, inr, ℕ, suc, Bool, true, false, refl, ap, sym, subst, ◌∙◌, arith, Option, Some, None, List, [], ◌∷◌, ◌++◌, ◌||◌, Child, Indication, TxEvent, TxOut, Who, Event, Out, Tell, Send, Arc, Key, Root, Current, Digest, without_arc, with_dialogue, Transaction, Turn, transacted, settled, Move, move, followed, perform, next_mark, seen, remaining, begin_on, try_start, is_over, passed, restarted, transact, fresh_current, turned, keep, refusal, action, is_outcome_told, Steps, IsPut, IsAsked, IsLate, prelude, asks_tell, out_tells, is_old, told_append, told_performed, told_played, step_start, step_move, left_is, passed_turn, settled_spoken, some_same, IsNew, IsStep, root_in, next_new, whole_turn}
 use Rattle.tp_steps.proofs.links.Marks.{Same_boot}
 use Rattle.tp_known.proofs.lemmas.Begins.{begun_child, begin_word, begin_arcs, sent_begin, begins_so}
 use Rattle.tp_known.proofs.lemmas.Spoken.{spoken_untold}
@@ -111,7 +111,7 @@ held_turned tell g inv e ok k who s d f c now asked put like after = record {
     a = transacted f t
 
     tells : out_tells tell (turned who f d c).outs ≡ asks_tell tell a.outs
-    tells = told_played tell d t _ a.outs _
+    tells = told_played tell d t _ a (whole_turn f t) _
 
 held_begins : (tell : Indication → Bool) (g : Current → Bool) (inv : Current → Type 0) (e : Event) (ok : Bool) → IsRaised tell g inv e ok → (who : Who) (s : Digest) (q : ℕ) (d : Digest) → IsHolding tell g inv ok who s d (begin_on who q d)
 held_begins tell g inv e ok k who s q d after =

@@ -1,6 +1,6 @@
 -- Which passage an event of a transaction makes, by what is logged, by a rollback, and by what the user is told: an instance
 -- of the steps of a turn.
-use Rattle.tp_known.proofs.Vocabulary.{◌≡◌, ◌⊎◌, inl, inr, ℕ, Bool, true, false, refl, ap, sym, subst, ◌∙◌, arith, Option, Some, None, List, [], ◌∷◌, ◌++◌, ◌&&◌, ◌||◌, or-true, or_parts, or_right, Report, Request, Indication, DialogueRecord, LogRec, Phase, TxEvent, TxOut, is_nil, is_active, is_ready, is_committing, is_rolling, Transaction, Turn, turn, and_then, is_under, all_done, done_up, rollback_rec, complete_commit, complete_rollback, begin_rolling, order, prepare_each, ask_commit, leave, count_branch, end_branch, branch_left, transacted, is_leaving, Passage, Stays, Enters, Falls, Falls_at_once, Commits, Rolls_back, Leaves, passage, logs_ready_or_commit, TurnSteps, falls, is_outcome_told, vote, shut_given_up, row_dead, IsPut, asks_tell, step_turn, row_phase, tell_append, still_up, still_prepare, is_rolled_told, is_some_rec, IsStaged, staged_turn}
+use Rattle.tp_known.proofs.Vocabulary.{◌≡◌, ◌⊎◌, inl, inr, ℕ, Bool, true, false, refl, ap, sym, subst, ◌∙◌, arith, Option, Some, None, List, [], ◌∷◌, ◌++◌, ◌&&◌, ◌||◌, or-true, or_parts, or_right, Report, Request, Indication, DialogueRecord, LogRec, Phase, TxEvent, TxOut, is_nil, is_active, is_ready, is_committing, is_rolling, Transaction, Turn, turn, and_then, is_under, all_done, done_up, rollback_rec, complete_commit, complete_rollback, begin_rolling, order, prepare_each, ask_commit, leave, count_branch, end_branch, branch_left, transacted, is_leaving, Passage, Stays, Enters, Falls, Falls_at_once, Commits, Rolls_back, Leaves, passage, logs_ready_or_commit, TurnSteps, falls, is_outcome_told, vote, shut_given_up, row_dead, IsPut, asks_tell, step_turn, row_phase, tell_append, still_up, still_prepare, is_rolled_told, is_some_rec, IsStaged, staged_turn, part_by_part}
 use Rattle.tp_steps.proofs.words.FairTurns.{lost_phase}
 use Rattle.tp_known.proofs.lemmas.Passages.{no_leaving}
 use Rattle.tp_known.proofs.lemmas.Tells.{ordering_tells, rolls_untold, completion_tells, unrolling_tells, leave_tells, retried_tells}
@@ -58,7 +58,7 @@ either C true v h i j = i refl
 either C false v h i j = j h
 
 going_then : (e : TxEvent) (s t : Transaction) (a b : Turn) (r : Option LogRec) → (a.rec ≡ None) ⊎ (b.rec ≡ None) → r ≡ elim b.rec as (λ _. Option LogRec) [ None ↦ a.rec | Some x ↦ Some x ] → IsGoing e s t a → IsGoing e s a.next b
-    → IsGoing e s t (record { rec = r; outs = a.outs ++ b.outs; next = b.next })
+    → IsGoing e s t (record { rec = r; outs = a.outs ++ b.outs; completion = part_by_part a.completion b.completion; next = b.next })
 going_then e s t a b r none is one two = record {
   logged = λ h. either _ (logs_ready_or_commit a.rec) (logs_ready_or_commit b.rec) (sym logs ∙ h) (λ i. two.steady (one.logged i) (quiet_after i)) (λ i. two.logged i);
   steady = λ h i. let n = or_parts (is_some_rec a.rec) (is_some_rec b.rec) (sym some ∙ i) in two.steady (one.steady h n.0) n.1;

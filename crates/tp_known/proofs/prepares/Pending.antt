@@ -1,6 +1,6 @@
 -- The arc of a branch that has not answered stays live while its transaction is active, by every event that does not end its
 -- association by itself: an instance of the steps of a node.
-use Rattle.tp_known.proofs.Vocabulary.{if◌then◌else◌, ◌≡◌, ℕ, Bool, true, false, refl, ap, sym, subst, ◌∙◌, arith, Option, Some, None, List, [], ◌∷◌, ◌++◌, ◌&&◌, ◌||◌, ◌==◌, not, and-false, nat_tests, Child, Request, TxEvent, TxOut, Phase, Side, Who, Event, Link, Idle, Arc, Root, Branch, Current, Digest, is_active, is_live, find_arc, link_with, is_live_with_peer, performed, Row, Transaction, Turn, fresh_rows, find_row, row_holds, transacted, leave, settled, Move, perform, may_begin_on, begun_by, named_holder, fresh_current, seen, seen_rows, turned, keep, begin_on, try_start, entered, passage, is_leaving, Passage, Steps, IsPut, are_spoken, closes_at, asks_tell, may_move, sent_more, count_to, left_is, apart_spoken, apart_turn, link_dialogue, link_without, link_entered, find_arc_is, settled_spoken, passed_turn, step_start, some_same}
+use Rattle.tp_known.proofs.Vocabulary.{if◌then◌else◌, ◌≡◌, ℕ, Bool, true, false, refl, ap, sym, subst, ◌∙◌, arith, Option, Some, None, List, [], ◌∷◌, ◌++◌, ◌&&◌, ◌||◌, ◌==◌, not, and-false, nat_tests, Child, Request, TxEvent, TxOut, Phase, Side, Who, Event, Link, Idle, Arc, Root, Branch, Current, Digest, is_active, is_live, find_arc, link_with, is_live_with_peer, performed, Row, Transaction, Turn, fresh_rows, find_row, row_holds, transacted, leave, settled, Move, perform, may_begin_on, begun_by, named_holder, fresh_current, seen, seen_rows, turned, keep, begin_on, try_start, entered, passage, is_leaving, Passage, Steps, IsPut, are_spoken, closes_at, asks_tell, may_move, sent_more, count_to, left_is, apart_spoken, apart_turn, link_dialogue, link_without, link_entered, find_arc_is, settled_spoken, passed_turn, step_start, some_same, whole_turn}
 use Rattle.tp_steps.specs.Branches.{IsMoved}
 use Rattle.tp_steps.specs.Heeding.{has_answered, has_ended}
 use Rattle.tp_steps.proofs.branches.Heeding.{heeding_event}
@@ -74,7 +74,7 @@ unshut f s p put off was act = leaving (is_leaving f) refl
 
 pub reached_turned : (who : Who) (f : TxEvent) (d : Digest) (c : Current) (p : ℕ) → d.current ≡ Some c → IsPut f (seen who d.arcs c) → closes_by f p ≡ false → IsReached p d → IsReached p (turned who f d c).next
 reached_turned who f d c p now put off old u is act wait =
-    ap is_live (shuts_played d s w a.outs (entered s w d.arcs) p (apart_turn f s put) ∙ rw (unshut f s p put off was next_active, link_entered s w d.arcs p) refl)
+    ap is_live (shuts_played d s w a (whole_turn f s) (entered s w d.arcs) p (apart_turn f s put) ∙ rw (unshut f s p put off was next_active, link_entered s w d.arcs p) refl)
     ∙ more_live (count_to p (turned who f d c).outs) (link_with d.arcs p) (old c now was before)
   where
     s : Transaction

@@ -298,14 +298,14 @@ goes_on : (t : Transaction) → is_active t.phase ≡ true → (is_nil (settle t
 unfolding settle order
 goes_on t act = grind (arith, act)
 
-plain_played : (d : Digest) (t : Transaction) (p q : Phase) (outs : List TxOut) (arcs : List Arc) → is_active p ≡ true → (is_nil q || is_rolling q) ≡ false → ((played d t (passage false p q) outs arcs).1 ≡ (performed arcs outs).1) × (is_over (passage false p q) ≡ false)
+plain_played : (d : Digest) (t : Transaction) (p q : Phase) (asks : Turn) (arcs : List Arc) → is_active p ≡ true → (is_nil q || is_rolling q) ≡ false → ((played d t (passage false p q) asks arcs).1 ≡ (performed arcs asks.outs).1) × (is_over (passage false p q) ≡ false)
 unfolding played
-plain_played d t Phase.Active Phase.Active outs arcs h i = (refl, refl)
-plain_played d t Phase.Active Phase.Ready outs arcs h i = (refl, refl)
-plain_played d t Phase.Active Phase.Committing outs arcs h i = (refl, refl)
-plain_played d t Phase.Active Phase.Nil outs arcs h i = absurd (cc (i))
-plain_played d t Phase.Active Phase.Rolling outs arcs h i = absurd (cc (i))
-plain_played d t p q outs arcs h i = absurd (cc (h))
+plain_played d t Phase.Active Phase.Active asks arcs h i = (refl, refl)
+plain_played d t Phase.Active Phase.Ready asks arcs h i = (refl, refl)
+plain_played d t Phase.Active Phase.Committing asks arcs h i = (refl, refl)
+plain_played d t Phase.Active Phase.Nil asks arcs h i = absurd (cc (i))
+plain_played d t Phase.Active Phase.Rolling asks arcs h i = absurd (cc (i))
+plain_played d t p q asks arcs h i = absurd (cc (h))
 
 same_turned : (who : Who) (f : TxEvent) (d : Digest) (c : Current) → d.current ≡ Some c → is_over (passed who f d c) ≡ false → (transact who f d).outs ≡ (turned who f d c).outs
 unfolding transact
@@ -355,7 +355,7 @@ commit_step who d p c now act ok live u is =
     on = goes_on (ask_commit t).next act
 
     outs : (transact who f d).outs ≡ (performed xs (prepare_each t.rows ++ ys)).1
-    outs = same_turned who f d c now (plain_played d t t.phase a.next.phase a.outs xs act on).1 ∙ (plain_played d t t.phase a.next.phase a.outs xs act on).0
+    outs = same_turned who f d c now (plain_played d t t.phase a.next.phase a xs act on).1 ∙ (plain_played d t t.phase a.next.phase a xs act on).0
 
     said : says p (transact who f d) ≡ has_said is_prepare_record (said_to p (performed xs (prepare_each t.rows ++ ys)).1)
     said = ap (λ (os : _). has_said is_prepare_record (said_to p os)) outs

@@ -1,6 +1,6 @@
 -- Prepare is said where the user asks to prepare a branch, or to commit, and nowhere else: by the events of a transaction, and
 -- an instance of the steps of a node.
-use Rattle.tp_known.proofs.Vocabulary.{if◌then◌else◌, ◌≡◌, ℕ, Bool, true, false, refl, ◌∙◌, arith, Option, Some, None, [], ◌∷◌, ◌||◌, BranchId, Report, DialogueRecord, RecState, Request, Phase, TxEvent, TxOut, Kept, KeptEvent, Who, Event, Current, Digest, is_active, is_ready, is_rolling, Sight, Acts, Nothing_happens, Out_of_phase, Row, Transaction, Turn, turn, and_then, is_under_at, find_row, find_row_by_id, row_holds, with_row, with_arc_lost, is_open_in_commit, roll, superior_rolls, takes_left, takes, end_up, transacted, settle, order, leave, count_branch, end_branch, branch_left, begin_rolling, complete_commit, complete_rollback, sight_of_tx, settled, Move, seen, turned, begin_on, entered, passage, is_leaving, Passage, said_to, has_said, Steps, IsAsked, carries_none, none_more, said_both, said_none, is_said, is_word, ◌&&◌}
+use Rattle.tp_known.proofs.Vocabulary.{if◌then◌else◌, ◌≡◌, ℕ, Bool, true, false, refl, ◌∙◌, arith, Option, Some, None, [], ◌∷◌, ◌||◌, BranchId, Report, DialogueRecord, RecState, Request, Phase, TxEvent, TxOut, Kept, KeptEvent, Who, Event, Current, Digest, is_active, is_ready, is_rolling, Sight, Acts, Nothing_happens, Out_of_phase, Row, Transaction, Turn, turn, and_then, is_under_at, find_row, find_row_by_id, row_holds, with_row, with_arc_lost, is_open_in_commit, roll, superior_rolls, takes_left, takes, end_up, transacted, settle, order, leave, count_branch, end_branch, branch_left, begin_rolling, complete_commit, complete_rollback, sight_of_tx, settled, Move, seen, turned, begin_on, entered, passage, is_leaving, Passage, said_to, has_said, Steps, IsAsked, carries_none, none_more, said_both, said_none, is_said, is_word, ◌&&◌, whole_turn}
 use Rattle.tp_model.specs.Keys.{is_prepare_record}
 use Rattle.tp_model.specs.Transactions.{lost_arc, by_user, replied, give_up, is_waited_for}
 use Rattle.tp_known.proofs.lemmas.Rare.{more, up, ordering, rolling, committing, unrolling, retrying}
@@ -182,7 +182,7 @@ mute_turned who f d c p off =
     let t : Transaction = seen who d.arcs c in
     let a : Turn = transacted f t in
     let w : Passage = passage (is_leaving f) t.phase a.next.phase in
-    said_played is_prepare_record refl d t w a.outs (entered t w d.arcs) p (unsaid_turn f t off)
+    said_played is_prepare_record refl d t w a (whole_turn f t) (entered t w d.arcs) p (unsaid_turn f t off)
 
 mute_settled : (k : Kept) (f : KeptEvent) → carries_none is_prepare_record (settled k f).outs ≡ true
 unfolding settled

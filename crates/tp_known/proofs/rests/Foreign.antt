@@ -1,5 +1,5 @@
 -- What no event of a transaction says on an association but its user's leaving: words of the dialogue, Begin and Left.
-use Rattle.tp_known.proofs.Vocabulary.{if◌then◌else◌, ◌≡◌, ℕ, Bool, true, false, refl, ◌∙◌, arith, List, [], ◌∷◌, ◌++◌, ◌&&◌, ◌==◌, not, nat_tests, DialogueRecord, TxEvent, TxOut, Kept, KeptEvent, Arc, Digest, performed_one, performed, Transaction, transacted, settled, is_leaving, Passage, Commits, played, committed_arcs, is_granting, grants, split_at_completion, said_to, has_said, is_grant_record, IsPut, is_apart_record, split_none, said_both, carries_not, carries_none, said_carried, said_none, and_left, and_right}
+use Rattle.tp_known.proofs.Vocabulary.{if◌then◌else◌, ◌≡◌, ℕ, Bool, true, false, refl, ◌∙◌, arith, List, [], ◌∷◌, ◌++◌, ◌&&◌, ◌==◌, not, nat_tests, DialogueRecord, TxEvent, TxOut, Kept, KeptEvent, Arc, Digest, performed_one, performed, Transaction, transacted, settled, is_leaving, Passage, Commits, played, committed_arcs, is_granting, grants, said_to, has_said, is_grant_record, IsPut, is_apart_record, said_both, carries_not, carries_none, said_carried, said_none, and_left, and_right, around_grants, parts_none, Turn, IsWhole, ap}
 use Rattle.tp_known.proofs.lemmas.Rare.{IsRare, silent_turn}
 
 abbrev pub is_foreign : DialogueRecord → Bool
@@ -94,35 +94,35 @@ grants_elsewhere p t (a ∷ arcs) none = go (is_granting t a) refl (a.peer.node 
     go false i v j rest = rest
 
 -- what is played says none of the words that its outputs do not carry
-pub said_played : (g : DialogueRecord → Bool) → g DialogueRecord.Grant ≡ false → (d : Digest) (t : Transaction) (w : Passage) (outs : List TxOut) (arcs : List Arc) (p : ℕ) → carries_none g outs ≡ true → has_said g (said_to p (played d t w outs arcs).1) ≡ false
+pub said_played : (g : DialogueRecord → Bool) → g DialogueRecord.Grant ≡ false → (d : Digest) (t : Transaction) (w : Passage) (asks : Turn) → IsWhole asks → (arcs : List Arc) (p : ℕ) → carries_none g asks.outs ≡ true → has_said g (said_to p (played d t w asks arcs).1) ≡ false
 unfolding played
-said_played g off d t Commits outs arcs p h =
-    let s = split_at_completion outs in
-    let k = split_none g outs h in
+said_played g off d t Commits asks whole arcs p h =
+    let s = around_grants asks in
+    let k = parts_none g s (ap (carries_none g) whole ∙ h) in
     let one = performed arcs s.0 in
     let mid : List Arc = committed_arcs d t one.0 in
     let two = performed mid (grants t one.0) in
     let three = performed two.0 s.1 in
     said_both g p (one.1 ++ two.1) three.1
     ∙ rw (said_both g p one.1 two.1, said_none g p arcs s.0 (and_left (carries_none g s.0) (carries_none g s.1) k), said_none g p mid (grants t one.0) (plain_grants g off t one.0), said_none g p two.0 s.1 (and_right (carries_none g s.0) (carries_none g s.1) k)) refl
-said_played g off d t _ outs arcs p h = said_none g p arcs outs h
+said_played g off d t _ asks whole arcs p h = said_none g p arcs asks.outs h
 
 -- nor a Grant, but at a completed commitment, on an arc of it
-pub granted_played : (d : Digest) (t : Transaction) (w : Passage) (outs : List TxOut) (arcs : List Arc) (p : ℕ) → ((a : Arc) → a.peer.node ≡ p → is_granting t a ≡ false) → carries_none is_grant_record outs ≡ true → has_said is_grant_record (said_to p (played d t w outs arcs).1) ≡ false
+pub granted_played : (d : Digest) (t : Transaction) (w : Passage) (asks : Turn) → IsWhole asks → (arcs : List Arc) (p : ℕ) → ((a : Arc) → a.peer.node ≡ p → is_granting t a ≡ false) → carries_none is_grant_record asks.outs ≡ true → has_said is_grant_record (said_to p (played d t w asks arcs).1) ≡ false
 unfolding played
-granted_played d t Commits outs arcs p none h =
-    let s = split_at_completion outs in
-    let k = split_none is_grant_record outs h in
+granted_played d t Commits asks whole arcs p none h =
+    let s = around_grants asks in
+    let k = parts_none is_grant_record s (ap (carries_none is_grant_record) whole ∙ h) in
     let one = performed arcs s.0 in
     let mid : List Arc = committed_arcs d t one.0 in
     let two = performed mid (grants t one.0) in
     let three = performed two.0 s.1 in
     said_both is_grant_record p (one.1 ++ two.1) three.1
     ∙ rw (said_both is_grant_record p one.1 two.1, said_none is_grant_record p arcs s.0 (and_left (carries_none is_grant_record s.0) (carries_none is_grant_record s.1) k), said_none_to is_grant_record p mid (grants t one.0) (grants_elsewhere p t one.0 none), said_none is_grant_record p two.0 s.1 (and_right (carries_none is_grant_record s.0) (carries_none is_grant_record s.1) k)) refl
-granted_played d t _ outs arcs p none h = said_none is_grant_record p arcs outs h
+granted_played d t _ asks whole arcs p none h = said_none is_grant_record p arcs asks.outs h
 
 -- outside its commitment no Grant is said at all
-pub ungranted_played : (d : Digest) (t : Transaction) (w : Passage) (outs : List TxOut) (arcs : List Arc) (p : ℕ) → (w ≡ Commits → ⊥) → carries_none is_grant_record outs ≡ true → has_said is_grant_record (said_to p (played d t w outs arcs).1) ≡ false
+pub ungranted_played : (d : Digest) (t : Transaction) (w : Passage) (asks : Turn) (arcs : List Arc) (p : ℕ) → (w ≡ Commits → ⊥) → carries_none is_grant_record asks.outs ≡ true → has_said is_grant_record (said_to p (played d t w asks arcs).1) ≡ false
 unfolding played
-ungranted_played d t Commits outs arcs p other h = absurd (other refl)
-ungranted_played d t _ outs arcs p other h = said_none is_grant_record p arcs outs h
+ungranted_played d t Commits asks arcs p other h = absurd (other refl)
+ungranted_played d t _ asks arcs p other h = said_none is_grant_record p arcs asks.outs h

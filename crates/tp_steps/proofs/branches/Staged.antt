@@ -11,7 +11,7 @@ use Rattle.tp_model.specs.declared.transaction.TxEvent.{TxEvent}
 use Rattle.tp_model.specs.declared.transaction.TxOut.{TxOut}
 use Rattle.tp_model.specs.Parts.{Key, Root, Under}
 use Rattle.tp_model.specs.Dialogues.{is_nil, is_active, is_ready, is_committing, is_rolling}
-use Rattle.tp_model.specs.Transactions.{Transaction, Turn, turn, is_under, all_done, all_rolled_back, log_ready, complete_commit, complete_rollback, begin_rolling, order, ask_commit, leave, count_branch, end_branch, branch_left, retried, transacted}
+use Rattle.tp_model.specs.Transactions.{Transaction, Turn, turn, is_under, all_done, all_rolled_back, log_ready, complete_commit, complete_rollback, begin_rolling, order, ask_commit, leave, count_branch, end_branch, branch_left, retried, transacted, part_by_part}
 use Rattle.tp_model.specs.Node.{is_leaving}
 use Rattle.tp_steps.specs.Turns.{Turns, falls, vote, decide, shut_given_up, row_dead}
 use Rattle.tp_steps.specs.Moves.{IsPut}
@@ -65,7 +65,7 @@ staged_forced e s t a some open_phase none = record {
     dead p h k = grind (arith, h, k)
 
 staged_then : (e : TxEvent) (s t : Transaction) (a b : Turn) (r : Option LogRec) → (is_some_rec a.rec || is_some_rec b.rec) ≡ is_some_rec r → IsStaged e s t a → IsStaged e s a.next b
-    → IsStaged e s t (record { rec = r; outs = a.outs ++ b.outs; next = b.next })
+    → IsStaged e s t (record { rec = r; outs = a.outs ++ b.outs; completion = part_by_part a.completion b.completion; next = b.next })
 staged_then e s t a b r some one two = record {
   active = λ h. rw (sym some) (through (is_active a.next.phase) (is_active b.next.phase) (falls e s) (is_leaving e) (is_some_rec a.rec) (is_some_rec b.rec) (one.active h) two.active);
   rolling = λ h. rw told (over (is_rolling a.next.phase) (is_rolling b.next.phase) (asks_tell is_rolled_told a.outs) (asks_tell is_rolled_told b.outs) (one.rolling h) two.rolling);

@@ -22,7 +22,7 @@ use Rattle.tp_model.specs.Dialogues.{is_nil, is_active, is_rolling, begun_by, na
 use Rattle.tp_model.specs.Arcs.{find_arc, link_of, link_with, with_dialogue, carried, carried_on, performed_one, performed}
 use Rattle.tp_model.specs.Transactions.{Transaction, Turn, aaid_of, node_key, transacted}
 use Rattle.tp_model.specs.Recovery.{settled}
-use Rattle.tp_model.specs.Node.{Move, move, perform, next_mark, with_mark_drawn, phase_of, seen, remaining, Passage, Commits, is_leaving, played, split_at_completion, perform_commit, committed_arcs, grants, with_begun, may_begin_on, begin_on, turned, keep}
+use Rattle.tp_model.specs.Node.{Move, move, perform, next_mark, with_mark_drawn, phase_of, seen, remaining, Passage, Commits, is_leaving, played, perform_commit, committed_arcs, grants, with_begun, may_begin_on, begin_on, turned, keep, around_grants}
 use Rattle.tp_model.specs.Keys.{logs_of, begun_children}
 use Rattle.tp_steps.specs.Turns.{falls}
 use Rattle.tp_steps.specs.Moves.{IsAsked, IsPut, IsLate, IsAmong, is_apart, are_apart, is_spoken, are_spoken}
@@ -41,15 +41,15 @@ use Rattle.tp_steps.proofs.links.Told.{told_append, told_performed, told_played}
 use Rattle.tp_steps.proofs.lemmas.Phases.{none_append}
 use Rattle.tp_steps.proofs.links.Apart.{apart_spoken, apart_grants, apart_turn}
 use Rattle.tp_steps.proofs.words.Hushed.{settled_spoken}
-use Rattle.tp_steps.proofs.links.Linked.{split_apart, one_more}
+use Rattle.tp_steps.proofs.links.Linked.{one_more, parts_apart}
 use Rattle.tp_steps.proofs.links.Links.{link_dialogue}
-use Rattle.tp_steps.proofs.links.Wrapped.{split_joins}
 use Rattle.tp_steps.proofs.log.Sound.{left_is, left_branches}
 use Rattle.tp_steps.proofs.log.SoundMoves.{IsSound}
 use Rattle.tp_steps.proofs.log.ApartLog.{keys_equal, IsOfKept, settled_of, apart_among}
 use Rattle.tp_steps.proofs.log.KinTurns.{kin, kids_seen, kids_left, kids_more, kin_turn}
 use Rattle.tp_steps.proofs.every.RootBegins.{begin_carried, first_append}
 use Rattle.tp_steps.proofs.every.BeginCases.{begun_over, begin_cases}
+use Rattle.tp_steps.proofs.links.Whole.{IsWhole, whole_turn}
 
 -- ---- the phase of one key in an event: whether the event rolls or leaves, whether a record of the key is forced, and
 -- whether the user is told that a rollback is complete
@@ -199,23 +199,22 @@ grants_none : (t : Transaction) (arcs : List Arc) → begins_none (grants t arcs
 grants_none t [] = refl
 grants_none t (a ∷ arcs) = grind (arith, grants_none t arcs)
 
-first_commit : (d : Digest) (t : Transaction) (outs : List TxOut) (arcs : List Arc) → begins_none outs ≡ true → are_apart outs ≡ true → first_begin (perform_commit d t outs arcs).1 ≡ None
-first_commit d t outs arcs h k =
-    let s = split_at_completion outs in
-    let parts = split_apart outs k in
+first_commit : (d : Digest) (t : Transaction) (s : List TxOut × List TxOut) (arcs : List Arc) → begins_none (s.0 ++ s.1) ≡ true → are_apart (s.0 ++ s.1) ≡ true → first_begin (perform_commit d t s arcs).1 ≡ None
+first_commit d t s arcs h k =
+    let parts = parts_apart s k in
     let one = performed arcs s.0 in
     let two = performed (committed_arcs d t one.0) (grants t one.0) in
     let three = performed two.0 s.1 in
-    let both : (begins_none s.0 && begins_none s.1) ≡ true = sym (none_append s.0 s.1) ∙ ap begins_none (split_joins outs) ∙ h in
+    let both : (begins_none s.0 && begins_none s.1) ≡ true = sym (none_append s.0 s.1) ∙ h in
     let a : first_begin one.1 ≡ None = first_performed arcs s.0 (and_left (begins_none s.0) (begins_none s.1) both) (and_left (are_apart s.0) (are_apart s.1) parts) in
     let b : first_begin two.1 ≡ None = first_performed (committed_arcs d t one.0) (grants t one.0) (grants_none t one.0) (apart_grants t one.0) in
     let c : first_begin three.1 ≡ None = first_performed two.0 s.1 (and_right (begins_none s.0) (begins_none s.1) both) (and_right (are_apart s.0) (are_apart s.1) parts) in
     first_none_append (one.1 ++ two.1) three.1 (first_none_append one.1 two.1 a ∙ b) ∙ c
 
-pub first_played : (d : Digest) (t : Transaction) (w : Passage) (outs : List TxOut) (arcs : List Arc) → begins_none outs ≡ true → are_apart outs ≡ true → first_begin (played d t w outs arcs).1 ≡ None
+pub first_played : (d : Digest) (t : Transaction) (w : Passage) (a : Turn) → IsWhole a → (arcs : List Arc) → begins_none a.outs ≡ true → are_apart a.outs ≡ true → first_begin (played d t w a arcs).1 ≡ None
 unfolding played
-first_played d t Commits outs arcs h k = first_commit d t outs arcs h k
-first_played d t _ outs arcs h k = first_performed arcs outs h k
+first_played d t Commits a whole arcs h k = first_commit d t (around_grants a) arcs (ap begins_none whole ∙ h) (ap are_apart whole ∙ k)
+first_played d t _ a whole arcs h k = first_performed arcs a.outs h k
 
 -- what is said outside transactions begins nothing, and tells of no rollback
 pub spoken_none : (outs : List TxOut) → are_spoken outs ≡ true → begins_none outs ≡ true
@@ -321,7 +320,7 @@ turn_phase who e fall leave s d c f means at asked put un = record {
     told = told_turn f t put un
 
     tells : tells_rolled (turned who f d c) ≡ asks_tell is_rolled_told a.outs
-    tells = told_played is_rolled_told d t _ a.outs _
+    tells = told_played is_rolled_told d t _ a (whole_turn f t) _
 
     fell : falls f t ≡ true → fall ≡ true
     fell h = means.falls_so c f d.arcs at asked h
@@ -365,7 +364,7 @@ course_turned who e fall leave first s d c f means now at asked put like right =
     step = turn_phase who e fall leave s d c f means at asked put (right.0.3 c now)
 
     none : first_begin m.outs ≡ None
-    none = first_played d t _ a.outs _ (passed_turn f t put).begins (apart_turn f t put)
+    none = first_played d t _ a (whole_turn f t) _ (passed_turn f t put).begins (apart_turn f t put)
 
     nil : (p : Phase) → is_nil p ≡ true → p ≡ Phase.Nil
     nil Phase.Nil h = refl

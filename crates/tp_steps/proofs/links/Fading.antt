@@ -11,8 +11,8 @@ use Rattle.tp_model.specs.Parts.{Out, Link, Idle, Opening, Offered, Live, Dialog
 use Rattle.tp_model.specs.Links.{is_live, with_one_taken}
 use Rattle.tp_model.specs.Dialogues.{is_end_deferred, Asked, Ask_defer_end, Ask_defer_grant, Heard, Hear_defer_end, Hear_defer_grant, said, heard, cleared, begun_by, completed, rested, woken}
 use Rattle.tp_model.specs.Arcs.{find_arc, is_live_with_peer, put_arc, without_arc, with_dialogue, with_link, with_dialogues, carried_on, carried, shut_with, performed_one, performed}
-use Rattle.tp_model.specs.Transactions.{Transaction}
-use Rattle.tp_model.specs.Node.{is_end_deferred_at, Passage, Enters, Falls, Falls_at_once, Commits, Rolls_back, Leaves, is_arc_of, without_deferral, entered, played, completed_arcs, left_arcs, split_at_completion, perform_commit, committed_arcs, committed_dialogue, grants}
+use Rattle.tp_model.specs.Transactions.{Transaction, Turn}
+use Rattle.tp_model.specs.Node.{is_end_deferred_at, Passage, Enters, Falls, Falls_at_once, Commits, Rolls_back, Leaves, is_arc_of, without_deferral, entered, played, completed_arcs, left_arcs, perform_commit, committed_arcs, committed_dialogue, grants, around_grants}
 
 -- ---- one arc, and all of them
 
@@ -227,9 +227,8 @@ committed_keeps : (d : Digest) (t : Transaction) (a : Arc) → is_end_deferred (
 unfolding said completed
 committed_keeps d t a h = grind (arith, h)
 
-fades_commit : (d : Digest) (t : Transaction) (outs : List TxOut) (arcs : List Arc) → Fades arcs (perform_commit d t outs arcs).0
-fades_commit d t outs arcs =
-    let s = split_at_completion outs in
+fades_commit : (d : Digest) (t : Transaction) (s : List TxOut × List TxOut) (arcs : List Arc) → Fades arcs (perform_commit d t s arcs).0
+fades_commit d t s arcs =
     let one : List Arc = (performed arcs s.0).0 in
     let mid : List Arc = committed_arcs d t one in
     let two : List Arc = (performed mid (grants t one)).0 in
@@ -244,13 +243,13 @@ fades_completed d t o arcs = fades_dialogues arcs (is_arc_of t) _ (λ a h. keeps
 fades_left : (t : Transaction) (arcs : List Arc) → Fades arcs (left_arcs t arcs)
 fades_left t arcs = fades_then arcs _ (left_arcs t arcs) (fades_dialogues arcs _ _ (λ a h. keeps_completed Outcome.Rollback Side.Superior a.dialogue h)) (fades_dialogues _ _ _ (λ a h. keeps_rested a.dialogue h))
 
-pub fades_played : (d : Digest) (t : Transaction) (w : Passage) (outs : List TxOut) (arcs : List Arc) → Fades arcs (played d t w outs arcs).0
+pub fades_played : (d : Digest) (t : Transaction) (w : Passage) (a : Turn) (arcs : List Arc) → Fades arcs (played d t w a arcs).0
 unfolding played
-fades_played d t Falls_at_once outs arcs = let s = performed arcs outs in fades_then arcs s.0 (completed_arcs d t Outcome.Rollback s.0) (fades_performed arcs outs) (fades_completed d t Outcome.Rollback s.0)
-fades_played d t Commits outs arcs = fades_commit d t outs arcs
-fades_played d t Rolls_back outs arcs = let s = performed arcs outs in fades_then arcs s.0 (completed_arcs d t Outcome.Rollback s.0) (fades_performed arcs outs) (fades_completed d t Outcome.Rollback s.0)
-fades_played d t Leaves outs arcs = let s = performed arcs outs in fades_then arcs s.0 (left_arcs t s.0) (fades_performed arcs outs) (fades_left t s.0)
-fades_played d t _ outs arcs = fades_performed arcs outs
+fades_played d t Falls_at_once a arcs = let s = performed arcs a.outs in fades_then arcs s.0 (completed_arcs d t Outcome.Rollback s.0) (fades_performed arcs a.outs) (fades_completed d t Outcome.Rollback s.0)
+fades_played d t Commits a arcs = fades_commit d t (around_grants a) arcs
+fades_played d t Rolls_back a arcs = let s = performed arcs a.outs in fades_then arcs s.0 (completed_arcs d t Outcome.Rollback s.0) (fades_performed arcs a.outs) (fades_completed d t Outcome.Rollback s.0)
+fades_played d t Leaves a arcs = let s = performed arcs a.outs in fades_then arcs s.0 (left_arcs t s.0) (fades_performed arcs a.outs) (fades_left t s.0)
+fades_played d t _ a arcs = fades_performed arcs a.outs
 
 -- a rollback defers nothing on its arcs
 pub forgets_all : (t : Transaction) (arcs : List Arc) (p : ℕ) → ((a : Arc) → a.peer.node ≡ p → is_arc_of t a ≡ true) → is_end_deferred_at (entered t Falls arcs) p ≡ false

@@ -1,6 +1,6 @@
 -- From its prelude on, an event sends to a peer what the link with it sends, and draws marks only upwards: an instance
 -- of the steps of a node.
-use Rattle.std.proofs.Common.{◌≡◌, ◌≤◌, ℕ, suc, true, refl, sym, subst, ◌∙◌, arith, Some, List, [], ◌∷◌, ◌++◌, ◌&&◌}
+use Rattle.std.proofs.Common.{◌≡◌, ◌≤◌, ℕ, suc, true, refl, sym, subst, ◌∙◌, arith, Some, List, [], ◌∷◌, ◌++◌, ◌&&◌, ap}
 use Rattle.tp_names.specs.declared.outcome.Outcome.{Outcome}
 use Rattle.tp_records.specs.declared.dialogue.DialogueRecord.{DialogueRecord}
 use Rattle.tp_model.specs.declared.arc.Side.{Side}
@@ -11,21 +11,21 @@ use Rattle.tp_model.specs.Arcs.{find_arc, link_with, with_dialogue, without_arc,
 use Rattle.tp_model.specs.Dialogues.{begun_by, named_holder}
 use Rattle.tp_model.specs.Transactions.{Transaction, Turn, aaid_of, transacted}
 use Rattle.tp_model.specs.Recovery.{settled}
-use Rattle.tp_model.specs.Node.{Move, move, followed, perform, next_mark, seen, Passage, Stays, Enters, Falls, Falls_at_once, Commits, Rolls_back, Leaves, passage, is_leaving, entered, played, completed_arcs, left_arcs, split_at_completion, perform_commit, committed_arcs, grants, may_begin_on, begin_on}
+use Rattle.tp_model.specs.Node.{Move, move, followed, perform, next_mark, seen, Passage, Stays, Enters, Falls, Falls_at_once, Commits, Rolls_back, Leaves, passage, is_leaving, entered, played, completed_arcs, left_arcs, perform_commit, committed_arcs, grants, may_begin_on, begin_on, around_grants}
 use Rattle.tp_model.specs.Node.{turned}
 use Rattle.tp_steps.specs.Moves.{are_apart, Moves, IsPut}
 use Rattle.tp_steps.specs.Traces.{IsSaidOver, IsLinked}
 use Rattle.tp_steps.proofs.links.Links.{over_none, over_then, over_performed, over_without, link_dialogue, link_dialogues}
-use Rattle.tp_steps.proofs.links.Apart.{apart_spoken, apart_grants, apart_settled, apart_turn}
+use Rattle.tp_steps.proofs.links.Apart.{apart_spoken, apart_grants, apart_settled, apart_turn, apart_append}
 use Rattle.tp_steps.proofs.every.BeginCases.{begun_over, begin_cases}
 use Rattle.std.proofs.Math.Nat.{le_refl}
 use Rattle.tp_steps.proofs.words.Fair.{at_most_then}
+use Rattle.tp_steps.proofs.links.Whole.{IsWhole, whole_turn}
 
 -- ---- outputs of a transaction at the arcs
 
-pub split_apart : (outs : List TxOut) → are_apart outs ≡ true → (are_apart (split_at_completion outs).0 && are_apart (split_at_completion outs).1) ≡ true
-split_apart [] h = refl
-split_apart (o ∷ outs) h = let rest = split_apart outs (grind arith) in grind (arith, rest)
+pub parts_apart : (s : List TxOut × List TxOut) → are_apart (s.0 ++ s.1) ≡ true → (are_apart s.0 && are_apart s.1) ≡ true
+parts_apart s h = sym (apart_append s.0 s.1) ∙ h
 
 pub link_entered : (t : Transaction) (w : Passage) (arcs : List Arc) (p : ℕ) → link_with (entered t w arcs) p ≡ link_with arcs p
 unfolding entered
@@ -53,11 +53,10 @@ over_ends p l m n outs same over = subst (λ (k : Link). IsSaidOver p l outs k) 
 over_begins : (p : ℕ) (l m n : Link) (outs : List Out) → m ≡ l → IsSaidOver p m outs n → IsSaidOver p l outs n
 over_begins p l m n outs same over = subst (λ (k : Link). IsSaidOver p k outs n) same over
 
-over_commit : (d : Digest) (t : Transaction) (outs : List TxOut) (arcs : List Arc) (p : ℕ) → are_apart outs ≡ true
-    → IsSaidOver p (link_with arcs p) (perform_commit d t outs arcs).1 (link_with (perform_commit d t outs arcs).0 p)
-over_commit d t outs arcs p h =
-    let s = split_at_completion outs in
-    let parts = split_apart outs h in
+over_commit : (d : Digest) (t : Transaction) (s : List TxOut × List TxOut) (arcs : List Arc) (p : ℕ) → are_apart (s.0 ++ s.1) ≡ true
+    → IsSaidOver p (link_with arcs p) (perform_commit d t s arcs).1 (link_with (perform_commit d t s arcs).0 p)
+over_commit d t s arcs p h =
+    let parts = parts_apart s h in
     let one = performed arcs s.0 in
     let mid : List Arc = committed_arcs d t one.0 in
     let two = performed mid (grants t one.0) in
@@ -68,20 +67,20 @@ over_commit d t outs arcs p h =
     let third : IsSaidOver p (link_with two.0 p) three.1 (link_with three.0 p) = over_performed two.0 s.1 p (grind (arith, parts)) in
     over_then p (link_with arcs p) (link_with two.0 p) (link_with three.0 p) (one.1 ++ two.1) three.1 (over_then p (link_with arcs p) (link_with one.0 p) (link_with two.0 p) one.1 two.1 first second) third
 
-pub over_played : (d : Digest) (t : Transaction) (w : Passage) (outs : List TxOut) (arcs : List Arc) (p : ℕ) → are_apart outs ≡ true
-    → IsSaidOver p (link_with arcs p) (played d t w outs arcs).1 (link_with (played d t w outs arcs).0 p)
+pub over_played : (d : Digest) (t : Transaction) (w : Passage) (b : Turn) → IsWhole b → (arcs : List Arc) (p : ℕ) → are_apart b.outs ≡ true
+    → IsSaidOver p (link_with arcs p) (played d t w b arcs).1 (link_with (played d t w b arcs).0 p)
 unfolding played
-over_played d t Falls_at_once outs arcs p h =
-    let a = performed arcs outs in
-    over_ends p (link_with arcs p) (link_with a.0 p) (link_with (completed_arcs d t Outcome.Rollback a.0) p) a.1 (link_completed d t Outcome.Rollback a.0 p) (over_performed arcs outs p h)
-over_played d t Commits outs arcs p h = over_commit d t outs arcs p h
-over_played d t Rolls_back outs arcs p h =
-    let a = performed arcs outs in
-    over_ends p (link_with arcs p) (link_with a.0 p) (link_with (completed_arcs d t Outcome.Rollback a.0) p) a.1 (link_completed d t Outcome.Rollback a.0 p) (over_performed arcs outs p h)
-over_played d t Leaves outs arcs p h =
-    let a = performed arcs outs in
-    over_ends p (link_with arcs p) (link_with a.0 p) (link_with (left_arcs t a.0) p) a.1 (link_left t a.0 p) (over_performed arcs outs p h)
-over_played d t _ outs arcs p h = over_performed arcs outs p h
+over_played d t Falls_at_once b whole arcs p h =
+    let a = performed arcs b.outs in
+    over_ends p (link_with arcs p) (link_with a.0 p) (link_with (completed_arcs d t Outcome.Rollback a.0) p) a.1 (link_completed d t Outcome.Rollback a.0 p) (over_performed arcs b.outs p h)
+over_played d t Commits b whole arcs p h = over_commit d t (around_grants b) arcs p (ap are_apart whole ∙ h)
+over_played d t Rolls_back b whole arcs p h =
+    let a = performed arcs b.outs in
+    over_ends p (link_with arcs p) (link_with a.0 p) (link_with (completed_arcs d t Outcome.Rollback a.0) p) a.1 (link_completed d t Outcome.Rollback a.0 p) (over_performed arcs b.outs p h)
+over_played d t Leaves b whole arcs p h =
+    let a = performed arcs b.outs in
+    over_ends p (link_with arcs p) (link_with a.0 p) (link_with (left_arcs t a.0) p) a.1 (link_left t a.0 p) (over_performed arcs b.outs p h)
+over_played d t _ b whole arcs p h = over_performed arcs b.outs p h
 
 -- ---- the steps
 
@@ -94,9 +93,9 @@ linked_turned who f d c p put =
     let a : Turn = transacted f t in
     let w : Passage = passage (is_leaving f) t.phase a.next.phase in
     let arcs : List Arc = entered t w d.arcs in
-    let s = played d t w a.outs arcs in
+    let s = played d t w a arcs in
     record {
-      over = over_begins p (link_with d.arcs p) (link_with arcs p) (link_with s.0 p) s.1 (link_entered t w d.arcs p) (over_played d t w a.outs arcs p (apart_turn f t put));
+      over = over_begins p (link_with d.arcs p) (link_with arcs p) (link_with s.0 p) s.1 (link_entered t w d.arcs p) (over_played d t w a (whole_turn f t) arcs p (apart_turn f t put));
       drawn = le_refl d.drawn;
       boot = refl;
       superior = refl;

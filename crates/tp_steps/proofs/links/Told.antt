@@ -5,15 +5,15 @@ use Rattle.tp_records.specs.declared.dialogue.DialogueRecord.{DialogueRecord}
 use Rattle.tp_model.specs.declared.transaction.TxOut.{TxOut}
 use Rattle.tp_model.specs.Parts.{Out, Arc, Digest}
 use Rattle.tp_model.specs.Arcs.{carried, performed_one, performed}
-use Rattle.tp_model.specs.Transactions.{Transaction}
-use Rattle.tp_model.specs.Node.{Passage, Commits, played, split_at_completion, perform_commit, committed_arcs, grants}
+use Rattle.tp_model.specs.Transactions.{Transaction, Turn}
+use Rattle.tp_model.specs.Node.{Passage, Commits, played, perform_commit, committed_arcs, grants, around_grants}
 use Rattle.tp_steps.specs.Turns.{is_outcome_told}
 use Rattle.tp_steps.specs.Moves.{is_spoken, are_spoken}
 use Rattle.tp_steps.specs.Passages.{asks_tell}
 use Rattle.tp_steps.specs.Trees.{out_tells}
 use Rattle.tp_steps.proofs.lemmas.Equality.{and_left, and_right}
 use Rattle.tp_steps.proofs.lemmas.Phases.{tell_append}
-use Rattle.tp_steps.proofs.links.Wrapped.{split_joins}
+use Rattle.tp_steps.proofs.links.Whole.{IsWhole}
 
 pub told_append : (f : Indication → Bool) (xs ys : List Out) → out_tells f (xs ++ ys) ≡ (out_tells f xs || out_tells f ys)
 told_append f [] ys = refl
@@ -38,20 +38,19 @@ told_grants : (f : Indication → Bool) (t : Transaction) (arcs : List Arc) → 
 told_grants f t [] = refl
 told_grants f t (a ∷ arcs) = grind (arith, told_grants f t arcs)
 
-told_commit : (f : Indication → Bool) (d : Digest) (t : Transaction) (outs : List TxOut) (arcs : List Arc) → out_tells f (perform_commit d t outs arcs).1 ≡ asks_tell f outs
-told_commit f d t outs arcs =
-    let s = split_at_completion outs in
+told_commit : (f : Indication → Bool) (d : Digest) (t : Transaction) (s : List TxOut × List TxOut) (arcs : List Arc) → out_tells f (perform_commit d t s arcs).1 ≡ asks_tell f (s.0 ++ s.1)
+told_commit f d t s arcs =
     let one = performed arcs s.0 in
     let two = performed (committed_arcs d t one.0) (grants t one.0) in
     let three = performed two.0 s.1 in
-    let joined : asks_tell f outs ≡ (asks_tell f s.0 || asks_tell f s.1) = ap (asks_tell f) (sym (split_joins outs)) ∙ tell_append f s.0 s.1 in
+    let joined : asks_tell f (s.0 ++ s.1) ≡ (asks_tell f s.0 || asks_tell f s.1) = tell_append f s.0 s.1 in
     let none : out_tells f two.1 ≡ false = told_performed f (committed_arcs d t one.0) (grants t one.0) ∙ told_grants f t one.0 in
     told_append f (one.1 ++ two.1) three.1 ∙ rw (told_append f one.1 two.1, none, told_performed f arcs s.0, told_performed f two.0 s.1, joined) (grind arith)
 
-pub told_played : (f : Indication → Bool) (d : Digest) (t : Transaction) (w : Passage) (outs : List TxOut) (arcs : List Arc) → out_tells f (played d t w outs arcs).1 ≡ asks_tell f outs
+pub told_played : (f : Indication → Bool) (d : Digest) (t : Transaction) (w : Passage) (a : Turn) → IsWhole a → (arcs : List Arc) → out_tells f (played d t w a arcs).1 ≡ asks_tell f a.outs
 unfolding played
-told_played f d t Commits outs arcs = told_commit f d t outs arcs
-told_played f d t _ outs arcs = told_performed f arcs outs
+told_played f d t Commits a whole arcs = told_commit f d t (around_grants a) arcs ∙ ap (asks_tell f) whole
+told_played f d t _ a whole arcs = told_performed f arcs a.outs
 
 -- outside transactions no outcome is told
 pub spoken_untold : (f : Indication → Bool) → ((i : Indication) → is_outcome_told i ≡ false → f i ≡ false) → (outs : List TxOut) → are_spoken outs ≡ true → asks_tell f outs ≡ false

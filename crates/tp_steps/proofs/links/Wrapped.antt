@@ -9,15 +9,16 @@ use Rattle.tp_model.specs.declared.transaction.TxOut.{TxOut}
 use Rattle.tp_model.specs.Parts.{Out, Link, Idle, Arc, Digest}
 use Rattle.tp_model.specs.Links.{is_live}
 use Rattle.tp_model.specs.Arcs.{find_arc, link_of, link_with, without_arc, carried, shut_with, performed_one, performed}
-use Rattle.tp_model.specs.Transactions.{Transaction}
-use Rattle.tp_model.specs.Node.{Passage, Falls_at_once, Commits, Rolls_back, Leaves, entered, played, completed_arcs, committed_arcs, left_arcs, is_commit_complete, split_at_completion, perform_commit, grants}
+use Rattle.tp_model.specs.Transactions.{Transaction, Turn}
+use Rattle.tp_model.specs.Node.{Passage, Falls_at_once, Commits, Rolls_back, Leaves, entered, played, completed_arcs, committed_arcs, left_arcs, perform_commit, grants, around_grants}
 use Rattle.tp_model.specs.Questions.{said_to}
 use Rattle.tp_steps.specs.Moves.{is_apart, are_apart}
 use Rattle.tp_steps.specs.Facts.{only_words, spoken, stays, words_to}
 use Rattle.tp_steps.proofs.links.Links.{said_append, link_without, shut_silent, recovery_silent}
 use Rattle.tp_steps.proofs.lemmas.Words.{spoken_append, stays_append}
 use Rattle.tp_steps.proofs.links.Apart.{apart_grants}
-use Rattle.tp_steps.proofs.links.Linked.{split_apart, link_entered, link_completed, link_committed, link_left}
+use Rattle.tp_steps.proofs.links.Linked.{link_entered, link_completed, link_committed, link_left, parts_apart}
+use Rattle.tp_steps.proofs.links.Whole.{IsWhole}
 
 pub words_append : (xs ys : List DialogueRecord) → only_words (xs ++ ys) ≡ only_words xs ++ only_words ys
 words_append [] ys = refl
@@ -82,14 +83,6 @@ agrees_performed arcs (o ∷ outs) p h =
 
 -- ---- with the passages of a transaction
 
-pub split_joins : (outs : List TxOut) → (split_at_completion outs).0 ++ (split_at_completion outs).1 ≡ outs
-split_joins [] = refl
-split_joins (o ∷ outs) = go (is_commit_complete o) refl (split_joins outs)
-  where
-    go : (b : Bool) → is_commit_complete o ≡ b → (split_at_completion outs).0 ++ (split_at_completion outs).1 ≡ outs → (split_at_completion (o ∷ outs)).0 ++ (split_at_completion (o ∷ outs)).1 ≡ o ∷ outs
-    go true i rest = rw (i, split_at_completion) refl
-    go false i rest = rw (i, split_at_completion) (ap (λ (l : List TxOut). o ∷ l) rest)
-
 grants_spoken : (b : Bool) (p : ℕ) (t : Transaction) (arcs : List Arc) → spoken b p (grants t arcs) ≡ []
 grants_spoken b p t [] = refl
 grants_spoken b p t (a ∷ arcs) = grind (arith, grants_spoken b p t arcs)
@@ -105,11 +98,10 @@ agrees_between p a b c xs gs ys us none live one = record {
   live = one.live ∙ stays_append a p (xs ++ gs) ys ∙ rw (stays_append a p xs gs, live) (sym (stays_append a p xs ys));
 }
 
-agrees_commit : (d : Digest) (t : Transaction) (outs : List TxOut) (arcs : List Arc) (p : ℕ) → are_apart outs ≡ true
-    → Agrees p (is_live (link_with arcs p)) outs (perform_commit d t outs arcs).1 (is_live (link_with (perform_commit d t outs arcs).0 p))
-agrees_commit d t outs arcs p h =
-    let s = split_at_completion outs in
-    let parts = split_apart outs h in
+agrees_commit : (d : Digest) (t : Transaction) (s : List TxOut × List TxOut) (arcs : List Arc) (p : ℕ) → are_apart (s.0 ++ s.1) ≡ true
+    → Agrees p (is_live (link_with arcs p)) (s.0 ++ s.1) (perform_commit d t s arcs).1 (is_live (link_with (perform_commit d t s arcs).0 p))
+agrees_commit d t s arcs p h =
+    let parts = parts_apart s h in
     let one = performed arcs s.0 in
     let mid : List Arc = committed_arcs d t one.0 in
     let gs : List TxOut = grants t one.0 in
@@ -123,29 +115,31 @@ agrees_commit d t outs arcs p h =
     let all : Agrees p b (s.0 ++ gs ++ s.1) (one.1 ++ two.1 ++ three.1) (is_live (link_with three.0 p)) =
     agrees_then p b (is_live (link_with two.0 p)) (is_live (link_with three.0 p)) (s.0 ++ gs) s.1 (one.1 ++ two.1) three.1
     (agrees_then p b (is_live (link_with one.0 p)) (is_live (link_with two.0 p)) s.0 gs one.1 two.1 first second) third in
-    subst (λ (os : List TxOut). Agrees p b os (one.1 ++ two.1 ++ three.1) (is_live (link_with three.0 p))) (split_joins outs)
-    (agrees_between p b b (is_live (link_with three.0 p)) s.0 gs s.1 (one.1 ++ two.1 ++ three.1) (grants_spoken (stays b p s.0) p t one.0) (grants_stay (stays b p s.0) p t one.0) all)
+    agrees_between p b b (is_live (link_with three.0 p)) s.0 gs s.1 (one.1 ++ two.1 ++ three.1) (grants_spoken (stays b p s.0) p t one.0) (grants_stay (stays b p s.0) p t one.0) all
 
 after_is : (p : ℕ) (a : Bool) (outs : List TxOut) (sent : List Out) (l m : Link) → l ≡ m → Agrees p a outs sent (is_live m) → Agrees p a outs sent (is_live l)
 after_is p a outs sent l m same one = rw same one
 
-agrees_at : (d : Digest) (t : Transaction) (w : Passage) (outs : List TxOut) (arcs : List Arc) (p : ℕ) → are_apart outs ≡ true
-    → Agrees p (is_live (link_with arcs p)) outs (played d t w outs arcs).1 (is_live (link_with (played d t w outs arcs).0 p))
+agrees_at : (d : Digest) (t : Transaction) (w : Passage) (b : Turn) → IsWhole b → (arcs : List Arc) (p : ℕ) → are_apart b.outs ≡ true
+    → Agrees p (is_live (link_with arcs p)) b.outs (played d t w b arcs).1 (is_live (link_with (played d t w b arcs).0 p))
 unfolding played
-agrees_at d t Falls_at_once outs arcs p h =
-    let a = performed arcs outs in
-    after_is p (is_live (link_with arcs p)) outs a.1 (link_with (completed_arcs d t Outcome.Rollback a.0) p) (link_with a.0 p) (link_completed d t Outcome.Rollback a.0 p) (agrees_performed arcs outs p h)
-agrees_at d t Commits outs arcs p h = agrees_commit d t outs arcs p h
-agrees_at d t Rolls_back outs arcs p h =
-    let a = performed arcs outs in
-    after_is p (is_live (link_with arcs p)) outs a.1 (link_with (completed_arcs d t Outcome.Rollback a.0) p) (link_with a.0 p) (link_completed d t Outcome.Rollback a.0 p) (agrees_performed arcs outs p h)
-agrees_at d t Leaves outs arcs p h =
-    let a = performed arcs outs in
-    after_is p (is_live (link_with arcs p)) outs a.1 (link_with (left_arcs t a.0) p) (link_with a.0 p) (link_left t a.0 p) (agrees_performed arcs outs p h)
-agrees_at d t _ outs arcs p h = agrees_performed arcs outs p h
+agrees_at d t Falls_at_once b whole arcs p h =
+    let a = performed arcs b.outs in
+    after_is p (is_live (link_with arcs p)) b.outs a.1 (link_with (completed_arcs d t Outcome.Rollback a.0) p) (link_with a.0 p) (link_completed d t Outcome.Rollback a.0 p) (agrees_performed arcs b.outs p h)
+agrees_at d t Commits b whole arcs p h =
+    let r = played d t Commits b arcs in
+    subst (λ (os : List TxOut). Agrees p (is_live (link_with arcs p)) os r.1 (is_live (link_with r.0 p))) whole (agrees_commit d t (around_grants b) arcs p (ap are_apart whole ∙ h))
+agrees_at d t Rolls_back b whole arcs p h =
+    let a = performed arcs b.outs in
+    after_is p (is_live (link_with arcs p)) b.outs a.1 (link_with (completed_arcs d t Outcome.Rollback a.0) p) (link_with a.0 p) (link_completed d t Outcome.Rollback a.0 p) (agrees_performed arcs b.outs p h)
+agrees_at d t Leaves b whole arcs p h =
+    let a = performed arcs b.outs in
+    after_is p (is_live (link_with arcs p)) b.outs a.1 (link_with (left_arcs t a.0) p) (link_with a.0 p) (link_left t a.0 p) (agrees_performed arcs b.outs p h)
+agrees_at d t _ b whole arcs p h = agrees_performed arcs b.outs p h
 
 -- the outputs of a transaction, with all that its passage does at the arcs
-pub agrees_played : (d : Digest) (t : Transaction) (w : Passage) (outs : List TxOut) (arcs : List Arc) (p : ℕ) → are_apart outs ≡ true
-    → Agrees p (is_live (link_with arcs p)) outs (played d t w outs (entered t w arcs)).1 (is_live (link_with (played d t w outs (entered t w arcs)).0 p))
-agrees_played d t w outs arcs p h =
-    subst (λ (v : Bool). Agrees p v outs (played d t w outs (entered t w arcs)).1 (is_live (link_with (played d t w outs (entered t w arcs)).0 p))) (ap is_live (link_entered t w arcs p)) (agrees_at d t w outs (entered t w arcs) p h)
+pub agrees_played : (d : Digest) (t : Transaction) (w : Passage) (b : Turn) → IsWhole b → (arcs : List Arc) (p : ℕ) → are_apart b.outs ≡ true
+    → Agrees p (is_live (link_with arcs p)) b.outs (played d t w b (entered t w arcs)).1 (is_live (link_with (played d t w b (entered t w arcs)).0 p))
+agrees_played d t w b whole arcs p h =
+    let r = played d t w b (entered t w arcs) in
+    subst (λ (v : Bool). Agrees p v b.outs r.1 (is_live (link_with r.0 p))) (ap is_live (link_entered t w arcs p)) (agrees_at d t w b whole (entered t w arcs) p h)

@@ -15,7 +15,7 @@ use Rattle.tp_model.specs.Dialogues.{is_active, is_committing, begun_by, named_h
 use Rattle.tp_model.specs.Arcs.{find_arc, with_dialogue, carried, performed_one, performed}
 use Rattle.tp_model.specs.Transactions.{Transaction, Turn, aaid_of, transacted}
 use Rattle.tp_model.specs.Recovery.{is_commit, settled, kept_after}
-use Rattle.tp_model.specs.Node.{Move, move, followed, perform, next_mark, with_mark_drawn, phase_of, seen, fresh_current, Passage, Commits, passage, is_leaving, entered, played, split_at_completion, perform_commit, committed_arcs, grants, with_begun, may_begin_on, begin_on, keep}
+use Rattle.tp_model.specs.Node.{Move, move, followed, perform, next_mark, with_mark_drawn, phase_of, seen, fresh_current, Passage, Commits, passage, is_leaving, entered, played, perform_commit, committed_arcs, grants, with_begun, may_begin_on, begin_on, keep, around_grants}
 use Rattle.tp_model.specs.Outcomes.{is_now}
 use Rattle.tp_model.specs.Node.{turned}
 use Rattle.tp_steps.specs.Moves.{orders_in, keeps_commit, is_committed_in, Moves, IsPut}
@@ -25,11 +25,11 @@ use Rattle.tp_steps.specs.Orders.{sends_order, IsOwnMove}
 use Rattle.tp_steps.proofs.log.Passed.{passed_turn}
 use Rattle.tp_steps.proofs.lemmas.Equality.{or_case, and_left, and_right}
 use Rattle.tp_steps.proofs.words.Treed.{now_left, phase_left}
-use Rattle.tp_steps.proofs.links.Wrapped.{split_joins}
 use Rattle.tp_steps.proofs.log.Asking.{none_grants, asks_turn}
 use Rattle.tp_steps.proofs.log.Owned.{orders_append, key_aaid}
 use Rattle.tp_steps.proofs.every.BeginCases.{begun_over, begin_cases}
 use Rattle.tp_steps.proofs.lemmas.EachKept.{HoldsBy, one_after}
+use Rattle.tp_steps.proofs.links.Whole.{IsWhole, whole_turn}
 
 -- ---- at the arcs
 
@@ -52,20 +52,19 @@ sends_performed u arcs (o ∷ outs) =
     let next : List Arc = (performed_one arcs o).0 in
     sends_append u (performed_one arcs o).1 (performed next outs).1 ∙ rw (sends_one u arcs o, sends_performed u next outs) (sym (orders_append u (o ∷ []) outs))
 
-sends_commit : (u : Aaid) (d : Digest) (t : Transaction) (outs : List TxOut) (arcs : List Arc) → sends_order u (perform_commit d t outs arcs).1 ≡ orders_in u outs
-sends_commit u d t outs arcs =
-    let s = split_at_completion outs in
+sends_commit : (u : Aaid) (d : Digest) (t : Transaction) (s : List TxOut × List TxOut) (arcs : List Arc) → sends_order u (perform_commit d t s arcs).1 ≡ orders_in u (s.0 ++ s.1)
+sends_commit u d t s arcs =
     let one = performed arcs s.0 in
     let two = performed (committed_arcs d t one.0) (grants t one.0) in
     let three = performed two.0 s.1 in
-    let joined : orders_in u outs ≡ (orders_in u s.0 || orders_in u s.1) = ap (orders_in u) (sym (split_joins outs)) ∙ orders_append u s.0 s.1 in
+    let joined : orders_in u (s.0 ++ s.1) ≡ (orders_in u s.0 || orders_in u s.1) = orders_append u s.0 s.1 in
     let none : sends_order u two.1 ≡ false = sends_performed u (committed_arcs d t one.0) (grants t one.0) ∙ none_grants u t one.0 in
     sends_append u (one.1 ++ two.1) three.1 ∙ rw (sends_append u one.1 two.1, none, sends_performed u arcs s.0, sends_performed u two.0 s.1, joined) (grind arith)
 
-sends_played : (u : Aaid) (d : Digest) (t : Transaction) (w : Passage) (outs : List TxOut) (arcs : List Arc) → sends_order u (played d t w outs arcs).1 ≡ orders_in u outs
+sends_played : (u : Aaid) (d : Digest) (t : Transaction) (w : Passage) (a : Turn) → IsWhole a → (arcs : List Arc) → sends_order u (played d t w a arcs).1 ≡ orders_in u a.outs
 unfolding played
-sends_played u d t Commits outs arcs = sends_commit u d t outs arcs
-sends_played u d t _ outs arcs = sends_performed u arcs outs
+sends_played u d t Commits a whole arcs = sends_commit u d t (around_grants a) arcs ∙ ap (orders_in u) whole
+sends_played u d t _ a whole arcs = sends_performed u arcs a.outs
 
 -- ---- what is kept
 
@@ -86,7 +85,7 @@ own_hush d m sends stays g old new = (λ u h. old u (sends u h), λ u h. old u (
 
 own_turned : (who : Who) (f : TxEvent) (d : Digest) (c : Current) → d.current ≡ Some c → IsPut f (seen who d.arcs c) → IsOwnMove d (turned who f d c)
 own_turned who f d c now put g old new = (
-  λ u h. asked u (asks_turn f q put u (sym (sends_played u d q w a.outs (entered q w d.arcs)) ∙ h)),
+  λ u h. asked u (asks_turn f q put u (sym (sends_played u d q w a (whole_turn f q) (entered q w d.arcs)) ∙ h)),
   λ u h. stands u (or_case (is_now u m.next.current && is_committing (phase_of m.next)) (keeps_commit u m.next.kept) h),
 )
   where

@@ -9,7 +9,7 @@ use Rattle.tp_model.specs.declared.arc.Phase.{Phase}
 use Rattle.tp_model.specs.declared.transaction.TxEvent.{TxEvent}
 use Rattle.tp_model.specs.declared.transaction.TxOut.{TxOut}
 use Rattle.tp_model.specs.Dialogues.{is_active, is_committing, is_rolling}
-use Rattle.tp_model.specs.Transactions.{Transaction, Turn, turn, node_key, superior_of, is_under, with_arc_lost, children_of, transacted}
+use Rattle.tp_model.specs.Transactions.{Transaction, Turn, turn, node_key, superior_of, is_under, with_arc_lost, children_of, transacted, part_by_part}
 use Rattle.tp_steps.specs.Turns.{Turns, falls, row_dead}
 use Rattle.tp_steps.specs.Moves.{IsPut}
 use Rattle.tp_steps.specs.Passages.{is_commit_told, is_rollback_told, asks_tell, may_move, is_commit_rec, IsLogged, IsPassed}
@@ -51,7 +51,7 @@ abbrev after_rec : Option LogRec → Option LogRec → Option LogRec
 after_rec a b = elim b as (λ _. Option LogRec) [ None ↦ a | Some r ↦ Some r ]
 
 passed_then : (e : TxEvent) (s t : Transaction) (a b : Turn) (r : Option LogRec) → (a.rec ≡ None) × (r ≡ b.rec) ⊎ (b.rec ≡ None) × (r ≡ a.rec) → IsPassed e s t a → IsPassed e s a.next b
-    → IsPassed e s t (record { rec = r; outs = a.outs ++ b.outs; next = b.next })
+    → IsPassed e s t (record { rec = r; outs = a.outs ++ b.outs; completion = part_by_part a.completion b.completion; next = b.next })
 passed_then e s t a b r which one two = record {
   key = two.key ∙ one.key;
   begins = none_append a.outs b.outs ∙ rw (one.begins, two.begins) refl;

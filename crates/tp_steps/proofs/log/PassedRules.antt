@@ -10,7 +10,7 @@ use Rattle.tp_model.specs.declared.transaction.TxEvent.{TxEvent}
 use Rattle.tp_model.specs.declared.transaction.TxOut.{TxOut}
 use Rattle.tp_model.specs.Parts.{Key, Root, Under}
 use Rattle.tp_model.specs.Dialogues.{is_active, is_ready, is_committing, is_rolling}
-use Rattle.tp_model.specs.Transactions.{Row, Transaction, Turn, turn, aaid_of, is_under, all_done, all_rolled_back, with_row, child_of, children_of, carry_up, tell_report, forgets, done_up, ends_down, end_up, reports_of, own_damage, owed_of, log_ready, log_end, log_damage, rollback_rec, is_own_commit, complete_commit, complete_rollback, begin_rolling, order, ask_commit, leave, count_branch, end_branch, branch_left, retried}
+use Rattle.tp_model.specs.Transactions.{Row, Transaction, Turn, turn, aaid_of, is_under, all_done, all_rolled_back, with_row, child_of, children_of, carry_up, tell_report, forgets, done_up, ends_down, end_up, reports_of, own_damage, owed_of, log_ready, log_end, log_damage, rollback_rec, is_own_commit, complete_commit, complete_rollback, begin_rolling, order, ask_commit, leave, count_branch, end_branch, branch_left, retried, completion_of}
 use Rattle.tp_steps.specs.Turns.{falls, is_order_for, vote, shut_given_up}
 use Rattle.tp_steps.specs.Passages.{begins_none, is_commit_told, is_rollback_told, asks_tell, may_move, is_commit_rec, IsLogged, IsPassed}
 use Rattle.tp_steps.proofs.words.Fair.{row_key, row_phase}
@@ -138,6 +138,7 @@ passed_commit e s t c = go (not t.owes && all_ended) refl
     done : (r : Report) → IsPassed e s t (record {
       rec = Some (if is_report_none r then log_end t Outcome.Commit else log_damage t Outcome.Commit r (owed_of t.rows));
       outs = forgets (aaid_of t.key) t.rows ++ done_up t r ++ (TxOut.Tell (Indication.CommitComplete r) ∷ []) ++ ends_down t.rows ++ end_up t;
+      completion = completion_of t r;
       next = record t { phase = Phase.Nil };
     })
     done r =
@@ -173,6 +174,7 @@ passed_commit e s t c = go (not t.owes && all_ended) refl
         record {
           rec = Some (if is_report_none r then log_end t Outcome.Commit else log_damage t Outcome.Commit r (owed_of t.rows));
           outs = forgets (aaid_of t.key) t.rows ++ done_up t r ++ (TxOut.Tell (Indication.CommitComplete r) ∷ []) ++ ends_down t.rows ++ end_up t;
+          completion = completion_of t r;
           next = record t { phase = Phase.Nil };
         }) else turn [] t)
     go true i = done (join (own_damage t.decision) (reports_of t.rows))

@@ -109,7 +109,7 @@ fades_turned who f d c =
     let a : Turn = transacted f t in
     let w : Passage = passage (is_leaving f) t.phase a.next.phase in
     let arcs : List Arc = entered t w d.arcs in
-    fades_then d.arcs arcs (played d t w a.outs arcs).0 (fades_entered t w d.arcs) (fades_played d t w a.outs arcs)
+    fades_then d.arcs arcs (played d t w a arcs).0 (fades_entered t w d.arcs) (fades_played d t w a arcs)
 
 -- rolling begins, and nothing is deferred any more
 fallen : (who : Who) (f : TxEvent) (d : Digest) (c : Current) (p : ℕ) → is_peer c p ≡ true → passage (is_leaving f) c.phase (transacted f (seen who d.arcs c)).next.phase ≡ Falls
@@ -117,8 +117,8 @@ fallen : (who : Who) (f : TxEvent) (d : Digest) (c : Current) (p : ℕ) → is_p
 fallen who f d c p peer falls =
     let t : Transaction = seen who d.arcs c in
     let a : Turn = transacted f t in
-    subst (λ (w : Passage). is_end_deferred_at (played d t w a.outs (entered t w d.arcs)).0 p ≡ false) (sym falls)
-    (off_stays p (entered t Falls d.arcs) (played d t Falls a.outs (entered t Falls d.arcs)).0 (fades_played d t Falls a.outs (entered t Falls d.arcs) p) (forgets_all t d.arcs p (peers_are who d.arcs c p peer)))
+    subst (λ (w : Passage). is_end_deferred_at (played d t w a (entered t w d.arcs)).0 p ≡ false) (sym falls)
+    (off_stays p (entered t Falls d.arcs) (played d t Falls a (entered t Falls d.arcs)).0 (fades_played d t Falls a (entered t Falls d.arcs) p) (forgets_all t d.arcs p (peers_are who d.arcs c p peer)))
 
 pub turned_in_order : (who : Who) (f : TxEvent) (d : Digest) (c : Current) → d.current ≡ Some c → IsPut f (seen who d.arcs c) → IsInOrder d → IsInOrder (turned who f d c).next
 turned_in_order who f d c now put o = record { live = live; now = among }

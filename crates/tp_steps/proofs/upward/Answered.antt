@@ -33,6 +33,7 @@ use Rattle.tp_steps.proofs.words.Heard.{heard_moves, dropped_live}
 use Rattle.tp_steps.proofs.lemmas.UpwardWords.{is_upward}
 use Rattle.tp_steps.proofs.upward.Answering.{rounds_append, flag_append, none_rounds, answering_turn, same_rounds}
 use Rattle.tp_steps.proofs.every.BeginCases.{begun_over, begin_cases}
+use Rattle.tp_steps.proofs.links.Whole.{whole_turn}
 
 -- ---- moves that answer nothing
 
@@ -103,7 +104,7 @@ answered_turned who e f d s c p cl hears now at asked put gone = record { answer
     m = turned who f d c
 
     agrees : Agrees p (is_live (link_with d.arcs p)) a.outs m.outs (is_live (link_with m.next.arcs p))
-    agrees = agrees_played d t (passage (is_leaving f) t.phase a.next.phase) a.outs d.arcs p (apart_turn f t put)
+    agrees = agrees_played d t (passage (is_leaving f) t.phase a.next.phase) a (whole_turn f t) d.arcs p (apart_turn f t put)
 
     kept : (b : Bool) → loses f p ≡ b → is_live (link_with d.arcs p) ≡ true → loses f p ≡ false
     kept false i l = i

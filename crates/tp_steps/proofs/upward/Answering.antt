@@ -11,7 +11,7 @@ use Rattle.tp_model.specs.declared.transaction.TxEvent.{TxEvent}
 use Rattle.tp_model.specs.declared.transaction.TxOut.{TxOut}
 use Rattle.tp_model.specs.Parts.{Key, Root, Under}
 use Rattle.tp_model.specs.Dialogues.{is_nil, is_active, is_ready, is_committing, is_rolling}
-use Rattle.tp_model.specs.Transactions.{Row, Transaction, Turn, turn, aaid_of, is_under, is_under_at, with_row, with_arc_lost, all_done, all_rolled_back, reports_of, owed_of, own_damage, log_end, log_damage, carry_up, done_up, forgets, ends_down, end_up, complete_commit, complete_rollback, begin_rolling, order, ask_commit, leave, count_branch, end_branch, branch_left, transacted, refused_tx}
+use Rattle.tp_model.specs.Transactions.{Row, Transaction, Turn, turn, aaid_of, is_under, is_under_at, with_row, with_arc_lost, all_done, all_rolled_back, reports_of, owed_of, own_damage, log_end, log_damage, carry_up, done_up, forgets, ends_down, end_up, complete_commit, complete_rollback, begin_rolling, order, ask_commit, leave, count_branch, end_branch, branch_left, transacted, refused_tx, completion_of}
 use Rattle.tp_steps.specs.Turns.{Turns, vote, decide, loses, hears_close}
 use Rattle.tp_steps.specs.Moves.{IsPut}
 use Rattle.tp_steps.specs.Passages.{IsPassed}
@@ -181,6 +181,7 @@ answers_commit e s p t fair passed c = go (not t.owes && all_done t.rows) fair p
     over r = record {
       rec = Some (if is_report_none r then log_end t Outcome.Commit else log_damage t Outcome.Commit r (owed_of t.rows));
       outs = forgets (aaid_of t.key) t.rows ++ done_up t r ++ (TxOut.Tell (Indication.CommitComplete r) ∷ []) ++ ends_down t.rows ++ end_up t;
+      completion = completion_of t r;
       next = record t { phase = Phase.Nil };
     }
 

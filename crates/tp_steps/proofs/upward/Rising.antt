@@ -14,7 +14,7 @@ use Rattle.tp_model.specs.declared.transaction.TxEvent.{TxEvent}
 use Rattle.tp_model.specs.declared.transaction.TxOut.{TxOut}
 use Rattle.tp_model.specs.Parts.{Key, Root, Under}
 use Rattle.tp_model.specs.Dialogues.{is_nil, is_active, is_committing, is_rolling}
-use Rattle.tp_model.specs.Transactions.{Row, Transaction, Turn, turn, and_then, aaid_of, is_under_at, all_done, all_rolled_back, reports_of, owed_of, own_damage, log_end, log_damage, carry_up, carry_down, done_up, forgets, ends_down, end_up, tell_report, prepare_each, ask_each, retried, complete_commit, complete_rollback, begin_rolling, order, ask_commit, leave, count_branch, end_branch, branch_left, transacted}
+use Rattle.tp_model.specs.Transactions.{Row, Transaction, Turn, turn, and_then, aaid_of, is_under_at, all_done, all_rolled_back, reports_of, owed_of, own_damage, log_end, log_damage, carry_up, carry_down, done_up, forgets, ends_down, end_up, tell_report, prepare_each, ask_each, retried, complete_commit, complete_rollback, begin_rolling, order, ask_commit, leave, count_branch, end_branch, branch_left, transacted, completion_of, part_by_part}
 use Rattle.tp_steps.specs.Turns.{Turns, vote, decide, falls, loses}
 use Rattle.tp_steps.specs.Moves.{IsPut}
 use Rattle.tp_steps.specs.Passages.{is_commit_rec, asks_tell, IsPassed}
@@ -195,6 +195,7 @@ rise_commit e s p t fair passed c = go (not t.owes && all_done t.rows) fair pass
     over r = record {
       rec = Some (if is_report_none r then log_end t Outcome.Commit else log_damage t Outcome.Commit r (owed_of t.rows));
       outs = forgets (aaid_of t.key) t.rows ++ done_up t r ++ (TxOut.Tell (Indication.CommitComplete r) ∷ []) ++ ends_down t.rows ++ end_up t;
+      completion = completion_of t r;
       next = record t { phase = Phase.Nil };
     }
 
@@ -357,11 +358,11 @@ given_up_none f false q = refl
 -- ---- chains
 
 rise_then : (e : TxEvent) (s : Transaction) (p : ℕ) (t : Transaction) (a b : Turn) (r : Option LogRec) → (a.rec ≡ None) × (r ≡ b.rec) ⊎ (b.rec ≡ None) × (r ≡ a.rec) → IsRising e s p t a → IsRising e s p a.next b
-    → sees t p ≡ true → loses e p ≡ false → Rises e s p t (record { rec = r; outs = a.outs ++ b.outs; next = b.next })
+    → sees t p ≡ true → loses e p ≡ false → Rises e s p t (record { rec = r; outs = a.outs ++ b.outs; completion = part_by_part a.completion b.completion; next = b.next })
 rise_then e s p t a b r which one two saw kept = go (stays true p a.outs) refl
   where
     m : Turn
-    m = record { rec = r; outs = a.outs ++ b.outs; next = b.next }
+    m = record { rec = r; outs = a.outs ++ b.outs; completion = part_by_part a.completion b.completion; next = b.next }
 
     first : Rises e s p t a
     first = one.rises saw kept

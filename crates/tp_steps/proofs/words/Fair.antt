@@ -7,7 +7,7 @@ use Rattle.tp_model.specs.declared.transaction.TxEvent.{TxEvent}
 use Rattle.tp_model.specs.declared.transaction.TxOut.{TxOut}
 use Rattle.tp_model.specs.Parts.{Key, Under}
 use Rattle.tp_model.specs.Dialogues.{is_nil}
-use Rattle.tp_model.specs.Transactions.{Row, Transaction, Turn, turn, aaid_of, is_under_at, find_row, put_row, with_row}
+use Rattle.tp_model.specs.Transactions.{Row, Transaction, Turn, turn, aaid_of, is_under_at, find_row, put_row, with_row, part_by_part}
 use Rattle.tp_model.specs.History.{with_rec}
 use Rattle.tp_steps.specs.Facts.{spoken, stays, is_begin, is_order, is_rollback, ends_in, none_of, BranchKey, last_from, each_under, each_vote, is_voted, is_ordered, is_rolled, under_now, is_open, open_now, id_at, sees_row, sees, closes, HasPlace, Knows, SameKey, Facts, IsFair}
 use Rattle.tp_steps.proofs.lemmas.Words.{spoken_append, stays_append, dead_spoken, dead_stays, ends_append, none_append, under_append, under_weaker, vote_append, vote_weaker, none_last, ordered_more, voted_more, both}
@@ -176,11 +176,11 @@ place_then ks n p t u m key balance h a b s late is at =
     alive true i h = absurd (cc (rw (i, under_now) at h))
 
 pub facts_then : (e : TxEvent) (s : Transaction) (p : ℕ) (t : Transaction) (a b : Turn) (r : Option LogRec) → SameKey p t a → Facts e s p t a → (sees a.next p ≡ true → Facts e s p a.next b) → IsLater a.rec b.rec r
-    → Facts e s p t (record { rec = r; outs = a.outs ++ b.outs; next = b.next })
+    → Facts e s p t (record { rec = r; outs = a.outs ++ b.outs; completion = part_by_part a.completion b.completion; next = b.next })
 facts_then e s p t a b r same one two later = go (stays true p a.outs) refl
   where
     m : Turn
-    m = record { rec = r; outs = a.outs ++ b.outs; next = b.next }
+    m = record { rec = r; outs = a.outs ++ b.outs; completion = part_by_part a.completion b.completion; next = b.next }
 
     knows : (k : Option BranchKey) → Knows k t p → Knows k a.next p
     knows k kn v h = kn v (sym same.ids ∙ h) ∙ ap (λ (j : Key). Some (aaid_of j, v)) (sym same.key)

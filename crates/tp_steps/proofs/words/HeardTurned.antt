@@ -21,6 +21,7 @@ use Rattle.tp_steps.proofs.words.Fair.{place_then}
 use Rattle.tp_steps.proofs.words.FairTurns.{fair_turn}
 use Rattle.tp_steps.proofs.links.Wrapped.{Agrees, agrees_played}
 use Rattle.tp_steps.proofs.words.Hushed.{none_least}
+use Rattle.tp_steps.proofs.links.Whole.{whole_turn}
 
 -- ---- a transaction, as its node sees it
 
@@ -123,7 +124,7 @@ heard_turned who e f d s c p sup fall shut reads now at asked put gone = go (is_
     m = turned who f d c
 
     agrees : Agrees p (is_live (link_with d.arcs p)) a.outs m.outs (is_live (link_with m.next.arcs p))
-    agrees = agrees_played d t w a.outs d.arcs p (apart_turn f t put)
+    agrees = agrees_played d t w a (whole_turn f t) d.arcs p (apart_turn f t put)
 
     fair : IsFair f t p t a
     fair = fair_turn f t p put

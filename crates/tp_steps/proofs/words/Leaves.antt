@@ -16,7 +16,7 @@ use Rattle.tp_model.specs.declared.arc.Phase.{Phase}
 use Rattle.tp_model.specs.declared.transaction.TxEvent.{TxEvent}
 use Rattle.tp_model.specs.declared.transaction.TxOut.{TxOut}
 use Rattle.tp_model.specs.Dialogues.{is_nil, is_active, is_committing, is_rolling}
-use Rattle.tp_model.specs.Transactions.{Row, Transaction, Turn, turn, aaid_of, is_under_at, find_row, all_done, all_rolled_back, all_left, carry_up, carry_down, forgets, done_up, ends_down, end_up, reports_of, own_damage, log_end, log_damage, owed_of, complete_commit, complete_rollback, prepare_each, all_prepared, leave, ask_each, retried}
+use Rattle.tp_model.specs.Transactions.{Row, Transaction, Turn, turn, aaid_of, is_under_at, find_row, all_done, all_rolled_back, all_left, carry_up, carry_down, forgets, done_up, ends_down, end_up, reports_of, own_damage, log_end, log_damage, owed_of, complete_commit, complete_rollback, prepare_each, all_prepared, leave, ask_each, retried, completion_of}
 use Rattle.tp_steps.specs.Moves.{is_word}
 use Rattle.tp_steps.specs.Facts.{spoken, stays, is_begin, is_vote, is_order, is_rollback, is_end, none_of, open_now, id_at, sees_row, sees, Facts, IsFair}
 use Rattle.tp_steps.proofs.lemmas.Words.{spoken_append}
@@ -155,13 +155,14 @@ fair_commit e s p t c = go (not t.owes && all_done t.rows) refl
     late = grind (arith, c)
 
     done : (o : Option LogRec) (r : Report) → all_done t.rows ≡ true
-        → IsFair e s p t (record { rec = o; outs = forgets (aaid_of t.key) t.rows ++ done_up t r ++ (TxOut.Tell (Indication.CommitComplete r) ∷ []) ++ ends_down t.rows ++ end_up t; next = record t { phase = Phase.Nil } })
-    done o r h = fair_last e s p t (record { rec = o; outs = forgets (aaid_of t.key) t.rows ++ done_up t r ++ (TxOut.Tell (Indication.CommitComplete r) ∷ []) ++ ends_down t.rows ++ end_up t; next = record t { phase = Phase.Nil } }) (DialogueRecord.Done r) refl (commit_said t p r) refl late (λ k. done_open t.rows p h)
+        → IsFair e s p t (record { rec = o; outs = forgets (aaid_of t.key) t.rows ++ done_up t r ++ (TxOut.Tell (Indication.CommitComplete r) ∷ []) ++ ends_down t.rows ++ end_up t; completion = completion_of t r; next = record t { phase = Phase.Nil } })
+    done o r h = fair_last e s p t (record { rec = o; outs = forgets (aaid_of t.key) t.rows ++ done_up t r ++ (TxOut.Tell (Indication.CommitComplete r) ∷ []) ++ ends_down t.rows ++ end_up t; completion = completion_of t r; next = record t { phase = Phase.Nil } }) (DialogueRecord.Done r) refl (commit_said t p r) refl late (λ k. done_open t.rows p h)
 
     go : (b : Bool) → (not t.owes && all_done t.rows) ≡ b → IsFair e s p t (if b then (let r : Report = join (own_damage t.decision) (reports_of t.rows) in
         record {
           rec = Some (if is_report_none r then log_end t Outcome.Commit else log_damage t Outcome.Commit r (owed_of t.rows));
           outs = forgets (aaid_of t.key) t.rows ++ done_up t r ++ (TxOut.Tell (Indication.CommitComplete r) ∷ []) ++ ends_down t.rows ++ end_up t;
+          completion = completion_of t r;
           next = record t { phase = Phase.Nil };
         }) else turn [] t)
     go true i =
