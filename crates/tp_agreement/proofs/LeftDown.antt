@@ -16,7 +16,7 @@ use Rattle.tp_model.specs.Dialogues.{is_nil, is_active}
 use Rattle.tp_model.specs.Transactions.{Row, Transaction, Turn, aaid_of, find_row, all_left, refused_tx, transacted, leave}
 use Rattle.tp_model.specs.Requests.{refused_request}
 use Rattle.tp_model.specs.Node.{Move, move, followed, seen_row, seen_rows, seen, phase_of, turned, restarted, is_over, try_start, transact, is_leaving, passage, Passage}
-use Rattle.tp_model.specs.Events.{refusal, action}
+use Rattle.tp_model.specs.Events.{refusal, verdict, action}
 use Rattle.tp_model.specs.History.{digest, records}
 use Rattle.tp_model.specs.Outcomes.{is_now, is_unchanged, decided, has_left}
 use Rattle.tp_model.specs.Questions.{said_to}
@@ -75,7 +75,7 @@ accounts_of o up p g rs h b = account_law o up p g rs h b.empty b.legal b.once b
 -- ---- the event of leaving
 
 unchanged_ok : (who : Who) (d : Digest) (c : Current) → refusal who d (Event.Do Request.Unchanged) ≡ None → d.current ≡ Some c → refused_tx (TxEvent.User Request.Unchanged) (seen who d.arcs c) ≡ None
-unfolding refusal refused_request refused_tx
+unfolding refusal verdict refused_request refused_tx
 unchanged_ok who d c ok now = grind (arith, ok, now)
 
 rows_left : (t : Transaction) → refused_tx (TxEvent.User Request.Unchanged) t ≡ None → all_left t.rows ≡ true

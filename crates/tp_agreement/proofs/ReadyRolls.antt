@@ -17,7 +17,7 @@ use Rattle.tp_model.specs.Arcs.{find_arc}
 use Rattle.tp_model.specs.Transactions.{Row, Transaction, aaid_of, node_key, superior_of, is_under_at, find_row, sight_of_tx, acts}
 use Rattle.tp_model.specs.Node.{phase_of, seen}
 use Rattle.tp_model.specs.Arrivals.{branch_key, named_by_key, is_current_ready, sight_at, refused_arrival}
-use Rattle.tp_model.specs.Events.{refusal, action}
+use Rattle.tp_model.specs.Events.{refusal, verdict, action}
 use Rattle.tp_model.specs.History.{digest, records, with_rec}
 use Rattle.tp_model.specs.Outcomes.{is_now, is_fatal, rolls, rolls_by_rollback, is_crash_in_active, rolled}
 use Rattle.tp_model.specs.Questions.{is_at}
@@ -118,7 +118,7 @@ pub record UnknownTaken (up : Option Addr) (e : Event) (c : Current) (t : Aaid) 
 
 reply_from : (who : Who) (d : Digest) (from : Addr) (t : Aaid) (b : BranchId) (c : Current) (u : Aaid) (v : BranchId) (a : Addr) → refusal who d (Event.Arrive from (PeerRecord.RecReply t b RecState.Unknown)) ≡ None → d.current ≡ Some c
     → is_key (node_key c.key) (branch_key t b) ≡ true → c.key ≡ Under u v a → is_addr a from ≡ true
-unfolding refusal refused_arrival
+unfolding refusal verdict refused_arrival
 reply_from who d from t b c u v a ok now key under =
     let one : superior_of c.key ≡ Some a = ap superior_of under in
     grind (arith, ok, now, key, one)

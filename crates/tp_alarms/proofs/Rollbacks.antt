@@ -23,7 +23,7 @@ use Rattle.tp_model.specs.Outcomes.{is_now, decided, rolled}
 use Rattle.tp_model.specs.World.{Node, number_of}
 use Rattle.tp_model.specs.Happenings.{Happening, run}
 use Rattle.tp_model.specs.Promises.{IsIn, has_told_in, IsOf, IsBranchOf, IsBelow, below as one_below, tells_rollback}
-use Rattle.tp_model.specs.Events.{refusal}
+use Rattle.tp_model.specs.Events.{refusal, verdict}
 use Rattle.tp_steps.specs.Facts.{find_branch}
 use Rattle.tp_steps.specs.Trees.{out_tells}
 use Rattle.tp_steps.specs.Clearing.{same_report, is_complete}
@@ -224,7 +224,7 @@ heard_back es t r x of rolls m = on (hears_case w.current w.entry.event r w.met)
 
 -- a branch is given up in a commitment alone
 gives_late : (who : Who) (d : Digest) (e : Event) (c : Current) → refusal who d e ≡ None → d.current ≡ Some c → gives_up c e ≡ true → is_committing c.phase ≡ true
-unfolding refusal refused_tx
+unfolding refusal verdict refused_tx
 gives_late who d (Event.GiveUp p) c ok now h = go (is_committing c.phase) refl
   where
     go : (b : Bool) → is_committing c.phase ≡ b → is_committing c.phase ≡ true

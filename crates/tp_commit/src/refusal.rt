@@ -2,7 +2,6 @@
 ghost use Rattle.std.specs.Prelude.{◌≡◌};
 ghost use Rattle.tp_model.specs.Transactions.{refused_user, may_give_up, refused_tx};
 ghost use Rattle.tp_model.specs.Dialogues.{is_late};
-ghost use Rattle.tp_model.specs.Refusal.{number_in};
 
 use crate::{Branch, rows};
 use tp_model::Refusal::{
@@ -25,7 +24,7 @@ impl Branch {
     /// Why the transaction refuses a request: the refusal with the least number that applies. What its dialogue
     /// refuses is not the transaction's. It takes no memory.
     pub fn refused_user(&self, request: &Request) -> Option<Refusal>
-        ensures { number_in result ≡ refused_user self.now request.now }
+        ensures { result ≡ refused_user self.now request.now }
     {
         let late = self.is_late();
         let unasked = !self.told_prepare;
@@ -77,7 +76,7 @@ impl Branch {
     /// Why the transaction refuses an event. It takes no memory.
     #[tactic(auto, unfolding(tp_model::specs::Transactions::refused_tx))]
     pub fn refused(&self, event: &TxEvent) -> Option<Refusal>
-        ensures { number_in result ≡ refused_tx event.now self.now }
+        ensures { result ≡ refused_tx event.now self.now }
     {
         match event {
             TxEvent::User(request) => self.refused_user(request),

@@ -23,7 +23,7 @@ use Rattle.tp_model.specs.Node.{Move, move, perform, next_mark, superior_arc, se
 use Rattle.tp_model.specs.Requests.{refused_request}
 use Rattle.tp_model.specs.Arrivals.{sight_of, sight_at, take_begin, take_record, is_response, woken_by, take_on, refused_arrival}
 use Rattle.tp_model.specs.Questions.{said_to}
-use Rattle.tp_model.specs.Events.{refusal, action, after_crash}
+use Rattle.tp_model.specs.Events.{refusal, verdict, action, after_crash}
 use Rattle.tp_steps.specs.Moves.{IsLate, prelude, called, accepted_by, accepted_on, linked, begun_in, counted_in}
 use Rattle.tp_steps.specs.Facts.{find_branch}
 use Rattle.tp_control.specs.Holding.{is_holding, holding_at, IsPastHolding}
@@ -111,7 +111,7 @@ accepted_there who d u p (Some a) i = on a.link
         go false j = let o = put_other d.arcs new p j in same_there p d (accepted_on who u a (Offered x) d) o.0 o.1
 
 linked_there : (who : Who) (d : Digest) (from : Addr) (x y : Mark) (u p : ℕ) → refusal who d (Event.Arrive from (PeerRecord.AcceptAssoc x y u)) ≡ None → ((z : Mark) → link_with d.arcs p ≡ Opening z → ⊥) → (o : Option Arc) → find_arc d.arcs from.node ≡ o → Prepared p d (linked o x y u d)
-unfolding refusal refused_arrival
+unfolding refusal verdict refused_arrival
 linked_there who d from x y u p ok shut None i = same_there p d d refl refl
 linked_there who d from x y u p ok shut (Some a) i = go (a.peer.node == p) refl
   where

@@ -23,7 +23,7 @@ use Rattle.tp_model.specs.Node.{Move, move, followed, perform, next_mark, is_sup
 use Rattle.tp_model.specs.Requests.{refused_request}
 use Rattle.tp_model.specs.Arrivals.{sight_of, sight_at, take_record, is_response, woken_by, take_on, refused_arrival}
 use Rattle.tp_model.specs.Questions.{said_to, is_at}
-use Rattle.tp_model.specs.Events.{refusal, action, after_crash}
+use Rattle.tp_model.specs.Events.{refusal, verdict, action, after_crash}
 use Rattle.tp_steps.specs.Turns.{loses}
 use Rattle.tp_steps.specs.Moves.{IsPut, IsLate, prelude, called, accepted_by, accepted_on, linked, begun_in, counted_in}
 use Rattle.tp_steps.specs.Facts.{find_branch, Reads}
@@ -183,7 +183,7 @@ accepted_had who up d u p under below (Some a) i = on a.link
     on (Offered x) = had_same p d (accepted_on who u a (Offered x) d) (find_put_other d.arcs (record a { link = Live x (next_mark who d) 0 0; dialogue = fresh_dialogue u Side.Subordinate }) p away)
 
 linked_had : (who : Who) (d : Digest) (from : Addr) (x y : Mark) (u p : ℕ) → refusal who d (Event.Arrive from (PeerRecord.AcceptAssoc x y u)) ≡ None → (o : Option Arc) → find_arc d.arcs from.node ≡ o → Readied p d (linked o x y u d)
-unfolding refusal refused_arrival
+unfolding refusal verdict refused_arrival
 linked_had who d from x y u p ok None i = had_same p d d refl
 linked_had who d from x y u p ok (Some a) i = go (a.peer.node == p) refl
   where

@@ -3,7 +3,7 @@ ghost use Rattle.std.specs.Prelude.{◌≡◌, IsSome, OnOk, OnErr, not, ◌&&�
 ghost use Rattle.tp_model.specs.Dialogues.{asked_of, heard_of, refused_act, refused_on_arc, is_late_arc, is_past_work, is_spoken, is_silenced, lacks_control, has_open_handshake, is_polarized, has_handshake, has_commit, is_chained, is_unchained, is_superior_side, is_deferred, is_due, arrived, working, fresh_dialogue, Ask_grant, Ask_begin, Ask_defer_end, Ask_defer_grant, Ask_prepare, said, heard, cleared, begun_by, completed, rested, woken, is_late, without_control, acts_or_out};
 ghost use Rattle.tp_model.specs.declared.arc.Deferral.{Deferral};
 ghost use Rattle.tp_dialogue.specs.Kinds.{asked_value, heard_value};
-ghost use Rattle.tp_model.specs.Refusal.{number_in, number_answered};
+ghost use Rattle.tp_model.specs.Refusal.{refusal_answered};
 ghost use Rattle.tp_model.specs.Disposition.{sight_value};
 ghost use Rattle.tp_dialogue.specs.Dialogue.{after_request, arrival, sight_of, sight_at, woken_by, due_value, deferral_sight};
 
@@ -201,7 +201,7 @@ impl Dialogue {
     /// length is that of the octets that are asked to be sent. It takes no memory.
     #[tactic(auto, unfolding(tp_model::specs::Dialogues::refused_on_arc))]
     pub fn refused(&self, s: &Situation, octets: u16, asked: Asked) -> Option<Refusal>
-        ensures { number_in result ≡ refused_on_arc self.now.side self.now.dialogue s.now octets (asked_value asked) }
+        ensures { result ≡ refused_on_arc self.now.side self.now.dialogue s.now octets (asked_value asked) }
     {
         let late = self.is_late(s);
         let spoken = is_spoken(s);
@@ -271,7 +271,7 @@ impl Dialogue {
     // Of a begin-transaction.
     #[tactic(auto, unfolding(tp_model::specs::Dialogues::refused_on_arc))]
     fn refused_begin(&self, s: &Situation) -> Option<Refusal>
-        ensures { number_in result ≡ refused_on_arc self.now.side self.now.dialogue s.now 0 Ask_begin }
+        ensures { result ≡ refused_on_arc self.now.side self.now.dialogue s.now 0 Ask_begin }
     {
         let below = self.side == Side::Subordinate;
         Refusal::first(&[
@@ -293,7 +293,7 @@ impl Dialogue {
     // Of a deferred end.
     #[tactic(auto, unfolding(tp_model::specs::Dialogues::refused_on_arc))]
     fn refused_defer_end(&self, s: &Situation) -> Option<Refusal>
-        ensures { number_in result ≡ refused_on_arc self.now.side self.now.dialogue s.now 0 Ask_defer_end }
+        ensures { result ≡ refused_on_arc self.now.side self.now.dialogue s.now 0 Ask_defer_end }
     {
         let deferred = self.deferral != Deferral::None;
         Refusal::first(&[
@@ -307,7 +307,7 @@ impl Dialogue {
     // Of a deferred grant.
     #[tactic(auto, unfolding(tp_model::specs::Dialogues::refused_on_arc))]
     fn refused_defer_grant(&self, s: &Situation) -> Option<Refusal>
-        ensures { number_in result ≡ refused_on_arc self.now.side self.now.dialogue s.now 0 Ask_defer_grant }
+        ensures { result ≡ refused_on_arc self.now.side self.now.dialogue s.now 0 Ask_defer_grant }
     {
         let deferred = self.deferral != Deferral::None;
         let shared = !self.units.has(POLARIZED);
@@ -322,7 +322,7 @@ impl Dialogue {
     // Of a prepare.
     #[tactic(auto, unfolding(tp_model::specs::Dialogues::refused_on_arc))]
     fn refused_prepare(&self, s: &Situation) -> Option<Refusal>
-        ensures { number_in result ≡ refused_on_arc self.now.side self.now.dialogue s.now 0 Ask_prepare }
+        ensures { result ≡ refused_on_arc self.now.side self.now.dialogue s.now 0 Ask_prepare }
     {
         Refusal::first(&[
             (self.is_late(s), WrongPhase),
@@ -365,7 +365,7 @@ impl Dialogue {
     /// situation, and then changes nothing.
     pub fn request(&mut self, s: Situation, act: Act) -> Result<(), Refusal>
         requires { IsSome (asked_of act.code) }
-        ensures answer { number_answered result ≡ refused_act self.old.side self.old.dialogue s act }
+        ensures answer { refusal_answered result ≡ refused_act self.old.side self.old.dialogue s act }
         ensures said { OnOk result (self.new ≡ after_request act self.old) }
         ensures same { OnErr result (self.new ≡ self.old) }
     {

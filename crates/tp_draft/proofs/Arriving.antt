@@ -17,7 +17,6 @@ use Rattle.tp_model.specs.Node.{Move, move, side_at}
 use Rattle.tp_model.specs.Arrivals.{refused_arrival, refused_on, is_bad_answer, do_arrival, take_accept, take_on}
 use Rattle.tp_node_parts.specs.Arcs.{fits_link}
 use Rattle.tp_model.specs.declared.refusal.Refusal.{Refusal}
-use Rattle.tp_model.specs.Refusal.{number_of}
 
 pub open_declared : (who : Who) (d : Digest) (from : Addr) (x : Mark) (u : ℕ) → refused_arrival who d from (PeerRecord.OpenAssoc x u) ≡ None → d.declared ≡ true
 unfolding refused_arrival
@@ -45,7 +44,7 @@ open_alone who d from x u a side ok found fits = not_idle side a.link fits (grin
 
 -- the first test of a list is not met
 first_off : (x : Bool) (n : Refusal) (ts : List (Bool × Refusal)) → first ((x, n) ∷ ts) ≡ None → (x ≡ false) × (first ts ≡ None)
-first_off true n ts h = absurd (let clash : Some (number_of n) ≡ None = h in cc)
+first_off true n ts h = absurd (let clash : Some n ≡ None = h in cc)
 first_off false n ts h = (refl, h)
 
 not_not : (x : Bool) → not x ≡ false → x ≡ true
@@ -71,12 +70,12 @@ accept_opening who d from x y u a ok found =
 pub accept_there : (who : Who) (d : Digest) (from : Addr) (x y : Mark) (u : ℕ) (a : Arc) → find_arc d.arcs from.node ≡ Some a → do_arrival who from (PeerRecord.AcceptAssoc x y u) d ≡ take_accept who a x y u d
 accept_there who d from x y u a found = ap (λ (o : Option Arc). elim o as (λ _. Move) [ None ↦ move [] d | Some b ↦ take_accept who b x y u d ]) found
 
-pub from_dropped : (l : Link) (x y : Mark) (q : ℕ) (o : Option ℕ) → elim (dropped_by l x y q) as (λ _. Option ℕ) [ Some n ↦ Some n | None ↦ o ] ≡ None → dropped_by l x y q ≡ None
+pub from_dropped : (l : Link) (x y : Mark) (q : ℕ) (o : Option Refusal) → elim (dropped_by l x y q) as (λ _. Option Refusal) [ Some n ↦ Some n | None ↦ o ] ≡ None → dropped_by l x y q ≡ None
 from_dropped l x y q o h = go (dropped_by l x y q) refl
   where
-    go : (p : Option ℕ) → dropped_by l x y q ≡ p → dropped_by l x y q ≡ None
+    go : (p : Option Refusal) → dropped_by l x y q ≡ p → dropped_by l x y q ≡ None
     go None e = e
-    go (Some n) e = absurd (let clash : Some n ≡ None = sym (ap (λ (p : Option ℕ). elim p as (λ _. Option ℕ) [ Some m ↦ Some m | None ↦ o ]) e) ∙ h in cc)
+    go (Some n) e = absurd (let clash : Some n ≡ None = sym (ap (λ (p : Option Refusal). elim p as (λ _. Option Refusal) [ Some m ↦ Some m | None ↦ o ]) e) ∙ h in cc)
 
 from_number : (d : Digest) (from : Addr) (x y : Mark) (q : ℕ) (a : Arc) → dropped_by (link_from d.arcs from) x y q ≡ None → find_arc d.arcs from.node ≡ Some a → dropped_by a.link x y q ≡ None
 from_number d from x y q a ok found = go (is_addr a.peer from) refl
@@ -86,15 +85,15 @@ from_number d from x y q a ok found = go (is_addr a.peer from) refl
 
     go : (b : Bool) → is_addr a.peer from ≡ b → dropped_by a.link x y q ≡ None
     go true e = sym (ap (λ (l : Link). dropped_by l x y q) (seen ∙ ap (λ (c : Bool). if c then a.link else Idle) e)) ∙ ok
-    go false e = absurd (let clash : Some 21 ≡ None = sym (ap (λ (l : Link). dropped_by l x y q) (seen ∙ ap (λ (c : Bool). if c then a.link else Idle) e)) ∙ ok in cc)
+    go false e = absurd (let clash : Some Refusal.OldAssociation ≡ None = sym (ap (λ (l : Link). dropped_by l x y q) (seen ∙ ap (λ (c : Bool). if c then a.link else Idle) e)) ∙ ok in cc)
 
 pub taken_number : (who : Who) (d : Digest) (from : Addr) (x y : Mark) (q : ℕ) (r : DialogueRecord) (a : Arc) → refused_arrival who d from (PeerRecord.OnAssoc x y q r) ≡ None → find_arc d.arcs from.node ≡ Some a → dropped_by a.link x y q ≡ None
 unfolding refused_arrival
 taken_number who d from x y q r a ok found = go d.declared refl
   where
     go : (b : Bool) → d.declared ≡ b → dropped_by a.link x y q ≡ None
-    go false e = absurd (let clash : Some 23 ≡ None = sym (ap (λ (c : Bool). if not c then Some 23 else refused_on who d from x y q r) e) ∙ ok in cc)
-    go true e = from_number d from x y q a (from_dropped (link_from d.arcs from) x y q _ (sym (ap (λ (c : Bool). if not c then Some 23 else refused_on who d from x y q r) e) ∙ ok)) found
+    go false e = absurd (let clash : Some Refusal.WrongSite ≡ None = sym (ap (λ (c : Bool). if not c then Some Refusal.WrongSite else refused_on who d from x y q r) e) ∙ ok in cc)
+    go true e = from_number d from x y q a (from_dropped (link_from d.arcs from) x y q _ (sym (ap (λ (c : Bool). if not c then Some Refusal.WrongSite else refused_on who d from x y q r) e) ∙ ok)) found
 
 pub taken_there : (who : Who) (d : Digest) (from : Addr) (x y : Mark) (q : ℕ) (r : DialogueRecord) (a : Arc) → find_arc d.arcs from.node ≡ Some a → do_arrival who from (PeerRecord.OnAssoc x y q r) d ≡ take_on who a r d
 taken_there who d from x y q r a found = ap (λ (o : Option Arc). elim o as (λ _. Move) [ None ↦ move [] d | Some b ↦ take_on who b r d ]) found

@@ -11,15 +11,15 @@ use Rattle.tp_model.specs.declared.arc.Phase.{Phase}
 use Rattle.tp_model.specs.declared.recovery.Kept.{Kept}
 use Rattle.tp_model.specs.declared.transaction.TxOut.{TxOut}
 use Rattle.tp_model.specs.declared.transaction.TxEvent.{TxEvent}
-use Rattle.tp_model.specs.Parts.{Who, Arc, Out, Current, Digest, Declare, Do, Arrive, Lose, Heur, GiveUp, Retry, Purge}
+use Rattle.tp_model.specs.Parts.{Who, Arc, Out, Current, Digest, Event, Verdict, Declare, Do, Arrive, Lose, Heur, GiveUp, Retry, Purge}
 use Rattle.tp_model.specs.Links.{greatest}
 use Rattle.tp_model.specs.Arcs.{performed}
 use Rattle.tp_model.specs.Dialogues.{first}
-use Rattle.tp_model.specs.Arrivals.{break_off}
 use Rattle.tp_model.specs.Transactions.{Row, Transaction, retried, ask_each, transacted, Turn}
 use Rattle.tp_model.specs.Recovery.{owed, ask_owed, tell_superior, settled}
 use Rattle.tp_model.specs.Node.{Move, move, followed, Passage, passage, Stays, passed, turned, restarted, transact, played, entered, seen}
-use Rattle.tp_model.specs.Events.{action, refusal, retry, retry_each, purge, needs_numbers, some_past_numbers, says_nothing, is_no_node, refused_plainly, unless_missing, unless_spent, is_breaking}
+use Rattle.tp_model.specs.Events.{action, refusal, verdict, retry, retry_each, purge, needs_numbers, some_past_numbers, says_nothing, is_no_node, refused_plainly, unless_missing, verdict_within, refusal_in}
+use Rattle.tp_model.proofs.Verdicts.{plainly_not, plainly_by}
 use Rattle.tp_node.specs.declared.event.NodeEvent.{NodeEvent}
 use Rattle.tp_node.specs.NodeEvent.{event_of, refused_at_once, is_retry}
 use Rattle.tp_model.specs.declared.refusal.Refusal.{Refusal}
@@ -168,47 +168,48 @@ purge_quiet d h = go d.kept refl
 
 -- ---- what refuses an event that was tried
 
-abbrev pub tried : NodeEvent → Move → Option ℕ
-tried e m = if needs_numbers m then Some 17 else if is_retry e && says_nothing m.outs then Some 12 else None
+abbrev pub tried : NodeEvent → Move → Option Refusal
+tried e m = if needs_numbers m then Some Refusal.NumbersSpent else if is_retry e && says_nothing m.outs then Some Refusal.NothingOwed else None
 
 -- an event that is refused plainly by no number
-plainly : (n : Option ℕ) (m : Move) → n ≡ None → elim n as (λ _. Option ℕ) [ Some k ↦ Some k | None ↦ unless_spent m None ] ≡ unless_spent m None
-plainly n m h = ap (λ (o : Option ℕ). elim o as (λ _. Option ℕ) [ Some k ↦ Some k | None ↦ unless_spent m None ]) h
+plainly : (who : Who) (d : Digest) (e : Event) → refused_plainly who d e ≡ None → refusal_in (verdict who d e) ≡ refusal_in (verdict_within who d e)
+plainly who d e h = ap refusal_in (plainly_not who d e h)
+
+spent : (b : Bool) → refusal_in (if b then Verdict.Refused Refusal.NumbersSpent else Verdict.Accepted) ≡ (if b then Some Refusal.NumbersSpent else None)
+spent true = refl
+spent false = refl
 
 -- one that wants no number
-quietly : (n : Option ℕ) (m : Move) → needs_numbers m ≡ false → (if needs_numbers m then Some 17 else n) ≡ n
-quietly n m h = ap (λ (b : Bool). if b then Some 17 else n) h
+quietly : (n : Option Refusal) (m : Move) → needs_numbers m ≡ false → (if needs_numbers m then Some Refusal.NumbersSpent else n) ≡ n
+quietly n m h = ap (λ (b : Bool). if b then Some Refusal.NumbersSpent else n) h
 
 refusal_tried : (who : Who) (d : Digest) (e : NodeEvent) → d.drawn ≤ greatest → refused_at_once who d e ≡ None → refusal who d (event_of e) ≡ tried e (action who d (event_of e))
-unfolding refusal
-refusal_tried who d (NodeEvent.Declare s) h n = n ∙ sym (quietly None (action who d (Declare s)) (within d.drawn h))
-refusal_tried who d (NodeEvent.Do r) h n = plainly (refused_plainly who d (Do r.now)) (action who d (Do r.now)) n
-refusal_tried who d (NodeEvent.Arrive from r) h n = arriving (refused_plainly who d (Arrive from r.now)) n
+unfolding refusal verdict
+refusal_tried who d (NodeEvent.Declare s) h n = plainly who d (Declare s) n ∙ sym (quietly None (action who d (Declare s)) (within d.drawn h))
+refusal_tried who d (NodeEvent.Do r) h n = plainly who d (Do r.now) n ∙ spent (needs_numbers (action who d (Do r.now)))
+refusal_tried who d (NodeEvent.Arrive from r) h n = plainly who d (Arrive from r.now) n ∙ spent (needs_numbers (action who d (Arrive from r.now)))
+refusal_tried who d (NodeEvent.Lose p) h n = plainly who d (Lose p) n ∙ spent (needs_numbers (action who d (Lose p)))
+refusal_tried who d (NodeEvent.Heur o) h n = plainly who d (Heur o) n ∙ sym (quietly None (action who d (Heur o)) (heur_quiet who o d h))
+refusal_tried who d (NodeEvent.GiveUp p) h n = plainly who d (GiveUp p) n ∙ spent (needs_numbers (action who d (GiveUp p)))
+refusal_tried who d NodeEvent.Retry h n = shown (refused_plainly who d Retry) refl ∙ go (is_no_node d) n refl ∙ sym (quietly (first ((says_nothing (retry who d).outs, Refusal.NothingOwed) ∷ [])) (action who d Retry) (retry_quiet who d h))
   where
-    arriving : (o : Option ℕ) → o ≡ None → elim o as (λ _. Option ℕ) [
-      | None ↦ unless_spent (action who d (Arrive from r.now)) None
-      | Some k ↦ if is_breaking who d (Arrive from r.now) then unless_spent (break_off who from r.now d) (Some k) else Some k
-    ] ≡ unless_spent (action who d (Arrive from r.now)) None
-    arriving None i = refl
-    arriving (Some k) i = absurd (cc (i))
-refusal_tried who d (NodeEvent.Lose p) h n = plainly (refused_plainly who d (Lose p)) (action who d (Lose p)) n
-refusal_tried who d (NodeEvent.Heur o) h n = n ∙ sym (quietly None (action who d (Heur o)) (heur_quiet who o d h))
-refusal_tried who d (NodeEvent.GiveUp p) h n = plainly (refused_plainly who d (GiveUp p)) (action who d (GiveUp p)) n
-refusal_tried who d NodeEvent.Retry h n = go (is_no_node d) n refl ∙ sym (quietly (first ((says_nothing (retry who d).outs, Refusal.NothingOwed) ∷ [])) (action who d Retry) (retry_quiet who d h))
-  where
+    shown : (o : Option Refusal) → refused_plainly who d Retry ≡ o → refusal_in (verdict who d Retry) ≡ o
+    shown None i = ap refusal_in (plainly_not who d Retry i)
+    shown (Some k) i = ap refusal_in (plainly_by who d Retry k i)
+
     go : (b : Bool) → unless_missing b None ≡ None → is_no_node d ≡ b → unless_missing (is_no_node d) (first ((says_nothing (retry who d).outs, Refusal.NothingOwed) ∷ [])) ≡ first ((says_nothing (retry who d).outs, Refusal.NothingOwed) ∷ [])
     go true i j = absurd (cc (i))
     go false i j = ap (λ (b : Bool). unless_missing b (first ((says_nothing (retry who d).outs, Refusal.NothingOwed) ∷ []))) j
-refusal_tried who d NodeEvent.Purge h n = n ∙ sym (quietly None (action who d Purge) (purge_quiet d h))
+refusal_tried who d NodeEvent.Purge h n = plainly who d Purge n ∙ sym (quietly None (action who d Purge) (purge_quiet d h))
 
-pub refused_spent : (who : Who) (d : Digest) (e : NodeEvent) → d.drawn ≤ greatest → refused_at_once who d e ≡ None → needs_numbers (action who d (event_of e)) ≡ true → refusal who d (event_of e) ≡ Some 17
-refused_spent who d e h n s = refusal_tried who d e h n ∙ ap (λ (b : Bool). if b then Some 17 else if is_retry e && says_nothing (action who d (event_of e)).outs then Some 12 else None) s
+pub refused_spent : (who : Who) (d : Digest) (e : NodeEvent) → d.drawn ≤ greatest → refused_at_once who d e ≡ None → needs_numbers (action who d (event_of e)) ≡ true → refusal who d (event_of e) ≡ Some Refusal.NumbersSpent
+refused_spent who d e h n s = refusal_tried who d e h n ∙ ap (λ (b : Bool). if b then Some Refusal.NumbersSpent else if is_retry e && says_nothing (action who d (event_of e)).outs then Some Refusal.NothingOwed else None) s
 
-tried_later : (who : Who) (d : Digest) (e : NodeEvent) → d.drawn ≤ greatest → refused_at_once who d e ≡ None → needs_numbers (action who d (event_of e)) ≡ false → refusal who d (event_of e) ≡ (if is_retry e && says_nothing (action who d (event_of e)).outs then Some 12 else None)
-tried_later who d e h n s = refusal_tried who d e h n ∙ ap (λ (b : Bool). if b then Some 17 else if is_retry e && says_nothing (action who d (event_of e)).outs then Some 12 else None) s
+tried_later : (who : Who) (d : Digest) (e : NodeEvent) → d.drawn ≤ greatest → refused_at_once who d e ≡ None → needs_numbers (action who d (event_of e)) ≡ false → refusal who d (event_of e) ≡ (if is_retry e && says_nothing (action who d (event_of e)).outs then Some Refusal.NothingOwed else None)
+tried_later who d e h n s = refusal_tried who d e h n ∙ ap (λ (b : Bool). if b then Some Refusal.NumbersSpent else if is_retry e && says_nothing (action who d (event_of e)).outs then Some Refusal.NothingOwed else None) s
 
-pub refused_silent : (who : Who) (d : Digest) (e : NodeEvent) → d.drawn ≤ greatest → refused_at_once who d e ≡ None → needs_numbers (action who d (event_of e)) ≡ false → is_retry e ≡ true → says_nothing (action who d (event_of e)).outs ≡ true → refusal who d (event_of e) ≡ Some 12
-refused_silent who d e h n s r q = tried_later who d e h n s ∙ ap (λ (b : Bool). if b && says_nothing (action who d (event_of e)).outs then Some 12 else None) r ∙ ap (λ (b : Bool). if b then Some 12 else None) q
+pub refused_silent : (who : Who) (d : Digest) (e : NodeEvent) → d.drawn ≤ greatest → refused_at_once who d e ≡ None → needs_numbers (action who d (event_of e)) ≡ false → is_retry e ≡ true → says_nothing (action who d (event_of e)).outs ≡ true → refusal who d (event_of e) ≡ Some Refusal.NothingOwed
+refused_silent who d e h n s r q = tried_later who d e h n s ∙ ap (λ (b : Bool). if b && says_nothing (action who d (event_of e)).outs then Some Refusal.NothingOwed else None) r ∙ ap (λ (b : Bool). if b then Some Refusal.NothingOwed else None) q
 
 pub refused_not : (who : Who) (d : Digest) (e : NodeEvent) → d.drawn ≤ greatest → refused_at_once who d e ≡ None → needs_numbers (action who d (event_of e)) ≡ false → (is_retry e && says_nothing (action who d (event_of e)).outs) ≡ false → refusal who d (event_of e) ≡ None
-refused_not who d e h n s q = tried_later who d e h n s ∙ ap (λ (b : Bool). if b then Some 12 else None) q
+refused_not who d e h n s q = tried_later who d e h n s ∙ ap (λ (b : Bool). if b then Some Refusal.NothingOwed else None) q

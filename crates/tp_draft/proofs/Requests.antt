@@ -36,10 +36,10 @@ call_place who d a u ok = below (count_below d d.arcs) (elim d.current as (λ _.
     below m n k h = grind (arith, nat_tests, h)
 
     last : (x y z w : Bool) → first ((x, Refusal.WrongPhase) ∷ (y, Refusal.UnitAbsent) ∷ (z, Refusal.AlreadyAsked) ∷ (w, Refusal.TooMany) ∷ []) ≡ None → w ≡ false
-    last true y z w h = absurd (let clash : Some 2 ≡ None = h in cc)
-    last false true z w h = absurd (let clash : Some 4 ≡ None = h in cc)
-    last false false true w h = absurd (let clash : Some 9 ≡ None = h in cc)
-    last false false false true h = absurd (let clash : Some 13 ≡ None = h in cc)
+    last true y z w h = absurd (let clash : Some Refusal.WrongPhase ≡ None = h in cc)
+    last false true z w h = absurd (let clash : Some Refusal.UnitAbsent ≡ None = h in cc)
+    last false false true w h = absurd (let clash : Some Refusal.AlreadyAsked ≡ None = h in cc)
+    last false false false true h = absurd (let clash : Some Refusal.TooMany ≡ None = h in cc)
     last false false false false h = refl
 
 pub call_units : (who : Who) (d : Digest) (a : Addr) (u : ℕ) → refused_request who d (Request.BeginDialogue a u) ≡ None → bad_bit u ≡ None

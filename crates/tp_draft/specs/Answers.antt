@@ -1,5 +1,5 @@
 -- What a node answers to an event, with the draft of what happens.
-use Rattle.std.specs.Prelude.{ℕ, ◌≡◌, false, Option, Some, Result, Ok, Err}
+use Rattle.std.specs.Prelude.{◌≡◌, false, Option, Some, Result, Ok, Err}
 use Rattle.tp_model.specs.declared.transaction.TxFault.{TxFault}
 use Rattle.tp_model.specs.declared.refusal.Refusal.{Refusal}
 use Rattle.tp_model.specs.Refusal.{number_in}
@@ -14,6 +14,6 @@ IsAnswer (Ok refusal) draft v a = (a ≡ Happens (number_in refusal) draft.move)
 IsAnswer (Err (TxFault.Refused n)) draft v a = a ≡ Refuses n
 IsAnswer (Err TxFault.NoMemory) draft v a = Unit {0}
 
--- it is refused at once by that number, and no association ends with it
-abbrev pub IsPlain : Node → NodeEvent → ℕ → Type 0
-IsPlain v e k = (breaks e ≡ false) × (refused_at_once v.who v.digest e ≡ Some k)
+-- it is refused at once so, and no association ends with it
+abbrev pub IsPlain : Node → NodeEvent → Refusal → Type 0
+IsPlain v e x = (breaks e ≡ false) × (refused_at_once v.who v.digest e ≡ Some x)

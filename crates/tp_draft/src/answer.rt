@@ -1,7 +1,8 @@
 //! What a node answers to an event. Nothing of it is so before the record is forced.
-ghost use Rattle.std.specs.Prelude.{ℕ, ◌≡◌, ◌==◌, ◌&&◌, true, false, OnOk, None, Some};
-ghost use Rattle.tp_model.specs.Parts.{Arrive};
-ghost use Rattle.tp_model.specs.Events.{action, refusal, unless_spent, needs_numbers, has_pair};
+ghost use Rattle.std.specs.Prelude.{◌≡◌, ◌==◌, ◌&&◌, true, false, OnOk, None, Some};
+ghost use Rattle.tp_model.specs.declared.refusal.Refusal.{Refusal};
+ghost use Rattle.tp_model.specs.Parts.{Arrive, Accepted};
+ghost use Rattle.tp_model.specs.Events.{action, refusal, unless_spent, needs_numbers, has_pair, refusal_in};
 ghost use Rattle.tp_model.specs.Arrivals.{break_off, refused_arrival};
 ghost use Rattle.tp_model.specs.Refusal.{IsRefusedAs, number_of};
 ghost use Rattle.tp_node.specs.Halt.{OnSpent};
@@ -66,7 +67,7 @@ impl Draft {
         rec: &PeerRecord,
     ) -> Result<(), TxFault>
         ensures happens { OnOk result (self.new ≡ record { who = node.now.who; move = break_off node.now.who from rec.now node.now.digest }) }
-        ensures refused { IsRefusedAs result (unless_spent (break_off node.now.who from rec.now node.now.digest) None) }
+        ensures refused { IsRefusedAs result (refusal_in (unless_spent (break_off node.now.who from rec.now node.now.digest) Accepted)) }
     {
         self.begin(alloc, node)?;
         match self.break_off(alloc, from, rec) {
@@ -86,7 +87,7 @@ impl Draft {
         from: Addr,
         rec: &PeerRecord,
     ) -> Result<Option<Refusal>, TxFault>
-        requires refused { refused_arrival node.now.who node.now.digest from rec.now ≡ Some 24 }
+        requires refused { refused_arrival node.now.who node.now.digest from rec.now ≡ Some Refusal.OutOfPhase }
         requires pair { has_pair rec.now ≡ true }
         ensures { IsAnswer result self.new node.now (answer_at node.now.who node.now.digest (Arrive from rec.now)) }
     {
@@ -105,7 +106,7 @@ impl Draft {
         event: &NodeEvent<'_>,
         refusal: Refusal,
     ) -> Result<Option<Refusal>, TxFault>
-        requires { refused_at_once node.now.who node.now.digest event.now ≡ Some (number_of refusal) }
+        requires { refused_at_once node.now.who node.now.digest event.now ≡ Some refusal }
         ensures answer { IsAnswer result self.new node.now (answer_at node.now.who node.now.digest (event_of event.now)) }
         ensures plain { breaks event.now ≡ false → result ≡ Err (TxFault.Refused (number_of refusal)) }
     {
@@ -120,14 +121,14 @@ impl Draft {
 
     /// What the node answers to an event: what the event makes of it, as the draft has it then, or the refusal.
     /// With one, what happens is the loss of the association that follows that answer. A refusal at once takes no memory.
-    #[tactic(auto, using(crate::proofs::Answered::happens))]
+    #[tactic(auto, using(crate::proofs::Answered::happens, crate::proofs::Answered::refused_later))]
     pub fn answer_to(
         &mut self,
         alloc: Global,
         node: &Node,
         event: &NodeEvent<'_>,
     ) -> Result<Option<Refusal>, TxFault>
-        ensures plain { (k : ℕ) → IsPlain node.now event.now k → result ≡ Err (TxFault.Refused k) }
+        ensures plain { (x : Refusal) → IsPlain node.now event.now x → result ≡ Err (TxFault.Refused (number_of x)) }
         ensures answer { IsAnswer result self.new node.now (answer_at node.now.who node.now.digest (event_of event.now)) }
     {
         if let Some(refusal) = node.refused_at_once(event) {

@@ -16,7 +16,7 @@ use Rattle.tp_model.specs.Dialogues.{fresh_dialogue}
 use Rattle.tp_model.specs.Arcs.{find_arc, link_of, link_with, put_arc}
 use Rattle.tp_model.specs.Requests.{refused_request}
 use Rattle.tp_model.specs.Node.{next_mark, superior_arc}
-use Rattle.tp_model.specs.Events.{refusal, action, after_crash, started}
+use Rattle.tp_model.specs.Events.{refusal, verdict, action, after_crash, started}
 use Rattle.tp_model.specs.History.{digest}
 use Rattle.tp_model.specs.Outcomes.{is_now, is_member}
 use Rattle.tp_model.specs.Questions.{is_at}
@@ -53,7 +53,7 @@ not_live : (l m : Link) (x : Mark) → m ≡ l → l ≡ Opening x → is_live m
 not_live l m x same op live = cc (live, ap is_live (same ∙ op))
 
 accepts_other : (who : Who) (d : Digest) (u p : ℕ) (x : Mark) → refusal who d (Event.Do (Request.Accept u)) ≡ None → link_with d.arcs p ≡ Opening x → is_live (link_with (accepted_by who u (superior_arc d) d).arcs p) ≡ true → ⊥
-unfolding refusal refused_request
+unfolding refusal verdict refused_request
 accepts_other who d u p x ok op live = go (superior_arc d) refl live
   where
     on : (a : Arc) (l : Link) → superior_arc d ≡ Some a → a.link ≡ l → is_live (link_with (accepted_on who u a l d).arcs p) ≡ true → ⊥
@@ -81,7 +81,7 @@ accepts_other who d u p x ok op live = go (superior_arc d) refl live
     go (Some a) i h = on a a.link i refl h
 
 calls_other : (who : Who) (d : Digest) (a : Addr) (u p : ℕ) (x : Mark) → refusal who d (Event.Do (Request.BeginDialogue a u)) ≡ None → link_with d.arcs p ≡ Opening x → is_live (link_with (prelude who d (Event.Do (Request.BeginDialogue a u))).arcs p) ≡ true → ⊥
-unfolding refusal refused_request
+unfolding refusal verdict refused_request
 calls_other who d a u p x ok op live = go (a.node == p) refl
   where
     new : Arc

@@ -18,7 +18,7 @@ use Rattle.tp_model.specs.Transactions.{Row, Transaction, aaid_of, node_key, is_
 use Rattle.tp_model.specs.Requests.{refused_request}
 use Rattle.tp_model.specs.Node.{seen, situation_at}
 use Rattle.tp_model.specs.Arrivals.{branch_key, named_by_key, is_current_ready, sight_at}
-use Rattle.tp_model.specs.Events.{refusal, action, started}
+use Rattle.tp_model.specs.Events.{refusal, verdict, action, started}
 use Rattle.tp_model.specs.History.{digest, records, entry_of}
 use Rattle.tp_model.specs.Outcomes.{is_now, is_member, is_failure, rolls, rolls_by_rollback, is_active_at, is_fatal, is_waited_for_at, is_crash_in_active, rolled}
 use Rattle.tp_model.specs.Questions.{sent_more, is_at}
@@ -67,7 +67,7 @@ use Rattle.tp_steps.proofs.lemmas.Options.{some_same}
 -- ---- no association of a node with itself
 
 never_called : (who : Who) (d : Digest) (e : Event) → refusal who d e ≡ None → called_at e ≡ Some who.node → ⊥
-unfolding refusal refused_request
+unfolding refusal verdict refused_request
 never_called who d (Event.Do (Request.BeginDialogue a u)) ok h = absurd (let same : a.node ≡ who.node = cc (h) in grind (arith, nat_tests, ok, same))
 never_called who d _ ok h = absurd (cc (h))
 

@@ -39,7 +39,7 @@ pub use Rattle.tp_model.specs.Node.{is_granting, grants, Move, move, followed, p
 unfoldable pub use Rattle.tp_model.specs.Node.{begin_on, transact, entered, played, try_start, start_root}
 pub use Rattle.tp_model.specs.Links.{is_live, with_one_taken, is_idle}
 pub use Rattle.tp_model.specs.Events.{action, named_again, recovered, recovered_current, key_in_log, current_in_log, decision_of, without_current, current_by, current_from}
-unfoldable pub use Rattle.tp_model.specs.Events.{refusal, after_crash, started}
+unfoldable pub use Rattle.tp_model.specs.Events.{refusal, verdict, after_crash, started}
 pub use Rattle.tp_model.specs.Arrivals.{sight_at, take_on, take_record, woken_by, is_response, sight_in_tx, from_subordinate, is_current_ready, named_by_key, branch_key, broken_pair, named_by_branch, Named, current_with, find_branch_by_id, key_of_branch}
 unfoldable pub use Rattle.tp_model.specs.Arrivals.{take_begin, refused_arrival, sight_of, take_abort, lose, break_off}
 pub use Rattle.tp_model.specs.History.{digest, entry_of, records, again}

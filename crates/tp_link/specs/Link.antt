@@ -5,7 +5,6 @@ use Rattle.std.proofs.Common.{refl, ap}
 use Rattle.tp_names.specs.declared.identifiers.Mark.{Mark}
 use Rattle.tp_names.specs.Same.{is_mark}
 use Rattle.tp_model.specs.declared.refusal.Refusal.{Refusal}
-use Rattle.tp_model.specs.Refusal.{number_of as refusal_number}
 use Rattle.tp_model.specs.Parts.{Link as LinkValue, Idle, Opening, Offered, Live}
 use Rattle.tp_model.specs.Links.{greatest, is_opening_with}
 use Rattle.tp_link.specs.declared.link.Link.TheInside.{Inside}
@@ -75,9 +74,9 @@ refusal_of Dropped.OldAssociation = Refusal.OldAssociation
 refusal_of Dropped.OutOfOrder = Refusal.OutOfOrder
 
 -- its number
-abbrev pub number_of : {A : Type 0} → Result A Dropped → Option ℕ
-number_of (Ok a) = None
-number_of (Err d) = Some (refusal_number (refusal_of d))
+abbrev pub refusal_answered : {A : Type 0} → Result A Dropped → Option Refusal
+refusal_answered (Ok a) = None
+refusal_answered (Err d) = Some (refusal_of d)
 
 -- ---- what changes it
 
@@ -89,8 +88,8 @@ with_answer y (Offered x) = Live x y 0 0
 with_answer y (Live x z sent taken) = Live x z sent taken
 
 -- the peer answers the call with that mark; another one is an old association
-abbrev pub bound_by : LinkValue → Mark → Mark → Option ℕ × LinkValue
-bound_by l x y = if is_opening_with l x then (None, Live x y 0 0) else (Some 21, l)
+abbrev pub bound_by : LinkValue → Mark → Mark → Option Refusal × LinkValue
+bound_by l x y = if is_opening_with l x then (None, Live x y 0 0) else (Some Refusal.OldAssociation, l)
 
 -- these are the pair and the number of the next record to be sent
 abbrev pub is_next : LinkValue → Mark → Mark → ℕ → Bool

@@ -2,7 +2,7 @@
 ghost use Rattle.std.specs.Prelude.{◌≡◌, ◌<◌, OnErr, OnOk, IsTrue};
 ghost use Rattle.tp_model.specs.Parts.{Idle, Opening, Offered};
 ghost use Rattle.tp_model.specs.Links.{is_idle, is_offered, dropped_by, with_one_taken};
-ghost use Rattle.tp_link.specs.Link.{state_of, caller_mark, answerer_mark, left_of, with_answer, bound_by, number_of, is_next, with_one_sent};
+ghost use Rattle.tp_link.specs.Link.{state_of, caller_mark, answerer_mark, left_of, with_answer, bound_by, refusal_answered, is_next, with_one_sent};
 
 use crate::{Dropped, LinkState};
 use std::marker::Model;
@@ -124,7 +124,7 @@ impl Link {
     /// The peer answers the call: live exactly where this end is opening with that mark, else dropped
     /// by 21 and unchanged.
     pub fn bound(&mut self, x: Mark, y: Mark) -> Result<(), Dropped>
-        ensures answer { number_of result ≡ (bound_by self.old x y).0 }
+        ensures answer { refusal_answered result ≡ (bound_by self.old x y).0 }
         ensures state { self.new ≡ (bound_by self.old x y).1 }
     {
         let End::Opening { x: own } = self.end else {
@@ -173,7 +173,7 @@ impl Link {
     /// this pair, else by 22 exactly where the number is not the count of records taken or is the
     /// greatest; unchanged when dropped.
     pub fn take(&mut self, x: Mark, y: Mark, seq: u64) -> Result<(), Dropped>
-        ensures answer { number_of result ≡ dropped_by self.old x y seq }
+        ensures answer { refusal_answered result ≡ dropped_by self.old x y seq }
         ensures taken { OnOk result (self.new ≡ with_one_taken self.old) }
         ensures same { OnErr result (self.new ≡ self.old) }
     {

@@ -39,13 +39,13 @@ abbrev pub number_in : Option Refusal → Option ℕ
 number_in None = None
 number_in (Some r) = Some (number_of r)
 
--- the number by which a call refuses
-abbrev pub number_answered : {A : Type 0} → Result A Refusal → Option ℕ
-number_answered (Ok a) = None
-number_answered (Err r) = Some (number_of r)
+-- the refusal by which a call answers
+abbrev pub refusal_answered : {A : Type 0} → Result A Refusal → Option Refusal
+refusal_answered (Ok a) = None
+refusal_answered (Err r) = Some r
 
--- a call is refused by that number, or by none; where there was no memory for it nothing is said
-abbrev pub IsRefusedAs : {A : Type 0} → Result A TxFault → Option ℕ → Type 0
-IsRefusedAs (Ok a) n = n ≡ None
-IsRefusedAs (Err (TxFault.Refused k)) n = n ≡ Some k
-IsRefusedAs (Err TxFault.NoMemory) n = Unit {0}
+-- a call is refused so, by its number, or it is not refused; where there was no memory for it nothing is said
+abbrev pub IsRefusedAs : {A : Type 0} → Result A TxFault → Option Refusal → Type 0
+IsRefusedAs (Ok a) r = r ≡ None
+IsRefusedAs (Err (TxFault.Refused k)) r = number_in r ≡ Some k
+IsRefusedAs (Err TxFault.NoMemory) r = Unit {0}

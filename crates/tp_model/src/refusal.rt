@@ -2,7 +2,7 @@
 ghost use Rattle.std.specs.Prelude.{◌≡◌};
 ghost use Rattle.tp_model.specs.Dialogues.{first};
 ghost use Rattle.tp_model.specs.Requests.{least};
-ghost use Rattle.tp_model.specs.Refusal.{number_of, number_in, is_dropped};
+ghost use Rattle.tp_model.specs.Refusal.{number_of, is_dropped};
 
 use thiserror::Error;
 
@@ -97,7 +97,7 @@ impl Refusal {
 
     /// The refusal of the first test that holds.
     pub fn first(tests: &[(bool, Refusal)]) -> Option<Refusal>
-        ensures { number_in result ≡ first tests.now }
+        ensures { result ≡ first tests.now }
     {
         for test in tests {
             if test.0 {
@@ -109,7 +109,7 @@ impl Refusal {
 
     /// The one with the lesser number, where both apply; else the one that does.
     pub fn least(a: Option<Refusal>, b: Option<Refusal>) -> Option<Refusal>
-        ensures { number_in result ≡ least (number_in a) (number_in b) }
+        ensures { result ≡ least a b }
     {
         match (a, b) {
             (None, other) | (other, None) => other,

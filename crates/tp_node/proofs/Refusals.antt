@@ -3,6 +3,7 @@ use Rattle.std.proofs.Common.{◌≡◌, ℕ, true, List, [], ◌∷◌, Option,
 use Rattle.std.proofs.lemmas.Bool.Decides.{nat_tests}
 use Rattle.std.proofs.lemmas.Grind.{common_steps}
 use Rattle.tp_names.specs.declared.identifiers.Addr.{Addr}
+use Rattle.tp_model.specs.declared.refusal.Refusal.{Refusal}
 use Rattle.tp_model.specs.Parts.{Arc, Branch, Digest}
 use Rattle.tp_model.specs.Transactions.{Row}
 use Rattle.tp_model.specs.Links.{is_live}
@@ -14,7 +15,7 @@ use Rattle.tp_model.specs.declared.arc.Side.{Side}
 use Rattle.tp_node_parts.specs.Arcs.{Arcs, has_place, count_subordinates_in}
 use Rattle.tp_node.specs.Node.{Node, has_place_at}
 
-pub refused_on : (v : Node) (p octets : ℕ) (kind : Asked) (others : Option ℕ) (a : Arc) → find_arc v.digest.arcs p ≡ Some a → is_live a.link ≡ true → refused_at v.who v.digest p octets kind others ≡ least (refused_on_arc (side_at v.digest p) a.dialogue (situation_at v.who v.digest p) octets kind) others
+pub refused_on : (v : Node) (p octets : ℕ) (kind : Asked) (others : Option Refusal) (a : Arc) → find_arc v.digest.arcs p ≡ Some a → is_live a.link ≡ true → refused_at v.who v.digest p octets kind others ≡ least (refused_on_arc (side_at v.digest p) a.dialogue (situation_at v.who v.digest p) octets kind) others
 refused_on v p octets kind others a found live = grind (arith, common_steps)
 
 -- the arcs to subordinates
@@ -23,7 +24,7 @@ counted d [] = refl
 counted d (a ∷ arcs) = grind (arith, common_steps, counted d arcs)
 
 -- more octets than are counted are as many as too many
-pub data_cut : (v : Node) (p n : ℕ) (others : Option ℕ) → refused_at v.who v.digest p (min n 2000) Ask_data others ≡ refused_at v.who v.digest p n Ask_data others
+pub data_cut : (v : Node) (p n : ℕ) (others : Option Refusal) → refused_at v.who v.digest p (min n 2000) Ask_data others ≡ refused_at v.who v.digest p n Ask_data others
 unfolding refused_on_arc
 data_cut v p n others = grind (arith, common_steps, cut n)
   where

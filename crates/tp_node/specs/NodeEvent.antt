@@ -1,10 +1,12 @@
 -- The events of a node as they are given to it, and what a node answers: a refusal, or what the event makes of it. An
 -- answer out of phase is followed by the loss of its association.
-use Rattle.std.specs.Prelude.{ℕ, ◌==◌, ◌&&◌, Bool, true, false, if◌then◌else◌, Option, Some, None}
-use Rattle.tp_model.specs.Parts.{Who, Event, Declare, Do, Arrive, Lose, Heur, GiveUp, Retry, Purge, Digest}
+use Rattle.std.specs.Prelude.{ℕ, Bool, true, false, Option, Some, None}
+use Rattle.tp_model.specs.Parts.{Who, Event, Declare, Do, Arrive, Break, Lose, Heur, GiveUp, Retry, Purge, Digest, Accepted, Refused, Breaks}
 use Rattle.tp_model.specs.Node.{Move}
-use Rattle.tp_model.specs.Events.{action, refusal, refused_plainly, is_no_node, unless_missing, is_breaking, has_pair}
-use Rattle.tp_model.specs.History.{broken_by}
+use Rattle.tp_model.specs.Events.{action, verdict, refused_plainly, is_no_node, unless_missing, has_pair}
+use Rattle.tp_model.specs.declared.refusal.Refusal.{Refusal}
+use Rattle.tp_model.specs.declared.refusal.Refusal.TheVariants.{OutOfPhase}
+use Rattle.tp_model.specs.Refusal.{number_of}
 use Rattle.tp_node.specs.declared.event.NodeEvent.{NodeEvent}
 
 abbrev pub event_of : NodeEvent → Event
@@ -18,7 +20,7 @@ event_of NodeEvent.Retry = Retry
 event_of NodeEvent.Purge = Purge
 
 -- what is known before anything is tried: but for a retry, which is refused where it would say nothing
-abbrev pub refused_at_once : Who → Digest → NodeEvent → Option ℕ
+abbrev pub refused_at_once : Who → Digest → NodeEvent → Option Refusal
 refused_at_once who d (NodeEvent.Declare s) = refused_plainly who d (Declare s)
 refused_at_once who d (NodeEvent.Do r) = refused_plainly who d (Do r.now)
 refused_at_once who d (NodeEvent.Arrive from r) = refused_plainly who d (Arrive from r.now)
@@ -36,9 +38,10 @@ pub data Answer : Type 0 where
   Happens : Option ℕ → Move → Answer
 
 abbrev pub answer_at : Who → Digest → Event → Answer
-answer_at who d e = elim (refusal who d e) [
-  | None ↦ Happens None (action who d e)
-  | Some n ↦ if (n == 24) && is_breaking who d e then Happens (Some n) (action who d (broken_by e)) else Refuses n
+answer_at who d e = elim (verdict who d e) [
+  | Accepted ↦ Happens None (action who d e)
+  | Refused n ↦ Refuses (number_of n)
+  | Breaks from r ↦ Happens (Some (number_of OutOfPhase)) (action who d (Break from r))
 ]
 
 abbrev pub is_retry : NodeEvent → Bool

@@ -18,7 +18,6 @@ ghost use Rattle.tp_model.specs.declared.recovery.KeptEvent.{KeptEvent};
 ghost use Rattle.tp_tree.specs.Tie.{arc_of};
 ghost use Rattle.tp_commit.specs.Branch.{has_superior, key_from};
 ghost use Rattle.tp_model.specs.Disposition.{sight_value};
-ghost use Rattle.tp_model.specs.Refusal.{number_in};
 ghost use Rattle.tp_model.specs.Arrivals.{sight_in_tx, is_response, woken_by, current_with, current_of as current_in};
 ghost use Rattle.tp_node.specs.State.{state_of, tree_in};
 ghost use Rattle.tp_node.specs.Node.{current_of, with_arcs, has_place_at};
@@ -303,7 +302,7 @@ impl Node {
         event: &TxEvent,
         none: Option<Refusal>,
     ) -> Option<Refusal>
-        ensures { number_in result ≡ refused_of_current self.now.who self.now.digest event.now (number_in none) }
+        ensures { result ≡ refused_of_current self.now.who self.now.digest event.now none }
     {
         match &self.current {
             None => none,
@@ -338,7 +337,7 @@ impl Node {
         asked: Asked,
         others: Option<Refusal>,
     ) -> Option<Refusal>
-        ensures { number_in result ≡ refused_at self.now.who self.now.digest peer octets (asked_value asked) (number_in others) }
+        ensures { result ≡ refused_at self.now.who self.now.digest peer octets (asked_value asked) others }
     {
         let Some(tie) = self.find(peer) else {
             return Some(NoDialogue);
@@ -353,7 +352,7 @@ impl Node {
     // Of a request that speaks of the transaction as a whole.
     #[tactic(auto, using(crate::proofs::Seen::user_seen))]
     fn refused_of_transaction(&self, request: &Request) -> Option<Refusal>
-        ensures { number_in result ≡ refused_of_tx self.now.who self.now.digest request.now }
+        ensures { result ≡ refused_of_tx self.now.who self.now.digest request.now }
     {
         match &self.current {
             None => Some(NoTransaction),
@@ -384,7 +383,7 @@ impl Node {
 
     #[tactic(auto, unfolding(tp_model::specs::Requests::refused_request))]
     fn refused_reject(&self) -> Option<Refusal>
-        ensures { number_in result ≡ refused_request self.now.who self.now.digest Request.Reject }
+        ensures { result ≡ refused_request self.now.who self.now.digest Request.Reject }
     {
         match self.superior_arc() {
             Some(tie) if tie.link.state() == LinkState::Offered => None,
@@ -394,7 +393,7 @@ impl Node {
 
     #[tactic(auto, unfolding(tp_model::specs::Requests::refused_request))]
     fn refused_accept(&self, units: u8) -> Option<Refusal>
-        ensures { number_in result ≡ refused_request self.now.who self.now.digest (Request.Accept units) }
+        ensures { result ≡ refused_request self.now.who self.now.digest (Request.Accept units) }
     {
         let Some(tie) = self.superior_arc() else {
             return Some(NoDialogue);
@@ -470,7 +469,7 @@ impl Node {
 
     #[tactic(auto, unfolding(tp_model::specs::Requests::refused_request))]
     fn refused_begin(&self, addr: Addr, units: u8) -> Option<Refusal>
-        ensures { number_in result ≡ refused_request self.now.who self.now.digest (Request.BeginDialogue addr units) }
+        ensures { result ≡ refused_request self.now.who self.now.digest (Request.BeginDialogue addr units) }
     {
         Refusal::first(&[
             (self.is_taken(addr.node), WrongPhase),
@@ -482,7 +481,7 @@ impl Node {
 
     // Of a begin-transaction, by others than the arc.
     fn refused_root(&self) -> Option<Refusal>
-        ensures { number_in result ≡ first ((is_nil (phase_of self.now.digest) && not (may_root self.now.digest), NoTransaction) ∷ []) }
+        ensures { result ≡ first ((is_nil (phase_of self.now.digest) && not (may_root self.now.digest), NoTransaction) ∷ []) }
     {
         if self.phase() == Phase::Nil && !self.may_root() {
             Some(NoTransaction)
@@ -494,7 +493,7 @@ impl Node {
     /// Why a request is refused, but for the want of numbers.
     #[tactic(auto, unfolding(tp_model::specs::Requests::refused_request), using(crate::proofs::Refusals::data_cut))]
     pub(crate) fn refused_request(&self, request: &Request) -> Option<Refusal>
-        ensures { number_in result ≡ refused_request self.now.who self.now.digest request.now }
+        ensures { result ≡ refused_request self.now.who self.now.digest request.now }
     {
         match request {
             Request::BeginDialogue { addr, units } => self.refused_begin(*addr, *units),
@@ -530,7 +529,7 @@ impl Node {
 
     /// Of a purge.
     pub(crate) fn refused_purge(&self) -> Option<Refusal>
-        ensures { number_in result ≡ refused_purge self.now.digest.kept }
+        ensures { result ≡ refused_purge self.now.digest.kept }
     {
         match self.kept.get(0) {
             None => Some(NotKept),
@@ -540,7 +539,7 @@ impl Node {
 
     /// Of a loss.
     pub(crate) fn refused_loss(&self, peer: u16) -> Option<Refusal>
-        ensures { number_in result ≡ first ((is_idle (link_with self.now.digest.arcs peer), NoDialogue) ∷ []) }
+        ensures { result ≡ first ((is_idle (link_with self.now.digest.arcs peer), NoDialogue) ∷ []) }
     {
         match self.find(peer) {
             Some(tie) if tie.link.state() != LinkState::Idle => None,

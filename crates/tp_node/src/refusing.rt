@@ -9,7 +9,6 @@ ghost use Rattle.tp_model.specs.Events.{refused_plainly, unless_missing, is_no_n
 ghost use Rattle.tp_node.specs.NodeEvent.{refused_at_once};
 ghost use Rattle.tp_model.specs.Transactions.{out_of_phase};
 ghost use Rattle.tp_model.specs.Disposition.{sight_value};
-ghost use Rattle.tp_model.specs.Refusal.{number_in};
 ghost use Rattle.tp_records.specs.declared.peer.PeerRecord.{PeerRecord};
 ghost use Rattle.tp_model.specs.Links.{is_opening_with, is_live_with, is_idle};
 ghost use Rattle.tp_model.specs.Arcs.{link_from, link_with};
@@ -65,7 +64,7 @@ impl Node {
     // The superior's offer.
     #[tactic(auto, unfolding(tp_model::specs::Arrivals::refused_arrival))]
     fn refused_open(&self, from: &Addr, x: Mark, units: Units) -> Option<Refusal>
-        ensures { number_in result ≡ refused_arrival self.now.who self.now.digest from.now (PeerRecord.OpenAssoc x units) }
+        ensures { result ≡ refused_arrival self.now.who self.now.digest from.now (PeerRecord.OpenAssoc x units) }
     {
         let stranger = !self.is_declared() || !self.is_from_superior(from);
         Refusal::first(&[
@@ -88,7 +87,7 @@ impl Node {
     // The peer answers a call.
     #[tactic(auto, unfolding(tp_model::specs::Arrivals::refused_arrival))]
     fn refused_accept_of(&self, from: &Addr, x: &Mark, y: Mark, units: Units) -> Option<Refusal>
-        ensures { number_in result ≡ refused_arrival self.now.who self.now.digest from.now (PeerRecord.AcceptAssoc x.now y units) }
+        ensures { result ≡ refused_arrival self.now.who self.now.digest from.now (PeerRecord.AcceptAssoc x.now y units) }
     {
         Refusal::first(&[
             (!self.is_declared(), WrongSite),
@@ -100,7 +99,7 @@ impl Node {
     // The peer shuts an association.
     #[tactic(auto, unfolding(tp_model::specs::Arrivals::refused_arrival))]
     fn refused_shut(&self, from: &Addr, x: &Mark, y: &Option<Mark>) -> Option<Refusal>
-        ensures { number_in result ≡ refused_arrival self.now.who self.now.digest from.now (PeerRecord.ShutAssoc x.now y.now) }
+        ensures { result ≡ refused_arrival self.now.who self.now.digest from.now (PeerRecord.ShutAssoc x.now y.now) }
     {
         Refusal::first(&[
             (!self.is_declared(), WrongSite),
@@ -118,7 +117,7 @@ impl Node {
         seq: u64,
         rec: &DialogueRecord,
     ) -> Option<Refusal>
-        ensures { number_in result ≡ refused_on self.now.who self.now.digest from.now x y seq rec.now }
+        ensures { result ≡ refused_on self.now.who self.now.digest from.now x y seq rec.now }
     {
         let Some(tie) = self.find(from.node) else {
             return Some(OldAssociation);
@@ -133,7 +132,7 @@ impl Node {
     /// Why a record is refused that arrives, but for the want of numbers.
     #[tactic(auto, unfolding(tp_model::specs::Arrivals::refused_arrival))]
     pub fn refused_arrival(&self, from: &Addr, rec: &PeerRecord) -> Option<Refusal>
-        ensures { number_in result ≡ refused_arrival self.now.who self.now.digest from.now rec.now }
+        ensures { result ≡ refused_arrival self.now.who self.now.digest from.now rec.now }
     {
         match rec {
             PeerRecord::OpenAssoc { x, units } => self.refused_open(from, *x, *units),
@@ -174,14 +173,14 @@ impl Node {
 
     // Of a record that the superior says of that key.
     fn refused_of_superior(&self, from: &Addr, key: &NodeKey) -> Option<Refusal>
-        ensures { number_in result ≡ first ((is_other (kept_superior (named_by_key self.now.digest key.now)) from.now, WrongSite) ∷ []) }
+        ensures { result ≡ first ((is_other (kept_superior (named_by_key self.now.digest key.now)) from.now, WrongSite) ∷ []) }
     {
         Refusal::first(&[(is_other(&self.superior_by_key(key), from), WrongSite)])
     }
 
     // Of a record that a branch says.
     fn refused_of_branch(&self, from: &Addr, aaid: &Aaid, branch: &BranchId) -> Option<Refusal>
-        ensures { number_in result ≡ first ((is_other (child_addr (named_by_branch self.now.digest aaid.now branch.now) branch.now) from.now, WrongSite) ∷ []) }
+        ensures { result ≡ first ((is_other (child_addr (named_by_branch self.now.digest aaid.now branch.now) branch.now) from.now, WrongSite) ∷ []) }
     {
         Refusal::first(&[(
             is_other(&self.child_by_branch(aaid, branch), from),
@@ -197,7 +196,7 @@ impl Node {
         branch: &BranchId,
         state: RecState,
     ) -> Option<Refusal>
-        ensures { number_in result ≡ refused_reply self.now.digest from.now aaid.now branch.now state }
+        ensures { result ≡ refused_reply self.now.digest from.now aaid.now branch.now state }
     {
         match state {
             RecState::Done(_) => self.refused_of_branch(from, aaid, branch),
@@ -209,7 +208,7 @@ impl Node {
 
     // Another refusal where the node is there.
     fn unless_missing(&self, other: Option<Refusal>) -> Option<Refusal>
-        ensures { number_in result ≡ unless_missing (is_no_node self.now.digest) (number_in other) }
+        ensures { result ≡ unless_missing (is_no_node self.now.digest) other }
     {
         if self.is_missing() {
             Some(NoNode)
@@ -220,7 +219,7 @@ impl Node {
 
     /// Why a request is refused before anything is tried. It takes no memory.
     pub fn refused_do(&self, request: &Request) -> Option<Refusal>
-        ensures { number_in result ≡ refused_plainly self.now.who self.now.digest (Do request.now) }
+        ensures { result ≡ refused_plainly self.now.who self.now.digest (Do request.now) }
     {
         let needs_declaring = matches!(request, Request::BeginDialogue { .. });
         if self.is_missing() || needs_declaring && !self.is_declared() {
@@ -231,7 +230,7 @@ impl Node {
 
     /// Why an event is refused before anything is tried. It takes no memory.
     pub fn refused_at_once(&self, event: &NodeEvent<'_>) -> Option<Refusal>
-        ensures { number_in result ≡ refused_at_once self.now.who self.now.digest event.now }
+        ensures { result ≡ refused_at_once self.now.who self.now.digest event.now }
     {
         match event {
             NodeEvent::Declare { .. } => Refusal::first(&[(self.is_declared(), WrongPhase)]),
@@ -312,7 +311,7 @@ fn is_other(kept: &Option<Addr>, from: &Addr) -> bool
 
 // A record that is out of phase.
 fn out_of_phase(disposition: Disposition) -> Option<Refusal>
-    ensures { number_in result ≡ out_of_phase (sight_value disposition) }
+    ensures { result ≡ out_of_phase (sight_value disposition) }
 {
     match disposition {
         Disposition::Acts | Disposition::Nothing => None,

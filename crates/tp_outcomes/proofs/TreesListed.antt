@@ -9,7 +9,10 @@ use Rattle.tp_logrec.specs.declared.record.LogRec.{LogRec}
 use Rattle.tp_model.specs.declared.line.Action.{Action}
 use Rattle.tp_model.specs.declared.out_line.OutLine.{OutLine}
 use Rattle.tp_model.specs.declared.out_line.RecordFate.{RecordFate}
-use Rattle.tp_model.specs.Parts.{Origin, Event, Entry}
+use Rattle.tp_model.specs.Parts.{Origin, Event, Entry, Verdict, Answer}
+use Rattle.tp_model.specs.Refusal.{number_of as refusal_number}
+use Rattle.tp_model.specs.Events.{verdict}
+use Rattle.tp_model.proofs.Verdicts.{breaks_so}
 use Rattle.tp_model.specs.History.{digest, answer, entry_of, grown, with_entry, crashed, crash_entry}
 use Rattle.tp_model.specs.Legal.{IsLegal, IsGrown, IsUnder}
 use Rattle.tp_model.specs.Disk.{Remains, remains}
@@ -103,7 +106,17 @@ crash_starts o h = ap (λ (v : Option Aaid). starts o h ++ trees_of v) none ∙ 
     empty_right (u ∷ us) = ap (λ (l : List Aaid). u ∷ l) (empty_right us)
 
 declare_entry : (o : Origin) (h : List Entry) (s : Option Addr) (y : Entry) → (answer o h (Event.Declare s)).entry ≡ Some y → y ≡ entry_of o h (Event.Declare s)
-declare_entry o h s y is = grind (arith, is)
+declare_entry o h s y is = go (verdict o.who (digest o h) (Event.Declare s)) refl is
+  where
+    go : (v : Verdict) → verdict o.who (digest o h) (Event.Declare s) ≡ v
+        → (elim v as (λ _. Answer) [
+          | Verdict.Accepted ↦ record { number = None; entry = Some (entry_of o h (Event.Declare s)) }
+          | Verdict.Refused x ↦ record { number = Some (refusal_number x); entry = None }
+          | Verdict.Breaks from r ↦ record { number = Some 24; entry = Some (entry_of o h (Event.Break from r)) }
+        ]).entry ≡ Some y → y ≡ entry_of o h (Event.Declare s)
+    go Verdict.Accepted i k = cc (k)
+    go (Verdict.Refused x) i k = absurd (cc (k))
+    go (Verdict.Breaks from r) i k = let other : Event.Declare s ≡ Event.Arrive from r = (breaks_so o.who (digest o h) (Event.Declare s) from r i).0 in absurd (cc (other))
 
 declare_starts : (o : Origin) (h : List Entry) (s : Option Addr) → starts o (grown o h (Event.Declare s)) ≡ starts o h
 declare_starts o h s = go (answer o h (Event.Declare s)).entry refl

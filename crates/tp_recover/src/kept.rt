@@ -1,7 +1,7 @@
 //! What a kept transaction says and does.
 ghost use Rattle.std.specs.Prelude.{◌≡◌, ◌++◌, IfOk, OnOk};
 ghost use Rattle.tp_model.specs.Recovery.{owed, ask_owed, tell_superior, settled, refused_kept, without_owed, forget_to, rec_of_done};
-ghost use Rattle.tp_model.specs.Refusal.{IsRefusedAs, number_in};
+ghost use Rattle.tp_model.specs.Refusal.{IsRefusedAs};
 ghost use Rattle.tp_recover.specs.Kept.{is_owed, done_step};
 
 use std::alloc::Global;
@@ -173,7 +173,7 @@ fn done(
 /// Why an event of a kept transaction is refused: a purge, exactly where a branch is owed, or the side is commit and the
 /// transaction is not a root's; nothing else is refused. It takes no memory.
 pub fn refused(kept: &Kept, event: &KeptEvent) -> Option<Refusal>
-    ensures { number_in result ≡ refused_kept kept.now event.now }
+    ensures { result ≡ refused_kept kept.now event.now }
 {
     match event {
         KeptEvent::Done { .. } | KeptEvent::Forget => None,

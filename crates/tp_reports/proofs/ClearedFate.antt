@@ -18,7 +18,7 @@ use Rattle.tp_model.specs.Arcs.{find_arc}
 use Rattle.tp_model.specs.Transactions.{aaid_of, node_key, superior_of}
 use Rattle.tp_model.specs.Recovery.{find_kept, not_forgotten}
 use Rattle.tp_model.specs.Arrivals.{branch_key, current_with, named_by_key, kept_superior, is_other, refused_arrival}
-use Rattle.tp_model.specs.Events.{refusal, action, after_crash, recovered_current}
+use Rattle.tp_model.specs.Events.{refusal, verdict, action, after_crash, recovered_current}
 use Rattle.tp_model.specs.History.{digest, records}
 use Rattle.tp_model.specs.Outcomes.{is_now, is_unchanged, rolls, is_crash_in_active}
 use Rattle.tp_model.specs.World.{Node, number_of, addr_of}
@@ -156,7 +156,7 @@ notes_tree t b (k ∷ ks) h = elim (or_case (k.forgot && is_key k.key (branch_ke
 ]
 
 not_refused : (who : Who) (d : Digest) (a : Addr) (t : Aaid) (b : BranchId) → refusal who d (Event.Arrive a (PeerRecord.Forget t b)) ≡ None → is_other (kept_superior (named_by_key d (branch_key t b))) a ≡ false
-unfolding refusal refused_arrival
+unfolding refusal verdict refused_arrival
 not_refused who d a t b ok = grind (arith, ok)
 
 -- a Forget of a key that is current or kept is the superior's

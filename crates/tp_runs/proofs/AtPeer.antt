@@ -19,7 +19,7 @@ use Rattle.tp_records.specs.declared.peer.PeerRecord.{PeerRecord}
 use Rattle.tp_model.specs.declared.arc.Side.{Side}
 use Rattle.tp_model.specs.Dialogues.{fresh_dialogue}
 use Rattle.tp_model.specs.Arrivals.{refused_arrival}
-use Rattle.tp_model.specs.Events.{refusal, after_crash}
+use Rattle.tp_model.specs.Events.{refusal, verdict, after_crash}
 use Rattle.tp_runs.specs.Known.{all_arcs}
 use Rattle.tp_steps.proofs.every.EveryRecord.{find_arc_is}
 use Rattle.tp_steps.proofs.every.Preludes.{superior_found, begun_arcs}
@@ -308,7 +308,7 @@ first_accept who g p d u = go (superior_arc d) refl
 
 first_confirm : (who : Who) (g : Dialogue → Bool) (p : ℕ) (d : Digest) (from : Addr) (x y : Mark) (u : ℕ) → refusal who d (Event.Arrive from (PeerRecord.AcceptAssoc x y u)) ≡ None
     → IsFirst g p d.arcs (linked (find_arc d.arcs from.node) x y u d).arcs
-unfolding refusal refused_arrival
+unfolding refusal verdict refused_arrival
 first_confirm who g p d from x y u ok = go (find_arc d.arcs from.node) refl
   where
     dead : (a : Arc) (l : Link) → find_arc d.arcs from.node ≡ Some a → a.link ≡ l → is_live a.link ≡ false

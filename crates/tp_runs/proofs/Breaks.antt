@@ -16,7 +16,7 @@ use Rattle.tp_model.specs.Arcs.{find_arc, link_of, link_with, without_arc}
 use Rattle.tp_model.specs.Node.{Move, perform, transact, next_mark}
 use Rattle.tp_model.specs.Transactions.{refused_tx}
 use Rattle.tp_model.specs.Arrivals.{lose, break_off, refused_arrival}
-use Rattle.tp_model.specs.Events.{refusal, action, after, started}
+use Rattle.tp_model.specs.Events.{refusal, verdict, action, after, started}
 use Rattle.tp_model.specs.History.{digest}
 use Rattle.tp_model.specs.Questions.{sent_more}
 use Rattle.tp_model.specs.World.{Node, Frame, number_of, find_node}
@@ -44,7 +44,7 @@ use Rattle.tp_histories.proofs.worlds.Good.{good_run, was_sent}
 
 -- it is the next one of its live link
 pub breaks_next : (who : Who) (d : Digest) (from : Addr) (x y : Mark) (seq : ℕ) (r : DialogueRecord) → refusal who d (Event.Break from (PeerRecord.OnAssoc x y seq r)) ≡ None → Taken d from x y seq
-unfolding refusal refused_arrival
+unfolding refusal verdict refused_arrival
 breaks_next who d from x y seq r ok = go (find_arc d.arcs from.node) refl
   where
     on : (a : Arc) (l : Link) → find_arc d.arcs from.node ≡ Some a → a.link ≡ l → Taken d from x y seq

@@ -7,7 +7,7 @@ use Rattle.tp_logrec.specs.declared.record.LogRec.{LogRec}
 use Rattle.tp_model.specs.declared.line.Action.{Action}
 use Rattle.tp_model.specs.declared.out_line.RecordFate.{RecordFate}
 use Rattle.tp_model.specs.Parts.{Entry, Out}
-use Rattle.tp_model.specs.Events.{refusal, after_crash, started}
+use Rattle.tp_model.specs.Events.{refusal, verdict, after_crash, started}
 use Rattle.tp_model.specs.History.{answer}
 use Rattle.tp_model.specs.Disk.{Remains, remains}
 use Rattle.tp_model.specs.World.{World, Node, Site, Frame, number_of, site_of, addr_of, find_node, put_node, addr_at, find_site, put_site, mark_handed}
@@ -83,7 +83,7 @@ action_framed w d k = go (task_of w d) refl
 -- ---- a site that stops
 
 stopped_again : (y : Node) → has_stopped (restarted y).history ≡ true
-unfolding refusal after_crash
+unfolding refusal verdict after_crash
 stopped_again y = refl
 
 -- each of its nodes has stopped, and the others are as they were
@@ -238,7 +238,7 @@ crash_in_framed w name call fill d k = go (find_site w.sites name) refl
 -- ---- a declaration
 
 silent_yet : (name : List ℕ) (n boot : ℕ) (up : Option Addr) (z : Addr) (r : PeerRecord) → HasSent (new_node name n boot up).history z r → ⊥
-unfolding refusal started
+unfolding refusal verdict started
 silent_yet name n boot up z r (inl h) = absurd h
 silent_yet name n boot up z r (inr h) = absurd h
 

@@ -9,7 +9,7 @@ use Rattle.tp_model.specs.Dialogues.{is_nil, is_active}
 use Rattle.tp_model.specs.Transactions.{Turn, transacted, leave}
 use Rattle.tp_model.specs.Requests.{refused_request}
 use Rattle.tp_model.specs.Node.{Move, move, followed, phase_of, seen, Passage, passage, is_leaving, is_over, try_start, restarted, transact}
-use Rattle.tp_model.specs.Events.{refusal, after}
+use Rattle.tp_model.specs.Events.{refusal, verdict, after}
 use Rattle.tp_model.specs.History.{digest}
 use Rattle.tp_model.specs.Outcomes.{is_now, rolls, is_crash_in_active, is_unchanged, has_left, rolled}
 use Rattle.tp_model.specs.World.{Node, number_of}
@@ -73,7 +73,7 @@ left_transact who d c t now old =
     ]
 
 pub left_active : (who : Who) (d : Digest) (c : Current) → d.current ≡ Some c → is_nil c.phase ≡ false → refusal who d (Event.Do Request.Unchanged) ≡ None → is_active c.phase ≡ true
-unfolding refusal refused_request
+unfolding refusal verdict refused_request
 left_active who d c now late ok = grind (arith, ok, now, late)
 
 -- ---- every legal history

@@ -30,7 +30,8 @@ use Rattle.tp_model.specs.Recovery.{is_commit, settled, find_owed, without_owed,
 use Rattle.tp_model.specs.Node.{Move, move, followed, superior_arc, phase_of, seen, seen_rows, situation_at, remaining, branches_of, Passage, passage, is_leaving, with_mark_drawn, with_begun, may_begin_on, begin_on, turned, keep, is_superior}
 use Rattle.tp_model.specs.Requests.{room, count_below, count_gone, count_subordinates, has_branch_at, refused_request}
 use Rattle.tp_model.specs.Arrivals.{is_from_superior, refused_arrival}
-use Rattle.tp_model.specs.Events.{after_crash, recovered, recovered_current, named_again, is_no_node, unless_missing, refusal, action}
+use Rattle.tp_model.specs.Events.{after_crash, recovered, recovered_current, named_again, is_no_node, unless_missing, refusal, verdict, action}
+use Rattle.tp_model.proofs.Verdicts.{plainly_none}
 use Rattle.tp_steps.specs.Moves.{IsLate, IsPut, StandsIn, Moves, prelude, accepted_by, accepted_on, linked, begun_in, counted_in}
 use Rattle.tp_steps.proofs.every.EveryEvent.{every_move, plain_request, plain_arrival}
 use Rattle.tp_steps.proofs.every.EveryMove.{seen_branch}
@@ -351,7 +352,7 @@ begins_arcs : (d : Digest) (arcs : List Arc) → Thins d.arcs arcs → Begins d 
 begins_arcs d arcs t = record { version = refl; stands = stands_arcs d arcs t }
 
 undeclared : (who : Who) (d : Digest) (s : Option Addr) → refusal who d (Event.Declare s) ≡ None → d.declared ≡ false
-unfolding refusal
+unfolding refusal verdict
 undeclared who d s ok = grind (arith, ok)
 
 nothing_gone : (a n : ℕ) → a ≡ 0 → a ≤ n
@@ -410,13 +411,12 @@ record MayCall (d : Digest) : Type 0 where
   declared : d.declared ≡ true
   room : suc (count_subordinates d) ≤ room d.version
 
-not_missing : (b : Bool) (n m : Option ℕ) → elim (unless_missing b n) as (λ _. Option ℕ) [ Some k ↦ Some k | None ↦ m ] ≡ None → b ≡ false
-not_missing true n m h = absurd (cc (h))
-not_missing false n m h = refl
+not_missing : (b : Bool) (n : Option Refusal) → unless_missing b n ≡ None → b ≡ false
+not_missing true n h = absurd (cc (h))
+not_missing false n h = refl
 
 called_by_declared : (who : Who) (d : Digest) (a : Addr) (u : ℕ) → refusal who d (Event.Do (Request.BeginDialogue a u)) ≡ None → d.declared ≡ true
-unfolding refusal
-called_by_declared who d a u ok = on d.declared d.known (not_missing (is_no_node d || (not d.declared && true)) (refused_request who d (Request.BeginDialogue a u)) _ ok)
+called_by_declared who d a u ok = on d.declared d.known (not_missing (is_no_node d || (not d.declared && true)) (refused_request who d (Request.BeginDialogue a u)) (plainly_none who d (Event.Do (Request.BeginDialogue a u)) ok))
   where
     on : (x y : Bool) → ((not x && not y) || (not x && true)) ≡ false → x ≡ true
     on true y h = refl

@@ -14,6 +14,7 @@ use Rattle.tp_model.specs.declared.arc.Phase.{Phase}
 use Rattle.tp_logrec.specs.declared.record.LogRec.{LogRec}
 use Rattle.tp_model.specs.declared.transaction.TxEvent.{TxEvent}
 use Rattle.tp_model.specs.declared.transaction.TxOut.{TxOut}
+use Rattle.tp_model.specs.declared.refusal.Refusal.{Refusal}
 use Rattle.tp_model.specs.Parts.{Who, Link, Idle, Arc, Branch, Current, Digest, Out, Tell}
 use Rattle.tp_model.specs.Dialogues.{Sight, Acts, Nothing_happens, Out_of_phase, is_active, is_committing, is_nil}
 use Rattle.tp_model.specs.Links.{greatest, dropped_by}
@@ -367,8 +368,8 @@ unfolding refused_arrival
 on_assoc who d from x y q r ok = go d.declared refl
   where
     go : (b : Bool) → d.declared ≡ b → dropped_by (link_from d.arcs from) x y q ≡ None
-    go false e = absurd (let clash : Some 23 ≡ None = sym (ap (λ (c : Bool). if not c then Some 23 else refused_on who d from x y q r) e) ∙ ok in cc)
-    go true e = from_dropped (link_from d.arcs from) x y q _ (sym (ap (λ (c : Bool). if not c then Some 23 else refused_on who d from x y q r) e) ∙ ok)
+    go false e = absurd (let clash : Some Refusal.WrongSite ≡ None = sym (ap (λ (c : Bool). if not c then Some Refusal.WrongSite else refused_on who d from x y q r) e) ∙ ok in cc)
+    go true e = from_dropped (link_from d.arcs from) x y q _ (sym (ap (λ (c : Bool). if not c then Some Refusal.WrongSite else refused_on who d from x y q r) e) ∙ ok)
 
 pub taken_with : (who : Who) (d : Digest) (from : Addr) (x y : Mark) (q : ℕ) (r : DialogueRecord) → refused_arrival who d from (PeerRecord.OnAssoc x y q r) ≡ None → dropped_by (link_with d.arcs from.node) x y q ≡ None
 taken_with who d from x y q r ok = go (find_arc d.arcs from.node) refl

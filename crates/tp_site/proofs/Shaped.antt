@@ -1,6 +1,5 @@
 -- A site whose nodes stand as the texts of its log ask stands so after its start, and after every event.
-use Rattle.std.proofs.Common.{if◌then◌else◌, ◌≡◌, ◌==◌, ◌%◌, ◌&&◌, ℕ, Bool, true, false, refl, ap, sym, subst, ◌∙◌, cond, arith, Option, Some, None, List, [], ◌∷◌, map, Result, Ok, Err}
-use Rattle.std.proofs.lemmas.Bool.Decides.{nat_tests}
+use Rattle.std.proofs.Common.{◌≡◌, ◌==◌, ◌%◌, ℕ, Bool, true, false, refl, ap, sym, subst, ◌∙◌, cond, Option, Some, None, List, [], ◌∷◌, map, Result, Ok, Err}
 use Rattle.std.proofs.lemmas.List.Elements.{recursion_from_All}
 use Rattle.std.specs.List.{All, AllByRecursion}
 use Rattle.tp_logrec.specs.declared.record.LogRec.{LogRec}
@@ -8,12 +7,13 @@ use Rattle.tp_logrec.specs.declared.record.LogVersion.{LogVersion}
 use Rattle.tp_logrec.specs.declared.owner.Owner.{Owner}
 use Rattle.tp_logrec.specs.Order.{owner_of}
 use Rattle.tp_texts.specs.Shapes.{IsShaped, AreShaped}
-use Rattle.tp_model.specs.Parts.{Who, Start, Event, Declare, Do, Arrive, Break, Lose, Heur, GiveUp, Retry, Purge, Crash, Digest}
-use Rattle.tp_model.specs.Events.{started, refusal, action, is_breaking}
-use Rattle.tp_model.specs.History.{broken_by}
+use Rattle.tp_model.specs.Refusal.{number_of}
+use Rattle.tp_model.specs.Parts.{Who, Start, Event, Digest, Verdict}
+use Rattle.tp_model.specs.Events.{started, refusal, verdict, action}
 use Rattle.tp_model.specs.Lanes.{records_in}
 use Rattle.tp_model.specs.Node.{Move}
 use Rattle.tp_model.specs.NodeRun.{records_at}
+use Rattle.tp_model.proofs.Verdicts.{none_if_accepted, breaks_so}
 use Rattle.tp_steps.specs.Histories.{brought}
 use Rattle.tp_said_texts.specs.Standing.{IsShapedOption, IsShapedMove}
 use Rattle.tp_said_texts.specs.Sizes.{AreShort, BringsFew, IsShortRecord}
@@ -81,39 +81,18 @@ record HasHappened (who : Who) (d : Digest) (e : Event) (m : Move) : Type 0 wher
   is : action who d event ≡ m
   brings : brought event ≡ brought e
 
-brought_broken : (e : Event) → brought (broken_by e) ≡ brought e
-brought_broken (Declare s) = refl
-brought_broken (Do r) = refl
-brought_broken (Arrive a r) = refl
-brought_broken (Break a r) = refl
-brought_broken (Lose p) = refl
-brought_broken (Heur o) = refl
-brought_broken (GiveUp p) = refl
-brought_broken Retry = refl
-brought_broken Purge = refl
-brought_broken Crash = refl
-
--- where an answer breaks the association, the loss is accepted
-breaks : (who : Who) (d : Digest) (e : Event) → refusal who d e ≡ Some 24 → is_breaking who d e ≡ true → refusal who d (broken_by e) ≡ None
-unfolding refusal
-breaks who d (Arrive a r) h b = grind (arith, nat_tests)
-breaks who d e h b = absurd cc
-
 has_happened : (who : Who) (d : Digest) (e : Event) (k : Option ℕ) (m : Move) → answer_at who d e ≡ Happens k m → HasHappened who d e m
-has_happened who d e k m is = go (refusal who d e) refl is
+has_happened who d e k m is = go (verdict who d e) refl is
   where
-    broke : (n : ℕ) (b : Bool) → refusal who d e ≡ Some n → ((n == 24) && is_breaking who d e) ≡ b → (if b then Happens (Some n) (action who d (broken_by e)) else Refuses n) ≡ Happens k m → HasHappened who d e m
-    broke n false i j h = absurd cc
-    broke n true i j h =
-        let at : n ≡ 24 = grind (arith, nat_tests) in
-        let breaking : is_breaking who d e ≡ true = grind arith in
-        record { event = broken_by e; ok = breaks who d e (i ∙ ap (λ (x : ℕ). Some x) at) breaking; is = cc (h); brings = brought_broken e }
-
-    go : (o : Option ℕ) → refusal who d e ≡ o
-        → elim o as (λ _. Answer) [ None ↦ Happens None (action who d e) | Some n ↦ if (n == 24) && is_breaking who d e then Happens (Some n) (action who d (broken_by e)) else Refuses n ] ≡ Happens k m
-        → HasHappened who d e m
-    go None i h = record { event = e; ok = i; is = cc (h); brings = refl }
-    go (Some n) i h = broke n ((n == 24) && is_breaking who d e) i refl h
+    go : (v : Verdict) → verdict who d e ≡ v
+        → elim v as (λ _. Answer) [
+          | Verdict.Accepted ↦ Happens None (action who d e)
+          | Verdict.Refused n ↦ Refuses (number_of n)
+          | Verdict.Breaks from r ↦ Happens (Some 24) (action who d (Event.Break from r))
+        ] ≡ Happens k m → HasHappened who d e m
+    go Verdict.Accepted i h = record { event = e; ok = none_if_accepted who d e i; is = cc (h); brings = refl }
+    go (Verdict.Refused n) i h = absurd (cc (h))
+    go (Verdict.Breaks from r) i h = let b = breaks_so who d e from r i in record { event = Event.Break from r; ok = b.1; is = cc (h); brings = ap brought (sym b.0) }
 
 pub drawn_shaped : (v : Nodes) (n : ℕ) (e : Event) (k : Option ℕ) (m : Move) → AreShapedNodes v → answer_at (who_at v n) (digest_at v n) e ≡ Happens k m → IsShapedDraft v.version m
 drawn_shaped v n e k m all is =

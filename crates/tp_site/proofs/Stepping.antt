@@ -1,15 +1,15 @@
 -- What a site has come to after one event more.
-use Rattle.std.proofs.Common.{◌≡◌, ◌==◌, ◌&&◌, ℕ, Bool, true, false, refl, ap, sym, ◌∙◌, subst, cond, arith, if◌then◌else◌, Option, Some, None, List, [], ◌∷◌, ◌++◌, Result, Ok, Err, inl, inr, map}
+use Rattle.std.proofs.Common.{◌≡◌, ◌==◌, ℕ, Bool, true, false, refl, ap, sym, ◌∙◌, subst, cond, arith, Option, Some, None, List, [], ◌∷◌, ◌++◌, Result, Ok, Err, inl, inr, map}
 use Rattle.std.proofs.lemmas.Bool.Decides.{nat_tests}
 use Rattle.std.proofs.lemmas.List.{append_assoc, append-nil, map-append}
 use Rattle.tp_logrec.specs.declared.record.LogRec.{LogRec}
 use Rattle.tp_records.specs.declared.body.Event.{Event as Given}
 use Rattle.tp_records.specs.declared.body.Output.{Output}
-use Rattle.tp_model.specs.Parts.{Who, Origin, Event, Entry, Digest, Answer as Told}
-use Rattle.tp_model.specs.Events.{action, refusal, is_breaking}
-use Rattle.tp_model.specs.History.{digest, answer, entry_of, broken_by}
+use Rattle.tp_model.specs.Parts.{Who, Origin, Event, Entry, Digest, Verdict, Answer as Told}
+use Rattle.tp_model.specs.Events.{action, verdict}
+use Rattle.tp_model.specs.History.{digest, answer, entry_of}
 use Rattle.tp_model.specs.Node.{Move}
-use Rattle.tp_model.specs.Refusal.{number_in}
+use Rattle.tp_model.specs.Refusal.{number_in, number_of}
 use Rattle.tp_model.specs.NodeRun.{Opening, Asked, Refuses as Not_asked, Is, asked, node_of, origin_at, boot_of, history_of, with_entry, entry_record, entry_outputs, outputs_of, refusal_of, NodeRun, run_from, log_after}
 use Rattle.tp_journal.specs.declared.receipts.Receipt.{Receipt}
 use Rattle.tp_journal.specs.declared.faults.ForceFault.{ForceFault}
@@ -27,29 +27,27 @@ use Rattle.tp_site.proofs.Runs.{history_grown, asked_at, asked_by_name, outputs_
 
 -- ---- the record of an event
 
--- both answers, by what refuses the event and whether a loss follows
-abbrev told_if : Origin → List Entry → Event → ℕ → Bool → Told
-told_if o h e n c = if c then record { number = Some n; entry = Some (entry_of o h (broken_by e)) } else record { number = Some n; entry = None }
+abbrev told_by : Origin → List Entry → Event → Verdict → Told
+told_by o h e v = elim v as (λ _. Told) [
+  | Verdict.Accepted ↦ record { number = None; entry = Some (entry_of o h e) }
+  | Verdict.Refused n ↦ record { number = Some (number_of n); entry = None }
+  | Verdict.Breaks from r ↦ record { number = Some 24; entry = Some (entry_of o h (Event.Break from r)) }
+]
 
-abbrev answer_if : Who → Digest → Event → ℕ → Bool → Answer
-answer_if who d e n c = if c then Happens (Some n) (action who d (broken_by e)) else Refuses n
-
-abbrev told_by : Origin → List Entry → Event → Option ℕ → Bool → Told
-told_by o h e r b = elim r as (λ _. Told) [ None ↦ record { number = None; entry = Some (entry_of o h e) } | Some n ↦ told_if o h e n ((n == 24) && b) ]
-
-abbrev answer_by : Who → Digest → Event → Option ℕ → Bool → Answer
-answer_by who d e r b = elim r as (λ _. Answer) [ None ↦ Happens None (action who d e) | Some n ↦ answer_if who d e n ((n == 24) && b) ]
+abbrev answer_by : Who → Digest → Event → Verdict → Answer
+answer_by who d e v = elim v as (λ _. Answer) [
+  | Verdict.Accepted ↦ Happens None (action who d e)
+  | Verdict.Refused n ↦ Refuses (number_of n)
+  | Verdict.Breaks from r ↦ Happens (Some 24) (action who d (Event.Break from r))
+]
 
 rec_told : (o : Origin) (h : List Entry) (e : Event) → rec_of (answer_at o.who (digest o h) e) ≡ record_of (answer o h e).entry
-rec_told o h e = go (refusal o.who (digest o h) e) (is_breaking o.who (digest o h) e)
+rec_told o h e = go (verdict o.who (digest o h) e)
   where
-    at : (n : ℕ) (c : Bool) → rec_of (answer_if o.who (digest o h) e n c) ≡ record_of (told_if o h e n c).entry
-    at n true = refl
-    at n false = refl
-
-    go : (r : Option ℕ) (b : Bool) → rec_of (answer_by o.who (digest o h) e r b) ≡ record_of (told_by o h e r b).entry
-    go None b = refl
-    go (Some n) b = at n ((n == 24) && b)
+    go : (v : Verdict) → rec_of (answer_by o.who (digest o h) e v) ≡ record_of (told_by o h e v).entry
+    go Verdict.Accepted = refl
+    go (Verdict.Refused n) = refl
+    go (Verdict.Breaks from r) = refl
 
 parted : (a : Told) (number : Option ℕ) (entry : Option Entry) → a.number ≡ number → a.entry ≡ entry → ◌≡◌ {A = Told} a (record { number = number; entry = entry })
 parted a number entry i j = rw (← i, ← j) refl

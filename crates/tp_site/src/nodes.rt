@@ -2,8 +2,9 @@
 ghost use Rattle.std.specs.Prelude.{ℕ, ◌≡◌, ◌==◌, ◌++◌, ◌∷◌, cond, true, List, [], None, IfOk, IfSome, OnOk};
 ghost use Rattle.tp_logrec.specs.declared.record.LogRec.{LogRec as LogRecord};
 ghost use Rattle.std.specs.Option.{option_copied};
+ghost use Rattle.tp_model.specs.declared.refusal.Refusal.{Refusal};
+ghost use Rattle.tp_model.specs.Refusal.{number_of};
 ghost use Rattle.tp_model.specs.Events.{started};
-ghost use Rattle.tp_model.specs.Refusal.{number_in};
 ghost use Rattle.tp_node.specs.NodeEvent.{event_of, answer_at, refused_at_once};
 ghost use Rattle.tp_draft.specs.Answers.{IsAnswer, IsPlain};
 ghost use Rattle.tp_site.specs.Nodes.{has_node, who_at, digest_at, node_at, find_node, unknown_start, IsSameSite, AreFrom};
@@ -90,7 +91,7 @@ impl Nodes {
         node: u16,
         event: &NodeEvent<'_>,
     ) -> Option<Refusal>
-        ensures { number_in result ≡ refused_at_once (who_at self.now node) (digest_at self.now node) event.now }
+        ensures { result ≡ refused_at_once (who_at self.now node) (digest_at self.now node) event.now }
     {
         match self.find(node) {
             Some(node) => node.refused_at_once(event),
@@ -107,7 +108,7 @@ impl Nodes {
         event: &NodeEvent<'_>,
         draft: &mut Draft,
     ) -> Result<Option<Refusal>, TxFault>
-        ensures plain { (k : ℕ) → IsPlain (node_at self.now node) event.now k → result ≡ Err (TxFault.Refused k) }
+        ensures plain { (x : Refusal) → IsPlain (node_at self.now node) event.now x → result ≡ Err (TxFault.Refused (number_of x)) }
         ensures answer { IsAnswer result draft.new (node_at self.now node) (answer_at (who_at self.now node) (digest_at self.now node) (event_of event.now)) }
     {
         match self.find(node) {

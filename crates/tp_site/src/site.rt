@@ -2,9 +2,11 @@
 mod event;
 mod resume;
 
-ghost use Rattle.std.specs.Prelude.{ℕ, ◌≡◌, true, [], IfOk, IfErr, OnOk, Some, None};
+ghost use Rattle.std.specs.Prelude.{◌≡◌, true, [], IfOk, IfErr, OnOk, Some, None};
 ghost use Rattle.std.specs.Option.{option_map};
 ghost use Rattle.tp_logrec.specs.Order.{boots, last_number};
+ghost use Rattle.tp_model.specs.declared.refusal.Refusal.{Refusal};
+ghost use Rattle.tp_model.specs.Refusal.{number_of};
 ghost use Rattle.tp_model.specs.History.{state};
 ghost use Rattle.tp_logrec.specs.declared.record.LogRec.{LogRec as TheRecord};
 ghost use Rattle.tp_model.specs.NodeRun.{boot_of};
@@ -100,7 +102,7 @@ impl<K: Keeper> Site<K> {
         draft: &mut Draft,
     ) -> Result<Option<Refusal>, TxFault>
         requires { self.old.shut ≡ None }
-        ensures plain { (k : ℕ) → IsPlain (node_at self.old.nodes node) event.now k → result ≡ Err (TxFault.Refused k) }
+        ensures plain { (x : Refusal) → IsPlain (node_at self.old.nodes node) event.now x → result ≡ Err (TxFault.Refused (number_of x)) }
         ensures attempts { Attempts K.standing self.old node (event_of event.now) result draft.new self.new }
         ensures shaped { IfOk result (λ refusal. IsShapedDraft self.new.nodes.version draft.new.move) }
         ensures short { IfOk result (λ refusal. BringsFew (event_of event.now) → AreShort draft.new.move.outs) }
@@ -137,7 +139,7 @@ impl<K: Keeper> Site<K> {
     ) -> Result<Box<Draft>, TxFault>
         requires { self.old.shut ≡ None }
         ensures same { self.new ≡ self.old }
-        ensures plain { (k : ℕ) → IsPlain (node_at self.old.nodes node) event.now k → IfErr result (λ fault. fault ≡ TxFault.Refused k) }
+        ensures plain { (x : Refusal) → IsPlain (node_at self.old.nodes node) event.now x → IfErr result (λ fault. fault ≡ TxFault.Refused (number_of x)) }
         ensures refused { IfErr result (λ fault. Plays K.standing self.old node (event_of event.now) (Err (fault_of fault)) self.new) }
     {
         match self.spare.take() {
@@ -155,7 +157,7 @@ impl<K: Keeper> Site<K> {
         event: &NodeEvent<'_>,
     ) -> Result<Box<Draft>, TxFault>
         requires { self.now.shut ≡ None }
-        ensures plain { (k : ℕ) → IsPlain (node_at self.now.nodes node) event.now k → result ≡ Err (TxFault.Refused k) }
+        ensures plain { (x : Refusal) → IsPlain (node_at self.now.nodes node) event.now x → result ≡ Err (TxFault.Refused (number_of x)) }
         ensures refused { IfErr result (λ fault. Plays K.standing self.now node (event_of event.now) (Err (fault_of fault)) self.now) }
     {
         if !breaks(event) {

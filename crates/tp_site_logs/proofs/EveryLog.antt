@@ -4,7 +4,10 @@ use Rattle.std.specs.Prelude.{nat_le}
 use Rattle.tp_records.specs.declared.request.Request.{Request}
 use Rattle.tp_model.specs.declared.out_line.RecordFate.{RecordFate}
 use Rattle.tp_model.specs.Questions.{is_crash}
-use Rattle.tp_model.specs.History.{broken_by}
+use Rattle.tp_model.specs.Refusal.{number_of as refusal_number}
+use Rattle.tp_model.specs.Parts.{Verdict, Answer}
+use Rattle.tp_model.specs.Events.{verdict}
+use Rattle.tp_model.specs.History.{digest, entry_of}
 use Rattle.tp_model.specs.Disk.{Disk, Remains, forced, remains, remains_at_gate}
 use Rattle.tp_model.specs.World.{Frame, addr_at, find_frame}
 use Rattle.tp_model.specs.declared.line.Action.{Action}
@@ -90,20 +93,18 @@ calm_task w (Action.GiveUp n p) t is = ap is_crash (calm_at w n (Event.GiveUp p)
 calm_task w (Action.Retry n) t is = ap is_crash (calm_at w n Event.Retry t is)
 calm_task w (Action.Purge n) t is = ap is_crash (calm_at w n Event.Purge t is)
 
-calm_broken : (e : Event) → is_crash (broken_by e) ≡ is_crash e
-calm_broken (Event.Declare s) = refl
-calm_broken (Event.Do r) = refl
-calm_broken (Event.Arrive a r) = refl
-calm_broken (Event.Break a r) = refl
-calm_broken (Event.Lose p) = refl
-calm_broken (Event.Heur o) = refl
-calm_broken (Event.GiveUp p) = refl
-calm_broken Event.Retry = refl
-calm_broken Event.Purge = refl
-calm_broken Event.Crash = refl
-
 pub calm_answer : (o : Origin) (h : List Entry) (e : Event) (y : Entry) → is_crash e ≡ false → (answer o h e).entry ≡ Some y → is_crash y.event ≡ false
-calm_answer o h e y calm is = let broken = calm_broken e in grind (arith, is, calm, broken)
+calm_answer o h e y calm is = go (verdict o.who (digest o h) e) is
+  where
+    go : (v : Verdict)
+        → (elim v as (λ _. Answer) [
+          | Verdict.Accepted ↦ record { number = None; entry = Some (entry_of o h e) }
+          | Verdict.Refused n ↦ record { number = Some (refusal_number n); entry = None }
+          | Verdict.Breaks from r ↦ record { number = Some 24; entry = Some (entry_of o h (Event.Break from r)) }
+        ]).entry ≡ Some y → is_crash y.event ≡ false
+    go Verdict.Accepted i = grind (arith, i, calm)
+    go (Verdict.Refused n) i = absurd (cc (i))
+    go (Verdict.Breaks from r) i = grind (arith, i)
 
 enters : (m : ℕ) (w : World) (t : Task) (y : Entry) → Ready w t → is_crash t.event ≡ false → (answer t.node.origin t.node.history t.event).entry ≡ Some y → Holds m w → Enters w t.node y
 enters m w t y r calm is h =

@@ -1,5 +1,5 @@
 -- A site that starts on a log in order keeps it in order, whatever events it is given.
-use Rattle.tp_site_logs.proofs.Vocabulary.{◌≡◌, ◌≤◌, ◌==◌, ◌++◌, ℕ, Bool, true, false, cond, refl, ap, sym, ◌∙◌, subst, arith, Option, Some, None, List, [], ◌∷◌, reverse, nat_tests, append-nil, append_assoc, reverse-append, both, Addr, LogRec, all_follow, Origin, Event, Entry, Digest, refusal, started, digest, refuse, entry_of, answer, records, with_rec, IsGrown, records_at, IsSoundStart}
+use Rattle.tp_site_logs.proofs.Vocabulary.{◌≡◌, ◌≤◌, ◌==◌, ◌++◌, ℕ, Bool, true, false, cond, refl, ap, sym, ◌∙◌, subst, arith, Option, Some, None, List, [], ◌∷◌, reverse, nat_tests, append-nil, append_assoc, reverse-append, both, Addr, LogRec, all_follow, Origin, Event, Entry, Digest, refusal, verdict, started, digest, refuse, entry_of, answer, records, with_rec, IsGrown, records_at, IsSoundStart}
 use Rattle.std.proofs.lemmas.List.{reverse-reverse}
 use Rattle.tp_names.specs.Same.{is_name}
 use Rattle.tp_records.specs.declared.body.Event.{Event as Given}
@@ -29,7 +29,7 @@ record Grows (o : Origin) (h : List Entry) : Type 0 where
   boot : (digest o h).boot ≡ o.start.boot
 
 undeclared : (who : Who) (d : Digest) (s : Option Addr) → refusal who d (Event.Declare s) ≡ None → d.declared ≡ false
-unfolding refusal
+unfolding refusal verdict
 undeclared who d s ok = grind (arith, ok)
 
 grows_none : (o : Origin) → Grows o []

@@ -1,5 +1,5 @@
 -- The logs of a world tell its nodes: when a site or a node comes, when a node has one entry more, and when a site starts again.
-use Rattle.tp_site_logs.proofs.Vocabulary.{◌≡◌, ◌≤◌, ◌==◌, ◌++◌, ℕ, zero, suc, Bool, true, false, cond, refl, ap, sym, ◌∙◌, subst, arith, Option, Some, None, List, [], ◌∷◌, reverse, if◌then◌else◌, nat_tests, append-nil, reverse-append, Addr, is_name, name_same, name_self, LogRec, LogVersion, boots, all_below, follows, boots-append, Origin, Event, Entry, refusal, after_crash, started, digest, records, with_rec, IsGrown, Node, Site, number_of, site_of, find_node, find_site, IsOwnRec, log_of, forced_by, one_to}
+use Rattle.tp_site_logs.proofs.Vocabulary.{◌≡◌, ◌≤◌, ◌==◌, ◌++◌, ℕ, zero, suc, Bool, true, false, cond, refl, ap, sym, ◌∙◌, subst, arith, Option, Some, None, List, [], ◌∷◌, reverse, if◌then◌else◌, nat_tests, append-nil, reverse-append, Addr, is_name, name_same, name_self, LogRec, LogVersion, boots, all_below, follows, boots-append, Origin, Event, Entry, refusal, verdict, after_crash, started, digest, records, with_rec, IsGrown, Node, Site, number_of, site_of, find_node, find_site, IsOwnRec, log_of, forced_by, one_to}
 use Rattle.tp_model.specs.Disk.{Disk, forced}
 use Rattle.tp_model.specs.Questions.{boot_by, boot_in, is_crash}
 use Rattle.tp_model.specs.Happenings.{new_site, new_node, restarted, booted}
@@ -217,11 +217,11 @@ told_new_site ns s nobody = record {
 -- ---- a node comes
 
 pub node_new : (s : List ℕ) (n boot : ℕ) (up : Option Addr) → IsNode (new_node s n boot up)
-unfolding refusal started
+unfolding refusal verdict started
 node_new s n boot up = record { grown = (refl, refl, refl, tt); empty = refl; version = refl }
 
 pub told_new_node : (ns now : List Node) (s : List ℕ) (n : ℕ) (up : Option Addr) (x : Site) → find_node ns n ≡ None → ((k : ℕ) → find_node now k ≡ cond (n == k) (Some (new_node s n x.boot up)) (find_node ns k)) → IsTold ns s x → IsTold now s x
-unfolding refusal started
+unfolding refusal verdict started
 told_new_node ns now s n up x none looks told = record {
   log = log_kept (λ k. forced_by s (find_node ns k)) (λ k. forced_by s (find_node now k)) x.boot (log_of x) told.log (λ k. same k (n == k) refl);
   starts = told.starts;
@@ -245,15 +245,15 @@ told_new_node ns now s n up x none looks told = record {
 -- ---- a site starts again
 
 node_again : (n : Node) → IsNode n → IsNode (restarted n)
-unfolding refusal after_crash
+unfolding refusal verdict after_crash
 node_again n node = record { grown = (refl, refl, refl, (refl, refl, tt, node.grown)); empty = node.empty; version = node.version }
 
 again_records : (n : Node) → records n.origin (restarted n).history ≡ records n.origin n.history
-unfolding refusal after_crash
+unfolding refusal verdict after_crash
 again_records n = refl
 
 again_boot : (n : Node) → (digest n.origin (restarted n).history).boot ≡ suc (digest n.origin n.history).boot
-unfolding refusal after_crash
+unfolding refusal verdict after_crash
 again_boot n = refl
 
 forced_again : (s t : List ℕ) (o : Option Node) → forced_by t (after_start s o) ≡ forced_by t o

@@ -12,7 +12,7 @@ pub use Rattle.tp_logrec.specs.Order.{owner, owner_of, boots, all_below, last_nu
 pub use Rattle.tp_logrec.proofs.Stands.{boots-append, begun_after_is, boot_after_is}
 pub use Rattle.tp_logrec.proofs.BriefOrders.{follow_from-append}
 pub use Rattle.tp_model.specs.Parts.{Origin, Event, Entry, Digest}
-unfoldable pub use Rattle.tp_model.specs.Events.{refusal, after_crash, started}
+unfoldable pub use Rattle.tp_model.specs.Events.{refusal, verdict, after_crash, started}
 pub use Rattle.tp_model.specs.History.{digest, refuse, entry_of, answer, records, with_rec, again, crashed}
 pub use Rattle.tp_model.specs.Legal.{IsGrown, is_start}
 pub use Rattle.tp_model.specs.NodeRun.{is_record_at, records_at}

@@ -10,6 +10,7 @@ use Rattle.tp_logrec.specs.declared.record.LogVersion.{LogVersion}
 use Rattle.tp_model.specs.declared.line.Action.{Action}
 use Rattle.tp_model.specs.declared.line.LineRequest.{LineRequest}
 use Rattle.tp_model.specs.declared.transaction.TxEvent.{TxEvent}
+use Rattle.tp_model.specs.declared.refusal.Refusal.{Refusal}
 use Rattle.tp_model.specs.Parts.{Origin, Event, Idle, Opening, Offered, Live, Arc, Current}
 use Rattle.tp_model.specs.Dialogues.{is_active, is_committing, is_rolling}
 use Rattle.tp_model.specs.Arcs.{link_with, is_live_with_peer}
@@ -96,7 +97,7 @@ abbrev pub prepares : Node → Bool
 prepares x = puts (λ y arcs. is_prepare y.event && (taken y.arcs 1 == suc (taken arcs 1))) (comes above DialogueRecord.Prepare x) x
 
 -- no number stands against the event
-abbrev pub is_accepted : Option ℕ → Bool
+abbrev pub is_accepted : Option Refusal → Bool
 is_accepted None = true
 is_accepted (Some n) = false
 

@@ -5,7 +5,7 @@ use Rattle.std.proofs.lemmas.Bool.Decides.{nat_tests}
 use Rattle.tp_names.specs.declared.identifiers.Addr.{Addr}
 use Rattle.tp_logrec.specs.declared.record.LogRec.{LogRec}
 use Rattle.tp_journal.specs.declared.faults.ForceFault.TheVariants as force
-use Rattle.tp_model.specs.Events.{refusal, after_crash, action}
+use Rattle.tp_model.specs.Events.{refusal, verdict, after_crash, action}
 use Rattle.tp_model.specs.Happenings.{log_shown, restarted}
 use Rattle.tp_model.specs.History.{digest, with_entry, crashed}
 use Rattle.tp_model.specs.Legal.{IsLegal, IsGrown}
@@ -32,7 +32,7 @@ use Rattle.tp_world_parts.proofs.Grown.{answered_legal}
 
 -- a stop is accepted
 crash_grown : (o : Origin) (up : Option Addr) (h : List EntryValue) → IsGrown o up h → IsGrown o up (crashed h)
-unfolding refusal
+unfolding refusal verdict
 crash_grown o up h g = (refl, refl, tt, g)
 
 pub stopped_legal : (n : Node) → IsLegal n.origin n.superior n.history → IsLegal n.origin n.superior (crashed n.history)
@@ -40,7 +40,7 @@ stopped_legal n l = record { start = l.start; grown = crash_grown n.origin n.sup
 
 -- a declaration after a stop is not refused
 not_refused : (who : Who) (o : Origin) (h : List EntryValue) (s : Option Addr) → answer_at who (digest o (crashed h)) (Event.Declare s) ≡ Happens None (action who (digest o (crashed h)) (Event.Declare s))
-unfolding refusal after_crash
+unfolding refusal verdict after_crash
 not_refused who o h s = refl
 
 no_record : (who : Who) (d : Digest) (s : Option Addr) → (action who d (Event.Declare s)).rec ≡ None

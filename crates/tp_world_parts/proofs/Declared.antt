@@ -6,7 +6,7 @@ use Rattle.std.proofs.lemmas.Bool.Decides.{nat_tests}
 use Rattle.tp_names.specs.declared.identifiers.Aaid.{Aaid}
 use Rattle.tp_names.specs.declared.identifiers.Addr.{Addr}
 use Rattle.tp_names.proofs.Sames.{both}
-use Rattle.tp_model.specs.Events.{refusal, started}
+use Rattle.tp_model.specs.Events.{refusal, verdict, started}
 use Rattle.tp_model.specs.Legal.{IsLegal}
 use Rattle.tp_model.specs.World.{World, Node, Site, Frame, number_of, find_node, find_site}
 use Rattle.tp_model.specs.Happenings.{new_node, with_node}
@@ -18,12 +18,12 @@ use Rattle.tp_network.specs.declared.nodes.NodeSlot.{NodeSlot}
 use Rattle.tp_world_parts.proofs.Found.{AreThere, each_placed}
 
 new_legal : (s : List ℕ) (k boot : ℕ) (up : Option Addr) → IsLegal (new_node s k boot up).origin up (new_node s k boot up).history
-unfolding refusal started
+unfolding refusal verdict started
 new_legal s k boot up = record { start = refl; grown = (refl, refl, refl, tt) }
 
 -- it had to do with no tree
 new_summary : (s : List ℕ) (k boot : ℕ) (up : Option Addr) (t : Aaid) → summary (new_node s k boot up).origin t (new_node s k boot up).history ≡ no_summary
-unfolding refusal started
+unfolding refusal verdict started
 new_summary s k boot up t = refl
 
 new_is : (s : List ℕ) (k boot : ℕ) (up : Option Addr) (x : NodeSlot) → IsDeclared (record { site = s; node = k }) up x → IsNode (new_node s k boot up) x

@@ -1,28 +1,17 @@
 -- What a node answers to an event, as the site says it, and the entry that its history gains.
-use Rattle.std.proofs.Common.{◌≡◌, ◌==◌, ◌&&◌, ℕ, Bool, true, false, refl, ap, ◌∙◌, if◌then◌else◌, Option, Some, None, List, [], ◌∷◌}
+use Rattle.std.proofs.Common.{◌≡◌, ℕ, Bool, refl, ap, sym, ◌∙◌, Option, Some, None, List, [], ◌∷◌}
 use Rattle.tp_names.specs.declared.identifiers.Addr.{Addr}
-use Rattle.tp_model.specs.Parts.{Who, Origin, Event, Entry, Digest, Answer as Given}
-use Rattle.tp_model.specs.Events.{action, refusal, is_breaking, started}
-use Rattle.tp_model.specs.History.{digest, answer, entry_of, broken_by}
+use Rattle.tp_model.specs.Refusal.{number_of}
+use Rattle.tp_model.specs.Parts.{Who, Origin, Event, Entry, Digest, Verdict, Answer as Given}
+use Rattle.tp_model.specs.Events.{action, refusal, verdict, started}
+use Rattle.tp_model.specs.History.{digest, answer, entry_of}
 use Rattle.tp_model.specs.Node.{Move}
 use Rattle.tp_model.specs.Outcomes.{is_unchanged}
+use Rattle.tp_model.proofs.Verdicts.{breaks_so}
 use Rattle.tp_model.specs.declared.out_line.LogWords.{LogWords}
 use Rattle.tp_node.specs.declared.state.NodeTree.{NodeTree}
 use Rattle.tp_site.specs.NodeEvent.{Answer, Refuses, Happens, answer_at}
 use Rattle.tp_network.specs.declared.tree_summary.TreeChange.{TreeChange}
-
--- the loss that follows an answer is not the user's leaving, and neither is what it follows
-same_leaving : (e : Event) → is_unchanged (broken_by e) ≡ is_unchanged e
-same_leaving (Event.Declare s) = refl
-same_leaving (Event.Do r) = refl
-same_leaving (Event.Arrive a r) = refl
-same_leaving (Event.Break a r) = refl
-same_leaving (Event.Lose p) = refl
-same_leaving (Event.Heur u) = refl
-same_leaving (Event.GiveUp p) = refl
-same_leaving Event.Retry = refl
-same_leaving Event.Purge = refl
-same_leaving Event.Crash = refl
 
 -- the history gains an entry, which is what the move makes
 pub record IsGained (o : Origin) (h : List Entry) (e : Event) (number : Option ℕ) (m : Move) : Type 0 where
@@ -39,17 +28,19 @@ pub record IsTurnedDown (o : Origin) (h : List Entry) (e : Event) (k : ℕ) : Ty
   pub number_is : (answer o h e).number ≡ Some k
   pub entry_is : (answer o h e).entry ≡ None
 
--- both answers, by what refuses the event and whether a loss follows
-abbrev given_by : Origin → List Entry → Event → Option ℕ → Bool → Given
-given_by o h e r b = elim r as (λ _. Given) [
-  | None ↦ record { number = None; entry = Some (entry_of o h e) }
-  | Some n ↦ if (n == 24) && b then record { number = Some n; entry = Some (entry_of o h (broken_by e)) } else record { number = Some n; entry = None }
+-- both answers, by the verdict
+abbrev given_by : Origin → List Entry → Event → Verdict → Given
+given_by o h e v = elim v as (λ _. Given) [
+  | Verdict.Accepted ↦ record { number = None; entry = Some (entry_of o h e) }
+  | Verdict.Refused n ↦ record { number = Some (number_of n); entry = None }
+  | Verdict.Breaks from r ↦ record { number = Some 24; entry = Some (entry_of o h (Event.Break from r)) }
 ]
 
-abbrev site_by : Who → Digest → Event → Option ℕ → Bool → Answer
-site_by who d e r b = elim r as (λ _. Answer) [
-  | None ↦ Happens None (action who d e)
-  | Some n ↦ if (n == 24) && b then Happens (Some n) (action who d (broken_by e)) else Refuses n
+abbrev site_by : Who → Digest → Event → Verdict → Answer
+site_by who d e v = elim v as (λ _. Answer) [
+  | Verdict.Accepted ↦ Happens None (action who d e)
+  | Verdict.Refused n ↦ Refuses (number_of n)
+  | Verdict.Breaks from r ↦ Happens (Some 24) (action who d (Event.Break from r))
 ]
 
 move_of : (number other : Option ℕ) (m n : Move) → Happens number m ≡ Happens other n → (number ≡ other) × (m ≡ n)
@@ -70,34 +61,26 @@ gained o h e v number found m leaves same is =
     }
 
 pub has_gained : (o : Origin) (h : List Entry) (e : Event) (number : Option ℕ) (m : Move) → answer_at o.who (digest o h) e ≡ Happens number m → IsGained o h e number m
-has_gained o h e number m is = go (refusal o.who (digest o h) e) (is_breaking o.who (digest o h) e) refl is
+has_gained o h e number m is = go (verdict o.who (digest o h) e) refl refl is
   where
-    go : (r : Option ℕ) (b : Bool) → answer o h e ≡ given_by o h e r b → site_by o.who (digest o h) e r b ≡ Happens number m → IsGained o h e number m
-    go None b same here = gained o h e e number None m refl same here
-    go (Some n) b same here = at ((n == 24) && b) same here
-      where
-        at : (c : Bool) → answer o h e ≡ (if c then record { number = Some n; entry = Some (entry_of o h (broken_by e)) } else record { number = Some n; entry = None })
-            → (if c then Happens (Some n) (action o.who (digest o h) (broken_by e)) else Refuses n) ≡ Happens number m → IsGained o h e number m
-        at true now says = gained o h e (broken_by e) number (Some n) m (same_leaving e) now says
-        at false now says = absurd (cc (says))
+    go : (v : Verdict) → verdict o.who (digest o h) e ≡ v → answer o h e ≡ given_by o h e v → site_by o.who (digest o h) e v ≡ Happens number m → IsGained o h e number m
+    go Verdict.Accepted i same here = gained o h e e number None m refl same here
+    go (Verdict.Refused n) i same here = absurd (cc (here))
+    go (Verdict.Breaks from r) i same here = gained o h e (Event.Break from r) number (Some 24) m (ap is_unchanged (sym (breaks_so o.who (digest o h) e from r i).0)) same here
 
 pub turned_down : (o : Origin) (h : List Entry) (e : Event) (k : ℕ) → answer_at o.who (digest o h) e ≡ Refuses k → IsTurnedDown o h e k
-turned_down o h e k is = go (refusal o.who (digest o h) e) (is_breaking o.who (digest o h) e) refl is
+turned_down o h e k is = go (verdict o.who (digest o h) e) refl is
   where
-    go : (r : Option ℕ) (b : Bool) → answer o h e ≡ given_by o h e r b → site_by o.who (digest o h) e r b ≡ Refuses k → IsTurnedDown o h e k
-    go None b same here = absurd (cc (here))
-    go (Some n) b same here = at ((n == 24) && b) same here
-      where
-        at : (c : Bool) → answer o h e ≡ (if c then record { number = Some n; entry = Some (entry_of o h (broken_by e)) } else record { number = Some n; entry = None })
-            → (if c then Happens (Some n) (action o.who (digest o h) (broken_by e)) else Refuses n) ≡ Refuses k → IsTurnedDown o h e k
-        at true now says = absurd (cc (says))
-        at false now says = let same_number : n ≡ k = cc (says) in record { number_is = ap (λ (a : Given). a.number) now ∙ ap Some same_number; entry_is = ap (λ (a : Given). a.entry) now }
+    go : (v : Verdict) → answer o h e ≡ given_by o h e v → site_by o.who (digest o h) e v ≡ Refuses k → IsTurnedDown o h e k
+    go Verdict.Accepted same here = absurd (cc (here))
+    go (Verdict.Refused n) same here = let same_number : number_of n ≡ k = cc (here) in record { number_is = ap (λ (a : Given). a.number) same ∙ ap Some same_number; entry_is = ap (λ (a : Given). a.entry) same }
+    go (Verdict.Breaks from r) same here = absurd (cc (here))
 
 -- ---- a declaration
 
 -- a number that had nothing to do with the site is not refused, and the declaration has no record
 pub declared_first : (who : Who) (o : Origin) (s : Option Addr) → o.start.records ≡ [] → answer_at who (digest o []) (Event.Declare s) ≡ Happens None (action who (digest o []) (Event.Declare s))
-unfolding refusal started
+unfolding refusal verdict started
 declared_first who o s none = refl
 
 -- ---- a step, from its parts

@@ -1,14 +1,14 @@
 -- A declaration gives no outputs.
-use Rattle.std.proofs.Common.{◌≡◌, ◌==◌, ◌&&◌, ℕ, Bool, true, false, refl, ap, sym, subst, ◌∙◌, if◌then◌else◌, Option, Some, None, List, [], Ok, Err, inl, inr}
+use Rattle.std.proofs.Common.{◌≡◌, ℕ, false, refl, ap, sym, subst, ◌∙◌, Option, Some, None, List, [], Ok, Err, inl, inr}
 use Rattle.tp_names.specs.declared.identifiers.Addr.{Addr}
 use Rattle.tp_records.specs.declared.body.Event.{Event as Given}
 use Rattle.tp_records.specs.declared.body.Output.{Output}
-use Rattle.tp_model.specs.Parts.{Who, Event, Digest}
-use Rattle.tp_model.specs.Events.{refusal, action}
-use Rattle.tp_model.specs.History.{broken_by}
+use Rattle.tp_model.specs.Parts.{Who, Event, Digest, Verdict}
+use Rattle.tp_model.specs.Events.{verdict, action}
 use Rattle.tp_model.specs.Node.{Move}
 use Rattle.tp_model.specs.NodeRun.{asked}
-use Rattle.tp_model.specs.Refusal.{number_in}
+use Rattle.tp_model.specs.Refusal.{number_in, number_of}
+use Rattle.tp_model.proofs.Verdicts.{breaks_so}
 use Rattle.tp_journal.specs.Keeping.{Standing}
 use Rattle.tp_node.specs.NodeEvent.{Answer, Refuses, Happens, answer_at}
 use Rattle.tp_site.specs.declared.site.Played.{Played}
@@ -25,15 +25,17 @@ IsQuiet (Refuses k) = Unit {0}
 IsQuiet (Happens number m) = (number ≡ None) × (m.outs ≡ [])
 
 quiet : (who : Who) (d : Digest) (s : Option Addr) → IsQuiet (answer_at who d (Event.Declare s))
-quiet who d s = go (refusal who d (Event.Declare s))
+quiet who d s = go (verdict who d (Event.Declare s)) refl
   where
-    late : (k : ℕ) (b : Bool) → IsQuiet (if b && false then Happens (Some k) (action who d (broken_by (Event.Declare s))) else Refuses k)
-    late k true = tt
-    late k false = tt
-
-    go : (r : Option ℕ) → IsQuiet (elim r as (λ _. Answer) [ None ↦ Happens None (action who d (Event.Declare s)) | Some k ↦ if (k == 24) && false then Happens (Some k) (action who d (broken_by (Event.Declare s))) else Refuses k ])
-    go None = (refl, refl)
-    go (Some k) = late k (k == 24)
+    go : (v : Verdict) → verdict who d (Event.Declare s) ≡ v
+        → IsQuiet (elim v as (λ _. Answer) [
+          | Verdict.Accepted ↦ Happens None (action who d (Event.Declare s))
+          | Verdict.Refused k ↦ Refuses (number_of k)
+          | Verdict.Breaks from r ↦ Happens (Some 24) (action who d (Event.Break from r))
+        ])
+    go Verdict.Accepted i = (refl, refl)
+    go (Verdict.Refused k) i = tt
+    go (Verdict.Breaks from r) i = let other : Event.Declare s ≡ Event.Arrive from r = (breaks_so who d (Event.Declare s) from r i).0 in absurd (cc (other))
 
 pub declared_quietly : {K : Type 0} (standing : K → Standing) (old : Site K) (n : ℕ) (outputs : List Output) (new : Site K) → PlaysAsked standing old (asked (opening_at old.nodes.site) (Given.Declare n None)) (Ok outputs) new → outputs ≡ []
 declared_quietly standing old n outputs new plays = by plays.0 plays.1.0 plays.1.1 plays.2
@@ -49,7 +51,7 @@ IsUnrecorded (Refuses k) = ⊥
 IsUnrecorded (Happens number m) = m.rec ≡ None
 
 unrecorded : (who : Who) (d : Digest) (s : Option Addr) → d.declared ≡ false → IsUnrecorded (answer_at who d (Event.Declare s))
-unfolding refusal
+unfolding verdict
 unrecorded who d s is = rw is refl
 
 no_force : {K : Type 0} (standing : K → Standing) (old : K) (fault : ForceFault) (new : K) (a : Answer) → IsUnrecorded a → IsUnforced standing old (rec_of a) fault new → ⊥

@@ -21,7 +21,7 @@ use Rattle.tp_model.specs.Recovery.{settled}
 use Rattle.tp_model.specs.Node.{Move, next_mark, superior_arc, seen, Passage, Stays, Enters, Falls, Falls_at_once, Commits, Rolls_back, Leaves, passage, is_leaving, entered, played, completed_arcs, left_arcs, perform_commit, committed_arcs, grants, may_begin_on, begin_on, turned, around_grants}
 use Rattle.tp_model.specs.Requests.{refused_request}
 use Rattle.tp_model.specs.Arrivals.{refused_arrival}
-use Rattle.tp_model.specs.Events.{refusal, after_crash, started}
+use Rattle.tp_model.specs.Events.{refusal, verdict, after_crash, started}
 use Rattle.tp_model.specs.History.{digest}
 use Rattle.tp_model.specs.Legal.{IsGrown}
 use Rattle.tp_steps.specs.Moves.{Moves, prelude, called, accepted_by, accepted_on, linked, begun_in, counted_in}
@@ -296,7 +296,7 @@ nobody_there p arcs h idle = go (is_there p arcs) refl
     go true i = absurd (cc (busy_there p arcs h i, idle))
 
 separate_call : (who : Who) (d : Digest) (a : Addr) (u : ℕ) → refusal who d (Event.Do (Request.BeginDialogue a u)) ≡ None → are_separate d.arcs ≡ true → are_separate (called who a u d).arcs ≡ true
-unfolding refusal refused_request
+unfolding refusal verdict refused_request
 separate_call who d a u ok h =
     let none : find_arc d.arcs a.node ≡ None = grind (arith, ok) in
     separate_append d.arcs (record { peer = a; link = Opening (next_mark who d); dialogue = fresh_dialogue u Side.Superior }) refl none h
@@ -313,7 +313,7 @@ separate_accepted who d u (Some a) h = on a.link
 
 separate_open : (who : Who) (d : Digest) (from : Addr) (x : Mark) (u : ℕ) → refusal who d (Event.Arrive from (PeerRecord.OpenAssoc x u)) ≡ None → are_separate d.arcs ≡ true
     → are_separate (record { peer = from; link = Offered x; dialogue = fresh_dialogue u Side.Subordinate } ∷ d.arcs) ≡ true
-unfolding refusal refused_arrival
+unfolding refusal verdict refused_arrival
 separate_open who d from x u ok h =
     let idle : is_idle (link_with d.arcs from.node) ≡ true = grind (arith, ok) in
     let none : is_there from.node d.arcs ≡ false = nobody_there from.node d.arcs h idle in

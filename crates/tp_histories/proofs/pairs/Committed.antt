@@ -22,7 +22,7 @@ use Rattle.tp_model.specs.Transactions.{Transaction, aaid_of, node_key, superior
 use Rattle.tp_model.specs.Recovery.{not_forgotten}
 use Rattle.tp_model.specs.Node.{phase_of, seen}
 use Rattle.tp_model.specs.Arrivals.{branch_key, refused_arrival}
-use Rattle.tp_model.specs.Events.{refusal, action, recovered_current, after_crash, started}
+use Rattle.tp_model.specs.Events.{refusal, verdict, action, recovered_current, after_crash, started}
 use Rattle.tp_model.specs.History.{digest, records}
 use Rattle.tp_model.specs.Outcomes.{is_now, decided}
 use Rattle.tp_model.specs.Questions.{is_at}
@@ -150,14 +150,14 @@ last_taken o up h p x y s k c u b a paired late live now key under =
 
 question_from : (who : Who) (d : Digest) (from : Addr) (t : Aaid) (b : BranchId) (c : Current) (u : Aaid) (v : BranchId) (a : Addr) → refusal who d (Event.Arrive from (PeerRecord.RecCommit t b)) ≡ None → d.current ≡ Some c → is_key (node_key c.key) (branch_key t b) ≡ true
     → c.key ≡ Under u v a → is_addr a from ≡ true
-unfolding refusal refused_arrival
+unfolding refusal verdict refused_arrival
 question_from who d from t b c u v a ok now key under =
     let one : superior_of c.key ≡ Some a = ap superior_of under in
     grind (arith, ok, now, key, one)
 
 reply_from : (who : Who) (d : Digest) (from : Addr) (t : Aaid) (b : BranchId) (c : Current) (u : Aaid) (v : BranchId) (a : Addr) → refusal who d (Event.Arrive from (PeerRecord.RecReply t b RecState.Commit)) ≡ None → d.current ≡ Some c → is_key (node_key c.key) (branch_key t b) ≡ true
     → c.key ≡ Under u v a → is_addr a from ≡ true
-unfolding refusal refused_arrival
+unfolding refusal verdict refused_arrival
 reply_from who d from t b c u v a ok now key under =
     let one : superior_of c.key ≡ Some a = ap superior_of under in
     grind (arith, ok, now, key, one)

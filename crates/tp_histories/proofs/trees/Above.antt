@@ -10,7 +10,7 @@ use Rattle.tp_model.specs.Arcs.{link_of, link_with}
 use Rattle.tp_model.specs.Node.{superior_arc, fresh_current}
 use Rattle.tp_model.specs.Requests.{refused_request}
 use Rattle.tp_model.specs.Arrivals.{refused_arrival}
-use Rattle.tp_model.specs.Events.{refusal, action, after_crash, recovered_current, started}
+use Rattle.tp_model.specs.Events.{refusal, verdict, action, after_crash, recovered_current, started}
 use Rattle.tp_model.specs.History.{digest}
 use Rattle.tp_model.specs.Questions.{is_at, sent_more}
 use Rattle.tp_model.specs.Legal.{IsGrown}
@@ -31,7 +31,7 @@ idle_more n Idle h = refl
 idle_more n _ h = absurd cc
 
 offered_arc : (who : Who) (d : Digest) (u : ℕ) → refusal who d (Event.Do (Request.Accept u)) ≡ None → (p : ℕ) × (is_idle (link_with d.arcs p) ≡ false)
-unfolding refusal refused_request
+unfolding refusal verdict refused_request
 offered_arc who d u ok = go (superior_arc d) refl
   where
     go : (o : Option Arc) → superior_arc d ≡ o → (p : ℕ) × (is_idle (link_with d.arcs p) ≡ false)
@@ -46,7 +46,7 @@ offered_arc who d u ok = go (superior_arc d) refl
 
 -- after the prelude of an accepted event
 pub declared_prelude : (who : Who) (d : Digest) (e : Event) → refusal who d e ≡ None → ((p : ℕ) → d.declared ≡ false → is_idle (link_with d.arcs p) ≡ true) → (p : ℕ) → (prelude who d e).declared ≡ false → is_idle (link_with (prelude who d e).arcs p) ≡ true
-unfolding refusal refused_request refused_arrival after_crash
+unfolding refusal verdict refused_request refused_arrival after_crash
 declared_prelude who d (Event.Declare s) ok old p h = absurd cc
 declared_prelude who d (Event.Do (Request.BeginDialogue a u)) ok old p h = absurd (grind (arith, ok, h))
 declared_prelude who d (Event.Do (Request.Accept u)) ok old p h = absurd (clash (d.declared) refl)

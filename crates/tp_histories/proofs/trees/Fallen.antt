@@ -22,7 +22,7 @@ use Rattle.tp_model.specs.Transactions.{Row, Transaction, Turn, turn, node_key, 
 use Rattle.tp_model.specs.Requests.{abort}
 use Rattle.tp_model.specs.Node.{Move, move, followed, perform, phase_of, seen, situation_at, Passage, passage, is_leaving, is_over, try_start, restarted, transact}
 use Rattle.tp_model.specs.Arrivals.{branch_key, named_by_key, is_current_ready, sight_at, sight_of, lose, take_abort, take_record, woken_by, take_on, take_ready_reply, broken_pair, break_off}
-use Rattle.tp_model.specs.Events.{refusal, action}
+use Rattle.tp_model.specs.Events.{refusal, verdict, action}
 use Rattle.tp_model.specs.Outcomes.{is_now, is_fatal, rolls_by_request, rolls_by_rollback, rolls}
 use Rattle.tp_steps.specs.Turns.{falls, is_fatal_at}
 use Rattle.tp_model.specs.Node.{turned}
@@ -272,11 +272,11 @@ fallen_reply who d t u b n ready old =
 -- ---- every event
 
 pub arrived_some : (who : Who) (d : Digest) (from : Addr) (x y : Mark) (q : ℕ) (r : DialogueRecord) → refusal who d (Event.Arrive from (PeerRecord.OnAssoc x y q r)) ≡ None → find_arc d.arcs from.node ≡ None → ⊥
-unfolding refusal
+unfolding refusal verdict
 arrived_some who d from x y q r ok i = on_none who d from x y q r (grind (arith, ok)) i
 
 pub no_pair : (who : Who) (d : Digest) (from : Addr) (r : PeerRecord) → refusal who d (Event.Break from r) ≡ None → broken_pair r ≡ None → ⊥
-unfolding refusal
+unfolding refusal verdict
 no_pair who d from r ok i = absurd (grind (arith, ok, i))
 
 fallen_break : (who : Who) (d : Digest) (from : Addr) (r : PeerRecord) (t : Aaid) → refusal who d (Event.Break from r) ≡ None → is_now t d.current ≡ true → is_fatal d from.node ≡ true → is_old who d t.mark ≡ true → IsFallen t (break_off who from r d)

@@ -14,7 +14,7 @@ use Rattle.tp_model.specs.Dialogues.{is_nil}
 use Rattle.tp_model.specs.Arcs.{find_arc}
 use Rattle.tp_model.specs.Node.{phase_of, is_superior, fresh_current}
 use Rattle.tp_model.specs.Arrivals.{refused_arrival, sight_of}
-use Rattle.tp_model.specs.Events.{refusal, action, after, after_crash, recovered_current, started}
+use Rattle.tp_model.specs.Events.{refusal, verdict, action, after, after_crash, recovered_current, started}
 use Rattle.tp_model.specs.History.{digest}
 use Rattle.tp_model.specs.Outcomes.{is_now}
 use Rattle.tp_model.specs.Legal.{IsGrown}
@@ -41,12 +41,12 @@ pub data Came (who : Who) (d : Digest) (e : Event) : Type 0 where
 
 pub begin_seen : (who : Who) (d : Digest) (from : Addr) (x y : Mark) (q : ℕ) (t : Aaid) (b : BranchId) (h : Holder) (a : Arc) → refusal who d (Event.Arrive from (PeerRecord.OnAssoc x y q (DialogueRecord.Begin t b h))) ≡ None
     → find_arc d.arcs from.node ≡ Some a → (is_nil (phase_of d) ≡ true) × (is_superior d a.peer.node ≡ true)
-unfolding refusal refused_arrival sight_of
+unfolding refusal verdict refused_arrival sight_of
 begin_seen who d from x y q t b h a ok i = (grind (arith, ok, i), grind (arith, ok, i))
 
 pub begin_arc : (who : Who) (d : Digest) (from : Addr) (x y : Mark) (q : ℕ) (t : Aaid) (b : BranchId) (h : Holder) → refusal who d (Event.Arrive from (PeerRecord.OnAssoc x y q (DialogueRecord.Begin t b h))) ≡ None
     → find_arc d.arcs from.node ≡ None → ⊥
-unfolding refusal refused_arrival
+unfolding refusal verdict refused_arrival
 begin_arc who d from x y q t b h ok i = absurd (grind (arith, ok, i))
 
 pub came_by : (who : Who) (d : Digest) (e : Event) → refusal who d e ≡ None → Came who d e

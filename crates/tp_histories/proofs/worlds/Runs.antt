@@ -5,7 +5,7 @@ use Rattle.std.proofs.lemmas.Bool.Decides.{nat_tests}
 use Rattle.std.proofs.lemmas.List.{append-nil}
 use Rattle.tp_names.specs.Same.{is_name}
 use Rattle.tp_model.specs.Parts.{Event}
-use Rattle.tp_model.specs.Events.{refusal, after_crash}
+use Rattle.tp_model.specs.Events.{refusal, verdict, after_crash}
 use Rattle.tp_model.specs.History.{entry_of}
 use Rattle.tp_model.specs.World.{World, Node, Site, Frame, number_of, site_of, addr_of, find_node, put_node, find_site, mark_handed}
 use Rattle.tp_model.specs.Happenings.{frames_of, restarted, restarted_at, crash_turn}
@@ -51,7 +51,7 @@ unsent P s ns fs x e a p = subst (λ (gs : List Frame). P (put_node ns (grown_no
 
 restart_one : (P : List Node → List Frame → Type 0) → Steps P → (old rest : List Node) (y : Node) (fs : List Frame) → find_node old (number_of y) ≡ None → P (old ++ y ∷ rest) fs
     → P (old ++ restarted y ∷ rest) fs
-unfolding refusal after_crash
+unfolding refusal verdict after_crash
 restart_one P s old rest y fs none p =
     let y1 : Node = grown_node y Event.Crash in
     let y2 : Node = grown_node y1 (Event.Declare y.superior) in

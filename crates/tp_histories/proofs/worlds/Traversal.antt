@@ -9,7 +9,7 @@ use Rattle.tp_logrec.specs.declared.record.LogRec.{LogRec}
 use Rattle.tp_model.specs.declared.line.Action.{Action}
 use Rattle.tp_model.specs.declared.out_line.RecordFate.{RecordFate}
 use Rattle.tp_model.specs.Parts.{Event, Entry}
-use Rattle.tp_model.specs.Events.{refusal, started}
+use Rattle.tp_model.specs.Events.{refusal, verdict, started}
 use Rattle.tp_model.specs.History.{entry_of, answer}
 use Rattle.tp_model.specs.Disk.{Remains, remains}
 use Rattle.tp_model.specs.World.{World, Node, Site, Frame, number_of, site_of, addr_of, find_node, put_node, addr_at, find_site, find_frame, put_site}
@@ -178,7 +178,7 @@ crash_in_holds P s w name call fill d k = go (find_site w.sites name) refl
 
 add_holds : (P : List Node → List Frame → Type 0) → Steps P → (ns : List Node) (fs : List Frame) (name : List ℕ) (n boot : ℕ) (up : Option Addr) → find_node ns n ≡ None
     → ((a : Addr) → up ≡ Some a → (u : Node) × (find_node ns a.node ≡ Some u) × (addr_of u ≡ a)) → Kept P ns fs → Kept P (ns ++ new_node name n boot up ∷ []) fs
-unfolding refusal started
+unfolding refusal verdict started
 add_holds P s ns fs name n boot up none above k =
     let x : Node = record (new_node name n boot up) { history = [] } in
     let q : Steps (Kept P) = kept_steps P s in

@@ -1,6 +1,6 @@
 -- Control on the arc with a peer after what comes first in an event: as it was, or a link that becomes live has the superior
 -- side hold it.
-use Rattle.tp_known.proofs.Vocabulary.{Bool, List, None, Option, Some, [], ap, arith, false, if◌then◌else◌, inl, inr, not, refl, sym, true, ℕ, ◌&&◌, ◌++◌, ◌==◌, ◌∙◌, ◌∷◌, ◌≡◌, ◌⊎◌, nat_tests, Addr, Mark, has_bit, DialogueRecord, PeerRecord, Request, is_late, is_nil, is_polarized, is_superior_side, first, fresh_dialogue, Link, Opening, Offered, Live, Who, Event, Digest, Arc, Current, Under, refusal, after_crash, refused_request, has_branch_at, refused_arrival, next_mark, superior_arc, phase_of, fresh_current, find_arc, link_of, link_with, is_live_with_peer, put_arc, with_link, Side, is_at, is_live, with_one_taken, IsLate, prelude, called, accepted_by, accepted_on, linked, counted_in, begun_in, find_arc_is, keeps_append, keeps_front, keeps_taken, plain_request, superior_found, nothing_late}
+use Rattle.tp_known.proofs.Vocabulary.{Bool, List, None, Option, Some, [], ap, arith, false, if◌then◌else◌, inl, inr, not, refl, sym, true, ℕ, ◌&&◌, ◌++◌, ◌==◌, ◌∙◌, ◌∷◌, ◌≡◌, ◌⊎◌, nat_tests, Addr, Mark, has_bit, DialogueRecord, PeerRecord, Request, is_late, is_nil, is_polarized, is_superior_side, first, fresh_dialogue, Link, Opening, Offered, Live, Who, Event, Digest, Arc, Current, Under, refusal, verdict, after_crash, refused_request, has_branch_at, refused_arrival, next_mark, superior_arc, phase_of, fresh_current, find_arc, link_of, link_with, is_live_with_peer, put_arc, with_link, Side, is_at, is_live, with_one_taken, IsLate, prelude, called, accepted_by, accepted_on, linked, counted_in, begun_in, find_arc_is, keeps_append, keeps_front, keeps_taken, plain_request, superior_found, nothing_late}
 use Rattle.tp_histories.specs.Traces.{own_old}
 use Rattle.tp_known.proofs.control.Moves.{IsBareAt, IsPast}
 use Rattle.tp_known.proofs.control.Arcs.{Same, control_at, control_from, control_of, held, is_ruled, ruled_live, ruled_of, same_keeps, same_self, same_taken, waits}
@@ -107,7 +107,7 @@ first_accept who up p d u was ok = go (superior_arc d) refl
     go (Some a) i = on a i a.link refl
 
 first_confirm : (who : Who) (up : Option Addr) (p : ℕ) (d : Digest) (from : Addr) (x y : Mark) (u : ℕ) → Before who up p d → refusal who d (Event.Arrive from (PeerRecord.AcceptAssoc x y u)) ≡ None → First up p d (linked (find_arc d.arcs from.node) x y u d)
-unfolding refusal refused_arrival
+unfolding refusal verdict refused_arrival
 first_confirm who up p d from x y u was ok = go (find_arc d.arcs from.node) refl
   where
     opening : (a : Arc) (l : Link) → find_arc d.arcs from.node ≡ Some a → a.link ≡ l → (z : Mark) × (a.link ≡ Opening z)

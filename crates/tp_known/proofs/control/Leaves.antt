@@ -1,5 +1,6 @@
 -- After the leaving of the node itself, control is as its last cause says.
 use Rattle.tp_known.proofs.Vocabulary.{Bool, List, None, Option, Some, [], ap, append-nil, arith, false, if◌then◌else◌, inl, inr, not, refl, subst, sym, true, ℕ, ◌&&◌, ◌++◌, ◌==◌, ◌||◌, ◌∙◌, ◌∷◌, ◌≡◌, and-false, or-true, nat_tests, Addr, Outcome, DialogueRecord, Holder, Indication, Request, LogRec, Cause, Left_transaction, Completed_below, Granted_away, Begun_by, cause_by, holder_in, has_said, said_to, is_left_record, was_branch, is_up, is_at, completes, enters, tells_commit_complete, tells_rollback_complete, logs_ready_or_commit, Who, Origin, Event, Entry, Digest, Arc, Dialogue, Current, Key, Root, Under, completed, rested, cleared, is_polarized, is_nil, is_active, is_rolling, refusal, action, refused_request, has_branch_at, Move, move, followed, phase_of, transact, is_over, seen, turned, entered, played, left_arcs, is_arc_below, is_end_deferred_at, try_start, start_root, begin_each, begin_chained, chained_peers, with_mark_drawn, fresh_current, has_none, may_root, next_mark, Transaction, leave, row_holds, is_under_at, is_live_with_peer, performed, carried, without_arc, with_dialogues, Phase, Side, TxEvent, TxOut, digest, is_live, IsLate, out_tells, left_active, IsPlaced, headed_law, placed_law, under_headed, is_rolled_told, keeps_performed, said_both, said_carried, late_law, link_left, link_without, said_append, plain_request, quiet_each, seen_branch, step_start, separate_law, thins_turned, tells_rolled, told_performed, is_response}
+use Rattle.tp_model.specs.declared.refusal.Refusal.{Refusal}
 use Rattle.tp_model.specs.Questions.{Entered}
 use Rattle.tp_known.proofs.control.Arcs.{is_ruled, control_at, control_from, ruled_live, same_performed, same_dialogues, dialogues_get, is_gift}
 use Rattle.tp_known.proofs.control.Turned.{completed_above}
@@ -147,7 +148,7 @@ leaving_is_over who d c now act = grind (arith, is_over, turned)
 
 some_current : (who : Who) (d : Digest) → refusal who d (Event.Do Request.Unchanged) ≡ None → d.current ≡ None → ⊥
 unfolding refused_request
-some_current who d ok none = let plain : refused_request who d Request.Unchanged ≡ None = plain_request who d Request.Unchanged ok in let six : Some 6 ≡ None = rw none at plain in cc (six)
+some_current who d ok none = let plain : refused_request who d Request.Unchanged ≡ None = plain_request who d Request.Unchanged ok in let six : Some Refusal.NoTransaction ≡ None = rw none at plain in cc (six)
 
 -- whose cause it is, by where the arc stands
 cause_so : (k : Option Holder) (gift under below above branch left entered over : Bool) → gift ≡ false → over ≡ true → entered ≡ false → left ≡ under → branch ≡ (under || below) → (under ≡ true → above ≡ true) → (above ≡ true → branch ≡ true → under ≡ true)

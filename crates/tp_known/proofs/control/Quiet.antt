@@ -1,6 +1,6 @@
 -- In a legal history control on the arc with a peer is as its last cause says, after an event that makes no change of its own
 -- to that dialogue.
-use Rattle.tp_known.proofs.Vocabulary.{Bool, List, None, Option, Some, ap, arith, false, inl, inr, refl, subst, sym, true, ℕ, ◌&&◌, ◌==◌, ◌||◌, ◌∙◌, ◌∷◌, ◌≡◌, ◌⊎◌, or-true, nat_tests, Aaid, Addr, BranchId, DialogueRecord, Holder, PeerRecord, Request, Cause, cause_by, last_cause, is_up, is_at, Who, Origin, Event, Entry, Digest, Current, Dialogue, Link, Idle, rolls, is_fatal, is_unchanged, digest, entry_of, IsUnder, IsGrown, refusal, action, after_crash, Move, phase_of, situation_at, is_current_ready, named_by_key, branch_key, situation_of, Asked, Heard, said, heard, woken, is_active, is_rolling, Ask_grant, Ask_handshake_grant, Ask_respond, Hear_grant, Hear_handshake, Hear_handshake_grant, Phase, is_idle, is_live, is_live_with_peer, link_with, IsChange, By_waking, By_saying, By_hearing, By_beginning, By_leaving, said_by, heard_by, left_by, begun_by_record, gives_to, responds_to, prelude, IsLinked, traced_law, down_event, IsPlaced, headed_first, headed_law, placed_law, superior_at, and_left, every_move, late_law, late_prelude, linked_moves, seen_branch, separate_law, separate_prelude, tells_rolled}
+use Rattle.tp_known.proofs.Vocabulary.{Bool, List, None, Option, Some, ap, arith, false, inl, inr, refl, subst, sym, true, ℕ, ◌&&◌, ◌==◌, ◌||◌, ◌∙◌, ◌∷◌, ◌≡◌, ◌⊎◌, or-true, nat_tests, Aaid, Addr, BranchId, DialogueRecord, Holder, PeerRecord, Request, Cause, cause_by, last_cause, is_up, is_at, Who, Origin, Event, Entry, Digest, Current, Dialogue, Link, Idle, rolls, is_fatal, is_unchanged, digest, entry_of, IsUnder, IsGrown, refusal, verdict, action, after_crash, Move, phase_of, situation_at, is_current_ready, named_by_key, branch_key, situation_of, Asked, Heard, said, heard, woken, is_active, is_rolling, Ask_grant, Ask_handshake_grant, Ask_respond, Hear_grant, Hear_handshake, Hear_handshake_grant, Phase, is_idle, is_live, is_live_with_peer, link_with, IsChange, By_waking, By_saying, By_hearing, By_beginning, By_leaving, said_by, heard_by, left_by, begun_by_record, gives_to, responds_to, prelude, IsLinked, traced_law, down_event, IsPlaced, headed_first, headed_law, placed_law, superior_at, and_left, every_move, late_law, late_prelude, linked_moves, seen_branch, separate_law, separate_prelude, tells_rolled}
 use Rattle.tp_known.proofs.control.Moves.{IsWell, Stands, IsPast, IsBareAt, is_branch_at}
 use Rattle.tp_known.proofs.control.Steps.{IsQuietAt}
 use Rattle.tp_known.proofs.control.First.{Before}
@@ -49,7 +49,7 @@ idle_dead Idle h = refl
 idle_dead _ h = absurd (cc (h))
 
 pub undeclared : (who : Who) (d : Digest) (s : Option Addr) → refusal who d (Event.Declare s) ≡ None → d.declared ≡ false
-unfolding refusal
+unfolding refusal verdict
 undeclared who d s ok = grind arith
 
 pub same_superior : (who : Who) (d : Digest) (e : Event) → (prelude who d e).superior ≡ d.superior ⊎ ((s : Option Addr) × (e ≡ Event.Declare s)) ⊎ (e ≡ Event.Crash)

@@ -1,5 +1,5 @@
 -- In every legal history the arcs below stand in the order in which their dialogues were asked for, as the questions answer.
-use Rattle.tp_known.proofs.Vocabulary.{Bool, List, None, Option, Some, [], ap, arith, false, if◌then◌else◌, not, refl, sym, true, ℕ, ◌&&◌, ◌++◌, ◌==◌, ◌||◌, ◌∙◌, ◌∷◌, ◌≡◌, subst, or-false, nat_tests, Addr, Mark, DialogueRecord, PeerRecord, Request, is_at, link_in, Origin, Entry, Digest, Arc, Event, Idle, Link, Live, Offered, Opening, Who, digest, entry_of, peers_in, agrees_order, agrees_up, asked_for, is_number, not_idle, same_list, is_superior, Move, next_mark, superior_arc, with_mark_drawn, find_arc, link_with, is_idle, IsGrown, IsLegal, Side, action, after_crash, refusal, started, call, refused_request, fresh_dialogue, refused_arrival, with_an_arc, below_as_asked, is_there, are_separate, IsLinked, accepted_by, accepted_on, begun_in, counted_in, linked, prelude, numbers, busy_there, Thins, separate_law, thins_moves, thins_put, thins_self, thins_taken, thins_then, superior_at, every_move, late_law, linked_moves, without_peer, peers_below}
+use Rattle.tp_known.proofs.Vocabulary.{Bool, List, None, Option, Some, [], ap, arith, false, if◌then◌else◌, not, refl, sym, true, ℕ, ◌&&◌, ◌++◌, ◌==◌, ◌||◌, ◌∙◌, ◌∷◌, ◌≡◌, subst, or-false, nat_tests, Addr, Mark, DialogueRecord, PeerRecord, Request, is_at, link_in, Origin, Entry, Digest, Arc, Event, Idle, Link, Live, Offered, Opening, Who, digest, entry_of, peers_in, agrees_order, agrees_up, asked_for, is_number, not_idle, same_list, is_superior, Move, next_mark, superior_arc, with_mark_drawn, find_arc, link_with, is_idle, IsGrown, IsLegal, Side, action, after_crash, refusal, verdict, started, call, refused_request, fresh_dialogue, refused_arrival, with_an_arc, below_as_asked, is_there, are_separate, IsLinked, accepted_by, accepted_on, begun_in, counted_in, linked, prelude, numbers, busy_there, Thins, separate_law, thins_moves, thins_put, thins_self, thins_taken, thins_then, superior_at, every_move, late_law, linked_moves, without_peer, peers_below}
 use Rattle.tp_known.proofs.links.Link.{link_law}
 use Rattle.tp_control.specs.Leading.{opens}
 use Rattle.tp_known.proofs.control.Quiet.{Grows, undeclared}
@@ -259,7 +259,7 @@ record Called (d : Digest) (n : ℕ) : Type 0 where
   declared : d.declared ≡ true
 
 called_so : (who : Who) (d : Digest) (a : Addr) (u : ℕ) → refusal who d (Event.Do (Request.BeginDialogue a u)) ≡ None → Called d a.node
-unfolding refusal refused_request
+unfolding refusal verdict refused_request
 called_so who d a u ok = grind (arith, peers_below)
 
 order_called : (o : Origin) (up : Option Addr) (h : List Entry) (a : Addr) (u : ℕ) → Grows o up h (Event.Do (Request.BeginDialogue a u)) → IsOrder o h → IsOrderBy o h (Event.Do (Request.BeginDialogue a u))
@@ -317,7 +317,7 @@ those_front b arcs (p ∷ ps) h =
     rw (mine, rest) refl
 
 offered_so : (who : Who) (d : Digest) (from : Addr) (x : Mark) (u : ℕ) → refusal who d (Event.Arrive from (PeerRecord.OpenAssoc x u)) ≡ None → is_superior d from.node ≡ true
-unfolding refusal refused_arrival
+unfolding refusal verdict refused_arrival
 offered_so who d from x u ok = grind arith
 
 order_offered : (o : Origin) (up : Option Addr) (h : List Entry) (from : Addr) (x : Mark) (u : ℕ) → Grows o up h (Event.Arrive from (PeerRecord.OpenAssoc x u)) → IsOrder o h → IsOrderBy o h (Event.Arrive from (PeerRecord.OpenAssoc x u))

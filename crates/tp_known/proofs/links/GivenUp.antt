@@ -1,5 +1,5 @@
 -- A branch that is given up: its association is shut where it is live, and nothing else shuts one.
-use Rattle.tp_known.proofs.Vocabulary.{if◌then◌else◌, ◌≡◌, ℕ, Bool, true, false, refl, ap, sym, ◌∙◌, arith, Option, Some, None, List, [], ◌∷◌, ◌++◌, ◌&&◌, ◌||◌, ◌==◌, not, nat_tests, Aaid, Report, DialogueRecord, PeerRecord, TxEvent, TxOut, Who, Event, Out, Link, Idle, Arc, Root, Branch, Current, Digest, is_live_with_peer, carried_on, carried, performed_one, performed, Row, Transaction, Turn, turn, and_then, aaid_of, find_row, row_holds, with_row, forgets, done_up, ends_down, end_up, complete_commit, transacted, refused_tx, Move, next_mark, with_mark_drawn, is_end_deferred_at, seen, seen_rows, begin_on, begin_each, chained_peers, begin_chained, start_root, try_start, fresh_current, committed_arcs, grants, Passage, Commits, played, refusal, shuts_to, and_left, and_right, plain_give_up, find_arc_is, around_grants, IsWhole}
+use Rattle.tp_known.proofs.Vocabulary.{if◌then◌else◌, ◌≡◌, ℕ, Bool, true, false, refl, ap, sym, ◌∙◌, arith, Option, Some, None, List, [], ◌∷◌, ◌++◌, ◌&&◌, ◌||◌, ◌==◌, not, nat_tests, Aaid, Report, DialogueRecord, PeerRecord, TxEvent, TxOut, Who, Event, Out, Link, Idle, Arc, Root, Branch, Current, Digest, is_live_with_peer, carried_on, carried, performed_one, performed, Row, Transaction, Turn, turn, and_then, aaid_of, find_row, row_holds, with_row, forgets, done_up, ends_down, end_up, complete_commit, transacted, refused_tx, Move, next_mark, with_mark_drawn, is_end_deferred_at, seen, seen_rows, begin_on, begin_each, chained_peers, begin_chained, start_root, try_start, fresh_current, committed_arcs, grants, Passage, Commits, played, refusal, verdict, shuts_to, and_left, and_right, plain_give_up, find_arc_is, around_grants, IsWhole}
 use Rattle.tp_known.proofs.lemmas.Begins.{begin_word, begin_arcs, begins_so}
 
 -- ---- the branch
@@ -31,7 +31,7 @@ unfolding refused_tx
 may_so t p ok = grind (arith, ok)
 
 pub no_give_up : (who : Who) (d : Digest) (p : ℕ) → refusal who d (Event.GiveUp p) ≡ None → d.current ≡ None → ⊥
-unfolding refusal
+unfolding refusal verdict
 no_give_up who d p ok none = absurd (grind (arith, ok, none))
 
 pub given_up : (who : Who) (d : Digest) (c : Current) (p : ℕ) → refusal who d (Event.GiveUp p) ≡ None → d.current ≡ Some c → IsGivenUp who d c p

@@ -1,5 +1,5 @@
 -- The link of an arc after an entry that does not end it by itself is what the questions answer.
-use Rattle.tp_known.proofs.Vocabulary.{is_crash, if◌then◌else◌, ◌≡◌, ◌⊎◌, inl, inr, ℕ, suc, Bool, true, false, refl, ap, sym, ◌∙◌, arith, Option, Some, None, List, [], ◌∷◌, ◌&&◌, ◌||◌, ◌==◌, not, length, nat_tests, Mark, Addr, Request, DialogueRecord, PeerRecord, LogRec, Side, Deferral, TxOut, Who, Origin, Event, Entry, Out, Link, Idle, Opening, Offered, Live, Arc, Current, Digest, is_live, is_idle, with_one_taken, is_end_deferred, fresh_dialogue, find_arc, link_of, link_with, is_live_with_peer, put_arc, is_under_at, has_branch_at, refused_request, call, accept, Move, move, perform, next_mark, with_mark_drawn, superior_arc, is_end_deferred_at, refused_arrival, refusal, action, after_crash, started, digest, said_to, acting_from, is_record, is_abort, is_end_dialogue, is_left_end, is_at, is_up, was_branch, superior_in, sent_more, link_by, count_records, deferral_in, closes_by_deferral, link_in, is_unchanged, IsGrown, closes_at, prelude, called, accepted_by, accepted_on, linked, counted_in, count_to, IsLinked, first_part, every_move, step_move, find_arc_is, the, plain_law, late_law, linked_moves, link_append, link_put, link_counted, superior_found}
+use Rattle.tp_known.proofs.Vocabulary.{is_crash, if◌then◌else◌, ◌≡◌, ◌⊎◌, inl, inr, ℕ, suc, Bool, true, false, refl, ap, sym, ◌∙◌, arith, Option, Some, None, List, [], ◌∷◌, ◌&&◌, ◌||◌, ◌==◌, not, length, nat_tests, Mark, Addr, Request, DialogueRecord, PeerRecord, LogRec, Side, Deferral, TxOut, Who, Origin, Event, Entry, Out, Link, Idle, Opening, Offered, Live, Arc, Current, Digest, is_live, is_idle, with_one_taken, is_end_deferred, fresh_dialogue, find_arc, link_of, link_with, is_live_with_peer, put_arc, is_under_at, has_branch_at, refused_request, call, accept, Move, move, perform, next_mark, with_mark_drawn, superior_arc, is_end_deferred_at, refused_arrival, refusal, verdict, action, after_crash, started, digest, said_to, acting_from, is_record, is_abort, is_end_dialogue, is_left_end, is_at, is_up, was_branch, superior_in, sent_more, link_by, count_records, deferral_in, closes_by_deferral, link_in, is_unchanged, IsGrown, closes_at, prelude, called, accepted_by, accepted_on, linked, counted_in, count_to, IsLinked, first_part, every_move, step_move, find_arc_is, the, plain_law, late_law, linked_moves, link_append, link_put, link_counted, superior_found}
 use Rattle.tp_model.specs.Questions as asks
 use Rattle.tp_known.proofs.deferral.Defers.{put, told_committed}
 use Rattle.tp_known.proofs.deferral.Deferral.{committed_tells, acting_plain, answer_dead, known_law}
@@ -9,7 +9,7 @@ use Rattle.tp_known.proofs.links.Linked.{IsOver, over_steps, begun_arcs, on_prel
 -- ---- what an accepted event opens
 
 pub call_free : (who : Who) (d : Digest) (a : Addr) (u : ℕ) → refusal who d (Event.Do (Request.BeginDialogue a u)) ≡ None → find_arc d.arcs a.node ≡ None
-unfolding refusal refused_request
+unfolding refusal verdict refused_request
 call_free who d a u ok = grind (arith, ok)
 
 call_outs : (who : Who) (d : Digest) (a : Addr) (u : ℕ) → (action who d (Event.Do (Request.BeginDialogue a u))).outs ≡ Out.Send a (PeerRecord.OpenAssoc (next_mark who d) u) ∷ []
@@ -28,7 +28,7 @@ record IsAccepted (who : Who) (d : Digest) (u p : ℕ) : Type 0 where
   outs : (action who d (Event.Do (Request.Accept u))).outs ≡ Out.Send to (PeerRecord.AcceptAssoc mark (next_mark who d) u) ∷ []
 
 accepted_link : (who : Who) (d : Digest) (u p : ℕ) → refusal who d (Event.Do (Request.Accept u)) ≡ None → IsAccepted who d u p
-unfolding refusal refused_request accept
+unfolding refusal verdict refused_request accept
 accepted_link who d u p ok = go (superior_arc d) refl
   where
     answered : Arc → Link → Move
@@ -66,7 +66,7 @@ accepted_link who d u p ok = go (superior_arc d) refl
     go (Some a) i = on a a.link i refl
 
 offer_idle : (who : Who) (d : Digest) (from : Addr) (x : Mark) (u : ℕ) → refusal who d (Event.Arrive from (PeerRecord.OpenAssoc x u)) ≡ None → is_idle (link_with d.arcs from.node) ≡ true
-unfolding refusal refused_arrival
+unfolding refusal verdict refused_arrival
 offer_idle who d from x u ok = grind (arith, ok)
 
 record IsConfirmed (who : Who) (d : Digest) (from : Addr) (x y : Mark) (u p : ℕ) : Type 0 where
@@ -74,7 +74,7 @@ record IsConfirmed (who : Who) (d : Digest) (from : Addr) (x y : Mark) (u p : �
   link : link_with (linked (find_arc d.arcs from.node) x y u d).arcs p ≡ (if from.node == p then Live x y 0 0 else link_with d.arcs p)
 
 confirmed_link : (who : Who) (d : Digest) (from : Addr) (x y : Mark) (u p : ℕ) → refusal who d (Event.Arrive from (PeerRecord.AcceptAssoc x y u)) ≡ None → IsConfirmed who d from x y u p
-unfolding refusal refused_arrival
+unfolding refusal verdict refused_arrival
 confirmed_link who d from x y u p ok = go (find_arc d.arcs from.node) refl
   where
     on : (a : Arc) (l : Link) → find_arc d.arcs from.node ≡ Some a → a.link ≡ l → IsConfirmed who d from x y u p

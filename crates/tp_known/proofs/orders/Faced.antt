@@ -1,6 +1,6 @@
 -- In every legal history the current transaction is a root's or comes from the node's superior, and none of its branches is
 -- the superior; or it is one that a start gave, and no arc of the node is or becomes live before it is over.
-use Rattle.tp_known.proofs.Vocabulary.{if◌then◌else◌, ◌≡◌, ◌⊎◌, inl, inr, ℕ, Bool, true, false, refl, ap, sym, subst, ◌∙◌, arith, Option, Some, None, List, [], ◌∷◌, ◌++◌, ◌==◌, not, nat_tests, Addr, Child, Request, Phase, TxEvent, Who, Origin, Event, Entry, Link, Idle, Opening, Offered, Live, Arc, Key, Root, Under, Current, Digest, is_nil, is_active, is_late, is_live, find_arc, link_with, is_live_with_peer, without_arc, with_dialogue, Transaction, is_under_at, transacted, has_branch_at, refused_request, Move, perform, next_mark, is_superior, phase_of, seen_rows, seen, may_begin_on, begin_on, fresh_current, turned, refusal, after_crash, started, action, digest, is_at, sent_more, IsGrown, Moves, IsPut, prelude, IsLinked, every_move, root_in, Came, As_it_was, By_begin, By_crash, came_by, kin, kids_seen, kids_left, kids_more, kin_turn, is_headed_by, are_below, kin_below, below_is, below_end, none_below, under_headed, IsPlaced, placed_then, placed_arcs, dead_without, not_above, superior_at, placed_law, headed_first, headed_law, late_law, linked_moves, link_dialogue, link_without, passed_turn, Prelinked, As_before, Now_idle, Now_called, Now_offered, Now_accepted, Now_confirmed, Took_one, called_at, prelinked, left_is, left_branches, traced_law}
+use Rattle.tp_known.proofs.Vocabulary.{if◌then◌else◌, ◌≡◌, ◌⊎◌, inl, inr, ℕ, Bool, true, false, refl, ap, sym, subst, ◌∙◌, arith, Option, Some, None, List, [], ◌∷◌, ◌++◌, ◌==◌, not, nat_tests, Addr, Child, Request, Phase, TxEvent, Who, Origin, Event, Entry, Link, Idle, Opening, Offered, Live, Arc, Key, Root, Under, Current, Digest, is_nil, is_active, is_late, is_live, find_arc, link_with, is_live_with_peer, without_arc, with_dialogue, Transaction, is_under_at, transacted, has_branch_at, refused_request, Move, perform, next_mark, is_superior, phase_of, seen_rows, seen, may_begin_on, begin_on, fresh_current, turned, refusal, verdict, after_crash, started, action, digest, is_at, sent_more, IsGrown, Moves, IsPut, prelude, IsLinked, every_move, root_in, Came, As_it_was, By_begin, By_crash, came_by, kin, kids_seen, kids_left, kids_more, kin_turn, is_headed_by, are_below, kin_below, below_is, below_end, none_below, under_headed, IsPlaced, placed_then, placed_arcs, dead_without, not_above, superior_at, placed_law, headed_first, headed_law, late_law, linked_moves, link_dialogue, link_without, passed_turn, Prelinked, As_before, Now_idle, Now_called, Now_offered, Now_accepted, Now_confirmed, Took_one, called_at, prelinked, left_is, left_branches, traced_law}
 use Rattle.tp_histories.proofs.worlds.Unique.{superior_is}
 use Rattle.tp_known.proofs.lemmas.Begins.{begun_child, sent_begin, begins_so}
 
@@ -103,7 +103,7 @@ faced_moves up who e s = record {
 
 -- nothing is called while a transaction is late
 not_called : (who : Who) (d : Digest) (e : Event) (p : ℕ) → refusal who d e ≡ None → called_at e ≡ Some p → is_late (phase_of d) ≡ false
-unfolding refusal refused_request
+unfolding refusal verdict refused_request
 not_called who d (Event.Do (Request.BeginDialogue a u)) p ok at = grind (arith, ok)
 not_called who d e p ok at = absurd (cc (at))
 

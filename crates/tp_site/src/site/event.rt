@@ -3,6 +3,8 @@ ghost use Rattle.std.specs.Prelude.{ℕ, ◌≡◌, Bool, true, List, Some, None
 ghost use Rattle.tp_records.specs.declared.body.Event.{Event as Given};
 ghost use Rattle.tp_records.specs.declared.request.Request.{Request as Asks};
 ghost use Rattle.tp_model.specs.Parts.{Do};
+ghost use Rattle.tp_model.specs.declared.refusal.Refusal.{Refusal};
+ghost use Rattle.tp_model.specs.Refusal.{number_of};
 ghost use Rattle.tp_model.specs.Events.{refused_plainly};
 ghost use Rattle.tp_model.specs.NodeRun.{Opening, asked, node_of};
 ghost use Rattle.tp_node.specs.NodeEvent.{event_of};
@@ -39,7 +41,7 @@ impl<K: Keeper> Site<K> {
     ) -> Result<Outputs, SiteFault>
         requires open { self.old.shut ≡ None }
         requires few { BringsFew (event_of event.now) }
-        ensures plain { (k : ℕ) → IsPlain (node_at self.old.nodes node) event.now k → result ≡ Err (SiteFault.Refused k) }
+        ensures plain { (x : Refusal) → IsPlain (node_at self.old.nodes node) event.now x → result ≡ Err (SiteFault.Refused (number_of x)) }
         ensures gives { Gives K.standing self.old node (event_of event.now) result self.new }
         ensures text { HasTextIfAsked (K.standing self.old.keeper).wide (rec_of (answer_at (who_at self.old.nodes node) (known_at self.old node) (event_of event.now))) result }
     {
@@ -60,7 +62,7 @@ impl<K: Keeper> Site<K> {
     ) -> Result<Outputs, SiteFault>
         requires open { self.old.shut ≡ None }
         requires few { BringsFew (event_of event.now) }
-        ensures plain { (k : ℕ) → IsPlain (node_at self.old.nodes node) event.now k → result ≡ Err (SiteFault.Refused k) }
+        ensures plain { (x : Refusal) → IsPlain (node_at self.old.nodes node) event.now x → result ≡ Err (SiteFault.Refused (number_of x)) }
         ensures gives { Gives K.standing self.old node (event_of event.now) result self.new }
         ensures text { HasTextIfAsked (K.standing self.old.keeper).wide (rec_of (answer_at (who_at self.old.nodes node) (known_at self.old node) (event_of event.now))) result }
     {
@@ -95,7 +97,7 @@ impl<K: Keeper> Site<K> {
     // What the event asks for, of a site that is not shut.
     fn take(&mut self, alloc: Global, event: &Event) -> Result<Outputs, SiteFault>
         requires { self.old.shut ≡ None }
-        ensures plain { (n : ℕ) (r : Asks) (k : ℕ) → event.now ≡ Given.Do n r → refused_plainly (who_at self.old.nodes n) (known_at self.old n) (Do r) ≡ Some k → result ≡ Err (SiteFault.Refused k) }
+        ensures plain { (n : ℕ) (r : Asks) (x : Refusal) → event.now ≡ Given.Do n r → refused_plainly (who_at self.old.nodes n) (known_at self.old n) (Do r) ≡ Some x → result ≡ Err (SiteFault.Refused (number_of x)) }
         ensures plays { PlaysAsked K.standing self.old (asked (opening_at self.old.nodes.site) event.now) result self.new }
         ensures text { HasTextIfAsked (K.standing self.old.keeper).wide (rec_asked self.old (asked (opening_at self.old.nodes.site) event.now)) result }
     {
@@ -129,7 +131,7 @@ impl<K: Keeper> Site<K> {
         ensures order { (mine : ℕ → Bool) (o : Opening) (gs : List Given) → IsAt K.standing mine o gs self.old → mine (node_of event.now) ≡ true → IsInOrder (K.standing self.old.keeper) → IsInOrder (K.standing self.new.keeper) }
         ensures text { (mine : ℕ → Bool) (o : Opening) (gs : List Given) → IsAt K.standing mine o gs self.old → mine (node_of event.now) ≡ true → HasTextIfAsked (K.standing self.old.keeper).wide (record_after o gs event.now) result }
         ensures lasting { (K.standing self.new.keeper).lasting ≡ (K.standing self.old.keeper).lasting }
-        ensures plain { (n : ℕ) (r : Asks) (k : ℕ) → event.now ≡ Given.Do n r → self.old.shut ≡ None → refused_plainly (who_at self.old.nodes n) (known_at self.old n) (Do r) ≡ Some k → result ≡ Err (SiteFault.Refused k) }
+        ensures plain { (n : ℕ) (r : Asks) (x : Refusal) → event.now ≡ Given.Do n r → self.old.shut ≡ None → refused_plainly (who_at self.old.nodes n) (known_at self.old n) (Do r) ≡ Some x → result ≡ Err (SiteFault.Refused (number_of x)) }
         ensures shut { (faults : ℕ) → self.old.shut ≡ Some faults → result ≡ Err (SiteFault.Shut faults) }
     {
         if let Some(faults) = self.shut {

@@ -17,7 +17,7 @@ use Rattle.tp_model.specs.Arcs.{find_arc}
 use Rattle.tp_model.specs.Transactions.{Row, Transaction, node_key, is_under_at, find_row, row_holds, is_waited_for, sight_of_tx, acts, situation_of}
 use Rattle.tp_model.specs.Node.{phase_of, seen_rows, seen, situation_at}
 use Rattle.tp_model.specs.Arrivals.{branch_key, named_by_key, is_current_ready, sight_at, sight_of}
-use Rattle.tp_model.specs.Events.{refusal}
+use Rattle.tp_model.specs.Events.{refusal, verdict}
 use Rattle.tp_model.specs.Outcomes.{is_waited_for_at, is_fatal, rolls_by_request, rolls_by_rollback, rolls_by_reply, rolls_by_arrival, rolls}
 use Rattle.tp_steps.specs.Turns.{falls, is_fatal_at}
 use Rattle.tp_model.specs.AmongArcs.{is_peer}
@@ -58,7 +58,7 @@ sight_rollback who d a c i = grind (arith, i)
 
 rolls_rollback : (who : Who) (d : Digest) (from : Addr) (x y : Mark) (q : ℕ) (c : Current) (arcs : List Arc) → refusal who d (Event.Arrive from (PeerRecord.OnAssoc x y q DialogueRecord.Rollback)) ≡ None → d.current ≡ Some c
     → falls (TxEvent.Took from.node DialogueRecord.Rollback) (seen who arcs c) ≡ true → rolls_by_rollback who d from.node ≡ true
-unfolding refusal
+unfolding refusal verdict
 rolls_rollback who d from x y q c arcs ok now h = go (find_arc d.arcs from.node) refl
   where
     go : (o : Option Arc) → find_arc d.arcs from.node ≡ o → rolls_by_rollback who d from.node ≡ true

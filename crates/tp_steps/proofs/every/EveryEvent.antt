@@ -29,7 +29,7 @@ use Rattle.tp_model.specs.Recovery.{find_owed, is_nothing_owed, is_root_key, ref
 use Rattle.tp_model.specs.Node.{Move, move, followed, perform, phase_of, has_asked, seen, begin_on, try_start, transact, keep}
 use Rattle.tp_model.specs.Arrivals.{Named, current_with, child_addr, is_other, find_branch_by_id, branch_key, key_of_branch, named_by_key, named_by_branch, known_of, is_current_ready, lose, refused_arrival, take_accept, reply_to, take_order, take_forget, take_done_reply, take_ready_reply, take_reply, do_arrival, broken_pair, break_off}
 use Rattle.tp_model.specs.Requests.{refused_request}
-use Rattle.tp_model.specs.Events.{refused_purge, retry_each, retry, purge, action, refusal}
+use Rattle.tp_model.specs.Events.{refused_purge, retry_each, retry, purge, action, refusal, verdict}
 use Rattle.tp_steps.specs.Moves.{KeepsFor, owes_branch, prelude, linked, IsAsked, are_said, may_begin, some_leads, Moves}
 use Rattle.tp_steps.specs.Moves.{IsAmong, StandsIn, IsLate, orders_in, keeps_commit, keeps_idle, is_committed_in, IsOwned, AreSaid, IsFound, IsUnderWay, IsSettling}
 use Rattle.tp_steps.specs.Steps.{Steps}
@@ -369,23 +369,23 @@ step_purge who d R k ok = go d.kept refl
 -- ---- what an accepted event is not refused for
 
 pub plain_request : (who : Who) (d : Digest) (r : Request) → refusal who d (Event.Do r) ≡ None → refused_request who d r ≡ None
-unfolding refusal
+unfolding refusal verdict
 plain_request who d r ok = grind (arith, ok)
 
 pub plain_arrival : (who : Who) (d : Digest) (from : Addr) (r : PeerRecord) → refusal who d (Event.Arrive from r) ≡ None → refused_arrival who d from r ≡ None
-unfolding refusal
+unfolding refusal verdict
 plain_arrival who d from r ok = grind (arith, ok)
 
 pub plain_heur : (who : Who) (d : Digest) (o : Outcome) (c : Current) → refusal who d (Event.Heur o) ≡ None → d.current ≡ Some c → refused_tx (TxEvent.Heur o) (seen who d.arcs c) ≡ None
-unfolding refusal
+unfolding refusal verdict
 plain_heur who d o c ok i = grind (arith, ok, i)
 
 pub plain_give_up : (who : Who) (d : Digest) (p : ℕ) (c : Current) → refusal who d (Event.GiveUp p) ≡ None → d.current ≡ Some c → refused_tx (TxEvent.GiveUp p) (seen who d.arcs c) ≡ None
-unfolding refusal
+unfolding refusal verdict
 plain_give_up who d p c ok i = grind (arith, ok, i)
 
 plain_purge : (who : Who) (d : Digest) → refusal who d Event.Purge ≡ None → refused_purge d.kept ≡ None
-unfolding refusal
+unfolding refusal verdict
 plain_purge who d ok = grind (arith, ok)
 
 -- ---- all events

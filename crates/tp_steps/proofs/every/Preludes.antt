@@ -19,7 +19,7 @@ use Rattle.tp_units.specs.Units.{bad_answer}
 use Rattle.tp_model.specs.Requests.{is_branch_below, is_offered_arc, offered_units, refused_request}
 use Rattle.std.specs.Prelude.{is_some}
 use Rattle.tp_model.specs.Arrivals.{refused_arrival, is_from_superior}
-use Rattle.tp_model.specs.Events.{refusal, after_crash}
+use Rattle.tp_model.specs.Events.{refusal, verdict, after_crash}
 use Rattle.tp_model.specs.Questions.{is_at}
 use Rattle.tp_steps.specs.Moves.{prelude, called, accepted_by, accepted_on, linked, begun_in, counted_in}
 use Rattle.tp_steps.specs.Traces.{took_of}
@@ -74,7 +74,7 @@ superior_at d (Some a) p h = rw (h, is_superior) refl
 
 pre_call : (who : Who) (up : Option Addr) (p : ℕ) (d : Digest) (a : Addr) (u : ℕ) → (d.declared ≡ true → d.superior ≡ up) → refusal who d (Event.Do (Request.BeginDialogue a u)) ≡ None
     → Prelinked who up p d (Event.Do (Request.BeginDialogue a u)) (link_with (called who a u d).arcs p)
-unfolding refusal refused_request
+unfolding refusal verdict refused_request
 pre_call who up p d a u here ok = go (a.node == p) refl
   where
     new : Arc
@@ -106,7 +106,7 @@ superior_found d a h = go d.superior refl
     go (Some s) i = let found : find_arc d.arcs s.node ≡ Some a = rw (i, superior_arc) at h in (s, i, found)
 
 accept_plain : (who : Who) (d : Digest) (u : ℕ) → refusal who d (Event.Do (Request.Accept u)) ≡ None → refused_request who d (Request.Accept u) ≡ None
-unfolding refusal
+unfolding refusal verdict
 accept_plain who d u ok = grind (arith, ok)
 
 accept_nil : (who : Who) (d : Digest) (u : ℕ) → refusal who d (Event.Do (Request.Accept u)) ≡ None → is_nil (phase_of d) ≡ true
@@ -121,7 +121,7 @@ accept_nil who d u ok =
 
 pre_accept : (who : Who) (up : Option Addr) (p : ℕ) (d : Digest) (u : ℕ) → ((a : Addr) → d.superior ≡ Some a → up ≡ Some a) → refusal who d (Event.Do (Request.Accept u)) ≡ None
     → Prelinked who up p d (Event.Do (Request.Accept u)) (link_with (accepted_by who u (superior_arc d) d).arcs p)
-unfolding refusal refused_request
+unfolding refusal verdict refused_request
 pre_accept who up p d u under ok = go (superior_arc d) refl
   where
     e : Event
@@ -155,7 +155,7 @@ pre_accept who up p d u under ok = go (superior_arc d) refl
 pre_open : (who : Who) (up : Option Addr) (p : ℕ) (d : Digest) (from : Addr) (x : Mark) (u : ℕ) → ((a : Addr) → d.superior ≡ Some a → up ≡ Some a)
     → refusal who d (Event.Arrive from (PeerRecord.OpenAssoc x u)) ≡ None
     → Prelinked who up p d (Event.Arrive from (PeerRecord.OpenAssoc x u)) (link_with (record { peer = from; link = Offered x; dialogue = fresh_dialogue u Side.Subordinate } ∷ d.arcs) p)
-unfolding refusal refused_arrival
+unfolding refusal verdict refused_arrival
 pre_open who up p d from x u under ok = go (from.node == p) refl
   where
     arcs : List Arc
@@ -176,7 +176,7 @@ pre_open who up p d from x u under ok = go (from.node == p) refl
 
 pre_confirm : (who : Who) (up : Option Addr) (p : ℕ) (d : Digest) (from : Addr) (x y : Mark) (u : ℕ) → refusal who d (Event.Arrive from (PeerRecord.AcceptAssoc x y u)) ≡ None
     → Prelinked who up p d (Event.Arrive from (PeerRecord.AcceptAssoc x y u)) (link_with (linked (find_arc d.arcs from.node) x y u d).arcs p)
-unfolding refusal refused_arrival
+unfolding refusal verdict refused_arrival
 pre_confirm who up p d from x y u ok = go (find_arc d.arcs from.node) refl
   where
     e : Event
@@ -213,7 +213,7 @@ pub record Taken (d : Digest) (from : Addr) (x y : Mark) (seq : ℕ) : Type 0 wh
   pub live : link_with d.arcs from.node ≡ Live x y sent seq
 
 pub takes_next : (who : Who) (d : Digest) (from : Addr) (x y : Mark) (seq : ℕ) (r : DialogueRecord) → refusal who d (Event.Arrive from (PeerRecord.OnAssoc x y seq r)) ≡ None → Taken d from x y seq
-unfolding refusal refused_arrival
+unfolding refusal verdict refused_arrival
 takes_next who d from x y seq r ok = go (find_arc d.arcs from.node) refl
   where
     on : (a : Arc) (l : Link) → find_arc d.arcs from.node ≡ Some a → a.link ≡ l → Taken d from x y seq

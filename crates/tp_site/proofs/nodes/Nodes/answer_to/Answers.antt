@@ -4,7 +4,7 @@ use Rattle.tp_model.specs.Parts.{Who, Digest}
 use Rattle.tp_node.specs.Node.{Node}
 use Rattle.tp_draft.specs.Answers.{IsPlain}
 use Rattle.tp_site.specs.Nodes.{who_at}
-use Rattle.tp_site.proofs.Numbered.{unfound}
+use Rattle.tp_site.proofs.Numbered.{found, unfound}
 use Rattle.tp_site.proofs.nodes.Nodes.answer_to.Goals as goal
 
 same_node : (w : Who) (d e : Digest) → d ≡ e → ◌≡◌ {A = Node} (record { who = w; digest = d }) (record { who = w; digest = e })
@@ -15,3 +15,7 @@ returns-in-None-clause-plain c = λ k plain.
     let v = c.args.self.now in
     let n = c.args.node in
     c.answer_to-in-None-2.ensures.plain k (subst (λ (x : Node). IsPlain x c.args.event.now k) (same_node (who_at v n) _ _ (unfound v n c.in-None.ensures) ∙ sym c.unknown.ensures) plain)
+
+pub returns-in-Some-clause-plain : goal.returns-in-Some-clause-plain
+returns-in-Some-clause-plain c = λ x plain.
+    c.answer_to.ensures.plain x (subst (λ (y : Node). IsPlain y c.args.event.now x) (sym (found c.args.self.now c.args.node c.in-Some.node.now c.in-Some.ensures)) plain)
