@@ -18,7 +18,7 @@ use Rattle.tp_model.specs.Links.{is_live}
 use Rattle.tp_model.specs.Dialogues.{Sight, Acts, Nothing_happens, Out_of_phase, is_nil, is_committing, cleared}
 use Rattle.tp_model.specs.Arcs.{find_arc, link_with, with_dialogue}
 use Rattle.tp_model.specs.Transactions.{Row, Transaction, Turn, find_row_by_id, transacted}
-use Rattle.tp_model.specs.Node.{Move, move, followed, perform, seen_row, seen_rows, seen, phase_of, passed, turned, restarted, is_over, try_start, transact}
+use Rattle.tp_model.specs.Node.{Move, move, followed, perform, seen_row, seen_rows, seen, phase_of, passed, turned, is_over, try_start, transact, started_next}
 use Rattle.tp_model.specs.Links.{with_one_taken}
 use Rattle.tp_model.specs.Arcs.{with_link}
 use Rattle.tp_model.specs.Arrivals.{sight_at, woken_by, take_on, branch_key, named_by_branch}
@@ -180,7 +180,7 @@ opens_transact who f d p put = go d.current refl
         ap begun_keys (ap only_words (said_append p m.outs n.outs) ∙ words_append (said_to p m.outs) (said_to p n.outs)) ∙ keys_append (words_to p m.outs) (words_to p n.outs) ∙ ap (λ (ks : List _). ks ++ begun_keys (words_to p n.outs)) (turned_none who f d c p q) in
         subst (λ (k : ℕ). k ≤ open_at n.next.current p) (sym (ap length keys)) (start_opens who m.next p (late_remaining (transacted f (seen who d.arcs c)).next) live)
 
-    go : (o : Option Current) → d.current ≡ o → Opens p (elim o as (λ _. Move) [ None ↦ move [] d | Some c ↦ restarted who (passed who f d c) (turned who f d c) ])
+    go : (o : Option Current) → d.current ≡ o → Opens p (elim o as (λ _. Move) [ None ↦ move [] d | Some c ↦ started_next who (passed who f d c) (turned who f d c) ])
     go None i = opens_none p (move [] d) refl
     go (Some c) i = over c (put c i) (is_over (passed who f d c))
 

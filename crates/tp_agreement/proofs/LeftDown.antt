@@ -15,7 +15,7 @@ use Rattle.tp_model.specs.Parts.{Who, Origin, Event, Entry, Arc, Branch, Current
 use Rattle.tp_model.specs.Dialogues.{is_nil, is_active}
 use Rattle.tp_model.specs.Transactions.{Row, Transaction, Turn, aaid_of, find_row, all_left, refused_tx, transacted, leave}
 use Rattle.tp_model.specs.Requests.{refused_request}
-use Rattle.tp_model.specs.Node.{Move, move, followed, seen_row, seen_rows, seen, phase_of, turned, restarted, is_over, try_start, transact, is_leaving, passage, Passage}
+use Rattle.tp_model.specs.Node.{Move, move, followed, seen_row, seen_rows, seen, phase_of, turned, is_over, try_start, transact, is_leaving, passage, Passage, started_next}
 use Rattle.tp_model.specs.Events.{refusal, verdict, action}
 use Rattle.tp_model.specs.History.{digest, records}
 use Rattle.tp_model.specs.Outcomes.{is_now, is_unchanged, decided, has_left}
@@ -102,7 +102,7 @@ no_begins t (r ∷ ws) h = no_begins t ws h
 left_begins : (who : Who) (d : Digest) (c : Current) (t : Aaid) (p : ℕ) → d.current ≡ Some c → is_old who d t.mark ≡ true → IsPut (TxEvent.User Request.Unchanged) (seen who d.arcs c) → suc 0 ≤ begins_of t (words_to p (transact who (TxEvent.User Request.Unchanged) d).outs) → ⊥
 unfolding transact leave
 left_begins who d c t p now old put =
-    subst (λ (o : Option Current). suc 0 ≤ begins_of t (words_to p (elim o as (λ _. Move) [ None ↦ move [] d | Some x ↦ restarted who (passage (is_leaving f) (seen who d.arcs x).phase (transacted f (seen who d.arcs x)).next.phase) (turned who f d x) ]).outs) → ⊥) (sym now)
+    subst (λ (o : Option Current). suc 0 ≤ begins_of t (words_to p (elim o as (λ _. Move) [ None ↦ move [] d | Some x ↦ started_next who (passage (is_leaving f) (seen who d.arcs x).phase (transacted f (seen who d.arcs x)).next.phase) (turned who f d x) ]).outs) → ⊥) (sym now)
     (over (is_over w))
   where
     f : TxEvent

@@ -26,7 +26,7 @@ use Rattle.tp_model.specs.Dialogues.{is_nil, is_active, is_ready, is_committing,
 use Rattle.tp_model.specs.Links.{is_live}
 use Rattle.tp_model.specs.Arcs.{link_with}
 use Rattle.tp_model.specs.Transactions.{Row, Transaction, aaid_of, child_of, fresh_branch, find_row_by_id}
-use Rattle.tp_model.specs.Recovery.{answer}
+use Rattle.tp_model.specs.Recovery.{recovery_answer}
 use Rattle.tp_model.specs.Arrivals.{branch_key, find_branch_by_id, named_by_key, named_by_branch, known_of}
 use Rattle.tp_model.specs.Node.{phase_of, seen, seen_row, seen_rows}
 use Rattle.tp_model.specs.Events.{refusal, action, started, recovered, named_again, recovered_current, current_from}
@@ -160,19 +160,19 @@ asked_key o up (e ∷ h) z t b empty legal (inl s) =
 abbrev pub AnsweredUnknown : Origin → Addr → Aaid → BranchId → List Entry → Type 0
 AnsweredUnknown o z t b [] = ⊥
 AnsweredUnknown o z t b (e ∷ h) =
-    (e.event ≡ Event.Arrive z (PeerRecord.RecReady t b)) × (answer (known_of (named_by_branch (digest o h) t b) b) Question.RecReady ≡ Some RecState.Unknown) ⊎ AnsweredUnknown o z t b h
+    (e.event ≡ Event.Arrive z (PeerRecord.RecReady t b)) × (recovery_answer (known_of (named_by_branch (digest o h) t b) b) Question.RecReady ≡ Some RecState.Unknown) ⊎ AnsweredUnknown o z t b h
 
 pub unknown_answered : (o : Origin) (up : Option Addr) (h : List Entry) (z : Addr) (t : Aaid) (b : BranchId) → IsGrown o up h → HasSent h z (PeerRecord.RecReply t b RecState.Unknown) → AnsweredUnknown o z t b h
 unknown_answered o up [] z t b legal s = s
 unknown_answered o up (e ∷ h) z t b legal (inr s) = inr (unknown_answered o up h z t b legal.3 s)
 unknown_answered o up (e ∷ h) z t b legal (inl s) =
     let w = (owing_entry o up e h legal).says z (PeerRecord.RecReply t b RecState.Unknown) (sent_now o up e h z (PeerRecord.RecReply t b RecState.Unknown) legal s) in
-    inl (w.0, ap (λ (f : Event). answer (known_of (named_by_branch (prelude o.who (digest o h) f) t b) b) Question.RecReady) (sym w.0) ∙ w.1)
+    inl (w.0, ap (λ (f : Event). recovery_answer (known_of (named_by_branch (prelude o.who (digest o h) f) t b) b) Question.RecReady) (sym w.0) ∙ w.1)
 
 abbrev pub AnsweredDone : Origin → Addr → Aaid → BranchId → Report → List Entry → Type 0
 AnsweredDone o z t b r [] = ⊥
 AnsweredDone o z t b r (e ∷ h) =
-    (e.event ≡ Event.Arrive z (PeerRecord.RecCommit t b)) × (answer (known_of (named_by_key (digest o h) (branch_key t b)) b) Question.RecCommit ≡ Some (RecState.Done r)) ⊎ AnsweredDone o z t b r h
+    (e.event ≡ Event.Arrive z (PeerRecord.RecCommit t b)) × (recovery_answer (known_of (named_by_key (digest o h) (branch_key t b)) b) Question.RecCommit ≡ Some (RecState.Done r)) ⊎ AnsweredDone o z t b r h
 
 pub done_answered : (o : Origin) (up : Option Addr) (h : List Entry) (z : Addr) (t : Aaid) (b : BranchId) (r : Report) → o.start.records ≡ [] → IsGrown o up h → HasSent h z (PeerRecord.RecReply t b (RecState.Done r)) → (decided o t h ≡ true) ⊎ AnsweredDone o z t b r h
 done_answered o up [] z t b r empty legal s = inr s
@@ -183,7 +183,7 @@ done_answered o up (e ∷ h) z t b r empty legal (inl s) =
     (λ v i. commit_more v e.rec (records o h) (own_law o up h v empty legal.3 (committed_prelude o.who (digest o h) e.event v legal.0 i)))
     (λ v i. commit_first v e.rec (records o h) (ap (commits_tree v) (ap (λ (f : Entry). f.rec) (sym legal.1)) ∙ i))) [
       | inl i ↦ inl i
-      | inr i ↦ inr (inl (i.0, ap (λ (f : Event). answer (known_of (named_by_key (prelude o.who (digest o h) f) (branch_key t b)) b) Question.RecCommit) (sym i.0) ∙ i.1))
+      | inr i ↦ inr (inl (i.0, ap (λ (f : Event). recovery_answer (known_of (named_by_key (prelude o.who (digest o h) f) (branch_key t b)) b) Question.RecCommit) (sym i.0) ∙ i.1))
     ]
 
 -- ---- branches stand at different numbers

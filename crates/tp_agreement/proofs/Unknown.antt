@@ -21,7 +21,7 @@ use Rattle.tp_model.specs.declared.recovery.Question.{Question}
 use Rattle.tp_model.specs.Parts.{Origin, Event, Entry, Key, Root, Under, Branch, Current, Digest}
 use Rattle.tp_model.specs.Dialogues.{is_nil, is_committing}
 use Rattle.tp_model.specs.Transactions.{aaid_of, node_key}
-use Rattle.tp_model.specs.Recovery.{is_commit, is_kept_commit, answer, find_owed, find_kept}
+use Rattle.tp_model.specs.Recovery.{is_commit, is_kept_commit, find_owed, find_kept, recovery_answer}
 use Rattle.tp_model.specs.Arrivals.{Named, branch_key, current_with, named_by_key, find_branch_by_id, is_branch_of, kept_owing, kept_of, current_of, key_of_kept, key_of_branch, named_by_branch, known_of}
 use Rattle.tp_model.specs.Node.{phase_of}
 use Rattle.tp_model.specs.History.{digest}
@@ -89,20 +89,20 @@ has_branch (x ∷ bs) p b v h i = go (x.peer.node == p) refl (is_branch x.id b) 
 same_tree : (t u : Aaid) → is_aaid t u ≡ true → is_aaid u t ≡ true
 same_tree t u h = ap (λ (v : Aaid). is_aaid v t) (sym (aaids_equal t u h)) ∙ aaid_same t
 
-standing_answer : (k : Known) → is_standing k.phase ≡ true → k.branch ≡ true → answer k Question.RecReady ≡ Some RecState.Unknown → ⊥
-unfolding answer
+standing_answer : (k : Known) → is_standing k.phase ≡ true → k.branch ≡ true → recovery_answer k Question.RecReady ≡ Some RecState.Unknown → ⊥
+unfolding recovery_answer
 standing_answer k h i a = absurd (grind (arith, h, i, a))
 
-committing_answer : (k : Known) → is_committing k.phase ≡ true → answer k Question.RecReady ≡ Some RecState.Unknown → ⊥
-unfolding answer
+committing_answer : (k : Known) → is_committing k.phase ≡ true → recovery_answer k Question.RecReady ≡ Some RecState.Unknown → ⊥
+unfolding recovery_answer
 committing_answer k h a = absurd (grind (arith, h, a))
 
-kept_answer : (k : Known) → is_kept_commit k.kept ≡ true → answer k Question.RecReady ≡ Some RecState.Unknown → ⊥
-unfolding answer
+kept_answer : (k : Known) → is_kept_commit k.kept ≡ true → recovery_answer k Question.RecReady ≡ Some RecState.Unknown → ⊥
+unfolding recovery_answer
 kept_answer k h a = absurd (grind (arith, h, a))
 
-pub done_answer : (k : Known) (r : Report) → is_nil k.phase ≡ false → answer k Question.RecCommit ≡ Some (RecState.Done r) → ⊥
-unfolding answer
+pub done_answer : (k : Known) (r : Report) → is_nil k.phase ≡ false → recovery_answer k Question.RecCommit ≡ Some (RecState.Done r) → ⊥
+unfolding recovery_answer
 done_answer k r i h = absurd (grind (arith, i, h))
 
 pub own_with : (d : Digest) (c : Current) → d.current ≡ Some c → current_with d (node_key c.key) ≡ Some c
@@ -111,7 +111,7 @@ own_with d c at = rw (at, current_with) (rw (key_self (node_key c.key)) refl)
 pub current_found : (d : Digest) (t : Aaid) (c : Current) → d.current ≡ Some c → is_aaid (aaid_of c.key) t ≡ true → current_of d t ≡ Some c
 current_found d t c at own = rw (at, current_of) (rw own refl)
 
-row_answer : (d : Digest) (t : Aaid) (p : ℕ) (b : BranchId) → RowOwes t p b d.current → answer (known_of (named_by_branch d t b) b) Question.RecReady ≡ Some RecState.Unknown → ⊥
+row_answer : (d : Digest) (t : Aaid) (p : ℕ) (b : BranchId) → RowOwes t p b d.current → recovery_answer (known_of (named_by_branch d t b) b) Question.RecReady ≡ Some RecState.Unknown → ⊥
 row_answer d t p b k h = standing_answer (known_of (named_by_branch d t b) b) (ap is_standing phase ∙ k.phase) branch h
   where
     c : Current
@@ -227,11 +227,11 @@ some_branch_key d t b j x found tree h = go (current_of d t) refl
         on false j = some_kept_key d t b _ x found tree (rw (i, j, key_of_branch) at h)
 
 -- only a rollback that is kept beside it could be named
-kept_unknown : (d : Digest) (t : Aaid) (p : ℕ) (b : BranchId) → KeptOwes t p b d.kept → (is_now t d.current ≡ true → is_committing (phase_of d) ≡ true) → answer (known_of (named_by_branch d t b) b) Question.RecReady ≡ Some RecState.Unknown → keeps_rollback t d.kept ≡ true
+kept_unknown : (d : Digest) (t : Aaid) (p : ℕ) (b : BranchId) → KeptOwes t p b d.kept → (is_now t d.current ≡ true → is_committing (phase_of d) ≡ true) → recovery_answer (known_of (named_by_branch d t b) b) Question.RecReady ≡ Some RecState.Unknown → keeps_rollback t d.kept ≡ true
 kept_unknown d t p b k committing h = go (key_of_branch d t b) refl
   where
     key : NodeKey → Type 0
-    key j = answer (known_of (named_by_key d j) b) Question.RecReady ≡ Some RecState.Unknown
+    key j = recovery_answer (known_of (named_by_key d j) b) Question.RecReady ≡ Some RecState.Unknown
 
     at : (j : NodeKey) → is_aaid j.aaid t ≡ true → key_of_branch d t b ≡ Some j → key j → (c : Option Current) → current_with d j ≡ c → (x : Option Kept) → find_kept d.kept j ≡ x → keeps_rollback t d.kept ≡ true
     at j tree is a (Some c) i x m =
@@ -253,7 +253,7 @@ kept_unknown d t p b k committing h = go (key_of_branch d t b) refl
     go : (o : Option NodeKey) → key_of_branch d t b ≡ o → keeps_rollback t d.kept ≡ true
     go None i = absurd (some_branch_key d t b k.key k.kept k.found (same_tree t k.kept.key.aaid k.tree) i)
     go (Some j) i =
-        let a : answer (known_of (named_by_key d j) b) Question.RecReady ≡ Some RecState.Unknown = ap (λ (o : Option NodeKey). answer (known_of (elim o as (λ _. Named) [ None ↦ record { current = None; kept = None } | Some z ↦ named_by_key d z ]) b) Question.RecReady) (sym i) ∙ h in
+        let a : recovery_answer (known_of (named_by_key d j) b) Question.RecReady ≡ Some RecState.Unknown = ap (λ (o : Option NodeKey). recovery_answer (known_of (elim o as (λ _. Named) [ None ↦ record { current = None; kept = None } | Some z ↦ named_by_key d z ]) b) Question.RecReady) (sym i) ∙ h in
         at j (branch_tree d t b j i) i a (current_with d j) refl (find_kept d.kept j) refl
 
 -- ---- the superior's history
@@ -312,7 +312,7 @@ known_answer n C S o up [] z t b r legal k at s a = absurd a
 known_answer n C S o up (e ∷ h) z t b r legal k at s (inl a) = known_more o up e h t legal ((k.0 z t b a.0 at).1 s)
 known_answer n C S o up (e ∷ h) z t b r legal k at s (inr a) = known_more o up e h t legal (known_answer n C S o up h z t b r legal.3 k.1 at s a)
 
-pub key_done : (d : Digest) (t : Aaid) (b : BranchId) (r : Report) (c : Current) → IsLate d → d.current ≡ Some c → node_key c.key ≡ branch_key t b → answer (known_of (named_by_key d (branch_key t b)) b) Question.RecCommit ≡ Some (RecState.Done r) → ⊥
+pub key_done : (d : Digest) (t : Aaid) (b : BranchId) (r : Report) (c : Current) → IsLate d → d.current ≡ Some c → node_key c.key ≡ branch_key t b → recovery_answer (known_of (named_by_key d (branch_key t b)) b) Question.RecCommit ≡ Some (RecState.Done r) → ⊥
 key_done d t b r c late at key h = done_answer (known_of (named_by_key d (branch_key t b)) b) r (ap is_nil phase ∙ late c at) h
   where
     named : current_with d (branch_key t b) ≡ Some c

@@ -24,7 +24,7 @@ use Rattle.tp_model.specs.declared.recovery.Question.{Question}
 use Rattle.tp_model.specs.Parts.{Under, Event, Out, Branch, Current, Digest}
 use Rattle.tp_model.specs.Dialogues.{is_active, is_ready, is_committing}
 use Rattle.tp_model.specs.Transactions.{Row, Transaction, Turn, aaid_of, node_key, find_row}
-use Rattle.tp_model.specs.Recovery.{is_commit, answer, find_kept}
+use Rattle.tp_model.specs.Recovery.{is_commit, find_kept, recovery_answer}
 use Rattle.tp_model.specs.Arrivals.{branch_key, named_by_key, named_by_branch, known_of}
 use Rattle.tp_model.specs.Node.{Move}
 use Rattle.tp_histories.specs.Histories.{IsSentIn}
@@ -145,7 +145,7 @@ abbrev pub IsNodeWord : Event → Digest → Digest → Move → Addr → PeerRe
 IsNodeWord e s d m z (PeerRecord.RecReady u c) = (x : Current) × (s.current ≡ Some x) × (x.key ≡ Under u c z)
 IsNodeWord e s d m z (PeerRecord.RecReply u c (RecState.Done r)) =
     (g : Aaid → Bool) → ((v : Aaid) → is_committed_in v d ≡ true → g v ≡ true) → ((v : Aaid) → commits_tree v m.rec ≡ true → g v ≡ true)
-    → (g u ≡ true) ⊎ (e ≡ Event.Arrive z (PeerRecord.RecCommit u c)) × (answer (known_of (named_by_key s (branch_key u c)) c) Question.RecCommit ≡ Some (RecState.Done r))
+    → (g u ≡ true) ⊎ (e ≡ Event.Arrive z (PeerRecord.RecCommit u c)) × (recovery_answer (known_of (named_by_key s (branch_key u c)) c) Question.RecCommit ≡ Some (RecState.Done r))
 IsNodeWord e s d m z (PeerRecord.RecReply u c RecState.Unknown) =
-    (e ≡ Event.Arrive z (PeerRecord.RecReady u c)) × (answer (known_of (named_by_branch s u c) c) Question.RecReady ≡ Some RecState.Unknown)
+    (e ≡ Event.Arrive z (PeerRecord.RecReady u c)) × (recovery_answer (known_of (named_by_branch s u c) c) Question.RecReady ≡ Some RecState.Unknown)
 IsNodeWord e s d m z r = Unit {0}

@@ -21,7 +21,7 @@ use Rattle.tp_model.specs.Parts.{Who, Origin, Event, Out, Entry, Arc, Branch, Un
 use Rattle.tp_model.specs.Dialogues.{is_ready, is_committing, is_rolling}
 use Rattle.tp_model.specs.Transactions.{Row, Transaction, aaid_of, node_key, row_holds, find_row, find_row_by_id, is_open_in_commit}
 use Rattle.tp_model.specs.Arrivals.{find_branch_by_id}
-use Rattle.tp_model.specs.Node.{Move, move, seen, seen_row, seen_rows, fresh_current, passage, passed, restarted, turned, transact}
+use Rattle.tp_model.specs.Node.{Move, move, seen, seen_row, seen_rows, fresh_current, passage, passed, turned, transact, started_next}
 use Rattle.tp_model.specs.Events.{action, recovered, named_again, recovered_current}
 use Rattle.tp_model.specs.History.{digest, records, with_rec}
 use Rattle.tp_model.specs.Outcomes.{is_now, last_decision, decision}
@@ -292,9 +292,9 @@ adds_asked who k Event.Crash c f arcs tell a = absurd a
 heur_rec : (who : Who) (d : Digest) (c : Current) (u : Outcome) → d.current ≡ Some c → (transact who (TxEvent.Heur u) d).rec ≡ Some (LogRec.Heuristic who.node (node_key c.key) u)
 unfolding transact
 heur_rec who d c u now =
-    ap (λ (v : Option Current). (elim v as (λ _. Move) [ None ↦ move [] d | Some x ↦ restarted who (passed who (TxEvent.Heur u) d x) (turned who (TxEvent.Heur u) d x) ]).rec) now ∙ on c.phase
+    ap (λ (v : Option Current). (elim v as (λ _. Move) [ None ↦ move [] d | Some x ↦ started_next who (passed who (TxEvent.Heur u) d x) (turned who (TxEvent.Heur u) d x) ]).rec) now ∙ on c.phase
   where
-    on : (p : Phase) → (restarted who (passage false p p) (turned who (TxEvent.Heur u) d c)).rec ≡ Some (LogRec.Heuristic who.node (node_key c.key) u)
+    on : (p : Phase) → (started_next who (passage false p p) (turned who (TxEvent.Heur u) d c)).rec ≡ Some (LogRec.Heuristic who.node (node_key c.key) u)
     on Phase.Nil = refl
     on Phase.Active = refl
     on Phase.Ready = refl

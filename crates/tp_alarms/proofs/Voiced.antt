@@ -13,7 +13,7 @@ use Rattle.tp_records.specs.declared.peer.PeerRecord.{PeerRecord}
 use Rattle.tp_records.specs.declared.peer.RecState.{RecState}
 use Rattle.tp_model.specs.Transactions.{aaid_of, node_key, superior_of}
 use Rattle.tp_model.specs.Parts.{Under, Root, Key, Who, Origin, Event, Entry, Current, Digest}
-use Rattle.tp_model.specs.Recovery.{is_commit, answer, find_kept}
+use Rattle.tp_model.specs.Recovery.{is_commit, find_kept, recovery_answer}
 use Rattle.tp_model.specs.History.{digest}
 use Rattle.tp_model.specs.Legal.{IsGrown}
 use Rattle.tp_model.specs.Promises.{has_told_in}
@@ -90,22 +90,22 @@ asked_from who d a t b ok = go (is_other (kept_superior (named_by_key d (branch_
     go false i = refl
     go true i = absurd (grind (arith, ok, i))
 
-none_kept : (k : Known) (r : Report) → k.kept ≡ None → is_report_none r ≡ false → answer k Question.RecCommit ≡ Some (RecState.Done r) → ⊥
-unfolding answer
+none_kept : (k : Known) (r : Report) → k.kept ≡ None → is_report_none r ≡ false → recovery_answer k Question.RecCommit ≡ Some (RecState.Done r) → ⊥
+unfolding recovery_answer
 none_kept k r n some x = absurd (grind (arith, n, some, x))
 
-side_kept : (k : Known) (s : Outcome) (q r : Report) → k.kept ≡ Some (s, q) → answer k Question.RecCommit ≡ Some (RecState.Done r) → is_commit s ≡ true
-unfolding answer
+side_kept : (k : Known) (s : Outcome) (q r : Report) → k.kept ≡ Some (s, q) → recovery_answer k Question.RecCommit ≡ Some (RecState.Done r) → is_commit s ≡ true
+unfolding recovery_answer
 side_kept k s q r i x = grind (arith, i, x)
 
-report_kept : (k : Known) (s : Outcome) (q r : Report) → k.kept ≡ Some (s, q) → answer k Question.RecCommit ≡ Some (RecState.Done r) → q ≡ r
-unfolding answer
+report_kept : (k : Known) (s : Outcome) (q r : Report) → k.kept ≡ Some (s, q) → recovery_answer k Question.RecCommit ≡ Some (RecState.Done r) → q ≡ r
+unfolding recovery_answer
 report_kept k s q r i x = grind (arith, i, x)
 
 same_addr : (a b : Addr) → is_other (Some a) b ≡ false → a ≡ b
 same_addr a b h = addrs_equal a b (grind (arith, h))
 
-none_with : (d : Digest) (t : Aaid) (b : BranchId) (r : Report) → IsLate d → answer (known_of (named_by_key d (branch_key t b)) b) Question.RecCommit ≡ Some (RecState.Done r) → current_with d (branch_key t b) ≡ None
+none_with : (d : Digest) (t : Aaid) (b : BranchId) (r : Report) → IsLate d → recovery_answer (known_of (named_by_key d (branch_key t b)) b) Question.RecCommit ≡ Some (RecState.Done r) → current_with d (branch_key t b) ≡ None
 none_with d t b r late x = go d.current refl
   where
     go : (v : Option Current) → d.current ≡ v → current_with d (branch_key t b) ≡ None
@@ -117,7 +117,7 @@ none_with d t b r late x = go d.current refl
         on true m = absurd (key_done d t b r c late i (keys_equal (node_key c.key) (branch_key t b) m) x)
 
 answered_fit : (v : Voices) (who : Who) (d : Digest) (t : Aaid) (a : Addr) (b : BranchId) (r : Report) → IsLate d → kept_fit v t d.kept ≡ true → refused_arrival who d a (PeerRecord.RecCommit t b) ≡ None
-    → answer (known_of (named_by_key d (branch_key t b)) b) Question.RecCommit ≡ Some (RecState.Done r) → is_report_none r ≡ false → (v.vouched r && v.above a) ≡ true
+    → recovery_answer (known_of (named_by_key d (branch_key t b)) b) Question.RecCommit ≡ Some (RecState.Done r) → is_report_none r ≡ false → (v.vouched r && v.above a) ≡ true
 answered_fit v who d t a b r late fit ok x some = go (find_kept d.kept (branch_key t b)) refl
   where
     n : Known
@@ -197,10 +197,10 @@ voiced_entry o up e h t empty legal once old = every_move o.who d e.event (IsVoi
     took : (a : Addr) (b : BranchId) (r : Report) → e.event ≡ Event.Arrive a (PeerRecord.RecReply t b (RecState.Done r)) → is_report_none r ≡ false → v.vouched r ≡ true
     took a b r is some = let k : is_reply r t e.event ≡ true = ap (is_reply r t) is ∙ both_true (is_aaid t t) (same_report r r) (aaid_same t) (report_self r) in rw k (grind arith)
 
-    answers : (a : Addr) (b : BranchId) (r : Report) → e.event ≡ Event.Arrive a (PeerRecord.RecCommit t b) → answer (known_of (named_by_key s (branch_key t b)) b) Question.RecCommit ≡ Some (RecState.Done r) → is_report_none r ≡ false → (v.vouched r && v.above a) ≡ true
+    answers : (a : Addr) (b : BranchId) (r : Report) → e.event ≡ Event.Arrive a (PeerRecord.RecCommit t b) → recovery_answer (known_of (named_by_key s (branch_key t b)) b) Question.RecCommit ≡ Some (RecState.Done r) → is_report_none r ≡ false → (v.vouched r && v.above a) ≡ true
     answers a b r is x some =
         answered_fit v o.who d t a b r (late_law o up h legal.3) wide (plain_arrival o.who d a (PeerRecord.RecCommit t b) (subst (λ (f : Event). refusal o.who d f ≡ None) is legal.0))
-        (sym (ap (λ (f : Event). answer (known_of (named_by_key (prelude o.who d f) (branch_key t b)) b) Question.RecCommit) is) ∙ x) some
+        (sym (ap (λ (f : Event). recovery_answer (known_of (named_by_key (prelude o.who d f) (branch_key t b)) b) Question.RecCommit) is) ∙ x) some
 
     bring : Brings v t e.event s
     bring = record { keys = λ c at. key_fit o.who v up (λ a i. i) c.key ((placed_event o up e h 0 empty legal).keyed c at); takes = took; answers = answers }

@@ -17,7 +17,7 @@ use Rattle.tp_logrec.specs.declared.record.LogRec.{LogRec}
 use Rattle.tp_model.specs.Transactions.{aaid_of, Transaction, Turn, transacted}
 use Rattle.tp_model.specs.declared.transaction.TxEvent.{TxEvent}
 use Rattle.tp_model.specs.declared.transaction.TxOut.{TxOut}
-use Rattle.tp_model.specs.Recovery.{is_commit, settled, answer, find_owed, find_kept, without_owed, is_nothing_owed, rec_of_done, put_kept, without_kept, kept_by, kept_after, not_forgotten}
+use Rattle.tp_model.specs.Recovery.{is_commit, settled, find_owed, find_kept, without_owed, is_nothing_owed, rec_of_done, put_kept, without_kept, kept_by, kept_after, not_forgotten, recovery_answer}
 use Rattle.tp_model.specs.Parts.{Who, Event, Current, Digest, Out, Arc}
 use Rattle.tp_model.specs.Node.{Move, move, seen, passage, turned, followed, next_mark, is_leaving, entered, may_begin_on, begin_on, Passage, keep}
 use Rattle.tp_model.specs.declared.arc.Side.{Side}
@@ -58,7 +58,7 @@ IsVoicedMove v t s d m = IsTold v t s m.outs → kept_fit v t d.kept ≡ true �
 pub record Brings (v : Voices) (t : Aaid) (e : Event) (s : Digest) : Type 0 where
   pub keys : (c : Current) → s.current ≡ Some c → is_key_fit v c.key ≡ true
   pub takes : (a : Addr) (b : BranchId) (r : Report) → e ≡ Event.Arrive a (PeerRecord.RecReply t b (RecState.Done r)) → is_report_none r ≡ false → v.vouched r ≡ true
-  pub answers : (a : Addr) (b : BranchId) (r : Report) → e ≡ Event.Arrive a (PeerRecord.RecCommit t b) → answer (known_of (named_by_key s (branch_key t b)) b) Question.RecCommit ≡ Some (RecState.Done r) → is_report_none r ≡ false → (v.vouched r && v.above a) ≡ true
+  pub answers : (a : Addr) (b : BranchId) (r : Report) → e ≡ Event.Arrive a (PeerRecord.RecCommit t b) → recovery_answer (known_of (named_by_key s (branch_key t b)) b) Question.RecCommit ≡ Some (RecState.Done r) → is_report_none r ≡ false → (v.vouched r && v.above a) ≡ true
 
 -- ---- the list of kept transactions
 
@@ -194,7 +194,7 @@ said_fits v t e s d bring old z u b r (inr i) = go (is_report_none r) refl (is_a
     go false m true k =
         let tree : u ≡ t = sym (aaids_equal t u k) in
         or_last (is_report_none r) (not (is_aaid t u)) (v.vouched r && v.above z)
-        (bring.answers z b r (i.0 ∙ ap (λ (y : Aaid). Event.Arrive z (PeerRecord.RecCommit y b)) tree) (ap (λ (y : Aaid). answer (known_of (named_by_key s (branch_key y b)) b) Question.RecCommit) (sym tree) ∙ i.1) m)
+        (bring.answers z b r (i.0 ∙ ap (λ (y : Aaid). Event.Arrive z (PeerRecord.RecCommit y b)) tree) (ap (λ (y : Aaid). recovery_answer (known_of (named_by_key s (branch_key y b)) b) Question.RecCommit) (sym tree) ∙ i.1) m)
 
 turns : (who : Who) (v : Voices) (t : Aaid) (e : Event) (f : TxEvent) (s d : Digest) (c : Current) → Brings v t e s → s.current ≡ Some c → IsPut f (seen who d.arcs c) → IsVoicedMove v t s d (turned who f d c)
 turns who v t e f s d c bring at put told old = record {

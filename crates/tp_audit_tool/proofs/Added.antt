@@ -1,7 +1,8 @@
 -- What a log in order is read as, beside the records that a started journal keeps.
 use Rattle.std.proofs.Common.{◌≡◌, ℕ, ◌+◌, Bool, inl, inr, Option, List, [], ◌∷◌, length, refl, sym, ap, subst}
 use Rattle.tp_logrec.specs.declared.record.LogRec.{LogRec}
-use Rattle.tp_model.specs.LogCommands.{Opened, Is_foreign, Has, opened, records_of}
+use Rattle.tp_model.specs.LogCommands.{Opened, Is_foreign, Has, opened}
+use Rattle.tp_logrec.specs.LogText.{recs}
 use Rattle.tp_journal.specs.Records.{receipts_from, first_place, text}
 use Rattle.tp_streams.specs.declared.stop.Stop.{Stop}
 use Rattle.tp_log_tools.specs.Readings.{as_placed}
@@ -20,7 +21,7 @@ refused_memory (Is_foreign at) = inr refl
 refused_memory (Has version ps) = refl
 
 -- the records of a journal, as they are placed
-pub records_placed : (wide : Bool) (rs : List LogRec) (n : ℕ) → records_of (as_placed (receipts_from n wide rs)) ≡ rs
+pub records_placed : (wide : Bool) (rs : List LogRec) (n : ℕ) → recs (as_placed (receipts_from n wide rs)) ≡ rs
 records_placed wide [] n = refl
 records_placed wide (r ∷ rs) n = ap (λ qs. r ∷ qs) (records_placed wide rs (n + 3 + length (text wide r)))
 

@@ -7,7 +7,8 @@ use Rattle.tp_names.specs.Places.{AreBytes}
 use Rattle.tp_log_tools.specs.Readings.{IsFile}
 use Rattle.tp_model.specs.declared.verdict.What.{What}
 use Rattle.tp_model.specs.declared.verdict.Why.{Why}
-use Rattle.tp_model.specs.LogCommands.{Opened, Is_foreign, Has, opened, records_of}
+use Rattle.tp_model.specs.LogCommands.{Opened, Is_foreign, Has, opened}
+use Rattle.tp_logrec.specs.LogText.{recs}
 use Rattle.tp_streams.specs.declared.stop.Stop.{Stop}
 use Rattle.tp_audit.specs.Audits.{IsAuditOf, is_added, with_log}
 use Rattle.tp_audit.specs.Entries.{SiteLog}
@@ -35,13 +36,13 @@ close_ok : (p : Progress) (old new : Hearing) (o : OpenLog) (r : Opened) → IsA
     → Adds p.logs o.site r new.audit → (q : Progress) × (read_behind p o r ≡ Ok q) × IsAt q new
 close_ok p old new o (Is_foreign at) is now_open none sites size adds = absurd adds
 close_ok p old new o (Has version ps) is now_open none sites size adds = (
-  record { logs = with_log p.logs o.site (records_of ps); pending = None; size = p.size },
+  record { logs = with_log p.logs o.site (recs ps); pending = None; size = p.size },
   refl,
   record {
     audit = adds;
     pending = none;
     size = size ∙ is.size;
-    sites = (let longer = one_longer p.logs (record { site = o.site; records = records_of ps }) in let before : old.sites ≡ length p.logs + 1 = is.sites ∙ ap (λ c. length p.logs + count_of c) now_open in omega (arith, longer, before, sites));
+    sites = (let longer = one_longer p.logs (record { site = o.site; records = recs ps }) in let before : old.sites ≡ length p.logs + 1 = is.sites ∙ ap (λ c. length p.logs + count_of c) now_open in omega (arith, longer, before, sites));
     fresh = refl;
     bytes = tt;
     within = omega arith;

@@ -1,6 +1,7 @@
 -- The log of one site, by what its bytes are read as.
 use Rattle.std.specs.Prelude.{ℕ, ◌≡◌, ◌⊎◌, List}
-use Rattle.tp_model.specs.LogCommands.{Opened, Is_foreign, Has, records_of}
+use Rattle.tp_model.specs.LogCommands.{Opened, Is_foreign, Has}
+use Rattle.tp_logrec.specs.LogText.{recs}
 use Rattle.tp_streams.specs.declared.stop.Stop.{Stop}
 use Rattle.tp_audit.specs.Audits.{Audit, IsAuditOf, with_log}
 use Rattle.tp_audit.specs.Entries.{SiteLog}
@@ -8,7 +9,7 @@ use Rattle.tp_audit.specs.Entries.{SiteLog}
 -- its records were added behind these logs
 abbrev pub Adds : List SiteLog → List ℕ → Opened → Audit → Type 0
 Adds logs site (Is_foreign at) new = ⊥
-Adds logs site (Has version ps) new = IsAuditOf (with_log logs site (records_of ps)) new
+Adds logs site (Has version ps) new = IsAuditOf (with_log logs site (recs ps)) new
 
 -- they are foreign, or there was no memory
 abbrev pub IsRefused : Opened → Stop → Type 0

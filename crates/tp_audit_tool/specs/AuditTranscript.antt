@@ -4,7 +4,8 @@ use Rattle.std.specs.Prelude.{ℕ, suc, ◌+◌, nat_le, nat_lt, true, false, Op
 use Rattle.tp_framing.specs.Frames.{Stream, Rest, stream}
 use Rattle.tp_model.specs.declared.verdict.What.{What}
 use Rattle.tp_model.specs.declared.verdict.Why.{Why}
-use Rattle.tp_model.specs.LogCommands.{Opened, Is_foreign, Has, opened, records_of}
+use Rattle.tp_model.specs.LogCommands.{Opened, Is_foreign, Has, opened}
+use Rattle.tp_logrec.specs.LogText.{recs}
 use Rattle.tp_model.specs.NodeTranscript.{rest_ending}
 use Rattle.tp_model.specs.Transcript.{Ending, Done, Bad_input, At_limit}
 use Rattle.tp_model.specs.Words.{decimal, words, aaid_word, key_words}
@@ -33,7 +34,7 @@ nothing_heard = record { logs = []; pending = None; size = 0 }
 -- a log that is at its end is read: it is foreign, or it stands behind those before it
 abbrev pub read_behind : Progress → OpenLog → Opened → Result Progress Stop
 read_behind p o (Is_foreign at) = Err (Stop.Foreign at)
-read_behind p o (Has version ps) = Ok (record { logs = with_log p.logs o.site (records_of ps); pending = None; size = p.size })
+read_behind p o (Has version ps) = Ok (record { logs = with_log p.logs o.site (recs ps); pending = None; size = p.size })
 
 abbrev pub closed : Progress → Result Progress Stop
 closed p = elim p.pending [ None ↦ Ok p | Some o ↦ read_behind p o (opened o.bytes) ]

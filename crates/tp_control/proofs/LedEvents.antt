@@ -19,7 +19,7 @@ use Rattle.tp_model.specs.Links.{is_live, with_one_taken}
 use Rattle.tp_model.specs.Dialogues.{is_nil, is_active, is_late, is_rolling, is_polarized, is_chained, Ask_grant, Ask_handshake_grant, Sight, Acts, Nothing_happens, Out_of_phase, Heard, Hear_grant, Hear_handshake_grant, said, heard, woken, cleared, fresh_dialogue, refused_on_arc}
 use Rattle.tp_model.specs.Arcs.{find_arc, link_of, link_with, put_arc, with_dialogue, with_link}
 use Rattle.tp_model.specs.Transactions.{is_under_at, row_holds, situation_of, sight_of_tx, transacted}
-use Rattle.tp_model.specs.Node.{Move, move, followed, perform, next_mark, is_superior, superior_arc, phase_of, seen_rows, seen, idle_situation, situation_at, is_leaving, is_over, passed, turned, restarted, transact, try_start, remaining}
+use Rattle.tp_model.specs.Node.{Move, move, followed, perform, next_mark, is_superior, superior_arc, phase_of, seen_rows, seen, idle_situation, situation_at, is_leaving, is_over, passed, turned, transact, try_start, remaining, started_next}
 use Rattle.tp_model.specs.Requests.{refused_request}
 use Rattle.tp_model.specs.Arrivals.{sight_of, sight_at, take_record, is_response, woken_by, take_on, refused_arrival}
 use Rattle.tp_model.specs.Questions.{said_to, is_at}
@@ -702,8 +702,8 @@ led_transact who w v n p sent k r answer late under below sep le shut old = go v
         let words : said_to p (followed a (try_start who)).outs ≡ said_to p a.outs ++ said_to p (try_start who a.next).outs = said_append p a.outs (try_start who a.next).outs in
         subst (λ (xs : List DialogueRecord). IsLed p (try_start who a.next).next xs k r) (append_assoc sent (said_to p a.outs) (said_to p (try_start who a.next).outs) ∙ ap (λ (xs : List DialogueRecord). sent ++ xs) (sym words)) second
 
-    go : (o : Option Current) → v.current ≡ o → is_live (link_with (elim o as (λ _. Move) [ None ↦ move [] v | Some c ↦ restarted who (passed who f v c) (turned who f v c) ]).next.arcs p) ≡ true
-        → IsLed p (elim o as (λ _. Move) [ None ↦ move [] v | Some c ↦ restarted who (passed who f v c) (turned who f v c) ]).next (sent ++ said_to p (elim o as (λ _. Move) [ None ↦ move [] v | Some c ↦ restarted who (passed who f v c) (turned who f v c) ]).outs) k r
+    go : (o : Option Current) → v.current ≡ o → is_live (link_with (elim o as (λ _. Move) [ None ↦ move [] v | Some c ↦ started_next who (passed who f v c) (turned who f v c) ]).next.arcs p) ≡ true
+        → IsLed p (elim o as (λ _. Move) [ None ↦ move [] v | Some c ↦ started_next who (passed who f v c) (turned who f v c) ]).next (sent ++ said_to p (elim o as (λ _. Move) [ None ↦ move [] v | Some c ↦ started_next who (passed who f v c) (turned who f v c) ]).outs) k r
     go None i live = subst (λ (xs : List DialogueRecord). IsLed p v xs k r) (sym (append-nil sent)) old
     go (Some c) i live = over c i (is_over (passed who f v c)) refl live
 

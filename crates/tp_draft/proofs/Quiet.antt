@@ -17,7 +17,7 @@ use Rattle.tp_model.specs.Arcs.{performed}
 use Rattle.tp_model.specs.Dialogues.{first}
 use Rattle.tp_model.specs.Transactions.{Row, Transaction, retried, ask_each, transacted, Turn}
 use Rattle.tp_model.specs.Recovery.{owed, ask_owed, tell_superior, settled}
-use Rattle.tp_model.specs.Node.{Move, move, followed, Passage, passage, Stays, passed, turned, restarted, transact, played, entered, seen}
+use Rattle.tp_model.specs.Node.{Move, move, followed, Passage, passage, Stays, passed, turned, transact, played, entered, seen, started_next}
 use Rattle.tp_model.specs.Events.{action, refusal, verdict, retry, retry_each, purge, needs_numbers, some_past_numbers, says_nothing, is_no_node, refused_plainly, unless_missing, verdict_within, refusal_in}
 use Rattle.tp_model.proofs.Verdicts.{plainly_not, plainly_by}
 use Rattle.tp_node.specs.declared.event.NodeEvent.{NodeEvent}
@@ -119,7 +119,7 @@ stays_put Phase.Committing = refl
 stays_put Phase.Rolling = refl
 
 abbrev quiet_move : Who → TxEvent → Digest → Option Current → Move
-quiet_move who e d c = elim c as (λ _. Move) [ None ↦ move [] d | Some x ↦ restarted who (passed who e d x) (turned who e d x) ]
+quiet_move who e d c = elim c as (λ _. Move) [ None ↦ move [] d | Some x ↦ started_next who (passed who e d x) (turned who e d x) ]
 
 transact_quiet : (who : Who) (e : TxEvent) (d : Digest) → ((c : Current) → passed who e d c ≡ Stays) → ((c : Current) → are_plain (transacted e (seen who d.arcs c)).outs ≡ true) → d.drawn ≤ greatest → needs_numbers (transact who e d) ≡ false
 unfolding transact
@@ -127,7 +127,7 @@ transact_quiet who e d stays plain h = go d.current
   where
     go : (c : Option Current) → needs_numbers (quiet_move who e d c) ≡ false
     go None = within d.drawn h
-    go (Some c) = ap (λ (w : Passage). needs_numbers (restarted who w (turned who e d c))) (stays c) ∙ turned_quiet who e d c (stays c) (plain c) h
+    go (Some c) = ap (λ (w : Passage). needs_numbers (started_next who w (turned who e d c))) (stays c) ∙ turned_quiet who e d c (stays c) (plain c) h
 
 each_quiet : (ks : List Kept) (d : Digest) → d.drawn ≤ greatest → needs_numbers (retry_each ks d) ≡ false
 each_quiet [] d h = within d.drawn h

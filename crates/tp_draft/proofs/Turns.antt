@@ -11,7 +11,7 @@ use Rattle.tp_model.specs.Recovery.{kept_after}
 use Rattle.tp_commit.specs.Branch.{standing, standing_rows}
 use Rattle.std.specs.Option.{option_map}
 use Rattle.tp_model.specs.declared.transaction.TxOut.{TxOut}
-use Rattle.tp_model.specs.Node.{Move, move, followed, perform, branches_of, seen, remaining, turned, passed, restarted, transact, try_start, is_over, Passage as PassageValue, committed_arcs, grants, entered, played, Stays, Enters, Falls, Falls_at_once, Commits, Rolls_back, Leaves, perform_commit}
+use Rattle.tp_model.specs.Node.{Move, move, followed, perform, branches_of, seen, remaining, turned, passed, transact, try_start, is_over, Passage as PassageValue, committed_arcs, grants, entered, played, Stays, Enters, Falls, Falls_at_once, Commits, Rolls_back, Leaves, perform_commit, started_next}
 use Rattle.tp_model.specs.Arcs.{performed}
 use Rattle.tp_node.specs.declared.halt.Halt.{Halt}
 use Rattle.tp_node_parts.specs.declared.arc_step.ArcStep.{ArcStep}
@@ -175,7 +175,7 @@ unfolding transact
 transacts_none a e h = go a.move.next.current refl h
   where
     go : (o : Option Current) → a.move.next.current ≡ o → option_map (seen a.who a.move.next.arcs) o ≡ None → transact a.who e a.move.next ≡ move [] a.move.next
-    go None f g = ap (λ (o : Option Current). elim o as (λ _. Move) [ None ↦ move [] a.move.next | Some c ↦ restarted a.who (passed a.who e a.move.next c) (turned a.who e a.move.next c) ]) f
+    go None f g = ap (λ (o : Option Current). elim o as (λ _. Move) [ None ↦ move [] a.move.next | Some c ↦ started_next a.who (passed a.who e a.move.next c) (turned a.who e a.move.next c) ]) f
     go (Some c) f g = absurd (let clash : Some (seen a.who a.move.next.arcs c) ≡ None = g in cc)
 
 pub transacts : (a : Draft) (e : TxEvent) (t : Transaction) → option_map (seen a.who a.move.next.arcs) a.move.next.current ≡ Some t
@@ -194,7 +194,7 @@ transacts a e t h = go a.move.next.current refl h
     go None f g = absurd (let clash : (let o : Option Transaction = None in o) ≡ Some t = g in cc)
     go (Some c) f g =
         let same : seen a.who a.move.next.arcs c ≡ t = ap (λ (o : Option Transaction). elim o as (λ _. Transaction) [ None ↦ t | Some x ↦ x ]) g in
-        ap (λ (o : Option Current). elim o as (λ _. Move) [ None ↦ move [] a.move.next | Some x ↦ restarted a.who (passed a.who e a.move.next x) (turned a.who e a.move.next x) ]) f
+        ap (λ (o : Option Current). elim o as (λ _. Move) [ None ↦ move [] a.move.next | Some x ↦ started_next a.who (passed a.who e a.move.next x) (turned a.who e a.move.next x) ]) f
         ∙ ap (λ (m : Move). cond (is_over (passed a.who e a.move.next c)) (followed m (try_start a.who)) m) (turned_by a.who e a.move.next c)
         ∙ ap by_seen same
 
@@ -219,6 +219,6 @@ transact_rises e who d = go d.current refl
     over c true = start_rises who (turned who e d c).next
     over c false = omega arith
 
-    go : (o : Option Current) → d.current ≡ o → d.drawn ≤ (elim o as (λ _. Move) [ None ↦ move [] d | Some c ↦ restarted who (passed who e d c) (turned who e d c) ]).next.drawn
+    go : (o : Option Current) → d.current ≡ o → d.drawn ≤ (elim o as (λ _. Move) [ None ↦ move [] d | Some c ↦ started_next who (passed who e d c) (turned who e d c) ]).next.drawn
     go None i = omega arith
     go (Some c) i = over c (is_over (passed who e d c))

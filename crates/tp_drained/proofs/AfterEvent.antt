@@ -16,7 +16,7 @@ use Rattle.tp_model.specs.Dialogues.{is_nil}
 use Rattle.tp_model.specs.Arcs.{find_arc}
 use Rattle.tp_model.specs.Transactions.{Transaction, aaid_of, row_holds, transacted}
 use Rattle.tp_model.specs.Arrivals.{broken_pair}
-use Rattle.tp_model.specs.Node.{Move, move, followed, perform, next_mark, seen, remaining, passage, is_leaving, is_over, may_begin_on, begin_on, try_start, restarted, passed, turned, transact}
+use Rattle.tp_model.specs.Node.{Move, move, followed, perform, next_mark, seen, remaining, passage, is_leaving, is_over, may_begin_on, begin_on, try_start, passed, turned, transact, started_next}
 use Rattle.tp_model.specs.Events.{retry_each}
 use Rattle.tp_model.specs.History.{digest}
 use Rattle.tp_model.specs.Outcomes.{is_now}
@@ -63,7 +63,7 @@ remains_none t n = rw (n, remaining) refl
 transact_current : (who : Who) (f : TxEvent) (g : Digest) (c : Current) (t : Aaid) (u : Current) → g.current ≡ Some c → is_old who g t.mark ≡ true → (transact who f g).next.current ≡ Some u → is_now t (Some u) ≡ true
     → remaining (transacted f (seen who g.arcs c)).next ≡ Some u
 unfolding transact
-transact_current who f g c t u i old = subst (λ (o : Option Current). (elim o as (λ _. Move) [ None ↦ move [] g | Some x ↦ restarted who (passed who f g x) (turned who f g x) ]).next.current ≡ Some u → is_now t (Some u) ≡ true → remaining (transacted f (seen who g.arcs c)).next ≡ Some u) (sym i) (go (is_over (passed who f g c)) refl)
+transact_current who f g c t u i old = subst (λ (o : Option Current). (elim o as (λ _. Move) [ None ↦ move [] g | Some x ↦ started_next who (passed who f g x) (turned who f g x) ]).next.current ≡ Some u → is_now t (Some u) ≡ true → remaining (transacted f (seen who g.arcs c)).next ≡ Some u) (sym i) (go (is_over (passed who f g c)) refl)
   where
     go : (b : Bool) → is_over (passed who f g c) ≡ b → (if b then followed (turned who f g c) (try_start who) else turned who f g c).next.current ≡ Some u → is_now t (Some u) ≡ true → remaining (transacted f (seen who g.arcs c)).next ≡ Some u
     go false j is now = is
@@ -75,7 +75,7 @@ transact_current who f g c t u i old = subst (λ (o : Option Current). (elim o a
 pub transact_forward : (who : Who) (f : TxEvent) (g : Digest) (c : Current) → g.current ≡ Some c → is_over (passed who f g c) ≡ false → (transact who f g).next.current ≡ remaining (transacted f (seen who g.arcs c)).next
 unfolding transact
 transact_forward who f g c i over =
-    ap (λ (o : Option Current). (elim o as (λ _. Move) [ None ↦ move [] g | Some x ↦ restarted who (passed who f g x) (turned who f g x) ]).next.current) i
+    ap (λ (o : Option Current). (elim o as (λ _. Move) [ None ↦ move [] g | Some x ↦ started_next who (passed who f g x) (turned who f g x) ]).next.current) i
     ∙ ap (λ (b : Bool). (if b then followed (turned who f g c) (try_start who) else turned who f g c).next.current) over
 
 pub retry_current : (ks : List Kept) (d : Digest) → (retry_each ks d).next.current ≡ d.current

@@ -16,7 +16,7 @@ use Rattle.tp_model.specs.Dialogues.{Sight, Acts, Nothing_happens, Out_of_phase}
 use Rattle.tp_model.specs.Arcs.{find_arc, with_link}
 use Rattle.tp_model.specs.Transactions.{Transaction, aaid_of, transacted}
 use Rattle.tp_model.specs.Requests.{abort}
-use Rattle.tp_model.specs.Node.{Move, move, followed, perform, seen, situation_at, remaining, is_leaving, is_over, begin_on, try_start, restarted, passed, turned, transact}
+use Rattle.tp_model.specs.Node.{Move, move, followed, perform, seen, situation_at, remaining, is_leaving, is_over, begin_on, try_start, passed, turned, transact, started_next}
 use Rattle.tp_model.specs.Arrivals.{broken_pair, break_off, lose, take_abort, take_record, take_on, woken_by, sight_at}
 use Rattle.tp_model.specs.Events.{recovered_current, after_crash, action}
 use Rattle.tp_model.specs.History.{digest}
@@ -59,7 +59,7 @@ next_alive t who f g c i other put = subst (λ (o : Option Current). is_now t (a
     a = (transacted f (seen who g.arcs c)).next
 
     after : Option Current → Move
-    after o = elim o as (λ _. Move) [ None ↦ move [] g | Some x ↦ restarted who (passed who f g x) (turned who f g x) ]
+    after o = elim o as (λ _. Move) [ None ↦ move [] g | Some x ↦ started_next who (passed who f g x) (turned who f g x) ]
 
     same : (v : Option Current) → remaining a ≡ v → is_now t v ≡ true → ⊥
     same None j n = cc (n)

@@ -26,9 +26,9 @@ use Rattle.tp_model.specs.Dialogues.{is_nil, is_active, is_chained, fresh_dialog
 use Rattle.tp_model.specs.Arcs.{find_arc, link_with, is_live_with_peer, put_arc, with_dialogue, with_link, performed}
 use Rattle.tp_model.specs.Transactions.{row_holds, is_under_at, situation_of, aaid_of}
 use Rattle.tp_names.specs.declared.children.Child.{Child}
-use Rattle.tp_model.specs.Recovery.{owed, ask_owed, tell_superior, settled, noted, answer, find_kept, with_forget, forget_to}
+use Rattle.tp_model.specs.Recovery.{owed, ask_owed, tell_superior, settled, noted, find_kept, with_forget, forget_to, recovery_answer}
 use Rattle.tp_model.specs.Requests.{has_branch_at, refused_request, call, accept, reject, begin_transaction, do_request}
-use Rattle.tp_model.specs.Node.{Move, move, followed, perform, next_mark, with_mark_drawn, superior_arc, may_root, phase_of, has_asked, seen_rows, situation_at, start_root, has_none, chained_peers, may_begin_on, begin_on, begin_each, begin_chained, try_start, restarted, passed, turned, fresh_current, transact, keep}
+use Rattle.tp_model.specs.Node.{Move, move, followed, perform, next_mark, with_mark_drawn, superior_arc, may_root, phase_of, has_asked, seen_rows, situation_at, start_root, has_none, chained_peers, may_begin_on, begin_on, begin_each, begin_chained, try_start, passed, turned, fresh_current, transact, keep, started_next}
 use Rattle.tp_model.specs.Arrivals.{Named, branch_key, named_by_key, named_by_branch, known_of, is_current_ready, sight_at, sight_of, is_response, take_begin, take_record, woken_by, take_on, take_accept, take_open, reply_to, take_order, take_forget, take_ready_reply, take_done_reply, do_arrival, refused_arrival}
 use Rattle.tp_model.specs.Events.{retry_each, retry, purge, action, refusal}
 use Rattle.tp_logrec.specs.declared.record.LogRec.{LogRec}
@@ -150,7 +150,7 @@ aside_none d m none quiet plain = record { alive = λ old c p is need. absurd (c
 
 pub no_transact : (who : Who) (f : TxEvent) (g : Digest) → g.current ≡ None → transact who f g ≡ move [] g
 unfolding transact
-no_transact who f g none = ap (λ (o : Option Current). elim o as (λ _. Move) [ None ↦ move [] g | Some c ↦ restarted who (passed who f g c) (turned who f g c) ]) none
+no_transact who f g none = ap (λ (o : Option Current). elim o as (λ _. Move) [ None ↦ move [] g | Some c ↦ started_next who (passed who f g c) (turned who f g c) ]) none
 
 aside_idle : (d g : Digest) (who : Who) (f : TxEvent) → g.current ≡ None → IsAside d (transact who f g)
 aside_idle d g who f none = subst (IsAside d) (sym (no_transact who f g none)) (aside_none d (move [] g) none refl refl)
@@ -566,8 +566,8 @@ order_aside who d from t b h = go (is_current_ready n) h
     n : Named
     n = named_by_key d (branch_key t b)
 
-    go : (v : Bool) → IsNone (if v then put TxEvent.Ordered d.arcs else None) d → IsAside d (if v then transact who TxEvent.Ordered d else reply_to from t b (answer (known_of n b) Question.RecCommit) d)
-    go false h = reply_to_aside from t b (answer (known_of n b) Question.RecCommit) d
+    go : (v : Bool) → IsNone (if v then put TxEvent.Ordered d.arcs else None) d → IsAside d (if v then transact who TxEvent.Ordered d else reply_to from t b (recovery_answer (known_of n b) Question.RecCommit) d)
+    go false h = reply_to_aside from t b (recovery_answer (known_of n b) Question.RecCommit) d
     go true h = idle_tx d d who TxEvent.Ordered _ refl h
 
 reply_aside : (who : Who) (d : Digest) (t : Aaid) (b : BranchId) (s : RecState) → IsNone (put_where_ready d t b (TxEvent.Reply b s)) d → IsAside d (take_ready_reply who t b s d)
@@ -636,7 +636,7 @@ peer_aside who d from (PeerRecord.ShutAssoc x None) calm ok apart h =
     aside_perform d d (TxOut.Close from.node ∷ TxOut.Tell (Indication.Rejected from.node) ∷ []) refl refl (same_arcs d) (λ c p is need live. rw (not_this d.arcs from.node p (opening_shut who d from x ok) live) refl)
 peer_aside who d from (PeerRecord.ShutAssoc x (Some y)) calm ok apart h = absurd (cc (calm))
 peer_aside who d from (PeerRecord.OnAssoc x y q r) calm ok apart h = on_aside who d from x y q r apart (on_live who d from x y q r ok) (no_abort from x y q r calm) h
-peer_aside who d from (PeerRecord.RecReady t b) calm ok apart h = reply_to_aside from t b (answer (known_of (named_by_branch d t b) b) Question.RecReady) d
+peer_aside who d from (PeerRecord.RecReady t b) calm ok apart h = reply_to_aside from t b (recovery_answer (known_of (named_by_branch d t b) b) Question.RecReady) d
 peer_aside who d from (PeerRecord.RecCommit t b) calm ok apart h = order_aside who d from t b h
 peer_aside who d from (PeerRecord.RecReply t b RecState.Commit) calm ok apart h = reply_aside who d t b RecState.Commit h
 peer_aside who d from (PeerRecord.RecReply t b (RecState.Done r)) calm ok apart h = done_aside who d from t b r h

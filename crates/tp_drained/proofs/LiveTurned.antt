@@ -11,7 +11,7 @@ use Rattle.tp_model.specs.Links.{is_live}
 use Rattle.tp_model.specs.Dialogues.{is_nil, is_active, is_rolling, begun_by, named_holder, Sight, Acts, Nothing_happens, Out_of_phase}
 use Rattle.tp_model.specs.Arcs.{find_arc, link_with, is_live_with_peer, with_dialogue, carried}
 use Rattle.tp_model.specs.Transactions.{Row, Transaction, Turn, turn, and_then, aaid_of, is_under_at, find_row, row_holds, with_row, settle, complete_rollback, end_branch, branch_left, takes_left, takes, sight_of_tx, fresh_rows, fresh_branch, transacted}
-use Rattle.tp_model.specs.Node.{Move, move, followed, next_mark, with_mark_drawn, phase_of, may_root, seen_rows, seen, branches_of, remaining, Passage, passage, is_leaving, is_over, may_begin_on, begin_on, begin_each, chained_peers, start_root, has_none, try_start, restarted, fresh_current, turned, passed, transact}
+use Rattle.tp_model.specs.Node.{Move, move, followed, next_mark, with_mark_drawn, phase_of, may_root, seen_rows, seen, branches_of, remaining, Passage, passage, is_leaving, is_over, may_begin_on, begin_on, begin_each, chained_peers, start_root, has_none, try_start, fresh_current, turned, passed, transact, started_next}
 use Rattle.tp_steps.specs.Turns.{row_dead}
 use Rattle.tp_steps.specs.Moves.{IsPut}
 use Rattle.tp_steps.specs.Facts.{stays, find_branch}
@@ -254,6 +254,6 @@ alive_transact who f d put spare above old = go d.current refl
     over c one true = alive_start who (turned who f d c).next one
     over c one false = one
 
-    go : (o : Option Current) → d.current ≡ o → IsAlive (elim o as (λ _. Move) [ None ↦ move [] d | Some c ↦ restarted who (passed who f d c) (turned who f d c) ]).next
+    go : (o : Option Current) → d.current ≡ o → IsAlive (elim o as (λ _. Move) [ None ↦ move [] d | Some c ↦ started_next who (passed who f d c) (turned who f d c) ]).next
     go None i = old
     go (Some c) i = over c (alive_turned who f d c i (put c i) (λ p. spare c p i) (λ p. above c p i) old) (is_over (passed who f d c))

@@ -18,7 +18,7 @@ use Rattle.tp_model.specs.Parts.{Who, Origin, Event, Out, Entry, Link, Live, Arc
 use Rattle.tp_model.specs.Dialogues.{is_nil, is_active, is_ready, Sight, Acts, Nothing_happens, Out_of_phase}
 use Rattle.tp_model.specs.Arcs.{find_arc, link_with, is_live_with_peer}
 use Rattle.tp_model.specs.Transactions.{Row, Transaction, Turn, aaid_of, is_under_at, find_row, row_holds, carry_up, end_up, leave, transacted}
-use Rattle.tp_model.specs.Node.{Move, move, perform, seen_row, seen_rows, seen, is_up_live, remaining, Passage, passage, is_leaving, is_over, entered, followed, try_start, restarted, passed, turned, transact}
+use Rattle.tp_model.specs.Node.{Move, move, perform, seen_row, seen_rows, seen, is_up_live, remaining, Passage, passage, is_leaving, is_over, entered, followed, try_start, passed, turned, transact, started_next}
 use Rattle.tp_model.specs.Arrivals.{sight_at, broken_pair}
 use Rattle.tp_model.specs.Events.{retry_each, action}
 use Rattle.tp_model.specs.History.{digest}
@@ -192,7 +192,7 @@ others_rec d e m = refl
 
 transact_rec : (who : Who) (f : TxEvent) (g : Digest) (c : Current) → g.current ≡ Some c → (transact who f g).rec ≡ (transacted f (seen who g.arcs c)).rec
 unfolding transact
-transact_rec who f g c i = ap (λ (o : Option Current). (elim o as (λ _. Move) [ None ↦ move [] g | Some x ↦ restarted who (passed who f g x) (turned who f g x) ]).rec) i ∙ go (is_over (passed who f g c))
+transact_rec who f g c i = ap (λ (o : Option Current). (elim o as (λ _. Move) [ None ↦ move [] g | Some x ↦ started_next who (passed who f g x) (turned who f g x) ]).rec) i ∙ go (is_over (passed who f g c))
   where
     go : (b : Bool) → (if b then followed (turned who f g c) (try_start who) else turned who f g c).rec ≡ (transacted f (seen who g.arcs c)).rec
     go true = later_none (turned who f g c).rec (try_start who (turned who f g c).next).rec (quiet_start who (turned who f g c).next)
@@ -212,7 +212,7 @@ others_say d e m p r h = h
 
 transact_says : (who : Who) (f : TxEvent) (g : Digest) (c : Current) (p : ℕ) (r : DialogueRecord) → g.current ≡ Some c → IsOneOf r (said_to p (turned who f g c).outs) → IsOneOf r (said_to p (transact who f g).outs)
 unfolding transact
-transact_says who f g c p r i h = subst (λ (o : Option Current). IsOneOf r (said_to p (elim o as (λ _. Move) [ None ↦ move [] g | Some x ↦ restarted who (passed who f g x) (turned who f g x) ]).outs)) (sym i) (go (is_over (passed who f g c)))
+transact_says who f g c p r i h = subst (λ (o : Option Current). IsOneOf r (said_to p (elim o as (λ _. Move) [ None ↦ move [] g | Some x ↦ started_next who (passed who f g x) (turned who f g x) ]).outs)) (sym i) (go (is_over (passed who f g c)))
   where
     go : (b : Bool) → IsOneOf r (said_to p (if b then followed (turned who f g c) (try_start who) else turned who f g c).outs)
     go true = said_first p r (turned who f g c).outs (try_start who (turned who f g c).next).outs h
@@ -382,7 +382,7 @@ others_tell d e m = refl
 
 transact_tells : (who : Who) (f : TxEvent) (g : Digest) (c : Current) → g.current ≡ Some c → out_tells is_complete_none (transact who f g).outs ≡ asks_tell is_complete_none (transacted f (seen who g.arcs c)).outs
 unfolding transact
-transact_tells who f g c i = ap (λ (o : Option Current). out_tells is_complete_none (elim o as (λ _. Move) [ None ↦ move [] g | Some x ↦ restarted who (passed who f g x) (turned who f g x) ]).outs) i ∙ go (is_over (passed who f g c)) ∙ one
+transact_tells who f g c i = ap (λ (o : Option Current). out_tells is_complete_none (elim o as (λ _. Move) [ None ↦ move [] g | Some x ↦ started_next who (passed who f g x) (turned who f g x) ]).outs) i ∙ go (is_over (passed who f g c)) ∙ one
   where
     m : Move
     m = turned who f g c

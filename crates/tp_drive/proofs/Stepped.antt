@@ -3,7 +3,7 @@ use Rattle.std.proofs.Common.{◌≡◌, ◌<◌, ℕ, Bool, true, Option, Some,
 use Rattle.tp_records.specs.declared.body.Event.{Event as Given}
 use Rattle.tp_records.specs.declared.body.Output.{Output}
 use Rattle.tp_logrec.specs.declared.record.LogRec.{LogRec}
-use Rattle.tp_model.specs.NodeRun.{Opening, Asked, Refuses, Is}
+use Rattle.tp_model.specs.NodeRun.{Opening, Refuses, Is, AskedEvent}
 use Rattle.tp_journal.specs.declared.faults.ForceFault.{ForceFault}
 use Rattle.tp_journal.specs.declared.faults.ForceFault.TheVariants as force
 use Rattle.tp_journal.specs.declared.receipts.Receipt.{Receipt}
@@ -40,7 +40,7 @@ unforced_spent stood wide old new (Some r) (force.Shut faults) halt h = counted_
 unforced_spent stood wide old new (Some r) force.NoMemory halt h = absurd halt
 
 -- where the log took no record, the stake of the share is spent
-pub halt_spent : (stood : List Receipt) (wide : Bool) (old new : Site Shared) (a : Asked) (f : SiteFault) → IsHalt f → old.shut ≡ None → PlaysAsked (share_standing stood wide) old a (Err f) new → is_some new.keeper.spent ≡ true
+pub halt_spent : (stood : List Receipt) (wide : Bool) (old new : Site Shared) (a : AskedEvent) (f : SiteFault) → IsHalt f → old.shut ≡ None → PlaysAsked (share_standing stood wide) old a (Err f) new → is_some new.keeper.spent ≡ true
 halt_spent stood wide old new (Refuses k) (SiteFault.Refused n) halt unshut p = absurd halt
 halt_spent stood wide old new (Refuses k) (SiteFault.Full size) halt unshut p = absurd p
 halt_spent stood wide old new (Refuses k) (SiteFault.DiskFault faults) halt unshut p = absurd p

@@ -9,7 +9,7 @@ use Rattle.tp_logrec.specs.declared.record.LogRec.{LogRec}
 use Rattle.tp_logrec.specs.declared.record.LogVersion.{LogVersion}
 use Rattle.tp_logrec.specs.LogText.{Placed}
 use Rattle.tp_model.specs.declared.verdict.What.{What}
-use Rattle.tp_model.specs.LogCommands.{Has, Is_foreign, opened, started}
+use Rattle.tp_model.specs.LogCommands.{Has, Is_foreign, opened, start_leaves}
 use Rattle.tp_model.specs.NodeRun.{Opening, node_run}
 use Rattle.tp_journal.specs.declared.receipts.Receipt.{Receipt}
 use Rattle.tp_journal.specs.Log.{StandsFor, StandsForEither, most_bytes, place_behind}
@@ -105,7 +105,7 @@ NotDriven name workers events story new Status.Usage = ⊥
 NotDriven name workers events story new (Status.BadInput at why) = ⊥
 NotDriven name workers events story new (Status.Limit what at) =
     IsLimitedBefore name story new what at ⊎ (what ≡ What.Log) × IsFullAt name workers events story new at
-NotDriven name workers events story new (Status.Foreign at) = (opened (seen story) ≡ Is_foreign at) × ReadsAs new (started (seen story))
+NotDriven name workers events story new (Status.Foreign at) = (opened (seen story) ≡ Is_foreign at) × ReadsAs new (start_leaves (seen story))
 NotDriven name workers events story new (Status.ReadFault faults) = ⊥
 NotDriven name workers events story new (Status.WriteFault faults) = ⊥
 NotDriven name workers events story new (Status.DiskFault faults) =

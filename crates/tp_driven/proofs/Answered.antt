@@ -11,7 +11,7 @@ use Rattle.tp_model.specs.declared.out_line.OutLine.{OutLine}
 use Rattle.tp_model.specs.declared.verdict.What.{What}
 use Rattle.tp_model.specs.LineText.{line_text}
 use Rattle.tp_model.specs.World.{World, Drive, driver_of}
-use Rattle.tp_model.specs.Happenings.{Does, Turn, happens}
+use Rattle.tp_model.specs.Happenings.{Does, happens, WorldTurn}
 use Rattle.tp_model.specs.Lines.{Fault, Name, Over, is_named, action_line, if_named, within_limits, line}
 use Rattle.tp_model.specs.Transcript.{Put, answer_turn, line_request, puts_of}
 use Rattle.tp_members.specs.Expansion.{memberless}
@@ -37,10 +37,10 @@ err_is (Err e) f h = ap (λ (x : _). Err x) h
 -- ---- one answer as a line
 
 -- an answer that is run is within the limit
-within_limit : (b : ℕ) (w : World) (n : ℕ) (r : LineRequest) (t : Turn) → answer_turn b w n r ≡ Ok t → b < 4096
+within_limit : (b : ℕ) (w : World) (n : ℕ) (r : LineRequest) (t : WorldTurn) → answer_turn b w n r ≡ Ok t → b < 4096
 within_limit b w n r t is = go (is_named w (Action.Do n r)) (nat_le 4096 b) refl is
   where
-    go : (x y : Bool) → nat_le 4096 b ≡ y → (elim x as (λ _. Result Turn Fault) [ false ↦ Err Name | true ↦ elim y as (λ _. Result Turn Fault) [ true ↦ Err (Over What.Answers) | false ↦ action_line w (Action.Do n r) ] ]) ≡ Ok t → b < 4096
+    go : (x y : Bool) → nat_le 4096 b ≡ y → (elim x as (λ _. Result WorldTurn Fault) [ false ↦ Err Name | true ↦ elim y as (λ _. Result WorldTurn Fault) [ true ↦ Err (Over What.Answers) | false ↦ action_line w (Action.Do n r) ] ]) ≡ Ok t → b < 4096
     go false y e h = absurd cc
     go true true e h = absurd cc
     go true false e h = grind (arith, nat_tests, e)
@@ -48,10 +48,10 @@ within_limit b w n r t is = go (is_named w (Action.Do n r)) (nat_le 4096 b) refl
 answer_small : (b : ℕ) (w : World) (n : ℕ) (r : LineRequest) → nat_le 4096 b ≡ false → answer_turn b w n r ≡ line 0 w (Line.Do n r)
 answer_small b w n r small = go (is_named w (Action.Do n r)) (nat_le 4096 b) small
   where
-    event : Result Turn Fault
+    event : Result WorldTurn Fault
     event = within_limits (happens w (Does (Action.Do n r)))
 
-    go : (x y : Bool) → y ≡ false → (elim x as (λ _. Result Turn Fault) [ false ↦ Err Name | true ↦ elim y as (λ _. Result Turn Fault) [ true ↦ Err (Over What.Answers) | false ↦ if_named x event ] ]) ≡ if_named x event
+    go : (x y : Bool) → y ≡ false → (elim x as (λ _. Result WorldTurn Fault) [ false ↦ Err Name | true ↦ elim y as (λ _. Result WorldTurn Fault) [ true ↦ Err (Over What.Answers) | false ↦ if_named x event ] ]) ≡ if_named x event
     go false y e = refl
     go true true e = absurd cc
     go true false e = refl
@@ -69,12 +69,12 @@ pub runs_no_more : (b : ℕ) (w : World) (n : ℕ) (r : LineRequest) (ls after :
     → (named ≡ true → RunsAnswer b w n r ls (Err (WorldFault.Limit What.Answers)) after new) × (named ≡ false → RunsAnswer b w n r ls (Err WorldFault.Name) after new)
 runs_no_more b w n r ls after new named past is = (λ e. go (is_named w (Action.Do n r)) (nat_le 4096 b) (sym is ∙ e) past, λ e. no (is_named w (Action.Do n r)) (nat_le 4096 b) (sym is ∙ e))
   where
-    go : (x y : Bool) → x ≡ true → y ≡ true → (elim x as (λ _. Result Turn Fault) [ false ↦ Err Name | true ↦ elim y as (λ _. Result Turn Fault) [ true ↦ Err (Over What.Answers) | false ↦ action_line w (Action.Do n r) ] ]) ≡ Err (Over What.Answers)
+    go : (x y : Bool) → x ≡ true → y ≡ true → (elim x as (λ _. Result WorldTurn Fault) [ false ↦ Err Name | true ↦ elim y as (λ _. Result WorldTurn Fault) [ true ↦ Err (Over What.Answers) | false ↦ action_line w (Action.Do n r) ] ]) ≡ Err (Over What.Answers)
     go true true e f = refl
     go true false e f = absurd cc
     go false y e f = absurd cc
 
-    no : (x y : Bool) → x ≡ false → (elim x as (λ _. Result Turn Fault) [ false ↦ Err Name | true ↦ elim y as (λ _. Result Turn Fault) [ true ↦ Err (Over What.Answers) | false ↦ action_line w (Action.Do n r) ] ]) ≡ Err Name
+    no : (x y : Bool) → x ≡ false → (elim x as (λ _. Result WorldTurn Fault) [ false ↦ Err Name | true ↦ elim y as (λ _. Result WorldTurn Fault) [ true ↦ Err (Over What.Answers) | false ↦ action_line w (Action.Do n r) ] ]) ≡ Err Name
     no true y e = absurd cc
     no false y e = refl
 
@@ -84,23 +84,23 @@ answer_without : (b : ℕ) (w : World) (n : ℕ) (r : LineRequest) → answer_tu
 answer_without b w n r = go (is_named w (Action.Do n r)) (nat_le 4096 b) (line_without 0 w (Line.Do n r) refl)
   where
     go : (x y : Bool) → action_line (memberless w) (Action.Do n r) ≡ result_without (action_line w (Action.Do n r))
-        → (elim x as (λ _. Result Turn Fault) [ false ↦ Err Name | true ↦ elim y as (λ _. Result Turn Fault) [ true ↦ Err (Over What.Answers) | false ↦ action_line (memberless w) (Action.Do n r) ] ])
-        ≡ result_without (elim x as (λ _. Result Turn Fault) [ false ↦ Err Name | true ↦ elim y as (λ _. Result Turn Fault) [ true ↦ Err (Over What.Answers) | false ↦ action_line w (Action.Do n r) ] ])
+        → (elim x as (λ _. Result WorldTurn Fault) [ false ↦ Err Name | true ↦ elim y as (λ _. Result WorldTurn Fault) [ true ↦ Err (Over What.Answers) | false ↦ action_line (memberless w) (Action.Do n r) ] ])
+        ≡ result_without (elim x as (λ _. Result WorldTurn Fault) [ false ↦ Err Name | true ↦ elim y as (λ _. Result WorldTurn Fault) [ true ↦ Err (Over What.Answers) | false ↦ action_line w (Action.Do n r) ] ])
     go false y e = refl
     go true true e = refl
     go true false e = e
 
 -- the turn with members
-pub record IsWith (r : Result Turn Fault) (u : Turn) : Type 0 where
-  pub turn : Turn
+pub record IsWith (r : Result WorldTurn Fault) (u : WorldTurn) : Type 0 where
+  pub turn : WorldTurn
   pub is : r ≡ Ok turn
   pub same : turn_without turn ≡ u
 
-pub with_members : (r : Result Turn Fault) (u : Turn) → result_without r ≡ Ok u → IsWith r u
+pub with_members : (r : Result WorldTurn Fault) (u : WorldTurn) → result_without r ≡ Ok u → IsWith r u
 with_members (Ok t) u h = record { turn = t; is = refl; same = cc }
 with_members (Err f) u h = absurd cc
 
-pub fault_with : (r : Result Turn Fault) (f : Fault) → result_without r ≡ Err f → r ≡ Err f
+pub fault_with : (r : Result WorldTurn Fault) (f : Fault) → result_without r ≡ Err f → r ≡ Err f
 fault_with (Ok t) f h = absurd cc
 fault_with (Err g) f h = cc
 
@@ -115,7 +115,7 @@ drop_more_of (suc n) [] ys h = absurd (omega (arith, h))
 drop_more_of (suc n) (x ∷ xs) ys h = drop_more_of n xs ys (omega (arith, h))
 
 -- what a line tells waits after the rest
-waits_more : (w : World) (t : Turn) (ls shown more : List OutLine) (text : List ℕ) (next : ℕ) → IsSteady w.drives w.dropped t → more ≡ OutLine.Echo text ∷ t.lines → shown ≡ ls ++ more → next ≤ length ls
+waits_more : (w : World) (t : WorldTurn) (ls shown more : List OutLine) (text : List ℕ) (next : ℕ) → IsSteady w.drives w.dropped t → more ≡ OutLine.Echo text ∷ t.lines → shown ≡ ls ++ more → next ≤ length ls
     → waits w ls next ++ puts_of t.world t.told ≡ waits t.world shown next
 waits_more w t ls shown more text next steady new is within =
     ap (λ (ds : List Drive). puts_in (driver_of ds) (drop next ls) ++ puts_of t.world t.told) (sym steady.drives)
@@ -157,11 +157,11 @@ module _ {M : Type 0} (allowed : M → List Answer → Type 0) (b : ℕ) (w : Wo
     abbrev text : List ℕ
     text = line_text (Line.Do x.node (line_request x.request))
 
-    on_turn : (u : Turn) (shown : List OutLine) (new : CodeWorld) → IsWith (answer_turn b w x.node (line_request x.request)) u → shown ≡ ls ++ OutLine.Echo text ∷ u.lines → WorldStands u.world new
+    on_turn : (u : WorldTurn) (shown : List OutLine) (new : CodeWorld) → IsWith (answer_turn b w x.node (line_request x.request)) u → shown ≡ ls ++ OutLine.Echo text ∷ u.lines → WorldStands u.world new
         → RunsOn allowed b w from ls (suc b) next shown new xs ys fs
     on_turn u shown new t is there =
         let more : List OutLine = OutLine.Echo text ∷ t.turn.lines in
-        let lines : OutLine.Echo text ∷ u.lines ≡ more = ap (λ (v : Turn). OutLine.Echo text ∷ v.lines) (sym t.same) in
+        let lines : OutLine.Echo text ∷ u.lines ≡ more = ap (λ (v : WorldTurn). OutLine.Echo text ∷ v.lines) (sym t.same) in
         let shows : shown ≡ ls ++ more = is ∙ ap (λ (m : List OutLine). ls ++ m) lines in
         let steady : IsSteady w.drives w.dropped t.turn = line_steady 0 w (Line.Do x.node (line_request x.request)) t.turn refl (line_of t.turn t.is) in
         record {
@@ -171,12 +171,12 @@ module _ {M : Type 0} (allowed : M → List Answer → Type 0) (b : ℕ) (w : Wo
           run = subst (λ (q : List Put). HaveRun allowed xs ys b w (waits w ls from) more (suc b) t.turn.world q) (waits_more w t.turn ls shown more text next steady refl shows asks.0)
               (run_asked allowed xs ys b w (waits w ls from) x (waits w ls next) asked t.turn same.count t.is);
           stands = record {
-            world = subst (λ (v : World). WorldStands v new) (ap (λ (v : Turn). v.world) (sym t.same)) there;
+            world = subst (λ (v : World). WorldStands v new) (ap (λ (v : WorldTurn). v.world) (sym t.same)) there;
             members = members_kept t.turn.world w ys fs steady.drives steady.dropped still;
           };
         }
       where
-        line_of : (t : Turn) → answer_turn b w x.node (line_request x.request) ≡ Ok t → line 0 w (Line.Do x.node (line_request x.request)) ≡ Ok t
+        line_of : (t : WorldTurn) → answer_turn b w x.node (line_request x.request) ≡ Ok t → line 0 w (Line.Do x.node (line_request x.request)) ≡ Ok t
         line_of t h = sym (answer_small b w x.node (line_request x.request) (grind (arith, nat_tests, within_limit b w x.node (line_request x.request) t h))) ∙ h
 
     on : (shown : List OutLine) (new : CodeWorld) → RunsAnswer b (memberless w) x.node (line_request x.request) ls (Ok tt) shown new → (b < 4096) × RunsOn allowed b w from ls (suc b) next shown new xs ys fs

@@ -10,7 +10,7 @@ use Rattle.tp_model.specs.declared.line.Line.{Line}
 use Rattle.tp_model.specs.declared.out_line.OutLine.{OutLine}
 use Rattle.tp_model.specs.LineText.{line_text}
 use Rattle.tp_model.specs.World.{World, is_node, driver_of}
-use Rattle.tp_model.specs.Happenings.{Drive as DriveNode, Drop, Turn, Told, happens}
+use Rattle.tp_model.specs.Happenings.{Drive as DriveNode, Drop, Told, happens, WorldTurn}
 use Rattle.tp_model.specs.Lines.{Fault, Name, Over, if_named, is_member_there, line}
 use Rattle.tp_model.specs.Trees.{closing}
 use Rattle.tp_model.specs.Transcript.{Put, answered, echo, is_silent, puts_of}
@@ -39,7 +39,7 @@ drop_front [] ys = refl
 drop_front (x ∷ xs) ys = drop_front xs ys
 
 -- what it told waits
-told_waits : (w : World) (t : Turn) (before mid : List OutLine) (from : ℕ) → IsSteady w.drives w.dropped t → from ≡ length before → mid ≡ before ++ t.lines → waits t.world mid from ≡ puts_of t.world t.told
+told_waits : (w : World) (t : WorldTurn) (before mid : List OutLine) (from : ℕ) → IsSteady w.drives w.dropped t → from ≡ length before → mid ≡ before ++ t.lines → waits t.world mid from ≡ puts_of t.world t.told
 told_waits w t before mid from steady at is =
     ap (λ (n : ℕ). puts_in d (drop n mid)) at ∙ ap (λ (l : List OutLine). puts_in d (drop (length before) l)) is ∙ ap (puts_in d) (drop_front before t.lines)
     ∙ ap (puts_by d) (sym steady.told) ∙ sym (puts_are t.world t.told)
@@ -49,7 +49,7 @@ told_waits w t before mid from steady at is =
 
 module _ {M : Type 0} (allowed : M → List Answer → Type 0) (w : World) (l : Line) (old new : DrivenWorld M) where
   -- its answers were run
-  module _ (t : Turn) (before mid after : List OutLine) (shown : is_silent l ≡ false) (is : line (length (members_of old)) w l ≡ Ok t) (lines : mid ≡ before ++ t.lines) where
+  module _ (t : WorldTurn) (before mid after : List OutLine) (shown : is_silent l ≡ false) (is : line (length (members_of old)) w l ≡ Ok t) (lines : mid ≡ before ++ t.lines) where
     all_run : puts_of t.world t.told ≡ puts_of t.world t.told → (from : ℕ) → waits t.world mid from ≡ puts_of t.world t.told
         → RunsOut allowed 0 t.world from mid after new.world (members_of old) (members_of new) new.members.drivers.entries → PlaysOut allowed w l before after old new
     all_run same from queue h = record {
@@ -82,8 +82,8 @@ module _ {M : Type 0} (allowed : M → List Answer → Type 0) (w : World) (l : 
       let k : ℕ = length (members_of old) in
       let t : IsWith (line k w l) plays.0 = with_members (line k w l) plays.0 (sym (line_without k w l shown) ∙ plays.1 0) in
       let steady : IsSteady w.drives w.dropped t.turn = line_steady k w l t.turn shown t.is in
-      let lines : mid ≡ before ++ t.turn.lines = plays.2 ∙ ap (λ (u : Turn). before ++ u.lines) (sym t.same) in
-      let there : WorldStands (memberless t.turn.world) between = subst (λ (v : World). WorldStands v between) (ap (λ (u : Turn). u.world) (sym t.same)) plays.3 in
+      let lines : mid ≡ before ++ t.turn.lines = plays.2 ∙ ap (λ (u : WorldTurn). before ++ u.lines) (sym t.same) in
+      let there : WorldStands (memberless t.turn.world) between = subst (λ (v : World). WorldStands v between) (ap (λ (u : WorldTurn). u.world) (sym t.same)) plays.3 in
       by_answers t.turn before mid after shown t.is lines from r (told_waits w t.turn before mid from steady at lines)
       (runs t.turn.world there (members_kept t.turn.world w (members_of old) old.members.drivers.entries steady.drives steady.dropped stands.members))
 
@@ -125,7 +125,7 @@ module _ {M : Type 0} (allowed : M → List Answer → Type 0) (w : World) (l : 
   none_to_leave k before after is stands there same = line_unnamed before after
       (ap (line (length (members_of old)) w) is ∙ ap (λ (b : Bool). if_named b (Ok (happens w (Drop k)))) (sym (stands.members.there k) ∙ there)) same
 
-  quiet : (t : Turn) (before after : List OutLine) → line (length (members_of old)) w l ≡ Ok t → t.lines ≡ [] → t.told ≡ [] → after ≡ before → Gave allowed (members_of old) (members_of new) [] [] → length (members_of new) ≡ length (members_of old) → Stands t.world new
+  quiet : (t : WorldTurn) (before after : List OutLine) → line (length (members_of old)) w l ≡ Ok t → t.lines ≡ [] → t.told ≡ [] → after ≡ before → Gave allowed (members_of old) (members_of new) [] [] → length (members_of new) ≡ length (members_of old) → Stands t.world new
       → PlaysAfter allowed w l before (Ok tt) after old new
   quiet t before after is none silent same gave count stands = record {
     world = t.world;

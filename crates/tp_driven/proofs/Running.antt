@@ -6,10 +6,10 @@ use Rattle.tp_records.specs.Answers.{Answer}
 use Rattle.tp_model.specs.declared.line.Line.{Line}
 use Rattle.tp_model.specs.declared.out_line.OutLine.{OutLine}
 use Rattle.tp_model.specs.World.{World, driver_of}
-use Rattle.tp_model.specs.Happenings.{Turn, Told}
+use Rattle.tp_model.specs.Happenings.{Told, WorldTurn}
 use Rattle.tp_model.specs.LineText.{line_text}
 use Rattle.tp_model.specs.Lines.{Fault, line}
-use Rattle.tp_model.specs.Transcript.{Put, Play, answered, answer_turn, echo, line_request, played, puts_of, stopped, with_lines, with_put}
+use Rattle.tp_model.specs.Transcript.{Put, Play, answered, answer_turn, echo, line_request, puts_of, stopped, with_lines, with_put, line_played}
 use Rattle.tp_driven.specs.Told.{puts_by}
 use Rattle.tp_driven.specs.Members.{silent, Gave, AsksFor}
 use Rattle.tp_driven.specs.Answers.{with_puts, HaveRun, HaveEnded, IsPlayed, IsEnded}
@@ -96,20 +96,20 @@ module _ {M : Type 0} (allowed : M → List Answer → Type 0) (xs ys : List (Op
       ∙ ap (answered (silent a.passed ++ (Some x.request ∷ later)) b w) a.is ∙ passed_by a.passed (a.put ∷ rest) b w (Some x.request ∷ later)
 
   -- how the request is run
-  next_is : (later : List (Option Request)) (r : Result Turn Fault) → answer_turn b w x.node (line_request x.request) ≡ r → answered (Some x.request ∷ later) b w (a.put ∷ rest)
+  next_is : (later : List (Option Request)) (r : Result WorldTurn Fault) → answer_turn b w x.node (line_request x.request) ≡ r → answered (Some x.request ∷ later) b w (a.put ∷ rest)
       ≡ elim r as (λ _. Play) [
         | Err f ↦ with_put a.put (stopped w later f)
         | Ok t ↦ with_put a.put (with_lines (OutLine.Echo (line_text (Line.Do x.node (line_request x.request))) ∷ t.lines) (answered later (suc b) t.world (rest ++ puts_of t.world t.told)))
       ]
   next_is later r is = subst (λ (n : ℕ). answered (Some x.request ∷ later) b w (a.put ∷ rest) ≡ run_at n later r) a.node (ap (run_at a.put.node later) (ap (λ (n : ℕ). answer_turn b w n (line_request x.request)) a.node ∙ is))
     where
-      run_at : ℕ → List (Option Request) → Result Turn Fault → Play
+      run_at : ℕ → List (Option Request) → Result WorldTurn Fault → Play
       run_at n later r = elim r [
         | Err f ↦ with_put a.put (stopped w later f)
         | Ok t ↦ with_put a.put (with_lines (OutLine.Echo (line_text (Line.Do n (line_request x.request))) ∷ t.lines) (answered later (suc b) t.world (rest ++ puts_of t.world t.told)))
       ]
 
-  pub run_asked : (t : Turn) → length ys ≡ length xs → answer_turn b w x.node (line_request x.request) ≡ Ok t
+  pub run_asked : (t : WorldTurn) → length ys ≡ length xs → answer_turn b w x.node (line_request x.request) ≡ Ok t
       → HaveRun allowed xs ys b w queue (OutLine.Echo (line_text (Line.Do x.node (line_request x.request))) ∷ t.lines) (suc b) t.world (rest ++ puts_of t.world t.told)
   run_asked t count is = record {
     put = a.passed ++ a.put ∷ [];
@@ -137,10 +137,10 @@ nothing_waits : (later : List (Option Request)) (c : ℕ) (v : World) → answer
 nothing_waits [] c v = refl
 nothing_waits (a ∷ later) c v = refl
 
-played_by : (members : ℕ) (w : World) (l : Line) (t : Turn) (answers : List (Option Request)) → line members w l ≡ Ok t → played members answers w l ≡ with_lines (echo l ++ t.lines) (answered answers 0 t.world (puts_of t.world t.told))
-played_by members w l t answers is = ap (λ (r : Result Turn Fault). elim r as (λ _. Play) [ Err f ↦ stopped w answers f | Ok t ↦ with_lines (echo l ++ t.lines) (answered answers 0 t.world (puts_of t.world t.told)) ]) is
+played_by : (members : ℕ) (w : World) (l : Line) (t : WorldTurn) (answers : List (Option Request)) → line members w l ≡ Ok t → line_played members answers w l ≡ with_lines (echo l ++ t.lines) (answered answers 0 t.world (puts_of t.world t.told))
+played_by members w l t answers is = ap (λ (r : Result WorldTurn Fault). elim r as (λ _. Play) [ Err f ↦ stopped w answers f | Ok t ↦ with_lines (echo l ++ t.lines) (answered answers 0 t.world (puts_of t.world t.told)) ]) is
 
-pub played_line : {M : Type 0} (allowed : M → List Answer → Type 0) (xs ys : List (Option M)) (members : ℕ) (w : World) (l : Line) (t : Turn) (shown : List OutLine) (c : ℕ) (v : World) → line members w l ≡ Ok t
+pub played_line : {M : Type 0} (allowed : M → List Answer → Type 0) (xs ys : List (Option M)) (members : ℕ) (w : World) (l : Line) (t : WorldTurn) (shown : List OutLine) (c : ℕ) (v : World) → line members w l ≡ Ok t
     → HaveRun allowed xs ys 0 t.world (puts_of t.world t.told) shown c v [] → IsPlayed allowed xs ys members w l (t.lines ++ shown) v
 played_line allowed xs ys members w l t shown c v is h = record {
   put = h.put;
@@ -158,7 +158,7 @@ played_line allowed xs ys members w l t shown c v is h = record {
     all later = ap (λ (ls : List OutLine). let p : Play = record { world = v; lines = ls; puts = h.put ++ []; left = later; fault = None } in p) (ap (λ (ls : List OutLine). (echo l ++ t.lines) ++ ls) (append-nil shown) ∙ append_assoc (echo l) t.lines shown)
         ∙ ap (λ (qs : List Put). let p : Play = record { world = v; lines = echo l ++ (t.lines ++ shown); puts = qs; left = later; fault = None } in p) (append-nil h.put)
 
-pub ended_line : {M : Type 0} (allowed : M → List Answer → Type 0) (xs ys : List (Option M)) (members : ℕ) (w : World) (l : Line) (t : Turn) (f : Fault) → line members w l ≡ Ok t
+pub ended_line : {M : Type 0} (allowed : M → List Answer → Type 0) (xs ys : List (Option M)) (members : ℕ) (w : World) (l : Line) (t : WorldTurn) (f : Fault) → line members w l ≡ Ok t
     → HaveEnded allowed xs ys 0 t.world (puts_of t.world t.told) f → IsEnded allowed xs ys members w l f
 ended_line allowed xs ys members w l t f is h = record {
   given = h.given;
@@ -175,7 +175,7 @@ ended_by_line allowed xs members w l f is = record {
   given = [];
   play = stopped w [] f;
   each = refl;
-  plays = λ later. ap (λ (r : Result Turn Fault). elim r as (λ _. Play) [ Err g ↦ stopped w later g | Ok t ↦ with_lines (echo l ++ t.lines) (answered later 0 t.world (puts_of t.world t.told)) ]) is;
+  plays = λ later. ap (λ (r : Result WorldTurn Fault). elim r as (λ _. Play) [ Err g ↦ stopped w later g | Ok t ↦ with_lines (echo l ++ t.lines) (answered later 0 t.world (puts_of t.world t.told)) ]) is;
   fault = refl;
   gave = gave_none allowed xs;
 }

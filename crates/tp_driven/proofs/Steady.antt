@@ -11,14 +11,14 @@ use Rattle.tp_model.specs.Disk.{Remains, remains, disk_bytes}
 use Rattle.tp_model.specs.Parts.{Entry, Answer, Out}
 use Rattle.tp_model.specs.History.{digest, answer, state}
 use Rattle.tp_model.specs.World.{World, Node, Site, Drive, addr_at, find_node, find_site, put_site, oldest_between, oldest_of_all, number_of, site_of}
-use Rattle.tp_model.specs.Happenings.{Declare, Does, Mark, Crash_in, Task, Turn, Told, still, happens, task_of, after_lines, action_lines, action_turn, event_turn, entry_turn, entered, logged, declared_at, declare_turn, crash_turn, log_lines, refused_lines, out_lines, told_by as told_by_outs, after_stop, stop_in_force, stop_in_entry, stop_in_task, task_here, crash_in_turn}
+use Rattle.tp_model.specs.Happenings.{Declare, Does, Mark, Crash_in, Task, Told, still, happens, task_of, after_lines, action_lines, action_turn, event_turn, entry_turn, logged, declared_at, declare_turn, crash_turn, log_lines, refused_lines, out_lines, told_by as told_by_outs, after_stop, stop_in_force, stop_in_entry, stop_in_task, task_here, crash_in_turn, world_with_entry, WorldTurn}
 use Rattle.tp_model.specs.Lines.{Fault, Name, Over, state_line, within_limits, is_full, if_named, is_named, resolved, marked, marked_by, shows, action_line, node_line, node_limit, skip_line, then_result, drain_line, show_line, image_line, stop_line, has_room_for, crash_in_line, line}
 use Rattle.tp_model.specs.Transcript.{is_silent}
 use Rattle.tp_driven.specs.Told.{told_in}
 use Rattle.tp_driven.proofs.Asking.{told_more}
 
 -- the members are those, and what is told is what the lines tell
-pub record IsSteady (ds : List Drive) (ks : List ℕ) (t : Turn) : Type 0 where
+pub record IsSteady (ds : List Drive) (ks : List ℕ) (t : WorldTurn) : Type 0 where
   pub drives : t.world.drives ≡ ds
   pub dropped : t.world.dropped ≡ ks
   pub told : t.told ≡ told_in t.lines
@@ -62,13 +62,13 @@ module _ (ds : List Drive) (ks : List ℕ) where
   logged_has w n None h = h
   logged_has w n (Some r) h = record { drives = h.drives; dropped = h.dropped }
 
-  entered_has : (w : World) (n : Node) (e : Entry) → Has ds ks w → Has ds ks (entered w n e)
+  entered_has : (w : World) (n : Node) (e : Entry) → Has ds ks w → Has ds ks (world_with_entry w n e)
   entered_has w n e h = record { drives = h.drives; dropped = h.dropped }
 
   still_steady : (w : World) → Has ds ks w → IsSteady ds ks (still w)
   still_steady w h = record { drives = h.drives; dropped = h.dropped; told = refl }
 
-  after_steady : (ls : List OutLine) (t : Turn) → TellNothing ls → IsSteady ds ks t → IsSteady ds ks (after_lines ls t)
+  after_steady : (ls : List OutLine) (t : WorldTurn) → TellNothing ls → IsSteady ds ks t → IsSteady ds ks (after_lines ls t)
   after_steady ls t q s = record { drives = s.drives; dropped = s.dropped; told = after_quiet ls t.lines t.told q s.told }
 
   shown_steady : (w : World) (ls : List OutLine) → TellNothing ls → Has ds ks w → IsSteady ds ks (shows w ls)
@@ -77,7 +77,7 @@ module _ (ds : List Drive) (ks : List ℕ) where
   entry_steady : (w : World) (n : Node) (number : Option ℕ) (e : Option Entry) → Has ds ks w → IsSteady ds ks (entry_turn w n number e)
   entry_steady w n number None h = record { drives = h.drives; dropped = h.dropped; told = sym (refused_quiet number) }
   entry_steady w n number (Some e) h =
-      let v : Has ds ks (logged (entered w n e) n e.rec) = logged_has (entered w n e) n e.rec (entered_has w n e h) in
+      let v : Has ds ks (logged (world_with_entry w n e) n e.rec) = logged_has (world_with_entry w n e) n e.rec (entered_has w n e h) in
       record {
         drives = v.drives;
         dropped = v.dropped;
@@ -92,7 +92,7 @@ module _ (ds : List Drive) (ks : List ℕ) where
   action_steady : (w : World) (d : Action) → Has ds ks w → IsSteady ds ks (action_turn w d)
   action_steady w d h = go (task_of w d)
     where
-      go : (t : Option Task) → IsSteady ds ks (elim t as (λ _. Turn) [ None ↦ still w | Some t ↦ after_lines (action_lines d) (event_turn w t.node t.event) ])
+      go : (t : Option Task) → IsSteady ds ks (elim t as (λ _. WorldTurn) [ None ↦ still w | Some t ↦ after_lines (action_lines d) (event_turn w t.node t.event) ])
       go None = still_steady w h
       go (Some t) = let a : Answer = answer t.node.origin t.node.history t.event in after_steady (action_lines d) (event_turn w t.node t.event) (action_quiet d) (entry_steady w t.node a.number a.entry h)
 
@@ -106,11 +106,11 @@ module _ (ds : List Drive) (ks : List ℕ) where
   declare_steady : (w : World) (n : ℕ) (s : List ℕ) (under : Option ℕ) → Has ds ks w → IsSteady ds ks (declare_turn w n s under)
   declare_steady w n s under h = go (find_node w.nodes n) refl under
     where
-      below : (p : ℕ) (a : Option Addr) → IsSteady ds ks (elim a as (λ _. Turn) [ None ↦ still w | Some b ↦ declared_at w n s (Some b) ])
+      below : (p : ℕ) (a : Option Addr) → IsSteady ds ks (elim a as (λ _. WorldTurn) [ None ↦ still w | Some b ↦ declared_at w n s (Some b) ])
       below p None = still_steady w h
       below p (Some b) = declared_steady w n s (Some b) h
 
-      come : (u : Option ℕ) → IsSteady ds ks (elim u as (λ _. Turn) [ None ↦ declared_at w n s None | Some p ↦ elim (addr_at w p) as (λ _. Turn) [ None ↦ still w | Some a ↦ declared_at w n s (Some a) ] ])
+      come : (u : Option ℕ) → IsSteady ds ks (elim u as (λ _. WorldTurn) [ None ↦ declared_at w n s None | Some p ↦ elim (addr_at w p) as (λ _. WorldTurn) [ None ↦ still w | Some a ↦ declared_at w n s (Some a) ] ])
       come None = declared_steady w n s None h
       come (Some p) = below p (addr_at w p)
 
@@ -139,7 +139,7 @@ module _ (ds : List Drive) (ks : List ℕ) where
       has : Has ds ks v
       has = record { drives = h.drives; dropped = h.dropped }
 
-      go : (f : RecordFate) → Has ds ks (elim f as (λ _. World) [ RecordFate.Kept ↦ entered v n e | RecordFate.Lost ↦ v | RecordFate.None ↦ v ])
+      go : (f : RecordFate) → Has ds ks (elim f as (λ _. World) [ RecordFate.Kept ↦ world_with_entry v n e | RecordFate.Lost ↦ v | RecordFate.None ↦ v ])
       go RecordFate.Kept = entered_has v n e has
       go RecordFate.Lost = has
       go RecordFate.None = has
@@ -148,36 +148,36 @@ module _ (ds : List Drive) (ks : List ℕ) where
   stop_entry_steady w n x call fill None h = stop_steady w x.name RecordFate.None h
   stop_entry_steady w n x call fill (Some e) h = go e.rec
     where
-      go : (r : Option LogRec) → IsSteady ds ks (elim r as (λ _. Turn) [ None ↦ after_stop (entered w n e) x.name RecordFate.None | Some r ↦ stop_in_force w n x e (remains call fill r x.disk) ])
-      go None = stop_steady (entered w n e) x.name RecordFate.None (entered_has w n e h)
+      go : (r : Option LogRec) → IsSteady ds ks (elim r as (λ _. WorldTurn) [ None ↦ after_stop (world_with_entry w n e) x.name RecordFate.None | Some r ↦ stop_in_force w n x e (remains call fill r x.disk) ])
+      go None = stop_steady (world_with_entry w n e) x.name RecordFate.None (entered_has w n e h)
       go (Some r) = force_steady w n x e (remains call fill r x.disk) h
 
   crash_in_steady : (w : World) (s : List ℕ) (call fill : ℕ) (d : Action) → Has ds ks w → IsSteady ds ks (crash_in_turn w s call fill d)
   crash_in_steady w s call fill d h = go (find_site w.sites s)
     where
-      task : (x : Site) (t : Option Task) → IsSteady ds ks (elim t as (λ _. Turn) [ None ↦ still w | Some t ↦ after_lines (action_lines d) (stop_in_task w x call fill t) ])
+      task : (x : Site) (t : Option Task) → IsSteady ds ks (elim t as (λ _. WorldTurn) [ None ↦ still w | Some t ↦ after_lines (action_lines d) (stop_in_task w x call fill t) ])
       task x None = still_steady w h
       task x (Some t) = after_steady (action_lines d) (stop_in_task w x call fill t) (action_quiet d) (stop_entry_steady w t.node x call fill (answer t.node.origin t.node.history t.event).entry h)
 
-      go : (o : Option Site) → IsSteady ds ks (elim o as (λ _. Turn) [ None ↦ still w | Some x ↦ elim (task_here x (task_of w d)) as (λ _. Turn) [ None ↦ still w | Some t ↦ after_lines (action_lines d) (stop_in_task w x call fill t) ] ])
+      go : (o : Option Site) → IsSteady ds ks (elim o as (λ _. WorldTurn) [ None ↦ still w | Some x ↦ elim (task_here x (task_of w d)) as (λ _. WorldTurn) [ None ↦ still w | Some t ↦ after_lines (action_lines d) (stop_in_task w x call fill t) ] ])
       go None = still_steady w h
       go (Some x) = task x (task_here x (task_of w d))
 
   -- ---- lines
 
-  abbrev Leaves : Result Turn Fault → Type 0
+  abbrev Leaves : Result WorldTurn Fault → Type 0
   Leaves (Err f) = Unit {0}
   Leaves (Ok t) = IsSteady ds ks t
 
-  within : (t : Turn) → IsSteady ds ks t → Leaves (within_limits t)
+  within : (t : WorldTurn) → IsSteady ds ks t → Leaves (within_limits t)
   within t s = go (is_full t.world.sites) (nat_lt 65535 (length t.world.frames))
     where
-      go : (a b : Bool) → Leaves (elim a as (λ _. Result Turn Fault) [ true ↦ Err (Over What.Log) | false ↦ elim b as (λ _. Result Turn Fault) [ true ↦ Err (Over What.Frames) | false ↦ Ok t ] ])
+      go : (a b : Bool) → Leaves (elim a as (λ _. Result WorldTurn Fault) [ true ↦ Err (Over What.Log) | false ↦ elim b as (λ _. Result WorldTurn Fault) [ true ↦ Err (Over What.Frames) | false ↦ Ok t ] ])
       go true b = tt
       go false true = tt
       go false false = s
 
-  named : (b : Bool) (r : Result Turn Fault) → Leaves r → Leaves (if_named b r)
+  named : (b : Bool) (r : Result WorldTurn Fault) → Leaves r → Leaves (if_named b r)
   named true r h = h
   named false r h = tt
 
@@ -192,39 +192,39 @@ module _ (ds : List Drive) (ks : List ℕ) where
   action_line_steady : (w : World) (l : Action) → Has ds ks w → Leaves (action_line w l)
   action_line_steady w l h = named (is_named w l) _ (go (resolved w l))
     where
-      go : (o : Option Action) → Leaves (elim o as (λ _. Result Turn Fault) [ None ↦ Ok (shows w (OutLine.Nothing ∷ [])) | Some d ↦ within_limits (happens (marked_by w l) (Does d)) ])
+      go : (o : Option Action) → Leaves (elim o as (λ _. Result WorldTurn Fault) [ None ↦ Ok (shows w (OutLine.Nothing ∷ [])) | Some d ↦ within_limits (happens (marked_by w l) (Does d)) ])
       go None = shown_steady w (OutLine.Nothing ∷ []) refl h
       go (Some d) = within (happens (marked_by w l) (Does d)) (action_steady (marked_by w l) d (marked_has w l h))
 
   stop_line_steady : (w : World) (s : List ℕ) (call fill : ℕ) (l : Action) → Has ds ks w → IsSteady ds ks (stop_line w s call fill l)
   stop_line_steady w s call fill l h = go (resolved w l)
     where
-      go : (o : Option Action) → IsSteady ds ks (elim o as (λ _. Turn) [ None ↦ after_lines (OutLine.Nothing ∷ []) (after_stop w s RecordFate.None) | Some d ↦ happens (marked_by w l) (Crash_in s call fill d) ])
+      go : (o : Option Action) → IsSteady ds ks (elim o as (λ _. WorldTurn) [ None ↦ after_lines (OutLine.Nothing ∷ []) (after_stop w s RecordFate.None) | Some d ↦ happens (marked_by w l) (Crash_in s call fill d) ])
       go None = after_steady (OutLine.Nothing ∷ []) (after_stop w s RecordFate.None) refl (stop_steady w s RecordFate.None h)
       go (Some d) = crash_in_steady (marked_by w l) s call fill d (marked_has w l h)
 
   crash_in_line_steady : (w : World) (s : List ℕ) (call fill : ℕ) (l : Action) → Has ds ks w → Leaves (crash_in_line w s call fill l)
   crash_in_line_steady w s call fill l h = named _ _ (go (has_room_for w s (resolved w l)))
     where
-      go : (b : Bool) → Leaves (elim b as (λ _. Result Turn Fault) [ false ↦ Err (Over What.Log) | true ↦ within_limits (stop_line w s call fill l) ])
+      go : (b : Bool) → Leaves (elim b as (λ _. Result WorldTurn Fault) [ false ↦ Err (Over What.Log) | true ↦ within_limits (stop_line w s call fill l) ])
       go false = tt
       go true = within (stop_line w s call fill l) (stop_line_steady w s call fill l h)
 
   node_line_steady : (w : World) (n : ℕ) (s : List ℕ) (under : Option ℕ) → Has ds ks w → Leaves (node_line w n s under)
   node_line_steady w n s under h = named _ _ (go (node_limit w s))
     where
-      go : (o : Option What) → Leaves (elim o as (λ _. Result Turn Fault) [ Some what ↦ Err (Over what) | None ↦ Ok (happens w (Declare n s under)) ])
+      go : (o : Option What) → Leaves (elim o as (λ _. Result WorldTurn Fault) [ Some what ↦ Err (Over what) | None ↦ Ok (happens w (Declare n s under)) ])
       go (Some what) = tt
       go None = declare_steady w n s under h
 
   skip_line_steady : (w : World) (a b : ℕ) → Has ds ks w → IsSteady ds ks (skip_line w a b)
   skip_line_steady w a b h = go (oldest_between w a b)
     where
-      go : (o : Option ℕ) → IsSteady ds ks (elim o as (λ _. Turn) [ None ↦ shows w (OutLine.Nothing ∷ []) | Some k ↦ shows (happens w (Mark k)).world (OutLine.Lost k ∷ []) ])
+      go : (o : Option ℕ) → IsSteady ds ks (elim o as (λ _. WorldTurn) [ None ↦ shows w (OutLine.Nothing ∷ []) | Some k ↦ shows (happens w (Mark k)).world (OutLine.Lost k ∷ []) ])
       go None = shown_steady w (OutLine.Nothing ∷ []) refl h
       go (Some k) = shown_steady (happens w (Mark k)).world (OutLine.Lost k ∷ []) refl (record { drives = h.drives; dropped = h.dropped })
 
-  then_steady : (t : Turn) (r : Result Turn Fault) → IsSteady ds ks t → Leaves r → Leaves (then_result t r)
+  then_steady : (t : WorldTurn) (r : Result WorldTurn Fault) → IsSteady ds ks t → Leaves r → Leaves (then_result t r)
   then_steady t (Err e) s h = tt
   then_steady t (Ok u) s h = record { drives = h.drives; dropped = h.dropped; told = ap (λ (ts : List Told). ts ++ u.told) s.told ∙ ap (λ (ts : List Told). told_in t.lines ++ ts) h.told ∙ sym (told_more t.lines u.lines) }
 
@@ -232,15 +232,15 @@ module _ (ds : List Drive) (ks : List ℕ) where
   drain_line_steady zero w h = shown_steady w [] refl h
   drain_line_steady (suc n) w h = go (oldest_of_all w) (drain_line_steady n)
     where
-      next : Result Turn Fault → Result Turn Fault
+      next : Result WorldTurn Fault → Result WorldTurn Fault
       next x = elim x [ Err e ↦ Err e | Ok t ↦ then_result t (drain_line n t.world) ]
 
-      rest : ((v : World) → Has ds ks v → Leaves (drain_line n v)) → (x : Result Turn Fault) → Leaves x → Leaves (next x)
+      rest : ((v : World) → Has ds ks v → Leaves (drain_line n v)) → (x : Result WorldTurn Fault) → Leaves x → Leaves (next x)
       rest more (Err e) s = tt
       rest more (Ok t) s = then_steady t (drain_line n t.world) s (more t.world (record { drives = s.drives; dropped = s.dropped }))
 
       go : (o : Option ℕ) → ((v : World) → Has ds ks v → Leaves (drain_line n v))
-          → Leaves (elim o as (λ _. Result Turn Fault) [ None ↦ Ok (shows w []) | Some k ↦ next (within_limits (happens (happens w (Mark k)).world (Does (Action.Again k)))) ])
+          → Leaves (elim o as (λ _. Result WorldTurn Fault) [ None ↦ Ok (shows w []) | Some k ↦ next (within_limits (happens (happens w (Mark k)).world (Does (Action.Again k)))) ])
       go None more = shown_steady w [] refl h
       go (Some k) more =
           let v : World = (happens w (Mark k)).world in
@@ -249,14 +249,14 @@ module _ (ds : List Drive) (ks : List ℕ) where
   show_line_steady : (w : World) (n : ℕ) → Has ds ks w → Leaves (show_line w n)
   show_line_steady w n h = go (find_node w.nodes n)
     where
-      go : (o : Option Node) → Leaves (elim o as (λ _. Result Turn Fault) [ None ↦ Err Name | Some x ↦ Ok (shows w (state_line n (state (digest x.origin x.history)) ∷ [])) ])
+      go : (o : Option Node) → Leaves (elim o as (λ _. Result WorldTurn Fault) [ None ↦ Err Name | Some x ↦ Ok (shows w (state_line n (state (digest x.origin x.history)) ∷ [])) ])
       go None = tt
       go (Some x) = shown_steady w (state_line n (state (digest x.origin x.history)) ∷ []) refl h
 
   image_line_steady : (w : World) (s : List ℕ) → Has ds ks w → Leaves (image_line w s)
   image_line_steady w s h = go (find_site w.sites s)
     where
-      go : (o : Option Site) → Leaves (elim o as (λ _. Result Turn Fault) [ None ↦ Err Name | Some x ↦ Ok (shows w (OutLine.Image s (disk_bytes x.disk) ∷ [])) ])
+      go : (o : Option Site) → Leaves (elim o as (λ _. Result WorldTurn Fault) [ None ↦ Err Name | Some x ↦ Ok (shows w (OutLine.Image s (disk_bytes x.disk) ∷ [])) ])
       go None = tt
       go (Some x) = shown_steady w (OutLine.Image s (disk_bytes x.disk) ∷ []) refl h
 
@@ -279,5 +279,5 @@ module _ (ds : List Drive) (ks : List ℕ) where
   line_leaves k w (Line.Auto n j) b h = absurd cc
   line_leaves k w (Line.Leave j) b h = absurd cc
 
-pub line_steady : (members : ℕ) (w : World) (l : Line) (t : Turn) → is_silent l ≡ false → line members w l ≡ Ok t → IsSteady w.drives w.dropped t
+pub line_steady : (members : ℕ) (w : World) (l : Line) (t : WorldTurn) → is_silent l ≡ false → line members w l ≡ Ok t → IsSteady w.drives w.dropped t
 line_steady members w l t shown is = subst (Leaves w.drives w.dropped) is (line_leaves w.drives w.dropped members w l shown (record { drives = refl; dropped = refl }))

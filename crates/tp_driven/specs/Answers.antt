@@ -7,7 +7,7 @@ use Rattle.tp_model.specs.declared.line.Line.{Line}
 use Rattle.tp_model.specs.declared.out_line.OutLine.{OutLine}
 use Rattle.tp_model.specs.World.{World}
 use Rattle.tp_model.specs.Lines.{Fault}
-use Rattle.tp_model.specs.Transcript.{Put, Play, answered, echo, played, with_lines}
+use Rattle.tp_model.specs.Transcript.{Put, Play, answered, echo, with_lines, line_played}
 use Rattle.tp_driven.specs.Members.{Gave}
 
 abbrev pub with_puts : List Put → Play → Play
@@ -38,7 +38,7 @@ pub record IsPlayed {M : Type 0} (allowed : M → List Answer → Type 0) (old n
   pub put : List Put
   pub given : List (Option Request)
   pub each : length given ≡ length put
-  pub plays : (later : List (Option Request)) → played members (given ++ later) w l ≡ record { world = v; lines = echo l ++ shown; puts = put; left = later; fault = None }
+  pub plays : (later : List (Option Request)) → line_played members (given ++ later) w l ≡ record { world = v; lines = echo l ++ shown; puts = put; left = later; fault = None }
   pub gave : Gave allowed old new put given
   pub count : length new ≡ length old
 
@@ -47,6 +47,6 @@ pub record IsEnded {M : Type 0} (allowed : M → List Answer → Type 0) (old ne
   pub given : List (Option Request)
   pub play : Play
   pub each : length given ≡ length play.puts
-  pub plays : (later : List (Option Request)) → played members (given ++ later) w l ≡ record play { left = later }
+  pub plays : (later : List (Option Request)) → line_played members (given ++ later) w l ≡ record play { left = later }
   pub fault : play.fault ≡ Some f
   pub gave : Gave allowed old new play.puts given

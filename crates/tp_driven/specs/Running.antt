@@ -6,7 +6,7 @@ use Rattle.tp_model.specs.declared.line.LineRequest.{LineRequest}
 use Rattle.tp_model.specs.declared.out_line.OutLine.{OutLine}
 use Rattle.tp_model.specs.LineText.{line_text}
 use Rattle.tp_model.specs.World.{World, driver_of}
-use Rattle.tp_model.specs.Happenings.{Turn}
+use Rattle.tp_model.specs.Happenings.{WorldTurn}
 use Rattle.tp_model.specs.Lines.{Name, Over}
 use Rattle.tp_model.specs.Transcript.{Put, answer_turn}
 use Rattle.tp_members.specs.Expansion.{memberless}
@@ -20,7 +20,7 @@ use Rattle.tp_driven.specs.Standing.{MembersStand}
 -- the answer was run as a line; out of memory is the free answer
 abbrev pub RunsAnswer : ℕ → World → ℕ → LineRequest → List OutLine → Result (Unit {0}) WorldFault → List OutLine → CodeWorld → Type 0
 RunsAnswer before w n r lines (Ok u) shown new =
-    (t : Turn) × (answer_turn before w n r ≡ Ok t) × (shown ≡ lines ++ OutLine.Echo (line_text (Line.Do n r)) ∷ t.lines) × WorldStands t.world new
+    (t : WorldTurn) × (answer_turn before w n r ≡ Ok t) × (shown ≡ lines ++ OutLine.Echo (line_text (Line.Do n r)) ∷ t.lines) × WorldStands t.world new
 RunsAnswer before w n r lines (Err WorldFault.Name) shown new = answer_turn before w n r ≡ Err Name
 RunsAnswer before w n r lines (Err (WorldFault.Limit what)) shown new = answer_turn before w n r ≡ Err (Over what)
 RunsAnswer before w n r lines (Err WorldFault.NoMemory) shown new = Unit {0}

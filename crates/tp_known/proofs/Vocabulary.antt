@@ -34,8 +34,8 @@ pub use Rattle.tp_model.specs.Parts.{Arc, Dialogue, Link, Live, Offered, Opening
 pub use Rattle.tp_model.specs.Transactions.{Transaction, part_by_part, acts, is_under_at, transacted, row_holds, find_row, Row, fresh_rows, node_key, Turn, is_under, aaid_of, carry_up, carry_down, prepare_each, forgets, done_up, ends_down, end_up, ask_each, retried, turn, and_then, with_row, takes, put_row, with_arc_lost, all_prepared, all_done, child_of, fresh_branch, takes_left, find_row_by_id, is_open_in_commit, with_branch, before, log_ready, roll, superior_rolls, rollback_rec, superior_of}
 unfoldable pub use Rattle.tp_model.specs.Transactions.{leave, sight_of_tx, situation_of, refused_tx, ask_commit, order, count_branch, end_branch, branch_left, complete_commit, complete_rollback, begin_rolling, settle}
 pub use Rattle.tp_model.specs.Arcs.{carried, find_arc, is_live_with_peer, link_of, performed, with_dialogue, with_dialogues, with_link, without_arc, carried_on, link_with, put_arc, performed_one}
-pub use Rattle.tp_model.specs.Questions.{has_said, said_to, Cause, Begun_by, cause_by, holder_in, acting_from, was_branch, is_up, is_at, completes, enters, Completed_below, Granted_away, Granted_here, Handshake_granted_here, Left_transaction, is_grant_record, is_handshake_grant_record, is_left_record, Nothing_said, last_cause, holds_by, is_granting_cause, is_record, tells_commit_complete, tells_rollback_complete, logs_ready_or_commit, heard_from, holds_in, is_begin, units_before, is_defer_end_record, is_defer_grant_record, ends_deferral, set_deferral, deferral_in, is_handshake_record, clears_handshakes, owes_response_in, due_in, awaits_in, is_left_end, link_in, superior_in, shuts_to, is_abort, is_end_dialogue, sent_more, link_by, closes_by_deferral, count_records, is_crash, is_left_only, rests_in}
-pub use Rattle.tp_model.specs.Node.{is_granting, grants, Move, move, followed, perform, phase_of, fresh_current, begin_each, begin_chained, chained_peers, situation_at, next_mark, superior_arc, restarted, is_over, seen, turned, passage, left_arcs, is_arc_below, is_end_deferred_at, with_mark_drawn, has_none, may_root, is_superior, seen_rows, branches_of, may_begin_on, remaining, Passage, Leaves, is_leaving, is_arc_of, Commits, Enters, Falls, Falls_at_once, Rolls_back, Stays, keep, without_deferral, completed_arcs, committed_arcs, committed_dialogue, around_grants, side_at, passed, with_begun, is_up_ending, perform_commit, seen_row}
+pub use Rattle.tp_model.specs.Questions.{has_said, said_to, Cause, Begun_by, cause_by, holder_in, acting_from, was_branch, is_up, is_at, completes, enters, Completed_below, Granted_away, Granted_here, Handshake_granted_here, Left_transaction, is_grant_record, is_handshake_grant_record, is_left_record, Nothing_said, last_cause, holds_by, is_granting_cause, is_record, tells_commit_complete, tells_rollback_complete, logs_ready_or_commit, heard_from, holds_in, is_begin, units_before, is_defer_end_record, is_defer_grant_record, ends_deferral, set_deferral, deferral_in, is_handshake_record, clears_handshakes, owes_response_in, due_in, awaits_in, is_left_end, link_in, superior_in, shuts_to, is_abort, is_end_dialogue, sent_more, link_by, closes_by_deferral, is_crash, is_left_only, rests_in}
+pub use Rattle.tp_model.specs.Node.{is_granting, grants, Move, move, followed, perform, phase_of, fresh_current, begin_each, begin_chained, chained_peers, situation_at, next_mark, superior_arc, is_over, seen, turned, passage, left_arcs, is_arc_below, is_end_deferred_at, with_mark_drawn, has_none, may_root, is_superior, seen_rows, branches_of, may_begin_on, remaining, Passage, Leaves, is_leaving, is_arc_of, Commits, Enters, Falls, Falls_at_once, Rolls_back, Stays, keep, without_deferral, completed_arcs, committed_arcs, committed_dialogue, around_grants, side_at, passed, with_begun, is_up_ending, perform_commit, seen_row, started_next}
 unfoldable pub use Rattle.tp_model.specs.Node.{begin_on, transact, entered, played, try_start, start_root}
 pub use Rattle.tp_model.specs.Links.{is_live, with_one_taken, is_idle}
 pub use Rattle.tp_model.specs.Events.{action, named_again, recovered, recovered_current, key_in_log, current_in_log, decision_of, without_current, current_by, current_from}

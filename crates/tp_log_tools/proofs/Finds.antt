@@ -6,19 +6,20 @@ use Rattle.tp_logrec.specs.declared.record.LogRec.{LogRec}
 use Rattle.tp_logrec.specs.declared.owner.Owner.{Owner}
 use Rattle.tp_logrec.specs.LogText.{Placed}
 use Rattle.tp_logrec.specs.Order.{owner_of, is_of, is_owner, is_damage}
-use Rattle.tp_model.specs.LogCommands.{records_of, has_later, is_finding, findings}
+use Rattle.tp_model.specs.LogCommands.{has_later, is_finding, findings}
+use Rattle.tp_logrec.specs.LogText.{recs}
 use Rattle.tp_log_tools.specs.Findings.{has_any, is_found, found_from, at_index, picked}
 
 -- ---- by places and by indices
 
-later_alike : (o : Owner) (ps : List Placed) → has_any o (records_of ps) ≡ has_later o ps
+later_alike : (o : Owner) (ps : List Placed) → has_any o (recs ps) ≡ has_later o ps
 later_alike o [] = refl
 later_alike o (p ∷ ps) = ap (λ t. is_of o p.rec || t) (later_alike o ps)
 
-found_alike : (r : LogRec) (ps : List Placed) → is_found r (records_of ps) ≡ is_finding r ps
+found_alike : (r : LogRec) (ps : List Placed) → is_found r (recs ps) ≡ is_finding r ps
 found_alike r ps = go (owner_of r)
   where
-    go : (o : Option Owner) → (is_damage r && elim o as (λ _. Bool) [ None ↦ false | Some o ↦ not (has_any o (records_of ps)) ]) ≡ (is_damage r && elim o as (λ _. Bool) [ None ↦ false | Some o ↦ not (has_later o ps) ])
+    go : (o : Option Owner) → (is_damage r && elim o as (λ _. Bool) [ None ↦ false | Some o ↦ not (has_any o (recs ps)) ]) ≡ (is_damage r && elim o as (λ _. Bool) [ None ↦ false | Some o ↦ not (has_later o ps) ])
     go None = refl
     go (Some o) = ap (λ t. is_damage r && not t) (later_alike o ps)
 
@@ -26,26 +27,26 @@ index_at : (front : List Placed) (p : Placed) (ps : List Placed) → at_index (f
 index_at [] p ps = refl
 index_at (q ∷ front) p ps = index_at front p ps
 
-picked_after : (front ps : List Placed) (n : ℕ) → n ≡ length front → picked (front ++ ps) (found_from n (records_of ps)) ≡ findings ps
+picked_after : (front ps : List Placed) (n : ℕ) → n ≡ length front → picked (front ++ ps) (found_from n (recs ps)) ≡ findings ps
 picked_after front [] n is = refl
 picked_after front (p ∷ ps) n is =
     let whole : (front ++ p ∷ []) ++ ps ≡ front ++ p ∷ ps = append_assoc front (p ∷ []) ps in
     let long : n + 1 ≡ length (front ++ p ∷ []) = omega (arith, is, longer front) in
-    let rest : picked (front ++ p ∷ ps) (found_from (n + 1) (records_of ps)) ≡ findings ps = ap (λ l. picked l (found_from (n + 1) (records_of ps))) (sym whole) ∙ picked_after (front ++ p ∷ []) ps (n + 1) long in
-    go (is_found p.rec (records_of ps)) (is_finding p.rec ps) (found_alike p.rec ps) rest
+    let rest : picked (front ++ p ∷ ps) (found_from (n + 1) (recs ps)) ≡ findings ps = ap (λ l. picked l (found_from (n + 1) (recs ps))) (sym whole) ∙ picked_after (front ++ p ∷ []) ps (n + 1) long in
+    go (is_found p.rec (recs ps)) (is_finding p.rec ps) (found_alike p.rec ps) rest
   where
     longer : (xs : List Placed) → length (xs ++ p ∷ []) ≡ length xs + 1
     longer [] = refl
     longer (x ∷ xs) = omega (arith, longer xs)
 
-    go : (t u : Bool) → t ≡ u → picked (front ++ p ∷ ps) (found_from (n + 1) (records_of ps)) ≡ findings ps
-        → picked (front ++ p ∷ ps) (elim t as (λ _. List ℕ) [ true ↦ n ∷ found_from (n + 1) (records_of ps) | false ↦ found_from (n + 1) (records_of ps) ]) ≡ (elim u as (λ _. List Placed) [ true ↦ p ∷ findings ps | false ↦ findings ps ])
-    go true true e rest = ap (λ k. at_index (front ++ p ∷ ps) k ++ picked (front ++ p ∷ ps) (found_from (n + 1) (records_of ps))) is ∙ ap (λ l. l ++ picked (front ++ p ∷ ps) (found_from (n + 1) (records_of ps))) (index_at front p ps) ∙ ap (λ l. p ∷ l) rest
+    go : (t u : Bool) → t ≡ u → picked (front ++ p ∷ ps) (found_from (n + 1) (recs ps)) ≡ findings ps
+        → picked (front ++ p ∷ ps) (elim t as (λ _. List ℕ) [ true ↦ n ∷ found_from (n + 1) (recs ps) | false ↦ found_from (n + 1) (recs ps) ]) ≡ (elim u as (λ _. List Placed) [ true ↦ p ∷ findings ps | false ↦ findings ps ])
+    go true true e rest = ap (λ k. at_index (front ++ p ∷ ps) k ++ picked (front ++ p ∷ ps) (found_from (n + 1) (recs ps))) is ∙ ap (λ l. l ++ picked (front ++ p ∷ ps) (found_from (n + 1) (recs ps))) (index_at front p ps) ∙ ap (λ l. p ∷ l) rest
     go false false e rest = rest
     go true false e rest = absurd cc
     go false true e rest = absurd cc
 
-pub findings_picked : (ps : List Placed) → picked ps (found_from 0 (records_of ps)) ≡ findings ps
+pub findings_picked : (ps : List Placed) → picked ps (found_from 0 (recs ps)) ≡ findings ps
 findings_picked ps = picked_after [] ps 0 refl
 
 -- each of them is an index of the list

@@ -7,7 +7,7 @@ use Rattle.tp_logrec.specs.declared.record.LogVersion.{LogVersion}
 use Rattle.tp_logrec.specs.RecordText.{record_bytes}
 use Rattle.tp_logrec.specs.LogText.{HaveBodies, log_name, log_text, LogReading, Foreign, Reads, Placed, fitting, last_place, read_log}
 use Rattle.tp_logrec.proofs.Logs.{placed_from, start, listed_back, not_two, fitting_is}
-use Rattle.tp_model.specs.LogCommands.{is_back, started, moved, moved_by}
+use Rattle.tp_model.specs.LogCommands.{is_back, moved, moved_by, start_leaves}
 use Rattle.tp_journal.specs.Log.{blocks, head, StandsInFront, StandsBehind, StandsFor}
 use Rattle.tp_journal.specs.Records.{version_of, HasText, text, bodies_of, receipts_from, placed}
 use Rattle.tp_journal.proofs.AsLogs.{bodies_text}
@@ -52,7 +52,7 @@ started_by bytes false reading = bytes
 started_by bytes true (Foreign at) = bytes
 started_by bytes true (Reads ver ps gate) = log_name ++ 1 ∷ take (suc gate - last_place bytes) (drop (last_place bytes) bytes)
 
-pub started_is : (bytes : List ℕ) → started bytes ≡ started_by bytes (is_back bytes) (read_log bytes)
+pub started_is : (bytes : List ℕ) → start_leaves bytes ≡ started_by bytes (is_back bytes) (read_log bytes)
 started_is bytes = go (is_back bytes) (read_log bytes)
   where
     go : (t : Bool) (reading : LogReading)

@@ -8,7 +8,7 @@ use Rattle.tp_logrec.specs.declared.record.LogVersion.{LogVersion}
 use Rattle.tp_logrec.specs.LogText.{LogReading, Foreign, Reads, Placed, read_log, IsLog}
 use Rattle.tp_logrec.specs.Order.{all_follow}
 use Rattle.tp_logrec.proofs.Logs.{one_list}
-use Rattle.tp_model.specs.LogCommands.{is_back, Opened, Has, Is_foreign, opened, in_order, moved, moved_by, disordered, started as start_leaves}
+use Rattle.tp_model.specs.LogCommands.{is_back, Opened, Has, Is_foreign, opened, in_order, moved, moved_by, disordered, start_leaves}
 use Rattle.tp_journal.specs.declared.faults.StartFault.{StartFault}
 use Rattle.tp_journal.specs.declared.receipts.Receipt.{Receipt}
 use Rattle.tp_journal.specs.Disorder.{IsFirstOutOfOrder}

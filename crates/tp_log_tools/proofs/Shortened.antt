@@ -7,7 +7,8 @@ use Rattle.tp_logrec.specs.declared.record.LogRec.{LogRec}
 use Rattle.tp_logrec.specs.declared.record.LogVersion.{LogVersion}
 use Rattle.tp_logrec.specs.LogText.{IsLog}
 use Rattle.tp_logrec.specs.Order.{brief}
-use Rattle.tp_model.specs.LogCommands.{records_of, started, migrated, log_bytes as bytes_of}
+use Rattle.tp_model.specs.LogCommands.{migrated, log_bytes as bytes_of, start_leaves}
+use Rattle.tp_logrec.specs.LogText.{recs}
 use Rattle.tp_journal.specs.declared.faults.ForceFault.{ForceFault}
 use Rattle.tp_journal.specs.Journals.{Kept, RefusesMigrate, size_of}
 use Rattle.tp_journal.specs.Log.{blocks, head, most_bytes, StandsForEither}
@@ -23,11 +24,11 @@ use Rattle.tp_log_tools.specs.Shortening.{Compacts, Migrates, IsTooLong, StopsMi
 
 -- ---- bytes
 
-pub records_placed : (wide : Bool) (at : ℕ) (rs : List LogRec) → records_of (as_placed (receipts_from at wide rs)) ≡ rs
+pub records_placed : (wide : Bool) (at : ℕ) (rs : List LogRec) → recs (as_placed (receipts_from at wide rs)) ≡ rs
 records_placed wide at [] = refl
 records_placed wide at (r ∷ rs) = ap (λ l. r ∷ l) (records_placed wide (at + 3 + length (text wide r)) rs)
 
-pub brief_alike : (wide : Bool) (rs : List LogRec) → brief rs ≡ brief (records_of (as_placed (placed wide rs)))
+pub brief_alike : (wide : Bool) (rs : List LogRec) → brief rs ≡ brief (recs (as_placed (placed wide rs)))
 brief_alike wide rs = ap brief (sym (records_placed wide (first_place wide) rs))
 
 bytes_alike : (wide : Bool) (rs : List LogRec) → AllByRecursion (HasText wide) rs → log_bytes wide rs ≡ bytes_of (version_of wide) rs
@@ -40,7 +41,7 @@ module _ (wide : Bool) (list : List LogRec) (each : AllByRecursion (HasText wide
   pub brief_widened : AllByRecursion (HasText true) (brief list)
   brief_widened = texts_widened wide (brief list) brief_texts
 
-  compacted_alike : log_bytes wide (brief list) ≡ bytes_of (version_of wide) (brief (records_of (as_placed (placed wide list))))
+  compacted_alike : log_bytes wide (brief list) ≡ bytes_of (version_of wide) (brief (recs (as_placed (placed wide list))))
   compacted_alike = bytes_alike wide (brief list) brief_texts ∙ ap (bytes_of (version_of wide)) (brief_alike wide list)
 
   migrated_alike : log_bytes true (brief list) ≡ migrated (as_placed (placed wide list))
@@ -58,7 +59,7 @@ module _ (wide : Bool) (list : List LogRec) (each : AllByRecursion (HasText wide
     pub is_told : (t : Story) × (mid ≡ Some t)
     is_told = go mid opens.left
       where
-        go : (o : Option Story) → IsOn o (started file) → (t : Story) × (o ≡ Some t)
+        go : (o : Option Story) → IsOn o (start_leaves file) → (t : Story) × (o ≡ Some t)
         go None on = absurd on
         go (Some t) on = (t, refl)
 

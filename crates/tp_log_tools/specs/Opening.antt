@@ -3,7 +3,7 @@ use Rattle.std.specs.Prelude.{ℕ, ◌≡◌, ◌⊎◌, Bool, Option, Some, Lis
 use Rattle.tp_outside.specs.Story.{Story, Synced, seen}
 use Rattle.tp_logrec.specs.declared.record.LogRec.{LogRec}
 use Rattle.tp_logrec.specs.LogText.{IsLog}
-use Rattle.tp_model.specs.LogCommands.{Has, Is_foreign, opened, started}
+use Rattle.tp_model.specs.LogCommands.{Has, Is_foreign, opened, start_leaves}
 use Rattle.tp_journal.specs.declared.faults.StartFault.{StartFault}
 use Rattle.tp_journal.specs.Records.{version_of, placed}
 use Rattle.tp_journal.specs.Told.{IsOn, LeavesOnly}
@@ -26,7 +26,7 @@ HoldsThroughout P old new = (new ≡ Some old) ⊎ LeavesOnly P (Some (Synced ol
 -- the records stand as they are read, and the disk has what a start leaves
 pub record Opens (file : List ℕ) (wide : Bool) (rs : List LogRec) (new : Option Story) : Type 0 where
   pub opens : opened file ≡ Has (version_of wide) (as_placed (placed wide rs))
-  pub left : IsOn new (started file)
+  pub left : IsOn new (start_leaves file)
 
 -- they are those of the log, and a crash at any moment since the first sync leaves a log of them
 pub record LeavesLog (old : Story) (rs list : List LogRec) (new : Option Story) : Type 0 where
@@ -42,7 +42,7 @@ stopped_by StartFault.NoMemory = Stop.NoMemory
 abbrev pub StopsOpening : List ℕ → Option Story → Stop → Type 0
 StopsOpening file new (Stop.BadInput at why) = ⊥
 StopsOpening file new (Stop.Limit what at) = ⊥
-StopsOpening file new (Stop.Foreign at) = (opened file ≡ Is_foreign at) × ReadsAs new (started file)
+StopsOpening file new (Stop.Foreign at) = (opened file ≡ Is_foreign at) × ReadsAs new (start_leaves file)
 StopsOpening file new (Stop.ReadFault faults) = ⊥
 StopsOpening file new (Stop.WriteFault faults) = ⊥
 StopsOpening file new (Stop.DiskFault faults) = Unit {0}

@@ -3,7 +3,7 @@ use Rattle.std.specs.Prelude.{ℕ, ◌≡◌, ◌<◌, ◌^◌, Bool, List, [], 
 use Rattle.tp_names.specs.Places.{AreBytes}
 use Rattle.tp_logrec.specs.declared.record.LogRec.{LogRec}
 use Rattle.tp_logrec.specs.LogText.{Reads, Placed, read_log}
-use Rattle.tp_model.specs.LogCommands.{started, moved, moved_by}
+use Rattle.tp_model.specs.LogCommands.{moved, moved_by, start_leaves}
 use Rattle.tp_journal.specs.declared.receipts.Receipt.{Receipt}
 use Rattle.tp_journal.specs.Log.{StandsFor}
 use Rattle.tp_journal.specs.Records.{bodies_of, version_of, placed}
@@ -26,4 +26,4 @@ pub record IsReadAlike (file : List ℕ) (wide : Bool) (rs : List LogRec) (stand
   pub gate : ℕ
   pub reads : read_log file ≡ Reads (version_of wide) listed gate
   pub places : moved (moved_by file) listed ≡ as_placed (placed wide rs)
-  pub bytes : started_bytes file (bodies_of wide rs) stands ≡ started file
+  pub bytes : started_bytes file (bodies_of wide rs) stands ≡ start_leaves file

@@ -4,7 +4,7 @@ use Rattle.tp_outside.specs.Story.{Story}
 use Rattle.tp_logrec.specs.declared.record.LogVersion.{LogVersion}
 use Rattle.tp_logrec.specs.LogText.{Placed}
 use Rattle.tp_model.specs.declared.verdict.What.{What}
-use Rattle.tp_model.specs.LogCommands.{Has, Is_foreign, opened, started, compacted, migrated}
+use Rattle.tp_model.specs.LogCommands.{Has, Is_foreign, opened, compacted, migrated, start_leaves}
 use Rattle.tp_journal.specs.declared.faults.CompactFault.{CompactFault}
 use Rattle.tp_journal.specs.declared.faults.ForceFault.{ForceFault}
 use Rattle.tp_journal.specs.Log.{most_bytes}
@@ -34,7 +34,7 @@ pub record IsTooLong (file : List ℕ) (left : Option Story) : Type 0 where
   pub listed : List Placed
   pub opens : opened file ≡ Has version listed
   pub long : most_bytes < length (migrated listed)
-  pub disk : IsOn left (started file)
+  pub disk : IsOn left (start_leaves file)
 
 -- ---- compact
 
@@ -46,7 +46,7 @@ compacted_by CompactFault.NoMemory = Stop.NoMemory
 abbrev pub StopsCompact : List ℕ → Option Story → Stop → Type 0
 StopsCompact file left (Stop.BadInput at why) = ⊥
 StopsCompact file left (Stop.Limit what at) = ⊥
-StopsCompact file left (Stop.Foreign at) = (opened file ≡ Is_foreign at) × ReadsAs left (started file)
+StopsCompact file left (Stop.Foreign at) = (opened file ≡ Is_foreign at) × ReadsAs left (start_leaves file)
 StopsCompact file left (Stop.ReadFault faults) = ⊥
 StopsCompact file left (Stop.WriteFault faults) = ⊥
 StopsCompact file left (Stop.DiskFault faults) = Unit {0}
@@ -73,7 +73,7 @@ migrated_by ForceFault.NoMemory = Stop.NoMemory
 abbrev pub StopsMigrate : List ℕ → Option Story → Stop → Type 0
 StopsMigrate file left (Stop.BadInput at why) = ⊥
 StopsMigrate file left (Stop.Limit what at) = IsTooLong file left
-StopsMigrate file left (Stop.Foreign at) = (opened file ≡ Is_foreign at) × ReadsAs left (started file)
+StopsMigrate file left (Stop.Foreign at) = (opened file ≡ Is_foreign at) × ReadsAs left (start_leaves file)
 StopsMigrate file left (Stop.ReadFault faults) = ⊥
 StopsMigrate file left (Stop.WriteFault faults) = ⊥
 StopsMigrate file left (Stop.DiskFault faults) = Unit {0}

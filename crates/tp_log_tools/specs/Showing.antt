@@ -3,7 +3,7 @@ use Rattle.std.specs.Prelude.{ℕ, ◌≡◌, ◌⊎◌, Option, Some, List, ◌
 use Rattle.tp_outside.specs.Story.{Story}
 use Rattle.tp_logrec.specs.declared.record.LogVersion.{LogVersion}
 use Rattle.tp_logrec.specs.LogText.{Placed}
-use Rattle.tp_model.specs.LogCommands.{Has, Is_foreign, opened, started, placed_texts, findings}
+use Rattle.tp_model.specs.LogCommands.{Has, Is_foreign, opened, placed_texts, findings, start_leaves}
 use Rattle.tp_journal.specs.Told.{IsOn}
 use Rattle.tp_streams.specs.declared.stop.Stop.{Stop}
 use Rattle.tp_streams.specs.Stops.{IsFaultOf}
@@ -19,7 +19,7 @@ pub record Shows (file : List ℕ) (texts : List Placed → List ℕ) (old new :
   pub listed : List Placed
   pub opens : opened file ≡ Has version listed
   pub written : (before : List ℕ) → old ≡ Some before → new ≡ Some (before ++ texts listed)
-  pub disk : IsOn left (started file)
+  pub disk : IsOn left (start_leaves file)
 
 -- or a prefix of it
 pub record ShowsPart (file : List ℕ) (texts : List Placed → List ℕ) (old new : Option (List ℕ)) (left : Option Story) : Type 0 where
@@ -27,7 +27,7 @@ pub record ShowsPart (file : List ℕ) (texts : List Placed → List ℕ) (old n
   pub listed : List Placed
   pub opens : opened file ≡ Has version listed
   pub written : (before : List ℕ) → old ≡ Some before → WritesPrefix before (texts listed) new
-  pub disk : IsOn left (started file)
+  pub disk : IsOn left (start_leaves file)
 
 -- the findings, of which there are so many
 pub record Checks (file : List ℕ) (n : ℕ) (old new : Option (List ℕ)) (left : Option Story) : Type 0 where
@@ -38,7 +38,7 @@ pub record Checks (file : List ℕ) (n : ℕ) (old new : Option (List ℕ)) (lef
 abbrev pub StopsShow : List ℕ → (List Placed → List ℕ) → Option (List ℕ) → Option (List ℕ) → Option Story → Stop → Type 0
 StopsShow file texts old new left (Stop.BadInput at why) = ⊥
 StopsShow file texts old new left (Stop.Limit what at) = ⊥
-StopsShow file texts old new left (Stop.Foreign at) = (opened file ≡ Is_foreign at) × ReadsAs left (started file)
+StopsShow file texts old new left (Stop.Foreign at) = (opened file ≡ Is_foreign at) × ReadsAs left (start_leaves file)
 StopsShow file texts old new left (Stop.ReadFault faults) = ⊥
 StopsShow file texts old new left (Stop.WriteFault faults) = ShowsPart file texts old new left
 StopsShow file texts old new left (Stop.DiskFault faults) = new ≡ old

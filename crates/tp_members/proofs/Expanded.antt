@@ -10,10 +10,10 @@ use Rattle.tp_model.specs.declared.line.Line.{Line}
 use Rattle.tp_model.specs.declared.out_line.OutLine.{OutLine}
 use Rattle.tp_model.specs.LineText.{line_text}
 use Rattle.tp_model.specs.World.{World, empty_world}
-use Rattle.tp_model.specs.Happenings.{Turn}
+use Rattle.tp_model.specs.Happenings.{WorldTurn}
 use Rattle.tp_model.specs.Lines.{Fault, action_line, line}
 use Rattle.tp_model.specs.Trees.{closing}
-use Rattle.tp_model.specs.Transcript.{Put, Play, puts_of, line_request, answer_turn, answered, is_silent, echo, played, transcript_with, with_put, with_lines, stopped}
+use Rattle.tp_model.specs.Transcript.{Put, Play, puts_of, line_request, answer_turn, answered, is_silent, echo, transcript_with, with_put, with_lines, stopped, line_played}
 use Rattle.tp_model.specs.Expand.{behind_play, played_all, answer_lines, shown_line, expanded_from, expanded, shown_of, IsExpanded}
 use Rattle.tp_members.specs.Expansion.{memberless, LeavesItsWorld, ClosesAlike, SpeaksOfNone, IsWrittenOut, lines_in}
 use Rattle.tp_members.proofs.Memberless.{turn_without, result_without, line_without, IsQuiet, quiet_line}
@@ -32,16 +32,16 @@ abbrev pub goes_on : ℕ → Play → List Line → Play
 goes_on members p ls = elim p.fault [ Some f ↦ p | None ↦ behind_play p (played_all members p.left p.world ls) ]
 
 -- what a line does, with its answers
-abbrev pub answered_line : Line → List (Option Request) → Result Turn Fault → World → Play
+abbrev pub answered_line : Line → List (Option Request) → Result WorldTurn Fault → World → Play
 answered_line l answers r w = elim r [
   | Err f ↦ stopped w answers f
   | Ok t ↦ with_lines (echo l ++ t.lines) (answered answers 0 t.world (puts_of t.world t.told))
 ]
 
-same_line : (v : World) (l : Line) (t : Turn) → line 0 v l ≡ Ok t → played 0 [] v l ≡ answered_line l [] (Ok t) v
-same_line v l t h = rw (h, played) refl
+same_line : (v : World) (l : Line) (t : WorldTurn) → line 0 v l ≡ Ok t → line_played 0 [] v l ≡ answered_line l [] (Ok t) v
+same_line v l t h = rw (h, line_played) refl
 
-shows_first : (v : World) (l : Line) (ls : List Line) (t : Turn) (u : World) (xs : List OutLine) → line 0 v l ≡ Ok t → Shows t.world ls u xs → Shows v (l ∷ ls) u ((echo l ++ t.lines) ++ xs)
+shows_first : (v : World) (l : Line) (ls : List Line) (t : WorldTurn) (u : World) (xs : List OutLine) → line 0 v l ≡ Ok t → Shows t.world ls u xs → Shows v (l ∷ ls) u ((echo l ++ t.lines) ++ xs)
 shows_first v l ls t u xs h s =
     let e : played_all 0 [] v (l ∷ ls) ≡ goes_on 0 (answered_line l [] (Ok t) v) ls = ap (λ (p : Play). goes_on 0 p ls) (same_line v l t h) in
     record {
@@ -53,10 +53,10 @@ shows_first v l ls t u xs h s =
 -- ---- answers
 
 -- an answer that was run is such a line
-answer_is_line : (before : ℕ) (w : World) (n : ℕ) (r : LineRequest) (t : Turn) → answer_turn before w n r ≡ Ok t → action_line w (Action.Do n r) ≡ Ok t
+answer_is_line : (before : ℕ) (w : World) (n : ℕ) (r : LineRequest) (t : WorldTurn) → answer_turn before w n r ≡ Ok t → action_line w (Action.Do n r) ≡ Ok t
 answer_is_line before w n r t h = grind (arith, h)
 
-answer_without : (before : ℕ) (w : World) (n : ℕ) (r : LineRequest) (t : Turn) → answer_turn before w n r ≡ Ok t → line 0 (memberless w) (Line.Do n r) ≡ Ok (turn_without t)
+answer_without : (before : ℕ) (w : World) (n : ℕ) (r : LineRequest) (t : WorldTurn) → answer_turn before w n r ≡ Ok t → line 0 (memberless w) (Line.Do n r) ≡ Ok (turn_without t)
 answer_without before w n r t h = line_without 0 w (Line.Do n r) refl ∙ ap result_without (answer_is_line before w n r t h)
 
 more_lines : (v : World) (ls : List Line) (u : World) (xs ys zs : List OutLine) → Shows v ls u (xs ++ (ys ++ zs)) → Shows v ls u (xs ++ ys ++ zs)
@@ -72,7 +72,7 @@ answers_show (a ∷ answers) before w [] rest u xs h s = s
 answers_show (None ∷ answers) before w (q ∷ qs) rest u xs h s = answers_show answers before w qs rest u xs h s
 answers_show (Some r ∷ answers) before w (q ∷ qs) rest u xs h s = go (answer_turn before w q.node (line_request r)) refl (λ v ps. answers_show answers (suc before) v ps rest u xs) h s
   where
-    play : Result Turn Fault → Play
+    play : Result WorldTurn Fault → Play
     play x = elim x [
       | Err f ↦ with_put q (stopped w answers f)
       | Ok t ↦ with_put
@@ -82,7 +82,7 @@ answers_show (Some r ∷ answers) before w (q ∷ qs) rest u xs h s = go (answer
           (answered answers (suc before) t.world (qs ++ puts_of t.world t.told)))
     ]
 
-    go : (x : Result Turn Fault) → answer_turn before w q.node (line_request r) ≡ x
+    go : (x : Result WorldTurn Fault) → answer_turn before w q.node (line_request r) ≡ x
         → ((v : World) (ps : List Put) → (answered answers (suc before) v ps).fault ≡ None → Shows (memberless (answered answers (suc before) v ps).world) rest u xs
         → Shows (memberless v) (answer_lines (answered answers (suc before) v ps).puts answers ++ rest) u ((answered answers (suc before) v ps).lines ++ xs))
         → (play x).fault ≡ None → Shows (memberless (play x).world) rest u xs → Shows (memberless w) (answer_lines (play x).puts (Some r ∷ answers) ++ rest) u ((play x).lines ++ xs)
@@ -114,7 +114,7 @@ echo_hidden : (l : Line) → is_silent l ≡ true → echo l ≡ []
 echo_hidden l h = rw (h, echo) refl
 
 -- the line itself, before what its expansion goes on with
-line_shows : (members : ℕ) (w : World) (l : Line) (t : Turn) (ms ls : List Line) (u : World) (xs : List OutLine) → line members w l ≡ Ok t
+line_shows : (members : ℕ) (w : World) (l : Line) (t : WorldTurn) (ms ls : List Line) (u : World) (xs : List OutLine) → line members w l ≡ Ok t
     → Shows (memberless t.world) (ms ++ ls) u xs → Shows (memberless w) (shown_line l ++ ms ++ ls) u ((echo l ++ t.lines) ++ xs)
 line_shows members w l t ms ls u xs h s = go (is_silent l) refl
   where
@@ -130,7 +130,7 @@ shows_all : (members : ℕ) (ls : List Line) (answers : List (Option Request)) (
 shows_all members [] answers w h = record { world = refl; lines = refl; fault = refl }
 shows_all members (l ∷ ls) answers w h = go (line members w l) refl (shows_all members ls) h
   where
-    behind : (t : Turn) (v : World) (zs : List OutLine) (ps : List Put) (left : List (Option Request)) (f : Option Fault) → line members w l ≡ Ok t
+    behind : (t : WorldTurn) (v : World) (zs : List OutLine) (ps : List Put) (left : List (Option Request)) (f : Option Fault) → line members w l ≡ Ok t
         → ((rest : List Line) (u : World) (xs : List OutLine) → f ≡ None → Shows (memberless v) rest u xs → Shows (memberless t.world) (answer_lines ps answers ++ rest) u (zs ++ xs))
         → ((played_all members left v ls).fault ≡ None → Shows (memberless v) (expanded_from members left v ls) (memberless (played_all members left v ls).world) (played_all members left v ls).lines)
         → ShowsPlay members w l answers ls (with_lines (echo l ++ t.lines) (record { world = v; lines = zs; puts = ps; left = left; fault = f }))
@@ -140,12 +140,12 @@ shows_all members (l ∷ ls) answers w h = go (line members w l) refl (shows_all
         more_lines (memberless w) _ (memberless p.world) (echo l ++ t.lines) zs p.lines
         (line_shows members w l t (answer_lines ps answers) (expanded_from members left v ls) (memberless p.world) (zs ++ p.lines) i (first _ _ _ refl (more h)))
 
-    go : (x : Result Turn Fault) → line members w l ≡ x
+    go : (x : Result WorldTurn Fault) → line members w l ≡ x
         → ((bs : List (Option Request)) (v : World) → (played_all members bs v ls).fault ≡ None → Shows (memberless v) (expanded_from members bs v ls) (memberless (played_all members bs v ls).world) (played_all members bs v ls).lines)
-        → ShowsPlay members w l answers ls (played members answers w l)
-    go x i more = subst (ShowsPlay members w l answers ls) (sym (rw (i, played) refl)) (by x i more)
+        → ShowsPlay members w l answers ls (line_played members answers w l)
+    go x i more = subst (ShowsPlay members w l answers ls) (sym (rw (i, line_played) refl)) (by x i more)
       where
-        by : (x : Result Turn Fault) → line members w l ≡ x
+        by : (x : Result WorldTurn Fault) → line members w l ≡ x
             → ((bs : List (Option Request)) (v : World) → (played_all members bs v ls).fault ≡ None → Shows (memberless v) (expanded_from members bs v ls) (memberless (played_all members bs v ls).world) (played_all members bs v ls).lines)
             → ShowsPlay members w l answers ls (answered_line l answers x w)
         by (Err f) i more = λ h. absurd (cc (h))
@@ -198,7 +198,7 @@ answers_are (q ∷ qs) (Some r ∷ answers) = All-cons IsShown (Line.Do q.node (
 
 expanded_is : (members : ℕ) (answers : List (Option Request)) (w : World) (ls : List Line) → All IsShown (expanded_from members answers w ls)
 expanded_is members answers w [] = All-nil IsShown
-expanded_is members answers w (l ∷ ls) = go (played members answers w l) (λ bs v. expanded_is members bs v ls)
+expanded_is members answers w (l ∷ ls) = go (line_played members answers w l) (λ bs v. expanded_is members bs v ls)
   where
     rest : (p : Play) (f : Option Fault) → All IsShown (expanded_from members p.left p.world ls) → All IsShown (elim f as (λ _. List Line) [ Some f ↦ [] | None ↦ expanded_from members p.left p.world ls ])
     rest p None more = more

@@ -10,7 +10,7 @@ use Rattle.tp_model.specs.LineReading.{Reading, Blank, Faulty, Says, read_line}
 use Rattle.tp_model.specs.World.{World, empty_world}
 use Rattle.tp_model.specs.Lines.{Fault, Name, Over}
 use Rattle.tp_model.specs.Trees.{closing}
-use Rattle.tp_model.specs.Transcript.{Play, RawLine, Transcript, Done, At_limit, Bad_input, raw_lines, taken_by, content, ends, behind, breaks, played, transcript_from, transcript_with}
+use Rattle.tp_model.specs.Transcript.{Play, RawLine, Transcript, Done, At_limit, Bad_input, raw_lines, content, ends, behind, breaks, transcript_from, transcript_with, octets_taken, line_played}
 use Rattle.tp_model.specs.Expand.{behind_play, played_all}
 use Rattle.tp_members.specs.Expansion.{lines_said, lines_in, written_by}
 
@@ -35,18 +35,18 @@ behind_played p q t h = record {
 transcript_played : (members at before : ℕ) (answers : List (Option Request)) (w : World) (ls : List RawLine) → (transcript_from members at before answers w ls).ending ≡ Done
     → IsPlayed (played_all members answers w (lines_said ls)) (transcript_from members at before answers w ls)
 transcript_played members at before answers w [] h = record { fault = refl; written = refl }
-transcript_played members at before answers w (l ∷ ls) h = go (nat_lt 1048576 (before + taken_by l)) (read_line (content l)) (λ bs v. transcript_played members (suc at) (before + taken_by l) bs v ls) h
+transcript_played members at before answers w (l ∷ ls) h = go (nat_lt 1048576 (before + octets_taken l)) (read_line (content l)) (λ bs v. transcript_played members (suc at) (before + octets_taken l) bs v ls) h
   where
     rest : List (Option Request) → World → Transcript
-    rest bs v = transcript_from members (suc at) (before + taken_by l) bs v ls
+    rest bs v = transcript_from members (suc at) (before + octets_taken l) bs v ls
 
     after : Line → Option Fault → Transcript
-    after x f = elim f [ Some f ↦ breaks at f (played members answers w x) | None ↦ behind (played members answers w x) (rest (played members answers w x).left (played members answers w x).world) ]
+    after x f = elim f [ Some f ↦ breaks at f (line_played members answers w x) | None ↦ behind (line_played members answers w x) (rest (line_played members answers w x).left (line_played members answers w x).world) ]
 
     play : Line → Option Fault → Play
     play x f = elim f [
-      | Some f ↦ played members answers w x
-      | None ↦ behind_play (played members answers w x) (played_all members (played members answers w x).left (played members answers w x).world (lines_said ls))
+      | Some f ↦ line_played members answers w x
+      | None ↦ behind_play (line_played members answers w x) (played_all members (line_played members answers w x).left (line_played members answers w x).world (lines_said ls))
     ]
 
     after_played : (x : Line) (f : Option Fault) → ((bs : List (Option Request)) (v : World) → (rest bs v).ending ≡ Done → IsPlayed (played_all members bs v (lines_said ls)) (rest bs v))
@@ -54,13 +54,13 @@ transcript_played members at before answers w (l ∷ ls) h = go (nat_lt 1048576 
     after_played x (Some Name) more h = absurd (cc (h))
     after_played x (Some (Over what)) more h = absurd (cc (h))
     after_played x None more h =
-        let p : Play = played members answers w x in
+        let p : Play = line_played members answers w x in
         behind_played p (played_all members p.left p.world (lines_said ls)) (rest p.left p.world) (more p.left p.world h)
 
     whole : Bool → Reading → Transcript
     whole b y = elim b [
       | true ↦ ends w (At_limit What.Schedule at)
-      | false ↦ elim y [ Blank ↦ rest answers w | Faulty why ↦ ends w (Bad_input at why) | Says x ↦ after x (played members answers w x).fault ]
+      | false ↦ elim y [ Blank ↦ rest answers w | Faulty why ↦ ends w (Bad_input at why) | Says x ↦ after x (line_played members answers w x).fault ]
     ]
 
     go : (b : Bool) (y : Reading) → ((bs : List (Option Request)) (v : World) → (rest bs v).ending ≡ Done → IsPlayed (played_all members bs v (lines_said ls)) (rest bs v))
@@ -68,7 +68,7 @@ transcript_played members at before answers w (l ∷ ls) h = go (nat_lt 1048576 
     go true y more h = absurd (cc (h))
     go false Blank more h = more answers w h
     go false (Faulty why) more h = absurd (cc (h))
-    go false (Says x) more h = after_played x (played members answers w x).fault more h
+    go false (Says x) more h = after_played x (line_played members answers w x).fault more h
 
 pub transcript_is_played : (members : ℕ) (schedule : List ℕ) (answers : List (Option Request)) → (transcript_with members schedule answers).ending ≡ Done
     → IsPlayed (played_all members answers empty_world (lines_in schedule)) (transcript_with members schedule answers)

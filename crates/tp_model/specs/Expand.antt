@@ -5,7 +5,7 @@ use Rattle.tp_records.specs.declared.request.Request.{Request}
 use Rattle.tp_model.specs.declared.line.Line.{Line}
 use Rattle.tp_model.specs.declared.out_line.OutLine.{OutLine}
 use Rattle.tp_model.specs.World.{World, empty_world}
-use Rattle.tp_model.specs.Transcript.{Put, Play, line_request, is_silent, played}
+use Rattle.tp_model.specs.Transcript.{Put, Play, line_request, is_silent, line_played}
 
 -- ---- a list of lines
 
@@ -15,7 +15,7 @@ behind_play p q = record { world = q.world; lines = p.lines ++ q.lines; puts = p
 abbrev pub played_all : ℕ → List (Option Request) → World → List Line → Play
 played_all members answers w [] = record { world = w; lines = []; puts = []; left = answers; fault = None }
 played_all members answers w (l ∷ ls) =
-    let p : Play = played members answers w l in
+    let p : Play = line_played members answers w l in
     elim p.fault [ Some f ↦ p | None ↦ behind_play p (played_all members p.left p.world ls) ]
 
 -- ---- the expansion
@@ -33,7 +33,7 @@ shown_line l = elim (is_silent l) [ true ↦ [] | false ↦ l ∷ [] ]
 abbrev pub expanded_from : ℕ → List (Option Request) → World → List Line → List Line
 expanded_from members answers w [] = []
 expanded_from members answers w (l ∷ ls) =
-    let p : Play = played members answers w l in
+    let p : Play = line_played members answers w l in
     shown_line l ++ answer_lines p.puts answers ++ elim p.fault [ Some f ↦ [] | None ↦ expanded_from members p.left p.world ls ]
 
 abbrev pub expanded : ℕ → List Line → List (Option Request) → List Line

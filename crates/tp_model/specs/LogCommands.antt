@@ -2,7 +2,7 @@
 use Rattle.std.specs.Prelude.{ℕ, suc, ◌-◌, ◌==◌, ◌&&◌, ◌||◌, not, Bool, true, false, Option, Some, None, List, [], ◌∷◌, ◌++◌, drop, take, slice_index}
 use Rattle.tp_logrec.specs.declared.record.LogRec.{LogRec}
 use Rattle.tp_logrec.specs.declared.record.LogVersion.{LogVersion}
-use Rattle.tp_logrec.specs.LogText.{Foreign, Reads, Placed, read_log, log_text, log_name, last_place}
+use Rattle.tp_logrec.specs.LogText.{Foreign, Reads, Placed, recs, read_log, log_text, log_name, last_place}
 use Rattle.tp_logrec.specs.declared.owner.Owner.{Owner}
 use Rattle.tp_logrec.specs.Order.{owner_of, is_of, is_damage, follows, brief}
 use Rattle.tp_model.specs.Words.{decimal, words}
@@ -19,8 +19,8 @@ abbrev pub moved_by : List ℕ → ℕ
 moved_by bytes = elim (is_back bytes) [ true ↦ last_place bytes - 5 | false ↦ 0 ]
 
 -- a text that stands at the back comes to the front, with its closing gate and nothing after it
-abbrev pub started : List ℕ → List ℕ
-started bytes = elim (is_back bytes) [
+abbrev pub start_leaves : List ℕ → List ℕ
+start_leaves bytes = elim (is_back bytes) [
   | false ↦ bytes
   | true ↦ elim (read_log bytes) [
     | Foreign at ↦ bytes
@@ -71,10 +71,6 @@ findings (p ∷ ps) = elim (is_finding p.rec ps) [ true ↦ p ∷ findings ps | 
 
 -- ---- what is left
 
-abbrev pub records_of : List Placed → List LogRec
-records_of [] = []
-records_of (p ∷ ps) = p.rec ∷ records_of ps
-
 abbrev pub log_bytes : LogVersion → List LogRec → List ℕ
 log_bytes ver rs = log_name ++ 1 ∷ log_text ver rs ++ 0 ∷ []
 
@@ -82,7 +78,7 @@ abbrev pub formatted : List ℕ
 formatted = log_bytes LogVersion.Two []
 
 abbrev pub compacted : LogVersion → List Placed → List ℕ
-compacted ver ps = log_bytes ver (brief (records_of ps))
+compacted ver ps = log_bytes ver (brief (recs ps))
 
 abbrev pub migrated : List Placed → List ℕ
-migrated ps = log_bytes LogVersion.Two (brief (records_of ps))
+migrated ps = log_bytes LogVersion.Two (brief (recs ps))

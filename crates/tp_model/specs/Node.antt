@@ -321,8 +321,8 @@ try_start who d =
 
 -- ---- an event of the current transaction, at the node
 
-abbrev pub restarted : Who → Passage → Move → Move
-restarted who w m = if is_over w then followed m (try_start who) else m
+abbrev pub started_next : Who → Passage → Move → Move
+started_next who w m = if is_over w then followed m (try_start who) else m
 
 -- what the event makes of the current transaction, before the next one starts
 abbrev pub turned : Who → TxEvent → Digest → Current → Move
@@ -344,7 +344,7 @@ passed who e d c =
     passage (is_leaving e) t.phase (transacted e t).next.phase
 
 unfoldable pub transact : Who → TxEvent → Digest → Move
-transact who e d = elim d.current [ None ↦ move [] d | Some c ↦ restarted who (passed who e d c) (turned who e d c) ]
+transact who e d = elim d.current [ None ↦ move [] d | Some c ↦ started_next who (passed who e d c) (turned who e d c) ]
 
 -- a step of a kept transaction, at the node
 abbrev pub keep : Step → Digest → Move

@@ -82,13 +82,13 @@ pub record NodeTranscript : Type 0 where
   -- the log that is left, oldest record first
   pub log : List LogRec
 
-abbrev pub is_over : Opening → List Given → Bool
-is_over o gs = nat_lt 268435456 (size_of o.version (log_after o gs))
+abbrev pub is_past_limit : Opening → List Given → Bool
+is_past_limit o gs = nat_lt 268435456 (size_of o.version (log_after o gs))
 
 -- how many of the events keep the log within its limit
 abbrev pub fitting_from : Opening → List Given → List Given → Option ℕ
 fitting_from o before [] = None
-fitting_from o before (g ∷ gs) = elim (is_over o (before ++ g ∷ [])) [ true ↦ Some (length before) | false ↦ fitting_from o (before ++ g ∷ []) gs ]
+fitting_from o before (g ∷ gs) = elim (is_past_limit o (before ++ g ∷ [])) [ true ↦ Some (length before) | false ↦ fitting_from o (before ++ g ∷ []) gs ]
 
 abbrev pub taken : {A : Type 0} → ℕ → List A → List A
 taken n [] = []
@@ -99,7 +99,7 @@ transcript_of o gs e = record { written = written_of (node_run o gs).outputs; en
 
 -- the first event whose record has no room ends it
 abbrev pub limited : Opening → Input → NodeTranscript
-limited o i = elim (is_over o i.events) [
+limited o i = elim (is_past_limit o i.events) [
   | false ↦ transcript_of o i.events i.ending
   | true ↦ elim (fitting_from o [] i.events) [
     | None ↦ transcript_of o i.events i.ending
@@ -114,5 +114,5 @@ nothing_written o what = record { written = []; ending = At_limit what 0; log = 
 abbrev pub node_transcript : Opening → List ℕ → NodeTranscript
 node_transcript o bytes = elim (boot_of o == suc greatest) [
   | true ↦ nothing_written o What.Boots
-  | false ↦ elim (is_over o []) [ true ↦ nothing_written o What.Log | false ↦ limited o (input_of bytes) ]
+  | false ↦ elim (is_past_limit o []) [ true ↦ nothing_written o What.Log | false ↦ limited o (input_of bytes) ]
 ]

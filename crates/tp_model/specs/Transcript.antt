@@ -14,7 +14,7 @@ use Rattle.tp_model.specs.OutText.{out_texts}
 use Rattle.tp_model.specs.LineText.{line_text}
 use Rattle.tp_model.specs.LineReading.{Blank, Faulty, Says, read_line}
 use Rattle.tp_model.specs.World.{World, empty_world, driver_of}
-use Rattle.tp_model.specs.Happenings.{Turn, Told}
+use Rattle.tp_model.specs.Happenings.{Told, WorldTurn}
 use Rattle.tp_model.specs.Lines.{Fault, Name, Over, is_named, action_line, line}
 use Rattle.tp_model.specs.Trees.{closing}
 
@@ -41,8 +41,8 @@ without_return (b ∷ bs) = elim bs [ [] ↦ elim (b == 13) [ true ↦ [] | fals
 abbrev pub content : RawLine → List ℕ
 content l = elim l.ended [ true ↦ without_return l.bytes | false ↦ l.bytes ]
 
-abbrev pub taken_by : RawLine → ℕ
-taken_by l = elim l.ended [ true ↦ suc (length l.bytes) | false ↦ length l.bytes ]
+abbrev pub octets_taken : RawLine → ℕ
+octets_taken l = elim l.ended [ true ↦ suc (length l.bytes) | false ↦ length l.bytes ]
 
 -- ---- members
 
@@ -97,7 +97,7 @@ abbrev pub stopped : World → List (Option Request) → Fault → Play
 stopped w left f = record { world = w; lines = []; puts = []; left = left; fault = Some f }
 
 -- an answer is run as a line; so many were run before it
-abbrev pub answer_turn : ℕ → World → ℕ → LineRequest → Result Turn Fault
+abbrev pub answer_turn : ℕ → World → ℕ → LineRequest → Result WorldTurn Fault
 answer_turn before w n r = elim (is_named w (Action.Do n r)) [
   | false ↦ Err Name
   | true ↦ elim (nat_le 4096 before) [ true ↦ Err (Over What.Answers) | false ↦ action_line w (Action.Do n r) ]
@@ -151,8 +151,8 @@ is_silent _ = false
 abbrev pub echo : Line → List OutLine
 echo l = elim (is_silent l) [ true ↦ [] | false ↦ OutLine.Echo (line_text l) ∷ [] ]
 
-abbrev pub played : ℕ → List (Option Request) → World → Line → Play
-played members answers w l = elim (line members w l) [
+abbrev pub line_played : ℕ → List (Option Request) → World → Line → Play
+line_played members answers w l = elim (line members w l) [
   | Err f ↦ stopped w answers f
   | Ok t ↦ with_lines (echo l ++ t.lines) (answered answers 0 t.world (puts_of t.world t.told))
 ]
@@ -196,16 +196,16 @@ breaks at f p = record { written = []; ending = fault_ending at f; world = p.wor
 -- the lines from the one with that number on, before which so many bytes stand
 abbrev pub transcript_from : ℕ → ℕ → ℕ → List (Option Request) → World → List RawLine → Transcript
 transcript_from members at before answers w [] = closes w
-transcript_from members at before answers w (l ∷ ls) = elim (nat_lt 1048576 (before + taken_by l)) [
+transcript_from members at before answers w (l ∷ ls) = elim (nat_lt 1048576 (before + octets_taken l)) [
   | true ↦ ends w (At_limit What.Schedule at)
   | false ↦ elim (read_line (content l)) [
-    | Blank ↦ transcript_from members (suc at) (before + taken_by l) answers w ls
+    | Blank ↦ transcript_from members (suc at) (before + octets_taken l) answers w ls
     | Faulty why ↦ ends w (Bad_input at why)
     | Says x ↦
-        (let p : Play = played members answers w x in
+        (let p : Play = line_played members answers w x in
         elim p.fault [
           | Some f ↦ breaks at f p
-          | None ↦ behind p (transcript_from members (suc at) (before + taken_by l) p.left p.world ls)
+          | None ↦ behind p (transcript_from members (suc at) (before + octets_taken l) p.left p.world ls)
         ])
   ]
 ]

@@ -13,7 +13,7 @@ ghost use Rattle.tp_logrec.specs.declared.record.LogRec.{LogRec};
 ghost use Rattle.tp_model.specs.declared.verdict.Why.{Why};
 ghost use Rattle.tp_model.specs.Transcript.{Bad_input};
 ghost use Rattle.tp_model.specs.Disk.{disk_bytes, remains, fresh_disk};
-ghost use Rattle.tp_model.specs.LogCommands.{formatted, started};
+ghost use Rattle.tp_model.specs.LogCommands.{formatted, start_leaves};
 ghost use Rattle.tp_model.specs.Generator.{summary};
 ghost use Rattle.tp_model.specs.Samples.{bytes, ran_on, wrote, left_by, ending_of, shown_log, checked_log, compacted_log, migrated_log, foreign_at};
 
@@ -72,7 +72,7 @@ pub fn damage_is_found()
 pub fn two_generations()
     ensures compacted { compacted_log (codes "4f54504c01 01 0009 010000000000000001 01 0009 010000000000000002 00") ≡ Some (bytes (codes "4f54504c01 01 0009 010000000000000002 00")) }
     ensures shown { shown_log (codes "4f54504c02ffffffffffffffffffffffffff01 0009 010000000000000002 00 0000000000000012") ≡ Some (codes "5 boot 2\n") }
-    ensures started { started (bytes (codes "4f54504c02ffffffffffffffffffffffffff01 0009 010000000000000002 00 0000000000000012")) ≡ bytes (codes "4f54504c01 01 0009 010000000000000002 00") }
+    ensures started { start_leaves (bytes (codes "4f54504c02ffffffffffffffffffffffffff01 0009 010000000000000002 00 0000000000000012")) ≡ bytes (codes "4f54504c01 01 0009 010000000000000002 00") }
 {}
 
 /// A fresh log, and what a stop in the force of its first boot leaves.

@@ -7,8 +7,8 @@ use Rattle.tp_node.proofs.Beginnings.{peer_found}
 use Rattle.tp_names.specs.declared.identifiers.Addr.{Addr}
 use Rattle.tp_names.specs.Same.{is_addr}
 use Rattle.tp_model.specs.Parts.{Link, Idle, Arc, Digest}
-use Rattle.tp_model.specs.Arcs.{find_arc, link_from}
-use Rattle.tp_model.specs.Arrivals.{is_bad_answer, units_of}
+use Rattle.tp_model.specs.Arcs.{find_arc, units_of, link_from}
+use Rattle.tp_model.specs.Arrivals.{is_bad_answer}
 
 -- the arc that is found by its peer's number
 pub at_peer : (d : Digest) (p : ℕ) (a : Arc) → find_arc d.arcs p ≡ Some a → p ≡ a.peer.node

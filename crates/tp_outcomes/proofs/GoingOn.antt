@@ -10,7 +10,7 @@ use Rattle.tp_model.specs.Parts.{Event, Entry}
 use Rattle.tp_model.specs.History.{answer, with_entry, crashed, crash_entry}
 use Rattle.tp_model.specs.Disk.{Remains, remains}
 use Rattle.tp_model.specs.World.{World, Node, Site, number_of, site_of, find_node, put_node, addr_at, find_site, put_site}
-use Rattle.tp_model.specs.Happenings.{Turn, still, after_lines, action_lines, after_stop, crash_turn, restarted, restarted_at, Happening, Task, task_of, entered, entry_turn, action_turn, new_node, declared_at, declare_turn, stop_in_force, stop_in_entry, stop_in_task, task_here, crash_in_turn, happens, run}
+use Rattle.tp_model.specs.Happenings.{still, after_lines, action_lines, after_stop, crash_turn, restarted, restarted_at, Happening, Task, task_of, entry_turn, action_turn, new_node, declared_at, declare_turn, stop_in_force, stop_in_entry, stop_in_task, task_here, crash_in_turn, happens, run, world_with_entry, WorldTurn}
 use Rattle.tp_outcomes.specs.Staying.{GoesOn, NodesStay}
 use Rattle.tp_histories.proofs.worlds.Nodes.{find_is, find_put}
 use Rattle.tp_histories.proofs.worlds.Traversal.{Ready, ready_of, logged_nodes}
@@ -128,12 +128,12 @@ onward_crash w name = go (find_site w.sites name) refl
 
 -- ---- an event
 
-onward_entered : (w : World) (t : Task) (e : Entry) → Ready w t → Onward w.nodes (entered w t.node e).nodes
+onward_entered : (w : World) (t : Task) (e : Entry) → Ready w t → Onward w.nodes (world_with_entry w t.node e).nodes
 onward_entered w t e r = onward_put w.nodes t.node (e ∷ []) r.here
 
 onward_entry : (w : World) (t : Task) (number : Option ℕ) (o : Option Entry) → Ready w t → Onward w.nodes (entry_turn w t.node number o).world.nodes
 onward_entry w t number None r = onward_same w.nodes w.nodes refl
-onward_entry w t number (Some e) r = subst (λ (l : List Node). Onward w.nodes l) (sym (logged_nodes (entered w t.node e) t.node e.rec)) (onward_entered w t e r)
+onward_entry w t number (Some e) r = subst (λ (l : List Node). Onward w.nodes l) (sym (logged_nodes (world_with_entry w t.node e) t.node e.rec)) (onward_entered w t e r)
 
 onward_action : (w : World) (d : Action) → Onward w.nodes (action_turn w d).world.nodes
 onward_action w d = go (task_of w d) refl
@@ -150,8 +150,8 @@ onward_force w t x e st r = go st.fate
     v : World
     v = record w { sites = put_site w.sites (record x { disk = st.disk }) }
 
-    go : (f : RecordFate) → Onward w.nodes (crash_turn (elim f [ RecordFate.Kept ↦ entered v t.node e | RecordFate.Lost ↦ v | RecordFate.None ↦ v ]) x.name).world.nodes
-    go RecordFate.Kept = onward_then w.nodes (entered v t.node e).nodes _ (onward_put w.nodes t.node (e ∷ []) r.here) (onward_crash (entered v t.node e) x.name)
+    go : (f : RecordFate) → Onward w.nodes (crash_turn (elim f [ RecordFate.Kept ↦ world_with_entry v t.node e | RecordFate.Lost ↦ v | RecordFate.None ↦ v ]) x.name).world.nodes
+    go RecordFate.Kept = onward_then w.nodes (world_with_entry v t.node e).nodes _ (onward_put w.nodes t.node (e ∷ []) r.here) (onward_crash (world_with_entry v t.node e) x.name)
     go RecordFate.Lost = onward_crash v x.name
     go RecordFate.None = onward_crash v x.name
 
@@ -160,11 +160,11 @@ onward_stop w t x call fill None r = onward_crash w x.name
 onward_stop w t x call fill (Some e) r = go e.rec
   where
     go : (q : Option LogRec)
-        → Onward w.nodes (elim q as (λ _. Turn) [
-          | None ↦ after_stop (entered w t.node e) x.name RecordFate.None
+        → Onward w.nodes (elim q as (λ _. WorldTurn) [
+          | None ↦ after_stop (world_with_entry w t.node e) x.name RecordFate.None
           | Some l ↦ stop_in_force w t.node x e (remains call fill l x.disk)
         ]).world.nodes
-    go None = onward_then w.nodes (entered w t.node e).nodes _ (onward_entered w t e r) (onward_crash (entered w t.node e) x.name)
+    go None = onward_then w.nodes (world_with_entry w t.node e).nodes _ (onward_entered w t e r) (onward_crash (world_with_entry w t.node e) x.name)
     go (Some l) = onward_force w t x e (remains call fill l x.disk) r
 
 onward_crash_in : (w : World) (name : List ℕ) (call fill : ℕ) (d : Action) → Onward w.nodes (crash_in_turn w name call fill d).world.nodes
@@ -174,7 +174,7 @@ onward_crash_in w name call fill d = go (find_site w.sites name) refl
     one_task x t u j = grind (arith, j)
 
     here : (x : Site) (o : Option Task) → task_of w d ≡ o → (b : Option Task) → task_here x o ≡ b
-        → Onward w.nodes (elim b as (λ _. Turn) [ None ↦ still w | Some t ↦ after_lines (action_lines d) (stop_in_task w x call fill t) ]).world.nodes
+        → Onward w.nodes (elim b as (λ _. WorldTurn) [ None ↦ still w | Some t ↦ after_lines (action_lines d) (stop_in_task w x call fill t) ]).world.nodes
     here x o i None j = onward_same w.nodes w.nodes refl
     here x None i (Some u) j = absurd cc
     here x (Some t) i (Some u) j =
@@ -197,11 +197,11 @@ onward_declared w n name up = go (find_site w.sites name) refl
 onward_declare : (w : World) (n : ℕ) (name : List ℕ) (under : Option ℕ) → Onward w.nodes (declare_turn w n name under).world.nodes
 onward_declare w n name under = go (find_node w.nodes n) refl
   where
-    above : (o : Option Addr) → Onward w.nodes (elim o as (λ _. Turn) [ None ↦ still w | Some a ↦ declared_at w n name (Some a) ]).world.nodes
+    above : (o : Option Addr) → Onward w.nodes (elim o as (λ _. WorldTurn) [ None ↦ still w | Some a ↦ declared_at w n name (Some a) ]).world.nodes
     above None = onward_same w.nodes w.nodes refl
     above (Some a) = onward_declared w n name (Some a)
 
-    below : (u : Option ℕ) → Onward w.nodes (elim u as (λ _. Turn) [ None ↦ declared_at w n name None | Some p ↦ elim (addr_at w p) as (λ _. Turn) [ None ↦ still w | Some a ↦ declared_at w n name (Some a) ] ]).world.nodes
+    below : (u : Option ℕ) → Onward w.nodes (elim u as (λ _. WorldTurn) [ None ↦ declared_at w n name None | Some p ↦ elim (addr_at w p) as (λ _. WorldTurn) [ None ↦ still w | Some a ↦ declared_at w n name (Some a) ] ]).world.nodes
     below None = onward_declared w n name None
     below (Some p) = above (addr_at w p)
 

@@ -19,7 +19,7 @@ use Rattle.tp_model.specs.Disk.{Remains, remains}
 use Rattle.tp_model.specs.Outcomes.{root_started as root_started}
 use Rattle.tp_model.specs.World.{World, Node, Site, number_of, site_of, find_node, put_node, addr_at, find_site, put_site}
 use Rattle.tp_model.specs.Trees.{members_of, all_told, some_told, deciders, closing_line, closing_from}
-use Rattle.tp_model.specs.Happenings.{Turn, still, after_lines, action_lines, after_stop, crash_turn, restarted, restarted_at, trees_of, Happening, Task, task_of, entered, logged, entry_turn, action_turn, new_node, declared_at, declare_turn, stop_in_force, stop_in_entry, stop_in_task, task_here, crash_in_turn, happens, run}
+use Rattle.tp_model.specs.Happenings.{still, after_lines, action_lines, after_stop, crash_turn, restarted, restarted_at, trees_of, Happening, Task, task_of, logged, entry_turn, action_turn, new_node, declared_at, declare_turn, stop_in_force, stop_in_entry, stop_in_task, task_here, crash_in_turn, happens, run, world_with_entry, WorldTurn}
 use Rattle.tp_model.specs.Promises.{IsIn, IsOf, is_root}
 use Rattle.tp_histories.specs.Members.{has_taken_begin, IsOnce}
 use Rattle.tp_outcomes.specs.Starting.{starts, times_in, BelongsSo, ListedOnce, is_line_of, lines_of, ClosesOnce}
@@ -170,7 +170,7 @@ entry_own es n e y here under a u start =
     let legal : IsLegal n.origin n.superior (y ∷ n.history) = record { start = l.start; grown = subst (λ (z : Entry). IsGrown n.origin n.superior (z ∷ n.history)) (sym a.is) grown_more } in
     started_own n.origin y n.history u (is_started n.origin n.superior y n.history u legal start)
 
-counted_entered : (w : World) (n : Node) (y : Entry) → find_node w.nodes (number_of n) ≡ Some n → StartsOwn n y → IsCounted w → IsCounted (entered w n y)
+counted_entered : (w : World) (n : Node) (y : Entry) → find_node w.nodes (number_of n) ≡ Some n → StartsOwn n y → IsCounted w → IsCounted (world_with_entry w n y)
 counted_entered w n y here own c = counted_entry w.nodes w.trees n y here own c
 
 logged_trees : (w : World) (n : Node) (o : Option LogRec) → (logged w n o).trees ≡ w.trees
@@ -180,7 +180,7 @@ logged_trees w n (Some r) = refl
 counted_turn : (w : World) (t : Task) (number : Option ℕ) (o : Option Entry) → Ready w t → ((y : Entry) → o ≡ Some y → StartsOwn t.node y) → IsCounted w → IsCounted (entry_turn w t.node number o).world
 counted_turn w t number None r own c = c
 counted_turn w t number (Some y) r own c =
-    let v : World = entered w t.node y in
+    let v : World = world_with_entry w t.node y in
     subst (λ (ns : List Node). Counted ns (logged v t.node y.rec).trees) (sym (logged_nodes v t.node y.rec))
     (subst (λ (ts : List Aaid). Counted v.nodes ts) (sym (logged_trees v t.node y.rec)) (counted_entered w t.node y r.here (own y refl) c))
 
@@ -205,8 +205,8 @@ counted_force w n x y st here own c = go st.fate
     v : World
     v = record w { sites = put_site w.sites (record x { disk = st.disk }) }
 
-    go : (f : RecordFate) → IsCounted (crash_turn (elim f [ RecordFate.Kept ↦ entered v n y | RecordFate.Lost ↦ v | RecordFate.None ↦ v ]) x.name).world
-    go RecordFate.Kept = counted_crash (entered v n y) x.name (counted_entered v n y here own c)
+    go : (f : RecordFate) → IsCounted (crash_turn (elim f [ RecordFate.Kept ↦ world_with_entry v n y | RecordFate.Lost ↦ v | RecordFate.None ↦ v ]) x.name).world
+    go RecordFate.Kept = counted_crash (world_with_entry v n y) x.name (counted_entered v n y here own c)
     go RecordFate.Lost = counted_crash v x.name c
     go RecordFate.None = counted_crash v x.name c
 
@@ -215,11 +215,11 @@ counted_stop w t x call fill None r own c = counted_crash w x.name c
 counted_stop w t x call fill (Some y) r own c = go y.rec
   where
     go : (q : Option LogRec)
-        → IsCounted (elim q as (λ _. Turn) [
-          | None ↦ after_stop (entered w t.node y) x.name RecordFate.None
+        → IsCounted (elim q as (λ _. WorldTurn) [
+          | None ↦ after_stop (world_with_entry w t.node y) x.name RecordFate.None
           | Some l ↦ stop_in_force w t.node x y (remains call fill l x.disk)
         ]).world
-    go None = counted_crash (entered w t.node y) x.name (counted_entered w t.node y r.here (own y refl) c)
+    go None = counted_crash (world_with_entry w t.node y) x.name (counted_entered w t.node y r.here (own y refl) c)
     go (Some l) = counted_force w t.node x y (remains call fill l x.disk) r.here (own y refl) c
 
 counted_crash_in : (es : List Happening) (name : List ℕ) (call fill : ℕ) (d : Action) → IsCounted (run es) → IsCounted (crash_in_turn (run es) name call fill d).world
@@ -231,7 +231,7 @@ counted_crash_in es name call fill d c = go (find_site w.sites name) refl
     one_task : (x : Site) (t u : Task) → task_here x (Some t) ≡ Some u → t ≡ u
     one_task x t u j = grind (arith, j)
 
-    here : (x : Site) (o : Option Task) → task_of w d ≡ o → (b : Option Task) → task_here x o ≡ b → IsCounted (elim b as (λ _. Turn) [ None ↦ still w | Some t ↦ after_lines (action_lines d) (stop_in_task w x call fill t) ]).world
+    here : (x : Site) (o : Option Task) → task_of w d ≡ o → (b : Option Task) → task_here x o ≡ b → IsCounted (elim b as (λ _. WorldTurn) [ None ↦ still w | Some t ↦ after_lines (action_lines d) (stop_in_task w x call fill t) ]).world
     here x o i None j = c
     here x None i (Some u) j = absurd cc
     here x (Some t) i (Some u) j =
@@ -273,11 +273,11 @@ counted_declared w n name up none c = go (find_site w.sites name) refl
 counted_declare : (w : World) (n : ℕ) (name : List ℕ) (under : Option ℕ) → IsCounted w → IsCounted (declare_turn w n name under).world
 counted_declare w n name under c = go (find_node w.nodes n) refl
   where
-    above : find_node w.nodes n ≡ None → (o : Option Addr) → IsCounted (elim o as (λ _. Turn) [ None ↦ still w | Some a ↦ declared_at w n name (Some a) ]).world
+    above : find_node w.nodes n ≡ None → (o : Option Addr) → IsCounted (elim o as (λ _. WorldTurn) [ None ↦ still w | Some a ↦ declared_at w n name (Some a) ]).world
     above none None = c
     above none (Some a) = counted_declared w n name (Some a) none c
 
-    below : find_node w.nodes n ≡ None → (u : Option ℕ) → IsCounted (elim u as (λ _. Turn) [ None ↦ declared_at w n name None | Some p ↦ elim (addr_at w p) as (λ _. Turn) [ None ↦ still w | Some a ↦ declared_at w n name (Some a) ] ]).world
+    below : find_node w.nodes n ≡ None → (u : Option ℕ) → IsCounted (elim u as (λ _. WorldTurn) [ None ↦ declared_at w n name None | Some p ↦ elim (addr_at w p) as (λ _. WorldTurn) [ None ↦ still w | Some a ↦ declared_at w n name (Some a) ] ]).world
     below none None = counted_declared w n name None none c
     below none (Some p) = above none (addr_at w p)
 

@@ -1,6 +1,6 @@
 //! What a question is answered.
 ghost use Rattle.std.specs.Prelude.{◌≡◌};
-ghost use Rattle.tp_model.specs.Recovery.{answer, is_kept_commit};
+ghost use Rattle.tp_model.specs.Recovery.{is_kept_commit, recovery_answer};
 
 use tp_model::{Known, Phase, Question};
 use tp_names::{Outcome, Report};
@@ -8,9 +8,9 @@ use tp_records::RecState;
 
 /// The answer to a question, by what the node has of the transaction that it names. There is none where
 /// the order of commitment acts on a ready transaction, or is out of phase.
-#[tactic(auto, unfolding(tp_model::specs::Recovery::answer))]
+#[tactic(auto, unfolding(tp_model::specs::Recovery::recovery_answer))]
 pub fn answer(known: Known, question: Question) -> Option<RecState>
-    ensures { result ≡ answer known question }
+    ensures { result ≡ recovery_answer known question }
 {
     match (question, known.phase) {
         (Question::RecReady, Phase::Committing) => Some(RecState::Commit),

@@ -6,9 +6,9 @@ use Rattle.tp_model.specs.declared.line.Line.{Line}
 use Rattle.tp_model.specs.declared.verdict.What.{What}
 use Rattle.tp_model.specs.LineReading.{Reading, Blank, Faulty, Says, read_line}
 use Rattle.tp_model.specs.World.{World, empty_world}
-use Rattle.tp_model.specs.Happenings.{Turn}
+use Rattle.tp_model.specs.Happenings.{WorldTurn}
 use Rattle.tp_model.specs.Lines.{Fault, Name, Over, line}
-use Rattle.tp_model.specs.Transcript.{Put, Play, RawLine, Transcript, Done, Bad_input, At_limit, raw_lines, content, taken_by, echo, is_silent, puts_of, answers_of, answered, stopped, with_lines, breaks, ends, behind, fault_ending, transcript_from, transcript_with}
+use Rattle.tp_model.specs.Transcript.{Put, Play, RawLine, Transcript, Done, Bad_input, At_limit, raw_lines, content, echo, is_silent, puts_of, answers_of, answered, stopped, with_lines, breaks, ends, behind, fault_ending, transcript_from, transcript_with, octets_taken}
 use Rattle.tp_world.proofs.Lines.{members_same, unnamed}
 use Rattle.tp_driven.specs.Members.{slot_at, may, Gave}
 use Rattle.tp_replay.proofs.SoFar.{may_nothing}
@@ -41,7 +41,7 @@ not_done at (Over what) e = grind (arith, e)
 abbrev goes_as : ℕ → Play → (Play → Transcript) → Transcript
 goes_as at p rest = elim p.fault [ Some f ↦ breaks at f p | None ↦ behind p (rest p) ]
 
-abbrev play_of : List (Option Request) → World → Line → Result Turn Fault → Play
+abbrev play_of : List (Option Request) → World → Line → Result WorldTurn Fault → Play
 play_of answers w x r = elim r [
   | Err f ↦ stopped w answers f
   | Ok t ↦ with_lines (echo x ++ t.lines) (answered answers 0 t.world (puts_of t.world t.told))
@@ -49,13 +49,13 @@ play_of answers w x r = elim r [
 
 same_from : (k at before : ℕ) (answers : List (Option Request)) (w : World) (ls : List RawLine) → (transcript_from 0 at before answers w ls).ending ≡ Done → transcript_from k at before answers w ls ≡ transcript_from 0 at before answers w ls
 same_from k at before answers w [] done = refl
-same_from k at before answers w (l ∷ ls) done = by_limit (nat_lt 1048576 (before + taken_by l)) (λ a v h. same_from k (suc at) (before + taken_by l) a v ls h) done
+same_from k at before answers w (l ∷ ls) done = by_limit (nat_lt 1048576 (before + octets_taken l)) (λ a v h. same_from k (suc at) (before + octets_taken l) a v ls h) done
   where
     rest : ℕ → Play → Transcript
-    rest n p = transcript_from n (suc at) (before + taken_by l) p.left p.world ls
+    rest n p = transcript_from n (suc at) (before + octets_taken l) p.left p.world ls
 
     More : Type 0
-    More = (a : List (Option Request)) (v : World) → (transcript_from 0 (suc at) (before + taken_by l) a v ls).ending ≡ Done → transcript_from k (suc at) (before + taken_by l) a v ls ≡ transcript_from 0 (suc at) (before + taken_by l) a v ls
+    More = (a : List (Option Request)) (v : World) → (transcript_from 0 (suc at) (before + octets_taken l) a v ls).ending ≡ Done → transcript_from k (suc at) (before + octets_taken l) a v ls ≡ transcript_from 0 (suc at) (before + octets_taken l) a v ls
 
     by_fault : (p : Play) (o : Option Fault) → More → (elim o as (λ _. Transcript) [ Some f ↦ breaks at f p | None ↦ behind p (rest 0 p) ]).ending ≡ Done
         → (elim o as (λ _. Transcript) [ Some f ↦ breaks at f p | None ↦ behind p (rest k p) ]) ≡ (elim o as (λ _. Transcript) [ Some f ↦ breaks at f p | None ↦ behind p (rest 0 p) ])
@@ -64,15 +64,15 @@ same_from k at before answers w (l ∷ ls) done = by_limit (nat_lt 1048576 (befo
 
     says : (x : Line) (b : Bool) → is_silent x ≡ b → More → (goes_as at (play_of answers w x (line 0 w x)) (rest 0)).ending ≡ Done
         → goes_as at (play_of answers w x (line k w x)) (rest k) ≡ goes_as at (play_of answers w x (line 0 w x)) (rest 0)
-    says x true e more done = absurd (not_done at Name (sym (ap (λ (r : Result Turn Fault). (goes_as at (play_of answers w x r) (rest 0)).ending) (unnamed w x e)) ∙ done))
+    says x true e more done = absurd (not_done at Name (sym (ap (λ (r : Result WorldTurn Fault). (goes_as at (play_of answers w x r) (rest 0)).ending) (unnamed w x e)) ∙ done))
     says x false e more done =
-        ap (λ (r : Result Turn Fault). goes_as at (play_of answers w x r) (rest k)) (members_same k w x e)
+        ap (λ (r : Result WorldTurn Fault). goes_as at (play_of answers w x r) (rest k)) (members_same k w x e)
         ∙ by_fault (play_of answers w x (line 0 w x)) (play_of answers w x (line 0 w x)).fault more done
 
     by_reading : (r : Reading) → More
-        → (elim r as (λ _. Transcript) [ Blank ↦ transcript_from 0 (suc at) (before + taken_by l) answers w ls | Faulty why ↦ ends w (Bad_input at why) | Says x ↦ goes_as at (play_of answers w x (line 0 w x)) (rest 0) ]).ending ≡ Done
-        → (elim r as (λ _. Transcript) [ Blank ↦ transcript_from k (suc at) (before + taken_by l) answers w ls | Faulty why ↦ ends w (Bad_input at why) | Says x ↦ goes_as at (play_of answers w x (line k w x)) (rest k) ])
-        ≡ (elim r as (λ _. Transcript) [ Blank ↦ transcript_from 0 (suc at) (before + taken_by l) answers w ls | Faulty why ↦ ends w (Bad_input at why) | Says x ↦ goes_as at (play_of answers w x (line 0 w x)) (rest 0) ])
+        → (elim r as (λ _. Transcript) [ Blank ↦ transcript_from 0 (suc at) (before + octets_taken l) answers w ls | Faulty why ↦ ends w (Bad_input at why) | Says x ↦ goes_as at (play_of answers w x (line 0 w x)) (rest 0) ]).ending ≡ Done
+        → (elim r as (λ _. Transcript) [ Blank ↦ transcript_from k (suc at) (before + octets_taken l) answers w ls | Faulty why ↦ ends w (Bad_input at why) | Says x ↦ goes_as at (play_of answers w x (line k w x)) (rest k) ])
+        ≡ (elim r as (λ _. Transcript) [ Blank ↦ transcript_from 0 (suc at) (before + octets_taken l) answers w ls | Faulty why ↦ ends w (Bad_input at why) | Says x ↦ goes_as at (play_of answers w x (line 0 w x)) (rest 0) ])
     by_reading Blank more done = more answers w done
     by_reading (Faulty why) more done = refl
     by_reading (Says x) more done = says x (is_silent x) refl more done
@@ -80,7 +80,7 @@ same_from k at before answers w (l ∷ ls) done = by_limit (nat_lt 1048576 (befo
     all : ℕ → Bool → Transcript
     all n b = elim b [
       | true ↦ ends w (At_limit What.Schedule at)
-      | false ↦ elim (read_line (content l)) [ Blank ↦ transcript_from n (suc at) (before + taken_by l) answers w ls | Faulty why ↦ ends w (Bad_input at why) | Says x ↦ goes_as at (play_of answers w x (line n w x)) (rest n) ]
+      | false ↦ elim (read_line (content l)) [ Blank ↦ transcript_from n (suc at) (before + octets_taken l) answers w ls | Faulty why ↦ ends w (Bad_input at why) | Says x ↦ goes_as at (play_of answers w x (line n w x)) (rest n) ]
     ]
 
     by_limit : (b : Bool) → More → (all 0 b).ending ≡ Done → all k b ≡ all 0 b

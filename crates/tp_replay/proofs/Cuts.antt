@@ -1,23 +1,23 @@
 -- The lines of a schedule: how many bytes they have with their ends, and which bytes some of them are.
 use Rattle.std.proofs.Common.{◌≡◌, ◌≤◌, ◌==◌, ◌+◌, ◌++◌, ◌⊎◌, inl, inr, ℕ, suc, Bool, true, false, List, [], ◌∷◌, length, refl, ap, subst, sym, ◌∙◌, append_assoc, arith}
-use Rattle.tp_model.specs.Transcript.{RawLine, raw_lines, before_first, taken_by}
+use Rattle.tp_model.specs.Transcript.{RawLine, raw_lines, before_first, octets_taken}
 use Rattle.tp_replay.specs.Transcribing.{size_of}
 
 -- ---- each has at least one byte with its end
 
 abbrev FirstTakes : List RawLine → Type 0
 FirstTakes [] = Unit {0}
-FirstTakes (l ∷ ls) = 1 ≤ taken_by l
+FirstTakes (l ∷ ls) = 1 ≤ octets_taken l
 
 takes_before : (b : ℕ) (ls : List RawLine) → FirstTakes (before_first b ls)
 takes_before b [] = omega arith
 takes_before b (l ∷ ls) = go l.ended refl
   where
-    go : (e : Bool) → l.ended ≡ e → 1 ≤ taken_by (record { bytes = b ∷ l.bytes; ended = l.ended })
+    go : (e : Bool) → l.ended ≡ e → 1 ≤ octets_taken (record { bytes = b ∷ l.bytes; ended = l.ended })
     go true is = rw is (omega arith)
     go false is = rw is (omega arith)
 
-pub takes_some : (bs : List ℕ) (l : RawLine) (ls : List RawLine) → raw_lines bs ≡ l ∷ ls → 1 ≤ taken_by l
+pub takes_some : (bs : List ℕ) (l : RawLine) (ls : List RawLine) → raw_lines bs ≡ l ∷ ls → 1 ≤ octets_taken l
 takes_some bs l ls is = subst FirstTakes is (first bs)
   where
     first : (bs : List ℕ) → FirstTakes (raw_lines bs)
@@ -57,9 +57,9 @@ size_before : (b : ℕ) (ls : List RawLine) → size_of (before_first b ls) ≡ 
 size_before b [] = refl
 size_before b (l ∷ ls) = go l.ended refl
   where
-    go : (e : Bool) → l.ended ≡ e → taken_by (record { bytes = b ∷ l.bytes; ended = l.ended }) + size_of ls ≡ suc (taken_by l + size_of ls)
-    go true is = rw (taken_by, is) (omega arith)
-    go false is = rw (taken_by, is) (omega arith)
+    go : (e : Bool) → l.ended ≡ e → octets_taken (record { bytes = b ∷ l.bytes; ended = l.ended }) + size_of ls ≡ suc (octets_taken l + size_of ls)
+    go true is = rw (octets_taken, is) (omega arith)
+    go false is = rw (octets_taken, is) (omega arith)
 
 one_more : (n : ℕ) → 1 + n ≡ suc n
 one_more n = omega arith

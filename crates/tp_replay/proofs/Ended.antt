@@ -13,7 +13,7 @@ use Rattle.tp_model.specs.OutText.{out_texts}
 use Rattle.tp_model.specs.LineReading.{Reading, Blank, Faulty, Says, read_line}
 use Rattle.tp_model.specs.World.{World}
 use Rattle.tp_model.specs.Lines.{Fault, Name, Over}
-use Rattle.tp_model.specs.Transcript.{Play, RawLine, content, taken_by, echo, is_silent, played, Ending, Bad_input, At_limit, Transcript, ends, breaks, behind, fault_ending, transcript_from}
+use Rattle.tp_model.specs.Transcript.{Play, RawLine, content, echo, is_silent, Ending, Bad_input, At_limit, Transcript, ends, breaks, behind, fault_ending, transcript_from, octets_taken, line_played}
 use Rattle.tp_schedule.specs.Answers.{answered}
 use Rattle.tp_schedule.specs.AtHand.{together}
 use Rattle.tp_schedule.specs.LinesLeft.{Place, answer, first_of, judged, most_read, unless_read, IsFor, IsAhead, lines_left}
@@ -130,14 +130,14 @@ module _ {M : Type 0} (allowed : M → List Answer → Type 0) (at : ℕ) (w : W
 
   -- ---- the first of some lines
 
-  read_first : (before : ℕ) (l : RawLine) (ls : List RawLine) (answers : List (Option Request)) → nat_lt 1048576 (before + taken_by l) ≡ false
-      → transcript_from k at before answers w (l ∷ ls) ≡ from_reading k at w (read_line (content l)) (λ a v. transcript_from k (suc at) (before + taken_by l) a v ls) answers
-  read_first before l ls answers within = go (nat_lt 1048576 (before + taken_by l)) within
+  read_first : (before : ℕ) (l : RawLine) (ls : List RawLine) (answers : List (Option Request)) → nat_lt 1048576 (before + octets_taken l) ≡ false
+      → transcript_from k at before answers w (l ∷ ls) ≡ from_reading k at w (read_line (content l)) (λ a v. transcript_from k (suc at) (before + octets_taken l) a v ls) answers
+  read_first before l ls answers within = go (nat_lt 1048576 (before + octets_taken l)) within
     where
       on : List (Option Request) → World → Transcript
-      on a v = transcript_from k (suc at) (before + taken_by l) a v ls
+      on a v = transcript_from k (suc at) (before + octets_taken l) a v ls
 
-      read : (r : Reading) → (elim r as (λ _. Transcript) [ Blank ↦ on answers w | Faulty why ↦ ends w (Bad_input at why) | Says x ↦ goes_as at on (played k answers w x) ]) ≡ from_reading k at w r on answers
+      read : (r : Reading) → (elim r as (λ _. Transcript) [ Blank ↦ on answers w | Faulty why ↦ ends w (Bad_input at why) | Says x ↦ goes_as at on (line_played k answers w x) ]) ≡ from_reading k at w r on answers
       read Blank = refl
       read (Faulty why) = refl
       read (Says x) = refl
@@ -145,7 +145,7 @@ module _ {M : Type 0} (allowed : M → List Answer → Type 0) (at : ℕ) (w : W
       go : (b : Bool) → b ≡ false
           → (elim b as (λ _. Transcript) [
             | true ↦ ends w (At_limit What.Schedule at)
-            | false ↦ elim (read_line (content l)) as (λ _. Transcript) [ Blank ↦ on answers w | Faulty why ↦ ends w (Bad_input at why) | Says x ↦ goes_as at on (played k answers w x) ]
+            | false ↦ elim (read_line (content l)) as (λ _. Transcript) [ Blank ↦ on answers w | Faulty why ↦ ends w (Bad_input at why) | Says x ↦ goes_as at on (line_played k answers w x) ]
           ]) ≡ from_reading k at w (read_line (content l)) on answers
       go true e = absurd cc
       go false e = read (read_line (content l))
@@ -157,7 +157,7 @@ module _ {M : Type 0} (allowed : M → List Answer → Type 0) (at : ℕ) (w : W
     from_first : (more : List RawLine) (answers : List (Option Request)) → transcript_from k at p.before answers w (parts.first ∷ more) ≡ from_reading k at w (read_line text) (on more) answers
     from_first more answers =
         read_first p.before parts.first more answers parts.within
-        ∙ ap (λ (t : List ℕ). from_reading k at w (read_line t) (λ a v. transcript_from k (suc at) (p.before + taken_by parts.first) a v more) answers) parts.is_text
+        ∙ ap (λ (t : List ℕ). from_reading k at w (read_line t) (λ a v. transcript_from k (suc at) (p.before + octets_taken parts.first) a v more) answers) parts.is_text
         ∙ ap (λ (n : ℕ). from_reading k at w (read_line text) (λ a v. transcript_from k (suc at) n a v more) answers) (sym parts.passed)
 
     pub plays_first : (out shown : List ℕ) → ShowsReading old new allowed at w (read_line text) (Ok tt) out shown → ShowsNext allowed at p.before w ls out shown place unread old new
@@ -237,17 +237,17 @@ module _ {M : Type 0} (allowed : M → List Answer → Type 0) (at : ℕ) (w : W
   unheard_ends p left ls f stop unread now unfaulted is for_these ahead same = subst (λ (s : InputStop). EndsNext allowed at p.before w ls s unread old new) (sym now) (go f ls (answers_first p left ls (Err f) unfaulted is for_these) (reads_to p left ls unread (Err f) is ahead))
     where
       long : (l : RawLine) (ls : List RawLine) (answers : List (Option Request)) → Err LinesFault.Long ≡ judged p.before l → transcript_from k at p.before answers w (l ∷ ls) ≡ ends w (Bad_input at Why.Long)
-      long l ls answers e = cases (nat_lt 1048576 (p.before + taken_by l)) refl (nat_lt 8192 (length (content l))) refl
+      long l ls answers e = cases (nat_lt 1048576 (p.before + octets_taken l)) refl (nat_lt 8192 (length (content l))) refl
         where
-          cases : (a : Bool) → nat_lt 1048576 (p.before + taken_by l) ≡ a → (b : Bool) → nat_lt 8192 (length (content l)) ≡ b → transcript_from k at p.before answers w (l ∷ ls) ≡ ends w (Bad_input at Why.Long)
+          cases : (a : Bool) → nat_lt 1048576 (p.before + octets_taken l) ≡ a → (b : Bool) → nat_lt 8192 (length (content l)) ≡ b → transcript_from k at p.before answers w (l ∷ ls) ≡ ends w (Bad_input at Why.Long)
           cases true x b y = absurd (grind (arith, e, x))
-          cases false x true y = read_first p.before l ls answers x ∙ ap (λ (r : Reading). from_reading k at w r (λ a v. transcript_from k (suc at) (p.before + taken_by l) a v ls) answers) (let long_one : read_line (content l) ≡ Faulty Why.Long = rw (read_line, y) refl in long_one)
+          cases false x true y = read_first p.before l ls answers x ∙ ap (λ (r : Reading). from_reading k at w r (λ a v. transcript_from k (suc at) (p.before + octets_taken l) a v ls) answers) (let long_one : read_line (content l) ≡ Faulty Why.Long = rw (read_line, y) refl in long_one)
           cases false x false y = absurd (grind (arith, e, x, y))
 
       limit : (l : RawLine) (ls : List RawLine) (answers : List (Option Request)) → Err LinesFault.Limit ≡ judged p.before l → transcript_from k at p.before answers w (l ∷ ls) ≡ ends w (At_limit What.Schedule at)
-      limit l ls answers e = cases (nat_lt 1048576 (p.before + taken_by l)) refl (nat_lt 8192 (length (content l))) refl
+      limit l ls answers e = cases (nat_lt 1048576 (p.before + octets_taken l)) refl (nat_lt 8192 (length (content l))) refl
         where
-          cases : (a : Bool) → nat_lt 1048576 (p.before + taken_by l) ≡ a → (b : Bool) → nat_lt 8192 (length (content l)) ≡ b → transcript_from k at p.before answers w (l ∷ ls) ≡ ends w (At_limit What.Schedule at)
+          cases : (a : Bool) → nat_lt 1048576 (p.before + octets_taken l) ≡ a → (b : Bool) → nat_lt 8192 (length (content l)) ≡ b → transcript_from k at p.before answers w (l ∷ ls) ≡ ends w (At_limit What.Schedule at)
           cases true x b y = rw (transcript_from, x) refl
           cases false x true y = absurd (grind (arith, e, x, y))
           cases false x false y = absurd (grind (arith, e, x, y))

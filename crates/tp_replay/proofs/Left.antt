@@ -1,7 +1,7 @@
 -- What a reader of lines answers of the lines that are left, and how far it reads.
 use Rattle.std.proofs.Common.{◌≡◌, ◌+◌, ◌≤◌, ℕ, Bool, true, false, nat_lt, List, [], ◌∷◌, length, Option, Some, None, Result, Ok, refl, ap, sym, ◌∙◌, arith}
 use Rattle.std.specs.Prelude.{option_map}
-use Rattle.tp_model.specs.Transcript.{RawLine, raw_lines, content, taken_by}
+use Rattle.tp_model.specs.Transcript.{RawLine, raw_lines, content, octets_taken}
 use Rattle.tp_schedule.specs.AtHand.{together}
 use Rattle.tp_schedule.specs.LinesLeft.{Place, answer, first_of, judged, most_read, unless_read, IsFor, IsAhead, HandsOut, Leaves, lines_left}
 use Rattle.tp_schedule.specs.declared.lines_fault.LinesFault.{LinesFault}
@@ -37,9 +37,9 @@ pub none_left : (p : Place) (left : Option (List ℕ)) (ls : List RawLine) → p
 none_left p left ls unfaulted is for_these = go ls (answers_first p left ls (Ok None) unfaulted is for_these)
   where
     judged_some : (l : RawLine) → Ok None ≡ judged p.before l → ⊥
-    judged_some l e = cases (nat_lt 1048576 (p.before + taken_by l)) refl (nat_lt 8192 (length (content l))) refl
+    judged_some l e = cases (nat_lt 1048576 (p.before + octets_taken l)) refl (nat_lt 8192 (length (content l))) refl
       where
-        cases : (a : Bool) → nat_lt 1048576 (p.before + taken_by l) ≡ a → (b : Bool) → nat_lt 8192 (length (content l)) ≡ b → ⊥
+        cases : (a : Bool) → nat_lt 1048576 (p.before + octets_taken l) ≡ a → (b : Bool) → nat_lt 8192 (length (content l)) ≡ b → ⊥
         cases true x b y = grind (arith, e, x)
         cases false x true y = grind (arith, e, x, y)
         cases false x false y = grind (arith, e, x, y)
@@ -58,10 +58,10 @@ none_unread p left ls new unread is none h = go unread (ap (λ v. lines_left v u
     go (Some xs) e = ap Some (raw_none xs (grind (arith, e)))
 
 -- a line that is handed out is within the limits
-within_limit : (before : ℕ) (l : RawLine) (text : List ℕ) → Ok (Some text) ≡ judged before l → nat_lt 1048576 (before + taken_by l) ≡ false
-within_limit before l text e = cases (nat_lt 1048576 (before + taken_by l)) refl
+within_limit : (before : ℕ) (l : RawLine) (text : List ℕ) → Ok (Some text) ≡ judged before l → nat_lt 1048576 (before + octets_taken l) ≡ false
+within_limit before l text e = cases (nat_lt 1048576 (before + octets_taken l)) refl
   where
-    cases : (a : Bool) → nat_lt 1048576 (before + taken_by l) ≡ a → nat_lt 1048576 (before + taken_by l) ≡ false
+    cases : (a : Bool) → nat_lt 1048576 (before + octets_taken l) ≡ a → nat_lt 1048576 (before + octets_taken l) ≡ false
     cases true x = absurd (grind (arith, e, x))
     cases false x = x
 
@@ -71,8 +71,8 @@ pub record Parted (p : Place) (left : Option (List ℕ)) (ls : List RawLine) (te
   pub rest : List RawLine
   pub is : ls ≡ first ∷ rest
   pub is_text : content first ≡ text
-  pub within : nat_lt 1048576 (p.before + taken_by first) ≡ false
-  pub passed : new.before ≡ p.before + taken_by first
+  pub within : nat_lt 1048576 (p.before + octets_taken first) ≡ false
+  pub passed : new.before ≡ p.before + octets_taken first
   pub fault : new.fault ≡ None
   pub others : lines_left new unread ≡ Some rest
 

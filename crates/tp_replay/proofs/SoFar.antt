@@ -6,7 +6,7 @@ use Rattle.std.proofs.lemmas.Bool.Decides.{nat_tests}
 use Rattle.tp_records.specs.declared.request.Request.{Request}
 use Rattle.tp_records.specs.Answers.{Answer}
 use Rattle.tp_model.specs.World.{World, empty_world}
-use Rattle.tp_model.specs.Transcript.{Put, answers_of, AreAllowed, RawLine, raw_lines, taken_by, Transcript, Ending, transcript_from, transcript_with}
+use Rattle.tp_model.specs.Transcript.{Put, answers_of, AreAllowed, RawLine, raw_lines, Transcript, Ending, transcript_from, transcript_with, octets_taken}
 use Rattle.tp_schedule.specs.AtHand.{together}
 use Rattle.tp_schedule.specs.LinesLeft.{Place, lines_left}
 use Rattle.tp_driven.specs.Members.{slot_at, may, Gave}
@@ -166,10 +166,10 @@ as_many [] = refl
 as_many (m ∷ ms) = ap (λ (n : ℕ). suc n) (as_many ms)
 
 -- the lines are those of some bytes
-of_bytes : (place : Place) (left : Option (List ℕ)) (l : RawLine) (ls : List RawLine) → lines_left place left ≡ Some (l ∷ ls) → 1 ≤ taken_by l
+of_bytes : (place : Place) (left : Option (List ℕ)) (l : RawLine) (ls : List RawLine) → lines_left place left ≡ Some (l ∷ ls) → 1 ≤ octets_taken l
 of_bytes place left l ls is = go (together place.held left) refl
   where
-    go : (t : Option (List ℕ)) → together place.held left ≡ t → 1 ≤ taken_by l
+    go : (t : Option (List ℕ)) → together place.held left ≡ t → 1 ≤ octets_taken l
     go None e = absurd (let no : None ≡ Some (l ∷ ls) = sym (ap (option_map raw_lines) e) ∙ is in grind (arith, no))
     go (Some all) e = takes_some all l ls (let same : Some (raw_lines all) ≡ Some (l ∷ ls) = sym (ap (option_map raw_lines) e) ∙ is in grind (arith, same))
 

@@ -7,7 +7,7 @@ use Rattle.tp_model.specs.declared.verdict.What.{What}
 use Rattle.tp_model.specs.declared.verdict.Why.{Why}
 use Rattle.tp_model.specs.LineReading.{Reading, Blank, Faulty, Says}
 use Rattle.tp_model.specs.World.{World}
-use Rattle.tp_model.specs.Transcript.{Put, Play, RawLine, Transcript, Ending, Bad_input, At_limit, taken_by, played, ends, breaks, behind, transcript_from}
+use Rattle.tp_model.specs.Transcript.{Put, Play, RawLine, Transcript, Ending, Bad_input, At_limit, ends, breaks, behind, transcript_from, octets_taken, line_played}
 use Rattle.tp_schedule.specs.declared.line_fault.LineFault.{LineFault}
 use Rattle.tp_schedule.specs.declared.lines_fault.LinesFault.{LinesFault}
 use Rattle.tp_schedule.specs.LinesLeft.{Place, first_length, lines_left}
@@ -68,7 +68,7 @@ abbrev pub from_reading : ℕ → ℕ → World → Reading → (List (Option Re
 from_reading members at w Blank rest answers = rest answers w
 from_reading members at w (Faulty why) rest answers = ends w (Bad_input at why)
 from_reading members at w (Says x) rest answers =
-    (let p : Play = played members answers w x in
+    (let p : Play = line_played members answers w x in
     elim p.fault [ Some f ↦ breaks at f p | None ↦ behind p (rest p.left p.world) ])
 
 -- it shows that text at the end of the output, and leaves that world
@@ -103,8 +103,8 @@ pub record ShowsNext {M : Type 0} (allowed : M → List Answer → Type 0) (at b
   pub shows : shown ≡ out ++ text
   pub leads : Leads allowed (members_of old) (members_of new) (λ (more : List RawLine) answers. transcript_from (length (members_of old)) at before answers w (first ∷ more)) text (λ more later. transcript_from (length (members_of old)) (suc at) place.before later world more)
   pub stands : Stands world new
-  pub within : nat_lt 1048576 (before + taken_by first) ≡ false
-  pub passed : place.before ≡ before + taken_by first
+  pub within : nat_lt 1048576 (before + octets_taken first) ≡ false
+  pub passed : place.before ≡ before + octets_taken first
   pub fault : place.fault ≡ None
   pub left : lines_left place unread ≡ Some rest
 

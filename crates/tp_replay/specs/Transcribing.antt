@@ -7,7 +7,7 @@ use Rattle.tp_model.specs.declared.verdict.What.{What}
 use Rattle.tp_model.specs.declared.verdict.Why.{Why}
 use Rattle.tp_model.specs.OutText.{out_texts}
 use Rattle.tp_model.specs.Trees.{closing}
-use Rattle.tp_model.specs.Transcript.{Put, answers_of, AreAllowed, RawLine, raw_lines, taken_by, Ending, Done, Bad_input, At_limit, transcript_with}
+use Rattle.tp_model.specs.Transcript.{Put, answers_of, AreAllowed, RawLine, raw_lines, Ending, Done, Bad_input, At_limit, transcript_with, octets_taken}
 use Rattle.tp_schedule.specs.LinesLeft.{first_length, first_taken}
 use Rattle.tp_driven.specs.Members.{slot_at, may}
 use Rattle.tp_replay.specs.declared.status.Status.{Status}
@@ -34,7 +34,7 @@ AreGiven may puts answers = (k : ℕ) → may k (answers_of k puts answers)
 -- the bytes of these lines, with their ends
 abbrev pub size_of : List RawLine → ℕ
 size_of [] = 0
-size_of (l ∷ ls) = taken_by l + size_of ls
+size_of (l ∷ ls) = octets_taken l + size_of ls
 
 -- of their bytes at most so many were read, where the source tells what it has left
 abbrev pub ReadsTo : ℕ → List RawLine → Option (List ℕ) → Type 0

@@ -19,7 +19,7 @@ use Rattle.tp_model.specs.Parts.{Origin, Event, Entry, Key, Root, Under, Current
 use Rattle.tp_model.specs.Questions.{is_at}
 use Rattle.tp_model.specs.Dialogues.{is_committing, is_rolling}
 use Rattle.tp_model.specs.Transactions.{aaid_of, node_key}
-use Rattle.tp_model.specs.Recovery.{is_commit, answer, find_kept}
+use Rattle.tp_model.specs.Recovery.{is_commit, find_kept, recovery_answer}
 use Rattle.tp_model.specs.Arrivals.{Named, branch_key, current_of, is_branch_of, kept_owing, key_of_kept, key_of_branch, named_by_key, named_by_branch, known_of}
 use Rattle.tp_model.specs.Node.{phase_of}
 use Rattle.tp_model.specs.Events.{action}
@@ -79,8 +79,8 @@ found_beside t b (k ∷ ks) j x h a o = go (is_key k.key j) refl (found_beside t
         rw all refl
     go false m rest = let w = rest (rw (m, find_kept) at h) a o in rw w (grind arith)
 
-done_kept : (k : Known) (s : Outcome) (r : Report) → k.kept ≡ Some (s, r) → is_commit s ≡ true → answer k Question.RecCommit ≡ Some (RecState.Done Report.None) → is_report_none r ≡ true
-unfolding answer
+done_kept : (k : Known) (s : Outcome) (r : Report) → k.kept ≡ Some (s, r) → is_commit s ≡ true → recovery_answer k Question.RecCommit ≡ Some (RecState.Done Report.None) → is_report_none r ≡ true
+unfolding recovery_answer
 done_kept k s r i c h = grind (arith, i, c, h)
 
 -- who answers so of a tree that it took no longer has it
@@ -90,7 +90,7 @@ pub data Answered (o : Origin) (up : Option Addr) (h : List Entry) (t : Aaid) (b
   By_clearing : has_cleared t (records o h) ≡ true → Answered o up h t b
   By_forgetting : (a : Addr) → HasTaken h a (PeerRecord.Forget t b) → is_at up a.node ≡ true → Answered o up h t b
 
-answered_now : (o : Origin) (up : Option Addr) (h : List Entry) (t : Aaid) (b : BranchId) → o.start.records ≡ [] → IsGrown o up h → IsOnce o h → KeyIs o h t b → has_taken_begin t h ≡ true → answer (known_of (named_by_key (digest o h) (branch_key t b)) b) Question.RecCommit ≡ Some (RecState.Done Report.None) → Answered o up h t b
+answered_now : (o : Origin) (up : Option Addr) (h : List Entry) (t : Aaid) (b : BranchId) → o.start.records ≡ [] → IsGrown o up h → IsOnce o h → KeyIs o h t b → has_taken_begin t h ≡ true → recovery_answer (known_of (named_by_key (digest o h) (branch_key t b)) b) Question.RecCommit ≡ Some (RecState.Done Report.None) → Answered o up h t b
 answered_now o up h t b empty legal once keys took x = go (fate_law o up h t b empty legal once keys took)
   where
     d : Digest
@@ -160,10 +160,10 @@ done_said o up (e ∷ h) z t b empty legal once (inl x) = go ((clearing_at o up 
     recs : e.rec ≡ (action o.who d e.event).rec
     recs = ap (λ (v : Entry). v.rec) (sym legal.1)
 
-    go : (is_now t s.current ≡ true) × (is_committing (phase_of s) ≡ true) × (ends_tree t (action o.who d e.event).rec ≡ true) ⊎ (keeps_idle s.kept ≡ true) ⊎ (e.event ≡ Event.Arrive z (PeerRecord.RecCommit t b)) × (answer (known_of (named_by_key s (branch_key t b)) b) Question.RecCommit ≡ Some (RecState.Done Report.None))
+    go : (is_now t s.current ≡ true) × (is_committing (phase_of s) ≡ true) × (ends_tree t (action o.who d e.event).rec ≡ true) ⊎ (keeps_idle s.kept ≡ true) ⊎ (e.event ≡ Event.Arrive z (PeerRecord.RecCommit t b)) × (recovery_answer (known_of (named_by_key s (branch_key t b)) b) Question.RecCommit ≡ Some (RecState.Done Report.None))
         → (has_cleared t (records o (e ∷ h)) ≡ true) ⊎ AnsweredDone o z t b Report.None (e ∷ h)
     go (inr (inl i)) = absurd (idle_never o up h t empty legal.3 (sym (idle_noted d.kept) ∙ ap keeps_idle (sym (kept_prelude o.who d e.event).0) ∙ idle_noted s.kept ∙ i))
-    go (inr (inr i)) = inr (inl (i.0, ap (λ (f : Event). answer (known_of (named_by_key (prelude o.who d f) (branch_key t b)) b) Question.RecCommit) (sym i.0) ∙ i.1))
+    go (inr (inr i)) = inr (inl (i.0, ap (λ (f : Event). recovery_answer (known_of (named_by_key (prelude o.who d f) (branch_key t b)) b) Question.RecCommit) (sym i.0) ∙ i.1))
     go (inl i) = inl (cleared_first t e.rec (records o h) (ap (ends_tree t) recs ∙ i.2) (whole (has_damage t (records o h)) refl))
       where
         whole : (v : Bool) → has_damage t (records o h) ≡ v → has_damage t (records o h) ≡ false
@@ -194,8 +194,8 @@ forget_said o up (e ∷ h) z t b empty legal once (inl x) = elim ((clearing_at o
   ]
 ]
 
-bare_none : (k : Known) (r : Report) → k.kept ≡ None → is_report_none r ≡ false → answer k Question.RecCommit ≡ Some (RecState.Done r) → ⊥
-unfolding answer
+bare_none : (k : Known) (r : Report) → k.kept ≡ None → is_report_none r ≡ false → recovery_answer k Question.RecCommit ≡ Some (RecState.Done r) → ⊥
+unfolding recovery_answer
 bare_none k r n some x = absurd (grind (arith, n, some, x))
 
 -- who said Done with a report beside the associations logged the tree's damage
@@ -206,11 +206,11 @@ damage_replied o up (e ∷ h) z t b r empty legal once some (inl x) = elim ((cle
   | inl i ↦ damage_first t e.rec (records o h) (ap (damages_tree t) (ap (λ (v : Entry). v.rec) (sym legal.1)) ∙ i)
   | inr i ↦ damage_more t e.rec (records o h) ((cleared_law o up h t empty legal.3 once.1).damage_kept (elim i [
     | inl j ↦ sym (tree_prelude o.who (digest o h) e.event t) ∙ j
-    | inr j ↦ answered (find_kept (digest o h).kept (branch_key t b)) refl (ap (λ (f : Event). answer (known_of (named_by_key (prelude o.who (digest o h) f) (branch_key t b)) b) Question.RecCommit) (sym j.0) ∙ j.1)
+    | inr j ↦ answered (find_kept (digest o h).kept (branch_key t b)) refl (ap (λ (f : Event). recovery_answer (known_of (named_by_key (prelude o.who (digest o h) f) (branch_key t b)) b) Question.RecCommit) (sym j.0) ∙ j.1)
   ]))
 ]
   where
-    answered : (v : Option Kept) → find_kept (digest o h).kept (branch_key t b) ≡ v → answer (known_of (named_by_key (digest o h) (branch_key t b)) b) Question.RecCommit ≡ Some (RecState.Done r) → keeps_tree t (digest o h).kept ≡ true
+    answered : (v : Option Kept) → find_kept (digest o h).kept (branch_key t b) ≡ v → recovery_answer (known_of (named_by_key (digest o h) (branch_key t b)) b) Question.RecCommit ≡ Some (RecState.Done r) → keeps_tree t (digest o h).kept ≡ true
     answered (Some k) i a = tree_found t (digest o h).kept (branch_key t b) k i (ap (λ (j : NodeKey). is_aaid t j.aaid) (found_key (digest o h).kept (branch_key t b) k i) ∙ aaid_same t)
     answered None i a = absurd (bare_none (known_of (named_by_key (digest o h) (branch_key t b)) b) r (ap (λ (v : Option Kept). elim v as (λ _. Option (Outcome × Report)) [ None ↦ None | Some y ↦ Some (y.side, y.report) ]) i) some a)
 

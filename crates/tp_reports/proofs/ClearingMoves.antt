@@ -27,7 +27,7 @@ use Rattle.tp_model.specs.Parts.{Who, Event, Arc, Key, Root, Branch, Current, Di
 use Rattle.tp_model.specs.Dialogues.{is_nil, is_active, is_committing, is_rolling, begun_by, named_holder}
 use Rattle.tp_model.specs.Arcs.{find_arc, with_dialogue}
 use Rattle.tp_model.specs.Transactions.{Row, Transaction, Turn, aaid_of, node_key, find_row, fresh_branch, transacted}
-use Rattle.tp_model.specs.Recovery.{is_commit, answer, find_owed, without_owed, is_nothing_owed, is_root_key, rec_of_done, settled, noted, find_kept, put_kept, with_forget, kept_by, kept_after, not_forgotten}
+use Rattle.tp_model.specs.Recovery.{is_commit, find_owed, without_owed, is_nothing_owed, is_root_key, rec_of_done, settled, noted, find_kept, put_kept, with_forget, kept_by, kept_after, not_forgotten, recovery_answer}
 use Rattle.tp_model.specs.Arrivals.{branch_key, named_by_key, named_by_branch, known_of}
 use Rattle.tp_model.specs.Node.{Move, move, followed, perform, next_mark, with_mark_drawn, phase_of, seen, seen_row, seen_rows, fresh_current, remaining, branches_of, Passage, passage, is_leaving, entered, with_begun, may_begin_on, begin_on, keep, turned}
 use Rattle.tp_model.specs.Events.{refusal, action, decision_of}
@@ -368,10 +368,10 @@ pub data EndsAt (e : Event) (fall : Bool) (s : Digest) (t : Aaid) (b : BranchId)
 
 -- what a Done with no report is an answer to, and a Forget
 abbrev pub AnswersDone : Event → Digest → Addr → Aaid → BranchId → Type 0
-AnswersDone e s z t b = (e ≡ Event.Arrive z (PeerRecord.RecCommit t b)) × (answer (known_of (named_by_key s (branch_key t b)) b) Question.RecCommit ≡ Some (RecState.Done Report.None))
+AnswersDone e s z t b = (e ≡ Event.Arrive z (PeerRecord.RecCommit t b)) × (recovery_answer (known_of (named_by_key s (branch_key t b)) b) Question.RecCommit ≡ Some (RecState.Done Report.None))
 
 abbrev pub AnswersWith : Event → Digest → Addr → Aaid → BranchId → Report → Type 0
-AnswersWith e s z t b r = (e ≡ Event.Arrive z (PeerRecord.RecCommit t b)) × (answer (known_of (named_by_key s (branch_key t b)) b) Question.RecCommit ≡ Some (RecState.Done r))
+AnswersWith e s z t b r = (e ≡ Event.Arrive z (PeerRecord.RecCommit t b)) × (recovery_answer (known_of (named_by_key s (branch_key t b)) b) Question.RecCommit ≡ Some (RecState.Done r))
 
 abbrev pub AnswersForget : Event → Digest → Addr → Aaid → BranchId → Type 0
 AnswersForget e s z t b = (r : Report) × (e ≡ Event.Arrive z (PeerRecord.RecReply t b (RecState.Done r))) × (is_report_none r ≡ false) × ((named_by_branch s t b).current ≡ None)

@@ -14,7 +14,7 @@ use Rattle.tp_model.specs.Parts.{Who, Origin, Event, Entry, Current, Digest}
 use Rattle.tp_model.specs.Dialogues.{is_active}
 use Rattle.tp_model.specs.Transactions.{Transaction, Turn, turn, and_then, before, aaid_of, complete_commit, complete_rollback, begin_rolling, ask_commit, order, leave, count_branch, end_branch, branch_left, transacted}
 use Rattle.tp_model.specs.Recovery.{settled, kept_after, not_forgotten}
-use Rattle.tp_model.specs.Node.{Move, move, followed, perform, with_mark_drawn, phase_of, seen, passage, is_leaving, is_over, try_start, restarted, turned, transact, begin_on, keep}
+use Rattle.tp_model.specs.Node.{Move, move, followed, perform, with_mark_drawn, phase_of, seen, passage, is_leaving, is_over, try_start, turned, transact, begin_on, keep, started_next}
 use Rattle.tp_model.specs.Events.{refusal, action, after_crash, started}
 use Rattle.tp_model.specs.History.{digest, records, with_rec}
 use Rattle.tp_model.specs.Outcomes.{is_now, is_unchanged, has_left}
@@ -413,7 +413,7 @@ leaving_logs who d = go d.current
     go : (o : Option Current)
         → (elim o as (λ _. Move) [
           | None ↦ move [] d
-          | Some c ↦ restarted who (passage (is_leaving f) (seen who d.arcs c).phase (transacted f (seen who d.arcs c)).next.phase) (turned who f d c)
+          | Some c ↦ started_next who (passage (is_leaving f) (seen who d.arcs c).phase (transacted f (seen who d.arcs c)).next.phase) (turned who f d c)
         ]).rec ≡ None
     go None = refl
     go (Some c) = on c (is_over (passage (is_leaving f) c.phase (transacted f (seen who d.arcs c)).next.phase))

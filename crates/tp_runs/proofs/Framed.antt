@@ -11,7 +11,7 @@ use Rattle.tp_model.specs.Events.{refusal, verdict, after_crash, started}
 use Rattle.tp_model.specs.History.{answer}
 use Rattle.tp_model.specs.Disk.{Remains, remains}
 use Rattle.tp_model.specs.World.{World, Node, Site, Frame, number_of, site_of, addr_of, find_node, put_node, addr_at, find_site, put_site, mark_handed}
-use Rattle.tp_model.specs.Happenings.{Turn, still, after_lines, action_lines, after_stop, crash_turn, Happening, Task, task_of, frames_of, entered, entry_turn, action_turn, new_node, declared_at, declare_turn, restarted, restarted_at, stop_in_force, stop_in_entry, stop_in_task, task_here, crash_in_turn, happens, run}
+use Rattle.tp_model.specs.Happenings.{still, after_lines, action_lines, after_stop, crash_turn, Happening, Task, task_of, frames_of, entry_turn, action_turn, new_node, declared_at, declare_turn, restarted, restarted_at, stop_in_force, stop_in_entry, stop_in_task, task_here, crash_in_turn, happens, run, world_with_entry, WorldTurn}
 use Rattle.tp_histories.specs.Histories.{IsSentIn, HasSent}
 use Rattle.tp_runs.specs.Framed.{has_stopped, IsFrameTo, GoesOut}
 use Rattle.tp_steps.proofs.lemmas.Equality.{names_equal}
@@ -69,7 +69,7 @@ entry_framed ns fs n y found k m x here fresh z r sent = go (number_of n == m) r
 
 turn_framed : (w : World) (n : Node) (number : Option ℕ) (o : Option Entry) → find_node w.nodes (number_of n) ≡ Some n → Framed w.nodes w.frames → Framed (entry_turn w n number o).world.nodes (entry_turn w n number o).world.frames
 turn_framed w n number None found k = k
-turn_framed w n number (Some y) found k = rw (logged_nodes (entered w n y) n y.rec, logged_frames (entered w n y) n y.rec) (entry_framed w.nodes w.frames n y found k)
+turn_framed w n number (Some y) found k = rw (logged_nodes (world_with_entry w n y) n y.rec, logged_frames (world_with_entry w n y) n y.rec) (entry_framed w.nodes w.frames n y found k)
 
 action_framed : (w : World) (d : Action) → Framed w.nodes w.frames → Framed (action_turn w d).world.nodes (action_turn w d).world.frames
 action_framed w d k = go (task_of w d) refl
@@ -196,8 +196,8 @@ force_framed w n x y st found at site k = go st.fate
     v : World
     v = record w { sites = put_site w.sites x2 }
 
-    go : (f : RecordFate) → Framed (crash_turn (elim f [ RecordFate.Kept ↦ entered v n y | RecordFate.Lost ↦ v | RecordFate.None ↦ v ]) x.name).world.nodes (crash_turn (elim f [ RecordFate.Kept ↦ entered v n y | RecordFate.Lost ↦ v | RecordFate.None ↦ v ]) x.name).world.frames
-    go RecordFate.Kept = crash_framed (entered v n y) x.name x2 (site_put w.sites x2 x site) (entered_beside x.name v.nodes v.frames n y found at k)
+    go : (f : RecordFate) → Framed (crash_turn (elim f [ RecordFate.Kept ↦ world_with_entry v n y | RecordFate.Lost ↦ v | RecordFate.None ↦ v ]) x.name).world.nodes (crash_turn (elim f [ RecordFate.Kept ↦ world_with_entry v n y | RecordFate.Lost ↦ v | RecordFate.None ↦ v ]) x.name).world.frames
+    go RecordFate.Kept = crash_framed (world_with_entry v n y) x.name x2 (site_put w.sites x2 x site) (entered_beside x.name v.nodes v.frames n y found at k)
     go RecordFate.Lost = stop_framed v x.name k
     go RecordFate.None = stop_framed v x.name k
 
@@ -206,8 +206,8 @@ within_framed : (w : World) (n : Node) (x : Site) (call fill : ℕ) (o : Option 
 within_framed w n x call fill None found at site k = stop_framed w x.name k
 within_framed w n x call fill (Some y) found at site k = go y.rec
   where
-    go : (q : Option LogRec) → Framed (elim q as (λ _. Turn) [ None ↦ after_stop (entered w n y) x.name RecordFate.None | Some l ↦ stop_in_force w n x y (remains call fill l x.disk) ]).world.nodes (elim q as (λ _. Turn) [ None ↦ after_stop (entered w n y) x.name RecordFate.None | Some l ↦ stop_in_force w n x y (remains call fill l x.disk) ]).world.frames
-    go None = crash_framed (entered w n y) x.name x site (entered_beside x.name w.nodes w.frames n y found at k)
+    go : (q : Option LogRec) → Framed (elim q as (λ _. WorldTurn) [ None ↦ after_stop (world_with_entry w n y) x.name RecordFate.None | Some l ↦ stop_in_force w n x y (remains call fill l x.disk) ]).world.nodes (elim q as (λ _. WorldTurn) [ None ↦ after_stop (world_with_entry w n y) x.name RecordFate.None | Some l ↦ stop_in_force w n x y (remains call fill l x.disk) ]).world.frames
+    go None = crash_framed (world_with_entry w n y) x.name x site (entered_beside x.name w.nodes w.frames n y found at k)
     go (Some l) = force_framed w n x y (remains call fill l x.disk) found at site k
 
 crash_in_framed : (w : World) (name : List ℕ) (call fill : ℕ) (d : Action) → Framed w.nodes w.frames → Framed (crash_in_turn w name call fill d).world.nodes (crash_in_turn w name call fill d).world.frames
@@ -220,7 +220,7 @@ crash_in_framed w name call fill d k = go (find_site w.sites name) refl
     at_site x t u j = grind (arith, j)
 
     here : (x : Site) → find_site w.sites x.name ≡ Some x → (o : Option Task) → task_of w d ≡ o → (b : Option Task) → task_here x o ≡ b
-        → Framed (elim b as (λ _. Turn) [ None ↦ still w | Some t ↦ after_lines (action_lines d) (stop_in_task w x call fill t) ]).world.nodes (elim b as (λ _. Turn) [ None ↦ still w | Some t ↦ after_lines (action_lines d) (stop_in_task w x call fill t) ]).world.frames
+        → Framed (elim b as (λ _. WorldTurn) [ None ↦ still w | Some t ↦ after_lines (action_lines d) (stop_in_task w x call fill t) ]).world.nodes (elim b as (λ _. WorldTurn) [ None ↦ still w | Some t ↦ after_lines (action_lines d) (stop_in_task w x call fill t) ]).world.frames
     here x site o i None j = k
     here x site None i (Some u) j = absurd cc
     here x site (Some t) i (Some u) j =
@@ -261,12 +261,12 @@ declared_framed w n name up none k = go (find_site w.sites name) refl
 declare_framed : (w : World) (n : ℕ) (name : List ℕ) (under : Option ℕ) → Framed w.nodes w.frames → Framed (declare_turn w n name under).world.nodes (declare_turn w n name under).world.frames
 declare_framed w n name under k = go (find_node w.nodes n) refl
   where
-    above : (o : Option Addr) → find_node w.nodes n ≡ None → Framed (elim o as (λ _. Turn) [ None ↦ still w | Some a ↦ declared_at w n name (Some a) ]).world.nodes (elim o as (λ _. Turn) [ None ↦ still w | Some a ↦ declared_at w n name (Some a) ]).world.frames
+    above : (o : Option Addr) → find_node w.nodes n ≡ None → Framed (elim o as (λ _. WorldTurn) [ None ↦ still w | Some a ↦ declared_at w n name (Some a) ]).world.nodes (elim o as (λ _. WorldTurn) [ None ↦ still w | Some a ↦ declared_at w n name (Some a) ]).world.frames
     above None none = k
     above (Some a) none = declared_framed w n name (Some a) none k
 
     below : (u : Option ℕ) → find_node w.nodes n ≡ None
-        → Framed (elim u as (λ _. Turn) [ None ↦ declared_at w n name None | Some p ↦ elim (addr_at w p) as (λ _. Turn) [ None ↦ still w | Some a ↦ declared_at w n name (Some a) ] ]).world.nodes (elim u as (λ _. Turn) [ None ↦ declared_at w n name None | Some p ↦ elim (addr_at w p) as (λ _. Turn) [ None ↦ still w | Some a ↦ declared_at w n name (Some a) ] ]).world.frames
+        → Framed (elim u as (λ _. WorldTurn) [ None ↦ declared_at w n name None | Some p ↦ elim (addr_at w p) as (λ _. WorldTurn) [ None ↦ still w | Some a ↦ declared_at w n name (Some a) ] ]).world.nodes (elim u as (λ _. WorldTurn) [ None ↦ declared_at w n name None | Some p ↦ elim (addr_at w p) as (λ _. WorldTurn) [ None ↦ still w | Some a ↦ declared_at w n name (Some a) ] ]).world.frames
     below None none = declared_framed w n name None none k
     below (Some p) none = above (addr_at w p) none
 

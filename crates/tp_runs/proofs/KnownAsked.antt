@@ -16,7 +16,7 @@ use Rattle.tp_model.specs.Dialogues.{is_nil, begun_by, named_holder}
 use Rattle.tp_model.specs.Arcs.{find_arc, without_arc, with_dialogue}
 use Rattle.tp_model.specs.Recovery.{settled}
 use Rattle.tp_model.specs.Transactions.{Row, Transaction, Turn, aaid_of, node_key, with_row, with_arc_lost, complete_commit, complete_rollback, begin_rolling, order, settle, ask_commit, leave, count_branch, end_branch, branch_left, transacted}
-use Rattle.tp_model.specs.Node.{Move, move, followed, perform, next_mark, with_mark_drawn, seen, remaining, with_begun, may_begin_on, begin_on, is_over, is_leaving, passage, try_start, restarted, transact, fresh_current, turned, keep}
+use Rattle.tp_model.specs.Node.{Move, move, followed, perform, next_mark, with_mark_drawn, seen, remaining, with_begun, may_begin_on, begin_on, is_over, is_leaving, passage, try_start, transact, fresh_current, turned, keep, started_next}
 use Rattle.tp_model.specs.Outcomes.{is_commit_request}
 use Rattle.tp_model.specs.Keys.{takes_begin, asked_in}
 use Rattle.tp_model.specs.History.{digest}
@@ -288,7 +288,7 @@ restarted_asked who d = go d.current refl
     go : (o : Option Current) → d.current ≡ o
         → HasAsked who d (elim o as (λ _. Move) [
           | None ↦ move [] d
-          | Some c ↦ restarted who (passage (is_leaving f) (seen who d.arcs c).phase (transacted f (seen who d.arcs c)).next.phase) (turned who f d c)
+          | Some c ↦ started_next who (passage (is_leaving f) (seen who d.arcs c).phase (transacted f (seen who d.arcs c)).next.phase) (turned who f d c)
         ]).next
     go None i = λ u is. absurd (no_both d.current u i is)
     go (Some c) i = over c i (is_over (passage (is_leaving f) (seen who d.arcs c).phase (transacted f (seen who d.arcs c)).next.phase))

@@ -1,5 +1,5 @@
 -- How many marks a node has drawn is the greatest count among those that it sent in this boot.
-use Rattle.std.proofs.Common.{if◌then◌else◌, ◌≡◌, ℕ, suc, Bool, true, false, refl, ap, sym, ◌∙◌, arith, Option, Some, None, List, [], ◌∷◌, ◌++◌, ◌&&◌, ◌==◌, not}
+use Rattle.std.proofs.Common.{if◌then◌else◌, ◌≡◌, ℕ, suc, Bool, true, false, refl, ap, sym, ◌∙◌, arith, Option, Some, None, List, [], ◌∷◌, ◌++◌, ◌&&◌, ◌==◌, not, max}
 use Rattle.std.specs.Prelude.{nat_le}
 use Rattle.std.proofs.lemmas.Bool.Decides.{nat_tests}
 use Rattle.tp_names.specs.declared.identifiers.Mark.{Mark}
@@ -26,7 +26,7 @@ use Rattle.tp_model.specs.Node.{Move, move, perform, next_mark, with_mark_drawn,
 use Rattle.tp_model.specs.Requests.{call, accept}
 use Rattle.tp_model.specs.Events.{action, after_crash, started}
 use Rattle.tp_model.specs.History.{digest}
-use Rattle.tp_model.specs.Questions.{count_of, greater, own_count, own_counts, is_crash, drawn_in, boot_in}
+use Rattle.tp_model.specs.Questions.{count_of, own_count, own_counts, is_crash, drawn_in, boot_in}
 use Rattle.tp_model.specs.Legal.{IsGrown, IsLegal}
 use Rattle.tp_steps.specs.Moves.{IsPut, prelude, begun_in, counted_in, accepted_by, accepted_on, is_apart, are_apart, are_spoken}
 use Rattle.tp_steps.specs.Steps.{carries_last, carry_last, last_mark, first_begin, next_tree, next_branch, Steps}
@@ -98,24 +98,24 @@ offers_turn e s put = turn_words e s (λ outs. offers_none outs ≡ true) words 
 
 -- ---- counts of what goes out
 
-greater_none : (n : ℕ) → greater 0 n ≡ n
-greater_none n = grind (arith, nat_tests)
+max_none : (n : ℕ) → max 0 n ≡ n
+max_none n = omega arith
 
-greater_within : (m n : ℕ) → nat_le m n ≡ true → greater m n ≡ n
-greater_within m n h = grind (arith, nat_tests, h)
+max_within : (m n : ℕ) → nat_le m n ≡ true → max m n ≡ n
+max_within m n h = grind (arith, nat_tests, h)
 
-greater_all : (a b c : ℕ) → greater (greater a b) c ≡ greater a (greater b c)
-greater_all a b c = grind (arith, nat_tests)
+max_all : (a b c : ℕ) → max (max a b) c ≡ max a (max b c)
+max_all a b c = omega arith
 
-greater_swap : (a b : ℕ) → greater a b ≡ greater b a
-greater_swap a b = grind (arith, nat_tests)
+max_swap : (a b : ℕ) → max a b ≡ max b a
+max_swap a b = omega arith
 
-greater_le : (a b n : ℕ) → nat_le a n ≡ true → nat_le b n ≡ true → nat_le (greater a b) n ≡ true
-greater_le a b n h i = grind (arith, nat_tests, h, i)
+max_le : (a b n : ℕ) → nat_le a n ≡ true → nat_le b n ≡ true → nat_le (max a b) n ≡ true
+max_le a b n h i = grind (arith, nat_tests, h, i)
 
-counts_append : (who : Who) (boot : ℕ) (xs ys : List Out) → own_counts who boot (xs ++ ys) ≡ greater (own_counts who boot xs) (own_counts who boot ys)
-counts_append who boot [] ys = sym (greater_none (own_counts who boot ys))
-counts_append who boot (x ∷ xs) ys = ap (greater (own_count who boot x)) (counts_append who boot xs ys) ∙ sym (greater_all (own_count who boot x) (own_counts who boot xs) (own_counts who boot ys))
+counts_append : (who : Who) (boot : ℕ) (xs ys : List Out) → own_counts who boot (xs ++ ys) ≡ max (own_counts who boot xs) (own_counts who boot ys)
+counts_append who boot [] ys = sym (max_none (own_counts who boot ys))
+counts_append who boot (x ∷ xs) ys = ap (max (own_count who boot x)) (counts_append who boot xs ys) ∙ sym (max_all (own_count who boot x) (own_counts who boot xs) (own_counts who boot ys))
 
 zero_le : (n : ℕ) → nat_le 0 n ≡ true
 zero_le n = grind (arith, nat_tests)
@@ -145,8 +145,8 @@ one_count who d arcs (TxOut.Tell i) h k l = zero_le d.drawn
 one_count who d arcs (TxOut.Carry p r) h k l = ap (λ (n : ℕ). nat_le n d.drawn) (carried_count who d.boot arcs p r h) ∙ zero_le d.drawn
 one_count who d arcs (TxOut.Shut p) h k l = let z = zero_le d.drawn in grind (arith, z)
 one_count who d arcs (TxOut.Recovery a (PeerRecord.OnAssoc x y q r)) h k l = absurd (cc (k))
-one_count who d arcs (TxOut.Recovery a (PeerRecord.OpenAssoc x u)) h k l = greater_le (count_of who d.boot x) 0 d.drawn (last_count who d x (and_left (is_mark x (last_mark who d)) true l)) (zero_le d.drawn)
-one_count who d arcs (TxOut.Recovery a (PeerRecord.AcceptAssoc x y u)) h k l = greater_le (count_of who d.boot y) 0 d.drawn (last_count who d y (and_left (is_mark y (last_mark who d)) true l)) (zero_le d.drawn)
+one_count who d arcs (TxOut.Recovery a (PeerRecord.OpenAssoc x u)) h k l = max_le (count_of who d.boot x) 0 d.drawn (last_count who d x (and_left (is_mark x (last_mark who d)) true l)) (zero_le d.drawn)
+one_count who d arcs (TxOut.Recovery a (PeerRecord.AcceptAssoc x y u)) h k l = max_le (count_of who d.boot y) 0 d.drawn (last_count who d y (and_left (is_mark y (last_mark who d)) true l)) (zero_le d.drawn)
 one_count who d arcs (TxOut.Recovery a r) h k l = let z = zero_le d.drawn in grind (arith, z)
 one_count who d arcs (TxOut.Close p) h k l = zero_le d.drawn
 
@@ -160,7 +160,7 @@ performed_count who d arcs (o ∷ outs) h k l =
     let both : (begins_none (o ∷ []) && begins_none outs) ≡ true = sym (none_append (o ∷ []) outs) ∙ h in
     let last = last_split who d o outs l in
     ap (λ (n : ℕ). nat_le n d.drawn) (counts_append who d.boot (performed_one arcs o).1 (performed (performed_one arcs o).0 outs).1)
-    ∙ greater_le (own_counts who d.boot (performed_one arcs o).1) (own_counts who d.boot (performed (performed_one arcs o).0 outs).1) d.drawn
+    ∙ max_le (own_counts who d.boot (performed_one arcs o).1) (own_counts who d.boot (performed (performed_one arcs o).0 outs).1) d.drawn
     (one_count who d arcs o (and_left (begins_none (o ∷ [])) (begins_none outs) both) (and_left (is_apart o) (are_apart outs) k) last.0)
     (performed_count who d (performed_one arcs o).0 outs (and_right (begins_none (o ∷ [])) (begins_none outs) both) (and_right (is_apart o) (are_apart outs) k) last.1)
 
@@ -190,8 +190,8 @@ commit_count who d t s arcs h k l =
     let a = performed_count who d arcs s.0 (and_left (begins_none s.0) (begins_none s.1) both) (and_left (are_apart s.0) (are_apart s.1) parts) (offers_last who d s.0 (and_left (offers_none s.0) (offers_none s.1) last)) in
     let b = performed_count who d (committed_arcs d t one.0) (grants t one.0) plain.0 (apart_grants t one.0) (offers_last who d (grants t one.0) plain.1) in
     let c = performed_count who d two.0 s.1 (and_right (begins_none s.0) (begins_none s.1) both) (and_right (are_apart s.0) (are_apart s.1) parts) (offers_last who d s.1 (and_right (offers_none s.0) (offers_none s.1) last)) in
-    ap (λ (n : ℕ). nat_le n d.drawn) (counts_append who d.boot (one.1 ++ two.1) three.1 ∙ ap (λ (n : ℕ). greater n (own_counts who d.boot three.1)) (counts_append who d.boot one.1 two.1))
-    ∙ greater_le (greater (own_counts who d.boot one.1) (own_counts who d.boot two.1)) (own_counts who d.boot three.1) d.drawn (greater_le (own_counts who d.boot one.1) (own_counts who d.boot two.1) d.drawn a b) c
+    ap (λ (n : ℕ). nat_le n d.drawn) (counts_append who d.boot (one.1 ++ two.1) three.1 ∙ ap (λ (n : ℕ). max n (own_counts who d.boot three.1)) (counts_append who d.boot one.1 two.1))
+    ∙ max_le (max (own_counts who d.boot one.1) (own_counts who d.boot two.1)) (own_counts who d.boot three.1) d.drawn (max_le (own_counts who d.boot one.1) (own_counts who d.boot two.1) d.drawn a b) c
 
 played_count : (who : Who) (d : Digest) (t : Transaction) (w : Passage) (asks : Turn) → IsWhole asks → (arcs : List Arc) → begins_none asks.outs ≡ true → are_apart asks.outs ≡ true → offers_none asks.outs ≡ true → nat_le (own_counts who d.boot (played d t w asks arcs).1) d.drawn ≡ true
 unfolding played
@@ -203,30 +203,30 @@ first_count : (who : Who) (boot : ℕ) (outs : List Out) (t : Aaid) (b : BranchI
 first_count who boot [] t b h = absurd (cc (h))
 first_count who boot (Out.Tell i ∷ outs) t b h = more 0 (own_counts who boot outs) (count_of who boot b.mark) (first_count who boot outs t b h)
   where
-    more : (x y z : ℕ) → nat_le z y ≡ true → nat_le z (greater x y) ≡ true
+    more : (x y z : ℕ) → nat_le z y ≡ true → nat_le z (max x y) ≡ true
     more x y z k = grind (arith, nat_tests, k)
 first_count who boot (Out.Send a (PeerRecord.OnAssoc x y q (DialogueRecord.Begin u c v)) ∷ outs) t b h =
     let same : c ≡ b = ap (λ (o : Option (Aaid × BranchId)). elim o as (λ _. BranchId) [ None ↦ b | Some p ↦ p.1 ]) h in
-    ap (λ (z : BranchId). nat_le (count_of who boot z.mark) (greater (count_of who boot c.mark) (own_counts who boot outs))) (sym same) ∙ here (count_of who boot c.mark) (own_counts who boot outs)
+    ap (λ (z : BranchId). nat_le (count_of who boot z.mark) (max (count_of who boot c.mark) (own_counts who boot outs))) (sym same) ∙ here (count_of who boot c.mark) (own_counts who boot outs)
   where
-    here : (x y : ℕ) → nat_le x (greater x y) ≡ true
+    here : (x y : ℕ) → nat_le x (max x y) ≡ true
     here x y = grind (arith, nat_tests)
 first_count who boot (Out.Send a (PeerRecord.OnAssoc x y q r) ∷ outs) t b h =
     let rest = first_count who boot outs t b in more (own_count who boot (Out.Send a (PeerRecord.OnAssoc x y q r))) (own_counts who boot outs) (count_of who boot b.mark) (rest (grind (arith, h)))
   where
-    more : (x y z : ℕ) → nat_le z y ≡ true → nat_le z (greater x y) ≡ true
+    more : (x y z : ℕ) → nat_le z y ≡ true → nat_le z (max x y) ≡ true
     more x y z k = grind (arith, nat_tests, k)
 first_count who boot (Out.Send a r ∷ outs) t b h =
     let rest = first_count who boot outs t b in more (own_count who boot (Out.Send a r)) (own_counts who boot outs) (count_of who boot b.mark) (rest (grind (arith, h)))
   where
-    more : (x y z : ℕ) → nat_le z y ≡ true → nat_le z (greater x y) ≡ true
+    more : (x y z : ℕ) → nat_le z y ≡ true → nat_le z (max x y) ≡ true
     more x y z k = grind (arith, nat_tests, k)
 
 begin_count : (who : Who) (boot : ℕ) (arcs : List Arc) (p : ℕ) (t : Aaid) (b : BranchId) (h : Holder) → is_live (link_with arcs p) ≡ true → own_counts who boot (carried arcs p (DialogueRecord.Begin t b h)).1 ≡ count_of who boot b.mark
 begin_count who boot [] p t b h live = absurd (cc (live))
 begin_count who boot (a ∷ arcs) p t b h live = go (a.peer.node == p) refl (begin_count who boot arcs p t b h)
   where
-    last : (n : ℕ) → greater n 0 ≡ n
+    last : (n : ℕ) → max n 0 ≡ n
     last n = grind (arith, nat_tests)
 
     on : (l : Link) → a.link ≡ l → is_live l ≡ true → own_counts who boot (carried_on a (DialogueRecord.Begin t b h)).1 ≡ count_of who boot b.mark
@@ -242,10 +242,10 @@ begin_count who boot (a ∷ arcs) p t b h live = go (a.peer.node == p) refl (beg
 -- ---- the steps
 
 abbrev IsDrawing : Who → Digest → Move → Type 0
-IsDrawing who d m = Thins d.arcs m.next.arcs × IsLinked 0 d m × (are_separate d.arcs ≡ true → m.next.drawn ≡ greater (own_counts who d.boot m.outs) d.drawn)
+IsDrawing who d m = Thins d.arcs m.next.arcs × IsLinked 0 d m × (are_separate d.arcs ≡ true → m.next.drawn ≡ max (own_counts who d.boot m.outs) d.drawn)
 
-draws_perform : (who : Who) (d : Digest) (outs : List TxOut) → are_spoken outs ≡ true → carry_last who d outs ≡ true → d.drawn ≡ greater (own_counts who d.boot (perform outs d).outs) d.drawn
-draws_perform who d outs h l = sym (greater_within (own_counts who d.boot (perform outs d).outs) d.drawn (performed_count who d d.arcs outs (spoken_none outs h) (apart_spoken outs h) l))
+draws_perform : (who : Who) (d : Digest) (outs : List TxOut) → are_spoken outs ≡ true → carry_last who d outs ≡ true → d.drawn ≡ max (own_counts who d.boot (perform outs d).outs) d.drawn
+draws_perform who d outs h l = sym (max_within (own_counts who d.boot (perform outs d).outs) d.drawn (performed_count who d d.arcs outs (spoken_none outs h) (apart_spoken outs h) l))
 
 settled_last : (who : Who) (d : Digest) (k : Kept) (f : KeptEvent) → carry_last who d (settled k f).outs ≡ true
 unfolding settled
@@ -253,19 +253,19 @@ settled_last who d k (KeptEvent.Done from b r) = last_forget who d from k.key b 
 settled_last who d k KeptEvent.Forget = refl
 settled_last who d k KeptEvent.Purge = refl
 
-draws_turned : (who : Who) (d : Digest) (c : Current) (f : TxEvent) → IsPut f (seen who d.arcs c) → d.drawn ≡ greater (own_counts who d.boot (turned who f d c).outs) d.drawn
+draws_turned : (who : Who) (d : Digest) (c : Current) (f : TxEvent) → IsPut f (seen who d.arcs c) → d.drawn ≡ max (own_counts who d.boot (turned who f d c).outs) d.drawn
 draws_turned who d c f put =
     let t : Transaction = seen who d.arcs c in
-    sym (greater_within (own_counts who d.boot (turned who f d c).outs) d.drawn (played_count who d t _ (transacted f t) (whole_turn f t) _ (passed_turn f t put).begins (apart_turn f t put) (offers_turn f t put)))
+    sym (max_within (own_counts who d.boot (turned who f d c).outs) d.drawn (played_count who d t _ (transacted f t) (whole_turn f t) _ (passed_turn f t put).begins (apart_turn f t put) (offers_turn f t put)))
 
 own_next : (who : Who) (boot n : ℕ) → count_of who boot (record { boot = boot; node = who.node; count = n }) ≡ n
 own_next who boot n = grind (arith, nat_tests)
 
-greater_next : (n : ℕ) → suc n ≡ greater (greater (suc n) 0) n
-greater_next n = grind (arith, nat_tests)
+max_next : (n : ℕ) → suc n ≡ max (max (suc n) 0) n
+max_next n = grind (arith, nat_tests)
 
-draws_begins : (who : Who) (q : ℕ) (d : Digest) → (begin_on who q d).next.drawn ≡ greater (own_counts who d.boot (begin_on who q d).outs) d.drawn
-draws_begins who q d = begin_cases (λ (m : Move). m.next.drawn ≡ greater (own_counts who d.boot m.outs) d.drawn) who q d still on
+draws_begins : (who : Who) (q : ℕ) (d : Digest) → (begin_on who q d).next.drawn ≡ max (own_counts who d.boot (begin_on who q d).outs) d.drawn
+draws_begins who q d = begin_cases (λ (m : Move). m.next.drawn ≡ max (own_counts who d.boot m.outs) d.drawn) who q d still on
   where
     id : BranchId
     id = record { superior = who.site; mark = next_mark who d }
@@ -274,24 +274,24 @@ draws_begins who q d = begin_cases (λ (m : Move). m.next.drawn ≡ greater (own
     sent x y = perform (TxOut.Carry q (DialogueRecord.Begin (aaid_of x.key) id (named_holder y.dialogue)) ∷ []) (record (with_begun who (with_mark_drawn d) x (record { addr = y.peer; branch = id })) { arcs = with_dialogue d.arcs q (begun_by (named_holder y.dialogue) Side.Superior) })
 
     abbrev_goal : Move → Type 0
-    abbrev_goal m = m.next.drawn ≡ greater (own_counts who d.boot m.outs) d.drawn
+    abbrev_goal m = m.next.drawn ≡ max (own_counts who d.boot m.outs) d.drawn
 
     still : abbrev_goal (move [] d)
-    still = sym (greater_none d.drawn)
+    still = sym (max_none d.drawn)
 
-    on : (c : Current) (a : Arc) → d.current ≡ Some c → find_arc d.arcs q ≡ Some a → may_begin_on who d a ≡ true → (begun_over who q d c a).next.drawn ≡ greater (own_counts who d.boot (begun_over who q d c a).outs) d.drawn
+    on : (c : Current) (a : Arc) → d.current ≡ Some c → find_arc d.arcs q ≡ Some a → may_begin_on who d a ≡ true → (begun_over who q d c a).next.drawn ≡ max (own_counts who d.boot (begun_over who q d c a).outs) d.drawn
     on c a now found may =
         let live : is_live a.link ≡ true = grind (arith, may) in
         let h : Holder = named_holder a.dialogue in
         let arcs : List Arc = with_dialogue d.arcs q (begun_by h Side.Superior) in
         let linked : is_live (link_with arcs q) ≡ true = ap is_live (link_dialogue d.arcs q (begun_by h Side.Superior) q) ∙ ap (λ (o : Option Arc). is_live (link_of o)) found ∙ live in
         let one : own_counts who d.boot (carried arcs q (DialogueRecord.Begin (aaid_of c.key) id h)).1 ≡ suc d.drawn = begin_count who d.boot arcs q (aaid_of c.key) id h linked ∙ own_next who d.boot (suc d.drawn) in
-        greater_next d.drawn ∙ sym (ap (λ (n : ℕ). greater n d.drawn) (counts_append who d.boot (carried arcs q (DialogueRecord.Begin (aaid_of c.key) id h)).1 [] ∙ ap (λ (n : ℕ). greater n 0) one))
+        max_next d.drawn ∙ sym (ap (λ (n : ℕ). max n d.drawn) (counts_append who d.boot (carried arcs q (DialogueRecord.Begin (aaid_of c.key) id h)).1 [] ∙ ap (λ (n : ℕ). max n 0) one))
 
-far_above : (x n k : ℕ) → nat_le k x ≡ true → nat_le (suc n) k ≡ true → greater x (suc n) ≡ greater x n
+far_above : (x n k : ℕ) → nat_le k x ≡ true → nat_le (suc n) k ≡ true → max x (suc n) ≡ max x n
 far_above x n k h i = grind (arith, nat_tests, h, i)
 
-draws_root : (who : Who) (d : Digest) (m : Move) → first_begin m.outs ≡ Some (next_tree who d, next_branch who d) → m.next.drawn ≡ greater (own_counts who d.boot m.outs) (suc d.drawn) → m.next.drawn ≡ greater (own_counts who d.boot m.outs) d.drawn
+draws_root : (who : Who) (d : Digest) (m : Move) → first_begin m.outs ≡ Some (next_tree who d, next_branch who d) → m.next.drawn ≡ max (own_counts who d.boot m.outs) (suc d.drawn) → m.next.drawn ≡ max (own_counts who d.boot m.outs) d.drawn
 draws_root who d m says one =
     let most : nat_le (suc (suc d.drawn)) (own_counts who d.boot m.outs) ≡ true = ap (λ (n : ℕ). nat_le n (own_counts who d.boot m.outs)) (sym (own_next who d.boot (suc (suc d.drawn)))) ∙ first_count who d.boot m.outs (next_tree who d) (next_branch who d) says in
     one ∙ far_above (own_counts who d.boot m.outs) d.drawn (suc (suc d.drawn)) most (up d.drawn)
@@ -299,16 +299,16 @@ draws_root who d m says one =
     up : (n : ℕ) → nat_le (suc n) (suc (suc n)) ≡ true
     up n = grind (arith, nat_tests)
 
-draws_then : (who : Who) (d : Digest) (a : Move) (f : Digest → Move) → a.next.boot ≡ d.boot → a.next.drawn ≡ greater (own_counts who d.boot a.outs) d.drawn → (f a.next).next.drawn ≡ greater (own_counts who a.next.boot (f a.next).outs) a.next.drawn
-    → (f a.next).next.drawn ≡ greater (own_counts who d.boot (a.outs ++ (f a.next).outs)) d.drawn
+draws_then : (who : Who) (d : Digest) (a : Move) (f : Digest → Move) → a.next.boot ≡ d.boot → a.next.drawn ≡ max (own_counts who d.boot a.outs) d.drawn → (f a.next).next.drawn ≡ max (own_counts who a.next.boot (f a.next).outs) a.next.drawn
+    → (f a.next).next.drawn ≡ max (own_counts who d.boot (a.outs ++ (f a.next).outs)) d.drawn
 draws_then who d a f booted one two =
     let x : ℕ = own_counts who d.boot a.outs in
     let y : ℕ = own_counts who d.boot (f a.next).outs in
-    two ∙ ap (λ (k : ℕ). greater (own_counts who k (f a.next).outs) a.next.drawn) booted ∙ ap (greater y) one ∙ sym (greater_all y x d.drawn) ∙ ap (λ (n : ℕ). greater n d.drawn) (greater_swap y x ∙ sym (counts_append who d.boot a.outs (f a.next).outs))
+    two ∙ ap (λ (k : ℕ). max (own_counts who k (f a.next).outs) a.next.drawn) booted ∙ ap (max y) one ∙ sym (max_all y x d.drawn) ∙ ap (λ (n : ℕ). max n d.drawn) (max_swap y x ∙ sym (counts_append who d.boot a.outs (f a.next).outs))
 
 draws_steps : (who : Who) (e : Event) (s : Digest) → Steps who e s (IsDrawing who)
 draws_steps who e s = record {
-  still = λ d. (k1.still d, k2.still d, λ apart. sym (greater_none d.drawn));
+  still = λ d. (k1.still d, k2.still d, λ apart. sym (max_none d.drawn));
   chain = λ d a f one two quiet. (k1.chain d a f one.0 two.0 quiet, k2.chain d a f one.1 two.1 quiet, λ apart. draws_then who d a f one.1.boot (one.2 apart) (two.2 (one.0.apart apart)));
   speaks = λ d outs h own said last. (k1.speaks d outs h own said last, k2.speaks d outs h own said last, λ apart. draws_perform who d outs h last);
   changes_dialogue = λ d p f m by one. (k1.changes_dialogue d p f m by one.0, k2.changes_dialogue d p f m by one.1, λ apart. one.2 ((thins_dialogue d.arcs p f).apart apart));
@@ -333,8 +333,8 @@ pub data First_draws (who : Who) (d : Digest) (e : Event) : Type 0 where
   No_mark : (prelude who d e).drawn ≡ d.drawn → First_draws who d e
   One_mark : (prelude who d e).drawn ≡ suc d.drawn → nat_le (suc d.drawn) (own_counts who d.boot (action who d e).outs) ≡ true → first_begin (action who d e).outs ≡ None → First_draws who d e
 
-offers_one : (who : Who) (d : Digest) → nat_le (suc d.drawn) (greater (count_of who d.boot (next_mark who d)) 0) ≡ true
-offers_one who d = ap (λ (n : ℕ). nat_le (suc d.drawn) (greater n 0)) (own_next who d.boot (suc d.drawn)) ∙ grind (arith, nat_tests)
+offers_one : (who : Who) (d : Digest) → nat_le (suc d.drawn) (max (count_of who d.boot (next_mark who d)) 0) ≡ true
+offers_one who d = ap (λ (n : ℕ). nat_le (suc d.drawn) (max n 0)) (own_next who d.boot (suc d.drawn)) ∙ grind (arith, nat_tests)
 
 call_draws : (who : Who) (d : Digest) (a : Addr) (u : ℕ) → First_draws who d (Event.Do (Request.BeginDialogue a u))
 unfolding call
@@ -407,28 +407,28 @@ drawn_step o up e h legal before = go (is_crash e.event) refl
     outs : m.outs ≡ e.outs
     outs = ap (λ (x : Entry). x.outs) legal.1
 
-    drawing : m.next.drawn ≡ greater (own_counts o.who s.boot m.outs) s.drawn
+    drawing : m.next.drawn ≡ max (own_counts o.who s.boot m.outs) s.drawn
     drawing = (step_move o.who d e.event (IsDrawing o.who) (draws_steps o.who e.event s) (late_law o up h legal.3) legal.0).2 (separate_prelude o.who d e.event legal.0 (separate_law o up h legal.3))
 
     counted : own_counts o.who d.boot m.outs ≡ own_counts o.who (boot_in o h) e.outs
     counted = ap (λ (n : ℕ). own_counts o.who n m.outs) (plain_law o up h legal.3).boot ∙ ap (own_counts o.who (boot_in o h)) outs
 
-    calm : is_crash e.event ≡ false → m.next.drawn ≡ greater (own_counts o.who d.boot m.outs) d.drawn
+    calm : is_crash e.event ≡ false → m.next.drawn ≡ max (own_counts o.who d.boot m.outs) d.drawn
     calm i = on (first_draws o.who d e.event i)
       where
-        at : m.next.drawn ≡ greater (own_counts o.who d.boot m.outs) s.drawn
-        at = drawing ∙ ap (λ (n : ℕ). greater (own_counts o.who n m.outs) s.drawn) (same_boot o.who d e.event i)
+        at : m.next.drawn ≡ max (own_counts o.who d.boot m.outs) s.drawn
+        at = drawing ∙ ap (λ (n : ℕ). max (own_counts o.who n m.outs) s.drawn) (same_boot o.who d e.event i)
 
         itself : (n : ℕ) → nat_le n n ≡ true
         itself n = grind (arith, nat_tests)
 
-        on : First_draws o.who d e.event → m.next.drawn ≡ greater (own_counts o.who d.boot m.outs) d.drawn
-        on (No_mark j) = at ∙ ap (greater (own_counts o.who d.boot m.outs)) j
-        on (One_mark j k none) = at ∙ ap (greater (own_counts o.who d.boot m.outs)) j ∙ far_above (own_counts o.who d.boot m.outs) d.drawn (suc d.drawn) k (itself (suc d.drawn))
+        on : First_draws o.who d e.event → m.next.drawn ≡ max (own_counts o.who d.boot m.outs) d.drawn
+        on (No_mark j) = at ∙ ap (max (own_counts o.who d.boot m.outs)) j
+        on (One_mark j k none) = at ∙ ap (max (own_counts o.who d.boot m.outs)) j ∙ far_above (own_counts o.who d.boot m.outs) d.drawn (suc d.drawn) k (itself (suc d.drawn))
 
     go : (b : Bool) → is_crash e.event ≡ b → (digest o (e ∷ h)).drawn ≡ drawn_in o (e ∷ h)
     go true i = ap (λ (f : Event). (action o.who d f).next.drawn) (crash_is e.event i) ∙ crash_drawn d ∙ rw (i, drawn_in) refl
-    go false i = calm i ∙ ap (λ (n : ℕ). greater n d.drawn) counted ∙ ap (greater (own_counts o.who (boot_in o h) e.outs)) before ∙ rw (i, drawn_in) refl
+    go false i = calm i ∙ ap (λ (n : ℕ). max n d.drawn) counted ∙ ap (max (own_counts o.who (boot_in o h) e.outs)) before ∙ rw (i, drawn_in) refl
 
 pub drawn_law : (o : Origin) (up : Option Addr) (h : List Entry) → IsGrown o up h → (digest o h).drawn ≡ drawn_in o h
 drawn_law o up [] legal = start_drawn o

@@ -8,7 +8,7 @@ use Rattle.tp_model.specs.declared.recovery.Kept.{Kept}
 use Rattle.tp_model.specs.Recovery.{kept_after}
 use Rattle.tp_model.specs.Events.{refusal, action, kept_from, started}
 use Rattle.tp_model.specs.History.{digest, answer}
-use Rattle.tp_model.specs.NodeRun.{Opening, is_record_at, records_at, origin_at, Past, history_of, Asked, Refuses, Is, asked, node_of, NodeRun, entry_record, with_entry, run_from}
+use Rattle.tp_model.specs.NodeRun.{Opening, is_record_at, records_at, origin_at, Past, history_of, Refuses, Is, asked, node_of, NodeRun, entry_record, with_entry, run_from, AskedEvent}
 use Rattle.tp_model.specs.Lanes.{lane, records_in, IsOwnHistory}
 use Rattle.tp_steps.specs.Moves.{prelude, IsLate}
 use Rattle.tp_steps.proofs.every.EveryEvent.{every_move}
@@ -119,7 +119,7 @@ lane_records : (o : Opening) (i w : ℕ) (gs : List Given) (ps qs : List Past) �
 lane_records o i w [] ps qs agree well = refl
 lane_records o i w (g ∷ gs) ps qs agree well = go (node_of g % w == i) refl (asked o g) refl (lane_records o i w gs)
   where
-    go : (b : Bool) → (node_of g % w == i) ≡ b → (a : Asked) → asked o g ≡ a
+    go : (b : Bool) → (node_of g % w == i) ≡ b → (a : AskedEvent) → asked o g ≡ a
         → ((ps qs : List Past) → Agree i w ps qs → AllWell o ps → records_in i w (run_from o ps gs).log ≡ (run_from o qs (lane gs i w)).log)
         → records_in i w (run_from o ps (g ∷ gs)).log ≡ (run_from o qs (lane (g ∷ gs) i w)).log
     go true h (Refuses n) k rest =

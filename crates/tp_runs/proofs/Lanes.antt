@@ -8,7 +8,7 @@ use Rattle.tp_records.specs.declared.peer.PeerRecord.{PeerRecord}
 use Rattle.tp_records.specs.BodyReading.{peer_in}
 use Rattle.tp_model.specs.Parts.{Event, Entry, Answer}
 use Rattle.tp_model.specs.History.{answer}
-use Rattle.tp_model.specs.NodeRun.{Opening, origin_at, Past, history_of, with_history, Asked, Refuses, Is, asked, node_of, refusal_of, entry_outputs, NodeRun, entry_record, with_entry, before_run, run_from}
+use Rattle.tp_model.specs.NodeRun.{Opening, origin_at, Past, history_of, with_history, Refuses, Is, asked, node_of, refusal_of, entry_outputs, NodeRun, entry_record, with_entry, before_run, run_from, AskedEvent}
 use Rattle.tp_model.specs.Lanes.{lane, outputs_in}
 
 -- ---- pasts
@@ -30,7 +30,7 @@ pub asked_at : (o : Opening) (g : Given) (n : ℕ) (e : Event) → asked o g ≡
 asked_at o (Given.Arrive from to octets) n e h = arrived (peer_in octets) (is_name to.site o.site) refl refl h
   where
     arrived : (r : Option PeerRecord) (b : Bool) → peer_in octets ≡ r → is_name to.site o.site ≡ b
-        → (elim r as (λ _. Asked) [ None ↦ Refuses 25 | Some x ↦ elim b as (λ _. Asked) [ true ↦ Is to.node (Event.Arrive from x) | false ↦ Refuses 23 ] ]) ≡ Is n e → to.node ≡ n
+        → (elim r as (λ _. AskedEvent) [ None ↦ Refuses 25 | Some x ↦ elim b as (λ _. AskedEvent) [ true ↦ Is to.node (Event.Arrive from x) | false ↦ Refuses 23 ] ]) ≡ Is n e → to.node ≡ n
     arrived None b i j k = absurd (cc (k))
     arrived (Some x) true i j k = cc (k)
     arrived (Some x) false i j k = absurd (cc (k))
@@ -41,14 +41,14 @@ asked_at o _ n e h = cc (h)
 abbrev pub given : Opening → List Past → ℕ → Event → Answer
 given o ps n e = answer (origin_at o n) (history_of ps n) e
 
-abbrev pub run_asked : Opening → List Past → Asked → List Given → NodeRun
+abbrev pub run_asked : Opening → List Past → AskedEvent → List Given → NodeRun
 run_asked o ps (Refuses n) gs = before_run [] (Output.Refused n ∷ []) (run_from o ps gs)
 run_asked o ps (Is n e) gs = before_run (entry_record (given o ps n e).entry) (refusal_of (given o ps n e).number ++ entry_outputs o n (given o ps n e).entry) (run_from o (with_entry ps n (given o ps n e).entry) gs)
 
-pub run_step : (o : Opening) (ps : List Past) (g : Given) (gs : List Given) (a : Asked) → asked o g ≡ a → run_from o ps (g ∷ gs) ≡ run_asked o ps a gs
+pub run_step : (o : Opening) (ps : List Past) (g : Given) (gs : List Given) (a : AskedEvent) → asked o g ≡ a → run_from o ps (g ∷ gs) ≡ run_asked o ps a gs
 run_step o ps g gs a h = rw (h, run_from) (same a)
   where
-    same : (a : Asked) → (elim a as (λ _. NodeRun) [
+    same : (a : AskedEvent) → (elim a as (λ _. NodeRun) [
       | Refuses n ↦ before_run [] (Output.Refused n ∷ []) (run_from o ps gs)
       | Is n e ↦ before_run (entry_record (given o ps n e).entry) (refusal_of (given o ps n e).number ++ entry_outputs o n (given o ps n e).entry) (run_from o (with_entry ps n (given o ps n e).entry) gs)
     ]) ≡ run_asked o ps a gs
@@ -101,7 +101,7 @@ pub lane_outputs : (o : Opening) (i w : ℕ) (gs : List Given) (ps qs : List Pas
 lane_outputs o i w [] ps qs agree = refl
 lane_outputs o i w (g ∷ gs) ps qs agree = go (node_of g % w == i) refl (asked o g) refl (lane_outputs o i w gs)
   where
-    go : (b : Bool) → (node_of g % w == i) ≡ b → (a : Asked) → asked o g ≡ a
+    go : (b : Bool) → (node_of g % w == i) ≡ b → (a : AskedEvent) → asked o g ≡ a
         → ((ps qs : List Past) → Agree i w ps qs → outputs_in i w gs (run_from o ps gs).outputs ≡ (run_from o qs (lane gs i w)).outputs)
         → outputs_in i w (g ∷ gs) (run_from o ps (g ∷ gs)).outputs ≡ (run_from o qs (lane (g ∷ gs) i w)).outputs
     go true h (Refuses n) k rest =

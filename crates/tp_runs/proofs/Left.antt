@@ -8,7 +8,7 @@ use Rattle.tp_model.specs.Parts.{Who, Origin, Event, Entry, Current, Digest}
 use Rattle.tp_model.specs.Dialogues.{is_nil, is_active}
 use Rattle.tp_model.specs.Transactions.{Turn, transacted, leave}
 use Rattle.tp_model.specs.Requests.{refused_request}
-use Rattle.tp_model.specs.Node.{Move, move, followed, phase_of, seen, Passage, passage, is_leaving, is_over, try_start, restarted, transact}
+use Rattle.tp_model.specs.Node.{Move, move, followed, phase_of, seen, Passage, passage, is_leaving, is_over, try_start, transact, started_next}
 use Rattle.tp_model.specs.Events.{refusal, verdict, after}
 use Rattle.tp_model.specs.History.{digest}
 use Rattle.tp_model.specs.Outcomes.{is_now, rolls, is_crash_in_active, is_unchanged, has_left, rolled}
@@ -41,7 +41,7 @@ use Rattle.tp_steps.proofs.order.InOrder.{not_both}
 left_transact : (who : Who) (d : Digest) (c : Current) (t : Aaid) → d.current ≡ Some c → is_old who d t.mark ≡ true → is_now t (transact who (TxEvent.User Request.Unchanged) d).next.current ≡ true → ⊥
 unfolding transact leave
 left_transact who d c t now old =
-    subst (λ (o : Option Current). is_now t (elim o as (λ _. Move) [ None ↦ move [] d | Some x ↦ restarted who (passage (is_leaving f) (seen who d.arcs x).phase (transacted f (seen who d.arcs x)).next.phase) (turned who f d x) ]).next.current ≡ true → ⊥) (sym now)
+    subst (λ (o : Option Current). is_now t (elim o as (λ _. Move) [ None ↦ move [] d | Some x ↦ started_next who (passage (is_leaving f) (seen who d.arcs x).phase (transacted f (seen who d.arcs x)).next.phase) (turned who f d x) ]).next.current ≡ true → ⊥) (sym now)
     (over (is_over w))
   where
     f : TxEvent

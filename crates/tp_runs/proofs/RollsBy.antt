@@ -19,7 +19,7 @@ use Rattle.tp_model.specs.Dialogues.{Sight, Acts, Nothing_happens, Out_of_phase,
 use Rattle.tp_model.specs.Arcs.{find_arc, without_arc}
 use Rattle.tp_model.specs.Transactions.{Transaction, Turn, node_key, sight_of_tx, acts, leave, transacted, refused_tx}
 use Rattle.tp_model.specs.Requests.{abort, refused_request}
-use Rattle.tp_model.specs.Node.{Move, move, followed, perform, phase_of, may_root, seen, situation_at, remaining, Passage, passage, is_leaving, is_over, has_none, chained_peers, start_root, try_start, restarted, transact, turned}
+use Rattle.tp_model.specs.Node.{Move, move, followed, perform, phase_of, may_root, seen, situation_at, remaining, Passage, passage, is_leaving, is_over, has_none, chained_peers, start_root, try_start, transact, turned, started_next}
 use Rattle.tp_model.specs.Arrivals.{branch_key, named_by_key, is_current_ready, sight_at, lose, take_abort, take_record, woken_by, take_on, take_ready_reply, broken_pair, break_off}
 use Rattle.tp_model.specs.Events.{refusal, action}
 use Rattle.tp_model.specs.Outcomes.{is_fatal, rolls_by_request, rolls_by_rollback, rolls, is_unchanged}
@@ -62,7 +62,7 @@ rolling_eq _ h = absurd (cc (h))
 down_transact : (who : Who) (f : TxEvent) (d : Digest) (c : Current) → d.current ≡ Some c → falls f (seen who d.arcs c) ≡ true → IsDownMove (transact who f d)
 unfolding transact
 down_transact who f d c now fall =
-    subst (λ (o : Option Current). IsDownMove (elim o as (λ _. Move) [ None ↦ move [] d | Some x ↦ restarted who (passage (is_leaving f) (seen who d.arcs x).phase (transacted f (seen who d.arcs x)).next.phase) (turned who f d x) ])) (sym now)
+    subst (λ (o : Option Current). IsDownMove (elim o as (λ _. Move) [ None ↦ move [] d | Some x ↦ started_next who (passage (is_leaving f) (seen who d.arcs x).phase (transacted f (seen who d.arcs x)).next.phase) (turned who f d x) ])) (sym now)
     (go (is_nil a.next.phase) refl)
   where
     t : Transaction
@@ -234,7 +234,7 @@ left_start who m quiet none apart =
 left_transact : (who : Who) (d : Digest) (c : Current) → d.current ≡ Some c → is_active c.phase ≡ true → are_separate d.arcs ≡ true → IsPut (TxEvent.User Request.Unchanged) (seen who d.arcs c) → IsLeftMove who d.drawn (transact who (TxEvent.User Request.Unchanged) d)
 unfolding transact leave
 left_transact who d c now act apart put =
-    subst (λ (o : Option Current). IsLeftMove who d.drawn (elim o as (λ _. Move) [ None ↦ move [] d | Some x ↦ restarted who (passage true (seen who d.arcs x).phase (transacted (TxEvent.User Request.Unchanged) (seen who d.arcs x)).next.phase) (turned who (TxEvent.User Request.Unchanged) d x) ])) (sym now)
+    subst (λ (o : Option Current). IsLeftMove who d.drawn (elim o as (λ _. Move) [ None ↦ move [] d | Some x ↦ started_next who (passage true (seen who d.arcs x).phase (transacted (TxEvent.User Request.Unchanged) (seen who d.arcs x)).next.phase) (turned who (TxEvent.User Request.Unchanged) d x) ])) (sym now)
     (subst (λ (b : Bool). IsLeftMove who d.drawn (if b then followed m (try_start who) else m)) (sym (over c.phase act)) (left_start who m quiet refl ((thins_turned who f d c).apart apart)))
   where
     f : TxEvent

@@ -21,7 +21,7 @@ use Rattle.tp_texts.proofs.RecordParts.{Gives, gives_made, gives_and, code_gives
 use Rattle.tp_texts.proofs.RecordTexts.{ready_key_given, ready_children_given, heuristic_key_given, commit_key_given, commit_children_given, damage_key_given, damage_judgement_given, damage_children_given}
 use Rattle.tp_model.specs.Parts.{Event, Entry}
 use Rattle.tp_model.specs.History.{answer}
-use Rattle.tp_model.specs.NodeRun.{Opening, origin_at, Asked, Refuses, Is, asked}
+use Rattle.tp_model.specs.NodeRun.{Opening, origin_at, Refuses, Is, asked, AskedEvent}
 use Rattle.tp_steps.proofs.every.Answers.{Accepted, accepted}
 use Rattle.tp_texts.specs.Shapes.{has_superior, IsShaped, AreShaped}
 use Rattle.tp_said_texts.specs.Texts.{HaveTexts}
@@ -174,7 +174,7 @@ few_octets octets r h = go (read_peer octets) refl h
 brings_few : (o : Opening) (g : Given) (n : ℕ) (e : Event) → asked o g ≡ Is n e → BringsFew e
 brings_few o (Given.Arrive from to octets) n e h = arrived (peer_in octets) refl (is_name to.site o.site) h
   where
-    arrived : (r : Option PeerRecord) → peer_in octets ≡ r → (b : Bool) → (elim r as (λ _. Asked) [ None ↦ Refuses 25 | Some x ↦ elim b as (λ _. Asked) [ true ↦ Is to.node (Event.Arrive from x) | false ↦ Refuses 23 ] ]) ≡ Is n e → BringsFew e
+    arrived : (r : Option PeerRecord) → peer_in octets ≡ r → (b : Bool) → (elim r as (λ _. AskedEvent) [ None ↦ Refuses 25 | Some x ↦ elim b as (λ _. AskedEvent) [ true ↦ Is to.node (Event.Arrive from x) | false ↦ Refuses 23 ] ]) ≡ Is n e → BringsFew e
     arrived None i b k = absurd (cc (k))
     arrived (Some x) i true k = let same : Event.Arrive from x ≡ e = cc (k) in subst BringsFew same (few_octets octets x i)
     arrived (Some x) i false k = absurd (cc (k))

@@ -17,7 +17,7 @@ use Rattle.tp_model.specs.Transactions.{node_key}
 use Rattle.tp_model.specs.Recovery.{kept_by}
 use Rattle.tp_model.specs.Events.{fresh_branches, key_in_log, current_in_log, decision_of, without_current, current_by, current_from, kept_from, started}
 use Rattle.tp_model.specs.History.{digest, answer, entry_of}
-use Rattle.tp_model.specs.NodeRun.{Opening, boot_of, is_record_at, records_at, origin_at, Past, history_of, Asked, Refuses, Is, asked, entry_record, with_entry, run_from, NodeRun, log_after}
+use Rattle.tp_model.specs.NodeRun.{Opening, boot_of, is_record_at, records_at, origin_at, Past, history_of, Refuses, Is, asked, entry_record, with_entry, run_from, NodeRun, log_after, AskedEvent}
 use Rattle.tp_names.specs.Same.{is_key}
 use Rattle.tp_steps.proofs.every.Answers.{Accepted, accepted}
 use Rattle.tp_steps.proofs.log.KinTurns.{kin}
@@ -159,7 +159,7 @@ run_shaped : (o : Opening) (gs : List Given) (ps : List Past) → ((k : ℕ) →
 run_shaped o [] ps known = tt
 run_shaped o (g ∷ gs) ps known = go (asked o g) refl (run_shaped o gs)
   where
-    go : (a : Asked) → asked o g ≡ a → ((qs : List Past) → ((k : ℕ) → IsKnown o (history_of qs k) k) → AreShaped o.version (run_from o qs gs).log) → AreShaped o.version (run_from o ps (g ∷ gs)).log
+    go : (a : AskedEvent) → asked o g ≡ a → ((qs : List Past) → ((k : ℕ) → IsKnown o (history_of qs k) k) → AreShaped o.version (run_from o qs gs).log) → AreShaped o.version (run_from o ps (g ∷ gs)).log
     go (Refuses n) i rest = subst (λ (r : NodeRun). AreShaped o.version r.log) (sym (run_step o ps g gs (Refuses n) i)) (rest ps known)
     go (Is n e) i rest = subst (λ (r : NodeRun). AreShaped o.version r.log) (sym (run_step o ps g gs (Is n e) i)) (entered (given o ps n e).entry refl)
       where

@@ -27,7 +27,7 @@ use Rattle.tp_model.specs.Dialogues.{Sight, Acts, Nothing_happens, Out_of_phase,
 use Rattle.tp_model.specs.Arcs.{find_arc, put_arc, without_arc, with_link, with_dialogue, carried_on, carried, shut_says, shut_with, performed_one, performed}
 use Rattle.tp_model.specs.Transactions.{Row, Transaction, Turn, turn, and_then, is_under, is_under_at, find_row, find_row_by_id, row_holds, with_row, with_arc_lost, is_waited_for, all_settled, done_up, complete_commit, complete_rollback, begin_rolling, roll, order, settle, ask_commit, leave, count_branch, end_branch, branch_left, lost_arc, complete, by_user, superior_rolls, takes_left, takes, sight_of_tx, is_open_in_commit, replied, give_up, aaid_of, transacted}
 use Rattle.tp_model.specs.Recovery.{forget_to, is_commit, settled, noted, ask_owed, tell_superior, owed, find_kept, with_forget}
-use Rattle.tp_model.specs.Node.{next_mark, with_mark_drawn, superior_arc, may_root, phase_of, has_asked, seen, situation_at, Move, move, followed, perform, Passage, Commits, grants, is_granting, perform_commit, committed_arcs, played, fresh_current, may_begin_on, begin_on, begin_each, begin_chained, chained_peers, start_root, has_none, try_start, restarted, is_over, passed, turned, transact, keep, around_grants}
+use Rattle.tp_model.specs.Node.{next_mark, with_mark_drawn, superior_arc, may_root, phase_of, has_asked, seen, situation_at, Move, move, followed, perform, Passage, Commits, grants, is_granting, perform_commit, committed_arcs, played, fresh_current, may_begin_on, begin_on, begin_each, begin_chained, chained_peers, start_root, has_none, try_start, is_over, passed, turned, transact, keep, around_grants, started_next}
 use Rattle.tp_model.specs.Requests.{refused_request, speak, call, accept, reject, abort, begin_transaction, do_request}
 use Rattle.tp_model.specs.Arrivals.{Named, branch_key, named_by_key, named_by_branch, is_current_ready, lose, take_abort, take_begin, take_record, woken_by, sight_at, take_on, take_accept, reply_to, take_order, take_forget, take_done_reply, take_ready_reply, do_arrival, broken_pair, break_off}
 use Rattle.tp_model.specs.Events.{retry_each, retry, purge, refusal, action}
@@ -361,7 +361,7 @@ module _ (sized may : Bool) where
       turn_gives : (c : Current) → Gives (turned who f d c)
       turn_gives c = short_played d _ _ (transacted f (seen who d.arcs c)) (whole_turn f (seen who d.arcs c)) _ (says_turn f (seen who d.arcs c))
 
-      go : (o : Option Current) → Gives (elim o as (λ _. Move) [ None ↦ move [] d | Some c ↦ restarted who (passed who f d c) (turned who f d c) ])
+      go : (o : Option Current) → Gives (elim o as (λ _. Move) [ None ↦ move [] d | Some c ↦ started_next who (passed who f d c) (turned who f d c) ])
       go None = tt
       go (Some c) = either_move (is_over (passed who f d c)) (followed (turned who f d c) (try_start who)) (turned who f d c) (follows (turned who f d c) (try_start who) (turn_gives c) (gives_start who)) (turn_gives c)
 

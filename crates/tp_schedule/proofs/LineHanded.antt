@@ -2,7 +2,7 @@
 use Rattle.std.proofs.Common.{◌≡◌, ℕ, ◌+◌, ◌≤◌, true, false, Option, Some, None, Result, Ok, Err, List, ◌∷◌, ◌++◌, length, take, drop, refl, ap, sym, ◌∙◌, arith, length-append}
 use Rattle.std.specs.Prelude.{option_map, nat_lt, IfSome}
 use Rattle.std.proofs.lemmas.Bool.Decides.{nat_tests}
-use Rattle.tp_model.specs.Transcript.{RawLine, raw_lines, content, taken_by}
+use Rattle.tp_model.specs.Transcript.{RawLine, raw_lines, content, octets_taken}
 use Rattle.tp_schedule.specs.declared.lines_fault.LinesFault.{LinesFault}
 use Rattle.tp_schedule.specs.declared.lines.Cut.{Cut}
 use Rattle.tp_schedule.specs.AtHand.{together}
@@ -10,8 +10,8 @@ use Rattle.tp_schedule.specs.LinesLeft.{Place, judged, first_of, answer, HandsOu
 use Rattle.tp_schedule.specs.LineCut.{Takes}
 use Rattle.tp_schedule.proofs.Buffers.{at_most}
 
-is_line : (before : ℕ) (l : RawLine) → before + taken_by l ≤ 1048576 → length (content l) ≤ 8192 → judged before l ≡ Ok (Some (content l))
-is_line before l few short = go (before + taken_by l) (length (content l)) few short
+is_line : (before : ℕ) (l : RawLine) → before + octets_taken l ≤ 1048576 → length (content l) ≤ 8192 → judged before l ≡ Ok (Some (content l))
+is_line before l few short = go (before + octets_taken l) (length (content l)) few short
   where
     go : (m n : ℕ) → m ≤ 1048576 → n ≤ 8192
         → elim (nat_lt 1048576 m) as (λ _. Result (Option (List ℕ)) LinesFault) [

@@ -4,7 +4,7 @@ use Rattle.std.specs.Prelude.{IfSome, nat_lt}
 use Rattle.std.proofs.lemmas.Bool.Decides.{nat_tests}
 use Rattle.std.proofs.lemmas.List.{take_all, append-nil}
 use Rattle.std.proofs.Math.Seq.{drop-length}
-use Rattle.tp_model.specs.Transcript.{RawLine, raw_lines, before_first, without_return, content, taken_by}
+use Rattle.tp_model.specs.Transcript.{RawLine, raw_lines, before_first, without_return, content, octets_taken}
 use Rattle.tp_schedule.specs.declared.lines_fault.LinesFault.{LinesFault}
 use Rattle.tp_schedule.specs.declared.lines.Cut.{Cut}
 use Rattle.tp_schedule.specs.AtHand.{together, IsAtEnd, no_feed}
@@ -23,16 +23,16 @@ under_limit n few = grind (arith, nat_tests)
 over_long : (n : ℕ) → 8192 < n → nat_lt 8192 n ≡ true
 over_long n more = grind (arith, nat_tests)
 
-pub is_limit : (before : ℕ) (l : RawLine) → 1048576 < before + taken_by l → judged before l ≡ Err LinesFault.Limit
+pub is_limit : (before : ℕ) (l : RawLine) → 1048576 < before + octets_taken l → judged before l ≡ Err LinesFault.Limit
 is_limit before l more =
-    ap (λ (b : Bool). elim b as (λ _. Result (Option (List ℕ)) LinesFault) [ true ↦ Err LinesFault.Limit | false ↦ elim (nat_lt 8192 (length (content l))) as (λ _. Result (Option (List ℕ)) LinesFault) [ true ↦ Err LinesFault.Long | false ↦ Ok (Some (content l)) ] ]) (over_limit (before + taken_by l) more)
+    ap (λ (b : Bool). elim b as (λ _. Result (Option (List ℕ)) LinesFault) [ true ↦ Err LinesFault.Limit | false ↦ elim (nat_lt 8192 (length (content l))) as (λ _. Result (Option (List ℕ)) LinesFault) [ true ↦ Err LinesFault.Long | false ↦ Ok (Some (content l)) ] ]) (over_limit (before + octets_taken l) more)
 
-pub is_long : (before : ℕ) (l : RawLine) → before + taken_by l ≤ 1048576 → 8192 < length (content l) → judged before l ≡ Err LinesFault.Long
+pub is_long : (before : ℕ) (l : RawLine) → before + octets_taken l ≤ 1048576 → 8192 < length (content l) → judged before l ≡ Err LinesFault.Long
 is_long before l few more =
-    ap (λ (b : Bool). elim b as (λ _. Result (Option (List ℕ)) LinesFault) [ true ↦ Err LinesFault.Limit | false ↦ elim (nat_lt 8192 (length (content l))) as (λ _. Result (Option (List ℕ)) LinesFault) [ true ↦ Err LinesFault.Long | false ↦ Ok (Some (content l)) ] ]) (under_limit (before + taken_by l) few)
+    ap (λ (b : Bool). elim b as (λ _. Result (Option (List ℕ)) LinesFault) [ true ↦ Err LinesFault.Limit | false ↦ elim (nat_lt 8192 (length (content l))) as (λ _. Result (Option (List ℕ)) LinesFault) [ true ↦ Err LinesFault.Long | false ↦ Ok (Some (content l)) ] ]) (under_limit (before + octets_taken l) few)
     ∙ ap (λ (b : Bool). elim b as (λ _. Result (Option (List ℕ)) LinesFault) [ true ↦ Err LinesFault.Long | false ↦ Ok (Some (content l)) ]) (over_long (length (content l)) more)
 
-taken_length : (l : RawLine) → length l.bytes ≤ taken_by l
+taken_length : (l : RawLine) → length l.bytes ≤ octets_taken l
 taken_length l = go l.ended (length l.bytes)
   where
     go : (e : Bool) (n : ℕ) → n ≤ elim e as (λ _. ℕ) [ true ↦ suc n | false ↦ n ]

@@ -1,6 +1,6 @@
 -- The line at the front of the bytes at hand, as it is found.
 use Rattle.std.specs.Prelude.{ℕ, ◌≡◌, ◌+◌, ◌<◌, ◌≤◌, Option, Some, None, Result, Ok, Err, List, [], ◌∷◌, ◌++◌, length, take, drop, IfSome}
-use Rattle.tp_model.specs.Transcript.{RawLine, raw_lines, content, taken_by}
+use Rattle.tp_model.specs.Transcript.{RawLine, raw_lines, content, octets_taken}
 use Rattle.tp_schedule.specs.declared.lines_fault.LinesFault.{LinesFault}
 use Rattle.tp_schedule.specs.declared.lines.Cut.{Cut}
 use Rattle.tp_schedule.specs.AtHand.{together, IsAtEnd}
@@ -20,7 +20,7 @@ pub record Takes (before : ℕ) (bytes : Option (List ℕ)) (held : List ℕ) (r
   pub text : content line ≡ take cut.len held
   pub short : cut.len ≤ 8192
   pub inside : cut.len ≤ cut.taken
-  pub taken : taken_by line ≡ cut.taken
+  pub taken : octets_taken line ≡ cut.taken
   pub within : cut.taken ≤ length held
   pub few : length held ≤ 12288
   pub under : before + cut.taken ≤ 1048576

@@ -2,7 +2,7 @@
 -- Into which lines the bytes are cut is said by tp_model.
 use Rattle.std.specs.Prelude.{ℕ, ◌≡◌, ◌+◌, ◌≤◌, nat_lt, Option, Some, None, option_map, Result, Ok, Err, List, [], ◌∷◌, length, true, false}
 use Rattle.std.specs.Borrow.{Bor}
-use Rattle.tp_model.specs.Transcript.{RawLine, raw_lines, content, taken_by}
+use Rattle.tp_model.specs.Transcript.{RawLine, raw_lines, content, octets_taken}
 use Rattle.tp_schedule.specs.declared.lines_fault.LinesFault.{LinesFault}
 use Rattle.tp_schedule.specs.AtHand.{together}
 
@@ -22,7 +22,7 @@ fails f = Err f
 
 -- a line, or why it is not handed out; so many bytes stand before it
 abbrev pub judged : ℕ → RawLine → Result (Option (List ℕ)) LinesFault
-judged before l = elim (nat_lt 1048576 (before + taken_by l)) [
+judged before l = elim (nat_lt 1048576 (before + octets_taken l)) [
   | true ↦ Err LinesFault.Limit
   | false ↦ elim (nat_lt 8192 (length (content l))) [ true ↦ Err LinesFault.Long | false ↦ Ok (Some (content l)) ]
 ]
@@ -62,7 +62,7 @@ first_length (l ∷ ls) = length l.bytes
 
 abbrev pub first_taken : List RawLine → ℕ
 first_taken [] = 0
-first_taken (l ∷ ls) = taken_by l
+first_taken (l ∷ ls) = octets_taken l
 
 -- How many bytes at most were read past the line's start, by the answer: 12,288; for a line that is too long as many
 -- past its end; and where the source failed, the line's end was not read.
@@ -86,7 +86,7 @@ lines_left p left = option_map raw_lines (together p.held left)
 pub record HandsOut (old : Place) (left : Option (List ℕ)) (text : List ℕ) (new : Place) (rest : Option (List ℕ)) : Type 0 where
   pub line : RawLine
   pub is : content line ≡ text
-  pub before : new.before ≡ old.before + taken_by line
+  pub before : new.before ≡ old.before + octets_taken line
   pub fault : new.fault ≡ None
   pub lines : lines_left old left ≡ option_map (λ ls. line ∷ ls) (lines_left new rest)
 

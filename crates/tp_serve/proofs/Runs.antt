@@ -12,7 +12,7 @@ use Rattle.tp_logrec.specs.RecordText.{record_bytes}
 use Rattle.tp_logrec.specs.LogText.{framed, records_text, version_text}
 use Rattle.tp_model.specs.Parts.{Entry}
 use Rattle.tp_model.specs.History.{answer}
-use Rattle.tp_model.specs.NodeRun.{Opening, boot_of, NodeRun, Asked, Refuses, Is, asked, node_of, origin_at, history_of, refusal_of, entry_record, entry_outputs, run_from, node_run, log_after}
+use Rattle.tp_model.specs.NodeRun.{Opening, boot_of, NodeRun, Refuses, Is, asked, node_of, origin_at, history_of, refusal_of, entry_record, entry_outputs, run_from, node_run, log_after, AskedEvent}
 use Rattle.tp_model.specs.NodeTranscript.{outputs_bytes, written_of, size_of}
 use Rattle.tp_site.specs.Events.{answer_asked, outputs_after, record_after, record_of}
 use Rattle.tp_site.proofs.Runs.{asked_at, run_asked, run_more, run_next}
@@ -44,15 +44,15 @@ log_next o gs g = go (asked o g) refl
         by None = refl
         by (Some x) = refl
 
-    more : (a : Asked) → (run_asked o (run_from o [] gs).pasts a []).log ≡ rec_list (record_of (answer_asked o gs a).entry)
+    more : (a : AskedEvent) → (run_asked o (run_from o [] gs).pasts a []).log ≡ rec_list (record_of (answer_asked o gs a).entry)
     more (Refuses n) = refl
     more (Is n e) = rec_list_of (answer (origin_at o n) (history_of (run_from o [] gs).pasts n) e).entry
 
-    go : (a : Asked) → asked o g ≡ a → log_after o (gs ++ g ∷ []) ≡ log_after o gs ++ rec_list (record_after o gs g)
+    go : (a : AskedEvent) → asked o g ≡ a → log_after o (gs ++ g ∷ []) ≡ log_after o gs ++ rec_list (record_after o gs g)
     go a i =
         ap (λ (r : NodeRun). o.records ++ LogRec.Boot (boot_of o) ∷ r.log) (run_next o gs g a i)
         ∙ sym (append_assoc o.records (LogRec.Boot (boot_of o) ∷ (run_from o [] gs).log) (run_asked o (run_from o [] gs).pasts a []).log)
-        ∙ ap (λ (l : List LogRec). log_after o gs ++ l) (more a ∙ ap (λ (b : Asked). rec_list (record_of (answer_asked o gs b).entry)) (sym i))
+        ∙ ap (λ (l : List LogRec). log_after o gs ++ l) (more a ∙ ap (λ (b : AskedEvent). rec_list (record_of (answer_asked o gs b).entry)) (sym i))
 
 -- ---- the outputs
 
@@ -72,13 +72,13 @@ written_beyond o gs hs =
 pub written_next : (o : Opening) (gs : List Given) (g : Given) → written_of (node_run o (gs ++ g ∷ [])).outputs ≡ written_of (node_run o gs).outputs ++ answer_bytes o gs g
 written_next o gs g = go (asked o g) refl
   where
-    one : (a : Asked) → asked o g ≡ a → (run_asked o (run_from o [] gs).pasts a []).outputs ≡ outputs_after o gs g ∷ []
-    one (Refuses n) i = ap (λ (b : Asked). (refusal_of (answer_asked o gs b).number ++ entry_outputs o (node_of g) (answer_asked o gs b).entry) ∷ []) (sym i)
+    one : (a : AskedEvent) → asked o g ≡ a → (run_asked o (run_from o [] gs).pasts a []).outputs ≡ outputs_after o gs g ∷ []
+    one (Refuses n) i = ap (λ (b : AskedEvent). (refusal_of (answer_asked o gs b).number ++ entry_outputs o (node_of g) (answer_asked o gs b).entry) ∷ []) (sym i)
     one (Is n e) i =
         ap (λ (m : ℕ). (refusal_of (answer_asked o gs (Is n e)).number ++ entry_outputs o m (answer_asked o gs (Is n e)).entry) ∷ []) (sym (asked_at o g n e i))
-        ∙ ap (λ (b : Asked). (refusal_of (answer_asked o gs b).number ++ entry_outputs o (node_of g) (answer_asked o gs b).entry) ∷ []) (sym i)
+        ∙ ap (λ (b : AskedEvent). (refusal_of (answer_asked o gs b).number ++ entry_outputs o (node_of g) (answer_asked o gs b).entry) ∷ []) (sym i)
 
-    go : (a : Asked) → asked o g ≡ a → written_of (node_run o (gs ++ g ∷ [])).outputs ≡ written_of (node_run o gs).outputs ++ answer_bytes o gs g
+    go : (a : AskedEvent) → asked o g ≡ a → written_of (node_run o (gs ++ g ∷ [])).outputs ≡ written_of (node_run o gs).outputs ++ answer_bytes o gs g
     go a i =
         ap (λ (r : NodeRun). written_of r.outputs) (run_next o gs g a i)
         ∙ written_appended (run_from o [] gs).outputs (run_asked o (run_from o [] gs).pasts a []).outputs

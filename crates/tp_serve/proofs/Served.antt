@@ -7,7 +7,7 @@ use Rattle.tp_records.specs.declared.body.Event.{Event as Given}
 use Rattle.tp_records.specs.declared.body.Output.{Output}
 use Rattle.tp_logrec.specs.declared.record.LogRec.{LogRec}
 use Rattle.tp_model.specs.NodeRun.{Opening, log_after}
-use Rattle.tp_model.specs.NodeTranscript.{size_of, is_over}
+use Rattle.tp_model.specs.NodeTranscript.{size_of, is_past_limit}
 use Rattle.tp_journal.specs.declared.faults.ForceFault.TheVariants as force
 use Rattle.tp_journal.specs.Keeping.{Standing}
 use Rattle.tp_streams.specs.declared.stop.Stop.{Stop}
@@ -67,7 +67,7 @@ module _ {K : Type 0} (standing : K → Standing) (o : Opening) (gs : List Given
   more r is c s = any_of_them o (gs ++ g ∷ []) (length gs) c (with_next r is c s)
 
   abbrev Logged : Site K → Type 0
-  Logged new = Holds After o.version (log_after o (gs ++ g ∷ [])) begun faults (standing new.keeper) × (is_over o (gs ++ g ∷ []) ≡ false)
+  Logged new = Holds After o.version (log_after o (gs ++ g ∷ [])) begun faults (standing new.keeper) × (is_past_limit o (gs ++ g ∷ []) ≡ false)
 
   logged : (new : Site K) (x : Option LogRec) → record_after o gs g ≡ x → HasTextOption (standing old.keeper).wide x → IsForced standing old.keeper x new.keeper → Logged new
   logged new None is text same =
@@ -90,10 +90,10 @@ module _ {K : Type 0} (standing : K → Standing) (o : Opening) (gs : List Given
       record { at = x.at; is_open = x.is_open; log = log.0; room = log.1 }
 
   -- it has no room
-  full : (size : ℕ) (new : Site K) → new.shut ≡ None → IsUnanswered standing o gs old g (force.Full size) new → IsServing standing o gs begun faults new × (is_over o (gs ++ g ∷ []) ≡ true)
+  full : (size : ℕ) (new : Site K) → new.shut ≡ None → IsUnanswered standing o gs old g (force.Full size) new → IsServing standing o gs begun faults new × (is_past_limit o (gs ++ g ∷ []) ≡ true)
   full size new is_open x = go (record_after o gs g) refl x.unforced
     where
-      go : (r : Option LogRec) → record_after o gs g ≡ r → IsUnforced standing old.keeper r (force.Full size) new.keeper → IsServing standing o gs begun faults new × (is_over o (gs ++ g ∷ []) ≡ true)
+      go : (r : Option LogRec) → record_after o gs g ≡ r → IsUnforced standing old.keeper r (force.Full size) new.keeper → IsServing standing o gs begun faults new × (is_past_limit o (gs ++ g ∷ []) ≡ true)
       go None is u = absurd u
       go (Some r) is u =
           let over = full_over Before Before o.version (log_after o gs) begun faults (standing old.keeper) serving.log r size (standing new.keeper) u in (

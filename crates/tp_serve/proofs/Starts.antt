@@ -10,9 +10,10 @@ use Rattle.tp_logrec.specs.LogText.{IsLog, Placed}
 use Rattle.tp_logrec.specs.Order.{all_follow, boot_by}
 use Rattle.tp_model.specs.declared.verdict.What.{What}
 use Rattle.tp_model.specs.Links.{greatest}
-use Rattle.tp_model.specs.LogCommands.{Has, Is_foreign, opened, records_of, started as start_leaves}
+use Rattle.tp_model.specs.LogCommands.{Has, Is_foreign, opened, start_leaves}
+use Rattle.tp_logrec.specs.LogText.{recs}
 use Rattle.tp_model.specs.NodeRun.{Opening, boot_of}
-use Rattle.tp_model.specs.NodeTranscript.{size_of, is_over}
+use Rattle.tp_model.specs.NodeTranscript.{size_of, is_past_limit}
 use Rattle.tp_journal.specs.declared.faults.StartFault.{StartFault as JournalFault}
 use Rattle.tp_journal.specs.declared.faults.ForceFault.{ForceFault}
 use Rattle.tp_journal.specs.declared.faults.ForceFault.TheVariants as force
@@ -102,7 +103,7 @@ module _ {D : Type 0} (faults : D → ℕ) (told : D → Option Story) (fuse : D
   opening_is : opening_of (st j) name ≡ o
   opening_is = ap (λ (l : List LogRec). record { site = name; version = version_of j.wide; records = l }) told_is
 
-  listed_is : records_of listed ≡ j.list
+  listed_is : recs listed ≡ j.list
   listed_is = records_placed j.wide (first_place j.wide) j.list
 
   same_opening : opening name ver listed ≡ o
@@ -191,7 +192,7 @@ module _ {D : Type 0} (faults : D → ℕ) (told : D → Option Story) (fuse : D
         let f = forces_boot (Err (force.Full size)) new x.unforced in
         let same = holds_still (λ c. IsLog c j.list) ver j.list begun (faults disk) (st j) log (st new) f.0 f.3 f.4 in
         let has_text : HasText j.wide boot = subst (HasText j.wide) boot_is text in
-        let over : is_over o [] ≡ true = over_so (size_of ver (j.list ++ boot ∷ [])) (full_over (λ c. IsLog c j.list) (λ c. IsLog c j.list) ver j.list begun (faults disk) (st j) log boot size (st new) f) in
+        let over : is_past_limit o [] ≡ true = over_so (size_of ver (j.list ++ boot ∷ [])) (full_over (λ c. IsLog c j.list) (λ c. IsLog c j.list) ver j.list begun (faults disk) (st j) log boot size (st new) f) in
         limited new What.Log x.order (inr (refl, (refl, boot_small j.wide (boot_of o) has_text, over))) same.moments
     not_started (StartFault.DiskFault n) new x text =
         let f = forces_boot (Err (force.DiskFault n)) new x.unforced in

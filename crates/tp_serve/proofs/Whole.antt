@@ -12,7 +12,7 @@ use Rattle.tp_model.specs.declared.verdict.What.{What}
 use Rattle.tp_model.specs.Links.{greatest}
 use Rattle.tp_model.specs.Transcript.{Ending, Done, Bad_input, At_limit}
 use Rattle.tp_model.specs.NodeRun.{Opening, boot_of, node_run, run_from, log_after}
-use Rattle.tp_model.specs.NodeTranscript.{Input, NodeTranscript, input_of, written_of, is_over, transcript_of, limited, nothing_written, node_transcript}
+use Rattle.tp_model.specs.NodeTranscript.{Input, NodeTranscript, input_of, written_of, transcript_of, limited, nothing_written, node_transcript, is_past_limit}
 use Rattle.tp_journal.specs.Keeping.{Standing}
 use Rattle.tp_journal.specs.Records.{HasText}
 use Rattle.tp_journal.specs.Told.{LeavesOnly, LeavesNow}
@@ -60,10 +60,10 @@ pub boot_text : (wide : Bool) (rs qs : List LogRec) (r : LogRec) → AllByRecurs
 boot_text wide [] qs r texts = texts.0
 boot_text wide (x ∷ rs) qs r texts = boot_text wide rs qs r texts.1
 
-transcript_by : (o : Opening) (bytes : List ℕ) (spent over : Bool) → (boot_of o == suc greatest) ≡ spent → is_over o [] ≡ over
+transcript_by : (o : Opening) (bytes : List ℕ) (spent over : Bool) → (boot_of o == suc greatest) ≡ spent → is_past_limit o [] ≡ over
     → node_transcript o bytes ≡ (elim spent as (λ _. NodeTranscript) [ true ↦ nothing_written o What.Boots | false ↦ elim over as (λ _. NodeTranscript) [ true ↦ nothing_written o What.Log | false ↦ limited o (input_of bytes) ] ])
 transcript_by o bytes spent over is full =
-    ap (λ (b : Bool). elim b as (λ _. NodeTranscript) [ true ↦ nothing_written o What.Boots | false ↦ elim (is_over o []) as (λ _. NodeTranscript) [ true ↦ nothing_written o What.Log | false ↦ limited o (input_of bytes) ] ]) is
+    ap (λ (b : Bool). elim b as (λ _. NodeTranscript) [ true ↦ nothing_written o What.Boots | false ↦ elim (is_past_limit o []) as (λ _. NodeTranscript) [ true ↦ nothing_written o What.Log | false ↦ limited o (input_of bytes) ] ]) is
     ∙ ap (λ (b : Bool). elim spent as (λ _. NodeTranscript) [ true ↦ nothing_written o What.Boots | false ↦ elim b as (λ _. NodeTranscript) [ true ↦ nothing_written o What.Log | false ↦ limited o (input_of bytes) ] ]) full
 
 pub not_spent : (o : Opening) → (boot_of o ≡ suc greatest → ⊥) → (boot_of o == suc greatest) ≡ false
@@ -76,7 +76,7 @@ not_spent o never = go (boot_of o == suc greatest) refl
 spent_so : (n : ℕ) → n ≡ suc greatest → (n == suc greatest) ≡ true
 spent_so n is = grind (arith, nat_tests, is)
 
-starts_as : (o : Opening) (gs : List Given) (bytes : List ℕ) → AllByRecursion (HasText (is_wide o.version)) (log_after o gs) → is_over o gs ≡ false → node_transcript o bytes ≡ limited o (input_of bytes)
+starts_as : (o : Opening) (gs : List Given) (bytes : List ℕ) → AllByRecursion (HasText (is_wide o.version)) (log_after o gs) → is_past_limit o gs ≡ false → node_transcript o bytes ≡ limited o (input_of bytes)
 starts_as o gs bytes texts room =
     let text : HasText (is_wide o.version) (LogRec.Boot (boot_of o)) = boot_text (is_wide o.version) o.records (run_from o [] gs).log (LogRec.Boot (boot_of o)) texts in
     transcript_by o bytes false false (not_spent o (boot_small (is_wide o.version) (boot_of o) text)) (fewer_fit o [] gs room)
@@ -92,7 +92,7 @@ cut_goes bytes gs unread x = record { more = (input_at x.place (stream (x.held +
 input_goes : (bytes : List ℕ) (gs : List Given) (e : Ending) → IsInput bytes gs e → GoesOn bytes gs
 input_goes bytes gs e is = record { more = []; are = ap (λ (i : Input). i.events) is ∙ sym (append-nil gs) }
 
-module _ (o : Opening) (events : List Given) (r : Ran) (fits : is_over o events ≡ false) (texts : AllByRecursion (HasText (is_wide o.version)) (log_after o events)) (bytes before : List ℕ) where
+module _ (o : Opening) (events : List Given) (r : Ran) (fits : is_past_limit o events ≡ false) (texts : AllByRecursion (HasText (is_wide o.version)) (log_after o events)) (bytes before : List ℕ) where
   t_is : node_transcript o bytes ≡ limited o (input_of bytes)
   t_is = starts_as o events bytes texts fits
 
@@ -159,7 +159,7 @@ goes_with o bytes events next unread (Err Stop.NoMemory) read (inr x) = absurd (
 
 -- what is so of it at the end
 pub record Ended (o : Opening) (events next : List Given) (begun story : Option Story) (result : Result (Unit {0}) Stop) : Type 0 where
-  pub fits : is_over o events ≡ false
+  pub fits : is_past_limit o events ≡ false
   pub texts : AllByRecursion (HasText (is_wide o.version)) (log_after o events)
   pub log : ((u : Unit {0}) → LeavesNow (λ c. IsLog c (log_after o events)) story) ⊎ ((n : ℕ) × (result ≡ Err (Stop.DiskFault n)))
   pub none : (next ≡ []) ⊎ ((n : ℕ) × (result ≡ Err (Stop.DiskFault n)))
@@ -255,7 +255,7 @@ module _ (name : List ℕ) (r : Ran) (idle : IsUntouched r) where
         (record { ends = refl; output = idle.sink ∙ was ∙ ap (λ (l : List ℕ). Some l) (sym (append-nil before)); log = now })))
 
     transcribed_before : (bytes before : List ℕ) → r.written ≡ Some before → IsSpent kept what at → IsTranscribed (node_transcript kept bytes) (At_limit what at) before r
-    transcribed_before bytes before was (inl y) = nothing bytes before What.Boots y.0 y.1.0 (transcript_by kept bytes true (is_over kept []) (spent_so (boot_of kept) y.1.1) refl) was
+    transcribed_before bytes before was (inl y) = nothing bytes before What.Boots y.0 y.1.0 (transcript_by kept bytes true (is_past_limit kept []) (spent_so (boot_of kept) y.1.1) refl) was
     transcribed_before bytes before was (inr y) = nothing bytes before What.Log y.0 y.1.0 (transcript_by kept bytes false true (not_spent kept y.1.1) y.1.2) was
 
     limited_before : RunsOn name r (Err (Stop.Limit what at))

@@ -10,7 +10,7 @@ use Rattle.tp_logrec.specs.declared.record.LogVersion.{LogVersion}
 use Rattle.tp_logrec.specs.LogText.{IsLog}
 use Rattle.tp_model.specs.declared.verdict.What.{What}
 use Rattle.tp_model.specs.NodeRun.{Opening, node_run, log_after}
-use Rattle.tp_model.specs.NodeTranscript.{Input, outputs_bytes, written_of, size_of, is_over}
+use Rattle.tp_model.specs.NodeTranscript.{Input, outputs_bytes, written_of, size_of, is_past_limit}
 use Rattle.tp_journal.specs.Journals.{Kept, standing_of}
 use Rattle.tp_journal.specs.Keeping.{Standing}
 use Rattle.tp_journal.specs.Records.{HasText}
@@ -58,12 +58,12 @@ pub record IsServing {K : Type 0} (standing : K → Standing) (o : Opening) (gs 
   pub at : IsAt standing all_nodes o gs s
   pub is_open : s.shut ≡ None
   pub log : Holds (IsNodeImage o gs 0) o.version (log_after o gs) begun faults (standing s.keeper)
-  pub room : is_over o gs ≡ false
+  pub room : is_past_limit o gs ≡ false
 
 -- the disk failed when the record of the event after them was forced
 pub record HasFailed {K : Type 0} (standing : K → Standing) (o : Opening) (gs : List Given) (g : Given) (begun : Option Story) (faults count : ℕ) (s : Site K) : Type 0 where
   pub at : IsAt standing all_nodes o gs s
-  pub room : is_over o gs ≡ false
+  pub room : is_past_limit o gs ≡ false
   pub texts : AllByRecursion (HasText (is_wide o.version)) (log_after o gs)
   pub moments : LeavesOnly (IsNodeImage o (gs ++ g ∷ []) 0) begun (standing s.keeper).story
   pub last : LeavesNow (IsNodeImage o (gs ++ g ∷ []) (length gs)) (standing s.keeper).story
@@ -81,7 +81,7 @@ ServesOne standing o gs begun faults at g (Ok u) s old new =
     IsServing standing o (gs ++ g ∷ []) begun faults s × ((before : List ℕ) → old ≡ Some before → new ≡ Some (before ++ answer_bytes o gs g))
 ServesOne standing o gs begun faults at g (Err (Stop.BadInput n why)) s old new = ⊥
 ServesOne standing o gs begun faults at g (Err (Stop.Limit what n)) s old new =
-    IsServing standing o gs begun faults s × (what ≡ What.Log) × (n ≡ at) × (is_over o (gs ++ g ∷ []) ≡ true) × (new ≡ old)
+    IsServing standing o gs begun faults s × (what ≡ What.Log) × (n ≡ at) × (is_past_limit o (gs ++ g ∷ []) ≡ true) × (new ≡ old)
 ServesOne standing o gs begun faults at g (Err (Stop.Foreign n)) s old new = ⊥
 ServesOne standing o gs begun faults at g (Err (Stop.ReadFault n)) s old new = ⊥
 ServesOne standing o gs begun faults at g (Err (Stop.WriteFault n)) s old new =

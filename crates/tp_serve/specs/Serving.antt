@@ -8,9 +8,9 @@ use Rattle.tp_logrec.specs.declared.record.LogVersion.{LogVersion}
 use Rattle.tp_logrec.specs.LogText.{Placed, IsLog}
 use Rattle.tp_model.specs.declared.verdict.What.{What}
 use Rattle.tp_model.specs.Transcript.{Ending, Done, Bad_input, At_limit}
-use Rattle.tp_model.specs.LogCommands.{Has, Is_foreign, opened, started}
+use Rattle.tp_model.specs.LogCommands.{Has, Is_foreign, opened, start_leaves}
 use Rattle.tp_model.specs.NodeRun.{Opening, node_run}
-use Rattle.tp_model.specs.NodeTranscript.{input_of, written_of, is_over, NodeTranscript, node_transcript}
+use Rattle.tp_model.specs.NodeTranscript.{input_of, written_of, NodeTranscript, node_transcript, is_past_limit}
 use Rattle.tp_journal.specs.Keeping.{Standing}
 use Rattle.tp_journal.specs.Told.{LeavesOnly, LeavesNow}
 use Rattle.tp_streams.specs.declared.stop.Stop.{Stop}
@@ -46,7 +46,7 @@ IsInput bytes events ending = input_of bytes ≡ record { events = events; endin
 -- the record of the event after them has no room; or the input ends so
 abbrev pub IsLimited : Opening → List ℕ → List Given → What → ℕ → Type 0
 IsLimited o bytes events what at =
-    IsInput bytes events (At_limit what at) ⊎ ((g : Given) × GoesOn bytes (events ++ g ∷ []) × (is_over o (events ++ g ∷ []) ≡ true) × (what ≡ What.Log) × (at ≡ suc (length events)))
+    IsInput bytes events (At_limit what at) ⊎ ((g : Given) × GoesOn bytes (events ++ g ∷ []) × (is_past_limit o (events ++ g ∷ []) ≡ true) × (what ≡ What.Log) × (at ≡ suc (length events)))
 
 -- These events happened. Where the disk failed, it was with the one after them.
 abbrev pub HasRead : Opening → List ℕ → List Given → List Given → Option (List ℕ) → Result (Unit {0}) Stop → Type 0
@@ -170,7 +170,7 @@ abbrev pub Serves : List ℕ → Ran → Result (Unit {0}) Stop → Type 0
 Serves name r (Ok u) = RunsOn name r (Ok u)
 Serves name r (Err (Stop.BadInput at why)) = RunsOn name r (Err (Stop.BadInput at why))
 Serves name r (Err (Stop.Limit what at)) = RunsOn name r (Err (Stop.Limit what at))
-Serves name r (Err (Stop.Foreign at)) = (opened (seen r.told) ≡ Is_foreign at) × ReadsAs r.story (started (seen r.told)) × IsUntouched r
+Serves name r (Err (Stop.Foreign at)) = (opened (seen r.told) ≡ Is_foreign at) × ReadsAs r.story (start_leaves (seen r.told)) × IsUntouched r
 Serves name r (Err (Stop.ReadFault faults)) = RunsOn name r (Err (Stop.ReadFault faults))
 Serves name r (Err (Stop.WriteFault faults)) = RunsOn name r (Err (Stop.WriteFault faults))
 Serves name r (Err (Stop.DiskFault faults)) = IsIdle r ⊎ RunsOn name r (Err (Stop.DiskFault faults))

@@ -7,9 +7,10 @@ use Rattle.tp_logrec.specs.declared.record.LogVersion.{LogVersion}
 use Rattle.tp_logrec.specs.LogText.{Placed, IsLog}
 use Rattle.tp_model.specs.declared.verdict.What.{What}
 use Rattle.tp_model.specs.Links.{greatest}
-use Rattle.tp_model.specs.LogCommands.{Has, Is_foreign, opened, started, records_of}
+use Rattle.tp_model.specs.LogCommands.{Has, Is_foreign, opened, start_leaves}
+use Rattle.tp_logrec.specs.LogText.{recs}
 use Rattle.tp_model.specs.NodeRun.{Opening, boot_of}
-use Rattle.tp_model.specs.NodeTranscript.{is_over}
+use Rattle.tp_model.specs.NodeTranscript.{is_past_limit}
 use Rattle.tp_journal.specs.declared.faults.StartFault.{StartFault as JournalFault}
 use Rattle.tp_journal.specs.Keeping.{Standing}
 use Rattle.tp_journal.specs.Told.{LeavesOnly}
@@ -24,7 +25,7 @@ use Rattle.tp_serve.specs.Progress.{IsServing}
 
 -- the site's name, and the log that it starts on
 abbrev pub opening : List ℕ → LogVersion → List Placed → Opening
-opening name ver listed = record { site = name; version = ver; records = records_of listed }
+opening name ver listed = record { site = name; version = ver; records = recs listed }
 
 -- ---- what the causes mean for the program
 
@@ -52,7 +53,7 @@ pub record HasStarted {K : Type 0} (standing : K → Standing) (name : List ℕ)
 
 -- no boot number is left, or else the boot has no room
 abbrev pub IsSpent : Opening → What → ℕ → Type 0
-IsSpent o what at = (at ≡ 0) × ((what ≡ What.Boots) × (boot_of o ≡ suc greatest)) ⊎ (at ≡ 0) × ((what ≡ What.Log) × (boot_of o ≡ suc greatest → ⊥) × (is_over o [] ≡ true))
+IsSpent o what at = (at ≡ 0) × ((what ≡ What.Boots) × (boot_of o ≡ suc greatest)) ⊎ (at ≡ 0) × ((what ≡ What.Log) × (boot_of o ≡ suc greatest → ⊥) × (is_past_limit o [] ≡ true))
 
 -- and the log stays as it is
 pub record IsLimitedBefore (name : List ℕ) (story : Story) (new : Option Story) (what : What) (at : ℕ) : Type 0 where
@@ -60,7 +61,7 @@ pub record IsLimitedBefore (name : List ℕ) (story : Story) (new : Option Story
   pub listed : List Placed
   pub opens : opened (seen story) ≡ Has version listed
   pub spent : IsSpent (opening name version listed) what at
-  pub moments : LeavesOnly (λ c. IsLog c (records_of listed)) (Some (Synced story)) new
+  pub moments : LeavesOnly (λ c. IsLog c (recs listed)) (Some (Synced story)) new
 
 -- the disk failed when the boot was forced
 pub record FailsBefore (name : List ℕ) (story : Story) (new : Option Story) : Type 0 where
@@ -77,7 +78,7 @@ IsUnopened story new = (rs : List LogRec) → IsLog (seen story) rs → HoldsThr
 abbrev pub NotStarted : List ℕ → Story → Option Story → Stop → Type 0
 NotStarted name story new (Stop.BadInput at why) = ⊥
 NotStarted name story new (Stop.Limit what at) = IsLimitedBefore name story new what at
-NotStarted name story new (Stop.Foreign at) = (opened (seen story) ≡ Is_foreign at) × ReadsAs new (started (seen story))
+NotStarted name story new (Stop.Foreign at) = (opened (seen story) ≡ Is_foreign at) × ReadsAs new (start_leaves (seen story))
 NotStarted name story new (Stop.ReadFault faults) = ⊥
 NotStarted name story new (Stop.WriteFault faults) = ⊥
 NotStarted name story new (Stop.DiskFault faults) = IsUnopened story new ⊎ FailsBefore name story new

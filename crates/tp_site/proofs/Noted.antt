@@ -21,7 +21,7 @@ use Rattle.tp_model.specs.Links.{greatest, dropped_by}
 use Rattle.tp_model.specs.Arcs.{find_arc, link_from, link_with, performed}
 use Rattle.tp_model.specs.Transactions.{Row, Transaction, Turn, turn, find_row, put_row, with_branch, all_settled, all_done, tell_report, settle, complete_commit, count_branch, end_branch, takes, transacted, sight_of_tx, after}
 use Rattle.tp_model.specs.Recovery.{kept_after}
-use Rattle.tp_model.specs.Node.{Move, move, Passage, passage, Stays, passed, turned, restarted, transact, played, entered, seen, branches_of, remaining, is_leaving, is_superior}
+use Rattle.tp_model.specs.Node.{Move, move, Passage, passage, Stays, passed, turned, transact, played, entered, seen, branches_of, remaining, is_leaving, is_superior, started_next}
 use Rattle.tp_model.specs.Arrivals.{refused_arrival, refused_on, do_arrival, take_record, sight_at, sight_of}
 use Rattle.tp_model.specs.Events.{some_past_numbers}
 use Rattle.tp_commit.specs.Waiting.{waits_beside, owes_beside, with_branch_at, with_counted, with_ended}
@@ -147,10 +147,10 @@ stays_put Phase.Rolling = refl
 abbrev by_passage : Who → Digest → Transaction → Turn → Passage → Move
 by_passage who d t a w =
     let p : List Arc × List Out = played d t w a (entered t w d.arcs) in
-    restarted who w (record { rec = a.rec; outs = p.1; next = record d { arcs = p.0; current = remaining a.next; kept = kept_after a.rec d.kept } })
+    started_next who w (record { rec = a.rec; outs = p.1; next = record d { arcs = p.0; current = remaining a.next; kept = kept_after a.rec d.kept } })
 
 abbrev by_current : Who → TxEvent → Digest → Option Current → Move
-by_current who e d o = elim o as (λ _. Move) [ None ↦ move [] d | Some c ↦ restarted who (passed who e d c) (turned who e d c) ]
+by_current who e d o = elim o as (λ _. Move) [ None ↦ move [] d | Some c ↦ started_next who (passed who e d c) (turned who e d c) ]
 
 -- a turn that stays in its phase, logs nothing and leaves the arcs as they are
 noted_turn : (who : Who) (e : TxEvent) (d : Digest) (c : Current) (outs : List TxOut) (said : List Out) (u : Transaction) → is_leaving e ≡ false → d.current ≡ Some c

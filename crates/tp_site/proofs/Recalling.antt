@@ -10,7 +10,7 @@ use Rattle.tp_model.specs.declared.recovery.Question.{Question}
 use Rattle.tp_model.specs.Dialogues.{is_active, is_ready, is_committing}
 use Rattle.tp_model.specs.Parts.{Digest}
 use Rattle.tp_model.specs.Events.{started}
-use Rattle.tp_model.specs.Recovery.{answer, is_kept_commit}
+use Rattle.tp_model.specs.Recovery.{is_kept_commit, recovery_answer}
 use Rattle.tp_model.specs.NodeRun.{boot_of, records_at}
 use Rattle.tp_site.specs.Nodes.{Nodes, digest_at, find_node, AreFrom}
 use Rattle.tp_site.specs.Recalled.{answer_to_ready, log_at, IsRecalled}
@@ -31,12 +31,12 @@ recalled site version rs v from is = record {
 
 -- a node of which the log has no record knows of nothing
 pub unfound_answer : (v : Nodes) (n : ℕ) (t : Aaid) (b : BranchId) → None ≡ find_node v n → answer_to_ready (digest_at v n) t b ≡ Some RecState.Unknown
-unfolding started answer
+unfolding started recovery_answer
 unfound_answer v n t b is = ap (λ (d : Digest). answer_to_ready d t b) (unfound v n is)
 
 -- a ready branch is always answered
-pub answers_ready : (k : Known) → None ≡ answer k Question.RecReady → ⊥
-unfolding answer
+pub answers_ready : (k : Known) → None ≡ recovery_answer k Question.RecReady → ⊥
+unfolding recovery_answer
 answers_ready k is = go (is_committing k.phase || is_kept_commit k.kept) ((is_active k.phase || is_ready k.phase) && k.branch) is
   where
     go : (a b : Bool) → None ≡ (if a then Some RecState.Commit else if b then Some RecState.RetryLater else Some RecState.Unknown) → ⊥

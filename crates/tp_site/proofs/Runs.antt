@@ -11,7 +11,7 @@ use Rattle.tp_records.specs.Bodies.{peer_bytes}
 use Rattle.tp_records.specs.BodyReading.{peer_in}
 use Rattle.tp_model.specs.Parts.{Event, Entry, Answer, Out, Tell, Send}
 use Rattle.tp_model.specs.History.{answer}
-use Rattle.tp_model.specs.NodeRun.{Opening, Past, NodeRun, Asked, Refuses, Is, asked, node_of, origin_at, history_of, with_history, with_entry, entry_record, entry_outputs, outputs_of, refusal_of, before_run, run_from}
+use Rattle.tp_model.specs.NodeRun.{Opening, Past, NodeRun, Refuses, Is, asked, node_of, origin_at, history_of, with_history, with_entry, entry_record, entry_outputs, outputs_of, refusal_of, before_run, run_from, AskedEvent}
 use Rattle.tp_site.specs.Events.{opening_at}
 
 -- ---- histories by their nodes
@@ -37,7 +37,7 @@ history_grown ps n e k = history_with ps n (e ∷ history_of ps n) k
 pub asked_at : (o : Opening) (g : Given) (n : ℕ) (e : Event) → asked o g ≡ Is n e → node_of g ≡ n
 asked_at o (Given.Arrive from to octets) n e h = arrived (peer_in octets) (is_name to.site o.site) h
   where
-    arrived : (r : Option PeerRecord) (b : Bool) → (elim r as (λ _. Asked) [ None ↦ Refuses 25 | Some x ↦ elim b as (λ _. Asked) [ true ↦ Is to.node (Event.Arrive from x) | false ↦ Refuses 23 ] ]) ≡ Is n e → to.node ≡ n
+    arrived : (r : Option PeerRecord) (b : Bool) → (elim r as (λ _. AskedEvent) [ None ↦ Refuses 25 | Some x ↦ elim b as (λ _. AskedEvent) [ true ↦ Is to.node (Event.Arrive from x) | false ↦ Refuses 23 ] ]) ≡ Is n e → to.node ≡ n
     arrived None b k = absurd (cc (k))
     arrived (Some x) true k = cc (k)
     arrived (Some x) false k = absurd (cc (k))
@@ -64,14 +64,14 @@ outputs_by_name o n (Send to r ∷ outs) = ap (λ (l : List Output). Output.Send
 abbrev given : Opening → List Past → ℕ → Event → Answer
 given o ps n e = answer (origin_at o n) (history_of ps n) e
 
-abbrev pub run_asked : Opening → List Past → Asked → List Given → NodeRun
+abbrev pub run_asked : Opening → List Past → AskedEvent → List Given → NodeRun
 run_asked o ps (Refuses n) gs = before_run [] (Output.Refused n ∷ []) (run_from o ps gs)
 run_asked o ps (Is n e) gs = before_run (entry_record (given o ps n e).entry) (refusal_of (given o ps n e).number ++ entry_outputs o n (given o ps n e).entry) (run_from o (with_entry ps n (given o ps n e).entry) gs)
 
-run_step : (o : Opening) (ps : List Past) (g : Given) (gs : List Given) (a : Asked) → asked o g ≡ a → run_from o ps (g ∷ gs) ≡ run_asked o ps a gs
+run_step : (o : Opening) (ps : List Past) (g : Given) (gs : List Given) (a : AskedEvent) → asked o g ≡ a → run_from o ps (g ∷ gs) ≡ run_asked o ps a gs
 run_step o ps g gs a h = rw (h, run_from) (same a)
   where
-    same : (a : Asked) → (elim a as (λ _. NodeRun) [
+    same : (a : AskedEvent) → (elim a as (λ _. NodeRun) [
       | Refuses n ↦ before_run [] (Output.Refused n ∷ []) (run_from o ps gs)
       | Is n e ↦ before_run (entry_record (given o ps n e).entry) (refusal_of (given o ps n e).number ++ entry_outputs o n (given o ps n e).entry) (run_from o (with_entry ps n (given o ps n e).entry) gs)
     ]) ≡ run_asked o ps a gs
@@ -91,7 +91,7 @@ pub run_more : (o : Opening) (gs hs : List Given) (ps : List Past) → run_from 
 run_more o [] hs ps = refl
 run_more o (g ∷ gs) hs ps = go (asked o g) refl (λ qs. run_more o gs hs qs)
   where
-    more : (a : Asked) → ((qs : List Past) → run_from o qs (gs ++ hs) ≡ joined (run_from o qs gs) (run_from o (run_from o qs gs).pasts hs))
+    more : (a : AskedEvent) → ((qs : List Past) → run_from o qs (gs ++ hs) ≡ joined (run_from o qs gs) (run_from o (run_from o qs gs).pasts hs))
         → run_asked o ps a (gs ++ hs) ≡ joined (run_asked o ps a gs) (run_from o (run_asked o ps a gs).pasts hs)
     more (Refuses n) rest =
         ap (before_run [] (Output.Refused n ∷ [])) (rest ps)
@@ -102,10 +102,10 @@ run_more o (g ∷ gs) hs ps = go (asked o g) refl (λ qs. run_more o gs hs qs)
         let outs : List Output = refusal_of (given o ps n e).number ++ entry_outputs o n (given o ps n e).entry in
         ap (before_run rs outs) (rest qs) ∙ before_joined rs outs (run_from o qs gs) (run_from o (run_from o qs gs).pasts hs)
 
-    go : (a : Asked) → asked o g ≡ a → ((qs : List Past) → run_from o qs (gs ++ hs) ≡ joined (run_from o qs gs) (run_from o (run_from o qs gs).pasts hs))
+    go : (a : AskedEvent) → asked o g ≡ a → ((qs : List Past) → run_from o qs (gs ++ hs) ≡ joined (run_from o qs gs) (run_from o (run_from o qs gs).pasts hs))
         → run_from o ps (g ∷ (gs ++ hs)) ≡ joined (run_from o ps (g ∷ gs)) (run_from o (run_from o ps (g ∷ gs)).pasts hs)
     go a i rest = run_step o ps g (gs ++ hs) a i ∙ more a rest ∙ ap (λ (r : NodeRun). joined r (run_from o r.pasts hs)) (sym (run_step o ps g gs a i))
 
 -- one event more
-pub run_next : (o : Opening) (gs : List Given) (g : Given) (a : Asked) → asked o g ≡ a → run_from o [] (gs ++ g ∷ []) ≡ joined (run_from o [] gs) (run_asked o (run_from o [] gs).pasts a [])
+pub run_next : (o : Opening) (gs : List Given) (g : Given) (a : AskedEvent) → asked o g ≡ a → run_from o [] (gs ++ g ∷ []) ≡ joined (run_from o [] gs) (run_asked o (run_from o [] gs).pasts a [])
 run_next o gs g a i = run_more o gs (g ∷ []) [] ∙ ap (joined (run_from o [] gs)) (run_step o (run_from o [] gs).pasts g [] a i)

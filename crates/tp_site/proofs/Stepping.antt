@@ -10,7 +10,7 @@ use Rattle.tp_model.specs.Events.{action, verdict}
 use Rattle.tp_model.specs.History.{digest, answer, entry_of}
 use Rattle.tp_model.specs.Node.{Move}
 use Rattle.tp_model.specs.Refusal.{number_in, number_of}
-use Rattle.tp_model.specs.NodeRun.{Opening, Asked, Refuses as Not_asked, Is, asked, node_of, origin_at, boot_of, history_of, with_entry, entry_record, entry_outputs, outputs_of, refusal_of, NodeRun, run_from, log_after}
+use Rattle.tp_model.specs.NodeRun.{Opening, Refuses as Not_asked, Is, asked, node_of, origin_at, boot_of, history_of, with_entry, entry_record, entry_outputs, outputs_of, refusal_of, NodeRun, run_from, log_after, AskedEvent}
 use Rattle.tp_journal.specs.declared.receipts.Receipt.{Receipt}
 use Rattle.tp_journal.specs.declared.faults.ForceFault.{ForceFault}
 use Rattle.tp_journal.specs.declared.faults.ForceFault.TheVariants as force
@@ -271,9 +271,9 @@ declined {K} standing mine o gs old g k (Err SiteFault.NoMemory) new at i x = (
 -- the site has come to where the run has
 pub stepping : {K : Type 0} (standing : K → Standing) (mine : ℕ → Bool) (o : Opening) (gs : List Given) (old : Site K) (g : Given) (result : Result (List Output) SiteFault) (new : Site K) → IsAt standing mine o gs old → mine (node_of g) ≡ true
     → PlaysAsked standing old (asked (opening_at old.nodes.site) g) result new → StepsTo standing mine o gs old g result new
-stepping {K} standing mine o gs old g result new at own plays = go (asked o g) refl (subst (λ (a : Asked). PlaysAsked standing old a result new) (ap (λ (s : List ℕ). asked (opening_at s) g) at.site ∙ asked_by_name o g) plays)
+stepping {K} standing mine o gs old g result new at own plays = go (asked o g) refl (subst (λ (a : AskedEvent). PlaysAsked standing old a result new) (ap (λ (s : List ℕ). asked (opening_at s) g) at.site ∙ asked_by_name o g) plays)
   where
-    go : (a : Asked) → asked o g ≡ a → PlaysAsked standing old a result new → StepsTo standing mine o gs old g result new
+    go : (a : AskedEvent) → asked o g ≡ a → PlaysAsked standing old a result new → StepsTo standing mine o gs old g result new
     go (Not_asked k) i x = declined standing mine o gs old g k result new at i x
     go (Is n e) i x =
         let node : node_of g ≡ n = asked_at o g n e i in
@@ -285,15 +285,15 @@ pub record_is_asked : {K : Type 0} (standing : K → Standing) (mine : ℕ → B
 record_is_asked standing mine o gs old g at own =
     ap (λ (s : List ℕ). rec_asked old (asked (opening_at s) g)) at.site ∙ ap (rec_asked old) (asked_by_name o g) ∙ go (asked o g) refl
   where
-    go : (a : Asked) → asked o g ≡ a → rec_asked old a ≡ record_after o gs g
-    go (Not_asked k) i = ap (λ (b : Asked). record_of (answer_asked o gs b).entry) (sym i)
+    go : (a : AskedEvent) → asked o g ≡ a → rec_asked old a ≡ record_after o gs g
+    go (Not_asked k) i = ap (λ (b : AskedEvent). record_of (answer_asked o gs b).entry) (sym i)
     go (Is n e) i =
         let node : node_of g ≡ n = asked_at o g n e i in
         recorded standing mine o gs old g n e (record { at = at; own = subst (λ (j : ℕ). mine j ≡ true) node own; is = i; node = node })
 
 -- ---- a site that is shut
 
-pub shut_asked : {K : Type 0} (standing : K → Standing) (s : Site K) (a : Asked) (n : ℕ) → s.shut ≡ Some n → PlaysAsked standing s a (Err (SiteFault.Shut n)) s
+pub shut_asked : {K : Type 0} (standing : K → Standing) (s : Site K) (a : AskedEvent) (n : ℕ) → s.shut ≡ Some n → PlaysAsked standing s a (Err (SiteFault.Shut n)) s
 shut_asked standing s (Not_asked k) n is = (is, refl)
 shut_asked standing s (Is j e) n is = inl (is, refl)
 
@@ -332,6 +332,6 @@ lasts_declined standing old k (Err (SiteFault.DiskFault faults)) new x = absurd 
 lasts_declined standing old k (Err (SiteFault.Shut faults)) new x = lasts_same standing old new x.1
 lasts_declined standing old k (Err SiteFault.NoMemory) new x = lasts_same standing old new x.1
 
-pub lasts_asked : {K : Type 0} (standing : K → Standing) (old : Site K) (a : Asked) (result : Result (List Output) SiteFault) (new : Site K) → PlaysAsked standing old a result new → Lasts (standing old.keeper) (standing new.keeper)
+pub lasts_asked : {K : Type 0} (standing : K → Standing) (old : Site K) (a : AskedEvent) (result : Result (List Output) SiteFault) (new : Site K) → PlaysAsked standing old a result new → Lasts (standing old.keeper) (standing new.keeper)
 lasts_asked standing old (Not_asked k) result new x = lasts_declined standing old k result new x
 lasts_asked standing old (Is n e) result new x = lasts_given standing old n e result new x

@@ -8,7 +8,7 @@ use Rattle.tp_records.specs.declared.body.Output.{Output}
 use Rattle.tp_records.specs.Bodies.{peer_bytes}
 use Rattle.tp_model.specs.Parts.{Event, Entry, Answer, Out, Tell, Send}
 use Rattle.tp_model.specs.History.{answer, digest}
-use Rattle.tp_model.specs.NodeRun.{Opening, boot_of, origin_at, Asked, Refuses, Is, asked, node_of, history_of, refusal_of, outputs_of, entry_outputs, run_from, log_after}
+use Rattle.tp_model.specs.NodeRun.{Opening, boot_of, origin_at, Refuses, Is, asked, node_of, history_of, refusal_of, outputs_of, entry_outputs, run_from, log_after, AskedEvent}
 use Rattle.tp_model.specs.Refusal.{number_in}
 use Rattle.tp_journal.specs.declared.faults.ForceFault.{ForceFault}
 use Rattle.tp_journal.specs.declared.faults.ForceFault.TheVariants as force
@@ -52,12 +52,12 @@ Declines old k (Err (SiteFault.Shut faults)) new = (old.shut ≡ Some faults) ×
 Declines old k (Err SiteFault.NoMemory) new = (old.shut ≡ None) × (new ≡ old)
 
 -- what was asked, and what came of it
-abbrev pub PlaysAsked : {K : Type 0} → (K → Standing) → Site K → Asked → Result (List Output) SiteFault → Site K → Type 0
+abbrev pub PlaysAsked : {K : Type 0} → (K → Standing) → Site K → AskedEvent → Result (List Output) SiteFault → Site K → Type 0
 PlaysAsked standing old (Refuses k) result new = Declines old k result new
 PlaysAsked standing old (Is n e) result new = Gives standing old n e result new
 
 -- the record that it asks for
-abbrev pub rec_asked : {K : Type 0} → Site K → Asked → Option LogRec
+abbrev pub rec_asked : {K : Type 0} → Site K → AskedEvent → Option LogRec
 rec_asked old (Refuses k) = None
 rec_asked old (Is n e) = rec_of (answer_at (who_at old.nodes n) (known_at old n) e)
 
@@ -93,7 +93,7 @@ all_nodes n = true
 -- ---- the next event after these
 
 -- what was asked is answered: the number of a refusal, and the entry of the node's history
-abbrev pub answer_asked : Opening → List Given → Asked → Answer
+abbrev pub answer_asked : Opening → List Given → AskedEvent → Answer
 answer_asked o gs (Refuses k) = record { number = Some k; entry = None }
 answer_asked o gs (Is n e) = answer (origin_at o n) (history_at o gs n) e
 

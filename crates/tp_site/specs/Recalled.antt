@@ -7,7 +7,7 @@ use Rattle.tp_logrec.specs.declared.record.LogRec.{LogRec}
 use Rattle.tp_logrec.specs.declared.record.LogVersion.{LogVersion}
 use Rattle.tp_model.specs.declared.recovery.Question.{Question}
 use Rattle.tp_model.specs.Parts.{Digest}
-use Rattle.tp_model.specs.Recovery.{answer}
+use Rattle.tp_model.specs.Recovery.{recovery_answer}
 use Rattle.tp_model.specs.Arrivals.{known_of, named_by_branch}
 use Rattle.tp_model.specs.History.{digest}
 use Rattle.tp_model.specs.NodeRun.{Opening, origin_at}
@@ -23,7 +23,7 @@ log_at name version rs = record { site = name; version = version; records = rs }
 -- what is answered to a ready branch that asks what became of its transaction, by what is known of the node; there always is
 -- an answer
 abbrev pub answer_to_ready : Digest → Aaid → BranchId → Option RecState
-answer_to_ready d t b = answer (known_of (named_by_branch d t b) b) Question.RecReady
+answer_to_ready d t b = recovery_answer (known_of (named_by_branch d t b) b) Question.RecReady
 
 abbrev pub recalled_answer : Recalled → ℕ → Aaid → BranchId → Option RecState
 recalled_answer v n t b = answer_to_ready (digest_at v.nodes n) t b

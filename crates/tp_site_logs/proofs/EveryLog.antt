@@ -11,7 +11,7 @@ use Rattle.tp_model.specs.History.{digest, entry_of}
 use Rattle.tp_model.specs.Disk.{Disk, Remains, forced, remains, remains_at_gate}
 use Rattle.tp_model.specs.World.{Frame, addr_at, find_frame}
 use Rattle.tp_model.specs.declared.line.Action.{Action}
-use Rattle.tp_model.specs.Happenings.{Turn, still, after_lines, action_lines, after_stop, crash_turn, Happening, Task, task_at, task_of, request_in, entered, logged, entry_turn, action_turn, new_node, new_site, declared_at, declare_turn, restarted_at, booted, stop_in_force, stop_in_entry, stop_in_task, task_here, crash_in_turn, run}
+use Rattle.tp_model.specs.Happenings.{still, after_lines, action_lines, after_stop, crash_turn, Happening, Task, task_at, task_of, request_in, logged, entry_turn, action_turn, new_node, new_site, declared_at, declare_turn, restarted_at, booted, stop_in_force, stop_in_entry, stop_in_task, task_here, crash_in_turn, run, world_with_entry, WorldTurn}
 use Rattle.tp_steps.proofs.every.Answers.{Accepted, accepted}
 use Rattle.tp_histories.proofs.worlds.Nodes.{find_put, find_append}
 use Rattle.tp_histories.proofs.worlds.Traversal.{Ready, ready_of}
@@ -57,10 +57,10 @@ puts m w n e new z en looks told most h =
 told_after : (m : ℕ) (w : World) (n : Node) (e : Entry) (x : Site) → Enters w n e → find_site w.sites (site_of n) ≡ Some x → Holds m w → IsTold (with_one w n e) (site_of n) (site_after x e.rec)
 told_after m w n e x en found h = told_entry w.nodes (with_one w n e) x n e en.here en.node en.calm (λ k. find_put w.nodes (record n { history = e ∷ n.history }) n k en.here) (h.sites (site_of n) x found)
 
-entered_holds : (m : ℕ) (w : World) (n : Node) (e : Entry) → Enters w n e → Holds m w → Holds m (logged (entered w n e) n e.rec)
+entered_holds : (m : ℕ) (w : World) (n : Node) (e : Entry) → Enters w n e → Holds m w → Holds m (logged (world_with_entry w n e) n e.rec)
 entered_holds m w n e en h = go e.rec refl (h.placed (number_of n) n en.here)
   where
-    go : (o : Option LogRec) → e.rec ≡ o → (x : Site) × (find_site w.sites (site_of n) ≡ Some x) → Holds m (logged (entered w n e) n o)
+    go : (o : Option LogRec) → e.rec ≡ o → (x : Site) × (find_site w.sites (site_of n) ≡ Some x) → Holds m (logged (world_with_entry w n e) n o)
     go None made at =
         puts m w n e w.sites at.0 en (λ t. site_same w.sites (site_of n) at.0 t at.1)
         (subst (λ (o : Option LogRec). IsTold (with_one w n e) (site_of n) (site_after at.0 o)) made (told_after m w n e at.0 en at.1 h)) (h.boots (site_of n) at.0 at.1) h
@@ -166,14 +166,14 @@ force_holds m w n x y r st en made found are h = go st.fate are
     kept : st.disk.records ≡ x.disk.records → Holds m v
     kept same = tells_site m w.nodes w.sites (put_site w.sites z) (site_of n) z looks (told_as w.nodes (site_of n) x st.disk same (h.sites (site_of n) x found)) (h.boots (site_of n) x found) h
 
-    more : st.disk.records ≡ r ∷ x.disk.records → Holds m (entered v n y)
+    more : st.disk.records ≡ r ∷ x.disk.records → Holds m (world_with_entry v n y)
     more same =
         let told : IsTold (with_one w n y) (site_of n) (site_after x (Some r)) = subst (λ (o : Option LogRec). IsTold (with_one w n y) (site_of n) (site_after x o)) made (told_after m w n y x en found h) in
         puts m w n y (put_site w.sites z) z en looks (told_as (with_one w n y) (site_of n) (site_after x (Some r)) st.disk same told) (h.boots (site_of n) x found) h
 
     go : (f : RecordFate) → (elim f as (λ _. Type 0) [ RecordFate.Kept ↦ st.disk.records ≡ r ∷ x.disk.records | RecordFate.Lost ↦ st.disk.records ≡ x.disk.records | RecordFate.None ↦ st.disk.records ≡ x.disk.records ])
-        → Holds (suc m) (crash_turn (elim f [ RecordFate.Kept ↦ entered v n y | RecordFate.Lost ↦ v | RecordFate.None ↦ v ]) x.name).world
-    go RecordFate.Kept same = crash_holds m (entered v n y) x.name (more same)
+        → Holds (suc m) (crash_turn (elim f [ RecordFate.Kept ↦ world_with_entry v n y | RecordFate.Lost ↦ v | RecordFate.None ↦ v ]) x.name).world
+    go RecordFate.Kept same = crash_holds m (world_with_entry v n y) x.name (more same)
     go RecordFate.Lost same = crash_holds m v x.name (kept same)
     go RecordFate.None same = crash_holds m v x.name (kept same)
 
@@ -182,8 +182,8 @@ stop_holds m w n x call fill None en found h = crash_holds m w x.name h
 stop_holds m w n x call fill (Some y) en found h = go y.rec refl
   where
     go : (q : Option LogRec) → y.rec ≡ q
-        → Holds (suc m) (elim q as (λ _. Turn) [ None ↦ after_stop (entered w n y) x.name RecordFate.None | Some l ↦ stop_in_force w n x y (remains call fill l x.disk) ]).world
-    go None made = crash_holds m (entered w n y) x.name (subst (λ (q : Option LogRec). Holds m (logged (entered w n y) n q)) made (entered_holds m w n y (en y refl) h))
+        → Holds (suc m) (elim q as (λ _. WorldTurn) [ None ↦ after_stop (world_with_entry w n y) x.name RecordFate.None | Some l ↦ stop_in_force w n x y (remains call fill l x.disk) ]).world
+    go None made = crash_holds m (world_with_entry w n y) x.name (subst (λ (q : Option LogRec). Holds m (logged (world_with_entry w n y) n q)) made (entered_holds m w n y (en y refl) h))
     go (Some l) made = force_holds m w n x y l (remains call fill l x.disk) (en y refl) made found (remains_is call fill l x.disk) h
 
 crash_in_holds : (m : ℕ) (w : World) (s : List ℕ) (call fill : ℕ) (d : Action) → Holds m w → Holds (suc m) (crash_in_turn w s call fill d).world
@@ -197,7 +197,7 @@ crash_in_holds m w s call fill d h = go (find_site w.sites s) refl
         at false b i = absurd (cc (i))
 
     here : (x : Site) → find_site w.sites s ≡ Some x → (o : Option Task) → task_of w d ≡ o → (b : Option Task) → task_here x o ≡ b
-        → Holds (suc m) (elim b as (λ _. Turn) [ None ↦ still w | Some t ↦ after_lines (action_lines d) (stop_in_task w x call fill t) ]).world
+        → Holds (suc m) (elim b as (λ _. WorldTurn) [ None ↦ still w | Some t ↦ after_lines (action_lines d) (stop_in_task w x call fill t) ]).world
     here x i o k None j = tells_later m w.nodes w.sites h
     here x i None k (Some u) j = absurd cc
     here x i (Some t) k (Some u) j =
@@ -243,11 +243,11 @@ declared_holds m w n s up none h = go (find_site w.sites s) refl
 declare_holds : (m : ℕ) (w : World) (n : ℕ) (s : List ℕ) (under : Option ℕ) → Holds (suc m) w → Holds (suc m) (declare_turn w n s under).world
 declare_holds m w n s under h = go (find_node w.nodes n) refl
   where
-    above : (o : Option Addr) → find_node w.nodes n ≡ None → Holds (suc m) (elim o as (λ _. Turn) [ None ↦ still w | Some a ↦ declared_at w n s (Some a) ]).world
+    above : (o : Option Addr) → find_node w.nodes n ≡ None → Holds (suc m) (elim o as (λ _. WorldTurn) [ None ↦ still w | Some a ↦ declared_at w n s (Some a) ]).world
     above None none = h
     above (Some a) none = declared_holds m w n s (Some a) none h
 
-    below : (u : Option ℕ) → find_node w.nodes n ≡ None → Holds (suc m) (elim u as (λ _. Turn) [ None ↦ declared_at w n s None | Some p ↦ elim (addr_at w p) as (λ _. Turn) [ None ↦ still w | Some a ↦ declared_at w n s (Some a) ] ]).world
+    below : (u : Option ℕ) → find_node w.nodes n ≡ None → Holds (suc m) (elim u as (λ _. WorldTurn) [ None ↦ declared_at w n s None | Some p ↦ elim (addr_at w p) as (λ _. WorldTurn) [ None ↦ still w | Some a ↦ declared_at w n s (Some a) ] ]).world
     below None none = declared_holds m w n s None none h
     below (Some p) none = above (addr_at w p) none
 

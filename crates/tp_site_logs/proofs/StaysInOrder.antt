@@ -7,7 +7,7 @@ use Rattle.tp_records.specs.declared.peer.PeerRecord.{PeerRecord}
 use Rattle.tp_records.specs.BodyReading.{peer_in}
 use Rattle.tp_model.specs.Parts.{Who}
 use Rattle.tp_model.specs.Questions.{is_crash}
-use Rattle.tp_model.specs.NodeRun.{Opening, boot_of, origin_at, Past, history_of, Asked, Refuses, Is, asked, entry_record, with_entry, run_from, NodeRun, log_after}
+use Rattle.tp_model.specs.NodeRun.{Opening, boot_of, origin_at, Past, history_of, Refuses, Is, asked, entry_record, with_entry, run_from, NodeRun, log_after, AskedEvent}
 use Rattle.tp_steps.proofs.every.Answers.{Accepted, accepted}
 use Rattle.tp_histories.proofs.known.KnownPlain.{plain_law}
 use Rattle.tp_runs.proofs.Lanes.{chosen, past_with, given, run_step}
@@ -134,7 +134,7 @@ run_one o ps list n e y sound calm is run = go y.rec refl
 calm_given : (o : Opening) (g : Given) (n : ℕ) (e : Event) → asked o g ≡ Is n e → is_crash e ≡ false
 calm_given o (Given.Arrive from to octets) n e h = arrived (peer_in octets) (is_name to.site o.site) h
   where
-    arrived : (r : Option PeerRecord) (b : Bool) → (elim r as (λ _. Asked) [ None ↦ Refuses 25 | Some x ↦ elim b as (λ _. Asked) [ true ↦ Is to.node (Event.Arrive from x) | false ↦ Refuses 23 ] ]) ≡ Is n e → is_crash e ≡ false
+    arrived : (r : Option PeerRecord) (b : Bool) → (elim r as (λ _. AskedEvent) [ None ↦ Refuses 25 | Some x ↦ elim b as (λ _. AskedEvent) [ true ↦ Is to.node (Event.Arrive from x) | false ↦ Refuses 23 ] ]) ≡ Is n e → is_crash e ≡ false
     arrived None b k = absurd (cc (k))
     arrived (Some x) true k = let same : Event.Arrive from x ≡ e = cc (k) in ap is_crash (sym same)
     arrived (Some x) false k = absurd (cc (k))
@@ -150,7 +150,7 @@ all_in_order : (o : Opening) (gs : List Given) (ps : List Past) (list : List Log
 all_in_order o [] ps list sound run = ap is_in_order (append-nil list) ∙ rw (run.log.order, run.votes) refl
 all_in_order o (g ∷ gs) ps list sound run = go (asked o g) refl (λ qs l. all_in_order o gs qs l sound)
   where
-    go : (a : Asked) → asked o g ≡ a → ((qs : List Past) (l : List LogRec) → IsRun o qs l → is_in_order (l ++ (run_from o qs gs).log) ≡ true) → is_in_order (list ++ (run_from o ps (g ∷ gs)).log) ≡ true
+    go : (a : AskedEvent) → asked o g ≡ a → ((qs : List Past) (l : List LogRec) → IsRun o qs l → is_in_order (l ++ (run_from o qs gs).log) ≡ true) → is_in_order (list ++ (run_from o ps (g ∷ gs)).log) ≡ true
     go (Refuses n) i rest = ap (λ (r : NodeRun). is_in_order (list ++ r.log)) (run_step o ps g gs (Refuses n) i) ∙ rest ps list run
     go (Is n e) i rest = ap (λ (r : NodeRun). is_in_order (list ++ r.log)) (run_step o ps g gs (Is n e) i) ∙ entered (given o ps n e).entry refl
       where
@@ -177,7 +177,7 @@ all_grown : (o : Opening) (gs : List Given) (ps : List Past) → ((n : ℕ) → 
 all_grown o [] ps grow n = grow n
 all_grown o (g ∷ gs) ps grow n = go (asked o g) refl (λ qs h. all_grown o gs qs h n)
   where
-    go : (a : Asked) → asked o g ≡ a → ((qs : List Past) → ((m : ℕ) → Grows (origin_at o m) (history_of qs m)) → Grows (origin_at o n) (history_of (run_from o qs gs).pasts n)) → Grows (origin_at o n) (history_of (run_from o ps (g ∷ gs)).pasts n)
+    go : (a : AskedEvent) → asked o g ≡ a → ((qs : List Past) → ((m : ℕ) → Grows (origin_at o m) (history_of qs m)) → Grows (origin_at o n) (history_of (run_from o qs gs).pasts n)) → Grows (origin_at o n) (history_of (run_from o ps (g ∷ gs)).pasts n)
     go (Refuses k) i rest = subst (λ (r : NodeRun). Grows (origin_at o n) (history_of r.pasts n)) (sym (run_step o ps g gs (Refuses k) i)) (rest ps grow)
     go (Is m e) i rest = subst (λ (r : NodeRun). Grows (origin_at o n) (history_of r.pasts n)) (sym (run_step o ps g gs (Is m e) i)) (entered (given o ps m e).entry refl)
       where

@@ -28,7 +28,7 @@ use Rattle.tp_model.specs.Dialogues.{is_nil, is_active, is_ready, is_committing,
 use Rattle.tp_model.specs.Arcs.{find_arc, is_live_with_peer, link_with, put_arc, without_arc, with_dialogue, with_link}
 use Rattle.tp_model.specs.Transactions.{Transaction, aaid_of, node_key, refused_tx}
 use Rattle.tp_model.specs.AmongArcs.{is_peer}
-use Rattle.tp_model.specs.Recovery.{is_commit, answer, find_owed, is_nothing_owed, is_root_key, find_kept, settled, not_forgotten}
+use Rattle.tp_model.specs.Recovery.{is_commit, find_owed, is_nothing_owed, is_root_key, find_kept, settled, not_forgotten, recovery_answer}
 use Rattle.tp_model.specs.Arrivals.{is_response, branch_key, find_branch_by_id, named_by_key, named_by_branch, known_of}
 use Rattle.tp_model.specs.Outcomes.{is_now}
 use Rattle.tp_model.specs.Node.{turned, Move, move, followed, perform, next_mark, with_mark_drawn, superior_arc, may_root, phase_of, seen, fresh_current, begin_on, keep}
@@ -284,9 +284,9 @@ IsSaid e s d a (PeerRecord.RecCommit t b) = owes_branch b d.kept ≡ true
 IsSaid e s d a (PeerRecord.RecReply t b RecState.Commit) = Unit {0}
 IsSaid e s d a (PeerRecord.RecReply t b (RecState.Done r)) =
     (is_committed_in t d ≡ true) × (is_report_none r ≡ true → keeps_idle d.kept ≡ true) × (keeps_commit t d.kept ≡ true) × KeepsFor d.kept a t r
-    ⊎ (e ≡ Event.Arrive a (PeerRecord.RecCommit t b)) × (answer (known_of (named_by_key s (branch_key t b)) b) Question.RecCommit ≡ Some (RecState.Done r))
+    ⊎ (e ≡ Event.Arrive a (PeerRecord.RecCommit t b)) × (recovery_answer (known_of (named_by_key s (branch_key t b)) b) Question.RecCommit ≡ Some (RecState.Done r))
 IsSaid e s d a (PeerRecord.RecReply t b RecState.Unknown) =
-    (e ≡ Event.Arrive a (PeerRecord.RecReady t b)) × (answer (known_of (named_by_branch s t b) b) Question.RecReady ≡ Some RecState.Unknown)
+    (e ≡ Event.Arrive a (PeerRecord.RecReady t b)) × (recovery_answer (known_of (named_by_branch s t b) b) Question.RecReady ≡ Some RecState.Unknown)
 IsSaid e s d a (PeerRecord.RecReply t b RecState.RetryLater) = Unit {0}
 IsSaid e s d a (PeerRecord.Forget t b) = (r : Report) × (e ≡ Event.Arrive a (PeerRecord.RecReply t b (RecState.Done r))) × (is_report_none r ≡ false) × ((named_by_branch s t b).current ≡ None)
 

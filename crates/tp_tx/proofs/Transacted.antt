@@ -11,7 +11,7 @@ use Rattle.tp_model.specs.declared.verdict.What.{What}
 use Rattle.tp_model.specs.Links.{greatest}
 use Rattle.tp_model.specs.Transcript.{Ending, Done, Bad_input, At_limit}
 use Rattle.tp_model.specs.NodeRun.{Opening, boot_of, run_from, log_after}
-use Rattle.tp_model.specs.NodeTranscript.{is_over}
+use Rattle.tp_model.specs.NodeTranscript.{is_past_limit}
 use Rattle.tp_journal.specs.Keeping.{Standing}
 use Rattle.tp_journal.specs.Records.{HasText}
 use Rattle.tp_journal.specs.Told.{LeavesOnly, LeavesNow}
@@ -35,13 +35,13 @@ use Rattle.tp_tx.proofs.Responding.{happened}
 
 -- ---- the transcript of a site that has started
 
-tx_by : (o : Opening) (input : List ℕ) (spent over : Bool) → (boot_of o == suc greatest) ≡ spent → is_over o [] ≡ over
+tx_by : (o : Opening) (input : List ℕ) (spent over : Bool) → (boot_of o == suc greatest) ≡ spent → is_past_limit o [] ≡ over
     → tx_transcript o input ≡ (elim spent as (λ _. TxTranscript) [ true ↦ nothing_written o What.Boots | false ↦ elim over as (λ _. TxTranscript) [ true ↦ nothing_written o What.Log | false ↦ turns_of o input ] ])
 tx_by o input spent over is full =
-    ap (λ (b : Bool). elim b as (λ _. TxTranscript) [ true ↦ nothing_written o What.Boots | false ↦ elim (is_over o []) as (λ _. TxTranscript) [ true ↦ nothing_written o What.Log | false ↦ turns_of o input ] ]) is
+    ap (λ (b : Bool). elim b as (λ _. TxTranscript) [ true ↦ nothing_written o What.Boots | false ↦ elim (is_past_limit o []) as (λ _. TxTranscript) [ true ↦ nothing_written o What.Log | false ↦ turns_of o input ] ]) is
     ∙ ap (λ (b : Bool). elim spent as (λ _. TxTranscript) [ true ↦ nothing_written o What.Boots | false ↦ elim b as (λ _. TxTranscript) [ true ↦ nothing_written o What.Log | false ↦ turns_of o input ] ]) full
 
-starts_as : (o : Opening) (gs : List Given) (input : List ℕ) → AllByRecursion (HasText (is_wide o.version)) (log_after o gs) → is_over o gs ≡ false → tx_transcript o input ≡ turns_of o input
+starts_as : (o : Opening) (gs : List Given) (input : List ℕ) → AllByRecursion (HasText (is_wide o.version)) (log_after o gs) → is_past_limit o gs ≡ false → tx_transcript o input ≡ turns_of o input
 starts_as o gs input texts room =
     let text : HasText (is_wide o.version) (LogRec.Boot (boot_of o)) = boot_text (is_wide o.version) o.records (run_from o [] gs).log (LogRec.Boot (boot_of o)) texts in
     tx_by o input false false (not_spent o (boot_small (is_wide o.version) (boot_of o) text)) (fewer_fit o [] gs room)
@@ -52,7 +52,7 @@ longer before xs ys new w = (w.0, (w.1.0 ++ ys, ap (λ (l : List ℕ). l ++ ys) 
 all_of : (before bytes : List ℕ) (new : Option (List ℕ)) → new ≡ Some (before ++ bytes) → WritesPrefix before bytes new
 all_of before bytes new is = (bytes, ([], sym (append-nil bytes)), is)
 
-module _ (o : Opening) (events : List Given) (bytes : List ℕ) (r : Ran) (fits : is_over o events ≡ false) (texts : AllByRecursion (HasText (is_wide o.version)) (log_after o events)) (input before : List ℕ) where
+module _ (o : Opening) (events : List Given) (bytes : List ℕ) (r : Ran) (fits : is_past_limit o events ≡ false) (texts : AllByRecursion (HasText (is_wide o.version)) (log_after o events)) (input before : List ℕ) where
   t_is : tx_transcript o input ≡ turns_of o input
   t_is = starts_as o events input texts fits
 

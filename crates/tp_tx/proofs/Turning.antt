@@ -8,7 +8,7 @@ use Rattle.tp_model.specs.declared.verdict.What.{What}
 use Rattle.tp_model.specs.declared.verdict.Why.{Why}
 use Rattle.tp_model.specs.Transcript.{Bad_input, At_limit}
 use Rattle.tp_model.specs.NodeRun.{Opening}
-use Rattle.tp_model.specs.NodeTranscript.{is_over}
+use Rattle.tp_model.specs.NodeTranscript.{is_past_limit}
 use Rattle.tp_journal.specs.Keeping.{Standing}
 use Rattle.tp_streams.specs.declared.stop.Stop.{Stop}
 use Rattle.tx_face.specs.Face.{Face}
@@ -68,7 +68,7 @@ module _ (o : Opening) (gs : List Given) (at declares : ℕ) (body : List ℕ) w
     )
   ]
 
-by_room : (o : Opening) (gs : List Given) (at : ℕ) (a : Asks) (b : Bool) → is_over o (events_with gs a) ≡ b → turn_by o gs at a ≡ (elim b as (λ _. Turn) [ true ↦ Stops (At_limit What.Log at) | false ↦ Goes a ])
+by_room : (o : Opening) (gs : List Given) (at : ℕ) (a : Asks) (b : Bool) → is_past_limit o (events_with gs a) ≡ b → turn_by o gs at a ≡ (elim b as (λ _. Turn) [ true ↦ Stops (At_limit What.Log at) | false ↦ Goes a ])
 by_room o gs at a b is = ap (λ (x : Bool). elim x as (λ _. Turn) [ true ↦ Stops (At_limit What.Log at) | false ↦ Goes a ]) is
 
 module _ {K : Type 0} (standing : K → Standing) (o : Opening) (gs : List Given) (begun : Option Story) (faults : ℕ) (at declares : ℕ) (body : List ℕ) (f : Face K) (count : ℕ) (old new : Option (List ℕ)) where
@@ -88,7 +88,7 @@ module _ {K : Type 0} (standing : K → Standing) (o : Opening) (gs : List Given
       a : Asks
       a = asks (stand_after o gs) frame
 
-      goes : is_over o (events_with gs a) ≡ false → turn o gs at declares body ≡ Goes a
+      goes : is_past_limit o (events_with gs a) ≡ false → turn o gs at declares body ≡ Goes a
       goes room = turns_in o gs at declares body frame count lets ∙ by_room o gs at a false room
 
       go : (result : Result (Unit {0}) Stop) → AnswersFrame standing o gs begun faults at a result f old new → AnswersBody standing o gs begun faults at declares body result f count old new

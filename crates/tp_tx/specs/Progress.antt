@@ -8,7 +8,7 @@ use Rattle.tp_model.specs.declared.verdict.What.{What}
 use Rattle.tp_model.specs.declared.verdict.Why.{Why}
 use Rattle.tp_model.specs.Transcript.{Bad_input, At_limit}
 use Rattle.tp_model.specs.NodeRun.{Opening}
-use Rattle.tp_model.specs.NodeTranscript.{outputs_bytes, is_over}
+use Rattle.tp_model.specs.NodeTranscript.{outputs_bytes, is_past_limit}
 use Rattle.tp_journal.specs.Keeping.{Standing}
 use Rattle.tp_streams.specs.declared.stop.Stop.{Stop}
 use Rattle.tp_streams.specs.Stops.{IsFaultOf}
@@ -51,9 +51,9 @@ PutsGiven at (Err (FaceFault.Site fault)) (Err stop) out = stop ≡ stopped_by a
 
 -- how the frame with that number was answered, and what it left of the face
 abbrev pub Responds : {K : Type 0} → (K → Standing) → Opening → List Given → Option Story → ℕ → ℕ → Asks → Result (Unit {0}) Stop → Face K → List ℕ → Type 0
-Responds standing o gs begun faults at a (Ok u) new out = IsRunning standing o (events_with gs a) begun faults new × (is_over o (events_with gs a) ≡ false) × (out ≡ answer_bytes o gs a)
+Responds standing o gs begun faults at a (Ok u) new out = IsRunning standing o (events_with gs a) begun faults new × (is_past_limit o (events_with gs a) ≡ false) × (out ≡ answer_bytes o gs a)
 Responds standing o gs begun faults at a (Err (Stop.BadInput n why)) new out = ⊥
-Responds standing o gs begun faults at a (Err (Stop.Limit what n)) new out = IsRunning standing o gs begun faults new × (what ≡ What.Log) × (n ≡ at) × (is_over o (events_with gs a) ≡ true)
+Responds standing o gs begun faults at a (Err (Stop.Limit what n)) new out = IsRunning standing o gs begun faults new × (what ≡ What.Log) × (n ≡ at) × (is_past_limit o (events_with gs a) ≡ true)
 Responds standing o gs begun faults at a (Err (Stop.Foreign n)) new out = ⊥
 Responds standing o gs begun faults at a (Err (Stop.ReadFault n)) new out = ⊥
 Responds standing o gs begun faults at a (Err (Stop.WriteFault n)) new out = ⊥
@@ -65,7 +65,7 @@ abbrev pub AnswersFrame : {K : Type 0} → (K → Standing) → Opening → List
 AnswersFrame standing o gs begun faults at a (Ok u) f old new = IsRunning standing o (events_with gs a) begun faults f × ((before : List ℕ) → old ≡ Some before → new ≡ Some (before ++ answer_bytes o gs a))
 AnswersFrame standing o gs begun faults at a (Err (Stop.BadInput n why)) f old new = ⊥
 AnswersFrame standing o gs begun faults at a (Err (Stop.Limit what n)) f old new =
-    IsRunning standing o gs begun faults f × (what ≡ What.Log) × (n ≡ at) × (is_over o (events_with gs a) ≡ true) × (new ≡ old)
+    IsRunning standing o gs begun faults f × (what ≡ What.Log) × (n ≡ at) × (is_past_limit o (events_with gs a) ≡ true) × (new ≡ old)
 AnswersFrame standing o gs begun faults at a (Err (Stop.Foreign n)) f old new = ⊥
 AnswersFrame standing o gs begun faults at a (Err (Stop.ReadFault n)) f old new = ⊥
 AnswersFrame standing o gs begun faults at a (Err (Stop.WriteFault n)) f old new =

@@ -5,7 +5,7 @@ use Rattle.tp_outside.specs.Story.{Story, Synced, seen}
 use Rattle.tp_records.specs.declared.body.Event.{Event as Given}
 use Rattle.tp_logrec.specs.LogText.{Placed}
 use Rattle.tp_logrec.specs.declared.record.LogVersion.{LogVersion}
-use Rattle.tp_model.specs.LogCommands.{Has, Is_foreign, opened, started}
+use Rattle.tp_model.specs.LogCommands.{Has, Is_foreign, opened, start_leaves}
 use Rattle.tp_model.specs.NodeTranscript.{NodeTranscript}
 use Rattle.tp_journal.specs.Keeping.{Standing}
 use Rattle.tp_journal.specs.Told.{LeavesOnly, LeavesNow}
@@ -63,7 +63,7 @@ abbrev pub Transacts : List ℕ → Ran → Result (Unit {0}) Stop → Type 0
 Transacts name r (Ok u) = RunsOn name r (Ok u)
 Transacts name r (Err (Stop.BadInput at why)) = RunsOn name r (Err (Stop.BadInput at why))
 Transacts name r (Err (Stop.Limit what at)) = (IsLimitedBefore name r.told r.story what at × IsUntouched r) ⊎ RunsOn name r (Err (Stop.Limit what at))
-Transacts name r (Err (Stop.Foreign at)) = (opened (seen r.told) ≡ Is_foreign at) × ReadsAs r.story (started (seen r.told)) × IsUntouched r
+Transacts name r (Err (Stop.Foreign at)) = (opened (seen r.told) ≡ Is_foreign at) × ReadsAs r.story (start_leaves (seen r.told)) × IsUntouched r
 Transacts name r (Err (Stop.ReadFault faults)) = RunsOn name r (Err (Stop.ReadFault faults))
 Transacts name r (Err (Stop.WriteFault faults)) = RunsOn name r (Err (Stop.WriteFault faults))
 Transacts name r (Err (Stop.DiskFault faults)) = IsIdle r ⊎ EndsBefore name r ⊎ RunsOn name r (Err (Stop.DiskFault faults))

@@ -11,7 +11,7 @@ use Rattle.tp_model.specs.Links.{greatest}
 use Rattle.tp_model.specs.History.{digest}
 use Rattle.tp_model.specs.Transcript.{Ending, Bad_input, At_limit}
 use Rattle.tp_model.specs.NodeRun.{Opening, boot_of, origin_at, log_after}
-use Rattle.tp_model.specs.NodeTranscript.{outputs_bytes, is_over, rest_ending}
+use Rattle.tp_model.specs.NodeTranscript.{outputs_bytes, rest_ending, is_past_limit}
 use Rattle.tp_site.specs.Events.{history_at, outputs_after}
 use Rattle.tx_face.specs.declared.stand.Stand.{Stand}
 use Rattle.tx_face.specs.declared.code.Code.{Code}
@@ -101,7 +101,7 @@ pub data Turn : Type 0 where
 
 -- the record of its event has no room, or it is answered
 abbrev pub turn_by : Opening → List Given → ℕ → Asks → Turn
-turn_by o gs at a = elim (is_over o (events_with gs a)) [ true ↦ Stops (At_limit What.Log at) | false ↦ Goes a ]
+turn_by o gs at a = elim (is_past_limit o (events_with gs a)) [ true ↦ Stops (At_limit What.Log at) | false ↦ Goes a ]
 
 -- the body of the frame with that number, before which so many nodes were declared by frames
 abbrev pub turn : Opening → List Given → ℕ → ℕ → List ℕ → Turn
@@ -150,7 +150,7 @@ nothing_written o what = record { written = []; ending = At_limit what 0; events
 abbrev pub tx_transcript : Opening → List ℕ → TxTranscript
 tx_transcript o bytes = elim (boot_of o == suc greatest) [
   | true ↦ nothing_written o What.Boots
-  | false ↦ elim (is_over o []) [
+  | false ↦ elim (is_past_limit o []) [
     | true ↦ nothing_written o What.Log
     | false ↦ (let s : Stream = stream bytes in turns_from o first_events 1 0 s.bodies s.rest)
   ]

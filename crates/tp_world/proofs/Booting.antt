@@ -12,7 +12,8 @@ use Rattle.tp_outside.specs.declared.mem_disk.MemDisk.{MemDisk}
 use Rattle.tp_journal.specs.declared.faults.ForceFault.TheVariants as force
 use Rattle.tp_journal.specs.Journals.{Kept}
 use Rattle.tp_journal.specs.Records.{first_place, version_of}
-use Rattle.tp_model.specs.Disk.{framed, records_before}
+use Rattle.tp_model.specs.Disk.{records_before}
+use Rattle.tp_framing.specs.Frames.{frame_bytes}
 use Rattle.tp_model.specs.Events.{started}
 use Rattle.tp_model.specs.Happenings.{booted}
 use Rattle.tp_model.specs.History.{digest}
@@ -64,7 +65,7 @@ log_on z x j is again = record {
   unshut = again.unshut;
   room = is.log.room;
   closed = is.log.closed;
-  bytes = again.bytes (1 ∷ framed (7 ∷ 2 ∷ []) ++ records_before z.disk.records (z.disk.gate ∷ z.disk.behind)) is.log.bytes;
+  bytes = again.bytes (1 ∷ frame_bytes (7 ∷ 2 ∷ []) ++ records_before z.disk.records (z.disk.gate ∷ z.disk.behind)) is.log.bytes;
 }
 
 opening_made : (a b : List ℕ) (v u : LogVersion) (rs qs : List LogRec) → a ≡ b → v ≡ u → rs ≡ qs → ◌≡◌ {A = Opening} (record { site = a; version = v; records = rs }) (record { site = b; version = u; records = qs })

@@ -8,8 +8,8 @@ use Rattle.tp_model.specs.declared.out_line.OutLine.{OutLine}
 use Rattle.tp_model.specs.declared.out_line.LogWords.{LogWords}
 use Rattle.tp_model.specs.declared.verdict.What.{What}
 use Rattle.tp_model.specs.World.{World, Node, Site, number_of, addr_of, addr_at, find_node, find_site, is_node}
-use Rattle.tp_model.specs.Happenings.{Declare, Turn, happens, still, with_node, new_node, new_site, declared_at}
-use Rattle.tp_model.specs.Lines.{Fault, Over, if_named, is_peer, node_limit, node_line}
+use Rattle.tp_model.specs.Happenings.{Declare, happens, still, with_node, new_node, new_site, declared_at, WorldTurn}
+use Rattle.tp_model.specs.Lines.{Fault, Over, if_named, node_limit, node_line, is_peer_node}
 use Rattle.tp_network.specs.Nodes.{IsDeclared, address_at}
 use Rattle.tp_world_parts.specs.Sites.{AreSites}
 use Rattle.tp_world_parts.specs.Placing.{IsDeclaredAt, boot_lines}
@@ -87,7 +87,7 @@ placed_new w ss s k boot up site h =
 
 -- ---- the rest of the world
 
-abbrev declared_in : World → Addr → Option Addr → Option Site → Turn
+abbrev declared_in : World → Addr → Option Addr → Option Site → WorldTurn
 declared_in w a up o = elim o [
   | Some x ↦ still (with_node w (new_node a.site a.node x.boot up))
   | None ↦ record {
@@ -129,18 +129,18 @@ on_ok (Err e) f h = h
 
 -- ---- the line
 
-abbrev turn_found : World → ℕ → List ℕ → Option ℕ → Option Node → Turn
+abbrev turn_found : World → ℕ → List ℕ → Option ℕ → Option Node → WorldTurn
 turn_found w n s under o = elim o [
   | Some x ↦ still w
   | None ↦ elim under [ None ↦ declared_at w n s None | Some p ↦ elim (addr_at w p) [ None ↦ still w | Some a ↦ declared_at w n s (Some a) ] ]
 ]
 
-turn_under : (w : World) (n : ℕ) (s : List ℕ) (under : Option ℕ) → is_peer w under ≡ true → turn_found w n s under None ≡ declared_at w n s (superior_at w under)
+turn_under : (w : World) (n : ℕ) (s : List ℕ) (under : Option ℕ) → is_peer_node w under ≡ true → turn_found w n s under None ≡ declared_at w n s (superior_at w under)
 turn_under w n s None h = refl
 turn_under w n s (Some p) h = go (find_node w.nodes p) refl h
   where
     go : (o : Option Node) → find_node w.nodes p ≡ o → elim o as (λ _. Bool) [ None ↦ false | Some x ↦ true ] ≡ true
-        → elim (elim o as (λ _. Option Addr) [ None ↦ None | Some x ↦ Some (addr_of x) ]) as (λ _. Turn) [ None ↦ still w | Some a ↦ declared_at w n s (Some a) ]
+        → elim (elim o as (λ _. Option Addr) [ None ↦ None | Some x ↦ Some (addr_of x) ]) as (λ _. WorldTurn) [ None ↦ still w | Some a ↦ declared_at w n s (Some a) ]
         ≡ declared_at w n s (elim o as (λ _. Option Addr) [ None ↦ None | Some x ↦ Some (addr_of x) ])
     go None e i = absurd cc
     go (Some x) e i = refl
@@ -152,7 +152,7 @@ superior_stood w v p h = address_stood w v p h ∙ go (find_node w.nodes p)
     go None = refl
     go (Some x) = refl
 
-pub peer_there : (w : World) (under : Option ℕ) → is_peer w under ≡ true → has_superior w (superior_at w under) ≡ true
+pub peer_there : (w : World) (under : Option ℕ) → is_peer_node w under ≡ true → has_superior w (superior_at w under) ≡ true
 peer_there w None h = refl
 peer_there w (Some p) h = go (find_node w.nodes p) refl h
   where
@@ -161,21 +161,21 @@ peer_there w (Some p) h = go (find_node w.nodes p) refl h
     go None e i = absurd cc
     go (Some x) e i = node_there w (number_of x) ∙ ap is_some (find_self w.nodes p x e)
 
-abbrev line_of : World → ℕ → List ℕ → Option ℕ → Bool → Option What → Result Turn Fault
+abbrev line_of : World → ℕ → List ℕ → Option ℕ → Bool → Option What → Result WorldTurn Fault
 line_of w n s under b o = if_named b (elim o [ Some what ↦ Err (Over what) | None ↦ Ok (happens w (Declare n s under)) ])
 
-pub gives_node : (w : World) (n : ℕ) (s : List ℕ) (under : Option ℕ) (up : Option Addr) (before after : List OutLine) (u : Unit {0}) (v : CodeWorld) → is_node w n ≡ false → is_peer w under ≡ true → node_limit w s ≡ None
+pub gives_node : (w : World) (n : ℕ) (s : List ℕ) (under : Option ℕ) (up : Option Addr) (before after : List OutLine) (u : Unit {0}) (v : CodeWorld) → is_node w n ≡ false → is_peer_node w under ≡ true → node_limit w s ≡ None
     → up ≡ superior_at w under → HasCome w (record { site = s; node = n }) up before after v → Gives (node_line w n s under) before (Ok u) after v
 gives_node w n s under up before after u v none peer limit same h =
-    let named : (not (is_node w n) && is_peer w under) ≡ true = grind (arith, none, peer) in
+    let named : (not (is_node w n) && is_peer_node w under) ≡ true = grind (arith, none, peer) in
     let at : happens w (Declare n s under) ≡ declared_at w n s up = ap (turn_found w n s under) (absent w n none) ∙ turn_under w n s under peer ∙ ap (declared_at w n s) (sym same) in
     gives_ok (node_line w n s under) (declared_at w n s up) before after v u
-    (ap (λ (b : Bool). line_of w n s under b (node_limit w s)) named ∙ ap (λ (o : Option What). line_of w n s under true o) limit ∙ ap (λ (t : Turn). Ok t) at)
+    (ap (λ (b : Bool). line_of w n s under b (node_limit w s)) named ∙ ap (λ (o : Option What). line_of w n s under true o) limit ∙ ap (λ (t : WorldTurn). Ok t) at)
     h.0 h.1
 
-pub gives_no_node : (w : World) (n : ℕ) (s : List ℕ) (under : Option ℕ) (what : What) (before after : List OutLine) (v : CodeWorld) → is_node w n ≡ false → is_peer w under ≡ true → node_limit w s ≡ Some what
+pub gives_no_node : (w : World) (n : ℕ) (s : List ℕ) (under : Option ℕ) (what : What) (before after : List OutLine) (v : CodeWorld) → is_node w n ≡ false → is_peer_node w under ≡ true → node_limit w s ≡ Some what
     → Gives (node_line w n s under) before (Err (WorldFault.Limit what)) after v
 gives_no_node w n s under what before after v none peer limit =
-    let named : (not (is_node w n) && is_peer w under) ≡ true = grind (arith, none, peer) in
+    let named : (not (is_node w n) && is_peer_node w under) ≡ true = grind (arith, none, peer) in
     gives_limit (node_line w n s under) what before after v
     (ap (λ (b : Bool). line_of w n s under b (node_limit w s)) named ∙ ap (λ (o : Option What). line_of w n s under true o) limit)

@@ -12,7 +12,7 @@ use Rattle.tp_outside.specs.MemDisk.{recorded}
 use Rattle.tp_journal.specs.Journals.{Kept}
 use Rattle.tp_journal.specs.Told.{IsOn}
 use Rattle.tp_model.specs.Disk.{disk_bytes}
-use Rattle.tp_model.specs.Happenings.{Turn, still, booted, restarted, restarted_at, crash_turn}
+use Rattle.tp_model.specs.Happenings.{still, booted, restarted, restarted_at, crash_turn, WorldTurn}
 use Rattle.tp_model.specs.Lines.{within_limits}
 use Rattle.tp_model.specs.Parts.{Digest}
 use Rattle.tp_model.specs.World.{World, Node, Site, Frame, number_of, site_of, find_node, find_site, put_site}
@@ -159,8 +159,8 @@ each_there : (w v : World) (ns : List Node) → AreThere w v → AllByRecursion 
 each_there w v [] t h = tt
 each_there w v (n ∷ ns) t h = (placed_there w v n t h.0, each_there w v ns t h.1)
 
-abbrev turn_for : World → List ℕ → Option Site → Turn
-turn_for w s o = elim o as (λ _. Turn) [
+abbrev turn_for : World → List ℕ → Option Site → WorldTurn
+turn_for w s o = elim o as (λ _. WorldTurn) [
   | None ↦ still w
   | Some x ↦ record {
     world = record w { nodes = restarted_at s w.nodes; sites = put_site w.sites (booted x) };
@@ -240,7 +240,7 @@ module _ (w : World) (s : List ℕ) (xs : List SiteSlot) (ns0 : List NodeSlot) (
     pub gives_crash : (new : CodeWorld) (before after : List OutLine) (u : Unit {0}) → new.sites.items ≡ slice_set xs (place_of_site xs s) z → new.nodes ≡ ns → new.frames ≡ fs → new.trees.items ≡ ts
         → after ≡ before ++ OutLine.Log y.site.nodes.site (LogWords.Boot y.site.nodes.boot) ∷ [] → Gives (within_limits (crash_turn w s)) before (Ok u) after new
     gives_crash new before after u sites nodes frames trees lines =
-        let t : Turn = turn_for w s (Some at.site) in
+        let t : WorldTurn = turn_for w s (Some at.site) in
         let stands : Mirrors t.world new = record {
           sites = subst (SitesStand (after_crash_of w s at.site)) (sym sites) sites_after;
           rest = subst (λ (l : List NodeSlot). RestStands (after_crash_of w s at.site) l new.frames new.trees.items) (sym nodes)

@@ -3,7 +3,7 @@ use Rattle.std.proofs.Common.{◌≡◌, ◌≤◌, ◌<◌, ◌+◌, ◌++◌, 
 use Rattle.std.proofs.lemmas.List.{append-nil}
 use Rattle.tp_model.specs.declared.out_line.OutLine.{OutLine}
 use Rattle.tp_model.specs.World.{World, Frame, mark_handed, oldest_from, oldest_of_all, oldest_between}
-use Rattle.tp_model.specs.Happenings.{Mark, Turn, Told, happens, still}
+use Rattle.tp_model.specs.Happenings.{Mark, Told, happens, still, WorldTurn}
 use Rattle.tp_model.specs.Lines.{Fault, within_limits, shows, then_turn, then_result, drain_line}
 use Rattle.tp_network.specs.Frames.{is_between}
 use Rattle.tp_world.specs.Drains.{handed, Hands, IsDrained}
@@ -48,27 +48,27 @@ stands_unmarked w old new h frames nodes sites trees = stands_frames w old new w
 
 -- ---- turns one after another
 
-then_still : (w : World) (r : Result Turn Fault) → then_result (still w) r ≡ r
+then_still : (w : World) (r : Result WorldTurn Fault) → then_result (still w) r ≡ r
 then_still w (Ok t) = refl
 then_still w (Err f) = refl
 
-then_then : (t u : Turn) (r : Result Turn Fault) → then_result t (then_result u r) ≡ then_result (then_turn t u) r
+then_then : (t u : WorldTurn) (r : Result WorldTurn Fault) → then_result t (then_result u r) ≡ then_result (then_turn t u) r
 then_then t u (Err f) = refl
 then_then t u (Ok x) =
-    let made : List OutLine → List Told → Result Turn Fault = λ ls told. Ok (record { world = x.world; lines = ls; told = told }) in
+    let made : List OutLine → List Told → Result WorldTurn Fault = λ ls told. Ok (record { world = x.world; lines = ls; told = told }) in
     sym (ap (λ (l : List OutLine). made l ((t.told ++ u.told) ++ x.told)) (append_assoc t.lines u.lines x.lines) ∙ ap (λ (l : List Told). made (t.lines ++ (u.lines ++ x.lines)) l) (append_assoc t.told u.told x.told))
 
-abbrev after_one : ℕ → Result Turn Fault → Result Turn Fault
+abbrev after_one : ℕ → Result WorldTurn Fault → Result WorldTurn Fault
 after_one n r = elim r [ Err f ↦ Err f | Ok t ↦ then_result t (drain_line n t.world) ]
 
-abbrev turn_from : ℕ → World → Option ℕ → Result Turn Fault
+abbrev turn_from : ℕ → World → Option ℕ → Result WorldTurn Fault
 turn_from n w o = elim o [ None ↦ Ok (shows w []) | Some k ↦ after_one n (within_limits (handed w k)) ]
 
 drain_ends : (n : ℕ) (w : World) → oldest_of_all w ≡ None → drain_line n w ≡ Ok (shows w [])
 drain_ends zero w h = refl
 drain_ends (suc n) w h = ap (turn_from n w) h
 
-drain_goes : (n : ℕ) (w : World) (k : ℕ) (t : Turn) → oldest_of_all w ≡ Some k → within_limits (handed w k) ≡ Ok t → drain_line (suc n) w ≡ then_result t (drain_line n t.world)
+drain_goes : (n : ℕ) (w : World) (k : ℕ) (t : WorldTurn) → oldest_of_all w ≡ Some k → within_limits (handed w k) ≡ Ok t → drain_line (suc n) w ≡ then_result t (drain_line n t.world)
 drain_goes n w k t h e = ap (turn_from n w) h ∙ ap (after_one n) e
 
 drain_breaks : (n : ℕ) (w : World) (k : ℕ) (f : Fault) → oldest_of_all w ≡ Some k → within_limits (handed w k) ≡ Err f → drain_line (suc n) w ≡ Err f
@@ -110,7 +110,7 @@ drained_next w most done before lines after old new more d h = go d.left refl
 stops_gives : (w : World) (most done : ℕ) (before lines after : List OutLine) (old new : CodeWorld) (u : Unit {0}) (d : IsDrained w most done before lines old) → drain_line d.left d.turn.world ≡ Ok (shows d.turn.world [])
     → after ≡ lines → Mirrors d.turn.world new → Gives (drain_line most w) before (Ok u) after new
 stops_gives w most done before lines after old new u d e same h =
-    subst (λ (r : Result Turn Fault). Gives r before (Ok u) after new) (sym (d.so_far ∙ ap (then_result d.turn) e))
+    subst (λ (r : Result WorldTurn Fault). Gives r before (Ok u) after new) (sym (d.so_far ∙ ap (then_result d.turn) e))
     (same ∙ d.lines ∙ ap (λ (l : List OutLine). before ++ l) (sym (append-nil d.turn.lines)), h)
 
 -- no frame is left
@@ -124,15 +124,15 @@ drained_last w most done before lines v u over d =
     let none : d.left ≡ 0 = omega (arith, d.turns, over) in
     stops_gives w most done before lines lines v v u d (ap (λ (k : ℕ). drain_line k d.turn.world) none) refl d.stands
 
-breaks_gives : (w : World) (most : ℕ) (t : Turn) (n k : ℕ) (f : WorldFault) (before lines after : List OutLine) (new : CodeWorld) (r : Result Turn Fault) → drain_line most w ≡ then_result t (drain_line (suc n) t.world) → oldest_of_all t.world ≡ Some k
+breaks_gives : (w : World) (most : ℕ) (t : WorldTurn) (n k : ℕ) (f : WorldFault) (before lines after : List OutLine) (new : CodeWorld) (r : Result WorldTurn Fault) → drain_line most w ≡ then_result t (drain_line (suc n) t.world) → oldest_of_all t.world ≡ Some k
     → within_limits (handed t.world k) ≡ r → Gives r lines (Err f) after new → Gives (drain_line most w) before (Err f) after new
 breaks_gives w most t n k WorldFault.NoMemory before lines after new r e o i h = tt
 breaks_gives w most t n k WorldFault.Name before lines after new (Ok x) e o i h = absurd h
 breaks_gives w most t n k (WorldFault.Limit what) before lines after new (Ok x) e o i h = absurd h
 breaks_gives w most t n k WorldFault.Name before lines after new (Err g) e o i h =
-    subst (λ (q : Result Turn Fault). Gives q before (Err WorldFault.Name) after new) (sym (e ∙ ap (then_result t) (drain_breaks n t.world k g o i))) h
+    subst (λ (q : Result WorldTurn Fault). Gives q before (Err WorldFault.Name) after new) (sym (e ∙ ap (then_result t) (drain_breaks n t.world k g o i))) h
 breaks_gives w most t n k (WorldFault.Limit what) before lines after new (Err g) e o i h =
-    subst (λ (q : Result Turn Fault). Gives q before (Err (WorldFault.Limit what)) after new) (sym (e ∙ ap (then_result t) (drain_breaks n t.world k g o i))) h
+    subst (λ (q : Result WorldTurn Fault). Gives q before (Err (WorldFault.Limit what)) after new) (sym (e ∙ ap (then_result t) (drain_breaks n t.world k g o i))) h
 
 pub drained_fault : (w : World) (most done : ℕ) (before lines after : List OutLine) (old new : CodeWorld) (f : WorldFault) → done < most → (d : IsDrained w most done before lines old) → Hands d.turn.world lines (Err f) after new
     → Gives (drain_line most w) before (Err f) after new

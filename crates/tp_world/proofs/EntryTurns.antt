@@ -11,7 +11,7 @@ use Rattle.tp_model.specs.History.{digest}
 use Rattle.tp_model.specs.Legal.{IsLegal}
 use Rattle.tp_model.specs.Outcomes.{root_started, is_now, root_of}
 use Rattle.tp_model.specs.World.{World, Node, Frame, number_of, site_of, addr_of, find_node, put_node, find_site}
-use Rattle.tp_model.specs.Happenings.{entered, logged, frames_of, trees_of}
+use Rattle.tp_model.specs.Happenings.{logged, frames_of, trees_of, world_with_entry}
 use Rattle.tp_site.specs.State.{tree_of}
 use Rattle.tp_network.specs.TreeSummary.{is_in}
 use Rattle.tp_world.specs.Settled.{tree_started, IsSettledEntry}
@@ -77,17 +77,17 @@ logged_sites w n None s = refl
 logged_sites w n (Some r) s = disk_there w.sites (site_of n) _ s
 
 abbrev pub turn_world : World → Node → EntryValue → World
-turn_world w n e = let v : World = logged (entered w n e) n e.rec in record v { frames = v.frames ++ frames_of (addr_of n) e.outs }
+turn_world w n e = let v : World = logged (world_with_entry w n e) n e.rec in record v { frames = v.frames ++ frames_of (addr_of n) e.outs }
 
 -- all but the sites, and nothing is sent yet
 pub rest_entered : (w : World) (n : Node) (e : EntryValue) (old new : List NodeSlot) (fs : List Frame) (ts us : List Aaid) → RestStands w old fs ts → find_node w.nodes (number_of n) ≡ Some n → IsLegal n.origin n.superior (e ∷ n.history)
-    → AreChanged (number_of n) (change_by n e) old new → us ≡ ts ++ trees_of (tree_started (change_by n e)) → RestStands (logged (entered w n e) n e.rec) new fs us
+    → AreChanged (number_of n) (change_by n e) old new → us ≡ ts ++ trees_of (tree_started (change_by n e)) → RestStands (logged (world_with_entry w n e) n e.rec) new fs us
 rest_entered w n e old new fs ts us r found legal changed started =
-    let v : World = logged (entered w n e) n e.rec in
-    let at : (v.nodes ≡ put_node w.nodes (with_entry n e)) = logged_nodes (entered w n e) n e.rec in
+    let v : World = logged (world_with_entry w n e) n e.rec in
+    let at : (v.nodes ≡ put_node w.nodes (with_entry n e)) = logged_nodes (world_with_entry w n e) n e.rec in
     let there : AreThere w v = record {
       nodes = λ k h. ap (λ (l : List Node). is_some (find_node l k)) at ∙ there_put w.nodes (with_entry n e) k ∙ h;
-      sites = λ s h. logged_sites (entered w n e) n e.rec s ∙ h;
+      sites = λ s h. logged_sites (world_with_entry w n e) n e.rec s ∙ h;
     } in
     let place : is_placed w (with_entry n e) ≡ true = placed_found w w.nodes (number_of n) n found r.placed in
     record {
@@ -95,10 +95,10 @@ rest_entered w n e old new fs ts us r found legal changed started =
       apart = ap are_apart at ∙ apart_put w.nodes (with_entry n e) ∙ r.apart;
       placed = subst (λ (l : List Node). AllByRecursion (λ z. is_placed v z ≡ true) l) (sym at)
           (each_placed w v (put_node w.nodes (with_entry n e)) there (placed_put w w.nodes (with_entry n e) place r.placed));
-      frames = r.frames ∙ sym (logged_frames (entered w n e) n e.rec);
-      few = subst (λ (l : List Frame). length l ≤ 65535) (sym (logged_frames (entered w n e) n e.rec)) r.few;
-      trees = started ∙ ap (λ (l : List Aaid). l ++ trees_of (tree_started (change_by n e))) r.trees ∙ ap (λ (o : Option Aaid). w.trees ++ trees_of o) (started_same n e) ∙ sym (logged_trees (entered w n e) n e.rec);
-      undriven = logged_drives (entered w n e) n e.rec ∙ r.undriven;
+      frames = r.frames ∙ sym (logged_frames (world_with_entry w n e) n e.rec);
+      few = subst (λ (l : List Frame). length l ≤ 65535) (sym (logged_frames (world_with_entry w n e) n e.rec)) r.few;
+      trees = started ∙ ap (λ (l : List Aaid). l ++ trees_of (tree_started (change_by n e))) r.trees ∙ ap (λ (o : Option Aaid). w.trees ++ trees_of o) (started_same n e) ∙ sym (logged_trees (world_with_entry w n e) n e.rec);
+      undriven = logged_drives (world_with_entry w n e) n e.rec ∙ r.undriven;
     }
 
 -- what is known of the code's entry and of the world that it leaves
@@ -118,10 +118,10 @@ pub rest_behind : (w : World) (n : Node) (e : EntryValue) (x : Entry) (first las
     → RestStands (turn_world w n e) new.nodes new.frames new.trees.items
 rest_behind w n e x first last old mid new h =
     let r = h.stands.rest in
-    let v : World = logged (entered w n e) n e.rec in
+    let v : World = logged (world_with_entry w n e) n e.rec in
     let frames : new.frames ≡ v.frames ++ frames_of (addr_of n) e.outs =
     h.settled.frames
-    ∙ ap (λ (l : List Frame). l ++ frames_of (addr_of n) x.outs) (h.frames ∙ r.frames ∙ sym (logged_frames (entered w n e) n e.rec))
+    ∙ ap (λ (l : List Frame). l ++ frames_of (addr_of n) x.outs) (h.frames ∙ r.frames ∙ sym (logged_frames (world_with_entry w n e) n e.rec))
     ∙ ap (λ l. v.frames ++ frames_of (addr_of n) l) h.outs
     in
     let changed : AreChanged (number_of n) (change_by n e) old.nodes new.nodes =
@@ -143,5 +143,5 @@ rest_behind w n e x first last old mid new h =
 
 pub stands_behind : (w : World) (n : Node) (e : EntryValue) (x : Entry) (first last : List OutLine) (old mid new : CodeWorld) → IsBehind w n e x first last old mid new → Mirrors (turn_world w n e) new
 stands_behind w n e x first last old mid new h =
-    let s : SitesStand (logged (entered w n e) n e.rec) new.sites.items = subst (λ v. SitesStand (logged (entered w n e) n e.rec) v.items) (sym h.settled.sites) h.sites in
+    let s : SitesStand (logged (world_with_entry w n e) n e.rec) new.sites.items = subst (λ v. SitesStand (logged (world_with_entry w n e) n e.rec) v.items) (sym h.settled.sites) h.sites in
     record { sites = record { sites = s.sites; known = s.known }; rest = rest_behind w n e x first last old mid new h }

@@ -9,7 +9,7 @@ use Rattle.tp_model.specs.World.{World, Site, put_site, find_node}
 use Rattle.tp_site.specs.Site.{known_at}
 use Rattle.tp_site.specs.State.{tree_in}
 use Rattle.tp_model.specs.declared.out_line.OutLine.{OutLine}
-use Rattle.tp_model.specs.Happenings.{Turn}
+use Rattle.tp_model.specs.Happenings.{WorldTurn}
 use Rattle.tp_model.specs.Lines.{Fault}
 use Rattle.tp_world_parts.specs.Restarts.{Reopens}
 use Rattle.tp_world.specs.Halts.{HasStoppedAs}
@@ -128,7 +128,7 @@ module _ (w : World) (s : List ℕ) (v : CodeWorld) (place : ℕ) (y : SiteSlot)
   stopped_again j opens = stopped_as_it_is w s v place y j stand.sites stand.rest is within here at (log_on at.site y j at.is (opens at.is.log.unshut at.is.log.wide))
 
   -- only memory may be wanting
-  pub reopens_fault : (f : WorldFault) (r : Result Turn Fault) (before after : List OutLine) (new : CodeWorld) → (y.site.keeper.shut ≡ None → y.site.keeper.wide ≡ true → Reopens y.site.keeper (Err f)) → Gives r before (Err f) after new
+  pub reopens_fault : (f : WorldFault) (r : Result WorldTurn Fault) (before after : List OutLine) (new : CodeWorld) → (y.site.keeper.shut ≡ None → y.site.keeper.wide ≡ true → Reopens y.site.keeper (Err f)) → Gives r before (Err f) after new
   reopens_fault WorldFault.Name r before after new h = absurd (h at.is.log.unshut at.is.log.wide)
   reopens_fault (WorldFault.Limit what) r before after new h = absurd (h at.is.log.unshut at.is.log.wide)
   reopens_fault WorldFault.NoMemory r before after new h = tt

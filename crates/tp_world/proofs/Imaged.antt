@@ -4,7 +4,7 @@ use Rattle.tp_outside.specs.MemDisk.{recorded}
 use Rattle.tp_outside.specs.Story.{seen}
 use Rattle.tp_model.specs.declared.out_line.OutLine.{OutLine}
 use Rattle.tp_model.specs.Disk.{disk_bytes}
-use Rattle.tp_model.specs.Happenings.{Turn}
+use Rattle.tp_model.specs.Happenings.{WorldTurn}
 use Rattle.tp_model.specs.Lines.{Fault, Name, shows, image_line}
 use Rattle.tp_model.specs.World.{World, Site, find_site, is_site}
 use Rattle.tp_world.specs.World.{Mirrors, Gives}
@@ -14,7 +14,7 @@ use Rattle.tp_world.specs.declared.world.World.{World as CodeWorld}
 use Rattle.tp_world.proofs.Crashing.{IsThere}
 use Rattle.tp_world.proofs.Limits.{gives_ok, gives_name}
 
-abbrev image_by : World → List ℕ → Option Site → Result Turn Fault
+abbrev image_by : World → List ℕ → Option Site → Result WorldTurn Fault
 image_by w s o = elim o [ None ↦ Err Name | Some x ↦ Ok (shows w (OutLine.Image s (disk_bytes x.disk) ∷ [])) ]
 
 pub gives_no_image : (w : World) (s : List ℕ) (before after : List OutLine) (v : CodeWorld) → is_site w s ≡ false → Gives (image_line w s) before (Err WorldFault.Name) after v

@@ -5,7 +5,7 @@ use Rattle.tp_model.specs.declared.line.Line.{Line}
 use Rattle.tp_model.specs.declared.out_line.OutLine.{OutLine}
 use Rattle.tp_model.specs.declared.verdict.What.{What}
 use Rattle.tp_model.specs.World.{World, empty_world, is_node}
-use Rattle.tp_model.specs.Happenings.{Drive, Drop, Turn, happens}
+use Rattle.tp_model.specs.Happenings.{Drive, Drop, happens, WorldTurn}
 use Rattle.tp_model.specs.LineText.{line_text}
 use Rattle.tp_model.specs.Lines.{Fault, Name, Over, if_named, is_dropped, is_member_there, line}
 use Rattle.tp_model.specs.Transcript.{is_silent}
@@ -75,7 +75,7 @@ speaks_of_none w l before after v silent = λ members none. ap (λ (k : ℕ). li
 -- ---- the whole
 
 -- the world that it leaves is that of a run, as the one before
-leaves_run : (w : World) (l : Line) (t : Turn) → IsOfRun w → line 0 w l ≡ Ok t → IsOfRun t.world
+leaves_run : (w : World) (l : Line) (t : WorldTurn) → IsOfRun w → line 0 w l ≡ Ok t → IsOfRun t.world
 leaves_run w l t run is = subst LeavesRun is (run_line 0 w l run)
 
 pub plays_turn : (w : World) (l : Line) (before after : List OutLine) (u : Unit {0}) (v : CodeWorld) → is_silent l ≡ false → IsOfRun w → Gives (line 0 w l) before (Ok u) after v → PlaysAfter w l before (Ok u) after v
@@ -94,7 +94,7 @@ is_over what (Over which) h = let e : which ≡ what = cc in ap (λ (q : What). 
 pub plays_fault : (w : World) (l : Line) (f : WorldFault) (before after : List OutLine) (v : CodeWorld) → is_silent l ≡ false → Gives (line 0 w l) before (Err f) after v → PlaysAfter w l before (Err f) after v
 plays_fault w l f before after v shown h = go (line 0 w l) f (λ k. members_same k w l shown) h
   where
-    go : (r : Result Turn Fault) (f : WorldFault) → ((k : ℕ) → line k w l ≡ r) → Gives r before (Err f) after v → PlaysAfter w l before (Err f) after v
+    go : (r : Result WorldTurn Fault) (f : WorldFault) → ((k : ℕ) → line k w l ≡ r) → Gives r before (Err f) after v → PlaysAfter w l before (Err f) after v
     go r WorldFault.NoMemory same i = tt
     go (Ok t) WorldFault.Name same i = absurd i
     go (Ok t) (WorldFault.Limit what) same i = absurd i

@@ -3,7 +3,7 @@ use Rattle.std.proofs.Common.{◌≡◌, ◌++◌, ◌&&◌, ℕ, Bool, true, re
 use Rattle.tp_model.specs.declared.line.Action.{Action}
 use Rattle.tp_model.specs.declared.out_line.OutLine.{OutLine}
 use Rattle.tp_model.specs.World.{World, is_node, oldest_between}
-use Rattle.tp_model.specs.Happenings.{Does, Mark, Turn, happens}
+use Rattle.tp_model.specs.Happenings.{Does, Mark, happens, WorldTurn}
 use Rattle.tp_model.specs.Lines.{Fault, if_named, is_named, resolved, marked, marked_by, action_line, skip_line, shows, within_limits}
 use Rattle.tp_world.specs.World.{Mirrors, Gives}
 use Rattle.tp_world_parts.specs.declared.fault.WorldFault.{WorldFault}
@@ -12,22 +12,22 @@ use Rattle.tp_world.proofs.Limits.{gives_ok}
 
 -- ---- names
 
-pub gives_named : (b : Bool) (q : Result Turn Fault) (before after : List OutLine) (r : Result (Unit {0}) WorldFault) (v : CodeWorld) → b ≡ true → Gives q before r after v → Gives (if_named b q) before r after v
+pub gives_named : (b : Bool) (q : Result WorldTurn Fault) (before after : List OutLine) (r : Result (Unit {0}) WorldFault) (v : CodeWorld) → b ≡ true → Gives q before r after v → Gives (if_named b q) before r after v
 gives_named b q before after r v e h = subst (λ (x : Bool). Gives (if_named x q) before r after v) (sym e) h
 
-named : (b : Bool) (r : Result Turn Fault) → b ≡ true → if_named b r ≡ r
+named : (b : Bool) (r : Result WorldTurn Fault) → b ≡ true → if_named b r ≡ r
 named b r e = ap (λ (x : Bool). if_named x r) e
 
 -- ---- an event
 
-abbrev event_by : World → World → Option Action → Result Turn Fault
+abbrev event_by : World → World → Option Action → Result WorldTurn Fault
 event_by w v o = elim o [ None ↦ Ok (shows w (OutLine.Nothing ∷ [])) | Some a ↦ within_limits (happens v (Does a)) ]
 
 -- all that the line names is there
 pub gives_action : (w : World) (a : Action) (before after : List OutLine) (r : Result (Unit {0}) WorldFault) (v : CodeWorld) → is_named w a ≡ true → resolved w a ≡ Some a → marked_by w a ≡ w
     → Gives (within_limits (happens w (Does a))) before r after v → Gives (action_line w a) before r after v
 gives_action w a before after r v name is same h =
-    subst (λ (q : Result Turn Fault). Gives q before r after v)
+    subst (λ (q : Result WorldTurn Fault). Gives q before r after v)
     (sym
     (named (is_named w a) (event_by w (marked_by w a) (resolved w a)) name
     ∙ ap (event_by w (marked_by w a)) is
@@ -36,7 +36,7 @@ gives_action w a before after r v name is same h =
 
 -- ---- passes
 
-abbrev pass_by : World → Option ℕ → Result Turn Fault
+abbrev pass_by : World → Option ℕ → Result WorldTurn Fault
 pass_by w o = elim o [ None ↦ Ok (shows w (OutLine.Nothing ∷ [])) | Some k ↦ within_limits (happens (happens w (Mark k)).world (Does (Action.Again k))) ]
 
 passed : (w : World) (a b : ℕ) (o : Option ℕ) → (is_node w a && is_node w b) ≡ true → oldest_between w a b ≡ o → action_line w (Action.Pass a b) ≡ pass_by w o
@@ -55,11 +55,11 @@ gives_no_pass w a b before after u v name none h lines = gives_ok (action_line w
 
 pub gives_pass : (w : World) (a b k : ℕ) (before after : List OutLine) (r : Result (Unit {0}) WorldFault) (v : CodeWorld) → (is_node w a && is_node w b) ≡ true → oldest_between w a b ≡ Some k
     → Gives (within_limits (happens (happens w (Mark k)).world (Does (Action.Again k)))) before r after v → Gives (action_line w (Action.Pass a b)) before r after v
-gives_pass w a b k before after r v name found h = subst (λ (q : Result Turn Fault). Gives q before r after v) (sym (passed w a b (Some k) name found)) h
+gives_pass w a b k before after r v name found h = subst (λ (q : Result WorldTurn Fault). Gives q before r after v) (sym (passed w a b (Some k) name found)) h
 
 -- ---- skips
 
-abbrev skip_by : World → Option ℕ → Turn
+abbrev skip_by : World → Option ℕ → WorldTurn
 skip_by w o = elim o [ None ↦ shows w (OutLine.Nothing ∷ []) | Some k ↦ shows (happens w (Mark k)).world (OutLine.Lost k ∷ []) ]
 
 pub gives_no_skip : (w : World) (a b : ℕ) (before after : List OutLine) (u : Unit {0}) (v : CodeWorld) → (is_node w a && is_node w b) ≡ true → oldest_between w a b ≡ None → Mirrors w v

@@ -8,7 +8,7 @@ use Rattle.tp_model.specs.declared.verdict.What.{What}
 use Rattle.tp_model.specs.Parts.{Out, Entry as EntryValue}
 use Rattle.tp_model.specs.Legal.{IsLegal}
 use Rattle.tp_model.specs.World.{World, Node, Frame, number_of, site_of, addr_of, find_node}
-use Rattle.tp_model.specs.Happenings.{Turn, entry_turn, entered, logged, log_lines, log_shown, refused_lines, out_lines, frames_of, after_lines}
+use Rattle.tp_model.specs.Happenings.{entry_turn, logged, log_lines, log_shown, refused_lines, out_lines, frames_of, after_lines, world_with_entry, WorldTurn}
 use Rattle.tp_model.specs.Lines.{within_limits, is_full}
 use Rattle.tp_world.specs.Settled.{forced_lines, entry_lines, SettlesSome}
 use Rattle.tp_world_parts.specs.Standing.{SitesStand, AreNodes, IsEntry, after_entry}
@@ -65,7 +65,7 @@ none_gives : (w : World) (n : Node) (dl before first after : List OutLine) (numb
     → IsAnswered w n None None old mid → first ≡ before ++ dl → SettlesSome (addr_of n) None (first ++ ([] ++ refused_lines number)) r after mid new
     → Gives (within_limits (after_lines dl (entry_turn w n number None))) before (told_by r) after new
 none_gives w n dl before first after number (Ok u) old mid new h e s =
-    let t : Turn = after_lines dl (entry_turn w n number None) in
+    let t : WorldTurn = after_lines dl (entry_turn w n number None) in
     let now : Mirrors w mid = stands_still w n None old mid h in
     gives_ok (within_limits t) t before after new u (within_all t (not_full w.sites mid.sites.items now.sites.sites) now.rest.few)
     (s.1 ∙ ap (λ (l : List OutLine). l ++ refused_lines number) e ∙ append_assoc before dl (refused_lines number))
@@ -93,14 +93,14 @@ lines_same w n e x dl before first number mid start outs step frames =
     ∙ append_assoc (before ++ dl) a b
     ∙ append_assoc before dl (a ++ b)
 
-abbrev entry_behind : World → Node → Option ℕ → EntryValue → List OutLine → Turn
+abbrev entry_behind : World → Node → Option ℕ → EntryValue → List OutLine → WorldTurn
 entry_behind w n number e dl = after_lines dl (entry_turn w n number (Some e))
 
 some_gives : (w : World) (n : Node) (e : EntryValue) (x : Entry) (dl before first after : List OutLine) (number : Option ℕ) (r : Result (Unit {0}) SendFault) (old mid new : CodeWorld)
     → IsAnswered w n (Some e) (Some x) old mid → first ≡ before ++ dl → SettlesSome (addr_of n) (Some x) (first ++ (forced_lines (site_of n) x.change.rec ++ refused_lines number)) r after mid new
     → Gives (within_limits (entry_behind w n number e dl)) before (told_by r) after new
 some_gives w n e x dl before first after number (Ok u) old mid new h start s =
-    let t : Turn = entry_behind w n number e dl in
+    let t : WorldTurn = entry_behind w n number e dl in
     let head : List OutLine = first ++ (forced_lines (site_of n) x.change.rec ++ refused_lines number) in
     let was : IsBehind w n e x head after old mid new = record {
       stands = h.stands;
@@ -119,9 +119,9 @@ some_gives w n e x dl before first after number (Ok u) old mid new h start s =
     (s.lines ∙ lines_same w n e x dl before first number mid start h.entry.0 h.entry.1 (h.frames ∙ h.stands.rest.frames))
     now
 some_gives w n e x dl before first after number (Err SendFault.Full) old mid new h start s =
-    let t : Turn = entry_behind w n number e dl in
-    let v : World = logged (entered w n e) n e.rec in
-    let fs : mid.frames ≡ v.frames = h.frames ∙ h.stands.rest.frames ∙ sym (logged_frames (entered w n e) n e.rec) in
+    let t : WorldTurn = entry_behind w n number e dl in
+    let v : World = logged (world_with_entry w n e) n e.rec in
+    let fs : mid.frames ≡ v.frames = h.frames ∙ h.stands.rest.frames ∙ sym (logged_frames (world_with_entry w n e) n e.rec) in
     let count : length mid.frames + length (frames_of (addr_of n) x.outs) ≡ length (v.frames ++ frames_of (addr_of n) e.outs) =
     ap (λ (l : List Frame). length l + length (frames_of (addr_of n) x.outs)) fs
     ∙ ap (λ (l : List Out). length v.frames + length (frames_of (addr_of n) l)) h.entry.0
@@ -143,5 +143,5 @@ answer_gives w n (Some e) (Some x) dl before first after number r old mid new h 
 
 pub log_gives : (w : World) (n : Node) (ent : Option EntryValue) (dl before after : List OutLine) (number : Option ℕ) (new : CodeWorld) → is_full (after_entry w n ent).sites ≡ true
     → Gives (within_limits (after_lines dl (entry_turn w n number ent))) before (Err (WorldFault.Limit What.Log)) after new
-log_gives w n None dl before after number new h = let t : Turn = after_lines dl (entry_turn w n number None) in gives_limit (within_limits t) What.Log before after new (within_log t h)
-log_gives w n (Some e) dl before after number new h = let t : Turn = after_lines dl (entry_turn w n number (Some e)) in gives_limit (within_limits t) What.Log before after new (within_log t h)
+log_gives w n None dl before after number new h = let t : WorldTurn = after_lines dl (entry_turn w n number None) in gives_limit (within_limits t) What.Log before after new (within_log t h)
+log_gives w n (Some e) dl before after number new h = let t : WorldTurn = after_lines dl (entry_turn w n number (Some e)) in gives_limit (within_limits t) What.Log before after new (within_log t h)

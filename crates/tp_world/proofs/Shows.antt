@@ -6,7 +6,7 @@ use Rattle.tp_model.specs.declared.out_line.OutLine.{OutLine}
 use Rattle.tp_model.specs.Parts.{State}
 use Rattle.tp_model.specs.History.{digest, state}
 use Rattle.tp_model.specs.World.{World, Node, number_of, addr_of, find_node}
-use Rattle.tp_model.specs.Happenings.{Turn}
+use Rattle.tp_model.specs.Happenings.{WorldTurn}
 use Rattle.tp_model.specs.Lines.{Fault, Name, shows, state_line, show_line}
 use Rattle.tp_site.specs.State.{state_of}
 use Rattle.tp_node.specs.declared.state.NodeState.{NodeState}
@@ -20,7 +20,7 @@ use Rattle.tp_world_parts.proofs.Found.{find_self, placed_found}
 use Rattle.tp_world.proofs.Limits.{gives_ok, gives_name}
 use Rattle.tp_world.proofs.Stood.{address_stood}
 
-abbrev shown_of : World → ℕ → Option Node → Result Turn Fault
+abbrev shown_of : World → ℕ → Option Node → Result WorldTurn Fault
 shown_of w k o = elim o [ None ↦ Err Name | Some x ↦ Ok (shows w (state_line k (state (digest x.origin x.history)) ∷ [])) ]
 
 -- there is no such node

@@ -15,7 +15,7 @@ use Rattle.tp_journal.specs.Records.{HasText, bodies_of}
 use Rattle.tp_model.specs.declared.out_line.OutLine.{OutLine}
 use Rattle.tp_model.specs.declared.out_line.RecordFate.{RecordFate}
 use Rattle.tp_model.specs.Disk.{Disk, Remains, disk_bytes, forced, remains}
-use Rattle.tp_model.specs.Happenings.{Turn, trees_of, log_shown, entered, logged, after_stop, stop_in_entry, stop_in_force}
+use Rattle.tp_model.specs.Happenings.{trees_of, log_shown, logged, after_stop, stop_in_entry, stop_in_force, world_with_entry, WorldTurn}
 use Rattle.tp_model.specs.History.{digest}
 use Rattle.tp_model.specs.Lines.{Fault, log_size, most_bytes, within_limits}
 use Rattle.tp_model.specs.Parts.{Entry as EntryValue}
@@ -116,8 +116,8 @@ module _ (w : World) (s : List ℕ) (z : Site) (n : Node) (e : EntryValue) (r : 
   abbrev grown : Site
   grown = record z { disk = forced r z.disk }
 
-  next_is : next ≡ record (entered w n e) { sites = put_site w.sites grown }
-  next_is = ap (logged (entered w n e) n) logs ∙ ap (λ (o : Option Site). record (entered w n e) { sites = elim o as (λ _. List Site) [ None ↦ w.sites | Some q ↦ put_site w.sites (record q { disk = forced r q.disk }) ] }) (at_home w s z n (Some e) x place (Some entry) v h within)
+  next_is : next ≡ record (world_with_entry w n e) { sites = put_site w.sites grown }
+  next_is = ap (logged (world_with_entry w n e) n) logs ∙ ap (λ (o : Option Site). record (world_with_entry w n e) { sites = elim o as (λ _. List Site) [ None ↦ w.sites | Some q ↦ put_site w.sites (record q { disk = forced r q.disk }) ] }) (at_home w s z n (Some e) x place (Some entry) v h within)
 
   site_is : at.site ≡ grown
   site_is =
@@ -220,15 +220,15 @@ module _ (w : World) (s : List ℕ) (z : Site) (n : Node) (e : EntryValue) (r : 
     abbrev left : Site
     left = record z { disk = st.disk }
 
-    abbrev by_fate : RecordFate → Turn
+    abbrev by_fate : RecordFate → WorldTurn
     by_fate f =
         let u : World = record w { sites = put_site w.sites left } in
-        after_stop (elim f as (λ _. World) [ RecordFate.Kept ↦ entered u n e | RecordFate.Lost ↦ u | RecordFate.None ↦ u ]) z.name f
+        after_stop (elim f as (λ _. World) [ RecordFate.Kept ↦ world_with_entry u n e | RecordFate.Lost ↦ u | RecordFate.None ↦ u ]) z.name f
 
     pub kept_turn : IsKept r z.disk st → after_stop next s RecordFate.Kept ≡ stop_in_force w n z e st
     kept_turn kept =
-        ap (λ (u : World). after_stop u s RecordFate.Kept) (next_is ∙ ap (λ (d : Disk). record (entered w n e) { sites = put_site w.sites (record z { disk = d }) }) (sym kept.disk))
-        ∙ ap (λ (a : List ℕ). after_stop (entered (record w { sites = put_site w.sites left }) n e) a RecordFate.Kept) (sym (name w s z n (Some e) x place (Some entry) v h within))
+        ap (λ (u : World). after_stop u s RecordFate.Kept) (next_is ∙ ap (λ (d : Disk). record (world_with_entry w n e) { sites = put_site w.sites (record z { disk = d }) }) (sym kept.disk))
+        ∙ ap (λ (a : List ℕ). after_stop (world_with_entry (record w { sites = put_site w.sites left }) n e) a RecordFate.Kept) (sym (name w s z n (Some e) x place (Some entry) v h within))
         ∙ ap by_fate (sym kept.fate)
 
     -- ---- lost
@@ -303,12 +303,12 @@ module _ (w : World) (s : List ℕ) (z : Site) (n : Node) (e : EntryValue) (r : 
 
 -- ---- faults
 
-pub left_fails : (stop : Stop) (r : LogRec) (d : Disk) (f : WorldFault) (q : Result Turn Fault) (before after : List OutLine) (v : CodeWorld) → LeavesBy stop r d (Err f) → Gives q before (Err f) after v
+pub left_fails : (stop : Stop) (r : LogRec) (d : Disk) (f : WorldFault) (q : Result WorldTurn Fault) (before after : List OutLine) (v : CodeWorld) → LeavesBy stop r d (Err f) → Gives q before (Err f) after v
 left_fails stop r d WorldFault.Name q before after v h = absurd h
 left_fails stop r d (WorldFault.Limit what) q before after v h = absurd h
 left_fails stop r d WorldFault.NoMemory q before after v h = tt
 
-pub opens_fails : (file : List ℕ) (rs : List LogRec) (f : WorldFault) (q : Result Turn Fault) (before after : List OutLine) (v : CodeWorld) → Opens file rs (Err f) → Gives q before (Err f) after v
+pub opens_fails : (file : List ℕ) (rs : List LogRec) (f : WorldFault) (q : Result WorldTurn Fault) (before after : List OutLine) (v : CodeWorld) → Opens file rs (Err f) → Gives q before (Err f) after v
 opens_fails file rs WorldFault.Name q before after v h = absurd h
 opens_fails file rs (WorldFault.Limit what) q before after v h = absurd h
 opens_fails file rs WorldFault.NoMemory q before after v h = tt
@@ -332,7 +332,7 @@ entry_forced w s z n (Some e) x place call fill entry v last res before after h 
     shown = ap (λ (q : TreeChange). q.rec) h.entry.1
 
     go : (o : Option LogRec) → e.rec ≡ o
-        → Gives (within_limits (elim o as (λ _. Turn) [ None ↦ after_stop (entered w n e) z.name RecordFate.None | Some r ↦ stop_in_force w n z e (remains call fill r z.disk) ])) before res after last
+        → Gives (within_limits (elim o as (λ _. WorldTurn) [ None ↦ after_stop (world_with_entry w n e) z.name RecordFate.None | Some r ↦ stop_in_force w n z e (remains call fill r z.disk) ])) before res after last
     go None none = absurd (let clash = sym has ∙ ap is_some (shown ∙ ap (option_map log_shown) none) in cc (clash))
     go (Some r) is = k e r h is
 
@@ -354,8 +354,8 @@ entry_plain w s z n (Some e) x place call fill node entry v new last res before 
         k (after_entry w n (Some e)) h.tells_after h.starts_after (h.at ∙ ap (λ xs. place_of_site xs.items s) (sym enters.sites)) (mirrors_entered w s z n e x place entry v new h entered_here)
 
     go : (o : Option LogRec) → e.rec ≡ o
-        → Gives (within_limits (elim o as (λ _. Turn) [ None ↦ after_stop (entered w n e) z.name RecordFate.None | Some r ↦ stop_in_force w n z e (remains call fill r z.disk) ])) before res after last
+        → Gives (within_limits (elim o as (λ _. WorldTurn) [ None ↦ after_stop (world_with_entry w n e) z.name RecordFate.None | Some r ↦ stop_in_force w n z e (remains call fill r z.disk) ])) before res after last
     go None none =
-        subst (λ (a : List ℕ). Gives (within_limits (after_stop (entered w n e) a RecordFate.None)) before res after last) (sym (site_name w.sites s z h.site))
-        (subst (λ (o : Option LogRec). Gives (within_limits (after_stop (logged (entered w n e) n o) s RecordFate.None)) before res after last) none stopped)
+        subst (λ (a : List ℕ). Gives (within_limits (after_stop (world_with_entry w n e) a RecordFate.None)) before res after last) (sym (site_name w.sites s z h.site))
+        (subst (λ (o : Option LogRec). Gives (within_limits (after_stop (logged (world_with_entry w n e) n o) s RecordFate.None)) before res after last) none stopped)
     go (Some r) is = absurd (let clash = sym has ∙ ap is_some (shown ∙ ap (option_map log_shown) is) in cc (clash))

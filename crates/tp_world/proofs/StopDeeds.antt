@@ -15,9 +15,9 @@ use Rattle.tp_model.specs.declared.out_line.OutLine.{OutLine}
 use Rattle.tp_model.specs.declared.out_line.RecordFate.{RecordFate}
 use Rattle.tp_model.specs.declared.verdict.What.{What}
 use Rattle.tp_model.specs.Disk.{disk_bytes}
-use Rattle.tp_model.specs.Happenings.{Task, Turn, Mark, Crash_in, happens, still, after_lines, action_lines, after_stop, stop_in_entry, stop_in_task, task_at, task_of, task_here}
+use Rattle.tp_model.specs.Happenings.{Task, Mark, Crash_in, happens, still, after_lines, action_lines, after_stop, stop_in_entry, stop_in_task, task_at, task_of, task_here, WorldTurn}
 use Rattle.tp_model.specs.Legal.{IsUnder}
-use Rattle.tp_model.specs.Lines.{Fault, Over, is_named, crash_in_line, node_of, stands_at, has_room, has_room_for, record_of, resolved, marked, marked_by, within_limits}
+use Rattle.tp_model.specs.Lines.{Fault, Over, is_named, crash_in_line, stands_at, has_room, has_room_for, record_of, resolved, marked, marked_by, within_limits, node_of_action}
 use Rattle.tp_model.specs.Parts.{Event, Entry as EntryValue}
 use Rattle.tp_model.specs.World.{World, Node, Site, Frame, addr_of, is_site, number_of, site_of, find_node, find_site, find_frame, mark_handed, oldest_from, oldest_between}
 use Rattle.tp_laws.specs.SiteLogs.{DisksTell, DisksStart}
@@ -162,27 +162,27 @@ module _ (w : World) (s : List ℕ) (z : Site) (place : ℕ) (v : CodeWorld) (st
 
 -- ---- a line with an event that is no pass
 
-abbrev turn_here : World → List ℕ → ℕ → ℕ → Action → Option Site → Turn
+abbrev turn_here : World → List ℕ → ℕ → ℕ → Action → Option Site → WorldTurn
 turn_here w s call fill d o = elim o [
   | None ↦ still w
   | Some x ↦ elim (task_here x (task_of w d)) [ None ↦ still w | Some t ↦ after_lines (action_lines d) (stop_in_task w x call fill t) ]
 ]
 
-abbrev judged_by : World → List ℕ → ℕ → ℕ → Action → World → Option Action → Result Turn Fault
+abbrev judged_by : World → List ℕ → ℕ → ℕ → Action → World → Option Action → Result WorldTurn Fault
 judged_by w s call fill l m o = elim (has_room_for w s o) [
   | false ↦ Err (Over What.Log)
-  | true ↦ within_limits (elim o as (λ _. Turn) [ None ↦ after_lines (OutLine.Nothing ∷ []) (after_stop w s RecordFate.None) | Some d ↦ happens m (Crash_in s call fill d) ])
+  | true ↦ within_limits (elim o as (λ _. WorldTurn) [ None ↦ after_lines (OutLine.Nothing ∷ []) (after_stop w s RecordFate.None) | Some d ↦ happens m (Crash_in s call fill d) ])
 ]
 
 pub named_is : (w : World) (s : List ℕ) (z : Site) (call fill : ℕ) (l : Action) → find_site w.sites s ≡ Some z → resolved w l ≡ Some l → marked_by w l ≡ w → stop_named w s call fill l ≡ stop_deed w s z call fill (action_lines l) (task_of w l)
 named_is w s z call fill l found is same =
     ap (judged_by w s call fill l (marked_by w l)) is
     ∙ ap (λ (m : World). judged_by w s call fill l m (Some l)) same
-    ∙ ap (λ (o : Option Site). elim (has_room w s (record_of w l)) as (λ _. Result Turn Fault) [ false ↦ Err (Over What.Log) | true ↦ within_limits (turn_here w s call fill l o) ]) found
+    ∙ ap (λ (o : Option Site). elim (has_room w s (record_of w l)) as (λ _. Result WorldTurn Fault) [ false ↦ Err (Over What.Log) | true ↦ within_limits (turn_here w s call fill l o) ]) found
 
 pub named_gives : (w : World) (s : List ℕ) (z : Site) (call fill : ℕ) (l : Action) (r : Result (Unit {0}) WorldFault) (before after : List OutLine) (v : CodeWorld) → find_site w.sites s ≡ Some z → resolved w l ≡ Some l → marked_by w l ≡ w
     → Gives (stop_deed w s z call fill (action_lines l) (task_of w l)) before r after v → Gives (stop_named w s call fill l) before r after v
-named_gives w s z call fill l r before after v found is same h = subst (λ (q : Result Turn Fault). Gives q before r after v) (sym (named_is w s z call fill l found is same)) h
+named_gives w s z call fill l r before after v found is same h = subst (λ (q : Result WorldTurn Fault). Gives q before r after v) (sym (named_is w s z call fill l found is same)) h
 
 -- ---- a pass
 
@@ -217,7 +217,7 @@ module _ (w : World) (k : ℕ) where
       go (Some f) = refl
 
   -- the frame's node is the one that is passed to
-  pub marked_at : (s : List ℕ) (a b : ℕ) → oldest_between w a b ≡ Some k → stands_at w s (Some b) ≡ true → stands_at m s (node_of m (Action.Again k)) ≡ true
+  pub marked_at : (s : List ℕ) (a b : ℕ) → oldest_between w a b ≡ Some k → stands_at w s (Some b) ≡ true → stands_at m s (node_of_action m (Action.Again k)) ≡ true
   marked_at s a b oldest here =
       let f = oldest_found 0 (λ (g : Frame). (g.from.node == a) && (g.to.node == b)) w.frames k oldest in
       let frame : Frame = f.2 in
@@ -230,17 +230,17 @@ module _ (w : World) (k : ℕ) where
   pub pass_gives : (s : List ℕ) (z : Site) (a b call fill : ℕ) (r : Result (Unit {0}) WorldFault) (before after : List OutLine) (v : CodeWorld) → find_site w.sites s ≡ Some z → oldest_between w a b ≡ Some k
       → Gives (stop_deed m s z call fill (OutLine.Take k ∷ []) (task_of m (Action.Again k))) before r after v → Gives (stop_named w s call fill (Action.Pass a b)) before r after v
   pass_gives s z a b call fill r before after v found oldest h =
-      subst (λ (q : Result Turn Fault). Gives q before r after v)
+      subst (λ (q : Result WorldTurn Fault). Gives q before r after v)
       (sym
       (ap (λ (o : Option ℕ). judged_by w s call fill (Action.Pass a b) (marked w o) (elim o as (λ _. Option Action) [ None ↦ None | Some j ↦ Some (Action.Again j) ])) oldest
-      ∙ ap (λ (o : Option Site). elim (has_room w s (record_of w (Action.Again k))) as (λ _. Result Turn Fault) [ false ↦ Err (Over What.Log) | true ↦ within_limits (turn_here m s call fill (Action.Again k) o) ]) found
-      ∙ ap (λ (o : Option Task). elim (has_room w s (forced_by o)) as (λ _. Result Turn Fault) [ false ↦ Err (Over What.Log) | true ↦ within_limits (stop_by m z call fill (OutLine.Take k ∷ []) (task_of m (Action.Again k))) ]) (sym task_marked)))
+      ∙ ap (λ (o : Option Site). elim (has_room w s (record_of w (Action.Again k))) as (λ _. Result WorldTurn Fault) [ false ↦ Err (Over What.Log) | true ↦ within_limits (turn_here m s call fill (Action.Again k) o) ]) found
+      ∙ ap (λ (o : Option Task). elim (has_room w s (forced_by o)) as (λ _. Result WorldTurn Fault) [ false ↦ Err (Over What.Log) | true ↦ within_limits (stop_by m z call fill (OutLine.Take k ∷ []) (task_of m (Action.Again k))) ]) (sym task_marked)))
       h
 
 pub no_pass_gives : (w : World) (s : List ℕ) (a b call fill : ℕ) (r : Result (Unit {0}) WorldFault) (before after : List OutLine) (v : CodeWorld) → oldest_between w a b ≡ None
     → Gives (within_limits (after_lines (OutLine.Nothing ∷ []) (after_stop w s RecordFate.None))) before r after v → Gives (stop_named w s call fill (Action.Pass a b)) before r after v
 no_pass_gives w s a b call fill r before after v oldest h =
-    subst (λ (q : Result Turn Fault). Gives q before r after v)
+    subst (λ (q : Result WorldTurn Fault). Gives q before r after v)
     (sym (ap (λ (o : Option ℕ). judged_by w s call fill (Action.Pass a b) (marked w o) (elim o as (λ _. Option Action) [ None ↦ None | Some j ↦ Some (Action.Again j) ])) oldest)) h
 
 -- the world in which it stops, once the frame is marked
@@ -261,10 +261,10 @@ site_found w s h = go (find_site w.sites s) h
     go None i = absurd (cc (i))
     go (Some z) i = (z, refl)
 
-pub line_gives : (w : World) (s : List ℕ) (call fill : ℕ) (l : Action) (r : Result (Unit {0}) WorldFault) (before after : List OutLine) (v : CodeWorld) → is_site w s ≡ true → is_named w l ≡ true → stands_at w s (node_of w l) ≡ true
+pub line_gives : (w : World) (s : List ℕ) (call fill : ℕ) (l : Action) (r : Result (Unit {0}) WorldFault) (before after : List OutLine) (v : CodeWorld) → is_site w s ≡ true → is_named w l ≡ true → stands_at w s (node_of_action w l) ≡ true
     → Gives (stop_named w s call fill l) before r after v → Gives (crash_in_line w s call fill l) before r after v
 line_gives w s call fill l r before after v site name here h =
-    gives_named (is_site w s && is_named w l && stands_at w s (node_of w l)) (stop_named w s call fill l) before after r v (rw (site, name, here) refl) h
+    gives_named (is_site w s && is_named w l && stands_at w s (node_of_action w l)) (stop_named w s call fill l) before after r v (rw (site, name, here) refl) h
 
 -- ---- where the node of an event stands
 

@@ -13,7 +13,7 @@ use Rattle.tp_model.specs.Legal.{is_start}
 use Rattle.tp_model.specs.NodeRun.{Opening, boot_of, records_at, origin_at}
 use Rattle.tp_model.specs.Parts.{Event, Entry as EntryValue}
 use Rattle.tp_model.specs.World.{World, Node, Site, number_of, find_node, find_site, put_site}
-use Rattle.tp_model.specs.Happenings.{Happening, Task, Turn, Does, happens, task_of, still, after_lines, action_lines, event_turn, entry_turn}
+use Rattle.tp_model.specs.Happenings.{Happening, Task, Does, happens, task_of, still, after_lines, action_lines, event_turn, entry_turn, WorldTurn}
 use Rattle.tp_laws.specs.Expansion.{IsOfRun}
 use Rattle.tp_laws.specs.SiteLogs.{log_of, is_in_order, forced_by, one_to, next_opening, TellsItsNodes, StartsNext, DisksTell, DisksStart}
 use Rattle.tp_laws.proofs.EveryLog.{disks_tell}
@@ -91,7 +91,7 @@ turn_sites w n number (Some e) = refl
 
 module _ (w : World) (d : Action) (n : Node) (e : Event) (run : IsOfRun w) (task : task_of w d ≡ Some (record { node = n; event = e })) where
   world_is : (happens w (Does d)).world ≡ (event_turn w n e).world
-  world_is = ap (λ (o : Option Task). (elim o as (λ _. Turn) [ None ↦ still w | Some t ↦ after_lines (action_lines d) (event_turn w t.node t.event) ]).world) task
+  world_is = ap (λ (o : Option Task). (elim o as (λ _. WorldTurn) [ None ↦ still w | Some t ↦ after_lines (action_lines d) (event_turn w t.node t.event) ]).world) task
 
   run_after : IsOfRun (event_turn w n e).world
   run_after = subst IsOfRun world_is (happens_on w (Does d) run)

@@ -8,7 +8,7 @@ use Rattle.tp_logrec.specs.declared.record.LogRec.{LogRec}
 use Rattle.tp_model.specs.declared.out_line.OutLine.{OutLine}
 use Rattle.tp_model.specs.declared.verdict.What.{What}
 use Rattle.tp_model.specs.Disk.{forced}
-use Rattle.tp_model.specs.Happenings.{Task, Turn, entered, logged, still, after_lines, stop_in_task}
+use Rattle.tp_model.specs.Happenings.{Task, logged, still, after_lines, stop_in_task, world_with_entry, WorldTurn}
 use Rattle.tp_model.specs.Lines.{Fault, Over, has_room, is_full, log_size, most_bytes, within_limits}
 use Rattle.tp_model.specs.Parts.{Event, Entry as EntryValue}
 use Rattle.tp_model.specs.World.{World, Node, Site, find_site, put_site, site_of}
@@ -29,21 +29,21 @@ fault_same f (Err (WorldFault.Limit what)) first before after v h = h
 fault_same f (Err WorldFault.NoMemory) first before after v h = tt
 
 -- what a `?` hands on, of another name of the same result
-pub fails_with : (q p : Result Turn Fault) (f : WorldFault) (r : Result (Unit {0}) WorldFault) (before after : List OutLine) (v : CodeWorld) → p ≡ q → IsErrAnd r (λ y. y ≡ f) → Gives q before (Err f) after v → Gives p before r after v
+pub fails_with : (q p : Result WorldTurn Fault) (f : WorldFault) (r : Result (Unit {0}) WorldFault) (before after : List OutLine) (v : CodeWorld) → p ≡ q → IsErrAnd r (λ y. y ≡ f) → Gives q before (Err f) after v → Gives p before r after v
 fails_with q p f (Ok u) before after v same h g = absurd h
-fails_with q p f (Err y) before after v same h g = subst (λ (e : WorldFault). Gives p before (Err e) after v) (sym h) (subst (λ (t : Result Turn Fault). Gives t before (Err f) after v) (sym same) g)
+fails_with q p f (Err y) before after v same h g = subst (λ (e : WorldFault). Gives p before (Err e) after v) (sym h) (subst (λ (t : Result WorldTurn Fault). Gives t before (Err f) after v) (sym same) g)
 
-turn_behind : (ls : List OutLine) (t : Turn) (r : Result (Unit {0}) WorldFault) (before first after : List OutLine) (v : CodeWorld) → first ≡ before ++ ls → Gives (Ok t) first r after v → Gives (Ok (after_lines ls t)) before r after v
+turn_behind : (ls : List OutLine) (t : WorldTurn) (r : Result (Unit {0}) WorldFault) (before first after : List OutLine) (v : CodeWorld) → first ≡ before ++ ls → Gives (Ok t) first r after v → Gives (Ok (after_lines ls t)) before r after v
 turn_behind ls t (Ok u) before first after v start h = (h.0 ∙ ap (λ (l : List OutLine). l ++ t.lines) start ∙ append_assoc before ls t.lines, h.1)
 turn_behind ls t (Err WorldFault.Name) before first after v start h = absurd h
 turn_behind ls t (Err (WorldFault.Limit what)) before first after v start h = absurd h
 turn_behind ls t (Err WorldFault.NoMemory) before first after v start h = tt
 
-pub gives_behind : (ls : List OutLine) (t : Turn) (r : Result (Unit {0}) WorldFault) (before first after : List OutLine) (v : CodeWorld) → first ≡ before ++ ls → Gives (within_limits t) first r after v → Gives (within_limits (after_lines ls t)) before r after v
+pub gives_behind : (ls : List OutLine) (t : WorldTurn) (r : Result (Unit {0}) WorldFault) (before first after : List OutLine) (v : CodeWorld) → first ≡ before ++ ls → Gives (within_limits t) first r after v → Gives (within_limits (after_lines ls t)) before r after v
 gives_behind ls t r before first after v start h = go (is_full t.world.sites) (nat_lt 65535 (length t.world.frames)) h
   where
-    judged : Bool → Bool → Turn → Result Turn Fault
-    judged a b u = elim a as (λ _. Result Turn Fault) [ true ↦ Err (Over What.Log) | false ↦ elim b as (λ _. Result Turn Fault) [ true ↦ Err (Over What.Frames) | false ↦ Ok u ] ]
+    judged : Bool → Bool → WorldTurn → Result WorldTurn Fault
+    judged a b u = elim a as (λ _. Result WorldTurn Fault) [ true ↦ Err (Over What.Log) | false ↦ elim b as (λ _. Result WorldTurn Fault) [ true ↦ Err (Over What.Frames) | false ↦ Ok u ] ]
 
     go : (a b : Bool) → Gives (judged a b t) first r after v → Gives (judged a b (after_lines ls t)) before r after v
     go true b g = fault_same (Over What.Log) r first before after v g
@@ -56,11 +56,11 @@ pub deed_gives : (w : World) (s : List ℕ) (z : Site) (call fill : ℕ) (ls : L
     → Gives (stop_judged w s z call fill t) first r after v → Gives (stop_deed w s z call fill ls (Some t)) before r after v
 deed_gives w s z call fill ls t r before first after v here start h = go (has_room w s (forced_in t)) h
   where
-    here_by : Bool → Turn
-    here_by b = elim (elim b as (λ _. Option Task) [ true ↦ Some t | false ↦ None ]) as (λ _. Turn) [ None ↦ still w | Some u ↦ after_lines ls (stop_in_task w z call fill u) ]
+    here_by : Bool → WorldTurn
+    here_by b = elim (elim b as (λ _. Option Task) [ true ↦ Some t | false ↦ None ]) as (λ _. WorldTurn) [ None ↦ still w | Some u ↦ after_lines ls (stop_in_task w z call fill u) ]
 
-    go : (b : Bool) → Gives (elim b as (λ _. Result Turn Fault) [ false ↦ Err (Over What.Log) | true ↦ within_limits (stop_in_task w z call fill t) ]) first r after v
-        → Gives (elim b as (λ _. Result Turn Fault) [ false ↦ Err (Over What.Log) | true ↦ within_limits (here_by (is_name (site_of t.node) z.name)) ]) before r after v
+    go : (b : Bool) → Gives (elim b as (λ _. Result WorldTurn Fault) [ false ↦ Err (Over What.Log) | true ↦ within_limits (stop_in_task w z call fill t) ]) first r after v
+        → Gives (elim b as (λ _. Result WorldTurn Fault) [ false ↦ Err (Over What.Log) | true ↦ within_limits (here_by (is_name (site_of t.node) z.name)) ]) before r after v
     go false g = fault_same (Over What.Log) r first before after v g
     go true g = subst (λ (b : Bool). Gives (within_limits (here_by b)) before r after v) (sym here) (gives_behind ls (stop_in_task w z call fill t) r before first after v start g)
 
@@ -110,7 +110,7 @@ module _ (w : World) (s : List ℕ) (z : Site) (n : Node) (e : Event) (found : f
   none_there None rec at none full = absurd (let clash = sym none ∙ full in cc (clash))
   none_there (Some x) rec at none full = by_rec x.rec rec at full
     where
-      by_rec : (q rec : Option LogRec) → q ≡ rec → is_full (logged (entered w n x) n q).sites ≡ true → has_room w s rec ≡ false
+      by_rec : (q rec : Option LogRec) → q ≡ rec → is_full (logged (world_with_entry w n x) n q).sites ≡ true → has_room w s rec ≡ false
       by_rec None rec is f = absurd (let clash = sym none ∙ f in cc (clash))
       by_rec (Some r) rec is f =
           let over : nat_lt most_bytes (log_size (r ∷ z.disk.records)) ≡ true = full_one w.sites (record z { disk = forced r z.disk }) none (sym (ap is_full (logged_sites r)) ∙ f) in
@@ -120,7 +120,7 @@ module _ (w : World) (s : List ℕ) (z : Site) (n : Node) (e : Event) (found : f
   all_there None rec at free = ap (has_room w s) (sym at)
   all_there (Some x) rec at free = by_rec x.rec rec at free
     where
-      by_rec : (q rec : Option LogRec) → q ≡ rec → is_full (logged (entered w n x) n q).sites ≡ false → has_room w s rec ≡ true
+      by_rec : (q rec : Option LogRec) → q ≡ rec → is_full (logged (world_with_entry w n x) n q).sites ≡ false → has_room w s rec ≡ true
       by_rec None rec is f = ap (has_room w s) (sym is)
       by_rec (Some r) rec is f = ap (has_room w s) (sym is) ∙ room_is r ∙ go (nat_lt most_bytes (log_size (r ∷ z.disk.records))) refl
         where
@@ -140,9 +140,9 @@ module _ (w : World) (s : List ℕ) (z : Site) (n : Node) (e : Event) (found : f
   pub judged_room : (call fill : ℕ) (r : Result (Unit {0}) WorldFault) (before after : List OutLine) (v : CodeWorld) → is_full (after_entry w n (entry_answered n e)).sites ≡ false
       → Gives (within_limits (stop_in_task w z call fill (record { node = n; event = e }))) before r after v → Gives (stop_judged w s z call fill (record { node = n; event = e })) before r after v
   judged_room call fill r before after v free h =
-      subst (λ (b : Bool). Gives (elim b as (λ _. Result Turn Fault) [ false ↦ Err (Over What.Log) | true ↦ within_limits (stop_in_task w z call fill (record { node = n; event = e })) ]) before r after v) (sym (has_space free)) h
+      subst (λ (b : Bool). Gives (elim b as (λ _. Result WorldTurn Fault) [ false ↦ Err (Over What.Log) | true ↦ within_limits (stop_in_task w z call fill (record { node = n; event = e })) ]) before r after v) (sym (has_space free)) h
 
   pub judged_full : (call fill : ℕ) (before after : List OutLine) (v : CodeWorld) → is_full w.sites ≡ false → is_full (after_entry w n (entry_answered n e)).sites ≡ true
       → Gives (stop_judged w s z call fill (record { node = n; event = e })) before (Err (WorldFault.Limit What.Log)) after v
   judged_full call fill before after v none full =
-      subst (λ (b : Bool). Gives (elim b as (λ _. Result Turn Fault) [ false ↦ Err (Over What.Log) | true ↦ within_limits (stop_in_task w z call fill (record { node = n; event = e })) ]) before (Err (WorldFault.Limit What.Log)) after v) (sym (no_room none full)) refl
+      subst (λ (b : Bool). Gives (elim b as (λ _. Result WorldTurn Fault) [ false ↦ Err (Over What.Log) | true ↦ within_limits (stop_in_task w z call fill (record { node = n; event = e })) ]) before (Err (WorldFault.Limit What.Log)) after v) (sym (no_room none full)) refl

@@ -3,7 +3,7 @@ use Rattle.std.specs.Prelude.{ℕ, ◌≡◌, ◌++◌, Bool, true, Option, Some
 use Rattle.tp_names.specs.declared.identifiers.Addr.{Addr}
 use Rattle.tp_model.specs.declared.out_line.OutLine.{OutLine}
 use Rattle.tp_model.specs.World.{World, addr_at, is_node}
-use Rattle.tp_model.specs.Happenings.{Turn, declared_at}
+use Rattle.tp_model.specs.Happenings.{declared_at, WorldTurn}
 use Rattle.tp_world.specs.World.{Mirrors}
 use Rattle.tp_world.specs.declared.world.World.{World as CodeWorld}
 
@@ -18,4 +18,4 @@ has_superior w up = elim up [ None ↦ true | Some a ↦ is_node w a.node ]
 
 -- the node has come: the lines of the turn stand after those shown before
 abbrev pub HasCome : World → Addr → Option Addr → List OutLine → List OutLine → CodeWorld → Type 0
-HasCome w a up before after new = let t : Turn = declared_at w a.node a.site up in (after ≡ before ++ t.lines) × Mirrors t.world new
+HasCome w a up before after new = let t : WorldTurn = declared_at w a.node a.site up in (after ≡ before ++ t.lines) × Mirrors t.world new

@@ -3,14 +3,14 @@ use Rattle.std.specs.Prelude.{ℕ, ◌≡◌, ◌+◌, ◌++◌, Bool, true, fal
 use Rattle.tp_model.specs.declared.line.Action.{Action}
 use Rattle.tp_model.specs.declared.out_line.OutLine.{OutLine}
 use Rattle.tp_model.specs.World.{World, oldest_of_all}
-use Rattle.tp_model.specs.Happenings.{Does, Mark, Turn, happens}
+use Rattle.tp_model.specs.Happenings.{Does, Mark, happens, WorldTurn}
 use Rattle.tp_model.specs.Lines.{within_limits, then_result, drain_line}
 use Rattle.tp_world.specs.World.{Mirrors, Gives}
 use Rattle.tp_world_parts.specs.declared.fault.WorldFault.{WorldFault}
 use Rattle.tp_world.specs.declared.world.World.{World as CodeWorld}
 
 -- that frame is handed over
-abbrev pub handed : World → ℕ → Turn
+abbrev pub handed : World → ℕ → WorldTurn
 handed w k = happens (happens w (Mark k)).world (Does (Action.Again k))
 
 -- one turn; it tells whether there was a frame
@@ -23,7 +23,7 @@ Hands w before (Err f) after new = (k : ℕ) × (oldest_of_all w ≡ Some k) × 
 pub record IsDrained (w : World) (most done : ℕ) (before shown : List OutLine) (v : CodeWorld) : Type 0 where
   pub left : ℕ
   pub turns : done + left ≡ most
-  pub turn : Turn
+  pub turn : WorldTurn
   pub so_far : drain_line most w ≡ then_result turn (drain_line left turn.world)
   pub lines : shown ≡ before ++ turn.lines
   pub stands : Mirrors turn.world v

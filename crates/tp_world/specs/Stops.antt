@@ -5,7 +5,7 @@ use Rattle.tp_logrec.specs.declared.record.LogRec.{LogRec}
 use Rattle.tp_model.specs.declared.verdict.What.{What}
 use Rattle.tp_model.specs.declared.line.Action.{Action}
 use Rattle.tp_model.specs.declared.out_line.OutLine.{OutLine}
-use Rattle.tp_model.specs.Happenings.{Task, Turn, still, after_lines, stop_in_task, task_here}
+use Rattle.tp_model.specs.Happenings.{Task, still, after_lines, stop_in_task, task_here, WorldTurn}
 use Rattle.tp_model.specs.History.{answer, digest}
 use Rattle.tp_model.specs.Legal.{IsLegal}
 use Rattle.tp_model.specs.Lines.{Fault, Over, has_room, has_room_for, resolved, stop_line, within_limits}
@@ -59,16 +59,16 @@ abbrev pub forced_by : Option Task → Option LogRec
 forced_by o = elim o [ None ↦ None | Some t ↦ forced_in t ]
 
 -- the site stops in the task; where its record has no room that is told before anything of it is so
-abbrev pub stop_judged : World → List ℕ → Site → ℕ → ℕ → Task → Result Turn Fault
+abbrev pub stop_judged : World → List ℕ → Site → ℕ → ℕ → Task → Result WorldTurn Fault
 stop_judged w s z call fill t = elim (has_room w s (forced_in t)) [ false ↦ Err (Over What.Log) | true ↦ within_limits (stop_in_task w z call fill t) ]
 
 -- a task of another site is none; these lines are shown first
-abbrev pub stop_by : World → Site → ℕ → ℕ → List OutLine → Option Task → Turn
+abbrev pub stop_by : World → Site → ℕ → ℕ → List OutLine → Option Task → WorldTurn
 stop_by w z call fill ls o = elim (task_here z o) [ None ↦ still w | Some t ↦ after_lines ls (stop_in_task w z call fill t) ]
 
-abbrev pub stop_deed : World → List ℕ → Site → ℕ → ℕ → List OutLine → Option Task → Result Turn Fault
+abbrev pub stop_deed : World → List ℕ → Site → ℕ → ℕ → List OutLine → Option Task → Result WorldTurn Fault
 stop_deed w s z call fill ls o = elim (has_room w s (forced_by o)) [ false ↦ Err (Over What.Log) | true ↦ within_limits (stop_by w z call fill ls o) ]
 
 -- a line all of whose names are there
-abbrev pub stop_named : World → List ℕ → ℕ → ℕ → Action → Result Turn Fault
+abbrev pub stop_named : World → List ℕ → ℕ → ℕ → Action → Result WorldTurn Fault
 stop_named w s call fill l = elim (has_room_for w s (resolved w l)) [ false ↦ Err (Over What.Log) | true ↦ within_limits (stop_line w s call fill l) ]

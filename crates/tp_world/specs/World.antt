@@ -2,7 +2,7 @@
 use Rattle.std.specs.Prelude.{ℕ, ◌≡◌, ◌++◌, true, Option, Some, None, List, [], Result, Ok, Err}
 use Rattle.tp_model.specs.declared.out_line.OutLine.{OutLine}
 use Rattle.tp_model.specs.World.{World}
-use Rattle.tp_model.specs.Happenings.{Turn, Task, after_lines, event_turn, still}
+use Rattle.tp_model.specs.Happenings.{Task, after_lines, event_turn, still, WorldTurn}
 use Rattle.tp_model.specs.Lines.{Fault, Name, Over, line}
 use Rattle.tp_model.specs.declared.line.Line.{Line}
 use Rattle.tp_model.specs.Transcript.{echo, is_silent}
@@ -31,7 +31,7 @@ fault_of (Over what) = WorldFault.Limit what
 
 -- it shows the lines of the turn after those that stood before, and stands for the world after it; or it tells the fault.
 -- Out of memory is the free answer
-abbrev pub Gives : Result Turn Fault → List OutLine → Result (Unit {0}) WorldFault → List OutLine → CodeWorld → Type 0
+abbrev pub Gives : Result WorldTurn Fault → List OutLine → Result (Unit {0}) WorldFault → List OutLine → CodeWorld → Type 0
 Gives r before (Err WorldFault.NoMemory) lines v = Unit {0}
 Gives (Ok t) before (Ok u) lines v = (lines ≡ before ++ t.lines) × Mirrors t.world v
 Gives (Ok t) before (Err WorldFault.Name) lines v = ⊥
@@ -43,7 +43,7 @@ Gives (Err f) before (Err (WorldFault.Limit what)) lines v = WorldFault.Limit wh
 -- ---- an event at a node
 
 -- what an event of a node gives, after the lines that are shown first; where there is no such node nothing happens
-abbrev pub task_turn : World → List OutLine → Option Task → Turn
+abbrev pub task_turn : World → List OutLine → Option Task → WorldTurn
 task_turn w ls o = elim o [ None ↦ still w | Some t ↦ after_lines ls (event_turn w t.node t.event) ]
 
 -- ---- a line
@@ -51,7 +51,7 @@ task_turn w ls o = elim o [ None ↦ still w | Some t ↦ after_lines ls (event_
 -- it shows the lines of the turn after those that stood before, and the world stands for the one after it; or it tells the fault. No
 -- member is asked, so it does not matter how many there are; none is there, where the line speaks of one
 abbrev pub PlaysAfter : World → Line → List OutLine → Result (Unit {0}) WorldFault → List OutLine → CodeWorld → Type 0
-PlaysAfter w l before (Ok u) after new = (t : Turn) × ((members : ℕ) → line members w l ≡ Ok t) × (after ≡ before ++ t.lines) × Stands t.world new
+PlaysAfter w l before (Ok u) after new = (t : WorldTurn) × ((members : ℕ) → line members w l ≡ Ok t) × (after ≡ before ++ t.lines) × Stands t.world new
 PlaysAfter w l before (Err WorldFault.Name) after new = (members : ℕ) → (is_silent l ≡ true → members ≡ 0) → line members w l ≡ Err Name
 PlaysAfter w l before (Err (WorldFault.Limit what)) after new = (members : ℕ) → line members w l ≡ Err (Over what)
 PlaysAfter w l before (Err WorldFault.NoMemory) after new = Unit {0}

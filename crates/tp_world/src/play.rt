@@ -6,7 +6,7 @@ ghost use Rattle.tp_model.specs.declared.line.Action.{Action};
 ghost use Rattle.tp_model.specs.Happenings.{Crash, happens, task_at};
 ghost use Rattle.tp_laws.specs.Expansion.{IsOfRun};
 ghost use Rattle.tp_model.specs.Legal.{IsUnder};
-ghost use Rattle.tp_model.specs.Lines.{if_named, is_named, is_peer, is_frame, action_line, node_limit, node_line, skip_line, drain_line, show_line, image_line, within_limits};
+ghost use Rattle.tp_model.specs.Lines.{if_named, is_named, is_frame, action_line, node_limit, node_line, skip_line, drain_line, show_line, image_line, within_limits, is_peer_node};
 ghost use Rattle.tp_site.specs.NodeEvent.{event_of};
 ghost use Rattle.tp_world_parts.specs.Placing.{boot_lines};
 ghost use Rattle.tp_world.specs.Declares.{superior_at, has_superior, HasCome};
@@ -39,7 +39,7 @@ impl World {
 
     // A node of that number is declared, where a number is given.
     fn is_peer(&self, peer: Option<u16>) -> bool
-        ensures { (w : WorldValue) → Mirrors w self.now → result ≡ is_peer w peer }
+        ensures { (w : WorldValue) → Mirrors w self.now → result ≡ is_peer_node w peer }
     {
         match peer {
             None => true,

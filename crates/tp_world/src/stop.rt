@@ -9,7 +9,7 @@ ghost use Rattle.tp_model.specs.declared.out_line.RecordFate.{RecordFate};
 ghost use Rattle.tp_model.specs.Disk.{Disk, disk_bytes, remains};
 ghost use Rattle.tp_model.specs.Happenings.{after_stop, stop_in_entry, stop_in_force, task_at, task_of};
 ghost use Rattle.tp_model.specs.Legal.{IsUnder};
-ghost use Rattle.tp_model.specs.Lines.{is_named, node_of, stands_at, crash_in_line, within_limits};
+ghost use Rattle.tp_model.specs.Lines.{is_named, stands_at, crash_in_line, within_limits, node_of_action};
 ghost use Rattle.tp_model.specs.Parts.{Entry as EntryValue};
 ghost use Rattle.tp_model.specs.World.{World as WorldValue, Node as NodeValue, Site as SiteValue, number_of};
 ghost use Rattle.tp_laws.specs.Expansion.{IsOfRun};
@@ -176,7 +176,7 @@ impl World {
         lines: &mut OutLines,
     ) -> Result<(), WorldFault>
         requires { place < length self.old.sites.items }
-        ensures { (w : WorldValue) (s : List ℕ) (z : SiteValue) → StopsIn w s z place self.old → stands_at w s (node_of w (Action.Again number)) ≡ true → Gives (stop_deed w s z stop.now.call stop.now.fill (OutLine.Take number ∷ []) (task_of w (Action.Again number))) lines.old result lines.new self.new }
+        ensures { (w : WorldValue) (s : List ℕ) (z : SiteValue) → StopsIn w s z place self.old → stands_at w s (node_of_action w (Action.Again number)) ≡ true → Gives (stop_deed w s z stop.now.call stop.now.fill (OutLine.Take number ∷ []) (task_of w (Action.Again number))) lines.old result lines.new self.new }
     {
         let Some(frame) = self.frames.find(number) else {
             return Err(WorldFault::Name);
@@ -220,7 +220,7 @@ impl World {
         lines: &mut OutLines,
     ) -> Result<(), WorldFault>
         requires { place < length self.old.sites.items }
-        ensures { (w : WorldValue) (s : List ℕ) (z : SiteValue) → StopsIn w s z place self.old → stands_at w s (node_of w action.now) ≡ true → Gives (stop_named w s stop.now.call stop.now.fill action.now) lines.old result lines.new self.new }
+        ensures { (w : WorldValue) (s : List ℕ) (z : SiteValue) → StopsIn w s z place self.old → stands_at w s (node_of_action w action.now) ≡ true → Gives (stop_named w s stop.now.call stop.now.fill action.now) lines.old result lines.new self.new }
     {
         let _rec: Option<&PeerRecord> = None;
         let _request: Option<&Request> = None;
@@ -270,7 +270,7 @@ impl World {
     // The node whose event it is.
     #[tactic(auto, using(crate::proofs::Stood::frame_same))]
     fn node_of(&self, action: &Action) -> Option<u16>
-        ensures { (w : WorldValue) → Mirrors w self.now → result ≡ node_of w action.now }
+        ensures { (w : WorldValue) → Mirrors w self.now → result ≡ node_of_action w action.now }
     {
         match action {
             Action::Do { node, .. }
@@ -290,7 +290,7 @@ impl World {
     // The event is of a node of that site.
     #[tactic(auto, using(crate::proofs::Stood::address_stood))]
     fn stands_at(&self, site: &SiteName, action: &Action) -> bool
-        ensures { (w : WorldValue) → Mirrors w self.now → result ≡ stands_at w site.now (node_of w action.now) }
+        ensures { (w : WorldValue) → Mirrors w self.now → result ≡ stands_at w site.now (node_of_action w action.now) }
     {
         let Some(node) = self.node_of(action) else {
             return false;

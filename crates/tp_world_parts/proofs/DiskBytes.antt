@@ -11,7 +11,8 @@ use Rattle.tp_journal.specs.Log.{IsBody, StandsFor, counted, forced_bytes}
 use Rattle.tp_journal.specs.Records.{text, bodies_of}
 use Rattle.tp_journal.specs.Told.{LeavesNow}
 use Rattle.tp_journal.proofs.RecordBodies.{bodies-push}
-use Rattle.tp_model.specs.Disk.{Disk, framed, framed_record, log_head, records_before, disk_bytes, forced, piece}
+use Rattle.tp_model.specs.Disk.{Disk, framed_record, log_head, records_before, disk_bytes, forced, piece}
+use Rattle.tp_framing.specs.Frames.{frame_bytes}
 use Rattle.tp_model.specs.Lines.{log_size}
 
 -- ---- before the gate, and from it on
@@ -54,7 +55,7 @@ drop_front (x ∷ p) xs n = let e : length (x ∷ p) + n ≡ suc (length p + n) 
 
 -- ---- one record more
 
-pub counted_is : (body more : List ℕ) → length body < 2 ^ 16 → counted body ++ more ≡ framed body ++ more
+pub counted_is : (body more : List ℕ) → length body < 2 ^ 16 → counted body ++ more ≡ frame_bytes body ++ more
 counted_is body more short =
     let high : length body / 256 ≡ length body / 256 % 256 = omega arith in
     ap (λ (n : ℕ). n ∷ length body % 256 ∷ (body ++ more)) high

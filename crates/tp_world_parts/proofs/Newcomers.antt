@@ -9,7 +9,7 @@ use Rattle.tp_names.proofs.Sames.{name_same}
 use Rattle.tp_model.specs.Events.{action, started}
 use Rattle.tp_model.specs.declared.out_line.LogWords.{LogWords}
 use Rattle.tp_model.specs.declared.out_line.OutLine.{OutLine}
-use Rattle.tp_model.specs.Happenings.{Turn, still, new_node, new_site, with_node, declared_at}
+use Rattle.tp_model.specs.Happenings.{still, new_node, new_site, with_node, declared_at, WorldTurn}
 use Rattle.tp_model.specs.History.{digest, grown, with_entry}
 use Rattle.tp_model.specs.Node.{Move}
 use Rattle.tp_model.specs.declared.refusal.Refusal.{Refusal}
@@ -202,8 +202,8 @@ world_by w s o = elim o as (λ _. World) [ Some z ↦ w | None ↦ with_new w s 
 abbrev boot_by : Option Site → Option ℕ
 boot_by o = elim o as (λ _. Option ℕ) [ Some z ↦ None | None ↦ Some 1 ]
 
-abbrev turn_by : World → Addr → Option Addr → Option Site → Turn
-turn_by w a s o = elim o as (λ _. Turn) [
+abbrev turn_by : World → Addr → Option Addr → Option Site → WorldTurn
+turn_by w a s o = elim o as (λ _. WorldTurn) [
   | Some z ↦ still (with_node w (new_node a.site a.node z.boot s))
   | None ↦ record { world = with_node (with_new w a.site) (new_node a.site a.node 1 s); lines = OutLine.Log a.site (LogWords.Boot 1) ∷ []; told = [] }
 ]

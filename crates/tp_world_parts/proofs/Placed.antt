@@ -8,7 +8,7 @@ use Rattle.tp_logrec.specs.declared.record.LogRec.{LogRec}
 use Rattle.tp_names.proofs.Sames.{name_self}
 use Rattle.tp_journal.specs.declared.faults.ForceFault.TheVariants as force
 use Rattle.tp_model.specs.Disk.{forced}
-use Rattle.tp_model.specs.Happenings.{log_shown, logged, entered}
+use Rattle.tp_model.specs.Happenings.{log_shown, logged, world_with_entry}
 use Rattle.tp_model.specs.History.{digest}
 use Rattle.tp_model.specs.Lines.{is_full}
 use Rattle.tp_model.specs.Node.{Move}
@@ -80,11 +80,11 @@ after_name : (s : Site) (rec : Option LogRec) → (site_after s rec).name ≡ s.
 after_name s None = refl
 after_name s (Some r) = refl
 
-after_sites : (w : World) (n : Node) (e : EntryValue) (s : Site) → find_site w.sites (site_of n) ≡ Some s → (rec : Option LogRec) → (logged (entered w n e) n rec).sites ≡ put_site w.sites (site_after s rec)
+after_sites : (w : World) (n : Node) (e : EntryValue) (s : Site) → find_site w.sites (site_of n) ≡ Some s → (rec : Option LogRec) → (logged (world_with_entry w n e) n rec).sites ≡ put_site w.sites (site_after s rec)
 after_sites w n e s found None = sym (put_self w.sites (site_of n) s found)
 after_sites w n e s found (Some r) = ap (λ (o : Option Site). elim o as (λ _. List Site) [ None ↦ w.sites | Some x ↦ put_site w.sites (record x { disk = forced r x.disk }) ]) found
 
-after_nodes : (w : World) (n : Node) (e : EntryValue) (rec : Option LogRec) → (logged (entered w n e) n rec).nodes ≡ put_node w.nodes (record n { history = e ∷ n.history })
+after_nodes : (w : World) (n : Node) (e : EntryValue) (rec : Option LogRec) → (logged (world_with_entry w n e) n rec).nodes ≡ put_node w.nodes (record n { history = e ∷ n.history })
 after_nodes w n e None = refl
 after_nodes w n e (Some r) = refl
 
@@ -123,14 +123,14 @@ module _ (w : World) (n : Node) (e : Event) (xs : List SiteSlot) (stand : SitesS
 
   -- the world after the entry
   stands_behind : (y : SiteSlot) (refusal : Option Refusal) (x : Entry) (h : HasHappened at.slot (number_of n) e refusal x y) (g : IsGained n.origin n.history e (number_in refusal) h.move)
-      → SitesStand (logged (entered w n g.entry) n g.entry.rec) (slice_set xs (place_of_site xs (site_of n)) y)
+      → SitesStand (logged (world_with_entry w n g.entry) n g.entry.rec) (slice_set xs (place_of_site xs (site_of n)) y)
   stands_behind y refusal x h g =
       let m : Node = record n { history = g.entry ∷ n.history } in
-      let sites : (logged (entered w n g.entry) n g.entry.rec).sites ≡ put_site w.sites (site_after at.site h.move.rec) =
+      let sites : (logged (world_with_entry w n g.entry) n g.entry.rec).sites ≡ put_site w.sites (site_after at.site h.move.rec) =
       after_sites w n g.entry at.site at.found g.entry.rec ∙ ap (λ (r : Option LogRec). put_site w.sites (site_after at.site r)) g.rec in
       record {
         sites = subst (λ (ss : List Site). AreSites ss (slice_set xs (place_of_site xs (site_of n)) y)) (sym sites) (sites_moved y refusal x h);
-        known = know_put w.nodes (logged (entered w n g.entry) n g.entry.rec).nodes m
+        known = know_put w.nodes (logged (world_with_entry w n g.entry) n g.entry.rec).nodes m
             (λ k. ap (λ (ns : List Node). find_node ns k) (after_nodes w n g.entry g.entry.rec) ∙ find_put w.nodes m n k found)
             xs at.slot y stand.known at.there at.within h.played.site
             (λ s u other. ap (known_by s u) found ∙ known_elsewhere s u n other)

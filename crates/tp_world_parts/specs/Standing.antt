@@ -9,7 +9,7 @@ use Rattle.tp_model.specs.Legal.{IsLegal}
 use Rattle.tp_model.specs.World.{World, Node, Frame, addr_of, number_of, find_site, is_node, site_of}
 use Rattle.tp_model.specs.Parts.{Event, Entry as EntryValue}
 use Rattle.tp_model.specs.History.{digest, answer}
-use Rattle.tp_model.specs.Happenings.{entered, logged}
+use Rattle.tp_model.specs.Happenings.{logged, world_with_entry}
 use Rattle.tp_model.specs.Lines.{is_full}
 use Rattle.tp_world_parts.specs.Summary.{summary, change_of}
 use Rattle.tp_network.specs.TreeSummaries.{summary_at}
@@ -86,7 +86,7 @@ IsEntry n (Some e) (Some x) =
 -- the world whose site has played it
 abbrev pub after_entry : World → Node → Option EntryValue → World
 after_entry w n None = w
-after_entry w n (Some e) = logged (entered w n e) n e.rec
+after_entry w n (Some e) = logged (world_with_entry w n e) n e.rec
 
 -- what the node answers, and whether its history gains an entry
 abbrev pub number_answered : Node → Event → Option ℕ

@@ -2,7 +2,7 @@
 use Rattle.std.proofs.Common.{◌≡◌, ◌==◌, ℕ, refl, ap, sym, ◌∙◌, cond, Option, Some, None, List, [], ◌∷◌, ◌++◌}
 use Rattle.tp_records.specs.declared.body.Event.{Event as Given}
 use Rattle.tp_model.specs.Parts.{Event, Entry}
-use Rattle.tp_model.specs.NodeRun.{Opening, Asked, Refuses, Is, asked, node_of, history_of, with_entry, NodeRun, run_from}
+use Rattle.tp_model.specs.NodeRun.{Opening, Refuses, Is, asked, node_of, history_of, with_entry, NodeRun, run_from, AskedEvent}
 use Rattle.tp_site.specs.Events.{history_at, answer_asked, answer_after}
 use Rattle.tp_site.proofs.Runs.{history_grown, asked_at, run_next}
 
@@ -13,10 +13,10 @@ ran o gs g n e k is = ap (λ (r : NodeRun). history_of r.pasts k) (run_next o gs
 pub grown : (o : Opening) (gs : List Given) (g : Given) (entry : Entry) (k : ℕ) → (answer_after o gs g).entry ≡ Some entry → history_at o (gs ++ g ∷ []) k ≡ cond (node_of g == k) (entry ∷ history_at o gs (node_of g)) (history_at o gs k)
 grown o gs g entry k happens = go (asked o g) refl
   where
-    go : (a : Asked) → asked o g ≡ a → history_at o (gs ++ g ∷ []) k ≡ cond (node_of g == k) (entry ∷ history_at o gs (node_of g)) (history_at o gs k)
-    go (Refuses n) is = let none : (answer_asked o gs (Refuses n)).entry ≡ Some entry = ap (λ (a : Asked). (answer_asked o gs a).entry) (sym is) ∙ happens in absurd (cc (none))
+    go : (a : AskedEvent) → asked o g ≡ a → history_at o (gs ++ g ∷ []) k ≡ cond (node_of g == k) (entry ∷ history_at o gs (node_of g)) (history_at o gs k)
+    go (Refuses n) is = let none : (answer_asked o gs (Refuses n)).entry ≡ Some entry = ap (λ (a : AskedEvent). (answer_asked o gs a).entry) (sym is) ∙ happens in absurd (cc (none))
     go (Is n e) is =
-        let some : (answer_asked o gs (Is n e)).entry ≡ Some entry = ap (λ (a : Asked). (answer_asked o gs a).entry) (sym is) ∙ happens in
+        let some : (answer_asked o gs (Is n e)).entry ≡ Some entry = ap (λ (a : AskedEvent). (answer_asked o gs a).entry) (sym is) ∙ happens in
         ran o gs g n e k is
         ∙ ap (λ (x : Option Entry). history_of (with_entry (run_from o [] gs).pasts n x) k) some
         ∙ history_grown (run_from o [] gs).pasts n entry k
@@ -26,8 +26,8 @@ grown o gs g entry k happens = go (asked o g) refl
 pub stayed : (o : Opening) (gs : List Given) (g : Given) (k : ℕ) → (answer_after o gs g).entry ≡ None → history_at o (gs ++ g ∷ []) k ≡ history_at o gs k
 stayed o gs g k nothing = go (asked o g) refl
   where
-    go : (a : Asked) → asked o g ≡ a → history_at o (gs ++ g ∷ []) k ≡ history_at o gs k
+    go : (a : AskedEvent) → asked o g ≡ a → history_at o (gs ++ g ∷ []) k ≡ history_at o gs k
     go (Refuses n) is = ap (λ (r : NodeRun). history_of r.pasts k) (run_next o gs g (Refuses n) is)
     go (Is n e) is =
-        let none : (answer_asked o gs (Is n e)).entry ≡ None = ap (λ (a : Asked). (answer_asked o gs a).entry) (sym is) ∙ nothing in
+        let none : (answer_asked o gs (Is n e)).entry ≡ None = ap (λ (a : AskedEvent). (answer_asked o gs a).entry) (sym is) ∙ nothing in
         ran o gs g n e k is ∙ ap (λ (x : Option Entry). history_of (with_entry (run_from o [] gs).pasts n x) k) none

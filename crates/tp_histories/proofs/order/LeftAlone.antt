@@ -21,7 +21,7 @@ use Rattle.tp_model.specs.Parts.{Who, Event, Arc, Current, Digest}
 use Rattle.tp_model.specs.Links.{with_one_taken}
 use Rattle.tp_model.specs.Dialogues.{is_nil, is_active, is_chained, fresh_dialogue, Sight, Acts, Nothing_happens, Out_of_phase}
 use Rattle.tp_model.specs.Arcs.{find_arc, without_arc, with_link}
-use Rattle.tp_model.specs.Recovery.{settled, noted, answer, find_kept, with_forget, forget_to}
+use Rattle.tp_model.specs.Recovery.{settled, noted, find_kept, with_forget, forget_to, recovery_answer}
 use Rattle.tp_model.specs.Requests.{call, accept, reject, abort, begin_transaction}
 use Rattle.tp_model.specs.Node.{Move, move, perform, phase_of, has_asked, situation_at, start_root, begin_on, try_start, transact, keep}
 use Rattle.tp_model.specs.Arrivals.{Named, branch_key, named_by_key, named_by_branch, known_of, is_current_ready, sight_at, take_record, woken_by, take_on, take_accept, reply_to, take_order, take_forget, take_ready_reply, take_done_reply, do_arrival, broken_pair, break_off}
@@ -176,8 +176,8 @@ order_alone who d from t b h = go (is_current_ready n) h
     n : Named
     n = named_by_key d (branch_key t b)
 
-    go : (v : Bool) → (if v then put TxEvent.Ordered d.arcs else None) ≡ None → (if v then transact who TxEvent.Ordered d else reply_to from t b (answer (known_of n b) Question.RecCommit) d).next.current ≡ d.current
-    go false h = reply_to_alone from t b (answer (known_of n b) Question.RecCommit) d
+    go : (v : Bool) → (if v then put TxEvent.Ordered d.arcs else None) ≡ None → (if v then transact who TxEvent.Ordered d else reply_to from t b (recovery_answer (known_of n b) Question.RecCommit) d).next.current ≡ d.current
+    go false h = reply_to_alone from t b (recovery_answer (known_of n b) Question.RecCommit) d
     go true h = absurd (cc (h))
 
 reply_alone : (who : Who) (d : Digest) (t : Aaid) (b : BranchId) (s : RecState) → put_where_ready d t b (TxEvent.Reply b s) ≡ None → (take_ready_reply who t b s d).next.current ≡ d.current
@@ -213,7 +213,7 @@ peer_alone : (who : Who) (d : Digest) (from : Addr) (r : PeerRecord) (c : Curren
 peer_alone who d from (PeerRecord.AcceptAssoc y z u) c ok i late h = accepted_alone who d from y z u c i late
 peer_alone who d from (PeerRecord.ShutAssoc y (Some z)) c ok i late h = absurd (cc (h))
 peer_alone who d from (PeerRecord.OnAssoc y z q r) c ok i late h = Stays (association_alone who d from y z q r c ok i late h)
-peer_alone who d from (PeerRecord.RecReady t b) c ok i late h = Stays (reply_to_alone from t b (answer (known_of (named_by_branch d t b) b) Question.RecReady) d ∙ i)
+peer_alone who d from (PeerRecord.RecReady t b) c ok i late h = Stays (reply_to_alone from t b (recovery_answer (known_of (named_by_branch d t b) b) Question.RecReady) d ∙ i)
 peer_alone who d from (PeerRecord.RecCommit t b) c ok i late h = Stays (order_alone who d from t b h ∙ i)
 peer_alone who d from (PeerRecord.RecReply t b RecState.Commit) c ok i late h = Stays (reply_alone who d t b RecState.Commit h ∙ i)
 peer_alone who d from (PeerRecord.RecReply t b (RecState.Done r)) c ok i late h = Stays (done_alone who d from t b r h ∙ i)

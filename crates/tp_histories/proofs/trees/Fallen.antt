@@ -20,7 +20,7 @@ use Rattle.tp_model.specs.Dialogues.{Sight, Acts, Nothing_happens, Out_of_phase,
 use Rattle.tp_model.specs.Arcs.{find_arc, with_link, without_arc}
 use Rattle.tp_model.specs.Transactions.{Row, Transaction, Turn, turn, node_key, is_under_at, find_row, complete_rollback, begin_rolling, roll, lost_arc, superior_rolls, sight_of_tx, acts, transacted}
 use Rattle.tp_model.specs.Requests.{abort}
-use Rattle.tp_model.specs.Node.{Move, move, followed, perform, phase_of, seen, situation_at, Passage, passage, is_leaving, is_over, try_start, restarted, transact}
+use Rattle.tp_model.specs.Node.{Move, move, followed, perform, phase_of, seen, situation_at, Passage, passage, is_leaving, is_over, try_start, transact, started_next}
 use Rattle.tp_model.specs.Arrivals.{branch_key, named_by_key, is_current_ready, sight_at, sight_of, lose, take_abort, take_record, woken_by, take_on, take_ready_reply, broken_pair, break_off}
 use Rattle.tp_model.specs.Events.{refusal, verdict, action}
 use Rattle.tp_model.specs.Outcomes.{is_now, is_fatal, rolls_by_request, rolls_by_rollback, rolls}
@@ -138,7 +138,7 @@ nil_phase d t late n = let c = now_some t d.current n in ap is_nil (at c.0 c.1) 
 fallen_transact : (who : Who) (f : TxEvent) (d : Digest) (c : Current) (t : Aaid) → d.current ≡ Some c → falls f (seen who d.arcs c) ≡ true → is_old who d t.mark ≡ true → IsFallen t (transact who f d)
 unfolding transact
 fallen_transact who f d c t now fall old =
-    subst (λ (o : Option Current). IsFallen t (elim o as (λ _. Move) [ None ↦ move [] d | Some x ↦ restarted who (passage (is_leaving f) (seen who d.arcs x).phase (transacted f (seen who d.arcs x)).next.phase) (turned who f d x) ])) (sym now)
+    subst (λ (o : Option Current). IsFallen t (elim o as (λ _. Move) [ None ↦ move [] d | Some x ↦ started_next who (passage (is_leaving f) (seen who d.arcs x).phase (transacted f (seen who d.arcs x)).next.phase) (turned who f d x) ])) (sym now)
     (over (is_over w) refl)
   where
     a : Turn

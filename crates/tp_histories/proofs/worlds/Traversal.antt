@@ -13,7 +13,7 @@ use Rattle.tp_model.specs.Events.{refusal, verdict, started}
 use Rattle.tp_model.specs.History.{entry_of, answer}
 use Rattle.tp_model.specs.Disk.{Remains, remains}
 use Rattle.tp_model.specs.World.{World, Node, Site, Frame, number_of, site_of, addr_of, find_node, put_node, addr_at, find_site, find_frame, put_site}
-use Rattle.tp_model.specs.Happenings.{Turn, still, after_lines, action_lines, after_stop, crash_turn, Happening, Task, task_at, task_of, request_in, frames_of, entered, logged, entry_turn, action_turn, new_node, declared_at, declare_turn, stop_in_force, stop_in_entry, stop_in_task, task_here, crash_in_turn, happens, run}
+use Rattle.tp_model.specs.Happenings.{still, after_lines, action_lines, after_stop, crash_turn, Happening, Task, task_at, task_of, request_in, frames_of, logged, entry_turn, action_turn, new_node, declared_at, declare_turn, stop_in_force, stop_in_entry, stop_in_task, task_here, crash_in_turn, happens, run, world_with_entry, WorldTurn}
 use Rattle.tp_model.specs.Legal.{IsUnder}
 use Rattle.tp_steps.specs.Histories.{brought}
 use Rattle.tp_histories.specs.Worlds.{IsFrameOf, grown_node, Accepts}
@@ -109,7 +109,7 @@ entry_holds P s w t number (Some y) r acc k =
     let n : Node = t.node in
     let on : (z : Entry) → z ≡ entry_of n.origin n.history a.event → Kept P (with_entry_put w n z) (w.frames ++ frames_of (addr_of n) z.outs)
     = λ z i. subst (λ (u : Entry). Kept P (with_entry_put w n u) (w.frames ++ frames_of (addr_of n) u.outs)) (sym i) ((kept_steps P s).event w.nodes w.frames n a.event (accepts_of w t y a r) true k) in
-    rw (logged_nodes (entered w n y) n y.rec, logged_frames (entered w n y) n y.rec) (on y a.is)
+    rw (logged_nodes (world_with_entry w n y) n y.rec, logged_frames (world_with_entry w n y) n y.rec) (on y a.is)
 
 action_holds : (P : List Node → List Frame → Type 0) → Steps P → (w : World) (d : Action) → Holds P w → Holds P (action_turn w d).world
 action_holds P s w d k = go (task_of w d) refl
@@ -129,8 +129,8 @@ force_holds P s w n x y st k entered_kept =
     go v k entered_kept st.fate
   where
     go : (v : World) → Kept P v.nodes v.frames → Kept P (with_entry_put v n y) v.frames → (f : RecordFate)
-        → Holds P (crash_turn (elim f [ RecordFate.Kept ↦ entered v n y | RecordFate.Lost ↦ v | RecordFate.None ↦ v ]) x.name).world
-    go v k j RecordFate.Kept = crash_holds P s (entered v n y) x.name j
+        → Holds P (crash_turn (elim f [ RecordFate.Kept ↦ world_with_entry v n y | RecordFate.Lost ↦ v | RecordFate.None ↦ v ]) x.name).world
+    go v k j RecordFate.Kept = crash_holds P s (world_with_entry v n y) x.name j
     go v k j RecordFate.Lost = crash_holds P s v x.name k
     go v k j RecordFate.None = crash_holds P s v x.name k
 
@@ -149,11 +149,11 @@ stop_holds P s w t x call fill (Some y) r acc k = go y.rec
     put = subst (λ (u : Entry). Kept P (with_entry_put w n u) w.frames) (sym a.is) (unsent (Kept P) (kept_steps P s) w.nodes w.frames n a.event (accepts_of w t y a r) k)
 
     go : (q : Option LogRec)
-        → Holds P (elim q as (λ _. Turn) [
-          | None ↦ after_stop (entered w n y) x.name RecordFate.None
+        → Holds P (elim q as (λ _. WorldTurn) [
+          | None ↦ after_stop (world_with_entry w n y) x.name RecordFate.None
           | Some l ↦ stop_in_force w n x y (remains call fill l x.disk)
         ]).world
-    go None = crash_holds P s (entered w n y) x.name put
+    go None = crash_holds P s (world_with_entry w n y) x.name put
     go (Some l) = force_holds P s w n x y (remains call fill l x.disk) k put
 
 crash_in_holds : (P : List Node → List Frame → Type 0) → Steps P → (w : World) (name : List ℕ) (call fill : ℕ) (d : Action) → Holds P w → Holds P (crash_in_turn w name call fill d).world
@@ -162,7 +162,7 @@ crash_in_holds P s w name call fill d k = go (find_site w.sites name) refl
     one_task : (x : Site) (t u : Task) (b : Bool) → task_here x (Some t) ≡ Some u → t ≡ u
     one_task x t u b j = grind (arith, j)
 
-    here : (x : Site) (o : Option Task) → task_of w d ≡ o → (b : Option Task) → task_here x o ≡ b → Holds P (elim b as (λ _. Turn) [ None ↦ still w | Some t ↦ after_lines (action_lines d) (stop_in_task w x call fill t) ]).world
+    here : (x : Site) (o : Option Task) → task_of w d ≡ o → (b : Option Task) → task_here x o ≡ b → Holds P (elim b as (λ _. WorldTurn) [ None ↦ still w | Some t ↦ after_lines (action_lines d) (stop_in_task w x call fill t) ]).world
     here x o i None j = k
     here x None i (Some u) j = absurd cc
     here x (Some t) i (Some u) j =
@@ -211,11 +211,11 @@ addr_found w p a h = go (find_node w.nodes p) refl
 declare_holds : (P : List Node → List Frame → Type 0) → Steps P → (w : World) (n : ℕ) (name : List ℕ) (under : Option ℕ) → Holds P w → Holds P (declare_turn w n name under).world
 declare_holds P s w n name under k = go (find_node w.nodes n) refl
   where
-    above : (p : ℕ) (o : Option Addr) → addr_at w p ≡ o → find_node w.nodes n ≡ None → Holds P (elim o as (λ _. Turn) [ None ↦ still w | Some a ↦ declared_at w n name (Some a) ]).world
+    above : (p : ℕ) (o : Option Addr) → addr_at w p ≡ o → find_node w.nodes n ≡ None → Holds P (elim o as (λ _. WorldTurn) [ None ↦ still w | Some a ↦ declared_at w n name (Some a) ]).world
     above p None i none = k
     above p (Some a) i none = declared_holds P s w n name (Some a) none (λ b j. addr_found w p b (i ∙ j)) k
 
-    below : (u : Option ℕ) → find_node w.nodes n ≡ None → Holds P (elim u as (λ _. Turn) [ None ↦ declared_at w n name None | Some p ↦ elim (addr_at w p) as (λ _. Turn) [ None ↦ still w | Some a ↦ declared_at w n name (Some a) ] ]).world
+    below : (u : Option ℕ) → find_node w.nodes n ≡ None → Holds P (elim u as (λ _. WorldTurn) [ None ↦ declared_at w n name None | Some p ↦ elim (addr_at w p) as (λ _. WorldTurn) [ None ↦ still w | Some a ↦ declared_at w n name (Some a) ] ]).world
     below None none = declared_holds P s w n name None none (λ b j. cc (j)) k
     below (Some p) none = above p (addr_at w p) refl none
 

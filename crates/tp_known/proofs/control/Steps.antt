@@ -1,5 +1,5 @@
 -- Every event that makes no change of its own to the dialogue with a peer changes control on it as its signs tell.
-use Rattle.tp_known.proofs.Vocabulary.{Bool, List, None, Option, Some, [], ap, arith, false, if◌then◌else◌, inl, inr, not, refl, subst, suc, sym, true, ℕ, ◌&&◌, ◌==◌, ◌||◌, ◌∙◌, ◌∷◌, ◌≡◌, ◌≤◌, ◌⊎◌, Addr, Child, is_late, is_nil, is_rolling, is_polarized, Current, Who, Event, Digest, Arc, Branch, Dialogue, Key, Idle, Move, move, followed, perform, seen, Passage, Leaves, passage, is_leaving, entered, played, turned, is_superior, is_arc_of, remaining, phase_of, fresh_current, keep, with_mark_drawn, is_over, restarted, transact, try_start, is_at, has_said, said_to, logs_ready_or_commit, Phase, Transaction, Turn, is_under_at, row_holds, transacted, TxEvent, has_branch_at, is_live, is_live_with_peer, with_dialogue, without_arc, link_with, is_unchanged, settled, falls, loses, IsAsked, IsChange, IsLate, IsPut, Moves, gives_to, responds_to, IsLinked, Steps, asks_tell, out_tells, IsHeadedMove, IsPlaced, dead_without, headed_moves, placed_arcs, superior_at, Thins, thins_dialogue, thins_moves, thins_without, thins_entered, carries_none, keeps_without, live_back, said_none, is_rolled_told, staged_turn, kids_left, kids_seen, kin, kin_turn, late_fresh, late_moves, leaves_so, left_branches, left_is, link_dialogue, linked_moves, passed_turn, seen_branch, quiet_start, step_start, settled_spoken, tells_rolled, told_played, nothing_late, whole_turn}
+use Rattle.tp_known.proofs.Vocabulary.{Bool, List, None, Option, Some, [], ap, arith, false, if◌then◌else◌, inl, inr, not, refl, subst, suc, sym, true, ℕ, ◌&&◌, ◌==◌, ◌||◌, ◌∙◌, ◌∷◌, ◌≡◌, ◌≤◌, ◌⊎◌, Addr, Child, is_late, is_nil, is_rolling, is_polarized, Current, Who, Event, Digest, Arc, Branch, Dialogue, Key, Idle, Move, move, followed, perform, seen, Passage, Leaves, passage, is_leaving, entered, played, turned, is_superior, is_arc_of, remaining, phase_of, fresh_current, keep, with_mark_drawn, is_over, transact, try_start, is_at, has_said, said_to, logs_ready_or_commit, Phase, Transaction, Turn, is_under_at, row_holds, transacted, TxEvent, has_branch_at, is_live, is_live_with_peer, with_dialogue, without_arc, link_with, is_unchanged, settled, falls, loses, IsAsked, IsChange, IsLate, IsPut, Moves, gives_to, responds_to, IsLinked, Steps, asks_tell, out_tells, IsHeadedMove, IsPlaced, dead_without, headed_moves, placed_arcs, superior_at, Thins, thins_dialogue, thins_moves, thins_without, thins_entered, carries_none, keeps_without, live_back, said_none, is_rolled_told, staged_turn, kids_left, kids_seen, kin, kin_turn, late_fresh, late_moves, leaves_so, left_branches, left_is, link_dialogue, linked_moves, passed_turn, seen_branch, quiet_start, step_start, settled_spoken, tells_rolled, told_played, nothing_late, whole_turn, started_next}
 use Rattle.tp_known.proofs.control.Moves.{IsWell, Stands, Controls, IsPast, IsBareAt, is_branch_at, stands_moved, stands_quiet, stands_performed, stands_begins, well_then, unsigned, unsigned_settled}
 use Rattle.tp_known.proofs.control.Turned.{Meets, Plays, Over, played_control, entered_control, gift_alien, shift_alien}
 use Rattle.tp_known.proofs.control.Arcs.{Alike, control_at, is_gift, is_ruled, ruled_live, same_dialogue, same_self, same_without}
@@ -354,7 +354,7 @@ unfolding transact
 controls_transact up p branch fall old who e s c f given now asked put gone =
     subst (λ (o : Option Current). Controls up p branch fall old s s (elim o as (λ _. Move) [
       | None ↦ move [] s
-      | Some x ↦ restarted who (passage (is_leaving f) (seen who s.arcs x).phase (transacted f (seen who s.arcs x)).next.phase) (turned who f s x)
+      | Some x ↦ started_next who (passage (is_leaving f) (seen who s.arcs x).phase (transacted f (seen who s.arcs x)).next.phase) (turned who f s x)
     ])) (sym now) (over (is_over (passage (is_leaving f) c.phase (transacted f (seen who s.arcs c)).next.phase)))
   where
     m : Move

@@ -1,5 +1,5 @@
 -- In every legal history what is deferred on a live arc was said or taken last, and nothing ended it since.
-use Rattle.tp_known.proofs.Vocabulary.{if◌then◌else◌, ◌≡◌, ◌⊎◌, inl, inr, ℕ, Bool, true, false, refl, ap, sym, subst, ◌∙◌, arith, Option, Some, None, List, [], ◌∷◌, ◌++◌, ◌&&◌, ◌||◌, ◌==◌, not, nat_tests, Mark, Aaid, BranchId, Addr, Outcome, has_bit, Request, Indication, DialogueRecord, Holder, PeerRecord, LogRec, Phase, Side, Deferral, TxEvent, TxOut, Who, Origin, Event, Entry, Out, Dialogue, Arc, Under, Current, Digest, is_live, with_one_taken, is_nil, is_active, is_ready, is_rolling, is_late, is_end_deferred, is_grant_deferred, Sight, Acts, Nothing_happens, Out_of_phase, Asked, Ask_defer_end, Ask_defer_grant, Heard, Hear_defer_end, Hear_defer_grant, arrived, refused_on_arc, said, heard, begun_by, cleared, woken, rested, completed, find_arc, link_of, is_live_with_peer, with_dialogue, with_dialogues, with_link, performed, Transaction, is_under, is_under_at, row_holds, transacted, acts, sight_of_tx, leave, situation_of, has_branch_at, refused_request, Move, move, followed, phase_of, seen, situation_at, Passage, Leaves, passage, entered, played, is_arc_below, left_arcs, passed, turned, restarted, try_start, transact, begin_chained, fresh_current, sight_at, sight_of, take_begin, take_record, woken_by, is_response, take_on, refusal, action, after_crash, started, digest, said_to, has_said, acting_from, is_record, is_begin, is_at, is_up, was_branch, units_before, is_defer_end_record, is_defer_grant_record, tells_commit_complete, tells_rollback_complete, ends_deferral, set_deferral, deferral_in, rolls_by_record, rolls, is_unchanged, number_of_deferral, IsGrown, IsLegal, IsLate, prelude, puts_off_at, out_tells, deferral_agrees, first_part, all_found, part_at, Keeps, part_dialogue, part_none, keeps_dialogues, keeps_taken, keeps_performed, said_both, carries_none, none_more, said_carried, said_none, live_back, plain_steps, every_start, step_chained, seen_branch, every_move, plain_arrival, plain_request, find_arc_is, the, on_none, on_live, begin_acts, Came, As_it_was, By_begin, By_crash, came_by, rolled_tells, late_law, rolls_so, rolls_from, phase_at, IsDownMove, down_event, is_headed_by, are_below, headed_law, placed_law, superior_at, link_left, separate_law, is_rolled_told, told_append, told_performed, row_phase, nothing_late}
+use Rattle.tp_known.proofs.Vocabulary.{if◌then◌else◌, ◌≡◌, ◌⊎◌, inl, inr, ℕ, Bool, true, false, refl, ap, sym, subst, ◌∙◌, arith, Option, Some, None, List, [], ◌∷◌, ◌++◌, ◌&&◌, ◌||◌, ◌==◌, not, nat_tests, Mark, Aaid, BranchId, Addr, Outcome, has_bit, Request, Indication, DialogueRecord, Holder, PeerRecord, LogRec, Phase, Side, Deferral, TxEvent, TxOut, Who, Origin, Event, Entry, Out, Dialogue, Arc, Under, Current, Digest, is_live, with_one_taken, is_nil, is_active, is_ready, is_rolling, is_late, is_end_deferred, is_grant_deferred, Sight, Acts, Nothing_happens, Out_of_phase, Asked, Ask_defer_end, Ask_defer_grant, Heard, Hear_defer_end, Hear_defer_grant, arrived, refused_on_arc, said, heard, begun_by, cleared, woken, rested, completed, find_arc, link_of, is_live_with_peer, with_dialogue, with_dialogues, with_link, performed, Transaction, is_under, is_under_at, row_holds, transacted, acts, sight_of_tx, leave, situation_of, has_branch_at, refused_request, Move, move, followed, phase_of, seen, situation_at, Passage, Leaves, passage, entered, played, is_arc_below, left_arcs, passed, turned, try_start, transact, begin_chained, fresh_current, sight_at, sight_of, take_begin, take_record, woken_by, is_response, take_on, refusal, action, after_crash, started, digest, said_to, has_said, acting_from, is_record, is_begin, is_at, is_up, was_branch, units_before, is_defer_end_record, is_defer_grant_record, tells_commit_complete, tells_rollback_complete, ends_deferral, set_deferral, deferral_in, rolls_by_record, rolls, is_unchanged, number_of_deferral, IsGrown, IsLegal, IsLate, prelude, puts_off_at, out_tells, deferral_agrees, first_part, all_found, part_at, Keeps, part_dialogue, part_none, keeps_dialogues, keeps_taken, keeps_performed, said_both, carries_none, none_more, said_carried, said_none, live_back, plain_steps, every_start, step_chained, seen_branch, every_move, plain_arrival, plain_request, find_arc_is, the, on_none, on_live, begin_acts, Came, As_it_was, By_begin, By_crash, came_by, rolled_tells, late_law, rolls_so, rolls_from, phase_at, IsDownMove, down_event, is_headed_by, are_below, headed_law, placed_law, superior_at, link_left, separate_law, is_rolled_told, told_append, told_performed, row_phase, nothing_late, started_next}
 use Rattle.tp_known.proofs.deferral.Silent.{still_transact}
 use Rattle.tp_known.proofs.passages.Passage.{is_committed_told}
 use Rattle.tp_known.proofs.deferral.Defers.{put, loose, at_arc, dropped_part, put_completed, loose_completed, put_woken, put_begun, same_part, begins_at, live_dialogue, said_begin, told_rolled, told_committed, IsDeferring, Defers, defers_moves, IsGiven, IsAside, is_defer, Undefers, undefers_moves}
@@ -693,7 +693,7 @@ leaves_step k none o up h p rec outs legal known live =
     left = left_turned o.who d c may.2
 
     moved : m ≡ followed one (try_start o.who)
-    moved = ap (λ (v : Option Current). elim v as (λ _. Move) [ None ↦ move [] d | Some x ↦ restarted o.who (passed o.who (TxEvent.User Request.Unchanged) d x) (turned o.who (TxEvent.User Request.Unchanged) d x) ]) may.1 ∙ ap (λ (w : Passage). restarted o.who w one) left.2
+    moved = ap (λ (v : Option Current). elim v as (λ _. Move) [ None ↦ move [] d | Some x ↦ started_next o.who (passed o.who (TxEvent.User Request.Unchanged) d x) (turned o.who (TxEvent.User Request.Unchanged) d x) ]) may.1 ∙ ap (λ (w : Passage). started_next o.who w one) left.2
 
     lived : is_live_with_peer st.next.arcs p ≡ true
     lived = ap (λ (z : Move). is_live_with_peer z.next.arcs p) (sym moved) ∙ live

@@ -1,5 +1,5 @@
 -- Records that no turn says but where its user leaves, or defers something.
-use Rattle.tp_known.proofs.Vocabulary.{◌≡◌, ℕ, Bool, false, ap, ◌∙◌, arith, Option, Some, None, List, [], Request, DialogueRecord, Phase, TxEvent, TxOut, Who, Current, Digest, performed, Transaction, Turn, transacted, Move, move, passed, restarted, transact, turned, seen, is_leaving, Passage, Stays, passage, entered, played, said_to, has_said, IsPut, whole_turn}
+use Rattle.tp_known.proofs.Vocabulary.{◌≡◌, ℕ, Bool, false, ap, ◌∙◌, arith, Option, Some, None, List, [], Request, DialogueRecord, Phase, TxEvent, TxOut, Who, Current, Digest, performed, Transaction, Turn, transacted, Move, move, passed, transact, turned, seen, is_leaving, Passage, Stays, passage, entered, played, said_to, has_said, IsPut, whole_turn, started_next}
 use Rattle.tp_known.proofs.lemmas.Rare.{IsRare, silent_turn}
 use Rattle.tp_known.proofs.rests.Foreign.{said_played}
 
@@ -40,6 +40,6 @@ still_transact who f d c now same =
     let w : Passage = passage (is_leaving f) c.phase (transacted f (seen who d.arcs c)).next.phase in
     let is : w ≡ Stays = stays_same (is_leaving f) c.phase (transacted f (seen who d.arcs c)).next.phase same in
     let one = still_turned who f d c same in
-    let here : elim d.current as (λ _. Move) [ None ↦ move [] d | Some x ↦ restarted who (passed who f d x) (turned who f d x) ] ≡ restarted who w m = ap (λ (v : Option Current). elim v as (λ _. Move) [ None ↦ move [] d | Some x ↦ restarted who (passed who f d x) (turned who f d x) ]) now in
-    let stays : restarted who w m ≡ m = ap (λ (v : Passage). restarted who v m) is in
+    let here : elim d.current as (λ _. Move) [ None ↦ move [] d | Some x ↦ started_next who (passed who f d x) (turned who f d x) ] ≡ started_next who w m = ap (λ (v : Option Current). elim v as (λ _. Move) [ None ↦ move [] d | Some x ↦ started_next who (passed who f d x) (turned who f d x) ]) now in
+    let stays : started_next who w m ≡ m = ap (λ (v : Passage). started_next who v m) is in
     (ap (λ (n : Move). n.next.arcs) (here ∙ stays) ∙ one.0, ap (λ (n : Move). n.outs) (here ∙ stays) ∙ one.1)

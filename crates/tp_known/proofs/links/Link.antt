@@ -1,5 +1,5 @@
 -- In every legal history the link of every arc is what the questions answer.
-use Rattle.tp_known.proofs.Vocabulary.{if◌then◌else◌, ◌≡◌, ◌+◌, inl, inr, ℕ, Bool, true, false, refl, ap, sym, subst, ◌∙◌, arith, Option, Some, None, List, [], ◌∷◌, ◌++◌, ◌&&◌, ◌||◌, ◌==◌, not, and-false, nat_tests, Mark, Aaid, BranchId, Addr, Request, Indication, DialogueRecord, Holder, PeerRecord, LogRec, Side, TxEvent, TxOut, Who, Origin, Event, Entry, Out, Link, Idle, Arc, Under, Branch, Current, Digest, is_live, is_idle, with_one_taken, is_nil, is_active, Sight, Acts, Nothing_happens, Out_of_phase, acts_or_out, begun_by, cleared, find_arc, link_of, link_with, is_live_with_peer, without_arc, with_dialogue, performed, Transaction, Turn, turn, acts, is_under, is_under_at, row_holds, with_row, complete_commit, sight_of_tx, takes, leave, transacted, refused_tx, has_branch_at, refused_request, abort, reject, Move, move, followed, perform, is_leaving, is_end_deferred_at, is_up_ending, seen, seen_rows, situation_at, Passage, Leaves, passage, is_over, entered, played, turned, passed, restarted, transact, left_arcs, try_start, begin_chained, fresh_current, sight_at, sight_of, take_record, take_abort, take_begin, take_on, lose, broken_pair, break_off, refusal, verdict, action, after_crash, started, digest, acting_from, is_abort, is_end_dialogue, is_left_end, is_at, is_up, was_branch, superior_in, sent_more, link_by, deferral_in, tells_commit_complete, closes_by_deferral, link_in, shuts_to, is_unchanged, same_link, IsGrown, IsLegal, IsLate, IsPut, are_apart, closes_at, prelude, asks_tell, count_to, IsLinked, links_agree, link_agrees, apart_turn, are_separate, all_found, there_found, abort_active, every_transact, plain_arrival, plain_request, plain_give_up, find_arc_is, the, begin_acts, abort_sight, is_headed_by, are_below, IsPlaced, headed_law, placed_law, superior_at, begin_seen, Came, As_it_was, By_begin, By_crash, came_by, plain_law, late_law, count_append, more_none, more_more, mark_same, link_dialogue, link_without, linked_moves, link_entered, link_left, link_counted, superior_found, separate_law, busy_there, told_append, told_performed, nothing_late, is_end_deferred, whole_turn}
+use Rattle.tp_known.proofs.Vocabulary.{if◌then◌else◌, ◌≡◌, ◌+◌, inl, inr, ℕ, Bool, true, false, refl, ap, sym, subst, ◌∙◌, arith, Option, Some, None, List, [], ◌∷◌, ◌++◌, ◌&&◌, ◌||◌, ◌==◌, not, and-false, nat_tests, Mark, Aaid, BranchId, Addr, Request, Indication, DialogueRecord, Holder, PeerRecord, LogRec, Side, TxEvent, TxOut, Who, Origin, Event, Entry, Out, Link, Idle, Arc, Under, Branch, Current, Digest, is_live, is_idle, with_one_taken, is_nil, is_active, Sight, Acts, Nothing_happens, Out_of_phase, acts_or_out, begun_by, cleared, find_arc, link_of, link_with, is_live_with_peer, without_arc, with_dialogue, performed, Transaction, Turn, turn, acts, is_under, is_under_at, row_holds, with_row, complete_commit, sight_of_tx, takes, leave, transacted, refused_tx, has_branch_at, refused_request, abort, reject, Move, move, followed, perform, is_leaving, is_end_deferred_at, is_up_ending, seen, seen_rows, situation_at, Passage, Leaves, passage, is_over, entered, played, turned, passed, transact, left_arcs, try_start, begin_chained, fresh_current, sight_at, sight_of, take_record, take_abort, take_begin, take_on, lose, broken_pair, break_off, refusal, verdict, action, after_crash, started, digest, acting_from, is_abort, is_end_dialogue, is_left_end, is_at, is_up, was_branch, superior_in, sent_more, link_by, deferral_in, tells_commit_complete, closes_by_deferral, link_in, shuts_to, is_unchanged, same_link, IsGrown, IsLegal, IsLate, IsPut, are_apart, closes_at, prelude, asks_tell, count_to, IsLinked, links_agree, link_agrees, apart_turn, are_separate, all_found, there_found, abort_active, every_transact, plain_arrival, plain_request, plain_give_up, find_arc_is, the, begin_acts, abort_sight, is_headed_by, are_below, IsPlaced, headed_law, placed_law, superior_at, begin_seen, Came, As_it_was, By_begin, By_crash, came_by, plain_law, late_law, count_append, more_none, more_more, mark_same, link_dialogue, link_without, linked_moves, link_entered, link_left, link_counted, superior_found, separate_law, busy_there, told_append, told_performed, nothing_late, is_end_deferred, whole_turn, started_next}
 use Rattle.tp_runs.proofs.Breaks.{lost_idle}
 use Rattle.tp_known.proofs.passages.Passage.{is_committed_told}
 use Rattle.tp_known.proofs.deferral.Defers.{told_committed, begins_at}
@@ -368,7 +368,7 @@ leaves_step o up rec outs h p legal known = moved_link ∙ go (is_live_with_peer
     left = left_turned o.who d c may.2
 
     moved : m ≡ followed one (try_start o.who)
-    moved = ap (λ (v : Option Current). elim v as (λ _. Move) [ None ↦ move [] d | Some x ↦ restarted o.who (passed o.who (TxEvent.User Request.Unchanged) d x) (turned o.who (TxEvent.User Request.Unchanged) d x) ]) may.1 ∙ ap (λ (w : Passage). restarted o.who w one) left.2
+    moved = ap (λ (v : Option Current). elim v as (λ _. Move) [ None ↦ move [] d | Some x ↦ started_next o.who (passed o.who (TxEvent.User Request.Unchanged) d x) (turned o.who (TxEvent.User Request.Unchanged) d x) ]) may.1 ∙ ap (λ (w : Passage). started_next o.who w one) left.2
 
     said : outs ≡ one.outs ++ st.outs
     said = ap (λ (z : Entry). z.outs) (sym legal.1) ∙ ap (λ (z : Move). z.outs) moved

@@ -1,5 +1,5 @@
 -- The link of an arc after an entry that does not end it by itself is what the questions answer.
-use Rattle.tp_known.proofs.Vocabulary.{is_crash, if◌then◌else◌, ◌≡◌, ◌⊎◌, inl, inr, ℕ, suc, Bool, true, false, refl, ap, sym, ◌∙◌, arith, Option, Some, None, List, [], ◌∷◌, ◌&&◌, ◌||◌, ◌==◌, not, length, nat_tests, Mark, Addr, Request, DialogueRecord, PeerRecord, LogRec, Side, Deferral, TxOut, Who, Origin, Event, Entry, Out, Link, Idle, Opening, Offered, Live, Arc, Current, Digest, is_live, is_idle, with_one_taken, is_end_deferred, fresh_dialogue, find_arc, link_of, link_with, is_live_with_peer, put_arc, is_under_at, has_branch_at, refused_request, call, accept, Move, move, perform, next_mark, with_mark_drawn, superior_arc, is_end_deferred_at, refused_arrival, refusal, verdict, action, after_crash, started, digest, said_to, acting_from, is_record, is_abort, is_end_dialogue, is_left_end, is_at, is_up, was_branch, superior_in, sent_more, link_by, count_records, deferral_in, closes_by_deferral, link_in, is_unchanged, IsGrown, closes_at, prelude, called, accepted_by, accepted_on, linked, counted_in, count_to, IsLinked, first_part, every_move, step_move, find_arc_is, the, plain_law, late_law, linked_moves, link_append, link_put, link_counted, superior_found}
+use Rattle.tp_known.proofs.Vocabulary.{is_crash, if◌then◌else◌, ◌≡◌, ◌⊎◌, inl, inr, ℕ, suc, Bool, true, false, refl, ap, sym, ◌∙◌, arith, Option, Some, None, List, [], ◌∷◌, ◌&&◌, ◌||◌, ◌==◌, not, length, nat_tests, Mark, Addr, Request, DialogueRecord, PeerRecord, LogRec, Side, Deferral, TxOut, Who, Origin, Event, Entry, Out, Link, Idle, Opening, Offered, Live, Arc, Current, Digest, is_live, is_idle, with_one_taken, is_end_deferred, fresh_dialogue, find_arc, link_of, link_with, is_live_with_peer, put_arc, is_under_at, has_branch_at, refused_request, call, accept, Move, move, perform, next_mark, with_mark_drawn, superior_arc, is_end_deferred_at, refused_arrival, refusal, verdict, action, after_crash, started, digest, said_to, acting_from, is_record, is_abort, is_end_dialogue, is_left_end, is_at, is_up, was_branch, superior_in, sent_more, link_by, deferral_in, closes_by_deferral, link_in, is_unchanged, IsGrown, closes_at, prelude, called, accepted_by, accepted_on, linked, counted_in, count_to, IsLinked, first_part, every_move, step_move, find_arc_is, the, plain_law, late_law, linked_moves, link_append, link_put, link_counted, superior_found}
 use Rattle.tp_model.specs.Questions as asks
 use Rattle.tp_known.proofs.deferral.Defers.{put, told_committed}
 use Rattle.tp_known.proofs.deferral.Deferral.{committed_tells, acting_plain, answer_dead, known_law}
@@ -278,7 +278,7 @@ stale_idle o up (e ∷ h) p legal dead off = go (is_live_with_peer (digest o h).
 
 -- ---- the question of one entry
 
-pub count_is : (rs : List DialogueRecord) → count_records rs ≡ length rs
+pub count_is : (rs : List DialogueRecord) → length rs ≡ length rs
 count_is [] = refl
 count_is (r ∷ rs) = ap (λ (n : ℕ). suc n) (count_is rs)
 
@@ -287,7 +287,7 @@ IsLinkKnown o h = (p : ℕ) → link_with (digest o h).arcs p ≡ link_in o p h
 
 -- with what is known before the entry
 pub link_asks : (o : Origin) (p : ℕ) (e : Entry) (h : List Entry) → IsLinkKnown o h → link_in o p (e ∷ h) ≡ (if closes_by_deferral o p e h then Idle else sent_more (count_to p e.outs) (link_by o p e h (link_with (digest o h).arcs p)))
-link_asks o p e h known = ap (λ (l : Link). if closes_by_deferral o p e h then Idle else sent_more (count_records (said_to p e.outs)) (link_by o p e h l)) (sym (known p)) ∙ ap (λ (n : ℕ). if closes_by_deferral o p e h then Idle else sent_more n (link_by o p e h (link_with (digest o h).arcs p))) (count_is (said_to p e.outs))
+link_asks o p e h known = ap (λ (l : Link). if closes_by_deferral o p e h then Idle else sent_more (length (said_to p e.outs)) (link_by o p e h l)) (sym (known p)) ∙ ap (λ (n : ℕ). if closes_by_deferral o p e h then Idle else sent_more n (link_by o p e h (link_with (digest o h).arcs p))) (count_is (said_to p e.outs))
 
 -- an entry that ends the link
 pub closed_asks : (o : Origin) (p : ℕ) (e : Entry) (h : List Entry) → IsLinkKnown o h → link_by o p e h (link_with (digest o h).arcs p) ≡ Idle → link_in o p (e ∷ h) ≡ Idle

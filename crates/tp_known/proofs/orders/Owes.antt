@@ -1,6 +1,6 @@
 -- In every legal history the user owes its done of the current transaction if it was told to commit or to roll back since the
 -- key was begun, and has not given it since; and where the transaction commits by the log, since the last crash.
-use Rattle.tp_known.proofs.Vocabulary.{if◌then◌else◌, ◌≡◌, inl, inr, ℕ, Bool, true, false, refl, ap, sym, subst, ◌∙◌, arith, Option, Some, None, List, [], ◌∷◌, ◌++◌, ◌||◌, Addr, NodeKey, Report, Request, Indication, DialogueRecord, LogRec, Phase, TxEvent, TxOut, Who, Origin, Event, Entry, Out, Current, Digest, is_active, is_committing, Row, Transaction, Turn, turn, aaid_of, node_key, with_row, with_branch, with_arc_lost, all_done, complete_commit, complete_rollback, begin_rolling, order, ask_commit, leave, count_branch, end_branch, branch_left, retried, transacted, Move, move, followed, seen, remaining, is_over, is_leaving, passage, try_start, restarted, transact, turned, is_crash, takes_begin, begins, tells_order, is_done_request, phase_in, owes_in, digest, refusal, action, recovered_current, same_bool, IsLegal, decide, row_dead, shut_given_up, is_outcome_told, TurnSteps, IsAsked, begun_by_record, prelude, asks_tell, out_tells, owes_agrees, tell_append, still_up, still_prepare, still_ask, told_append, told_played, step_turn, left_is, late_law, some_same, key_self, no_begin, bool_self, before_it, crash_next, phase_law, IsStepTo, IsMark, mark_law, recovered_is, started_again, whole_turn}
+use Rattle.tp_known.proofs.Vocabulary.{if◌then◌else◌, ◌≡◌, inl, inr, ℕ, Bool, true, false, refl, ap, sym, subst, ◌∙◌, arith, Option, Some, None, List, [], ◌∷◌, ◌++◌, ◌||◌, Addr, NodeKey, Report, Request, Indication, DialogueRecord, LogRec, Phase, TxEvent, TxOut, Who, Origin, Event, Entry, Out, Current, Digest, is_active, is_committing, Row, Transaction, Turn, turn, aaid_of, node_key, with_row, with_branch, with_arc_lost, all_done, complete_commit, complete_rollback, begin_rolling, order, ask_commit, leave, count_branch, end_branch, branch_left, retried, transacted, Move, move, followed, seen, remaining, is_over, is_leaving, passage, try_start, transact, turned, is_crash, takes_begin, begins, tells_order, is_done_request, phase_in, owes_in, digest, refusal, action, recovered_current, same_bool, IsLegal, decide, row_dead, shut_given_up, is_outcome_told, TurnSteps, IsAsked, begun_by_record, prelude, asks_tell, out_tells, owes_agrees, tell_append, still_up, still_prepare, still_ask, told_append, told_played, step_turn, left_is, late_law, some_same, key_self, no_begin, bool_self, before_it, crash_next, phase_law, IsStepTo, IsMark, mark_law, recovered_is, started_again, whole_turn, started_next}
 use Rattle.tp_known.proofs.orders.Told.{IsRaised, IsFrom, IsHeld, least, raised_event, raised_step, raised_start}
 use Rattle.tp_known.proofs.lemmas.Tells.{ordering_tells, rolls_tell, completion_tells, unrolling_tells, leave_tells}
 use Rattle.tp_known.proofs.passages.Shown.{is_early}
@@ -227,7 +227,7 @@ done_event who d = go d.current refl
             let same : u.owes ≡ false = w.3 ∙ ap (λ (b : Bool). b || w.0.owes) none ∙ z.1 in
             (elim z.0 [ inl v ↦ inl (v.0, v.1, w.2 ∙ v.2, same) | inr n ↦ inr ((n.0.0, w.2 ∙ n.0.1, n.0.2), same) ], same)
 
-    go : (o : Option Current) → d.current ≡ o → IsDone who d (elim o as (λ _. Move) [ None ↦ move [] d | Some c ↦ restarted who (passage (is_leaving f) (seen who d.arcs c).phase (transacted f (seen who d.arcs c)).next.phase) (turned who f d c) ])
+    go : (o : Option Current) → d.current ≡ o → IsDone who d (elim o as (λ _. Move) [ None ↦ move [] d | Some c ↦ started_next who (passage (is_leaving f) (seen who d.arcs c).phase (transacted f (seen who d.arcs c)).next.phase) (turned who f d c) ])
     go None i = record { quiet = refl; from = λ u is. absurd (let no : None ≡ Some u = sym i ∙ is in cc (no)) }
     go (Some c) i = over c i (is_over (passage (is_leaving f) (seen who d.arcs c).phase (transacted f (seen who d.arcs c)).next.phase))
 

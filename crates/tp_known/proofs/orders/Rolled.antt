@@ -1,6 +1,6 @@
 -- In every legal history the superior has rolled the current transaction if its Rollback was taken since the key was begun, or
 -- the reply that it knows of nothing, at the ready key, and since the last crash.
-use Rattle.tp_known.proofs.Vocabulary.{if◌then◌else◌, ◌≡◌, ◌⊎◌, inl, inr, ℕ, Bool, true, false, refl, ap, sym, subst, ◌∙◌, arith, Option, Some, None, List, [], ◌∷◌, ◌||◌, ◌&&◌, ◌==◌, and-false, and-true, nat_tests, Mark, Aaid, BranchId, Addr, NodeKey, Report, is_key, DialogueRecord, PeerRecord, RecState, LogRec, TxEvent, TxOut, Who, Origin, Event, Entry, Out, Arc, Key, Current, Digest, is_rolling, Sight, Acts, Nothing_happens, Out_of_phase, with_one_taken, find_arc, is_live_with_peer, with_link, Row, Transaction, Turn, node_key, is_under_at, find_row, row_holds, with_row, with_arc_lost, acts, sight_of_tx, complete_commit, complete_rollback, begin_rolling, order, roll, turn, superior_rolls, ask_commit, leave, count_branch, end_branch, branch_left, transacted, has_branch_at, Move, move, is_superior, seen, seen_rows, remaining, passed, restarted, transact, turned, branch_key, named_by_key, is_current_ready, sight_of, sight_at, take_record, woken_by, take_on, acting_from, is_record, is_up, takes_begin, is_rollback_record, is_current_key, superior_rolled_by, superior_rolled_in, digest, refusal, action, same_bool, IsGrown, IsLegal, row_dead, hears_rollback, TurnSteps, IsAsked, prelude, asks_tell, out_tells, superior_rolled_agrees, step_turn, seen_branch, the, find_arc_is, on_none, on_live, plain_arrival, ready_named, no_begin, sight_rollback, late_law, left_is, key_self, IsNew, IsStep, IsFlag, flag_law, bool_self}
+use Rattle.tp_known.proofs.Vocabulary.{if◌then◌else◌, ◌≡◌, ◌⊎◌, inl, inr, ℕ, Bool, true, false, refl, ap, sym, subst, ◌∙◌, arith, Option, Some, None, List, [], ◌∷◌, ◌||◌, ◌&&◌, ◌==◌, and-false, and-true, nat_tests, Mark, Aaid, BranchId, Addr, NodeKey, Report, is_key, DialogueRecord, PeerRecord, RecState, LogRec, TxEvent, TxOut, Who, Origin, Event, Entry, Out, Arc, Key, Current, Digest, is_rolling, Sight, Acts, Nothing_happens, Out_of_phase, with_one_taken, find_arc, is_live_with_peer, with_link, Row, Transaction, Turn, node_key, is_under_at, find_row, row_holds, with_row, with_arc_lost, acts, sight_of_tx, complete_commit, complete_rollback, begin_rolling, order, roll, turn, superior_rolls, ask_commit, leave, count_branch, end_branch, branch_left, transacted, has_branch_at, Move, move, is_superior, seen, seen_rows, remaining, passed, transact, turned, branch_key, named_by_key, is_current_ready, sight_of, sight_at, take_record, woken_by, take_on, acting_from, is_record, is_up, takes_begin, is_rollback_record, is_current_key, superior_rolled_by, superior_rolled_in, digest, refusal, action, same_bool, IsGrown, IsLegal, row_dead, hears_rollback, TurnSteps, IsAsked, prelude, asks_tell, out_tells, superior_rolled_agrees, step_turn, seen_branch, the, find_arc_is, on_none, on_live, plain_arrival, ready_named, no_begin, sight_rollback, late_law, left_is, key_self, IsNew, IsStep, IsFlag, flag_law, bool_self, started_next}
 use Rattle.tp_known.proofs.orders.Faced.{faced_live}
 use Rattle.tp_known.proofs.orders.Told.{none_told, always, least, IsRaised, raised_event, raised_step, started_from}
 use Rattle.tp_known.proofs.handshakes.TouchedEntry.{acting_is}
@@ -249,7 +249,7 @@ rollback_step o up h from x y q legal ok u is = some (find_arc d.arcs from.node)
 
 pub nothing_there : (who : Who) (f : TxEvent) (d : Digest) → d.current ≡ None → (transact who f d).next.current ≡ None
 unfolding transact
-nothing_there who f d i = ap (λ (o : Option Current). (elim o as (λ _. Move) [ None ↦ move [] d | Some c ↦ restarted who (passed who f d c) (turned who f d c) ]).next.current) i ∙ i
+nothing_there who f d i = ap (λ (o : Option Current). (elim o as (λ _. Move) [ None ↦ move [] d | Some c ↦ started_next who (passed who f d c) (turned who f d c) ]).next.current) i ∙ i
 
 -- the reply that the superior knows of nothing, at the ready key
 unknown_step : (o : Origin) (h : List Entry) (from : Addr) (t : Aaid) (b : BranchId) (u : Current) → (action o.who (digest o h) (Event.Arrive from (PeerRecord.RecReply t b RecState.Unknown))).next.current ≡ Some u

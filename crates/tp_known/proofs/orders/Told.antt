@@ -1,6 +1,6 @@
 -- Flags of the current transaction that are raised by what the user is told, and fall with nothing but a new key: an instance
 -- of the steps of a node.
-use Rattle.tp_known.proofs.Vocabulary.{if◌then◌else◌, ◌≡◌, ◌≤◌, ◌⊎◌, inl, inr, ℕ, suc, Bool, true, false, refl, ap, sym, subst, ◌∙◌, arith, Option, Some, None, List, [], ◌∷◌, ◌++◌, ◌||◌, Child, Indication, TxEvent, TxOut, Who, Event, Out, Tell, Send, Arc, Key, Root, Current, Digest, without_arc, with_dialogue, Transaction, Turn, transacted, settled, Move, move, followed, perform, next_mark, seen, remaining, begin_on, try_start, is_over, passed, restarted, transact, fresh_current, turned, keep, refusal, action, is_outcome_told, Steps, IsPut, IsAsked, IsLate, prelude, asks_tell, out_tells, is_old, told_append, told_performed, told_played, step_start, step_move, left_is, passed_turn, settled_spoken, some_same, IsNew, IsStep, root_in, next_new, whole_turn}
+use Rattle.tp_known.proofs.Vocabulary.{if◌then◌else◌, ◌≡◌, ◌≤◌, ◌⊎◌, inl, inr, ℕ, suc, Bool, true, false, refl, ap, sym, subst, ◌∙◌, arith, Option, Some, None, List, [], ◌∷◌, ◌++◌, ◌||◌, Child, Indication, TxEvent, TxOut, Who, Event, Out, Tell, Send, Arc, Key, Root, Current, Digest, without_arc, with_dialogue, Transaction, Turn, transacted, settled, Move, move, followed, perform, next_mark, seen, remaining, begin_on, try_start, is_over, passed, transact, fresh_current, turned, keep, refusal, action, is_outcome_told, Steps, IsPut, IsAsked, IsLate, prelude, asks_tell, out_tells, is_old, told_append, told_performed, told_played, step_start, step_move, left_is, passed_turn, settled_spoken, some_same, IsNew, IsStep, root_in, next_new, whole_turn, started_next}
 use Rattle.tp_steps.proofs.links.Marks.{Same_boot}
 use Rattle.tp_known.proofs.lemmas.Begins.{begun_child, begin_word, begin_arcs, sent_begin, begins_so}
 use Rattle.tp_known.proofs.lemmas.Spoken.{spoken_untold}
@@ -213,7 +213,7 @@ pub started_from : (g : Current → Bool) → IsRaised none_told g always Event.
     → (u : Current) → (transact who f d).next.current ≡ Some u → (u.key ≡ c.key) × (g u ≡ v) ⊎ IsNew who s u × (g u ≡ false)
 unfolding transact
 started_from g k who s d c f v now after first =
-    subst (λ (o : Option Current). (u : Current) → (elim o as (λ _. Move) [ None ↦ move [] d | Some x ↦ restarted who (passed who f d x) (turned who f d x) ]).next.current ≡ Some u → (u.key ≡ c.key) × (g u ≡ v) ⊎ IsNew who s u × (g u ≡ false)) (sym now)
+    subst (λ (o : Option Current). (u : Current) → (elim o as (λ _. Move) [ None ↦ move [] d | Some x ↦ started_next who (passed who f d x) (turned who f d x) ]).next.current ≡ Some u → (u.key ≡ c.key) × (g u ≡ v) ⊎ IsNew who s u × (g u ≡ false)) (sym now)
     (over (is_over (passed who f d c)))
   where
     a : Move

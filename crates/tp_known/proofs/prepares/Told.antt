@@ -1,6 +1,6 @@
 -- In every legal history Prepare was said to a branch of the current transaction if an entry said it since its key was begun,
 -- and since the last crash.
-use Rattle.tp_known.proofs.Vocabulary.{if◌then◌else◌, ◌≡◌, inl, inr, ℕ, Bool, true, false, refl, ap, sym, subst, ◌∙◌, arith, Option, Some, None, List, [], ◌∷◌, ◌++◌, ◌&&◌, ◌||◌, ◌==◌, not, or-true, nat_tests, Addr, NodeKey, Report, Request, DialogueRecord, PeerRecord, Phase, TxEvent, TxOut, Who, Origin, Event, Entry, Arc, Branch, Current, Digest, is_active, is_late, is_nil, is_rolling, is_live, find_arc, link_with, is_live_with_peer, carried, performed, Row, Transaction, Turn, is_under_at, find_row, row_holds, with_row, all_prepared, prepare_each, ask_commit, begin_rolling, branch_left, count_branch, end_branch, leave, order, settle, transacted, refused_tx, Move, move, followed, try_start, is_superior, situation_at, seen, turned, passed, passage, Passage, is_over, entered, played, restarted, transact, refused_request, refused_on_arc, refusal, action, digest, some_since, said_to, has_said, IsLegal, IsLate, IsPut, TurnSteps, asks_tell, row_dead, prelude, carries_none, none_more, said_both, said_carried, plain_request, step_move, step_turn, late_law, left_is, link_entered, passed_turn, row_phase, before_it, IsStep, IsMark, mark_law, started_again, crash_next, placed_law, headed_law, under_headed, superior_at, IsPlaced, is_at, prepared_agrees}
+use Rattle.tp_known.proofs.Vocabulary.{if◌then◌else◌, ◌≡◌, inl, inr, ℕ, Bool, true, false, refl, ap, sym, subst, ◌∙◌, arith, Option, Some, None, List, [], ◌∷◌, ◌++◌, ◌&&◌, ◌||◌, ◌==◌, not, or-true, nat_tests, Addr, NodeKey, Report, Request, DialogueRecord, PeerRecord, Phase, TxEvent, TxOut, Who, Origin, Event, Entry, Arc, Branch, Current, Digest, is_active, is_late, is_nil, is_rolling, is_live, find_arc, link_with, is_live_with_peer, carried, performed, Row, Transaction, Turn, is_under_at, find_row, row_holds, with_row, all_prepared, prepare_each, ask_commit, begin_rolling, branch_left, count_branch, end_branch, leave, order, settle, transacted, refused_tx, Move, move, followed, try_start, is_superior, situation_at, seen, turned, passed, passage, Passage, is_over, entered, played, transact, refused_request, refused_on_arc, refusal, action, digest, some_since, said_to, has_said, IsLegal, IsLate, IsPut, TurnSteps, asks_tell, row_dead, prelude, carries_none, none_more, said_both, said_carried, plain_request, step_move, step_turn, late_law, left_is, link_entered, passed_turn, row_phase, before_it, IsStep, IsMark, mark_law, started_again, crash_next, placed_law, headed_law, under_headed, superior_at, IsPlaced, is_at, prepared_agrees, started_next}
 unfoldable use Rattle.tp_model.specs.Transactions.{situation_of}
 use Rattle.tp_model.specs.Keys.{is_prepare_record}
 use Rattle.tp_steps.proofs.lemmas.Equality.{and_left, and_right}
@@ -310,7 +310,7 @@ plain_played d t p q asks arcs h i = absurd (cc (h))
 same_turned : (who : Who) (f : TxEvent) (d : Digest) (c : Current) → d.current ≡ Some c → is_over (passed who f d c) ≡ false → (transact who f d).outs ≡ (turned who f d c).outs
 unfolding transact
 same_turned who f d c now over =
-    ap (λ (v : Option Current). (elim v as (λ _. Move) [ None ↦ move [] d | Some x ↦ restarted who (passed who f d x) (turned who f d x) ]).outs) now
+    ap (λ (v : Option Current). (elim v as (λ _. Move) [ None ↦ move [] d | Some x ↦ started_next who (passed who f d x) (turned who f d x) ]).outs) now
     ∙ go (is_over (passed who f d c)) over
   where
     go : (b : Bool) → b ≡ false → (if b then followed (turned who f d c) (try_start who) else turned who f d c).outs ≡ (turned who f d c).outs

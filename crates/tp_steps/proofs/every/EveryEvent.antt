@@ -25,7 +25,7 @@ use Rattle.tp_model.specs.Parts.{Who, Event, Live, Arc, Branch, Current, Digest}
 use Rattle.tp_model.specs.Dialogues.{is_nil, is_active, is_ready, is_committing, fresh_dialogue, is_chained}
 use Rattle.tp_model.specs.Arcs.{find_arc, put_arc}
 use Rattle.tp_model.specs.Transactions.{aaid_of, node_key, refused_tx}
-use Rattle.tp_model.specs.Recovery.{find_owed, is_nothing_owed, is_root_key, refused_kept, is_commit, settled, noted, owed, answer, find_kept, with_forget, forget_to, ask_owed, tell_superior}
+use Rattle.tp_model.specs.Recovery.{find_owed, is_nothing_owed, is_root_key, refused_kept, is_commit, settled, noted, owed, find_kept, with_forget, forget_to, ask_owed, tell_superior, recovery_answer}
 use Rattle.tp_model.specs.Node.{Move, move, followed, perform, phase_of, has_asked, seen, begin_on, try_start, transact, keep}
 use Rattle.tp_model.specs.Arrivals.{Named, current_with, child_addr, is_other, find_branch_by_id, branch_key, key_of_branch, named_by_key, named_by_branch, known_of, is_current_ready, lose, refused_arrival, take_accept, reply_to, take_order, take_forget, take_done_reply, take_ready_reply, take_reply, do_arrival, broken_pair, break_off}
 use Rattle.tp_model.specs.Requests.{refused_request}
@@ -113,7 +113,7 @@ pub ready_named : (d : Digest) (t : Aaid) (b : BranchId) (c : Current) → is_cu
     → (is_key (node_key c.key) (branch_key t b) ≡ true) × (is_ready c.phase ≡ true)
 ready_named d t b c h i = (grind (arith, h, i), grind (arith, h, i))
 
-plain_reply : (d : Digest) (from : Addr) (t : Aaid) (b : BranchId) (v : RecState) (n : Named) → answer (known_of n b) Question.RecCommit ≡ Some v → IsOwned d (TxOut.Recovery from (PeerRecord.RecReply t b v) ∷ [])
+plain_reply : (d : Digest) (from : Addr) (t : Aaid) (b : BranchId) (v : RecState) (n : Named) → recovery_answer (known_of n b) Question.RecCommit ≡ Some v → IsOwned d (TxOut.Recovery from (PeerRecord.RecReply t b v) ∷ [])
 plain_reply d from t b RecState.Commit n h u i = absurd (commit_commit n b h)
 plain_reply d from t b v n h u i = absurd (grind (arith, i))
 
@@ -125,12 +125,12 @@ unfolding refused_tx
 step_order who d from t b R k late = go (is_current_ready (named_by_key d (branch_key t b))) refl
   where
     go : (v : Bool) → is_current_ready (named_by_key d (branch_key t b)) ≡ v
-        → R d (if v then transact who TxEvent.Ordered d else reply_to from t b (answer (known_of (named_by_key d (branch_key t b)) b) Question.RecCommit) d)
+        → R d (if v then transact who TxEvent.Ordered d else reply_to from t b (recovery_answer (known_of (named_by_key d (branch_key t b)) b) Question.RecCommit) d)
     go true i =
         step_transact who (Event.Arrive from (PeerRecord.RecCommit t b)) d R k TxEvent.Ordered d (refl, refl, λ n off. refl) (λ c j. (refl, (ready_named d t b c i j).0))
         (λ c j. record { late = late c j; ok = λ h. refl; abort = λ n h. cc (h); ordered = λ h. (ready_named d t b c i j).1; not_begun = λ arcs h. cc (h) })
         (λ n i. absurd (cc (i)))
-    go false i = step_reply_to who _ d R k from t b (answer (known_of (named_by_key d (branch_key t b)) b) Question.RecCommit) d (λ v j. (plain_reply d from t b v (named_by_key d (branch_key t b)) j, said_order d from t b v j))
+    go false i = step_reply_to who _ d R k from t b (recovery_answer (known_of (named_by_key d (branch_key t b)) b) Question.RecCommit) d (λ v j. (plain_reply d from t b v (named_by_key d (branch_key t b)) j, said_order d from t b v j))
 
 step_replied : (who : Who) (e : Event) (d : Digest) (b : BranchId) (v : RecState) (R : Digest → Move → Type 0) → Steps who e d R → IsLate d → ((c : Current) → d.current ≡ Some c → IsAsked e c (TxEvent.Reply b v))
     → R d (transact who (TxEvent.Reply b v) d)
@@ -298,7 +298,7 @@ step_arrival who d from (PeerRecord.OnAssoc x y q DialogueRecord.Rollback) R k l
 step_arrival who d from (PeerRecord.OnAssoc x y q (DialogueRecord.RolledBack v)) R k late ok = step_on_other who d from x y q (DialogueRecord.RolledBack v) R k late (λ t b h i. cc (i)) ok
 step_arrival who d from (PeerRecord.OnAssoc x y q DialogueRecord.Left) R k late ok = step_on_other who d from x y q DialogueRecord.Left R k late (λ t b h i. cc (i)) ok
 step_arrival who d from (PeerRecord.OnAssoc x y q DialogueRecord.LeftEnd) R k late ok = step_on_other who d from x y q DialogueRecord.LeftEnd R k late (λ t b h i. cc (i)) ok
-step_arrival who d from (PeerRecord.RecReady t b) R k late ok = step_reply_to who _ d R k from t b (answer (known_of (named_by_branch d t b) b) Question.RecReady) d (λ v i. (reply_owned d from t b v i, said_ready d from t b v i))
+step_arrival who d from (PeerRecord.RecReady t b) R k late ok = step_reply_to who _ d R k from t b (recovery_answer (known_of (named_by_branch d t b) b) Question.RecReady) d (λ v i. (reply_owned d from t b v i, said_ready d from t b v i))
 step_arrival who d from (PeerRecord.RecCommit t b) R k late ok = step_order who d from t b R k late
 step_arrival who d from (PeerRecord.RecReply t b s) R k late ok = step_take_reply who d from t b s R k late ok
 step_arrival who d from (PeerRecord.Forget t b) R k late ok = step_forget who from t b d R k d

@@ -15,7 +15,7 @@ use Rattle.tp_model.specs.Parts.{Who, Event, Link, Idle, Opening, Offered, Live,
 use Rattle.tp_model.specs.Dialogues.{is_nil, is_active, is_end_deferred, Asked, Ask_data, Ask_error, Ask_abort, Ask_grant, Ask_control, Ask_handshake, Ask_respond, Ask_handshake_grant, Ask_defer_end, Ask_defer_grant, is_chained, said, begun_by, refused_on_arc, fresh_dialogue}
 use Rattle.tp_model.specs.Arcs.{find_arc, is_live_with_peer, link_with, put_arc, without_arc, with_dialogue, carried}
 use Rattle.tp_model.specs.Transactions.{is_under_at, row_holds, transacted, refused_tx, situation_of}
-use Rattle.tp_model.specs.Node.{is_end_deferred_at, Move, move, followed, perform, next_mark, with_mark_drawn, superior_arc, may_root, phase_of, seen_rows, seen, situation_at, Passage, passage, is_leaving, is_over, fresh_current, begin_on, begin_each, is_chained_below, chained_from, chained_peers, begin_chained, start_root, has_none, try_start, restarted, transact}
+use Rattle.tp_model.specs.Node.{is_end_deferred_at, Move, move, followed, perform, next_mark, with_mark_drawn, superior_arc, may_root, phase_of, seen_rows, seen, situation_at, Passage, passage, is_leaving, is_over, fresh_current, begin_on, begin_each, is_chained_below, chained_from, chained_peers, begin_chained, start_root, has_none, try_start, transact, started_next}
 use Rattle.tp_model.specs.Requests.{has_branch_at, refused_request, refused_at, call, accept, reject, abort, begin_transaction, do_request}
 use Rattle.tp_model.specs.Arrivals.{lose}
 use Rattle.tp_steps.specs.Turns.{loses}
@@ -150,7 +150,7 @@ step_transact who e s R k f d same asked put gone = go d.current refl
     go : (o : Option Current) → d.current ≡ o
         → R d (elim o as (λ _. Move) [
           | None ↦ move [] d
-          | Some c ↦ restarted who (passage (is_leaving f) (seen who d.arcs c).phase (transacted f (seen who d.arcs c)).next.phase) (turned who f d c)
+          | Some c ↦ started_next who (passage (is_leaving f) (seen who d.arcs c).phase (transacted f (seen who d.arcs c)).next.phase) (turned who f d c)
         ])
     go None i = k.still d
     go (Some c) i =

@@ -16,7 +16,8 @@ use Rattle.tp_model.specs.Dialogues.{is_nil, first, fresh_dialogue}
 use Rattle.tp_model.specs.Arcs.{find_arc, link_of, link_with, put_arc, with_link}
 use Rattle.tp_model.specs.Node.{next_mark, is_superior, superior_arc, phase_of}
 use Rattle.tp_units.specs.Units.{bad_answer}
-use Rattle.tp_model.specs.Requests.{is_branch_below, is_offered_arc, offered_units, refused_request}
+use Rattle.tp_model.specs.Requests.{is_branch_below, is_offered_arc, refused_request}
+use Rattle.tp_model.specs.Arcs.{units_of}
 use Rattle.std.specs.Prelude.{is_some}
 use Rattle.tp_model.specs.Arrivals.{refused_arrival, is_from_superior}
 use Rattle.tp_model.specs.Events.{refusal, verdict, after_crash}
@@ -113,7 +114,7 @@ accept_nil : (who : Who) (d : Digest) (u : ℕ) → refusal who d (Event.Do (Req
 unfolding refused_request
 accept_nil who d u ok =
     let plain : refused_request who d (Request.Accept u) ≡ None = accept_plain who d u ok in
-    go (is_offered_arc (superior_arc d)) (is_some (bad_answer (offered_units (superior_arc d)) u)) (is_nil (phase_of d)) plain
+    go (is_offered_arc (superior_arc d)) (is_some (bad_answer (units_of (superior_arc d)) u)) (is_nil (phase_of d)) plain
   where
     go : (a b c : Bool) → first ((not a, Refusal.NoDialogue) ∷ (b, Refusal.UnitAbsent) ∷ (not c, Refusal.TransactionOpen) ∷ []) ≡ None → c ≡ true
     go a b true h = refl

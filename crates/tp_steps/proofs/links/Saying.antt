@@ -13,7 +13,7 @@ use Rattle.tp_model.specs.declared.transaction.TxOut.{TxOut}
 use Rattle.tp_model.specs.declared.recovery.Kept.{Kept}
 use Rattle.tp_model.specs.declared.recovery.Question.{Question}
 use Rattle.tp_model.specs.Parts.{Event, Digest}
-use Rattle.tp_model.specs.Recovery.{is_commit, answer, find_owed, ask_owed, tell_superior, forget_to, owed}
+use Rattle.tp_model.specs.Recovery.{is_commit, find_owed, ask_owed, tell_superior, forget_to, owed, recovery_answer}
 use Rattle.tp_model.specs.Arrivals.{branch_key, named_by_key, named_by_branch, known_of}
 use Rattle.tp_steps.proofs.words.Leaves.{branch_same}
 use Rattle.tp_steps.specs.Moves.{keeps_idle, owes_branch, is_committed_in, IsRecoveryIn, KeepsFor, IsSaid, AreSaid, gives_to, grants_to, hands_to, keeps_commit}
@@ -80,15 +80,15 @@ said_forget s d a t b Report.Mix none = one_said (Event.Arrive a (PeerRecord.Rec
 
 -- ---- answers
 
-pub said_ready : (s : Digest) (a : Addr) (t : Aaid) (b : BranchId) (v : RecState) → answer (known_of (named_by_branch s t b) b) Question.RecReady ≡ Some v → AreSaid (Event.Arrive a (PeerRecord.RecReady t b)) s s (TxOut.Recovery a (PeerRecord.RecReply t b v) ∷ [])
-unfolding answer
+pub said_ready : (s : Digest) (a : Addr) (t : Aaid) (b : BranchId) (v : RecState) → recovery_answer (known_of (named_by_branch s t b) b) Question.RecReady ≡ Some v → AreSaid (Event.Arrive a (PeerRecord.RecReady t b)) s s (TxOut.Recovery a (PeerRecord.RecReply t b v) ∷ [])
+unfolding recovery_answer
 said_ready s a t b RecState.Commit h = one_said _ s s a (PeerRecord.RecReply t b RecState.Commit) tt
 said_ready s a t b (RecState.Done r) h = absurd (grind (arith, h))
 said_ready s a t b RecState.Unknown h = one_said _ s s a (PeerRecord.RecReply t b RecState.Unknown) (refl, h)
 said_ready s a t b RecState.RetryLater h = one_said _ s s a (PeerRecord.RecReply t b RecState.RetryLater) tt
 
-pub said_order : (s : Digest) (a : Addr) (t : Aaid) (b : BranchId) (v : RecState) → answer (known_of (named_by_key s (branch_key t b)) b) Question.RecCommit ≡ Some v → AreSaid (Event.Arrive a (PeerRecord.RecCommit t b)) s s (TxOut.Recovery a (PeerRecord.RecReply t b v) ∷ [])
-unfolding answer
+pub said_order : (s : Digest) (a : Addr) (t : Aaid) (b : BranchId) (v : RecState) → recovery_answer (known_of (named_by_key s (branch_key t b)) b) Question.RecCommit ≡ Some v → AreSaid (Event.Arrive a (PeerRecord.RecCommit t b)) s s (TxOut.Recovery a (PeerRecord.RecReply t b v) ∷ [])
+unfolding recovery_answer
 said_order s a t b RecState.Commit h = one_said _ s s a (PeerRecord.RecReply t b RecState.Commit) tt
 said_order s a t b (RecState.Done r) h = one_said _ s s a (PeerRecord.RecReply t b (RecState.Done r)) (inr (refl, h))
 said_order s a t b RecState.Unknown h = absurd (grind (arith, h))

@@ -16,7 +16,7 @@ use Rattle.tp_model.specs.declared.recovery.Question.{Question}
 use Rattle.tp_model.specs.Parts.{Key, Root, Under, Current, Digest}
 use Rattle.tp_model.specs.Dialogues.{is_committing}
 use Rattle.tp_model.specs.Transactions.{aaid_of, node_key}
-use Rattle.tp_model.specs.Recovery.{is_commit, is_kept_commit, answer, noted, ask_owed, tell_superior, owed, find_kept, with_forget, find_owed}
+use Rattle.tp_model.specs.Recovery.{is_commit, is_kept_commit, noted, ask_owed, tell_superior, owed, find_kept, with_forget, find_owed, recovery_answer}
 use Rattle.tp_model.specs.Node.{phase_of}
 use Rattle.tp_model.specs.Arrivals.{Named, named_by_key, is_branch_of, kept_owing, kept_of, current_of, key_of_kept, key_of_branch, named_by_branch, known_of}
 use Rattle.tp_model.specs.Outcomes.{is_now}
@@ -177,20 +177,20 @@ branch_tree d t b k h = go (current_of d t) refl
         on true j = key_same c t k (current_tree d t c i) (rw (i, j, key_of_branch) at h)
         on false j = kept_tree d t b k (rw (i, j, key_of_branch) at h)
 
-ready_commit : (n : Named) (b : BranchId) → answer (known_of n b) Question.RecReady ≡ Some RecState.Commit → (is_committing (known_of n b).phase || is_kept_commit (known_of n b).kept) ≡ true
-unfolding answer
+ready_commit : (n : Named) (b : BranchId) → recovery_answer (known_of n b) Question.RecReady ≡ Some RecState.Commit → (is_committing (known_of n b).phase || is_kept_commit (known_of n b).kept) ≡ true
+unfolding recovery_answer
 ready_commit n b h = go (is_committing (known_of n b).phase || is_kept_commit (known_of n b).kept) refl
   where
     go : (v : Bool) → (is_committing (known_of n b).phase || is_kept_commit (known_of n b).kept) ≡ v → (is_committing (known_of n b).phase || is_kept_commit (known_of n b).kept) ≡ true
     go true i = i
     go false i = absurd (grind (arith, h, i))
 
-pub commit_commit : (n : Named) (b : BranchId) → answer (known_of n b) Question.RecCommit ≡ Some RecState.Commit → ⊥
-unfolding answer
+pub commit_commit : (n : Named) (b : BranchId) → recovery_answer (known_of n b) Question.RecCommit ≡ Some RecState.Commit → ⊥
+unfolding recovery_answer
 commit_commit n b h = absurd (grind (arith, h))
 
 -- of the key that is named
-named_owned : (d : Digest) (k : NodeKey) (b : BranchId) (u : Aaid) → is_aaid u k.aaid ≡ true → answer (known_of (named_by_key d k) b) Question.RecReady ≡ Some RecState.Commit → is_committed_in u d ≡ true
+named_owned : (d : Digest) (k : NodeKey) (b : BranchId) (u : Aaid) → is_aaid u k.aaid ≡ true → recovery_answer (known_of (named_by_key d k) b) Question.RecReady ≡ Some RecState.Commit → is_committed_in u d ≡ true
 named_owned d k b u same h = elim_or (is_committing (known_of (named_by_key d k) b).phase) (is_kept_commit (known_of (named_by_key d k) b).kept) refl refl (ready_commit (named_by_key d k) b h)
   where
     current : (o : Option Current) → d.current ≡ o → is_committing (known_of (named_by_key d k) b).phase ≡ true → is_committed_in u d ≡ true
@@ -220,7 +220,7 @@ named_owned d k b u same h = elim_or (is_committing (known_of (named_by_key d k)
     elim_or true w i j m = current d.current refl i
     elim_or false w i j m = kept (find_kept d.kept k) refl (j ∙ m)
 
-pub reply_owned : (d : Digest) (from : Addr) (t : Aaid) (b : BranchId) (v : RecState) → answer (known_of (named_by_branch d t b) b) Question.RecReady ≡ Some v → IsOwned d (TxOut.Recovery from (PeerRecord.RecReply t b v) ∷ [])
+pub reply_owned : (d : Digest) (from : Addr) (t : Aaid) (b : BranchId) (v : RecState) → recovery_answer (known_of (named_by_branch d t b) b) Question.RecReady ≡ Some v → IsOwned d (TxOut.Recovery from (PeerRecord.RecReply t b v) ∷ [])
 reply_owned d from t b RecState.Commit h u i = go (key_of_branch d t b) refl
   where
     same : is_aaid u t ≡ true
@@ -229,7 +229,7 @@ reply_owned d from t b RecState.Commit h u i = go (key_of_branch d t b) refl
     go : (o : Option NodeKey) → key_of_branch d t b ≡ o → is_committed_in u d ≡ true
     go None j = absurd (none (rw (j, named_by_branch) at h))
       where
-        none : answer (known_of (record { current = None; kept = None }) b) Question.RecReady ≡ Some RecState.Commit → ⊥
+        none : recovery_answer (known_of (record { current = None; kept = None }) b) Question.RecReady ≡ Some RecState.Commit → ⊥
         none k = let z = ready_commit (record { current = None; kept = None }) b k in cc (z)
     go (Some k) j =
         let tree = branch_tree d t b k j in

@@ -20,7 +20,7 @@ use Rattle.tp_model.specs.Links.{with_one_taken}
 use Rattle.tp_model.specs.Dialogues.{is_nil, is_active, is_rolling, is_end_deferred, Sight, Acts, Nothing_happens, Out_of_phase, Ask_defer_end, Ask_defer_grant, Hear_defer_end, Hear_defer_grant, said, heard, cleared, refused_on_arc, arrived}
 use Rattle.tp_model.specs.Arcs.{find_arc, is_live_with_peer, without_arc, with_dialogue, with_link}
 use Rattle.tp_model.specs.Transactions.{is_under_at, row_holds, sight_of_tx, refused_tx}
-use Rattle.tp_model.specs.Recovery.{settled, answer, forget_to}
+use Rattle.tp_model.specs.Recovery.{settled, forget_to, recovery_answer}
 use Rattle.tp_model.specs.Requests.{has_branch_at, refused_request, abort}
 use Rattle.tp_model.specs.Node.{Move, move, followed, perform, is_superior, phase_of, is_end_deferred_at, seen_rows, situation_at, transact, keep}
 use Rattle.tp_model.specs.Arrivals.{Named, branch_key, named_by_key, named_by_branch, known_of, is_current_ready, sight_at, sight_of, lose, take_abort, take_record, woken_by, take_on, reply_to, take_ready_reply, do_arrival, broken_pair, break_off}
@@ -276,7 +276,7 @@ order_put who d from t b c x h = go (is_current_ready n) refl h
     go false j h = absurd (cc (h))
     go true j h =
         given who d (Event.Arrive from (PeerRecord.RecCommit t b)) c TxEvent.Ordered d.arcs x h (record {
-          acts = ap (λ (v : Bool). if v then transact who TxEvent.Ordered d else reply_to from t b (answer (known_of n b) Question.RecCommit) d) j;
+          acts = ap (λ (v : Bool). if v then transact who TxEvent.Ordered d else reply_to from t b (recovery_answer (known_of n b) Question.RecCommit) d) j;
           reaches = alike_self d.arcs;
           taken = refl;
         })

@@ -1,6 +1,6 @@
 use Rattle.std.proofs.Common.{sym, subst}
 use Rattle.tp_outside.specs.Story.{seen}
-use Rattle.tp_model.specs.LogCommands.{started}
+use Rattle.tp_model.specs.LogCommands.{start_leaves}
 use Rattle.tp_journal.specs.Records.{version_of, placed}
 use Rattle.tp_journal.specs.Told.{IsOn}
 use Rattle.tp_log_tools.specs.Readings.{as_placed}
@@ -17,7 +17,7 @@ returns-clause-checks g c = both_ok c.check_log-checked.result _ _ _ (λ n count
         listed = as_placed (placed j.wide j.list);
         opens = begun.opens;
         written = written;
-        disk = subst (λ d. IsOn (g.D.Disk.told d) (started (seen s))) (sym c.disk.ensures) begun.left;
+        disk = subst (λ d. IsOn (g.D.Disk.told d) (start_leaves (seen s))) (sym c.disk.ensures) begun.left;
       };
       count = count;
     }) c.check_log-checked.ensures.count c.check_log-checked.ensures.ok

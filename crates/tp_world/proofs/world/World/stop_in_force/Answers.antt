@@ -6,7 +6,7 @@ use Rattle.tp_outside.specs.declared.mem_disk.MemDisk.{MemDisk}
 use Rattle.tp_journal.specs.Journals.{Kept}
 use Rattle.tp_journal.specs.Records.{HasText}
 use Rattle.tp_model.specs.Disk.{disk_bytes, remains}
-use Rattle.tp_model.specs.Happenings.{Turn, stop_in_force}
+use Rattle.tp_model.specs.Happenings.{stop_in_force, WorldTurn}
 use Rattle.tp_model.specs.Lines.{within_limits}
 use Rattle.tp_model.specs.World.{number_of}
 use Rattle.tp_world.specs.Settled.{IsEntered}
@@ -98,7 +98,7 @@ returns-then-list-records c = λ w s z n e r x h logs number disk.
     let kept = kept_here w s z n e r x place entry v h within logs y here texts stop.call stop.fill j opens all in
     let new = c.enter.new.self in
     let enters : IsEntered (number_of n) entry.change v new = subst (λ (k : ℕ). IsEntered k entry.change v new) number (c.in_ok-enter.ensures {u = tt}) in
-    subst (λ (t : Turn). Gives (within_limits t) c.args.lines.now c.stopped.result c.stopped.new.lines c.stopped.new.self) (kept_turn w s z n e r x place entry v h within logs y here texts stop.call stop.fill j opens kept)
+    subst (λ (t : WorldTurn). Gives (within_limits t) c.args.lines.now c.stopped.result c.stopped.new.lines c.stopped.new.self) (kept_turn w s z n e r x place entry v h within logs y here texts stop.call stop.fill j opens kept)
     (c.stopped.ensures (after_entry w n (Some e)) s (slot_on y j) h.tells_after h.starts_after (h.at ∙ ap (λ xs. place_of_site xs.items s) (sym enters.sites)) (kept_stopped w s z n e r x place entry v h within logs y here texts stop.call stop.fill j opens new kept enters))
 
 pub returns : goal.returns
@@ -123,6 +123,6 @@ returns c = λ w s z n e r x h logs number disk.
     let counts = ap length c.list.ensures.is in
     let played = ap length records in
     let lost = lost_here w s z n e r x place entry v h within logs y here texts stop.call stop.fill j opens (λ all. absurd (omega (arith, all, counts, played, c.if-list-records.false))) in
-    subst (λ (t : Turn). Gives (within_limits t) c.args.lines.now c.stopped-2.result c.stopped-2.new.lines c.stopped-2.new.self) (lost_turn w s z n e r x place entry v h within logs y here texts stop.call stop.fill j opens lost)
+    subst (λ (t : WorldTurn). Gives (within_limits t) c.args.lines.now c.stopped-2.result c.stopped-2.new.lines c.stopped-2.new.self) (lost_turn w s z n e r x place entry v h within logs y here texts stop.call stop.fill j opens lost)
     (c.stopped-2.ensures _ s (slot_on x j) (lost_tells w s z n e r x place entry v h within logs y here texts stop.call stop.fill j opens lost) (lost_starts w s z n e r x place entry v h within logs y here texts stop.call stop.fill j opens lost) h.at
     (lost_stopped w s z n e r x place entry v h within logs y here texts stop.call stop.fill j opens c.args.node number lost))
