@@ -25,7 +25,7 @@ use Rattle.tp_model.specs.Questions.{said_to, is_at}
 use Rattle.tp_model.specs.Legal.{IsGrown}
 use Rattle.tp_steps.specs.Moves.{prelude}
 use Rattle.tp_steps.specs.Traces.{count_to, sent_of, took_of}
-use Rattle.tp_histories.specs.Traces.{sent_on, taken_on}
+use Rattle.tp_histories.specs.Traces.{sent_on, accepted_on}
 use Rattle.tp_steps.specs.Facts.{is_vote, is_end, ends, ends_in, ends_in_phase, is_open, is_voted, has_ready_of, BranchKey, begun_keys, last_from, words_to, find_branch, open_at, key_at, Reads}
 use Rattle.tp_steps.specs.Trees.{begins_of, branch_of_tree}
 use Rattle.tp_histories.specs.Members.{IsOnce}
@@ -359,12 +359,12 @@ pub record Taken (p : ℕ) (e : Entry) (h : List Entry) (x y : Mark) (r : Dialog
 
 pub taken_now : (p : ℕ) (e : Entry) (h : List Entry) (x y : Mark) (r : DialogueRecord) → took_of x y p e.event ≡ r ∷ [] → Taken p e h x y r
 taken_now p e h x y r took = record {
-  ends_now = ap (λ (l : List DialogueRecord). ends_in (taken_on x y p h ++ l)) took ∙ split_ends (taken_on x y p h) r;
-  votes_now = ap (λ (l : List DialogueRecord). voting_from false (taken_on x y p h ++ l)) took ∙ voting_append false (taken_on x y p h) (r ∷ []);
+  ends_now = ap (λ (l : List DialogueRecord). ends_in (accepted_on x y p h ++ l)) took ∙ split_ends (accepted_on x y p h) r;
+  votes_now = ap (λ (l : List DialogueRecord). voting_from false (accepted_on x y p h ++ l)) took ∙ voting_append false (accepted_on x y p h) (r ∷ []);
 }
 
-pub none_now : (p : ℕ) (e : Entry) (h : List Entry) (x y : Mark) → took_of x y p e.event ≡ [] → taken_on x y p (e ∷ h) ≡ taken_on x y p h
-none_now p e h x y none = ap (λ (l : List DialogueRecord). taken_on x y p h ++ l) none ∙ append-nil (taken_on x y p h)
+pub none_now : (p : ℕ) (e : Entry) (h : List Entry) (x y : Mark) → took_of x y p e.event ≡ [] → accepted_on x y p (e ∷ h) ≡ accepted_on x y p h
+none_now p e h x y none = ap (λ (l : List DialogueRecord). accepted_on x y p h ++ l) none ∙ append-nil (accepted_on x y p h)
 
 pub quiet_ends : (r : DialogueRecord) (n : ℕ) → is_end r ≡ false → n + ends r ≡ n
 quiet_ends r n h = let z : ends r ≡ 0 = grind (arith, h) in omega (arith, z)

@@ -24,7 +24,7 @@ use Rattle.tp_model.specs.Events.{refusal, after_crash, named_again, recovered_c
 use Rattle.tp_model.specs.History.{digest}
 use Rattle.tp_model.specs.Outcomes.{decided}
 use Rattle.tp_steps.specs.Moves.{IsAsked, IsAskedByRequest, IsLate, prelude}
-use Rattle.tp_histories.specs.Traces.{sent_on, taken_on}
+use Rattle.tp_histories.specs.Traces.{sent_on, accepted_on}
 use Rattle.tp_steps.specs.Facts.{ends_in, is_open, is_voted, has_ready_of, BranchKey, begun_keys, last_from, find_branch, open_at, key_at}
 use Rattle.tp_steps.specs.Trees.{begins_of}
 use Rattle.tp_steps.specs.Upward.{voting_from, Deeds}
@@ -163,10 +163,10 @@ abbrev pub keys_to : Mark → Mark → ℕ → List Entry → List BranchKey
 keys_to x y p h = begun_keys (sent_on x y p h)
 
 abbrev pub ends_from : Mark → Mark → ℕ → List Entry → ℕ
-ends_from x y p h = ends_in (taken_on x y p h)
+ends_from x y p h = ends_in (accepted_on x y p h)
 
 abbrev pub votes_from : Mark → Mark → ℕ → List Entry → Bool
-votes_from x y p h = voting_from false (taken_on x y p h)
+votes_from x y p h = voting_from false (accepted_on x y p h)
 
 -- a counted branch that stands open: no debt before it, and Ready was taken
 abbrev pub IsClear : List BranchKey → ℕ → Bool → Type 0

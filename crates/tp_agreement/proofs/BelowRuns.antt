@@ -19,12 +19,12 @@ use Rattle.tp_model.specs.Questions.{is_at}
 use Rattle.tp_model.specs.World.{Node, number_of, addr_of}
 use Rattle.tp_model.specs.Happenings.{Happening, run}
 use Rattle.tp_model.specs.Promises.{IsBranchOf, has_record, has_begun, is_begin_of}
-use Rattle.tp_model.specs.Promises.{is_ready_of as is_ready_rec}
+use Rattle.tp_model.specs.Promises.{is_ready_of_branch as is_ready_rec}
 use Rattle.tp_model.specs.Legal.{IsGrown}
 use Rattle.tp_steps.specs.Histories.{brought}
-use Rattle.tp_histories.specs.Histories.{HasSent, HasTaken}
+use Rattle.tp_histories.specs.Histories.{HasSent, HasBrought}
 use Rattle.tp_steps.specs.Moves.{prelude}
-use Rattle.tp_steps.specs.Facts.{BranchKey, is_ready_of, has_ready_of}
+use Rattle.tp_steps.specs.Facts.{BranchKey, has_ready_of, is_ready_of_key}
 use Rattle.tp_steps.specs.Trees.{IsLoggedIn}
 use Rattle.tp_steps.specs.Keyed.{HasKeyFrom, IsKeyedMove}
 use Rattle.tp_histories.proofs.trees.Late.{late_law}
@@ -85,11 +85,11 @@ current_took o up (e ∷ h) u t b a empty legal i key = go (moves.keys u i) (λ 
 
 abbrev ready_opt : BranchKey → Option LogRec → Bool
 ready_opt j None = false
-ready_opt j (Some r) = is_ready_of j r
+ready_opt j (Some r) = is_ready_of_key j r
 
 ready_case : (j : BranchKey) (r : Option LogRec) (rs : List LogRec) → has_ready_of j (with_rec r rs) ≡ true → (ready_opt j r ≡ true) ⊎ (has_ready_of j rs ≡ true)
 ready_case j None rs h = inr h
-ready_case j (Some r) rs h = or_case (is_ready_of j r) (has_ready_of j rs) h
+ready_case j (Some r) rs h = or_case (is_ready_of_key j r) (has_ready_of j rs) h
 
 -- a key of that branch is one of a superior
 ready_key : (j : BranchKey) (k : NodeKey) (c : Key) (a : Addr) → is_key (record { aaid = j.0; branch = Some j.1 }) k ≡ true → k ≡ node_key c → superior_of c ≡ Some a → c ≡ Under j.0 j.1 a
@@ -143,11 +143,11 @@ pub record SentBegin (x y : Node) (t : Aaid) (b : BranchId) : Type 0 where
   pub at : to.node ≡ number_of y
   pub sent : HasSent x.history to (PeerRecord.OnAssoc x_mark y_mark seq (DialogueRecord.Begin t b holder))
 
-begun_took : (t : Aaid) (b : BranchId) (a : Addr) (h : List Entry) → has_begun t b a h ≡ true → (x : Mark) × (y : Mark) × (q : ℕ) × (i : Holder) × HasTaken h a (PeerRecord.OnAssoc x y q (DialogueRecord.Begin t b i))
+begun_took : (t : Aaid) (b : BranchId) (a : Addr) (h : List Entry) → has_begun t b a h ≡ true → (x : Mark) × (y : Mark) × (q : ℕ) × (i : Holder) × HasBrought h a (PeerRecord.OnAssoc x y q (DialogueRecord.Begin t b i))
 begun_took t b a [] h = absurd (cc (h))
 begun_took t b a (e ∷ h) k = go (or_case (is_begin_of t b a e.event) (has_begun t b a h) k) (begun_took t b a h)
   where
-    one : (f : Event) → e.event ≡ f → is_begin_of t b a f ≡ true → (x : Mark) × (y : Mark) × (q : ℕ) × (i : Holder) × HasTaken (e ∷ h) a (PeerRecord.OnAssoc x y q (DialogueRecord.Begin t b i))
+    one : (f : Event) → e.event ≡ f → is_begin_of t b a f ≡ true → (x : Mark) × (y : Mark) × (q : ℕ) × (i : Holder) × HasBrought (e ∷ h) a (PeerRecord.OnAssoc x y q (DialogueRecord.Begin t b i))
     one (Event.Arrive from (PeerRecord.OnAssoc x y q (DialogueRecord.Begin u c i))) is m =
         let at = addrs_equal a from (grind (arith, m)) in
         let tree = aaids_equal t u (grind (arith, m)) in
@@ -158,7 +158,7 @@ begun_took t b a (e ∷ h) k = go (or_case (is_begin_of t b a e.event) (has_begu
         word a from t u b c x y q i l m n = rw (l, m, n) refl
     one f is m = absurd (grind (arith, m))
 
-    go : (is_begin_of t b a e.event ≡ true) ⊎ (has_begun t b a h ≡ true) → (has_begun t b a h ≡ true → (x : Mark) × (y : Mark) × (q : ℕ) × (i : Holder) × HasTaken h a (PeerRecord.OnAssoc x y q (DialogueRecord.Begin t b i))) → (x : Mark) × (y : Mark) × (q : ℕ) × (i : Holder) × HasTaken (e ∷ h) a (PeerRecord.OnAssoc x y q (DialogueRecord.Begin t b i))
+    go : (is_begin_of t b a e.event ≡ true) ⊎ (has_begun t b a h ≡ true) → (has_begun t b a h ≡ true → (x : Mark) × (y : Mark) × (q : ℕ) × (i : Holder) × HasBrought h a (PeerRecord.OnAssoc x y q (DialogueRecord.Begin t b i))) → (x : Mark) × (y : Mark) × (q : ℕ) × (i : Holder) × HasBrought (e ∷ h) a (PeerRecord.OnAssoc x y q (DialogueRecord.Begin t b i))
     go (inl i) rest = one e.event refl i
     go (inr i) rest = let r = rest i in (r.0, r.1, r.2, r.3, inr r.4)
 

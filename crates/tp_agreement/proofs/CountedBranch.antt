@@ -23,7 +23,7 @@ use Rattle.tp_model.specs.Questions.{said_to}
 use Rattle.tp_model.specs.World.{Node, number_of}
 use Rattle.tp_model.specs.Happenings.{Happening, run}
 use Rattle.tp_model.specs.Promises.{IsBranchOf, is_counted_in, is_counted, has_logged}
-use Rattle.tp_model.specs.Promises.{is_ready_of as is_ready_rec}
+use Rattle.tp_model.specs.Promises.{is_ready_of_branch as is_ready_rec}
 use Rattle.tp_model.specs.Legal.{is_apart, are_apart, IsGrown}
 use Rattle.tp_histories.specs.Histories.{IsSentIn, HasSent}
 use Rattle.tp_steps.specs.Moves.{IsLate, prelude}

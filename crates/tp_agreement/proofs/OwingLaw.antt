@@ -35,7 +35,7 @@ use Rattle.tp_model.specs.Outcomes.{is_now, is_unchanged, rolls, is_crash_in_act
 use Rattle.tp_model.specs.Questions.{is_at}
 use Rattle.tp_model.specs.Legal.{is_apart, are_apart, IsGrown}
 use Rattle.tp_steps.specs.Histories.{brought}
-use Rattle.tp_histories.specs.Histories.{IsSentIn, HasSent, HasTaken}
+use Rattle.tp_histories.specs.Histories.{IsSentIn, HasSent, HasBrought}
 use Rattle.tp_steps.specs.Moves.{IsAsked, IsAskedByRequest, prelude}
 use Rattle.tp_histories.specs.Traces.{sent_on}
 use Rattle.tp_steps.specs.Trees.{commits_tree}
@@ -533,7 +533,7 @@ pub data Owed (o : Origin) (p : ℕ) (g : Deeds) (h : List Entry) (t : Aaid) (b 
   Still_owed : Owes t p b (digest o h) → Owed o p g h t b
   Has_gone : g.left t ≡ true → Owed o p g h t b
   Has_done : g.committed t ≡ true → Owed o p g h t b
-  Was_told : (a : Addr) (r : Report) → HasTaken h a (PeerRecord.RecReply t b (RecState.Done r)) → a.node ≡ p → Owed o p g h t b
+  Was_told : (a : Addr) (r : Report) → HasBrought h a (PeerRecord.RecReply t b (RecState.Done r)) → a.node ≡ p → Owed o p g h t b
   Had_rolled : rolled o t h ≡ true → Owed o p g h t b
   Had_left : has_left o t h ≡ true → Owed o p g h t b
 

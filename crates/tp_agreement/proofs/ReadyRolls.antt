@@ -26,7 +26,7 @@ use Rattle.tp_model.specs.Legal.{IsGrown}
 use Rattle.tp_histories.specs.Worlds.{IsGood}
 use Rattle.tp_steps.specs.Moves.{prelude}
 use Rattle.tp_steps.specs.Traces.{took_of}
-use Rattle.tp_histories.specs.Traces.{sent_on, taken_on}
+use Rattle.tp_histories.specs.Traces.{sent_on, accepted_on}
 use Rattle.tp_steps.specs.Facts.{BranchKey, has_ready_of, is_rollback, last_from, is_rolled}
 use Rattle.tp_histories.specs.Members.{IsOnce}
 use Rattle.tp_histories.specs.Fates.{has_ready_in, IsFated}
@@ -105,7 +105,7 @@ pub record RollbackTaken (up : Option Addr) (h : List Entry) (t : Aaid) : Type 0
   pub before : List DialogueRecord
   pub rest : List DialogueRecord
   pub at : is_at up peer ≡ true
-  pub taken : taken_on x y peer h ≡ before ++ DialogueRecord.Rollback ∷ rest
+  pub taken : accepted_on x y peer h ≡ before ++ DialogueRecord.Rollback ∷ rest
   pub last : last_from None before ≡ Some (t, id)
 
 -- the reply of the superior, that it knows of nothing, to the key that is ready
@@ -143,10 +143,10 @@ rollback_taken o up e h t c empty legal now tree (Under u b a) key from x y q is
       x = x;
       y = y;
       id = b;
-      before = taken_on x y from.node h;
+      before = accepted_on x y from.node h;
       rest = [];
       at = subst (λ (n : ℕ). is_at up n ≡ true) node above;
-      taken = ap (λ (rs : List DialogueRecord). taken_on x y from.node h ++ rs) took;
+      taken = ap (λ (rs : List DialogueRecord). accepted_on x y from.node h ++ rs) took;
       last = last ∙ ap (λ (v : Aaid). Some (v, b)) same;
     }
   where
@@ -276,6 +276,6 @@ rollback_sent ns fs x y t good hx hy above r =
     let pre = prefix_list ns fs good (number_of y) r.peer r.x r.y in
     let sent : sent_on r.x r.y (number_of y) x.history ≡ (r.before ++ DialogueRecord.Rollback ∷ r.rest) ++ pre.0 =
     ap (sent_on r.x r.y (number_of y)) (sym (history_is ns r.peer x there)) ∙ pre.1
-    ∙ ap (λ (h : List Entry). taken_on r.x r.y r.peer h ++ pre.0) (history_is ns (number_of y) y hy) ∙ ap (λ (rs : List DialogueRecord). rs ++ pre.0) r.taken in
+    ∙ ap (λ (h : List Entry). accepted_on r.x r.y r.peer h ++ pre.0) (history_is ns (number_of y) y hy) ∙ ap (λ (rs : List DialogueRecord). rs ++ pre.0) r.taken in
     placed_under is_rollback (is_rolled (λ u. rolled x.origin u x.history)) (Some (t, r.id)) DialogueRecord.Rollback r.before r.rest pre.0 (sent_on r.x r.y (number_of y) x.history) sent r.last refl
     ((paired_law x.origin x.superior x.history (good.fresh (number_of x) x hx) (good.legal (number_of x) x hx)).rollbacks (number_of y) r.x r.y)

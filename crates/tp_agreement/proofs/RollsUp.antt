@@ -19,10 +19,10 @@ use Rattle.tp_model.specs.Questions.{is_at}
 use Rattle.tp_model.specs.World.{Node, Frame, number_of, addr_of, find_node, put_node}
 use Rattle.tp_model.specs.Happenings.{Happening, frames_of, run}
 use Rattle.tp_model.specs.Promises.{has_record, has_logged}
-use Rattle.tp_model.specs.Promises.{is_ready_of as is_ready_rec}
+use Rattle.tp_model.specs.Promises.{is_ready_of_branch as is_ready_rec}
 use Rattle.tp_model.specs.Legal.{IsGrown}
 use Rattle.tp_steps.specs.Histories.{brought}
-use Rattle.tp_histories.specs.Histories.{IsSentIn, HasSent, HasTaken}
+use Rattle.tp_histories.specs.Histories.{IsSentIn, HasSent, HasBrought}
 use Rattle.tp_histories.specs.Worlds.{IsGood, grown_node, Comes, shown}
 use Rattle.tp_steps.specs.Facts.{BranchKey, has_ready_of}
 use Rattle.tp_histories.specs.Upward.{deeds_of}
@@ -334,7 +334,7 @@ ready_above ns fs z e told u t st p hu above now = by now.by
         ids : (v : BranchId) → TookKey h t v → v ≡ k.id
         ids v w = once_same o h t k.id v took.from w.from w.x w.y w.seq w.holder once.1 (began_from h took.from took.x took.y took.seq t k.id took.holder took.took) w.took
 
-        untold : (a : Addr) (x : Report) → a.node ≡ number_of z → HasTaken u.history a (PeerRecord.RecReply t k.id (RecState.Done x)) → ⊥
+        untold : (a : Addr) (x : Report) → a.node ≡ number_of z → HasBrought u.history a (PeerRecord.RecReply t k.id (RecState.Done x)) → ⊥
         untold a x at taken =
             let w : PeerRecord = PeerRecord.RecReply t k.id (RecState.Done x) in
             let d : Sender ns a (number_of u) w = was_sent ns fs a (number_of u) w st.good.sent (st.good.taken (number_of u) u a w hu taken) in

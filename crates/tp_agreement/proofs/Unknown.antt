@@ -27,7 +27,7 @@ use Rattle.tp_model.specs.Node.{phase_of}
 use Rattle.tp_model.specs.History.{digest}
 use Rattle.tp_model.specs.Outcomes.{is_now, rolled}
 use Rattle.tp_model.specs.Legal.{IsGrown}
-use Rattle.tp_histories.specs.Histories.{HasSent, HasTaken}
+use Rattle.tp_histories.specs.Histories.{HasSent, HasBrought}
 use Rattle.tp_steps.specs.Moves.{keeps_commit, is_committed_in, IsLate}
 use Rattle.tp_steps.specs.Facts.{find_branch}
 use Rattle.tp_steps.specs.Upward.{Deeds}
@@ -267,7 +267,7 @@ kept_commits t p b d k =
 
 -- where the branch neither left nor is done, and told no Done, an answer that it knows of nothing tells that it rolled
 pub unknown_rolled : (o : Origin) (up : Option Addr) (p : ℕ) (g : Deeds) (rs : List LogRec) (h : List Entry) (z : Addr) (t : Aaid) (b : BranchId) → Below o up p g rs h → AsksBegun h → z.node ≡ p → (g.left t ≡ true → ⊥) → (g.committed t ≡ true → ⊥)
-    → ((a : Addr) (r : Report) → a.node ≡ p → HasTaken h a (PeerRecord.RecReply t b (RecState.Done r)) → ⊥) → AnsweredUnknown o z t b h → rolled o t h ≡ true
+    → ((a : Addr) (r : Report) → a.node ≡ p → HasBrought h a (PeerRecord.RecReply t b (RecState.Done r)) → ⊥) → AnsweredUnknown o z t b h → rolled o t h ≡ true
 unknown_rolled o up p g rs [] z t b below begun at stayed undone untold s = absurd s
 unknown_rolled o up p g rs (e ∷ h) z t b below begun at stayed undone untold (inr s) =
     let r = unknown_rolled o up p g rs h z t b (below_tail o up p g rs e h below) begun.1 at stayed undone (λ a x n k. untold a x n (inr k)) s in

@@ -31,7 +31,7 @@ use Rattle.tp_steps.specs.Upward.{Deeds}
 use Rattle.tp_steps.specs.Branches.{may_end}
 use Rattle.tp_steps.specs.Histories.{brought}
 use Rattle.tp_histories.specs.Upward.{deeds_of}
-use Rattle.tp_histories.specs.Histories.{HasTaken}
+use Rattle.tp_histories.specs.Histories.{HasBrought}
 use Rattle.tp_histories.specs.Worlds.{IsGood}
 use Rattle.tp_histories.specs.Members.{is_known}
 use Rattle.tp_alarms.specs.Causes.{is_awaited, hears, has_heard, has_given_up, tells_committed}
@@ -78,7 +78,7 @@ told_decided es t r x here told =
 record TookReply (r : Report) (t : Aaid) (h : List Entry) : Type 0 where
   from : Addr
   id : BranchId
-  took : HasTaken h from (PeerRecord.RecReply t id (RecState.Done r))
+  took : HasBrought h from (PeerRecord.RecReply t id (RecState.Done r))
 
 found_reply : (r : Report) (t : Aaid) (h : List Entry) → took_reply r t h ≡ true → TookReply r t h
 found_reply r t [] m = absurd (cc (m))

@@ -28,7 +28,7 @@ use Rattle.tp_steps.specs.Facts.{BranchKey, find_branch}
 use Rattle.tp_steps.specs.Branches.{may_end}
 use Rattle.tp_steps.specs.Histories.{brought}
 use Rattle.tp_steps.specs.Upward.{Deeds}
-use Rattle.tp_histories.specs.Histories.{HasSent, HasTaken}
+use Rattle.tp_histories.specs.Histories.{HasSent, HasBrought}
 use Rattle.tp_histories.specs.Traces.{sent_on, own_mark}
 use Rattle.tp_histories.specs.Ends.{own_is}
 use Rattle.tp_histories.specs.Worlds.{IsGood, place}
@@ -89,7 +89,7 @@ pub once_at : (o : Origin) (before : List Entry) (e : Entry) (h : List Entry) �
 once_at o [] e h k = k
 once_at o (x ∷ xs) e h k = once_at o xs e h k.1
 
-pub taken_at : (before : List Entry) (e : Entry) (h : List Entry) (a : Addr) (r : PeerRecord) → brought e.event ≡ Some (a, r) → HasTaken (before ++ e ∷ h) a r
+pub taken_at : (before : List Entry) (e : Entry) (h : List Entry) (a : Addr) (r : PeerRecord) → brought e.event ≡ Some (a, r) → HasBrought (before ++ e ∷ h) a r
 taken_at [] e h a r i = inl i
 taken_at (x ∷ xs) e h a r i = inr (taken_at xs e h a r i)
 
@@ -213,7 +213,7 @@ speaker es t x hx f w a m k q said is waits = record { node = y; here = hy; numb
     legal = legal_at x.origin x.superior w.before w.entry w.rest (subst (λ (h : List Entry). IsGrown x.origin x.superior h) w.is (good.legal (number_of x) x hx))
 
     s : Sender ns a (number_of x) word
-    s = was_sent ns (run es).frames a (number_of x) word good.sent (good.taken (number_of x) x a word hx (subst (λ (h : List Entry). HasTaken h a word) (sym w.is) (taken_at w.before w.entry w.rest a word (ap brought is))))
+    s = was_sent ns (run es).frames a (number_of x) word good.sent (good.taken (number_of x) x a word hx (subst (λ (h : List Entry). HasBrought h a word) (sym w.is) (taken_at w.before w.entry w.rest a word (ap brought is))))
 
     y : Node
     y = s.node

@@ -15,10 +15,11 @@ use Rattle.tp_model.specs.World.{number_of}
 use Rattle.tp_model.specs.Happenings.{Happening, run}
 use Rattle.tp_model.specs.Legal.{IsGrown}
 use Rattle.tp_model.specs.Promises.{OneHolder}
+use Rattle.tp_model.specs.Questions.{is_begin}
 use Rattle.tp_steps.specs.Moves.{prelude}
 use Rattle.tp_steps.specs.Traces.{took_of}
-use Rattle.tp_histories.specs.Traces.{sent_on, taken_on}
-use Rattle.tp_steps.specs.Facts.{is_begin, ends, ends_in, open_at, has_ready_of, BranchKey, begun_keys}
+use Rattle.tp_histories.specs.Traces.{sent_on, accepted_on}
+use Rattle.tp_steps.specs.Facts.{ends, ends_in, open_at, has_ready_of, BranchKey, begun_keys}
 use Rattle.tp_steps.specs.Upward.{voting, voting_from, Deeds}
 use Rattle.tp_histories.specs.Upward.{deeds_of}
 use Rattle.tp_runs.specs.Heeded.{is_heeded, heeds_event, heeds}
@@ -138,7 +139,7 @@ at_most : (m n : ℕ) → m ≤ n → nat_le m n ≡ true
 at_most m n h = grind (arith, nat_tests, h)
 
 rolled_last : (o : Origin) (up : Option Addr) (p : ℕ) (g : Deeds) (rs : List LogRec) (e : Entry) (h : List Entry) (a : Addr) (x y : Mark) (q : ℕ) (w : Report) → Below o up p g rs (e ∷ h) → e.event ≡ Event.Arrive a (PeerRecord.OnAssoc x y q (DialogueRecord.RolledBack w)) → a.node ≡ p
-    → voting_from false (taken_on x y p h) ≡ true → nat_le (closed (sent_on x y p h)) (answered (taken_on x y p h)) ≡ true
+    → voting_from false (accepted_on x y p h) ≡ true → nat_le (closed (sent_on x y p h)) (answered (accepted_on x y p h)) ≡ true
 rolled_last o up p g rs e h a x y q w below is at vote = go (accounts.balance x y link.0 link.1 link.2)
   where
     accounts : Accounts o p g rs h
@@ -151,28 +152,28 @@ rolled_last o up p g rs e h a x y q w below is at vote = go (accounts.balance x 
     ks = begun_keys (sent_on x y p h)
 
     n : ℕ
-    n = ends_in (taken_on x y p h)
+    n = ends_in (accepted_on x y p h)
 
-    count : answered (taken_on x y p h) ≡ n + 1
+    count : answered (accepted_on x y p h) ≡ n + 1
     count =
-        let sum = answered_ends false (taken_on x y p h) in
-        let flag : one (voting_from false (taken_on x y p h)) ≡ 1 = ap one vote in
+        let sum = answered_ends false (accepted_on x y p h) in
+        let flag : one (voting_from false (accepted_on x y p h)) ≡ 1 = ap one vote in
         omega (arith, sum, flag)
 
-    few : length ks ≤ n + 1 → nat_le (closed (sent_on x y p h)) (answered (taken_on x y p h)) ≡ true
-    few le = let sent = closed_begun false (sent_on x y p h) in at_most (closed (sent_on x y p h)) (answered (taken_on x y p h)) (omega (arith, le, sent, count))
+    few : length ks ≤ n + 1 → nat_le (closed (sent_on x y p h)) (answered (accepted_on x y p h)) ≡ true
+    few le = let sent = closed_begun false (sent_on x y p h) in at_most (closed (sent_on x y p h)) (answered (accepted_on x y p h)) (omega (arith, le, sent, count))
 
-    heeded : is_heeded ks g rs n (voting_from false (taken_on x y p h)) (DialogueRecord.RolledBack w) ≡ true
+    heeded : is_heeded ks g rs n (voting_from false (accepted_on x y p h)) (DialogueRecord.RolledBack w) ≡ true
     heeded =
-        let all : (not (a.node == p) || is_heeded ks g rs n (voting_from false (taken_on x y p h)) (DialogueRecord.RolledBack w)) ≡ true = sym (ap (heeds_event g rs p h) is) ∙ and_left (heeds_event g rs p h e.event) (heeds g rs p h) below.heeded in
+        let all : (not (a.node == p) || is_heeded ks g rs n (voting_from false (accepted_on x y p h)) (DialogueRecord.RolledBack w)) ≡ true = sym (ap (heeds_event g rs p h) is) ∙ and_left (heeds_event g rs p h e.event) (heeds g rs p h) below.heeded in
         let here : (a.node == p) ≡ true = grind (arith, nat_tests, at) in
         rw here at all
 
-    go : Balanced o h ks n (voting_from false (taken_on x y p h)) (open_at (digest o h).current p) → nat_le (closed (sent_on x y p h)) (answered (taken_on x y p h)) ≡ true
+    go : Balanced o h ks n (voting_from false (accepted_on x y p h)) (open_at (digest o h).current p) → nat_le (closed (sent_on x y p h)) (answered (accepted_on x y p h)) ≡ true
     go (inl le) = let most = open_most (digest o h).current p in few (omega (arith, le, most))
     go (inr debt) =
         let ready : has_ready_of debt.key rs ≡ true = voted_ready ks rs n debt.key debt.at (accounts.voted x y vote) in
-        let word = debt_word ks g rs n (voting_from false (taken_on x y p h)) (DialogueRecord.RolledBack w) debt.key refl vote debt.at heeded (λ rolled. (below_tail o up p g rs e h below).never debt.key rolled ready debt.done) in
+        let word = debt_word ks g rs n (voting_from false (accepted_on x y p h)) (DialogueRecord.RolledBack w) debt.key refl vote debt.at heeded (λ rolled. (below_tail o up p g rs e h below).never debt.key rolled ready debt.done) in
         absurd (cc (word.1))
 
 pub rounds_end : (o : Origin) (up : Option Addr) (p : ℕ) (g : Deeds) (rs : List LogRec) (h : List Entry) → Below o up p g rs h → takes ends_round p h ≡ true
@@ -182,10 +183,10 @@ rounds_end o up p g rs (e ∷ h) below =
     let here : takes_event ends_round p h e.event ≡ true = event e.event refl in
     rw (here, rest) refl
   where
-    other : (sent taken : List DialogueRecord) (a : Addr) (x y : Mark) (q : ℕ) (r : DialogueRecord) → e.event ≡ Event.Arrive a (PeerRecord.OnAssoc x y q r) → a.node ≡ p → ends_round (sent_on x y p h) (taken_on x y p h) r ≡ true
-    other sent taken a x y q (DialogueRecord.RolledBack w) is at = go (voting_from false (taken_on x y p h)) refl
+    other : (sent taken : List DialogueRecord) (a : Addr) (x y : Mark) (q : ℕ) (r : DialogueRecord) → e.event ≡ Event.Arrive a (PeerRecord.OnAssoc x y q r) → a.node ≡ p → ends_round (sent_on x y p h) (accepted_on x y p h) r ≡ true
+    other sent taken a x y q (DialogueRecord.RolledBack w) is at = go (voting_from false (accepted_on x y p h)) refl
       where
-        go : (v : Bool) → voting_from false (taken_on x y p h) ≡ v → (not (voting_from false (taken_on x y p h)) || nat_le (closed (sent_on x y p h)) (answered (taken_on x y p h))) ≡ true
+        go : (v : Bool) → voting_from false (accepted_on x y p h) ≡ v → (not (voting_from false (accepted_on x y p h)) || nat_le (closed (sent_on x y p h)) (answered (accepted_on x y p h))) ≡ true
         go false i = rw i refl
         go true i = let le = rolled_last o up p g rs e h a x y q w below is at i in rw (i, le) refl
     other sent taken a x y q r is at = refl
@@ -193,9 +194,9 @@ rounds_end o up p g rs (e ∷ h) below =
     event : (f : Event) → e.event ≡ f → takes_event ends_round p h f ≡ true
     event (Event.Arrive a (PeerRecord.OnAssoc x y q r)) is = go (a.node == p) refl
       where
-        go : (b : Bool) → (a.node == p) ≡ b → (not (a.node == p) || ends_round (sent_on x y p h) (taken_on x y p h) r) ≡ true
+        go : (b : Bool) → (a.node == p) ≡ b → (not (a.node == p) || ends_round (sent_on x y p h) (accepted_on x y p h) r) ≡ true
         go false i = rw i refl
-        go true i = let at : a.node ≡ p = grind (arith, nat_tests, i) in rw i (other (sent_on x y p h) (taken_on x y p h) a x y q r is at)
+        go true i = let at : a.node ≡ p = grind (arith, nat_tests, i) in rw i (other (sent_on x y p h) (accepted_on x y p h) a x y q r is at)
     event (Event.Declare s) is = refl
     event (Event.Do r) is = refl
     event (Event.Arrive a r) is = refl

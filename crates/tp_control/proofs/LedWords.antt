@@ -6,10 +6,10 @@ use Rattle.tp_model.specs.declared.transaction.TxOut.{TxOut}
 use Rattle.tp_model.specs.Parts.{Arc}
 use Rattle.tp_model.specs.Links.{is_live}
 use Rattle.tp_model.specs.Arcs.{link_with, find_arc, shut_with, performed_one, performed}
-use Rattle.tp_model.specs.Questions.{said_to}
+use Rattle.tp_model.specs.Questions.{is_begin, said_to}
 use Rattle.tp_steps.specs.Moves.{is_apart, are_apart, is_spoken, are_spoken, gives_to, grants_to, hands_to, is_said, are_said, closes_at}
 use Rattle.tp_model.specs.Parts.{Event}
-use Rattle.tp_steps.specs.Facts.{is_begin, none_of, stays}
+use Rattle.tp_steps.specs.Facts.{none_of, stays}
 use Rattle.tp_steps.specs.Passages.{begins_none}
 use Rattle.tp_steps.specs.Control.{rounds, flag_from}
 use Rattle.tp_histories.specs.Control.{is_closing, closes_down, begun_behind, closed}

@@ -31,7 +31,7 @@ use Rattle.tp_model.specs.Legal.{IsGrown}
 use Rattle.tp_model.specs.Promises.{holds_on}
 use Rattle.tp_steps.specs.Moves.{IsLate, IsAsked, prelude, counted_in, begun_in, begun_by_record, left_by, gives_to, some_leads}
 use Rattle.tp_steps.specs.Traces.{count_to, sent_of, took_of}
-use Rattle.tp_histories.specs.Traces.{sent_on, taken_on}
+use Rattle.tp_histories.specs.Traces.{sent_on, accepted_on}
 use Rattle.tp_steps.specs.Facts.{find_branch, key_at, ends_in, BranchKey, begun_keys, Reads}
 use Rattle.tp_steps.specs.Ends.{is_there, are_separate}
 use Rattle.tp_steps.specs.Upward.{voting, voting_from, Deeds}
@@ -240,9 +240,9 @@ took_with o up e h p x y s k below live l at (Took_one a z w v u r i j node ev) 
 
 -- after the prelude, of what was taken before it
 before_it : (o : Origin) (up : Option Addr) (e : Event) (h : List Entry) (p : ℕ) (x y : Mark) (s k : ℕ) → o.start.records ≡ [] → IsGrown o up h → refusal o.who (digest o h) e ≡ None → is_at up p ≡ false
-    → ((v u : ℕ) → link_with (digest o h).arcs p ≡ Live x y v u → IsAbove p (digest o h) (sent_on x y p h) (taken_on x y p h))
+    → ((v u : ℕ) → link_with (digest o h).arcs p ≡ Live x y v u → IsAbove p (digest o h) (sent_on x y p h) (accepted_on x y p h))
     → link_with (prelude o.who (digest o h) e).arcs p ≡ Live x y s k → (l : Link) → link_with (prelude o.who (digest o h) e).arcs p ≡ l → Prelinked o.who up p (digest o h) e l
-    → IsAbove p (prelude o.who (digest o h) e) (sent_on x y p h) (taken_on x y p h)
+    → IsAbove p (prelude o.who (digest o h) e) (sent_on x y p h) (accepted_on x y p h)
 before_it o up e h p x y s k empty legal ok below old live l at pre = go (readied o.who up d e p (traced_law o up h legal).under below ok (ap is_live live))
   where
     d : Digest
@@ -260,10 +260,10 @@ before_it o up e h p x y s k empty legal ok below old live l at pre = go (readie
     branches : (v : Bool) (f : Phase → Branch → Bool) → of_branch v f now.current p ≡ of_branch v f d.current p
     branches v f = same_branch o.who d e p late crashed (came_by o.who d e ok) v f
 
-    on : IsAbove p d (sent_on x y p h) (taken_on x y p h) → ((b : Arc) → find_arc now.arcs p ≡ Some b → (a : Arc) × (find_arc d.arcs p ≡ Some a) × (b.dialogue ≡ a.dialogue)) → IsAbove p now (sent_on x y p h) (taken_on x y p h)
-    on was arcs = led_prelude p d now (sent_on x y p h) (answered (taken_on x y p h)) (returned (answered (taken_on x y p h)) (taken_on x y p h)) branches arcs was
+    on : IsAbove p d (sent_on x y p h) (accepted_on x y p h) → ((b : Arc) → find_arc now.arcs p ≡ Some b → (a : Arc) × (find_arc d.arcs p ≡ Some a) × (b.dialogue ≡ a.dialogue)) → IsAbove p now (sent_on x y p h) (accepted_on x y p h)
+    on was arcs = led_prelude p d now (sent_on x y p h) (answered (accepted_on x y p h)) (returned (answered (accepted_on x y p h)) (accepted_on x y p h)) branches arcs was
 
-    go : Readied p d now → IsAbove p now (sent_on x y p h) (taken_on x y p h)
+    go : Readied p d now → IsAbove p now (sent_on x y p h) (accepted_on x y p h)
     go (Had_it arcs (inl same)) = on (old s k (sym same ∙ live)) arcs
     go (Had_it arcs (inr one)) = let t = taken_live (link_with d.arcs p) x y s k (sym live ∙ one) in on (old t.0 t.1 t.2) arcs
     go (Is_new u z good op fresh) = new pre
@@ -283,13 +283,13 @@ before_it o up e h p x y s k empty legal ok below old live l at pre = go (readie
                     let young = late c i in
                     absurd (grind (arith, young, j, key_now))
 
-        lists : Prelinked o.who up p d e l → (sent_on x y p h ≡ []) × (taken_on x y p h ≡ [])
+        lists : Prelinked o.who up p d e l → (sent_on x y p h ≡ []) × (accepted_on x y p h ≡ [])
         lists (Now_confirmed a b opening i nothing) =
             let same : Live x y s k ≡ Live a b 0 0 = sym live ∙ at ∙ i in
             let zs : s ≡ 0 = cc (same) in
             let zk : k ≡ 0 = cc (same) in
             let long = long_of o.who up d e h (traced_law o up h legal) p l (Now_confirmed a b opening i nothing) x y s k (sym at ∙ live) in
-            (empty_is (sent_on x y p h) (long.0 ∙ zs), empty_left (taken_on x y p h) (took_of x y p e) (empty_is (taken_on x y p h ++ took_of x y p e) (long.1 ∙ zk)))
+            (empty_is (sent_on x y p h) (long.0 ∙ zs), empty_left (accepted_on x y p h) (took_of x y p e) (empty_is (accepted_on x y p h ++ took_of x y p e) (long.1 ∙ zk)))
           where
             empty_left : (xs ys : List DialogueRecord) → xs ++ ys ≡ [] → xs ≡ []
             empty_left [] ys h = refl
@@ -301,10 +301,10 @@ before_it o up e h p x y s k empty legal ok below old live l at pre = go (readie
         lists (Now_accepted a i b n nothing nil) = absurd (cc (b, below))
         lists (Took_one a b w v u r i j node ev) = absurd (cc (i, op))
 
-        new : Prelinked o.who up p d e l → IsAbove p now (sent_on x y p h) (taken_on x y p h)
+        new : Prelinked o.who up p d e l → IsAbove p now (sent_on x y p h) (accepted_on x y p h)
         new q =
             let e2 = lists q in
-            subst (λ (ss : List DialogueRecord). IsAbove p now ss (taken_on x y p h)) (sym e2.0) (subst (λ (ts : List DialogueRecord). IsAbove p now [] ts) (sym e2.1) (led_new p now u 0 none good fresh))
+            subst (λ (ss : List DialogueRecord). IsAbove p now ss (accepted_on x y p h)) (sym e2.0) (subst (λ (ts : List DialogueRecord). IsAbove p now [] ts) (sym e2.1) (led_new p now u 0 none good fresh))
 
 below_superior : (d : Digest) (up : Option Addr) (p : ℕ) → ((a : Addr) → d.superior ≡ Some a → up ≡ Some a) → is_at up p ≡ false → is_superior d p ≡ false
 below_superior d up p under below = go d.superior refl
@@ -333,7 +333,7 @@ opening_counted d from q a b u p z x y s k op who live = elim (counted_link d.ar
 -- ---- every entry
 
 above_step : (o : Origin) (up : Option Addr) (e : Entry) (h : List Entry) → o.start.records ≡ [] → IsGrown o up (e ∷ h) → (p : ℕ) → is_at up p ≡ false → takes_event is_in_round p h e.event ≡ true → (x y : Mark) (s k : ℕ) → link_with (digest o (e ∷ h)).arcs p ≡ Live x y s k
-    → ((v u : ℕ) → link_with (digest o h).arcs p ≡ Live x y v u → IsAbove p (digest o h) (sent_on x y p h) (taken_on x y p h)) → IsAbove p (digest o (e ∷ h)) (sent_on x y p (e ∷ h)) (taken_on x y p (e ∷ h))
+    → ((v u : ℕ) → link_with (digest o h).arcs p ≡ Live x y v u → IsAbove p (digest o h) (sent_on x y p h) (accepted_on x y p h)) → IsAbove p (digest o (e ∷ h)) (sent_on x y p (e ∷ h)) (accepted_on x y p (e ∷ h))
 above_step o up e h empty legal p below in_round x y s k live old = subst (λ (xs : List DialogueRecord). IsAbove p m.next (sent ++ xs) (taken ++ ts)) (sym said) (go (gives_to e.event p) refl (gains_at e.event p) refl (answer_from p e.event) refl)
   where
     d : Digest
@@ -349,7 +349,7 @@ above_step o up e h empty legal p below in_round x y s k live old = subst (λ (x
     sent = sent_on x y p h
 
     taken : List DialogueRecord
-    taken = taken_on x y p h
+    taken = accepted_on x y p h
 
     ts : List DialogueRecord
     ts = took_of x y p e.event
@@ -565,7 +565,7 @@ above_step o up e h empty legal p below in_round x y s k live old = subst (λ (x
 -- ---- every legal history
 
 pub above_law : (o : Origin) (up : Option Addr) (h : List Entry) → o.start.records ≡ [] → IsGrown o up h → (p : ℕ) → is_at up p ≡ false → takes is_in_round p h ≡ true → (x y : Mark) (s k : ℕ) → link_with (digest o h).arcs p ≡ Live x y s k
-    → IsAbove p (digest o h) (sent_on x y p h) (taken_on x y p h)
+    → IsAbove p (digest o h) (sent_on x y p h) (accepted_on x y p h)
 unfolding started
 above_law o up [] empty legal p below rounds x y s k live = absurd (cc (live))
 above_law o up (e ∷ h) empty legal p below rounds x y s k live =
@@ -591,12 +591,12 @@ in_rounds g rs p (e ∷ h) heeded ends =
     event : (e : Event) → heeds_event g rs p h e ≡ true → takes_event ends_round p h e ≡ true → takes_event is_in_round p h e ≡ true
     event (Event.Arrive a (PeerRecord.OnAssoc x y q r)) b c = go (a.node == p) refl
       where
-        go : (z : Bool) → (a.node == p) ≡ z → (not (a.node == p) || is_in_round (sent_on x y p h) (taken_on x y p h) r) ≡ true
+        go : (z : Bool) → (a.node == p) ≡ z → (not (a.node == p) || is_in_round (sent_on x y p h) (accepted_on x y p h) r) ≡ true
         go false i = rw i refl
         go true i =
-            let here : is_heeded (begun_keys (sent_on x y p h)) g rs (ends_in (taken_on x y p h)) (voting_from false (taken_on x y p h)) r ≡ true = rw i at b in
-            let last : ends_round (sent_on x y p h) (taken_on x y p h) r ≡ true = rw i at c in
-            rw i (word (begun_keys (sent_on x y p h)) (ends_in (taken_on x y p h)) (sent_on x y p h) (taken_on x y p h) r here last)
+            let here : is_heeded (begun_keys (sent_on x y p h)) g rs (ends_in (accepted_on x y p h)) (voting_from false (accepted_on x y p h)) r ≡ true = rw i at b in
+            let last : ends_round (sent_on x y p h) (accepted_on x y p h) r ≡ true = rw i at c in
+            rw i (word (begun_keys (sent_on x y p h)) (ends_in (accepted_on x y p h)) (sent_on x y p h) (accepted_on x y p h) r here last)
     event (Event.Declare s) b c = refl
     event (Event.Do r) b c = refl
     event (Event.Arrive a r) b c = refl
@@ -657,8 +657,8 @@ took_back es ends n m x y here there up below held =
     let arc = held_arc x y p (digest n.origin n.history).arcs (separate_law n.origin n.superior n.history legal) held in
     let rounds = in_rounds (deeds_of m.origin m.history) (records m.origin m.history) p n.history (heeds_run es n m here there up) (ends n m here there up) in
     let law = above_law n.origin n.superior n.history (good.fresh (number_of n) n here) legal p below rounds x y arc.sent arc.taken arc.live in
-    let both = back_now p (digest n.origin n.history) (sent_on x y p n.history) (taken_on x y p n.history) arc.arc arc.found arc.polarized arc.held law in
+    let both = back_now p (digest n.origin n.history) (sent_on x y p n.history) (accepted_on x y p n.history) arc.arc arc.found arc.polarized arc.held law in
     let sent : model.sent_on x y p n.history ≡ sent_on x y p n.history = all_sent x y p n.history in
-    let taken : model.taken_on x y p n.history ≡ taken_on x y p n.history = all_taken x y p n.history ((breaks_law n.origin n.superior n.history legal).live p x y arc.sent arc.taken arc.live) in
+    let taken : model.taken_on x y p n.history ≡ accepted_on x y p n.history = all_taken x y p n.history ((breaks_law n.origin n.superior n.history legal).live p x y arc.sent arc.taken arc.live) in
     subst (λ (ss : List DialogueRecord). (given (answered (model.taken_on x y p n.history)) ss ≤ returned (answered (model.taken_on x y p n.history)) (model.taken_on x y p n.history)) × (given (suc (answered (model.taken_on x y p n.history))) ss ≡ 0)) (sym sent)
     (subst (λ (ts : List DialogueRecord). (given (answered ts) (sent_on x y p n.history) ≤ returned (answered ts) ts) × (given (suc (answered ts)) (sent_on x y p n.history) ≡ 0)) (sym taken) both)

@@ -26,7 +26,7 @@ use Rattle.tp_model.specs.Promises.{holds_on}
 use Rattle.tp_model.specs.Traces as model
 use Rattle.tp_steps.specs.Moves.{IsLate, prelude, gives_to, some_leads}
 use Rattle.tp_steps.specs.Traces.{count_to, sent_of, took_of}
-use Rattle.tp_histories.specs.Traces.{sent_on, taken_on, own_old}
+use Rattle.tp_histories.specs.Traces.{sent_on, own_old, accepted_on}
 use Rattle.tp_steps.specs.Facts.{none_of, ends_in, find_branch, under_at, key_at, KnowsAt, words_to, IsHeard}
 use Rattle.tp_histories.specs.Members.{IsOnce}
 use Rattle.tp_steps.specs.Ends.{is_there, are_separate}
@@ -89,9 +89,9 @@ unfolding after_crash
 crash_idle who d p = refl
 
 below_prelude : (o : Origin) (up : Option Addr) (e : Event) (h : List Entry) (p : ℕ) (x y : Mark) (s k : ℕ) → IsGrown o up h → refusal o.who (digest o h) e ≡ None → is_at up p ≡ true
-    → ((v u : ℕ) → link_with (digest o h).arcs p ≡ Live x y v u → HoldsBelow p (digest o h) (sent_on x y p h) (taken_on x y p h))
+    → ((v u : ℕ) → link_with (digest o h).arcs p ≡ Live x y v u → HoldsBelow p (digest o h) (sent_on x y p h) (accepted_on x y p h))
     → link_with (prelude o.who (digest o h) e).arcs p ≡ Live x y s k → (l : Link) → link_with (prelude o.who (digest o h) e).arcs p ≡ l → Prelinked o.who up p (digest o h) e l
-    → HoldsBelow p (prelude o.who (digest o h) e) (sent_on x y p h) (taken_on x y p h)
+    → HoldsBelow p (prelude o.who (digest o h) e) (sent_on x y p h) (accepted_on x y p h)
 below_prelude o up e h p x y s k legal ok above old live l at pre = go (prepared o.who d e p ok shut (ap is_live live))
   where
     d : Digest
@@ -105,7 +105,7 @@ below_prelude o up e h p x y s k legal ok above old live l at pre = go (prepared
         let own : own_old o.who d up p (Opening z) ≡ true = ap (own_old o.who d up p) (sym op) ∙ (traced_law o up h legal).own p in
         absurd (grind (arith, own, above))
 
-    keeps : Prelinked o.who up p d e l → returned (answered (sent_on x y p h)) (sent_on x y p h) ≤ given (answered (sent_on x y p h)) (taken_on x y p h)
+    keeps : Prelinked o.who up p d e l → returned (answered (sent_on x y p h)) (sent_on x y p h) ≤ given (answered (sent_on x y p h)) (accepted_on x y p h)
     keeps (As_before i none) = (old s k (sym i ∙ sym at ∙ live)).keeps
     keeps (Now_idle i none) = absurd (cc (sym live ∙ at ∙ i))
     keeps (Now_called i down n none below calls) = absurd (cc (sym live ∙ at ∙ i))
@@ -115,7 +115,7 @@ below_prelude o up e h p x y s k legal ok above old live l at pre = go (prepared
         let zs : s ≡ 0 = cc (same) in
         let long = long_of o.who up d e h (traced_law o up h legal) p l (Now_accepted z i u n none nil) x y s k (sym at ∙ live) in
         let none_sent : sent_on x y p h ≡ [] = empty_is (sent_on x y p h) (long.0 ∙ zs) in
-        subst (λ (ss : List DialogueRecord). returned (answered ss) ss ≤ given (answered ss) (taken_on x y p h)) (sym none_sent) (omega arith)
+        subst (λ (ss : List DialogueRecord). returned (answered ss) ss ≤ given (answered ss) (accepted_on x y p h)) (sym none_sent) (omega arith)
     keeps (Now_confirmed z w op i none) = absurd (shut z op)
     keeps (Took_one a z w v u r i j node ev) =
         let t = taken_live (link_with d.arcs p) x y s k (sym live ∙ at ∙ j ∙ sym (ap with_one_taken i)) in
@@ -132,7 +132,7 @@ below_prelude o up e h p x y s k legal ok above old live l at pre = go (prepared
         young : now.current ≡ Some c → ⊥
         young here = let same : fresh_current (Under t i a.peer) ≡ c = cc (sym cur ∙ here) in cc (ap (λ (y : Current). is_active y.phase) same, done)
 
-    on : HoldsBelow p d (sent_on x y p h) (taken_on x y p h) → (holding_at p now.arcs ≡ true → (holding_at p d.arcs || false) ≡ true) → HoldsBelow p now (sent_on x y p h) (taken_on x y p h)
+    on : HoldsBelow p d (sent_on x y p h) (accepted_on x y p h) → (holding_at p now.arcs ≡ true → (holding_at p d.arcs || false) ≡ true) → HoldsBelow p now (sent_on x y p h) (accepted_on x y p h)
     on was g = record {
       keeps = was.keeps;
       holds = λ held. was.holds (plain (holding_at p d.arcs) (g held));
@@ -143,7 +143,7 @@ below_prelude o up e h p x y s k legal ok above old live l at pre = go (prepared
         plain true h = refl
         plain false h = absurd (cc (h))
 
-    go : Prepared p d now → HoldsBelow p now (sent_on x y p h) (taken_on x y p h)
+    go : Prepared p d now → HoldsBelow p now (sent_on x y p h) (accepted_on x y p h)
     go (Holds_none n) = record { keeps = keeps pre; holds = λ held. absurd (cc (held, n)); past = λ c is under done. n }
     go (Stays_there g (inl same)) = on (old s k (sym same ∙ live)) g
     go (Stays_there g (inr one)) = let t = taken_live (link_with d.arcs p) x y s k (sym live ∙ one) in on (old t.0 t.1 t.2) g
@@ -193,7 +193,7 @@ same_rounds c c' n h i = omega (arith, h, i)
 -- ---- one entry
 
 record Step (o : Origin) (up : Option Addr) (e : Entry) (h : List Entry) (p : ℕ) (x y : Mark) : Type 0 where
-  before : HoldsBelow p (prelude o.who (digest o h) e.event) (sent_on x y p h) (taken_on x y p h)
+  before : HoldsBelow p (prelude o.who (digest o h) e.event) (sent_on x y p h) (accepted_on x y p h)
   said : sent_of x y p e.outs ≡ said_to p (action o.who (digest o h) e.event).outs
   live : is_live (link_with (action o.who (digest o h) e.event).next.arcs p) ≡ true
   heard : IsHeard p (is_at up p) (rolls o.who (digest o h) e.event) 1 (prelude o.who (digest o h) e.event) (prelude o.who (digest o h) e.event) (action o.who (digest o h) e.event)
@@ -239,14 +239,14 @@ answers_so o up e h p x y st v n some = go (ends_or_votes (voting_from false (se
     go (inr vote) = let c = st.votes (voting_append false (sent_on x y p h) xs ∙ vote) in Voted c.0 c.1 c.3 c.4
 
 below_quiet : (o : Origin) (up : Option Addr) (e : Entry) (h : List Entry) (p : ℕ) (x y : Mark) → Step o up e h p x y → IsHolding false p (prelude o.who (digest o h) e.event) (action o.who (digest o h) e.event)
-    → HoldsBelow p (action o.who (digest o h) e.event).next (sent_on x y p h ++ sent_of x y p e.outs) (taken_on x y p h ++ took_of x y p e.event)
+    → HoldsBelow p (action o.who (digest o h) e.event).next (sent_on x y p h ++ sent_of x y p e.outs) (accepted_on x y p h ++ took_of x y p e.event)
 below_quiet o up e h p x y st hold = go (rounds closes_up voted_behind (flag_from voted_behind false sent) xs) refl
   where
     sent : List DialogueRecord
     sent = sent_on x y p h
 
     taken : List DialogueRecord
-    taken = taken_on x y p h
+    taken = accepted_on x y p h
 
     xs : List DialogueRecord
     xs = sent_of x y p e.outs
@@ -298,12 +298,12 @@ below_quiet o up e h p x y st hold = go (rounds closes_up voted_behind (flag_fro
         away (Voted c is under done) = past c is under done
 
 -- a record gave control
-below_gained : (o : Origin) (up : Option Addr) (e : Entry) (h : List Entry) (p : ℕ) (x y : Mark) (r : DialogueRecord) → Step o up e h p x y → took_of x y p e.event ≡ r ∷ [] → is_giving r ≡ true → answered (sent_on x y p h) ≤ closed (taken_on x y p h)
+below_gained : (o : Origin) (up : Option Addr) (e : Entry) (h : List Entry) (p : ℕ) (x y : Mark) (r : DialogueRecord) → Step o up e h p x y → took_of x y p e.event ≡ r ∷ [] → is_giving r ≡ true → answered (sent_on x y p h) ≤ closed (accepted_on x y p h)
     → none_of is_returning (sent_of x y p e.outs) ≡ true → rounds closes_up voted_behind (flag_from voted_behind false (sent_on x y p h)) (sent_of x y p e.outs) ≡ 0 → IsPastHolding p (action o.who (digest o h) e.event).next
-    → HoldsBelow p (action o.who (digest o h) e.event).next (sent_on x y p h ++ sent_of x y p e.outs) (taken_on x y p h ++ took_of x y p e.event)
+    → HoldsBelow p (action o.who (digest o h) e.event).next (sent_on x y p h ++ sent_of x y p e.outs) (accepted_on x y p h ++ took_of x y p e.event)
 below_gained o up e h p x y r st took gives le quiet still_zero past =
     let sent : List DialogueRecord = sent_on x y p h in
-    let taken : List DialogueRecord = taken_on x y p h in
+    let taken : List DialogueRecord = accepted_on x y p h in
     let xs : List DialogueRecord = sent_of x y p e.outs in
     let ts : List DialogueRecord = took_of x y p e.event in
     let still : answered (sent ++ xs) ≡ answered sent = same_rounds (answered sent) (answered (sent ++ xs)) _ (rounds_append closes_up voted_behind false sent xs) still_zero in
@@ -322,10 +322,10 @@ below_gained o up e h p x y r st took gives le quiet still_zero past =
 
 -- a request gave it back
 below_gave : (o : Origin) (up : Option Addr) (e : Entry) (h : List Entry) (p : ℕ) (x y : Mark) (r : DialogueRecord) → Step o up e h p x y → ((v : Bool) → rounds closes_up voted_behind v (r ∷ []) ≡ 0) → prelude o.who (digest o h) e.event ≡ digest o h
-    → Gave p r (digest o h) (action o.who (digest o h) e.event) → HoldsBelow p (action o.who (digest o h) e.event).next (sent_on x y p h ++ sent_of x y p e.outs) (taken_on x y p h ++ took_of x y p e.event)
+    → Gave p r (digest o h) (action o.who (digest o h) e.event) → HoldsBelow p (action o.who (digest o h) e.event).next (sent_on x y p h ++ sent_of x y p e.outs) (accepted_on x y p h ++ took_of x y p e.event)
 below_gave o up e h p x y r st none same gave =
     let sent : List DialogueRecord = sent_on x y p h in
-    let taken : List DialogueRecord = taken_on x y p h in
+    let taken : List DialogueRecord = accepted_on x y p h in
     let xs : List DialogueRecord = sent_of x y p e.outs in
     let ts : List DialogueRecord = took_of x y p e.event in
     let one : xs ≡ r ∷ [] = st.said ∙ gave.said in
@@ -358,7 +358,7 @@ gives_by p (Event.Do (Request.HandshakeGrant q)) h = let same : q ≡ p = grind 
 gives_by p e h = absurd (cc (h))
 
 below_gives : (o : Origin) (up : Option Addr) (e : Entry) (h : List Entry) (p : ℕ) (x y : Mark) → Step o up e h p x y → refusal o.who (digest o h) e.event ≡ None → Gives p e.event
-    → HoldsBelow p (action o.who (digest o h) e.event).next (sent_on x y p h ++ sent_of x y p e.outs) (taken_on x y p h ++ took_of x y p e.event)
+    → HoldsBelow p (action o.who (digest o h) e.event).next (sent_on x y p h ++ sent_of x y p e.outs) (accepted_on x y p h ++ took_of x y p e.event)
 below_gives o up e h p x y st ok (Gives_plainly is) =
     below_gave o up e h p x y DialogueRecord.Grant st (λ v. grind arith) (ap (prelude o.who (digest o h)) is)
     (subst (λ (f : Event). Gave p DialogueRecord.Grant (digest o h) (action o.who (digest o h) f)) (sym is) (gave_grant o.who (digest o h) p (sym (ap (refusal o.who (digest o h)) is) ∙ ok)))
@@ -401,9 +401,9 @@ word_of o up e h p x y s k g live shut l at (Took_one a z w v u r i j node ev) =
     made : (z x w y : Mark) (v u : ℕ) → z ≡ x → w ≡ y → Live z w v u ≡ Live x y v u
     made z x w y v u f g = rw (f, g) refl
 
-below_gains : (o : Origin) (up : Option Addr) (e : Entry) (h : List Entry) (p : ℕ) (x y : Mark) → Step o up e h p x y → IsGrown o up h → refusal o.who (digest o h) e.event ≡ None → answered (sent_on x y p h) ≤ closed (taken_on x y p h) → IsPastHolding p (digest o h)
+below_gains : (o : Origin) (up : Option Addr) (e : Entry) (h : List Entry) (p : ℕ) (x y : Mark) → Step o up e h p x y → IsGrown o up h → refusal o.who (digest o h) e.event ≡ None → answered (sent_on x y p h) ≤ closed (accepted_on x y p h) → IsPastHolding p (digest o h)
     → IsHolding true p (prelude o.who (digest o h) e.event) (action o.who (digest o h) e.event) → (r : DialogueRecord) → took_of x y p e.event ≡ r ∷ [] → is_giving r ≡ true → Gain p e.event
-    → HoldsBelow p (action o.who (digest o h) e.event).next (sent_on x y p h ++ sent_of x y p e.outs) (taken_on x y p h ++ took_of x y p e.event)
+    → HoldsBelow p (action o.who (digest o h) e.event).next (sent_on x y p h ++ sent_of x y p e.outs) (accepted_on x y p h ++ took_of x y p e.event)
 below_gains o up e h p x y st legal ok le was hold r took gives gain =
     below_gained o up e h p x y r st took gives le (ap (none_of is_returning) st.said ∙ hold.returns) (quiet gain) (past gain)
   where
@@ -465,7 +465,7 @@ below_gains o up e h p x y st legal ok le was hold r took gives gain =
 -- ---- every legal history
 
 below_step : (o : Origin) (up : Option Addr) (e : Entry) (h : List Entry) → o.start.records ≡ [] → IsGrown o up (e ∷ h) → IsOnce o (e ∷ h) → (p : ℕ) (x y : Mark) (s k : ℕ) → is_at up p ≡ true → link_with (digest o (e ∷ h)).arcs p ≡ Live x y s k
-    → ((v u : ℕ) → link_with (digest o h).arcs p ≡ Live x y v u → HoldsBelow p (digest o h) (sent_on x y p h) (taken_on x y p h)) → HoldsBelow p (digest o (e ∷ h)) (sent_on x y p (e ∷ h)) (taken_on x y p (e ∷ h))
+    → ((v u : ℕ) → link_with (digest o h).arcs p ≡ Live x y v u → HoldsBelow p (digest o h) (sent_on x y p h) (accepted_on x y p h)) → HoldsBelow p (digest o (e ∷ h)) (sent_on x y p (e ∷ h)) (accepted_on x y p (e ∷ h))
 below_step o up e h empty legal once p x y s k above live old = go (gives_to e.event p) refl (gains_at e.event p) refl
   where
     d : Digest
@@ -477,7 +477,7 @@ below_step o up e h empty legal once p x y s k above live old = go (gives_to e.e
     m : Move
     m = action o.who d e.event
 
-    go : (b : Bool) → gives_to e.event p ≡ b → (g : Bool) → gains_at e.event p ≡ g → HoldsBelow p m.next (sent_on x y p h ++ sent_of x y p e.outs) (taken_on x y p h ++ took_of x y p e.event)
+    go : (b : Bool) → gives_to e.event p ≡ b → (g : Bool) → gains_at e.event p ≡ g → HoldsBelow p m.next (sent_on x y p h ++ sent_of x y p e.outs) (accepted_on x y p h ++ took_of x y p e.event)
     go b i g j = on b i g j
       where
         t : Told o.who up p d e.event
@@ -510,7 +510,7 @@ below_step o up e h empty legal once p x y s k above live old = go (gives_to e.e
             holding_event o.who d e.event p (is_at up p) (rolls o.who d e.event) 1 (late_law o up h legal.3) legal.0 (reads_event o up e.event h p legal.0 (placed_event o up e h p empty legal)) none
             (record { superior = st.above; bare = λ c is l. st.bare c is }) (ap is_live live)
 
-        on : (b : Bool) → gives_to e.event p ≡ b → (g : Bool) → gains_at e.event p ≡ g → HoldsBelow p m.next (sent_on x y p h ++ sent_of x y p e.outs) (taken_on x y p h ++ took_of x y p e.event)
+        on : (b : Bool) → gives_to e.event p ≡ b → (g : Bool) → gains_at e.event p ≡ g → HoldsBelow p m.next (sent_on x y p h ++ sent_of x y p e.outs) (accepted_on x y p h ++ took_of x y p e.event)
         on true i g j = below_gives o up e h p x y st legal.0 (gives_by p e.event i)
         on false i false j = below_quiet o up e h p x y st (subst (λ (g : Bool). IsHolding g p now m) j (hold i))
         on false i true j =
@@ -519,7 +519,7 @@ below_step o up e h empty legal once p x y s k above live old = go (gives_to e.e
             below_gains o up e h p x y st legal.3 legal.0 (answers_behind o up h p x y word.sent word.taken empty legal.3 above word.was) (old word.sent word.taken word.was).past (subst (λ (g : Bool). IsHolding g p now m) j (hold i)) word.word word.took word.gives gain
 
 pub below_law : (o : Origin) (up : Option Addr) (h : List Entry) → o.start.records ≡ [] → IsGrown o up h → IsOnce o h → (p : ℕ) (x y : Mark) (s k : ℕ) → is_at up p ≡ true → link_with (digest o h).arcs p ≡ Live x y s k
-    → HoldsBelow p (digest o h) (sent_on x y p h) (taken_on x y p h)
+    → HoldsBelow p (digest o h) (sent_on x y p h) (accepted_on x y p h)
 unfolding started
 below_law o up [] empty legal once p x y s k above live = absurd (cc (live))
 below_law o up (e ∷ h) empty legal once p x y s k above live = below_step o up e h empty legal once p x y s k above live (λ v u was. below_law o up h empty legal.3 once.1 p x y v u above was)
@@ -557,6 +557,6 @@ took_more es m p x y here above held =
     let found = held_there x y p (digest m.origin m.history).arcs (separate_law m.origin m.superior m.history legal) held in
     let law = below_law m.origin m.superior m.history (good.fresh (number_of m) m here) legal ((unique_run es).once (number_of m) m here) p x y found.0 found.1 above found.2 in
     let sent : model.sent_on x y p m.history ≡ sent_on x y p m.history = all_sent x y p m.history in
-    let taken : model.taken_on x y p m.history ≡ taken_on x y p m.history = all_taken x y p m.history ((breaks_law m.origin m.superior m.history legal).live p x y found.0 found.1 found.2) in
+    let taken : model.taken_on x y p m.history ≡ accepted_on x y p m.history = all_taken x y p m.history ((breaks_law m.origin m.superior m.history legal).live p x y found.0 found.1 found.2) in
     subst (λ (ss : List DialogueRecord). suc (returned (answered ss) ss) ≤ given (answered ss) (model.taken_on x y p m.history)) (sym sent)
     (subst (λ (ts : List DialogueRecord). suc (returned (answered (sent_on x y p m.history)) (sent_on x y p m.history)) ≤ given (answered (sent_on x y p m.history)) ts) (sym taken) (law.holds found.3))

@@ -10,7 +10,7 @@ use Rattle.tp_model.specs.Parts.{Event, Entry, Dialogue, Arc, Branch, Current, D
 use Rattle.tp_model.specs.Questions.{is_at}
 use Rattle.tp_model.specs.World.{World, Node, number_of}
 use Rattle.tp_model.specs.Promises.{IsIn}
-use Rattle.tp_histories.specs.Traces.{sent_on, taken_on}
+use Rattle.tp_histories.specs.Traces.{sent_on, accepted_on}
 use Rattle.tp_steps.specs.Upward.{voting_from}
 use Rattle.tp_model.specs.Dialogues.{is_nil, is_active, is_rolling, is_polarized, is_chained, is_unchained}
 use Rattle.tp_model.specs.Arcs.{find_arc}
@@ -128,7 +128,7 @@ ends_round sent taken _ = true
 
 -- of each record that was taken from the peer, by what was sent and taken with its pair before
 abbrev pub takes_event : (List DialogueRecord → List DialogueRecord → DialogueRecord → Bool) → ℕ → List Entry → Event → Bool
-takes_event f p h (Event.Arrive a (PeerRecord.OnAssoc x y q r)) = not (a.node == p) || f (sent_on x y p h) (taken_on x y p h) r
+takes_event f p h (Event.Arrive a (PeerRecord.OnAssoc x y q r)) = not (a.node == p) || f (sent_on x y p h) (accepted_on x y p h) r
 takes_event f p h _ = true
 
 abbrev pub takes : (List DialogueRecord → List DialogueRecord → DialogueRecord → Bool) → ℕ → List Entry → Bool

@@ -15,7 +15,7 @@ ghost use Rattle.tp_model.specs.Questions.{is_at};
 ghost use Rattle.tp_model.specs.Legal.{IsGrown};
 ghost use Rattle.tp_model.specs.Happenings.{Happening, run};
 ghost use Rattle.tp_model.specs.Promises.{OneHolder};
-ghost use Rattle.tp_histories.specs.Traces.{sent_on, taken_on};
+ghost use Rattle.tp_histories.specs.Traces.{sent_on, accepted_on};
 ghost use Rattle.tp_steps.specs.Moves.{IsPut};
 ghost use Rattle.tp_histories.specs.Control.{answered};
 ghost use Rattle.tp_control.specs.Control.{TookBack, TookMore, returned};
@@ -36,7 +36,7 @@ pub fn holders_below_took_more()
 pub fn branches_are_led()
     ensures turn { (e : TxEvent) (s : Transaction) (p : ℕ) → IsPut e s → IsLeading e s p s (transacted e s) }
     ensures history { (o : Origin) (up : Option Addr) (h : List Entry) (p : ℕ) (x y : Mark) (s k : ℕ) → o.start.records ≡ [] → IsGrown o up h → is_at up p ≡ false → takes is_in_round p h ≡ true → link_with (digest o h).arcs p ≡ Live x y s k
-        → IsLed p (digest o h) (sent_on x y p h) (answered (taken_on x y p h)) (returned (answered (taken_on x y p h)) (taken_on x y p h)) }
+        → IsLed p (digest o h) (sent_on x y p h) (answered (accepted_on x y p h)) (returned (answered (accepted_on x y p h)) (accepted_on x y p h)) }
 {}
 
 /// In every run, a superior end that holds control of the polarized dialogue with a subordinate took back what it gave in the

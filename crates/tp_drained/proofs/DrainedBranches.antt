@@ -24,7 +24,7 @@ use Rattle.tp_model.specs.World.{Node, number_of, addr_of, find_node}
 use Rattle.tp_model.specs.Happenings.{Happening, run}
 use Rattle.tp_model.specs.Legal.{IsGrown}
 use Rattle.tp_steps.specs.Histories.{brought}
-use Rattle.tp_histories.specs.Histories.{IsSentIn, HasSent, HasTaken}
+use Rattle.tp_histories.specs.Histories.{IsSentIn, HasSent, HasBrought}
 use Rattle.tp_histories.specs.Worlds.{IsGood}
 use Rattle.tp_steps.specs.Moves.{prelude, linked, accepted_on, accepted_by, begun_in, counted_in}
 use Rattle.tp_histories.specs.Members.{is_begun_by}
@@ -126,7 +126,7 @@ confirmed_by who d _ p z ok op live = absurd (not_live (link_with d.arcs p) _ z 
 -- ---- so who stands at the other end of a live link was heard from, or is the superior
 
 abbrev pub Met : Option Addr → ℕ → List Entry → Type 0
-Met up p h = (is_at up p ≡ true) ⊎ (a : Addr) × (r : PeerRecord) × HasTaken h a r × (a.node ≡ p)
+Met up p h = (is_at up p ≡ true) ⊎ (a : Addr) × (r : PeerRecord) × HasBrought h a r × (a.node ≡ p)
 
 later_met : (up : Option Addr) (p : ℕ) (e : Entry) (h : List Entry) → Met up p h → Met up p (e ∷ h)
 later_met up p e h (inl i) = inl i

@@ -24,7 +24,7 @@ use Rattle.tp_model.specs.World.{Node, number_of, find_node}
 use Rattle.tp_model.specs.Happenings.{Happening, run}
 use Rattle.tp_model.specs.Promises.{IsOf, IsBranchOf}
 use Rattle.tp_steps.specs.Histories.{brought}
-use Rattle.tp_histories.specs.Histories.{HasSent, HasTaken}
+use Rattle.tp_histories.specs.Histories.{HasSent, HasBrought}
 use Rattle.tp_histories.specs.Worlds.{IsGood}
 use Rattle.tp_steps.specs.Moves.{IsAsked, prelude}
 use Rattle.tp_steps.specs.Facts.{find_branch}
@@ -91,7 +91,7 @@ record IsPart (es : List Happening) (t : Aaid) (x : Node) (h : List Entry) : Typ
   unfailed : IsUnfailed t x.origin x.superior h
   legal : IsLegal x.origin x.superior h
   sent : (a : Addr) (r : PeerRecord) → HasSent h a r → HasSent x.history a r
-  taken : (a : Addr) (r : PeerRecord) → HasTaken h a r → HasTaken x.history a r
+  taken : (a : Addr) (r : PeerRecord) → HasBrought h a r → HasBrought x.history a r
   below : (b : BranchId) (z : Node) → IsBranchOf (run es) t b x z → Below x.origin x.superior (number_of z) (deeds_of z.origin z.history) (records z.origin z.history) h
 
 part_tail : (es : List Happening) (t : Aaid) (x : Node) (e : Entry) (h : List Entry) → IsPart es t x (e ∷ h) → IsPart es t x h

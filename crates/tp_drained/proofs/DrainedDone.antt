@@ -10,7 +10,7 @@ use Rattle.tp_model.specs.History.{digest, records}
 use Rattle.tp_model.specs.Outcomes.{is_now, is_owed, decided, has_left, completed_none}
 use Rattle.tp_model.specs.World.{Node, number_of}
 use Rattle.tp_model.specs.Happenings.{Happening, run}
-use Rattle.tp_model.specs.Promises.{IsOf, IsBranchOf, has_told_in, has_record, is_ready_of}
+use Rattle.tp_model.specs.Promises.{IsOf, IsBranchOf, has_told_in, has_record, is_ready_of_branch}
 use Rattle.tp_model.specs.Questions.{tells_commit_complete}
 use Rattle.tp_steps.specs.Facts.{find_branch, has_ready_of}
 use Rattle.tp_histories.specs.Undone.{are_done, is_left_incomplete, is_left_undone}
@@ -52,7 +52,7 @@ left_above es t k x z c v branch at tree found l = go (or_case v.counted v.left 
         let m : Marked counted_of (digest x.origin x.history).current (number_of z) (aaid_of c.key, v.id) = record { current = c; branch = v; at = at; found = found; is = i; key = refl } in
         let r : has_ready_of (aaid_of c.key, v.id) (records z.origin z.history) ≡ true = (accounts_of x.origin x.superior (number_of z) (deeds_of z.origin z.history) (records z.origin z.history) x.history below).counted (aaid_of c.key, v.id) m in
         let same : aaid_of c.key ≡ t = sym (aaids_equal t (aaid_of c.key) tree) in
-        let mine : has_record (is_ready_of t v.id) (records z.origin z.history) ≡ true = subst (λ (u : Aaid). has_record (is_ready_of u v.id) (records z.origin z.history) ≡ true) same (ready_logged (aaid_of c.key, v.id) (records z.origin z.history) r) in
+        let mine : has_record (is_ready_of_branch t v.id) (records z.origin z.history) ≡ true = subst (λ (u : Aaid). has_record (is_ready_of_branch u v.id) (records z.origin z.history) ≡ true) same (ready_logged (aaid_of c.key, v.id) (records z.origin z.history) r) in
         cc (bound_tree t (records z.origin z.history) (ready_bound t v.id (records z.origin z.history) mine), left_is_bare es t z branch.child l)
 
     go : (v.counted ≡ true) ⊎ (v.left ≡ true) → has_ended v ≡ true

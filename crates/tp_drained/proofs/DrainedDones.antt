@@ -25,10 +25,10 @@ use Rattle.tp_model.specs.World.{Node, Frame, number_of, find_node, put_node}
 use Rattle.tp_model.specs.Happenings.{Happening, run}
 use Rattle.tp_model.specs.Legal.{IsGrown}
 use Rattle.tp_steps.specs.Histories.{brought}
-use Rattle.tp_histories.specs.Histories.{IsSentIn, HasSent, HasTaken}
+use Rattle.tp_histories.specs.Histories.{IsSentIn, HasSent, HasBrought}
 use Rattle.tp_histories.specs.Worlds.{IsGood, place, grown_node, Comes}
 use Rattle.tp_steps.specs.Moves.{IsLate, prelude}
-use Rattle.tp_histories.specs.Traces.{sent_on, taken_on}
+use Rattle.tp_histories.specs.Traces.{sent_on, accepted_on}
 use Rattle.tp_steps.specs.Facts.{ends_in, BranchKey, begun_keys, find_branch, key_at}
 use Rattle.tp_steps.specs.Trees.{IsOld, IsTreed}
 use Rattle.tp_histories.specs.Members.{is_known, is_own, IsOnce, IsUnique}
@@ -83,12 +83,12 @@ done_decided ns fs x e y st unique hy above a m k q r is at = go (slice_get keys
     keys = begun_keys (sent_on m k (number_of y) x.history)
 
     n : ℕ
-    n = ends_in (taken_on m k (number_of y) x.history)
+    n = ends_in (accepted_on m k (number_of y) x.history)
 
     g : Deeds
     g = deeds_of y.origin y.history
 
-    heeded : is_heeded keys g (records y.origin y.history) n (voting_from false (taken_on m k (number_of y) x.history)) (DialogueRecord.Done r) ≡ true
+    heeded : is_heeded keys g (records y.origin y.history) n (voting_from false (accepted_on m k (number_of y) x.history)) (DialogueRecord.Done r) ≡ true
     heeded = word_taken ns fs x y a m k q (DialogueRecord.Done r) now unique hy above at
 
     held : holds_at keys n g.committed ≡ true
@@ -108,7 +108,7 @@ done_decided ns fs x e y st unique hy above a m k q r is at = go (slice_get keys
         rw (i, holds_at) up
 
 -- of a node that sent nothing
-none_taken : (o : Origin) (p : ℕ) (h : List Entry) → ((a : Addr) (r : PeerRecord) → HasTaken h a r → a.node ≡ p → ⊥) → DoneDecided o p h
+none_taken : (o : Origin) (p : ℕ) (h : List Entry) → ((a : Addr) (r : PeerRecord) → HasBrought h a r → a.node ≡ p → ⊥) → DoneDecided o p h
 none_taken o p [] none = tt
 none_taken o p (e ∷ h) none = (λ a x y q r is at. absurd (none a (PeerRecord.OnAssoc x y q (DialogueRecord.Done r)) (inl (ap brought is)) at), none_taken o p h (λ a r t. none a r (inr t)))
 

@@ -23,7 +23,7 @@ use Rattle.tp_model.specs.Promises.{has_told_in}
 use Rattle.tp_histories.specs.Worlds.{IsGood}
 use Rattle.tp_steps.specs.Moves.{is_word, prelude}
 use Rattle.tp_steps.specs.Traces.{took_of}
-use Rattle.tp_histories.specs.Traces.{sent_on, taken_on}
+use Rattle.tp_histories.specs.Traces.{sent_on, accepted_on}
 use Rattle.tp_steps.specs.Facts.{is_order, BranchKey, begins_by, last_from, each_under, is_ordered, IsHeard}
 use Rattle.tp_steps.specs.Trees.{commits_tree}
 use Rattle.tp_histories.specs.Members.{is_begun_by, has_taken_begin, is_own, IsOnce}
@@ -182,17 +182,17 @@ ordered o up h t p empty legal once told = record {
 
 -- ---- the moment at which the branch took it
 
-begun_taken : (h : List Entry) (x y : Mark) (p : ℕ) (t : Aaid) (id : BranchId) → last_from None (taken_on x y p h) ≡ Some (t, id) → has_taken_begin t h ≡ true
+begun_taken : (h : List Entry) (x y : Mark) (p : ℕ) (t : Aaid) (id : BranchId) → last_from None (accepted_on x y p h) ≡ Some (t, id) → has_taken_begin t h ≡ true
 begun_taken [] x y p t id i = absurd (cc (i))
 begun_taken (e ∷ h) x y p t id i = go (took_case e.event p x y) (begun_taken h x y p t id)
   where
-    last : last_from (last_from None (taken_on x y p h)) (took_of x y p e.event) ≡ Some (t, id)
-    last = sym (last_append None (taken_on x y p h) (took_of x y p e.event)) ∙ i
+    last : last_from (last_from None (accepted_on x y p h)) (took_of x y p e.event) ≡ Some (t, id)
+    last = sym (last_append None (accepted_on x y p h) (took_of x y p e.event)) ∙ i
 
     more : has_taken_begin t h ≡ true → has_taken_begin t (e ∷ h) ≡ true
     more k = rw k (grind arith)
 
-    word : (a : Addr) (q : ℕ) (r : DialogueRecord) → e.event ≡ Event.Arrive a (PeerRecord.OnAssoc x y q r) → begins_by (last_from None (taken_on x y p h)) r ≡ Some (t, id) → (last_from None (taken_on x y p h) ≡ Some (t, id) → has_taken_begin t h ≡ true) → has_taken_begin t (e ∷ h) ≡ true
+    word : (a : Addr) (q : ℕ) (r : DialogueRecord) → e.event ≡ Event.Arrive a (PeerRecord.OnAssoc x y q r) → begins_by (last_from None (accepted_on x y p h)) r ≡ Some (t, id) → (last_from None (accepted_on x y p h) ≡ Some (t, id) → has_taken_begin t h ≡ true) → has_taken_begin t (e ∷ h) ≡ true
     word a q (DialogueRecord.Begin u c k) is j rest =
         let same : ◌≡◌ {A = BranchKey} (u, c) (t, id) = cc (j) in
         let tree : u ≡ t = ap (λ (v : BranchKey). v.0) same in
@@ -200,9 +200,9 @@ begun_taken (e ∷ h) x y p t id i = go (took_case e.event p x y) (begun_taken h
         rw begun refl
     word a q r is j rest = more (rest j)
 
-    go : (took_of x y p e.event ≡ []) ⊎ (a : Addr) × (q : ℕ) × (r : DialogueRecord) × (e.event ≡ Event.Arrive a (PeerRecord.OnAssoc x y q r)) × (a.node ≡ p) → (last_from None (taken_on x y p h) ≡ Some (t, id) → has_taken_begin t h ≡ true) → has_taken_begin t (e ∷ h) ≡ true
-    go (inl none) rest = more (rest (sym (ap (last_from (last_from None (taken_on x y p h))) none) ∙ last))
-    go (inr w) rest = word w.0 w.1 w.2 w.3 (sym (ap (last_from (last_from None (taken_on x y p h))) (took_here p e.event w.0 x y w.1 w.2 w.3 w.4)) ∙ last) rest
+    go : (took_of x y p e.event ≡ []) ⊎ (a : Addr) × (q : ℕ) × (r : DialogueRecord) × (e.event ≡ Event.Arrive a (PeerRecord.OnAssoc x y q r)) × (a.node ≡ p) → (last_from None (accepted_on x y p h) ≡ Some (t, id) → has_taken_begin t h ≡ true) → has_taken_begin t (e ∷ h) ≡ true
+    go (inl none) rest = more (rest (sym (ap (last_from (last_from None (accepted_on x y p h))) none) ∙ last))
+    go (inr w) rest = word w.0 w.1 w.2 w.3 (sym (ap (last_from (last_from None (accepted_on x y p h))) (took_here p e.event w.0 x y w.1 w.2 w.3 w.4)) ∙ last) rest
 
 pub orders_are_taken : (es : List Happening) → OrdersAreTaken (run es)
 orders_are_taken es t drained b x z branch told now =
@@ -230,7 +230,7 @@ orders_are_taken es t drained b x z branch told now =
     said : Ordered x.origin x.history t (number_of z)
     said = ordered x.origin x.superior x.history t (number_of z) (good.fresh (number_of x) x hx) (good.legal (number_of x) x hx) ((unique_run es).once (number_of x) x hx) told
 
-    took : (less : List DialogueRecord) × (taken_on said.x said.y (number_of x) z.history ≡ said.before ++ said.word ∷ less)
+    took : (less : List DialogueRecord) × (accepted_on said.x said.y (number_of x) z.history ≡ said.before ++ said.word ∷ less)
     took = taken_at es t drained x z said.x said.y said.before said.word said.rest branch.superior hz said.sent said.said
 
     m : TakenThen z.history said.x said.y (number_of x) said.before said.word

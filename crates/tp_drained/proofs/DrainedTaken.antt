@@ -25,7 +25,7 @@ use Rattle.tp_model.specs.Legal.{IsGrown}
 use Rattle.tp_histories.specs.Histories.{IsSentIn, HasSent}
 use Rattle.tp_runs.specs.Framed.{is_stop, has_stopped, IsFrameTo}
 use Rattle.tp_steps.specs.Traces.{fits, sent_of}
-use Rattle.tp_histories.specs.Traces.{sent_on, taken_on, history_at}
+use Rattle.tp_histories.specs.Traces.{sent_on, history_at, accepted_on}
 use Rattle.tp_drained.specs.Drained.{touches, fails_in, has_failed_in}
 use Rattle.tp_drained.specs.DrainedWorlds.{HasCome, is_word_of, HasSaidIn, IsDrainedTree, AllCame, AllTaken, FramesDrain, NoFailureInTree, WordsAreTaken}
 use Rattle.tp_steps.specs.Moves.{prelude}
@@ -215,15 +215,15 @@ all_taken es t drained fine x z m k x_in z_in = go pre.0 both
     sent = sent_on m k (number_of z) x.history
 
     taken : List DialogueRecord
-    taken = taken_on m k (number_of x) z.history
+    taken = accepted_on m k (number_of x) z.history
 
-    pre : (more : List DialogueRecord) × (sent_on m k (number_of z) (history_at (run es).nodes (number_of x)) ≡ taken_on m k (number_of x) (history_at (run es).nodes (number_of z)) ++ more)
+    pre : (more : List DialogueRecord) × (sent_on m k (number_of z) (history_at (run es).nodes (number_of x)) ≡ accepted_on m k (number_of x) (history_at (run es).nodes (number_of z)) ++ more)
     pre = prefix_list (run es).nodes (run es).frames (good_run es) (number_of z) (number_of x) m k
 
     both : sent ≡ taken ++ pre.0
     both =
         ap (sent_on m k (number_of z)) (sym (history_is (run es).nodes (number_of x) x x_in.here)) ∙ pre.1
-        ∙ ap (λ (h : List Entry). taken_on m k (number_of x) h ++ pre.0) (history_is (run es).nodes (number_of z) z z_in)
+        ∙ ap (λ (h : List Entry). accepted_on m k (number_of x) h ++ pre.0) (history_is (run es).nodes (number_of z) z z_in)
 
     go : (more : List DialogueRecord) → sent ≡ taken ++ more → sent ≡ taken
     go [] is = is ∙ append-nil taken
@@ -298,13 +298,13 @@ within (c ∷ before) w rest (x ∷ xs) ys is l =
     both v u vs us i j = rw (i, j) refl
 
 pub taken_at : (es : List Happening) (t : Aaid) → IsDrainedTree (run es) t → (x z : Node) (m k : Mark) (before : List DialogueRecord) (w : DialogueRecord) (rest : List DialogueRecord) → IsOf (run es) t x → IsIn (run es) z
-    → sent_on m k (number_of z) x.history ≡ before ++ w ∷ rest → WasSaid x.origin t x.history (number_of z) m k (length before) w → (less : List DialogueRecord) × (taken_on m k (number_of x) z.history ≡ before ++ w ∷ less)
-taken_at es t drained x z m k before w rest x_in z_in sent said = within before w rest (taken_on m k (number_of x) z.history) pre.0 (sym sent ∙ both) (words_are_taken es t drained x z said.0 m k (length before) w x_in z_in said.1 said.2)
+    → sent_on m k (number_of z) x.history ≡ before ++ w ∷ rest → WasSaid x.origin t x.history (number_of z) m k (length before) w → (less : List DialogueRecord) × (accepted_on m k (number_of x) z.history ≡ before ++ w ∷ less)
+taken_at es t drained x z m k before w rest x_in z_in sent said = within before w rest (accepted_on m k (number_of x) z.history) pre.0 (sym sent ∙ both) (words_are_taken es t drained x z said.0 m k (length before) w x_in z_in said.1 said.2)
   where
-    pre : (more : List DialogueRecord) × (sent_on m k (number_of z) (history_at (run es).nodes (number_of x)) ≡ taken_on m k (number_of x) (history_at (run es).nodes (number_of z)) ++ more)
+    pre : (more : List DialogueRecord) × (sent_on m k (number_of z) (history_at (run es).nodes (number_of x)) ≡ accepted_on m k (number_of x) (history_at (run es).nodes (number_of z)) ++ more)
     pre = prefix_list (run es).nodes (run es).frames (good_run es) (number_of z) (number_of x) m k
 
-    both : sent_on m k (number_of z) x.history ≡ taken_on m k (number_of x) z.history ++ pre.0
+    both : sent_on m k (number_of z) x.history ≡ accepted_on m k (number_of x) z.history ++ pre.0
     both =
         ap (sent_on m k (number_of z)) (sym (history_is (run es).nodes (number_of x) x x_in.here)) ∙ pre.1
-        ∙ ap (λ (h : List Entry). taken_on m k (number_of x) h ++ pre.0) (history_is (run es).nodes (number_of z) z z_in)
+        ∙ ap (λ (h : List Entry). accepted_on m k (number_of x) h ++ pre.0) (history_is (run es).nodes (number_of z) z z_in)

@@ -27,7 +27,7 @@ use Rattle.tp_histories.specs.Histories.{HasSent}
 use Rattle.tp_histories.specs.Worlds.{IsGood}
 use Rattle.tp_steps.specs.Moves.{is_word, prelude}
 use Rattle.tp_steps.specs.Traces.{sent_of}
-use Rattle.tp_histories.specs.Traces.{sent_on, taken_on, history_at}
+use Rattle.tp_histories.specs.Traces.{sent_on, history_at, accepted_on}
 use Rattle.tp_steps.specs.Facts.{only_words, is_vote, ends_in, BranchKey, begun_keys, each_vote, is_voted, under_at, IsHeard}
 use Rattle.tp_histories.specs.Members.{has_taken_begin, is_own, IsOnce}
 use Rattle.tp_histories.specs.Pairs.{IsPaired}
@@ -81,9 +81,9 @@ keyed ks g rs n v r h u = go (slice_get ks n) refl
 
 -- what a subordinate said is such as its superior heeds
 heeded_said : (o : Origin) (up : Option Addr) (h : List Entry) (p : ℕ) (x y : Mark) (before : List DialogueRecord) (w : DialogueRecord) (rest : List DialogueRecord) → SpeaksUp o up h → IsPaired o up h → is_at up p ≡ true
-    → sent_on x y p h ≡ before ++ w ∷ rest → is_heeded (begun_keys (taken_on x y p h)) (deeds_of o h) (records o h) (ends_in before) (voting_from false before) w ≡ true
+    → sent_on x y p h ≡ before ++ w ∷ rest → is_heeded (begun_keys (accepted_on x y p h)) (deeds_of o h) (records o h) (ends_in before) (voting_from false before) w ≡ true
 heeded_said o up h p x y before w rest speaks paired above is =
-    let ks : List BranchKey = begun_keys (taken_on x y p h) in
+    let ks : List BranchKey = begun_keys (accepted_on x y p h) in
     both_true (may_say ks (deeds_of o h) (ends_in before) (voting_from false before) w) (not (is_vote w) || is_voted ks (records o h) (ends_in before))
     (said_there ks (deeds_of o h) before rest w (subst (λ (l : List DialogueRecord). each_up (may_say ks (deeds_of o h)) 0 false l ≡ true) is (speaks.words p x y above)))
     (voted_there (is_voted ks (records o h)) before rest w (subst (λ (l : List DialogueRecord). each_vote (is_voted ks (records o h)) 0 l ≡ true) is (paired.votes p x y)))
@@ -100,7 +100,7 @@ pub record SaidUp (o : Origin) (h : List Entry) (t : Aaid) (p : ℕ) (f : Dialog
   pub id : BranchId
   pub kind : f word ≡ true
   pub sent : sent_on x y p h ≡ before ++ word ∷ rest
-  pub place : slice_get (begun_keys (taken_on x y p h)) (ends_in before) ≡ Some (t, id)
+  pub place : slice_get (begun_keys (accepted_on x y p h)) (ends_in before) ≡ Some (t, id)
   pub said : WasSaid o t h p x y (length before) word
 
 word_of_tree : (t : Aaid) (x y : Mark) (n : ℕ) (r : DialogueRecord) → is_upward r ≡ true → is_word_of t true (PeerRecord.OnAssoc x y n r) ≡ true
@@ -174,7 +174,7 @@ said_up o up h t p f empty legal once above taken upward told = record {
   id = under.0;
   kind = word.kind;
   sent = more.1 ∙ ap (λ (rs : List DialogueRecord). rs ++ more.0) sent ∙ append_assoc before (word.word ∷ word.rest) more.0;
-  place = key_stays (taken_on l.0 l.1 p (e ∷ b)) (taken_on l.0 l.1 p h) took.0 (ends_in before) (t, under.0) took.1 place;
+  place = key_stays (accepted_on l.0 l.1 p (e ∷ b)) (accepted_on l.0 l.1 p h) took.0 (ends_in before) (t, under.0) took.1 place;
   said = was_said o up t e b h p l.0 l.1 word.before word.word word.rest m.moment legal_now m.now (λ n. word_of_tree t l.0 l.1 n word.word (upward word.word word.kind)) sent;
 }
   where
@@ -253,7 +253,7 @@ said_up o up h t p f empty legal once above taken upward told = record {
     one = ap (λ (v : Option Current). under_at v p) (current ∙ c.1) ∙ (let u = under.3 in rw (late, u) refl)
 
     keys : List BranchKey
-    keys = begun_keys (taken_on l.0 l.1 p (e ∷ b))
+    keys = begun_keys (accepted_on l.0 l.1 p (e ∷ b))
 
     j : (k : BranchKey) × (slice_get keys (ends_in before) ≡ Some k)
     j = keyed keys (deeds_of o (e ∷ b)) (records o (e ∷ b)) (ends_in before) (voting_from false before) word.word
@@ -269,7 +269,7 @@ said_up o up h t p f empty legal once above taken upward told = record {
     more : (rs : List DialogueRecord) × (sent_on l.0 l.1 p h ≡ sent_on l.0 l.1 p (e ∷ b) ++ rs)
     more = sent_since l.0 l.1 p e b h m.moment
 
-    took : (rs : List DialogueRecord) × (taken_on l.0 l.1 p h ≡ taken_on l.0 l.1 p (e ∷ b) ++ rs)
+    took : (rs : List DialogueRecord) × (accepted_on l.0 l.1 p h ≡ accepted_on l.0 l.1 p (e ∷ b) ++ rs)
     took = taken_since l.0 l.1 p e b h m.moment
 
 -- ---- the moment at which the superior took it
@@ -302,7 +302,7 @@ pub record Reached (o : Origin) (h : List Entry) (t : Aaid) (p : ℕ) (f : Dialo
   pub now : (digest o behind).current ≡ Some current
   pub tree : is_aaid t (aaid_of current.key) ≡ true
   -- the Begin of the tree stands at its place, and was sent by then
-  pub place : slice_get (begun_keys (sent_on x y p behind)) (ends_in (taken_on x y p behind)) ≡ Some (t, id)
+  pub place : slice_get (begun_keys (sent_on x y p behind)) (ends_in (accepted_on x y p behind)) ≡ Some (t, id)
   pub to : Addr
   pub number : ℕ
   pub holder : Holder
@@ -310,7 +310,7 @@ pub record Reached (o : Origin) (h : List Entry) (t : Aaid) (p : ℕ) (f : Dialo
   pub begun : HasSent behind to (PeerRecord.OnAssoc x y number (DialogueRecord.Begin t id holder))
 
 pub reached : (o : Origin) (up : Option Addr) (h : List Entry) (t : Aaid) (p : ℕ) (f : DialogueRecord → Bool) (g : Deeds) (rs : List LogRec) (x y : Mark) (before : List DialogueRecord) (w : DialogueRecord) (rest : List DialogueRecord) (id : BranchId)
-    → o.start.records ≡ [] → IsGrown o up h → IsOnce o h → heeds g rs p h ≡ true → taken_on x y p h ≡ before ++ w ∷ rest → slice_get (begun_keys (sent_on x y p h)) (ends_in before) ≡ Some (t, id) → f w ≡ true → is_upward w ≡ true
+    → o.start.records ≡ [] → IsGrown o up h → IsOnce o h → heeds g rs p h ≡ true → accepted_on x y p h ≡ before ++ w ∷ rest → slice_get (begun_keys (sent_on x y p h)) (ends_in before) ≡ Some (t, id) → f w ≡ true → is_upward w ≡ true
     → is_now t (digest o h).current ≡ true → Reached o h t p f
 reached o up h t p f g rs x y before w rest id empty legal once heeded is at kind upward now = record {
   entry = e;
@@ -354,8 +354,8 @@ reached o up h t p f g rs x y before w rest id empty legal once heeded is at kin
     heeds_now : heeds g rs p (e ∷ b) ≡ true
     heeds_now = moment_of (λ l. heeds g rs p l ≡ true) (λ u l k. and_right (heeds_event g rs p l u.event) (heeds g rs p l) k) e b h m.moment heeded
 
-    j : (k : BranchKey) × (slice_get (begun_keys (sent_on x y p b)) (ends_in (taken_on x y p b)) ≡ Some k)
-    j = keyed (begun_keys (sent_on x y p b)) g rs (ends_in (taken_on x y p b)) (voting_from false (taken_on x y p b)) w
+    j : (k : BranchKey) × (slice_get (begun_keys (sent_on x y p b)) (ends_in (accepted_on x y p b)) ≡ Some k)
+    j = keyed (begun_keys (sent_on x y p b)) g rs (ends_in (accepted_on x y p b)) (voting_from false (accepted_on x y p b)) w
         (heeded_at p g rs e.event b m.from x y m.seq w m.is m.at (and_left (heeds_event g rs p b e.event) (heeds g rs p b) heeds_now)) upward
 
     more : (rs : List DialogueRecord) × (sent_on x y p h ≡ sent_on x y p (e ∷ b) ++ rs)
@@ -364,14 +364,14 @@ reached o up h t p f g rs x y before w rest id empty legal once heeded is at kin
     later : slice_get (begun_keys (sent_on x y p h)) (ends_in before) ≡ Some j.0
     later =
         ap (λ (rs : List DialogueRecord). slice_get (begun_keys (sent_on x y p h)) (ends_in rs)) (sym m.taken)
-        ∙ key_stays (sent_on x y p (e ∷ b)) (sent_on x y p h) more.0 (ends_in (taken_on x y p b)) j.0 more.1
-        (key_stays (sent_on x y p b) (sent_on x y p (e ∷ b)) (sent_of x y p e.outs) (ends_in (taken_on x y p b)) j.0 refl j.1)
+        ∙ key_stays (sent_on x y p (e ∷ b)) (sent_on x y p h) more.0 (ends_in (accepted_on x y p b)) j.0 more.1
+        (key_stays (sent_on x y p b) (sent_on x y p (e ∷ b)) (sent_of x y p e.outs) (ends_in (accepted_on x y p b)) j.0 refl j.1)
 
-    place : slice_get (begun_keys (sent_on x y p b)) (ends_in (taken_on x y p b)) ≡ Some (t, id)
+    place : slice_get (begun_keys (sent_on x y p b)) (ends_in (accepted_on x y p b)) ≡ Some (t, id)
     place = j.1 ∙ sym later ∙ at
 
     i : (n : ℕ) × (k : Holder) × (slice_get (sent_on x y p b) n ≡ Some (DialogueRecord.Begin t id k))
-    i = begin_at (sent_on x y p b) (ends_in (taken_on x y p b)) t id place
+    i = begin_at (sent_on x y p b) (ends_in (accepted_on x y p b)) t id place
 
     sent : (a : Addr) × (a.node ≡ p) × HasSent b a (PeerRecord.OnAssoc x y i.0 (DialogueRecord.Begin t id i.1))
     sent = sent_with o up b p x y i.0 (DialogueRecord.Begin t id i.1) legal_now.3 i.2
@@ -386,7 +386,7 @@ reached_up es t drained b x z branch f upward told now =
     reached x.origin x.superior x.history t (number_of z) f (deeds_of z.origin z.history) (records z.origin z.history) said.x said.y said.before said.word took.0 said.id
     (good.fresh (number_of x) x hx) (good.legal (number_of x) x hx) ((unique_run es).once (number_of x) x hx) ((tied_run es).heeds x z hx hz above)
     took.1
-    (key_stays (taken_on said.x said.y (number_of x) z.history) (sent_on said.x said.y (number_of z) x.history) pre.0 (ends_in said.before) (t, said.id) began said.place) said.kind (upward said.word said.kind) now
+    (key_stays (accepted_on said.x said.y (number_of x) z.history) (sent_on said.x said.y (number_of z) x.history) pre.0 (ends_in said.before) (t, said.id) began said.place) said.kind (upward said.word said.kind) now
   where
     good : IsGood (run es).nodes (run es).frames
     good = good_run es
@@ -404,16 +404,16 @@ reached_up es t drained b x z branch f upward told now =
     said = said_up z.origin z.superior z.history t (number_of x) f (good.fresh (number_of z) z hz) (good.legal (number_of z) z hz) ((unique_run es).once (number_of z) z hz) above
         (begun_up z.origin z.superior z.history t b (addr_of x) (good.legal (number_of z) z hz) branch.begun).taken upward told
 
-    took : (less : List DialogueRecord) × (taken_on said.x said.y (number_of z) x.history ≡ said.before ++ said.word ∷ less)
+    took : (less : List DialogueRecord) × (accepted_on said.x said.y (number_of z) x.history ≡ said.before ++ said.word ∷ less)
     took = taken_at es t drained z x said.x said.y said.before said.word said.rest branch.child hx said.sent said.said
 
-    pre : (more : List DialogueRecord) × (sent_on said.x said.y (number_of z) (history_at (run es).nodes (number_of x)) ≡ taken_on said.x said.y (number_of x) (history_at (run es).nodes (number_of z)) ++ more)
+    pre : (more : List DialogueRecord) × (sent_on said.x said.y (number_of z) (history_at (run es).nodes (number_of x)) ≡ accepted_on said.x said.y (number_of x) (history_at (run es).nodes (number_of z)) ++ more)
     pre = prefix_list (run es).nodes (run es).frames good (number_of z) (number_of x) said.x said.y
 
-    began : sent_on said.x said.y (number_of z) x.history ≡ taken_on said.x said.y (number_of x) z.history ++ pre.0
+    began : sent_on said.x said.y (number_of z) x.history ≡ accepted_on said.x said.y (number_of x) z.history ++ pre.0
     began =
         ap (sent_on said.x said.y (number_of z)) (sym (history_is (run es).nodes (number_of x) x hx)) ∙ pre.1
-        ∙ ap (λ (h : List Entry). taken_on said.x said.y (number_of x) h ++ pre.0) (history_is (run es).nodes (number_of z) z hz)
+        ∙ ap (λ (h : List Entry). accepted_on said.x said.y (number_of x) h ++ pre.0) (history_is (run es).nodes (number_of z) z hz)
 
 pub heard_word : (f : DialogueRecord → Bool) (p : ℕ) (e : Event) (a : Addr) (x y : Mark) (q : ℕ) (r : DialogueRecord) → e ≡ Event.Arrive a (PeerRecord.OnAssoc x y q r) → a.node ≡ p → f r ≡ true → is_record f (heard_from p e) ≡ true
 heard_word f p e a x y q r is at kind = ap (λ (v : Event). is_record f (heard_from p v)) is ∙ grind (arith, nat_tests, at, kind)

@@ -13,7 +13,7 @@ use Rattle.tp_model.specs.Questions.{has_said, heard_from, is_record}
 use Rattle.tp_model.specs.Promises.{has_told_in}
 use Rattle.tp_model.specs.Legal.{IsGrown}
 use Rattle.tp_steps.specs.Traces.{sent_of, took_of}
-use Rattle.tp_histories.specs.Traces.{sent_on, taken_on}
+use Rattle.tp_histories.specs.Traces.{sent_on, accepted_on}
 use Rattle.tp_steps.specs.Facts.{BranchKey, begun_keys}
 use Rattle.tp_histories.specs.Members.{is_known, IsOnce}
 use Rattle.tp_drained.specs.Drained.{took_in}
@@ -71,8 +71,8 @@ grown_since g k step e b (f ∷ h) (inr m) =
 pub sent_since : (x y : Mark) (p : ℕ) (e : Entry) (b h : List Entry) → IsMoment e b h → (more : List DialogueRecord) × (sent_on x y p h ≡ sent_on x y p (e ∷ b) ++ more)
 sent_since x y p e b h m = grown_since (sent_on x y p) (λ f. sent_of x y p f.outs) (λ f g. refl) e b h m
 
-pub taken_since : (x y : Mark) (p : ℕ) (e : Entry) (b h : List Entry) → IsMoment e b h → (more : List DialogueRecord) × (taken_on x y p h ≡ taken_on x y p (e ∷ b) ++ more)
-taken_since x y p e b h m = grown_since (taken_on x y p) (λ f. took_of x y p f.event) (λ f g. refl) e b h m
+pub taken_since : (x y : Mark) (p : ℕ) (e : Entry) (b h : List Entry) → IsMoment e b h → (more : List DialogueRecord) × (accepted_on x y p h ≡ accepted_on x y p (e ∷ b) ++ more)
+taken_since x y p e b h m = grown_since (accepted_on x y p) (λ f. took_of x y p f.event) (λ f g. refl) e b h m
 
 -- a key that stands among the Begins stays there
 pub key_stays : (xs ys more : List DialogueRecord) (n : ℕ) (j : BranchKey) → ys ≡ xs ++ more → slice_get (begun_keys xs) n ≡ Some j → slice_get (begun_keys ys) n ≡ Some j
@@ -102,9 +102,9 @@ pub record TakenThen (h : List Entry) (x y : Mark) (p : ℕ) (before : List Dial
   pub seq : ℕ
   pub is : entry.event ≡ Event.Arrive from (PeerRecord.OnAssoc x y seq w)
   pub at : from.node ≡ p
-  pub taken : taken_on x y p behind ≡ before
+  pub taken : accepted_on x y p behind ≡ before
 
-pub taken_then : (h : List Entry) (x y : Mark) (p : ℕ) (before : List DialogueRecord) (w : DialogueRecord) (rest : List DialogueRecord) → taken_on x y p h ≡ before ++ w ∷ rest → TakenThen h x y p before w
+pub taken_then : (h : List Entry) (x y : Mark) (p : ℕ) (before : List DialogueRecord) (w : DialogueRecord) (rest : List DialogueRecord) → accepted_on x y p h ≡ before ++ w ∷ rest → TakenThen h x y p before w
 taken_then [] x y p [] w rest i = absurd (cc (i))
 taken_then [] x y p (c ∷ before) w rest i = absurd (cc (i))
 taken_then (e ∷ h) x y p before w rest i = go (took_case e.event p x y) (taken_then h x y p before w)
@@ -113,11 +113,11 @@ taken_then (e ∷ h) x y p before w rest i = go (took_case e.event p x y) (taken
     later k = record { entry = k.entry; behind = k.behind; moment = inr k.moment; from = k.from; seq = k.seq; is = k.is; at = k.at; taken = k.taken }
 
     go : (took_of x y p e.event ≡ []) ⊎ (a : Addr) × (q : ℕ) × (r : DialogueRecord) × (e.event ≡ Event.Arrive a (PeerRecord.OnAssoc x y q r)) × (a.node ≡ p)
-        → ((less : List DialogueRecord) → taken_on x y p h ≡ before ++ w ∷ less → TakenThen h x y p before w) → TakenThen (e ∷ h) x y p before w
-    go (inl none) old = later (old rest (sym (ap (λ (rs : List DialogueRecord). taken_on x y p h ++ rs) none ∙ append-nil (taken_on x y p h)) ∙ i))
+        → ((less : List DialogueRecord) → accepted_on x y p h ≡ before ++ w ∷ less → TakenThen h x y p before w) → TakenThen (e ∷ h) x y p before w
+    go (inl none) old = later (old rest (sym (ap (λ (rs : List DialogueRecord). accepted_on x y p h ++ rs) none ∙ append-nil (accepted_on x y p h)) ∙ i))
     go (inr k) old =
         let one : took_of x y p e.event ≡ k.2 ∷ [] = took_here p e.event k.0 x y k.1 k.2 k.3 k.4 in
-        elim (snoc_split (taken_on x y p h) k.2 before w rest (sym (ap (λ (rs : List DialogueRecord). taken_on x y p h ++ rs) one) ∙ i)) [
+        elim (snoc_split (accepted_on x y p h) k.2 before w rest (sym (ap (λ (rs : List DialogueRecord). accepted_on x y p h ++ rs) one) ∙ i)) [
           | inl j ↦
               record {
                 entry = e;

@@ -21,7 +21,7 @@ use Rattle.tp_model.specs.Questions.{is_at, said_to, has_said}
 use Rattle.tp_model.specs.World.{World, Node, number_of, addr_of, find_node}
 use Rattle.tp_model.specs.Promises.{IsIn, IsOf, IsBranchOf, IsDrained, IsFailureFree, has_told_in}
 use Rattle.tp_histories.specs.Histories.{IsSentIn, HasSent}
-use Rattle.tp_histories.specs.Traces.{sent_on, taken_on}
+use Rattle.tp_histories.specs.Traces.{sent_on, accepted_on}
 use Rattle.tp_steps.specs.Facts.{is_order, ends_in, begun_keys}
 use Rattle.tp_steps.specs.Moves.{is_word}
 use Rattle.tp_steps.specs.Upward.{holds_at}
@@ -55,7 +55,7 @@ AllCame w =
 abbrev pub AllTaken : World → Type 0
 AllTaken w =
     (t : Aaid) → IsDrained w t → IsFailureFree w t
-    → (x z : Node) (m k : Mark) → IsOf w t x → IsIn w z → sent_on m k (number_of z) x.history ≡ taken_on m k (number_of x) z.history
+    → (x z : Node) (m k : Mark) → IsOf w t x → IsIn w z → sent_on m k (number_of z) x.history ≡ accepted_on m k (number_of x) z.history
 
 -- the record is a word of the tree: a Begin of it, or one that counts for its outcome, from an entry that came while the tree was
 -- current
@@ -93,7 +93,7 @@ abbrev pub WordsAreTaken : World → Type 0
 WordsAreTaken w =
     (t : Aaid) → IsDrainedTree w t
     → (x z : Node) (a : Addr) (m k : Mark) (q : ℕ) (r : DialogueRecord) → IsOf w t x → IsIn w z → a.node ≡ number_of z → HasSaidIn x.origin t x.history a (PeerRecord.OnAssoc m k q r)
-    → suc q ≤ length (taken_on m k (number_of x) z.history)
+    → suc q ≤ length (accepted_on m k (number_of x) z.history)
 
 -- ---- branches
 
@@ -132,7 +132,7 @@ OrdersAreTaken w =
 abbrev pub TakesDecided : Origin → ℕ → List Entry → Event → Type 0
 TakesDecided o p h e =
     (a : Addr) (m k : Mark) (q : ℕ) (r : Report) → e ≡ Event.Arrive a (PeerRecord.OnAssoc m k q (DialogueRecord.Done r)) → a.node ≡ p
-    → holds_at (begun_keys (sent_on m k p h)) (ends_in (taken_on m k p h)) (λ t. decided o t h) ≡ true
+    → holds_at (begun_keys (sent_on m k p h)) (ends_in (accepted_on m k p h)) (λ t. decided o t h) ≡ true
 
 abbrev pub DoneDecided : Origin → ℕ → List Entry → Type 0
 DoneDecided o p [] = Unit {0}

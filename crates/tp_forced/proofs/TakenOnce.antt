@@ -12,7 +12,7 @@ use Rattle.tp_model.specs.History.{digest}
 use Rattle.tp_model.specs.World.{number_of}
 use Rattle.tp_model.specs.Happenings.{Happening, run}
 use Rattle.tp_model.specs.Legal.{IsGrown}
-use Rattle.tp_histories.specs.Traces.{taken_on}
+use Rattle.tp_histories.specs.Traces.{accepted_on}
 use Rattle.tp_forced.specs.Taken.{takes, times_taken, TakenOnce}
 use Rattle.tp_steps.proofs.every.Preludes.{marks_same}
 use Rattle.tp_steps.proofs.lemmas.Equality.{and_left, and_right}
@@ -74,10 +74,10 @@ taken_law o up (e ∷ h) p x y q legal = go (takes p x y q e.event) refl (taken_
         let t = takes_is p x y q e.event i in
         let b = took_before p x y q h (subst (λ (k : ℕ). suc 0 ≤ k) (sym m) (omega arith)) in
         let ok : refusal o.who (digest o h) (Event.Arrive t.from (PeerRecord.OnAssoc x y q t.word)) ≡ None = subst (λ (f : Event). refusal o.who (digest o h) f ≡ None) t.is legal.0 in
-        let place : length (taken_on x y t.from.node h) ≡ q = took_place o up h t.from x y q t.word (traced_law o up h legal.3) ok in
-        let below : suc q ≤ length (taken_on x y b.from.node h) = taken_below o up h b.from x y q b.word legal.3 b.took in
-        let same : length (taken_on x y t.from.node h) ≡ length (taken_on x y b.from.node h) = ap (λ (k : ℕ). length (taken_on x y k h)) (t.at ∙ sym b.at) in
-        absurd (past q (length (taken_on x y t.from.node h)) (length (taken_on x y b.from.node h)) place same below)
+        let place : length (accepted_on x y t.from.node h) ≡ q = took_place o up h t.from x y q t.word (traced_law o up h legal.3) ok in
+        let below : suc q ≤ length (accepted_on x y b.from.node h) = taken_below o up h b.from x y q b.word legal.3 b.took in
+        let same : length (accepted_on x y t.from.node h) ≡ length (accepted_on x y b.from.node h) = ap (λ (k : ℕ). length (accepted_on x y k h)) (t.at ∙ sym b.at) in
+        absurd (past q (length (accepted_on x y t.from.node h)) (length (accepted_on x y b.from.node h)) place same below)
       where
         past : (q m n : ℕ) → m ≡ q → m ≡ n → suc q ≤ n → ⊥
         past q m n i j k = omega (arith, i, j, k)

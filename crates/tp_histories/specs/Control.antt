@@ -3,8 +3,8 @@
 -- a round by a word after which it says nothing of control in it. What one law needs of each end stands here.
 use Rattle.std.specs.Prelude.{ℕ, ◌&&◌, ◌||◌, not, Bool, true, false, List}
 use Rattle.tp_records.specs.declared.dialogue.DialogueRecord.{DialogueRecord}
-use Rattle.tp_steps.specs.Facts.{is_begin}
 use Rattle.tp_steps.specs.Control.{rounds, closes_up, voted_behind}
+use Rattle.tp_model.specs.Questions.{is_begin}
 
 -- ---- the superior end: its Begin opens a round, and its first Prepare, Commit or Rollback closes it
 

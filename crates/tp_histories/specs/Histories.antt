@@ -16,6 +16,6 @@ abbrev pub HasSent : List Entry → Addr → PeerRecord → Type 0
 HasSent [] a r = ⊥
 HasSent (e ∷ h) a r = IsSentIn e.outs a r ⊎ HasSent h a r
 
-abbrev pub HasTaken : List Entry → Addr → PeerRecord → Type 0
-HasTaken [] a r = ⊥
-HasTaken (e ∷ h) a r = (brought e.event ≡ Some (a, r)) ⊎ HasTaken h a r
+abbrev pub HasBrought : List Entry → Addr → PeerRecord → Type 0
+HasBrought [] a r = ⊥
+HasBrought (e ∷ h) a r = (brought e.event ≡ Some (a, r)) ⊎ HasBrought h a r

@@ -5,6 +5,7 @@ use Rattle.tp_names.specs.declared.identifiers.NodeKey.{NodeKey}
 use Rattle.tp_names.specs.declared.children.Child.{Child}
 use Rattle.tp_names.specs.Same.{is_mark, is_key, is_branch, is_addr, is_addr_option, is_outcome}
 use Rattle.tp_names.specs.Reports.{rank}
+use Rattle.tp_logrec.specs.Order.{is_child}
 use Rattle.tp_units.specs.Units.{has_bit}
 use Rattle.tp_model.specs.declared.arc.Phase.{Phase}
 use Rattle.tp_model.specs.declared.arc.Deferral.{Deferral}
@@ -60,13 +61,10 @@ same_link (Offered x) (Offered y) = is_mark x y
 same_link (Live x y s t) (Live v w m n) = is_mark x v && is_mark y w && (s == m) && (t == n)
 same_link _ _ = false
 
-abbrev pub same_child : Child → Child → Bool
-same_child a b = is_addr a.addr b.addr && is_branch a.branch b.branch
-
 abbrev pub same_kept : Kept → Kept → Bool
 same_kept a b =
     (a.node == b.node) && is_key a.key b.key && is_addr_option a.superior b.superior && is_outcome a.side b.side
-    && (rank a.report == rank b.report) && same_list same_child a.owed b.owed && same_bool a.forgot b.forgot
+    && (rank a.report == rank b.report) && same_list is_child a.owed b.owed && same_bool a.forgot b.forgot
 
 -- ---- arcs
 
@@ -121,7 +119,7 @@ abbrev pub agrees_current : Origin → NodeKey → List Entry → Current → Bo
 agrees_current o k h c =
     (number_of_phase c.phase == number_of_phase (phase_in o k h))
     && is_addr_option (superior_of c.key) (superior_for o k h)
-    && same_list same_child (all_children c.branches) (branches_in o k h)
+    && same_list is_child (all_children c.branches) (branches_in o k h)
     && agrees_branches o k h c.branches
     && same_bool c.told_prepare (told_prepare_in o k h)
     && same_bool c.asked (asked_in o k h)

@@ -13,9 +13,9 @@ abbrev pub sent_on : Mark → Mark → ℕ → List Entry → List DialogueRecor
 sent_on x y p [] = []
 sent_on x y p (e ∷ h) = sent_on x y p h ++ sent_of x y p e.outs
 
-abbrev pub taken_on : Mark → Mark → ℕ → List Entry → List DialogueRecord
-taken_on x y p [] = []
-taken_on x y p (e ∷ h) = taken_on x y p h ++ took_of x y p e.event
+abbrev pub accepted_on : Mark → Mark → ℕ → List Entry → List DialogueRecord
+accepted_on x y p [] = []
+accepted_on x y p (e ∷ h) = accepted_on x y p h ++ took_of x y p e.event
 
 -- of a pair with the peer, the mark that this node drew
 abbrev pub own_mark : Option Addr → ℕ → Mark → Mark → Mark
@@ -28,11 +28,11 @@ own_old who d up p (Offered x) = is_at up p
 own_old who d up p (Live x y s t) = is_old who d (own_mark up p x y)
 
 abbrev pub IsQuiet : Mark → Mark → ℕ → List Entry → Type 0
-IsQuiet x y p h = (sent_on x y p h ≡ []) × (taken_on x y p h ≡ [])
+IsQuiet x y p h = (sent_on x y p h ≡ []) × (accepted_on x y p h ≡ [])
 
 -- in a legal history: a live link's counts are those of the history, and a mark that was not yet drawn is in no trace
 pub record IsTraced (who : Who) (up : Option Addr) (d : Digest) (h : List Entry) : Type 0 where
-  pub live : (p : ℕ) (x y : Mark) (s t : ℕ) → link_with d.arcs p ≡ Live x y s t → (length (sent_on x y p h) ≡ s) × (length (taken_on x y p h) ≡ t)
+  pub live : (p : ℕ) (x y : Mark) (s t : ℕ) → link_with d.arcs p ≡ Live x y s t → (length (sent_on x y p h) ≡ s) × (length (accepted_on x y p h) ≡ t)
   pub own : (p : ℕ) → own_old who d up p (link_with d.arcs p) ≡ true
   pub fresh : (p : ℕ) (x y : Mark) → is_old who d (own_mark up p x y) ≡ false → IsQuiet x y p h
   pub opening : (p : ℕ) (x y : Mark) → link_with d.arcs p ≡ Opening x → IsQuiet x y p h

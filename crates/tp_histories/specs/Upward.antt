@@ -15,12 +15,12 @@ use Rattle.tp_model.specs.Node.{Move}
 use Rattle.tp_model.specs.History.{digest, records}
 use Rattle.tp_model.specs.Outcomes.{decided, rolled, has_left, completed_none, is_unchanged}
 use Rattle.tp_model.specs.Promises.{has_told_in}
-use Rattle.tp_model.specs.Questions.{is_at}
+use Rattle.tp_model.specs.Questions.{is_begin, is_at}
 use Rattle.tp_steps.specs.Turns.{falls}
-use Rattle.tp_histories.specs.Traces.{sent_on, taken_on}
+use Rattle.tp_histories.specs.Traces.{sent_on, accepted_on}
 use Rattle.tp_steps.specs.Trees.{commits_tree, out_tells}
 use Rattle.tp_steps.specs.Clearing.{is_complete_none, is_complete, damages_tree, has_damage}
-use Rattle.tp_steps.specs.Facts.{is_begin, none_of, BranchKey, begun_keys, key_at, HasPlaceAt, words_to}
+use Rattle.tp_steps.specs.Facts.{none_of, BranchKey, begun_keys, key_at, HasPlaceAt, words_to}
 use Rattle.tp_steps.specs.Upward.{Deeds, voting_from, each_up, may_say}
 
 -- ---- the same of a node: an event e whose prelude left s, from d on
@@ -49,5 +49,5 @@ deeds_of o h = record { committed = λ t. decided o t h; rolled = λ t. rolled o
 
 -- to the superior, on each pair
 pub record SpeaksUp (o : Origin) (up : Option Addr) (h : List Entry) : Type 0 where
-  pub words : (p : ℕ) (x y : Mark) → is_at up p ≡ true → each_up (may_say (begun_keys (taken_on x y p h)) (deeds_of o h)) 0 false (sent_on x y p h) ≡ true
+  pub words : (p : ℕ) (x y : Mark) → is_at up p ≡ true → each_up (may_say (begun_keys (accepted_on x y p h)) (deeds_of o h)) 0 false (sent_on x y p h) ≡ true
   pub votes : (p : ℕ) (x y : Mark) (s k : ℕ) → is_at up p ≡ true → link_with (digest o h).arcs p ≡ Live x y s k → VotesAt (voting_from false (sent_on x y p h)) (digest o h).current p

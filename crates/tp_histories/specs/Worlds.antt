@@ -8,7 +8,7 @@ use Rattle.tp_model.specs.History.{refuse, entry_of}
 use Rattle.tp_model.specs.World.{Node, Frame, number_of, addr_of, find_node}
 use Rattle.tp_model.specs.Legal.{IsGrown, IsUnder}
 use Rattle.tp_steps.specs.Histories.{brought}
-use Rattle.tp_histories.specs.Histories.{HasSent, HasTaken}
+use Rattle.tp_histories.specs.Histories.{HasSent, HasBrought}
 
 abbrev pub Each : (Frame → Type 0) → List Frame → Type 0
 Each P [] = Unit {0}
@@ -45,7 +45,7 @@ pub record IsGood (ns : List Node) (fs : List Frame) : Type 0 where
   pub fresh : (n : ℕ) (x : Node) → find_node ns n ≡ Some x → x.origin.start.records ≡ []
   pub above : (n : ℕ) (x : Node) (s : Addr) → find_node ns n ≡ Some x → x.superior ≡ Some s → Above ns s n
   pub sent : Each (WasSent ns) fs
-  pub taken : (n : ℕ) (x : Node) (a : Addr) (r : PeerRecord) → find_node ns n ≡ Some x → HasTaken x.history a r → IsFrameOf fs a n r
+  pub taken : (n : ℕ) (x : Node) (a : Addr) (r : PeerRecord) → find_node ns n ≡ Some x → HasBrought x.history a r → IsFrameOf fs a n r
 
 -- ---- one step of a run: an event that a node accepts
 

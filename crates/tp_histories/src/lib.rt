@@ -32,13 +32,13 @@ ghost use Rattle.tp_steps.specs.Upward.{IsRising};
 ghost use Rattle.tp_histories.specs.Upward.{IsRisen, SpeaksUp};
 ghost use Rattle.tp_steps.specs.Undone.{IsPromptTurn};
 ghost use Rattle.tp_histories.specs.Undone.{is_left_undone};
-ghost use Rattle.tp_histories.specs.Traces.{IsTraced, sent_on, taken_on};
+ghost use Rattle.tp_histories.specs.Traces.{IsTraced, sent_on, accepted_on};
 
 /// In every legal history a live link counts what was sent and taken with its pair of marks, and a mark that is not yet
 /// drawn is in no record.
 pub fn traces()
     ensures counts { (o : Origin) (up : Option Addr) (h : List Entry) (p : ℕ) (x y : Mark) (s t : ℕ) → IsGrown o up h → link_with (digest o h).arcs p ≡ Live x y s t
-        → (length (sent_on x y p h) ≡ s) × (length (taken_on x y p h) ≡ t) }
+        → (length (sent_on x y p h) ≡ s) × (length (accepted_on x y p h) ≡ t) }
     ensures marks { (o : Origin) (up : Option Addr) (h : List Entry) → IsGrown o up h → IsTraced o.who up (digest o h) h }
 {}
 
@@ -83,7 +83,7 @@ pub fn nothing_is_left_undone()
 pub fn answers_are_asked_for()
     ensures turn { (e : TxEvent) (s : Transaction) (p : ℕ) → IsPut e s → IsAnswering e s p s (transacted e s) }
     ensures history { (o : Origin) (up : Option Addr) (h : List Entry) (p : ℕ) (x y : Mark) (s k : ℕ) → o.start.records ≡ [] → IsGrown o up h → is_at up p ≡ true → link_with (digest o h).arcs p ≡ Live x y s k
-        → answered (sent_on x y p h) ≤ closed (taken_on x y p h) }
+        → answered (sent_on x y p h) ≤ closed (accepted_on x y p h) }
 {}
 
 /// In every legal history no two arcs lead to one node and none is idle; the mark that stands for the node in a pair is one

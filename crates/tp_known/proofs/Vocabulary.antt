@@ -48,11 +48,13 @@ unfoldable pub use Rattle.tp_model.specs.Requests.{refused_request, call, abort,
 pub use Rattle.tp_model.specs.Outcomes.{rolls, is_unchanged, is_fatal, rolls_by_record}
 pub use Rattle.tp_model.specs.Legal.{IsGrown, IsLegal, IsUnder, is_apart, is_start, is_own_record, are_own_records}
 pub use Rattle.tp_model.specs.Consistency.{peers_in, asked_for, not_idle, report_of, all_children, without_peer, peers_below}
-pub use Rattle.tp_histories.specs.KnownTests.{same_bool, number_of_deferral, number_of_due, agrees_order, agrees_up, is_number, same_list, same_link, agrees_branches, same_option, same_child, number_of_phase, agrees_arc, agrees_arcs, agrees_current, agrees}
+pub use Rattle.tp_histories.specs.KnownTests.{same_bool, number_of_deferral, number_of_due, agrees_order, agrees_up, is_number, same_list, same_link, agrees_branches, same_option, number_of_phase, agrees_arc, agrees_arcs, agrees_current, agrees}
+pub use Rattle.tp_logrec.specs.Order.{is_child}
 pub use Rattle.std.specs.Prelude.{is_some}
 pub use Rattle.tp_model.specs.Recovery.{forget_to}
 unfoldable pub use Rattle.tp_model.specs.Recovery.{settled, kept_by}
-pub use Rattle.tp_model.specs.Keys.{prepared_in, left_in, given_up_in, ended_in, begins, report_by, some_since, is_active_in, is_current_key, is_rolling_in, last_of, phase_by_rec, replied_report, rolls_for, ending_report, phase_in, takes_begin, is_give_up_of, is_ready_record, tells_order, is_done_request, owes_in, rolled_with_damage, own_in, is_damage_rec, is_rollback_record, superior_rolled_by, superior_rolled_in, decision_since, decision_for, tells_prepare, told_prepare_in, superior_for, branches_in, asked_in}
+pub use Rattle.tp_model.specs.Keys.{prepared_in, left_in, given_up_in, ended_in, begins, report_by, some_since, is_active_in, is_current_key, is_rolling_in, last_of, phase_by_rec, replied_report, rolls_for, ending_report, phase_in, takes_begin, is_give_up_of, is_ready_record, tells_order, is_done_request, owes_in, rolled_with_damage, own_in, is_rollback_record, superior_rolled_by, superior_rolled_in, decision_since, decision_for, tells_prepare, told_prepare_in, superior_for, branches_in, asked_in}
+pub use Rattle.tp_logrec.specs.Order.{is_damage}
 pub use Rattle.tp_steps.specs.Moves.{some_leads, prelude, IsLate, called, accepted_by, accepted_on, linked, counted_in, begun_in, is_said, are_said, are_spoken, gives_to, responds_to, is_word, IsChange, By_waking, By_saying, By_hearing, By_beginning, By_leaving, said_by, heard_by, left_by, begun_by_record, IsAsked, IsPut, Moves, is_spoken, closes_at, wakes, grants_to, hands_to, shakes_with, are_apart, may_put_off, IsSettling, is_apart_record}
 pub use Rattle.tp_steps.specs.Ends.{are_separate, is_there}
 pub use Rattle.tp_steps.specs.Steps.{Steps, puts_off_at, is_deferring, is_deferred_by, first_begin, AreAlike}

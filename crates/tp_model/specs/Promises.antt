@@ -122,9 +122,9 @@ pub record WhatUsersSee (w : World) : Type 0 where
 -- ---- parent and child
 
 -- the record is Ready of that branch; it is Ready or Commit of the tree
-abbrev pub is_ready_of : Aaid → BranchId → LogRec → Bool
-is_ready_of t b (LogRec.Ready n k s cs) = is_aaid t k.aaid && elim k.branch [ None ↦ false | Some c ↦ is_branch b c ]
-is_ready_of t b _ = false
+abbrev pub is_ready_of_branch : Aaid → BranchId → LogRec → Bool
+is_ready_of_branch t b (LogRec.Ready n k s cs) = is_aaid t k.aaid && elim k.branch [ None ↦ false | Some c ↦ is_branch b c ]
+is_ready_of_branch t b _ = false
 
 abbrev pub is_bound_of : Aaid → LogRec → Bool
 is_bound_of t (LogRec.Ready n k s cs) = is_aaid t k.aaid
@@ -179,14 +179,14 @@ pub record ParentAndChild (w : World) : Type 0 where
   pub commits_up : (t : Aaid) (b : BranchId) (x y : Node) → IsBranchOf w t b x y → decided y.origin t y.history ≡ true → decided x.origin t x.history ≡ true
   -- Ready goes down, but to branches that left
   pub ready_down : (t : Aaid) (b : BranchId) (x y : Node) → IsBranchOf w t b x y → has_logged (is_bound_of t) x ≡ true
-      → (has_left y.origin t y.history ≡ true) ⊎ (has_logged (is_ready_of t b) y ≡ true)
+      → (has_left y.origin t y.history ≡ true) ⊎ (has_logged (is_ready_of_branch t b) y ≡ true)
   -- what is counted is logged
-  pub counted_is_logged : (t : Aaid) (b : BranchId) (x y : Node) → IsBranchOf w t b x y → is_counted t b x ≡ true → has_logged (is_ready_of t b) y ≡ true
+  pub counted_is_logged : (t : Aaid) (b : BranchId) (x y : Node) → IsBranchOf w t b x y → is_counted t b x ≡ true → has_logged (is_ready_of_branch t b) y ≡ true
   -- a ready child rolls only with its superior
-  pub rolls_up : (t : Aaid) (b : BranchId) (x y : Node) → IsBranchOf w t b x y → has_logged (is_ready_of t b) y ≡ true → rolled y.origin t y.history ≡ true
+  pub rolls_up : (t : Aaid) (b : BranchId) (x y : Node) → IsBranchOf w t b x y → has_logged (is_ready_of_branch t b) y ≡ true → rolled y.origin t y.history ≡ true
       → rolled x.origin t x.history ≡ true
   -- a child that rolled without Ready is never counted
-  pub rolled_is_uncounted : (t : Aaid) (b : BranchId) (x y : Node) → IsBranchOf w t b x y → has_logged (is_ready_of t b) y ≡ false → rolled y.origin t y.history ≡ true
+  pub rolled_is_uncounted : (t : Aaid) (b : BranchId) (x y : Node) → IsBranchOf w t b x y → has_logged (is_ready_of_branch t b) y ≡ false → rolled y.origin t y.history ≡ true
       → is_counted t b x ≡ false
   -- a node that left has no record, did not roll, and all below it left
   pub left_is_bare : (t : Aaid) (x : Node) → IsOf w t x → has_left x.origin t x.history ≡ true → has_logged (is_of_tree t) x ≡ false

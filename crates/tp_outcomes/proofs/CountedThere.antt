@@ -24,7 +24,7 @@ use Rattle.tp_steps.specs.Moves.{IsAsked, prelude}
 use Rattle.tp_steps.specs.Facts.{find_branch, BranchKey, HasPlaceAt, IsHeard, has_ready_of, is_vote, is_voted, each_vote, ends, words_to}
 use Rattle.tp_steps.specs.Branches.{may_count}
 use Rattle.tp_steps.specs.Histories.{brought}
-use Rattle.tp_histories.specs.Histories.{HasSent, HasTaken, IsSentIn}
+use Rattle.tp_histories.specs.Histories.{HasSent, IsSentIn, HasBrought}
 use Rattle.tp_histories.specs.Members.{has_taken_begin, is_begun_by}
 use Rattle.tp_histories.specs.Worlds.{IsGood}
 use Rattle.tp_histories.specs.Upward.{deeds_of}
@@ -58,7 +58,7 @@ pub record TookReady (h : List Entry) (p : ℕ) : Type 0 where
   pub y : Mark
   pub seq : ℕ
   pub at : from.node ≡ p
-  pub took : HasTaken h from (PeerRecord.OnAssoc x y seq DialogueRecord.Ready)
+  pub took : HasBrought h from (PeerRecord.OnAssoc x y seq DialogueRecord.Ready)
 
 pub took_ready : (o : Origin) (up : Option Addr) (h : List Entry) (p : ℕ) (j : BranchKey) → o.start.records ≡ [] → IsGrown o up h → Marked counted_of (digest o h).current p j → TookReady h p
 took_ready o up [] p j empty legal m = absurd (let off : None ≡ Some m.current = sym (current_none o empty) ∙ m.at in cc (off))

@@ -26,7 +26,7 @@ use Rattle.tp_model.specs.Happenings.{Happening, run}
 use Rattle.tp_model.specs.Promises.{IsBranchOf}
 use Rattle.tp_model.specs.Legal.{IsGrown}
 use Rattle.tp_steps.specs.Histories.{brought}
-use Rattle.tp_histories.specs.Histories.{HasTaken}
+use Rattle.tp_histories.specs.Histories.{HasBrought}
 use Rattle.tp_steps.specs.Moves.{IsLate, keeps_idle, begun_in, counted_in, prelude}
 use Rattle.tp_histories.specs.Members.{is_begun_by, has_taken_begin, is_own, IsOnce}
 use Rattle.tp_runs.specs.Bare.{keeps_tree}
@@ -197,7 +197,7 @@ forget_from o up e h t b a empty legal keys is held = go (current_with d (branch
             (sym (found_key d.kept (branch_key t b) w.0 w.1) ∙ above.1) above.3
 
 -- what is noted was the superior's
-notes_taken : (o : Origin) (up : Option Addr) (h : List Entry) (t : Aaid) (b : BranchId) → o.start.records ≡ [] → IsGrown o up h → KeyIs o h t b → notes_forget t b (digest o h).kept ≡ true → (a : Addr) × HasTaken h a (PeerRecord.Forget t b) × (is_at up a.node ≡ true)
+notes_taken : (o : Origin) (up : Option Addr) (h : List Entry) (t : Aaid) (b : BranchId) → o.start.records ≡ [] → IsGrown o up h → KeyIs o h t b → notes_forget t b (digest o h).kept ≡ true → (a : Addr) × HasBrought h a (PeerRecord.Forget t b) × (is_at up a.node ≡ true)
 notes_taken o up [] t b empty legal keys x = absurd (cc (ap (notes_forget t b) (kept_none o empty), x))
 notes_taken o up (e ∷ h) t b empty legal keys x = go (k.notes b x) (notes_taken o up h t b empty legal.3 (key_tail o e h t b keys))
   where
@@ -219,8 +219,8 @@ notes_taken o up (e ∷ h) t b empty legal keys x = go (k.notes b x) (notes_take
       ]
     ]
 
-    go : (notes_forget t b s.kept ≡ true) ⊎ (a : Addr) × (e.event ≡ Event.Arrive a (PeerRecord.Forget t b)) → (notes_forget t b (digest o h).kept ≡ true → (a : Addr) × HasTaken h a (PeerRecord.Forget t b) × (is_at up a.node ≡ true))
-        → (a : Addr) × HasTaken (e ∷ h) a (PeerRecord.Forget t b) × (is_at up a.node ≡ true)
+    go : (notes_forget t b s.kept ≡ true) ⊎ (a : Addr) × (e.event ≡ Event.Arrive a (PeerRecord.Forget t b)) → (notes_forget t b (digest o h).kept ≡ true → (a : Addr) × HasBrought h a (PeerRecord.Forget t b) × (is_at up a.node ≡ true))
+        → (a : Addr) × HasBrought (e ∷ h) a (PeerRecord.Forget t b) × (is_at up a.node ≡ true)
     go (inl i) rest = let w = rest (notes_prelude o.who d e.event t b i) in (w.0, inr w.1, w.2)
     go (inr i) rest = (i.0, inl (ap brought i.1), forget_from o up e h t b i.0 empty legal keys i.1 (held i.0 i.1))
 

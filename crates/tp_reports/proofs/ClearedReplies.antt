@@ -26,7 +26,7 @@ use Rattle.tp_model.specs.Events.{action}
 use Rattle.tp_model.specs.History.{digest, records}
 use Rattle.tp_model.specs.Outcomes.{is_now, rolled, has_left}
 use Rattle.tp_model.specs.Legal.{IsGrown}
-use Rattle.tp_histories.specs.Histories.{HasSent, HasTaken}
+use Rattle.tp_histories.specs.Histories.{HasSent, HasBrought}
 use Rattle.tp_steps.specs.Moves.{keeps_idle, prelude}
 use Rattle.tp_histories.specs.Members.{has_taken_begin, is_own, is_known, IsOnce}
 use Rattle.tp_runs.specs.Bare.{keeps_tree}
@@ -88,7 +88,7 @@ pub data Answered (o : Origin) (up : Option Addr) (h : List Entry) (t : Aaid) (b
   By_rolling : rolled o t h ≡ true → Answered o up h t b
   By_leaving : has_left o t h ≡ true → Answered o up h t b
   By_clearing : has_cleared t (records o h) ≡ true → Answered o up h t b
-  By_forgetting : (a : Addr) → HasTaken h a (PeerRecord.Forget t b) → is_at up a.node ≡ true → Answered o up h t b
+  By_forgetting : (a : Addr) → HasBrought h a (PeerRecord.Forget t b) → is_at up a.node ≡ true → Answered o up h t b
 
 answered_now : (o : Origin) (up : Option Addr) (h : List Entry) (t : Aaid) (b : BranchId) → o.start.records ≡ [] → IsGrown o up h → IsOnce o h → KeyIs o h t b → has_taken_begin t h ≡ true → recovery_answer (known_of (named_by_key (digest o h) (branch_key t b)) b) Question.RecCommit ≡ Some (RecState.Done Report.None) → Answered o up h t b
 answered_now o up h t b empty legal once keys took x = go (fate_law o up h t b empty legal once keys took)

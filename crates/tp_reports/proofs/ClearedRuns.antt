@@ -18,7 +18,7 @@ use Rattle.tp_model.specs.World.{Node, Frame, number_of, find_node, put_node}
 use Rattle.tp_model.specs.Happenings.{Happening, run}
 use Rattle.tp_model.specs.Legal.{IsGrown}
 use Rattle.tp_steps.specs.Histories.{brought}
-use Rattle.tp_histories.specs.Histories.{HasSent, HasTaken}
+use Rattle.tp_histories.specs.Histories.{HasSent, HasBrought}
 use Rattle.tp_histories.specs.Worlds.{IsGood, grown_node, Comes}
 use Rattle.tp_histories.specs.Upward.{deeds_of}
 use Rattle.tp_histories.specs.Members.{has_taken_begin, is_own, is_known, IsOnce}
@@ -53,11 +53,11 @@ hears_more n K L o [] more k = tt
 hears_more n K L o (e ∷ h) more k = (λ a t b is at now committing begun. more t b (k.0 a t b is at now committing begun), hears_more n K L o h more k.1)
 
 -- a node of which nothing was taken
-hears_none : (n : ℕ) (K : Aaid → BranchId → Type 0) (o : Origin) (h : List Entry) → ((a : Addr) (r : PeerRecord) → HasTaken h a r → a.node ≡ n → ⊥) → HearsClear n K o h
+hears_none : (n : ℕ) (K : Aaid → BranchId → Type 0) (o : Origin) (h : List Entry) → ((a : Addr) (r : PeerRecord) → HasBrought h a r → a.node ≡ n → ⊥) → HearsClear n K o h
 hears_none n K o [] none = tt
 hears_none n K o (e ∷ h) none = (λ a t b is at now committing begun. absurd (none a (PeerRecord.RecReply t b (RecState.Done Report.None)) (inl (ap brought is)) at), hears_none n K o h (λ a r k at. none a r (inr k) at))
 
-dones_none : (n : ℕ) (S : Aaid → Type 0) (o : Origin) (h : List Entry) → ((a : Addr) (r : PeerRecord) → HasTaken h a r → a.node ≡ n → ⊥) → KnowsDones n S o h
+dones_none : (n : ℕ) (S : Aaid → Type 0) (o : Origin) (h : List Entry) → ((a : Addr) (r : PeerRecord) → HasBrought h a r → a.node ≡ n → ⊥) → KnowsDones n S o h
 dones_none n S o [] none = tt
 dones_none n S o (e ∷ h) none = (λ a t b r is at some s. absurd (none a (PeerRecord.RecReply t b (RecState.Done r)) (inl (ap brought is)) at), dones_none n S o h (λ a r k at. none a r (inr k) at))
 
@@ -82,7 +82,7 @@ record AreHeard (ns : List Node) : Type 0 where
 -- ---- a node comes
 
 untaken : (ns : List Node) (fs : List Frame) (z u v : Node) → Comes ns z → IsGood ns fs → find_node (ns ++ z ∷ []) (number_of u) ≡ Some u → find_node (ns ++ z ∷ []) (number_of v) ≡ Some v → is_at v.superior (number_of u) ≡ true
-    → (find_node ns (number_of u) ≡ Some u) × (find_node ns (number_of v) ≡ Some v) ⊎ ((a : Addr) (r : PeerRecord) → HasTaken u.history a r → a.node ≡ number_of v → ⊥)
+    → (find_node ns (number_of u) ≡ Some u) × (find_node ns (number_of v) ≡ Some v) ⊎ ((a : Addr) (r : PeerRecord) → HasBrought u.history a r → a.node ≡ number_of v → ⊥)
 untaken ns fs z u v c good hu hv above = go (number_of z == number_of u) refl (number_of z == number_of v) refl
   where
     at : (n : ℕ) → find_node (ns ++ z ∷ []) n ≡ cond (number_of z == n) (Some z) (find_node ns n)
@@ -94,10 +94,10 @@ untaken ns fs z u v c good hu hv above = go (number_of z == number_of u) refl (n
     was : (n : ℕ) (y : Node) → (number_of z == n) ≡ false → find_node (ns ++ z ∷ []) n ≡ Some y → find_node ns n ≡ Some y
     was n y b i = grind (arith, at n, b, i)
 
-    go : (b : Bool) → (number_of z == number_of u) ≡ b → (d : Bool) → (number_of z == number_of v) ≡ d → (find_node ns (number_of u) ≡ Some u) × (find_node ns (number_of v) ≡ Some v) ⊎ ((a : Addr) (r : PeerRecord) → HasTaken u.history a r → a.node ≡ number_of v → ⊥)
+    go : (b : Bool) → (number_of z == number_of u) ≡ b → (d : Bool) → (number_of z == number_of v) ≡ d → (find_node ns (number_of u) ≡ Some u) × (find_node ns (number_of v) ≡ Some v) ⊎ ((a : Addr) (r : PeerRecord) → HasBrought u.history a r → a.node ≡ number_of v → ⊥)
     go true i d j =
         let bare : u.history ≡ [] = ap (λ (y : Node). y.history) (sym (new (number_of u) u i hu)) ∙ c.bare in
-        inr (λ a r t n. subst (λ (h : List Entry). HasTaken h a r) bare t)
+        inr (λ a r t n. subst (λ (h : List Entry). HasBrought h a r) bare t)
     go false i false j = inl (was (number_of u) u i hu, was (number_of v) v j hv)
     go false i true j =
         inr (λ a r t n.

@@ -20,7 +20,7 @@ use Rattle.tp_model.specs.Promises.{IsIn, IsOf, IsBranchOf, IsBelow, has_told_in
 use Rattle.tp_model.specs.Questions.{tells_commit_complete}
 use Rattle.tp_model.specs.Legal.{IsGrown}
 use Rattle.tp_steps.specs.Histories.{brought}
-use Rattle.tp_histories.specs.Histories.{IsSentIn, HasSent, HasTaken}
+use Rattle.tp_histories.specs.Histories.{IsSentIn, HasSent, HasBrought}
 use Rattle.tp_histories.specs.Worlds.{IsGood}
 use Rattle.tp_histories.specs.Members.{IsOnce}
 use Rattle.tp_steps.specs.Clearing.{has_damage}
@@ -84,7 +84,7 @@ said_how o up (e ∷ h) t b empty legal once x = elim (or_case (some_out (is_don
 
 -- ---- who asked
 
-answered_took : (o : Origin) (z : Addr) (t : Aaid) (b : BranchId) (r : Report) (h : List Entry) → AnsweredDone o z t b r h → HasTaken h z (PeerRecord.RecCommit t b)
+answered_took : (o : Origin) (z : Addr) (t : Aaid) (b : BranchId) (r : Report) (h : List Entry) → AnsweredDone o z t b r h → HasBrought h z (PeerRecord.RecCommit t b)
 answered_took o z t b r [] a = absurd a
 answered_took o z t b r (e ∷ h) (inl a) = inl (ap brought a.0)
 answered_took o z t b r (e ∷ h) (inr a) = inr (answered_took o z t b r h a)
@@ -143,7 +143,7 @@ reported es t b x y branch untold sent = elim (said_how y.origin y.superior y.hi
     Said = (has_left y.origin t y.history ≡ true) ⊎ (has_cleared t (records y.origin y.history) ≡ true)
 
     -- the identifier of the branch is of the superior's mark
-    asker : (z : Addr) → HasTaken y.history z (PeerRecord.RecCommit t b) → z.node ≡ number_of x
+    asker : (z : Addr) → HasBrought y.history z (PeerRecord.RecCommit t b) → z.node ≡ number_of x
     asker z taken =
         let d : Sender (run es).nodes z (number_of y) (PeerRecord.RecCommit t b) = was_sent (run es).nodes (run es).frames z (number_of y) (PeerRecord.RecCommit t b) good.sent (good.taken (number_of y) y z (PeerRecord.RecCommit t b) hy taken) in
         let node : number_of d.node ≡ z.node = ap (λ (a : Addr). a.node) d.is in

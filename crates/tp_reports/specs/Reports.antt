@@ -12,7 +12,7 @@ use Rattle.tp_model.specs.Questions.{is_at}
 use Rattle.tp_model.specs.World.{World, Node}
 use Rattle.tp_model.specs.Promises.{IsOf, IsBranchOf, told_of, IsBelow, HasCommitted, has_told_in, has_sent_done_none, is_root}
 use Rattle.tp_model.specs.Questions.{tells_commit_complete}
-use Rattle.tp_histories.specs.Histories.{HasTaken}
+use Rattle.tp_histories.specs.Histories.{HasBrought}
 use Rattle.tp_reports.specs.Clearing.{has_cleared, KeepsAt}
 use Rattle.tp_model.specs.Trees.{stays, members_of, closing_line}
 use Rattle.tp_model.specs.declared.out_line.OutLine.{OutLine}
@@ -55,7 +55,7 @@ pub data Fate (o : Origin) (up : Option Addr) (h : List Entry) (t : Aaid) (b : B
   Was_left : has_left o t h ≡ true → Fate o up h t b
   Ended_clear : has_cleared t (records o h) ≡ true → Fate o up h t b
   Stays_kept : KeepsAt t (digest o h).kept → Fate o up h t b
-  Took_forget : (a : Addr) → HasTaken h a (PeerRecord.Forget t b) → is_at up a.node ≡ true → Fate o up h t b
+  Took_forget : (a : Addr) → HasBrought h a (PeerRecord.Forget t b) → is_at up a.node ≡ true → Fate o up h t b
 
 abbrev pub BranchFate : World → Type 0
 BranchFate w = (t : Aaid) (b : BranchId) (x y : Node) → IsBranchOf w t b x y → Fate y.origin y.superior y.history t b

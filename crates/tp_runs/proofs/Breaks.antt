@@ -28,7 +28,7 @@ use Rattle.tp_steps.specs.Histories.{brought}
 use Rattle.tp_histories.specs.Worlds.{IsGood}
 use Rattle.tp_steps.specs.Moves.{prelude, IsLate, IsAsked}
 use Rattle.tp_steps.specs.Traces.{count_to, IsLinked, sent_of, took_of, is_old}
-use Rattle.tp_histories.specs.Traces.{sent_on, taken_on, own_mark, own_old, IsTraced}
+use Rattle.tp_histories.specs.Traces.{sent_on, own_mark, own_old, IsTraced, accepted_on}
 use Rattle.tp_runs.specs.Breaks.{is_broken_by, has_broken, AreBreaks}
 use Rattle.tp_steps.proofs.every.EveryMove.{put_plain, every_transact}
 use Rattle.tp_steps.proofs.links.Links.{link_without}
@@ -236,7 +236,7 @@ same_took x y p (Event.Arrive a (PeerRecord.OnAssoc z w s r)) h = one_of ((a.nod
 same_took x y p (Event.Break a (PeerRecord.OnAssoc z w s r)) h = one_of ((a.node == p) && is_mark x z && is_mark y w) r ∙ rw h refl
 same_took x y p _ h = refl
 
-pub all_taken : (x y : Mark) (p : ℕ) (h : List Entry) → has_broken x y p h ≡ false → model.taken_on x y p h ≡ taken_on x y p h
+pub all_taken : (x y : Mark) (p : ℕ) (h : List Entry) → has_broken x y p h ≡ false → model.taken_on x y p h ≡ accepted_on x y p h
 all_taken x y p [] i = refl
 all_taken x y p (e ∷ h) i = rw (all_taken x y p h (grind (arith, i)), same_took x y p e.event (grind (arith, i))) refl
 

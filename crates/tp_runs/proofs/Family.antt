@@ -17,7 +17,7 @@ use Rattle.tp_model.specs.Promises.{IsBranchOf, is_begin_of, has_begun}
 use Rattle.tp_model.specs.Legal.{IsGrown}
 use Rattle.tp_histories.specs.Histories.{HasSent}
 use Rattle.tp_histories.specs.Worlds.{IsGood}
-use Rattle.tp_histories.specs.Traces.{sent_on, taken_on, history_at}
+use Rattle.tp_histories.specs.Traces.{sent_on, history_at, accepted_on}
 use Rattle.tp_steps.specs.Facts.{is_order, BranchKey, begins_by, last_from, each_under, is_ordered}
 use Rattle.tp_histories.specs.Members.{is_begun_by, has_taken_begin, is_own}
 use Rattle.tp_histories.proofs.worlds.Good.{good_run, Sender, was_sent}
@@ -103,7 +103,7 @@ commits_above ns fs t x y good hx hy above foreign done = go (commit_taken y.ori
         let pre = prefix_list ns fs good (number_of y) p m k in
         let sent : sent_on m k (number_of y) x.history ≡ (before ++ DialogueRecord.Commit ∷ rest) ++ pre.0 =
         ap (sent_on m k (number_of y)) (sym (history_is ns p x there)) ∙ pre.1
-        ∙ ap (λ (h : List Entry). taken_on m k p h ++ pre.0) (history_is ns (number_of y) y hy) ∙ ap (λ (rs : List DialogueRecord). rs ++ pre.0) taken in
+        ∙ ap (λ (h : List Entry). accepted_on m k p h ++ pre.0) (history_is ns (number_of y) y hy) ∙ ap (λ (rs : List DialogueRecord). rs ++ pre.0) taken in
         placed_under is_order (is_ordered (records x.origin x.history)) (Some (t, c)) DialogueRecord.Commit before rest pre.0 (sent_on m k (number_of y) x.history) sent last refl ((paired_law x.origin x.superior x.history fresh_x legal_x).orders (number_of y) m k)
     go (inr (In_recovery a r at orders took)) =
         let same : a.node ≡ number_of x = at_same y.superior a.node (number_of x) at above in

@@ -20,9 +20,9 @@ use Rattle.tp_model.specs.Legal.{IsGrown}
 use Rattle.tp_steps.specs.Histories.{brought}
 use Rattle.tp_steps.specs.Trees.{out_tells}
 use Rattle.tp_steps.specs.Clearing.{is_complete}
-use Rattle.tp_histories.specs.Histories.{HasSent, HasTaken}
+use Rattle.tp_histories.specs.Histories.{HasSent, HasBrought}
 use Rattle.tp_histories.specs.Worlds.{place, IsGood, grown_node, Comes}
-use Rattle.tp_histories.specs.Traces.{sent_on, taken_on}
+use Rattle.tp_histories.specs.Traces.{sent_on, accepted_on}
 use Rattle.tp_steps.specs.Facts.{is_vote, is_voted, ends, ends_in, BranchKey, begun_keys, each_vote}
 use Rattle.tp_steps.specs.Upward.{voting, voting_from, each_up, Deeds, holds_at, may_say}
 use Rattle.tp_histories.specs.Upward.{deeds_of, SpeaksUp}
@@ -84,9 +84,9 @@ heeded_more g k rs ls w ks n v r h =
 
 event_more : (g k : Deeds) (rs ls : List LogRec) → Grows g k rs ls → (p : ℕ) (h : List Entry) (e : Event) → heeds_event g rs p h e ≡ true → heeds_event k ls p h e ≡ true
 event_more g k rs ls w p h (Event.Arrive a (PeerRecord.OnAssoc x y q r)) i =
-    still_kept (not (a.node == p)) (is_heeded (begun_keys (sent_on x y p h)) g rs (ends_in (taken_on x y p h)) (voting_from false (taken_on x y p h)) r)
-    (is_heeded (begun_keys (sent_on x y p h)) k ls (ends_in (taken_on x y p h)) (voting_from false (taken_on x y p h)) r)
-    (heeded_more g k rs ls w (begun_keys (sent_on x y p h)) (ends_in (taken_on x y p h)) (voting_from false (taken_on x y p h)) r) i
+    still_kept (not (a.node == p)) (is_heeded (begun_keys (sent_on x y p h)) g rs (ends_in (accepted_on x y p h)) (voting_from false (accepted_on x y p h)) r)
+    (is_heeded (begun_keys (sent_on x y p h)) k ls (ends_in (accepted_on x y p h)) (voting_from false (accepted_on x y p h)) r)
+    (heeded_more g k rs ls w (begun_keys (sent_on x y p h)) (ends_in (accepted_on x y p h)) (voting_from false (accepted_on x y p h)) r) i
 event_more g k rs ls w p h e i = refl
 
 heeds_more : (g k : Deeds) (rs ls : List LogRec) → Grows g k rs ls → (p : ℕ) (h : List Entry) → heeds g rs p h ≡ true → heeds k ls p h ≡ true
@@ -149,7 +149,7 @@ voted_wide ks more rs n v = go (slice_get ks n) refl
     go (Some b) i = let wide : slice_get (ks ++ more) n ≡ Some b = key_before ks more n b i in rw (wide, is_voted) (rw (i, is_voted) at v)
 
 pub word_taken : (ns : List Node) (fs : List Frame) (x y : Node) (a : Addr) (m k : Mark) (q : ℕ) (r : DialogueRecord) → Step ns fs x (Event.Arrive a (PeerRecord.OnAssoc m k q r)) → IsUnique ns → find_node ns (number_of y) ≡ Some y → is_at y.superior (number_of x) ≡ true → a.node ≡ number_of y
-    → is_heeded (begun_keys (sent_on m k (number_of y) x.history)) (deeds_of y.origin y.history) (records y.origin y.history) (ends_in (taken_on m k (number_of y) x.history)) (voting_from false (taken_on m k (number_of y) x.history)) r ≡ true
+    → is_heeded (begun_keys (sent_on m k (number_of y) x.history)) (deeds_of y.origin y.history) (records y.origin y.history) (ends_in (accepted_on m k (number_of y) x.history)) (voting_from false (accepted_on m k (number_of y) x.history)) r ≡ true
 word_taken ns fs x y a m k q r st unique here under at =
     both_true (may_say (begun_keys (sent_on m k (number_of y) x.history)) g n v r) (not (is_vote r) || is_voted (begun_keys (sent_on m k (number_of y) x.history)) rs n)
     (subst (λ (ks : List BranchKey). may_say ks g n v r ≡ true) (sym wide)
@@ -166,7 +166,7 @@ word_taken ns fs x y a m k q r st unique here under at =
     rs = records y.origin y.history
 
     before : List DialogueRecord
-    before = taken_on m k (number_of y) x.history
+    before = accepted_on m k (number_of y) x.history
 
     n : ℕ
     n = ends_in before
@@ -175,7 +175,7 @@ word_taken ns fs x y a m k q r st unique here under at =
     v = voting_from false before
 
     heard : List BranchKey
-    heard = begun_keys (taken_on m k (number_of x) y.history)
+    heard = begun_keys (accepted_on m k (number_of x) y.history)
 
     legal_x : IsGrown x.origin x.superior x.history
     legal_x = st.good.legal (number_of x) x st.accepts.here
@@ -189,7 +189,7 @@ word_taken ns fs x y a m k q r st unique here under at =
     speaks : SpeaksUp y.origin y.superior y.history
     speaks = speaks_law y.origin y.superior y.history fresh_y legal_y (unique.once (number_of y) y here)
 
-    votes : (p : ℕ) (z w : Mark) → each_vote (is_voted (begun_keys (taken_on z w p y.history)) rs) 0 (sent_on z w p y.history) ≡ true
+    votes : (p : ℕ) (z w : Mark) → each_vote (is_voted (begun_keys (accepted_on z w p y.history)) rs) 0 (sent_on z w p y.history) ≡ true
     votes = (paired_law y.origin y.superior y.history fresh_y legal_y).votes
 
     -- it was sent by the branch, at its number
@@ -205,12 +205,12 @@ word_taken ns fs x y a m k q r st unique here under at =
         (sent_at y.origin y.superior y.history s.to m k q r legal_y (subst (λ (u : Node). HasSent u.history s.to (PeerRecord.OnAssoc m k q r)) same s.sent))
 
     long : length before ≡ q
-    long = subst (λ (j : ℕ). length (taken_on m k j x.history) ≡ q) at (took_place x.origin x.superior x.history a m k q r (traced_law x.origin x.superior x.history legal_x) st.accepts.ok)
+    long = subst (λ (j : ℕ). length (accepted_on m k j x.history) ≡ q) at (took_place x.origin x.superior x.history a m k q r (traced_law x.origin x.superior x.history legal_x) st.accepts.ok)
 
     up : (more : List DialogueRecord) × (sent_on m k (number_of x) y.history ≡ before ++ more)
     up =
         let pre = prefix_list ns fs st.good (number_of x) (number_of y) m k in
-        (pre.0, ap (sent_on m k (number_of x)) (sym (history_is ns (number_of y) y here)) ∙ pre.1 ∙ ap (λ (h : List Entry). taken_on m k (number_of y) h ++ pre.0) (history_is ns (number_of x) x st.accepts.here))
+        (pre.0, ap (sent_on m k (number_of x)) (sym (history_is ns (number_of y) y here)) ∙ pre.1 ∙ ap (λ (h : List Entry). accepted_on m k (number_of y) h ++ pre.0) (history_is ns (number_of x) x st.accepts.here))
 
     next : (rest : List DialogueRecord) × (up.0 ≡ r ∷ rest)
     next = get_next before up.0 q r long (ap (λ (l : List DialogueRecord). slice_get l q) (sym up.1) ∙ placed)
@@ -218,20 +218,20 @@ word_taken ns fs x y a m k q r st unique here under at =
     sent : sent_on m k (number_of x) y.history ≡ before ++ r ∷ next.0
     sent = up.1 ∙ ap (λ (l : List DialogueRecord). before ++ l) next.1
 
-    down : (more : List DialogueRecord) × (sent_on m k (number_of y) x.history ≡ taken_on m k (number_of x) y.history ++ more)
+    down : (more : List DialogueRecord) × (sent_on m k (number_of y) x.history ≡ accepted_on m k (number_of x) y.history ++ more)
     down =
         let pre = prefix_list ns fs st.good (number_of y) (number_of x) m k in
-        (pre.0, ap (sent_on m k (number_of y)) (sym (history_is ns (number_of x) x st.accepts.here)) ∙ pre.1 ∙ ap (λ (h : List Entry). taken_on m k (number_of x) h ++ pre.0) (history_is ns (number_of y) y here))
+        (pre.0, ap (sent_on m k (number_of y)) (sym (history_is ns (number_of x) x st.accepts.here)) ∙ pre.1 ∙ ap (λ (h : List Entry). accepted_on m k (number_of x) h ++ pre.0) (history_is ns (number_of y) y here))
 
     wide : begun_keys (sent_on m k (number_of y) x.history) ≡ heard ++ begun_keys down.0
-    wide = ap begun_keys down.1 ∙ keys_append (taken_on m k (number_of x) y.history) down.0
+    wide = ap begun_keys down.1 ∙ keys_append (accepted_on m k (number_of x) y.history) down.0
 
 event_taken : (ns : List Node) (fs : List Frame) (x y : Node) (e : Event) → Step ns fs x e → IsUnique ns → find_node ns (number_of y) ≡ Some y → is_at y.superior (number_of x) ≡ true
     → heeds_event (deeds_of y.origin y.history) (records y.origin y.history) (number_of y) x.history e ≡ true
 event_taken ns fs x y (Event.Arrive a (PeerRecord.OnAssoc m k q r)) st unique here under = go (a.node == number_of y) refl
   where
     go : (b : Bool) → (a.node == number_of y) ≡ b
-        → (not b || is_heeded (begun_keys (sent_on m k (number_of y) x.history)) (deeds_of y.origin y.history) (records y.origin y.history) (ends_in (taken_on m k (number_of y) x.history)) (voting_from false (taken_on m k (number_of y) x.history)) r) ≡ true
+        → (not b || is_heeded (begun_keys (sent_on m k (number_of y) x.history)) (deeds_of y.origin y.history) (records y.origin y.history) (ends_in (accepted_on m k (number_of y) x.history)) (voting_from false (accepted_on m k (number_of y) x.history)) r) ≡ true
     go false i = refl
     go true i = let at : a.node ≡ number_of y = grind (arith, nat_tests, i) in word_taken ns fs x y a m k q r st unique here under at
 event_taken ns fs x y e st unique here under = refl
@@ -253,14 +253,14 @@ own_superior ns fs x good here under = go x.superior refl
         never (place ns a.node) (place ns (number_of x)) (ap (place ns) same) above.before
 
 -- of a node that sent nothing
-none_taken : (g : Deeds) (rs : List LogRec) (p : ℕ) (h : List Entry) → ((a : Addr) (r : PeerRecord) → HasTaken h a r → a.node ≡ p → ⊥) → heeds g rs p h ≡ true
+none_taken : (g : Deeds) (rs : List LogRec) (p : ℕ) (h : List Entry) → ((a : Addr) (r : PeerRecord) → HasBrought h a r → a.node ≡ p → ⊥) → heeds g rs p h ≡ true
 none_taken g rs p [] none = refl
 none_taken g rs p (e ∷ h) none = both_true (heeds_event g rs p h e.event) (heeds g rs p h) (here e.event refl) (none_taken g rs p h (λ a r t. none a r (inr t)))
   where
     here : (f : Event) → e.event ≡ f → heeds_event g rs p h f ≡ true
     here (Event.Arrive a (PeerRecord.OnAssoc x y q r)) i = go (a.node == p) refl
       where
-        go : (b : Bool) → (a.node == p) ≡ b → (not b || is_heeded (begun_keys (sent_on x y p h)) g rs (ends_in (taken_on x y p h)) (voting_from false (taken_on x y p h)) r) ≡ true
+        go : (b : Bool) → (a.node == p) ≡ b → (not b || is_heeded (begun_keys (sent_on x y p h)) g rs (ends_in (accepted_on x y p h)) (voting_from false (accepted_on x y p h)) r) ≡ true
         go false j = refl
         go true j = let at : a.node ≡ p = grind (arith, nat_tests, j) in absurd (none a (PeerRecord.OnAssoc x y q r) (inl (ap brought i)) at)
     here f i = refl

@@ -21,7 +21,8 @@ use Rattle.tp_model.specs.Questions.{is_crash, boot_in, drawn_in}
 use Rattle.tp_model.specs.Outcomes.{rolls, is_unchanged}
 use Rattle.tp_model.specs.Keys.{logs_of, takes_begin, begins, begun_children, named_children, branches_in, sender_of, named_superior, superior_since, superior_for}
 use Rattle.tp_model.specs.Consistency.{all_children}
-use Rattle.tp_histories.specs.KnownTests.{same_list, same_child}
+use Rattle.tp_histories.specs.KnownTests.{same_list}
+use Rattle.tp_logrec.specs.Order.{is_child}
 use Rattle.tp_model.specs.Legal.{IsLegal}
 use Rattle.tp_steps.specs.Moves.{prelude}
 use Rattle.tp_steps.specs.Steps.{first_begin}
@@ -275,8 +276,8 @@ above_law o up h legal = go (digest o h).current refl
 pub branches_law : (o : Origin) (up : Option Addr) (h : List Entry) → IsLegal o up h → branches_agree o h ≡ true
 branches_law o up h legal = go (digest o h).current refl
   where
-    go : (v : Option Current) → (digest o h).current ≡ v → elim v as (λ _. Bool) [ None ↦ true | Some c ↦ same_list same_child (all_children c.branches) (branches_in o (node_key c.key) h) ] ≡ true
+    go : (v : Option Current) → (digest o h).current ≡ v → elim v as (λ _. Bool) [ None ↦ true | Some c ↦ same_list is_child (all_children c.branches) (branches_in o (node_key c.key) h) ] ≡ true
     go None i = refl
     go (Some c) i =
-        ap (λ (cs : List Child). same_list same_child cs (branches_in o (node_key c.key) h)) (kin_children c.branches)
-        ∙ ap (λ (cs : List Child). same_list same_child (kin c.branches) cs) (sym (family_law o up h legal c i).0) ∙ children_self (kin c.branches)
+        ap (λ (cs : List Child). same_list is_child cs (branches_in o (node_key c.key) h)) (kin_children c.branches)
+        ∙ ap (λ (cs : List Child). same_list is_child (kin c.branches) cs) (sym (family_law o up h legal c i).0) ∙ children_self (kin c.branches)

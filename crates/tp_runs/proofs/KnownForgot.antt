@@ -23,7 +23,8 @@ use Rattle.tp_model.specs.Events.{recovered_current, after_crash, started, is_kn
 use Rattle.tp_model.specs.History.{digest, entry_of, with_rec, records}
 use Rattle.tp_model.specs.Questions.{is_crash}
 use Rattle.tp_model.specs.Keys.{has_key, last_of, is_kept_commit, is_forget_of, ends_key, forgot_in, known_in, has_keys, standing_keys}
-use Rattle.tp_histories.specs.KnownTests.{same_list, same_kept, same_child}
+use Rattle.tp_histories.specs.KnownTests.{same_list, same_kept}
+use Rattle.tp_logrec.specs.Order.{is_child}
 use Rattle.tp_model.specs.Legal.{IsLegal}
 use Rattle.tp_steps.specs.Moves.{Moves, prelude, begun_in, counted_in}
 use Rattle.tp_steps.specs.Steps.{IsNotedBy, Steps}
@@ -448,10 +449,10 @@ pub outcome_self : (u : _) → is_outcome u u ≡ true
 outcome_self Outcome.Commit = refl
 outcome_self Outcome.Rollback = refl
 
-child_self : (c : Child) → same_child c c ≡ true
+child_self : (c : Child) → is_child c c ≡ true
 child_self c = both_true _ _ (addr_self c.addr) (branch_self c.branch)
 
-pub children_self : (cs : List Child) → same_list same_child cs cs ≡ true
+pub children_self : (cs : List Child) → same_list is_child cs cs ≡ true
 children_self [] = refl
 children_self (c ∷ cs) = both_true _ _ (child_self c) (children_self cs)
 

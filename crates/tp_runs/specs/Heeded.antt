@@ -8,7 +8,7 @@ use Rattle.tp_model.specs.Parts.{Event, Entry}
 use Rattle.tp_model.specs.History.{records}
 use Rattle.tp_model.specs.Questions.{is_at}
 use Rattle.tp_model.specs.World.{Node, number_of, find_node}
-use Rattle.tp_histories.specs.Traces.{sent_on, taken_on}
+use Rattle.tp_histories.specs.Traces.{sent_on, accepted_on}
 use Rattle.tp_steps.specs.Facts.{is_vote, is_voted, ends_in, BranchKey, begun_keys}
 use Rattle.tp_steps.specs.Upward.{voting_from, Deeds, may_say}
 use Rattle.tp_histories.specs.Upward.{deeds_of}
@@ -20,7 +20,7 @@ is_heeded ks g rs n v r = may_say ks g n v r && (not (is_vote r) || is_voted ks 
 -- the event e after the history h, if it takes a word of the peer
 abbrev pub heeds_event : Deeds → List LogRec → ℕ → List Entry → Event → Bool
 heeds_event g rs p h (Event.Arrive a (PeerRecord.OnAssoc x y q r)) =
-    not (a.node == p) || is_heeded (begun_keys (sent_on x y p h)) g rs (ends_in (taken_on x y p h)) (voting_from false (taken_on x y p h)) r
+    not (a.node == p) || is_heeded (begun_keys (sent_on x y p h)) g rs (ends_in (accepted_on x y p h)) (voting_from false (accepted_on x y p h)) r
 heeds_event g rs p h _ = true
 
 abbrev pub heeds : Deeds → List LogRec → ℕ → List Entry → Bool

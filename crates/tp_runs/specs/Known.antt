@@ -9,7 +9,8 @@ use Rattle.tp_model.specs.History.{digest}
 use Rattle.tp_model.specs.Questions.{drawn_in}
 use Rattle.tp_model.specs.Keys.{phase_in, superior_for, branches_in, asked_in, kept_in, known_in}
 use Rattle.tp_model.specs.Consistency.{all_children}
-use Rattle.tp_histories.specs.KnownTests.{same_bool, same_list, same_child, same_kept, number_of_phase, others_quiet}
+use Rattle.tp_histories.specs.KnownTests.{same_bool, same_list, same_kept, number_of_phase, others_quiet}
+use Rattle.tp_logrec.specs.Order.{is_child}
 
 abbrev pub known_agrees : Origin → List Entry → Bool
 known_agrees o h = same_bool (digest o h).known (known_in o h)
@@ -43,7 +44,7 @@ abbrev pub above_agrees : Origin → List Entry → Bool
 above_agrees o h = now_agrees o h (λ k c. is_addr_option (superior_of c.key) (superior_for o k h))
 
 abbrev pub branches_agree : Origin → List Entry → Bool
-branches_agree o h = now_agrees o h (λ k c. same_list same_child (all_children c.branches) (branches_in o k h))
+branches_agree o h = now_agrees o h (λ k c. same_list is_child (all_children c.branches) (branches_in o k h))
 
 abbrev pub asked_agrees : Origin → List Entry → Bool
 asked_agrees o h = now_agrees o h (λ k c. same_bool c.asked (asked_in o k h))

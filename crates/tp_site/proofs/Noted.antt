@@ -30,7 +30,7 @@ use Rattle.tp_node.specs.Node.{Node, current_of}
 use Rattle.tp_node.specs.Noted.{counted_in, ended_in}
 use Rattle.tp_node.proofs.Arriving.{at_peer}
 use Rattle.tp_node.proofs.Seen.{sight_seen}
-use Rattle.tp_site.specs.InPlace.{is_only_noted, is_acting, acts_at, told_of, taken_on, noted_on, arrived_in_place, IsPlanned}
+use Rattle.tp_site.specs.InPlace.{is_only_noted, is_acting, acts_at, told_of, noted_on, arrived_in_place, IsPlanned, with_record_taken}
 use Rattle.tp_draft.proofs.Arriving.{taken_number, taken_there, from_dropped}
 use Rattle.tp_draft.proofs.Turns.{seen_again}
 use Rattle.tp_draft.proofs.Beginnings.{branches_seen}
@@ -258,7 +258,7 @@ done_acts who d a c x is h =
 
 abbrev taken_by : Who → Digest → Arc → DialogueRecord → Sight → Move
 taken_by who d a r s =
-    let counted : Digest = taken_on a.peer.node r d in
+    let counted : Digest = with_record_taken a.peer.node r d in
     elim s as (λ _. Move) [ Acts ↦ take_record who a r counted | Nothing_happens ↦ move [] counted | Out_of_phase ↦ move [] counted ]
 
 ready_arrives : (who : Who) (d : Digest) (from : Addr) (x y : Mark) (q : ℕ) (a : Arc) (c : Current) → find_arc d.arcs from.node ≡ Some a → d.current ≡ Some c → is_acting (sight_at who d a DialogueRecord.Ready) ≡ true
@@ -267,12 +267,12 @@ ready_arrives : (who : Who) (d : Digest) (from : Addr) (x y : Mark) (q : ℕ) (a
 ready_arrives who d from x y q a c found is acts test =
     let p : ℕ = from.node in
     let at : p ≡ a.peer.node = at_peer d p a found in
-    let k : Digest = taken_on p DialogueRecord.Ready d in
+    let k : Digest = with_record_taken p DialogueRecord.Ready d in
     let sight : sight_of_tx (seen who k.arcs c) p DialogueRecord.Ready ≡ Acts =
     sight_kept who k.arcs d.arcs c p DialogueRecord.Ready ∙ ap (λ (n : ℕ). sight_of_tx (seen who d.arcs c) n DialogueRecord.Ready) at ∙ ready_acts who d a c is acts in
     taken_there who d from x y q DialogueRecord.Ready a found
     ∙ ap (taken_by who d a DialogueRecord.Ready) (acting_is (sight_at who d a DialogueRecord.Ready) acts)
-    ∙ ap (λ (n : ℕ). transact who (TxEvent.Took n DialogueRecord.Ready) (taken_on n DialogueRecord.Ready d)) (sym at)
+    ∙ ap (λ (n : ℕ). transact who (TxEvent.Took n DialogueRecord.Ready) (with_record_taken n DialogueRecord.Ready d)) (sym at)
     ∙ ready_noted who p k c is sight test
 
 done_arrives : (who : Who) (d : Digest) (from : Addr) (x y : Mark) (q : ℕ) (z : Report) (a : Arc) (c : Current) → find_arc d.arcs from.node ≡ Some a → d.current ≡ Some c
@@ -282,12 +282,12 @@ done_arrives who d from x y q z a c found is acts test =
     let p : ℕ = from.node in
     let r : DialogueRecord = DialogueRecord.Done z in
     let at : p ≡ a.peer.node = at_peer d p a found in
-    let k : Digest = taken_on p (DialogueRecord.Done z) d in
+    let k : Digest = with_record_taken p (DialogueRecord.Done z) d in
     let sight : sight_of_tx (seen who k.arcs c) p (DialogueRecord.Done z) ≡ Acts =
     sight_kept who k.arcs d.arcs c p (DialogueRecord.Done z) ∙ ap (λ (n : ℕ). sight_of_tx (seen who d.arcs c) n (DialogueRecord.Done z)) at ∙ done_acts who d a c z is acts in
     taken_there who d from x y q (DialogueRecord.Done z) a found
     ∙ ap (taken_by who d a (DialogueRecord.Done z)) (acting_is (sight_at who d a (DialogueRecord.Done z)) acts)
-    ∙ ap (λ (n : ℕ). transact who (TxEvent.Took n (DialogueRecord.Done z)) (taken_on n (DialogueRecord.Done z) d)) (sym at)
+    ∙ ap (λ (n : ℕ). transact who (TxEvent.Took n (DialogueRecord.Done z)) (with_record_taken n (DialogueRecord.Done z) d)) (sym at)
     ∙ done_noted who p z k c is sight test
 
 abbrev acts_by : Who → Digest → DialogueRecord → Option Arc → Bool

@@ -45,12 +45,12 @@ told_of p _ = []
 -- ---- what they change
 
 -- a record is taken on the arc with that peer
-abbrev pub taken_on : ℕ → DialogueRecord → Digest → Digest
-taken_on p r d = woken_by r p (record d { arcs = with_link d.arcs p with_one_taken })
+abbrev pub with_record_taken : ℕ → DialogueRecord → Digest → Digest
+with_record_taken p r d = woken_by r p (record d { arcs = with_link d.arcs p with_one_taken })
 
 abbrev pub noted_on : ℕ → DialogueRecord → Digest → Digest
-noted_on p DialogueRecord.Ready d = record (taken_on p DialogueRecord.Ready d) { current = counted_in d.current p }
-noted_on p (DialogueRecord.Done r) d = record (taken_on p (DialogueRecord.Done r) d) { current = ended_in d.current p r }
+noted_on p DialogueRecord.Ready d = record (with_record_taken p DialogueRecord.Ready d) { current = counted_in d.current p }
+noted_on p (DialogueRecord.Done r) d = record (with_record_taken p (DialogueRecord.Done r) d) { current = ended_in d.current p r }
 noted_on p _ d = d
 
 abbrev pub arrived_in_place : ℕ → PeerRecord → Digest → Digest

@@ -9,7 +9,8 @@ use Rattle.tp_logrec.specs.Order.{is_owner, is_of, is_ready, is_new, may_owe, is
 use Rattle.tp_logrec.specs.Owners.{owner_same}
 use Rattle.tp_model.specs.Keys.{key_of}
 use Rattle.tp_model.specs.NodeRun.{Opening, boot_of, origin_at}
-use Rattle.tp_histories.specs.Restart.{is_earlier, are_earlier}
+use Rattle.tp_histories.specs.Restart.{are_earlier}
+use Rattle.tp_model.specs.Legal.{is_older}
 use Rattle.tp_histories.proofs.log.StartLog.{AreOf, sound_from}
 use Rattle.tp_site_logs.specs.SiteLogs.{is_vote_of_branch, only_branches_vote}
 use Rattle.tp_site_logs.proofs.OneNumber.{follows_later, last_boot}
@@ -102,12 +103,12 @@ in_order_at n b rs order le = in_order_from n b [] rs order (subst (λ (m : ℕ)
 
 -- the record's key, where it is a root's, is of an earlier boot
 abbrev is_early : ℕ → LogRec → Bool
-is_early b r = elim (key_of r) [ None ↦ true | Some k ↦ is_earlier b k ]
+is_early b r = elim (key_of r) [ None ↦ true | Some k ↦ is_older b k ]
 
-key_later : (b c : ℕ) (k : NodeKey) → b ≤ c → is_earlier b k ≡ true → is_earlier c k ≡ true
+key_later : (b c : ℕ) (k : NodeKey) → b ≤ c → is_older b k ≡ true → is_older c k ≡ true
 key_later b c k le h = go k.branch h
   where
-    go : (x : Option BranchId) → is_earlier b (record k { branch = x }) ≡ true → is_earlier c (record k { branch = x }) ≡ true
+    go : (x : Option BranchId) → is_older b (record k { branch = x }) ≡ true → is_older c (record k { branch = x }) ≡ true
     go None h = grind (arith, nat_tests, h, le)
     go (Some i) h = refl
 
@@ -128,36 +129,36 @@ all_more b [] r h i = rw i refl
 all_more b (q ∷ rs) r h i = let p = both (is_early b q) (are_earlier b rs) h in let rest = all_more b rs r p.1 i in rw (p.0, rest) refl
 
 -- a key whose last record stands is that of a record of the list
-key_stands : (b : ℕ) (o : Owner) (first : Option LogRec) (rs : List LogRec) → are_earlier b rs ≡ true → ((q : LogRec) → first ≡ Some q → is_earlier b o.key ≡ true) → (q : LogRec) → last_from o first rs ≡ Some q → is_earlier b o.key ≡ true
+key_stands : (b : ℕ) (o : Owner) (first : Option LogRec) (rs : List LogRec) → are_earlier b rs ≡ true → ((q : LogRec) → first ≡ Some q → is_older b o.key ≡ true) → (q : LogRec) → last_from o first rs ≡ Some q → is_older b o.key ≡ true
 key_stands b o first [] h here q is = here q is
 key_stands b o first (r ∷ rs) h here q is = key_stands b o (last_by o first r) rs p.1 (λ u at. now u (is_of o r) refl at) q is
   where
     p : (is_early b r ≡ true) × (are_earlier b rs ≡ true)
     p = both (is_early b r) (are_earlier b rs) h
 
-    its : (w : Option Owner) → owner_of r ≡ w → elim w as (λ _. Bool) [ None ↦ false | Some x ↦ is_owner x o ] ≡ true → is_earlier b o.key ≡ true
+    its : (w : Option Owner) → owner_of r ≡ w → elim w as (λ _. Bool) [ None ↦ false | Some x ↦ is_owner x o ] ≡ true → is_older b o.key ≡ true
     its None own i = absurd (cc (i))
     its (Some x) own i =
         let same : x ≡ o = owner_same x o i in
-        ap (λ (y : Owner). is_earlier b y.key) (sym same) ∙ of r x own p.0
+        ap (λ (y : Owner). is_older b y.key) (sym same) ∙ of r x own p.0
       where
-        of : (r : LogRec) (x : Owner) → owner_of r ≡ Some x → is_early b r ≡ true → is_earlier b x.key ≡ true
+        of : (r : LogRec) (x : Owner) → owner_of r ≡ Some x → is_early b r ≡ true → is_older b x.key ≡ true
         of (LogRec.Boot m) x own e = absurd (cc (own))
-        of (LogRec.Ready m k s cs) x own e = let same : owner m k ≡ x = cc (own) in ap (λ (y : Owner). is_earlier b y.key) (sym same) ∙ e
-        of (LogRec.Heuristic m k u) x own e = let same : owner m k ≡ x = cc (own) in ap (λ (y : Owner). is_earlier b y.key) (sym same) ∙ e
-        of (LogRec.Commit m k s cs) x own e = let same : owner m k ≡ x = cc (own) in ap (λ (y : Owner). is_earlier b y.key) (sym same) ∙ e
-        of (LogRec.Damage m k s u w cs) x own e = let same : owner m k ≡ x = cc (own) in ap (λ (y : Owner). is_earlier b y.key) (sym same) ∙ e
-        of (LogRec.End m k u) x own e = let same : owner m k ≡ x = cc (own) in ap (λ (y : Owner). is_earlier b y.key) (sym same) ∙ e
+        of (LogRec.Ready m k s cs) x own e = let same : owner m k ≡ x = cc (own) in ap (λ (y : Owner). is_older b y.key) (sym same) ∙ e
+        of (LogRec.Heuristic m k u) x own e = let same : owner m k ≡ x = cc (own) in ap (λ (y : Owner). is_older b y.key) (sym same) ∙ e
+        of (LogRec.Commit m k s cs) x own e = let same : owner m k ≡ x = cc (own) in ap (λ (y : Owner). is_older b y.key) (sym same) ∙ e
+        of (LogRec.Damage m k s u w cs) x own e = let same : owner m k ≡ x = cc (own) in ap (λ (y : Owner). is_older b y.key) (sym same) ∙ e
+        of (LogRec.End m k u) x own e = let same : owner m k ≡ x = cc (own) in ap (λ (y : Owner). is_older b y.key) (sym same) ∙ e
 
-    now : (u : LogRec) (c : Bool) → is_of o r ≡ c → last_by o first r ≡ Some u → is_earlier b o.key ≡ true
+    now : (u : LogRec) (c : Bool) → is_of o r ≡ c → last_by o first r ≡ Some u → is_older b o.key ≡ true
     now u true i at = its (owner_of r) refl i
     now u false i at = here u (rw (i, last_by) at at)
 
 -- a key that has a record standing: so of what may follow it
-of_last : (b : ℕ) (o : Owner) (rs : List LogRec) (test : LogRec → Bool) → are_earlier b rs ≡ true → holds (last_from o None rs) test ≡ true → is_earlier b o.key ≡ true
+of_last : (b : ℕ) (o : Owner) (rs : List LogRec) (test : LogRec → Bool) → are_earlier b rs ≡ true → holds (last_from o None rs) test ≡ true → is_older b o.key ≡ true
 of_last b o rs test h i = go (last_from o None rs) refl i
   where
-    go : (w : Option LogRec) → last_from o None rs ≡ w → holds w test ≡ true → is_earlier b o.key ≡ true
+    go : (w : Option LogRec) → last_from o None rs ≡ w → holds w test ≡ true → is_older b o.key ≡ true
     go None at i = absurd (cc (i))
     go (Some q) at i = key_stands b o None rs h (λ u off. absurd (cc (off))) q at
 
@@ -165,7 +166,7 @@ early_one : (front : List LogRec) (r : LogRec) → are_earlier (suc (last_boot_f
 early_one front (LogRec.Boot m) old f vote = refl
 early_one front (LogRec.Ready n k s cs) old f vote = go k.branch vote
   where
-    go : (x : Option BranchId) → is_vote_of_branch (LogRec.Ready n (record k { branch = x }) s cs) ≡ true → is_earlier (suc (last_boot_from 0 front)) (record k { branch = x }) ≡ true
+    go : (x : Option BranchId) → is_vote_of_branch (LogRec.Ready n (record k { branch = x }) s cs) ≡ true → is_older (suc (last_boot_from 0 front)) (record k { branch = x }) ≡ true
     go None v = absurd (cc (v))
     go (Some i) v = refl
 early_one front (LogRec.Heuristic n k u) old f vote = of_last (suc (last_boot_from 0 front)) (owner n k) front is_ready old (both (is_begun front) (holds (last_from (owner n k) None front) is_ready) f).1
@@ -174,7 +175,7 @@ early_one front (LogRec.Commit n k s cs) old f vote = go k.branch (both (is_begu
     x : Before
     x = before front (owner n k)
 
-    go : (b : Option BranchId) → may_commit x (record k { branch = b }) s cs ≡ true → is_earlier (suc (last_boot_from 0 front)) (record k { branch = b }) ≡ true
+    go : (b : Option BranchId) → may_commit x (record k { branch = b }) s cs ≡ true → is_older (suc (last_boot_from 0 front)) (record k { branch = b }) ≡ true
     go None h = let le = (both (is_new x) (nat_le k.aaid.mark.boot (last_boot_from 0 front)) h).1 in grind (arith, nat_tests, le)
     go (Some i) h = refl
 early_one front (LogRec.Damage n k s Outcome.Commit w cs) old f vote =

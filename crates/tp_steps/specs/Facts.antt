@@ -19,7 +19,7 @@ use Rattle.tp_model.specs.Outcomes.{has_commit_of}
 use Rattle.tp_model.specs.Links.{is_live}
 use Rattle.tp_model.specs.Arcs.{link_with}
 use Rattle.tp_model.specs.Node.{Move, is_superior, seen}
-use Rattle.tp_model.specs.Questions.{said_to}
+use Rattle.tp_model.specs.Questions.{is_begin, said_to}
 use Rattle.tp_steps.specs.Moves.{is_word, IsAsked}
 use Rattle.tp_steps.specs.Turns.{falls, loses}
 
@@ -46,10 +46,6 @@ stays b p (TxOut.Carry q r ∷ outs) = stays b p outs
 stays b p (TxOut.Shut q ∷ outs) = stays (b && not (q == p)) p outs
 stays b p (TxOut.Recovery a r ∷ outs) = stays b p outs
 stays b p (TxOut.Close q ∷ outs) = stays (b && not (q == p)) p outs
-
-abbrev pub is_begin : DialogueRecord → Bool
-is_begin (DialogueRecord.Begin t b h) = true
-is_begin _ = false
 
 abbrev pub is_vote : DialogueRecord → Bool
 is_vote DialogueRecord.Ready = true
@@ -112,13 +108,13 @@ each_vote g n (r ∷ rs) = (not (is_vote r) || g n) && each_vote g (ends r + n) 
 
 -- ---- the log
 
-abbrev pub is_ready_of : BranchKey → LogRec → Bool
-is_ready_of k (LogRec.Ready n j s cs) = is_key (record { aaid = k.0; branch = Some k.1 }) j
-is_ready_of k _ = false
+abbrev pub is_ready_of_key : BranchKey → LogRec → Bool
+is_ready_of_key k (LogRec.Ready n j s cs) = is_key (record { aaid = k.0; branch = Some k.1 }) j
+is_ready_of_key k _ = false
 
 abbrev pub has_ready_of : BranchKey → List LogRec → Bool
 has_ready_of k [] = false
-has_ready_of k (r ∷ rs) = is_ready_of k r || has_ready_of k rs
+has_ready_of k (r ∷ rs) = is_ready_of_key k r || has_ready_of k rs
 
 -- Ready is logged for the key that stands at this place
 abbrev pub is_voted : List BranchKey → List LogRec → ℕ → Bool

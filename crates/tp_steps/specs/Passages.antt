@@ -9,8 +9,8 @@ use Rattle.tp_model.specs.declared.transaction.TxOut.{TxOut}
 use Rattle.tp_model.specs.Dialogues.{is_active, is_ready, is_committing, is_rolling}
 use Rattle.tp_model.specs.Transactions.{Transaction, Turn, node_key, superior_of, is_under, children_of}
 use Rattle.tp_model.specs.Recovery.{is_commit}
+use Rattle.tp_model.specs.Questions.{is_begin}
 use Rattle.tp_steps.specs.Turns.{falls, is_order_for}
-use Rattle.tp_steps.specs.Facts.{is_begin}
 
 -- ---- outputs
 

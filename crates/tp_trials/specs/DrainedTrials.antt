@@ -17,7 +17,7 @@ use Rattle.tp_model.specs.Trees.{members_of, closing_line}
 use Rattle.tp_model.specs.World.{World, Node, Frame, find_node}
 use Rattle.tp_model.specs.Happenings.{Happening, Declare, Does, Crash, run}
 use Rattle.tp_model.specs.Promises.{has_told_in}
-use Rattle.tp_histories.specs.Traces.{sent_on, taken_on}
+use Rattle.tp_histories.specs.Traces.{sent_on, accepted_on}
 use Rattle.tp_steps.specs.Facts.{is_order}
 use Rattle.tp_histories.specs.Undone.{is_left_undone}
 use Rattle.tp_steps.specs.Heeding.{is_answer}
@@ -211,4 +211,4 @@ abbrev pub sent_by : ℕ → ℕ → List DialogueRecord
 sent_by n p = elim (node_after drained n) [ None ↦ [] | Some x ↦ sent_on (first_mark 1) (first_mark 2) p x.history ]
 
 abbrev pub taken_by : ℕ → ℕ → List DialogueRecord
-taken_by n p = elim (node_after drained n) [ None ↦ [] | Some x ↦ taken_on (first_mark 1) (first_mark 2) p x.history ]
+taken_by n p = elim (node_after drained n) [ None ↦ [] | Some x ↦ accepted_on (first_mark 1) (first_mark 2) p x.history ]

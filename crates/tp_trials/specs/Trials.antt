@@ -13,10 +13,10 @@ use Rattle.tp_model.specs.History.{digest}
 use Rattle.tp_model.specs.Outcomes.{is_member, completed_none, decided, rolled, decision, has_left, told}
 use Rattle.tp_model.specs.World.{Node, find_node, addr_of}
 use Rattle.tp_model.specs.Happenings.{Happening, Declare, Does, Crash, run}
-use Rattle.tp_model.specs.Promises.{is_counted, has_begun, is_of_tree, is_ready_of, has_logged, holds_at, has_told_in, has_sent_done_none, is_root}
+use Rattle.tp_model.specs.Promises.{is_counted, has_begun, is_of_tree, has_logged, holds_at, has_told_in, has_sent_done_none, is_root, is_ready_of_branch}
 use Rattle.tp_model.specs.Questions.{tells_commit_complete}
 use Rattle.tp_steps.specs.Facts.{is_order, is_vote, is_end}
-use Rattle.tp_histories.specs.Traces.{sent_on, taken_on}
+use Rattle.tp_histories.specs.Traces.{sent_on, accepted_on}
 use Rattle.tp_histories.specs.Control.{answered}
 use Rattle.tp_control.specs.Control.{given, returned}
 use Rattle.tp_agreement.specs.Logs.{is_rollback_of}
@@ -240,7 +240,7 @@ abbrev pub is_branch_of_first : List Happening → Bool
 is_branch_of_first es = elim (node_after es 1) [ None ↦ false | Some x ↦ holds (λ y. has_begun tree branch (addr_of x) y.history) es 2 ]
 
 abbrev pub has_voted : Node → Bool
-has_voted x = has_logged (is_ready_of tree branch) x
+has_voted x = has_logged (is_ready_of_branch tree branch) x
 
 abbrev pub has_backed : Node → Bool
 has_backed x = has_logged (is_rollback_of tree) x
@@ -256,7 +256,7 @@ abbrev pub counts_below : Node → Bool
 counts_below x = is_counted tree lower_branch x
 
 abbrev pub has_voted_below : Node → Bool
-has_voted_below x = has_logged (is_ready_of tree lower_branch) x
+has_voted_below x = has_logged (is_ready_of_branch tree lower_branch) x
 
 -- the order was taken over the association; a vote, and an end, were sent on it
 abbrev pub some_word : (DialogueRecord → Bool) → List DialogueRecord → Bool
@@ -267,7 +267,7 @@ abbrev pub first_mark : ℕ → Mark
 first_mark n = record { boot = 1; node = n; count = 1 }
 
 abbrev pub took_order : Node → Bool
-took_order x = some_word is_order (taken_on (first_mark 1) (first_mark 2) 1 x.history)
+took_order x = some_word is_order (accepted_on (first_mark 1) (first_mark 2) 1 x.history)
 
 abbrev pub sent_vote : Node → Bool
 sent_vote x = some_word is_vote (sent_on (first_mark 1) (first_mark 2) 1 x.history)
@@ -305,12 +305,12 @@ has_control x = holds_at (first_mark 1) (first_mark 2) x
 -- so many rounds are answered by the records taken, and so much was given after them in the records sent
 abbrev pub gave_behind : ℕ → ℕ → Node → Bool
 gave_behind k n x =
-    (answered (taken_on (first_mark 1) (first_mark 2) 2 x.history) == k) && (given k (sent_on (first_mark 1) (first_mark 2) 2 x.history) == n)
+    (answered (accepted_on (first_mark 1) (first_mark 2) 2 x.history) == k) && (given k (sent_on (first_mark 1) (first_mark 2) 2 x.history) == n)
 
 abbrev pub took_behind : ℕ → ℕ → Node → Bool
 took_behind k n x =
-    (answered (sent_on (first_mark 1) (first_mark 2) 1 x.history) == k) && (given k (taken_on (first_mark 1) (first_mark 2) 1 x.history) == n)
+    (answered (sent_on (first_mark 1) (first_mark 2) 1 x.history) == k) && (given k (accepted_on (first_mark 1) (first_mark 2) 1 x.history) == n)
 
 -- so much came back in the round that is not answered
 abbrev pub gave_back : ℕ → Node → Bool
-gave_back n x = returned (answered (taken_on (first_mark 1) (first_mark 2) 2 x.history)) (taken_on (first_mark 1) (first_mark 2) 2 x.history) == n
+gave_back n x = returned (answered (accepted_on (first_mark 1) (first_mark 2) 2 x.history)) (accepted_on (first_mark 1) (first_mark 2) 2 x.history) == n

@@ -6,7 +6,7 @@ use Rattle.tp_model.specs.World.{World, Frame, mark_handed, oldest_from, oldest_
 use Rattle.tp_model.specs.Happenings.{Mark, Told, happens, still, WorldTurn}
 use Rattle.tp_model.specs.Lines.{Fault, within_limits, shows, then_turn, then_result, drain_line}
 use Rattle.tp_network.specs.Frames.{is_between}
-use Rattle.tp_world.specs.Drains.{handed, Hands, IsDrained}
+use Rattle.tp_world.specs.Drains.{handed, Hands, IsDrainedSoFar}
 use Rattle.tp_world_parts.specs.Standing.{AreNodes, SitesStand}
 use Rattle.tp_world.specs.World.{Mirrors, Gives}
 use Rattle.tp_world_parts.specs.declared.fault.WorldFault.{WorldFault}
@@ -76,7 +76,7 @@ drain_breaks n w k f h e = ap (turn_from n w) h ∙ ap (after_one n) e
 
 -- ---- the loop
 
-pub drained_first : (w : World) (most : ℕ) (before : List OutLine) (v : CodeWorld) → Mirrors w v → IsDrained w most 0 before before v
+pub drained_first : (w : World) (most : ℕ) (before : List OutLine) (v : CodeWorld) → Mirrors w v → IsDrainedSoFar w most 0 before before v
 drained_first w most before v h = record {
   left = most;
   turns = omega arith;
@@ -86,11 +86,11 @@ drained_first w most before v h = record {
   stands = h;
 }
 
-pub drained_next : (w : World) (most done : ℕ) (before lines after : List OutLine) (old new : CodeWorld) → done < most → (d : IsDrained w most done before lines old) → Hands d.turn.world lines (Ok true) after new
-    → IsDrained w most (done + 1) before after new
+pub drained_next : (w : World) (most done : ℕ) (before lines after : List OutLine) (old new : CodeWorld) → done < most → (d : IsDrainedSoFar w most done before lines old) → Hands d.turn.world lines (Ok true) after new
+    → IsDrainedSoFar w most (done + 1) before after new
 drained_next w most done before lines after old new more d h = go d.left refl
   where
-    go : (left : ℕ) → d.left ≡ left → IsDrained w most (done + 1) before after new
+    go : (left : ℕ) → d.left ≡ left → IsDrainedSoFar w most (done + 1) before after new
     go zero e = absurd (omega (arith, d.turns, more, e))
     go (suc n) e =
         let g : Given (within_limits (handed d.turn.world h.0)) lines after new = given (within_limits (handed d.turn.world h.0)) lines after new tt h.2 in
@@ -107,19 +107,19 @@ drained_next w most done before lines after old new more d h = go d.left refl
           stands = g.stands;
         }
 
-stops_gives : (w : World) (most done : ℕ) (before lines after : List OutLine) (old new : CodeWorld) (u : Unit {0}) (d : IsDrained w most done before lines old) → drain_line d.left d.turn.world ≡ Ok (shows d.turn.world [])
+stops_gives : (w : World) (most done : ℕ) (before lines after : List OutLine) (old new : CodeWorld) (u : Unit {0}) (d : IsDrainedSoFar w most done before lines old) → drain_line d.left d.turn.world ≡ Ok (shows d.turn.world [])
     → after ≡ lines → Mirrors d.turn.world new → Gives (drain_line most w) before (Ok u) after new
 stops_gives w most done before lines after old new u d e same h =
     subst (λ (r : Result WorldTurn Fault). Gives r before (Ok u) after new) (sym (d.so_far ∙ ap (then_result d.turn) e))
     (same ∙ d.lines ∙ ap (λ (l : List OutLine). before ++ l) (sym (append-nil d.turn.lines)), h)
 
 -- no frame is left
-pub drained_dry : (w : World) (most done : ℕ) (before lines after : List OutLine) (old new : CodeWorld) (u : Unit {0}) (d : IsDrained w most done before lines old) → Hands d.turn.world lines (Ok false) after new
+pub drained_dry : (w : World) (most done : ℕ) (before lines after : List OutLine) (old new : CodeWorld) (u : Unit {0}) (d : IsDrainedSoFar w most done before lines old) → Hands d.turn.world lines (Ok false) after new
     → Gives (drain_line most w) before (Ok u) after new
 drained_dry w most done before lines after old new u d h = stops_gives w most done before lines after old new u d (drain_ends d.left d.turn.world h.0) h.1 h.2
 
 -- all turns were taken
-pub drained_last : (w : World) (most done : ℕ) (before lines : List OutLine) (v : CodeWorld) (u : Unit {0}) → most ≤ done → (d : IsDrained w most done before lines v) → Gives (drain_line most w) before (Ok u) lines v
+pub drained_last : (w : World) (most done : ℕ) (before lines : List OutLine) (v : CodeWorld) (u : Unit {0}) → most ≤ done → (d : IsDrainedSoFar w most done before lines v) → Gives (drain_line most w) before (Ok u) lines v
 drained_last w most done before lines v u over d =
     let none : d.left ≡ 0 = omega (arith, d.turns, over) in
     stops_gives w most done before lines lines v v u d (ap (λ (k : ℕ). drain_line k d.turn.world) none) refl d.stands
@@ -134,7 +134,7 @@ breaks_gives w most t n k WorldFault.Name before lines after new (Err g) e o i h
 breaks_gives w most t n k (WorldFault.Limit what) before lines after new (Err g) e o i h =
     subst (λ (q : Result WorldTurn Fault). Gives q before (Err (WorldFault.Limit what)) after new) (sym (e ∙ ap (then_result t) (drain_breaks n t.world k g o i))) h
 
-pub drained_fault : (w : World) (most done : ℕ) (before lines after : List OutLine) (old new : CodeWorld) (f : WorldFault) → done < most → (d : IsDrained w most done before lines old) → Hands d.turn.world lines (Err f) after new
+pub drained_fault : (w : World) (most done : ℕ) (before lines after : List OutLine) (old new : CodeWorld) (f : WorldFault) → done < most → (d : IsDrainedSoFar w most done before lines old) → Hands d.turn.world lines (Err f) after new
     → Gives (drain_line most w) before (Err f) after new
 drained_fault w most done before lines after old new f more d h = go d.left refl
   where

@@ -20,7 +20,7 @@ Hands w before (Ok true) after new = (k : ℕ) × (oldest_of_all w ≡ Some k) �
 Hands w before (Err f) after new = (k : ℕ) × (oldest_of_all w ≡ Some k) × Gives (within_limits (handed w k)) before (Err f) after new
 
 -- so many turns were taken, and the rest of them is left
-pub record IsDrained (w : World) (most done : ℕ) (before shown : List OutLine) (v : CodeWorld) : Type 0 where
+pub record IsDrainedSoFar (w : World) (most done : ℕ) (before shown : List OutLine) (v : CodeWorld) : Type 0 where
   pub left : ℕ
   pub turns : done + left ≡ most
   pub turn : WorldTurn

@@ -20,7 +20,8 @@ use Rattle.tp_model.specs.Events.{recovered, fresh_branches, named_again, recove
 use Rattle.tp_model.specs.History.{digest}
 use Rattle.tp_model.specs.Legal.{is_start, is_own_record, are_own_records}
 use Rattle.tp_steps.specs.Standing.{AreApart}
-use Rattle.tp_histories.specs.Restart.{is_earlier, are_earlier}
+use Rattle.tp_histories.specs.Restart.{are_earlier}
+use Rattle.tp_model.specs.Legal.{is_older}
 use Rattle.tp_steps.proofs.lemmas.Equality.{and_left, and_right, both_true}
 use Rattle.tp_histories.proofs.log.KeptLog.{from_unnoted}
 use Rattle.tp_steps.proofs.log.SoundMoves.{IsOldKey, AreOld, KeepsKeys, IsSound, keys_after}
@@ -137,26 +138,26 @@ key_logged k s p cs o c h = go k.branch s h
     go (Some b) (Some a) h = grind (arith, h)
 
 abbrev IsEarlierNow : ℕ → Option Current → Type 0
-IsEarlierNow boot o = (c : Current) → o ≡ Some c → is_earlier boot (node_key c.key) ≡ true
+IsEarlierNow boot o = (c : Current) → o ≡ Some c → is_older boot (node_key c.key) ≡ true
 
-earlier_old : (who : Who) (d : Digest) (k : NodeKey) → is_earlier d.boot k ≡ true → IsOldKey who d k
-earlier_old who d k h i = let below : nat_lt k.aaid.mark.boot d.boot ≡ true = rw (i, is_earlier) at h in grind (arith, below)
+earlier_old : (who : Who) (d : Digest) (k : NodeKey) → is_older d.boot k ≡ true → IsOldKey who d k
+earlier_old who d k h i = let below : nat_lt k.aaid.mark.boot d.boot ≡ true = rw (i, is_older) at h in grind (arith, below)
 
-earlier_logged : (boot : ℕ) (k : NodeKey) (s : Option Addr) (p : Phase) (cs : List Child) (o : Option Outcome) → is_earlier boot k ≡ true → IsEarlierNow boot (current_in_log (key_in_log k s) p cs o)
-earlier_logged boot k s p cs o h c is = subst (λ (j : NodeKey). is_earlier boot j ≡ true) (key_logged k s p cs o c is) h
+earlier_logged : (boot : ℕ) (k : NodeKey) (s : Option Addr) (p : Phase) (cs : List Child) (o : Option Outcome) → is_older boot k ≡ true → IsEarlierNow boot (current_in_log (key_in_log k s) p cs o)
+earlier_logged boot k s p cs o h c is = subst (λ (j : NodeKey). is_older boot j ≡ true) (key_logged k s p cs o c is) h
 
 earlier_without : (boot : ℕ) (k : NodeKey) (o : Option Current) → IsEarlierNow boot o → IsEarlierNow boot (without_current k o)
 earlier_without boot k None h c is = absurd (cc (is))
 earlier_without boot k (Some x) h c is = h c (grind (arith, is))
 
 abbrev is_earlier_rec : ℕ → LogRec → Bool
-is_earlier_rec boot r = elim (key_of r) [ None ↦ true | Some k ↦ is_earlier boot k ]
+is_earlier_rec boot r = elim (key_of r) [ None ↦ true | Some k ↦ is_older boot k ]
 
 earlier_by : (boot : ℕ) (r : LogRec) (o : Option Current) → is_earlier_rec boot r ≡ true → IsEarlierNow boot o → IsEarlierNow boot (current_by r o)
 earlier_by boot (LogRec.Boot n) o e h = h
 earlier_by boot (LogRec.Ready n k s cs) o e h = earlier_logged boot k (Some s) Phase.Ready cs None e
 earlier_by boot (LogRec.Heuristic n k u) None e h = λ c is. absurd (cc (is))
-earlier_by boot (LogRec.Heuristic n k u) (Some x) e h = λ c is. let same : ◌≡◌ {A = Current} (record x { decision = Some u }) c = cc (is) in subst (λ (y : Current). is_earlier boot (node_key y.key) ≡ true) same (h x refl)
+earlier_by boot (LogRec.Heuristic n k u) (Some x) e h = λ c is. let same : ◌≡◌ {A = Current} (record x { decision = Some u }) c = cc (is) in subst (λ (y : Current). is_older boot (node_key y.key) ≡ true) same (h x refl)
 earlier_by boot (LogRec.Commit n k s cs) o e h = earlier_logged boot k s Phase.Committing cs _ e
 earlier_by boot (LogRec.Damage n k s u w cs) o e h = earlier_without boot k o h
 earlier_by boot (LogRec.End n k u) o e h = earlier_without boot k o h
@@ -209,7 +210,7 @@ sound_from o own follow earlier =
       follow = follow;
     }
   where
-    below : (k : Key) (b : ℕ) → is_under k ≡ false → is_earlier b (node_key k) ≡ true → nat_le (node_key k).aaid.mark.boot b ≡ true
+    below : (k : Key) (b : ℕ) → is_under k ≡ false → is_older b (node_key k) ≡ true → nat_le (node_key k).aaid.mark.boot b ≡ true
     below (Root t) b root h = grind (arith, nat_tests, h)
     below (Under t c a) b root h = absurd (cc (root))
 

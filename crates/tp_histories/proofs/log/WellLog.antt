@@ -29,7 +29,7 @@ use Rattle.tp_model.specs.Happenings.{Happening, run}
 use Rattle.tp_model.specs.Promises.{IsIn}
 use Rattle.tp_model.specs.Legal.{is_older, is_own_record, are_own_records, are_apart, is_start, IsGrown, IsLegal, RestartIsCrash, RecordsFollow, StartsAgain}
 use Rattle.tp_steps.specs.Moves.{prelude, begun_in, counted_in}
-use Rattle.tp_histories.specs.Restart.{is_earlier, are_earlier, IsFounded}
+use Rattle.tp_histories.specs.Restart.{are_earlier, IsFounded}
 use Rattle.tp_steps.proofs.lemmas.Equality.{and_left, and_right, both_true}
 use Rattle.tp_steps.proofs.every.EveryEvent.{every_move}
 use Rattle.tp_histories.proofs.trees.Late.{late_law}
@@ -80,34 +80,34 @@ keys_later : (b c : ℕ) (ks : List Kept) → b ≤ c → AllKeys (IsReachedKey 
 keys_later b c [] le h = tt
 keys_later b c (k ∷ ks) le h = (reach_later b c k.key le h.0, keys_later b c ks le h.1)
 
--- after the next boot they are older, and the roots among them earlier
-older : (b : ℕ) (k : NodeKey) → is_reached b k ≡ true → (is_older (suc b) k ≡ true) × (is_earlier (suc b) k ≡ true)
+-- after the next boot they are older
+older : (b : ℕ) (k : NodeKey) → is_reached b k ≡ true → is_older (suc b) k ≡ true
 older b k h = go k.branch h
   where
     below : (i : ℕ) → nat_le i b ≡ true → nat_lt i (suc b) ≡ true
     below i h = grind (arith, nat_tests, h)
 
-    go : (x : Option BranchId) → is_reached b (record k { branch = x }) ≡ true → (is_older (suc b) (record k { branch = x }) ≡ true) × (is_earlier (suc b) (record k { branch = x }) ≡ true)
-    go None h = let p = below k.aaid.mark.boot h in (p, p)
-    go (Some i) h = (refl, refl)
+    go : (x : Option BranchId) → is_reached b (record k { branch = x }) ≡ true → is_older (suc b) (record k { branch = x }) ≡ true
+    go None h = below k.aaid.mark.boot h
+    go (Some i) h = refl
 
-abbrev is_earlier_rec : ℕ → LogRec → Bool
-is_earlier_rec boot r = elim (key_of r) [ None ↦ true | Some k ↦ is_earlier boot k ]
+abbrev is_older_rec : ℕ → LogRec → Bool
+is_older_rec boot r = elim (key_of r) [ None ↦ true | Some k ↦ is_older boot k ]
 
-own_next : (n b : ℕ) (r : LogRec) → is_well n b r ≡ true → (is_own_record n (suc b) r ≡ true) × (is_earlier_rec (suc b) r ≡ true)
+own_next : (n b : ℕ) (r : LogRec) → is_well n b r ≡ true → (is_own_record n (suc b) r ≡ true) × (is_older_rec (suc b) r ≡ true)
 own_next n b (LogRec.Boot m) h = absurd (cc (h))
-own_next n b (LogRec.Ready m k s cs) h = let x = older b k (grind (arith, h)) in let one = x.0 in (grind (arith, h, one), x.1)
-own_next n b (LogRec.Heuristic m k o) h = let x = older b k (grind (arith, h)) in let one = x.0 in (grind (arith, h, one), x.1)
-own_next n b (LogRec.Commit m k s cs) h = let x = older b k (grind (arith, h)) in let one = x.0 in (grind (arith, h, one), x.1)
-own_next n b (LogRec.Damage m k s o r cs) h = let x = older b k (grind (arith, h)) in let one = x.0 in (grind (arith, h, one), x.1)
-own_next n b (LogRec.End m k o) h = let x = older b k (grind (arith, h)) in let one = x.0 in (grind (arith, h, one), x.1)
+own_next n b (LogRec.Ready m k s cs) h = let one = older b k (grind (arith, h)) in (grind (arith, h, one), one)
+own_next n b (LogRec.Heuristic m k o) h = let one = older b k (grind (arith, h)) in (grind (arith, h, one), one)
+own_next n b (LogRec.Commit m k s cs) h = let one = older b k (grind (arith, h)) in (grind (arith, h, one), one)
+own_next n b (LogRec.Damage m k s o r cs) h = let one = older b k (grind (arith, h)) in (grind (arith, h, one), one)
+own_next n b (LogRec.End m k o) h = let one = older b k (grind (arith, h)) in (grind (arith, h, one), one)
 
 all_next : (n b : ℕ) (rs : List LogRec) → all_well n b rs ≡ true → (are_own_records n (suc b) rs ≡ true) × (are_earlier (suc b) rs ≡ true)
 all_next n b [] h = (refl, refl)
 all_next n b (r ∷ rs) h =
     let one = own_next n b r (and_left (is_well n b r) (all_well n b rs) h) in
     let rest = all_next n b rs (and_right (is_well n b r) (all_well n b rs) h) in
-    (both_true (is_own_record n (suc b) r) (are_own_records n (suc b) rs) one.0 rest.0, both_true (is_earlier_rec (suc b) r) (are_earlier (suc b) rs) one.1 rest.1)
+    (both_true (is_own_record n (suc b) r) (are_own_records n (suc b) rs) one.0 rest.0, both_true (is_older_rec (suc b) r) (are_earlier (suc b) rs) one.1 rest.1)
 
 -- ---- what comes first in an event
 
@@ -175,14 +175,14 @@ well_first who d _ h = h
 
 -- ---- the start
 
-earlier_reached : (b : ℕ) (k : NodeKey) → is_earlier b k ≡ true → is_reached b k ≡ true
+earlier_reached : (b : ℕ) (k : NodeKey) → is_older b k ≡ true → is_reached b k ≡ true
 earlier_reached b k h = go k.branch h
   where
-    go : (x : Option BranchId) → is_earlier b (record k { branch = x }) ≡ true → is_reached b (record k { branch = x }) ≡ true
+    go : (x : Option BranchId) → is_older b (record k { branch = x }) ≡ true → is_reached b (record k { branch = x }) ≡ true
     go None h = grind (arith, nat_tests, h)
     go (Some i) h = refl
 
-own_well : (n b : ℕ) (r : LogRec) → is_own_record n b r ≡ true → is_earlier_rec b r ≡ true → is_well n b r ≡ true
+own_well : (n b : ℕ) (r : LogRec) → is_own_record n b r ≡ true → is_older_rec b r ≡ true → is_well n b r ≡ true
 own_well n b (LogRec.Boot m) h i = h
 own_well n b (LogRec.Ready m k s cs) h i = let x = earlier_reached b k i in grind (arith, h, x)
 own_well n b (LogRec.Heuristic m k o) h i = let x = earlier_reached b k i in grind (arith, h, x)
@@ -194,8 +194,8 @@ all_own_well : (n b : ℕ) (rs : List LogRec) → are_own_records n b rs ≡ tru
 all_own_well n b [] h i = refl
 all_own_well n b (r ∷ rs) h i =
     both_true (is_well n b r) (all_well n b rs)
-    (own_well n b r (and_left (is_own_record n b r) (are_own_records n b rs) h) (and_left (is_earlier_rec b r) (are_earlier b rs) i))
-    (all_own_well n b rs (and_right (is_own_record n b r) (are_own_records n b rs) h) (and_right (is_earlier_rec b r) (are_earlier b rs) i))
+    (own_well n b r (and_left (is_own_record n b r) (are_own_records n b rs) h) (and_left (is_older_rec b r) (are_earlier b rs) i))
+    (all_own_well n b rs (and_right (is_own_record n b r) (are_own_records n b rs) h) (and_right (is_older_rec b r) (are_earlier b rs) i))
 
 -- what such records leave
 abbrev IsApartNow : Option Current → Type 0
@@ -291,14 +291,14 @@ run_starts es x here = (starts_again x.origin x.superior x.history (founded es x
 
 -- ---- as the promises of one node state it
 
-own_earlier : (n b : ℕ) (r : LogRec) → is_own_record n b r ≡ true → is_earlier_rec b r ≡ true
+own_earlier : (n b : ℕ) (r : LogRec) → is_own_record n b r ≡ true → is_older_rec b r ≡ true
 own_earlier n b (LogRec.Boot m) h = refl
 own_earlier n b _ h = grind (arith, h)
 
 all_own_earlier : (n b : ℕ) (rs : List LogRec) → are_own_records n b rs ≡ true → are_earlier b rs ≡ true
 all_own_earlier n b [] h = refl
 all_own_earlier n b (r ∷ rs) h =
-    both_true (is_earlier_rec b r) (are_earlier b rs) (own_earlier n b r (and_left (is_own_record n b r) (are_own_records n b rs) h)) (all_own_earlier n b rs (and_right (is_own_record n b r) (are_own_records n b rs) h))
+    both_true (is_older_rec b r) (are_earlier b rs) (own_earlier n b r (and_left (is_own_record n b r) (are_own_records n b rs) h)) (all_own_earlier n b rs (and_right (is_own_record n b r) (are_own_records n b rs) h))
 
 pub founded_by : (o : Origin) (up : Option Addr) (h : List Entry) → IsLegal o up h → IsFounded o up h
 founded_by o up h legal = record { legal = legal; earlier = all_own_earlier o.who.node o.start.boot o.start.records (and_right (all_follow (LogRec.Boot o.start.boot ∷ o.start.records)) (are_own_records o.who.node o.start.boot o.start.records) legal.start) }

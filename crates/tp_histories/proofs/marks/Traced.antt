@@ -16,7 +16,7 @@ use Rattle.tp_model.specs.Questions.{said_to, sent_more, is_at}
 use Rattle.tp_model.specs.Legal.{IsGrown, IsUnder}
 use Rattle.tp_steps.specs.Moves.{prelude}
 use Rattle.tp_steps.specs.Traces.{fits, count_to, IsSaidOver, IsLinked, sent_of, took_of, is_old}
-use Rattle.tp_histories.specs.Traces.{sent_on, taken_on, own_mark, own_old, IsQuiet, IsTraced}
+use Rattle.tp_histories.specs.Traces.{sent_on, own_mark, own_old, IsQuiet, IsTraced, accepted_on}
 use Rattle.tp_steps.specs.Moves.{IsLate}
 use Rattle.tp_steps.proofs.every.EveryEvent.{every_move}
 use Rattle.tp_steps.proofs.links.Links.{mark_same}
@@ -73,10 +73,10 @@ live_before p l m outs x y s t over is = elim over.link [
 
 -- so long are the traces with the event's taken record, before what it sends
 abbrev AreLong : Mark → Mark → ℕ → ℕ → ℕ → Event → List Entry → Type 0
-AreLong x y p s t e h = (length (sent_on x y p h) ≡ s) × (length (taken_on x y p h ++ took_of x y p e) ≡ t)
+AreLong x y p s t e h = (length (sent_on x y p h) ≡ s) × (length (accepted_on x y p h ++ took_of x y p e) ≡ t)
 
-long_kept : (x y : Mark) (p s t : ℕ) (e : Event) (h : List Entry) → (length (sent_on x y p h) ≡ s) × (length (taken_on x y p h) ≡ t) → took_of x y p e ≡ [] → AreLong x y p s t e h
-long_kept x y p s t e h old none = (old.0, rw (none, append-nil (taken_on x y p h)) old.1)
+long_kept : (x y : Mark) (p s t : ℕ) (e : Event) (h : List Entry) → (length (sent_on x y p h) ≡ s) × (length (accepted_on x y p h) ≡ t) → took_of x y p e ≡ [] → AreLong x y p s t e h
+long_kept x y p s t e h old none = (old.0, rw (none, append-nil (accepted_on x y p h)) old.1)
 
 long_new : (x y : Mark) (p s t : ℕ) (e : Event) (h : List Entry) → IsQuiet x y p h → 0 ≡ s → 0 ≡ t → took_of x y p e ≡ [] → AreLong x y p s t e h
 long_new x y p s t e h quiet zs zt none = (rw (quiet.0) zs, rw (quiet.1, none) zt)
@@ -98,7 +98,7 @@ long_of who up d e h traced p l (Took_one a z w v u r i j at ev) x y s t is =
     let f = live_parts z w x y v (suc u) s t (sym j ∙ is) in
     let old = traced.live p z w v u i in
     let one : took_of z w p e ≡ r ∷ [] = ap (took_of z w p) ev ∙ took_it a z w u r at in
-    let long : AreLong z w p v (suc u) e h = (old.0, rw one (length-append (taken_on z w p h) (r ∷ []) ∙ plus_one (length (taken_on z w p h)) u old.1)) in
+    let long : AreLong z w p v (suc u) e h = (old.0, rw one (length-append (accepted_on z w p h) (r ∷ []) ∙ plus_one (length (accepted_on z w p h)) u old.1)) in
     let two : AreLong x y p v (suc u) e h = subst (λ (m : Mark). AreLong x m p v (suc u) e h) f.1 (subst (λ (m : Mark). AreLong m w p v (suc u) e h) f.0 long) in
     (two.0 ∙ f.2, two.1 ∙ f.3)
   where
@@ -109,7 +109,7 @@ long_of who up d e h traced p l (Took_one a z w v u r i j at ev) x y s t is =
     took_it a z w u r at = grind (arith, nat_tests, at, mark_same z, mark_same w)
 
 live_after : (who : Who) (up : Option Addr) (o : Origin) (e : Event) (h : List Entry) → o.who ≡ who → IsTraced who up (digest o h) h → (p : ℕ) → Told who up p (digest o h) e
-    → (x y : Mark) (s t : ℕ) → link_with (after who (digest o h) e).arcs p ≡ Live x y s t → (length (sent_on x y p h ++ sent_of x y p (action who (digest o h) e).outs) ≡ s) × (length (taken_on x y p h ++ took_of x y p e) ≡ t)
+    → (x y : Mark) (s t : ℕ) → link_with (after who (digest o h) e).arcs p ≡ Live x y s t → (length (sent_on x y p h ++ sent_of x y p (action who (digest o h) e).outs) ≡ s) × (length (accepted_on x y p h ++ took_of x y p e) ≡ t)
 live_after who up o e h same traced p k x y s t is =
     let d : Digest = digest o h in
     let l : Link = link_with (prelude who d e).arcs p in
@@ -261,7 +261,7 @@ pub both : (xs ys : List DialogueRecord) → xs ≡ [] → ys ≡ [] → xs ++ y
 both xs ys h i = rw (h, i) refl
 
 quiet_entry : (x y : Mark) (p : ℕ) (e : Entry) (h : List Entry) → IsQuiet x y p h × (sent_of x y p e.outs ≡ []) × (took_of x y p e.event ≡ []) → IsQuiet x y p (e ∷ h)
-quiet_entry x y p e h q = (both (sent_on x y p h) (sent_of x y p e.outs) q.0.0 q.1, both (taken_on x y p h) (took_of x y p e.event) q.0.1 q.2)
+quiet_entry x y p e h q = (both (sent_on x y p h) (sent_of x y p e.outs) q.0.0 q.1, both (accepted_on x y p h) (took_of x y p e.event) q.0.1 q.2)
 
 -- ---- the superior
 

@@ -28,11 +28,11 @@ use Rattle.tp_model.specs.Outcomes.{is_now, decided}
 use Rattle.tp_model.specs.Questions.{is_at}
 use Rattle.tp_model.specs.Legal.{IsGrown}
 use Rattle.tp_steps.specs.Histories.{brought}
-use Rattle.tp_histories.specs.Histories.{IsSentIn, HasSent, HasTaken}
+use Rattle.tp_histories.specs.Histories.{IsSentIn, HasSent, HasBrought}
 use Rattle.tp_steps.specs.Turns.{is_order_for}
 use Rattle.tp_steps.specs.Moves.{IsLate, prelude, orders_tree, keeps_commit, is_committed_in, IsAskedByRequest}
 use Rattle.tp_steps.specs.Traces.{took_of}
-use Rattle.tp_histories.specs.Traces.{sent_on, taken_on}
+use Rattle.tp_histories.specs.Traces.{sent_on, accepted_on}
 use Rattle.tp_steps.specs.Facts.{begun_keys, last_from, ends_in, under_at}
 use Rattle.tp_steps.specs.Passages.{is_commit_rec}
 use Rattle.tp_steps.specs.Trees.{commits_tree, IsLoggedIn}
@@ -129,8 +129,8 @@ sent_decided o up (e ∷ h) u a r empty legal k (inl s) =
 -- ---- the order that was taken
 
 pub data OrderTaken (up : Option Addr) (h : List Entry) (t : Aaid) : Type 0 where
-  Over_association : (p : ℕ) (x y : Mark) (b : BranchId) (before rest : List DialogueRecord) → is_at up p ≡ true → taken_on x y p h ≡ before ++ DialogueRecord.Commit ∷ rest → last_from None before ≡ Some (t, b) → OrderTaken up h t
-  In_recovery : (a : Addr) (r : PeerRecord) → is_at up a.node ≡ true → orders_tree t r ≡ true → HasTaken h a r → OrderTaken up h t
+  Over_association : (p : ℕ) (x y : Mark) (b : BranchId) (before rest : List DialogueRecord) → is_at up p ≡ true → accepted_on x y p h ≡ before ++ DialogueRecord.Commit ∷ rest → last_from None before ≡ Some (t, b) → OrderTaken up h t
+  In_recovery : (a : Addr) (r : PeerRecord) → is_at up a.node ≡ true → orders_tree t r ≡ true → HasBrought h a r → OrderTaken up h t
 
 taken_later : (up : Option Addr) (e : Entry) (h : List Entry) (t : Aaid) → OrderTaken up h t → OrderTaken up (e ∷ h) t
 taken_later up e h t (Over_association p x y b before rest at taken last) =
@@ -139,11 +139,11 @@ taken_later up e h t (In_recovery a r at k took) = In_recovery a r at k (inr too
 
 -- the current key is that of the last Begin that was taken
 pub last_taken : (o : Origin) (up : Option Addr) (h : List Entry) (p : ℕ) (x y : Mark) (s k : ℕ) (c : Current) (u : Aaid) (b : BranchId) (a : Addr) → IsPaired o up h → IsLate (digest o h) → link_with (digest o h).arcs p ≡ Live x y s k → (digest o h).current ≡ Some c
-    → c.key ≡ Under u b a → is_under_at c.key p ≡ true → last_from None (taken_on x y p h) ≡ Some (u, b)
+    → c.key ≡ Under u b a → is_under_at c.key p ≡ true → last_from None (accepted_on x y p h) ≡ Some (u, b)
 last_taken o up h p x y s k c u b a paired late live now key under =
     let place = paired.places p x y s k live c u b a now (late c now) key under in
     let one : under_at (digest o h).current p ≡ 1 = ap (λ (v : Option Current). under_at v p) now ∙ rw (late c now, under) refl in
-    last_is None (taken_on x y p h) (ends_in (sent_on x y p h)) (u, b) place (count (length (begun_keys (taken_on x y p h))) (ends_in (sent_on x y p h)) (under_at (digest o h).current p) (paired.balance p x y s k live) one)
+    last_is None (accepted_on x y p h) (ends_in (sent_on x y p h)) (u, b) place (count (length (begun_keys (accepted_on x y p h))) (ends_in (sent_on x y p h)) (under_at (digest o h).current p) (paired.balance p x y s k live) one)
   where
     count : (n m v : ℕ) → n ≡ m + v → v ≡ 1 → n ≡ suc m
     count n m v h i = omega (arith, h, i)
@@ -201,7 +201,7 @@ ordered_event o up e h c u b a empty legal now key at (Event.Arrive from (PeerRe
         let last = last_taken o up h from.node x y l.sent q c u b a (paired_law o up h empty legal.3) (late_law o up h legal.3) l.live now_d key under in
         let node : a.node ≡ from.node = node_is (subst (λ (k : Key). is_under_at k from.node ≡ true) key under) in
         let took : took_of x y from.node e.event ≡ DialogueRecord.Commit ∷ [] = ap (took_of x y from.node) ev ∙ grind (arith, nat_tests, mark_same x, mark_same y) in
-        Over_association from.node x y b (taken_on x y from.node h) [] (subst (λ (n : ℕ). is_at up n ≡ true) node at) (ap (λ (rs : List DialogueRecord). taken_on x y from.node h ++ rs) took) last
+        Over_association from.node x y b (accepted_on x y from.node h) [] (subst (λ (n : ℕ). is_at up n ≡ true) node at) (ap (λ (rs : List DialogueRecord). accepted_on x y from.node h ++ rs) took) last
       where
         node_is : (a.node == from.node) ≡ true → a.node ≡ from.node
         node_is h = grind (arith, nat_tests, h)

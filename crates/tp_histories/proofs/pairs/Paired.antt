@@ -15,12 +15,12 @@ use Rattle.tp_model.specs.Arcs.{find_arc, link_with}
 use Rattle.tp_model.specs.Node.{next_mark, phase_of, fresh_current}
 use Rattle.tp_model.specs.Events.{refusal, after_crash}
 use Rattle.tp_model.specs.History.{digest}
-use Rattle.tp_model.specs.Questions.{is_at}
+use Rattle.tp_model.specs.Questions.{is_begin, is_at}
 use Rattle.tp_model.specs.Legal.{IsGrown}
 use Rattle.tp_steps.specs.Moves.{IsLate, prelude, begun_in, counted_in}
 use Rattle.tp_steps.specs.Traces.{took_of}
-use Rattle.tp_histories.specs.Traces.{sent_on, taken_on, own_old}
-use Rattle.tp_steps.specs.Facts.{ends_in, is_begin, BranchKey, begun_keys, last_from, under_at, key_at, HasPlaceAt, KnowsAt}
+use Rattle.tp_histories.specs.Traces.{sent_on, own_old, accepted_on}
+use Rattle.tp_steps.specs.Facts.{ends_in, BranchKey, begun_keys, last_from, under_at, key_at, HasPlaceAt, KnowsAt}
 use Rattle.tp_histories.specs.Pairs.{IsPaired}
 use Rattle.tp_steps.proofs.links.Links.{mark_same}
 use Rattle.tp_histories.proofs.trees.Late.{late_law}
@@ -85,15 +85,15 @@ stands who d e p x y late ok none open_link = go (came_by who d e ok)
 
 -- what holds of a live link after the prelude
 pub record AtPrelude (o : Origin) (e : Event) (h : List Entry) (p : ℕ) (x y : Mark) : Type 0 where
-  pub balance : length (begun_keys (taken_on x y p h ++ took_of x y p e)) ≡ ends_in (sent_on x y p h) + under_at (prelude o.who (digest o h) e).current p
-  pub places : HasPlaceAt (begun_keys (taken_on x y p h ++ took_of x y p e)) (ends_in (sent_on x y p h)) (prelude o.who (digest o h) e).current p
+  pub balance : length (begun_keys (accepted_on x y p h ++ took_of x y p e)) ≡ ends_in (sent_on x y p h) + under_at (prelude o.who (digest o h) e).current p
+  pub places : HasPlaceAt (begun_keys (accepted_on x y p h ++ took_of x y p e)) (ends_in (sent_on x y p h)) (prelude o.who (digest o h) e).current p
   pub rows : KnowsAt (last_from None (sent_on x y p h)) (prelude o.who (digest o h) e).current p
 
-at_new : (o : Origin) (e : Event) (h : List Entry) (p : ℕ) (x y : Mark) → sent_on x y p h ≡ [] → taken_on x y p h ++ took_of x y p e ≡ [] → under_at (prelude o.who (digest o h) e).current p ≡ 0 → key_at (prelude o.who (digest o h) e).current p ≡ None
+at_new : (o : Origin) (e : Event) (h : List Entry) (p : ℕ) (x y : Mark) → sent_on x y p h ≡ [] → accepted_on x y p h ++ took_of x y p e ≡ [] → under_at (prelude o.who (digest o h) e).current p ≡ 0 → key_at (prelude o.who (digest o h) e).current p ≡ None
     → AtPrelude o e h p x y
 at_new o e h p x y none quiet under key = record {
   balance = rw (none, quiet, under) refl;
-  places = none_under (prelude o.who (digest o h) e).current p (begun_keys (taken_on x y p h ++ took_of x y p e)) (ends_in (sent_on x y p h)) under;
+  places = none_under (prelude o.who (digest o h) e).current p (begun_keys (accepted_on x y p h ++ took_of x y p e)) (ends_in (sent_on x y p h)) under;
   rows = λ v k. absurd (cc (key, k));
 }
 
@@ -101,19 +101,19 @@ at_before : (o : Origin) (up : Option Addr) (e : Event) (h : List Entry) (p : �
     → AtPrelude o e h p x y
 at_before o up e h p x y s k paired live none st = record { balance = balance st; places = places st; rows = rows st }
   where
-    same : taken_on x y p h ++ took_of x y p e ≡ taken_on x y p h
-    same = rw none (append-nil (taken_on x y p h))
+    same : accepted_on x y p h ++ took_of x y p e ≡ accepted_on x y p h
+    same = rw none (append-nil (accepted_on x y p h))
 
-    balance : Stands (digest o h) (prelude o.who (digest o h) e) p → length (begun_keys (taken_on x y p h ++ took_of x y p e)) ≡ ends_in (sent_on x y p h) + under_at (prelude o.who (digest o h) e).current p
+    balance : Stands (digest o h) (prelude o.who (digest o h) e) p → length (begun_keys (accepted_on x y p h ++ took_of x y p e)) ≡ ends_in (sent_on x y p h) + under_at (prelude o.who (digest o h) e).current p
     balance (Stays i) = ap (λ (l : List DialogueRecord). length (begun_keys l)) same ∙ paired.balance p x y s k live ∙ ap (λ (v : Option Current). ends_in (sent_on x y p h) + under_at v p) (sym i)
     balance (Begins_there u n z) =
         ap (λ (l : List DialogueRecord). length (begun_keys l)) same ∙ paired.balance p x y s k live ∙ ap (λ (v : ℕ). ends_in (sent_on x y p h) + v) (z ∙ sym u)
 
-    places : Stands (digest o h) (prelude o.who (digest o h) e) p → HasPlaceAt (begun_keys (taken_on x y p h ++ took_of x y p e)) (ends_in (sent_on x y p h)) (prelude o.who (digest o h) e).current p
+    places : Stands (digest o h) (prelude o.who (digest o h) e) p → HasPlaceAt (begun_keys (accepted_on x y p h ++ took_of x y p e)) (ends_in (sent_on x y p h)) (prelude o.who (digest o h) e).current p
     places (Stays i) =
         subst (λ (l : List DialogueRecord). HasPlaceAt (begun_keys l) (ends_in (sent_on x y p h)) (prelude o.who (digest o h) e).current p) (sym same)
-        (subst (λ (v : Option Current). HasPlaceAt (begun_keys (taken_on x y p h)) (ends_in (sent_on x y p h)) v p) (sym i) (paired.places p x y s k live))
-    places (Begins_there u n z) = none_under (prelude o.who (digest o h) e).current p (begun_keys (taken_on x y p h ++ took_of x y p e)) (ends_in (sent_on x y p h)) u
+        (subst (λ (v : Option Current). HasPlaceAt (begun_keys (accepted_on x y p h)) (ends_in (sent_on x y p h)) v p) (sym i) (paired.places p x y s k live))
+    places (Begins_there u n z) = none_under (prelude o.who (digest o h) e).current p (begun_keys (accepted_on x y p h ++ took_of x y p e)) (ends_in (sent_on x y p h)) u
 
     rows : Stands (digest o h) (prelude o.who (digest o h) e) p → KnowsAt (last_from None (sent_on x y p h)) (prelude o.who (digest o h) e).current p
     rows (Stays i) = subst (λ (v : Option Current). KnowsAt (last_from None (sent_on x y p h)) v p) (sym i) (paired.rows p x y s k live)
@@ -140,12 +140,12 @@ at_took o up h p a x y s q r paired legal live at ok false n =
     let e : Event = Event.Arrive a (PeerRecord.OnAssoc x y q r) in
     let cur = other_current o.who (digest o h) a x y q r n in
     let took : took_of x y p e ≡ r ∷ [] = grind (arith, nat_tests, at, mark_same x, mark_same y) in
-    let keys : begun_keys (taken_on x y p h ++ took_of x y p e) ≡ begun_keys (taken_on x y p h) = ap (λ (l : List DialogueRecord). begun_keys (taken_on x y p h ++ l)) took ∙ other_keys (taken_on x y p h) r n in
+    let keys : begun_keys (accepted_on x y p h ++ took_of x y p e) ≡ begun_keys (accepted_on x y p h) = ap (λ (l : List DialogueRecord). begun_keys (accepted_on x y p h ++ l)) took ∙ other_keys (accepted_on x y p h) r n in
     record {
       balance = ap length keys ∙ paired.balance p x y s q live ∙ ap (λ (v : Option Current). ends_in (sent_on x y p h) + under_at v p) (sym cur);
       places =
           subst (λ (l : List BranchKey). HasPlaceAt l (ends_in (sent_on x y p h)) (prelude o.who (digest o h) e).current p) (sym keys)
-          (subst (λ (v : Option Current). HasPlaceAt (begun_keys (taken_on x y p h)) (ends_in (sent_on x y p h)) v p) (sym cur) (paired.places p x y s q live));
+          (subst (λ (v : Option Current). HasPlaceAt (begun_keys (accepted_on x y p h)) (ends_in (sent_on x y p h)) v p) (sym cur) (paired.places p x y s q live));
       rows = subst (λ (v : Option Current). KnowsAt (last_from None (sent_on x y p h)) v p) (sym cur) (paired.rows p x y s q live);
     }
 at_took o up h p a x y s q (DialogueRecord.Begin t b g) paired legal live at ok true n = go (find_arc (digest o h).arcs a.node) refl
@@ -163,22 +163,22 @@ at_took o up h p a x y s q (DialogueRecord.Begin t b g) paired legal live at ok 
         let node : c.peer.node ≡ p = find_arc_is d.arcs a.node c i ∙ at in
         let cur : (prelude o.who d e).current ≡ Some (fresh_current (Under t b c.peer)) = ap (λ (v : Option Arc). (begun_in v t b (counted_in d a)).current) i in
         let took : took_of x y p e ≡ DialogueRecord.Begin t b g ∷ [] = grind (arith, nat_tests, at, mark_same x, mark_same y) in
-        let keys : begun_keys (taken_on x y p h ++ took_of x y p e) ≡ begun_keys (taken_on x y p h) ++ (t, b) ∷ [] = ap (λ (l : List DialogueRecord). begun_keys (taken_on x y p h ++ l)) took ∙ keys_append (taken_on x y p h) (DialogueRecord.Begin t b g ∷ []) in
+        let keys : begun_keys (accepted_on x y p h ++ took_of x y p e) ≡ begun_keys (accepted_on x y p h) ++ (t, b) ∷ [] = ap (λ (l : List DialogueRecord). begun_keys (accepted_on x y p h ++ l)) took ∙ keys_append (accepted_on x y p h) (DialogueRecord.Begin t b g ∷ []) in
         let before = nil_under d p (late_law o up h legal) nil in
         let under : under_at (prelude o.who d e).current p ≡ 1 = ap (λ (v : Option Current). under_at v p) cur ∙ grind (arith, nat_tests, node) in
-        let long : length (begun_keys (taken_on x y p h)) ≡ ends_in (sent_on x y p h) = plus_zero (length (begun_keys (taken_on x y p h))) (ends_in (sent_on x y p h)) (under_at d.current p) (paired.balance p x y s q live) before.0 in
+        let long : length (begun_keys (accepted_on x y p h)) ≡ ends_in (sent_on x y p h) = plus_zero (length (begun_keys (accepted_on x y p h))) (ends_in (sent_on x y p h)) (under_at d.current p) (paired.balance p x y s q live) before.0 in
         record {
-          balance = ap length keys ∙ length-append (begun_keys (taken_on x y p h)) ((t, b) ∷ []) ∙ ap (λ (v : ℕ). v + 1) long ∙ ap (λ (v : ℕ). ends_in (sent_on x y p h) + v) (sym under);
+          balance = ap length keys ∙ length-append (begun_keys (accepted_on x y p h)) ((t, b) ∷ []) ∙ ap (λ (v : ℕ). v + 1) long ∙ ap (λ (v : ℕ). ends_in (sent_on x y p h) + v) (sym under);
           places = subst (λ (l : List BranchKey). HasPlaceAt l (ends_in (sent_on x y p h)) (prelude o.who d e).current p) (sym keys) (place cur long);
           rows = λ v k. absurd (cc (ap (λ (u : Option Current). key_at u p) cur, k));
         }
       where
-        place : (prelude o.who d e).current ≡ Some (fresh_current (Under t b c.peer)) → length (begun_keys (taken_on x y p h)) ≡ ends_in (sent_on x y p h)
-            → HasPlaceAt (begun_keys (taken_on x y p h) ++ (t, b) ∷ []) (ends_in (sent_on x y p h)) (prelude o.who d e).current p
+        place : (prelude o.who d e).current ≡ Some (fresh_current (Under t b c.peer)) → length (begun_keys (accepted_on x y p h)) ≡ ends_in (sent_on x y p h)
+            → HasPlaceAt (begun_keys (accepted_on x y p h) ++ (t, b) ∷ []) (ends_in (sent_on x y p h)) (prelude o.who d e).current p
         place cur long u v w z is late key under =
             let same : fresh_current (Under t b c.peer) ≡ u = cc (sym cur ∙ is) in
             let k : Under t b c.peer ≡ Under v w z = ap (λ (m : Current). m.key) same ∙ key in
-            key_last (begun_keys (taken_on x y p h)) (t, b) (ends_in (sent_on x y p h)) long ∙ pair t v b w (cc (k)) (cc (k))
+            key_last (begun_keys (accepted_on x y p h)) (t, b) (ends_in (sent_on x y p h)) long ∙ pair t v b w (cc (k)) (cc (k))
           where
             pair : (t v : Aaid) (b w : BranchId) → t ≡ v → b ≡ w → ◌≡◌ {A = Option BranchKey} (Some (t, b)) (Some (v, w))
             pair t v b w i j = rw (i, j) refl
@@ -201,9 +201,9 @@ at_prelude o up e h p x y s k empty paired legal ok live l at (Now_accepted z i 
     let zk : k ≡ 0 = cc (same) in
     let long = long_of o.who up (digest o h) e h (traced_law o up h legal) p l (Now_accepted z i u n none nil) x y s k (sym at ∙ live) in
     let quiet = nil_under (digest o h) p (late_law o up h legal) nil in
-    now (stands o.who (digest o h) e p x y (late_law o up h legal) ok none (inl (ap is_live live))) (empty_is (sent_on x y p h) (long.0 ∙ zs)) (empty_is (taken_on x y p h ++ took_of x y p e) (long.1 ∙ zk)) quiet.0 quiet.1
+    now (stands o.who (digest o h) e p x y (late_law o up h legal) ok none (inl (ap is_live live))) (empty_is (sent_on x y p h) (long.0 ∙ zs)) (empty_is (accepted_on x y p h ++ took_of x y p e) (long.1 ∙ zk)) quiet.0 quiet.1
   where
-    now : Stands (digest o h) (prelude o.who (digest o h) e) p → sent_on x y p h ≡ [] → taken_on x y p h ++ took_of x y p e ≡ [] → under_at (digest o h).current p ≡ 0 → key_at (digest o h).current p ≡ None → AtPrelude o e h p x y
+    now : Stands (digest o h) (prelude o.who (digest o h) e) p → sent_on x y p h ≡ [] → accepted_on x y p h ++ took_of x y p e ≡ [] → under_at (digest o h).current p ≡ 0 → key_at (digest o h).current p ≡ None → AtPrelude o e h p x y
     now (Stays j) a b c d = at_new o e h p x y a b (ap (λ (v : Option Current). under_at v p) j ∙ c) (ap (λ (v : Option Current). key_at v p) j ∙ d)
     now (Begins_there j m z) a b c d = at_new o e h p x y a b j m
 at_prelude o up e h p x y s k empty paired legal ok live l at (Now_confirmed z w op i none) =
@@ -211,7 +211,7 @@ at_prelude o up e h p x y s k empty paired legal ok live l at (Now_confirmed z w
     let zs : s ≡ 0 = cc (same) in
     let zk : k ≡ 0 = cc (same) in
     let long = long_of o.who up (digest o h) e h (traced_law o up h legal) p l (Now_confirmed z w op i none) x y s k (sym at ∙ live) in
-    now (stands o.who (digest o h) e p x y (late_law o up h legal) ok none (inl (ap is_live live))) (empty_is (sent_on x y p h) (long.0 ∙ zs)) (empty_is (taken_on x y p h ++ took_of x y p e) (long.1 ∙ zk)) (not_under (digest o h).current refl) (paired.closed p z op)
+    now (stands o.who (digest o h) e p x y (late_law o up h legal) ok none (inl (ap is_live live))) (empty_is (sent_on x y p h) (long.0 ∙ zs)) (empty_is (accepted_on x y p h ++ took_of x y p e) (long.1 ∙ zk)) (not_under (digest o h).current refl) (paired.closed p z op)
   where
     own : is_at up p ≡ false
     own =
@@ -233,7 +233,7 @@ at_prelude o up e h p x y s k empty paired legal ok live l at (Now_confirmed z w
             side false n g = grind (arith, m, n)
             side true n g = let eq : a.node ≡ p = grind (arith, nat_tests, n) in absurd (cc (own, subst (λ (q : ℕ). is_at up q ≡ true) eq g))
 
-    now : Stands (digest o h) (prelude o.who (digest o h) e) p → sent_on x y p h ≡ [] → taken_on x y p h ++ took_of x y p e ≡ [] → under_at (digest o h).current p ≡ 0 → key_at (digest o h).current p ≡ None → AtPrelude o e h p x y
+    now : Stands (digest o h) (prelude o.who (digest o h) e) p → sent_on x y p h ≡ [] → accepted_on x y p h ++ took_of x y p e ≡ [] → under_at (digest o h).current p ≡ 0 → key_at (digest o h).current p ≡ None → AtPrelude o e h p x y
     now (Stays j) a b c d = at_new o e h p x y a b (ap (λ (v : Option Current). under_at v p) j ∙ c) (ap (λ (v : Option Current). key_at v p) j ∙ d)
     now (Begins_there j m z) a b c d = at_new o e h p x y a b j m
 at_prelude o up e h p x y s k empty paired legal ok live l at (Took_one a z w v u r i j node ev) =

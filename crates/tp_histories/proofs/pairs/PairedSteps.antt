@@ -19,7 +19,7 @@ use Rattle.tp_model.specs.Questions.{said_to, is_at}
 use Rattle.tp_model.specs.Legal.{IsGrown}
 use Rattle.tp_steps.specs.Moves.{prelude}
 use Rattle.tp_steps.specs.Traces.{fits, sent_of, took_of}
-use Rattle.tp_histories.specs.Traces.{sent_on, taken_on}
+use Rattle.tp_histories.specs.Traces.{sent_on, accepted_on}
 use Rattle.tp_steps.specs.Facts.{is_order, is_rollback, ends_in, BranchKey, begun_keys, last_from, each_under, each_vote, has_ready_of, is_voted, is_ordered, is_rolled, find_branch, under_at, key_at, HasPlaceAt, KnowsAt, words_to, IsHeard, Reads}
 use Rattle.tp_histories.specs.Pairs.{IsPaired}
 use Rattle.tp_histories.proofs.trees.Late.{late_law}
@@ -182,12 +182,12 @@ paired_step o up e h empty legal paired = record {
   balance = λ p x y v k live.
       let w = live_before p (l p) (link_with next.arcs p) (action o.who d e.event).outs x y v k (k_of p).linked.over live in
       let pre = at_prelude o up e.event h p x y w.sent k empty paired legal.3 legal.0 w.is (l p) refl (k_of p).pre in
-      sums (length (begun_keys (taken_on x y p h ++ took_of x y p e.event))) (ends_in (sent_on x y p h)) (ends_in (words p)) (under_at s.current p) (under_at next.current p) pre.balance ((heard p).balance (ap is_live live))
+      sums (length (begun_keys (accepted_on x y p h ++ took_of x y p e.event))) (ends_in (sent_on x y p h)) (ends_in (words p)) (under_at s.current p) (under_at next.current p) pre.balance ((heard p).balance (ap is_live live))
       ∙ ap (λ (n : ℕ). n + under_at next.current p) (sym (sent_ends p x y w.sent k w.is));
   places = λ p x y v k live.
       let w = live_before p (l p) (link_with next.arcs p) (action o.who d e.event).outs x y v k (k_of p).linked.over live in
       let pre = at_prelude o up e.event h p x y w.sent k empty paired legal.3 legal.0 w.is (l p) refl (k_of p).pre in
-      let ks : List BranchKey = begun_keys (taken_on x y p h ++ took_of x y p e.event) in
+      let ks : List BranchKey = begun_keys (accepted_on x y p h ++ took_of x y p e.event) in
       subst (λ (n : ℕ). HasPlaceAt ks n next.current p) (swap (ends_in (words p)) (ends_in (sent_on x y p h)) ∙ sym (sent_ends p x y w.sent k w.is)) ((heard p).places ks (ends_in (sent_on x y p h)) (ap is_live live) pre.places);
   rows = λ p x y v k live.
       let w = live_before p (l p) (link_with next.arcs p) (action o.who d e.event).outs x y v k (k_of p).linked.over live in
@@ -212,10 +212,10 @@ paired_step o up e h empty legal paired = record {
             (subst (λ (r : Option LogRec). each_under is_order (is_ordered (with_rec r (records o h))) (last_from None (sent_on x y p h)) (words p) ≡ true) (sym recs) new))
       ]);
   votes = λ p x y.
-      let ks : List BranchKey = begun_keys (taken_on x y p h ++ took_of x y p e.event) in
+      let ks : List BranchKey = begun_keys (accepted_on x y p h ++ took_of x y p e.event) in
       vote_append (is_voted ks (records o (e ∷ h))) 0 (sent_on x y p h) (sent_of x y p e.outs)
       ∙ both (each_vote (is_voted ks (records o (e ∷ h))) 0 (sent_on x y p h)) (each_vote (is_voted ks (records o (e ∷ h))) (ends_in (sent_on x y p h) + 0) (sent_of x y p e.outs))
-      (vote_weaker (is_voted (begun_keys (taken_on x y p h)) (records o h)) (is_voted ks (records o (e ∷ h))) (λ n v. voted_wider n x y p v) 0 (sent_on x y p h) (paired.votes p x y))
+      (vote_weaker (is_voted (begun_keys (accepted_on x y p h)) (records o h)) (is_voted ks (records o (e ∷ h))) (λ n v. voted_wider n x y p v) 0 (sent_on x y p h) (paired.votes p x y))
       (subst (λ (n : ℕ). each_vote (is_voted ks (records o (e ∷ h))) n (sent_of x y p e.outs) ≡ true) (sym (no_more (ends_in (sent_on x y p h))))
       (elim (sent_is p x y) [
         | inl none ↦ ap (each_vote (is_voted ks (records o (e ∷ h))) (ends_in (sent_on x y p h))) none
@@ -283,15 +283,15 @@ paired_step o up e h empty legal paired = record {
     no_more : (n : ℕ) → n + 0 ≡ n
     no_more n = omega arith
 
-    voted_wider : (n : ℕ) (x y : Mark) (p : ℕ) → is_voted (begun_keys (taken_on x y p h)) (records o h) n ≡ true → is_voted (begun_keys (taken_on x y p h ++ took_of x y p e.event)) (records o (e ∷ h)) n ≡ true
-    voted_wider n x y p v = go (slice_get (begun_keys (taken_on x y p h)) n) refl
+    voted_wider : (n : ℕ) (x y : Mark) (p : ℕ) → is_voted (begun_keys (accepted_on x y p h)) (records o h) n ≡ true → is_voted (begun_keys (accepted_on x y p h ++ took_of x y p e.event)) (records o (e ∷ h)) n ≡ true
+    voted_wider n x y p v = go (slice_get (begun_keys (accepted_on x y p h)) n) refl
       where
-        go : (b : Option BranchKey) → slice_get (begun_keys (taken_on x y p h)) n ≡ b → is_voted (begun_keys (taken_on x y p h ++ took_of x y p e.event)) (records o (e ∷ h)) n ≡ true
+        go : (b : Option BranchKey) → slice_get (begun_keys (accepted_on x y p h)) n ≡ b → is_voted (begun_keys (accepted_on x y p h ++ took_of x y p e.event)) (records o (e ∷ h)) n ≡ true
         go None i = absurd (cc (rw (i, is_voted) at v))
         go (Some b) i =
             let one : has_ready_of b (records o h) ≡ true = rw (i, is_voted) at v in
-            let wide : slice_get (begun_keys (taken_on x y p h ++ took_of x y p e.event)) n ≡ Some b =
-            ap (λ (ks : List BranchKey). slice_get ks n) (keys_append (taken_on x y p h) (took_of x y p e.event)) ∙ key_before (begun_keys (taken_on x y p h)) (begun_keys (took_of x y p e.event)) n b i in
+            let wide : slice_get (begun_keys (accepted_on x y p h ++ took_of x y p e.event)) n ≡ Some b =
+            ap (λ (ks : List BranchKey). slice_get ks n) (keys_append (accepted_on x y p h) (took_of x y p e.event)) ∙ key_before (begun_keys (accepted_on x y p h)) (begun_keys (took_of x y p e.event)) n b i in
             rw (wide, is_voted) (ready_more b e.rec (records o h) one)
 
     rolled_wider : (k : Option BranchKey) → is_rolled (λ t. rolled o t h) k ≡ true → is_rolled (λ t. rolled o t (e ∷ h)) k ≡ true

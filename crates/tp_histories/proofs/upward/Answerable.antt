@@ -23,7 +23,7 @@ use Rattle.tp_model.specs.Legal.{IsGrown}
 use Rattle.tp_steps.specs.Turns.{hears_close}
 use Rattle.tp_steps.specs.Moves.{is_word, prelude, IsAskedByRequest}
 use Rattle.tp_steps.specs.Traces.{sent_of, took_of}
-use Rattle.tp_histories.specs.Traces.{sent_on, taken_on, own_old}
+use Rattle.tp_histories.specs.Traces.{sent_on, own_old, accepted_on}
 use Rattle.tp_steps.specs.Facts.{only_words, words_to}
 use Rattle.tp_steps.specs.Control.{rounds, flag_from, closes_up, voted_behind}
 use Rattle.tp_histories.specs.Control.{is_closing, closes_down, begun_behind, answered, closed}
@@ -248,9 +248,9 @@ holds_begun cl sent taken r s o p k cur old none begins = (omega (arith, old.0, 
         subst (λ (y : Current). MayAnswer cl (answered sent) (closed (taken ++ r ∷ [])) (voted sent) (begun (taken ++ r ∷ [])) y.asked y.phase y.told_prepare y.superior_rolled) same fresh
 
 holds_prelude : (o : Origin) (up : Option Addr) (e : Event) (h : List Entry) (p : ℕ) (x y : Mark) (s k : ℕ)
-    → ((z w : Mark) (v u : ℕ) → link_with (digest o h).arcs p ≡ Live z w v u → Holds false (sent_on z w p h) (taken_on z w p h) (digest o h).current p) → IsGrown o up h → refusal o.who (digest o h) e ≡ None → is_at up p ≡ true
+    → ((z w : Mark) (v u : ℕ) → link_with (digest o h).arcs p ≡ Live z w v u → Holds false (sent_on z w p h) (accepted_on z w p h) (digest o h).current p) → IsGrown o up h → refusal o.who (digest o h) e ≡ None → is_at up p ≡ true
     → link_with (prelude o.who (digest o h) e).arcs p ≡ Live x y s k → (l : Link) → link_with (prelude o.who (digest o h) e).arcs p ≡ l → Prelinked o.who up p (digest o h) e l
-    → Holds (closes_now (prelude o.who (digest o h) e) p e) (sent_on x y p h) (taken_on x y p h ++ took_of x y p e) (prelude o.who (digest o h) e).current p
+    → Holds (closes_now (prelude o.who (digest o h) e) p e) (sent_on x y p h) (accepted_on x y p h ++ took_of x y p e) (prelude o.who (digest o h) e).current p
 unfolding after_crash
 holds_prelude o up e h p x y s k old legal ok above live l at pre = go pre
   where
@@ -269,8 +269,8 @@ holds_prelude o up e h p x y s k old legal ok above live l at pre = go pre
     quiet : ((z w : Mark) → took_of z w p e ≡ []) → cl ≡ true → is_ready (phase_of now) ≡ true
     quiet none c = elim (closing_by now p e c) [ inl t ↦ absurd (took_none p e t.from t.first t.second t.number t.word t.is t.at (none t.first t.second)) | inr r ↦ r ]
 
-    same_taken : took_of x y p e ≡ [] → taken_on x y p h ≡ taken_on x y p h ++ took_of x y p e
-    same_taken none = sym (ap (λ (ys : List DialogueRecord). taken_on x y p h ++ ys) none ∙ append-nil (taken_on x y p h))
+    same_taken : took_of x y p e ≡ [] → accepted_on x y p h ≡ accepted_on x y p h ++ took_of x y p e
+    same_taken none = sym (ap (λ (ys : List DialogueRecord). accepted_on x y p h ++ ys) none ∙ append-nil (accepted_on x y p h))
 
     -- a Begin that is taken from another peer leaves no transaction under this one
     elsewhere : ((z w : Mark) → took_of z w p e ≡ []) → (c b : ℕ) (v f : Bool) → Came o.who d e → (now.current ≡ d.current → AnswersAt cl c b v f now.current p) → AnswersAt cl c b v f now.current p
@@ -285,21 +285,21 @@ holds_prelude o up e h p x y s k old legal ok above live l at pre = go pre
             let node : a.peer.node ≡ p = grind (arith, nat_tests, under) in
             took_none p e from z w q (DialogueRecord.Begin t i g) is (sym (find_arc_is d.arcs from.node a found) ∙ node) (none z w)
 
-    kept : (v u : ℕ) → link_with d.arcs p ≡ Live x y v u → ((z w : Mark) → took_of z w p e ≡ []) → Holds cl (sent_on x y p h) (taken_on x y p h ++ took_of x y p e) now.current p
+    kept : (v u : ℕ) → link_with d.arcs p ≡ Live x y v u → ((z w : Mark) → took_of z w p e ≡ []) → Holds cl (sent_on x y p h) (accepted_on x y p h ++ took_of x y p e) now.current p
     kept v u was none =
         let before = old x y v u was in
-        let stays : (answered (sent_on x y p h) ≤ closed (taken_on x y p h)) × AnswersAt cl (answered (sent_on x y p h)) (closed (taken_on x y p h)) (voted (sent_on x y p h)) (begun (taken_on x y p h)) now.current p =
-        (before.0, elsewhere none (answered (sent_on x y p h)) (closed (taken_on x y p h)) (voted (sent_on x y p h)) (begun (taken_on x y p h)) (came_by o.who d e ok) (λ i. (holds_still cl (sent_on x y p h) (taken_on x y p h) now d.current p i before (quiet none)).1)) in
+        let stays : (answered (sent_on x y p h) ≤ closed (accepted_on x y p h)) × AnswersAt cl (answered (sent_on x y p h)) (closed (accepted_on x y p h)) (voted (sent_on x y p h)) (begun (accepted_on x y p h)) now.current p =
+        (before.0, elsewhere none (answered (sent_on x y p h)) (closed (accepted_on x y p h)) (voted (sent_on x y p h)) (begun (accepted_on x y p h)) (came_by o.who d e ok) (λ i. (holds_still cl (sent_on x y p h) (accepted_on x y p h) now d.current p i before (quiet none)).1)) in
         subst (λ (ts : List DialogueRecord). Holds cl (sent_on x y p h) ts now.current p) (same_taken (none x y)) stays
 
-    first : (z w : Mark) → l ≡ Live z w 0 0 → is_nil (phase_of d) ≡ true → ((z w : Mark) → took_of z w p e ≡ []) → Prelinked o.who up p d e l → Holds cl (sent_on x y p h) (taken_on x y p h ++ took_of x y p e) now.current p
+    first : (z w : Mark) → l ≡ Live z w 0 0 → is_nil (phase_of d) ≡ true → ((z w : Mark) → took_of z w p e ≡ []) → Prelinked o.who up p d e l → Holds cl (sent_on x y p h) (accepted_on x y p h ++ took_of x y p e) now.current p
     first z w i nil none q =
         let same : Live x y s k ≡ Live z w 0 0 = sym live ∙ at ∙ i in
         let zs : s ≡ 0 = cc (same) in
         let zk : k ≡ 0 = cc (same) in
         let long = long_of o.who up d e h (traced_law o up h legal) p l q x y s k (sym at ∙ live) in
         let no_sent : sent_on x y p h ≡ [] = empty_is (sent_on x y p h) (long.0 ∙ zs) in
-        let no_taken : taken_on x y p h ++ took_of x y p e ≡ [] = empty_is (taken_on x y p h ++ took_of x y p e) (long.1 ∙ zk) in
+        let no_taken : accepted_on x y p h ++ took_of x y p e ≡ [] = empty_is (accepted_on x y p h ++ took_of x y p e) (long.1 ∙ zk) in
         let start : (0 ≤ 0) × AnswersAt cl 0 0 false false now.current p = (omega arith, elsewhere none 0 0 false false (came_by o.who d e ok) (λ j. λ r here n u. absurd (cc (n, ap is_nil (sym (phase_at d r (sym j ∙ here))) ∙ nil)))) in
         subst (λ (ts : List DialogueRecord). Holds cl (sent_on x y p h) ts now.current p) (sym no_taken) (subst (λ (ss : List DialogueRecord). Holds cl ss [] now.current p) (sym no_sent) start)
 
@@ -308,10 +308,10 @@ holds_prelude o up e h p x y s k old legal ok above live l at pre = go pre
         let own : own_old o.who d up p (Opening z) ≡ true = ap (own_old o.who d up p) (sym op) ∙ (traced_law o up h legal).own p in
         absurd (grind (arith, own, above))
 
-    one_more : (a : Addr) (v u : ℕ) (r : DialogueRecord) → link_with d.arcs p ≡ Live x y v u → a.node ≡ p → e ≡ Event.Arrive a (PeerRecord.OnAssoc x y u r) → Holds cl (sent_on x y p h) (taken_on x y p h ++ took_of x y p e) now.current p
+    one_more : (a : Addr) (v u : ℕ) (r : DialogueRecord) → link_with d.arcs p ≡ Live x y v u → a.node ≡ p → e ≡ Event.Arrive a (PeerRecord.OnAssoc x y u r) → Holds cl (sent_on x y p h) (accepted_on x y p h ++ took_of x y p e) now.current p
     one_more a v u r was node ev =
         let one : took_of x y p e ≡ r ∷ [] = ap (took_of x y p) ev ∙ took_it p a x y u r node in
-        subst (λ (ys : List DialogueRecord). Holds cl (sent_on x y p h) (taken_on x y p h ++ ys) now.current p) (sym one) (by (came_by o.who d e ok))
+        subst (λ (ys : List DialogueRecord). Holds cl (sent_on x y p h) (accepted_on x y p h ++ ys) now.current p) (sym one) (by (came_by o.who d e ok))
       where
         word : (from : Addr) (z w : Mark) (q : ℕ) (g : DialogueRecord) → e ≡ Event.Arrive from (PeerRecord.OnAssoc z w q g) → g ≡ r
         word from z w q g is = let same : Event.Arrive from (PeerRecord.OnAssoc z w q g) ≡ Event.Arrive a (PeerRecord.OnAssoc x y u r) = sym is ∙ ev in cc (same)
@@ -319,16 +319,16 @@ holds_prelude o up e h p x y s k old legal ok above live l at pre = go pre
         closing : cl ≡ true → (is_closing r ≡ true) ⊎ (is_ready (phase_of now) ≡ true)
         closing c = elim (closing_by now p e c) [ inl t ↦ inl (ap is_closing (sym (word t.from t.first t.second t.number t.word t.is)) ∙ t.closing) | inr q ↦ inr q ]
 
-        by : Came o.who d e → Holds cl (sent_on x y p h) (taken_on x y p h ++ r ∷ []) now.current p
-        by (As_it_was i) = holds_taken cl (sent_on x y p h) (taken_on x y p h) r now d.current p i (old x y v u was) closing
+        by : Came o.who d e → Holds cl (sent_on x y p h) (accepted_on x y p h ++ r ∷ []) now.current p
+        by (As_it_was i) = holds_taken cl (sent_on x y p h) (accepted_on x y p h) r now d.current p i (old x y v u was) closing
         by (By_crash is cur) = absurd (crashed is)
         by (By_begin from z w q t i g b is found cur nil sup) =
             let same : DialogueRecord.Begin t i g ≡ r = word from z w q (DialogueRecord.Begin t i g) is in
             let none : cl ≡ false = ap (closes_now now p) is in
-            let begins : begun_behind (begun (taken_on x y p h)) r ≡ true = ap (begun_behind (begun (taken_on x y p h))) (sym same) in
-            holds_begun cl (sent_on x y p h) (taken_on x y p h) r now d.current p (Under t i b.peer) cur (old x y v u was) none begins
+            let begins : begun_behind (begun (accepted_on x y p h)) r ≡ true = ap (begun_behind (begun (accepted_on x y p h))) (sym same) in
+            holds_begun cl (sent_on x y p h) (accepted_on x y p h) r now d.current p (Under t i b.peer) cur (old x y v u was) none begins
 
-    go : Prelinked o.who up p d e l → Holds cl (sent_on x y p h) (taken_on x y p h ++ took_of x y p e) now.current p
+    go : Prelinked o.who up p d e l → Holds cl (sent_on x y p h) (accepted_on x y p h ++ took_of x y p e) now.current p
     go (As_before i none) = kept s k (sym i ∙ sym at ∙ live) none
     go (Now_idle i none) = absurd (cc (sym live ∙ at ∙ i))
     go (Now_called i down n none below calls) = absurd (cc (sym live ∙ at ∙ i))
@@ -358,7 +358,7 @@ no_closing c b v f cl o p old x is n u =
     wider a b c h = grind (arith, h)
 
 pub answerable_law : (o : Origin) (up : Option Addr) (h : List Entry) → o.start.records ≡ [] → IsGrown o up h → (p : ℕ) (x y : Mark) (s k : ℕ) → is_at up p ≡ true → link_with (digest o h).arcs p ≡ Live x y s k
-    → Holds false (sent_on x y p h) (taken_on x y p h) (digest o h).current p
+    → Holds false (sent_on x y p h) (accepted_on x y p h) (digest o h).current p
 unfolding started
 answerable_law o up [] empty legal p x y s k above live = absurd (cc (live))
 answerable_law o up (e ∷ h) empty legal p x y s k above live =
@@ -376,10 +376,10 @@ answerable_law o up (e ∷ h) empty legal p x y s k above live =
     ∙ ap (λ (n : ℕ). answered (sent_on x y p h) + n) (ap (rounds closes_up voted_behind (voted (sent_on x y p h))) said ∙ sym words.0) in
     let flag : voted (sent_on x y p h ++ sent_of x y p e.outs) ≡ flag_from voted_behind (voted (sent_on x y p h)) (words_to p (action o.who d e.event).outs) =
     flag_append voted_behind false (sent_on x y p h) (sent_of x y p e.outs) ∙ ap (flag_from voted_behind (voted (sent_on x y p h))) said ∙ sym words.1 in
-    let r = event.answers (answered (sent_on x y p h)) (closed (taken_on x y p h ++ took_of x y p e.event)) (voted (sent_on x y p h)) (begun (taken_on x y p h ++ took_of x y p e.event)) pre.0 pre.1 (ap is_live live)
+    let r = event.answers (answered (sent_on x y p h)) (closed (accepted_on x y p h ++ took_of x y p e.event)) (voted (sent_on x y p h)) (begun (accepted_on x y p h ++ took_of x y p e.event)) pre.0 pre.1 (ap is_live live)
     (answered (sent_on x y p h ++ sent_of x y p e.outs)) (voted (sent_on x y p h ++ sent_of x y p e.outs)) count flag in
-    (r.0, no_closing (answered (sent_on x y p h ++ sent_of x y p e.outs)) (closed (taken_on x y p h ++ took_of x y p e.event)) (voted (sent_on x y p h ++ sent_of x y p e.outs)) (begun (taken_on x y p h ++ took_of x y p e.event)) cl (digest o (e ∷ h)).current p r.1)
+    (r.0, no_closing (answered (sent_on x y p h ++ sent_of x y p e.outs)) (closed (accepted_on x y p h ++ took_of x y p e.event)) (voted (sent_on x y p h ++ sent_of x y p e.outs)) (begun (accepted_on x y p h ++ took_of x y p e.event)) cl (digest o (e ∷ h)).current p r.1)
 
 pub answers_behind : (o : Origin) (up : Option Addr) (h : List Entry) (p : ℕ) (x y : Mark) (s k : ℕ) → o.start.records ≡ [] → IsGrown o up h → is_at up p ≡ true → link_with (digest o h).arcs p ≡ Live x y s k
-    → answered (sent_on x y p h) ≤ closed (taken_on x y p h)
+    → answered (sent_on x y p h) ≤ closed (accepted_on x y p h)
 answers_behind o up h p x y s k empty legal above live = (answerable_law o up h empty legal p x y s k above live).0

@@ -26,12 +26,12 @@ use Rattle.tp_model.specs.Recovery.{settled}
 use Rattle.tp_model.specs.Node.{Move, move, followed, perform, next_mark, with_mark_drawn, phase_of, seen, Passage, passage, is_leaving, turned, fresh_current, with_begun, may_begin_on, begin_on, keep, branches_of, remaining, entered}
 use Rattle.tp_model.specs.Events.{refusal, action}
 use Rattle.tp_model.specs.Outcomes.{is_unchanged}
-use Rattle.tp_model.specs.Questions.{said_to}
+use Rattle.tp_model.specs.Questions.{is_begin, said_to}
 use Rattle.tp_steps.specs.Turns.{loses}
 use Rattle.tp_steps.specs.Moves.{IsAskedByRecord, IsAskedByRequest, IsAsked, IsPut, IsLate, prelude, Moves, are_spoken}
 use Rattle.tp_steps.specs.Passages.{is_commit_rec, IsLogged}
 use Rattle.tp_steps.specs.Trees.{commits_tree, out_tells}
-use Rattle.tp_steps.specs.Facts.{only_words, spoken, stays, is_begin, ends_in, none_of, BranchKey, id_at, find_branch, key_at, HasPlace, HasPlaceAt, words_to, IsHeard, Reads}
+use Rattle.tp_steps.specs.Facts.{only_words, spoken, stays, ends_in, none_of, BranchKey, id_at, find_branch, key_at, HasPlace, HasPlaceAt, words_to, IsHeard, Reads}
 use Rattle.tp_steps.specs.Clearing.{is_complete_none, is_complete, damages_tree}
 use Rattle.tp_steps.specs.Owing.{is_damage_rec}
 use Rattle.tp_steps.proofs.links.Told.{told_append, told_played}

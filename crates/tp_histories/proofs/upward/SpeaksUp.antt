@@ -23,7 +23,7 @@ use Rattle.tp_model.specs.Questions.{said_to, is_at}
 use Rattle.tp_model.specs.Legal.{IsGrown}
 use Rattle.tp_steps.specs.Moves.{prelude}
 use Rattle.tp_steps.specs.Traces.{sent_of, took_of}
-use Rattle.tp_histories.specs.Traces.{sent_on, taken_on}
+use Rattle.tp_histories.specs.Traces.{sent_on, accepted_on}
 use Rattle.tp_steps.specs.Trees.{commits_tree, out_tells}
 use Rattle.tp_steps.specs.Passages.{is_commit_told, is_rollback_told, is_commit_rec}
 use Rattle.tp_steps.specs.Clearing.{is_complete_none, is_complete, damages_tree, has_damage}
@@ -236,11 +236,11 @@ wider o e h ks more n = (
 speaks_step : (o : Origin) (up : Option Addr) (e : Entry) (h : List Entry) → o.start.records ≡ [] → IsGrown o up (e ∷ h) → IsOnce o h → SpeaksUp o up h → SpeaksUp o up (e ∷ h)
 speaks_step o up e h empty legal once old = record {
   words = λ p x y above.
-      let ks : List BranchKey = begun_keys (taken_on x y p h ++ took_of x y p e.event) in
+      let ks : List BranchKey = begun_keys (accepted_on x y p h ++ took_of x y p e.event) in
       let g : Deeds = deeds_of o (e ∷ h) in
       up_append (may_say ks g) 0 false (sent_on x y p h) (sent_of x y p e.outs)
       ∙ both_true (each_up (may_say ks g) 0 false (sent_on x y p h)) (each_up (may_say ks g) (ends_in (sent_on x y p h) + 0) (voting_from false (sent_on x y p h)) (sent_of x y p e.outs))
-      (up_weaker (may_say (begun_keys (taken_on x y p h)) (deeds_of o h)) (may_say ks g) (λ n v r i. say_wider (begun_keys (taken_on x y p h)) ks (deeds_of o h) g (wide p x y) n v r i) 0 false (sent_on x y p h) (old.words p x y above))
+      (up_weaker (may_say (begun_keys (accepted_on x y p h)) (deeds_of o h)) (may_say ks g) (λ n v r i. say_wider (begun_keys (accepted_on x y p h)) ks (deeds_of o h) g (wide p x y) n v r i) 0 false (sent_on x y p h) (old.words p x y above))
       (subst (λ (n : ℕ). each_up (may_say ks g) n (voting_from false (sent_on x y p h)) (sent_of x y p e.outs) ≡ true) (sym (no_more (ends_in (sent_on x y p h))))
       (elim (sent_is p x y) [
         | inl none ↦ ap (each_up (may_say ks g) (ends_in (sent_on x y p h)) (voting_from false (sent_on x y p h))) none
@@ -303,8 +303,8 @@ speaks_step o up e h empty legal once old = record {
     no_more : (n : ℕ) → n + 0 ≡ n
     no_more n = omega arith
 
-    wide : (p : ℕ) (x y : Mark) → IsWider (begun_keys (taken_on x y p h)) (deeds_of o h) (begun_keys (taken_on x y p h ++ took_of x y p e.event)) (deeds_of o (e ∷ h))
-    wide p x y = subst (λ (ks : List BranchKey). IsWider (begun_keys (taken_on x y p h)) (deeds_of o h) ks (deeds_of o (e ∷ h))) (sym (keys_append (taken_on x y p h) (took_of x y p e.event))) (wider o e h (begun_keys (taken_on x y p h)) (begun_keys (took_of x y p e.event)))
+    wide : (p : ℕ) (x y : Mark) → IsWider (begun_keys (accepted_on x y p h)) (deeds_of o h) (begun_keys (accepted_on x y p h ++ took_of x y p e.event)) (deeds_of o (e ∷ h))
+    wide p x y = subst (λ (ks : List BranchKey). IsWider (begun_keys (accepted_on x y p h)) (deeds_of o h) ks (deeds_of o (e ∷ h))) (sym (keys_append (accepted_on x y p h) (took_of x y p e.event))) (wider o e h (begun_keys (accepted_on x y p h)) (begun_keys (took_of x y p e.event)))
 
 pub speaks_law : (o : Origin) (up : Option Addr) (h : List Entry) → o.start.records ≡ [] → IsGrown o up h → IsOnce o h → SpeaksUp o up h
 unfolding started

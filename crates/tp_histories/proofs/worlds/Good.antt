@@ -8,7 +8,7 @@ use Rattle.tp_model.specs.History.{entry_of}
 use Rattle.tp_model.specs.World.{Node, Frame, number_of, addr_of, find_node, put_node, mark_handed}
 use Rattle.tp_model.specs.Happenings.{Happening, frames_of, run}
 use Rattle.tp_model.specs.Legal.{IsGrown}
-use Rattle.tp_histories.specs.Histories.{IsSentIn, HasSent, HasTaken}
+use Rattle.tp_histories.specs.Histories.{IsSentIn, HasSent, HasBrought}
 use Rattle.tp_histories.specs.Worlds.{Each, WasSent, IsFrameOf, place, Above, IsGood, grown_node, Accepts, Comes, shown}
 use Rattle.tp_histories.proofs.worlds.Nodes.{find_put, find_append, place_put, place_append, place_last}
 use Rattle.tp_histories.proofs.worlds.Runs.{Steps}
@@ -95,10 +95,10 @@ comes_good ns fs x c g = record {
         let two = place_append ns x y n (old n y b i) in
         record { node = o.node; found = found s.node o.node o.found; is = o.is; before = rw (one, two) o.before }
 
-    taken : (n : ℕ) (y : Node) (a : Addr) (r : PeerRecord) (b : Bool) → (number_of x == n) ≡ b → find_node (ns ++ x ∷ []) n ≡ Some y → HasTaken y.history a r → IsFrameOf fs a n r
+    taken : (n : ℕ) (y : Node) (a : Addr) (r : PeerRecord) (b : Bool) → (number_of x == n) ≡ b → find_node (ns ++ x ∷ []) n ≡ Some y → HasBrought y.history a r → IsFrameOf fs a n r
     taken n y a r true b i t =
-        let none : HasTaken x.history a r = subst (λ (z : Node). HasTaken z.history a r) (sym (new n y b i)) t in
-        absurd (subst (λ (h : List Entry). HasTaken h a r) c.bare none)
+        let none : HasBrought x.history a r = subst (λ (z : Node). HasBrought z.history a r) (sym (new n y b i)) t in
+        absurd (subst (λ (h : List Entry). HasBrought h a r) c.bare none)
     taken n y a r false b i t = g.taken n y a r (old n y b i) t
 
 -- ---- a node accepts an event
@@ -186,10 +186,10 @@ event_good ns fs x e a told g = record {
     new_sent false = tt
     new_sent true = frames_sent now x (entry_of x.origin x.history e).outs (entry_of x.origin x.history e).outs (λ c r k. k) y here refl (λ c r k. inl k)
 
-    taken : (n : ℕ) (z : Node) (c : Addr) (r : PeerRecord) (b : Bool) → (number_of x == n) ≡ b → find_node now n ≡ Some z → HasTaken z.history c r → IsFrameOf fs c n r
+    taken : (n : ℕ) (z : Node) (c : Addr) (r : PeerRecord) (b : Bool) → (number_of x == n) ≡ b → find_node now n ≡ Some z → HasBrought z.history c r → IsFrameOf fs c n r
     taken n z c r true b i t =
         let m : number_of x ≡ n = grind (arith, nat_tests) in
-        let took : HasTaken y.history c r = subst (λ (v : Node). HasTaken v.history c r) (sym (new n z b i)) t in
+        let took : HasBrought y.history c r = subst (λ (v : Node). HasBrought v.history c r) (sym (new n z b i)) t in
         let one : IsFrameOf fs c (number_of x) r = elim took [ inl j ↦ a.came c r j | inr j ↦ g.taken (number_of x) x c r a.here j ] in
         subst (λ (k : ℕ). IsFrameOf fs c k r) m one
     taken n z c r false b i t = g.taken n z c r (old n z b i) t

@@ -14,11 +14,11 @@ use Rattle.tp_model.specs.History.{digest}
 use Rattle.tp_model.specs.World.{Node, Frame, find_node}
 use Rattle.tp_model.specs.Legal.{IsGrown}
 use Rattle.tp_steps.specs.Histories.{brought}
-use Rattle.tp_histories.specs.Histories.{IsSentIn, HasSent, HasTaken}
+use Rattle.tp_histories.specs.Histories.{IsSentIn, HasSent, HasBrought}
 use Rattle.tp_histories.specs.Worlds.{IsGood}
 use Rattle.tp_steps.specs.Moves.{prelude}
 use Rattle.tp_steps.specs.Traces.{is_next, sent_one, fits, sent_of, took_of}
-use Rattle.tp_histories.specs.Traces.{sent_on, taken_on, IsTraced, history_at}
+use Rattle.tp_histories.specs.Traces.{sent_on, IsTraced, history_at, accepted_on}
 use Rattle.tp_steps.proofs.links.Links.{mark_same}
 use Rattle.tp_histories.proofs.trees.Late.{late_law}
 use Rattle.tp_steps.proofs.every.Preludes.{marks_same, takes_next}
@@ -161,7 +161,7 @@ get_last (x ∷ xs) y zero r h = inl h
 get_last (x ∷ xs) y (suc k) r h = elim (get_last xs y k r h) [ inl i ↦ inl i | inr i ↦ inr (ap suc i.0, i.1) ]
 
 pub took_place : (o : Origin) (up : Option Addr) (h : List Entry) (a : Addr) (x y : Mark) (q : ℕ) (r : DialogueRecord) → IsTraced o.who up (digest o h) h
-    → refusal o.who (digest o h) (Event.Arrive a (PeerRecord.OnAssoc x y q r)) ≡ None → length (taken_on x y a.node h) ≡ q
+    → refusal o.who (digest o h) (Event.Arrive a (PeerRecord.OnAssoc x y q r)) ≡ None → length (accepted_on x y a.node h) ≡ q
 took_place o up h a x y q r traced ok =
     let t = takes_next o.who (digest o h) a x y q r ok in
     (traced.live a.node x y t.sent q t.live).1
@@ -169,18 +169,18 @@ took_place o up h a x y q r traced ok =
 pub record CameFrom (h : List Entry) (p : ℕ) (x y : Mark) (k : ℕ) (r : DialogueRecord) : Type 0 where
   pub from : Addr
   pub at : from.node ≡ p
-  pub taken : HasTaken h from (PeerRecord.OnAssoc x y k r)
+  pub taken : HasBrought h from (PeerRecord.OnAssoc x y k r)
 
 came_by : (o : Origin) (up : Option Addr) (e : Event) (h : List Entry) (p : ℕ) (x y : Mark) (k : ℕ) (r : DialogueRecord) → IsTraced o.who up (digest o h) h
-    → refusal o.who (digest o h) e ≡ None → slice_get (taken_on x y p h ++ took_of x y p e) k ≡ Some r
-    → (slice_get (taken_on x y p h) k ≡ Some r) ⊎ (a : Addr) × (a.node ≡ p) × (e ≡ Event.Arrive a (PeerRecord.OnAssoc x y k r))
+    → refusal o.who (digest o h) e ≡ None → slice_get (accepted_on x y p h ++ took_of x y p e) k ≡ Some r
+    → (slice_get (accepted_on x y p h) k ≡ Some r) ⊎ (a : Addr) × (a.node ≡ p) × (e ≡ Event.Arrive a (PeerRecord.OnAssoc x y k r))
 came_by o up (Event.Arrive a (PeerRecord.OnAssoc z w q s)) h p x y k r traced ok is = go (a.node == p) (is_mark x z && is_mark y w) refl refl
   where
     f : Event
     f = Event.Arrive a (PeerRecord.OnAssoc z w q s)
 
     go : (b c : Bool) → (a.node == p) ≡ b → (is_mark x z && is_mark y w) ≡ c
-        → (slice_get (taken_on x y p h) k ≡ Some r) ⊎ (a' : Addr) × (a'.node ≡ p) × (f ≡ Event.Arrive a' (PeerRecord.OnAssoc x y k r))
+        → (slice_get (accepted_on x y p h) k ≡ Some r) ⊎ (a' : Addr) × (a'.node ≡ p) × (f ≡ Event.Arrive a' (PeerRecord.OnAssoc x y k r))
     go true true b c =
         let one : took_of x y p f ≡ s ∷ [] = grind arith in
         let at : a.node ≡ p = grind (arith, nat_tests) in
@@ -188,8 +188,8 @@ came_by o up (Event.Arrive a (PeerRecord.OnAssoc z w q s)) h p x y k r traced ok
         let my : is_mark y w ≡ true = grind arith in
         let ex = marks_same x z mx in
         let ey = marks_same y w my in
-        let place : length (taken_on x y p h) ≡ q = rw (ex, ey, ← at) (took_place o up h a z w q s traced ok) in
-        elim (get_last (taken_on x y p h) s k r (rw one at is)) [
+        let place : length (accepted_on x y p h) ≡ q = rw (ex, ey, ← at) (took_place o up h a z w q s traced ok) in
+        elim (get_last (accepted_on x y p h) s k r (rw one at is)) [
           | inl i ↦ inl i
           | inr i ↦ inr (a, at, cc (i.0, i.1, place, ex, ey))
         ]
@@ -197,26 +197,26 @@ came_by o up (Event.Arrive a (PeerRecord.OnAssoc z w q s)) h p x y k r traced ok
     go false c b e = let none : took_of x y p f ≡ [] = grind arith in inl (rw (none, append-nil) at is)
 came_by o up e h p x y k r traced ok is = inl (rw append-nil at is)
 
-pub came : (o : Origin) (up : Option Addr) (h : List Entry) (p : ℕ) (x y : Mark) (k : ℕ) (r : DialogueRecord) → IsGrown o up h → slice_get (taken_on x y p h) k ≡ Some r → CameFrom h p x y k r
+pub came : (o : Origin) (up : Option Addr) (h : List Entry) (p : ℕ) (x y : Mark) (k : ℕ) (r : DialogueRecord) → IsGrown o up h → slice_get (accepted_on x y p h) k ≡ Some r → CameFrom h p x y k r
 came o up [] p x y k r legal is = absurd cc
 came o up (e ∷ h) p x y k r legal is =
     go (came_by o up e.event h p x y k r (traced_law o up h legal.3) legal.0 is) (came o up h p x y k r legal.3)
   where
-    go : (slice_get (taken_on x y p h) k ≡ Some r) ⊎ (a : Addr) × (a.node ≡ p) × (e.event ≡ Event.Arrive a (PeerRecord.OnAssoc x y k r))
-        → (slice_get (taken_on x y p h) k ≡ Some r → CameFrom h p x y k r) → CameFrom (e ∷ h) p x y k r
+    go : (slice_get (accepted_on x y p h) k ≡ Some r) ⊎ (a : Addr) × (a.node ≡ p) × (e.event ≡ Event.Arrive a (PeerRecord.OnAssoc x y k r))
+        → (slice_get (accepted_on x y p h) k ≡ Some r → CameFrom h p x y k r) → CameFrom (e ∷ h) p x y k r
     go (inl i) rest = let c = rest i in record { from = c.from; at = c.at; taken = inr c.taken }
     go (inr i) rest = record { from = i.0; at = i.1; taken = inl (ap brought i.2) }
 
 -- ---- both ends
 
-pub prefix_at : (ns : List Node) (fs : List Frame) → IsGood ns fs → (n p : ℕ) (x y : Mark) (k : ℕ) (r : DialogueRecord) → slice_get (taken_on x y p (history_at ns n)) k ≡ Some r
+pub prefix_at : (ns : List Node) (fs : List Frame) → IsGood ns fs → (n p : ℕ) (x y : Mark) (k : ℕ) (r : DialogueRecord) → slice_get (accepted_on x y p (history_at ns n)) k ≡ Some r
     → slice_get (sent_on x y n (history_at ns p)) k ≡ Some r
 prefix_at ns fs good n p x y k r is = go (find_node ns n) refl
   where
     go : (o : Option Node) → find_node ns n ≡ o → slice_get (sent_on x y n (history_at ns p)) k ≡ Some r
-    go None i = let none : slice_get (taken_on x y p []) k ≡ Some r = rw (i, history_at) at is in absurd (cc (none))
+    go None i = let none : slice_get (accepted_on x y p []) k ≡ Some r = rw (i, history_at) at is in absurd (cc (none))
     go (Some v) i =
-        let taken : slice_get (taken_on x y p v.history) k ≡ Some r = rw (i, history_at) at is in
+        let taken : slice_get (accepted_on x y p v.history) k ≡ Some r = rw (i, history_at) at is in
         let c = came v.origin v.superior v.history p x y k r (good.legal n v i) taken in
         let frame = good.taken n v c.from (PeerRecord.OnAssoc x y k r) i c.taken in
         let s = was_sent ns fs c.from n (PeerRecord.OnAssoc x y k r) good.sent frame in
@@ -238,5 +238,5 @@ begins_with (x ∷ xs) (y ∷ ys) h =
 
 -- the records that one end took are the beginning of those that the other end sent
 pub prefix_list : (ns : List Node) (fs : List Frame) → IsGood ns fs → (n p : ℕ) (x y : Mark)
-    → (more : List DialogueRecord) × (sent_on x y n (history_at ns p) ≡ taken_on x y p (history_at ns n) ++ more)
-prefix_list ns fs good n p x y = begins_with (taken_on x y p (history_at ns n)) (sent_on x y n (history_at ns p)) (prefix_at ns fs good n p x y)
+    → (more : List DialogueRecord) × (sent_on x y n (history_at ns p) ≡ accepted_on x y p (history_at ns n) ++ more)
+prefix_list ns fs good n p x y = begins_with (accepted_on x y p (history_at ns n)) (sent_on x y n (history_at ns p)) (prefix_at ns fs good n p x y)

@@ -17,10 +17,10 @@ use Rattle.tp_model.specs.World.{Node, Frame, number_of, find_node, put_node}
 use Rattle.tp_model.specs.Happenings.{Happening, run}
 use Rattle.tp_model.specs.Legal.{IsGrown}
 use Rattle.tp_steps.specs.Histories.{brought}
-use Rattle.tp_histories.specs.Histories.{HasSent, HasTaken}
+use Rattle.tp_histories.specs.Histories.{HasSent, HasBrought}
 use Rattle.tp_histories.specs.Worlds.{place, IsGood, grown_node, Comes}
 use Rattle.tp_steps.specs.Traces.{took_of, is_old}
-use Rattle.tp_histories.specs.Traces.{taken_on}
+use Rattle.tp_histories.specs.Traces.{accepted_on}
 use Rattle.tp_histories.specs.Members.{is_begun_by, has_taken_begin, is_own, is_known, IsOnce, Drawer, IsUnique}
 use Rattle.tp_histories.proofs.worlds.Nodes.{find_put, find_append, place_put, place_append}
 use Rattle.tp_steps.proofs.links.Links.{mark_same}
@@ -54,23 +54,23 @@ took_itself : (c : Addr) (x y : Mark) (q : ℕ) (r : DialogueRecord) → took_of
 took_itself c x y q r = grind (arith, nat_tests, mark_same x, mark_same y)
 
 -- a record that was taken stands among those
-pub taken_below : (o : Origin) (up : Option Addr) (h : List Entry) (c : Addr) (x y : Mark) (q : ℕ) (r : DialogueRecord) → IsGrown o up h → TookOn h c x y q r → suc q ≤ length (taken_on x y c.node h)
+pub taken_below : (o : Origin) (up : Option Addr) (h : List Entry) (c : Addr) (x y : Mark) (q : ℕ) (r : DialogueRecord) → IsGrown o up h → TookOn h c x y q r → suc q ≤ length (accepted_on x y c.node h)
 taken_below o up [] c x y q r legal t = absurd t
 taken_below o up (e ∷ h) c x y q r legal (inr t) =
     let old = taken_below o up h c x y q r legal.3 t in
-    let sum = length-append (taken_on x y c.node h) (took_of x y c.node e.event) in
-    longer q (length (taken_on x y c.node h)) (length (took_of x y c.node e.event)) (length (taken_on x y c.node h ++ took_of x y c.node e.event)) old sum
+    let sum = length-append (accepted_on x y c.node h) (took_of x y c.node e.event) in
+    longer q (length (accepted_on x y c.node h)) (length (took_of x y c.node e.event)) (length (accepted_on x y c.node h ++ took_of x y c.node e.event)) old sum
 taken_below o up (e ∷ h) c x y q r legal (inl i) =
     let d : Digest = digest o h in
     let f : Event = Event.Arrive c (PeerRecord.OnAssoc x y q r) in
     let ok : refusal o.who d f ≡ None = subst (λ (g : Event). refusal o.who d g ≡ None) i legal.0 in
     let place = took_place o up h c x y q r (traced_law o up h legal.3) ok in
     let took : took_of x y c.node e.event ≡ r ∷ [] = ap (took_of x y c.node) i ∙ took_itself c x y q r in
-    let sum : length (taken_on x y c.node h ++ took_of x y c.node e.event) ≡ length (taken_on x y c.node h) + 1 =
-    length-append (taken_on x y c.node h) (took_of x y c.node e.event) ∙ ap (λ (rs : List DialogueRecord). length (taken_on x y c.node h) + length rs) took in
-    exactly q (length (taken_on x y c.node h)) (length (taken_on x y c.node h ++ took_of x y c.node e.event)) place sum
+    let sum : length (accepted_on x y c.node h ++ took_of x y c.node e.event) ≡ length (accepted_on x y c.node h) + 1 =
+    length-append (accepted_on x y c.node h) (took_of x y c.node e.event) ∙ ap (λ (rs : List DialogueRecord). length (accepted_on x y c.node h) + length rs) took in
+    exactly q (length (accepted_on x y c.node h)) (length (accepted_on x y c.node h ++ took_of x y c.node e.event)) place sum
 
-pub took_has : (h : List Entry) (c : Addr) (x y : Mark) (q : ℕ) (r : DialogueRecord) → TookOn h c x y q r → HasTaken h c (PeerRecord.OnAssoc x y q r)
+pub took_has : (h : List Entry) (c : Addr) (x y : Mark) (q : ℕ) (r : DialogueRecord) → TookOn h c x y q r → HasBrought h c (PeerRecord.OnAssoc x y q r)
 took_has [] c x y q r t = t
 took_has (e ∷ h) c x y q r (inl i) = inl (ap brought i)
 took_has (e ∷ h) c x y q r (inr t) = inr (took_has h c x y q r t)
@@ -278,8 +278,8 @@ unique_event ns fs x e st p = record {
         let below = taken_below o x.superior x.history b.from b.x b.y b.seq (DialogueRecord.Begin t b.id b.holder) legal b.took in
         let ok : refusal o.who d (Event.Arrive n.from (PeerRecord.OnAssoc n.x n.y n.seq (DialogueRecord.Begin t n.id n.holder))) ≡ None = subst (λ (f : Event). refusal o.who d f ≡ None) n.is st.accepts.ok in
         let place_now = took_place o x.superior x.history n.from n.x n.y n.seq (DialogueRecord.Begin t n.id n.holder) (traced_law o x.superior x.history legal) ok in
-        let lengths : length (taken_on b.x b.y b.from.node x.history) ≡ length (taken_on n.x n.y n.from.node x.history) = rw (same.0, same.1, from) refl in
-        absurd (no_place n.seq b.seq (length (taken_on b.x b.y b.from.node x.history)) (length (taken_on n.x n.y n.from.node x.history)) below place_now lengths same.2)
+        let lengths : length (accepted_on b.x b.y b.from.node x.history) ≡ length (accepted_on n.x n.y n.from.node x.history) = rw (same.0, same.1, from) refl in
+        absurd (no_place n.seq b.seq (length (accepted_on b.x b.y b.from.node x.history)) (length (accepted_on n.x n.y n.from.node x.history)) below place_now lengths same.2)
 
     once_now : IsOnce o y.history
     once_now = (λ t i. let n = enters o x.superior x.history e t legal st.accepts.ok i in (foreign t n (is_own o.who t) refl, untaken t n (has_taken_begin t x.history) refl), p.once (number_of x) x st.accepts.here)

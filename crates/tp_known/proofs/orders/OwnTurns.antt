@@ -1,9 +1,9 @@
 -- What an event of a transaction makes of the node's own report: it stays, and so does whether the transaction rolls; or it
 -- rolls from now on, and the report is damage if the turn logs one.
-use Rattle.tp_known.proofs.Vocabulary.{if◌then◌else◌, ◌≡◌, ◌⊎◌, inl, ℕ, Bool, true, false, refl, ap, sym, subst, ◌∙◌, arith, Option, Some, None, List, [], ◌∷◌, ◌||◌, false_from_ne_true, Report, Indication, DialogueRecord, LogRec, Phase, TxEvent, TxOut, Current, is_nil, is_active, is_ready, is_rolling, Row, Transaction, Turn, turn, and_then, before, with_row, with_branch, with_arc_lost, all_done, complete_commit, complete_rollback, begin_rolling, order, ask_commit, leave, count_branch, end_branch, branch_left, retried, remaining, is_damage_rec, falls, vote, decide, row_dead, shut_given_up, TurnSteps}
+use Rattle.tp_known.proofs.Vocabulary.{if◌then◌else◌, ◌≡◌, ◌⊎◌, inl, ℕ, Bool, true, false, refl, ap, sym, subst, ◌∙◌, arith, Option, Some, None, List, [], ◌∷◌, ◌||◌, false_from_ne_true, Report, Indication, DialogueRecord, LogRec, Phase, TxEvent, TxOut, Current, is_nil, is_active, is_ready, is_rolling, Row, Transaction, Turn, turn, and_then, before, with_row, with_branch, with_arc_lost, all_done, complete_commit, complete_rollback, begin_rolling, order, ask_commit, leave, count_branch, end_branch, branch_left, retried, remaining, falls, vote, decide, row_dead, shut_given_up, TurnSteps, is_damage}
 
 abbrev pub damages : Option LogRec → Bool
-damages r = elim r as (λ _. Bool) [ None ↦ false | Some x ↦ is_damage_rec x ]
+damages r = elim r as (λ _. Bool) [ None ↦ false | Some x ↦ is_damage x ]
 
 -- ---- a step: the report and whether it rolls stay, or it rolls from now on
 

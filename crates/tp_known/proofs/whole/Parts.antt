@@ -1,5 +1,5 @@
 -- The parts of what is known, together, are the whole.
-use Rattle.tp_known.proofs.Vocabulary.{◌≡◌, Bool, true, refl, arith, Option, Some, None, List, [], ◌∷◌, ◌&&◌, ◌||◌, not, NodeKey, is_addr_option, is_outcome, rank, has_bit, Origin, Entry, Arc, Current, is_live, is_idle, node_key, superior_of, digest, link_in, holds_in, awaits_in, due_in, deferral_in, rests_in, phase_in, superior_for, branches_in, told_prepare_in, asked_in, superior_rolled_in, owes_in, decision_for, own_in, same_link, same_bool, same_list, same_option, same_child, number_of_phase, number_of_due, number_of_deferral, agrees_arc, agrees_arcs, agrees_branches, agrees_current, agrees, declared_agrees, superior_agrees, boot_agrees, all_arcs, known_agrees, drawn_agrees, kept_agrees, phase_agrees, key_agrees, above_agrees, branches_agree, asked_agrees, links_agree, order_agrees, control_agrees, awaits_agrees, due_agrees, deferral_agrees, rests_agrees, marks_agree, told_prepare_agrees, owes_agrees, superior_rolled_agrees, decision_agrees, own_agrees, node_agrees, arcs_agree, current_agrees, agrees_in_parts, both_true, all_children}
+use Rattle.tp_known.proofs.Vocabulary.{◌≡◌, Bool, true, refl, arith, Option, Some, None, List, [], ◌∷◌, ◌&&◌, ◌||◌, not, NodeKey, is_addr_option, is_outcome, rank, has_bit, Origin, Entry, Arc, Current, is_live, is_idle, node_key, superior_of, digest, link_in, holds_in, awaits_in, due_in, deferral_in, rests_in, phase_in, superior_for, branches_in, told_prepare_in, asked_in, superior_rolled_in, owes_in, decision_for, own_in, same_link, same_bool, same_list, same_option, number_of_phase, number_of_due, number_of_deferral, agrees_arc, agrees_arcs, agrees_branches, agrees_current, agrees, declared_agrees, superior_agrees, boot_agrees, all_arcs, known_agrees, drawn_agrees, kept_agrees, phase_agrees, key_agrees, above_agrees, branches_agree, asked_agrees, links_agree, order_agrees, control_agrees, awaits_agrees, due_agrees, deferral_agrees, rests_agrees, marks_agree, told_prepare_agrees, owes_agrees, superior_rolled_agrees, decision_agrees, own_agrees, node_agrees, arcs_agree, current_agrees, agrees_in_parts, both_true, all_children, is_child}
 use Rattle.std.specs.Prelude.{◌==◌}
 
 -- seven tests of all arcs are one
@@ -66,7 +66,7 @@ of_now v f = elim v [ None ↦ true | Some c ↦ f (node_key c.key) c ]
 all_now : (o : Origin) (h : List Entry) (v : Option Current)
     → of_now v (λ k c. number_of_phase c.phase == number_of_phase (phase_in o k h)) ≡ true
     → of_now v (λ k c. is_addr_option (superior_of c.key) (superior_for o k h)) ≡ true
-    → of_now v (λ k c. same_list same_child (all_children c.branches) (branches_in o k h)) ≡ true
+    → of_now v (λ k c. same_list is_child (all_children c.branches) (branches_in o k h)) ≡ true
     → of_now v (λ k c. agrees_branches o k h c.branches) ≡ true
     → of_now v (λ k c. same_bool c.told_prepare (told_prepare_in o k h)) ≡ true
     → of_now v (λ k c. same_bool c.asked (asked_in o k h)) ≡ true

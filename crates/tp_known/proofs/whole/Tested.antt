@@ -24,7 +24,8 @@ use Rattle.tp_model.specs.History.{digest}
 use Rattle.tp_model.specs.Questions.{declared_in, superior_in, boot_in, link_in, holds_in, awaits_in, due_in, deferral_in, rests_in, drawn_in}
 use Rattle.tp_model.specs.Keys.{phase_in, superior_for, branches_in, prepared_in, counted_in, left_in, given_up_in, ended_in, told_prepare_in, asked_in, superior_rolled_in, owes_in, decision_for, own_in, kept_in, known_in}
 use Rattle.tp_model.specs.Consistency.{IsKnown, IsKnownArc, IsKnownDialogue, IsKnownBranch, IsKnownCurrent, peers_in, not_idle, report_of, is_current, all_children, peers_below}
-use Rattle.tp_histories.specs.KnownTests.{same_bool, same_list, same_option, number_of_phase, number_of_deferral, number_of_due, same_link, same_child, same_kept, agrees_live, agrees_arc, agrees_arcs, is_number, agrees_up, agrees_order, agrees_branch, agrees_branches, agrees_current, is_quiet, others_quiet, agrees_transactions, agrees}
+use Rattle.tp_histories.specs.KnownTests.{same_bool, same_list, same_option, number_of_phase, number_of_deferral, number_of_due, same_link, same_kept, agrees_live, agrees_arc, agrees_arcs, is_number, agrees_up, agrees_order, agrees_branch, agrees_branches, agrees_current, is_quiet, others_quiet, agrees_transactions, agrees}
+use Rattle.tp_logrec.specs.Order.{is_child}
 use Rattle.tp_steps.proofs.lemmas.Equality.{and_left, and_right, addrs_equal, branches_equal}
 use Rattle.tp_steps.proofs.every.Preludes.{marks_same}
 use Rattle.tp_steps.proofs.log.ApartLog.{keys_equal}
@@ -91,7 +92,7 @@ link_equal _ _ h = absurd cc
 child_made : (a b : Addr) (c d : _) → a ≡ b → c ≡ d → ◌≡◌ {A = Child} (record { addr = a; branch = c }) (record { addr = b; branch = d })
 child_made a b c d e f = rw (e, f) refl
 
-child_equal : (a b : Child) → same_child a b ≡ true → a ≡ b
+child_equal : (a b : Child) → is_child a b ≡ true → a ≡ b
 child_equal a b h =
     child_made a.addr b.addr a.branch b.branch
     (addrs_equal a.addr b.addr (and_left (is_addr a.addr b.addr) (is_branch a.branch b.branch) h))
@@ -124,9 +125,9 @@ seven a b c d e f g h = (grind (arith, h), grind (arith, h), grind (arith, h), g
 
 kept_equal : (a b : Kept) → same_kept a b ≡ true → a ≡ b
 kept_equal a b h =
-    let p = seven (a.node == b.node) (is_key a.key b.key) (is_addr_option a.superior b.superior) (is_outcome a.side b.side) (rank a.report == rank b.report) (same_list same_child a.owed b.owed) (same_bool a.forgot b.forgot) h in
+    let p = seven (a.node == b.node) (is_key a.key b.key) (is_addr_option a.superior b.superior) (is_outcome a.side b.side) (rank a.report == rank b.report) (same_list is_child a.owed b.owed) (same_bool a.forgot b.forgot) h in
     kept_made a b (number_equal a.node b.node p.0) (keys_equal a.key b.key p.1) (addr_equal a.superior b.superior p.2) (outcome_equal a.side b.side p.3) (report_equal a.report b.report p.4)
-    (list_equal same_child child_equal a.owed b.owed p.5) (bool_equal a.forgot b.forgot p.6)
+    (list_equal is_child child_equal a.owed b.owed p.5) (bool_equal a.forgot b.forgot p.6)
 
 -- ---- arcs
 
@@ -214,11 +215,11 @@ ten a b c d e f g p q r h =
 current_known : (o : Origin) (h : List Entry) (c : Current) → agrees_current o (node_key c.key) h c ≡ true → IsKnownCurrent o h c
 current_known o h c i =
     let k : NodeKey = node_key c.key in
-    let p = ten (number_of_phase c.phase == number_of_phase (phase_in o k h)) (is_addr_option (superior_of c.key) (superior_for o k h)) (same_list same_child (all_children c.branches) (branches_in o k h)) (agrees_branches o k h c.branches) (same_bool c.told_prepare (told_prepare_in o k h)) (same_bool c.asked (asked_in o k h)) (same_bool c.owes (owes_in o k h)) (same_bool c.superior_rolled (superior_rolled_in o k h)) (same_option is_outcome c.decision (decision_for o k h)) (rank c.own == rank (own_in o k h)) i in
+    let p = ten (number_of_phase c.phase == number_of_phase (phase_in o k h)) (is_addr_option (superior_of c.key) (superior_for o k h)) (same_list is_child (all_children c.branches) (branches_in o k h)) (agrees_branches o k h c.branches) (same_bool c.told_prepare (told_prepare_in o k h)) (same_bool c.asked (asked_in o k h)) (same_bool c.owes (owes_in o k h)) (same_bool c.superior_rolled (superior_rolled_in o k h)) (same_option is_outcome c.decision (decision_for o k h)) (rank c.own == rank (own_in o k h)) i in
     record {
       phase = phase_equal c.phase (phase_in o k h) p.0.0;
       superior = addr_equal (superior_of c.key) (superior_for o k h) p.0.1;
-      children = list_equal same_child child_equal (all_children c.branches) (branches_in o k h) p.0.2;
+      children = list_equal is_child child_equal (all_children c.branches) (branches_in o k h) p.0.2;
       branches = branches_known o k h c.branches p.0.3;
       told_prepare = bool_equal c.told_prepare (told_prepare_in o k h) p.0.4;
       asked = bool_equal c.asked (asked_in o k h) p.1.0;

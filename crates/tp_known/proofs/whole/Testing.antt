@@ -22,7 +22,8 @@ use Rattle.tp_model.specs.History.{digest}
 use Rattle.tp_model.specs.Questions.{declared_in, superior_in, boot_in, link_in, holds_in, awaits_in, due_in, deferral_in, rests_in, drawn_in}
 use Rattle.tp_model.specs.Keys.{phase_in, superior_for, branches_in, prepared_in, counted_in, left_in, given_up_in, ended_in, told_prepare_in, asked_in, superior_rolled_in, owes_in, decision_for, own_in, kept_in, known_in, begun_key}
 use Rattle.tp_model.specs.Consistency.{IsKnown, IsKnownArc, IsKnownDialogue, IsKnownBranch, IsKnownCurrent, peers_below, peers_in, not_idle, all_children, report_of, is_current}
-use Rattle.tp_histories.specs.KnownTests.{same_bool, same_list, same_option, number_of_phase, number_of_deferral, number_of_due, same_link, same_child, same_kept, agrees_live, agrees_arc, agrees_arcs, is_number, agrees_up, agrees_order, agrees_branch, agrees_branches, agrees_current, is_quiet, key_logged, others_quiet, agrees_transactions, agrees}
+use Rattle.tp_histories.specs.KnownTests.{same_bool, same_list, same_option, number_of_phase, number_of_deferral, number_of_due, same_link, same_kept, agrees_live, agrees_arc, agrees_arcs, is_number, agrees_up, agrees_order, agrees_branch, agrees_branches, agrees_current, is_quiet, key_logged, others_quiet, agrees_transactions, agrees}
+use Rattle.tp_logrec.specs.Order.{is_child}
 use Rattle.tp_steps.proofs.lemmas.Equality.{both_true}
 
 -- ---- each test of equality, of a thing with itself
@@ -48,7 +49,7 @@ link_self (Opening x) = mark_self x
 link_self (Offered x) = mark_self x
 link_self (Live x y s t) = rw (mark_self x, mark_self y, number_self s, number_self t) refl
 
-child_self : (c : Child) → same_child c c ≡ true
+child_self : (c : Child) → is_child c c ≡ true
 child_self c = both_true _ _ (addr_self (Some c.addr)) (branch_self c.branch)
 
 list_self : {X : Type 0} (f : X → X → Bool) → ((x : X) → f x x ≡ true) → (xs : List X) → same_list f xs xs ≡ true
@@ -60,7 +61,7 @@ option_self f one None = refl
 option_self f one (Some x) = one x
 
 kept_self : (k : Kept) → same_kept k k ≡ true
-kept_self k = rw (number_self k.node, key_self k.key, addr_self k.superior, outcome_self k.side, number_self (rank k.report), list_self same_child child_self k.owed, bool_self k.forgot) refl
+kept_self k = rw (number_self k.node, key_self k.key, addr_self k.superior, outcome_self k.side, number_self (rank k.report), list_self is_child child_self k.owed, bool_self k.forgot) refl
 
 -- of two things that are equal
 same : {X : Type 0} (f : X → X → Bool) → ((x : X) → f x x ≡ true) → (x y : X) → x ≡ y → f x y ≡ true
@@ -139,12 +140,12 @@ branches_tested o k h (b ∷ bs) x =
 
 current_tested : (o : Origin) (h : List Entry) (c : Current) → IsKnownCurrent o h c → agrees_current o (node_key c.key) h c ≡ true
 current_tested o h c x =
-    ten (number_of_phase c.phase == number_of_phase (phase_in o k h)) (is_addr_option (superior_of c.key) (superior_for o k h)) (same_list same_child (all_children c.branches) (branches_in o k h)) (agrees_branches o k h c.branches)
+    ten (number_of_phase c.phase == number_of_phase (phase_in o k h)) (is_addr_option (superior_of c.key) (superior_for o k h)) (same_list is_child (all_children c.branches) (branches_in o k h)) (agrees_branches o k h c.branches)
     (same_bool c.told_prepare (told_prepare_in o k h)) (same_bool c.asked (asked_in o k h)) (same_bool c.owes (owes_in o k h)) (same_bool c.superior_rolled (superior_rolled_in o k h))
     (same_option is_outcome c.decision (decision_for o k h)) (rank c.own == rank (own_in o k h))
     (same (λ p q. number_of_phase p == number_of_phase q) (λ p. number_self (number_of_phase p)) c.phase (phase_in o k h) x.phase)
     (same is_addr_option addr_self (superior_of c.key) (superior_for o k h) x.superior)
-    (same (same_list same_child) (list_self same_child child_self) (all_children c.branches) (branches_in o k h) x.children)
+    (same (same_list is_child) (list_self is_child child_self) (all_children c.branches) (branches_in o k h) x.children)
     (branches_tested o k h c.branches x.branches)
     (same same_bool bool_self c.told_prepare (told_prepare_in o k h) x.told_prepare)
     (same same_bool bool_self c.asked (asked_in o k h) x.asked)

@@ -8,8 +8,8 @@ use Rattle.tp_model.specs.declared.arc.Phase.{Phase}
 use Rattle.tp_model.specs.declared.transaction.TxOut.{TxOut}
 use Rattle.tp_model.specs.Dialogues.{is_active, is_ready}
 use Rattle.tp_model.specs.Transactions.{Row, Transaction, find_row, put_row, with_row, with_arc_lost, child_of, children_of, carry_up, carry_down, forgets, done_up, ends_down, end_up, prepare_each, ask_each}
+use Rattle.tp_model.specs.Questions.{is_begin}
 use Rattle.tp_steps.specs.Turns.{row_dead}
-use Rattle.tp_steps.specs.Facts.{is_begin}
 use Rattle.tp_steps.specs.Passages.{begins_none, asks_tell, may_move}
 use Rattle.tp_steps.proofs.words.Fair.{row_is, row_key}
 use Rattle.tp_steps.proofs.lemmas.Joined.{IsJoined, joined_up, joined_down, joined_prepare, joined_forgets, joined_ask, joined_ends, joined_end_up, joined_done}

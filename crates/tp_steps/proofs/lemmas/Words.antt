@@ -7,8 +7,9 @@ use Rattle.tp_logrec.specs.declared.record.LogRec.{LogRec}
 use Rattle.tp_model.specs.declared.transaction.TxOut.{TxOut}
 use Rattle.tp_model.specs.History.{with_rec}
 use Rattle.tp_model.specs.Outcomes.{has_commit_of}
+use Rattle.tp_model.specs.Questions.{is_begin}
 use Rattle.tp_steps.specs.Clearing.{damages_tree, has_damage}
-use Rattle.tp_steps.specs.Facts.{spoken, stays, is_begin, is_vote, is_end, ends, ends_in, none_of, BranchKey, begun_keys, begins_by, last_from, each_under, each_vote, has_ready_of, is_voted, is_ordered}
+use Rattle.tp_steps.specs.Facts.{spoken, stays, is_vote, is_end, ends, ends_in, none_of, BranchKey, begun_keys, begins_by, last_from, each_under, each_vote, has_ready_of, is_voted, is_ordered}
 
 -- ---- outputs
 

@@ -9,7 +9,8 @@ use Rattle.tp_model.specs.Parts.{Key, Under}
 use Rattle.tp_model.specs.Dialogues.{is_nil}
 use Rattle.tp_model.specs.Transactions.{Row, Transaction, Turn, turn, aaid_of, is_under_at, find_row, put_row, with_row, part_by_part}
 use Rattle.tp_model.specs.History.{with_rec}
-use Rattle.tp_steps.specs.Facts.{spoken, stays, is_begin, is_order, is_rollback, ends_in, none_of, BranchKey, last_from, each_under, each_vote, is_voted, is_ordered, is_rolled, under_now, is_open, open_now, id_at, sees_row, sees, closes, HasPlace, Knows, SameKey, Facts, IsFair}
+use Rattle.tp_model.specs.Questions.{is_begin}
+use Rattle.tp_steps.specs.Facts.{spoken, stays, is_order, is_rollback, ends_in, none_of, BranchKey, last_from, each_under, each_vote, is_voted, is_ordered, is_rolled, under_now, is_open, open_now, id_at, sees_row, sees, closes, HasPlace, Knows, SameKey, Facts, IsFair}
 use Rattle.tp_steps.proofs.lemmas.Words.{spoken_append, stays_append, dead_spoken, dead_stays, ends_append, none_append, under_append, under_weaker, vote_append, vote_weaker, none_last, ordered_more, voted_more, both}
 
 -- ---- numbers

@@ -17,8 +17,9 @@ use Rattle.tp_model.specs.Parts.{Key, Root, Under, Branch}
 use Rattle.tp_model.specs.Dialogues.{is_nil, is_active, is_committing, is_rolling}
 use Rattle.tp_model.specs.Transactions.{Row, Transaction, turn, and_then, aaid_of, is_under_at, find_row, find_row_by_id, with_row, with_arc_lost, carry_up, carry_down, tell_report, log_ready, log_commit, rollback_rec, begin_rolling, order, all_prepared, ask_commit, count_branch, end_branch, branch_left, retried, is_open_in_commit, transacted}
 use Rattle.tp_model.specs.History.{with_rec}
+use Rattle.tp_model.specs.Questions.{is_begin}
 use Rattle.tp_steps.specs.Turns.{Turns, falls, loses, is_left_word, vote, decide, shut_given_up, row_dead}
-use Rattle.tp_steps.specs.Facts.{spoken, stays, is_begin, is_vote, is_order, is_rollback, is_end, ends_in_phase, none_of, BranchKey, each_under, each_vote, is_voted, is_ordered, is_rolled, open_now, sees_row, sees, closes, HasPlace, Knows, IsFair}
+use Rattle.tp_steps.specs.Facts.{spoken, stays, is_vote, is_order, is_rollback, is_end, ends_in_phase, none_of, BranchKey, each_under, each_vote, is_voted, is_ordered, is_rolled, open_now, sees_row, sees, closes, HasPlace, Knows, IsFair}
 use Rattle.tp_steps.proofs.lemmas.Words.{spoken_append, stays_append, none_append, none_under, none_vote, none_ends, under_const, both}
 use Rattle.tp_steps.proofs.every.EveryTurn.{every_turn}
 use Rattle.tp_steps.specs.Moves.{IsPut}

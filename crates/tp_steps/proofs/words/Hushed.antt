@@ -12,9 +12,9 @@ use Rattle.tp_model.specs.Arcs.{link_with}
 use Rattle.tp_model.specs.Recovery.{settled}
 use Rattle.tp_model.specs.History.{with_rec}
 use Rattle.tp_model.specs.Node.{Move, followed, perform, keep}
-use Rattle.tp_model.specs.Questions.{said_to}
+use Rattle.tp_model.specs.Questions.{is_begin, said_to}
 use Rattle.tp_steps.specs.Moves.{are_spoken}
-use Rattle.tp_steps.specs.Facts.{only_words, spoken, stays, is_begin, is_order, is_rollback, ends_in, none_of, BranchKey, begun_keys, last_from, each_under, each_vote, is_voted, is_ordered, is_rolled, under_at, open_at, key_at, HasPlaceAt, KnowsAt, words_to, IsHeard}
+use Rattle.tp_steps.specs.Facts.{only_words, spoken, stays, is_order, is_rollback, ends_in, none_of, BranchKey, begun_keys, last_from, each_under, each_vote, is_voted, is_ordered, is_rolled, under_at, open_at, key_at, HasPlaceAt, KnowsAt, words_to, IsHeard}
 use Rattle.tp_steps.proofs.links.Links.{said_append}
 use Rattle.tp_steps.proofs.links.Apart.{apart_spoken}
 use Rattle.tp_steps.proofs.lemmas.Words.{dead_stays, ends_append, none_append, last_append, keys_append, under_append, under_weaker, vote_append, vote_weaker, none_last, ordered_more, voted_more, both}

@@ -17,8 +17,9 @@ use Rattle.tp_model.specs.declared.transaction.TxEvent.{TxEvent}
 use Rattle.tp_model.specs.declared.transaction.TxOut.{TxOut}
 use Rattle.tp_model.specs.Dialogues.{is_nil, is_active, is_committing, is_rolling}
 use Rattle.tp_model.specs.Transactions.{Row, Transaction, Turn, turn, aaid_of, is_under_at, find_row, all_done, all_rolled_back, all_left, carry_up, carry_down, forgets, done_up, ends_down, end_up, reports_of, own_damage, log_end, log_damage, owed_of, complete_commit, complete_rollback, prepare_each, all_prepared, leave, ask_each, retried, completion_of}
+use Rattle.tp_model.specs.Questions.{is_begin}
 use Rattle.tp_steps.specs.Moves.{is_word}
-use Rattle.tp_steps.specs.Facts.{spoken, stays, is_begin, is_vote, is_order, is_rollback, is_end, none_of, open_now, id_at, sees_row, sees, Facts, IsFair}
+use Rattle.tp_steps.specs.Facts.{spoken, stays, is_vote, is_order, is_rollback, is_end, none_of, open_now, id_at, sees_row, sees, Facts, IsFair}
 use Rattle.tp_steps.proofs.lemmas.Words.{spoken_append}
 use Rattle.tp_steps.proofs.words.Fair.{fair_outs, row_id, row_open, open_is}
 
