@@ -39,6 +39,20 @@ decimal_more n small large =
     ∙ decimal_from_prepends prepended prepends n (n / 10) ((48 + n % 10) ∷ []) front (omega (arith, length-decimal-le_succ (n / 10) front))
     ∙ ap (λ (t : List ℕ). t ++ (48 + n % 10) ∷ []) (decimal_same (n / 10) front)
 
+pub decimal_two : (n : ℕ) → 10 ≤ n → n < 100 → decimal n ≡ (48 + n / 10) ∷ (48 + n % 10) ∷ []
+decimal_two n large small =
+    decimal_more n (omega (arith, small)) large ∙ ap (λ (t : List ℕ). t ++ (48 + n % 10) ∷ []) (decimal_one (n / 10) (omega (arith, small)))
+
+pub decimal_three : (n : ℕ) → 100 ≤ n → n < 1000 → decimal n ≡ (48 + n / 10 / 10) ∷ (48 + n / 10 % 10) ∷ (48 + n % 10) ∷ []
+decimal_three n large small =
+    decimal_more n (omega (arith, small)) (omega (arith, large))
+    ∙ ap (λ (t : List ℕ). t ++ (48 + n % 10) ∷ []) (decimal_two (n / 10) (omega (arith, large)) (omega (arith, small)))
+
+pub decimal_four : (n : ℕ) → 1000 ≤ n → n < 10000 → decimal n ≡ (48 + n / 10 / 10 / 10) ∷ (48 + n / 10 / 10 % 10) ∷ (48 + n / 10 % 10) ∷ (48 + n % 10) ∷ []
+decimal_four n large small =
+    decimal_more n (omega (arith, small)) (omega (arith, large))
+    ∙ ap (λ (t : List ℕ). t ++ (48 + n % 10) ∷ []) (decimal_three (n / 10) (omega (arith, large)) (omega (arith, small)))
+
 -- ---- octets
 
 abbrev agrees : ℕ → Bool

@@ -1,5 +1,5 @@
 //! Numbers and octets as digits, and letters for units.
-ghost use Rattle.std.specs.Prelude.{◌≡◌, ◌++◌, ◌∷◌, [], OnErr, OnOk};
+ghost use Rattle.std.specs.Prelude.{◌≡◌, ◌<◌, ◌≤◌, ◌+◌, ◌++◌, ◌∷◌, [], OnErr, OnOk};
 ghost use Rattle.tp_names.specs.Writing.{Keeps};
 ghost use Rattle.tp_model.specs.Words.{decimal, hex, octets_word, mark_word, letters_of, units_word};
 ghost use Rattle.tp_model.specs.OutText.{numbers_word};
@@ -18,24 +18,73 @@ pub(crate) const UNIT_LETTERS: [(u8, u8); 6] = [
     (32, b'u'),
 ];
 
-/// The first number that takes a buffer for its digits; a shorter one is written digit by digit.
-const LONG: u64 = 100_000;
-
-/// A number in decimal.
+/// A number in decimal. Of a short one each digit is known, and a buffer is taken for the digits of a long one alone.
 #[tactic(auto, using(crate::proofs::KitText::decimal_one))]
 pub(crate) fn write_decimal(alloc: Global, n: u64, out: &mut Octets) -> Result<(), NoMemory>
     ensures ok { OnOk result (out.new ≡ out.old ++ decimal n) }
     ensures err { OnErr result (Keeps out.old out.new) }
 {
     if n < 10 {
-        return out.push(alloc, b'0' + n as u8);
+        return out.push(alloc, digit(n));
     }
-    if n >= LONG {
-        return write_long(alloc, n, out);
+    if n < 100 {
+        return write_two_digits(alloc, n, out);
     }
-    write_decimal(alloc, n / 10, out)?;
-    out.push(alloc, b'0' + (n % 10) as u8)?;
-    Ok(())
+    if n < 1000 {
+        return write_three_digits(alloc, n, out);
+    }
+    if n < 10_000 {
+        return write_four_digits(alloc, n, out);
+    }
+    write_long(alloc, n, out)
+}
+
+fn digit(n: u64) -> u8
+    requires { n < 10 }
+    ensures { result ≡ 48 + n }
+{
+    b'0' + n as u8
+}
+
+#[tactic(auto, using(crate::proofs::KitText::decimal_two))]
+fn write_two_digits(alloc: Global, n: u64, out: &mut Octets) -> Result<(), NoMemory>
+    requires least { 10 ≤ n }
+    requires most { n < 100 }
+    ensures ok { OnOk result (out.new ≡ out.old ++ decimal n) }
+    ensures err { OnErr result (Keeps out.old out.new) }
+{
+    out.extend_from_slice(alloc, &[digit(n / 10), digit(n % 10)])
+}
+
+#[tactic(auto, using(crate::proofs::KitText::decimal_three))]
+fn write_three_digits(alloc: Global, n: u64, out: &mut Octets) -> Result<(), NoMemory>
+    requires least { 100 ≤ n }
+    requires most { n < 1000 }
+    ensures ok { OnOk result (out.new ≡ out.old ++ decimal n) }
+    ensures err { OnErr result (Keeps out.old out.new) }
+{
+    let tens = n / 10;
+    out.extend_from_slice(alloc, &[digit(tens / 10), digit(tens % 10), digit(n % 10)])
+}
+
+#[tactic(auto, using(crate::proofs::KitText::decimal_four))]
+fn write_four_digits(alloc: Global, n: u64, out: &mut Octets) -> Result<(), NoMemory>
+    requires least { 1000 ≤ n }
+    requires most { n < 10000 }
+    ensures ok { OnOk result (out.new ≡ out.old ++ decimal n) }
+    ensures err { OnErr result (Keeps out.old out.new) }
+{
+    let tens = n / 10;
+    let hundreds = tens / 10;
+    out.extend_from_slice(
+        alloc,
+        &[
+            digit(hundreds / 10),
+            digit(hundreds % 10),
+            digit(tens % 10),
+            digit(n % 10),
+        ],
+    )
 }
 
 #[tactic(auto, using(crate::proofs::KitText::decimal_same))]
