@@ -6,6 +6,8 @@ use Rattle.std.specs.Prelude.{◌&&◌, ◌||◌, nat_le, if◌then◌else◌, r
 use Rattle.hex.specs.Hex.{hex_digit_value, digit_or_error, decode_pairs, decode_of, ◌>>=◌}
 use Rattle.hex.specs.declared.error.FromHexError.{FromHexError}
 use Rattle.hex.specs.declared.error.FromHexError.TheVariants.{OddLength}
+use Rattle.tp_names.specs.Same.{is_name}
+use Rattle.tp_names.proofs.Sames.{name_same}
 use Rattle.tp_model.specs.LineReading.{Form, Wrong, Outside, Well, is_digit, value_from, hex_value, pair_value, octet_before, hex_octets, one_octet, fill, form_of, run_octets, number_in, with, both, units_from}
 use Rattle.tp_schedule.specs.Answers.{read_as, Reads, pair, capped, has_capital, few_of, hex_fault}
 use Rattle.tp_schedule.specs.declared.line_fault.LineFault.{LineFault}
@@ -176,3 +178,18 @@ run_form [] t long is = absurd (omega arith)
 run_form (h ∷ []) t long is = absurd (omega arith)
 run_form (h ∷ l ∷ []) t long is = absurd (omega arith)
 run_form (h ∷ l ∷ s ∷ w) t long is = rw is (run_of (pair_value (hex_value h) (hex_value l)) (number_in 1 2000 w))
+
+-- ---- words
+
+other_name : (xs ys : List ℕ) → (xs ≡ ys → ⊥) → is_name xs ys ≡ false
+other_name xs ys other = go (is_name xs ys) refl
+  where
+    go : (b : Bool) → is_name xs ys ≡ b → b ≡ false
+    go true is = absurd (other (name_same xs ys is))
+    go false is = refl
+
+pub other_length : (xs ys : List ℕ) → length xs ≢ length ys → is_name xs ys ≡ false
+other_length xs ys differ = other_name xs ys (λ same. differ (ap length same))
+
+pub other_first : (xs ys : List ℕ) → slice_index xs 0 ≢ slice_index ys 0 → is_name xs ys ≡ false
+other_first xs ys differ = other_name xs ys (λ same. differ (ap (λ (zs : List ℕ). slice_index zs 0) same))

@@ -1,5 +1,5 @@
 //! What a word of a line says: a number, octets, units, a site, an outcome.
-ghost use Rattle.std.specs.Prelude.{◌≡◌, ◌<◌, ◌≤◌, IfOk, IfSome, length, replicate};
+ghost use Rattle.std.specs.Prelude.{◌≡◌, ◌<◌, ◌≤◌, true, false, IfOk, IfSome, length, replicate};
 ghost use Rattle.tp_names.specs.Same.{is_name};
 ghost use Rattle.tp_model.specs.LineReading.{words_in, one_word, is_digit, value_from, numeral, number_in, number, hex_value, hex_octets, run_octets, octets, units_from, units, site, outcome, fill, form_of, Well};
 ghost use Rattle.tp_schedule.specs.Answers.{read_as, Reads, same, both_answers, capped, few_of, hex_fault, has_capital, bits_of};
@@ -36,7 +36,22 @@ pub fn both<A: Drop, B: Drop>(
 pub fn is_word(word: &[u8], text: &str) -> bool
     ensures { result ≡ is_name text.now word.now }
 {
-    text.as_bytes() == word
+    let text = text.as_bytes();
+    if differs_early(text, word) {
+        return false;
+    }
+    text == word
+}
+
+// Whether the two differ in their length, or in their first byte.
+#[tactic(auto, using(crate::proofs::Values::other_length, crate::proofs::Values::other_first))]
+fn differs_early(text: &[u8], word: &[u8]) -> bool
+    ensures { result ≡ true → is_name text.now word.now ≡ false }
+{
+    if text.len() != word.len() {
+        return true;
+    }
+    !text.is_empty() && text[0] != word[0]
 }
 
 /// A node, a frame or a member: 1 to 65535.
