@@ -1,21 +1,136 @@
 //! What each rule says.
-ghost use Rattle.std.specs.Prelude.{◌≡◌, ◌++◌, [], IfOk, OnOk};
-ghost use Rattle.tp_model.specs.Transactions.{log_ready, log_commit, log_end, log_damage, log_heuristic, carry_up, done_up, end_up, tell_report, rollback_rec, begin_rolling, complete_commit, complete_rollback, order, settle, leave, retried};
+ghost use Rattle.std.specs.Prelude.{◌≡◌, ◌++◌, [], ◌∷◌, Some, OnOk};
+ghost use Rattle.tp_model.specs.Transactions.{aaid_of, log_ready, log_commit, log_end, log_damage, log_heuristic, carry_up, done_up, end_up, tell_report, rollback_rec, begin_rolling, complete_commit, complete_rollback, order, settle, leave, retried};
 ghost use Rattle.tp_model.specs.declared.transaction.TxOut.{TxOut};
-ghost use Rattle.tp_commit.specs.Rules.{turn_of, final_report, give_up_branch, ask_superior};
+ghost use Rattle.tp_records.specs.declared.dialogue.DialogueRecord.{DialogueRecord};
+ghost use Rattle.tp_records.specs.declared.indication.Indication.{Indication};
+ghost use Rattle.tp_records.specs.declared.peer.PeerRecord.{PeerRecord};
+ghost use Rattle.tp_records.specs.declared.peer.RecState.{RecState};
+ghost use Rattle.tp_commit.specs.Rules.{turn_of, later, final_report, give_up_branch, ask_superior};
 
 use crate::rule::Rule;
 use crate::{Branch, rows};
 use std::alloc::Global;
 use tp_logrec::LogRec;
 use tp_model::{Phase, TxOut, TxOuts};
-use tp_names::{Children, NoMemory, Outcome, Report};
+use tp_names::{Addr, BranchId, Children, NoMemory, Outcome, Report};
 use tp_records::{DialogueRecord, Indication, PeerRecord, RecState};
 
-fn carry(arc: u16, rec: DialogueRecord) -> TxOut
-    ensures { result ≡ TxOut.Carry arc rec }
+// Each output is made in a function of its own: a rule pays for those that it says alone.
+
+// Prepare goes out on the arc.
+fn prepare(alloc: Global, arc: u16, outs: &mut TxOuts) -> Result<(), NoMemory>
+    ensures { OnOk result (outs.new ≡ outs.old ++ TxOut.Carry arc DialogueRecord.Prepare ∷ []) }
 {
-    TxOut::Carry { arc, rec }
+    let rec = DialogueRecord::Prepare;
+    outs.push(alloc, TxOut::Carry { arc, rec })
+}
+
+// A deferred end goes out on the arc.
+fn defer_end(alloc: Global, arc: u16, outs: &mut TxOuts) -> Result<(), NoMemory>
+    ensures { OnOk result (outs.new ≡ outs.old ++ TxOut.Carry arc DialogueRecord.DeferEnd ∷ []) }
+{
+    let rec = DialogueRecord::DeferEnd;
+    outs.push(alloc, TxOut::Carry { arc, rec })
+}
+
+// A deferred grant goes out on the arc.
+fn defer_grant(alloc: Global, arc: u16, outs: &mut TxOuts) -> Result<(), NoMemory>
+    ensures { OnOk result (outs.new ≡ outs.old ++ TxOut.Carry arc DialogueRecord.DeferGrant ∷ []) }
+{
+    let rec = DialogueRecord::DeferGrant;
+    outs.push(alloc, TxOut::Carry { arc, rec })
+}
+
+// The dialogue on the arc is aborted.
+fn abort(alloc: Global, arc: u16, outs: &mut TxOuts) -> Result<(), NoMemory>
+    ensures { OnOk result (outs.new ≡ outs.old ++ TxOut.Carry arc DialogueRecord.UAbort ∷ TxOut.Close arc ∷ []) }
+{
+    let rec = DialogueRecord::UAbort;
+    outs.push(alloc, TxOut::Carry { arc, rec })?;
+    close(alloc, arc, outs)
+}
+
+// The arc closes.
+fn close(alloc: Global, arc: u16, outs: &mut TxOuts) -> Result<(), NoMemory>
+    ensures { OnOk result (outs.new ≡ outs.old ++ TxOut.Close arc ∷ []) }
+{
+    outs.push(alloc, TxOut::Close { arc })
+}
+
+// The branch on the arc is ready.
+fn tell_ready(alloc: Global, arc: u16, outs: &mut TxOuts) -> Result<(), NoMemory>
+    ensures { OnOk result (outs.new ≡ outs.old ++ TxOut.Tell (Indication.Ready arc) ∷ []) }
+{
+    let told = Indication::Ready { peer: arc };
+    outs.push(alloc, TxOut::Tell(told))
+}
+
+// The branch on the arc has left.
+fn tell_left(alloc: Global, arc: u16, outs: &mut TxOuts) -> Result<(), NoMemory>
+    ensures { OnOk result (outs.new ≡ outs.old ++ TxOut.Tell (Indication.Left arc) ∷ []) }
+{
+    let told = Indication::Left { peer: arc };
+    outs.push(alloc, TxOut::Tell(told))
+}
+
+// The end of the dialogue on the arc is deferred.
+fn tell_end(alloc: Global, arc: u16, outs: &mut TxOuts) -> Result<(), NoMemory>
+    ensures { OnOk result (outs.new ≡ outs.old ++ TxOut.Tell (Indication.DeferEnd arc) ∷ []) }
+{
+    let told = Indication::DeferEnd { peer: arc };
+    outs.push(alloc, TxOut::Tell(told))
+}
+
+// A grant on the arc is deferred.
+fn tell_grant(alloc: Global, arc: u16, outs: &mut TxOuts) -> Result<(), NoMemory>
+    ensures { OnOk result (outs.new ≡ outs.old ++ TxOut.Tell (Indication.DeferGrant arc) ∷ []) }
+{
+    let told = Indication::DeferGrant { peer: arc };
+    outs.push(alloc, TxOut::Tell(told))
+}
+
+// The user on the arc has aborted.
+fn tell_abort(alloc: Global, arc: u16, outs: &mut TxOuts) -> Result<(), NoMemory>
+    ensures { OnOk result (outs.new ≡ outs.old ++ TxOut.Tell (Indication.UAbort arc) ∷ []) }
+{
+    let told = Indication::UAbort { peer: arc };
+    outs.push(alloc, TxOut::Tell(told))
+}
+
+// The arc is lost.
+fn tell_loss(alloc: Global, arc: u16, outs: &mut TxOuts) -> Result<(), NoMemory>
+    ensures { OnOk result (outs.new ≡ outs.old ++ TxOut.Tell (Indication.PAbort arc) ∷ []) }
+{
+    let told = Indication::PAbort { peer: arc };
+    outs.push(alloc, TxOut::Tell(told))
+}
+
+// The superior asks to prepare.
+fn tell_prepare(alloc: Global, outs: &mut TxOuts) -> Result<(), NoMemory>
+    ensures { OnOk result (outs.new ≡ outs.old ++ TxOut.Tell Indication.Prepare ∷ []) }
+{
+    outs.push(alloc, TxOut::Tell(Indication::Prepare))
+}
+
+// The arc is shut.
+fn shut(alloc: Global, arc: u16, outs: &mut TxOuts) -> Result<(), NoMemory>
+    ensures { OnOk result (outs.new ≡ outs.old ++ TxOut.Shut arc ∷ []) }
+{
+    outs.push(alloc, TxOut::Shut { arc })
+}
+
+fn tell_done(alloc: Global, arc: u16, report: Report, outs: &mut TxOuts) -> Result<(), NoMemory>
+    ensures { OnOk result (outs.new ≡ outs.old ++ TxOut.Carry arc (DialogueRecord.Done report) ∷ []) }
+{
+    let rec = DialogueRecord::Done { report };
+    outs.push(alloc, TxOut::Carry { arc, rec })
+}
+
+fn tell_committed(alloc: Global, report: Report, outs: &mut TxOuts) -> Result<(), NoMemory>
+    ensures { OnOk result (outs.new ≡ outs.old ++ TxOut.Tell (Indication.CommitComplete report) ∷ []) }
+{
+    outs.push(alloc, TxOut::Tell(Indication::CommitComplete { report }))
 }
 
 // A report that is none is not told.
@@ -25,83 +140,90 @@ fn tell_report(alloc: Global, arc: u16, report: Report, outs: &mut TxOuts) -> Re
     if report == Report::None {
         return Ok(());
     }
-    outs.push(
-        alloc,
-        TxOut::Tell(Indication::HeuristicReport { peer: arc, report }),
-    )
+    tell_damage(alloc, arc, report, outs)
+}
+
+fn tell_damage(alloc: Global, arc: u16, report: Report, outs: &mut TxOuts) -> Result<(), NoMemory>
+    ensures { OnOk result (outs.new ≡ outs.old ++ TxOut.Tell (Indication.HeuristicReport arc report) ∷ []) }
+{
+    let told = Indication::HeuristicReport { peer: arc, report };
+    outs.push(alloc, TxOut::Tell(told))
 }
 
 impl Branch {
-    // ---- the records of the log
+    // ---- the records of the log, each put where the one before stands
 
-    fn log_ready(&self, alloc: Global) -> Result<Option<LogRec>, NoMemory>
-        ensures { IfOk result (λ rec. rec ≡ log_ready self.now) }
+    fn log_ready(&self, alloc: Global, rec: &mut Option<LogRec>) -> Result<(), NoMemory>
+        ensures { OnOk result (rec.new ≡ later rec.old (log_ready self.now)) }
     {
         let (Some(_), Some(superior)) = (self.key.branch, self.superior) else {
-            return Ok(None);
+            return Ok(());
         };
-        Ok(Some(LogRec::Ready {
+        *rec = Some(LogRec::Ready {
             node: self.node,
             key: self.key,
             superior,
             children: rows::children_of(alloc, self.rows.as_slice())?,
-        }))
+        });
+        Ok(())
     }
 
-    fn log_commit(&self, alloc: Global) -> Result<LogRec, NoMemory>
-        ensures { IfOk result (λ rec. rec ≡ log_commit self.now) }
+    fn log_commit(&self, alloc: Global, rec: &mut Option<LogRec>) -> Result<(), NoMemory>
+        ensures { OnOk result (rec.new ≡ Some (log_commit self.now)) }
     {
-        Ok(LogRec::Commit {
+        *rec = Some(LogRec::Commit {
             node: self.node,
             key: self.key,
             superior: self.superior(),
             children: rows::children_of(alloc, self.rows.as_slice())?,
-        })
+        });
+        Ok(())
     }
 
-    fn log_end(&self, outcome: Outcome) -> LogRec
-        ensures { result ≡ log_end self.now outcome }
+    fn log_end(&self, outcome: Outcome, rec: &mut Option<LogRec>)
+        ensures { rec.new ≡ Some (log_end self.now outcome) }
     {
-        LogRec::End {
+        *rec = Some(LogRec::End {
             node: self.node,
             key: self.key,
             outcome,
-        }
+        });
     }
 
-    fn log_damage(&self, side: Outcome, report: Report, owed: Children) -> LogRec
-        ensures { result ≡ log_damage self.now side report owed }
+    fn log_damage(&self, side: Outcome, report: Report, owed: Children, rec: &mut Option<LogRec>)
+        ensures { rec.new ≡ Some (log_damage self.now side report owed) }
     {
-        LogRec::Damage {
+        *rec = Some(LogRec::Damage {
             node: self.node,
             key: self.key,
             superior: self.superior(),
             side,
             report,
             owed,
-        }
+        });
     }
 
-    fn log_heuristic(&self, outcome: Outcome) -> LogRec
-        ensures { result ≡ log_heuristic self.now outcome }
+    fn log_heuristic(&self, outcome: Outcome, rec: &mut Option<LogRec>)
+        ensures { rec.new ≡ Some (log_heuristic self.now outcome) }
     {
-        LogRec::Heuristic {
+        *rec = Some(LogRec::Heuristic {
             node: self.node,
             key: self.key,
             outcome,
-        }
+        });
     }
 
     // A ready node logs the end, or the damage where it had decided to commit.
-    fn rollback_rec(&self, alloc: Global) -> Option<LogRec>
-        ensures { result ≡ rollback_rec self.now }
+    fn log_rollback(&self, alloc: Global, rec: &mut Option<LogRec>)
+        ensures { rec.new ≡ later rec.old (rollback_rec self.now) }
     {
         if self.phase != Phase::Ready {
-            None
-        } else if self.is_own_commit() {
-            Some(self.log_damage(Outcome::Rollback, Report::Mix, Children::new(alloc)))
+            return;
+        }
+        if self.is_own_commit() {
+            self.log_damage(Outcome::Rollback, Report::Mix, Children::new(alloc), rec);
         } else {
-            Some(self.log_end(Outcome::Rollback))
+            self.log_end(Outcome::Rollback, rec);
         }
     }
 
@@ -138,20 +260,28 @@ impl Branch {
             return Ok(());
         };
         if self.up {
-            return outs.push(
-                alloc,
-                TxOut::Carry {
-                    arc: superior.node,
-                    rec: DialogueRecord::Done { report },
-                },
-            );
+            return tell_done(alloc, superior.node, report, outs);
         }
+        self.reply_done(alloc, superior, branch, report, outs)
+    }
+
+    // It learns it by a reply.
+    fn reply_done(
+        &self,
+        alloc: Global,
+        to: Addr,
+        branch: BranchId,
+        report: Report,
+        outs: &mut TxOuts,
+    ) -> Result<(), NoMemory>
+        ensures { OnOk result (outs.new ≡ outs.old ++ TxOut.Recovery to (PeerRecord.RecReply (aaid_of self.now.key) branch (RecState.Done report)) ∷ []) }
+    {
         let rec = PeerRecord::RecReply {
             aaid: self.key.aaid,
             branch,
             state: RecState::Done(report),
         };
-        outs.push(alloc, TxOut::Recovery { to: superior, rec })
+        outs.push(alloc, TxOut::Recovery { to, rec })
     }
 
     fn end_up(&self, alloc: Global, outs: &mut TxOuts) -> Result<(), NoMemory>
@@ -163,7 +293,7 @@ impl Branch {
         if !self.up_ends {
             return Ok(());
         }
-        outs.push(alloc, TxOut::Close { arc: superior.node })
+        close(alloc, superior.node, outs)
     }
 
     // ---- what the rules log
@@ -181,45 +311,52 @@ impl Branch {
 
     // A commitment that is complete.
     #[tactic(auto, unfolding(tp_model::specs::Transactions::complete_commit))]
-    fn log_complete(&self, alloc: Global) -> Result<Option<LogRec>, NoMemory>
-        ensures { IfOk result (λ rec. rec ≡ (complete_commit self.now).rec) }
+    fn log_complete(&self, alloc: Global, rec: &mut Option<LogRec>) -> Result<(), NoMemory>
+        ensures { OnOk result (rec.new ≡ later rec.old (complete_commit self.now).rec) }
     {
         if !self.is_committed() {
-            return Ok(None);
+            return Ok(());
         }
         let report = self.final_report();
         if report == Report::None {
-            return Ok(Some(self.log_end(Outcome::Commit)));
+            self.log_end(Outcome::Commit, rec);
+            return Ok(());
         }
         let owed = rows::owed_of(alloc, self.rows.as_slice())?;
-        Ok(Some(self.log_damage(Outcome::Commit, report, owed)))
+        self.log_damage(Outcome::Commit, report, owed, rec);
+        Ok(())
     }
 
     // A root orders, a subordinate is ready.
     #[tactic(auto, unfolding(tp_model::specs::Transactions::settle, tp_model::specs::Transactions::order))]
-    fn log_settle(&self, alloc: Global) -> Result<Option<LogRec>, NoMemory>
-        ensures { IfOk result (λ rec. rec ≡ (settle self.now).rec) }
+    fn log_settle(&self, alloc: Global, rec: &mut Option<LogRec>) -> Result<(), NoMemory>
+        ensures { OnOk result (rec.new ≡ later rec.old (settle self.now).rec) }
     {
         if !self.is_settled() {
-            return Ok(None);
+            Ok(())
+        } else if self.is_under() {
+            self.log_ready(alloc, rec)
+        } else {
+            self.log_commit(alloc, rec)
         }
-        if self.is_under() {
-            return self.log_ready(alloc);
-        }
-        Ok(Some(self.log_commit(alloc)?))
     }
 
-    /// The record that a rule logs.
+    /// The record that a rule logs stands where the one before it did.
     #[tactic(auto, unfolding(tp_model::specs::Transactions::order, tp_model::specs::Transactions::begin_rolling, tp_model::specs::Transactions::complete_rollback, tp_model::specs::Transactions::ask_commit, tp_model::specs::Transactions::leave, tp_model::specs::Transactions::count_branch, tp_model::specs::Transactions::end_branch, tp_model::specs::Transactions::branch_left))]
-    pub(crate) fn log(&self, alloc: Global, rule: Rule) -> Result<Option<LogRec>, NoMemory>
-        ensures { IfOk result (λ rec. rec ≡ (turn_of rule self.now).rec) }
+    pub(crate) fn log(
+        &self,
+        alloc: Global,
+        rule: Rule,
+        rec: &mut Option<LogRec>,
+    ) -> Result<(), NoMemory>
+        ensures { OnOk result (rec.new ≡ later rec.old (turn_of rule self.now).rec) }
     {
         match rule {
-            Rule::Settle => self.log_settle(alloc),
-            Rule::Order => Ok(Some(self.log_commit(alloc)?)),
-            Rule::BeginRolling { .. } => Ok(self.rollback_rec(alloc)),
-            Rule::CompleteCommit => self.log_complete(alloc),
-            Rule::Decide(outcome) => Ok(Some(self.log_heuristic(outcome))),
+            Rule::Settle => return self.log_settle(alloc, rec),
+            Rule::Order => return self.log_commit(alloc, rec),
+            Rule::BeginRolling { .. } => self.log_rollback(alloc, rec),
+            Rule::CompleteCommit => return self.log_complete(alloc, rec),
+            Rule::Decide(outcome) => self.log_heuristic(outcome, rec),
             Rule::Nothing
             | Rule::Prepare { .. }
             | Rule::DeferEnd { .. }
@@ -240,8 +377,9 @@ impl Branch {
             | Rule::Lost { .. }
             | Rule::CompleteRollback
             | Rule::GiveUp { .. }
-            | Rule::Retry => Ok(None),
+            | Rule::Retry => {}
         }
+        Ok(())
     }
 
     // ---- what the rules say
@@ -257,7 +395,7 @@ impl Branch {
         let report = self.final_report();
         rows::forgets(alloc, &self.key.aaid, rows, outs)?;
         self.done_up(alloc, report, outs)?;
-        outs.push(alloc, TxOut::Tell(Indication::CommitComplete { report }))?;
+        tell_committed(alloc, report, outs)?;
         rows::ends_down(alloc, rows, outs)?;
         self.end_up(alloc, outs)
     }
@@ -270,6 +408,17 @@ impl Branch {
             return Ok(());
         }
         let report = self.own.join(rows::reports_of(self.rows.as_slice()));
+        self.say_rolled_back(alloc, report, outs)
+    }
+
+    fn say_rolled_back(
+        &self,
+        alloc: Global,
+        report: Report,
+        outs: &mut TxOuts,
+    ) -> Result<(), NoMemory>
+        ensures { OnOk result (outs.new ≡ outs.old ++ (carry_up self.now (DialogueRecord.RolledBack report) ++ TxOut.Tell (Indication.RollbackComplete report) ∷ [])) }
+    {
         self.carry_up(alloc, DialogueRecord::RolledBack { report }, outs)?;
         outs.push(alloc, TxOut::Tell(Indication::RollbackComplete { report }))
     }
@@ -306,10 +455,16 @@ impl Branch {
             return Ok(());
         }
         if self.is_under() {
-            self.carry_up(alloc, DialogueRecord::Ready, outs)
+            self.say_ready(alloc, outs)
         } else {
             self.say_order(alloc, outs)
         }
+    }
+
+    fn say_ready(&self, alloc: Global, outs: &mut TxOuts) -> Result<(), NoMemory>
+        ensures { OnOk result (outs.new ≡ outs.old ++ carry_up self.now DialogueRecord.Ready) }
+    {
+        self.carry_up(alloc, DialogueRecord::Ready, outs)
     }
 
     #[tactic(auto, unfolding(tp_model::specs::Transactions::leave))]
@@ -328,7 +483,7 @@ impl Branch {
         ensures { OnOk result (outs.new ≡ outs.old ++ (give_up_branch arc self.now).outs) }
     {
         match rows::find(self.rows.as_slice(), arc) {
-            Some(row) if row.live => outs.push(alloc, TxOut::Shut { arc }),
+            Some(row) if row.live => shut(alloc, arc, outs),
             _ => Ok(()),
         }
     }
@@ -370,35 +525,21 @@ impl Branch {
     {
         match rule {
             Rule::Nothing | Rule::Finish | Rule::NoteRollback | Rule::Decide(_) => Ok(()),
-            Rule::Prepare { arc } => outs.push(alloc, carry(arc, DialogueRecord::Prepare)),
-            Rule::DeferEnd { arc } => outs.push(alloc, carry(arc, DialogueRecord::DeferEnd)),
-            Rule::DeferGrant { arc } => outs.push(alloc, carry(arc, DialogueRecord::DeferGrant)),
-            Rule::Abort { arc } => {
-                outs.push(alloc, carry(arc, DialogueRecord::UAbort))?;
-                outs.push(alloc, TxOut::Close { arc })
-            }
+            Rule::Prepare { arc } => prepare(alloc, arc, outs),
+            Rule::DeferEnd { arc } => defer_end(alloc, arc, outs),
+            Rule::DeferGrant { arc } => defer_grant(alloc, arc, outs),
+            Rule::Abort { arc } => abort(alloc, arc, outs),
             Rule::AskCommit => rows::prepare_each(alloc, self.rows.as_slice(), outs),
             Rule::Leave => self.say_leave(alloc, outs),
-            Rule::TakePrepare => outs.push(alloc, TxOut::Tell(Indication::Prepare)),
-            Rule::TakeDeferEnd { arc } => {
-                outs.push(alloc, TxOut::Tell(Indication::DeferEnd { peer: arc }))
-            }
-            Rule::TakeDeferGrant { arc } => {
-                outs.push(alloc, TxOut::Tell(Indication::DeferGrant { peer: arc }))
-            }
-            Rule::CountBranch { arc } => {
-                outs.push(alloc, TxOut::Tell(Indication::Ready { peer: arc }))
-            }
+            Rule::TakePrepare => tell_prepare(alloc, outs),
+            Rule::TakeDeferEnd { arc } => tell_end(alloc, arc, outs),
+            Rule::TakeDeferGrant { arc } => tell_grant(alloc, arc, outs),
+            Rule::CountBranch { arc } => tell_ready(alloc, arc, outs),
             Rule::EndBranch { arc, report } => tell_report(alloc, arc, report, outs),
-            Rule::BranchLeft { arc } => {
-                outs.push(alloc, TxOut::Tell(Indication::Left { peer: arc }))
-            }
-            Rule::CloseArc { arc } => outs.push(alloc, TxOut::Close { arc }),
-            Rule::Aborted { arc } => outs.push(
-                alloc,
-                TxOut::Tell(Indication::UAbort { peer: arc }),
-            ),
-            Rule::Lost { arc } => outs.push(alloc, TxOut::Tell(Indication::PAbort { peer: arc })),
+            Rule::BranchLeft { arc } => tell_left(alloc, arc, outs),
+            Rule::CloseArc { arc } => close(alloc, arc, outs),
+            Rule::Aborted { arc } => tell_abort(alloc, arc, outs),
+            Rule::Lost { arc } => tell_loss(alloc, arc, outs),
             Rule::Settle => self.say_settle(alloc, outs),
             Rule::Order => self.say_order(alloc, outs),
             Rule::BeginRolling { asked } => self.say_begin_rolling(alloc, asked, outs),
