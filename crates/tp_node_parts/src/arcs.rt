@@ -82,15 +82,6 @@ impl Arcs {
         }
     }
 
-    /// The arc with that peer: it is looked for at that place among the subordinates' first.
-    pub(crate) fn find(&self, place: usize, peer: u16) -> Option<Tie>
-        ensures arc { option_map arc_of result ≡ find_arc self.now.arcs peer }
-        ensures side { IfSome result (λ t. t.dialogue.side ≡ side_with self.now.superior peer) }
-        ensures link { IfSome result (λ t. fits_link (side_with self.now.superior peer) t.link ≡ true) }
-    {
-        self.near(place, peer).copied()
-    }
-
     /// The arc with that peer, where it stands: it is looked for at that place among the subordinates' first.
     #[tactic(auto, using(crate::proofs::Sides::side_found, crate::proofs::Linked::link_found))]
     pub(crate) fn near(&self, place: usize, peer: u16) -> Option<&Tie>

@@ -125,25 +125,20 @@ impl SharedArcs {
     }
 
     /// The arc with that peer.
-    #[tactic(auto, using(crate::proofs::Shares::found_in))]
     pub fn find(&self, peer: u16) -> Option<Tie>
         ensures arc { option_map arc_of result ≡ find_arc self.now.arcs peer }
         ensures side { IfSome result (λ t. t.dialogue.side ≡ side_with self.now.superior peer) }
         ensures link { IfSome result (λ t. fits_link (side_with self.now.superior peer) t.link ≡ true) }
     {
-        let Some(all) = &self.shared else {
-            return self.own.find(self.directory.of(peer), peer);
-        };
-        match aside_at(&self.change, peer) {
-            None => all.find(self.directory.of(peer), peer),
-            Some(tie) => Some(*tie),
-        }
+        self.near(self.directory.of(peer), peer).copied()
     }
 
     /// The arc with that peer, where it stands: it is sought at that place among the subordinates' first.
     #[tactic(auto, using(crate::proofs::Shares::found_in))]
     pub fn near(&self, place: usize, peer: u16) -> Option<&Tie>
-        ensures { option_map arc_of (option_copied result) ≡ find_arc self.now.arcs peer }
+        ensures arc { option_map arc_of (option_copied result) ≡ find_arc self.now.arcs peer }
+        ensures side { IfSome result (λ t. t.now.dialogue.side ≡ side_with self.now.superior peer) }
+        ensures link { IfSome result (λ t. fits_link (side_with self.now.superior peer) t.now.link ≡ true) }
     {
         let Some(all) = &self.shared else {
             return self.own.near(place, peer);
