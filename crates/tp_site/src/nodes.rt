@@ -15,7 +15,7 @@ use crate::in_place;
 use indexmap::IndexMap;
 use std::alloc::Global;
 use std::marker::Model;
-use tp_draft::Draft;
+use tp_draft::{Draft, breaks};
 use tp_logrec::{LogRec, LogVersion};
 use tp_model::{Refusal, TxFault};
 use tp_names::{NoMemory, SiteName};
@@ -96,6 +96,24 @@ impl Nodes {
         match self.find(node) {
             Some(node) => node.refused_at_once(event),
             None => self.unknown(alloc, node).refused_at_once(event),
+        }
+    }
+
+    /// Why an event of the node of that number is refused before anything is tried, where no association ends with it. It takes
+    /// no memory.
+    pub(crate) fn refused_plainly(
+        &self,
+        alloc: Global,
+        node: u16,
+        event: &NodeEvent<'_>,
+    ) -> Option<Refusal>
+        ensures refused { (x : Refusal) → IsPlain (node_at self.now node) event.now x → result ≡ Some x }
+        ensures plain { IfSome result (IsPlain (node_at self.now node) event.now) }
+    {
+        if breaks(event) {
+            None
+        } else {
+            self.refused_at_once(alloc, node, event)
         }
     }
 

@@ -28,7 +28,7 @@ use crate::faults::{LogFault, SiteFault, StartFault};
 use crate::nodes::Nodes;
 use std::alloc::Global;
 use std::marker::Model;
-use tp_draft::{Draft, breaks};
+use tp_draft::Draft;
 use tp_journal::{ForceFault, Keeper, first_out_of_order};
 use tp_logrec::{LogRec, LogVersion};
 use tp_model::{Phase, Refusal, TxFault};
@@ -160,10 +160,8 @@ impl<K: Keeper> Site<K> {
         ensures plain { (x : Refusal) → IsPlain (node_at self.now.nodes node) event.now x → result ≡ Err (TxFault.Refused (number_of x)) }
         ensures refused { IfErr result (λ fault. Plays K.standing self.now node (event_of event.now) (Err (fault_of fault)) self.now) }
     {
-        if !breaks(event) {
-            if let Some(refusal) = self.nodes.refused_at_once(alloc, node, event) {
-                return Err(TxFault::Refused(refusal.number()));
-            }
+        if let Some(refusal) = self.nodes.refused_plainly(alloc, node, event) {
+            return Err(TxFault::Refused(refusal.number()));
         }
         let draft = self.new_draft(alloc)?;
         Ok(draft)
