@@ -1,5 +1,5 @@
 -- The summaries after a change: which trees it names, and that it leaves the others alone.
-use Rattle.std.proofs.Common.{◌≡◌, ◌&&◌, ◌||◌, not, Bool, true, false, refl, ap, sym, subst, ◌∙◌, arith, Option, Some, None, List}
+use Rattle.std.proofs.Common.{◌≡◌, ◌&&◌, ◌||◌, not, Bool, true, false, refl, ap, sym, ◌∙◌, arith, Option, Some, None}
 use Rattle.std.specs.Prelude.{cond, Result, Ok, Err, OnOk}
 use Rattle.tp_names.specs.declared.identifiers.Aaid.{Aaid}
 use Rattle.tp_names.specs.declared.outcome.Outcome.{Outcome}
@@ -8,47 +8,50 @@ use Rattle.tp_names.proofs.Sames.{aaid_same}
 use Rattle.tp_model.specs.declared.arc.Phase.{Phase}
 use Rattle.tp_model.specs.declared.out_line.LogWords.{LogWords}
 use Rattle.tp_model.specs.Dialogues.{is_active, is_ready, is_rolling}
+use Rattle.tp_network.specs.TreeKey.{tree_either, tree_of}
 use Rattle.tp_node.specs.declared.state.NodeTree.{NodeTree}
-use Rattle.tp_network.specs.TreeSummary.{is_in, phase_in, is_commit_of, decision_in, goes_on, has_rolled, tree_at, tree_logged, is_that, no_summary, summary_after}
+use Rattle.tp_network.specs.TreeSummary.{is_in, phase_in, is_commit_of, decision_in, goes_on, has_rolled, is_that, same_tree, stood_in, summary_after, tree_logged}
 use Rattle.tp_network.specs.declared.tree_summary.TreeSummary.{TreeSummary}
 use Rattle.tp_network.specs.declared.tree_summary.TreeChange.{TreeChange}
 
 -- a tree whose summary was changed already, and one whose summary was not
-pub already : (t u : Aaid) (done : Option Aaid) → is_that u done ≡ true → (is_aaid t u && not (is_that t done)) ≡ false
-already t u done h = go (is_aaid t u) refl
+pub already : (f : Aaid → Bool) (t u : Aaid) → f u ≡ true → (is_aaid t u && not (f t)) ≡ false
+already f t u h = go (is_aaid t u) refl
   where
-    go : (b : Bool) → is_aaid t u ≡ b → (is_aaid t u && not (is_that t done)) ≡ false
-    go true e = ap (λ (b : Bool). b && not (is_that t done)) e ∙ ap (λ (b : Bool). not b) (ap (λ (v : Aaid). is_that v done) (aaid_same t u e) ∙ h)
-    go false e = ap (λ (b : Bool). b && not (is_that t done)) e
+    go : (b : Bool) → is_aaid t u ≡ b → (is_aaid t u && not (f t)) ≡ false
+    go true e = ap (λ (b : Bool). b && not (f t)) e ∙ ap (λ (b : Bool). not b) (ap f (aaid_same t u e) ∙ h)
+    go false e = ap (λ (b : Bool). b && not (f t)) e
 
-pub once : (t u : Aaid) (done : Option Aaid) → is_that u done ≡ false → (is_aaid t u && not (is_that t done)) ≡ is_aaid t u
-once t u done h = go (is_aaid t u) refl
+pub once : (f : Aaid → Bool) (t u : Aaid) → f u ≡ false → (is_aaid t u && not (f t)) ≡ is_aaid t u
+once f t u h = go (is_aaid t u) refl
   where
-    go : (b : Bool) → is_aaid t u ≡ b → (is_aaid t u && not (is_that t done)) ≡ is_aaid t u
-    go true e = ap (λ (b : Bool). b && not (is_that t done)) e ∙ ap (λ (b : Bool). not b) (ap (λ (v : Aaid). is_that v done) (aaid_same t u e) ∙ h) ∙ sym e
-    go false e = ap (λ (b : Bool). b && not (is_that t done)) e ∙ sym e
+    go : (b : Bool) → is_aaid t u ≡ b → (is_aaid t u && not (f t)) ≡ is_aaid t u
+    go true e = ap (λ (b : Bool). b && not (f t)) e ∙ ap (λ (b : Bool). not b) (ap f (aaid_same t u e) ∙ h) ∙ sym e
+    go false e = ap (λ (b : Bool). b && not (f t)) e ∙ sym e
 
--- ---- a change twice, and a change that does not name the tree
+-- the tree before is the tree after too, or it is not
+pub stayed : (t : Aaid) (x y : Option NodeTree) → same_tree x y ≡ true → (is_in t y && not (is_in t x)) ≡ false
+stayed t None y h = absurd cc
+stayed t (Some x) None h = refl
+stayed t (Some x) (Some y) h = already (λ u. is_aaid u x.aaid) t y.aaid (tree_either (tree_of y.aaid) (tree_of x.aaid) ∙ h)
+
+pub left_behind : (x : Option NodeTree) (y : NodeTree) → same_tree x (Some y) ≡ false → is_in y.aaid x ≡ false
+left_behind None y h = refl
+left_behind (Some x) y h = tree_either (tree_of y.aaid) (tree_of x.aaid) ∙ h
+
+pub neither : (a b : Bool) → (a || b) ≡ false → (a ≡ false) × (b ≡ false)
+neither true b h = absurd cc
+neither false b h = (refl, h)
+
+-- ---- a change that does not name the tree
 
 summary_made : (m n l k d e r q : Bool) (o p : Option Outcome) → m ≡ n → l ≡ k → d ≡ e → o ≡ p → r ≡ q
     → ◌≡◌ {A = TreeSummary} (record { member = m; left = l; decided = d; decision = o; rolled = r }) (record { member = n; left = k; decided = e; decision = p; rolled = q })
 summary_made m n l k d e r q o p a b c f g = rw (a, b, c, f, g) refl
 
-or_again : (a b : Bool) → (a || (a || b)) ≡ (a || b)
-or_again true b = refl
-or_again false b = refl
-
-chosen_again : (o p : Option Outcome) → elim o as (λ _. Option Outcome) [ Some u ↦ Some u | None ↦ elim o as (λ _. Option Outcome) [ Some u ↦ Some u | None ↦ p ] ] ≡ elim o as (λ _. Option Outcome) [ Some u ↦ Some u | None ↦ p ]
-chosen_again None p = refl
-chosen_again (Some u) p = refl
-
-changed_again : (t : Aaid) (s : TreeChange) (p : TreeSummary) → summary_after t s (summary_after t s p) ≡ summary_after t s p
-changed_again t s p =
-    summary_made _ _ _ _ _ _ _ _ _ _ (or_again (is_in t s.after) p.member) (or_again (is_in t s.before && s.leaves) p.left) (or_again (is_commit_of t s.rec) p.decided) (chosen_again (decision_in t s.rec) p.decision) (or_again (has_rolled t s) p.rolled)
-
-not_in : (t : Aaid) (x : Option NodeTree) → is_that t (tree_at x) ≡ false → (is_in t x ≡ false) × (phase_in t x ≡ Phase.Nil)
-not_in t None h = (refl, refl)
-not_in t (Some x) h = (h, rw h refl)
+not_in : (t : Aaid) (x : Option NodeTree) → is_in t x ≡ false → phase_in t x ≡ Phase.Nil
+not_in t None h = refl
+not_in t (Some x) h = rw h refl
 
 not_logged : (t : Aaid) (r : Option LogWords) → is_that t (tree_logged r) ≡ false → (is_commit_of t r ≡ false) × (decision_in t r ≡ None)
 not_logged t None h = (refl, refl)
@@ -67,37 +70,35 @@ or_none a b h = rw h refl
 and_none : (a b : Bool) → a ≡ false → (a && b) ≡ false
 and_none a b h = rw h refl
 
-changed_other : (t : Aaid) (s : TreeChange) (p : TreeSummary) → is_that t (tree_at s.before) ≡ false → is_that t (tree_at s.after) ≡ false → is_that t (tree_logged s.rec) ≡ false → summary_after t s p ≡ p
+changed_other : (t : Aaid) (s : TreeChange) (p : TreeSummary) → is_in t s.before ≡ false → is_in t s.after ≡ false → is_that t (tree_logged s.rec) ≡ false → summary_after t s p ≡ p
 changed_other t s p h i j =
-    let before = not_in t s.before h in
-    let behind = not_in t s.after i in
     let rec = not_logged t s.rec j in
     summary_made _ p.member _ p.left _ p.decided _ p.rolled _ p.decision
-    (or_none (is_in t s.after) p.member behind.0) (or_none (is_in t s.before && s.leaves) p.left (and_none (is_in t s.before) s.leaves before.0)) (or_none (is_commit_of t s.rec) p.decided rec.0)
-    (ap (λ (o : Option Outcome). elim o as (λ _. Option Outcome) [ Some u ↦ Some u | None ↦ p.decision ]) rec.1) (or_none (has_rolled t s) p.rolled (not_rolled t s before.1 behind.1))
+    (or_none (is_in t s.after) p.member i) (or_none (is_in t s.before && s.leaves) p.left (and_none (is_in t s.before) s.leaves h)) (or_none (is_commit_of t s.rec) p.decided rec.0)
+    (ap (λ (o : Option Outcome). elim o as (λ _. Option Outcome) [ Some u ↦ Some u | None ↦ p.decision ]) rec.1) (or_none (has_rolled t s) p.rolled (not_rolled t s (not_in t s.before h) (not_in t s.after i)))
 
 -- ---- at each of the trees that the change names
 
-abbrev then_at : (TreeSummary → TreeSummary) → Bool → Bool → TreeSummary → TreeSummary
-then_at f a b p = cond (b && not a) (f p) p
+abbrev where_at : (TreeSummary → TreeSummary) → Bool → TreeSummary → TreeSummary
+where_at f b p = cond b (f p) p
 
-thrice : (f : TreeSummary → TreeSummary) → ((p : TreeSummary) → f (f p) ≡ f p) → (p : TreeSummary) (a b c : Bool) → (a ≡ false → b ≡ false → c ≡ false → f p ≡ p) → then_at f b c (then_at f a b (then_at f false a p)) ≡ f p
-thrice f again p true true true other = refl
-thrice f again p true true false other = refl
-thrice f again p true false true other = again p
-thrice f again p true false false other = refl
-thrice f again p false true true other = refl
-thrice f again p false true false other = refl
-thrice f again p false false true other = refl
-thrice f again p false false false other = sym (other refl refl refl)
+by_turns : (f : TreeSummary → TreeSummary) (p : TreeSummary) (a b c : Bool) → (a ≡ false → b ≡ false → c ≡ false → f p ≡ p) → where_at f (c && not (a || b)) (where_at f (b && not a) (where_at f a p)) ≡ f p
+by_turns f p true true true other = refl
+by_turns f p true true false other = refl
+by_turns f p true false true other = refl
+by_turns f p true false false other = refl
+by_turns f p false true true other = refl
+by_turns f p false true false other = refl
+by_turns f p false false true other = refl
+by_turns f p false false false other = sym (other refl refl refl)
 
--- where the change reaches a tree's summary but once
-pub changed_all : (t : Aaid) (s : TreeChange) (p p1 p2 p3 : TreeSummary) → p1 ≡ then_at (summary_after t s) false (is_that t (tree_at s.before)) p → p2 ≡ then_at (summary_after t s) (is_that t (tree_at s.before)) (is_that t (tree_at s.after)) p1
-    → p3 ≡ then_at (summary_after t s) (is_that t (tree_at s.after)) (is_that t (tree_logged s.rec)) p2 → p3 ≡ summary_after t s p
+-- the change reaches a tree's summary but once
+pub changed_all : (t : Aaid) (s : TreeChange) (p p1 p2 p3 : TreeSummary) → p1 ≡ where_at (summary_after t s) (is_in t s.before) p → p2 ≡ where_at (summary_after t s) (is_in t s.after && not (is_in t s.before)) p1
+    → p3 ≡ where_at (summary_after t s) (is_that t (tree_logged s.rec) && not (stood_in t s)) p2 → p3 ≡ summary_after t s p
 changed_all t s p p1 p2 p3 one two three =
     three
-    ∙ ap (then_at (summary_after t s) (is_that t (tree_at s.after)) (is_that t (tree_logged s.rec))) (two ∙ ap (then_at (summary_after t s) (is_that t (tree_at s.before)) (is_that t (tree_at s.after))) one)
-    ∙ thrice (summary_after t s) (changed_again t s) p (is_that t (tree_at s.before)) (is_that t (tree_at s.after)) (is_that t (tree_logged s.rec)) (changed_other t s p)
+    ∙ ap (where_at (summary_after t s) (is_that t (tree_logged s.rec) && not (stood_in t s))) (two ∙ ap (where_at (summary_after t s) (is_in t s.after && not (is_in t s.before))) one)
+    ∙ by_turns (summary_after t s) p (is_in t s.before) (is_in t s.after) (is_that t (tree_logged s.rec)) (changed_other t s p)
 
 pub then_ok : {A E : Type 0} (r : Result A E) {P Q : Type 0} → (P → Q) → OnOk r P → OnOk r Q
 then_ok (Ok v) f h = f h

@@ -1,4 +1,5 @@
 mod Numbers
+mod Runs
 mod Oldest
 mod Waits
 mod Queues

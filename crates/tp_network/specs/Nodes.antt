@@ -1,5 +1,5 @@
 -- The nodes of a world as the code keeps them, found by their numbers.
-use Rattle.std.specs.Prelude.{ℕ, suc, ◌≡◌, ◌<◌, ◌==◌, nat_eq, cond, length, Bool, true, false, Option, Some, None, List, [], ◌∷◌}
+use Rattle.std.specs.Prelude.{ℕ, zero, suc, ◌≡◌, ◌<◌, ◌==◌, nat_eq, cond, length, Bool, true, false, Option, Some, None, List, [], ◌∷◌}
 use Rattle.std.specs.Map.{lookup}
 use Rattle.std.specs.Option.{option_map}
 use Rattle.tp_names.specs.declared.identifiers.Aaid.{Aaid}
@@ -31,10 +31,17 @@ noted None b p = cond b (Some p) None
 abbrev pub IsNoted : List (ℕ × ℕ) → ℕ → ℕ → List (ℕ × ℕ) → Type 0
 IsNoted es n p new = (k : ℕ) → lookup (nat_eq k) new ≡ noted (lookup (nat_eq k) es) (nat_eq n k) p
 
--- the table has the places of the numbers, and no others
+-- the first so many have consecutive numbers, from this one on
+abbrev pub IsRun : ℕ → ℕ → List NodeSlot → Type 0
+IsRun zero n xs = Unit {0}
+IsRun (suc k) n [] = ⊥
+IsRun (suc k) n (x ∷ xs) = (x.addr.node ≡ n) × IsRun k (suc n) xs
+
+-- the table has the places of the numbers, and no others; those that are told without it are consecutive
 pub record ArePlaced (v : Inside) : Type 0 where
   pub place : (n : ℕ) → place_of_number v.items.items n ≡ place_in v.places.entries (length v.items.items) n
   pub within : (n k : ℕ) → lookup (nat_eq n) v.places.entries ≡ Some k → k < length v.items.items
+  pub run : IsRun v.run.count v.run.first v.items.items
 
 abbrev pub address_at : List NodeSlot → ℕ → Option Addr
 address_at xs n = option_map (λ x. x.addr) (find_slot xs n)

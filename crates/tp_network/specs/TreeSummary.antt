@@ -49,9 +49,13 @@ has_rolled t s =
 
 -- ---- the trees of a change
 
-abbrev pub tree_at : Option NodeTree → Option Aaid
-tree_at None = None
-tree_at (Some x) = Some x.aaid
+-- the tree before it is the tree after it too
+abbrev pub same_tree : Option NodeTree → Option NodeTree → Bool
+same_tree None y = false
+same_tree (Some x) y = is_in x.aaid y
+
+abbrev pub stood_in : Aaid → TreeChange → Bool
+stood_in t s = is_in t s.before || is_in t s.after
 
 -- whose commitment, or decision, is logged
 abbrev pub tree_logged : Option LogWords → Option Aaid

@@ -9,6 +9,7 @@ mod frame_record;
 mod frames;
 mod nodes;
 mod queue;
+mod run;
 mod tree_key;
 mod tree_outcomes;
 mod tree_summaries;

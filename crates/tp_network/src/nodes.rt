@@ -4,6 +4,7 @@ ghost use Rattle.tp_names.specs.Same.{is_name};
 ghost use Rattle.tp_network.specs.declared.nodes.NodeSlot.{NodeSlot};
 ghost use Rattle.tp_network.specs.Nodes.{address_at, IsDeclared, IsNoted, AreChanged, place_of_number};
 
+use crate::run::Run;
 use crate::tree_summaries::TreeSummaries;
 use crate::tree_summary::TreeChange;
 use std::alloc::Global;
@@ -20,11 +21,13 @@ pub struct NodeSlot {
     pub summaries: TreeSummaries,
 }
 
-/// The nodes of a world, in the order of their declarations; `places` are the places of their numbers.
+/// The nodes of a world, in the order of their declarations; `places` are the places of their numbers. Mostly the numbers are
+/// consecutive: the place of one in the `run` that the nodes begin with is told without the table.
 #[derive(Drop)]
 pub struct Nodes {
     items: Vec<NodeSlot>,
     places: HashMap<u16, usize>,
+    run: Run,
 }
 
 impl Model for Nodes {
@@ -48,6 +51,7 @@ impl Nodes {
         Nodes {
             items: Vec::new(alloc),
             places: HashMap::new(alloc),
+            run: Run::NONE,
         }
     }
 
@@ -75,6 +79,16 @@ impl Nodes {
 
     // The place of the node of that number; after all where there is none.
     fn place_of(&self, number: u16) -> usize
+        ensures { result ≡ place_of_number self.now number }
+    {
+        match self.run.place(number) {
+            Some(place) => place,
+            None => self.place_noted(number),
+        }
+    }
+
+    // The same, by the table.
+    fn place_noted(&self, number: u16) -> usize
         ensures { result ≡ place_of_number self.now number }
     {
         match self.places.get(&number) {
@@ -105,6 +119,7 @@ impl Nodes {
         ensures { OnOk result ((x : NodeSlot) × IsDeclared addr superior x × (self.new ≡ self.old ++ x ∷ [])) }
     {
         let place = self.count();
+        let run = self.run.with(place, addr.node);
         self.items.reserve(1)?;
         note(&mut self.places, addr.node, place)?;
         self.items.push(NodeSlot {
@@ -112,6 +127,7 @@ impl Nodes {
             superior,
             summaries: TreeSummaries::new(alloc),
         })?;
+        self.run = run;
         Ok(())
     }
 

@@ -1,14 +1,14 @@
 //! The summaries that one node has in trees.
-ghost use Rattle.std.specs.Prelude.{◌≡◌, ◌&&◌, not, cond, OnOk};
+ghost use Rattle.std.specs.Prelude.{◌≡◌, ◌&&◌, not, cond, IfOk, OnOk};
 ghost use Rattle.tp_names.specs.declared.identifiers.Aaid.{Aaid as AaidValue};
 ghost use Rattle.tp_names.specs.Same.{is_aaid};
-ghost use Rattle.tp_network.specs.TreeSummary.{no_summary, summary_after, is_that};
+ghost use Rattle.tp_network.specs.TreeSummary.{is_in, is_that, no_summary, same_tree, stood_in, summary_after, tree_logged};
 ghost use Rattle.tp_network.specs.TreeOutcomes.{outcomes_in, with_node};
 ghost use Rattle.tp_network.specs.TreeSummaries.{summary_at};
 
 use crate::tree_key::Tree;
 use crate::tree_outcomes::OutcomesByTree;
-use crate::tree_summary::{TreeChange, TreeSummary, is_that, tree_at, tree_logged};
+use crate::tree_summary::{TreeChange, TreeSummary, is_in, stood_in, tree_logged};
 use std::alloc::Global;
 use std::collections::HashMap;
 use std::marker::Model;
@@ -52,54 +52,89 @@ impl TreeSummaries {
     }
 
     // The summary in that tree after the first entry that changes it.
-    fn start(&mut self, tree: Tree, change: &TreeChange) -> Result<(), NoMemory>
+    fn start(
+        &mut self,
+        tree: Tree,
+        is_before: bool,
+        is_after: bool,
+        change: &TreeChange,
+    ) -> Result<(), NoMemory>
+        requires before { is_in tree.aaid change.now.before ≡ is_before }
+        requires after { is_in tree.aaid change.now.after ≡ is_after }
         ensures { OnOk result ((t : AaidValue) → summary_at self.new t ≡ cond (is_aaid t tree.aaid) (summary_after t change.now no_summary) (summary_at self.old t)) }
     {
-        let summary = TreeSummary::NONE.after(&tree.aaid, change);
+        let summary = TreeSummary::NONE.after_in(&tree.aaid, is_before, is_after, change);
         self.summaries.insert(tree, summary)?;
         Ok(())
     }
 
     // The summary in that tree after an entry.
-    fn change_in(&mut self, tree: &Aaid, change: &TreeChange) -> Result<(), NoMemory>
+    fn change_in(
+        &mut self,
+        tree: &Aaid,
+        is_before: bool,
+        is_after: bool,
+        change: &TreeChange,
+    ) -> Result<(), NoMemory>
+        requires before { is_in tree.now change.now.before ≡ is_before }
+        requires after { is_in tree.now change.now.after ≡ is_after }
         ensures { OnOk result ((t : AaidValue) → summary_at self.new t ≡ cond (is_aaid t tree.now) (summary_after t change.now (summary_at self.old t)) (summary_at self.old t)) }
     {
         let tree = Tree { aaid: *tree };
         match self.summaries.get_mut(&tree) {
             Some(summary) => {
-                *summary = summary.after(&tree.aaid, change);
+                *summary = summary.after_in(&tree.aaid, is_before, is_after, change);
                 Ok(())
             }
-            None => self.start(tree, change),
+            None => self.start(tree, is_before, is_after, change),
         }
     }
 
-    // The summary in that tree after an entry, unless the entry changed it already.
-    fn change_once(
-        &mut self,
-        tree: &Aaid,
-        done: &Option<Aaid>,
-        change: &TreeChange,
-    ) -> Result<(), NoMemory>
-        ensures { OnOk result ((t : AaidValue) → summary_at self.new t ≡ cond (is_aaid t tree.now && not (is_that t done.now)) (summary_after t change.now (summary_at self.old t)) (summary_at self.old t)) }
+    // The summary in the tree before an entry; it tells whether that is the tree after it too.
+    fn change_before(&mut self, change: &TreeChange) -> Result<bool, NoMemory>
+        ensures stays { IfOk result (λ stays. same_tree change.now.before change.now.after ≡ stays) }
+        ensures changed { OnOk result ((t : AaidValue) → summary_at self.new t ≡ cond (is_in t change.now.before) (summary_after t change.now (summary_at self.old t)) (summary_at self.old t)) }
     {
-        if is_that(tree, done) {
+        match &change.before {
+            Some(before) => {
+                let stays = is_in(&before.aaid, &change.after);
+                self.change_in(&before.aaid, true, stays, change)?;
+                Ok(stays)
+            }
+            None => Ok(false),
+        }
+    }
+
+    // The summary in the tree after an entry, unless that was the tree before it.
+    fn change_after(&mut self, stays: bool, change: &TreeChange) -> Result<(), NoMemory>
+        requires { same_tree change.now.before change.now.after ≡ stays }
+        ensures { OnOk result ((t : AaidValue) → summary_at self.new t ≡ cond (is_in t change.now.after && not (is_in t change.now.before)) (summary_after t change.now (summary_at self.old t)) (summary_at self.old t)) }
+    {
+        if stays {
             return Ok(());
         }
-        self.change_in(tree, change)
+        match &change.after {
+            Some(after) => self.change_in(&after.aaid, false, true, change),
+            None => Ok(()),
+        }
     }
 
-    // The summary in that tree after an entry, where there is one.
-    fn change_at(
-        &mut self,
-        tree: &Option<Aaid>,
-        done: &Option<Aaid>,
-        change: &TreeChange,
-    ) -> Result<(), NoMemory>
-        ensures { OnOk result ((t : AaidValue) → summary_at self.new t ≡ cond (is_that t tree.now && not (is_that t done.now)) (summary_after t change.now (summary_at self.old t)) (summary_at self.old t)) }
+    // The summary in that tree after an entry, unless it is the tree before the entry or after it.
+    fn change_once(&mut self, tree: &Aaid, change: &TreeChange) -> Result<(), NoMemory>
+        ensures { OnOk result ((t : AaidValue) → summary_at self.new t ≡ cond (is_aaid t tree.now && not (stood_in t change.now)) (summary_after t change.now (summary_at self.old t)) (summary_at self.old t)) }
     {
-        match tree {
-            Some(tree) => self.change_once(tree, done, change),
+        if stood_in(tree, change) {
+            return Ok(());
+        }
+        self.change_in(tree, false, false, change)
+    }
+
+    // The summary in the tree of which an entry logs, unless it is the tree before the entry or after it.
+    fn change_logged(&mut self, change: &TreeChange) -> Result<(), NoMemory>
+        ensures { OnOk result ((t : AaidValue) → summary_at self.new t ≡ cond (is_that t (tree_logged change.now.rec) && not (stood_in t change.now)) (summary_after t change.now (summary_at self.old t)) (summary_at self.old t)) }
+    {
+        match &tree_logged(&change.rec) {
+            Some(tree) => self.change_once(tree, change),
             None => Ok(()),
         }
     }
@@ -108,11 +143,9 @@ impl TreeSummaries {
     pub fn change(&mut self, change: &TreeChange) -> Result<(), NoMemory>
         ensures { OnOk result ((t : AaidValue) → summary_at self.new t ≡ summary_after t change.now (summary_at self.old t)) }
     {
-        let before = tree_at(&change.before);
-        let after = tree_at(&change.after);
-        self.change_at(&before, &None, change)?;
-        self.change_at(&after, &before, change)?;
-        self.change_at(&tree_logged(&change.rec), &after, change)
+        let stays = self.change_before(change)?;
+        self.change_after(stays, change)?;
+        self.change_logged(change)
     }
 
     /// What the nodes of each tree were told, with this one too.

@@ -1,7 +1,7 @@
 //! What a node did in a tree, and how an entry of its history changes that.
 ghost use Rattle.std.specs.Prelude.{◌≡◌};
 ghost use Rattle.tp_names.specs.declared.identifiers.Aaid.{Aaid as AaidValue};
-ghost use Rattle.tp_network.specs.TreeSummary.{is_in, phase_in, is_commit_of, decision_in, tree_at, tree_logged, goes_on, has_rolled, is_that, no_summary, summary_after, told_by_summary, stays_in};
+ghost use Rattle.tp_network.specs.TreeSummary.{is_in, phase_in, is_commit_of, decision_in, tree_logged, stood_in, goes_on, has_rolled, no_summary, summary_after, told_by_summary, stays_in};
 
 use tp_model::{LogWords, Phase};
 use tp_names::same::is_aaid;
@@ -62,16 +62,6 @@ fn decision_in(tree: &Aaid, rec: &Option<LogWords>) -> Option<Outcome>
     }
 }
 
-/// The tree that is the current one, where there is one.
-pub(crate) fn tree_at(at: &Option<NodeTree>) -> Option<Aaid>
-    ensures { result ≡ tree_at at.now }
-{
-    match at {
-        Some(at) => Some(at.aaid),
-        None => None,
-    }
-}
-
 /// The tree whose commitment, or decision, is logged.
 pub(crate) fn tree_logged(rec: &Option<LogWords>) -> Option<Aaid>
     ensures { result ≡ tree_logged rec.now }
@@ -82,14 +72,11 @@ pub(crate) fn tree_logged(rec: &Option<LogWords>) -> Option<Aaid>
     }
 }
 
-/// It is that tree.
-pub(crate) fn is_that(tree: &Aaid, other: &Option<Aaid>) -> bool
-    ensures { result ≡ is_that tree.now other.now }
+/// The tree is the current one before the entry, or after it.
+pub(crate) fn stood_in(tree: &Aaid, change: &TreeChange) -> bool
+    ensures { result ≡ stood_in tree.now change.now }
 {
-    match other {
-        Some(other) => is_aaid(tree, other),
-        None => false,
-    }
+    is_in(tree, &change.before) || is_in(tree, &change.after)
 }
 
 // The phase of a tree where it is the current one, else Nil.
@@ -138,6 +125,21 @@ impl TreeSummary {
     {
         let is_before = is_in(tree, &change.before);
         let is_after = is_in(tree, &change.after);
+        self.after_in(tree, is_before, is_after, change)
+    }
+
+    // What it is after an entry, of a tree that is known to be the current one or not before the entry and after it.
+    pub(crate) fn after_in(
+        self,
+        tree: &Aaid,
+        is_before: bool,
+        is_after: bool,
+        change: &TreeChange,
+    ) -> TreeSummary
+        requires before { is_in tree.now change.now.before ≡ is_before }
+        requires after { is_in tree.now change.now.after ≡ is_after }
+        ensures { result ≡ summary_after tree.now change.now self }
+    {
         TreeSummary {
             member: is_after || self.member,
             left: (is_before && change.leaves) || self.left,

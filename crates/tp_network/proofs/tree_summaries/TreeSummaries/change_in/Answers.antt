@@ -14,11 +14,11 @@ returns-in-Some c =
     let es = c.self.inside.summaries.entries in
     let a = c.args.tree.now in
     let s = c.args.change.now in
-    let v = c.after.result in
+    let v = c.after_in.result in
     let new = (c.get_mut.follows.lender v).entries in
     let there = c.in-Some.ensures.value in
     subst (λ old. (t : Aaid) → summary_at new t ≡ cond (is_aaid t a) (summary_after t s (summary_at old t)) (summary_at old t)) c.self.view_is
-    (put_in no_summary (λ t. summary_after t s) es new a v (c.after.ensures ∙ ap (summary_after a s) (value_found no_summary es a c.in-Some.summary.now there)) (written es new (tree_of a) c.in-Some.summary.now v (c.get_mut.follows.holds v).0 there))
+    (put_in no_summary (λ t. summary_after t s) es new a v (c.after_in.ensures ∙ ap (summary_after a s) (value_found no_summary es a c.in-Some.summary.now there)) (written es new (tree_of a) c.in-Some.summary.now v (c.get_mut.follows.holds v).0 there))
 
 pub returns-in-None : goal.returns-in-None
 returns-in-None c =

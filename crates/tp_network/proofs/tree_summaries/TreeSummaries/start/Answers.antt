@@ -14,4 +14,4 @@ returns c =
     let s = c.args.change.now in
     let new = c.insert.new.self.entries in
     subst (λ old. (t : Aaid) → summary_at new t ≡ cond (is_aaid t a) (summary_after t s no_summary) (summary_at old t)) c.self.view_is
-    (put_first no_summary (λ t. summary_after t s) es new a c.after-summary.result c.after-summary.ensures c.in_ok-insert.ensures.updates.0)
+    (put_first no_summary (λ t. summary_after t s) es new a c.after_in-summary.result c.after_in-summary.ensures c.in_ok-insert.ensures.updates.0)
