@@ -688,11 +688,11 @@ impl Node {
         ensures branch { result ≡ option_map (seen self.old.who self.old.digest.arcs) self.old.digest.current }
         ensures node { self.new ≡ with_digest self.old (record self.old.digest { current = None }) }
     {
-        let Some(mut branch) = self.current.take() else {
+        let Some(branch) = &mut self.current else {
             return None;
         };
-        look::see(self.number, &self.arcs, &mut branch);
-        Some(branch)
+        look::see(self.number, &self.arcs, branch);
+        self.current.take()
     }
 
     /// What a passage of the transaction does to the arcs.
@@ -722,11 +722,11 @@ impl Node {
     pub fn settle(&mut self, next: Branch)
         ensures { self.new ≡ with_digest self.old (record self.old.digest { current = remaining next }) }
     {
-        self.current = if next.phase() == Phase::Nil {
-            None
-        } else {
-            Some(next)
-        };
+        if next.phase() == Phase::Nil {
+            self.current = None;
+            return;
+        }
+        self.current = Some(next);
     }
 
     /// The deferred grants that a completed commitment gives, in the order of the arcs.

@@ -10,6 +10,7 @@ pub returns-clause-branch : goal.returns-clause-branch
 returns-clause-branch c =
     let v = c.self.inside in
     let who : Who = record { site = v.site; node = v.number } in
-    ap (λ (t : Transaction). Some t) (c.see.ensures v.site)
-    ∙ ap (λ (o : Option Transaction). option_map (seen who (arcs_in v.arcs)) (option_map current_of o)) (sym c.in-Some.is ∙ c.take.ensures.value)
+    c.take.ensures.value
+    ∙ ap (λ (t : Transaction). Some t) (c.see.ensures v.site)
+    ∙ ap (λ (o : Option Transaction). option_map (seen who (arcs_in v.arcs)) (option_map current_of o)) (sym c.in-Some.is)
     ∙ ap (λ (n : Node). option_map (seen n.who n.digest.arcs) n.digest.current) c.self.view_is
