@@ -341,16 +341,20 @@ impl Draft {
     }
 
     // A turn of the transaction as it is seen now, by an event that it does not refuse; and whether it is over.
-    fn take_turn(&mut self, alloc: Global, branch: Branch, event: &TxEvent) -> Result<bool, Halt>
+    fn take_turn(
+        &mut self,
+        alloc: Global,
+        mut branch: Branch,
+        event: &TxEvent,
+    ) -> Result<bool, Halt>
         requires { begins event.now ≡ 0 }
         ensures over { IfOk result (λ over. over ≡ is_over (passing branch event.now)) }
         ensures turn { Plays (without_value result) self.old self.new (turning_by branch event.now) }
     {
-        let mut next = branch;
-        let before = next.phase();
-        let step = next.turn(alloc, event)?;
-        let passage = Passage::of(is_leaving(event), before, next.phase());
-        if let Err(halt) = self.turn(alloc, passage, step, next) {
+        let before = branch.phase();
+        let step = branch.turn(alloc, event)?;
+        let passage = Passage::of(is_leaving(event), before, branch.phase());
+        if let Err(halt) = self.turn(alloc, passage, step, branch) {
             return Err(halt);
         }
         Ok(passage.is_over())
