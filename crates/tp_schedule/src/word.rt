@@ -84,6 +84,58 @@ pub fn write_two(
     Ok(())
 }
 
+/// A word, and three numbers.
+pub fn write_three(
+    alloc: Global,
+    word: &str,
+    l: u16,
+    m: u16,
+    n: u16,
+    out: &mut Octets,
+) -> Result<(), NoMemory>
+    ensures ok { OnOk result (out.new ≡ out.old ++ words (word.now ∷ decimal l ∷ decimal m ∷ decimal n ∷ [])) }
+    ensures err { OnErr result (Keeps out.old out.new) }
+{
+    write_two(alloc, word, l, m, out)?;
+    write_number(alloc, n, out)?;
+    Ok(())
+}
+
+/// A word, and one long number.
+pub fn write_long(alloc: Global, word: &str, n: u64, out: &mut Octets) -> Result<(), NoMemory>
+    ensures ok { OnOk result (out.new ≡ out.old ++ words (word.now ∷ decimal n ∷ [])) }
+    ensures err { OnErr result (Keeps out.old out.new) }
+{
+    put(alloc, word, out)?;
+    write_next(alloc, &Word::Long(n), out)?;
+    Ok(())
+}
+
+/// A word, and a site's name.
+pub fn write_site(
+    alloc: Global,
+    word: &str,
+    site: &SiteName,
+    out: &mut Octets,
+) -> Result<(), NoMemory>
+    ensures ok { OnOk result (out.new ≡ out.old ++ words (word.now ∷ site.now ∷ [])) }
+    ensures err { OnErr result (Keeps out.old out.new) }
+{
+    put(alloc, word, out)?;
+    write_next(alloc, &Word::Site(site), out)?;
+    Ok(())
+}
+
+/// One more word, after a space.
+pub fn write_next(alloc: Global, word: &Word, out: &mut Octets) -> Result<(), NoMemory>
+    ensures ok { OnOk result (out.new ≡ out.old ++ (32 ∷ word_text word.now)) }
+    ensures err { OnErr result (Keeps out.old out.new) }
+{
+    out.push(alloc, b' ')?;
+    write_word(alloc, word, out)?;
+    Ok(())
+}
+
 // A number after a space.
 fn write_number(alloc: Global, n: u16, out: &mut Octets) -> Result<(), NoMemory>
     ensures ok { OnOk result (out.new ≡ out.old ++ (32 ∷ decimal n)) }

@@ -1,7 +1,7 @@
 //! Writing identifiers, keys and the records of a log.
 ghost use Rattle.std.specs.Prelude.{◌≡◌, ◌++◌, ◌∷◌, [], OnErr, OnOk};
 ghost use Rattle.tp_names.specs.Writing.{Keeps};
-ghost use Rattle.tp_model.specs.Words.{words, decimal, aaid_word, key_words, maybe_word, branch_word};
+ghost use Rattle.tp_model.specs.Words.{words, decimal, aaid_word, key_words, maybe_word, branch_word, outcome_word};
 ghost use Rattle.tp_model.specs.OutText.{log_words};
 ghost use Rattle.tp_model.specs.Happenings.{log_shown};
 ghost use Rattle.tp_schedule.specs.WordText.{word_text};
@@ -9,8 +9,8 @@ ghost use Rattle.tp_schedule.specs.WordText.{word_text};
 use std::alloc::Global;
 use tp_logrec::LogRec;
 use tp_model::LogWords;
-use tp_names::{Aaid, BranchId, NoMemory, NodeKey, Octets};
-use tp_schedule::word::{Word, write_words};
+use tp_names::{Aaid, BranchId, NoMemory, NodeKey, Octets, Outcome};
+use tp_schedule::word::{Word, write_long, write_next, write_one, write_words};
 
 /// Puts the identifier's word at the end of `out`. Without memory `out` stays as it was.
 pub fn write_aaid(alloc: Global, a: &Aaid, out: &mut Octets) -> Result<(), NoMemory>
@@ -108,55 +108,57 @@ pub(crate) fn write_log(alloc: Global, rec: &LogWords, out: &mut Octets) -> Resu
     ensures err { OnErr result (Keeps out.old out.new) }
 {
     match rec {
-        LogWords::Boot { boot } => {
-            write_words(alloc, &[Word::Text("boot"), Word::Long(*boot)], out)
-        }
-        LogWords::Ready { node, key } => {
-            let (n, aaid, branch) = keyed(*node, key);
-            write_words(alloc, &[Word::Text("ready"), n, aaid, branch], out)
-        }
+        LogWords::Boot { boot } => write_long(alloc, "boot", *boot, out),
+        LogWords::Ready { node, key } => write_keyed(alloc, "ready", *node, key, out),
         LogWords::Heuristic { node, key, outcome } => {
-            let (n, aaid, branch) = keyed(*node, key);
-            let outcome = Word::Outcome(*outcome);
-            write_words(
-                alloc,
-                &[Word::Text("heuristic"), n, aaid, branch, outcome],
-                out,
-            )
+            write_keyed_outcome(alloc, "heuristic", *node, key, *outcome, out)
         }
-        LogWords::Commit { node, key } => {
-            let (n, aaid, branch) = keyed(*node, key);
-            write_words(alloc, &[Word::Text("commit"), n, aaid, branch], out)
-        }
+        LogWords::Commit { node, key } => write_keyed(alloc, "commit", *node, key, out),
         LogWords::Damage {
             node,
             key,
             side,
             report,
         } => {
-            let (n, aaid, branch) = keyed(*node, key);
-            let (side, report) = (Word::Outcome(*side), Word::Report(*report));
-            write_words(
-                alloc,
-                &[Word::Text("damage"), n, aaid, branch, side, report],
-                out,
-            )
+            write_keyed_outcome(alloc, "damage", *node, key, *side, out)?;
+            write_next(alloc, &Word::Report(*report), out)
         }
         LogWords::End { node, key, outcome } => {
-            let (n, aaid, branch) = keyed(*node, key);
-            let outcome = Word::Outcome(*outcome);
-            write_words(alloc, &[Word::Text("end"), n, aaid, branch, outcome], out)
+            write_keyed_outcome(alloc, "end", *node, key, *outcome, out)
         }
     }
 }
 
-// A node and its key.
-fn keyed<'a>(node: u16, key: &'a NodeKey) -> (Word<'a>, Word<'a>, Word<'a>)
-    ensures { word_text result.0 ∷ word_text result.1 ∷ word_text result.2 ∷ [] ≡ decimal node ∷ key_words key.now }
+// A word, a node and its key.
+fn write_keyed(
+    alloc: Global,
+    word: &str,
+    node: u16,
+    key: &NodeKey,
+    out: &mut Octets,
+) -> Result<(), NoMemory>
+    ensures ok { OnOk result (out.new ≡ out.old ++ words (word.now ∷ decimal node ∷ key_words key.now)) }
+    ensures err { OnErr result (Keeps out.old out.new) }
 {
-    (
-        Word::Short(node),
-        Word::Aaid(&key.aaid),
-        branch_or_none(&key.branch),
-    )
+    write_one(alloc, word, node, out)?;
+    write_next(alloc, &Word::Aaid(&key.aaid), out)?;
+    write_next(alloc, &branch_or_none(&key.branch), out)?;
+    Ok(())
+}
+
+// The same and an outcome.
+fn write_keyed_outcome(
+    alloc: Global,
+    word: &str,
+    node: u16,
+    key: &NodeKey,
+    outcome: Outcome,
+    out: &mut Octets,
+) -> Result<(), NoMemory>
+    ensures ok { OnOk result (out.new ≡ out.old ++ words (word.now ∷ decimal node ∷ key_words key.now ++ outcome_word outcome ∷ [])) }
+    ensures err { OnErr result (Keeps out.old out.new) }
+{
+    write_keyed(alloc, word, node, key, out)?;
+    write_next(alloc, &Word::Outcome(outcome), out)?;
+    Ok(())
 }

@@ -11,7 +11,7 @@ use std::alloc::Global;
 use tp_model::{LogWords, OutLine, PhaseWord, SentWords};
 use tp_names::{NoMemory, Octets, SiteName};
 use tp_records::Indication;
-use tp_schedule::word::{Word, write_alone, write_one, write_words};
+use tp_schedule::word::{Word, write_alone, write_one, write_site, write_three, write_words};
 
 /// Puts the line's text at the end of `out`, without an end. Without memory `out` stays as it was.
 pub fn write_out(alloc: Global, o: &OutLine, out: &mut Octets) -> Result<(), NoMemory>
@@ -107,7 +107,7 @@ fn append_logged(
     ensures ok { OnOk result (out.new ≡ out.old ++ out_text (OutLine.Log site.now rec.now)) }
     ensures err { OnErr result (Keeps out.old out.new) }
 {
-    write_words(alloc, &[Word::Text("log"), Word::Site(site)], out)?;
+    write_site(alloc, "log", site, out)?;
     out.push(alloc, b' ')?;
     write_log(alloc, rec, out)?;
     Ok(())
@@ -139,16 +139,7 @@ fn write_frame(
     ensures err { OnErr result (Keeps out.old out.new) }
 {
     let (from, to) = ends;
-    write_words(
-        alloc,
-        &[
-            Word::Text("send"),
-            Word::Short(frame),
-            Word::Short(from),
-            Word::Short(to),
-        ],
-        out,
-    )
+    write_three(alloc, "send", frame, from, to, out)
 }
 
 fn append_told(

@@ -9,7 +9,7 @@ use std::alloc::Global;
 use tp_model::SentWords;
 use tp_names::{Aaid, BranchId, Mark, NoMemory, Octets};
 use tp_records::{DialogueRecord, RecState};
-use tp_schedule::word::{Word, write_alone, write_words};
+use tp_schedule::word::{Word, write_alone, write_long, write_words};
 
 /// The words of a record that is sent.
 pub(crate) fn write_sent(alloc: Global, rec: &SentWords, out: &mut Octets) -> Result<(), NoMemory>
@@ -74,7 +74,7 @@ fn write_on(alloc: Global, seq: u64, rec: &DialogueRecord, out: &mut Octets) -> 
     ensures ok { OnOk result (out.new ≡ out.old ++ words (sent_words (SentWords.OnAssoc seq rec.now))) }
     ensures err { OnErr result (Keeps out.old out.new) }
 {
-    write_words(alloc, &[Word::Text("data"), Word::Long(seq)], out)?;
+    write_long(alloc, "data", seq, out)?;
     out.push(alloc, b' ')?;
     write_dialogue(alloc, rec, out)?;
     Ok(())

@@ -8,8 +8,8 @@ use Rattle.tp_transcript.proofs.out_line.append_logged.Goals as goal
 pub returns-clause-ok : goal.returns-clause-ok
 returns-clause-ok c =
     joined (codes "log") (c.args.site.now ∷ []) (log_words c.args.rec.now) (log_has c.args.rec.now) _ _ _ _
-    c.in_ok-write_words.ensures.ok c.in_ok-push.ensures.ok c.in_ok-write_log.ensures.ok
+    c.in_ok-write_site.ensures.ok c.in_ok-push.ensures.ok c.in_ok-write_log.ensures.ok
 
 pub returns-in_err-write_log-clause-err : goal.returns-in_err-write_log-clause-err
 returns-in_err-write_log-clause-err c =
-    on_err _ _ (kept_last _ _ _ _ _ c.in_ok-write_words.ensures.ok c.in_ok-push.ensures.ok c.in_err-write_log.ensures.err)
+    on_err _ _ (kept_last _ _ _ _ _ c.in_ok-write_site.ensures.ok c.in_ok-push.ensures.ok c.in_err-write_log.ensures.err)
