@@ -40,7 +40,7 @@ pub fn is_word(word: &[u8], text: &str) -> bool
     if differs_early(text, word) {
         return false;
     }
-    text == word
+    agree(text, word)
 }
 
 // Whether the two differ in their length, or in their first byte.
@@ -52,6 +52,13 @@ fn differs_early(text: &[u8], word: &[u8]) -> bool
         return true;
     }
     !text.is_empty() && text[0] != word[0]
+}
+
+// Whether all their bytes agree.
+fn agree(text: &[u8], word: &[u8]) -> bool
+    ensures { result ≡ is_name text.now word.now }
+{
+    text == word
 }
 
 /// A node, a frame or a member: 1 to 65535.
