@@ -117,21 +117,32 @@ impl Nodes {
         }
     }
 
-    /// What the node of that number answers to an event, with the draft of what happens.
+    /// What the node of that number answers to an event, with the draft of what happens. Where it does, there is room for the
+    /// node; nothing is known of any that was not.
     #[tactic(auto, using(crate::proofs::Numbered::found, crate::proofs::Numbered::unfound))]
     pub(crate) fn answer_to(
-        &self,
+        &mut self,
         alloc: Global,
         node: u16,
         event: &NodeEvent<'_>,
         draft: &mut Draft,
     ) -> Result<Option<Refusal>, TxFault>
-        ensures plain { (x : Refusal) → IsPlain (node_at self.now node) event.now x → result ≡ Err (TxFault.Refused (number_of x)) }
-        ensures answer { IsAnswer result draft.new (node_at self.now node) (answer_at (who_at self.now node) (digest_at self.now node) (event_of event.now)) }
+        ensures plain { (x : Refusal) → IsPlain (node_at self.old node) event.now x → result ≡ Err (TxFault.Refused (number_of x)) }
+        ensures answer { IsAnswer result draft.new (node_at self.old node) (answer_at (who_at self.old node) (digest_at self.old node) (event_of event.now)) }
+        ensures refused { (k : ℕ) → result ≡ Err (TxFault.Refused k) → self.new ≡ self.old }
+        ensures ready { IfOk result (λ refusal. has_node self.new node ≡ true) }
+        ensures same { (n : ℕ) → digest_at self.new n ≡ digest_at self.old n }
+        ensures site { IsSameSite self.old self.new }
     {
-        match self.find(node) {
-            Some(node) => draft.answer_to(alloc, node, event),
-            None => draft.answer_to(alloc, &self.unknown(alloc, node), event),
+        if let Some(node) = self.find(node) {
+            return draft.answer_to(alloc, node, event);
+        }
+        match draft.answer_to(alloc, &self.unknown(alloc, node), event) {
+            Err(fault) => Err(fault),
+            Ok(refusal) => {
+                self.prepare(alloc, node)?;
+                Ok(refusal)
+            }
         }
     }
 

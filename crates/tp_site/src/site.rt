@@ -108,7 +108,6 @@ impl<K: Keeper> Site<K> {
         ensures short { IfOk result (λ refusal. BringsFew (event_of event.now) → AreShort draft.new.move.outs) }
     {
         let refusal = self.nodes.answer_to(alloc, node, event, draft)?;
-        self.nodes.prepare(alloc, node)?;
         Ok(refusal)
     }
 

@@ -10,11 +10,11 @@ use Rattle.tp_site.proofs.nodes.Nodes.answer_to.Goals as goal
 same_node : (w : Who) (d e : Digest) → d ≡ e → ◌≡◌ {A = Node} (record { who = w; digest = d }) (record { who = w; digest = e })
 same_node w d e same = rw same refl
 
-pub returns-in-None-clause-plain : goal.returns-in-None-clause-plain
-returns-in-None-clause-plain c = λ k plain.
+pub returns-in-Err-clause-plain : goal.returns-in-Err-clause-plain
+returns-in-Err-clause-plain c = λ k plain.
     let v = c.args.self.now in
     let n = c.args.node in
-    c.answer_to-in-None-2.ensures.plain k (subst (λ (x : Node). IsPlain x c.args.event.now k) (same_node (who_at v n) _ _ (unfound v n c.in-None.ensures) ∙ sym c.unknown.ensures) plain)
+    c.in-Err.ensures.plain k (subst (λ (x : Node). IsPlain x c.args.event.now k) (same_node (who_at v n) _ _ (unfound v n c.in_default.ensures) ∙ sym c.unknown.ensures) plain)
 
 pub returns-in-Some-clause-plain : goal.returns-in-Some-clause-plain
 returns-in-Some-clause-plain c = λ x plain.

@@ -10,7 +10,7 @@ use Rattle.tp_site.proofs.site.Site.attempt.Goals as goal
 pub returns-clause-shaped : goal.returns-clause-shaped
 returns-clause-shaped g c =
     let drawn = c.answer_to.new.draft.move in
-    subst (λ (v : LogVersion). IsShapedDraft v drawn) (sym c.prepare.ensures.site.version)
+    subst (λ (v : LogVersion). IsShapedDraft v drawn) (sym c.answer_to.ensures.site.version)
     (drawn_shaped c.self.inside.nodes c.args.node (event_of c.args.event.now) (number_in c.in_ok-refusal.refusal) drawn c.self.invariant.nodes c.in_ok-refusal.ensures.answer.0)
 
 pub returns-clause-short : goal.returns-clause-short
