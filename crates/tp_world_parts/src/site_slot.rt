@@ -208,6 +208,19 @@ impl SiteSlot {
         self.site.log().list()
     }
 
+    // What an event of that node has shown of trees, before which the log had so many records.
+    #[inline(never)]
+    fn change(&self, node: u16, before: &Option<NodeTree>, leaves: bool, count: usize) -> TreeChange
+        ensures { result ≡ record { before = before.now; after = tree_in (known_at self.now.site node); leaves = leaves; rec = shown_behind self.now.site.keeper.list count } }
+    {
+        TreeChange {
+            before: *before,
+            after: self.tree(node),
+            leaves,
+            rec: forced(self.records(), count),
+        }
+    }
+
     /// An event of the node of that number.
     pub fn play(
         &mut self,
@@ -224,12 +237,7 @@ impl SiteSlot {
                 refusal: played.refusal,
                 entry: Entry {
                     outs: played.outs,
-                    change: TreeChange {
-                        before,
-                        after: self.tree(node),
-                        leaves: is_unchanged(event),
-                        rec: forced(self.records(), count),
-                    },
+                    change: self.change(node, &before, is_unchanged(event), count),
                 },
             }),
             Err(SiteFault::Refused(number)) => Ok(Answer::Refused(number)),

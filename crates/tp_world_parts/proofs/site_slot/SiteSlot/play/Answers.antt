@@ -1,4 +1,4 @@
-use Rattle.std.proofs.Common.{◌≡◌, length, ap, ◌∙◌}
+use Rattle.std.proofs.Common.{◌≡◌, length, refl, ap, ◌∙◌}
 use Rattle.std.specs.Option.{option_map}
 use Rattle.tp_model.specs.Happenings.{log_shown}
 use Rattle.tp_model.specs.Outcomes.{is_unchanged}
@@ -16,12 +16,13 @@ returns-in-Ok c =
     let old = c.args.self.now.site in
     let new = c.play.new.self in
     let move = c.in-Ok.ensures.0 in
-    let rec : c.forced.result ≡ option_map log_shown move.rec =
-    c.forced.ensures ∙ ap (λ l. shown_behind l (length c.records-count.result.now)) c.records.ensures ∙ ap (λ l. shown_behind new.keeper.list (length l)) c.records-count.ensures
-    ∙ shown_forced old.keeper new.keeper move.rec c.in-Ok.ensures.1.forced in
+    let count = length c.records-count.result.now in
+    let rec : shown_behind new.keeper.list count ≡ option_map log_shown move.rec =
+    ap (λ l. shown_behind new.keeper.list (length l)) c.records-count.ensures ∙ shown_forced old.keeper new.keeper move.rec c.in-Ok.ensures.1.forced in
     record {
       move = move;
       played = c.in-Ok.ensures.1;
-      change = step_made c.tree-before.result (tree_in (known_at old c.args.node)) c.tree.result (tree_in (known_at new c.args.node)) c.is_unchanged.result (is_unchanged (event_of c.args.event.now)) c.forced.result (option_map log_shown move.rec)
-          c.tree-before.ensures c.tree.ensures c.is_unchanged.ensures rec;
+      change = c.change.ensures
+          ∙ step_made c.tree-before.result (tree_in (known_at old c.args.node)) (tree_in (known_at new c.args.node)) (tree_in (known_at new c.args.node)) c.is_unchanged.result (is_unchanged (event_of c.args.event.now))
+          (shown_behind new.keeper.list count) (option_map log_shown move.rec) c.tree-before.ensures refl c.is_unchanged.ensures rec;
     }
