@@ -10,7 +10,8 @@ use Rattle.tp_model.specs.Legal.{IsLegal}
 use Rattle.tp_model.specs.World.{World, Node, Frame, number_of, site_of, addr_of, find_node}
 use Rattle.tp_model.specs.Happenings.{entry_turn, logged, log_lines, log_shown, refused_lines, out_lines, frames_of, after_lines, world_with_entry, WorldTurn}
 use Rattle.tp_model.specs.Lines.{within_limits, is_full}
-use Rattle.tp_world.specs.Settled.{forced_lines, entry_lines, SettlesSome}
+use Rattle.tp_world_parts.specs.Shown.{forced_lines}
+use Rattle.tp_world.specs.Settled.{entry_lines, SettlesSome}
 use Rattle.tp_world_parts.specs.Standing.{SitesStand, AreNodes, IsEntry, after_entry}
 use Rattle.tp_world.specs.World.{Mirrors, Gives}
 use Rattle.tp_world_parts.specs.Faults.{sending_fault}

@@ -3,7 +3,6 @@
 use Rattle.std.specs.Prelude.{ℕ, ◌≡◌, ◌≤◌, ◌<◌, ◌+◌, ◌++◌, ◌&&◌, not, true, false, Option, Some, None, List, [], ◌∷◌, length, Result, Ok, Err}
 use Rattle.tp_names.specs.declared.identifiers.Aaid.{Aaid}
 use Rattle.tp_names.specs.declared.identifiers.Addr.{Addr}
-use Rattle.tp_model.specs.declared.out_line.LogWords.{LogWords}
 use Rattle.tp_model.specs.declared.out_line.OutLine.{OutLine}
 use Rattle.tp_model.specs.Parts.{Out}
 use Rattle.tp_model.specs.Happenings.{out_lines, frames_of, refused_lines, trees_of}
@@ -11,6 +10,7 @@ use Rattle.tp_network.specs.TreeSummary.{is_in}
 use Rattle.tp_network.specs.Nodes.{AreChanged}
 use Rattle.tp_network.specs.declared.fault.SendFault.{SendFault}
 use Rattle.tp_network.specs.declared.tree_summary.TreeChange.{TreeChange}
+use Rattle.tp_world_parts.specs.Shown.{forced_lines}
 use Rattle.tp_world_parts.specs.Slots.{number_told, entry_told}
 use Rattle.tp_world_parts.specs.declared.site_slot.Entry.{Entry}
 use Rattle.tp_world_parts.specs.declared.site_slot.Answer.{Answer}
@@ -24,10 +24,6 @@ tree_started s = elim s.after [
 ]
 
 -- ---- what is shown before the outputs
-
-abbrev pub forced_lines : List ℕ → Option LogWords → List OutLine
-forced_lines site None = []
-forced_lines site (Some r) = OutLine.Log site r ∷ []
 
 abbrev pub entry_lines : List ℕ → Option Entry → List OutLine
 entry_lines site None = []

@@ -3,27 +3,26 @@ ghost use Rattle.std.specs.Prelude.{◌≡◌, ◌<◌, ◌++◌, ◌∷◌, [],
 ghost use Rattle.tp_model.specs.World.{World as WorldValue, is_site};
 ghost use Rattle.tp_names.specs.declared.identifiers.Addr.{Addr as AddrValue};
 ghost use Rattle.tp_model.specs.declared.line.Action.{Action};
-ghost use Rattle.tp_model.specs.Happenings.{Does, task_at, happens, refused_lines};
+ghost use Rattle.tp_model.specs.Happenings.{Does, task_at, happens};
 ghost use Rattle.tp_model.specs.Legal.{IsUnder};
 ghost use Rattle.tp_model.specs.Lines.{within_limits};
 ghost use Rattle.tp_model.specs.Parts.{Send};
-ghost use Rattle.tp_model.specs.Refusal.{number_in};
 ghost use Rattle.tp_site.specs.NodeEvent.{event_of};
 ghost use Rattle.tp_site.specs.Outs.{out_of};
 ghost use Rattle.tp_world_parts.specs.Sites.{place_of_site};
-ghost use Rattle.tp_world.specs.Settled.{tree_started, forced_lines, GivesOuts, IsEntered, SettlesEntry, Settles};
+ghost use Rattle.tp_world.specs.Settled.{tree_started, GivesOuts, IsEntered, SettlesEntry, Settles};
 ghost use Rattle.tp_world.specs.World.{Mirrors, Gives, task_turn};
 
 use crate::world::World;
 use std::alloc::Global;
-use tp_model::{LineRequest, OutLine, OutLines, Refusal};
+use tp_model::{LineRequest, OutLine, OutLines};
 use tp_names::{Aaid, Addr, NoMemory, SiteName};
 use tp_network::{SendFault, TreeChange, is_in};
 use tp_records::{PeerRecord, Request};
 use tp_site::{NodeEvent, Out, Outs};
 use tp_world_parts::{
     Answer, Entry, WorldFault, arrive_at, play_at, refused_shown, request_in, sent_shown,
-    site_place,
+    show_record, show_refusal, site_place,
 };
 
 // The tree that an entry starts.
@@ -211,37 +210,5 @@ impl World {
                 self.settle_entry(alloc, at, entry, lines)
             }
         }
-    }
-}
-
-// A record that was forced is shown.
-fn show_record(
-    alloc: Global,
-    at: &Addr,
-    entry: &Entry,
-    lines: &mut OutLines,
-) -> Result<(), NoMemory>
-    ensures { OnOk result (lines.new ≡ lines.old ++ forced_lines at.now.site entry.now.change.rec) }
-{
-    match entry.change.rec {
-        None => Ok(()),
-        Some(rec) => {
-            let site = at.site;
-            lines.push(alloc, OutLine::Log { site, rec })
-        }
-    }
-}
-
-// A refusal is shown.
-fn show_refusal(
-    alloc: Global,
-    refusal: Option<Refusal>,
-    lines: &mut OutLines,
-) -> Result<(), NoMemory>
-    ensures { OnOk result (lines.new ≡ lines.old ++ refused_lines (number_in refusal)) }
-{
-    match refusal {
-        None => Ok(()),
-        Some(refusal) => lines.push(alloc, refused_shown(refusal.number())),
     }
 }

@@ -8,17 +8,16 @@ ghost use Rattle.tp_laws.specs.Expansion.{IsOfRun};
 ghost use Rattle.tp_model.specs.Legal.{IsUnder};
 ghost use Rattle.tp_model.specs.Lines.{if_named, is_named, is_frame, action_line, node_limit, node_line, skip_line, drain_line, show_line, image_line, within_limits, is_peer_node};
 ghost use Rattle.tp_site.specs.NodeEvent.{event_of};
-ghost use Rattle.tp_world_parts.specs.Placing.{boot_lines};
 ghost use Rattle.tp_world.specs.Declares.{superior_at, has_superior, HasCome};
 ghost use Rattle.tp_world.specs.Drains.{Hands};
 ghost use Rattle.tp_world.specs.World.{Mirrors, Gives, task_turn};
 
 use crate::world::World;
 use std::alloc::Global;
-use tp_model::{LineRequest, LogWords, OutLine, OutLines, What};
+use tp_model::{LineRequest, OutLine, OutLines, What};
 use tp_names::{Addr, NoMemory, Octets, SiteName};
 use tp_site::NodeEvent;
-use tp_world_parts::{WorldFault, declare_at, peer_of, state_at, state_shown};
+use tp_world_parts::{WorldFault, declare_at, peer_of, show_boot, state_at, state_shown};
 
 /// The most sites and nodes.
 const MOST_SITES: usize = 16;
@@ -329,23 +328,5 @@ impl World {
         };
         lines.push(alloc, state_shown(node, &state))?;
         Ok(())
-    }
-}
-
-// The boot of a site that is new is shown.
-fn show_boot(
-    alloc: Global,
-    site: SiteName,
-    boot: Option<u64>,
-    lines: &mut OutLines,
-) -> Result<(), NoMemory>
-    ensures { OnOk result (lines.new ≡ lines.old ++ boot_lines site boot) }
-{
-    match boot {
-        None => Ok(()),
-        Some(boot) => {
-            let rec = LogWords::Boot { boot };
-            lines.push(alloc, OutLine::Log { site, rec })
-        }
     }
 }

@@ -8,3 +8,4 @@ pub mod Slots
 pub mod Placing
 pub mod Restarts
 pub mod Left
+pub mod Shown

@@ -1,14 +1,18 @@
 //! What lines show of records.
-ghost use Rattle.std.specs.Prelude.{◌≡◌, ◌∷◌, [], Some, IfOk};
+ghost use Rattle.std.specs.Prelude.{◌≡◌, ◌++◌, ◌∷◌, [], Some, IfOk, OnOk};
 ghost use Rattle.tp_model.specs.Happenings.{log_shown, sent_shown, refused_lines};
 ghost use Rattle.tp_model.specs.Lines.{phase_shown, state_line};
+ghost use Rattle.tp_model.specs.Refusal.{number_in};
 ghost use Rattle.tp_model.specs.Trees.{placed};
 ghost use Rattle.tp_site.specs.State.{state_of};
+ghost use Rattle.tp_world_parts.specs.Placing.{boot_lines};
+ghost use Rattle.tp_world_parts.specs.Shown.{forced_lines};
 
+use crate::site_slot::Entry;
 use std::alloc::Global;
 use tp_logrec::LogRec;
-use tp_model::{LogWords, NodeNumbers, OutLine, Phase, PhaseWord, SentWords};
-use tp_names::{NoMemory, Octets};
+use tp_model::{LogWords, NodeNumbers, OutLine, OutLines, Phase, PhaseWord, Refusal, SentWords};
+use tp_names::{Addr, NoMemory, Octets, SiteName};
 use tp_records::{DialogueRecord, PeerRecord};
 use tp_site::NodeState;
 
@@ -188,4 +192,54 @@ pub(crate) fn placed(
         all.push(alloc, number)?;
     }
     Ok(all)
+}
+
+/// The boot of a site that is new is shown.
+pub fn show_boot(
+    alloc: Global,
+    site: SiteName,
+    boot: Option<u64>,
+    lines: &mut OutLines,
+) -> Result<(), NoMemory>
+    ensures { OnOk result (lines.new ≡ lines.old ++ boot_lines site boot) }
+{
+    match boot {
+        None => Ok(()),
+        Some(boot) => {
+            let rec = LogWords::Boot { boot };
+            lines.push(alloc, OutLine::Log { site, rec })
+        }
+    }
+}
+
+/// A record that was forced is shown.
+pub fn show_record(
+    alloc: Global,
+    at: &Addr,
+    entry: &Entry,
+    lines: &mut OutLines,
+) -> Result<(), NoMemory>
+    ensures { OnOk result (lines.new ≡ lines.old ++ forced_lines at.now.site entry.now.change.rec) }
+{
+    match entry.change.rec {
+        None => Ok(()),
+        Some(rec) => {
+            let site = at.site;
+            lines.push(alloc, OutLine::Log { site, rec })
+        }
+    }
+}
+
+/// A refusal is shown.
+pub fn show_refusal(
+    alloc: Global,
+    refusal: Option<Refusal>,
+    lines: &mut OutLines,
+) -> Result<(), NoMemory>
+    ensures { OnOk result (lines.new ≡ lines.old ++ refused_lines (number_in refusal)) }
+{
+    match refusal {
+        None => Ok(()),
+        Some(refusal) => lines.push(alloc, refused_shown(refusal.number())),
+    }
 }
