@@ -130,13 +130,6 @@ fn commands_over_a_disk(rt: HostRuntime) {
     }
 }
 
-#[test]
-fn a_disk_fault_is_told_with_the_count(rt: HostRuntime) {
-    let ended = on_disk(rt.alloc(), "format", b"what stood there", &[1]);
-    let (status, _sink, _disk) = ended.expect(&rt, "in memory");
-    assert!(rt; status == Status::DiskFault { faults: 1 });
-}
-
 // The same of a replay.
 fn replayed(alloc: Global, text: &str, fails: Fails, written: &str) -> Option<Status> {
     status_of(alloc, &["replay"], text.as_bytes(), fails, written)
@@ -194,8 +187,7 @@ const BAD: &[(&str, Why)] = &[
 #[test]
 fn lines_that_are_bad(rt: HostRuntime) {
     for (line, wanted) in BAD {
-        let why = refused_by(rt.alloc(), line);
-        assert!(rt; why == Some(*wanted), "{line}");
+        assert!(rt; refused_by(rt.alloc(), line) == Some(*wanted), "{line}");
     }
 }
 
@@ -211,25 +203,20 @@ fn the_schedule_has_a_limit(rt: HostRuntime) {
     let status = after_empty_lines(rt.alloc(), 1_048_576);
     assert!(rt; matches!(status, Some(Status::Ok)));
     let status = after_empty_lines(rt.alloc(), 1_048_577);
-    assert!(rt;
-        matches!(
-            status,
-            Some(Status::Limit {
-                what: What::Schedule,
-                at: 1_048_577
-            })
-        )
-    );
+    let past = Status::Limit {
+        what: What::Schedule,
+        at: 1_048_577,
+    };
+    assert!(rt; status == Some(past));
 }
 
 #[test]
-fn a_read_fault_is_told_with_the_count(rt: HostRuntime) {
+fn faults_are_told_with_the_count(rt: HostRuntime) {
+    let ended = on_disk(rt.alloc(), "format", b"what stood there", &[1]);
+    let (status, _sink, _disk) = ended.expect(&rt, "in memory");
+    assert!(rt; status == Status::DiskFault { faults: 1 });
     let status = replayed(rt.alloc(), SCHEDULE, (&[2], &[]), TRANSCRIPT);
     assert!(rt; matches!(status, Some(Status::ReadFault { faults: 1 })));
-}
-
-#[test]
-fn a_write_fault_is_told_with_the_count(rt: HostRuntime) {
     let status = replayed(rt.alloc(), SCHEDULE, (&[], &[1]), "");
     assert!(rt; matches!(status, Some(Status::WriteFault { faults: 1 })));
 }
@@ -291,10 +278,8 @@ fn not_opened(alloc: Global, bytes: &[u8], fails: &[u8]) -> Option<StartFault> {
 
 #[test]
 fn a_store_is_not_opened(rt: HostRuntime) {
-    let fault = not_opened(rt.alloc(), b"no log", &[]);
-    assert!(rt; fault == Some(StartFault::Foreign { at: 0 }));
-    let fault = not_opened(rt.alloc(), b"", &[1]);
-    assert!(rt; fault == Some(StartFault::DiskFault { faults: 1 }));
+    assert!(rt; not_opened(rt.alloc(), b"no log", &[]) == Some(StartFault::Foreign { at: 0 }));
+    assert!(rt; not_opened(rt.alloc(), b"", &[1]) == Some(StartFault::DiskFault { faults: 1 }));
 }
 
 fn is_shown_as(alloc: Global, status: Status, text: &str) -> bool {
