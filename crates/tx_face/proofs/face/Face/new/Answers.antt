@@ -1,13 +1,25 @@
 -- The face is made, and the node is declared.
-use Rattle.std.proofs.Common.{refl, ap, sym, subst, [], List, None, Ok, Err}
+use Rattle.std.proofs.Common.{◌≡◌, ◌∙◌, refl, ap, sym, subst, [], List, None, Ok, Err}
 use Rattle.tp_records.specs.declared.body.Event.{Event as Given}
 use Rattle.tp_records.specs.declared.body.Output.{Output}
 use Rattle.tp_site.specs.Site.{Site}
-use Rattle.tp_site.specs.Events.{history_at}
+use Rattle.tp_model.specs.NodeRun.{asked}
+use Rattle.tp_site.specs.Events.{history_at, opening_at, PlaysAsked}
+use Rattle.tx_face.specs.Codes.{code_given}
 use Rattle.tx_face.specs.Face.{Face, Goes, undeclared}
 use Rattle.tx_face.proofs.Going.{face_is}
 use Rattle.tx_face.proofs.Declared.{declared_quietly, declared_freely}
 use Rattle.tx_face.proofs.face.Face.new.Goals as goal
+
+pub returns-in-Ok-clause-made : goal.returns-in-Ok-clause-made
+returns-in-Ok-clause-made g c =
+    let site = c.args.site in
+    let plays = c.in-Ok.ensures.plays in
+    let quiet : c.in-Ok.field-0 ≡ [] = declared_quietly g.K.Keeper.standing site c.args.node c.in-Ok.field-0 c.event.new.self.site plays.site in (
+      subst (λ (outs : List Output). PlaysAsked g.K.Keeper.standing site (asked (opening_at site.nodes.site) (Given.Declare c.args.node None)) (Ok outs) c.event.new.self.site) quiet plays.site,
+      plays.node,
+      plays.code ∙ ap (λ (outs : List Output). code_given c.args.node outs None) quiet,
+    )
 
 pub returns-in-Ok-clause-goes : goal.returns-in-Ok-clause-goes
 returns-in-Ok-clause-goes g c = λ o gs at.
