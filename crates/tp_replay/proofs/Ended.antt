@@ -29,7 +29,7 @@ use Rattle.tp_replay.specs.declared.stop.LineStop.{LineStop}
 use Rattle.tp_replay.specs.declared.stop.InputStop.{InputStop}
 use Rattle.tp_replay.specs.Stops.{IsNumbered}
 use Rattle.tp_replay.specs.Transcribing.{ReadsTo, past_bad, past_limit}
-use Rattle.tp_replay.specs.Playing.{unread_as, unplayed_as, unheard_as, Stops, from_reading, Shows, EndsIn, EndsReading, ShowsReading, ShowsNext, EndsAt, EndsNext}
+use Rattle.tp_replay.specs.Playing.{unread_as, unplayed_as, unheard_as, Stops, from_reading, Shows, EndsIn, EndsReading, ShowsReading, PlaysUnwritten, ShowsNext, EndsAt, EndsNext}
 use Rattle.tp_replay.proofs.Left.{Parted, answers_first, reads_to}
 
 -- ---- the echo
@@ -62,11 +62,12 @@ module _ {M : Type 0} (allowed : M → List Answer → Type 0) (at : ℕ) (w : W
   abbrev k : ℕ
   k = length (members_of old)
 
-  pub shows_line : (x : Line) (before lines : List OutLine) (out shown : List ℕ) → before ≡ [] → PlaysAfter allowed w x before (Ok tt) lines old new → shown ≡ out ++ out_texts (echo x ++ lines) → Shows allowed at w (Says x) out shown old new
-  shows_line x before lines out shown none h is = record {
+  -- what it shows, where nothing came before
+  pub shows_line : (x : Line) (before lines : List OutLine) → before ≡ [] → PlaysAfter allowed w x before (Ok tt) lines old new → Shows allowed at w (Says x) [] (out_texts (echo x ++ lines)) old new
+  shows_line x before lines none h = record {
     text = out_texts (echo x ++ h.shown);
     world = h.world;
-    is = is ∙ ap (λ (ls : List OutLine). out ++ out_texts (echo x ++ ls)) (h.is ∙ ap (λ (ls : List OutLine). ls ++ h.shown) none);
+    is = ap (λ (ls : List OutLine). out_texts (echo x ++ ls)) (h.is ∙ ap (λ (ls : List OutLine). ls ++ h.shown) none);
     leads = record {
       put = h.played.put;
       given = h.played.given;
@@ -75,6 +76,16 @@ module _ {M : Type 0} (allowed : M → List Answer → Type 0) (at : ℕ) (w : W
       gave = h.played.gave;
       count = h.played.count;
     };
+    stands = h.stands;
+  }
+
+  -- the same text at the end of an output
+  pub shows_after : (r : Reading) (out text shown : List ℕ) → shown ≡ out ++ text → Shows allowed at w r [] text old new → Shows allowed at w r out shown old new
+  shows_after r out text shown is h = record {
+    text = h.text;
+    world = h.world;
+    is = is ∙ ap (λ (t : List ℕ). out ++ t) h.is;
+    leads = h.leads;
     stands = h.stands;
   }
 
@@ -114,6 +125,11 @@ module _ {M : Type 0} (allowed : M → List Answer → Type 0) (at : ℕ) (w : W
 
   pub said_shows : (x : Line) (r : Reading) (a : Result (Unit {0}) LineStop) (out shown : List ℕ) → Says x ≡ r → ShowsReading old new allowed at w (Says x) a out shown → ShowsReading old new allowed at w r a out shown
   said_shows x r a out shown is h = subst (λ (q : Reading). ShowsReading old new allowed at w q a out shown) is h
+
+  -- the same where it is written nowhere
+  pub said_plays : (x : Line) (r : Reading) (a : Result (Unit {0}) LineStop) (text : List ℕ) → Says x ≡ r → ShowsReading old new allowed at w (Says x) a [] text → PlaysUnwritten old new allowed at w r a
+  said_plays x r (Ok u) text is h = subst (λ (q : Reading). PlaysUnwritten old new allowed at w q (Ok u)) is (text, h)
+  said_plays x r (Err stop) text is h = subst (λ (q : Reading). EndsReading allowed at w q stop old new) is h
 
   faulty_ends : (why : Why) (r : Reading) → Faulty why ≡ r → members_of new ≡ members_of old → EndsIn allowed at w r (Bad_input at why) old new
   faulty_ends why r is same = subst (λ (q : Reading). EndsIn allowed at w q (Bad_input at why) old new) is

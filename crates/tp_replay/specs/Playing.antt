@@ -91,6 +91,11 @@ abbrev pub ShowsReading : {M : Type 0} → DrivenWorld M → DrivenWorld M → (
 ShowsReading old new allowed at w r (Ok u) out shown = Shows allowed at w r out shown old new
 ShowsReading old new allowed at w r (Err stop) out shown = EndsReading allowed at w r stop old new
 
+-- the same of a line that is played, where what it shows is some text that is written nowhere
+abbrev pub PlaysUnwritten : {M : Type 0} → DrivenWorld M → DrivenWorld M → (M → List Answer → Type 0) → ℕ → World → Reading → Result (Unit {0}) LineStop → Type 0
+PlaysUnwritten old new allowed at w r (Ok u) = (text : List ℕ) × Shows allowed at w r [] text old new
+PlaysUnwritten old new allowed at w r (Err stop) = EndsReading allowed at w r stop old new
+
 -- ---- the next line of a source
 
 -- it was played, and the others are left; whatever lines come after it, it shows that text
@@ -134,3 +139,9 @@ abbrev pub PlaysNext : {M : Type 0} → DrivenWorld M → DrivenWorld M → (M �
 PlaysNext old new allowed at before w ls (Ok true) out shown place unread = ShowsNext allowed at before w ls out shown place unread old new
 PlaysNext old new allowed at before w ls (Ok false) out shown place unread = IsLast ls unread old new
 PlaysNext old new allowed at before w ls (Err stop) out shown place unread = EndsNext allowed at before w ls stop unread old new
+
+-- the same where what it shows is some text that is written nowhere
+abbrev pub PlaysNextUnwritten : {M : Type 0} → DrivenWorld M → DrivenWorld M → (M → List Answer → Type 0) → ℕ → ℕ → World → List RawLine → Result Bool InputStop → Place → Option (List ℕ) → Type 0
+PlaysNextUnwritten old new allowed at before w ls (Ok true) place unread = (text : List ℕ) × ShowsNext allowed at before w ls [] text place unread old new
+PlaysNextUnwritten old new allowed at before w ls (Ok false) place unread = IsLast ls unread old new
+PlaysNextUnwritten old new allowed at before w ls (Err stop) place unread = EndsNext allowed at before w ls stop unread old new

@@ -9,7 +9,7 @@ ghost use Rattle.tp_model.specs.Transcript.{echo};
 ghost use Rattle.tp_model.specs.World.{World as WorldValue};
 ghost use Rattle.tp_driven.specs.DrivenWorld.{Stands};
 ghost use Rattle.tp_replay.specs.Stops.{IsNumbered};
-ghost use Rattle.tp_replay.specs.Playing.{ShowsReading, unread_as, unplayed_as};
+ghost use Rattle.tp_replay.specs.Playing.{ShowsReading, PlaysUnwritten, unread_as, unplayed_as};
 
 use crate::stop::LineStop;
 use std::alloc::Global;
@@ -129,9 +129,28 @@ fn write_played(
     }
 }
 
+// Plays a line: the lines are what it shows, its echo apart; or tells what stops the run in it.
+#[tactic(auto, using(crate::proofs::Ended::unplayed_numbered))]
+fn run_line<M: Member>(
+    alloc: Global,
+    world: &mut DrivenWorld<M>,
+    line: &Line,
+    at: u64,
+    lines: &mut OutLines,
+) -> Result<(), LineStop>
+    requires numbered { 0 < at }
+    ensures ending { IfErr result IsNumbered }
+    ensures shows { (w : WorldValue) → Stands w world.old → ShowsReading world.old world.new M.allowed at w (Says line.now) result [] (out_texts (echo line.now ++ lines.new)) }
+{
+    lines.clear();
+    match world.play(alloc, line, lines) {
+        Ok(()) => Ok(()),
+        Err(fault) => Err(unplayed(fault, at)),
+    }
+}
+
 // Puts what a line shows at the end of `out`; or tells what stops the run in it, and `out` stays as it was. The lines are
 // room for what it shows.
-#[tactic(auto, using(crate::proofs::Ended::unplayed_numbered))]
 fn play_line<M: Member>(
     alloc: Global,
     world: &mut DrivenWorld<M>,
@@ -145,13 +164,12 @@ fn play_line<M: Member>(
     ensures same { OnErr result (out.new ≡ out.old) }
     ensures shown { (w : WorldValue) → Stands w world.old → ShowsReading world.old world.new M.allowed at w (Says line.now) result out.old out.new }
 {
-    lines.clear();
-    match world.play(alloc, line, lines) {
+    match run_line(alloc, world, line, at, lines) {
         Ok(()) => match write_played(alloc, line, lines, out) {
             Ok(()) => Ok(()),
             Err(NoMemory) => Err(LineStop::NoMemory),
         },
-        Err(fault) => Err(unplayed(fault, at)),
+        Err(stop) => Err(stop),
     }
 }
 
@@ -174,6 +192,27 @@ pub fn play_text<M: Member>(
     match read_line(alloc, text) {
         Ok(None) => Ok(()),
         Ok(Some(line)) => play_line(alloc, world, &line, at, lines, out),
+        Err(fault) => Err(unread(fault, at)),
+    }
+}
+
+/// Plays the line of that number, without its end, and writes nothing of what it shows; or tells what stops the run in it.
+/// The lines are room for what it shows.
+#[tactic(auto, using(crate::proofs::Ended::said_plays, crate::proofs::Ended::unread_ends, crate::proofs::Ended::unread_numbered))]
+pub fn play_unwritten<M: Member>(
+    alloc: Global,
+    world: &mut DrivenWorld<M>,
+    text: &[u8],
+    at: u64,
+    lines: &mut OutLines,
+) -> Result<(), LineStop>
+    requires numbered { 0 < at }
+    ensures ending { IfErr result IsNumbered }
+    ensures played { (w : WorldValue) → Stands w world.old → PlaysUnwritten world.old world.new M.allowed at w (read_line text.now) result }
+{
+    match read_line(alloc, text) {
+        Ok(None) => Ok(()),
+        Ok(Some(line)) => run_line(alloc, world, &line, at, lines),
         Err(fault) => Err(unread(fault, at)),
     }
 }

@@ -8,12 +8,12 @@ ghost use Rattle.tp_schedule.specs.LinesLeft.{lines_left};
 ghost use Rattle.tp_driven.specs.DrivenWorld.{Stands};
 ghost use Rattle.tp_streams.specs.Stops.{IsFaultOf};
 ghost use Rattle.tp_replay.specs.Stops.{IsInputStop, IsReplayStop};
-ghost use Rattle.tp_replay.specs.Playing.{PlaysNext, unheard_as};
+ghost use Rattle.tp_replay.specs.Playing.{PlaysNext, PlaysNextUnwritten, unheard_as};
 ghost use Rattle.tp_replay.specs.Transcribing.{may_of, replay_of, Reads, ReadsInput, Tells, TranscribesOn};
 ghost use Rattle.tp_replay.specs.Written.{Writes};
 
 use crate::output::{write_all, write_long};
-use crate::playing::{play_text, write_texts};
+use crate::playing::{play_text, play_unwritten, write_texts};
 use crate::stop::{InputStop, LineStop, ReplayStop, WriteFault};
 use std::alloc::Global;
 use tp_driven::DrivenWorld;
@@ -63,6 +63,32 @@ pub fn play_next<S: Source, M: Member>(
     match lines.next(source) {
         Ok(None) => Ok(false),
         Ok(Some(text)) => match play_text(alloc, world, text, at, shown, out) {
+            Ok(()) => Ok(true),
+            Err(stop) => Err(InputStop::Line(stop)),
+        },
+        Err(fault) => Err(unheard(fault, at)),
+    }
+}
+
+/// Plays the next line of the source, which has that number, writes nothing of what it shows, and answers whether there was
+/// one; or tells what stops the run there. The lines `shown` are room for what it shows.
+pub fn play_next_unwritten<S: Source, M: Member>(
+    alloc: Global,
+    lines: &mut Lines,
+    source: &mut S,
+    world: &mut DrivenWorld<M>,
+    at: u64,
+    shown: &mut OutLines,
+) -> Result<bool, InputStop>
+    requires numbered { 0 < at }
+    requires unfaulted { lines.old.fault ≡ None }
+    ensures ending { IfErr result (IsInputStop (S.fault_count source.old) (S.fault_count source.new)) }
+    ensures unfaulted { result ≡ Ok true → lines.new.fault ≡ None }
+    ensures plays { (w : WorldValue) (ls : List RawLine) → Stands w world.old → lines_left lines.old (S.left source.old) ≡ Some ls → PlaysNextUnwritten world.old world.new M.allowed at lines.old.before w ls result lines.new (S.left source.new) }
+{
+    match lines.next(source) {
+        Ok(None) => Ok(false),
+        Ok(Some(text)) => match play_unwritten(alloc, world, text, at, shown) {
             Ok(()) => Ok(true),
             Err(stop) => Err(InputStop::Line(stop)),
         },

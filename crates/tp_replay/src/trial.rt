@@ -9,7 +9,7 @@ ghost use Rattle.tp_replay.specs.Trying.{alone, IsPlayed, StopsAt, TriesSchedule
 
 use crate::held::Held;
 use crate::output::write_all;
-use crate::replaying::{PAST_LINES, play_next};
+use crate::replaying::{PAST_LINES, play_next_unwritten};
 use crate::stop::{InputStop, LineStop, TrialStop, WriteFault};
 use crate::voter::Voter;
 use std::alloc::Global;
@@ -78,7 +78,7 @@ fn of_lines(stop: InputStop) -> LineStop
     }
 }
 
-// Plays a schedule in memory over a world with nothing in it and no member. What its lines show is kept nowhere.
+// Plays a schedule in memory over a world with nothing in it and no member, and writes nothing of what its lines show.
 fn play_made(alloc: Global, text: Octets, world: &mut DrivenWorld<Voter>) -> Result<(), LineStop>
     requires empty { Stands empty_world world.old }
     requires alone { members_of world.old ≡ [] }
@@ -88,18 +88,9 @@ fn play_made(alloc: Global, text: Octets, world: &mut DrivenWorld<Voter>) -> Res
     let mut source = Held::new(alloc, text);
     let mut lines = Lines::new();
     let mut shown = OutLines::new(alloc);
-    let mut out = Octets::new(alloc);
     for at in 1..PAST_LINES {
-        match play_next(
-            alloc,
-            &mut lines,
-            &mut source,
-            world,
-            at,
-            &mut shown,
-            &mut out,
-        ) {
-            Ok(true) => out.truncate(0),
+        match play_next_unwritten(alloc, &mut lines, &mut source, world, at, &mut shown) {
+            Ok(true) => {}
             Ok(false) => return Ok(()),
             Err(stop) => return Err(of_lines(stop)),
         }
