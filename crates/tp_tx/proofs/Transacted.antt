@@ -9,6 +9,7 @@ use Rattle.tp_logrec.specs.declared.record.LogRec.{LogRec}
 use Rattle.tp_logrec.specs.LogText.{IsLog}
 use Rattle.tp_model.specs.declared.verdict.What.{What}
 use Rattle.tp_model.specs.Links.{greatest}
+use Rattle.tp_model.specs.Events.{started}
 use Rattle.tp_model.specs.Transcript.{Ending, Done, Bad_input, At_limit}
 use Rattle.tp_model.specs.NodeRun.{Opening, boot_of, run_from, log_after}
 use Rattle.tp_model.specs.NodeTranscript.{is_past_limit}
@@ -18,7 +19,9 @@ use Rattle.tp_journal.specs.Told.{LeavesOnly, LeavesNow}
 use Rattle.tp_streams.specs.declared.stop.Stop.{Stop}
 use Rattle.tp_streams.specs.Written.{WritesPrefix}
 use Rattle.tp_log_tools.specs.Readings.{IsFile}
-use Rattle.tp_site.specs.Site.{Site}
+use Rattle.tp_site.specs.declared.faults.SiteFault.{SiteFault}
+use Rattle.tp_site.specs.Site.{Site, known_at}
+use Rattle.tp_site.specs.Events.{StepsTo, all_nodes}
 use Rattle.tp_serve.specs.Images.{IsNodeImage}
 use Rattle.tp_serve.specs.Progress.{is_wide, IsServing}
 use Rattle.tp_serve.specs.Starting.{opening, HasStarted, FailsBefore, NotStarted}
@@ -86,6 +89,17 @@ module _ {K : Type 0} (standing : K → Standing) (o : Opening) (begun : Option 
 
   pub made : (f : Face K) → Goes standing o [] [] (undeclared site 1) (Given.Declare 1 None) (Ok []) f → IsRunning standing o first_events begun faults f
   made f x = happened standing o [] begun faults (undeclared site 1) before_it (Given.Declare 1 None) f [] x
+
+  -- no event came before
+  pub undeclared_yet : (known_at site 1).declared ≡ false
+  unfolding started
+  undeclared_yet = ap (λ d. d.declared) (serving.at.known 1 refl)
+
+  -- without memory the log stays as it was
+  pub unmade : (new : Site K) (fault : SiteFault) → fault ≡ SiteFault.NoMemory → StepsTo standing all_nodes o [] site (Given.Declare 1 None) (Err fault) new → LeavesOnly (IsNodeImage o [] 0) begun (standing new.keeper).story
+  unmade new fault starved steps =
+      let quiet : StepsTo standing all_nodes o [] site (Given.Declare 1 None) (Err SiteFault.NoMemory) new = subst (λ (f : SiteFault). StepsTo standing all_nodes o [] site (Given.Declare 1 None) (Err f) new) starved steps in
+      subst (LeavesOnly (IsNodeImage o [] 0) begun) (sym (ap (λ (s : Standing). s.story) quiet.1)) serving.log.moments
 
 -- ---- the whole
 
