@@ -32,6 +32,7 @@ ghost use Rattle.tp_model.specs.Links.{greatest, is_opening_with, dropped_by};
 use crate::copies;
 use std::alloc::Global;
 use std::marker::Model;
+use std::mem::swap;
 use tp_commit::Branch;
 use tp_dialogue::{Asked, Heard};
 use tp_logrec::LogRec;
@@ -118,8 +119,10 @@ impl Draft {
     pub(crate) fn carry(&mut self, peer: u16, rec: DialogueRecord) -> Result<(), Halt>
         ensures { Plays result self.old self.new (λ who. perform (TxOut.Carry peer rec ∷ [])) }
     {
-        let out = self.node.carry(peer, rec)?;
-        self.outs.extend(out)?;
+        let Some(next) = self.node.number_next(peer)? else {
+            return Ok(());
+        };
+        self.outs.carry(&next, rec)?;
         Ok(())
     }
 
@@ -312,13 +315,13 @@ impl Draft {
     }
 
     // What is logged, and what the transaction has become.
-    fn settle(&mut self, alloc: Global, rec: Option<LogRec>, next: Branch) -> Result<(), Halt>
-        ensures { Plays result self.old self.new (settling rec next) }
+    fn settle(&mut self, alloc: Global, rec: &mut Option<LogRec>, next: Branch) -> Result<(), Halt>
+        ensures { Plays result self.old self.new (settling rec.old next) }
     {
-        self.node.keep(alloc, &rec)?;
+        self.node.keep(alloc, rec)?;
         self.node.settle(next);
         if rec.is_some() {
-            self.rec = rec;
+            swap(&mut self.rec, rec);
         }
         Ok(())
     }
@@ -328,16 +331,15 @@ impl Draft {
         &mut self,
         alloc: Global,
         passage: Passage,
-        step: Step,
+        step: &mut Step,
         next: Branch,
     ) -> Result<(), Halt>
-        ensures { Plays result self.old self.new (turning next (passage_of passage) step next) }
+        ensures { Plays result self.old self.new (turning next (passage_of passage) step.old next) }
     {
-        let Step { rec, outs } = step;
-        if let Err(halt) = self.speak(alloc, &next, passage, outs.as_slice()) {
+        if let Err(halt) = self.speak(alloc, &next, passage, step.outs.as_slice()) {
             return Err(halt);
         }
-        self.settle(alloc, rec, next)
+        self.settle(alloc, &mut step.rec, next)
     }
 
     // A turn of the transaction as it is seen now, by an event that it does not refuse; and whether it is over.
@@ -352,9 +354,9 @@ impl Draft {
         ensures turn { Plays (without_value result) self.old self.new (turning_by branch event.now) }
     {
         let before = branch.phase();
-        let step = branch.turn(alloc, event)?;
+        let mut step = branch.turn(alloc, event)?;
         let passage = Passage::of(is_leaving(event), before, branch.phase());
-        if let Err(halt) = self.turn(alloc, passage, step, branch) {
+        if let Err(halt) = self.turn(alloc, passage, &mut step, branch) {
             return Err(halt);
         }
         Ok(passage.is_over())

@@ -1,6 +1,7 @@
 -- A branch that begins on an arc of a node.
 use Rattle.std.proofs.Common.{◌≡◌, ℕ, suc, Bool, true, false, Option, Some, None, List, [], ◌∷◌, ◌++◌, refl, ap, sym, ◌∙◌, arith}
 use Rattle.std.specs.Prelude.{◌==◌, ◌&&◌, not, cond, nat_lt}
+use Rattle.std.proofs.lemmas.Grind.{common_steps}
 use Rattle.std.specs.Cmp.{unsigned_Decides}
 use Rattle.tp_names.specs.declared.identifiers.Aaid.{Aaid}
 use Rattle.tp_records.specs.declared.dialogue.DialogueRecord.{DialogueRecord}
@@ -10,7 +11,8 @@ use Rattle.tp_model.specs.Arcs.{find_arc, with_dialogue}
 use Rattle.tp_model.specs.Dialogues.{begun_by, named_holder, is_active}
 use Rattle.tp_model.specs.Links.{is_live, greatest}
 use Rattle.tp_model.specs.Transactions.{Row, aaid_of}
-use Rattle.tp_model.specs.Node.{branches_of, is_superior, side_at, phase_of, situation_at, may_begin_on, with_mark_drawn}
+use Rattle.tp_model.specs.Node.{branches_of, is_superior, side_at, phase_of, situation_at, may_begin_on, with_mark_drawn, chained_from, chained_peers}
+use Rattle.tp_node_parts.specs.SharedArcs.{has_none_chained}
 use Rattle.tp_node.specs.Begins.{aaid_in, with_branch, new_branch, begun_at, begun_on}
 
 pub branches_more : (rs : List Row) (r : Row) → branches_of (rs ++ r ∷ []) ≡ branches_of rs ++ r.branch ∷ []
@@ -97,3 +99,12 @@ begun_spent who p d a u tree found may all = go d.current refl tree
     go : (o : Option Current) → d.current ≡ o → aaid_in o ≡ Some u → nat_lt greatest (begun_on who p d).0.drawn ≡ true
     go None e f = grind (arith, f)
     go (Some c) e f = ap (λ (x : Digest × Option DialogueRecord). nat_lt greatest x.0.drawn) (on_found who p d c a e found may) ∙ ap (λ n. nat_lt greatest (suc n)) all
+
+-- ---- none of the dialogues is chained
+
+pub none_from : (who : Who) (d : Digest) (arcs : List Arc) → has_none_chained arcs ≡ true → chained_from who d arcs ≡ []
+none_from who d [] h = refl
+none_from who d (a ∷ arcs) h = grind (arith, common_steps, none_from who d arcs, h)
+
+pub none_chained : (who : Who) (d : Digest) → has_none_chained d.arcs ≡ true → [] ≡ chained_peers who d
+none_chained who d h = sym (none_from who d d.arcs h)

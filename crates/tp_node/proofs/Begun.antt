@@ -1,24 +1,28 @@
 -- A Begin for which nothing can be wanting: what it makes of the node, and what goes out.
-use Rattle.std.proofs.Common.{◌≡◌, ◌+◌, ◌<◌, ℕ, suc, Bool, true, false, Option, Some, None, IfSome, List, [], ◌∷◌, length, refl, ap, sym, ◌∙◌, arith}
+use Rattle.std.proofs.Common.{◌≡◌, ◌+◌, ◌<◌, ℕ, suc, Bool, true, false, Option, Some, None, IfSome, Result, Ok, Err, OnOk, OnErr, List, [], ◌∷◌, length, refl, ap, sym, ◌∙◌, arith}
 use Rattle.std.specs.Prelude.{◌==◌, ◌&&◌, not, nat_lt}
 use Rattle.std.proofs.lemmas.Bool.Decides.{nat_tests}
 use Rattle.std.proofs.lemmas.Grind.{common_steps}
 use Rattle.std.specs.Cmp.{unsigned_Decides}
 use Rattle.tp_names.specs.declared.identifiers.Addr.{Addr}
 use Rattle.tp_names.specs.declared.identifiers.Aaid.{Aaid}
+use Rattle.tp_logrec.specs.declared.record.LogVersion.{LogVersion}
 use Rattle.tp_records.specs.declared.dialogue.DialogueRecord.{DialogueRecord}
 use Rattle.tp_model.specs.declared.arc.Side.{Side}
 use Rattle.tp_model.specs.Parts.{Who, Link, Idle, Opening, Offered, Live, Arc, Dialogue, Current, Digest, Out}
 use Rattle.tp_model.specs.Arcs.{find_arc, with_dialogue, carried}
 use Rattle.tp_model.specs.Dialogues.{begun_by, named_holder}
 use Rattle.tp_model.specs.Links.{greatest}
+use Rattle.tp_model.specs.Requests.{room}
 use Rattle.tp_model.specs.Events.{some_past_numbers}
 use Rattle.tp_model.specs.Transactions.{Row, Transaction, aaid_of}
 use Rattle.tp_model.specs.Node.{branches_of, may_begin_on}
 use Rattle.tp_node_parts.specs.declared.outs.Out.{Out as CodeOut}
 use Rattle.tp_node_parts.specs.Outs.{out_of, outs_of_option}
-use Rattle.tp_node.specs.Node.{current_of}
-use Rattle.tp_node_parts.specs.Arcs.{next_on, is_spent, outs_next}
+use Rattle.tp_node_parts.specs.declared.outs.Next.{Next}
+use Rattle.tp_node.specs.declared.node.Node.TheInside.{Inside}
+use Rattle.tp_node.specs.Node.{Node, node_of, arcs_in, with_arcs, current_of}
+use Rattle.tp_node_parts.specs.Arcs.{Arcs, next_on, is_spent, outs_next}
 use Rattle.tp_node.specs.Begins.{aaid_in, new_branch, begun_on, begun_sent, has_place_below, can_begin}
 use Rattle.tp_node_parts.proofs.Sides.{carried_next}
 use Rattle.tp_node.proofs.Beginnings.{peer_found, on_found}
@@ -149,3 +153,17 @@ sent_some p b r e = ap (λ (o : Option DialogueRecord). elim o as (λ _. Digest 
 
 pub carries : (who : Who) (p : ℕ) (d : Digest) (r : DialogueRecord) → can_begin who p d ≡ true → Some r ≡ (begun_on who p d).1 → some_past_numbers (carried (begun_on who p d).0.arcs p r).1 ≡ false
 carries who p d r can e = sym (ap (λ (s : Digest × List Out). some_past_numbers s.1) (sent_some p (begun_on who p d) r (sym e))) ∙ numbers_left who p d can
+
+-- ---- a record is numbered
+
+pub numbered_fits : {E : Type 0} (o : Result (Option Next) E) (version : LogVersion) (a b : Arcs) (p : ℕ) (r : DialogueRecord) → OnOk o (b ≡ record a { arcs = (carried a.arcs p r).0 }) → OnErr o (b ≡ a) → a.room ≡ room version → b.room ≡ room version
+numbered_fits (Ok n) version a b p r is same fits = ap (λ (x : Arcs). x.room) is ∙ fits
+numbered_fits (Err e) version a b p r is same fits = ap (λ (x : Arcs). x.room) same ∙ fits
+
+pub numbered_node : {E : Type 0} (o : Result (Option Next) E) (v : Inside) (n : Node) (a b : Arcs) (p : ℕ) (r : DialogueRecord) → v.arcs ≡ Some a → node_of v ≡ n → OnOk o (b ≡ record a { arcs = (carried a.arcs p r).0 })
+    → OnOk o (node_of (record v { arcs = Some b }) ≡ with_arcs n (carried n.digest.arcs p r).0)
+numbered_node (Ok n) v m a b p r at is to =
+    ap (λ (x : Arcs). node_of (record v { arcs = Some x })) to
+    ∙ ap (λ (s : Option Arcs). with_arcs (node_of (record v { arcs = s })) (carried (arcs_in s) p r).0) (sym at)
+    ∙ ap (λ (x : Node). with_arcs x (carried x.digest.arcs p r).0) is
+numbered_node (Err e) v m a b p r at is to = tt

@@ -10,6 +10,7 @@ ghost use Rattle.tp_model.specs.Links.{greatest, is_idle, is_opening_with, dropp
 ghost use Rattle.tp_model.specs.Arcs.{find_arc, link_with, with_link, with_dialogue, without_arc, shut_with, carried};
 ghost use Rattle.tp_model.specs.Node.{branches_of, seen, remaining, entered, grants, phase_of, has_asked, is_superior, side_at, situation_at, may_root, may_begin_on, is_chained_below, chained_peers, fresh_current, superior_arc, next_mark, with_mark_drawn};
 ghost use Rattle.tp_model.specs.Events.{is_no_node, refused_of_current, refused_purge, some_past_numbers};
+ghost use Rattle.tp_records.specs.declared.dialogue.DialogueRecord.{DialogueRecord as RecordValue};
 ghost use Rattle.tp_records.specs.declared.request.Request.{Request};
 ghost use Rattle.tp_model.specs.Requests.{refused_of_tx, refused_request, refused_at, room, count_below, count_gone, count_subordinates, has_branch_at, is_branch_below};
 ghost use Rattle.tp_model.specs.History.{state};
@@ -21,7 +22,7 @@ ghost use Rattle.tp_model.specs.Disposition.{sight_value};
 ghost use Rattle.tp_model.specs.Arrivals.{sight_in_tx, is_response, woken_by, current_with, current_of as current_in};
 ghost use Rattle.tp_node.specs.State.{state_of, tree_in};
 ghost use Rattle.tp_node.specs.Node.{current_of, with_arcs, has_place_at};
-ghost use Rattle.tp_node_parts.specs.Outs.{outs_of_option};
+ghost use Rattle.tp_node_parts.specs.Outs.{outs_of_option, outs_with};
 ghost use Rattle.tp_node_parts.specs.ArcStep.{stepped_arcs};
 ghost use Rattle.tp_node.specs.Passage.{passage_of};
 ghost use Rattle.tp_dialogue.specs.Kinds.{asked_value, heard_value};
@@ -55,7 +56,7 @@ use tp_names::same::{is_aaid, is_key};
 use tp_names::{
     Aaid, Addr, BranchId, Child, Counter, Mark, NoMemory, NodeKey, NumbersSpent, Outcome, SiteName,
 };
-use tp_node_parts::{ArcStep, KeptTable, Out, SharedArcs, is_granting, kept, release};
+use tp_node_parts::{ArcStep, KeptTable, Next, Out, SharedArcs, is_granting, kept, release};
 use tp_records::{DialogueRecord, Holder, Request};
 use tp_recover::refused;
 use tp_tree::Tie;
@@ -573,6 +574,7 @@ impl Node {
     }
 
     /// The peers of the live chained arcs to subordinates that are no branches yet, in order.
+    #[tactic(auto, using(crate::proofs::Beginnings::none_chained))]
     pub fn chained_peers(&self, alloc: Global) -> Result<Vec<u16>, NoMemory>
         ensures { IfOk result (λ peers. peers.items ≡ chained_peers self.now.who self.now.digest) }
     {
@@ -580,6 +582,9 @@ impl Node {
         let Some(arcs) = &self.arcs else {
             return Ok(peers);
         };
+        if arcs.has_none_chained() {
+            return Ok(peers);
+        }
         let ties = arcs.list(alloc)?;
         for tie in ties.as_slice() {
             if self.is_chained_below(tie) {
@@ -594,7 +599,7 @@ impl Node {
         ensures { IfOk result (λ may. may ≡ may_start self.now.who self.now.digest) }
     {
         let peers = self.chained_peers(alloc)?;
-        Ok(self.phase() == Phase::Nil && self.may_root() && !peers.is_empty())
+        Ok(!peers.is_empty() && self.phase() == Phase::Nil && self.may_root())
     }
 
     // ---- changes
@@ -620,17 +625,17 @@ impl Node {
         }
     }
 
-    /// A record goes out on the arc with that peer, where it is live. Where the association has no number
+    /// Numbers the next record that goes out on the arc with that peer, where it is live. Where the association has no number
     /// left, nothing changes.
-    pub fn carry(&mut self, peer: u16, rec: DialogueRecord) -> Result<Option<Out>, NumbersSpent>
-        ensures arcs { OnOk result (self.new ≡ with_arcs self.old (carried self.old.digest.arcs peer rec).0) }
-        ensures out { IfOk result (λ out. outs_of_option out ≡ (carried self.old.digest.arcs peer rec).1) }
-        ensures spent { OnErr result (some_past_numbers (carried self.old.digest.arcs peer rec).1 ≡ true) }
+    pub fn number_next(&mut self, peer: u16) -> Result<Option<Next>, NumbersSpent>
+        ensures arcs { (rec : RecordValue) → OnOk result (self.new ≡ with_arcs self.old (carried self.old.digest.arcs peer rec).0) }
+        ensures out { (rec : RecordValue) → IfOk result (λ next. outs_with next rec ≡ (carried self.old.digest.arcs peer rec).1) }
+        ensures spent { (rec : RecordValue) → OnErr result (some_past_numbers (carried self.old.digest.arcs peer rec).1 ≡ true) }
     {
-        match &mut self.arcs {
-            None => Ok(None),
-            Some(arcs) => arcs.carry(peer, rec),
-        }
+        let Some(arcs) = &mut self.arcs else {
+            return Ok(None);
+        };
+        arcs.number_next(peer)
     }
 
     /// The next mark of the node's counter. Where it is spent, nothing changes.

@@ -1,5 +1,5 @@
 -- Arcs that are kept with the node's side, and what goes out on them.
-use Rattle.std.proofs.Common.{◌≡◌, ◌<◌, ℕ, zero, suc, Bool, true, false, Option, Some, None, List, [], ◌∷◌, ◌++◌, length, map, take, drop, slice_set, slice_get, slice_index_or, refl, ap, sym, ◌∙◌, arith}
+use Rattle.std.proofs.Common.{◌≡◌, ◌<◌, ℕ, zero, suc, Bool, true, false, Option, Some, None, List, [], ◌∷◌, ◌++◌, length, map, take, drop, slice_set, slice_get, slice_index_or, Result, Ok, Err, IfOk, OnOk, OnErr, refl, ap, sym, ◌∙◌, arith}
 use Rattle.std.specs.Prelude.{◌==◌, if◌then◌else◌}
 use Rattle.std.specs.Option.{option_map}
 use Rattle.std.proofs.lemmas.Bool.Decides.{nat_tests}
@@ -17,6 +17,8 @@ use Rattle.tp_link.specs.Link.{is_next, with_one_sent}
 use Rattle.tp_tree.specs.declared.tie.Tie.{Tie}
 use Rattle.tp_tree.specs.Tie.{arc_of, is_with, find_tie, place_of, without_ties}
 use Rattle.tp_tree.specs.Invocation.{Invocation, ties_of, arcs_of, with_below, with_tie, without_tie, WritesLink, WritesDialogue}
+use Rattle.tp_node_parts.specs.declared.outs.Next.{Next}
+use Rattle.tp_node_parts.specs.Outs.{outs_with}
 use Rattle.tp_node_parts.specs.Arcs.{side_with, is_same_side, is_on, all_on, is_absent, is_apart, is_at, is_sided, count_subordinates_in, next_on, is_spent, outs_next, Arcs, value_of}
 
 -- ---- sides
@@ -211,7 +213,7 @@ with_tie_superior v p u = grind (arith, common_steps)
 with_tie_room : (v : Invocation) (p : ℕ) (u : Tie) → (with_tie v p u).room ≡ v.room
 with_tie_room v p u = grind (arith, common_steps)
 
-written : (v : Invocation) (d : Arcs) (p : ℕ) (u : Tie) (arcs : List Arc) → arcs_of (with_tie v p u) ≡ arcs → value_of (record { tree = v }) ≡ d → value_of (record { tree = with_tie v p u }) ≡ record d { arcs = arcs }
+pub written : (v : Invocation) (d : Arcs) (p : ℕ) (u : Tie) (arcs : List Arc) → arcs_of (with_tie v p u) ≡ arcs → value_of (record { tree = v }) ≡ d → value_of (record { tree = with_tie v p u }) ≡ record d { arcs = arcs }
 written v d p u arcs e is =
     let made : Option Addr → ℕ → List Arc → Arcs = λ s r l. record { superior = s; room = r; arcs = l } in
     ap (λ s. made s (with_tie v p u).room (arcs_of (with_tie v p u))) (with_tie_superior v p u)
@@ -317,3 +319,53 @@ set_none (x ∷ ts) p t h = grind (arith, set_none ts p t, h)
 -- there is none
 pub unwritten : (v : Invocation) (p : ℕ) (t : Tie) → None ≡ find_tie (ties_of v) p → v ≡ with_tie v p t
 unwritten v p t h = grind (arith, common_steps, h, set_none v.below p t)
+
+-- ---- and numbered where it stands
+
+pub arc_numbered : (t u : Tie) → u.addr ≡ t.addr → u.dialogue ≡ t.dialogue → u.link ≡ with_one_sent t.link → arc_of u ≡ record (arc_of t) { link = with_one_sent t.link }
+arc_numbered t u addr dialogue link =
+    let made : Addr → Link → Dialogue → Arc = λ a l d. record { peer = a; link = l; dialogue = d } in
+    ap (λ (a : Addr). made a u.link u.dialogue.dialogue) addr
+    ∙ ap (λ (l : Link). made t.addr l u.dialogue.dialogue) link
+    ∙ ap (λ (e : End). made t.addr (with_one_sent t.link) e.dialogue) dialogue
+
+pub numbered_written : (v : Invocation) (d : Arcs) (p : ℕ) (r : DialogueRecord) (t u : Tie) → WritesLink v p → find_tie (ties_of v) p ≡ Some t → find_arc (arcs_of v) p ≡ Some (arc_of t)
+    → u.addr ≡ t.addr → u.dialogue ≡ t.dialogue → u.link ≡ with_one_sent t.link → value_of (record { tree = v }) ≡ d
+    → value_of (record { tree = with_tie v p u }) ≡ record d { arcs = (carried d.arcs p r).0 }
+numbered_written v d p r t u w tie found addr dialogue link is =
+    let put : arcs_of (with_tie v p u) ≡ (carried (arcs_of v) p r).0 =
+    w t u (λ _. with_one_sent t.link) tie (arc_numbered t u addr dialogue link) ∙ carry_leaves (arcs_of v) p r (arc_of t) (with_one_sent t.link) found refl in
+    written v d p u (carried d.arcs p r).0 (put ∙ ap (λ (x : Arcs). (carried x.arcs p r).0) is) is
+
+put_same : (arcs : List Arc) (p : ℕ) (a : Arc) (l : Link) → find_arc arcs p ≡ Some a → l ≡ a.link → with_link arcs p (λ _. l) ≡ arcs
+put_same [] p a l h is = refl
+put_same (c ∷ arcs) p a l h is = grind (arith, common_steps, put_same arcs p a l, h, is)
+
+-- where it is not, nothing is written
+pub unnumbered : (v : Invocation) (d : Arcs) (p : ℕ) (t u : Tie) → WritesLink v p → find_tie (ties_of v) p ≡ Some t → find_arc (arcs_of v) p ≡ Some (arc_of t)
+    → u ≡ t → value_of (record { tree = v }) ≡ d → value_of (record { tree = with_tie v p u }) ≡ d
+unnumbered v d p t u w tie found same is =
+    let put : arcs_of (with_tie v p t) ≡ arcs_of v = w t t (λ _. t.link) tie refl ∙ put_same (arcs_of v) p (arc_of t) t.link found refl in
+    ap (λ (x : Tie). value_of (record { tree = with_tie v p x })) same
+    ∙ written v d p t d.arcs (put ∙ ap (λ (x : Arcs). x.arcs) is) is
+
+pub numbered_so : {E : Type 0} (o : Result (Option Next) E) (v : Invocation) (d : Arcs) (p : ℕ) (r : DialogueRecord) (t u : Tie) → WritesLink v p → find_tie (ties_of v) p ≡ Some t → find_arc (arcs_of v) p ≡ Some (arc_of t)
+    → u.addr ≡ t.addr → u.dialogue ≡ t.dialogue → value_of (record { tree = v }) ≡ d → OnOk o (u.link ≡ with_one_sent t.link)
+    → OnOk o (value_of (record { tree = with_tie v p u }) ≡ record d { arcs = (carried d.arcs p r).0 })
+numbered_so (Ok n) v d p r t u w tie found addr dialogue is link = numbered_written v d p r t u w tie found addr dialogue link is
+numbered_so (Err e) v d p r t u w tie found addr dialogue is link = tt
+
+pub unnumbered_so : {E : Type 0} (o : Result (Option Next) E) (v : Invocation) (d : Arcs) (p : ℕ) (t u : Tie) → WritesLink v p → find_tie (ties_of v) p ≡ Some t → find_arc (arcs_of v) p ≡ Some (arc_of t)
+    → value_of (record { tree = v }) ≡ d → OnErr o (u ≡ t) → OnErr o (value_of (record { tree = with_tie v p u }) ≡ d)
+unnumbered_so (Ok n) v d p t u w tie found is same = tt
+unnumbered_so (Err e) v d p t u w tie found is same = unnumbered v d p t u w tie found same is
+
+pub numbered_says : {E : Type 0} (o : Result (Option Next) E) (v : Invocation) (d : Arcs) (p : ℕ) (r : DialogueRecord) (t : Tie) → find_arc (arcs_of v) p ≡ Some (arc_of t) → value_of (record { tree = v }) ≡ d
+    → IfOk o (λ n. outs_with n r ≡ outs_next t.addr r (next_on t.link)) → IfOk o (λ n. outs_with n r ≡ (carried d.arcs p r).1)
+numbered_says (Ok n) v d p r t found is says = says ∙ carry_says (arcs_of v) p r (arc_of t) (next_on t.link) found refl ∙ ap (λ (x : Arcs). (carried x.arcs p r).1) is
+numbered_says (Err e) v d p r t found is says = tt
+
+pub unnumbered_says : {E : Type 0} (o : Result (Option Next) E) (v : Invocation) (d : Arcs) (p : ℕ) (r : DialogueRecord) (t : Tie) → find_arc (arcs_of v) p ≡ Some (arc_of t) → value_of (record { tree = v }) ≡ d
+    → OnErr o (is_spent t.link ≡ true) → OnErr o (some_past_numbers (carried d.arcs p r).1 ≡ true)
+unnumbered_says (Ok n) v d p r t found is spent = tt
+unnumbered_says (Err e) v d p r t found is spent = ap (λ (x : Arcs). some_past_numbers (carried x.arcs p r).1) (sym is) ∙ carry_spent (arcs_of v) p r (arc_of t) found spent

@@ -11,12 +11,14 @@ use Rattle.tp_model.specs.Links.{dropped_by, with_one_taken}
 use Rattle.tp_model.specs.Parts.{Link, Idle, Dialogue, Arc, Digest}
 use Rattle.tp_model.specs.Arcs.{find_arc, put_arc, link_with, with_dialogue, with_link}
 use Rattle.tp_model.specs.Arrivals.{is_response, woken_by}
+use Rattle.tp_link.specs.Link.{with_one_sent}
 use Rattle.tp_tree.specs.declared.tie.Tie.{Tie}
 use Rattle.tp_tree.specs.Tie.{arc_of}
-use Rattle.tp_node_parts.specs.Arcs.{Arcs, side_with, fits_link}
+use Rattle.tp_tree.specs.Invocation.{Invocation, arcs_of, with_tie}
+use Rattle.tp_node_parts.specs.Arcs.{Arcs, value_of, side_with, fits_link}
 use Rattle.tp_node_parts.specs.SharedArcs.{Stands, taken_in, woken_if}
-use Rattle.tp_node_parts.proofs.Sides.{with_link_none, with_dialogue_none}
-use Rattle.tp_node_parts.proofs.Linked.{fits_taken}
+use Rattle.tp_node_parts.proofs.Sides.{with_link_none, with_dialogue_none, written}
+use Rattle.tp_node_parts.proofs.Linked.{fits_sent, fits_taken}
 use Rattle.tp_node_parts.proofs.Shares.{found_number}
 
 none_counted : (arcs : List Arc) (p : ℕ) (f : Link → Link) → find_arc arcs p ≡ None → find_arc (with_link arcs p f) p ≡ None
@@ -95,4 +97,24 @@ stands_taken v p t u found addr link side fits =
       there = ap (option_map (λ (a : Arc). a.peer)) (ap (find_arc v.arcs) at ∙ sym found) ∙ ap (λ (a : Addr). Some a) (sym addr);
       side = side ∙ sym (ap (side_with v.superior) at);
       link = ap (λ (q : ℕ). fits_link (side_with v.superior q) u.link) at ∙ ap (fits_link (side_with v.superior p)) link ∙ fits_taken (side_with v.superior p) t.link ∙ fits;
+    }
+
+-- it is taken on an arc where it stands
+pub taken_written : (v : Invocation) (d : Arcs) (w : Bool) (p : ℕ) (t u : Tie)
+    → ((x : Tie) → (arc_of x).peer.node ≡ p → arcs_of (with_tie v p x) ≡ put_arc (arcs_of v) (arc_of x)) → find_arc (arcs_of v) p ≡ Some (arc_of t)
+    → u.addr ≡ t.addr → u.link ≡ with_one_taken t.link → u.dialogue.dialogue ≡ woken_if w t.dialogue.dialogue → value_of (record { tree = v }) ≡ d
+    → value_of (record { tree = with_tie v p u }) ≡ record d { arcs = taken_in w p d.arcs }
+taken_written v d w p t u puts found addr link dialogue is =
+    let at : u.addr.node ≡ p = ap (λ (a : Addr). a.node) addr ∙ found_number (arcs_of v) p (arc_of t) found in
+    let put : arcs_of (with_tie v p u) ≡ taken_in w p (arcs_of v) = puts u at ∙ ap (put_arc (arcs_of v)) (arc_taken w t u addr link dialogue) ∙ put_taken w (arcs_of v) p (arc_of t) found in
+    written v d p u (taken_in w p d.arcs) (put ∙ ap (λ (x : Arcs). taken_in w p x.arcs) is) is
+
+-- one that is numbered there
+pub stands_numbered : (v : Arcs) (p : ℕ) (t u : Tie) → Some (arc_of t) ≡ find_arc v.arcs p → u.addr ≡ t.addr → u.link ≡ with_one_sent t.link → u.dialogue.side ≡ side_with v.superior p → fits_link (side_with v.superior p) t.link ≡ true → Stands v u
+stands_numbered v p t u found addr link side fits =
+    let at : u.addr.node ≡ p = ap (λ (a : Addr). a.node) addr ∙ found_number v.arcs p (arc_of t) (sym found) in
+    record {
+      there = ap (option_map (λ (a : Arc). a.peer)) (ap (find_arc v.arcs) at ∙ sym found) ∙ ap (λ (a : Addr). Some a) (sym addr);
+      side = side ∙ sym (ap (side_with v.superior) at);
+      link = ap (λ (q : ℕ). fits_link (side_with v.superior q) u.link) at ∙ ap (fits_link (side_with v.superior p)) link ∙ fits_sent (side_with v.superior p) t.link ∙ fits;
     }

@@ -1,9 +1,9 @@
 -- The arcs of a node that copies of it share, and the one of them that has changed and stands aside.
-use Rattle.std.specs.Prelude.{ℕ, ◌≡◌, ◌==◌, ◌≤◌, Bool, true, false, not, if◌then◌else◌, Option, Some, None, List, vec_capacity}
+use Rattle.std.specs.Prelude.{ℕ, ◌≡◌, ◌==◌, ◌≤◌, Bool, true, false, not, if◌then◌else◌, Option, Some, None, List, [], ◌∷◌, vec_capacity}
 use Rattle.std.specs.Option.{option_map}
 use Rattle.std.specs.Arc.{arc_value}
 use Rattle.tp_model.specs.Parts.{Dialogue, Arc}
-use Rattle.tp_model.specs.Dialogues.{woken}
+use Rattle.tp_model.specs.Dialogues.{woken, is_chained}
 use Rattle.tp_model.specs.Links.{with_one_taken}
 use Rattle.tp_model.specs.Arcs.{find_arc, put_arc, with_dialogue, with_link}
 use Rattle.tp_tree.specs.declared.tie.Tie.{Tie}
@@ -57,3 +57,10 @@ woken_if false d = d
 abbrev pub taken_in : Bool → ℕ → List Arc → List Arc
 taken_in true p arcs = with_dialogue (with_link arcs p with_one_taken) p woken
 taken_in false p arcs = with_link arcs p with_one_taken
+
+-- ---- chained dialogues
+
+-- there is none
+abbrev pub has_none_chained : List Arc → Bool
+has_none_chained [] = true
+has_none_chained (a ∷ arcs) = if is_chained a.dialogue then false else has_none_chained arcs

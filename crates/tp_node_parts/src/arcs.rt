@@ -1,23 +1,30 @@
 //! The arcs of a node.
 ghost use Rattle.std.specs.Prelude.{◌≡◌, ◌⊎◌, ◌<◌, ◌≤◌, true, [], Option, None, length, map, slice_set, IfOk, IfSome, OnOk, OnErr, vec_capacity};
 ghost use Rattle.std.specs.Option.{option_map, option_copied};
-ghost use Rattle.tp_model.specs.Arcs.{find_arc, put_arc, without_arc, with_dialogue, with_link};
+ghost use Rattle.tp_model.specs.Arcs.{find_arc, put_arc, link_with, without_arc, with_dialogue, with_link, carried};
+ghost use Rattle.tp_model.specs.Dialogues.{is_chained};
+ghost use Rattle.tp_model.specs.Events.{some_past_numbers};
+ghost use Rattle.tp_model.specs.Links.{dropped_by};
 ghost use Rattle.tp_tree.specs.Tie.{arc_of};
 ghost use Rattle.tp_tree.specs.Invocation.{with_arc, with_tie};
 ghost use Rattle.tp_node_parts.specs.Arcs.{side_with, fits_link, has_place, new_arc, count_subordinates_in, is_sided, is_at};
 ghost use Rattle.tp_node_parts.specs.ArcStep.{stepped_arcs};
-ghost use Rattle.tp_node_parts.specs.SharedArcs.{Stands};
+ghost use Rattle.tp_node_parts.specs.SharedArcs.{Stands, taken_in, has_none_chained};
+ghost use Rattle.tp_node_parts.specs.Outs.{outs_with};
+ghost use Rattle.tp_records.specs.declared.dialogue.DialogueRecord.{DialogueRecord as RecordValue};
 
 use crate::arc_step::ArcStep;
+use crate::outs::Next;
+use crate::shared_arcs::{number_on, take_on};
 use std::alloc::Global;
 use std::marker::Model;
 use tp_commit::Branch;
 use tp_dialogue::Dialogue;
 use tp_link::Link;
 use tp_model::Side;
-use tp_names::{Addr, NoMemory};
+use tp_names::{Addr, Mark, NoMemory, NumbersSpent};
 use tp_tree::{Invocation, Tie};
-use tp_units::Units;
+use tp_units::{CHAINED, Units};
 
 /// The arcs of a node, each with the node on the side that its peer's number says.
 #[derive(Debug, Drop)]
@@ -186,6 +193,44 @@ impl Arcs {
         tie.dialogue = dialogue;
     }
 
+    /// The record with that pair and number is taken on the arc with that peer, where there is one, and ends its rest where
+    /// it wakes it.
+    #[tactic(auto, using(crate::proofs::Sides::sided_with, crate::proofs::Linked::linked_with, crate::proofs::Linked::link_found, crate::proofs::Linked::fits_taken, crate::proofs::Takes::none_taken))]
+    pub(crate) fn take(&mut self, peer: u16, x: Mark, y: Mark, seq: u64, wakes: bool)
+        requires { dropped_by (link_with self.old.arcs peer) x y seq ≡ None }
+        ensures { self.new ≡ record self.old { arcs = taken_in wakes peer self.old.arcs } }
+    {
+        let Some(tie) = self.tree.tie(peer) else {
+            return;
+        };
+        take_on(tie, x, y, seq, wakes);
+    }
+
+    /// Numbers the next record that goes out on the arc with that peer, where it is live. Where no number
+    /// is left, nothing changes.
+    #[tactic(auto, using(crate::proofs::Sides::sided_with, crate::proofs::Linked::linked_with, crate::proofs::Linked::link_found, crate::proofs::Linked::fits_sent, crate::proofs::Sides::carried_none))]
+    pub(crate) fn number_next(&mut self, peer: u16) -> Result<Option<Next>, NumbersSpent>
+        ensures arcs { (rec : RecordValue) → OnOk result (self.new ≡ record self.old { arcs = (carried self.old.arcs peer rec).0 }) }
+        ensures out { (rec : RecordValue) → IfOk result (λ next. outs_with next rec ≡ (carried self.old.arcs peer rec).1) }
+        ensures spent { (rec : RecordValue) → OnErr result (some_past_numbers (carried self.old.arcs peer rec).1 ≡ true) }
+        ensures same { OnErr result (self.new ≡ self.old) }
+    {
+        let Some(tie) = self.tree.tie(peer) else {
+            return Ok(None);
+        };
+        number_on(tie)
+    }
+
+    /// None of the dialogues is chained.
+    pub(crate) fn has_none_chained(&self) -> bool
+        ensures { result ≡ has_none_chained self.now.arcs }
+    {
+        match self.tree.above() {
+            Some(tie) if is_chained(tie) => false,
+            _ => are_unchained(self.tree.subordinates()),
+        }
+    }
+
     /// What a passage of the transaction does to the arcs, to each in place.
     #[tactic(auto, using(crate::proofs::Steps::stepped_sided, crate::proofs::Linked::linked_stepped, crate::proofs::Steps::stepped_all))]
     pub(crate) fn step(&mut self, step: ArcStep, branch: &Branch)
@@ -193,6 +238,25 @@ impl Arcs {
     {
         step.take_tree(branch, &mut self.tree);
     }
+}
+
+/// The dialogue on the arc is chained.
+pub(crate) fn is_chained(tie: &Tie) -> bool
+    ensures { result ≡ is_chained (arc_of tie.now).dialogue }
+{
+    tie.dialogue.units().has(CHAINED)
+}
+
+// None of them is chained.
+fn are_unchained(ties: &[Tie]) -> bool
+    ensures { result ≡ has_none_chained (map arc_of ties.now) }
+{
+    for tie in ties {
+        if is_chained(tie) {
+            return false;
+        }
+    }
+    true
 }
 
 // The arc at that place is with that peer.

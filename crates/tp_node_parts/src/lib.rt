@@ -16,5 +16,5 @@ mod shared_arcs;
 
 pub use arc_step::{ArcStep, is_granting};
 pub use kept_table::KeptTable;
-pub use outs::{Out, Outs};
+pub use outs::{Next, Out, Outs};
 pub use shared_arcs::{SharedArcs, next_on, release, sent};

@@ -1,19 +1,28 @@
 //! The outputs of a node.
-ghost use Rattle.std.specs.Prelude.{◌≡◌, [], ◌∷◌, ◌++◌, OnOk, map};
+ghost use Rattle.std.specs.Prelude.{◌≡◌, [], ◌∷◌, ◌++◌, OnOk, Some, map};
 ghost use Rattle.tp_model.specs.Parts.{Tell, Send};
 ghost use Rattle.tp_model.specs.Events.{is_past_numbers, some_past_numbers, says_nothing};
-ghost use Rattle.tp_node_parts.specs.Outs.{out_of, outs_of_option};
+ghost use Rattle.tp_node_parts.specs.Outs.{out_of, outs_of_option, outs_with};
 
 use std::alloc::Global;
 use std::marker::Model;
-use tp_names::{Addr, NoMemory};
-use tp_records::{Indication, PeerRecord};
+use tp_names::{Addr, Mark, NoMemory};
+use tp_records::{DialogueRecord, Indication, PeerRecord};
 
 /// An output of a node: an indication to its user, or a record to another node.
 #[derive(Drop)]
 pub enum Out {
     Tell(Indication),
     Send { to: Addr, rec: PeerRecord },
+}
+
+/// Where a record goes on an association, and its pair and number there.
+#[derive(Clone, Copy, Debug)]
+pub struct Next {
+    pub(crate) to: Addr,
+    pub(crate) x: Mark,
+    pub(crate) y: Mark,
+    pub(crate) seq: u64,
 }
 
 /// A list of outputs, which contracts see as that of the definitions.
@@ -73,6 +82,17 @@ impl Outs {
         ensures { OnOk result (self.new ≡ self.old ++ Send to rec ∷ []) }
     {
         self.push(Out::Send { to, rec })
+    }
+
+    /// A record on an association.
+    pub fn carry(&mut self, next: &Next, rec: DialogueRecord) -> Result<(), NoMemory>
+        ensures { OnOk result (self.new ≡ self.old ++ outs_with (Some next.now) rec) }
+    {
+        let Next { to, x, y, seq } = *next;
+        self.push(Out::Send {
+            to,
+            rec: PeerRecord::OnAssoc { x, y, seq, rec },
+        })
     }
 
     /// The outputs, in order.

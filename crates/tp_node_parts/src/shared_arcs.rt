@@ -9,13 +9,14 @@ ghost use Rattle.tp_tree.specs.Invocation.{with_arc};
 ghost use Rattle.tp_link.specs.Link.{with_one_sent};
 ghost use Rattle.tp_node_parts.specs.Arcs.{side_with, fits_link, has_place, new_arc, count_subordinates_in, next_on, is_spent, outs_next};
 ghost use Rattle.tp_node_parts.specs.ArcStep.{stepped_arcs};
-ghost use Rattle.tp_node_parts.specs.Outs.{outs_of_option};
-ghost use Rattle.tp_node_parts.specs.SharedArcs.{Stands, aside_at, is_other, taken_in, woken_if};
+ghost use Rattle.tp_node_parts.specs.Outs.{outs_of_option, outs_with};
+ghost use Rattle.tp_records.specs.declared.dialogue.DialogueRecord.{DialogueRecord as RecordValue};
+ghost use Rattle.tp_node_parts.specs.SharedArcs.{Stands, aside_at, is_other, taken_in, woken_if, has_none_chained};
 
 use crate::arc_step::ArcStep;
-use crate::arcs::Arcs;
+use crate::arcs::{Arcs, is_chained};
 use crate::directory::Directory;
-use crate::outs::Out;
+use crate::outs::{Next, Out};
 use std::alloc::Global;
 use std::marker::Model;
 use std::mem::{replace, swap};
@@ -170,6 +171,21 @@ impl SharedArcs {
         self.all().subordinates()
     }
 
+    /// None of the dialogues is chained.
+    #[tactic(auto, using(crate::proofs::Chained::none_put))]
+    pub fn has_none_chained(&self) -> bool
+        ensures { result ≡ true → has_none_chained self.now.arcs ≡ true }
+    {
+        let Some(all) = &self.shared else {
+            return self.own.has_none_chained();
+        };
+        let is_changed = match &self.change {
+            None => false,
+            Some(tie) => is_chained(tie),
+        };
+        !is_changed && all.has_none_chained()
+    }
+
     // Takes them out, shared with nobody.
     fn take_own(&mut self) -> Arcs
         ensures { result ≡ self.old }
@@ -279,16 +295,25 @@ impl SharedArcs {
         requires { dropped_by (link_with self.old.arcs peer) x y seq ≡ None }
         ensures { self.new ≡ record self.old { arcs = taken_in wakes peer self.old.arcs } }
     {
-        let Some(tie) = self.find(peer) else {
+        if self.shared.is_none() {
+            self.own.take(peer, x, y, seq, wakes);
+            return;
+        }
+        let Some(mut tie) = self.find(peer) else {
             return;
         };
-        self.set(taken(&tie, x, y, seq, wakes));
+        take_on(&mut tie, x, y, seq, wakes);
+        self.set(tie);
     }
 
     /// What a passage of the transaction does to the arcs, to each in place.
     pub fn step(&mut self, step: ArcStep, branch: &Branch)
         ensures { self.new ≡ record self.old { arcs = stepped_arcs step self.old.superior branch.now self.old.arcs } }
     {
+        if self.shared.is_none() {
+            self.own.step(step, branch);
+            return;
+        }
         let mut own = self.take_own();
         own.step(step, branch);
         self.put_own(own);
@@ -346,21 +371,24 @@ impl SharedArcs {
         self.change = None;
     }
 
-    /// A record goes out on the arc with that peer, where it is live; it has the next number. Where no
-    /// number is left, nothing changes.
+    /// Numbers the next record that goes out on the arc with that peer, where it is live. Where no number is left, nothing
+    /// changes.
     #[tactic(auto, using(crate::proofs::Sides::carried_none, crate::proofs::Sides::carried_next, crate::proofs::Linked::fits_sent))]
-    pub fn carry(&mut self, peer: u16, rec: DialogueRecord) -> Result<Option<Out>, NumbersSpent>
-        ensures arcs { OnOk result (self.new ≡ record self.old { arcs = (carried self.old.arcs peer rec).0 }) }
-        ensures out { IfOk result (λ out. outs_of_option out ≡ (carried self.old.arcs peer rec).1) }
-        ensures spent { OnErr result (some_past_numbers (carried self.old.arcs peer rec).1 ≡ true) }
+    pub fn number_next(&mut self, peer: u16) -> Result<Option<Next>, NumbersSpent>
+        ensures arcs { (rec : RecordValue) → OnOk result (self.new ≡ record self.old { arcs = (carried self.old.arcs peer rec).0 }) }
+        ensures out { (rec : RecordValue) → IfOk result (λ next. outs_with next rec ≡ (carried self.old.arcs peer rec).1) }
+        ensures spent { (rec : RecordValue) → OnErr result (some_past_numbers (carried self.old.arcs peer rec).1 ≡ true) }
         ensures same { OnErr result (self.new ≡ self.old) }
     {
+        if self.shared.is_none() {
+            return self.own.number_next(peer);
+        }
         let Some(mut tie) = self.find(peer) else {
             return Ok(None);
         };
-        let next = next_on(&mut tie.link)?;
+        let next = number_on(&mut tie)?;
         self.set(tie);
-        Ok(sent(tie.addr(), next, rec))
+        Ok(next)
     }
 
     /// Takes the arc with that peer away; where it is live the peer is told.
@@ -394,22 +422,20 @@ pub fn release(arcs: &mut Option<SharedArcs>)
     }
 }
 
-// The arc on which the record with that pair and number is taken, and whose rest ends where the record wakes it.
-fn taken(tie: &Tie, x: Mark, y: Mark, seq: u64, wakes: bool) -> Tie
-    requires { dropped_by (arc_of tie.now).link x y seq ≡ None }
-    ensures addr { result.addr ≡ tie.now.addr }
-    ensures link { result.link ≡ with_one_taken tie.now.link }
-    ensures side { result.dialogue.side ≡ tie.now.dialogue.side }
-    ensures dialogue { result.dialogue.dialogue ≡ woken_if wakes tie.now.dialogue.dialogue }
+/// The record with that pair and number is taken on the arc, and ends its rest where it wakes it.
+pub(crate) fn take_on(tie: &mut Tie, x: Mark, y: Mark, seq: u64, wakes: bool)
+    requires { dropped_by (arc_of tie.old).link x y seq ≡ None }
+    ensures addr { tie.new.addr ≡ tie.old.addr }
+    ensures link { tie.new.link ≡ with_one_taken tie.old.link }
+    ensures side { tie.new.dialogue.side ≡ tie.old.dialogue.side }
+    ensures dialogue { tie.new.dialogue.dialogue ≡ woken_if wakes tie.old.dialogue.dialogue }
 {
-    let mut tie = *tie;
     let Ok(()) = tie.link.take(x, y, seq) else {
         unreachable!()
     };
     if wakes {
         tie.dialogue.wake();
     }
-    tie
 }
 
 // The arc that stands aside, where it is with that peer.
@@ -462,11 +488,28 @@ pub fn next_on(link: &mut Link) -> Result<Option<(Mark, Mark, u64)>, NumbersSpen
     ensures counted { OnOk result (link.new ≡ with_one_sent link.old) }
     ensures unspent { OnOk result (is_spent link.old ≡ false) }
     ensures spent { OnErr result (is_spent link.old ≡ true) }
+    ensures same { OnErr result (link.new ≡ link.old) }
 {
     match link.state() {
         LinkState::Idle | LinkState::Opening | LinkState::Offered => Ok(None),
         LinkState::Live if link.left() == 0 => Err(NumbersSpent),
         LinkState::Live => Ok(Some(link.send())),
+    }
+}
+
+/// The next record on an arc is numbered and counted there.
+pub(crate) fn number_on(tie: &mut Tie) -> Result<Option<Next>, NumbersSpent>
+    ensures addr { tie.new.addr ≡ tie.old.addr }
+    ensures dialogue { tie.new.dialogue ≡ tie.old.dialogue }
+    ensures link { OnOk result (tie.new.link ≡ with_one_sent tie.old.link) }
+    ensures next { (rec : RecordValue) → IfOk result (λ next. outs_with next rec ≡ outs_next tie.old.addr rec (next_on tie.old.link)) }
+    ensures spent { OnErr result (is_spent tie.old.link ≡ true) }
+    ensures same { OnErr result (tie.new ≡ tie.old) }
+{
+    let to = tie.addr();
+    match next_on(&mut tie.link)? {
+        None => Ok(None),
+        Some((x, y, seq)) => Ok(Some(Next { to, x, y, seq })),
     }
 }
 

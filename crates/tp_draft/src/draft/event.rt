@@ -32,7 +32,9 @@ impl Draft {
         ensures { OnOk result (self.new ≡ record { who = node.now.who; move = move [] node.now.digest }) }
     {
         self.node.copy_from(alloc, node)?;
-        self.rec = None;
+        if self.rec.is_some() {
+            self.rec = None;
+        }
         self.outs = Outs::new(alloc);
         Ok(())
     }

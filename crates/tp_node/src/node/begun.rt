@@ -65,8 +65,8 @@ impl Node {
         let Ok(begun) = self.begin_branch(peer) else {
             unreachable!()
         };
-        if let Some(rec) = begun {
-            let Ok(_) = self.carry(peer, rec) else {
+        if let Some(_) = begun {
+            let Ok(_) = self.number_next(peer) else {
                 unreachable!()
             };
         }

@@ -1,5 +1,5 @@
 //! How a node comes to be: from the records of a log, by its declaration, and as a copy of another.
-ghost use Rattle.std.specs.Prelude.{◌≡◌, false, true, [], None, IfOk, OnOk, OnErr, nat_lt};
+ghost use Rattle.std.specs.Prelude.{◌≡◌, false, true, [], None, Some, IfOk, OnOk, OnErr, nat_lt};
 ghost use Rattle.std.specs.Option.{option_map};
 ghost use Rattle.tp_logrec.specs.Order.{is_commit, is_ready};
 ghost use Rattle.tp_model.specs.Links.{greatest};
@@ -177,11 +177,16 @@ fn copy_current(
     };
     match own {
         Some(own) => own.copy_from(branch),
-        None => {
-            *own = Some(branch.copy(alloc)?);
-            Ok(())
-        }
+        None => new_current(alloc, own, branch),
     }
+}
+
+// A copy of that transaction, in memory of its own.
+fn new_current(alloc: Global, own: &mut Option<Branch>, other: &Branch) -> Result<(), NoMemory>
+    ensures { OnOk result (own.new ≡ Some other.now) }
+{
+    *own = Some(other.copy(alloc)?);
+    Ok(())
 }
 
 // Without memory the arcs stay what they were.
@@ -199,9 +204,15 @@ fn copy_arcs(
     };
     match own {
         Some(own) => own.copy_from(arcs),
-        None => {
-            *own = Some(arcs.copy(alloc)?);
-            Ok(())
-        }
+        None => new_arcs(alloc, own, arcs),
     }
+}
+
+// A copy of those arcs. Without memory there are those that were there.
+fn new_arcs(alloc: Global, own: &mut Option<SharedArcs>, other: &SharedArcs) -> Result<(), NoMemory>
+    ensures copy { OnOk result (own.new ≡ Some other.now) }
+    ensures same { OnErr result (own.new ≡ own.old) }
+{
+    *own = Some(other.copy(alloc)?);
+    Ok(())
 }

@@ -11,7 +11,7 @@ pub returns-in-Err : goal.returns-in-Err
 returns-in-Err c =
     let n = c.args.next in
     let w = passage_of c.args.passage in
-    let s = c.args.step in
+    let s = c.args.step.now in
     plays_halted c.in-Err.halt c.args.self.now c.speak.new.self c.speak.new.self (speaking n w s.outs) (settling s.rec n) (turning n w s n) (λ who d. refl) (settling_rises s.rec n)
     (subst (λ (l : List TxOut). Plays (Err c.in-Err.halt) c.args.self.now c.speak.new.self (speaking n w l)) c.as_slice.ensures (c.in-Err.ensures {u = tt}))
 
@@ -19,7 +19,7 @@ pub returns : goal.returns
 returns c =
     let n = c.args.next in
     let w = passage_of c.args.passage in
-    let s = c.args.step in
+    let s = c.args.step.now in
     plays_then c.settle.result c.args.self.now c.speak.new.self c.settle.new.self (speaking n w s.outs) (settling s.rec n) (turning n w s n)
     (c.in_default.ensures {u = tt} ∙ ap (λ (l : List TxOut). goes_on c.args.self.now (speaking n w l)) c.as_slice.ensures)
     (λ who d. refl)

@@ -6,14 +6,14 @@ use Rattle.tp_node.specs.Node.{Node}
 use Rattle.tp_node.proofs.Begun.{carries}
 use Rattle.tp_node.proofs.node.Node.begin_planned.Goals as goal
 
-pub unreachable-requires-in_default-carry : goal.unreachable-requires-in_default-carry
-unreachable-requires-in_default-carry c =
+pub unreachable-requires-in_default-number_next : goal.unreachable-requires-in_default-number_next
+unreachable-requires-in_default-number_next c =
     let v = c.args.self.now in
     let p = c.args.peer in
-    let r = c.in-Some.rec in
+    let r = c.in-Some.field-0 in
     let begun = c.in-Ok.ensures {u = tt} in
     let clash : false ≡ true =
     sym (carries v.who p v.digest r c.requires (sym c.in-Some.is ∙ begun.rec))
     ∙ ap (λ (n : Node). some_past_numbers (carried n.digest.arcs p r).1) (sym begun.node)
-    ∙ (c.in_default-carry.ensures {u = tt}).spent in
+    ∙ (c.in_default-number_next.ensures {u = tt}).spent r in
     cc (clash)
