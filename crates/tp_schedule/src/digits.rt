@@ -142,22 +142,22 @@ pub(crate) fn write_mark_behind_dot(
     ensures err { OnErr result (Keeps out.old out.new) }
 {
     if mark.boot < 10 && mark.node < 10 {
-        write_two_behind_dots(alloc, mark.boot, u64::from(mark.node), out)?;
-        return write_behind_dot(alloc, mark.count, out);
+        write_two_in_dots(alloc, mark.boot, u64::from(mark.node), out)?;
+        return write_decimal(alloc, mark.count, out);
     }
     out.push(alloc, b'.')?;
     write_mark(alloc, mark, out)
 }
 
-// Two numbers of one digit, each behind a dot.
+// Two numbers of one digit, with a dot before, between and after them.
 #[tactic(auto, using(crate::proofs::KitText::decimal_one))]
-fn write_two_behind_dots(alloc: Global, m: u64, n: u64, out: &mut Octets) -> Result<(), NoMemory>
+fn write_two_in_dots(alloc: Global, m: u64, n: u64, out: &mut Octets) -> Result<(), NoMemory>
     requires first { m < 10 }
     requires second { n < 10 }
-    ensures ok { OnOk result (out.new ≡ out.old ++ ((46 ∷ decimal m) ++ (46 ∷ decimal n))) }
+    ensures ok { OnOk result (out.new ≡ out.old ++ ((46 ∷ decimal m) ++ (46 ∷ decimal n) ++ (46 ∷ []))) }
     ensures err { OnErr result (Keeps out.old out.new) }
 {
-    out.extend_from_slice(alloc, &[b'.', digit(m), b'.', digit(n)])
+    out.extend_from_slice(alloc, &[b'.', digit(m), b'.', digit(n), b'.'])
 }
 
 fn write_behind_dot(alloc: Global, n: u64, out: &mut Octets) -> Result<(), NoMemory>

@@ -11,7 +11,9 @@ use std::alloc::Global;
 use tp_model::{LogWords, NodeNumbers, OutLine, PhaseWord, RecordFate, SentWords};
 use tp_names::{Aaid, NoMemory, Octets, Outcome, SiteName};
 use tp_records::Indication;
-use tp_schedule::word::{Word, write_alone, write_one, write_site, write_three, write_words};
+use tp_schedule::word::{
+    Word, write_aaid, write_alone, write_one, write_outcome, write_site, write_three, write_words,
+};
 
 /// Puts the line's text at the end of `out`, without an end. Without memory `out` stays as it was.
 pub fn write_out(alloc: Global, o: &OutLine, out: &mut Octets) -> Result<(), NoMemory>
@@ -178,13 +180,11 @@ fn append_agreed(
     ensures ok { OnOk result (out.new ≡ out.old ++ out_text (OutLine.Agreed aaid.now outcome)) }
     ensures err { OnErr result (Keeps out.old out.new) }
 {
-    let words = [
-        Word::Text("tree"),
-        Word::Aaid(aaid),
-        Word::Text("agreed"),
-        Word::Outcome(outcome),
-    ];
-    write_words(alloc, &words, out)
+    write_alone(alloc, "tree", out)?;
+    write_aaid(alloc, aaid, out)?;
+    write_alone(alloc, " agreed", out)?;
+    write_outcome(alloc, outcome, out)?;
+    Ok(())
 }
 
 fn append_mixed<'a>(
