@@ -2,12 +2,13 @@
 use Rattle.std.proofs.Common.{◌≡◌, ◌≢◌, ℕ, ◌+◌, ◌-◌, ◌*◌, ◌%◌, ◌<◌, ◌≤◌, ◌==◌, Bool, true, false, Option, Some, None, Result, Ok, Err, List, [], ◌∷◌, length, get_or, take, drop, refl, ap, sym, ◌∙◌, arith, add-one, min}
 use Rattle.std.proofs.Math.Seq.{drop-cons}
 use Rattle.std.proofs.lemmas.Bool.Decides.{nat_tests}
+use Rattle.std.proofs.lemmas.List.{ext_get_or}
 use Rattle.std.specs.Prelude.{◌&&◌, ◌||◌, nat_le, if◌then◌else◌, replicate, slice_index}
 use Rattle.hex.specs.Hex.{hex_digit_value, digit_or_error, decode_pairs, decode_of, ◌>>=◌}
 use Rattle.hex.specs.declared.error.FromHexError.{FromHexError}
 use Rattle.hex.specs.declared.error.FromHexError.TheVariants.{OddLength}
 use Rattle.tp_names.specs.Same.{is_name}
-use Rattle.tp_names.proofs.Sames.{name_same}
+use Rattle.tp_names.proofs.Sames.{name_same, name_self}
 use Rattle.tp_model.specs.LineReading.{Form, Wrong, Outside, Well, is_digit, value_from, hex_value, pair_value, octet_before, hex_octets, one_octet, fill, form_of, run_octets, number_in, with, both, units_from}
 use Rattle.tp_schedule.specs.Answers.{read_as, Reads, pair, capped, has_capital, few_of, hex_fault}
 use Rattle.tp_schedule.specs.declared.line_fault.LineFault.{LineFault}
@@ -191,5 +192,8 @@ other_name xs ys other = go (is_name xs ys) refl
 pub other_length : (xs ys : List ℕ) → length xs ≢ length ys → is_name xs ys ≡ false
 other_length xs ys differ = other_name xs ys (λ same. differ (ap length same))
 
-pub other_first : (xs ys : List ℕ) → slice_index xs 0 ≢ slice_index ys 0 → is_name xs ys ≡ false
-other_first xs ys differ = other_name xs ys (λ same. differ (ap (λ (zs : List ℕ). slice_index zs 0) same))
+pub other_at : (xs ys : List ℕ) (i : ℕ) → slice_index xs i ≢ slice_index ys i → is_name xs ys ≡ false
+other_at xs ys i differ = other_name xs ys (λ same. differ (ap (λ (zs : List ℕ). slice_index zs i) same))
+
+pub all_same : (xs ys : List ℕ) → length xs ≡ length ys → ((k : ℕ) → k < length xs → slice_index xs k ≡ slice_index ys k) → is_name xs ys ≡ true
+all_same xs ys long each = rw (ext_get_or 0 xs ys long (λ k below. each k below)) (name_self ys)

@@ -39,7 +39,8 @@ pub(crate) fn write_decimal(alloc: Global, n: u64, out: &mut Octets) -> Result<(
     write_long(alloc, n, out)
 }
 
-fn digit(n: u64) -> u8
+/// The digit of a number below ten.
+pub(crate) fn digit(n: u64) -> u8
     requires { n < 10 }
     ensures { result ≡ 48 + n }
 {
@@ -128,6 +129,35 @@ pub(crate) fn write_mark(alloc: Global, mark: &Mark, out: &mut Octets) -> Result
     write_behind_dot(alloc, u64::from(mark.node), out)?;
     write_behind_dot(alloc, mark.count, out)?;
     Ok(())
+}
+
+/// A dot, and three numbers with dots between them: where the first two have one digit each, all up to the third at once.
+#[tactic(auto, using(crate::proofs::KitText::decimal_one))]
+pub(crate) fn write_mark_behind_dot(
+    alloc: Global,
+    mark: &Mark,
+    out: &mut Octets,
+) -> Result<(), NoMemory>
+    ensures ok { OnOk result (out.new ≡ out.old ++ (46 ∷ mark_word mark.now)) }
+    ensures err { OnErr result (Keeps out.old out.new) }
+{
+    if mark.boot < 10 && mark.node < 10 {
+        write_two_in_dots(alloc, mark.boot, u64::from(mark.node), out)?;
+        return write_decimal(alloc, mark.count, out);
+    }
+    out.push(alloc, b'.')?;
+    write_mark(alloc, mark, out)
+}
+
+// Two numbers of one digit, with a dot before, between and after them.
+#[tactic(auto, using(crate::proofs::KitText::decimal_one))]
+fn write_two_in_dots(alloc: Global, m: u64, n: u64, out: &mut Octets) -> Result<(), NoMemory>
+    requires first { m < 10 }
+    requires second { n < 10 }
+    ensures ok { OnOk result (out.new ≡ out.old ++ ((46 ∷ decimal m) ++ (46 ∷ decimal n) ++ (46 ∷ []))) }
+    ensures err { OnErr result (Keeps out.old out.new) }
+{
+    out.extend_from_slice(alloc, &[b'.', digit(m), b'.', digit(n), b'.'])
 }
 
 fn write_behind_dot(alloc: Global, n: u64, out: &mut Octets) -> Result<(), NoMemory>

@@ -219,8 +219,8 @@ fn line_len(line: &[u8]) -> usize
 fn find_feed(bytes: &[u8]) -> Option<usize>
     ensures { MatchOption result (no_feed bytes.now ≡ true) (λ at. (at < length bytes.now) × (no_feed (take at bytes.now) ≡ true) × (slice_index bytes.now at ≡ 10)) }
 {
-    for (i, byte) in bytes.iter().enumerate() {
-        if *byte == b'\n' {
+    for i in 0..bytes.len() {
+        if bytes[i] == b'\n' {
             return Some(i);
         }
     }

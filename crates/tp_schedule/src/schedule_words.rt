@@ -100,7 +100,8 @@ const ACTION_WORDS: [(&str, ActionWord); 8] = [
     ("purge", ActionWord::Purge),
 ];
 
-const REQUEST_WORDS: [(&str, RequestWord); 20] = [
+// The requests in two tables, which are short enough to be searched without a loop.
+const FIRST_REQUESTS: [(&str, RequestWord); 9] = [
     ("begin-dialogue", RequestWord::BeginDialogue),
     ("accept", RequestWord::Accept),
     ("reject", RequestWord::Reject),
@@ -116,6 +117,9 @@ const REQUEST_WORDS: [(&str, RequestWord); 20] = [
         "request-control",
         RequestWord::OfPeer(PeerRequest::AskControl),
     ),
+];
+
+const OTHER_REQUESTS: [(&str, RequestWord); 11] = [
     ("handshake", RequestWord::OfPeer(PeerRequest::Handshake)),
     ("respond", RequestWord::OfPeer(PeerRequest::Respond)),
     (
@@ -156,5 +160,8 @@ pub(crate) fn action_word(word: &[u8]) -> Option<ActionWord>
 pub(crate) fn request_word(word: &[u8]) -> Option<RequestWord>
     ensures { result ≡ named request_word_text request_word_list word.now }
 {
-    find(&REQUEST_WORDS, word)
+    if let Some(request) = find(&FIRST_REQUESTS, word) {
+        return Some(request);
+    }
+    find(&OTHER_REQUESTS, word)
 }

@@ -33,32 +33,29 @@ pub fn both<A: Drop, B: Drop>(
 }
 
 /// Whether the word is this one.
+#[tactic(auto, using(crate::proofs::Values::other_length))]
 pub fn is_word(word: &[u8], text: &str) -> bool
     ensures { result ≡ is_name text.now word.now }
 {
     let text = text.as_bytes();
-    if differs_early(text, word) {
+    if text.len() != word.len() {
         return false;
     }
     agree(text, word)
 }
 
-// Whether the two differ in their length, or in their first byte.
-#[tactic(auto, using(crate::proofs::Values::other_length, crate::proofs::Values::other_first))]
-fn differs_early(text: &[u8], word: &[u8]) -> bool
-    ensures { result ≡ true → is_name text.now word.now ≡ false }
-{
-    if text.len() != word.len() {
-        return true;
-    }
-    !text.is_empty() && text[0] != word[0]
-}
-
-// Whether all their bytes agree.
+// Whether all bytes of two words of one length agree. They are short, so they are compared one by one.
+#[tactic(auto, using(crate::proofs::Values::other_at, crate::proofs::Values::all_same))]
 fn agree(text: &[u8], word: &[u8]) -> bool
+    requires { length text.now ≡ length word.now }
     ensures { result ≡ is_name text.now word.now }
 {
-    text == word
+    for i in 0..text.len() {
+        if text[i] != word[i] {
+            return false;
+        }
+    }
+    true
 }
 
 /// A node, a frame or a member: 1 to 65535.

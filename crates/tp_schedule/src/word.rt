@@ -1,7 +1,7 @@
 //! The words of a line, which one space parts.
 ghost use Rattle.std.specs.Prelude.{◌≡◌, ◌++◌, ◌∷◌, [], OnErr, OnOk};
 ghost use Rattle.tp_names.specs.Writing.{Keeps};
-ghost use Rattle.tp_model.specs.Words.{words, decimal, mark_word, aaid_word, outcome_word, report_word, holder_word};
+ghost use Rattle.tp_model.specs.Words.{words, decimal, aaid_word, branch_word, outcome_word, report_word, holder_word};
 ghost use Rattle.tp_model.specs.OutText.{phase_word, fate_word};
 ghost use Rattle.tp_schedule.specs.WordText.{word_text, word_texts};
 
@@ -107,7 +107,7 @@ pub fn write_long(alloc: Global, word: &str, n: u64, out: &mut Octets) -> Result
     ensures err { OnErr result (Keeps out.old out.new) }
 {
     put(alloc, word, out)?;
-    write_next(alloc, &Word::Long(n), out)?;
+    write_long_number(alloc, n, out)?;
     Ok(())
 }
 
@@ -122,27 +122,109 @@ pub fn write_site(
     ensures err { OnErr result (Keeps out.old out.new) }
 {
     put(alloc, word, out)?;
-    write_next(alloc, &Word::Site(site), out)?;
+    write_name(alloc, site, out)?;
     Ok(())
 }
 
-/// One more word, after a space.
-pub fn write_next(alloc: Global, word: &Word, out: &mut Octets) -> Result<(), NoMemory>
-    ensures ok { OnOk result (out.new ≡ out.old ++ (32 ∷ word_text word.now)) }
+/// A word, and a report.
+pub fn write_reported(
+    alloc: Global,
+    word: &str,
+    report: Report,
+    out: &mut Octets,
+) -> Result<(), NoMemory>
+    ensures ok { OnOk result (out.new ≡ out.old ++ words (word.now ∷ report_word report ∷ [])) }
+    ensures err { OnErr result (Keeps out.old out.new) }
+{
+    put(alloc, word, out)?;
+    write_report(alloc, report, out)?;
+    Ok(())
+}
+
+/// An outcome, after a space.
+pub fn write_outcome(alloc: Global, outcome: Outcome, out: &mut Octets) -> Result<(), NoMemory>
+    ensures ok { OnOk result (out.new ≡ out.old ++ (32 ∷ outcome_word outcome)) }
+    ensures err { OnErr result (Keeps out.old out.new) }
+{
+    match outcome {
+        Outcome::Commit => put(alloc, " commit", out),
+        Outcome::Rollback => put(alloc, " rollback", out),
+    }
+}
+
+/// A report, after a space.
+pub fn write_report(alloc: Global, report: Report, out: &mut Octets) -> Result<(), NoMemory>
+    ensures ok { OnOk result (out.new ≡ out.old ++ (32 ∷ report_word report)) }
+    ensures err { OnErr result (Keeps out.old out.new) }
+{
+    match report {
+        Report::None => put(alloc, " none", out),
+        Report::Hazard => put(alloc, " hazard", out),
+        Report::Mix => put(alloc, " mix", out),
+    }
+}
+
+/// A holder, after a space.
+pub fn write_holder(alloc: Global, holder: Holder, out: &mut Octets) -> Result<(), NoMemory>
+    ensures ok { OnOk result (out.new ≡ out.old ++ (32 ∷ holder_word holder)) }
+    ensures err { OnErr result (Keeps out.old out.new) }
+{
+    match holder {
+        Holder::None => put(alloc, " none", out),
+        Holder::Superior => put(alloc, " superior", out),
+        Holder::Subordinate => put(alloc, " subordinate", out),
+    }
+}
+
+/// The identifier of a tree, after a space.
+pub fn write_aaid(alloc: Global, aaid: &Aaid, out: &mut Octets) -> Result<(), NoMemory>
+    ensures ok { OnOk result (out.new ≡ out.old ++ (32 ∷ aaid_word aaid.now)) }
     ensures err { OnErr result (Keeps out.old out.new) }
 {
     out.push(alloc, b' ')?;
-    write_word(alloc, word, out)?;
+    write_marked(alloc, &aaid.owner, &aaid.mark, out)?;
     Ok(())
 }
 
-// A number after a space.
+/// The identifier of a branch, after a space.
+pub fn write_branch(alloc: Global, branch: &BranchId, out: &mut Octets) -> Result<(), NoMemory>
+    ensures ok { OnOk result (out.new ≡ out.old ++ (32 ∷ branch_word branch.now)) }
+    ensures err { OnErr result (Keeps out.old out.new) }
+{
+    out.push(alloc, b' ')?;
+    write_marked(alloc, &branch.superior, &branch.mark, out)?;
+    Ok(())
+}
+
+// A site's name, after a space.
+fn write_name(alloc: Global, site: &SiteName, out: &mut Octets) -> Result<(), NoMemory>
+    ensures ok { OnOk result (out.new ≡ out.old ++ (32 ∷ site.now)) }
+    ensures err { OnErr result (Keeps out.old out.new) }
+{
+    out.push(alloc, b' ')?;
+    out.extend_from_slice(alloc, site.bytes())?;
+    Ok(())
+}
+
+// A number after a space: where it has one digit, both at once.
+#[tactic(auto, using(crate::proofs::KitText::decimal_one))]
 fn write_number(alloc: Global, n: u16, out: &mut Octets) -> Result<(), NoMemory>
     ensures ok { OnOk result (out.new ≡ out.old ++ (32 ∷ decimal n)) }
     ensures err { OnErr result (Keeps out.old out.new) }
 {
+    if n < 10 {
+        return out.extend_from_slice(alloc, &[b' ', digits::digit(u64::from(n))]);
+    }
+    write_long_number(alloc, u64::from(n), out)
+}
+
+// Any number after a space.
+fn write_long_number(alloc: Global, n: u64, out: &mut Octets) -> Result<(), NoMemory>
+    ensures ok { OnOk result (out.new ≡ out.old ++ (32 ∷ decimal n)) }
+    ensures err { OnErr result (Keeps out.old out.new) }
+{
     out.push(alloc, b' ')?;
-    digits::write_decimal(alloc, u64::from(n), out)?;
+    digits::write_decimal(alloc, n, out)?;
     Ok(())
 }
 
@@ -189,16 +271,7 @@ fn write_marked(
     ensures err { OnErr result (Keeps out.old out.new) }
 {
     out.extend_from_slice(alloc, site.bytes())?;
-    write_behind_dot(alloc, mark, out)?;
-    Ok(())
-}
-
-fn write_behind_dot(alloc: Global, mark: &Mark, out: &mut Octets) -> Result<(), NoMemory>
-    ensures ok { OnOk result (out.new ≡ out.old ++ (46 ∷ mark_word mark.now)) }
-    ensures err { OnErr result (Keeps out.old out.new) }
-{
-    out.push(alloc, b'.')?;
-    digits::write_mark(alloc, mark, out)?;
+    digits::write_mark_behind_dot(alloc, mark, out)?;
     Ok(())
 }
 

@@ -10,7 +10,10 @@ use std::alloc::Global;
 use tp_logrec::LogRec;
 use tp_model::LogWords;
 use tp_names::{Aaid, BranchId, NoMemory, NodeKey, Octets, Outcome};
-use tp_schedule::word::{Word, write_long, write_next, write_one, write_words};
+use tp_schedule::word::{
+    self, Word, write_alone, write_branch, write_long, write_one, write_outcome, write_report,
+    write_words,
+};
 
 /// Puts the identifier's word at the end of `out`. Without memory `out` stays as it was.
 pub fn write_aaid(alloc: Global, a: &Aaid, out: &mut Octets) -> Result<(), NoMemory>
@@ -121,7 +124,7 @@ pub(crate) fn write_log(alloc: Global, rec: &LogWords, out: &mut Octets) -> Resu
             report,
         } => {
             write_keyed_outcome(alloc, "damage", *node, key, *side, out)?;
-            write_next(alloc, &Word::Report(*report), out)
+            write_report(alloc, *report, out)
         }
         LogWords::End { node, key, outcome } => {
             write_keyed_outcome(alloc, "end", *node, key, *outcome, out)
@@ -141,9 +144,24 @@ fn write_keyed(
     ensures err { OnErr result (Keeps out.old out.new) }
 {
     write_one(alloc, word, node, out)?;
-    write_next(alloc, &Word::Aaid(&key.aaid), out)?;
-    write_next(alloc, &branch_or_none(&key.branch), out)?;
+    word::write_aaid(alloc, &key.aaid, out)?;
+    write_branch_or_none(alloc, &key.branch, out)?;
     Ok(())
+}
+
+// The identifier of a branch, or `-` for none, after a space.
+fn write_branch_or_none(
+    alloc: Global,
+    branch: &Option<BranchId>,
+    out: &mut Octets,
+) -> Result<(), NoMemory>
+    ensures ok { OnOk result (out.new ≡ out.old ++ (32 ∷ maybe_word branch_word branch.now)) }
+    ensures err { OnErr result (Keeps out.old out.new) }
+{
+    match branch {
+        None => write_alone(alloc, " -", out),
+        Some(branch) => write_branch(alloc, branch, out),
+    }
 }
 
 // The same and an outcome.
@@ -159,6 +177,6 @@ fn write_keyed_outcome(
     ensures err { OnErr result (Keeps out.old out.new) }
 {
     write_keyed(alloc, word, node, key, out)?;
-    write_next(alloc, &Word::Outcome(outcome), out)?;
+    write_outcome(alloc, outcome, out)?;
     Ok(())
 }

@@ -8,10 +8,12 @@ use crate::log_words::write_log;
 use crate::sent_words::write_sent;
 use crate::told_words::write_told;
 use std::alloc::Global;
-use tp_model::{LogWords, OutLine, PhaseWord, SentWords};
-use tp_names::{NoMemory, Octets, SiteName};
+use tp_model::{LogWords, NodeNumbers, OutLine, PhaseWord, RecordFate, SentWords};
+use tp_names::{Aaid, NoMemory, Octets, Outcome, SiteName};
 use tp_records::Indication;
-use tp_schedule::word::{Word, write_alone, write_one, write_site, write_three, write_words};
+use tp_schedule::word::{
+    Word, write_aaid, write_alone, write_one, write_outcome, write_site, write_three, write_words,
+};
 
 /// Puts the line's text at the end of `out`, without an end. Without memory `out` stays as it was.
 pub fn write_out(alloc: Global, o: &OutLine, out: &mut Octets) -> Result<(), NoMemory>
@@ -45,47 +47,12 @@ fn append_out(alloc: Global, o: &OutLine, out: &mut Octets) -> Result<(), NoMemo
         OutLine::Dropped { number } => write_one(alloc, "dropped", u16::from(*number), out),
         OutLine::Nothing => write_alone(alloc, "nothing", out),
         OutLine::Lost { frame } => write_one(alloc, "lost", *frame, out),
-        OutLine::Stopped { site, fate } => {
-            write_words(
-                alloc,
-                &[Word::Text("stopped"), Word::Site(site), Word::Fate(*fate)],
-                out,
-            )
-        }
+        OutLine::Stopped { site, fate } => append_stopped(alloc, site, *fate, out),
         OutLine::State { node, phase, kept } => append_state(alloc, *node, *phase, *kept, out),
-        OutLine::Image { site, bytes } => {
-            write_words(
-                alloc,
-                &[Word::Text("image"), Word::Site(site), Word::Hex(bytes)],
-                out,
-            )
-        }
-        OutLine::Agreed { aaid, outcome } => {
-            let (aaid, outcome) = (Word::Aaid(aaid), Word::Outcome(*outcome));
-            write_words(
-                alloc,
-                &[Word::Text("tree"), aaid, Word::Text("agreed"), outcome],
-                out,
-            )
-        }
-        OutLine::Mixed { aaid, by } => {
-            let (aaid, by) = (Word::Aaid(aaid), Word::Numbers(by));
-            let words = [
-                Word::Text("tree"),
-                aaid,
-                Word::Text("mixed"),
-                Word::Text("by"),
-                by,
-            ];
-            write_words(alloc, &words, out)
-        }
-        OutLine::Open { aaid } => {
-            write_words(
-                alloc,
-                &[Word::Text("tree"), Word::Aaid(aaid), Word::Text("open")],
-                out,
-            )
-        }
+        OutLine::Image { site, bytes } => append_image(alloc, site, bytes, out),
+        OutLine::Agreed { aaid, outcome } => append_agreed(alloc, aaid, *outcome, out),
+        OutLine::Mixed { aaid, by } => append_mixed(alloc, aaid, by, out),
+        OutLine::Open { aaid } => append_open(alloc, aaid, out),
     }
 }
 
@@ -175,5 +142,74 @@ fn append_state(
         Word::Text("kept"),
         kept,
     ];
+    write_words(alloc, &words, out)
+}
+
+fn append_stopped(
+    alloc: Global,
+    site: &SiteName,
+    fate: RecordFate,
+    out: &mut Octets,
+) -> Result<(), NoMemory>
+    ensures ok { OnOk result (out.new ≡ out.old ++ out_text (OutLine.Stopped site.now fate)) }
+    ensures err { OnErr result (Keeps out.old out.new) }
+{
+    let words = [Word::Text("stopped"), Word::Site(site), Word::Fate(fate)];
+    write_words(alloc, &words, out)
+}
+
+fn append_image<'a>(
+    alloc: Global,
+    site: &'a SiteName,
+    bytes: &'a Octets,
+    out: &mut Octets,
+) -> Result<(), NoMemory>
+    ensures ok { OnOk result (out.new ≡ out.old ++ out_text (OutLine.Image site.now bytes.now)) }
+    ensures err { OnErr result (Keeps out.old out.new) }
+{
+    let words = [Word::Text("image"), Word::Site(site), Word::Hex(bytes)];
+    write_words(alloc, &words, out)
+}
+
+fn append_agreed(
+    alloc: Global,
+    aaid: &Aaid,
+    outcome: Outcome,
+    out: &mut Octets,
+) -> Result<(), NoMemory>
+    ensures ok { OnOk result (out.new ≡ out.old ++ out_text (OutLine.Agreed aaid.now outcome)) }
+    ensures err { OnErr result (Keeps out.old out.new) }
+{
+    write_alone(alloc, "tree", out)?;
+    write_aaid(alloc, aaid, out)?;
+    write_alone(alloc, " agreed", out)?;
+    write_outcome(alloc, outcome, out)?;
+    Ok(())
+}
+
+fn append_mixed<'a>(
+    alloc: Global,
+    aaid: &'a Aaid,
+    by: &'a NodeNumbers,
+    out: &mut Octets,
+) -> Result<(), NoMemory>
+    ensures ok { OnOk result (out.new ≡ out.old ++ out_text (OutLine.Mixed aaid.now by.now)) }
+    ensures err { OnErr result (Keeps out.old out.new) }
+{
+    let words = [
+        Word::Text("tree"),
+        Word::Aaid(aaid),
+        Word::Text("mixed"),
+        Word::Text("by"),
+        Word::Numbers(by),
+    ];
+    write_words(alloc, &words, out)
+}
+
+fn append_open(alloc: Global, aaid: &Aaid, out: &mut Octets) -> Result<(), NoMemory>
+    ensures ok { OnOk result (out.new ≡ out.old ++ out_text (OutLine.Open aaid.now)) }
+    ensures err { OnErr result (Keeps out.old out.new) }
+{
+    let words = [Word::Text("tree"), Word::Aaid(aaid), Word::Text("open")];
     write_words(alloc, &words, out)
 }

@@ -8,8 +8,12 @@ ghost use Rattle.tp_schedule.specs.WordText.{word_text};
 use std::alloc::Global;
 use tp_model::SentWords;
 use tp_names::{Aaid, BranchId, Mark, NoMemory, Octets};
-use tp_records::{DialogueRecord, RecState};
-use tp_schedule::word::{Word, write_alone, write_long, write_words};
+use tp_records::{DialogueRecord, Holder, RecState};
+use tp_schedule::word::{
+    Word, write_aaid, write_alone, write_branch, write_holder, write_long, write_reported,
+    write_words,
+};
+use tp_units::Units;
 
 /// The words of a record that is sent.
 pub(crate) fn write_sent(alloc: Global, rec: &SentWords, out: &mut Octets) -> Result<(), NoMemory>
@@ -17,22 +21,9 @@ pub(crate) fn write_sent(alloc: Global, rec: &SentWords, out: &mut Octets) -> Re
     ensures err { OnErr result (Keeps out.old out.new) }
 {
     match rec {
-        SentWords::OpenAssoc { x, units } => {
-            let units = Word::Units(units.bits());
-            write_words(alloc, &[Word::Text("open"), Word::Mark(x), units], out)
-        }
-        SentWords::AcceptAssoc { x, y, units } => {
-            let (x, y) = (Word::Mark(x), Word::Mark(y));
-            write_words(
-                alloc,
-                &[Word::Text("accept"), x, y, Word::Units(units.bits())],
-                out,
-            )
-        }
-        SentWords::ShutAssoc { x, y } => {
-            let (x, y) = (Word::Mark(x), mark_or_none(y));
-            write_words(alloc, &[Word::Text("shut"), x, y], out)
-        }
+        SentWords::OpenAssoc { x, units } => write_open(alloc, x, *units, out),
+        SentWords::AcceptAssoc { x, y, units } => write_accept(alloc, x, y, *units, out),
+        SentWords::ShutAssoc { x, y } => write_shut(alloc, x, y, out),
         SentWords::OnAssoc { seq, rec } => write_on(alloc, *seq, rec, out),
         SentWords::RecReady { aaid, branch } => write_kin(alloc, "rec-ready", aaid, branch, out),
         SentWords::RecCommit { aaid, branch } => write_kin(alloc, "rec-commit", aaid, branch, out),
@@ -43,6 +34,46 @@ pub(crate) fn write_sent(alloc: Global, rec: &SentWords, out: &mut Octets) -> Re
         } => write_reply(alloc, aaid, branch, *state, out),
         SentWords::Forget { aaid, branch } => write_kin(alloc, "forget", aaid, branch, out),
     }
+}
+
+fn write_open(alloc: Global, x: &Mark, units: Units, out: &mut Octets) -> Result<(), NoMemory>
+    ensures ok { OnOk result (out.new ≡ out.old ++ words (sent_words (SentWords.OpenAssoc x.now units))) }
+    ensures err { OnErr result (Keeps out.old out.new) }
+{
+    let words = [Word::Text("open"), Word::Mark(x), Word::Units(units.bits())];
+    write_words(alloc, &words, out)
+}
+
+fn write_accept<'a>(
+    alloc: Global,
+    x: &'a Mark,
+    y: &'a Mark,
+    units: Units,
+    out: &mut Octets,
+) -> Result<(), NoMemory>
+    ensures ok { OnOk result (out.new ≡ out.old ++ words (sent_words (SentWords.AcceptAssoc x.now y.now units))) }
+    ensures err { OnErr result (Keeps out.old out.new) }
+{
+    let words = [
+        Word::Text("accept"),
+        Word::Mark(x),
+        Word::Mark(y),
+        Word::Units(units.bits()),
+    ];
+    write_words(alloc, &words, out)
+}
+
+fn write_shut<'a>(
+    alloc: Global,
+    x: &'a Mark,
+    y: &'a Option<Mark>,
+    out: &mut Octets,
+) -> Result<(), NoMemory>
+    ensures ok { OnOk result (out.new ≡ out.old ++ words (sent_words (SentWords.ShutAssoc x.now y.now))) }
+    ensures err { OnErr result (Keeps out.old out.new) }
+{
+    let words = [Word::Text("shut"), Word::Mark(x), mark_or_none(y)];
+    write_words(alloc, &words, out)
 }
 
 fn mark_or_none<'a>(mark: &'a Option<Mark>) -> Word<'a>
@@ -65,8 +96,10 @@ fn write_kin(
     ensures ok { OnOk result (out.new ≡ out.old ++ words (word.now ∷ aaid_word aaid.now ∷ branch_word branch.now ∷ [])) }
     ensures err { OnErr result (Keeps out.old out.new) }
 {
-    let (aaid, branch) = (Word::Aaid(aaid), Word::Branch(branch));
-    write_words(alloc, &[Word::Text(word), aaid, branch], out)
+    write_alone(alloc, word, out)?;
+    write_aaid(alloc, aaid, out)?;
+    write_branch(alloc, branch, out)?;
+    Ok(())
 }
 
 // A record of a dialogue after its number.
@@ -102,9 +135,7 @@ fn write_state(alloc: Global, state: RecState, out: &mut Octets) -> Result<(), N
 {
     match state {
         RecState::Commit => write_alone(alloc, "commit", out),
-        RecState::Done(report) => {
-            write_words(alloc, &[Word::Text("done"), Word::Report(report)], out)
-        }
+        RecState::Done(report) => write_reported(alloc, "done", report, out),
         RecState::Unknown => write_alone(alloc, "unknown", out),
         RecState::RetryLater => write_alone(alloc, "retry-later", out),
     }
@@ -116,9 +147,7 @@ fn write_dialogue(alloc: Global, rec: &DialogueRecord, out: &mut Octets) -> Resu
 {
     match rec {
         DialogueRecord::EndDialogue => write_alone(alloc, "end-dialogue", out),
-        DialogueRecord::UserData { octets } => {
-            write_words(alloc, &[Word::Text("user"), Word::Octets(octets)], out)
-        }
+        DialogueRecord::UserData { octets } => write_data(alloc, octets, out),
         DialogueRecord::UError => write_alone(alloc, "u-error", out),
         DialogueRecord::UAbort => write_alone(alloc, "u-abort", out),
         DialogueRecord::Grant => write_alone(alloc, "grant", out),
@@ -132,29 +161,38 @@ fn write_dialogue(alloc: Global, rec: &DialogueRecord, out: &mut Octets) -> Resu
             aaid,
             branch,
             holder,
-        } => {
-            let (aaid, branch) = (Word::Aaid(aaid), Word::Branch(branch));
-            write_words(
-                alloc,
-                &[Word::Text("begin"), aaid, branch, Word::Holder(*holder)],
-                out,
-            )
-        }
+        } => write_begin(alloc, aaid, branch, *holder, out),
         DialogueRecord::Prepare => write_alone(alloc, "prepare", out),
         DialogueRecord::Ready => write_alone(alloc, "ready", out),
         DialogueRecord::Commit => write_alone(alloc, "commit", out),
-        DialogueRecord::Done { report } => {
-            write_words(alloc, &[Word::Text("done"), Word::Report(*report)], out)
-        }
+        DialogueRecord::Done { report } => write_reported(alloc, "done", *report, out),
         DialogueRecord::Rollback => write_alone(alloc, "rollback", out),
         DialogueRecord::RolledBack { report } => {
-            write_words(
-                alloc,
-                &[Word::Text("rolled-back"), Word::Report(*report)],
-                out,
-            )
+            write_reported(alloc, "rolled-back", *report, out)
         }
         DialogueRecord::Left => write_alone(alloc, "left", out),
         DialogueRecord::LeftEnd => write_alone(alloc, "left-end", out),
     }
+}
+
+fn write_data(alloc: Global, octets: &Octets, out: &mut Octets) -> Result<(), NoMemory>
+    ensures ok { OnOk result (out.new ≡ out.old ++ words (dialogue_words (DialogueRecord.UserData octets.now))) }
+    ensures err { OnErr result (Keeps out.old out.new) }
+{
+    write_words(alloc, &[Word::Text("user"), Word::Octets(octets)], out)
+}
+
+fn write_begin(
+    alloc: Global,
+    aaid: &Aaid,
+    branch: &BranchId,
+    holder: Holder,
+    out: &mut Octets,
+) -> Result<(), NoMemory>
+    ensures ok { OnOk result (out.new ≡ out.old ++ words (dialogue_words (DialogueRecord.Begin aaid.now branch.now holder))) }
+    ensures err { OnErr result (Keeps out.old out.new) }
+{
+    write_kin(alloc, "begin", aaid, branch, out)?;
+    write_holder(alloc, holder, out)?;
+    Ok(())
 }

@@ -3,11 +3,14 @@ ghost use Rattle.std.specs.Prelude.{◌≡◌, ◌++◌, ◌∷◌, [], OnErr, O
 ghost use Rattle.tp_names.specs.Writing.{Keeps};
 ghost use Rattle.tp_model.specs.Words.{words, decimal, units_word};
 ghost use Rattle.tp_model.specs.OutText.{indication_words};
+ghost use Rattle.tp_records.specs.declared.indication.Indication.{Indication};
 
 use std::alloc::Global;
-use tp_names::{NoMemory, Octets};
+use tp_names::{Aaid, NoMemory, Octets, Report};
 use tp_records::Indication;
-use tp_schedule::word::{Word, write_alone, write_one, write_words};
+use tp_schedule::word::{
+    Word, write_aaid, write_alone, write_one, write_report, write_reported, write_words,
+};
 use tp_units::Units;
 
 /// The words of an indication.
@@ -28,13 +31,7 @@ pub(crate) fn write_told(
         }
         Indication::Rejected { peer } => write_one(alloc, "rejected", *peer, out),
         Indication::EndDialogue { peer } => write_one(alloc, "end-dialogue", *peer, out),
-        Indication::UserData { peer, octets } => {
-            write_words(
-                alloc,
-                &[Word::Text("data"), Word::Short(*peer), Word::Octets(octets)],
-                out,
-            )
-        }
+        Indication::UserData { peer, octets } => write_data(alloc, *peer, octets, out),
         Indication::UError { peer } => write_one(alloc, "u-error", *peer, out),
         Indication::UAbort { peer } => write_one(alloc, "u-abort", *peer, out),
         Indication::PAbort { peer } => write_one(alloc, "p-abort", *peer, out),
@@ -43,41 +40,21 @@ pub(crate) fn write_told(
         Indication::Handshake { peer } => write_one(alloc, "handshake", *peer, out),
         Indication::HandshakeConfirm { peer } => write_one(alloc, "handshake-confirm", *peer, out),
         Indication::HandshakeGrant { peer } => write_one(alloc, "handshake-and-grant", *peer, out),
-        Indication::BeginTransaction { peer, aaid } => {
-            let aaid = Word::Aaid(aaid);
-            write_words(
-                alloc,
-                &[Word::Text("begin-transaction"), Word::Short(*peer), aaid],
-                out,
-            )
-        }
+        Indication::BeginTransaction { peer, aaid } => write_begun(alloc, *peer, aaid, out),
         Indication::DeferEnd { peer } => write_one(alloc, "deferred-end", *peer, out),
         Indication::DeferGrant { peer } => write_one(alloc, "deferred-grant", *peer, out),
         Indication::Prepare => write_alone(alloc, "prepare", out),
         Indication::Ready { peer } => write_one(alloc, "ready", *peer, out),
         Indication::Commit => write_alone(alloc, "commit", out),
         Indication::CommitComplete { report } => {
-            write_words(
-                alloc,
-                &[Word::Text("commit-complete"), Word::Report(*report)],
-                out,
-            )
+            write_reported(alloc, "commit-complete", *report, out)
         }
         Indication::Rollback => write_alone(alloc, "rollback", out),
         Indication::RollbackComplete { report } => {
-            write_words(
-                alloc,
-                &[Word::Text("rollback-complete"), Word::Report(*report)],
-                out,
-            )
+            write_reported(alloc, "rollback-complete", *report, out)
         }
         Indication::HeuristicReport { peer, report } => {
-            let report = Word::Report(*report);
-            write_words(
-                alloc,
-                &[Word::Text("heuristic-report"), Word::Short(*peer), report],
-                out,
-            )
+            write_heuristic(alloc, *peer, *report, out)
         }
         Indication::Left { peer } => write_one(alloc, "left", *peer, out),
     }
@@ -100,5 +77,36 @@ fn write_offer(
         Word::Units(units.bits()),
     ];
     write_words(alloc, &words, out)?;
+    Ok(())
+}
+
+fn write_data(alloc: Global, peer: u16, octets: &Octets, out: &mut Octets) -> Result<(), NoMemory>
+    ensures ok { OnOk result (out.new ≡ out.old ++ words (indication_words (Indication.UserData peer octets.now))) }
+    ensures err { OnErr result (Keeps out.old out.new) }
+{
+    let words = [Word::Text("data"), Word::Short(peer), Word::Octets(octets)];
+    write_words(alloc, &words, out)
+}
+
+fn write_begun(alloc: Global, peer: u16, aaid: &Aaid, out: &mut Octets) -> Result<(), NoMemory>
+    ensures ok { OnOk result (out.new ≡ out.old ++ words (indication_words (Indication.BeginTransaction peer aaid.now))) }
+    ensures err { OnErr result (Keeps out.old out.new) }
+{
+    write_one(alloc, "begin-transaction", peer, out)?;
+    write_aaid(alloc, aaid, out)?;
+    Ok(())
+}
+
+fn write_heuristic(
+    alloc: Global,
+    peer: u16,
+    report: Report,
+    out: &mut Octets,
+) -> Result<(), NoMemory>
+    ensures ok { OnOk result (out.new ≡ out.old ++ words (indication_words (Indication.HeuristicReport peer report))) }
+    ensures err { OnErr result (Keeps out.old out.new) }
+{
+    write_one(alloc, "heuristic-report", peer, out)?;
+    write_report(alloc, report, out)?;
     Ok(())
 }

@@ -9,6 +9,6 @@ kept_behind old first new text a kept =
     let before : Keeps old first = subst (λ (w : List ℕ). Keeps old w) (sym a) (keeps_front old text) in
     keeps_through old first new before kept
 
-pub returns-in_err-write_behind_dot-clause-err : goal.returns-in_err-write_behind_dot-clause-err
-returns-in_err-write_behind_dot-clause-err c =
-    on_err _ _ (kept_behind _ _ _ _ c.in_ok-extend_from_slice.ensures.ok c.in_err-write_behind_dot.ensures.err)
+pub returns-in_err-write_mark_behind_dot-clause-err : goal.returns-in_err-write_mark_behind_dot-clause-err
+returns-in_err-write_mark_behind_dot-clause-err c =
+    on_err _ _ (kept_behind _ _ _ _ c.in_ok-extend_from_slice.ensures.ok c.in_err-write_mark_behind_dot.ensures.err)

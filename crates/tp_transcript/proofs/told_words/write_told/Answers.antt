@@ -7,13 +7,13 @@ pub returns-in-BegunDialogue-clause-ok : goal.returns-in-BegunDialogue-clause-ok
 returns-in-BegunDialogue-clause-ok c = rw c.in-BegunDialogue.is c.write_offer-in-BegunDialogue.ensures.ok
 
 pub returns-in-BeginTransaction-clause-ok : goal.returns-in-BeginTransaction-clause-ok
-returns-in-BeginTransaction-clause-ok c = rw c.in-BeginTransaction.is c.write_words-in-BeginTransaction.ensures.ok
+returns-in-BeginTransaction-clause-ok c = rw c.in-BeginTransaction.is c.write_begun.ensures.ok
 
 pub returns-in-CommitComplete-clause-ok : goal.returns-in-CommitComplete-clause-ok
-returns-in-CommitComplete-clause-ok c = rw c.in-CommitComplete.is c.write_words-in-CommitComplete.ensures.ok
+returns-in-CommitComplete-clause-ok c = rw c.in-CommitComplete.is c.write_reported.ensures.ok
 
 pub returns-in-HeuristicReport-clause-ok : goal.returns-in-HeuristicReport-clause-ok
-returns-in-HeuristicReport-clause-ok c = rw c.in-HeuristicReport.is c.write_words-in-HeuristicReport.ensures.ok
+returns-in-HeuristicReport-clause-ok c = rw c.in-HeuristicReport.is c.write_heuristic.ensures.ok
 
 pub returns-in-EndDialogue-clause-ok : goal.returns-in-EndDialogue-clause-ok
 returns-in-EndDialogue-clause-ok c = rw c.in-EndDialogue.is c.write_one-in-EndDialogue.ensures.ok
