@@ -1,6 +1,7 @@
 -- One more body is read.
 use Rattle.std.proofs.Common.{◌≡◌, ℕ, ◌-◌, ◌<◌, List, [], ◌∷◌, ◌++◌, length, take, drop, get_or, true, ◌+◌, arith, length-append, sym, ap, ◌∙◌, subst, append_assoc}
 use Rattle.std.proofs.lemmas.List.{append-nil, drop_more, take_rest}
+use Rattle.std.proofs.Math.Seq.{take-append_seam}
 use Rattle.std.specs.List.{AllByRecursion}
 use Rattle.tp_journal.specs.Log.{IsBody, counted, blocks, place_behind}
 use Rattle.tp_journal.specs.Foreign.{Grammar, ArePassed}
@@ -37,3 +38,9 @@ place_more old new body longer gate is =
     let size : length (blocks new) ≡ length (blocks old) + 3 + length body =
     ap (λ (l : List (List ℕ)). length (blocks l)) longer ∙ ap length (blocks-push old body) ∙ omega (arith, length-append (blocks old) (1 ∷ counted body)) in
     omega (arith, size, is)
+
+-- the body in what is written for it
+pub body_in_piece : (len : ℕ) (body piece : List ℕ) → len ≡ length body → piece ≡ counted body ++ 0 ∷ [] → take (2 + len - 2) (drop 2 piece) ≡ body
+body_in_piece len body piece long is =
+    let count : 2 + len - 2 ≡ length body = omega (arith, long) in
+    ap (λ (n : ℕ). take n (drop 2 piece)) count ∙ ap (λ (l : List ℕ). take (length body) (drop 2 l)) is ∙ take-append_seam body (0 ∷ [])

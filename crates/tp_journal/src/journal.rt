@@ -15,12 +15,12 @@ ghost use Rattle.tp_journal.specs.Disorder.{IsFirstOutOfOrder};
 
 use crate::lengths::text_len;
 use crate::log::{Log, MOST_BYTES};
-use crate::records::{Records, generation, write_text};
+use crate::records::{Records, generation, write_piece};
 use crate::{CompactFault, ForceFault, Keeper, Receipt, StartFault, disorder, tape};
 use std::alloc::Global;
 use std::marker::Model;
 use tp_logrec::{LogRec, brief};
-use tp_names::NoMemory;
+use tp_names::{NoMemory, Octets};
 use tp_outside::{Disk, Failed};
 
 // A log of version 2 with no records: four letters, the selector, the mark after an open gate, and a closed gate.
@@ -36,10 +36,11 @@ pub fn format<D: Disk>(disk: &mut D) -> Result<(), Failed>
     tape::overwrite(disk, &EMPTY)
 }
 
-/// A started log of records.
+/// A started log of records, and the memory in which a record is written before it goes to the disk.
 #[derive(Drop)]
 pub struct Journal<D: Disk> {
     log: Log<D, Records>,
+    piece: Octets,
 }
 
 impl<D: Disk> Model for Journal<D> {
@@ -64,7 +65,10 @@ impl<D: Disk> Journal<D> {
     {
         let log = Log::start(alloc, disk, Records::new(alloc))?;
         let _records = log.shelf().list();
-        Ok(Journal { log })
+        Ok(Journal {
+            log,
+            piece: Octets::new(alloc),
+        })
     }
 
     /// Forces one record: with the receipt it is on the disk, after all earlier ones. Where the log would have more than
@@ -79,14 +83,16 @@ impl<D: Disk> Journal<D> {
             return Err(ForceFault::Shut { faults });
         }
         let wide = self.log.shelf().wide();
-        let size = self.log.gate() + 4 + text_len(wide, rec) as u64;
+        let len = text_len(wide, rec);
+        let size = self.log.gate() + 4 + len as u64;
         if size > MOST_BYTES {
             return Err(ForceFault::Full { size });
         }
-        let body = write_text(alloc, wide, rec)?;
+        write_piece(alloc, wide, rec, len, &mut self.piece)?;
         let copy = rec.copy(alloc)?;
         let kept = rec.copy(alloc)?;
-        let place = self.log.append(alloc, body.as_slice(), kept)?;
+        let piece = self.piece.as_slice();
+        let place = self.log.append_piece(&piece[2..2 + len], piece, kept)?;
         Ok(Receipt { place, rec: copy })
     }
 
@@ -171,7 +177,7 @@ impl<D: Disk> Journal<D> {
     pub fn disk(self) -> D
         ensures { result ≡ self.disk }
     {
-        let Journal { log } = self;
+        let Journal { log, piece: _ } = self;
         log.into_disk()
     }
 

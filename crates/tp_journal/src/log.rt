@@ -2,7 +2,7 @@
 //! What its bodies mean, its shelf knows.
 ghost use Rattle.std.specs.Prelude.{◌≡◌, ◌≤◌, ◌<◌, ◌^◌, ◌+◌, ◌-◌, ◌++◌, ◌∷◌, [], ℕ, List, length, drop, Some, None, true, IfOk, IfErr, OnOk};
 ghost use Rattle.tp_outside.specs.Story.{Story};
-ghost use Rattle.tp_journal.specs.Log.{IsBody, counted, head, StandsForEither, forced_bytes};
+ghost use Rattle.tp_journal.specs.Log.{IsBody, counted, head, most_bytes, StandsForEither, forced_bytes};
 ghost use Rattle.tp_journal.specs.Start.{Starts, RefusesStart, SyncsAlone};
 ghost use Rattle.tp_journal.specs.Started.{IsStarted, Appends, RefusesAppend, Replaces, RefusesReplace, KeepsDisk, KeepsDiskInReplace};
 ghost use Rattle.tp_outside.specs.FuseDisk.{OnFuse};
@@ -40,7 +40,7 @@ impl<D: Disk, S: Shelf> Model for Log<D, S> {
 // What is written after the closing gate: the body with its length before it, and a closed gate.
 fn piece_of(alloc: Global, body: &[u8]) -> Result<Vec<u8>, AllocError>
     requires { IsBody body.now }
-    ensures { IfOk result (λ piece. piece.items ≡ counted body.now ++ 0 ∷ []) }
+    ensures { IfOk result (λ piece. piece.items ≡ body_piece body.now) }
 {
     let mut piece = Vec::with_capacity(alloc, body.len() + 3)?;
     let len = body.len();
@@ -74,20 +74,51 @@ impl<D: Disk, S: Shelf + Drop> Log<D, S> {
         if let Some(faults) = self.shut {
             return Err(ForceFault::Shut { faults });
         }
-        let place = self.gate;
-        let size = place + 4 + body.len() as u64;
+        let size = self.gate + 4 + body.len() as u64;
         if size > MOST_BYTES {
             return Err(ForceFault::Full { size });
         }
         let piece = piece_of(alloc, body)?;
+        self.append_piece(body, &piece, item)
+    }
+
+    /// Adds a body that has room, from the piece that is written for it: its length, the body, and a closed gate.
+    pub fn append_piece(
+        &mut self,
+        body: &[u8],
+        piece: &[u8],
+        item: S::Item,
+    ) -> Result<u64, ForceFault>
+        requires body { IsBody body.now }
+        requires piece { piece.now ≡ body_piece body.now }
+        requires says { S.says (S.bodies self.old.shelf) body.now item }
+        requires open { self.old.shut ≡ None }
+        requires room { self.old.gate + 4 + length body.now ≤ most_bytes }
+        ensures appended { IfOk result (λ place. Appends
+            record { bodies = S.bodies self.old.shelf; gate = self.old.gate; shut = self.old.shut; faults = D.fault_count self.old.disk } body.now place
+            record { bodies = S.bodies self.new.shelf; gate = self.new.gate; shut = self.new.shut; faults = D.fault_count self.new.disk }) }
+        ensures refused { IfErr result (RefusesAppend
+            record { bodies = S.bodies self.old.shelf; gate = self.old.gate; shut = self.old.shut; faults = D.fault_count self.old.disk } body.now
+            record { bodies = S.bodies self.new.shelf; gate = self.new.gate; shut = self.new.shut; faults = D.fault_count self.new.disk }) }
+        ensures untouched { IfErr result (KeepsDisk self.old.disk self.new.disk) }
+        // A crash at any moment of the call leaves the bodies from before it, with the new one or without.
+        ensures moments { self.old.shut ≡ None → (s : Story) → D.told self.old.disk ≡ Some s
+            → LeavesOnly (StandsForEither (S.bodies self.old.shelf) (S.bodies self.old.shelf ++ body.now ∷ [])) (D.told self.old.disk) (D.told self.new.disk) }
+        ensures untold { D.told self.old.disk ≡ None → D.told self.new.disk ≡ None }
+        ensures started { OnOk result (IsStarted (D.told self.new.disk) self.new.gate (S.bodies self.new.shelf) self.new.shut) }
+        ensures passes { OnOk result (OnFuse (Opens self.old.gate (body_piece body.now)) (D.fuse self.old.disk) (D.fuse self.new.disk)) }
+        ensures stops { IfErr result (StopsForcing self.old.gate body.now (D.fuse self.old.disk) (D.fuse self.new.disk)) }
+        ensures bytes { OnOk result ((file : List ℕ) → IsOn (D.told self.old.disk) file → IsOn (D.told self.new.disk) (forced_bytes self.old.gate body.now file)) }
+    {
+        let place = self.gate;
         self.shelf.put(place, body, item)?;
-        let Ok(()) = tape::append(&mut self.disk, place, &piece) else {
+        let Ok(()) = tape::append(&mut self.disk, place, piece) else {
             self.shelf.forget();
             let faults = self.disk.faults();
             self.shut = Some(faults);
             return Err(ForceFault::DiskFault { faults });
         };
-        self.gate = size - 1;
+        self.gate = place + piece.len() as u64;
         Ok(place)
     }
 

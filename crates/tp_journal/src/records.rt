@@ -3,6 +3,7 @@ ghost use Rattle.std.specs.Prelude.{◌≡◌, ◌<◌, true, false, [], ◌∷�
 ghost use Rattle.std.specs.List.{AllByRecursion};
 ghost use Rattle.tp_journal.specs.Records.{HasText, ReadsText, version_of, text, is_mark, bodies_of, marks, wide_of, recs_of, placed, AreRecords};
 ghost use Rattle.tp_journal.specs.Log.{IsBody, counted, blocks, place_behind};
+ghost use Rattle.tp_journal.specs.Stops.{body_piece};
 
 use crate::lengths::text_len;
 use crate::shelf::Shelf;
@@ -71,14 +72,34 @@ fn read_text(alloc: Global, wide: bool, body: &[u8]) -> Result<Option<LogRec>, N
     }
 }
 
-/// The text of a record in the version told.
-pub fn write_text(alloc: Global, wide: bool, rec: &LogRec) -> Result<Octets, NoMemory>
+// The text of a record in the version told.
+fn write_text(alloc: Global, wide: bool, rec: &LogRec) -> Result<Octets, NoMemory>
     requires { HasText wide rec.now }
     ensures { IfOk result (λ body. body ≡ text wide rec.now) }
 {
     let mut body = Octets::from_vec(Vec::with_capacity(alloc, text_len(wide, rec))?);
     encode_log(alloc, version(wide), rec, &mut body)?;
     Ok(body)
+}
+
+/// What is written for a record after the closing gate, in the place of these octets: the length of its text, which is
+/// told, the text, and a closed gate.
+#[tactic(auto, using(crate::proofs::Sizes::text_is_body))]
+pub fn write_piece(
+    alloc: Global,
+    wide: bool,
+    rec: &LogRec,
+    len: usize,
+    piece: &mut Octets,
+) -> Result<(), NoMemory>
+    requires text { HasText wide rec.now }
+    requires len { len ≡ length (text wide rec.now) }
+    ensures { OnOk result (piece.new ≡ body_piece (text wide rec.now)) }
+{
+    piece.truncate(0);
+    piece.extend_from_slice(alloc, &[(len / 256) as u8, (len % 256) as u8])?;
+    encode_log(alloc, version(wide), rec, piece)?;
+    piece.push(alloc, 0)
 }
 
 // The bodies of a log with no records, each after an open gate: the mark, where it is of version 2.

@@ -1,4 +1,4 @@
-use Rattle.std.proofs.Common.{◌≡◌, ℕ, List, None, Err, rules, ◌++◌, [], ◌∷◌, sym, ap, ◌∙◌, subst}
+use Rattle.std.proofs.Common.{◌≡◌, ◌+◌, ◌-◌, take, drop, ℕ, List, None, Err, rules, ◌++◌, [], ◌∷◌, sym, ap, ◌∙◌, subst}
 use Rattle.tp_journal.specs.Log.{IsBody, StandsForEither, forced_bytes}
 use Rattle.tp_outside.specs.FuseDisk.{OnFuse}
 use Rattle.tp_journal.specs.Stops.{body_piece, Opens, StopsForcing}
@@ -9,27 +9,30 @@ use Rattle.tp_journal.specs.Journals.{Kept, kept_of, standing_of}
 use Rattle.tp_journal.specs.Keeping.{Forces, Stored}
 use Rattle.tp_journal.proofs.Forcing.{face_of, refused_stays, told_on, stored, refused, records_now}
 use Rattle.tp_journal.proofs.Sizes.{text_is_body}
+use Rattle.tp_journal.proofs.OneMore.{body_in_piece}
 use Rattle.tp_journal.proofs.journal.Journal.force.Goals as goal
 
-pub append-requires-clause-body : goal.append-requires-clause-body
-append-requires-clause-body g c =
+pub append_piece-requires-clause-body : goal.append_piece-requires-clause-body
+append_piece-requires-clause-body g c =
     let log = c.self.inside.log in
     let has : HasText (wide_of log.shelf) c.args.rec.now = subst (λ (v : Kept _). HasText v.wide c.args.rec.now) (sym c.self.view_is) c.requires in
     let version : c.wide-wide.result ≡ wide_of log.shelf = c.wide-wide.ensures ∙ ap wide_of c.shelf.ensures in
-    let body : c.as_slice.result.now ≡ text (wide_of log.shelf) c.args.rec.now = c.as_slice.ensures ∙ (c.in_ok-body.ensures {u = tt}) ∙ ap (λ w. text w c.args.rec.now) version in
+    let body : take (2 + c.text_len-len.result - 2) (drop 2 c.as_slice-piece.result.now) ≡ text (wide_of log.shelf) c.args.rec.now =
+    body_in_piece c.text_len-len.result _ c.as_slice-piece.result.now c.text_len-len.ensures.exact (c.as_slice-piece.ensures ∙ (c.in_ok-write_piece.ensures {u = tt})) ∙ ap (λ w. text w c.args.rec.now) version in
     subst IsBody (sym body) (text_is_body (wide_of log.shelf) c.args.rec.now has)
 
-pub append-requires-clause-says : goal.append-requires-clause-says
-append-requires-clause-says g c =
+pub append_piece-requires-clause-says : goal.append_piece-requires-clause-says
+append_piece-requires-clause-says g c =
     let log = c.self.inside.log in
     let has : HasText (wide_of log.shelf) c.args.rec.now = subst (λ (v : Kept _). HasText v.wide c.args.rec.now) (sym c.self.view_is) c.requires in
     let version : c.wide-wide.result ≡ wide_of log.shelf = c.wide-wide.ensures ∙ ap wide_of c.shelf.ensures in
-    let body : c.as_slice.result.now ≡ text (wide_of log.shelf) c.args.rec.now = c.as_slice.ensures ∙ (c.in_ok-body.ensures {u = tt}) ∙ ap (λ w. text w c.args.rec.now) version in
+    let body : take (2 + c.text_len-len.result - 2) (drop 2 c.as_slice-piece.result.now) ≡ text (wide_of log.shelf) c.args.rec.now =
+    body_in_piece c.text_len-len.result _ c.as_slice-piece.result.now c.text_len-len.ensures.exact (c.as_slice-piece.ensures ∙ (c.in_ok-write_piece.ensures {u = tt})) ∙ ap (λ w. text w c.args.rec.now) version in
     let copied : c.in_ok-kept.kept ≡ c.args.rec.now = c.in_ok-kept.ensures {u = tt} in
     (subst (HasText (wide_of log.shelf)) (sym copied) has, ap (text (wide_of log.shelf)) copied ∙ sym body)
 
-pub invariant_of-self : goal.invariant_of-self
-invariant_of-self g c = subst AreRecords (sym (refused_stays _ _ _ _ c.in_err-place.ensures.refused)) c.self.invariant
+pub invariant_of-self-in_err-place : goal.invariant_of-self-in_err-place
+invariant_of-self-in_err-place g c = subst AreRecords (sym (refused_stays _ _ _ _ c.in_err-place.ensures.refused)) c.self.invariant
 
 pub returns-in_err-place-clause-forces : goal.returns-in_err-place-clause-forces
 returns-in_err-place-clause-forces g c =
@@ -38,14 +41,15 @@ returns-in_err-place-clause-forces g c =
     let faults = g.D.Disk.fault_count in
     let told = g.D.Disk.told in
     let fuse = g.D.Disk.fuse in
-    let new = c.append.new.self in
+    let new = c.append_piece.new.self in
     let fault = c.in_err-place.field-0.0 in
     let has : HasText (wide_of log.shelf) rec = subst (λ (v : Kept _). HasText v.wide rec) (sym c.self.view_is) c.requires in
     let version : c.wide-wide.result ≡ wide_of log.shelf = c.wide-wide.ensures ∙ ap wide_of c.shelf.ensures in
-    let body : c.as_slice.result.now ≡ text (wide_of log.shelf) rec = c.as_slice.ensures ∙ (c.in_ok-body.ensures {u = tt}) ∙ ap (λ w. text w rec) version in
+    let body : take (2 + c.text_len-len.result - 2) (drop 2 c.as_slice-piece.result.now) ≡ text (wide_of log.shelf) rec =
+    body_in_piece c.text_len-len.result _ c.as_slice-piece.result.now c.text_len-len.ensures.exact (c.as_slice-piece.ensures ∙ (c.in_ok-write_piece.ensures {u = tt})) ∙ ap (λ w. text w rec) version in
     let leaves : log.shut ≡ None → LeavesOnly (StandsForEither log.shelf (log.shelf ++ text (wide_of log.shelf) rec ∷ [])) (told log.disk) (told new.disk) =
     λ open_now. subst (λ b. LeavesOnly (StandsForEither log.shelf (log.shelf ++ b ∷ [])) (told log.disk) (told new.disk)) body
-    (told_on (StandsForEither log.shelf (log.shelf ++ c.as_slice.result.now ∷ [])) (told log.disk) (told new.disk) c.append.ensures.untold (c.append.ensures.moments open_now)) in
+    (told_on (StandsForEither log.shelf (log.shelf ++ (take (2 + c.text_len-len.result - 2) (drop 2 c.as_slice-piece.result.now)) ∷ [])) (told log.disk) (told new.disk) c.append_piece.ensures.untold (c.append_piece.ensures.moments open_now)) in
     let refuses : RefusesAppend (face_of log (faults log.disk)) (text (wide_of log.shelf) rec) (face_of new (faults new.disk)) fault =
     subst (λ b. RefusesAppend (face_of log (faults log.disk)) b (face_of new (faults new.disk)) fault) body c.in_err-place.ensures.refused in
     let stops : StopsForcing log.gate (text (wide_of log.shelf) rec) (fuse log.disk) (fuse new.disk) fault = subst (λ b. StopsForcing log.gate b (fuse log.disk) (fuse new.disk) fault) body c.in_err-place.ensures.stops in
@@ -60,8 +64,9 @@ invariant_of-self-2 g c =
     let rec = c.args.rec.now in
     let has : HasText (wide_of log.shelf) rec = subst (λ (v : Kept _). HasText v.wide rec) (sym c.self.view_is) c.requires in
     let version : c.wide-wide.result ≡ wide_of log.shelf = c.wide-wide.ensures ∙ ap wide_of c.shelf.ensures in
-    let body : c.as_slice.result.now ≡ text (wide_of log.shelf) rec = c.as_slice.ensures ∙ (c.in_ok-body.ensures {u = tt}) ∙ ap (λ w. text w rec) version in
-    records_now log.shelf rec c.self.invariant has c.append.new.self.shelf (((c.in_ok-place.ensures {u = tt}).appended).bodies ∙ ap (λ b. log.shelf ++ b ∷ []) body)
+    let body : take (2 + c.text_len-len.result - 2) (drop 2 c.as_slice-piece.result.now) ≡ text (wide_of log.shelf) rec =
+    body_in_piece c.text_len-len.result _ c.as_slice-piece.result.now c.text_len-len.ensures.exact (c.as_slice-piece.ensures ∙ (c.in_ok-write_piece.ensures {u = tt})) ∙ ap (λ w. text w rec) version in
+    records_now log.shelf rec c.self.invariant has c.append_piece.new.self.shelf (((c.in_ok-place.ensures {u = tt}).appended).bodies ∙ ap (λ b. log.shelf ++ b ∷ []) body)
 
 pub returns-clause-forces : goal.returns-clause-forces
 returns-clause-forces g c =
@@ -70,13 +75,14 @@ returns-clause-forces g c =
     let faults = g.D.Disk.fault_count in
     let has : HasText (wide_of log.shelf) rec = subst (λ (v : Kept _). HasText v.wide rec) (sym c.self.view_is) c.requires in
     let version : c.wide-wide.result ≡ wide_of log.shelf = c.wide-wide.ensures ∙ ap wide_of c.shelf.ensures in
-    let body : c.as_slice.result.now ≡ text (wide_of log.shelf) rec = c.as_slice.ensures ∙ (c.in_ok-body.ensures {u = tt}) ∙ ap (λ w. text w rec) version in
+    let body : take (2 + c.text_len-len.result - 2) (drop 2 c.as_slice-piece.result.now) ≡ text (wide_of log.shelf) rec =
+    body_in_piece c.text_len-len.result _ c.as_slice-piece.result.now c.text_len-len.ensures.exact (c.as_slice-piece.ensures ∙ (c.in_ok-write_piece.ensures {u = tt})) ∙ ap (λ w. text w rec) version in
     let told = g.D.Disk.told in
     let fuse = g.D.Disk.fuse in
-    let new = c.append.new.self in
+    let new = c.append_piece.new.self in
     let leaves : log.shut ≡ None → LeavesOnly (StandsForEither log.shelf (log.shelf ++ text (wide_of log.shelf) rec ∷ [])) (told log.disk) (told new.disk) =
     λ open_now. subst (λ b. LeavesOnly (StandsForEither log.shelf (log.shelf ++ b ∷ [])) (told log.disk) (told new.disk)) body
-    (told_on (StandsForEither log.shelf (log.shelf ++ c.as_slice.result.now ∷ [])) (told log.disk) (told new.disk) c.append.ensures.untold (c.append.ensures.moments open_now)) in
+    (told_on (StandsForEither log.shelf (log.shelf ++ (take (2 + c.text_len-len.result - 2) (drop 2 c.as_slice-piece.result.now)) ∷ [])) (told log.disk) (told new.disk) c.append_piece.ensures.untold (c.append_piece.ensures.moments open_now)) in
     let place = c.in_ok-place.place in
     let appended = c.in_ok-place.ensures {u = tt} in
     let appends : Appends (face_of log (faults log.disk)) (text (wide_of log.shelf) rec) place (face_of new (faults new.disk)) =
