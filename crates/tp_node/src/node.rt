@@ -268,6 +268,18 @@ impl Node {
         }
     }
 
+    /// The arc with that peer, where it stands.
+    pub(crate) fn tie(&self, peer: u16) -> Option<&Tie>
+        ensures arc { option_map arc_of (option_copied result) ≡ find_arc self.now.digest.arcs peer }
+        ensures side { IfSome result (λ t. t.now.dialogue.side ≡ side_at self.now.digest peer) }
+        ensures link { IfSome result (λ t. fits_link (side_at self.now.digest peer) t.now.link ≡ true) }
+    {
+        match &self.arcs {
+            None => None,
+            Some(arcs) => arcs.get(peer),
+        }
+    }
+
     /// The node's side on an arc with that peer.
     pub(crate) fn side(&self, peer: u16) -> Side
         ensures { result ≡ side_at self.now.digest peer }
@@ -340,7 +352,7 @@ impl Node {
     ) -> Option<Refusal>
         ensures { result ≡ refused_at self.now.who self.now.digest peer octets (asked_value asked) others }
     {
-        let Some(tie) = self.find(peer) else {
+        let Some(tie) = self.tie(peer) else {
             return Some(NoDialogue);
         };
         if tie.link.state() != LinkState::Live {

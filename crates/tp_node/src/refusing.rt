@@ -119,14 +119,14 @@ impl Node {
     ) -> Option<Refusal>
         ensures { result ≡ refused_on self.now.who self.now.digest from.now x y seq rec.now }
     {
-        let Some(tie) = self.find(from.node) else {
+        let Some(tie) = self.tie(from.node) else {
             return Some(OldAssociation);
         };
-        let mut link = link_of(&tie, from);
+        let mut link = link_of(tie, from);
         if let Err(dropped) = link.take(x, y, seq) {
             return Some(dropped.refusal());
         }
-        out_of_phase(self.disposition(&tie, rec))
+        out_of_phase(self.disposition(tie, rec))
     }
 
     /// Why a record is refused that arrives, but for the want of numbers.

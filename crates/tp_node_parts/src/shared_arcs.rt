@@ -131,7 +131,16 @@ impl SharedArcs {
         ensures side { IfSome result (λ t. t.dialogue.side ≡ side_with self.now.superior peer) }
         ensures link { IfSome result (λ t. fits_link (side_with self.now.superior peer) t.link ≡ true) }
     {
-        self.near(self.directory.of(peer), peer).copied()
+        self.get(peer).copied()
+    }
+
+    /// The arc with that peer, where it stands.
+    pub fn get(&self, peer: u16) -> Option<&Tie>
+        ensures arc { option_map arc_of (option_copied result) ≡ find_arc self.now.arcs peer }
+        ensures side { IfSome result (λ t. t.now.dialogue.side ≡ side_with self.now.superior peer) }
+        ensures link { IfSome result (λ t. fits_link (side_with self.now.superior peer) t.now.link ≡ true) }
+    {
+        self.near(self.directory.of(peer), peer)
     }
 
     /// The arc with that peer, where it stands: it is sought at that place among the subordinates' first.
@@ -171,7 +180,7 @@ impl SharedArcs {
         self.all().subordinates()
     }
 
-    /// None of the dialogues is chained.
+    /// Where it says so, none of the dialogues is chained.
     #[tactic(auto, using(crate::proofs::Chained::none_put))]
     pub fn has_none_chained(&self) -> bool
         ensures { result ≡ true → has_none_chained self.now.arcs ≡ true }
