@@ -3,6 +3,7 @@ pub mod Noted
 pub mod Begun
 pub mod Applied
 pub mod Numbered
+pub mod Placed
 pub mod Starting
 pub mod Recalling
 pub mod Lanes

@@ -1,6 +1,6 @@
 -- The nodes of a site, found by their numbers. One that is not among them is what it was at the start: the log has no record
 -- of it, and nothing has happened to it.
-use Rattle.std.specs.Prelude.{ℕ, nat_eq, ◌≡◌, Bool, true, false, Option, Some, None, List, []}
+use Rattle.std.specs.Prelude.{ℕ, nat_eq, ◌≡◌, Bool, true, false, Option, Some, None, List, [], slice_get}
 use Rattle.std.specs.Map.{lookup}
 use Rattle.tp_logrec.specs.declared.record.LogRec.{LogRec}
 use Rattle.tp_logrec.specs.declared.record.LogVersion.{LogVersion}
@@ -38,6 +38,10 @@ node_at v n = record { who = who_at v n; digest = digest_at v n }
 -- the node, where it is among them
 abbrev pub find_node : Nodes → ℕ → Option Node
 find_node v n = elim (lookup (nat_eq n) v.nodes) [ None ↦ None | Some x ↦ Some (node_at v n) ]
+
+-- the node of that number stands at that place
+abbrev pub IsPlaced : ℕ → Nodes → ℕ → Type 0
+IsPlaced n v i = (x : Node) × (slice_get v.nodes i ≡ Some (n, x)) × (lookup (nat_eq n) v.nodes ≡ Some x)
 
 -- each stands under its number, at this site
 abbrev pub IsNamed : Inside → Type 0

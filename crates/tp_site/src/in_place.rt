@@ -5,6 +5,7 @@ ghost use Rattle.tp_model.specs.Disposition.{sight_value};
 ghost use Rattle.tp_node.specs.declared.event.NodeEvent.{NodeEvent};
 ghost use Rattle.tp_node.specs.Begins.{with_digest};
 ghost use Rattle.tp_node.specs.NodeEvent.{refused_at_once};
+ghost use Rattle.tp_records.specs.declared.request.Request.{Request as Asks};
 ghost use Rattle.tp_site.specs.InPlace.{IsPlanned, run_in_place, can_run, arrived_in_place, asked_in_place, can_ask, is_only_noted, is_acting, acts_at, told_of};
 
 use std::alloc::Global;
@@ -93,10 +94,23 @@ fn plan_arrival(
 fn plan_request(alloc: Global, node: &Node, request: &Request) -> Result<Option<Outs>, NoMemory>
     ensures { IfOk result (λ plan. IfSome plan (IsPlanned node.now (NodeEvent.Do request.entry))) }
 {
-    let Request::BeginTransaction { peer } = request else {
-        return Ok(None);
-    };
-    let Some(out) = node.plan_begin(*peer) else {
+    match request {
+        Request::BeginTransaction { peer } => plan_begin(alloc, node, *peer, request),
+        _ => Ok(None),
+    }
+}
+
+// Of that request, which is to begin a transaction with that peer.
+fn plan_begin(
+    alloc: Global,
+    node: &Node,
+    peer: u16,
+    request: &Request,
+) -> Result<Option<Outs>, NoMemory>
+    requires { request.now ≡ Asks.BeginTransaction peer }
+    ensures { IfOk result (λ plan. IfSome plan (IsPlanned node.now (NodeEvent.Do request.entry))) }
+{
+    let Some(out) = node.plan_begin(peer) else {
         return Ok(None);
     };
     if let Some(_refusal) = node.refused_do(request) {

@@ -1,13 +1,13 @@
 //! The nodes of a site.
 ghost use Rattle.std.specs.Prelude.{ℕ, ◌≡◌, ◌==◌, ◌++◌, ◌∷◌, cond, true, List, [], None, IfOk, IfSome, OnOk};
 ghost use Rattle.tp_logrec.specs.declared.record.LogRec.{LogRec as LogRecord};
-ghost use Rattle.std.specs.Option.{option_copied};
+ghost use Rattle.std.specs.Option.{option_copied, is_some};
 ghost use Rattle.tp_model.specs.declared.refusal.Refusal.{Refusal};
 ghost use Rattle.tp_model.specs.Refusal.{number_of};
 ghost use Rattle.tp_model.specs.Events.{started};
 ghost use Rattle.tp_node.specs.NodeEvent.{event_of, answer_at, refused_at_once};
 ghost use Rattle.tp_draft.specs.Answers.{IsAnswer, IsPlain};
-ghost use Rattle.tp_site.specs.Nodes.{has_node, who_at, digest_at, node_at, find_node, unknown_start, IsSameSite, AreFrom};
+ghost use Rattle.tp_site.specs.Nodes.{has_node, who_at, digest_at, node_at, find_node, unknown_start, IsPlaced, IsSameSite, AreFrom};
 ghost use Rattle.tp_node.specs.Node.{recovered_by};
 ghost use Rattle.tp_site.specs.InPlace.{IsPlanned, run_in_place, can_run};
 
@@ -22,13 +22,14 @@ use tp_names::{NoMemory, SiteName};
 use tp_node::{Node, NodeEvent};
 use tp_node_parts::Outs;
 
-/// The nodes of a site, by their numbers.
+/// The nodes of a site, by their numbers. One is sought first where the last one stood.
 #[derive(Debug, Drop)]
 pub(crate) struct Nodes {
     site: SiteName,
     boot: u64,
     version: LogVersion,
     nodes: IndexMap<u16, Node>,
+    last: usize,
 }
 
 impl Model for Nodes {
@@ -51,6 +52,7 @@ impl Nodes {
             boot,
             version,
             nodes: IndexMap::new(alloc),
+            last: 0,
         }
     }
 
@@ -75,12 +77,38 @@ impl Nodes {
         Node::unknown(alloc, self.site, node, self.boot, self.version)
     }
 
+    // Where the node of that number stands: where the last one did, or where it is found.
+    fn place_of(&self, number: u16) -> Option<usize>
+        ensures there { is_some result ≡ has_node self.now number }
+        ensures at { IfSome result (IsPlaced number self.now) }
+    {
+        if let Some((found, _node)) = self.nodes.get_index(self.last) {
+            if *found == number {
+                return Some(self.last);
+            }
+        }
+        self.nodes.get_index_of(&number)
+    }
+
+    // The node of that number is sought where it stands from now on.
+    fn note_place(&mut self, number: u16)
+        ensures { self.new ≡ self.old }
+    {
+        if let Some(place) = self.place_of(number) {
+            self.last = place;
+        }
+    }
+
     /// The node of that number, where the site has had to do with it.
     #[tactic(auto, using(crate::proofs::Numbered::named))]
     pub(crate) fn find(&self, number: u16) -> Option<&Node>
         ensures { option_copied result ≡ find_node self.now number }
     {
-        self.nodes.get(&number)
+        let place = self.place_of(number)?;
+        match self.nodes.get_index(place) {
+            None => None,
+            Some((_number, node)) => Some(node),
+        }
     }
 
     /// Why an event of the node of that number is refused before anything is tried. It takes no memory.
@@ -134,9 +162,29 @@ impl Nodes {
         ensures same { (n : ℕ) → digest_at self.new n ≡ digest_at self.old n }
         ensures site { IsSameSite self.old self.new }
     {
+        self.note_place(node);
         if let Some(node) = self.find(node) {
             return draft.answer_to(alloc, node, event);
         }
+        self.answer_unknown(alloc, node, event, draft)
+    }
+
+    // The same of a node that is not among them.
+    fn answer_unknown(
+        &mut self,
+        alloc: Global,
+        node: u16,
+        event: &NodeEvent<'_>,
+        draft: &mut Draft,
+    ) -> Result<Option<Refusal>, TxFault>
+        requires { digest_at self.old node ≡ started (unknown_start self.old) }
+        ensures plain { (x : Refusal) → IsPlain (node_at self.old node) event.now x → result ≡ Err (TxFault.Refused (number_of x)) }
+        ensures answer { IsAnswer result draft.new (node_at self.old node) (answer_at (who_at self.old node) (digest_at self.old node) (event_of event.now)) }
+        ensures refused { (k : ℕ) → result ≡ Err (TxFault.Refused k) → self.new ≡ self.old }
+        ensures ready { IfOk result (λ refusal. has_node self.new node ≡ true) }
+        ensures same { (n : ℕ) → digest_at self.new n ≡ digest_at self.old n }
+        ensures site { IsSameSite self.old self.new }
+    {
         match draft.answer_to(alloc, &self.unknown(alloc, node), event) {
             Err(fault) => Err(fault),
             Ok(refusal) => {
@@ -149,14 +197,16 @@ impl Nodes {
     /// What an event of the node of that number says that is run on the node itself; none of one that is run on a draft.
     #[tactic(auto, using(crate::proofs::Numbered::found))]
     pub(crate) fn plan(
-        &self,
+        &mut self,
         alloc: Global,
         number: u16,
         event: &NodeEvent<'_>,
     ) -> Result<Option<Outs>, NoMemory>
-        ensures there { IfOk result (λ plan. IfSome plan (λ outs. has_node self.now number ≡ true)) }
-        ensures planned { IfOk result (λ plan. IfSome plan (IsPlanned (node_at self.now number) event.now)) }
+        ensures there { IfOk result (λ plan. IfSome plan (λ outs. has_node self.old number ≡ true)) }
+        ensures planned { IfOk result (λ plan. IfSome plan (IsPlanned (node_at self.old number) event.now)) }
+        ensures same { self.new ≡ self.old }
     {
+        self.note_place(number);
         match self.find(number) {
             None => Ok(None),
             Some(node) => in_place::plan(alloc, node, event),
@@ -171,10 +221,13 @@ impl Nodes {
         ensures put { (n : ℕ) → digest_at self.new n ≡ cond (number == n) (run_in_place (who_at self.old number) event.now (digest_at self.old number)) (digest_at self.old n) }
         ensures site { IsSameSite self.old self.new }
     {
-        let Some(place) = self.nodes.get_mut(&number) else {
+        let Some(place) = self.place_of(number) else {
             return;
         };
-        in_place::apply(place, event);
+        let Some(node) = self.nodes.get_index_mut(place) else {
+            return;
+        };
+        in_place::apply(node, event);
     }
 
     /// Room for the node of that number is made; nothing is known of it that was not.
@@ -199,10 +252,13 @@ impl Nodes {
         ensures site { IsSameSite self.old self.new }
         ensures outs { draft.new.move.outs ≡ draft.old.move.outs }
     {
-        let Some(place) = self.nodes.get_mut(&number) else {
+        let Some(place) = self.place_of(number) else {
             return;
         };
-        draft.put_node(alloc, place);
+        let Some(node) = self.nodes.get_index_mut(place) else {
+            return;
+        };
+        draft.put_node(alloc, node);
     }
 
     // One more record of the node of that number.

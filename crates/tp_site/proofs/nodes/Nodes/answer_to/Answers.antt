@@ -1,21 +1,12 @@
--- A node that is not among them is refused as the one that it would be.
-use Rattle.std.proofs.Common.{◌≡◌, refl, sym, ◌∙◌, subst}
-use Rattle.tp_model.specs.Parts.{Who, Digest}
+-- A node that is among them is refused as it stands there.
+use Rattle.std.proofs.Common.{◌≡◌, Some, sym, subst}
 use Rattle.tp_node.specs.Node.{Node}
 use Rattle.tp_draft.specs.Answers.{IsPlain}
-use Rattle.tp_site.specs.Nodes.{who_at}
-use Rattle.tp_site.proofs.Numbered.{found, unfound}
+use Rattle.tp_site.specs.Nodes.{Nodes, find_node}
+use Rattle.tp_site.proofs.Numbered.{found}
 use Rattle.tp_site.proofs.nodes.Nodes.answer_to.Goals as goal
-
-same_node : (w : Who) (d e : Digest) → d ≡ e → ◌≡◌ {A = Node} (record { who = w; digest = d }) (record { who = w; digest = e })
-same_node w d e same = rw same refl
-
-pub returns-in-Err-clause-plain : goal.returns-in-Err-clause-plain
-returns-in-Err-clause-plain c = λ k plain.
-    let v = c.args.self.now in
-    let n = c.args.node in
-    c.in-Err.ensures.plain k (subst (λ (x : Node). IsPlain x c.args.event.now k) (same_node (who_at v n) _ _ (unfound v n c.in_default.ensures) ∙ sym c.unknown.ensures) plain)
 
 pub returns-in-Some-clause-plain : goal.returns-in-Some-clause-plain
 returns-in-Some-clause-plain c = λ x plain.
-    c.answer_to.ensures.plain x (subst (λ (y : Node). IsPlain y c.args.event.now x) (sym (found c.args.self.now c.args.node c.in-Some.node.now c.in-Some.ensures)) plain)
+    let here : Some c.in-Some.node.now ≡ find_node c.args.self.now c.args.node = subst (λ (v : Nodes). Some c.in-Some.node.now ≡ find_node v c.args.node) c.note_place.ensures c.in-Some.ensures in
+    c.answer_to.ensures.plain x (subst (λ (y : Node). IsPlain y c.args.event.now x) (sym (found c.args.self.now c.args.node c.in-Some.node.now here)) plain)

@@ -4,11 +4,11 @@ use Rattle.tp_model.specs.Parts.{Do, Out}
 use Rattle.tp_model.specs.Events.{refused_plainly}
 use Rattle.tp_node_parts.specs.Outs.{out_of}
 use Rattle.tp_site.proofs.Begun.{planned}
-use Rattle.tp_site.proofs.in_place.plan_request.Goals as goal
+use Rattle.tp_site.proofs.in_place.plan_begin.Goals as goal
 
 pub returns : goal.returns
 returns c =
     let v = c.args.node.now in
     let ok : refused_plainly v.who v.digest (Do c.args.request.now) ≡ None = search rules in
-    planned v c.args.request c.in-BeginTransaction.peer c.push.new.self c.in-BeginTransaction.is ok c.in-Some.ensures.sure
+    planned v c.args.request c.args.peer c.push.new.self c.requires ok c.in-Some.ensures.sure
     (c.in_ok-push.ensures {u = tt} ∙ ap (λ (l : List Out). l ++ out_of c.in-Some.out ∷ []) c.new-outs.ensures ∙ sym c.in-Some.ensures.out)
