@@ -2,6 +2,7 @@
 ghost use Rattle.std.specs.Prelude.{◌≡◌, IfOk, IfSome};
 ghost use Rattle.tp_network.specs.FrameRecord.{said, record_of};
 
+use crate::copies;
 use std::alloc::Global;
 use tp_names::{Mark, NoMemory, Report};
 use tp_records::{DialogueRecord, PeerRecord};
@@ -117,14 +118,22 @@ fn word_in(rec: &PeerRecord) -> Option<FrameRecord>
     }
 }
 
+// The record as it is.
+fn boxed(alloc: Global, rec: &PeerRecord) -> Result<FrameRecord, NoMemory>
+    ensures { IfOk result (λ kept. record_of kept ≡ rec.now) }
+{
+    let rec = copies::peer(alloc, rec)?;
+    Ok(FrameRecord::Other(Box::new(alloc, rec)?))
+}
+
 impl FrameRecord {
     /// The record as a frame keeps it.
-    pub fn of(alloc: Global, rec: PeerRecord) -> Result<FrameRecord, NoMemory>
-        ensures { IfOk result (λ kept. record_of kept ≡ rec) }
+    pub fn of(alloc: Global, rec: &PeerRecord) -> Result<FrameRecord, NoMemory>
+        ensures { IfOk result (λ kept. record_of kept ≡ rec.now) }
     {
-        match word_in(&rec) {
+        match word_in(rec) {
             Some(kept) => Ok(kept),
-            None => Ok(FrameRecord::Other(Box::new(alloc, rec)?)),
+            None => boxed(alloc, rec),
         }
     }
 }

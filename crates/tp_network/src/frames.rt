@@ -121,11 +121,11 @@ impl Frames {
     pub fn send(
         &mut self,
         alloc: Global,
-        from: Addr,
-        to: Addr,
-        rec: PeerRecord,
+        from: &Addr,
+        to: &Addr,
+        rec: &PeerRecord,
     ) -> Result<u16, SendFault>
-        ensures ok { IfOk result (λ number. (number ≡ length self.old + 1) × (self.new ≡ self.old ++ record { from = from; to = to; rec = rec; handed = false } ∷ [])) }
+        ensures ok { IfOk result (λ number. (number ≡ length self.old + 1) × (self.new ≡ self.old ++ record { from = from.now; to = to.now; rec = rec.now; handed = false } ∷ [])) }
         ensures err { OnErr result (self.new ≡ self.old) }
         ensures full { IfErr result (IsFull (length self.old)) }
     {
@@ -135,8 +135,8 @@ impl Frames {
         }
         let number = number as u16;
         let frame = Frame {
-            from,
-            to,
+            from: *from,
+            to: *to,
             rec: FrameRecord::of(alloc, rec)?,
             handed: false,
         };

@@ -32,6 +32,16 @@ pub struct TreeChange {
     pub rec: Option<LogWords>,
 }
 
+impl TreeChange {
+    /// Of an entry that shows nothing of trees.
+    pub const NONE: TreeChange = TreeChange {
+        before: None,
+        after: None,
+        leaves: false,
+        rec: None,
+    };
+}
+
 /// The tree is the current one.
 pub fn is_in(tree: &Aaid, at: &Option<NodeTree>) -> bool
     ensures { result ≡ is_in tree.now at.now }

@@ -31,7 +31,7 @@ use Rattle.tp_world.specs.Stops.{StopsIn, HasPlayed, forced_by, stop_by, stop_ju
 use Rattle.tp_world_parts.specs.Standing.{SitesStand, RestStands, PlaysAt, after_entry, entry_answered}
 use Rattle.tp_world.specs.World.{Mirrors, Gives}
 use Rattle.tp_world_parts.specs.declared.fault.WorldFault.{WorldFault}
-use Rattle.tp_world_parts.specs.declared.site_slot.Answer.{Answer}
+use Rattle.tp_world_parts.specs.NodeAnswers.{Answer}
 use Rattle.tp_world_parts.specs.declared.site_slot.SiteSlot.{SiteSlot}
 use Rattle.tp_world.specs.declared.world.World.{World as CodeWorld}
 use Rattle.tp_world.proofs.Crashing.{IsThere, place_there}

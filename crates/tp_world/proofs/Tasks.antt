@@ -16,7 +16,7 @@ use Rattle.tp_world_parts.specs.Standing.{SitesStand, PlaysAt, after_entry, entr
 use Rattle.tp_world.specs.World.{Mirrors, Gives, task_turn}
 use Rattle.tp_network.specs.declared.fault.SendFault.{SendFault}
 use Rattle.tp_world_parts.specs.declared.fault.WorldFault.{WorldFault}
-use Rattle.tp_world_parts.specs.declared.site_slot.Answer.{Answer}
+use Rattle.tp_world_parts.specs.NodeAnswers.{Answer}
 use Rattle.tp_world_parts.specs.declared.site_slot.SiteSlot.{SiteSlot}
 use Rattle.tp_world.specs.declared.world.World.{World as CodeWorld}
 use Rattle.tp_world_parts.proofs.Entered.{legal_found}

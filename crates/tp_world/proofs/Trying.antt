@@ -16,7 +16,7 @@ use Rattle.tp_world_parts.specs.Requests.{request_in}
 use Rattle.tp_world_parts.specs.Standing.{SitesStand, PlaysAt, are_apart, is_placed}
 use Rattle.tp_world.specs.World.{Mirrors}
 use Rattle.tp_world_parts.specs.declared.fault.WorldFault.{WorldFault}
-use Rattle.tp_world_parts.specs.declared.site_slot.Answer.{Answer}
+use Rattle.tp_world_parts.specs.NodeAnswers.{Answer}
 use Rattle.tp_world_parts.specs.declared.site_slot.SiteSlot.{SiteSlot}
 use Rattle.tp_world.specs.declared.world.World.{World as CodeWorld}
 use Rattle.tp_world_parts.proofs.Found.{find_self, placed_found}

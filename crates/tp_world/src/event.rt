@@ -9,6 +9,7 @@ ghost use Rattle.tp_model.specs.Lines.{within_limits};
 ghost use Rattle.tp_model.specs.Parts.{Send};
 ghost use Rattle.tp_site.specs.NodeEvent.{event_of};
 ghost use Rattle.tp_site.specs.Outs.{out_of};
+ghost use Rattle.tp_world_parts.specs.NodeAnswers.{answer_told};
 ghost use Rattle.tp_world_parts.specs.Sites.{place_of_site};
 ghost use Rattle.tp_world.specs.Settled.{tree_started, GivesOuts, IsEntered, SettlesEntry, Settles};
 ghost use Rattle.tp_world.specs.World.{Mirrors, Gives, task_turn};
@@ -21,15 +22,15 @@ use tp_network::{SendFault, TreeChange, is_in};
 use tp_records::{PeerRecord, Request};
 use tp_site::{NodeEvent, Out, Outs};
 use tp_world_parts::{
-    Answer, Entry, WorldFault, arrive_at, play_at, refused_shown, request_in, sent_shown,
-    show_record, show_refusal, site_place,
+    Answer, WorldFault, arrive_at, play_at, refused_shown, request_in, show_record, show_refusal,
+    show_sent, show_told, site_place,
 };
 
 // The tree that an entry starts.
 fn started(change: &TreeChange) -> Option<Aaid>
     ensures { result ≡ tree_started change.now }
 {
-    match change.after {
+    match &change.after {
         Some(after) if after.is_root && !is_in(&after.aaid, &change.before) => Some(after.aaid),
         _ => None,
     }
@@ -58,8 +59,9 @@ impl World {
         let Some(at) = self.nodes.addr(node) else {
             return Ok(());
         };
-        let answer = play_at(alloc, self.sites.as_mut_slice(), &at, event)?;
-        self.settle(alloc, &at, answer, lines)?;
+        let mut change = TreeChange::NONE;
+        let answer = play_at(alloc, self.sites.as_mut_slice(), &at, event, &mut change)?;
+        self.settle(alloc, &at, &answer, &change, lines)?;
         Ok(())
     }
 
@@ -99,8 +101,9 @@ impl World {
             return Ok(());
         };
         lines.push(alloc, OutLine::Take { frame: number })?;
-        let answer = arrive_at(alloc, self.sites.as_mut_slice(), &at, frame)?;
-        self.settle(alloc, &at, answer, lines)?;
+        let mut change = TreeChange::NONE;
+        let answer = arrive_at(alloc, self.sites.as_mut_slice(), &at, frame, &mut change)?;
+        self.settle(alloc, &at, &answer, &change, lines)?;
         Ok(())
     }
 
@@ -120,22 +123,14 @@ impl World {
         &mut self,
         alloc: Global,
         from: &Addr,
-        to: Addr,
-        rec: PeerRecord,
+        to: &Addr,
+        rec: &PeerRecord,
         lines: &mut OutLines,
     ) -> Result<(), SendFault>
-        ensures { GivesOuts from.now (Send to rec ∷ []) lines.old result lines.new self.old self.new }
+        ensures { GivesOuts from.now (Send to.now rec.now ∷ []) lines.old result lines.new self.old self.new }
     {
-        let words = sent_shown(alloc, &rec)?;
-        let (own, peer) = (from.node, to.node);
-        let frame = self.frames.send(alloc, *from, to, rec)?;
-        let line = OutLine::Send {
-            frame,
-            from: own,
-            to: peer,
-            rec: words,
-        };
-        lines.push(alloc, line)?;
+        let frame = self.frames.send(alloc, from, to, rec)?;
+        show_sent(alloc, frame, from.node, to.node, rec, lines)?;
         Ok(())
     }
 
@@ -144,15 +139,14 @@ impl World {
         &mut self,
         alloc: Global,
         from: &Addr,
-        out: Out,
+        out: &Out,
         lines: &mut OutLines,
     ) -> Result<(), SendFault>
-        ensures { GivesOuts from.now (out_of out ∷ []) lines.old result lines.new self.old self.new }
+        ensures { GivesOuts from.now (out_of out.now ∷ []) lines.old result lines.new self.old self.new }
     {
         match out {
             Out::Tell(indication) => {
-                let node = from.node;
-                lines.push(alloc, OutLine::Tell { node, indication })?;
+                show_told(alloc, from.node, indication, lines)?;
                 Ok(())
             }
             Out::Send { to, rec } => self.send(alloc, from, to, rec, lines),
@@ -164,12 +158,12 @@ impl World {
         &mut self,
         alloc: Global,
         from: &Addr,
-        outs: Outs,
+        outs: &Outs,
         lines: &mut OutLines,
     ) -> Result<(), SendFault>
-        ensures { GivesOuts from.now outs lines.old result lines.new self.old self.new }
+        ensures { GivesOuts from.now outs.now lines.old result lines.new self.old self.new }
     {
-        for out in outs.into_vec() {
+        for out in outs.as_slice() {
             self.give(alloc, from, out, lines)?;
         }
         Ok(())
@@ -180,34 +174,36 @@ impl World {
         &mut self,
         alloc: Global,
         at: &Addr,
-        entry: Entry,
+        outs: &Outs,
+        change: &TreeChange,
         lines: &mut OutLines,
     ) -> Result<(), SendFault>
-        ensures { SettlesEntry at.now entry lines.old result lines.new self.old self.new }
+        ensures { SettlesEntry at.now (record { outs = outs.now; change = change.now }) lines.old result lines.new self.old self.new }
     {
-        self.enter(at.node, &entry.change)?;
-        self.give_all(alloc, at, entry.outs, lines)
+        self.enter(at.node, change)?;
+        self.give_all(alloc, at, outs, lines)
     }
 
-    // What the answer of the node at that address makes of the world.
+    // What the answer of the node at that address, and what that shows of trees, makes of the world.
     fn settle(
         &mut self,
         alloc: Global,
         at: &Addr,
-        answer: Answer,
+        answer: &Answer,
+        change: &TreeChange,
         lines: &mut OutLines,
     ) -> Result<(), SendFault>
-        ensures { Settles at.now answer lines.old result lines.new self.old self.new }
+        ensures { Settles at.now (answer_told answer.now change.now) lines.old result lines.new self.old self.new }
     {
         match answer {
             Answer::Refused(number) => {
-                lines.push(alloc, refused_shown(number))?;
+                lines.push(alloc, refused_shown(*number))?;
                 Ok(())
             }
-            Answer::Happened { refusal, entry } => {
-                show_record(alloc, at, &entry, lines)?;
-                show_refusal(alloc, refusal, lines)?;
-                self.settle_entry(alloc, at, entry, lines)
+            Answer::Happened { refusal, outs } => {
+                show_record(alloc, at, &change.rec, lines)?;
+                show_refusal(alloc, *refusal, lines)?;
+                self.settle_entry(alloc, at, outs, change, lines)
             }
         }
     }

@@ -10,13 +10,14 @@ ghost use Rattle.tp_model.specs.Disk.{Disk, disk_bytes, remains};
 ghost use Rattle.tp_model.specs.Happenings.{after_stop, stop_in_entry, stop_in_force, task_at, task_of};
 ghost use Rattle.tp_model.specs.Legal.{IsUnder};
 ghost use Rattle.tp_model.specs.Lines.{is_named, stands_at, crash_in_line, within_limits, node_of_action};
-ghost use Rattle.tp_model.specs.Parts.{Entry as EntryValue};
+ghost use Rattle.tp_model.specs.Parts.{Entry as EntryValue, Out};
 ghost use Rattle.tp_model.specs.World.{World as WorldValue, Node as NodeValue, Site as SiteValue, number_of};
 ghost use Rattle.tp_laws.specs.Expansion.{IsOfRun};
 ghost use Rattle.tp_laws.specs.SiteLogs.{DisksTell, DisksStart};
 ghost use Rattle.tp_site.specs.NodeEvent.{event_of};
 ghost use Rattle.tp_world.specs.Halts.{HasStoppedAs};
 ghost use Rattle.tp_world_parts.specs.Sites.{place_of_site};
+ghost use Rattle.tp_world_parts.specs.NodeAnswers.{answer_told};
 ghost use Rattle.tp_world_parts.specs.Slots.{entry_told};
 ghost use Rattle.tp_world.specs.Stops.{HasPlayed, StopsIn, stop_deed, stop_named};
 ghost use Rattle.tp_world.specs.World.{Mirrors, Gives};
@@ -28,10 +29,11 @@ use tp_journal::Journal;
 use tp_model::{Action, LineRequest, OutLine, OutLines, RecordFate};
 use tp_names::SiteName;
 use tp_names::same::is_name;
+use tp_network::TreeChange;
 use tp_outside::MemDisk;
 use tp_records::{PeerRecord, Request};
 use tp_site::NodeEvent;
-use tp_world_parts::{Answer, Entry, LostEntry, Stop, WorldFault, left_by, opened, request_in};
+use tp_world_parts::{Answer, LostEntry, Stop, WorldFault, left_by, opened, request_in};
 
 impl World {
     // The site at that place has stopped, with that fate of a record, and starts again.
@@ -73,12 +75,12 @@ impl World {
         place: usize,
         disk: MemDisk,
         node: u16,
-        entry: &Entry,
+        change: &TreeChange,
         stop: &Stop,
         lines: &mut OutLines,
     ) -> Result<(), WorldFault>
         requires { place < length self.old.sites.items }
-        ensures { (w : WorldValue) (s : List ℕ) (z : SiteValue) (n : NodeValue) (e : EntryValue) (r : LogRec) (x : SiteSlot) → HasPlayed w s z n (Some e) x place (Some entry.now) self.old → e.rec ≡ Some r → node ≡ number_of n → recorded disk ≡ fresh (disk_bytes z.disk) []
+        ensures { (w : WorldValue) (s : List ℕ) (z : SiteValue) (n : NodeValue) (e : EntryValue) (r : LogRec) (x : SiteSlot) (outs : List Out) → HasPlayed w s z n (Some e) x place (Some (record { outs = outs; change = change.now })) self.old → e.rec ≡ Some r → node ≡ number_of n → recorded disk ≡ fresh (disk_bytes z.disk) []
             → Gives (within_limits (stop_in_force w n z e (remains stop.now.call stop.now.fill r z.disk))) lines.old result lines.new self.new }
     {
         let records = self.sites[place].log().list();
@@ -88,12 +90,12 @@ impl World {
         let left = left_by(alloc, disk, rec, stop)?;
         let journal = opened(alloc, left)?;
         if journal.list().len() == records.len() {
-            self.enter(node, &entry.change)?;
+            self.enter(node, change)?;
             return self.stopped(alloc, place, journal, RecordFate::Kept, &None, lines);
         }
         let lost = Some(LostEntry {
             node,
-            tree: entry.change.before,
+            tree: change.before,
         });
         self.stopped(alloc, place, journal, RecordFate::Lost, &lost, lines)
     }
@@ -106,21 +108,22 @@ impl World {
         disk: MemDisk,
         node: u16,
         answer: &Answer,
+        change: &TreeChange,
         stop: &Stop,
         lines: &mut OutLines,
     ) -> Result<(), WorldFault>
         requires { place < length self.old.sites.items }
-        ensures { (w : WorldValue) (s : List ℕ) (z : SiteValue) (n : NodeValue) (ent : Option EntryValue) (x : SiteSlot) → HasPlayed w s z n ent x place (entry_told answer.now) self.old → node ≡ number_of n → recorded disk ≡ fresh (disk_bytes z.disk) []
+        ensures { (w : WorldValue) (s : List ℕ) (z : SiteValue) (n : NodeValue) (ent : Option EntryValue) (x : SiteSlot) → HasPlayed w s z n ent x place (entry_told (answer_told answer.now change.now)) self.old → node ≡ number_of n → recorded disk ≡ fresh (disk_bytes z.disk) []
             → Gives (within_limits (stop_in_entry w n z stop.now.call stop.now.fill ent)) lines.old result lines.new self.new }
     {
-        let entry = match answer {
+        match answer {
             Answer::Refused(_) => return self.stop_with_none(alloc, place, lines),
-            Answer::Happened { entry, .. } => entry,
-        };
-        if entry.change.rec.is_some() {
-            return self.stop_in_force(alloc, place, disk, node, entry, stop, lines);
+            Answer::Happened { .. } => {}
         }
-        self.enter(node, &entry.change)?;
+        if change.rec.is_some() {
+            return self.stop_in_force(alloc, place, disk, node, change, stop, lines);
+        }
+        self.enter(node, change)?;
         self.stop_with_none(alloc, place, lines)
     }
 
@@ -139,8 +142,9 @@ impl World {
             → Gives (stop_deed w s z stop.now.call stop.now.fill [] (task_at w node (event_of event.now))) lines.old result lines.new self.new }
     {
         let disk = self.sites[place].copied(alloc)?;
-        let answer = self.sites[place].play(alloc, node, event)?;
-        self.stop_in_entry(alloc, place, disk, node, &answer, stop, lines)
+        let mut change = TreeChange::NONE;
+        let answer = self.sites[place].play(alloc, node, event, &mut change)?;
+        self.stop_in_entry(alloc, place, disk, node, &answer, &change, stop, lines)
     }
 
     // The site at that place stops in a request of the user of its node of that number.
@@ -184,8 +188,9 @@ impl World {
         let node = frame.to.node;
         lines.push(alloc, OutLine::Take { frame: number })?;
         let disk = self.sites[place].copied(alloc)?;
-        let answer = self.sites[place].arrive(alloc, node, frame)?;
-        self.stop_in_entry(alloc, place, disk, node, &answer, stop, lines)
+        let mut change = TreeChange::NONE;
+        let answer = self.sites[place].arrive(alloc, node, frame, &mut change)?;
+        self.stop_in_entry(alloc, place, disk, node, &answer, &change, stop, lines)
     }
 
     // The site at that place stops as the oldest frame between the nodes is handed over, where there is one.

@@ -4,6 +4,7 @@ pub mod Told
 pub mod Requests
 pub mod Sites
 pub mod Standing
+pub mod NodeAnswers
 pub mod Slots
 pub mod Placing
 pub mod Restarts

@@ -18,8 +18,7 @@ use Rattle.tp_world_parts.specs.Slots.{number_told, entry_told}
 use Rattle.tp_world_parts.specs.declared.fault.WorldFault.{WorldFault}
 use Rattle.tp_network.specs.declared.nodes.NodeSlot.{NodeSlot}
 use Rattle.tp_world_parts.specs.declared.site_slot.SiteSlot.{SiteSlot}
-use Rattle.tp_world_parts.specs.declared.site_slot.Entry.{Entry}
-use Rattle.tp_world_parts.specs.declared.site_slot.Answer.{Answer}
+use Rattle.tp_world_parts.specs.NodeAnswers.{Answer, Entry}
 
 -- ---- nodes
 

@@ -18,6 +18,8 @@ pub use fault::WorldFault;
 pub use left::{Stop, left_by};
 pub use requests::{peer_of, request_in};
 pub use restart::{LostEntry, restart_nodes};
-pub use shown::{refused_shown, sent_shown, show_boot, show_record, show_refusal, state_shown};
-pub use site_slot::{Answer, Entry, SiteSlot, opened};
+pub use shown::{
+    refused_shown, show_boot, show_record, show_refusal, show_sent, show_told, state_shown,
+};
+pub use site_slot::{Answer, SiteSlot, opened};
 pub use sites::{arrive_at, declare_at, play_at, site_place, state_at};

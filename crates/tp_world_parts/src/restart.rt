@@ -59,12 +59,14 @@ fn restart_node(
     nodes.change(at.node, &stop)?;
     let _rec: Option<&PeerRecord> = None;
     let _request: Option<&Request> = None;
-    let answer = next.play(alloc, at.node, &NodeEvent::Declare { superior })?;
-    let entry = match answer {
+    let event = NodeEvent::Declare { superior };
+    let mut start = TreeChange::NONE;
+    let answer = next.play(alloc, at.node, &event, &mut start)?;
+    match answer {
         Answer::Refused(_) => return Err(WorldFault::Name),
-        Answer::Happened { entry, .. } => entry,
-    };
-    nodes.change(at.node, &entry.change)?;
+        Answer::Happened { .. } => {}
+    }
+    nodes.change(at.node, &start)?;
     Ok(())
 }
 

@@ -1,5 +1,6 @@
 //! What lines show of records.
 ghost use Rattle.std.specs.Prelude.{◌≡◌, ◌++◌, ◌∷◌, [], Some, IfOk, OnOk};
+ghost use Rattle.tp_model.specs.declared.out_line.OutLine.{OutLine};
 ghost use Rattle.tp_model.specs.Happenings.{log_shown, sent_shown, refused_lines};
 ghost use Rattle.tp_model.specs.Lines.{phase_shown, state_line};
 ghost use Rattle.tp_model.specs.Refusal.{number_in};
@@ -8,12 +9,12 @@ ghost use Rattle.tp_site.specs.State.{state_of};
 ghost use Rattle.tp_world_parts.specs.Placing.{boot_lines};
 ghost use Rattle.tp_world_parts.specs.Shown.{forced_lines};
 
-use crate::site_slot::Entry;
 use std::alloc::Global;
 use tp_logrec::LogRec;
 use tp_model::{LogWords, NodeNumbers, OutLine, OutLines, Phase, PhaseWord, Refusal, SentWords};
 use tp_names::{Addr, NoMemory, Octets, SiteName};
-use tp_records::{DialogueRecord, PeerRecord};
+use tp_network::dialogue_copied;
+use tp_records::{Indication, PeerRecord};
 use tp_site::NodeState;
 
 /// A record of a log.
@@ -55,45 +56,55 @@ pub(crate) fn log_shown(rec: &LogRec) -> LogWords
     }
 }
 
-fn dialogue_shown(alloc: Global, rec: &DialogueRecord) -> Result<DialogueRecord, NoMemory>
-    ensures { IfOk result (λ copy. copy ≡ rec.now) }
+// An indication.
+fn indication_shown(alloc: Global, indication: &Indication) -> Result<Indication, NoMemory>
+    ensures { IfOk result (λ copy. copy ≡ indication.now) }
 {
-    Ok(match rec {
-        DialogueRecord::EndDialogue => DialogueRecord::EndDialogue,
-        DialogueRecord::UserData { octets } => DialogueRecord::UserData {
+    Ok(match indication {
+        Indication::BeginDialogue { peer, units } => Indication::BeginDialogue {
+            peer: *peer,
+            units: *units,
+        },
+        Indication::BegunDialogue { peer, units } => Indication::BegunDialogue {
+            peer: *peer,
+            units: *units,
+        },
+        Indication::Rejected { peer } => Indication::Rejected { peer: *peer },
+        Indication::EndDialogue { peer } => Indication::EndDialogue { peer: *peer },
+        Indication::UserData { peer, octets } => Indication::UserData {
+            peer: *peer,
             octets: Octets::from_slice(alloc, octets.as_slice())?,
         },
-        DialogueRecord::UError => DialogueRecord::UError,
-        DialogueRecord::UAbort => DialogueRecord::UAbort,
-        DialogueRecord::Grant => DialogueRecord::Grant,
-        DialogueRecord::AskControl => DialogueRecord::AskControl,
-        DialogueRecord::Handshake => DialogueRecord::Handshake,
-        DialogueRecord::HandshakeGrant => DialogueRecord::HandshakeGrant,
-        DialogueRecord::Response => DialogueRecord::Response,
-        DialogueRecord::DeferEnd => DialogueRecord::DeferEnd,
-        DialogueRecord::DeferGrant => DialogueRecord::DeferGrant,
-        DialogueRecord::Begin {
-            aaid,
-            branch,
-            holder,
-        } => DialogueRecord::Begin {
+        Indication::UError { peer } => Indication::UError { peer: *peer },
+        Indication::UAbort { peer } => Indication::UAbort { peer: *peer },
+        Indication::PAbort { peer } => Indication::PAbort { peer: *peer },
+        Indication::Grant { peer } => Indication::Grant { peer: *peer },
+        Indication::AskControl { peer } => Indication::AskControl { peer: *peer },
+        Indication::Handshake { peer } => Indication::Handshake { peer: *peer },
+        Indication::HandshakeConfirm { peer } => Indication::HandshakeConfirm { peer: *peer },
+        Indication::HandshakeGrant { peer } => Indication::HandshakeGrant { peer: *peer },
+        Indication::BeginTransaction { peer, aaid } => Indication::BeginTransaction {
+            peer: *peer,
             aaid: *aaid,
-            branch: *branch,
-            holder: *holder,
         },
-        DialogueRecord::Prepare => DialogueRecord::Prepare,
-        DialogueRecord::Ready => DialogueRecord::Ready,
-        DialogueRecord::Commit => DialogueRecord::Commit,
-        DialogueRecord::Done { report } => DialogueRecord::Done { report: *report },
-        DialogueRecord::Rollback => DialogueRecord::Rollback,
-        DialogueRecord::RolledBack { report } => DialogueRecord::RolledBack { report: *report },
-        DialogueRecord::Left => DialogueRecord::Left,
-        DialogueRecord::LeftEnd => DialogueRecord::LeftEnd,
+        Indication::DeferEnd { peer } => Indication::DeferEnd { peer: *peer },
+        Indication::DeferGrant { peer } => Indication::DeferGrant { peer: *peer },
+        Indication::Prepare => Indication::Prepare,
+        Indication::Ready { peer } => Indication::Ready { peer: *peer },
+        Indication::Commit => Indication::Commit,
+        Indication::CommitComplete { report } => Indication::CommitComplete { report: *report },
+        Indication::Rollback => Indication::Rollback,
+        Indication::RollbackComplete { report } => Indication::RollbackComplete { report: *report },
+        Indication::HeuristicReport { peer, report } => Indication::HeuristicReport {
+            peer: *peer,
+            report: *report,
+        },
+        Indication::Left { peer } => Indication::Left { peer: *peer },
     })
 }
 
-/// A record that is sent.
-pub fn sent_shown(alloc: Global, rec: &PeerRecord) -> Result<SentWords, NoMemory>
+// A record that is sent.
+fn sent_shown(alloc: Global, rec: &PeerRecord) -> Result<SentWords, NoMemory>
     ensures { IfOk result (λ words. words ≡ sent_shown rec.now) }
 {
     Ok(match rec {
@@ -109,7 +120,7 @@ pub fn sent_shown(alloc: Global, rec: &PeerRecord) -> Result<SentWords, NoMemory
         PeerRecord::ShutAssoc { x, y } => SentWords::ShutAssoc { x: *x, y: *y },
         PeerRecord::OnAssoc { seq, rec, .. } => SentWords::OnAssoc {
             seq: *seq,
-            rec: dialogue_shown(alloc, rec)?,
+            rec: dialogue_copied(alloc, rec)?,
         },
         PeerRecord::RecReady { aaid, branch } => SentWords::RecReady {
             aaid: *aaid,
@@ -133,6 +144,40 @@ pub fn sent_shown(alloc: Global, rec: &PeerRecord) -> Result<SentWords, NoMemory
             branch: *branch,
         },
     })
+}
+
+/// An indication of that node is shown.
+pub fn show_told(
+    alloc: Global,
+    node: u16,
+    indication: &Indication,
+    lines: &mut OutLines,
+) -> Result<(), NoMemory>
+    ensures { OnOk result (lines.new ≡ lines.old ++ OutLine.Tell node indication.now ∷ []) }
+{
+    let indication = indication_shown(alloc, indication)?;
+    lines.push(alloc, OutLine::Tell { node, indication })
+}
+
+/// A record is shown that is sent from the one node to the other as that frame.
+pub fn show_sent(
+    alloc: Global,
+    frame: u16,
+    from: u16,
+    to: u16,
+    rec: &PeerRecord,
+    lines: &mut OutLines,
+) -> Result<(), NoMemory>
+    ensures { OnOk result (lines.new ≡ lines.old ++ OutLine.Send frame from to (sent_shown rec.now) ∷ []) }
+{
+    let rec = sent_shown(alloc, rec)?;
+    let line = OutLine::Send {
+        frame,
+        from,
+        to,
+        rec,
+    };
+    lines.push(alloc, line)
 }
 
 /// A refusal: 21 and 22 are dropped.
@@ -212,20 +257,20 @@ pub fn show_boot(
     }
 }
 
-/// A record that was forced is shown.
+/// A record that was forced is shown, where there is one.
 pub fn show_record(
     alloc: Global,
     at: &Addr,
-    entry: &Entry,
+    rec: &Option<LogWords>,
     lines: &mut OutLines,
 ) -> Result<(), NoMemory>
-    ensures { OnOk result (lines.new ≡ lines.old ++ forced_lines at.now.site entry.now.change.rec) }
+    ensures { OnOk result (lines.new ≡ lines.old ++ forced_lines at.now.site rec.now) }
 {
-    match entry.change.rec {
+    match rec {
         None => Ok(()),
         Some(rec) => {
             let site = at.site;
-            lines.push(alloc, OutLine::Log { site, rec })
+            lines.push(alloc, OutLine::Log { site, rec: *rec })
         }
     }
 }

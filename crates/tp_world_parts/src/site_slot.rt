@@ -14,6 +14,7 @@ ghost use Rattle.tp_network.specs.FrameRecord.{record_of};
 ghost use Rattle.tp_site.specs.NodeEvent.{event_of};
 ghost use Rattle.tp_site.specs.Site.{known_at};
 ghost use Rattle.tp_site.specs.State.{state_of, tree_in};
+ghost use Rattle.tp_world_parts.specs.NodeAnswers.{result_told};
 ghost use Rattle.tp_world_parts.specs.Restarts.{Opens, Reopens, IsStartable, StartsOn};
 ghost use Rattle.tp_world_parts.specs.Slots.{blank_file, IsBlank, IsFresh, shown_behind, Declares, SlotPlays};
 
@@ -29,23 +30,16 @@ use tp_outside::MemDisk;
 use tp_records::{PeerRecord, Request};
 use tp_site::{NodeEvent, NodeState, NodeTree, Outs, Site, SiteFault, StartFault};
 
-/// An entry of a node's history: what it says, and what it shows of trees.
-#[derive(Drop)]
-pub struct Entry {
-    pub outs: Outs,
-    pub change: TreeChange,
-}
-
 /// What a node answers to an event.
 #[derive(Drop)]
 pub enum Answer {
     /// It is refused by that number, and nothing has changed.
     Refused(u8),
-    /// It has happened, and the node's history gains that entry. With a refusal, a record was refused by that, and the
-    /// association that it came on was ended; the entry is of that loss.
+    /// It has happened, and the node's history gains an entry with those outputs. With a refusal, a record was refused by that,
+    /// and the association that it came on was ended; the entry is of that loss.
     Happened {
         refusal: Option<Refusal>,
-        entry: Entry,
+        outs: Outs,
     },
 }
 
@@ -208,47 +202,50 @@ impl SiteSlot {
         self.site.log().list()
     }
 
-    // What an event of that node has shown of trees, before which the log had so many records.
-    #[inline(never)]
-    fn change(&self, node: u16, before: &Option<NodeTree>, leaves: bool, count: usize) -> TreeChange
-        ensures { result ≡ record { before = before.now; after = tree_in (known_at self.now.site node); leaves = leaves; rec = shown_behind self.now.site.keeper.list count } }
+    // What an event of that node has shown of trees, before which the log had so many records; the tree before it stays as it is.
+    fn fill(&self, node: u16, leaves: bool, count: usize, change: &mut TreeChange)
+        ensures { change.new ≡ record { before = change.old.before; after = tree_in (known_at self.now.site node); leaves = leaves; rec = shown_behind self.now.site.keeper.list count } }
     {
-        TreeChange {
-            before: *before,
-            after: self.tree(node),
-            leaves,
-            rec: forced(self.records(), count),
-        }
+        change.after = self.tree(node);
+        change.leaves = leaves;
+        change.rec = forced(self.records(), count);
     }
 
-    /// An event of the node of that number.
+    /// An event of the node of that number. What it shows of trees is told beside the answer, where it has happened.
     pub fn play(
         &mut self,
         alloc: Global,
         node: u16,
         event: &NodeEvent<'_>,
+        change: &mut TreeChange,
     ) -> Result<Answer, WorldFault>
-        ensures { SlotPlays self.old node (event_of event.now) result self.new }
+        ensures { SlotPlays self.old node (event_of event.now) (result_told result change.new) self.new }
     {
-        let before = self.tree(node);
+        change.before = self.tree(node);
         let count = self.records().len();
         match self.site.play(alloc, node, event) {
-            Ok(played) => Ok(Answer::Happened {
-                refusal: played.refusal,
-                entry: Entry {
+            Ok(played) => {
+                self.fill(node, is_unchanged(event), count, change);
+                Ok(Answer::Happened {
+                    refusal: played.refusal,
                     outs: played.outs,
-                    change: self.change(node, &before, is_unchanged(event), count),
-                },
-            }),
+                })
+            }
             Err(SiteFault::Refused(number)) => Ok(Answer::Refused(number)),
             Err(SiteFault::Full { .. }) => Err(WorldFault::Limit { what: What::Log }),
             Err(_) => Err(WorldFault::NoMemory),
         }
     }
 
-    /// A frame that is handed over to the node of that number.
-    pub fn arrive(&mut self, alloc: Global, node: u16, frame: &Frame) -> Result<Answer, WorldFault>
-        ensures { SlotPlays self.old node (Arrive frame.now.from (record_of frame.now.rec)) result self.new }
+    /// A frame that is handed over to the node of that number. What that shows of trees is told beside the answer.
+    pub fn arrive(
+        &mut self,
+        alloc: Global,
+        node: u16,
+        frame: &Frame,
+        change: &mut TreeChange,
+    ) -> Result<Answer, WorldFault>
+        ensures { SlotPlays self.old node (Arrive frame.now.from (record_of frame.now.rec)) (result_told result change.new) self.new }
     {
         let _request: Option<&Request> = None;
         let from = frame.from;
@@ -260,9 +257,11 @@ impl SiteSlot {
                     seq: *seq,
                     rec: word.said(),
                 };
-                self.play(alloc, node, &NodeEvent::Arrive { from, rec: &rec })
+                self.play(alloc, node, &NodeEvent::Arrive { from, rec: &rec }, change)
             }
-            FrameRecord::Other(rec) => self.play(alloc, node, &NodeEvent::Arrive { from, rec }),
+            FrameRecord::Other(rec) => {
+                self.play(alloc, node, &NodeEvent::Arrive { from, rec }, change)
+            }
         }
     }
 
@@ -280,7 +279,8 @@ impl SiteSlot {
         let event = NodeEvent::Declare {
             superior: *superior,
         };
-        match self.play(alloc, node, &event) {
+        let mut change = TreeChange::NONE;
+        match self.play(alloc, node, &event, &mut change) {
             Ok(_answer) => Ok(()),
             Err(_fault) => Err(NoMemory),
         }

@@ -9,6 +9,7 @@ ghost use Rattle.tp_model.specs.World.{World as WorldValue, Node as NodeValue, a
 ghost use Rattle.tp_network.specs.FrameRecord.{record_of};
 ghost use Rattle.tp_site.specs.NodeEvent.{event_of};
 ghost use Rattle.tp_site.specs.State.{state_of};
+ghost use Rattle.tp_world_parts.specs.NodeAnswers.{result_told};
 ghost use Rattle.tp_world_parts.specs.Placing.{IsAt, IsSiteThere, IsDeclaredAt};
 ghost use Rattle.tp_world_parts.specs.Sites.{place_of_site};
 ghost use Rattle.tp_world_parts.specs.Standing.{SitesStand, are_apart, is_free, is_placed, PlaysAt};
@@ -18,7 +19,7 @@ use crate::site_slot::{Answer, SiteSlot};
 use std::alloc::Global;
 use tp_names::same::is_name;
 use tp_names::{Addr, NoMemory, SiteName};
-use tp_network::Frame;
+use tp_network::{Frame, TreeChange};
 use tp_site::{NodeEvent, NodeState};
 
 // As many bytes, and the last of them the same.
@@ -63,36 +64,38 @@ pub fn site_place(sites: &[SiteSlot], name: &SiteName) -> Option<usize>
     }
 }
 
-/// An event of the node at that address.
+/// An event of the node at that address. What it shows of trees is told beside the answer.
 pub fn play_at(
     alloc: Global,
     sites: &mut [SiteSlot],
     at: &Addr,
     event: &NodeEvent<'_>,
+    change: &mut TreeChange,
 ) -> Result<Answer, WorldFault>
-    ensures { (w : WorldValue) (n : NodeValue) → SitesStand w sites.old → are_apart w.nodes ≡ true → find_node w.nodes (number_of n) ≡ Some n → is_placed w n ≡ true → at.now ≡ addr_of n → PlaysAt w n (event_of event.now) result sites.new }
+    ensures { (w : WorldValue) (n : NodeValue) → SitesStand w sites.old → are_apart w.nodes ≡ true → find_node w.nodes (number_of n) ≡ Some n → is_placed w n ≡ true → at.now ≡ addr_of n → PlaysAt w n (event_of event.now) (result_told result change.new) sites.new }
 {
     let place = place_of(sites, &at.site);
     if place >= sites.len() {
         return Err(WorldFault::Name);
     }
-    sites[place].play(alloc, at.node, event)
+    sites[place].play(alloc, at.node, event, change)
 }
 
-/// A frame that is handed over to the node at that address.
+/// A frame that is handed over to the node at that address. What that shows of trees is told beside the answer.
 pub fn arrive_at(
     alloc: Global,
     sites: &mut [SiteSlot],
     at: &Addr,
     frame: &Frame,
+    change: &mut TreeChange,
 ) -> Result<Answer, WorldFault>
-    ensures { (w : WorldValue) (n : NodeValue) → SitesStand w sites.old → are_apart w.nodes ≡ true → find_node w.nodes (number_of n) ≡ Some n → is_placed w n ≡ true → at.now ≡ addr_of n → PlaysAt w n (Arrive frame.now.from (record_of frame.now.rec)) result sites.new }
+    ensures { (w : WorldValue) (n : NodeValue) → SitesStand w sites.old → are_apart w.nodes ≡ true → find_node w.nodes (number_of n) ≡ Some n → is_placed w n ≡ true → at.now ≡ addr_of n → PlaysAt w n (Arrive frame.now.from (record_of frame.now.rec)) (result_told result change.new) sites.new }
 {
     let place = place_of(sites, &at.site);
     if place >= sites.len() {
         return Err(WorldFault::Name);
     }
-    sites[place].arrive(alloc, at.node, frame)
+    sites[place].arrive(alloc, at.node, frame, change)
 }
 
 // The place of the site of that name, which starts on a fresh log where it is new; of a new site the boot number too.

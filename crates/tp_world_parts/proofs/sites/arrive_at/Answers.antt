@@ -3,6 +3,7 @@ use Rattle.tp_names.specs.declared.identifiers.Addr.{Addr}
 use Rattle.tp_model.specs.World.{site_of}
 use Rattle.tp_model.specs.Parts.{Arrive}
 use Rattle.tp_network.specs.FrameRecord.{record_of}
+use Rattle.tp_world_parts.specs.NodeAnswers.{result_told}
 use Rattle.tp_world_parts.specs.Sites.{place_of_site}
 use Rattle.tp_world_parts.proofs.Placed.{plays_sought, never_missing}
 use Rattle.tp_world_parts.proofs.sites.arrive_at.Goals as goal
@@ -15,5 +16,5 @@ returns-then-place-sites c w n stand apart found placed at =
 
 pub returns : goal.returns
 returns c w n stand apart found placed at =
-    plays_sought w n (Arrive c.args.frame.now.from (record_of c.args.frame.now.rec)) c.args.at.now c.place_of-place.result c.args.sites.now c.index-sites-place.result c.arrive.new.self c.arrive.result stand found placed at c.place_of-place.ensures
+    plays_sought w n (Arrive c.args.frame.now.from (record_of c.args.frame.now.rec)) c.args.at.now c.place_of-place.result c.args.sites.now c.index-sites-place.result c.arrive.new.self (result_told c.arrive.result c.arrive.new.change) stand found placed at c.place_of-place.ensures
     c.index-sites-place.is c.arrive.ensures

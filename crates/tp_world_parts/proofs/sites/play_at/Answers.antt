@@ -2,6 +2,7 @@ use Rattle.std.proofs.Common.{◌≡◌, ap, ◌∙◌, arith}
 use Rattle.tp_names.specs.declared.identifiers.Addr.{Addr}
 use Rattle.tp_model.specs.World.{site_of}
 use Rattle.tp_site.specs.NodeEvent.{event_of}
+use Rattle.tp_world_parts.specs.NodeAnswers.{result_told}
 use Rattle.tp_world_parts.specs.Sites.{place_of_site}
 use Rattle.tp_world_parts.proofs.Placed.{plays_sought, never_missing}
 use Rattle.tp_world_parts.proofs.sites.play_at.Goals as goal
@@ -14,5 +15,5 @@ returns-then-place-sites c w n stand apart found placed at =
 
 pub returns : goal.returns
 returns c w n stand apart found placed at =
-    plays_sought w n (event_of c.args.event.now) c.args.at.now c.place_of-place.result c.args.sites.now c.index-sites-place.result c.play.new.self c.play.result stand found placed at c.place_of-place.ensures
+    plays_sought w n (event_of c.args.event.now) c.args.at.now c.place_of-place.result c.args.sites.now c.index-sites-place.result c.play.new.self (result_told c.play.result c.play.new.change) stand found placed at c.place_of-place.ensures
     c.index-sites-place.is c.play.ensures

@@ -7,6 +7,7 @@ use Rattle.tp_site.specs.NodeEvent.{event_of}
 use Rattle.tp_world.specs.World.{Gives, task_turn}
 use Rattle.tp_world.proofs.Tasks.{played_gives, played_fault, missing_gives}
 use Rattle.tp_world_parts.specs.Faults.{sending_fault}
+use Rattle.tp_world_parts.specs.NodeAnswers.{answer_told}
 use Rattle.tp_world_parts.proofs.Handed.{err_is}
 use Rattle.tp_world.proofs.Trying.{is_played, not_some, lent_back, lent_items}
 use Rattle.tp_world.proofs.world.World.local.Goals as goal
@@ -26,7 +27,7 @@ returns-in_err-answer c = λ w h under.
 pub returns-in_err-settle : goal.returns-in_err-settle
 returns-in_err-settle c = λ w h under.
     let e : Event = event_of c.args.event.now in
-    let a = c.in_ok-answer.answer in
+    let a = answer_told c.in_ok-answer.answer c.play_at.new.change in
     let v = c.args.self.now in
     let mid = lent_back v c.play_at.new.sites in
     let f = c.in_err-settle.field-0.0 in
@@ -39,7 +40,7 @@ returns-in_err-settle c = λ w h under.
 pub returns : goal.returns
 returns c = λ w h under.
     let e : Event = event_of c.args.event.now in
-    let a = c.in_ok-answer.answer in
+    let a = answer_told c.in_ok-answer.answer c.play_at.new.change in
     let v = c.args.self.now in
     let mid = lent_back v c.play_at.new.sites in
     played_gives w [] (task_at w c.args.node e) e c.in-Some.at a c.play_at.new.sites c.args.lines.now c.args.lines.now c.settle.new.lines (Ok tt) v mid c.settle.new.self h under

@@ -10,6 +10,7 @@ use Rattle.tp_model.specs.Parts.{Event}
 use Rattle.tp_model.specs.World.{Node, Frame, number_of, find_frame}
 use Rattle.tp_network.specs.FrameRecord.{record_of}
 use Rattle.tp_network.specs.Frames.{frame_of}
+use Rattle.tp_world_parts.specs.NodeAnswers.{answer_told}
 use Rattle.tp_world_parts.specs.Slots.{SlotPlays}
 use Rattle.tp_world.specs.Stops.{stop_deed}
 use Rattle.tp_world_parts.specs.Standing.{entry_answered}
@@ -69,7 +70,7 @@ returns c = λ w s z stops stand.
     let y = c.arrive.new.self in
     let is = sym c.index_mut.ensures.value in
     let stop = c.args.stop.now in
-    let a = c.in_ok-answer.answer in
+    let a = answer_told c.in_ok-answer.answer c.arrive.new.change in
     let plays : SlotPlays x (number_of n) e (Ok a) y = subst (λ (m : ℕ). SlotPlays x m e (Ok a) y) (sym at.number) (c.in_ok-answer.ensures {u = tt}) in
     let here : task_at w f.to.node e ≡ Some (record { node = n; event = e }) = ap (λ (o : Option Node). elim o as (λ _. Option Task) [ None ↦ None | Some q ↦ Some (record { node = q; event = e }) ]) at.at in
     let same = c.index.ensures ∙ same_index v.sites.items c.args.place c.index.result.now x c.requires ∙ is in

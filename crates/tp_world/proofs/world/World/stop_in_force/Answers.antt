@@ -10,6 +10,7 @@ use Rattle.tp_model.specs.Happenings.{stop_in_force, WorldTurn}
 use Rattle.tp_model.specs.Lines.{within_limits}
 use Rattle.tp_model.specs.World.{number_of}
 use Rattle.tp_world.specs.Settled.{IsEntered}
+use Rattle.tp_world_parts.specs.NodeAnswers.{Entry}
 use Rattle.tp_world_parts.specs.Sites.{place_of_site}
 use Rattle.tp_world_parts.specs.Standing.{after_entry}
 use Rattle.tp_world.specs.World.{Gives}
@@ -20,10 +21,10 @@ use Rattle.tp_world.proofs.Trying.{not_some}
 use Rattle.tp_world.proofs.world.World.stop_in_force.Goals as goal
 
 pub returns-in_default : goal.returns-in_default
-returns-in_default c = λ w s z n e r x h logs number disk.
+returns-in_default c = λ w s z n e r x outs h logs number disk.
     let v = c.args.self.now in
     let place = c.args.place in
-    let entry = c.args.entry.now in
+    let entry : Entry = record { outs = outs; change = c.args.change.now } in
     let y = c.index.result.now in
     let within = c.requires in
     let here = sym c.index.ensures in
@@ -34,10 +35,10 @@ returns-in_default c = λ w s z n e r x h logs number disk.
     absurd (cc (clash))
 
 pub returns-in_err-left : goal.returns-in_err-left
-returns-in_err-left c = λ w s z n e r x h logs number disk.
+returns-in_err-left c = λ w s z n e r x outs h logs number disk.
     let v = c.args.self.now in
     let place = c.args.place in
-    let entry = c.args.entry.now in
+    let entry : Entry = record { outs = outs; change = c.args.change.now } in
     let y = c.index.result.now in
     let within = c.requires in
     let here = sym c.index.ensures in
@@ -53,10 +54,10 @@ returns-in_err-left c = λ w s z n e r x h logs number disk.
     subst (λ q. Gives turn c.args.lines.now q c.args.lines.now v) (sym (err_is c.from_residual.result f c.from_residual.ensures.1)) (left_fails stop r z.disk f turn c.args.lines.now c.args.lines.now v fails)
 
 pub returns-in_err-journal : goal.returns-in_err-journal
-returns-in_err-journal c = λ w s z n e r x h logs number disk.
+returns-in_err-journal c = λ w s z n e r x outs h logs number disk.
     let v = c.args.self.now in
     let place = c.args.place in
-    let entry = c.args.entry.now in
+    let entry : Entry = record { outs = outs; change = c.args.change.now } in
     let y = c.index.result.now in
     let within = c.requires in
     let here = sym c.index.ensures in
@@ -74,10 +75,10 @@ returns-in_err-journal c = λ w s z n e r x h logs number disk.
     subst (λ q. Gives turn c.args.lines.now q c.args.lines.now v) (sym (err_is c.from_residual-in_err-journal.result f c.from_residual-in_err-journal.ensures.1)) (opens_fails (disk_bytes st.disk) (reverse st.disk.records) f turn c.args.lines.now c.args.lines.now v fails)
 
 pub returns-then-list-records : goal.returns-then-list-records
-returns-then-list-records c = λ w s z n e r x h logs number disk.
+returns-then-list-records c = λ w s z n e r x outs h logs number disk.
     let v = c.args.self.now in
     let place = c.args.place in
-    let entry = c.args.entry.now in
+    let entry : Entry = record { outs = outs; change = c.args.change.now } in
     let y = c.index.result.now in
     let within = c.requires in
     let here = sym c.index.ensures in
@@ -102,10 +103,10 @@ returns-then-list-records c = λ w s z n e r x h logs number disk.
     (c.stopped.ensures (after_entry w n (Some e)) s (slot_on y j) h.tells_after h.starts_after (h.at ∙ ap (λ xs. place_of_site xs.items s) (sym enters.sites)) (kept_stopped w s z n e r x place entry v h within logs y here texts stop.call stop.fill j opens new kept enters))
 
 pub returns : goal.returns
-returns c = λ w s z n e r x h logs number disk.
+returns c = λ w s z n e r x outs h logs number disk.
     let v = c.args.self.now in
     let place = c.args.place in
-    let entry = c.args.entry.now in
+    let entry : Entry = record { outs = outs; change = c.args.change.now } in
     let y = c.index.result.now in
     let within = c.requires in
     let here = sym c.index.ensures in

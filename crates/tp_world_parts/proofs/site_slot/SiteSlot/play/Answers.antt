@@ -22,7 +22,7 @@ returns-in-Ok c =
     record {
       move = move;
       played = c.in-Ok.ensures.1;
-      change = c.change.ensures
-          ∙ step_made c.tree-before.result (tree_in (known_at old c.args.node)) (tree_in (known_at new c.args.node)) (tree_in (known_at new c.args.node)) c.is_unchanged.result (is_unchanged (event_of c.args.event.now))
-          (shown_behind new.keeper.list count) (option_map log_shown move.rec) c.tree-before.ensures refl c.is_unchanged.ensures rec;
+      change = c.fill.ensures
+          ∙ step_made c.tree-change.result (tree_in (known_at old c.args.node)) (tree_in (known_at new c.args.node)) (tree_in (known_at new c.args.node)) c.is_unchanged.result (is_unchanged (event_of c.args.event.now))
+          (shown_behind new.keeper.list count) (option_map log_shown move.rec) c.tree-change.ensures refl c.is_unchanged.ensures rec;
     }
