@@ -1,13 +1,9 @@
 -- Chained dialogues, of which there may be none.
-use Rattle.std.proofs.Common.{◌≡◌, Bool, true, false, Option, Some, None, List, [], ◌∷◌, map, refl, ap, sym, ◌∙◌, arith}
-use Rattle.std.specs.Prelude.{◌==◌, not, ◌&&◌}
+use Rattle.std.proofs.Common.{◌≡◌, true, false, List, [], ◌∷◌, refl, arith}
 use Rattle.std.proofs.lemmas.Bool.Decides.{nat_tests}
 use Rattle.tp_model.specs.Dialogues.{is_chained}
 use Rattle.tp_model.specs.Parts.{Arc}
 use Rattle.tp_model.specs.Arcs.{put_arc}
-use Rattle.tp_tree.specs.declared.tie.Tie.{Tie}
-use Rattle.tp_tree.specs.Tie.{arc_of}
-use Rattle.tp_tree.specs.Invocation.{Invocation, arcs_of}
 use Rattle.tp_node_parts.specs.SharedArcs.{has_none_chained}
 
 -- an arc that takes the place of another
