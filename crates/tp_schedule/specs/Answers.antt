@@ -23,6 +23,11 @@ unless_memory (Err LineFault.NoMemory) s = Err LineFault.NoMemory
 abbrev pub Reads : {A : Type 0} → Form A → Result A LineFault → Type 0
 Reads f r = r ≡ unless_memory r (read_as f)
 
+-- what was put into a place, where the answer is that it was
+abbrev pub filled : {A : Type 0} → Result (Unit {0}) LineFault → A → Result A LineFault
+filled (Ok u) a = Ok a
+filled (Err f) a = Err f
+
 -- what an answer says of a line; out of memory says nothing
 abbrev pub answered : Result (Option Line) LineFault → Option Reading
 answered (Ok None) = Some Blank

@@ -1,7 +1,7 @@
 //! Reading a line of a schedule.
 ghost use Rattle.std.specs.Prelude.{◌≡◌, ◌∷◌, length, IfSome};
 ghost use Rattle.tp_model.specs.LineReading.{words_in, number, outcome, two_words, one_word, do_from, node_from, node_under, crash_from, crash_in, read_by, request_readers, action_readers, line_readers, is_comment, read_line};
-ghost use Rattle.tp_schedule.specs.Answers.{read_as, Reads, pair, same, answered};
+ghost use Rattle.tp_schedule.specs.Answers.{read_as, Reads, filled, pair, same, answered};
 ghost use Rattle.tp_schedule.specs.Keywords.{request_of_peer, request_reader, action_reader, line_reader};
 ghost use Rattle.tp_schedule.specs.declared.schedule_words.LineWord.{LineWord};
 ghost use Rattle.tp_schedule.specs.declared.schedule_words.RequestWord.{RequestWord};
@@ -37,7 +37,8 @@ pub fn read_line(alloc: Global, bytes: &[u8]) -> Result<Option<Line>, LineFault>
     let Some((word, rest)) = next_word(bytes) else {
         return Ok(None);
     };
-    let line = read_words(alloc, word, rest)?;
+    let mut line = Line::Drain;
+    read_words(alloc, word, rest, &mut line)?;
     Ok(Some(line))
 }
 
@@ -47,67 +48,82 @@ fn is_comment(bytes: &[u8]) -> bool
     matches!(bytes, [b'#', ..])
 }
 
-fn read_words(alloc: Global, word: &[u8], rest: &[u8]) -> Result<Line, LineFault>
-    ensures { Reads (read_by line_readers (word.now ∷ words_in rest.now)) result }
+// Puts the line that begins with the word into `line`; where it does not read, what stands there is not said.
+fn read_words(alloc: Global, word: &[u8], rest: &[u8], line: &mut Line) -> Result<(), LineFault>
+    ensures { Reads (read_by line_readers (word.now ∷ words_in rest.now)) (filled result line.new) }
 {
     match line_word(word) {
         None => Err(LineFault::Word),
-        Some(kind) => read_line_of(alloc, kind, rest),
+        Some(kind) => read_line_of(alloc, kind, rest, line),
     }
 }
 
-fn read_line_of(alloc: Global, kind: LineWord, rest: &[u8]) -> Result<Line, LineFault>
-    ensures { Reads (line_reader kind (words_in rest.now)) result }
+fn read_line_of(
+    alloc: Global,
+    kind: LineWord,
+    rest: &[u8],
+    line: &mut Line,
+) -> Result<(), LineFault>
+    ensures { Reads (line_reader kind (words_in rest.now)) (filled result line.new) }
 {
     match kind {
-        LineWord::Node => read_node(rest),
+        LineWord::Node => *line = read_node(rest)?,
         LineWord::Do => {
             let (node, request) = read_do(alloc, rest)?;
-            Ok(Line::Do { node, request })
+            *line = Line::Do { node, request };
         }
         LineWord::Pass => {
             let (from, to) = two_numbers(rest)?;
-            Ok(Line::Pass { from, to })
+            *line = Line::Pass { from, to };
         }
         LineWord::Skip => {
             let (from, to) = two_numbers(rest)?;
-            Ok(Line::Skip { from, to })
+            *line = Line::Skip { from, to };
         }
-        LineWord::Again => Ok(Line::Again {
-            frame: one_number(rest)?,
-        }),
-        LineWord::Drain => if_no_word(rest, Line::Drain),
+        LineWord::Again => {
+            let frame = one_number(rest)?;
+            *line = Line::Again { frame };
+        }
+        LineWord::Drain => {
+            if_no_word(rest, ())?;
+            *line = Line::Drain;
+        }
         LineWord::Lose => {
             let (node, peer) = two_numbers(rest)?;
-            Ok(Line::Lose { node, peer })
+            *line = Line::Lose { node, peer };
         }
         LineWord::Heur => {
             let (node, outcome) = number_and_outcome(rest)?;
-            Ok(Line::Heur { node, outcome })
+            *line = Line::Heur { node, outcome };
         }
         LineWord::GiveUp => {
             let (node, peer) = two_numbers(rest)?;
-            Ok(Line::GiveUp { node, peer })
+            *line = Line::GiveUp { node, peer };
         }
-        LineWord::Retry => Ok(Line::Retry {
-            node: one_number(rest)?,
-        }),
-        LineWord::Purge => Ok(Line::Purge {
-            node: one_number(rest)?,
-        }),
-        LineWord::Crash => read_crash(alloc, rest),
-        LineWord::Show => Ok(Line::Show {
-            node: one_number(rest)?,
-        }),
-        LineWord::Image => read_image(rest),
+        LineWord::Retry => {
+            let node = one_number(rest)?;
+            *line = Line::Retry { node };
+        }
+        LineWord::Purge => {
+            let node = one_number(rest)?;
+            *line = Line::Purge { node };
+        }
+        LineWord::Crash => *line = read_crash(alloc, rest)?,
+        LineWord::Show => {
+            let node = one_number(rest)?;
+            *line = Line::Show { node };
+        }
+        LineWord::Image => *line = read_image(rest)?,
         LineWord::Auto => {
             let (node, member) = two_numbers(rest)?;
-            Ok(Line::Auto { node, member })
+            *line = Line::Auto { node, member };
         }
-        LineWord::Leave => Ok(Line::Leave {
-            member: one_number(rest)?,
-        }),
+        LineWord::Leave => {
+            let member = one_number(rest)?;
+            *line = Line::Leave { member };
+        }
     }
+    Ok(())
 }
 
 fn read_action(alloc: Global, bytes: &[u8]) -> Result<Action, LineFault>

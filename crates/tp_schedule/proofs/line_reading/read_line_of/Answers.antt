@@ -1,18 +1,21 @@
-use Rattle.std.proofs.Common.{◌≡◌, ℕ, Err, rules, ap, sym, ◌∙◌}
+use Rattle.std.proofs.Common.{◌≡◌, ℕ, Err, Result, rules, ap, sym, ◌∙◌}
 use Rattle.tp_model.specs.declared.line.LineRequest.{LineRequest}
 use Rattle.tp_model.specs.declared.line.Line.{Line}
 use Rattle.tp_model.specs.LineReading.{do_from, words_in}
-use Rattle.tp_schedule.specs.Answers.{pair}
+use Rattle.tp_schedule.specs.Answers.{pair, filled}
+use Rattle.tp_schedule.specs.declared.line_fault.LineFault.{LineFault}
 use Rattle.tp_schedule.proofs.lemmas.Readings.{passed, mapped}
 use Rattle.tp_schedule.proofs.LineForms.{do_form}
 use Rattle.tp_schedule.proofs.line_reading.read_line_of.Goals as goal
 
 pub returns-in_err-node-in-Do : goal.returns-in_err-node-in-Do
 returns-in_err-node-in-Do c =
-    let is : c.from_residual.result ≡ Err c.in_err-node-in-Do.field-0.0 = search rules in
+    let is : c.from_residual-in_err-node-in-Do.result ≡ Err c.in_err-node-in-Do.field-0.0 = search rules in
     let f = λ (p : ℕ × LineRequest). Line.Do p.0 p.1 in
     let ws = words_in c.args.rest.now in
-    rw c.in-Do.is (passed f (do_from pair ws) (do_from Line.Do ws) c.read_do.result _ (do_form Line.Do ws) c.read_do.ensures (is ∙ ap (mapped f) (sym c.in_err-node-in-Do.was)))
+    let put : filled c.from_residual-in_err-node-in-Do.result c.args.line.now ≡ Err c.in_err-node-in-Do.field-0.0 =
+    ap (λ (r : Result (Unit {0}) LineFault). filled r c.args.line.now) is in
+    rw c.in-Do.is (passed f (do_from pair ws) (do_from Line.Do ws) c.read_do.result _ (do_form Line.Do ws) c.read_do.ensures (put ∙ ap (mapped f) (sym c.in_err-node-in-Do.was)))
 
 pub returns-in_ok-node-in-Do : goal.returns-in_ok-node-in-Do
 returns-in_ok-node-in-Do c =
