@@ -29,7 +29,6 @@ ghost use Rattle.tp_draft.specs.Passage.{said_then, giving, completing, playing,
 ghost use Rattle.tp_node.specs.Passage.{passage_of};
 ghost use Rattle.tp_model.specs.Links.{greatest, is_opening_with, dropped_by};
 
-use crate::copies;
 use std::alloc::Global;
 use std::marker::Model;
 use std::mem::swap;
@@ -39,7 +38,7 @@ use tp_logrec::LogRec;
 use tp_model::{Disposition, Kept, KeptEvent, Phase, Step, TxEvent, TxOut};
 use tp_names::{Aaid, Addr, BranchId, Mark, NoMemory, NodeKey, Octets};
 use tp_node::{Halt, Node, Passage, is_leaving};
-use tp_node_parts::{ArcStep, Outs};
+use tp_node_parts::{ArcStep, Outs, copies};
 use tp_records::{DialogueRecord, Holder, Indication, PeerRecord, Request};
 use tp_recover::{owed, step};
 use tp_tree::Tie;

@@ -7,7 +7,6 @@
 
 mod answer;
 mod arrival;
-mod copies;
 mod draft;
 mod loss;
 mod recovery;

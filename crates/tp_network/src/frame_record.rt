@@ -2,9 +2,9 @@
 ghost use Rattle.std.specs.Prelude.{◌≡◌, IfOk, IfSome};
 ghost use Rattle.tp_network.specs.FrameRecord.{said, record_of};
 
-use crate::copies;
 use std::alloc::Global;
 use tp_names::{Mark, NoMemory, Report};
+use tp_node_parts::copies;
 use tp_records::{DialogueRecord, PeerRecord};
 
 /// A record of a dialogue that carries neither an identifier nor octets.

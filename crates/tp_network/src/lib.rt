@@ -4,7 +4,6 @@
 //! history only that is kept which the closing lines ask.
 #![tactic(auto)]
 
-mod copies;
 mod fault;
 mod frame_record;
 mod frames;
@@ -17,7 +16,6 @@ mod tree_summaries;
 mod tree_summary;
 mod waiting;
 
-pub use copies::dialogue as dialogue_copied;
 pub use fault::SendFault;
 pub use frame_record::{DialogueWord, FrameRecord};
 pub use frames::{Frame, Frames};

@@ -1,5 +1,5 @@
 //! What a node keeps, but for its current transaction: its arcs and its kept transactions, which copies of the node share
-//! with it, and the outputs of an event.
+//! with it, the outputs of an event, and copies of what they say.
 //!
 //! An arc is found by its peer's number, and a kept transaction by its key. Each change is that of the definitions, and
 //! stands aside until no copy has the rest. Nothing here knows of other nodes, nor of a log's place.
@@ -7,6 +7,7 @@
 
 mod arc_step;
 mod arcs;
+pub mod copies;
 mod directory;
 pub mod kept;
 mod kept_map;

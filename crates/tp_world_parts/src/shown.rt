@@ -12,8 +12,8 @@ ghost use Rattle.tp_world_parts.specs.Shown.{forced_lines};
 use std::alloc::Global;
 use tp_logrec::LogRec;
 use tp_model::{LogWords, NodeNumbers, OutLine, OutLines, Phase, PhaseWord, Refusal, SentWords};
-use tp_names::{Addr, NoMemory, Octets, SiteName};
-use tp_network::dialogue_copied;
+use tp_names::{Addr, NoMemory, SiteName};
+use tp_node_parts::copies;
 use tp_records::{Indication, PeerRecord};
 use tp_site::NodeState;
 
@@ -56,53 +56,6 @@ pub(crate) fn log_shown(rec: &LogRec) -> LogWords
     }
 }
 
-// An indication.
-fn indication_shown(alloc: Global, indication: &Indication) -> Result<Indication, NoMemory>
-    ensures { IfOk result (λ copy. copy ≡ indication.now) }
-{
-    Ok(match indication {
-        Indication::BeginDialogue { peer, units } => Indication::BeginDialogue {
-            peer: *peer,
-            units: *units,
-        },
-        Indication::BegunDialogue { peer, units } => Indication::BegunDialogue {
-            peer: *peer,
-            units: *units,
-        },
-        Indication::Rejected { peer } => Indication::Rejected { peer: *peer },
-        Indication::EndDialogue { peer } => Indication::EndDialogue { peer: *peer },
-        Indication::UserData { peer, octets } => Indication::UserData {
-            peer: *peer,
-            octets: Octets::from_slice(alloc, octets.as_slice())?,
-        },
-        Indication::UError { peer } => Indication::UError { peer: *peer },
-        Indication::UAbort { peer } => Indication::UAbort { peer: *peer },
-        Indication::PAbort { peer } => Indication::PAbort { peer: *peer },
-        Indication::Grant { peer } => Indication::Grant { peer: *peer },
-        Indication::AskControl { peer } => Indication::AskControl { peer: *peer },
-        Indication::Handshake { peer } => Indication::Handshake { peer: *peer },
-        Indication::HandshakeConfirm { peer } => Indication::HandshakeConfirm { peer: *peer },
-        Indication::HandshakeGrant { peer } => Indication::HandshakeGrant { peer: *peer },
-        Indication::BeginTransaction { peer, aaid } => Indication::BeginTransaction {
-            peer: *peer,
-            aaid: *aaid,
-        },
-        Indication::DeferEnd { peer } => Indication::DeferEnd { peer: *peer },
-        Indication::DeferGrant { peer } => Indication::DeferGrant { peer: *peer },
-        Indication::Prepare => Indication::Prepare,
-        Indication::Ready { peer } => Indication::Ready { peer: *peer },
-        Indication::Commit => Indication::Commit,
-        Indication::CommitComplete { report } => Indication::CommitComplete { report: *report },
-        Indication::Rollback => Indication::Rollback,
-        Indication::RollbackComplete { report } => Indication::RollbackComplete { report: *report },
-        Indication::HeuristicReport { peer, report } => Indication::HeuristicReport {
-            peer: *peer,
-            report: *report,
-        },
-        Indication::Left { peer } => Indication::Left { peer: *peer },
-    })
-}
-
 // A record that is sent.
 fn sent_shown(alloc: Global, rec: &PeerRecord) -> Result<SentWords, NoMemory>
     ensures { IfOk result (λ words. words ≡ sent_shown rec.now) }
@@ -120,7 +73,7 @@ fn sent_shown(alloc: Global, rec: &PeerRecord) -> Result<SentWords, NoMemory>
         PeerRecord::ShutAssoc { x, y } => SentWords::ShutAssoc { x: *x, y: *y },
         PeerRecord::OnAssoc { seq, rec, .. } => SentWords::OnAssoc {
             seq: *seq,
-            rec: dialogue_copied(alloc, rec)?,
+            rec: copies::dialogue(alloc, rec)?,
         },
         PeerRecord::RecReady { aaid, branch } => SentWords::RecReady {
             aaid: *aaid,
@@ -155,7 +108,7 @@ pub fn show_told(
 ) -> Result<(), NoMemory>
     ensures { OnOk result (lines.new ≡ lines.old ++ OutLine.Tell node indication.now ∷ []) }
 {
-    let indication = indication_shown(alloc, indication)?;
+    let indication = copies::indication(alloc, indication)?;
     lines.push(alloc, OutLine::Tell { node, indication })
 }
 

@@ -1,9 +1,56 @@
-//! Copies of what a record says.
+//! Copies of what outputs say, and of the records in them.
 ghost use Rattle.std.specs.Prelude.{◌≡◌, IfOk};
 
 use std::alloc::Global;
 use tp_names::{NoMemory, Octets};
-use tp_records::{DialogueRecord, PeerRecord};
+use tp_records::{DialogueRecord, Indication, PeerRecord};
+
+/// Of an indication.
+pub fn indication(alloc: Global, indication: &Indication) -> Result<Indication, NoMemory>
+    ensures { IfOk result (λ copy. copy ≡ indication.now) }
+{
+    Ok(match indication {
+        Indication::BeginDialogue { peer, units } => Indication::BeginDialogue {
+            peer: *peer,
+            units: *units,
+        },
+        Indication::BegunDialogue { peer, units } => Indication::BegunDialogue {
+            peer: *peer,
+            units: *units,
+        },
+        Indication::Rejected { peer } => Indication::Rejected { peer: *peer },
+        Indication::EndDialogue { peer } => Indication::EndDialogue { peer: *peer },
+        Indication::UserData { peer, octets } => Indication::UserData {
+            peer: *peer,
+            octets: Octets::from_slice(alloc, octets.as_slice())?,
+        },
+        Indication::UError { peer } => Indication::UError { peer: *peer },
+        Indication::UAbort { peer } => Indication::UAbort { peer: *peer },
+        Indication::PAbort { peer } => Indication::PAbort { peer: *peer },
+        Indication::Grant { peer } => Indication::Grant { peer: *peer },
+        Indication::AskControl { peer } => Indication::AskControl { peer: *peer },
+        Indication::Handshake { peer } => Indication::Handshake { peer: *peer },
+        Indication::HandshakeConfirm { peer } => Indication::HandshakeConfirm { peer: *peer },
+        Indication::HandshakeGrant { peer } => Indication::HandshakeGrant { peer: *peer },
+        Indication::BeginTransaction { peer, aaid } => Indication::BeginTransaction {
+            peer: *peer,
+            aaid: *aaid,
+        },
+        Indication::DeferEnd { peer } => Indication::DeferEnd { peer: *peer },
+        Indication::DeferGrant { peer } => Indication::DeferGrant { peer: *peer },
+        Indication::Prepare => Indication::Prepare,
+        Indication::Ready { peer } => Indication::Ready { peer: *peer },
+        Indication::Commit => Indication::Commit,
+        Indication::CommitComplete { report } => Indication::CommitComplete { report: *report },
+        Indication::Rollback => Indication::Rollback,
+        Indication::RollbackComplete { report } => Indication::RollbackComplete { report: *report },
+        Indication::HeuristicReport { peer, report } => Indication::HeuristicReport {
+            peer: *peer,
+            report: *report,
+        },
+        Indication::Left { peer } => Indication::Left { peer: *peer },
+    })
+}
 
 /// Of a record on an association.
 pub fn dialogue(alloc: Global, dialogue: &DialogueRecord) -> Result<DialogueRecord, NoMemory>
@@ -44,7 +91,7 @@ pub fn dialogue(alloc: Global, dialogue: &DialogueRecord) -> Result<DialogueReco
 }
 
 /// Of a record between nodes.
-pub(crate) fn peer(alloc: Global, peer: &PeerRecord) -> Result<PeerRecord, NoMemory>
+pub fn peer(alloc: Global, peer: &PeerRecord) -> Result<PeerRecord, NoMemory>
     ensures { IfOk result (λ copy. copy ≡ peer.now) }
 {
     Ok(match peer {
