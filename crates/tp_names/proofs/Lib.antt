@@ -14,3 +14,4 @@ pub mod First
 pub mod Passing
 pub mod Plain
 pub mod Sames
+pub mod Padded

@@ -1,19 +1,12 @@
 -- The tests of equality on names and what is made of them, by what they mean.
 use Rattle.std.proofs.Common.{◌≡◌, ℕ, Option, Some, None, List, [], ◌∷◌, refl, ◌∙◌, ap, arith, Bool, true, false}
 use Rattle.std.proofs.lemmas.Bool.Decides.{nat_tests}
-use Rattle.std.specs.Prelude.{nat_eq, ◌&&◌, ◌==◌}
-use Rattle.std.specs.Cmp.Lexicographic.{pointwise}
+use Rattle.std.specs.Prelude.{◌&&◌, ◌==◌}
 use Rattle.tp_names.specs.declared.identifiers.Mark.{Mark}
 use Rattle.tp_names.specs.declared.identifiers.Aaid.{Aaid}
 use Rattle.tp_names.specs.declared.identifiers.BranchId.{BranchId}
 use Rattle.tp_names.specs.declared.identifiers.NodeKey.{NodeKey}
 use Rattle.tp_names.specs.Same.{is_name, is_mark, is_aaid, is_branch, is_branch_option, is_key}
-
-pub pointwise_is : (xs ys : List ℕ) → pointwise nat_eq xs ys ≡ is_name xs ys
-pointwise_is [] [] = refl
-pointwise_is [] (y ∷ ys) = refl
-pointwise_is (x ∷ xs) [] = refl
-pointwise_is (x ∷ xs) (y ∷ ys) = ap (λ b. (x == y) && b) (pointwise_is xs ys)
 
 -- ---- what the tests mean
 

@@ -72,7 +72,10 @@ impl Octets {
         ensures ok { OnOk result (self.new ≡ self.old ++ v ∷ []) }
         ensures err { OnErr result (self.new ≡ self.old) }
     {
-        self.items.push(v)?;
+        if self.items.len() == self.items.capacity() {
+            self.items.reserve(1)?;
+        }
+        self.items.push_reserved(v);
         Ok(())
     }
 

@@ -9,7 +9,7 @@ use crate::{Aaid, Addr, BranchId, Mark, NodeKey, SiteName};
 pub fn is_name(a: &SiteName, b: &SiteName) -> bool
     ensures { result ≡ is_name a.now b.now }
 {
-    a.bytes() == b.bytes()
+    a.is_same(b)
 }
 
 /// The same mark.

@@ -63,7 +63,10 @@ impl<T: Drop> Sequence<T> {
         ensures ok { IfOk result (λ _. self.new ≡ self.old ++ v ∷ []) }
         ensures err { OnErr result (self.new ≡ self.old) }
     {
-        self.items.push(v)?;
+        if self.items.len() == self.items.capacity() {
+            self.items.reserve(1)?;
+        }
+        self.items.push_reserved(v);
         Ok(())
     }
 

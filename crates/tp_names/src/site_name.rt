@@ -1,6 +1,7 @@
 //! Site names.
 ghost use Rattle.std.specs.Prelude.{◌≡◌, ◌++◌, Option, Some, None, IsTrue, length, if◌then◌else◌};
 ghost use Rattle.tp_names.specs.Bytes.{is_site_byte, is_site_name, all_bytes};
+ghost use Rattle.tp_names.specs.Same.{is_name};
 
 use std::fmt;
 use std::marker::Model;
@@ -53,6 +54,13 @@ impl SiteName {
         ensures name { IsTrue (is_site_name result.now) }
     {
         &self.bytes[..self.len as usize]
+    }
+
+    /// The same name: zeros stand after the bytes of a name, so names are the same where all sixteen bytes are one number.
+    pub(crate) fn is_same(&self, other: &SiteName) -> bool
+        ensures { result ≡ is_name self.now other.now }
+    {
+        u128::from_le_bytes(self.bytes) == u128::from_le_bytes(other.bytes)
     }
 }
 
