@@ -113,35 +113,21 @@ impl LogRec {
     pub fn copy(&self, alloc: Global) -> Result<LogRec, NoMemory>
         ensures { IfOk result (λ copy. copy ≡ self.now) }
     {
-        Ok(match self {
-            LogRec::Boot { boot } => LogRec::Boot { boot: *boot },
+        match self {
+            LogRec::Boot { boot } => Ok(LogRec::Boot { boot: *boot }),
             LogRec::Ready {
                 node,
                 key,
                 superior,
                 children,
-            } => LogRec::Ready {
-                node: *node,
-                key: *key,
-                superior: *superior,
-                children: Children::from_slice(alloc, children.as_slice())?,
-            },
-            LogRec::Heuristic { node, key, outcome } => LogRec::Heuristic {
-                node: *node,
-                key: *key,
-                outcome: *outcome,
-            },
+            } => copy_ready(alloc, *node, key, superior, children),
+            LogRec::Heuristic { node, key, outcome } => copy_heuristic(*node, key, *outcome),
             LogRec::Commit {
                 node,
                 key,
                 superior,
                 children,
-            } => LogRec::Commit {
-                node: *node,
-                key: *key,
-                superior: *superior,
-                children: Children::from_slice(alloc, children.as_slice())?,
-            },
+            } => copy_commit(alloc, *node, key, superior, children),
             LogRec::Damage {
                 node,
                 key,
@@ -149,28 +135,107 @@ impl LogRec {
                 side,
                 report,
                 owed,
-            } => LogRec::Damage {
-                node: *node,
-                key: *key,
-                superior: *superior,
-                side: *side,
-                report: *report,
-                owed: Children::from_slice(alloc, owed.as_slice())?,
-            },
-            LogRec::End { node, key, outcome } => LogRec::End {
-                node: *node,
-                key: *key,
-                outcome: *outcome,
-            },
-        })
+            } => copy_damage(alloc, *node, key, superior, (*side, *report), owed),
+            LogRec::End { node, key, outcome } => copy_end(*node, key, *outcome),
+        }
     }
 }
 
+// The same children. None want no memory.
+fn copy_children(alloc: Global, children: &Children) -> Result<Children, NoMemory>
+    ensures { IfOk result (λ copy. copy ≡ children.now) }
+{
+    if children.is_empty() {
+        return Ok(Children::new(alloc));
+    }
+    Children::from_slice(alloc, children.as_slice())
+}
+
+// Each kind of record is made by a function of its own.
+fn copy_ready(
+    alloc: Global,
+    node: u16,
+    key: &NodeKey,
+    superior: &Addr,
+    children: &Children,
+) -> Result<LogRec, NoMemory>
+    ensures { IfOk result (λ copy. copy ≡ LogRec.Ready node key.now superior.now children.now) }
+{
+    let children = copy_children(alloc, children)?;
+    Ok(LogRec::Ready {
+        node,
+        key: *key,
+        superior: *superior,
+        children,
+    })
+}
+
+fn copy_heuristic(node: u16, key: &NodeKey, outcome: Outcome) -> Result<LogRec, NoMemory>
+    ensures { IfOk result (λ copy. copy ≡ LogRec.Heuristic node key.now outcome) }
+{
+    Ok(LogRec::Heuristic {
+        node,
+        key: *key,
+        outcome,
+    })
+}
+
+fn copy_commit(
+    alloc: Global,
+    node: u16,
+    key: &NodeKey,
+    superior: &Option<Addr>,
+    children: &Children,
+) -> Result<LogRec, NoMemory>
+    ensures { IfOk result (λ copy. copy ≡ LogRec.Commit node key.now superior.now children.now) }
+{
+    let children = copy_children(alloc, children)?;
+    Ok(LogRec::Commit {
+        node,
+        key: *key,
+        superior: *superior,
+        children,
+    })
+}
+
+fn copy_damage(
+    alloc: Global,
+    node: u16,
+    key: &NodeKey,
+    superior: &Option<Addr>,
+    judgement: (Outcome, Report),
+    owed: &Children,
+) -> Result<LogRec, NoMemory>
+    ensures { IfOk result (λ copy. copy ≡ LogRec.Damage node key.now superior.now judgement.0 judgement.1 owed.now) }
+{
+    let owed = copy_children(alloc, owed)?;
+    Ok(LogRec::Damage {
+        node,
+        key: *key,
+        superior: *superior,
+        side: judgement.0,
+        report: judgement.1,
+        owed,
+    })
+}
+
+fn copy_end(node: u16, key: &NodeKey, outcome: Outcome) -> Result<LogRec, NoMemory>
+    ensures { IfOk result (λ copy. copy ≡ LogRec.End node key.now outcome) }
+{
+    Ok(LogRec::End {
+        node,
+        key: *key,
+        outcome,
+    })
+}
+
 /// Puts a copy of the record at the end; without memory the list stays as it was.
-pub(crate) fn push_copy(alloc: Global, list: &mut Vec<LogRec>, rec: &LogRec) -> Result<(), NoMemory>
+pub fn push_copy(alloc: Global, list: &mut Vec<LogRec>, rec: &LogRec) -> Result<(), NoMemory>
     ensures ok { OnOk result (list.new.items ≡ list.old.items ++ rec.now ∷ []) }
     ensures err { OnErr result (list.new.items ≡ list.old.items) }
 {
-    list.push(rec.copy(alloc)?)?;
+    list.reserve(1)?;
+    let copy = rec.copy(alloc)?;
+    list.push_reserved(copy);
     Ok(())
 }
