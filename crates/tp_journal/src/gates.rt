@@ -40,7 +40,7 @@ impl Shelf for Bodies {
         Ok(true)
     }
 
-    fn put(&mut self, _place: u64, body: &[u8], _item: ()) -> Result<(), AllocError> {
+    fn put(&mut self, _place: u64, body: &[u8], _item: &()) -> Result<(), AllocError> {
         let alloc = *self.items.allocator();
         let copy = body.to_vec(alloc)?;
         self.items.push(Octets::from_vec(copy))?;
@@ -102,7 +102,7 @@ impl<D: Disk> Gates<D> {
         ensures moments { self.old.shut ≡ None → (s : Story) → D.told self.old.disk ≡ Some s
             → LeavesOnly (StandsForEither self.old.bodies (self.old.bodies ++ body.now ∷ [])) (D.told self.old.disk) (D.told self.new.disk) }
     {
-        self.log.append(alloc, body, ())
+        self.log.append(alloc, body, &())
     }
 
     /// How many bodies there are. Until a call of the disk fails, its bytes stand for them.

@@ -90,9 +90,8 @@ impl<D: Disk> Journal<D> {
         }
         write_piece(alloc, wide, rec, len, &mut self.piece)?;
         let copy = rec.copy(alloc)?;
-        let kept = rec.copy(alloc)?;
         let piece = self.piece.as_slice();
-        let place = self.log.append_piece(&piece[2..2 + len], piece, kept)?;
+        let place = self.log.append_piece(&piece[2..2 + len], piece, rec)?;
         Ok(Receipt { place, rec: copy })
     }
 

@@ -51,10 +51,10 @@ fn piece_of(alloc: Global, body: &[u8]) -> Result<Vec<u8>, AllocError>
 }
 
 impl<D: Disk, S: Shelf + Drop> Log<D, S> {
-    /// Adds a body, of which the item is kept. At `Ok` it is on the disk, and the answer is the place of its gate.
-    pub fn append(&mut self, alloc: Global, body: &[u8], item: S::Item) -> Result<u64, ForceFault>
+    /// Adds a body, of which a copy of the item is kept. At `Ok` it is on the disk, and the answer is the place of its gate.
+    pub fn append(&mut self, alloc: Global, body: &[u8], item: &S::Item) -> Result<u64, ForceFault>
         requires body { IsBody body.now }
-        requires says { S.says (S.bodies self.old.shelf) body.now item }
+        requires says { S.says (S.bodies self.old.shelf) body.now item.now }
         ensures appended { IfOk result (λ place. Appends
             record { bodies = S.bodies self.old.shelf; gate = self.old.gate; shut = self.old.shut; faults = D.fault_count self.old.disk } body.now place
             record { bodies = S.bodies self.new.shelf; gate = self.new.gate; shut = self.new.shut; faults = D.fault_count self.new.disk }) }
@@ -87,11 +87,11 @@ impl<D: Disk, S: Shelf + Drop> Log<D, S> {
         &mut self,
         body: &[u8],
         piece: &[u8],
-        item: S::Item,
+        item: &S::Item,
     ) -> Result<u64, ForceFault>
         requires body { IsBody body.now }
         requires piece { piece.now ≡ body_piece body.now }
-        requires says { S.says (S.bodies self.old.shelf) body.now item }
+        requires says { S.says (S.bodies self.old.shelf) body.now item.now }
         requires open { self.old.shut ≡ None }
         requires room { self.old.gate + 4 + length body.now ≤ most_bytes }
         ensures appended { IfOk result (λ place. Appends

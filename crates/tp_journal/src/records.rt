@@ -1,5 +1,5 @@
 //! The records of a log as they are read and forced, with their places.
-ghost use Rattle.std.specs.Prelude.{◌≡◌, ◌<◌, true, false, [], ◌∷◌, ◌++◌, ◌^◌, ℕ, List, length, IfOk, OnOk, slice_index_or};
+ghost use Rattle.std.specs.Prelude.{◌≡◌, ◌<◌, true, false, [], ◌∷◌, ◌++◌, ◌^◌, ℕ, List, length, IfOk, OnOk, OnErr, slice_index_or};
 ghost use Rattle.std.specs.List.{AllByRecursion};
 ghost use Rattle.tp_journal.specs.Records.{HasText, ReadsText, version_of, text, is_mark, bodies_of, marks, wide_of, recs_of, placed, AreRecords};
 ghost use Rattle.tp_journal.specs.Log.{IsBody, counted, blocks, place_behind};
@@ -147,7 +147,7 @@ pub fn generation(
         }
         let body = write_text(alloc, wide, rec)?;
         let place = 5 + text.len() as u64;
-        records.put(place, body.as_slice(), rec.copy(alloc)?)?;
+        records.put(place, body.as_slice(), rec)?;
         put_body(&mut text, body.as_slice())?;
     }
     if text.len() > LONGEST {
@@ -178,6 +178,19 @@ impl Records {
             places: Vec::new(alloc),
             wide,
         }
+    }
+
+    /// Puts a record at the end, with its place.
+    fn add(&mut self, place: u64, rec: LogRec) -> Result<(), AllocError>
+        requires text { HasText (wide_of self.old) rec }
+        requires place { place ≡ place_behind self.old }
+        ensures ok { OnOk result (self.new ≡ self.old ++ text (wide_of self.old) rec ∷ []) }
+        ensures err { OnErr result (self.new ≡ self.old) }
+    {
+        self.places.reserve(1)?;
+        self.recs.push(rec)?;
+        self.places.push_reserved(place);
+        Ok(())
     }
 
     /// Are the texts of version 2?
@@ -235,14 +248,19 @@ impl Shelf for Records {
         let Some(rec) = found else {
             return Ok(false);
         };
-        self.put(place, body, rec)?;
+        self.add(place, rec)?;
         Ok(true)
     }
 
-    fn put(&mut self, place: u64, _body: &[u8], rec: LogRec) -> Result<(), AllocError> {
+    fn put(&mut self, place: u64, _body: &[u8], rec: &LogRec) -> Result<(), AllocError> {
+        let alloc = *self.recs.allocator();
         self.places.reserve(1)?;
-        self.recs.push(rec)?;
-        self.places.push(place).unwrap();
+        self.recs.reserve(1)?;
+        let Ok(copy) = rec.copy(alloc) else {
+            return Err(AllocError);
+        };
+        self.recs.push_reserved(copy);
+        self.places.push_reserved(place);
         Ok(())
     }
 

@@ -27,8 +27,8 @@ pub trait Shelf {
         ensures err { OnErr result (bodies self.new ≡ bodies self.old) };
 
     /// Puts the next body on it, of which the item is known, or stays as it was. The place is that of its gate.
-    fn put(&mut self, place: u64, body: &[u8], item: Self::Item) -> Result<(), AllocError>
-        requires says { says (bodies self.old) body.now item }
+    fn put(&mut self, place: u64, body: &[u8], item: &Self::Item) -> Result<(), AllocError>
+        requires says { says (bodies self.old) body.now item.now }
         requires place { place ≡ place_behind (bodies self.old) }
         ensures ok { OnOk result (bodies self.new ≡ bodies self.old ++ body.now ∷ []) }
         ensures err { OnErr result (bodies self.new ≡ bodies self.old) };

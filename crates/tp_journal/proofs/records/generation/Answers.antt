@@ -12,9 +12,8 @@ put-requires-clause-says c =
     let rec = c.rec-item.result in
     let has : HasText wide rec = subst (HasText wide) (sym c.rec-item.is) (all_at (HasText wide) c.args.list.now c.loop-rec.rec-index rec c.loop-rec-test.true c.requires) in
     let version : wide_of c.loop-rec.records ≡ wide = ap wide_of c.loop-rec.invariant.shelf ∙ wide_is wide _ in
-    let copied : c.in_ok-copy.field-0 ≡ rec = c.in_ok-copy.ensures {u = tt} in
     let body : c.as_slice.result.now ≡ text wide rec = c.as_slice.ensures ∙ (c.in_ok-body.ensures {u = tt}) in
-    (subst (λ w. HasText w c.in_ok-copy.field-0) (sym version) (subst (HasText wide) (sym copied) has), ap (λ w. text w c.in_ok-copy.field-0) version ∙ ap (text wide) copied ∙ sym body)
+    (subst (λ w. HasText w rec) (sym version) has, ap (λ w. text w rec) version ∙ sym body)
 
 pub put_body-requires : goal.put_body-requires
 put_body-requires c =

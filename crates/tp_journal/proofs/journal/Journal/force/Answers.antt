@@ -28,8 +28,7 @@ append_piece-requires-clause-says g c =
     let version : c.wide-wide.result ≡ wide_of log.shelf = c.wide-wide.ensures ∙ ap wide_of c.shelf.ensures in
     let body : take (2 + c.text_len-len.result - 2) (drop 2 c.as_slice-piece.result.now) ≡ text (wide_of log.shelf) c.args.rec.now =
     body_in_piece c.text_len-len.result _ c.as_slice-piece.result.now c.text_len-len.ensures.exact (c.as_slice-piece.ensures ∙ (c.in_ok-write_piece.ensures {u = tt})) ∙ ap (λ w. text w c.args.rec.now) version in
-    let copied : c.in_ok-kept.kept ≡ c.args.rec.now = c.in_ok-kept.ensures {u = tt} in
-    (subst (HasText (wide_of log.shelf)) (sym copied) has, ap (text (wide_of log.shelf)) copied ∙ sym body)
+    (has, sym body)
 
 pub invariant_of-self-in_err-place : goal.invariant_of-self-in_err-place
 invariant_of-self-in_err-place g c = subst AreRecords (sym (refused_stays _ _ _ _ c.in_err-place.ensures.refused)) c.self.invariant
