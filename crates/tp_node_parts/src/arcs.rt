@@ -108,7 +108,8 @@ impl Arcs {
     {
         let mut ties = Vec::new(alloc);
         if let Some(tie) = self.tree.above() {
-            ties.push(*tie)?;
+            ties.reserve(1)?;
+            ties.push_reserved(*tie);
         }
         ties.extend_from_slice(self.tree.subordinates())?;
         Ok(ties)

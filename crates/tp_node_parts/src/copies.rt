@@ -1,9 +1,12 @@
 //! Copies of what outputs say, and of the records in them.
 ghost use Rattle.std.specs.Prelude.{◌≡◌, IfOk};
+ghost use Rattle.tp_records.specs.declared.indication.Indication.{Indication as IndicationValue};
+ghost use Rattle.tp_records.specs.declared.dialogue.DialogueRecord.{DialogueRecord as DialogueValue};
+ghost use Rattle.tp_records.specs.declared.peer.PeerRecord.{PeerRecord as PeerValue};
 
 use std::alloc::Global;
-use tp_names::{NoMemory, Octets};
-use tp_records::{DialogueRecord, Indication, PeerRecord};
+use tp_names::{Aaid, BranchId, Mark, NoMemory, Octets};
+use tp_records::{DialogueRecord, Holder, Indication, PeerRecord};
 
 /// Of an indication.
 pub fn indication(alloc: Global, indication: &Indication) -> Result<Indication, NoMemory>
@@ -20,10 +23,7 @@ pub fn indication(alloc: Global, indication: &Indication) -> Result<Indication, 
         },
         Indication::Rejected { peer } => Indication::Rejected { peer: *peer },
         Indication::EndDialogue { peer } => Indication::EndDialogue { peer: *peer },
-        Indication::UserData { peer, octets } => Indication::UserData {
-            peer: *peer,
-            octets: Octets::from_slice(alloc, octets.as_slice())?,
-        },
+        Indication::UserData { peer, octets } => return user_data(alloc, *peer, octets),
         Indication::UError { peer } => Indication::UError { peer: *peer },
         Indication::UAbort { peer } => Indication::UAbort { peer: *peer },
         Indication::PAbort { peer } => Indication::PAbort { peer: *peer },
@@ -32,10 +32,7 @@ pub fn indication(alloc: Global, indication: &Indication) -> Result<Indication, 
         Indication::Handshake { peer } => Indication::Handshake { peer: *peer },
         Indication::HandshakeConfirm { peer } => Indication::HandshakeConfirm { peer: *peer },
         Indication::HandshakeGrant { peer } => Indication::HandshakeGrant { peer: *peer },
-        Indication::BeginTransaction { peer, aaid } => Indication::BeginTransaction {
-            peer: *peer,
-            aaid: *aaid,
-        },
+        Indication::BeginTransaction { peer, aaid } => return Ok(begin_transaction(*peer, aaid)),
         Indication::DeferEnd { peer } => Indication::DeferEnd { peer: *peer },
         Indication::DeferGrant { peer } => Indication::DeferGrant { peer: *peer },
         Indication::Prepare => Indication::Prepare,
@@ -52,15 +49,26 @@ pub fn indication(alloc: Global, indication: &Indication) -> Result<Indication, 
     })
 }
 
+fn user_data(alloc: Global, peer: u16, octets: &Octets) -> Result<Indication, NoMemory>
+    ensures { IfOk result (λ copy. copy ≡ IndicationValue.UserData peer octets.now) }
+{
+    let octets = Octets::from_slice(alloc, octets.as_slice())?;
+    Ok(Indication::UserData { peer, octets })
+}
+
+fn begin_transaction(peer: u16, aaid: &Aaid) -> Indication
+    ensures { result ≡ IndicationValue.BeginTransaction peer aaid.now }
+{
+    Indication::BeginTransaction { peer, aaid: *aaid }
+}
+
 /// Of a record on an association.
 pub fn dialogue(alloc: Global, dialogue: &DialogueRecord) -> Result<DialogueRecord, NoMemory>
     ensures { IfOk result (λ copy. copy ≡ dialogue.now) }
 {
     Ok(match dialogue {
         DialogueRecord::EndDialogue => DialogueRecord::EndDialogue,
-        DialogueRecord::UserData { octets } => DialogueRecord::UserData {
-            octets: Octets::from_slice(alloc, octets.as_slice())?,
-        },
+        DialogueRecord::UserData { octets } => return data(alloc, octets),
         DialogueRecord::UError => DialogueRecord::UError,
         DialogueRecord::UAbort => DialogueRecord::UAbort,
         DialogueRecord::Grant => DialogueRecord::Grant,
@@ -74,11 +82,7 @@ pub fn dialogue(alloc: Global, dialogue: &DialogueRecord) -> Result<DialogueReco
             aaid,
             branch,
             holder,
-        } => DialogueRecord::Begin {
-            aaid: *aaid,
-            branch: *branch,
-            holder: *holder,
-        },
+        } => return Ok(begin(aaid, branch, *holder)),
         DialogueRecord::Prepare => DialogueRecord::Prepare,
         DialogueRecord::Ready => DialogueRecord::Ready,
         DialogueRecord::Commit => DialogueRecord::Commit,
@@ -88,6 +92,23 @@ pub fn dialogue(alloc: Global, dialogue: &DialogueRecord) -> Result<DialogueReco
         DialogueRecord::Left => DialogueRecord::Left,
         DialogueRecord::LeftEnd => DialogueRecord::LeftEnd,
     })
+}
+
+fn data(alloc: Global, octets: &Octets) -> Result<DialogueRecord, NoMemory>
+    ensures { IfOk result (λ copy. copy ≡ DialogueValue.UserData octets.now) }
+{
+    let octets = Octets::from_slice(alloc, octets.as_slice())?;
+    Ok(DialogueRecord::UserData { octets })
+}
+
+fn begin(aaid: &Aaid, branch: &BranchId, holder: Holder) -> DialogueRecord
+    ensures { result ≡ DialogueValue.Begin aaid.now branch.now holder }
+{
+    DialogueRecord::Begin {
+        aaid: *aaid,
+        branch: *branch,
+        holder,
+    }
 }
 
 /// Of a record between nodes.
@@ -105,12 +126,7 @@ pub fn peer(alloc: Global, peer: &PeerRecord) -> Result<PeerRecord, NoMemory>
             units: *units,
         },
         PeerRecord::ShutAssoc { x, y } => PeerRecord::ShutAssoc { x: *x, y: *y },
-        PeerRecord::OnAssoc { x, y, seq, rec } => PeerRecord::OnAssoc {
-            x: *x,
-            y: *y,
-            seq: *seq,
-            rec: dialogue(alloc, rec)?,
-        },
+        PeerRecord::OnAssoc { x, y, seq, rec } => return on_assoc(alloc, x, y, *seq, rec),
         PeerRecord::RecReady { aaid, branch } => PeerRecord::RecReady {
             aaid: *aaid,
             branch: *branch,
@@ -132,5 +148,22 @@ pub fn peer(alloc: Global, peer: &PeerRecord) -> Result<PeerRecord, NoMemory>
             aaid: *aaid,
             branch: *branch,
         },
+    })
+}
+
+fn on_assoc(
+    alloc: Global,
+    x: &Mark,
+    y: &Mark,
+    seq: u64,
+    rec: &DialogueRecord,
+) -> Result<PeerRecord, NoMemory>
+    ensures { IfOk result (λ copy. copy ≡ PeerValue.OnAssoc x.now y.now seq rec.now) }
+{
+    Ok(PeerRecord::OnAssoc {
+        x: *x,
+        y: *y,
+        seq,
+        rec: dialogue(alloc, rec)?,
     })
 }

@@ -1,5 +1,5 @@
 //! The outputs of a node.
-ghost use Rattle.std.specs.Prelude.{◌≡◌, [], ◌∷◌, ◌++◌, OnOk, Some, map};
+ghost use Rattle.std.specs.Prelude.{◌≡◌, ◌<◌, [], ◌∷◌, ◌++◌, OnOk, Some, map, vec_len, vec_capacity};
 ghost use Rattle.tp_model.specs.Parts.{Tell, Send};
 ghost use Rattle.tp_model.specs.Events.{is_past_numbers, some_past_numbers, says_nothing};
 ghost use Rattle.tp_node_parts.specs.Outs.{out_of, outs_of_option, outs_with};
@@ -56,7 +56,8 @@ impl Outs {
     pub fn push(&mut self, out: Out) -> Result<(), NoMemory>
         ensures { OnOk result (self.new ≡ self.old ++ out_of out ∷ []) }
     {
-        self.items.push(out)?;
+        make_room(&mut self.items)?;
+        self.items.push_reserved(out);
         Ok(())
     }
 
@@ -74,25 +75,35 @@ impl Outs {
     pub fn tell(&mut self, indication: Indication) -> Result<(), NoMemory>
         ensures { OnOk result (self.new ≡ self.old ++ Tell indication ∷ []) }
     {
-        self.push(Out::Tell(indication))
+        make_room(&mut self.items)?;
+        self.items.push_reserved(Out::Tell(indication));
+        Ok(())
     }
 
     /// A record to another node.
     pub fn send(&mut self, to: Addr, rec: PeerRecord) -> Result<(), NoMemory>
         ensures { OnOk result (self.new ≡ self.old ++ Send to rec ∷ []) }
     {
-        self.push(Out::Send { to, rec })
+        make_room(&mut self.items)?;
+        self.items.push_reserved(Out::Send { to, rec });
+        Ok(())
     }
 
     /// A record on an association.
     pub fn carry(&mut self, next: &Next, rec: DialogueRecord) -> Result<(), NoMemory>
         ensures { OnOk result (self.new ≡ self.old ++ outs_with (Some next.now) rec) }
     {
-        let Next { to, x, y, seq } = *next;
-        self.push(Out::Send {
-            to,
-            rec: PeerRecord::OnAssoc { x, y, seq, rec },
-        })
+        make_room(&mut self.items)?;
+        self.items.push_reserved(Out::Send {
+            to: next.to,
+            rec: PeerRecord::OnAssoc {
+                x: next.x,
+                y: next.y,
+                seq: next.seq,
+                rec,
+            },
+        });
+        Ok(())
     }
 
     /// The outputs, in order.
@@ -128,6 +139,17 @@ impl Outs {
         }
         false
     }
+}
+
+// There is room for one more.
+fn make_room(items: &mut Vec<Out>) -> Result<(), NoMemory>
+    ensures same { items.new.items ≡ items.old.items }
+    ensures room { OnOk result (vec_len items.new < vec_capacity items.new) }
+{
+    if items.len() == items.capacity() {
+        items.reserve(1)?;
+    }
+    Ok(())
 }
 
 // A record on an association has a number below the greatest.
