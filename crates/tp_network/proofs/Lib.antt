@@ -5,5 +5,6 @@ mod Waits
 mod Queues
 mod TreeTables
 mod Gathering
+mod LastTrees
 mod Changes
 mod ChangedNodes

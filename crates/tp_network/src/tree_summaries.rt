@@ -4,7 +4,7 @@ ghost use Rattle.tp_names.specs.declared.identifiers.Aaid.{Aaid as AaidValue};
 ghost use Rattle.tp_names.specs.Same.{is_aaid};
 ghost use Rattle.tp_network.specs.TreeSummary.{is_in, is_that, no_summary, same_tree, stood_in, summary_after, tree_logged};
 ghost use Rattle.tp_network.specs.TreeOutcomes.{outcomes_in, with_node};
-ghost use Rattle.tp_network.specs.TreeSummaries.{summary_at};
+ghost use Rattle.tp_network.specs.TreeSummaries.{summary_at, with_last};
 
 use crate::tree_key::Tree;
 use crate::tree_outcomes::OutcomesByTree;
@@ -12,11 +12,16 @@ use crate::tree_summary::{TreeChange, TreeSummary, is_in, stood_in, tree_logged}
 use std::alloc::Global;
 use std::collections::HashMap;
 use std::marker::Model;
+use tp_names::same::is_aaid;
 use tp_names::{Aaid, NoMemory};
 
-/// The summaries that one node has in trees, by the trees with which it had to do.
+/// The summaries that one node has in trees, by the trees with which it had to do. Mostly an entry speaks of the tree of the
+/// entry before it: the summary in the tree that was changed last stands beside the table. What the table has of that tree is
+/// older.
 #[derive(Drop)]
 pub struct TreeSummaries {
+    last: Option<Aaid>,
+    in_last: TreeSummary,
     summaries: HashMap<Tree, TreeSummary>,
 }
 
@@ -24,10 +29,11 @@ impl Model for TreeSummaries {
     ghost use Rattle.std.specs.Prelude.{List};
     ghost use Rattle.tp_network.specs.declared.tree_key.Tree.{Tree};
     ghost use Rattle.tp_network.specs.declared.tree_summary.TreeSummary.{TreeSummary};
+    ghost use Rattle.tp_network.specs.TreeSummaries.{with_last};
 
     ghost Value = { List (Tree × TreeSummary) };
 
-    ghost view = { λ s. s.summaries.entries };
+    ghost view = { λ s. with_last s.last s.in_last s.summaries.entries };
 }
 
 impl TreeSummaries {
@@ -36,6 +42,8 @@ impl TreeSummaries {
         ensures { (t : AaidValue) → summary_at result t ≡ no_summary }
     {
         TreeSummaries {
+            last: None,
+            in_last: TreeSummary::NONE,
             summaries: HashMap::new(alloc),
         }
     }
@@ -44,27 +52,28 @@ impl TreeSummaries {
     pub fn summary(&self, tree: &Aaid) -> TreeSummary
         ensures { result ≡ summary_at self.now tree.now }
     {
-        let tree = Tree { aaid: *tree };
-        match self.summaries.get(&tree) {
-            Some(summary) => *summary,
-            None => TreeSummary::NONE,
+        if is_that(tree, &self.last) {
+            return self.in_last;
         }
+        summary_kept(&self.summaries, tree)
     }
 
-    // The summary in that tree after the first entry that changes it.
-    fn start(
+    // The summary in that tree after an entry, where another tree was changed last.
+    fn change_other(
         &mut self,
-        tree: Tree,
+        tree: &Aaid,
         is_before: bool,
         is_after: bool,
         change: &TreeChange,
     ) -> Result<(), NoMemory>
-        requires before { is_in tree.aaid change.now.before ≡ is_before }
-        requires after { is_in tree.aaid change.now.after ≡ is_after }
-        ensures { OnOk result ((t : AaidValue) → summary_at self.new t ≡ cond (is_aaid t tree.aaid) (summary_after t change.now no_summary) (summary_at self.old t)) }
+        requires before { is_in tree.now change.now.before ≡ is_before }
+        requires after { is_in tree.now change.now.after ≡ is_after }
+        ensures { OnOk result ((t : AaidValue) → summary_at self.new t ≡ cond (is_aaid t tree.now) (summary_after t change.now (summary_at self.old t)) (summary_at self.old t)) }
     {
-        let summary = TreeSummary::NONE.after_in(&tree.aaid, is_before, is_after, change);
-        self.summaries.insert(tree, summary)?;
+        let summary = self.summary(tree);
+        keep(&mut self.summaries, &self.last, self.in_last)?;
+        self.last = Some(*tree);
+        self.in_last = summary.after_in(tree, is_before, is_after, change);
         Ok(())
     }
 
@@ -80,14 +89,11 @@ impl TreeSummaries {
         requires after { is_in tree.now change.now.after ≡ is_after }
         ensures { OnOk result ((t : AaidValue) → summary_at self.new t ≡ cond (is_aaid t tree.now) (summary_after t change.now (summary_at self.old t)) (summary_at self.old t)) }
     {
-        let tree = Tree { aaid: *tree };
-        match self.summaries.get_mut(&tree) {
-            Some(summary) => {
-                *summary = summary.after_in(&tree.aaid, is_before, is_after, change);
-                Ok(())
-            }
-            None => self.start(tree, is_before, is_after, change),
+        if !is_that(tree, &self.last) {
+            return self.change_other(tree, is_before, is_after, change);
         }
+        self.in_last = self.in_last.after_in(tree, is_before, is_after, change);
+        Ok(())
     }
 
     // The summary in the tree before an entry; it tells whether that is the tree after it too.
@@ -152,18 +158,74 @@ impl TreeSummaries {
     pub(crate) fn gather(&self, all: &mut OutcomesByTree) -> Result<(), NoMemory>
         ensures { OnOk result ((t : AaidValue) → outcomes_in all.new t ≡ with_node (summary_at self.now t) (outcomes_in all.old t)) }
     {
-        gather_all(&self.summaries, all)
+        gather_others(&self.summaries, &self.last, all)?;
+        match &self.last {
+            Some(tree) => all.add(&Tree { aaid: *tree }, &self.in_last),
+            None => Ok(()),
+        }
     }
 }
 
-fn gather_all(
-    summaries: &HashMap<Tree, TreeSummary>,
+// The tree is that one.
+fn is_that(tree: &Aaid, that: &Option<Aaid>) -> bool
+    ensures { result ≡ is_that tree.now that.now }
+{
+    match that {
+        Some(that) => is_aaid(tree, that),
+        None => false,
+    }
+}
+
+// The summary in that tree, by the table.
+fn summary_kept(summaries: &HashMap<Tree, TreeSummary>, tree: &Aaid) -> TreeSummary
+    ensures { result ≡ summary_at summaries.now.entries tree.now }
+{
+    let tree = Tree { aaid: *tree };
+    match summaries.get(&tree) {
+        Some(summary) => *summary,
+        None => TreeSummary::NONE,
+    }
+}
+
+// The summary in the last tree is put into the table.
+fn keep(
+    summaries: &mut HashMap<Tree, TreeSummary>,
+    last: &Option<Aaid>,
+    summary: TreeSummary,
+) -> Result<(), NoMemory>
+    ensures { OnOk result ((t : AaidValue) → summary_at summaries.new.entries t ≡ summary_at (with_last last.now summary summaries.old.entries) t) }
+{
+    if let Some(tree) = last {
+        summaries.insert(Tree { aaid: *tree }, summary)?;
+    }
+    Ok(())
+}
+
+// What the nodes of that tree were told, with one node more, unless it is the last tree.
+fn add_other(
+    tree: &Tree,
+    summary: &TreeSummary,
+    last: &Option<Aaid>,
     all: &mut OutcomesByTree,
 ) -> Result<(), NoMemory>
-    ensures { OnOk result ((t : AaidValue) → outcomes_in all.new t ≡ with_node (summary_at summaries.now.entries t) (outcomes_in all.old t)) }
+    ensures { OnOk result ((t : AaidValue) → outcomes_in all.new t ≡ cond (is_aaid t tree.now.aaid && not (is_that t last.now)) (with_node summary.now (outcomes_in all.old t)) (outcomes_in all.old t)) }
+{
+    if is_that(&tree.aaid, last) {
+        return Ok(());
+    }
+    all.add(tree, summary)
+}
+
+// What the nodes of each tree but the last were told, with the node of these summaries too.
+fn gather_others(
+    summaries: &HashMap<Tree, TreeSummary>,
+    last: &Option<Aaid>,
+    all: &mut OutcomesByTree,
+) -> Result<(), NoMemory>
+    ensures { OnOk result ((t : AaidValue) → outcomes_in all.new t ≡ cond (is_that t last.now) (outcomes_in all.old t) (with_node (summary_at summaries.now.entries t) (outcomes_in all.old t))) }
 {
     for (tree, summary) in summaries.iter() {
-        all.add(tree, summary)?;
+        add_other(tree, summary, last, all)?;
     }
     Ok(())
 }
