@@ -1,5 +1,5 @@
 -- That the kit writes numbers and octets as the definitions say.
-use Rattle.std.proofs.Common.{◌≡◌, ℕ, zero, suc, ◌+◌, ◌/◌, ◌%◌, ◌^◌, ◌<◌, ◌≤◌, ◌==◌, Bool, true, List, [], ◌∷◌, ◌++◌, slice_index, refl, ap, sym, ◌∙◌, arith, eqb-true}
+use Rattle.std.proofs.Common.{◌≡◌, ℕ, zero, suc, ◌+◌, ◌*◌, ◌/◌, ◌%◌, ◌^◌, ◌<◌, ◌≤◌, ◌==◌, Bool, true, List, [], ◌∷◌, ◌++◌, slice_index, refl, ap, sym, ◌∙◌, arith, eqb-true}
 use Rattle.std.proofs.lemmas.Bool.{agree_below_at}
 use Rattle.std.proofs.lemmas.Bool.Decides.{nat_tests}
 use Rattle.std.proofs.lemmas.Fmt.{PrependsLastDigit, decimal_from_prepends, length-decimal-le_succ}
@@ -7,6 +7,7 @@ use Rattle.std.proofs.lemmas.List.{append-nil}
 use Rattle.std.specs.Fmt.{decimal as std_decimal}
 use Rattle.hex.specs.Hex.{encode_with, lower_digits}
 use Rattle.tp_model.specs.Words.{digits_before, decimal, hex, hex_digit}
+use Rattle.tp_schedule.specs.declared.digits.TheConstants.{PAIRS}
 
 -- the same with one more for the first number, which is the count of digits at most
 abbrev prepended : ℕ → ℕ → List ℕ → List ℕ
@@ -43,15 +44,33 @@ pub decimal_two : (n : ℕ) → 10 ≤ n → n < 100 → decimal n ≡ (48 + n /
 decimal_two n large small =
     decimal_more n (omega (arith, small)) large ∙ ap (λ (t : List ℕ). t ++ (48 + n % 10) ∷ []) (decimal_one (n / 10) (omega (arith, small)))
 
-pub decimal_three : (n : ℕ) → 100 ≤ n → n < 1000 → decimal n ≡ (48 + n / 10 / 10) ∷ (48 + n / 10 % 10) ∷ (48 + n % 10) ∷ []
+pub decimal_three : (n : ℕ) → 100 ≤ n → n < 1000 → decimal n ≡ (48 + n / 100) ∷ (48 + n % 100 / 10) ∷ (48 + n % 100 % 10) ∷ []
 decimal_three n large small =
-    decimal_more n (omega (arith, small)) (omega (arith, large))
-    ∙ ap (λ (t : List ℕ). t ++ (48 + n % 10) ∷ []) (decimal_two (n / 10) (omega (arith, large)) (omega (arith, small)))
+    let hundreds : n / 10 / 10 ≡ n / 100 = omega arith in
+    let tens : n / 10 % 10 ≡ n % 100 / 10 = omega arith in
+    let ones : n % 10 ≡ n % 100 % 10 = omega arith in
+    rw (decimal_more n (omega (arith, small)) (omega (arith, large)), decimal_two (n / 10) (omega (arith, large)) (omega (arith, small)), hundreds, tens, ← ones) refl
 
-pub decimal_four : (n : ℕ) → 1000 ≤ n → n < 10000 → decimal n ≡ (48 + n / 10 / 10 / 10) ∷ (48 + n / 10 / 10 % 10) ∷ (48 + n / 10 % 10) ∷ (48 + n % 10) ∷ []
+pub decimal_four : (n : ℕ) → 1000 ≤ n → n < 10000 → decimal n ≡ (48 + n / 100 / 10) ∷ (48 + n / 100 % 10) ∷ (48 + n % 100 / 10) ∷ (48 + n % 100 % 10) ∷ []
 decimal_four n large small =
-    decimal_more n (omega (arith, small)) (omega (arith, large))
-    ∙ ap (λ (t : List ℕ). t ++ (48 + n % 10) ∷ []) (decimal_three (n / 10) (omega (arith, large)) (omega (arith, small)))
+    let thousands : n / 10 / 100 ≡ n / 100 / 10 = omega arith in
+    let hundreds : n / 10 % 100 / 10 ≡ n / 100 % 10 = omega arith in
+    let tens : n / 10 % 100 % 10 ≡ n % 100 / 10 = omega arith in
+    let ones : n % 10 ≡ n % 100 % 10 = omega arith in
+    rw (decimal_more n (omega (arith, small)) (omega (arith, large)), decimal_three (n / 10) (omega (arith, large)) (omega (arith, small)), thousands, hundreds, tens, ← ones) refl
+
+-- pairs of digits from a table
+abbrev tens_agree : ℕ → Bool
+tens_agree p = slice_index PAIRS (p * 2) == 48 + p / 10
+
+abbrev ones_agree : ℕ → Bool
+ones_agree p = slice_index PAIRS (p * 2 + 1) == 48 + p % 10
+
+pub pair_tens : (p : ℕ) → p < 100 → slice_index PAIRS (p * 2) ≡ 48 + p / 10
+pair_tens p small = eqb-true _ _ (agree_below_at tens_agree (λ _. true) 100 p refl small)
+
+pub pair_ones : (p : ℕ) → p < 100 → slice_index PAIRS (p * 2 + 1) ≡ 48 + p % 10
+pair_ones p small = eqb-true _ _ (agree_below_at ones_agree (λ _. true) 100 p refl small)
 
 -- ---- octets
 

@@ -1,5 +1,5 @@
 //! Numbers and octets as digits, and letters for units.
-ghost use Rattle.std.specs.Prelude.{◌≡◌, ◌<◌, ◌≤◌, ◌+◌, ◌++◌, ◌∷◌, [], OnErr, OnOk};
+ghost use Rattle.std.specs.Prelude.{◌≡◌, ◌<◌, ◌≤◌, ◌+◌, ◌/◌, ◌%◌, ◌++◌, ◌∷◌, [], OnErr, OnOk};
 ghost use Rattle.tp_names.specs.Writing.{Keeps};
 ghost use Rattle.tp_model.specs.Words.{decimal, hex, octets_word, mark_word, letters_of, units_word};
 ghost use Rattle.tp_model.specs.OutText.{numbers_word};
@@ -18,25 +18,46 @@ pub(crate) const UNIT_LETTERS: [(u8, u8); 6] = [
     (32, b'u'),
 ];
 
-/// A number in decimal. Of a short one each digit is known, and a buffer is taken for the digits of a long one alone.
-#[tactic(auto, using(crate::proofs::KitText::decimal_one))]
+/// The two digits of each number below a hundred.
+static PAIRS: [u8; 200] =
+    *b"00010203040506070809101112131415161718192021222324252627282930313233343536373839404142434445464748495051525354555657585960616263646566676869707172737475767778798081828384858687888990919293949596979899";
+
+/// A number in decimal.
+#[tactic(auto, using(crate::proofs::KitText::decimal_same))]
 pub(crate) fn write_decimal(alloc: Global, n: u64, out: &mut Octets) -> Result<(), NoMemory>
     ensures ok { OnOk result (out.new ≡ out.old ++ decimal n) }
     ensures err { OnErr result (Keeps out.old out.new) }
 {
+    let mut buffer = Buffer::new();
+    out.extend_from_slice(alloc, buffer.format(n).as_bytes())?;
+    Ok(())
+}
+
+/// A mark, and a number in decimal. Of a short one each digit is known, so all of it is put there at once.
+#[tactic(auto, using(crate::proofs::KitText::decimal_one))]
+pub(crate) fn write_behind(
+    alloc: Global,
+    mark: u8,
+    n: u64,
+    out: &mut Octets,
+) -> Result<(), NoMemory>
+    ensures ok { OnOk result (out.new ≡ out.old ++ (mark ∷ decimal n)) }
+    ensures err { OnErr result (Keeps out.old out.new) }
+{
     if n < 10 {
-        return out.push(alloc, digit(n));
+        return out.extend_from_slice(alloc, &[mark, digit(n)]);
     }
     if n < 100 {
-        return write_two_digits(alloc, n, out);
+        return write_two_digits(alloc, mark, n, out);
     }
     if n < 1000 {
-        return write_three_digits(alloc, n, out);
+        return write_three_digits(alloc, mark, n, out);
     }
     if n < 10_000 {
-        return write_four_digits(alloc, n, out);
+        return write_four_digits(alloc, mark, n, out);
     }
-    write_long(alloc, n, out)
+    out.push(alloc, mark)?;
+    write_decimal(alloc, n, out)
 }
 
 /// The digit of a number below ten.
@@ -47,55 +68,48 @@ pub(crate) fn digit(n: u64) -> u8
     b'0' + n as u8
 }
 
+// The digits of a number below a hundred.
+#[tactic(auto, using(crate::proofs::KitText::pair_tens, crate::proofs::KitText::pair_ones))]
+fn pair(n: u64) -> (u8, u8)
+    requires { n < 100 }
+    ensures { result ≡ (48 + n / 10, 48 + n % 10) }
+{
+    let from = n as usize * 2;
+    (PAIRS[from], PAIRS[from + 1])
+}
+
 #[tactic(auto, using(crate::proofs::KitText::decimal_two))]
-fn write_two_digits(alloc: Global, n: u64, out: &mut Octets) -> Result<(), NoMemory>
+fn write_two_digits(alloc: Global, mark: u8, n: u64, out: &mut Octets) -> Result<(), NoMemory>
     requires least { 10 ≤ n }
     requires most { n < 100 }
-    ensures ok { OnOk result (out.new ≡ out.old ++ decimal n) }
+    ensures ok { OnOk result (out.new ≡ out.old ++ (mark ∷ decimal n)) }
     ensures err { OnErr result (Keeps out.old out.new) }
 {
-    out.extend_from_slice(alloc, &[digit(n / 10), digit(n % 10)])
+    let (tens, ones) = pair(n);
+    out.extend_from_slice(alloc, &[mark, tens, ones])
 }
 
 #[tactic(auto, using(crate::proofs::KitText::decimal_three))]
-fn write_three_digits(alloc: Global, n: u64, out: &mut Octets) -> Result<(), NoMemory>
+fn write_three_digits(alloc: Global, mark: u8, n: u64, out: &mut Octets) -> Result<(), NoMemory>
     requires least { 100 ≤ n }
     requires most { n < 1000 }
-    ensures ok { OnOk result (out.new ≡ out.old ++ decimal n) }
+    ensures ok { OnOk result (out.new ≡ out.old ++ (mark ∷ decimal n)) }
     ensures err { OnErr result (Keeps out.old out.new) }
 {
-    let tens = n / 10;
-    out.extend_from_slice(alloc, &[digit(tens / 10), digit(tens % 10), digit(n % 10)])
+    let (tens, ones) = pair(n % 100);
+    out.extend_from_slice(alloc, &[mark, digit(n / 100), tens, ones])
 }
 
 #[tactic(auto, using(crate::proofs::KitText::decimal_four))]
-fn write_four_digits(alloc: Global, n: u64, out: &mut Octets) -> Result<(), NoMemory>
+fn write_four_digits(alloc: Global, mark: u8, n: u64, out: &mut Octets) -> Result<(), NoMemory>
     requires least { 1000 ≤ n }
     requires most { n < 10000 }
-    ensures ok { OnOk result (out.new ≡ out.old ++ decimal n) }
+    ensures ok { OnOk result (out.new ≡ out.old ++ (mark ∷ decimal n)) }
     ensures err { OnErr result (Keeps out.old out.new) }
 {
-    let tens = n / 10;
-    let hundreds = tens / 10;
-    out.extend_from_slice(
-        alloc,
-        &[
-            digit(hundreds / 10),
-            digit(hundreds % 10),
-            digit(tens % 10),
-            digit(n % 10),
-        ],
-    )
-}
-
-#[tactic(auto, using(crate::proofs::KitText::decimal_same))]
-fn write_long(alloc: Global, n: u64, out: &mut Octets) -> Result<(), NoMemory>
-    ensures ok { OnOk result (out.new ≡ out.old ++ decimal n) }
-    ensures err { OnErr result (Keeps out.old out.new) }
-{
-    let mut buffer = Buffer::new();
-    out.extend_from_slice(alloc, buffer.format(n).as_bytes())?;
-    Ok(())
+    let (thousands, hundreds) = pair(n / 100);
+    let (tens, ones) = pair(n % 100);
+    out.extend_from_slice(alloc, &[mark, thousands, hundreds, tens, ones])
 }
 
 /// Two digits for each octet.
@@ -126,13 +140,12 @@ pub(crate) fn write_mark(alloc: Global, mark: &Mark, out: &mut Octets) -> Result
     ensures err { OnErr result (Keeps out.old out.new) }
 {
     write_decimal(alloc, mark.boot, out)?;
-    write_behind_dot(alloc, u64::from(mark.node), out)?;
-    write_behind_dot(alloc, mark.count, out)?;
+    write_behind(alloc, b'.', u64::from(mark.node), out)?;
+    write_behind(alloc, b'.', mark.count, out)?;
     Ok(())
 }
 
-/// A dot, and three numbers with dots between them: where the first two have one digit each, all up to the third at once.
-#[tactic(auto, using(crate::proofs::KitText::decimal_one))]
+/// A dot, and three numbers with dots between them.
 pub(crate) fn write_mark_behind_dot(
     alloc: Global,
     mark: &Mark,
@@ -141,31 +154,28 @@ pub(crate) fn write_mark_behind_dot(
     ensures ok { OnOk result (out.new ≡ out.old ++ (46 ∷ mark_word mark.now)) }
     ensures err { OnErr result (Keeps out.old out.new) }
 {
-    if mark.boot < 10 && mark.node < 10 {
-        write_two_in_dots(alloc, mark.boot, u64::from(mark.node), out)?;
-        return write_decimal(alloc, mark.count, out);
-    }
-    out.push(alloc, b'.')?;
-    write_mark(alloc, mark, out)
+    write_two_behind(alloc, b'.', mark.boot, u64::from(mark.node), out)?;
+    write_behind(alloc, b'.', mark.count, out)?;
+    Ok(())
 }
 
-// Two numbers of one digit, with a dot before, between and after them.
+/// Two numbers in decimal, each behind the mark: where both have one digit, all at once.
 #[tactic(auto, using(crate::proofs::KitText::decimal_one))]
-fn write_two_in_dots(alloc: Global, m: u64, n: u64, out: &mut Octets) -> Result<(), NoMemory>
-    requires first { m < 10 }
-    requires second { n < 10 }
-    ensures ok { OnOk result (out.new ≡ out.old ++ ((46 ∷ decimal m) ++ (46 ∷ decimal n) ++ (46 ∷ []))) }
+pub(crate) fn write_two_behind(
+    alloc: Global,
+    mark: u8,
+    m: u64,
+    n: u64,
+    out: &mut Octets,
+) -> Result<(), NoMemory>
+    ensures ok { OnOk result (out.new ≡ out.old ++ ((mark ∷ decimal m) ++ (mark ∷ decimal n))) }
     ensures err { OnErr result (Keeps out.old out.new) }
 {
-    out.extend_from_slice(alloc, &[b'.', digit(m), b'.', digit(n), b'.'])
-}
-
-fn write_behind_dot(alloc: Global, n: u64, out: &mut Octets) -> Result<(), NoMemory>
-    ensures ok { OnOk result (out.new ≡ out.old ++ (46 ∷ decimal n)) }
-    ensures err { OnErr result (Keeps out.old out.new) }
-{
-    out.push(alloc, b'.')?;
-    write_decimal(alloc, n, out)?;
+    if m < 10 && n < 10 {
+        return out.extend_from_slice(alloc, &[mark, digit(m), mark, digit(n)]);
+    }
+    write_behind(alloc, mark, m, out)?;
+    write_behind(alloc, mark, n, out)?;
     Ok(())
 }
 

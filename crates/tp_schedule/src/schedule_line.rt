@@ -1,10 +1,10 @@
 //! Writing a line of a schedule.
-ghost use Rattle.std.specs.Prelude.{◌≡◌, ◌++◌, OnErr, OnOk};
+ghost use Rattle.std.specs.Prelude.{◌≡◌, ◌++◌, ◌∷◌, [], OnErr, OnOk, codes};
 ghost use Rattle.tp_names.specs.Writing.{Keeps};
-ghost use Rattle.tp_model.specs.Words.{words};
+ghost use Rattle.tp_model.specs.Words.{words, decimal};
 ghost use Rattle.tp_model.specs.LineText.{request_words, action_words, line_words, line_text};
 
-use crate::word::{Word, write_alone, write_one, write_two, write_words};
+use crate::word::{Word, write_alone, write_number, write_one, write_two, write_words};
 use std::alloc::Global;
 use tp_model::{Action, Line, LineRequest};
 use tp_names::{NoMemory, Octets, Outcome, SiteName};
@@ -121,9 +121,18 @@ fn append_do(
     ensures ok { OnOk result (out.new ≡ out.old ++ words (action_words (Action.Do node request.now))) }
     ensures err { OnErr result (Keeps out.old out.new) }
 {
-    write_one(alloc, "do", node, out)?;
+    write_doer(alloc, node, out)?;
     out.push(alloc, b' ')?;
     append_request(alloc, request, out)?;
+    Ok(())
+}
+
+fn write_doer(alloc: Global, node: u16, out: &mut Octets) -> Result<(), NoMemory>
+    ensures ok { OnOk result (out.new ≡ out.old ++ words (codes "do" ∷ decimal node ∷ [])) }
+    ensures err { OnErr result (Keeps out.old out.new) }
+{
+    write_alone(alloc, "do", out)?;
+    write_number(alloc, node, out)?;
     Ok(())
 }
 

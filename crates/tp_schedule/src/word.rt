@@ -79,8 +79,8 @@ pub fn write_two(
     ensures ok { OnOk result (out.new ≡ out.old ++ words (word.now ∷ decimal m ∷ decimal n ∷ [])) }
     ensures err { OnErr result (Keeps out.old out.new) }
 {
-    write_one(alloc, word, m, out)?;
-    write_number(alloc, n, out)?;
+    put(alloc, word, out)?;
+    write_two_numbers(alloc, m, n, out)?;
     Ok(())
 }
 
@@ -139,6 +139,30 @@ pub fn write_reported(
     put(alloc, word, out)?;
     write_report(alloc, report, out)?;
     Ok(())
+}
+
+/// A number, after a space.
+pub fn write_number(alloc: Global, n: u16, out: &mut Octets) -> Result<(), NoMemory>
+    ensures ok { OnOk result (out.new ≡ out.old ++ (32 ∷ decimal n)) }
+    ensures err { OnErr result (Keeps out.old out.new) }
+{
+    digits::write_behind(alloc, b' ', u64::from(n), out)
+}
+
+/// Two numbers, each after a space.
+pub fn write_two_numbers(alloc: Global, m: u16, n: u16, out: &mut Octets) -> Result<(), NoMemory>
+    ensures ok { OnOk result (out.new ≡ out.old ++ ((32 ∷ decimal m) ++ (32 ∷ decimal n))) }
+    ensures err { OnErr result (Keeps out.old out.new) }
+{
+    digits::write_two_behind(alloc, b' ', u64::from(m), u64::from(n), out)
+}
+
+/// A long number, after a space.
+pub fn write_long_number(alloc: Global, n: u64, out: &mut Octets) -> Result<(), NoMemory>
+    ensures ok { OnOk result (out.new ≡ out.old ++ (32 ∷ decimal n)) }
+    ensures err { OnErr result (Keeps out.old out.new) }
+{
+    digits::write_behind(alloc, b' ', n, out)
 }
 
 /// An outcome, after a space.
@@ -203,28 +227,6 @@ fn write_name(alloc: Global, site: &SiteName, out: &mut Octets) -> Result<(), No
 {
     out.push(alloc, b' ')?;
     out.extend_from_slice(alloc, site.bytes())?;
-    Ok(())
-}
-
-// A number after a space: where it has one digit, both at once.
-#[tactic(auto, using(crate::proofs::KitText::decimal_one))]
-fn write_number(alloc: Global, n: u16, out: &mut Octets) -> Result<(), NoMemory>
-    ensures ok { OnOk result (out.new ≡ out.old ++ (32 ∷ decimal n)) }
-    ensures err { OnErr result (Keeps out.old out.new) }
-{
-    if n < 10 {
-        return out.extend_from_slice(alloc, &[b' ', digits::digit(u64::from(n))]);
-    }
-    write_long_number(alloc, u64::from(n), out)
-}
-
-// Any number after a space.
-fn write_long_number(alloc: Global, n: u64, out: &mut Octets) -> Result<(), NoMemory>
-    ensures ok { OnOk result (out.new ≡ out.old ++ (32 ∷ decimal n)) }
-    ensures err { OnErr result (Keeps out.old out.new) }
-{
-    out.push(alloc, b' ')?;
-    digits::write_decimal(alloc, n, out)?;
     Ok(())
 }
 

@@ -11,7 +11,7 @@ use tp_logrec::LogRec;
 use tp_model::LogWords;
 use tp_names::{Aaid, BranchId, NoMemory, NodeKey, Octets, Outcome};
 use tp_schedule::word::{
-    self, Word, write_alone, write_branch, write_long, write_one, write_outcome, write_report,
+    self, Word, write_alone, write_branch, write_long, write_number, write_outcome, write_report,
     write_words,
 };
 
@@ -112,38 +112,41 @@ pub(crate) fn write_log(alloc: Global, rec: &LogWords, out: &mut Octets) -> Resu
 {
     match rec {
         LogWords::Boot { boot } => write_long(alloc, "boot", *boot, out),
-        LogWords::Ready { node, key } => write_keyed(alloc, "ready", *node, key, out),
-        LogWords::Heuristic { node, key, outcome } => {
-            write_keyed_outcome(alloc, "heuristic", *node, key, *outcome, out)
+        LogWords::Ready { node, key } => {
+            write_alone(alloc, "ready", out)?;
+            write_keyed(alloc, *node, key, out)
         }
-        LogWords::Commit { node, key } => write_keyed(alloc, "commit", *node, key, out),
+        LogWords::Heuristic { node, key, outcome } => {
+            write_alone(alloc, "heuristic", out)?;
+            write_keyed_outcome(alloc, *node, key, *outcome, out)
+        }
+        LogWords::Commit { node, key } => {
+            write_alone(alloc, "commit", out)?;
+            write_keyed(alloc, *node, key, out)
+        }
         LogWords::Damage {
             node,
             key,
             side,
             report,
         } => {
-            write_keyed_outcome(alloc, "damage", *node, key, *side, out)?;
+            write_alone(alloc, "damage", out)?;
+            write_keyed_outcome(alloc, *node, key, *side, out)?;
             write_report(alloc, *report, out)
         }
         LogWords::End { node, key, outcome } => {
-            write_keyed_outcome(alloc, "end", *node, key, *outcome, out)
+            write_alone(alloc, "end", out)?;
+            write_keyed_outcome(alloc, *node, key, *outcome, out)
         }
     }
 }
 
-// A word, a node and its key.
-fn write_keyed(
-    alloc: Global,
-    word: &str,
-    node: u16,
-    key: &NodeKey,
-    out: &mut Octets,
-) -> Result<(), NoMemory>
-    ensures ok { OnOk result (out.new ≡ out.old ++ words (word.now ∷ decimal node ∷ key_words key.now)) }
+// A node and its key, after a space.
+fn write_keyed(alloc: Global, node: u16, key: &NodeKey, out: &mut Octets) -> Result<(), NoMemory>
+    ensures ok { OnOk result (out.new ≡ out.old ++ (32 ∷ words (decimal node ∷ key_words key.now))) }
     ensures err { OnErr result (Keeps out.old out.new) }
 {
-    write_one(alloc, word, node, out)?;
+    write_number(alloc, node, out)?;
     word::write_aaid(alloc, &key.aaid, out)?;
     write_branch_or_none(alloc, &key.branch, out)?;
     Ok(())
@@ -167,16 +170,15 @@ fn write_branch_or_none(
 // The same and an outcome.
 fn write_keyed_outcome(
     alloc: Global,
-    word: &str,
     node: u16,
     key: &NodeKey,
     outcome: Outcome,
     out: &mut Octets,
 ) -> Result<(), NoMemory>
-    ensures ok { OnOk result (out.new ≡ out.old ++ words (word.now ∷ decimal node ∷ key_words key.now ++ outcome_word outcome ∷ [])) }
+    ensures ok { OnOk result (out.new ≡ out.old ++ (32 ∷ words (decimal node ∷ key_words key.now ++ outcome_word outcome ∷ []))) }
     ensures err { OnErr result (Keeps out.old out.new) }
 {
-    write_keyed(alloc, word, node, key, out)?;
+    write_keyed(alloc, node, key, out)?;
     write_outcome(alloc, outcome, out)?;
     Ok(())
 }

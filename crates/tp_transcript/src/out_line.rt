@@ -12,7 +12,8 @@ use tp_model::{LogWords, NodeNumbers, OutLine, PhaseWord, RecordFate, SentWords}
 use tp_names::{Aaid, NoMemory, Octets, Outcome, SiteName};
 use tp_records::Indication;
 use tp_schedule::word::{
-    Word, write_aaid, write_alone, write_one, write_outcome, write_site, write_three, write_words,
+    Word, write_aaid, write_alone, write_number, write_one, write_outcome, write_site,
+    write_two_numbers, write_words,
 };
 
 /// Puts the line's text at the end of `out`, without an end. Without memory `out` stays as it was.
@@ -35,7 +36,7 @@ fn append_out(alloc: Global, o: &OutLine, out: &mut Octets) -> Result<(), NoMemo
     match o {
         OutLine::Echo(text) => append_echo(alloc, text, out),
         OutLine::Log { site, rec } => append_logged(alloc, site, rec, out),
-        OutLine::Take { frame } => write_one(alloc, "take", *frame, out),
+        OutLine::Take { frame } => append_taken(alloc, *frame, out),
         OutLine::Send {
             frame,
             from,
@@ -80,6 +81,15 @@ fn append_logged(
     Ok(())
 }
 
+fn append_taken(alloc: Global, frame: u16, out: &mut Octets) -> Result<(), NoMemory>
+    ensures ok { OnOk result (out.new ≡ out.old ++ out_text (OutLine.Take frame)) }
+    ensures err { OnErr result (Keeps out.old out.new) }
+{
+    write_alone(alloc, "take", out)?;
+    write_number(alloc, frame, out)?;
+    Ok(())
+}
+
 fn append_sent(
     alloc: Global,
     frame: u16,
@@ -106,7 +116,10 @@ fn write_frame(
     ensures err { OnErr result (Keeps out.old out.new) }
 {
     let (from, to) = ends;
-    write_three(alloc, "send", frame, from, to, out)
+    write_alone(alloc, "send", out)?;
+    write_number(alloc, frame, out)?;
+    write_two_numbers(alloc, from, to, out)?;
+    Ok(())
 }
 
 fn append_told(
@@ -118,9 +131,18 @@ fn append_told(
     ensures ok { OnOk result (out.new ≡ out.old ++ out_text (OutLine.Tell node indication.now)) }
     ensures err { OnErr result (Keeps out.old out.new) }
 {
-    write_one(alloc, "tell", node, out)?;
+    write_hearer(alloc, node, out)?;
     out.push(alloc, b' ')?;
     write_told(alloc, indication, out)?;
+    Ok(())
+}
+
+fn write_hearer(alloc: Global, node: u16, out: &mut Octets) -> Result<(), NoMemory>
+    ensures ok { OnOk result (out.new ≡ out.old ++ words (codes "tell" ∷ decimal node ∷ [])) }
+    ensures err { OnErr result (Keeps out.old out.new) }
+{
+    write_alone(alloc, "tell", out)?;
+    write_number(alloc, node, out)?;
     Ok(())
 }
 

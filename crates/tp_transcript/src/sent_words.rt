@@ -1,7 +1,7 @@
 //! Writing the records that peers send.
-ghost use Rattle.std.specs.Prelude.{◌≡◌, ◌++◌, ◌∷◌, [], OnErr, OnOk};
+ghost use Rattle.std.specs.Prelude.{◌≡◌, ◌++◌, ◌∷◌, [], OnErr, OnOk, codes};
 ghost use Rattle.tp_names.specs.Writing.{Keeps};
-ghost use Rattle.tp_model.specs.Words.{words, aaid_word, branch_word, maybe_word, mark_word};
+ghost use Rattle.tp_model.specs.Words.{words, decimal, aaid_word, branch_word, maybe_word, mark_word};
 ghost use Rattle.tp_model.specs.OutText.{dialogue_words, state_words, sent_words};
 ghost use Rattle.tp_schedule.specs.WordText.{word_text};
 
@@ -10,7 +10,7 @@ use tp_model::SentWords;
 use tp_names::{Aaid, BranchId, Mark, NoMemory, Octets};
 use tp_records::{DialogueRecord, Holder, RecState};
 use tp_schedule::word::{
-    Word, write_aaid, write_alone, write_branch, write_holder, write_long, write_reported,
+    Word, write_aaid, write_alone, write_branch, write_holder, write_long_number, write_reported,
     write_words,
 };
 use tp_units::Units;
@@ -107,9 +107,18 @@ fn write_on(alloc: Global, seq: u64, rec: &DialogueRecord, out: &mut Octets) -> 
     ensures ok { OnOk result (out.new ≡ out.old ++ words (sent_words (SentWords.OnAssoc seq rec.now))) }
     ensures err { OnErr result (Keeps out.old out.new) }
 {
-    write_long(alloc, "data", seq, out)?;
+    write_sequence(alloc, seq, out)?;
     out.push(alloc, b' ')?;
     write_dialogue(alloc, rec, out)?;
+    Ok(())
+}
+
+fn write_sequence(alloc: Global, seq: u64, out: &mut Octets) -> Result<(), NoMemory>
+    ensures ok { OnOk result (out.new ≡ out.old ++ words (codes "data" ∷ decimal seq ∷ [])) }
+    ensures err { OnErr result (Keeps out.old out.new) }
+{
+    write_alone(alloc, "data", out)?;
+    write_long_number(alloc, seq, out)?;
     Ok(())
 }
 

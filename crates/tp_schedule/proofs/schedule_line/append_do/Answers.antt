@@ -8,8 +8,8 @@ use Rattle.tp_schedule.proofs.schedule_line.append_do.Goals as goal
 pub returns-clause-ok : goal.returns-clause-ok
 returns-clause-ok c =
     joined (codes "do") (decimal c.args.node ∷ []) (request_words c.args.request.now) (request_has c.args.request.now) _ _ _ _
-    c.in_ok-write_one.ensures.ok c.in_ok-push.ensures.ok c.in_ok-append_request.ensures.ok
+    c.in_ok-write_doer.ensures.ok c.in_ok-push.ensures.ok c.in_ok-append_request.ensures.ok
 
 pub returns-in_err-append_request-clause-err : goal.returns-in_err-append_request-clause-err
 returns-in_err-append_request-clause-err c =
-    on_err _ _ (kept_last _ _ _ _ _ c.in_ok-write_one.ensures.ok c.in_ok-push.ensures.ok c.in_err-append_request.ensures.err)
+    on_err _ _ (kept_last _ _ _ _ _ c.in_ok-write_doer.ensures.ok c.in_ok-push.ensures.ok c.in_err-append_request.ensures.err)
