@@ -25,5 +25,5 @@ said DialogueWord.Left = DialogueRecord.Left
 said DialogueWord.LeftEnd = DialogueRecord.LeftEnd
 
 abbrev pub record_of : FrameRecord → PeerRecord
-record_of (FrameRecord.Word x y seq word) = PeerRecord.OnAssoc x y seq (said word)
+record_of (FrameRecord.Word word x y seq) = PeerRecord.OnAssoc x y seq (said word)
 record_of (FrameRecord.Other rec) = rec.value

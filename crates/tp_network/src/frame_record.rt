@@ -35,10 +35,10 @@ pub enum DialogueWord {
 pub enum FrameRecord {
     /// A word on an association.
     Word {
+        word: DialogueWord,
         x: Mark,
         y: Mark,
         seq: u64,
-        word: DialogueWord,
     },
     Other(Box<PeerRecord>),
 }
@@ -108,10 +108,10 @@ fn word_in(rec: &PeerRecord) -> Option<FrameRecord>
         PeerRecord::OnAssoc { x, y, seq, rec } => {
             let word = DialogueWord::of(rec)?;
             Some(FrameRecord::Word {
+                word,
                 x: *x,
                 y: *y,
                 seq: *seq,
-                word,
             })
         }
         _ => None,

@@ -1,5 +1,5 @@
 //! The frames that were sent between nodes.
-ghost use Rattle.std.specs.Prelude.{◌≡◌, ◌++◌, ◌∷◌, [], ◌+◌, ◌≤◌, ◌<◌, true, false, length, map, IfOk, IfErr, OnOk, OnErr};
+ghost use Rattle.std.specs.Prelude.{◌≡◌, ◌++◌, ◌∷◌, [], ◌+◌, ◌≤◌, ◌<◌, true, false, length, map, vec_len, vec_capacity, IfOk, IfErr, OnOk, OnErr};
 ghost use Rattle.std.specs.Option.{option_map, option_copied};
 ghost use Rattle.tp_model.specs.World.{find_frame, mark_handed, oldest_from};
 ghost use Rattle.tp_network.specs.Frames.{frame_of, handed_over, is_between, leading, IsFull};
@@ -31,6 +31,17 @@ pub struct Frames {
     items: Vec<Frame>,
     first: usize,
     waiting: Waiting,
+}
+
+// Room for one frame more.
+fn make_room(items: &mut Vec<Frame>) -> Result<(), NoMemory>
+    ensures items { items.new.items ≡ items.old.items }
+    ensures room { OnOk result (vec_len items.new < vec_capacity items.new) }
+{
+    if items.len() == items.capacity() {
+        items.reserve(1)?;
+    }
+    Ok(())
 }
 
 // The place of the first frame that is not handed over, sought from a place on before which all are.
@@ -110,10 +121,10 @@ impl Frames {
         ensures ok { OnOk result (self.new ≡ self.old ++ frame_of frame ∷ []) }
         ensures err { OnErr result (self.new ≡ self.old) }
     {
-        self.items.reserve(1)?;
+        make_room(&mut self.items)?;
         self.waiting
             .add(alloc, frame.from.node, frame.to.node, number)?;
-        self.items.push(frame)?;
+        self.items.push_reserved(frame);
         Ok(())
     }
 

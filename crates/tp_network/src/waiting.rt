@@ -1,6 +1,6 @@
 //! The numbers of the frames that wait to be handed over, by the nodes between which they were sent.
-ghost use Rattle.std.specs.Prelude.{ℕ, ◌≡◌, ◌++◌, ◌∷◌, [], cond, OnOk, OnErr, drop};
-ghost use Rattle.tp_network.specs.Waiting.{queue_at, is_pair, first_of};
+ghost use Rattle.std.specs.Prelude.{ℕ, ◌≡◌, ◌++◌, ◌∷◌, [], true, cond, OnOk, OnErr, drop, length};
+ghost use Rattle.tp_network.specs.Waiting.{queue_at, is_pair, first_of, place_on};
 
 use crate::queue::Queue;
 use std::alloc::Global;
@@ -8,18 +8,34 @@ use std::collections::HashMap;
 use std::marker::Model;
 use tp_names::NoMemory;
 
-/// The numbers that wait between each two nodes.
+/// The numbers that wait from the one node to the other.
+#[derive(Drop)]
+pub(crate) struct Lane {
+    pub(crate) from: u16,
+    pub(crate) to: u16,
+    pub(crate) queue: Queue,
+}
+
+/// The lanes between nodes, in the order of their first frames; `places` are the places of their nodes. Mostly a frame goes
+/// where the last one went, or by the next lane: the place that was sought last, and the one after it, are told without the
+/// table.
 #[derive(Drop)]
 pub(crate) struct Waiting {
-    queues: HashMap<(u16, u16), Queue>,
+    lanes: Vec<Lane>,
+    places: HashMap<(u16, u16), usize>,
+    last: usize,
 }
 
 impl Model for Waiting {
-    ghost use Rattle.std.specs.Prelude.{ℕ, List};
+    ghost use Rattle.std.specs.Prelude.{List};
+    ghost use Rattle.tp_network.specs.declared.waiting.Lane.{Lane};
+    ghost use Rattle.tp_network.specs.Waiting.{AreLanes};
 
-    ghost Value = { List ((ℕ × ℕ) × List ℕ) };
+    ghost Value = { List Lane };
 
-    ghost view = { λ w. w.queues.entries };
+    ghost view = { λ w. w.lanes.items };
+
+    ghost invariant = { AreLanes };
 }
 
 impl Waiting {
@@ -28,17 +44,68 @@ impl Waiting {
         ensures { (a b : ℕ) → queue_at result a b ≡ [] }
     {
         Waiting {
-            queues: HashMap::new(alloc),
+            lanes: Vec::new(alloc),
+            places: HashMap::new(alloc),
+            last: 0,
         }
     }
 
-    // That number alone waits between these two nodes.
+    // The lane at that place is the one between these two nodes.
+    fn is_at(&self, place: usize, from: u16, to: u16) -> bool
+        ensures { result ≡ true → place_on self.now from to ≡ place }
+    {
+        if place >= self.lanes.len() {
+            return false;
+        }
+        let lane = &self.lanes[place];
+        lane.from == from && lane.to == to
+    }
+
+    // The place after the one that was sought last; the first one after all.
+    fn next(&self) -> usize {
+        if self.last >= self.lanes.len() {
+            return 0;
+        }
+        let next = self.last + 1;
+        if next == self.lanes.len() { 0 } else { next }
+    }
+
+    // The place of the lane between these two nodes, by the table; after all where there is none.
+    fn place_noted(&self, from: u16, to: u16) -> usize
+        ensures { result ≡ place_on self.now from to }
+    {
+        match self.places.get(&(from, to)) {
+            Some(place) => *place,
+            None => self.lanes.len(),
+        }
+    }
+
+    // The same.
+    fn place(&self, from: u16, to: u16) -> usize
+        ensures { result ≡ place_on self.now from to }
+    {
+        if self.is_at(self.last, from, to) {
+            return self.last;
+        }
+        let next = self.next();
+        if self.is_at(next, from, to) {
+            return next;
+        }
+        self.place_noted(from, to)
+    }
+
+    // That number alone waits between these two nodes, which have no lane.
     fn start(&mut self, alloc: Global, from: u16, to: u16, number: u16) -> Result<(), NoMemory>
+        requires { place_on self.old from to ≡ length self.old }
         ensures ok { OnOk result ((a b : ℕ) → queue_at self.new a b ≡ cond (is_pair (from, to) (a, b)) (number ∷ []) (queue_at self.old a b)) }
         ensures err { OnErr result (self.new ≡ self.old) }
     {
         let queue = Queue::of(alloc, number)?;
-        self.queues.insert((from, to), queue)?;
+        let place = self.lanes.len();
+        self.lanes.reserve(1)?;
+        self.places.insert((from, to), place)?;
+        self.lanes.push_reserved(Lane { from, to, queue });
+        self.last = place;
         Ok(())
     }
 
@@ -53,10 +120,12 @@ impl Waiting {
         ensures ok { OnOk result ((a b : ℕ) → queue_at self.new a b ≡ cond (is_pair (from, to) (a, b)) (queue_at self.old a b ++ number ∷ []) (queue_at self.old a b)) }
         ensures err { OnErr result ((a b : ℕ) → queue_at self.new a b ≡ queue_at self.old a b) }
     {
-        match self.queues.get_mut(&(from, to)) {
-            Some(queue) => queue.push(number),
-            None => self.start(alloc, from, to, number),
+        let place = self.place(from, to);
+        if place >= self.lanes.len() {
+            return self.start(alloc, from, to, number);
         }
+        self.last = place;
+        self.lanes[place].queue.push(number)
     }
 
     /// The oldest number between these two nodes waits no longer.
@@ -64,9 +133,11 @@ impl Waiting {
         ensures number { result ≡ first_of (queue_at self.old from to) }
         ensures rest { (a b : ℕ) → queue_at self.new a b ≡ cond (is_pair (from, to) (a, b)) (drop 1 (queue_at self.old a b)) (queue_at self.old a b) }
     {
-        let Some(queue) = self.queues.get_mut(&(from, to)) else {
+        let place = self.place(from, to);
+        if place >= self.lanes.len() {
             return None;
-        };
-        queue.pop()
+        }
+        self.last = place;
+        self.lanes[place].queue.pop()
     }
 }

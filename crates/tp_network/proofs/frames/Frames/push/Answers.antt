@@ -9,4 +9,4 @@ invariant_of-self-2 c =
     let f = c.args.frame in
     let most : c.args.number ≤ 65535 = omega (arith, c.ranges.number.fits) in
     numbered_more c.self.inside _ f c.args.number c.self.invariant c.requires.fresh (c.requires.number ∙ ap (λ (fs : List FrameValue). length fs + 1) (sym c.self.view_is)) most
-    (c.in_ok-push.ensures.items ∙ ap (λ (l : List Frame). l ++ f ∷ []) c.in_ok-reserve.ensures.items) refl c.in_ok-add.ensures.ok
+    (c.push_reserved.ensures.items ∙ ap (λ (l : List Frame). l ++ f ∷ []) c.in_ok-make_room.ensures.items) refl c.in_ok-add.ensures.ok

@@ -1,39 +1,54 @@
-use Rattle.std.proofs.Common.{◌≡◌, ◌++◌, ◌∷◌, [], ℕ, ap, sym, subst, ◌∙◌}
-use Rattle.std.specs.Prelude.{cond}
-use Rattle.tp_network.specs.Waiting.{is_pair, queue_at}
-use Rattle.tp_network.proofs.Queues.{begun, changed, queue_found, then_err, written, written_same}
+use Rattle.std.proofs.Common.{◌≡◌, ◌<◌, ◌≤◌, ◌∙◌, ◌++◌, ◌∷◌, [], ℕ, ap, sym, subst, arith, List, length, rules}
+use Rattle.std.specs.Prelude.{cond, slice_index_or, slice_set}
+use Rattle.tp_network.specs.Waiting.{is_pair, place_on, queue_at}
+use Rattle.tp_network.specs.declared.waiting.Lane.{Lane}
 use Rattle.tp_network.proofs.Changes.{then_ok}
+use Rattle.tp_network.proofs.Lanes.{apart_step, placed_step, queue_begun, queue_changed, within_step}
 use Rattle.tp_network.proofs.waiting.Waiting.add.Goals as goal
 
-pub returns-in-Some-clause-ok : goal.returns-in-Some-clause-ok
-returns-in-Some-clause-ok c =
-    let es = c.self.inside.queues.entries in
-    let p : ℕ × ℕ = (c.args.from, c.args.to) in
+pub returns-then-place-len-clause-ok : goal.returns-then-place-len-clause-ok
+returns-then-place-len-clause-ok c =
+    let ls = c.self.inside.lanes.items in
+    let a = c.args.from in
+    let b = c.args.to in
     let n = c.args.number in
-    let v = c.push.new.self in
-    let new = (c.get_mut.follows.lender v).entries in
-    let there = c.in-Some.ensures.value in
+    let new = c.start.new.self in
+    let p : place_on ls a b ≡ c.place-place.result = ap (λ (l : List Lane). place_on l a b) c.self.view_is ∙ sym c.place-place.ensures in
+    let past : length ls ≤ c.place-place.result = first_of (search rules, grind (arith, c.if-place-len.true)) in
+    then_ok c.start.result
+    (λ h.
+    subst (λ (l : List Lane). (s t : ℕ) → queue_at new s t ≡ cond (is_pair (a, b) (s, t)) (queue_at l s t ++ n ∷ []) (queue_at l s t)) c.self.view_is
+    (queue_begun ls new a b n (omega (arith, past, p)) (λ s t. h s t ∙ ap (λ (l : List Lane). cond (is_pair (a, b) (s, t)) (n ∷ []) (queue_at l s t)) (sym c.self.view_is))))
+    c.start.ensures.ok
+
+pub invariant_of-self : goal.invariant_of-self
+invariant_of-self c =
+    let v = c.self.inside in
+    let k = c.place-place.result in
+    let x = c.index_mut.result.now in
+    let y : Lane = record { from = x.from; to = x.to; queue = c.push.new.self } in
+    let from = ap (λ (z : Lane). z.from) c.index_mut.ensures.value in
+    let to = ap (λ (z : Lane). z.to) c.index_mut.ensures.value in
+    record {
+      place = placed_step v.lanes.items v.places.entries k y x from to c.self.invariant.place;
+      within = within_step v.lanes.items v.places.entries k y c.self.invariant.within;
+      apart = apart_step v.lanes.items k y x from to c.self.invariant.apart;
+    }
+
+pub returns-clause-ok : goal.returns-clause-ok
+returns-clause-ok c =
+    let ls = c.self.inside.lanes.items in
+    let a = c.args.from in
+    let b = c.args.to in
+    let n = c.args.number in
+    let k = c.place-place.result in
+    let x = c.index_mut.result.now in
+    let y : Lane = record { from = x.from; to = x.to; queue = c.push.new.self } in
+    let p : place_on ls a b ≡ k = ap (λ (l : List Lane). place_on l a b) c.self.view_is ∙ sym c.place-place.ensures in
+    let less : k < length ls = first_of (search rules, grind (arith, c.if-place-len.false)) in
     then_ok c.push.result
     (λ is.
-    subst (λ old. (a b : ℕ) → queue_at new a b ≡ cond (is_pair p (a, b)) (queue_at old a b ++ n ∷ []) (queue_at old a b)) c.self.view_is
-    (changed (λ ns. ns ++ n ∷ []) es new p v (is ∙ ap (λ ns. ns ++ n ∷ []) (sym (queue_found es p c.in-Some.queue.now there))) (written es new p c.in-Some.queue.now v (c.get_mut.follows.holds v).0 there)))
+    subst (λ (l : List Lane). (s t : ℕ) → queue_at (slice_set ls k y) s t ≡ cond (is_pair (a, b) (s, t)) (queue_at l s t ++ n ∷ []) (queue_at l s t)) c.self.view_is
+    (queue_changed (λ ns. ns ++ n ∷ []) ls a b x y k p less (ap (λ (z : Lane). z.from) c.index_mut.ensures.value) (ap (λ (z : Lane). z.to) c.index_mut.ensures.value)
+    (is ∙ ap (λ (z : Lane). z.queue ++ n ∷ []) c.index_mut.ensures.value)))
     c.push.ensures.ok
-
-pub returns-in-Some-clause-err : goal.returns-in-Some-clause-err
-returns-in-Some-clause-err c =
-    let es = c.self.inside.queues.entries in
-    let p : ℕ × ℕ = (c.args.from, c.args.to) in
-    let v = c.push.new.self in
-    let new = (c.get_mut.follows.lender v).entries in
-    then_err c.push.result
-    (λ is. subst (λ old. (a b : ℕ) → queue_at new a b ≡ queue_at old a b) c.self.view_is (written_same es new p c.in-Some.queue.now v (c.get_mut.follows.holds v).0 c.in-Some.ensures.value is))
-    c.push.ensures.err
-
-pub returns-in-None-clause-ok : goal.returns-in-None-clause-ok
-returns-in-None-clause-ok c =
-    let es = c.self.inside.queues.entries in
-    let p : ℕ × ℕ = (c.args.from, c.args.to) in
-    let n = c.args.number in
-    then_ok c.start.result
-    (λ h. subst (λ old. (a b : ℕ) → queue_at c.start.new.self a b ≡ cond (is_pair p (a, b)) (queue_at old a b ++ n ∷ []) (queue_at old a b)) c.self.view_is (begun es c.start.new.self p n c.in-None.ensures.value (λ a b. h a b ∙ ap (λ m. cond (is_pair p (a, b)) (n ∷ []) (queue_at m.entries a b)) c.get_mut.follows.holds-at-none)))
-    c.start.ensures.ok
