@@ -15,6 +15,7 @@ use tp_names::{
 
 /// Puts the record's text in that version at the end of `out`, where it has one. Without memory
 /// `out` stays as it was.
+#[inline(always)]
 pub fn encode_log(
     alloc: Global,
     ver: LogVersion,
@@ -93,6 +94,7 @@ fn write_boot(alloc: Global, boot: u64, out: &mut Octets) -> Result<(), NoMemory
 }
 
 /// A code, a node, and a key.
+#[inline(always)]
 fn write_head(
     alloc: Global,
     code: u8,
@@ -109,6 +111,7 @@ fn write_head(
 }
 
 /// A code, a node, a key, and the superior's address where there is one.
+#[inline(always)]
 fn write_long_head(
     alloc: Global,
     code: u8,
@@ -216,6 +219,7 @@ fn write_superior(alloc: Global, superior: &Option<Addr>, out: &mut Octets) -> R
 }
 
 /// The children after their count, of which the lowest byte or the two lowest are written.
+#[inline(always)]
 fn write_children(
     alloc: Global,
     ver: LogVersion,

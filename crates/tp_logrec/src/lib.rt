@@ -26,6 +26,6 @@ pub use encode::encode_log;
 pub use order::follows;
 pub use order_check::OrderCheck;
 pub use owner::Owner;
-pub use record::{LogRec, LogVersion, push_copy};
+pub use record::{LogRec, LogVersion};
 pub use standing::Standing;
 pub use summary::brief;

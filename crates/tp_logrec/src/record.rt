@@ -110,6 +110,7 @@ impl LogRec {
     }
 
     /// An equal record.
+    #[inline(always)]
     pub fn copy(&self, alloc: Global) -> Result<LogRec, NoMemory>
         ensures { IfOk result (λ copy. copy ≡ self.now) }
     {
@@ -142,6 +143,7 @@ impl LogRec {
 }
 
 // The same children. None want no memory.
+#[inline(always)]
 fn copy_children(alloc: Global, children: &Children) -> Result<Children, NoMemory>
     ensures { IfOk result (λ copy. copy ≡ children.now) }
 {
@@ -230,7 +232,7 @@ fn copy_end(node: u16, key: &NodeKey, outcome: Outcome) -> Result<LogRec, NoMemo
 }
 
 /// Puts a copy of the record at the end; without memory the list stays as it was.
-pub fn push_copy(alloc: Global, list: &mut Vec<LogRec>, rec: &LogRec) -> Result<(), NoMemory>
+pub(crate) fn push_copy(alloc: Global, list: &mut Vec<LogRec>, rec: &LogRec) -> Result<(), NoMemory>
     ensures ok { OnOk result (list.new.items ≡ list.old.items ++ rec.now ∷ []) }
     ensures err { OnErr result (list.new.items ≡ list.old.items) }
 {

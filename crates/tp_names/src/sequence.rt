@@ -59,6 +59,7 @@ impl<T: Drop> Sequence<T> {
     }
 
     /// Puts a value at the end; without memory the list stays as it was.
+    #[inline(always)]
     pub fn push(&mut self, _alloc: Global, v: T) -> Result<(), NoMemory>
         ensures ok { IfOk result (λ _. self.new ≡ self.old ++ v ∷ []) }
         ensures err { OnErr result (self.new ≡ self.old) }

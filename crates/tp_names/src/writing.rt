@@ -35,6 +35,7 @@ pub fn write_long(alloc: Global, n: u64, out: &mut Octets) -> Result<(), NoMemor
 }
 
 /// A site's name, after its length.
+#[inline(always)]
 pub fn write_site(alloc: Global, site: &SiteName, out: &mut Octets) -> Result<(), NoMemory>
     ensures ok { OnOk result (out.new ≡ out.old ++ site_bytes site.now) }
     ensures err { OnErr result (Keeps out.old out.new) }
@@ -45,6 +46,7 @@ pub fn write_site(alloc: Global, site: &SiteName, out: &mut Octets) -> Result<()
 }
 
 /// A mark.
+#[inline(always)]
 pub fn write_mark(alloc: Global, mark: &Mark, out: &mut Octets) -> Result<(), NoMemory>
     ensures ok { OnOk result (out.new ≡ out.old ++ mark_bytes mark.now) }
     ensures err { OnErr result (Keeps out.old out.new) }
@@ -56,6 +58,7 @@ pub fn write_mark(alloc: Global, mark: &Mark, out: &mut Octets) -> Result<(), No
 }
 
 /// The identifier of a tree.
+#[inline(always)]
 pub fn write_aaid(alloc: Global, aaid: &Aaid, out: &mut Octets) -> Result<(), NoMemory>
     ensures ok { OnOk result (out.new ≡ out.old ++ aaid_bytes aaid.now) }
     ensures err { OnErr result (Keeps out.old out.new) }
@@ -147,6 +150,7 @@ pub fn write_key(alloc: Global, key: &NodeKey, out: &mut Octets) -> Result<(), N
 }
 
 /// How a transaction ends.
+#[inline(always)]
 pub fn write_outcome(alloc: Global, outcome: Outcome, out: &mut Octets) -> Result<(), NoMemory>
     ensures ok { OnOk result (out.new ≡ out.old ++ outcome_bytes outcome) }
     ensures err { OnErr result (Keeps out.old out.new) }

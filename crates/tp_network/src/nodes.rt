@@ -132,6 +132,7 @@ impl Nodes {
     }
 
     /// The node's summaries of trees after an entry.
+    #[inline(always)]
     #[tactic(auto, using(crate::proofs::ChangedNodes::changed_none, crate::proofs::ChangedNodes::changed_there))]
     pub fn change(&mut self, number: u16, change: &TreeChange) -> Result<(), NoMemory>
         ensures { OnOk result (AreChanged number change.now self.old self.new) }

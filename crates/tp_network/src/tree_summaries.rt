@@ -78,6 +78,7 @@ impl TreeSummaries {
     }
 
     // The summary in that tree after an entry.
+    #[inline(always)]
     fn change_in(
         &mut self,
         tree: &Aaid,
@@ -146,6 +147,7 @@ impl TreeSummaries {
     }
 
     /// The summaries after an entry, which speaks of at most three trees, mostly one.
+    #[inline(always)]
     pub fn change(&mut self, change: &TreeChange) -> Result<(), NoMemory>
         ensures { OnOk result ((t : AaidValue) → summary_at self.new t ≡ summary_after t change.now (summary_at self.old t)) }
     {

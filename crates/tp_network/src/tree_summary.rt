@@ -139,6 +139,7 @@ impl TreeSummary {
     }
 
     // What it is after an entry, of a tree that is known to be the current one or not before the entry and after it.
+    #[inline(always)]
     pub(crate) fn after_in(
         self,
         tree: &Aaid,

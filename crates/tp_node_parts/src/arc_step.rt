@@ -45,6 +45,7 @@ fn is_arc_of(branch: &Branch, tie: &Tie) -> bool
 }
 
 /// A deferred grant is given on the arc at a commitment.
+#[inline(always)]
 pub fn is_granting(branch: &Branch, tie: &Tie) -> bool
     ensures { result ≡ is_granting branch.now (arc_of tie.now) }
 {
@@ -57,6 +58,7 @@ pub fn is_granting(branch: &Branch, tie: &Tie) -> bool
 
 impl ArcStep {
     // Of an arc of the transaction.
+    #[inline(always)]
     fn touch(self, branch: &Branch, tie: &Tie) -> Dialogue
         ensures { result ≡ record tie.now.dialogue { dialogue = touched self tie.now.dialogue.side branch.now (arc_of tie.now) } }
     {
@@ -81,6 +83,7 @@ impl ArcStep {
     }
 
     // Of one arc, where it is the transaction's.
+    #[inline(always)]
     fn take_one(self, branch: &Branch, tie: &mut Tie)
         ensures { tie.new ≡ stepped_tie self branch.now tie.old }
     {

@@ -54,6 +54,7 @@ impl Arcs {
     }
 
     /// Becomes equal to those, in the memory that they have where that is enough. Without memory they stay what they were.
+    #[inline(always)]
     pub(crate) fn copy_from(&mut self, other: &Arcs) -> Result<(), NoMemory>
         ensures copy { OnOk result (self.new ≡ other.now) }
         ensures same { OnErr result (self.new ≡ self.old) }
@@ -103,6 +104,7 @@ impl Arcs {
     }
 
     /// A list of the arcs, in order.
+    #[inline(always)]
     pub(crate) fn list(&self, alloc: Global) -> Result<Vec<Tie>, NoMemory>
         ensures { IfOk result (λ ties. map arc_of ties.items ≡ self.now.arcs) }
     {
@@ -233,6 +235,7 @@ impl Arcs {
     }
 
     /// What a passage of the transaction does to the arcs, to each in place.
+    #[inline(always)]
     #[tactic(auto, using(crate::proofs::Steps::stepped_sided, crate::proofs::Linked::linked_stepped, crate::proofs::Steps::stepped_all))]
     pub(crate) fn step(&mut self, step: ArcStep, branch: &Branch)
         ensures { self.new ≡ record self.old { arcs = stepped_arcs step self.old.superior branch.now self.old.arcs } }

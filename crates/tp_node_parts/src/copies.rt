@@ -9,6 +9,7 @@ use tp_names::{Aaid, BranchId, Mark, NoMemory, Octets};
 use tp_records::{DialogueRecord, Holder, Indication, PeerRecord};
 
 /// Of an indication.
+#[inline(always)]
 pub fn indication(alloc: Global, indication: &Indication) -> Result<Indication, NoMemory>
     ensures { IfOk result (λ copy. copy ≡ indication.now) }
 {
@@ -63,6 +64,7 @@ fn begin_transaction(peer: u16, aaid: &Aaid) -> Indication
 }
 
 /// Of a record on an association.
+#[inline(always)]
 pub fn dialogue(alloc: Global, dialogue: &DialogueRecord) -> Result<DialogueRecord, NoMemory>
     ensures { IfOk result (λ copy. copy ≡ dialogue.now) }
 {
@@ -112,6 +114,7 @@ fn begin(aaid: &Aaid, branch: &BranchId, holder: Holder) -> DialogueRecord
 }
 
 /// Of a record between nodes.
+#[inline(always)]
 pub fn peer(alloc: Global, peer: &PeerRecord) -> Result<PeerRecord, NoMemory>
     ensures { IfOk result (λ copy. copy ≡ peer.now) }
 {

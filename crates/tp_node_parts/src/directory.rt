@@ -46,6 +46,7 @@ impl Directory {
     }
 
     /// The place where the arc with that peer is looked for first; the one after all that are known where it is not known.
+    #[inline(always)]
     pub(crate) fn of(&self, peer: u16) -> usize
         ensures { result ≡ place_in self.now peer }
     {

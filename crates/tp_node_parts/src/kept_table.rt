@@ -124,6 +124,7 @@ impl KeptTable {
     }
 
     /// The one with that key.
+    #[inline(always)]
     pub fn find(&self, key: &NodeKey) -> Option<&Kept>
         ensures { option_copied result ≡ find_kept self.now key.now }
     {
@@ -167,6 +168,7 @@ impl KeptTable {
     }
 
     /// A change that waits is carried out where nobody else has them and there is memory. They are the same.
+    #[inline(always)]
     pub fn settle(&mut self, alloc: Global)
         ensures { self.new ≡ self.old }
     {

@@ -53,6 +53,7 @@ impl Outs {
     }
 
     /// Puts an output at the end.
+    #[inline(always)]
     pub fn push(&mut self, out: Out) -> Result<(), NoMemory>
         ensures { OnOk result (self.new ≡ self.old ++ out_of out ∷ []) }
     {
@@ -72,6 +73,7 @@ impl Outs {
     }
 
     /// An indication to the user.
+    #[inline(always)]
     pub fn tell(&mut self, indication: Indication) -> Result<(), NoMemory>
         ensures { OnOk result (self.new ≡ self.old ++ Tell indication ∷ []) }
     {
@@ -90,6 +92,7 @@ impl Outs {
     }
 
     /// A record on an association.
+    #[inline(always)]
     pub fn carry(&mut self, next: &Next, rec: DialogueRecord) -> Result<(), NoMemory>
         ensures { OnOk result (self.new ≡ self.old ++ outs_with (Some next.now) rec) }
     {

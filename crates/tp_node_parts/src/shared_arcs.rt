@@ -71,6 +71,7 @@ impl SharedArcs {
     }
 
     /// Becomes equal to those, and shares them where they are shared. Without memory they stay what they were.
+    #[inline(always)]
     pub fn copy_from(&mut self, other: &SharedArcs) -> Result<(), NoMemory>
         ensures copy { OnOk result (self.new ≡ other.now) }
         ensures same { OnErr result (self.new ≡ self.old) }
@@ -135,6 +136,7 @@ impl SharedArcs {
     }
 
     /// The arc with that peer, where it stands.
+    #[inline(always)]
     pub fn get(&self, peer: u16) -> Option<&Tie>
         ensures arc { option_map arc_of (option_copied result) ≡ find_arc self.now.arcs peer }
         ensures side { IfSome result (λ t. t.now.dialogue.side ≡ side_with self.now.superior peer) }
@@ -144,6 +146,7 @@ impl SharedArcs {
     }
 
     /// The arc with that peer, where it stands: it is sought at that place among the subordinates' first.
+    #[inline(always)]
     #[tactic(auto, using(crate::proofs::Shares::found_in))]
     pub fn near(&self, place: usize, peer: u16) -> Option<&Tie>
         ensures arc { option_map arc_of (option_copied result) ≡ find_arc self.now.arcs peer }
@@ -160,6 +163,7 @@ impl SharedArcs {
     }
 
     /// A list of the arcs, in order.
+    #[inline(always)]
     pub fn list(&self, alloc: Global) -> Result<Vec<Tie>, NoMemory>
         ensures { IfOk result (λ ties. map arc_of ties.items ≡ self.now.arcs) }
     {
@@ -299,6 +303,7 @@ impl SharedArcs {
 
     /// The record with that pair and number is taken on the arc with that peer, where there is one, and ends its rest where
     /// it wakes it.
+    #[inline(always)]
     #[tactic(auto, using(crate::proofs::Takes::none_taken))]
     pub fn take(&mut self, peer: u16, x: Mark, y: Mark, seq: u64, wakes: bool)
         requires { dropped_by (link_with self.old.arcs peer) x y seq ≡ None }
@@ -382,6 +387,7 @@ impl SharedArcs {
 
     /// Numbers the next record that goes out on the arc with that peer, where it is live. Where no number is left, nothing
     /// changes.
+    #[inline(always)]
     #[tactic(auto, using(crate::proofs::Sides::carried_none, crate::proofs::Sides::carried_next, crate::proofs::Linked::fits_sent))]
     pub fn number_next(&mut self, peer: u16) -> Result<Option<Next>, NumbersSpent>
         ensures arcs { (rec : RecordValue) → OnOk result (self.new ≡ record self.old { arcs = (carried self.old.arcs peer rec).0 }) }

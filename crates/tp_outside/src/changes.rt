@@ -53,6 +53,7 @@ impl Changes {
     }
 
     // Makes room for a call, and keeps the bytes that it is to write over or cut off.
+    #[inline(always)]
     fn keep(&mut self, lost: &[u8]) -> Result<(), AllocError>
         ensures items { self.new.items.items ≡ self.old.items.items }
         ensures room { OnOk result (vec_len self.new.items < vec_capacity self.new.items) }
@@ -77,6 +78,7 @@ impl Changes {
     }
 
     /// A sync was made.
+    #[inline(always)]
     pub fn sync(&mut self) -> Result<(), AllocError>
         ensures ok { OnOk result ((now : List ℕ) → story_after now self.new ≡ Synced (story_after now self.old)) }
         ensures err { OnErr result ((now : List ℕ) → story_after now self.new ≡ story_after now self.old) }
@@ -135,6 +137,7 @@ fn resize(bytes: &mut Vec<u8>, len: usize) -> Result<(), AllocError>
 
 /// Writes a piece over what stands there, and past the end. Room for the record goes first, so that a write that is
 /// made is told of.
+#[inline(always)]
 pub(crate) fn write(
     bytes: &mut Vec<u8>,
     changes: &mut Changes,

@@ -99,6 +99,7 @@ impl MemDisk {
     }
 
     /// A write, with what came of it.
+    #[inline(always)]
     pub(crate) fn attempt_write(&mut self, at: u64, piece: &[u8]) -> Attempt
         ensures ends { DiskWrites at piece.now (recorded self.old) result (recorded self.new) }
         ensures kept { (recorded self.old).faults ≤ (recorded self.new).faults }
@@ -120,6 +121,7 @@ impl MemDisk {
     }
 
     /// A sync, with what came of it.
+    #[inline(always)]
     pub(crate) fn attempt_sync(&mut self) -> Attempt
         ensures ends { DiskSyncs (recorded self.old) result (recorded self.new) }
         ensures kept { (recorded self.old).faults ≤ (recorded self.new).faults }

@@ -34,6 +34,7 @@ pub fn write_texts(alloc: Global, lines: &OutLines, out: &mut Octets) -> Result<
     written
 }
 
+#[inline(always)]
 fn append_texts(alloc: Global, lines: &OutLines, out: &mut Octets) -> Result<(), NoMemory>
     ensures ok { OnOk result (out.new ≡ out.old ++ out_texts lines.now) }
     ensures err { OnErr result (Keeps out.old out.new) }

@@ -23,6 +23,7 @@ static PAIRS: [u8; 200] =
     *b"00010203040506070809101112131415161718192021222324252627282930313233343536373839404142434445464748495051525354555657585960616263646566676869707172737475767778798081828384858687888990919293949596979899";
 
 /// A number in decimal.
+#[inline(always)]
 #[tactic(auto, using(crate::proofs::KitText::decimal_same))]
 pub(crate) fn write_decimal(alloc: Global, n: u64, out: &mut Octets) -> Result<(), NoMemory>
     ensures ok { OnOk result (out.new ≡ out.old ++ decimal n) }
@@ -160,6 +161,7 @@ pub(crate) fn write_mark_behind_dot(
 }
 
 /// Two numbers in decimal, each behind the mark: where both have one digit, all at once.
+#[inline(always)]
 #[tactic(auto, using(crate::proofs::KitText::decimal_one))]
 pub(crate) fn write_two_behind(
     alloc: Global,

@@ -175,6 +175,7 @@ fn read_action_of(alloc: Global, kind: ActionWord, rest: &[u8]) -> Result<Action
 }
 
 // A node, and a request of its user.
+#[inline(always)]
 fn read_do(alloc: Global, bytes: &[u8]) -> Result<(u16, LineRequest), LineFault>
     ensures { Reads (do_from pair (words_in bytes.now)) result }
 {

@@ -10,6 +10,7 @@ use tp_model::{Action, Line, LineRequest};
 use tp_names::{NoMemory, Octets, Outcome, SiteName};
 
 /// Puts the line's text at the end of `out`, without an end. Without memory `out` stays as it was.
+#[inline(always)]
 pub fn write_line(alloc: Global, l: &Line, out: &mut Octets) -> Result<(), NoMemory>
     ensures ok { OnOk result (out.new ≡ out.old ++ line_text l.now) }
     ensures err { OnErr result (out.new ≡ out.old) }
@@ -22,6 +23,7 @@ pub fn write_line(alloc: Global, l: &Line, out: &mut Octets) -> Result<(), NoMem
     written
 }
 
+#[inline(always)]
 fn append_line(alloc: Global, l: &Line, out: &mut Octets) -> Result<(), NoMemory>
     ensures ok { OnOk result (out.new ≡ out.old ++ words (line_words l.now)) }
     ensures err { OnErr result (Keeps out.old out.new) }
@@ -112,6 +114,7 @@ fn append_request(alloc: Global, r: &LineRequest, out: &mut Octets) -> Result<()
     }
 }
 
+#[inline(always)]
 fn append_do(
     alloc: Global,
     node: u16,

@@ -66,6 +66,7 @@ pub fn read_number(word: &[u8]) -> Result<u16, LineFault>
 }
 
 /// The number, where there is one word alone.
+#[inline(always)]
 pub fn one_number(rest: &[u8]) -> Result<u16, LineFault>
     ensures { result ≡ read_as (one_word same number (words_in rest.now)) }
 {

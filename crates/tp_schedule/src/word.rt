@@ -59,6 +59,7 @@ pub fn write_alone(alloc: Global, word: &str, out: &mut Octets) -> Result<(), No
 }
 
 /// A word, and one number.
+#[inline(always)]
 pub fn write_one(alloc: Global, word: &str, n: u16, out: &mut Octets) -> Result<(), NoMemory>
     ensures ok { OnOk result (out.new ≡ out.old ++ words (word.now ∷ decimal n ∷ [])) }
     ensures err { OnErr result (Keeps out.old out.new) }
@@ -102,6 +103,7 @@ pub fn write_three(
 }
 
 /// A word, and one long number.
+#[inline(always)]
 pub fn write_long(alloc: Global, word: &str, n: u64, out: &mut Octets) -> Result<(), NoMemory>
     ensures ok { OnOk result (out.new ≡ out.old ++ words (word.now ∷ decimal n ∷ [])) }
     ensures err { OnErr result (Keeps out.old out.new) }
@@ -127,6 +129,7 @@ pub fn write_site(
 }
 
 /// A word, and a report.
+#[inline(always)]
 pub fn write_reported(
     alloc: Global,
     word: &str,
@@ -142,6 +145,7 @@ pub fn write_reported(
 }
 
 /// A number, after a space.
+#[inline(always)]
 pub fn write_number(alloc: Global, n: u16, out: &mut Octets) -> Result<(), NoMemory>
     ensures ok { OnOk result (out.new ≡ out.old ++ (32 ∷ decimal n)) }
     ensures err { OnErr result (Keeps out.old out.new) }
@@ -166,6 +170,7 @@ pub fn write_long_number(alloc: Global, n: u64, out: &mut Octets) -> Result<(), 
 }
 
 /// An outcome, after a space.
+#[inline(always)]
 pub fn write_outcome(alloc: Global, outcome: Outcome, out: &mut Octets) -> Result<(), NoMemory>
     ensures ok { OnOk result (out.new ≡ out.old ++ (32 ∷ outcome_word outcome)) }
     ensures err { OnErr result (Keeps out.old out.new) }
@@ -177,6 +182,7 @@ pub fn write_outcome(alloc: Global, outcome: Outcome, out: &mut Octets) -> Resul
 }
 
 /// A report, after a space.
+#[inline(always)]
 pub fn write_report(alloc: Global, report: Report, out: &mut Octets) -> Result<(), NoMemory>
     ensures ok { OnOk result (out.new ≡ out.old ++ (32 ∷ report_word report)) }
     ensures err { OnErr result (Keeps out.old out.new) }
@@ -201,6 +207,7 @@ pub fn write_holder(alloc: Global, holder: Holder, out: &mut Octets) -> Result<(
 }
 
 /// The identifier of a tree, after a space.
+#[inline(always)]
 pub fn write_aaid(alloc: Global, aaid: &Aaid, out: &mut Octets) -> Result<(), NoMemory>
     ensures ok { OnOk result (out.new ≡ out.old ++ (32 ∷ aaid_word aaid.now)) }
     ensures err { OnErr result (Keeps out.old out.new) }
@@ -263,6 +270,7 @@ fn put(alloc: Global, text: &str, out: &mut Octets) -> Result<(), NoMemory>
 }
 
 // A site and a mark with a dot between them.
+#[inline(always)]
 fn write_marked(
     alloc: Global,
     site: &SiteName,

@@ -15,6 +15,7 @@ use tp_logrec::{LogRec, LogVersion};
 use tp_names::{Addr, BranchId, Children, NodeKey, Outcome, Report};
 
 /// A record that is shaped as a text in a log of that version asks has one.
+#[inline(always)]
 pub fn shaped_has_text(version: LogVersion, rec: &LogRec)
     requires { IsShaped version rec.now }
     ensures { HasText (record_grammar version) rec.now }
@@ -23,6 +24,7 @@ pub fn shaped_has_text(version: LogVersion, rec: &LogRec)
 }
 
 /// Kind by kind.
+#[inline(always)]
 fn shaped_kind_has_text(version: LogVersion, rec: &LogRec)
     requires { IsShaped version rec.now }
     ensures { HasRecordText version rec.now }

@@ -47,6 +47,7 @@ impl World {
     }
 
     /// An event of that node, where the node is there.
+    #[inline(always)]
     pub(crate) fn local(
         &mut self,
         alloc: Global,
@@ -86,6 +87,7 @@ impl World {
     }
 
     /// A frame is handed over, where it and its node are there; it is shown first.
+    #[inline(always)]
     pub(crate) fn deliver(
         &mut self,
         alloc: Global,
@@ -108,6 +110,7 @@ impl World {
     }
 
     // The entry stands in the node's summaries, and a tree that it starts is known.
+    #[inline(always)]
     pub(crate) fn enter(&mut self, node: u16, change: &TreeChange) -> Result<(), NoMemory>
         ensures { OnOk result (IsEntered node change.now self.old self.new) }
     {

@@ -47,6 +47,7 @@ impl World {
     }
 
     /// All that a request of that node's user names is there.
+    #[inline(always)]
     pub fn is_named(&self, node: u16, request: &LineRequest) -> bool
         ensures { (w : WorldValue) → Mirrors w self.now → result ≡ is_named w (Action.Do node request.now) }
     {
