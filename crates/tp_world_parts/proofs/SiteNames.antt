@@ -6,16 +6,6 @@ use Rattle.tp_names.proofs.Sames.{name_same, name_self}
 use Rattle.tp_world_parts.specs.Sites.{find_site_slot, place_of_site}
 use Rattle.tp_world_parts.specs.declared.site_slot.SiteSlot.{SiteSlot}
 
--- ---- names
-
--- what equal names have, and these have not
-pub unlike : (a s : List ℕ) (b : Bool) → (a ≡ s → b ≡ true) → b ≡ false → is_name a s ≡ false
-unlike a s b h e = go (is_name a s) refl
-  where
-    go : (c : Bool) → is_name a s ≡ c → is_name a s ≡ false
-    go true i = absurd (let there = h (name_same a s i) in cc (there, e))
-    go false i = i
-
 -- ---- at the place of the name
 
 pub slot_found : (xs : List SiteSlot) (s : List ℕ) (d : SiteSlot) → place_of_site xs s < length xs → find_site_slot xs s ≡ Some (slice_index_or xs (place_of_site xs s) d)

@@ -1,6 +1,7 @@
 //! What lines show of records.
 ghost use Rattle.std.specs.Prelude.{◌≡◌, ◌++◌, ◌∷◌, [], Some, IfOk, OnOk};
 ghost use Rattle.tp_model.specs.declared.out_line.OutLine.{OutLine};
+ghost use Rattle.tp_model.specs.declared.out_line.SentWords.{SentWords};
 ghost use Rattle.tp_model.specs.Happenings.{log_shown, sent_shown, refused_lines};
 ghost use Rattle.tp_model.specs.Lines.{phase_shown, state_line};
 ghost use Rattle.tp_model.specs.Refusal.{number_in};
@@ -14,45 +15,55 @@ use tp_logrec::LogRec;
 use tp_model::{LogWords, NodeNumbers, OutLine, OutLines, Phase, PhaseWord, Refusal, SentWords};
 use tp_names::{Addr, NoMemory, SiteName};
 use tp_node_parts::copies;
-use tp_records::{Indication, PeerRecord};
+use tp_records::{DialogueRecord, Indication, PeerRecord};
 use tp_site::NodeState;
 
-/// A record of a log.
-pub(crate) fn log_shown(rec: &LogRec) -> LogWords
-    ensures { result ≡ log_shown rec.now }
+/// What is shown of a record of a log is put there.
+pub(crate) fn put_shown(rec: &LogRec, words: &mut Option<LogWords>)
+    ensures { words.new ≡ Some (log_shown rec.now) }
 {
     match rec {
-        LogRec::Boot { boot } => LogWords::Boot { boot: *boot },
-        LogRec::Ready { node, key, .. } => LogWords::Ready {
-            node: *node,
-            key: *key,
-        },
-        LogRec::Heuristic { node, key, outcome } => LogWords::Heuristic {
-            node: *node,
-            key: *key,
-            outcome: *outcome,
-        },
-        LogRec::Commit { node, key, .. } => LogWords::Commit {
-            node: *node,
-            key: *key,
-        },
+        LogRec::Boot { boot } => *words = Some(LogWords::Boot { boot: *boot }),
+        LogRec::Ready { node, key, .. } => {
+            *words = Some(LogWords::Ready {
+                node: *node,
+                key: *key,
+            });
+        }
+        LogRec::Heuristic { node, key, outcome } => {
+            *words = Some(LogWords::Heuristic {
+                node: *node,
+                key: *key,
+                outcome: *outcome,
+            });
+        }
+        LogRec::Commit { node, key, .. } => {
+            *words = Some(LogWords::Commit {
+                node: *node,
+                key: *key,
+            });
+        }
         LogRec::Damage {
             node,
             key,
             side,
             report,
             ..
-        } => LogWords::Damage {
-            node: *node,
-            key: *key,
-            side: *side,
-            report: *report,
-        },
-        LogRec::End { node, key, outcome } => LogWords::End {
-            node: *node,
-            key: *key,
-            outcome: *outcome,
-        },
+        } => {
+            *words = Some(LogWords::Damage {
+                node: *node,
+                key: *key,
+                side: *side,
+                report: *report,
+            });
+        }
+        LogRec::End { node, key, outcome } => {
+            *words = Some(LogWords::End {
+                node: *node,
+                key: *key,
+                outcome: *outcome,
+            });
+        }
     }
 }
 
@@ -108,8 +119,13 @@ pub fn show_told(
 ) -> Result<(), NoMemory>
     ensures { OnOk result (lines.new ≡ lines.old ++ OutLine.Tell node indication.now ∷ []) }
 {
-    let indication = copies::indication(alloc, indication)?;
-    lines.push(alloc, OutLine::Tell { node, indication })
+    lines.push(
+        alloc,
+        OutLine::Tell {
+            node,
+            indication: copies::indication(alloc, indication)?,
+        },
+    )
 }
 
 /// A record is shown that is sent from the one node to the other as that frame.
@@ -123,14 +139,60 @@ pub fn show_sent(
 ) -> Result<(), NoMemory>
     ensures { OnOk result (lines.new ≡ lines.old ++ OutLine.Send frame from to (sent_shown rec.now) ∷ []) }
 {
-    let rec = sent_shown(alloc, rec)?;
-    let line = OutLine::Send {
-        frame,
-        from,
-        to,
-        rec,
-    };
-    lines.push(alloc, line)
+    match rec {
+        PeerRecord::OnAssoc { seq, rec, .. } => {
+            show_said(alloc, frame, from, to, *seq, rec, lines)
+        }
+        _ => show_other(alloc, frame, from, to, rec, lines),
+    }
+}
+
+// A record of a dialogue is shown.
+fn show_said(
+    alloc: Global,
+    frame: u16,
+    from: u16,
+    to: u16,
+    seq: u64,
+    rec: &DialogueRecord,
+    lines: &mut OutLines,
+) -> Result<(), NoMemory>
+    ensures { OnOk result (lines.new ≡ lines.old ++ OutLine.Send frame from to (SentWords.OnAssoc seq rec.now) ∷ []) }
+{
+    lines.push(
+        alloc,
+        OutLine::Send {
+            frame,
+            from,
+            to,
+            rec: SentWords::OnAssoc {
+                seq,
+                rec: copies::dialogue(alloc, rec)?,
+            },
+        },
+    )
+}
+
+// Any record is shown.
+fn show_other(
+    alloc: Global,
+    frame: u16,
+    from: u16,
+    to: u16,
+    rec: &PeerRecord,
+    lines: &mut OutLines,
+) -> Result<(), NoMemory>
+    ensures { OnOk result (lines.new ≡ lines.old ++ OutLine.Send frame from to (sent_shown rec.now) ∷ []) }
+{
+    lines.push(
+        alloc,
+        OutLine::Send {
+            frame,
+            from,
+            to,
+            rec: sent_shown(alloc, rec)?,
+        },
+    )
 }
 
 /// A refusal: 21 and 22 are dropped.
@@ -221,11 +283,20 @@ pub fn show_record(
 {
     match rec {
         None => Ok(()),
-        Some(rec) => {
-            let site = at.site;
-            lines.push(alloc, OutLine::Log { site, rec: *rec })
-        }
+        Some(rec) => show_forced(alloc, at.site, rec, lines),
     }
+}
+
+// A record that was forced is shown.
+fn show_forced(
+    alloc: Global,
+    site: SiteName,
+    rec: &LogWords,
+    lines: &mut OutLines,
+) -> Result<(), NoMemory>
+    ensures { OnOk result (lines.new ≡ lines.old ++ OutLine.Log site rec.now ∷ []) }
+{
+    lines.push(alloc, OutLine::Log { site, rec: *rec })
 }
 
 /// A refusal is shown.

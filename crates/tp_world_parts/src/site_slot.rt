@@ -19,7 +19,7 @@ ghost use Rattle.tp_world_parts.specs.Restarts.{Opens, Reopens, IsStartable, Sta
 ghost use Rattle.tp_world_parts.specs.Slots.{blank_file, IsBlank, IsFresh, shown_behind, Declares, SlotPlays};
 
 use crate::fault::WorldFault;
-use crate::shown::log_shown;
+use crate::shown::put_shown;
 use std::alloc::Global;
 use tp_journal::{Journal, StartFault as OpenFault, format};
 use tp_logrec::LogRec;
@@ -61,12 +61,12 @@ fn is_unchanged(event: &NodeEvent<'_>) -> bool
 }
 
 // What is shown of the record after the first so many, where there is one.
-fn forced(records: &[LogRec], count: usize) -> Option<LogWords>
-    ensures { result ≡ shown_behind records.now count }
+fn put_forced(records: &[LogRec], count: usize, words: &mut Option<LogWords>)
+    ensures { words.new ≡ shown_behind records.now count }
 {
     match records.get(count) {
-        Some(rec) => Some(log_shown(rec)),
-        None => None,
+        Some(rec) => put_shown(rec, words),
+        None => *words = None,
     }
 }
 
@@ -202,13 +202,20 @@ impl SiteSlot {
         self.site.log().list()
     }
 
+    // The tree of that node's current transaction is put there.
+    fn put_tree(&self, node: u16, tree: &mut Option<NodeTree>)
+        ensures { tree.new ≡ tree_in (known_at self.now.site node) }
+    {
+        *tree = self.site.tree(node);
+    }
+
     // What an event of that node has shown of trees, before which the log had so many records; the tree before it stays as it is.
     fn fill(&self, node: u16, leaves: bool, count: usize, change: &mut TreeChange)
         ensures { change.new ≡ record { before = change.old.before; after = tree_in (known_at self.now.site node); leaves = leaves; rec = shown_behind self.now.site.keeper.list count } }
     {
-        change.after = self.tree(node);
+        self.put_tree(node, &mut change.after);
         change.leaves = leaves;
-        change.rec = forced(self.records(), count);
+        put_forced(self.records(), count, &mut change.rec);
     }
 
     /// An event of the node of that number. What it shows of trees is told beside the answer, where it has happened.
@@ -221,7 +228,7 @@ impl SiteSlot {
     ) -> Result<Answer, WorldFault>
         ensures { SlotPlays self.old node (event_of event.now) (result_told result change.new) self.new }
     {
-        change.before = self.tree(node);
+        self.put_tree(node, &mut change.before);
         let count = self.records().len();
         match self.site.play(alloc, node, event) {
             Ok(played) => {

@@ -1,8 +1,7 @@
 //! The sites of a world, found by their names.
-ghost use Rattle.std.specs.Prelude.{◌≡◌, ◌<◌, length, IfSome, IfOk, Some, None, true, is_some};
+ghost use Rattle.std.specs.Prelude.{◌≡◌, ◌<◌, length, IfSome, IfOk, Some, true, is_some};
 ghost use Rattle.std.specs.List.{AllByRecursion};
 ghost use Rattle.std.specs.Option.{option_map};
-ghost use Rattle.tp_names.specs.Same.{is_name};
 ghost use Rattle.tp_model.specs.History.{digest, state};
 ghost use Rattle.tp_model.specs.Parts.{Arrive};
 ghost use Rattle.tp_model.specs.World.{World as WorldValue, Node as NodeValue, addr_of, find_node, is_site, number_of};
@@ -22,28 +21,13 @@ use tp_names::{Addr, NoMemory, SiteName};
 use tp_network::{Frame, TreeChange};
 use tp_site::{NodeEvent, NodeState};
 
-// As many bytes, and the last of them the same.
-fn end_alike(a: &[u8], b: &[u8]) -> bool
-    ensures { a.now ≡ b.now → result ≡ true }
-{
-    a.len() == b.len() && (a.is_empty() || a[a.len() - 1] == b[b.len() - 1])
-}
-
-// The same name. The last bytes are compared first: the names of sites mostly differ in them.
-#[tactic(auto, using(crate::proofs::SiteNames::unlike))]
-fn is_same(a: &SiteName, b: &SiteName) -> bool
-    ensures { result ≡ is_name a.now b.now }
-{
-    end_alike(a.bytes(), b.bytes()) && is_name(a, b)
-}
-
 // The place of the site of that name; after all where there is none.
 #[tactic(auto, using(crate::proofs::SiteNames::place_next, crate::proofs::SiteNames::place_here))]
 fn place_of(sites: &[SiteSlot], name: &SiteName) -> usize
     ensures { result ≡ place_of_site sites.now name.now }
 {
     for i in 0..sites.len() {
-        if is_same(&sites[i].name(), name) {
+        if is_name(&sites[i].name(), name) {
             return i;
         }
     }

@@ -23,6 +23,6 @@ returns-in-Ok c =
       move = move;
       played = c.in-Ok.ensures.1;
       change = c.fill.ensures
-          ∙ step_made c.tree-change.result (tree_in (known_at old c.args.node)) (tree_in (known_at new c.args.node)) (tree_in (known_at new c.args.node)) c.is_unchanged.result (is_unchanged (event_of c.args.event.now))
-          (shown_behind new.keeper.list count) (option_map log_shown move.rec) c.tree-change.ensures refl c.is_unchanged.ensures rec;
+          ∙ step_made c.put_tree.new.tree (tree_in (known_at old c.args.node)) (tree_in (known_at new c.args.node)) (tree_in (known_at new c.args.node)) c.is_unchanged.result (is_unchanged (event_of c.args.event.now))
+          (shown_behind new.keeper.list count) (option_map log_shown move.rec) c.put_tree.ensures refl c.is_unchanged.ensures rec;
     }
