@@ -15,8 +15,9 @@ returns-in_default c =
     let e = c.args.event.now in
     let v = c.self.inside in
     let drafted : Node → Draft = λ w. record { who = w.who; move = record { rec = v.rec; outs = v.outs; next = w.digest } } in
-    let is : drafted c.take_seen.new.self ≡ without_current a = ap drafted c.take_seen.ensures.node ∙ ap without_current c.self.view_is in
-    let none : option_map (seen a.who a.move.next.arcs) a.move.next.current ≡ None = subst (λ (x : Draft). option_map (seen x.who x.move.next.arcs) x.move.next.current ≡ None) c.self.view_is (sym c.take_seen.ensures.branch ∙ c.in_default.is) in
+    let from : drafted c.deref_mut.result.now ≡ c.args.self.now = ap drafted c.deref_mut.ensures.value ∙ c.self.view_is in
+    let is : drafted c.take_seen.new.self ≡ without_current a = ap drafted c.take_seen.ensures.node ∙ ap without_current from in
+    let none : option_map (seen a.who a.move.next.arcs) a.move.next.current ≡ None = subst (λ (x : Draft). option_map (seen x.who x.move.next.arcs) x.move.next.current ≡ None) from (sym c.take_seen.ensures.branch ∙ c.in_default.is) in
     none_taken a (drafted c.take_seen.new.self) none is ∙ sym (perform_none a) ∙ sym (ap (λ (m : Move). record a { move = followed a.move (λ _. m) }) (transacts_none a e none))
 
 pub returns-in-Err : goal.returns-in-Err
@@ -25,9 +26,10 @@ returns-in-Err c =
     let e = c.args.event.now in
     let v = c.self.inside in
     let drafted : Node → Draft = λ w. record { who = w.who; move = record { rec = v.rec; outs = v.outs; next = w.digest } } in
-    let is : drafted c.take_seen.new.self ≡ without_current a = ap drafted c.take_seen.ensures.node ∙ ap without_current c.self.view_is in
+    let from : drafted c.deref_mut.result.now ≡ c.args.self.now = ap drafted c.deref_mut.ensures.value ∙ c.self.view_is in
+    let is : drafted c.take_seen.new.self ≡ without_current a = ap drafted c.take_seen.ensures.node ∙ ap without_current from in
     let t = c.in-Some.branch in
-    let there : option_map (seen a.who a.move.next.arcs) a.move.next.current ≡ Some t = subst (λ (x : Draft). option_map (seen x.who x.move.next.arcs) x.move.next.current ≡ Some t) c.self.view_is (sym c.take_seen.ensures.branch ∙ c.in-Some.is) in
+    let there : option_map (seen a.who a.move.next.arcs) a.move.next.current ≡ Some t = subst (λ (x : Draft). option_map (seen x.who x.move.next.arcs) x.move.next.current ≡ Some t) from (sym c.take_seen.ensures.branch ∙ c.in-Some.is) in
     transact_halts c.in-Err.halt a c.take_turn.new.self e t there (taken_out (Err c.in-Err.halt) a (drafted c.take_seen.new.self) c.take_turn.new.self t e is (c.in-Err.ensures {u = tt}).turn)
 
 pub returns-in-Ok-false : goal.returns-in-Ok-false
@@ -36,9 +38,10 @@ returns-in-Ok-false c =
     let e = c.args.event.now in
     let v = c.self.inside in
     let drafted : Node → Draft = λ w. record { who = w.who; move = record { rec = v.rec; outs = v.outs; next = w.digest } } in
-    let is : drafted c.take_seen.new.self ≡ without_current a = ap drafted c.take_seen.ensures.node ∙ ap without_current c.self.view_is in
+    let from : drafted c.deref_mut.result.now ≡ c.args.self.now = ap drafted c.deref_mut.ensures.value ∙ c.self.view_is in
+    let is : drafted c.take_seen.new.self ≡ without_current a = ap drafted c.take_seen.ensures.node ∙ ap without_current from in
     let t = c.in-Some.branch in
-    let there : option_map (seen a.who a.move.next.arcs) a.move.next.current ≡ Some t = subst (λ (x : Draft). option_map (seen x.who x.move.next.arcs) x.move.next.current ≡ Some t) c.self.view_is (sym c.take_seen.ensures.branch ∙ c.in-Some.is) in
+    let there : option_map (seen a.who a.move.next.arcs) a.move.next.current ≡ Some t = subst (λ (x : Draft). option_map (seen x.who x.move.next.arcs) x.move.next.current ≡ Some t) from (sym c.take_seen.ensures.branch ∙ c.in-Some.is) in
     let on : is_over (passing t e) ≡ false = sym (c.in-Ok-false.ensures {u = tt}).over ∙ c.in-Ok-false.field-0-test in
     taken_out (Ok tt) a (drafted c.take_seen.new.self) c.take_turn.new.self t e is (c.in-Ok-false.ensures {u = tt}).turn
     ∙ sym (ap (λ (m : Move). record a { move = followed a.move (λ _. m) }) (transacts a e t there ∙ ap (λ (w : Bool). cond w (followed (turning_by t e a.who a.move.next) (try_start a.who)) (turning_by t e a.who a.move.next)) on))
@@ -49,9 +52,10 @@ returns-in-Ok-true c =
     let e = c.args.event.now in
     let v = c.self.inside in
     let drafted : Node → Draft = λ w. record { who = w.who; move = record { rec = v.rec; outs = v.outs; next = w.digest } } in
-    let is : drafted c.take_seen.new.self ≡ without_current a = ap drafted c.take_seen.ensures.node ∙ ap without_current c.self.view_is in
+    let from : drafted c.deref_mut.result.now ≡ c.args.self.now = ap drafted c.deref_mut.ensures.value ∙ c.self.view_is in
+    let is : drafted c.take_seen.new.self ≡ without_current a = ap drafted c.take_seen.ensures.node ∙ ap without_current from in
     let t = c.in-Some.branch in
-    let there : option_map (seen a.who a.move.next.arcs) a.move.next.current ≡ Some t = subst (λ (x : Draft). option_map (seen x.who x.move.next.arcs) x.move.next.current ≡ Some t) c.self.view_is (sym c.take_seen.ensures.branch ∙ c.in-Some.is) in
+    let there : option_map (seen a.who a.move.next.arcs) a.move.next.current ≡ Some t = subst (λ (x : Draft). option_map (seen x.who x.move.next.arcs) x.move.next.current ≡ Some t) from (sym c.take_seen.ensures.branch ∙ c.in-Some.is) in
     let over : is_over (passing t e) ≡ true = sym (c.in-Ok-true.ensures {u = tt}).over ∙ c.in-Ok-true.field-0-test in
     plays_then_at c.try_start.result a c.take_turn.new.self c.try_start.new.self (turning_by t e) try_start (λ who. transact who e)
     (taken_out (Ok tt) a (drafted c.take_seen.new.self) c.take_turn.new.self t e is (c.in-Ok-true.ensures {u = tt}).turn)
