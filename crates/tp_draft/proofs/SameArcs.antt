@@ -16,8 +16,7 @@ use Rattle.tp_commit.specs.Branch.{standing, begins}
 use Rattle.tp_model.specs.Node.{Move, move, followed, side_at, is_arc_of, is_arc_below, is_granting, without_deferral, entered, completed_arcs, left_arcs, grants, committed_dialogue, committed_arcs, perform_commit, played, Passage, Stays, Enters, Falls, Falls_at_once, Commits, Rolls_back, Leaves}
 use Rattle.tp_draft.specs.Draft.{Draft, goes_on}
 use Rattle.tp_draft.proofs.Members.{IsOnArcsOf, turned_on}
-use Rattle.tp_draft.proofs.Turns.{turning_same}
-use Rattle.tp_draft.specs.Passage.{entering, playing, settling, turning, passing, turning_by, played_outs, around_completion}
+use Rattle.tp_draft.specs.Passage.{entering, playing, recording, acting, passing, acting_by, played_outs, around_completion}
 
 arc_test : (t u : Transaction) → IsOnArcsOf t u → is_arc_of u ≡ is_arc_of t
 arc_test t u on = λ i a. is_under_at (on.key i) a.peer.node || on.rows a.peer.node i
@@ -84,14 +83,15 @@ entering_same t u on w who d = λ i. move [] (record d { arcs = entered_same t u
 playing_same : (t u : Transaction) → IsOnArcsOf t u → (w : Passage) (outs : List TxOut) (who : Who) (d : Digest) → playing u w outs who d ≡ playing t w outs who d
 playing_same t u on w outs who d = λ i. let p : List Arc × List Out = played_same t u on d w outs d.arcs i in move p.1 (record d { arcs = p.0 })
 
-turning_same_arcs : (t u n : Transaction) → IsOnArcsOf t u → (w : Passage) (s : Step) (who : Who) (d : Digest) → turning u w s n who d ≡ turning t w s n who d
-turning_same_arcs t u n on w s who d =
-    λ i. followed (followed (entering_same t u on w who d i) (λ e. playing_same t u on w s.outs who e i)) (settling s.rec n who)
+acting_same_arcs : (t u : Transaction) → IsOnArcsOf t u → (w : Passage) (s : Step) (who : Who) (d : Digest) → acting u w s who d ≡ acting t w s who d
+acting_same_arcs t u on w s who d =
+    λ i. followed (followed (entering_same t u on w who d i) (λ e. playing_same t u on w s.outs who e i)) (recording s.rec who)
 
 -- a turn by an event that begins no branch, played at what the transaction has become
-pub turned_alike : (a : Draft) (t u : Transaction) (e : TxEvent) (w : Passage) (s : Step) → begins e ≡ 0 → w ≡ passing t e → s ≡ step_of (transacted e t) → u ≡ standing (transacted e t).next
-    → goes_on a (turning u w s u) ≡ goes_on a (turning_by t e)
-turned_alike a t u e w s none passes asks leaves =
+pub acts_alike : (a : Draft) (t u : Transaction) (e : TxEvent) (w : Passage) (s : Step) → begins e ≡ 0 → w ≡ passing t e → s ≡ step_of (transacted e t) → u ≡ standing (transacted e t).next
+    → goes_on a (acting u w s) ≡ goes_on a (acting_by t e)
+acts_alike a t u e w s none passes asks leaves =
     let on : IsOnArcsOf t u = subst (IsOnArcsOf t) (sym leaves) (turned_on e t none) in
-    ap (λ (m : Move). record a { move = followed a.move (λ _. m) }) (turning_same_arcs t u u on w s a.who a.move.next)
-    ∙ turning_same a t u e w s passes asks leaves
+    ap (λ (m : Move). record a { move = followed a.move (λ _. m) }) (acting_same_arcs t u on w s a.who a.move.next)
+    ∙ ap (λ (x : Passage). goes_on a (acting t x s)) passes
+    ∙ ap (λ (x : Step). goes_on a (acting t (passing t e) x)) asks

@@ -16,9 +16,9 @@ use Rattle.tp_model.specs.Arcs.{performed}
 use Rattle.tp_node.specs.declared.halt.Halt.{Halt}
 use Rattle.tp_node_parts.specs.declared.arc_step.ArcStep.{ArcStep}
 use Rattle.tp_node.specs.declared.passage.Passage.{Passage}
-use Rattle.tp_draft.specs.Draft.{Draft, goes_on, Plays}
+use Rattle.tp_draft.specs.Draft.{Draft, with_current, goes_on, Plays}
 use Rattle.tp_node_parts.specs.ArcStep.{stepped_arcs}
-use Rattle.tp_draft.specs.Passage.{giving, completing, speaking, settling, turning, passing, turning_by, playing, said_then, place_of_completion, played_outs}
+use Rattle.tp_draft.specs.Passage.{giving, completing, speaking, recording, acting_by, turning, passing, turning_by, playing, said_then, place_of_completion, played_outs}
 use Rattle.tp_node.specs.Passage.{passage_of}
 use Rattle.tp_draft.proofs.Drafts.{plays_alike, plays_same_at, plays_halted_at, followed_silent, append_again}
 use Rattle.tp_node_parts.proofs.Steps.{done_arcs, rolled_arcs, gone_arcs}
@@ -90,8 +90,8 @@ speaks r a b c t w outs is p =
     ∙ sym (ap (λ (m : Move). record a { move = followed a.move (λ _. m) }) (followed_silent (record a.move.next { arcs = entered t (passage_of w) a.move.next.arcs }) (playing t (passage_of w) outs a.who))))
     p
 
-pub settling_rises : (r : Option LogRec) (n : Transaction) (who : Who) (d : Digest) → d.drawn ≤ (settling r n who d).next.drawn
-settling_rises r n who d = omega arith
+pub recording_rises : (r : Option LogRec) (who : Who) (d : Digest) → d.drawn ≤ (recording r who d).next.drawn
+recording_rises r who d = omega arith
 
 -- ---- a turn by an event
 
@@ -102,13 +102,18 @@ rows_stand rolls (r ∷ rs) = ap (λ l. r.branch ∷ l) (rows_stand rolls rs)
 pub remaining_stands : (t : Transaction) → remaining (standing t) ≡ remaining t
 remaining_stands t = ap (λ bs. cond (is_nil t.phase) None (Some (record (current_of t) { branches = bs }))) (rows_stand (is_rolling t.phase) t.rows)
 
-pub turning_same : (a : Draft) (t n : Transaction) (e : TxEvent) (w : PassageValue) (s : Step) → w ≡ passing t e → s ≡ step_of (transacted e t) → n ≡ standing (transacted e t).next
-    → goes_on a (turning t w s n) ≡ goes_on a (turning_by t e)
-turning_same a t n e w s is does leaves =
-    ap (λ (x : PassageValue). goes_on a (turning t x s n)) is
-    ∙ ap (λ (x : Step). goes_on a (turning t (passing t e) x n)) does
-    ∙ ap (λ (x : Transaction). goes_on a (turning t (passing t e) (step_of (transacted e t)) x)) leaves
-    ∙ ap (λ (o : Option Current). record a { move = followed a.move (λ d. followed (speaking t (passing t e) (transacted e t).outs a.who d) (λ d'. record { rec = (transacted e t).rec; outs = []; next = record d' { current = o; kept = kept_after (transacted e t).rec d'.kept } })) }) (remaining_stands (transacted e t).next)
+-- what a turn has said and logged, and then what the transaction has become
+pub settled_turn : (a b c : Draft) (t u : Transaction) (e : TxEvent) → b ≡ goes_on a (acting_by t e) → u ≡ standing (transacted e t).next → c ≡ with_current b (remaining u)
+    → c ≡ goes_on a (turning_by t e)
+settled_turn a b c t u e acts leaves is =
+    is
+    ∙ ap (λ (x : Draft). with_current x (remaining u)) acts
+    ∙ ap (with_current (goes_on a (acting_by t e))) (ap remaining leaves ∙ remaining_stands (transacted e t).next)
+
+-- where a turn halts, it halts before the transaction has become anything
+pub halted_turn : (x : Halt) (a b : Draft) (t : Transaction) (e : TxEvent) → Plays (Err x) a b (acting_by t e) → Plays (Err x) a b (turning_by t e)
+halted_turn Halt.NumbersSpent a b t e p = p
+halted_turn Halt.NoMemory a b t e p = tt
 
 -- what is played of a turn reads its outputs, and not the arcs elsewhere
 playing_turn : (e : TxEvent) (d : Digest) (arcs : List Arc) (t : Transaction) (w : PassageValue) → played_outs (record d { arcs = arcs }) t w (transacted e t).outs arcs ≡ played d t w (transacted e t) arcs

@@ -1,11 +1,11 @@
 -- A draft: what an event makes of a node, before any of it is so. It is what the definitions call a move,
 -- and each rule goes on from where the one before it left it.
-use Rattle.std.specs.Prelude.{◌≡◌, true, Result, Ok, Err}
+use Rattle.std.specs.Prelude.{◌≡◌, true, Option, Result, Ok, Err}
 use Rattle.tp_names.specs.declared.identifiers.NodeKey.{NodeKey}
 use Rattle.tp_model.specs.declared.recovery.KeptEvent.{KeptEvent}
 use Rattle.tp_model.specs.Recovery.{with_forget, noted}
 use Rattle.tp_node.specs.Node.{Node}
-use Rattle.tp_model.specs.Parts.{Who, Digest}
+use Rattle.tp_model.specs.Parts.{Who, Current, Digest}
 use Rattle.tp_model.specs.Node.{Move, followed}
 use Rattle.tp_model.specs.Events.{needs_numbers}
 use Rattle.tp_node.specs.declared.halt.Halt.{Halt}
@@ -40,3 +40,7 @@ node_in a = record { who = a.who; digest = a.move.next }
 -- Forget is noted of the kept transaction of that key
 abbrev pub forgetting : NodeKey → Digest → Digest
 forgetting k d = record d { kept = with_forget d.kept k (λ x. noted x KeptEvent.Forget) }
+
+-- the current transaction has become that one
+abbrev pub with_current : Draft → Option Current → Draft
+with_current a o = record a { move = record a.move { next = record a.move.next { current = o } } }

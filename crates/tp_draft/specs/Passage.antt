@@ -47,9 +47,17 @@ playing t w outs who d = let p = played_outs d t w outs d.arcs in move p.1 (reco
 abbrev pub settling : Option LogRec → Transaction → Who → Digest → Move
 settling r n who d = record { rec = r; outs = []; next = record d { current = remaining n; kept = kept_after r d.kept } }
 
+-- it is logged
+abbrev pub recording : Option LogRec → Who → Digest → Move
+recording r who d = record { rec = r; outs = []; next = record d { kept = kept_after r d.kept } }
+
 -- before it is settled
 abbrev pub speaking : Transaction → PassageValue → List TxOut → Who → Digest → Move
 speaking t w outs who d = followed (entering t w who d) (playing t w outs who)
+
+-- and what is logged is logged
+abbrev pub acting : Transaction → PassageValue → Step → Who → Digest → Move
+acting t w s who d = followed (speaking t w s.outs who d) (recording s.rec who)
 
 abbrev pub turning : Transaction → PassageValue → Step → Transaction → Who → Digest → Move
 turning t w s n who d = followed (speaking t w s.outs who d) (settling s.rec n who)
@@ -75,3 +83,7 @@ passing t e = passage (is_leaving e) t.phase (transacted e t).next.phase
 
 abbrev pub turning_by : Transaction → TxEvent → Who → Digest → Move
 turning_by t e = turning t (passing t e) (step_of (transacted e t)) (transacted e t).next
+
+-- the same before it is settled
+abbrev pub acting_by : Transaction → TxEvent → Who → Digest → Move
+acting_by t e = acting t (passing t e) (step_of (transacted e t))

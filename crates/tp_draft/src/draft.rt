@@ -3,9 +3,9 @@ mod event;
 
 ghost use Rattle.std.specs.Prelude.{◌≡◌, ◌≤◌, true, length, [], ◌∷◌, Some, None, IfOk, OnOk, OnErr};
 ghost use Rattle.tp_model.specs.declared.transaction.TxOut.{TxOut};
-ghost use Rattle.tp_model.specs.Node.{move, perform, begin_on, begin_each, begin_chained, start_root, try_start, transact, keep, side_at, is_over, Commits, next_mark, with_mark_drawn};
-ghost use Rattle.tp_commit.specs.Branch.{begins};
-ghost use Rattle.tp_draft.specs.Draft.{Plays, node_in, forgetting, goes_on, without_value};
+ghost use Rattle.tp_model.specs.Node.{move, perform, begin_on, begin_each, begin_chained, start_root, try_start, transact, remaining, keep, side_at, is_over, Commits, next_mark, with_mark_drawn};
+ghost use Rattle.tp_commit.specs.Branch.{begins, standing};
+ghost use Rattle.tp_draft.specs.Draft.{Plays, node_in, forgetting, with_current, goes_on, without_value};
 ghost use Rattle.tp_draft.specs.Begins.{opened_root, named_begun};
 ghost use Rattle.tp_model.specs.Events.{retry_each, retry, purge, refused_purge};
 ghost use Rattle.tp_model.specs.Requests.{call, accept, reject, begin_transaction, abort, refused_request, do_request};
@@ -22,10 +22,11 @@ ghost use Rattle.tp_model.specs.Arrivals.{lose, take_abort, take_open, take_acce
 ghost use Rattle.tp_records.specs.declared.indication.Indication.{Indication};
 ghost use Rattle.tp_model.specs.declared.transaction.TxEvent.{TxEvent};
 ghost use Rattle.tp_model.specs.Questions.{is_begin};
+ghost use Rattle.tp_model.specs.Transactions.{transacted};
 ghost use Rattle.tp_model.specs.Recovery.{settled, refused_kept};
 ghost use Rattle.tp_dialogue.specs.Kinds.{asked_value, heard_value};
 ghost use Rattle.tp_draft.specs.Talk.{speaking_on, deferring, telling_heard, taking_deferral};
-ghost use Rattle.tp_draft.specs.Passage.{said_then, giving, completing, playing, speaking, settling, turning, passing, turning_by, is_commit_complete, place_of_completion};
+ghost use Rattle.tp_draft.specs.Passage.{said_then, giving, completing, playing, speaking, recording, acting, passing, acting_by, is_commit_complete, place_of_completion};
 ghost use Rattle.tp_node.specs.Passage.{passage_of};
 ghost use Rattle.tp_model.specs.Links.{greatest, is_opening_with, dropped_by};
 
@@ -126,15 +127,36 @@ impl Draft {
         Ok(())
     }
 
+    // A copy of an indication to the user.
+    fn tell_copy(&mut self, alloc: Global, indication: &Indication) -> Result<(), Halt>
+        ensures { Plays result self.old self.new (λ who. perform (TxOut.Tell indication.now ∷ [])) }
+    {
+        self.tell(copies::indication(alloc, indication)?)
+    }
+
+    // A copy of a record on the arc with that peer.
+    fn carry_copy(&mut self, alloc: Global, peer: u16, rec: &DialogueRecord) -> Result<(), Halt>
+        ensures { Plays result self.old self.new (λ who. perform (TxOut.Carry peer rec.now ∷ [])) }
+    {
+        self.carry(peer, copies::dialogue(alloc, rec)?)
+    }
+
+    // A copy of a record outside every association.
+    fn send_copy(&mut self, alloc: Global, to: Addr, rec: &PeerRecord) -> Result<(), Halt>
+        ensures { Plays result self.old self.new (λ who. perform (TxOut.Recovery to rec.now ∷ [])) }
+    {
+        self.send(to, copies::peer(alloc, rec)?)
+    }
+
     /// One output of a transaction.
     pub(crate) fn perform_one(&mut self, alloc: Global, out: &TxOut) -> Result<(), Halt>
         ensures { Plays result self.old self.new (λ who. perform (out.now ∷ [])) }
     {
         match out {
-            TxOut::Tell(indication) => self.tell(copies::indication(alloc, indication)?),
-            TxOut::Carry { arc, rec } => self.carry(*arc, copies::dialogue(alloc, rec)?),
+            TxOut::Tell(indication) => self.tell_copy(alloc, indication),
+            TxOut::Carry { arc, rec } => self.carry_copy(alloc, *arc, rec),
             TxOut::Shut { arc } => self.shut(*arc),
-            TxOut::Recovery { to, rec } => self.send(*to, copies::peer(alloc, rec)?),
+            TxOut::Recovery { to, rec } => self.send_copy(alloc, *to, rec),
             TxOut::Close { arc } => self.close(*arc),
         }
     }
@@ -314,44 +336,44 @@ impl Draft {
         self.play(alloc, branch, passage, outs)
     }
 
-    // What is logged, and what the transaction has become.
-    fn settle(&mut self, alloc: Global, rec: &mut Option<LogRec>, next: Branch) -> Result<(), Halt>
-        ensures { Plays result self.old self.new (settling rec.old next) }
+    // What is logged.
+    fn log(&mut self, alloc: Global, rec: &mut Option<LogRec>) -> Result<(), Halt>
+        ensures { Plays result self.old self.new (recording rec.old) }
     {
         self.node.keep(alloc, rec)?;
-        self.node.settle(next);
         if rec.is_some() {
             swap(&mut self.rec, rec);
         }
         Ok(())
     }
 
-    // A turn of the transaction: what it says and logs, and what it has become. Its arcs are those that it had.
+    // A turn of the transaction: what it says and logs. Its arcs are those that it had.
     fn turn(
         &mut self,
         alloc: Global,
         passage: Passage,
         step: &mut Step,
-        next: Branch,
+        next: &Branch,
     ) -> Result<(), Halt>
-        ensures { Plays result self.old self.new (turning next (passage_of passage) step.old next) }
+        ensures { Plays result self.old self.new (acting next.now (passage_of passage) step.old) }
     {
-        if let Err(halt) = self.speak(alloc, &next, passage, step.outs.as_slice()) {
+        if let Err(halt) = self.speak(alloc, next, passage, step.outs.as_slice()) {
             return Err(halt);
         }
-        self.settle(alloc, &mut step.rec, next)
+        self.log(alloc, &mut step.rec)
     }
 
     // A turn of the transaction as it is seen now, by an event that it does not refuse; and whether it is over.
     fn take_turn(
         &mut self,
         alloc: Global,
-        mut branch: Branch,
+        branch: &mut Branch,
         event: &TxEvent,
     ) -> Result<bool, Halt>
         requires { begins event.now ≡ 0 }
-        ensures over { IfOk result (λ over. over ≡ is_over (passing branch event.now)) }
-        ensures turn { Plays (without_value result) self.old self.new (turning_by branch event.now) }
+        ensures over { IfOk result (λ over. over ≡ is_over (passing branch.old event.now)) }
+        ensures next { OnOk result (branch.new ≡ standing (transacted event.now branch.old).next) }
+        ensures turn { Plays (without_value result) self.old self.new (acting_by branch.old event.now) }
     {
         let before = branch.phase();
         let mut step = branch.turn(alloc, event)?;
@@ -362,19 +384,32 @@ impl Draft {
         Ok(passage.is_over())
     }
 
+    // What the transaction has become.
+    fn settle(&mut self, next: Branch)
+        ensures { self.new ≡ with_current self.old (remaining next) }
+    {
+        self.node.settle(next);
+    }
+
     /// An event of the current transaction, which does not refuse it: what it says, logs and leaves; where it is over,
     /// the next one starts, if one starts by itself. Nothing happens where there is none.
     pub(crate) fn transact(&mut self, alloc: Global, event: &TxEvent) -> Result<(), Halt>
         requires { begins event.now ≡ 0 }
         ensures { Plays result self.old self.new (λ who. transact who event.now) }
     {
-        let Some(branch) = self.node.take_seen() else {
+        let Some(mut branch) = self.node.take_seen() else {
             return Ok(());
         };
-        match self.take_turn(alloc, branch, event) {
+        match self.take_turn(alloc, &mut branch, event) {
             Err(halt) => Err(halt),
-            Ok(false) => Ok(()),
-            Ok(true) => self.try_start(alloc),
+            Ok(false) => {
+                self.settle(branch);
+                Ok(())
+            }
+            Ok(true) => {
+                self.settle(branch);
+                self.try_start(alloc)
+            }
         }
     }
 

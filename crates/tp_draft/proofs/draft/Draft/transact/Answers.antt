@@ -6,7 +6,7 @@ use Rattle.tp_node.specs.Node.{Node}
 use Rattle.tp_draft.specs.Draft.{Draft}
 use Rattle.tp_draft.specs.Passage.{passing, turning_by}
 use Rattle.tp_draft.proofs.Drafts.{perform_none, plays_then_at}
-use Rattle.tp_draft.proofs.Turns.{transacts, transacts_none, transact_halts, without_current, taken_out, none_taken}
+use Rattle.tp_draft.proofs.Turns.{transacts, transacts_none, transact_halts, settled_turn, halted_turn, without_current, taken_out, none_taken}
 use Rattle.tp_draft.proofs.draft.Draft.transact.Goals as goal
 
 pub returns-in_default : goal.returns-in_default
@@ -30,7 +30,8 @@ returns-in-Err c =
     let is : drafted c.take_seen.new.self ≡ without_current a = ap drafted c.take_seen.ensures.node ∙ ap without_current from in
     let t = c.in-Some.branch in
     let there : option_map (seen a.who a.move.next.arcs) a.move.next.current ≡ Some t = subst (λ (x : Draft). option_map (seen x.who x.move.next.arcs) x.move.next.current ≡ Some t) from (sym c.take_seen.ensures.branch ∙ c.in-Some.is) in
-    transact_halts c.in-Err.halt a c.take_turn.new.self e t there (taken_out (Err c.in-Err.halt) a (drafted c.take_seen.new.self) c.take_turn.new.self t e is (c.in-Err.ensures {u = tt}).turn)
+    let halts = halted_turn c.in-Err.halt (drafted c.take_seen.new.self) c.take_turn.new.self t e (c.in-Err.ensures {u = tt}).turn in
+    transact_halts c.in-Err.halt a c.take_turn.new.self e t there (taken_out (Err c.in-Err.halt) a (drafted c.take_seen.new.self) c.take_turn.new.self t e is halts)
 
 pub returns-in-Ok-false : goal.returns-in-Ok-false
 returns-in-Ok-false c =
@@ -42,8 +43,10 @@ returns-in-Ok-false c =
     let is : drafted c.take_seen.new.self ≡ without_current a = ap drafted c.take_seen.ensures.node ∙ ap without_current from in
     let t = c.in-Some.branch in
     let there : option_map (seen a.who a.move.next.arcs) a.move.next.current ≡ Some t = subst (λ (x : Draft). option_map (seen x.who x.move.next.arcs) x.move.next.current ≡ Some t) from (sym c.take_seen.ensures.branch ∙ c.in-Some.is) in
-    let on : is_over (passing t e) ≡ false = sym (c.in-Ok-false.ensures {u = tt}).over ∙ c.in-Ok-false.field-0-test in
-    taken_out (Ok tt) a (drafted c.take_seen.new.self) c.take_turn.new.self t e is (c.in-Ok-false.ensures {u = tt}).turn
+    let acts = c.in-Ok-false.ensures {u = tt} in
+    let on : is_over (passing t e) ≡ false = sym acts.over ∙ c.in-Ok-false.field-0-test in
+    let turns = settled_turn (drafted c.take_seen.new.self) c.take_turn.new.self c.settle-in-Ok-false.new.self t c.take_turn.new.branch e acts.turn acts.next c.settle-in-Ok-false.ensures in
+    taken_out (Ok tt) a (drafted c.take_seen.new.self) c.settle-in-Ok-false.new.self t e is turns
     ∙ sym (ap (λ (m : Move). record a { move = followed a.move (λ _. m) }) (transacts a e t there ∙ ap (λ (w : Bool). cond w (followed (turning_by t e a.who a.move.next) (try_start a.who)) (turning_by t e a.who a.move.next)) on))
 
 pub returns-in-Ok-true : goal.returns-in-Ok-true
@@ -56,8 +59,11 @@ returns-in-Ok-true c =
     let is : drafted c.take_seen.new.self ≡ without_current a = ap drafted c.take_seen.ensures.node ∙ ap without_current from in
     let t = c.in-Some.branch in
     let there : option_map (seen a.who a.move.next.arcs) a.move.next.current ≡ Some t = subst (λ (x : Draft). option_map (seen x.who x.move.next.arcs) x.move.next.current ≡ Some t) from (sym c.take_seen.ensures.branch ∙ c.in-Some.is) in
-    let over : is_over (passing t e) ≡ true = sym (c.in-Ok-true.ensures {u = tt}).over ∙ c.in-Ok-true.field-0-test in
-    plays_then_at c.try_start.result a c.take_turn.new.self c.try_start.new.self (turning_by t e) try_start (λ who. transact who e)
-    (taken_out (Ok tt) a (drafted c.take_seen.new.self) c.take_turn.new.self t e is (c.in-Ok-true.ensures {u = tt}).turn)
+    let acts = c.in-Ok-true.ensures {u = tt} in
+    let over : is_over (passing t e) ≡ true = sym acts.over ∙ c.in-Ok-true.field-0-test in
+    let settled = c.settle in
+    let turns = settled_turn (drafted c.take_seen.new.self) c.take_turn.new.self settled.new.self t c.take_turn.new.branch e acts.turn acts.next settled.ensures in
+    plays_then_at c.try_start.result a settled.new.self c.try_start.new.self (turning_by t e) try_start (λ who. transact who e)
+    (taken_out (Ok tt) a (drafted c.take_seen.new.self) settled.new.self t e is turns)
     (transacts a e t there ∙ ap (λ (w : Bool). cond w (followed (turning_by t e a.who a.move.next) (try_start a.who)) (turning_by t e a.who a.move.next)) over)
     c.try_start.ensures
