@@ -16,7 +16,7 @@ pub record Draft : Type 0 where
   pub move : Move
 
 abbrev pub draft_of : Inside → Draft
-draft_of v = record { who = v.node.who; move = record { rec = v.rec; outs = v.outs; next = v.node.digest } }
+draft_of v = record { who = v.node.value.who; move = record { rec = v.rec; outs = v.outs; next = v.node.value.digest } }
 
 -- a rule, at what the draft has come to
 abbrev pub goes_on : Draft → (Who → Digest → Move) → Draft

@@ -46,10 +46,11 @@ use tp_tree::Tie;
 use tp_units::{CHAINED, Units};
 
 /// A copy of a node on which an event runs, the record that is to be forced, and the outputs. Contracts
-/// see it as a move of the definitions.
+/// see it as a move of the definitions. A transaction that is over may be spared, as memory for the next one.
 #[derive(Drop)]
 pub struct Draft {
-    node: Node,
+    node: Box<Node>,
+    spare: Option<Branch>,
     rec: Option<LogRec>,
     outs: Outs,
 }

@@ -40,7 +40,6 @@ use crate::passage::Passage;
 use crate::{NodeState, NodeTree, look};
 use std::alloc::Global;
 use std::marker::Model;
-use std::mem::swap;
 use tp_commit::Branch;
 use tp_dialogue::{Asked, Dialogue, Heard};
 use tp_link::{Link, LinkState};
@@ -179,14 +178,13 @@ impl Node {
         kept::note_forget(alloc, &mut self.kept, key)
     }
 
-    /// The node turns into that one, a copy of it on which something happened, and carries out what that changed of the
-    /// arcs and of the kept transactions that they shared.
-    pub fn turn_into(&mut self, alloc: Global, next: &mut Node)
-        ensures { self.new ≡ next.old }
+    /// The node, which has taken the place of the one that it is a copy of, carries out what was changed on it of the arcs
+    /// and of the kept transactions that they shared.
+    pub fn settle_after(&mut self, alloc: Global, before: &mut Node)
+        ensures { self.new ≡ self.old }
     {
-        swap(self, next);
-        next.kept = KeptTable::new();
-        release(&mut next.arcs);
+        before.kept = KeptTable::new();
+        release(&mut before.arcs);
         self.kept.settle(alloc);
         if let Some(arcs) = &mut self.arcs {
             arcs.settle(alloc);

@@ -28,7 +28,7 @@ pub(crate) struct Nodes {
     site: SiteName,
     boot: u64,
     version: LogVersion,
-    nodes: IndexMap<u16, Node>,
+    nodes: IndexMap<u16, Box<Node>>,
     last: usize,
 }
 
@@ -107,7 +107,7 @@ impl Nodes {
         let place = self.place_of(number)?;
         match self.nodes.get_index(place) {
             None => None,
-            Some((_number, node)) => Some(node),
+            Some((_number, node)) => Some(&**node),
         }
     }
 
@@ -162,7 +162,6 @@ impl Nodes {
         ensures same { (n : ℕ) → digest_at self.new n ≡ digest_at self.old n }
         ensures site { IsSameSite self.old self.new }
     {
-        self.note_place(node);
         if let Some(node) = self.find(node) {
             return draft.answer_to(alloc, node, event);
         }
@@ -239,7 +238,7 @@ impl Nodes {
         if self.nodes.contains_key(&node) {
             return Ok(());
         }
-        let unknown = self.unknown(alloc, node);
+        let unknown = Box::new(alloc, self.unknown(alloc, node))?;
         self.nodes.insert(node, unknown)?;
         Ok(())
     }

@@ -167,7 +167,8 @@ impl<K: Keeper> Site<K> {
     }
 
     fn new_draft(&self, alloc: Global) -> Result<Box<Draft>, NoMemory> {
-        Ok(Box::new(alloc, Draft::of(alloc, self.nodes.unknown(alloc, 0)))?)
+        let node = Box::new(alloc, self.nodes.unknown(alloc, 0))?;
+        Ok(Box::new(alloc, Draft::of(alloc, node))?)
     }
 
     // An event of the node of that number, drawn up on that draft.

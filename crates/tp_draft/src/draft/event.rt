@@ -8,7 +8,7 @@ ghost use Rattle.tp_node.specs.NodeEvent.{event_of, refused_at_once};
 
 use crate::draft::Draft;
 use std::alloc::Global;
-use std::mem::replace;
+use std::mem::{replace, swap};
 use tp_logrec::LogRec;
 use tp_model::TxEvent;
 use tp_names::{Addr, NoMemory};
@@ -17,11 +17,12 @@ use tp_node_parts::Outs;
 
 impl Draft {
     /// A draft of that node, on which nothing has happened.
-    pub fn of(alloc: Global, node: Node) -> Draft
-        ensures { result ≡ record { who = node.who; move = move [] node.digest } }
+    pub fn of(alloc: Global, node: Box<Node>) -> Draft
+        ensures { result ≡ record { who = node.value.who; move = move [] node.value.digest } }
     {
         Draft {
             node,
+            spare: None,
             rec: None,
             outs: Outs::new(alloc),
         }
@@ -31,12 +32,19 @@ impl Draft {
     pub(crate) fn begin(&mut self, alloc: Global, node: &Node) -> Result<(), NoMemory>
         ensures { OnOk result (self.new ≡ record { who = node.now.who; move = move [] node.now.digest }) }
     {
-        self.node.copy_from(alloc, node)?;
+        self.node.copy_from(alloc, node, &mut self.spare)?;
+        self.forget_rec();
+        self.outs = Outs::new(alloc);
+        Ok(())
+    }
+
+    // No record is to be forced.
+    fn forget_rec(&mut self)
+        ensures { self.new ≡ record self.old { move = record self.old.move { rec = None } } }
+    {
         if self.rec.is_some() {
             self.rec = None;
         }
-        self.outs = Outs::new(alloc);
-        Ok(())
     }
 
     /// The record that is to be forced.
@@ -47,11 +55,12 @@ impl Draft {
     }
 
     /// The node, as the draft has it by now, takes that place.
-    pub fn put_node(&mut self, alloc: Global, place: &mut Node)
-        ensures node { place.new ≡ node_in self.old }
+    pub fn put_node(&mut self, alloc: Global, place: &mut Box<Node>)
+        ensures node { (place.new).value ≡ node_in self.old }
         ensures outs { self.new.move.outs ≡ self.old.move.outs }
     {
-        place.turn_into(alloc, &mut self.node);
+        swap(place, &mut self.node);
+        place.settle_after(alloc, &mut self.node);
     }
 
     /// The outputs, which it has no more.

@@ -9,6 +9,7 @@ ghost use Rattle.tp_node.specs.Node.{current_of, recovered_by};
 
 use crate::node::Node;
 use std::alloc::Global;
+use std::mem::swap;
 use tp_commit::Branch;
 use tp_logrec::{LogRec, LogVersion};
 use tp_names::same::is_key;
@@ -145,12 +146,18 @@ impl Node {
         self.arcs = Some(SharedArcs::new(alloc, self.number, superior, room));
     }
 
-    /// Becomes equal to that one, in the memory that it has where that is enough. The kept transactions are shared.
-    pub fn copy_from(&mut self, alloc: Global, other: &Node) -> Result<(), NoMemory>
+    /// Becomes equal to that one, in the memory that it has where that is enough. The kept transactions are shared. A
+    /// transaction that it has no more is spared for the next one.
+    pub fn copy_from(
+        &mut self,
+        alloc: Global,
+        other: &Node,
+        spare: &mut Option<Branch>,
+    ) -> Result<(), NoMemory>
         ensures { OnOk result (self.new ≡ other.now) }
     {
         let kept = other.kept.copy(alloc)?;
-        copy_current(alloc, &mut self.current, &other.current)?;
+        copy_current(alloc, &mut self.current, &other.current, spare)?;
         copy_arcs(alloc, &mut self.arcs, &other.arcs)?;
         self.site = other.site;
         self.number = other.number;
@@ -168,16 +175,30 @@ fn copy_current(
     alloc: Global,
     own: &mut Option<Branch>,
     other: &Option<Branch>,
+    spare: &mut Option<Branch>,
 ) -> Result<(), NoMemory>
     ensures { OnOk result (own.new ≡ other.now) }
 {
     let Some(branch) = other else {
-        *own = None;
+        set_aside(own, spare);
         return Ok(());
     };
+    if own.is_none() {
+        swap(own, spare);
+    }
     match own {
         Some(own) => own.copy_from(branch),
         None => new_current(alloc, own, branch),
+    }
+}
+
+// There is no transaction any more; where there was one, its memory is spared.
+fn set_aside(own: &mut Option<Branch>, spare: &mut Option<Branch>)
+    ensures { own.new ≡ None }
+{
+    if own.is_some() {
+        swap(own, spare);
+        *own = None;
     }
 }
 

@@ -16,18 +16,20 @@ pub returns-then-has_current : goal.returns-then-has_current
 returns-then-has_current c =
     let v = c.self.inside in
     let p = c.args.peer in
-    let d = v.node.digest in
+    let d = c.deref_mut.result.now.digest in
     let drafted : Node → Draft = λ w. record { who = w.who; move = record { rec = v.rec; outs = v.outs; next = w.digest } } in
-    let there : is_some d.current ≡ true = sym (ap (λ (w : Node). is_some w.digest.current) c.close.ensures) ∙ sym c.has_current.ensures ∙ c.if-has_current.true in
-    subst (λ (a : Draft). Plays c.transact.result a c.transact.new.self (λ who. lose who p)) c.self.view_is
-    (plays_from c.transact.result (drafted v.node) (drafted c.close.new.self) c.transact.new.self (record d { arcs = without_arc d.arcs p }) (λ who. transact who (TxEvent.Lost p)) (λ who. lose who p) (ap drafted c.close.ensures) (loses_there v.node.who p d there) c.transact.ensures)
+    let from : drafted c.deref_mut.result.now ≡ c.args.self.now = ap drafted c.deref_mut.ensures.value ∙ c.self.view_is in
+    let there : is_some d.current ≡ true = sym (ap (λ (w : Node). is_some w.digest.current) c.close.ensures) ∙ sym (ap (λ (w : Node). is_some w.digest.current) c.deref.ensures) ∙ sym c.has_current.ensures ∙ c.if-has_current.true in
+    subst (λ (a : Draft). Plays c.transact.result a c.transact.new.self (λ who. lose who p)) from
+    (plays_from c.transact.result (drafted c.deref_mut.result.now) (drafted c.close.new.self) c.transact.new.self (record d { arcs = without_arc d.arcs p }) (λ who. transact who (TxEvent.Lost p)) (λ who. lose who p) (ap drafted c.close.ensures) (loses_there c.deref_mut.result.now.who p d there) c.transact.ensures)
 
 pub returns : goal.returns
 returns c =
     let v = c.self.inside in
     let p = c.args.peer in
-    let d = v.node.digest in
+    let d = c.deref_mut.result.now.digest in
     let drafted : Node → Draft = λ w. record { who = w.who; move = record { rec = v.rec; outs = v.outs; next = w.digest } } in
-    let none : is_some d.current ≡ false = sym (ap (λ (w : Node). is_some w.digest.current) c.close.ensures) ∙ sym c.has_current.ensures ∙ c.if-has_current.false in
-    subst (λ (a : Draft). Plays c.tell.result a c.tell.new.self (λ who. lose who p)) c.self.view_is
-    (plays_from c.tell.result (drafted v.node) (drafted c.close.new.self) c.tell.new.self (record d { arcs = without_arc d.arcs p }) (λ who. perform (TxOut.Tell (Indication.PAbort p) ∷ [])) (λ who. lose who p) (ap drafted c.close.ensures) (loses_alone v.node.who p d none) c.tell.ensures)
+    let from : drafted c.deref_mut.result.now ≡ c.args.self.now = ap drafted c.deref_mut.ensures.value ∙ c.self.view_is in
+    let none : is_some d.current ≡ false = sym (ap (λ (w : Node). is_some w.digest.current) c.close.ensures) ∙ sym (ap (λ (w : Node). is_some w.digest.current) c.deref.ensures) ∙ sym c.has_current.ensures ∙ c.if-has_current.false in
+    subst (λ (a : Draft). Plays c.tell.result a c.tell.new.self (λ who. lose who p)) from
+    (plays_from c.tell.result (drafted c.deref_mut.result.now) (drafted c.close.new.self) c.tell.new.self (record d { arcs = without_arc d.arcs p }) (λ who. perform (TxOut.Tell (Indication.PAbort p) ∷ [])) (λ who. lose who p) (ap drafted c.close.ensures) (loses_alone c.deref_mut.result.now.who p d none) c.tell.ensures)

@@ -10,24 +10,24 @@ use Rattle.tp_site.proofs.nodes.Nodes.apply.Goals as goal
 pub apply-requires-clause-refused : goal.apply-requires-clause-refused
 apply-requires-clause-refused c =
     let lent = lent_there c.self.inside.nodes (nodes_of c.self.inside) c.args.self.now c.self.view_is c.args.number c.in-Some.place c.in-Some.ensures.at c.self.invariant c.in-Some-get_index_mut.node.now c.in-Some-get_index_mut.ensures.value in
-    ap (λ (x : Node). refused_at_once x.who x.digest c.args.event.now) lent ∙ c.requires.refused
+    ap (λ (x : Node). refused_at_once x.who x.digest c.args.event.now) (c.deref_mut.ensures.value ∙ lent) ∙ c.requires.refused
 
 pub apply-requires-clause-sure : goal.apply-requires-clause-sure
 apply-requires-clause-sure c =
     let lent = lent_there c.self.inside.nodes (nodes_of c.self.inside) c.args.self.now c.self.view_is c.args.number c.in-Some.place c.in-Some.ensures.at c.self.invariant c.in-Some-get_index_mut.node.now c.in-Some-get_index_mut.ensures.value in
-    ap (λ (x : Node). can_run x.who c.args.event.now x.digest) lent ∙ c.requires.sure
+    ap (λ (x : Node). can_run x.who c.args.event.now x.digest) (c.deref_mut.ensures.value ∙ lent) ∙ c.requires.sure
 
 pub invariant_of-self-2 : goal.invariant_of-self-2
 invariant_of-self-2 c =
     let lent = lent_there c.self.inside.nodes (nodes_of c.self.inside) c.args.self.now c.self.view_is c.args.number c.in-Some.place c.in-Some.ensures.at c.self.invariant c.in-Some-get_index_mut.node.now c.in-Some-get_index_mut.ensures.value in
     named_there c.self.inside.nodes (nodes_of c.self.inside) c.args.self.now c.self.view_is c.args.number c.in-Some.place c.in-Some.ensures.at c.self.invariant
-    c.apply.new.node c.get_index_mut.ensures.unique (ap (λ (x : Node). x.who) c.apply.ensures ∙ ap (λ (x : Node). x.who) lent)
+    _ c.get_index_mut.ensures.unique (ap (λ (x : Node). x.who) c.apply.ensures ∙ ap (λ (x : Node). x.who) c.deref_mut.ensures.value ∙ ap (λ (x : Node). x.who) lent)
 
 pub returns-clause-put : goal.returns-clause-put
 returns-clause-put c =
     let lent = lent_there c.self.inside.nodes (nodes_of c.self.inside) c.args.self.now c.self.view_is c.args.number c.in-Some.place c.in-Some.ensures.at c.self.invariant c.in-Some-get_index_mut.node.now c.in-Some-get_index_mut.ensures.value in
     put_there c.self.inside.nodes (nodes_of c.self.inside) c.args.self.now c.self.view_is c.args.number c.in-Some.place c.in-Some.ensures.at
-    c.apply.new.node _ c.get_index_mut.ensures.unique (ap (λ (x : Node). x.digest) c.apply.ensures ∙ ap (λ (x : Node). run_in_place x.who c.args.event.now x.digest) lent)
+    _ _ c.get_index_mut.ensures.unique (ap (λ (x : Node). x.digest) c.apply.ensures ∙ ap (λ (x : Node). run_in_place x.who c.args.event.now x.digest) c.deref_mut.ensures.value ∙ ap (λ (x : Node). run_in_place x.who c.args.event.now x.digest) lent)
 
 pub returns-in_default-get_index_mut-clause-put : goal.returns-in_default-get_index_mut-clause-put
 returns-in_default-get_index_mut-clause-put c =
