@@ -126,3 +126,8 @@ Forces old rec (Err (force.DiskFault n)) new =
     Refused old new × HasRisen old.faults new.faults × (old.shut ≡ None) × (new.shut ≡ Some n) × CountsAs old.length_told n new.faults × LeavesEither old rec new × StopsAtFuse old.length_told (text old.wide rec) old.fuse new.fuse
 Forces old rec (Err (force.Shut n)) new = Refused old new × IsShut old.length_told old.shut n new.faults × (new.shut ≡ Some n) × (new.story ≡ old.story) × (new.fuse ≡ old.fuse)
 Forces old rec (Err force.NoMemory) new = new ≡ old
+
+-- the receipt of a record that was forced, by its place
+abbrev pub receipt_of : LogRec → Result ℕ ForceFault → Result Receipt ForceFault
+receipt_of rec (Ok place) = Ok (record { place = place; rec = rec })
+receipt_of rec (Err fault) = Err fault

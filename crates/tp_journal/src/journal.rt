@@ -1,5 +1,5 @@
 //! The journal: the records of a site on its disk.
-ghost use Rattle.std.specs.Prelude.{◌≡◌, ◌≤◌, ◌<◌, ◌++◌, true, ◌∷◌, [], ℕ, List, length, Some, None, IfOk, IfErr, OnOk, OnErr, slice_index_or};
+ghost use Rattle.std.specs.Prelude.{◌≡◌, ◌≤◌, ◌<◌, ◌++◌, true, ◌∷◌, [], ℕ, List, length, Some, None, Err, IfOk, IfErr, OnOk, OnErr, slice_index_or};
 ghost use Rattle.std.specs.List.{AllByRecursion};
 ghost use Rattle.tp_outside.specs.Faults.{HasRisen};
 ghost use Rattle.tp_outside.specs.Story.{Story};
@@ -10,7 +10,8 @@ ghost use Rattle.tp_journal.specs.Started.{IsStarted, KeepsDisk, KeepsDiskInRepl
 ghost use Rattle.tp_logrec.specs.Order.{all_follow, brief};
 ghost use Rattle.tp_journal.specs.Records.{HasText, bodies_of, log_bytes, record_body};
 ghost use Rattle.tp_journal.specs.Journals.{bodies_in, standing_of, ComesInOrder, Becomes, RefusesCompact, RefusesMigrate, size_of};
-ghost use Rattle.tp_journal.specs.Keeping.{Forces};
+ghost use Rattle.tp_journal.specs.declared.faults.ForceFault.{ForceFault};
+ghost use Rattle.tp_journal.specs.Keeping.{Forces, receipt_of};
 ghost use Rattle.tp_journal.specs.Disorder.{IsFirstOutOfOrder};
 
 use crate::lengths::text_len;
@@ -79,6 +80,38 @@ impl<D: Disk> Journal<D> {
         ensures order { IfErr result (ComesInOrder self.old rec.now) }
         ensures untouched { IfErr result (KeepsDisk self.old.disk self.new.disk) }
     {
+        self.check(rec)?;
+        let copy = rec.copy(alloc)?;
+        let place = self.append(alloc, rec)?;
+        Ok(Receipt { place, rec: copy })
+    }
+
+    // Is the log open, and has it room for the record? A fault says what it is not.
+    fn check(&self, rec: &LogRec) -> Result<(), ForceFault>
+        requires { HasText self.now.wide rec.now }
+        ensures refused { IfErr result (λ fault. Forces (standing_of self.now (D.fault_count self.now.disk) (D.told self.now.disk) (D.fuse self.now.disk)) rec.now (Err fault) (standing_of self.now (D.fault_count self.now.disk) (D.told self.now.disk) (D.fuse self.now.disk))) }
+        ensures order { IfErr result (ComesInOrder self.now rec.now) }
+        ensures untouched { IfErr result (KeepsDisk self.now.disk self.now.disk) }
+        ensures memory { OnOk result (ComesInOrder self.now rec.now ForceFault.NoMemory) }
+    {
+        if let Some(faults) = self.log.shut() {
+            return Err(ForceFault::Shut { faults });
+        }
+        let len = text_len(self.log.shelf().wide(), rec);
+        let size = self.log.gate() + 4 + len as u64;
+        if size > MOST_BYTES {
+            return Err(ForceFault::Full { size });
+        }
+        Ok(())
+    }
+
+    /// Forces one record as `force` does, and answers the place of its gate alone.
+    pub fn append(&mut self, alloc: Global, rec: &LogRec) -> Result<u64, ForceFault>
+        requires { HasText self.old.wide rec.now }
+        ensures forces { Forces (standing_of self.old (D.fault_count self.old.disk) (D.told self.old.disk) (D.fuse self.old.disk)) rec.now (receipt_of rec.now result) (standing_of self.new (D.fault_count self.new.disk) (D.told self.new.disk) (D.fuse self.new.disk)) }
+        ensures order { IfErr result (ComesInOrder self.old rec.now) }
+        ensures untouched { IfErr result (KeepsDisk self.old.disk self.new.disk) }
+    {
         if let Some(faults) = self.log.shut() {
             return Err(ForceFault::Shut { faults });
         }
@@ -89,10 +122,9 @@ impl<D: Disk> Journal<D> {
             return Err(ForceFault::Full { size });
         }
         write_piece(alloc, wide, rec, len, &mut self.piece)?;
-        let copy = rec.copy(alloc)?;
         let piece = self.piece.as_slice();
         let place = self.log.append_piece(&piece[2..2 + len], piece, rec)?;
-        Ok(Receipt { place, rec: copy })
+        Ok(place)
     }
 
     /// Puts the brief of the list in its place, in the version that the log has. `first_out_of_order` tells whether the
@@ -195,6 +227,10 @@ impl<D: Disk> Keeper for Journal<D> {
 
     fn force(&mut self, alloc: Global, rec: &LogRec) -> Result<Receipt, ForceFault> {
         Journal::force(self, alloc, rec)
+    }
+
+    fn append(&mut self, alloc: Global, rec: &LogRec) -> Result<u64, ForceFault> {
+        Journal::append(self, alloc, rec)
     }
 
     fn count(&self) -> usize {

@@ -7,7 +7,7 @@ use tp_logrec::LogRec;
 pub trait Keeper {
     ghost use Rattle.std.specs.Prelude.{◌≡◌, ◌<◌, length, slice_index_or};
     ghost use Rattle.std.specs.List.{All};
-    ghost use Rattle.tp_journal.specs.Keeping.{Standing, Forces};
+    ghost use Rattle.tp_journal.specs.Keeping.{Standing, Forces, receipt_of};
     ghost use Rattle.tp_journal.specs.Records.{HasText};
 
     /// What the keeper tells, and its own records.
@@ -17,6 +17,16 @@ pub trait Keeper {
     fn force(&mut self, alloc: Global, rec: &LogRec) -> Result<Receipt, ForceFault>
         requires { HasText (standing self.old).wide rec.now }
         ensures { Forces (standing self.old) rec.now result (standing self.new) };
+
+    /// Forces one record as `force` does, and answers the place of its gate alone, so that the record is not copied for a
+    /// receipt.
+    fn append(&mut self, alloc: Global, rec: &LogRec) -> Result<u64, ForceFault>
+        requires { HasText (standing self.old).wide rec.now }
+        ensures { Forces (standing self.old) rec.now (receipt_of rec.now result) (standing self.new) }
+    {
+        let receipt = self.force(alloc, rec)?;
+        Ok(receipt.place)
+    }
 
     /// How many records stood when the keeper was made, or the log that it shares.
     fn count(&self) -> usize
