@@ -71,6 +71,7 @@ impl Branch {
     }
 
     /// What comes of a record on that arc.
+    #[inline(always)]
     #[tactic(auto, unfolding(tp_model::specs::Transactions::sight_of_tx))]
     pub fn disposition(&self, arc: u16, rec: &DialogueRecord) -> Disposition
         ensures { sight_value result ≡ sight_of_tx self.now arc rec.now }

@@ -14,6 +14,7 @@ use tp_names::{Child, NoMemory};
 
 impl Branch {
     // A rule logs, says and changes what it does, after what the step has by now.
+    #[inline(always)]
     fn obey(&mut self, alloc: Global, rule: Rule, step: &mut Step) -> Result<(), NoMemory>
         ensures next { OnOk result (self.new ≡ (turn_of rule self.old).next) }
         ensures rec { OnOk result (step.new.rec ≡ later step.old.rec (turn_of rule self.old).rec) }
@@ -26,6 +27,7 @@ impl Branch {
     }
 
     // The same of a rule of a course, which is often none.
+    #[inline(always)]
     #[tactic(auto, using(crate::proofs::Courses::nothing_said))]
     fn carry_out(&mut self, alloc: Global, rule: Rule, step: &mut Step) -> Result<(), NoMemory>
         ensures next { OnOk result (self.new ≡ (turn_of rule self.old).next) }

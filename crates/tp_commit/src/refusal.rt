@@ -23,6 +23,7 @@ impl Branch {
 
     /// Why the transaction refuses a request: the refusal with the least number that applies. What its dialogue
     /// refuses is not the transaction's. It takes no memory.
+    #[inline(always)]
     pub fn refused_user(&self, request: &Request) -> Option<Refusal>
         ensures { result ≡ refused_user self.now request.now }
     {

@@ -179,6 +179,7 @@ pub(crate) fn begin_each(rows: &mut Vec<Row>, arcs: &[Child]) -> Result<(), NoMe
 }
 
 /// The branches that did not leave.
+#[inline(always)]
 pub(crate) fn children_of(alloc: Global, rows: &[Row]) -> Result<Children, NoMemory>
     ensures { IfOk result (λ children. children ≡ children_of rows.now) }
 {

@@ -168,6 +168,7 @@ impl Branch {
         Ok(())
     }
 
+    #[inline(always)]
     fn log_commit(&self, alloc: Global, rec: &mut Option<LogRec>) -> Result<(), NoMemory>
         ensures { OnOk result (rec.new ≡ Some (log_commit self.now)) }
     {
@@ -180,6 +181,7 @@ impl Branch {
         Ok(())
     }
 
+    #[inline(always)]
     fn log_end(&self, outcome: Outcome, rec: &mut Option<LogRec>)
         ensures { rec.new ≡ Some (log_end self.now outcome) }
     {
@@ -229,6 +231,7 @@ impl Branch {
 
     // ---- outputs to the superior, and to the arcs
 
+    #[inline(always)]
     fn carry_up(
         &self,
         alloc: Global,

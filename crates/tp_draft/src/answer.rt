@@ -19,6 +19,7 @@ use tp_records::PeerRecord;
 
 impl Draft {
     // The draft of a node on which an event happens that is not refused at once.
+    #[inline(always)]
     #[tactic(auto, using(crate::proofs::Drafts::followed_silent))]
     fn draw_up(&mut self, alloc: Global, node: &Node, event: &NodeEvent<'_>) -> Result<(), Halt>
         requires { refused_at_once node.now.who node.now.digest event.now ≡ None }
@@ -121,6 +122,7 @@ impl Draft {
 
     /// What the node answers to an event: what the event makes of it, as the draft has it then, or the refusal.
     /// With one, what happens is the loss of the association that follows that answer. A refusal at once takes no memory.
+    #[inline(always)]
     #[tactic(auto, using(crate::proofs::Answered::happens, crate::proofs::Answered::refused_later))]
     pub fn answer_to(
         &mut self,

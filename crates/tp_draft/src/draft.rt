@@ -116,6 +116,7 @@ impl Draft {
     }
 
     /// A record goes out on the arc with that peer, where it is live.
+    #[inline(always)]
     #[tactic(auto, using(crate::proofs::Drafts::one, crate::proofs::Drafts::spent))]
     pub(crate) fn carry(&mut self, peer: u16, rec: DialogueRecord) -> Result<(), Halt>
         ensures { Plays result self.old self.new (λ who. perform (TxOut.Carry peer rec ∷ [])) }
@@ -162,6 +163,7 @@ impl Draft {
     }
 
     /// The outputs of a transaction, one after the other.
+    #[inline(always)]
     pub(crate) fn perform(&mut self, alloc: Global, outs: &[TxOut]) -> Result<(), Halt>
         ensures { Plays result self.old self.new (λ who. perform outs.now) }
     {
@@ -198,6 +200,7 @@ impl Draft {
     }
 
     /// Begin is sent on the live chained arcs to subordinates that are no branches yet, in order.
+    #[inline(always)]
     pub(crate) fn begin_chained(&mut self, alloc: Global) -> Result<(), Halt>
         ensures { Plays result self.old self.new begin_chained }
     {
@@ -385,6 +388,7 @@ impl Draft {
     }
 
     // What the transaction has become.
+    #[inline(always)]
     fn settle(&mut self, next: Branch)
         ensures { self.new ≡ with_current self.old (remaining next) }
     {
@@ -739,6 +743,7 @@ impl Draft {
     }
 
     // The transaction takes a record.
+    #[inline(always)]
     fn take_up(&mut self, alloc: Global, peer: u16, rec: DialogueRecord) -> Result<(), Halt>
         ensures { Plays result self.old self.new (λ who. transact who (TxEvent.Took peer rec)) }
     {

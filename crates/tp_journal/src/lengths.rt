@@ -70,6 +70,7 @@ fn children_len(wide: bool, children: &Children) -> usize
 }
 
 /// The length of a record's text in the version told.
+#[inline(always)]
 pub fn text_len(wide: bool, rec: &LogRec) -> usize
     requires { HasText wide rec.now }
     ensures exact { result ≡ length (text wide rec.now) }

@@ -83,6 +83,7 @@ impl<D: Disk, S: Shelf + Drop> Log<D, S> {
     }
 
     /// Adds a body that has room, from the piece that is written for it: its length, the body, and a closed gate.
+    #[inline(always)]
     pub fn append_piece(
         &mut self,
         body: &[u8],

@@ -11,6 +11,7 @@ ghost use Rattle.tp_journal.specs.Told.{IsOn, LeavesOnly, HasStored, HasResized,
 use tp_outside::{Disk, Failed};
 
 // Writes a piece and waits until it is on the disk.
+#[inline(always)]
 fn store<D: Disk>(disk: &mut D, at: u64, piece: &[u8]) -> Result<(), Failed>
     ensures moments { (file : List ℕ) → IsOn (D.told disk.old) file → LeavesOnly (Torn at (length piece.now) file) (D.told disk.old) (D.told disk.new) }
     ensures stored { OnOk result ((file : List ℕ) → IsOn (D.told disk.old) file → HasStored at piece.now file (D.told disk.new)) }

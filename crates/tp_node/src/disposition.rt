@@ -53,6 +53,7 @@ impl Node {
     }
 
     /// What comes of a record on that arc.
+    #[inline(always)]
     #[tactic(auto, using(crate::proofs::Sights::sight_is))]
     pub fn disposition(&self, tie: &Tie, rec: &DialogueRecord) -> Disposition
         requires { tie.now.dialogue.side ≡ side_at self.now.digest (arc_of tie.now).peer.node }

@@ -11,6 +11,7 @@ use tp_node_parts::SharedArcs;
 
 // Whether the arc with that peer is live, and whether an end is deferred on it. The arc of a branch stands at the place of
 // the branch where all subordinates are branches, each begun in turn.
+#[inline(always)]
 fn look_at(arcs: &Option<SharedArcs>, place: usize, peer: u16) -> (bool, bool)
     ensures live { result.0 ≡ is_live_with_peer (arcs_in arcs.now) peer }
     ensures ends { result.1 ≡ is_end_deferred_at (arcs_in arcs.now) peer }

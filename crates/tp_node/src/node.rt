@@ -322,6 +322,7 @@ impl Node {
     }
 
     /// What comes of a record on that arc, by the current transaction; where there is none, as given.
+    #[inline(always)]
     #[tactic(auto, using(crate::proofs::Seen::sight_seen))]
     pub(crate) fn disposition_of_current(
         &self,
@@ -340,6 +341,7 @@ impl Node {
     // ---- refusals, which take no memory
 
     // Of a request that names an arc, by the arc itself and by others.
+    #[inline(always)]
     #[tactic(auto, using(crate::proofs::Refusals::refused_on))]
     fn refused_at(
         &self,
@@ -502,6 +504,7 @@ impl Node {
     }
 
     /// Why a request is refused, but for the want of numbers.
+    #[inline(always)]
     #[tactic(auto, unfolding(tp_model::specs::Requests::refused_request), using(crate::proofs::Refusals::data_cut))]
     pub(crate) fn refused_request(&self, request: &Request) -> Option<Refusal>
         ensures { result ≡ refused_request self.now.who self.now.digest request.now }
@@ -562,6 +565,7 @@ impl Node {
 
     /// Begin may be sent on the arc: it is live, leads to a subordinate, and is no branch yet of the
     /// transaction, which is active.
+    #[inline(always)]
     pub(crate) fn may_begin_on(&self, tie: &Tie) -> bool
         ensures { result ≡ may_begin_on self.now.who self.now.digest (arc_of tie.now) }
     {
@@ -584,6 +588,7 @@ impl Node {
     }
 
     /// The peers of the live chained arcs to subordinates that are no branches yet, in order.
+    #[inline(always)]
     #[tactic(auto, using(crate::proofs::Beginnings::none_chained))]
     pub fn chained_peers(&self, alloc: Global) -> Result<Vec<u16>, NoMemory>
         ensures { IfOk result (λ peers. peers.items ≡ chained_peers self.now.who self.now.digest) }
@@ -637,6 +642,7 @@ impl Node {
 
     /// Numbers the next record that goes out on the arc with that peer, where it is live. Where the association has no number
     /// left, nothing changes.
+    #[inline(always)]
     pub fn number_next(&mut self, peer: u16) -> Result<Option<Next>, NumbersSpent>
         ensures arcs { (rec : RecordValue) → OnOk result (self.new ≡ with_arcs self.old (carried self.old.digest.arcs peer rec).0) }
         ensures out { (rec : RecordValue) → IfOk result (λ next. outs_with next rec ≡ (carried self.old.digest.arcs peer rec).1) }
@@ -685,6 +691,7 @@ impl Node {
     }
 
     /// A transaction of that key begins: active, without a branch.
+    #[inline(always)]
     pub fn begin_transaction(
         &mut self,
         alloc: Global,
@@ -781,6 +788,7 @@ impl Node {
     }
 
     /// Changes the dialogue of the arc with that peer, where there is one. The node's side stays.
+    #[inline(always)]
     fn put_dialogue(&mut self, peer: u16, dialogue: Dialogue)
         requires { dialogue.side ≡ side_at self.old.digest peer }
         ensures { self.new ≡ with_arcs self.old (with_dialogue self.old.digest.arcs peer (λ _. dialogue.dialogue)) }
@@ -975,6 +983,7 @@ impl Node {
     }
 
     /// A record with that pair and number is taken on the arc with that peer; any but a response ends the arc's rest.
+    #[inline(always)]
     #[tactic(auto, using(tp_node_parts::proofs::Takes::woken_so))]
     pub fn take(&mut self, peer: u16, x: Mark, y: Mark, seq: u64, rec: &DialogueRecord)
         requires { dropped_by (link_with self.old.digest.arcs peer) x y seq ≡ None }
@@ -989,6 +998,7 @@ impl Node {
     /// A branch begins on the arc with that peer, where Begin may be sent: it has a new identifier, and control is
     /// where its holder is. Gives the record that is to go out. It takes no memory where the transaction has fewer than 256
     /// branches.
+    #[inline(always)]
     #[tactic(auto, using(crate::proofs::Beginnings::begun_record, crate::proofs::Beginnings::begun_spent))]
     pub fn begin_branch(&mut self, peer: u16) -> Result<Option<DialogueRecord>, Halt>
         ensures node { OnOk result (self.new ≡ with_digest self.old (begun_on self.old.who peer self.old.digest).0) }

@@ -130,6 +130,7 @@ impl Node {
     }
 
     /// Why a record is refused that arrives, but for the want of numbers.
+    #[inline(always)]
     #[tactic(auto, unfolding(tp_model::specs::Arrivals::refused_arrival))]
     pub fn refused_arrival(&self, from: &Addr, rec: &PeerRecord) -> Option<Refusal>
         ensures { result ≡ refused_arrival self.now.who self.now.digest from.now rec.now }
@@ -218,6 +219,7 @@ impl Node {
     }
 
     /// Why a request is refused before anything is tried. It takes no memory.
+    #[inline(always)]
     pub fn refused_do(&self, request: &Request) -> Option<Refusal>
         ensures { result ≡ refused_plainly self.now.who self.now.digest (Do request.now) }
     {
@@ -229,6 +231,7 @@ impl Node {
     }
 
     /// Why an event is refused before anything is tried. It takes no memory.
+    #[inline(always)]
     pub fn refused_at_once(&self, event: &NodeEvent<'_>) -> Option<Refusal>
         ensures { result ≡ refused_at_once self.now.who self.now.digest event.now }
     {

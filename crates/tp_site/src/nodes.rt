@@ -147,6 +147,7 @@ impl Nodes {
 
     /// What the node of that number answers to an event, with the draft of what happens. Where it does, there is room for the
     /// node; nothing is known of any that was not.
+    #[inline(always)]
     #[tactic(auto, using(crate::proofs::Numbered::found, crate::proofs::Numbered::unfound))]
     pub(crate) fn answer_to(
         &mut self,
@@ -244,6 +245,7 @@ impl Nodes {
     }
 
     /// The node of that number, as the draft has it, takes the place of what it was. It takes no memory.
+    #[inline(always)]
     pub(crate) fn put(&mut self, alloc: Global, number: u16, draft: &mut Draft)
         requires there { has_node self.old number ≡ true }
         requires who { draft.old.who ≡ who_at self.old number }

@@ -38,6 +38,7 @@ pub fn peer_of(request: &LineRequest) -> Option<u16>
 }
 
 // A request that wants no address.
+#[inline(always)]
 fn plain_request(alloc: Global, request: &LineRequest) -> Result<Request, NoMemory>
     ensures { IfOk result (λ r. r ≡ plain_request request.now) }
 {
@@ -69,6 +70,7 @@ fn plain_request(alloc: Global, request: &LineRequest) -> Result<Request, NoMemo
 }
 
 /// The request of a line; the peer of a new dialogue has the address of its number.
+#[inline(always)]
 pub fn request_in(
     alloc: Global,
     nodes: &Nodes,

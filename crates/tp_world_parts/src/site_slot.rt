@@ -168,6 +168,7 @@ impl SiteSlot {
     }
 
     /// The tree of that node's current transaction.
+    #[inline(always)]
     pub(crate) fn tree(&self, node: u16) -> Option<NodeTree>
         ensures { result ≡ tree_in (known_at self.now.site node) }
     {
@@ -245,6 +246,7 @@ impl SiteSlot {
     }
 
     /// A frame that is handed over to the node of that number. What that shows of trees is told beside the answer.
+    #[inline(always)]
     pub fn arrive(
         &mut self,
         alloc: Global,

@@ -49,6 +49,7 @@ pub fn site_place(sites: &[SiteSlot], name: &SiteName) -> Option<usize>
 }
 
 /// An event of the node at that address. What it shows of trees is told beside the answer.
+#[inline(always)]
 pub fn play_at(
     alloc: Global,
     sites: &mut [SiteSlot],
@@ -66,6 +67,7 @@ pub fn play_at(
 }
 
 /// A frame that is handed over to the node at that address. What that shows of trees is told beside the answer.
+#[inline(always)]
 pub fn arrive_at(
     alloc: Global,
     sites: &mut [SiteSlot],

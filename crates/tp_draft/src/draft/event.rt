@@ -95,6 +95,7 @@ impl Draft {
     }
 
     /// An event that is not refused happens.
+    #[inline(always)]
     pub(crate) fn happen(&mut self, alloc: Global, event: &NodeEvent<'_>) -> Result<(), Halt>
         requires { refused_at_once self.old.who self.old.move.next event.now ≡ None }
         ensures { Plays result self.old self.new (λ who d. action who d (event_of event.now)) }
