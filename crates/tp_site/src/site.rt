@@ -72,7 +72,7 @@ fn force<K: Keeper>(alloc: Global, keeper: &mut K, rec: &LogRec) -> Result<(), F
     ensures text { HasText (K.standing keeper.old).wide rec.now }
 {
     shaped_has_text(version_of(keeper), rec);
-    match keeper.force(alloc, rec) {
+    match keeper.append(alloc, rec) {
         Ok(_) => Ok(()),
         Err(fault) => Err(fault),
     }
