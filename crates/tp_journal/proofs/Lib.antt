@@ -26,3 +26,4 @@ pub mod Turning
 pub mod Unmoved
 pub mod Unique
 pub mod Widened
+mod Marks

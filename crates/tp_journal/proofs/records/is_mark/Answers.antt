@@ -1,5 +1,5 @@
 use Rattle.std.proofs.Common.{ap, ◌∙◌}
-use Rattle.tp_names.proofs.Sames.{pointwise_is}
+use Rattle.tp_journal.proofs.Marks.{pointwise_is}
 use Rattle.tp_names.specs.Same.{is_name}
 use Rattle.tp_journal.proofs.records.is_mark.Goals as goal
 
