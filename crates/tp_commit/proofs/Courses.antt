@@ -80,10 +80,10 @@ logged_in_turn None None None = refl
 in_turn : (a b c : Turn) (s : Step) → s.rec ≡ later (later (later None a.rec) b.rec) c.rec → s.outs ≡ a.outs ++ b.outs ++ c.outs → s ≡ record { rec = later a.rec (later b.rec c.rec); outs = a.outs ++ (b.outs ++ c.outs) }
 in_turn a b c s rec outs = grind (arith, rec, outs, logged_in_turn a.rec b.rec c.rec, append_assoc a.outs b.outs c.outs)
 
--- the step of three rules, each at what the one before it leaves
-pub followed : (c : Course) (t u v : Transaction) (o : List TxOut) (x y z : Step) → o ≡ [] → u ≡ (turn_of c.first t).next → x.rec ≡ later None (turn_of c.first t).rec → x.outs ≡ o ++ (turn_of c.first t).outs → v ≡ (turn_of c.second u).next → y.rec ≡ later x.rec (turn_of c.second u).rec → y.outs ≡ x.outs ++ (turn_of c.second u).outs → z.rec ≡ later y.rec (turn_of c.third v).rec → z.outs ≡ y.outs ++ (turn_of c.third v).outs → z ≡ step_of (run c t)
-followed c t u v o x y z none next1 rec1 outs1 next2 rec2 outs2 rec3 outs3 =
+-- the step of three rules, each at what the one before it leaves, put where nothing stands
+pub followed : (c : Course) (t u v : Transaction) (s x y z : Step) → s.rec ≡ None → s.outs ≡ [] → u ≡ (turn_of c.first t).next → x.rec ≡ later s.rec (turn_of c.first t).rec → x.outs ≡ s.outs ++ (turn_of c.first t).outs → v ≡ (turn_of c.second u).next → y.rec ≡ later x.rec (turn_of c.second u).rec → y.outs ≡ x.outs ++ (turn_of c.second u).outs → z.rec ≡ later y.rec (turn_of c.third v).rec → z.outs ≡ y.outs ++ (turn_of c.third v).outs → z ≡ step_of (run c t)
+followed c t u v s x y z unlogged unsaid next1 rec1 outs1 next2 rec2 outs2 rec3 outs3 =
     let a : Turn = turn_of c.first t in
     let b : Turn = turn_of c.second a.next in
     let d : Turn = turn_of c.third b.next in
-    in_turn a b d z (grind (arith, next1, rec1, next2, rec2, rec3)) (grind (arith, none, next1, outs1, next2, outs2, outs3))
+    in_turn a b d z (grind (arith, unlogged, next1, rec1, next2, rec2, rec3)) (grind (arith, unsaid, next1, outs1, next2, outs2, outs3))

@@ -1,5 +1,5 @@
 //! What an event asks for, and what it leaves.
-ghost use Rattle.std.specs.Prelude.{◌≡◌, ◌+◌, ◌≤◌, ◌++◌, Ok, IfOk, OnOk, length};
+ghost use Rattle.std.specs.Prelude.{◌≡◌, ◌+◌, ◌≤◌, ◌++◌, [], None, Ok, IfOk, OnOk, length};
 ghost use Rattle.tp_model.specs.Transactions.{transacted, refused_tx, step_of, fresh_rows};
 ghost use Rattle.tp_model.specs.Refusal.{IsRefusedAs};
 ghost use Rattle.tp_commit.specs.Branch.{standing, begins, with_begun};
@@ -40,19 +40,18 @@ impl Branch {
         self.obey(alloc, rule, step)
     }
 
-    // The rules of a course, each at what the one before it leaves.
-    fn follow(&mut self, alloc: Global, course: Course) -> Result<Step, NoMemory>
-        ensures step { IfOk result (λ step. step ≡ step_of (run course self.old)) }
+    // The rules of a course, each at what the one before it leaves. The step, in which nothing stands, becomes what they ask
+    // for.
+    fn follow(&mut self, alloc: Global, course: Course, step: &mut Step) -> Result<(), NoMemory>
+        requires rec { step.old.rec ≡ None }
+        requires outs { step.old.outs ≡ [] }
+        ensures step { OnOk result (step.new ≡ step_of (run course self.old)) }
         ensures next { OnOk result (self.new ≡ (run course self.old).next) }
     {
-        let mut step = Step {
-            rec: None,
-            outs: TxOuts::new(alloc),
-        };
-        self.carry_out(alloc, course.first, &mut step)?;
-        self.carry_out(alloc, course.second, &mut step)?;
-        self.carry_out(alloc, course.third, &mut step)?;
-        Ok(step)
+        self.carry_out(alloc, course.first, step)?;
+        self.carry_out(alloc, course.second, step)?;
+        self.carry_out(alloc, course.third, step)?;
+        Ok(())
     }
 
     /// What an event asks for: at most one record of the log, and outputs in order; or the number by
@@ -75,21 +74,28 @@ impl Branch {
         ensures { IfOk result (λ step. step ≡ step_of (transacted event.now self.now)) }
     {
         let course = self.course(event);
-        self.copy(alloc)?.follow(alloc, course)
+        let mut step = Step {
+            rec: None,
+            outs: TxOuts::new(alloc),
+        };
+        self.copy(alloc)?.follow(alloc, course, &mut step)?;
+        Ok(step)
     }
 
-    /// Takes an event that is not refused: what it asks for, as `plan` says it, and the transaction stands as the event
-    /// leaves it, as `apply` says it.
+    /// Takes an event that is not refused: the step, in which nothing stands, becomes what it asks for, as `plan` says it, in
+    /// the memory that it has, and the transaction stands as the event leaves it, as `apply` says it.
     #[tactic(auto, using(crate::proofs::Events::says_alike, crate::proofs::Events::begins_after))]
-    pub fn turn(&mut self, alloc: Global, event: &TxEvent) -> Result<Step, NoMemory>
-        ensures step { IfOk result (λ step. step ≡ step_of (transacted event.now self.old)) }
+    pub fn turn(&mut self, alloc: Global, event: &TxEvent, step: &mut Step) -> Result<(), NoMemory>
+        requires rec { step.old.rec ≡ None }
+        requires outs { step.old.outs ≡ [] }
+        ensures step { OnOk result (step.new ≡ step_of (transacted event.now self.old)) }
         ensures next { OnOk result (self.new ≡ standing (transacted event.now self.old).next) }
     {
         let course = self.course(event);
-        let step = self.follow(alloc, course)?;
+        self.follow(alloc, course, step)?;
         self.begin_by(event)?;
         self.stand();
-        Ok(step)
+        Ok(())
     }
 
     // What an event changes, but for the branches that it begins.

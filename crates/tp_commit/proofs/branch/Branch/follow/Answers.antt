@@ -8,11 +8,12 @@ returns-clause-step c =
     c.args.self.now
     c.carry_out.new.self
     c.carry_out-2.new.self
-    c.new.result
+    c.args.step.now
     c.carry_out.new.step
     c.carry_out-2.new.step
     c.carry_out-3.new.step
-    c.new.ensures
+    c.requires.rec
+    c.requires.outs
     c.in_ok-carry_out.ensures.next
     c.in_ok-carry_out.ensures.rec
     c.in_ok-carry_out.ensures.outs
