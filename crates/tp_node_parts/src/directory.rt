@@ -1,5 +1,5 @@
 //! Where the arcs of a node stand, by their peers.
-ghost use Rattle.std.specs.Prelude.{◌≡◌, [], IfOk};
+ghost use Rattle.std.specs.Prelude.{◌≡◌, [], OnOk};
 ghost use Rattle.tp_node_parts.specs.Directory.{place_in};
 
 use indexmap::IndexSet;
@@ -33,16 +33,15 @@ impl Directory {
         Directory { peers: None }
     }
 
-    /// The same one, shared.
-    pub(crate) fn copy(&self) -> Result<Directory, NoMemory>
-        ensures { IfOk result (λ copy. copy ≡ self.now) }
+    /// Becomes the same one, shared.
+    pub(crate) fn copy_from(&mut self, other: &Directory) -> Result<(), NoMemory>
+        ensures { OnOk result (self.new ≡ other.now) }
     {
-        let Some(peers) = &self.peers else {
-            return Ok(Directory::new());
-        };
-        Ok(Directory {
-            peers: Some(Arc::try_clone(peers)?),
-        })
+        match &other.peers {
+            None => self.forget(),
+            Some(peers) => self.peers = Some(Arc::try_clone(peers)?),
+        }
+        Ok(())
     }
 
     /// The place where the arc with that peer is looked for first; the one after all that are known where it is not known.
@@ -63,7 +62,9 @@ impl Directory {
     pub(crate) fn forget(&mut self)
         ensures { self.new ≡ [] }
     {
-        self.peers = None;
+        if self.peers.is_some() {
+            self.peers = None;
+        }
     }
 
     /// Learns the peers of those arcs that stand after the known ones; not all without memory, and none where others share it.

@@ -76,18 +76,17 @@ impl SharedArcs {
         ensures copy { OnOk result (self.new ≡ other.now) }
         ensures same { OnErr result (self.new ≡ self.old) }
     {
-        self.directory = other.directory.copy()?;
-        match &other.shared {
-            None => {
-                self.own.copy_from(&other.own)?;
+        self.directory.copy_from(&other.directory)?;
+        let Some(all) = &other.shared else {
+            self.own.copy_from(&other.own)?;
+            if self.shared.is_some() {
                 self.shared = None;
             }
-            Some(all) => {
-                self.spare.reserve(all.subordinates())?;
-                self.shared = Some(Arc::try_clone(all)?);
-                self.change = other.change;
-            }
-        }
+            return Ok(());
+        };
+        self.spare.reserve(all.subordinates())?;
+        self.shared = Some(Arc::try_clone(all)?);
+        put_aside(&mut self.change, &other.change);
         Ok(())
     }
 
@@ -453,6 +452,13 @@ pub(crate) fn take_on(tie: &mut Tie, x: Mark, y: Mark, seq: u64, wakes: bool)
     }
 }
 
+// What stands aside of those stands aside here.
+fn put_aside(change: &mut Option<Tie>, other: &Option<Tie>)
+    ensures { change.new ≡ other.now }
+{
+    *change = *other;
+}
+
 // The arc that stands aside, where it is with that peer.
 fn aside_at(change: &Option<Tie>, peer: u16) -> Option<&Tie>
     ensures { option_copied result ≡ aside_at change.now peer }
@@ -513,6 +519,7 @@ pub fn next_on(link: &mut Link) -> Result<Option<(Mark, Mark, u64)>, NumbersSpen
 }
 
 /// The next record on an arc is numbered and counted there.
+#[tactic(auto, using(crate::proofs::Sides::next_is))]
 pub(crate) fn number_on(tie: &mut Tie) -> Result<Option<Next>, NumbersSpent>
     ensures addr { tie.new.addr ≡ tie.old.addr }
     ensures dialogue { tie.new.dialogue ≡ tie.old.dialogue }
@@ -521,11 +528,15 @@ pub(crate) fn number_on(tie: &mut Tie) -> Result<Option<Next>, NumbersSpent>
     ensures spent { OnErr result (is_spent tie.old.link ≡ true) }
     ensures same { OnErr result (tie.new ≡ tie.old) }
 {
-    let to = tie.addr();
-    match next_on(&mut tie.link)? {
-        None => Ok(None),
-        Some((x, y, seq)) => Ok(Some(Next { to, x, y, seq })),
+    if tie.link.state() != LinkState::Live {
+        return Ok(None);
     }
+    if tie.link.left() == 0 {
+        return Err(NumbersSpent);
+    }
+    let to = tie.addr();
+    let (x, y, seq) = tie.link.send();
+    Ok(Some(Next { to, x, y, seq }))
 }
 
 /// A record with that pair and number, where they are given.
