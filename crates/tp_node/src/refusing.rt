@@ -4,7 +4,7 @@ ghost use Rattle.tp_names.specs.Same.{is_addr};
 ghost use Rattle.tp_model.specs.Parts.{Idle};
 ghost use Rattle.tp_tree.specs.Tie.{arc_of};
 ghost use Rattle.tp_model.specs.Dialogues.{first};
-ghost use Rattle.tp_model.specs.Parts.{Do};
+ghost use Rattle.tp_model.specs.Parts.{Do, Heur, GiveUp};
 ghost use Rattle.tp_model.specs.Events.{refused_plainly, unless_missing, is_no_node};
 ghost use Rattle.tp_node.specs.NodeEvent.{refused_at_once};
 ghost use Rattle.tp_model.specs.Transactions.{out_of_phase};
@@ -12,7 +12,7 @@ ghost use Rattle.tp_model.specs.Disposition.{sight_value};
 ghost use Rattle.tp_records.specs.declared.peer.PeerRecord.{PeerRecord};
 ghost use Rattle.tp_model.specs.Links.{is_opening_with, is_live_with, is_idle};
 ghost use Rattle.tp_model.specs.Arcs.{link_from, link_with};
-ghost use Rattle.tp_model.specs.Arrivals.{is_from_superior, is_shut_by, is_other, is_misplaced_order, is_bad_answer, refused_arrival, refused_on, kept_superior, child_addr, named_by_key, named_by_branch, refused_reply};
+ghost use Rattle.tp_model.specs.Arrivals.{is_from_superior, is_shut_by, is_other, is_misplaced_order, is_bad_answer, branch_key, refused_arrival, refused_on, kept_superior, child_addr, named_by_key, named_by_branch, refused_reply};
 ghost use Rattle.tp_model.specs.declared.refusal.Refusal.TheVariants.{WrongSite};
 
 use crate::event::NodeEvent;
@@ -24,7 +24,7 @@ use tp_model::Refusal::{
 };
 use tp_model::{Disposition, Question, Refusal, TxEvent};
 use tp_names::same::{is_addr, is_mark};
-use tp_names::{Aaid, Addr, BranchId, Mark, NodeKey};
+use tp_names::{Aaid, Addr, BranchId, Mark, NodeKey, Outcome};
 use tp_records::{DialogueRecord, PeerRecord, RecState, Request};
 use tp_recover::answer;
 use tp_tree::Tie;
@@ -146,22 +146,26 @@ impl Node {
                 self.refused_on(from, *x, *y, *seq, rec)
             }
             PeerRecord::RecReady { aaid, branch } => self.refused_of_branch(from, aaid, branch),
-            PeerRecord::RecCommit { aaid, branch } => {
-                let key = key_of(aaid, branch);
-                Refusal::first(&[
-                    (is_other(&self.superior_by_key(&key), from), WrongSite),
-                    (self.is_misplaced_order(&key, branch), OutOfPhase),
-                ])
-            }
+            PeerRecord::RecCommit { aaid, branch } => self.refused_order(from, aaid, branch),
             PeerRecord::RecReply {
                 aaid,
                 branch,
                 state,
             } => self.refused_reply(from, aaid, branch, *state),
-            PeerRecord::Forget { aaid, branch } => {
-                self.refused_of_superior(from, &key_of(aaid, branch))
-            }
+            PeerRecord::Forget { aaid, branch } => self.refused_of_superior(from, aaid, branch),
         }
+    }
+
+    // The superior orders the commitment of a branch.
+    #[tactic(auto, unfolding(tp_model::specs::Arrivals::refused_arrival))]
+    fn refused_order(&self, from: &Addr, aaid: &Aaid, branch: &BranchId) -> Option<Refusal>
+        ensures { result ≡ refused_arrival self.now.who self.now.digest from.now (PeerRecord.RecCommit aaid.now branch.now) }
+    {
+        let key = key_of(aaid, branch);
+        Refusal::first(&[
+            (is_other(&self.superior_by_key(&key), from), WrongSite),
+            (self.is_misplaced_order(&key, branch), OutOfPhase),
+        ])
     }
 
     // The order of commitment acts on a ready key alone, or is answered.
@@ -172,11 +176,12 @@ impl Node {
             && answer(self.known_by_key(key, branch), Question::RecCommit).is_none()
     }
 
-    // Of a record that the superior says of that key.
-    fn refused_of_superior(&self, from: &Addr, key: &NodeKey) -> Option<Refusal>
-        ensures { result ≡ first ((is_other (kept_superior (named_by_key self.now.digest key.now)) from.now, WrongSite) ∷ []) }
+    // Of a record that the superior says of that branch.
+    fn refused_of_superior(&self, from: &Addr, aaid: &Aaid, branch: &BranchId) -> Option<Refusal>
+        ensures { result ≡ first ((is_other (kept_superior (named_by_key self.now.digest (branch_key aaid.now branch.now))) from.now, WrongSite) ∷ []) }
     {
-        Refusal::first(&[(is_other(&self.superior_by_key(key), from), WrongSite)])
+        let key = key_of(aaid, branch);
+        Refusal::first(&[(is_other(&self.superior_by_key(&key), from), WrongSite)])
     }
 
     // Of a record that a branch says.
@@ -202,7 +207,7 @@ impl Node {
         match state {
             RecState::Done(_) => self.refused_of_branch(from, aaid, branch),
             RecState::Commit | RecState::Unknown | RecState::RetryLater => {
-                self.refused_of_superior(from, &key_of(aaid, branch))
+                self.refused_of_superior(from, aaid, branch)
             }
         }
     }
@@ -230,6 +235,22 @@ impl Node {
         self.refused_request(request)
     }
 
+    // Of an operator's decision.
+    fn refused_heur(&self, outcome: Outcome) -> Option<Refusal>
+        ensures { result ≡ refused_plainly self.now.who self.now.digest (Heur outcome) }
+    {
+        let event = TxEvent::Heur(outcome);
+        self.unless_missing(self.refused_of_current(&event, Some(NotInReady)))
+    }
+
+    // Of an operator's giving up of an arc.
+    fn refused_give_up(&self, peer: u16) -> Option<Refusal>
+        ensures { result ≡ refused_plainly self.now.who self.now.digest (GiveUp peer) }
+    {
+        let event = TxEvent::GiveUp { arc: peer };
+        self.unless_missing(self.refused_of_current(&event, Some(NothingOwed)))
+    }
+
     /// Why an event is refused before anything is tried. It takes no memory.
     #[inline(always)]
     pub fn refused_at_once(&self, event: &NodeEvent<'_>) -> Option<Refusal>
@@ -240,17 +261,8 @@ impl Node {
             NodeEvent::Do { request } => self.refused_do(request),
             NodeEvent::Arrive { from, rec } => self.refused_arrival(from, rec),
             NodeEvent::Lose { peer } => self.unless_missing(self.refused_loss(*peer)),
-            NodeEvent::Heur { outcome } => {
-                let refused = self.refused_of_current(&TxEvent::Heur(*outcome), Some(NotInReady));
-                self.unless_missing(refused)
-            }
-            NodeEvent::GiveUp { peer } => {
-                let refused = self.refused_of_current(
-                    &TxEvent::GiveUp { arc: *peer },
-                    Some(NothingOwed),
-                );
-                self.unless_missing(refused)
-            }
+            NodeEvent::Heur { outcome } => self.refused_heur(*outcome),
+            NodeEvent::GiveUp { peer } => self.refused_give_up(*peer),
             NodeEvent::Retry => self.unless_missing(None),
             NodeEvent::Purge => self.unless_missing(self.refused_purge()),
         }
