@@ -4,10 +4,13 @@ use Rattle.std.proofs.lemmas.Bool.Decides.{nat_tests}
 use Rattle.std.specs.Prelude.{nat_lt}
 use Rattle.tp_model.specs.declared.out_line.OutLine.{OutLine}
 use Rattle.tp_model.specs.declared.verdict.What.{What}
-use Rattle.tp_model.specs.World.{Site}
+use Rattle.tp_model.specs.World.{World, Site, Frame}
 use Rattle.tp_model.specs.Happenings.{WorldTurn}
 use Rattle.tp_model.specs.Lines.{Fault, Name, Over, is_full, within_limits}
+use Rattle.tp_names.specs.declared.identifiers.Aaid.{Aaid}
+use Rattle.tp_network.specs.declared.nodes.NodeSlot.{NodeSlot}
 use Rattle.tp_world_parts.specs.Sites.{AreSites}
+use Rattle.tp_world_parts.specs.Standing.{SitesStand, RestStands}
 use Rattle.tp_world.specs.World.{Mirrors, Gives}
 use Rattle.tp_world_parts.specs.declared.fault.WorldFault.{WorldFault}
 use Rattle.tp_world_parts.specs.declared.site_slot.SiteSlot.{SiteSlot}
@@ -54,3 +57,28 @@ pub record Given (r : Result WorldTurn Fault) (before after : List OutLine) (v :
 pub given : (r : Result WorldTurn Fault) (before after : List OutLine) (v : CodeWorld) (u : Unit {0}) → Gives r before (Ok u) after v → Given r before after v
 given (Ok t) before after v u h = record { turn = t; is = refl; lines = h.0; stands = h.1 }
 given (Err f) before after v u h = absurd h
+
+-- ---- what stands in the memory beside the world does not matter
+
+pub record IsSameWorld (v x : CodeWorld) : Type 0 where
+  pub sites : x.sites.items ≡ v.sites.items
+  pub nodes : x.nodes ≡ v.nodes
+  pub frames : x.frames ≡ v.frames
+  pub trees : x.trees.items ≡ v.trees.items
+
+pub same_mirrors : (w : World) (v x : CodeWorld) → IsSameWorld v x → Mirrors w v → Mirrors w x
+same_mirrors w v x s h = record {
+  sites = subst (SitesStand w) (sym s.sites) h.sites;
+  rest = subst (λ (ts : List Aaid). RestStands w x.nodes x.frames ts) (sym s.trees)
+      (subst (λ (fs : List Frame). RestStands w x.nodes fs v.trees.items) (sym s.frames)
+      (subst (λ (ns : List NodeSlot). RestStands w ns v.frames v.trees.items) (sym s.nodes) h.rest));
+}
+
+pub same_gives : (r : Result WorldTurn Fault) (before after : List OutLine) (q : Result (Unit {0}) WorldFault) (v : CodeWorld) {x : CodeWorld} → IsSameWorld v x → Gives r before q after v → Gives r before q after x
+same_gives r before after (Err WorldFault.NoMemory) v s h = tt
+same_gives (Ok t) before after (Ok u) v s h = (h.0, same_mirrors t.world v _ s h.1)
+same_gives (Ok t) before after (Err WorldFault.Name) v s h = absurd h
+same_gives (Ok t) before after (Err (WorldFault.Limit what)) v s h = absurd h
+same_gives (Err f) before after (Ok u) v s h = absurd h
+same_gives (Err f) before after (Err WorldFault.Name) v s h = h
+same_gives (Err f) before after (Err (WorldFault.Limit what)) v s h = h

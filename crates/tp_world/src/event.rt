@@ -1,5 +1,5 @@
 //! An event of a node of the world.
-ghost use Rattle.std.specs.Prelude.{◌≡◌, ◌<◌, ◌++◌, ◌∷◌, [], length, IfSome, IfOk, OnOk, Option, Some, is_some};
+ghost use Rattle.std.specs.Prelude.{◌≡◌, ◌<◌, ◌++◌, ◌∷◌, [], length, IfSome, IfOk, OnOk, Option, Some, is_some, None};
 ghost use Rattle.tp_model.specs.World.{World as WorldValue, is_site};
 ghost use Rattle.tp_names.specs.declared.identifiers.Addr.{Addr as AddrValue};
 ghost use Rattle.tp_model.specs.declared.line.Action.{Action};
@@ -22,7 +22,7 @@ use tp_network::{SendFault, TreeChange, is_in};
 use tp_records::{PeerRecord, Request};
 use tp_site::{NodeEvent, Out, Outs};
 use tp_world_parts::{
-    Answer, WorldFault, arrive_at, play_at, refused_shown, request_in, show_record, show_refusal,
+    Answer, WorldFault, arrive_at, play_at, request_in, show_record, show_refusal, show_refused,
     show_sent, show_told, site_place,
 };
 
@@ -36,6 +36,11 @@ fn started(change: &TreeChange) -> Option<Aaid>
     }
 }
 
+// Memory for what the first event shows of trees.
+fn first_change(alloc: Global) -> Result<Box<TreeChange>, NoMemory> {
+    Ok(Box::new(alloc, TreeChange::NONE)?)
+}
+
 impl World {
     /// The place of the site of that name.
     pub(crate) fn site(&self, name: &SiteName) -> Option<usize>
@@ -44,6 +49,16 @@ impl World {
         ensures there { (w : WorldValue) → Mirrors w self.now → is_some result ≡ is_site w name.now }
     {
         site_place(self.sites.as_slice(), name)
+    }
+
+    // Memory for what an event shows of trees: that of the event before it.
+    fn take_change(&mut self, alloc: Global) -> Result<Box<TreeChange>, NoMemory>
+        ensures { self.new ≡ record self.old { change = None } }
+    {
+        match self.change.take() {
+            Some(change) => Ok(change),
+            None => first_change(alloc),
+        }
     }
 
     /// An event of that node, where the node is there.
@@ -57,12 +72,28 @@ impl World {
     ) -> Result<(), WorldFault>
         ensures { (w : WorldValue) → Mirrors w self.old → ((up : Option AddrValue) → IsUnder up (event_of event.now)) → Gives (within_limits (task_turn w [] (task_at w node (event_of event.now)))) lines.old result lines.new self.new }
     {
+        let mut change = self.take_change(alloc)?;
+        let done = self.local_with(alloc, node, event, &mut change, lines);
+        self.change = Some(change);
+        done
+    }
+
+    // The same; what it shows of trees is told there.
+    fn local_with(
+        &mut self,
+        alloc: Global,
+        node: u16,
+        event: &NodeEvent<'_>,
+        change: &mut TreeChange,
+        lines: &mut OutLines,
+    ) -> Result<(), WorldFault>
+        ensures { (w : WorldValue) → Mirrors w self.old → ((up : Option AddrValue) → IsUnder up (event_of event.now)) → Gives (within_limits (task_turn w [] (task_at w node (event_of event.now)))) lines.old result lines.new self.new }
+    {
         let Some(at) = self.nodes.addr(node) else {
             return Ok(());
         };
-        let mut change = TreeChange::NONE;
-        let answer = play_at(alloc, self.sites.as_mut_slice(), &at, event, &mut change)?;
-        self.settle(alloc, &at, &answer, &change, lines)?;
+        let answer = play_at(alloc, self.sites.as_mut_slice(), &at, event, change)?;
+        self.settle(alloc, &at, &answer, change, lines)?;
         Ok(())
     }
 
@@ -96,6 +127,22 @@ impl World {
     ) -> Result<(), WorldFault>
         ensures { (w : WorldValue) → Mirrors w self.old → Gives (within_limits (happens w (Does (Action.Again number)))) lines.old result lines.new self.new }
     {
+        let mut change = self.take_change(alloc)?;
+        let done = self.deliver_with(alloc, number, &mut change, lines);
+        self.change = Some(change);
+        done
+    }
+
+    // The same; what it shows of trees is told there.
+    fn deliver_with(
+        &mut self,
+        alloc: Global,
+        number: u16,
+        change: &mut TreeChange,
+        lines: &mut OutLines,
+    ) -> Result<(), WorldFault>
+        ensures { (w : WorldValue) → Mirrors w self.old → Gives (within_limits (happens w (Does (Action.Again number)))) lines.old result lines.new self.new }
+    {
         let Some(frame) = self.frames.find(number) else {
             return Ok(());
         };
@@ -103,9 +150,8 @@ impl World {
             return Ok(());
         };
         lines.push(alloc, OutLine::Take { frame: number })?;
-        let mut change = TreeChange::NONE;
-        let answer = arrive_at(alloc, self.sites.as_mut_slice(), &at, frame, &mut change)?;
-        self.settle(alloc, &at, &answer, &change, lines)?;
+        let answer = arrive_at(alloc, self.sites.as_mut_slice(), &at, frame, change)?;
+        self.settle(alloc, &at, &answer, change, lines)?;
         Ok(())
     }
 
@@ -200,7 +246,7 @@ impl World {
     {
         match answer {
             Answer::Refused(number) => {
-                lines.push(alloc, refused_shown(*number))?;
+                show_refused(alloc, *number, lines)?;
                 Ok(())
             }
             Answer::Happened { refusal, outs } => {

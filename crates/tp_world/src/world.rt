@@ -12,19 +12,21 @@ ghost use Rattle.tp_world.specs.LocalEvents.{is_local};
 use std::alloc::Global;
 use tp_model::{Line, OutLine, OutLines};
 use tp_names::{Aaid, NoMemory, Octets};
-use tp_network::{Frames, Nodes};
+use tp_network::{Frames, Nodes, TreeChange};
 use tp_records::{PeerRecord, Request};
 use tp_schedule::write_line;
 use tp_site::NodeEvent;
 use tp_world_parts::{SiteSlot, Stop, WorldFault, closing_lines};
 
-/// A world of nodes under a written schedule: its nodes, sites and frames, and its trees in the order of their starts.
+/// A world of nodes under a written schedule: its nodes, sites and frames, and its trees in the order of their starts. What an event
+/// shows of trees is told in the memory of the event before it.
 #[derive(Drop)]
 pub struct World {
     pub(crate) nodes: Nodes,
     pub(crate) sites: Vec<SiteSlot>,
     pub(crate) frames: Frames,
     pub(crate) trees: Vec<Aaid>,
+    pub(crate) change: Option<Box<TreeChange>>,
 }
 
 /// The line speaks of members, and nothing is shown of it.
@@ -54,6 +56,7 @@ impl World {
             sites: Vec::new(alloc),
             frames: Frames::new(alloc),
             trees: Vec::new(alloc),
+            change: None,
         }
     }
 

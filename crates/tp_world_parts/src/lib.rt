@@ -19,7 +19,7 @@ pub use left::{Stop, left_by};
 pub use requests::{peer_of, request_in};
 pub use restart::{LostEntry, restart_nodes};
 pub use shown::{
-    refused_shown, show_boot, show_record, show_refusal, show_sent, show_told, state_shown,
+    show_boot, show_record, show_refusal, show_refused, show_sent, show_told, state_shown,
 };
 pub use site_slot::{Answer, SiteSlot, opened};
 pub use sites::{arrive_at, declare_at, play_at, site_place, state_at};

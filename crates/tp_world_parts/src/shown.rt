@@ -195,8 +195,15 @@ fn show_other(
     )
 }
 
-/// A refusal: 21 and 22 are dropped.
-pub fn refused_shown(number: u8) -> OutLine
+/// A refusal by that number is shown.
+pub fn show_refused(alloc: Global, number: u8, lines: &mut OutLines) -> Result<(), NoMemory>
+    ensures { OnOk result (lines.new ≡ lines.old ++ refused_lines (Some number)) }
+{
+    lines.push(alloc, refused_shown(number))
+}
+
+// A refusal: 21 and 22 are dropped.
+fn refused_shown(number: u8) -> OutLine
     ensures { refused_lines (Some number) ≡ result ∷ [] }
 {
     if number == 21 || number == 22 {
@@ -309,6 +316,6 @@ pub fn show_refusal(
 {
     match refusal {
         None => Ok(()),
-        Some(refusal) => lines.push(alloc, refused_shown(refusal.number())),
+        Some(refusal) => show_refused(alloc, refusal.number(), lines),
     }
 }
