@@ -17,7 +17,7 @@ use tp_driven::{DrivenWorld, is_silent};
 use tp_model::{Line, OutLines, Why};
 use tp_names::{NoMemory, Octets};
 use tp_records::Member;
-use tp_schedule::{LineFault, read_line, write_line};
+use tp_schedule::{LineFault, read_line_into, write_line};
 use tp_transcript::write_out;
 use tp_world::WorldFault;
 
@@ -190,9 +190,10 @@ pub fn play_text<M: Member>(
     ensures same { OnErr result (out.new ≡ out.old) }
     ensures shown { (w : WorldValue) → Stands w world.old → ShowsReading world.old world.new M.allowed at w (read_line text.now) result out.old out.new }
 {
-    match read_line(alloc, text) {
-        Ok(None) => Ok(()),
-        Ok(Some(line)) => play_line(alloc, world, &line, at, lines, out),
+    let mut line = Line::Drain;
+    match read_line_into(alloc, text, &mut line) {
+        Ok(false) => Ok(()),
+        Ok(true) => play_line(alloc, world, &line, at, lines, out),
         Err(fault) => Err(unread(fault, at)),
     }
 }
@@ -211,9 +212,10 @@ pub fn play_unwritten<M: Member>(
     ensures ending { IfErr result IsNumbered }
     ensures played { (w : WorldValue) → Stands w world.old → PlaysUnwritten world.old world.new M.allowed at w (read_line text.now) result }
 {
-    match read_line(alloc, text) {
-        Ok(None) => Ok(()),
-        Ok(Some(line)) => run_line(alloc, world, &line, at, lines),
+    let mut line = Line::Drain;
+    match read_line_into(alloc, text, &mut line) {
+        Ok(false) => Ok(()),
+        Ok(true) => run_line(alloc, world, &line, at, lines),
         Err(fault) => Err(unread(fault, at)),
     }
 }

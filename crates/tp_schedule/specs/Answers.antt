@@ -1,5 +1,5 @@
 -- What a reader answers for what the definitions of reading give: a value, or the fault of the line.
-use Rattle.std.specs.Prelude.{◌≡◌, ℕ, if◌then◌else◌, nat_le, ◌&&◌, ◌||◌, Bool, false, Option, Some, None, Result, Ok, Err, List, [], ◌∷◌, ◌+◌}
+use Rattle.std.specs.Prelude.{◌≡◌, ℕ, if◌then◌else◌, nat_le, ◌&&◌, ◌||◌, Bool, true, false, Option, Some, None, Result, Ok, Err, List, [], ◌∷◌, ◌+◌}
 use Rattle.hex.specs.declared.error.FromHexError.{FromHexError}
 use Rattle.tp_model.specs.declared.line.Line.{Line}
 use Rattle.tp_model.specs.declared.verdict.Why.{Why}
@@ -27,6 +27,12 @@ Reads f r = r ≡ unless_memory r (read_as f)
 abbrev pub filled : {A : Type 0} → Result (Unit {0}) LineFault → A → Result A LineFault
 filled (Ok u) a = Ok a
 filled (Err f) a = Err f
+
+-- the line that was put into a place, where the answer is that there is one
+abbrev pub put_into : Result Bool LineFault → Line → Result (Option Line) LineFault
+put_into (Ok true) l = Ok (Some l)
+put_into (Ok false) l = Ok None
+put_into (Err f) l = Err f
 
 -- what an answer says of a line; out of memory says nothing
 abbrev pub answered : Result (Option Line) LineFault → Option Reading

@@ -21,7 +21,7 @@ mod window;
 pub mod word;
 
 pub use line_fault::LineFault;
-pub use line_reading::read_line;
+pub use line_reading::{read_line, read_line_into};
 pub use lines::Lines;
 pub use lines_fault::LinesFault;
 pub use schedule_line::write_line;

@@ -1,7 +1,7 @@
 //! Reading a line of a schedule.
 ghost use Rattle.std.specs.Prelude.{◌≡◌, ◌∷◌, length, IfSome};
 ghost use Rattle.tp_model.specs.LineReading.{words_in, number, outcome, two_words, one_word, do_from, node_from, node_under, crash_from, crash_in, read_by, request_readers, action_readers, line_readers, is_comment, read_line};
-ghost use Rattle.tp_schedule.specs.Answers.{read_as, Reads, filled, pair, same, answered};
+ghost use Rattle.tp_schedule.specs.Answers.{read_as, Reads, filled, put_into, pair, same, answered};
 ghost use Rattle.tp_schedule.specs.Keywords.{request_of_peer, request_reader, action_reader, line_reader};
 ghost use Rattle.tp_schedule.specs.declared.schedule_words.LineWord.{LineWord};
 ghost use Rattle.tp_schedule.specs.declared.schedule_words.RequestWord.{RequestWord};
@@ -28,18 +28,30 @@ const MAX_LINE: usize = 8192;
 pub fn read_line(alloc: Global, bytes: &[u8]) -> Result<Option<Line>, LineFault>
     ensures { IfSome (answered result) (λ reading. reading ≡ read_line bytes.now) }
 {
+    let mut line = Line::Drain;
+    match read_line_into(alloc, bytes, &mut line) {
+        Ok(true) => Ok(Some(line)),
+        Ok(false) => Ok(None),
+        Err(fault) => Err(fault),
+    }
+}
+
+/// Reads as `read_line` does, and puts the line into `line`: true where there is one, false for a line with no words and
+/// for a comment. Where it is not true, what stands in `line` is not said.
+pub fn read_line_into(alloc: Global, bytes: &[u8], line: &mut Line) -> Result<bool, LineFault>
+    ensures { IfSome (answered (put_into result line.new)) (λ reading. reading ≡ read_line bytes.now) }
+{
     if bytes.len() > MAX_LINE {
         return Err(LineFault::Long);
     }
     if is_comment(bytes) {
-        return Ok(None);
+        return Ok(false);
     }
     let Some((word, rest)) = next_word(bytes) else {
-        return Ok(None);
+        return Ok(false);
     };
-    let mut line = Line::Drain;
-    read_words(alloc, word, rest, &mut line)?;
-    Ok(Some(line))
+    read_words(alloc, word, rest, line)?;
+    Ok(true)
 }
 
 fn is_comment(bytes: &[u8]) -> bool
