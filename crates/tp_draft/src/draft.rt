@@ -32,11 +32,11 @@ ghost use Rattle.tp_model.specs.Links.{greatest, is_opening_with, dropped_by};
 
 use std::alloc::Global;
 use std::marker::Model;
-use std::mem::swap;
+use std::mem::{replace, swap};
 use tp_commit::Branch;
 use tp_dialogue::{Asked, Heard};
 use tp_logrec::LogRec;
-use tp_model::{Disposition, Kept, KeptEvent, Phase, Step, TxEvent, TxOut};
+use tp_model::{Disposition, Kept, KeptEvent, Phase, Step, TxEvent, TxOut, TxOuts};
 use tp_names::{Aaid, Addr, BranchId, Mark, NoMemory, NodeKey, Octets};
 use tp_node::{Halt, Node, Passage, is_leaving};
 use tp_node_parts::{ArcStep, Outs, copies};
@@ -45,14 +45,15 @@ use tp_recover::{owed, step};
 use tp_tree::Tie;
 use tp_units::{CHAINED, Units};
 
-/// A copy of a node on which an event runs, the record that is to be forced, and the outputs. Contracts
-/// see it as a move of the definitions. A transaction that is over may be spared, as memory for the next one.
+/// A copy of a node on which an event runs, the record that is to be forced, and the outputs. Contracts see it as a move of the
+/// definitions. A transaction that is over may be spared, as memory for the next one, and so is the memory for what one says.
 #[derive(Drop)]
 pub struct Draft {
     node: Box<Node>,
     spare: Option<Branch>,
     rec: Option<LogRec>,
     outs: Outs,
+    said: TxOuts,
 }
 
 impl Model for Draft {
@@ -366,6 +367,23 @@ impl Draft {
         self.log(alloc, &mut step.rec)
     }
 
+    // A list in which a transaction says something, with nothing in it yet, in the memory of the one before.
+    fn take_said(&mut self, alloc: Global) -> TxOuts
+        ensures said { result ≡ [] }
+        ensures rest { self.new ≡ self.old }
+    {
+        let mut said = replace(&mut self.said, TxOuts::new(alloc));
+        said.clear();
+        said
+    }
+
+    // Keeps the memory of that list.
+    fn put_said(&mut self, said: &mut TxOuts)
+        ensures { self.new ≡ self.old }
+    {
+        swap(&mut self.said, said);
+    }
+
     // A turn of the transaction as it is seen now, by an event that it does not refuse; and whether it is over.
     fn take_turn(
         &mut self,
@@ -379,11 +397,16 @@ impl Draft {
         ensures turn { Plays (without_value result) self.old self.new (acting_by branch.old event.now) }
     {
         let before = branch.phase();
-        let mut step = branch.turn(alloc, event)?;
+        let mut step = Step {
+            rec: None,
+            outs: self.take_said(alloc),
+        };
+        branch.turn(alloc, event, &mut step)?;
         let passage = Passage::of(is_leaving(event), before, branch.phase());
         if let Err(halt) = self.turn(alloc, passage, &mut step, branch) {
             return Err(halt);
         }
+        self.put_said(&mut step.outs);
         Ok(passage.is_over())
     }
 

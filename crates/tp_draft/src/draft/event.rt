@@ -10,7 +10,7 @@ use crate::draft::Draft;
 use std::alloc::Global;
 use std::mem::{replace, swap};
 use tp_logrec::LogRec;
-use tp_model::TxEvent;
+use tp_model::{TxEvent, TxOuts};
 use tp_names::{Addr, NoMemory};
 use tp_node::{Halt, Node, NodeEvent};
 use tp_node_parts::Outs;
@@ -25,6 +25,7 @@ impl Draft {
             spare: None,
             rec: None,
             outs: Outs::new(alloc),
+            said: TxOuts::new(alloc),
         }
     }
 
