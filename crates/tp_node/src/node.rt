@@ -230,6 +230,24 @@ impl Node {
         }
     }
 
+    /// The tree of its current transaction is put there.
+    pub fn put_tree(&self, tree: &mut Option<NodeTree>)
+        ensures { tree.new ≡ tree_in self.now.digest }
+    {
+        let Some(branch) = &self.current else {
+            *tree = None;
+            return;
+        };
+        let Some(tree) = tree else {
+            *tree = self.tree();
+            return;
+        };
+        let key = branch.key();
+        tree.aaid = key.aaid;
+        tree.is_root = key.branch.is_none();
+        tree.phase = branch.phase();
+    }
+
     /// It was declared since the site was started.
     pub(crate) fn is_declared(&self) -> bool
         ensures { result ≡ self.now.digest.declared }

@@ -248,7 +248,7 @@ fn write_word(alloc: Global, word: &Word, out: &mut Octets) -> Result<(), NoMemo
         Word::Site(site) => out.extend_from_slice(alloc, site.bytes()),
         Word::Octets(octets) => digits::write_octets(alloc, octets.as_slice(), out),
         Word::Hex(octets) => digits::write_hex(alloc, octets.as_slice(), out),
-        Word::Octet(octet) => digits::write_hex(alloc, &[*octet], out),
+        Word::Octet(octet) => digits::write_octet(alloc, *octet, out),
         Word::Units(units) => digits::write_units(alloc, *units, out),
         Word::Mark(mark) => digits::write_mark(alloc, mark, out),
         Word::Aaid(aaid) => write_marked(alloc, &aaid.owner, &aaid.mark, out),

@@ -326,6 +326,17 @@ impl<K: Keeper> Site<K> {
         }
     }
 
+    /// The tree of the current transaction of the node of that number, where it has one, is put there.
+    #[tactic(auto, using(crate::proofs::Numbered::found, crate::proofs::Numbered::unfound_treeless))]
+    pub fn put_tree(&self, node: u16, tree: &mut Option<NodeTree>)
+        ensures { tree.new ≡ tree_in (known_at self.now node) }
+    {
+        match self.nodes.find(node) {
+            None => *tree = None,
+            Some(node) => node.put_tree(tree),
+        }
+    }
+
     /// The site's name.
     pub fn name(&self) -> SiteName
         ensures { result ≡ self.now.nodes.site }

@@ -207,7 +207,7 @@ impl SiteSlot {
     fn put_tree(&self, node: u16, tree: &mut Option<NodeTree>)
         ensures { tree.new ≡ tree_in (known_at self.now.site node) }
     {
-        *tree = self.site.tree(node);
+        self.site.put_tree(node, tree);
     }
 
     // What an event of that node has shown of trees, before which the log had so many records; the tree before it stays as it is.
