@@ -133,6 +133,9 @@ pub fn write_number(alloc: Global, n: u16, out: &mut Octets) -> Result<(), NoMem
     ensures ok { OnOk result (out.new ≡ out.old ++ (32 ∷ decimal n)) }
     ensures err { OnErr result (Keeps out.old out.new) }
 {
+    if n < 10 {
+        return out.extend_from_slice(alloc, &[b' ', digits::digit(u64::from(n))]);
+    }
     digits::write_behind(alloc, b' ', u64::from(n), out)
 }
 
