@@ -34,17 +34,6 @@ queue_none (l ∷ ls) a b h = go (is_lane a b l) refl (queue_none ls a b)
     go true e rest = absurd (let none : place_on (l ∷ ls) a b ≡ 0 = grind (arith, e) in omega (arith, none, h))
     go false e rest = let one_more : place_on (l ∷ ls) a b ≡ suc (place_on ls a b) = grind (arith, e) in let tail = rest (omega (arith, one_more, h)) in grind (arith, e, tail)
 
-place_most : (ls : List Lane) (a b : ℕ) → place_on ls a b ≤ length ls
-place_most [] a b = omega arith
-place_most (l ∷ ls) a b = go (is_lane a b l) refl (place_most ls a b)
-  where
-    go : (c : Bool) → is_lane a b l ≡ c → place_on ls a b ≤ length ls → place_on (l ∷ ls) a b ≤ length (l ∷ ls)
-    go true e more = let none : place_on (l ∷ ls) a b ≡ 0 = grind (arith, e) in omega (arith, none)
-    go false e more = let one_more : place_on (l ∷ ls) a b ≡ suc (place_on ls a b) = grind (arith, e) in omega (arith, one_more, more)
-
-pub place_past : (ls : List Lane) (a b : ℕ) → length ls ≤ place_on ls a b → place_on ls a b ≡ length ls
-place_past ls a b h = let most = place_most ls a b in omega (arith, most, h)
-
 -- the place of a lane that is known
 pub place_there : (ls : List Lane) (k : ℕ) (d : Lane) (a b : ℕ) → AreApart ls → k < length ls → (slice_index_or ls k d).from ≡ a → (slice_index_or ls k d).to ≡ b → place_on ls a b ≡ k
 place_there [] k d a b h i from to = absurd (omega (arith, i))

@@ -176,7 +176,7 @@ fn play_line<M: Member>(
 
 /// Puts what the line of that number, without its end, shows at the end of `out`; or tells what stops the run
 /// in it, and `out` stays as it was. The lines are room for what it shows.
-#[tactic(auto, using(crate::proofs::Ended::said_shows, crate::proofs::Ended::unread_ends, crate::proofs::Ended::unread_numbered))]
+#[tactic(auto, using(crate::proofs::Ended::unread_ends, crate::proofs::Ended::unread_numbered))]
 pub fn play_text<M: Member>(
     alloc: Global,
     world: &mut DrivenWorld<M>,
@@ -200,7 +200,7 @@ pub fn play_text<M: Member>(
 
 /// Plays the line of that number, without its end, and writes nothing of what it shows; or tells what stops the run in it.
 /// The lines are room for what it shows.
-#[tactic(auto, using(crate::proofs::Ended::said_plays, crate::proofs::Ended::unread_ends, crate::proofs::Ended::unread_numbered))]
+#[tactic(auto, using(crate::proofs::Ended::unread_ends, crate::proofs::Ended::unread_numbered))]
 pub fn play_unwritten<M: Member>(
     alloc: Global,
     world: &mut DrivenWorld<M>,

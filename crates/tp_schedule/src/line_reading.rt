@@ -79,62 +79,126 @@ fn read_line_of(
     ensures { Reads (line_reader kind (words_in rest.now)) (filled result line.new) }
 {
     match kind {
-        LineWord::Node => *line = read_node(rest)?,
-        LineWord::Do => {
-            let (node, request) = read_do(alloc, rest)?;
-            *line = Line::Do { node, request };
-        }
-        LineWord::Pass => {
-            let (from, to) = two_numbers(rest)?;
-            *line = Line::Pass { from, to };
-        }
-        LineWord::Skip => {
-            let (from, to) = two_numbers(rest)?;
-            *line = Line::Skip { from, to };
-        }
-        LineWord::Again => {
-            let frame = one_number(rest)?;
-            *line = Line::Again { frame };
-        }
-        LineWord::Drain => {
-            if_no_word(rest, ())?;
-            *line = Line::Drain;
-        }
-        LineWord::Lose => {
-            let (node, peer) = two_numbers(rest)?;
-            *line = Line::Lose { node, peer };
-        }
-        LineWord::Heur => {
-            let (node, outcome) = number_and_outcome(rest)?;
-            *line = Line::Heur { node, outcome };
-        }
-        LineWord::GiveUp => {
-            let (node, peer) = two_numbers(rest)?;
-            *line = Line::GiveUp { node, peer };
-        }
-        LineWord::Retry => {
-            let node = one_number(rest)?;
-            *line = Line::Retry { node };
-        }
-        LineWord::Purge => {
-            let node = one_number(rest)?;
-            *line = Line::Purge { node };
-        }
-        LineWord::Crash => *line = read_crash(alloc, rest)?,
-        LineWord::Show => {
-            let node = one_number(rest)?;
-            *line = Line::Show { node };
-        }
-        LineWord::Image => *line = read_image(rest)?,
-        LineWord::Auto => {
-            let (node, member) = two_numbers(rest)?;
-            *line = Line::Auto { node, member };
-        }
-        LineWord::Leave => {
-            let member = one_number(rest)?;
-            *line = Line::Leave { member };
-        }
+        LineWord::Node => read_node(rest, line),
+        LineWord::Do => read_do_line(alloc, rest, line),
+        LineWord::Pass => read_pass(rest, line),
+        LineWord::Skip => read_skip(rest, line),
+        LineWord::Again => read_again(rest, line),
+        LineWord::Drain => read_drain(rest, line),
+        LineWord::Lose => read_lose(rest, line),
+        LineWord::Heur => read_heur(rest, line),
+        LineWord::GiveUp => read_give_up(rest, line),
+        LineWord::Retry => read_retry(rest, line),
+        LineWord::Purge => read_purge(rest, line),
+        LineWord::Crash => read_crash(alloc, rest, line),
+        LineWord::Show => read_show(rest, line),
+        LineWord::Image => read_image(rest, line),
+        LineWord::Auto => read_auto(rest, line),
+        LineWord::Leave => read_leave(rest, line),
     }
+}
+
+fn read_do_line(alloc: Global, rest: &[u8], line: &mut Line) -> Result<(), LineFault>
+    ensures { Reads (line_reader LineWord.Do (words_in rest.now)) (filled result line.new) }
+{
+    let (node, request) = read_do(alloc, rest)?;
+    *line = Line::Do { node, request };
+    Ok(())
+}
+
+fn read_pass(rest: &[u8], line: &mut Line) -> Result<(), LineFault>
+    ensures { Reads (line_reader LineWord.Pass (words_in rest.now)) (filled result line.new) }
+{
+    let (from, to) = two_numbers(rest)?;
+    *line = Line::Pass { from, to };
+    Ok(())
+}
+
+fn read_skip(rest: &[u8], line: &mut Line) -> Result<(), LineFault>
+    ensures { Reads (line_reader LineWord.Skip (words_in rest.now)) (filled result line.new) }
+{
+    let (from, to) = two_numbers(rest)?;
+    *line = Line::Skip { from, to };
+    Ok(())
+}
+
+fn read_again(rest: &[u8], line: &mut Line) -> Result<(), LineFault>
+    ensures { Reads (line_reader LineWord.Again (words_in rest.now)) (filled result line.new) }
+{
+    let frame = one_number(rest)?;
+    *line = Line::Again { frame };
+    Ok(())
+}
+
+fn read_drain(rest: &[u8], line: &mut Line) -> Result<(), LineFault>
+    ensures { Reads (line_reader LineWord.Drain (words_in rest.now)) (filled result line.new) }
+{
+    if_no_word(rest, ())?;
+    *line = Line::Drain;
+    Ok(())
+}
+
+fn read_lose(rest: &[u8], line: &mut Line) -> Result<(), LineFault>
+    ensures { Reads (line_reader LineWord.Lose (words_in rest.now)) (filled result line.new) }
+{
+    let (node, peer) = two_numbers(rest)?;
+    *line = Line::Lose { node, peer };
+    Ok(())
+}
+
+fn read_heur(rest: &[u8], line: &mut Line) -> Result<(), LineFault>
+    ensures { Reads (line_reader LineWord.Heur (words_in rest.now)) (filled result line.new) }
+{
+    let (node, outcome) = number_and_outcome(rest)?;
+    *line = Line::Heur { node, outcome };
+    Ok(())
+}
+
+fn read_give_up(rest: &[u8], line: &mut Line) -> Result<(), LineFault>
+    ensures { Reads (line_reader LineWord.GiveUp (words_in rest.now)) (filled result line.new) }
+{
+    let (node, peer) = two_numbers(rest)?;
+    *line = Line::GiveUp { node, peer };
+    Ok(())
+}
+
+fn read_retry(rest: &[u8], line: &mut Line) -> Result<(), LineFault>
+    ensures { Reads (line_reader LineWord.Retry (words_in rest.now)) (filled result line.new) }
+{
+    let node = one_number(rest)?;
+    *line = Line::Retry { node };
+    Ok(())
+}
+
+fn read_purge(rest: &[u8], line: &mut Line) -> Result<(), LineFault>
+    ensures { Reads (line_reader LineWord.Purge (words_in rest.now)) (filled result line.new) }
+{
+    let node = one_number(rest)?;
+    *line = Line::Purge { node };
+    Ok(())
+}
+
+fn read_show(rest: &[u8], line: &mut Line) -> Result<(), LineFault>
+    ensures { Reads (line_reader LineWord.Show (words_in rest.now)) (filled result line.new) }
+{
+    let node = one_number(rest)?;
+    *line = Line::Show { node };
+    Ok(())
+}
+
+fn read_auto(rest: &[u8], line: &mut Line) -> Result<(), LineFault>
+    ensures { Reads (line_reader LineWord.Auto (words_in rest.now)) (filled result line.new) }
+{
+    let (node, member) = two_numbers(rest)?;
+    *line = Line::Auto { node, member };
+    Ok(())
+}
+
+fn read_leave(rest: &[u8], line: &mut Line) -> Result<(), LineFault>
+    ensures { Reads (line_reader LineWord.Leave (words_in rest.now)) (filled result line.new) }
+{
+    let member = one_number(rest)?;
+    *line = Line::Leave { member };
     Ok(())
 }
 
@@ -294,17 +358,26 @@ fn read_data(alloc: Global, rest: &[u8]) -> Result<LineRequest, LineFault>
     Ok(LineRequest::UserData { peer, octets })
 }
 
-fn read_image(rest: &[u8]) -> Result<Line, LineFault>
-    ensures { Reads (line_reader LineWord.Image (words_in rest.now)) result }
+fn read_image(rest: &[u8], line: &mut Line) -> Result<(), LineFault>
+    ensures { Reads (line_reader LineWord.Image (words_in rest.now)) (filled result line.new) }
 {
     let Some(word) = only_word(rest) else {
         return Err(LineFault::Word);
     };
     let site = read_site(word)?;
-    Ok(Line::Image { site })
+    *line = Line::Image { site };
+    Ok(())
 }
 
-fn read_node(bytes: &[u8]) -> Result<Line, LineFault>
+fn read_node(rest: &[u8], line: &mut Line) -> Result<(), LineFault>
+    ensures { Reads (line_reader LineWord.Node (words_in rest.now)) (filled result line.new) }
+{
+    *line = node_in(rest)?;
+    Ok(())
+}
+
+// The line that declares a node, of the words after the first.
+fn node_in(bytes: &[u8]) -> Result<Line, LineFault>
     ensures { Reads (node_from (words_in bytes.now)) result }
 {
     let Some((node, rest)) = next_word(bytes) else {
@@ -342,7 +415,15 @@ fn read_under(node: &[u8], site: &[u8], superior: &[u8]) -> Result<Line, LineFau
     })
 }
 
-fn read_crash(alloc: Global, bytes: &[u8]) -> Result<Line, LineFault>
+fn read_crash(alloc: Global, rest: &[u8], line: &mut Line) -> Result<(), LineFault>
+    ensures { Reads (line_reader LineWord.Crash (words_in rest.now)) (filled result line.new) }
+{
+    *line = crash_of(alloc, rest)?;
+    Ok(())
+}
+
+// The line that stops a site, of the words after the first.
+fn crash_of(alloc: Global, bytes: &[u8]) -> Result<Line, LineFault>
     ensures { Reads (crash_from (words_in bytes.now)) result }
 {
     let Some((site, rest)) = next_word(bytes) else {

@@ -141,7 +141,22 @@ fn gather<S: Source>(window: &mut Window, source: &mut S) -> Result<LineEnd, Fai
     ensures kept { S.fault_count source.old ≤ S.fault_count source.new }
     ensures risen { OnErr result (HasRisen (S.fault_count source.old) (S.fault_count source.new)) }
 {
-    let mut seen = 0;
+    match find_feed(window.bytes()) {
+        Some(at) => Ok(LineEnd::Feed(at)),
+        None => read_on(window, source),
+    }
+}
+
+// The same, where no line's end is at hand yet.
+fn read_on<S: Source>(window: &mut Window, source: &mut S) -> Result<LineEnd, Failed>
+    requires { no_feed window.old ≡ true }
+    ensures ends { IfOk result (λ end. EndsSo end window.new (S.left source.new)) }
+    ensures same { together window.new (S.left source.new) ≡ together window.old (S.left source.old) }
+    ensures unended { OnErr result (no_feed window.new ≡ true) }
+    ensures kept { S.fault_count source.old ≤ S.fault_count source.new }
+    ensures risen { OnErr result (HasRisen (S.fault_count source.old) (S.fault_count source.new)) }
+{
+    let mut seen = window.bytes().len();
     loop {
         let bytes = window.bytes();
         let len = bytes.len();

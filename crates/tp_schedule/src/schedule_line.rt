@@ -40,7 +40,7 @@ fn append_line(alloc: Global, l: &Line, out: &mut Octets) -> Result<(), NoMemory
         Line::GiveUp { node, peer } => write_two(alloc, "giveup", *node, *peer, out),
         Line::Retry { node } => write_one(alloc, "retry", *node, out),
         Line::Purge { node } => write_one(alloc, "purge", *node, out),
-        Line::Crash { site } => write_words(alloc, &[Word::Text("crash"), Word::Site(site)], out),
+        Line::Crash { site } => append_crash(alloc, site, out),
         Line::CrashIn {
             site,
             at,
@@ -48,7 +48,7 @@ fn append_line(alloc: Global, l: &Line, out: &mut Octets) -> Result<(), NoMemory
             action,
         } => append_crash_in(alloc, site, *at, *fill, action, out),
         Line::Show { node } => write_one(alloc, "show", *node, out),
-        Line::Image { site } => write_words(alloc, &[Word::Text("image"), Word::Site(site)], out),
+        Line::Image { site } => append_image(alloc, site, out),
         Line::Auto { node, member } => write_two(alloc, "auto", *node, *member, out),
         Line::Leave { member } => write_one(alloc, "leave", *member, out),
     }
@@ -75,27 +75,11 @@ fn append_request(alloc: Global, r: &LineRequest, out: &mut Octets) -> Result<()
     ensures err { OnErr result (Keeps out.old out.new) }
 {
     match r {
-        LineRequest::BeginDialogue { peer, units } => write_words(
-            alloc,
-            &[
-                Word::Text("begin-dialogue"),
-                Word::Short(*peer),
-                Word::Units(*units),
-            ],
-            out,
-        ),
-        LineRequest::Accept { units } => write_words(
-            alloc,
-            &[Word::Text("accept"), Word::Units(*units)],
-            out,
-        ),
+        LineRequest::BeginDialogue { peer, units } => append_begin(alloc, *peer, *units, out),
+        LineRequest::Accept { units } => append_accept(alloc, *units, out),
         LineRequest::Reject => write_alone(alloc, "reject", out),
         LineRequest::EndDialogue { peer } => write_one(alloc, "end-dialogue", *peer, out),
-        LineRequest::UserData { peer, octets } => write_words(
-            alloc,
-            &[Word::Text("data"), Word::Short(*peer), Word::Octets(octets)],
-            out,
-        ),
+        LineRequest::UserData { peer, octets } => append_data(alloc, *peer, octets, out),
         LineRequest::UError { peer } => write_one(alloc, "u-error", *peer, out),
         LineRequest::UAbort { peer } => write_one(alloc, "u-abort", *peer, out),
         LineRequest::Grant { peer } => write_one(alloc, "grant-control", *peer, out),
@@ -112,6 +96,33 @@ fn append_request(alloc: Global, r: &LineRequest, out: &mut Octets) -> Result<()
         LineRequest::Rollback => write_alone(alloc, "rollback", out),
         LineRequest::Unchanged => write_alone(alloc, "unchanged", out),
     }
+}
+
+fn append_begin(alloc: Global, peer: u16, units: u8, out: &mut Octets) -> Result<(), NoMemory>
+    ensures ok { OnOk result (out.new ≡ out.old ++ words (request_words (LineRequest.BeginDialogue peer units))) }
+    ensures err { OnErr result (Keeps out.old out.new) }
+{
+    let words = [
+        Word::Text("begin-dialogue"),
+        Word::Short(peer),
+        Word::Units(units),
+    ];
+    write_words(alloc, &words, out)
+}
+
+fn append_accept(alloc: Global, units: u8, out: &mut Octets) -> Result<(), NoMemory>
+    ensures ok { OnOk result (out.new ≡ out.old ++ words (request_words (LineRequest.Accept units))) }
+    ensures err { OnErr result (Keeps out.old out.new) }
+{
+    write_words(alloc, &[Word::Text("accept"), Word::Units(units)], out)
+}
+
+fn append_data(alloc: Global, peer: u16, octets: &Octets, out: &mut Octets) -> Result<(), NoMemory>
+    ensures ok { OnOk result (out.new ≡ out.old ++ words (request_words (LineRequest.UserData peer octets.now))) }
+    ensures err { OnErr result (Keeps out.old out.new) }
+{
+    let words = [Word::Text("data"), Word::Short(peer), Word::Octets(octets)];
+    write_words(alloc, &words, out)
 }
 
 #[inline(always)]
@@ -169,6 +180,20 @@ fn append_node(
             write_words(alloc, &[first, node, site, Word::Text("under"), under], out)
         }
     }
+}
+
+fn append_crash(alloc: Global, site: &SiteName, out: &mut Octets) -> Result<(), NoMemory>
+    ensures ok { OnOk result (out.new ≡ out.old ++ words (line_words (Line.Crash site.now))) }
+    ensures err { OnErr result (Keeps out.old out.new) }
+{
+    write_words(alloc, &[Word::Text("crash"), Word::Site(site)], out)
+}
+
+fn append_image(alloc: Global, site: &SiteName, out: &mut Octets) -> Result<(), NoMemory>
+    ensures ok { OnOk result (out.new ≡ out.old ++ words (line_words (Line.Image site.now))) }
+    ensures err { OnErr result (Keeps out.old out.new) }
+{
+    write_words(alloc, &[Word::Text("image"), Word::Site(site)], out)
 }
 
 fn append_crash_in(

@@ -85,23 +85,6 @@ pub fn write_two(
     Ok(())
 }
 
-/// A word, and three numbers.
-pub fn write_three(
-    alloc: Global,
-    word: &str,
-    l: u16,
-    m: u16,
-    n: u16,
-    out: &mut Octets,
-) -> Result<(), NoMemory>
-    ensures ok { OnOk result (out.new ≡ out.old ++ words (word.now ∷ decimal l ∷ decimal m ∷ decimal n ∷ [])) }
-    ensures err { OnErr result (Keeps out.old out.new) }
-{
-    write_two(alloc, word, l, m, out)?;
-    write_number(alloc, n, out)?;
-    Ok(())
-}
-
 /// A word, and one long number.
 #[inline(always)]
 pub fn write_long(alloc: Global, word: &str, n: u64, out: &mut Octets) -> Result<(), NoMemory>
@@ -150,6 +133,9 @@ pub fn write_number(alloc: Global, n: u16, out: &mut Octets) -> Result<(), NoMem
     ensures ok { OnOk result (out.new ≡ out.old ++ (32 ∷ decimal n)) }
     ensures err { OnErr result (Keeps out.old out.new) }
 {
+    if n < 10 {
+        return out.extend_from_slice(alloc, &[b' ', digits::digit(u64::from(n))]);
+    }
     digits::write_behind(alloc, b' ', u64::from(n), out)
 }
 

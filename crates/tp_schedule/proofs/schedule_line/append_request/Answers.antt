@@ -19,4 +19,4 @@ pub returns-in-DeferGrant-clause-ok : goal.returns-in-DeferGrant-clause-ok
 returns-in-DeferGrant-clause-ok c = rw c.in-DeferGrant.is c.write_one-in-DeferGrant.ensures.ok
 
 pub returns-in-BeginDialogue-clause-ok : goal.returns-in-BeginDialogue-clause-ok
-returns-in-BeginDialogue-clause-ok c = rw c.in-BeginDialogue.is c.write_words.ensures.ok
+returns-in-BeginDialogue-clause-ok c = rw c.in-BeginDialogue.is c.append_begin.ensures.ok

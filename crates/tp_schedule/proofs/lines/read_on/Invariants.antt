@@ -1,6 +1,6 @@
 use Rattle.std.proofs.Common.{◌≡◌, ◌≤◌, ◌-◌, true, length, take}
 use Rattle.tp_schedule.specs.AtHand.{together, no_feed}
-use Rattle.tp_schedule.proofs.lines.gather.Given as goal
+use Rattle.tp_schedule.proofs.lines.read_on.Given as goal
 
 abbrev pub invariant-loop-at : goal.invariant-loop-at
 invariant-loop-at g l =

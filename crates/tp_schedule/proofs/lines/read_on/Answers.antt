@@ -4,7 +4,7 @@ use Rattle.tp_schedule.specs.AtHand.{no_feed}
 use Rattle.tp_schedule.proofs.Buffers.{none_gained}
 use Rattle.tp_schedule.proofs.lemmas.Cut.{to_the_end}
 use Rattle.tp_schedule.proofs.LineCuts.{found_behind, none_behind}
-use Rattle.tp_schedule.proofs.lines.gather.Goals as goal
+use Rattle.tp_schedule.proofs.lines.read_on.Goals as goal
 
 pub returns-in-Some-clause-ends : goal.returns-in-Some-clause-ends
 returns-in-Some-clause-ends g c =

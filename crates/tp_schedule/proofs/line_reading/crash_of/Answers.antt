@@ -1,7 +1,7 @@
 use Rattle.std.proofs.Common.{◌≡◌, sym, ◌∙◌, ◌∷◌, refl}
 use Rattle.tp_model.specs.LineReading.{crash_from, crash_in, words_in}
 use Rattle.tp_schedule.proofs.LineForms.{crash_found}
-use Rattle.tp_schedule.proofs.line_reading.read_crash.Goals as goal
+use Rattle.tp_schedule.proofs.line_reading.crash_of.Goals as goal
 
 pub returns : goal.returns
 returns c =
