@@ -273,7 +273,7 @@ impl SharedArcs {
         ensures { self.new ≡ record self.old { arcs = with_link self.old.arcs peer (λ _. link) } }
     {
         if self.shared.is_none() {
-            self.own.put_link(peer, link);
+            self.own.put_link(self.directory.of(peer), peer, link);
             return;
         }
         let Some(mut tie) = self.find(peer) else {
@@ -290,7 +290,8 @@ impl SharedArcs {
         ensures { self.new ≡ record self.old { arcs = with_dialogue self.old.arcs peer (λ _. dialogue.dialogue) } }
     {
         if self.shared.is_none() {
-            self.own.put_dialogue(peer, dialogue);
+            self.own
+                .put_dialogue(self.directory.of(peer), peer, dialogue);
             return;
         }
         let Some(mut tie) = self.find(peer) else {
@@ -309,7 +310,8 @@ impl SharedArcs {
         ensures { self.new ≡ record self.old { arcs = taken_in wakes peer self.old.arcs } }
     {
         if self.shared.is_none() {
-            self.own.take(peer, x, y, seq, wakes);
+            self.own
+                .take(self.directory.of(peer), peer, x, y, seq, wakes);
             return;
         }
         let Some(mut tie) = self.find(peer) else {
@@ -395,7 +397,7 @@ impl SharedArcs {
         ensures same { OnErr result (self.new ≡ self.old) }
     {
         if self.shared.is_none() {
-            return self.own.number_next(peer);
+            return self.own.number_next(self.directory.of(peer), peer);
         }
         let Some(mut tie) = self.find(peer) else {
             return Ok(None);
