@@ -9,11 +9,11 @@ ghost use Rattle.tp_tree.specs.Tie.{arc_of};
 ghost use Rattle.tp_tree.specs.Invocation.{with_arc, with_tie};
 ghost use Rattle.tp_node_parts.specs.Arcs.{side_with, fits_link, has_place, new_arc, count_subordinates_in, is_sided};
 ghost use Rattle.tp_node_parts.specs.ArcStep.{stepped_arcs};
-ghost use Rattle.tp_node_parts.specs.SharedArcs.{Stands, taken_in, has_none_chained};
+ghost use Rattle.tp_node_parts.specs.SharedArcs.{Stands, taken_in, has_none_chained, has_no_grant};
 ghost use Rattle.tp_node_parts.specs.Outs.{outs_with};
 ghost use Rattle.tp_records.specs.declared.dialogue.DialogueRecord.{DialogueRecord as RecordValue};
 
-use crate::arc_step::ArcStep;
+use crate::arc_step::{ArcStep, is_deferring};
 use crate::outs::Next;
 use crate::shared_arcs::{number_on, take_on};
 use std::alloc::Global;
@@ -240,6 +240,16 @@ impl Arcs {
         }
     }
 
+    /// No grant is deferred.
+    pub(crate) fn has_no_grant(&self) -> bool
+        ensures { result ≡ has_no_grant self.now.arcs }
+    {
+        match self.tree.above() {
+            Some(tie) if is_deferring(tie) => false,
+            _ => defer_none(self.tree.subordinates()),
+        }
+    }
+
     /// What a passage of the transaction does to the arcs, to each in place.
     #[inline(always)]
     #[tactic(auto, using(crate::proofs::Steps::stepped_sided, crate::proofs::Linked::linked_stepped, crate::proofs::Steps::stepped_all))]
@@ -263,6 +273,18 @@ fn are_unchained(ties: &[Tie]) -> bool
 {
     for tie in ties {
         if is_chained(tie) {
+            return false;
+        }
+    }
+    true
+}
+
+// No grant is deferred on any of them.
+fn defer_none(ties: &[Tie]) -> bool
+    ensures { result ≡ has_no_grant (map arc_of ties.now) }
+{
+    for tie in ties {
+        if is_deferring(tie) {
             return false;
         }
     }

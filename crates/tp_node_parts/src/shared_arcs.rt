@@ -11,9 +11,9 @@ ghost use Rattle.tp_node_parts.specs.Arcs.{side_with, fits_link, has_place, new_
 ghost use Rattle.tp_node_parts.specs.ArcStep.{stepped_arcs};
 ghost use Rattle.tp_node_parts.specs.Outs.{outs_of_option, outs_with};
 ghost use Rattle.tp_records.specs.declared.dialogue.DialogueRecord.{DialogueRecord as RecordValue};
-ghost use Rattle.tp_node_parts.specs.SharedArcs.{Stands, aside_at, is_other, taken_in, woken_if, has_none_chained};
+ghost use Rattle.tp_node_parts.specs.SharedArcs.{Stands, aside_at, is_other, taken_in, woken_if, has_none_chained, has_no_grant};
 
-use crate::arc_step::ArcStep;
+use crate::arc_step::{ArcStep, is_deferring};
 use crate::arcs::{Arcs, is_chained};
 use crate::directory::Directory;
 use crate::outs::{Next, Out};
@@ -196,6 +196,21 @@ impl SharedArcs {
             Some(tie) => is_chained(tie),
         };
         !is_changed && all.has_none_chained()
+    }
+
+    /// Where it says so, no grant is deferred.
+    #[tactic(auto, using(crate::proofs::Chained::no_grant_put))]
+    pub fn has_no_grant(&self) -> bool
+        ensures { result ≡ true → has_no_grant self.now.arcs ≡ true }
+    {
+        let Some(all) = &self.shared else {
+            return self.own.has_no_grant();
+        };
+        let is_changed = match &self.change {
+            None => false,
+            Some(tie) => is_deferring(tie),
+        };
+        !is_changed && all.has_no_grant()
     }
 
     // Takes them out, shared with nobody.
