@@ -1,5 +1,5 @@
 -- Arcs that are kept with the node's side, and what goes out on them.
-use Rattle.std.proofs.Common.{◌≡◌, ◌<◌, ℕ, zero, suc, Bool, true, false, Option, Some, None, List, [], ◌∷◌, ◌++◌, length, map, take, drop, slice_set, slice_get, slice_index_or, Result, Ok, Err, IfOk, OnOk, OnErr, refl, ap, sym, ◌∙◌, arith}
+use Rattle.std.proofs.Common.{◌≡◌, ◌<◌, ℕ, zero, suc, Bool, true, false, Option, Some, None, List, [], ◌∷◌, ◌++◌, length, map, slice_set, slice_get, slice_index_or, Result, Ok, Err, IfOk, OnOk, OnErr, refl, ap, sym, ◌∙◌, arith}
 use Rattle.std.specs.Prelude.{◌==◌, if◌then◌else◌}
 use Rattle.std.specs.Option.{option_map}
 use Rattle.std.proofs.lemmas.Bool.Decides.{nat_tests}
@@ -15,11 +15,11 @@ use Rattle.tp_model.specs.Events.{some_past_numbers}
 use Rattle.tp_dialogue.specs.Dialogue.{End}
 use Rattle.tp_link.specs.Link.{is_next, with_one_sent}
 use Rattle.tp_tree.specs.declared.tie.Tie.{Tie}
-use Rattle.tp_tree.specs.Tie.{arc_of, is_with, find_tie, place_of, without_ties}
-use Rattle.tp_tree.specs.Invocation.{Invocation, ties_of, arcs_of, with_below, with_tie, without_tie, WritesLink, WritesDialogue}
+use Rattle.tp_tree.specs.Tie.{arc_of, find_tie, place_of, is_at, without_ties}
+use Rattle.tp_tree.specs.Invocation.{Invocation, ties_of, arcs_of, with_tie, without_tie, WritesLink, WritesDialogue}
 use Rattle.tp_node_parts.specs.declared.outs.Next.{Next}
 use Rattle.tp_node_parts.specs.Outs.{outs_with}
-use Rattle.tp_node_parts.specs.Arcs.{side_with, is_same_side, is_on, all_on, is_absent, is_apart, is_at, is_sided, count_subordinates_in, next_on, is_spent, outs_next, Arcs, value_of}
+use Rattle.tp_node_parts.specs.Arcs.{side_with, is_same_side, is_on, all_on, is_absent, is_apart, is_sided, count_subordinates_in, next_on, is_spent, outs_next, Arcs, value_of}
 
 -- ---- sides
 
@@ -258,11 +258,6 @@ tie_there v p a there = go (find_tie (ties_of v) p) refl
 
 -- ---- and looked for at a place
 
-pub at_within : (ts : List Tie) (i p : ℕ) → is_at ts i p ≡ true → i < length ts
-at_within [] i p h = absurd (cc (h))
-at_within (t ∷ ts) zero p h = omega arith
-at_within (t ∷ ts) (suc i) p h = let rest = at_within ts i p h in omega (arith, rest)
-
 at_there : (ts : List Tie) (i p : ℕ) → is_at ts i p ≡ true → is_absent ts p ≡ false
 at_there [] i p h = absurd (cc (h))
 at_there (t ∷ ts) zero p h = grind (arith, h)
@@ -273,44 +268,9 @@ place_at [] i p a h = absurd (cc (h))
 place_at (t ∷ ts) zero p a h = grind (arith, h)
 place_at (t ∷ ts) (suc i) p a h = grind (arith, common_steps, nat_tests, a, at_there ts i p, place_at ts i p, h)
 
-above_apart : (v : Invocation) (i p : ℕ) → is_sided v ≡ true → is_at v.below i p ≡ true → is_with v.above p ≡ false
-above_apart v i p h at = go (slice_get v.below i) refl at
-  where
-    go : (o : Option Tie) → slice_get v.below i ≡ o → elim o as (λ _. Bool) [ None ↦ false | Some t ↦ t.addr.node == p ] ≡ true → is_with v.above p ≡ false
-    go None e a = absurd (cc (a))
-    go (Some t) e a = above v.above refl
-      where
-        below : find_tie v.below t.addr.node ≡ Some t
-        below = grind (arith, common_steps, h, apart_at v.below i t, e)
-
-        on : is_on Side.Superior v.superior t ≡ true
-        on = grind (arith, common_steps, h, find_on Side.Superior v.superior v.below t.addr.node t, below)
-
-        above : (o : Option Tie) → v.above ≡ o → is_with o p ≡ false
-        above None n = refl
-        above (Some u) n = grind (arith, common_steps, nat_tests, n, h, on, a, same_side (side_with v.superior t.addr.node) Side.Superior, same_side (side_with v.superior u.addr.node) Side.Subordinate)
-
-pub written_at : (v : Invocation) (i : ℕ) (t : Tie) → is_sided v ≡ true → is_at v.below i t.addr.node ≡ true → record v { below = slice_set v.below i t } ≡ with_tie v t.addr.node t
-written_at v i t h at =
-    let apart : is_apart v.below ≡ true = grind (arith, common_steps, h) in
-    let place : place_of v.below t.addr.node ≡ i = place_at v.below i t.addr.node apart at in
-    let other : is_with v.above t.addr.node ≡ false = above_apart v i t.addr.node h at in
-    sym (ap (λ (b : Bool). if b then record v { above = Some t } else record v { below = slice_set v.below (place_of v.below t.addr.node) t }) other
-    ∙ ap (λ (n : ℕ). record v { below = slice_set v.below n t }) place)
-
-set_length : (ts : List Tie) (i : ℕ) (t : Tie) → length (slice_set ts i t) ≡ length ts
-set_length [] i t = refl
-set_length (x ∷ ts) zero t = refl
-set_length (x ∷ ts) (suc i) t = ap suc (set_length ts i t)
-
-taken : (xs ys : List Tie) → length ys ≡ length xs → take (length xs) (ys ++ drop (length ys) xs) ≡ ys
-taken [] [] e = refl
-taken [] (y ∷ ys) e = absurd (omega (arith, e))
-taken (x ∷ xs) [] e = absurd (omega (arith, e))
-taken (x ∷ xs) (y ∷ ys) e = ap (λ (l : List Tie). y ∷ l) (taken xs ys (omega (arith, e)))
-
-pub below_set : (v : Invocation) (i : ℕ) (t : Tie) → with_below v (slice_set v.below i t) ≡ record v { below = slice_set v.below i t }
-below_set v i t = ap (λ (ts : List Tie). record v { below = ts }) (taken v.below (slice_set v.below i t) (set_length v.below i t))
+-- so that no other than the first one is found there
+pub first_at : (v : Invocation) (i p : ℕ) → is_sided v ≡ true → is_at v.below i p ≡ true → place_of v.below p ≡ i
+first_at v i p h at = let apart : is_apart v.below ≡ true = grind (arith, common_steps, h) in place_at v.below i p apart at
 
 set_none : (ts : List Tie) (p : ℕ) (t : Tie) → find_tie ts p ≡ None → slice_set ts (place_of ts p) t ≡ ts
 set_none [] p t h = refl

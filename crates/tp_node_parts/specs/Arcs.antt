@@ -1,6 +1,6 @@
 -- The arcs of a node as the site keeps them: those of the definitions. The node's side on an arc follows
 -- from the peer's number, and each arc is kept with that side.
-use Rattle.std.specs.Prelude.{ℕ, suc, ◌≡◌, ◌==◌, ◌&&◌, Bool, true, false, nat_le, nat_lt, if◌then◌else◌, slice_get, Option, Some, None, List, [], ◌∷◌}
+use Rattle.std.specs.Prelude.{ℕ, suc, ◌≡◌, ◌==◌, ◌&&◌, Bool, true, false, nat_le, nat_lt, if◌then◌else◌, Option, Some, None, List, [], ◌∷◌}
 use Rattle.tp_names.specs.declared.identifiers.Addr.{Addr}
 use Rattle.tp_names.specs.declared.identifiers.Mark.{Mark}
 use Rattle.tp_records.specs.declared.dialogue.DialogueRecord.{DialogueRecord}
@@ -56,10 +56,6 @@ is_absent (t ∷ ts) p = if t.addr.node == p then false else is_absent ts p
 abbrev pub is_apart : List Tie → Bool
 is_apart [] = true
 is_apart (t ∷ ts) = is_absent ts t.addr.node && is_apart ts
-
--- the one at that place is with that peer
-abbrev pub is_at : List Tie → ℕ → ℕ → Bool
-is_at ts i p = elim (slice_get ts i) [ None ↦ false | Some t ↦ t.addr.node == p ]
 
 abbrev pub is_sided : Invocation → Bool
 is_sided v = is_on_option Side.Subordinate v.superior v.above && (all_on Side.Superior v.superior v.below && is_apart v.below)

@@ -3,7 +3,7 @@ use Rattle.std.specs.Prelude.{ℕ, ◌≡◌, ◌==◌, ◌≤◌, Bool, true, f
 use Rattle.std.specs.Option.{option_map}
 use Rattle.std.specs.Arc.{arc_value}
 use Rattle.tp_model.specs.Parts.{Dialogue, Arc}
-use Rattle.tp_model.specs.Dialogues.{woken, is_chained}
+use Rattle.tp_model.specs.Dialogues.{woken, is_chained, is_grant_deferred}
 use Rattle.tp_model.specs.Links.{with_one_taken}
 use Rattle.tp_model.specs.Arcs.{find_arc, put_arc, with_dialogue, with_link}
 use Rattle.tp_tree.specs.declared.tie.Tie.{Tie}
@@ -64,3 +64,10 @@ taken_in false p arcs = with_link arcs p with_one_taken
 abbrev pub has_none_chained : List Arc → Bool
 has_none_chained [] = true
 has_none_chained (a ∷ arcs) = if is_chained a.dialogue then false else has_none_chained arcs
+
+-- ---- deferred grants
+
+-- there is none
+abbrev pub has_no_grant : List Arc → Bool
+has_no_grant [] = true
+has_no_grant (a ∷ arcs) = if is_grant_deferred a.dialogue.deferral then false else has_no_grant arcs

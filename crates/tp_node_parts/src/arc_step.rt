@@ -1,5 +1,6 @@
 //! What a passage of the transaction does to the arcs.
 ghost use Rattle.std.specs.Prelude.{◌≡◌};
+ghost use Rattle.tp_model.specs.Dialogues.{is_grant_deferred};
 ghost use Rattle.tp_model.specs.Transactions.{is_under_at};
 ghost use Rattle.tp_model.specs.Node.{is_arc_of, is_granting};
 ghost use Rattle.tp_tree.specs.Tie.{arc_of};
@@ -44,16 +45,23 @@ fn is_arc_of(branch: &Branch, tie: &Tie) -> bool
     branch.situation(tie.addr().node).branch
 }
 
+/// A grant is deferred on the arc.
+pub(crate) fn is_deferring(tie: &Tie) -> bool
+    ensures { result ≡ is_grant_deferred (arc_of tie.now).dialogue.deferral }
+{
+    tie.dialogue.deferral() == Deferral::Grant
+}
+
 /// A deferred grant is given on the arc at a commitment.
 #[inline(always)]
 pub fn is_granting(branch: &Branch, tie: &Tie) -> bool
     ensures { result ≡ is_granting branch.now (arc_of tie.now) }
 {
-    !is_under_at(branch, tie.addr().node)
-        && is_arc_of(branch, tie)
-        && tie.link.state() == LinkState::Live
+    is_deferring(tie)
         && tie.dialogue.units().has(UNCHAINED)
-        && tie.dialogue.deferral() == Deferral::Grant
+        && tie.link.state() == LinkState::Live
+        && !is_under_at(branch, tie.addr().node)
+        && is_arc_of(branch, tie)
 }
 
 impl ArcStep {

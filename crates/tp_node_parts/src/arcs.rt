@@ -1,5 +1,5 @@
 //! The arcs of a node.
-ghost use Rattle.std.specs.Prelude.{◌≡◌, ◌⊎◌, ◌<◌, ◌≤◌, true, [], Option, None, length, map, slice_set, IfOk, IfSome, OnOk, OnErr, vec_capacity};
+ghost use Rattle.std.specs.Prelude.{◌≡◌, ◌⊎◌, ◌≤◌, true, [], Option, None, map, IfOk, IfSome, OnOk, OnErr, vec_capacity};
 ghost use Rattle.std.specs.Option.{option_map, option_copied};
 ghost use Rattle.tp_model.specs.Arcs.{find_arc, put_arc, link_with, without_arc, with_dialogue, with_link, carried};
 ghost use Rattle.tp_model.specs.Dialogues.{is_chained};
@@ -7,13 +7,13 @@ ghost use Rattle.tp_model.specs.Events.{some_past_numbers};
 ghost use Rattle.tp_model.specs.Links.{dropped_by};
 ghost use Rattle.tp_tree.specs.Tie.{arc_of};
 ghost use Rattle.tp_tree.specs.Invocation.{with_arc, with_tie};
-ghost use Rattle.tp_node_parts.specs.Arcs.{side_with, fits_link, has_place, new_arc, count_subordinates_in, is_sided, is_at};
+ghost use Rattle.tp_node_parts.specs.Arcs.{side_with, fits_link, has_place, new_arc, count_subordinates_in, is_sided};
 ghost use Rattle.tp_node_parts.specs.ArcStep.{stepped_arcs};
-ghost use Rattle.tp_node_parts.specs.SharedArcs.{Stands, taken_in, has_none_chained};
+ghost use Rattle.tp_node_parts.specs.SharedArcs.{Stands, taken_in, has_none_chained, has_no_grant};
 ghost use Rattle.tp_node_parts.specs.Outs.{outs_with};
 ghost use Rattle.tp_records.specs.declared.dialogue.DialogueRecord.{DialogueRecord as RecordValue};
 
-use crate::arc_step::ArcStep;
+use crate::arc_step::{ArcStep, is_deferring};
 use crate::outs::Next;
 use crate::shared_arcs::{number_on, take_on};
 use std::alloc::Global;
@@ -172,53 +172,59 @@ impl Arcs {
         write(&mut self.tree, place, tie);
     }
 
-    /// Changes the link of the arc with that peer, where there is one.
+    /// Changes the link of the arc with that peer, where there is one, which is looked for at that place among the
+    /// subordinates' first.
     #[tactic(auto, using(crate::proofs::Sides::sided_with, crate::proofs::Linked::linked_with, crate::proofs::Sides::with_link_none))]
-    pub(crate) fn put_link(&mut self, peer: u16, link: Link)
+    pub(crate) fn put_link(&mut self, place: usize, peer: u16, link: Link)
         requires { fits_link (side_with self.old.superior peer) link ≡ true }
         ensures { self.new ≡ record self.old { arcs = with_link self.old.arcs peer (λ _. link) } }
     {
-        let Some(tie) = self.tree.tie(peer) else {
+        let Some(tie) = self.tree.tie_near(place, peer) else {
             return;
         };
         tie.link = link;
     }
 
-    /// Changes the dialogue of the arc with that peer, where there is one. The node's side stays.
+    /// Changes the dialogue of the arc with that peer, where there is one, which is looked for at that place among the
+    /// subordinates' first. The node's side stays.
     #[tactic(auto, using(crate::proofs::Sides::sided_with, crate::proofs::Linked::linked_with, crate::proofs::Linked::link_found, crate::proofs::Sides::side_found, crate::proofs::Sides::with_dialogue_none))]
-    pub(crate) fn put_dialogue(&mut self, peer: u16, dialogue: Dialogue)
+    pub(crate) fn put_dialogue(&mut self, place: usize, peer: u16, dialogue: Dialogue)
         requires { dialogue.side ≡ side_with self.old.superior peer }
         ensures { self.new ≡ record self.old { arcs = with_dialogue self.old.arcs peer (λ _. dialogue.dialogue) } }
     {
-        let Some(tie) = self.tree.tie(peer) else {
+        let Some(tie) = self.tree.tie_near(place, peer) else {
             return;
         };
         tie.dialogue = dialogue;
     }
 
     /// The record with that pair and number is taken on the arc with that peer, where there is one, and ends its rest where
-    /// it wakes it.
+    /// it wakes it. The arc is looked for at that place among the subordinates' first.
     #[tactic(auto, using(crate::proofs::Sides::sided_with, crate::proofs::Linked::linked_with, crate::proofs::Linked::link_found, crate::proofs::Linked::fits_taken, crate::proofs::Takes::none_taken))]
-    pub(crate) fn take(&mut self, peer: u16, x: Mark, y: Mark, seq: u64, wakes: bool)
+    pub(crate) fn take(&mut self, place: usize, peer: u16, x: Mark, y: Mark, seq: u64, wakes: bool)
         requires { dropped_by (link_with self.old.arcs peer) x y seq ≡ None }
         ensures { self.new ≡ record self.old { arcs = taken_in wakes peer self.old.arcs } }
     {
-        let Some(tie) = self.tree.tie(peer) else {
+        let Some(tie) = self.tree.tie_near(place, peer) else {
             return;
         };
         take_on(tie, x, y, seq, wakes);
     }
 
-    /// Numbers the next record that goes out on the arc with that peer, where it is live. Where no number
-    /// is left, nothing changes.
+    /// Numbers the next record that goes out on the arc with that peer, where it is live, which is looked for at that place
+    /// among the subordinates' first. Where no number is left, nothing changes.
     #[tactic(auto, using(crate::proofs::Sides::sided_with, crate::proofs::Linked::linked_with, crate::proofs::Linked::link_found, crate::proofs::Linked::fits_sent, crate::proofs::Sides::carried_none))]
-    pub(crate) fn number_next(&mut self, peer: u16) -> Result<Option<Next>, NumbersSpent>
+    pub(crate) fn number_next(
+        &mut self,
+        place: usize,
+        peer: u16,
+    ) -> Result<Option<Next>, NumbersSpent>
         ensures arcs { (rec : RecordValue) → OnOk result (self.new ≡ record self.old { arcs = (carried self.old.arcs peer rec).0 }) }
         ensures out { (rec : RecordValue) → IfOk result (λ next. outs_with next rec ≡ (carried self.old.arcs peer rec).1) }
         ensures spent { (rec : RecordValue) → OnErr result (some_past_numbers (carried self.old.arcs peer rec).1 ≡ true) }
         ensures same { OnErr result (self.new ≡ self.old) }
     {
-        let Some(tie) = self.tree.tie(peer) else {
+        let Some(tie) = self.tree.tie_near(place, peer) else {
             return Ok(None);
         };
         number_on(tie)
@@ -231,6 +237,16 @@ impl Arcs {
         match self.tree.above() {
             Some(tie) if is_chained(tie) => false,
             _ => are_unchained(self.tree.subordinates()),
+        }
+    }
+
+    /// No grant is deferred.
+    pub(crate) fn has_no_grant(&self) -> bool
+        ensures { result ≡ has_no_grant self.now.arcs }
+    {
+        match self.tree.above() {
+            Some(tie) if is_deferring(tie) => false,
+            _ => defer_none(self.tree.subordinates()),
         }
     }
 
@@ -263,36 +279,25 @@ fn are_unchained(ties: &[Tie]) -> bool
     true
 }
 
-// The arc at that place is with that peer.
-fn is_at(ties: &[Tie], place: usize, peer: u16) -> bool
-    ensures { result ≡ is_at ties.now place peer }
+// No grant is deferred on any of them.
+fn defer_none(ties: &[Tie]) -> bool
+    ensures { result ≡ has_no_grant (map arc_of ties.now) }
 {
-    match ties.get(place) {
-        None => false,
-        Some(tie) => tie.addr().node == peer,
+    for tie in ties {
+        if is_deferring(tie) {
+            return false;
+        }
     }
-}
-
-// Writes that arc at that place.
-fn write_at(ties: &mut [Tie], place: usize, tie: &Tie)
-    requires { place < length ties.old }
-    ensures { ties.new ≡ slice_set ties.old place tie.now }
-{
-    ties[place] = *tie;
+    true
 }
 
 // Writes that arc over the one with its peer, which is looked for at that place among the subordinates' first.
-#[tactic(auto, using(crate::proofs::Sides::at_within, crate::proofs::Sides::written_at, crate::proofs::Sides::unwritten))]
+#[tactic(auto, using(crate::proofs::Sides::first_at, crate::proofs::Sides::unwritten))]
 fn write(tree: &mut Invocation, place: usize, tie: &Tie)
     requires { is_sided tree.old ≡ true }
     ensures { tree.new ≡ with_tie tree.old tie.now.addr.node tie.now }
 {
-    let peer = tie.addr().node;
-    if is_at(tree.subordinates(), place, peer) {
-        write_at(tree.subordinates_mut(), place, tie);
-        return;
-    }
-    if let Some(own) = tree.tie(peer) {
+    if let Some(own) = tree.tie_near(place, tie.addr().node) {
         *own = *tie;
     }
 }

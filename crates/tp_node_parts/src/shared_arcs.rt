@@ -11,9 +11,9 @@ ghost use Rattle.tp_node_parts.specs.Arcs.{side_with, fits_link, has_place, new_
 ghost use Rattle.tp_node_parts.specs.ArcStep.{stepped_arcs};
 ghost use Rattle.tp_node_parts.specs.Outs.{outs_of_option, outs_with};
 ghost use Rattle.tp_records.specs.declared.dialogue.DialogueRecord.{DialogueRecord as RecordValue};
-ghost use Rattle.tp_node_parts.specs.SharedArcs.{Stands, aside_at, is_other, taken_in, woken_if, has_none_chained};
+ghost use Rattle.tp_node_parts.specs.SharedArcs.{Stands, aside_at, is_other, taken_in, woken_if, has_none_chained, has_no_grant};
 
-use crate::arc_step::ArcStep;
+use crate::arc_step::{ArcStep, is_deferring};
 use crate::arcs::{Arcs, is_chained};
 use crate::directory::Directory;
 use crate::outs::{Next, Out};
@@ -198,6 +198,21 @@ impl SharedArcs {
         !is_changed && all.has_none_chained()
     }
 
+    /// Where it says so, no grant is deferred.
+    #[tactic(auto, using(crate::proofs::Chained::no_grant_put))]
+    pub fn has_no_grant(&self) -> bool
+        ensures { result ≡ true → has_no_grant self.now.arcs ≡ true }
+    {
+        let Some(all) = &self.shared else {
+            return self.own.has_no_grant();
+        };
+        let is_changed = match &self.change {
+            None => false,
+            Some(tie) => is_deferring(tie),
+        };
+        !is_changed && all.has_no_grant()
+    }
+
     // Takes them out, shared with nobody.
     fn take_own(&mut self) -> Arcs
         ensures { result ≡ self.old }
@@ -273,7 +288,7 @@ impl SharedArcs {
         ensures { self.new ≡ record self.old { arcs = with_link self.old.arcs peer (λ _. link) } }
     {
         if self.shared.is_none() {
-            self.own.put_link(peer, link);
+            self.own.put_link(self.directory.of(peer), peer, link);
             return;
         }
         let Some(mut tie) = self.find(peer) else {
@@ -290,7 +305,8 @@ impl SharedArcs {
         ensures { self.new ≡ record self.old { arcs = with_dialogue self.old.arcs peer (λ _. dialogue.dialogue) } }
     {
         if self.shared.is_none() {
-            self.own.put_dialogue(peer, dialogue);
+            self.own
+                .put_dialogue(self.directory.of(peer), peer, dialogue);
             return;
         }
         let Some(mut tie) = self.find(peer) else {
@@ -309,7 +325,8 @@ impl SharedArcs {
         ensures { self.new ≡ record self.old { arcs = taken_in wakes peer self.old.arcs } }
     {
         if self.shared.is_none() {
-            self.own.take(peer, x, y, seq, wakes);
+            self.own
+                .take(self.directory.of(peer), peer, x, y, seq, wakes);
             return;
         }
         let Some(mut tie) = self.find(peer) else {
@@ -395,7 +412,7 @@ impl SharedArcs {
         ensures same { OnErr result (self.new ≡ self.old) }
     {
         if self.shared.is_none() {
-            return self.own.number_next(peer);
+            return self.own.number_next(self.directory.of(peer), peer);
         }
         let Some(mut tie) = self.find(peer) else {
             return Ok(None);

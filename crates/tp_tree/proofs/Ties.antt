@@ -1,5 +1,5 @@
 -- Lists of arcs as the code keeps them, and the arcs of the definitions that they are.
-use Rattle.std.proofs.Common.{◌≡◌, ℕ, ◌<◌, ◌≤◌, not, List, [], ◌∷◌, length, Option, None, Some, MutBor, slice_index_or, slice_set, map, refl, arith}
+use Rattle.std.proofs.Common.{◌≡◌, ℕ, zero, suc, ◌<◌, ◌≤◌, true, not, List, [], ◌∷◌, length, Option, None, Some, MutBor, slice_index_or, slice_set, map, refl, arith}
 use Rattle.std.specs.Prelude.{◌==◌}
 use Rattle.std.specs.List.{IsItemAtMut, filter}
 use Rattle.std.specs.Option.{option_copied_mut, option_map}
@@ -8,7 +8,7 @@ use Rattle.std.proofs.lemmas.Grind.{common_steps}
 use Rattle.tp_model.specs.Parts.{Link, Dialogue}
 use Rattle.tp_model.specs.Arcs.{find_arc, put_arc, without_arc, with_dialogue, with_link}
 use Rattle.tp_tree.specs.declared.tie.Tie.{Tie}
-use Rattle.tp_tree.specs.Tie.{arc_of, find_tie, place_of, without_ties}
+use Rattle.tp_tree.specs.Tie.{arc_of, find_tie, place_of, is_at, without_ties}
 
 -- the ties that are not with the peer
 pub filter-without_ties : (p : ℕ) (ts : List Tie) → filter (λ t. not (t.addr.node == p)) ts ≡ without_ties ts p
@@ -28,6 +28,12 @@ find_some (t ∷ ts) p d h = grind (arith, common_steps, nat_tests, find_some ts
 pub found_mut : (ts : List Tie) (p : ℕ) (r : Option (MutBor Tie)) → IsItemAtMut ts (place_of ts p) r → option_copied_mut r ≡ find_tie ts p
 found_mut ts p None h = grind (arith, find_none ts p)
 found_mut ts p (Some x) h = grind (arith, find_some ts p x.now)
+
+-- the one that stands at a place is there
+pub at_place : (ts : List Tie) (i p : ℕ) (t : Tie) → i < length ts → t ≡ slice_index_or ts i t → t.addr.node ≡ p → is_at ts i p ≡ true
+at_place [] i p t h e at = absurd (omega (arith, h))
+at_place (x ∷ ts) zero p t h e at = grind (arith, nat_tests, e, at)
+at_place (x ∷ ts) (suc i) p t h e at = at_place ts i p t (omega (arith, h)) e at
 
 -- ---- the same of the arcs
 

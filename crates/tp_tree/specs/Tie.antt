@@ -1,6 +1,6 @@
 -- One arc of a node as the code keeps it: the arc of the definitions, and with its dialogue the side that
 -- the node is on it. Arcs are found by the number of their peer.
-use Rattle.std.specs.Prelude.{ℕ, suc, ◌==◌, Bool, false, if◌then◌else◌, Option, Some, None, List, [], ◌∷◌}
+use Rattle.std.specs.Prelude.{ℕ, suc, ◌==◌, Bool, false, if◌then◌else◌, slice_get, Option, Some, None, List, [], ◌∷◌}
 use Rattle.std.specs.Option.{option_map}
 use Rattle.tp_names.specs.declared.identifiers.Addr.{Addr}
 use Rattle.tp_model.specs.declared.arc.Side.{Side}
@@ -48,6 +48,10 @@ find_tie (t ∷ ts) p = if t.addr.node == p then Some t else find_tie ts p
 abbrev pub place_of : List Tie → ℕ → ℕ
 place_of [] p = 0
 place_of (t ∷ ts) p = if t.addr.node == p then 0 else suc (place_of ts p)
+
+-- the one at that place is with the peer
+abbrev pub is_at : List Tie → ℕ → ℕ → Bool
+is_at ts i p = elim (slice_get ts i) [ None ↦ false | Some t ↦ t.addr.node == p ]
 
 -- no arc with the peer is left
 abbrev pub without_ties : List Tie → ℕ → List Tie

@@ -7,7 +7,7 @@ ghost use Rattle.tp_model.specs.Parts.{Digest};
 ghost use Rattle.tp_model.specs.Arcs.{find_arc, put_arc, without_arc};
 ghost use Rattle.tp_model.specs.Node.{may_root};
 ghost use Rattle.tp_tree.specs.declared.tie.Tie.{Tie};
-ghost use Rattle.tp_tree.specs.Tie.{arc_of, dialogue_of, said_on, dialogue_with, is_with, unless_with, find_tie, place_of, without_ties, fresh_tie, fresh_arc};
+ghost use Rattle.tp_tree.specs.Tie.{arc_of, dialogue_of, said_on, dialogue_with, is_with, is_at, unless_with, find_tie, place_of, without_ties, fresh_tie, fresh_arc};
 ghost use Rattle.tp_tree.specs.Invocation.{ties_of, arcs_of, has_room, with_added, with_arc, with_tie, without_tie, WritesLink, WritesDialogue};
 ghost use Rattle.tp_tree.specs.Lends.{LendsTie, LendsBelow, LendsAbove};
 
@@ -145,6 +145,25 @@ impl Invocation {
         self.below.get_mut(place)
     }
 
+    /// The arc with the peer of that number, to be changed, as `tie` lends it. It is looked for at that place among the
+    /// subordinates' first, where no other than the first one with the peer stands.
+    #[tactic(auto, using(crate::proofs::Ties::found_mut, crate::proofs::Arcs::arc_found, crate::proofs::Arcs::arcs_put, crate::proofs::Arcs::writes_dialogue, crate::proofs::Arcs::writes_link))]
+    pub fn tie_near(&mut self, place: usize, peer: u16) -> Option<&mut Tie>
+        requires { is_at self.old.below place peer ≡ true → place_of self.old.below peer ≡ place }
+        ensures* written { sem 𝓛 (LendsTie self.entry peer result) }
+        ensures tie { option_copied_mut result ≡ find_tie (ties_of self.old) peer }
+        ensures arc { option_map arc_of (option_copied_mut result) ≡ find_arc (arcs_of self.old) peer }
+        ensures put { (t : Tie) → (arc_of t).peer.node ≡ peer → arcs_of (with_tie self.old peer t) ≡ put_arc (arcs_of self.old) (arc_of t) }
+        ensures dialogue { WritesDialogue self.old peer }
+        ensures link { WritesLink self.old peer }
+    {
+        if is_with(&self.above, peer) {
+            return self.above.as_mut();
+        }
+        let place = place_near(self.below.as_slice(), place, peer);
+        self.below.get_mut(place)
+    }
+
     /// The arcs to subordinates, in the order in which they were added.
     pub fn subordinates(&self) -> &[Tie]
         ensures { result.now ≡ self.now.below }
@@ -207,17 +226,12 @@ impl Invocation {
         ensures copy { OnOk result (self.new ≡ record other.now { reserved = false }) }
         ensures same { OnErr result (self.new ≡ self.old) }
     {
-        let more = other.below.len().saturating_sub(self.below.len());
-        self.below.reserve(more)?;
-        self.below.clear();
-        let Ok(()) = self.below.extend_from_slice(other.below.as_slice()) else {
-            unreachable!()
-        };
+        copy_all(&mut self.below, other.below.as_slice())?;
         self.node = other.node;
         self.superior = other.superior;
         self.room = other.room;
         self.reserved = false;
-        self.above = other.above;
+        copy_one(&mut self.above, &other.above);
         Ok(())
     }
 
@@ -299,6 +313,46 @@ fn place_of(ties: &[Tie], peer: u16) -> usize
         }
     }
     ties.len()
+}
+
+// The same, looked for at that place first.
+#[tactic(auto, using(crate::proofs::Ties::at_place))]
+fn place_near(ties: &[Tie], place: usize, peer: u16) -> usize
+    requires { is_at ties.now place peer ≡ true → place_of ties.now peer ≡ place }
+    ensures { result ≡ place_of ties.now peer }
+{
+    match ties.get(place) {
+        Some(tie) if tie.addr().node == peer => place,
+        _ => place_of(ties, peer),
+    }
+}
+
+// They become equal to the others. Without memory they stay what they were.
+fn copy_all(ties: &mut Vec<Tie>, others: &[Tie]) -> Result<(), NoMemory>
+    ensures copy { OnOk result (ties.new.items ≡ others.now) }
+    ensures same { OnErr result (ties.new.items ≡ ties.old.items) }
+    ensures capacity { vec_capacity ties.old ≤ vec_capacity ties.new }
+{
+    if ties.len() == others.len() {
+        ties.copy_from_slice(others);
+        return Ok(());
+    }
+    ties.reserve(others.len().saturating_sub(ties.len()))?;
+    ties.clear();
+    let Ok(()) = ties.extend_from_slice(others) else {
+        unreachable!()
+    };
+    Ok(())
+}
+
+// It becomes equal to the other.
+fn copy_one(tie: &mut Option<Tie>, other: &Option<Tie>)
+    ensures { tie.new ≡ other.now }
+{
+    match other {
+        None => *tie = None,
+        Some(other) => *tie = Some(*other),
+    }
 }
 
 fn remove_all(ties: &mut Vec<Tie>, peer: u16)

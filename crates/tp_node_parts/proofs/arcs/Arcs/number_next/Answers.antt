@@ -1,6 +1,9 @@
 use Rattle.std.proofs.Common.{sym}
-use Rattle.tp_node_parts.proofs.Sides.{numbered_so, unnumbered_so, numbered_says, unnumbered_says}
+use Rattle.tp_node_parts.proofs.Sides.{first_at, numbered_so, unnumbered_so, numbered_says, unnumbered_says}
 use Rattle.tp_node_parts.proofs.arcs.Arcs.number_next.Goals as goal
+
+pub tie_near-requires : goal.tie_near-requires
+tie_near-requires c = first_at c.self.inside.tree c.args.place c.args.peer c.self.invariant.0
 
 pub returns-clause-arcs : goal.returns-clause-arcs
 returns-clause-arcs c r =

@@ -1,6 +1,9 @@
 use Rattle.std.proofs.Common.{sym}
-use Rattle.tp_node_parts.proofs.Sides.{dialogue_written}
+use Rattle.tp_node_parts.proofs.Sides.{first_at, dialogue_written}
 use Rattle.tp_node_parts.proofs.arcs.Arcs.put_dialogue.Goals as goal
+
+pub tie_near-requires : goal.tie_near-requires
+tie_near-requires c = first_at c.self.inside.tree c.args.place c.args.peer c.self.invariant.0
 
 pub returns : goal.returns
 returns c =
