@@ -10,7 +10,7 @@ use Rattle.tp_model.specs.Transactions.{Row, Transaction, is_under_at, fresh_row
 use Rattle.tp_model.specs.Requests.{has_branch_at}
 use Rattle.tp_model.specs.Node.{is_end_deferred_at, seen_rows, seen, branches_of}
 use Rattle.tp_commit.specs.declared.row.Note.{Note}
-use Rattle.tp_commit.specs.Row.{noted, noted_at}
+use Rattle.tp_commit.specs.Row.{noted, noted_at, numbers_of}
 use Rattle.tp_model.specs.AmongArcs.{are_distinct, is_peer, IsAmongArcs, IsAlike, IsCut, IsPutOff, AreNew, is_child_at}
 use Rattle.tp_commit.proofs.Marks.{IsLater, IsMarked, has_row_at}
 use Rattle.tp_commit.proofs.Passages.{peer_of}
@@ -38,10 +38,6 @@ pub left_seen : (who : Who) (arcs : List Arc) (c : Current) → left_of (seen wh
 left_seen who arcs c = ap (λ bs. let x : Current = record c { branches = bs } in x) (branches_seen arcs c.branches)
 
 -- ---- the numbers of the peers
-
-abbrev numbers_of : List Row → List ℕ
-numbers_of [] = []
-numbers_of (r ∷ rs) = r.branch.peer.node ∷ numbers_of rs
 
 abbrev has_number : List ℕ → ℕ → Bool
 has_number [] q = false

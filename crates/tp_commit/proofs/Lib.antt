@@ -1,6 +1,7 @@
 pub mod Reports
 pub mod Notes
 pub mod Noted
+pub mod Ascending
 pub mod Beside
 pub mod Courses
 pub mod Events

@@ -1,6 +1,6 @@
 -- A node's current transaction as its calls tell it: the transaction of the definitions, which sees of its
 -- arcs whether they are live and whether they end with it. What an event asks for and leaves stands there.
-use Rattle.std.specs.Prelude.{ℕ, ◌≡◌, ◌≤◌, ◌&&◌, ◌||◌, not, Bool, true, false, Option, Some, None, List, [], ◌∷◌, ◌++◌, length, vec_capacity}
+use Rattle.std.specs.Prelude.{ℕ, ◌≡◌, ◌&&◌, ◌||◌, not, Bool, true, false, Option, Some, None, List, [], ◌∷◌, ◌++◌, length}
 use Rattle.tp_names.specs.declared.identifiers.BranchId.{BranchId}
 use Rattle.tp_names.specs.declared.identifiers.NodeKey.{NodeKey}
 use Rattle.tp_names.specs.declared.identifiers.Addr.{Addr}
@@ -28,7 +28,7 @@ transaction_of b = record {
   phase = b.phase;
   up = b.up;
   up_ends = b.up_ends;
-  rows = b.rows.items;
+  rows = b.rows;
   told_prepare = b.told_prepare;
   asked = b.asked;
   owes = b.owes;
@@ -37,10 +37,9 @@ transaction_of b = record {
   own = b.own;
 }
 
--- the key is whole, and there is room for 256 branches
-pub record IsKept (b : Inside) : Type 0 where
-  pub key : node_key (key_from b.key b.superior) ≡ b.key
-  pub room : 256 ≤ vec_capacity b.rows
+-- the key is whole
+abbrev pub IsKept : Inside → Type 0
+IsKept b = node_key (key_from b.key b.superior) ≡ b.key
 
 -- a superior is given where the key has a branch
 abbrev pub has_superior : NodeKey → Option Addr → Bool

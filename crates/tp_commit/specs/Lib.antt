@@ -1,4 +1,5 @@
 pub mod Row
+pub mod RowList
 pub mod Branch
 pub mod Rules
 pub mod Disposition

@@ -51,6 +51,11 @@ abbrev pub noted_at : List RowValue → ℕ → Note → List RowValue
 noted_at [] p m = []
 noted_at (r ∷ rs) p m = if r.branch.peer.node == p then noted m r ∷ rs else r ∷ noted_at rs p m
 
+-- the numbers of the peers
+abbrev pub numbers_of : List RowValue → List ℕ
+numbers_of [] = []
+numbers_of (r ∷ rs) = r.branch.peer.node ∷ numbers_of rs
+
 -- the record by which an outcome is passed on
 abbrev pub record_of : Outcome → DialogueRecord
 record_of Outcome.Commit = DialogueRecord.Commit

@@ -1,20 +1,17 @@
 //! The current transaction of a node.
-ghost use Rattle.std.specs.Prelude.{◌≡◌, ◌<◌, ◌≤◌, ◌&&◌, ◌++◌, [], ◌∷◌, true, false, IsTrue, Ok, IfOk, OnOk, Some, length, slice_index_or, slice_set, vec_capacity};
+ghost use Rattle.std.specs.Prelude.{◌≡◌, ◌<◌, ◌&&◌, ◌++◌, [], ◌∷◌, true, false, IsTrue, Ok, IfOk, OnOk, Some, length, slice_index_or, slice_set};
 ghost use Rattle.tp_model.specs.Transactions.{Row as RowValue, node_key, superior_of, situation_of, row_holds, is_under, is_under_at, fresh_branch};
 ghost use Rattle.tp_model.specs.Node.{branches_of};
 ghost use Rattle.tp_commit.specs.Waiting.{waits_beside, owes_beside};
 ghost use Rattle.tp_commit.specs.Branch.{key_from, has_superior, begun, found, found_by, tells_transaction, idle_rows, child_at, seen_at};
 
-use crate::row::Row;
+use crate::row_list::RowList;
 use crate::rows;
 use std::alloc::Global;
 use std::marker::Model;
 use tp_logrec::LogRec;
 use tp_model::{Phase, Situation};
 use tp_names::{Addr, BranchId, Child, NoMemory, NodeKey, Outcome, Report};
-
-/// For so many branches memory is taken at the start.
-const ROOM: usize = 256;
 
 /// The current transaction of a node, which contracts see as the transaction of the definitions. It has the room for 256
 /// branches from its start on, and so has each copy.
@@ -26,7 +23,7 @@ pub struct Branch {
     pub(crate) phase: Phase,
     pub(crate) up: bool,
     pub(crate) up_ends: bool,
-    pub(crate) rows: Vec<Row>,
+    pub(crate) rows: RowList,
     pub(crate) told_prepare: bool,
     pub(crate) asked: bool,
     pub(crate) owes: bool,
@@ -47,22 +44,13 @@ impl Model for Branch {
     ghost invariant = { IsKept };
 }
 
-// Room for every branch.
-fn room(alloc: Global) -> Result<Vec<Row>, NoMemory>
-    ensures empty { IfOk result (λ rows. rows.items ≡ []) }
-    ensures room { IfOk result (λ rows. 256 ≤ vec_capacity rows) }
-{
-    Ok(Vec::with_capacity(alloc, ROOM)?)
-}
-
 // Branches that a record of the log names.
-fn idle_rows(alloc: Global, children: &[Child]) -> Result<Vec<Row>, NoMemory>
-    ensures rows { IfOk result (λ rows. rows.items ≡ idle_rows children.now) }
-    ensures room { IfOk result (λ rows. 256 ≤ vec_capacity rows) }
+fn idle_rows(alloc: Global, children: &[Child]) -> Result<RowList, NoMemory>
+    ensures { IfOk result (λ rows. rows ≡ idle_rows children.now) }
 {
-    let mut rows = room(alloc)?;
+    let mut rows = RowList::new(alloc)?;
     for child in children {
-        rows.push(Row::fresh(child, false))?;
+        rows.begin(child, false)?;
     }
     Ok(rows)
 }
@@ -73,12 +61,11 @@ fn found(
     key: NodeKey,
     superior: Option<Addr>,
     phase: Phase,
-    rows: Vec<Row>,
+    rows: RowList,
     decision: Option<Outcome>,
 ) -> Branch
-    requires key { IsTrue (has_superior key superior) }
-    requires room { 256 ≤ vec_capacity rows }
-    ensures { result ≡ record (found node (key_from key superior) phase [] decision) { rows = rows.items } }
+    requires { IsTrue (has_superior key superior) }
+    ensures { result ≡ record (found node (key_from key superior) phase [] decision) { rows = rows } }
 {
     Branch {
         node,
@@ -117,7 +104,7 @@ impl Branch {
             phase: Phase::Active,
             up: is_under,
             up_ends: false,
-            rows: room(alloc)?,
+            rows: RowList::new(alloc)?,
             told_prepare: false,
             asked: false,
             owes: false,
@@ -172,8 +159,6 @@ impl Branch {
     pub fn copy(&self, alloc: Global) -> Result<Branch, NoMemory>
         ensures { IfOk result (λ branch. branch ≡ self.now) }
     {
-        let mut rows = room(alloc)?;
-        rows.extend_from_slice(self.rows.as_slice())?;
         Ok(Branch {
             node: self.node,
             key: self.key,
@@ -181,7 +166,7 @@ impl Branch {
             phase: self.phase,
             up: self.up,
             up_ends: self.up_ends,
-            rows,
+            rows: self.rows.copy(alloc)?,
             told_prepare: self.told_prepare,
             asked: self.asked,
             owes: self.owes,
@@ -195,8 +180,7 @@ impl Branch {
     pub fn copy_from(&mut self, other: &Branch) -> Result<(), NoMemory>
         ensures { OnOk result (self.new ≡ other.now) }
     {
-        self.rows.clear();
-        self.rows.extend_from_slice(other.rows.as_slice())?;
+        self.rows.copy_from(&other.rows)?;
         self.node = other.node;
         self.key = other.key;
         self.superior = other.superior;
@@ -276,7 +260,8 @@ impl Branch {
         requires { place < length self.now.rows }
         ensures { (d : RowValue) → result ≡ (slice_index_or self.now.rows place d).branch.peer }
     {
-        self.rows[place].peer
+        let row = &self.rows.as_slice()[place];
+        row.peer
     }
 
     /// Sees the superior's arc anew, as a transaction of that node: whether it is live, and whether an end
@@ -296,8 +281,7 @@ impl Branch {
         requires { place < length self.old.rows }
         ensures { (d : RowValue) → self.new ≡ record self.old { rows = slice_set self.old.rows place (seen_at live ends (slice_index_or self.old.rows place d)) } }
     {
-        let row = &mut self.rows[place];
-        row.see(live, ends);
+        self.rows.see(place, live, ends);
     }
 
     /// Adds a branch after the others, of which nothing is known but that its arc is live. It takes no memory where there are
@@ -306,8 +290,7 @@ impl Branch {
         ensures added { OnOk result (self.new ≡ record self.old { rows = self.old.rows ++ record { branch = fresh_branch child.now; live = true; ends = false } ∷ [] }) }
         ensures memory { length self.old.rows < 256 → result ≡ Ok tt }
     {
-        self.rows.push(Row::fresh(child, true))?;
-        Ok(())
+        self.rows.begin(child, true)
     }
 
     /// A branch with another peer is neither counted nor left.
@@ -339,7 +322,7 @@ impl Branch {
     pub fn situation(&self, arc: u16) -> Situation
         ensures { result ≡ situation_of self.now arc }
     {
-        let row = rows::find(self.rows.as_slice(), arc);
+        let row = self.rows.find(arc);
         Situation {
             branch: self.is_under_at(arc) || row.is_some(),
             phase: self.phase,

@@ -54,7 +54,7 @@ impl Branch {
     fn note_at(&mut self, arc: u16, note: Note)
         ensures { self.new ≡ record self.old { rows = noted_at self.old.rows arc note } }
     {
-        rows::note_at(self.rows.as_mut_slice(), arc, note);
+        self.rows.note_at(arc, note);
     }
 
     /// The branch with that peer is counted, where there is one.
@@ -151,7 +151,7 @@ impl Branch {
         ensures { self.new ≡ (ask_commit self.old).next }
     {
         self.asked = true;
-        rows::prepare_all(self.rows.as_mut_slice());
+        self.rows.prepare_all();
     }
 
     #[tactic(auto, unfolding(tp_model::specs::Transactions::leave))]

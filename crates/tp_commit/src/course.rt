@@ -88,7 +88,7 @@ impl Branch {
     fn is_needed(&self, arc: u16) -> bool
         ensures { result ≡ is_needed self.now arc }
     {
-        let row = rows::find(self.rows.as_slice(), arc);
+        let row = self.rows.find(arc);
         self.is_under_at(arc) || row.is_some_and(|row| !row.counted && !row.left)
     }
 
@@ -225,7 +225,7 @@ impl Branch {
     fn give_up(&self, arc: u16) -> Course
         ensures { run result self.now ≡ give_up arc self.now }
     {
-        match rows::find(self.rows.as_slice(), arc) {
+        match self.rows.find(arc) {
             None => Course::one(Rule::Nothing),
             Some(_) => Course::two(Rule::GiveUp { arc }, Rule::CompleteCommit),
         }

@@ -1,12 +1,12 @@
 //! What comes of a record that was taken.
-ghost use Rattle.std.specs.Prelude.{◌≡◌};
+ghost use Rattle.std.specs.Prelude.{◌≡◌, option_copied};
 ghost use Rattle.tp_model.specs.Transactions.{sight_of_tx};
 ghost use Rattle.tp_model.specs.Dialogues.{acts_or_out, acts_or_nothing, acts_nothing_or_out};
 ghost use Rattle.tp_model.specs.Disposition.{sight_value};
 ghost use Rattle.tp_commit.specs.Disposition.{may_leave, sight_of_rollback};
 
+use crate::Branch;
 use crate::row::Row;
-use crate::{Branch, rows};
 use tp_model::{Disposition, Phase};
 use tp_records::DialogueRecord;
 
@@ -44,8 +44,8 @@ fn acts_nothing_or_out(acts: bool, nothing: bool) -> Disposition
 
 impl Branch {
     // A branch may leave that was told to prepare, or that the rollback still waits for.
-    fn may_leave(&self, row: Option<Row>) -> bool
-        ensures { result ≡ may_leave self.now row }
+    fn may_leave(&self, row: Option<&Row>) -> bool
+        ensures { result ≡ may_leave self.now (option_copied row.entry) }
     {
         let Some(row) = row else {
             return false;
@@ -61,7 +61,7 @@ impl Branch {
         if self.is_under_at(arc) {
             return acts_or_out(matches!(self.phase, Phase::Active | Phase::Ready | Phase::Rolling));
         }
-        match rows::find(self.rows.as_slice(), arc) {
+        match self.rows.find(arc) {
             None => Disposition::Nothing,
             Some(row) => acts_nothing_or_out(
                 self.phase == Phase::Active && !row.counted,
@@ -76,7 +76,7 @@ impl Branch {
     pub fn disposition(&self, arc: u16, rec: &DialogueRecord) -> Disposition
         ensures { sight_value result ≡ sight_of_tx self.now arc rec.now }
     {
-        let row = rows::find(self.rows.as_slice(), arc);
+        let row = self.rows.find(arc);
         let is_open = row.is_some_and(|row| !row.ended && !row.left);
         let active = self.phase == Phase::Active;
         let rolling = self.phase == Phase::Rolling;

@@ -13,6 +13,7 @@ pub mod laws;
 mod plan;
 mod refusal;
 mod row;
+mod row_list;
 mod rows;
 mod rule;
 mod step;

@@ -5,8 +5,8 @@ ghost use Rattle.tp_model.specs.Refusal.{IsRefusedAs};
 ghost use Rattle.tp_commit.specs.Branch.{standing, begins, with_begun};
 ghost use Rattle.tp_commit.specs.Rules.{turn_of, run, set_off, later};
 
+use crate::Branch;
 use crate::rule::{Course, Rule};
-use crate::{Branch, rows};
 use std::alloc::Global;
 use tp_logrec::LogRec;
 use tp_model::{Phase, Step, TxEvent, TxFault, TxOuts};
@@ -113,7 +113,7 @@ impl Branch {
         ensures memory { length arcs.now ≡ 0 → result ≡ Ok tt }
         ensures reserved { length self.old.rows + length arcs.now ≤ 256 → result ≡ Ok tt }
     {
-        rows::begin_each(&mut self.rows, arcs)
+        self.rows.begin_each(arcs)
     }
 
     // The branches that an event begins.
@@ -140,7 +140,7 @@ impl Branch {
     {
         let rolls = self.phase == Phase::Rolling;
         self.up_ends = self.up_ends && !rolls;
-        rows::stand(self.rows.as_mut_slice(), rolls);
+        self.rows.stand(rolls);
     }
 
     /// Takes an event that is not refused: the transaction stands as the event leaves it, before the next

@@ -69,7 +69,7 @@ impl Branch {
     fn may_give_up(&self, arc: u16) -> bool
         ensures { result ≡ may_give_up self.now arc }
     {
-        let row = rows::find(self.rows.as_slice(), arc);
+        let row = self.rows.find(arc);
         self.phase == Phase::Committing
             && row.is_some_and(|row| !row.ended && !row.left && !row.given_up)
     }

@@ -1,8 +1,9 @@
 //! The branches of a transaction, in the order in which they were begun.
-ghost use Rattle.std.specs.Prelude.{◌≡◌, ◌+◌, ◌≤◌, ◌++◌, Ok, IfOk, OnOk, length, vec_capacity};
-ghost use Rattle.tp_model.specs.Transactions.{find_row, find_row_by_id, all_settled, all_done, all_rolled_back, all_left, all_prepared, children_of, owed_of, reports_of, report_of_branch, carry_down, forgets, ends_down, prepare_each, ask_each, fresh_rows, is_waited_for};
+ghost use Rattle.std.specs.Prelude.{◌≡◌, ◌++◌, IfOk, OnOk, option_copied};
+ghost use Rattle.tp_model.specs.Transactions.{find_row, find_row_by_id, all_settled, all_done, all_rolled_back, all_left, all_prepared, children_of, owed_of, reports_of, report_of_branch, carry_down, forgets, ends_down, prepare_each, ask_each, is_waited_for};
 ghost use Rattle.tp_commit.specs.Row.{noted_at, record_of};
 ghost use Rattle.tp_commit.specs.Branch.{standing_rows};
+ghost use Rattle.tp_commit.specs.RowList.{ends_below};
 ghost use Rattle.tp_commit.specs.Waiting.{is_beside, is_owing, waits_beside, owes_beside, with_counted, with_ended};
 ghost use Rattle.tp_model.specs.Node.{branches_of};
 
@@ -10,19 +11,29 @@ use crate::row::{Note, Row};
 use std::alloc::Global;
 use tp_model::{TxOut, TxOuts};
 use tp_names::same::is_branch;
-use tp_names::{Aaid, BranchId, Child, Children, NoMemory, Outcome, Report};
+use tp_names::{Aaid, BranchId, Children, NoMemory, Outcome, Report};
 use tp_records::{DialogueRecord, PeerRecord};
 
 /// The first branch with that peer.
-pub(crate) fn find(rows: &[Row], peer: u16) -> Option<Row>
-    ensures { result ≡ find_row rows.now peer }
+pub(crate) fn find(rows: &[Row], peer: u16) -> Option<&Row>
+    ensures { option_copied result ≡ find_row rows.now peer }
 {
     for row in rows {
         if row.peer.node == peer {
-            return Some(*row);
+            return Some(row);
         }
     }
     None
+}
+
+/// The number is above that of the last branch's peer, where there is one.
+pub(crate) fn ends_below(rows: &[Row], peer: u16) -> bool
+    ensures { result ≡ ends_below rows.now peer }
+{
+    match rows.last() {
+        None => true,
+        Some(row) => row.peer.node < peer,
+    }
 }
 
 /// The first branch with that identifier.
@@ -162,20 +173,6 @@ pub(crate) fn stand(rows: &mut [Row], rolls: bool)
     for row in rows.iter_mut() {
         row.stand(rolls);
     }
-}
-
-/// Branches are begun. It takes no memory where there is none to begin, or no more than 256 with them; the room does not shrink.
-pub(crate) fn begin_each(rows: &mut Vec<Row>, arcs: &[Child]) -> Result<(), NoMemory>
-    requires { 256 ≤ vec_capacity rows.old }
-    ensures rows { OnOk result (rows.new.items ≡ rows.old.items ++ fresh_rows arcs.now) }
-    ensures memory { length arcs.now ≡ 0 → result ≡ Ok tt }
-    ensures reserved { length rows.old.items + length arcs.now ≤ 256 → result ≡ Ok tt }
-    ensures room { 256 ≤ vec_capacity rows.new }
-{
-    for child in arcs {
-        rows.push(Row::fresh(child, true))?;
-    }
-    Ok(())
 }
 
 /// The branches that did not leave.

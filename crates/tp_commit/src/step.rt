@@ -485,7 +485,7 @@ impl Branch {
     fn say_give_up(&self, alloc: Global, arc: u16, outs: &mut TxOuts) -> Result<(), NoMemory>
         ensures { OnOk result (outs.new ≡ outs.old ++ (give_up_branch arc self.now).outs) }
     {
-        match rows::find(self.rows.as_slice(), arc) {
+        match self.rows.find(arc) {
             Some(row) if row.live => shut(alloc, arc, outs),
             _ => Ok(()),
         }
