@@ -1,5 +1,5 @@
 //! The current transaction of a node.
-ghost use Rattle.std.specs.Prelude.{◌≡◌, ◌<◌, ◌≤◌, ◌&&◌, ◌++◌, [], ◌∷◌, true, false, IsTrue, Ok, IfOk, OnOk, Some, length, slice_index_or, slice_set};
+ghost use Rattle.std.specs.Prelude.{◌≡◌, ◌<◌, ◌&&◌, ◌++◌, [], ◌∷◌, true, false, IsTrue, Ok, IfOk, OnOk, Some, length, slice_index_or, slice_set};
 ghost use Rattle.tp_model.specs.Transactions.{Row as RowValue, node_key, superior_of, situation_of, row_holds, is_under, is_under_at, fresh_branch};
 ghost use Rattle.tp_model.specs.Node.{branches_of};
 ghost use Rattle.tp_commit.specs.Waiting.{waits_beside, owes_beside};
