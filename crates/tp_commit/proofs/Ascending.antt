@@ -95,6 +95,24 @@ first_with rs i p a h e = record { inside = h; with_peer = e; none_before = none
     none [] a h e = absurd (omega arith)
     none (r ∷ rs) a h e = none_before 0 (r ∷ rs) i p r a h (e r)
 
+-- none has a number above the last one
+
+beyond : (least : ℕ) (r : Row) (rs : List Row) (p : ℕ) → Ascends least (numbers_of (r ∷ rs)) → ends_below (r ∷ rs) p ≡ true → (r.branch.peer.node < p) × (find_row (r ∷ rs) p ≡ None)
+beyond least r [] p a e =
+    let h : r.branch.peer.node < p = grind (arith, nat_tests, e) in
+    (h, grind (arith, nat_tests, h))
+beyond least r (q ∷ rs) p a e =
+    let rest = beyond (suc r.branch.peer.node) q rs p a.1 (sym (tail_ends r q rs p) ∙ e) in
+    let h : r.branch.peer.node < p = above a.1.0 rest.0 in
+    (h, grind (arith, nat_tests, h, rest.1))
+  where
+    above : {m n k : ℕ} → suc m ≤ n → n < k → m < k
+    above h k = omega arith
+
+pub none_beyond : (rs : List Row) (p : ℕ) → Ascends 0 (numbers_of rs) → ends_below rs p ≡ true → find_row rs p ≡ None
+none_beyond [] p a e = refl
+none_beyond (r ∷ rs) p a e = (beyond 0 r rs p a e).1
+
 -- what stands at that place is found, and noted
 
 found_at : (rs : List Row) (i p : ℕ) (d : Row) → i < length rs → (get_or rs i d).branch.peer.node ≡ p → find_row (take i rs) p ≡ None → find_row rs p ≡ Some (get_or rs i d)

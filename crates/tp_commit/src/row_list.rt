@@ -1,5 +1,5 @@
 //! The branches of a transaction as it keeps them.
-ghost use Rattle.std.specs.Prelude.{◌≡◌, ◌+◌, ◌<◌, ◌≤◌, ◌++◌, [], ◌∷◌, false, Ok, IfOk, OnOk, IfSome, length, slice_index_or, slice_set, option_copied};
+ghost use Rattle.std.specs.Prelude.{◌≡◌, ◌+◌, ◌<◌, ◌≤◌, ◌++◌, [], ◌∷◌, true, false, None, Ok, IfOk, OnOk, IfSome, length, slice_index_or, slice_set, option_copied};
 ghost use Rattle.tp_model.specs.Transactions.{Row as RowValue, find_row, all_prepared, fresh_branch, fresh_rows};
 ghost use Rattle.tp_commit.specs.Row.{noted_at};
 ghost use Rattle.tp_commit.specs.Branch.{standing_rows, seen_at};
@@ -125,6 +125,14 @@ impl RowList {
         }
     }
 
+    // The numbers of the peers ascend, and that number is above them all.
+    #[tactic(auto, using(crate::proofs::Ascending::none_beyond))]
+    fn ends_below(&self, peer: u16) -> bool
+        ensures { result ≡ true → find_row self.now peer ≡ None }
+    {
+        self.ascends && rows::ends_below(self.rows.as_slice(), peer)
+    }
+
     /// The first branch with that peer.
     #[tactic(auto, using(crate::proofs::Ascending::found_first))]
     pub(crate) fn find(&self, peer: u16) -> Option<&Row>
@@ -132,6 +140,7 @@ impl RowList {
     {
         match self.place(peer) {
             Some(place) => Some(&self.rows[place]),
+            None if self.ends_below(peer) => None,
             None => rows::find(self.rows.as_slice(), peer),
         }
     }
