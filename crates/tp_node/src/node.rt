@@ -752,6 +752,7 @@ impl Node {
     }
 
     /// The deferred grants that a completed commitment gives, in the order of the arcs.
+    #[tactic(auto, using(crate::proofs::Beginnings::none_granted))]
     pub fn grants(&self, alloc: Global, branch: &Branch) -> Result<TxOuts, NoMemory>
         ensures { IfOk result (λ outs. outs ≡ grants branch.now self.now.digest.arcs) }
     {
@@ -759,6 +760,9 @@ impl Node {
         let Some(arcs) = &self.arcs else {
             return Ok(outs);
         };
+        if arcs.has_no_grant() {
+            return Ok(outs);
+        }
         let ties = arcs.list(alloc)?;
         for tie in ties.as_slice() {
             if is_granting(branch, tie) {
