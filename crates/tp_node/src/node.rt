@@ -919,7 +919,7 @@ impl Node {
     pub fn say(&mut self, peer: u16, asked: Asked)
         ensures { self.new ≡ with_arcs self.old (with_dialogue self.old.digest.arcs peer (said (asked_value asked))) }
     {
-        let Some(tie) = self.find(peer) else {
+        let Some(tie) = self.tie(peer) else {
             return;
         };
         let mut dialogue = tie.dialogue;
@@ -932,7 +932,7 @@ impl Node {
     pub fn hear(&mut self, peer: u16, kind: Heard)
         ensures { self.new ≡ with_arcs self.old (with_dialogue self.old.digest.arcs peer (heard (heard_value kind))) }
     {
-        let Some(tie) = self.find(peer) else {
+        let Some(tie) = self.tie(peer) else {
             return;
         };
         let mut dialogue = tie.dialogue;
@@ -945,7 +945,7 @@ impl Node {
     pub fn clear(&mut self, peer: u16)
         ensures { self.new ≡ with_arcs self.old (with_dialogue self.old.digest.arcs peer cleared) }
     {
-        let Some(tie) = self.find(peer) else {
+        let Some(tie) = self.tie(peer) else {
             return;
         };
         let mut dialogue = tie.dialogue;
@@ -958,7 +958,7 @@ impl Node {
     fn begin_dialogue(&mut self, peer: u16, holder: Holder)
         ensures { self.new ≡ with_arcs self.old (with_dialogue self.old.digest.arcs peer (begun_by holder (side_at self.old.digest peer))) }
     {
-        let Some(tie) = self.find(peer) else {
+        let Some(tie) = self.tie(peer) else {
             return;
         };
         let mut dialogue = tie.dialogue;
