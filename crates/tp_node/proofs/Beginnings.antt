@@ -10,9 +10,9 @@ use Rattle.tp_model.specs.Parts.{Who, Arc, Dialogue, Current, Digest}
 use Rattle.tp_model.specs.Arcs.{find_arc, with_dialogue}
 use Rattle.tp_model.specs.Dialogues.{begun_by, named_holder, is_active}
 use Rattle.tp_model.specs.Links.{is_live, greatest}
-use Rattle.tp_model.specs.Transactions.{Row, aaid_of}
-use Rattle.tp_model.specs.Node.{branches_of, is_superior, side_at, phase_of, situation_at, may_begin_on, with_mark_drawn, chained_from, chained_peers}
-use Rattle.tp_node_parts.specs.SharedArcs.{has_none_chained}
+use Rattle.tp_model.specs.Transactions.{Row, Transaction, aaid_of}
+use Rattle.tp_model.specs.Node.{branches_of, is_superior, side_at, phase_of, situation_at, may_begin_on, with_mark_drawn, chained_from, chained_peers, grants}
+use Rattle.tp_node_parts.specs.SharedArcs.{has_none_chained, has_no_grant}
 use Rattle.tp_node.specs.Begins.{aaid_in, with_branch, new_branch, begun_at, begun_on}
 
 pub branches_more : (rs : List Row) (r : Row) → branches_of (rs ++ r ∷ []) ≡ branches_of rs ++ r.branch ∷ []
@@ -108,3 +108,9 @@ none_from who d (a ∷ arcs) h = grind (arith, common_steps, none_from who d arc
 
 pub none_chained : (who : Who) (d : Digest) → has_none_chained d.arcs ≡ true → [] ≡ chained_peers who d
 none_chained who d h = sym (none_from who d d.arcs h)
+
+-- ---- no grant is deferred
+
+pub none_granted : (t : Transaction) (arcs : List Arc) → has_no_grant arcs ≡ true → [] ≡ grants t arcs
+none_granted t [] h = refl
+none_granted t (a ∷ arcs) h = grind (arith, common_steps, none_granted t arcs, h)

@@ -770,6 +770,7 @@ impl Node {
     }
 
     /// The deferred grants that a completed commitment gives, in the order of the arcs.
+    #[tactic(auto, using(crate::proofs::Beginnings::none_granted))]
     pub fn grants(&self, alloc: Global, branch: &Branch) -> Result<TxOuts, NoMemory>
         ensures { IfOk result (λ outs. outs ≡ grants branch.now self.now.digest.arcs) }
     {
@@ -777,6 +778,9 @@ impl Node {
         let Some(arcs) = &self.arcs else {
             return Ok(outs);
         };
+        if arcs.has_no_grant() {
+            return Ok(outs);
+        }
         let ties = arcs.list(alloc)?;
         for tie in ties.as_slice() {
             if is_granting(branch, tie) {
@@ -933,7 +937,7 @@ impl Node {
     pub fn say(&mut self, peer: u16, asked: Asked)
         ensures { self.new ≡ with_arcs self.old (with_dialogue self.old.digest.arcs peer (said (asked_value asked))) }
     {
-        let Some(tie) = self.find(peer) else {
+        let Some(tie) = self.tie(peer) else {
             return;
         };
         let mut dialogue = tie.dialogue;
@@ -946,7 +950,7 @@ impl Node {
     pub fn hear(&mut self, peer: u16, kind: Heard)
         ensures { self.new ≡ with_arcs self.old (with_dialogue self.old.digest.arcs peer (heard (heard_value kind))) }
     {
-        let Some(tie) = self.find(peer) else {
+        let Some(tie) = self.tie(peer) else {
             return;
         };
         let mut dialogue = tie.dialogue;
@@ -959,7 +963,7 @@ impl Node {
     pub fn clear(&mut self, peer: u16)
         ensures { self.new ≡ with_arcs self.old (with_dialogue self.old.digest.arcs peer cleared) }
     {
-        let Some(tie) = self.find(peer) else {
+        let Some(tie) = self.tie(peer) else {
             return;
         };
         let mut dialogue = tie.dialogue;
@@ -972,7 +976,7 @@ impl Node {
     fn begin_dialogue(&mut self, peer: u16, holder: Holder)
         ensures { self.new ≡ with_arcs self.old (with_dialogue self.old.digest.arcs peer (begun_by holder (side_at self.old.digest peer))) }
     {
-        let Some(tie) = self.find(peer) else {
+        let Some(tie) = self.tie(peer) else {
             return;
         };
         let mut dialogue = tie.dialogue;

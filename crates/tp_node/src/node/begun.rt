@@ -30,10 +30,10 @@ impl Node {
         ensures sure { IfSome result (λ out. can_begin self.now.who peer self.now.digest ≡ true) }
         ensures out { IfSome result (λ out. (begun_sent self.now.who peer self.now.digest).1 ≡ out_of out ∷ []) }
     {
-        let (Some(aaid), Some(tie)) = (self.aaid(), self.find(peer)) else {
+        let (Some(aaid), Some(tie)) = (self.aaid(), self.tie(peer)) else {
             return None;
         };
-        if !self.has_place_below() || self.drawn == u64::MAX || !self.may_begin_on(&tie) {
+        if !self.has_place_below() || self.drawn == u64::MAX || !self.may_begin_on(tie) {
             return None;
         }
         let mut link = tie.link;

@@ -13,7 +13,7 @@ pub returns : goal.returns
 returns c =
     let v = c.args.self.now in
     let p = c.args.peer in
-    let t = c.in-Some.tie in
+    let t = c.in-Some.tie.now in
     let h = c.args.holder in
     c.put_dialogue.ensures
     ∙ ap (λ (e : End). with_arcs v (with_dialogue v.digest.arcs p (λ _. e.dialogue))) c.begin.ensures

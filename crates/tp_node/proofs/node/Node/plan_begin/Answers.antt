@@ -17,7 +17,7 @@ use Rattle.tp_node.proofs.node.Node.plan_begin.Goals as goal
 pub returns-clause-out : goal.returns-clause-out
 returns-clause-out c =
     let v = c.args.self.now in
-    let t = c.in-Some-Some.tie in
+    let t = c.in-Some-Some.tie.now in
     let may : true ≡ may_begin_on v.who v.digest (arc_of t) = grind (arith, c.may_begin_on.ensures, c.if-not-may_begin_on.false) in
     let made : Addr → BranchId → Holder → Option (Mark × Mark × ℕ) → List Out = λ a b h n. outs_next a (DialogueRecord.Begin c.in-Some-Some.aaid b h) n in
     let own : BranchId = record { superior = c.self.inside.site; mark = record { boot = c.self.inside.boot; node = c.self.inside.number; count = c.self.inside.drawn + 1 } } in

@@ -12,7 +12,7 @@ pub returns : goal.returns
 returns c =
     let v = c.args.self.now in
     let p = c.args.peer in
-    let t = c.in-Some.tie in
+    let t = c.in-Some.tie.now in
     c.put_dialogue.ensures
     ∙ ap (λ (e : End). with_arcs v (with_dialogue v.digest.arcs p (λ _. e.dialogue))) c.say.ensures
     ∙ ap (with_arcs v) (dialogue_put v.digest.arcs p (arc_of t) (said (asked_value c.args.asked)) (sym c.in-Some.ensures.arc))
