@@ -14,7 +14,7 @@ use Rattle.tp_model.specs.Arcs.{performed_one, performed, carried}
 use Rattle.tp_model.specs.Node.{Move, move, followed, perform}
 use Rattle.tp_model.specs.Events.{needs_numbers, some_past_numbers}
 use Rattle.tp_node.specs.declared.halt.Halt.{Halt}
-use Rattle.tp_draft.specs.Draft.{Draft, goes_on, Plays}
+use Rattle.tp_draft.specs.Draft.{Draft, goes_on, Plays, later}
 
 -- what one output makes of a draft
 pub one : (a : Draft) (o : TxOut) → goes_on a (λ who. perform (o ∷ [])) ≡ record a { move = record a.move { outs = a.move.outs ++ (performed_one a.move.next.arcs o).1; next = record a.move.next { arcs = (performed_one a.move.next.arcs o).0 } } }
@@ -82,10 +82,6 @@ pub plays_alike : (r : Result (Unit {0}) Halt) (a b d : Draft) (f g : Who → Di
 plays_alike (Ok u) a b d f g same h = h ∙ same
 plays_alike (Err Halt.NumbersSpent) a b d f g same h = sym (ap (λ (x : Draft). needs_numbers x.move) same) ∙ h
 plays_alike (Err Halt.NoMemory) a b d f g same h = tt
-
--- of two records the later one
-abbrev later : Option LogRec → Option LogRec → Option LogRec
-later x y = elim y [ None ↦ x | Some r ↦ Some r ]
 
 later_again : (x y z : Option LogRec) → later (later x y) z ≡ later x (later y z)
 later_again x y None = refl

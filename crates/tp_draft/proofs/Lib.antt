@@ -14,3 +14,4 @@ pub mod Quiet
 pub mod Answered
 pub mod Members
 pub mod SameArcs
+mod Recorded

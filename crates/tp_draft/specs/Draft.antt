@@ -1,9 +1,10 @@
 -- A draft: what an event makes of a node, before any of it is so. It is what the definitions call a move,
 -- and each rule goes on from where the one before it left it.
-use Rattle.std.specs.Prelude.{◌≡◌, true, Option, Result, Ok, Err}
+use Rattle.std.specs.Prelude.{◌≡◌, true, Option, None, Some, Result, Ok, Err}
+use Rattle.tp_logrec.specs.declared.record.LogRec.{LogRec}
 use Rattle.tp_names.specs.declared.identifiers.NodeKey.{NodeKey}
 use Rattle.tp_model.specs.declared.recovery.KeptEvent.{KeptEvent}
-use Rattle.tp_model.specs.Recovery.{with_forget, noted}
+use Rattle.tp_model.specs.Recovery.{with_forget, noted, kept_after}
 use Rattle.tp_node.specs.Node.{Node}
 use Rattle.tp_model.specs.Parts.{Who, Current, Digest}
 use Rattle.tp_model.specs.Node.{Move, followed}
@@ -15,8 +16,12 @@ pub record Draft : Type 0 where
   pub who : Who
   pub move : Move
 
+-- of two records the later one
+abbrev pub later : Option LogRec → Option LogRec → Option LogRec
+later x y = elim y [ None ↦ x | Some r ↦ Some r ]
+
 abbrev pub draft_of : Inside → Draft
-draft_of v = record { who = v.node.value.who; move = record { rec = v.rec; outs = v.outs; next = v.node.value.digest } }
+draft_of v = record { who = v.node.value.who; move = record { rec = later v.earlier v.step.rec; outs = v.outs; next = v.node.value.digest } }
 
 -- a rule, at what the draft has come to
 abbrev pub goes_on : Draft → (Who → Digest → Move) → Draft
@@ -44,3 +49,7 @@ forgetting k d = record d { kept = with_forget d.kept k (λ x. noted x KeptEvent
 -- the current transaction has become that one
 abbrev pub with_current : Draft → Option Current → Draft
 with_current a o = record a { move = record a.move { next = record a.move.next { current = o } } }
+
+-- a record is logged, and kept
+abbrev pub recorded : Option LogRec → Draft → Draft
+recorded r a = record a { move = record a.move { rec = later a.move.rec r; next = record a.move.next { kept = kept_after r a.move.next.kept } } }

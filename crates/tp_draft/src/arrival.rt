@@ -7,7 +7,7 @@ ghost use Rattle.tp_draft.specs.Draft.{Plays};
 use crate::draft::Draft;
 use std::alloc::Global;
 use tp_names::{Addr, Mark};
-use tp_node::{Halt, key_of};
+use tp_node::Halt;
 use tp_records::{DialogueRecord, PeerRecord};
 use tp_units::Units;
 
@@ -91,7 +91,7 @@ impl Draft {
                 branch,
                 state,
             } => self.take_reply(alloc, from, *aaid, *branch, *state),
-            PeerRecord::Forget { aaid, branch } => self.take_forget(alloc, &key_of(aaid, branch)),
+            PeerRecord::Forget { aaid, branch } => self.take_forget_of(alloc, aaid, branch),
         }
     }
 }

@@ -1,11 +1,13 @@
 //! What an event makes of a node, before any of it is so.
+mod asked;
 mod event;
+mod heard;
 
 ghost use Rattle.std.specs.Prelude.{◌≡◌, ◌≤◌, true, length, [], ◌∷◌, Some, None, IfOk, OnOk, OnErr};
 ghost use Rattle.tp_model.specs.declared.transaction.TxOut.{TxOut};
 ghost use Rattle.tp_model.specs.Node.{move, perform, begin_on, begin_each, begin_chained, start_root, try_start, transact, remaining, keep, side_at, is_over, Commits, next_mark, with_mark_drawn};
 ghost use Rattle.tp_commit.specs.Branch.{begins, standing};
-ghost use Rattle.tp_draft.specs.Draft.{Plays, node_in, forgetting, with_current, goes_on, without_value};
+ghost use Rattle.tp_draft.specs.Draft.{Plays, node_in, forgetting, with_current, goes_on, without_value, later, recorded};
 ghost use Rattle.tp_draft.specs.Begins.{opened_root, named_begun};
 ghost use Rattle.tp_model.specs.Events.{retry_each, retry, purge, refused_purge};
 ghost use Rattle.tp_model.specs.Requests.{call, accept, reject, begin_transaction, abort, refused_request, do_request};
@@ -22,11 +24,11 @@ ghost use Rattle.tp_model.specs.Arrivals.{lose, take_abort, take_open, take_acce
 ghost use Rattle.tp_records.specs.declared.indication.Indication.{Indication};
 ghost use Rattle.tp_model.specs.declared.transaction.TxEvent.{TxEvent};
 ghost use Rattle.tp_model.specs.Questions.{is_begin};
-ghost use Rattle.tp_model.specs.Transactions.{transacted};
+ghost use Rattle.tp_model.specs.Transactions.{transacted, step_of};
 ghost use Rattle.tp_model.specs.Recovery.{settled, refused_kept};
 ghost use Rattle.tp_dialogue.specs.Kinds.{asked_value, heard_value};
 ghost use Rattle.tp_draft.specs.Talk.{speaking_on, deferring, telling_heard, taking_deferral};
-ghost use Rattle.tp_draft.specs.Passage.{said_then, giving, completing, playing, speaking, recording, acting, passing, acting_by, is_commit_complete, place_of_completion};
+ghost use Rattle.tp_draft.specs.Passage.{said_then, giving, completing, playing, speaking, passing, acting_by, is_commit_complete, place_of_completion};
 ghost use Rattle.tp_node.specs.Passage.{passage_of};
 ghost use Rattle.tp_model.specs.Links.{greatest, is_opening_with, dropped_by};
 
@@ -46,14 +48,15 @@ use tp_tree::Tie;
 use tp_units::{CHAINED, Units};
 
 /// A copy of a node on which an event runs, the record that is to be forced, and the outputs. Contracts see it as a move of the
-/// definitions. A transaction that is over may be spared, as memory for the next one, and so is the memory for what one says.
+/// definitions. A transaction that is over may be spared, as memory for the next one. The record is that of the last step of the
+/// transaction, or an earlier one where that step logs none; the memory for what a step says stays with it.
 #[derive(Drop)]
 pub struct Draft {
     node: Box<Node>,
     spare: Option<Branch>,
-    rec: Option<LogRec>,
+    earlier: Option<LogRec>,
+    step: Step,
     outs: Outs,
-    said: TxOuts,
 }
 
 impl Model for Draft {
@@ -130,10 +133,12 @@ impl Draft {
     }
 
     // A copy of an indication to the user.
+    #[tactic(auto, using(crate::proofs::Drafts::told))]
     fn tell_copy(&mut self, alloc: Global, indication: &Indication) -> Result<(), Halt>
         ensures { Plays result self.old self.new (λ who. perform (TxOut.Tell indication.now ∷ [])) }
     {
-        self.tell(copies::indication(alloc, indication)?)
+        self.outs.tell(copies::indication(alloc, indication)?)?;
+        Ok(())
     }
 
     // A copy of a record on the arc with that peer.
@@ -340,51 +345,33 @@ impl Draft {
         self.play(alloc, branch, passage, outs)
     }
 
-    // What is logged.
-    fn log(&mut self, alloc: Global, rec: &mut Option<LogRec>) -> Result<(), Halt>
-        ensures { Plays result self.old self.new (recording rec.old) }
-    {
-        self.node.keep(alloc, rec)?;
-        if rec.is_some() {
-            swap(&mut self.rec, rec);
-        }
-        Ok(())
-    }
-
-    // A turn of the transaction: what it says and logs. Its arcs are those that it had.
-    fn turn(
+    // What an event asks for: its record is logged and kept, and what it says is handed out.
+    fn plan(
         &mut self,
         alloc: Global,
-        passage: Passage,
-        step: &mut Step,
-        next: &Branch,
-    ) -> Result<(), Halt>
-        ensures { Plays result self.old self.new (acting next.now (passage_of passage) step.old) }
+        branch: &mut Branch,
+        event: &TxEvent,
+    ) -> Result<TxOuts, NoMemory>
+        ensures said { IfOk result (λ said. said ≡ (step_of (transacted event.now branch.old)).outs) }
+        ensures rec { OnOk result (self.new ≡ recorded (step_of (transacted event.now branch.old)).rec self.old) }
+        ensures next { OnOk result (branch.new ≡ standing (transacted event.now branch.old).next) }
     {
-        if let Err(halt) = self.speak(alloc, next, passage, step.outs.as_slice()) {
-            return Err(halt);
-        }
-        self.log(alloc, &mut step.rec)
+        put_aside(&mut self.step.rec, &mut self.earlier);
+        self.step.outs.clear();
+        branch.turn(alloc, event, &mut self.step)?;
+        self.node.keep(alloc, &self.step.rec)?;
+        Ok(replace(&mut self.step.outs, TxOuts::new(alloc)))
     }
 
-    // A list in which a transaction says something, with nothing in it yet, in the memory of the one before.
-    fn take_said(&mut self, alloc: Global) -> TxOuts
-        ensures said { result ≡ [] }
-        ensures rest { self.new ≡ self.old }
-    {
-        let mut said = replace(&mut self.said, TxOuts::new(alloc));
-        said.clear();
-        said
-    }
-
-    // Keeps the memory of that list.
+    // Keeps the memory of what a transaction has said.
     fn put_said(&mut self, said: &mut TxOuts)
         ensures { self.new ≡ self.old }
     {
-        swap(&mut self.said, said);
+        swap(&mut self.step.outs, said);
     }
 
-    // A turn of the transaction as it is seen now, by an event that it does not refuse; and whether it is over.
+    // A turn of the transaction as it is seen now, by an event that it does not refuse; and whether it is over. Its arcs are
+    // those that it had.
     fn take_turn(
         &mut self,
         alloc: Global,
@@ -397,16 +384,12 @@ impl Draft {
         ensures turn { Plays (without_value result) self.old self.new (acting_by branch.old event.now) }
     {
         let before = branch.phase();
-        let mut step = Step {
-            rec: None,
-            outs: self.take_said(alloc),
-        };
-        branch.turn(alloc, event, &mut step)?;
+        let mut said = self.plan(alloc, branch, event)?;
         let passage = Passage::of(is_leaving(event), before, branch.phase());
-        if let Err(halt) = self.turn(alloc, passage, &mut step, branch) {
+        if let Err(halt) = self.speak(alloc, branch, passage, said.as_slice()) {
             return Err(halt);
         }
-        self.put_said(&mut step.outs);
+        self.put_said(&mut said);
         Ok(passage.is_over())
     }
 
@@ -519,7 +502,7 @@ impl Draft {
         }
         self.node.keep(alloc, &rec)?;
         if rec.is_some() {
-            self.rec = rec;
+            self.step.rec = rec;
         }
         Ok(())
     }
@@ -696,11 +679,11 @@ impl Draft {
     }
 
     // A branch leaves: control and handshakes are cleared on its arc.
-    fn take_left(&mut self, alloc: Global, peer: u16, rec: DialogueRecord) -> Result<(), Halt>
-        ensures { Plays result self.old self.new (λ who. take_left who peer rec) }
+    fn take_left(&mut self, alloc: Global, peer: u16, rec: &DialogueRecord) -> Result<(), Halt>
+        ensures { Plays result self.old self.new (λ who. take_left who peer rec.now) }
     {
         self.node.clear(peer);
-        self.transact(alloc, &TxEvent::Took { arc: peer, rec })
+        self.take_up(alloc, peer, rec)
     }
 
     /// The user aborts the dialogue with that peer: on a branch the transaction rolls back.
@@ -742,19 +725,18 @@ impl Draft {
         self.tell(indication)
     }
 
-    /// The dialogue with that peer has heard a deferral, and the transaction takes it up.
-    pub(crate) fn take_deferral(
+    // The dialogue with that peer has heard a deferral, and the transaction takes it up.
+    fn take_deferral(
         &mut self,
         alloc: Global,
         peer: u16,
         kind: Heard,
-        event: &TxEvent,
+        rec: &DialogueRecord,
     ) -> Result<(), Halt>
-        requires { begins event.now ≡ 0 }
-        ensures { Plays result self.old self.new (taking_deferral peer (heard_value kind) event.now) }
+        ensures { Plays result self.old self.new (taking_deferral peer (heard_value kind) (TxEvent.Took peer rec.now)) }
     {
         self.node.hear(peer, kind);
-        self.transact(alloc, event)
+        self.take_up(alloc, peer, rec)
     }
 
     // The peer ends the dialogue.
@@ -766,10 +748,10 @@ impl Draft {
     }
 
     // The transaction takes a record.
-    #[inline(always)]
-    fn take_up(&mut self, alloc: Global, peer: u16, rec: DialogueRecord) -> Result<(), Halt>
-        ensures { Plays result self.old self.new (λ who. transact who (TxEvent.Took peer rec)) }
+    fn take_up(&mut self, alloc: Global, peer: u16, rec: &DialogueRecord) -> Result<(), Halt>
+        ensures { Plays result self.old self.new (λ who. transact who (TxEvent.Took peer rec.now)) }
     {
+        let rec = copies::dialogue(alloc, rec)?;
         self.transact(alloc, &TxEvent::Took { arc: peer, rec })
     }
 
@@ -781,70 +763,29 @@ impl Draft {
         let peer = tie.addr().node;
         match rec {
             DialogueRecord::EndDialogue => self.take_end(alloc, peer),
-            DialogueRecord::UserData { octets } => {
-                let octets = Octets::from_slice(alloc, octets.as_slice())?;
-                self.hear(peer, Heard::Data, Indication::UserData { peer, octets })
-            }
-            DialogueRecord::UError => self.hear(peer, Heard::Error, Indication::UError { peer }),
+            DialogueRecord::UserData { octets } => self.hear_data(alloc, peer, octets),
+            DialogueRecord::UError => self.hear_error(peer),
             DialogueRecord::UAbort => self.take_abort(alloc, peer),
-            DialogueRecord::Grant => self.hear(peer, Heard::Grant, Indication::Grant { peer }),
-            DialogueRecord::AskControl => self.hear(
-                peer,
-                Heard::Control,
-                Indication::AskControl { peer },
-            ),
-            DialogueRecord::Handshake => self.hear(
-                peer,
-                Heard::Handshake,
-                Indication::Handshake { peer },
-            ),
-            DialogueRecord::HandshakeGrant => {
-                self.hear(
-                    peer,
-                    Heard::HandshakeGrant,
-                    Indication::HandshakeGrant { peer },
-                )
-            }
-            DialogueRecord::Response => self.hear(
-                peer,
-                Heard::Response,
-                Indication::HandshakeConfirm { peer },
-            ),
-            DialogueRecord::DeferEnd => {
-                let rec = DialogueRecord::DeferEnd;
-                self.take_deferral(
-                    alloc,
-                    peer,
-                    Heard::DeferEnd,
-                    &TxEvent::Took { arc: peer, rec },
-                )
-            }
-            DialogueRecord::DeferGrant => {
-                let rec = DialogueRecord::DeferGrant;
-                self.take_deferral(
-                    alloc,
-                    peer,
-                    Heard::DeferGrant,
-                    &TxEvent::Took { arc: peer, rec },
-                )
-            }
+            DialogueRecord::Grant => self.hear_grant(peer),
+            DialogueRecord::AskControl => self.hear_control(peer),
+            DialogueRecord::Handshake => self.hear_handshake(peer),
+            DialogueRecord::HandshakeGrant => self.hear_handshake_grant(peer),
+            DialogueRecord::Response => self.hear_response(peer),
+            DialogueRecord::DeferEnd => self.take_deferral(alloc, peer, Heard::DeferEnd, rec),
+            DialogueRecord::DeferGrant => self.take_deferral(alloc, peer, Heard::DeferGrant, rec),
             DialogueRecord::Begin {
                 aaid,
                 branch,
                 holder,
             } => self.take_begin(alloc, tie, *aaid, *branch, *holder),
-            DialogueRecord::Left => self.take_left(alloc, peer, DialogueRecord::Left),
-            DialogueRecord::LeftEnd => self.take_left(alloc, peer, DialogueRecord::LeftEnd),
-            DialogueRecord::Prepare => self.take_up(alloc, peer, DialogueRecord::Prepare),
-            DialogueRecord::Ready => self.take_up(alloc, peer, DialogueRecord::Ready),
-            DialogueRecord::Commit => self.take_up(alloc, peer, DialogueRecord::Commit),
-            DialogueRecord::Done { report } => {
-                self.take_up(alloc, peer, DialogueRecord::Done { report: *report })
-            }
-            DialogueRecord::Rollback => self.take_up(alloc, peer, DialogueRecord::Rollback),
-            DialogueRecord::RolledBack { report } => {
-                self.take_up(alloc, peer, DialogueRecord::RolledBack { report: *report })
-            }
+            DialogueRecord::Left => self.take_left(alloc, peer, rec),
+            DialogueRecord::LeftEnd => self.take_left(alloc, peer, rec),
+            DialogueRecord::Prepare => self.take_up(alloc, peer, rec),
+            DialogueRecord::Ready => self.take_up(alloc, peer, rec),
+            DialogueRecord::Commit => self.take_up(alloc, peer, rec),
+            DialogueRecord::Done { .. } => self.take_up(alloc, peer, rec),
+            DialogueRecord::Rollback => self.take_up(alloc, peer, rec),
+            DialogueRecord::RolledBack { .. } => self.take_up(alloc, peer, rec),
         }
     }
 
@@ -929,47 +870,22 @@ impl Draft {
             Request::Accept { units } => self.accept_with(*units),
             Request::Reject => self.reject(alloc),
             Request::EndDialogue { peer } => self.end(alloc, *peer),
-            Request::UserData { peer, octets } => {
-                let octets = Octets::from_slice(alloc, octets.as_slice())?;
-                self.speak_on(*peer, Asked::Data, DialogueRecord::UserData { octets })
-            }
-            Request::UError { peer } => self.speak_on(*peer, Asked::Error, DialogueRecord::UError),
+            Request::UserData { peer, octets } => self.say_data(alloc, *peer, octets),
+            Request::UError { peer } => self.say_error(*peer),
             Request::UAbort { peer } => self.abort(alloc, *peer),
-            Request::Grant { peer } => self.speak_on(*peer, Asked::Grant, DialogueRecord::Grant),
-            Request::AskControl { peer } => self.speak_on(
-                *peer,
-                Asked::Control,
-                DialogueRecord::AskControl,
-            ),
-            Request::Handshake { peer } => self.speak_on(
-                *peer,
-                Asked::Handshake,
-                DialogueRecord::Handshake,
-            ),
-            Request::Respond { peer } => self.speak_on(
-                *peer,
-                Asked::Respond,
-                DialogueRecord::Response,
-            ),
-            Request::HandshakeGrant { peer } => {
-                self.speak_on(*peer, Asked::HandshakeGrant, DialogueRecord::HandshakeGrant)
-            }
+            Request::Grant { peer } => self.say_grant(*peer),
+            Request::AskControl { peer } => self.ask_control(*peer),
+            Request::Handshake { peer } => self.say_handshake(*peer),
+            Request::Respond { peer } => self.respond(*peer),
+            Request::HandshakeGrant { peer } => self.say_handshake_grant(*peer),
             Request::BeginTransaction { peer } => self.begin_transaction(alloc, *peer),
-            Request::DeferEnd { peer } => {
-                let event = TxEvent::User(Request::DeferEnd { peer: *peer });
-                self.defer(alloc, *peer, Asked::DeferEnd, &event)
-            }
-            Request::DeferGrant { peer } => {
-                let event = TxEvent::User(Request::DeferGrant { peer: *peer });
-                self.defer(alloc, *peer, Asked::DeferGrant, &event)
-            }
-            Request::Prepare { peer } => {
-                self.transact(alloc, &TxEvent::User(Request::Prepare { peer: *peer }))
-            }
-            Request::Commit => self.transact(alloc, &TxEvent::User(Request::Commit)),
-            Request::Done => self.transact(alloc, &TxEvent::User(Request::Done)),
-            Request::Rollback => self.transact(alloc, &TxEvent::User(Request::Rollback)),
-            Request::Unchanged => self.transact(alloc, &TxEvent::User(Request::Unchanged)),
+            Request::DeferEnd { peer } => self.defer_end(alloc, *peer),
+            Request::DeferGrant { peer } => self.defer_grant(alloc, *peer),
+            Request::Prepare { peer } => self.ask_prepare(alloc, *peer),
+            Request::Commit => self.ask_commit(alloc),
+            Request::Done => self.say_done(alloc),
+            Request::Rollback => self.ask_rollback(alloc),
+            Request::Unchanged => self.say_unchanged(alloc),
         }
     }
 
@@ -981,6 +897,16 @@ impl Draft {
         ensures halted { OnErr result (self.old.move.next.drawn ≡ greatest) }
     {
         Ok(self.node.draw()?)
+    }
+}
+
+// A record makes place for the next one.
+fn put_aside(rec: &mut Option<LogRec>, earlier: &mut Option<LogRec>)
+    ensures rec { rec.new ≡ None }
+    ensures earlier { earlier.new ≡ later earlier.old rec.old }
+{
+    if rec.is_some() {
+        *earlier = rec.take();
     }
 }
 

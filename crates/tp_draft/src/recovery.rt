@@ -69,8 +69,8 @@ impl Draft {
         self.reply_to(from, aaid, branch, answer(known, Question::RecCommit))
     }
 
-    /// The superior forgets the branch.
-    pub(crate) fn take_forget(&mut self, alloc: Global, key: &NodeKey) -> Result<(), Halt>
+    // The superior forgets the branch of that key.
+    fn take_forget(&mut self, alloc: Global, key: &NodeKey) -> Result<(), Halt>
         ensures { Plays result self.old self.new (λ who. take_forget key.now) }
     {
         let Some(kept) = self.node().kept_copy(alloc, key)? else {
@@ -78,6 +78,18 @@ impl Draft {
         };
         self.note_forget(alloc, key)?;
         self.settle_by(alloc, &kept, &KeptEvent::Forget)
+    }
+
+    /// The superior forgets the branch.
+    pub(crate) fn take_forget_of(
+        &mut self,
+        alloc: Global,
+        aaid: &Aaid,
+        branch: &BranchId,
+    ) -> Result<(), Halt>
+        ensures { Plays result self.old self.new (λ who. take_forget (branch_key aaid.now branch.now)) }
+    {
+        self.take_forget(alloc, &key_of(aaid, branch))
     }
 
     // A reply that a ready transaction of that key takes.

@@ -2,7 +2,7 @@
 ghost use Rattle.std.specs.Prelude.{◌≡◌, false, [], OnOk, None};
 ghost use Rattle.tp_model.specs.Node.{move};
 ghost use Rattle.tp_model.specs.Events.{action, needs_numbers, says_nothing};
-ghost use Rattle.tp_model.specs.Parts.{Declare};
+ghost use Rattle.tp_model.specs.Parts.{Declare, Heur, GiveUp};
 ghost use Rattle.tp_draft.specs.Draft.{Plays, node_in};
 ghost use Rattle.tp_node.specs.NodeEvent.{event_of, refused_at_once};
 
@@ -10,8 +10,8 @@ use crate::draft::Draft;
 use std::alloc::Global;
 use std::mem::{replace, swap};
 use tp_logrec::LogRec;
-use tp_model::{TxEvent, TxOuts};
-use tp_names::{Addr, NoMemory};
+use tp_model::{Step, TxEvent, TxOuts};
+use tp_names::{Addr, NoMemory, Outcome};
 use tp_node::{Halt, Node, NodeEvent};
 use tp_node_parts::Outs;
 
@@ -23,9 +23,12 @@ impl Draft {
         Draft {
             node,
             spare: None,
-            rec: None,
+            earlier: None,
+            step: Step {
+                rec: None,
+                outs: TxOuts::new(alloc),
+            },
             outs: Outs::new(alloc),
-            said: TxOuts::new(alloc),
         }
     }
 
@@ -35,7 +38,7 @@ impl Draft {
     {
         self.node.copy_from(alloc, node, &mut self.spare)?;
         self.forget_rec();
-        self.outs = Outs::new(alloc);
+        self.forget_outs(alloc);
         Ok(())
     }
 
@@ -43,8 +46,17 @@ impl Draft {
     fn forget_rec(&mut self)
         ensures { self.new ≡ record self.old { move = record self.old.move { rec = None } } }
     {
-        if self.rec.is_some() {
-            self.rec = None;
+        forget(&mut self.step.rec);
+        forget(&mut self.earlier);
+    }
+
+    // Nothing is to go out.
+    #[tactic(auto, using(crate::proofs::Quiet::none_goes_out))]
+    fn forget_outs(&mut self, alloc: Global)
+        ensures { self.new ≡ record self.old { move = record self.old.move { outs = [] } } }
+    {
+        if !self.outs.is_empty() {
+            self.outs = Outs::new(alloc);
         }
     }
 
@@ -52,7 +64,11 @@ impl Draft {
     pub fn rec(&self) -> &Option<LogRec>
         ensures { result.now ≡ self.now.move.rec }
     {
-        &self.rec
+        if self.step.rec.is_some() {
+            &self.step.rec
+        } else {
+            &self.earlier
+        }
     }
 
     /// The node, as the draft has it by now, takes that place.
@@ -95,6 +111,20 @@ impl Draft {
         Ok(())
     }
 
+    // The node decides by itself.
+    fn decide(&mut self, alloc: Global, outcome: Outcome) -> Result<(), Halt>
+        ensures { Plays result self.old self.new (λ who d. action who d (Heur outcome)) }
+    {
+        self.transact(alloc, &TxEvent::Heur(outcome))
+    }
+
+    // The branch on the arc with that peer is given up.
+    fn give_up(&mut self, alloc: Global, peer: u16) -> Result<(), Halt>
+        ensures { Plays result self.old self.new (λ who d. action who d (GiveUp peer)) }
+    {
+        self.transact(alloc, &TxEvent::GiveUp { arc: peer })
+    }
+
     /// An event that is not refused happens.
     #[inline(always)]
     pub(crate) fn happen(&mut self, alloc: Global, event: &NodeEvent<'_>) -> Result<(), Halt>
@@ -106,10 +136,19 @@ impl Draft {
             NodeEvent::Do { request } => self.do_request(alloc, request),
             NodeEvent::Arrive { from, rec } => self.do_arrival(alloc, *from, rec),
             NodeEvent::Lose { peer } => self.lose(alloc, *peer),
-            NodeEvent::Heur { outcome } => self.transact(alloc, &TxEvent::Heur(*outcome)),
-            NodeEvent::GiveUp { peer } => self.transact(alloc, &TxEvent::GiveUp { arc: *peer }),
+            NodeEvent::Heur { outcome } => self.decide(alloc, *outcome),
+            NodeEvent::GiveUp { peer } => self.give_up(alloc, *peer),
             NodeEvent::Retry => self.retry(alloc),
             NodeEvent::Purge => self.purge(alloc),
         }
+    }
+}
+
+// There is no record.
+fn forget(rec: &mut Option<LogRec>)
+    ensures { rec.new ≡ None }
+{
+    if rec.is_some() {
+        *rec = None;
     }
 }

@@ -7,7 +7,7 @@ use Rattle.tp_model.specs.declared.transaction.TxOut.{TxOut}
 use Rattle.tp_model.specs.Node.{perform, transact, situation_at}
 use Rattle.tp_model.specs.Requests.{abort}
 use Rattle.tp_node.specs.Node.{Node}
-use Rattle.tp_draft.specs.Draft.{Draft}
+use Rattle.tp_draft.specs.Draft.{Draft, later}
 use Rattle.tp_draft.proofs.Drafts.{plays_same_at}
 use Rattle.tp_draft.proofs.Talks.{aborts_there, aborts_alone}
 use Rattle.tp_draft.proofs.draft.Draft.abort.Goals as goal
@@ -17,7 +17,7 @@ returns-then-situation c =
     let a = c.args.self.now in
     let p = c.args.peer in
     let v = c.self.inside in
-    let drafted : Node → Draft = λ w. record { who = w.who; move = record { rec = v.rec; outs = v.outs; next = w.digest } } in
+    let drafted : Node → Draft = λ w. record { who = w.who; move = record { rec = later v.earlier v.step.rec; outs = v.outs; next = w.digest } } in
     let from : drafted c.deref.result.now ≡ a = ap drafted c.deref.ensures ∙ c.self.view_is in
     let there : (situation_at a.who a.move.next p).branch ≡ true = subst (λ (x : Draft). (situation_at x.who x.move.next p).branch ≡ true) from (sym (ap (λ (s : Situation). s.branch) c.situation.ensures) ∙ c.if-situation.true) in
     plays_same_at c.transact.result a c.transact.new.self (λ who. abort who p) (λ who. transact who (TxEvent.User (Request.UAbort p))) (aborts_there a.who p a.move.next there) c.transact.ensures
@@ -27,7 +27,7 @@ returns c =
     let a = c.args.self.now in
     let p = c.args.peer in
     let v = c.self.inside in
-    let drafted : Node → Draft = λ w. record { who = w.who; move = record { rec = v.rec; outs = v.outs; next = w.digest } } in
+    let drafted : Node → Draft = λ w. record { who = w.who; move = record { rec = later v.earlier v.step.rec; outs = v.outs; next = w.digest } } in
     let from : drafted c.deref.result.now ≡ a = ap drafted c.deref.ensures ∙ c.self.view_is in
     let none : (situation_at a.who a.move.next p).branch ≡ false = subst (λ (x : Draft). (situation_at x.who x.move.next p).branch ≡ false) from (sym (ap (λ (s : Situation). s.branch) c.situation.ensures) ∙ c.if-situation.false) in
     plays_same_at c.perform.result a c.perform.new.self (λ who. abort who p) (λ who. perform (TxOut.Carry p DialogueRecord.UAbort ∷ TxOut.Close p ∷ [])) (aborts_alone a.who p a.move.next none) c.perform.ensures

@@ -7,7 +7,7 @@ use Rattle.tp_model.specs.Parts.{Opening, Digest}
 use Rattle.tp_model.specs.Node.{perform, with_mark_drawn}
 use Rattle.tp_model.specs.Requests.{call}
 use Rattle.tp_node_parts.specs.Arcs.{new_arc}
-use Rattle.tp_draft.specs.Draft.{Draft, Plays}
+use Rattle.tp_draft.specs.Draft.{Draft, Plays, later}
 use Rattle.tp_node.specs.Node.{Node}
 use Rattle.tp_draft.proofs.Drafts.{plays_from}
 use Rattle.tp_draft.proofs.Calls.{call_is}
@@ -20,7 +20,7 @@ returns c =
     let to = c.args.addr in
     let units = c.args.units in
     let x : Mark = c.in_ok-x.x in
-    let drafted : Node → Draft = λ w. record { who = w.who; move = record { rec = v.rec; outs = v.outs; next = w.digest } } in
+    let drafted : Node → Draft = λ w. record { who = w.who; move = record { rec = later v.earlier v.step.rec; outs = v.outs; next = w.digest } } in
     let from : drafted c.deref_mut.result.now ≡ c.args.self.now = ap drafted c.deref_mut.ensures.value ∙ c.self.view_is in
     let made = c.in_ok-x.ensures {u = tt} in
     let behind : Mark → Digest = λ y. record (with_mark_drawn d) { arcs = d.arcs ++ new_arc to units Side.Superior (Opening y) ∷ [] } in

@@ -3,7 +3,7 @@ use Rattle.std.specs.Prelude.{cond}
 use Rattle.std.specs.Option.{option_map}
 use Rattle.tp_model.specs.Node.{Move, followed, seen, is_over, transact, try_start}
 use Rattle.tp_node.specs.Node.{Node}
-use Rattle.tp_draft.specs.Draft.{Draft}
+use Rattle.tp_draft.specs.Draft.{Draft, later}
 use Rattle.tp_draft.specs.Passage.{passing, turning_by}
 use Rattle.tp_draft.proofs.Drafts.{perform_none, plays_then_at}
 use Rattle.tp_draft.proofs.Turns.{transacts, transacts_none, transact_halts, settled_turn, halted_turn, without_current, taken_out, none_taken}
@@ -14,7 +14,7 @@ returns-in_default c =
     let a = c.args.self.now in
     let e = c.args.event.now in
     let v = c.self.inside in
-    let drafted : Node → Draft = λ w. record { who = w.who; move = record { rec = v.rec; outs = v.outs; next = w.digest } } in
+    let drafted : Node → Draft = λ w. record { who = w.who; move = record { rec = later v.earlier v.step.rec; outs = v.outs; next = w.digest } } in
     let from : drafted c.deref_mut.result.now ≡ c.args.self.now = ap drafted c.deref_mut.ensures.value ∙ c.self.view_is in
     let is : drafted c.take_seen.new.self ≡ without_current a = ap drafted c.take_seen.ensures.node ∙ ap without_current from in
     let none : option_map (seen a.who a.move.next.arcs) a.move.next.current ≡ None = subst (λ (x : Draft). option_map (seen x.who x.move.next.arcs) x.move.next.current ≡ None) from (sym c.take_seen.ensures.branch ∙ c.in_default.is) in
@@ -25,7 +25,7 @@ returns-in-Err c =
     let a = c.args.self.now in
     let e = c.args.event.now in
     let v = c.self.inside in
-    let drafted : Node → Draft = λ w. record { who = w.who; move = record { rec = v.rec; outs = v.outs; next = w.digest } } in
+    let drafted : Node → Draft = λ w. record { who = w.who; move = record { rec = later v.earlier v.step.rec; outs = v.outs; next = w.digest } } in
     let from : drafted c.deref_mut.result.now ≡ c.args.self.now = ap drafted c.deref_mut.ensures.value ∙ c.self.view_is in
     let is : drafted c.take_seen.new.self ≡ without_current a = ap drafted c.take_seen.ensures.node ∙ ap without_current from in
     let t = c.in-Some.branch in
@@ -38,7 +38,7 @@ returns-in-Ok-false c =
     let a = c.args.self.now in
     let e = c.args.event.now in
     let v = c.self.inside in
-    let drafted : Node → Draft = λ w. record { who = w.who; move = record { rec = v.rec; outs = v.outs; next = w.digest } } in
+    let drafted : Node → Draft = λ w. record { who = w.who; move = record { rec = later v.earlier v.step.rec; outs = v.outs; next = w.digest } } in
     let from : drafted c.deref_mut.result.now ≡ c.args.self.now = ap drafted c.deref_mut.ensures.value ∙ c.self.view_is in
     let is : drafted c.take_seen.new.self ≡ without_current a = ap drafted c.take_seen.ensures.node ∙ ap without_current from in
     let t = c.in-Some.branch in
@@ -54,7 +54,7 @@ returns-in-Ok-true c =
     let a = c.args.self.now in
     let e = c.args.event.now in
     let v = c.self.inside in
-    let drafted : Node → Draft = λ w. record { who = w.who; move = record { rec = v.rec; outs = v.outs; next = w.digest } } in
+    let drafted : Node → Draft = λ w. record { who = w.who; move = record { rec = later v.earlier v.step.rec; outs = v.outs; next = w.digest } } in
     let from : drafted c.deref_mut.result.now ≡ c.args.self.now = ap drafted c.deref_mut.ensures.value ∙ c.self.view_is in
     let is : drafted c.take_seen.new.self ≡ without_current a = ap drafted c.take_seen.ensures.node ∙ ap without_current from in
     let t = c.in-Some.branch in
