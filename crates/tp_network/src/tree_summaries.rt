@@ -98,6 +98,7 @@ impl TreeSummaries {
     }
 
     // The summary in the tree before an entry; it tells whether that is the tree after it too.
+    #[inline(always)]
     fn change_before(&mut self, change: &TreeChange) -> Result<bool, NoMemory>
         ensures stays { IfOk result (λ stays. same_tree change.now.before change.now.after ≡ stays) }
         ensures changed { OnOk result ((t : AaidValue) → summary_at self.new t ≡ cond (is_in t change.now.before) (summary_after t change.now (summary_at self.old t)) (summary_at self.old t)) }

@@ -81,6 +81,7 @@ impl Waiting {
     }
 
     // The same.
+    #[inline(always)]
     fn place(&self, from: u16, to: u16) -> usize
         ensures { result ≡ place_on self.now from to }
     {

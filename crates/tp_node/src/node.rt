@@ -231,6 +231,7 @@ impl Node {
     }
 
     /// The tree of its current transaction is put there.
+    #[inline(always)]
     pub fn put_tree(&self, tree: &mut Option<NodeTree>)
         ensures { tree.new ≡ tree_in self.now.digest }
     {

@@ -120,6 +120,7 @@ impl ArcStep {
     }
 
     /// Of every arc, where it is the transaction's.
+    #[inline(always)]
     pub(crate) fn take_tree(self, branch: &Branch, tree: &mut Invocation)
         ensures { tree.new ≡ stepped_tree self branch.now tree.old }
     {

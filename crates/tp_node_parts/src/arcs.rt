@@ -200,6 +200,7 @@ impl Arcs {
 
     /// The record with that pair and number is taken on the arc with that peer, where there is one, and ends its rest where
     /// it wakes it. The arc is looked for at that place among the subordinates' first.
+    #[inline(always)]
     #[tactic(auto, using(crate::proofs::Sides::sided_with, crate::proofs::Linked::linked_with, crate::proofs::Linked::link_found, crate::proofs::Linked::fits_taken, crate::proofs::Takes::none_taken))]
     pub(crate) fn take(&mut self, place: usize, peer: u16, x: Mark, y: Mark, seq: u64, wakes: bool)
         requires { dropped_by (link_with self.old.arcs peer) x y seq ≡ None }
@@ -213,6 +214,7 @@ impl Arcs {
 
     /// Numbers the next record that goes out on the arc with that peer, where it is live, which is looked for at that place
     /// among the subordinates' first. Where no number is left, nothing changes.
+    #[inline(always)]
     #[tactic(auto, using(crate::proofs::Sides::sided_with, crate::proofs::Linked::linked_with, crate::proofs::Linked::link_found, crate::proofs::Linked::fits_sent, crate::proofs::Sides::carried_none))]
     pub(crate) fn number_next(
         &mut self,

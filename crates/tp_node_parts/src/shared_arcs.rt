@@ -126,6 +126,7 @@ impl SharedArcs {
     }
 
     /// The arc with that peer.
+    #[inline(always)]
     pub fn find(&self, peer: u16) -> Option<Tie>
         ensures arc { option_map arc_of result ≡ find_arc self.now.arcs peer }
         ensures side { IfSome result (λ t. t.dialogue.side ≡ side_with self.now.superior peer) }

@@ -327,6 +327,7 @@ impl<K: Keeper> Site<K> {
     }
 
     /// The tree of the current transaction of the node of that number, where it has one, is put there.
+    #[inline(always)]
     #[tactic(auto, using(crate::proofs::Numbered::found, crate::proofs::Numbered::unfound_treeless))]
     pub fn put_tree(&self, node: u16, tree: &mut Option<NodeTree>)
         ensures { tree.new ≡ tree_in (known_at self.now node) }

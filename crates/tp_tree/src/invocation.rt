@@ -222,6 +222,7 @@ impl Invocation {
     }
 
     /// Becomes a copy of that one, in the memory that it has where that is enough. Without memory it stays what it was.
+    #[inline(always)]
     pub fn copy_from(&mut self, other: &Invocation) -> Result<(), NoMemory>
         ensures copy { OnOk result (self.new ≡ record other.now { reserved = false }) }
         ensures same { OnErr result (self.new ≡ self.old) }

@@ -234,6 +234,7 @@ impl World {
     }
 
     // What the answer of the node at that address, and what that shows of trees, makes of the world.
+    #[inline(always)]
     fn settle(
         &mut self,
         alloc: Global,

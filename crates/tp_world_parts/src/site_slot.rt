@@ -204,6 +204,7 @@ impl SiteSlot {
     }
 
     // The tree of that node's current transaction is put there.
+    #[inline(always)]
     fn put_tree(&self, node: u16, tree: &mut Option<NodeTree>)
         ensures { tree.new ≡ tree_in (known_at self.now.site node) }
     {

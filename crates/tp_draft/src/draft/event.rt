@@ -72,6 +72,7 @@ impl Draft {
     }
 
     /// The node, as the draft has it by now, takes that place.
+    #[inline(always)]
     pub fn put_node(&mut self, alloc: Global, place: &mut Box<Node>)
         ensures node { (place.new).value ≡ node_in self.old }
         ensures outs { self.new.move.outs ≡ self.old.move.outs }
