@@ -57,9 +57,10 @@ impl Draft {
         requires { refused_arrival self.old.who self.old.move.next from (PeerRecord.OnAssoc x y seq rec.now) ≡ None }
         ensures { Plays result self.old self.new (λ who. do_arrival who from (PeerRecord.OnAssoc x y seq rec.now)) }
     {
-        match self.node().find(from.node) {
+        let found = self.node().find(from.node);
+        match &found {
             None => Ok(()),
-            Some(tie) => self.take_on(alloc, &tie, x, y, seq, rec),
+            Some(tie) => self.take_on(alloc, tie, x, y, seq, rec),
         }
     }
 

@@ -39,7 +39,7 @@ use tp_commit::Branch;
 use tp_dialogue::{Asked, Heard};
 use tp_logrec::LogRec;
 use tp_model::{Disposition, Kept, KeptEvent, Phase, Step, TxEvent, TxOut, TxOuts};
-use tp_names::{Aaid, Addr, BranchId, Mark, NoMemory, NodeKey, Octets};
+use tp_names::{Aaid, Addr, BranchId, Mark, NoMemory, NodeKey};
 use tp_node::{Halt, Node, Passage, is_leaving};
 use tp_node_parts::{ArcStep, Outs, copies};
 use tp_records::{DialogueRecord, Holder, Indication, PeerRecord, Request};
