@@ -131,3 +131,15 @@ pub asks_as : {M : Type 0} (allowed : M → List Answer → Type 0) (a b c : Lis
 asks_as allowed a b c es fs l x y same is now h =
     subst (λ (q : List Put). Asks allowed b c q y) (puts_same (driver_in b fs) (driver_in a es) (l ∷ []) (driver_same a b es fs same is))
     (subst (λ (z : Option Asked). Asks allowed b c (puts_in (driver_in b fs) (l ∷ [])) z) now h)
+
+-- ---- where no node is driven
+
+none_put : {M : Type 0} (xs : List (Option M)) (ts : List Told) → puts_by (driver_in xs []) ts ≡ []
+none_put xs [] = refl
+none_put xs (t ∷ ts) = none_put xs ts
+
+-- nothing is put to a member
+pub none_asked : {M : Type 0} (allowed : M → List Answer → Type 0) (xs : List (Option M)) (es : List (ℕ × ℕ)) (lines : List OutLine) (from : ℕ) → es ≡ [] → AsksFrom allowed xs xs (driver_in xs es) lines from None
+none_asked {M} allowed xs es lines from none =
+    subst (λ (fs : List (ℕ × ℕ)). AsksFrom allowed xs xs (driver_in xs fs) lines from None) (sym none)
+    (subst (λ (queue : List Put). Gave allowed xs xs queue (silent queue)) (sym (none_put xs (told_in (drop from lines)))) (gave_none allowed xs))

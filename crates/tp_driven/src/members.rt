@@ -64,6 +64,13 @@ impl<M: Member> Members<M> {
         place > 0 && place <= self.slots.len() && self.slots[place - 1].is_some()
     }
 
+    // No node is driven.
+    fn drive_none(&self) -> bool
+        ensures { result ≡ true → self.now.drivers.entries ≡ [] }
+    {
+        self.drivers.is_empty()
+    }
+
     // The member that drives the node, while it is there.
     fn driver(&self, node: u16) -> Option<u16>
         ensures { result ≡ driver_in self.now.slots.items self.now.drivers.entries node }
@@ -145,6 +152,9 @@ pub(crate) fn next_request<M: Member>(
     ensures same { OnOk result (AreSame members.old.slots.items members.new.slots.items × (members.new.drivers ≡ members.old.drivers)) }
     ensures asks { IfOk result (λ a. AsksFrom M.allowed members.old.slots.items members.new.slots.items (driver_in members.old.slots.items members.old.drivers.entries) lines.now from a) }
 {
+    if members.drive_none() {
+        return Ok(None);
+    }
     for place in from..lines.len() {
         if let Some(asked) = members.ask(alloc, &lines[place])? {
             return Ok(Some((asked, place + 1)));
