@@ -4,7 +4,7 @@ use Rattle.std.specs.Prelude.{ℕ, ◌≡◌, ◌==◌, ◌⊎◌, cond, if◌th
 use Rattle.tp_logrec.specs.declared.record.LogRec.{LogRec}
 use Rattle.tp_logrec.specs.Order.{all_follow}
 use Rattle.tp_model.specs.Links.{greatest}
-use Rattle.tp_model.specs.Parts.{Event, Digest, State}
+use Rattle.tp_model.specs.Parts.{Event, Digest, Out, State}
 use Rattle.tp_model.specs.Events.{started, is_no_node}
 use Rattle.tp_model.specs.History.{state}
 use Rattle.tp_model.specs.NodeRun.{Opening, boot_of, origin_at}
@@ -96,6 +96,14 @@ Plays standing old n e (Err (SiteFault.Shut faults)) new =
     ((old.shut ≡ Some faults) × (new ≡ old)) ⊎ (IsHalted standing old n e (force.Shut faults) new × (new.shut ≡ None))
 -- the free answer
 Plays standing old n e (Err SiteFault.NoMemory) new = IsSame old new × (standing new.keeper ≡ standing old.keeper) × (old.shut ≡ None) × (new.shut ≡ None)
+
+-- the same, where the outputs stand beside the answer
+abbrev pub played_with : Result (Option Refusal) SiteFault → List Out → Result Played SiteFault
+played_with (Ok refusal) outs = Ok (record { refusal = refusal; outs = outs })
+played_with (Err fault) outs = Err fault
+
+abbrev pub PlaysInto : {K : Type 0} → (K → Standing) → Site K → ℕ → Event → Result (Option Refusal) SiteFault → List Out → Site K → Type 0
+PlaysInto standing old n e result outs new = Plays standing old n e (played_with result outs) new
 
 -- ---- the two steps of it
 

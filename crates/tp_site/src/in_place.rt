@@ -1,5 +1,5 @@
 //! Events that are run on their node itself, and not on a draft of it: what they say is known before anything is so.
-ghost use Rattle.std.specs.Prelude.{◌≡◌, true, None, IfOk, IfSome};
+ghost use Rattle.std.specs.Prelude.{◌≡◌, true, None, IfOk, OnOk};
 ghost use Rattle.tp_model.specs.Arrivals.{refused_arrival};
 ghost use Rattle.tp_model.specs.Disposition.{sight_value};
 ghost use Rattle.tp_node.specs.declared.event.NodeEvent.{NodeEvent};
@@ -8,7 +8,6 @@ ghost use Rattle.tp_node.specs.NodeEvent.{refused_at_once};
 ghost use Rattle.tp_records.specs.declared.request.Request.{Request as Asks};
 ghost use Rattle.tp_site.specs.InPlace.{IsPlanned, run_in_place, can_run, arrived_in_place, asked_in_place, can_ask, is_only_noted, is_acting, acts_at, told_of};
 
-use std::alloc::Global;
 use tp_model::Disposition;
 use tp_names::{Addr, NoMemory, Report};
 use tp_node::{Node, NodeEvent};
@@ -46,11 +45,11 @@ fn acts(node: &Node, peer: u16, rec: &DialogueRecord) -> bool
     is_acting(node.disposition(&tie, rec))
 }
 
-// What the user is told of a Ready or of a Done.
-fn told(alloc: Global, peer: u16, rec: &DialogueRecord) -> Result<Outs, NoMemory>
-    ensures { IfOk result (λ outs. outs ≡ told_of peer rec.now) }
+// What the user is told of a Ready or of a Done stands there then.
+fn tell(peer: u16, rec: &DialogueRecord, outs: &mut Outs) -> Result<(), NoMemory>
+    ensures { OnOk result (outs.new ≡ told_of peer rec.now) }
 {
-    let mut outs = Outs::new(alloc);
+    outs.clear();
     match rec {
         DialogueRecord::Ready => outs.tell(Indication::Ready { peer })?,
         DialogueRecord::Done { report } => {
@@ -61,78 +60,79 @@ fn told(alloc: Global, peer: u16, rec: &DialogueRecord) -> Result<Outs, NoMemory
         }
         _ => {}
     }
-    Ok(outs)
+    Ok(())
 }
 
 // Of a record that arrives.
 fn plan_arrival(
-    alloc: Global,
     node: &Node,
     from: Addr,
     rec: &PeerRecord,
-) -> Result<Option<Outs>, NoMemory>
-    ensures { IfOk result (λ plan. IfSome plan (IsPlanned node.now (NodeEvent.Arrive from rec.entry))) }
+    outs: &mut Outs,
+) -> Result<bool, NoMemory>
+    ensures { IfOk result (λ planned. planned ≡ true → IsPlanned node.now (NodeEvent.Arrive from rec.entry) outs.new) }
 {
     let PeerRecord::OnAssoc { rec: said, .. } = rec else {
-        return Ok(None);
+        return Ok(false);
     };
     let _drawn = node.drawn();
     let peer = from.node;
     if !is_only_noted(node, peer, said) {
-        return Ok(None);
+        return Ok(false);
     }
     if let Some(_refusal) = node.refused_arrival(&from, rec) {
-        return Ok(None);
+        return Ok(false);
     }
     if !acts(node, peer, said) {
-        return Ok(None);
+        return Ok(false);
     }
-    Ok(Some(told(alloc, peer, said)?))
+    tell(peer, said, outs)?;
+    Ok(true)
 }
 
 // Of a request: a Begin for which nothing can be wanting.
-fn plan_request(alloc: Global, node: &Node, request: &Request) -> Result<Option<Outs>, NoMemory>
-    ensures { IfOk result (λ plan. IfSome plan (IsPlanned node.now (NodeEvent.Do request.entry))) }
+fn plan_request(node: &Node, request: &Request, outs: &mut Outs) -> Result<bool, NoMemory>
+    ensures { IfOk result (λ planned. planned ≡ true → IsPlanned node.now (NodeEvent.Do request.entry) outs.new) }
 {
     match request {
-        Request::BeginTransaction { peer } => plan_begin(alloc, node, *peer, request),
-        _ => Ok(None),
+        Request::BeginTransaction { peer } => plan_begin(node, *peer, request, outs),
+        _ => Ok(false),
     }
 }
 
 // Of that request, which is to begin a transaction with that peer.
 fn plan_begin(
-    alloc: Global,
     node: &Node,
     peer: u16,
     request: &Request,
-) -> Result<Option<Outs>, NoMemory>
+    outs: &mut Outs,
+) -> Result<bool, NoMemory>
     requires { request.now ≡ Asks.BeginTransaction peer }
-    ensures { IfOk result (λ plan. IfSome plan (IsPlanned node.now (NodeEvent.Do request.entry))) }
+    ensures { IfOk result (λ planned. planned ≡ true → IsPlanned node.now (NodeEvent.Do request.entry) outs.new) }
 {
     let Some(out) = node.plan_begin(peer) else {
-        return Ok(None);
+        return Ok(false);
     };
     if let Some(_refusal) = node.refused_do(request) {
-        return Ok(None);
+        return Ok(false);
     }
-    let mut outs = Outs::new(alloc);
+    outs.clear();
     outs.push(out)?;
-    Ok(Some(outs))
+    Ok(true)
 }
 
-/// What an event says that is run on its node itself; none of one that is run on a draft.
+/// Whether the event is one that is run on its node itself, and not on a draft; what it says stands there then.
 pub(crate) fn plan(
-    alloc: Global,
     node: &Node,
     event: &NodeEvent<'_>,
-) -> Result<Option<Outs>, NoMemory>
-    ensures { IfOk result (λ plan. IfSome plan (IsPlanned node.now event.now)) }
+    outs: &mut Outs,
+) -> Result<bool, NoMemory>
+    ensures { IfOk result (λ planned. planned ≡ true → IsPlanned node.now event.now outs.new) }
 {
     match event {
-        NodeEvent::Do { request } => plan_request(alloc, node, request),
-        NodeEvent::Arrive { from, rec } => plan_arrival(alloc, node, *from, rec),
-        _ => Ok(None),
+        NodeEvent::Do { request } => plan_request(node, request, outs),
+        NodeEvent::Arrive { from, rec } => plan_arrival(node, *from, rec, outs),
+        _ => Ok(false),
     }
 }
 

@@ -194,22 +194,23 @@ impl Nodes {
         }
     }
 
-    /// What an event of the node of that number says that is run on the node itself; none of one that is run on a draft.
+    /// Whether the event of the node of that number is one that is run on the node itself, and not on a draft; what it says stands
+    /// there then.
     #[tactic(auto, using(crate::proofs::Numbered::found))]
     pub(crate) fn plan(
         &mut self,
-        alloc: Global,
         number: u16,
         event: &NodeEvent<'_>,
-    ) -> Result<Option<Outs>, NoMemory>
-        ensures there { IfOk result (λ plan. IfSome plan (λ outs. has_node self.old number ≡ true)) }
-        ensures planned { IfOk result (λ plan. IfSome plan (IsPlanned (node_at self.old number) event.now)) }
+        outs: &mut Outs,
+    ) -> Result<bool, NoMemory>
+        ensures there { IfOk result (λ planned. planned ≡ true → has_node self.old number ≡ true) }
+        ensures planned { IfOk result (λ planned. planned ≡ true → IsPlanned (node_at self.old number) event.now outs.new) }
         ensures same { self.new ≡ self.old }
     {
         self.note_place(number);
         match self.find(number) {
-            None => Ok(None),
-            Some(node) => in_place::plan(alloc, node, event),
+            None => Ok(false),
+            Some(node) => in_place::plan(node, event, outs),
         }
     }
 

@@ -2,7 +2,7 @@
 mod event;
 mod resume;
 
-ghost use Rattle.std.specs.Prelude.{◌≡◌, true, [], IfOk, IfErr, OnOk, Some, None};
+ghost use Rattle.std.specs.Prelude.{◌≡◌, true, [], IfOk, IfErr, OnOk, Ok, Some, None};
 ghost use Rattle.std.specs.Option.{option_map};
 ghost use Rattle.tp_logrec.specs.Order.{boots, last_number};
 ghost use Rattle.tp_model.specs.declared.refusal.Refusal.{Refusal};
@@ -15,7 +15,7 @@ ghost use Rattle.tp_node.specs.NodeEvent.{event_of};
 ghost use Rattle.tp_draft.specs.Answers.{IsPlain};
 ghost use Rattle.tp_site.specs.Nodes.{has_node, who_at, node_at};
 ghost use Rattle.tp_site.specs.Events.{IsAt, all_nodes};
-ghost use Rattle.tp_site.specs.Site.{Plays, Attempts, Settles, Records, Opens, Starts, IsFound, IsUnfound, told_records, opening_of, state_at, known_at};
+ghost use Rattle.tp_site.specs.Site.{Plays, PlaysInto, Attempts, Settles, Records, Opens, Starts, IsFound, IsUnfound, told_records, opening_of, state_at, known_at};
 ghost use Rattle.tp_node.specs.State.{state_of, tree_in};
 ghost use Rattle.tp_site.specs.Faults.{fault_of, shut_by};
 ghost use Rattle.tp_site.specs.InPlace.{IsPlanned};
@@ -171,7 +171,7 @@ impl<K: Keeper> Site<K> {
         Ok(Box::new(alloc, Draft::of(alloc, node))?)
     }
 
-    // An event of the node of that number, drawn up on that draft.
+    // An event of the node of that number, drawn up on that draft; what it says stands there then.
     #[tactic(auto, using(crate::proofs::Settled::attempted, crate::proofs::Settled::halted))]
     fn play_on(
         &mut self,
@@ -179,16 +179,15 @@ impl<K: Keeper> Site<K> {
         node: u16,
         event: &NodeEvent<'_>,
         draft: &mut Draft,
-    ) -> Result<Played, SiteFault>
+        outs: &mut Outs,
+    ) -> Result<Option<Refusal>, SiteFault>
         requires { self.old.shut ≡ None }
-        ensures { Plays K.standing self.old node (event_of event.now) result self.new }
+        ensures { PlaysInto K.standing self.old node (event_of event.now) result outs.new self.new }
     {
         let refusal = self.attempt(alloc, node, event, draft)?;
         self.settle(alloc, node, draft)?;
-        Ok(Played {
-            refusal,
-            outs: draft.take_outs(alloc),
-        })
+        draft.take_outs(outs);
+        Ok(refusal)
     }
 
     /// An event of the node of that number. Its record is forced before anything of it is so; a refusal changes nothing.
@@ -201,43 +200,58 @@ impl<K: Keeper> Site<K> {
     ) -> Result<Played, SiteFault>
         ensures { Plays K.standing self.old node (event_of event.now) result self.new }
     {
+        let mut outs = Outs::new(alloc);
+        let refusal = self.play_into(alloc, node, event, &mut outs)?;
+        Ok(Played { refusal, outs })
+    }
+
+    /// The same; the outputs stand there then, in place of what stood there, whose memory serves for later ones. After a fault
+    /// nothing is said of what stands there.
+    pub fn play_into(
+        &mut self,
+        alloc: Global,
+        node: u16,
+        event: &NodeEvent<'_>,
+        outs: &mut Outs,
+    ) -> Result<Option<Refusal>, SiteFault>
+        ensures { PlaysInto K.standing self.old node (event_of event.now) result outs.new self.new }
+    {
         if let Some(faults) = self.shut {
             return Err(SiteFault::Shut { faults });
         }
-        if let Some(outs) = self.nodes.plan(alloc, node, event)? {
-            return Ok(self.happen(node, event, outs));
+        if self.nodes.plan(node, event, outs)? {
+            self.happen(node, event, outs);
+            return Ok(None);
         }
-        self.play_drawn(alloc, node, event)
+        self.play_drawn(alloc, node, event, outs)
     }
 
-    // An event of the node of that number, drawn up on a draft.
+    // An event of the node of that number, drawn up on a draft; what it says stands there then.
     fn play_drawn(
         &mut self,
         alloc: Global,
         node: u16,
         event: &NodeEvent<'_>,
-    ) -> Result<Played, SiteFault>
+        outs: &mut Outs,
+    ) -> Result<Option<Refusal>, SiteFault>
         requires { self.old.shut ≡ None }
-        ensures { Plays K.standing self.old node (event_of event.now) result self.new }
+        ensures { PlaysInto K.standing self.old node (event_of event.now) result outs.new self.new }
     {
         let mut draft = self.spare_draft(alloc, node, event)?;
-        let played = self.play_on(alloc, node, event, &mut draft);
+        let played = self.play_on(alloc, node, event, &mut draft, outs);
         self.spare = Some(draft);
         played
     }
 
-    // An event that is planned is run on its node itself.
-    fn happen(&mut self, node: u16, event: &NodeEvent<'_>, outs: Outs) -> Played
+    // An event that is planned, and says that, is run on its node itself.
+    fn happen(&mut self, node: u16, event: &NodeEvent<'_>, outs: &Outs)
         requires there { has_node self.old.nodes node ≡ true }
-        requires planned { IsPlanned (node_at self.old.nodes node) event.now outs }
+        requires planned { IsPlanned (node_at self.old.nodes node) event.now outs.now }
         requires open { self.old.shut ≡ None }
-        ensures { Plays K.standing self.old node (event_of event.now) (Ok result) self.new }
+        ensures { PlaysInto K.standing self.old node (event_of event.now) (Ok None) outs.now self.new }
     {
+        let _said = outs;
         self.nodes.apply(node, event);
-        Played {
-            refusal: None,
-            outs,
-        }
     }
 
     // What a fault of the log means for the site.

@@ -18,7 +18,7 @@ use Rattle.tp_world.specs.Settled.{tree_started, IsSettledEntry}
 use Rattle.tp_network.specs.Nodes.{AreChanged}
 use Rattle.tp_world_parts.specs.Standing.{SitesStand, RestStands, AreNodes, after_entry, are_apart, is_placed}
 use Rattle.tp_world.specs.World.{Mirrors}
-use Rattle.tp_world_parts.specs.NodeAnswers.{Entry}
+use Rattle.tp_world_parts.specs.declared.site_slot.Entry.{Entry}
 use Rattle.tp_world.specs.declared.world.World.{World as CodeWorld}
 use Rattle.tp_network.specs.declared.nodes.NodeSlot.{NodeSlot}
 use Rattle.tp_network.specs.declared.tree_summary.TreeChange.{TreeChange}

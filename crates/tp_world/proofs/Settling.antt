@@ -18,7 +18,7 @@ use Rattle.tp_world_parts.specs.Faults.{sending_fault}
 use Rattle.tp_world_parts.specs.declared.fault.WorldFault.{WorldFault}
 use Rattle.tp_network.specs.declared.fault.SendFault.{SendFault}
 use Rattle.tp_network.specs.declared.tree_summary.TreeChange.{TreeChange}
-use Rattle.tp_world_parts.specs.NodeAnswers.{Entry}
+use Rattle.tp_world_parts.specs.declared.site_slot.Entry.{Entry}
 use Rattle.tp_world.specs.declared.world.World.{World as CodeWorld}
 use Rattle.tp_world_parts.proofs.Entered.{change_by}
 use Rattle.tp_world.proofs.EntryTurns.{IsBehind, turn_world, stands_behind, logged_frames}

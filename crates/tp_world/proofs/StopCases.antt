@@ -38,7 +38,7 @@ use Rattle.tp_world.specs.Stops.{HasPlayed}
 use Rattle.tp_world_parts.specs.Standing.{SitesStand, RestStands, after_entry}
 use Rattle.tp_world.specs.World.{Mirrors, Gives}
 use Rattle.tp_world_parts.specs.declared.fault.WorldFault.{WorldFault}
-use Rattle.tp_world_parts.specs.NodeAnswers.{Entry}
+use Rattle.tp_world_parts.specs.declared.site_slot.Entry.{Entry}
 use Rattle.tp_world_parts.specs.declared.site_slot.SiteSlot.{SiteSlot}
 use Rattle.tp_world.specs.declared.world.World.{World as CodeWorld}
 use Rattle.tp_world.proofs.Booting.{slot_on}

@@ -17,7 +17,7 @@ use Rattle.tp_site.specs.Site.{known_at}
 use Rattle.tp_world_parts.specs.Sites.{place_of_site}
 use Rattle.tp_world_parts.specs.Standing.{SitesStand, RestStands, IsEntry, after_entry}
 use Rattle.tp_world.specs.World.{Mirrors}
-use Rattle.tp_world_parts.specs.NodeAnswers.{Entry}
+use Rattle.tp_world_parts.specs.declared.site_slot.Entry.{Entry}
 use Rattle.tp_world_parts.specs.declared.site_slot.SiteSlot.{SiteSlot}
 use Rattle.tp_world.specs.declared.world.World.{World as CodeWorld}
 

@@ -22,8 +22,8 @@ use tp_network::{SendFault, TreeChange, is_in};
 use tp_records::{PeerRecord, Request};
 use tp_site::{NodeEvent, Out, Outs};
 use tp_world_parts::{
-    Answer, WorldFault, arrive_at, play_at, request_in, show_record, show_refusal, show_refused,
-    show_sent, show_told, site_place,
+    Answer, Entry, WorldFault, arrive_at, play_at, request_in, show_record, show_refusal,
+    show_refused, show_sent, show_told, site_place,
 };
 
 // The tree that an entry starts.
@@ -36,9 +36,9 @@ fn started(change: &TreeChange) -> Option<Aaid>
     }
 }
 
-// Memory for what the first event shows of trees.
-fn first_change(alloc: Global) -> Result<Box<TreeChange>, NoMemory> {
-    Ok(Box::new(alloc, TreeChange::NONE)?)
+// Memory for the entry of the first event.
+fn first_entry(alloc: Global) -> Result<Box<Entry>, NoMemory> {
+    Ok(Box::new(alloc, Entry::new(alloc))?)
 }
 
 impl World {
@@ -51,13 +51,13 @@ impl World {
         site_place(self.sites.as_slice(), name)
     }
 
-    // Memory for what an event shows of trees: that of the event before it.
-    fn take_change(&mut self, alloc: Global) -> Result<Box<TreeChange>, NoMemory>
-        ensures { self.new ≡ record self.old { change = None } }
+    // Memory for the entry of an event: that of the event before it.
+    fn take_entry(&mut self, alloc: Global) -> Result<Box<Entry>, NoMemory>
+        ensures { self.new ≡ record self.old { entry = None } }
     {
-        match self.change.take() {
-            Some(change) => Ok(change),
-            None => first_change(alloc),
+        match self.entry.take() {
+            Some(entry) => Ok(entry),
+            None => first_entry(alloc),
         }
     }
 
@@ -72,19 +72,19 @@ impl World {
     ) -> Result<(), WorldFault>
         ensures { (w : WorldValue) → Mirrors w self.old → ((up : Option AddrValue) → IsUnder up (event_of event.now)) → Gives (within_limits (task_turn w [] (task_at w node (event_of event.now)))) lines.old result lines.new self.new }
     {
-        let mut change = self.take_change(alloc)?;
-        let done = self.local_with(alloc, node, event, &mut change, lines);
-        self.change = Some(change);
+        let mut entry = self.take_entry(alloc)?;
+        let done = self.local_with(alloc, node, event, &mut entry, lines);
+        self.entry = Some(entry);
         done
     }
 
-    // The same; what it shows of trees is told there.
+    // The same; the entry of it is told there.
     fn local_with(
         &mut self,
         alloc: Global,
         node: u16,
         event: &NodeEvent<'_>,
-        change: &mut TreeChange,
+        entry: &mut Entry,
         lines: &mut OutLines,
     ) -> Result<(), WorldFault>
         ensures { (w : WorldValue) → Mirrors w self.old → ((up : Option AddrValue) → IsUnder up (event_of event.now)) → Gives (within_limits (task_turn w [] (task_at w node (event_of event.now)))) lines.old result lines.new self.new }
@@ -92,8 +92,8 @@ impl World {
         let Some(at) = self.nodes.addr(node) else {
             return Ok(());
         };
-        let answer = play_at(alloc, self.sites.as_mut_slice(), &at, event, change)?;
-        self.settle(alloc, &at, &answer, change, lines)?;
+        let answer = play_at(alloc, self.sites.as_mut_slice(), &at, event, entry)?;
+        self.settle(alloc, &at, answer, entry, lines)?;
         Ok(())
     }
 
@@ -127,18 +127,18 @@ impl World {
     ) -> Result<(), WorldFault>
         ensures { (w : WorldValue) → Mirrors w self.old → Gives (within_limits (happens w (Does (Action.Again number)))) lines.old result lines.new self.new }
     {
-        let mut change = self.take_change(alloc)?;
-        let done = self.deliver_with(alloc, number, &mut change, lines);
-        self.change = Some(change);
+        let mut entry = self.take_entry(alloc)?;
+        let done = self.deliver_with(alloc, number, &mut entry, lines);
+        self.entry = Some(entry);
         done
     }
 
-    // The same; what it shows of trees is told there.
+    // The same; the entry of it is told there.
     fn deliver_with(
         &mut self,
         alloc: Global,
         number: u16,
-        change: &mut TreeChange,
+        entry: &mut Entry,
         lines: &mut OutLines,
     ) -> Result<(), WorldFault>
         ensures { (w : WorldValue) → Mirrors w self.old → Gives (within_limits (happens w (Does (Action.Again number)))) lines.old result lines.new self.new }
@@ -150,8 +150,8 @@ impl World {
             return Ok(());
         };
         lines.push(alloc, OutLine::Take { frame: number })?;
-        let answer = arrive_at(alloc, self.sites.as_mut_slice(), &at, frame, change)?;
-        self.settle(alloc, &at, &answer, change, lines)?;
+        let answer = arrive_at(alloc, self.sites.as_mut_slice(), &at, frame, entry)?;
+        self.settle(alloc, &at, answer, entry, lines)?;
         Ok(())
     }
 
@@ -223,37 +223,36 @@ impl World {
         &mut self,
         alloc: Global,
         at: &Addr,
-        outs: &Outs,
-        change: &TreeChange,
+        entry: &Entry,
         lines: &mut OutLines,
     ) -> Result<(), SendFault>
-        ensures { SettlesEntry at.now (record { outs = outs.now; change = change.now }) lines.old result lines.new self.old self.new }
+        ensures { SettlesEntry at.now entry.now lines.old result lines.new self.old self.new }
     {
-        self.enter(at.node, change)?;
-        self.give_all(alloc, at, outs, lines)
+        self.enter(at.node, &entry.change)?;
+        self.give_all(alloc, at, &entry.outs, lines)
     }
 
-    // What the answer of the node at that address, and what that shows of trees, makes of the world.
+    // What the answer of the node at that address, and the entry of that, makes of the world.
     #[inline(always)]
     fn settle(
         &mut self,
         alloc: Global,
         at: &Addr,
-        answer: &Answer,
-        change: &TreeChange,
+        answer: Answer,
+        entry: &Entry,
         lines: &mut OutLines,
     ) -> Result<(), SendFault>
-        ensures { Settles at.now (answer_told answer.now change.now) lines.old result lines.new self.old self.new }
+        ensures { Settles at.now (answer_told answer entry.now) lines.old result lines.new self.old self.new }
     {
         match answer {
             Answer::Refused(number) => {
-                show_refused(alloc, *number, lines)?;
+                show_refused(alloc, number, lines)?;
                 Ok(())
             }
-            Answer::Happened { refusal, outs } => {
-                show_record(alloc, at, &change.rec, lines)?;
-                show_refusal(alloc, *refusal, lines)?;
-                self.settle_entry(alloc, at, outs, change, lines)
+            Answer::Happened { refusal } => {
+                show_record(alloc, at, &entry.change.rec, lines)?;
+                show_refusal(alloc, refusal, lines)?;
+                self.settle_entry(alloc, at, entry, lines)
             }
         }
     }

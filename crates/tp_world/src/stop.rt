@@ -33,7 +33,7 @@ use tp_network::TreeChange;
 use tp_outside::MemDisk;
 use tp_records::{PeerRecord, Request};
 use tp_site::NodeEvent;
-use tp_world_parts::{Answer, LostEntry, Stop, WorldFault, left_by, opened, request_in};
+use tp_world_parts::{Answer, Entry, LostEntry, Stop, WorldFault, left_by, opened, request_in};
 
 impl World {
     // The site at that place has stopped, with that fate of a record, and starts again.
@@ -107,23 +107,23 @@ impl World {
         place: usize,
         disk: MemDisk,
         node: u16,
-        answer: &Answer,
-        change: &TreeChange,
+        answer: Answer,
+        entry: &Entry,
         stop: &Stop,
         lines: &mut OutLines,
     ) -> Result<(), WorldFault>
         requires { place < length self.old.sites.items }
-        ensures { (w : WorldValue) (s : List ℕ) (z : SiteValue) (n : NodeValue) (ent : Option EntryValue) (x : SiteSlot) → HasPlayed w s z n ent x place (entry_told (answer_told answer.now change.now)) self.old → node ≡ number_of n → recorded disk ≡ fresh (disk_bytes z.disk) []
+        ensures { (w : WorldValue) (s : List ℕ) (z : SiteValue) (n : NodeValue) (ent : Option EntryValue) (x : SiteSlot) → HasPlayed w s z n ent x place (entry_told (answer_told answer entry.now)) self.old → node ≡ number_of n → recorded disk ≡ fresh (disk_bytes z.disk) []
             → Gives (within_limits (stop_in_entry w n z stop.now.call stop.now.fill ent)) lines.old result lines.new self.new }
     {
         match answer {
             Answer::Refused(_) => return self.stop_with_none(alloc, place, lines),
             Answer::Happened { .. } => {}
         }
-        if change.rec.is_some() {
-            return self.stop_in_force(alloc, place, disk, node, change, stop, lines);
+        if entry.change.rec.is_some() {
+            return self.stop_in_force(alloc, place, disk, node, &entry.change, stop, lines);
         }
-        self.enter(node, change)?;
+        self.enter(node, &entry.change)?;
         self.stop_with_none(alloc, place, lines)
     }
 
@@ -142,9 +142,9 @@ impl World {
             → Gives (stop_deed w s z stop.now.call stop.now.fill [] (task_at w node (event_of event.now))) lines.old result lines.new self.new }
     {
         let disk = self.sites[place].copied(alloc)?;
-        let mut change = TreeChange::NONE;
-        let answer = self.sites[place].play(alloc, node, event, &mut change)?;
-        self.stop_in_entry(alloc, place, disk, node, &answer, &change, stop, lines)
+        let mut entry = Entry::new(alloc);
+        let answer = self.sites[place].play(alloc, node, event, &mut entry)?;
+        self.stop_in_entry(alloc, place, disk, node, answer, &entry, stop, lines)
     }
 
     // The site at that place stops in a request of the user of its node of that number.
@@ -188,9 +188,9 @@ impl World {
         let node = frame.to.node;
         lines.push(alloc, OutLine::Take { frame: number })?;
         let disk = self.sites[place].copied(alloc)?;
-        let mut change = TreeChange::NONE;
-        let answer = self.sites[place].arrive(alloc, node, frame, &mut change)?;
-        self.stop_in_entry(alloc, place, disk, node, &answer, &change, stop, lines)
+        let mut entry = Entry::new(alloc);
+        let answer = self.sites[place].arrive(alloc, node, frame, &mut entry)?;
+        self.stop_in_entry(alloc, place, disk, node, answer, &entry, stop, lines)
     }
 
     // The site at that place stops as the oldest frame between the nodes is handed over, where there is one.

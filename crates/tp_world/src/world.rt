@@ -12,21 +12,21 @@ ghost use Rattle.tp_world.specs.LocalEvents.{is_local};
 use std::alloc::Global;
 use tp_model::{Line, OutLine, OutLines};
 use tp_names::{Aaid, NoMemory, Octets};
-use tp_network::{Frames, Nodes, TreeChange};
+use tp_network::{Frames, Nodes};
 use tp_records::{PeerRecord, Request};
 use tp_schedule::write_line;
 use tp_site::NodeEvent;
-use tp_world_parts::{SiteSlot, Stop, WorldFault, closing_lines};
+use tp_world_parts::{Entry, SiteSlot, Stop, WorldFault, closing_lines};
 
-/// A world of nodes under a written schedule: its nodes, sites and frames, and its trees in the order of their starts. What an event
-/// shows of trees is told in the memory of the event before it.
+/// A world of nodes under a written schedule: its nodes, sites and frames, and its trees in the order of their starts. The entry of an
+/// event is told in the memory of the one before it.
 #[derive(Drop)]
 pub struct World {
     pub(crate) nodes: Nodes,
     pub(crate) sites: Vec<SiteSlot>,
     pub(crate) frames: Frames,
     pub(crate) trees: Vec<Aaid>,
-    pub(crate) change: Option<Box<TreeChange>>,
+    pub(crate) entry: Option<Box<Entry>>,
 }
 
 /// The line speaks of members, and nothing is shown of it.
@@ -56,7 +56,7 @@ impl World {
             sites: Vec::new(alloc),
             frames: Frames::new(alloc),
             trees: Vec::new(alloc),
-            change: None,
+            entry: None,
         }
     }
 

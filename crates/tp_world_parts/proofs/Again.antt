@@ -22,7 +22,7 @@ use Rattle.tp_site.specs.State.{tree_in}
 use Rattle.tp_world_parts.specs.Restarts.{stopped}
 use Rattle.tp_world_parts.specs.Slots.{standing, SlotPlays, HasHappened, IsRefused, IsOver}
 use Rattle.tp_world_parts.specs.declared.fault.WorldFault.{WorldFault}
-use Rattle.tp_world_parts.specs.NodeAnswers.{Entry}
+use Rattle.tp_world_parts.specs.declared.site_slot.Entry.{Entry}
 use Rattle.tp_world_parts.specs.declared.site_slot.SiteSlot.{SiteSlot}
 use Rattle.tp_world_parts.proofs.Entered.{change_by}
 use Rattle.tp_world_parts.proofs.Entries.{IsGained, has_gained, step_made}

@@ -19,7 +19,8 @@ use Rattle.tp_model.specs.World.{World, Node, Site, number_of, site_of, find_nod
 use Rattle.tp_site.specs.NodeEvent.{Happens, answer_at}
 use Rattle.tp_site.specs.Nodes.{who_at}
 use Rattle.tp_site.specs.Site.{IsForced, known_at}
-use Rattle.tp_world_parts.specs.NodeAnswers.{Answer, Entry}
+use Rattle.tp_world_parts.specs.NodeAnswers.{Answer}
+use Rattle.tp_world_parts.specs.declared.site_slot.Entry.{Entry}
 use Rattle.tp_world_parts.specs.declared.site_slot.SiteSlot.{SiteSlot}
 use Rattle.tp_world_parts.specs.Placing.{boot_shown, boot_lines, IsAt, IsSiteThere, IsDeclaredAt}
 use Rattle.tp_world_parts.specs.Sites.{IsSite, AreSites, find_site_slot, place_of_site, known_by, unknown_at}

@@ -22,7 +22,8 @@ use Rattle.tp_site.specs.Nodes.{who_at}
 use Rattle.tp_site.specs.Site.{IsForced, IsUnforced, known_at, rec_of}
 use Rattle.tp_site.specs.State.{tree_in}
 use Rattle.tp_world_parts.specs.declared.fault.WorldFault.{WorldFault}
-use Rattle.tp_world_parts.specs.NodeAnswers.{Answer, Entry}
+use Rattle.tp_world_parts.specs.NodeAnswers.{Answer}
+use Rattle.tp_world_parts.specs.declared.site_slot.Entry.{Entry}
 use Rattle.tp_world_parts.specs.declared.site_slot.SiteSlot.{SiteSlot}
 use Rattle.tp_world_parts.specs.Summary.{change_of}
 use Rattle.tp_world_parts.specs.Sites.{IsSite, IsLogged, AreSites, find_site_slot, place_of_site, known_by, unknown_at}

@@ -22,7 +22,8 @@ use Rattle.tp_world_parts.specs.Sites.{known_by, unknown_at}
 use Rattle.tp_world_parts.specs.Standing.{AreNodes, IsNode}
 use Rattle.tp_world_parts.specs.Slots.{SlotPlays, HasHappened}
 use Rattle.tp_world_parts.specs.declared.fault.WorldFault.{WorldFault}
-use Rattle.tp_world_parts.specs.NodeAnswers.{Answer, Entry}
+use Rattle.tp_world_parts.specs.NodeAnswers.{Answer}
+use Rattle.tp_world_parts.specs.declared.site_slot.Entry.{Entry}
 use Rattle.tp_world_parts.specs.declared.site_slot.SiteSlot.{SiteSlot}
 use Rattle.tp_world_parts.proofs.Again.{IsAgain, stopped_legal, again, never_refused, memory_alone}
 use Rattle.tp_world_parts.proofs.Entered.{with_entry, change_by, nodes_entered}

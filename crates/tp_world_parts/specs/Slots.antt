@@ -25,7 +25,8 @@ use Rattle.tp_site.specs.Site.{IsPlayed, IsUnforced, known_at, rec_of}
 use Rattle.tp_site.specs.State.{tree_in}
 use Rattle.tp_world_parts.specs.Sites.{IsSite, unknown_at}
 use Rattle.tp_world_parts.specs.declared.fault.WorldFault.{WorldFault}
-use Rattle.tp_world_parts.specs.NodeAnswers.{Answer, Entry}
+use Rattle.tp_world_parts.specs.NodeAnswers.{Answer}
+use Rattle.tp_world_parts.specs.declared.site_slot.Entry.{Entry}
 use Rattle.tp_world_parts.specs.declared.site_slot.SiteSlot.{SiteSlot}
 
 -- ---- the log

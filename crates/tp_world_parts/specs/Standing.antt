@@ -18,7 +18,8 @@ use Rattle.tp_world_parts.specs.Slots.{number_told, entry_told}
 use Rattle.tp_world_parts.specs.declared.fault.WorldFault.{WorldFault}
 use Rattle.tp_network.specs.declared.nodes.NodeSlot.{NodeSlot}
 use Rattle.tp_world_parts.specs.declared.site_slot.SiteSlot.{SiteSlot}
-use Rattle.tp_world_parts.specs.NodeAnswers.{Answer, Entry}
+use Rattle.tp_world_parts.specs.NodeAnswers.{Answer}
+use Rattle.tp_world_parts.specs.declared.site_slot.Entry.{Entry}
 
 -- ---- nodes
 

@@ -21,5 +21,5 @@ pub use restart::{LostEntry, restart_nodes};
 pub use shown::{
     show_boot, show_record, show_refusal, show_refused, show_sent, show_told, state_shown,
 };
-pub use site_slot::{Answer, SiteSlot, opened};
+pub use site_slot::{Answer, Entry, SiteSlot, opened};
 pub use sites::{arrive_at, declare_at, play_at, site_place, state_at};

@@ -5,7 +5,7 @@ ghost use Rattle.tp_world_parts.specs.Restarts.{tree_before, IsStopped, IsRestar
 ghost use Rattle.tp_world_parts.specs.declared.site_slot.SiteSlot.{SiteSlot};
 
 use crate::fault::WorldFault;
-use crate::site_slot::{Answer, SiteSlot};
+use crate::site_slot::{Answer, Entry, SiteSlot};
 use std::alloc::Global;
 use tp_names::same::is_name;
 use tp_network::{Nodes, TreeChange};
@@ -60,13 +60,13 @@ fn restart_node(
     let _rec: Option<&PeerRecord> = None;
     let _request: Option<&Request> = None;
     let event = NodeEvent::Declare { superior };
-    let mut start = TreeChange::NONE;
+    let mut start = Entry::new(alloc);
     let answer = next.play(alloc, at.node, &event, &mut start)?;
     match answer {
         Answer::Refused(_) => return Err(WorldFault::Name),
         Answer::Happened { .. } => {}
     }
-    nodes.change(at.node, &start)?;
+    nodes.change(at.node, &start.change)?;
     Ok(())
 }
 

@@ -31,16 +31,32 @@ use tp_records::{PeerRecord, Request};
 use tp_site::{NodeEvent, NodeState, NodeTree, Outs, Site, SiteFault, StartFault};
 
 /// What a node answers to an event.
-#[derive(Drop)]
+#[derive(Clone, Copy, Debug)]
 pub enum Answer {
     /// It is refused by that number, and nothing has changed.
     Refused(u8),
-    /// It has happened, and the node's history gains an entry with those outputs. With a refusal, a record was refused by that,
-    /// and the association that it came on was ended; the entry is of that loss.
-    Happened {
-        refusal: Option<Refusal>,
-        outs: Outs,
-    },
+    /// It has happened, and the node's history gains an entry. With a refusal, a record was refused by that, and the association
+    /// that it came on was ended; the entry is of that loss.
+    Happened { refusal: Option<Refusal> },
+}
+
+/// An entry that a node's history gains: its outputs, and what it shows of trees. The memory of one serves for the next.
+#[derive(Drop)]
+pub struct Entry {
+    pub outs: Outs,
+    pub change: TreeChange,
+}
+
+impl Entry {
+    /// Memory for an entry.
+    pub fn new(alloc: Global) -> Entry
+        ensures { result.outs ≡ [] }
+    {
+        Entry {
+            outs: Outs::new(alloc),
+            change: TreeChange::NONE,
+        }
+    }
 }
 
 /// A site of a world.
@@ -220,25 +236,22 @@ impl SiteSlot {
         put_forced(self.records(), count, &mut change.rec);
     }
 
-    /// An event of the node of that number. What it shows of trees is told beside the answer, where it has happened.
+    /// An event of the node of that number. The entry of it is told beside the answer, where it has happened.
     pub fn play(
         &mut self,
         alloc: Global,
         node: u16,
         event: &NodeEvent<'_>,
-        change: &mut TreeChange,
+        entry: &mut Entry,
     ) -> Result<Answer, WorldFault>
-        ensures { SlotPlays self.old node (event_of event.now) (result_told result change.new) self.new }
+        ensures { SlotPlays self.old node (event_of event.now) (result_told result entry.new) self.new }
     {
-        self.put_tree(node, &mut change.before);
+        self.put_tree(node, &mut entry.change.before);
         let count = self.records().len();
-        match self.site.play(alloc, node, event) {
-            Ok(played) => {
-                self.fill(node, is_unchanged(event), count, change);
-                Ok(Answer::Happened {
-                    refusal: played.refusal,
-                    outs: played.outs,
-                })
+        match self.site.play_into(alloc, node, event, &mut entry.outs) {
+            Ok(refusal) => {
+                self.fill(node, is_unchanged(event), count, &mut entry.change);
+                Ok(Answer::Happened { refusal })
             }
             Err(SiteFault::Refused(number)) => Ok(Answer::Refused(number)),
             Err(SiteFault::Full { .. }) => Err(WorldFault::Limit { what: What::Log }),
@@ -246,16 +259,16 @@ impl SiteSlot {
         }
     }
 
-    /// A frame that is handed over to the node of that number. What that shows of trees is told beside the answer.
+    /// A frame that is handed over to the node of that number. The entry of that is told beside the answer.
     #[inline(always)]
     pub fn arrive(
         &mut self,
         alloc: Global,
         node: u16,
         frame: &Frame,
-        change: &mut TreeChange,
+        entry: &mut Entry,
     ) -> Result<Answer, WorldFault>
-        ensures { SlotPlays self.old node (Arrive frame.now.from (record_of frame.now.rec)) (result_told result change.new) self.new }
+        ensures { SlotPlays self.old node (Arrive frame.now.from (record_of frame.now.rec)) (result_told result entry.new) self.new }
     {
         let _request: Option<&Request> = None;
         let from = frame.from;
@@ -267,10 +280,10 @@ impl SiteSlot {
                     seq: *seq,
                     rec: word.said(),
                 };
-                self.play(alloc, node, &NodeEvent::Arrive { from, rec: &rec }, change)
+                self.play(alloc, node, &NodeEvent::Arrive { from, rec: &rec }, entry)
             }
             FrameRecord::Other(rec) => {
-                self.play(alloc, node, &NodeEvent::Arrive { from, rec }, change)
+                self.play(alloc, node, &NodeEvent::Arrive { from, rec }, entry)
             }
         }
     }
@@ -289,8 +302,8 @@ impl SiteSlot {
         let event = NodeEvent::Declare {
             superior: *superior,
         };
-        let mut change = TreeChange::NONE;
-        match self.play(alloc, node, &event, &mut change) {
+        let mut entry = Entry::new(alloc);
+        match self.play(alloc, node, &event, &mut entry) {
             Ok(_answer) => Ok(()),
             Err(_fault) => Err(NoMemory),
         }

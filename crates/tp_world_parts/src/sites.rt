@@ -14,11 +14,11 @@ ghost use Rattle.tp_world_parts.specs.Sites.{place_of_site};
 ghost use Rattle.tp_world_parts.specs.Standing.{SitesStand, are_apart, is_free, is_placed, PlaysAt};
 
 use crate::fault::WorldFault;
-use crate::site_slot::{Answer, SiteSlot};
+use crate::site_slot::{Answer, Entry, SiteSlot};
 use std::alloc::Global;
 use tp_names::same::is_name;
 use tp_names::{Addr, NoMemory, SiteName};
-use tp_network::{Frame, TreeChange};
+use tp_network::Frame;
 use tp_site::{NodeEvent, NodeState};
 
 // The place of the site of that name; after all where there is none.
@@ -48,40 +48,40 @@ pub fn site_place(sites: &[SiteSlot], name: &SiteName) -> Option<usize>
     }
 }
 
-/// An event of the node at that address. What it shows of trees is told beside the answer.
+/// An event of the node at that address. The entry of it is told beside the answer.
 #[inline(always)]
 pub fn play_at(
     alloc: Global,
     sites: &mut [SiteSlot],
     at: &Addr,
     event: &NodeEvent<'_>,
-    change: &mut TreeChange,
+    entry: &mut Entry,
 ) -> Result<Answer, WorldFault>
-    ensures { (w : WorldValue) (n : NodeValue) → SitesStand w sites.old → are_apart w.nodes ≡ true → find_node w.nodes (number_of n) ≡ Some n → is_placed w n ≡ true → at.now ≡ addr_of n → PlaysAt w n (event_of event.now) (result_told result change.new) sites.new }
+    ensures { (w : WorldValue) (n : NodeValue) → SitesStand w sites.old → are_apart w.nodes ≡ true → find_node w.nodes (number_of n) ≡ Some n → is_placed w n ≡ true → at.now ≡ addr_of n → PlaysAt w n (event_of event.now) (result_told result entry.new) sites.new }
 {
     let place = place_of(sites, &at.site);
     if place >= sites.len() {
         return Err(WorldFault::Name);
     }
-    sites[place].play(alloc, at.node, event, change)
+    sites[place].play(alloc, at.node, event, entry)
 }
 
-/// A frame that is handed over to the node at that address. What that shows of trees is told beside the answer.
+/// A frame that is handed over to the node at that address. The entry of that is told beside the answer.
 #[inline(always)]
 pub fn arrive_at(
     alloc: Global,
     sites: &mut [SiteSlot],
     at: &Addr,
     frame: &Frame,
-    change: &mut TreeChange,
+    entry: &mut Entry,
 ) -> Result<Answer, WorldFault>
-    ensures { (w : WorldValue) (n : NodeValue) → SitesStand w sites.old → are_apart w.nodes ≡ true → find_node w.nodes (number_of n) ≡ Some n → is_placed w n ≡ true → at.now ≡ addr_of n → PlaysAt w n (Arrive frame.now.from (record_of frame.now.rec)) (result_told result change.new) sites.new }
+    ensures { (w : WorldValue) (n : NodeValue) → SitesStand w sites.old → are_apart w.nodes ≡ true → find_node w.nodes (number_of n) ≡ Some n → is_placed w n ≡ true → at.now ≡ addr_of n → PlaysAt w n (Arrive frame.now.from (record_of frame.now.rec)) (result_told result entry.new) sites.new }
 {
     let place = place_of(sites, &at.site);
     if place >= sites.len() {
         return Err(WorldFault::Name);
     }
-    sites[place].arrive(alloc, at.node, frame, change)
+    sites[place].arrive(alloc, at.node, frame, entry)
 }
 
 // The place of the site of that name, which starts on a fresh log where it is new; of a new site the boot number too.

@@ -26,6 +26,7 @@ use tp_model::Refusal;
 use tp_names::same::is_name;
 use tp_names::{Addr, Octets};
 use tp_node::NodeEvent;
+use tp_node_parts::Outs;
 use tp_records::{Event, Outputs};
 use tp_texts::read_whole_peer;
 
@@ -47,7 +48,8 @@ impl<K: Keeper> Site<K> {
     {
         let refusal = self.attempt(alloc, node, event, draft)?;
         let site = self.name();
-        let outs = draft.take_outs(alloc);
+        let mut outs = Outs::new(alloc);
+        draft.take_outs(&mut outs);
         let outputs = outputs_of(alloc, &Addr { site, node }, refusal, outs)?;
         self.settle(alloc, node, draft)?;
         Ok(outputs)

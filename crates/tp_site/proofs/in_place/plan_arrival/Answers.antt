@@ -7,7 +7,7 @@ use Rattle.tp_site.proofs.Noted.{planned}
 use Rattle.tp_site.proofs.in_place.plan_arrival.Goals as goal
 
 pub returns : goal.returns
-returns c =
+returns c = λ _.
     let v = c.args.node.now in
     let p = c.args.from.node in
     let r = c.in-OnAssoc.said in
@@ -15,4 +15,4 @@ returns c =
     let acting : acts_at v.who v.digest p r ≡ true = grind (arith, c.acts.ensures, c.if-not-acts.false) in
     let ok : refused_arrival v.who v.digest c.args.from c.args.rec.now ≡ None = search rules in
     let drawn : v.digest.drawn ≤ greatest = search rules in
-    planned v c.args.from c.args.rec c.in-OnAssoc.x c.in-OnAssoc.y c.in-OnAssoc.seq r c.in_ok-told.field-0 c.in-OnAssoc.is ok acting noted c.in_ok-told.ensures drawn
+    planned v c.args.from c.args.rec c.in-OnAssoc.x c.in-OnAssoc.y c.in-OnAssoc.seq r c.tell.new.outs c.in-OnAssoc.is ok acting noted (c.in_ok-tell.ensures {u = tt}) drawn

@@ -7,8 +7,8 @@ use Rattle.tp_site.proofs.Begun.{planned}
 use Rattle.tp_site.proofs.in_place.plan_begin.Goals as goal
 
 pub returns : goal.returns
-returns c =
+returns c = λ _.
     let v = c.args.node.now in
     let ok : refused_plainly v.who v.digest (Do c.args.request.now) ≡ None = search rules in
     planned v c.args.request c.args.peer c.push.new.self c.requires ok c.in-Some.ensures.sure
-    (c.in_ok-push.ensures {u = tt} ∙ ap (λ (l : List Out). l ++ out_of c.in-Some.out ∷ []) c.new-outs.ensures ∙ sym c.in-Some.ensures.out)
+    (c.in_ok-push.ensures {u = tt} ∙ ap (λ (l : List Out). l ++ out_of c.in-Some.out ∷ []) c.clear.ensures ∙ sym c.in-Some.ensures.out)

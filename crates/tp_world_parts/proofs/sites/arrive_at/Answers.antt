@@ -16,5 +16,5 @@ returns-then-place-sites c w n stand apart found placed at =
 
 pub returns : goal.returns
 returns c w n stand apart found placed at =
-    plays_sought w n (Arrive c.args.frame.now.from (record_of c.args.frame.now.rec)) c.args.at.now c.place_of-place.result c.args.sites.now c.index-sites-place.result c.arrive.new.self (result_told c.arrive.result c.arrive.new.change) stand found placed at c.place_of-place.ensures
+    plays_sought w n (Arrive c.args.frame.now.from (record_of c.args.frame.now.rec)) c.args.at.now c.place_of-place.result c.args.sites.now c.index-sites-place.result c.arrive.new.self (result_told c.arrive.result c.arrive.new.entry) stand found placed at c.place_of-place.ensures
     c.index-sites-place.is c.arrive.ensures

@@ -15,5 +15,5 @@ returns-then-place-sites c w n stand apart found placed at =
 
 pub returns : goal.returns
 returns c w n stand apart found placed at =
-    plays_sought w n (event_of c.args.event.now) c.args.at.now c.place_of-place.result c.args.sites.now c.index-sites-place.result c.play.new.self (result_told c.play.result c.play.new.change) stand found placed at c.place_of-place.ensures
+    plays_sought w n (event_of c.args.event.now) c.args.at.now c.place_of-place.result c.args.sites.now c.index-sites-place.result c.play.new.self (result_told c.play.result c.play.new.entry) stand found placed at c.place_of-place.ensures
     c.index-sites-place.is c.play.ensures

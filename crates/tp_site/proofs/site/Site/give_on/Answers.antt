@@ -15,9 +15,9 @@ returns-clause-gives g c =
       record { refusal = refusal; outs = drawn.move.outs },
       (
         drawn.move,
-        settled g.K.Keeper.standing old c.attempt.new.self c.settle.new.self c.args.node (event_of c.args.event.now) refusal drawn c.take_outs-outs.new.self tried c.take_outs-outs.ensures.rest ((c.in_ok-settle.ensures {u = tt}).settled),
+        settled g.K.Keeper.standing old c.attempt.new.self c.settle.new.self c.args.node (event_of c.args.event.now) refusal drawn c.take_outs.new.self tried c.take_outs.ensures.rest ((c.in_ok-settle.ensures {u = tt}).settled),
       ),
       c.in_ok-outputs.ensures
-          ∙ ap (λ s. given_out s c.args.node (number_in refusal) c.take_outs-outs.result) (c.name-site.ensures ∙ tried.same.site.site)
-          ∙ ap (given_out old.nodes.site c.args.node (number_in refusal)) c.take_outs-outs.ensures.outs,
+          ∙ ap (λ s. given_out s c.args.node (number_in refusal) c.take_outs.new.place) (c.name-site.ensures ∙ tried.same.site.site)
+          ∙ ap (given_out old.nodes.site c.args.node (number_in refusal)) c.take_outs.ensures.outs,
     )

@@ -8,8 +8,8 @@ use Rattle.tp_world.proofs.world.World.deliver.Goals as goal
 
 pub returns : goal.returns
 returns c = λ w h.
-    let taken = c.take_change.ensures in
-    let first : CodeWorld = c.take_change.new.self in
+    let taken = c.take_entry.ensures in
+    let first : CodeWorld = c.take_entry.new.self in
     let last : CodeWorld = c.deliver_with-done.new.self in
     same_gives (within_limits (happens w (Does (Action.Again c.args.number)))) c.args.lines.now c.deliver_with-done.new.lines c.deliver_with-done.result last
     (record { sites = refl; nodes = refl; frames = refl; trees = refl })

@@ -55,7 +55,7 @@ returns-in_err-settle c = λ w h.
     let k = c.args.number in
     let f = c.in-Some.frame.now in
     let e : Event = Arrive f.from (record_of f.rec) in
-    let a = answer_told c.in_ok-answer.answer c.arrive_at.new.change in
+    let a = answer_told c.in_ok-answer.answer c.arrive_at.new.entry in
     let mid = lent_back v c.arrive_at.new.sites in
     let g = c.in_err-settle.field-0.0 in
     subst (λ r. Gives (within_limits (task_turn w (OutLine.Take k ∷ []) (task_of w (Action.Again k)))) c.args.lines.now r c.settle.new.lines c.settle.new.self) (sym (err_is c.from_residual-in_err-settle.result (sending_fault g) c.from_residual-in_err-settle.ensures.1))
@@ -72,7 +72,7 @@ returns c = λ w h.
     let k = c.args.number in
     let f = c.in-Some.frame.now in
     let e : Event = Arrive f.from (record_of f.rec) in
-    let a = answer_told c.in_ok-answer.answer c.arrive_at.new.change in
+    let a = answer_told c.in_ok-answer.answer c.arrive_at.new.entry in
     let mid = lent_back v c.arrive_at.new.sites in
     subst (λ o. Gives (within_limits (task_turn w (OutLine.Take k ∷ []) o)) c.args.lines.now (Ok tt) c.settle.new.lines c.settle.new.self)
     (sym (task_delivered w v k (Some (frame_of f)) h (ap (λ o. option_map frame_of (option_copied o)) (sym c.in-Some.is) ∙ c.find.ensures)))

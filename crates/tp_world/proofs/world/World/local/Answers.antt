@@ -9,8 +9,8 @@ use Rattle.tp_world.proofs.world.World.local.Goals as goal
 
 pub returns : goal.returns
 returns c = λ w h under.
-    let taken = c.take_change.ensures in
-    let first : CodeWorld = c.take_change.new.self in
+    let taken = c.take_entry.ensures in
+    let first : CodeWorld = c.take_entry.new.self in
     let last : CodeWorld = c.local_with-done.new.self in
     same_gives (within_limits (task_turn w [] (task_at w c.args.node (event_of c.args.event.now)))) c.args.lines.now c.local_with-done.new.lines c.local_with-done.result last
     (record { sites = refl; nodes = refl; frames = refl; trees = refl })

@@ -27,7 +27,7 @@ returns-in_err-answer c = λ w h under.
 pub returns-in_err-settle : goal.returns-in_err-settle
 returns-in_err-settle c = λ w h under.
     let e : Event = event_of c.args.event.now in
-    let a = answer_told c.in_ok-answer.answer c.play_at.new.change in
+    let a = answer_told c.in_ok-answer.answer c.play_at.new.entry in
     let v = c.args.self.now in
     let mid = lent_back v c.play_at.new.sites in
     let f = c.in_err-settle.field-0.0 in
@@ -40,7 +40,7 @@ returns-in_err-settle c = λ w h under.
 pub returns : goal.returns
 returns c = λ w h under.
     let e : Event = event_of c.args.event.now in
-    let a = answer_told c.in_ok-answer.answer c.play_at.new.change in
+    let a = answer_told c.in_ok-answer.answer c.play_at.new.entry in
     let v = c.args.self.now in
     let mid = lent_back v c.play_at.new.sites in
     played_gives w [] (task_at w c.args.node e) e c.in-Some.at a c.play_at.new.sites c.args.lines.now c.args.lines.now c.settle.new.lines (Ok tt) v mid c.settle.new.self h under

@@ -70,7 +70,7 @@ returns c = λ w s z stops stand.
     let y = c.arrive.new.self in
     let is = sym c.index_mut.ensures.value in
     let stop = c.args.stop.now in
-    let a = answer_told c.in_ok-answer.answer c.arrive.new.change in
+    let a = answer_told c.in_ok-answer.answer c.arrive.new.entry in
     let plays : SlotPlays x (number_of n) e (Ok a) y = subst (λ (m : ℕ). SlotPlays x m e (Ok a) y) (sym at.number) (c.in_ok-answer.ensures {u = tt}) in
     let here : task_at w f.to.node e ≡ Some (record { node = n; event = e }) = ap (λ (o : Option Node). elim o as (λ _. Option Task) [ None ↦ None | Some q ↦ Some (record { node = q; event = e }) ]) at.at in
     let same = c.index.ensures ∙ same_index v.sites.items c.args.place c.index.result.now x c.requires ∙ is in

@@ -10,7 +10,7 @@ use Rattle.tp_model.specs.Happenings.{stop_in_force, WorldTurn}
 use Rattle.tp_model.specs.Lines.{within_limits}
 use Rattle.tp_model.specs.World.{number_of}
 use Rattle.tp_world.specs.Settled.{IsEntered}
-use Rattle.tp_world_parts.specs.NodeAnswers.{Entry}
+use Rattle.tp_world_parts.specs.declared.site_slot.Entry.{Entry}
 use Rattle.tp_world_parts.specs.Sites.{place_of_site}
 use Rattle.tp_world_parts.specs.Standing.{after_entry}
 use Rattle.tp_world.specs.World.{Gives}

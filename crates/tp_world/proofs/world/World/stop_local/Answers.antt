@@ -45,7 +45,7 @@ returns c = λ w s z d stops stand task under.
     let y = c.play.new.self in
     let is = sym c.index_mut.ensures.value in
     let stop = c.args.stop.now in
-    let a = answer_told c.in_ok-answer.answer c.play.new.change in
+    let a = answer_told c.in_ok-answer.answer c.play.new.entry in
     let plays : SlotPlays x (number_of n) e (Ok a) y = subst (λ (k : ℕ). SlotPlays x k e (Ok a) y) (sym at.number) (c.in_ok-answer.ensures {u = tt}) in
     let here : task_at w c.args.node e ≡ Some (record { node = n; event = e }) = ap (λ (o : Option Node). elim o as (λ _. Option Task) [ None ↦ None | Some q ↦ Some (record { node = q; event = e }) ]) at.at in
     let same = c.index.ensures ∙ same_index v.sites.items c.args.place c.index.result.now x c.requires ∙ is in

@@ -14,7 +14,7 @@ use Rattle.tp_world_parts.proofs.site_slot.SiteSlot.play.Goals as goal
 pub returns-in-Ok : goal.returns-in-Ok
 returns-in-Ok c =
     let old = c.args.self.now.site in
-    let new = c.play.new.self in
+    let new = c.play_into.new.self in
     let move = c.in-Ok.ensures.0 in
     let count = length c.records-count.result.now in
     let rec : shown_behind new.keeper.list count ≡ option_map log_shown move.rec =
