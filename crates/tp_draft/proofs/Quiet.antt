@@ -213,8 +213,3 @@ refused_silent who d e h n s r q = tried_later who d e h n s ∙ ap (λ (b : Boo
 
 pub refused_not : (who : Who) (d : Digest) (e : NodeEvent) → d.drawn ≤ greatest → refused_at_once who d e ≡ None → needs_numbers (action who d (event_of e)) ≡ false → (is_retry e && says_nothing (action who d (event_of e)).outs) ≡ false → refusal who d (event_of e) ≡ None
 refused_not who d e h n s q = tried_later who d e h n s ∙ ap (λ (b : Bool). if b then Some Refusal.NothingOwed else None) q
-
--- where nothing goes out
-pub none_goes_out : (outs : List Out) → says_nothing outs ≡ true → outs ≡ []
-none_goes_out [] h = refl
-none_goes_out (o ∷ outs) h = absurd (cc (h))

@@ -124,6 +124,13 @@ impl Outs {
         items
     }
 
+    /// There is none any more; the memory stays for the next ones.
+    pub fn clear(&mut self)
+        ensures { self.new ≡ [] }
+    {
+        self.items.clear();
+    }
+
     /// There is none.
     pub fn is_empty(&self) -> bool
         ensures { result ≡ says_nothing self.now }

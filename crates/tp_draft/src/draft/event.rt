@@ -8,7 +8,7 @@ ghost use Rattle.tp_node.specs.NodeEvent.{event_of, refused_at_once};
 
 use crate::draft::Draft;
 use std::alloc::Global;
-use std::mem::{replace, swap};
+use std::mem::swap;
 use tp_logrec::LogRec;
 use tp_model::{Step, TxEvent, TxOuts};
 use tp_names::{Addr, NoMemory, Outcome};
@@ -38,7 +38,7 @@ impl Draft {
     {
         self.node.copy_from(alloc, node, &mut self.spare)?;
         self.forget_rec();
-        self.forget_outs(alloc);
+        self.forget_outs();
         Ok(())
     }
 
@@ -51,13 +51,10 @@ impl Draft {
     }
 
     // Nothing is to go out.
-    #[tactic(auto, using(crate::proofs::Quiet::none_goes_out))]
-    fn forget_outs(&mut self, alloc: Global)
+    fn forget_outs(&mut self)
         ensures { self.new ≡ record self.old { move = record self.old.move { outs = [] } } }
     {
-        if !self.outs.is_empty() {
-            self.outs = Outs::new(alloc);
-        }
+        self.outs.clear();
     }
 
     /// The record that is to be forced.
@@ -81,12 +78,13 @@ impl Draft {
         place.settle_after(alloc, &mut self.node);
     }
 
-    /// The outputs, which it has no more.
-    pub fn take_outs(&mut self, alloc: Global) -> Outs
-        ensures outs { result ≡ self.old.move.outs }
+    /// The outputs take that place, and it has them no more. The memory of what stood there stays with it.
+    pub fn take_outs(&mut self, place: &mut Outs)
+        ensures outs { place.new ≡ self.old.move.outs }
         ensures rest { self.new ≡ record self.old { move = record self.old.move { outs = [] } } }
     {
-        replace(&mut self.outs, Outs::new(alloc))
+        swap(place, &mut self.outs);
+        self.forget_outs();
     }
 
     /// Nothing goes out.
