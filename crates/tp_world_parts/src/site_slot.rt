@@ -246,7 +246,7 @@ impl SiteSlot {
     ) -> Result<Answer, WorldFault>
         ensures { SlotPlays self.old node (event_of event.now) (result_told result entry.new) self.new }
     {
-        self.put_tree(node, &mut entry.change.before);
+        self.site.note_tree(node, &mut entry.change.before);
         let count = self.records().len();
         match self.site.play_into(alloc, node, event, &mut entry.outs) {
             Ok(refusal) => {
