@@ -114,6 +114,28 @@ impl Branch {
         })
     }
 
+    /// A transaction of that node begins in the room of this one, which is gone: active, without a branch. The superior is given
+    /// as above.
+    pub fn begin_anew(&mut self, node: u16, key: &NodeKey, superior: &Option<Addr>)
+        requires { IsTrue (has_superior key.now superior.now) }
+        ensures { self.new ≡ begun node (key_from key.now superior.now) }
+    {
+        let is_under = key.branch.is_some();
+        self.node = node;
+        self.key = *key;
+        self.superior = *superior;
+        self.phase = Phase::Active;
+        self.up = is_under;
+        self.up_ends = false;
+        self.rows.clear();
+        self.told_prepare = false;
+        self.asked = false;
+        self.owes = false;
+        self.superior_rolled = false;
+        self.decision = None;
+        self.own = Report::None;
+    }
+
     /// The transaction that a Ready or a Commit of the log tells, with the node's own decision: no arc of
     /// it is live, and where commit was ordered the user owes done. Takes the room for its branches. Where
     /// the key of a Commit has a branch, the record names the superior.

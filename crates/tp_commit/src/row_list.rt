@@ -68,6 +68,14 @@ impl RowList {
         Ok(())
     }
 
+    /// No branch any more; the room stays.
+    pub(crate) fn clear(&mut self)
+        ensures { self.new ≡ [] }
+    {
+        self.rows.clear();
+        self.ascends = true;
+    }
+
     pub(crate) fn as_slice(&self) -> &[Row]
         ensures { result.now ≡ self.now }
     {

@@ -40,7 +40,7 @@ use tp_dialogue::{Asked, Heard};
 use tp_logrec::LogRec;
 use tp_model::{Disposition, Kept, KeptEvent, Phase, Step, TxEvent, TxOut, TxOuts};
 use tp_names::{Aaid, Addr, BranchId, Mark, NoMemory, NodeKey};
-use tp_node::{Halt, Node, Passage, is_leaving};
+use tp_node::{Halt, Node, Passage, Spare, is_leaving};
 use tp_node_parts::{ArcStep, Outs, copies};
 use tp_records::{DialogueRecord, Holder, Indication, PeerRecord, Request};
 use tp_recover::{owed, step};
@@ -48,12 +48,12 @@ use tp_tree::Tie;
 use tp_units::{CHAINED, Units};
 
 /// A copy of a node on which an event runs, the record that is to be forced, and the outputs. Contracts see it as a move of the
-/// definitions. A transaction that is over may be spared, as memory for the next one. The record is that of the last step of the
+/// definitions. Transactions that are over are spared, as memory for the next ones. The record is that of the last step of the
 /// transaction, or an earlier one where that step logs none; the memory for what a step says stays with it.
 #[derive(Drop)]
 pub struct Draft {
     node: Box<Node>,
-    spare: Option<Branch>,
+    spare: Spare,
     earlier: Option<LogRec>,
     step: Step,
     outs: Outs,
@@ -224,7 +224,8 @@ impl Draft {
             mark,
         };
         let key = NodeKey { aaid, branch: None };
-        self.node.begin_transaction(alloc, key, None)?;
+        self.node
+            .begin_transaction(alloc, &mut self.spare, &key, &None)?;
         Ok(())
     }
 
@@ -395,10 +396,10 @@ impl Draft {
 
     // What the transaction has become.
     #[inline(always)]
-    fn settle(&mut self, next: Branch)
-        ensures { self.new ≡ with_current self.old (remaining next) }
+    fn settle(&mut self, next: Box<Branch>)
+        ensures { self.new ≡ with_current self.old (remaining next.value) }
     {
-        self.node.settle(next);
+        self.node.settle(next, &mut self.spare);
     }
 
     /// An event of the current transaction, which does not refuse it: what it says, logs and leaves; where it is over,
@@ -656,7 +657,7 @@ impl Draft {
     {
         let (peer, tree) = (superior.node, aaid);
         self.node
-            .begin_under(alloc, superior, aaid, branch, holder)?;
+            .begin_under(alloc, &mut self.spare, superior, aaid, branch, holder)?;
         self.tell(Indication::BeginTransaction { peer, aaid: tree })
     }
 

@@ -1,8 +1,9 @@
 -- One node of a site as the site keeps it, and what is known of it by the definitions. A node has arcs
 -- exactly once it is declared. What its transaction sees of its arcs is looked at anew before each event of
 -- it, and so is no part of what is kept.
-use Rattle.std.specs.Prelude.{◌≡◌, Bool, true, false, Option, Some, None, List, [], nat_lt}
+use Rattle.std.specs.Prelude.{Box, ◌≡◌, Bool, true, false, Option, Some, None, List, [], nat_lt}
 use Rattle.std.specs.Option.{option_map}
+use Rattle.std.specs.declared.alloc.Global.{Global}
 use Rattle.tp_names.specs.declared.identifiers.Addr.{Addr}
 use Rattle.tp_logrec.specs.declared.record.LogRec.{LogRec}
 use Rattle.tp_logrec.specs.declared.record.LogVersion.{LogVersion}
@@ -34,6 +35,11 @@ current_of t = record {
   own = t.own;
 }
 
+-- the transaction in its box
+abbrev pub unboxed : Option (Box Transaction Global) → Option Transaction
+unboxed None = None
+unboxed (Some b) = Some b.value
+
 abbrev pub is_declared : Option Arcs → Bool
 is_declared None = false
 is_declared (Some a) = true
@@ -54,7 +60,7 @@ node_of v = record {
     known = v.known;
     superior = superior_in v.arcs;
     arcs = arcs_in v.arcs;
-    current = option_map current_of v.current;
+    current = option_map current_of (unboxed v.current);
     kept = v.kept;
     drawn = v.drawn;
     boot = v.boot;

@@ -13,6 +13,7 @@ mod named;
 mod node;
 mod passage;
 mod refusing;
+mod spare;
 mod state;
 
 pub use event::NodeEvent;
@@ -20,4 +21,5 @@ pub use halt::Halt;
 pub use named::key_of;
 pub use node::Node;
 pub use passage::{Passage, is_leaving};
+pub use spare::Spare;
 pub use state::{NodeState, NodeTree};

@@ -21,7 +21,7 @@ ghost use Rattle.tp_commit.specs.Branch.{has_superior, key_from};
 ghost use Rattle.tp_model.specs.Disposition.{sight_value};
 ghost use Rattle.tp_model.specs.Arrivals.{sight_in_tx, is_response, woken_by, current_with, current_of as current_in};
 ghost use Rattle.tp_node.specs.State.{state_of, tree_in};
-ghost use Rattle.tp_node.specs.Node.{current_of, with_arcs, has_place_at};
+ghost use Rattle.tp_node.specs.Node.{current_of, unboxed, with_arcs, has_place_at};
 ghost use Rattle.tp_node_parts.specs.Outs.{outs_of_option, outs_with};
 ghost use Rattle.tp_node_parts.specs.ArcStep.{stepped_arcs};
 ghost use Rattle.tp_node.specs.Passage.{passage_of};
@@ -37,6 +37,7 @@ ghost use Rattle.tp_model.specs.declared.refusal.Refusal.TheVariants.{NoDialogue
 
 use crate::halt::Halt;
 use crate::passage::Passage;
+use crate::spare::Spare;
 use crate::{NodeState, NodeTree, look};
 use std::alloc::Global;
 use std::marker::Model;
@@ -68,7 +69,7 @@ pub struct Node {
     number: u16,
     known: bool,
     arcs: Option<SharedArcs>,
-    current: Option<Branch>,
+    current: Option<Box<Branch>>,
     kept: KeptTable,
     drawn: u64,
     boot: u64,
@@ -709,24 +710,25 @@ impl Node {
         branch.add(child)
     }
 
-    /// A transaction of that key begins: active, without a branch.
+    /// A transaction of that key begins: active, without a branch. It has the memory of one that is spared.
     #[inline(always)]
     pub fn begin_transaction(
         &mut self,
         alloc: Global,
-        key: NodeKey,
-        superior: Option<Addr>,
+        spare: &mut Spare,
+        key: &NodeKey,
+        superior: &Option<Addr>,
     ) -> Result<(), NoMemory>
-        requires { IsTrue (has_superior key superior) }
-        ensures { OnOk result (self.new ≡ with_digest self.old (record self.old.digest { current = Some (fresh_current (key_from key superior)) })) }
+        requires { IsTrue (has_superior key.now superior.now) }
+        ensures { OnOk result (self.new ≡ with_digest self.old (record self.old.digest { current = Some (fresh_current (key_from key.now superior.now)) })) }
     {
-        self.current = Some(Branch::begin(alloc, self.number, key, superior)?);
+        self.current = Some(spare.begin(alloc, self.number, key, superior)?);
         Ok(())
     }
 
     /// The current transaction, as it sees the arcs now. The node has none then, until it settles one.
-    pub fn take_seen(&mut self) -> Option<Branch>
-        ensures branch { result ≡ option_map (seen self.old.who self.old.digest.arcs) self.old.digest.current }
+    pub fn take_seen(&mut self) -> Option<Box<Branch>>
+        ensures branch { unboxed result ≡ option_map (seen self.old.who self.old.digest.arcs) self.old.digest.current }
         ensures node { self.new ≡ with_digest self.old (record self.old.digest { current = None }) }
     {
         let Some(branch) = &mut self.current else {
@@ -758,13 +760,14 @@ impl Node {
         }
     }
 
-    /// The transaction has become that one: it stays current unless it is over.
+    /// The transaction has become that one: it stays current unless it is over, and is spared then.
     #[tactic(auto, using(crate::proofs::Turns::remains))]
-    pub fn settle(&mut self, next: Branch)
-        ensures { self.new ≡ with_digest self.old (record self.old.digest { current = remaining next }) }
+    pub fn settle(&mut self, next: Box<Branch>, spare: &mut Spare)
+        ensures { self.new ≡ with_digest self.old (record self.old.digest { current = remaining next.value }) }
     {
         if next.phase() == Phase::Nil {
             self.current = None;
+            spare.put(next);
             return;
         }
         self.current = Some(next);
@@ -989,6 +992,7 @@ impl Node {
     pub fn begin_under(
         &mut self,
         alloc: Global,
+        spare: &mut Spare,
         superior: Addr,
         aaid: Aaid,
         branch: BranchId,
@@ -1002,7 +1006,7 @@ impl Node {
             aaid,
             branch: Some(branch),
         };
-        self.begin_transaction(alloc, key, Some(superior))
+        self.begin_transaction(alloc, spare, &key, &Some(superior))
     }
 
     /// A record with that pair and number is taken on the arc with that peer; any but a response ends the arc's rest.

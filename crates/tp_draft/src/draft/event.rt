@@ -12,7 +12,7 @@ use std::mem::swap;
 use tp_logrec::LogRec;
 use tp_model::{Step, TxEvent, TxOuts};
 use tp_names::{Addr, NoMemory, Outcome};
-use tp_node::{Halt, Node, NodeEvent};
+use tp_node::{Halt, Node, NodeEvent, Spare};
 use tp_node_parts::Outs;
 
 impl Draft {
@@ -22,7 +22,7 @@ impl Draft {
     {
         Draft {
             node,
-            spare: None,
+            spare: Spare::new(alloc),
             earlier: None,
             step: Step {
                 rec: None,

@@ -5,11 +5,11 @@ ghost use Rattle.tp_logrec.specs.Order.{is_commit, is_ready};
 ghost use Rattle.tp_model.specs.Links.{greatest};
 ghost use Rattle.tp_model.specs.Events.{started, current_by, decision_of, without_current};
 ghost use Rattle.tp_node.specs.Begins.{with_digest};
-ghost use Rattle.tp_node.specs.Node.{current_of, recovered_by};
+ghost use Rattle.tp_node.specs.Node.{current_of, unboxed, recovered_by};
 
 use crate::node::Node;
+use crate::spare::Spare;
 use std::alloc::Global;
-use std::mem::swap;
 use tp_commit::Branch;
 use tp_logrec::{LogRec, LogVersion};
 use tp_names::same::is_key;
@@ -80,9 +80,9 @@ impl Node {
 
     // The transaction that a Commit tells: none where its key has a branch and it names no superior.
     #[tactic(auto, using(crate::proofs::Recovered::told_by_commit))]
-    fn committed(&self, alloc: Global, rec: &LogRec) -> Result<Option<Branch>, NoMemory>
+    fn committed(&self, alloc: Global, rec: &LogRec) -> Result<Option<Box<Branch>>, NoMemory>
         requires { is_commit rec.now ≡ true }
-        ensures { IfOk result (λ branch. option_map current_of branch ≡ current_by rec.now self.now.digest.current) }
+        ensures { IfOk result (λ branch. option_map current_of (unboxed branch) ≡ current_by rec.now self.now.digest.current) }
     {
         match rec {
             LogRec::Commit {
@@ -90,17 +90,21 @@ impl Node {
                 superior: None,
                 ..
             } if key.branch.is_some() => Ok(None),
-            _ => Ok(Some(Branch::again(alloc, rec, self.decision())?)),
+            _ => {
+                let branch = Branch::again(alloc, rec, self.decision())?;
+                Ok(Some(Box::new(alloc, branch)?))
+            }
         }
     }
 
     // The transaction that a Ready tells.
     #[tactic(auto, using(crate::proofs::Recovered::told_by_ready))]
-    fn readied(&self, alloc: Global, rec: &LogRec) -> Result<Option<Branch>, NoMemory>
+    fn readied(&self, alloc: Global, rec: &LogRec) -> Result<Option<Box<Branch>>, NoMemory>
         requires { is_ready rec.now ≡ true }
-        ensures { IfOk result (λ branch. option_map current_of branch ≡ current_by rec.now self.now.digest.current) }
+        ensures { IfOk result (λ branch. option_map current_of (unboxed branch) ≡ current_by rec.now self.now.digest.current) }
     {
-        Ok(Some(Branch::again(alloc, rec, None)?))
+        let branch = Branch::again(alloc, rec, None)?;
+        Ok(Some(Box::new(alloc, branch)?))
     }
 
     // What a record makes of the current transaction.
@@ -152,7 +156,7 @@ impl Node {
         &mut self,
         alloc: Global,
         other: &Node,
-        spare: &mut Option<Branch>,
+        spare: &mut Spare,
     ) -> Result<(), NoMemory>
         ensures { OnOk result (self.new ≡ other.now) }
     {
@@ -173,18 +177,18 @@ impl Node {
 // Without memory the transaction may be any.
 fn copy_current(
     alloc: Global,
-    own: &mut Option<Branch>,
-    other: &Option<Branch>,
-    spare: &mut Option<Branch>,
+    own: &mut Option<Box<Branch>>,
+    other: &Option<Box<Branch>>,
+    spare: &mut Spare,
 ) -> Result<(), NoMemory>
-    ensures { OnOk result (own.new ≡ other.now) }
+    ensures { OnOk result (unboxed own.new ≡ unboxed other.now) }
 {
     let Some(branch) = other else {
         set_aside(own, spare);
         return Ok(());
     };
     if own.is_none() {
-        swap(own, spare);
+        *own = spare.take();
     }
     match own {
         Some(own) => own.copy_from(branch),
@@ -193,20 +197,20 @@ fn copy_current(
 }
 
 // There is no transaction any more; where there was one, its memory is spared.
-fn set_aside(own: &mut Option<Branch>, spare: &mut Option<Branch>)
+fn set_aside(own: &mut Option<Box<Branch>>, spare: &mut Spare)
     ensures { own.new ≡ None }
 {
-    if own.is_some() {
-        swap(own, spare);
-        *own = None;
+    if let Some(branch) = own.take() {
+        spare.put(branch);
     }
 }
 
 // A copy of that transaction, in memory of its own.
-fn new_current(alloc: Global, own: &mut Option<Branch>, other: &Branch) -> Result<(), NoMemory>
-    ensures { OnOk result (own.new ≡ Some other.now) }
+fn new_current(alloc: Global, own: &mut Option<Box<Branch>>, other: &Branch) -> Result<(), NoMemory>
+    ensures { OnOk result (unboxed own.new ≡ Some other.now) }
 {
-    *own = Some(other.copy(alloc)?);
+    let copy = other.copy(alloc)?;
+    *own = Some(Box::new(alloc, copy)?);
     Ok(())
 }
 
