@@ -31,7 +31,7 @@ use tp_records::{PeerRecord, Request};
 use tp_site::{NodeEvent, NodeState, NodeTree, Outs, Site, SiteFault, StartFault};
 
 /// What a node answers to an event.
-#[derive(Clone, Copy, Debug)]
+#[derive(Clone, Copy)]
 pub enum Answer {
     /// It is refused by that number, and nothing has changed.
     Refused(u8),
