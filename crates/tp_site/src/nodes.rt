@@ -9,6 +9,7 @@ ghost use Rattle.tp_node.specs.NodeEvent.{event_of, answer_at, refused_at_once};
 ghost use Rattle.tp_draft.specs.Answers.{IsAnswer, IsPlain};
 ghost use Rattle.tp_site.specs.Nodes.{has_node, who_at, digest_at, node_at, find_node, unknown_start, IsPlaced, IsSameSite, AreFrom};
 ghost use Rattle.tp_node.specs.Node.{recovered_by};
+ghost use Rattle.tp_node.specs.State.{tree_in};
 ghost use Rattle.tp_site.specs.InPlace.{IsPlanned, run_in_place, can_run};
 
 use crate::in_place;
@@ -19,7 +20,7 @@ use tp_draft::{Draft, breaks};
 use tp_logrec::{LogRec, LogVersion};
 use tp_model::{Refusal, TxFault};
 use tp_names::{NoMemory, SiteName};
-use tp_node::{Node, NodeEvent};
+use tp_node::{Node, NodeEvent, NodeTree};
 use tp_node_parts::Outs;
 
 /// The nodes of a site, by their numbers. One is sought first where the last one stood.
@@ -90,12 +91,21 @@ impl Nodes {
         self.nodes.get_index_of(&number)
     }
 
-    // The node of that number is sought where it stands from now on.
-    fn note_place(&mut self, number: u16)
-        ensures { self.new ≡ self.old }
+    /// The tree of the current transaction of the node of that number, where it has one, is put there; the node is sought first
+    /// where it stands from now on.
+    #[tactic(auto, using(crate::proofs::Numbered::treeless))]
+    pub(crate) fn note_tree(&mut self, number: u16, tree: &mut Option<NodeTree>)
+        ensures tree { tree.new ≡ tree_in (digest_at self.old number) }
+        ensures same { self.new ≡ self.old }
     {
-        if let Some(place) = self.place_of(number) {
-            self.last = place;
+        let Some(place) = self.place_of(number) else {
+            *tree = None;
+            return;
+        };
+        self.last = place;
+        match self.nodes.get_index(place) {
+            None => *tree = None,
+            Some((_number, node)) => node.put_tree(tree),
         }
     }
 
@@ -104,10 +114,14 @@ impl Nodes {
     pub(crate) fn find(&self, number: u16) -> Option<&Node>
         ensures { option_copied result ≡ find_node self.now number }
     {
-        let place = self.place_of(number)?;
-        match self.nodes.get_index(place) {
+        if let Some((found, node)) = self.nodes.get_index(self.last) {
+            if *found == number {
+                return Some(&**node);
+            }
+        }
+        match self.nodes.get(&number) {
             None => None,
-            Some((_number, node)) => Some(&**node),
+            Some(node) => Some(&**node),
         }
     }
 
@@ -198,16 +212,14 @@ impl Nodes {
     /// there then.
     #[tactic(auto, using(crate::proofs::Numbered::found))]
     pub(crate) fn plan(
-        &mut self,
+        &self,
         number: u16,
         event: &NodeEvent<'_>,
         outs: &mut Outs,
     ) -> Result<bool, NoMemory>
-        ensures there { IfOk result (λ planned. planned ≡ true → has_node self.old number ≡ true) }
-        ensures planned { IfOk result (λ planned. planned ≡ true → IsPlanned (node_at self.old number) event.now outs.new) }
-        ensures same { self.new ≡ self.old }
+        ensures there { IfOk result (λ planned. planned ≡ true → has_node self.now number ≡ true) }
+        ensures planned { IfOk result (λ planned. planned ≡ true → IsPlanned (node_at self.now number) event.now outs.new) }
     {
-        self.note_place(number);
         match self.find(number) {
             None => Ok(false),
             Some(node) => in_place::plan(node, event, outs),

@@ -352,6 +352,15 @@ impl<K: Keeper> Site<K> {
         }
     }
 
+    /// The same, before events of that node, which is sought first where it stands from now on.
+    #[inline(always)]
+    pub fn note_tree(&mut self, node: u16, tree: &mut Option<NodeTree>)
+        ensures tree { tree.new ≡ tree_in (known_at self.old node) }
+        ensures same { self.new ≡ self.old }
+    {
+        self.nodes.note_tree(node, tree);
+    }
+
     /// The site's name.
     pub fn name(&self) -> SiteName
         ensures { result ≡ self.now.nodes.site }

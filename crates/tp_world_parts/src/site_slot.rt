@@ -31,7 +31,7 @@ use tp_records::{PeerRecord, Request};
 use tp_site::{NodeEvent, NodeState, NodeTree, Outs, Site, SiteFault, StartFault};
 
 /// What a node answers to an event.
-#[derive(Clone, Copy, Debug)]
+#[derive(Clone, Copy)]
 pub enum Answer {
     /// It is refused by that number, and nothing has changed.
     Refused(u8),
@@ -246,7 +246,7 @@ impl SiteSlot {
     ) -> Result<Answer, WorldFault>
         ensures { SlotPlays self.old node (event_of event.now) (result_told result entry.new) self.new }
     {
-        self.put_tree(node, &mut entry.change.before);
+        self.site.note_tree(node, &mut entry.change.before);
         let count = self.records().len();
         match self.site.play_into(alloc, node, event, &mut entry.outs) {
             Ok(refusal) => {
