@@ -37,6 +37,9 @@ woken_superior r p d = go (is_response r) refl
 abbrev side_by : Option Addr → ℕ → Side
 side_by s p = cond (elim s as (λ _. Bool) [ None ↦ false | Some a ↦ a.node == p ]) Side.Subordinate Side.Superior
 
-pub begin_side : (who : Who) (d : Digest) (a : Arc) (r : DialogueRecord) (p : ℕ) → sight_at who d a r ≡ Acts → is_begin r ≡ true → Side.Subordinate ≡ side_at (woken_by r p (record d { arcs = with_link d.arcs p with_one_taken })) a.peer.node
-begin_side who d a r p acts begins =
-    begin_from who d a r (sym (sight_is who d a r) ∙ acts) begins ∙ sym (ap (λ (s : Option Addr). side_by s a.peer.node) (woken_superior r p (record d { arcs = with_link d.arcs p with_one_taken })))
+pub begin_side : (who : Who) (d : Digest) (a : Arc) (r : DialogueRecord) → sight_at who d a r ≡ Acts → is_begin r ≡ true → Side.Subordinate ≡ side_at d a.peer.node
+begin_side who d a r acts begins = begin_from who d a r (sym (sight_is who d a r) ∙ acts) begins
+
+-- the sides stay where a record is counted
+pub side_counted : (d : Digest) (r : DialogueRecord) (p q : ℕ) → side_at (woken_by r p (record d { arcs = with_link d.arcs p with_one_taken })) q ≡ side_at d q
+side_counted d r p q = ap (λ (s : Option Addr). side_by s q) (woken_superior r p (record d { arcs = with_link d.arcs p with_one_taken }))

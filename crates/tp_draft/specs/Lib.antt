@@ -3,5 +3,6 @@ pub mod Begins
 pub mod Passage
 pub mod Talk
 pub mod Calls
+pub mod Taking
 pub mod Replies
 pub mod Answers

@@ -44,7 +44,6 @@ impl Draft {
     }
 
     // A record comes on the association with that pair.
-    #[tactic(auto, using(crate::proofs::Arriving::taken_number, crate::proofs::Arriving::taken_there))]
     fn take_from(
         &mut self,
         alloc: Global,
@@ -57,10 +56,9 @@ impl Draft {
         requires { refused_arrival self.old.who self.old.move.next from (PeerRecord.OnAssoc x y seq rec.now) ≡ None }
         ensures { Plays result self.old self.new (λ who. do_arrival who from (PeerRecord.OnAssoc x y seq rec.now)) }
     {
-        let found = self.node().find(from.node);
-        match &found {
+        match self.node().disposition_at(from.node, rec) {
             None => Ok(()),
-            Some(tie) => self.take_on(alloc, tie, x, y, seq, rec),
+            Some(disposition) => self.take_on(alloc, &from, disposition, x, y, seq, rec),
         }
     }
 

@@ -14,13 +14,15 @@ ghost use Rattle.tp_model.specs.Requests.{call, accept, reject, begin_transactio
 ghost use Rattle.tp_model.specs.Events.{is_begin_dialogue};
 ghost use Rattle.tp_records.specs.declared.request.Request.{Request};
 ghost use Rattle.tp_model.specs.declared.arc.Side.{Side};
-ghost use Rattle.tp_model.specs.Arcs.{find_arc};
+ghost use Rattle.tp_model.specs.Arcs.{find_arc, link_with};
+ghost use Rattle.tp_model.specs.Dialogues.{Acts};
+ghost use Rattle.tp_model.specs.Disposition.{sight_value};
 ghost use Rattle.tp_tree.specs.Tie.{arc_of};
 ghost use Rattle.tp_node.specs.Node.{has_place_at};
 ghost use Rattle.tp_node.specs.Calls.{offer_of};
 ghost use Rattle.tp_draft.specs.Calls.{answering, entering_tree, binding, taking_part};
 ghost use Rattle.tp_node_parts.specs.Arcs.{fits_link};
-ghost use Rattle.tp_model.specs.Arrivals.{lose, take_abort, take_open, take_accept, take_begin, take_left, take_record, take_on};
+ghost use Rattle.tp_model.specs.Arrivals.{lose, take_abort, take_open, take_accept, take_begin, take_left, take_record};
 ghost use Rattle.tp_records.specs.declared.indication.Indication.{Indication};
 ghost use Rattle.tp_model.specs.declared.transaction.TxEvent.{TxEvent};
 ghost use Rattle.tp_model.specs.Questions.{is_begin};
@@ -28,6 +30,7 @@ ghost use Rattle.tp_model.specs.Transactions.{transacted, step_of};
 ghost use Rattle.tp_model.specs.Recovery.{settled, refused_kept};
 ghost use Rattle.tp_dialogue.specs.Kinds.{asked_value, heard_value};
 ghost use Rattle.tp_draft.specs.Talk.{speaking_on, deferring, telling_heard, taking_deferral};
+ghost use Rattle.tp_draft.specs.Taking.{arc_to, taking_on};
 ghost use Rattle.tp_draft.specs.Passage.{said_then, giving, completing, playing, speaking, passing, acting_by, is_commit_complete, place_of_completion};
 ghost use Rattle.tp_node.specs.Passage.{passage_of};
 ghost use Rattle.tp_model.specs.Links.{greatest, is_opening_with, dropped_by};
@@ -665,15 +668,15 @@ impl Draft {
     fn take_begin(
         &mut self,
         alloc: Global,
-        tie: &Tie,
+        superior: Addr,
         aaid: Aaid,
         branch: BranchId,
         holder: Holder,
     ) -> Result<(), Halt>
-        requires { Side.Subordinate ≡ side_at self.old.move.next (arc_of tie.now).peer.node }
-        ensures { Plays result self.old self.new (λ who. take_begin who (arc_of tie.now) aaid branch holder) }
+        requires { Side.Subordinate ≡ side_at self.old.move.next superior.node }
+        ensures { Plays result self.old self.new (λ who. take_begin who (arc_to superior) aaid branch holder) }
     {
-        if let Err(halt) = self.enter_tree(alloc, tie.addr(), aaid, branch, holder) {
+        if let Err(halt) = self.enter_tree(alloc, superior, aaid, branch, holder) {
             return Err(halt);
         }
         self.begin_chained(alloc)
@@ -756,12 +759,12 @@ impl Draft {
         self.transact(alloc, &TxEvent::Took { arc: peer, rec })
     }
 
-    // A record that acts is taken from that arc.
-    fn take_record(&mut self, alloc: Global, tie: &Tie, rec: &DialogueRecord) -> Result<(), Halt>
-        requires { is_begin rec.now ≡ true → Side.Subordinate ≡ side_at self.old.move.next (arc_of tie.now).peer.node }
-        ensures { Plays result self.old self.new (λ who. take_record who (arc_of tie.now) rec.now) }
+    // A record that acts is taken from the arc to that address.
+    fn take_record(&mut self, alloc: Global, from: &Addr, rec: &DialogueRecord) -> Result<(), Halt>
+        requires { is_begin rec.now ≡ true → Side.Subordinate ≡ side_at self.old.move.next from.now.node }
+        ensures { Plays result self.old self.new (λ who. take_record who (arc_to from.now) rec.now) }
     {
-        let peer = tie.addr().node;
+        let peer = from.node;
         match rec {
             DialogueRecord::EndDialogue => self.take_end(alloc, peer),
             DialogueRecord::UserData { octets } => self.hear_data(alloc, peer, octets),
@@ -778,7 +781,7 @@ impl Draft {
                 aaid,
                 branch,
                 holder,
-            } => self.take_begin(alloc, tie, *aaid, *branch, *holder),
+            } => self.take_begin(alloc, *from, *aaid, *branch, *holder),
             DialogueRecord::Left => self.take_left(alloc, peer, rec),
             DialogueRecord::LeftEnd => self.take_left(alloc, peer, rec),
             DialogueRecord::Prepare => self.take_up(alloc, peer, rec),
@@ -790,25 +793,24 @@ impl Draft {
         }
     }
 
-    /// A record with that pair and number is taken from that arc.
+    /// A record with that pair and number is taken from the arc to that address, where that comes of it.
     pub(crate) fn take_on(
         &mut self,
         alloc: Global,
-        tie: &Tie,
+        from: &Addr,
+        disposition: Disposition,
         x: Mark,
         y: Mark,
         seq: u64,
         rec: &DialogueRecord,
     ) -> Result<(), Halt>
-        requires arc { find_arc self.old.move.next.arcs (arc_of tie.now).peer.node ≡ Some (arc_of tie.now) }
-        requires side { tie.now.dialogue.side ≡ side_at self.old.move.next (arc_of tie.now).peer.node }
-        requires number { dropped_by (arc_of tie.now).link x y seq ≡ None }
-        ensures { Plays result self.old self.new (λ who. take_on who (arc_of tie.now) rec.now) }
+        requires side { sight_value disposition ≡ Acts → is_begin rec.now ≡ true → Side.Subordinate ≡ side_at self.old.move.next from.now.node }
+        requires number { dropped_by (link_with self.old.move.next.arcs from.now.node) x y seq ≡ None }
+        ensures { Plays result self.old self.new (taking_on from.now (sight_value disposition) rec.now) }
     {
-        let disposition = self.node.disposition(tie, rec);
-        self.node.take(tie.addr().node, x, y, seq, rec);
+        self.node.take(from.node, x, y, seq, rec);
         match disposition {
-            Disposition::Acts => self.take_record(alloc, tie, rec),
+            Disposition::Acts => self.take_record(alloc, from, rec),
             Disposition::Nothing | Disposition::OutOfPhase => Ok(()),
         }
     }

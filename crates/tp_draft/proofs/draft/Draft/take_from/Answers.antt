@@ -1,35 +1,39 @@
-use Rattle.std.proofs.Common.{◌≡◌, ◌∙◌, ap, sym, subst, Option, Some}
-use Rattle.std.specs.Prelude.{IfSome}
+use Rattle.std.proofs.Common.{◌≡◌, ◌∙◌, ap, sym, Some, None}
 use Rattle.std.specs.Option.{option_map}
-use Rattle.tp_model.specs.Arcs.{find_arc}
-use Rattle.tp_model.specs.Node.{side_at}
-use Rattle.tp_tree.specs.Tie.{arc_of}
-use Rattle.tp_tree.specs.declared.tie.Tie.{Tie}
+use Rattle.tp_model.specs.Disposition.{sight_value}
+use Rattle.tp_model.specs.Node.{Move, followed}
+use Rattle.tp_model.specs.Arrivals.{do_arrival}
+use Rattle.tp_records.specs.declared.peer.PeerRecord.{PeerRecord}
 use Rattle.tp_node.specs.Node.{Node}
-use Rattle.tp_node.proofs.Arriving.{at_peer}
-use Rattle.tp_draft.proofs.Arriving.{taken_number}
+use Rattle.tp_draft.specs.Taking.{taking_on}
+use Rattle.tp_draft.proofs.Arriving.{sight_with, taken_number, taken_side, taken_there, taken_nowhere}
+use Rattle.tp_draft.proofs.Drafts.{perform_none, plays_same_at}
 use Rattle.tp_draft.proofs.draft.Draft.take_from.Goals as goal
-
-pub take_on-requires-clause-arc : goal.take_on-requires-clause-arc
-take_on-requires-clause-arc c =
-    let a = c.args.self.now in
-    let t = c.in-Some.tie in
-    let found : find_arc a.move.next.arcs c.args.from.node ≡ Some (arc_of t) = ap (λ (n : Node). find_arc n.digest.arcs c.args.from.node) (sym c.node.ensures) ∙ sym c.find-found.ensures.arc ∙ ap (option_map arc_of) c.in-Some.is in
-    let at : c.args.from.node ≡ (arc_of t).peer.node = at_peer a.move.next c.args.from.node (arc_of t) found in
-    ap (find_arc a.move.next.arcs) (sym at) ∙ found
 
 pub take_on-requires-clause-side : goal.take_on-requires-clause-side
 take_on-requires-clause-side c =
     let a = c.args.self.now in
-    let t = c.in-Some.tie in
-    let found : find_arc a.move.next.arcs c.args.from.node ≡ Some (arc_of t) = ap (λ (n : Node). find_arc n.digest.arcs c.args.from.node) (sym c.node.ensures) ∙ sym c.find-found.ensures.arc ∙ ap (option_map arc_of) c.in-Some.is in
-    let at : c.args.from.node ≡ (arc_of t).peer.node = at_peer a.move.next c.args.from.node (arc_of t) found in
-    let side : t.dialogue.side ≡ side_at c.node.result.now.digest c.args.from.node = subst (λ (o : Option Tie). IfSome o (λ (x : Tie). x.dialogue.side ≡ side_at c.node.result.now.digest c.args.from.node)) c.in-Some.is c.find-found.ensures.side in
-    side ∙ ap (λ (n : Node). side_at n.digest c.args.from.node) c.node.ensures ∙ ap (side_at a.move.next) at
+    let s = sight_value c.in-Some.disposition in
+    let sees : Some s ≡ sight_with a.who a.move.next c.args.from.node c.args.rec.now = sym (ap (option_map sight_value) c.in-Some.is) ∙ c.disposition_at.ensures ∙ ap (λ (n : Node). sight_with n.who n.digest c.args.from.node c.args.rec.now) c.node.ensures in
+    λ acts begins. taken_side a.who a.move.next c.args.from c.args.rec.now s sees acts begins
 
 pub take_on-requires-clause-number : goal.take_on-requires-clause-number
 take_on-requires-clause-number c =
     let a = c.args.self.now in
-    let t = c.in-Some.tie in
-    let found : find_arc a.move.next.arcs c.args.from.node ≡ Some (arc_of t) = ap (λ (n : Node). find_arc n.digest.arcs c.args.from.node) (sym c.node.ensures) ∙ sym c.find-found.ensures.arc ∙ ap (option_map arc_of) c.in-Some.is in
-    taken_number a.who a.move.next c.args.from c.args.x c.args.y c.args.seq c.args.rec.now (arc_of t) c.requires found
+    let s = sight_value c.in-Some.disposition in
+    let sees : Some s ≡ sight_with a.who a.move.next c.args.from.node c.args.rec.now = sym (ap (option_map sight_value) c.in-Some.is) ∙ c.disposition_at.ensures ∙ ap (λ (n : Node). sight_with n.who n.digest c.args.from.node c.args.rec.now) c.node.ensures in
+    taken_number a.who a.move.next c.args.from c.args.x c.args.y c.args.seq c.args.rec.now s c.requires sees
+
+pub returns-in-Some : goal.returns-in-Some
+returns-in-Some c =
+    let a = c.args.self.now in
+    let s = sight_value c.in-Some.disposition in
+    let r = PeerRecord.OnAssoc c.args.x c.args.y c.args.seq c.args.rec.now in
+    let sees : Some s ≡ sight_with a.who a.move.next c.args.from.node c.args.rec.now = sym (ap (option_map sight_value) c.in-Some.is) ∙ c.disposition_at.ensures ∙ ap (λ (n : Node). sight_with n.who n.digest c.args.from.node c.args.rec.now) c.node.ensures in
+    plays_same_at c.take_on.result a c.take_on.new.self (λ who. do_arrival who c.args.from r) (taking_on c.args.from s c.args.rec.now) (taken_there a.who a.move.next c.args.from c.args.x c.args.y c.args.seq c.args.rec.now s c.requires sees) c.take_on.ensures
+
+pub returns-in-None : goal.returns-in-None
+returns-in-None c =
+    let a = c.args.self.now in
+    let none : None ≡ sight_with a.who a.move.next c.args.from.node c.args.rec.now = sym (ap (option_map sight_value) c.in-None.is) ∙ c.disposition_at.ensures ∙ ap (λ (n : Node). sight_with n.who n.digest c.args.from.node c.args.rec.now) c.node.ensures in
+    sym (perform_none a) ∙ sym (ap (λ (m : Move). record a { move = followed a.move (λ _. m) }) (taken_nowhere a.who a.move.next c.args.from c.args.x c.args.y c.args.seq c.args.rec.now none))
