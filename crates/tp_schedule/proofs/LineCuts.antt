@@ -1,8 +1,10 @@
 -- The first line of bytes, by where their first line feed stands.
-use Rattle.std.proofs.Common.{◌≡◌, ◌≢◌, ℕ, zero, suc, ◌+◌, ◌<◌, ◌≤◌, ◌==◌, Bool, true, false, List, [], ◌∷◌, ◌++◌, length, get_or, take, drop, refl, ap, sym, ◌∙◌, arith, length-drop}
+use Rattle.std.proofs.Common.{◌≡◌, ◌≢◌, ℕ, zero, suc, ◌+◌, ◌<◌, ◌≤◌, ◌==◌, Bool, true, false, List, [], ◌∷◌, ◌++◌, length, get_or, take, drop, refl, ap, sym, ◌∙◌, arith, length-drop, eqb-true, Option, Some, None}
+use Rattle.std.specs.Prelude.{MatchOption}
 use Rattle.std.proofs.lemmas.List.{take-append-drop, get_or-drop}
 use Rattle.std.proofs.Math.Seq.{take-add}
 use Rattle.std.proofs.lemmas.Bool.Decides.{nat_tests}
+use Rattle.memchr.specs.Find.{IsFirstByte, is_byte}
 use Rattle.tp_model.specs.Transcript.{RawLine, raw_lines, before_first, without_return, content}
 use Rattle.tp_schedule.specs.AtHand.{no_feed}
 
@@ -93,6 +95,10 @@ none_at_all (b ∷ bs) none =
     let first : b ≢ 10 = none 0 (omega arith) in
     let rest : no_feed bs ≡ true = none_at_all bs (λ k below. none (suc k) (omega arith)) in
     grind (arith, nat_tests)
+
+pub feed_found : (bs : List ℕ) (r : Option ℕ) → IsFirstByte (is_byte 10) bs r → MatchOption r (no_feed bs ≡ true) (λ at. (at < length bs) × (no_feed (take at bs) ≡ true) × (get_or bs at 0 ≡ 10))
+feed_found bs None none = none_at_all bs (λ k below is. none k (omega arith) below (ap (is_byte 10) is))
+feed_found bs (Some at) found = (found.0.high, none_before bs at (λ k below is. found.0.before k (omega arith) below (ap (is_byte 10) is)), eqb-true _ _ found.1)
 
 pub none_joined : (v w : List ℕ) → no_feed v ≡ true → no_feed w ≡ true → no_feed (v ++ w) ≡ true
 none_joined [] w a b = b

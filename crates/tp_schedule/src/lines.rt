@@ -9,6 +9,7 @@ ghost use Rattle.tp_schedule.specs.LineCut.{Sought, IsCut};
 use crate::LinesFault;
 use crate::line_end::LineEnd;
 use crate::window::Window;
+use memchr::memchr;
 use std::marker::Model;
 use tp_outside::{Failed, Source};
 
@@ -231,13 +232,9 @@ fn line_len(line: &[u8]) -> usize
 }
 
 // How many bytes stand before the first line feed.
+#[tactic(auto, using(crate::proofs::LineCuts::feed_found))]
 fn find_feed(bytes: &[u8]) -> Option<usize>
     ensures { MatchOption result (no_feed bytes.now ≡ true) (λ at. (at < length bytes.now) × (no_feed (take at bytes.now) ≡ true) × (slice_index bytes.now at ≡ 10)) }
 {
-    for i in 0..bytes.len() {
-        if bytes[i] == b'\n' {
-            return Some(i);
-        }
-    }
-    None
+    memchr(b'\n', bytes)
 }
