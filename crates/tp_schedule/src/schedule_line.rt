@@ -4,7 +4,7 @@ ghost use Rattle.tp_names.specs.Writing.{Keeps};
 ghost use Rattle.tp_model.specs.Words.{words, decimal};
 ghost use Rattle.tp_model.specs.LineText.{request_words, action_words, line_words, line_text};
 
-use crate::word::{Word, write_alone, write_number, write_one, write_two, write_words};
+use crate::word::{Word, write_alone, write_number_between, write_one, write_two, write_words};
 use std::alloc::Global;
 use tp_model::{Action, Line, LineRequest};
 use tp_names::{NoMemory, Octets, Outcome, SiteName};
@@ -136,17 +136,17 @@ fn append_do(
     ensures err { OnErr result (Keeps out.old out.new) }
 {
     write_doer(alloc, node, out)?;
-    out.push(alloc, b' ')?;
     append_request(alloc, request, out)?;
     Ok(())
 }
 
+// The words before a request, with a space after them.
 fn write_doer(alloc: Global, node: u16, out: &mut Octets) -> Result<(), NoMemory>
-    ensures ok { OnOk result (out.new ≡ out.old ++ words (codes "do" ∷ decimal node ∷ [])) }
+    ensures ok { OnOk result (out.new ≡ (out.old ++ words (codes "do" ∷ decimal node ∷ [])) ++ 32 ∷ []) }
     ensures err { OnErr result (Keeps out.old out.new) }
 {
     write_alone(alloc, "do", out)?;
-    write_number(alloc, node, out)?;
+    write_number_between(alloc, node, out)?;
     Ok(())
 }
 

@@ -139,6 +139,19 @@ pub fn write_number(alloc: Global, n: u16, out: &mut Octets) -> Result<(), NoMem
     digits::write_behind(alloc, b' ', u64::from(n), out)
 }
 
+/// A number between two spaces.
+pub fn write_number_between(alloc: Global, n: u16, out: &mut Octets) -> Result<(), NoMemory>
+    ensures ok { OnOk result (out.new ≡ (out.old ++ (32 ∷ decimal n)) ++ 32 ∷ []) }
+    ensures err { OnErr result (Keeps out.old out.new) }
+{
+    if n < 10 {
+        return out.extend_from_slice(alloc, &[b' ', digits::digit(u64::from(n)), b' ']);
+    }
+    digits::write_behind(alloc, b' ', u64::from(n), out)?;
+    out.push(alloc, b' ')?;
+    Ok(())
+}
+
 /// Two numbers, each after a space.
 pub fn write_two_numbers(alloc: Global, m: u16, n: u16, out: &mut Octets) -> Result<(), NoMemory>
     ensures ok { OnOk result (out.new ≡ out.old ++ ((32 ∷ decimal m) ++ (32 ∷ decimal n))) }

@@ -1,5 +1,6 @@
 -- A Ready or a Done that acts, and is only noted on its branch.
 use Rattle.std.proofs.Common.{◌≡◌, ◌≤◌, ◌==◌, ℕ, Bool, true, false, ◌&&◌, ◌||◌, ◌++◌, Option, Some, None, List, [], ◌∷◌, refl, ap, sym, subst, ◌∙◌, arith, Bor}
+use Rattle.std.specs.Option.{option_map}
 use Rattle.std.specs.Prelude.{not, if◌then◌else◌}
 use Rattle.std.proofs.lemmas.Bool.Decides.{nat_tests}
 use Rattle.tp_names.specs.declared.identifiers.Addr.{Addr}
@@ -22,7 +23,7 @@ use Rattle.tp_model.specs.Arcs.{find_arc, link_from, link_with, performed}
 use Rattle.tp_model.specs.Transactions.{Row, Transaction, Turn, turn, find_row, put_row, with_branch, all_settled, all_done, tell_report, settle, complete_commit, count_branch, end_branch, takes, transacted, sight_of_tx, after}
 use Rattle.tp_model.specs.Recovery.{kept_after}
 use Rattle.tp_model.specs.Node.{Move, move, Passage, passage, Stays, passed, turned, transact, played, entered, seen, branches_of, remaining, is_leaving, is_superior, started_next}
-use Rattle.tp_model.specs.Arrivals.{refused_arrival, refused_on, do_arrival, take_record, sight_at, sight_of}
+use Rattle.tp_model.specs.Arrivals.{refused_arrival, refused_on, do_arrival, take_record, take_on, sight_at, sight_of}
 use Rattle.tp_model.specs.Events.{some_past_numbers}
 use Rattle.tp_commit.specs.Waiting.{waits_beside, owes_beside, with_branch_at, with_counted, with_ended}
 use Rattle.tp_node.specs.declared.event.NodeEvent.{NodeEvent}
@@ -31,7 +32,7 @@ use Rattle.tp_node.specs.Noted.{counted_in, ended_in}
 use Rattle.tp_node.proofs.Arriving.{at_peer}
 use Rattle.tp_node.proofs.Seen.{sight_seen}
 use Rattle.tp_site.specs.InPlace.{is_only_noted, is_acting, acts_at, told_of, noted_on, arrived_in_place, IsPlanned, with_record_taken}
-use Rattle.tp_draft.proofs.Arriving.{taken_number, taken_there, from_dropped}
+use Rattle.tp_draft.proofs.Arriving.{taken_number, from_dropped}
 use Rattle.tp_draft.proofs.Turns.{seen_again}
 use Rattle.tp_draft.proofs.Beginnings.{branches_seen}
 
@@ -261,6 +262,10 @@ taken_by who d a r s =
     let counted : Digest = with_record_taken a.peer.node r d in
     elim s as (λ _. Move) [ Acts ↦ take_record who a r counted | Nothing_happens ↦ move [] counted | Out_of_phase ↦ move [] counted ]
 
+-- what is taken on the arc that is found
+taken_on_arc : (who : Who) (d : Digest) (from : Addr) (x y : Mark) (q : ℕ) (r : DialogueRecord) (a : Arc) → find_arc d.arcs from.node ≡ Some a → do_arrival who from (PeerRecord.OnAssoc x y q r) d ≡ take_on who a r d
+taken_on_arc who d from x y q r a found = ap (λ (o : Option Arc). elim o as (λ _. Move) [ None ↦ move [] d | Some b ↦ take_on who b r d ]) found
+
 ready_arrives : (who : Who) (d : Digest) (from : Addr) (x y : Mark) (q : ℕ) (a : Arc) (c : Current) → find_arc d.arcs from.node ≡ Some a → d.current ≡ Some c → is_acting (sight_at who d a DialogueRecord.Ready) ≡ true
     → (is_active c.phase && (not c.asked || waits_beside c.branches from.node)) ≡ true
     → do_arrival who from (PeerRecord.OnAssoc x y q DialogueRecord.Ready) d ≡ move (told_of from.node DialogueRecord.Ready) (noted_on from.node DialogueRecord.Ready d)
@@ -270,7 +275,7 @@ ready_arrives who d from x y q a c found is acts test =
     let k : Digest = with_record_taken p DialogueRecord.Ready d in
     let sight : sight_of_tx (seen who k.arcs c) p DialogueRecord.Ready ≡ Acts =
     sight_kept who k.arcs d.arcs c p DialogueRecord.Ready ∙ ap (λ (n : ℕ). sight_of_tx (seen who d.arcs c) n DialogueRecord.Ready) at ∙ ready_acts who d a c is acts in
-    taken_there who d from x y q DialogueRecord.Ready a found
+    taken_on_arc who d from x y q DialogueRecord.Ready a found
     ∙ ap (taken_by who d a DialogueRecord.Ready) (acting_is (sight_at who d a DialogueRecord.Ready) acts)
     ∙ ap (λ (n : ℕ). transact who (TxEvent.Took n DialogueRecord.Ready) (with_record_taken n DialogueRecord.Ready d)) (sym at)
     ∙ ready_noted who p k c is sight test
@@ -285,7 +290,7 @@ done_arrives who d from x y q z a c found is acts test =
     let k : Digest = with_record_taken p (DialogueRecord.Done z) d in
     let sight : sight_of_tx (seen who k.arcs c) p (DialogueRecord.Done z) ≡ Acts =
     sight_kept who k.arcs d.arcs c p (DialogueRecord.Done z) ∙ ap (λ (n : ℕ). sight_of_tx (seen who d.arcs c) n (DialogueRecord.Done z)) at ∙ done_acts who d a c z is acts in
-    taken_there who d from x y q (DialogueRecord.Done z) a found
+    taken_on_arc who d from x y q (DialogueRecord.Done z) a found
     ∙ ap (taken_by who d a (DialogueRecord.Done z)) (acting_is (sight_at who d a (DialogueRecord.Done z)) acts)
     ∙ ap (λ (n : ℕ). transact who (TxEvent.Took n (DialogueRecord.Done z)) (with_record_taken n (DialogueRecord.Done z) d)) (sym at)
     ∙ done_noted who p z k c is sight test
@@ -379,7 +384,7 @@ taken_with who d from x y q r ok = go (find_arc d.arcs from.node) refl
         ap (λ (o : Option Arc). dropped_by (elim o as (λ _. Link) [ None ↦ Idle | Some a ↦ a.link ]) x y q) e
         ∙ sym (ap (λ (o : Option Arc). dropped_by (elim o as (λ _. Link) [ None ↦ Idle | Some a ↦ if is_addr a.peer from then a.link else Idle ]) x y q) e)
         ∙ on_assoc who d from x y q r ok
-    go (Some a) e = ap (λ (o : Option Arc). dropped_by (elim o as (λ _. Link) [ None ↦ Idle | Some b ↦ b.link ]) x y q) e ∙ taken_number who d from x y q r a ok e
+    go (Some a) e = taken_number who d from x y q r (sight_at who d a r) ok (sym (ap (option_map (λ (b : Arc). sight_at who d b r)) e))
 
 pub taken_rec : (who : Who) (d : Digest) (from : Addr) (z : PeerRecord) (x y : Mark) (q : ℕ) (r : DialogueRecord) → z ≡ PeerRecord.OnAssoc x y q r → refused_arrival who d from z ≡ None → dropped_by (link_with d.arcs from.node) x y q ≡ None
 taken_rec who d from z x y q r is ok = taken_with who d from x y q r (sym (ap (refused_arrival who d from) is) ∙ ok)

@@ -1,5 +1,5 @@
 -- A node that a site finds under its number.
-use Rattle.std.proofs.Common.{Box, ◌≡◌, ◌∙◌, ℕ, nat_eq, Bool, true, false, Option, Some, None, slice_get, refl, ap, sym, if◌then◌else◌}
+use Rattle.std.proofs.Common.{Box, ◌≡◌, ℕ, nat_eq, Bool, true, false, Option, Some, None, refl, ap, if◌then◌else◌}
 use Rattle.std.specs.Map.{lookup}
 use Rattle.std.specs.Option.{option_map}
 use Rattle.std.specs.declared.alloc.Global.{Global}
@@ -10,7 +10,7 @@ use Rattle.tp_model.specs.History.{state}
 use Rattle.tp_site.specs.Site.{Site, state_at}
 use Rattle.tp_node.specs.Node.{Node}
 use Rattle.tp_node.specs.State.{tree_in}
-use Rattle.tp_site.specs.Nodes.{Nodes, IsPlaced, has_node, who_at, node_at, find_node, digest_at, unknown_start}
+use Rattle.tp_site.specs.Nodes.{Nodes, has_node, who_at, node_at, find_node, digest_at, unknown_start}
 
 abbrev found_by : Nodes → ℕ → Option (Box Node Global) → Option Node
 found_by v n o = elim o as (λ _. Option Node) [
@@ -48,17 +48,6 @@ unfound_missing s n is = ap (λ (d : Digest). if is_no_node d then None else Som
 pub unfound_treeless : (v : Nodes) (n : ℕ) → None ≡ find_node v n → tree_in (digest_at v n) ≡ None
 unfolding started
 unfound_treeless v n is = ap tree_in (unfound v n is)
-
--- what is found at the place of a number is the node of that number
-pub placed_tree : (v : Nodes) (n i k : ℕ) (x : Box Node Global) → IsPlaced n v i → Some (k, x) ≡ slice_get v.nodes i → tree_in x.value.digest ≡ tree_in (digest_at v n)
-placed_tree v n i k x at is =
-    let same : x ≡ at.0 = let both : Some (k, x) ≡ Some (n, at.0) = is ∙ at.1 in cc (both) in
-    ap (λ (y : Box Node Global). tree_in y.value.digest) same
-    ∙ sym (ap (λ (o : Option (Box Node Global)). tree_in (elim o as (λ _. Digest) [ None ↦ started (unknown_start v) | Some y ↦ y.value.digest ])) at.2)
-
--- and there is one
-pub placed_some : (v : Nodes) (n i : ℕ) → IsPlaced n v i → None ≡ slice_get v.nodes i → ⊥
-placed_some v n i at none = let clash : None ≡ Some (n, at.0) = none ∙ at.1 in absurd (cc (clash))
 
 -- a number that none has is in no tree
 pub treeless : (v : Nodes) (n : ℕ) → false ≡ has_node v n → None ≡ tree_in (digest_at v n)

@@ -101,12 +101,7 @@ fn plan_request(node: &Node, request: &Request, outs: &mut Outs) -> Result<bool,
 }
 
 // Of that request, which is to begin a transaction with that peer.
-fn plan_begin(
-    node: &Node,
-    peer: u16,
-    request: &Request,
-    outs: &mut Outs,
-) -> Result<bool, NoMemory>
+fn plan_begin(node: &Node, peer: u16, request: &Request, outs: &mut Outs) -> Result<bool, NoMemory>
     requires { request.now ≡ Asks.BeginTransaction peer }
     ensures { IfOk result (λ planned. planned ≡ true → IsPlanned node.now (NodeEvent.Do request.entry) outs.new) }
 {
@@ -122,11 +117,7 @@ fn plan_begin(
 }
 
 /// Whether the event is one that is run on its node itself, and not on a draft; what it says stands there then.
-pub(crate) fn plan(
-    node: &Node,
-    event: &NodeEvent<'_>,
-    outs: &mut Outs,
-) -> Result<bool, NoMemory>
+pub(crate) fn plan(node: &Node, event: &NodeEvent<'_>, outs: &mut Outs) -> Result<bool, NoMemory>
     ensures { IfOk result (λ planned. planned ≡ true → IsPlanned node.now event.now outs.new) }
 {
     match event {

@@ -12,8 +12,8 @@ use tp_model::{LogWords, NodeNumbers, OutLine, PhaseWord, RecordFate, SentWords}
 use tp_names::{Aaid, NoMemory, Octets, Outcome, SiteName};
 use tp_records::Indication;
 use tp_schedule::word::{
-    Word, write_aaid, write_alone, write_number, write_one, write_outcome, write_site,
-    write_two_numbers, write_words,
+    Word, write_aaid, write_alone, write_number, write_number_between, write_one, write_outcome,
+    write_site, write_two_numbers, write_words,
 };
 
 /// Puts the line's text at the end of `out`, without an end. Without memory `out` stays as it was.
@@ -133,17 +133,17 @@ fn append_told(
     ensures err { OnErr result (Keeps out.old out.new) }
 {
     write_hearer(alloc, node, out)?;
-    out.push(alloc, b' ')?;
     write_told(alloc, indication, out)?;
     Ok(())
 }
 
+// The words before an indication, with a space after them.
 fn write_hearer(alloc: Global, node: u16, out: &mut Octets) -> Result<(), NoMemory>
-    ensures ok { OnOk result (out.new ≡ out.old ++ words (codes "tell" ∷ decimal node ∷ [])) }
+    ensures ok { OnOk result (out.new ≡ (out.old ++ words (codes "tell" ∷ decimal node ∷ [])) ++ 32 ∷ []) }
     ensures err { OnErr result (Keeps out.old out.new) }
 {
     write_alone(alloc, "tell", out)?;
-    write_number(alloc, node, out)?;
+    write_number_between(alloc, node, out)?;
     Ok(())
 }
 
