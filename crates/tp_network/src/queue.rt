@@ -7,8 +7,8 @@ use std::collections::VecDeque;
 use std::marker::Model;
 use tp_names::NoMemory;
 
-/// Numbers of frames, the oldest first: the newest one, or 0 where it left, after those before it. The caller has a number, and
-/// those that are not above it passed: they count no longer, and leave when others come or are asked for.
+/// Numbers of frames, the oldest first: the newest one, or 0 where it left, after those before it. Callers tell up to which
+/// number all have passed: those count no longer, and leave when others come or are asked for.
 #[derive(Drop)]
 pub(crate) struct Queue {
     older: VecDeque<u16>,
@@ -58,7 +58,8 @@ impl Queue {
         }
     }
 
-    /// One more number, after the others. So many alone are kept as once did not pass.
+    /// One more number, after the others. One that passed makes room for it, so a queue gets no longer than by those that
+    /// wait in it at one time.
     #[tactic(auto, using(crate::proofs::Queues::put_over, crate::proofs::Queues::put_behind, crate::proofs::Queues::left_behind))]
     pub(crate) fn push(&mut self, passed: usize, number: u16) -> Result<(), NoMemory>
         requires { passed < number }

@@ -1,5 +1,5 @@
-//! The numbers of the frames that wait to be handed over, by the nodes between which they were sent. Of a lane's numbers only
-//! those count that are above a number which the caller has: the others passed, and leave when the lane is next used.
+//! The numbers of the frames that wait to be handed over, by the nodes between which they were sent. Callers tell up to which
+//! number all have passed: of a lane's numbers those above it count.
 ghost use Rattle.std.specs.Prelude.{ℕ, ◌≡◌, ◌<◌, ◌++◌, ◌∷◌, [], true, cond, OnOk, OnErr, drop, length};
 ghost use Rattle.tp_network.specs.Waiting.{above, queue_at, is_pair, first_of, place_on};
 
