@@ -1,6 +1,6 @@
 -- The summaries after a change: which trees it names, and that it leaves the others alone.
 use Rattle.std.proofs.Common.{◌≡◌, ◌&&◌, ◌||◌, not, Bool, true, false, refl, ap, sym, ◌∙◌, arith, Option, Some, None}
-use Rattle.std.specs.Prelude.{cond, Result, Ok, Err, OnOk}
+use Rattle.std.specs.Prelude.{cond, Result, Ok, Err, OnErr, OnOk}
 use Rattle.tp_names.specs.declared.identifiers.Aaid.{Aaid}
 use Rattle.tp_names.specs.declared.outcome.Outcome.{Outcome}
 use Rattle.tp_names.specs.Same.{is_aaid}
@@ -103,3 +103,7 @@ changed_all t s p p1 p2 p3 one two three =
 pub then_ok : {A E : Type 0} (r : Result A E) {P Q : Type 0} → (P → Q) → OnOk r P → OnOk r Q
 then_ok (Ok v) f h = f h
 then_ok (Err e) f h = h
+
+pub then_err : {A E : Type 0} (r : Result A E) {P Q : Type 0} → (P → Q) → OnErr r P → OnErr r Q
+then_err (Ok v) f h = h
+then_err (Err e) f h = f h

@@ -1,10 +1,11 @@
 -- Lanes between nodes: their places, and what waits on them after one has changed or one has come.
-use Rattle.std.proofs.Common.{◌≡◌, ◌≤◌, ◌<◌, ◌+◌, ◌++◌, ◌==◌, ◌&&◌, ℕ, zero, suc, Bool, true, false, refl, ap, sym, ◌∙◌, arith, Option, Some, None, List, [], ◌∷◌, length, length-append, length-set, drop}
+use Rattle.std.proofs.Common.{◌≡◌, ◌≤◌, ◌<◌, ◌+◌, ◌++◌, ◌==◌, ◌&&◌, ℕ, zero, suc, Bool, true, false, refl, ap, sym, ◌∙◌, arith, Option, Some, None, List, [], ◌∷◌, length, length-append, length-set}
 use Rattle.std.specs.Prelude.{cond, slice_index_or, slice_set}
 use Rattle.std.specs.Map.{lookup}
 use Rattle.std.proofs.lemmas.Bool.Decides.{nat_tests}
-use Rattle.tp_network.specs.Waiting.{AreApart, is_lane, is_pair, place_in, place_on, queue_at}
+use Rattle.tp_network.specs.Waiting.{AreApart, above, is_lane, is_pair, place_in, place_on, queue_at}
 use Rattle.tp_network.specs.declared.waiting.Lane.{Lane}
+use Rattle.tp_network.proofs.Queues.{above_one}
 
 abbrev pub Places : Type 0
 Places = List ((ℕ × ℕ) × ℕ)
@@ -98,26 +99,35 @@ queue_set (l ∷ ls) a b d y (suc k) p h from to c e = go (is_lane a b l) refl (
 same_nodes : (a b c e : ℕ) → is_pair (a, b) (c, e) ≡ true → (a ≡ c) × (b ≡ e)
 same_nodes a b c e i = (grind (arith, nat_tests, i), grind (arith, nat_tests, i))
 
--- what waits between two nodes has changed, and nothing else
-pub queue_changed : (f : List ℕ → List ℕ) (ls : List Lane) (a b : ℕ) (d y : Lane) (k : ℕ) → place_on ls a b ≡ k → k < length ls → y.from ≡ (slice_index_or ls k d).from → y.to ≡ (slice_index_or ls k d).to
-    → y.queue ≡ f (slice_index_or ls k d).queue → (c e : ℕ) → queue_at (slice_set ls k y) c e ≡ cond (is_pair (a, b) (c, e)) (f (queue_at ls c e)) (queue_at ls c e)
-queue_changed f ls a b d y k p h from to is c e = queue_set ls a b d y k p h from to c e ∙ go (is_pair (a, b) (c, e)) refl
+-- what waits between two nodes, as `g` sees it, has changed, and nothing else
+pub queue_changed : (g f : List ℕ → List ℕ) (ls : List Lane) (a b : ℕ) (d y : Lane) (k : ℕ) → place_on ls a b ≡ k → k < length ls → y.from ≡ (slice_index_or ls k d).from → y.to ≡ (slice_index_or ls k d).to
+    → g y.queue ≡ f (g (slice_index_or ls k d).queue) → (c e : ℕ) → g (queue_at (slice_set ls k y) c e) ≡ cond (is_pair (a, b) (c, e)) (f (g (queue_at ls c e))) (g (queue_at ls c e))
+queue_changed g f ls a b d y k p h from to is c e = ap g (queue_set ls a b d y k p h from to c e) ∙ go (is_pair (a, b) (c, e)) refl
   where
-    go : (q : Bool) → is_pair (a, b) (c, e) ≡ q → cond q y.queue (queue_at ls c e) ≡ cond q (f (queue_at ls c e)) (queue_at ls c e)
+    go : (q : Bool) → is_pair (a, b) (c, e) ≡ q → g (cond q y.queue (queue_at ls c e)) ≡ cond q (f (g (queue_at ls c e))) (g (queue_at ls c e))
     go true i =
         let same = same_nodes a b c e i in
-        is ∙ ap f (sym (queue_found ls a b d k p h)) ∙ ap (λ (m : ℕ). f (queue_at ls m b)) same.0 ∙ ap (λ (m : ℕ). f (queue_at ls c m)) same.1
+        is ∙ ap (λ (ns : List ℕ). f (g ns)) (sym (queue_found ls a b d k p h)) ∙ ap (λ (m : ℕ). f (g (queue_at ls m b))) same.0 ∙ ap (λ (m : ℕ). f (g (queue_at ls c m))) same.1
     go false i = refl
 
--- nothing waits where there is no lane
-pub queue_empty : (f : List ℕ → List ℕ) (ls : List Lane) (a b : ℕ) → f [] ≡ [] → length ls ≤ place_on ls a b → (c e : ℕ) → queue_at ls c e ≡ cond (is_pair (a, b) (c, e)) (f (queue_at ls c e)) (queue_at ls c e)
-queue_empty f ls a b keeps h c e = go (is_pair (a, b) (c, e)) refl
+-- what waits between two nodes is the same to `g`, and so is all else
+pub queue_kept : (g : List ℕ → List ℕ) (ls : List Lane) (a b : ℕ) (d y : Lane) (k : ℕ) → place_on ls a b ≡ k → k < length ls → y.from ≡ (slice_index_or ls k d).from → y.to ≡ (slice_index_or ls k d).to
+    → g y.queue ≡ g (slice_index_or ls k d).queue → (c e : ℕ) → g (queue_at (slice_set ls k y) c e) ≡ g (queue_at ls c e)
+queue_kept g ls a b d y k p h from to is c e = queue_changed g (λ ns. ns) ls a b d y k p h from to is c e ∙ either (is_pair (a, b) (c, e))
   where
-    go : (q : Bool) → is_pair (a, b) (c, e) ≡ q → queue_at ls c e ≡ cond q (f (queue_at ls c e)) (queue_at ls c e)
+    either : (q : Bool) → cond q (g (queue_at ls c e)) (g (queue_at ls c e)) ≡ g (queue_at ls c e)
+    either true = refl
+    either false = refl
+
+-- nothing waits where there is no lane
+pub queue_empty : (g f : List ℕ → List ℕ) (ls : List Lane) (a b : ℕ) → f (g []) ≡ g [] → length ls ≤ place_on ls a b → (c e : ℕ) → g (queue_at ls c e) ≡ cond (is_pair (a, b) (c, e)) (f (g (queue_at ls c e))) (g (queue_at ls c e))
+queue_empty g f ls a b keeps h c e = go (is_pair (a, b) (c, e)) refl
+  where
+    go : (q : Bool) → is_pair (a, b) (c, e) ≡ q → g (queue_at ls c e) ≡ cond q (f (g (queue_at ls c e))) (g (queue_at ls c e))
     go true i =
         let same = same_nodes a b c e i in
         let none : queue_at ls c e ≡ [] = ap (λ (m : ℕ). queue_at ls m e) (sym same.0) ∙ ap (λ (m : ℕ). queue_at ls a m) (sym same.1) ∙ queue_none ls a b h in
-        none ∙ sym keeps ∙ ap f (sym none)
+        ap g none ∙ sym keeps ∙ ap (λ (ns : List ℕ). f (g ns)) (sym none)
     go false i = refl
 
 -- ---- a lane more
@@ -218,13 +228,13 @@ queue_new (l ∷ ls) x h a b = go (is_lane x.from x.to l) refl (is_lane a b l) r
         grind (arith, j, rest)
 
 -- the first number between two nodes
-pub queue_begun : (old new : List Lane) (a b n : ℕ) → length old ≤ place_on old a b → ((c e : ℕ) → queue_at new c e ≡ cond (is_pair (a, b) (c, e)) (n ∷ []) (queue_at old c e)) → (c e : ℕ)
-    → queue_at new c e ≡ cond (is_pair (a, b) (c, e)) (queue_at old c e ++ n ∷ []) (queue_at old c e)
-queue_begun old new a b n h at c e = at c e ∙ go (is_pair (a, b) (c, e)) refl
+pub queue_begun : (m : ℕ) (old new : List Lane) (a b n : ℕ) → m < n → length old ≤ place_on old a b → ((c e : ℕ) → queue_at new c e ≡ cond (is_pair (a, b) (c, e)) (n ∷ []) (queue_at old c e)) → (c e : ℕ)
+    → above m (queue_at new c e) ≡ cond (is_pair (a, b) (c, e)) (above m (queue_at old c e) ++ n ∷ []) (above m (queue_at old c e))
+queue_begun m old new a b n less h at c e = ap (above m) (at c e) ∙ go (is_pair (a, b) (c, e)) refl
   where
-    go : (q : Bool) → is_pair (a, b) (c, e) ≡ q → cond q (n ∷ []) (queue_at old c e) ≡ cond q (queue_at old c e ++ n ∷ []) (queue_at old c e)
+    go : (q : Bool) → is_pair (a, b) (c, e) ≡ q → above m (cond q (n ∷ []) (queue_at old c e)) ≡ cond q (above m (queue_at old c e) ++ n ∷ []) (above m (queue_at old c e))
     go true i =
         let same = same_nodes a b c e i in
-        let none : queue_at old c e ≡ [] = ap (λ (m : ℕ). queue_at old m e) (sym same.0) ∙ ap (λ (m : ℕ). queue_at old a m) (sym same.1) ∙ queue_none old a b h in
-        sym (ap (λ (l : List ℕ). l ++ n ∷ []) none)
+        let none : queue_at old c e ≡ [] = ap (λ (j : ℕ). queue_at old j e) (sym same.0) ∙ ap (λ (j : ℕ). queue_at old a j) (sym same.1) ∙ queue_none old a b h in
+        above_one m n less ∙ sym (ap (λ (l : List ℕ). above m l ++ n ∷ []) none)
     go false i = refl

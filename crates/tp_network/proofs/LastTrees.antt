@@ -1,5 +1,5 @@
 -- The summaries of which the last tree's stands beside the table.
-use Rattle.std.proofs.Common.{◌≡◌, Bool, true, false, refl, ap, sym, subst, ◌∙◌, Option, Some, None, List, ◌∷◌}
+use Rattle.std.proofs.Common.{◌≡◌, Bool, true, false, refl, ap, sym, subst, ◌∙◌, Option, Some, None, List}
 use Rattle.std.specs.Prelude.{cond}
 use Rattle.std.specs.Map.{lookup}
 use Rattle.tp_names.specs.declared.identifiers.Aaid.{Aaid}

@@ -2,6 +2,7 @@ mod Numbers
 mod Runs
 mod Oldest
 mod Waits
+mod Queues
 mod Lanes
 mod TreeTables
 mod Gathering

@@ -1,9 +1,8 @@
 -- Frames of a world: those in front that are handed over, a mark among them, and which is the oldest of all.
 use Rattle.std.proofs.Common.{◌≡◌, ◌≤◌, ◌<◌, ◌+◌, ◌-◌, ◌++◌, ℕ, zero, suc, Bool, true, false, refl, ap, sym, ◌∙◌, arith, Some, None, List, [], ◌∷◌, length, map}
 use Rattle.std.specs.Prelude.{slice_index_or, slice_set}
-use Rattle.std.proofs.lemmas.Bool.Decides.{nat_tests}
 use Rattle.tp_model.specs.World.{Frame as FrameValue, find_frame, mark_handed, oldest_from}
-use Rattle.tp_network.specs.Frames.{frame_of, leading, is_between}
+use Rattle.tp_network.specs.Frames.{frame_of, leading}
 use Rattle.tp_network.specs.declared.frames.Frame.{Frame}
 
 pub leading_most : (fs : List Frame) → leading fs ≤ length fs
@@ -35,10 +34,10 @@ oldest_at test (f ∷ fs) k d h t = go f.handed refl (oldest_at test fs (suc k) 
         let far : k + leading (f ∷ fs) ≡ k = omega (arith, none) in
         grind (arith, e, there, far)
 
--- the oldest of all is the oldest between its nodes
-pub oldest_pair : (fs : List Frame) (d : Frame) (a b : ℕ) → leading fs < length fs → (slice_index_or fs (leading fs) d).from.node ≡ a → (slice_index_or fs (leading fs) d).to.node ≡ b
-    → oldest_from 0 (is_between a b) (map frame_of fs) ≡ oldest_from 0 (λ f. true) (map frame_of fs)
-oldest_pair fs d a b h from to = oldest_at (is_between a b) fs 0 d h (grind (arith, nat_tests, from, to)) ∙ sym (oldest_at (λ f. true) fs 0 d h refl)
+-- of all it is the first one that is not handed over
+pub oldest_first : (fs : List Frame) → leading fs < length fs → oldest_from 0 (λ f. true) (map frame_of fs) ≡ Some (leading fs + 1)
+oldest_first [] h = absurd (omega arith)
+oldest_first (f ∷ fs) h = let far : suc (0 + leading (f ∷ fs)) ≡ leading (f ∷ fs) + 1 = omega arith in oldest_at (λ g. true) (f ∷ fs) 0 f h refl ∙ ap Some far
 
 oldest_none : (fs : List Frame) (k : ℕ) → length fs ≤ leading fs → oldest_from k (λ f. true) (map frame_of fs) ≡ None
 oldest_none [] k h = refl
@@ -83,6 +82,20 @@ mark_leads (f ∷ fs) (suc i) d = go f.handed refl (mark_leads fs i d)
         → leading (f ∷ fs) ≤ leading (f ∷ slice_set fs i (record (slice_index_or fs i d) { handed = true }))
     go true e more = grind (arith, e, more)
     go false e more = grind (arith, e)
+
+-- where all before it are handed over, it is one of those in front
+pub mark_past : (fs : List Frame) (i : ℕ) (d : Frame) → i ≤ leading fs → i < length fs → i + 1 ≤ leading (slice_set fs i (record (slice_index_or fs i d) { handed = true }))
+mark_past [] i d h k = absurd (omega (arith, k))
+mark_past (f ∷ fs) zero d h k = omega arith
+mark_past (f ∷ fs) (suc i) d h k = go f.handed refl (mark_past fs i d)
+  where
+    go : (b : Bool) → f.handed ≡ b → (i ≤ leading fs → i < length fs → i + 1 ≤ leading (slice_set fs i (record (slice_index_or fs i d) { handed = true })))
+        → suc i + 1 ≤ leading (f ∷ slice_set fs i (record (slice_index_or fs i d) { handed = true }))
+    go true e more =
+        let one_more : leading (f ∷ fs) ≡ suc (leading fs) = grind (arith, e) in
+        let rest = more (omega (arith, one_more, h)) (omega (arith, k)) in
+        grind (arith, e, rest)
+    go false e more = absurd (let none : leading (f ∷ fs) ≡ 0 = grind (arith, e) in omega (arith, none, h))
 
 -- ---- where the first one that is not handed over stands
 

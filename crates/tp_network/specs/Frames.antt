@@ -2,7 +2,7 @@
 use Rattle.std.specs.Prelude.{ℕ, suc, ◌≡◌, ◌≤◌, ◌==◌, ◌&&◌, Bool, Option, Some, None, List, [], ◌∷◌, map, length, if◌then◌else◌}
 use Rattle.tp_model.specs.World.{Frame as FrameValue, mark_handed}
 use Rattle.tp_network.specs.FrameRecord.{record_of}
-use Rattle.tp_network.specs.Waiting.{queue_at, waiting_from}
+use Rattle.tp_network.specs.Waiting.{above, queue_at, waiting_from}
 use Rattle.tp_network.specs.declared.fault.SendFault.{SendFault}
 use Rattle.tp_network.specs.declared.frames.Frame.{Frame}
 use Rattle.tp_network.specs.declared.frames.Frames.TheInside.{Inside}
@@ -22,12 +22,12 @@ leading (f ∷ fs) = if f.handed then suc (leading fs) else 0
 abbrev pub is_between : ℕ → ℕ → FrameValue → Bool
 is_between a b f = (f.from.node == a) && (f.to.node == b)
 
--- all before `first` were handed over, and that one was not; there are no more than have numbers; those that were not wait
--- between their nodes
+-- all before `first` were handed over, and that one was not; there are no more than have numbers; of the numbers that are kept
+-- between two nodes, those above `first` are those of the frames between them that were not handed over
 pub record AreNumbered (v : Inside) : Type 0 where
   pub first : v.first ≡ leading v.items.items
   pub most : length v.items.items ≤ 65535
-  pub waiting : (a b : ℕ) → queue_at v.waiting a b ≡ waiting_from 0 (is_between a b) (map frame_of v.items.items)
+  pub waiting : (a b : ℕ) → above v.first (queue_at v.waiting a b) ≡ waiting_from 0 (is_between a b) (map frame_of v.items.items)
 
 -- the frame of that number counts as handed over, where one is told
 abbrev pub handed_over : List FrameValue → Option ℕ → List FrameValue

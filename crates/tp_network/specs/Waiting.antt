@@ -1,5 +1,5 @@
 -- The numbers of the frames that wait to be handed over, by the nodes between which they were sent.
-use Rattle.std.specs.Prelude.{ℕ, suc, ◌≡◌, ◌<◌, ◌==◌, ◌&&◌, not, length, Bool, true, false, Option, Some, None, List, [], ◌∷◌}
+use Rattle.std.specs.Prelude.{ℕ, suc, ◌≡◌, ◌<◌, ◌==◌, ◌&&◌, not, length, nat_lt, filter, Bool, true, false, Option, Some, None, List, [], ◌∷◌}
 use Rattle.std.specs.Map.{lookup}
 use Rattle.tp_model.specs.World.{Frame}
 use Rattle.tp_network.specs.declared.waiting.Lane.{Lane}
@@ -41,6 +41,10 @@ pub record AreLanes (v : Inside) : Type 0 where
 abbrev pub first_of : List ℕ → Option ℕ
 first_of [] = None
 first_of (n ∷ ns) = Some n
+
+-- those above a number
+abbrev pub above : ℕ → List ℕ → List ℕ
+above m ns = filter (nat_lt m) ns
 
 -- ---- of a world's frames
 

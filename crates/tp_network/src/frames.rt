@@ -24,8 +24,8 @@ pub struct Frame {
     pub handed: bool,
 }
 
-/// All frames that were ever sent, in order; their numbers begin with 1. All before `first` were handed over, and the
-/// numbers of those that were not are `waiting`.
+/// All frames that were ever sent, in order; their numbers begin with 1. All before `first` were handed over, so their
+/// numbers are not above it, and of the numbers in `waiting` those above it are of frames that were not.
 #[derive(Drop)]
 pub struct Frames {
     items: Vec<Frame>,
@@ -58,10 +58,11 @@ fn first_unhanded(frames: &[Frame], from: usize) -> usize
 }
 
 // The frame at that place counts as handed over, where there is one.
-#[tactic(auto, using(crate::proofs::Oldest::mark_there, crate::proofs::Oldest::mark_leads))]
+#[tactic(auto, using(crate::proofs::Oldest::mark_there, crate::proofs::Oldest::mark_leads, crate::proofs::Oldest::mark_past))]
 fn mark_at(frames: &mut [Frame], place: usize)
     ensures marked { map frame_of frames.new ≡ mark_handed (map frame_of frames.old) (place + 1) }
     ensures leads { leading frames.old ≤ leading frames.new }
+    ensures past { place ≤ leading frames.old → place < length frames.old → place + 1 ≤ leading frames.new }
 {
     if place < frames.len() {
         frames[place].handed = true;
@@ -123,7 +124,7 @@ impl Frames {
     {
         make_room(&mut self.items)?;
         self.waiting
-            .add(alloc, frame.from.node, frame.to.node, number)?;
+            .add(alloc, self.first, frame.from.node, frame.to.node, number)?;
         self.items.push_reserved(frame);
         Ok(())
     }
@@ -160,7 +161,7 @@ impl Frames {
         ensures number { result ≡ oldest_from 0 (is_between from to) self.old }
         ensures frames { self.new ≡ handed_over self.old result }
     {
-        match self.waiting.take(from, to) {
+        match self.waiting.take(self.first, from, to) {
             None => None,
             Some(number) => {
                 mark_at(self.items.as_mut_slice(), number as usize - 1);
@@ -171,16 +172,17 @@ impl Frames {
     }
 
     /// The oldest frame that is not handed over counts as handed over from now on: its number.
-    #[tactic(auto, using(crate::proofs::Oldest::oldest_missing))]
+    #[tactic(auto, using(crate::proofs::Oldest::oldest_missing, crate::proofs::Oldest::oldest_first))]
     pub fn hand_oldest(&mut self) -> Option<u16>
         ensures number { result ≡ oldest_from 0 (λ f. true) self.old }
         ensures frames { self.new ≡ handed_over self.old result }
     {
-        if self.first >= self.items.len() {
+        let place = self.first;
+        if place >= self.items.len() {
             return None;
         }
-        let frame = &self.items[self.first];
-        let (from, to) = (frame.from.node, frame.to.node);
-        self.hand_between(from, to)
+        mark_at(self.items.as_mut_slice(), place);
+        self.first = first_unhanded(self.items.as_slice(), place + 1);
+        Some(place as u16 + 1)
     }
 }

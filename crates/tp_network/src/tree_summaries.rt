@@ -1,5 +1,5 @@
 //! The summaries that one node has in trees.
-ghost use Rattle.std.specs.Prelude.{◌≡◌, ◌&&◌, not, cond, IfOk, OnOk};
+ghost use Rattle.std.specs.Prelude.{◌≡◌, ◌&&◌, false, not, cond, IfOk, OnOk};
 ghost use Rattle.tp_names.specs.declared.identifiers.Aaid.{Aaid as AaidValue};
 ghost use Rattle.tp_names.specs.Same.{is_aaid};
 ghost use Rattle.tp_network.specs.TreeSummary.{is_in, is_that, no_summary, same_tree, stood_in, summary_after, tree_logged};
@@ -58,19 +58,20 @@ impl TreeSummaries {
         summary_kept(&self.summaries, tree)
     }
 
-    // The summary in that tree after an entry, where another tree was changed last.
+    // The summary in that tree, which is told, after an entry, where another tree was changed last.
     fn change_other(
         &mut self,
         tree: &Aaid,
+        summary: TreeSummary,
         is_before: bool,
         is_after: bool,
         change: &TreeChange,
     ) -> Result<(), NoMemory>
+        requires summary { summary ≡ summary_at self.old tree.now }
         requires before { is_in tree.now change.now.before ≡ is_before }
         requires after { is_in tree.now change.now.after ≡ is_after }
         ensures { OnOk result ((t : AaidValue) → summary_at self.new t ≡ cond (is_aaid t tree.now) (summary_after t change.now (summary_at self.old t)) (summary_at self.old t)) }
     {
-        let summary = self.summary(tree);
         keep(&mut self.summaries, &self.last, self.in_last)?;
         self.last = Some(*tree);
         self.in_last = summary.after_in(tree, is_before, is_after, change);
@@ -91,7 +92,8 @@ impl TreeSummaries {
         ensures { OnOk result ((t : AaidValue) → summary_at self.new t ≡ cond (is_aaid t tree.now) (summary_after t change.now (summary_at self.old t)) (summary_at self.old t)) }
     {
         if !is_that(tree, &self.last) {
-            return self.change_other(tree, is_before, is_after, change);
+            let summary = summary_kept(&self.summaries, tree);
+            return self.change_other(tree, summary, is_before, is_after, change);
         }
         self.in_last = self.in_last.after_in(tree, is_before, is_after, change);
         Ok(())
@@ -113,6 +115,17 @@ impl TreeSummaries {
         }
     }
 
+    // The summary in the tree after an entry, which was not the tree before it.
+    fn change_entered(&mut self, change: &TreeChange) -> Result<(), NoMemory>
+        requires { same_tree change.now.before change.now.after ≡ false }
+        ensures { OnOk result ((t : AaidValue) → summary_at self.new t ≡ cond (is_in t change.now.after && not (is_in t change.now.before)) (summary_after t change.now (summary_at self.old t)) (summary_at self.old t)) }
+    {
+        match &change.after {
+            Some(after) => self.change_in(&after.aaid, false, true, change),
+            None => Ok(()),
+        }
+    }
+
     // The summary in the tree after an entry, unless that was the tree before it.
     fn change_after(&mut self, stays: bool, change: &TreeChange) -> Result<(), NoMemory>
         requires { same_tree change.now.before change.now.after ≡ stays }
@@ -121,10 +134,7 @@ impl TreeSummaries {
         if stays {
             return Ok(());
         }
-        match &change.after {
-            Some(after) => self.change_in(&after.aaid, false, true, change),
-            None => Ok(()),
-        }
+        self.change_entered(change)
     }
 
     // The summary in that tree after an entry, unless it is the tree before the entry or after it.
@@ -141,7 +151,7 @@ impl TreeSummaries {
     fn change_logged(&mut self, change: &TreeChange) -> Result<(), NoMemory>
         ensures { OnOk result ((t : AaidValue) → summary_at self.new t ≡ cond (is_that t (tree_logged change.now.rec) && not (stood_in t change.now)) (summary_after t change.now (summary_at self.old t)) (summary_at self.old t)) }
     {
-        match &tree_logged(&change.rec) {
+        match tree_logged(&change.rec) {
             Some(tree) => self.change_once(tree, change),
             None => Ok(()),
         }

@@ -1,5 +1,6 @@
 //! What a node did in a tree, and how an entry of its history changes that.
 ghost use Rattle.std.specs.Prelude.{◌≡◌};
+ghost use Rattle.std.specs.Option.{option_copied};
 ghost use Rattle.tp_names.specs.declared.identifiers.Aaid.{Aaid as AaidValue};
 ghost use Rattle.tp_network.specs.TreeSummary.{is_in, phase_in, is_commit_of, decision_in, tree_logged, stood_in, goes_on, has_rolled, no_summary, summary_after, told_by_summary, stays_in};
 
@@ -73,11 +74,11 @@ fn decision_in(tree: &Aaid, rec: &Option<LogWords>) -> Option<Outcome>
 }
 
 /// The tree whose commitment, or decision, is logged.
-pub(crate) fn tree_logged(rec: &Option<LogWords>) -> Option<Aaid>
-    ensures { result ≡ tree_logged rec.now }
+pub(crate) fn tree_logged(rec: &Option<LogWords>) -> Option<&Aaid>
+    ensures { option_copied result ≡ tree_logged rec.now }
 {
     match rec {
-        Some(LogWords::Commit { key, .. } | LogWords::Heuristic { key, .. }) => Some(key.aaid),
+        Some(LogWords::Commit { key, .. } | LogWords::Heuristic { key, .. }) => Some(&key.aaid),
         _ => None,
     }
 }

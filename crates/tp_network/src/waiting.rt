@@ -1,6 +1,7 @@
-//! The numbers of the frames that wait to be handed over, by the nodes between which they were sent.
-ghost use Rattle.std.specs.Prelude.{ℕ, ◌≡◌, ◌++◌, ◌∷◌, [], true, cond, OnOk, OnErr, drop, length};
-ghost use Rattle.tp_network.specs.Waiting.{queue_at, is_pair, first_of, place_on};
+//! The numbers of the frames that wait to be handed over, by the nodes between which they were sent. Callers tell up to which
+//! number all have passed: of a lane's numbers those above it count.
+ghost use Rattle.std.specs.Prelude.{ℕ, ◌≡◌, ◌<◌, ◌++◌, ◌∷◌, [], true, cond, OnOk, OnErr, drop, length};
+ghost use Rattle.tp_network.specs.Waiting.{above, queue_at, is_pair, first_of, place_on};
 
 use crate::queue::Queue;
 use std::alloc::Global;
@@ -101,7 +102,7 @@ impl Waiting {
         ensures ok { OnOk result ((a b : ℕ) → queue_at self.new a b ≡ cond (is_pair (from, to) (a, b)) (number ∷ []) (queue_at self.old a b)) }
         ensures err { OnErr result (self.new ≡ self.old) }
     {
-        let queue = Queue::of(alloc, number)?;
+        let queue = Queue::of(alloc, number);
         let place = self.lanes.len();
         self.lanes.reserve(1)?;
         self.places.insert((from, to), place)?;
@@ -110,35 +111,37 @@ impl Waiting {
         Ok(())
     }
 
-    /// One more number waits between these two nodes, after the others.
+    /// One more number, above those that passed, waits between these two nodes, after the others.
     pub(crate) fn add(
         &mut self,
         alloc: Global,
+        passed: usize,
         from: u16,
         to: u16,
         number: u16,
     ) -> Result<(), NoMemory>
-        ensures ok { OnOk result ((a b : ℕ) → queue_at self.new a b ≡ cond (is_pair (from, to) (a, b)) (queue_at self.old a b ++ number ∷ []) (queue_at self.old a b)) }
-        ensures err { OnErr result ((a b : ℕ) → queue_at self.new a b ≡ queue_at self.old a b) }
+        requires { passed < number }
+        ensures ok { OnOk result ((a b : ℕ) → above passed (queue_at self.new a b) ≡ cond (is_pair (from, to) (a, b)) (above passed (queue_at self.old a b) ++ number ∷ []) (above passed (queue_at self.old a b))) }
+        ensures err { OnErr result ((a b : ℕ) → above passed (queue_at self.new a b) ≡ above passed (queue_at self.old a b)) }
     {
         let place = self.place(from, to);
         if place >= self.lanes.len() {
             return self.start(alloc, from, to, number);
         }
         self.last = place;
-        self.lanes[place].queue.push(number)
+        self.lanes[place].queue.push(passed, number)
     }
 
-    /// The oldest number between these two nodes waits no longer.
-    pub(crate) fn take(&mut self, from: u16, to: u16) -> Option<u16>
-        ensures number { result ≡ first_of (queue_at self.old from to) }
-        ensures rest { (a b : ℕ) → queue_at self.new a b ≡ cond (is_pair (from, to) (a, b)) (drop 1 (queue_at self.old a b)) (queue_at self.old a b) }
+    /// The oldest number between these two nodes that did not pass waits no longer.
+    pub(crate) fn take(&mut self, passed: usize, from: u16, to: u16) -> Option<u16>
+        ensures number { result ≡ first_of (above passed (queue_at self.old from to)) }
+        ensures rest { (a b : ℕ) → above passed (queue_at self.new a b) ≡ cond (is_pair (from, to) (a, b)) (drop 1 (above passed (queue_at self.old a b))) (above passed (queue_at self.old a b)) }
     {
         let place = self.place(from, to);
         if place >= self.lanes.len() {
             return None;
         }
         self.last = place;
-        self.lanes[place].queue.pop()
+        self.lanes[place].queue.pop(passed)
     }
 }

@@ -18,7 +18,7 @@ use tp_model::{Line, OutLines, Why};
 use tp_names::{NoMemory, Octets};
 use tp_records::Member;
 use tp_schedule::{LineFault, read_line_into, write_line};
-use tp_transcript::write_out;
+use tp_transcript::append_out;
 use tp_world::WorldFault;
 
 /// Puts the text of these lines, each with its end, at the end of `out`. Without memory `out` stays as it was.
@@ -40,7 +40,7 @@ fn append_texts(alloc: Global, lines: &OutLines, out: &mut Octets) -> Result<(),
     ensures err { OnErr result (Keeps out.old out.new) }
 {
     for line in lines.as_slice() {
-        write_out(alloc, line, out)?;
+        append_out(alloc, line, out)?;
         out.push(alloc, b'\n')?;
     }
     Ok(())

@@ -1,11 +1,12 @@
--- That the kit writes numbers as the definitions say.
+-- That the kit writes numbers and octets as the definitions say.
 use Rattle.std.proofs.Common.{◌≡◌, ℕ, zero, suc, ◌+◌, ◌*◌, ◌/◌, ◌%◌, ◌^◌, ◌<◌, ◌≤◌, ◌==◌, Bool, true, List, [], ◌∷◌, ◌++◌, slice_index, refl, ap, sym, ◌∙◌, arith, eqb-true}
 use Rattle.std.proofs.lemmas.Bool.{agree_below_at}
 use Rattle.std.proofs.lemmas.Bool.Decides.{nat_tests}
 use Rattle.std.proofs.lemmas.Fmt.{PrependsLastDigit, decimal_from_prepends, length-decimal-le_succ}
 use Rattle.std.proofs.lemmas.List.{append-nil}
 use Rattle.std.specs.Fmt.{decimal as std_decimal}
-use Rattle.tp_model.specs.Words.{digits_before, decimal}
+use Rattle.hex.specs.Hex.{encode_lower, encode_with, lower_digits}
+use Rattle.tp_model.specs.Words.{digits_before, decimal, hex, hex_digit}
 use Rattle.tp_schedule.specs.declared.digits.TheConstants.{PAIRS}
 
 -- the same with one more for the first number, which is the count of digits at most
@@ -70,3 +71,17 @@ pair_tens p small = eqb-true _ _ (agree_below_at tens_agree (λ _. true) 100 p r
 
 pub pair_ones : (p : ℕ) → p < 100 → slice_index PAIRS (p * 2 + 1) ≡ 48 + p % 10
 pair_ones p small = eqb-true _ _ (agree_below_at ones_agree (λ _. true) 100 p refl small)
+
+-- ---- octets
+
+abbrev digits_agree : ℕ → Bool
+digits_agree d = slice_index lower_digits d == hex_digit d
+
+digit_same : (d : ℕ) → d < 16 → slice_index lower_digits d ≡ hex_digit d
+digit_same d small = eqb-true _ _ (agree_below_at digits_agree (λ _. true) 16 d refl small)
+
+pub hex_octet : (b : ℕ) → b < 256 → encode_lower (b ∷ []) ≡ hex (b ∷ [])
+unfolding encode_with
+hex_octet b small =
+    ap (λ (d : ℕ). d ∷ slice_index lower_digits (b % 16) ∷ []) (digit_same (b / 16) (omega (arith, small)))
+    ∙ ap (λ (d : ℕ). hex_digit (b / 16) ∷ d ∷ []) (digit_same (b % 16) (omega arith))

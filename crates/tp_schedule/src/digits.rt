@@ -1,7 +1,7 @@
 //! Numbers and octets as digits, and letters for units.
 ghost use Rattle.std.specs.Prelude.{◌≡◌, ◌<◌, ◌≤◌, ◌+◌, ◌/◌, ◌%◌, ◌++◌, ◌∷◌, [], OnErr, OnOk};
 ghost use Rattle.tp_names.specs.Writing.{Keeps};
-ghost use Rattle.tp_model.specs.Words.{decimal, hex, hex_digit, octets_word, mark_word, letters_of, units_word};
+ghost use Rattle.tp_model.specs.Words.{decimal, hex, octets_word, mark_word, letters_of, units_word};
 ghost use Rattle.tp_model.specs.OutText.{numbers_word};
 
 use itoa::Buffer;
@@ -113,20 +113,15 @@ fn write_four_digits(alloc: Global, mark: u8, n: u64, out: &mut Octets) -> Resul
     out.extend_from_slice(alloc, &[mark, thousands, hundreds, tens, ones])
 }
 
-// The digit of a number below sixteen.
-fn hex_digit(n: u8) -> u8
-    requires { n < 16 }
-    ensures { result ≡ hex_digit n }
-{
-    if n < 10 { b'0' + n } else { b'a' - 10 + n }
-}
-
 /// Two digits for an octet.
+#[tactic(auto, using(crate::proofs::KitText::hex_octet))]
 pub(crate) fn write_octet(alloc: Global, octet: u8, out: &mut Octets) -> Result<(), NoMemory>
     ensures ok { OnOk result (out.new ≡ out.old ++ hex (octet ∷ [])) }
     ensures err { OnErr result (Keeps out.old out.new) }
 {
-    out.extend_from_slice(alloc, &[hex_digit(octet / 16), hex_digit(octet % 16)])
+    let mut digits = [0; 2];
+    hex::encode_to_slice([octet], &mut digits).unwrap();
+    out.extend_from_slice(alloc, &digits)
 }
 
 /// Two digits for each octet.

@@ -29,8 +29,8 @@ pub fn write_out(alloc: Global, o: &OutLine, out: &mut Octets) -> Result<(), NoM
     written
 }
 
-#[inline(always)]
-fn append_out(alloc: Global, o: &OutLine, out: &mut Octets) -> Result<(), NoMemory>
+/// Puts the line's text at the end of `out`, without an end. Without memory a part of it may stand there.
+pub fn append_out(alloc: Global, o: &OutLine, out: &mut Octets) -> Result<(), NoMemory>
     ensures ok { OnOk result (out.new ≡ out.old ++ out_text o.now) }
     ensures err { OnErr result (Keeps out.old out.new) }
 {

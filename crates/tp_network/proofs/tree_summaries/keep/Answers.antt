@@ -1,4 +1,4 @@
-use Rattle.std.proofs.Common.{◌≡◌, ◌∙◌, refl, ap, sym, Option, Some}
+use Rattle.std.proofs.Common.{◌∙◌, refl, ap, sym, Option, Some}
 use Rattle.tp_names.specs.declared.identifiers.Aaid.{Aaid}
 use Rattle.tp_network.specs.TreeSummary.{no_summary}
 use Rattle.tp_network.specs.TreeSummaries.{summary_at, with_last}

@@ -19,7 +19,9 @@ invariant_of-self-in-Some c =
     let items = with_items_is v.items c.mark_at.new.frames (keeps ∙ sym v.items.ok.0) in
     numbered_handed v _ c.args.from c.args.to (Some n) c.self.invariant c.in-Some.ensures.number
     (ap (λ (fs : List Frame). map frame_of fs) items ∙ c.mark_at.ensures.marked ∙ ap (λ (fs : List Frame). mark_handed (map frame_of fs) (n - 1 + 1)) c.as_mut_slice.ensures.value ∙ ap (mark_handed (map frame_of v.items.items)) number)
-    (c.first_unhanded-self-inside.ensures ∙ ap leading c.as_slice.ensures.value) (ap (λ (fs : List Frame). length fs) items ∙ keeps) c.in-Some.ensures.rest
+    (c.first_unhanded-self-inside.ensures ∙ ap leading c.as_slice.ensures.value)
+    (let were = ap leading c.as_mut_slice.ensures.value in let are = ap leading items in let leads = c.mark_at.ensures.leads in omega (arith, were, are, leads))
+    (ap (λ (fs : List Frame). length fs) items ∙ keeps) c.in-Some.ensures.rest
 
 pub returns-in-None-clause-number : goal.returns-in-None-clause-number
 returns-in-None-clause-number c = c.in-None.ensures.number ∙ first_between c.self.inside c.self.invariant c.args.from c.args.to ∙ ap (λ (fs : List FrameValue). oldest_from 0 (is_between c.args.from c.args.to) fs) c.self.view_is

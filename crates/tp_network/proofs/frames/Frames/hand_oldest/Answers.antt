@@ -1,20 +1,24 @@
-use Rattle.std.proofs.Common.{◌≡◌, ◌<◌, ap, sym, ◌∙◌, arith, ℕ, true, List, length, rules}
-use Rattle.std.specs.Prelude.{slice_index_or}
-use Rattle.tp_model.specs.World.{Frame as FrameValue, oldest_from}
-use Rattle.tp_network.specs.Frames.{is_between, leading}
+use Rattle.std.proofs.Common.{◌≡◌, ◌<◌, ◌+◌, ap, sym, ◌∙◌, arith, List, length, map, refl, rules}
+use Rattle.std.proofs.lemmas.List.{with_items_is}
+use Rattle.tp_model.specs.World.{mark_handed}
+use Rattle.tp_network.specs.Frames.{frame_of, leading}
 use Rattle.tp_network.specs.declared.frames.Frame.{Frame}
-use Rattle.tp_network.proofs.Oldest.{oldest_pair}
+use Rattle.tp_network.proofs.Waits.{numbered_first}
 use Rattle.tp_network.proofs.frames.Frames.hand_oldest.Goals as goal
 
-pub returns-clause-number : goal.returns-clause-number
-returns-clause-number c =
+pub invariant_of-self : goal.invariant_of-self
+invariant_of-self c =
     let v = c.self.inside in
-    let fs = v.items.items in
-    let x = c.index-frame.result.now in
-    let within : v.first < length fs = first_of (search rules, grind (arith, c.if-self-len.false)) in
-    let less : leading fs < length fs = omega (arith, within, c.self.invariant.first) in
-    let at : slice_index_or fs (leading fs) x ≡ x = ap (λ (k : ℕ). slice_index_or fs k x) (sym c.self.invariant.first) ∙ sym c.index-frame.ensures in
-    c.hand_between.ensures.number
-    ∙ ap (λ (l : List FrameValue). oldest_from 0 (is_between x.from.node x.to.node) l) (sym c.self.view_is)
-    ∙ oldest_pair fs x x.from.node x.to.node less (ap (λ (f : Frame). f.from.node) at) (ap (λ (f : Frame). f.to.node) at)
-    ∙ ap (λ (l : List FrameValue). oldest_from 0 (λ f. true) l) c.self.view_is
+    let within : v.first < length v.items.items = first_of (search rules, grind (arith, c.if-place-len.false)) in
+    let keeps : length c.mark_at.new.frames ≡ length v.items.items = c.mark_at.auto.frames ∙ ap (λ (fs : List Frame). length fs) c.as_mut_slice.ensures.value in
+    let items = with_items_is v.items c.mark_at.new.frames (keeps ∙ sym v.items.ok.0) in
+    numbered_first v _ c.self.invariant
+    (ap (λ (fs : List Frame). map frame_of fs) items ∙ c.mark_at.ensures.marked ∙ ap (λ (fs : List Frame). mark_handed (map frame_of fs) (v.first + 1)) c.as_mut_slice.ensures.value)
+    (c.first_unhanded-self-inside.ensures ∙ ap leading c.as_slice.ensures.value)
+    (let were = ap leading c.as_mut_slice.ensures.value in
+    let many = ap (λ (fs : List Frame). length fs) c.as_mut_slice.ensures.value in
+    let are = ap leading items in
+    let front = c.self.invariant.first in
+    let past = c.mark_at.ensures.past (omega (arith, were, front)) (omega (arith, many, within)) in
+    omega (arith, are, past))
+    (ap (λ (fs : List Frame). length fs) items ∙ keeps) (λ a b. refl)

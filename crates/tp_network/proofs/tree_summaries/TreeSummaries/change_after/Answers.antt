@@ -1,11 +1,8 @@
-use Rattle.std.proofs.Common.{◌≡◌, ◌∙◌, Bool, true, false, Option, ap, sym, arith}
-use Rattle.std.specs.Prelude.{◌&&◌, not, cond}
-use Rattle.tp_names.specs.declared.identifiers.Aaid.{Aaid}
-use Rattle.tp_names.proofs.Sames.{aaid_self}
-use Rattle.tp_node.specs.declared.state.NodeTree.{NodeTree}
-use Rattle.tp_network.specs.TreeSummary.{is_in, same_tree, summary_after}
+use Rattle.std.proofs.Common.{◌≡◌, Bool, true, ap, sym, arith}
+use Rattle.std.specs.Prelude.{cond}
+use Rattle.tp_network.specs.TreeSummary.{same_tree, summary_after}
 use Rattle.tp_network.specs.TreeSummaries.{summary_at}
-use Rattle.tp_network.proofs.Changes.{left_behind, once, stayed, then_ok}
+use Rattle.tp_network.proofs.Changes.{stayed}
 use Rattle.tp_network.proofs.tree_summaries.TreeSummaries.change_after.Goals as goal
 
 pub returns-then-stays : goal.returns-then-stays
@@ -14,22 +11,3 @@ returns-then-stays c = λ t.
     let same : same_tree s.before s.after ≡ true = grind (arith, c.requires, c.if-stays.true) in
     ap (λ (b : Bool). cond b (summary_after t s (summary_at c.args.self.now t)) (summary_at c.args.self.now t)) (sym (stayed t s.before s.after same))
 
-pub change_in-requires-clause-before : goal.change_in-requires-clause-before
-change_in-requires-clause-before c =
-    let s = c.args.change.now in
-    left_behind s.before c.in-Some.after (ap (λ (o : Option NodeTree). same_tree s.before o) (sym c.in-Some.is) ∙ c.requires ∙ c.if-stays.false)
-
-pub change_in-requires-clause-after : goal.change_in-requires-clause-after
-change_in-requires-clause-after c = ap (λ (o : Option NodeTree). is_in c.in-Some.after.aaid o) c.in-Some.is ∙ aaid_self c.in-Some.after.aaid
-
-pub returns-in-Some : goal.returns-in-Some
-returns-in-Some c =
-    let s = c.args.change.now in
-    let tree = c.in-Some.after in
-    let new : is_in tree.aaid s.before ≡ false = left_behind s.before tree (ap (λ (o : Option NodeTree). same_tree s.before o) (sym c.in-Some.is) ∙ c.requires ∙ c.if-stays.false) in
-    then_ok c.change_in.result
-    (λ h t.
-    h t
-    ∙ ap (λ (b : Bool). cond b (summary_after t s (summary_at c.args.self.now t)) (summary_at c.args.self.now t))
-    (sym (ap (λ (o : Option NodeTree). is_in t o && not (is_in t s.before)) c.in-Some.is ∙ once (λ (v : Aaid). is_in v s.before) t tree.aaid new)))
-    c.change_in.ensures

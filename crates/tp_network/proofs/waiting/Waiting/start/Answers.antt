@@ -12,7 +12,7 @@ invariant_of-self-2 c =
     let ls = v.lanes.items in
     let es = v.places.entries in
     let new = c.insert.new.self.entries in
-    let x : Lane = record { from = c.args.from; to = c.args.to; queue = c.in_ok-queue.queue } in
+    let x : Lane = record { from = c.args.from; to = c.args.to; queue = c.of-queue.result } in
     let items : c.push_reserved.new.self.items ≡ ls ++ x ∷ [] = c.push_reserved.ensures.items ∙ ap (λ (l : List Lane). l ++ x ∷ []) c.in_ok-reserve.ensures.items in
     let none : place_on ls x.from x.to ≡ length ls = ap (λ (l : List Lane). place_on l c.args.from c.args.to) c.self.view_is ∙ c.requires ∙ ap (λ (l : List Lane). length l) (sym c.self.view_is) in
     let here : c.len-place.result ≡ length ls = first_of (search rules, grind (arith, c.len-place.ensures)) in
@@ -26,10 +26,10 @@ invariant_of-self-2 c =
 pub returns-clause-ok : goal.returns-clause-ok
 returns-clause-ok c = λ s t.
     let ls = c.self.inside.lanes.items in
-    let x : Lane = record { from = c.args.from; to = c.args.to; queue = c.in_ok-queue.queue } in
+    let x : Lane = record { from = c.args.from; to = c.args.to; queue = c.of-queue.result } in
     let items : c.push_reserved.new.self.items ≡ ls ++ x ∷ [] = c.push_reserved.ensures.items ∙ ap (λ (l : List Lane). l ++ x ∷ []) c.in_ok-reserve.ensures.items in
     let none : place_on ls x.from x.to ≡ length ls = ap (λ (l : List Lane). place_on l c.args.from c.args.to) c.self.view_is ∙ c.requires ∙ ap (λ (l : List Lane). length l) (sym c.self.view_is) in
     ap (λ (l : List Lane). queue_at l s t) items
     ∙ queue_new ls x none s t
-    ∙ ap (λ (q : List ℕ). cond (is_pair (c.args.from, c.args.to) (s, t)) q (queue_at ls s t)) c.in_ok-queue.ensures
+    ∙ ap (λ (q : List ℕ). cond (is_pair (c.args.from, c.args.to) (s, t)) q (queue_at ls s t)) c.of-queue.ensures
     ∙ ap (λ (l : List Lane). cond (is_pair (c.args.from, c.args.to) (s, t)) (c.args.number ∷ []) (queue_at l s t)) c.self.view_is
