@@ -10,4 +10,3 @@ returns-then-stays c = λ t.
     let s = c.args.change.now in
     let same : same_tree s.before s.after ≡ true = grind (arith, c.requires, c.if-stays.true) in
     ap (λ (b : Bool). cond b (summary_after t s (summary_at c.args.self.now t)) (summary_at c.args.self.now t)) (sym (stayed t s.before s.after same))
-
