@@ -1,5 +1,5 @@
 //! The records of a log as they are read and forced, with their places.
-ghost use Rattle.std.specs.Prelude.{◌≡◌, ◌<◌, true, false, [], ◌∷◌, ◌++◌, ◌^◌, ℕ, List, length, IfOk, OnOk, OnErr, slice_index_or};
+ghost use Rattle.std.specs.Prelude.{◌≡◌, ◌<◌, true, false, [], ◌∷◌, ◌++◌, ◌^◌, ℕ, List, length, IfOk, OnOk, OnErr, slice_index_or, vec_len, vec_capacity};
 ghost use Rattle.std.specs.List.{AllByRecursion};
 ghost use Rattle.tp_journal.specs.Records.{HasText, ReadsText, version_of, text, is_mark, bodies_of, marks, wide_of, recs_of, placed, AreRecords};
 ghost use Rattle.tp_journal.specs.Log.{IsBody, counted, blocks, place_behind};
@@ -159,6 +159,22 @@ pub fn generation(
     Ok((records, text))
 }
 
+// A list of fewer items than this grows to four times its length, and a longer one as `Vec` has it grow.
+const FEW: usize = 1 << 12;
+
+// Makes room for one more item. In large steps few items are moved as a list grows.
+fn make_room<T>(list: &mut Vec<T>) -> Result<(), AllocError>
+    ensures items { list.new.items ≡ list.old.items }
+    ensures room { OnOk result (vec_len list.new < vec_capacity list.new) }
+{
+    let count = list.len();
+    if count == list.capacity() {
+        let more = if count < FEW { 3 * count + 10 } else { 1 };
+        list.reserve(more)?;
+    }
+    Ok(())
+}
+
 impl Records {
     /// No records, of version 1 until the mark is read.
     pub fn new(alloc: Global) -> Records
@@ -256,8 +272,8 @@ impl Shelf for Records {
 
     fn put(&mut self, place: u64, _body: &[u8], rec: &LogRec) -> Result<(), AllocError> {
         let alloc = *self.recs.allocator();
-        self.places.reserve(1)?;
-        self.recs.reserve(1)?;
+        make_room(&mut self.places)?;
+        make_room(&mut self.recs)?;
         let Ok(()) = push_copy(alloc, &mut self.recs, rec) else {
             return Err(AllocError);
         };

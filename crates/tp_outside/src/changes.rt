@@ -9,6 +9,11 @@ use std::alloc::{AllocError, Global};
 /// The most bytes that a disk in memory holds.
 const MOST_BYTES: usize = u32::MAX as usize;
 
+// A list of fewer items than its `FEW` grows to four times its length, and a longer one as `Vec` has it grow.
+const FEW_BYTES: usize = 1 << 16;
+
+const FEW_CALLS: usize = 1 << 12;
+
 /// A call that changed the bytes, of which there were `was`.
 #[derive(Clone, Copy)]
 pub enum Call {
@@ -31,6 +36,17 @@ pub struct Change {
 pub struct Changes {
     pub items: Vec<Change>,
     pub lost: Vec<u8>,
+}
+
+// For how many more items a full list of so many is given room. In large steps few of its items are moved as it grows.
+fn more(len: usize, first: usize, few: usize) -> usize
+    requires some { 0 < first }
+    requires first { first < 2 ^ 16 }
+    requires few { few ≤ 2 ^ 16 }
+    ensures some { 0 < result }
+    ensures small { result < 2 ^ 20 }
+{
+    if len < few { 3 * len + first } else { 1 }
 }
 
 impl Changes {
@@ -58,7 +74,10 @@ impl Changes {
         ensures room { OnOk result (vec_len self.new.items < vec_capacity self.new.items) }
         ensures lost { self.new.lost.items ≡ self.old.lost.items }
     {
-        self.items.reserve(1)?;
+        let count = self.items.len();
+        if count == self.items.capacity() {
+            self.items.reserve(more(count, 16, FEW_CALLS))?;
+        }
         Ok(())
     }
 
@@ -160,10 +179,26 @@ fn replace_byte(
     ensures same { OnErr result (bytes.new.items ≡ bytes.old.items) }
     ensures none_lost { OnErr result (lost.new.items ≡ lost.old.items) }
 {
-    lost.reserve(1)?;
+    let count = lost.len();
+    if count == lost.capacity() {
+        lost.reserve(more(count, 64, FEW_BYTES))?;
+    }
     lost.push_reserved(bytes[at]);
     bytes[at] = byte;
     Ok(())
+}
+
+// Puts a piece at the end. Without memory nothing changes.
+fn append(bytes: &mut Vec<u8>, piece: &[u8]) -> Result<(), AllocError>
+    requires { vec_len bytes.old + length piece.now < 2 ^ 32 }
+    ensures ok { OnOk result (bytes.new.items ≡ bytes.old.items ++ piece.now) }
+    ensures err { OnErr result (bytes.new.items ≡ bytes.old.items) }
+{
+    let was = bytes.len();
+    if was + piece.len() > bytes.capacity() {
+        bytes.reserve(piece.len() + more(was, 512, FEW_BYTES))?;
+    }
+    bytes.extend_from_slice(piece)
 }
 
 // Writes a piece and keeps the bytes that it writes over: none at the end, and mostly one before it. Without memory
@@ -183,7 +218,7 @@ fn put_piece(
 {
     let was = bytes.len();
     if at == was {
-        return bytes.extend_from_slice(piece);
+        return append(bytes, piece);
     }
     if at < was && piece.len() == 1 {
         return replace_byte(bytes, lost, at, piece[0]);
