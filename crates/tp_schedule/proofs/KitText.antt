@@ -59,6 +59,15 @@ decimal_four n large small =
     let ones : n % 10 ≡ n % 100 % 10 = omega arith in
     rw (decimal_more n (omega (arith, small)) (omega (arith, large)), decimal_three (n / 10) (omega (arith, large)) (omega (arith, small)), thousands, hundreds, tens, ← ones) refl
 
+pub decimal_five : (n : ℕ) → 10000 ≤ n → n < 100000 → decimal n ≡ (48 + n / 10000) ∷ (48 + n / 100 % 100 / 10) ∷ (48 + n / 100 % 100 % 10) ∷ (48 + n % 100 / 10) ∷ (48 + n % 100 % 10) ∷ []
+decimal_five n large small =
+    let first : n / 10 / 100 / 10 ≡ n / 10000 = omega arith in
+    let thousands : n / 10 / 100 % 10 ≡ n / 100 % 100 / 10 = omega arith in
+    let hundreds : n / 10 % 100 / 10 ≡ n / 100 % 100 % 10 = omega arith in
+    let tens : n / 10 % 100 % 10 ≡ n % 100 / 10 = omega arith in
+    let ones : n % 10 ≡ n % 100 % 10 = omega arith in
+    rw (decimal_more n (omega (arith, small)) (omega (arith, large)), decimal_four (n / 10) (omega (arith, large)) (omega (arith, small)), first, thousands, hundreds, tens, ← ones) refl
+
 -- pairs of digits from a table
 abbrev tens_agree : ℕ → Bool
 tens_agree p = slice_index PAIRS (p * 2) == 48 + p / 10

@@ -1,9 +1,9 @@
 -- What a reader answers for what the definitions of reading give: a value, or the fault of the line.
-use Rattle.std.specs.Prelude.{◌≡◌, ℕ, if◌then◌else◌, nat_le, ◌&&◌, ◌||◌, Bool, true, false, Option, Some, None, Result, Ok, Err, List, [], ◌∷◌, ◌+◌}
+use Rattle.std.specs.Prelude.{◌≡◌, ◌≤◌, ℕ, if◌then◌else◌, nat_le, ◌&&◌, ◌||◌, Bool, true, false, Option, Some, None, Result, Ok, Err, List, [], ◌∷◌, ◌+◌}
 use Rattle.hex.specs.declared.error.FromHexError.{FromHexError}
 use Rattle.tp_model.specs.declared.line.Line.{Line}
 use Rattle.tp_model.specs.declared.verdict.Why.{Why}
-use Rattle.tp_model.specs.LineReading.{Form, Wrong, Outside, Well, Reading, Blank, Faulty, Says, few}
+use Rattle.tp_model.specs.LineReading.{Form, Wrong, Outside, Well, Reading, Blank, Faulty, Says, few, number, words_in}
 use Rattle.tp_schedule.specs.declared.line_fault.LineFault.{LineFault}
 
 abbrev pub read_as : {A : Type 0} → Form A → Result A LineFault
@@ -79,6 +79,13 @@ pair_alone (v ∷ w ∷ []) = Some (v, w)
 pair_alone (v ∷ w ∷ x ∷ ws) = None
 
 -- ---- numerals
+
+abbrev pub is_number_digit : ℕ → Bool
+is_number_digit b = nat_le 49 b && nat_le b 57
+
+-- the first word is one digit, which is the number n, and what comes behind it is the rest
+abbrev pub DigitBefore : List ℕ → ℕ → List ℕ → Type 0
+DigitBefore bs n rest = (n ≤ 9) × ((number ((48 + n) ∷ []) ≡ Well n) × (words_in bs ≡ ((48 + n) ∷ []) ∷ words_in rest))
 
 -- more than any number of a line is all the same
 abbrev pub capped : Option ℕ → Option ℕ

@@ -1,7 +1,7 @@
 //! Numbers and octets as digits, and letters for units.
 ghost use Rattle.std.specs.Prelude.{◌≡◌, ◌<◌, ◌≤◌, ◌+◌, ◌/◌, ◌%◌, ◌++◌, ◌∷◌, [], OnErr, OnOk};
 ghost use Rattle.tp_names.specs.Writing.{Keeps};
-ghost use Rattle.tp_model.specs.Words.{decimal, hex, octets_word, mark_word, letters_of, units_word};
+ghost use Rattle.tp_model.specs.Words.{decimal, hex, hex_digit, octets_word, mark_word, letters_of, units_word};
 ghost use Rattle.tp_model.specs.OutText.{numbers_word};
 
 use itoa::Buffer;
@@ -56,6 +56,9 @@ pub(crate) fn write_behind(
     }
     if n < 10_000 {
         return write_four_digits(alloc, mark, n, out);
+    }
+    if n < 100_000 {
+        return write_five_digits(alloc, mark, n, out);
     }
     out.push(alloc, mark)?;
     write_decimal(alloc, n, out)
@@ -113,6 +116,19 @@ fn write_four_digits(alloc: Global, mark: u8, n: u64, out: &mut Octets) -> Resul
     out.extend_from_slice(alloc, &[mark, thousands, hundreds, tens, ones])
 }
 
+#[tactic(auto, using(crate::proofs::KitText::decimal_five))]
+fn write_five_digits(alloc: Global, mark: u8, n: u64, out: &mut Octets) -> Result<(), NoMemory>
+    requires least { 10000 ≤ n }
+    requires most { n < 100000 }
+    ensures ok { OnOk result (out.new ≡ out.old ++ (mark ∷ decimal n)) }
+    ensures err { OnErr result (Keeps out.old out.new) }
+{
+    let (thousands, hundreds) = pair(n / 100 % 100);
+    let (tens, ones) = pair(n % 100);
+    let first = digit(n / 10_000);
+    out.extend_from_slice(alloc, &[mark, first, thousands, hundreds, tens, ones])
+}
+
 /// Two digits for an octet.
 #[tactic(auto, using(crate::proofs::KitText::hex_octet))]
 pub(crate) fn write_octet(alloc: Global, octet: u8, out: &mut Octets) -> Result<(), NoMemory>
@@ -145,6 +161,36 @@ pub(crate) fn write_octets(alloc: Global, octets: &[u8], out: &mut Octets) -> Re
         _ => write_hex(alloc, octets, out)?,
     }
     Ok(())
+}
+
+/// A space, and two digits for each octet, and `-` for none: of one octet all is put there at once.
+pub(crate) fn write_octets_after_space(
+    alloc: Global,
+    octets: &[u8],
+    out: &mut Octets,
+) -> Result<(), NoMemory>
+    ensures ok { OnOk result (out.new ≡ out.old ++ (32 ∷ octets_word octets.now)) }
+    ensures err { OnErr result (Keeps out.old out.new) }
+{
+    match octets {
+        [] => out.extend_from_slice(alloc, &[b' ', b'-']),
+        [octet] => {
+            let (high, low) = (hex_digit(*octet / 16), hex_digit(*octet % 16));
+            out.extend_from_slice(alloc, &[b' ', high, low])
+        }
+        _ => {
+            out.push(alloc, b' ')?;
+            write_hex(alloc, octets, out)
+        }
+    }
+}
+
+// The digit of a number below sixteen.
+fn hex_digit(n: u8) -> u8
+    requires { n < 16 }
+    ensures { result ≡ hex_digit n }
+{
+    if n < 10 { b'0' + n } else { b'a' + (n - 10) }
 }
 
 /// Three numbers with dots between them.

@@ -12,8 +12,8 @@ use crate::schedule_words::{
     ActionWord, LineWord, PeerRequest, RequestWord, action_word, line_word, request_word,
 };
 use crate::value::{
-    both, is_word, one_number, read_call, read_fill, read_number, read_octets, read_outcome,
-    read_site, read_units,
+    both, digit_before, is_number_digit, is_word, one_number, read_call, read_fill, read_number,
+    read_octets, read_outcome, read_site, read_units,
 };
 use std::alloc::Global;
 use tp_model::{Action, Line, LineRequest};
@@ -255,6 +255,9 @@ fn read_action_of(alloc: Global, kind: ActionWord, rest: &[u8]) -> Result<Action
 fn read_do(alloc: Global, bytes: &[u8]) -> Result<(u16, LineRequest), LineFault>
     ensures { Reads (do_from pair (words_in bytes.now)) result }
 {
+    if let Some((node, rest)) = digit_before(bytes) {
+        return both(Ok(node), read_request(alloc, rest));
+    }
     let Some((node, rest)) = next_word(bytes) else {
         return Err(LineFault::Word);
     };
@@ -312,6 +315,11 @@ fn request_of_peer(kind: PeerRequest, peer: u16) -> LineRequest
 fn two_numbers(rest: &[u8]) -> Result<(u16, u16), LineFault>
     ensures { result ≡ read_as (two_words pair number number (words_in rest.now)) }
 {
+    if let Some((first, [b' ', second])) = digit_before(rest) {
+        if is_number_digit(*second) {
+            return Ok((first, u16::from(*second - b'0')));
+        }
+    }
     match only_pair(rest) {
         None => Err(LineFault::Word),
         Some((first, second)) => both(read_number(first), read_number(second)),

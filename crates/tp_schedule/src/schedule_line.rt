@@ -4,7 +4,10 @@ ghost use Rattle.tp_names.specs.Writing.{Keeps};
 ghost use Rattle.tp_model.specs.Words.{words, decimal};
 ghost use Rattle.tp_model.specs.LineText.{request_words, action_words, line_words, line_text};
 
-use crate::word::{Word, write_alone, write_number_between, write_one, write_two, write_words};
+use crate::digits::digit;
+use crate::word::{
+    Word, write_alone, write_number_between, write_octets, write_one, write_two, write_words,
+};
 use std::alloc::Global;
 use tp_model::{Action, Line, LineRequest};
 use tp_names::{NoMemory, Octets, Outcome, SiteName};
@@ -121,8 +124,9 @@ fn append_data(alloc: Global, peer: u16, octets: &Octets, out: &mut Octets) -> R
     ensures ok { OnOk result (out.new ≡ out.old ++ words (request_words (LineRequest.UserData peer octets.now))) }
     ensures err { OnErr result (Keeps out.old out.new) }
 {
-    let words = [Word::Text("data"), Word::Short(peer), Word::Octets(octets)];
-    write_words(alloc, &words, out)
+    write_one(alloc, "data", peer, out)?;
+    write_octets(alloc, octets, out)?;
+    Ok(())
 }
 
 #[inline(always)]
@@ -145,6 +149,10 @@ fn write_doer(alloc: Global, node: u16, out: &mut Octets) -> Result<(), NoMemory
     ensures ok { OnOk result (out.new ≡ (out.old ++ words (codes "do" ∷ decimal node ∷ [])) ++ 32 ∷ []) }
     ensures err { OnErr result (Keeps out.old out.new) }
 {
+    if node < 10 {
+        let digit = digit(u64::from(node));
+        return out.extend_from_slice(alloc, &[b'd', b'o', b' ', digit, b' ']);
+    }
     write_alone(alloc, "do", out)?;
     write_number_between(alloc, node, out)?;
     Ok(())

@@ -2,7 +2,7 @@
 ghost use Rattle.std.specs.Prelude.{◌≡◌, ◌<◌, ◌≤◌, true, false, IfOk, IfSome, length, replicate};
 ghost use Rattle.tp_names.specs.Same.{is_name};
 ghost use Rattle.tp_model.specs.LineReading.{words_in, one_word, is_digit, value_from, numeral, number_in, number, hex_value, hex_octets, run_octets, octets, units_from, units, site, outcome, fill, form_of, Well};
-ghost use Rattle.tp_schedule.specs.Answers.{read_as, Reads, same, both_answers, capped, few_of, hex_fault, has_capital, bits_of};
+ghost use Rattle.tp_schedule.specs.Answers.{read_as, Reads, same, both_answers, capped, few_of, hex_fault, has_capital, bits_of, is_number_digit, DigitBefore};
 
 use crate::LineFault;
 use crate::cutting::only_word;
@@ -63,6 +63,25 @@ pub fn read_number(word: &[u8]) -> Result<u16, LineFault>
     ensures { result ≡ read_as (number word.now) }
 {
     read_number_in(1, u16::MAX, word)
+}
+
+/// The number of a first word of one digit that stands between two spaces, and what comes from the second space on.
+pub(crate) fn digit_before(bytes: &[u8]) -> Option<(u16, &[u8])>
+    ensures { IfSome result (λ p. DigitBefore bytes.now p.0 p.1.now) }
+{
+    match bytes {
+        [b' ', digit, b' ', ..] if is_number_digit(*digit) => {
+            Some((u16::from(*digit - b'0'), &bytes[2..]))
+        }
+        _ => None,
+    }
+}
+
+/// Whether the byte alone is a number.
+pub(crate) fn is_number_digit(byte: u8) -> bool
+    ensures { result ≡ is_number_digit byte }
+{
+    matches!(byte, b'1'..=b'9')
 }
 
 /// The number, where there is one word alone.

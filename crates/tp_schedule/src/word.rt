@@ -1,7 +1,7 @@
 //! The words of a line, which one space parts.
 ghost use Rattle.std.specs.Prelude.{◌≡◌, ◌++◌, ◌∷◌, [], OnErr, OnOk};
 ghost use Rattle.tp_names.specs.Writing.{Keeps};
-ghost use Rattle.tp_model.specs.Words.{words, decimal, aaid_word, branch_word, outcome_word, report_word, holder_word};
+ghost use Rattle.tp_model.specs.Words.{words, decimal, aaid_word, branch_word, octets_word, outcome_word, report_word, holder_word};
 ghost use Rattle.tp_model.specs.OutText.{phase_word, fate_word};
 ghost use Rattle.tp_schedule.specs.WordText.{word_text, word_texts};
 
@@ -160,6 +160,15 @@ pub fn write_two_numbers(alloc: Global, m: u16, n: u16, out: &mut Octets) -> Res
     digits::write_two_behind(alloc, b' ', u64::from(m), u64::from(n), out)
 }
 
+/// Octets after a space, `-` where there are none.
+#[inline(always)]
+pub fn write_octets(alloc: Global, octets: &Octets, out: &mut Octets) -> Result<(), NoMemory>
+    ensures ok { OnOk result (out.new ≡ out.old ++ (32 ∷ octets_word octets.now)) }
+    ensures err { OnErr result (Keeps out.old out.new) }
+{
+    digits::write_octets_after_space(alloc, octets.as_slice(), out)
+}
+
 /// A long number, after a space.
 pub fn write_long_number(alloc: Global, n: u64, out: &mut Octets) -> Result<(), NoMemory>
     ensures ok { OnOk result (out.new ≡ out.old ++ (32 ∷ decimal n)) }
@@ -175,8 +184,8 @@ pub fn write_outcome(alloc: Global, outcome: Outcome, out: &mut Octets) -> Resul
     ensures err { OnErr result (Keeps out.old out.new) }
 {
     match outcome {
-        Outcome::Commit => put(alloc, " commit", out),
-        Outcome::Rollback => put(alloc, " rollback", out),
+        Outcome::Commit => out.extend_from_slice(alloc, b" commit"),
+        Outcome::Rollback => out.extend_from_slice(alloc, b" rollback"),
     }
 }
 
@@ -187,9 +196,9 @@ pub fn write_report(alloc: Global, report: Report, out: &mut Octets) -> Result<(
     ensures err { OnErr result (Keeps out.old out.new) }
 {
     match report {
-        Report::None => put(alloc, " none", out),
-        Report::Hazard => put(alloc, " hazard", out),
-        Report::Mix => put(alloc, " mix", out),
+        Report::None => out.extend_from_slice(alloc, b" none"),
+        Report::Hazard => out.extend_from_slice(alloc, b" hazard"),
+        Report::Mix => out.extend_from_slice(alloc, b" mix"),
     }
 }
 
@@ -199,9 +208,9 @@ pub fn write_holder(alloc: Global, holder: Holder, out: &mut Octets) -> Result<(
     ensures err { OnErr result (Keeps out.old out.new) }
 {
     match holder {
-        Holder::None => put(alloc, " none", out),
-        Holder::Superior => put(alloc, " superior", out),
-        Holder::Subordinate => put(alloc, " subordinate", out),
+        Holder::None => out.extend_from_slice(alloc, b" none"),
+        Holder::Superior => out.extend_from_slice(alloc, b" superior"),
+        Holder::Subordinate => out.extend_from_slice(alloc, b" subordinate"),
     }
 }
 
@@ -211,8 +220,8 @@ pub fn write_aaid(alloc: Global, aaid: &Aaid, out: &mut Octets) -> Result<(), No
     ensures ok { OnOk result (out.new ≡ out.old ++ (32 ∷ aaid_word aaid.now)) }
     ensures err { OnErr result (Keeps out.old out.new) }
 {
-    out.push(alloc, b' ')?;
-    write_marked(alloc, &aaid.owner, &aaid.mark, out)?;
+    write_name(alloc, &aaid.owner, out)?;
+    digits::write_mark_behind_dot(alloc, &aaid.mark, out)?;
     Ok(())
 }
 
@@ -221,19 +230,26 @@ pub fn write_branch(alloc: Global, branch: &BranchId, out: &mut Octets) -> Resul
     ensures ok { OnOk result (out.new ≡ out.old ++ (32 ∷ branch_word branch.now)) }
     ensures err { OnErr result (Keeps out.old out.new) }
 {
-    out.push(alloc, b' ')?;
-    write_marked(alloc, &branch.superior, &branch.mark, out)?;
+    write_name(alloc, &branch.superior, out)?;
+    digits::write_mark_behind_dot(alloc, &branch.mark, out)?;
     Ok(())
 }
 
-// A site's name, after a space.
+// A site's name, after a space: a short one at once.
 fn write_name(alloc: Global, site: &SiteName, out: &mut Octets) -> Result<(), NoMemory>
     ensures ok { OnOk result (out.new ≡ out.old ++ (32 ∷ site.now)) }
     ensures err { OnErr result (Keeps out.old out.new) }
 {
-    out.push(alloc, b' ')?;
-    out.extend_from_slice(alloc, site.bytes())?;
-    Ok(())
+    match site.bytes() {
+        [a] => out.extend_from_slice(alloc, &[b' ', *a]),
+        [a, b] => out.extend_from_slice(alloc, &[b' ', *a, *b]),
+        [a, b, c] => out.extend_from_slice(alloc, &[b' ', *a, *b, *c]),
+        [a, b, c, d] => out.extend_from_slice(alloc, &[b' ', *a, *b, *c, *d]),
+        name => {
+            out.push(alloc, b' ')?;
+            out.extend_from_slice(alloc, name)
+        }
+    }
 }
 
 fn write_word(alloc: Global, word: &Word, out: &mut Octets) -> Result<(), NoMemory>
