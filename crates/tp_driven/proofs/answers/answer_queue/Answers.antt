@@ -1,6 +1,6 @@
 use Rattle.std.proofs.Common.{arith}
 use Rattle.tp_driven.proofs.Answered.{err_is, no_more, all_first, all_more_so, all_out_so, all_failed_so}
-use Rattle.tp_driven.proofs.answers.answer_all.Goals as goal
+use Rattle.tp_driven.proofs.answers.answer_queue.Goals as goal
 
 pub loop-before-init : goal.loop-before-init
 loop-before-init g c = λ w stands members.
