@@ -1,8 +1,9 @@
 -- The rules of a transaction by name. An event sets off at most three of them, each at what the one before
 -- it leaves. What a rule does stands with the definitions of the service; here are its names alone.
-use Rattle.std.specs.Prelude.{ℕ, ◌&&◌, ◌||◌, not, Bool, true, false, if◌then◌else◌, Option, Some, None, List, [], ◌∷◌}
+use Rattle.std.specs.Prelude.{ℕ, ◌&&◌, ◌||◌, not, Bool, true, false, if◌then◌else◌, Option, Some, None, List, [], ◌∷◌, ◌++◌}
+use Rattle.tp_names.specs.declared.outcome.Outcome.{Outcome}
 use Rattle.tp_names.specs.declared.outcome.Report.{Report}
-use Rattle.tp_names.specs.Reports.{join}
+use Rattle.tp_names.specs.Reports.{join, is_report_none}
 use Rattle.tp_records.specs.declared.peer.PeerRecord.{PeerRecord}
 use Rattle.tp_records.specs.declared.indication.Indication.{Indication}
 use Rattle.tp_records.specs.declared.dialogue.DialogueRecord.{DialogueRecord}
@@ -12,7 +13,7 @@ use Rattle.tp_model.specs.declared.transaction.TxEvent.{TxEvent}
 use Rattle.tp_model.specs.declared.transaction.TxOut.{TxOut}
 use Rattle.tp_model.specs.Parts.{Root, Under}
 use Rattle.tp_model.specs.Dialogues.{is_active, is_rolling}
-use Rattle.tp_model.specs.Transactions.{Transaction, Turn, turn, and_then, with_row, with_branch, with_arc_lost, find_row, ask_commit, leave, count_branch, end_branch, branch_left, settle, order, begin_rolling, complete_commit, complete_rollback, log_heuristic, retried, all_done, all_rolled_back, all_settled, own_damage, reports_of, is_under_at, row_holds, is_waited_for, roll, transacted, logging}
+use Rattle.tp_model.specs.Transactions.{Transaction, Turn, turn, and_then, with_row, with_branch, with_arc_lost, find_row, ask_commit, leave, count_branch, end_branch, branch_left, settle, order, begin_rolling, complete_commit, complete_rollback, log_heuristic, retried, all_done, all_rolled_back, all_settled, own_damage, reports_of, is_under_at, row_holds, is_waited_for, roll, transacted, logging, log_end, log_damage, owed_of, forgets, aaid_of, done_up, ends_down, end_up}
 use Rattle.tp_commit.specs.declared.rule.Rule.{Rule}
 use Rattle.tp_commit.specs.declared.rule.Course.{Course}
 
@@ -32,6 +33,14 @@ is_settled t = is_active t.phase && t.asked && all_settled t.rows
 -- mix where the node decided to roll back, and what is reported of the branches
 abbrev pub final_report : Transaction → Report
 final_report t = join (own_damage t.decision) (reports_of t.rows)
+
+-- what a commitment that is complete logs with that report
+abbrev pub completion_rec : Transaction → Report → LogRec
+completion_rec t r = if is_report_none r then log_end t Outcome.Commit else log_damage t Outcome.Commit r (owed_of t.rows)
+
+-- and what it says
+abbrev pub said_at_completion : Transaction → Report → List TxOut
+said_at_completion t r = forgets (aaid_of t.key) t.rows ++ done_up t r ++ (TxOut.Tell (Indication.CommitComplete r) ∷ []) ++ ends_down t.rows ++ end_up t
 
 -- a ready node asks its superior
 abbrev pub ask_superior : Transaction → List TxOut

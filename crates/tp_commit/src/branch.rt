@@ -339,6 +339,14 @@ impl Branch {
         }
     }
 
+    /// The arc with that peer is the transaction's: it came over it, or a branch is on it.
+    #[tactic(auto, unfolding(tp_model::specs::Transactions::situation_of))]
+    pub fn has_arc(&self, arc: u16) -> bool
+        ensures { result ≡ (situation_of self.now arc).branch }
+    {
+        self.is_under_at(arc) || self.rows.find(arc).is_some()
+    }
+
     /// What the dialogue with that peer is to know of the transaction.
     #[tactic(auto, unfolding(tp_model::specs::Transactions::situation_of))]
     pub fn situation(&self, arc: u16) -> Situation

@@ -113,7 +113,7 @@ impl Branch {
     }
 
     #[tactic(auto, unfolding(tp_model::specs::Transactions::begin_rolling))]
-    fn begin_rolling(&mut self, asked: bool)
+    pub(crate) fn begin_rolling(&mut self, asked: bool)
         ensures { self.new ≡ (begin_rolling asked self.old).next }
     {
         if self.is_own_commit() {
@@ -125,7 +125,7 @@ impl Branch {
     }
 
     #[tactic(auto, unfolding(tp_model::specs::Transactions::order))]
-    fn order(&mut self)
+    pub(crate) fn order(&mut self)
         ensures { self.new ≡ (order self.old).next }
     {
         self.phase = Phase::Committing;

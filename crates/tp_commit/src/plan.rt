@@ -13,20 +13,7 @@ use tp_model::{Phase, Step, TxEvent, TxFault, TxOuts};
 use tp_names::{Child, NoMemory};
 
 impl Branch {
-    // A rule logs, says and changes what it does, after what the step has by now.
-    #[inline(always)]
-    fn obey(&mut self, alloc: Global, rule: Rule, step: &mut Step) -> Result<(), NoMemory>
-        ensures next { OnOk result (self.new ≡ (turn_of rule self.old).next) }
-        ensures rec { OnOk result (step.new.rec ≡ later step.old.rec (turn_of rule self.old).rec) }
-        ensures outs { OnOk result (step.new.outs ≡ step.old.outs ++ (turn_of rule self.old).outs) }
-    {
-        self.log(alloc, rule, &mut step.rec)?;
-        self.say(alloc, rule, &mut step.outs)?;
-        self.change(rule);
-        Ok(())
-    }
-
-    // The same of a rule of a course, which is often none.
+    // A rule of a course, which is often none, after what the step has by now.
     #[inline(always)]
     #[tactic(auto, using(crate::proofs::Courses::nothing_said))]
     fn carry_out(&mut self, alloc: Global, rule: Rule, step: &mut Step) -> Result<(), NoMemory>
@@ -37,7 +24,7 @@ impl Branch {
         if let Rule::Nothing = rule {
             return Ok(());
         }
-        self.obey(alloc, rule, step)
+        self.do_rule(alloc, rule, step)
     }
 
     // The rules of a course, each at what the one before it leaves. The step, in which nothing stands, becomes what they ask

@@ -62,8 +62,14 @@ impl RowList {
     pub(crate) fn copy_from(&mut self, other: &RowList) -> Result<(), NoMemory>
         ensures { OnOk result (self.new ≡ other.now) }
     {
-        self.rows.clear();
-        self.rows.extend_from_slice(other.rows.as_slice())?;
+        if self.rows.len() == other.rows.len() {
+            if !other.rows.is_empty() {
+                self.rows.copy_from_slice(other.rows.as_slice());
+            }
+        } else {
+            self.rows.clear();
+            self.rows.extend_from_slice(other.rows.as_slice())?;
+        }
         self.ascends = other.ascends;
         Ok(())
     }

@@ -6,13 +6,13 @@ ghost use Rattle.tp_records.specs.declared.dialogue.DialogueRecord.{DialogueReco
 ghost use Rattle.tp_records.specs.declared.indication.Indication.{Indication};
 ghost use Rattle.tp_records.specs.declared.peer.PeerRecord.{PeerRecord};
 ghost use Rattle.tp_records.specs.declared.peer.RecState.{RecState};
-ghost use Rattle.tp_commit.specs.Rules.{turn_of, later, final_report, give_up_branch, ask_superior};
+ghost use Rattle.tp_commit.specs.Rules.{turn_of, later, final_report, completion_rec, said_at_completion, give_up_branch, ask_superior};
 
 use crate::rule::Rule;
 use crate::{Branch, rows};
 use std::alloc::Global;
 use tp_logrec::LogRec;
-use tp_model::{Phase, TxOut, TxOuts};
+use tp_model::{Phase, Step, TxOut, TxOuts};
 use tp_names::{Addr, BranchId, Children, NoMemory, Outcome, Report};
 use tp_records::{DialogueRecord, Indication, PeerRecord, RecState};
 
@@ -159,11 +159,12 @@ impl Branch {
         let (Some(_), Some(superior)) = (self.key.branch, self.superior) else {
             return Ok(());
         };
+        let children = rows::children_of(alloc, self.rows.as_slice())?;
         *rec = Some(LogRec::Ready {
             node: self.node,
             key: self.key,
             superior,
-            children: rows::children_of(alloc, self.rows.as_slice())?,
+            children,
         });
         Ok(())
     }
@@ -172,11 +173,12 @@ impl Branch {
     fn log_commit(&self, alloc: Global, rec: &mut Option<LogRec>) -> Result<(), NoMemory>
         ensures { OnOk result (rec.new ≡ Some (log_commit self.now)) }
     {
+        let children = rows::children_of(alloc, self.rows.as_slice())?;
         *rec = Some(LogRec::Commit {
             node: self.node,
             key: self.key,
             superior: self.superior(),
-            children: rows::children_of(alloc, self.rows.as_slice())?,
+            children,
         });
         Ok(())
     }
@@ -312,15 +314,15 @@ impl Branch {
         own.join(rows::reports_of(self.rows.as_slice()))
     }
 
-    // A commitment that is complete.
-    #[tactic(auto, unfolding(tp_model::specs::Transactions::complete_commit))]
-    fn log_complete(&self, alloc: Global, rec: &mut Option<LogRec>) -> Result<(), NoMemory>
-        ensures { OnOk result (rec.new ≡ later rec.old (complete_commit self.now).rec) }
+    // A commitment that is complete, with that report.
+    fn log_complete(
+        &self,
+        alloc: Global,
+        report: Report,
+        rec: &mut Option<LogRec>,
+    ) -> Result<(), NoMemory>
+        ensures { OnOk result (rec.new ≡ Some (completion_rec self.now report)) }
     {
-        if !self.is_committed() {
-            return Ok(());
-        }
-        let report = self.final_report();
         if report == Report::None {
             self.log_end(Outcome::Commit, rec);
             return Ok(());
@@ -330,88 +332,18 @@ impl Branch {
         Ok(())
     }
 
-    // A root orders, a subordinate is ready.
-    #[tactic(auto, unfolding(tp_model::specs::Transactions::settle, tp_model::specs::Transactions::order))]
-    fn log_settle(&self, alloc: Global, rec: &mut Option<LogRec>) -> Result<(), NoMemory>
-        ensures { OnOk result (rec.new ≡ later rec.old (settle self.now).rec) }
-    {
-        if !self.is_settled() {
-            Ok(())
-        } else if self.is_under() {
-            self.log_ready(alloc, rec)
-        } else {
-            self.log_commit(alloc, rec)
-        }
-    }
-
-    /// The record that a rule logs stands where the one before it did.
-    #[tactic(auto, unfolding(tp_model::specs::Transactions::order, tp_model::specs::Transactions::begin_rolling, tp_model::specs::Transactions::complete_rollback, tp_model::specs::Transactions::ask_commit, tp_model::specs::Transactions::leave, tp_model::specs::Transactions::count_branch, tp_model::specs::Transactions::end_branch, tp_model::specs::Transactions::branch_left))]
-    pub(crate) fn log(
-        &self,
-        alloc: Global,
-        rule: Rule,
-        rec: &mut Option<LogRec>,
-    ) -> Result<(), NoMemory>
-        ensures { OnOk result (rec.new ≡ later rec.old (turn_of rule self.now).rec) }
-    {
-        match rule {
-            Rule::Settle => return self.log_settle(alloc, rec),
-            Rule::Order => return self.log_commit(alloc, rec),
-            Rule::BeginRolling { .. } => self.log_rollback(alloc, rec),
-            Rule::CompleteCommit => return self.log_complete(alloc, rec),
-            Rule::Decide(outcome) => self.log_heuristic(outcome, rec),
-            Rule::Nothing
-            | Rule::Prepare { .. }
-            | Rule::DeferEnd { .. }
-            | Rule::DeferGrant { .. }
-            | Rule::Abort { .. }
-            | Rule::AskCommit
-            | Rule::Finish
-            | Rule::Leave
-            | Rule::TakePrepare
-            | Rule::TakeDeferEnd { .. }
-            | Rule::TakeDeferGrant { .. }
-            | Rule::NoteRollback
-            | Rule::CountBranch { .. }
-            | Rule::EndBranch { .. }
-            | Rule::BranchLeft { .. }
-            | Rule::CloseArc { .. }
-            | Rule::Aborted { .. }
-            | Rule::Lost { .. }
-            | Rule::CompleteRollback
-            | Rule::GiveUp { .. }
-            | Rule::Retry => {}
-        }
-        Ok(())
-    }
-
     // ---- what the rules say
 
-    #[tactic(auto, unfolding(tp_model::specs::Transactions::complete_commit))]
-    fn say_complete_commit(&self, alloc: Global, outs: &mut TxOuts) -> Result<(), NoMemory>
-        ensures { OnOk result (outs.new ≡ outs.old ++ (complete_commit self.now).outs) }
+    // A commitment that is complete, with that report.
+    fn say_complete(&self, alloc: Global, report: Report, outs: &mut TxOuts) -> Result<(), NoMemory>
+        ensures { OnOk result (outs.new ≡ outs.old ++ said_at_completion self.now report) }
     {
-        if !self.is_committed() {
-            return Ok(());
-        }
         let rows = self.rows.as_slice();
-        let report = self.final_report();
         rows::forgets(alloc, &self.key.aaid, rows, outs)?;
         self.done_up(alloc, report, outs)?;
         tell_committed(alloc, report, outs)?;
         rows::ends_down(alloc, rows, outs)?;
         self.end_up(alloc, outs)
-    }
-
-    #[tactic(auto, unfolding(tp_model::specs::Transactions::complete_rollback))]
-    fn say_complete_rollback(&self, alloc: Global, outs: &mut TxOuts) -> Result<(), NoMemory>
-        ensures { OnOk result (outs.new ≡ outs.old ++ (complete_rollback self.now).outs) }
-    {
-        if !self.is_rolled_back() {
-            return Ok(());
-        }
-        let report = self.own.join(rows::reports_of(self.rows.as_slice()));
-        self.say_rolled_back(alloc, report, outs)
     }
 
     fn say_rolled_back(
@@ -448,26 +380,6 @@ impl Branch {
     {
         rows::carry_down(alloc, self.rows.as_slice(), Outcome::Commit, outs)?;
         outs.push(alloc, TxOut::Tell(Indication::Commit))
-    }
-
-    #[tactic(auto, unfolding(tp_model::specs::Transactions::settle))]
-    fn say_settle(&self, alloc: Global, outs: &mut TxOuts) -> Result<(), NoMemory>
-        ensures { OnOk result (outs.new ≡ outs.old ++ (settle self.now).outs) }
-    {
-        if !self.is_settled() {
-            return Ok(());
-        }
-        if self.is_under() {
-            self.say_ready(alloc, outs)
-        } else {
-            self.say_order(alloc, outs)
-        }
-    }
-
-    fn say_ready(&self, alloc: Global, outs: &mut TxOuts) -> Result<(), NoMemory>
-        ensures { OnOk result (outs.new ≡ outs.old ++ carry_up self.now DialogueRecord.Ready) }
-    {
-        self.carry_up(alloc, DialogueRecord::Ready, outs)
     }
 
     #[tactic(auto, unfolding(tp_model::specs::Transactions::leave))]
@@ -521,35 +433,137 @@ impl Branch {
         outs.push(alloc, TxOut::Recovery { to: superior, rec })
     }
 
-    /// What a rule says.
-    #[tactic(auto, unfolding(tp_model::specs::Transactions::ask_commit, tp_model::specs::Transactions::count_branch, tp_model::specs::Transactions::end_branch, tp_model::specs::Transactions::branch_left))]
-    pub(crate) fn say(&self, alloc: Global, rule: Rule, outs: &mut TxOuts) -> Result<(), NoMemory>
-        ensures { OnOk result (outs.new ≡ outs.old ++ (turn_of rule self.now).outs) }
+    // ---- the rules that log or wait, each after what the step has by now
+
+    // A subordinate is ready.
+    fn do_ready(&mut self, alloc: Global, step: &mut Step) -> Result<(), NoMemory>
+        ensures next { OnOk result (self.new ≡ record self.old { phase = Phase.Ready }) }
+        ensures rec { OnOk result (step.new.rec ≡ later step.old.rec (log_ready self.old)) }
+        ensures outs { OnOk result (step.new.outs ≡ step.old.outs ++ carry_up self.old DialogueRecord.Ready) }
     {
-        match rule {
-            Rule::Nothing | Rule::Finish | Rule::NoteRollback | Rule::Decide(_) => Ok(()),
-            Rule::Prepare { arc } => prepare(alloc, arc, outs),
-            Rule::DeferEnd { arc } => defer_end(alloc, arc, outs),
-            Rule::DeferGrant { arc } => defer_grant(alloc, arc, outs),
-            Rule::Abort { arc } => abort(alloc, arc, outs),
-            Rule::AskCommit => rows::prepare_each(alloc, self.rows.as_slice(), outs),
-            Rule::Leave => self.say_leave(alloc, outs),
-            Rule::TakePrepare => tell_prepare(alloc, outs),
-            Rule::TakeDeferEnd { arc } => tell_end(alloc, arc, outs),
-            Rule::TakeDeferGrant { arc } => tell_grant(alloc, arc, outs),
-            Rule::CountBranch { arc } => tell_ready(alloc, arc, outs),
-            Rule::EndBranch { arc, report } => tell_report(alloc, arc, report, outs),
-            Rule::BranchLeft { arc } => tell_left(alloc, arc, outs),
-            Rule::CloseArc { arc } => close(alloc, arc, outs),
-            Rule::Aborted { arc } => tell_abort(alloc, arc, outs),
-            Rule::Lost { arc } => tell_loss(alloc, arc, outs),
-            Rule::Settle => self.say_settle(alloc, outs),
-            Rule::Order => self.say_order(alloc, outs),
-            Rule::BeginRolling { asked } => self.say_begin_rolling(alloc, asked, outs),
-            Rule::CompleteCommit => self.say_complete_commit(alloc, outs),
-            Rule::CompleteRollback => self.say_complete_rollback(alloc, outs),
-            Rule::GiveUp { arc } => self.say_give_up(alloc, arc, outs),
-            Rule::Retry => self.retried(alloc, outs),
+        self.log_ready(alloc, &mut step.rec)?;
+        self.carry_up(alloc, DialogueRecord::Ready, &mut step.outs)?;
+        self.phase = Phase::Ready;
+        Ok(())
+    }
+
+    // Commit is ordered.
+    #[tactic(auto, unfolding(tp_model::specs::Transactions::order))]
+    fn do_order(&mut self, alloc: Global, step: &mut Step) -> Result<(), NoMemory>
+        ensures next { OnOk result (self.new ≡ (order self.old).next) }
+        ensures rec { OnOk result (step.new.rec ≡ later step.old.rec (order self.old).rec) }
+        ensures outs { OnOk result (step.new.outs ≡ step.old.outs ++ (order self.old).outs) }
+    {
+        self.log_commit(alloc, &mut step.rec)?;
+        self.say_order(alloc, &mut step.outs)?;
+        self.order();
+        Ok(())
+    }
+
+    // A root orders, a subordinate is ready.
+    #[tactic(auto, unfolding(tp_model::specs::Transactions::settle))]
+    fn do_settle(&mut self, alloc: Global, step: &mut Step) -> Result<(), NoMemory>
+        ensures next { OnOk result (self.new ≡ (settle self.old).next) }
+        ensures rec { OnOk result (step.new.rec ≡ later step.old.rec (settle self.old).rec) }
+        ensures outs { OnOk result (step.new.outs ≡ step.old.outs ++ (settle self.old).outs) }
+    {
+        if !self.is_settled() {
+            Ok(())
+        } else if self.is_under() {
+            self.do_ready(alloc, step)
+        } else {
+            self.do_order(alloc, step)
         }
+    }
+
+    #[tactic(auto, unfolding(tp_model::specs::Transactions::begin_rolling))]
+    fn do_begin_rolling(
+        &mut self,
+        alloc: Global,
+        asked: bool,
+        step: &mut Step,
+    ) -> Result<(), NoMemory>
+        ensures next { OnOk result (self.new ≡ (begin_rolling asked self.old).next) }
+        ensures rec { OnOk result (step.new.rec ≡ later step.old.rec (begin_rolling asked self.old).rec) }
+        ensures outs { OnOk result (step.new.outs ≡ step.old.outs ++ (begin_rolling asked self.old).outs) }
+    {
+        self.log_rollback(alloc, &mut step.rec);
+        self.say_begin_rolling(alloc, asked, &mut step.outs)?;
+        self.begin_rolling(asked);
+        Ok(())
+    }
+
+    #[tactic(auto, unfolding(tp_model::specs::Transactions::complete_commit))]
+    fn do_complete_commit(&mut self, alloc: Global, step: &mut Step) -> Result<(), NoMemory>
+        ensures next { OnOk result (self.new ≡ (complete_commit self.old).next) }
+        ensures rec { OnOk result (step.new.rec ≡ later step.old.rec (complete_commit self.old).rec) }
+        ensures outs { OnOk result (step.new.outs ≡ step.old.outs ++ (complete_commit self.old).outs) }
+    {
+        if !self.is_committed() {
+            return Ok(());
+        }
+        let report = self.final_report();
+        self.log_complete(alloc, report, &mut step.rec)?;
+        self.say_complete(alloc, report, &mut step.outs)?;
+        self.phase = Phase::Nil;
+        Ok(())
+    }
+
+    #[tactic(auto, unfolding(tp_model::specs::Transactions::complete_rollback))]
+    fn do_complete_rollback(&mut self, alloc: Global, step: &mut Step) -> Result<(), NoMemory>
+        ensures next { OnOk result (self.new ≡ (complete_rollback self.old).next) }
+        ensures rec { OnOk result (step.new.rec ≡ later step.old.rec (complete_rollback self.old).rec) }
+        ensures outs { OnOk result (step.new.outs ≡ step.old.outs ++ (complete_rollback self.old).outs) }
+    {
+        if !self.is_rolled_back() {
+            return Ok(());
+        }
+        let report = self.own.join(rows::reports_of(self.rows.as_slice()));
+        self.say_rolled_back(alloc, report, &mut step.outs)?;
+        self.phase = Phase::Nil;
+        Ok(())
+    }
+
+    /// A rule logs, says and changes what it does, after what the step has by now.
+    #[tactic(auto, unfolding(tp_model::specs::Transactions::ask_commit, tp_model::specs::Transactions::count_branch, tp_model::specs::Transactions::end_branch, tp_model::specs::Transactions::branch_left, tp_model::specs::Transactions::leave))]
+    pub(crate) fn do_rule(
+        &mut self,
+        alloc: Global,
+        rule: Rule,
+        step: &mut Step,
+    ) -> Result<(), NoMemory>
+        ensures next { OnOk result (self.new ≡ (turn_of rule self.old).next) }
+        ensures rec { OnOk result (step.new.rec ≡ later step.old.rec (turn_of rule self.old).rec) }
+        ensures outs { OnOk result (step.new.outs ≡ step.old.outs ++ (turn_of rule self.old).outs) }
+    {
+        let outs = &mut step.outs;
+        match rule {
+            Rule::Settle => return self.do_settle(alloc, step),
+            Rule::Order => return self.do_order(alloc, step),
+            Rule::BeginRolling { asked } => return self.do_begin_rolling(alloc, asked, step),
+            Rule::CompleteCommit => return self.do_complete_commit(alloc, step),
+            Rule::CompleteRollback => return self.do_complete_rollback(alloc, step),
+            Rule::Decide(outcome) => self.log_heuristic(outcome, &mut step.rec),
+            Rule::Nothing | Rule::Finish | Rule::NoteRollback => {}
+            Rule::Prepare { arc } => prepare(alloc, arc, outs)?,
+            Rule::DeferEnd { arc } => defer_end(alloc, arc, outs)?,
+            Rule::DeferGrant { arc } => defer_grant(alloc, arc, outs)?,
+            Rule::Abort { arc } => abort(alloc, arc, outs)?,
+            Rule::AskCommit => rows::prepare_each(alloc, self.rows.as_slice(), outs)?,
+            Rule::Leave => self.say_leave(alloc, outs)?,
+            Rule::TakePrepare => tell_prepare(alloc, outs)?,
+            Rule::TakeDeferEnd { arc } => tell_end(alloc, arc, outs)?,
+            Rule::TakeDeferGrant { arc } => tell_grant(alloc, arc, outs)?,
+            Rule::CountBranch { arc } => tell_ready(alloc, arc, outs)?,
+            Rule::EndBranch { arc, report } => tell_report(alloc, arc, report, outs)?,
+            Rule::BranchLeft { arc } => tell_left(alloc, arc, outs)?,
+            Rule::CloseArc { arc } => close(alloc, arc, outs)?,
+            Rule::Aborted { arc } => tell_abort(alloc, arc, outs)?,
+            Rule::Lost { arc } => tell_loss(alloc, arc, outs)?,
+            Rule::GiveUp { arc } => self.say_give_up(alloc, arc, outs)?,
+            Rule::Retry => self.retried(alloc, outs)?,
+        }
+        self.change(rule);
+        Ok(())
     }
 }

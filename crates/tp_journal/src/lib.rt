@@ -3,6 +3,7 @@
 //! `Gates` keeps bodies of any bytes; the records of a site stand above it.
 #![tactic(auto)]
 
+mod copies;
 mod disorder;
 mod faults;
 mod gates;

@@ -5,6 +5,7 @@ ghost use Rattle.tp_journal.specs.Records.{HasText, ReadsText, version_of, text,
 ghost use Rattle.tp_journal.specs.Log.{IsBody, counted, blocks, place_behind};
 ghost use Rattle.tp_journal.specs.Stops.{body_piece};
 
+use crate::copies::push_copy;
 use crate::lengths::text_len;
 use crate::shelf::Shelf;
 use std::alloc::{AllocError, Global};
@@ -257,10 +258,9 @@ impl Shelf for Records {
         let alloc = *self.recs.allocator();
         self.places.reserve(1)?;
         self.recs.reserve(1)?;
-        let Ok(copy) = rec.copy(alloc) else {
+        let Ok(()) = push_copy(alloc, &mut self.recs, rec) else {
             return Err(AllocError);
         };
-        self.recs.push_reserved(copy);
         self.places.push_reserved(place);
         Ok(())
     }

@@ -1,9 +1,9 @@
 -- The record of a disk in memory, one change on.
-use Rattle.std.proofs.Common.{◌≡◌, ℕ, suc, ◌+◌, ◌-◌, ◌≤◌, min, Bool, true, false, List, [], ◌∷◌, ◌++◌, length, take, drop, reverse, refl, sym, ◌∙◌, ap, Some, arith, slice_index_or, slice_set, length-append, length-take, length-drop}
-use Rattle.std.proofs.lemmas.List.{reverse-append, take-append-drop, take_at, drop_at, take_all, drop-drop, drop_min}
+use Rattle.std.proofs.Common.{◌≡◌, ℕ, zero, suc, ◌+◌, ◌-◌, ◌≤◌, ◌<◌, min, Bool, true, false, List, [], ◌∷◌, ◌++◌, length, take, drop, reverse, refl, sym, ◌∙◌, ap, Some, arith, slice_index_or, slice_set, length-append, length-take, length-drop}
+use Rattle.std.proofs.lemmas.List.{reverse-append, take-append-drop, take_at, drop_at, take_all, drop-drop, drop_min, append-nil}
 use Rattle.tp_outside.specs.Story.{Story, Synced, seen, Torn}
 use Rattle.tp_outside.specs.Disk.{IsWritten, IsResized, Writes, Resizes}
-use Rattle.tp_outside.specs.Changes.{story_from, story_after, covered, before, after, synced_if}
+use Rattle.tp_outside.specs.Changes.{story_from, story_after, covered, written_over, before, after, synced_if}
 use Rattle.tp_outside.specs.declared.changes.Call.{Call}
 use Rattle.tp_outside.specs.declared.changes.Call.TheVariants.{Write, Resize, Nothing}
 use Rattle.tp_outside.specs.declared.changes.Change.{Change}
@@ -52,10 +52,28 @@ in_three from to old le =
     ap (λ (l : List ℕ). take from old ++ (take (to - from) (drop from old) ++ l)) last
     ∙ ap (λ (l : List ℕ). take from old ++ l) (take-append-drop (to - from) (drop from old)) ∙ take-append-drop from old
 
+-- a write at the end goes over nothing
+pub none_over : (at n : ℕ) (old lost : List ℕ) → at ≡ length old → lost ++ written_over at n old ≡ lost
+none_over at n old lost is =
+    let none : min (at + n) (length old) - min at (length old) ≡ 0 = omega (arith, is) in
+    ap (λ (k : ℕ). lost ++ take k (drop (min at (length old)) old)) none ∙ append-nil lost
+
+first_from : (at : ℕ) (old : List ℕ) (d : ℕ) → at < length old → take 1 (drop at old) ≡ slice_index_or old at d ∷ []
+first_from at [] d inside = absurd (omega (arith, inside))
+first_from zero (b ∷ bs) d inside = refl
+first_from (suc k) (b ∷ bs) d inside = first_from k bs d (omega (arith, inside))
+
+-- a write of one byte before the end goes over one
+pub one_over : (at : ℕ) (old : List ℕ) (d : ℕ) → at < length old → written_over at 1 old ≡ slice_index_or old at d ∷ []
+one_over at old d inside =
+    let low : min at (length old) ≡ at = omega (arith, inside) in
+    let one : min (at + 1) (length old) - min at (length old) ≡ 1 = omega (arith, inside) in
+    ap (λ (k : ℕ). take k (drop (min at (length old)) old)) one ∙ ap (λ (k : ℕ). take 1 (drop k old)) low ∙ first_from at old d inside
+
 module _ (old now lost : List ℕ) (changes : List Change) (at n : ℕ) where
   -- the bytes that a write covers
-  abbrev pub overwritten : List ℕ
-  overwritten = take (min (at + n) (length old) - min at (length old)) (drop (min at (length old)) old)
+  abbrev overwritten : List ℕ
+  overwritten = written_over at n old
 
   overwritten_long : length overwritten ≡ min (at + n) (length old) - min at (length old)
   overwritten_long = length-take (min (at + n) (length old) - min at (length old)) (drop (min at (length old)) old) ∙ omega (arith, length-drop (min at (length old)) old)

@@ -12,6 +12,10 @@ covered (Write at len was) = min (at + len) was - min at was
 covered (Resize len was) = was - min len was
 covered Nothing = 0
 
+-- the bytes that a write of n bytes goes over
+abbrev pub written_over : ℕ → ℕ → List ℕ → List ℕ
+written_over at n old = take (min (at + n) (length old) - min at (length old)) (drop (min at (length old)) old)
+
 -- what reads gave before a call, from what they give after it and what it wrote over or cut off
 abbrev pub before : Call → List ℕ → List ℕ → List ℕ
 before (Write at len was) now lost = take (min at was) now ++ (lost ++ take (was - (at + len)) (drop (at + len) now))

@@ -2,7 +2,7 @@
 ghost use Rattle.std.specs.Prelude.{ℕ, List, [], ◌∷◌, false, ◌≡◌, ◌≤◌, ◌<◌, ◌+◌, ◌^◌, ◌++◌, length, take, drop, IfOk, OnOk, OnErr, Some, vec_len, vec_capacity};
 ghost use Rattle.tp_outside.specs.Disk.{IsWritten, IsResized, Writes, Resizes};
 ghost use Rattle.tp_outside.specs.Story.{Synced, Made};
-ghost use Rattle.tp_outside.specs.Changes.{story_after};
+ghost use Rattle.tp_outside.specs.Changes.{story_after, written_over};
 
 use std::alloc::{AllocError, Global};
 
@@ -52,15 +52,22 @@ impl Changes {
         self.lost.clear();
     }
 
-    // Makes room for a call, and keeps the bytes that it is to write over or cut off.
-    #[inline(always)]
-    fn keep(&mut self, lost: &[u8]) -> Result<(), AllocError>
+    // Makes room for a call.
+    fn make_room(&mut self) -> Result<(), AllocError>
         ensures items { self.new.items.items ≡ self.old.items.items }
         ensures room { OnOk result (vec_len self.new.items < vec_capacity self.new.items) }
+        ensures lost { self.new.lost.items ≡ self.old.lost.items }
+    {
+        self.items.reserve(1)?;
+        Ok(())
+    }
+
+    // Keeps the bytes that a call is to write over or cut off.
+    fn keep(&mut self, lost: &[u8]) -> Result<(), AllocError>
+        ensures items { self.new.items ≡ self.old.items }
         ensures ok { OnOk result (self.new.lost.items ≡ self.old.lost.items ++ lost.now) }
         ensures err { OnErr result (self.new.lost.items ≡ self.old.lost.items) }
     {
-        self.items.reserve(1)?;
         self.lost.extend_from_slice(lost)
     }
 
@@ -70,11 +77,10 @@ impl Changes {
         ensures items { self.new.items.items ≡ self.old.items.items ++ record { call = call; synced = false } ∷ [] }
         ensures lost { self.new.lost.items ≡ self.old.lost.items }
     {
-        let change = Change {
+        self.items.push_reserved(Change {
             call,
             synced: false,
-        };
-        self.items.push(change).unwrap();
+        });
     }
 
     /// A sync was made.
@@ -117,6 +123,74 @@ fn overwrite(bytes: &mut Vec<u8>, at: usize, piece: &[u8]) -> Result<(), AllocEr
     Ok(())
 }
 
+// Writes a piece at any place, and keeps the bytes that it writes over. Without memory nothing changes.
+fn replace(
+    bytes: &mut Vec<u8>,
+    lost: &mut Vec<u8>,
+    at: usize,
+    piece: &[u8],
+) -> Result<(), AllocError>
+    requires { at + length piece.now < 2 ^ 32 }
+    ensures written { OnOk result (IsWritten at piece.now bytes.old.items bytes.new.items) }
+    ensures lost { OnOk result (lost.new.items ≡ lost.old.items ++ written_over at (length piece.now) bytes.old.items) }
+    ensures same { OnErr result (bytes.new.items ≡ bytes.old.items) }
+    ensures none_lost { OnErr result (lost.new.items ≡ lost.old.items) }
+{
+    let was = bytes.len();
+    let kept = lost.len();
+    lost.extend_from_slice(&bytes[at.min(was)..(at + piece.len()).min(was)])?;
+    if let Err(fault) = overwrite(bytes, at, piece) {
+        lost.truncate(kept);
+        return Err(fault);
+    }
+    Ok(())
+}
+
+// Writes one byte in the place of another, which it keeps. Without memory nothing changes.
+#[tactic(auto, using(crate::proofs::Torn::written_byte, crate::proofs::Records::one_over))]
+fn replace_byte(
+    bytes: &mut Vec<u8>,
+    lost: &mut Vec<u8>,
+    at: usize,
+    byte: u8,
+) -> Result<(), AllocError>
+    requires { at < vec_len bytes.old }
+    ensures written { OnOk result (IsWritten at (byte ∷ []) bytes.old.items bytes.new.items) }
+    ensures lost { OnOk result (lost.new.items ≡ lost.old.items ++ written_over at 1 bytes.old.items) }
+    ensures same { OnErr result (bytes.new.items ≡ bytes.old.items) }
+    ensures none_lost { OnErr result (lost.new.items ≡ lost.old.items) }
+{
+    lost.reserve(1)?;
+    lost.push_reserved(bytes[at]);
+    bytes[at] = byte;
+    Ok(())
+}
+
+// Writes a piece and keeps the bytes that it writes over: none at the end, and mostly one before it. Without memory
+// nothing changes.
+#[tactic(auto, using(crate::proofs::Torn::written_after, crate::proofs::Records::none_over))]
+fn put_piece(
+    bytes: &mut Vec<u8>,
+    lost: &mut Vec<u8>,
+    at: usize,
+    piece: &[u8],
+) -> Result<(), AllocError>
+    requires { at + length piece.now < 2 ^ 32 }
+    ensures written { OnOk result (IsWritten at piece.now bytes.old.items bytes.new.items) }
+    ensures lost { OnOk result (lost.new.items ≡ lost.old.items ++ written_over at (length piece.now) bytes.old.items) }
+    ensures same { OnErr result (bytes.new.items ≡ bytes.old.items) }
+    ensures none_lost { OnErr result (lost.new.items ≡ lost.old.items) }
+{
+    let was = bytes.len();
+    if at == was {
+        return bytes.extend_from_slice(piece);
+    }
+    if at < was && piece.len() == 1 {
+        return replace_byte(bytes, lost, at, piece[0]);
+    }
+    replace(bytes, lost, at, piece)
+}
+
 // Where so many bytes at a place end, if a disk in memory may be that long.
 fn end_of(at: usize, len: usize) -> Result<usize, AllocError>
     ensures { IfOk result (λ end. (end ≡ at + len) × (end < 2 ^ 32)) }
@@ -149,16 +223,12 @@ pub(crate) fn write(
 {
     let was = bytes.len();
     let from = at as usize;
-    let end = end_of(from, piece.len())?;
+    let _end = end_of(from, piece.len())?;
     if was > MOST_BYTES {
         return Err(AllocError);
     }
-    let kept = changes.lost.len();
-    changes.keep(&bytes[from.min(was)..end.min(was)])?;
-    if let Err(fault) = overwrite(bytes, from, piece) {
-        changes.lost.truncate(kept);
-        return Err(fault);
-    }
+    changes.make_room()?;
+    put_piece(bytes, &mut changes.lost, from, piece)?;
     changes.add(Call::Write {
         at: from as u32,
         len: piece.len() as u32,
@@ -181,6 +251,7 @@ pub(crate) fn set_len(
     if was > MOST_BYTES || end > MOST_BYTES {
         return Err(AllocError);
     }
+    changes.make_room()?;
     let kept = changes.lost.len();
     changes.keep(&bytes[end.min(was)..])?;
     if let Err(fault) = resize(bytes, end) {

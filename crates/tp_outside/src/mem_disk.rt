@@ -142,7 +142,7 @@ impl MemDisk {
     fn is_next_due(&self) -> bool
         ensures { IsTrue result ↔ Contains (recorded self.now).fails (one_more (recorded self.now).calls) }
     {
-        due::is_due(&self.fails, self.calls.saturating_add(1))
+        !self.fails.is_empty() && due::is_due(&self.fails, self.calls.saturating_add(1))
     }
 
     // Counts a call that found memory or did not, and that was due to fail or not.

@@ -335,7 +335,9 @@ fn copy_all(ties: &mut Vec<Tie>, others: &[Tie]) -> Result<(), NoMemory>
     ensures capacity { vec_capacity ties.old ≤ vec_capacity ties.new }
 {
     if ties.len() == others.len() {
-        ties.copy_from_slice(others);
+        if !others.is_empty() {
+            ties.copy_from_slice(others);
+        }
         return Ok(());
     }
     ties.reserve(others.len().saturating_sub(ties.len()))?;
@@ -351,8 +353,15 @@ fn copy_one(tie: &mut Option<Tie>, other: &Option<Tie>)
     ensures { tie.new ≡ other.now }
 {
     match other {
-        None => *tie = None,
-        Some(other) => *tie = Some(*other),
+        None => {
+            if tie.is_some() {
+                *tie = None;
+            }
+        }
+        Some(other) => match tie {
+            None => *tie = Some(*other),
+            Some(own) => *own = *other,
+        },
     }
 }
 
