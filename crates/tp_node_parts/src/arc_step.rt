@@ -42,7 +42,7 @@ fn is_under_at(branch: &Branch, peer: u16) -> bool
 fn is_arc_of(branch: &Branch, tie: &Tie) -> bool
     ensures { result ≡ is_arc_of branch.now (arc_of tie.now) }
 {
-    branch.situation(tie.addr().node).branch
+    branch.has_arc(tie.addr().node)
 }
 
 /// A grant is deferred on the arc.

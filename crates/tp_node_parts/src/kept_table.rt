@@ -167,14 +167,10 @@ impl KeptTable {
         Ok(())
     }
 
-    /// A change that waits is carried out where nobody else has them and there is memory. They are the same.
-    #[inline(always)]
-    pub fn settle(&mut self, alloc: Global)
+    // The change that waits is carried out where nobody else has them and there is memory.
+    fn settle_change(&mut self, alloc: Global)
         ensures { self.new ≡ self.old }
     {
-        if self.change.is_none() {
-            return;
-        }
         if self.shared.is_none() {
             let Ok(all) = Arc::new(alloc, KeptMap::new(alloc)) else {
                 return;
@@ -188,6 +184,16 @@ impl KeptTable {
             return;
         };
         self.change = carry_out(all, self.change.take());
+    }
+
+    /// A change that waits is carried out where nobody else has them and there is memory. They are the same.
+    #[inline(always)]
+    pub fn settle(&mut self, alloc: Global)
+        ensures { self.new ≡ self.old }
+    {
+        if self.change.is_some() {
+            self.settle_change(alloc);
+        }
     }
 }
 

@@ -282,8 +282,20 @@ impl SharedArcs {
         self.change = Some(tie);
     }
 
-    /// Changes the link of the arc with that peer, where there is one.
+    // The arc with that peer, where there is one, stands aside with that link.
     #[tactic(auto, using(crate::proofs::Sides::with_link_none, crate::proofs::Shares::stands_link, crate::proofs::Shares::link_put))]
+    fn put_link_aside(&mut self, peer: u16, link: Link)
+        requires { fits_link (side_with self.old.superior peer) link ≡ true }
+        ensures { self.new ≡ record self.old { arcs = with_link self.old.arcs peer (λ _. link) } }
+    {
+        let Some(mut tie) = self.find(peer) else {
+            return;
+        };
+        tie.link = link;
+        self.set(tie);
+    }
+
+    /// Changes the link of the arc with that peer, where there is one.
     pub fn put_link(&mut self, peer: u16, link: Link)
         requires { fits_link (side_with self.old.superior peer) link ≡ true }
         ensures { self.new ≡ record self.old { arcs = with_link self.old.arcs peer (λ _. link) } }
@@ -292,15 +304,23 @@ impl SharedArcs {
             self.own.put_link(self.directory.of(peer), peer, link);
             return;
         }
+        self.put_link_aside(peer, link);
+    }
+
+    // The arc with that peer, where there is one, stands aside with that dialogue.
+    #[tactic(auto, using(crate::proofs::Sides::with_dialogue_none, crate::proofs::Shares::stands_dialogue, crate::proofs::Shares::dialogue_put))]
+    fn put_dialogue_aside(&mut self, peer: u16, dialogue: Dialogue)
+        requires { dialogue.side ≡ side_with self.old.superior peer }
+        ensures { self.new ≡ record self.old { arcs = with_dialogue self.old.arcs peer (λ _. dialogue.dialogue) } }
+    {
         let Some(mut tie) = self.find(peer) else {
             return;
         };
-        tie.link = link;
+        tie.dialogue = dialogue;
         self.set(tie);
     }
 
     /// Changes the dialogue of the arc with that peer, where there is one. The node's side stays.
-    #[tactic(auto, using(crate::proofs::Sides::with_dialogue_none, crate::proofs::Shares::stands_dialogue, crate::proofs::Shares::dialogue_put))]
     pub fn put_dialogue(&mut self, peer: u16, dialogue: Dialogue)
         requires { dialogue.side ≡ side_with self.old.superior peer }
         ensures { self.new ≡ record self.old { arcs = with_dialogue self.old.arcs peer (λ _. dialogue.dialogue) } }
@@ -310,17 +330,25 @@ impl SharedArcs {
                 .put_dialogue(self.directory.of(peer), peer, dialogue);
             return;
         }
+        self.put_dialogue_aside(peer, dialogue);
+    }
+
+    // The record with that pair and number is taken on the arc with that peer, where there is one, which stands aside with it.
+    #[tactic(auto, using(crate::proofs::Takes::none_taken))]
+    fn take_aside(&mut self, peer: u16, x: Mark, y: Mark, seq: u64, wakes: bool)
+        requires { dropped_by (link_with self.old.arcs peer) x y seq ≡ None }
+        ensures { self.new ≡ record self.old { arcs = taken_in wakes peer self.old.arcs } }
+    {
         let Some(mut tie) = self.find(peer) else {
             return;
         };
-        tie.dialogue = dialogue;
+        take_on(&mut tie, x, y, seq, wakes);
         self.set(tie);
     }
 
     /// The record with that pair and number is taken on the arc with that peer, where there is one, and ends its rest where
     /// it wakes it.
     #[inline(always)]
-    #[tactic(auto, using(crate::proofs::Takes::none_taken))]
     pub fn take(&mut self, peer: u16, x: Mark, y: Mark, seq: u64, wakes: bool)
         requires { dropped_by (link_with self.old.arcs peer) x y seq ≡ None }
         ensures { self.new ≡ record self.old { arcs = taken_in wakes peer self.old.arcs } }
@@ -330,11 +358,16 @@ impl SharedArcs {
                 .take(self.directory.of(peer), peer, x, y, seq, wakes);
             return;
         }
-        let Some(mut tie) = self.find(peer) else {
-            return;
-        };
-        take_on(&mut tie, x, y, seq, wakes);
-        self.set(tie);
+        self.take_aside(peer, x, y, seq, wakes);
+    }
+
+    // The same, to arcs that are shared with nobody from then on.
+    fn step_own(&mut self, step: ArcStep, branch: &Branch)
+        ensures { self.new ≡ record self.old { arcs = stepped_arcs step self.old.superior branch.now self.old.arcs } }
+    {
+        let mut own = self.take_own();
+        own.step(step, branch);
+        self.put_own(own);
     }
 
     /// What a passage of the transaction does to the arcs, to each in place.
@@ -345,9 +378,7 @@ impl SharedArcs {
             self.own.step(step, branch);
             return;
         }
-        let mut own = self.take_own();
-        own.step(step, branch);
-        self.put_own(own);
+        self.step_own(step, branch);
     }
 
     /// An arc that stands aside takes its place where nobody else has them, and many arcs are made ready to be shared. They are
@@ -355,10 +386,10 @@ impl SharedArcs {
     pub fn settle(&mut self, alloc: Global)
         ensures { self.new ≡ self.old }
     {
-        if self.shared.is_none() {
-            self.share(alloc);
-        } else {
+        if self.shared.is_some() {
             self.carry_out();
+        } else if self.own.subordinates() > FEW {
+            self.share(alloc);
         }
     }
 
@@ -386,8 +417,7 @@ impl SharedArcs {
         if self.shared.is_some() {
             return;
         }
-        let count = self.own.subordinates();
-        if count <= FEW || self.spare.reserve(count).is_err() {
+        if self.spare.reserve(self.own.subordinates()).is_err() {
             return;
         }
         let Ok(mut shared) = Arc::new(alloc, Arcs::new(alloc, 0, None, 32)) else {
@@ -402,10 +432,25 @@ impl SharedArcs {
         self.change = None;
     }
 
+    // The same, where the arc then stands aside.
+    #[tactic(auto, using(crate::proofs::Sides::carried_none, crate::proofs::Sides::carried_next, crate::proofs::Linked::fits_sent))]
+    fn number_aside(&mut self, peer: u16) -> Result<Option<Next>, NumbersSpent>
+        ensures arcs { (rec : RecordValue) → OnOk result (self.new ≡ record self.old { arcs = (carried self.old.arcs peer rec).0 }) }
+        ensures out { (rec : RecordValue) → IfOk result (λ next. outs_with next rec ≡ (carried self.old.arcs peer rec).1) }
+        ensures spent { (rec : RecordValue) → OnErr result (some_past_numbers (carried self.old.arcs peer rec).1 ≡ true) }
+        ensures same { OnErr result (self.new ≡ self.old) }
+    {
+        let Some(mut tie) = self.find(peer) else {
+            return Ok(None);
+        };
+        let next = number_on(&mut tie)?;
+        self.set(tie);
+        Ok(next)
+    }
+
     /// Numbers the next record that goes out on the arc with that peer, where it is live. Where no number is left, nothing
     /// changes.
     #[inline(always)]
-    #[tactic(auto, using(crate::proofs::Sides::carried_none, crate::proofs::Sides::carried_next, crate::proofs::Linked::fits_sent))]
     pub fn number_next(&mut self, peer: u16) -> Result<Option<Next>, NumbersSpent>
         ensures arcs { (rec : RecordValue) → OnOk result (self.new ≡ record self.old { arcs = (carried self.old.arcs peer rec).0 }) }
         ensures out { (rec : RecordValue) → IfOk result (λ next. outs_with next rec ≡ (carried self.old.arcs peer rec).1) }
@@ -415,12 +460,7 @@ impl SharedArcs {
         if self.shared.is_none() {
             return self.own.number_next(self.directory.of(peer), peer);
         }
-        let Some(mut tie) = self.find(peer) else {
-            return Ok(None);
-        };
-        let next = number_on(&mut tie)?;
-        self.set(tie);
-        Ok(next)
+        self.number_aside(peer)
     }
 
     /// Takes the arc with that peer away; where it is live the peer is told.

@@ -9,7 +9,7 @@ use Rattle.tp_node_parts.specs.Arcs.{Arcs, next_on}
 use Rattle.tp_node_parts.proofs.Sides.{arc_numbered, carry_leaves, carry_says, carry_spent}
 use Rattle.tp_node_parts.proofs.Shares.{link_put}
 use Rattle.tp_node_parts.proofs.Takes.{stands_numbered}
-use Rattle.tp_node_parts.proofs.shared_arcs.SharedArcs.number_next.Goals as goal
+use Rattle.tp_node_parts.proofs.shared_arcs.SharedArcs.number_aside.Goals as goal
 
 pub returns-in_err-next-clause-spent : goal.returns-in_err-next-clause-spent
 returns-in_err-next-clause-spent c rec =

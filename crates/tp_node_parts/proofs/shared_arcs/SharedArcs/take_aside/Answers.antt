@@ -4,7 +4,7 @@ use Rattle.tp_model.specs.Arcs.{put_arc}
 use Rattle.tp_tree.specs.Tie.{arc_of}
 use Rattle.tp_node_parts.specs.Arcs.{Arcs}
 use Rattle.tp_node_parts.proofs.Takes.{number_there, arc_taken, stands_taken, put_taken}
-use Rattle.tp_node_parts.proofs.shared_arcs.SharedArcs.take.Goals as goal
+use Rattle.tp_node_parts.proofs.shared_arcs.SharedArcs.take_aside.Goals as goal
 
 pub take_on-requires : goal.take_on-requires
 take_on-requires c = number_there c.args.self.now.arcs c.args.peer (arc_of c.in-Some.tie) c.args.x c.args.y c.args.seq (sym c.in-Some.ensures.arc) c.requires

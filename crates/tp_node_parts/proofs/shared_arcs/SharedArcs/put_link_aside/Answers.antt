@@ -3,7 +3,7 @@ use Rattle.tp_model.specs.Parts.{Arc}
 use Rattle.tp_tree.specs.Tie.{arc_of}
 use Rattle.tp_node_parts.specs.Arcs.{Arcs}
 use Rattle.tp_node_parts.proofs.Shares.{stands_link, link_put}
-use Rattle.tp_node_parts.proofs.shared_arcs.SharedArcs.put_link.Goals as goal
+use Rattle.tp_node_parts.proofs.shared_arcs.SharedArcs.put_link_aside.Goals as goal
 
 pub set-requires : goal.set-requires
 set-requires c = stands_link c.args.self.now c.args.peer c.in-Some.tie c.args.link c.in-Some.ensures.arc c.in-Some.ensures.side c.requires

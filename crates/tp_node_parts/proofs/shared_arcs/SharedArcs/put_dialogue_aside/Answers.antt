@@ -3,7 +3,7 @@ use Rattle.tp_model.specs.Parts.{Arc}
 use Rattle.tp_tree.specs.Tie.{arc_of}
 use Rattle.tp_node_parts.specs.Arcs.{Arcs}
 use Rattle.tp_node_parts.proofs.Shares.{stands_dialogue, dialogue_put}
-use Rattle.tp_node_parts.proofs.shared_arcs.SharedArcs.put_dialogue.Goals as goal
+use Rattle.tp_node_parts.proofs.shared_arcs.SharedArcs.put_dialogue_aside.Goals as goal
 
 pub set-requires : goal.set-requires
 set-requires c =
