@@ -78,8 +78,8 @@ fn answer_next<M: Member>(
     Ok(Some(next))
 }
 
-/// What the lines tell from that place on is put to members, and what they ask for is run; what is shown of it joins the lines.
-pub(crate) fn answer_all<M: Member>(
+// What the lines tell from that place on is put to members, and what they ask for is run; what is shown of it joins the lines.
+fn answer_queue<M: Member>(
     alloc: Global,
     world: &mut World,
     members: &mut Members<M>,
@@ -99,4 +99,22 @@ pub(crate) fn answer_all<M: Member>(
     Err(WorldFault::Limit {
         what: What::Answers,
     })
+}
+
+/// What the lines tell from that place on is put to members, and what they ask for is run; what is shown of it joins the lines. Mostly
+/// no member drives a node.
+pub(crate) fn answer_all<M: Member>(
+    alloc: Global,
+    world: &mut World,
+    members: &mut Members<M>,
+    from: usize,
+    lines: &mut OutLines,
+) -> Result<(), WorldFault>
+    ensures { (w : WorldValue) → WorldStands (memberless w) world.old → MembersStand w members.old.slots.items members.old.drivers.entries
+        → RunsAll M.allowed w from lines.old result lines.new world.new members.old.slots.items members.new.slots.items members.new.drivers.entries }
+{
+    if members.drive_none() {
+        return Ok(());
+    }
+    answer_queue(alloc, world, members, from, lines)
 }

@@ -64,8 +64,8 @@ impl<M: Member> Members<M> {
         place > 0 && place <= self.slots.len() && self.slots[place - 1].is_some()
     }
 
-    // No node is driven.
-    fn drive_none(&self) -> bool
+    /// No node is driven.
+    pub(crate) fn drive_none(&self) -> bool
         ensures { result ≡ true → self.now.drivers.entries ≡ [] }
     {
         self.drivers.is_empty()
@@ -152,9 +152,6 @@ pub(crate) fn next_request<M: Member>(
     ensures same { OnOk result (AreSame members.old.slots.items members.new.slots.items × (members.new.drivers ≡ members.old.drivers)) }
     ensures asks { IfOk result (λ a. AsksFrom M.allowed members.old.slots.items members.new.slots.items (driver_in members.old.slots.items members.old.drivers.entries) lines.now from a) }
 {
-    if members.drive_none() {
-        return Ok(None);
-    }
     for place in from..lines.len() {
         if let Some(asked) = members.ask(alloc, &lines[place])? {
             return Ok(Some((asked, place + 1)));

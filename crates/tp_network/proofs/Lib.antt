@@ -6,6 +6,5 @@ mod Queues
 mod Lanes
 mod TreeTables
 mod Gathering
-mod LastTrees
 mod Changes
 mod ChangedNodes

@@ -1,16 +1,19 @@
 //! What the nodes that stay in each tree were told.
-ghost use Rattle.std.specs.Prelude.{◌≡◌, cond, IfOk, OnOk};
+ghost use Rattle.std.specs.Prelude.{◌≡◌, true, false, cond, is_some, slice_get, Some, IfOk, OnOk};
+ghost use Rattle.std.specs.Map.{lookup};
 ghost use Rattle.tp_names.specs.declared.identifiers.Aaid.{Aaid as AaidValue};
 ghost use Rattle.tp_names.specs.Same.{is_aaid};
 ghost use Rattle.tp_model.specs.Trees.{is_told};
+ghost use Rattle.tp_network.specs.TreeKey.{is_tree};
 ghost use Rattle.tp_network.specs.TreeOutcomes.{no_outcomes, with_node, outcomes_in, outcomes_at, outcomes_after};
 
 use crate::nodes::NodeSlot;
 use crate::tree_key::Tree;
 use crate::tree_summary::TreeSummary;
+use indexmap::IndexMap;
 use std::alloc::Global;
-use std::collections::HashMap;
 use std::marker::Model;
+use tp_names::same::is_aaid;
 use tp_names::{Aaid, NoMemory, Outcome};
 
 /// Whether some, and whether all, of the nodes that stay in a tree were told each outcome.
@@ -57,10 +60,12 @@ impl TreeOutcomes {
     }
 }
 
-/// What the nodes that stay in each tree were told, found by the trees.
+/// What the nodes that stay in each tree were told, found by the trees. Mostly the trees of one node come in the order of those of
+/// another: the tree after the one that was told last is looked at first.
 #[derive(Drop)]
 pub struct OutcomesByTree {
-    outcomes: HashMap<Tree, TreeOutcomes>,
+    outcomes: IndexMap<Tree, TreeOutcomes>,
+    next: usize,
 }
 
 impl Model for OutcomesByTree {
@@ -79,7 +84,8 @@ impl OutcomesByTree {
         ensures { (t : AaidValue) → outcomes_in result t ≡ no_outcomes }
     {
         OutcomesByTree {
-            outcomes: HashMap::new(alloc),
+            outcomes: IndexMap::new(alloc),
+            next: 0,
         }
     }
 
@@ -92,8 +98,20 @@ impl OutcomesByTree {
         Ok(all)
     }
 
-    /// Of that tree.
-    pub fn at(&self, tree: &Aaid) -> TreeOutcomes
+    /// Of that tree, which is looked for first at that place.
+    pub fn at(&self, place: usize, tree: &Aaid) -> TreeOutcomes
+        ensures { result ≡ outcomes_in self.now tree.now }
+    {
+        if let Some((found, outcomes)) = self.outcomes.get_index(place)
+            && is_aaid(tree, &found.aaid)
+        {
+            return *outcomes;
+        }
+        self.found(tree)
+    }
+
+    // Of that tree, by the table.
+    fn found(&self, tree: &Aaid) -> TreeOutcomes
         ensures { result ≡ outcomes_in self.now tree.now }
     {
         let tree = Tree { aaid: *tree };
@@ -103,12 +121,16 @@ impl OutcomesByTree {
         }
     }
 
-    // Of that tree, with its first node.
-    fn start(&mut self, tree: Tree, summary: &TreeSummary) -> Result<(), NoMemory>
-        ensures { OnOk result ((t : AaidValue) → outcomes_in self.new t ≡ cond (is_aaid t tree.aaid) (with_node summary.now no_outcomes) (outcomes_in self.old t)) }
+    // Of that tree, with one node more, where another tree comes next.
+    fn add_other(&mut self, tree: &Tree, summary: &TreeSummary) -> Result<(), NoMemory>
+        ensures { OnOk result ((t : AaidValue) → outcomes_in self.new t ≡ cond (is_aaid t tree.now.aaid) (with_node summary.now (outcomes_in self.old t)) (outcomes_in self.old t)) }
     {
-        let outcomes = TreeOutcomes::NONE.with(summary);
-        self.outcomes.insert(tree, outcomes)?;
+        let first = TreeOutcomes::NONE.with(summary);
+        let (place, older) = self.outcomes.insert_full(*tree, first)?;
+        self.next = place.wrapping_add(1);
+        if let Some(older) = older {
+            put(&mut self.outcomes, tree, older.with(summary));
+        }
         Ok(())
     }
 
@@ -116,13 +138,53 @@ impl OutcomesByTree {
     pub(crate) fn add(&mut self, tree: &Tree, summary: &TreeSummary) -> Result<(), NoMemory>
         ensures { OnOk result ((t : AaidValue) → outcomes_in self.new t ≡ cond (is_aaid t tree.now.aaid) (with_node summary.now (outcomes_in self.old t)) (outcomes_in self.old t)) }
     {
-        match self.outcomes.get_mut(tree) {
-            Some(outcomes) => {
-                *outcomes = outcomes.with(summary);
-                Ok(())
-            }
-            None => self.start(*tree, summary),
+        if add_at(&mut self.outcomes, self.next, tree, summary) {
+            self.next = self.next.wrapping_add(1);
+            return Ok(());
         }
+        self.add_other(tree, summary)
+    }
+}
+
+// The tree at that place is that one.
+fn is_at(outcomes: &IndexMap<Tree, TreeOutcomes>, place: usize, tree: &Tree) -> bool
+    ensures { result ≡ true → slice_get outcomes.now.entries place ≡ Some (tree.now, outcomes_in outcomes.now.entries tree.now.aaid) }
+{
+    match outcomes.get_index(place) {
+        Some((found, _outcomes)) => is_aaid(&tree.aaid, &found.aaid),
+        None => false,
+    }
+}
+
+// With one node more, where the tree is at that place; it tells whether it is.
+fn add_at(
+    outcomes: &mut IndexMap<Tree, TreeOutcomes>,
+    place: usize,
+    tree: &Tree,
+    summary: &TreeSummary,
+) -> bool
+    ensures added { result ≡ true → (t : AaidValue) → outcomes_in outcomes.new.entries t ≡ cond (is_aaid t tree.now.aaid) (with_node summary.now (outcomes_in outcomes.old.entries t)) (outcomes_in outcomes.old.entries t) }
+    ensures same { result ≡ false → outcomes.new ≡ outcomes.old }
+{
+    if !is_at(outcomes, place, tree) {
+        return false;
+    }
+    match outcomes.get_index_mut(place) {
+        Some(found) => {
+            *found = found.with(summary);
+            true
+        }
+        None => false,
+    }
+}
+
+// Other outcomes of that tree, which has some.
+fn put(outcomes: &mut IndexMap<Tree, TreeOutcomes>, tree: &Tree, after: TreeOutcomes)
+    requires { is_some (lookup (is_tree tree.now) outcomes.old.entries) ≡ true }
+    ensures { (t : AaidValue) → outcomes_in outcomes.new.entries t ≡ cond (is_aaid t tree.now.aaid) after (outcomes_in outcomes.old.entries t) }
+{
+    if let Some(found) = outcomes.get_mut(tree) {
+        *found = after;
     }
 }
 

@@ -1,39 +1,38 @@
 //! The summaries that one node has in trees.
-ghost use Rattle.std.specs.Prelude.{◌≡◌, ◌&&◌, false, not, cond, IfOk, OnOk};
+ghost use Rattle.std.specs.Prelude.{◌≡◌, ◌&&◌, true, false, not, cond, is_some, slice_get, Some, IfOk, OnOk};
+ghost use Rattle.std.specs.Map.{lookup};
 ghost use Rattle.tp_names.specs.declared.identifiers.Aaid.{Aaid as AaidValue};
 ghost use Rattle.tp_names.specs.Same.{is_aaid};
+ghost use Rattle.tp_network.specs.TreeKey.{is_tree, tree_of};
 ghost use Rattle.tp_network.specs.TreeSummary.{is_in, is_that, no_summary, same_tree, stood_in, summary_after, tree_logged};
 ghost use Rattle.tp_network.specs.TreeOutcomes.{outcomes_in, with_node};
-ghost use Rattle.tp_network.specs.TreeSummaries.{summary_at, with_last};
+ghost use Rattle.tp_network.specs.TreeSummaries.{summary_at};
 
 use crate::tree_key::Tree;
 use crate::tree_outcomes::OutcomesByTree;
 use crate::tree_summary::{TreeChange, TreeSummary, is_in, stood_in, tree_logged};
+use indexmap::IndexMap;
 use std::alloc::Global;
-use std::collections::HashMap;
 use std::marker::Model;
 use tp_names::same::is_aaid;
 use tp_names::{Aaid, NoMemory};
 
 /// The summaries that one node has in trees, by the trees with which it had to do. Mostly an entry speaks of the tree of the
-/// entry before it: the summary in the tree that was changed last stands beside the table. What the table has of that tree is
-/// older.
+/// entry before it: the place of the tree that was changed last is looked at first.
 #[derive(Drop)]
 pub struct TreeSummaries {
-    last: Option<Aaid>,
-    in_last: TreeSummary,
-    summaries: HashMap<Tree, TreeSummary>,
+    summaries: IndexMap<Tree, TreeSummary>,
+    last: usize,
 }
 
 impl Model for TreeSummaries {
     ghost use Rattle.std.specs.Prelude.{List};
     ghost use Rattle.tp_network.specs.declared.tree_key.Tree.{Tree};
     ghost use Rattle.tp_network.specs.declared.tree_summary.TreeSummary.{TreeSummary};
-    ghost use Rattle.tp_network.specs.TreeSummaries.{with_last};
 
     ghost Value = { List (Tree × TreeSummary) };
 
-    ghost view = { λ s. with_last s.last s.in_last s.summaries.entries };
+    ghost view = { λ s. s.summaries.entries };
 }
 
 impl TreeSummaries {
@@ -42,9 +41,8 @@ impl TreeSummaries {
         ensures { (t : AaidValue) → summary_at result t ≡ no_summary }
     {
         TreeSummaries {
-            last: None,
-            in_last: TreeSummary::NONE,
-            summaries: HashMap::new(alloc),
+            summaries: IndexMap::new(alloc),
+            last: 0,
         }
     }
 
@@ -52,29 +50,32 @@ impl TreeSummaries {
     pub fn summary(&self, tree: &Aaid) -> TreeSummary
         ensures { result ≡ summary_at self.now tree.now }
     {
-        if is_that(tree, &self.last) {
-            return self.in_last;
+        let tree = Tree { aaid: *tree };
+        match self.summaries.get(&tree) {
+            Some(summary) => *summary,
+            None => TreeSummary::NONE,
         }
-        summary_kept(&self.summaries, tree)
     }
 
-    // The summary in that tree, which is told, after an entry, where another tree was changed last.
+    // The summary in that tree after an entry, where another tree was changed last.
     fn change_other(
         &mut self,
         tree: &Aaid,
-        summary: TreeSummary,
         is_before: bool,
         is_after: bool,
         change: &TreeChange,
     ) -> Result<(), NoMemory>
-        requires summary { summary ≡ summary_at self.old tree.now }
         requires before { is_in tree.now change.now.before ≡ is_before }
         requires after { is_in tree.now change.now.after ≡ is_after }
         ensures { OnOk result ((t : AaidValue) → summary_at self.new t ≡ cond (is_aaid t tree.now) (summary_after t change.now (summary_at self.old t)) (summary_at self.old t)) }
     {
-        keep(&mut self.summaries, &self.last, self.in_last)?;
-        self.last = Some(*tree);
-        self.in_last = summary.after_in(tree, is_before, is_after, change);
+        let first = TreeSummary::NONE.after_in(tree, is_before, is_after, change);
+        let (place, older) = self.summaries.insert_full(Tree { aaid: *tree }, first)?;
+        self.last = place;
+        if let Some(older) = older {
+            let summary = older.after_in(tree, is_before, is_after, change);
+            put(&mut self.summaries, tree, summary);
+        }
         Ok(())
     }
 
@@ -91,12 +92,17 @@ impl TreeSummaries {
         requires after { is_in tree.now change.now.after ≡ is_after }
         ensures { OnOk result ((t : AaidValue) → summary_at self.new t ≡ cond (is_aaid t tree.now) (summary_after t change.now (summary_at self.old t)) (summary_at self.old t)) }
     {
-        if !is_that(tree, &self.last) {
-            let summary = summary_kept(&self.summaries, tree);
-            return self.change_other(tree, summary, is_before, is_after, change);
+        if change_at(
+            &mut self.summaries,
+            self.last,
+            tree,
+            is_before,
+            is_after,
+            change,
+        ) {
+            return Ok(());
         }
-        self.in_last = self.in_last.after_in(tree, is_before, is_after, change);
-        Ok(())
+        self.change_other(tree, is_before, is_after, change)
     }
 
     // The summary in the tree before an entry; it tells whether that is the tree after it too.
@@ -171,74 +177,66 @@ impl TreeSummaries {
     pub(crate) fn gather(&self, all: &mut OutcomesByTree) -> Result<(), NoMemory>
         ensures { OnOk result ((t : AaidValue) → outcomes_in all.new t ≡ with_node (summary_at self.now t) (outcomes_in all.old t)) }
     {
-        gather_others(&self.summaries, &self.last, all)?;
-        match &self.last {
-            Some(tree) => all.add(&Tree { aaid: *tree }, &self.in_last),
-            None => Ok(()),
-        }
+        gather_in(&self.summaries, all)
     }
 }
 
-// The tree is that one.
-fn is_that(tree: &Aaid, that: &Option<Aaid>) -> bool
-    ensures { result ≡ is_that tree.now that.now }
+// What the nodes of each tree were told, with the node of these summaries too.
+fn gather_in(
+    summaries: &IndexMap<Tree, TreeSummary>,
+    all: &mut OutcomesByTree,
+) -> Result<(), NoMemory>
+    ensures { OnOk result ((t : AaidValue) → outcomes_in all.new t ≡ with_node (summary_at summaries.now.entries t) (outcomes_in all.old t)) }
 {
-    match that {
-        Some(that) => is_aaid(tree, that),
+    for (tree, summary) in summaries.iter() {
+        all.add(tree, summary)?;
+    }
+    Ok(())
+}
+
+// The tree at that place is that one.
+fn is_at(summaries: &IndexMap<Tree, TreeSummary>, place: usize, tree: &Aaid) -> bool
+    ensures { result ≡ true → slice_get summaries.now.entries place ≡ Some (tree_of tree.now, summary_at summaries.now.entries tree.now) }
+{
+    match summaries.get_index(place) {
+        Some((found, _summary)) => is_aaid(tree, &found.aaid),
         None => false,
     }
 }
 
-// The summary in that tree, by the table.
-fn summary_kept(summaries: &HashMap<Tree, TreeSummary>, tree: &Aaid) -> TreeSummary
-    ensures { result ≡ summary_at summaries.now.entries tree.now }
+// The summary in that tree after an entry, where the tree is at that place; it tells whether it is.
+fn change_at(
+    summaries: &mut IndexMap<Tree, TreeSummary>,
+    place: usize,
+    tree: &Aaid,
+    is_before: bool,
+    is_after: bool,
+    change: &TreeChange,
+) -> bool
+    requires before { is_in tree.now change.now.before ≡ is_before }
+    requires after { is_in tree.now change.now.after ≡ is_after }
+    ensures changed { result ≡ true → (t : AaidValue) → summary_at summaries.new.entries t ≡ cond (is_aaid t tree.now) (summary_after t change.now (summary_at summaries.old.entries t)) (summary_at summaries.old.entries t) }
+    ensures same { result ≡ false → summaries.new ≡ summaries.old }
+{
+    if !is_at(summaries, place, tree) {
+        return false;
+    }
+    match summaries.get_index_mut(place) {
+        Some(summary) => {
+            *summary = summary.after_in(tree, is_before, is_after, change);
+            true
+        }
+        None => false,
+    }
+}
+
+// Another summary in that tree, which has one.
+fn put(summaries: &mut IndexMap<Tree, TreeSummary>, tree: &Aaid, summary: TreeSummary)
+    requires { is_some (lookup (is_tree (tree_of tree.now)) summaries.old.entries) ≡ true }
+    ensures { (t : AaidValue) → summary_at summaries.new.entries t ≡ cond (is_aaid t tree.now) summary (summary_at summaries.old.entries t) }
 {
     let tree = Tree { aaid: *tree };
-    match summaries.get(&tree) {
-        Some(summary) => *summary,
-        None => TreeSummary::NONE,
+    if let Some(found) = summaries.get_mut(&tree) {
+        *found = summary;
     }
-}
-
-// The summary in the last tree is put into the table.
-fn keep(
-    summaries: &mut HashMap<Tree, TreeSummary>,
-    last: &Option<Aaid>,
-    summary: TreeSummary,
-) -> Result<(), NoMemory>
-    ensures { OnOk result ((t : AaidValue) → summary_at summaries.new.entries t ≡ summary_at (with_last last.now summary summaries.old.entries) t) }
-{
-    if let Some(tree) = last {
-        summaries.insert(Tree { aaid: *tree }, summary)?;
-    }
-    Ok(())
-}
-
-// What the nodes of that tree were told, with one node more, unless it is the last tree.
-fn add_other(
-    tree: &Tree,
-    summary: &TreeSummary,
-    last: &Option<Aaid>,
-    all: &mut OutcomesByTree,
-) -> Result<(), NoMemory>
-    ensures { OnOk result ((t : AaidValue) → outcomes_in all.new t ≡ cond (is_aaid t tree.now.aaid && not (is_that t last.now)) (with_node summary.now (outcomes_in all.old t)) (outcomes_in all.old t)) }
-{
-    if is_that(&tree.aaid, last) {
-        return Ok(());
-    }
-    all.add(tree, summary)
-}
-
-// What the nodes of each tree but the last were told, with the node of these summaries too.
-fn gather_others(
-    summaries: &HashMap<Tree, TreeSummary>,
-    last: &Option<Aaid>,
-    all: &mut OutcomesByTree,
-) -> Result<(), NoMemory>
-    ensures { OnOk result ((t : AaidValue) → outcomes_in all.new t ≡ cond (is_that t last.now) (outcomes_in all.old t) (with_node (summary_at summaries.now.entries t) (outcomes_in all.old t))) }
-{
-    for (tree, summary) in summaries.iter() {
-        add_other(tree, summary, last, all)?;
-    }
-    Ok(())
 }

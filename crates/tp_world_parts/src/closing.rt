@@ -1,5 +1,5 @@
 //! The lines that close a transcript.
-ghost use Rattle.std.specs.Prelude.{◌≡◌, IfOk};
+ghost use Rattle.std.specs.Prelude.{◌≡◌, ◌++◌, ◌∷◌, [], IfOk, OnOk};
 ghost use Rattle.tp_names.specs.declared.identifiers.Aaid.{Aaid as AaidValue};
 ghost use Rattle.tp_network.specs.TreeOutcomes.{outcomes_in, outcomes_at};
 ghost use Rattle.tp_world_parts.specs.Told.{decides_in, deciders_at, line_by, closing_at};
@@ -33,26 +33,27 @@ fn deciders(alloc: Global, tree: &Aaid, nodes: &[NodeSlot]) -> Result<NodeNumber
     Ok(numbers)
 }
 
-// The line of a tree whose staying nodes were told that.
-fn closing_line(
+// The line of a tree whose staying nodes were told that comes after the others.
+fn close_tree(
     alloc: Global,
     tree: &Aaid,
     outcomes: TreeOutcomes,
     nodes: &[NodeSlot],
-) -> Result<OutLine, NoMemory>
-    ensures { IfOk result (λ line. line ≡ line_by tree.now nodes.now outcomes) }
+    lines: &mut OutLines,
+) -> Result<(), NoMemory>
+    ensures { OnOk result (lines.new ≡ lines.old ++ line_by tree.now nodes.now outcomes ∷ []) }
 {
     let aaid = *tree;
     if outcomes.some_committed && outcomes.some_rolled_back {
         let by = deciders(alloc, tree, nodes)?;
-        return Ok(OutLine::Mixed { aaid, by });
+        return lines.push(alloc, OutLine::Mixed { aaid, by });
     }
     let outcome = match (outcomes.all_committed, outcomes.all_rolled_back) {
         (true, _) => Outcome::Commit,
         (false, true) => Outcome::Rollback,
-        (false, false) => return Ok(OutLine::Open { aaid }),
+        (false, false) => return lines.push(alloc, OutLine::Open { aaid }),
     };
-    Ok(OutLine::Agreed { aaid, outcome })
+    lines.push(alloc, OutLine::Agreed { aaid, outcome })
 }
 
 // One line for each of the trees.
@@ -66,8 +67,8 @@ fn lines_of(
 {
     let mut lines = OutLines::new(alloc);
     for i in 0..trees.len() {
-        let line = closing_line(alloc, &trees[i], all.at(&trees[i]), nodes)?;
-        lines.push(alloc, line)?;
+        let tree = &trees[i];
+        close_tree(alloc, tree, all.at(i, tree), nodes, &mut lines)?;
     }
     Ok(lines)
 }

@@ -1,11 +1,7 @@
 use Rattle.std.proofs.Common.{ap, ◌∙◌, Some, None}
 use Rattle.tp_driven.specs.Members.{driver_in}
-use Rattle.tp_driven.proofs.Asking.{asks_as, asked_there, none_asked, passed_more, same_more}
+use Rattle.tp_driven.proofs.Asking.{asks_as, asked_there, passed_more, same_more}
 use Rattle.tp_driven.proofs.members.next_request.Goals as goal
-
-pub returns-then-drive_none-clause-asks : goal.returns-then-drive_none-clause-asks
-returns-then-drive_none-clause-asks g c =
-    none_asked _ c.args.members.now.slots.items c.args.members.now.drivers.entries c.args.lines.now c.args.from (c.drive_none.ensures c.if-drive_none.true)
 
 pub returns-in-Some-clause-asks : goal.returns-in-Some-clause-asks
 returns-in-Some-clause-asks g c =

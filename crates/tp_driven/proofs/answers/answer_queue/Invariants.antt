@@ -4,7 +4,7 @@ use Rattle.tp_members.specs.Expansion.{memberless}
 use Rattle.tp_world.specs.World.{Stands as WorldStands}
 use Rattle.tp_driven.specs.Standing.{MembersStand}
 use Rattle.tp_driven.specs.Running.{RunsOn}
-use Rattle.tp_driven.proofs.answers.answer_all.Given as goal
+use Rattle.tp_driven.proofs.answers.answer_queue.Given as goal
 
 abbrev pub invariant-loop-before : goal.invariant-loop-before
 invariant-loop-before g l =
