@@ -1,7 +1,14 @@
 -- The events of a node as they are given to it, and what a node answers: a refusal, or what the event makes of it. An
 -- answer out of phase is followed by the loss of its association.
-use Rattle.std.specs.Prelude.{ℕ, Bool, true, false, Option, Some, None}
+use Rattle.std.specs.Prelude.{ℕ, Bool, true, false, Option, Some, None, Result, Ok, Err}
+use Rattle.std.specs.Option.{option_map}
+use Rattle.tp_names.specs.declared.identifiers.Addr.{Addr}
+use Rattle.tp_records.specs.declared.peer.PeerRecord.{PeerRecord}
 use Rattle.tp_model.specs.Parts.{Who, Event, Declare, Do, Arrive, Break, Lose, Heur, GiveUp, Retry, Purge, Digest, Accepted, Refused, Breaks}
+use Rattle.tp_model.specs.Dialogues.{Sight}
+use Rattle.tp_model.specs.Arcs.{find_arc}
+use Rattle.tp_model.specs.Arrivals.{sight_at}
+use Rattle.tp_model.specs.declared.disposition.Disposition.{Disposition}
 use Rattle.tp_model.specs.Node.{Move}
 use Rattle.tp_model.specs.Events.{action, verdict, refused_plainly, is_no_node, unless_missing, has_pair}
 use Rattle.tp_model.specs.declared.refusal.Refusal.{Refusal}
@@ -29,6 +36,20 @@ refused_at_once who d (NodeEvent.Heur o) = refused_plainly who d (Heur o)
 refused_at_once who d (NodeEvent.GiveUp p) = refused_plainly who d (GiveUp p)
 refused_at_once who d NodeEvent.Retry = unless_missing (is_no_node d) None
 refused_at_once who d NodeEvent.Purge = refused_plainly who d Purge
+
+-- of a judgement: the refusal, where it is one
+abbrev pub refusal_in : Result (Option Disposition) Refusal → Option Refusal
+refusal_in (Ok seen) = None
+refusal_in (Err x) = Some x
+
+-- what comes of a record that arrives on an association, by the arc with its sender; nothing is said of others
+abbrev pub sight_from : Who → Digest → Addr → PeerRecord → Option Sight
+sight_from who d from (PeerRecord.OnAssoc x y q r) = option_map (λ a. sight_at who d a r) (find_arc d.arcs from.node)
+sight_from who d from _ = None
+
+abbrev pub sight_of : Who → Digest → NodeEvent → Option Sight
+sight_of who d (NodeEvent.Arrive from r) = sight_from who d from r.now
+sight_of who d _ = None
 
 -- what a node answers
 pub data Answer : Type 0 where

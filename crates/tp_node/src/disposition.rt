@@ -1,7 +1,5 @@
 //! What comes of a record that a node takes on an association.
 ghost use Rattle.std.specs.Prelude.{◌≡◌};
-ghost use Rattle.std.specs.Option.{option_map};
-ghost use Rattle.tp_model.specs.Arcs.{find_arc};
 ghost use Rattle.tp_model.specs.Arrivals.{sight_of_begin, sight_at, branch_key};
 ghost use Rattle.tp_model.specs.Node.{side_at};
 ghost use Rattle.tp_tree.specs.Tie.{arc_of};
@@ -103,17 +101,6 @@ impl Node {
                     tie,
                     self.disposition_of_current(tie, rec, Disposition::Nothing),
                 ),
-        }
-    }
-
-    /// What comes of a record on the arc with that peer, where there is one.
-    #[tactic(auto, using(crate::proofs::Arriving::at_peer))]
-    pub fn disposition_at(&self, peer: u16, rec: &DialogueRecord) -> Option<Disposition>
-        ensures { option_map sight_value result ≡ option_map (λ a. sight_at self.now.who self.now.digest a rec.now) (find_arc self.now.digest.arcs peer) }
-    {
-        match self.tie(peer) {
-            None => None,
-            Some(tie) => Some(self.disposition(tie, rec)),
         }
     }
 }

@@ -62,6 +62,9 @@ use tp_recover::refused;
 use tp_tree::Tie;
 use tp_units::{CHAINED, COMMIT, POLARIZED, Units, choose};
 
+/// The arcs with so few subordinates are shared with no copy.
+const FEW: usize = 8;
+
 /// One node of a site, which contracts see as what is known of it by the definitions.
 #[derive(Debug, Drop)]
 pub struct Node {
@@ -184,9 +187,27 @@ impl Node {
     pub fn settle_after(&mut self, alloc: Global, before: &mut Node)
         ensures { self.new ≡ self.old }
     {
+        if self.kept.len() != 0 || before.kept.len() != 0 {
+            self.settle_kept(alloc, before);
+        }
+        if self.count_below() > FEW || before.count_below() > FEW {
+            self.settle_arcs(alloc, before);
+        }
+    }
+
+    // Of the kept transactions.
+    fn settle_kept(&mut self, alloc: Global, before: &mut Node)
+        ensures { self.new ≡ self.old }
+    {
         before.kept = KeptTable::new();
-        release(&mut before.arcs);
         self.kept.settle(alloc);
+    }
+
+    // Of the arcs.
+    fn settle_arcs(&mut self, alloc: Global, before: &mut Node)
+        ensures { self.new ≡ self.old }
+    {
+        release(&mut before.arcs);
         if let Some(arcs) = &mut self.arcs {
             arcs.settle(alloc);
         }
@@ -993,20 +1014,20 @@ impl Node {
         &mut self,
         alloc: Global,
         spare: &mut Spare,
-        superior: Addr,
-        aaid: Aaid,
-        branch: BranchId,
+        superior: &Addr,
+        aaid: &Aaid,
+        branch: &BranchId,
         holder: Holder,
     ) -> Result<(), NoMemory>
-        requires { Side.Subordinate ≡ side_at self.old.digest superior.node }
-        ensures { OnOk result (self.new ≡ with_digest self.old (begun_under superior aaid branch holder self.old.digest)) }
+        requires { Side.Subordinate ≡ side_at self.old.digest superior.now.node }
+        ensures { OnOk result (self.new ≡ with_digest self.old (begun_under superior.now aaid.now branch.now holder self.old.digest)) }
     {
         self.begin_dialogue(superior.node, holder);
         let key = NodeKey {
-            aaid,
-            branch: Some(branch),
+            aaid: *aaid,
+            branch: Some(*branch),
         };
-        self.begin_transaction(alloc, spare, &key, &Some(superior))
+        self.begin_transaction(alloc, spare, &key, &Some(*superior))
     }
 
     /// A record with that pair and number is taken on the arc with that peer; any but a response ends the arc's rest.
@@ -1033,18 +1054,23 @@ impl Node {
         ensures spent { OnSpent result (nat_lt greatest (begun_on self.old.who peer self.old.digest).0.drawn ≡ true) }
         ensures memory { has_place_below self.old.digest.current ≡ true → IfErr result (λ halt. halt ≡ Halt.NumbersSpent) }
     {
-        let (Some(aaid), Some(tie)) = (self.aaid(), self.find(peer)) else {
+        let Some(aaid) = self.aaid() else {
             return Ok(None);
         };
-        if !self.may_begin_on(&tie) {
+        let Some(tie) = self.tie(peer) else {
+            return Ok(None);
+        };
+        if !self.may_begin_on(tie) {
             return Ok(None);
         }
+        let addr = tie.addr();
+        let dialogue = tie.dialogue;
         let branch = BranchId {
             superior: self.site,
             mark: self.draw()?,
         };
-        self.begin_on(&tie, branch)?;
-        let holder = named_holder(&tie.dialogue);
+        self.begin_on(&addr, &dialogue, &branch)?;
+        let holder = named_holder(&dialogue);
         Ok(Some(DialogueRecord::Begin {
             aaid,
             branch,
@@ -1052,22 +1078,27 @@ impl Node {
         }))
     }
 
-    // The branch begins on that arc.
+    // The branch begins on the arc with that address and dialogue.
     #[tactic(auto, unfolding(tp_model::specs::Dialogues::begun_by))]
-    fn begin_on(&mut self, tie: &Tie, branch: BranchId) -> Result<(), NoMemory>
-        requires { tie.now.dialogue.side ≡ side_at self.old.digest (arc_of tie.now).peer.node }
+    fn begin_on(
+        &mut self,
+        addr: &Addr,
+        dialogue: &Dialogue,
+        branch: &BranchId,
+    ) -> Result<(), NoMemory>
+        requires { dialogue.now.side ≡ side_at self.old.digest addr.now.node }
         ensures memory { has_place_below self.old.digest.current ≡ true → result ≡ Ok tt }
         ensures begun { OnOk result (self.new ≡ with_digest self.old (record self.old.digest {
-          arcs = with_dialogue self.old.digest.arcs (arc_of tie.now).peer.node (λ _. begun_by (named_holder (arc_of tie.now).dialogue) tie.now.dialogue.side (arc_of tie.now).dialogue);
-          current = with_branch (record { addr = (arc_of tie.now).peer; branch = branch }) self.old.digest.current;
+          arcs = with_dialogue self.old.digest.arcs addr.now.node (λ _. begun_by (named_holder dialogue.now.dialogue) dialogue.now.side dialogue.now.dialogue);
+          current = with_branch (record { addr = addr.now; branch = branch.now }) self.old.digest.current;
         })) }
     {
-        let mut dialogue = tie.dialogue;
-        dialogue.begin(named_holder(&tie.dialogue));
-        self.put_dialogue(tie.addr().node, dialogue);
+        let mut begun = *dialogue;
+        begun.begin(named_holder(dialogue));
+        self.put_dialogue(addr.node, begun);
         self.add_branch(&Child {
-            addr: tie.addr(),
-            branch,
+            addr: *addr,
+            branch: *branch,
         })
     }
 }

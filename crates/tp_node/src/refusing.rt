@@ -1,18 +1,19 @@
 //! Why a node refuses an event, and a record that arrives among them. It takes no memory.
-ghost use Rattle.std.specs.Prelude.{◌≡◌, [], ◌∷◌, if◌then◌else◌};
+ghost use Rattle.std.specs.Prelude.{◌≡◌, [], ◌∷◌, None, IfOk, if◌then◌else◌};
+ghost use Rattle.std.specs.Option.{option_map};
 ghost use Rattle.tp_names.specs.Same.{is_addr};
 ghost use Rattle.tp_model.specs.Parts.{Idle};
 ghost use Rattle.tp_tree.specs.Tie.{arc_of};
 ghost use Rattle.tp_model.specs.Dialogues.{first};
 ghost use Rattle.tp_model.specs.Parts.{Do, Heur, GiveUp};
 ghost use Rattle.tp_model.specs.Events.{refused_plainly, unless_missing, is_no_node};
-ghost use Rattle.tp_node.specs.NodeEvent.{refused_at_once};
+ghost use Rattle.tp_node.specs.NodeEvent.{refused_at_once, refusal_in, sight_from, sight_of};
 ghost use Rattle.tp_model.specs.Transactions.{out_of_phase};
 ghost use Rattle.tp_model.specs.Disposition.{sight_value};
 ghost use Rattle.tp_records.specs.declared.peer.PeerRecord.{PeerRecord};
 ghost use Rattle.tp_model.specs.Links.{is_opening_with, is_live_with, is_idle};
-ghost use Rattle.tp_model.specs.Arcs.{link_from, link_with};
-ghost use Rattle.tp_model.specs.Arrivals.{is_from_superior, is_shut_by, is_other, is_misplaced_order, is_bad_answer, branch_key, refused_arrival, refused_on, kept_superior, child_addr, named_by_key, named_by_branch, refused_reply};
+ghost use Rattle.tp_model.specs.Arcs.{find_arc, link_from, link_with};
+ghost use Rattle.tp_model.specs.Arrivals.{is_from_superior, is_shut_by, is_other, is_misplaced_order, is_bad_answer, branch_key, refused_arrival, refused_on, sight_at, kept_superior, child_addr, named_by_key, named_by_branch, refused_reply};
 ghost use Rattle.tp_model.specs.declared.refusal.Refusal.TheVariants.{WrongSite};
 
 use crate::event::NodeEvent;
@@ -109,50 +110,78 @@ impl Node {
 
     // A record comes on an association.
     #[tactic(auto, using(crate::proofs::Arriving::at_peer, crate::proofs::Arriving::from_found, crate::proofs::Arriving::from_none))]
-    fn refused_on(
+    fn judge_on(
         &self,
         from: &Addr,
-        x: Mark,
-        y: Mark,
+        x: &Mark,
+        y: &Mark,
         seq: u64,
         rec: &DialogueRecord,
-    ) -> Option<Refusal>
-        ensures { result ≡ refused_on self.now.who self.now.digest from.now x y seq rec.now }
+    ) -> Result<Option<Disposition>, Refusal>
+        ensures refused { refusal_in result ≡ refused_on self.now.who self.now.digest from.now x.now y.now seq rec.now }
+        ensures sight { IfOk result (λ seen. option_map sight_value seen ≡ option_map (λ a. sight_at self.now.who self.now.digest a rec.now) (find_arc self.now.digest.arcs from.now.node)) }
     {
         let Some(tie) = self.tie(from.node) else {
-            return Some(OldAssociation);
+            return Err(OldAssociation);
         };
         let mut link = link_of(tie, from);
-        if let Err(dropped) = link.take(x, y, seq) {
-            return Some(dropped.refusal());
+        if let Err(dropped) = link.take(*x, *y, seq) {
+            return Err(dropped.refusal());
         }
-        out_of_phase(self.disposition(tie, rec))
+        let disposition = self.disposition(tie, rec);
+        match out_of_phase(disposition) {
+            None => Ok(Some(disposition)),
+            Some(refusal) => Err(refusal),
+        }
     }
 
-    /// Why a record is refused that arrives, but for the want of numbers.
+    /// Why a record is refused that arrives, but for the want of numbers; or what comes of it, where it comes on an association.
     #[inline(always)]
     #[tactic(auto, unfolding(tp_model::specs::Arrivals::refused_arrival))]
-    pub fn refused_arrival(&self, from: &Addr, rec: &PeerRecord) -> Option<Refusal>
-        ensures { result ≡ refused_arrival self.now.who self.now.digest from.now rec.now }
+    pub fn judge_arrival(
+        &self,
+        from: &Addr,
+        rec: &PeerRecord,
+    ) -> Result<Option<Disposition>, Refusal>
+        ensures refused { refusal_in result ≡ refused_arrival self.now.who self.now.digest from.now rec.now }
+        ensures sight { IfOk result (λ seen. option_map sight_value seen ≡ sight_from self.now.who self.now.digest from.now rec.now) }
     {
         match rec {
-            PeerRecord::OpenAssoc { x, units } => self.refused_open(from, *x, *units),
-            PeerRecord::AcceptAssoc { x, y, units } => self.refused_accept_of(from, x, *y, *units),
-            PeerRecord::ShutAssoc { x, y } => self.refused_shut(from, x, y),
+            PeerRecord::OpenAssoc { x, units } => judged(self.refused_open(from, *x, *units)),
+            PeerRecord::AcceptAssoc { x, y, units } => {
+                judged(self.refused_accept_of(from, x, *y, *units))
+            }
+            PeerRecord::ShutAssoc { x, y } => judged(self.refused_shut(from, x, y)),
             PeerRecord::OnAssoc { x, y, seq, rec } => {
                 if !self.is_declared() {
-                    return Some(WrongSite);
+                    return Err(WrongSite);
                 }
-                self.refused_on(from, *x, *y, *seq, rec)
+                self.judge_on(from, x, y, *seq, rec)
             }
-            PeerRecord::RecReady { aaid, branch } => self.refused_of_branch(from, aaid, branch),
-            PeerRecord::RecCommit { aaid, branch } => self.refused_order(from, aaid, branch),
+            PeerRecord::RecReady { aaid, branch } => {
+                judged(self.refused_of_branch(from, aaid, branch))
+            }
+            PeerRecord::RecCommit { aaid, branch } => {
+                judged(self.refused_order(from, aaid, branch))
+            }
             PeerRecord::RecReply {
                 aaid,
                 branch,
                 state,
-            } => self.refused_reply(from, aaid, branch, *state),
-            PeerRecord::Forget { aaid, branch } => self.refused_of_superior(from, aaid, branch),
+            } => judged(self.refused_reply(from, aaid, branch, *state)),
+            PeerRecord::Forget { aaid, branch } => {
+                judged(self.refused_of_superior(from, aaid, branch))
+            }
+        }
+    }
+
+    /// Why a record is refused that arrives, but for the want of numbers.
+    pub fn refused_arrival(&self, from: &Addr, rec: &PeerRecord) -> Option<Refusal>
+        ensures { result ≡ refused_arrival self.now.who self.now.digest from.now rec.now }
+    {
+        match self.judge_arrival(from, rec) {
+            Ok(_) => None,
+            Err(refusal) => Some(refusal),
         }
     }
 
@@ -251,21 +280,47 @@ impl Node {
         self.unless_missing(self.refused_of_current(&event, Some(NothingOwed)))
     }
 
-    /// Why an event is refused before anything is tried. It takes no memory.
+    /// Why an event is refused before anything is tried; or what comes of it, where it is a record that arrives on an
+    /// association. It takes no memory.
     #[inline(always)]
+    pub fn judge(&self, event: &NodeEvent<'_>) -> Result<Option<Disposition>, Refusal>
+        ensures refused { refusal_in result ≡ refused_at_once self.now.who self.now.digest event.now }
+        ensures sight { IfOk result (λ seen. option_map sight_value seen ≡ sight_of self.now.who self.now.digest event.now) }
+    {
+        match event {
+            NodeEvent::Declare { .. } => judged(Refusal::first(&[(
+                self.is_declared(),
+                WrongPhase,
+            )])),
+            NodeEvent::Do { request } => judged(self.refused_do(request)),
+            NodeEvent::Arrive { from, rec } => self.judge_arrival(from, rec),
+            NodeEvent::Lose { peer } => judged(self.unless_missing(self.refused_loss(*peer))),
+            NodeEvent::Heur { outcome } => judged(self.refused_heur(*outcome)),
+            NodeEvent::GiveUp { peer } => judged(self.refused_give_up(*peer)),
+            NodeEvent::Retry => judged(self.unless_missing(None)),
+            NodeEvent::Purge => judged(self.unless_missing(self.refused_purge())),
+        }
+    }
+
+    /// Why an event is refused before anything is tried. It takes no memory.
     pub fn refused_at_once(&self, event: &NodeEvent<'_>) -> Option<Refusal>
         ensures { result ≡ refused_at_once self.now.who self.now.digest event.now }
     {
-        match event {
-            NodeEvent::Declare { .. } => Refusal::first(&[(self.is_declared(), WrongPhase)]),
-            NodeEvent::Do { request } => self.refused_do(request),
-            NodeEvent::Arrive { from, rec } => self.refused_arrival(from, rec),
-            NodeEvent::Lose { peer } => self.unless_missing(self.refused_loss(*peer)),
-            NodeEvent::Heur { outcome } => self.refused_heur(*outcome),
-            NodeEvent::GiveUp { peer } => self.refused_give_up(*peer),
-            NodeEvent::Retry => self.unless_missing(None),
-            NodeEvent::Purge => self.unless_missing(self.refused_purge()),
+        match self.judge(event) {
+            Ok(_) => None,
+            Err(refusal) => Some(refusal),
         }
+    }
+}
+
+// Of what comes on no association.
+fn judged(refusal: Option<Refusal>) -> Result<Option<Disposition>, Refusal>
+    ensures refused { refusal_in result ≡ refusal }
+    ensures sight { IfOk result (λ seen. option_map sight_value seen ≡ None) }
+{
+    match refusal {
+        None => Ok(None),
+        Some(refusal) => Err(refusal),
     }
 }
 
