@@ -10,8 +10,8 @@ use tp_model::SentWords;
 use tp_names::{Aaid, BranchId, Mark, NoMemory, Octets};
 use tp_records::{DialogueRecord, Holder, RecState};
 use tp_schedule::word::{
-    Word, write_aaid, write_alone, write_branch, write_holder, write_long_number, write_reported,
-    write_words,
+    Word, write_aaid, write_alone, write_branch, write_holder, write_long_number, write_octets,
+    write_reported, write_words,
 };
 use tp_units::Units;
 
@@ -188,7 +188,9 @@ fn write_data(alloc: Global, octets: &Octets, out: &mut Octets) -> Result<(), No
     ensures ok { OnOk result (out.new ≡ out.old ++ words (dialogue_words (DialogueRecord.UserData octets.now))) }
     ensures err { OnErr result (Keeps out.old out.new) }
 {
-    write_words(alloc, &[Word::Text("user"), Word::Octets(octets)], out)
+    write_alone(alloc, "user", out)?;
+    write_octets(alloc, octets, out)?;
+    Ok(())
 }
 
 fn write_begin(

@@ -9,7 +9,8 @@ use std::alloc::Global;
 use tp_names::{Aaid, NoMemory, Octets, Report};
 use tp_records::Indication;
 use tp_schedule::word::{
-    Word, write_aaid, write_alone, write_one, write_report, write_reported, write_words,
+    Word, write_aaid, write_alone, write_octets, write_one, write_report, write_reported,
+    write_words,
 };
 use tp_units::Units;
 
@@ -84,8 +85,9 @@ fn write_data(alloc: Global, peer: u16, octets: &Octets, out: &mut Octets) -> Re
     ensures ok { OnOk result (out.new ≡ out.old ++ words (indication_words (Indication.UserData peer octets.now))) }
     ensures err { OnErr result (Keeps out.old out.new) }
 {
-    let words = [Word::Text("data"), Word::Short(peer), Word::Octets(octets)];
-    write_words(alloc, &words, out)
+    write_one(alloc, "data", peer, out)?;
+    write_octets(alloc, octets, out)?;
+    Ok(())
 }
 
 fn write_begun(alloc: Global, peer: u16, aaid: &Aaid, out: &mut Octets) -> Result<(), NoMemory>
