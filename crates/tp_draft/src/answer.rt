@@ -6,13 +6,15 @@ ghost use Rattle.tp_model.specs.Events.{action, refusal, unless_spent, needs_num
 ghost use Rattle.tp_model.specs.Arrivals.{break_off, refused_arrival};
 ghost use Rattle.tp_model.specs.Refusal.{IsRefusedAs, number_of};
 ghost use Rattle.tp_node.specs.Halt.{OnSpent};
-ghost use Rattle.tp_node.specs.NodeEvent.{event_of, refused_at_once, is_retry, breaks, answer_at};
+ghost use Rattle.std.specs.Option.{option_map};
+ghost use Rattle.tp_model.specs.Disposition.{sight_value};
+ghost use Rattle.tp_node.specs.NodeEvent.{event_of, refused_at_once, sight_of, is_retry, breaks, answer_at};
 ghost use Rattle.tp_draft.specs.Answers.{IsAnswer, IsPlain};
 
 use crate::draft::Draft;
 use crate::loss::broken_pair;
 use std::alloc::Global;
-use tp_model::{Refusal, TxFault};
+use tp_model::{Disposition, Refusal, TxFault};
 use tp_names::Addr;
 use tp_node::{Halt, Node, NodeEvent};
 use tp_records::PeerRecord;
@@ -21,13 +23,20 @@ impl Draft {
     // The draft of a node on which an event happens that is not refused at once.
     #[inline(always)]
     #[tactic(auto, using(crate::proofs::Drafts::followed_silent))]
-    fn draw_up(&mut self, alloc: Global, node: &Node, event: &NodeEvent<'_>) -> Result<(), Halt>
-        requires { refused_at_once node.now.who node.now.digest event.now ≡ None }
+    fn draw_up(
+        &mut self,
+        alloc: Global,
+        node: &Node,
+        event: &NodeEvent<'_>,
+        seen: Option<Disposition>,
+    ) -> Result<(), Halt>
+        requires refused { refused_at_once node.now.who node.now.digest event.now ≡ None }
+        requires seen { option_map sight_value seen ≡ sight_of node.now.who node.now.digest event.now }
         ensures happens { OnOk result (self.new ≡ record { who = node.now.who; move = action node.now.who node.now.digest (event_of event.now) }) }
         ensures spent { OnSpent result (needs_numbers (action node.now.who node.now.digest (event_of event.now)) ≡ true) }
     {
         self.begin(alloc, node)?;
-        self.happen(alloc, event)
+        self.happen(alloc, event, seen)
     }
 
     // What an event makes of the node that is not refused at once. A retry that says nothing is refused.
@@ -37,13 +46,15 @@ impl Draft {
         alloc: Global,
         node: &Node,
         event: &NodeEvent<'_>,
+        seen: Option<Disposition>,
     ) -> Result<(), TxFault>
-        requires { refused_at_once node.now.who node.now.digest event.now ≡ None }
+        requires refused { refused_at_once node.now.who node.now.digest event.now ≡ None }
+        requires seen { option_map sight_value seen ≡ sight_of node.now.who node.now.digest event.now }
         ensures happens { OnOk result (self.new ≡ record { who = node.now.who; move = action node.now.who node.now.digest (event_of event.now) }) }
         ensures refused { IsRefusedAs result (refusal node.now.who node.now.digest (event_of event.now)) }
     {
         let _drawn = node.drawn();
-        match self.draw_up(alloc, node, event) {
+        match self.draw_up(alloc, node, event, seen) {
             Err(Halt::NumbersSpent) => Err(TxFault::Refused(Refusal::NumbersSpent.number())),
             Err(Halt::NoMemory) => Err(TxFault::NoMemory),
             Ok(()) => {
@@ -133,10 +144,11 @@ impl Draft {
         ensures plain { (x : Refusal) → IsPlain node.now event.now x → result ≡ Err (TxFault.Refused (number_of x)) }
         ensures answer { IsAnswer result self.new node.now (answer_at node.now.who node.now.digest (event_of event.now)) }
     {
-        if let Some(refusal) = node.refused_at_once(event) {
-            return self.answer_refused(alloc, node, event, refusal);
-        }
-        match self.try_event(alloc, node, event) {
+        let seen = match node.judge(event) {
+            Ok(seen) => seen,
+            Err(refusal) => return self.answer_refused(alloc, node, event, refusal),
+        };
+        match self.try_event(alloc, node, event, seen) {
             Ok(()) => Ok(None),
             Err(fault) => Err(fault),
         }

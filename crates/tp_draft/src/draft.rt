@@ -2,6 +2,7 @@
 mod asked;
 mod event;
 mod heard;
+mod taken;
 
 ghost use Rattle.std.specs.Prelude.{◌≡◌, ◌≤◌, true, length, [], ◌∷◌, Some, None, IfOk, OnOk, OnErr};
 ghost use Rattle.tp_model.specs.declared.transaction.TxOut.{TxOut};
@@ -650,31 +651,33 @@ impl Draft {
     fn enter_tree(
         &mut self,
         alloc: Global,
-        superior: Addr,
-        aaid: Aaid,
-        branch: BranchId,
+        superior: &Addr,
+        aaid: &Aaid,
+        branch: &BranchId,
         holder: Holder,
     ) -> Result<(), Halt>
-        requires { Side.Subordinate ≡ side_at self.old.move.next superior.node }
-        ensures { Plays result self.old self.new (entering_tree superior aaid branch holder) }
+        requires { Side.Subordinate ≡ side_at self.old.move.next superior.now.node }
+        ensures { Plays result self.old self.new (entering_tree superior.now aaid.now branch.now holder) }
     {
-        let (peer, tree) = (superior.node, aaid);
         self.node
             .begin_under(alloc, &mut self.spare, superior, aaid, branch, holder)?;
-        self.tell(Indication::BeginTransaction { peer, aaid: tree })
+        self.tell(Indication::BeginTransaction {
+            peer: superior.node,
+            aaid: *aaid,
+        })
     }
 
     // The superior's Begin: the node becomes active, and passes it on.
     fn take_begin(
         &mut self,
         alloc: Global,
-        superior: Addr,
-        aaid: Aaid,
-        branch: BranchId,
+        superior: &Addr,
+        aaid: &Aaid,
+        branch: &BranchId,
         holder: Holder,
     ) -> Result<(), Halt>
-        requires { Side.Subordinate ≡ side_at self.old.move.next superior.node }
-        ensures { Plays result self.old self.new (λ who. take_begin who (arc_to superior) aaid branch holder) }
+        requires { Side.Subordinate ≡ side_at self.old.move.next superior.now.node }
+        ensures { Plays result self.old self.new (λ who. take_begin who (arc_to superior.now) aaid.now branch.now holder) }
     {
         if let Err(halt) = self.enter_tree(alloc, superior, aaid, branch, holder) {
             return Err(halt);
@@ -781,15 +784,15 @@ impl Draft {
                 aaid,
                 branch,
                 holder,
-            } => self.take_begin(alloc, *from, *aaid, *branch, *holder),
+            } => self.take_begin(alloc, from, aaid, branch, *holder),
             DialogueRecord::Left => self.take_left(alloc, peer, rec),
             DialogueRecord::LeftEnd => self.take_left(alloc, peer, rec),
-            DialogueRecord::Prepare => self.take_up(alloc, peer, rec),
-            DialogueRecord::Ready => self.take_up(alloc, peer, rec),
-            DialogueRecord::Commit => self.take_up(alloc, peer, rec),
-            DialogueRecord::Done { .. } => self.take_up(alloc, peer, rec),
-            DialogueRecord::Rollback => self.take_up(alloc, peer, rec),
-            DialogueRecord::RolledBack { .. } => self.take_up(alloc, peer, rec),
+            DialogueRecord::Prepare => self.take_prepare(alloc, peer),
+            DialogueRecord::Ready => self.take_ready(alloc, peer),
+            DialogueRecord::Commit => self.take_commit(alloc, peer),
+            DialogueRecord::Done { report } => self.take_done(alloc, peer, *report),
+            DialogueRecord::Rollback => self.take_rollback(alloc, peer),
+            DialogueRecord::RolledBack { report } => { self.take_rolled_back(alloc, peer, *report) }
         }
     }
 
@@ -799,16 +802,16 @@ impl Draft {
         alloc: Global,
         from: &Addr,
         disposition: Disposition,
-        x: Mark,
-        y: Mark,
+        x: &Mark,
+        y: &Mark,
         seq: u64,
         rec: &DialogueRecord,
     ) -> Result<(), Halt>
         requires side { sight_value disposition ≡ Acts → is_begin rec.now ≡ true → Side.Subordinate ≡ side_at self.old.move.next from.now.node }
-        requires number { dropped_by (link_with self.old.move.next.arcs from.now.node) x y seq ≡ None }
+        requires number { dropped_by (link_with self.old.move.next.arcs from.now.node) x.now y.now seq ≡ None }
         ensures { Plays result self.old self.new (taking_on from.now (sight_value disposition) rec.now) }
     {
-        self.node.take(from.node, x, y, seq, rec);
+        self.node.take(from.node, *x, *y, seq, rec);
         match disposition {
             Disposition::Acts => self.take_record(alloc, from, rec),
             Disposition::Nothing | Disposition::OutOfPhase => Ok(()),

@@ -4,13 +4,15 @@ ghost use Rattle.tp_model.specs.Node.{move};
 ghost use Rattle.tp_model.specs.Events.{action, needs_numbers, says_nothing};
 ghost use Rattle.tp_model.specs.Parts.{Declare, Heur, GiveUp};
 ghost use Rattle.tp_draft.specs.Draft.{Plays, node_in};
-ghost use Rattle.tp_node.specs.NodeEvent.{event_of, refused_at_once};
+ghost use Rattle.std.specs.Option.{option_map};
+ghost use Rattle.tp_model.specs.Disposition.{sight_value};
+ghost use Rattle.tp_node.specs.NodeEvent.{event_of, refused_at_once, sight_of};
 
 use crate::draft::Draft;
 use std::alloc::Global;
 use std::mem::swap;
 use tp_logrec::LogRec;
-use tp_model::{Step, TxEvent, TxOuts};
+use tp_model::{Disposition, Step, TxEvent, TxOuts};
 use tp_names::{Addr, NoMemory, Outcome};
 use tp_node::{Halt, Node, NodeEvent, Spare};
 use tp_node_parts::Outs;
@@ -46,8 +48,12 @@ impl Draft {
     fn forget_rec(&mut self)
         ensures { self.new ≡ record self.old { move = record self.old.move { rec = None } } }
     {
-        forget(&mut self.step.rec);
-        forget(&mut self.earlier);
+        if self.step.rec.is_some() {
+            forget(&mut self.step.rec);
+        }
+        if self.earlier.is_some() {
+            forget(&mut self.earlier);
+        }
     }
 
     // Nothing is to go out.
@@ -126,14 +132,20 @@ impl Draft {
 
     /// An event that is not refused happens.
     #[inline(always)]
-    pub(crate) fn happen(&mut self, alloc: Global, event: &NodeEvent<'_>) -> Result<(), Halt>
-        requires { refused_at_once self.old.who self.old.move.next event.now ≡ None }
+    pub(crate) fn happen(
+        &mut self,
+        alloc: Global,
+        event: &NodeEvent<'_>,
+        seen: Option<Disposition>,
+    ) -> Result<(), Halt>
+        requires refused { refused_at_once self.old.who self.old.move.next event.now ≡ None }
+        requires seen { option_map sight_value seen ≡ sight_of self.old.who self.old.move.next event.now }
         ensures { Plays result self.old self.new (λ who d. action who d (event_of event.now)) }
     {
         match event {
             NodeEvent::Declare { superior } => self.declare(alloc, *superior),
             NodeEvent::Do { request } => self.do_request(alloc, request),
-            NodeEvent::Arrive { from, rec } => self.do_arrival(alloc, *from, rec),
+            NodeEvent::Arrive { from, rec } => self.do_arrival(alloc, from, rec, seen),
             NodeEvent::Lose { peer } => self.lose(alloc, *peer),
             NodeEvent::Heur { outcome } => self.decide(alloc, *outcome),
             NodeEvent::GiveUp { peer } => self.give_up(alloc, *peer),
@@ -147,7 +159,5 @@ impl Draft {
 fn forget(rec: &mut Option<LogRec>)
     ensures { rec.new ≡ None }
 {
-    if rec.is_some() {
-        *rec = None;
-    }
+    *rec = None;
 }

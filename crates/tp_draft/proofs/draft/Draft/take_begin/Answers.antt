@@ -10,10 +10,10 @@ use Rattle.tp_draft.proofs.draft.Draft.take_begin.Goals as goal
 
 pub returns-in-Err : goal.returns-in-Err
 returns-in-Err c =
-    let a = arc_to c.args.superior in
-    plays_halted c.in-Err.halt c.args.self.now c.enter_tree.new.self c.enter_tree.new.self (entering_tree c.args.superior c.args.aaid c.args.branch c.args.holder) begin_chained (λ who. take_begin who a c.args.aaid c.args.branch c.args.holder) (take_begin_is a c.args.superior c.args.aaid c.args.branch c.args.holder refl) chained_rises c.in-Err.ensures
+    let a = arc_to c.args.superior.now in
+    plays_halted c.in-Err.halt c.args.self.now c.enter_tree.new.self c.enter_tree.new.self (entering_tree c.args.superior.now c.args.aaid.now c.args.branch.now c.args.holder) begin_chained (λ who. take_begin who a c.args.aaid.now c.args.branch.now c.args.holder) (take_begin_is a c.args.superior.now c.args.aaid.now c.args.branch.now c.args.holder refl) chained_rises c.in-Err.ensures
 
 pub returns : goal.returns
 returns c =
-    let a = arc_to c.args.superior in
-    plays_then c.begin_chained.result c.args.self.now c.enter_tree.new.self c.begin_chained.new.self (entering_tree c.args.superior c.args.aaid c.args.branch c.args.holder) begin_chained (λ who. take_begin who a c.args.aaid c.args.branch c.args.holder) (c.in_default.ensures {u = tt}) (take_begin_is a c.args.superior c.args.aaid c.args.branch c.args.holder refl) c.begin_chained.ensures
+    let a = arc_to c.args.superior.now in
+    plays_then c.begin_chained.result c.args.self.now c.enter_tree.new.self c.begin_chained.new.self (entering_tree c.args.superior.now c.args.aaid.now c.args.branch.now c.args.holder) begin_chained (λ who. take_begin who a c.args.aaid.now c.args.branch.now c.args.holder) (c.in_default.ensures {u = tt}) (take_begin_is a c.args.superior.now c.args.aaid.now c.args.branch.now c.args.holder refl) c.begin_chained.ensures
