@@ -359,11 +359,12 @@ planned v from b x y q r outs is ok acts noted said drawn = record {
 
 -- ---- what acting and taking rest on
 
-pub acts_is : (who : Who) (d : Digest) (p : ℕ) (r : DialogueRecord) (a : Arc) (s : Sight) → Some a ≡ find_arc d.arcs p → s ≡ sight_at who d a r → is_acting s ≡ acts_at who d p r
-acts_is who d p r a s found is = ap is_acting is ∙ ap (acts_by who d r) found
-
-pub acts_none : (who : Who) (d : Digest) (p : ℕ) (r : DialogueRecord) → None ≡ find_arc d.arcs p → false ≡ acts_at who d p r
-acts_none who d p r none = ap (acts_by who d r) none
+pub acts_seen : (who : Who) (d : Digest) (p : ℕ) (r : DialogueRecord) → Some Acts ≡ option_map (λ a. sight_at who d a r) (find_arc d.arcs p) → acts_at who d p r ≡ true
+acts_seen who d p r is = go (find_arc d.arcs p) is
+  where
+    go : (o : Option Arc) → Some Acts ≡ option_map (λ a. sight_at who d a r) o → acts_by who d r o ≡ true
+    go None h = absurd (cc (h))
+    go (Some a) h = grind (arith, h)
 
 pub side_found : (d : Digest) (p : ℕ) (a : Arc) → find_arc d.arcs p ≡ Some a → p ≡ a.peer.node
 side_found d p a found = at_peer d p a found

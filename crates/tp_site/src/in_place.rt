@@ -1,12 +1,11 @@
 //! Events that are run on their node itself, and not on a draft of it: what they say is known before anything is so.
 ghost use Rattle.std.specs.Prelude.{◌≡◌, true, None, IfOk, OnOk};
 ghost use Rattle.tp_model.specs.Arrivals.{refused_arrival};
-ghost use Rattle.tp_model.specs.Disposition.{sight_value};
 ghost use Rattle.tp_node.specs.declared.event.NodeEvent.{NodeEvent};
 ghost use Rattle.tp_node.specs.Begins.{with_digest};
 ghost use Rattle.tp_node.specs.NodeEvent.{refused_at_once};
 ghost use Rattle.tp_records.specs.declared.request.Request.{Request as Asks};
-ghost use Rattle.tp_site.specs.InPlace.{IsPlanned, run_in_place, can_run, arrived_in_place, asked_in_place, can_ask, is_only_noted, is_acting, acts_at, told_of};
+ghost use Rattle.tp_site.specs.InPlace.{IsPlanned, run_in_place, can_run, arrived_in_place, asked_in_place, can_ask, is_only_noted, told_of};
 
 use tp_model::Disposition;
 use tp_names::{Addr, NoMemory, Report};
@@ -23,26 +22,6 @@ fn is_only_noted(node: &Node, peer: u16, rec: &DialogueRecord) -> bool
         DialogueRecord::Done { .. } => node.only_ends(peer),
         _ => false,
     }
-}
-
-fn is_acting(disposition: Disposition) -> bool
-    ensures { result ≡ is_acting (sight_value disposition) }
-{
-    match disposition {
-        Disposition::Acts => true,
-        Disposition::Nothing | Disposition::OutOfPhase => false,
-    }
-}
-
-// The record acts on the arc with that peer.
-#[tactic(auto, using(crate::proofs::Noted::acts_none))]
-fn acts(node: &Node, peer: u16, rec: &DialogueRecord) -> bool
-    ensures { result ≡ acts_at node.now.who node.now.digest peer rec.now }
-{
-    let Some(tie) = node.find(peer) else {
-        return false;
-    };
-    is_acting(node.disposition(&tie, rec))
 }
 
 // What the user is told of a Ready or of a Done stands there then.
@@ -66,11 +45,11 @@ fn tell(peer: u16, rec: &DialogueRecord, outs: &mut Outs) -> Result<(), NoMemory
 // Of a record that arrives.
 fn plan_arrival(
     node: &Node,
-    from: Addr,
+    from: &Addr,
     rec: &PeerRecord,
     outs: &mut Outs,
 ) -> Result<bool, NoMemory>
-    ensures { IfOk result (λ planned. planned ≡ true → IsPlanned node.now (NodeEvent.Arrive from rec.entry) outs.new) }
+    ensures { IfOk result (λ planned. planned ≡ true → IsPlanned node.now (NodeEvent.Arrive from.now rec.entry) outs.new) }
 {
     let PeerRecord::OnAssoc { rec: said, .. } = rec else {
         return Ok(false);
@@ -80,12 +59,9 @@ fn plan_arrival(
     if !is_only_noted(node, peer, said) {
         return Ok(false);
     }
-    if let Some(_refusal) = node.refused_arrival(&from, rec) {
+    let Ok(Some(Disposition::Acts)) = node.judge_arrival(from, rec) else {
         return Ok(false);
-    }
-    if !acts(node, peer, said) {
-        return Ok(false);
-    }
+    };
     tell(peer, said, outs)?;
     Ok(true)
 }
@@ -122,7 +98,7 @@ pub(crate) fn plan(node: &Node, event: &NodeEvent<'_>, outs: &mut Outs) -> Resul
 {
     match event {
         NodeEvent::Do { request } => plan_request(node, request, outs),
-        NodeEvent::Arrive { from, rec } => plan_arrival(node, *from, rec, outs),
+        NodeEvent::Arrive { from, rec } => plan_arrival(node, from, rec, outs),
         _ => Ok(false),
     }
 }
