@@ -74,6 +74,7 @@ impl DialogueWord {
     }
 
     /// The record that the word is.
+    #[inline(always)]
     pub fn said(self) -> DialogueRecord
         ensures { result ≡ said self }
     {

@@ -144,6 +144,7 @@ impl TreeSummaries {
     }
 
     // The summary in that tree after an entry, unless it is the tree before the entry or after it.
+    #[inline(never)]
     fn change_once(&mut self, tree: &Aaid, change: &TreeChange) -> Result<(), NoMemory>
         ensures { OnOk result ((t : AaidValue) → summary_at self.new t ≡ cond (is_aaid t tree.now && not (stood_in t change.now)) (summary_after t change.now (summary_at self.old t)) (summary_at self.old t)) }
     {
@@ -205,6 +206,7 @@ fn is_at(summaries: &IndexMap<Tree, TreeSummary>, place: usize, tree: &Aaid) -> 
 }
 
 // The summary in that tree after an entry, where the tree is at that place; it tells whether it is.
+#[inline(always)]
 fn change_at(
     summaries: &mut IndexMap<Tree, TreeSummary>,
     place: usize,

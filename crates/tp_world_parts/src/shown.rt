@@ -280,6 +280,7 @@ pub fn show_boot(
 }
 
 /// A record that was forced is shown, where there is one.
+#[inline(always)]
 pub fn show_record(
     alloc: Global,
     at: &Addr,
@@ -295,6 +296,7 @@ pub fn show_record(
 }
 
 // A record that was forced is shown.
+#[inline(never)]
 fn show_forced(
     alloc: Global,
     site: SiteName,

@@ -85,6 +85,7 @@ impl Draft {
     }
 
     /// The outputs take that place, and it has them no more. The memory of what stood there stays with it.
+    #[inline(always)]
     pub fn take_outs(&mut self, place: &mut Outs)
         ensures outs { place.new ≡ self.old.move.outs }
         ensures rest { self.new ≡ record self.old { move = record self.old.move { outs = [] } } }
@@ -156,6 +157,7 @@ impl Draft {
 }
 
 // There is no record.
+#[inline(always)]
 fn forget(rec: &mut Option<LogRec>)
     ensures { rec.new ≡ None }
 {
