@@ -152,6 +152,19 @@ pub fn write_number_between(alloc: Global, n: u16, out: &mut Octets) -> Result<(
     Ok(())
 }
 
+/// A word of four letters, and a number.
+pub fn write_after_four(
+    alloc: Global,
+    word: (u8, u8, u8, u8),
+    n: u64,
+    out: &mut Octets,
+) -> Result<(), NoMemory>
+    ensures ok { OnOk result (out.new ≡ out.old ++ words ((word.0 ∷ word.1 ∷ word.2 ∷ word.3 ∷ []) ∷ decimal n ∷ [])) }
+    ensures err { OnErr result (Keeps out.old out.new) }
+{
+    digits::write_behind_four(alloc, word, b' ', n, out)
+}
+
 /// Two numbers, each after a space.
 pub fn write_two_numbers(alloc: Global, m: u16, n: u16, out: &mut Octets) -> Result<(), NoMemory>
     ensures ok { OnOk result (out.new ≡ out.old ++ ((32 ∷ decimal m) ++ (32 ∷ decimal n))) }
