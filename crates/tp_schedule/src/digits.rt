@@ -386,6 +386,128 @@ fn write_short_mark(
     write_behind_four(alloc, front, b'.', count, out)
 }
 
+/// A space, a name of two bytes, and a mark behind a dot whose first two numbers have one digit.
+#[tactic(auto, using(crate::proofs::KitText::decimal_one))]
+pub(crate) fn write_name_and_mark(
+    alloc: Global,
+    name: (u8, u8),
+    mark: &Mark,
+    out: &mut Octets,
+) -> Result<(), NoMemory>
+    requires boot { mark.now.boot < 10 }
+    requires node { mark.now.node < 10 }
+    ensures ok { OnOk result (out.new ≡ out.old ++ (32 ∷ name.0 ∷ name.1 ∷ 46 ∷ mark_word mark.now)) }
+    ensures err { OnErr result (Keeps out.old out.new) }
+{
+    let place = (digit(mark.boot), digit(u64::from(mark.node)));
+    write_short_identifier(alloc, name, place, mark.count, out)
+}
+
+// A space, a name of two bytes, and a mark whose first two numbers are digits: with a short count all at once.
+#[tactic(auto, using(crate::proofs::KitText::decimal_one))]
+fn write_short_identifier(
+    alloc: Global,
+    name: (u8, u8),
+    place: (u8, u8),
+    count: u64,
+    out: &mut Octets,
+) -> Result<(), NoMemory>
+    ensures ok { OnOk result (out.new ≡ out.old ++ (32 ∷ name.0 ∷ name.1 ∷ 46 ∷ place.0 ∷ 46 ∷ place.1 ∷ 46 ∷ decimal count)) }
+    ensures err { OnErr result (Keeps out.old out.new) }
+{
+    let (boot, node) = place;
+    if count < 10 {
+        let digit = digit(count);
+        return out.extend_from_slice(
+            alloc,
+            &[b' ', name.0, name.1, b'.', boot, b'.', node, b'.', digit],
+        );
+    }
+    if count < 100 {
+        return write_identifier_two(alloc, name, place, count, out);
+    }
+    if count < 1000 {
+        return write_identifier_three(alloc, name, place, count, out);
+    }
+    if count < 10_000 {
+        return write_identifier_four(alloc, name, place, count, out);
+    }
+    out.extend_from_slice(alloc, &[b' ', name.0, name.1, b'.', boot, b'.', node])?;
+    write_behind(alloc, b'.', count, out)?;
+    Ok(())
+}
+
+#[tactic(auto, using(crate::proofs::KitText::decimal_two))]
+fn write_identifier_two(
+    alloc: Global,
+    name: (u8, u8),
+    place: (u8, u8),
+    count: u64,
+    out: &mut Octets,
+) -> Result<(), NoMemory>
+    requires least { 10 ≤ count }
+    requires most { count < 100 }
+    ensures ok { OnOk result (out.new ≡ out.old ++ (32 ∷ name.0 ∷ name.1 ∷ 46 ∷ place.0 ∷ 46 ∷ place.1 ∷ 46 ∷ decimal count)) }
+    ensures err { OnErr result (Keeps out.old out.new) }
+{
+    let (tens, ones) = pair(count);
+    let (boot, node) = place;
+    out.extend_from_slice(
+        alloc,
+        &[
+            b' ', name.0, name.1, b'.', boot, b'.', node, b'.', tens, ones,
+        ],
+    )
+}
+
+#[tactic(auto, using(crate::proofs::KitText::decimal_three))]
+fn write_identifier_three(
+    alloc: Global,
+    name: (u8, u8),
+    place: (u8, u8),
+    count: u64,
+    out: &mut Octets,
+) -> Result<(), NoMemory>
+    requires least { 100 ≤ count }
+    requires most { count < 1000 }
+    ensures ok { OnOk result (out.new ≡ out.old ++ (32 ∷ name.0 ∷ name.1 ∷ 46 ∷ place.0 ∷ 46 ∷ place.1 ∷ 46 ∷ decimal count)) }
+    ensures err { OnErr result (Keeps out.old out.new) }
+{
+    let (tens, ones) = pair(count % 100);
+    let hundreds = digit(count / 100);
+    let (boot, node) = place;
+    out.extend_from_slice(
+        alloc,
+        &[
+            b' ', name.0, name.1, b'.', boot, b'.', node, b'.', hundreds, tens, ones,
+        ],
+    )
+}
+
+#[tactic(auto, using(crate::proofs::KitText::decimal_four))]
+fn write_identifier_four(
+    alloc: Global,
+    name: (u8, u8),
+    place: (u8, u8),
+    count: u64,
+    out: &mut Octets,
+) -> Result<(), NoMemory>
+    requires least { 1000 ≤ count }
+    requires most { count < 10000 }
+    ensures ok { OnOk result (out.new ≡ out.old ++ (32 ∷ name.0 ∷ name.1 ∷ 46 ∷ place.0 ∷ 46 ∷ place.1 ∷ 46 ∷ decimal count)) }
+    ensures err { OnErr result (Keeps out.old out.new) }
+{
+    let (thousands, hundreds) = pair(count / 100);
+    let (tens, ones) = pair(count % 100);
+    let (boot, node) = place;
+    out.extend_from_slice(
+        alloc,
+        &[
+            b' ', name.0, name.1, b'.', boot, b'.', node, b'.', thousands, hundreds, tens, ones,
+        ],
+    )
+}
+
 /// Two numbers in decimal, each behind the mark: short ones at once.
 #[tactic(auto, using(crate::proofs::KitText::decimal_one))]
 pub(crate) fn write_two_behind(
@@ -463,6 +585,22 @@ fn write_both_of_three(
             ones,
         ],
     )
+}
+
+/// Two numbers of one digit, with a space before, between and after them.
+#[tactic(auto, using(crate::proofs::KitText::decimal_one))]
+pub(crate) fn write_digits_between(
+    alloc: Global,
+    m: u64,
+    n: u64,
+    out: &mut Octets,
+) -> Result<(), NoMemory>
+    requires first { m < 10 }
+    requires second { n < 10 }
+    ensures ok { OnOk result (out.new ≡ out.old ++ (((32 ∷ decimal m) ++ (32 ∷ decimal n)) ++ 32 ∷ [])) }
+    ensures err { OnErr result (Keeps out.old out.new) }
+{
+    out.extend_from_slice(alloc, &[b' ', digit(m), b' ', digit(n), b' '])
 }
 
 /// Numbers with commas between them.
