@@ -68,6 +68,15 @@ decimal_five n large small =
     let ones : n % 10 ≡ n % 100 % 10 = omega arith in
     rw (decimal_more n (omega (arith, small)) (omega (arith, large)), decimal_four (n / 10) (omega (arith, large)) (omega (arith, small)), first, thousands, hundreds, tens, ← ones) refl
 
+-- the digits as they are found: of the hundreds alone, or two and two
+pub three_found : (n : ℕ) → 100 ≤ n → n < 1000 → (h : ℕ) (p : ℕ × ℕ) → h ≡ 48 + n / 100 → p ≡ (48 + n % 100 / 10, 48 + n % 100 % 10)
+    → h ∷ p.0 ∷ p.1 ∷ [] ≡ decimal n
+three_found n large small h p first last = rw (first, last, decimal_three n large small) refl
+
+pub four_found : (n : ℕ) → 1000 ≤ n → n < 10000 → (p q : ℕ × ℕ) → p ≡ (48 + n / 100 / 10, 48 + n / 100 % 10) → q ≡ (48 + n % 100 / 10, 48 + n % 100 % 10)
+    → p.0 ∷ p.1 ∷ q.0 ∷ q.1 ∷ [] ≡ decimal n
+four_found n large small p q first last = rw (first, last, decimal_four n large small) refl
+
 -- pairs of digits from a table
 abbrev tens_agree : ℕ → Bool
 tens_agree p = slice_index PAIRS (p * 2) == 48 + p / 10

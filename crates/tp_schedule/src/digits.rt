@@ -129,6 +129,153 @@ fn write_five_digits(alloc: Global, mark: u8, n: u64, out: &mut Octets) -> Resul
     out.extend_from_slice(alloc, &[mark, first, thousands, hundreds, tens, ones])
 }
 
+/// Two bytes, a mark, and a number in decimal: a short one at once.
+#[tactic(auto, using(crate::proofs::KitText::decimal_one))]
+pub(crate) fn write_behind_two(
+    alloc: Global,
+    front: (u8, u8),
+    mark: u8,
+    n: u64,
+    out: &mut Octets,
+) -> Result<(), NoMemory>
+    ensures ok { OnOk result (out.new ≡ out.old ++ (front.0 ∷ front.1 ∷ mark ∷ decimal n)) }
+    ensures err { OnErr result (Keeps out.old out.new) }
+{
+    if n < 10 {
+        return out.extend_from_slice(alloc, &[front.0, front.1, mark, digit(n)]);
+    }
+    if n < 100 {
+        return write_two_and_two(alloc, front, mark, n, out);
+    }
+    if n < 1000 {
+        return write_two_and_three(alloc, front, mark, n, out);
+    }
+    out.extend_from_slice(alloc, &[front.0, front.1])?;
+    write_behind(alloc, mark, n, out)?;
+    Ok(())
+}
+
+#[tactic(auto, using(crate::proofs::KitText::decimal_two))]
+fn write_two_and_two(
+    alloc: Global,
+    front: (u8, u8),
+    mark: u8,
+    n: u64,
+    out: &mut Octets,
+) -> Result<(), NoMemory>
+    requires least { 10 ≤ n }
+    requires most { n < 100 }
+    ensures ok { OnOk result (out.new ≡ out.old ++ (front.0 ∷ front.1 ∷ mark ∷ decimal n)) }
+    ensures err { OnErr result (Keeps out.old out.new) }
+{
+    let (tens, ones) = pair(n);
+    out.extend_from_slice(alloc, &[front.0, front.1, mark, tens, ones])
+}
+
+#[tactic(auto, using(crate::proofs::KitText::decimal_three))]
+fn write_two_and_three(
+    alloc: Global,
+    front: (u8, u8),
+    mark: u8,
+    n: u64,
+    out: &mut Octets,
+) -> Result<(), NoMemory>
+    requires least { 100 ≤ n }
+    requires most { n < 1000 }
+    ensures ok { OnOk result (out.new ≡ out.old ++ (front.0 ∷ front.1 ∷ mark ∷ decimal n)) }
+    ensures err { OnErr result (Keeps out.old out.new) }
+{
+    let (tens, ones) = pair(n % 100);
+    let hundreds = digit(n / 100);
+    out.extend_from_slice(alloc, &[front.0, front.1, mark, hundreds, tens, ones])
+}
+
+/// Four bytes, a mark, and a number in decimal: a short one at once.
+#[tactic(auto, using(crate::proofs::KitText::decimal_one))]
+pub(crate) fn write_behind_four(
+    alloc: Global,
+    front: (u8, u8, u8, u8),
+    mark: u8,
+    n: u64,
+    out: &mut Octets,
+) -> Result<(), NoMemory>
+    ensures ok { OnOk result (out.new ≡ out.old ++ (front.0 ∷ front.1 ∷ front.2 ∷ front.3 ∷ mark ∷ decimal n)) }
+    ensures err { OnErr result (Keeps out.old out.new) }
+{
+    let (a, b, c, d) = front;
+    if n < 10 {
+        return out.extend_from_slice(alloc, &[a, b, c, d, mark, digit(n)]);
+    }
+    if n < 100 {
+        return write_four_and_two(alloc, front, mark, n, out);
+    }
+    if n < 1000 {
+        return write_four_and_three(alloc, front, mark, n, out);
+    }
+    if n < 10_000 {
+        return write_four_and_four(alloc, front, mark, n, out);
+    }
+    out.extend_from_slice(alloc, &[a, b, c, d])?;
+    write_behind(alloc, mark, n, out)?;
+    Ok(())
+}
+
+#[tactic(auto, using(crate::proofs::KitText::decimal_two))]
+fn write_four_and_two(
+    alloc: Global,
+    front: (u8, u8, u8, u8),
+    mark: u8,
+    n: u64,
+    out: &mut Octets,
+) -> Result<(), NoMemory>
+    requires least { 10 ≤ n }
+    requires most { n < 100 }
+    ensures ok { OnOk result (out.new ≡ out.old ++ (front.0 ∷ front.1 ∷ front.2 ∷ front.3 ∷ mark ∷ decimal n)) }
+    ensures err { OnErr result (Keeps out.old out.new) }
+{
+    let (a, b, c, d) = front;
+    let (tens, ones) = pair(n);
+    out.extend_from_slice(alloc, &[a, b, c, d, mark, tens, ones])
+}
+
+#[tactic(auto, using(crate::proofs::KitText::decimal_three))]
+fn write_four_and_three(
+    alloc: Global,
+    front: (u8, u8, u8, u8),
+    mark: u8,
+    n: u64,
+    out: &mut Octets,
+) -> Result<(), NoMemory>
+    requires least { 100 ≤ n }
+    requires most { n < 1000 }
+    ensures ok { OnOk result (out.new ≡ out.old ++ (front.0 ∷ front.1 ∷ front.2 ∷ front.3 ∷ mark ∷ decimal n)) }
+    ensures err { OnErr result (Keeps out.old out.new) }
+{
+    let (a, b, c, d) = front;
+    let (tens, ones) = pair(n % 100);
+    let hundreds = digit(n / 100);
+    out.extend_from_slice(alloc, &[a, b, c, d, mark, hundreds, tens, ones])
+}
+
+#[tactic(auto, using(crate::proofs::KitText::decimal_four))]
+fn write_four_and_four(
+    alloc: Global,
+    front: (u8, u8, u8, u8),
+    mark: u8,
+    n: u64,
+    out: &mut Octets,
+) -> Result<(), NoMemory>
+    requires least { 1000 ≤ n }
+    requires most { n < 10000 }
+    ensures ok { OnOk result (out.new ≡ out.old ++ (front.0 ∷ front.1 ∷ front.2 ∷ front.3 ∷ mark ∷ decimal n)) }
+    ensures err { OnErr result (Keeps out.old out.new) }
+{
+    let (a, b, c, d) = front;
+    let (thousands, hundreds) = pair(n / 100);
+    let (tens, ones) = pair(n % 100);
+    out.extend_from_slice(alloc, &[a, b, c, d, mark, thousands, hundreds, tens, ones])
+}
+
 /// Two digits for an octet.
 #[tactic(auto, using(crate::proofs::KitText::hex_octet))]
 pub(crate) fn write_octet(alloc: Global, octet: u8, out: &mut Octets) -> Result<(), NoMemory>
@@ -213,13 +360,155 @@ pub(crate) fn write_mark_behind_dot(
     ensures ok { OnOk result (out.new ≡ out.old ++ (46 ∷ mark_word mark.now)) }
     ensures err { OnErr result (Keeps out.old out.new) }
 {
+    if mark.boot < 10 && mark.node < 10 {
+        return write_short_mark(alloc, mark.boot, u64::from(mark.node), mark.count, out);
+    }
     write_two_behind(alloc, b'.', mark.boot, u64::from(mark.node), out)?;
     write_behind(alloc, b'.', mark.count, out)?;
     Ok(())
 }
 
-/// Two numbers in decimal, each behind the mark: where both have one digit, all at once.
-#[inline(always)]
+// A mark whose first two numbers have one digit, behind a dot.
+#[tactic(auto, using(crate::proofs::KitText::decimal_one))]
+fn write_short_mark(
+    alloc: Global,
+    boot: u64,
+    node: u64,
+    count: u64,
+    out: &mut Octets,
+) -> Result<(), NoMemory>
+    requires boot { boot < 10 }
+    requires node { node < 10 }
+    ensures ok { OnOk result (out.new ≡ out.old ++ ((46 ∷ decimal boot) ++ ((46 ∷ decimal node) ++ (46 ∷ decimal count)))) }
+    ensures err { OnErr result (Keeps out.old out.new) }
+{
+    let front = (b'.', digit(boot), b'.', digit(node));
+    write_behind_four(alloc, front, b'.', count, out)
+}
+
+/// A space, a name of two bytes, and a mark behind a dot whose first two numbers have one digit.
+#[tactic(auto, using(crate::proofs::KitText::decimal_one))]
+pub(crate) fn write_name_and_mark(
+    alloc: Global,
+    name: (u8, u8),
+    mark: &Mark,
+    out: &mut Octets,
+) -> Result<(), NoMemory>
+    requires boot { mark.now.boot < 10 }
+    requires node { mark.now.node < 10 }
+    ensures ok { OnOk result (out.new ≡ out.old ++ (32 ∷ name.0 ∷ name.1 ∷ 46 ∷ mark_word mark.now)) }
+    ensures err { OnErr result (Keeps out.old out.new) }
+{
+    let place = (digit(mark.boot), digit(u64::from(mark.node)));
+    write_short_identifier(alloc, name, place, mark.count, out)
+}
+
+// A space, a name of two bytes, and a mark whose first two numbers are digits: with a short count all at once.
+#[tactic(auto, using(crate::proofs::KitText::decimal_one))]
+fn write_short_identifier(
+    alloc: Global,
+    name: (u8, u8),
+    place: (u8, u8),
+    count: u64,
+    out: &mut Octets,
+) -> Result<(), NoMemory>
+    ensures ok { OnOk result (out.new ≡ out.old ++ (32 ∷ name.0 ∷ name.1 ∷ 46 ∷ place.0 ∷ 46 ∷ place.1 ∷ 46 ∷ decimal count)) }
+    ensures err { OnErr result (Keeps out.old out.new) }
+{
+    let (boot, node) = place;
+    if count < 10 {
+        let digit = digit(count);
+        return out.extend_from_slice(
+            alloc,
+            &[b' ', name.0, name.1, b'.', boot, b'.', node, b'.', digit],
+        );
+    }
+    if count < 100 {
+        return write_identifier_two(alloc, name, place, count, out);
+    }
+    if count < 1000 {
+        return write_identifier_three(alloc, name, place, count, out);
+    }
+    if count < 10_000 {
+        return write_identifier_four(alloc, name, place, count, out);
+    }
+    out.extend_from_slice(alloc, &[b' ', name.0, name.1, b'.', boot, b'.', node])?;
+    write_behind(alloc, b'.', count, out)?;
+    Ok(())
+}
+
+#[tactic(auto, using(crate::proofs::KitText::decimal_two))]
+fn write_identifier_two(
+    alloc: Global,
+    name: (u8, u8),
+    place: (u8, u8),
+    count: u64,
+    out: &mut Octets,
+) -> Result<(), NoMemory>
+    requires least { 10 ≤ count }
+    requires most { count < 100 }
+    ensures ok { OnOk result (out.new ≡ out.old ++ (32 ∷ name.0 ∷ name.1 ∷ 46 ∷ place.0 ∷ 46 ∷ place.1 ∷ 46 ∷ decimal count)) }
+    ensures err { OnErr result (Keeps out.old out.new) }
+{
+    let (tens, ones) = pair(count);
+    let (boot, node) = place;
+    out.extend_from_slice(
+        alloc,
+        &[
+            b' ', name.0, name.1, b'.', boot, b'.', node, b'.', tens, ones,
+        ],
+    )
+}
+
+#[tactic(auto, using(crate::proofs::KitText::decimal_three))]
+fn write_identifier_three(
+    alloc: Global,
+    name: (u8, u8),
+    place: (u8, u8),
+    count: u64,
+    out: &mut Octets,
+) -> Result<(), NoMemory>
+    requires least { 100 ≤ count }
+    requires most { count < 1000 }
+    ensures ok { OnOk result (out.new ≡ out.old ++ (32 ∷ name.0 ∷ name.1 ∷ 46 ∷ place.0 ∷ 46 ∷ place.1 ∷ 46 ∷ decimal count)) }
+    ensures err { OnErr result (Keeps out.old out.new) }
+{
+    let (tens, ones) = pair(count % 100);
+    let hundreds = digit(count / 100);
+    let (boot, node) = place;
+    out.extend_from_slice(
+        alloc,
+        &[
+            b' ', name.0, name.1, b'.', boot, b'.', node, b'.', hundreds, tens, ones,
+        ],
+    )
+}
+
+#[tactic(auto, using(crate::proofs::KitText::decimal_four))]
+fn write_identifier_four(
+    alloc: Global,
+    name: (u8, u8),
+    place: (u8, u8),
+    count: u64,
+    out: &mut Octets,
+) -> Result<(), NoMemory>
+    requires least { 1000 ≤ count }
+    requires most { count < 10000 }
+    ensures ok { OnOk result (out.new ≡ out.old ++ (32 ∷ name.0 ∷ name.1 ∷ 46 ∷ place.0 ∷ 46 ∷ place.1 ∷ 46 ∷ decimal count)) }
+    ensures err { OnErr result (Keeps out.old out.new) }
+{
+    let (thousands, hundreds) = pair(count / 100);
+    let (tens, ones) = pair(count % 100);
+    let (boot, node) = place;
+    out.extend_from_slice(
+        alloc,
+        &[
+            b' ', name.0, name.1, b'.', boot, b'.', node, b'.', thousands, hundreds, tens, ones,
+        ],
+    )
+}
+
+/// Two numbers in decimal, each behind the mark: short ones at once.
 #[tactic(auto, using(crate::proofs::KitText::decimal_one))]
 pub(crate) fn write_two_behind(
     alloc: Global,
@@ -231,12 +520,87 @@ pub(crate) fn write_two_behind(
     ensures ok { OnOk result (out.new ≡ out.old ++ ((mark ∷ decimal m) ++ (mark ∷ decimal n))) }
     ensures err { OnErr result (Keeps out.old out.new) }
 {
-    if m < 10 && n < 10 {
-        return out.extend_from_slice(alloc, &[mark, digit(m), mark, digit(n)]);
+    if m < 10 {
+        return write_behind_two(alloc, (mark, digit(m)), mark, n, out);
+    }
+    if m < 100 && n >= 10 && n < 100 {
+        return write_both_of_two(alloc, mark, m, n, out);
+    }
+    if m >= 100 && m < 1000 && n >= 100 && n < 1000 {
+        return write_both_of_three(alloc, mark, m, n, out);
     }
     write_behind(alloc, mark, m, out)?;
     write_behind(alloc, mark, n, out)?;
     Ok(())
+}
+
+#[tactic(auto, using(crate::proofs::KitText::decimal_two))]
+fn write_both_of_two(
+    alloc: Global,
+    mark: u8,
+    m: u64,
+    n: u64,
+    out: &mut Octets,
+) -> Result<(), NoMemory>
+    requires least { 10 ≤ m }
+    requires most { m < 100 }
+    requires other_least { 10 ≤ n }
+    requires other_most { n < 100 }
+    ensures ok { OnOk result (out.new ≡ out.old ++ ((mark ∷ decimal m) ++ (mark ∷ decimal n))) }
+    ensures err { OnErr result (Keeps out.old out.new) }
+{
+    let (first_tens, first_ones) = pair(m);
+    let (tens, ones) = pair(n);
+    out.extend_from_slice(alloc, &[mark, first_tens, first_ones, mark, tens, ones])
+}
+
+#[tactic(auto, using(crate::proofs::KitText::decimal_three))]
+fn write_both_of_three(
+    alloc: Global,
+    mark: u8,
+    m: u64,
+    n: u64,
+    out: &mut Octets,
+) -> Result<(), NoMemory>
+    requires least { 100 ≤ m }
+    requires most { m < 1000 }
+    requires other_least { 100 ≤ n }
+    requires other_most { n < 1000 }
+    ensures ok { OnOk result (out.new ≡ out.old ++ ((mark ∷ decimal m) ++ (mark ∷ decimal n))) }
+    ensures err { OnErr result (Keeps out.old out.new) }
+{
+    let (first_tens, first_ones) = pair(m % 100);
+    let (tens, ones) = pair(n % 100);
+    let (first_hundreds, hundreds) = (digit(m / 100), digit(n / 100));
+    out.extend_from_slice(
+        alloc,
+        &[
+            mark,
+            first_hundreds,
+            first_tens,
+            first_ones,
+            mark,
+            hundreds,
+            tens,
+            ones,
+        ],
+    )
+}
+
+/// Two numbers of one digit, with a space before, between and after them.
+#[tactic(auto, using(crate::proofs::KitText::decimal_one))]
+pub(crate) fn write_digits_between(
+    alloc: Global,
+    m: u64,
+    n: u64,
+    out: &mut Octets,
+) -> Result<(), NoMemory>
+    requires first { m < 10 }
+    requires second { n < 10 }
+    ensures ok { OnOk result (out.new ≡ out.old ++ (((32 ∷ decimal m) ++ (32 ∷ decimal n)) ++ 32 ∷ [])) }
+    ensures err { OnErr result (Keeps out.old out.new) }
+{
+    out.extend_from_slice(alloc, &[b' ', digit(m), b' ', digit(n), b' '])
 }
 
 /// Numbers with commas between them.

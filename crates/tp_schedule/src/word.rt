@@ -1,5 +1,5 @@
 //! The words of a line, which one space parts.
-ghost use Rattle.std.specs.Prelude.{◌≡◌, ◌++◌, ◌∷◌, [], OnErr, OnOk};
+ghost use Rattle.std.specs.Prelude.{◌≡◌, ◌++◌, ◌∷◌, [], OnErr, OnOk, codes};
 ghost use Rattle.tp_names.specs.Writing.{Keeps};
 ghost use Rattle.tp_model.specs.Words.{words, decimal, aaid_word, branch_word, octets_word, outcome_word, report_word, holder_word};
 ghost use Rattle.tp_model.specs.OutText.{phase_word, fate_word};
@@ -152,12 +152,73 @@ pub fn write_number_between(alloc: Global, n: u16, out: &mut Octets) -> Result<(
     Ok(())
 }
 
+/// A word of four letters, and a number.
+pub fn write_after_four(
+    alloc: Global,
+    word: (u8, u8, u8, u8),
+    n: u64,
+    out: &mut Octets,
+) -> Result<(), NoMemory>
+    ensures ok { OnOk result (out.new ≡ out.old ++ words ((word.0 ∷ word.1 ∷ word.2 ∷ word.3 ∷ []) ∷ decimal n ∷ [])) }
+    ensures err { OnErr result (Keeps out.old out.new) }
+{
+    digits::write_behind_four(alloc, word, b' ', n, out)
+}
+
+/// A word of four letters, and a number between two spaces.
+pub fn write_four_before(
+    alloc: Global,
+    word: (u8, u8, u8, u8),
+    n: u64,
+    out: &mut Octets,
+) -> Result<(), NoMemory>
+    ensures ok { OnOk result (out.new ≡ (out.old ++ words ((word.0 ∷ word.1 ∷ word.2 ∷ word.3 ∷ []) ∷ decimal n ∷ [])) ++ 32 ∷ []) }
+    ensures err { OnErr result (Keeps out.old out.new) }
+{
+    if n < 10 {
+        let (a, b, c, d) = word;
+        return out.extend_from_slice(alloc, &[a, b, c, d, b' ', digits::digit(n), b' ']);
+    }
+    write_after_four(alloc, word, n, out)?;
+    out.push(alloc, b' ')?;
+    Ok(())
+}
+
 /// Two numbers, each after a space.
 pub fn write_two_numbers(alloc: Global, m: u16, n: u16, out: &mut Octets) -> Result<(), NoMemory>
     ensures ok { OnOk result (out.new ≡ out.old ++ ((32 ∷ decimal m) ++ (32 ∷ decimal n))) }
     ensures err { OnErr result (Keeps out.old out.new) }
 {
     digits::write_two_behind(alloc, b' ', u64::from(m), u64::from(n), out)
+}
+
+/// Two numbers, with a space before, between and after them.
+pub fn write_two_between(alloc: Global, m: u16, n: u16, out: &mut Octets) -> Result<(), NoMemory>
+    ensures ok { OnOk result (out.new ≡ (out.old ++ ((32 ∷ decimal m) ++ (32 ∷ decimal n))) ++ 32 ∷ []) }
+    ensures err { OnErr result (Keeps out.old out.new) }
+{
+    if m < 10 && n < 10 {
+        return digits::write_digits_between(alloc, u64::from(m), u64::from(n), out);
+    }
+    write_two_numbers(alloc, m, n, out)?;
+    out.push(alloc, b' ')?;
+    Ok(())
+}
+
+/// The word before what a log of the site is shown to hold, and the site's name, between spaces.
+pub fn write_logger(alloc: Global, site: &SiteName, out: &mut Octets) -> Result<(), NoMemory>
+    ensures ok { OnOk result (out.new ≡ (out.old ++ words (codes "log" ∷ site.now ∷ [])) ++ 32 ∷ []) }
+    ensures err { OnErr result (Keeps out.old out.new) }
+{
+    match site.bytes() {
+        [a, b] => out.extend_from_slice(alloc, &[b'l', b'o', b'g', b' ', *a, *b, b' ']),
+        [a, b, c] => out.extend_from_slice(alloc, &[b'l', b'o', b'g', b' ', *a, *b, *c, b' ']),
+        _ => {
+            write_site(alloc, "log", site, out)?;
+            out.push(alloc, b' ')?;
+            Ok(())
+        }
+    }
 }
 
 /// Octets after a space, `-` where there are none.
@@ -220,9 +281,7 @@ pub fn write_aaid(alloc: Global, aaid: &Aaid, out: &mut Octets) -> Result<(), No
     ensures ok { OnOk result (out.new ≡ out.old ++ (32 ∷ aaid_word aaid.now)) }
     ensures err { OnErr result (Keeps out.old out.new) }
 {
-    write_name(alloc, &aaid.owner, out)?;
-    digits::write_mark_behind_dot(alloc, &aaid.mark, out)?;
-    Ok(())
+    write_identifier(alloc, &aaid.owner, &aaid.mark, out)
 }
 
 /// The identifier of a branch, after a space.
@@ -230,8 +289,26 @@ pub fn write_branch(alloc: Global, branch: &BranchId, out: &mut Octets) -> Resul
     ensures ok { OnOk result (out.new ≡ out.old ++ (32 ∷ branch_word branch.now)) }
     ensures err { OnErr result (Keeps out.old out.new) }
 {
-    write_name(alloc, &branch.superior, out)?;
-    digits::write_mark_behind_dot(alloc, &branch.mark, out)?;
+    write_identifier(alloc, &branch.superior, &branch.mark, out)
+}
+
+// A site and a mark with a dot between them, after a space: short ones at once.
+fn write_identifier(
+    alloc: Global,
+    site: &SiteName,
+    mark: &Mark,
+    out: &mut Octets,
+) -> Result<(), NoMemory>
+    ensures ok { OnOk result (out.new ≡ out.old ++ (32 ∷ aaid_word (record { owner = site.now; mark = mark.now }))) }
+    ensures err { OnErr result (Keeps out.old out.new) }
+{
+    if mark.boot < 10 && mark.node < 10 {
+        if let [a, b] = site.bytes() {
+            return digits::write_name_and_mark(alloc, (*a, *b), mark, out);
+        }
+    }
+    write_name(alloc, site, out)?;
+    digits::write_mark_behind_dot(alloc, mark, out)?;
     Ok(())
 }
 

@@ -12,8 +12,8 @@ use tp_model::{LogWords, NodeNumbers, OutLine, PhaseWord, RecordFate, SentWords}
 use tp_names::{Aaid, NoMemory, Octets, Outcome, SiteName};
 use tp_records::Indication;
 use tp_schedule::word::{
-    Word, write_aaid, write_alone, write_number, write_number_between, write_one, write_outcome,
-    write_site, write_two_numbers, write_words,
+    Word, write_aaid, write_after_four, write_alone, write_one, write_outcome, write_site,
+    write_two_numbers, write_words,
 };
 
 /// Puts the line's text at the end of `out`, without an end. Without memory `out` stays as it was.
@@ -86,9 +86,8 @@ fn append_taken(alloc: Global, frame: u16, out: &mut Octets) -> Result<(), NoMem
     ensures ok { OnOk result (out.new ≡ out.old ++ out_text (OutLine.Take frame)) }
     ensures err { OnErr result (Keeps out.old out.new) }
 {
-    write_alone(alloc, "take", out)?;
-    write_number(alloc, frame, out)?;
-    Ok(())
+    let word = (b't', b'a', b'k', b'e');
+    write_after_four(alloc, word, u64::from(frame), out)
 }
 
 fn append_sent(
@@ -117,8 +116,8 @@ fn write_frame(
     ensures err { OnErr result (Keeps out.old out.new) }
 {
     let (from, to) = ends;
-    write_alone(alloc, "send", out)?;
-    write_number(alloc, frame, out)?;
+    let word = (b's', b'e', b'n', b'd');
+    write_after_four(alloc, word, u64::from(frame), out)?;
     write_two_numbers(alloc, from, to, out)?;
     Ok(())
 }
@@ -142,8 +141,9 @@ fn write_hearer(alloc: Global, node: u16, out: &mut Octets) -> Result<(), NoMemo
     ensures ok { OnOk result (out.new ≡ (out.old ++ words (codes "tell" ∷ decimal node ∷ [])) ++ 32 ∷ []) }
     ensures err { OnErr result (Keeps out.old out.new) }
 {
-    write_alone(alloc, "tell", out)?;
-    write_number_between(alloc, node, out)?;
+    let word = (b't', b'e', b'l', b'l');
+    write_after_four(alloc, word, u64::from(node), out)?;
+    out.push(alloc, b' ')?;
     Ok(())
 }
 

@@ -10,7 +10,7 @@ use tp_model::SentWords;
 use tp_names::{Aaid, BranchId, Mark, NoMemory, Octets};
 use tp_records::{DialogueRecord, Holder, RecState};
 use tp_schedule::word::{
-    Word, write_aaid, write_alone, write_branch, write_holder, write_long_number, write_octets,
+    Word, write_aaid, write_after_four, write_alone, write_branch, write_holder, write_octets,
     write_reported, write_words,
 };
 use tp_units::Units;
@@ -117,9 +117,7 @@ fn write_sequence(alloc: Global, seq: u64, out: &mut Octets) -> Result<(), NoMem
     ensures ok { OnOk result (out.new ≡ out.old ++ words (codes "data" ∷ decimal seq ∷ [])) }
     ensures err { OnErr result (Keeps out.old out.new) }
 {
-    write_alone(alloc, "data", out)?;
-    write_long_number(alloc, seq, out)?;
-    Ok(())
+    write_after_four(alloc, (b'd', b'a', b't', b'a'), seq, out)
 }
 
 fn write_reply(

@@ -9,8 +9,8 @@ use std::alloc::Global;
 use tp_names::{Aaid, NoMemory, Octets, Report};
 use tp_records::Indication;
 use tp_schedule::word::{
-    Word, write_aaid, write_alone, write_octets, write_one, write_report, write_reported,
-    write_words,
+    Word, write_aaid, write_after_four, write_alone, write_octets, write_one, write_report,
+    write_reported, write_words,
 };
 use tp_units::Units;
 
@@ -85,7 +85,8 @@ fn write_data(alloc: Global, peer: u16, octets: &Octets, out: &mut Octets) -> Re
     ensures ok { OnOk result (out.new ≡ out.old ++ words (indication_words (Indication.UserData peer octets.now))) }
     ensures err { OnErr result (Keeps out.old out.new) }
 {
-    write_one(alloc, "data", peer, out)?;
+    let word = (b'd', b'a', b't', b'a');
+    write_after_four(alloc, word, u64::from(peer), out)?;
     write_octets(alloc, octets, out)?;
     Ok(())
 }
