@@ -276,6 +276,67 @@ fn write_four_and_four(
     out.extend_from_slice(alloc, &[a, b, c, d, mark, thousands, hundreds, tens, ones])
 }
 
+/// Four bytes, and a number in decimal between two spaces: a short one at once.
+#[tactic(auto, using(crate::proofs::KitText::decimal_one))]
+pub(crate) fn write_four_between(
+    alloc: Global,
+    front: (u8, u8, u8, u8),
+    n: u64,
+    out: &mut Octets,
+) -> Result<(), NoMemory>
+    ensures ok { OnOk result (out.new ≡ out.old ++ (front.0 ∷ front.1 ∷ front.2 ∷ front.3 ∷ 32 ∷ (decimal n ++ 32 ∷ []))) }
+    ensures err { OnErr result (Keeps out.old out.new) }
+{
+    if n < 10 {
+        let (a, b, c, d) = front;
+        return out.extend_from_slice(alloc, &[a, b, c, d, b' ', digit(n), b' ']);
+    }
+    if n < 100 {
+        return write_two_between(alloc, front, n, out);
+    }
+    if n < 1000 {
+        return write_three_between(alloc, front, n, out);
+    }
+    write_behind_four(alloc, front, b' ', n, out)?;
+    out.push(alloc, b' ')?;
+    Ok(())
+}
+
+#[tactic(auto, using(crate::proofs::KitText::decimal_two))]
+fn write_two_between(
+    alloc: Global,
+    front: (u8, u8, u8, u8),
+    n: u64,
+    out: &mut Octets,
+) -> Result<(), NoMemory>
+    requires least { 10 ≤ n }
+    requires most { n < 100 }
+    ensures ok { OnOk result (out.new ≡ out.old ++ (front.0 ∷ front.1 ∷ front.2 ∷ front.3 ∷ 32 ∷ (decimal n ++ 32 ∷ []))) }
+    ensures err { OnErr result (Keeps out.old out.new) }
+{
+    let (a, b, c, d) = front;
+    let (tens, ones) = pair(n);
+    out.extend_from_slice(alloc, &[a, b, c, d, b' ', tens, ones, b' '])
+}
+
+#[tactic(auto, using(crate::proofs::KitText::decimal_three))]
+fn write_three_between(
+    alloc: Global,
+    front: (u8, u8, u8, u8),
+    n: u64,
+    out: &mut Octets,
+) -> Result<(), NoMemory>
+    requires least { 100 ≤ n }
+    requires most { n < 1000 }
+    ensures ok { OnOk result (out.new ≡ out.old ++ (front.0 ∷ front.1 ∷ front.2 ∷ front.3 ∷ 32 ∷ (decimal n ++ 32 ∷ []))) }
+    ensures err { OnErr result (Keeps out.old out.new) }
+{
+    let (a, b, c, d) = front;
+    let (tens, ones) = pair(n % 100);
+    let hundreds = digit(n / 100);
+    out.extend_from_slice(alloc, &[a, b, c, d, b' ', hundreds, tens, ones, b' '])
+}
+
 /// Two digits for an octet.
 #[tactic(auto, using(crate::proofs::KitText::hex_octet))]
 pub(crate) fn write_octet(alloc: Global, octet: u8, out: &mut Octets) -> Result<(), NoMemory>

@@ -175,13 +175,7 @@ pub fn write_four_before(
     ensures ok { OnOk result (out.new ≡ (out.old ++ words ((word.0 ∷ word.1 ∷ word.2 ∷ word.3 ∷ []) ∷ decimal n ∷ [])) ++ 32 ∷ []) }
     ensures err { OnErr result (Keeps out.old out.new) }
 {
-    if n < 10 {
-        let (a, b, c, d) = word;
-        return out.extend_from_slice(alloc, &[a, b, c, d, b' ', digits::digit(n), b' ']);
-    }
-    write_after_four(alloc, word, n, out)?;
-    out.push(alloc, b' ')?;
-    Ok(())
+    digits::write_four_between(alloc, word, n, out)
 }
 
 /// Two numbers, each after a space.

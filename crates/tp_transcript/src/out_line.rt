@@ -12,8 +12,8 @@ use tp_model::{LogWords, NodeNumbers, OutLine, PhaseWord, RecordFate, SentWords}
 use tp_names::{Aaid, NoMemory, Octets, Outcome, SiteName};
 use tp_records::Indication;
 use tp_schedule::word::{
-    Word, write_aaid, write_after_four, write_alone, write_one, write_outcome, write_site,
-    write_two_numbers, write_words,
+    Word, write_aaid, write_after_four, write_alone, write_four_before, write_logger, write_one,
+    write_outcome, write_two_between, write_words,
 };
 
 /// Puts the line's text at the end of `out`, without an end. Without memory `out` stays as it was.
@@ -76,8 +76,7 @@ fn append_logged(
     ensures ok { OnOk result (out.new ≡ out.old ++ out_text (OutLine.Log site.now rec.now)) }
     ensures err { OnErr result (Keeps out.old out.new) }
 {
-    write_site(alloc, "log", site, out)?;
-    out.push(alloc, b' ')?;
+    write_logger(alloc, site, out)?;
     write_log(alloc, rec, out)?;
     Ok(())
 }
@@ -101,24 +100,24 @@ fn append_sent(
     ensures err { OnErr result (Keeps out.old out.new) }
 {
     write_frame(alloc, frame, ends, out)?;
-    out.push(alloc, b' ')?;
     write_sent(alloc, rec, out)?;
     Ok(())
 }
 
+// The words before a record that is sent, with a space after them.
 fn write_frame(
     alloc: Global,
     frame: u16,
     ends: (u16, u16),
     out: &mut Octets,
 ) -> Result<(), NoMemory>
-    ensures ok { OnOk result (out.new ≡ out.old ++ words (codes "send" ∷ decimal frame ∷ decimal ends.0 ∷ decimal ends.1 ∷ [])) }
+    ensures ok { OnOk result (out.new ≡ (out.old ++ words (codes "send" ∷ decimal frame ∷ decimal ends.0 ∷ decimal ends.1 ∷ [])) ++ 32 ∷ []) }
     ensures err { OnErr result (Keeps out.old out.new) }
 {
     let (from, to) = ends;
     let word = (b's', b'e', b'n', b'd');
     write_after_four(alloc, word, u64::from(frame), out)?;
-    write_two_numbers(alloc, from, to, out)?;
+    write_two_between(alloc, from, to, out)?;
     Ok(())
 }
 
@@ -142,9 +141,7 @@ fn write_hearer(alloc: Global, node: u16, out: &mut Octets) -> Result<(), NoMemo
     ensures err { OnErr result (Keeps out.old out.new) }
 {
     let word = (b't', b'e', b'l', b'l');
-    write_after_four(alloc, word, u64::from(node), out)?;
-    out.push(alloc, b' ')?;
-    Ok(())
+    write_four_before(alloc, word, u64::from(node), out)
 }
 
 fn append_state(

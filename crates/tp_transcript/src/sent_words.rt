@@ -10,7 +10,7 @@ use tp_model::SentWords;
 use tp_names::{Aaid, BranchId, Mark, NoMemory, Octets};
 use tp_records::{DialogueRecord, Holder, RecState};
 use tp_schedule::word::{
-    Word, write_aaid, write_after_four, write_alone, write_branch, write_holder, write_octets,
+    Word, write_aaid, write_alone, write_branch, write_four_before, write_holder, write_octets,
     write_reported, write_words,
 };
 use tp_units::Units;
@@ -108,16 +108,16 @@ fn write_on(alloc: Global, seq: u64, rec: &DialogueRecord, out: &mut Octets) -> 
     ensures err { OnErr result (Keeps out.old out.new) }
 {
     write_sequence(alloc, seq, out)?;
-    out.push(alloc, b' ')?;
     write_dialogue(alloc, rec, out)?;
     Ok(())
 }
 
+// The words before a record of a dialogue, with a space after them.
 fn write_sequence(alloc: Global, seq: u64, out: &mut Octets) -> Result<(), NoMemory>
-    ensures ok { OnOk result (out.new ≡ out.old ++ words (codes "data" ∷ decimal seq ∷ [])) }
+    ensures ok { OnOk result (out.new ≡ (out.old ++ words (codes "data" ∷ decimal seq ∷ [])) ++ 32 ∷ []) }
     ensures err { OnErr result (Keeps out.old out.new) }
 {
-    write_after_four(alloc, (b'd', b'a', b't', b'a'), seq, out)
+    write_four_before(alloc, (b'd', b'a', b't', b'a'), seq, out)
 }
 
 fn write_reply(
