@@ -584,6 +584,12 @@ pub(crate) fn write_two_behind(
     if m < 10 {
         return write_behind_two(alloc, (mark, digit(m)), mark, n, out);
     }
+    if m < 100 && n < 10 {
+        return write_two_and_one(alloc, mark, m, n, out);
+    }
+    if m < 1000 && n < 10 {
+        return write_three_and_one(alloc, mark, m, n, out);
+    }
     if m < 100 && n >= 10 && n < 100 {
         return write_both_of_two(alloc, mark, m, n, out);
     }
@@ -593,6 +599,43 @@ pub(crate) fn write_two_behind(
     write_behind(alloc, mark, m, out)?;
     write_behind(alloc, mark, n, out)?;
     Ok(())
+}
+
+#[tactic(auto, using(crate::proofs::KitText::decimal_two, crate::proofs::KitText::decimal_one))]
+fn write_two_and_one(
+    alloc: Global,
+    mark: u8,
+    m: u64,
+    n: u64,
+    out: &mut Octets,
+) -> Result<(), NoMemory>
+    requires least { 10 ≤ m }
+    requires most { m < 100 }
+    requires other_most { n < 10 }
+    ensures ok { OnOk result (out.new ≡ out.old ++ ((mark ∷ decimal m) ++ (mark ∷ decimal n))) }
+    ensures err { OnErr result (Keeps out.old out.new) }
+{
+    let (tens, ones) = pair(m);
+    out.extend_from_slice(alloc, &[mark, tens, ones, mark, digit(n)])
+}
+
+#[tactic(auto, using(crate::proofs::KitText::decimal_three, crate::proofs::KitText::decimal_one))]
+fn write_three_and_one(
+    alloc: Global,
+    mark: u8,
+    m: u64,
+    n: u64,
+    out: &mut Octets,
+) -> Result<(), NoMemory>
+    requires least { 100 ≤ m }
+    requires most { m < 1000 }
+    requires other_most { n < 10 }
+    ensures ok { OnOk result (out.new ≡ out.old ++ ((mark ∷ decimal m) ++ (mark ∷ decimal n))) }
+    ensures err { OnErr result (Keeps out.old out.new) }
+{
+    let (tens, ones) = pair(m % 100);
+    let hundreds = digit(m / 100);
+    out.extend_from_slice(alloc, &[mark, hundreds, tens, ones, mark, digit(n)])
 }
 
 #[tactic(auto, using(crate::proofs::KitText::decimal_two))]
