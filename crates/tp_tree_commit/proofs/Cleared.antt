@@ -1,7 +1,7 @@
 -- Sentence 2: where the root is complete with no report, every node that did not leave has committed, and is complete with none.
 use Rattle.std.proofs.Common.{◌≡◌, inl, inr, ℕ, ap, sym, ◌∙◌, Some}
-use Rattle.tp_tree_commit.specs.TreeCommit.{Part, Tree, IsRoot, IsClear, Reached, ReportFree}
-use Rattle.tp_tree_commit.proofs.Kept.{Kept, IsOver}
+use Rattle.tp_tree_commit.specs.TreeCommit.{Part, Tree, IsRoot, IsClear, Reached, ReportFree, IsOver}
+use Rattle.tp_tree_commit.proofs.Kept.{Kept}
 use Rattle.tp_tree_commit.proofs.Runs.{kept}
 use Rattle.tp_tree_commit.proofs.Walking.{Downward, from_above, the_root}
 

@@ -2,8 +2,8 @@
 use Rattle.std.proofs.Common.{◌≡◌, ◌≤◌, ◌⊎◌, inl, inr, ℕ, suc, Bool, true, false, refl, ap, sym, subst, ◌∙◌, arith, Some, None, ◌==◌}
 use Rattle.std.specs.Prelude.{◌≢◌}
 use Rattle.std.proofs.lemmas.Bool.Decides.{nat_tests}
-use Rattle.tp_tree_commit.specs.TreeCommit.{Vote, Ending, Part, Tree, Superior, EachBranch, IsRoot, HasVoted, HasLeft, HasCommitted, HasRolled, Steps}
-use Rattle.tp_tree_commit.proofs.Kept.{Kept, IsOver}
+use Rattle.tp_tree_commit.specs.TreeCommit.{Vote, Ending, Part, Tree, Superior, EachBranch, IsRoot, HasVoted, HasLeft, HasCommitted, HasRolled, Steps, IsOver}
+use Rattle.tp_tree_commit.proofs.Kept.{Kept}
 use Rattle.tp_tree_commit.proofs.Changes.{Grows, same_some, looks, new_at, old_at}
 
 record Since (q p : Part) : Type 0 where

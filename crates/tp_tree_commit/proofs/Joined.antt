@@ -1,8 +1,8 @@
 -- What is kept stays so where a node enters.
 use Rattle.std.proofs.Common.{◌≡◌, ◌≤◌, ◌⊎◌, inl, inr, ℕ, suc, Bool, true, false, refl, ap, sym, subst, ◌∙◌, arith, Option, Some, None, ◌==◌, if◌then◌else◌}
 use Rattle.std.proofs.lemmas.Bool.Decides.{nat_tests}
-use Rattle.tp_tree_commit.specs.TreeCommit.{Vote, Ending, Part, Tree, Superior, EachBranch, IsRoot, HasVoted, HasLeft, HasCommitted, HasRolled, TakesBranches, MayEnter, Steps}
-use Rattle.tp_tree_commit.proofs.Kept.{Kept, IsOver}
+use Rattle.tp_tree_commit.specs.TreeCommit.{Vote, Ending, Part, Tree, Superior, EachBranch, IsRoot, HasVoted, HasLeft, HasCommitted, HasRolled, TakesBranches, MayEnter, Steps, IsOver}
+use Rattle.tp_tree_commit.proofs.Kept.{Kept}
 use Rattle.tp_tree_commit.proofs.Changes.{Comes, same_some, looks, old_at, apart}
 
 pub joined : (s t : Tree) (st : Steps s t) → s st.node ≡ None → Comes s st.node st.part → Kept s → Kept t

@@ -1,9 +1,6 @@
 -- What holds of each tree that a run of the page reaches.
 use Rattle.std.specs.Prelude.{ℕ, suc, ◌≡◌, ◌≤◌, ◌⊎◌, true, Some}
-use Rattle.tp_tree_commit.specs.TreeCommit.{Vote, Ending, Part, Tree, Superior, EachBranch, IsRoot, HasVoted, HasLeft, HasCommitted, HasRolled, IsClear}
-
-abbrev pub IsOver : Part → Type 0
-IsOver q = HasLeft q ⊎ IsClear q
+use Rattle.tp_tree_commit.specs.TreeCommit.{Vote, Ending, Part, Tree, Superior, EachBranch, IsRoot, HasVoted, HasLeft, HasCommitted, HasRolled, IsOver}
 
 pub record Kept (s : Tree) : Type 0 where
   pub rank : ℕ → ℕ

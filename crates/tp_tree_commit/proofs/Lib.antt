@@ -7,3 +7,4 @@ pub mod Walking
 pub mod Agreed
 pub mod Cleared
 pub mod Rested
+pub mod lemmas

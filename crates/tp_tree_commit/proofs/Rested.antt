@@ -1,8 +1,8 @@
 -- Sentence 3: where nothing fails and nobody can go on, every node that did not leave has committed, and is complete with no report.
 use Rattle.std.proofs.Common.{◌≡◌, ◌⊎◌, inl, inr, ℕ, Bool, true, false, refl, Option, Some, None}
 use Rattle.std.specs.Prelude.{◌≢◌}
-use Rattle.tp_tree_commit.specs.TreeCommit.{Vote, Ending, Part, Tree, EachBranch, IsRoot, HasVoted, HasLeft, HasCommitted, Acts, Reached, IsUndisturbed, IsAtRest, RestCommitted}
-use Rattle.tp_tree_commit.proofs.Kept.{Kept, IsOver}
+use Rattle.tp_tree_commit.specs.TreeCommit.{Vote, Ending, Part, Tree, EachBranch, IsRoot, HasVoted, HasLeft, HasCommitted, Acts, Reached, IsUndisturbed, IsAtRest, RestCommitted, IsOver}
+use Rattle.tp_tree_commit.proofs.Kept.{Kept}
 use Rattle.tp_tree_commit.proofs.Runs.{kept}
 use Rattle.tp_tree_commit.proofs.Walking.{Downward, from_above, from_below}
 

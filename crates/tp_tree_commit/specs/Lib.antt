@@ -1,1 +1,2 @@
 pub mod TreeCommit
+pub mod Walks

@@ -58,6 +58,10 @@ HasRolled p = p.ending ≡ Ending.Rolled
 abbrev pub IsClear : Part → Type 0
 IsClear p = p.clear ≡ true
 
+-- its superior waits for it no more
+abbrev pub IsOver : Part → Type 0
+IsOver p = HasLeft p ⊎ IsClear p
+
 -- it has not voted and not committed: branches may enter below it
 abbrev pub TakesBranches : Part → Type 0
 TakesBranches p = (p.vote ≡ Vote.Unvoted) × (p.ending ≢ Ending.Committed)
@@ -93,7 +97,7 @@ pub data Acts (s : Tree) (n : ℕ) : Option Part → Part → Type 0 where
   -- it may decide on its own while it is in doubt, once; it still ends as its superior does
   Decides : (p : Part) (o : Outcome) → IsInDoubt p → (p.decision ≡ None) → Acts s n (Some p) (record p { decision = Some o })
   -- its commitment is complete with no report where it did not decide against it, and each of its branches left or is so too
-  Completes : (p : Part) → HasCommitted p → (p.clear ≡ false) → (p.decision ≢ Some Outcome.Rollback) → EachBranch s n (λ q. HasLeft q ⊎ IsClear q) → Acts s n (Some p) (record p { clear = true })
+  Completes : (p : Part) → HasCommitted p → (p.clear ≡ false) → (p.decision ≢ Some Outcome.Rollback) → EachBranch s n IsOver → Acts s n (Some p) (record p { clear = true })
 
 -- ---- a run: from the tree with no node, one action after the other
 
