@@ -6,6 +6,7 @@ use crate::copied::{Copied, Fate};
 use crate::locked_file::{LockedFile, busy, find, find_to_read, lock};
 use std::alloc::{Alloc, Global};
 use std::fs::File;
+use std::io::ErrorKind;
 use std::rt::Files;
 
 /// What a file is opened for, as `FileDisk` says it.
@@ -80,8 +81,13 @@ impl<R: Files<File = File> + Alloc<A = Global>> FileBytes<'_, R> {
     fn missing(&self) -> Result<Held, Cause> {
         match self.purpose {
             Purpose::Make => Ok(Held::File(LockedFile::make(self.files, self.path)?)),
-            _ => Ok(Held::Copy(Copied::new(self.files.alloc(), Fate::Made))),
+            _ => Ok(self.nothing(Fate::Made)),
         }
+    }
+
+    // The bytes of no file.
+    fn nothing(&self, fate: Fate) -> Held {
+        Held::Copy(Copied::new(self.files.alloc(), fate))
     }
 
     fn copied(&self, file: File, fate: Fate) -> Result<Held, Cause> {
@@ -94,11 +100,21 @@ impl<R: Files<File = File> + Alloc<A = Global>> FileBytes<'_, R> {
                 Ok(true) => Ok(Held::File(LockedFile::new(file, false)?)),
                 _ => self.copied(file, Fate::Kept),
             },
-            Ok(None) => Ok(Held::Copy(Copied::new(self.files.alloc(), Fate::Kept))),
-            Err(_) => match Cause::of("open", find_to_read(self.files, self.path))? {
-                Some(file) => self.copied(file, Fate::Kept),
-                None => Ok(Held::Copy(Copied::new(self.files.alloc(), Fate::Kept))),
+            Ok(None) => Ok(self.nothing(Fate::Kept)),
+            Err(error) => match error.kind() {
+                ErrorKind::PermissionDenied | ErrorKind::ReadOnlyFilesystem => {
+                    self.open_unwritable()
+                }
+                _ => Err(Cause::new("open", error)),
             },
+        }
+    }
+
+    // The file may not be written.
+    fn open_unwritable(&self) -> Result<Held, Cause> {
+        match Cause::of("open", find_to_read(self.files, self.path))? {
+            Some(file) => self.copied(file, Fate::Kept),
+            None => Ok(self.nothing(Fate::Kept)),
         }
     }
 
