@@ -9,3 +9,4 @@ pub mod NextStart
 mod Votes
 mod Openings
 pub mod StaysInOrder
+pub mod Lives
