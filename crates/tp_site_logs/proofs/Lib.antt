@@ -2,7 +2,7 @@ mod Vocabulary
 mod OneNumber
 mod Logged
 mod NextRecord
-mod Places
+pub mod Places
 mod Tells
 pub mod EveryLog
 pub mod NextStart
