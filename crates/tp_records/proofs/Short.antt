@@ -1,6 +1,6 @@
 -- Octets that are read back are few enough for a count of two bytes.
 use Rattle.std.proofs.Common.{◌≡◌, ℕ, ◌<◌, ◌^◌, Option, Some, List, [], ◌∷◌, ◌*◌, ◌+◌, ◌==◌, Bool, true, false, sym, subst, arith}
-use Rattle.tp_names.specs.Reading.{Reader, make, ◌and◌, read_byte, read_short, read_long, read_maybe, read_mark, read_addr, read_aaid, read_branch, read_report, read_outcome, read_octets, read_kind, read_by_code}
+use Rattle.tp_names.specs.Reading.{Reader, make, ◌and◌, read_long, read_maybe, read_mark, read_aaid, read_branch, read_report, read_octets, read_kind, read_by_code}
 use Rattle.tp_names.specs.Grammar.{HasText}
 use Rattle.tp_names.proofs.Sequences.{some_pair, Both, both_parts}
 use Rattle.tp_names.proofs.Counts.{OctetsParts, octets_parts}

@@ -1,5 +1,5 @@
 //! The bytes of indications.
-ghost use Rattle.std.specs.Prelude.{◌≡◌, ◌++◌, length, OnOk, OnErr};
+ghost use Rattle.std.specs.Prelude.{◌≡◌, ◌++◌, OnOk, OnErr};
 ghost use Rattle.tp_names.specs.Scanning.{GivesUnlessFull, scan_make, ◌with◌, scan_short, scan_aaid, scan_report, scan_octets};
 ghost use Rattle.tp_names.specs.Writing.{Keeps};
 ghost use Rattle.tp_records.specs.Bodies.{indication_bytes};
