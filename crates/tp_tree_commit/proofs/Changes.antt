@@ -2,6 +2,7 @@
 use Rattle.std.proofs.Common.{◌≡◌, ◌⊎◌, inl, inr, ℕ, Bool, true, false, refl, ap, sym, ◌∙◌, arith, Option, Some, None, ◌==◌, if◌then◌else◌}
 use Rattle.std.specs.Prelude.{◌≢◌}
 use Rattle.std.proofs.lemmas.Bool.Decides.{nat_tests}
+use Rattle.tp_names.specs.declared.outcome.Outcome.{Outcome}
 use Rattle.tp_tree_commit.specs.TreeCommit.{Vote, Ending, Part, Tree, Superior, EachBranch, IsRoot, HasVoted, HasLeft, HasCommitted, HasRolled, MayEnter, Acts, Enters, Votes, Leaves, Commits, Rolls, Decides, Completes, Steps, IsOver}
 
 -- ---- a part that was there
@@ -11,18 +12,20 @@ pub record Grows (s : Tree) (n : ℕ) (old new : Part) : Type 0 where
   pub same_superior : new.superior ≡ old.superior
   pub keeps_vote : old.vote ≡ Vote.Unvoted ⊎ (new.vote ≡ old.vote)
   pub keeps_ending : old.ending ≡ Ending.Open ⊎ (new.ending ≡ old.ending)
+  pub keeps_decision : old.ending ≡ Ending.Open ⊎ (new.decision ≡ old.decision)
   pub keeps_clear : old.clear ≡ true → new.clear ≡ true
   pub ready : new.vote ≡ Vote.Ready → (old.vote ≡ Vote.Ready) ⊎ (old.superior ≢ None) × (new.ending ≡ Ending.Open) × EachBranch s n HasVoted
   pub gone : new.vote ≡ Vote.Left → (old.vote ≡ Vote.Left) × ((old.ending ≡ Ending.Open) → new.ending ≡ Ending.Open) ⊎ (old.superior ≢ None) × (new.ending ≡ Ending.Open) × EachBranch s n HasLeft
   pub committed : new.ending ≡ Ending.Committed → (old.ending ≡ Ending.Committed) ⊎ (IsRoot old × EachBranch s n HasVoted) ⊎ (old.vote ≡ Vote.Ready) × Superior s old HasCommitted
   pub rolled : new.ending ≡ Ending.Rolled → new.vote ≡ Vote.Ready → (old.ending ≡ Ending.Rolled) × (old.vote ≡ Vote.Ready) ⊎ Superior s old HasRolled
-  pub clear : new.clear ≡ true → (old.clear ≡ true) ⊎ (new.ending ≡ Ending.Committed) × EachBranch s n IsOver
+  pub clear : new.clear ≡ true → (old.clear ≡ true) ⊎ (new.ending ≡ Ending.Committed) × (new.decision ≢ Some Outcome.Rollback) × EachBranch s n IsOver
 
 pub grows_one : (s : Tree) (n : ℕ) (p new : Part) → Acts s n (Some p) new → Grows s n p new
 grows_one s n p new (Votes q branch active below) = record {
   same_superior = refl;
   keeps_vote = inl active.0;
   keeps_ending = inr refl;
+  keeps_decision = inr refl;
   keeps_clear = λ c. c;
   ready = λ h. inr (branch, active.1, below);
   gone = λ h. absurd (cc (h));
@@ -34,6 +37,7 @@ grows_one s n p new (Leaves q branch active below) = record {
   same_superior = refl;
   keeps_vote = inl active.0;
   keeps_ending = inr refl;
+  keeps_decision = inr refl;
   keeps_clear = λ c. c;
   ready = λ h. absurd (cc (h));
   gone = λ h. inr (branch, active.1, below);
@@ -44,6 +48,7 @@ grows_one s n p new (Leaves q branch active below) = record {
 grows_one s n p new (Commits q why) = record {
   same_superior = refl;
   keeps_vote = inr refl;
+  keeps_decision = inr refl;
   keeps_clear = λ c. c;
   keeps_ending = inl (elim why [ inl w ↦ w.1.1 | inr w ↦ w.0.1 ]);
   ready = λ h. inl h;
@@ -55,6 +60,7 @@ grows_one s n p new (Commits q why) = record {
 grows_one s n p new (Rolls q why) = record {
   same_superior = refl;
   keeps_vote = inr refl;
+  keeps_decision = inr refl;
   keeps_clear = λ c. c;
   keeps_ending = inl (elim why [ inl w ↦ w.1 | inr w ↦ w.0.1 ]);
   ready = λ h. inl h;
@@ -67,6 +73,7 @@ grows_one s n p new (Decides q u doubt none) = record {
   same_superior = refl;
   keeps_vote = inr refl;
   keeps_ending = inr refl;
+  keeps_decision = inl doubt.1;
   keeps_clear = λ c. c;
   ready = λ h. inl h;
   gone = λ h. absurd (let ready = doubt.0 in cc (h, ready));
@@ -78,12 +85,13 @@ grows_one s n p new (Completes q done unclear dec below) = record {
   same_superior = refl;
   keeps_vote = inr refl;
   keeps_ending = inr refl;
+  keeps_decision = inr refl;
   keeps_clear = λ c. refl;
   ready = λ h. inl h;
   gone = λ h. inl (h, λ o. o);
   committed = λ h. inl h;
   rolled = λ e v. absurd (cc (e, done));
-  clear = λ c. inr (done, below);
+  clear = λ c. inr (done, dec, below);
 }
 
 -- ---- or a node that enters

@@ -2,6 +2,7 @@
 use Rattle.std.proofs.Common.{◌≡◌, ◌≤◌, ◌⊎◌, inl, inr, ℕ, suc, Bool, true, false, refl, ap, sym, subst, ◌∙◌, arith, Some, None, ◌==◌}
 use Rattle.std.specs.Prelude.{◌≢◌}
 use Rattle.std.proofs.lemmas.Bool.Decides.{nat_tests}
+use Rattle.tp_names.specs.declared.outcome.Outcome.{Outcome}
 use Rattle.tp_tree_commit.specs.TreeCommit.{Vote, Ending, Part, Tree, Superior, EachBranch, IsRoot, HasVoted, HasLeft, HasCommitted, HasRolled, Steps, IsOver}
 use Rattle.tp_tree_commit.proofs.Kept.{Kept}
 use Rattle.tp_tree_commit.proofs.Changes.{Grows, same_some, looks, new_at, old_at}
@@ -143,12 +144,17 @@ grown s t st old at g k = record {
     rolls a p (inl o) e v = above_still old p HasRolled stays_rolled (ap (λ (x : Part). x.superior) (sym o.1) ∙ g.same_superior) (
         elim (g.rolled (ap (λ (x : Part). x.ending) o.1 ∙ e) (ap (λ (x : Part). x.vote) o.1 ∙ v)) [ inl w ↦ k.rolls n old at w.0 w.1 | inr u ↦ u ])
 
-    clears : (a : ℕ) (p : Part) → Seen a p → p.clear ≡ true → (p.ending ≡ Ending.Committed) × EachBranch t a IsOver
-    clears a p (inr o) c = let l = k.clears a p o.1 c in (l.0, below a IsOver stays_clear l.1)
-    clears a p (inl o) c =
-        let l = new_clear (g.clear (ap (λ (x : Part). x.clear) o.1 ∙ c)) in
-        (ap (λ (x : Part). x.ending) (sym o.1) ∙ l.0, subst (λ (x : ℕ). EachBranch t x IsOver) o.0 (below n IsOver stays_clear l.1))
+    clears : (a : ℕ) (p : Part) → Seen a p → p.clear ≡ true → HasCommitted p × (p.decision ≢ Some Outcome.Rollback) × EachBranch t a IsOver
+    clears a p (inr o) c = let l = k.clears a p o.1 c in (l.0, l.1, below a IsOver stays_clear l.2)
+    clears a p (inl o) c = subst (λ (x : ℕ). HasCommitted p × (p.decision ≢ Some Outcome.Rollback) × EachBranch t x IsOver) o.0 (
+        subst (λ (x : Part). HasCommitted x × (x.decision ≢ Some Outcome.Rollback) × EachBranch t n IsOver) o.1 (new_clear (g.clear (ap (λ (x : Part). x.clear) o.1 ∙ c))))
       where
-        new_clear : (old.clear ≡ true) ⊎ (st.part.ending ≡ Ending.Committed) × EachBranch s n IsOver → (st.part.ending ≡ Ending.Committed) × EachBranch s n IsOver
-        new_clear (inl b) = let l = k.clears n old at b in (stays_committed old st.part changed l.0, l.1)
-        new_clear (inr w) = w
+        new_clear : (old.clear ≡ true) ⊎ (st.part.ending ≡ Ending.Committed) × (st.part.decision ≢ Some Outcome.Rollback) × EachBranch s n IsOver
+            → HasCommitted st.part × (st.part.decision ≢ Some Outcome.Rollback) × EachBranch t n IsOver
+        new_clear (inr w) = (w.0, w.1, below n IsOver stays_clear w.2)
+        new_clear (inl b) =
+            let l = k.clears n old at b in (
+              stays_committed old st.part changed l.0,
+              λ d. elim g.keeps_decision [ inl o ↦ (let e = l.0 in cc (e, o)) | inr same ↦ l.1 (sym same ∙ d) ],
+              below n IsOver stays_clear l.2,
+            )

@@ -1,6 +1,8 @@
 -- What is kept stays so where a node enters.
 use Rattle.std.proofs.Common.{◌≡◌, ◌≤◌, ◌⊎◌, inl, inr, ℕ, suc, Bool, true, false, refl, ap, sym, subst, ◌∙◌, arith, Option, Some, None, ◌==◌, if◌then◌else◌}
+use Rattle.std.specs.Prelude.{◌≢◌}
 use Rattle.std.proofs.lemmas.Bool.Decides.{nat_tests}
+use Rattle.tp_names.specs.declared.outcome.Outcome.{Outcome}
 use Rattle.tp_tree_commit.specs.TreeCommit.{Vote, Ending, Part, Tree, Superior, EachBranch, IsRoot, HasVoted, HasLeft, HasCommitted, HasRolled, TakesBranches, MayEnter, Steps, IsOver}
 use Rattle.tp_tree_commit.proofs.Kept.{Kept}
 use Rattle.tp_tree_commit.proofs.Changes.{Comes, same_some, looks, old_at, apart}
@@ -117,6 +119,6 @@ joined s t st none c k = record {
     rolls a p (inr o) e v = above_still p HasRolled (k.rolls a p o.1 e v)
     rolls a p (inl o) e v = absurd (let f = fresh_ending p o.1 in cc (e, f))
 
-    clears : (a : ℕ) (p : Part) → Seen a p → p.clear ≡ true → (p.ending ≡ Ending.Committed) × EachBranch t a IsOver
-    clears a p (inr o) e = let l = k.clears a p o.1 e in (l.0, below a p IsOver o.1 (not_working p (inr l.0)) l.1)
+    clears : (a : ℕ) (p : Part) → Seen a p → p.clear ≡ true → HasCommitted p × (p.decision ≢ Some Outcome.Rollback) × EachBranch t a IsOver
+    clears a p (inr o) e = let l = k.clears a p o.1 e in (l.0, l.1, below a p IsOver o.1 (not_working p (inr l.0)) l.2)
     clears a p (inl o) e = absurd (let f : p.clear ≡ false = ap (λ (x : Part). x.clear) (sym o.1) ∙ c.clear in cc (e, f))

@@ -7,4 +7,6 @@ pub mod Walking
 pub mod Agreed
 pub mod Cleared
 pub mod Rested
+pub mod Sentences
+pub mod Examples
 pub mod lemmas

@@ -1,9 +1,10 @@
--- Sentence 3: where nothing fails and nobody can go on, every node that did not leave has committed, and is complete with no report.
+-- Sentence 3: where nothing fails and nobody can go on, every node that did not leave has completed with no report.
 use Rattle.std.proofs.Common.{◌≡◌, ◌⊎◌, inl, inr, ℕ, Bool, true, false, refl, Option, Some, None}
 use Rattle.std.specs.Prelude.{◌≢◌}
-use Rattle.tp_tree_commit.specs.TreeCommit.{Vote, Ending, Part, Tree, EachBranch, IsRoot, HasVoted, HasLeft, HasCommitted, Acts, Reached, IsUndisturbed, IsAtRest, RestCommitted, IsOver}
+use Rattle.tp_tree_commit.specs.TreeCommit.{Vote, Ending, Part, Tree, EachBranch, IsRoot, HasVoted, HasLeft, HasCommitted, Acts, Reached, IsUndisturbed, IsAtRest, RestCompletes, IsOver}
 use Rattle.tp_tree_commit.proofs.Kept.{Kept}
 use Rattle.tp_tree_commit.proofs.Runs.{kept}
+use Rattle.tp_tree_commit.proofs.Cleared.{completed}
 use Rattle.tp_tree_commit.proofs.Walking.{Downward, from_above, from_below}
 
 record Rests (s : Tree) : Type 0 where
@@ -78,8 +79,8 @@ over s r n p h below = elim (from_above s r.kept Stays (committed s r) n p h) [ 
     at done true ci = inr ci
     at done false ci = absurd (stuck s r n p (record p { clear = true }) h (Acts.Completes p done ci (λ d. let none = (r.undisturbed n p h).1 in cc (none, d)) below) (r.undisturbed n p h).0 refl)
 
-pub rest_committed : (s : Tree) → Reached s → RestCommitted s
-rest_committed s reached undisturbed rest n p h =
+pub rest_completes : (s : Tree) → Reached s → RestCompletes s
+rest_completes s reached undisturbed rest n p h =
     let k : Kept s = kept s reached in
     let r : Rests s = record { kept = k; undisturbed = undisturbed; rest = rest } in
-    elim (from_below s k IsOver (over s r) n p h) [ inl gone ↦ inl gone | inr c ↦ inr ((k.clears n p h c).0, c) ]
+    completed s k n p h (from_below s k IsOver (over s r) n p h)

@@ -1,2 +1,3 @@
 pub mod TreeCommit
 pub mod Walks
+pub mod Examples

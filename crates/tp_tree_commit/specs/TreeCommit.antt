@@ -1,6 +1,6 @@
 -- The commitment of one tree of nodes, on one page: what each node is to the tree, the seven things that a node may do, and the three
 -- sentences that hold whatever they do. There are no messages, logs, crashes or clocks here: each action asks only what the node itself,
--- its superior or its branches are at that moment. How the service comes to know that is no matter of this page.
+-- its superior or its branches are at that moment. How a node comes to know that is the matter of the service.
 use Rattle.std.specs.Prelude.{ℕ, ◌≡◌, ◌≢◌, ◌⊎◌, ◌==◌, Bool, true, false, Option, Some, None, if◌then◌else◌}
 use Rattle.tp_names.specs.declared.outcome.Outcome.{Outcome}
 
@@ -115,40 +115,45 @@ pub data Reached : Tree → Type 0 where
   first : (s : Tree) → ((m : ℕ) → s m ≡ None) → Reached s
   later : (s t : Tree) → Reached s → Steps s t → Reached t
 
--- ---- sentence 1: of two nodes that are told different outcomes, at least one decided on its own
+-- ---- what holds in every run: the three sentences
 
--- its user is told what it decided, and else how it ended
+-- what its user is told: what it decided, and else how it ended
 abbrev pub told : Part → Option Outcome
 told p = elim p.decision [
   | Some o ↦ Some o
   | None ↦ elim p.ending [ Ending.Open ↦ None | Ending.Committed ↦ Some Outcome.Commit | Ending.Rolled ↦ Some Outcome.Rollback ]
 ]
 
+-- it committed, its user was told so, and no report came
+abbrev pub HasCompleted : Part → Type 0
+HasCompleted p = HasCommitted p × (told p ≡ Some Outcome.Commit) × IsClear p
+
+-- 1. Of two nodes that are told different outcomes, at least one decided on its own.
 abbrev pub OneOutcome : Tree → Type 0
 OneOutcome s =
     (m n : ℕ) (p q : Part) (o u : Outcome) → s m ≡ Some p → s n ≡ Some q → told p ≡ Some o → told q ≡ Some u → o ≢ u → (p.decision ≢ None) ⊎ (q.decision ≢ None)
 
--- for, whatever was decided: where one node committed, none rolled back
+-- For, whatever was decided: where one node committed, none rolled back.
 abbrev pub CommitsAlone : Tree → Type 0
 CommitsAlone s = (m n : ℕ) (p q : Part) → s m ≡ Some p → s n ≡ Some q → HasCommitted p → HasRolled q → ⊥
 
--- ---- sentence 2: where the root is complete with no report, every node that did not leave has committed
-
-abbrev pub IsDone : Part → Type 0
-IsDone p = HasCommitted p × IsClear p
-
+-- 2. Where the root's commitment is complete with no report, every node that did not leave has completed so.
 abbrev pub ReportFree : Tree → Type 0
-ReportFree s = (r : ℕ) (p : Part) → s r ≡ Some p → IsRoot p → IsClear p → (n : ℕ) (q : Part) → s n ≡ Some q → HasLeft q ⊎ IsDone q
+ReportFree s = (r : ℕ) (p : Part) → s r ≡ Some p → IsRoot p → IsClear p → (n : ℕ) (q : Part) → s n ≡ Some q → HasLeft q ⊎ HasCompleted q
 
--- ---- sentence 3: where nothing fails, and nobody can go on, every node that did not leave has committed
-
--- no node rolled back, and none decided
+-- 3. Where no node rolled back or decided, and the most that any could still do is one of these two, every node that did not leave has
+-- completed so: the tree stops short of the end only where something fails.
 abbrev pub IsUndisturbed : Tree → Type 0
 IsUndisturbed s = (n : ℕ) (p : Part) → s n ≡ Some p → (p.ending ≢ Ending.Rolled) × (p.decision ≡ None)
 
--- whatever a node of the tree could still do would be to roll back or to decide: none can vote, leave, commit or complete
 abbrev pub IsAtRest : Tree → Type 0
 IsAtRest s = (n : ℕ) (p q : Part) → s n ≡ Some p → Acts s n (Some p) q → HasRolled q ⊎ (q.decision ≢ None)
 
-abbrev pub RestCommitted : Tree → Type 0
-RestCommitted s = IsUndisturbed s → IsAtRest s → (n : ℕ) (p : Part) → s n ≡ Some p → HasLeft p ⊎ IsDone p
+abbrev pub RestCompletes : Tree → Type 0
+RestCompletes s = IsUndisturbed s → IsAtRest s → (n : ℕ) (p : Part) → s n ≡ Some p → HasLeft p ⊎ HasCompleted p
+
+pub record KeepsSentences (s : Tree) : Type 0 where
+  pub one_outcome : OneOutcome s
+  pub commits_alone : CommitsAlone s
+  pub report_free : ReportFree s
+  pub rest_completes : RestCompletes s
