@@ -1,6 +1,6 @@
 -- The commitment of one tree of nodes, on one page: what each node is to the tree, the seven things that a node may do, and the three
--- sentences that hold whatever they do. There are no messages, logs, crashes or clocks here: each action asks only what the node itself,
--- its superior or its branches are at that moment. How a node comes to know that is the matter of the service.
+-- sentences that hold whatever they do. There are no messages, logs, crashes or clocks here: an action asks only what the node itself, its
+-- superior or its branches are at that moment. How a node comes to know this is the matter of the service.
 use Rattle.std.specs.Prelude.{ℕ, ◌≡◌, ◌≢◌, ◌⊎◌, ◌==◌, Bool, true, false, Option, Some, None, if◌then◌else◌}
 use Rattle.tp_names.specs.declared.outcome.Outcome.{Outcome}
 
@@ -10,7 +10,7 @@ pub data Vote : Type 0 where
   Unvoted : Vote
   -- it has promised to end as its superior ends
   Ready : Vote
-  -- it has nothing to keep, nor has any node below it, and takes no further part
+  -- neither it nor any node below it has anything to keep, and it takes no further part
   Left : Vote
 
 pub data Ending : Type 0 where
@@ -23,9 +23,9 @@ pub record Part : Type 0 where
   pub superior : Option ℕ
   pub vote : Vote
   pub ending : Ending
-  -- a heuristic decision: how it ended its own work before it knew how its superior ends
+  -- a heuristic decision: how it ended its own work while it had promised to wait
   pub decision : Option Outcome
-  -- its commitment is complete, and no report came from its branches
+  -- its commitment is complete, and there is nothing to report
   pub clear : Bool
 
 -- which numbers are nodes of the tree, and what each is to it
@@ -58,7 +58,7 @@ HasRolled p = p.ending ≡ Ending.Rolled
 abbrev pub IsClear : Part → Type 0
 IsClear p = p.clear ≡ true
 
--- its superior waits for it no more
+-- its superior waits for it no more, and has nothing to report of it
 abbrev pub IsOver : Part → Type 0
 IsOver p = HasLeft p ⊎ IsClear p
 
@@ -74,7 +74,7 @@ Superior s p P = (m : ℕ) × (q : Part) × (p.superior ≡ Some m) × (s m ≡ 
 abbrev pub EachBranch : Tree → ℕ → (Part → Type 0) → Type 0
 EachBranch s n P = (m : ℕ) (q : Part) → s m ≡ Some q → q.superior ≡ Some n → P q
 
--- what enters is the root, and nobody is there yet, or a branch of a node that takes branches
+-- it is the root, and nobody is there yet; or a branch of a node that takes branches
 abbrev pub MayEnter : Tree → Part → Type 0
 MayEnter s p = (IsRoot p × ((m : ℕ) → s m ≡ None)) ⊎ Superior s p TakesBranches
 
@@ -85,18 +85,19 @@ entering m = record { superior = m; vote = Vote.Unvoted; ending = Ending.Open; d
 
 -- what the node n may do in the tree s: it was the first part, or not in the tree, and becomes the second
 pub data Acts (s : Tree) (n : ℕ) : Option Part → Part → Type 0 where
+  -- a node enters the tree
   Enters : (m : Option ℕ) → MayEnter s (entering m) → Acts s n None (entering m)
-  -- a branch votes ready once each of its own branches has voted
+  -- a branch votes once each of its own branches has voted
   Votes : (p : Part) → (p.superior ≢ None) → IsActive p → EachBranch s n HasVoted → Acts s n (Some p) (record p { vote = Vote.Ready })
   -- it leaves instead where each of them left
   Leaves : (p : Part) → (p.superior ≢ None) → IsActive p → EachBranch s n HasLeft → Acts s n (Some p) (record p { vote = Vote.Left })
-  -- the root commits once each of its branches has voted; a branch that is ready, once its superior has committed
+  -- the root commits once each of its branches has voted; a branch that is ready commits once its superior has
   Commits : (p : Part) → (IsRoot p × IsActive p × EachBranch s n HasVoted) ⊎ (IsInDoubt p × Superior s p HasCommitted) → Acts s n (Some p) (record p { ending = Ending.Committed })
-  -- a node rolls back at will until it votes; once it is ready, only after its superior
+  -- a node rolls back at will until it votes; one that is ready rolls back once its superior has
   Rolls : (p : Part) → IsActive p ⊎ (IsInDoubt p × Superior s p HasRolled) → Acts s n (Some p) (record p { ending = Ending.Rolled })
-  -- it may decide on its own while it is in doubt, once; it still ends as its superior does
+  -- while it is in doubt it may decide on its own, once; it still ends as its superior does
   Decides : (p : Part) (o : Outcome) → IsInDoubt p → (p.decision ≡ None) → Acts s n (Some p) (record p { decision = Some o })
-  -- its commitment is complete with no report where it did not decide against it, and each of its branches left or is so too
+  -- its commitment is complete with no report where it did not decide against it, and each of its branches left or is complete so
   Completes : (p : Part) → HasCommitted p → (p.clear ≡ false) → (p.decision ≢ Some Outcome.Rollback) → EachBranch s n IsOver → Acts s n (Some p) (record p { clear = true })
 
 -- ---- a run: from the tree with no node, one action after the other
@@ -116,8 +117,11 @@ pub data Reached : Tree → Type 0 where
   later : (s t : Tree) → Reached s → Steps s t → Reached t
 
 -- ---- what holds in every run: the three sentences
+--
+-- Votes go up the tree and endings go down. The root commits only over branches that have voted, and so each over its own; one that has voted
+-- ends as its superior does. So where one node commits the root has, and nobody is left who could roll back.
 
--- what its user is told: what it decided, and else how it ended
+-- what its user is told: its decision, and else how it ended
 abbrev pub told : Part → Option Outcome
 told p = elim p.decision [
   | Some o ↦ Some o
@@ -142,7 +146,7 @@ abbrev pub ReportFree : Tree → Type 0
 ReportFree s = (r : ℕ) (p : Part) → s r ≡ Some p → IsRoot p → IsClear p → (n : ℕ) (q : Part) → s n ≡ Some q → HasLeft q ⊎ HasCompleted q
 
 -- 3. Where no node rolled back or decided, and the most that any could still do is one of these two, every node that did not leave has
--- completed so: the tree stops short of the end only where something fails.
+-- completed so. So a tree stops short of its end only where something fails.
 abbrev pub IsUndisturbed : Tree → Type 0
 IsUndisturbed s = (n : ℕ) (p : Part) → s n ≡ Some p → (p.ending ≢ Ending.Rolled) × (p.decision ≡ None)
 
