@@ -15,7 +15,8 @@ use Rattle.tp_model.specs.Happenings.{still, after_lines, action_lines, after_st
 use Rattle.tp_model.specs.Promises.{IsIn}
 use Rattle.tp_tree_commit.specs.TreeCommit.{first}
 use Rattle.tp_tree_commit.specs.Walks.{Walks, stays}
-use Rattle.tp_tree_commit.proofs.lemmas.Walks.{walks_then, walks_reach, Stopped, As_it_was, Has_rolled, IsAmong, stop_walks}
+use Rattle.tp_tree_commit.specs.Ends.{IsListed}
+use Rattle.tp_tree_commit.proofs.lemmas.Walks.{walks_then, walks_reach, Stopped, As_it_was, Has_rolled, stop_walks}
 use Rattle.tp_refinement.specs.Refinement.{part_in, tree_among, tree_in, RunsRefine, RunsAreOnThePage}
 use Rattle.tp_histories.proofs.worlds.Nodes.{find_is, find_put, find_append}
 use Rattle.tp_histories.proofs.worlds.Turns.{turn_at, by_site, turn_under, by_superior, restarts, halts, anew, anew_at, turn_anew, by_start, by_declaration}
@@ -54,12 +55,12 @@ numbers : List Node → List ℕ
 numbers [] = []
 numbers (x ∷ ns) = number_of x ∷ numbers ns
 
-among : (ns : List Node) (m : ℕ) (x : Node) → find_node ns m ≡ Some x → IsAmong m (numbers ns)
+among : (ns : List Node) (m : ℕ) (x : Node) → find_node ns m ≡ Some x → IsListed m (numbers ns)
 unfolding numbers
 among [] m x h = absurd (cc (h))
 among (y ∷ ns) m x h = go (number_of y == m) refl (among ns m x)
   where
-    go : (b : Bool) → (number_of y == m) ≡ b → (find_node ns m ≡ Some x → IsAmong m (numbers ns)) → (number_of y ≡ m) ⊎ IsAmong m (numbers ns)
+    go : (b : Bool) → (number_of y == m) ≡ b → (find_node ns m ≡ Some x → IsListed m (numbers ns)) → (number_of y ≡ m) ⊎ IsListed m (numbers ns)
     go true i rest = inl (grind (arith, nat_tests, i))
     go false i rest = inr (rest (sym (ap (λ (b : Bool). elim b as (λ _. Option Node) [ true ↦ Some y | false ↦ find_node ns m ]) i) ∙ h))
 
@@ -76,7 +77,7 @@ anew_walks h s ns t all = stop_walks (numbers ns) (tree_among ns t) (tree_among 
     at : (m : ℕ) (o : Option Node) → find_node ns m ≡ o → tree_among (anew_at h s ns) t m ≡ part_in t (later o)
     at m o i = ap (part_in t) (found_anew h s ns m ∙ ap later i)
 
-    listed : (m : ℕ) (o : Option Node) → find_node ns m ≡ o → (tree_among (anew_at h s ns) t m ≡ tree_among ns t m) ⊎ IsAmong m (numbers ns)
+    listed : (m : ℕ) (o : Option Node) → find_node ns m ≡ o → (tree_among (anew_at h s ns) t m ≡ tree_among ns t m) ⊎ IsListed m (numbers ns)
     listed m None i = inl (at m None i ∙ sym (ap (part_in t) i))
     listed m (Some x) i = inr (among ns m x i)
 

@@ -8,5 +8,6 @@ pub mod Agreed
 pub mod Cleared
 pub mod Rested
 pub mod Sentences
+pub mod Ends
 pub mod Examples
 pub mod lemmas

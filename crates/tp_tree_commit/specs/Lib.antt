@@ -1,3 +1,4 @@
 pub mod TreeCommit
 pub mod Walks
 pub mod Examples
+pub mod Ends

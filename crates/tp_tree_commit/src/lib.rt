@@ -4,6 +4,7 @@
 #![tactic(auto)]
 
 ghost use Rattle.tp_tree_commit.specs.TreeCommit.{Tree, Reached, KeepsSentences};
+ghost use Rattle.tp_tree_commit.specs.Ends.{FiveAtMost, RunsAreCounted};
 ghost use Rattle.tp_tree_commit.specs.Examples.{EndsTogether, EndsApart};
 ghost use Rattle.tp_tree_commit.specs.Walks.{Walks};
 
@@ -12,6 +13,12 @@ ghost use Rattle.tp_tree_commit.specs.Walks.{Walks};
 /// commit; and where nothing failed and no node can go on, every node that did not leave has completed so.
 pub fn the_page_keeps_its_sentences()
     ensures { (s : Tree) → Reached s → KeepsSentences s }
+{}
+
+/// Every run of the page comes to rest: its nodes act at most five times each, so it has at most five times as many steps as the tree has nodes.
+pub fn each_node_acts_at_most_five_times()
+    ensures most { FiveAtMost }
+    ensures counted { RunsAreCounted }
 {}
 
 /// Several steps of the page lead from a tree that a run of the page reaches to one that it reaches.

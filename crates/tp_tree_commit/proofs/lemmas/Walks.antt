@@ -5,6 +5,7 @@ use Rattle.std.proofs.lemmas.Bool.Decides.{nat_tests}
 use Rattle.tp_names.specs.declared.outcome.Outcome.{Outcome}
 use Rattle.tp_tree_commit.specs.TreeCommit.{Vote, Ending, Part, Tree, Superior, EachBranch, IsRoot, IsActive, IsInDoubt, HasVoted, HasLeft, HasCommitted, HasRolled, IsOver, MayEnter, entering, Acts, with_part, Steps, Reached, first, later}
 use Rattle.tp_tree_commit.specs.Walks.{Walks, stays, steps}
+use Rattle.tp_tree_commit.specs.Ends.{IsListed}
 
 -- ---- walks
 
@@ -185,11 +186,7 @@ pub data Stopped (s t : Tree) (m : ℕ) : Type 0 where
   As_it_was : t m ≡ s m → Stopped s t m
   Has_rolled : (p : Part) → s m ≡ Some p → IsActive p → t m ≡ Some (record p { ending = Ending.Rolled }) → Stopped s t m
 
-abbrev pub IsAmong : ℕ → List ℕ → Type 0
-IsAmong n [] = ⊥
-IsAmong n (m ∷ ms) = (m ≡ n) ⊎ IsAmong n ms
-
-pub stop_walks : (ns : List ℕ) (s t : Tree) → ((m : ℕ) → (t m ≡ s m) ⊎ IsAmong m ns) → ((m : ℕ) → Stopped s t m) → Walks s t
+pub stop_walks : (ns : List ℕ) (s t : Tree) → ((m : ℕ) → (t m ≡ s m) ⊎ IsListed m ns) → ((m : ℕ) → Stopped s t m) → Walks s t
 stop_walks [] s t among stopped = stays s t (λ m. elim (among m) [ inl i ↦ i | inr i ↦ absurd i ])
 stop_walks (n ∷ ns) s t among stopped = walks_then s u t (one (stopped n)) (stop_walks ns u t (λ m. left m (n == m) refl (among m)) (λ m. rest m (n == m) refl (stopped m)))
   where
@@ -213,7 +210,7 @@ stop_walks (n ∷ ns) s t among stopped = walks_then s u t (one (stopped n)) (st
         go m true i = let k = number_is n m i in at m true i ∙ ap t (sym k) ∙ same ∙ ap s k
     one (Has_rolled p was active is) = steps s s u (stays s s (λ m. refl)) (one_step s u n (record p { ending = Ending.Rolled }) (here ∙ is) off (subst (λ (o : Option Part). Acts s n o (record p { ending = Ending.Rolled })) (sym was) (Acts.Rolls p (inl active))))
 
-    left : (m : ℕ) (b : Bool) → (n == m) ≡ b → (t m ≡ s m) ⊎ IsAmong m (n ∷ ns) → (t m ≡ u m) ⊎ IsAmong m ns
+    left : (m : ℕ) (b : Bool) → (n == m) ≡ b → (t m ≡ s m) ⊎ IsListed m (n ∷ ns) → (t m ≡ u m) ⊎ IsListed m ns
     left m true i a = inl (sym (at m true i))
     left m false i (inl same) = inl (same ∙ sym (off m i))
     left m false i (inr (inl same)) = absurd (let k : (n == m) ≡ true = ap (λ (j : ℕ). n == j) (sym same) ∙ self_is n in cc (k, i))
