@@ -1,20 +1,27 @@
 -- What the page says of the trees that a world has, in the words of the world.
-use Rattle.std.proofs.Common.{◌≡◌, inl, inr, Bool, true, false, refl, ap, sym, ◌∙◌, Option, Some, None, if◌then◌else◌}
+use Rattle.std.proofs.Common.{◌≡◌, ◌⊎◌, inl, inr, Bool, true, false, refl, ap, sym, subst, ◌∙◌, Option, Some, None, List, if◌then◌else◌}
 use Rattle.std.specs.Prelude.{not}
 use Rattle.tp_names.specs.declared.identifiers.Aaid.{Aaid}
 use Rattle.tp_names.specs.declared.outcome.Outcome.{Outcome}
 use Rattle.tp_model.specs.Outcomes.{has_left, decision, decided, rolled, completed_none}
 use Rattle.tp_model.specs.Trees.{stays}
-use Rattle.tp_model.specs.World.{World, Node, number_of}
+use Rattle.tp_model.specs.World.{World, Node, number_of, find_node}
+use Rattle.tp_model.specs.Happenings.{Happening, run}
 use Rattle.tp_model.specs.Promises.{IsOf, OneOutcome, ReportFree, HasCommitted, HasDecided, told_of, is_root}
 use Rattle.tp_histories.specs.Fates.{has_ready_in}
 use Rattle.tp_model.specs.History.{records}
 use Rattle.tp_reports.specs.Reports.{ReportFreeCommits}
-use Rattle.tp_tree_commit.specs.TreeCommit.{Vote, Ending, HasLeft, HasCompleted, told, RestCompletes, IsUndisturbed, IsAtRest}
+use Rattle.tp_tree_commit.specs.TreeCommit.{Vote, Ending, Part, HasLeft, HasCompleted, AllCompleted, told, RestCompletes, IsUndisturbed, IsAtRest}
 use Rattle.tp_tree_commit.specs.TreeCommit.{OneOutcome as OneOutcomeOf, ReportFree as ReportFreeOf}
-use Rattle.tp_refinement.specs.Refinement.{vote_of, ending_of, part_of, part_in, tree_in, SaysOfWorlds}
-use Rattle.tp_refinement.proofs.Parts.{part_there}
-use Rattle.tp_refinement.proofs.Around.{above_root}
+use Rattle.tp_refinement.specs.Refinement.{vote_of, ending_of, part_of, part_in, tree_in, SaysOfWorlds, SettledRests}
+use Rattle.tp_drained.specs.DrainedTrees.{IsSettledTree}
+use Rattle.tp_histories.proofs.worlds.Nodes.{find_is}
+use Rattle.tp_reports.proofs.ReportFree.{clear_is_committed}
+use Rattle.tp_drained.proofs.DrainedCommits.{tree_commits}
+use Rattle.tp_tree_commit.proofs.Rested.{completed_rests}
+use Rattle.tp_refinement.proofs.Happens.{runs_on_the_page}
+use Rattle.tp_refinement.proofs.Parts.{part_there, Seen, seen}
+use Rattle.tp_refinement.proofs.Around.{above_root, left_is, committed_is}
 
 there : (w : World) (t : Aaid) (x : Node) → IsOf w t x → tree_in w t (number_of x) ≡ Some (part_of t x)
 there w t x of = ap (part_in t) of.here ∙ part_there t x of.of_tree
@@ -83,3 +90,26 @@ rest_completes w t page calm rest y hy stay = elim (page calm rest (number_of y)
 
 pub says_of_worlds : (w : World) → SaysOfWorlds w
 says_of_worlds w = record { one_outcome = one_outcome w; report_free = report_free w; report_free_commits = report_free_commits w; rest_completes = rest_completes w }
+
+-- ---- a settled tree
+
+all_completed : (es : List Happening) (t : Aaid) → IsSettledTree (run es) t → AllCompleted (tree_in (run es) t)
+all_completed es t settled n p h = subst (λ (q : Part). HasLeft q ⊎ HasCompleted q) (sym s.is) (go (has_left y.origin t y.history) refl)
+  where
+    s : Seen t (find_node (run es).nodes n) p
+    s = seen t (find_node (run es).nodes n) p h
+
+    y : Node
+    y = s.node
+
+    of : IsOf (run es) t y
+    of = record { here = ap (find_node (run es).nodes) (find_is (run es).nodes n y s.found) ∙ s.found; of_tree = s.member }
+
+    go : (l : Bool) → has_left y.origin t y.history ≡ l → HasLeft (part_of t y) ⊎ HasCompleted (part_of t y)
+    go true i = inl (left_is t y i)
+    go false i =
+        let c : HasCommitted t y = tree_commits es t settled y of (ap not i) in
+        inr (committed_is t y c.logged, told_same t y ∙ clear_is_committed es t y of c.complete, c.complete)
+
+pub settled_rests : (es : List Happening) → SettledRests (run es)
+settled_rests es t settled = completed_rests (tree_in (run es) t) (runs_on_the_page es t) (all_completed es t settled)

@@ -11,6 +11,7 @@ use Rattle.tp_model.specs.Trees.{stays}
 use Rattle.tp_model.specs.Promises.{is_root, IsOf, OneOutcome, ReportFree, HasCommitted}
 use Rattle.tp_histories.specs.Fates.{has_ready_in}
 use Rattle.tp_reports.specs.Reports.{ReportFreeCommits}
+use Rattle.tp_drained.specs.DrainedTrees.{IsSettledTree}
 use Rattle.tp_tree_commit.specs.TreeCommit.{Vote, Ending, Part, Tree, Reached, IsUndisturbed, IsAtRest, RestCompletes}
 use Rattle.tp_tree_commit.specs.TreeCommit.{OneOutcome as OneOutcomeOf, ReportFree as ReportFreeOf}
 use Rattle.tp_tree_commit.specs.Walks.{Walks}
@@ -71,10 +72,17 @@ RunsAreOnThePage = (es : List Happening) (t : Aaid) → Reached (tree_in (run es
 
 -- ---- what the page says of the trees that a world has is promised of the world
 
--- the first two sentences are those of Promises. Of the third: where on the page nobody rolled back or decided, and nobody can go on, every node
+-- the first two sentences are those of Promises. Of the third: where on the page nobody rolled back or decided to, and nobody can go on, every node
 -- that stays in the tree has committed, and was told that this is complete with no report
 pub record SaysOfWorlds (w : World) : Type 0 where
   pub one_outcome : ((t : Aaid) → OneOutcomeOf (tree_in w t)) → OneOutcome w
   pub report_free : ((t : Aaid) → ReportFreeOf (tree_in w t)) → ReportFree w
   pub report_free_commits : ((t : Aaid) → ReportFreeOf (tree_in w t)) → ReportFreeCommits w
   pub rest_completes : (t : Aaid) → RestCompletes (tree_in w t) → IsUndisturbed (tree_in w t) → IsAtRest (tree_in w t) → (y : Node) → IsOf w t y → stays t y ≡ true → HasCommitted t y
+
+-- ---- where the service's third sentence speaks
+
+-- where each word of a tree was taken, nothing failed in it and each user asked for commitment or left, the tree is at rest on the page, and
+-- nobody rolled back or decided to: by the page's third sentence every node that stays has committed
+abbrev pub SettledRests : World → Type 0
+SettledRests w = (t : Aaid) → IsSettledTree w t → IsUndisturbed (tree_in w t) × IsAtRest (tree_in w t)

@@ -10,7 +10,7 @@ ghost use Rattle.tp_model.specs.World.{World};
 ghost use Rattle.tp_model.specs.Happenings.{Happening, run};
 ghost use Rattle.tp_deployments.specs.Deployments.{Place, Deed, AreArranged, IsDeployment};
 ghost use Rattle.tp_tree_commit.specs.TreeCommit.{KeepsSentences};
-ghost use Rattle.tp_refinement.specs.Refinement.{tree_in, RunsRefine, RunsAreOnThePage, SaysOfWorlds};
+ghost use Rattle.tp_refinement.specs.Refinement.{tree_in, RunsRefine, RunsAreOnThePage, SaysOfWorlds, SettledRests};
 ghost use Rattle.tp_refinement.specs.Deployed.{tree_at, DeploymentsRefine, DeploymentsAreOnThePage};
 
 /// Whatever happens in a run, a request, a delivery in any order or again, a loss, a decision, a giving up, a crash in the middle of a write,
@@ -26,10 +26,16 @@ pub fn every_run_keeps_the_sentences_of_the_page()
 {}
 
 /// What the page's sentences say of the trees that a world has is promised of the world: the first two are those of the service; and
-/// where on the page nobody rolled back or decided, and no node can go on, every node that stays has committed, and was told that this is
+/// where on the page nobody rolled back or decided to, and no node can go on, every node that stays has committed, and was told that this is
 /// complete with no report.
 pub fn the_page_speaks_of_worlds()
     ensures { (w : World) → SaysOfWorlds w }
+{}
+
+/// In every run, a tree in which each word was taken, nothing failed, no user owes its done and each asked for commitment or left is at rest
+/// on the page, and nobody rolled back or decided to; so the third sentence of the page speaks wherever that of the service does.
+pub fn a_settled_tree_is_at_rest_on_the_page()
+    ensures { (es : List Happening) → SettledRests (run es) }
 {}
 
 /// Whatever the processes of a deployment do more is steps of the page in every tree, by the histories that they give the nodes of their

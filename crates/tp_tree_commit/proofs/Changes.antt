@@ -13,6 +13,7 @@ pub record Grows (s : Tree) (n : ℕ) (old new : Part) : Type 0 where
   pub keeps_vote : old.vote ≡ Vote.Unvoted ⊎ (new.vote ≡ old.vote)
   pub keeps_ending : old.ending ≡ Ending.Open ⊎ (new.ending ≡ old.ending)
   pub keeps_decision : old.ending ≡ Ending.Open ⊎ (new.decision ≡ old.decision)
+  pub decides : new.decision ≢ None → (old.decision ≢ None) ⊎ (old.vote ≡ Vote.Ready)
   pub keeps_clear : old.clear ≡ true → new.clear ≡ true
   pub ready : new.vote ≡ Vote.Ready → (old.vote ≡ Vote.Ready) ⊎ (old.superior ≢ None) × (new.ending ≡ Ending.Open) × EachBranch s n HasVoted
   pub gone : new.vote ≡ Vote.Left → (old.vote ≡ Vote.Left) × ((old.ending ≡ Ending.Open) → new.ending ≡ Ending.Open) ⊎ (old.superior ≢ None) × (new.ending ≡ Ending.Open) × EachBranch s n HasLeft
@@ -26,6 +27,7 @@ grows_one s n p new (Votes q branch active below) = record {
   keeps_vote = inl active.0;
   keeps_ending = inr refl;
   keeps_decision = inr refl;
+  decides = λ d. inl d;
   keeps_clear = λ c. c;
   ready = λ h. inr (branch, active.1, below);
   gone = λ h. absurd (cc (h));
@@ -38,6 +40,7 @@ grows_one s n p new (Leaves q branch active below) = record {
   keeps_vote = inl active.0;
   keeps_ending = inr refl;
   keeps_decision = inr refl;
+  decides = λ d. inl d;
   keeps_clear = λ c. c;
   ready = λ h. absurd (cc (h));
   gone = λ h. inr (branch, active.1, below);
@@ -49,6 +52,7 @@ grows_one s n p new (Commits q why) = record {
   same_superior = refl;
   keeps_vote = inr refl;
   keeps_decision = inr refl;
+  decides = λ d. inl d;
   keeps_clear = λ c. c;
   keeps_ending = inl (elim why [ inl w ↦ w.1.1 | inr w ↦ w.0.1 ]);
   ready = λ h. inl h;
@@ -61,6 +65,7 @@ grows_one s n p new (Rolls q why) = record {
   same_superior = refl;
   keeps_vote = inr refl;
   keeps_decision = inr refl;
+  decides = λ d. inl d;
   keeps_clear = λ c. c;
   keeps_ending = inl (elim why [ inl w ↦ w.1 | inr w ↦ w.0.1 ]);
   ready = λ h. inl h;
@@ -74,6 +79,7 @@ grows_one s n p new (Decides q u doubt none) = record {
   keeps_vote = inr refl;
   keeps_ending = inr refl;
   keeps_decision = inl doubt.1;
+  decides = λ d. inr doubt.0;
   keeps_clear = λ c. c;
   ready = λ h. inl h;
   gone = λ h. absurd (let ready = doubt.0 in cc (h, ready));
@@ -86,6 +92,7 @@ grows_one s n p new (Completes q done unclear dec below) = record {
   keeps_vote = inr refl;
   keeps_ending = inr refl;
   keeps_decision = inr refl;
+  decides = λ d. inl d;
   keeps_clear = λ c. refl;
   ready = λ h. inl h;
   gone = λ h. inl (h, λ o. o);
@@ -99,11 +106,12 @@ grows_one s n p new (Completes q done unclear dec below) = record {
 pub record Comes (s : Tree) (n : ℕ) (new : Part) : Type 0 where
   pub vote : new.vote ≡ Vote.Unvoted
   pub ending : new.ending ≡ Ending.Open
+  pub decision : new.decision ≡ None
   pub clear : new.clear ≡ false
   pub under : MayEnter s new
 
 pub comes : (s : Tree) (n : ℕ) (new : Part) → Acts s n None new → Comes s n new
-comes s n new (Enters m may) = record { vote = refl; ending = refl; clear = refl; under = may }
+comes s n new (Enters m may) = record { vote = refl; ending = refl; decision = refl; clear = refl; under = may }
 
 -- ---- what is there after a step
 

@@ -49,6 +49,7 @@ grown s t st old at g k = record {
   commits = λ a p h e. commits a p (looks s t st a p h) e;
   rolls = λ a p h e v. rolls a p (looks s t st a p h) e v;
   clears = λ a p h e. clears a p (looks s t st a p h) e;
+  decides = λ a p h d. decides a p (looks s t st a p h) d;
 }
   where
     n : ℕ
@@ -158,3 +159,10 @@ grown s t st old at g k = record {
               λ d. elim g.keeps_decision [ inl o ↦ (let e = l.0 in cc (e, o)) | inr same ↦ l.1 (sym same ∙ d) ],
               below n IsOver stays_clear l.2,
             )
+
+    decides : (a : ℕ) (p : Part) → Seen a p → p.decision ≢ None → p.vote ≡ Vote.Ready
+    decides a p (inr o) d = k.decides a p o.1 d
+    decides a p (inl o) d = subst (λ (x : Part). x.vote ≡ Vote.Ready) o.1 (still_ready (elim (g.decides (λ none. d (ap (λ (x : Part). x.decision) (sym o.1) ∙ none))) [ inl e ↦ k.decides n old at e | inr r ↦ r ]))
+      where
+        still_ready : old.vote ≡ Vote.Ready → st.part.vote ≡ Vote.Ready
+        still_ready r = elim g.keeps_vote [ inl un ↦ absurd (cc (r, un)) | inr same ↦ same ∙ r ]

@@ -20,6 +20,7 @@ joined s t st none c k = record {
   commits = λ a p h e. commits a p (looks s t st a p h) e;
   rolls = λ a p h e v. rolls a p (looks s t st a p h) e v;
   clears = λ a p h e. clears a p (looks s t st a p h) e;
+  decides = λ a p h d. decides a p (looks s t st a p h) d;
 }
   where
     n : ℕ
@@ -122,3 +123,7 @@ joined s t st none c k = record {
     clears : (a : ℕ) (p : Part) → Seen a p → p.clear ≡ true → HasCommitted p × (p.decision ≢ Some Outcome.Rollback) × EachBranch t a IsOver
     clears a p (inr o) e = let l = k.clears a p o.1 e in (l.0, l.1, below a p IsOver o.1 (not_working p (inr l.0)) l.2)
     clears a p (inl o) e = absurd (let f : p.clear ≡ false = ap (λ (x : Part). x.clear) (sym o.1) ∙ c.clear in cc (e, f))
+
+    decides : (a : ℕ) (p : Part) → Seen a p → p.decision ≢ None → p.vote ≡ Vote.Ready
+    decides a p (inr o) d = k.decides a p o.1 d
+    decides a p (inl o) d = absurd (d (ap (λ (x : Part). x.decision) (sym o.1) ∙ c.decision))

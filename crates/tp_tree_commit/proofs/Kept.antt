@@ -1,5 +1,5 @@
 -- What holds of each tree that a run of the page reaches.
-use Rattle.std.specs.Prelude.{ℕ, suc, ◌≡◌, ◌≢◌, ◌≤◌, ◌⊎◌, true, Some}
+use Rattle.std.specs.Prelude.{ℕ, suc, ◌≡◌, ◌≢◌, ◌≤◌, ◌⊎◌, true, None, Some}
 use Rattle.tp_names.specs.declared.outcome.Outcome.{Outcome}
 use Rattle.tp_tree_commit.specs.TreeCommit.{Vote, Ending, Part, Tree, Superior, EachBranch, IsRoot, HasVoted, HasLeft, HasCommitted, HasRolled, IsOver}
 
@@ -17,3 +17,4 @@ pub record Kept (s : Tree) : Type 0 where
   pub commits : (n : ℕ) (p : Part) → s n ≡ Some p → p.ending ≡ Ending.Committed → IsRoot p ⊎ Superior s p HasCommitted
   pub rolls : (n : ℕ) (p : Part) → s n ≡ Some p → p.ending ≡ Ending.Rolled → p.vote ≡ Vote.Ready → Superior s p HasRolled
   pub clears : (n : ℕ) (p : Part) → s n ≡ Some p → p.clear ≡ true → HasCommitted p × (p.decision ≢ Some Outcome.Rollback) × EachBranch s n IsOver
+  pub decides : (n : ℕ) (p : Part) → s n ≡ Some p → p.decision ≢ None → p.vote ≡ Vote.Ready

@@ -1,7 +1,8 @@
 -- Sentence 3: where nothing fails and nobody can go on, every node that did not leave has completed with no report.
 use Rattle.std.proofs.Common.{◌≡◌, ◌⊎◌, inl, inr, ℕ, Bool, true, false, refl, Option, Some, None}
 use Rattle.std.specs.Prelude.{◌≢◌}
-use Rattle.tp_tree_commit.specs.TreeCommit.{Vote, Ending, Part, Tree, EachBranch, IsRoot, HasVoted, HasLeft, HasCommitted, Acts, Reached, IsUndisturbed, IsAtRest, RestCompletes, IsOver}
+use Rattle.tp_tree_commit.specs.TreeCommit.{Vote, Ending, Part, Tree, EachBranch, IsRoot, HasVoted, HasLeft, HasCommitted, Acts, Reached, IsUndisturbed, IsAtRest, RestCompletes, IsOver, HasCompleted, Votes, Leaves, Commits, Rolls, Decides, Completes, CompletedRests}
+use Rattle.tp_names.specs.declared.outcome.Outcome.{Outcome}
 use Rattle.tp_tree_commit.proofs.Kept.{Kept}
 use Rattle.tp_tree_commit.proofs.Runs.{kept}
 use Rattle.tp_tree_commit.proofs.Cleared.{completed}
@@ -14,10 +15,7 @@ record Rests (s : Tree) : Type 0 where
 
 -- an action that neither rolls back nor decides is none that a node can do
 stuck : (s : Tree) → Rests s → (n : ℕ) (p q : Part) → s n ≡ Some p → Acts s n (Some p) q → q.ending ≢ Ending.Rolled → q.decision ≡ p.decision → ⊥
-stuck s r n p q h act whole same = elim (r.rest n p q h act) [
-  | inl f ↦ whole f
-  | inr d ↦ d (let none = (r.undisturbed n p h).1 in cc (same, none))
-]
+stuck s r n p q h act whole same = elim (r.rest n p q h act) [ inl f ↦ whole f | inr d ↦ d same ]
 
 -- ---- from the ends up: each branch has voted
 
@@ -77,10 +75,36 @@ over s r n p h below = elim (from_above s r.kept Stays (committed s r) n p h) [ 
   where
     at : HasCommitted p → (c : Bool) → p.clear ≡ c → IsOver p
     at done true ci = inr ci
-    at done false ci = absurd (stuck s r n p (record p { clear = true }) h (Acts.Completes p done ci (λ d. let none = (r.undisturbed n p h).1 in cc (none, d)) below) (r.undisturbed n p h).0 refl)
+    at done false ci = absurd (stuck s r n p (record p { clear = true }) h (Acts.Completes p done ci (r.undisturbed n p h).1 below) (r.undisturbed n p h).0 refl)
 
 pub rest_completes : (s : Tree) → Reached s → RestCompletes s
 rest_completes s reached undisturbed rest n p h =
     let k : Kept s = kept s reached in
     let r : Rests s = record { kept = k; undisturbed = undisturbed; rest = rest } in
     completed s k n p h (from_below s k IsOver (over s r) n p h)
+
+-- ---- and there alone
+
+-- a node that left or completed did not fail, and does nothing more
+whole : (s : Tree) → Kept s → (n : ℕ) (p : Part) → s n ≡ Some p → HasLeft p ⊎ HasCompleted p → (p.ending ≢ Ending.Rolled) × (p.decision ≢ Some Outcome.Rollback)
+whole s k n p h (inl gone) = (λ f. let e = (k.left n p h gone).0 in cc (e, f), λ d. let ready = k.decides n p h (λ none. cc (d, none)) in cc (ready, gone))
+whole s k n p h (inr done) = (λ f. let e = done.0 in cc (e, f), (k.clears n p h done.2).1)
+
+idle : (s : Tree) → Kept s → (n : ℕ) (p q : Part) → s n ≡ Some p → HasLeft p ⊎ HasCompleted p → Acts s n (Some p) q → ⊥
+idle s k n p q h (inl gone) (Votes _ branch active below) = let un = active.0 in cc (gone, un)
+idle s k n p q h (inl gone) (Leaves _ branch active below) = let un = active.0 in cc (gone, un)
+idle s k n p q h (inl gone) (Commits _ why) = elim why [ inl w ↦ (let un = w.1.0 in cc (gone, un)) | inr w ↦ (let ready = w.0.0 in cc (gone, ready)) ]
+idle s k n p q h (inl gone) (Rolls _ why) = elim why [ inl w ↦ (let un = w.0 in cc (gone, un)) | inr w ↦ (let ready = w.0.0 in cc (gone, ready)) ]
+idle s k n p q h (inl gone) (Decides _ o doubt none) = let ready = doubt.0 in cc (gone, ready)
+idle s k n p q h (inl gone) (Completes _ done unclear dec below) = let e = (k.left n p h gone).0 in cc (e, done)
+idle s k n p q h (inr done) (Votes _ branch active below) = let e = done.0 in let open_ = active.1 in cc (e, open_)
+idle s k n p q h (inr done) (Leaves _ branch active below) = let e = done.0 in let open_ = active.1 in cc (e, open_)
+idle s k n p q h (inr done) (Commits _ why) = let e = done.0 in elim why [ inl w ↦ (let open_ = w.1.1 in cc (e, open_)) | inr w ↦ (let open_ = w.0.1 in cc (e, open_)) ]
+idle s k n p q h (inr done) (Rolls _ why) = let e = done.0 in elim why [ inl w ↦ (let open_ = w.1 in cc (e, open_)) | inr w ↦ (let open_ = w.0.1 in cc (e, open_)) ]
+idle s k n p q h (inr done) (Decides _ o doubt none) = let e = done.0 in let open_ = doubt.1 in cc (e, open_)
+idle s k n p q h (inr done) (Completes _ c unclear dec below) = let clear = done.2 in cc (clear, unclear)
+
+pub completed_rests : (s : Tree) → Reached s → CompletedRests s
+completed_rests s reached all =
+    let k : Kept s = kept s reached in
+    (λ n p h. whole s k n p h (all n p h), λ n p q h act. absurd (idle s k n p q h (all n p h) act))

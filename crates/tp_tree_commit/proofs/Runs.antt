@@ -19,6 +19,7 @@ at_first s none = record {
   commits = λ n p h e. absurd (no n p h);
   rolls = λ n p h e v. absurd (no n p h);
   clears = λ n p h c. absurd (no n p h);
+  decides = λ n p h d. absurd (no n p h);
 }
   where
     no : (n : ℕ) (p : Part) → s n ≡ Some p → ⊥

@@ -145,19 +145,26 @@ CommitsAlone s = (m n : ℕ) (p q : Part) → s m ≡ Some p → s n ≡ Some q 
 abbrev pub ReportFree : Tree → Type 0
 ReportFree s = (r : ℕ) (p : Part) → s r ≡ Some p → IsRoot p → IsClear p → (n : ℕ) (q : Part) → s n ≡ Some q → HasLeft q ⊎ HasCompleted q
 
--- 3. Where no node rolled back or decided, and the most that any could still do is one of these two, every node that did not leave has
--- completed so. So a tree stops short of its end only where something fails.
+-- 3. Where no node rolled back or decided to, and the most that any could still do is to roll back or decide, every node that did not leave
+-- has completed so; and there alone. So a tree stops short of its end only where something fails.
 abbrev pub IsUndisturbed : Tree → Type 0
-IsUndisturbed s = (n : ℕ) (p : Part) → s n ≡ Some p → (p.ending ≢ Ending.Rolled) × (p.decision ≡ None)
+IsUndisturbed s = (n : ℕ) (p : Part) → s n ≡ Some p → (p.ending ≢ Ending.Rolled) × (p.decision ≢ Some Outcome.Rollback)
 
 abbrev pub IsAtRest : Tree → Type 0
-IsAtRest s = (n : ℕ) (p q : Part) → s n ≡ Some p → Acts s n (Some p) q → HasRolled q ⊎ (q.decision ≢ None)
+IsAtRest s = (n : ℕ) (p q : Part) → s n ≡ Some p → Acts s n (Some p) q → HasRolled q ⊎ (q.decision ≢ p.decision)
+
+abbrev pub AllCompleted : Tree → Type 0
+AllCompleted s = (n : ℕ) (p : Part) → s n ≡ Some p → HasLeft p ⊎ HasCompleted p
 
 abbrev pub RestCompletes : Tree → Type 0
-RestCompletes s = IsUndisturbed s → IsAtRest s → (n : ℕ) (p : Part) → s n ≡ Some p → HasLeft p ⊎ HasCompleted p
+RestCompletes s = IsUndisturbed s → IsAtRest s → AllCompleted s
+
+abbrev pub CompletedRests : Tree → Type 0
+CompletedRests s = AllCompleted s → IsUndisturbed s × IsAtRest s
 
 pub record KeepsSentences (s : Tree) : Type 0 where
   pub one_outcome : OneOutcome s
   pub commits_alone : CommitsAlone s
   pub report_free : ReportFree s
   pub rest_completes : RestCompletes s
+  pub completed_rests : CompletedRests s

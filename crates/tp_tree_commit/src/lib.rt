@@ -10,7 +10,7 @@ ghost use Rattle.tp_tree_commit.specs.Walks.{Walks};
 
 /// In every run of the page: of two nodes that are told different outcomes one decided on its own, since where one committed none rolled
 /// back; where the root's commitment is complete with no report, so is that of every node that did not leave, and its user was told to
-/// commit; and where nothing failed and no node can go on, every node that did not leave has completed so.
+/// commit; and where nothing failed and no node can go on, and there alone, every node that did not leave has completed so.
 pub fn the_page_keeps_its_sentences()
     ensures { (s : Tree) → Reached s → KeepsSentences s }
 {}
