@@ -1,0 +1,3 @@
+mod Opening
+pub mod Chained
+pub mod Woven

@@ -1,0 +1,58 @@
+-- The processes of one site: each starts on the file that the one before it left, some events happen in it, and it stops, whenever and
+-- however that is. What it wrote, and to whom, is no matter of this file.
+use Rattle.std.specs.Prelude.{ℕ, ◌≡◌, ◌<◌, ◌^◌, Bool, true, false, List, [], ◌∷◌, length}
+use Rattle.tp_records.specs.declared.body.Event.{Event as Given}
+use Rattle.tp_logrec.specs.declared.record.LogRec.{LogRec}
+use Rattle.tp_logrec.specs.declared.record.LogVersion.{LogVersion}
+use Rattle.tp_logrec.specs.LogText.{Placed, recs, IsLog}
+use Rattle.tp_model.specs.LogCommands.{Has, opened}
+use Rattle.tp_model.specs.NodeRun.{Opening, log_after}
+use Rattle.tp_site_logs.specs.Lives.{Life, opening_after}
+
+pub record Process : Type 0 where
+  -- the bytes of the log that it found, and of the log that it left
+  pub found : List ℕ
+  pub left : List ℕ
+  -- its boot stands in the log that it left
+  pub begun : Bool
+  -- the events that happened in it, oldest first
+  pub given : List Given
+
+abbrev pub opening_on : List ℕ → List LogRec → Opening
+opening_on s rs = record { site = s; version = LogVersion.Two; records = rs }
+
+-- the records that it leaves, where it found these
+abbrev pub records_left : List ℕ → Process → List LogRec → List LogRec
+records_left s p rs = elim p.begun [ true ↦ log_after (opening_on s rs) p.given | false ↦ rs ]
+
+-- it found a log of version 2, of fewer than 2^64 bytes, and left the log of the events that happened in it
+pub record IsProcess (s : List ℕ) (p : Process) : Type 0 where
+  pub small : length p.found < 2 ^ 64
+  pub listed : List Placed
+  pub opens : opened p.found ≡ Has LogVersion.Two listed
+  pub leaves : IsLog p.left (records_left s p (recs listed))
+
+-- the newest first; the first one found a log without records
+abbrev pub FindsWhatIsLeft : Process → List Process → Type 0
+FindsWhatIsLeft p [] = IsLog p.found []
+FindsWhatIsLeft p (q ∷ ps) = p.found ≡ q.left
+
+abbrev pub AreProcesses : List ℕ → List Process → Type 0
+AreProcesses s [] = Unit {0}
+AreProcesses s (p ∷ ps) = IsProcess s p × FindsWhatIsLeft p ps × AreProcesses s ps
+
+-- what happened in those that began
+abbrev pub life_of : List Process → Life
+life_of [] = []
+life_of (p ∷ ps) = elim p.begun [ true ↦ p.given ∷ life_of ps | false ↦ life_of ps ]
+
+-- ---- what holds of them
+
+-- the file is the log that a site leaves which has lived so, and whoever starts on it finds those records
+pub record IsLogOf (s : List ℕ) (life : Life) (file : List ℕ) : Type 0 where
+  pub log : IsLog file (opening_after s life).records
+  pub opens : length file < 2 ^ 64 → (version : LogVersion) × (listed : List Placed) × (opened file ≡ Has version listed) × (recs listed ≡ (opening_after s life).records)
+
+-- each process leaves the log of all that happened so far
+abbrev pub ProcessesLeaveTheLog : Type 0
+ProcessesLeaveTheLog = (s : List ℕ) (p : Process) (ps : List Process) → AreProcesses s (p ∷ ps) → IsLogOf s (life_of (p ∷ ps)) p.left
