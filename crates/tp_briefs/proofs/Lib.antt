@@ -1,0 +1,5 @@
+mod Lives
+mod Rows
+mod Steps
+mod Left
+pub mod Alike
