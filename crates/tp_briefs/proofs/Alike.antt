@@ -80,7 +80,7 @@ unfolding last_or_number
 number_is [] = refl
 number_is (n ∷ ns) = last_is n ns
 
-last_boot : (rs : List LogRec) → last_number (boots rs) ≡ last_boot_from 0 rs
+pub last_boot : (rs : List LogRec) → last_number (boots rs) ≡ last_boot_from 0 rs
 last_boot rs = number_is (boots rs) ∙ sym (boot_is 0 rs)
 
 same_boot : (rs : List LogRec) → all_follow rs ≡ true → last_boot_from 0 (brief rs) ≡ last_boot_from 0 rs
@@ -104,7 +104,7 @@ same_boot rs e = go rs refl (brief rs) refl
 
 -- ---- the start
 
-started_as : (b d : ℕ) (v : LogVersion) (c u : Option Current) (ks xs : List Kept) → b ≡ d → c ≡ u → ks ≡ xs
+pub started_as : (b d : ℕ) (v : LogVersion) (c u : Option Current) (ks xs : List Kept) → b ≡ d → c ≡ u → ks ≡ xs
     → ◌≡◌ {A = Digest} (record { declared = false; known = is_known c ks; superior = None; arcs = []; current = c; kept = ks; drawn = 0; boot = b; version = v })
     (record { declared = false; known = is_known u xs; superior = None; arcs = []; current = u; kept = xs; drawn = 0; boot = d; version = v })
 started_as b d v c u ks xs h i j = rw (h, i, j) refl

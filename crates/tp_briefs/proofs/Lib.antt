@@ -3,3 +3,4 @@ mod Rows
 mod Steps
 mod Left
 pub mod Alike
+pub mod Runs
