@@ -1,12 +1,14 @@
--- The processes of one site: each starts on the file that the one before it left, some events happen in it, and it stops, whenever and
--- however that is. What it wrote, and to whom, is no matter of this file.
-use Rattle.std.specs.Prelude.{ℕ, ◌≡◌, ◌<◌, ◌^◌, Bool, true, false, List, [], ◌∷◌, length}
+-- The processes of one site: each starts on the file that the one before it left, which may have been compacted between them; some events
+-- happen in it, and it stops, whenever and however that is. What it wrote, and to whom, is no matter of this file.
+use Rattle.std.specs.Prelude.{ℕ, ◌≡◌, ◌⊎◌, ◌<◌, ◌^◌, Bool, true, false, List, [], ◌∷◌, length}
 use Rattle.tp_records.specs.declared.body.Event.{Event as Given}
 use Rattle.tp_logrec.specs.declared.record.LogRec.{LogRec}
 use Rattle.tp_logrec.specs.declared.record.LogVersion.{LogVersion}
 use Rattle.tp_logrec.specs.LogText.{Placed, recs, IsLog}
+use Rattle.tp_logrec.specs.Order.{brief}
 use Rattle.tp_model.specs.LogCommands.{Has, opened}
-use Rattle.tp_model.specs.NodeRun.{Opening, log_after}
+use Rattle.tp_model.specs.NodeRun.{node_run, log_after}
+use Rattle.tp_briefs.specs.Starts.{on, StartAlike}
 use Rattle.tp_site_logs.specs.Lives.{Life, opening_after}
 
 pub record Process : Type 0 where
@@ -18,12 +20,9 @@ pub record Process : Type 0 where
   -- the events that happened in it, oldest first
   pub given : List Given
 
-abbrev pub opening_on : List ℕ → List LogRec → Opening
-opening_on s rs = record { site = s; version = LogVersion.Two; records = rs }
-
 -- the records that it leaves, where it found these
 abbrev pub records_left : List ℕ → Process → List LogRec → List LogRec
-records_left s p rs = elim p.begun [ true ↦ log_after (opening_on s rs) p.given | false ↦ rs ]
+records_left s p rs = elim p.begun [ true ↦ log_after (on s LogVersion.Two rs) p.given | false ↦ rs ]
 
 -- it found a log of version 2, of fewer than 2^64 bytes, and left the log of the events that happened in it
 pub record IsProcess (s : List ℕ) (p : Process) : Type 0 where
@@ -32,10 +31,17 @@ pub record IsProcess (s : List ℕ) (p : Process) : Type 0 where
   pub opens : opened p.found ≡ Has LogVersion.Two listed
   pub leaves : IsLog p.left (records_left s p (recs listed))
 
+-- the one is a log of the brief of what the other, of fewer than 2^64 bytes, is a log of
+pub record IsShortened (found left : List ℕ) : Type 0 where
+  pub small : length left < 2 ^ 64
+  pub records : List LogRec
+  pub before : IsLog left records
+  pub after : IsLog found (brief records)
+
 -- the newest first; the first one found a log without records
 abbrev pub FindsWhatIsLeft : Process → List Process → Type 0
 FindsWhatIsLeft p [] = IsLog p.found []
-FindsWhatIsLeft p (q ∷ ps) = p.found ≡ q.left
+FindsWhatIsLeft p (q ∷ ps) = (p.found ≡ q.left) ⊎ IsShortened p.found q.left
 
 abbrev pub AreProcesses : List ℕ → List Process → Type 0
 AreProcesses s [] = Unit {0}
@@ -46,13 +52,31 @@ abbrev pub life_of : List Process → Life
 life_of [] = []
 life_of (p ∷ ps) = elim p.begun [ true ↦ p.given ∷ life_of ps | false ↦ life_of ps ]
 
+-- none of the logs was made short
+abbrev pub AreWhole : List Process → Type 0
+AreWhole [] = Unit {0}
+AreWhole (p ∷ []) = Unit {0}
+AreWhole (p ∷ q ∷ ps) = (p.found ≡ q.left) × AreWhole (q ∷ ps)
+
 -- ---- what holds of them
 
--- the file is the log that a site leaves which has lived so, and whoever starts on it finds those records
+-- the log of a site that has lived so, whole or not: whoever starts on it knows what a start on the whole log knows, and none of its records
+-- is foreign to it
 pub record IsLogOf (s : List ℕ) (life : Life) (file : List ℕ) : Type 0 where
-  pub log : IsLog file (opening_after s life).records
-  pub opens : length file < 2 ^ 64 → (version : LogVersion) × (listed : List Placed) × (opened file ≡ Has version listed) × (recs listed ≡ (opening_after s life).records)
+  pub records : List LogRec
+  pub log : IsLog file records
+  pub alike : StartAlike (on s LogVersion.Two records) (opening_after s life)
+  pub opens : length file < 2 ^ 64 → (version : LogVersion) × (listed : List Placed) × (opened file ≡ Has version listed) × (recs listed ≡ records)
 
--- each process leaves the log of all that happened so far
+-- each process leaves the log of all that happened so far; all of it, where none was made short
 abbrev pub ProcessesLeaveTheLog : Type 0
 ProcessesLeaveTheLog = (s : List ℕ) (p : Process) (ps : List Process) → AreProcesses s (p ∷ ps) → IsLogOf s (life_of (p ∷ ps)) p.left
+
+abbrev pub ProcessesLeaveItWhole : Type 0
+ProcessesLeaveItWhole = (s : List ℕ) (p : Process) (ps : List Process) → AreProcesses s (p ∷ ps) → AreWhole (p ∷ ps) → IsLog p.left (opening_after s (life_of (p ∷ ps))).records
+
+-- what a process gives for its events is what one on the whole log gives
+abbrev pub ProcessesActAlike : Type 0
+ProcessesActAlike =
+    (s : List ℕ) (p : Process) (ps : List Process) → (k : AreProcesses s (p ∷ ps))
+    → (node_run (on s LogVersion.Two (recs k.0.listed)) p.given).outputs ≡ (node_run (opening_after s (life_of ps)) p.given).outputs
