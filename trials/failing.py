@@ -5,8 +5,8 @@ trials/run failing [--program CMD] [--drive CMD] [--short] [--only WORD]
 For each command and each of its calls (open, length, read, write, cut and sync of the disk, reads of standard input, writes to
 standard output, memory): that call alone fails, a write with nothing, half or all of it done. Then the exit status is the one
 that docs/SERVICE.md gives that command for that fault, standard error has its line, standard output is exactly what had been
-written before (of the failing write as much as it made), no call of the disk comes after, and the disk opens to a list that some
-moment of the run without a fault had. After a read that failed the outputs of what was read are written. A store whose file fails
+written before (of the failing write as much as it made), no call of the disk comes after, but that a write which failed gives back
+what the file grew by, and the disk opens to a list that some moment of the run without a fault had. After a read that failed the outputs of what was read are written. A store whose file fails
 in a replay is no fault of the run: its transcript is that of a store that no longer votes for commitment. Where reads and writes
 are only short, and those of the disk interrupted, nothing changes. The program is started with its standard streams closed, too,
 and with words that are none.
@@ -104,10 +104,13 @@ class Failing(stops.Stops):
             out += {"none": 0, "half": last // 2, "all": last}[how]
         if run.out != whole.out[:out] or len(run.out) != out:
             self.fault(case, where + "%d bytes of output" % len(run.out))
-        # Nothing after the call that failed. Where a store, memory or the input failed outputs may be written still.
+        # Nothing after the call that failed, but that a write gives back what the file grew by. Where a store, memory or the
+        # input failed outputs may be written still.
         at = [i for i, call in enumerate(run.calls) if call[0] == kind][0 if kind == "malloc" else k - 1]
         after = [name for name, _, _ in run.calls[at + 1 :]
                  if name in preload.CHANGES or (kind != "malloc" and run.status and (kind, name) != ("read", "write"))]
+        if kind == "pwrite" and after[:1] == ["ftruncate"]:
+            after = after[1:]
         if after:
             self.fault(case, where + "then %s" % after[:3])
         if found not in lists and not (found is None and case.makes):
@@ -147,7 +150,7 @@ class Failing(stops.Stops):
         """Words that are none, and what they end with."""
         for words, status in (([], 2), (["play"], 2), (["node", "--name"], 2), (["node", "--name", "A"], 2), (["node", "--name", "a" * 17], 2),
                               (["make", "--nodes", "1"], 2), (["make", "--rounds", "31"], 2), (["make", "--number", str(2**64)], 2),
-                              (["format", "more"], 2), (["--help"], 2), ([b"\xff"], 2), (["node", "--name", b"\xff"], 2),
+                              (["format", "more"], 2), (["--help"], 0), (["node", "-h"], 0), (["-V"], 0), (["--helpp"], 2), ([b"\xff"], 2), (["node", "--name", b"\xff"], 2),
                               (["drive", "--workers", "0"], 2), (["drive", "--workers", "17"], 2), (["drive", "--workers"], 2),
                               (["drive", "node"], 2), (["drive", "--name", b"\xff"], 2)):
             if words[:1] == ["drive"] and not self.options.drive:

@@ -132,7 +132,10 @@ static uint32_t draw(uint64_t *s) {
     return *s >> 33;
 }
 
-static long size_of_disk(void) { return lseek(disk, 0, SEEK_END); }
+static long size_of_disk(void) {
+    struct stat found;
+    return fstat(disk, &found) ? -1 : found.st_size;
+}
 
 static void settle(void) {
     base_size = size_of_disk();

@@ -8,6 +8,7 @@ import sys
 ROOT = pathlib.Path(__file__).resolve().parent.parent
 PROGRAM = ROOT / "crates" / "tpnode" / "out" / "tpnode"
 DRIVE = ROOT / "crates" / "tpdrive" / "out" / "tpdrive"
+DRAW = ROOT / "crates" / "tpdraw" / "out" / "tpdraw"
 
 
 def add_program(parser, workers=False):
@@ -25,8 +26,21 @@ def set_program(options, workers=False):
         options.drive = None
 
 
+def add_draw(parser):
+    parser.add_argument("--draw", help="the command that draws, %s where it is not given" % DRAW.relative_to(ROOT))
+
+
+def set_draw(options):
+    options.draw = shlex.split(options.draw) if options.draw else [str(DRAW)]
+    if os.sep in options.draw[0] and not os.access(options.draw[0], os.X_OK):
+        print("%s is not there: drawing is left out" % options.draw[0], flush=True)
+        options.draw = None
+
+
 def command_of(options, words):
-    """The command line of these words. The first of them is a command of tpnode, or `drive` for the workers."""
+    """The command line of these words. The first of them is a command of tpnode, `drive` for the workers, or `draw`."""
+    if words[:1] == ["draw"]:
+        return options.draw + words[1:]
     return options.drive + words[1:] if words[:1] == ["drive"] else options.program + words
 
 

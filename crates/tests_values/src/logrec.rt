@@ -3,7 +3,7 @@ ghost use Rattle.std.specs.Prelude.{◌≡◌, true};
 ghost use Rattle.tp_logrec.specs.Order.{all_follow};
 
 use std::alloc::Global;
-use tp_logrec::{LogRec, LogVersion, OrderCheck, Standing, brief, decode_log, encode_log, follows};
+use tp_logrec::{LogRec, LogVersion, OrderCheck, brief, decode_log, encode_log, follows};
 use tp_names::{
     Aaid, Addr, BranchId, Child, Children, Mark, NoMemory, NodeKey, Octets, Outcome, RecordFault,
     Report, SiteName,
@@ -299,11 +299,10 @@ fn version_2_counts_no_more_than_256_children(rt: HostRuntime) {
     assert!(rt; matches!(place, Some(25)));
 }
 
-/// The records that were taken, and what of them stands.
+/// The records that were taken, and the check that took them.
 #[derive(Drop)]
 struct Log {
     list: Vec<LogRec>,
-    standing: Standing,
     check: OrderCheck,
 }
 
@@ -311,15 +310,14 @@ impl Log {
     fn new(alloc: Global) -> Log {
         Log {
             list: Vec::new(alloc),
-            standing: Standing::new(alloc),
             check: OrderCheck::new(alloc),
         }
     }
 
-    /// Whether the record follows, where all three ways to ask agree.
+    /// Whether the record follows, where both ways to ask agree.
     fn may_follow(&self, rec: &LogRec) -> Option<bool> {
         let may = follows(self.list.as_slice(), rec);
-        if self.standing.follows(rec) == may && self.check.follows(rec) == may {
+        if self.check.follows(rec) == may {
             Some(may)
         } else {
             None
@@ -327,7 +325,6 @@ impl Log {
     }
 
     fn take(&mut self, alloc: Global, rec: LogRec) -> Result<(), NoMemory> {
-        self.standing.take(alloc, &rec)?;
         self.check.take(alloc, &rec)?;
         self.list.push(rec)?;
         Ok(())
@@ -501,6 +498,16 @@ fn are_those(alloc: Global, found: &[LogRec], rows: &[Row]) -> Option<bool> {
     Some(found.len() == rows.len())
 }
 
+/// The brief of records, where each follows those before it.
+fn brief_in_order(alloc: Global, list: &[LogRec]) -> Option<Vec<LogRec>> {
+    for i in 0..list.len() {
+        if !follows(&list[..i], &list[i]) {
+            return None;
+        }
+    }
+    brief(alloc, list).ok()
+}
+
 /// Whether the one list of records is taken, and the other is its brief.
 fn is_brief(alloc: Global, long: &[Row], left: &[Row]) -> Option<bool> {
     let mut log = Log::new(alloc);
@@ -509,7 +516,7 @@ fn is_brief(alloc: Global, long: &[Row], left: &[Row]) -> Option<bool> {
             return Some(false);
         }
     }
-    let brief = log.standing.brief(alloc).ok()?;
+    let brief = brief_in_order(alloc, log.list.as_slice())?;
     are_those(alloc, brief.as_slice(), left)
 }
 

@@ -1,4 +1,5 @@
 pub mod Nodes
+pub mod Turns
 pub mod Runs
 pub mod Traversal
 pub mod Good

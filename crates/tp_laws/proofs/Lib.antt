@@ -1,4 +1,5 @@
 pub mod Promises
+pub mod Deployed
 pub use Rattle.tp_steps.proofs.every.Answers
 pub use Rattle.tp_histories.proofs.trees.Knowing
 pub use Rattle.tp_runs.proofs.SeenRolled

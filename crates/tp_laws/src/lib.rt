@@ -26,6 +26,7 @@ ghost use Rattle.tp_model.specs.Expand.{played_all, IsExpanded};
 ghost use Rattle.tp_members.specs.Expansion.{LeavesItsWorld, ClosesAlike, IsWrittenOut, SpeaksOfNone, IsOfRun};
 ghost use Rattle.tp_runs.specs.RolledSeen.{RolledIsSeen};
 ghost use Rattle.tp_laws.specs.Whole.{AllPromised};
+ghost use Rattle.tp_laws.specs.Deployed.{DeploymentsKeep, DeploymentsStay};
 
 /// In every run, every node's history is one that grew from an empty log by events that were accepted.
 pub fn all_legal()
@@ -143,6 +144,15 @@ pub fn the_promises_are_kept()
 /// told, log, force and report.
 pub fn all_that_is_promised_is_kept()
     ensures { (es : List Happening) → AllPromised (run es) }
+{}
+
+/// A deployment keeps all that is promised of runs. Processes on machines, each site run by one process after the other on its own log,
+/// stopped at any moment, with a carrier that brings a node only what was said to it: they are a run of one world, whose nodes have the
+/// histories that the processes gave them, and of that world holds all that the laws say. As the deployment goes on, what was so of a
+/// node in a tree stays so.
+pub fn a_deployment_keeps_the_promises()
+    ensures kept { DeploymentsKeep }
+    ensures stays { DeploymentsStay }
 {}
 
 /// What lines leave, for every number of members and every list of answers, is what a list of happenings leaves; so is what

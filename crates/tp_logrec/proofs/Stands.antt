@@ -1,11 +1,10 @@
--- What stands of a list says which record may follow, and grows by one record at a time.
-use Rattle.std.proofs.Common.{◌≡◌, ◌-◌, ◌<◌, ℕ, zero, suc, Option, Some, None, List, [], ◌∷◌, ◌++◌, length, length-append, refl, sym, subst, ◌∙◌, ap, arith, append-nil, Bool, true, false}
-use Rattle.std.specs.Prelude.{◌&&◌, nat_lt, max, slice_get}
+-- What the order and the brief read of a list grows by one record at a time.
+use Rattle.std.proofs.Common.{◌≡◌, ℕ, Option, Some, None, List, [], ◌∷◌, ◌++◌, refl, sym, ◌∙◌, ap, arith, append-nil, Bool, true, false}
+use Rattle.std.specs.Prelude.{◌&&◌, nat_lt, max}
 use Rattle.std.proofs.lemmas.Bool.Decides.{nat_tests}
 use Rattle.tp_logrec.specs.declared.record.LogRec.{LogRec}
-use Rattle.tp_logrec.specs.Order.{Owner, owner, is_owner, is_ready, Life, with_record, without, lives_after, lives_from, lives, records_of, last_or, last, those, bound_after, bound_from, bound, boots, all_below, greatest, is_begun, boot_by, last_boot_from, last_by, last_from, ready_by, ready_from, Before, is_free, before, may_follow, follows}
-use Rattle.tp_logrec.specs.Standing.{Standing, standing_of, greatest_by, greatest_after, taken, is_above, before_in, follows_in}
-use Rattle.tp_logrec.specs.Places.{IsReadyPlace}
+use Rattle.tp_logrec.specs.Order.{Owner, owner, is_owner, is_ready, Life, with_record, without, lives_after, lives_from, lives, records_of, last_or, last, those, bound_after, bound_from, boots, all_below, greatest, is_begun, boot_by, last_boot_from, last_by, last_from, ready_by, ready_from}
+use Rattle.tp_logrec.specs.Standing.{Standing, standing_of, greatest_by, greatest_after, taken, is_above}
 use Rattle.tp_logrec.proofs.Sames.{owner_same}
 
 -- ---- boots
@@ -155,19 +154,6 @@ pub ready_all : (ls : List Life) (o : Owner) (rs : List LogRec) → ready_in (re
 ready_all ls o [] = refl
 ready_all ls o (r ∷ rs) = ready_all (lives_after ls r) o rs ∙ ap (λ b. ready_from o b rs) (ready_step ls o r)
 
-pub before_by_standing : (rs : List LogRec) (o : Owner) → before_in (standing_of rs) o ≡ before rs o
-before_by_standing rs o =
-    ap (λ l. let b : Before = record { begun = is_begun rs; boot = last_boot_from 0 rs; free = is_free o.node (bound rs); last = l; ready = ready_in (records_of (lives rs) o) } in b) (last_all [] o rs)
-    ∙ ap (λ l. let b : Before = record { begun = is_begun rs; boot = last_boot_from 0 rs; free = is_free o.node (bound rs); last = last_from o None rs; ready = l } in b) (ready_all [] o rs)
-
-pub follows_by_standing : (rs : List LogRec) (r : LogRec) → follows_in (standing_of rs) r ≡ follows rs r
-follows_by_standing rs (LogRec.Boot n) = above_greatest n (boots rs)
-follows_by_standing rs (LogRec.Ready n k a cs) = ap (λ b. may_follow b (LogRec.Ready n k a cs)) (before_by_standing rs (owner n k))
-follows_by_standing rs (LogRec.Heuristic n k o) = ap (λ b. may_follow b (LogRec.Heuristic n k o)) (before_by_standing rs (owner n k))
-follows_by_standing rs (LogRec.Commit n k a cs) = ap (λ b. may_follow b (LogRec.Commit n k a cs)) (before_by_standing rs (owner n k))
-follows_by_standing rs (LogRec.Damage n k a o r cs) = ap (λ b. may_follow b (LogRec.Damage n k a o r cs)) (before_by_standing rs (owner n k))
-follows_by_standing rs (LogRec.End n k o) = ap (λ b. may_follow b (LogRec.End n k o)) (before_by_standing rs (owner n k))
-
 -- ---- one record more
 
 pub greatest-more : (bs : List ℕ) (n : ℕ) → greatest (bs ++ n ∷ []) ≡ Some (greatest_by (greatest bs) n)
@@ -213,44 +199,5 @@ begun_after_is (q ∷ qs) r = refl
 
 pub standing_grows : (rs : List LogRec) (r : LogRec) → standing_of (rs ++ r ∷ []) ≡ taken (standing_of rs) r
 standing_grows rs r =
-    ap (λ x. let s : Standing = record { begun = x; greatest = greatest (boots (rs ++ r ∷ [])); boot = last_boot_from 0 (rs ++ r ∷ []); lives = lives (rs ++ r ∷ []); bound = bound (rs ++ r ∷ []) } in s) (begun_after_is rs r)
-    ∙ ap (λ x. let s : Standing = record { begun = true; greatest = x; boot = last_boot_from 0 (rs ++ r ∷ []); lives = lives (rs ++ r ∷ []); bound = bound (rs ++ r ∷ []) } in s) (greatest_after_is rs r)
-    ∙ ap (λ x. let s : Standing = record { begun = true; greatest = greatest_after (greatest (boots rs)) r; boot = x; lives = lives (rs ++ r ∷ []); bound = bound (rs ++ r ∷ []) } in s) (boot_after_is 0 rs r)
-    ∙ ap (λ x. let s : Standing = record { begun = true; greatest = greatest_after (greatest (boots rs)) r; boot = boot_by (last_boot_from 0 rs) r; lives = x; bound = bound (rs ++ r ∷ []) } in s) (lives_after_is [] rs r)
-    ∙ ap (λ x. let s : Standing = record { begun = true; greatest = greatest_after (greatest (boots rs)) r; boot = boot_by (last_boot_from 0 rs) r; lives = lives_after (lives rs) r; bound = x } in s) (bound_after_is [] rs r)
-
--- ---- the place of the last record, and of the last Ready
-
-pub last_got : (rs : List LogRec) → slice_get rs (length rs - 1) ≡ last rs
-last_got [] = refl
-last_got (r ∷ rs) = ap (λ i. slice_get (r ∷ rs) i) less ∙ go r rs
-  where
-    less : suc (length rs) - 1 ≡ length rs
-    less = omega arith
-
-    go : (q : LogRec) (qs : List LogRec) → slice_get (q ∷ qs) (length qs) ≡ last_or (Some q) qs
-    go q [] = refl
-    go q (p ∷ ps) = go p ps
-
-pub got_end : (rs : List LogRec) (r : LogRec) → slice_get (rs ++ r ∷ []) (length rs) ≡ Some r
-got_end [] r = refl
-got_end (q ∷ qs) r = got_end qs r
-
-pub got_before : (rs : List LogRec) (r : LogRec) (i : ℕ) → i < length rs → slice_get (rs ++ r ∷ []) i ≡ slice_get rs i
-got_before [] r i h = absurd (omega arith)
-got_before (q ∷ qs) r zero h = refl
-got_before (q ∷ qs) r (suc i) h = got_before qs r i (omega arith)
-
--- a Ready more, or another record
-pub place_ready : (rs : List LogRec) (r : LogRec) → is_ready r ≡ true → IsReadyPlace (rs ++ r ∷ []) (Some (length rs))
-place_ready rs r e = (rw length-append (omega arith), ready_more rs r e ∙ sym (got_end rs r))
-
-pub place_other : (rs : List LogRec) (r : LogRec) (at : Option ℕ) → is_ready r ≡ false → IsReadyPlace rs at → IsReadyPlace (rs ++ r ∷ []) at
-place_other rs r None e is = ready_same rs r e ∙ is
-place_other rs r (Some i) e is = (rw length-append (let h : i < length rs = is.0 in omega arith), ready_same rs r e ∙ is.1 ∙ sym (got_before rs r i is.0))
-
-pub pushed_ready : (rs ns : List LogRec) (r : LogRec) (n : ℕ) → ns ≡ rs ++ r ∷ [] → n ≡ length rs → is_ready r ≡ true → IsReadyPlace ns (Some n)
-pushed_ready rs ns r n e f g = rw (e, f) (place_ready rs r g)
-
-pub pushed_other : (rs ns : List LogRec) (r : LogRec) (at : Option ℕ) → ns ≡ rs ++ r ∷ [] → is_ready r ≡ false → IsReadyPlace rs at → IsReadyPlace ns at
-pushed_other rs ns r at e g is = subst (λ (w : List LogRec). IsReadyPlace w at) (sym e) (place_other rs r at g is)
+    ap (λ x. let s : Standing = record { greatest = x; lives = lives (rs ++ r ∷ []) } in s) (greatest_after_is rs r)
+    ∙ ap (λ x. let s : Standing = record { greatest = greatest_after (greatest (boots rs)) r; lives = x } in s) (lives_after_is [] rs r)

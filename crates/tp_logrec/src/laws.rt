@@ -1,21 +1,12 @@
-//! Laws of the order of records. The bodies are empty: each contract is the law.
-ghost use Rattle.std.specs.Prelude.{◌≡◌, ◌<◌, ◌^◌, ◌++◌, ℕ, List, [], ◌∷◌, length, true};
+//! Laws of records, their logs and their briefs. The bodies are empty: each contract is the law.
+ghost use Rattle.std.specs.Prelude.{◌≡◌, ◌<◌, ◌^◌, ℕ, List, length, true};
 ghost use Rattle.tp_logrec.specs.declared.record.LogRec.{LogRec};
 ghost use Rattle.tp_logrec.specs.declared.record.LogVersion.{LogVersion};
 ghost use Rattle.tp_names.specs.Grammar.{IsGrammar};
 ghost use Rattle.tp_names.specs.Places.{AreBytes};
 ghost use Rattle.tp_logrec.specs.RecordReading.{record_grammar};
 ghost use Rattle.tp_logrec.specs.LogText.{IsLog, Foreign, Reads, Placed, recs, read_log, IsReadAs};
-ghost use Rattle.tp_logrec.specs.Order.{follows, all_follow, brief, IsStandingAlike};
-ghost use Rattle.tp_logrec.specs.Standing.{standing_of, taken, follows_in, brief_of};
-
-/// What stands of a list tells which record may follow it and what its brief is, and it grows by
-/// one record at a time.
-pub fn what_stands_tells_the_order()
-    ensures follows { (rs : List LogRec) (r : LogRec) → follows_in (standing_of rs) r ≡ follows rs r }
-    ensures grows { (rs : List LogRec) (r : LogRec) → standing_of (rs ++ r ∷ []) ≡ taken (standing_of rs) r }
-    ensures brief { (rs : List LogRec) → brief_of (standing_of rs) ≡ brief rs }
-{}
+ghost use Rattle.tp_logrec.specs.Order.{all_follow, brief, IsStandingAlike};
 
 /// The texts of records, in each version: a text has one record, what is read is a text, and no
 /// text is a proper front of another.

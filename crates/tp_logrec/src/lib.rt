@@ -27,5 +27,4 @@ pub use order::follows;
 pub use order_check::OrderCheck;
 pub use owner::Owner;
 pub use record::{LogRec, LogVersion};
-pub use standing::Standing;
 pub use summary::brief;

@@ -1,46 +1,26 @@
 //! What of a log's records still stands.
-ghost use Rattle.std.specs.Prelude.{◌≡◌, ◌++◌, List, [], ◌∷◌, ◌<◌, ◌≤◌, OnErr, OnOk, IfOk, vec_len, vec_capacity};
+ghost use Rattle.std.specs.Prelude.{◌≡◌, ◌++◌, [], ◌∷◌, OnErr, OnOk, IfOk};
 ghost use Rattle.std.specs.Option.{option_copied};
 ghost use Rattle.tp_logrec.specs.declared.record.LogRec.{LogRec};
-ghost use Rattle.tp_logrec.specs.Order.{is_damage, last_only, brief_lives, owner, is_owner, last, those, is_ready, with_record, without, others, lives_by, bound_by, records_of, follows, is_free};
-ghost use Rattle.tp_logrec.specs.Places.{IsPlace, records_in};
-ghost use Rattle.tp_logrec.specs.Standing.{standing_of, taken, greatest_by, is_above, before_in, follows_in, brief_of};
+ghost use Rattle.tp_logrec.specs.Order.{is_damage, last_only, brief_lives, is_owner, last, those, with_record, without, lives_by};
+ghost use Rattle.tp_logrec.specs.Places.{IsPlace};
+ghost use Rattle.tp_logrec.specs.Standing.{standing_of, taken, greatest_by, is_above, brief_of};
 ghost use Rattle.tp_logrec.specs.Kinds.{is_kind};
-ghost use Rattle.tp_logrec.specs.Seen.{before_of};
 
 use crate::life::Life;
 use crate::record::push_copy;
-use crate::rules::Seen;
 use crate::same::is_owner;
 use crate::{LogRec, Owner};
 use std::alloc::Global;
 use std::marker::Model;
-use tp_names::{NoMemory, NodeKey};
+use tp_names::NoMemory;
 
-/// A key whose last record is a Ready, a Heuristic or a Commit.
+/// What stands of the records that were taken, one after the other: the greatest boot number, and copies of
+/// the records of each key that is not at its end.
 #[derive(Drop)]
-struct Bound {
-    owner: Owner,
-}
-
-impl Model for Bound {
-    ghost use Rattle.tp_logrec.specs.declared.owner.Owner as owners;
-
-    ghost Value = { owners.Owner };
-
-    ghost view = { λ b. b.owner };
-}
-
-/// What of a list of records the rules read, and what stands of it: for a reader of a long log,
-/// which takes one record after the other. It keeps copies of the records that stand. A question
-/// goes over the keys that stand, and not over their records or the list.
-#[derive(Drop)]
-pub struct Standing {
-    begun: bool,
+pub(crate) struct Standing {
     greatest: Option<u64>,
-    boot: u64,
     lives: Vec<Life>,
-    bound: Vec<Bound>,
 }
 
 impl Model for Standing {
@@ -48,66 +28,24 @@ impl Model for Standing {
 
     ghost Value = { standing.Standing };
 
-    ghost view = { λ s. record { begun = s.begun; greatest = s.greatest; boot = s.boot; lives = s.lives.items; bound = s.bound.items } };
+    ghost view = { λ s. record { greatest = s.greatest; lives = s.lives.items } };
 }
 
 impl Standing {
     /// That of no records.
-    pub fn new(alloc: Global) -> Standing
+    pub(crate) fn new(alloc: Global) -> Standing
         ensures { result ≡ standing_of [] }
     {
         Standing {
-            begun: false,
             greatest: None,
-            boot: 0,
             lives: Vec::new(alloc),
-            bound: Vec::new(alloc),
-        }
-    }
-
-    /// The record may follow those that were taken.
-    pub fn follows(&self, next: &LogRec) -> bool
-        ensures exact { result ≡ follows_in self.now next.now }
-        ensures order { (rs : List LogRec) → self.now ≡ standing_of rs → result ≡ follows rs next.now }
-    {
-        self.allows(next)
-    }
-
-    fn allows(&self, next: &LogRec) -> bool
-        ensures { result ≡ follows_in self.now next.now }
-    {
-        match next {
-            LogRec::Boot { boot } => is_above(self.greatest, *boot),
-            LogRec::Ready { node, key, .. }
-            | LogRec::Commit { node, key, .. }
-            | LogRec::Heuristic { node, key, .. }
-            | LogRec::Damage { node, key, .. }
-            | LogRec::End { node, key, .. } => self.seen(*node, *key).may_follow(next),
-        }
-    }
-
-    /// What the rules read for a record of the key.
-    fn seen(&self, node: u16, key: NodeKey) -> Seen<'_>
-        ensures { before_of result ≡ before_in self.now (owner node key) }
-    {
-        let owner = Owner { node, key };
-        let (last, ready) = match life_of(self.lives.as_slice(), &owner) {
-            None => (None, None),
-            Some(life) => (life.last_record(), life.last_ready()),
-        };
-        Seen {
-            begun: self.begun,
-            boot: self.boot,
-            free: is_free(self.bound.as_slice(), node),
-            last,
-            ready,
         }
     }
 
     /// The brief of the records that were taken: the greatest Boot, and of each key that is not at
     /// its end, in the order of the first records since then, its Ready, its Heuristic, its Commit
     /// and its last Damage.
-    pub fn brief(&self, alloc: Global) -> Result<Vec<LogRec>, NoMemory>
+    pub(crate) fn brief(&self, alloc: Global) -> Result<Vec<LogRec>, NoMemory>
         ensures { IfOk result (λ list. list.items ≡ brief_of self.now) }
     {
         let mut list = Vec::new(alloc);
@@ -118,25 +56,19 @@ impl Standing {
         Ok(list)
     }
 
-    /// Takes the next record, whether it may follow or not. Without memory nothing changes.
-    pub fn take(&mut self, alloc: Global, rec: &LogRec) -> Result<(), NoMemory>
+    /// Takes the next record. Without memory nothing changes.
+    pub(crate) fn take(&mut self, alloc: Global, rec: &LogRec) -> Result<(), NoMemory>
         ensures ok { OnOk result (self.new ≡ taken self.old rec.now) }
         ensures err { OnErr result (self.new ≡ self.old) }
     {
         if let LogRec::Boot { boot } = rec {
-            self.begun = true;
             self.greatest = Some(greater(self.greatest, *boot));
-            self.boot = *boot;
             return Ok(());
         }
         let Some(owner) = rec.owner() else {
             return Ok(());
         };
-        self.bound.reserve(1)?;
-        change_lives(alloc, &mut self.lives, &owner, rec)?;
-        rebind(&mut self.bound, &owner, rec);
-        self.begun = true;
-        Ok(())
+        change_lives(alloc, &mut self.lives, &owner, rec)
     }
 }
 
@@ -155,25 +87,6 @@ fn change_lives(
         return Ok(());
     }
     add_to_life(alloc, lives, owner, rec)
-}
-
-/// Whether the key is bound after the record.
-fn rebind(bound: &mut Vec<Bound>, owner: &Owner, rec: &LogRec)
-    requires { vec_len bound.old < vec_capacity bound.old }
-    ensures { bound.new.items ≡ bound_by bound.old.items owner.now rec.now }
-{
-    unbind(bound, owner);
-    if rec.is_bound() {
-        bind(bound, owner);
-    }
-}
-
-/// Puts the key after the others.
-fn bind(bound: &mut Vec<Bound>, owner: &Owner)
-    requires { vec_len bound.old < vec_capacity bound.old }
-    ensures { bound.new.items ≡ bound.old.items ++ owner.now ∷ [] }
-{
-    bound.push_reserved(Bound { owner: *owner });
 }
 
 /// The number is above the greatest, if there is one.
@@ -196,30 +109,6 @@ pub(crate) fn greater(greatest: Option<u64>, boot: u64) -> u64
     }
 }
 
-/// No key of the node is among these.
-fn is_free(bound: &[Bound], node: u16) -> bool
-    ensures { result ≡ is_free node bound.now }
-{
-    for other in bound {
-        if other.owner.node == node {
-            return false;
-        }
-    }
-    true
-}
-
-/// The key's life, if it has one.
-fn life_of<'a>(lives: &'a [Life], owner: &Owner) -> Option<&'a Life>
-    ensures { records_in (option_copied result) ≡ records_of lives.now owner.now }
-{
-    for life in lives {
-        if is_owner(&life.owner, owner) {
-            return Some(life);
-        }
-    }
-    None
-}
-
 /// Takes the lives of the key away.
 fn end_life(lives: &mut Vec<Life>, owner: &Owner)
     ensures { lives.new.items ≡ without lives.old.items owner.now }
@@ -229,23 +118,6 @@ fn end_life(lives: &mut Vec<Life>, owner: &Owner)
         let life = &lives[i];
         if is_owner(&life.owner, owner) {
             lives.remove(i);
-        } else {
-            i += 1;
-        }
-    }
-}
-
-/// Takes the key away.
-fn unbind(bound: &mut Vec<Bound>, owner: &Owner)
-    ensures items { bound.new.items ≡ others bound.old.items owner.now }
-    ensures room { vec_capacity bound.new ≡ vec_capacity bound.old }
-    ensures fewer { vec_len bound.new ≤ vec_len bound.old }
-{
-    let mut i = 0;
-    while i < bound.len() {
-        let other = &bound[i];
-        if is_owner(&other.owner, owner) {
-            bound.remove(i);
         } else {
             i += 1;
         }

@@ -1,10 +1,11 @@
 //! The brief of a list of records.
 ghost use Rattle.std.specs.Prelude.{◌≡◌, ◌++◌, List, [], ◌∷◌, Bool, true, IfOk};
 ghost use Rattle.tp_logrec.specs.declared.record.LogRec.{LogRec};
-ghost use Rattle.tp_logrec.specs.Order.{follows, all_follow, brief};
-ghost use Rattle.tp_logrec.specs.Standing.{standing_of, taken, follows_in, brief_of};
+ghost use Rattle.tp_logrec.specs.Order.{all_follow, brief};
+ghost use Rattle.tp_logrec.specs.Standing.{standing_of, taken, brief_of};
 
-use crate::{LogRec, Standing};
+use crate::LogRec;
+use crate::standing::Standing;
 use std::alloc::Global;
 use tp_names::NoMemory;
 

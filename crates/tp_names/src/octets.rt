@@ -1,5 +1,6 @@
 //! A list of octets.
-ghost use Rattle.std.specs.Prelude.{◌≡◌, ◌==◌, List, [], ◌∷◌, ◌++◌, length, take, OnErr, OnOk, IfOk};
+ghost use Rattle.std.specs.Prelude.{◌≡◌, ◌==◌, ◌+◌, ◌≤◌, List, [], ◌∷◌, ◌++◌, length, take, drop, OnErr, OnOk, IfOk};
+ghost use Rattle.tp_names.specs.Bytes.{short_bytes};
 
 use crate::NoMemory;
 use std::alloc::Global;
@@ -93,6 +94,14 @@ impl Octets {
         ensures { self.new ≡ take len self.old }
     {
         self.items.truncate(len);
+    }
+
+    /// Puts a number, the high byte first, in place of the two bytes at `at`.
+    pub fn put_short(&mut self, at: usize, n: u16)
+        requires { at + 2 ≤ length self.old }
+        ensures { self.new ≡ take at self.old ++ short_bytes n ++ drop (at + 2) self.old }
+    {
+        self.items[at..at + 2].copy_from_slice(&n.to_be_bytes());
     }
 
     /// The bytes, in order.

@@ -9,10 +9,11 @@ use Rattle.tp_model.specs.declared.out_line.RecordFate.{RecordFate}
 use Rattle.tp_model.specs.Parts.{Event, Entry}
 use Rattle.tp_model.specs.History.{answer, with_entry, crashed, crash_entry}
 use Rattle.tp_model.specs.Disk.{Remains, remains}
-use Rattle.tp_model.specs.World.{World, Node, Site, number_of, site_of, find_node, put_node, addr_at, find_site, put_site}
-use Rattle.tp_model.specs.Happenings.{still, after_lines, action_lines, after_stop, crash_turn, restarted, restarted_at, Happening, Task, task_of, entry_turn, action_turn, new_node, declared_at, declare_turn, stop_in_force, stop_in_entry, stop_in_task, task_here, crash_in_turn, happens, run, world_with_entry, WorldTurn}
+use Rattle.tp_model.specs.World.{World, Node, Site, number_of, site_of, find_node, put_node, find_site, put_site}
+use Rattle.tp_model.specs.Happenings.{still, after_lines, action_lines, after_stop, crash_turn, Happening, Task, task_of, entry_turn, action_turn, new_node, bare_node, declare_again_turn, stop_in_force, stop_in_entry, stop_in_task, task_here, crash_in_turn, happens, run, world_with_entry, WorldTurn}
 use Rattle.tp_outcomes.specs.Staying.{GoesOn, NodesStay}
 use Rattle.tp_histories.proofs.worlds.Nodes.{find_is, find_put}
+use Rattle.tp_histories.proofs.worlds.Turns.{turn_at, by_site, turn_under, by_superior, restarts, halts, anew, anew_at, turn_anew, by_start, by_declaration}
 use Rattle.tp_histories.proofs.worlds.Traversal.{Ready, ready_of, logged_nodes}
 
 -- ---- a node, and lists of nodes
@@ -82,21 +83,28 @@ onward_put ns u es here n x i = go (number_of u == n) refl
         some_node : (a b : Node) → Some a ≡ Some b → a ≡ b
         some_node a b k = cc (k)
 
--- ---- a stop
+-- ---- a site starts again
 
-restarted_goes : (x : Node) → GoesOn x (restarted x)
-restarted_goes x = go (answer x.origin (crashed x.history) (Event.Declare x.superior)).entry
+-- each of its histories goes on
+abbrev GoOn : (Node → List Entry) → Type 0
+GoOn h = (x : Node) → GoesOn x (anew h x)
+
+restarts_on : GoOn restarts
+restarts_on x = go (answer x.origin (crashed x.history) (Event.Declare x.superior)).entry
   where
     go : (o : Option Entry) → GoesOn x (record x { history = with_entry o (crashed x.history) })
     go None = goes_with x (crash_entry ∷ [])
     go (Some e) = goes_with x (e ∷ crash_entry ∷ [])
 
-onward_restart : (name : List ℕ) (ns : List Node) → Onward ns (restarted_at name ns)
-onward_restart name [] n x i = absurd (cc (i))
-onward_restart name (u ∷ ns) n x i = go (is_name (site_of u) name) refl (number_of u == n) refl (onward_restart name ns n x)
+halts_on : GoOn halts
+halts_on x = goes_with x (crash_entry ∷ [])
+
+onward_anew : (h : Node → List Entry) → GoOn h → (name : List ℕ) (ns : List Node) → Onward ns (anew_at h name ns)
+onward_anew h goes name [] n x i = absurd (cc (i))
+onward_anew h goes name (u ∷ ns) n x i = go (is_name (site_of u) name) refl (number_of u == n) refl (onward_anew h goes name ns n x)
   where
     list : Bool → List Node
-    list b = elim b as (λ _. List Node) [ true ↦ restarted u ∷ restarted_at name ns | false ↦ u ∷ restarted_at name ns ]
+    list b = elim b as (λ _. List Node) [ true ↦ anew h u ∷ anew_at h name ns | false ↦ u ∷ anew_at h name ns ]
 
     some_node : (a b : Node) → Some a ≡ Some b → a ≡ b
     some_node a b k = cc (k)
@@ -104,27 +112,26 @@ onward_restart name (u ∷ ns) n x i = go (is_name (site_of u) name) refl (numbe
     eq : (v : Node) (l : List Node) (b : Bool) → (number_of v == n) ≡ b → find_node (v ∷ l) n ≡ elim b as (λ _. Option Node) [ true ↦ Some v | false ↦ find_node l n ]
     eq v l b j = ap (λ (w : Bool). elim w as (λ _. Option Node) [ true ↦ Some v | false ↦ find_node l n ]) j
 
-    go : (b : Bool) → is_name (site_of u) name ≡ b → (c : Bool) → (number_of u == n) ≡ c → (find_node ns n ≡ Some x → (y : Node) × (find_node (restarted_at name ns) n ≡ Some y) × GoesOn x y)
-        → (y : Node) × (find_node (restarted_at name (u ∷ ns)) n ≡ Some y) × GoesOn x y
+    go : (b : Bool) → is_name (site_of u) name ≡ b → (c : Bool) → (number_of u == n) ≡ c → (find_node ns n ≡ Some x → (y : Node) × (find_node (anew_at h name ns) n ≡ Some y) × GoesOn x y)
+        → (y : Node) × (find_node (anew_at h name (u ∷ ns)) n ≡ Some y) × GoesOn x y
     go true j true k rest =
         let same : u ≡ x = some_node u x (sym (eq u ns true k) ∙ i) in
-        (restarted u, ap (λ (b : Bool). find_node (list b) n) j ∙ eq (restarted u) (restarted_at name ns) true k, subst (λ (z : Node). GoesOn z (restarted u)) same (restarted_goes u))
+        (anew h u, ap (λ (b : Bool). find_node (list b) n) j ∙ eq (anew h u) (anew_at h name ns) true k, subst (λ (z : Node). GoesOn z (anew h u)) same (goes u))
     go false j true k rest =
         let same : u ≡ x = some_node u x (sym (eq u ns true k) ∙ i) in
-        (u, ap (λ (b : Bool). find_node (list b) n) j ∙ eq u (restarted_at name ns) true k, subst (λ (z : Node). GoesOn z u) same (goes_still u))
+        (u, ap (λ (b : Bool). find_node (list b) n) j ∙ eq u (anew_at h name ns) true k, subst (λ (z : Node). GoesOn z u) same (goes_still u))
     go true j false k rest =
         let r = rest (sym (eq u ns false k) ∙ i) in
-        (r.0, ap (λ (b : Bool). find_node (list b) n) j ∙ eq (restarted u) (restarted_at name ns) false k ∙ r.1, r.2)
+        (r.0, ap (λ (b : Bool). find_node (list b) n) j ∙ eq (anew h u) (anew_at h name ns) false k ∙ r.1, r.2)
     go false j false k rest =
         let r = rest (sym (eq u ns false k) ∙ i) in
-        (r.0, ap (λ (b : Bool). find_node (list b) n) j ∙ eq u (restarted_at name ns) false k ∙ r.1, r.2)
+        (r.0, ap (λ (b : Bool). find_node (list b) n) j ∙ eq u (anew_at h name ns) false k ∙ r.1, r.2)
+
+onward_start : (h : Node → List Entry) → GoOn h → (w : World) (name : List ℕ) → Onward w.nodes (turn_anew h w name).world.nodes
+onward_start h goes w name = by_start (λ (v : World). Onward w.nodes v.nodes) h w name (λ i. onward_same w.nodes w.nodes refl) (λ x i. onward_anew h goes name w.nodes)
 
 onward_crash : (w : World) (name : List ℕ) → Onward w.nodes (crash_turn w name).world.nodes
-onward_crash w name = go (find_site w.sites name) refl
-  where
-    go : (o : Option Site) → find_site w.sites name ≡ o → Onward w.nodes (crash_turn w name).world.nodes
-    go None i = rw (i, crash_turn) (onward_same w.nodes w.nodes refl)
-    go (Some x) i = rw (i, crash_turn) (onward_restart name w.nodes)
+onward_crash w name = onward_start restarts restarts_on w name
 
 -- ---- an event
 
@@ -185,38 +192,26 @@ onward_crash_in w name call fill d = go (find_site w.sites name) refl
     go None i = rw (i, crash_in_turn) (onward_same w.nodes w.nodes refl)
     go (Some x) i = rw (i, crash_in_turn) (here x (task_of w d) refl (task_here x (task_of w d)) refl)
 
--- ---- a declaration
+-- ---- a node comes, and is declared
 
-onward_declared : (w : World) (n : ℕ) (name : List ℕ) (up : Option Addr) → Onward w.nodes (declared_at w n name up).world.nodes
-onward_declared w n name up = go (find_site w.sites name) refl
-  where
-    go : (o : Option Site) → find_site w.sites name ≡ o → Onward w.nodes (declared_at w n name up).world.nodes
-    go None i = rw (i, declared_at) (onward_more w.nodes (new_node name n 1 up ∷ []))
-    go (Some x) i = rw (i, declared_at) (onward_more w.nodes (new_node name n x.boot up ∷ []))
+onward_under : (w : World) (n : ℕ) (name : List ℕ) (under : Option ℕ) (made : Option Addr → ℕ → Node) → Onward w.nodes (turn_under w n under (λ up. turn_at w name (made up))).world.nodes
+onward_under w n name under made = by_superior (λ (v : World). Onward w.nodes v.nodes) w n under (λ up. turn_at w name (made up)) (onward_same w.nodes w.nodes refl) (λ none up above.
+    by_site (λ (v : World). Onward w.nodes v.nodes) w name (made up) (λ x i. onward_more w.nodes (made up x.boot ∷ [])) (λ i. onward_more w.nodes (made up 1 ∷ [])))
 
-onward_declare : (w : World) (n : ℕ) (name : List ℕ) (under : Option ℕ) → Onward w.nodes (declare_turn w n name under).world.nodes
-onward_declare w n name under = go (find_node w.nodes n) refl
-  where
-    above : (o : Option Addr) → Onward w.nodes (elim o as (λ _. WorldTurn) [ None ↦ still w | Some a ↦ declared_at w n name (Some a) ]).world.nodes
-    above None = onward_same w.nodes w.nodes refl
-    above (Some a) = onward_declared w n name (Some a)
-
-    below : (u : Option ℕ) → Onward w.nodes (elim u as (λ _. WorldTurn) [ None ↦ declared_at w n name None | Some p ↦ elim (addr_at w p) as (λ _. WorldTurn) [ None ↦ still w | Some a ↦ declared_at w n name (Some a) ] ]).world.nodes
-    below None = onward_declared w n name None
-    below (Some p) = above (addr_at w p)
-
-    go : (o : Option Node) → find_node w.nodes n ≡ o → Onward w.nodes (declare_turn w n name under).world.nodes
-    go None i = rw (i, declare_turn) (below under)
-    go (Some x) i = rw (i, declare_turn) (onward_same w.nodes w.nodes refl)
+onward_declares : (w : World) (n : ℕ) → Onward w.nodes (declare_again_turn w n).world.nodes
+onward_declares w n = by_declaration (λ (v : World). Onward w.nodes v.nodes) w n (onward_same w.nodes w.nodes refl) (λ x y here is. onward_put w.nodes x (y ∷ []) here)
 
 -- ---- every run
 
 onward_happens : (w : World) (e : Happening) → Onward w.nodes (happens w e).world.nodes
-onward_happens w (Happening.Declare n name under) = onward_declare w n name under
+onward_happens w (Happening.Declare n name under) = onward_under w n name under (λ (up : Option Addr) (b : ℕ). new_node name n b up)
+onward_happens w (Happening.Place n name under) = onward_under w n name under (λ (up : Option Addr) (b : ℕ). bare_node name n b up)
+onward_happens w (Happening.Declare_again n) = onward_declares w n
 onward_happens w (Happening.Does d) = onward_action w d
 onward_happens w (Happening.Mark i) = onward_same w.nodes w.nodes refl
 onward_happens w (Happening.Crash name) = onward_crash w name
 onward_happens w (Happening.Crash_in name call fill d) = onward_crash_in w name call fill d
+onward_happens w (Happening.Stop name) = onward_start halts halts_on w name
 onward_happens w (Happening.Drive n k) = onward_same w.nodes w.nodes refl
 onward_happens w (Happening.Drop k) = onward_same w.nodes w.nodes refl
 

@@ -9,23 +9,21 @@ use Rattle.tp_logrec.specs.declared.record.LogRec.{LogRec}
 use Rattle.tp_model.specs.declared.line.Action.{Action}
 use Rattle.tp_model.specs.declared.out_line.OutLine.{OutLine}
 use Rattle.tp_model.specs.declared.out_line.RecordFate.{RecordFate}
-use Rattle.tp_model.specs.Parts.{Origin, Event, Entry, Verdict, Answer}
-use Rattle.tp_model.specs.Refusal.{number_of as refusal_number}
-use Rattle.tp_model.specs.Events.{verdict}
-use Rattle.tp_model.proofs.Verdicts.{breaks_so}
+use Rattle.tp_model.specs.Parts.{Origin, Event, Entry}
 use Rattle.tp_model.specs.History.{digest, answer, entry_of, grown, with_entry, crashed, crash_entry}
 use Rattle.tp_model.specs.Legal.{IsLegal, IsGrown, IsUnder}
 use Rattle.tp_model.specs.Disk.{Remains, remains}
 use Rattle.tp_model.specs.Outcomes.{root_started as root_started}
-use Rattle.tp_model.specs.World.{World, Node, Site, number_of, site_of, find_node, put_node, addr_at, find_site, put_site}
+use Rattle.tp_model.specs.World.{World, Node, Site, number_of, site_of, find_node, put_node, find_site, put_site}
 use Rattle.tp_model.specs.Trees.{members_of, all_told, some_told, deciders, closing_line, closing_from}
-use Rattle.tp_model.specs.Happenings.{still, after_lines, action_lines, after_stop, crash_turn, restarted, restarted_at, trees_of, Happening, Task, task_of, logged, entry_turn, action_turn, new_node, declared_at, declare_turn, stop_in_force, stop_in_entry, stop_in_task, task_here, crash_in_turn, happens, run, world_with_entry, WorldTurn}
+use Rattle.tp_model.specs.Happenings.{still, after_lines, action_lines, after_stop, crash_turn, trees_of, Happening, Task, task_of, logged, entry_turn, action_turn, new_node, bare_node, declare_again_turn, stop_in_force, stop_in_entry, stop_in_task, task_here, crash_in_turn, happens, run, world_with_entry, WorldTurn}
 use Rattle.tp_model.specs.Promises.{IsIn, IsOf, is_root}
 use Rattle.tp_histories.specs.Members.{has_taken_begin, IsOnce}
 use Rattle.tp_outcomes.specs.Starting.{starts, times_in, BelongsSo, ListedOnce, is_line_of, lines_of, ClosesOnce}
 use Rattle.tp_steps.proofs.lemmas.Equality.{aaids_equal, and_right}
 use Rattle.tp_steps.proofs.words.Leaves.{name_same}
 use Rattle.tp_histories.proofs.worlds.Nodes.{find_is, find_put}
+use Rattle.tp_histories.proofs.worlds.Turns.{turn_at, by_site, turn_under, by_superior, restarts, halts, anew, anew_at, turn_anew, by_start, declare_entry, by_declaration}
 use Rattle.tp_histories.proofs.worlds.Traversal.{Ready, ready_of, logged_nodes}
 use Rattle.tp_steps.proofs.every.Answers.{Accepted, accepted}
 use Rattle.tp_histories.proofs.worlds.Nodes.{find_append}
@@ -105,19 +103,6 @@ crash_starts o h = ap (λ (v : Option Aaid). starts o h ++ trees_of v) none ∙ 
     empty_right [] = refl
     empty_right (u ∷ us) = ap (λ (l : List Aaid). u ∷ l) (empty_right us)
 
-declare_entry : (o : Origin) (h : List Entry) (s : Option Addr) (y : Entry) → (answer o h (Event.Declare s)).entry ≡ Some y → y ≡ entry_of o h (Event.Declare s)
-declare_entry o h s y is = go (verdict o.who (digest o h) (Event.Declare s)) refl is
-  where
-    go : (v : Verdict) → verdict o.who (digest o h) (Event.Declare s) ≡ v
-        → (elim v as (λ _. Answer) [
-          | Verdict.Accepted ↦ record { number = None; entry = Some (entry_of o h (Event.Declare s)) }
-          | Verdict.Refused x ↦ record { number = Some (refusal_number x); entry = None }
-          | Verdict.Breaks from r ↦ record { number = Some 24; entry = Some (entry_of o h (Event.Break from r)) }
-        ]).entry ≡ Some y → y ≡ entry_of o h (Event.Declare s)
-    go Verdict.Accepted i k = cc (k)
-    go (Verdict.Refused x) i k = absurd (cc (k))
-    go (Verdict.Breaks from r) i k = let other : Event.Declare s ≡ Event.Arrive from r = (breaks_so o.who (digest o h) (Event.Declare s) from r i).0 in absurd (cc (other))
-
 declare_starts : (o : Origin) (h : List Entry) (s : Option Addr) → starts o (grown o h (Event.Declare s)) ≡ starts o h
 declare_starts o h s = go (answer o h (Event.Declare s)).entry refl
   where
@@ -134,32 +119,38 @@ declare_starts o h s = go (answer o h (Event.Declare s)).entry refl
     go None i = refl
     go (Some y) i = ap (λ (z : Entry). starts o (z ∷ h)) (declare_entry o h s y i) ∙ of_declare
 
-restarted_starts : (t : Aaid) (x : Node) → count_in t (Some (restarted x)) ≡ count_in t (Some x)
-restarted_starts t x = ap (times_in t) (declare_starts x.origin (crashed x.history) x.superior ∙ crash_starts x.origin x.history)
+-- what a start of a site makes of its histories starts no tree
+abbrev StartNone : (Node → List Entry) → Type 0
+StartNone h = (x : Node) → starts x.origin (h x) ≡ starts x.origin x.history
 
-restart_counted : (name : List ℕ) (ns : List Node) (t : Aaid) (m : ℕ) → count_in t (find_node (restarted_at name ns) m) ≡ count_in t (find_node ns m)
-restart_counted name [] t m = refl
-restart_counted name (u ∷ ns) t m = go (is_name (site_of u) name) (number_of u == m) (restart_counted name ns t m)
+restarts_none : StartNone restarts
+restarts_none x = declare_starts x.origin (crashed x.history) x.superior ∙ crash_starts x.origin x.history
+
+halts_none : StartNone halts
+halts_none x = crash_starts x.origin x.history
+
+anew_counted : (h : Node → List Entry) → StartNone h → (name : List ℕ) (ns : List Node) (t : Aaid) (m : ℕ) → count_in t (find_node (anew_at h name ns) m) ≡ count_in t (find_node ns m)
+anew_counted h none name [] t m = refl
+anew_counted h none name (u ∷ ns) t m = go (is_name (site_of u) name) (number_of u == m) (anew_counted h none name ns t m)
   where
-    go : (a b : Bool) → count_in t (find_node (restarted_at name ns) m) ≡ count_in t (find_node ns m)
-        → count_in t (find_node (elim a as (λ _. List Node) [ true ↦ restarted u ∷ restarted_at name ns | false ↦ u ∷ restarted_at name ns ]) m) ≡ count_in t (find_node (u ∷ ns) m)
+    go : (a b : Bool) → count_in t (find_node (anew_at h name ns) m) ≡ count_in t (find_node ns m)
+        → count_in t (find_node (elim a as (λ _. List Node) [ true ↦ anew h u ∷ anew_at h name ns | false ↦ u ∷ anew_at h name ns ]) m) ≡ count_in t (find_node (u ∷ ns) m)
     go true b rest = on (number_of u == m)
       where
-        on : (c : Bool) → count_in t (elim c as (λ _. Option Node) [ true ↦ Some (restarted u) | false ↦ find_node (restarted_at name ns) m ]) ≡ count_in t (elim c as (λ _. Option Node) [ true ↦ Some u | false ↦ find_node ns m ])
-        on true = restarted_starts t u
+        on : (c : Bool) → count_in t (elim c as (λ _. Option Node) [ true ↦ Some (anew h u) | false ↦ find_node (anew_at h name ns) m ]) ≡ count_in t (elim c as (λ _. Option Node) [ true ↦ Some u | false ↦ find_node ns m ])
+        on true = ap (times_in t) (none u)
         on false = rest
     go false b rest = on (number_of u == m)
       where
-        on : (c : Bool) → count_in t (elim c as (λ _. Option Node) [ true ↦ Some u | false ↦ find_node (restarted_at name ns) m ]) ≡ count_in t (elim c as (λ _. Option Node) [ true ↦ Some u | false ↦ find_node ns m ])
+        on : (c : Bool) → count_in t (elim c as (λ _. Option Node) [ true ↦ Some u | false ↦ find_node (anew_at h name ns) m ]) ≡ count_in t (elim c as (λ _. Option Node) [ true ↦ Some u | false ↦ find_node ns m ])
         on true = refl
         on false = rest
 
+counted_start : (h : Node → List Entry) → StartNone h → (w : World) (name : List ℕ) → IsCounted w → IsCounted (turn_anew h w name).world
+counted_start h none w name c = by_start IsCounted h w name (λ i. c) (λ x i t. c t ∙ sym (anew_counted h none name w.nodes t t.mark.node))
+
 counted_crash : (w : World) (name : List ℕ) → IsCounted w → IsCounted (crash_turn w name).world
-counted_crash w name c = go (find_site w.sites name) refl
-  where
-    go : (o : Option Site) → find_site w.sites name ≡ o → IsCounted (crash_turn w name).world
-    go None i = rw (i, crash_turn) c
-    go (Some x) i = rw (i, crash_turn) (λ t. c t ∙ sym (restart_counted name w.nodes t t.mark.node))
+counted_crash w name c = counted_start restarts restarts_none w name c
 
 -- ---- an event
 
@@ -243,56 +234,61 @@ counted_crash_in es name call fill d c = go (find_site w.sites name) refl
     go None i = rw (i, crash_in_turn) c
     go (Some x) i = rw (i, crash_in_turn) (here x (task_of w d) refl (task_here x (task_of w d)) refl)
 
--- ---- a declaration
+-- ---- a node comes, and is declared
 
-counted_new : (ns : List Node) (ts : List Aaid) (name : List ℕ) (n boot : ℕ) (up : Option Addr) → find_node ns n ≡ None → Counted ns ts → Counted (ns ++ new_node name n boot up ∷ []) ts
-counted_new ns ts name n boot up none c t = go (n == t.mark.node) refl
+counted_new : (ns : List Node) (ts : List Aaid) (x : Node) → find_node ns (number_of x) ≡ None → starts x.origin x.history ≡ [] → Counted ns ts → Counted (ns ++ x ∷ []) ts
+counted_new ns ts x none bare c t = go (number_of x == t.mark.node) refl
   where
-    x : Node
-    x = new_node name n boot up
-
-    at : find_node (ns ++ x ∷ []) t.mark.node ≡ cond (n == t.mark.node) (Some x) (find_node ns t.mark.node)
+    at : find_node (ns ++ x ∷ []) t.mark.node ≡ cond (number_of x == t.mark.node) (Some x) (find_node ns t.mark.node)
     at = find_append ns x t.mark.node none
 
-    bare : count_in t (Some x) ≡ 0
-    bare = ap (times_in t) (declare_starts x.origin [] up)
-
-    go : (b : Bool) → (n == t.mark.node) ≡ b → times_in t ts ≡ count_in t (find_node (ns ++ x ∷ []) t.mark.node)
+    go : (b : Bool) → (number_of x == t.mark.node) ≡ b → times_in t ts ≡ count_in t (find_node (ns ++ x ∷ []) t.mark.node)
     go false i = c t ∙ sym (ap (count_in t) (at ∙ ap (λ (b : Bool). cond b (Some x) (find_node ns t.mark.node)) i))
     go true i =
-        let num : n ≡ t.mark.node = grind (arith, nat_tests, i) in
-        c t ∙ ap (count_in t) (ap (find_node ns) (sym num) ∙ none) ∙ sym bare ∙ sym (ap (count_in t) (at ∙ ap (λ (b : Bool). cond b (Some x) (find_node ns t.mark.node)) i))
+        let num : number_of x ≡ t.mark.node = grind (arith, nat_tests, i) in
+        c t ∙ ap (count_in t) (ap (find_node ns) (sym num) ∙ none) ∙ sym (ap (times_in t) bare) ∙ sym (ap (count_in t) (at ∙ ap (λ (b : Bool). cond b (Some x) (find_node ns t.mark.node)) i))
 
-counted_declared : (w : World) (n : ℕ) (name : List ℕ) (up : Option Addr) → find_node w.nodes n ≡ None → IsCounted w → IsCounted (declared_at w n name up).world
-counted_declared w n name up none c = go (find_site w.sites name) refl
+new_starts : (name : List ℕ) (n boot : ℕ) (up : Option Addr) → starts (new_node name n boot up).origin (new_node name n boot up).history ≡ []
+new_starts name n boot up = declare_starts (new_node name n boot up).origin [] up
+
+counted_under : (w : World) (n : ℕ) (name : List ℕ) (under : Option ℕ) (made : Option Addr → ℕ → Node) → ((up : Option Addr) (b : ℕ) → (number_of (made up b) ≡ n) × (starts (made up b).origin (made up b).history ≡ [])) → IsCounted w
+    → IsCounted (turn_under w n under (λ up. turn_at w name (made up))).world
+counted_under w n name under made are c = by_superior IsCounted w n under (λ up. turn_at w name (made up)) c (λ none up above.
+    let free : (b : ℕ) → find_node w.nodes (number_of (made up b)) ≡ None = λ b. ap (find_node w.nodes) (are up b).0 ∙ none in
+    by_site IsCounted w name (made up) (λ x i. counted_new w.nodes w.trees (made up x.boot) (free x.boot) (are up x.boot).1 c) (λ i. counted_new w.nodes w.trees (made up 1) (free 1) (are up 1).1 c))
+
+counted_put : (ns : List Node) (ts : List Aaid) (x : Node) (y : Entry) → find_node ns (number_of x) ≡ Some x → starts x.origin (y ∷ x.history) ≡ starts x.origin x.history → Counted ns ts
+    → Counted (put_node ns (record x { history = y ∷ x.history })) ts
+counted_put ns ts x y here same c t = go (number_of x == t.mark.node) refl
   where
-    go : (o : Option Site) → find_site w.sites name ≡ o → IsCounted (declared_at w n name up).world
-    go None i = rw (i, declared_at) (counted_new w.nodes w.trees name n 1 up none c)
-    go (Some x) i = rw (i, declared_at) (counted_new w.nodes w.trees name n x.boot up none c)
+    v : Node
+    v = record x { history = y ∷ x.history }
 
-counted_declare : (w : World) (n : ℕ) (name : List ℕ) (under : Option ℕ) → IsCounted w → IsCounted (declare_turn w n name under).world
-counted_declare w n name under c = go (find_node w.nodes n) refl
-  where
-    above : find_node w.nodes n ≡ None → (o : Option Addr) → IsCounted (elim o as (λ _. WorldTurn) [ None ↦ still w | Some a ↦ declared_at w n name (Some a) ]).world
-    above none None = c
-    above none (Some a) = counted_declared w n name (Some a) none c
+    at : find_node (put_node ns v) t.mark.node ≡ cond (number_of x == t.mark.node) (Some v) (find_node ns t.mark.node)
+    at = find_put ns v x t.mark.node here
 
-    below : find_node w.nodes n ≡ None → (u : Option ℕ) → IsCounted (elim u as (λ _. WorldTurn) [ None ↦ declared_at w n name None | Some p ↦ elim (addr_at w p) as (λ _. WorldTurn) [ None ↦ still w | Some a ↦ declared_at w n name (Some a) ] ]).world
-    below none None = counted_declared w n name None none c
-    below none (Some p) = above none (addr_at w p)
+    go : (b : Bool) → (number_of x == t.mark.node) ≡ b → times_in t ts ≡ count_in t (find_node (put_node ns v) t.mark.node)
+    go false i = c t ∙ sym (ap (count_in t) (at ∙ ap (λ (b : Bool). cond b (Some v) (find_node ns t.mark.node)) i))
+    go true i =
+        let num : number_of x ≡ t.mark.node = grind (arith, nat_tests, i) in
+        let old : find_node ns t.mark.node ≡ Some x = ap (find_node ns) (sym num) ∙ here in
+        c t ∙ ap (count_in t) old ∙ sym (ap (times_in t) same) ∙ sym (ap (count_in t) (at ∙ ap (λ (b : Bool). cond b (Some v) (find_node ns t.mark.node)) i))
 
-    go : (o : Option Node) → find_node w.nodes n ≡ o → IsCounted (declare_turn w n name under).world
-    go None i = rw (i, declare_turn) (below i under)
-    go (Some x) i = rw (i, declare_turn) c
+counted_declares : (w : World) (n : ℕ) → IsCounted w → IsCounted (declare_again_turn w n).world
+counted_declares w n c = by_declaration IsCounted w n c (λ x y here is.
+    counted_put w.nodes w.trees x y here (ap (λ (o : Option Entry). starts x.origin (with_entry o x.history)) (sym is) ∙ declare_starts x.origin x.history x.superior) c)
 
 -- ---- every run
 
 counted_happens : (es : List Happening) (e : Happening) → IsCounted (run es) → IsCounted (happens (run es) e).world
-counted_happens es (Happening.Declare n name under) c = counted_declare (run es) n name under c
+counted_happens es (Happening.Declare n name under) c = counted_under (run es) n name under (λ (up : Option Addr) (b : ℕ). new_node name n b up) (λ up b. (refl, new_starts name n b up)) c
+counted_happens es (Happening.Place n name under) c = counted_under (run es) n name under (λ (up : Option Addr) (b : ℕ). bare_node name n b up) (λ up b. (refl, refl)) c
+counted_happens es (Happening.Declare_again n) c = counted_declares (run es) n c
 counted_happens es (Happening.Does d) c = counted_action es d c
 counted_happens es (Happening.Mark i) c = c
 counted_happens es (Happening.Crash name) c = counted_crash (run es) name c
 counted_happens es (Happening.Crash_in name call fill d) c = counted_crash_in es name call fill d c
+counted_happens es (Happening.Stop name) c = counted_start halts halts_none (run es) name c
 counted_happens es (Happening.Drive n k) c = c
 counted_happens es (Happening.Drop k) c = c
 

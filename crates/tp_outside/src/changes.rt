@@ -130,7 +130,7 @@ fn put(file: &mut [u8], at: usize, piece: &[u8])
     file[at..at + piece.len()].copy_from_slice(piece);
 }
 
-fn overwrite(bytes: &mut Vec<u8>, at: usize, piece: &[u8]) -> Result<(), AllocError>
+pub(crate) fn overwrite(bytes: &mut Vec<u8>, at: usize, piece: &[u8]) -> Result<(), AllocError>
     ensures ok { OnOk result (IsWritten at piece.now bytes.old.items bytes.new.items) }
     ensures err { OnErr result (bytes.new.items ≡ bytes.old.items) }
 {
@@ -237,7 +237,7 @@ fn end_of(at: usize, len: usize) -> Result<usize, AllocError>
     Ok(end)
 }
 
-fn resize(bytes: &mut Vec<u8>, len: usize) -> Result<(), AllocError>
+pub(crate) fn resize(bytes: &mut Vec<u8>, len: usize) -> Result<(), AllocError>
     ensures ok { OnOk result (IsResized len bytes.old.items bytes.new.items) }
     ensures err { OnErr result (bytes.new.items ≡ bytes.old.items) }
 {

@@ -1,82 +1,73 @@
 //! The trusted edge: a file of the system as a disk. It tells no story, so no clause here says what the file holds.
-ghost use Rattle.std.specs.Prelude.{◌≡◌, ◌≤◌, length, drop, IfOk};
-
+use crate::cause::Cause;
+use crate::file_bytes::{FileBytes, Purpose};
 use crate::{Disk, Failed};
-use std::fs::{File, OpenOptions};
-use std::io;
-use std::os::unix::fs::FileExt;
+use std::alloc::{Alloc, Global};
+use std::fs::File;
 use std::rt::Files;
 
-/// A file that is opened at the first call, and made empty where there is none.
+/// A file that is opened at the first call. As long as the disk is there no other process works on it, where each of them
+/// takes the lock of the file.
 #[derive(Drop)]
-pub struct FileDisk<'a, R: Files<File = File>> {
-    files: &'a R,
-    path: &'a str,
-    file: Option<File>,
+pub struct FileDisk<'a, R: Files<File = File> + Alloc<A = Global>> {
+    bytes: FileBytes<'a, R>,
     faults: u64,
+    cause: Option<Cause>,
 }
 
-impl<'a, R: Files<File = File>> FileDisk<'a, R> {
-    pub fn new(files: &'a R, path: &'a str) -> FileDisk<'a, R> {
+impl<'a, R: Files<File = File> + Alloc<A = Global>> FileDisk<'a, R> {
+    fn opened_for(files: &'a R, path: &'a str, purpose: Purpose) -> FileDisk<'a, R> {
         FileDisk {
-            files,
-            path,
-            file: None,
+            bytes: FileBytes::new(files, path, purpose),
             faults: 0,
+            cause: None,
         }
+    }
+
+    /// To be changed. It is made where there is none. Where another process has its lock, each call fails.
+    pub fn new(files: &'a R, path: &'a str) -> FileDisk<'a, R> {
+        FileDisk::opened_for(files, path, Purpose::Make)
+    }
+
+    /// To be changed. Where there is none it has no bytes, and it is made at the first change after a sync. Where another
+    /// process has its lock, each call fails.
+    pub fn to_change(files: &'a R, path: &'a str) -> FileDisk<'a, R> {
+        FileDisk::opened_for(files, path, Purpose::Change)
+    }
+
+    /// The same, but where another process has its lock the bytes are read once, and changes alone fail.
+    pub fn to_change_perhaps(files: &'a R, path: &'a str) -> FileDisk<'a, R> {
+        FileDisk::opened_for(files, path, Purpose::ChangePerhaps)
+    }
+
+    /// To be read. Where there is none it has no bytes, and none is made. Where it may not be written, or another process has
+    /// its lock, the bytes are read once, and changes are made in memory alone.
+    pub fn to_read(files: &'a R, path: &'a str) -> FileDisk<'a, R> {
+        FileDisk::opened_for(files, path, Purpose::Read)
     }
 }
 
-impl<R: Files<File = File>> FileDisk<'_, R> {
-    ghost use Rattle.std.specs.Prelude.{IsErr};
+impl<R: Files<File = File> + Alloc<A = Global>> FileDisk<'_, R> {
+    ghost use Rattle.std.specs.Prelude.{◌≤◌};
     ghost use Rattle.tp_outside.specs.Faults.{HasRisen};
 
-    // A call that failed.
-    fn fail(&mut self) -> Failed
+    /// Why the last call failed that did.
+    pub fn cause(&self) -> Option<Cause> {
+        self.cause
+    }
+
+    // A call failed.
+    fn fail(&mut self, cause: Cause) -> Failed
         ensures kept { self.old.faults ≤ self.new.faults }
         ensures risen { HasRisen (self.old.faults) (self.new.faults) }
     {
         self.faults = self.faults.saturating_add(1);
+        self.cause = Some(cause);
         Failed
     }
-
-    fn open(&mut self) -> Result<(), Failed>
-        ensures kept { self.old.faults ≤ self.new.faults }
-        ensures risen { IsErr result → HasRisen (self.old.faults) (self.new.faults) }
-    {
-        if self.file.is_some() {
-            return Ok(());
-        }
-        match how_to_open().open(self.files, self.path) {
-            Ok(file) => {
-                self.file = Some(file);
-                Ok(())
-            }
-            Err(_) => Err(self.fail()),
-        }
-    }
 }
 
-// For reading and writing, made empty where there is none.
-pub(crate) fn how_to_open() -> OpenOptions {
-    let mut how = OpenOptions::new();
-    how.read(true);
-    how.write(true);
-    how.create(true);
-    how
-}
-
-pub(crate) fn read_part(file: &File, at: u64, buf: &mut [u8]) -> io::Result<usize>
-    ensures fits { IfOk result (λ n. n ≤ length buf.old) }
-    ensures rest { IfOk result (λ n. drop n buf.new ≡ drop n buf.old) }
-{
-    let left = file.metadata()?.len().saturating_sub(at);
-    let n = left.min(buf.len() as u64) as usize;
-    file.read_exact_at(&mut buf[..n], at)?;
-    Ok(n)
-}
-
-impl<R: Files<File = File>> Disk for FileDisk<'_, R> {
+impl<R: Files<File = File> + Alloc<A = Global>> Disk for FileDisk<'_, R> {
     ghost use Rattle.std.specs.Prelude.{None};
 
     ghost told = { λ _. None };
@@ -86,57 +77,37 @@ impl<R: Files<File = File>> Disk for FileDisk<'_, R> {
     ghost fault_count = { λ f. f.faults };
 
     fn len(&mut self) -> Result<u64, Failed> {
-        self.open()?;
-        let Some(file) = &self.file else {
-            return Err(self.fail());
-        };
-        match file.metadata() {
-            Ok(found) => Ok(found.len()),
-            Err(_) => Err(self.fail()),
+        match self.bytes.len() {
+            Ok(len) => Ok(len),
+            Err(cause) => Err(self.fail(cause)),
         }
     }
 
     fn read(&mut self, at: u64, buf: &mut [u8]) -> Result<usize, Failed> {
-        self.open()?;
-        let Some(file) = &self.file else {
-            return Err(self.fail());
-        };
-        match read_part(file, at, buf) {
+        match self.bytes.read(at, buf) {
             Ok(n) => Ok(n),
-            Err(_) => Err(self.fail()),
+            Err(cause) => Err(self.fail(cause)),
         }
     }
 
     fn write_at(&mut self, at: u64, piece: &[u8]) -> Result<(), Failed> {
-        self.open()?;
-        let Some(file) = &self.file else {
-            return Err(self.fail());
-        };
-        match file.write_all_at(piece, at) {
+        match self.bytes.write(at, piece) {
             Ok(()) => Ok(()),
-            Err(_) => Err(self.fail()),
+            Err(cause) => Err(self.fail(cause)),
         }
     }
 
     fn cut(&mut self, len: u64) -> Result<(), Failed> {
-        self.open()?;
-        let Some(file) = &self.file else {
-            return Err(self.fail());
-        };
-        match file.set_len(len) {
+        match self.bytes.cut(len) {
             Ok(()) => Ok(()),
-            Err(_) => Err(self.fail()),
+            Err(cause) => Err(self.fail(cause)),
         }
     }
 
     fn sync(&mut self) -> Result<(), Failed> {
-        self.open()?;
-        let Some(file) = &self.file else {
-            return Err(self.fail());
-        };
-        match file.sync_all() {
+        match self.bytes.sync() {
             Ok(()) => Ok(()),
-            Err(_) => Err(self.fail()),
+            Err(cause) => Err(self.fail(cause)),
         }
     }
 

@@ -45,7 +45,7 @@ impl MemSource {
 }
 
 // Copies as much as both have, from the front of the one to the front of the other.
-fn copy_front(from: &[u8], to: &mut [u8]) -> usize
+pub(crate) fn copy_front(from: &[u8], to: &mut [u8]) -> usize
     ensures count { result ≡ min (length from.now) (length to.old) }
     ensures bytes { to.new ≡ take result from.now ++ drop result to.old }
 {

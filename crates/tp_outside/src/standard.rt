@@ -1,6 +1,6 @@
 //! The trusted edge: standard input as a source and standard output as a sink. They tell no bytes, so no clause here says
 //! what the streams hold.
-use crate::{Failed, Sink, Source};
+use crate::{Cause, Failed, Sink, Source};
 use std::io::{self, Input, Print, Printer, Read, Write};
 
 /// Standard input.
@@ -8,6 +8,7 @@ use std::io::{self, Input, Print, Printer, Read, Write};
 pub struct StdSource<R: Input> {
     reader: R::Reader,
     faults: u64,
+    cause: Option<Cause>,
 }
 
 impl<R: Input> StdSource<R> {
@@ -15,7 +16,13 @@ impl<R: Input> StdSource<R> {
         StdSource {
             reader: rt.reader(),
             faults: 0,
+            cause: None,
         }
+    }
+
+    /// Why the last call failed that did.
+    pub fn cause(&self) -> Option<Cause> {
+        self.cause
     }
 }
 
@@ -29,8 +36,9 @@ impl<R: Input> Source for StdSource<R> {
     fn read(&mut self, buf: &mut [u8]) -> Result<usize, Failed> {
         match self.reader.read(buf) {
             Ok(n) => Ok(n),
-            Err(_) => {
+            Err(error) => {
                 self.faults = self.faults.saturating_add(1);
+                self.cause = Some(Cause::new("read", error));
                 Err(Failed)
             }
         }
@@ -46,6 +54,7 @@ impl<R: Input> Source for StdSource<R> {
 pub struct StdSink<'a, P: Print> {
     printer: Printer<'a, P>,
     faults: u64,
+    cause: Option<Cause>,
 }
 
 impl<'a, P: Print> StdSink<'a, P> {
@@ -53,7 +62,27 @@ impl<'a, P: Print> StdSink<'a, P> {
         StdSink {
             printer: io::writer(rt),
             faults: 0,
+            cause: None,
         }
+    }
+
+    /// Why the last call failed that did.
+    pub fn cause(&self) -> Option<Cause> {
+        self.cause
+    }
+}
+
+impl<P: Print> StdSink<'_, P> {
+    ghost use Rattle.std.specs.Prelude.{◌≤◌};
+    ghost use Rattle.tp_outside.specs.Faults.{HasRisen};
+
+    fn fail(&mut self, error: io::Error) -> Failed
+        ensures kept { self.old.faults ≤ self.new.faults }
+        ensures risen { HasRisen (self.old.faults) (self.new.faults) }
+    {
+        self.faults = self.faults.saturating_add(1);
+        self.cause = Some(Cause::new("write", error));
+        Failed
     }
 }
 
@@ -67,10 +96,8 @@ impl<P: Print> Sink for StdSink<'_, P> {
     fn write(&mut self, piece: &[u8]) -> Result<usize, Failed> {
         match self.printer.write(piece) {
             Ok(n) if n > 0 || piece.is_empty() => Ok(n),
-            _ => {
-                self.faults = self.faults.saturating_add(1);
-                Err(Failed)
-            }
+            Ok(_) => Err(self.fail(io::Error::from(io::ErrorKind::WriteZero))),
+            Err(error) => Err(self.fail(error)),
         }
     }
 

@@ -1,20 +1,14 @@
 -- Octets that are read back are few enough for a count of two bytes.
 use Rattle.std.proofs.Common.{◌≡◌, ℕ, ◌<◌, ◌^◌, Option, Some, List, [], ◌∷◌, ◌*◌, ◌+◌, ◌==◌, Bool, true, false, sym, subst, arith}
-use Rattle.tp_names.specs.Reading.{Reader, make, ◌and◌, that, read_byte, read_short, read_long, read_maybe, read_mark, read_addr, read_aaid, read_branch, read_report, read_outcome, read_octets, read_kind, read_by_code}
+use Rattle.tp_names.specs.Reading.{Reader, make, ◌and◌, read_long, read_maybe, read_mark, read_aaid, read_branch, read_report, read_octets, read_kind, read_by_code}
 use Rattle.tp_names.specs.Grammar.{HasText}
 use Rattle.tp_names.proofs.Sequences.{some_pair, Both, both_parts}
 use Rattle.tp_names.proofs.Counts.{OctetsParts, octets_parts}
-use Rattle.tp_names.proofs.Passing.{that_parts}
-use Rattle.tp_records.specs.declared.request.Request.{Request}
-use Rattle.tp_records.specs.declared.indication.Indication.{Indication}
 use Rattle.tp_records.specs.declared.dialogue.DialogueRecord.{DialogueRecord}
 use Rattle.tp_records.specs.declared.peer.PeerRecord.{PeerRecord}
-use Rattle.tp_records.specs.declared.body.Event.{Event}
-use Rattle.tp_records.specs.declared.body.Output.{Output}
-use Rattle.tp_records.specs.declared.body.Body.{Body}
-use Rattle.tp_records.specs.BodyReading.{is_refusal, read_units, read_holder, read_state, request_kinds, read_request, indication_kinds, read_indication, dialogue_kinds, read_dialogue, peer_kinds, read_peer, body_kinds, read_body, is_peer_text, peer_grammar, body_grammar}
-use Rattle.tp_records.specs.Bodies.{peer_bytes, body_bytes}
-use Rattle.tp_records.specs.Octets.{IsShort, IsShortRequest, IsShortIndication, IsShortDialogue, IsShortPeer, IsShortBody}
+use Rattle.tp_records.specs.BodyReading.{read_units, read_holder, read_state, dialogue_kinds, read_dialogue, peer_kinds, read_peer, peer_grammar}
+use Rattle.tp_records.specs.Bodies.{peer_bytes}
+use Rattle.tp_records.specs.Octets.{IsShort, IsShortDialogue, IsShortPeer}
 
 -- what is read always has a property
 pub record Makes {A : Type 0} (P : A → Type 0) (r : Reader A) : Type 0 where
@@ -35,9 +29,6 @@ makes_both {A} {B} P Q f r x y = record {
 
 octets_short : (most : ℕ) → most < 2 ^ 16 → Makes IsShort (read_octets most)
 octets_short most small = record { each = λ bytes v rest h. let x : OctetsParts most bytes v rest = octets_parts most bytes v rest h in omega (arith, x.fits, small) }
-
-sent_short : Makes IsShort (that is_peer_text (read_octets 2000))
-sent_short = record { each = λ bytes v rest h. (octets_short 2000 (omega arith)).each bytes v rest (that_parts is_peer_text (read_octets 2000) bytes v rest h).read }
 
 makes_1 : {A V : Type 0} (P : V → Type 0) (Qa : A → Type 0) (f : A → V) (ra : Reader A) → ((a : A) → Qa a → P (f a)) → Makes Qa ra → Makes P (make f and ra)
 makes_1 {A} P Qa f ra p xa = makes_both P Qa (make f) ra (makes_made (λ g. (a : A) → Qa a → P (g a)) f p) xa
@@ -74,140 +65,6 @@ makes_code {A} P ks rows = record { each = each }
     each : (bytes : List ℕ) (v : A) (rest : List ℕ) → read_by_code ks bytes ≡ Some (v, rest) → P v
     each [] v rest h = absurd cc
     each (code ∷ bytes) v rest h = kind_makes P ks (0 * 256 + code) bytes v rest rows h
-
-request_makes : Makes IsShortRequest read_request
-request_makes =
-    makes_code IsShortRequest request_kinds (
-      makes_2 IsShortRequest (λ _. Unit {0}) (λ _. Unit {0}) (λ a u. Request.BeginDialogue a u) read_addr read_byte (λ a b qa qb. tt) (makes_any read_addr) (makes_any read_byte),
-      (
-        makes_1 IsShortRequest (λ _. Unit {0}) (λ u. Request.Accept u) read_byte (λ a qa. tt) (makes_any read_byte),
-        (
-          makes_made IsShortRequest Request.Reject tt,
-          (
-            makes_1 IsShortRequest (λ _. Unit {0}) (λ p. Request.EndDialogue p) read_short (λ a qa. tt) (makes_any read_short),
-            (
-              makes_2 IsShortRequest (λ _. Unit {0}) IsShort (λ p xs. Request.UserData p xs) read_short (read_octets 2000) (λ a b qa qb. qb) (makes_any read_short) (octets_short 2000 (omega arith)),
-              (
-                makes_1 IsShortRequest (λ _. Unit {0}) (λ p. Request.UError p) read_short (λ a qa. tt) (makes_any read_short),
-                (
-                  makes_1 IsShortRequest (λ _. Unit {0}) (λ p. Request.UAbort p) read_short (λ a qa. tt) (makes_any read_short),
-                  (
-                    makes_1 IsShortRequest (λ _. Unit {0}) (λ p. Request.Grant p) read_short (λ a qa. tt) (makes_any read_short),
-                    (
-                      makes_1 IsShortRequest (λ _. Unit {0}) (λ p. Request.AskControl p) read_short (λ a qa. tt) (makes_any read_short),
-                      (
-                        makes_1 IsShortRequest (λ _. Unit {0}) (λ p. Request.Handshake p) read_short (λ a qa. tt) (makes_any read_short),
-                        (
-                          makes_1 IsShortRequest (λ _. Unit {0}) (λ p. Request.Respond p) read_short (λ a qa. tt) (makes_any read_short),
-                          (
-                            makes_1 IsShortRequest (λ _. Unit {0}) (λ p. Request.HandshakeGrant p) read_short (λ a qa. tt) (makes_any read_short),
-                            (
-                              makes_1 IsShortRequest (λ _. Unit {0}) (λ p. Request.BeginTransaction p) read_short (λ a qa. tt) (makes_any read_short),
-                              (
-                                makes_1 IsShortRequest (λ _. Unit {0}) (λ p. Request.DeferEnd p) read_short (λ a qa. tt) (makes_any read_short),
-                                (
-                                  makes_1 IsShortRequest (λ _. Unit {0}) (λ p. Request.DeferGrant p) read_short (λ a qa. tt) (makes_any read_short),
-                                  (
-                                    makes_1 IsShortRequest (λ _. Unit {0}) (λ p. Request.Prepare p) read_short (λ a qa. tt) (makes_any read_short),
-                                    (
-                                      makes_made IsShortRequest Request.Commit tt,
-                                      (
-                                        makes_made IsShortRequest Request.Done tt,
-                                        (
-                                          makes_made IsShortRequest Request.Rollback tt,
-                                          (makes_made IsShortRequest Request.Unchanged tt, tt),
-                                        ),
-                                      ),
-                                    ),
-                                  ),
-                                ),
-                              ),
-                            ),
-                          ),
-                        ),
-                      ),
-                    ),
-                  ),
-                ),
-              ),
-            ),
-          ),
-        ),
-      ),
-    )
-
-indication_makes : Makes IsShortIndication read_indication
-indication_makes =
-    makes_code IsShortIndication indication_kinds (
-      makes_2 IsShortIndication (λ _. Unit {0}) (λ _. Unit {0}) (λ p u. Indication.BeginDialogue p u) read_short read_units (λ a b qa qb. tt) (makes_any read_short) (makes_any read_units),
-      (
-        makes_2 IsShortIndication (λ _. Unit {0}) (λ _. Unit {0}) (λ p u. Indication.BegunDialogue p u) read_short read_units (λ a b qa qb. tt) (makes_any read_short) (makes_any read_units),
-        (
-          makes_1 IsShortIndication (λ _. Unit {0}) (λ p. Indication.Rejected p) read_short (λ a qa. tt) (makes_any read_short),
-          (
-            makes_1 IsShortIndication (λ _. Unit {0}) (λ p. Indication.EndDialogue p) read_short (λ a qa. tt) (makes_any read_short),
-            (
-              makes_2 IsShortIndication (λ _. Unit {0}) IsShort (λ p xs. Indication.UserData p xs) read_short (read_octets 1024) (λ a b qa qb. qb) (makes_any read_short) (octets_short 1024 (omega arith)),
-              (
-                makes_1 IsShortIndication (λ _. Unit {0}) (λ p. Indication.UError p) read_short (λ a qa. tt) (makes_any read_short),
-                (
-                  makes_1 IsShortIndication (λ _. Unit {0}) (λ p. Indication.UAbort p) read_short (λ a qa. tt) (makes_any read_short),
-                  (
-                    makes_1 IsShortIndication (λ _. Unit {0}) (λ p. Indication.PAbort p) read_short (λ a qa. tt) (makes_any read_short),
-                    (
-                      makes_1 IsShortIndication (λ _. Unit {0}) (λ p. Indication.Grant p) read_short (λ a qa. tt) (makes_any read_short),
-                      (
-                        makes_1 IsShortIndication (λ _. Unit {0}) (λ p. Indication.AskControl p) read_short (λ a qa. tt) (makes_any read_short),
-                        (
-                          makes_1 IsShortIndication (λ _. Unit {0}) (λ p. Indication.Handshake p) read_short (λ a qa. tt) (makes_any read_short),
-                          (
-                            makes_1 IsShortIndication (λ _. Unit {0}) (λ p. Indication.HandshakeConfirm p) read_short (λ a qa. tt) (makes_any read_short),
-                            (
-                              makes_1 IsShortIndication (λ _. Unit {0}) (λ p. Indication.HandshakeGrant p) read_short (λ a qa. tt) (makes_any read_short),
-                              (
-                                makes_2 IsShortIndication (λ _. Unit {0}) (λ _. Unit {0}) (λ p a. Indication.BeginTransaction p a) read_short read_aaid (λ a b qa qb. tt) (makes_any read_short) (makes_any read_aaid),
-                                (
-                                  makes_1 IsShortIndication (λ _. Unit {0}) (λ p. Indication.DeferEnd p) read_short (λ a qa. tt) (makes_any read_short),
-                                  (
-                                    makes_1 IsShortIndication (λ _. Unit {0}) (λ p. Indication.DeferGrant p) read_short (λ a qa. tt) (makes_any read_short),
-                                    (
-                                      makes_made IsShortIndication Indication.Prepare tt,
-                                      (
-                                        makes_1 IsShortIndication (λ _. Unit {0}) (λ p. Indication.Ready p) read_short (λ a qa. tt) (makes_any read_short),
-                                        (
-                                          makes_made IsShortIndication Indication.Commit tt,
-                                          (
-                                            makes_1 IsShortIndication (λ _. Unit {0}) (λ r. Indication.CommitComplete r) read_report (λ a qa. tt) (makes_any read_report),
-                                            (
-                                              makes_made IsShortIndication Indication.Rollback tt,
-                                              (
-                                                makes_1 IsShortIndication (λ _. Unit {0}) (λ r. Indication.RollbackComplete r) read_report (λ a qa. tt) (makes_any read_report),
-                                                (
-                                                  makes_2 IsShortIndication (λ _. Unit {0}) (λ _. Unit {0}) (λ p r. Indication.HeuristicReport p r) read_short read_report (λ a b qa qb. tt) (makes_any read_short) (makes_any read_report),
-                                                  (makes_1 IsShortIndication (λ _. Unit {0}) (λ p. Indication.Left p) read_short (λ a qa. tt) (makes_any read_short), tt),
-                                                ),
-                                              ),
-                                            ),
-                                          ),
-                                        ),
-                                      ),
-                                    ),
-                                  ),
-                                ),
-                              ),
-                            ),
-                          ),
-                        ),
-                      ),
-                    ),
-                  ),
-                ),
-              ),
-            ),
-          ),
-        ),
-      ),
-    )
 
 dialogue_makes : Makes IsShortDialogue read_dialogue
 dialogue_makes =
@@ -295,45 +152,5 @@ peer_makes =
       ),
     )
 
-body_makes : Makes IsShortBody read_body
-body_makes =
-    makes_code IsShortBody body_kinds (
-      makes_2 IsShortBody (λ _. Unit {0}) (λ _. Unit {0}) (λ n s. Body.Event (Event.Declare n s)) read_short (read_maybe read_addr) (λ a b qa qb. tt) (makes_any read_short) (makes_any (read_maybe read_addr)),
-      (
-        makes_2 IsShortBody (λ _. Unit {0}) IsShortRequest (λ n r. Body.Event (Event.Do n r)) read_short read_request (λ a b qa qb. qb) (makes_any read_short) request_makes,
-        (
-          makes_3 IsShortBody (λ _. Unit {0}) (λ _. Unit {0}) IsShort (λ from to xs. Body.Event (Event.Arrive from to xs)) read_addr read_addr (read_octets 2000) (λ a b c qa qb qc. qc) (makes_any read_addr) (makes_any read_addr) (octets_short 2000 (omega arith)),
-          (
-            makes_2 IsShortBody (λ _. Unit {0}) (λ _. Unit {0}) (λ n p. Body.Event (Event.Lose n p)) read_short read_short (λ a b qa qb. tt) (makes_any read_short) (makes_any read_short),
-            (
-              makes_2 IsShortBody (λ _. Unit {0}) (λ _. Unit {0}) (λ n o. Body.Event (Event.Heur n o)) read_short read_outcome (λ a b qa qb. tt) (makes_any read_short) (makes_any read_outcome),
-              (
-                makes_2 IsShortBody (λ _. Unit {0}) (λ _. Unit {0}) (λ n p. Body.Event (Event.GiveUp n p)) read_short read_short (λ a b qa qb. tt) (makes_any read_short) (makes_any read_short),
-                (
-                  makes_1 IsShortBody (λ _. Unit {0}) (λ n. Body.Event (Event.Retry n)) read_short (λ a qa. tt) (makes_any read_short),
-                  (
-                    makes_1 IsShortBody (λ _. Unit {0}) (λ n. Body.Event (Event.Purge n)) read_short (λ a qa. tt) (makes_any read_short),
-                    (
-                      makes_2 IsShortBody (λ _. Unit {0}) IsShortIndication (λ n i. Body.Output (Output.Tell n i)) read_short read_indication (λ a b qa qb. qb) (makes_any read_short) indication_makes,
-                      (
-                        makes_3 IsShortBody (λ _. Unit {0}) (λ _. Unit {0}) IsShort (λ from to xs. Body.Output (Output.Send from to xs)) read_addr read_addr (that is_peer_text (read_octets 2000)) (λ a b c qa qb qc. qc) (makes_any read_addr) (makes_any read_addr) sent_short,
-                        (
-                          makes_1 IsShortBody (λ _. Unit {0}) (λ k. Body.Output (Output.Refused k)) (that is_refusal read_byte) (λ a qa. tt) (makes_any (that is_refusal read_byte)),
-                          (makes_made IsShortBody (Body.Output Output.Over) tt, tt),
-                        ),
-                      ),
-                    ),
-                  ),
-                ),
-              ),
-            ),
-          ),
-        ),
-      ),
-    )
-
 pub peer_short : (v : PeerRecord) → HasText peer_grammar v → IsShortPeer v
 peer_short v h = peer_makes.each (peer_bytes v) v [] h
-
-pub body_short : (v : Body) → HasText body_grammar v → IsShortBody v
-body_short v h = body_makes.each (body_bytes v) v [] h

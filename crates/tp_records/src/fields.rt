@@ -1,12 +1,12 @@
 //! Fields that several kinds of records have.
 ghost use Rattle.std.specs.Prelude.{◌≡◌, ◌++◌, ◌∷◌, OnOk, OnErr};
-ghost use Rattle.tp_names.specs.Bytes.{short_bytes};
+ghost use Rattle.tp_names.specs.Bytes.{short_bytes, octets_bytes};
 ghost use Rattle.tp_names.specs.Scanning.{Gives};
 ghost use Rattle.tp_names.specs.Writing.{Keeps};
 ghost use Rattle.tp_records.specs.BodyScanning.{scan_units};
 
 use std::alloc::Global;
-use tp_names::{BadBytes, Cursor, NoMemory, Octets, write_short};
+use tp_names::{BadBytes, Cursor, NoMemory, Octets, write_octets, write_short};
 use tp_units::Units;
 
 /// Reads a permitted set of units.
@@ -35,4 +35,19 @@ pub(crate) fn write_numbered(
     out.push(alloc, code)?;
     write_short(alloc, number, out)?;
     Ok(())
+}
+
+/// Writes bytes after their count of two bytes. More than it can count are answered as if there were no memory.
+pub(crate) fn write_counted(
+    alloc: Global,
+    octets: &Octets,
+    out: &mut Octets,
+) -> Result<(), NoMemory>
+    ensures ok { OnOk result (out.new ≡ out.old ++ octets_bytes octets.now) }
+    ensures err { OnErr result (Keeps out.old out.new) }
+{
+    if octets.len() > 65_535 {
+        return Err(NoMemory);
+    }
+    write_octets(alloc, octets, out)
 }

@@ -14,6 +14,7 @@ mod peer;
 mod request;
 mod votes;
 
+pub use body::bytes::write_output;
 pub use body::{Body, Event, Output};
 pub use coding::{decode_body, decode_peer, encode_body, encode_peer, texts_are_grammars};
 pub use dialogue::{DialogueRecord, Holder};

@@ -1,4 +1,5 @@
 -- What a node said goes out, unless its site stopped: by the happenings of a run, since a site that stops in an event shows nothing of it.
+use Rattle.std.proofs.lemmas.List.{append-nil}
 use Rattle.std.proofs.Common.{◌≡◌, ◌⊎◌, inl, inr, ℕ, zero, suc, Bool, true, false, refl, ap, sym, subst, ◌∙◌, arith, Option, Some, None, List, [], ◌∷◌, ◌++◌, ◌==◌}
 use Rattle.tp_names.specs.declared.identifiers.Addr.{Addr}
 use Rattle.tp_names.specs.Same.{is_name}
@@ -10,12 +11,13 @@ use Rattle.tp_model.specs.Parts.{Entry, Out}
 use Rattle.tp_model.specs.Events.{refusal, verdict, after_crash, started}
 use Rattle.tp_model.specs.History.{answer}
 use Rattle.tp_model.specs.Disk.{Remains, remains}
-use Rattle.tp_model.specs.World.{World, Node, Site, Frame, number_of, site_of, addr_of, find_node, put_node, addr_at, find_site, put_site, mark_handed}
-use Rattle.tp_model.specs.Happenings.{still, after_lines, action_lines, after_stop, crash_turn, Happening, Task, task_of, frames_of, entry_turn, action_turn, new_node, declared_at, declare_turn, restarted, restarted_at, stop_in_force, stop_in_entry, stop_in_task, task_here, crash_in_turn, happens, run, world_with_entry, WorldTurn}
+use Rattle.tp_model.specs.World.{World, Node, Site, Frame, number_of, site_of, addr_of, find_node, put_node, find_site, put_site, mark_handed}
+use Rattle.tp_model.specs.Happenings.{still, after_lines, action_lines, after_stop, crash_turn, Happening, Task, task_of, frames_of, entry_turn, action_turn, new_node, bare_node, declared_at, declare_turn, placed_at, place_turn, declare_again_turn, stop_in_force, stop_in_entry, stop_in_task, task_here, crash_in_turn, happens, run, world_with_entry, WorldTurn}
 use Rattle.tp_histories.specs.Histories.{IsSentIn, HasSent}
 use Rattle.tp_runs.specs.Framed.{has_stopped, IsFrameTo, GoesOut}
 use Rattle.tp_steps.proofs.lemmas.Equality.{names_equal}
 use Rattle.tp_histories.proofs.worlds.Nodes.{find_put, find_append}
+use Rattle.tp_histories.proofs.worlds.Turns.{by_site, by_superior, restarts, halts, anew, anew_at, turn_anew, by_start, declare_entry, by_declaration}
 use Rattle.tp_histories.proofs.worlds.Traversal.{Ready, ready_of, logged_nodes, logged_frames}
 use Rattle.tp_steps.proofs.lemmas.Options.{some_same}
 
@@ -82,15 +84,22 @@ action_framed w d k = go (task_of w d) refl
 
 -- ---- a site that stops
 
-stopped_again : (y : Node) → has_stopped (restarted y).history ≡ true
+-- whatever comes then, the history has a stop
+abbrev Halts : (Node → List Entry) → Type 0
+Halts h = (y : Node) → has_stopped (h y) ≡ true
+
+restarts_halt : Halts restarts
 unfolding refusal verdict after_crash
-stopped_again y = refl
+restarts_halt y = refl
+
+halts_halt : Halts halts
+halts_halt y = refl
 
 -- each of its nodes has stopped, and the others are as they were
-restarted_is : (name : List ℕ) (ns : List Node) (m : ℕ) (x : Node) → find_node (restarted_at name ns) m ≡ Some x
+anew_is : (h : Node → List Entry) → Halts h → (name : List ℕ) (ns : List Node) (m : ℕ) (x : Node) → find_node (anew_at h name ns) m ≡ Some x
     → (has_stopped x.history ≡ true) ⊎ (find_node ns m ≡ Some x) × (is_name (site_of x) name ≡ false)
-restarted_is name [] m x h = absurd (cc (h))
-restarted_is name (y ∷ ns) m x h = go (is_name (site_of y) name) (number_of y == m) refl refl (restarted_is name ns m x)
+anew_is h stops name [] m x at = absurd (cc (at))
+anew_is h stops name (y ∷ ns) m x at = go (is_name (site_of y) name) (number_of y == m) refl refl (anew_is h stops name ns m x)
   where
     back : (number_of y == m) ≡ false → find_node (y ∷ ns) m ≡ find_node ns m
     back j = grind (arith, j)
@@ -98,8 +107,8 @@ restarted_is name (y ∷ ns) m x h = go (is_name (site_of y) name) (number_of y 
     first : (u : Node) (b : Bool) → (number_of u == m) ≡ b → (us : List Node) → find_node (u ∷ us) m ≡ elim b as (λ _. Option Node) [ true ↦ Some u | false ↦ find_node us m ]
     first u b j us = ap (λ (v : Bool). elim v as (λ _. Option Node) [ true ↦ Some u | false ↦ find_node us m ]) j
 
-    parts : (b : Bool) → is_name (site_of y) name ≡ b → restarted_at name (y ∷ ns) ≡ elim b as (λ _. List Node) [ true ↦ restarted y ∷ restarted_at name ns | false ↦ y ∷ restarted_at name ns ]
-    parts b i = ap (λ (v : Bool). elim v as (λ _. List Node) [ true ↦ restarted y ∷ restarted_at name ns | false ↦ y ∷ restarted_at name ns ]) i
+    parts : (b : Bool) → is_name (site_of y) name ≡ b → anew_at h name (y ∷ ns) ≡ elim b as (λ _. List Node) [ true ↦ anew h y ∷ anew_at h name ns | false ↦ y ∷ anew_at h name ns ]
+    parts b i = ap (λ (v : Bool). elim v as (λ _. List Node) [ true ↦ anew h y ∷ anew_at h name ns | false ↦ y ∷ anew_at h name ns ]) i
 
     behind : (number_of y == m) ≡ false → (has_stopped x.history ≡ true) ⊎ (find_node ns m ≡ Some x) × (is_name (site_of x) name ≡ false)
         → (has_stopped x.history ≡ true) ⊎ (find_node (y ∷ ns) m ≡ Some x) × (is_name (site_of x) name ≡ false)
@@ -107,44 +116,43 @@ restarted_is name (y ∷ ns) m x h = go (is_name (site_of y) name) (number_of y 
     behind j (inr s) = inr (back j ∙ s.0, s.1)
 
     go : (a b : Bool) → is_name (site_of y) name ≡ a → (number_of y == m) ≡ b
-        → (find_node (restarted_at name ns) m ≡ Some x → (has_stopped x.history ≡ true) ⊎ (find_node ns m ≡ Some x) × (is_name (site_of x) name ≡ false))
+        → (find_node (anew_at h name ns) m ≡ Some x → (has_stopped x.history ≡ true) ⊎ (find_node ns m ≡ Some x) × (is_name (site_of x) name ≡ false))
         → (has_stopped x.history ≡ true) ⊎ (find_node (y ∷ ns) m ≡ Some x) × (is_name (site_of x) name ≡ false)
     go true true i j rest =
-        let now : Some (restarted y) ≡ Some x = sym (first (restarted y) true j (restarted_at name ns)) ∙ sym (ap (λ (us : List Node). find_node us m) (parts true i)) ∙ h in
-        inl (ap (λ (u : Node). has_stopped u.history) (sym (some_same (restarted y) x now)) ∙ stopped_again y)
+        let now : Some (anew h y) ≡ Some x = sym (first (anew h y) true j (anew_at h name ns)) ∙ sym (ap (λ (us : List Node). find_node us m) (parts true i)) ∙ at in
+        inl (ap (λ (u : Node). has_stopped u.history) (sym (some_same (anew h y) x now)) ∙ stops y)
     go false true i j rest =
-        let now : Some y ≡ Some x = sym (first y true j (restarted_at name ns)) ∙ sym (ap (λ (us : List Node). find_node us m) (parts false i)) ∙ h in
+        let now : Some y ≡ Some x = sym (first y true j (anew_at h name ns)) ∙ sym (ap (λ (us : List Node). find_node us m) (parts false i)) ∙ at in
         inr (first y true j ns ∙ now, ap (λ (u : Node). is_name (site_of u) name) (sym (some_same y x now)) ∙ i)
     go true false i j rest =
-        let now : find_node (restarted_at name ns) m ≡ Some x = sym (first (restarted y) false j (restarted_at name ns)) ∙ sym (ap (λ (us : List Node). find_node us m) (parts true i)) ∙ h in
+        let now : find_node (anew_at h name ns) m ≡ Some x = sym (first (anew h y) false j (anew_at h name ns)) ∙ sym (ap (λ (us : List Node). find_node us m) (parts true i)) ∙ at in
         behind j (rest now)
     go false false i j rest =
-        let now : find_node (restarted_at name ns) m ≡ Some x = sym (first y false j (restarted_at name ns)) ∙ sym (ap (λ (us : List Node). find_node us m) (parts false i)) ∙ h in
+        let now : find_node (anew_at h name ns) m ≡ Some x = sym (first y false j (anew_at h name ns)) ∙ sym (ap (λ (us : List Node). find_node us m) (parts false i)) ∙ at in
         behind j (rest now)
 
 -- of the nodes at other sites alone
 abbrev FramedBeside : List ℕ → List Node → List Frame → Type 0
 FramedBeside name ns fs = (m : ℕ) (x : Node) → find_node ns m ≡ Some x → is_name (site_of x) name ≡ false → has_stopped x.history ≡ false → (z : Addr) (r : PeerRecord) → HasSent x.history z r → IsFrameTo fs (addr_of x) z r
 
-restart_framed : (name : List ℕ) (ns : List Node) (fs : List Frame) → FramedBeside name ns fs → Framed (restarted_at name ns) fs
-restart_framed name ns fs k m x here fresh z r sent = elim (restarted_is name ns m x here) [
+anew_framed : (h : Node → List Entry) → Halts h → (name : List ℕ) (ns : List Node) (fs : List Frame) → FramedBeside name ns fs → Framed (anew_at h name ns) fs
+anew_framed h stops name ns fs k m x here fresh z r sent = elim (anew_is h stops name ns m x here) [
   | inl s ↦ absurd (cc (s, fresh))
   | inr s ↦ k m x s.0 s.1 fresh z r sent
 ]
 
 crash_framed : (w : World) (name : List ℕ) (x : Site) → find_site w.sites name ≡ Some x → FramedBeside name w.nodes w.frames → Framed (crash_turn w name).world.nodes (crash_turn w name).world.frames
-crash_framed w name x i k = rw (i, crash_turn) (restart_framed name w.nodes w.frames k)
+crash_framed w name x i k = rw (i, crash_turn) (anew_framed restarts restarts_halt name w.nodes w.frames k)
 
 beside : (name : List ℕ) (ns : List Node) (fs : List Frame) → Framed ns fs → FramedBeside name ns fs
 beside name ns fs k m x here at fresh z r sent = k m x here fresh z r sent
 
 -- the site stops, whatever stands of it
-stop_framed : (w : World) (name : List ℕ) → Framed w.nodes w.frames → Framed (crash_turn w name).world.nodes (crash_turn w name).world.frames
-stop_framed w name k = go (find_site w.sites name) refl
-  where
-    go : (o : Option Site) → find_site w.sites name ≡ o → Framed (crash_turn w name).world.nodes (crash_turn w name).world.frames
-    go None i = rw (i, crash_turn) k
-    go (Some x) i = crash_framed w name x i (beside name w.nodes w.frames k)
+start_framed : (h : Node → List Entry) → Halts h → (w : World) (name : List ℕ) → Framed w.nodes w.frames → Framed (turn_anew h w name).world.nodes (turn_anew h w name).world.frames
+start_framed h stops w name k = by_start (λ (v : World). Framed v.nodes v.frames) h w name (λ i. k) (λ x i. anew_framed h stops name w.nodes w.frames (beside name w.nodes w.frames k))
+
+restart_framed : (w : World) (name : List ℕ) → Framed w.nodes w.frames → Framed (crash_turn w name).world.nodes (crash_turn w name).world.frames
+restart_framed w name k = start_framed restarts restarts_halt w name k
 
 -- an event of a node at the site stands, and shows nothing
 entered_beside : (name : List ℕ) (ns : List Node) (fs : List Frame) (n : Node) (y : Entry) → find_node ns (number_of n) ≡ Some n → is_name (site_of n) name ≡ true → Framed ns fs
@@ -198,12 +206,12 @@ force_framed w n x y st found at site k = go st.fate
 
     go : (f : RecordFate) → Framed (crash_turn (elim f [ RecordFate.Kept ↦ world_with_entry v n y | RecordFate.Lost ↦ v | RecordFate.None ↦ v ]) x.name).world.nodes (crash_turn (elim f [ RecordFate.Kept ↦ world_with_entry v n y | RecordFate.Lost ↦ v | RecordFate.None ↦ v ]) x.name).world.frames
     go RecordFate.Kept = crash_framed (world_with_entry v n y) x.name x2 (site_put w.sites x2 x site) (entered_beside x.name v.nodes v.frames n y found at k)
-    go RecordFate.Lost = stop_framed v x.name k
-    go RecordFate.None = stop_framed v x.name k
+    go RecordFate.Lost = restart_framed v x.name k
+    go RecordFate.None = restart_framed v x.name k
 
 within_framed : (w : World) (n : Node) (x : Site) (call fill : ℕ) (o : Option Entry) → find_node w.nodes (number_of n) ≡ Some n → is_name (site_of n) x.name ≡ true → find_site w.sites x.name ≡ Some x → Framed w.nodes w.frames
     → Framed (stop_in_entry w n x call fill o).world.nodes (stop_in_entry w n x call fill o).world.frames
-within_framed w n x call fill None found at site k = stop_framed w x.name k
+within_framed w n x call fill None found at site k = restart_framed w x.name k
 within_framed w n x call fill (Some y) found at site k = go y.rec
   where
     go : (q : Option LogRec) → Framed (elim q as (λ _. WorldTurn) [ None ↦ after_stop (world_with_entry w n y) x.name RecordFate.None | Some l ↦ stop_in_force w n x y (remains call fill l x.disk) ]).world.nodes (elim q as (λ _. WorldTurn) [ None ↦ after_stop (world_with_entry w n y) x.name RecordFate.None | Some l ↦ stop_in_force w n x y (remains call fill l x.disk) ]).world.frames
@@ -235,7 +243,7 @@ crash_in_framed w name call fill d k = go (find_site w.sites name) refl
         let site : find_site w.sites x.name ≡ Some x = ap (find_site w.sites) (site_named w.sites name x i) ∙ i in
         rw (i, crash_in_turn) (here x site (task_of w d) refl (task_here x (task_of w d)) refl)
 
--- ---- a declaration
+-- ---- a node comes
 
 silent_yet : (name : List ℕ) (n boot : ℕ) (up : Option Addr) (z : Addr) (r : PeerRecord) → HasSent (new_node name n boot up).history z r → ⊥
 unfolding refusal verdict started
@@ -251,37 +259,37 @@ add_framed ns fs y none silent k m x here fresh z r sent = go (number_of y == m)
         let now : Some y ≡ Some x = sym (find_append ns y m none ∙ rw i refl) ∙ here in
         absurd (silent z r (subst (λ (u : Node). HasSent u.history z r) (sym (some_same y x now)) sent))
 
-declared_framed : (w : World) (n : ℕ) (name : List ℕ) (up : Option Addr) → find_node w.nodes n ≡ None → Framed w.nodes w.frames → Framed (declared_at w n name up).world.nodes (declared_at w n name up).world.frames
-declared_framed w n name up none k = go (find_site w.sites name) refl
-  where
-    go : (o : Option Site) → find_site w.sites name ≡ o → Framed (declared_at w n name up).world.nodes (declared_at w n name up).world.frames
-    go None i = rw (i, declared_at) (add_framed w.nodes w.frames (new_node name n 1 up) none (silent_yet name n 1 up) k)
-    go (Some x) i = rw (i, declared_at) (add_framed w.nodes w.frames (new_node name n x.boot up) none (silent_yet name n x.boot up) k)
+abbrev IsFramed : World → Type 0
+IsFramed w = Framed w.nodes w.frames
 
-declare_framed : (w : World) (n : ℕ) (name : List ℕ) (under : Option ℕ) → Framed w.nodes w.frames → Framed (declare_turn w n name under).world.nodes (declare_turn w n name under).world.frames
-declare_framed w n name under k = go (find_node w.nodes n) refl
-  where
-    above : (o : Option Addr) → find_node w.nodes n ≡ None → Framed (elim o as (λ _. WorldTurn) [ None ↦ still w | Some a ↦ declared_at w n name (Some a) ]).world.nodes (elim o as (λ _. WorldTurn) [ None ↦ still w | Some a ↦ declared_at w n name (Some a) ]).world.frames
-    above None none = k
-    above (Some a) none = declared_framed w n name (Some a) none k
+declare_framed : (w : World) (n : ℕ) (name : List ℕ) (under : Option ℕ) → IsFramed w → IsFramed (declare_turn w n name under).world
+declare_framed w n name under k = by_superior IsFramed w n under (declared_at w n name) k (λ none up above.
+    by_site IsFramed w name (λ (b : ℕ). new_node name n b up) (λ x i. add_framed w.nodes w.frames (new_node name n x.boot up) none (silent_yet name n x.boot up) k)
+    (λ i. add_framed w.nodes w.frames (new_node name n 1 up) none (silent_yet name n 1 up) k))
 
-    below : (u : Option ℕ) → find_node w.nodes n ≡ None
-        → Framed (elim u as (λ _. WorldTurn) [ None ↦ declared_at w n name None | Some p ↦ elim (addr_at w p) as (λ _. WorldTurn) [ None ↦ still w | Some a ↦ declared_at w n name (Some a) ] ]).world.nodes (elim u as (λ _. WorldTurn) [ None ↦ declared_at w n name None | Some p ↦ elim (addr_at w p) as (λ _. WorldTurn) [ None ↦ still w | Some a ↦ declared_at w n name (Some a) ] ]).world.frames
-    below None none = declared_framed w n name None none k
-    below (Some p) none = above (addr_at w p) none
+place_framed : (w : World) (n : ℕ) (name : List ℕ) (under : Option ℕ) → IsFramed w → IsFramed (place_turn w n name under).world
+place_framed w n name under k = by_superior IsFramed w n under (placed_at w n name) k (λ none up above.
+    by_site IsFramed w name (λ (b : ℕ). bare_node name n b up) (λ x i. add_framed w.nodes w.frames (bare_node name n x.boot up) none (λ z r h. absurd h) k)
+    (λ i. add_framed w.nodes w.frames (bare_node name n 1 up) none (λ z r h. absurd h) k))
 
-    go : (o : Option Node) → find_node w.nodes n ≡ o → Framed (declare_turn w n name under).world.nodes (declare_turn w n name under).world.frames
-    go None i = rw (i, declare_turn) (below under i)
-    go (Some x) i = rw (i, declare_turn) k
+-- a declaration says nothing
+declare_again_framed : (w : World) (n : ℕ) → IsFramed w → IsFramed (declare_again_turn w n).world
+declare_again_framed w n k = by_declaration IsFramed w n k (λ x y here is.
+    let none : y.outs ≡ [] = ap (λ (e : Entry). e.outs) (declare_entry x.origin x.history x.superior y is) in
+    subst (λ (fs : List Frame). Framed (put_node w.nodes (record x { history = y ∷ x.history })) fs) (ap (λ (outs : List Out). w.frames ++ frames_of (addr_of x) outs) none ∙ append-nil w.frames)
+    (entry_framed w.nodes w.frames x y here k))
 
 -- ---- every run
 
 happens_framed : (w : World) (e : Happening) → Framed w.nodes w.frames → Framed (happens w e).world.nodes (happens w e).world.frames
 happens_framed w (Happening.Declare n name under) k = declare_framed w n name under k
+happens_framed w (Happening.Place n name under) k = place_framed w n name under k
+happens_framed w (Happening.Declare_again n) k = declare_again_framed w n k
 happens_framed w (Happening.Does d) k = action_framed w d k
 happens_framed w (Happening.Mark i) k = λ m x here fresh z r sent. frame_marked w.frames i (addr_of x) z r (k m x here fresh z r sent)
-happens_framed w (Happening.Crash name) k = stop_framed w name k
+happens_framed w (Happening.Crash name) k = restart_framed w name k
 happens_framed w (Happening.Crash_in name call fill d) k = crash_in_framed w name call fill d k
+happens_framed w (Happening.Stop name) k = start_framed halts halts_halt w name k
 happens_framed w (Happening.Drive n m) k = k
 happens_framed w (Happening.Drop m) k = k
 

@@ -9,29 +9,29 @@ use Rattle.tp_model.specs.Parts.{Verdict, Answer}
 use Rattle.tp_model.specs.Events.{verdict}
 use Rattle.tp_model.specs.History.{digest, entry_of}
 use Rattle.tp_model.specs.Disk.{Disk, Remains, forced, remains, remains_at_gate}
-use Rattle.tp_model.specs.World.{Frame, addr_at, find_frame}
+use Rattle.tp_model.specs.World.{Frame, find_frame}
 use Rattle.tp_model.specs.declared.line.Action.{Action}
-use Rattle.tp_model.specs.Happenings.{still, after_lines, action_lines, after_stop, crash_turn, Happening, Task, task_at, task_of, request_in, logged, entry_turn, action_turn, new_node, new_site, declared_at, declare_turn, restarted_at, booted, stop_in_force, stop_in_entry, stop_in_task, task_here, crash_in_turn, run, world_with_entry, WorldTurn}
+use Rattle.tp_model.specs.Happenings.{still, after_lines, action_lines, after_stop, crash_turn, Happening, Task, task_at, task_of, request_in, logged, entry_turn, action_turn, new_node, bare_node, new_site, declare_again_turn, booted, stop_in_force, stop_in_entry, stop_in_task, task_here, crash_in_turn, run, world_with_entry, WorldTurn}
 use Rattle.tp_steps.proofs.every.Answers.{Accepted, accepted}
 use Rattle.tp_histories.proofs.worlds.Nodes.{find_put, find_append}
+use Rattle.tp_histories.proofs.worlds.Turns.{turn_at, by_site, turn_under, by_superior, restarts, halts, anew_at, turn_anew, by_start, declare_entry, by_declaration}
 use Rattle.tp_histories.proofs.worlds.Traversal.{Ready, ready_of}
 use Rattle.tp_site_logs.specs.SiteLogs.{DisksTell, stops}
-use Rattle.tp_site_logs.proofs.Places.{find_name, site_appended, site_put_at, site_same, with_disk_is, find_restarted}
-use Rattle.tp_site_logs.proofs.Tells.{IsNode, IsTold, Tells, tells_put, tells_again, tells_site, tells_later, told_entry, told_new_site, told_new_node, node_new, told_as, site_after, forced_there}
+use Rattle.tp_site_logs.proofs.Places.{find_name, site_appended, site_put_at, site_same, with_disk_is, find_anew}
+use Rattle.tp_site_logs.proofs.Tells.{IsNode, IsTold, Tells, tells_put, tells_again, tells_site, tells_later, told_entry, told_new_site, IsFresh, new_fresh, bare_fresh, told_new_node, Begins, restarts_begin, halts_begin, told_as, site_after, forced_there}
 
 abbrev Holds : ℕ → World → Type 0
 Holds m w = Tells m w.nodes w.sites
 
 -- ---- a site stops and starts again
 
+start_holds : (h : Node → List Entry) → Begins h → (m : ℕ) (w : World) (s : List ℕ) → Holds m w → Holds (suc m) (turn_anew h w s).world
+start_holds h begins m w s k = by_start (λ (v : World). Holds (suc m) v) h w s (λ i. tells_later m w.nodes w.sites k) (λ x i.
+    tells_again h begins m s w.nodes (anew_at h s w.nodes) w.sites (put_site w.sites (booted x)) x
+    (record { found = i; nodes = find_anew h s w.nodes; sites = λ t. site_put_at w.sites s x (booted x) t i refl }) k)
+
 crash_holds : (m : ℕ) (w : World) (s : List ℕ) → Holds m w → Holds (suc m) (crash_turn w s).world
-crash_holds m w s h = go (find_site w.sites s) refl
-  where
-    go : (o : Option Site) → find_site w.sites s ≡ o → Holds (suc m) (crash_turn w s).world
-    go None i = rw (i, crash_turn) (tells_later m w.nodes w.sites h)
-    go (Some x) i =
-        rw (i, crash_turn) (tells_again m s w.nodes (restarted_at s w.nodes) w.sites (put_site w.sites (booted x)) x
-        (record { found = i; nodes = find_restarted s w.nodes; sites = λ t. site_put_at w.sites s x (booted x) t i refl }) h)
+crash_holds m w s k = start_holds restarts restarts_begin m w s k
 
 -- ---- a node has one entry more
 
@@ -210,17 +210,17 @@ crash_in_holds m w s call fill d h = go (find_site w.sites s) refl
     go None i = rw (i, crash_in_turn) (tells_later m w.nodes w.sites h)
     go (Some x) i = rw (i, crash_in_turn) (here x i (task_of w d) refl (task_here x (task_of w d)) refl)
 
--- ---- a declaration
+-- ---- a node comes, and is declared
 
-node_comes : (m : ℕ) (ns : List Node) (ss : List Site) (s : List ℕ) (n : ℕ) (up : Option Addr) (x : Site) → find_node ns n ≡ None → find_site ss s ≡ Some x → Tells m ns ss → Tells m (ns ++ new_node s n x.boot up ∷ []) ss
-node_comes m ns ss s n up x none found h =
-    let y : Node = new_node s n x.boot up in
-    let looks : (k : ℕ) → find_node (ns ++ y ∷ []) k ≡ cond (n == k) (Some y) (find_node ns k) = λ k. find_append ns y k none in
+node_comes : (m : ℕ) (ns : List Node) (ss : List Site) (s : List ℕ) (y : Node) (x : Site) → IsFresh s x.boot y → find_node ns (number_of y) ≡ None → find_site ss s ≡ Some x → Tells m ns ss → Tells m (ns ++ y ∷ []) ss
+node_comes m ns ss s y x fresh none found h =
+    let looks : (k : ℕ) → find_node (ns ++ y ∷ []) k ≡ cond (number_of y == k) (Some y) (find_node ns k) = λ k. find_append ns y k none in
+    let there : find_site ss (site_of y) ≡ Some x = ap (find_site ss) fresh.at ∙ found in
     tells_put m ns (ns ++ y ∷ []) ss ss y x (record {
       nodes = looks;
-      sites = λ t. site_same ss s x t found;
+      sites = λ t. site_same ss (site_of y) x t there;
       apart = λ t off. ap (forced_by t) none;
-    }) (node_new s n x.boot up) (told_new_node ns (ns ++ y ∷ []) s n up x none looks (h.sites s x found)) (h.boots s x found) h
+    }) fresh.node (subst (λ (t : List ℕ). IsTold (ns ++ y ∷ []) t x) (sym fresh.at) (told_new_node ns (ns ++ y ∷ []) s y x fresh none looks (h.sites s x found))) (h.boots s x found) h
 
 site_comes : (m : ℕ) (ns : List Node) (ss : List Site) (s : List ℕ) → find_site ss s ≡ None → Tells (suc m) ns ss → Tells (suc m) ns (ss ++ new_site s ∷ [])
 site_comes m ns ss s none h = tells_site (suc m) ns ss (ss ++ new_site s ∷ []) s (new_site s) (λ t. site_appended ss (new_site s) t none) (told_new_site ns s nobody) (omega arith) h
@@ -231,39 +231,42 @@ site_comes m ns ss s none h = tells_site (suc m) ns ss (ss ++ new_site s ∷ [])
         let off : None ≡ Some x.0 = sym none ∙ ap (find_site ss) (sym (name_same (site_of n) s here)) ∙ x.1 in
         cc (off)
 
-declared_holds : (m : ℕ) (w : World) (n : ℕ) (s : List ℕ) (up : Option Addr) → find_node w.nodes n ≡ None → Holds (suc m) w → Holds (suc m) (declared_at w n s up).world
-declared_holds m w n s up none h = go (find_site w.sites s) refl
-  where
-    go : (o : Option Site) → find_site w.sites s ≡ o → Holds (suc m) (declared_at w n s up).world
-    go (Some x) i = rw (i, declared_at) (node_comes (suc m) w.nodes w.sites s n up x none i h)
-    go None i =
-        let found : find_site (w.sites ++ new_site s ∷ []) s ≡ Some (new_site s) = site_appended w.sites (new_site s) s i ∙ ap (λ (b : Bool). cond b (Some (new_site s)) (find_site w.sites s)) (name_self s) in
-        rw (i, declared_at) (node_comes (suc m) w.nodes (w.sites ++ new_site s ∷ []) s n up (new_site s) none found (site_comes m w.nodes w.sites s i h))
+under_holds : (m : ℕ) (w : World) (n : ℕ) (s : List ℕ) (under : Option ℕ) (made : Option Addr → ℕ → Node) → ((up : Option Addr) (b : ℕ) → (number_of (made up b) ≡ n) × IsFresh s b (made up b)) → Holds (suc m) w
+    → Holds (suc m) (turn_under w n under (λ up. turn_at w s (made up))).world
+under_holds m w n s under made are h = by_superior (λ (v : World). Holds (suc m) v) w n under (λ up. turn_at w s (made up)) h (λ none up above.
+    let free : (b : ℕ) → find_node w.nodes (number_of (made up b)) ≡ None = λ b. ap (find_node w.nodes) (are up b).0 ∙ none in
+    by_site (λ (v : World). Holds (suc m) v) w s (made up) (λ x i. node_comes (suc m) w.nodes w.sites s (made up x.boot) x (are up x.boot).1 (free x.boot) i h) (λ i.
+    let found : find_site (w.sites ++ new_site s ∷ []) s ≡ Some (new_site s) = site_appended w.sites (new_site s) s i ∙ ap (λ (b : Bool). cond b (Some (new_site s)) (find_site w.sites s)) (name_self s) in
+    node_comes (suc m) w.nodes (w.sites ++ new_site s ∷ []) s (made up 1) (new_site s) (are up 1).1 (free 1) found (site_comes m w.nodes w.sites s i h)))
 
-declare_holds : (m : ℕ) (w : World) (n : ℕ) (s : List ℕ) (under : Option ℕ) → Holds (suc m) w → Holds (suc m) (declare_turn w n s under).world
-declare_holds m w n s under h = go (find_node w.nodes n) refl
-  where
-    above : (o : Option Addr) → find_node w.nodes n ≡ None → Holds (suc m) (elim o as (λ _. WorldTurn) [ None ↦ still w | Some a ↦ declared_at w n s (Some a) ]).world
-    above None none = h
-    above (Some a) none = declared_holds m w n s (Some a) none h
-
-    below : (u : Option ℕ) → find_node w.nodes n ≡ None → Holds (suc m) (elim u as (λ _. WorldTurn) [ None ↦ declared_at w n s None | Some p ↦ elim (addr_at w p) as (λ _. WorldTurn) [ None ↦ still w | Some a ↦ declared_at w n s (Some a) ] ]).world
-    below None none = declared_holds m w n s None none h
-    below (Some p) none = above (addr_at w p) none
-
-    go : (o : Option Node) → find_node w.nodes n ≡ o → Holds (suc m) (declare_turn w n s under).world
-    go None i = rw (i, declare_turn) (below under i)
-    go (Some x) i = rw (i, declare_turn) h
+declares_holds : (m : ℕ) (w : World) (n : ℕ) → Holds m w → Holds m (declare_again_turn w n).world
+declares_holds m w n h = by_declaration (λ (v : World). Holds m v) w n h (λ x y here is.
+    let a : Accepted x.origin x.history (Event.Declare x.superior) y = accepted x.origin x.history (Event.Declare x.superior) y is in
+    let node : IsNode x = h.sound (number_of x) x here in
+    let none : y.rec ≡ None = ap (λ (e : Entry). e.rec) (declare_entry x.origin x.history x.superior y is) in
+    let en : Enters w x y = record {
+      here = here;
+      node = record {
+        grown = subst (λ (z : Entry). IsGrown x.origin x.superior (z ∷ x.history)) (sym a.is) (a.ok, refl, a.under x.superior refl, node.grown);
+        empty = node.empty;
+        version = node.version;
+      };
+      calm = calm_answer x.origin x.history (Event.Declare x.superior) y refl is;
+    } in
+    subst (λ (o : Option LogRec). Holds m (logged (world_with_entry w x y) x o)) none (entered_holds m w x y en h))
 
 -- ---- every run
 
 pub run_tells : (es : List Happening) → Holds (suc (stops es)) (run es)
 run_tells [] = record { sound = λ k n at. absurd (cc (at)); placed = λ k n at. absurd (cc (at)); sites = λ s x at. absurd (cc (at)); boots = λ s x at. absurd (cc (at)) }
-run_tells (Happening.Declare n s under ∷ es) = declare_holds (stops es) (run es) n s under (run_tells es)
+run_tells (Happening.Declare n s under ∷ es) = under_holds (stops es) (run es) n s under (λ (up : Option Addr) (b : ℕ). new_node s n b up) (λ up b. (refl, new_fresh s n b up)) (run_tells es)
+run_tells (Happening.Place n s under ∷ es) = under_holds (stops es) (run es) n s under (λ (up : Option Addr) (b : ℕ). bare_node s n b up) (λ up b. (refl, bare_fresh s n b up)) (run_tells es)
+run_tells (Happening.Declare_again n ∷ es) = declares_holds (suc (stops es)) (run es) n (run_tells es)
 run_tells (Happening.Does d ∷ es) = action_holds (suc (stops es)) (run es) d (run_tells es)
 run_tells (Happening.Mark k ∷ es) = run_tells es
 run_tells (Happening.Crash s ∷ es) = crash_holds (suc (stops es)) (run es) s (run_tells es)
 run_tells (Happening.Crash_in s call fill d ∷ es) = crash_in_holds (suc (stops es)) (run es) s call fill d (run_tells es)
+run_tells (Happening.Stop s ∷ es) = start_holds halts halts_begin (suc (stops es)) (run es) s (run_tells es)
 run_tells (Happening.Drive n k ∷ es) = run_tells es
 run_tells (Happening.Drop k ∷ es) = run_tells es
 

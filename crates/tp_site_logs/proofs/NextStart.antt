@@ -42,7 +42,7 @@ next_boot x starts = ap (λ (ms : List ℕ). suc (last_number ms)) starts ∙ ap
 
 -- ---- where a history begins
 
-begin_at : (s t : List ℕ) (n a b : ℕ) (v u : LogVersion) (rs qs : List LogRec) → s ≡ t → a ≡ b → v ≡ u → rs ≡ qs
+pub begin_at : (s t : List ℕ) (n a b : ℕ) (v u : LogVersion) (rs qs : List LogRec) → s ≡ t → a ≡ b → v ≡ u → rs ≡ qs
     → ◌≡◌ {A = Origin} (record { who = record { site = s; node = n }; start = record { boot = a; version = v; records = rs } }) (record { who = record { site = t; node = n }; start = record { boot = b; version = u; records = qs } })
 begin_at s t n a b v u rs qs h i j k = rw (h, i, j, k) refl
 

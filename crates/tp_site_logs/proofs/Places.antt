@@ -1,8 +1,8 @@
 -- Sites and nodes of a world by their names and numbers: after a site comes or is another, and after a site has started again.
-use Rattle.tp_site_logs.proofs.Vocabulary.{◌≡◌, ◌==◌, ◌++◌, ℕ, Bool, true, false, cond, refl, ap, sym, ◌∙◌, arith, Option, Some, None, List, [], ◌∷◌, if◌then◌else◌, is_name, name_same, name_self, Node, Site, number_of, site_of, find_node, find_site, put_site}
+use Rattle.tp_site_logs.proofs.Vocabulary.{◌≡◌, ◌==◌, ◌++◌, ℕ, Bool, true, false, cond, refl, ap, sym, ◌∙◌, arith, Option, Some, None, List, [], ◌∷◌, if◌then◌else◌, is_name, name_same, name_self, Entry, Node, Site, number_of, site_of, find_node, find_site, put_site}
 use Rattle.tp_model.specs.World.{with_disk}
 use Rattle.tp_model.specs.Disk.{Disk}
-use Rattle.tp_model.specs.Happenings.{restarted, restarted_at}
+use Rattle.tp_histories.proofs.worlds.Turns.{anew, anew_at}
 
 -- ---- sites
 
@@ -65,16 +65,16 @@ with_disk_is ss s f x found = rw (found, with_disk) refl
 
 -- ---- nodes of a site that starts again
 
-abbrev pub after_start : List ℕ → Option Node → Option Node
-after_start s None = None
-after_start s (Some n) = Some (if is_name (site_of n) s then restarted n else n)
+abbrev pub after_start : (Node → List Entry) → List ℕ → Option Node → Option Node
+after_start h s None = None
+after_start h s (Some n) = Some (if is_name (site_of n) s then anew h n else n)
 
-pub find_restarted : (s : List ℕ) (ns : List Node) (k : ℕ) → find_node (restarted_at s ns) k ≡ after_start s (find_node ns k)
-find_restarted s [] k = refl
-find_restarted s (n ∷ ns) k = go (is_name (site_of n) s) (number_of n == k) refl refl (find_restarted s ns k)
+pub find_anew : (h : Node → List Entry) (s : List ℕ) (ns : List Node) (k : ℕ) → find_node (anew_at h s ns) k ≡ after_start h s (find_node ns k)
+find_anew h s [] k = refl
+find_anew h s (n ∷ ns) k = go (is_name (site_of n) s) (number_of n == k) refl refl (find_anew h s ns k)
   where
-    go : (b c : Bool) → is_name (site_of n) s ≡ b → (number_of n == k) ≡ c → find_node (restarted_at s ns) k ≡ after_start s (find_node ns k) → find_node (restarted_at s (n ∷ ns)) k ≡ after_start s (find_node (n ∷ ns) k)
-    go true true i j rest = rw (i, restarted_at) (rw (j, find_node) (rw (i, after_start) refl))
-    go true false i j rest = rw (i, restarted_at) (rw (j, find_node) rest)
-    go false true i j rest = rw (i, restarted_at) (rw (j, find_node) (rw (i, after_start) refl))
-    go false false i j rest = rw (i, restarted_at) (rw (j, find_node) rest)
+    go : (b c : Bool) → is_name (site_of n) s ≡ b → (number_of n == k) ≡ c → find_node (anew_at h s ns) k ≡ after_start h s (find_node ns k) → find_node (anew_at h s (n ∷ ns)) k ≡ after_start h s (find_node (n ∷ ns) k)
+    go true true i j rest = rw (i, anew_at) (rw (j, find_node) (rw (i, after_start) refl))
+    go true false i j rest = rw (i, anew_at) (rw (j, find_node) rest)
+    go false true i j rest = rw (i, anew_at) (rw (j, find_node) (rw (i, after_start) refl))
+    go false false i j rest = rw (i, anew_at) (rw (j, find_node) rest)

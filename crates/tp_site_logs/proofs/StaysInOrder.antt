@@ -22,17 +22,17 @@ use Rattle.tp_site_logs.proofs.Votes.{IsVote, vote_entry}
 -- ---- a history that is given events
 
 -- it grew under a superior; while the node is not declared, under any
-record Grows (o : Origin) (h : List Entry) : Type 0 where
-  superior : Option Addr
-  grown : IsGrown o superior h
-  free : (digest o h).declared ≡ false → (up : Option Addr) → IsGrown o up h
-  boot : (digest o h).boot ≡ o.start.boot
+pub record Grows (o : Origin) (h : List Entry) : Type 0 where
+  pub superior : Option Addr
+  pub grown : IsGrown o superior h
+  pub free : (digest o h).declared ≡ false → (up : Option Addr) → IsGrown o up h
+  pub boot : (digest o h).boot ≡ o.start.boot
 
 undeclared : (who : Who) (d : Digest) (s : Option Addr) → refusal who d (Event.Declare s) ≡ None → d.declared ≡ false
 unfolding refusal verdict
 undeclared who d s ok = grind (arith, ok)
 
-grows_none : (o : Origin) → Grows o []
+pub grows_none : (o : Origin) → Grows o []
 unfolding started
 grows_none o = record { superior = None; grown = tt; free = λ off up. tt; boot = refl }
 
@@ -63,16 +63,16 @@ grows_entry o h e y g calm is =
 
 -- ---- all histories of a site, and its log
 
-abbrev forced_of : Opening → List Past → ℕ → List LogRec
+abbrev pub forced_of : Opening → List Past → ℕ → List LogRec
 forced_of o ps n = reverse (records (origin_at o n) (history_of ps n))
 
-record IsRun (o : Opening) (ps : List Past) (list : List LogRec) : Type 0 where
-  log : IsLog (forced_of o ps) (boot_of o) list
-  votes : only_branches_vote list ≡ true
-  grows : (n : ℕ) → Grows (origin_at o n) (history_of ps n)
+pub record IsRun (o : Opening) (ps : List Past) (list : List LogRec) : Type 0 where
+  pub log : IsLog (forced_of o ps) (boot_of o) list
+  pub votes : only_branches_vote list ≡ true
+  pub grows : (n : ℕ) → Grows (origin_at o n) (history_of ps n)
 
 -- an event of one node
-run_one : (o : Opening) (ps : List Past) (list : List LogRec) (n : ℕ) (e : Event) (y : Entry) → ((k : ℕ) → IsSoundStart (origin_at o k)) → is_crash e ≡ false → (given o ps n e).entry ≡ Some y → IsRun o ps list
+pub run_one : (o : Opening) (ps : List Past) (list : List LogRec) (n : ℕ) (e : Event) (y : Entry) → ((k : ℕ) → IsSoundStart (origin_at o k)) → is_crash e ≡ false → (given o ps n e).entry ≡ Some y → IsRun o ps list
     → IsRun o (with_entry ps n (Some y)) (list ++ entry_record (Some y))
 run_one o ps list n e y sound calm is run = go y.rec refl
   where
@@ -131,7 +131,7 @@ run_one o ps list n e y sound calm is run = go y.rec refl
 
 -- ---- what a site is given
 
-calm_given : (o : Opening) (g : Given) (n : ℕ) (e : Event) → asked o g ≡ Is n e → is_crash e ≡ false
+pub calm_given : (o : Opening) (g : Given) (n : ℕ) (e : Event) → asked o g ≡ Is n e → is_crash e ≡ false
 calm_given o (Given.Arrive from to octets) n e h = arrived (peer_in octets) (is_name to.site o.site) h
   where
     arrived : (r : Option PeerRecord) (b : Bool) → (elim r as (λ _. AskedEvent) [ None ↦ Refuses 25 | Some x ↦ elim b as (λ _. AskedEvent) [ true ↦ Is to.node (Event.Arrive from x) | false ↦ Refuses 23 ] ]) ≡ Is n e → is_crash e ≡ false

@@ -2,7 +2,8 @@
 use Rattle.tp_site_logs.proofs.Vocabulary.{◌≡◌, ◌≤◌, ◌==◌, ◌++◌, ℕ, zero, suc, Bool, true, false, cond, refl, ap, sym, ◌∙◌, subst, arith, Option, Some, None, List, [], ◌∷◌, reverse, if◌then◌else◌, nat_tests, append-nil, reverse-append, Addr, is_name, name_same, name_self, LogRec, LogVersion, boots, all_below, follows, boots-append, Origin, Event, Entry, refusal, verdict, after_crash, started, digest, records, with_rec, IsGrown, Node, Site, number_of, site_of, find_node, find_site, IsOwnRec, log_of, forced_by, one_to}
 use Rattle.tp_model.specs.Disk.{Disk, forced}
 use Rattle.tp_model.specs.Questions.{boot_by, boot_in, is_crash}
-use Rattle.tp_model.specs.Happenings.{new_site, new_node, restarted, booted}
+use Rattle.tp_model.specs.Happenings.{new_site, new_node, bare_node, booted}
+use Rattle.tp_histories.proofs.worlds.Turns.{restarts, halts, anew}
 use Rattle.tp_histories.proofs.known.KnownPlain.{plain_law}
 use Rattle.tp_site_logs.proofs.Logged.{IsLog, below_more, log_more, log_kept, log_booted, votes_append}
 use Rattle.tp_site_logs.specs.SiteLogs.{only_branches_vote}
@@ -220,86 +221,105 @@ pub node_new : (s : List ℕ) (n boot : ℕ) (up : Option Addr) → IsNode (new_
 unfolding refusal verdict started
 node_new s n boot up = record { grown = (refl, refl, refl, tt); empty = refl; version = refl }
 
-pub told_new_node : (ns now : List Node) (s : List ℕ) (n : ℕ) (up : Option Addr) (x : Site) → find_node ns n ≡ None → ((k : ℕ) → find_node now k ≡ cond (n == k) (Some (new_node s n x.boot up)) (find_node ns k)) → IsTold ns s x → IsTold now s x
+pub node_bare : (s : List ℕ) (n boot : ℕ) (up : Option Addr) → IsNode (bare_node s n boot up)
+node_bare s n boot up = record { grown = tt; empty = refl; version = refl }
+
+-- it has forced nothing, and is in the boot that its site is in
+pub record IsFresh (s : List ℕ) (b : ℕ) (y : Node) : Type 0 where
+  pub node : IsNode y
+  pub at : site_of y ≡ s
+  pub bare : records y.origin y.history ≡ []
+  pub boot : (digest y.origin y.history).boot ≡ b
+
+pub new_fresh : (s : List ℕ) (n boot : ℕ) (up : Option Addr) → IsFresh s boot (new_node s n boot up)
 unfolding refusal verdict started
-told_new_node ns now s n up x none looks told = record {
-  log = log_kept (λ k. forced_by s (find_node ns k)) (λ k. forced_by s (find_node now k)) x.boot (log_of x) told.log (λ k. same k (n == k) refl);
+new_fresh s n boot up = record { node = node_new s n boot up; at = refl; bare = refl; boot = refl }
+
+pub bare_fresh : (s : List ℕ) (n boot : ℕ) (up : Option Addr) → IsFresh s boot (bare_node s n boot up)
+unfolding started
+bare_fresh s n boot up = record { node = node_bare s n boot up; at = refl; bare = refl; boot = refl }
+
+pub told_new_node : (ns now : List Node) (s : List ℕ) (y : Node) (x : Site) → IsFresh s x.boot y → find_node ns (number_of y) ≡ None → ((k : ℕ) → find_node now k ≡ cond (number_of y == k) (Some y) (find_node ns k)) → IsTold ns s x → IsTold now s x
+told_new_node ns now s y x fresh none looks told = record {
+  log = log_kept (λ k. forced_by s (find_node ns k)) (λ k. forced_by s (find_node now k)) x.boot (log_of x) told.log (λ k. same k (number_of y == k) refl);
   starts = told.starts;
   votes = told.votes;
-  last = λ k u at here. last k u (n == k) refl at here;
+  last = λ k u at here. last k u (number_of y == k) refl at here;
 }
   where
-    y : Node
-    y = new_node s n x.boot up
+    nothing : forced_by s (Some y) ≡ []
+    nothing = ap (λ (t : List ℕ). forced_by t (Some y)) (sym fresh.at) ∙ forced_here y ∙ ap reverse fresh.bare
 
-    same : (k : ℕ) (b : Bool) → (n == k) ≡ b → forced_by s (find_node now k) ≡ forced_by s (find_node ns k)
+    same : (k : ℕ) (b : Bool) → (number_of y == k) ≡ b → forced_by s (find_node now k) ≡ forced_by s (find_node ns k)
     same k true b =
-        let m : n ≡ k = grind (arith, nat_tests, b) in
-        ap (forced_by s) (looks k ∙ ap (λ (c : Bool). cond c (Some y) (find_node ns k)) b) ∙ forced_here y ∙ sym (ap (forced_by s) (ap (find_node ns) (sym m) ∙ none))
+        let m : number_of y ≡ k = grind (arith, nat_tests, b) in
+        ap (forced_by s) (looks k ∙ ap (λ (c : Bool). cond c (Some y) (find_node ns k)) b) ∙ nothing ∙ sym (ap (forced_by s) (ap (find_node ns) (sym m) ∙ none))
     same k false b = ap (forced_by s) (looks k ∙ ap (λ (c : Bool). cond c (Some y) (find_node ns k)) b)
 
-    last : (k : ℕ) (u : Node) (b : Bool) → (n == k) ≡ b → find_node now k ≡ Some u → is_name (site_of u) s ≡ true → (digest u.origin u.history).boot ≡ x.boot
-    last k u true b at here = let is : y ≡ u = grind (arith, looks k) in ap (λ (v : Node). (digest v.origin v.history).boot) (sym is)
+    last : (k : ℕ) (u : Node) (b : Bool) → (number_of y == k) ≡ b → find_node now k ≡ Some u → is_name (site_of u) s ≡ true → (digest u.origin u.history).boot ≡ x.boot
+    last k u true b at here = let is : y ≡ u = grind (arith, looks k) in ap (λ (v : Node). (digest v.origin v.history).boot) (sym is) ∙ fresh.boot
     last k u false b at here = told.last k u (grind (arith, looks k)) here
 
 -- ---- a site starts again
 
-node_again : (n : Node) → IsNode n → IsNode (restarted n)
-unfolding refusal verdict after_crash
-node_again n node = record { grown = (refl, refl, refl, (refl, refl, tt, node.grown)); empty = node.empty; version = node.version }
+-- what its start makes of each node: it has forced what it had forced, and is in the next boot
+pub record Begins (h : Node → List Entry) : Type 0 where
+  pub node : (n : Node) → IsNode n → IsNode (anew h n)
+  pub forced : (n : Node) → records n.origin (h n) ≡ records n.origin n.history
+  pub next : (n : Node) → (digest n.origin (h n)).boot ≡ suc (digest n.origin n.history).boot
 
-again_records : (n : Node) → records n.origin (restarted n).history ≡ records n.origin n.history
+pub restarts_begin : Begins restarts
 unfolding refusal verdict after_crash
-again_records n = refl
+restarts_begin = record { node = λ n node. record { grown = (refl, refl, refl, (refl, refl, tt, node.grown)); empty = node.empty; version = node.version }; forced = λ n. refl; next = λ n. refl }
 
-again_boot : (n : Node) → (digest n.origin (restarted n).history).boot ≡ suc (digest n.origin n.history).boot
+pub halts_begin : Begins halts
 unfolding refusal verdict after_crash
-again_boot n = refl
+halts_begin = record { node = λ n node. record { grown = (refl, refl, tt, node.grown); empty = node.empty; version = node.version }; forced = λ n. refl; next = λ n. refl }
 
-forced_again : (s t : List ℕ) (o : Option Node) → forced_by t (after_start s o) ≡ forced_by t o
-forced_again s t None = refl
-forced_again s t (Some n) = go (is_name (site_of n) s) (is_name (site_of n) t) refl
+forced_again : (h : Node → List Entry) → Begins h → (s t : List ℕ) (o : Option Node) → forced_by t (after_start h s o) ≡ forced_by t o
+forced_again h begins s t None = refl
+forced_again h begins s t (Some n) = go (is_name (site_of n) s) (is_name (site_of n) t) refl
   where
-    go : (b c : Bool) → is_name (site_of n) t ≡ c → forced_by t (Some (if b then restarted n else n)) ≡ forced_by t (Some n)
-    go true true here = rw (here, forced_by) (ap reverse (again_records n))
+    go : (b c : Bool) → is_name (site_of n) t ≡ c → forced_by t (Some (if b then anew h n else n)) ≡ forced_by t (Some n)
+    go true true here = rw (here, forced_by) (ap reverse (begins.forced n))
     go true false here = rw (here, forced_by) refl
     go false c here = refl
 
 -- a node behind the start came from one before it
-came : (s : List ℕ) (o : Option Node) (u : Node) → after_start s o ≡ Some u → (n : Node) × (o ≡ Some n) × ((if is_name (site_of n) s then restarted n else n) ≡ u)
-came s None u h = absurd (cc (h))
-came s (Some n) u h = (n, refl, cc (h))
+came : (h : Node → List Entry) (s : List ℕ) (o : Option Node) (u : Node) → after_start h s o ≡ Some u → (n : Node) × (o ≡ Some n) × ((if is_name (site_of n) s then anew h n else n) ≡ u)
+came h s None u i = absurd (cc (i))
+came h s (Some n) u i = (n, refl, cc (i))
 
-told_booted : (ns now : List Node) (s t : List ℕ) (x : Site) → ((k : ℕ) → find_node now k ≡ after_start s (find_node ns k)) → is_name s t ≡ true → IsTold ns t x → IsTold now t (booted x)
-told_booted ns now s t x looks here told = record {
+told_booted : (h : Node → List Entry) → Begins h → (ns now : List Node) (s t : List ℕ) (x : Site) → ((k : ℕ) → find_node now k ≡ after_start h s (find_node ns k)) → is_name s t ≡ true → IsTold ns t x → IsTold now t (booted x)
+told_booted h begins ns now s t x looks here told = record {
   log = subst (IsLog (λ k. forced_by t (find_node now k)) (suc x.boot)) (sym list)
       (log_booted (λ k. forced_by t (find_node ns k)) (λ k. forced_by t (find_node now k)) (suc x.boot) (log_of x) (ap (all_below (suc x.boot)) told.starts ∙ above_all x.boot x.boot (omega arith)) told.log.order told.log.nodes
-      (λ k. ap (forced_by t) (looks k) ∙ forced_again s t (find_node ns k)));
+      (λ k. ap (forced_by t) (looks k) ∙ forced_again h begins s t (find_node ns k)));
   votes = ap only_branches_vote list ∙ votes_append (log_of x) (LogRec.Boot (suc x.boot)) told.votes refl;
   starts = ap boots list ∙ boots-append (log_of x) (LogRec.Boot (suc x.boot) ∷ []) ∙ ap (λ (l : List ℕ). l ++ suc x.boot ∷ []) told.starts;
-  last = λ k u at on. let n = came s (find_node ns k) u (sym (looks k) ∙ at) in again k n.0 u (is_name (site_of n.0) s) refl n.1 n.2 on;
+  last = λ k u at on. let n = came h s (find_node ns k) u (sym (looks k) ∙ at) in again k n.0 u (is_name (site_of n.0) s) refl n.1 n.2 on;
 }
   where
     list : log_of (booted x) ≡ log_of x ++ LogRec.Boot (suc x.boot) ∷ []
     list = reverse-append (LogRec.Boot (suc x.boot) ∷ []) x.disk.records
 
-    again : (k : ℕ) (n u : Node) (b : Bool) → is_name (site_of n) s ≡ b → find_node ns k ≡ Some n → (if b then restarted n else n) ≡ u → is_name (site_of u) t ≡ true → (digest u.origin u.history).boot ≡ suc x.boot
+    again : (k : ℕ) (n u : Node) (b : Bool) → is_name (site_of n) s ≡ b → find_node ns k ≡ Some n → (if b then anew h n else n) ≡ u → is_name (site_of u) t ≡ true → (digest u.origin u.history).boot ≡ suc x.boot
     again k n u true e found is on =
         let stands : is_name (site_of n) t ≡ true = ap (λ (v : Node). is_name (site_of v) t) is ∙ on in
-        ap (λ (v : Node). (digest v.origin v.history).boot) (sym is) ∙ again_boot n ∙ ap suc (told.last k n found stands)
+        ap (λ (v : Node). (digest v.origin v.history).boot) (sym is) ∙ begins.next n ∙ ap suc (told.last k n found stands)
     again k n u false e found is on = absurd
         (let stands : is_name (site_of n) t ≡ true = ap (λ (v : Node). is_name (site_of v) t) is ∙ on in
         let yes : is_name (site_of n) s ≡ true = ap (is_name (site_of n)) (name_same s t here) ∙ stands in
         cc (yes, e))
 
--- the site of that name is another from now on, and its nodes are declared again
-pub record IsAgain (s : List ℕ) (ns now : List Node) (ss new : List Site) (x : Site) : Type 0 where
+-- the site of that name is another from now on, and each of its nodes
+pub record IsAgain (h : Node → List Entry) (s : List ℕ) (ns now : List Node) (ss new : List Site) (x : Site) : Type 0 where
   pub found : find_site ss s ≡ Some x
-  pub nodes : (k : ℕ) → find_node now k ≡ after_start s (find_node ns k)
+  pub nodes : (k : ℕ) → find_node now k ≡ after_start h s (find_node ns k)
   pub sites : (t : List ℕ) → find_site new t ≡ cond (is_name s t) (Some (booted x)) (find_site ss t)
 
-pub tells_again : (m : ℕ) (s : List ℕ) (ns now : List Node) (ss new : List Site) (x : Site) → IsAgain s ns now ss new x → Tells m ns ss → Tells (suc m) now new
-tells_again m s ns now ss new x w told = record {
+pub tells_again : (h : Node → List Entry) → Begins h → (m : ℕ) (s : List ℕ) (ns now : List Node) (ss new : List Site) (x : Site) → IsAgain h s ns now ss new x → Tells m ns ss → Tells (suc m) now new
+tells_again h begins m s ns now ss new x w told = record {
   sound = λ k u at. let n = before k u at in subst IsNode n.2 (after_sound n.0 (is_name (site_of n.0) s) (told.sound k n.0 n.1));
   placed = λ k u at. let n = before k u at in placed n.0 u (is_name (site_of n.0) s) n.2 (told.placed k n.0 n.1);
   sites = λ t y at. site t y (is_name s t) refl at;
@@ -309,25 +329,25 @@ tells_again m s ns now ss new x w told = record {
     next : (b : ℕ) → b ≤ m → suc b ≤ suc m
     next b le = omega (arith, le)
 
-    before : (k : ℕ) (u : Node) → find_node now k ≡ Some u → (n : Node) × (find_node ns k ≡ Some n) × ((if is_name (site_of n) s then restarted n else n) ≡ u)
-    before k u at = came s (find_node ns k) u (sym (w.nodes k) ∙ at)
+    before : (k : ℕ) (u : Node) → find_node now k ≡ Some u → (n : Node) × (find_node ns k ≡ Some n) × ((if is_name (site_of n) s then anew h n else n) ≡ u)
+    before k u at = came h s (find_node ns k) u (sym (w.nodes k) ∙ at)
 
-    after_sound : (n : Node) (b : Bool) → IsNode n → IsNode (if b then restarted n else n)
-    after_sound n true h = node_again n h
-    after_sound n false h = h
+    after_sound : (n : Node) (b : Bool) → IsNode n → IsNode (if b then anew h n else n)
+    after_sound n true node = begins.node n node
+    after_sound n false node = node
 
     there : (t : List ℕ) (b : Bool) → is_name s t ≡ b → (y : Site) → find_site ss t ≡ Some y → (z : Site) × (find_site new t ≡ Some z)
     there t true b y at = (booted x, grind (arith, w.sites t))
     there t false b y at = (y, grind (arith, w.sites t))
 
-    after_site : (n u : Node) (b : Bool) → (if b then restarted n else n) ≡ u → site_of n ≡ site_of u
+    after_site : (n u : Node) (b : Bool) → (if b then anew h n else n) ≡ u → site_of n ≡ site_of u
     after_site n u true is = ap site_of is
     after_site n u false is = ap site_of is
 
-    placed : (n u : Node) (b : Bool) → (if b then restarted n else n) ≡ u → (y : Site) × (find_site ss (site_of n) ≡ Some y) → (z : Site) × (find_site new (site_of u) ≡ Some z)
+    placed : (n u : Node) (b : Bool) → (if b then anew h n else n) ≡ u → (y : Site) × (find_site ss (site_of n) ≡ Some y) → (z : Site) × (find_site new (site_of u) ≡ Some z)
     placed n u b is y = there (site_of u) (is_name s (site_of u)) refl y.0 (ap (find_site ss) (sym (after_site n u b is)) ∙ y.1)
 
-    again : (t : List ℕ) (k : ℕ) (n u : Node) (b : Bool) → is_name s t ≡ false → is_name (site_of n) s ≡ b → find_node ns k ≡ Some n → (if b then restarted n else n) ≡ u → is_name (site_of u) t ≡ true → find_node ns k ≡ Some u
+    again : (t : List ℕ) (k : ℕ) (n u : Node) (b : Bool) → is_name s t ≡ false → is_name (site_of n) s ≡ b → find_node ns k ≡ Some n → (if b then anew h n else n) ≡ u → is_name (site_of u) t ≡ true → find_node ns k ≡ Some u
     again t k n u false off e found is on = found ∙ ap (λ (v : Node). Some v) is
     again t k n u true off e found is on = absurd
         (let stands : is_name (site_of n) t ≡ true = ap (λ (v : Node). is_name (site_of v) t) is ∙ on in
@@ -341,9 +361,9 @@ tells_again m s ns now ss new x w told = record {
     site t y true b at =
         let one : booted x ≡ y = grind (arith, w.sites t) in
         let found : find_site ss t ≡ Some x = ap (find_site ss) (sym (name_same s t b)) ∙ w.found in
-        subst (IsTold now t) one (told_booted ns now s t x w.nodes b (told.sites t x found))
+        subst (IsTold now t) one (told_booted h begins ns now s t x w.nodes b (told.sites t x found))
     site t y false b at =
-        told_other ns now t y (λ k. ap (forced_by t) (w.nodes k) ∙ forced_again s t (find_node ns k)) (λ k u is on. old t k u b is on) (told.sites t y (grind (arith, w.sites t)))
+        told_other ns now t y (λ k. ap (forced_by t) (w.nodes k) ∙ forced_again h begins s t (find_node ns k)) (λ k u is on. old t k u b is on) (told.sites t y (grind (arith, w.sites t)))
 
 -- ---- a site is another, with what it has logged
 

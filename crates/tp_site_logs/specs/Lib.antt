@@ -1,1 +1,2 @@
 pub mod SiteLogs
+pub mod Lives

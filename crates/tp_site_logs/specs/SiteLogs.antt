@@ -12,7 +12,7 @@ use Rattle.tp_model.specs.Events.{started}
 use Rattle.tp_model.specs.History.{digest, records, crashed}
 use Rattle.tp_model.specs.NodeRun.{Opening, boot_of, records_at, origin_at, history_of, run_from}
 use Rattle.tp_model.specs.World.{World, Node, Site, number_of, site_of, find_node, find_site}
-use Rattle.tp_model.specs.Happenings.{Happening, Declare, Does, Mark, Crash, Crash_in, Drive, Drop}
+use Rattle.tp_model.specs.Happenings.{Happening, Declare, Place, Declare_again, Does, Mark, Crash, Crash_in, Stop, Drive, Drop}
 use Rattle.tp_model.specs.Legal.{is_start, IsGrown, IsLegal}
 use Rattle.tp_model.specs.Promises.{IsIn}
 
@@ -95,9 +95,12 @@ DisksStart w = (s : List ℕ) (x : Site) → find_site w.sites s ≡ Some x → 
 abbrev pub stops : List Happening → ℕ
 stops [] = 0
 stops (Declare n s under ∷ es) = stops es
+stops (Place n s under ∷ es) = stops es
+stops (Declare_again n ∷ es) = stops es
 stops (Does d ∷ es) = stops es
 stops (Mark k ∷ es) = stops es
 stops (Crash s ∷ es) = suc (stops es)
 stops (Crash_in s call fill d ∷ es) = suc (stops es)
+stops (Stop s ∷ es) = suc (stops es)
 stops (Drive n k ∷ es) = stops es
 stops (Drop k ∷ es) = stops es

@@ -7,6 +7,7 @@ ghost use Rattle.tp_records.specs.declared.body.Event.{Event as Given};
 ghost use Rattle.tp_model.specs.NodeRun.{Opening, boot_of, log_after};
 ghost use Rattle.tp_model.specs.World.{Site, find_site};
 ghost use Rattle.tp_model.specs.Happenings.{Happening, run};
+ghost use Rattle.tp_site_logs.specs.Lives.{Life, LivesOn};
 ghost use Rattle.tp_site_logs.specs.SiteLogs.{is_in_order, HistoriesAreLegal, DisksTell, DisksStart, next_opening, stops};
 
 /// The log of a site stays in order. For every log on which a site may start, whoever wrote it, and every list of events that the
@@ -38,4 +39,11 @@ pub fn a_sites_log_tells_its_nodes()
 pub fn a_site_starts_again_on_its_log()
     ensures starts { (es : List Happening) → DisksStart (run es) }
     ensures stopped { (es : List Happening) (s : List ℕ) (x : Site) → find_site (run es).sites s ≡ Some x → boot_of (next_opening x) ≤ stops es + 2 }
+{}
+
+/// A site that is started again and again, each time on the log that the process before it left, is one site: whatever the processes were
+/// given, each knows of every node what one history of it tells, from an empty log on, with a stop between one process and the next; and
+/// the log has of every number what that history forced.
+pub fn a_site_lives_on()
+    ensures { (s : List ℕ) (gs : List Given) (life : Life) (n : ℕ) → LivesOn s gs life n }
 {}

@@ -35,9 +35,9 @@ pub fn read(alloc: Global, words: &[&str]) -> Result<Command, WordsFault>
 
 // What was typed, or the default of what was left out.
 #[derive(Drop)]
-struct Given<'a> {
-    word: &'a str,
-    name: &'a str,
+pub(crate) struct Given<'a> {
+    pub(crate) word: &'a str,
+    pub(crate) name: &'a str,
     plan: Plan,
 }
 
@@ -72,7 +72,7 @@ fn command(word: &str, site: SiteName, plan: Plan) -> Option<Command>
 }
 
 // What the words say.
-fn parse<'a>(alloc: Global, words: &'a [&'a str]) -> Result<Given<'a>, Error>
+pub(crate) fn parse<'a>(alloc: Global, words: &'a [&'a str]) -> Result<Given<'a>, Error>
     ensures kinds { FailsBy (fault_of program (map (λ w. w.now) words.entry.now)) result }
     ensures given { IfOk result (IsSaid (found_in (matches_of program (map (λ w. w.now) words.entry.now)))) }
 {

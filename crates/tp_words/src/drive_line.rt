@@ -31,7 +31,7 @@ pub fn read_drive(alloc: Global, words: &[&str]) -> Result<Drive, WordsFault>
 }
 
 // What the words say, unless the name is none of a site.
-fn parse(alloc: Global, words: &[&str]) -> Result<Option<Drive>, Error>
+pub(crate) fn parse(alloc: Global, words: &[&str]) -> Result<Option<Drive>, Error>
     ensures kinds { FailsBy (fault_of drive_program (map (λ w. w.now) words.now)) result }
     ensures given { IfOk result (AnswersDrive (found_drive (matches_of drive_program (map (λ w. w.now) words.now)))) }
 {

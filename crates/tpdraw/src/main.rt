@@ -9,11 +9,13 @@ mod status;
 mod top;
 
 pub use status::Status;
-use std::alloc::{AllocError, Global};
+use std::alloc::AllocError;
+use std::io;
 use std::process::ExitCode;
-use std::{env, io};
 pub use top::run;
-use tp_outside::{StdSink, StdSource};
+use tp_outside::{
+    About, Cause, StdSink, StdSource, say, say_cause, say_end, tell, texts_of, words_given,
+};
 
 /// What can be typed.
 const USAGE: &str = "\
@@ -24,21 +26,11 @@ usage: tpdraw [--mermaid]
   --mermaid    writes text from which Mermaid makes the picture
 ";
 
-// The words after the program's name.
-fn words_given(rt: &HostRuntime) -> io::Result<Vec<String>> {
-    let mut words = Vec::new(rt.alloc());
-    for word in env::args(rt)?.skip(1) {
-        words.push(word)?;
-    }
-    Ok(words)
-}
-
-fn as_texts(alloc: Global, words: &[String]) -> Result<Vec<&str>, AllocError> {
-    let mut texts = Vec::new(alloc);
-    for word in words {
-        texts.push(word.as_str())?;
-    }
-    Ok(texts)
+// Ends a run. Why its stream failed is said where it is known.
+fn end(rt: &HostRuntime, status: Status, name: &str, cause: Option<Cause>) -> ExitCode {
+    let code = say_end(rt, "tpdraw", &status, status.code());
+    say_cause(rt, name, cause);
+    code
 }
 
 // How a run ends that has no words: they are no text, or memory is wanting for them.
@@ -49,27 +41,39 @@ fn wordless(fault: &io::Error) -> Status {
     }
 }
 
-// The exit code of a run that ends so, which is said where it is not Ok.
-fn end(rt: &HostRuntime, status: Status) -> io::Result<ExitCode> {
-    match status {
-        Status::Ok => {}
-        Status::Usage => eprint!(rt; "tpdraw: {status}\n{USAGE}")?,
-        _ => eprintln!(rt; "tpdraw: {status}")?,
+fn run_words(rt: &HostRuntime, words: &[&str]) -> ExitCode {
+    let mut source = StdSource::new(rt);
+    let mut sink = StdSink::new(rt);
+    let status = run(rt.alloc(), words, &mut source, &mut sink);
+    let (name, cause) = match status {
+        Status::ReadFault { .. } => ("standard input", source.cause()),
+        Status::WriteFault { .. } => ("standard output", sink.cause()),
+        _ => ("", None),
+    };
+    let code = end(rt, status, name, cause);
+    if status == Status::Usage {
+        say(rt, USAGE);
     }
-    Ok(ExitCode::from(status.code()))
+    code
 }
 
-fn main(rt: HostRuntime) -> io::Result<ExitCode> {
+fn main(rt: HostRuntime) -> ExitCode {
     let words = match words_given(&rt) {
         Ok(words) => words,
-        Err(fault) => return end(&rt, wordless(&fault)),
+        Err(fault) => return end(&rt, wordless(&fault), "", None),
     };
-    let texts = match as_texts(rt.alloc(), &words) {
+    let texts = match texts_of(rt.alloc(), &words) {
         Ok(texts) => texts,
-        Err(AllocError) => return end(&rt, Status::NoMemory),
+        Err(AllocError) => return end(&rt, Status::NoMemory, "", None),
     };
-    let mut source = StdSource::new(&rt);
-    let mut sink = StdSink::new(&rt);
-    let status = run(rt.alloc(), &texts, &mut source, &mut sink);
-    end(&rt, status)
+    let Some(about) = About::asked(&texts) else {
+        return run_words(&rt, &texts);
+    };
+    match tell(&rt, about, "tpdraw", USAGE) {
+        Ok(()) => ExitCode::SUCCESS,
+        Err(cause) => {
+            let status = Status::WriteFault { faults: 1 };
+            end(&rt, status, "standard output", Some(cause))
+        }
+    }
 }

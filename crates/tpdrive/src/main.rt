@@ -1,32 +1,25 @@
 //! `tpdrive`: runs one site's events on worker threads that share one locked log, and gives the answer of one thread.
 #![tactic(auto)]
 
-use std::alloc::{AllocError, Global};
+use std::alloc::AllocError;
+use std::io;
 use std::process::ExitCode;
-use std::{env, io};
 use tp_drive::OpenGate;
 use tp_drive_tool::{Status, run_drive};
-use tp_outside::{FileDisk, HeldStreams, StdSink, StdSource};
-use tp_words::DRIVE_USAGE;
+use tp_outside::{
+    About, Cause, FileDisk, HeldStreams, NULL, StdSink, StdSource, say, say_cause, say_end, tell,
+    texts_of, words_given,
+};
+use tp_words::{DRIVE_USAGE, drive_complaint};
 
 /// The log of the site, in the current folder.
 const LOG: &str = "tp.log";
 
-// The words after the program's name.
-fn words_given(rt: &HostRuntime) -> io::Result<Vec<String>> {
-    let mut words = Vec::new(rt.alloc());
-    for word in env::args(rt)?.skip(1) {
-        words.push(word)?;
-    }
-    Ok(words)
-}
-
-fn as_texts(alloc: Global, words: &[String]) -> Result<Vec<&str>, AllocError> {
-    let mut texts = Vec::new(alloc);
-    for word in words {
-        texts.push(word.as_str())?;
-    }
-    Ok(texts)
+// Ends a run. Why its file or stream failed is said where it is known.
+fn end(rt: &HostRuntime, status: &Status, name: &str, cause: Option<Cause>) -> ExitCode {
+    let code = say_end(rt, "tpdrive", status, status.code());
+    say_cause(rt, name, cause);
+    code
 }
 
 // How a run ends that has no words: they are no text, or memory is wanting for them.
@@ -37,34 +30,42 @@ fn wordless(fault: &io::Error) -> Status {
     }
 }
 
-// The exit code of a run that ends so, which is said where it is not Ok.
-fn end(rt: &HostRuntime, status: &Status) -> io::Result<ExitCode> {
-    match status {
-        Status::Ok => {}
-        Status::Usage => eprint!(rt; "tpdrive: {status}\n{DRIVE_USAGE}")?,
-        _ => eprintln!(rt; "tpdrive: {status}")?,
+// What is wrong with the words, and what can be typed.
+fn say_usage(rt: &HostRuntime, words: &[&str]) {
+    if let Some(sentence) = drive_complaint(rt.alloc(), words) {
+        say(rt, format_args!("{sentence}\n"));
     }
-    Ok(ExitCode::from(status.code()))
+    say(rt, DRIVE_USAGE);
 }
 
-fn main(rt: HostRuntime) -> io::Result<ExitCode> {
+// (in `main` alone are there threads)
+fn main(rt: HostRuntime) -> ExitCode {
     // (to the end: a log that is opened meanwhile has no stream's number)
     let _streams = match HeldStreams::hold(&rt) {
         Ok(streams) => streams,
-        Err(_) => return end(&rt, &Status::DiskFault { faults: 1 }),
+        Err(cause) => return end(&rt, &Status::DiskFault { faults: 1 }, NULL, Some(cause)),
     };
     let words = match words_given(&rt) {
         Ok(words) => words,
-        Err(fault) => return end(&rt, &wordless(&fault)),
+        Err(fault) => return end(&rt, &wordless(&fault), "", None),
     };
-    let texts = match as_texts(rt.alloc(), &words) {
+    let texts = match texts_of(rt.alloc(), &words) {
         Ok(texts) => texts,
-        Err(AllocError) => return end(&rt, &Status::NoMemory),
+        Err(AllocError) => return end(&rt, &Status::NoMemory, "", None),
     };
+    if let Some(about) = About::asked(&texts) {
+        return match tell(&rt, about, "tpdrive", DRIVE_USAGE) {
+            Ok(()) => ExitCode::SUCCESS,
+            Err(cause) => {
+                let status = Status::WriteFault { faults: 1 };
+                end(&rt, &status, "standard output", Some(cause))
+            }
+        };
+    }
     let mut source = StdSource::new(&rt);
     let mut sink = StdSink::new(&rt);
-    let disk = FileDisk::new(&rt, LOG);
-    let (status, _disk) = run_drive(
+    let disk = FileDisk::to_change(&rt, LOG);
+    let (status, disk) = run_drive(
         &rt,
         rt.alloc(),
         &texts,
@@ -73,5 +74,15 @@ fn main(rt: HostRuntime) -> io::Result<ExitCode> {
         disk,
         &OpenGate,
     );
-    end(&rt, &status)
+    let (name, cause) = match status {
+        Status::ReadFault { .. } => ("standard input", source.cause()),
+        Status::WriteFault { .. } => ("standard output", sink.cause()),
+        Status::DiskFault { .. } => (LOG, disk.cause()),
+        _ => ("", None),
+    };
+    let code = end(&rt, &status, name, cause);
+    if let Status::Usage = status {
+        say_usage(&rt, &texts);
+    }
+    code
 }

@@ -15,14 +15,16 @@ mod top;
 mod transacting;
 
 use std::alloc::{AllocError, Global};
+use std::io;
 use std::process::ExitCode;
-use std::{env, io};
 pub use top::run;
-use tp_bound::Bound;
-use tp_outside::{Disk, FileDisk, HeldStreams, StdSink, StdSource};
+use tp_outside::{
+    About, Cause, FileDisk, HeldStreams, NULL, StdSink, StdSource, say, say_cause, say_end, tell,
+    texts_of, words_given,
+};
 pub use tp_replay::Status;
-use tp_replay::{open_store, participants, status_of};
-use tp_words::USAGE;
+use tp_replay::{Participant, open_store, participants, status_of};
+use tp_words::{Command, USAGE, WordsFault, complaint, read};
 
 /// The log of a site, in the current folder.
 const LOG: &str = "tp.log";
@@ -33,55 +35,11 @@ const STORE: &str = "bound.log";
 /// The node of the store that is member 3.
 const STORE_NODE: u16 = 2;
 
-// The words after the program's name.
-fn words_given(rt: &HostRuntime) -> io::Result<Vec<String>> {
-    let mut words = Vec::new(rt.alloc());
-    for word in env::args(rt)?.skip(1) {
-        words.push(word)?;
-    }
-    Ok(words)
-}
-
-fn as_texts(alloc: Global, words: &[String]) -> Result<Vec<&str>, AllocError> {
-    let mut texts = Vec::new(alloc);
-    for word in words {
-        texts.push(word.as_str())?;
-    }
-    Ok(texts)
-}
-
-// The file of the disk that a command works on.
-fn file_for(words: &[&str]) -> &'static str {
-    match words.first() {
-        Some(word) if *word == "keys" => STORE,
-        _ => LOG,
-    }
-}
-
-// The store that is member 3, which `replay` alone has, on its disk.
-fn store_for<D: Disk + Drop>(
-    alloc: Global,
-    words: &[&str],
-    disk: D,
-) -> Result<Option<Bound<D>>, Status> {
-    match words.first() {
-        Some(word) if *word == "replay" => match open_store(alloc, disk, STORE_NODE) {
-            Ok(store) => Ok(Some(store)),
-            Err((_, fault)) => Err(status_of(fault)),
-        },
-        _ => Ok(None),
-    }
-}
-
-// The exit code of a run that ends so, which is said where it is not Ok.
-fn end(rt: &HostRuntime, status: Status) -> io::Result<ExitCode> {
-    if status != Status::Ok {
-        eprintln!(rt; "tpnode: {status}")?;
-    }
-    if status == Status::Usage {
-        eprint!(rt; "{USAGE}")?;
-    }
-    Ok(ExitCode::from(status.code()))
+// Ends a run. Why its file or stream failed is said where it is known.
+fn end(rt: &HostRuntime, status: Status, name: &str, cause: Option<Cause>) -> ExitCode {
+    let code = say_end(rt, "tpnode", &status, status.code());
+    say_cause(rt, name, cause);
+    code
 }
 
 // How a run ends that has no words: they are no text, or memory is wanting for them.
@@ -92,30 +50,104 @@ fn wordless(fault: &io::Error) -> Status {
     }
 }
 
-fn run_words(rt: &HostRuntime) -> io::Result<Status> {
-    let words = words_given(rt)?;
-    let texts = as_texts(rt.alloc(), &words)?;
-    let store = match store_for(rt.alloc(), &texts, FileDisk::new(rt, STORE)) {
-        Ok(store) => store,
-        Err(status) => return Ok(status),
+// What is wrong with the words, and what can be typed.
+fn say_usage(rt: &HostRuntime, words: &[&str]) {
+    if let Some(sentence) = complaint(rt.alloc(), words) {
+        say(rt, format_args!("{sentence}\n"));
+    }
+    say(rt, USAGE);
+}
+
+// The file that a command works on.
+fn file_for(command: &Option<Command>) -> &'static str {
+    match command {
+        Some(Command::Keys) => STORE,
+        _ => LOG,
+    }
+}
+
+// Its disk.
+fn disk_for<'a>(rt: &'a HostRuntime, command: &Option<Command>) -> FileDisk<'a, HostRuntime> {
+    let file = file_for(command);
+    match command {
+        Some(Command::Format) => FileDisk::new(rt, file),
+        Some(Command::Show | Command::Check | Command::Keys) => FileDisk::to_read(rt, file),
+        _ => FileDisk::to_change(rt, file),
+    }
+}
+
+type Members<'a> = Vec<Participant<FileDisk<'a, HostRuntime>>>;
+
+// The members, of whom `replay` alone has the store.
+fn members_for<'a>(
+    rt: &'a HostRuntime,
+    command: &Option<Command>,
+) -> Result<Members<'a>, (Status, Option<Cause>)> {
+    let store = match command {
+        Some(Command::Replay) => {
+            let disk = FileDisk::to_change_perhaps(rt, STORE);
+            match open_store(rt.alloc(), disk, STORE_NODE) {
+                Ok(store) => Some(store),
+                Err((disk, fault)) => return Err((status_of(fault), disk.cause())),
+            }
+        }
+        _ => None,
+    };
+    match participants(rt.alloc(), store) {
+        Ok(members) => Ok(members),
+        Err(AllocError) => Err((Status::NoMemory, None)),
+    }
+}
+
+fn run_words(rt: &HostRuntime, words: &[&str]) -> ExitCode {
+    let command = match read(rt.alloc(), words) {
+        Ok(command) => Some(command),
+        Err(WordsFault::Usage) => None,
+        Err(WordsFault::NoMemory) => return end(rt, Status::NoMemory, "", None),
+    };
+    let members = match members_for(rt, &command) {
+        Ok(members) => members,
+        Err((status, cause)) => return end(rt, status, STORE, cause),
     };
     let mut source = StdSource::new(rt);
     let mut sink = StdSink::new(rt);
-    let disk = FileDisk::new(rt, file_for(&texts));
-    let members = participants(rt.alloc(), store)?;
-    let (status, _disk) = run(rt.alloc(), &texts, &mut source, &mut sink, disk, members);
-    Ok(status)
+    let disk = disk_for(rt, &command);
+    let (status, disk) = run(rt.alloc(), words, &mut source, &mut sink, disk, members);
+    let (name, cause) = match status {
+        Status::ReadFault { .. } => ("standard input", source.cause()),
+        Status::WriteFault { .. } => ("standard output", sink.cause()),
+        Status::DiskFault { .. } => (file_for(&command), disk.cause()),
+        _ => ("", None),
+    };
+    let code = end(rt, status, name, cause);
+    if status == Status::Usage {
+        say_usage(rt, words);
+    }
+    code
 }
 
-fn main(rt: HostRuntime) -> io::Result<ExitCode> {
+fn main(rt: HostRuntime) -> ExitCode {
     // (to the end: a log that is opened meanwhile has no stream's number)
-    let streams = HeldStreams::hold(&rt);
-    let status = match &streams {
-        Ok(_) => match run_words(&rt) {
-            Ok(status) => status,
-            Err(fault) => wordless(&fault),
-        },
-        Err(_) => Status::DiskFault { faults: 1 },
+    let _streams = match HeldStreams::hold(&rt) {
+        Ok(streams) => streams,
+        Err(cause) => return end(&rt, Status::DiskFault { faults: 1 }, NULL, Some(cause)),
     };
-    end(&rt, status)
+    let words = match words_given(&rt) {
+        Ok(words) => words,
+        Err(fault) => return end(&rt, wordless(&fault), "", None),
+    };
+    let texts = match texts_of(rt.alloc(), &words) {
+        Ok(texts) => texts,
+        Err(AllocError) => return end(&rt, Status::NoMemory, "", None),
+    };
+    let Some(about) = About::asked(&texts) else {
+        return run_words(&rt, &texts);
+    };
+    match tell(&rt, about, "tpnode", USAGE) {
+        Ok(()) => ExitCode::SUCCESS,
+        Err(cause) => {
+            let status = Status::WriteFault { faults: 1 };
+            end(&rt, status, "standard output", Some(cause))
+        }
+    }
 }

@@ -1,5 +1,6 @@
 //! What no clause says: whole runs, with expected bytes from outside, and the texts of endings.
 use super::*;
+use std::alloc::Global;
 use tp_journal::StartFault;
 use tp_model::{What, Why};
 use tp_names::Octets;

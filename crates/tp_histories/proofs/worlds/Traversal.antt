@@ -12,14 +12,15 @@ use Rattle.tp_model.specs.Parts.{Event, Entry}
 use Rattle.tp_model.specs.Events.{refusal, verdict, started}
 use Rattle.tp_model.specs.History.{entry_of, answer}
 use Rattle.tp_model.specs.Disk.{Remains, remains}
-use Rattle.tp_model.specs.World.{World, Node, Site, Frame, number_of, site_of, addr_of, find_node, put_node, addr_at, find_site, find_frame, put_site}
-use Rattle.tp_model.specs.Happenings.{still, after_lines, action_lines, after_stop, crash_turn, Happening, Task, task_at, task_of, request_in, frames_of, logged, entry_turn, action_turn, new_node, declared_at, declare_turn, stop_in_force, stop_in_entry, stop_in_task, task_here, crash_in_turn, happens, run, world_with_entry, WorldTurn}
+use Rattle.tp_model.specs.World.{World, Node, Site, Frame, number_of, site_of, addr_of, find_node, put_node, find_site, find_frame, put_site}
+use Rattle.tp_model.specs.Happenings.{still, after_lines, action_lines, after_stop, crash_turn, Happening, Task, task_at, task_of, request_in, frames_of, logged, entry_turn, action_turn, new_node, bare_node, declared_at, declare_turn, placed_at, place_turn, declare_again_turn, stop_in_force, stop_in_entry, stop_in_task, task_here, crash_in_turn, happens, run, world_with_entry, WorldTurn}
 use Rattle.tp_model.specs.Legal.{IsUnder}
 use Rattle.tp_steps.specs.Histories.{brought}
 use Rattle.tp_histories.specs.Worlds.{IsFrameOf, grown_node, Accepts}
 use Rattle.tp_histories.proofs.worlds.Nodes.{find_is, put_behind, put_first, find_append}
+use Rattle.tp_histories.proofs.worlds.Turns.{IsThere, by_site, by_superior, by_declaration}
 use Rattle.tp_steps.proofs.every.Answers.{Accepted, accepted}
-use Rattle.tp_histories.proofs.worlds.Runs.{Steps, Kept, kept_steps, unsent, crash_holds}
+use Rattle.tp_histories.proofs.worlds.Runs.{Steps, Kept, kept_steps, unsent, crash_holds, stop_holds}
 
 abbrev Holds : (List Node → List Frame → Type 0) → World → Type 0
 Holds P w = Kept P w.nodes w.frames
@@ -134,10 +135,10 @@ force_holds P s w n x y st k entered_kept =
     go v k j RecordFate.Lost = crash_holds P s v x.name k
     go v k j RecordFate.None = crash_holds P s v x.name k
 
-stop_holds : (P : List Node → List Frame → Type 0) → Steps P → (w : World) (t : Task) (x : Site) (call fill : ℕ) (o : Option Entry) → Ready w t
+stop_in_holds : (P : List Node → List Frame → Type 0) → Steps P → (w : World) (t : Task) (x : Site) (call fill : ℕ) (o : Option Entry) → Ready w t
     → ((y : Entry) → o ≡ Some y → Accepted t.node.origin t.node.history t.event y) → Holds P w → Holds P (stop_in_entry w t.node x call fill o).world
-stop_holds P s w t x call fill None r acc k = crash_holds P s w x.name k
-stop_holds P s w t x call fill (Some y) r acc k = go y.rec
+stop_in_holds P s w t x call fill None r acc k = crash_holds P s w x.name k
+stop_in_holds P s w t x call fill (Some y) r acc k = go y.rec
   where
     n : Node
     n = t.node
@@ -167,71 +168,60 @@ crash_in_holds P s w name call fill d k = go (find_site w.sites name) refl
     here x None i (Some u) j = absurd cc
     here x (Some t) i (Some u) j =
         let same : t ≡ u = one_task x t u (is_name (site_of t.node) x.name) j in
-        stop_holds P s w u x call fill (answer u.node.origin u.node.history u.event).entry (subst (λ (v : Task). Ready w v) same (ready_of w d t i))
+        stop_in_holds P s w u x call fill (answer u.node.origin u.node.history u.event).entry (subst (λ (v : Task). Ready w v) same (ready_of w d t i))
         (λ y e. accepted u.node.origin u.node.history u.event y e) k
 
     go : (o : Option Site) → find_site w.sites name ≡ o → Holds P (crash_in_turn w name call fill d).world
     go None i = rw (i, crash_in_turn) k
     go (Some x) i = rw (i, crash_in_turn) (here x (task_of w d) refl (task_here x (task_of w d)) refl)
 
--- ---- a declaration
+-- ---- a node comes
 
-add_holds : (P : List Node → List Frame → Type 0) → Steps P → (ns : List Node) (fs : List Frame) (name : List ℕ) (n boot : ℕ) (up : Option Addr) → find_node ns n ≡ None
-    → ((a : Addr) → up ≡ Some a → (u : Node) × (find_node ns a.node ≡ Some u) × (addr_of u ≡ a)) → Kept P ns fs → Kept P (ns ++ new_node name n boot up ∷ []) fs
+bare_holds : (P : List Node → List Frame → Type 0) → Steps P → (w : World) (name : List ℕ) (n boot : ℕ) (up : Option Addr) → find_node w.nodes n ≡ None → IsThere w up → Holds P w
+    → Kept P (w.nodes ++ bare_node name n boot up ∷ []) w.frames
+bare_holds P s w name n boot up none above k = (kept_steps P s).comes w.nodes w.frames (bare_node name n boot up) (record { none = none; bare = refl; fresh = refl; above = above }) k
+
+new_holds : (P : List Node → List Frame → Type 0) → Steps P → (w : World) (name : List ℕ) (n boot : ℕ) (up : Option Addr) → find_node w.nodes n ≡ None → IsThere w up → Holds P w
+    → Kept P (w.nodes ++ new_node name n boot up ∷ []) w.frames
 unfolding refusal verdict started
-add_holds P s ns fs name n boot up none above k =
-    let x : Node = record (new_node name n boot up) { history = [] } in
-    let q : Steps (Kept P) = kept_steps P s in
-    let one : Kept P (ns ++ x ∷ []) fs = q.comes ns fs x (record { none = none; bare = refl; fresh = refl; above = above }) k in
+new_holds P s w name n boot up none above k =
+    let ns : List Node = w.nodes in
+    let x : Node = bare_node name n boot up in
     let here : find_node (ns ++ x ∷ []) (number_of x) ≡ Some x = find_append ns x n none ∙ grind (arith, nat_tests) in
-    let two = unsent (Kept P) q (ns ++ x ∷ []) fs x (Event.Declare up) (record { here = here; ok = refl; came = λ a r i. cc (i); under = refl }) one in
+    let two = unsent (Kept P) (kept_steps P s) (ns ++ x ∷ []) w.frames x (Event.Declare up) (record { here = here; ok = refl; came = λ a r i. cc (i); under = refl }) (bare_holds P s w name n boot up none above k) in
     let y : Node = grown_node x (Event.Declare up) in
     let at : put_node (ns ++ x ∷ []) y ≡ ns ++ y ∷ [] = put_behind ns (x ∷ []) y none ∙ ap (λ (l : List Node). ns ++ l) (put_first x y [] refl) in
-    subst (λ (l : List Node). Kept P l fs) at two
-
-declared_holds : (P : List Node → List Frame → Type 0) → Steps P → (w : World) (n : ℕ) (name : List ℕ) (up : Option Addr) → find_node w.nodes n ≡ None
-    → ((a : Addr) → up ≡ Some a → (u : Node) × (find_node w.nodes a.node ≡ Some u) × (addr_of u ≡ a)) → Holds P w → Holds P (declared_at w n name up).world
-declared_holds P s w n name up none above k = go (find_site w.sites name) refl
-  where
-    go : (o : Option Site) → find_site w.sites name ≡ o → Holds P (declared_at w n name up).world
-    go None i = rw (i, declared_at) (add_holds P s w.nodes w.frames name n 1 up none above k)
-    go (Some x) i = rw (i, declared_at) (add_holds P s w.nodes w.frames name n x.boot up none above k)
-
-addr_found : (w : World) (p : ℕ) (a : Addr) → addr_at w p ≡ Some a → (u : Node) × (find_node w.nodes a.node ≡ Some u) × (addr_of u ≡ a)
-addr_found w p a h = go (find_node w.nodes p) refl
-  where
-    go : (o : Option Node) → find_node w.nodes p ≡ o → (u : Node) × (find_node w.nodes a.node ≡ Some u) × (addr_of u ≡ a)
-    go None i = let none : None ≡ Some a = rw (i, addr_at) at h in absurd (cc (none))
-    go (Some x) i =
-        let one : Some (addr_of x) ≡ Some a = rw (i, addr_at) at h in
-        let same : addr_of x ≡ a = cc (one) in
-        let at : number_of x ≡ p = find_is w.nodes p x i in
-        (x, ap (find_node w.nodes) (sym (ap (λ (b : Addr). b.node) same) ∙ at) ∙ i, same)
+    subst (λ (l : List Node). Kept P l w.frames) at two
 
 declare_holds : (P : List Node → List Frame → Type 0) → Steps P → (w : World) (n : ℕ) (name : List ℕ) (under : Option ℕ) → Holds P w → Holds P (declare_turn w n name under).world
-declare_holds P s w n name under k = go (find_node w.nodes n) refl
-  where
-    above : (p : ℕ) (o : Option Addr) → addr_at w p ≡ o → find_node w.nodes n ≡ None → Holds P (elim o as (λ _. WorldTurn) [ None ↦ still w | Some a ↦ declared_at w n name (Some a) ]).world
-    above p None i none = k
-    above p (Some a) i none = declared_holds P s w n name (Some a) none (λ b j. addr_found w p b (i ∙ j)) k
+declare_holds P s w n name under k = by_superior (λ (v : World). Holds P v) w n under (declared_at w n name) k (λ none up above.
+    by_site (λ (v : World). Holds P v) w name (λ (b : ℕ). new_node name n b up) (λ x i. new_holds P s w name n x.boot up none above k) (λ i. new_holds P s w name n 1 up none above k))
 
-    below : (u : Option ℕ) → find_node w.nodes n ≡ None → Holds P (elim u as (λ _. WorldTurn) [ None ↦ declared_at w n name None | Some p ↦ elim (addr_at w p) as (λ _. WorldTurn) [ None ↦ still w | Some a ↦ declared_at w n name (Some a) ] ]).world
-    below None none = declared_holds P s w n name None none (λ b j. cc (j)) k
-    below (Some p) none = above p (addr_at w p) refl none
+place_holds : (P : List Node → List Frame → Type 0) → Steps P → (w : World) (n : ℕ) (name : List ℕ) (under : Option ℕ) → Holds P w → Holds P (place_turn w n name under).world
+place_holds P s w n name under k = by_superior (λ (v : World). Holds P v) w n under (placed_at w n name) k (λ none up above.
+    by_site (λ (v : World). Holds P v) w name (λ (b : ℕ). bare_node name n b up) (λ x i. bare_holds P s w name n x.boot up none above k) (λ i. bare_holds P s w name n 1 up none above k))
 
-    go : (o : Option Node) → find_node w.nodes n ≡ o → Holds P (declare_turn w n name under).world
-    go None i = rw (i, declare_turn) (below under i)
-    go (Some x) i = rw (i, declare_turn) k
+-- ---- a node is declared later
+
+declare_again_holds : (P : List Node → List Frame → Type 0) → Steps P → (w : World) (n : ℕ) → Holds P w → Holds P (declare_again_turn w n).world
+declare_again_holds P s w n k = by_declaration (λ (v : World). Holds P v) w n k (λ x y here is.
+    let a : Accepted x.origin x.history (Event.Declare x.superior) y = accepted x.origin x.history (Event.Declare x.superior) y is in
+    subst (λ (u : Entry). Kept P (with_entry_put w x u) w.frames) (sym a.is)
+    (unsent (Kept P) (kept_steps P s) w.nodes w.frames x a.event (record { here = here; ok = a.ok; came = λ c r j. absurd (cc (sym a.brings ∙ j)); under = a.under x.superior refl }) k))
 
 -- ---- every run
 
 happens_holds : (P : List Node → List Frame → Type 0) → Steps P → (w : World) (e : Happening) → Holds P w → Holds P (happens w e).world
 happens_holds P s w (Happening.Declare n name under) k = declare_holds P s w n name under k
+happens_holds P s w (Happening.Place n name under) k = place_holds P s w n name under k
+happens_holds P s w (Happening.Declare_again n) k = declare_again_holds P s w n k
 happens_holds P s w (Happening.Does d) k = action_holds P s w d k
 happens_holds P s w (Happening.Mark i) k = (kept_steps P s).mark w.nodes w.frames i k
 happens_holds P s w (Happening.Crash name) k = crash_holds P s w name k
 happens_holds P s w (Happening.Crash_in name call fill d) k = crash_in_holds P s w name call fill d k
-happens_holds P s w _ k = k
+happens_holds P s w (Happening.Stop name) k = stop_holds P s w name k
+happens_holds P s w (Happening.Drive n i) k = k
+happens_holds P s w (Happening.Drop i) k = k
 
 run_holds : (P : List Node → List Frame → Type 0) → Steps P → (es : List Happening) → Holds P (run es)
 run_holds P s [] = (kept_steps P s).start

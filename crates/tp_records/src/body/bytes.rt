@@ -8,20 +8,19 @@ ghost use Rattle.tp_records.specs.BodyReading.{is_refusal};
 ghost use Rattle.tp_records.specs.BodyScanning.{scan_request, scan_indication};
 ghost use Rattle.tp_records.specs.SentScanning.{scan_sent};
 ghost use Rattle.tp_records.specs.WholeScanning.{scan_body};
-ghost use Rattle.tp_records.specs.Octets.{IsShort, IsShortEvent, IsShortOutput, IsShortBody};
 ghost use Rattle.tp_records.specs.declared.body.Event.{Event};
 ghost use Rattle.tp_records.specs.declared.body.Output.{Output};
 ghost use Rattle.tp_records.specs.declared.body.Body.{Body};
 
 use super::{Body, Event, Output};
-use crate::fields::write_numbered;
+use crate::fields::{write_counted, write_numbered};
 use crate::indication::bytes::{read_indication, write_indication};
 use crate::peer::sized::read_peer_octets;
 use crate::request::bytes::{read_request, write_request};
 use std::alloc::Global;
 use tp_names::{
     Addr, BadBytes, Cursor, NoMemory, Octets, ReadFault, write_addr, write_byte, write_maybe_addr,
-    write_octets, write_outcome, write_short,
+    write_outcome, write_short,
 };
 
 /// Reads a body.
@@ -131,7 +130,6 @@ fn refused(from: &mut Cursor) -> Result<Body, ReadFault>
 
 /// Writes a body.
 pub(crate) fn write_body(alloc: Global, body: &Body, out: &mut Octets) -> Result<(), NoMemory>
-    requires { IsShortBody body.now }
     ensures ok { OnOk result (out.new ≡ out.old ++ body_bytes body.now) }
     ensures err { OnErr result (Keeps out.old out.new) }
 {
@@ -142,7 +140,6 @@ pub(crate) fn write_body(alloc: Global, body: &Body, out: &mut Octets) -> Result
 }
 
 fn write_event(alloc: Global, event: &Event, out: &mut Octets) -> Result<(), NoMemory>
-    requires { IsShortEvent event.now }
     ensures ok { OnOk result (out.new ≡ out.old ++ event_bytes event.now) }
     ensures err { OnErr result (Keeps out.old out.new) }
 {
@@ -167,8 +164,9 @@ fn write_event(alloc: Global, event: &Event, out: &mut Octets) -> Result<(), NoM
     }
 }
 
-fn write_output(alloc: Global, output: &Output, out: &mut Octets) -> Result<(), NoMemory>
-    requires { IsShortOutput output.now }
+/// Puts the text of an output at the end of `out`. Without memory a part of it may be there. Octets that are too many for a
+/// count of two bytes are answered as if there were no memory.
+pub fn write_output(alloc: Global, output: &Output, out: &mut Octets) -> Result<(), NoMemory>
     ensures ok { OnOk result (out.new ≡ out.old ++ output_bytes output.now) }
     ensures err { OnErr result (Keeps out.old out.new) }
 {
@@ -210,12 +208,11 @@ fn write_carried(
     octets: &Octets,
     out: &mut Octets,
 ) -> Result<(), NoMemory>
-    requires { IsShort octets.now }
     ensures ok { OnOk result (out.new ≡ out.old ++ (code ∷ addr_bytes from.now ++ addr_bytes to.now ++ octets_bytes octets.now)) }
     ensures err { OnErr result (Keeps out.old out.new) }
 {
     out.push(alloc, code)?;
     write_addr(alloc, from, out)?;
     write_addr(alloc, to, out)?;
-    write_octets(alloc, octets, out)
+    write_counted(alloc, octets, out)
 }

@@ -1,18 +1,16 @@
 //! The bytes of indications.
-ghost use Rattle.std.specs.Prelude.{◌≡◌, ◌++◌, length, OnOk, OnErr};
+ghost use Rattle.std.specs.Prelude.{◌≡◌, ◌++◌, OnOk, OnErr};
 ghost use Rattle.tp_names.specs.Scanning.{GivesUnlessFull, scan_make, ◌with◌, scan_short, scan_aaid, scan_report, scan_octets};
 ghost use Rattle.tp_names.specs.Writing.{Keeps};
 ghost use Rattle.tp_records.specs.Bodies.{indication_bytes};
 ghost use Rattle.tp_records.specs.BodyScanning.{scan_units, scan_indication};
-ghost use Rattle.tp_records.specs.Octets.{IsShortIndication};
 ghost use Rattle.tp_records.specs.declared.indication.Indication.{Indication};
 
 use super::Indication;
-use crate::fields::{read_units, write_numbered};
+use crate::fields::{read_units, write_counted, write_numbered};
 use std::alloc::Global;
 use tp_names::{
-    BadBytes, Cursor, NoMemory, Octets, ReadFault, write_aaid, write_byte, write_octets,
-    write_report,
+    BadBytes, Cursor, NoMemory, Octets, ReadFault, write_aaid, write_byte, write_report,
 };
 
 /// Reads an indication.
@@ -128,7 +126,6 @@ pub(crate) fn write_indication(
     indication: &Indication,
     out: &mut Octets,
 ) -> Result<(), NoMemory>
-    requires { IsShortIndication indication.now }
     ensures ok { OnOk result (out.new ≡ out.old ++ indication_bytes indication.now) }
     ensures err { OnErr result (Keeps out.old out.new) }
 {
@@ -145,7 +142,7 @@ pub(crate) fn write_indication(
         Indication::EndDialogue { peer } => write_numbered(alloc, 4, *peer, out),
         Indication::UserData { peer, octets } => {
             write_numbered(alloc, 5, *peer, out)?;
-            write_octets(alloc, octets, out)
+            write_counted(alloc, octets, out)
         }
         Indication::UError { peer } => write_numbered(alloc, 6, *peer, out),
         Indication::UAbort { peer } => write_numbered(alloc, 7, *peer, out),

@@ -1,18 +1,15 @@
 //! The bytes of requests.
-ghost use Rattle.std.specs.Prelude.{◌≡◌, ◌++◌, ◌<◌, ◌^◌, length, OnOk, OnErr};
+ghost use Rattle.std.specs.Prelude.{◌≡◌, ◌++◌, OnOk, OnErr};
 ghost use Rattle.tp_names.specs.Scanning.{GivesUnlessFull, scan_make, ◌with◌, scan_byte, scan_short, scan_addr, scan_octets};
 ghost use Rattle.tp_names.specs.Writing.{Keeps};
 ghost use Rattle.tp_records.specs.Bodies.{request_bytes};
 ghost use Rattle.tp_records.specs.BodyScanning.{scan_request};
-ghost use Rattle.tp_records.specs.Octets.{IsShortRequest};
 ghost use Rattle.tp_records.specs.declared.request.Request.{Request};
 
 use super::Request;
-use crate::fields::write_numbered;
+use crate::fields::{write_counted, write_numbered};
 use std::alloc::Global;
-use tp_names::{
-    BadBytes, Cursor, NoMemory, Octets, ReadFault, write_addr, write_byte, write_octets,
-};
+use tp_names::{BadBytes, Cursor, NoMemory, Octets, ReadFault, write_addr, write_byte};
 
 /// Reads a request.
 #[tactic(auto, unfolding(crate::specs::BodyScanning::scan_request))]
@@ -93,7 +90,6 @@ pub(crate) fn write_request(
     request: &Request,
     out: &mut Octets,
 ) -> Result<(), NoMemory>
-    requires { IsShortRequest request.now }
     ensures ok { OnOk result (out.new ≡ out.old ++ request_bytes request.now) }
     ensures err { OnErr result (Keeps out.old out.new) }
 {
@@ -111,7 +107,7 @@ pub(crate) fn write_request(
         Request::EndDialogue { peer } => write_numbered(alloc, 4, *peer, out),
         Request::UserData { peer, octets } => {
             write_numbered(alloc, 5, *peer, out)?;
-            write_octets(alloc, octets, out)
+            write_counted(alloc, octets, out)
         }
         Request::UError { peer } => write_numbered(alloc, 6, *peer, out),
         Request::UAbort { peer } => write_numbered(alloc, 7, *peer, out),

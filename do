@@ -1,0 +1,147 @@
+#!/usr/bin/env python3
+"""What is done every day, each in one word.
+
+./do quick              lays out, checks what changed and what stands on it, docs/check and the examples, in five minutes
+./do above CRATE        the crates that stand on CRATE, lowest first
+./do replay SCHEDULE    plays a schedule; ./do draw TRANSCRIPT draws one
+./do bench [..]         bench/run; ./do trials NAME [..] is trials/run
+./do gate               rt ci, with the processor seconds of each crate, and a fault above the budget
+"""
+import collections
+import os
+import pathlib
+import re
+import subprocess
+import sys
+import threading
+import time
+
+TOP = pathlib.Path(__file__).resolve().parent
+MINUTES = 5
+BUDGET = 11_000
+TICKS = os.sysconf("SC_CLK_TCK")
+# Lines that callers read: a change of one has the crates above checked too.
+CONTRACT = re.compile(r"\b(pub|ensures|requires|ghost|struct|enum|trait|impl)\b")
+
+
+def crates() -> dict[str, list[str]]:
+    """Each crate, lowest first, and what it stands on."""
+    lines = [it for it in (TOP / "crates.txt").read_text().splitlines() if it and not it.startswith("#")]
+    named = {it.split(":")[0].split()[0]: it.split(":")[1].split() for it in lines}
+    return {name: [it for it in below if it in named] for name, below in named.items()}
+
+
+def above(crate: str) -> list[str]:
+    """The crates that stand on one, lowest first."""
+    found = {crate}
+    for name, below in crates().items():
+        if found & set(below):
+            found.add(name)
+    return [it for it in crates() if it in found - {crate}]
+
+
+def git(*words: str) -> str:
+    return subprocess.run(["git", *words], cwd=TOP, stdout=subprocess.PIPE, text=True, check=True).stdout
+
+
+def changed() -> tuple[set[str], set[str]]:
+    """The crates that differ from the main branch, and those of them whose contracts or definitions do."""
+    base = git("merge-base", "HEAD", "origin/main").strip() if "origin/main" in git("branch", "-a") else "HEAD"
+    all_of_them, contracts = set(), set()
+    crate, is_spec = "", False
+    for line in git("diff", "--unified=0", base, "--", "crates").splitlines() + [f"+++ b/{it}" for it in git("ls-files", "-o", "--exclude-standard", "crates").split()]:
+        file = re.match(r"\+\+\+ (?:b/)?crates/(\w+)/(\w+)/", line)
+        if file:
+            crate, is_spec = file[1], file[2] == "specs"
+            all_of_them.add(crate)
+        if crate and line[:1] in "+-" and (is_spec or (not line.startswith(("+++", "---")) and CONTRACT.search(line))):
+            contracts.add(crate)
+    return all_of_them, contracts
+
+
+def quick() -> int:
+    until = time.monotonic() + 60 * MINUTES
+    touched, contracts = changed()
+    wanted = touched | {it for name in contracts for it in crates() if name in crates()[it]}
+    failed: list[str] = []
+    for crate in [it for it in crates() if it in wanted]:
+        if time.monotonic() > until:
+            print(f"do: no time for {crate}")
+            continue
+        folder = TOP / "crates" / crate
+        if crate in touched:
+            subprocess.run(["rt", "fmt"], cwd=folder, check=False)
+        ran = subprocess.run(["rt", "check"], cwd=folder, stdout=subprocess.PIPE, stderr=subprocess.STDOUT, text=True, timeout=3600)
+        print(f"do: {crate} {'is proved' if ran.returncode == 0 else 'is NOT proved'}", flush=True)
+        if ran.returncode:
+            failed.append(crate)
+            print(ran.stdout[-4000:])
+    if subprocess.run([TOP / "docs" / "check"]).returncode:
+        failed.append("docs/check")
+    failed += examples()
+    print("do: nothing found" if not failed else f"do: {', '.join(failed)}")
+    return 1 if failed else 0
+
+
+def examples() -> list[str]:
+    """The examples whose transcript is not the one that stands beside them."""
+    failed = []
+    for schedule in sorted((TOP / "examples").glob("*.schedule")):
+        ran = subprocess.run([TOP / "replay", schedule], stdout=subprocess.PIPE, stderr=subprocess.PIPE)
+        if ran.stdout != schedule.with_suffix(".transcript").read_bytes():
+            failed.append(schedule.name)
+    return failed
+
+
+def used(process: str) -> float:
+    """The processor seconds of a process and of those below it that have ended."""
+    with open(f"/proc/{process}/stat", encoding="ascii", errors="replace") as it:
+        return sum(int(word) for word in it.read().rpartition(")")[2].split()[11:15]) / TICKS
+
+
+def watch(over: threading.Event, spent: dict[tuple[str, str], float]) -> None:
+    """Notes what each process of the checker has used, by its number and its crate, until the gate is over."""
+    while not over.wait(0.5):
+        for process in filter(str.isdigit, os.listdir("/proc")):
+            try:
+                words = pathlib.Path(f"/proc/{process}/cmdline").read_bytes().split(b"\0")
+                if words[0].endswith(b"/rattle") and b"--crate-name" in words:
+                    crate = words[words.index(b"--crate-name") + 1].decode()
+                    spent[process, crate] = max(spent[process, crate], used(process))
+            except (OSError, ValueError):
+                pass
+
+
+def gate() -> int:
+    over, spent = threading.Event(), collections.defaultdict[tuple[str, str], float](float)
+    watcher = threading.Thread(target=watch, args=(over, spent))
+    watcher.start()
+    status = subprocess.run(["rt", "ci"], cwd=TOP).returncode
+    over.set()
+    watcher.join()
+    by_crate = collections.Counter[str]()
+    for (_, crate), seconds in spent.items():
+        by_crate[crate] += round(seconds)
+    for crate, total in by_crate.most_common():
+        print(f"{crate:20} {total:7}")
+    print(f"{'all':20} {by_crate.total():7} processor seconds of {BUDGET}")
+    return status or int(by_crate.total() > BUDGET)
+
+
+def main(words: list[str]) -> int:
+    tools = {"replay": TOP / "replay", "draw": TOP / "draw", "bench": TOP / "bench" / "run", "trials": TOP / "trials" / "run"}
+    if words == ["quick"]:
+        return quick()
+    if words == ["gate"]:
+        return gate()
+    if len(words) == 2 and words[0] == "above" and words[1] in crates():
+        print("\n".join(above(words[1])))
+        return 0
+    if words and words[0] in tools:
+        return subprocess.run([tools[words[0]], *words[1:]]).returncode
+    print(__doc__, end="", file=sys.stderr)
+    return 2
+
+
+if __name__ == "__main__":
+    sys.exit(main(sys.argv[1:]))

@@ -1,0 +1,342 @@
+"""What stands around a program: other processes on its file, files that may not be written, streams that fail, a full disk.
+
+trials/run edges [--program CMD] [--drive CMD] [--draw CMD] [--short]
+
+- While a site works on its log, each command that would change the log ends with 8, says why, and changes no byte; `show` and `check`
+  read the log as it is and leave it alone. The site goes on, and each record that it answered stands.
+- Where there is no log or no store no command makes one, but `format`, and `replay` where the store is member 3.
+- A log that may not be written is read as well: as a file, in a folder, under a mount that is read-only; also one whose compaction was
+  cut, which is left as it is.
+- A run ends with its own status where standard error is closed, full, or has no reader. Where the disk, standard input or standard output
+  failed, a second line says which call and why.
+- A compaction that finds no room leaves the log as long as it was.
+- What is asked about the program is answered on standard output, and wrong words are named.
+
+What wants to be root, and is not, is named and left out.
+"""
+import argparse
+import os
+import pathlib
+import shutil
+import subprocess
+import sys
+import tempfile
+import typing
+
+import bound
+import preload
+import streams
+import tools
+import wire
+
+OVER = b"\x13"
+NOBODY = 65534
+BUSY = b"tp.log: lock: another process works on it\n"
+SITE = ["node", "--name", "b"]
+CHANGING = [SITE, ["tx"], ["drive", "--name", "b"], ["compact"], ["migrate"], ["format"]]
+READING = [["show"], ["check"]]
+TRANSACTIONS = 20
+
+
+def records_of(shown: bytes) -> typing.List[bytes]:
+    """The records that `show` writes, without their places."""
+    return [line.split(b" ", 1)[1] for line in shown.splitlines()]
+
+
+class Site:
+    """A running site, whose answers are waited for."""
+
+    def __init__(self, command: typing.List[str], folder: pathlib.Path):
+        self.process = subprocess.Popen(command, cwd=folder, bufsize=0, stdin=subprocess.PIPE, stdout=subprocess.PIPE, stderr=subprocess.PIPE)
+
+    def feed(self, bodies: typing.List[bytes]) -> None:
+        self.process.stdin.write(b"".join(wire.frame(body) for body in bodies))
+        waiting, said = len(bodies), b""
+        while waiting > 0:
+            piece = self.process.stdout.read(65536)
+            if not piece:
+                raise RuntimeError("a site ended: %r" % self.process.stderr.read())
+            said += piece
+            found, taken = wire.frames_in(said)
+            waiting, said = waiting - found.count(OVER), said[taken:]
+
+    def end(self) -> int:
+        self.process.stdin.close()
+        return self.process.wait()
+
+
+class Edges:
+    def __init__(self, options: argparse.Namespace, folder: str):
+        self.options, self.folder = options, pathlib.Path(folder)
+        names = ["runs", "beside a site", "without a file", "not to be written", "broken standard errors", "causes", "full disks", "words"]
+        self.counts = dict.fromkeys(names, 0)
+        self.faults: typing.List[str] = []
+        self.left_out: typing.List[str] = []
+        self.places = 0
+
+    def fault(self, text: str) -> None:
+        self.faults.append(text)
+        if len(self.faults) < 100:
+            print("  " + text, flush=True)
+
+    def expect(self, what: str, found: object, due: object) -> None:
+        if found != due:
+            self.fault("%s: %r, and not %r" % (what, found, due))
+
+    def place(self) -> pathlib.Path:
+        """An empty folder."""
+        self.places += 1
+        path = self.folder / str(self.places)
+        path.mkdir()
+        return path
+
+    def command(self, words: typing.List[str]) -> typing.List[str]:
+        return tools.command_of(self.options, words)
+
+    def run(self, words: typing.List[str], folder: pathlib.Path, given: bytes = b"", **more: typing.Any) -> subprocess.CompletedProcess:
+        self.counts["runs"] += 1
+        streams_of = {"stdout": subprocess.PIPE, "stderr": subprocess.PIPE, **more}
+        return subprocess.run(self.command(words), cwd=folder, input=given, **streams_of)
+
+    def changing(self) -> typing.List[typing.List[str]]:
+        return [words for words in CHANGING if words[0] != "drive" or self.options.drive]
+
+    # Other processes on the file.
+
+    def beside_a_site(self) -> None:
+        for words in self.changing() + READING:
+            folder = self.place()
+            log = folder / "tp.log"
+            log.write_bytes(wire.FRESH)
+            events = streams.subordinate(TRANSACTIONS)
+            half = len(events) // 2
+            site = Site(self.command(SITE), folder)
+            site.feed(events[:half])
+            before = log.read_bytes()
+            run = self.run(words, folder)
+            self.counts["beside a site"] += 1
+            name = "%s beside a site" % words[0]
+            if words in READING:
+                self.expect(name, (run.returncode, run.stderr), (0, b""))
+            else:
+                self.expect(name, (run.returncode, run.stderr.split(b"\n", 1)[1]), (8, BUSY))
+            if words == ["show"]:
+                copy = self.place()
+                (copy / "tp.log").write_bytes(before)
+                self.expect(name + ", records", records_of(run.stdout), self.shown(copy))
+            self.expect(name + ", the log", log.read_bytes(), before)
+            site.feed(events[half:])
+            self.expect(name + ", the site", site.end(), 0)
+            self.expect(name + ", records at the end", len(self.shown(folder)), 3 * TRANSACTIONS + 1)
+
+    def shown(self, folder: pathlib.Path) -> typing.List[bytes]:
+        run = self.run(["show"], folder)
+        self.expect("show", (run.returncode, run.stderr), (0, b""))
+        return records_of(run.stdout)
+
+    # Files that are not there, or may not be written.
+
+    def without_a_file(self) -> None:
+        plain = (tools.ROOT / "examples" / "plain-commit.schedule").read_bytes()
+        runs = [(words, 5) for words in self.changing() + READING + [["keys"]] if words != ["format"]]
+        runs += [(["audit"], 0), (["make"], 0), (["trial"], 0), (["replay"], 0)]
+        for words, status in runs:
+            folder = self.place()
+            run = self.run(words, folder, plain if words == ["replay"] else b"")
+            self.counts["without a file"] += 1
+            self.expect("%s without a file" % words[0], (run.returncode, sorted(os.listdir(folder))), (status, []))
+        folder = self.place()
+        given = bound.schedule((True, False))
+        run = self.run(["replay"], folder, given)
+        self.expect("replay that names member 3", (run.returncode, os.listdir(folder)), (0, ["bound.log"]))
+        self.expect("keys after it", self.run(["keys"], folder).returncode, 0)
+        again = self.place()
+        (again / "bound.log").write_bytes(wire.FRESH_STORE)
+        self.expect("the transcript", self.run(["replay"], again, given).stdout, run.stdout)
+        self.expect("the store", (again / "bound.log").read_bytes(), (folder / "bound.log").read_bytes())
+        folder = self.place()
+        self.expect("format", self.run(["format"], folder).returncode, 0)
+        self.expect("what format made", (folder / "tp.log").read_bytes(), wire.FRESH)
+
+    def not_to_be_written(self) -> None:
+        whole = wire.log_of([b"\x01" + (1).to_bytes(8, "big")])
+        # A compaction that was cut: the list begins at the place that the last eight bytes say.
+        cut = whole[:4] + b"\x02" + whole[5:] + whole[5:] + len(whole).to_bytes(8, "big")
+        for log in (whole, cut):
+            folder = self.place()
+            path = folder / "tp.log"
+            path.write_bytes(log)
+            path.chmod(0o444)
+            folder.chmod(0o555)
+            self.read_only(folder, log, {"preexec_fn": become_nobody} if os.geteuid() == 0 else {}, "a read-only file")
+            folder.chmod(0o755)
+            if os.geteuid() == 0 and shutil.which("mount"):
+                folder = self.place()
+                subprocess.run(["mount", "-t", "tmpfs", "-o", "size=64k", "tmpfs", folder], check=True)
+                try:
+                    (folder / "tp.log").write_bytes(log)
+                    subprocess.run(["mount", "-o", "remount,ro", folder], check=True)
+                    self.read_only(folder, log, {}, "a read-only mount")
+                finally:
+                    subprocess.run(["umount", folder], check=True)
+            elif "a read-only mount" not in self.left_out:
+                self.left_out.append("a read-only mount")
+
+    def read_only(self, folder: pathlib.Path, log: bytes, more: typing.Dict[str, typing.Any], name: str) -> None:
+        for words in READING:
+            run = self.run(words, folder, **more)
+            self.counts["not to be written"] += 1
+            shown = b"10 boot 1\n" if words == ["show"] else b""
+            self.expect("%s of %s" % (words[0], name), (run.returncode, run.stdout, run.stderr), (0, shown, b""))
+        for words in self.changing():
+            run = self.run(words, folder, **more)
+            self.counts["not to be written"] += 1
+            self.expect("%s of %s" % (words[0], name), (run.returncode, run.stderr.split(b"\n")[1][:14]), (8, b"tp.log: open: "))
+        self.expect(name, (folder / "tp.log").read_bytes(), log)
+
+    # Statuses, and what is said of them.
+
+    def broken_standard_error(self) -> None:
+        folder = self.place()
+        (folder / "tp.log").write_bytes(b"x")
+        other = self.place()
+        (other / "tp.log").mkdir()
+        cases = [(words, b"", folder, 5) for words in CHANGING[:2] + READING + [["compact"]]]
+        cases += [(["zzz"], b"", folder, 2), (["audit"], b"\x00\x00", folder, 3), (["node"], b"", other, 8)]
+        cases += [(["draw"], b"zzz\n", folder, 3), (["draw", "--zzz"], b"", folder, 2)] if self.options.draw else []
+        cases += [(["drive", "--workers", "99"], b"", folder, 2)] if self.options.drive else []
+        for words, given, where, status in cases:
+            for kind in ("as it is", "full", "closed", "without a reader"):
+                run = self.with_error(kind, words, where, given)
+                self.counts["broken standard errors"] += 1
+                self.expect("%s, standard error %s" % (words, kind), run.returncode, status)
+
+    def with_error(self, kind: str, words: typing.List[str], folder: pathlib.Path, given: bytes) -> subprocess.CompletedProcess:
+        if kind == "as it is":
+            return self.run(words, folder, given)
+        if kind == "closed":
+            return self.run(words, folder, given, stderr=None, preexec_fn=lambda: os.close(2))
+        if kind == "full":
+            with open("/dev/full", "wb") as full:
+                return self.run(words, folder, given, stderr=full)
+        reader, writer = os.pipe()
+        os.close(reader)
+        try:
+            return self.run(words, folder, given, stderr=writer)
+        finally:
+            os.close(writer)
+
+    def causes(self) -> None:
+        folder = self.place()
+        (folder / "tp.log").write_bytes(wire.log_of([b"\x01" + (1).to_bytes(8, "big")]))
+        with open("/dev/full", "wb") as full:
+            run = self.run(["show"], folder, stdout=full)
+        self.said(run, 7, b"write fault", b"standard output: write: No space left on device")
+        descriptor = os.open(folder, os.O_RDONLY)
+        run = subprocess.run(self.command(["audit"]), stdin=descriptor, capture_output=True)
+        os.close(descriptor)
+        self.said(run, 6, b"read fault", b"standard input: read: Is a directory")
+        other = self.place()
+        (other / "tp.log").mkdir()
+        self.said(self.run(["node"], other), 8, b"disk fault", b"tp.log: open: Is a directory")
+        library = preload.Library(self.folder)
+        for kind, call in (("statx", b"length"), ("pread", b"read"), ("pwrite", b"write"), ("fsync", b"sync")):
+            run = library.run(self.command(SITE), b"", wire.FRESH, fail="%s 1 none" % kind)
+            self.counts["causes"] += 1
+            lines = run.err.split(b"\n")
+            self.expect("a failing " + kind, (run.status, lines[1].split(b": ")[:2]), (8, [b"tp.log", call]))
+        library.end()
+
+    def said(self, run: subprocess.CompletedProcess, status: int, first: bytes, second: bytes) -> None:
+        self.counts["causes"] += 1
+        lines = run.stderr.split(b"\n")
+        found = run.returncode, lines[0].split(b": ", 1)[1], lines[1][: len(second)]
+        self.expect("%r" % second, found, (status, first, second))
+
+    # A full disk.
+
+    def full_disks(self) -> None:
+        kept = [b"\x01" + (1).to_bytes(8, "big")]
+        branch = wire.address("b", 7)
+        for k in range(300):
+            tree = b"\x01a" + wire.mark(1, 1, 2 * k + 2)
+            child = branch + b"\x01a" + wire.mark(1, 1, 2 * k + 3)
+            kept += [b"\x04\x00\x01" + tree + b"\x00\x00\x01" + child, b"\x05\x00\x01" + tree + b"\x00\x01\x02\x00\x01" + child]
+        log = wire.log_of(kept)
+        if os.geteuid() or not shutil.which("mount"):
+            self.left_out.append("a full disk")
+            return
+        folder = self.place()
+        subprocess.run(["mount", "-t", "tmpfs", "-o", "size=160k", "tmpfs", folder], check=True)
+        try:
+            for words in (["compact"], ["migrate"]):
+                for free in range(0, 72, 24 if self.options.short else 4):
+                    self.full_disk(words, folder, log, free * 1024)
+        finally:
+            subprocess.run(["umount", folder], check=True)
+
+    def full_disk(self, words: typing.List[str], folder: pathlib.Path, log: bytes, free: int) -> None:
+        path, ballast = folder / "tp.log", folder / "ballast"
+        path.write_bytes(log)
+        room = os.statvfs(folder).f_bavail * os.statvfs(folder).f_frsize
+        ballast.write_bytes(bytes(max(0, room - free)))
+        run = self.run(words, folder)
+        self.counts["full disks"] += 1
+        name = "%s with %d bytes free" % (words[0], free)
+        if run.returncode:
+            self.expect(name, (run.returncode, run.stderr.split(b"\n")[1][:43]), (8, b"tp.log: write: No space left on device (os "))
+            self.expect(name + ", the log", path.read_bytes(), log)
+        ballast.unlink()
+        self.expect(name + ", records", len(self.shown(folder)), 601)
+        path.unlink()
+
+    # What is asked about the program.
+
+    def words(self) -> None:
+        folder = self.place()
+        for words in (["--help"], ["-h"], ["node", "--help"], ["--version"], ["-V"]):
+            run = self.run(words, folder)
+            self.counts["words"] += 1
+            begins = b"usage: tpnode" if "h" in words[-1] else b"tpnode "
+            self.expect("%s" % words, (run.returncode, run.stdout.startswith(begins), run.stderr), (0, True, b""))
+        wrong = {b"'nod'": ["nod"], b"'--nmae'": ["node", "--nmae", "x"], b"'1'": ["make", "--nodes", "1"], b"'A'": ["node", "--name", "A"]}
+        for named, words in wrong.items():
+            run = self.run(words, folder)
+            self.counts["words"] += 1
+            lines = run.stderr.split(b"\n")
+            self.expect("%s" % words, (run.returncode, lines[0], named in lines[1]), (2, b"tpnode: usage", True))
+
+
+def become_nobody() -> None:
+    os.setgroups([])
+    os.setgid(NOBODY)
+    os.setuid(NOBODY)
+
+
+def main() -> None:
+    parser = argparse.ArgumentParser(prog="trials/run edges")
+    tools.add_program(parser, workers=True)
+    tools.add_draw(parser)
+    parser.add_argument("--short", action="store_true")
+    options = parser.parse_args()
+    tools.set_program(options, workers=True)
+    tools.set_draw(options)
+    folder = tempfile.mkdtemp(prefix="edges-")
+    os.chmod(folder, 0o755)
+    trial = Edges(options, folder)
+    trial.beside_a_site()
+    trial.without_a_file()
+    trial.not_to_be_written()
+    trial.broken_standard_error()
+    trial.causes()
+    trial.full_disks()
+    trial.words()
+    shutil.rmtree(folder)
+    for name in trial.left_out:
+        print("%s is left out: it wants to be root" % name)
+    print("edges: %d faults, %s" % (len(trial.faults), tools.counted(trial.counts)))
+    sys.exit(1 if trial.faults else 0)
+
+
+if __name__ == "__main__":
+    main()
