@@ -62,7 +62,7 @@ tree_in w t = tree_among w.nodes t
 
 -- ---- every run refines the page
 
--- whatever happens is steps of the page in every tree: mostly none or one, and as many as nodes where a site stops
+-- whatever happens is steps of the page in every tree, or none: where a site stops, a step for each of its nodes that was active
 abbrev pub RunsRefine : Type 0
 RunsRefine = (e : Happening) (es : List Happening) (t : Aaid) → Walks (tree_in (run es) t) (tree_in (run (e ∷ es)) t)
 

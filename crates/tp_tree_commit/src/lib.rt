@@ -27,7 +27,7 @@ pub fn steps_stay_on_the_page()
 {}
 
 /// A root and its branch may both complete their commitment with no report; and one may be told commit and the other rollback, where the
-/// branch decided on its own: sentence 1 cannot say less.
+/// branch decided on its own: sentence 1 cannot say more.
 pub fn two_nodes_end_together_or_apart()
     ensures together { EndsTogether }
     ensures apart { EndsApart }
