@@ -1,7 +1,7 @@
 """What an application writes against, in asyncio; `ripsaw.plain` has the same without it.
 
     async with Site.connect("bank/site.sock") as bank:
-        async with bank.transaction() as t:
+        async with bank.transaction("shop") as t:
             await t.call("shop", b"reserve 7")
             await bank.execute(t, b"debit anna 10")
 
@@ -157,12 +157,13 @@ class Site:
             raise KINDS.get(said["kind"], Misuse)(said["error"])
         return said
 
-    async def begin(self) -> Transaction:
-        said = await self.ask("begin")
+    async def begin(self, *sites: str) -> Transaction:
+        """At a free root that has a dialogue with each of these sites; one that is not named here may be called, too."""
+        said = await self.ask("begin", sites=list(sites))
         return Transaction(self, said["t"], said["tree"])
 
-    def transaction(self) -> Block:
-        return Block(self)
+    def transaction(self, *sites: str) -> Block:
+        return Block(self, sites)
 
     async def execute(self, transaction: Transaction, data: bytes | str) -> bytes:
         return await transaction.execute(data.encode() if isinstance(data, str) else data)
@@ -180,11 +181,11 @@ class Site:
 class Block:
     """A transaction as an `async with`."""
 
-    def __init__(self, site: Site) -> None:
-        self.site = site
+    def __init__(self, site: Site, sites: tuple[str, ...]) -> None:
+        self.site, self.sites = site, sites
 
     async def __aenter__(self) -> Transaction:
-        self.transaction = await self.site.begin()
+        self.transaction = await self.site.begin(*self.sites)
         return self.transaction
 
     async def __aexit__(self, kind: type[BaseException] | None, error: BaseException | None, trace: TracebackType | None) -> None:

@@ -1,7 +1,7 @@
 """`ripsaw.client` without asyncio: the same names, for one thread at a time.
 
     with Site("bank/site.sock") as bank:
-        with bank.transaction() as t:
+        with bank.transaction("shop") as t:
             t.call("shop", b"reserve 7")
             t.execute(b"debit anna 10")
 """
@@ -59,9 +59,9 @@ class Site:
         return said
 
     @contextlib.contextmanager
-    def transaction(self) -> Iterator[Transaction]:
+    def transaction(self, *sites: str) -> Iterator[Transaction]:
         """Commits at the end of the block, and rolls back where the block raises."""
-        said = self.ask("begin")
+        said = self.ask("begin", sites=list(sites))
         transaction = Transaction(self, said["t"], said["tree"])
         try:
             yield transaction

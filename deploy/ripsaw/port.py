@@ -1,6 +1,6 @@
 """The Unix socket for applications of this site: a request a line and an answer a line, in JSON.
 
-Each request has `id`, which its answer repeats, and `op`; octets are base64 in `data`. What is asked: `begin` gives `t` and `tree`; `call`
+Each request has `id`, which its answer repeats, and `op`; octets are base64 in `data`. What is asked: `begin` (`sites`) gives `t` and `tree`; `call`
 (`t`, `site`, `data`) and `execute` (`t`, `data`) give `data`; `commit` and `rollback` (`t`) give `outcome`, `report` and `complete`;
 `outcome` (`tree`) gives `outcome`; `decide` (`node`, `outcome`), `give-up` (`node`, `peer`) and `purge` (`node`) are the operator's. An
 answer that has `error` says in `kind` which it is. A transaction whose connection ends before it asked for commitment is rolled back.
@@ -73,7 +73,7 @@ class Session:
     async def do(self, request: Answer) -> Answer:
         op, site = request["op"], self.site
         if op == "begin":
-            transaction = await site.begin()
+            transaction = await site.begin(list(request.get("sites", [])))
             self.number += 1
             self.mine[self.number] = transaction
             return {"t": self.number, "tree": str(transaction.tree)}

@@ -2,11 +2,11 @@
 
 Each line is a time in seconds and one of these:
 
-    start NAME BOOT KEPT   a process starts; the log has KEPT records after its last Boot, which this start's Boot follows
-    in BODY                an event was given, as hexadecimal digits
-    out BODY               an output of the oldest event that is not over
-    over                   that event is over
-    end STATUS             the process has ended
+    start NAME BOOT NODE:COUNT ..   a process starts, whose Boot is to be BOOT; after the Boot before it the log has so many records of each node
+    in BODY                         an event was given, as hexadecimal digits
+    out BODY                        an output of the oldest event that is not over
+    over                            that event is over
+    end STATUS                      the process has ended
 """
 from __future__ import annotations
 
@@ -80,7 +80,7 @@ class Run:
     site: str
     time: float
     boot: int
-    kept: int
+    kept: dict[int, int]  # what the start found: records of each node that the run before forced
     steps: list[Step] = field(default_factory=list)
     ended: float = 0.0
 
@@ -109,7 +109,8 @@ def read(folder: Path) -> list[Run]:
         try:
             at, what = float(words[0]), words[1]
             if what == "start":
-                runs.append(Run(words[2], at, int(words[3]), int(words[4])))
+                kept = {int(node): int(count) for node, _, count in (it.partition(":") for it in words[4:])}
+                runs.append(Run(words[2], at, int(words[3]), kept))
                 waiting, outputs = [], []
             elif not runs:
                 continue  # (the file with its start is gone)

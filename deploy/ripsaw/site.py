@@ -137,7 +137,9 @@ class Site:
         if self.settings.record is not None:
             if self.recorder is None:
                 self.recorder = Recorder(self.settings.record, self.settings.name)
-            self.recorder.add("start", self.settings.name, str(self.standing.boot + 1), str(len(self.standing.since_boot)))
+            forced = Counter(it.node for it in self.standing.since_boot)
+            self.recorder.add("start", self.settings.name, str(self.standing.boot + 1), *(f"{node}:{count}" for node, count in forced.items()))
+            self.recorder.flush()
         self.engine = await Engine.start(self.settings.program, self.settings.name, self.settings.folder, lock, self.given, self.written, self.answered)
         self.counts["starts"] += 1
         superiors = self.settings.superiors()
@@ -351,17 +353,20 @@ class Site:
 
     # What an application asks.
 
-    async def begin(self) -> Transaction:
-        """A transaction at a free root; the settings say how long one is waited for."""
+    async def begin(self, sites: list[str]) -> Transaction:
+        """A transaction at a free root that has a dialogue with each of these; the settings say how long one is waited for."""
         end = time.monotonic() + self.settings.patience
+        for name in sites:
+            if not any(name in it.arcs for it in self.roots):
+                raise ValueError(f"no root has a branch at {name}")
         while True:
-            settled = [] if self.draining else [it for it in self.roots if it.settled()]
+            settled = [] if self.draining else [it for it in self.roots if it.settled() and all(it.arcs[name].live for name in sites)]
             found = next((it for it in settled if it.whole()), None) or (settled[0] if settled else None)
             if found is not None and self.engine is not None and not self.engine.ended.done():
                 return found.begin()
             left = end - time.monotonic()
             if left <= 0:
-                raise TimeoutError("no root is free")
+                raise TimeoutError(" ".join(["no root is free", *(["that reaches"] + sites if sites else [])]))
             wait: asyncio.Future[None] = asyncio.get_running_loop().create_future()
             self.waiting.append(wait)
             await asyncio.wait({wait}, timeout=left)

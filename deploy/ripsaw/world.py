@@ -67,10 +67,9 @@ class Place:
         children = Path(f"/proc/{self.process.pid}/task/{self.process.pid}/children").read_text().split()
         return int(children[0]) if children else None
 
-    def stop(self) -> int:
-        """SIGTERM, and the status with which it ends."""
+    def wait(self) -> int:
+        """The status with which it ends after SIGTERM."""
         assert self.process is not None
-        self.process.terminate()
         try:
             return self.process.wait(timeout=30)
         except subprocess.TimeoutExpired:
@@ -171,10 +170,11 @@ class World:
 
     def stop(self) -> list[int]:
         """All at once, as a cluster is stopped."""
-        for place in self.places.values():
-            if place.process is not None:
-                place.process.terminate()
-        return [place.stop() for place in self.places.values() if place.process is not None]
+        running = [it for it in self.places.values() if it.process is not None]
+        for place in running:
+            assert place.process is not None
+            place.process.terminate()
+        return [place.wait() for place in running]
 
     def kill(self) -> None:
         for place in self.places.values():
