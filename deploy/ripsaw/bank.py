@@ -70,6 +70,7 @@ class Bank:
         self.kills = 0
         self.faults: list[str] = []
         self.clusters: dict[str, Any] = {}
+        self.turns = {name: asyncio.Lock() for name in BANKS}  # nobody is killed while it is
         self.ending = False
         self.taken_back = 0
         self.begun = 0.0
@@ -170,24 +171,20 @@ class Bank:
             await it
 
     async def kill_one(self, name: str) -> None:
-        place, draw = self.world.places[name], self.draw.random()
-        if place.process is None:
-            return
-        if name in self.clusters and draw < 0.4:
+        """A database, a process tpnode whose daemon starts it anew, or a daemon with its tpnode."""
+        async with self.turns[name]:
+            place, draw = self.world.places[name], self.draw.random()
             self.kills += 1
-            await asyncio.to_thread(self.clusters[name].stop)
-            await asyncio.to_thread(self.clusters[name].start)
-        elif draw < 0.65 and not self.options.wrong:
-            # (the process tpnode alone: its daemon starts it anew)
-            with suppress(OSError):
-                number = place.tpnode()
-                if number is not None:
+            if name in self.clusters and draw < 0.4:
+                await asyncio.to_thread(self.clusters[name].stop)
+                await asyncio.to_thread(self.clusters[name].start)
+                return
+            number = None if self.options.wrong or draw > 0.65 else place.tpnode()
+            if number is not None:
+                with suppress(ProcessLookupError):
                     kill_process(number, signal.SIGKILL)
-                    self.kills += 1
-        else:
-            self.kills += 1
+                return
             place.kill()
-            place.process = None
             if self.options.wrong and name == BANKS[0]:
                 self.taken_back += take_back(place)
             await asyncio.sleep(self.draw.choice([0, 0.1, 0.5]))

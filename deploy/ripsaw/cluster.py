@@ -48,11 +48,11 @@ class Cluster:
         subprocess.run(command, check=True, stdout=subprocess.DEVNULL, cwd=self.folder)
 
     def start(self) -> None:
-        self.run("pg_ctl", "-D", str(self.folder / "data"), "-w", "-l", str(self.folder / "server.log"), "start")
+        self.run("pg_ctl", "-D", str(self.folder / "data"), "-w", "-t", "120", "-l", str(self.folder / "server.log"), "start")
 
     def stop(self) -> None:
         """At once, as by a loss of power to the processes: what was not synced is not there."""
-        self.run("pg_ctl", "-D", str(self.folder / "data"), "-w", "-m", "immediate", "stop")
+        self.run("pg_ctl", "-D", str(self.folder / "data"), "-w", "-t", "120", "-m", "immediate", "stop")
 
     @property
     def connect(self) -> str:

@@ -25,7 +25,7 @@ from .settings import Settings
 from .status import StatusPage
 
 TICK = 0.05
-LOCK_PATIENCE = 30.0
+LOCK_PATIENCE = float(os.environ.get("RIPSAW_LOCK_SECONDS", "30"))
 FOREIGN, LIMIT = 5, 4  # statuses of tpnode
 T = TypeVar("T")
 

@@ -61,7 +61,8 @@ class StatusPage:
             "events": 0 if engine is None else engine.events, "records": site.forced.now(), "log_bytes": site.log.stat().st_size,
             "starts": site.counts["starts"], "draining": site.draining,
             "commits": site.counts["commits"], "rollbacks": site.counts["rollbacks"],
-            "roots_free": sum(root.free() for root in site.roots), "roots": len(site.roots),
+            "roots": len(site.roots), "roots_free": sum(root.free() for root in site.roots),
+            "roots_whole": sum(root.settled() and root.whole() for root in site.roots),
             "open": [{"node": node.number, "phase": node.phase.value, "tree": str(node.tree), "since": node.since,
                       **({} if isinstance(node, Root) else {"superior": str(getattr(node, "superior"))})}
                      for node in site.nodes.values() if node.phase is not Phase.IDLE],
@@ -96,6 +97,7 @@ class StatusPage:
         put("commits_total", "counter", site.counts["commits"])
         put("rollbacks_total", "counter", site.counts["rollbacks"])
         put("roots_free", "gauge", status["roots_free"])
+        put("roots_whole", "gauge", status["roots_whole"])
         for phase in Phase:
             put("nodes", "gauge", sum(node.phase is phase for node in site.nodes.values()), phase=phase.value)
         put("kept", "gauge", len(status["kept"]))

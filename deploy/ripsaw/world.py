@@ -2,6 +2,7 @@
 from __future__ import annotations
 
 import asyncio
+import json
 import os
 import shutil
 import signal
@@ -62,9 +63,11 @@ class Place:
 
     def tpnode(self) -> int | None:
         """The process tpnode of a daemon that runs."""
-        if self.process is None:
+        assert self.process is not None
+        try:
+            children = Path(f"/proc/{self.process.pid}/task/{self.process.pid}/children").read_text().split()
+        except OSError:
             return None
-        children = Path(f"/proc/{self.process.pid}/task/{self.process.pid}/children").read_text().split()
         return int(children[0]) if children else None
 
     def wait(self) -> int:
@@ -151,14 +154,13 @@ class World:
             place.start()
 
     async def whole(self, patience: float = 30.0) -> None:
-        """Waits until every site reaches every other, and no node has anything open."""
-        import json
+        """Waits until every site reaches every other, each root has its dialogues, and no node has anything open."""
         loop = asyncio.get_running_loop()
         end = loop.time() + patience
         while True:
             try:
                 pages = [json.loads(await it.page("/status")) for it in self.places.values()]
-                if all(not page["open"] and not page["kept"] and page["roots_free"] == page["roots"] and all(it["reached"] for it in page["peers"].values())
+                if all(not page["open"] and not page["kept"] and page["roots_whole"] == page["roots"] and all(it["reached"] for it in page["peers"].values())
                        for page in pages):
                     return
                 left = [f"{page['name']}: {page['open'][:3]} {page['peers']}" for page in pages]
