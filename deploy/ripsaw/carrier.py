@@ -291,6 +291,8 @@ class Carrier:
         except (OSError, TimeoutError, asyncio.IncompleteReadError):
             if peer is None:
                 self.refuse("silent")
+        except asyncio.CancelledError:
+            pass  # (the site stops)
         finally:
             writer.transport.abort()
             if peer is not None and self.incoming.get(peer.name) is writer:

@@ -5,12 +5,12 @@ A record has what went into `tpnode node` and came out, and not what it forced; 
 """
 from __future__ import annotations
 
-from collections.abc import Iterator
+from collections import Counter, defaultdict
 from dataclasses import dataclass
 from pathlib import Path
 
 from . import wire, words
-from .history import Happening, Sites, Start, order
+from .history import Happening, Past, Sites, Start, order
 from .wire import Ask, Identifier, Report, Told
 
 
@@ -88,6 +88,27 @@ class Scribe:
             return f"end {node} {now.key()} rollback"
         return None
 
+    def unread(self, it: Happening) -> list[str]:
+        """The lines of an event that forced a record in which its process was stopped; none where it forces none."""
+        event, node = it.step.event, it.step.event.node
+        now = self.of(node)
+        ask = event.request.kind if isinstance(event, wire.Do) else None
+        what = words.read(event.octets).what if isinstance(event, wire.Arrive) else ""
+        forced = ""
+        if ask is Ask.COMMIT and now.branch is not None:
+            now.ready, forced = True, f"ready {node} {now.key()}"
+        elif now.committed and (ask is Ask.DONE or what.startswith(("done", "rec-reply done"))):
+            forced = f"end {node} {now.key()} commit"
+        elif not now.committed and (now.branch is None and (what in ("ready", "left") or ask is Ask.COMMIT) or
+                                    now.ready and what in ("commit", "rec-commit", "rec-reply commit")):
+            now.committed, forced = True, f"commit {node} {now.key()}"
+        elif now.ready and what in ("rollback", "rec-reply unknown"):
+            forced = f"end {node} {now.key()} rollback"
+        if now.tree is None or not forced:
+            return []
+        took = [f"take {it.taken}"] if isinstance(event, wire.Arrive) else []
+        return [f"> {echo(event)}", *took, f"log {it.site} {forced}", f"stopped {it.site} kept"]
+
 
 def echo(event: wire.Event) -> str:
     """An event as a line of a schedule."""
@@ -108,45 +129,70 @@ def shown(lines: list[str]) -> bool:
     """A picture leaves out what only opens dialogues, what was refused, and what changed nothing that can be seen."""
     said = [it.split() for it in lines[1:] if not it.startswith("take")]
     if not said:
-        return lines[0].startswith("> do")
+        return bool(lines) and lines[0].startswith(("> do", "log"))
     return not all(it[0] in ("refused", "dropped") or it[0] == "send" and it[4] in ("open", "accept", "shut") or
                    it[0] == "tell" and it[2] in ("begin-dialogue", "begun-dialogue", "rejected") for it in said)
 
 
-def blocks(sites: Sites, nodes: set[int], scribe: Scribe) -> Iterator[tuple[Start | Happening, list[str]]]:
-    for it in order(sites, nodes):
+@dataclass
+class Block:
+    """A happening, its lines, and the tree that its node then has."""
+
+    past: Past
+    lines: list[str]
+    tree: str = ""
+
+    @property
+    def node(self) -> int:
+        return 0 if isinstance(self.past, Start) else self.past.step.event.node
+
+
+def blocks(sites: Sites, nodes: set[int]) -> list[Block]:
+    """All of it. An event whose answer nobody read is there where the next start found the record that it forced."""
+    scribe = Scribe()
+    out: list[Block] = []
+    unread: dict[str, list[Block]] = defaultdict(list)
+    forced: dict[str, Counter[int]] = defaultdict(Counter)
+    for it in order(sites, nodes, unanswered=True):
         if isinstance(it, Start):
-            yield it, ([f"> crash {it.site}"] if it.run.boot > 1 else []) + [f"log {it.site} boot {it.run.boot}"]
-        elif not isinstance(it.step.event, wire.Declare):
-            yield it, scribe.lines(it)
+            for block in unread.pop(it.site, []):
+                if it.run.kept.get(block.node, 0) > forced[it.site][block.node] and isinstance(block.past, Happening):
+                    block.lines = scribe.unread(block.past)
+                    block.tree = str(scribe.of(block.node).tree)
+                    forced[it.site][block.node] += bool(block.lines)
+            forced[it.site].clear()
+            out.append(Block(it, ([f"> crash {it.site}"] if it.run.boot > 1 else []) + [f"log {it.site} boot {it.run.boot}"]))
+        elif isinstance(it.step.event, wire.Declare):
+            continue
+        elif it.step.outputs is None:
+            out.append(Block(it, []))
+            unread[it.site].append(out[-1])
+        else:
+            lines = scribe.lines(it)
+            forced[it.site][it.step.event.node] += any(line.startswith("log ") for line in lines)
+            out.append(Block(it, lines, str(scribe.of(it.step.event.node).tree)))
+    return out
 
 
 def transcript(folders: list[Path], tree: str | None = None) -> str:
     """Of everything that the records have, or of one tree: from its begin to the next of its root."""
     sites = Sites.read(folders)
+    took, kept = set(sites.places), []
     if tree is None:
-        nodes = set(sites.places)
-        every = [line for _, lines in blocks(sites, nodes, Scribe()) if shown(lines) for line in lines]
-        return "\n".join(declared(sites, nodes) + every) + "\n"
-    root, scribe = Identifier.of(tree).node, Scribe()
-    if root not in sites.places:
-        raise ValueError(f"no record has the root of {tree}")
-    out: list[tuple[Start | Happening, list[str]]] = []
-    group, within, took = sites.group(root), False, {root}
-    for it, lines in blocks(sites, group, scribe):
-        current = scribe.of(root).tree
-        if isinstance(it, Happening) and it.step.event.node == root and current is not None and str(current) == tree:
-            within = True
-        elif within and current is not None and str(current) != tree:
-            break
-        if within and shown(lines):
-            out.append((it, lines))
-        took |= {node for node in group if (mine := scribe.of(node).tree) is not None and str(mine) == tree}
-    if not out:
-        raise ValueError(f"no record has {tree}")
-    there = {sites.places[node] for node in took}
-    kept = [lines for it, lines in out if (it.site in there if isinstance(it, Start) else it.step.event.node in took)]
-    return "\n".join(declared(sites, took) + [line for lines in kept for line in lines]) + "\n"
+        kept = blocks(sites, took)
+    else:
+        root = Identifier.of(tree).node
+        if root not in sites.places:
+            raise ValueError(f"no record has the root of {tree}")
+        every = blocks(sites, sites.group(root))
+        took = {it.node for it in every if it.tree == tree}
+        begun = next((k for k, it in enumerate(every) if it.node == root and it.tree == tree), None)
+        if begun is None:
+            raise ValueError(f"no record has {tree}")
+        over = next((k for k, it in enumerate(every) if k > begun and it.node == root and it.lines and it.tree != tree), len(every))
+        there = {sites.places[it] for it in took}
+        kept = [it for it in every[begun:over] if (it.past.site in there if isinstance(it.past, Start) else it.node in took)]
+    return "\n".join(declared(sites, took) + [line for it in kept if shown(it.lines) for line in it.lines]) + "\n"
 
 
 def declared(sites: Sites, nodes: set[int]) -> list[str]:

@@ -22,7 +22,8 @@ class Engine(asyncio.SubprocessProtocol):
         self.given, self.written, self.answered = given, written, answered
         self.waiting: deque[tuple[wire.Event, Then]] = deque()
         self.events = 0
-        self.frames, self.outputs = wire.Frames(), [cast(wire.Output, wire.OVER)][:0]
+        self.frames = wire.Frames()
+        self.outputs: list[wire.Output] = []
         self.unwritten: list[bytes] = []
         self.said = b""
         self.transport: asyncio.SubprocessTransport | None = None

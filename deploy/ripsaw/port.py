@@ -46,6 +46,8 @@ class Session:
                 task.add_done_callback(self.tasks.discard)
         except (ValueError, OSError):
             self.site.counts["bad requests"] += 1
+        except asyncio.CancelledError:
+            pass  # (the site stops)
         finally:
             for transaction in self.mine.values():
                 if not transaction.asked:

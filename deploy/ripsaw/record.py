@@ -26,7 +26,8 @@ class Recorder:
 
     def __init__(self, folder: Path, name: str) -> None:
         folder.mkdir(exist_ok=True)
-        self.folder, self.name, self.lines, self.size = folder, name, [b""][:0], 0
+        self.folder, self.name, self.size = folder, name, 0
+        self.lines: list[bytes] = []
         numbers = [int(it.stem.rpartition("-")[2]) for it in folder.glob(f"{name}-*.record")]
         self.number = max(numbers, default=0)
         self.file: BinaryIO | None = None

@@ -50,6 +50,8 @@ class StatusPage:
                 await writer.wait_closed()
         except (OSError, TimeoutError, asyncio.IncompleteReadError, asyncio.LimitOverrunError):
             self.site.carrier.refuse("no request on the status page")
+        except asyncio.CancelledError:
+            pass  # (the site stops)
         finally:
             self.at_once -= 1
             writer.transport.abort()
