@@ -28,6 +28,7 @@ from .world import Place, World
 
 BANKS = ["north", "south", "west"]
 ACCOUNTS, BALANCE = 40, 1000
+MOST_TRIED = 12  # transfers of which a picture is looked for
 CALLS = {
     "debit": ["update account set balance = balance - cast(?2 as integer) where name = ?1 and balance >= cast(?2 as integer)",
               "insert into transfer values (?3, - cast(?2 as integer))"],
@@ -280,18 +281,22 @@ def take_back(place: Place) -> int:
 
 
 def picture(bank: Bank) -> str:
-    """Draws the last transfer that saw a kill; the path of it, or why there is none."""
-    saw = [it for it in bank.transfers if it.saw_kill and it.told == "committed"] or [it for it in bank.transfers if it.saw_kill]
-    if not saw:
-        return "no transfer was under way at a kill"
-    place = bank.options.pictures / f"bank-{saw[-1].tree}.svg"
+    """Draws the last transfer that was under way at a kill and went on after it; the path of it, or why there is none."""
+    folders = [it.folder / "record" for it in bank.world.places.values()]
     try:
-        transcript = draw.transcript([it.folder / "record" for it in bank.world.places.values()], saw[-1].tree)
-        with open(place, "wb") as file:
-            subprocess.run([bank.options.draw], input=transcript.encode(), stdout=file, check=True)
+        for transfer in [it for it in bank.transfers if it.saw_kill][:-MOST_TRIED:-1]:
+            try:
+                transcript = draw.transcript(folders, transfer.tree)
+            except draw.NoSuchTree:
+                continue  # (it was stopped before its first branch)
+            if "> crash" in transcript:
+                place = bank.options.pictures / f"bank-{transfer.tree}.svg"
+                with open(place, "wb") as file:
+                    subprocess.run([bank.options.draw], input=transcript.encode(), stdout=file, check=True)
+                return f"{place} ({transfer.told}; {transfer.saw_kill})"
     except (OSError, ValueError, subprocess.CalledProcessError) as error:
         return f"could not be drawn: {error}"
-    return f"{place} ({saw[-1].saw_kill})"
+    return "no transfer was under way at a kill and went on after it"
 
 
 def tell(bank: Bank, total: int, audit: tuple[int, str]) -> None:

@@ -14,6 +14,10 @@ from .history import Happening, Past, Sites, Start, order
 from .wire import Ask, Identifier, Report, Told
 
 
+class NoSuchTree(ValueError):
+    """The records do not have this tree: it was never drawn, or its files are gone."""
+
+
 @dataclass
 class Now:
     """A node as far as its records tell: its transaction, and whether Ready or Commit is logged."""
@@ -183,15 +187,17 @@ def transcript(folders: list[Path], tree: str | None = None) -> str:
     else:
         root = Identifier.of(tree).node
         if root not in sites.places:
-            raise ValueError(f"no record has the root of {tree}")
+            raise NoSuchTree(f"no record has the root of {tree}")
         every = blocks(sites, sites.group(root))
         took = {it.node for it in every if it.tree == tree}
         begun = next((k for k, it in enumerate(every) if it.node == root and it.tree == tree), None)
         if begun is None:
-            raise ValueError(f"no record has {tree}")
+            raise NoSuchTree(f"no record has {tree}")
         over = next((k for k, it in enumerate(every) if k > begun and it.node == root and it.lines and it.tree != tree), len(every))
         there = {sites.places[it] for it in took}
-        kept = [it for it in every[begun:over] if (it.past.site in there if isinstance(it.past, Start) else it.node in took)]
+        kept = [it for it in every[begun:over] if (it.past.site in there if isinstance(it.past, Start) else it.node in took) and shown(it.lines)]
+        while kept and (isinstance(kept[-1].past, Start) or kept[-1].lines[0].startswith("> lose")):
+            kept.pop()  # (what came after its end)
     return "\n".join(declared(sites, took) + [line for it in kept if shown(it.lines) for line in it.lines]) + "\n"
 
 

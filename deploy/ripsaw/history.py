@@ -15,14 +15,22 @@ from . import record, wire
 from .record import BadRecord, Run, Step
 
 
+LATELY = 0.5  # seconds
+
+
 @dataclass
 class Happening:
-    """A step in its place. Of a Send the frame's number is in `sent`, of an arrival it is `taken`."""
+    """A step in its place. The frames that it sent have the numbers in `sent`, and the one that an arrival takes has `taken`."""
 
     site: str
     step: Step
     taken: int = 0
     sent: tuple[int, ...] = ()
+
+    @property
+    def unread(self) -> bool:
+        """The process ended before its answer was read."""
+        return self.step.outputs is None
 
 
 @dataclass
@@ -92,8 +100,8 @@ class Queue:
 def order(sites: Sites, nodes: set[int] | None = None, unanswered: bool = False) -> Iterator[Past]:
     """The history of these nodes, or of all."""
     queues = [Queue(site, runs, nodes, unanswered) for site, runs in sorted(sites.runs.items())]
-    sent: dict[Frame, list[int]] = defaultdict(list)
-    taken: dict[Frame, int] = defaultdict(int)
+    sent: dict[Frame, list[tuple[int, float]]] = defaultdict(list)
+    taken: set[int] = set()
     count = 0
 
     def may_come(what: Run | Step) -> bool:
@@ -110,17 +118,22 @@ def order(sites: Sites, nodes: set[int] | None = None, unanswered: bool = False)
             continue
         happening = Happening(queue.site, what)
         if isinstance(what.event, wire.Arrive):
-            frame = key(what.event)
-            happening.taken = sent[frame][min(taken[frame], len(sent[frame]) - 1)]
-            taken[frame] += 1
+            happening.taken = which(sent[key(what.event)], what.time, taken)
+            taken.add(happening.taken)
         numbers = []
         for output in what.outputs or []:
             if isinstance(output, wire.Send):
                 count += 1
                 numbers.append(count)
-                sent[key(output)].append(count)
+                sent[key(output)].append((count, what.time))
         happening.sent = tuple(numbers)
         yield happening
+
+
+def which(sent: list[tuple[int, float]], time: float, taken: set[int]) -> int:
+    """Of frames that are alike any may be meant: the oldest that is not taken and was sent lately, since others were dropped, or else the newest."""
+    lately = [number for number, at in sent if number not in taken and time - at < LATELY]
+    return lately[0] if lately else sent[-1][0]
 
 
 def key(frame: wire.Arrive | wire.Send) -> Frame:
