@@ -78,13 +78,11 @@ class Replay:
                 count += self.played.get(id(it), 0)
         return lines
 
-    def play(self, lines: list[Line]) -> dict[str, bytes]:
-        """Runs the schedule, so that each line has what the transcript says; gives the logs."""
+    def play(self, lines: list[Line]) -> tuple[int, dict[str, bytes], str]:
+        """Runs the schedule, so that each line has what the transcript says. Gives how many lines were played, the logs, and why not all were."""
         images = [f"image {it}" for it in sorted({self.sites.places[it] for it in self.nodes})]
         text = "".join(f"{it}\n" for it in [line.text for line in lines] + images)
         ran = subprocess.run([self.program, "replay"], input=text.encode(), stdout=subprocess.PIPE, stderr=subprocess.PIPE, cwd=self.room)
-        if ran.returncode != 0:
-            raise BadRecord(f"tpnode replay ends with {ran.returncode}: {ran.stderr.decode().strip()}")
         at, logs = -1, {}
         for got in ran.stdout.decode().splitlines():
             first, *rest = got.split(" ")
@@ -98,7 +96,8 @@ class Replay:
                 lines[at].said.append(got)
             elif first == "send":
                 lines[at].said.append(" ".join(["send", *rest[1:]]))
-        return logs
+        why = f"tpnode replay ends with {ran.returncode}: {ran.stderr.decode().strip()}" if ran.returncode else ""
+        return min(at + 1, len(lines)), logs, why
 
     def missing(self, lines: list[Line]) -> tuple[str, int] | None:
         """The first run, by site and boot, that forces less than the start after it found."""
@@ -131,11 +130,14 @@ class Replay:
         """The schedule whose world has forced what each start found."""
         while True:
             lines = self.schedule()
-            logs = self.play(lines)
-            found = self.missing(lines)
-            if found is None:
+            played, logs, why = self.play(lines)
+            found = self.missing(lines[:played])
+            if found is not None:
+                self.play_one_more(*found)
+            elif why:
+                raise BadRecord(why)
+            else:
                 return lines, logs
-            self.play_one_more(*found)
 
 
 def replay(folders: list[Path], program: str, room: Path, root: int | None = None) -> tuple[int, int, list[str]]:
