@@ -121,17 +121,23 @@ def committed(log: bytes, site: str) -> list[Identifier]:
     return found
 
 
-class Count:
-    """How many records stand in a log that grows: what is read each time is what is new."""
+class Follower:
+    """Follows a log that grows: what is read each time is what is new."""
 
     def __init__(self, path: Path) -> None:
         self.path, self.at, self.records = path, 5, 0
+        self.damaged: set[tuple[int, Identifier]] = set()  # kept, since a commitment or rollback did damage
 
-    def now(self) -> int:
+    def read(self) -> None:
         with open(self.path, "rb") as file:
             file.seek(self.at)
             rest = file.read()
         found, end = places(rest, 0)
+        for gate in found:
+            body = body_at(rest, gate)
+            if body[0] in (Kind.DAMAGE, Kind.END):
+                entry = read_entry(body)
+                assert entry.tree is not None
+                (self.damaged.add if entry.kind is Kind.DAMAGE else self.damaged.discard)((entry.node, entry.tree))
         self.at += end
         self.records += len(found)
-        return self.records

@@ -56,7 +56,8 @@ class Node:
         self.working: asyncio.Task[None] | None = None
         self.turn = asyncio.Lock()
         self.retry_least, self.retry_most = retry_least, retry_most
-        self.pause, self.retry_at, self.kept = retry_least, 0.0, False
+        self.pause, self.retry_at = retry_least, 0.0
+        self.kept = False  # a transaction is kept, and a retry may have something to say of it
         self.life = 0  # counts the starts of the process: what was begun in an earlier one is not gone on with
 
     def enter(self, phase: Phase, tree: Identifier | None) -> None:
@@ -292,6 +293,9 @@ class Arc:
         if wait:
             self.not_before = time.monotonic() + self.pause
             self.pause = min(2 * self.pause, MOST_AGAIN)
+        self.give_up_calls(why)
+
+    def give_up_calls(self, why: str) -> None:
         while self.calls:
             call = self.calls.popleft()
             if not call.done():
@@ -348,6 +352,8 @@ class Root(Node):
     def told(self, said: Indication) -> None:
         kind = said.kind
         name, arc = self.by_number.get(said.peer, ("", None))
+        if kind is Told.ROLLBACK and self.current is not None:
+            outcome_is(self.current, False)
         if arc is None or kind in (Told.READY, Told.LEFT, Told.HEURISTIC_REPORT):
             super().told(said)
         elif kind is Told.BEGUN_DIALOGUE:
@@ -386,7 +392,7 @@ class Root(Node):
         arc.calls.append(answer)
         if site not in mine.begun:
             mine.begun.append(site)
-            self.ask(Ask.BEGIN_TRANSACTION, lambda outputs: self.branched(mine, outputs), peer=arc.peer.node)
+            self.ask(Ask.BEGIN_TRANSACTION, lambda outputs: self.branched(mine, outputs, answer), peer=arc.peer.node)
         self.ask(Ask.DATA, peer=arc.peer.node, octets=CALL + data)
         try:
             async with asyncio.timeout(patience):
@@ -402,11 +408,11 @@ class Root(Node):
             raise WorkFailed(f"{site}: {said[1:].decode(errors='replace')}")
         return said[1:]
 
-    def branched(self, mine: Transaction, outputs: list[wire.Output]) -> None:
+    def branched(self, mine: Transaction, outputs: list[wire.Output], answer: asyncio.Future[bytes]) -> None:
         """The Begin that goes out has the tree's identifier, which must be the one that the application was given."""
         for output in outputs:
-            if isinstance(output, wire.Refused):
-                mine.spoilt = True
+            if isinstance(output, wire.Refused) and not answer.done():
+                answer.set_exception(WorkFailed(f"no branch is begun: {wire.REFUSALS.get(output.number, output.number)}"))
             elif isinstance(output, wire.Send) and output.octets[45:46] == b"\x0c":
                 self.marks += 1 if mine.drawn else 2
                 mine.drawn = True
@@ -477,12 +483,13 @@ class Root(Node):
         if self.current is mine:
             if number is None:
                 self.enter(Phase.ROLLING, mine.tree)
+                outcome_is(mine, False)
             else:
                 self.ended(False, Report.NONE)
 
     def told_commit(self) -> None:
-        if self.current is not None and not self.current.decided.done():
-            self.current.decided.set_result(True)
+        if self.current is not None:
+            outcome_is(self.current, True)
         super().told_commit()
 
     def ended(self, committed: bool, report: Report) -> None:
@@ -490,6 +497,8 @@ class Root(Node):
         super().ended(committed, report)
         if mine is not None:
             settle(mine, committed, report)
+            for site in mine.begun:
+                self.arcs[site].give_up_calls(mine.why)  # (no answer comes after a branch's last word)
         self.hub.freed(self)
 
     def restarted(self, standing: Standing) -> None:
@@ -508,8 +517,12 @@ class Root(Node):
             settle(mine, False, Report.NONE)
 
 
-def settle(mine: Transaction, committed: bool, report: Report) -> None:
+def outcome_is(mine: Transaction, committed: bool) -> None:
     if not mine.decided.done():
         mine.decided.set_result(committed)
+
+
+def settle(mine: Transaction, committed: bool, report: Report) -> None:
+    outcome_is(mine, committed)
     if not mine.ended.done():
         mine.ended.set_result((committed, report))

@@ -32,7 +32,7 @@ class Session:
     def __init__(self, site: Site, reader: asyncio.StreamReader, writer: asyncio.StreamWriter) -> None:
         self.site, self.reader, self.writer = site, reader, writer
         self.mine: dict[int, Transaction] = {}
-        self.number = 0
+        self.number, self.gone = 0, False
         self.tasks: set[asyncio.Task[None]] = set()
 
     async def serve(self) -> None:
@@ -49,6 +49,7 @@ class Session:
         except asyncio.CancelledError:
             pass  # (the site stops)
         finally:
+            self.gone = True
             for transaction in self.mine.values():
                 if not transaction.asked:
                     transaction.why = "its application is gone"
@@ -76,6 +77,8 @@ class Session:
         op, site = request["op"], self.site
         if op == "begin":
             transaction = await site.begin(list(request.get("sites", [])))
+            if self.gone:
+                transaction.root.roll(transaction)
             self.number += 1
             self.mine[self.number] = transaction
             return {"t": self.number, "tree": str(transaction.tree)}
@@ -97,21 +100,21 @@ class Session:
         """Until the commitment is complete, or has been decided so long ago that a branch must be out of reach."""
         root, patience = transaction.root, self.site.settings.patience
         if commit:
-            await root.commit(transaction)
-        else:
-            root.roll(transaction)
-        await asyncio.wait({transaction.decided}, timeout=patience)
+            asking = asyncio.create_task(root.commit(transaction))
+            await asyncio.wait({asking}, timeout=patience)
+            if asking.done():
+                asking.result()
+            await asyncio.wait({transaction.decided}, timeout=patience)
+            if not transaction.decided.done():
+                transaction.why = "not all have voted in time"
         if not transaction.decided.done():
-            transaction.why = "a branch has not voted in time"
             root.roll(transaction)
-            await transaction.decided
+        await transaction.decided
         await asyncio.wait({transaction.ended}, timeout=patience)
-        del self.mine[number]
-        self.site.counts["commits" if transaction.decided.result() else "rollbacks"] += 1
-        if not transaction.ended.done():
-            return {"outcome": "commit", "complete": False, "report": "none"}
-        committed, report = transaction.ended.result()
-        return {"outcome": "commit" if committed else "rollback", "complete": True, "report": wire.word(report), "why": transaction.why}
+        self.mine.pop(number, None)
+        committed, report = transaction.ended.result() if transaction.ended.done() else (transaction.decided.result(), wire.Report.NONE)
+        self.site.counts["commits" if committed else "rollbacks"] += 1
+        return {"outcome": "commit" if committed else "rollback", "complete": transaction.ended.done(), "report": wire.word(report), "why": transaction.why}
 
     async def operate(self, op: str, request: Answer) -> Answer:
         """A decision for a node in doubt, a branch given up, a kept transaction purged: OPERATING says when, and what it costs."""

@@ -46,7 +46,7 @@ class Site:
         self.roots: list[Root] = []
         self.engine: Engine | None = None
         self.standing = log.Standing()
-        self.forced = log.Count(self.log)
+        self.follower = log.Follower(self.log)
         self.recorder: Recorder | None = None
         self.draining, self.stopping = False, asyncio.Event()
         self.waiting: list[asyncio.Future[None]] = []  # for a free root
@@ -132,7 +132,7 @@ class Site:
         if content[:4] != b"OTPL":
             raise SiteFailed(f"{self.log} is no log")
         self.standing = log.standing(content)
-        self.forced = log.Count(self.log)
+        self.follower = log.Follower(self.log)
         await self.recover()
         if self.settings.record is not None:
             if self.recorder is None:

@@ -58,9 +58,10 @@ class StatusPage:
 
     def status(self) -> dict[str, Any]:
         site, carrier, engine = self.site, self.site.carrier, self.site.engine
+        site.follower.read()
         return {
             "name": site.settings.name, "boot": site.standing.boot + 1, "incarnation": carrier.incarnation, "since": site.began,
-            "events": 0 if engine is None else engine.events, "records": site.forced.now(), "log_bytes": site.log.stat().st_size,
+            "events": 0 if engine is None else engine.events, "records": site.follower.records, "log_bytes": site.log.stat().st_size,
             "starts": site.counts["starts"], "draining": site.draining,
             "commits": site.counts["commits"], "rollbacks": site.counts["rollbacks"],
             "roots": len(site.roots), "roots_free": sum(root.free() for root in site.roots),
@@ -68,7 +69,7 @@ class StatusPage:
             "open": [{"node": node.number, "phase": node.phase.value, "tree": str(node.tree), "since": node.since,
                       **({} if isinstance(node, Root) else {"superior": str(getattr(node, "superior"))})}
                      for node in site.nodes.values() if node.phase is not Phase.IDLE],
-            "kept": [node.number for node in site.nodes.values() if node.kept], "missing": site.missing,
+            "kept": [{"node": node, "tree": str(tree)} for node, tree in sorted(site.follower.damaged, key=str)], "missing": site.missing,
             "peers": {name: {"reached": carrier.reaches(name), "out": link.up, "in": name in carrier.incoming, "queue": len(link.queue)}
                       for name, link in carrier.links.items()},
             "refused_connections": dict(carrier.refused), "carried": dict(carrier.counts),
