@@ -8,7 +8,7 @@ import sys
 import tempfile
 from pathlib import Path
 
-from . import draw, record, replay, settings, site
+from . import draw, history, record, replay, settings, site
 
 
 def run_site(options: argparse.Namespace) -> int:
@@ -18,7 +18,7 @@ def run_site(options: argparse.Namespace) -> int:
 
 
 def run_draw(options: argparse.Namespace) -> int:
-    transcript = draw.transcript(options.records, options.tree)
+    transcript = draw.transcript(history.Sites.read(options.records), options.tree)
     if options.transcript:
         sys.stdout.write(transcript)
         return 0

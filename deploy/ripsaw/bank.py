@@ -23,7 +23,7 @@ from os import kill as kill_process
 from pathlib import Path
 from typing import Any
 
-from . import client, draw, log
+from . import client, draw, history, log
 from .world import Place, World
 
 BANKS = ["north", "south", "west"]
@@ -282,11 +282,11 @@ def take_back(place: Place) -> int:
 
 def picture(bank: Bank) -> str:
     """Draws the last transfer that was under way at a kill and went on after it; the path of it, or why there is none."""
-    folders = [it.folder / "record" for it in bank.world.places.values()]
     try:
+        sites = history.Sites.read([it.folder for it in bank.world.places.values()])
         for transfer in [it for it in bank.transfers if it.saw_kill][:-MOST_TRIED:-1]:
             try:
-                transcript = draw.transcript(folders, transfer.tree)
+                transcript = draw.transcript(sites, transfer.tree)
             except draw.NoSuchTree:
                 continue  # (it was stopped before its first branch)
             if "> crash" in transcript:

@@ -7,7 +7,6 @@ from __future__ import annotations
 
 from collections import Counter, defaultdict
 from dataclasses import dataclass
-from pathlib import Path
 
 from . import wire, words
 from .history import Happening, Past, Sites, Start, order
@@ -41,7 +40,7 @@ class Scribe:
         return self.now.setdefault(node, Now())
 
     def lines(self, it: Happening) -> list[str]:
-        event, outputs, node = it.step.event, it.step.outputs or [], it.step.event.node
+        event, outputs, node = it.step.event, it.step.outputs, it.step.event.node
         out = [f"> {echo(event)}"]
         if isinstance(event, wire.Arrive):
             out.append(f"take {it.taken}")
@@ -133,7 +132,7 @@ def shown(lines: list[str]) -> bool:
     """A picture leaves out what only opens dialogues, what was refused, and what changed nothing that can be seen."""
     said = [it.split() for it in lines[1:] if not it.startswith("take")]
     if not said:
-        return bool(lines) and lines[0].startswith(("> do", "log"))
+        return len(lines) > 1 or bool(lines) and lines[0].startswith(("> do", "log"))
     return not all(it[0] in ("refused", "dropped") or it[0] == "send" and it[4] in ("open", "accept", "shut") or
                    it[0] == "tell" and it[2] in ("begin-dialogue", "begun-dialogue", "rejected") for it in said)
 
@@ -168,7 +167,7 @@ def blocks(sites: Sites, nodes: set[int]) -> list[Block]:
             out.append(Block(it, ([f"> crash {it.site}"] if it.run.boot > 1 else []) + [f"log {it.site} boot {it.run.boot}"]))
         elif isinstance(it.step.event, wire.Declare):
             continue
-        elif it.step.outputs is None:
+        elif it.step.unread:
             out.append(Block(it, []))
             unread[it.site].append(out[-1])
         else:
@@ -178,9 +177,8 @@ def blocks(sites: Sites, nodes: set[int]) -> list[Block]:
     return out
 
 
-def transcript(folders: list[Path], tree: str | None = None) -> str:
+def transcript(sites: Sites, tree: str | None = None) -> str:
     """Of everything that the records have, or of one tree: from its begin to the next of its root."""
-    sites = Sites.read(folders)
     took, kept = set(sites.places), []
     if tree is None:
         kept = blocks(sites, took)

@@ -27,11 +27,6 @@ class Happening:
     taken: int = 0
     sent: tuple[int, ...] = ()
 
-    @property
-    def unread(self) -> bool:
-        """The process ended before its answer was read."""
-        return self.step.outputs is None
-
 
 @dataclass
 class Start:
@@ -92,7 +87,7 @@ class Queue:
         for run in runs:
             self.coming.append((run.time, run))
             for step in run.steps:
-                if (nodes is None or step.event.node in nodes) and (unanswered or step.outputs is not None):
+                if (nodes is None or step.event.node in nodes) and (unanswered or not step.unread):
                     self.coming.append((step.time, step))
         self.coming.reverse()
 
@@ -121,7 +116,7 @@ def order(sites: Sites, nodes: set[int] | None = None, unanswered: bool = False)
             happening.taken = which(sent[key(what.event)], what.time, taken)
             taken.add(happening.taken)
         numbers = []
-        for output in what.outputs or []:
+        for output in what.outputs:
             if isinstance(output, wire.Send):
                 count += 1
                 numbers.append(count)

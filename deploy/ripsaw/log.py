@@ -8,7 +8,7 @@ from dataclasses import dataclass, field
 from enum import IntEnum
 from pathlib import Path
 
-from .wire import Identifier, Outcome, Reader
+from .wire import Identifier, Outcome, Reader, Report
 
 FRESH = bytes.fromhex("4f54504c01" "01" "0002" "0702" "00")
 
@@ -32,6 +32,7 @@ class Entry:
     tree: Identifier | None = None
     branch: Identifier | None = None
     outcome: Outcome | None = None  # of Heuristic, Damage and End
+    report: Report = Report.NONE  # of Damage
 
 
 def read_entry(body: bytes) -> Entry:
@@ -41,14 +42,14 @@ def read_entry(body: bytes) -> Entry:
         return Entry(kind, boot=reader.u64())
     node, tree = reader.u16(), reader.identifier()
     branch = reader.identifier() if reader.u8() else None
-    outcome = None
+    outcome, report = None, Report.NONE
     if kind in (Kind.HEURISTIC, Kind.END):
         outcome = Outcome(reader.u8())
     elif kind is Kind.DAMAGE:
         if branch is not None:
             reader.address()
-        outcome = Outcome(reader.u8())
-    return Entry(kind, 0, node, tree, branch, outcome)
+        outcome, report = Outcome(reader.u8()), Report(reader.u8())
+    return Entry(kind, 0, node, tree, branch, outcome, report)
 
 
 def places(log: bytes, at: int | None = None) -> tuple[list[int], int]:
@@ -80,6 +81,10 @@ class Standing:
     def of(self, node: int, tree: Identifier) -> Kind | None:
         found = self.last.get((node, tree))
         return None if found is None else found.kind
+
+    def report(self, node: int, tree: Identifier) -> Report:
+        found = self.last.get((node, tree))
+        return Report.NONE if found is None else found.report
 
     def current(self, node: int) -> Identifier | None:
         """The tree that this node is in doubt of, or commits."""

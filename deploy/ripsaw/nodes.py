@@ -513,8 +513,9 @@ class Root(Node):
         if self.phase is Phase.COMMITTING and self.tree == mine.tree:
             self.current = mine
         else:
+            # (what was told to commit and is no longer open was done: its last record was forced, and nobody read that)
             mine.why = "the site has started anew"
-            settle(mine, False, Report.NONE)
+            settle(mine, mine.decided.done() and mine.decided.result(), standing.report(self.number, mine.tree))
 
 
 def outcome_is(mine: Transaction, committed: bool) -> None:

@@ -12,6 +12,7 @@ from __future__ import annotations
 
 import time
 from dataclasses import dataclass, field
+from functools import cached_property
 from pathlib import Path
 from typing import BinaryIO, Iterator
 
@@ -67,11 +68,20 @@ class Recorder:
 
 @dataclass
 class Step:
-    """An event with what was answered; outputs are None where the process ended before its answer was read."""
+    """An event with what was answered, which is read where it is asked for: a picture wants a small part of a record."""
 
     time: float
     event: wire.Event
-    outputs: list[wire.Output] | None = None
+    bodies: list[str] | None = None
+
+    @property
+    def unread(self) -> bool:
+        """The process ended before its answer was read."""
+        return self.bodies is None
+
+    @cached_property
+    def outputs(self) -> list[wire.Output]:
+        return [wire.read_output(bytes.fromhex(it)) for it in self.bodies or []]
 
 
 @dataclass
@@ -102,7 +112,7 @@ def read(folder: Path) -> list[Run]:
     """The runs of the site whose records are in this folder, oldest first."""
     runs: list[Run] = []
     waiting: list[Step] = []
-    outputs: list[wire.Output] = []
+    bodies: list[str] = []
     files = sorted(folder.glob("*.record"))
     if not files:
         raise BadRecord(f"{folder}: no records are there")
@@ -112,16 +122,16 @@ def read(folder: Path) -> list[Run]:
             if what == "start":
                 kept = {int(node): int(count) for node, _, count in (it.partition(":") for it in words[4:])}
                 runs.append(Run(words[2], at, int(words[3]), kept))
-                waiting, outputs = [], []
+                waiting, bodies = [], []
             elif not runs:
                 continue  # (the file with its start is gone)
             elif what == "in":
                 waiting.append(Step(at, wire.read_event(bytes.fromhex(words[2]))))
                 runs[-1].steps.append(waiting[-1])
             elif what == "out":
-                outputs.append(wire.read_output(bytes.fromhex(words[2])))
+                bodies.append(words[2])
             elif what == "over":
-                waiting.pop(0).outputs, outputs = outputs, []
+                waiting.pop(0).bodies, bodies = bodies, []
             runs[-1].ended = at
         except (ValueError, IndexError) as error:
             raise BadRecord(f"{path}:{number}: {error}") from error

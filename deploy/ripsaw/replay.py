@@ -69,7 +69,7 @@ class Replay:
                 while boots[it.site] < it.run.boot:
                     boots[it.site] += 1
                     lines.append(Line(f"crash {it.site}", it.site, boot=boots[it.site]))
-            elif not isinstance(it.step.event, wire.Declare) and (not it.unread or id(it) in self.played):
+            elif not isinstance(it.step.event, wire.Declare) and (not it.step.unread or id(it) in self.played):
                 text = f"again {numbers[it.taken]}" if isinstance(it.step.event, wire.Arrive) else echo(it.step.event)
                 lines.append(Line(text, it.site, it))
                 for number in it.sent:
@@ -118,7 +118,7 @@ class Replay:
         for it in self.past:
             if isinstance(it, Start):
                 current = it.run.boot if it.site == site else current
-            elif it.site == site and current == boot and it.unread and id(it) not in self.played and not isinstance(it.step.event, wire.Declare):
+            elif it.site == site and current == boot and it.step.unread and id(it) not in self.played and not isinstance(it.step.event, wire.Declare):
                 self.played[id(it)] = 0
                 lines = self.schedule()
                 self.play(lines)
@@ -146,7 +146,7 @@ def replay(folders: list[Path], program: str, room: Path, root: int | None = Non
     lines, logs = Replay(sites, set(sites.places) if root is None else sites.group(root), program, room).settle()
     same, differ = 0, []
     for number, line in enumerate(lines, 1):
-        if line.past is not None and line.past.step.outputs is not None:
+        if line.past is not None and not line.past.step.unread:
             said = said_words(line.past.step.outputs)
             same += said == line.said
             if said != line.said:

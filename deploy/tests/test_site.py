@@ -11,7 +11,7 @@ from pathlib import Path
 
 import pytest
 
-from ripsaw import client, draw, plain, replay
+from ripsaw import client, draw, history, plain, replay
 from ripsaw.world import World
 from tests.worlds import DRAW, PROGRAM, SQLITE, needs_program, play
 
@@ -213,7 +213,7 @@ def test_the_record_is_a_run_of_the_program(tmp_path: Path) -> None:
     folders = [it.folder for it in world.places.values()]
     events, logs, differ = replay.replay(folders, PROGRAM, tmp_path)
     assert not differ and logs == 3 and events > 200
-    transcript = draw.transcript(folders, trees[0])
+    transcript = draw.transcript(history.Sites.read(folders), trees[0])
     assert f"begin {trees[0]}" in transcript
     if DRAW:
         drawn = subprocess.run([DRAW], input=transcript.encode(), stdout=subprocess.PIPE)
