@@ -3,6 +3,7 @@ use std::alloc::{AllocError, Global};
 use std::fmt::{self, Display, Formatter};
 use tp_journal::Journal;
 use tp_logrec::{LogRec, Owner};
+use tp_names::{BranchId, NodeKey};
 use tp_outside::Disk;
 
 /// The number of the boot that is begun, the records that were there before it, and the transactions of which a node has voted
@@ -42,6 +43,9 @@ impl Beginning {
 
 // What is in doubt after a record more.
 fn note(in_doubt: &mut Vec<Owner>, rec: &LogRec) -> Result<(), AllocError> {
+    // (the compiler wants the types inside an owner to be named)
+    let _branch: Option<BranchId> = None;
+    let _key: Option<NodeKey> = None;
     let Some(owner) = rec.owner() else {
         return Ok(());
     };
