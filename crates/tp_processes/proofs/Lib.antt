@@ -2,3 +2,4 @@ mod Opening
 mod Votes
 pub mod Chained
 pub mod Woven
+pub mod Sentences

@@ -5,9 +5,12 @@ use Rattle.tp_logrec.specs.LogText.{IsLog}
 use Rattle.tp_model.specs.History.{records}
 use Rattle.tp_model.specs.NodeRun.{records_at}
 use Rattle.tp_model.specs.Happenings.{Happening, run}
+use Rattle.tp_model.specs.Promises.{OneOutcome, ReportFree}
+use Rattle.tp_model.specs.World.{World, empty_world}
+use Rattle.tp_agreement.specs.Logs.{CommitsAlone}
 use Rattle.tp_site_logs.specs.Lives.{first_origin}
 use Rattle.tp_deployments.specs.Deployments.{Deed, Place, AreArranged, IsDeployment, life_after, history_at}
-use Rattle.tp_deployments.specs.RunOf.{IsRunOf}
+use Rattle.tp_deployments.specs.RunOf.{nodes_of, IsRunOf}
 use Rattle.tp_laws.specs.Whole.{AllPromised}
 use Rattle.tp_processes.specs.Processes.{Process, AreProcesses, AreWhole, life_of}
 
@@ -28,3 +31,19 @@ abbrev pub ProcessesKeep : Type 0
 ProcessesKeep =
     (by : List ℕ → List Process) (qs : List Place) (ds : List Deed) → AreDeedsOf by ds → AreArranged qs → IsDeployment qs ds
     → (es : List Happening) × IsRunOf qs ds (run es) × LogsTell by ds × AllPromised (run es)
+
+-- ---- the sentences, of the nodes where they stand
+
+-- a world of these nodes alone, each with all that happened to it
+abbrev pub standing : List Place → List Deed → World
+standing qs ds = record empty_world { nodes = nodes_of qs ds }
+
+pub record Sentences (w : World) : Type 0 where
+  -- of two nodes of one tree told different outcomes, at least one logged a decision; and where one logged Commit none rolled
+  pub one_outcome : OneOutcome w
+  pub commits_alone : CommitsAlone w
+  -- a commit completion with no report at the root means that every staying node was told commit
+  pub report_free : ReportFree w
+
+abbrev pub SentencesHold : Type 0
+SentencesHold = (qs : List Place) (ds : List Deed) → AreArranged qs → IsDeployment qs ds → Sentences (standing qs ds)

@@ -3,7 +3,7 @@
 #![tactic(auto)]
 
 ghost use Rattle.tp_processes.specs.Processes.{ProcessesLeaveTheLog, ProcessesLeaveItWhole, ProcessesActAlike};
-ghost use Rattle.tp_processes.specs.Deployed.{ProcessesKeep};
+ghost use Rattle.tp_processes.specs.Deployed.{ProcessesKeep, SentencesHold};
 
 /// One process of a site after the other starts on the file that the one before it left, or on a compaction of it, the first on a log without
 /// records; each finds a log of version 2, and leaves the log of the events that happened in it, or what it found, where it stopped before
@@ -25,4 +25,11 @@ pub fn processes_act_as_one()
 /// run holds all that is promised.
 pub fn processes_keep_the_promises()
     ensures { ProcessesKeep }
+{}
+
+/// In every deployment, of the nodes where they stand and of all that happened to them: no two nodes of a tree are told different outcomes
+/// but where one logged a decision of its own, Commit stands alone, and a commitment that is complete at the root with no report is one at
+/// every node that stays.
+pub fn deployments_keep_the_sentences()
+    ensures { SentencesHold }
 {}
