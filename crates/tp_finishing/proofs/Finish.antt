@@ -24,9 +24,10 @@ use Rattle.tp_histories.proofs.trees.Late.{late_law}
 use Rattle.tp_histories.proofs.worlds.Good.{good_run}
 use Rattle.tp_finishing.specs.Doubt.{known_of}
 use Rattle.tp_finishing.specs.Quiet.{IsQuiet, Each}
-use Rattle.tp_finishing.specs.Finishing.{IsRecovery, IsOver, most_lines, NoRunIsStuck}
+use Rattle.tp_finishing.specs.Finishing.{IsRecovery, IsOver, most_lines, NoRunIsStuck, EveryRunEnds}
 use Rattle.tp_finishing.proofs.Kindred.{KeyAt, FitsKept, AllFit}
 use Rattle.tp_finishing.proofs.Costs.{cost_of, costs_less}
+use Rattle.tp_finishing.proofs.Stops.{stops_quieten}
 use Rattle.tp_finishing.proofs.Sites.{EachNode, nodes_found}
 use Rattle.tp_finishing.proofs.Picks.{distinct_run, First, Last, pick_first, pick_last}
 use Rattle.tp_finishing.proofs.Doubts.{IsSuperiorAt, IsBranchAt, fit_run}
@@ -244,3 +245,10 @@ no_run_is_stuck es quiet =
   where
     short : (a b c : ℕ) → a ≤ b → b ≤ c → a ≤ c
     short a b c h i = omega (arith, h, i)
+
+-- after a stop of each site
+pub every_run_ends : EveryRunEnds
+every_run_ends es =
+    let q = stops_quieten es in
+    let f = no_run_is_stuck (q.0 ++ es) q.1.quiet in
+    (q.0, f.0, record { stopped = q.1.by; few = q.1.short; finishes = f.1 })

@@ -22,6 +22,7 @@ use Rattle.tp_model.proofs.Verdicts.{plainly_not, none_if_accepted}
 use Rattle.tp_agreement.proofs.Unknown.{own_with}
 use Rattle.tp_finishing.specs.Doubt.{sent_on_link, HaveNumbers}
 use Rattle.tp_finishing.proofs.Answering.{addr_self}
+use Rattle.tp_finishing.proofs.Still.{past_more}
 
 -- ---- words on associations that have numbers left
 
@@ -43,10 +44,6 @@ are_words (o ∷ outs) = is_word o && are_words outs
 fewer : (m n : ℕ) (arcs : List Arc) → m ≤ n → HaveNumbers n arcs → HaveNumbers m arcs
 fewer m n [] h i = tt
 fewer m n (a ∷ arcs) h i = (omega (arith, h, i.0), fewer m n arcs h i.1)
-
-past_more : (xs ys : List Out) → some_past_numbers (xs ++ ys) ≡ (some_past_numbers xs || some_past_numbers ys)
-past_more [] ys = refl
-past_more (x ∷ xs) ys = grind (arith, past_more xs ys)
 
 below_greatest : (s m : ℕ) → s + suc m ≤ greatest → nat_le greatest s ≡ false
 below_greatest s m h = grind (arith, nat_tests, h)

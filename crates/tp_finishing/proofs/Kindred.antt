@@ -56,6 +56,7 @@ use Rattle.tp_histories.proofs.trees.Late.{late_law}
 use Rattle.tp_histories.proofs.trees.Knowing.{Came, As_it_was, By_begin, By_crash, came_by, current_none}
 use Rattle.tp_agreement.proofs.OwingLaw.{kept_none}
 use Rattle.tp_known.proofs.links.Kin.{IsKin, kin_link, kin_moves}
+use Rattle.tp_finishing.proofs.Retries.{sent_first, sent_second}
 use Rattle.tp_finishing.proofs.KeptTurns.{EachChild, each_more, each_without, Keeps, IsDoubtOf, IsKeeping, keeping_turn}
 
 -- ---- arcs over which something was heard
@@ -311,17 +312,6 @@ no_loop_after n d m kin_of none = go (find_arc m.next.arcs n) refl
 no_loop_dialogue : (n q : ℕ) (f : Dialogue → Dialogue) (arcs : List Arc) → find_arc arcs n ≡ None → find_arc (with_dialogue arcs q f) n ≡ None
 no_loop_dialogue n q f [] h = refl
 no_loop_dialogue n q f (a ∷ arcs) h = grind (arith, nat_tests, no_loop_dialogue n q f arcs, h)
-
-sent_first : (xs ys : List Out) (a : Addr) (r : PeerRecord) → IsSentIn xs a r → IsSentIn (xs ++ ys) a r
-sent_first [] ys a r h = absurd h
-sent_first (Out.Tell i ∷ xs) ys a r h = sent_first xs ys a r h
-sent_first (Out.Send b q ∷ xs) ys a r (inl h) = inl h
-sent_first (Out.Send b q ∷ xs) ys a r (inr h) = inr (sent_first xs ys a r h)
-
-sent_second : (xs ys : List Out) (a : Addr) (r : PeerRecord) → IsSentIn ys a r → IsSentIn (xs ++ ys) a r
-sent_second [] ys a r h = h
-sent_second (Out.Tell i ∷ xs) ys a r h = sent_second xs ys a r h
-sent_second (Out.Send b q ∷ xs) ys a r h = inr (sent_second xs ys a r h)
 
 dialogue_at : (arcs : List Arc) (q : ℕ) (f : Dialogue → Dialogue) (a : Arc) → find_arc arcs q ≡ Some a → find_arc (with_dialogue arcs q f) q ≡ Some (record a { dialogue = f a.dialogue })
 dialogue_at [] q f a h = absurd (cc (h))

@@ -9,7 +9,7 @@ use Rattle.tp_model.specs.World.{World, Node}
 use Rattle.tp_model.specs.Happenings.{Happening, Does, run}
 use Rattle.tp_model.specs.Promises.{IsIn}
 use Rattle.tp_finishing.specs.Doubt.{known_of}
-use Rattle.tp_finishing.specs.Quiet.{IsQuiet, Each}
+use Rattle.tp_finishing.specs.Quiet.{IsQuiet, Each, IsStop}
 
 -- ---- lines of recovery
 
@@ -57,3 +57,13 @@ pub record Finishes (es more : List Happening) : Type 0 where
 
 abbrev pub NoRunIsStuck : Type 0
 NoRunIsStuck = (es : List Happening) → IsQuiet (run es) → (more : List Happening) × Finishes es more
+
+-- ---- from every run: each site stops once, and then recovery alone ends all
+
+pub record EndsBy (es stops more : List Happening) : Type 0 where
+  pub stopped : Each IsStop stops
+  pub few : length stops ≤ length (run es).sites
+  pub finishes : Finishes (stops ++ es) more
+
+abbrev pub EveryRunEnds : Type 0
+EveryRunEnds = (es : List Happening) → (stops : List Happening) × (more : List Happening) × EndsBy es stops more

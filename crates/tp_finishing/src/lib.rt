@@ -5,7 +5,7 @@
 
 ghost use Rattle.tp_finishing.specs.Doubt.{DoubtEnds};
 ghost use Rattle.tp_finishing.specs.Quiet.{StopsQuieten};
-ghost use Rattle.tp_finishing.specs.Finishing.{NoRunIsStuck};
+ghost use Rattle.tp_finishing.specs.Finishing.{NoRunIsStuck, EveryRunEnds};
 
 /// In every run, a node in doubt whose superior is neither active nor in doubt hears how its tree ended by one retry and the
 /// delivery of two frames that were sent since, with all its associations in place: it commits, or it rolls back.
@@ -24,4 +24,9 @@ pub fn stops_quieten()
 /// that it owes.
 pub fn no_run_is_stuck()
     ensures { NoRunIsStuck }
+{}
+
+/// So from every run, whatever happened in it, one stop of each site and then so many lines of recovery end every transaction.
+pub fn every_run_ends()
+    ensures { EveryRunEnds }
 {}
