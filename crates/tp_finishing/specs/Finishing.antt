@@ -1,0 +1,69 @@
+-- No run is stuck: from every world without associations in which nobody is active or rolls, recovery alone brings every transaction to
+-- its end, in so many lines. Nothing is said of time; and each line is one that may always be written.
+use Rattle.std.specs.Prelude.{ℕ, ◌≡◌, ◌≤◌, ◌<◌, ◌+◌, ◌*◌, Option, Some, None, List, [], ◌∷◌, ◌++◌, length}
+use Rattle.tp_model.specs.declared.recovery.Kept.{Kept}
+use Rattle.tp_model.specs.declared.line.LineRequest.{LineRequest}
+use Rattle.tp_model.specs.declared.line.Action.{Action}
+use Rattle.tp_model.specs.Parts.{Current, Digest}
+use Rattle.tp_model.specs.World.{World, Node}
+use Rattle.tp_model.specs.Happenings.{Happening, Does, run}
+use Rattle.tp_model.specs.Promises.{IsIn}
+use Rattle.tp_finishing.specs.Doubt.{known_of}
+use Rattle.tp_finishing.specs.Quiet.{IsQuiet, Each, IsStop}
+
+-- ---- lines of recovery
+
+-- A node is asked to retry; a frame that was sent since is delivered, and none of those that were under way before; a user says that it
+-- has finished its part; a kept transaction that waits for nobody is purged. So many frames were sent before.
+abbrev pub IsRecovery : ℕ → Happening → Type 0
+IsRecovery sent (Does (Action.Retry n)) = Unit {0}
+IsRecovery sent (Does (Action.Purge n)) = Unit {0}
+IsRecovery sent (Does (Action.Again k)) = sent < k
+IsRecovery sent (Does (Action.Do n LineRequest.Done)) = Unit {0}
+IsRecovery sent _ = ⊥
+
+-- ---- where it ends: no node has a transaction, neither a current one nor one that it keeps
+
+pub record IsOverAt (d : Digest) : Type 0 where
+  pub current : d.current ≡ None
+  pub kept : d.kept ≡ []
+
+abbrev pub IsOver : World → Type 0
+IsOver w = (x : Node) → IsIn w x → IsOverAt (known_of x)
+
+-- ---- in how many lines
+
+abbrev pub lines_of_current : Option Current → ℕ
+lines_of_current None = 0
+lines_of_current (Some c) = 7 + 3 * length c.branches
+
+abbrev pub lines_of_kept : List Kept → ℕ
+lines_of_kept [] = 0
+lines_of_kept (k ∷ ks) = 3 + 3 * length k.owed + lines_of_kept ks
+
+abbrev pub lines_at : Digest → ℕ
+lines_at d = lines_of_current d.current + lines_of_kept d.kept
+
+abbrev pub most_lines : List Node → ℕ
+most_lines [] = 0
+most_lines (x ∷ xs) = lines_at (known_of x) + most_lines xs
+
+-- ---- after `more` of recovery alone nothing is left to do
+
+pub record Finishes (es more : List Happening) : Type 0 where
+  pub recovers : Each (IsRecovery (length (run es).frames)) more
+  pub short : length more ≤ most_lines (run es).nodes
+  pub over : IsOver (run (more ++ es))
+
+abbrev pub NoRunIsStuck : Type 0
+NoRunIsStuck = (es : List Happening) → IsQuiet (run es) → (more : List Happening) × Finishes es more
+
+-- ---- from every run: each site stops once, and then recovery alone ends all
+
+pub record EndsBy (es stops more : List Happening) : Type 0 where
+  pub stopped : Each IsStop stops
+  pub few : length stops ≤ length (run es).sites
+  pub finishes : Finishes (stops ++ es) more
+
+abbrev pub EveryRunEnds : Type 0
+EveryRunEnds = (es : List Happening) → (stops : List Happening) × (more : List Happening) × EndsBy es stops more

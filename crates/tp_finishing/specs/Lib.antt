@@ -1,0 +1,3 @@
+pub mod Doubt
+pub mod Quiet
+pub mod Finishing
