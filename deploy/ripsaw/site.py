@@ -229,7 +229,7 @@ class Site:
             self.note(f"tpnode has ended with {status}: {said}")
         if status == FOREIGN:
             raise SiteFailed(f"{self.log}: {said}")
-        if self.log.stat().st_size > self.settings.compact_bytes or (status == LIMIT and "log" in said):
+        if self.log.stat().st_size > self.settings.compact_bytes or (status == LIMIT and "limit log" in said):
             await self.compact()
 
     async def compact(self) -> None:
