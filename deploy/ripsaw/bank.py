@@ -8,6 +8,7 @@ from __future__ import annotations
 
 import argparse
 import asyncio
+import importlib.util
 import itertools
 import random
 import shutil
@@ -196,7 +197,11 @@ class Bank:
     async def run(self) -> None:
         self.say("three banks start ..")
         self.world.start()
-        await self.world.whole(60)
+        try:
+            await self.world.whole(60)
+        except TimeoutError as error:
+            self.faults.append(str(error))
+            return
         self.begun = time.monotonic()
         tellers = [asyncio.create_task(self.teller(k)) for k in range(self.options.clients)]
         killing = asyncio.create_task(self.killer())
@@ -303,7 +308,7 @@ def tell(bank: Bank, total: int, audit: tuple[int, str]) -> None:
     counts = {word: sum(it.told == word for it in bank.transfers) for word in ("committed", "rolled back", "in doubt")}
     held = "SQLite" if not bank.clusters else "PostgreSQL, PostgreSQL, SQLite"
     print(f"transfers  {counts['committed']} committed, {counts['rolled back']} rolled back, {counts['in doubt']} in doubt; "
-          f"{counts['committed'] / bank.seconds:.1f} a second")
+          f"{counts['committed'] / max(bank.seconds, 1):.1f} a second")
     print(f"kills      {bank.kills}" + (f", and {bank.taken_back} records taken back from the log of {BANKS[0]}" if bank.options.wrong else ""))
     print(f"money      {total} of {len(BANKS) * ACCOUNTS * BALANCE} ({held})")
     print(f"audit      {audit[1].strip().replace(chr(10), '; ')}")
@@ -358,7 +363,12 @@ def main() -> int:
     options = parser.parse_args()
     if options.kills is None:
         options.kills = 20 if options.wrong else 5
-    return one_run(options)
+    if options.postgres and (importlib.util.find_spec("psycopg") is None or not Path("/usr/lib/postgresql").is_dir()):
+        parser.error("--postgres needs the packages postgresql and python3-psycopg")
+    try:
+        return one_run(options)
+    except KeyboardInterrupt:
+        return 130
 
 
 if __name__ == "__main__":
