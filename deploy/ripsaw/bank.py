@@ -90,7 +90,7 @@ class Bank:
                 resources[name] = {"kind": "postgres", "connect": self.clusters[name].connect}
         for name in BANKS:
             resources.setdefault(name, {"kind": "sqlite", "file": "accounts.db", "tables": ["account", "transfer"]})
-        self.world.make(resources, CALLS, record=True, more={"patience": 5.0, "retry_least": 0.3, "retry_most": 3.0})
+        self.world.make(resources, CALLS, record=True, certificates=self.options.tls, more={"patience": 5.0, "retry_least": 0.3, "retry_most": 3.0})
         for name in BANKS:
             accounts = [(f"{name}{k}", BALANCE) for k in range(ACCOUNTS)]
             if name in self.clusters:
@@ -352,6 +352,7 @@ def main() -> int:
     parser.add_argument("--kills", type=int, help="how many sites or databases are killed (5)")
     parser.add_argument("--clients", type=int, default=12, help="how many transfers are under way at once (12)")
     parser.add_argument("--postgres", action="store_true", help="two of the banks keep their accounts in private servers of PostgreSQL")
+    parser.add_argument("--tls", action="store_true", help="the banks speak over TLS, each with a certificate of its own")
     parser.add_argument("--wrong", action="store_true", help="a site that is wrong: its log loses the last record at each kill; the status must be 1")
     parser.add_argument("--seed", type=int, help="of the draws; processes have none, so no two runs are alike")
     parser.add_argument("--folder", type=Path, help="where the sites' folders are made")
