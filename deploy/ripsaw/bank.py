@@ -8,6 +8,7 @@ from __future__ import annotations
 
 import argparse
 import asyncio
+import importlib.util
 import itertools
 import random
 import shutil
@@ -89,7 +90,7 @@ class Bank:
                 resources[name] = {"kind": "postgres", "connect": self.clusters[name].connect}
         for name in BANKS:
             resources.setdefault(name, {"kind": "sqlite", "file": "accounts.db", "tables": ["account", "transfer"]})
-        self.world.make(resources, CALLS, record=True, more={"patience": 5.0, "retry_least": 0.3, "retry_most": 3.0})
+        self.world.make(resources, CALLS, record=True, certificates=self.options.tls, more={"patience": 5.0, "retry_least": 0.3, "retry_most": 3.0})
         for name in BANKS:
             accounts = [(f"{name}{k}", BALANCE) for k in range(ACCOUNTS)]
             if name in self.clusters:
@@ -196,7 +197,11 @@ class Bank:
     async def run(self) -> None:
         self.say("three banks start ..")
         self.world.start()
-        await self.world.whole(60)
+        try:
+            await self.world.whole(60)
+        except TimeoutError as error:
+            self.faults.append(str(error))
+            return
         self.begun = time.monotonic()
         tellers = [asyncio.create_task(self.teller(k)) for k in range(self.options.clients)]
         killing = asyncio.create_task(self.killer())
@@ -303,7 +308,7 @@ def tell(bank: Bank, total: int, audit: tuple[int, str]) -> None:
     counts = {word: sum(it.told == word for it in bank.transfers) for word in ("committed", "rolled back", "in doubt")}
     held = "SQLite" if not bank.clusters else "PostgreSQL, PostgreSQL, SQLite"
     print(f"transfers  {counts['committed']} committed, {counts['rolled back']} rolled back, {counts['in doubt']} in doubt; "
-          f"{counts['committed'] / bank.seconds:.1f} a second")
+          f"{counts['committed'] / max(bank.seconds, 1):.1f} a second")
     print(f"kills      {bank.kills}" + (f", and {bank.taken_back} records taken back from the log of {BANKS[0]}" if bank.options.wrong else ""))
     print(f"money      {total} of {len(BANKS) * ACCOUNTS * BALANCE} ({held})")
     print(f"audit      {audit[1].strip().replace(chr(10), '; ')}")
@@ -347,6 +352,7 @@ def main() -> int:
     parser.add_argument("--kills", type=int, help="how many sites or databases are killed (5)")
     parser.add_argument("--clients", type=int, default=12, help="how many transfers are under way at once (12)")
     parser.add_argument("--postgres", action="store_true", help="two of the banks keep their accounts in private servers of PostgreSQL")
+    parser.add_argument("--tls", action="store_true", help="the banks speak over TLS, each with a certificate of its own")
     parser.add_argument("--wrong", action="store_true", help="a site that is wrong: its log loses the last record at each kill; the status must be 1")
     parser.add_argument("--seed", type=int, help="of the draws; processes have none, so no two runs are alike")
     parser.add_argument("--folder", type=Path, help="where the sites' folders are made")
@@ -358,7 +364,12 @@ def main() -> int:
     options = parser.parse_args()
     if options.kills is None:
         options.kills = 20 if options.wrong else 5
-    return one_run(options)
+    if options.postgres and (importlib.util.find_spec("psycopg") is None or not Path("/usr/lib/postgresql").is_dir()):
+        parser.error("--postgres needs the packages postgresql and python3-psycopg")
+    try:
+        return one_run(options)
+    except KeyboardInterrupt:
+        return 130
 
 
 if __name__ == "__main__":

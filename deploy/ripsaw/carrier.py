@@ -131,6 +131,7 @@ class Link:
                 reading = asyncio.create_task(reader.read(1))
                 await asyncio.wait({sending, reading}, return_when=asyncio.FIRST_COMPLETED)
                 reading.cancel()
+                await asyncio.gather(reading, return_exceptions=True)
             finally:
                 sending.cancel()
                 with contextlib.suppress(asyncio.CancelledError, OSError, TimeoutError):

@@ -168,6 +168,9 @@ class Site:
                     pause = min(2 * pause, 5.0)
                     if self.stopping.is_set():
                         raise SiteFailed(f"resource {name} could not recover") from error
+            for node, tree in prepared:
+                if node not in self.nodes:
+                    self.note(f"resource {name} holds back {node}/{tree}, and site.toml does not name that node")
             for (node, tree), last in self.standing.last.items():
                 if last.kind is log.Kind.READY and (node, tree) not in prepared and node in self.nodes:
                     if self.nodes[node].resource is resource and not isinstance(resource, NoResource):
@@ -229,7 +232,7 @@ class Site:
             self.note(f"tpnode has ended with {status}: {said}")
         if status == FOREIGN:
             raise SiteFailed(f"{self.log}: {said}")
-        if self.log.stat().st_size > self.settings.compact_bytes or (status == LIMIT and "log" in said):
+        if self.log.stat().st_size > self.settings.compact_bytes or (status == LIMIT and "limit log" in said):
             await self.compact()
 
     async def compact(self) -> None:

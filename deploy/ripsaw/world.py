@@ -12,7 +12,7 @@ import sys
 from pathlib import Path
 from typing import Any
 
-from . import client, log
+from . import client
 from .wire import frame, octets, text_of_site
 
 PACKAGE = Path(__file__).resolve().parent.parent
@@ -115,7 +115,7 @@ class World:
         names = list(self.places)
         for name in names:
             self.places[name].folder.mkdir(parents=True)
-            (self.places[name].folder / "tp.log").write_bytes(log.FRESH)
+            subprocess.run([self.program, "format"], cwd=self.places[name].folder, check=True)
         if certificates:
             for name in names:
                 certify(self.places[name].folder, name)
