@@ -1,5 +1,5 @@
 -- The arrows of a picture are those of its sends, and its marks those of its log; each take ends one arrow.
-use Rattle.std.proofs.Common.{◌≡◌, ℕ, zero, suc, ◌+◌, ◌-◌, Bool, true, false, if◌then◌else◌, Option, Some, None, unwrap_or, List, [], ◌∷◌, map, refl, ap, sym, subst, ◌∙◌, arith}
+use Rattle.std.proofs.Common.{◌≡◌, ℕ, zero, suc, ◌+◌, ◌-◌, Bool, true, false, if◌then◌else◌, Option, Some, None, unwrap_or, List, [], ◌∷◌, map, refl, ap, subst, ◌∙◌, arith}
 use Rattle.tp_model.specs.declared.out_line.OutLine.{OutLine}
 use Rattle.tp_draw.specs.declared.end.End.{End}
 use Rattle.tp_draw.specs.declared.flight.Flight.{Flight}

@@ -1,5 +1,5 @@
 -- The band on each lane: what the records of its node say, and where its site is down.
-use Rattle.std.specs.Prelude.{ℕ, ◌==◌, Bool, true, false, if◌then◌else◌, Option, Some, List, [], ◌∷◌, map}
+use Rattle.std.specs.Prelude.{ℕ, ◌==◌, true, false, if◌then◌else◌, Option, Some, List, [], ◌∷◌, map}
 use Rattle.tp_names.specs.declared.outcome.Outcome.{Outcome}
 use Rattle.tp_records.specs.declared.indication.Indication.{Indication}
 use Rattle.tp_model.specs.declared.line.Line.{Line}
@@ -19,7 +19,7 @@ abbrev pub band_of : Outcome → Band
 band_of Outcome.Commit = Band.Committed
 band_of Outcome.Rollback = Band.RolledBack
 
--- a heuristic decision leaves the node in doubt
+-- A heuristic decision leaves the node in doubt. What a stop keeps has no line in a transcript, and so no band.
 abbrev pub news_of_log : List ℕ → LogWords → News
 news_of_log s (LogWords.Boot n) = News.Starts s
 news_of_log s (LogWords.Ready n k) = News.Turns n (Turn.Holds Band.InDoubt)

@@ -1,5 +1,5 @@
 -- What each piece of a picture's text is as bytes.
-use Rattle.std.specs.Prelude.{ℕ, nat_le, if◌then◌else◌, List, [], ◌∷◌, ◌++◌, length, take, codes}
+use Rattle.std.specs.Prelude.{ℕ, List, [], ◌∷◌}
 use Rattle.tp_model.specs.Words.{decimal}
 use Rattle.tp_draw.specs.declared.piece.Piece.{Piece}
 use Rattle.tp_draw.specs.Labels.{label}
