@@ -1,4 +1,5 @@
 pub mod Shaped
 pub mod FirstEnds
+pub mod Banded
 pub mod OneLane
 pub mod Escaping

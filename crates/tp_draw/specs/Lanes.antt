@@ -4,7 +4,7 @@ use Rattle.tp_names.specs.Same.{is_name}
 use Rattle.tp_model.specs.declared.line.Line.{Line}
 use Rattle.tp_model.specs.declared.out_line.LogWords.{LogWords}
 use Rattle.tp_model.specs.declared.out_line.OutLine.{OutLine}
-use Rattle.tp_model.specs.LineReading.{Reading, Says, read_line}
+use Rattle.tp_draw.specs.Events.{event_of}
 use Rattle.tp_draw.specs.declared.lane.Lane.{Lane}
 use Rattle.tp_draw.specs.declared.places.Places.{Places}
 
@@ -19,15 +19,14 @@ node_of (LogWords.Commit n k) = Some n
 node_of (LogWords.Damage n k o r) = Some n
 node_of (LogWords.End n k o) = Some n
 
-abbrev pub declared_by : Reading → Option (ℕ × List ℕ)
-declared_by (Says (Line.Node n s u)) = Some (n, s)
+abbrev pub declared_by : Option Line → Option (ℕ × List ℕ)
+declared_by (Some (Line.Node n s u)) = Some (n, s)
 declared_by _ = None
 
 -- a node and its site: by its declaration in the schedule, and by each record of it in the site's log
 abbrev pub placed : OutLine → Option (ℕ × List ℕ)
-placed (OutLine.Echo text) = declared_by (read_line text)
 placed (OutLine.Log s r) = option_map (λ n. (n, s)) (node_of r)
-placed _ = None
+placed o = declared_by (event_of o)
 
 -- the nodes that it names with no site
 abbrev pub named : OutLine → List ℕ

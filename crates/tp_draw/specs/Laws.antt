@@ -1,13 +1,18 @@
--- What the laws of pictures speak of: the shapes of a whole transcript, and what is told of its sends, its log, its frames and
--- its nodes.
-use Rattle.std.specs.Prelude.{ℕ, zero, suc, ◌≡◌, ◌<◌, ◌==◌, ◌||◌, Bool, false, if◌then◌else◌, Option, Some, None, List, [], ◌∷◌}
+-- What the laws of pictures speak of: the shapes of a whole transcript, and what is told of its sends, its log, its frames, its
+-- bands and its nodes.
+use Rattle.std.specs.Prelude.{ℕ, zero, suc, ◌≡◌, ◌<◌, ◌==◌, ◌||◌, Bool, true, false, if◌then◌else◌, Option, Some, None, unwrap_or, List, [], ◌∷◌}
 use Rattle.tp_model.specs.declared.out_line.LogWords.{LogWords}
 use Rattle.tp_model.specs.declared.out_line.OutLine.{OutLine}
+use Rattle.tp_draw.specs.declared.band.Band.{Band}
 use Rattle.tp_draw.specs.declared.end.End.{End}
+use Rattle.tp_draw.specs.declared.flight.Flight.{Flight}
 use Rattle.tp_draw.specs.declared.lane.Lane.{Lane}
+use Rattle.tp_draw.specs.declared.news.News.{News}
 use Rattle.tp_draw.specs.declared.shape.Shape.{Shape}
-use Rattle.tp_draw.specs.Lanes.{node_of, placed, named}
-use Rattle.tp_draw.specs.Ends.{end_of}
+use Rattle.tp_draw.specs.declared.track.Track.{Track}
+use Rattle.tp_draw.specs.Lanes.{node_of, placed, named, is_of_site}
+use Rattle.tp_draw.specs.Bands.{band_of, news_of, restarted}
+use Rattle.tp_draw.specs.Ends.{is_refused_after, end_of, is_in_row}
 use Rattle.tp_draw.specs.Shapes.{place_of, mark_of, shape_of}
 
 -- the item at an index
@@ -18,14 +23,14 @@ item (x ∷ xs) (suc k) = item xs k
 
 -- ---- shapes
 
--- of some lines of a transcript
-abbrev pub shapes_in : List OutLine → List OutLine → List Shape
-shapes_in os [] = []
-shapes_in os (o ∷ more) = shape_of os o ∷ shapes_in os more
+-- of some lines of a transcript, of which the first is in that row
+abbrev pub shapes_in : List OutLine → ℕ → List OutLine → List Shape
+shapes_in os r [] = []
+shapes_in os r (o ∷ more) = shape_of os r o ∷ shapes_in os (suc r) more
 
 -- of all its lines: the shape of a line stands in the row of the line
 abbrev pub shapes : List OutLine → List Shape
-shapes os = shapes_in os os
+shapes os = shapes_in os 0 os
 
 -- ---- frames
 
@@ -101,8 +106,57 @@ pub record IsFirst (k : ℕ) (os : List OutLine) (row : ℕ) (o : OutLine) : Typ
 -- what an end says of the frame in a transcript
 abbrev pub Says : ℕ → List OutLine → End → Type 0
 Says k os End.Never = (r : ℕ) (p : OutLine) → item os r ≡ Some p → ends_it k p ≡ false
-Says k os (End.Taken row) = IsFirst k os row (OutLine.Take k)
+Says k os (End.Taken row) = IsFirst k os row (OutLine.Take k) × (is_refused_after os row ≡ false)
+Says k os (End.Refused row) = IsFirst k os row (OutLine.Take k) × (is_refused_after os row ≡ true)
 Says k os (End.Lost row) = IsFirst k os row (OutLine.Lost k)
+
+-- ---- takes
+
+-- how the frame ends that is taken in that row
+abbrev pub end_here : List OutLine → ℕ → End
+end_here os r = if is_refused_after os r then End.Refused r else End.Taken r
+
+-- The shape of a take of a frame. It has none where the arrow of the send ends in this row; else it has an arrow of its own,
+-- from the row of the send to this one.
+abbrev pub shape_of_take : List OutLine → ℕ → ℕ → Flight → Shape
+shape_of_take os r k f =
+    if is_in_row r (end_of os k) then Shape.Bare else Shape.Again k (place_of os f.from) (place_of os f.to) f.row f.tone (end_here os r)
+
+-- ---- bands
+
+-- what the last of these lines says that says anything; the first value where none does
+abbrev pub latest : {X : Type 0} → (OutLine → Option X) → X → List OutLine → X
+latest says x [] = x
+latest says x (o ∷ os) = latest says (unwrap_or (says o) x) os
+
+-- of the node, by a record in the log
+abbrev pub held_in : ℕ → LogWords → Option Band
+held_in n (LogWords.Boot b) = None
+held_in n (LogWords.Ready m k) = if n == m then Some Band.InDoubt else None
+held_in n (LogWords.Heuristic m k o) = None
+held_in n (LogWords.Commit m k) = if n == m then Some Band.Committed else None
+held_in n (LogWords.Damage m k o r) = if n == m then Some (band_of o) else None
+held_in n (LogWords.End m k o) = if n == m then Some Band.Quiet else None
+
+abbrev pub held_by : ℕ → OutLine → Option Band
+held_by n (OutLine.Log s r) = held_in n r
+held_by n _ = None
+
+-- that the site of the lane stops, or starts
+abbrev pub down_after : Lane → News → Option Bool
+down_after l (News.Stops s) = if is_of_site s l then Some true else None
+down_after l (News.Starts s) = if is_of_site s l then Some false else None
+down_after l _ = None
+
+abbrev pub down_by : Lane → OutLine → Option Bool
+down_by l o = down_after l (news_of o)
+
+-- The lane is the one at that place, and its band is what the last record of its node says of these lines. A node of which the
+-- log holds nothing may roll back. There is a gap where a stop of the site is later than its last start.
+pub record IsTrack (lines : List OutLine) (at : Option Lane) (t : Track) : Type 0 where
+  pub lane : at ≡ Some t.lane
+  pub band : restarted t.band ≡ latest (held_by t.lane.node) Band.Quiet lines
+  pub down : t.down ≡ latest (down_by t.lane) false lines
 
 -- ---- nodes
 

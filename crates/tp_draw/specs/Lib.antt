@@ -1,9 +1,15 @@
 pub mod Texts
+pub mod Events
 pub mod Lanes
 pub mod Ends
-pub mod Shapes
 pub mod Tones
+pub mod Flights
+pub mod Shapes
+pub mod Bands
+pub mod Views
+pub mod Reasons
 pub mod Labels
+pub mod Style
 pub mod Svg
 pub mod Mermaid
 pub mod Pictures

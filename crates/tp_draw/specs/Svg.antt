@@ -1,63 +1,86 @@
 -- A picture as an SVG file: a row for each line, with the line's text on the left and its shape at the lanes.
-use Rattle.std.specs.Prelude.{ℕ, ◌+◌, ◌-◌, ◌*◌, ◌/◌, ◌^◌, ◌==◌, nat_le, min, if◌then◌else◌, Option, Some, None, List, [], ◌∷◌, ◌++◌, length, take, codes}
+use Rattle.std.specs.Prelude.{ℕ, zero, suc, ◌+◌, ◌-◌, ◌==◌, ◌&&◌, nat_le, nat_lt, Bool, true, false, not, if◌then◌else◌, Option, Some, None, List, [], ◌∷◌, ◌++◌, length, codes}
+use Rattle.tp_model.specs.declared.out_line.LogWords.{LogWords}
 use Rattle.tp_model.specs.declared.out_line.OutLine.{OutLine}
 use Rattle.tp_model.specs.OutText.{out_text}
 use Rattle.tp_model.specs.Words.{decimal}
+use Rattle.tp_draw.specs.declared.band.Band.{Band}
 use Rattle.tp_draw.specs.declared.end.End.{End}
 use Rattle.tp_draw.specs.declared.lane.Lane.{Lane}
 use Rattle.tp_draw.specs.declared.places.Places.{Places}
 use Rattle.tp_draw.specs.declared.shape.Shape.{Shape}
 use Rattle.tp_draw.specs.declared.tone.Tone.{Tone}
-use Rattle.tp_draw.specs.Texts.{joined, escaped}
+use Rattle.tp_draw.specs.declared.track.Track.{Track}
+use Rattle.tp_draw.specs.declared.view.View.{View}
+use Rattle.tp_draw.specs.Texts.{joined, escaped, cut}
 use Rattle.tp_draw.specs.Lanes.{lanes_of, places_in}
+use Rattle.tp_draw.specs.Bands.{first_tracks, all_moved}
 use Rattle.tp_draw.specs.Shapes.{shape_of}
-use Rattle.tp_draw.specs.Tones.{tone_of, tone_name, colour}
+use Rattle.tp_draw.specs.Style.{style, tips, legend}
+use Rattle.tp_draw.specs.Tones.{tone_of, tone_name}
 use Rattle.tp_draw.specs.Labels.{label}
+use Rattle.tp_draw.specs.Views.{capped, is_shown, seen_at, rows_seen, along, below, down}
 
--- ---- coordinates, none of which passes the greatest number of 64 bits
+-- ---- figures and words
 
-abbrev pub capped : ℕ → ℕ
-capped n = min n (2 ^ 64 - 1)
+-- of a kind, in a tone: a path from a point
+unfoldable pub figure : List ℕ → Tone → ℕ → ℕ → List ℕ → List ℕ
+figure kind t x y way = joined (
+    codes "<path class='"
+    ∷ kind
+    ∷ codes " "
+    ∷ tone_name t
+    ∷ codes "' d='M"
+    ∷ decimal x
+    ∷ codes " "
+    ∷ decimal y
+    ∷ way
+    ∷ codes "'/>\n"
+    ∷ [])
 
--- so far to the right of the left edge of the lane at that place, from the text at its left
-unfoldable pub along : ℕ → ℕ → ℕ
-along offset place = capped (offset + 150 * place)
+-- of a kind, over these lanes
+unfoldable pub bar : View → List ℕ → ℕ → List ℕ → Places → List ℕ
+bar v kind y high over = joined (
+    codes "<path class='"
+    ∷ kind
+    ∷ codes "' d='M"
+    ∷ decimal (along v 14 over.first)
+    ∷ codes " "
+    ∷ decimal y
+    ∷ codes "H"
+    ∷ decimal (along v 206 over.last)
+    ∷ codes "v"
+    ∷ high
+    ∷ codes "H"
+    ∷ decimal (along v 14 over.first)
+    ∷ codes "z'/>\n"
+    ∷ [])
 
--- so far below the upper edge of that row, from what stands above the rows
-unfoldable pub down : ℕ → ℕ → ℕ
-down offset row = capped (offset + 20 * row)
+unfoldable pub words_text : ℕ → ℕ → List ℕ → OutLine → List ℕ
+words_text x y look o = joined (
+    codes "<text class='l "
+    ∷ tone_name (tone_of o)
+    ∷ codes "' x='"
+    ∷ decimal x
+    ∷ codes "' y='"
+    ∷ decimal y
+    ∷ codes "'"
+    ∷ look
+    ∷ codes ">"
+    ∷ label o
+    ∷ codes "</text>\n"
+    ∷ [])
 
-abbrev pub middle : ℕ → ℕ
-middle place = along 475 place
-
-abbrev pub height : ℕ → ℕ
-height row = down 80 row
-
-unfoldable pub halfway : ℕ → ℕ → ℕ
-halfway a b = a / 2 + b / 2
-
--- how wide a bar over these lanes is, and where its middle is
-abbrev pub width : Places → ℕ
-width over = along 144 (over.last - over.first)
-
-abbrev pub centre : Places → ℕ
-centre over = halfway (middle over.first) (middle over.last)
+-- the words of a line on the left of a lane, or on its right in that look, clear of the arrows that come down to it
+abbrev pub words_at : View → Bool → ℕ → ℕ → List ℕ → OutLine → List ℕ
+words_at v left place y look o =
+    if left then words_text (along v 90 place) y (codes " text-anchor='end'") o else words_text (along v 130 place) y look o
 
 -- ---- what stands above the rows
 
--- the tip of an arrow
-unfoldable pub tip : List ℕ → List ℕ → List ℕ
-tip name fill = joined (
-    codes "<marker id='"
-    ∷ name
-    ∷ codes "' viewBox='0 0 8 8' refX='8' refY='4' markerWidth='7' markerHeight='7' orient='auto'>"
-    ∷ codes "<path d='M0 0L8 4L0 8z' fill='"
-    ∷ fill
-    ∷ codes "'/></marker>\n"
-    ∷ [])
-
-unfoldable pub opening : ℕ → ℕ → List ℕ
-opening wide high = joined (
+-- with so many lanes and lines
+unfoldable pub head : ℕ → ℕ → ℕ → ℕ → List ℕ
+head wide high lanes lines = joined (
     codes "<svg xmlns='http://www.w3.org/2000/svg' width='"
     ∷ decimal wide
     ∷ codes "' height='"
@@ -66,272 +89,261 @@ opening wide high = joined (
     ∷ decimal wide
     ∷ codes " "
     ∷ decimal high
-    ∷ codes "' font-family='monospace' font-size='11'>\n"
-    ∷ codes "<style>.l{paint-order:stroke;stroke:#fff;stroke-width:3px}"
-    ∷ codes "text{white-space:pre}</style>\n<defs>\n"
+    ∷ codes "' font-family='monospace' font-size='12'>\n<title>A run of "
+    ∷ decimal lanes
+    ∷ codes " nodes in "
+    ∷ decimal lines
+    ∷ codes " lines</title>\n<desc>Time goes down. Each node has a lane, each line of the transcript a row, "
+    ∷ codes "and each frame an arrow from its send to its take.</desc>\n"
     ∷ [])
-
-abbrev pub tip_of : Tone → List ℕ
-tip_of t = tip (tone_name t) (colour t)
-
-unfoldable pub tips : List ℕ
-tips = tip_of Tone.Plain ++ (tip_of Tone.Faint ++ (tip_of Tone.Commit ++ (tip_of Tone.Rollback ++ tip_of Tone.Damage)))
-
--- the ends of arrows that do not reach a lane, and the ground
-unfoldable pub other_tips : List ℕ
-other_tips = joined (
-    codes "<marker id='cross' viewBox='0 0 8 8' refX='4' refY='4' markerWidth='9' markerHeight='9'>"
-    ∷ codes "<path d='M0 0L8 8M0 8L8 0' stroke='#b71c1c' stroke-width='2'/></marker>\n"
-    ∷ codes "<marker id='ring' viewBox='0 0 8 8' refX='4' refY='4' markerWidth='6' markerHeight='6'>"
-    ∷ codes "<circle cx='4' cy='4' r='3' fill='#fff' stroke='#777'/></marker>\n"
-    ∷ codes "</defs>\n<rect width='100%' height='100%' fill='#fff'/>\n"
-    ∷ [])
-
-unfoldable pub head : ℕ → ℕ → List ℕ
-head lanes rows = opening (middle lanes) (down 120 rows) ++ (tips ++ other_tips)
 
 -- ---- the lanes
 
-unfoldable pub site_box : ℕ → ℕ → ℕ → List ℕ → List ℕ
-site_box x wide mid s = joined (
-    codes "<rect x='"
-    ∷ decimal x
-    ∷ codes "' y='8' width='"
-    ∷ decimal wide
-    ∷ codes "' height='46' rx='4' fill='#eef3f8'/>\n<text x='"
-    ∷ decimal mid
-    ∷ codes "' y='24' text-anchor='middle' fill='#555'>site "
-    ∷ escaped s
-    ∷ codes "</text>\n"
-    ∷ [])
+unfoldable pub site_name : ℕ → List ℕ → List ℕ
+site_name x s = joined (codes "<text class='f' x='" ∷ decimal x ∷ codes "' y='22'>site " ∷ escaped s ∷ codes "</text>\n" ∷ [])
 
--- the box of a site over its lanes
-unfoldable pub site_over : Places → List ℕ → List ℕ
-site_over over s = site_box (along 403 over.first) (width over) (centre over) s
+-- the box of a site over its lanes, which is drawn at the first of them
+abbrev pub site_at : View → List Lane → ℕ → Option (List ℕ) → List ℕ
+site_at v ls place None = []
+site_at v ls place (Some s) =
+    if (places_in ls s).first == place then bar v (codes "b") 6 (codes "46") (places_in ls s) ++ site_name (along v 24 place) s else []
 
--- which is drawn at the first of them
-abbrev pub site_at : List Lane → ℕ → Option (List ℕ) → List ℕ
-site_at ls place None = []
-site_at ls place (Some s) = if (places_in ls s).first == place then site_over (places_in ls s) s else []
-
--- a node's number, and a line from above the first row to below the last
+-- a node's number, and a line from above the first row to that height
 unfoldable pub lane_line : ℕ → ℕ → ℕ → List ℕ
 lane_line x y n = joined (
-    codes "<text x='"
+    codes "<text class='p' x='"
     ∷ decimal x
-    ∷ codes "' y='44' text-anchor='middle' font-size='13' font-weight='bold'>node "
+    ∷ codes "' y='44' text-anchor='middle' font-weight='bold'>node "
     ∷ decimal n
-    ∷ codes "</text>\n<path d='M"
+    ∷ codes "</text>\n<path class='v' d='M"
     ∷ decimal x
-    ∷ codes " 56V"
+    ∷ codes " 54V"
     ∷ decimal y
-    ∷ codes "' stroke='#bbb'/>\n"
+    ∷ codes "'/>\n"
     ∷ [])
 
-unfoldable pub lane_text : List Lane → ℕ → ℕ → Lane → List ℕ
-lane_text ls rows place l = site_at ls place l.site ++ lane_line (middle place) (height rows) l.node
+-- of these lanes, of which the first stands at that place
+abbrev pub lanes_text : View → List Lane → ℕ → ℕ → List Lane → List ℕ
+lanes_text v ls high place [] = []
+lanes_text v ls high place (l ∷ more) = (site_at v ls place l.site ++ lane_line (along v 110 place) high l.node) ++ lanes_text v ls high (place + 1) more
+
+-- ---- the bands on the lanes in a row
+
+-- the kind of what is on a lane
+abbrev pub band_kind : Band → List ℕ
+band_kind Band.Quiet = []
+band_kind Band.InDoubt = codes "i"
+band_kind Band.Committed = codes "y"
+band_kind Band.RolledBack = codes "o"
+band_kind Band.Rolling = codes "o"
+
+abbrev pub is_quiet : Band → Bool
+is_quiet Band.Quiet = true
+is_quiet _ = false
+
+-- a crossed box where the site is down
+abbrev pub track_text : ℕ → ℕ → Track → List ℕ
+track_text x y t =
+    if t.down then figure (codes "k") Tone.Plain x y (codes "h10v20h-10zl10 20m0-20l-10 20")
+    else if is_quiet t.band then []
+    else figure (band_kind t.band) Tone.Plain x y (codes "h10v20h-10z")
 
 -- of these lanes, of which the first stands at that place
-abbrev pub lanes_text : List Lane → ℕ → ℕ → List Lane → List ℕ
-lanes_text ls rows place [] = []
-lanes_text ls rows place (l ∷ more) = lane_text ls rows place l ++ lanes_text ls rows (place + 1) more
+abbrev pub tracks_text : View → ℕ → ℕ → List Track → List ℕ
+tracks_text v y place [] = []
+tracks_text v y place (t ∷ more) = track_text (along v 105 place) y t ++ tracks_text v y (place + 1) more
 
 -- ---- the text of a line
 
-abbrev pub most_text : ℕ
-most_text = 60
-
--- two dots stand for what is left out
-abbrev pub dots : List ℕ → List ℕ
-dots text = if nat_le (length text) most_text then [] else codes ".."
-
-abbrev pub bold : List ℕ
-bold = codes "' font-weight='bold"
-
 -- the events of the schedule and the outcomes of trees are bold
-abbrev pub weight : OutLine → List ℕ
-weight (OutLine.Echo text) = bold
-weight (OutLine.Agreed a o) = bold
-weight (OutLine.Mixed a ns) = bold
-weight (OutLine.Open a) = bold
-weight _ = []
+abbrev pub is_bold : OutLine → Bool
+is_bold (OutLine.Echo text) = true
+is_bold (OutLine.Agreed a o) = true
+is_bold (OutLine.Mixed a ns) = true
+is_bold (OutLine.Open a) = true
+is_bold _ = false
 
-unfoldable pub text_at : ℕ → List ℕ → List ℕ → List ℕ → List ℕ → List ℕ
-text_at y fill bolder text after = joined (
-    codes "<text x='8' y='"
+unfoldable pub text_at : ℕ → ℕ → List ℕ → OutLine → List ℕ
+text_at y most weight o = joined (
+    codes "<text class='"
+    ∷ tone_name (tone_of o)
+    ∷ codes "' x='8' y='"
     ∷ decimal y
-    ∷ codes "' fill='"
-    ∷ fill
-    ∷ bolder
-    ∷ codes "'>"
-    ∷ escaped text
-    ∷ after
+    ∷ codes "'"
+    ∷ weight
+    ∷ codes ">"
+    ∷ cut most (out_text o)
     ∷ codes "</text>\n"
     ∷ [])
 
-unfoldable pub line_text : ℕ → OutLine → List ℕ
-line_text row o = text_at (down 84 row) (colour (tone_of o)) (weight o) (take most_text (out_text o)) (dots (out_text o))
+-- of all lines, or of those that are bold
+abbrev pub line_text : View → ℕ → OutLine → List ℕ
+line_text v r o =
+    if is_bold o then text_at (down v 14 r) v.most (codes " font-weight='bold'") o
+    else if v.all then text_at (down v 14 r) v.most [] o
+    else []
 
--- ---- shapes
+-- ---- arrows
 
-unfoldable pub label_head : ℕ → ℕ → List ℕ → List ℕ → List ℕ
-label_head x y fill style = joined (
-    codes "<text class='l' x='"
+-- over a lane that it passes
+unfoldable pub hop : View → Bool → ℕ → List ℕ
+hop v right place = joined (
+    codes "H"
+    ∷ decimal (along v (if right then 104 else 116) place)
+    ∷ (if right then codes "a6 6 0 0 1 12 0" else codes "a6 6 0 0 0 -12 0")
+    ∷ [])
+
+-- the lane that is so far from another
+abbrev pub passed : Bool → ℕ → ℕ → ℕ
+passed right from n = if right then capped (from + n) else from - n
+
+-- over so many lanes, of which the first is next to the one where it begins
+abbrev pub hops : View → Bool → ℕ → ℕ → List ℕ
+hops v right from zero = []
+hops v right from (suc n) = hops v right from n ++ hop v right (passed right from (suc n))
+
+-- how many lanes are between two
+abbrev pub between : ℕ → ℕ → ℕ
+between from to = if nat_le from to then to - from - 1 else from - to - 1
+
+-- beside a lane, where an arrow turns down to it, and at its edge, where it arrives
+abbrev pub turn_side : Bool → ℕ
+turn_side right = if right then 96 else 124
+
+abbrev pub edge_side : Bool → ℕ
+edge_side right = if right then 102 else 118
+
+unfoldable pub arrow_stop : ℕ → ℕ → ℕ → List ℕ → List ℕ → List ℕ
+arrow_stop x to y dash end = joined (
+    codes "H"
     ∷ decimal x
-    ∷ codes "' y='"
-    ∷ decimal y
-    ∷ codes "' fill='"
-    ∷ fill
-    ∷ codes "'"
-    ∷ style
-    ∷ codes ">"
-    ∷ [])
-
-unfoldable pub text_end : List ℕ
-text_end = codes "</text>\n"
-
--- the words of a shape, in that style
-unfoldable pub label_text : ℕ → ℕ → List ℕ → OutLine → List ℕ
-label_text x y style o = label_head x y (colour (tone_of o)) style ++ (label o ++ text_end)
-
--- on the right of what stands in the middle of a lane
-unfoldable pub beside : ℕ → ℕ → List ℕ → OutLine → List ℕ
-beside row place style o = label_text (along 484 place) (down 84 row) style o
-
-unfoldable pub band : ℕ → List ℕ → List ℕ → List ℕ
-band y fill opacity = joined (
-    codes "<rect y='"
-    ∷ decimal y
-    ∷ codes "' width='100%' height='20' fill='"
-    ∷ fill
-    ∷ codes "' fill-opacity='"
-    ∷ opacity
-    ∷ codes "'/>\n"
-    ∷ [])
-
-unfoldable pub bar : ℕ → ℕ → ℕ → List ℕ → List ℕ
-bar x y wide fill = joined (
-    codes "<rect x='"
-    ∷ decimal x
-    ∷ codes "' y='"
-    ∷ decimal y
-    ∷ codes "' width='"
-    ∷ decimal wide
-    ∷ codes "' height='16' fill='"
-    ∷ fill
-    ∷ codes "'/>\n"
-    ∷ [])
-
--- over the lanes of a site, with its words in the middle
-unfoldable pub bar_text : ℕ → Places → List ℕ → OutLine → List ℕ
-bar_text row over fill o =
-    bar (along 403 over.first) (down 72 row) (width over) fill
-    ++ label_text (centre over) (down 84 row) (codes " text-anchor='middle'") o
-
-unfoldable pub square : ℕ → ℕ → List ℕ → List ℕ
-square x y fill = joined (
-    codes "<rect x='"
-    ∷ decimal x
-    ∷ codes "' y='"
-    ∷ decimal y
-    ∷ codes "' width='8' height='8' fill='"
-    ∷ fill
-    ∷ codes "'/>\n"
-    ∷ [])
-
-unfoldable pub mark_text : ℕ → ℕ → OutLine → List ℕ
-mark_text row place o = square (along 471 place) (down 76 row) (colour (tone_of o)) ++ beside row place (codes " font-weight='bold'") o
-
-unfoldable pub ring : ℕ → ℕ → List ℕ → List ℕ → List ℕ
-ring x y fill line = joined (
-    codes "<circle cx='"
-    ∷ decimal x
-    ∷ codes "' cy='"
-    ∷ decimal y
-    ∷ codes "' r='4' fill='"
-    ∷ fill
-    ∷ codes "' stroke='"
-    ∷ line
-    ∷ codes "' stroke-width='1.5'/>\n"
-    ∷ [])
-
-unfoldable pub ring_text : ℕ → ℕ → List ℕ → List ℕ → OutLine → List ℕ
-ring_text row place fill style o = ring (middle place) (height row) fill (colour (tone_of o)) ++ beside row place style o
-
--- a line between two points, with that stroke and tip
-unfoldable pub path : ℕ × ℕ → ℕ × ℕ → List ℕ → List ℕ → List ℕ → List ℕ
-path from to line dash end = joined (
-    codes "<path d='M"
-    ∷ decimal from.0
-    ∷ codes " "
-    ∷ decimal from.1
     ∷ codes "L"
-    ∷ decimal to.0
+    ∷ decimal to
     ∷ codes " "
-    ∷ decimal to.1
-    ∷ codes "' stroke='"
-    ∷ line
+    ∷ decimal y
+    ∷ codes "'"
     ∷ dash
-    ∷ codes "' marker-end='url(#"
+    ∷ codes " marker-end='url(#"
     ∷ end
     ∷ codes ")'/>\n"
     ∷ [])
 
--- To the other lane in the row where the frame was taken; halfway to it where the frame was lost, and in the row of its
--- send where nothing says what became of it.
-unfoldable pub arrow : ℕ → ℕ → ℕ → End → Tone → List ℕ
-arrow row from to End.Never t = path (middle from, height row) (halfway (middle from) (middle to), height row) (colour t) (codes "' stroke-dasharray='4") (codes "ring")
-arrow row from to (End.Taken last) t = path (middle from, height row) (middle to, height last) (colour t) [] (tone_name t)
-arrow row from to (End.Lost last) t = path (middle from, height row) (halfway (middle from) (middle to), height last) (colour t) [] (codes "cross")
+-- To the other lane in the row where the frame was taken; beside it where the frame was lost, and in the row of its send where
+-- nothing says what became of it. A cross is at the end of what was lost, dropped or refused.
+abbrev pub arrow_end : View → ℕ → ℕ → ℕ → List ℕ → Tone → End → List ℕ
+arrow_end v row turn edge dash t End.Never = arrow_stop turn turn (down v 17 row) (codes " stroke-dasharray='2 4'") (codes "n")
+arrow_end v row turn edge dash t (End.Taken last) = arrow_stop turn edge (down v 10 last) dash (tone_name t)
+arrow_end v row turn edge dash t (End.Refused last) = arrow_stop turn edge (down v 10 last) dash (codes "x")
+arrow_end v row turn edge dash t (End.Lost last) = arrow_stop turn turn (down v 10 last) dash (codes "x")
 
--- on the side to which the arrow goes
-unfoldable pub arrow_label : ℕ → ℕ → ℕ → OutLine → List ℕ
-arrow_label row from to o =
-    if nat_le from to
-    then label_text (along 484 from) (down 76 row) [] o
-    else label_text (along 466 from) (down 76 row) (codes " text-anchor='end'") o
+unfoldable pub arrow_start : Tone → ℕ → ℕ → List ℕ
+arrow_start t x y = joined (codes "<path class='a " ∷ tone_name t ∷ codes "' d='M" ∷ decimal x ∷ codes " " ∷ decimal y ∷ [])
 
-unfoldable pub arrow_text : ℕ → ℕ → ℕ → End → OutLine → List ℕ
-arrow_text row from to end o = arrow row from to end (tone_of o) ++ arrow_label row from to o
+-- from the row of its send to its end, between these lanes
+unfoldable pub arrow : View → ℕ → ℕ → ℕ → List ℕ → Tone → End → List ℕ
+arrow v row from to dash t end =
+    arrow_start t (along v 110 from) (down v 17 row)
+    ++ (hops v (nat_le from to) from (between from to)
+    ++ arrow_end v row (along v (turn_side (nat_le from to)) to) (along v (edge_side (nat_le from to)) to) dash t end)
 
-abbrev pub shape_text : ℕ → Shape → OutLine → List ℕ
-shape_text row Shape.Bare o = []
-shape_text row Shape.Event o = band (down 70 row) (codes "#000") (codes "0.06")
-shape_text row Shape.Tree o = band (down 70 row) (colour (tone_of o)) (codes "0.15")
-shape_text row (Shape.Boot over) o = bar_text row over (codes "#cfe3f7") o
-shape_text row (Shape.Stop over) o = bar_text row over (codes "#f7cfcf") o
-shape_text row (Shape.Mark place) o = mark_text row place o
-shape_text row (Shape.Told place) o = ring_text row place (codes "#fff") (codes " font-style='italic'") o
-shape_text row (Shape.State place) o = ring_text row place (codes "#777") [] o
-shape_text row (Shape.Arrow k from to end) o = arrow_text row from to end o
+-- ---- shapes
+
+-- what is behind the lanes
+abbrev pub ground : View → ℕ → Shape → OutLine → List ℕ
+ground v r Shape.Event o = figure (codes "e") Tone.Plain 0 (down v 0 r) (codes "h999999v20H0z")
+ground v r Shape.Tree o = figure (codes "t") (tone_of o) 0 (down v 0 r) (codes "h999999v20H0z")
+ground v r (Shape.Boot over) o = bar v (codes "s") (down v 2 r) (codes "16") over
+ground v r _ o = []
+
+-- a figure in the middle of a lane, with its words
+unfoldable pub sign : View → ℕ → ℕ → List ℕ → List ℕ → List ℕ → OutLine → List ℕ
+sign v r place kind way look o =
+    figure kind (tone_of o) (along v 106 place) (down v 6 r) way ++ words_at v false place (down v 14 r) look o
+
+-- a decision is hollow
+abbrev pub mark_kind : OutLine → List ℕ
+mark_kind (OutLine.Log s (LogWords.Heuristic n k o)) = codes "h"
+mark_kind _ = codes "m"
+
+-- an arrow from the row in which the frame was sent, with words at its end
+unfoldable pub again_text : View → ℕ → ℕ → ℕ → ℕ → Tone → End → OutLine → List ℕ
+again_text v r sent from to t end o =
+    arrow v sent from to (codes " stroke-dasharray='6 3'") t end ++ words_at v (nat_le from to) to (down v 14 r) [] o
+
+-- What is before the lanes: a square for a record, a ring for what a user is told, a cross for what is refused, arrows, and words. The
+-- words of an arrow are on the side to which it goes, and those at its end on the side from which it comes.
+abbrev pub shape_text : View → ℕ → Shape → OutLine → List ℕ
+shape_text v r Shape.Bare o = []
+shape_text v r Shape.Event o = []
+shape_text v r Shape.Tree o = []
+shape_text v r (Shape.Boot over) o = words_at v false over.first (down v 14 r) [] o
+shape_text v r (Shape.Stop over) o = words_at v false over.first (down v 14 r) (codes " font-weight='bold'") o
+shape_text v r (Shape.Mark place) o = sign v r place (mark_kind o) (codes "h8v8h-8z") (codes " font-weight='bold'") o
+shape_text v r (Shape.Told place) o = sign v r place (codes "h") (codes "m0 4a4 4 0 1 1 8 0a4 4 0 1 1 -8 0z") (codes " font-style='italic'") o
+shape_text v r (Shape.State place) o = sign v r place (codes "m") (codes "m0 4a4 4 0 1 1 8 0a4 4 0 1 1 -8 0z") [] o
+shape_text v r (Shape.Arrow k from to end) o =
+    arrow v r from to [] (tone_of o) end ++ words_at v (not (nat_le from to)) from (down v 13 r) [] o
+shape_text v r (Shape.Again k from to sent t end) o = again_text v r sent from to t end o
+shape_text v r (Shape.Lost from to) o = words_at v (nat_le from to) to (down v 14 r) [] o
+shape_text v r (Shape.Refused place) o = sign v r place (codes "x") (codes "l8 8m0-8l-8 8") [] o
+shape_text v r (Shape.Dropped place) o = words_at v false place (down v 14 r) [] o
 
 -- ---- rows
 
-unfoldable pub row_text : List OutLine → ℕ → OutLine → List ℕ
-row_text os row o = shape_text row (shape_of os o) o ++ line_text row o
+abbrev pub shown_row : View → ℕ → Shape → List Track → OutLine → List ℕ
+shown_row v r s ts o = ground v r s o ++ (tracks_text v (down v 0 r) 0 ts ++ (shape_text v r s o ++ line_text v r o))
 
--- of these lines, of which the first stands in that row
-abbrev pub rows_text : List OutLine → ℕ → List OutLine → List ℕ
-rows_text os row [] = []
-rows_text os row (o ∷ more) = row_text os row o ++ rows_text os (row + 1) more
+-- it is at the first line that is shown, or after it
+abbrev pub is_later : View → End → Bool
+is_later v End.Never = false
+is_later v (End.Taken last) = nat_le v.from last
+is_later v (End.Refused last) = nat_le v.from last
+is_later v (End.Lost last) = nat_le v.from last
+
+-- of a line that is not shown: the arrow of a frame that was sent before, and ends after
+abbrev pub hidden_row : View → ℕ → Shape → OutLine → List ℕ
+hidden_row v r (Shape.Arrow k from to end) o = if nat_lt r v.from && is_later v end then arrow v r from to [] (tone_of o) end else []
+hidden_row v r _ o = []
+
+-- a line and its shape, with the lanes after it
+abbrev pub row_text : View → ℕ → Shape → List Track → OutLine → List ℕ
+row_text v r s ts o = if is_shown v r then shown_row v r s ts o else hidden_row v r s o
+
+-- of these lines, of which the first stands in that row, with the lanes before it
+abbrev pub rows_text : View → List OutLine → List Track → ℕ → List OutLine → List ℕ
+rows_text v os ts r [] = []
+rows_text v os ts r (o ∷ more) = row_text v r (shape_of os r o) (all_moved o ts) o ++ rows_text v os (all_moved o ts) (r + 1) more
 
 -- ---- all of it
 
--- what the marks mean, below the rows
-unfoldable pub foot : ℕ → ℕ → List ℕ
-foot first second = joined (
-    codes "<text x='8' y='"
+unfoldable pub note_line : ℕ → ℕ → ℕ → List ℕ
+note_line y first last = joined (
+    codes "<text class='f' x='8' y='"
+    ∷ decimal y
+    ∷ codes "'>lines "
     ∷ decimal first
-    ∷ codes "' fill='#777'>square: a record forced to the log; "
-    ∷ codes "ring: what the user is told</text>\n<text x='8' y='"
-    ∷ decimal second
-    ∷ codes "' fill='#777'>arrow: a frame from its send to its take; "
-    ∷ codes "cross: lost; dashed: not taken</text>\n</svg>\n"
+    ∷ codes " to "
+    ∷ decimal last
+    ∷ codes " are not shown</text>\n"
     ∷ [])
 
-abbrev pub svg : List OutLine → List ℕ
-svg os =
-    head (length (lanes_of os)) (length os)
-    ++ (lanes_text (lanes_of os) (length os) 0 (lanes_of os)
-    ++ (rows_text os 0 os
-    ++ foot (down 90 (length os)) (down 106 (length os))))
+-- which lines are not shown, from one to another; nothing, where there are none
+abbrev pub note : ℕ → ℕ → ℕ → List ℕ
+note y first last = if nat_le first last then note_line y first last else []
+
+unfoldable pub foot : ℕ → List ℕ
+foot y = joined (codes "<g transform='translate(0 " ∷ decimal y ∷ codes ")'>\n" ∷ []) ++ legend
+
+-- the notes of what is not shown, before and after
+abbrev pub notes : View → ℕ → List ℕ
+notes v lines = note (below 14 0) 1 v.from ++ note (below 14 (seen_at v v.to)) (suc v.to) lines
+
+abbrev pub svg : View → List OutLine → List ℕ
+svg v os =
+    head (along v 100 (length (lanes_of os))) (below 180 (rows_seen v (length os))) (length (lanes_of os)) (length os)
+    ++ (style
+    ++ (tips
+    ++ (lanes_text v (lanes_of os) (below 0 (rows_seen v (length os))) 0 (lanes_of os)
+    ++ (rows_text v os (first_tracks os) 0 os
+    ++ (notes v (length os)
+    ++ foot (below 20 (rows_seen v (length os))))))))

@@ -1,5 +1,5 @@
 -- Text that is put together, and text that stands in a picture as text whatever its octets are.
-use Rattle.std.specs.Prelude.{ℕ, ◌==◌, ◌&&◌, nat_le, Bool, if◌then◌else◌, List, [], ◌∷◌, ◌++◌, codes}
+use Rattle.std.specs.Prelude.{ℕ, ◌==◌, ◌&&◌, nat_le, Bool, if◌then◌else◌, List, [], ◌∷◌, ◌++◌, length, take, codes}
 
 -- one after the other
 abbrev pub joined : List (List ℕ) → List ℕ
@@ -25,6 +25,10 @@ escaped_octet c =
 abbrev pub escaped : List ℕ → List ℕ
 escaped [] = []
 escaped (c ∷ cs) = escaped_octet c ++ escaped cs
+
+-- so many octets of it; two dots stand for what is left out
+abbrev pub cut : ℕ → List ℕ → List ℕ
+cut most text = if nat_le (length text) most then escaped text else escaped (take most text) ++ codes ".."
 
 -- ---- in Mermaid text, where `#` begins the number of an octet, `;` ends a statement, `%` may begin a directive and `<` a tag
 

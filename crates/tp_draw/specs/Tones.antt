@@ -1,4 +1,4 @@
--- The colour of each line: that of the outcome of which it is.
+-- The color of each line: that of the outcome that it tells of.
 use Rattle.std.specs.Prelude.{ℕ, List, codes}
 use Rattle.tp_names.specs.declared.outcome.Outcome.{Outcome}
 use Rattle.tp_names.specs.declared.outcome.Report.{Report}
@@ -61,10 +61,10 @@ tone_of (OutLine.Log s r) = tone_of_log r
 tone_of (OutLine.Take k) = Tone.Faint
 tone_of (OutLine.Send k a b r) = tone_of_sent r
 tone_of (OutLine.Tell n i) = tone_of_told i
-tone_of (OutLine.Refused n) = Tone.Faint
-tone_of (OutLine.Dropped n) = Tone.Faint
+tone_of (OutLine.Refused n) = Tone.Plain
+tone_of (OutLine.Dropped n) = Tone.Plain
 tone_of OutLine.Nothing = Tone.Faint
-tone_of (OutLine.Lost k) = Tone.Faint
+tone_of (OutLine.Lost k) = Tone.Plain
 tone_of (OutLine.Stopped s f) = Tone.Plain
 tone_of (OutLine.State n p k) = Tone.Plain
 tone_of (OutLine.Image s bs) = Tone.Faint
@@ -72,17 +72,10 @@ tone_of (OutLine.Agreed a o) = tone_of_outcome o
 tone_of (OutLine.Mixed a ns) = Tone.Damage
 tone_of (OutLine.Open a) = Tone.Plain
 
+-- its name in a file: the class of what has that color, and the tip of its arrows
 abbrev pub tone_name : Tone → List ℕ
-tone_name Tone.Plain = codes "plain"
-tone_name Tone.Faint = codes "faint"
-tone_name Tone.Commit = codes "commit"
-tone_name Tone.Rollback = codes "rollback"
-tone_name Tone.Damage = codes "damage"
-
--- black, grey, green, red, orange
-abbrev pub colour : Tone → List ℕ
-colour Tone.Plain = codes "#222"
-colour Tone.Faint = codes "#777"
-colour Tone.Commit = codes "#1a7f37"
-colour Tone.Rollback = codes "#c62828"
-colour Tone.Damage = codes "#b25b00"
+tone_name Tone.Plain = codes "p"
+tone_name Tone.Faint = codes "f"
+tone_name Tone.Commit = codes "c"
+tone_name Tone.Rollback = codes "r"
+tone_name Tone.Damage = codes "d"

@@ -1,57 +1,52 @@
 //! Where things stand in an SVG file. No coordinate passes the greatest `u64`.
 ghost use Rattle.std.specs.Prelude.{◌≡◌};
-ghost use Rattle.tp_draw.specs.Svg.{along, down, middle, height, halfway, width, centre};
+ghost use Rattle.tp_draw.specs.Views.{is_shown, seen_at, rows_seen, along, down, below};
 
-use crate::Places;
+use crate::View;
 
-/// So far to the right of the left edge of the lane at that place, from the left edge of the text.
-#[tactic(auto, unfolding(crate::specs::Svg::along))]
-pub(crate) fn along(offset: u64, place: usize) -> u64
-    ensures { result ≡ along offset place }
+/// The line in that row of the transcript has a row of the picture.
+pub(crate) fn is_shown(view: View, row: usize) -> bool
+    ensures { result ≡ is_shown view row }
 {
-    offset.saturating_add((place as u64).saturating_mul(150))
+    view.from <= row && row < view.to
 }
 
-/// So far below the upper edge of that row, from the upper edge of the picture.
-#[tactic(auto, unfolding(crate::specs::Svg::down))]
-pub(crate) fn down(offset: u64, row: usize) -> u64
-    ensures { result ≡ down offset row }
+/// The row of the picture for a row of the transcript.
+pub(crate) fn seen_at(view: View, row: usize) -> u64
+    ensures { result ≡ seen_at view row }
 {
-    offset.saturating_add((row as u64).saturating_mul(20))
+    row.min(view.to).saturating_sub(view.from.saturating_sub(1)) as u64
 }
 
-/// The middle of a lane.
-pub(crate) fn middle(place: usize) -> u64
-    ensures { result ≡ middle place }
+/// How many rows a picture of that many lines has.
+pub(crate) fn rows_seen(view: View, lines: usize) -> u64
+    ensures { result ≡ rows_seen view lines }
 {
-    along(475, place)
+    let rows = seen_at(view, view.to);
+    if lines <= view.to { rows } else { rows + 1 }
 }
 
-/// The middle of a row.
-pub(crate) fn height(row: usize) -> u64
-    ensures { result ≡ height row }
+/// So far to the right of the left edge of the lane at that place.
+#[tactic(auto, unfolding(crate::specs::Views::along))]
+pub(crate) fn along(view: View, offset: u64, place: usize) -> u64
+    ensures { result ≡ along view offset place }
 {
-    down(80, row)
+    let lanes = (place as u64).saturating_mul(220);
+    view.left.saturating_add(offset).saturating_add(lanes)
 }
 
-/// Between the two.
-#[tactic(auto, unfolding(crate::specs::Svg::halfway))]
-pub(crate) fn halfway(a: u64, b: u64) -> u64
-    ensures { result ≡ halfway a b }
+/// So far below the upper edge of that row of the picture.
+#[tactic(auto, unfolding(crate::specs::Views::below))]
+pub(crate) fn below(offset: u64, rows: u64) -> u64
+    ensures { result ≡ below offset rows }
 {
-    a / 2 + b / 2
+    let high = rows.saturating_mul(20);
+    60_u64.saturating_add(offset).saturating_add(high)
 }
 
-/// How wide a bar over these lanes is.
-pub(crate) fn width(over: Places) -> u64
-    ensures { result ≡ width over }
+/// So far below the upper edge of the row for that row of the transcript.
+pub(crate) fn down(view: View, offset: u64, row: usize) -> u64
+    ensures { result ≡ down view offset row }
 {
-    along(144, over.last.saturating_sub(over.first))
-}
-
-/// The middle of a bar over these lanes.
-pub(crate) fn centre(over: Places) -> u64
-    ensures { result ≡ centre over }
-{
-    halfway(middle(over.first), middle(over.last))
+    below(offset, seen_at(view, row))
 }

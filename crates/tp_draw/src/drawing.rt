@@ -1,15 +1,20 @@
 //! Drawing a transcript.
 ghost use Rattle.std.specs.Prelude.{◌≡◌, ◌++◌, IfOk, OnOk};
-ghost use Rattle.tp_draw.specs.Pictures.{picture};
+ghost use Rattle.tp_draw.specs.Pictures.{begins, first_begin, row_from, row_to, view_from, view_of, picture_in, picture};
 
+use crate::View;
+use crate::event::event_of;
 use crate::mermaid::write_mermaid;
 use crate::plan::Plan;
 use crate::svg::write_svg;
 use std::alloc::Global;
-use tp_model::OutLine;
+use tp_model::{Line, LineRequest, OutLine};
 use tp_names::{NoMemory, Octets};
 
-/// The form in which a picture is written.
+/// How many lines are shown where nothing says which is the last.
+const MOST_ROWS: usize = 200;
+
+/// What is written.
 #[derive(Clone, Copy)]
 pub enum Kind {
     /// An SVG file.
@@ -18,22 +23,94 @@ pub enum Kind {
     Mermaid,
 }
 
+/// The form in which a picture is written.
+#[derive(Clone, Copy)]
+pub struct Form {
+    pub kind: Kind,
+    /// The text of the lines is left out, but for the events of the schedule and the outcomes of trees.
+    pub lanes: bool,
+    /// What comes before the first transaction is one row.
+    pub fold: bool,
+    /// The first line that is shown, from 1.
+    pub from: Option<u16>,
+    /// The last one. Without it at most 200 lines are shown.
+    pub to: Option<u16>,
+}
+
 /// The picture of a transcript with these lines. Time goes with their number and text, and with that of the nodes for
 /// each of them; memory with the picture's text, and a megabyte for the ends of frames.
-pub fn draw(alloc: Global, lines: &[OutLine], kind: Kind) -> Result<Octets, NoMemory>
-    ensures { IfOk result (λ text. text ≡ picture kind lines.now) }
+pub fn draw(alloc: Global, lines: &[OutLine], form: Form) -> Result<Octets, NoMemory>
+    ensures { IfOk result (λ text. text ≡ picture form lines.now) }
 {
     let plan = Plan::new(alloc, lines)?;
+    let view = view_of(alloc, form, lines)?;
     let mut out = Octets::new(alloc);
-    write_picture(alloc, &plan, kind, &mut out)?;
+    write_picture(alloc, form.kind, view, &plan, &mut out)?;
     Ok(out)
 }
 
-fn write_picture(alloc: Global, plan: &Plan, kind: Kind, out: &mut Octets) -> Result<(), NoMemory>
-    ensures { OnOk result (out.new ≡ out.old ++ picture kind plan.now) }
+fn write_picture(
+    alloc: Global,
+    kind: Kind,
+    view: View,
+    plan: &Plan,
+    out: &mut Octets,
+) -> Result<(), NoMemory>
+    ensures { OnOk result (out.new ≡ out.old ++ picture_in kind view plan.now) }
 {
     match kind {
-        Kind::Svg => write_svg(alloc, plan, out),
-        Kind::Mermaid => write_mermaid(alloc, plan, out),
+        Kind::Svg => write_svg(alloc, view, plan, out),
+        Kind::Mermaid => write_mermaid(alloc, view, plan, out),
+    }
+}
+
+// The part that is shown.
+fn view_of(alloc: Global, form: Form, lines: &[OutLine]) -> Result<View, NoMemory>
+    ensures { IfOk result (λ view. view ≡ view_of form lines.now) }
+{
+    let from = match form.from {
+        Some(number) => usize::from(number).saturating_sub(1),
+        None if form.fold => first_begin(alloc, lines)?,
+        None => 0,
+    };
+    Ok(view_from(form, from, lines.len()))
+}
+
+fn view_from(form: Form, from: usize, lines: usize) -> View
+    ensures { result ≡ view_from form from lines }
+{
+    let to = match form.to {
+        Some(number) => usize::from(number),
+        None => from.saturating_add(MOST_ROWS),
+    };
+    View {
+        from: from.min(lines),
+        to: to.min(lines),
+        all: !form.lanes,
+        left: if form.lanes { 230 } else { 460 },
+        most: if form.lanes { 28 } else { 60 },
+    }
+}
+
+// The row of the first line that tells an event that begins a transaction; 0 where none does.
+fn first_begin(alloc: Global, lines: &[OutLine]) -> Result<usize, NoMemory>
+    ensures { IfOk result (λ row. row ≡ first_begin 0 lines.now) }
+{
+    for (row, line) in lines.iter().enumerate() {
+        if begins(event_of(alloc, line)?) {
+            return Ok(row);
+        }
+    }
+    Ok(0)
+}
+
+fn begins(event: Option<Line>) -> bool
+    ensures { result ≡ begins event }
+{
+    match &event {
+        Some(Line::Do { request, .. }) => {
+            matches!(request, LineRequest::BeginTransaction { .. })
+        }
+        _ => false,
     }
 }

@@ -7,6 +7,8 @@ pub(crate) enum End {
     Never,
     /// The first line that says either says that it was taken.
     Taken { row: usize },
+    /// So it was, and the line after it says that the frame was dropped or refused.
+    Refused { row: usize },
     /// The first line that says either says that it was lost.
     Lost { row: usize },
 }

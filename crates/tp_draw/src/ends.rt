@@ -1,6 +1,6 @@
 //! Where frames come to their ends.
 ghost use Rattle.std.specs.Prelude.{◌≡◌, ◌<◌, ℕ, Some, length, slice_index_or, IfOk};
-ghost use Rattle.tp_draw.specs.Ends.{ended, end_at, end_in, or_else};
+ghost use Rattle.tp_draw.specs.Ends.{is_refused_after, ended_at, end_at, end_in, or_else, is_in_row};
 ghost use Rattle.tp_draw.specs.declared.end.End.{End};
 
 use crate::End;
@@ -27,23 +27,55 @@ pub(crate) fn no_ends(alloc: Global) -> Result<Vec<End>, NoMemory>
 pub(crate) fn note_ends(ends: &mut Vec<End>, lines: &[OutLine])
     requires { length ends.old.items ≡ 65536 }
     ensures many { length ends.new.items ≡ 65536 }
-    ensures ends { (k : ℕ) → k < 65536 → slice_index_or ends.new.items k End.Never ≡ or_else (slice_index_or ends.old.items k End.Never) (end_in k 0 lines.now) }
+    ensures ends { (k : ℕ) → k < 65536 → slice_index_or ends.new.items k End.Never ≡ or_else (slice_index_or ends.old.items k End.Never) (end_in lines.now k 0 lines.now) }
 {
     for (row, line) in lines.iter().enumerate() {
-        if let Some((frame, end)) = ended(row, line) {
+        if let Some((frame, end)) = ended_at(lines, row, line) {
             note(ends, frame, end);
         }
     }
 }
 
-// The frame that ends at the line in that row, and how.
-fn ended(row: usize, line: &OutLine) -> Option<(u16, End)>
-    ensures { result ≡ ended row line.now }
+/// The frame that ends at the line in that row, and how.
+pub(crate) fn ended_at(lines: &[OutLine], row: usize, line: &OutLine) -> Option<(u16, End)>
+    ensures { result ≡ ended_at lines.now row line.now }
 {
     match line {
-        OutLine::Take { frame } => Some((*frame, End::Taken { row })),
+        OutLine::Take { frame } => {
+            if is_refused_after(lines, row) {
+                Some((*frame, End::Refused { row }))
+            } else {
+                Some((*frame, End::Taken { row }))
+            }
+        }
         OutLine::Lost { frame } => Some((*frame, End::Lost { row })),
         _ => None,
+    }
+}
+
+// The line after that row says that what was taken there is dropped or refused.
+fn is_refused_after(lines: &[OutLine], row: usize) -> bool
+    ensures { result ≡ is_refused_after lines.now row }
+{
+    if row >= lines.len().saturating_sub(1) {
+        return false;
+    }
+    match &lines[row + 1] {
+        OutLine::Refused { .. } => true,
+        OutLine::Dropped { .. } => true,
+        _ => false,
+    }
+}
+
+/// The end is in that row.
+pub(crate) fn is_in_row(row: usize, end: End) -> bool
+    ensures { result ≡ is_in_row row end }
+{
+    match end {
+        End::Never => false,
+        End::Taken { row: last } | End::Refused { row: last } | End::Lost { row: last } => {
+            last == row
+        }
     }
 }
 

@@ -2,6 +2,7 @@
 ghost use Rattle.std.specs.Prelude.{◌≡◌, ◌++◌, ◌∷◌, [], OnOk, codes};
 ghost use Rattle.tp_model.specs.Words.{words, decimal};
 ghost use Rattle.tp_model.specs.OutText.{dialogue_words, state_words, indication_words};
+ghost use Rattle.tp_draw.specs.Reasons.{reason};
 ghost use Rattle.tp_draw.specs.Labels.{label, log_label, sent_label, first_word};
 
 use std::alloc::Global;
@@ -16,18 +17,68 @@ pub(crate) fn write_label(alloc: Global, line: &OutLine, out: &mut Octets) -> Re
 {
     match line {
         OutLine::Log { rec, .. } => write_log_label(alloc, rec, out),
+        OutLine::Take { frame } => {
+            write_words(alloc, &[Word::Short(*frame), Word::Text("again")], out)
+        }
         OutLine::Send { frame, rec, .. } => write_sent_label(alloc, *frame, rec, out),
         OutLine::Tell { indication, .. } => {
             write_words(alloc, &[Word::Text(told_word(indication))], out)
         }
+        OutLine::Refused { number } => {
+            write_words(
+                alloc,
+                &[Word::Text("refused:"), Word::Text(reason(*number))],
+                out,
+            )
+        }
+        OutLine::Dropped { number } => {
+            write_words(
+                alloc,
+                &[Word::Text("dropped:"), Word::Text(reason(*number))],
+                out,
+            )
+        }
+        OutLine::Lost { frame } => {
+            write_words(alloc, &[Word::Short(*frame), Word::Text("lost")], out)
+        }
         OutLine::Stopped { fate, .. } => {
-            write_words(alloc, &[Word::Text("stopped"), Word::Fate(*fate)], out)
+            write_words(alloc, &[Word::Text("crash:"), Word::Fate(*fate)], out)
         }
         OutLine::State { phase, kept, .. } => {
             let (phase, kept) = (Word::Phase(*phase), Word::Long(*kept));
             write_words(alloc, &[phase, Word::Text("kept"), kept], out)
         }
         _ => Ok(()),
+    }
+}
+
+// Why an event is refused, or a record dropped.
+fn reason(number: u8) -> &'static str
+    ensures { result.now ≡ reason number }
+{
+    match number {
+        1 => "no dialogue",
+        2 => "wrong phase",
+        3 => "wrong control",
+        4 => "unit absent",
+        5 => "handshake open",
+        6 => "no transaction",
+        7 => "transaction open",
+        8 => "not asked",
+        9 => "already asked",
+        10 => "not in ready",
+        11 => "already decided",
+        12 => "nothing owed",
+        13 => "too many",
+        14 => "not kept",
+        15 => "still owed",
+        16 => "no node",
+        17 => "numbers spent",
+        21 => "old association",
+        22 => "out of order",
+        23 => "wrong site",
+        24 => "out of phase",
+        _ => "bad record",
     }
 }
 
@@ -39,7 +90,13 @@ fn write_log_label(alloc: Global, rec: &LogWords, out: &mut Octets) -> Result<()
             write_words(alloc, &[Word::Text("boot"), Word::Long(*boot)], out)
         }
         LogWords::Ready { .. } => write_words(alloc, &[Word::Text("ready")], out),
-        LogWords::Heuristic { .. } => write_words(alloc, &[Word::Text("heuristic")], out),
+        LogWords::Heuristic { outcome, .. } => {
+            write_words(
+                alloc,
+                &[Word::Text("decides"), Word::Outcome(*outcome)],
+                out,
+            )
+        }
         LogWords::Commit { .. } => write_words(alloc, &[Word::Text("commit")], out),
         LogWords::Damage { .. } => write_words(alloc, &[Word::Text("damage")], out),
         LogWords::End { .. } => write_words(alloc, &[Word::Text("end")], out),

@@ -1,14 +1,13 @@
 //! Which nodes have lanes, and where.
 ghost use Rattle.std.specs.Prelude.{◌≡◌, ◌≤◌, ℕ, List, length, OnOk, IfOk};
 ghost use Rattle.tp_draw.specs.Lanes.{placed, named, node_of, place_in, is_of_site, first_of, after_site, places_in, with_placed, placed_lanes, with_named, with_all_named, named_lanes, declared_by};
-ghost use Rattle.tp_model.specs.LineReading.{read_line, Says};
 
+use crate::event::event_of;
 use crate::{Lane, Places};
 use std::alloc::Global;
 use tp_model::{Line, LogWords, OutLine};
 use tp_names::same::is_name;
-use tp_names::{NoMemory, Octets, SiteName};
-use tp_schedule::{LineFault, read_line};
+use tp_names::{NoMemory, SiteName};
 
 /// Gives lanes to the nodes whose site the lines tell, and that have none.
 pub(crate) fn add_placed(
@@ -64,31 +63,22 @@ fn placed(alloc: Global, line: &OutLine) -> Result<Option<(u16, SiteName)>, NoMe
     ensures { IfOk result (λ r. r ≡ placed line.now) }
 {
     match line {
-        OutLine::Echo(text) => declared(alloc, text),
         OutLine::Log { site, rec } => match node_of(rec) {
             Some(node) => Ok(Some((node, *site))),
             None => Ok(None),
         },
-        _ => Ok(None),
+        _ => {
+            let event = event_of(alloc, line)?;
+            Ok(declared_by(&event))
+        }
     }
 }
 
-fn declared(alloc: Global, text: &Octets) -> Result<Option<(u16, SiteName)>, NoMemory>
-    ensures { IfOk result (λ r. r ≡ declared_by (read_line text.now)) }
+fn declared_by(event: &Option<Line>) -> Option<(u16, SiteName)>
+    ensures { result ≡ declared_by event.now }
 {
-    match read_line(alloc, text.as_slice()) {
-        Ok(Some(line)) => Ok(declared_in(&line)),
-        Ok(None) => Ok(None),
-        Err(LineFault::NoMemory) => Err(NoMemory),
-        Err(_) => Ok(None),
-    }
-}
-
-fn declared_in(line: &Line) -> Option<(u16, SiteName)>
-    ensures { result ≡ declared_by (Says line.now) }
-{
-    match line {
-        Line::Node { node, site, .. } => Some((*node, *site)),
+    match event {
+        Some(Line::Node { node, site, .. }) => Some((*node, *site)),
         _ => None,
     }
 }
@@ -143,7 +133,8 @@ fn add_node(lanes: &mut Vec<Lane>, node: u16) -> Result<(), NoMemory>
     Ok(())
 }
 
-fn is_of_site(lane: &Lane, site: &SiteName) -> bool
+/// The lane is one of the site.
+pub(crate) fn is_of_site(lane: &Lane, site: &SiteName) -> bool
     ensures { result ≡ is_of_site site.now lane.now }
 {
     match &lane.site {

@@ -1,14 +1,18 @@
 //! Laws of pictures.
 //!
 //! Each function has an empty body; its clause is the law.
-ghost use Rattle.std.specs.Prelude.{◌≡◌, ℕ, List, map, true};
+ghost use Rattle.std.specs.Prelude.{◌≡◌, ℕ, Some, List, map, take, true};
 ghost use Rattle.tp_model.specs.declared.out_line.OutLine.{OutLine};
 ghost use Rattle.tp_draw.specs.Texts.{escaped};
 ghost use Rattle.tp_draw.specs.Escapes.{is_text};
 ghost use Rattle.tp_draw.specs.Lanes.{lanes_of};
 ghost use Rattle.tp_draw.specs.Ends.{end_of};
 ghost use Rattle.tp_draw.specs.Shapes.{place_of};
-ghost use Rattle.tp_draw.specs.Laws.{shapes, sends, arrows, arrow_of, logs, marks, mark_of_log, Says, is_named, HasOneLane};
+ghost use Rattle.tp_draw.specs.declared.flight.Flight.{Flight};
+ghost use Rattle.tp_draw.specs.declared.track.Track.{Track};
+ghost use Rattle.tp_draw.specs.Flights.{flight_of};
+ghost use Rattle.tp_draw.specs.Bands.{first_tracks, tracks_after};
+ghost use Rattle.tp_draw.specs.Laws.{item, shape_of_take, IsTrack, shapes, sends, arrows, arrow_of, logs, marks, mark_of_log, Says, is_named, HasOneLane};
 
 /// The arrows of a picture are those of the frames that were sent, one for each, in order: each goes from the lane of
 /// the node that sent it to that of the node to which it was sent, and to the frame's end.
@@ -21,9 +25,22 @@ pub fn each_log_line_is_one_mark()
     ensures { (os : List OutLine) → marks (shapes os) ≡ map (mark_of_log os) (logs os) }
 {}
 
-/// An arrow ends in the row of the first line that says that its frame was taken or lost; where no line says either, it has no end.
+/// An arrow ends in the row of the first line that says that its frame was taken or lost, and what was taken is refused
+/// where the line after it says so; where no line says either, it has no end.
 pub fn an_arrow_ends_where_its_frame_does()
     ensures { (os : List OutLine) (k : ℕ) → Says k os (end_of os k) }
+{}
+
+/// Each take of a frame that was sent ends one arrow. Where it is the first end of the frame, that is the arrow of the
+/// send; else the take has one of its own, from the row of the send.
+pub fn each_take_ends_one_arrow()
+    ensures { (os : List OutLine) (r k : ℕ) (f : Flight) → item os r ≡ Some (OutLine.Take k) → flight_of os k ≡ Some f → item (shapes os) r ≡ Some (shape_of_take os r k f) }
+{}
+
+/// After any number of lines the band of a lane is what the last record of its node says, and there is a gap where its
+/// site is down.
+pub fn a_band_is_what_the_records_say()
+    ensures { (os : List OutLine) (count place : ℕ) (t : Track) → item (tracks_after (take count os) (first_tracks os)) place ≡ Some t → IsTrack (take count os) (item (lanes_of os) place) t }
 {}
 
 /// Each node that a transcript names has one lane.

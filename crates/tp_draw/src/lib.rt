@@ -4,26 +4,41 @@
 //! the text of both. `draw` writes that text; `laws` says what holds of every picture.
 #![tactic(auto)]
 
+mod arrow;
+mod band;
 mod coordinates;
 mod drawing;
 mod end;
 mod ends;
+mod event;
+mod figure;
+mod flight;
 mod label;
 mod lane;
 mod lanes;
 pub mod laws;
 mod mermaid;
+mod news;
 mod piece;
 mod places;
 mod plan;
 mod shape;
+mod style;
 mod svg;
+mod svg_rows;
 mod svg_shapes;
 mod tone;
+mod track;
+mod view;
 
-pub use drawing::{Kind, draw};
+use band::Band;
+pub use drawing::{Form, Kind, draw};
 use end::End;
+use flight::Flight;
 use lane::Lane;
+use news::{News, Turn};
 use places::Places;
 use shape::Shape;
 use tone::Tone;
+use track::Track;
+use view::View;

@@ -1,28 +1,33 @@
 //! A picture as text from which Mermaid makes a sequence diagram.
-ghost use Rattle.std.specs.Prelude.{◌≡◌, ◌++◌, OnOk, codes};
+ghost use Rattle.std.specs.Prelude.{◌≡◌, ◌++◌, OnOk};
 ghost use Rattle.tp_model.specs.OutText.{out_text};
-ghost use Rattle.tp_draw.specs.Lanes.{all_places};
+ghost use Rattle.tp_draw.specs.Mermaid.{first_line, site_words, lane_words, lanes_words, comment, note, stroke, message, shape_words, crash_words, event_words, row_words, rows_words, mermaid};
 ghost use Rattle.tp_draw.specs.Labels.{label};
-ghost use Rattle.tp_draw.specs.Texts.{plain};
-ghost use Rattle.tp_draw.specs.Mermaid.{first_line, site_words, lane_words, lanes_words, comment, note, note_head, at, stroke, message, message_head, shape_words, rows_words, mermaid};
+ghost use Rattle.tp_draw.specs.Pieces.{piece_text};
 
-use crate::label::write_label;
+use crate::coordinates::is_shown;
+use crate::news::news_of;
 use crate::piece::{Piece, write_pieces};
 use crate::plan::Plan;
 use crate::shape::shape_of;
-use crate::{End, Lane, Places, Shape};
+use crate::{End, Lane, News, Shape, View};
 use std::alloc::Global;
 use tp_model::OutLine;
-use tp_names::{NoMemory, Octets, SiteName};
+use tp_names::{NoMemory, Octets};
 use tp_transcript::write_out;
 
 /// Puts the picture at the end of `out`.
-pub(crate) fn write_mermaid(alloc: Global, plan: &Plan, out: &mut Octets) -> Result<(), NoMemory>
-    ensures { OnOk result (out.new ≡ out.old ++ mermaid plan.now) }
+pub(crate) fn write_mermaid(
+    alloc: Global,
+    view: View,
+    plan: &Plan,
+    out: &mut Octets,
+) -> Result<(), NoMemory>
+    ensures { OnOk result (out.new ≡ out.old ++ mermaid view plan.now) }
 {
     write_first_line(alloc, out)?;
     write_lanes(alloc, plan.lanes(), out)?;
-    write_rows(alloc, plan, out)
+    write_rows(alloc, view, plan, out)
 }
 
 #[tactic(auto, unfolding(crate::specs::Mermaid::first_line))]
@@ -45,6 +50,10 @@ fn write_lanes(alloc: Global, lanes: &[Lane], out: &mut Octets) -> Result<(), No
 fn write_lane(alloc: Global, place: usize, lane: &Lane, out: &mut Octets) -> Result<(), NoMemory>
     ensures { OnOk result (out.new ≡ out.old ++ lane_words place lane.now) }
 {
+    let (before, name): (&str, &[u8]) = match &lane.site {
+        None => ("", b""),
+        Some(site) => (", site ", site.bytes()),
+    };
     write_pieces(
         alloc,
         &[
@@ -52,73 +61,96 @@ fn write_lane(alloc: Global, place: usize, lane: &Lane, out: &mut Octets) -> Res
             Piece::Number(place as u64),
             Piece::Text(" as node "),
             Piece::Number(u64::from(lane.node)),
+            Piece::Text(before),
+            Piece::Plain(name),
+            Piece::Text("\n"),
         ],
         out,
-    )?;
-    write_site(alloc, &lane.site, out)?;
-    write_pieces(alloc, &[Piece::Text("\n")], out)
+    )
 }
 
-fn write_site(alloc: Global, site: &Option<SiteName>, out: &mut Octets) -> Result<(), NoMemory>
-    ensures { OnOk result (out.new ≡ out.old ++ site_words site.now) }
+fn write_rows(alloc: Global, view: View, plan: &Plan, out: &mut Octets) -> Result<(), NoMemory>
+    ensures { OnOk result (out.new ≡ out.old ++ rows_words view plan.now 0 plan.now) }
 {
-    match site {
-        None => Ok(()),
-        Some(site) => write_pieces(
-            alloc,
-            &[Piece::Text(", site "), Piece::Plain(site.bytes())],
-            out,
-        ),
-    }
-}
-
-fn write_rows(alloc: Global, plan: &Plan, out: &mut Octets) -> Result<(), NoMemory>
-    ensures { OnOk result (out.new ≡ out.old ++ rows_words plan.now plan.now) }
-{
-    let all = all_places(plan.lanes());
     let mut text = Octets::new(alloc);
     let lines = plan.lines();
-    for line in lines {
-        text.truncate(0);
-        write_out(alloc, line, &mut text)?;
-        write_shape(alloc, all, shape_of(plan, line), line, text.as_slice(), out)?;
+    for (row, line) in lines.iter().enumerate() {
+        if is_shown(view, row) {
+            let shape = shape_of(alloc, plan, row, line)?;
+            write_row(alloc, plan, shape, line, &mut text, out)?;
+        }
     }
     Ok(())
 }
 
-fn all_places(lanes: &[Lane]) -> Places
-    ensures { result ≡ all_places lanes.now }
+// A row, whose text is made in `text`.
+fn write_row(
+    alloc: Global,
+    plan: &Plan,
+    shape: Shape,
+    line: &OutLine,
+    text: &mut Octets,
+    out: &mut Octets,
+) -> Result<(), NoMemory>
+    ensures { OnOk result (out.new ≡ out.old ++ row_words plan.now shape line.now) }
 {
-    Places {
-        first: 0,
-        last: lanes.len().saturating_sub(1),
+    text.truncate(0);
+    write_out(alloc, line, text)?;
+    let last = plan.lanes().len().saturating_sub(1);
+    write_shape(alloc, last, shape, line, text.as_slice(), out)?;
+    match shape {
+        Shape::Event => match news_of(alloc, line)? {
+            News::Stops { site } => {
+                let over = plan.places_of(&site);
+                write_note(
+                    alloc,
+                    (over.first, over.last),
+                    "",
+                    &Piece::Text("crash"),
+                    out,
+                )
+            }
+            _ => Ok(()),
+        },
+        _ => Ok(()),
     }
 }
 
+// The shape of a line, whose text it is; `end` is the place of the last lane.
 fn write_shape(
     alloc: Global,
-    all: Places,
+    end: usize,
     shape: Shape,
     line: &OutLine,
     text: &[u8],
     out: &mut Octets,
 ) -> Result<(), NoMemory>
     requires { text.now ≡ out_text line.now }
-    ensures { OnOk result (out.new ≡ out.old ++ shape_words all shape line.now) }
+    ensures { OnOk result (out.new ≡ out.old ++ shape_words end shape line.now) }
 {
+    let words = Piece::Label(line);
     match shape {
         Shape::Bare => write_comment(alloc, text, out),
         Shape::Event => write_comment(alloc, text, out),
-        Shape::Tree => write_outcome(alloc, all, text, out),
-        Shape::Boot { over } => write_note(alloc, over, "", line, out),
-        Shape::Stop { over } => write_note(alloc, over, "", line, out),
-        Shape::Mark { place } => write_note(alloc, at(place), "log ", line, out),
-        Shape::Told { place } => write_note(alloc, at(place), "tell ", line, out),
-        Shape::State { place } => write_note(alloc, at(place), "state ", line, out),
-        Shape::Arrow { from, to, end, .. } => write_message(alloc, (from, to), end, line, out),
+        Shape::Tree => write_note(alloc, (0, end), "", &Piece::Plain(text), out),
+        Shape::Boot { over } => write_note(alloc, (over.first, over.last), "", &words, out),
+        Shape::Stop { over } => write_note(alloc, (over.first, over.last), "", &words, out),
+        Shape::Mark { place } => write_note(alloc, (place, place), "log ", &words, out),
+        Shape::Told { place } => write_note(alloc, (place, place), "tell ", &words, out),
+        Shape::State { place } => write_note(alloc, (place, place), "state ", &words, out),
+        Shape::Arrow { from, to, end, .. } => {
+            write_message(alloc, (from, to), "", end, line, out)
+        }
+        Shape::Again { from, to, end, .. } => {
+            write_message(alloc, (from, to), "-", end, line, out)
+        }
+        Shape::Lost { .. } => write_comment(alloc, text, out),
+        Shape::Refused { place } => write_note(alloc, (place, place), "", &words, out),
+        Shape::Dropped { place } => write_note(alloc, (place, place), "", &words, out),
     }
 }
 
+#[tactic(auto, unfolding(crate::specs::Mermaid::comment))]
 fn write_comment(alloc: Global, text: &[u8], out: &mut Octets) -> Result<(), NoMemory>
     ensures { OnOk result (out.new ≡ out.old ++ comment text.now) }
 {
@@ -133,90 +165,55 @@ fn write_comment(alloc: Global, text: &[u8], out: &mut Octets) -> Result<(), NoM
     )
 }
 
-fn at(place: usize) -> Places
-    ensures { result ≡ at place }
-{
-    Places {
-        first: place,
-        last: place,
-    }
-}
-
-// The outcome of a tree, over all lanes.
-fn write_outcome(alloc: Global, all: Places, text: &[u8], out: &mut Octets) -> Result<(), NoMemory>
-    ensures { OnOk result (out.new ≡ out.old ++ note all (codes "") (plain text.now)) }
-{
-    write_note_head(alloc, all, "", out)?;
-    write_pieces(alloc, &[Piece::Plain(text), Piece::Text("\n")], out)
-}
-
-// A shape's words over lanes, after a word.
-fn write_note(
+// A piece of text over the lanes from one to another, after a word.
+#[tactic(auto, unfolding(crate::specs::Mermaid::note))]
+fn write_note<'a>(
     alloc: Global,
-    over: Places,
-    word: &str,
-    line: &OutLine,
+    over: (usize, usize),
+    word: &'a str,
+    words: &Piece<'a>,
     out: &mut Octets,
 ) -> Result<(), NoMemory>
-    ensures { OnOk result (out.new ≡ out.old ++ note over word.now (label line.now)) }
-{
-    write_note_head(alloc, over, word, out)?;
-    write_label(alloc, line, out)?;
-    write_pieces(alloc, &[Piece::Text("\n")], out)
-}
-
-fn write_note_head(
-    alloc: Global,
-    over: Places,
-    word: &str,
-    out: &mut Octets,
-) -> Result<(), NoMemory>
-    ensures { OnOk result (out.new ≡ out.old ++ note_head over word.now) }
+    ensures { OnOk result (out.new ≡ out.old ++ note over.0 over.1 word.now (piece_text words.now)) }
 {
     write_pieces(
         alloc,
         &[
             Piece::Text("    Note over p"),
-            Piece::Number(over.first as u64),
+            Piece::Number(over.0 as u64),
             Piece::Text(",p"),
-            Piece::Number(over.last as u64),
+            Piece::Number(over.1 as u64),
             Piece::Text(": "),
             Piece::Text(word),
+            *words,
+            Piece::Text("\n"),
         ],
         out,
     )
 }
 
-fn write_message(
+#[tactic(auto, unfolding(crate::specs::Mermaid::message))]
+fn write_message<'a>(
     alloc: Global,
     lanes: (usize, usize),
+    dash: &'a str,
     end: End,
-    line: &OutLine,
+    line: &'a OutLine,
     out: &mut Octets,
 ) -> Result<(), NoMemory>
-    ensures { OnOk result (out.new ≡ out.old ++ message lanes.0 lanes.1 end (label line.now)) }
-{
-    write_message_head(alloc, lanes, end, out)?;
-    write_label(alloc, line, out)?;
-    write_pieces(alloc, &[Piece::Text("\n")], out)
-}
-
-fn write_message_head(
-    alloc: Global,
-    lanes: (usize, usize),
-    end: End,
-    out: &mut Octets,
-) -> Result<(), NoMemory>
-    ensures { OnOk result (out.new ≡ out.old ++ message_head lanes.0 lanes.1 end) }
+    ensures { OnOk result (out.new ≡ out.old ++ message lanes.0 lanes.1 dash.now end (label line.now)) }
 {
     write_pieces(
         alloc,
         &[
             Piece::Text("    p"),
             Piece::Number(lanes.0 as u64),
+            Piece::Text(dash),
             Piece::Text(stroke(end)),
             Piece::Number(lanes.1 as u64),
             Piece::Text(": "),
+            Piece::Label(line),
+            Piece::Text("\n"),
         ],
         out,
     )
@@ -226,8 +223,9 @@ fn stroke(end: End) -> &'static str
     ensures { result.now ≡ stroke end }
 {
     match end {
-        End::Never => "--)p",
+        End::Never => "-)p",
         End::Taken { .. } => "->>p",
+        End::Refused { .. } => "-xp",
         End::Lost { .. } => "-xp",
     }
 }

@@ -1,9 +1,13 @@
 //! The pieces that the text of a picture is made of.
 ghost use Rattle.std.specs.Prelude.{◌≡◌, ◌++◌, OnOk};
-ghost use Rattle.tp_draw.specs.Texts.{joined, escaped, escaped_octet, plain, plain_octet};
+ghost use Rattle.tp_draw.specs.Texts.{joined, cut, escaped, escaped_octet, plain, plain_octet};
 ghost use Rattle.tp_draw.specs.Pieces.{piece_text, piece_texts};
 
+use crate::Tone;
+use crate::label::write_label;
+use crate::tone::tone_name;
 use std::alloc::Global;
+use tp_model::OutLine;
 use tp_names::{NoMemory, Octets};
 use tp_schedule::word::{Word, write_words};
 
@@ -14,8 +18,14 @@ pub(crate) enum Piece<'a> {
     Text(&'a str),
     /// In decimal.
     Number(u64),
+    /// The name of a tone.
+    Tone(Tone),
+    /// The words beside the shape of a line.
+    Label(&'a OutLine),
     /// So that it is text in an SVG file, whatever its octets are.
     Escaped(&'a [u8]),
+    /// The same of so many octets at most, with two dots for what is left out.
+    Cut(&'a [u8], usize),
     /// So that it is text in Mermaid text.
     Plain(&'a [u8]),
 }
@@ -40,8 +50,22 @@ fn write_piece(alloc: Global, piece: &Piece, out: &mut Octets) -> Result<(), NoM
     match piece {
         Piece::Text(text) => out.extend_from_slice(alloc, text.as_bytes()),
         Piece::Number(n) => write_words(alloc, &[Word::Long(*n)], out),
+        Piece::Tone(tone) => out.extend_from_slice(alloc, tone_name(*tone).as_bytes()),
+        Piece::Label(line) => write_label(alloc, line, out),
         Piece::Escaped(text) => write_escaped(alloc, text, out),
+        Piece::Cut(text, most) => write_cut(alloc, text, *most, out),
         Piece::Plain(text) => write_plain(alloc, text, out),
+    }
+}
+
+fn write_cut(alloc: Global, text: &[u8], most: usize, out: &mut Octets) -> Result<(), NoMemory>
+    ensures { OnOk result (out.new ≡ out.old ++ cut most text.now) }
+{
+    if text.len() <= most {
+        write_escaped(alloc, text, out)
+    } else {
+        write_escaped(alloc, &text[..most], out)?;
+        out.extend_from_slice(alloc, b"..")
     }
 }
 

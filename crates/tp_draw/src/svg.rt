@@ -1,179 +1,112 @@
 //! A picture as an SVG file.
-ghost use Rattle.std.specs.Prelude.{◌≡◌, ◌++◌, take, OnOk};
-ghost use Rattle.tp_draw.specs.Svg.{tip, tip_of, text_at, site_over, opening, tips, other_tips, head, site_box, site_at, lane_line, lane_text, lanes_text, most_text, dots, weight, line_text, row_text, rows_text, foot, svg};
-ghost use Rattle.tp_model.specs.OutText.{out_text};
+ghost use Rattle.std.specs.Prelude.{◌≡◌, ◌++◌, OnOk};
+ghost use Rattle.tp_draw.specs.Svg.{head, site_name, site_at, lane_line, lanes_text, rows_text, note_line, note, notes, foot, svg};
+ghost use Rattle.tp_draw.specs.Bands.{first_tracks};
 
-use crate::coordinates::{along, centre, down, height, middle, width};
+use crate::coordinates::{along, below, rows_seen, seen_at};
+use crate::figure::write_bar;
 use crate::lanes::places_in;
+use crate::news::news_of;
 use crate::piece::{Piece, write_pieces};
 use crate::plan::Plan;
 use crate::shape::shape_of;
-use crate::svg_shapes::write_shape;
-use crate::tone::{colour, tone_name, tone_of};
-use crate::{Lane, Places, Tone};
+use crate::style::{write_legend, write_style, write_tips};
+use crate::svg_rows::write_row;
+use crate::track::{first_tracks, move_all};
+use crate::{Lane, View};
 use std::alloc::Global;
-use tp_model::OutLine;
 use tp_names::{NoMemory, Octets, SiteName};
-use tp_transcript::write_out;
-
-/// The most bytes of a line's text that are shown.
-const MOST_TEXT: usize = 60;
 
 /// Puts the picture at the end of `out`.
-pub(crate) fn write_svg(alloc: Global, plan: &Plan, out: &mut Octets) -> Result<(), NoMemory>
-    ensures { OnOk result (out.new ≡ out.old ++ svg plan.now) }
+pub(crate) fn write_svg(
+    alloc: Global,
+    view: View,
+    plan: &Plan,
+    out: &mut Octets,
+) -> Result<(), NoMemory>
+    ensures { OnOk result (out.new ≡ out.old ++ svg view plan.now) }
 {
-    let (lanes, rows) = (plan.lanes(), plan.lines().len());
-    write_head(alloc, lanes.len(), rows, out)?;
-    write_lanes(alloc, lanes, rows, out)?;
-    write_rows(alloc, plan, out)?;
-    write_foot(alloc, down(90, rows), down(106, rows), out)
+    let (lanes, lines) = (plan.lanes(), plan.lines().len());
+    let rows = rows_seen(view, lines);
+    let size = (along(view, 100, lanes.len()), below(180, rows));
+    write_head(alloc, size, (lanes.len() as u64, lines as u64), out)?;
+    write_style(alloc, out)?;
+    write_tips(alloc, out)?;
+    write_lanes(alloc, view, lanes, below(0, rows), out)?;
+    write_rows(alloc, view, plan, out)?;
+    write_notes(alloc, view, lines, out)?;
+    write_foot(alloc, below(20, rows), out)
 }
 
 #[tactic(auto, unfolding(crate::specs::Svg::head))]
-fn write_head(alloc: Global, lanes: usize, rows: usize, out: &mut Octets) -> Result<(), NoMemory>
-    ensures { OnOk result (out.new ≡ out.old ++ head lanes rows) }
-{
-    write_opening(alloc, middle(lanes), down(120, rows), out)?;
-    write_tips(alloc, out)?;
-    write_other_tips(alloc, out)
-}
-
-#[tactic(auto, unfolding(crate::specs::Svg::opening))]
-fn write_opening(alloc: Global, wide: u64, high: u64, out: &mut Octets) -> Result<(), NoMemory>
-    ensures { OnOk result (out.new ≡ out.old ++ opening wide high) }
+fn write_head(
+    alloc: Global,
+    size: (u64, u64),
+    counts: (u64, u64),
+    out: &mut Octets,
+) -> Result<(), NoMemory>
+    ensures { OnOk result (out.new ≡ out.old ++ head size.0 size.1 counts.0 counts.1) }
 {
     write_pieces(
         alloc,
         &[
             Piece::Text("<svg xmlns='http://www.w3.org/2000/svg' width='"),
-            Piece::Number(wide),
+            Piece::Number(size.0),
             Piece::Text("' height='"),
-            Piece::Number(high),
+            Piece::Number(size.1),
             Piece::Text("' viewBox='0 0 "),
-            Piece::Number(wide),
+            Piece::Number(size.0),
             Piece::Text(" "),
-            Piece::Number(high),
-            Piece::Text("' font-family='monospace' font-size='11'>\n"),
-            Piece::Text("<style>.l{paint-order:stroke;stroke:#fff;stroke-width:3px}"),
-            Piece::Text("text{white-space:pre}</style>\n<defs>\n"),
+            Piece::Number(size.1),
+            Piece::Text("' font-family='monospace' font-size='12'>\n<title>A run of "),
+            Piece::Number(counts.0),
+            Piece::Text(" nodes in "),
+            Piece::Number(counts.1),
+            Piece::Text(
+                " lines</title>\n<desc>Time goes down. Each node has a lane, each line of the transcript a row, ",
+            ),
+            Piece::Text("and each frame an arrow from its send to its take.</desc>\n"),
         ],
         out,
     )
 }
 
-#[tactic(auto, unfolding(crate::specs::Svg::tips))]
-fn write_tips(alloc: Global, out: &mut Octets) -> Result<(), NoMemory>
-    ensures { OnOk result (out.new ≡ out.old ++ tips) }
-{
-    write_tip_of(alloc, Tone::Plain, out)?;
-    write_tip_of(alloc, Tone::Faint, out)?;
-    write_tip_of(alloc, Tone::Commit, out)?;
-    write_tip_of(alloc, Tone::Rollback, out)?;
-    write_tip_of(alloc, Tone::Damage, out)
-}
-
-// The tip of the arrows of a tone.
-fn write_tip_of(alloc: Global, tone: Tone, out: &mut Octets) -> Result<(), NoMemory>
-    ensures { OnOk result (out.new ≡ out.old ++ tip_of tone) }
-{
-    write_tip(alloc, tone_name(tone), colour(tone), out)
-}
-
-#[tactic(auto, unfolding(crate::specs::Svg::tip))]
-fn write_tip<'a>(
+// The lanes, down to that height.
+fn write_lanes(
     alloc: Global,
-    name: &'a str,
-    fill: &'a str,
+    view: View,
+    lanes: &[Lane],
+    high: u64,
     out: &mut Octets,
 ) -> Result<(), NoMemory>
-    ensures { OnOk result (out.new ≡ out.old ++ tip name.now fill.now) }
-{
-    write_pieces(
-        alloc,
-        &[
-            Piece::Text("<marker id='"),
-            Piece::Text(name),
-            Piece::Text(
-                "' viewBox='0 0 8 8' refX='8' refY='4' markerWidth='7' markerHeight='7' orient='auto'>",
-            ),
-            Piece::Text("<path d='M0 0L8 4L0 8z' fill='"),
-            Piece::Text(fill),
-            Piece::Text("'/></marker>\n"),
-        ],
-        out,
-    )
-}
-
-// The ends of arrows that reach no lane, and the ground.
-#[tactic(auto, unfolding(crate::specs::Svg::other_tips))]
-fn write_other_tips(alloc: Global, out: &mut Octets) -> Result<(), NoMemory>
-    ensures { OnOk result (out.new ≡ out.old ++ other_tips) }
-{
-    write_pieces(
-        alloc,
-        &[
-            Piece::Text(
-                "<marker id='cross' viewBox='0 0 8 8' refX='4' refY='4' markerWidth='9' markerHeight='9'>",
-            ),
-            Piece::Text(
-                "<path d='M0 0L8 8M0 8L8 0' stroke='#b71c1c' stroke-width='2'/></marker>\n",
-            ),
-            Piece::Text(
-                "<marker id='ring' viewBox='0 0 8 8' refX='4' refY='4' markerWidth='6' markerHeight='6'>",
-            ),
-            Piece::Text("<circle cx='4' cy='4' r='3' fill='#fff' stroke='#777'/></marker>\n"),
-            Piece::Text("</defs>\n<rect width='100%' height='100%' fill='#fff'/>\n"),
-        ],
-        out,
-    )
-}
-
-fn write_lanes(alloc: Global, lanes: &[Lane], rows: usize, out: &mut Octets) -> Result<(), NoMemory>
-    ensures { OnOk result (out.new ≡ out.old ++ lanes_text lanes.now rows 0 lanes.now) }
+    ensures { OnOk result (out.new ≡ out.old ++ lanes_text view lanes.now high 0 lanes.now) }
 {
     for (place, lane) in lanes.iter().enumerate() {
-        write_lane(alloc, lanes, rows, place, lane, out)?;
+        write_site_at(alloc, view, lanes, place, &lane.site, out)?;
+        let to = (along(view, 110, place), high);
+        write_lane_line(alloc, to, u64::from(lane.node), out)?;
     }
     Ok(())
-}
-
-#[tactic(auto, unfolding(crate::specs::Svg::lane_text))]
-fn write_lane(
-    alloc: Global,
-    lanes: &[Lane],
-    rows: usize,
-    place: usize,
-    lane: &Lane,
-    out: &mut Octets,
-) -> Result<(), NoMemory>
-    ensures { OnOk result (out.new ≡ out.old ++ lane_text lanes.now rows place lane.now) }
-{
-    write_site_at(alloc, lanes, place, &lane.site, out)?;
-    write_lane_line(
-        alloc,
-        (middle(place), height(rows)),
-        u64::from(lane.node),
-        out,
-    )
 }
 
 // The box of a site, at the first of its lanes.
 fn write_site_at(
     alloc: Global,
+    view: View,
     lanes: &[Lane],
     place: usize,
     site: &Option<SiteName>,
     out: &mut Octets,
 ) -> Result<(), NoMemory>
-    ensures { OnOk result (out.new ≡ out.old ++ site_at lanes.now place site.now) }
+    ensures { OnOk result (out.new ≡ out.old ++ site_at view lanes.now place site.now) }
 {
     match site {
         None => Ok(()),
         Some(site) => {
             let over = places_in(lanes, site);
             if over.first == place {
-                write_site_over(alloc, over, site, out)
+                write_bar(alloc, view, "b", 6, "46", over, out)?;
+                write_site_name(alloc, along(view, 24, place), site.bytes(), out)
             } else {
                 Ok(())
             }
@@ -181,40 +114,16 @@ fn write_site_at(
     }
 }
 
-#[tactic(auto, unfolding(crate::specs::Svg::site_over))]
-fn write_site_over(
-    alloc: Global,
-    over: Places,
-    site: &SiteName,
-    out: &mut Octets,
-) -> Result<(), NoMemory>
-    ensures { OnOk result (out.new ≡ out.old ++ site_over over site.now) }
-{
-    let (x, wide, mid) = (along(403, over.first), width(over), centre(over));
-    write_site_box(alloc, x, wide, mid, site.bytes(), out)
-}
-
-#[tactic(auto, unfolding(crate::specs::Svg::site_box))]
-fn write_site_box(
-    alloc: Global,
-    x: u64,
-    wide: u64,
-    mid: u64,
-    site: &[u8],
-    out: &mut Octets,
-) -> Result<(), NoMemory>
-    ensures { OnOk result (out.new ≡ out.old ++ site_box x wide mid site.now) }
+#[tactic(auto, unfolding(crate::specs::Svg::site_name))]
+fn write_site_name(alloc: Global, x: u64, site: &[u8], out: &mut Octets) -> Result<(), NoMemory>
+    ensures { OnOk result (out.new ≡ out.old ++ site_name x site.now) }
 {
     write_pieces(
         alloc,
         &[
-            Piece::Text("<rect x='"),
+            Piece::Text("<text class='f' x='"),
             Piece::Number(x),
-            Piece::Text("' y='8' width='"),
-            Piece::Number(wide),
-            Piece::Text("' height='46' rx='4' fill='#eef3f8'/>\n<text x='"),
-            Piece::Number(mid),
-            Piece::Text("' y='24' text-anchor='middle' fill='#555'>site "),
+            Piece::Text("' y='22'>site "),
             Piece::Escaped(site),
             Piece::Text("</text>\n"),
         ],
@@ -235,138 +144,96 @@ fn write_lane_line(
     write_pieces(
         alloc,
         &[
-            Piece::Text("<text x='"),
+            Piece::Text("<text class='p' x='"),
             Piece::Number(to.0),
-            Piece::Text("' y='44' text-anchor='middle' font-size='13' font-weight='bold'>node "),
+            Piece::Text("' y='44' text-anchor='middle' font-weight='bold'>node "),
             Piece::Number(node),
-            Piece::Text("</text>\n<path d='M"),
+            Piece::Text("</text>\n<path class='v' d='M"),
             Piece::Number(to.0),
-            Piece::Text(" 56V"),
+            Piece::Text(" 54V"),
             Piece::Number(to.1),
-            Piece::Text("' stroke='#bbb'/>\n"),
+            Piece::Text("'/>\n"),
         ],
         out,
     )
 }
 
-fn write_rows(alloc: Global, plan: &Plan, out: &mut Octets) -> Result<(), NoMemory>
-    ensures { OnOk result (out.new ≡ out.old ++ rows_text plan.now 0 plan.now) }
+fn write_rows(alloc: Global, view: View, plan: &Plan, out: &mut Octets) -> Result<(), NoMemory>
+    ensures { OnOk result (out.new ≡ out.old ++ rows_text view plan.now (first_tracks plan.now) 0 plan.now) }
 {
+    let mut tracks = first_tracks(alloc, plan.lanes())?;
     let mut text = Octets::new(alloc);
     let lines = plan.lines();
     for (row, line) in lines.iter().enumerate() {
-        write_row(alloc, plan, row, line, &mut text, out)?;
+        let news = news_of(alloc, line)?;
+        move_all(tracks.as_mut_slice(), &news);
+        let shape = shape_of(alloc, plan, row, line)?;
+        write_row(
+            alloc,
+            view,
+            (row, shape),
+            tracks.as_slice(),
+            line,
+            &mut text,
+            out,
+        )?;
     }
     Ok(())
 }
 
-// A row, whose text is made in `text`.
-#[tactic(auto, unfolding(crate::specs::Svg::row_text))]
-fn write_row(
-    alloc: Global,
-    plan: &Plan,
-    row: usize,
-    line: &OutLine,
-    text: &mut Octets,
-    out: &mut Octets,
-) -> Result<(), NoMemory>
-    ensures { OnOk result (out.new ≡ out.old ++ row_text plan.now row line.now) }
+// Which lines are not shown, before those that are and after them.
+fn write_notes(alloc: Global, view: View, lines: usize, out: &mut Octets) -> Result<(), NoMemory>
+    ensures { OnOk result (out.new ≡ out.old ++ notes view lines) }
 {
-    write_shape(alloc, row, shape_of(plan, line), line, out)?;
-    text.truncate(0);
-    write_out(alloc, line, text)?;
-    write_line(alloc, row, line, text.as_slice(), out)
+    write_note(alloc, below(14, 0), 1, view.from as u64, out)?;
+    if view.to < lines {
+        let y = below(14, seen_at(view, view.to));
+        write_note(alloc, y, view.to as u64 + 1, lines as u64, out)
+    } else {
+        Ok(())
+    }
 }
 
-// The line's own text, on the left.
-#[tactic(auto, unfolding(crate::specs::Svg::line_text))]
-fn write_line(
-    alloc: Global,
-    row: usize,
-    line: &OutLine,
-    text: &[u8],
-    out: &mut Octets,
-) -> Result<(), NoMemory>
-    requires { text.now ≡ out_text line.now }
-    ensures { OnOk result (out.new ≡ out.old ++ line_text row line.now) }
-{
-    let (y, fill) = (down(84, row), colour(tone_of(line)));
-    write_text(alloc, y, fill, weight(line), shown(text), dots(text), out)
-}
-
-#[tactic(auto, unfolding(crate::specs::Svg::text_at))]
-fn write_text<'a>(
+#[tactic(auto, unfolding(crate::specs::Svg::note_line))]
+fn write_note(
     alloc: Global,
     y: u64,
-    fill: &'a str,
-    bolder: &'a str,
-    text: &'a [u8],
-    after: &'a str,
+    first: u64,
+    last: u64,
     out: &mut Octets,
 ) -> Result<(), NoMemory>
-    ensures { OnOk result (out.new ≡ out.old ++ text_at y fill.now bolder.now text.now after.now) }
+    ensures { OnOk result (out.new ≡ out.old ++ note y first last) }
 {
+    if last < first {
+        return Ok(());
+    }
     write_pieces(
         alloc,
         &[
-            Piece::Text("<text x='8' y='"),
+            Piece::Text("<text class='f' x='8' y='"),
             Piece::Number(y),
-            Piece::Text("' fill='"),
-            Piece::Text(fill),
-            Piece::Text(bolder),
-            Piece::Text("'>"),
-            Piece::Escaped(text),
-            Piece::Text(after),
-            Piece::Text("</text>\n"),
+            Piece::Text("'>lines "),
+            Piece::Number(first),
+            Piece::Text(" to "),
+            Piece::Number(last),
+            Piece::Text(" are not shown</text>\n"),
         ],
         out,
     )
 }
 
-fn weight(line: &OutLine) -> &'static str
-    ensures { result.now ≡ weight line.now }
-{
-    match line {
-        OutLine::Echo(_) => "' font-weight='bold",
-        OutLine::Agreed { .. } => "' font-weight='bold",
-        OutLine::Mixed { .. } => "' font-weight='bold",
-        OutLine::Open { .. } => "' font-weight='bold",
-        _ => "",
-    }
-}
-
-fn shown(text: &[u8]) -> &[u8]
-    ensures { result.now ≡ take most_text text.now }
-{
-    if text.len() <= MOST_TEXT {
-        text
-    } else {
-        &text[..MOST_TEXT]
-    }
-}
-
-fn dots(text: &[u8]) -> &'static str
-    ensures { result.now ≡ dots text.now }
-{
-    if text.len() <= MOST_TEXT { "" } else { ".." }
-}
-
-// What the marks mean, in two lines below the rows.
 #[tactic(auto, unfolding(crate::specs::Svg::foot))]
-fn write_foot(alloc: Global, first: u64, second: u64, out: &mut Octets) -> Result<(), NoMemory>
-    ensures { OnOk result (out.new ≡ out.old ++ foot first second) }
+fn write_foot(alloc: Global, y: u64, out: &mut Octets) -> Result<(), NoMemory>
+    ensures { OnOk result (out.new ≡ out.old ++ foot y) }
 {
     write_pieces(
         alloc,
         &[
-            Piece::Text("<text x='8' y='"),
-            Piece::Number(first),
-            Piece::Text("' fill='#777'>square: a record forced to the log; "),
-            Piece::Text("ring: what the user is told</text>\n<text x='8' y='"),
-            Piece::Number(second),
-            Piece::Text("' fill='#777'>arrow: a frame from its send to its take; "),
-            Piece::Text("cross: lost; dashed: not taken</text>\n</svg>\n"),
+            Piece::Text("<g transform='translate(0 "),
+            Piece::Number(y),
+            Piece::Text(")'>\n"),
         ],
         out,
-    )
+    )?;
+    write_legend(alloc, out)
 }

@@ -1,12 +1,12 @@
-//! How lines are coloured.
+//! The colors of lines.
 ghost use Rattle.std.specs.Prelude.{◌≡◌};
-ghost use Rattle.tp_draw.specs.Tones.{tone_of, tone_of_outcome, tone_of_report, tone_of_log, tone_of_sent, tone_of_state, tone_of_dialogue, tone_of_told, tone_name, colour};
+ghost use Rattle.tp_draw.specs.Tones.{tone_of, tone_of_outcome, tone_of_report, tone_of_log, tone_of_sent, tone_of_state, tone_of_dialogue, tone_of_told, tone_name};
 
 use tp_model::{LogWords, OutLine, SentWords};
 use tp_names::{Outcome, Report};
 use tp_records::{DialogueRecord, Indication, RecState};
 
-/// How a line is coloured: by the outcome that it is of.
+/// The color of a line: that of the outcome that it tells of.
 #[derive(Clone, Copy)]
 pub(crate) enum Tone {
     /// Of no outcome.
@@ -31,10 +31,10 @@ pub(crate) fn tone_of(line: &OutLine) -> Tone
         OutLine::Take { .. } => Tone::Faint,
         OutLine::Send { rec, .. } => tone_of_sent(rec),
         OutLine::Tell { indication, .. } => tone_of_told(indication),
-        OutLine::Refused { .. } => Tone::Faint,
-        OutLine::Dropped { .. } => Tone::Faint,
+        OutLine::Refused { .. } => Tone::Plain,
+        OutLine::Dropped { .. } => Tone::Plain,
         OutLine::Nothing => Tone::Faint,
-        OutLine::Lost { .. } => Tone::Faint,
+        OutLine::Lost { .. } => Tone::Plain,
         OutLine::Stopped { .. } => Tone::Plain,
         OutLine::State { .. } => Tone::Plain,
         OutLine::Image { .. } => Tone::Faint,
@@ -77,7 +77,8 @@ fn tone_of_log(rec: &LogWords) -> Tone
     }
 }
 
-fn tone_of_sent(rec: &SentWords) -> Tone
+/// The tone of what is sent.
+pub(crate) fn tone_of_sent(rec: &SentWords) -> Tone
     ensures { result ≡ tone_of_sent rec.now }
 {
     match rec {
@@ -124,28 +125,15 @@ fn tone_of_told(indication: &Indication) -> Tone
     }
 }
 
-/// The name of a tone's arrow tip.
+/// The name of a tone in a file.
 pub(crate) fn tone_name(tone: Tone) -> &'static str
     ensures { result.now ≡ tone_name tone }
 {
     match tone {
-        Tone::Plain => "plain",
-        Tone::Faint => "faint",
-        Tone::Commit => "commit",
-        Tone::Rollback => "rollback",
-        Tone::Damage => "damage",
-    }
-}
-
-/// The colour of a tone.
-pub(crate) fn colour(tone: Tone) -> &'static str
-    ensures { result.now ≡ colour tone }
-{
-    match tone {
-        Tone::Plain => "#222",
-        Tone::Faint => "#777",
-        Tone::Commit => "#1a7f37",
-        Tone::Rollback => "#c62828",
-        Tone::Damage => "#b25b00",
+        Tone::Plain => "p",
+        Tone::Faint => "f",
+        Tone::Commit => "c",
+        Tone::Rollback => "r",
+        Tone::Damage => "d",
     }
 }

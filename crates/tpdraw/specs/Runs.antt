@@ -4,7 +4,7 @@ use Rattle.tp_model.specs.declared.out_line.OutLine.{OutLine}
 use Rattle.tp_model.specs.declared.verdict.Why.{Why}
 use Rattle.tp_streams.specs.Stops.{IsFaultOf}
 use Rattle.tp_streams.specs.Written.{WritesPrefix}
-use Rattle.tp_draw.specs.declared.drawing.Kind.{Kind}
+use Rattle.tp_draw.specs.declared.drawing.Form.{Form}
 use Rattle.tp_draw.specs.Pictures.{picture}
 use Rattle.tpdraw.specs.declared.status.Status.{Status}
 use Rattle.tpdraw.specs.Transcripts.{IsTranscript, IsBadAt}
@@ -27,10 +27,10 @@ IsReadStop old new (Status.WriteFault faults) = ⊥
 IsReadStop old new Status.NoMemory = Unit {0}
 
 -- the picture of the transcript that the bytes are
-pub record IsPicture (kind : Kind) (bytes text : List ℕ) : Type 0 where
+pub record IsPicture (form : Form) (bytes text : List ℕ) : Type 0 where
   pub lines : List OutLine
   pub are : IsTranscript bytes lines
-  pub is : text ≡ picture kind lines
+  pub is : text ≡ picture form lines
 
 -- why there is none of what the source has left
 abbrev pub IsInputStop : Option (List ℕ) → ℕ → ℕ → Status → Type 0
@@ -64,22 +64,22 @@ IsEnding read_old read_new write_old write_new (Status.WriteFault faults) = IsFa
 IsEnding read_old read_new write_old write_new Status.NoMemory = Unit {0}
 
 -- where the source tells what it has left: that is a transcript, whose picture was written
-pub record Pictures (kind : Kind) (bytes : List ℕ) (old new : Option (List ℕ)) : Type 0 where
+pub record Pictures (form : Form) (bytes : List ℕ) (old new : Option (List ℕ)) : Type 0 where
   pub lines : List OutLine
   pub are : IsTranscript bytes lines
-  pub written : (was : List ℕ) → old ≡ Some was → new ≡ Some (was ++ picture kind lines)
+  pub written : (was : List ℕ) → old ≡ Some was → new ≡ Some (was ++ picture form lines)
 
 -- or a prefix of it
-pub record PicturesPart (kind : Kind) (bytes : List ℕ) (old new : Option (List ℕ)) : Type 0 where
+pub record PicturesPart (form : Form) (bytes : List ℕ) (old new : Option (List ℕ)) : Type 0 where
   pub lines : List OutLine
   pub are : IsTranscript bytes lines
-  pub written : (was : List ℕ) → old ≡ Some was → WritesPrefix was (picture kind lines) new
+  pub written : (was : List ℕ) → old ≡ Some was → WritesPrefix was (picture form lines) new
 
 -- what is written, by what was asked for and how the run ends
-abbrev pub Draws : Option Kind → Option (List ℕ) → Status → Option (List ℕ) → Option (List ℕ) → Type 0
-Draws asked left Status.Ok old new = (kind : Kind) × (asked ≡ Some kind) × ((bytes : List ℕ) → left ≡ Some bytes → Pictures kind bytes old new)
+abbrev pub Draws : Option Form → Option (List ℕ) → Status → Option (List ℕ) → Option (List ℕ) → Type 0
+Draws asked left Status.Ok old new = (form : Form) × (asked ≡ Some form) × ((bytes : List ℕ) → left ≡ Some bytes → Pictures form bytes old new)
 Draws asked left Status.Usage old new = new ≡ old
 Draws asked left (Status.BadInput at why) old new = (new ≡ old) × ((bytes : List ℕ) → left ≡ Some bytes → IsBadAt bytes at)
 Draws asked left (Status.ReadFault faults) old new = new ≡ old
-Draws asked left (Status.WriteFault faults) old new = (kind : Kind) × (asked ≡ Some kind) × ((bytes : List ℕ) → left ≡ Some bytes → PicturesPart kind bytes old new)
+Draws asked left (Status.WriteFault faults) old new = (form : Form) × (asked ≡ Some form) × ((bytes : List ℕ) → left ≡ Some bytes → PicturesPart form bytes old new)
 Draws asked left Status.NoMemory old new = new ≡ old

@@ -2,6 +2,7 @@
 //! with a lane for each node, as SVG, or as Mermaid text.
 #![tactic(auto)]
 
+mod asking;
 mod intake;
 mod next_line;
 mod reading;
@@ -19,11 +20,15 @@ use tp_outside::{
 
 /// What can be typed.
 const USAGE: &str = "\
-usage: tpdraw [--mermaid]
+usage: tpdraw [--mermaid] [--lanes] [--fold] [--from N] [--to N]
 
   reads a transcript, writes it as a picture in SVG
 
   --mermaid    writes text from which Mermaid makes the picture
+  --lanes      leaves out the text of the lines, but for events and outcomes
+  --fold       one row stands for all that comes before the first transaction
+  --from N     begins with line N
+  --to N       ends with line N; without it at most 200 lines are shown
 ";
 
 // Ends a run. Why its stream failed is said where it is known.

@@ -6,16 +6,17 @@ ghost use Rattle.tpdraw.specs.Runs.{IsEnding, Draws, IsPicture, IsInputStop, Wri
 ghost use Rattle.tpdraw.specs.declared.status.Status.{Status};
 
 use crate::Status;
+use crate::asking::{Asking, Want};
 use crate::intake::read_all;
 use crate::reading::read_transcript;
 use std::alloc::Global;
-use tp_draw::{Kind, draw};
+use tp_draw::{Form, draw};
 use tp_names::Octets;
 use tp_outside::{Sink, Source};
 use tp_streams::write_all;
 
-/// Reads a transcript to the end of the source, and writes its picture to the sink, as SVG or, with the word `--mermaid`, as
-/// Mermaid text. Nothing is written but that picture, and nothing of it before the whole input was read and is a
+/// Reads a transcript to the end of the source, and writes its picture to the sink, in the form that the words ask
+/// for. Nothing is written but that picture, and nothing of it before the whole input was read and is a
 /// transcript; where the sink fails, a prefix of it is written. Other words are usage, and nothing is read.
 pub fn run<S: Source, K: Sink>(
     alloc: Global,
@@ -30,47 +31,50 @@ pub fn run<S: Source, K: Sink>(
 {
     match asked(words) {
         None => Status::Usage,
-        Some(kind) => draw_input(alloc, kind, source, sink),
+        Some(form) => draw_input(alloc, form, source, sink),
     }
 }
 
 // The form of the picture that the words ask for.
-fn asked(words: &[&str]) -> Option<Kind>
+fn asked(words: &[&str]) -> Option<Form>
     ensures { result ≡ asked (map (λ w. w.now) words.now) }
 {
-    match words {
-        [] => Some(Kind::Svg),
-        [word] if *word == "--mermaid" => Some(Kind::Mermaid),
+    let mut asking = Asking::new();
+    for word in words {
+        asking = asking.after(word)?;
+    }
+    match asking.want {
+        Want::Option => Some(asking.form),
         _ => None,
     }
 }
 
-fn draw_input<S: Source, K: Sink>(alloc: Global, kind: Kind, source: &mut S, sink: &mut K) -> Status
+fn draw_input<S: Source, K: Sink>(alloc: Global, form: Form, source: &mut S, sink: &mut K) -> Status
     ensures asked { result ≢ Status.Usage }
     ensures ending { IsEnding (S.fault_count source.old) (S.fault_count source.new) (K.fault_count sink.old) (K.fault_count sink.new) result }
-    ensures draws { Draws (Some kind) (S.left source.old) result (K.written sink.old) (K.written sink.new) }
+    ensures draws { Draws (Some form) (S.left source.old) result (K.written sink.old) (K.written sink.new) }
 {
-    match picture_of(alloc, kind, source) {
+    match picture_of(alloc, form, source) {
         Ok(picture) => write_picture(sink, picture.as_slice()),
         Err(status) => status,
     }
 }
 
 // The picture of all that the source has left.
-fn picture_of<S: Source>(alloc: Global, kind: Kind, source: &mut S) -> Result<Octets, Status>
-    ensures pictured { IfOk result (λ text. (bytes : List ℕ) → S.left source.old ≡ Some bytes → IsPicture kind bytes text) }
+fn picture_of<S: Source>(alloc: Global, form: Form, source: &mut S) -> Result<Octets, Status>
+    ensures pictured { IfOk result (λ text. (bytes : List ℕ) → S.left source.old ≡ Some bytes → IsPicture form bytes text) }
     ensures stops { IfErr result (IsInputStop (S.left source.old) (S.fault_count source.old) (S.fault_count source.new)) }
 {
     let bytes = read_all(alloc, source)?;
-    picture_of_bytes(alloc, kind, bytes.as_slice())
+    picture_of_bytes(alloc, form, bytes.as_slice())
 }
 
-fn picture_of_bytes(alloc: Global, kind: Kind, bytes: &[u8]) -> Result<Octets, Status>
-    ensures pictured { IfOk result (IsPicture kind bytes.now) }
+fn picture_of_bytes(alloc: Global, form: Form, bytes: &[u8]) -> Result<Octets, Status>
+    ensures pictured { IfOk result (IsPicture form bytes.now) }
     ensures stops { IfErr result (IsUnread bytes.now) }
 {
     let lines = read_transcript(alloc, bytes)?;
-    let picture = draw(alloc, lines.as_slice(), kind)?;
+    let picture = draw(alloc, lines.as_slice(), form)?;
     Ok(picture)
 }
 

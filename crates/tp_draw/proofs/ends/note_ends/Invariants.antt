@@ -7,5 +7,5 @@ use Rattle.tp_draw.proofs.ends.note_ends.Given as goal
 abbrev pub invariant-loop-row : goal.invariant-loop-row
 invariant-loop-row l = record {
   many : length l.ends.items ≡ 65536;
-  ends : (k : ℕ) → k < 65536 → or_else (slice_index_or l.ends.items k End.Never) (end_in k l.row (drop l.row l.lines)) ≡ or_else (slice_index_or l.fn.ends.items k End.Never) (end_in k 0 l.lines);
+  ends : (k : ℕ) → k < 65536 → or_else (slice_index_or l.ends.items k End.Never) (end_in l.lines k l.row (drop l.row l.lines)) ≡ or_else (slice_index_or l.fn.ends.items k End.Never) (end_in l.lines k 0 l.lines);
 }

@@ -2,5 +2,5 @@ use Rattle.std.proofs.Common.{◌≡◌, ◌++◌, drop}
 use Rattle.tp_draw.specs.Mermaid.{rows_words}
 use Rattle.tp_draw.proofs.mermaid.write_rows.Given as goal
 
-abbrev pub invariant-loop-line : goal.invariant-loop-line
-invariant-loop-line l = l.out ++ rows_words l.plan (drop l.line-index l.lines) ≡ l.fn.out ++ rows_words l.plan l.lines
+abbrev pub invariant-loop-row : goal.invariant-loop-row
+invariant-loop-row l = l.out ++ rows_words l.view l.plan l.row (drop l.row l.lines) ≡ l.fn.out ++ rows_words l.view l.plan 0 l.lines

@@ -3,4 +3,4 @@ use Rattle.tp_draw.specs.Svg.{lanes_text}
 use Rattle.tp_draw.proofs.svg.write_lanes.Given as goal
 
 abbrev pub invariant-loop-place : goal.invariant-loop-place
-invariant-loop-place l = l.out ++ lanes_text l.lanes l.rows l.place (drop l.place l.lanes) ≡ l.fn.out ++ lanes_text l.lanes l.rows 0 l.lanes
+invariant-loop-place l = l.out ++ lanes_text l.view l.lanes l.high l.place (drop l.place l.lanes) ≡ l.fn.out ++ lanes_text l.view l.lanes l.high 0 l.lanes
