@@ -89,14 +89,14 @@ fn main(rt: HostRuntime) -> ExitCode {
         disk,
         &OpenGate,
     );
-    let (name, cause) = match status {
+    let (name, cause) = match &status {
         Status::ReadFault { .. } => ("standard input", source.cause()),
         Status::WriteFault { .. } => ("standard output", sink.cause()),
         Status::DiskFault { .. } => (LOG, disk.cause()),
         _ => ("", None),
     };
     let code = end(&rt, &status, name, cause);
-    if let Status::Usage = status {
+    if let Status::Usage = &status {
         say_usage(&rt, &texts);
     }
     code
