@@ -207,10 +207,10 @@ def cases(stops):
     yield Case("replay: a store binds, keeps, drops", ["replay"], store, 25, transactions, "bound.log")
     yield Case("replay: a store in doubt", ["replay"], in_doubt, 29, transactions, "bound.log")
     if stops.options.drive:
-        yield Case("drive: two transactions of a subordinate", ["drive", "--name", "b"], wire.FRESH, 29, sub)
-        yield Case("drive: two transactions of a root", ["drive", "--name", "a"], wire.FRESH, 21, root)
+        yield Case("drive: two transactions of a subordinate", ["drive", "--name", "b"], wire.FRESH, 9, sub)
+        yield Case("drive: two transactions of a root", ["drive", "--name", "a"], wire.FRESH, 9, root)
         workers = streams.stream(streams.subordinates((2, 3, 4), 2))
-        yield Case("drive: three nodes on three workers", ["drive", "--name", "b", "--workers", "3"], wire.FRESH, 77, workers)
+        yield Case("drive: three nodes on three workers", ["drive", "--name", "b", "--workers", "3"], wire.FRESH, 9, workers)
 
 
 class Lying(Stops):

@@ -7,6 +7,8 @@ mod bound;
 #[cfg(test)]
 mod driven;
 #[cfg(test)]
+mod gathering;
+#[cfg(test)]
 mod journal;
 #[cfg(test)]
 mod keys;

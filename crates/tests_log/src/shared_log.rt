@@ -1,4 +1,4 @@
-//! What no clause says: that records are forced from two threads, where they stand then, and what a failing disk leaves.
+//! What no clause says: that records are noted from two threads, where they stand then, and what a failing disk leaves.
 ghost use Rattle.std.specs.Prelude.{◌≡◌, ◌+◌, ◌<◌, ◌^◌, None, OnOk, length};
 ghost use Rattle.tp_journal.specs.Records.{placed};
 
@@ -14,7 +14,7 @@ use tp_names::Octets;
 use tp_outside::{Disk, FuseDisk, MemDisk};
 use tp_shared_log::{LogShare, SharedLog, Stood, Unfit};
 
-// Forces four records in turn, whatever keeps them.
+// Gives a keeper four records in turn.
 fn force_boots<K: Keeper>(alloc: Global, keeper: &mut K, first: u64) -> Result<(), ForceFault>
     requires { first < 2 ^ 32 }
     ensures kept { OnOk result (length (K.standing keeper.new).kept ≡ length (K.standing keeper.old).kept + 4) }
@@ -216,42 +216,36 @@ fn stopped_at<R: Threads + Wait + Sync>(
     two_threads_on(rt, alloc, started(alloc, disk)?)
 }
 
-fn is_of_disk(fault: &Option<ForceFault>) -> bool {
-    matches!(
-        fault,
-        Some(ForceFault::DiskFault { .. } | ForceFault::Shut { .. })
-    )
-}
-
-// Each share is told of the fault, and three records were forced.
+// Each share has its receipts, and the log is shut.
 fn is_told(ended: &Ended<FuseDisk>) -> bool {
     let [one, other] = &ended.receipts;
-    ended.faults.iter().all(is_of_disk)
-        && one.len().saturating_add(other.len()) == 3
+    ended.faults.iter().all(Option::is_none)
+        && one.len() == 4
+        && other.len() == 4
         && ended.unfit.is_none()
         && ended.journal.shut().is_some()
 }
 
-// The records that stood at the fault, and those that are found then.
+// The records that the list has, and those that are found then.
 fn told_and_left(alloc: Global, journal: Journal<FuseDisk>) -> Option<(Vec<u64>, Vec<u64>)> {
     let told = boots(alloc, &journal)?;
     let again = started(alloc, journal.disk().image())?;
     Some((told, boots(alloc, &again)?))
 }
 
-// A force makes four calls. So three records stand, and the fourth is cut short at each of its calls. It is there
-// where its text is whole and the byte of its gate opens it.
+// The close settles the eight records in four calls, and is cut short at each of them. They are there, all of them, where the
+// texts are whole and the byte of the first gate opens it.
 fn is_cut_short<R: Threads + Wait + Sync>(rt: &R, alloc: Global, k: u64, fill: u8) -> Option<bool> {
     let ended = stopped_at(rt, alloc, k, fill)?;
     let told = is_told(&ended);
-    let (stood, left) = told_and_left(alloc, ended.journal)?;
-    let count = if k > 15 && fill == 1 { 4 } else { 3 };
-    Some(told && stood.len() == 3 && left.len() == count && left.starts_with(stood.as_slice()))
+    let (list, left) = told_and_left(alloc, ended.journal)?;
+    let count = if k > 3 && fill == 1 { 8 } else { 0 };
+    Some(told && list.len() == 8 && left.len() == count && list.starts_with(left.as_slice()))
 }
 
 #[test]
-fn a_failing_disk_is_told_to_each_share(rt: HostRuntime) {
-    for k in 14..=17 {
+fn a_failing_close_leaves_all_or_none(rt: HostRuntime) {
+    for k in 2..=5 {
         for fill in 0..=1 {
             let holds = is_cut_short(&rt, rt.alloc(), k, fill);
             assert!(rt; matches!(holds, Some(true)), "call {k}, fill {fill}");

@@ -47,7 +47,7 @@ pub record IsPartDriven (o : Opening) (lanes : ℕ) (events : List Given) (stops
   pub each : (i : ℕ) (l : List LogRec) (s : Option Stop) → i < lanes → IsForcedBy o lanes i events (slice_index_or stops i s) (slice_index_or logs i l)
   pub woven : IsInterleaving more logs
 
--- the disk failed under some lane
+-- the disk failed when records were settled
 pub record IsShut {D : Type 0} (o : Opening) (lanes : ℕ) (events : List Given) (before faults now : ℕ) (j : Kept D) : Type 0 where
   pub shut : j.shut ≡ Some faults
   pub risen : HasRisen before now
@@ -94,7 +94,7 @@ HasStarted (DriveFault.Full size event) = Unit {0}
 HasStarted DriveFault.NoMemory = Unit {0}
 
 -- The records that the site started on follow one another, and the boot was forced. From then on a crash left the first of the records that the log has now, with the boot at least, and now it
--- leaves all of them; of a log that is shut perhaps also the one that was being forced.
+-- leaves all of them; of a log that is shut the first of them.
 pub record LeavesBooted {D : Type 0} (standing : Kept D → Standing) (old : Kept D) (name : List ℕ) (told : Option Story) (new : Kept D) : Type 0 where
   pub order : all_follow old.list ≡ true
   pub wide : new.wide ≡ old.wide

@@ -28,7 +28,7 @@ pub enum DriveFault {
         receipt: Receipt,
         kept: Receipt,
     },
-    /// The disk failed under a lane, and the log is shut with that count of faults.
+    /// The disk failed when records were settled, and the log is shut with that count of faults.
     DiskFault {
         faults: u64,
     },

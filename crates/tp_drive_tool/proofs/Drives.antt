@@ -59,11 +59,9 @@ left_log o list None s mid told first leaves =
 left_log o list (Some faults) s mid told first leaves =
     let left : Leaves (Some first.0) (length o.records + 1) (is_wide o.version) list (Some faults) told =
     subst (λ (m : Option Story). Leaves m (length o.records + 1) (is_wide o.version) list (Some faults) told) first.1 leaves in
-    let more : List LogRec = list ++ left.0 ∷ [] in
-    let since : LeavesOnly (HasFirst o more) (Some first.0) told = (left.1.now, left.1.tells, left.1.since) in (
-      left.0,
-      moments o more s mid told first (subst (λ (m : Option Story). LeavesOnly (HasFirst o more) m told) (sym first.1) since),
-      subst (LeavesNow (StandsForEither (bodies_of (is_wide o.version) list) (bodies_of (is_wide o.version) more))) (sym left.1.tells) left.1.last,
+    let since : LeavesOnly (HasFirst o list) (Some first.0) told = (left.now, left.tells, left.since) in (
+      moments o list s mid told first (subst (λ (m : Option Story). LeavesOnly (HasFirst o list) m told) (sym first.1) since),
+      subst (LeavesNow (HasFirst o list)) (sym left.tells) left.last,
     )
 
 -- ---- a log that is not opened

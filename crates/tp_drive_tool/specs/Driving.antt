@@ -45,13 +45,12 @@ IsMoment o list file =
     ⊎ StandsForFirst (length o.records + 1) (is_wide o.version) list file
 
 -- A crash at any moment since the first sync has left such a log, and one now leaves all of these records; where the log is shut,
--- perhaps also one more, which was being forced when the disk failed.
+-- the first of them, the boot among them.
 abbrev pub LeavesLog : Opening → List LogRec → Option ℕ → Story → Option Story → Type 0
 LeavesLog o list None story new =
     LeavesOnly (IsMoment o list) (Some (Synced story)) new × LeavesNow (λ file. StandsFor file (bodies_of (is_wide o.version) list)) new
 LeavesLog o list (Some faults) story new =
-    (rec : LogRec) × LeavesOnly (IsMoment o (list ++ rec ∷ [])) (Some (Synced story)) new
-    × LeavesNow (StandsForEither (bodies_of (is_wide o.version) list) (bodies_of (is_wide o.version) (list ++ rec ∷ []))) new
+    LeavesOnly (IsMoment o list) (Some (Synced story)) new × LeavesNow (StandsForFirst (length o.records + 1) (is_wide o.version) list) new
 
 -- ---- all events
 

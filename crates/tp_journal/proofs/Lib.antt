@@ -11,12 +11,15 @@ pub mod Exclusion
 pub mod Finishing
 pub mod Forcing
 pub mod Formats
+pub mod Gathered
 pub mod Generated
 pub mod Generations
 pub mod Kept
+pub mod Noting
 pub mod OneMore
 pub mod RecordBodies
 pub mod Openings
+pub mod SettledBytes
 pub mod Staging
 pub mod Shorter
 pub mod Sizes

@@ -154,10 +154,6 @@ forgets_record wide rs qs r before body popped is =
 
 -- ---- places
 
-blocks-append : (xs ys : List (List ℕ)) → blocks (xs ++ ys) ≡ blocks xs ++ blocks ys
-blocks-append [] ys = refl
-blocks-append (x ∷ xs) ys = ap (λ (l : List ℕ). 1 ∷ counted x ++ l) (blocks-append xs ys) ∙ sym (append_assoc (1 ∷ counted x) (blocks xs) (blocks ys))
-
 size_of_blocks : (x : List ℕ) (xs : List (List ℕ)) → length (blocks (x ∷ xs)) ≡ 3 + length x + length (blocks xs)
 size_of_blocks x xs = omega (arith, length-append (1 ∷ counted x) (blocks xs))
 

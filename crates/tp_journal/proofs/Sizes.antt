@@ -227,7 +227,7 @@ some_bytes wide (LogRec.End n k o) = omega arith
 pub text_is_body : (wide : Bool) (rec : LogRec) → HasText wide rec → IsBody (text wide rec)
 text_is_body wide rec has = (some_bytes wide rec, omega (arith, record_small (version_of wide) (text wide rec) rec [] has))
 
-texts_are : (wide : Bool) (rs : List LogRec) → AllByRecursion (HasText wide) rs → AllByRecursion IsBody (texts wide rs)
+pub texts_are : (wide : Bool) (rs : List LogRec) → AllByRecursion (HasText wide) rs → AllByRecursion IsBody (texts wide rs)
 texts_are wide [] all = tt
 texts_are wide (r ∷ rs) all = (text_is_body wide r all.0, texts_are wide rs all.1)
 

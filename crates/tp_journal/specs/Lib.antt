@@ -6,6 +6,7 @@ pub mod Start
 pub mod Started
 pub mod Stops
 pub mod Gates
+pub mod Gathering
 pub mod Records
 pub mod Keeping
 pub mod Disorder

@@ -34,6 +34,11 @@ head selector = 79 ∷ 84 ∷ 80 ∷ 76 ∷ selector ∷ []
 abbrev pub forced_bytes : ℕ → List ℕ → List ℕ → List ℕ
 forced_bytes gate body file = take gate file ++ (1 ∷ ((counted body ++ 0 ∷ []) ++ drop (gate + 4 + length body) file))
 
+-- The file once bodies are forced one after the other, the first after the closing gate at this place.
+abbrev pub settled_bytes : ℕ → List (List ℕ) → List ℕ → List ℕ
+settled_bytes gate [] file = file
+settled_bytes gate (body ∷ bodies) file = settled_bytes (gate + 3 + length body) bodies (forced_bytes gate body file)
+
 -- the bodies stand at the front, then a gate that is closed, then any rest
 pub record StandsInFront (file : List ℕ) (bodies : List (List ℕ)) : Type 0 where
   pub selector : ℕ

@@ -8,8 +8,8 @@ ghost use Rattle.tp_journal.specs.Told.{IsOn, LeavesOnly};
 ghost use Rattle.tp_journal.specs.Start.{Starts, RefusesStart, SyncsAlone};
 ghost use Rattle.tp_journal.specs.Started.{IsStarted, KeepsDisk, KeepsDiskInReplace};
 ghost use Rattle.tp_logrec.specs.Order.{all_follow, brief};
-ghost use Rattle.tp_journal.specs.Records.{HasText, bodies_of, log_bytes, record_body};
-ghost use Rattle.tp_journal.specs.Journals.{bodies_in, standing_of, ComesInOrder, Becomes, RefusesCompact, RefusesMigrate, size_of};
+ghost use Rattle.tp_journal.specs.Records.{HasText, AreRecords, bodies_of, log_bytes, record_body};
+ghost use Rattle.tp_journal.specs.Journals.{bodies_in, kept_of, standing_of, ComesInOrder, Becomes, RefusesCompact, RefusesMigrate, size_of};
 ghost use Rattle.tp_journal.specs.declared.faults.ForceFault.{ForceFault};
 ghost use Rattle.tp_journal.specs.Keeping.{Forces, receipt_of};
 ghost use Rattle.tp_journal.specs.Disorder.{IsFirstOutOfOrder};
@@ -210,6 +210,23 @@ impl<D: Disk> Journal<D> {
     {
         let Journal { log, piece: _ } = self;
         log.into_disk()
+    }
+
+    /// Its log of bodies, which are the texts of its records, and its memory for a record.
+    pub(crate) fn into_log(self) -> (Log<D, Records>, Octets)
+        ensures log { kept_of result.0 ≡ self }
+        ensures records { AreRecords result.0.shelf }
+    {
+        let Journal { log, piece } = self;
+        (log, piece)
+    }
+
+    /// The journal of such a log.
+    pub(crate) fn of_log(log: Log<D, Records>, piece: Octets) -> Journal<D>
+        requires { AreRecords log.shelf }
+        ensures { result ≡ kept_of log }
+    {
+        Journal { log, piece }
     }
 
     /// The disk, lent.

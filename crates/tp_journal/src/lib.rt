@@ -7,6 +7,7 @@ mod copies;
 mod disorder;
 mod faults;
 mod gates;
+mod gathering;
 mod journal;
 mod keeper;
 mod laws;
@@ -22,6 +23,7 @@ mod tape;
 pub use disorder::first_out_of_order;
 pub use faults::{CompactFault, ForceFault, StartFault};
 pub use gates::Gates;
+pub use gathering::Gathering;
 pub use journal::{Journal, format};
 pub use keeper::Keeper;
 pub use laws::{

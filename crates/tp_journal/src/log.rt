@@ -164,6 +164,33 @@ impl<D: Disk, S: Shelf + Drop> Log<D, S> {
         disk
     }
 
+    /// The disk, the shelf, the place of the closing gate, and the count of faults with which it is shut.
+    pub fn into_parts(self) -> (D, S, u64, Option<u64>)
+        ensures parts { self ≡ record { disk = result.0; shelf = result.1; gate = result.2; shut = result.3 } }
+        ensures started { IsStarted (D.told result.0) result.2 (S.bodies result.1) result.3 }
+    {
+        let Log {
+            disk,
+            shelf,
+            gate,
+            shut,
+        } = self;
+        (disk, shelf, gate, shut)
+    }
+
+    /// The log of these parts.
+    pub fn of_parts(disk: D, shelf: S, gate: u64, shut: Option<u64>) -> Log<D, S>
+        requires { IsStarted (D.told disk) gate (S.bodies shelf) shut }
+        ensures { result ≡ record { disk = disk; shelf = shelf; gate = gate; shut = shut } }
+    {
+        Log {
+            disk,
+            shelf,
+            gate,
+            shut,
+        }
+    }
+
     /// Reads the log of a disk onto an empty shelf. A change of generation that was cut short is ended.
     pub fn start(alloc: Global, disk: D, shelf: S) -> Result<Log<D, S>, (D, StartFault)>
         requires { S.bodies shelf ≡ [] }

@@ -1,9 +1,10 @@
 //! The moves on the bytes of a log, each a few calls of the disk. It keeps nothing: where the closing gate stands, and
 //! which bodies stand before it, its callers know.
 ghost use Rattle.std.specs.Prelude.{◌≡◌, ◌+◌, ◌-◌, ◌≤◌, ◌<◌, ◌^◌, ◌++◌, ◌∷◌, [], ℕ, List, length, drop, Some, None, OnOk, OnErr};
+ghost use Rattle.std.specs.List.{AllByRecursion};
 ghost use Rattle.tp_outside.specs.Faults.{HasRisen};
 ghost use Rattle.tp_outside.specs.Story.{Story, Torn, Clipped};
-ghost use Rattle.tp_journal.specs.Log.{IsBody, counted, head, StandsBehind, StandsFor, StandsForEither};
+ghost use Rattle.tp_journal.specs.Log.{IsBody, blocks, head, StandsBehind, StandsFor, StandsForEither};
 ghost use Rattle.tp_outside.specs.FuseDisk.{OnFuse};
 ghost use Rattle.tp_journal.specs.Stops.{Stores, StopsStoring, with_gate, Opens, StopsOpening};
 ghost use Rattle.tp_journal.specs.Told.{IsOn, LeavesOnly, HasStored, HasResized, RestsAt, IsTextOf, IsStaged};
@@ -39,14 +40,15 @@ fn shorten<D: Disk>(disk: &mut D, len: u64) -> Result<(), Failed>
     Ok(())
 }
 
-/// Adds a body after the closing gate: the body and the next closing gate, and then the gate itself.
-/// The piece is the body with its length before it and a closed gate after it.
+/// Adds bodies after the closing gate: the bodies and the next closing gate, and then the gate itself. Until that one is
+/// written nothing after it is read, so a crash leaves none of the bodies or all of them.
+/// The piece is their blocks, but for the first gate, and a closed gate.
 pub fn append<D: Disk>(disk: &mut D, gate: u64, piece: &[u8]) -> Result<(), Failed>
     requires { gate + 1 < 2 ^ 64 }
-    ensures moments { (bodies : List (List ℕ)) (body : List ℕ) → RestsAt (D.told disk.old) gate bodies → IsBody body → piece.now ≡ counted body ++ 0 ∷ []
-        → LeavesOnly (StandsForEither bodies (bodies ++ body ∷ [])) (D.told disk.old) (D.told disk.new) }
-    ensures rests { OnOk result ((bodies : List (List ℕ)) (body : List ℕ) → RestsAt (D.told disk.old) gate bodies → IsBody body → piece.now ≡ counted body ++ 0 ∷ []
-        → RestsAt (D.told disk.new) (gate + length piece.now) (bodies ++ body ∷ [])) }
+    ensures moments { (bodies more : List (List ℕ)) → RestsAt (D.told disk.old) gate bodies → AllByRecursion IsBody more → 1 ∷ piece.now ≡ blocks more ++ 0 ∷ []
+        → LeavesOnly (StandsForEither bodies (bodies ++ more)) (D.told disk.old) (D.told disk.new) }
+    ensures rests { OnOk result ((bodies more : List (List ℕ)) → RestsAt (D.told disk.old) gate bodies → AllByRecursion IsBody more → 1 ∷ piece.now ≡ blocks more ++ 0 ∷ []
+        → RestsAt (D.told disk.new) (gate + length piece.now) (bodies ++ more)) }
     ensures bytes { OnOk result ((file : List ℕ) → IsOn (D.told disk.old) file → gate < length file
         → IsOn (D.told disk.new) (with_gate gate piece.now file)) }
     ensures untold { D.told disk.old ≡ None → D.told disk.new ≡ None }

@@ -4,11 +4,11 @@ use Rattle.tp_outside.specs.Faults.{HasRisen}
 use Rattle.tp_outside.specs.Story.{Story}
 use Rattle.tp_logrec.specs.declared.record.LogRec.{LogRec}
 use Rattle.tp_journal.specs.declared.receipts.Receipt.{Receipt}
-use Rattle.tp_journal.specs.Journals.{Kept}
+use Rattle.tp_journal.specs.Gathering.{Gathered}
 use Rattle.tp_journal.specs.Log.{most_bytes}
 use Rattle.tp_journal.specs.Records.{placed}
 use Rattle.tp_journal.specs.Told.{LeavesOnly}
-use Rattle.tp_shared_log.specs.Images.{StandsForFirst, Leaves}
+use Rattle.tp_shared_log.specs.Images.{StandsForFirst}
 use Rattle.tp_shared_log.specs.declared.unfit.Unfit.{Unfit}
 
 -- what the log was when it was put under the lock, and for how many shares
@@ -38,19 +38,19 @@ abbrev pub HadNoRoom : ℕ → Option Unfit → Type 0
 HadNoRoom gate None = Unit {0}
 HadNoRoom gate (Some unfit) = (most_bytes < unfit.size) × (unfit.size ≤ gate + 4 + unfit.body)
 
--- The same as what a crash leaves, but that of a log which is not shut its journal says what a crash now leaves.
-abbrev pub StillTells : Option Story → ℕ → Bool → List LogRec → Option ℕ → Option Story → Type 0
-StillTells None least wide list shut told = Unit {0}
-StillTells (Some first) least wide list None told = LeavesOnly (StandsForFirst least wide list) (Some first) told
-StillTells (Some first) least wide list (Some faults) told = Leaves (Some first) least wide list (Some faults) told
+-- From that story on a crash has left the first of the records, at least so many.
+abbrev pub StillTells : Option Story → ℕ → Bool → List LogRec → Option Story → Type 0
+StillTells None least wide list told = Unit {0}
+StillTells (Some first) least wide list told = LeavesOnly (StandsForFirst least wide list) (Some first) told
 
--- What the lock's type keeps of a journal, with its disk's count of faults and its story; of the totals of both books,
--- the records forced and the stakes that are left; and of the first record that had no room.
-pub record IsKept {D : Type 0} (before : Before) (j : Kept D) (faults : ℕ) (told : Option Story) (forced stakes : ℕ) (unfit : Option Unfit) : Type 0 where
-  pub extends : Extends before.stood forced (placed j.wide j.list)
-  pub same_version : j.wide ≡ before.wide
-  pub shut : ShutRose before.faults j.shut faults
-  pub images : StillTells before.story (length before.stood) j.wide j.list j.shut told
+-- What the lock's type keeps of a journal that notes, with its disk's count of faults and its story; of the totals of both
+-- books, the records noted and the stakes that are left; and of the first record that had no room.
+pub record IsKept {D : Type 0} (before : Before) (g : Gathered D) (faults : ℕ) (told : Option Story) (forced stakes : ℕ) (unfit : Option Unfit) : Type 0 where
+  pub extends : Extends before.stood forced (placed g.journal.wide g.journal.list)
+  pub settled : length before.stood ≤ g.settled
+  pub same_version : g.journal.wide ≡ before.wide
+  pub shut : ShutRose before.faults g.journal.shut faults
+  pub images : StillTells before.story (length before.stood) g.journal.wide g.journal.list told
   pub within : stakes ≤ before.shares
-  pub spent : stakes < before.shares → (is_some j.shut || is_some unfit) ≡ true
-  pub no_room : HadNoRoom j.gate unfit
+  pub spent : stakes < before.shares → (is_some g.journal.shut || is_some unfit) ≡ true
+  pub no_room : HadNoRoom g.journal.gate unfit

@@ -10,7 +10,7 @@ use crate::{Stood, Unfit};
 use std::alloc::Global;
 use std::sync::Mutex;
 use std::sync::ledger::{Blank, Ledger, Share};
-use tp_journal::{Journal, Keeper, Receipt};
+use tp_journal::{Gathering, Journal, Keeper, Receipt};
 use tp_names::NoMemory;
 use tp_outside::Disk;
 
@@ -49,15 +49,16 @@ impl<D: Disk, L: Stood, M: Ledger> SharedLog<D, L, M> {
         };
         journal.texts();
         let wide = journal.wide();
+        let journal = Gathering::new(alloc, journal)?;
         let (locked, part, stake) = Locked::<D, L, M>::new(journal, first, second, shares);
         let lock = Mutex::new(locked);
         Ok((SharedLog { stood, wide, lock }, part, stake))
     }
 
-    /// The journal, and the first record that had no room, from whoever has all parts again. The journal has the records
-    /// that stood and as many more as the amount of the parts. Where the amount of the stakes is below the number of
-    /// shares, the journal is shut, or a record had no room. A crash now leaves the journal's records; of a shut one
-    /// perhaps also the one that was being forced.
+    /// Settles what is noted. The journal, and the first record that had no room, go to whoever has all parts again. The
+    /// journal has the records that stood and as many more as the amount of the parts. Where the amount of the stakes is
+    /// below the number of shares, the journal is shut, or a record had no room. A crash now leaves the journal's records;
+    /// of a shut one the first of them, at least those that stood.
     pub fn close(self, all: Share<L>, stakes: Share<M>) -> (Journal<D>, Option<Unfit>)
         requires all { all.parts ≡ L.parts }
         requires stakes { stakes.parts ≡ M.parts }

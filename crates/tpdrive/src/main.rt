@@ -2,15 +2,16 @@
 #![tactic(auto)]
 
 use std::alloc::AllocError;
-use std::io;
+use std::io::{self, IsTerminal};
 use std::process::ExitCode;
 use tp_drive::OpenGate;
 use tp_drive_tool::{Status, run_drive};
+use tp_greeting::{Beginning, is_watched};
 use tp_outside::{
     About, Cause, FileDisk, HeldStreams, NULL, StdSink, StdSource, say, say_cause, say_end, tell,
     texts_of, words_given,
 };
-use tp_words::{DRIVE_USAGE, drive_complaint};
+use tp_words::{DRIVE_USAGE, drive_complaint, read_drive};
 
 /// The log of the site, in the current folder.
 const LOG: &str = "tp.log";
@@ -38,7 +39,20 @@ fn say_usage(rt: &HostRuntime, words: &[&str]) {
     say(rt, DRIVE_USAGE);
 }
 
-// (in `main` alone are there threads)
+// Says what the site starts with, where somebody watches.
+fn greet(rt: &HostRuntime, words: &[&str]) {
+    if !is_watched(rt, rt.stderr().is_terminal()) {
+        return;
+    }
+    let Ok(drive) = read_drive(rt.alloc(), words) else {
+        return;
+    };
+    if let Some(beginning) = Beginning::on(rt.alloc(), FileDisk::to_change(rt, LOG)) {
+        let name = drive.name;
+        say(rt, format_args!("tpdrive: site {name}, {beginning}\n"));
+    }
+}
+
 fn main(rt: HostRuntime) -> ExitCode {
     // (to the end: a log that is opened meanwhile has no stream's number)
     let _streams = match HeldStreams::hold(&rt) {
@@ -62,6 +76,7 @@ fn main(rt: HostRuntime) -> ExitCode {
             }
         };
     }
+    greet(&rt, &texts);
     let mut source = StdSource::new(&rt);
     let mut sink = StdSink::new(&rt);
     let disk = FileDisk::to_change(&rt, LOG);

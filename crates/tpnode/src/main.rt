@@ -15,9 +15,10 @@ mod top;
 mod transacting;
 
 use std::alloc::{AllocError, Global};
-use std::io;
+use std::io::{self, IsTerminal};
 use std::process::ExitCode;
 pub use top::run;
+use tp_greeting::{Beginning, is_watched};
 use tp_outside::{
     About, Cause, FileDisk, HeldStreams, NULL, StdSink, StdSource, say, say_cause, say_end, tell,
     texts_of, words_given,
@@ -76,6 +77,19 @@ fn disk_for<'a>(rt: &'a HostRuntime, command: &Option<Command>) -> FileDisk<'a, 
     }
 }
 
+// Says what a site starts with, where somebody watches.
+fn greet(rt: &HostRuntime, command: &Option<Command>) {
+    let (Some(Command::Node(name)) | Some(Command::Tx(name))) = command else {
+        return;
+    };
+    if !is_watched(rt, rt.stderr().is_terminal()) {
+        return;
+    }
+    if let Some(beginning) = Beginning::on(rt.alloc(), FileDisk::to_change(rt, LOG)) {
+        say(rt, format_args!("tpnode: site {name}, {beginning}\n"));
+    }
+}
+
 type Members<'a> = Vec<Participant<FileDisk<'a, HostRuntime>>>;
 
 // The members, of whom `replay` alone has the store.
@@ -109,6 +123,7 @@ fn run_words(rt: &HostRuntime, words: &[&str]) -> ExitCode {
         Ok(members) => members,
         Err((status, cause)) => return end(rt, status, STORE, cause),
     };
+    greet(rt, &command);
     let mut source = StdSource::new(rt);
     let mut sink = StdSink::new(rt);
     let disk = disk_for(rt, &command);

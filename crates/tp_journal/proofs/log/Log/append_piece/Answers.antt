@@ -4,6 +4,7 @@ use Rattle.tp_journal.specs.Started.{Started}
 use Rattle.tp_outside.specs.FuseDisk.{OnFuse}
 use Rattle.tp_journal.specs.Stops.{body_piece, Opens, StopsOpening}
 use Rattle.tp_journal.specs.Told.{IsOn, RestsAt}
+use Rattle.tp_journal.proofs.Appending.{one_block}
 use Rattle.tp_journal.proofs.Exactly.{has_gate, body_forced}
 use Rattle.tp_journal.proofs.Kept.{kept_on}
 use Rattle.tp_journal.proofs.OneMore.{place_more}
@@ -26,7 +27,7 @@ invariant_of-self-2 g c =
     record {
       small = search rules;
       kept = kept_on (told c.self.inside.disk) (told c.append.new.disk) c.self.inside.gate _ old new c.self.inside.shut c.self.invariant.kept (search rules) c.append.ensures.untold
-          (λ rests. subst (RestsAt (told c.append.new.disk) _) (sym longer) ((c.in-Ok.ensures {u = tt}).rests old body rests c.requires.body piece));
+          (λ rests. subst (RestsAt (told c.append.new.disk) _) (sym longer) ((c.in-Ok.ensures {u = tt}).rests old (body ∷ []) rests (c.requires.body, tt) (one_block body c.args.piece.now piece)));
       place = long ∙ place;
     }
 
@@ -43,7 +44,7 @@ returns-clause-started g c =
     record {
       small = search rules;
       kept = kept_on (told c.self.inside.disk) (told c.append.new.disk) c.self.inside.gate _ old new c.self.inside.shut c.self.invariant.kept (search rules) c.append.ensures.untold
-          (λ rests. subst (RestsAt (told c.append.new.disk) _) (sym longer) ((c.in-Ok.ensures {u = tt}).rests old body rests c.requires.body piece));
+          (λ rests. subst (RestsAt (told c.append.new.disk) _) (sym longer) ((c.in-Ok.ensures {u = tt}).rests old (body ∷ []) rests (c.requires.body, tt) (one_block body c.args.piece.now piece)));
       place = long ∙ place;
     }
 

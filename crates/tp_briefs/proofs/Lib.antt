@@ -1,0 +1,6 @@
+mod Lives
+mod Rows
+mod Steps
+mod Left
+pub mod Alike
+pub mod Runs

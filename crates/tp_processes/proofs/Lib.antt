@@ -1,0 +1,4 @@
+mod Opening
+mod Votes
+pub mod Chained
+pub mod Woven

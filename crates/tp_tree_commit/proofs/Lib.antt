@@ -1,0 +1,12 @@
+pub mod Kept
+pub mod Changes
+pub mod Joined
+pub mod Grown
+pub mod Runs
+pub mod Walking
+pub mod Agreed
+pub mod Cleared
+pub mod Rested
+pub mod Sentences
+pub mod Examples
+pub mod lemmas

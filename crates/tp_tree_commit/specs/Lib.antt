@@ -1,0 +1,3 @@
+pub mod TreeCommit
+pub mod Walks
+pub mod Examples
