@@ -11,7 +11,7 @@ use Rattle.tp_records.specs.declared.peer.RecState.{RecState}
 use Rattle.tp_model.specs.declared.arc.Phase.{Phase}
 use Rattle.tp_model.specs.declared.transaction.TxEvent.{TxEvent}
 use Rattle.tp_model.specs.declared.transaction.TxOut.{TxOut}
-use Rattle.tp_model.specs.Parts.{Who, Event, Out, Link, Idle, Opening, Offered, Live, Dialogue, Arc, Key, Root, Under, Branch, Current, Digest}
+use Rattle.tp_model.specs.Parts.{Who, Event, Link, Idle, Opening, Offered, Live, Dialogue, Arc, Key, Root, Under, Branch, Current, Digest}
 use Rattle.tp_model.specs.Links.{greatest}
 use Rattle.tp_model.specs.Arcs.{carried, performed, with_dialogues}
 use Rattle.tp_model.specs.Transactions.{Transaction, carry_up, carry_down, order, begin_rolling, complete_rollback}

@@ -1,3 +1,4 @@
 pub mod Doubt
 pub mod Quiet
 pub mod Finishing
+pub mod Examples

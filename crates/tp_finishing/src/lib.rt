@@ -3,6 +3,8 @@
 //! Each is the contract of a function with an empty body.
 #![tactic(auto)]
 
+pub mod examples;
+
 ghost use Rattle.tp_finishing.specs.Doubt.{DoubtEnds};
 ghost use Rattle.tp_finishing.specs.Quiet.{StopsQuieten};
 ghost use Rattle.tp_finishing.specs.Finishing.{NoRunIsStuck, EveryRunEnds};
