@@ -6,7 +6,8 @@ For each command and each of its calls (open, length, read, write, cut and sync 
 standard output, memory): that call alone fails, a write with nothing, half or all of it done. Then the exit status is the one
 that docs/SERVICE.md gives that command for that fault, standard error has its line, standard output is exactly what had been
 written before (of the failing write as much as it made), no call of the disk comes after, but that a write which failed gives back
-what the file grew by, and the disk opens to a list that some moment of the run without a fault had. After a read that failed the outputs of what was read are written. A store whose file fails
+what the file grew by, and the disk opens to a list that some moment of the run without a fault had. After a read that failed the
+outputs of what was read are written. A store whose file fails
 in a replay is no fault of the run: its transcript is that of a store that no longer votes for commitment. Where reads and writes
 are only short, and those of the disk interrupted, nothing changes. The program is started with its standard streams closed, too,
 and with words that are none.
@@ -150,7 +151,8 @@ class Failing(stops.Stops):
         """Words that are none, and what they end with."""
         for words, status in (([], 2), (["play"], 2), (["node", "--name"], 2), (["node", "--name", "A"], 2), (["node", "--name", "a" * 17], 2),
                               (["make", "--nodes", "1"], 2), (["make", "--rounds", "31"], 2), (["make", "--number", str(2**64)], 2),
-                              (["format", "more"], 2), (["--help"], 0), (["node", "-h"], 0), (["-V"], 0), (["--helpp"], 2), ([b"\xff"], 2), (["node", "--name", b"\xff"], 2),
+                              (["format", "more"], 2), (["--help"], 0), (["node", "-h"], 0), (["-V"], 0), (["--helpp"], 2),
+                              ([b"\xff"], 2), (["node", "--name", b"\xff"], 2),
                               (["drive", "--workers", "0"], 2), (["drive", "--workers", "17"], 2), (["drive", "--workers"], 2),
                               (["drive", "node"], 2), (["drive", "--name", b"\xff"], 2)):
             if words[:1] == ["drive"] and not self.options.drive:
