@@ -1,0 +1,37 @@
+-- Whatever a crash leaves where a run of `node` has ended, however that was, is what a process of its site leaves. A program that
+-- is killed is one whose source, sink or disk fails from then on.
+use Rattle.std.specs.Prelude.{ℕ, ◌≡◌, ◌⊎◌, ◌<◌, ◌^◌, Some, List, length, Result}
+use Rattle.tp_outside.specs.Story.{seen}
+use Rattle.tp_records.specs.declared.body.Event.{Event as Given}
+use Rattle.tp_logrec.specs.declared.record.LogVersion.{LogVersion}
+use Rattle.tp_logrec.specs.LogText.{Placed, recs}
+use Rattle.tp_model.specs.LogCommands.{Has, opened}
+use Rattle.tp_model.specs.NodeRun.{node_run}
+use Rattle.tp_model.specs.NodeTranscript.{written_of}
+use Rattle.tp_journal.specs.Told.{LeavesNow}
+use Rattle.tp_streams.specs.declared.stop.Stop.{Stop}
+use Rattle.tp_streams.specs.Written.{WritesPrefix}
+use Rattle.tp_serve.specs.Serving.{Ran, Serves, IsIdle}
+use Rattle.tp_briefs.specs.Starts.{on}
+use Rattle.tp_programs.specs.Stopped.{IsStopped}
+
+-- what it leaves
+abbrev pub Stops : List ℕ → Ran → List Given → Type 0
+Stops name r events = LeavesNow (IsStopped name (seen r.told) events) r.story
+
+-- the file is one on which a process may start
+pub record IsStart (r : Ran) (listed : List Placed) : Type 0 where
+  pub small : length (seen r.told) < 2 ^ 64
+  pub opens : opened (seen r.told) ≡ Has LogVersion.Two listed
+
+-- ---- node
+
+-- all that it wrote, it wrote of events that happened in the process
+pub record IsNode (name : List ℕ) (r : Ran) (listed : List Placed) : Type 0 where
+  pub events : List Given
+  pub wrote : (before : List ℕ) → r.written ≡ Some before → WritesPrefix before (written_of (node_run (on name LogVersion.Two (recs listed)) events).outputs) r.output
+  pub stops : Stops name r events
+
+-- where the log was not opened nothing was read, and nothing written
+abbrev pub NodeIsAProcess : Type 0
+NodeIsAProcess = (name : List ℕ) (r : Ran) (result : Result (Unit {0}) Stop) (listed : List Placed) → Serves name r result → IsStart r listed → IsIdle r ⊎ IsNode name r listed
