@@ -1,19 +1,19 @@
 -- An image of a log that a run may leave is what a process leaves.
-use Rattle.std.proofs.Common.{◌≡◌, inl, inr, ℕ, true, false, refl, sym, ap, ◌∙◌, subst, List, [], ◌∷◌, ◌++◌, length}
+use Rattle.std.proofs.Common.{◌≡◌, inl, inr, ℕ, true, false, refl, sym, ap, ◌∙◌, subst, Option, List, [], ◌∷◌, ◌++◌, length}
 use Rattle.std.specs.Prelude.{◌-◌}
-use Rattle.tp_outside.specs.Story.{seen}
+use Rattle.tp_outside.specs.Story.{Story, seen}
 use Rattle.tp_records.specs.declared.body.Event.{Event as Given}
 use Rattle.tp_logrec.specs.declared.record.LogVersion.{LogVersion}
 use Rattle.tp_logrec.specs.LogText.{Placed, recs, IsLog}
 use Rattle.tp_model.specs.LogCommands.{Has, Is_foreign, opened}
 use Rattle.tp_model.specs.NodeRun.{Opening, log_after}
 use Rattle.tp_model.specs.NodeTranscript.{taken}
-use Rattle.tp_journal.specs.Told.{LeavesNow}
+use Rattle.tp_journal.specs.Told.{LeavesOnly, LeavesNow}
 use Rattle.tp_serve.specs.Images.{IsNodeImage}
 use Rattle.tp_serve.specs.Starting.{opening}
 use Rattle.tp_serve.specs.Serving.{Ran}
 use Rattle.tp_serve.proofs.Lists.{taken_past}
-use Rattle.tp_serve.proofs.Holding.{now_weaker}
+use Rattle.tp_serve.proofs.Holding.{leaves_now, now_weaker}
 use Rattle.tp_briefs.specs.Starts.{on}
 use Rattle.tp_programs.specs.Stopped.{IsStopped}
 use Rattle.tp_programs.specs.Runs.{Stops, IsStart}
@@ -70,3 +70,15 @@ pub stops_at : (name : List ℕ) (r : Ran) (version : LogVersion) (list listed :
 stops_at name r version list listed events next s is last =
     now_weaker (IsNodeImage (on name LogVersion.Two (recs listed)) (events ++ next) (length events)) (IsStopped name (seen r.told) events) r.story (λ left i. image name r listed events next left s i)
     (subst (λ (o : Opening). LeavesNow (IsNodeImage o (events ++ next) (length events)) r.story) (one_opening name r version list listed s is) last)
+
+-- where nothing but the start was tried
+pub stops_before : (name : List ℕ) (r : Ran) (version : LogVersion) (list listed : List Placed) (from : Option Story) → IsStart r listed → opened (seen r.told) ≡ Has version list
+    → LeavesOnly (IsNodeImage (opening name version list) [] 0) from r.story → Stops name r []
+stops_before name r version list listed from s is moments = stops_at name r version list listed [] [] s is (leaves_now (IsNodeImage (opening name version list) [] 0) from r.story moments)
+
+pub stops_unbegun : (name : List ℕ) (r : Ran) (version : LogVersion) (list listed : List Placed) (from : Option Story) → IsStart r listed → opened (seen r.told) ≡ Has version list
+    → LeavesOnly (λ c. IsLog c (recs list)) from r.story → Stops name r []
+stops_unbegun name r version list listed from s is moments =
+    let same : recs list ≡ recs listed = ap (λ (o : Opening). o.records) (one_opening name r version list listed s is) in
+    now_weaker (λ c. IsLog c (recs list)) (IsStopped name (seen r.told) []) r.story (λ left log. unbegun name r listed left s (subst (IsLog left) same log))
+    (leaves_now (λ c. IsLog c (recs list)) from r.story moments)

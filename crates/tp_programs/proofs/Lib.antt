@@ -1,2 +1,3 @@
 mod Images
 mod Nodes
+mod Faces

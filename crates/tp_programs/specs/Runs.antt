@@ -1,6 +1,6 @@
--- Whatever a crash leaves where a run of `node` has ended, however that was, is what a process of its site leaves. A program that
+-- Whatever a crash leaves where a run of `node` or of `tx` has ended, however that was, is what a process of its site leaves. A program that
 -- is killed is one whose source, sink or disk fails from then on.
-use Rattle.std.specs.Prelude.{ℕ, ◌≡◌, ◌⊎◌, ◌<◌, ◌^◌, Some, List, length, Result}
+use Rattle.std.specs.Prelude.{ℕ, ◌≡◌, ◌⊎◌, ◌<◌, ◌^◌, Some, List, [], length, Result}
 use Rattle.tp_outside.specs.Story.{seen}
 use Rattle.tp_records.specs.declared.body.Event.{Event as Given}
 use Rattle.tp_logrec.specs.declared.record.LogVersion.{LogVersion}
@@ -11,7 +11,9 @@ use Rattle.tp_model.specs.NodeTranscript.{written_of}
 use Rattle.tp_journal.specs.Told.{LeavesNow}
 use Rattle.tp_streams.specs.declared.stop.Stop.{Stop}
 use Rattle.tp_streams.specs.Written.{WritesPrefix}
-use Rattle.tp_serve.specs.Serving.{Ran, Serves, IsIdle}
+use Rattle.tp_serve.specs.Serving.{Ran, Serves, IsUntouched, IsIdle, HasWritten}
+use Rattle.tp_tx.specs.Running.{HasRead}
+use Rattle.tp_tx.specs.Transacting.{Transacts}
 use Rattle.tp_briefs.specs.Starts.{on}
 use Rattle.tp_programs.specs.Stopped.{IsStopped}
 
@@ -35,3 +37,20 @@ pub record IsNode (name : List ℕ) (r : Ran) (listed : List Placed) : Type 0 wh
 -- where the log was not opened nothing was read, and nothing written
 abbrev pub NodeIsAProcess : Type 0
 NodeIsAProcess = (name : List ℕ) (r : Ran) (result : Result (Unit {0}) Stop) (listed : List Placed) → Serves name r result → IsStart r listed → IsIdle r ⊎ IsNode name r listed
+
+-- ---- tx
+
+-- these are the answers to the frames that asked for the events
+pub record IsFace (name : List ℕ) (r : Ran) (result : Result (Unit {0}) Stop) (listed : List Placed) : Type 0 where
+  pub events : List Given
+  pub next : List Given
+  pub bytes : List ℕ
+  pub read : (input : List ℕ) → r.left ≡ Some input → HasRead (on name LogVersion.Two (recs listed)) input events next bytes r.unread result
+  pub wrote : (before : List ℕ) → r.written ≡ Some before → HasWritten before bytes r.output result
+  pub stops : Stops name r events
+
+-- where the root's node was not declared nothing was read, and nothing written
+abbrev pub FaceIsAProcess : Type 0
+FaceIsAProcess =
+    (name : List ℕ) (r : Ran) (result : Result (Unit {0}) Stop) (listed : List Placed) → Transacts name r result → IsStart r listed
+    → IsIdle r ⊎ (Stops name r [] × IsUntouched r) ⊎ IsFace name r result listed
