@@ -56,6 +56,12 @@ next_in bytes = elim (read_short bytes) [
   ]
 ]
 
+-- a whole frame or a bad length comes next, so that no more bytes are needed to tell which
+abbrev pub is_next : Next → Bool
+is_next Part = false
+is_next (Whole body rest) = true
+is_next Bad = true
+
 -- ---- a whole stream
 
 -- what stands after the last whole frame: nothing, part of a frame, or a length that none has

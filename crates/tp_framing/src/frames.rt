@@ -2,7 +2,7 @@
 ghost use Rattle.std.specs.Prelude.{◌≡◌, ◌+◌, ◌-◌, ◌*◌, ◌^◌, ◌<◌, ◌≤◌, length, drop, vec_len, OnOk, OnErr, IfOk, IfSome};
 ghost use Rattle.std.specs.Borrow.{sem};
 ghost use Rattle.std.specs.Io.BufRead.{Rests};
-ghost use Rattle.tp_framing.specs.Frames.{BeginsBad};
+ghost use Rattle.tp_framing.specs.Frames.{BeginsBad, next_in, is_next};
 ghost use Rattle.tp_framing.specs.Fed.{fresh, fed_so_far, with_piece, after_next, Answers, HandsOut};
 
 use crate::BadFrame;
@@ -81,6 +81,14 @@ impl Frames {
                 Ok(Some(&self.bytes[from..to]))
             }
         }
+    }
+
+    /// Whether the next call of `next` hands out a body, or answers a bad length: no more bytes
+    /// are needed for it.
+    pub fn is_ready(&self) -> bool
+        ensures { result ≡ is_next (next_in self.now.pending) }
+    {
+        !matches!(whole_length(&self.bytes[self.start..]), Ok(None))
     }
 
     /// How many bytes were fed and not handed out.
