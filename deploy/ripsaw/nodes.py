@@ -285,6 +285,7 @@ class Arc:
         self.peer = peer
         self.live = False
         self.opened_at = 0.0  # where an answer is awaited
+        self.asked = 0  # requests for the dialogue that the node has not answered yet
         self.not_before, self.pause = 0.0, LEAST_AGAIN
         self.calls: deque[asyncio.Future[bytes]] = deque()
 
@@ -335,15 +336,19 @@ class Root(Node):
                 arc.close("no answer", wait=True)
                 self.hub.lose_pair(self.number, arc.peer)
             if not arc.live and not arc.opened_at and now >= arc.not_before and self.hub.reaches(name):
-                arc.opened_at = now
+                arc.opened_at, arc.asked = now, arc.asked + 1
                 self.ask(Ask.BEGIN_DIALOGUE, lambda outputs, arc=arc: self.opened(arc, outputs),  # type: ignore[misc]
                          address=arc.peer, units=wire.COMMIT_UNCHAINED)
 
     def opened(self, arc: Arc, outputs: list[wire.Output]) -> None:
-        if refused(outputs) is not None:
-            arc.close("refused", wait=True)
-        else:
+        arc.asked -= 1
+        number = refused(outputs)
+        if number is None:
             self.marks += 1
+            return
+        arc.close("refused", wait=True)
+        if number == wire.OUT_OF_PHASE:  # (the node has a dialogue with that peer, of which we know nothing)
+            self.hub.lose_pair(self.number, arc.peer)
 
     def lose(self, site: str) -> None:
         if site in self.arcs:
@@ -364,7 +369,7 @@ class Root(Node):
                 call = arc.calls.popleft()
                 if not call.done():
                     call.set_result(said.octets)
-        else:
+        elif not arc.asked:  # (where one is asked for, this is the end of the dialogue before it)
             if self.current is not None and name in self.current.begun:
                 self.current.why = f"the association with {name} is lost"
             arc.close(f"the association with {name} is lost", wait=kind is Told.REJECTED)
@@ -505,7 +510,7 @@ class Root(Node):
         self.boot, self.marks = standing.boot + 1, 0
         for arc in self.arcs.values():
             arc.close("the site has started anew")
-            arc.not_before, arc.pause = 0.0, LEAST_AGAIN
+            arc.not_before, arc.pause, arc.asked = 0.0, LEAST_AGAIN, 0
         mine, self.current = self.current, None
         super().restarted(standing)
         if mine is None:

@@ -479,7 +479,7 @@ class Over:
 Output = Union[Tell, Send, Refused, Over]
 OVER = Over()
 
-NO_TRANSACTION, TRANSACTION_OPEN, NOTHING_OWED = 6, 7, 12
+OUT_OF_PHASE, NO_TRANSACTION, TRANSACTION_OPEN, NOTHING_OWED = 2, 6, 7, 12
 REFUSALS = {
     1: "there is no dialogue with the peer", 2: "not in this phase", 3: "the end does not hold control", 4: "a functional unit is missing",
     5: "a handshake is open", 6: "there is no transaction", 7: "there is a transaction", 8: "nobody asked for it", 9: "it was asked already",

@@ -163,7 +163,8 @@ class World:
                 if all(not page["open"] and not page["kept"] and page["roots_whole"] == page["roots"] and all(it["reached"] for it in page["peers"].values())
                        for page in pages):
                     return
-                left = [f"{page['name']}: {page['open'][:3]} {page['peers']}" for page in pages]
+                left = [f"{page['name']}: open {page['open'][:3]}, kept {page['kept'][:3]}, "
+                        f"{page['roots_whole']} of {page['roots']} roots whole, {page['peers']}" for page in pages]
             except (OSError, IndexError, ValueError) as error:
                 left = [str(error)]
             if loop.time() > end:

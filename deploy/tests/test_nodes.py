@@ -141,3 +141,38 @@ def test_an_answer_never_goes_to_the_next_transaction() -> None:
         assert await calling == b"answer"
 
     asyncio.run(part())
+
+
+def test_the_end_of_a_dialogue_is_not_that_of_the_next() -> None:
+    """The node tells the end of the first dialogue after the second was asked for."""
+    hub = Hub()
+    root = Root(hub, "bank", 1, {"shop": Address("shop", 101)}, NoResource(), 1, 2)
+    arc = root.arcs["shop"]
+    root.open_dialogues(10.0)
+    root.opened(arc, [])
+    root.lose("shop")
+    root.open_dialogues(10.1)
+    root.told(Indication(Told.P_ABORT, 101))
+    root.opened(arc, [])
+    root.open_dialogues(10.2)
+    assert hub.asked() == [Ask.BEGIN_DIALOGUE] * 2 and arc.opened_at
+    root.told(Indication(Told.BEGUN_DIALOGUE, 101))
+    assert root.whole()
+
+
+def test_a_dialogue_of_which_nothing_is_known_is_lost() -> None:
+    class Losing(Hub):
+        lost: list[Address] = []
+
+        def lose_pair(self, node: int, peer: Address) -> None:
+            self.lost.append(peer)
+
+    async def part() -> None:
+        hub = Losing()
+        root = Root(hub, "bank", 1, {"shop": Address("shop", 101)}, NoResource(), 1, 2)
+        arc = root.arcs["shop"]
+        root.open_dialogues(10.0)
+        root.opened(arc, [wire.Refused(wire.OUT_OF_PHASE)])
+        assert hub.lost == [arc.peer] and not arc.opened_at
+
+    asyncio.run(part())
