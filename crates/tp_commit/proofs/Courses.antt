@@ -1,12 +1,14 @@
 -- A course of fewer than three rules, and one whose first rule says nothing.
-use Rattle.std.proofs.Common.{◌≡◌, Option, Some, None, List, [], ◌++◌, ap, refl, sym, arith, append-nil, append_assoc, ℕ, Bool, true, false, ◌∷◌, ◌&&◌, if◌then◌else◌}
+use Rattle.std.proofs.Common.{◌≡◌, ◌∙◌, Option, Some, None, List, [], ◌++◌, ap, refl, sym, arith, append-nil, append_assoc, ℕ, Bool, true, false, ◌∷◌, ◌&&◌, if◌then◌else◌}
 use Rattle.tp_logrec.specs.declared.record.LogRec.{LogRec}
 use Rattle.tp_model.specs.Transactions.{Transaction, Turn, turn, and_then, step_of, Completion, no_completion, part_by_part, before, with_arc_lost, roll, lost_arc, complete, complete_commit, complete_rollback}
 use Rattle.tp_model.specs.declared.transaction.Step.{Step}
 use Rattle.tp_commit.specs.declared.rule.Rule.{Rule}
 use Rattle.tp_commit.specs.declared.rule.Course.{Course}
 use Rattle.tp_model.specs.declared.transaction.TxOut.{TxOut}
-use Rattle.tp_commit.specs.Rules.{turn_of, run, later, is_needed, completion}
+use Rattle.tp_commit.specs.Rules.{turn_of, run, later, is_needed, completion, IsAlong}
+use Rattle.tp_names.specs.declared.no_memory.NoMemory.{NoMemory}
+use Rattle.std.specs.Prelude.{Result, Ok, Err, OnErr}
 use Rattle.tp_model.specs.declared.arc.Phase.{Phase}
 use Rattle.tp_model.specs.Dialogues.{is_active, is_rolling}
 
@@ -87,3 +89,17 @@ followed c t u v s x y z unlogged unsaid next1 rec1 outs1 next2 rec2 outs2 rec3 
     let b : Turn = turn_of c.second a.next in
     let d : Turn = turn_of c.third b.next in
     in_turn a b d z (grind (arith, unlogged, next1, rec1, next2, rec2, rec3)) (grind (arith, unsaid, next1, outs1, next2, outs2, outs3))
+
+-- ---- where a course stops
+
+pub stops_first : (r : Result (Unit {0}) NoMemory) (c : Course) (t u : Transaction) → u ≡ t → OnErr r (IsAlong c t u)
+stops_first (Ok x) c t u is = tt
+stops_first (Err e) c t u is = (0, is)
+
+pub stops_second : (r : Result (Unit {0}) NoMemory) (c : Course) (t u v : Transaction) → u ≡ (turn_of c.first t).next → v ≡ u → OnErr r (IsAlong c t v)
+stops_second (Ok x) c t u v one is = tt
+stops_second (Err e) c t u v one is = (1, is ∙ one)
+
+pub stops_third : (r : Result (Unit {0}) NoMemory) (c : Course) (t u v w : Transaction) → u ≡ (turn_of c.first t).next → v ≡ (turn_of c.second u).next → w ≡ v → OnErr r (IsAlong c t w)
+stops_third (Ok x) c t u v w one two is = tt
+stops_third (Err e) c t u v w one two is = (2, is ∙ two ∙ ap (λ (x : Transaction). (turn_of c.second x).next) one)

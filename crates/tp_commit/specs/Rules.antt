@@ -1,6 +1,6 @@
 -- The rules of a transaction by name. An event sets off at most three of them, each at what the one before
 -- it leaves. What a rule does stands with the definitions of the service; here are its names alone.
-use Rattle.std.specs.Prelude.{ℕ, ◌&&◌, ◌||◌, not, Bool, true, false, if◌then◌else◌, Option, Some, None, List, [], ◌∷◌, ◌++◌}
+use Rattle.std.specs.Prelude.{ℕ, zero, suc, ◌≡◌, ◌&&◌, ◌||◌, not, Bool, true, false, if◌then◌else◌, Option, Some, None, List, [], ◌∷◌, ◌++◌}
 use Rattle.tp_names.specs.declared.outcome.Outcome.{Outcome}
 use Rattle.tp_names.specs.declared.outcome.Report.{Report}
 use Rattle.tp_names.specs.Reports.{join, is_report_none}
@@ -87,6 +87,19 @@ turn_of Rule.Retry t = turn (retried t) t
 abbrev pub run : Course → Transaction → Turn
 run c t = and_then (turn_of c.first t) (λ u. and_then (turn_of c.second u) (turn_of c.third))
 
+-- ---- where a course may stop
+
+-- after so many of its rules; it has no more than three
+abbrev pub after_rules : ℕ → Course → Transaction → Transaction
+after_rules zero c t = t
+after_rules (suc zero) c t = (turn_of c.first t).next
+after_rules (suc (suc zero)) c t = (turn_of c.second (turn_of c.first t).next).next
+after_rules (suc (suc (suc n))) c t = (run c t).next
+
+-- after some of its rules, or none
+abbrev pub IsAlong : Course → Transaction → Transaction → Type 0
+IsAlong c t u = (n : ℕ) × (u ≡ after_rules n c t)
+
 -- ---- what events set off
 
 -- the rule by which a transaction completes, by its phase
@@ -119,6 +132,10 @@ set_off (TxEvent.GiveUp p) t = transacted (TxEvent.GiveUp p) t
 set_off TxEvent.Ordered t = transacted TxEvent.Ordered t
 set_off (TxEvent.Reply b s) t = transacted (TxEvent.Reply b s) t
 set_off TxEvent.Retry t = transacted TxEvent.Retry t
+
+-- after some of the rules that an event sets off, or none
+abbrev pub StopsAlong : TxEvent → Transaction → Transaction → Type 0
+StopsAlong e t u = (c : Course) × (run c t ≡ set_off e t) × IsAlong c t u
 
 -- of two records the later one
 abbrev pub later : Option LogRec → Option LogRec → Option LogRec

@@ -1,5 +1,5 @@
 //! The current transaction of a node.
-ghost use Rattle.std.specs.Prelude.{◌≡◌, ◌<◌, ◌&&◌, ◌++◌, [], ◌∷◌, true, false, IsTrue, Ok, IfOk, OnOk, Some, length, slice_index_or, slice_set};
+ghost use Rattle.std.specs.Prelude.{◌≡◌, ◌<◌, ◌&&◌, ◌++◌, [], ◌∷◌, true, false, IsTrue, Ok, IfOk, OnOk, OnErr, Some, length, slice_index_or, slice_set};
 ghost use Rattle.tp_model.specs.Transactions.{Row as RowValue, node_key, superior_of, situation_of, row_holds, is_under, is_under_at, fresh_branch};
 ghost use Rattle.tp_model.specs.Node.{branches_of};
 ghost use Rattle.tp_commit.specs.Waiting.{waits_beside, owes_beside};
@@ -198,9 +198,10 @@ impl Branch {
         })
     }
 
-    /// Becomes equal to that one, in the room that it has.
+    /// Becomes equal to that one, in the room that it has. Without memory it stays what it was.
     pub fn copy_from(&mut self, other: &Branch) -> Result<(), NoMemory>
-        ensures { OnOk result (self.new ≡ other.now) }
+        ensures copy { OnOk result (self.new ≡ other.now) }
+        ensures same { OnErr result (self.new ≡ self.old) }
     {
         self.rows.copy_from(&other.rows)?;
         self.node = other.node;
@@ -307,10 +308,11 @@ impl Branch {
     }
 
     /// Adds a branch after the others, of which nothing is known but that its arc is live. It takes no memory where there are
-    /// fewer than 256.
+    /// fewer than 256; without memory nothing changes.
     pub fn add(&mut self, child: &Child) -> Result<(), NoMemory>
         ensures added { OnOk result (self.new ≡ record self.old { rows = self.old.rows ++ record { branch = fresh_branch child.now; live = true; ends = false } ∷ [] }) }
         ensures memory { length self.old.rows < 256 → result ≡ Ok tt }
+        ensures same { OnErr result (self.new ≡ self.old) }
     {
         self.rows.begin(child, true)
     }

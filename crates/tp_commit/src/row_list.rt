@@ -1,5 +1,5 @@
 //! The branches of a transaction as it keeps them.
-ghost use Rattle.std.specs.Prelude.{◌≡◌, ◌+◌, ◌<◌, ◌≤◌, ◌++◌, [], ◌∷◌, true, false, None, Ok, IfOk, OnOk, IfSome, length, slice_index_or, slice_set, option_copied};
+ghost use Rattle.std.specs.Prelude.{◌≡◌, ◌+◌, ◌<◌, ◌≤◌, ◌++◌, [], ◌∷◌, true, false, None, Ok, IfOk, OnOk, OnErr, IfSome, length, take, slice_index_or, slice_set, option_copied};
 ghost use Rattle.tp_model.specs.Transactions.{Row as RowValue, find_row, all_prepared, fresh_branch, fresh_rows};
 ghost use Rattle.tp_commit.specs.Row.{noted_at};
 ghost use Rattle.tp_commit.specs.Branch.{standing_rows, seen_at};
@@ -58,15 +58,19 @@ impl RowList {
         Ok(rows)
     }
 
-    /// Becomes equal to that one, in the room that it has.
+    /// Becomes equal to that one, in the room that it has. Without memory it stays what it was.
     pub(crate) fn copy_from(&mut self, other: &RowList) -> Result<(), NoMemory>
-        ensures { OnOk result (self.new ≡ other.now) }
+        ensures copy { OnOk result (self.new ≡ other.now) }
+        ensures same { OnErr result (self.new ≡ self.old) }
     {
         if self.rows.len() == other.rows.len() {
             if !other.rows.is_empty() {
                 self.rows.copy_from_slice(other.rows.as_slice());
             }
         } else {
+            if self.rows.capacity() < other.rows.len() {
+                self.rows.reserve(other.rows.len())?;
+            }
             self.rows.clear();
             self.rows.extend_from_slice(other.rows.as_slice())?;
         }
@@ -95,11 +99,12 @@ impl RowList {
     }
 
     /// Adds a branch after the others, of which nothing is known but whether its arc is live. It takes no memory where there are
-    /// fewer than 256.
+    /// fewer than 256; without memory nothing changes.
     #[tactic(auto, using(crate::proofs::Ascending::ascends_longer))]
     pub(crate) fn begin(&mut self, child: &Child, live: bool) -> Result<(), NoMemory>
         ensures added { OnOk result (self.new ≡ self.old ++ record { branch = fresh_branch child.now; live = live; ends = false } ∷ []) }
         ensures memory { length self.old < 256 → result ≡ Ok tt }
+        ensures same { OnErr result (self.new ≡ self.old) }
     {
         if self.rows.len() == self.rows.capacity() {
             self.rows.reserve(1)?;
@@ -109,16 +114,30 @@ impl RowList {
         Ok(())
     }
 
-    /// Branches are begun. It takes no memory where there is none to begin, or no more than 256 with them.
+    /// Branches are begun. It takes no memory where there is none to begin, or no more than 256 with them; without memory none
+    /// is begun.
     pub(crate) fn begin_each(&mut self, arcs: &[Child]) -> Result<(), NoMemory>
         ensures begun { OnOk result (self.new ≡ self.old ++ fresh_rows arcs.now) }
         ensures memory { length arcs.now ≡ 0 → result ≡ Ok tt }
         ensures reserved { length self.old + length arcs.now ≤ 256 → result ≡ Ok tt }
+        ensures same { OnErr result (self.new ≡ self.old) }
     {
+        let before = self.rows.len();
         for child in arcs {
-            self.begin(child, true)?;
+            if let Err(error) = self.begin(child, true) {
+                self.keep_first(before);
+                return Err(error);
+            }
         }
         Ok(())
+    }
+
+    // The first so many stay.
+    fn keep_first(&mut self, count: usize)
+        ensures { self.new ≡ take count self.old }
+    {
+        self.rows.truncate(count);
+        self.ascends = false;
     }
 
     // The place of the first branch with that peer, where the branches are not few, the numbers of the peers ascend, and those

@@ -1,5 +1,5 @@
 //! What each rule says.
-ghost use Rattle.std.specs.Prelude.{◌≡◌, ◌++◌, [], ◌∷◌, Some, OnOk};
+ghost use Rattle.std.specs.Prelude.{◌≡◌, ◌++◌, [], ◌∷◌, Some, OnOk, OnErr};
 ghost use Rattle.tp_model.specs.Transactions.{aaid_of, log_ready, log_commit, log_end, log_damage, log_heuristic, carry_up, done_up, end_up, tell_report, rollback_rec, begin_rolling, complete_commit, complete_rollback, order, settle, leave, retried};
 ghost use Rattle.tp_model.specs.declared.transaction.TxOut.{TxOut};
 ghost use Rattle.tp_records.specs.declared.dialogue.DialogueRecord.{DialogueRecord};
@@ -16,7 +16,8 @@ use tp_model::{Phase, Step, TxOut, TxOuts};
 use tp_names::{Addr, BranchId, Children, NoMemory, Outcome, Report};
 use tp_records::{DialogueRecord, Indication, PeerRecord, RecState};
 
-// Each output is made in a function of its own: a rule pays for those that it says alone.
+// Each output is made in a function of its own: a rule pays for those that it says alone. Where memory runs out a rule changes
+// nothing of the transaction, and what the step has by then is thrown away.
 
 // Prepare goes out on the arc.
 fn prepare(alloc: Global, arc: u16, outs: &mut TxOuts) -> Result<(), NoMemory>
@@ -440,6 +441,7 @@ impl Branch {
         ensures next { OnOk result (self.new ≡ record self.old { phase = Phase.Ready }) }
         ensures rec { OnOk result (step.new.rec ≡ later step.old.rec (log_ready self.old)) }
         ensures outs { OnOk result (step.new.outs ≡ step.old.outs ++ carry_up self.old DialogueRecord.Ready) }
+        ensures same { OnErr result (self.new ≡ self.old) }
     {
         self.log_ready(alloc, &mut step.rec)?;
         self.carry_up(alloc, DialogueRecord::Ready, &mut step.outs)?;
@@ -453,6 +455,7 @@ impl Branch {
         ensures next { OnOk result (self.new ≡ (order self.old).next) }
         ensures rec { OnOk result (step.new.rec ≡ later step.old.rec (order self.old).rec) }
         ensures outs { OnOk result (step.new.outs ≡ step.old.outs ++ (order self.old).outs) }
+        ensures same { OnErr result (self.new ≡ self.old) }
     {
         self.log_commit(alloc, &mut step.rec)?;
         self.say_order(alloc, &mut step.outs)?;
@@ -466,6 +469,7 @@ impl Branch {
         ensures next { OnOk result (self.new ≡ (settle self.old).next) }
         ensures rec { OnOk result (step.new.rec ≡ later step.old.rec (settle self.old).rec) }
         ensures outs { OnOk result (step.new.outs ≡ step.old.outs ++ (settle self.old).outs) }
+        ensures same { OnErr result (self.new ≡ self.old) }
     {
         if !self.is_settled() {
             Ok(())
@@ -486,6 +490,7 @@ impl Branch {
         ensures next { OnOk result (self.new ≡ (begin_rolling asked self.old).next) }
         ensures rec { OnOk result (step.new.rec ≡ later step.old.rec (begin_rolling asked self.old).rec) }
         ensures outs { OnOk result (step.new.outs ≡ step.old.outs ++ (begin_rolling asked self.old).outs) }
+        ensures same { OnErr result (self.new ≡ self.old) }
     {
         self.log_rollback(alloc, &mut step.rec);
         self.say_begin_rolling(alloc, asked, &mut step.outs)?;
@@ -498,6 +503,7 @@ impl Branch {
         ensures next { OnOk result (self.new ≡ (complete_commit self.old).next) }
         ensures rec { OnOk result (step.new.rec ≡ later step.old.rec (complete_commit self.old).rec) }
         ensures outs { OnOk result (step.new.outs ≡ step.old.outs ++ (complete_commit self.old).outs) }
+        ensures same { OnErr result (self.new ≡ self.old) }
     {
         if !self.is_committed() {
             return Ok(());
@@ -514,6 +520,7 @@ impl Branch {
         ensures next { OnOk result (self.new ≡ (complete_rollback self.old).next) }
         ensures rec { OnOk result (step.new.rec ≡ later step.old.rec (complete_rollback self.old).rec) }
         ensures outs { OnOk result (step.new.outs ≡ step.old.outs ++ (complete_rollback self.old).outs) }
+        ensures same { OnErr result (self.new ≡ self.old) }
     {
         if !self.is_rolled_back() {
             return Ok(());
@@ -535,6 +542,7 @@ impl Branch {
         ensures next { OnOk result (self.new ≡ (turn_of rule self.old).next) }
         ensures rec { OnOk result (step.new.rec ≡ later step.old.rec (turn_of rule self.old).rec) }
         ensures outs { OnOk result (step.new.outs ≡ step.old.outs ++ (turn_of rule self.old).outs) }
+        ensures same { OnErr result (self.new ≡ self.old) }
     {
         let outs = &mut step.outs;
         match rule {
