@@ -1,7 +1,7 @@
 -- A stream of frames taken body by body: where a reader stands, and what its next call answers and leaves.
 -- Which bytes are frames is said by tp_framing, how an input ends by tp_model, and what stands in a body is no matter of this file.
-use Rattle.std.specs.Prelude.{ℕ, suc, ◌≡◌, Option, Some, None, option_map, Result, Ok, Err, List, [], ◌∷◌, ◌++◌}
-use Rattle.tp_framing.specs.Frames.{Part, next_in, Stream, stream, frame_bytes, IsBody, with_body}
+use Rattle.std.specs.Prelude.{ℕ, suc, ◌≡◌, ◌||◌, Bool, Option, Some, None, is_some, option_map, Result, Ok, Err, List, [], ◌∷◌, ◌++◌}
+use Rattle.tp_framing.specs.Frames.{Part, next_in, is_next, Stream, stream, frame_bytes, IsBody, with_body}
 use Rattle.tp_model.specs.NodeTranscript.{rest_ending}
 use Rattle.tp_streams.specs.declared.stop.Stop.{Stop}
 use Rattle.tp_streams.specs.Stops.{ended, unless_outside}
@@ -14,6 +14,10 @@ pub record Place : Type 0 where
   pub at : ℕ
   -- what every further call answers
   pub stop : Option Stop
+
+-- the next call reads nothing of the source: a frame is at hand, or a bad length, or a stop from before
+abbrev pub is_at_hand : Place → Bool
+is_at_hand p = is_some p.stop || is_next (next_in p.held)
 
 -- ---- what is still to come
 

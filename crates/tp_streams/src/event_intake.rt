@@ -35,9 +35,9 @@ impl Model for EventIntake {
 }
 
 impl EventIntake {
-    ghost use Rattle.std.specs.Prelude.{◌≡◌, ◌≤◌, ℕ, suc, [], Some, None, Err, length, IfErr};
+    ghost use Rattle.std.specs.Prelude.{◌≡◌, ◌≤◌, ℕ, suc, true, [], Some, None, Err, length, IfErr};
     ghost use Rattle.tp_streams.specs.Stops.{IsEventStop};
-    ghost use Rattle.tp_streams.specs.Taken.{bytes_left, IsFor, IsCutOff};
+    ghost use Rattle.tp_streams.specs.Taken.{bytes_left, is_at_hand, IsFor, IsCutOff};
     ghost use Rattle.tp_streams.specs.Events.{answer_event, LeavesEvents};
     ghost use Rattle.tp_streams.specs.Admitted.{Admits};
 
@@ -59,6 +59,13 @@ impl EventIntake {
         self.intake.at()
     }
 
+    /// Whether the next call reads nothing of the source: the next frame is at hand, or a bad length, or a stop from before.
+    pub fn is_ready(&self) -> bool
+        ensures { result ≡ is_at_hand self.now.place }
+    {
+        self.intake.is_ready()
+    }
+
     /// The next event; None where the stream ends between two frames. The frame that is no frame or says no event is bad;
     /// then comes the limit of events, and then that of 256 nodes declared, each at the first frame that passes it. A
     /// declaration counts whatever a site makes of it. After a stop each call answers the same stop and reads nothing.
@@ -69,7 +76,7 @@ impl EventIntake {
         ensures stops { self.old.place.stop ≡ None → IfErr result (IsEventStop (suc self.old.place.at) (S.fault_count source.old) (S.fault_count source.new)) }
         ensures cut_off { (n : ℕ) → self.old.place.stop ≡ None → result ≡ Err (Stop.ReadFault n) → IsCutOff self.old.place (S.left source.old) self.new.place (S.left source.new) }
         ensures again { (stop : Stop) → self.old.place.stop ≡ Some stop → result ≡ Err stop }
-        ensures unread { (stop : Stop) → self.old.place.stop ≡ Some stop → source.new ≡ source.old }
+        ensures unread { is_at_hand self.old.place ≡ true → source.new ≡ source.old }
         ensures few { length self.new.place.held ≤ 10241 }
         ensures kept { S.fault_count source.old ≤ S.fault_count source.new }
     {

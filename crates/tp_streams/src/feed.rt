@@ -2,6 +2,7 @@
 ghost use Rattle.std.specs.Prelude.{◌≡◌, ◌==◌, ◌^◌, ◌<◌, ◌≤◌, length, IfOk, IfErr};
 ghost use Rattle.tp_streams.specs.Feeds.{Gains, IsPullStop, ComesNext};
 ghost use Rattle.tp_framing.specs.Fed.{fresh};
+ghost use Rattle.tp_framing.specs.Frames.{next_in, is_next};
 
 use crate::Stop;
 use std::alloc::Global;
@@ -81,6 +82,13 @@ impl Feed {
         self.frames.feed(alloc, &piece[..count])?;
         self.fed = fed;
         Ok(count)
+    }
+
+    /// Whether the next frame, or a bad length, is at hand: `next` needs no more bytes.
+    pub(crate) fn is_ready(&self) -> bool
+        ensures { result ≡ is_next (next_in self.now.pending) }
+    {
+        self.frames.is_ready()
     }
 
     /// Whether nothing is at hand.

@@ -1,6 +1,6 @@
 //! Bodies out of a source.
-ghost use Rattle.std.specs.Prelude.{◌≡◌, ◌^◌, ◌<◌, ◌≤◌, ℕ, length, Err, IfErr};
-ghost use Rattle.tp_framing.specs.Frames.{stream};
+ghost use Rattle.std.specs.Prelude.{◌≡◌, ◌^◌, ◌<◌, ◌≤◌, ℕ, true, length, Err, IfErr};
+ghost use Rattle.tp_framing.specs.Frames.{stream, next_in, is_next};
 ghost use Rattle.tp_streams.specs.Stops.{IsFrameStop};
 ghost use Rattle.tp_streams.specs.Taken.{together, first_body, IsFor};
 ghost use Rattle.tp_streams.specs.Feeds.{Finds, IsParted, at_end_of};
@@ -34,9 +34,9 @@ impl Model for Intake {
 }
 
 impl Intake {
-    ghost use Rattle.std.specs.Prelude.{◌≡◌, ◌≤◌, ℕ, suc, [], Some, None, Err, length, IfErr};
+    ghost use Rattle.std.specs.Prelude.{◌≡◌, ◌≤◌, ℕ, suc, true, [], Some, None, Err, length, IfErr};
     ghost use Rattle.tp_streams.specs.Stops.{IsFrameStop};
-    ghost use Rattle.tp_streams.specs.Taken.{answer, bytes_left, IsFor, IsCutOff, Leaves};
+    ghost use Rattle.tp_streams.specs.Taken.{answer, bytes_left, is_at_hand, IsFor, IsCutOff, Leaves};
 
     /// A reader at the start of a stream.
     pub fn new(alloc: Global) -> Intake
@@ -66,7 +66,7 @@ impl Intake {
         ensures stops { self.old.stop ≡ None → IfErr result (IsFrameStop (suc self.old.at) (S.fault_count source.old) (S.fault_count source.new)) }
         ensures cut_off { (n : ℕ) → self.old.stop ≡ None → result ≡ Err (Stop.ReadFault n) → IsCutOff self.old (S.left source.old) self.new (S.left source.new) }
         ensures again { (stop : Stop) → self.old.stop ≡ Some stop → result ≡ Err stop }
-        ensures unread { (stop : Stop) → self.old.stop ≡ Some stop → source.new ≡ source.old }
+        ensures unread { is_at_hand self.old ≡ true → source.new ≡ source.old }
         ensures few { length self.new.held ≤ 10241 }
         ensures kept { S.fault_count source.old ≤ S.fault_count source.new }
     {
@@ -81,6 +81,13 @@ impl Intake {
             }
             Err(stop) => Err(self.end(stop)),
         }
+    }
+
+    /// Whether the next call reads nothing of the source: the next frame is at hand, or a bad length, or a stop from before.
+    pub fn is_ready(&self) -> bool
+        ensures { result ≡ is_at_hand self.now }
+    {
+        self.stop.is_some() || self.feed.is_ready()
     }
 
     /// Stops here.
@@ -108,6 +115,7 @@ fn seek<S: Source>(
     ensures few { length feed.new.pending ≤ 10241 }
     ensures handed { feed.old.handed ≤ feed.new.handed }
     ensures small { feed.new.handed < 2 ^ 64 }
+    ensures unread { is_next (next_in feed.old.pending) ≡ true → source.new ≡ source.old }
     ensures kept { S.fault_count source.old ≤ S.fault_count source.new }
 {
     loop {

@@ -1,4 +1,5 @@
-use Rattle.std.proofs.Common.{◌≡◌, ◌<◌, ℕ, Option, Ok, List, length, ap, subst, ◌∙◌, arith}
+use Rattle.std.proofs.Common.{◌≡◌, ◌<◌, ℕ, true, Option, Ok, List, length, ap, subst, ◌∙◌, arith}
+use Rattle.tp_framing.specs.Frames.{Part, next_in, is_next}
 use Rattle.tp_framing.specs.Fed.{Fed}
 use Rattle.tp_streams.specs.Taken.{together}
 use Rattle.tp_streams.specs.Feeds.{ComesNext}
@@ -14,6 +15,10 @@ returns-in-Some-clause-body g c =
     let rest = g.S.Source.left c.loop-body.source in
     found_answer c.args.number c.args.feed.now c.next.new.self left rest c.in-Some.body
     (found c.args.feed.now c.loop-body.feed c.next.new.self left rest c.in-Some.body i.handed i.same hands)
+
+-- what is at hand holds a frame, so no more is read
+unready : (old now : Fed) → next_in now.pending ≡ Part → now ≡ old → is_next (next_in old.pending) ≡ true → ⊥
+unready old now part same ready = cc (ap is_next part, ap (λ (f : Fed). is_next (next_in f.pending)) same, ready)
 
 pub loop-body-smaller : goal.loop-body-smaller
 loop-body-smaller g c =
@@ -33,5 +38,6 @@ loop-body-preserved g c =
       handed = gains.handed ∙ ap (λ (f : Fed). f.handed) none.1 ∙ i.handed;
       same = gains.same ∙ ap (λ (f : Fed). together f.pending (g.S.Source.left c.loop-body.source)) none.1 ∙ i.same;
       few = omega (arith, few, size, gains.count, gains.few);
+      unread = λ ready. absurd (unready c.args.feed.now c.loop-body.feed none.0 (i.unread ready).0 ready);
       kept = omega (arith, i.kept, c.in_ok-pull.ensures.kept);
     }

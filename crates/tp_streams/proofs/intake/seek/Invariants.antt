@@ -1,4 +1,5 @@
-use Rattle.std.proofs.Common.{◌≡◌, ◌≤◌, ◌-◌, length}
+use Rattle.std.proofs.Common.{◌≡◌, ◌≤◌, ◌-◌, true, length}
+use Rattle.tp_framing.specs.Frames.{next_in, is_next}
 use Rattle.tp_streams.specs.Taken.{together}
 use Rattle.tp_streams.proofs.intake.seek.Given as goal
 
@@ -7,6 +8,7 @@ invariant-loop-body g l = record {
   handed : l.feed.handed ≡ l.fn.feed.handed;
   same : together l.feed.pending (g.S.Source.left l.source) ≡ together l.fn.feed.pending (g.S.Source.left l.fn.source);
   few : length l.feed.pending ≤ 10241;
+  unread : is_next (next_in l.fn.feed.pending) ≡ true → (l.feed ≡ l.fn.feed) × (l.source ≡ l.fn.source);
   kept : g.S.Source.fault_count l.fn.source ≤ g.S.Source.fault_count l.source;
 }
 
