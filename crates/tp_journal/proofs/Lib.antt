@@ -20,6 +20,7 @@ pub mod OneMore
 pub mod RecordBodies
 pub mod Openings
 pub mod SettledBytes
+pub mod Settling
 pub mod Staging
 pub mod Shorter
 pub mod Sizes

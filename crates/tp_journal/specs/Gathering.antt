@@ -9,7 +9,8 @@ use Rattle.tp_journal.specs.declared.faults.ForceFault.TheVariants.{Full, DiskFa
 use Rattle.tp_journal.specs.Log.{blocks, place_behind}
 use Rattle.tp_journal.specs.Records.{HasText, texts, bodies_of}
 use Rattle.tp_journal.specs.Started.{Started, IsKept}
-use Rattle.tp_journal.specs.Journals.{Kept, kept_of, bodies_in}
+use Rattle.tp_journal.specs.Journals.{Kept, kept_of, bodies_in, standing_of}
+use Rattle.tp_journal.specs.Keeping.{Standing, Rests}
 
 pub record Gathered (D : Type 0) : Type 0 where
   -- the journal with all of its records, as it is once they are settled
@@ -47,3 +48,8 @@ RefusesSettle old before new after (Full size) = ⊥
 RefusesSettle old before new after (DiskFault faults) = (old.shut ≡ None) × (new.shut ≡ Some faults) × (faults ≡ after) × HasRisen before after
 RefusesSettle old before new after (Shut faults) = (old.shut ≡ Some faults) × (new.shut ≡ Some faults)
 RefusesSettle old before new after NoMemory = ⊥
+
+-- It tells what its journal tells, as if all of it were forced, but no story and no fuse: these are of the disk, which `force`
+-- leaves as it is.
+abbrev pub gathered_standing : {D : Type 0} → (D → ℕ) → (D → Option Story) → Gathered D → Standing
+gathered_standing faults told g = record (standing_of g.journal (faults g.journal.disk) None None) { lasting = Rests (told g.journal.disk) g.settled }

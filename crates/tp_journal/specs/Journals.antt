@@ -12,7 +12,7 @@ use Rattle.tp_logrec.specs.Order.{brief}
 use Rattle.tp_journal.specs.Log.{place_behind, most_bytes}
 use Rattle.tp_journal.specs.Records.{wide_of, recs_of, placed, bodies_of}
 use Rattle.tp_journal.specs.Started.{Started}
-use Rattle.tp_journal.specs.Keeping.{Standing, longer}
+use Rattle.tp_journal.specs.Keeping.{Standing, Numbers, longer}
 
 pub record Kept (D : Type 0) : Type 0 where
   pub disk : D
@@ -45,7 +45,7 @@ standing_of j faults story fuse = record {
   story = story;
   fuse = fuse;
   wide = j.wide;
-  lasting = [];
+  lasting = Numbers [];
 }
 
 -- the causes of a refusal in order: shut, full, no memory, a fault of the disk

@@ -13,6 +13,14 @@ use Rattle.tp_journal.specs.declared.receipts.Receipt.{Receipt}
 use Rattle.tp_journal.specs.declared.faults.ForceFault.{ForceFault}
 use Rattle.tp_journal.specs.declared.faults.ForceFault.TheVariants as force
 
+-- What no call of `force` changes, and a generic caller hands back of a keeper that it took.
+pub data Lasting : Type 0 where
+  -- numbers of the keeper's own
+  Numbers : List ℕ → Lasting
+  -- Of a keeper that runs ahead of its disk: what this disk has been through, where the disk tells that, and how many of the
+  -- keeper's own records are on it.
+  Rests : Option Story → ℕ → Lasting
+
 pub record Standing : Type 0 where
   -- what count, rec and place tell
   pub told : List Receipt
@@ -29,8 +37,8 @@ pub record Standing : Type 0 where
   pub fuse : Option Fused
   -- is the log of version 2?
   pub wide : Bool
-  -- numbers that no call changes: what a generic caller hands back of a keeper that it took
-  pub lasting : List ℕ
+  -- what no call of `force` changes
+  pub lasting : Lasting
 
 -- the length after a record: an open gate's place is the closing gate's, then the text after its length, and a gate
 abbrev pub longer : ℕ → Bool → LogRec → ℕ

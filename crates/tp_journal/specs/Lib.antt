@@ -9,5 +9,6 @@ pub mod Gates
 pub mod Gathering
 pub mod Records
 pub mod Keeping
+pub mod Settling
 pub mod Disorder
 pub mod Journals

@@ -14,7 +14,7 @@ use crate::lengths::text_len;
 use crate::log::{Log, MOST_BYTES};
 use crate::records::{Records, write_piece};
 use crate::shelf::Shelf;
-use crate::{ForceFault, Journal, Keeper, Receipt, tape};
+use crate::{ForceFault, Journal, Keeper, Receipt, Settles, tape};
 use std::alloc::{AllocError, Global};
 use std::marker::Model;
 use tp_logrec::LogRec;
@@ -114,6 +114,14 @@ impl<D: Disk> Gathering<D> {
         Journal::of_log(Log::of_parts(disk, shelf, gate, shut), piece)
     }
 
+    /// The disk. Records that are noted are on it only where they were settled.
+    pub fn disk(self) -> D
+        ensures { result ≡ self.journal.disk }
+    {
+        let Gathering { disk, .. } = self;
+        disk
+    }
+
     /// Notes one record: with the receipt it is on the disk once it is settled, after all earlier ones. Nothing is written, and
     /// the disk is what it was. `Full` and `Shut` come as they do of a journal that forces.
     pub fn force(&mut self, alloc: Global, rec: &LogRec) -> Result<Receipt, ForceFault>
@@ -183,6 +191,7 @@ impl<D: Disk> Gathering<D> {
         ensures settled { IsSettled self.new }
         ensures grows { self.old.settled ≤ self.new.settled }
         ensures within { self.new.settled ≤ length self.new.journal.list }
+        ensures stands { IfErr result (λ fault. self.new.settled ≡ self.old.settled) }
         ensures untouched { IfErr result (KeepsDisk self.old.journal.disk self.new.journal.disk) }
         // A crash at any moment of the call leaves the records that were on the disk, or these and all that were noted.
         ensures moments { self.old.journal.shut ≡ None → (s : Story) → D.told self.old.journal.disk ≡ Some s
@@ -214,11 +223,16 @@ impl<D: Disk> Gathering<D> {
     }
 }
 
-impl<D: Disk> Keeper for Gathering<D> {
-    ghost use Rattle.std.specs.Prelude.{None};
-    ghost use Rattle.tp_journal.specs.Journals.{standing_of};
+impl<D: Disk> Settles for Gathering<D> {
+    fn settle(&mut self) -> Result<(), ForceFault> {
+        Gathering::settle(self)
+    }
+}
 
-    ghost standing = { λ g. standing_of g.journal (D.fault_count g.journal.disk) None None };
+impl<D: Disk> Keeper for Gathering<D> {
+    ghost use Rattle.tp_journal.specs.Gathering.{gathered_standing};
+
+    ghost standing = { λ g. gathered_standing D.fault_count D.told g };
 
     fn force(&mut self, alloc: Global, rec: &LogRec) -> Result<Receipt, ForceFault> {
         Gathering::force(self, alloc, rec)

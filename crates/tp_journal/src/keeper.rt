@@ -54,3 +54,12 @@ pub trait Keeper {
     fn wide(&self) -> bool
         ensures { result ≡ (standing self.now).wide };
 }
+
+/// A keeper that runs ahead of its disk: what it is given is noted, and all that is noted is forced at once.
+pub trait Settles: Keeper {
+    ghost use Rattle.tp_journal.specs.Settling.{SettlesTo};
+
+    /// Forces all that is noted, and wants no memory for it. Where the disk fails the keeper is shut, and tells what was noted.
+    fn settle(&mut self) -> Result<(), ForceFault>
+        ensures { SettlesTo (Self.standing self.old) result (Self.standing self.new) };
+}

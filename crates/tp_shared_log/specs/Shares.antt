@@ -1,7 +1,7 @@
 -- What contracts see of a share of a log under its lock, and the share as a keeper.
 use Rattle.std.specs.Prelude.{ℕ, Bool, List, [], ◌∷◌, ◌++◌, Option, Some, None}
 use Rattle.tp_journal.specs.declared.receipts.Receipt.{Receipt}
-use Rattle.tp_journal.specs.Keeping.{Standing}
+use Rattle.tp_journal.specs.Keeping.{Standing, Numbers}
 use Rattle.tp_shared_log.specs.declared.spent.Spent.{Spent}
 
 pub record Shared : Type 0 where
@@ -41,5 +41,5 @@ share_standing stood wide s = record {
   story = None;
   fuse = None;
   wide = wide;
-  lasting = s.parts ∷ s.stake_parts ∷ [];
+  lasting = Numbers (s.parts ∷ s.stake_parts ∷ []);
 }
