@@ -117,7 +117,7 @@ impl Content {
         Ok(next)
     }
 
-    /// Makes the writes, one after the other. Without memory some are made.
+    /// Makes the writes, one after the other. Without memory some are made: who reads a log throws the content away then.
     pub fn make(&mut self, writes: Writes) -> Result<(), NoMemory>
         ensures { OnOk result (self.new ≡ made self.old writes) }
     {

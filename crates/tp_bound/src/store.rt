@@ -87,7 +87,8 @@ impl Store {
         }
     }
 
-    /// Takes the next body, where it may stand there. The place is that of its gate.
+    /// Takes the next body, where it may stand there. The place is that of its gate. Without memory the store may be any: who reads
+    /// a log throws it away then.
     pub fn take(&mut self, alloc: Global, place: u64, bytes: &[u8]) -> Result<bool, NoMemory>
         requires { place + length bytes.now < 2 ^ 63 }
         ensures { IfOk result (Takes self.old (taken place bytes.now self.old) self.new) }

@@ -4,11 +4,11 @@ mod event;
 mod heard;
 mod taken;
 
-ghost use Rattle.std.specs.Prelude.{◌≡◌, ◌≤◌, true, length, [], ◌∷◌, Some, None, IfOk, OnOk, OnErr};
+ghost use Rattle.std.specs.Prelude.{◌≡◌, ◌≤◌, true, length, [], ◌∷◌, Some, None, IfOk, OnOk};
 ghost use Rattle.tp_model.specs.declared.transaction.TxOut.{TxOut};
-ghost use Rattle.tp_model.specs.Node.{move, perform, begin_on, begin_each, begin_chained, start_root, try_start, transact, remaining, keep, side_at, is_over, Commits, next_mark, with_mark_drawn};
+ghost use Rattle.tp_model.specs.Node.{move, perform, begin_on, begin_each, begin_chained, start_root, try_start, transact, remaining, keep, side_at, is_over, Commits};
 ghost use Rattle.tp_commit.specs.Branch.{begins, standing};
-ghost use Rattle.tp_draft.specs.Draft.{Plays, node_in, forgetting, with_current, goes_on, without_value, later, recorded};
+ghost use Rattle.tp_draft.specs.Draft.{Plays, node_in, forgetting, with_current, without_value, later, recorded};
 ghost use Rattle.tp_draft.specs.Begins.{opened_root, named_begun};
 ghost use Rattle.tp_model.specs.Events.{retry_each, retry, purge, refused_purge};
 ghost use Rattle.tp_model.specs.Requests.{call, accept, reject, begin_transaction, abort, refused_request, do_request};
@@ -34,7 +34,7 @@ ghost use Rattle.tp_draft.specs.Talk.{speaking_on, deferring, telling_heard, tak
 ghost use Rattle.tp_draft.specs.Taking.{arc_to, taking_on};
 ghost use Rattle.tp_draft.specs.Passage.{said_then, giving, completing, playing, speaking, passing, acting_by, is_commit_complete, place_of_completion};
 ghost use Rattle.tp_node.specs.Passage.{passage_of};
-ghost use Rattle.tp_model.specs.Links.{greatest, is_opening_with, dropped_by};
+ghost use Rattle.tp_model.specs.Links.{is_opening_with, dropped_by};
 
 use std::alloc::Global;
 use std::marker::Model;
@@ -893,16 +893,6 @@ impl Draft {
             Request::Rollback => self.ask_rollback(alloc),
             Request::Unchanged => self.say_unchanged(alloc),
         }
-    }
-
-    /// The next mark of the node's counter.
-    #[tactic(auto, using(crate::proofs::Drafts::still_needs))]
-    pub(crate) fn draw(&mut self) -> Result<Mark, Halt>
-        ensures mark { IfOk result (λ mark. mark ≡ next_mark self.old.who self.old.move.next) }
-        ensures drawn { OnOk result (self.new ≡ goes_on self.old (λ who d. move [] (with_mark_drawn d))) }
-        ensures halted { OnErr result (self.old.move.next.drawn ≡ greatest) }
-    {
-        Ok(self.node.draw()?)
     }
 }
 

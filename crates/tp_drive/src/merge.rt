@@ -84,7 +84,8 @@ fn kept_at<K: Keeper>(alloc: Global, keeper: &K, at: usize) -> Result<Receipt, N
     })
 }
 
-/// Takes the receipts by place, each where it stands among the records that the keeper tells after so many.
+/// Takes the receipts by place, each where it stands among the records that the keeper tells after so many. The queues are thrown
+/// away, whatever the answer.
 pub fn merge<K: Keeper>(
     alloc: Global,
     keeper: &K,

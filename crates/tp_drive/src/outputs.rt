@@ -12,7 +12,7 @@ use tp_records::{Event, Outputs};
 /// The outputs of each event, in the order of the events.
 pub type OutputsByEvent = Sequence<Outputs>;
 
-/// Puts the outputs of the lanes in the order of the events.
+/// Puts the outputs of the lanes in the order of the events. What is left in the lanes is thrown away, whatever the answer.
 pub fn by_event(
     alloc: Global,
     events: &[Event],

@@ -1,5 +1,6 @@
 //! What the replay of a schedule came to, in six counts.
-ghost use Rattle.std.specs.Prelude.{◌≡◌, ◌++◌, OnOk};
+ghost use Rattle.std.specs.Prelude.{◌≡◌, ◌++◌, OnOk, OnErr};
+ghost use Rattle.tp_names.specs.Writing.{Keeps};
 ghost use Rattle.tp_model.specs.Generator.{summary_line};
 ghost use Rattle.tp_generate.specs.Counts.{summary_of_counts, AreCounts, IsUpTo, with_line};
 
@@ -19,7 +20,8 @@ struct Endings {
 
 /// Puts the summary of a replay of so many lines, which sent so many frames and was closed by these lines, at the end of
 /// `out`: how many lines and frames there were, and of how many trees all nodes committed, all rolled back, some did
-/// otherwise, and some have not ended. Each count stands on a line after its word.
+/// otherwise, and some have not ended. Each count stands on a line after its word. Without memory part of it may
+/// stand there.
 pub fn write_summary(
     alloc: Global,
     lines: u64,
@@ -27,7 +29,8 @@ pub fn write_summary(
     closing: &[OutLine],
     out: &mut Octets,
 ) -> Result<(), NoMemory>
-    ensures { OnOk result (out.new ≡ out.old ++ summary_of_counts lines frames closing.now) }
+    ensures ok { OnOk result (out.new ≡ out.old ++ summary_of_counts lines frames closing.now) }
+    ensures err { OnErr result (Keeps out.old out.new) }
 {
     let endings = count(closing);
     write_count(alloc, "lines", lines, out)?;
@@ -88,7 +91,8 @@ fn counted_with(endings: Endings, line: &OutLine) -> Endings
 // A word and a count, on a line.
 #[tactic(auto, using(crate::proofs::Counting::count_written))]
 fn write_count(alloc: Global, word: &str, count: u64, out: &mut Octets) -> Result<(), NoMemory>
-    ensures { OnOk result (out.new ≡ out.old ++ summary_line word.now count) }
+    ensures ok { OnOk result (out.new ≡ out.old ++ summary_line word.now count) }
+    ensures err { OnErr result (Keeps out.old out.new) }
 {
     let mut digits = Buffer::new();
     out.extend_from_slice(alloc, word.as_bytes())?;

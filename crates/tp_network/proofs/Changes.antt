@@ -1,5 +1,5 @@
 -- The summaries after a change: which trees it names, and that it leaves the others alone.
-use Rattle.std.proofs.Common.{◌≡◌, ◌&&◌, ◌||◌, not, Bool, true, false, refl, ap, sym, ◌∙◌, arith, Option, Some, None}
+use Rattle.std.proofs.Common.{◌≡◌, ◌&&◌, ◌||◌, not, Bool, true, false, refl, ap, sym, ◌∙◌, arith, List, Option, Some, None}
 use Rattle.std.specs.Prelude.{cond, Result, Ok, Err, OnErr, OnOk}
 use Rattle.tp_names.specs.declared.identifiers.Aaid.{Aaid}
 use Rattle.tp_names.specs.declared.outcome.Outcome.{Outcome}
@@ -8,9 +8,12 @@ use Rattle.tp_names.proofs.Sames.{aaid_same}
 use Rattle.tp_model.specs.declared.arc.Phase.{Phase}
 use Rattle.tp_model.specs.declared.out_line.LogWords.{LogWords}
 use Rattle.tp_model.specs.Dialogues.{is_active, is_ready, is_rolling}
+use Rattle.tp_names.specs.declared.no_memory.NoMemory.{NoMemory}
+use Rattle.tp_network.specs.declared.tree_key.Tree.{Tree}
+use Rattle.tp_network.specs.TreeSummaries.{summary_at}
 use Rattle.tp_network.specs.TreeKey.{tree_either, tree_of}
 use Rattle.tp_node.specs.declared.state.NodeTree.{NodeTree}
-use Rattle.tp_network.specs.TreeSummary.{is_in, phase_in, is_commit_of, decision_in, goes_on, has_rolled, is_that, same_tree, stood_in, summary_after, tree_logged}
+use Rattle.tp_network.specs.TreeSummary.{is_in, phase_in, is_commit_of, decision_in, goes_on, has_rolled, is_that, same_tree, speaks_of, stood_in, summary_after, tree_logged}
 use Rattle.tp_network.specs.declared.tree_summary.TreeSummary.{TreeSummary}
 use Rattle.tp_network.specs.declared.tree_summary.TreeChange.{TreeChange}
 
@@ -99,6 +102,37 @@ changed_all t s p p1 p2 p3 one two three =
     three
     ∙ ap (where_at (summary_after t s) (is_that t (tree_logged s.rec) && not (stood_in t s))) (two ∙ ap (where_at (summary_after t s) (is_in t s.after && not (is_in t s.before))) one)
     ∙ by_turns (summary_after t s) p (is_in t s.before) (is_in t s.after) (is_that t (tree_logged s.rec)) (changed_other t s p)
+
+-- ---- a change that was cut short
+
+abbrev Untouched : TreeChange → List (Tree × TreeSummary) → List (Tree × TreeSummary) → Type 0
+Untouched s old new = (t : Aaid) → speaks_of t s ≡ false → summary_at new t ≡ summary_at old t
+
+-- after its first part
+after_first : (t : Aaid) (s : TreeChange) (p p1 : TreeSummary) → speaks_of t s ≡ false → p1 ≡ where_at (summary_after t s) (is_in t s.before) p → p1 ≡ p
+after_first t s p p1 h one =
+    let stood : stood_in t s ≡ false = (neither (stood_in t s) (is_that t (tree_logged s.rec)) h).0 in
+    one ∙ ap (λ (b : Bool). where_at (summary_after t s) b p) (neither (is_in t s.before) (is_in t s.after) stood).0
+
+-- and after its second
+after_second : (t : Aaid) (s : TreeChange) (p p2 : TreeSummary) → speaks_of t s ≡ false → p2 ≡ where_at (summary_after t s) (is_in t s.after && not (is_in t s.before)) p → p2 ≡ p
+after_second t s p p2 h two =
+    let stood : stood_in t s ≡ false = (neither (stood_in t s) (is_that t (tree_logged s.rec)) h).0 in
+    two ∙ ap (λ (b : Bool). where_at (summary_after t s) b p) (and_none (is_in t s.after) (not (is_in t s.before)) (neither (is_in t s.before) (is_in t s.after) stood).1)
+
+pub untouched_at_once : (r : Result (Unit {0}) NoMemory) (s : TreeChange) (old new : List (Tree × TreeSummary)) → new ≡ old → OnErr r (Untouched s old new)
+untouched_at_once (Ok v) s old new same = tt
+untouched_at_once (Err e) s old new same = λ t h. ap (λ es. summary_at es t) same
+
+pub untouched_by_first : (r : Result (Unit {0}) NoMemory) (s : TreeChange) (old one new : List (Tree × TreeSummary)) → ((t : Aaid) → summary_at one t ≡ where_at (summary_after t s) (is_in t s.before) (summary_at old t)) → new ≡ one → OnErr r (Untouched s old new)
+untouched_by_first (Ok v) s old one new first same = tt
+untouched_by_first (Err e) s old one new first same = λ t h. ap (λ es. summary_at es t) same ∙ after_first t s (summary_at old t) (summary_at one t) h (first t)
+
+pub untouched_by_second : (r : Result (Unit {0}) NoMemory) (s : TreeChange) (old one two new : List (Tree × TreeSummary)) → ((t : Aaid) → summary_at one t ≡ where_at (summary_after t s) (is_in t s.before) (summary_at old t))
+    → ((t : Aaid) → summary_at two t ≡ where_at (summary_after t s) (is_in t s.after && not (is_in t s.before)) (summary_at one t)) → OnErr r (new ≡ two) → OnErr r (Untouched s old new)
+untouched_by_second (Ok v) s old one two new first second same = tt
+untouched_by_second (Err e) s old one two new first second same = λ t h.
+    ap (λ es. summary_at es t) same ∙ after_second t s (summary_at one t) (summary_at two t) h (second t) ∙ after_first t s (summary_at old t) (summary_at one t) h (first t)
 
 pub then_ok : {A E : Type 0} (r : Result A E) {P Q : Type 0} → (P → Q) → OnOk r P → OnOk r Q
 then_ok (Ok v) f h = f h

@@ -4,7 +4,7 @@ use Rattle.std.specs.Map.{lookup}
 use Rattle.std.specs.Option.{option_map}
 use Rattle.tp_names.specs.declared.identifiers.Aaid.{Aaid}
 use Rattle.tp_names.specs.declared.identifiers.Addr.{Addr}
-use Rattle.tp_network.specs.TreeSummary.{no_summary, summary_after}
+use Rattle.tp_network.specs.TreeSummary.{no_summary, speaks_of, summary_after}
 use Rattle.tp_network.specs.TreeSummaries.{summary_at}
 use Rattle.tp_network.specs.declared.tree_summary.TreeChange.{TreeChange}
 use Rattle.tp_network.specs.declared.nodes.NodeSlot.{NodeSlot}
@@ -65,3 +65,15 @@ abbrev pub AreChanged : ℕ → TreeChange → List NodeSlot → List NodeSlot �
 AreChanged n s [] ys = ys ≡ []
 AreChanged n s (x ∷ xs) [] = ⊥
 AreChanged n s (x ∷ xs) (y ∷ ys) = elim (x.addr.node == n) [ true ↦ IsChanged s x y × (ys ≡ xs) | false ↦ (y ≡ x) × AreChanged n s xs ys ]
+
+-- its summaries where a change was cut short: those in the trees of which the change does not speak
+pub record IsPartly (s : TreeChange) (old new : NodeSlot) : Type 0 where
+  pub addr : new.addr ≡ old.addr
+  pub superior : new.superior ≡ old.superior
+  pub summaries : (t : Aaid) → speaks_of t s ≡ false → summary_at new.summaries t ≡ summary_at old.summaries t
+
+-- the first node of that number alone may have changed, in the trees of which the change speaks
+abbrev pub ArePartly : ℕ → TreeChange → List NodeSlot → List NodeSlot → Type 0
+ArePartly n s [] ys = ys ≡ []
+ArePartly n s (x ∷ xs) [] = ⊥
+ArePartly n s (x ∷ xs) (y ∷ ys) = elim (x.addr.node == n) [ true ↦ IsPartly s x y × (ys ≡ xs) | false ↦ (y ≡ x) × ArePartly n s xs ys ]

@@ -67,6 +67,10 @@ abbrev pub is_that : Aaid → Option Aaid → Bool
 is_that t None = false
 is_that t (Some u) = is_aaid t u
 
+-- the change speaks of it: the node stands in it before or after, or logs of it
+abbrev pub speaks_of : Aaid → TreeChange → Bool
+speaks_of t s = stood_in t s || is_that t (tree_logged s.rec)
+
 -- ---- the summary after a change
 
 abbrev pub no_summary : TreeSummary

@@ -2,7 +2,7 @@
 ghost use Rattle.std.specs.Prelude.{◌≡◌, ◌++◌, ◌∷◌, [], ◌<◌, length, map, slice_index_or, OnOk, OnErr};
 ghost use Rattle.tp_names.specs.Same.{is_name};
 ghost use Rattle.tp_network.specs.declared.nodes.NodeSlot.{NodeSlot};
-ghost use Rattle.tp_network.specs.Nodes.{address_at, IsDeclared, IsNoted, AreChanged, place_of_number};
+ghost use Rattle.tp_network.specs.Nodes.{address_at, IsDeclared, IsNoted, AreChanged, ArePartly, place_of_number};
 
 use crate::run::Run;
 use crate::tree_summaries::TreeSummaries;
@@ -109,14 +109,15 @@ impl Nodes {
         Some(self.items[place].addr)
     }
 
-    /// Puts a node after the others.
+    /// Puts a node after the others. Without memory the nodes stay what they were.
     pub fn declare(
         &mut self,
         alloc: Global,
         addr: Addr,
         superior: Option<Addr>,
     ) -> Result<(), NoMemory>
-        ensures { OnOk result ((x : NodeSlot) × IsDeclared addr superior x × (self.new ≡ self.old ++ x ∷ [])) }
+        ensures declared { OnOk result ((x : NodeSlot) × IsDeclared addr superior x × (self.new ≡ self.old ++ x ∷ [])) }
+        ensures same { OnErr result (self.new ≡ self.old) }
     {
         let place = self.count();
         let run = self.run.with(place, addr.node);
@@ -131,11 +132,13 @@ impl Nodes {
         Ok(())
     }
 
-    /// The node's summaries of trees after an entry.
+    /// The node's summaries of trees after an entry. Without memory they stay what they were in the trees of which the entry does
+    /// not speak, and so do the other nodes.
     #[inline(always)]
-    #[tactic(auto, using(crate::proofs::ChangedNodes::changed_none, crate::proofs::ChangedNodes::changed_there))]
+    #[tactic(auto, using(crate::proofs::ChangedNodes::changed_none, crate::proofs::ChangedNodes::changed_there, crate::proofs::ChangedNodes::partly_there))]
     pub fn change(&mut self, number: u16, change: &TreeChange) -> Result<(), NoMemory>
-        ensures { OnOk result (AreChanged number change.now self.old self.new) }
+        ensures changed { OnOk result (AreChanged number change.now self.old self.new) }
+        ensures partly { OnErr result (ArePartly number change.now self.old self.new) }
     {
         let place = self.place_of(number);
         if place >= self.items.len() {

@@ -1,10 +1,10 @@
 //! The summaries that one node has in trees.
-ghost use Rattle.std.specs.Prelude.{◌≡◌, ◌&&◌, true, false, not, cond, is_some, slice_get, Some, IfOk, OnOk};
+ghost use Rattle.std.specs.Prelude.{◌≡◌, ◌&&◌, true, false, not, cond, is_some, slice_get, Some, IfOk, OnOk, OnErr};
 ghost use Rattle.std.specs.Map.{lookup};
 ghost use Rattle.tp_names.specs.declared.identifiers.Aaid.{Aaid as AaidValue};
 ghost use Rattle.tp_names.specs.Same.{is_aaid};
 ghost use Rattle.tp_network.specs.TreeKey.{is_tree, tree_of};
-ghost use Rattle.tp_network.specs.TreeSummary.{is_in, is_that, no_summary, same_tree, stood_in, summary_after, tree_logged};
+ghost use Rattle.tp_network.specs.TreeSummary.{is_in, is_that, no_summary, same_tree, speaks_of, stood_in, summary_after, tree_logged};
 ghost use Rattle.tp_network.specs.TreeOutcomes.{outcomes_in, with_node};
 ghost use Rattle.tp_network.specs.TreeSummaries.{summary_at};
 
@@ -57,7 +57,8 @@ impl TreeSummaries {
         }
     }
 
-    // The summary in that tree after an entry, where another tree was changed last.
+    // The summary in that tree after an entry, where another tree was changed last. Without memory nothing changes, as in the calls
+    // below.
     fn change_other(
         &mut self,
         tree: &Aaid,
@@ -67,7 +68,8 @@ impl TreeSummaries {
     ) -> Result<(), NoMemory>
         requires before { is_in tree.now change.now.before ≡ is_before }
         requires after { is_in tree.now change.now.after ≡ is_after }
-        ensures { OnOk result ((t : AaidValue) → summary_at self.new t ≡ cond (is_aaid t tree.now) (summary_after t change.now (summary_at self.old t)) (summary_at self.old t)) }
+        ensures changed { OnOk result ((t : AaidValue) → summary_at self.new t ≡ cond (is_aaid t tree.now) (summary_after t change.now (summary_at self.old t)) (summary_at self.old t)) }
+        ensures same { OnErr result (self.new ≡ self.old) }
     {
         let first = TreeSummary::NONE.after_in(tree, is_before, is_after, change);
         let (place, older) = self.summaries.insert_full(Tree { aaid: *tree }, first)?;
@@ -90,7 +92,8 @@ impl TreeSummaries {
     ) -> Result<(), NoMemory>
         requires before { is_in tree.now change.now.before ≡ is_before }
         requires after { is_in tree.now change.now.after ≡ is_after }
-        ensures { OnOk result ((t : AaidValue) → summary_at self.new t ≡ cond (is_aaid t tree.now) (summary_after t change.now (summary_at self.old t)) (summary_at self.old t)) }
+        ensures changed { OnOk result ((t : AaidValue) → summary_at self.new t ≡ cond (is_aaid t tree.now) (summary_after t change.now (summary_at self.old t)) (summary_at self.old t)) }
+        ensures same { OnErr result (self.new ≡ self.old) }
     {
         if change_at(
             &mut self.summaries,
@@ -110,6 +113,7 @@ impl TreeSummaries {
     fn change_before(&mut self, change: &TreeChange) -> Result<bool, NoMemory>
         ensures stays { IfOk result (λ stays. same_tree change.now.before change.now.after ≡ stays) }
         ensures changed { OnOk result ((t : AaidValue) → summary_at self.new t ≡ cond (is_in t change.now.before) (summary_after t change.now (summary_at self.old t)) (summary_at self.old t)) }
+        ensures same { OnErr result (self.new ≡ self.old) }
     {
         match &change.before {
             Some(before) => {
@@ -124,7 +128,8 @@ impl TreeSummaries {
     // The summary in the tree after an entry, which was not the tree before it.
     fn change_entered(&mut self, change: &TreeChange) -> Result<(), NoMemory>
         requires { same_tree change.now.before change.now.after ≡ false }
-        ensures { OnOk result ((t : AaidValue) → summary_at self.new t ≡ cond (is_in t change.now.after && not (is_in t change.now.before)) (summary_after t change.now (summary_at self.old t)) (summary_at self.old t)) }
+        ensures changed { OnOk result ((t : AaidValue) → summary_at self.new t ≡ cond (is_in t change.now.after && not (is_in t change.now.before)) (summary_after t change.now (summary_at self.old t)) (summary_at self.old t)) }
+        ensures same { OnErr result (self.new ≡ self.old) }
     {
         match &change.after {
             Some(after) => self.change_in(&after.aaid, false, true, change),
@@ -135,7 +140,8 @@ impl TreeSummaries {
     // The summary in the tree after an entry, unless that was the tree before it.
     fn change_after(&mut self, stays: bool, change: &TreeChange) -> Result<(), NoMemory>
         requires { same_tree change.now.before change.now.after ≡ stays }
-        ensures { OnOk result ((t : AaidValue) → summary_at self.new t ≡ cond (is_in t change.now.after && not (is_in t change.now.before)) (summary_after t change.now (summary_at self.old t)) (summary_at self.old t)) }
+        ensures changed { OnOk result ((t : AaidValue) → summary_at self.new t ≡ cond (is_in t change.now.after && not (is_in t change.now.before)) (summary_after t change.now (summary_at self.old t)) (summary_at self.old t)) }
+        ensures same { OnErr result (self.new ≡ self.old) }
     {
         if stays {
             return Ok(());
@@ -146,7 +152,8 @@ impl TreeSummaries {
     // The summary in that tree after an entry, unless it is the tree before the entry or after it.
     #[inline(never)]
     fn change_once(&mut self, tree: &Aaid, change: &TreeChange) -> Result<(), NoMemory>
-        ensures { OnOk result ((t : AaidValue) → summary_at self.new t ≡ cond (is_aaid t tree.now && not (stood_in t change.now)) (summary_after t change.now (summary_at self.old t)) (summary_at self.old t)) }
+        ensures changed { OnOk result ((t : AaidValue) → summary_at self.new t ≡ cond (is_aaid t tree.now && not (stood_in t change.now)) (summary_after t change.now (summary_at self.old t)) (summary_at self.old t)) }
+        ensures same { OnErr result (self.new ≡ self.old) }
     {
         if stood_in(tree, change) {
             return Ok(());
@@ -156,7 +163,8 @@ impl TreeSummaries {
 
     // The summary in the tree of which an entry logs, unless it is the tree before the entry or after it.
     fn change_logged(&mut self, change: &TreeChange) -> Result<(), NoMemory>
-        ensures { OnOk result ((t : AaidValue) → summary_at self.new t ≡ cond (is_that t (tree_logged change.now.rec) && not (stood_in t change.now)) (summary_after t change.now (summary_at self.old t)) (summary_at self.old t)) }
+        ensures changed { OnOk result ((t : AaidValue) → summary_at self.new t ≡ cond (is_that t (tree_logged change.now.rec) && not (stood_in t change.now)) (summary_after t change.now (summary_at self.old t)) (summary_at self.old t)) }
+        ensures same { OnErr result (self.new ≡ self.old) }
     {
         match tree_logged(&change.rec) {
             Some(tree) => self.change_once(tree, change),
@@ -164,10 +172,13 @@ impl TreeSummaries {
         }
     }
 
-    /// The summaries after an entry, which speaks of at most three trees, mostly one.
+    /// The summaries after an entry, which speaks of at most three trees, mostly one. Without memory the summaries in other trees
+    /// stay what they were.
     #[inline(always)]
+    #[tactic(auto, using(crate::proofs::Changes::untouched_at_once, crate::proofs::Changes::untouched_by_first, crate::proofs::Changes::untouched_by_second))]
     pub fn change(&mut self, change: &TreeChange) -> Result<(), NoMemory>
-        ensures { OnOk result ((t : AaidValue) → summary_at self.new t ≡ summary_after t change.now (summary_at self.old t)) }
+        ensures changed { OnOk result ((t : AaidValue) → summary_at self.new t ≡ summary_after t change.now (summary_at self.old t)) }
+        ensures rest { OnErr result ((t : AaidValue) → speaks_of t change.now ≡ false → summary_at self.new t ≡ summary_at self.old t) }
     {
         let stays = self.change_before(change)?;
         self.change_after(stays, change)?;

@@ -130,15 +130,6 @@ impl TreeSummary {
         rolled: false,
     };
 
-    /// What it is after an entry.
-    pub fn after(self, tree: &Aaid, change: &TreeChange) -> TreeSummary
-        ensures { result ≡ summary_after tree.now change.now self }
-    {
-        let is_before = is_in(tree, &change.before);
-        let is_after = is_in(tree, &change.after);
-        self.after_in(tree, is_before, is_after, change)
-    }
-
     // What it is after an entry, of a tree that is known to be the current one or not before the entry and after it.
     #[inline(always)]
     pub(crate) fn after_in(

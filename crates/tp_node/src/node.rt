@@ -31,7 +31,7 @@ ghost use Rattle.tp_node.specs.Calls.{offer_of, offer_on, answered, begun_under}
 ghost use Rattle.tp_model.specs.Parts.{Opening, Offered, Live};
 ghost use Rattle.tp_model.specs.declared.arc.Side.{Side};
 ghost use Rattle.tp_tree.specs.Invocation.{with_arc};
-ghost use Rattle.tp_node.specs.Halt.{OnSpent};
+ghost use Rattle.tp_node.specs.Halt.{OnSpent, IsHalted};
 ghost use Rattle.tp_node.specs.Begins.{aaid_in, with_branch, begun_on, has_place_below, with_digest, may_start};
 ghost use Rattle.tp_model.specs.declared.refusal.Refusal.TheVariants.{NoDialogue, NoTransaction};
 
@@ -175,9 +175,10 @@ impl Node {
         }
     }
 
-    /// Forget is noted of the kept transaction of that key.
+    /// Forget is noted of the kept transaction of that key. Without memory nothing changes.
     pub fn note_forget(&mut self, alloc: Global, key: &NodeKey) -> Result<(), NoMemory>
-        ensures { OnOk result (self.new ≡ with_digest self.old (record self.old.digest { kept = with_forget self.old.digest.kept key.now (λ x. noted x KeptEvent.Forget) })) }
+        ensures noted { OnOk result (self.new ≡ with_digest self.old (record self.old.digest { kept = with_forget self.old.digest.kept key.now (λ x. noted x KeptEvent.Forget) })) }
+        ensures same { OnErr result (self.new ≡ self.old) }
     {
         kept::note_forget(alloc, &mut self.kept, key)
     }
@@ -688,6 +689,7 @@ impl Node {
         ensures arcs { (rec : RecordValue) → OnOk result (self.new ≡ with_arcs self.old (carried self.old.digest.arcs peer rec).0) }
         ensures out { (rec : RecordValue) → IfOk result (λ next. outs_with next rec ≡ (carried self.old.digest.arcs peer rec).1) }
         ensures spent { (rec : RecordValue) → OnErr result (some_past_numbers (carried self.old.digest.arcs peer rec).1 ≡ true) }
+        ensures same { OnErr result (self.new ≡ self.old) }
     {
         let Some(arcs) = &mut self.arcs else {
             return Ok(None);
@@ -700,6 +702,7 @@ impl Node {
         ensures mark { IfOk result (λ mark. mark ≡ next_mark self.old.who self.old.digest) }
         ensures drawn { OnOk result (self.new ≡ record self.old { digest = with_mark_drawn self.old.digest }) }
         ensures spent { OnErr result (self.old.digest.drawn ≡ greatest) }
+        ensures same { OnErr result (self.new ≡ self.old) }
     {
         let mut counter = Counter::from(self.boot, self.number, self.drawn);
         let mark = counter.draw()?;
@@ -719,11 +722,12 @@ impl Node {
         }
     }
 
-    /// Adds a branch to the current transaction, after the others.
+    /// Adds a branch to the current transaction, after the others. Without memory nothing changes.
     #[tactic(auto, using(crate::proofs::Beginnings::branches_more))]
     fn add_branch(&mut self, child: &Child) -> Result<(), NoMemory>
         ensures added { OnOk result (self.new ≡ with_digest self.old (record self.old.digest { current = with_branch child.now self.old.digest.current })) }
         ensures memory { has_place_below self.old.digest.current ≡ true → result ≡ Ok tt }
+        ensures same { OnErr result (self.new ≡ self.old) }
     {
         let Some(branch) = &mut self.current else {
             return Ok(());
@@ -731,7 +735,8 @@ impl Node {
         branch.add(child)
     }
 
-    /// A transaction of that key begins: active, without a branch. It has the memory of one that is spared.
+    /// A transaction of that key begins: active, without a branch. It has the memory of one that is spared. Without memory the
+    /// node stays what it was.
     #[inline(always)]
     pub fn begin_transaction(
         &mut self,
@@ -741,7 +746,8 @@ impl Node {
         superior: &Option<Addr>,
     ) -> Result<(), NoMemory>
         requires { IsTrue (has_superior key.now superior.now) }
-        ensures { OnOk result (self.new ≡ with_digest self.old (record self.old.digest { current = Some (fresh_current (key_from key.now superior.now)) })) }
+        ensures begun { OnOk result (self.new ≡ with_digest self.old (record self.old.digest { current = Some (fresh_current (key_from key.now superior.now)) })) }
+        ensures same { OnErr result (self.new ≡ self.old) }
     {
         self.current = Some(spare.begin(alloc, self.number, key, superior)?);
         Ok(())
@@ -824,9 +830,10 @@ impl Node {
         kept::copies(alloc, &self.kept)
     }
 
-    /// What a record of the log makes of the kept transactions.
+    /// What a record of the log makes of the kept transactions. Without memory nothing changes.
     pub fn keep(&mut self, alloc: Global, rec: &Option<LogRec>) -> Result<(), NoMemory>
-        ensures { OnOk result (self.new ≡ with_digest self.old (record self.old.digest { kept = kept_after rec.now self.old.digest.kept })) }
+        ensures kept { OnOk result (self.new ≡ with_digest self.old (record self.old.digest { kept = kept_after rec.now self.old.digest.kept })) }
+        ensures same { OnErr result (self.new ≡ self.old) }
     {
         match rec {
             None => Ok(()),
@@ -846,7 +853,8 @@ impl Node {
         }
     }
 
-    /// A new dialogue is asked for: its arc stands after the others, and its association is offered with a new mark.
+    /// A new dialogue is asked for: its arc stands after the others, and its association is offered with a new mark. Where the
+    /// counter is spent nothing changes; where memory runs out a mark is drawn, and nothing else changes.
     pub fn call(&mut self, addr: Addr, units: Units) -> Result<Mark, Halt>
         requires declared { self.old.digest.declared ≡ true }
         requires other { find_arc self.old.digest.arcs addr.node ≡ None }
@@ -855,6 +863,7 @@ impl Node {
         ensures mark { IfOk result (λ x. x ≡ next_mark self.old.who self.old.digest) }
         ensures node { IfOk result (λ x. self.new ≡ with_digest self.old (record (with_mark_drawn self.old.digest) { arcs = self.old.digest.arcs ++ new_arc addr units Side.Superior (Opening x) ∷ [] })) }
         ensures spent { OnSpent result (self.old.digest.drawn ≡ greatest) }
+        ensures halted { IsHalted result self.old self.new }
     {
         let x = self.draw()?;
         let mut link = Link::idle();
@@ -884,6 +893,7 @@ impl Node {
         ensures mark { IfOk result (λ y. y ≡ next_mark self.old.who self.old.digest) }
         ensures node { IfOk result (λ y. self.new ≡ with_digest self.old (answered (arc_of tie.now) units Side.Subordinate (Live x y 0 0) (with_mark_drawn self.old.digest))) }
         ensures spent { OnErr result (self.old.digest.drawn ≡ greatest) }
+        ensures same { OnErr result (self.new ≡ self.old) }
     {
         let y = self.draw()?;
         let mut link = tie.link;
@@ -892,12 +902,13 @@ impl Node {
         Ok(y)
     }
 
-    /// The superior offers a dialogue: its arc stands before the others.
+    /// The superior offers a dialogue: its arc stands before the others. Without memory nothing changes.
     pub fn open(&mut self, from: Addr, x: Mark, units: Units) -> Result<(), NoMemory>
         requires declared { self.old.digest.declared ≡ true }
         requires other { find_arc self.old.digest.arcs from.node ≡ None }
         requires side { Side.Subordinate ≡ side_at self.old.digest from.node }
-        ensures { OnOk result (self.new ≡ with_arcs self.old (new_arc from units Side.Subordinate (Offered x) ∷ self.old.digest.arcs)) }
+        ensures opened { OnOk result (self.new ≡ with_arcs self.old (new_arc from units Side.Subordinate (Offered x) ∷ self.old.digest.arcs)) }
+        ensures same { OnErr result (self.new ≡ self.old) }
     {
         let mut link = Link::idle();
         link.offered(x);
@@ -949,7 +960,8 @@ impl Node {
         requires side { side ≡ side_at self.old.digest addr.node }
         requires place { has_place_at side self.old.digest ≡ true }
         requires link { fits_link side link ≡ true }
-        ensures { OnOk result (self.new ≡ with_arcs self.old (with_arc side (new_arc addr units side link) self.old.digest.arcs)) }
+        ensures added { OnOk result (self.new ≡ with_arcs self.old (with_arc side (new_arc addr units side link) self.old.digest.arcs)) }
+        ensures same { OnErr result (self.new ≡ self.old) }
     {
         let Some(arcs) = &mut self.arcs else {
             unreachable!()
@@ -1009,7 +1021,7 @@ impl Node {
         self.put_dialogue(peer, dialogue);
     }
 
-    /// The superior's transaction begins, as the branch of that identifier.
+    /// The superior's transaction begins, as the branch of that identifier. Without memory the node stays what it was.
     pub fn begin_under(
         &mut self,
         alloc: Global,
@@ -1020,14 +1032,16 @@ impl Node {
         holder: Holder,
     ) -> Result<(), NoMemory>
         requires { Side.Subordinate ≡ side_at self.old.digest superior.now.node }
-        ensures { OnOk result (self.new ≡ with_digest self.old (begun_under superior.now aaid.now branch.now holder self.old.digest)) }
+        ensures begun { OnOk result (self.new ≡ with_digest self.old (begun_under superior.now aaid.now branch.now holder self.old.digest)) }
+        ensures same { OnErr result (self.new ≡ self.old) }
     {
-        self.begin_dialogue(superior.node, holder);
         let key = NodeKey {
             aaid: *aaid,
             branch: Some(*branch),
         };
-        self.begin_transaction(alloc, spare, &key, &Some(*superior))
+        self.begin_transaction(alloc, spare, &key, &Some(*superior))?;
+        self.begin_dialogue(superior.node, holder);
+        Ok(())
     }
 
     /// A record with that pair and number is taken on the arc with that peer; any but a response ends the arc's rest.
@@ -1045,7 +1059,7 @@ impl Node {
 
     /// A branch begins on the arc with that peer, where Begin may be sent: it has a new identifier, and control is
     /// where its holder is. Gives the record that is to go out. It takes no memory where the transaction has fewer than 256
-    /// branches.
+    /// branches. Where the counter is spent nothing changes; where memory runs out a mark is drawn, and nothing else changes.
     #[inline(always)]
     #[tactic(auto, using(crate::proofs::Beginnings::begun_record, crate::proofs::Beginnings::begun_spent))]
     pub fn begin_branch(&mut self, peer: u16) -> Result<Option<DialogueRecord>, Halt>
@@ -1053,6 +1067,7 @@ impl Node {
         ensures rec { IfOk result (λ rec. rec ≡ (begun_on self.old.who peer self.old.digest).1) }
         ensures spent { OnSpent result (nat_lt greatest (begun_on self.old.who peer self.old.digest).0.drawn ≡ true) }
         ensures memory { has_place_below self.old.digest.current ≡ true → IfErr result (λ halt. halt ≡ Halt.NumbersSpent) }
+        ensures halted { IsHalted result self.old self.new }
     {
         let Some(aaid) = self.aaid() else {
             return Ok(None);
@@ -1078,7 +1093,7 @@ impl Node {
         }))
     }
 
-    // The branch begins on the arc with that address and dialogue.
+    // The branch begins on the arc with that address and dialogue. Without memory nothing changes.
     #[tactic(auto, unfolding(tp_model::specs::Dialogues::begun_by))]
     fn begin_on(
         &mut self,
@@ -1092,14 +1107,16 @@ impl Node {
           arcs = with_dialogue self.old.digest.arcs addr.now.node (λ _. begun_by (named_holder dialogue.now.dialogue) dialogue.now.side dialogue.now.dialogue);
           current = with_branch (record { addr = addr.now; branch = branch.now }) self.old.digest.current;
         })) }
+        ensures same { OnErr result (self.new ≡ self.old) }
     {
-        let mut begun = *dialogue;
-        begun.begin(named_holder(dialogue));
-        self.put_dialogue(addr.node, begun);
         self.add_branch(&Child {
             addr: *addr,
             branch: *branch,
-        })
+        })?;
+        let mut begun = *dialogue;
+        begun.begin(named_holder(dialogue));
+        self.put_dialogue(addr.node, begun);
+        Ok(())
     }
 }
 

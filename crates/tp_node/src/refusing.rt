@@ -175,16 +175,6 @@ impl Node {
         }
     }
 
-    /// Why a record is refused that arrives, but for the want of numbers.
-    pub fn refused_arrival(&self, from: &Addr, rec: &PeerRecord) -> Option<Refusal>
-        ensures { result ≡ refused_arrival self.now.who self.now.digest from.now rec.now }
-    {
-        match self.judge_arrival(from, rec) {
-            Ok(_) => None,
-            Err(refusal) => Some(refusal),
-        }
-    }
-
     // The superior orders the commitment of a branch.
     #[tactic(auto, unfolding(tp_model::specs::Arrivals::refused_arrival))]
     fn refused_order(&self, from: &Addr, aaid: &Aaid, branch: &BranchId) -> Option<Refusal>

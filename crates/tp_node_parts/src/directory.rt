@@ -1,5 +1,5 @@
 //! Where the arcs of a node stand, by their peers.
-ghost use Rattle.std.specs.Prelude.{◌≡◌, [], OnOk};
+ghost use Rattle.std.specs.Prelude.{◌≡◌, [], OnOk, OnErr};
 ghost use Rattle.tp_node_parts.specs.Directory.{place_in};
 
 use indexmap::IndexSet;
@@ -35,7 +35,8 @@ impl Directory {
 
     /// Becomes the same one, shared.
     pub(crate) fn copy_from(&mut self, other: &Directory) -> Result<(), NoMemory>
-        ensures { OnOk result (self.new ≡ other.now) }
+        ensures copy { OnOk result (self.new ≡ other.now) }
+        ensures same { OnErr result (self.new ≡ self.old) }
     {
         match &other.peers {
             None => self.forget(),

@@ -1,5 +1,5 @@
 //! The kept transactions of a node: what a record of the log makes of them.
-ghost use Rattle.std.specs.Prelude.{◌≡◌, ◌||◌, IfOk, OnOk};
+ghost use Rattle.std.specs.Prelude.{◌≡◌, ◌||◌, IfOk, OnOk, OnErr};
 ghost use Rattle.tp_model.specs.Recovery.{is_commit, with_forget, noted, kept_by, put_kept};
 ghost use Rattle.tp_model.specs.declared.recovery.KeptEvent.{KeptEvent};
 
@@ -12,7 +12,8 @@ use tp_names::{Children, NoMemory, NodeKey, Outcome};
 // Takes the place of the one with its key, whose Forget stays noted, or stands after the others.
 #[tactic(auto, using(crate::proofs::KeptPlaces::put_new, crate::proofs::KeptPlaces::put_again))]
 fn put(alloc: Global, kept: &mut KeptTable, next: Kept) -> Result<(), NoMemory>
-    ensures { OnOk result (kept.new ≡ put_kept kept.old next) }
+    ensures put { OnOk result (kept.new ≡ put_kept kept.old next) }
+    ensures same { OnErr result (kept.new ≡ kept.old) }
 {
     let forgot = match kept.find(&next.key) {
         None => next.forgot,
@@ -51,10 +52,11 @@ fn is_forgotten(kept: &Kept) -> bool
     kept.side == Outcome::Commit || kept.forgot
 }
 
-/// Forget is noted of the one with that key, where there is one and it is a commitment.
+/// Forget is noted of the one with that key, where there is one and it is a commitment. Without memory nothing changes.
 #[tactic(auto, using(crate::proofs::KeptPlaces::noted_not, crate::proofs::KeptPlaces::noted_there))]
 pub fn note_forget(alloc: Global, kept: &mut KeptTable, key: &NodeKey) -> Result<(), NoMemory>
-    ensures { OnOk result (kept.new ≡ with_forget kept.old key.now (λ x. noted x KeptEvent.Forget)) }
+    ensures noted { OnOk result (kept.new ≡ with_forget kept.old key.now (λ x. noted x KeptEvent.Forget)) }
+    ensures same { OnErr result (kept.new ≡ kept.old) }
 {
     let Some(one) = kept.find(key) else {
         return Ok(());
@@ -78,10 +80,11 @@ pub fn copies(alloc: Global, kept: &KeptTable) -> Result<Vec<Kept>, NoMemory>
     Ok(copies)
 }
 
-/// What a record makes of the kept transactions: a Damage keeps its key, and an End lets it go.
+/// What a record makes of the kept transactions: a Damage keeps its key, and an End lets it go. Without memory nothing changes.
 #[tactic(auto, unfolding(tp_model::specs::Recovery::kept_by))]
 pub fn keep(alloc: Global, kept: &mut KeptTable, rec: &LogRec) -> Result<(), NoMemory>
-    ensures { OnOk result (kept.new ≡ kept_by rec.now kept.old) }
+    ensures kept { OnOk result (kept.new ≡ kept_by rec.now kept.old) }
+    ensures same { OnErr result (kept.new ≡ kept.old) }
 {
     match rec {
         LogRec::Damage {

@@ -1,5 +1,5 @@
 //! The kept transactions of a node, which its copies share.
-ghost use Rattle.std.specs.Prelude.{◌≡◌, ◌<◌, ◌^◌, length, slice_get, [], Some, IfOk, OnOk};
+ghost use Rattle.std.specs.Prelude.{◌≡◌, ◌<◌, ◌^◌, length, slice_get, [], Some, IfOk, OnOk, OnErr};
 ghost use Rattle.std.specs.Option.{option_copied};
 ghost use Rattle.tp_model.specs.Recovery.{find_kept, without_kept};
 ghost use Rattle.tp_node_parts.specs.Kept.{with_kept, place_of_key};
@@ -139,7 +139,8 @@ impl KeptTable {
     /// memory, there is none for this one.
     #[tactic(auto, using(crate::proofs::KeptPlaces::put_put))]
     pub(crate) fn put(&mut self, alloc: Global, kept: Kept) -> Result<(), NoMemory>
-        ensures { OnOk result (self.new ≡ with_kept self.old kept) }
+        ensures put { OnOk result (self.new ≡ with_kept self.old kept) }
+        ensures same { OnErr result (self.new ≡ self.old) }
     {
         match &self.change {
             None => {}
@@ -156,7 +157,8 @@ impl KeptTable {
     /// none for this one.
     #[tactic(auto, using(crate::proofs::KeptPlaces::put_removed))]
     pub(crate) fn remove(&mut self, key: &NodeKey) -> Result<(), NoMemory>
-        ensures { OnOk result (self.new ≡ without_kept self.old key.now) }
+        ensures removed { OnOk result (self.new ≡ without_kept self.old key.now) }
+        ensures same { OnErr result (self.new ≡ self.old) }
     {
         match &self.change {
             None => {}

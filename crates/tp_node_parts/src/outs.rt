@@ -1,5 +1,5 @@
 //! The outputs of a node.
-ghost use Rattle.std.specs.Prelude.{◌≡◌, ◌<◌, [], ◌∷◌, ◌++◌, OnOk, Some, map, vec_len, vec_capacity};
+ghost use Rattle.std.specs.Prelude.{◌≡◌, ◌<◌, [], ◌∷◌, ◌++◌, OnOk, OnErr, Some, map, vec_len, vec_capacity};
 ghost use Rattle.tp_model.specs.Parts.{Tell, Send};
 ghost use Rattle.tp_model.specs.Events.{is_past_numbers, some_past_numbers, says_nothing};
 ghost use Rattle.tp_node_parts.specs.Outs.{out_of, outs_of_option, outs_with};
@@ -52,10 +52,11 @@ impl Outs {
         }
     }
 
-    /// Puts an output at the end.
+    /// Puts an output at the end. Without memory nothing changes, as in the calls below.
     #[inline(always)]
     pub fn push(&mut self, out: Out) -> Result<(), NoMemory>
-        ensures { OnOk result (self.new ≡ self.old ++ out_of out ∷ []) }
+        ensures added { OnOk result (self.new ≡ self.old ++ out_of out ∷ []) }
+        ensures same { OnErr result (self.new ≡ self.old) }
     {
         make_room(&mut self.items)?;
         self.items.push_reserved(out);
@@ -64,7 +65,8 @@ impl Outs {
 
     /// Puts an output at the end, where there is one.
     pub fn extend(&mut self, out: Option<Out>) -> Result<(), NoMemory>
-        ensures { OnOk result (self.new ≡ self.old ++ outs_of_option out) }
+        ensures added { OnOk result (self.new ≡ self.old ++ outs_of_option out) }
+        ensures same { OnErr result (self.new ≡ self.old) }
     {
         match out {
             None => Ok(()),
@@ -75,7 +77,8 @@ impl Outs {
     /// An indication to the user.
     #[inline(always)]
     pub fn tell(&mut self, indication: Indication) -> Result<(), NoMemory>
-        ensures { OnOk result (self.new ≡ self.old ++ Tell indication ∷ []) }
+        ensures added { OnOk result (self.new ≡ self.old ++ Tell indication ∷ []) }
+        ensures same { OnErr result (self.new ≡ self.old) }
     {
         make_room(&mut self.items)?;
         self.items.push_reserved(Out::Tell(indication));
@@ -84,7 +87,8 @@ impl Outs {
 
     /// A record to another node.
     pub fn send(&mut self, to: Addr, rec: PeerRecord) -> Result<(), NoMemory>
-        ensures { OnOk result (self.new ≡ self.old ++ Send to rec ∷ []) }
+        ensures added { OnOk result (self.new ≡ self.old ++ Send to rec ∷ []) }
+        ensures same { OnErr result (self.new ≡ self.old) }
     {
         make_room(&mut self.items)?;
         self.items.push_reserved(Out::Send { to, rec });
@@ -94,7 +98,8 @@ impl Outs {
     /// A record on an association.
     #[inline(always)]
     pub fn carry(&mut self, next: &Next, rec: DialogueRecord) -> Result<(), NoMemory>
-        ensures { OnOk result (self.new ≡ self.old ++ outs_with (Some next.now) rec) }
+        ensures added { OnOk result (self.new ≡ self.old ++ outs_with (Some next.now) rec) }
+        ensures same { OnErr result (self.new ≡ self.old) }
     {
         make_room(&mut self.items)?;
         self.items.push_reserved(Out::Send {

@@ -1,5 +1,5 @@
 //! The lines that close a transcript.
-ghost use Rattle.std.specs.Prelude.{◌≡◌, ◌++◌, ◌∷◌, [], IfOk, OnOk};
+ghost use Rattle.std.specs.Prelude.{◌≡◌, ◌++◌, ◌∷◌, [], IfOk, OnOk, OnErr};
 ghost use Rattle.tp_names.specs.declared.identifiers.Aaid.{Aaid as AaidValue};
 ghost use Rattle.tp_network.specs.TreeOutcomes.{outcomes_in, outcomes_at};
 ghost use Rattle.tp_world_parts.specs.Told.{decides_in, deciders_at, line_by, closing_at};
@@ -41,7 +41,8 @@ fn close_tree(
     nodes: &[NodeSlot],
     lines: &mut OutLines,
 ) -> Result<(), NoMemory>
-    ensures { OnOk result (lines.new ≡ lines.old ++ line_by tree.now nodes.now outcomes ∷ []) }
+    ensures shown { OnOk result (lines.new ≡ lines.old ++ line_by tree.now nodes.now outcomes ∷ []) }
+    ensures same { OnErr result (lines.new ≡ lines.old) }
 {
     let aaid = *tree;
     if outcomes.some_committed && outcomes.some_rolled_back {

@@ -1,5 +1,5 @@
 //! What lines show of records.
-ghost use Rattle.std.specs.Prelude.{◌≡◌, ◌++◌, ◌∷◌, [], Some, IfOk, OnOk};
+ghost use Rattle.std.specs.Prelude.{◌≡◌, ◌++◌, ◌∷◌, [], Some, IfOk, OnOk, OnErr};
 ghost use Rattle.tp_model.specs.declared.out_line.OutLine.{OutLine};
 ghost use Rattle.tp_model.specs.declared.out_line.SentWords.{SentWords};
 ghost use Rattle.tp_model.specs.Happenings.{log_shown, sent_shown, refused_lines};
@@ -110,14 +110,15 @@ fn sent_shown(alloc: Global, rec: &PeerRecord) -> Result<SentWords, NoMemory>
     })
 }
 
-/// An indication of that node is shown.
+/// An indication of that node is shown. Without memory the lines stay what they were, as in the calls below.
 pub fn show_told(
     alloc: Global,
     node: u16,
     indication: &Indication,
     lines: &mut OutLines,
 ) -> Result<(), NoMemory>
-    ensures { OnOk result (lines.new ≡ lines.old ++ OutLine.Tell node indication.now ∷ []) }
+    ensures shown { OnOk result (lines.new ≡ lines.old ++ OutLine.Tell node indication.now ∷ []) }
+    ensures same { OnErr result (lines.new ≡ lines.old) }
 {
     lines.push(
         alloc,
@@ -137,7 +138,8 @@ pub fn show_sent(
     rec: &PeerRecord,
     lines: &mut OutLines,
 ) -> Result<(), NoMemory>
-    ensures { OnOk result (lines.new ≡ lines.old ++ OutLine.Send frame from to (sent_shown rec.now) ∷ []) }
+    ensures shown { OnOk result (lines.new ≡ lines.old ++ OutLine.Send frame from to (sent_shown rec.now) ∷ []) }
+    ensures same { OnErr result (lines.new ≡ lines.old) }
 {
     match rec {
         PeerRecord::OnAssoc { seq, rec, .. } => {
@@ -157,7 +159,8 @@ fn show_said(
     rec: &DialogueRecord,
     lines: &mut OutLines,
 ) -> Result<(), NoMemory>
-    ensures { OnOk result (lines.new ≡ lines.old ++ OutLine.Send frame from to (SentWords.OnAssoc seq rec.now) ∷ []) }
+    ensures shown { OnOk result (lines.new ≡ lines.old ++ OutLine.Send frame from to (SentWords.OnAssoc seq rec.now) ∷ []) }
+    ensures same { OnErr result (lines.new ≡ lines.old) }
 {
     lines.push(
         alloc,
@@ -182,7 +185,8 @@ fn show_other(
     rec: &PeerRecord,
     lines: &mut OutLines,
 ) -> Result<(), NoMemory>
-    ensures { OnOk result (lines.new ≡ lines.old ++ OutLine.Send frame from to (sent_shown rec.now) ∷ []) }
+    ensures shown { OnOk result (lines.new ≡ lines.old ++ OutLine.Send frame from to (sent_shown rec.now) ∷ []) }
+    ensures same { OnErr result (lines.new ≡ lines.old) }
 {
     lines.push(
         alloc,
@@ -197,7 +201,8 @@ fn show_other(
 
 /// A refusal by that number is shown.
 pub fn show_refused(alloc: Global, number: u8, lines: &mut OutLines) -> Result<(), NoMemory>
-    ensures { OnOk result (lines.new ≡ lines.old ++ refused_lines (Some number)) }
+    ensures shown { OnOk result (lines.new ≡ lines.old ++ refused_lines (Some number)) }
+    ensures same { OnErr result (lines.new ≡ lines.old) }
 {
     lines.push(alloc, refused_shown(number))
 }
@@ -268,7 +273,8 @@ pub fn show_boot(
     boot: Option<u64>,
     lines: &mut OutLines,
 ) -> Result<(), NoMemory>
-    ensures { OnOk result (lines.new ≡ lines.old ++ boot_lines site boot) }
+    ensures shown { OnOk result (lines.new ≡ lines.old ++ boot_lines site boot) }
+    ensures same { OnErr result (lines.new ≡ lines.old) }
 {
     match boot {
         None => Ok(()),
@@ -287,7 +293,8 @@ pub fn show_record(
     rec: &Option<LogWords>,
     lines: &mut OutLines,
 ) -> Result<(), NoMemory>
-    ensures { OnOk result (lines.new ≡ lines.old ++ forced_lines at.now.site rec.now) }
+    ensures shown { OnOk result (lines.new ≡ lines.old ++ forced_lines at.now.site rec.now) }
+    ensures same { OnErr result (lines.new ≡ lines.old) }
 {
     match rec {
         None => Ok(()),
@@ -303,7 +310,8 @@ fn show_forced(
     rec: &LogWords,
     lines: &mut OutLines,
 ) -> Result<(), NoMemory>
-    ensures { OnOk result (lines.new ≡ lines.old ++ OutLine.Log site rec.now ∷ []) }
+    ensures shown { OnOk result (lines.new ≡ lines.old ++ OutLine.Log site rec.now ∷ []) }
+    ensures same { OnErr result (lines.new ≡ lines.old) }
 {
     lines.push(alloc, OutLine::Log { site, rec: *rec })
 }
@@ -314,7 +322,8 @@ pub fn show_refusal(
     refusal: Option<Refusal>,
     lines: &mut OutLines,
 ) -> Result<(), NoMemory>
-    ensures { OnOk result (lines.new ≡ lines.old ++ refused_lines (number_in refusal)) }
+    ensures shown { OnOk result (lines.new ≡ lines.old ++ refused_lines (number_in refusal)) }
+    ensures same { OnErr result (lines.new ≡ lines.old) }
 {
     match refusal {
         None => Ok(()),

@@ -288,7 +288,8 @@ impl SiteSlot {
         }
     }
 
-    /// The node is declared. No record is forced for it: all that it wants is memory.
+    /// The node is declared. No record is forced for it: all that it wants is memory. Without memory nothing is said of the site:
+    /// the world has ended, and is thrown away.
     pub(crate) fn declare(
         &mut self,
         alloc: Global,

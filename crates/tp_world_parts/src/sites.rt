@@ -103,7 +103,8 @@ fn site_or_new(
     Ok((place, Some(boot)))
 }
 
-/// A node is declared at that address. Where its site is new, that starts on a fresh log, and its boot number is told.
+/// A node is declared at that address. Where its site is new, that starts on a fresh log, and its boot number is told. Without
+/// memory nothing is said of the sites: the world has ended, and they are thrown away.
 pub fn declare_at(
     alloc: Global,
     sites: &mut Vec<SiteSlot>,

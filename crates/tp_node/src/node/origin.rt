@@ -1,10 +1,12 @@
 //! How a node comes to be: from the records of a log, by its declaration, and as a copy of another.
-ghost use Rattle.std.specs.Prelude.{◌≡◌, false, true, [], None, Some, IfOk, OnOk, OnErr, nat_lt};
+ghost use Rattle.std.specs.Prelude.{◌≡◌, false, true, List, [], None, Some, IfOk, OnOk, OnErr, nat_lt};
 ghost use Rattle.std.specs.Option.{option_map};
 ghost use Rattle.tp_logrec.specs.Order.{is_commit, is_ready};
 ghost use Rattle.tp_model.specs.Links.{greatest};
 ghost use Rattle.tp_model.specs.Events.{started, current_by, decision_of, without_current};
 ghost use Rattle.tp_node.specs.Begins.{with_digest};
+ghost use Rattle.tp_model.specs.Recovery.{kept_by};
+ghost use Rattle.tp_model.specs.declared.recovery.Kept.{Kept as KeptValue};
 ghost use Rattle.tp_node.specs.Node.{current_of, unboxed, recovered_by};
 
 use crate::node::Node;
@@ -107,10 +109,13 @@ impl Node {
         Ok(Some(Box::new(alloc, branch)?))
     }
 
-    // What a record makes of the current transaction.
+    // What a record makes of the current transaction. Memory is wanting for a Ready and a Commit alone, which make nothing of the
+    // kept transactions; nothing changes then.
     fn recover_current(&mut self, alloc: Global, rec: &LogRec) -> Result<(), NoMemory>
         ensures who { self.new.who ≡ self.old.who }
         ensures current { OnOk result (self.new ≡ with_digest self.old (record self.old.digest { current = current_by rec.now self.old.digest.current })) }
+        ensures same { OnErr result (self.new ≡ self.old) }
+        ensures unkept { (ks : List KeptValue) → OnErr result (kept_by rec.now ks ≡ ks) }
     {
         match rec {
             LogRec::Boot { .. } => {}
@@ -126,13 +131,14 @@ impl Node {
         Ok(())
     }
 
-    /// One more record of the node in the log.
+    /// One more record of the node in the log. Without memory nothing changes.
     pub fn recover(&mut self, alloc: Global, rec: &LogRec) -> Result<(), NoMemory>
         ensures recovered { OnOk result (self.new.digest ≡ recovered_by rec.now self.old.digest) }
         ensures who { self.new.who ≡ self.old.who }
+        ensures same { OnErr result (self.new ≡ self.old) }
     {
-        self.recover_current(alloc, rec)?;
         kept::keep(alloc, &mut self.kept, rec)?;
+        self.recover_current(alloc, rec)?;
         self.kept.settle(alloc);
         self.known = self.current.is_some() || self.kept.len() > 0;
         Ok(())
@@ -151,14 +157,16 @@ impl Node {
     }
 
     /// Becomes equal to that one, in the memory that it has where that is enough. The kept transactions are shared. A
-    /// transaction that it has no more is spared for the next one.
+    /// transaction that it has no more is spared for the next one. Without memory its transaction may be another, and the rest
+    /// of it stays what it was.
     pub fn copy_from(
         &mut self,
         alloc: Global,
         other: &Node,
         spare: &mut Spare,
     ) -> Result<(), NoMemory>
-        ensures { OnOk result (self.new ≡ other.now) }
+        ensures copy { OnOk result (self.new ≡ other.now) }
+        ensures rest { OnErr result (self.new ≡ with_digest self.old (record self.old.digest { current = self.new.digest.current })) }
     {
         let kept = other.kept.copy(alloc)?;
         copy_current(alloc, &mut self.current, &other.current, spare)?;
@@ -174,7 +182,7 @@ impl Node {
     }
 }
 
-// Without memory the transaction may be any.
+// Without memory the transaction may be any: the copy is thrown away.
 fn copy_current(
     alloc: Global,
     own: &mut Option<Box<Branch>>,

@@ -16,7 +16,7 @@ loop-key-preserved g c = record {
       let first : c.loop-key.key-iterator ≡ (c.in-Some.key.now, c.in-Some.value.now) ∷ c.next.new.self = search rules in
       let so_far = subst (λ (es : List (Bytes × Bytes)). WritesPart before all (c.loop-key.text ++ key_lines (shown es)) (written c.loop-key.sink)) first (c.loop-key.invariant.so_far before h) in
       let spelled = ap (λ (k : List ℕ). key_line k c.as_slice-in-loop-key.result.now) c.as_slice.ensures.value ∙ ap (λ (v : List ℕ). key_line key v) c.as_slice-in-loop-key.ensures.value in
-      let longer = c.in_ok-write_line.ensures ∙ ap (λ (t : List ℕ). c.loop-key.text ++ t) spelled in
+      let longer = c.in_ok-write_line.ensures.ok ∙ ap (λ (t : List ℕ). c.loop-key.text ++ t) spelled in
       part_more before all c.loop-key.text c.write_line.new.text c.write_long.new.text (key_line key value) (key_lines (shown c.next.new.self)) (written c.loop-key.sink) (written c.write_long.new.sink)
       so_far longer c.in_ok-write_long.ensures.part;
 }
@@ -30,7 +30,7 @@ returns-in_err-write_long-clause-prefix g c = anyway c.from_residual-in_err-writ
     let first : c.loop-key.key-iterator ≡ (c.in-Some.key.now, c.in-Some.value.now) ∷ c.next.new.self = search rules in
     let so_far = subst (λ (es : List (Bytes × Bytes)). WritesPart before all (c.loop-key.text ++ key_lines (shown es)) (written c.loop-key.sink)) first (c.loop-key.invariant.so_far before h) in
     let spelled = ap (λ (k : List ℕ). key_line k c.as_slice-in-loop-key.result.now) c.as_slice.ensures.value ∙ ap (λ (v : List ℕ). key_line key v) c.as_slice-in-loop-key.ensures.value in
-    let longer = c.in_ok-write_line.ensures ∙ ap (λ (t : List ℕ). c.loop-key.text ++ t) spelled in
+    let longer = c.in_ok-write_line.ensures.ok ∙ ap (λ (t : List ℕ). c.loop-key.text ++ t) spelled in
     stops_in before all c.loop-key.text c.write_line.new.text (key_line key value) (key_lines (shown c.next.new.self)) (written c.loop-key.sink) (written c.write_long.new.sink) so_far longer
     c.in_err-write_long.ensures.prefix)
 

@@ -11,4 +11,4 @@ returns c = λ _.
     let v = c.args.node.now in
     let ok : refused_plainly v.who v.digest (Do c.args.request.now) ≡ None = search rules in
     planned v c.args.request c.args.peer c.push.new.self c.requires ok c.in-Some.ensures.sure
-    (c.in_ok-push.ensures {u = tt} ∙ ap (λ (l : List Out). l ++ out_of c.in-Some.out ∷ []) c.clear.ensures ∙ sym c.in-Some.ensures.out)
+    ((c.in_ok-push.ensures {u = tt}).added ∙ ap (λ (l : List Out). l ++ out_of c.in-Some.out ∷ []) c.clear.ensures ∙ sym c.in-Some.ensures.out)

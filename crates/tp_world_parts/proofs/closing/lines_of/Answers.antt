@@ -15,7 +15,7 @@ loop-i-preserved c = λ h.
     let i = c.loop-i.i in
     let before = c.loop-i.lines in
     let after =
-    c.in_ok-close_tree.ensures
+    c.in_ok-close_tree.ensures.shown
     ∙ ap (λ (o : TreeOutcomes). before ++ line_by t xs o ∷ []) (c.at.ensures ∙ h t)
     ∙ ap (λ (a : Aaid). before ++ line_by a xs (outcomes_at xs a) ∷ []) c.index-trees-i.is
     in

@@ -46,5 +46,5 @@ returns c = λ ns first stop within to.
     let s : IsSelf ns c.args.place c.args.nodes.now x = at_self first.site.nodes.site ns c.args.place c.args.nodes.now x to.nodes within (sym (c.at-node.ensures x)) in
     let here : is_name (site_of s.node) first.site.nodes.site ≡ true = is_here ns c.args.place first c.args.nodes.now c.args.next.now x to s c.name.result true c.name.ensures (sym c.is_name.ensures ∙ c.if-not-is_name.false) in
     node_again ns c.args.place first c.args.old.now c.args.lost.now c.args.nodes.now c.args.next.now x stop to s here c.tree_before.result c.tree.result c.in-Happened.refusal c.play.new.entry c.play.new.self c.change.new.self c.change-2.new.self
-    c.tree_before.ensures c.tree.ensures (c.in_ok-change.ensures {u = tt}) (subst (λ (a : Answer). SlotPlays c.args.next.now x.addr.node (Event.Declare x.superior) (Ok (answer_told a c.play.new.entry)) c.play.new.self) c.in-Happened.is (c.in_ok-answer.ensures {u = tt}))
-    (c.in_ok-change-2.ensures {u = tt})
+    c.tree_before.ensures c.tree.ensures (c.in_ok-change.ensures {u = tt}).changed (subst (λ (a : Answer). SlotPlays c.args.next.now x.addr.node (Event.Declare x.superior) (Ok (answer_told a c.play.new.entry)) c.play.new.self) c.in-Happened.is (c.in_ok-answer.ensures {u = tt}))
+    (c.in_ok-change-2.ensures {u = tt}).changed

@@ -16,8 +16,8 @@ change_in-requires-clause-before c =
 pub change_in-requires-clause-after : goal.change_in-requires-clause-after
 change_in-requires-clause-after c = ap (λ (o : Option NodeTree). is_in c.in-Some.after.aaid o) c.in-Some.is ∙ aaid_self c.in-Some.after.aaid
 
-pub returns-in-Some : goal.returns-in-Some
-returns-in-Some c =
+pub returns-in-Some-clause-changed : goal.returns-in-Some-clause-changed
+returns-in-Some-clause-changed c =
     let s = c.args.change.now in
     let tree = c.in-Some.after in
     let new : is_in tree.aaid s.before ≡ false = left_behind s.before tree (ap (λ (o : Option NodeTree). same_tree s.before o) (sym c.in-Some.is) ∙ c.requires) in
@@ -26,4 +26,4 @@ returns-in-Some c =
     h t
     ∙ ap (λ (b : Bool). cond b (summary_after t s (summary_at c.args.self.now t)) (summary_at c.args.self.now t))
     (sym (ap (λ (o : Option NodeTree). is_in t o && not (is_in t s.before)) c.in-Some.is ∙ once (λ (v : Aaid). is_in v s.before) t tree.aaid new)))
-    c.change_in.ensures
+    c.change_in.ensures.changed

@@ -10,16 +10,16 @@ use Rattle.tp_network.proofs.tree_summaries.TreeSummaries.change_other.Goals as 
 pub put-requires : goal.put-requires
 put-requires c = has_value c.self.inside.summaries.entries c.insert_full.new.self.entries c.args.tree.now c.after_in-first.result c.in_ok-place.ensures.updates.0
 
-pub returns-in-Some : goal.returns-in-Some
-returns-in-Some c =
+pub returns-in-Some-clause-changed : goal.returns-in-Some-clause-changed
+returns-in-Some-clause-changed c =
     let es = c.self.inside.summaries.entries in
     let a = c.args.tree.now in
     let s = c.args.change.now in
     subst (λ old. (t : Aaid) → summary_at c.put.new.summaries.entries t ≡ cond (is_aaid t a) (summary_after t s (summary_at old t)) (summary_at old t)) c.self.view_is
     (put_again no_summary (λ t. summary_after t s) es c.insert_full.new.self.entries c.put.new.summaries.entries a c.in-Some.older c.after_in-first.result c.after_in-summary.result (sym c.in-Some.is ∙ c.in_ok-place.ensures.old) c.after_in-summary.ensures c.in_ok-place.ensures.updates.0 c.put.ensures)
 
-pub returns-in_default : goal.returns-in_default
-returns-in_default c =
+pub returns-in_default-clause-changed : goal.returns-in_default-clause-changed
+returns-in_default-clause-changed c =
     let es = c.self.inside.summaries.entries in
     let a = c.args.tree.now in
     let s = c.args.change.now in
