@@ -15,3 +15,4 @@ pub mod Settled
 pub mod Shaped
 pub mod Ordered
 pub mod Asked
+pub mod Ahead

@@ -1,4 +1,5 @@
 //! A site: its nodes, over a keeper of its log.
+mod ahead;
 mod event;
 mod resume;
 
