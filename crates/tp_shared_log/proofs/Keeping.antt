@@ -90,6 +90,7 @@ module _ {D : Type 0} (before : Before) (old new : Gathered D) (n m : ℕ) (told
         within = kept.within;
         spent = subst (λ o. stakes < before.shares → (is_some o || is_some unfit) ≡ true) (sym shut) kept.spent;
         no_room = room_on old.journal.gate new.journal.gate unfit (omega (arith, gate)) kept.no_room;
+        fits = λ some. omega (arith, gate, stored.room);
       }
 
   -- the list stays: without a stake, or with one
@@ -107,6 +108,7 @@ module _ {D : Type 0} (before : Before) (old new : Gathered D) (n m : ℕ) (told
       within = omega (arith, fewer, kept.within);
       spent = spent;
       no_room = room;
+      fits = λ some. omega (arith, gate_stays, kept.fits some);
     }
 
     room : HadNoRoom new.journal.gate unfit
@@ -186,4 +188,5 @@ kept_settled before old new n m told told_now forced stakes unfit kept images se
       within = kept.within;
       spent = λ less. settled_spent r n m old.journal new.journal unfit ok refused (kept.spent less);
       no_room = room_on old.journal.gate new.journal.gate unfit (omega (arith, tells.gate)) kept.no_room;
+      fits = λ some. omega (arith, tells.gate, kept.fits some);
     }

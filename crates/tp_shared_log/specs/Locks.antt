@@ -54,3 +54,5 @@ pub record IsKept {D : Type 0} (before : Before) (g : Gathered D) (faults : ℕ)
   pub within : stakes ≤ before.shares
   pub spent : stakes < before.shares → (is_some g.journal.shut || is_some unfit) ≡ true
   pub no_room : HadNoRoom g.journal.gate unfit
+  -- with what was noted the log is within its limit
+  pub fits : 0 < forced → g.journal.gate < most_bytes

@@ -3,6 +3,7 @@
 //! Nobody is answered before the log is closed, so a record is noted under the lock, and settled with those after it: where
 //! much waits, and at the end.
 ghost use Rattle.std.specs.Prelude.{◌≡◌, ◌<◌, ◌≤◌, ◌+◌, ◌||◌, true, length, is_some, None, Some, IfOk, IfErr, OnOk, OnErr};
+ghost use Rattle.tp_journal.specs.Log.{most_bytes};
 ghost use Rattle.tp_journal.specs.Records.{HasText, placed};
 ghost use Rattle.tp_shared_log.specs.Locks.{Extends, ShutRose, HadNoRoom};
 ghost use Rattle.tp_shared_log.specs.Images.{Leaves};
@@ -178,6 +179,7 @@ impl<D: Disk, L: Stood, M: Ledger> Locked<D, L, M> {
         ensures images { Leaves L.story (length L.stood) result.0.wide result.0.list result.0.shut (D.told result.0.disk) }
         ensures spent { stakes.amount < L.shares → (is_some result.0.shut || is_some result.1) ≡ true }
         ensures unfit { HadNoRoom result.0.gate result.1 }
+        ensures room { 0 < all.amount → result.0.gate < most_bytes }
     {
         let Locked {
             journal,

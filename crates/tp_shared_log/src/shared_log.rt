@@ -1,6 +1,7 @@
 //! A journal under a lock, with the records that stood when it was put there.
 ghost use Rattle.std.specs.Prelude.{◌≡◌, ◌<◌, ◌≤◌, ◌||◌, true, length, is_some, None, IfOk, IfErr};
 ghost use Rattle.std.specs.List.{All};
+ghost use Rattle.tp_journal.specs.Log.{most_bytes};
 ghost use Rattle.tp_journal.specs.Records.{HasText, placed};
 ghost use Rattle.tp_shared_log.specs.Locks.{Extends, ShutRose, HadNoRoom};
 ghost use Rattle.tp_shared_log.specs.Images.{Leaves};
@@ -57,8 +58,8 @@ impl<D: Disk, L: Stood, M: Ledger> SharedLog<D, L, M> {
 
     /// Settles what is noted. The journal, and the first record that had no room, go to whoever has all parts again. The
     /// journal has the records that stood and as many more as the amount of the parts. Where the amount of the stakes is
-    /// below the number of shares, the journal is shut, or a record had no room. A crash now leaves the journal's records;
-    /// of a shut one the first of them, at least those that stood.
+    /// below the number of shares, the journal is shut, or a record had no room. A log that has got more records is within its
+    /// limit. A crash now leaves the journal's records; of a shut one the first of them, at least those that stood.
     pub fn close(self, all: Share<L>, stakes: Share<M>) -> (Journal<D>, Option<Unfit>)
         requires all { all.parts ≡ L.parts }
         requires stakes { stakes.parts ≡ M.parts }
@@ -68,6 +69,7 @@ impl<D: Disk, L: Stood, M: Ledger> SharedLog<D, L, M> {
         ensures images { Leaves L.story (length L.stood) result.0.wide result.0.list result.0.shut (D.told result.0.disk) }
         ensures spent { stakes.amount < L.shares → (is_some result.0.shut || is_some result.1) ≡ true }
         ensures unfit { HadNoRoom result.0.gate result.1 }
+        ensures room { 0 < all.amount → result.0.gate < most_bytes }
     {
         let SharedLog {
             stood: _,

@@ -1,5 +1,6 @@
-use Rattle.std.proofs.Common.{◌≡◌, ◌≤◌, ◌||◌, true, is_some, length, sym, ◌∙◌, ap, subst, arith}
+use Rattle.std.proofs.Common.{◌≡◌, ◌≤◌, ◌<◌, ◌||◌, true, is_some, length, sym, ◌∙◌, ap, subst, arith}
 use Rattle.tp_journal.specs.Journals.{Kept}
+use Rattle.tp_journal.specs.Log.{most_bytes}
 use Rattle.tp_journal.specs.Records.{placed}
 use Rattle.tp_shared_log.specs.Locks.{Extends, HadNoRoom, ShutRose, StillTells, stood_as, IsKept}
 use Rattle.tp_shared_log.proofs.Keeping.{kept_settled}
@@ -127,3 +128,23 @@ returns-clause-unfit g c =
     settle_tells g.D.Disk.told (length log.stood) before after n m says.tells kept.settled within says.moments log.story c.settle-settled.result says.ok says.refused says.untouched kept.images in
     let settled = kept_settled log before after n m told told_now forced stakes unfit kept images says.grows says.tells c.settle-settled.result says.ok says.refused in
     subst (λ (v : Kept _). HadNoRoom v.gate unfit) (sym c.into_journal-journal.ensures) settled.no_room
+
+pub returns-clause-room : goal.returns-clause-room
+returns-clause-room g c =
+    let before = c.self.inside.journal in
+    let after = c.settle-settled.new.self in
+    let n = g.D.Disk.fault_count before.journal.disk in
+    let m = g.D.Disk.fault_count after.journal.disk in
+    let told = g.D.Disk.told before.journal.disk in
+    let told_now = g.D.Disk.told after.journal.disk in
+    let log = stood_as g.L.Stood.stood g.L.Stood.faults g.L.Stood.wide g.L.Stood.shares g.L.Stood.story in
+    let forced = c.self.inside.forced.total in
+    let stakes = c.self.inside.stakes.total in
+    let unfit = c.self.inside.unfit in
+    let kept : IsKept log before n told forced stakes unfit = c.self.invariant in
+    let says = c.settle-settled.ensures in
+    let within : before.settled ≤ length before.journal.list = omega (arith, says.grows, says.within, ap length says.tells.list) in
+    let images : StillTells log.story (length log.stood) after.journal.wide after.journal.list told_now =
+    settle_tells g.D.Disk.told (length log.stood) before after n m says.tells kept.settled within says.moments log.story c.settle-settled.result says.ok says.refused says.untouched kept.images in
+    let settled = kept_settled log before after n m told told_now forced stakes unfit kept images says.grows says.tells c.settle-settled.result says.ok says.refused in
+    λ some. subst (λ (v : Kept _). v.gate < most_bytes) (sym c.into_journal-journal.ensures) (settled.fits (omega (arith, some, c.audit.ensures.whole c.requires.all)))

@@ -29,4 +29,5 @@ invariant_of-locked g c =
       within = omega (arith, c.add.ensures.total, c.open-stakes.ensures.total, c.requires.stood.3);
       spent = λ less. absurd (omega (arith, less, c.add.ensures.total, c.open-stakes.ensures.total, c.requires.stood.3));
       no_room = tt;
+      fits = λ some. absurd (omega (arith, some, c.open-forced.ensures.total));
     }
