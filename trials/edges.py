@@ -9,8 +9,11 @@ trials/run edges [--program CMD] [--drive CMD] [--draw CMD] [--short]
   cut, which is left as it is.
 - A run ends with its own status where standard error is closed, full, or has no reader. Where the disk, standard input or standard output
   failed, a second line says which call and why.
+- Where seals are kept a log that was changed, cut, put back from an older copy, or that is another site's, is refused, and left as it is;
+  a log that a site left is not refused, at whatever moment the site, or a compaction, was stopped.
 - A compaction that finds no room leaves the log as long as it was.
-- What is asked about the program is answered on standard output, and wrong words are named.
+- What is asked about the program is answered on standard output, and wrong words are named. With TPNODE_SAY=1 a site says what it
+  starts with.
 
 What wants to be root, and is not, is named and left out.
 """
@@ -68,7 +71,8 @@ class Site:
 class Edges:
     def __init__(self, options: argparse.Namespace, folder: str):
         self.options, self.folder = options, pathlib.Path(folder)
-        names = ["runs", "beside a site", "without a file", "not to be written", "broken standard errors", "causes", "full disks", "words"]
+        names = ["runs", "beside a site", "without a file", "not to be written", "broken standard errors", "causes", "sealed logs",
+                 "spoilt logs", "sealed stops", "full disks", "words"]
         self.counts = dict.fromkeys(names, 0)
         self.faults: typing.List[str] = []
         self.left_out: typing.List[str] = []
@@ -253,6 +257,113 @@ class Edges:
         found = run.returncode, lines[0].split(b": ", 1)[1], lines[1][: len(second)]
         self.expect("%r" % second, found, (status, first, second))
 
+    # Seals.
+
+    def seals(self) -> None:
+        given = {"a": streams.root(4), "b": streams.subordinate(4, damage=True)}
+        files = {name: self.sealed_site(name, streams.stream(bodies)) for name, bodies in given.items()}
+        older, newer = files["b"]
+        drive = [["drive", "--name", "b"]] if self.options.drive else []
+        for words in [SITE, ["compact"], ["migrate"], ["format"]] + READING + drive:
+            self.sealed(words, (older[0], newer[1]), 8, b"the log is shorter than it was sealed")
+        for words in [["tx"], ["node"], ["node", "--name", "c"]] + [["drive", "--name", "c"] for _ in drive]:
+            self.sealed(words, newer, 8, b"the log is sealed for a site of another name")
+        another = newer[0], files["a"][1][1]
+        for words in [["node", "--name", "a"], ["compact"]] + READING:
+            self.sealed(words, another, 8, b"the log has other bytes than it was sealed with")
+        self.sealed(["format"], newer, 8, b"the log has records: without this file it is made anew")
+        self.sealed(SITE, (newer[0], b"x" * 700), 8, b"it is no seal")
+        # Either seal may be lost in a write that was cut off.
+        for at in (0, 512):
+            self.sealed(["show"], (newer[0], newer[1][:at] + bytes(90) + newer[1][at + 90:]), 0, b"")
+        for name in "ab":
+            self.spoilt(files[name][1])
+        self.stopped(newer)
+
+    def sealed_site(self, name: str, given: bytes) -> typing.List[typing.Tuple[bytes, bytes]]:
+        """The log and the seals of a site after its first run, and after another."""
+        folder = self.place()
+        log, seal = folder / "tp.log", folder / "tp.seal"
+        log.write_bytes(wire.FRESH)
+        seal.write_bytes(b"")
+        site = ["node", "--name", name]
+        files = []
+        for bodies in (given, b""):
+            self.expect("a sealed site", self.run(site, folder, bodies).returncode, 0)
+            files.append((log.read_bytes(), seal.read_bytes()))
+        for words in (["compact"], ["migrate"]):
+            self.expect(words[0], [self.run(it, folder).returncode for it in (words, ["show"], site)], [0, 0, 0])
+        folder.joinpath("tp.log").write_bytes(wire.FRESH)
+        self.expect("format of a sealed log that was lost", self.run(["format"], folder).returncode, 8)
+        return files
+
+    def sealed(self, words: typing.List[str], files: typing.Tuple[bytes, bytes], status: int, said: bytes) -> None:
+        """A command on a log and its seals: where it is refused, both stay as they are."""
+        folder = self.place()
+        (folder / "tp.log").write_bytes(files[0])
+        (folder / "tp.seal").write_bytes(files[1])
+        run = self.run(words, folder)
+        self.counts["sealed logs"] += 1
+        lines = run.stderr.split(b"\n")
+        self.expect("%s: %r" % (words[0], said), (run.returncode, lines[1] if said else b""), (status, b"tp.seal: " + said if said else b""))
+        if status == 8:
+            self.expect("%s: the files" % words[0], ((folder / "tp.log").read_bytes(), (folder / "tp.seal").read_bytes()), files)
+        shutil.rmtree(folder)
+
+    def spoilt(self, files: typing.Tuple[bytes, bytes]) -> None:
+        """Every bit of a log is changed, and it is cut at every byte. What stands before the closing gate is sealed; of the gate one
+        bit opens it, and the others mean nothing."""
+        log, seal = files
+        folder = self.place()
+        path = folder / "tp.log"
+        path.write_bytes(log)
+        (folder / "tp.seal").write_bytes(seal)
+        whole = self.run(["show"], folder).stdout
+        front = len(log) - 1
+        step = 37 if self.options.short else 1
+        cases = [(at, log[: at // 8] + bytes([log[at // 8] ^ 1 << at % 8]) + log[at // 8 + 1:]) for at in range(0, 8 * len(log), step)]
+        cases += [(8 * at, log[:at]) for at in range(0, len(log), step)]
+        for at, spoilt in cases:
+            path.write_bytes(spoilt)
+            run = self.run(["show"], folder)
+            self.counts["spoilt logs"] += 1
+            what = "bit %d of %d bytes" % (at, len(spoilt))
+            if at < 8 * front:
+                self.expect(what, (run.returncode, run.stdout, run.stderr.split(b"\n")[1][:17]), (8, b"", b"tp.seal: the log "))
+                self.expect(what + ", the log", path.read_bytes(), spoilt)
+            elif at == 8 * front:
+                self.expect(what, (run.returncode, run.stdout), (5, b""))
+            else:
+                self.expect(what, (run.returncode, run.stdout), (0, whole))
+        self.expect("the seal", (folder / "tp.seal").read_bytes(), seal)
+
+    def stopped(self, files: typing.Tuple[bytes, bytes]) -> None:
+        """A site and a compaction are stopped in each changing call: what they leave is let in again."""
+        library = preload.Library(self.folder)
+        given = b"".join(wire.frame(body) for body in streams.subordinate(2))
+        for words, sent in ((SITE, given), (["compact"], b""), (["migrate"], b"")):
+            for fill in ("old", "new", "mix 1", "any 1"):
+                k = 0
+                while self.stop(library, words, sent, files, "%d %s" % (k + 1, fill)):
+                    k += 1
+                self.expect("calls of %s" % words[0], k > 5, True)
+        library.end()
+
+    def stop(self, library: preload.Library, words: typing.List[str], given: bytes, files: typing.Tuple[bytes, bytes], where: str) -> bool:
+        folder = self.place()
+        (folder / "tp.log").write_bytes(files[0])
+        (folder / "tp.seal").write_bytes(files[1])
+        extra = {"LD_PRELOAD": library.path, "TRIAL_DISK": "tp.log", "TRIAL_STOP": where}
+        run = self.run(words, folder, given, env={**os.environ, **extra})
+        self.counts["sealed stops"] += 1
+        if run.returncode == preload.STOPPED:
+            after = [self.run(it, folder).returncode for it in (["show"], SITE, ["compact"], SITE)]
+            self.expect("%s stopped in %s" % (words[0], where), after, [0, 0, 0, 0])
+        else:
+            self.expect("%s with no stop in %s" % (words[0], where), run.returncode, 0)
+        shutil.rmtree(folder)
+        return run.returncode == preload.STOPPED
+
     # A full disk.
 
     def full_disks(self) -> None:
@@ -306,6 +417,20 @@ class Edges:
             lines = run.stderr.split(b"\n")
             self.expect("%s" % words, (run.returncode, lines[0], named in lines[1]), (2, b"tpnode: usage", True))
 
+    def greetings(self) -> None:
+        events = b"".join(wire.frame(body) for body in streams.subordinate(2))
+        ready = b"".join(wire.frame(body) for body in streams.subordinate(3)[:-2])
+        drive = [["drive", "--name", "b"]] if self.options.drive else []
+        logs = {b"boot 2, 1 records, 0 in doubt": b"", b"boot 2, 7 records, 0 in doubt": events, b"boot 2, 8 records, 1 in doubt": ready}
+        for words in [SITE, ["tx", "--name", "b"]] + drive:
+            for said, given in logs.items():
+                folder = self.place()
+                (folder / "tp.log").write_bytes(wire.FRESH)
+                self.expect("a site", self.run(SITE, folder, given).returncode, 0)
+                run = self.run(words, folder, env={**os.environ, "TPNODE_SAY": "1"})
+                self.counts["words"] += 1
+                self.expect("%s, watched" % words[0], (run.returncode, run.stderr.split(b": ", 1)[-1]), (0, b"site b, " + said + b"\n"))
+
 
 def become_nobody() -> None:
     os.setgroups([])
@@ -329,8 +454,10 @@ def main() -> None:
     trial.not_to_be_written()
     trial.broken_standard_error()
     trial.causes()
+    trial.seals()
     trial.full_disks()
     trial.words()
+    trial.greetings()
     shutil.rmtree(folder)
     for name in trial.left_out:
         print("%s is left out: it wants to be root" % name)

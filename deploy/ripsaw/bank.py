@@ -275,6 +275,7 @@ class Bank:
 def take_back(place: Place) -> int:
     """The wrong site: its log loses the last record at a kill, as though it had answered before it forced."""
     path = place.folder / "tp.log"
+    path.with_name("tp.seal").unlink(missing_ok=True)
     content = path.read_bytes()
     gates = log.places(content)[0]
     if not gates or log.body_at(content, gates[-1])[0] == log.Kind.BOOT:

@@ -26,7 +26,8 @@ from .status import StatusPage
 
 TICK = 0.05
 LOCK_PATIENCE = float(os.environ.get("RIPSAW_LOCK_SECONDS", "30"))
-FOREIGN, LIMIT = 5, 4  # statuses of tpnode
+FOREIGN, LIMIT, DISK = 5, 4, 8  # statuses of tpnode
+REFUSED = ("\ntp.seal: the log ", "\ntp.seal: it is no seal")  # what it says of a log that is not the one which was sealed
 T = TypeVar("T")
 
 
@@ -230,7 +231,7 @@ class Site:
         if status != 0:
             self.counts["ends"] += 1
             self.note(f"tpnode has ended with {status}: {said}")
-        if status == FOREIGN:
+        if status == FOREIGN or (status == DISK and any(it in said for it in REFUSED)):
             raise SiteFailed(f"{self.log}: {said}")
         if self.log.stat().st_size > self.settings.compact_bytes or (status == LIMIT and "limit log" in said):
             await self.compact()

@@ -115,6 +115,7 @@ class World:
         names = list(self.places)
         for name in names:
             self.places[name].folder.mkdir(parents=True)
+            (self.places[name].folder / "tp.seal").touch()
             subprocess.run([self.program, "format"], cwd=self.places[name].folder, check=True)
         if certificates:
             for name in names:

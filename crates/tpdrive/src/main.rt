@@ -11,10 +11,14 @@ use tp_outside::{
     About, Cause, FileDisk, HeldStreams, NULL, StdSink, StdSource, say, say_cause, say_end, tell,
     texts_of, words_given,
 };
+use tp_seal::{Barred, Duty, Guard, Refusal, SealFault};
 use tp_words::{DRIVE_USAGE, drive_complaint, read_drive};
 
 /// The log of the site, in the current folder.
 const LOG: &str = "tp.log";
+
+/// The seals of the log, where this file is in the current folder.
+const SEALS: &str = "tp.seal";
 
 // Ends a run. Why its file or stream failed is said where it is known.
 fn end(rt: &HostRuntime, status: &Status, name: &str, cause: Option<Cause>) -> ExitCode {
@@ -39,6 +43,40 @@ fn say_usage(rt: &HostRuntime, words: &[&str]) {
     say(rt, DRIVE_USAGE);
 }
 
+// Lets the site at its log, where seals are kept.
+fn guard_for<'a>(
+    rt: &'a HostRuntime,
+    words: &[&str],
+    log: &mut FileDisk<'_, HostRuntime>,
+) -> Result<Option<Guard<'a, HostRuntime>>, Barred> {
+    match read_drive(rt.alloc(), words) {
+        Ok(drive) => Guard::admit(rt, SEALS, Duty::Grow(drive.name), log),
+        Err(_) => Ok(None),
+    }
+}
+
+// Ends a run that was not let at its log.
+fn bar(rt: &HostRuntime, barred: &Barred, log_cause: Option<Cause>) -> ExitCode {
+    let status = match barred.refusal {
+        Refusal::Fault(SealFault::NoMemory) => Status::NoMemory,
+        _ => Status::DiskFault { faults: 1 },
+    };
+    let code = end(rt, &status, "", None);
+    barred.say(rt, SEALS, LOG, log_cause);
+    code
+}
+
+// Seals the log after a run.
+fn renew(rt: &HostRuntime, guard: Option<Guard<HostRuntime>>, log: FileDisk<HostRuntime>) {
+    let Some(mut guard) = guard else {
+        return;
+    };
+    let mut log = log;
+    if let Err(barred) = guard.renew(rt.alloc(), &mut log) {
+        barred.say(rt, SEALS, LOG, log.cause());
+    }
+}
+
 // Says what the site starts with, where somebody watches.
 fn greet(rt: &HostRuntime, words: &[&str]) {
     if !is_watched(rt, rt.stderr().is_terminal()) {
@@ -47,7 +85,7 @@ fn greet(rt: &HostRuntime, words: &[&str]) {
     let Ok(drive) = read_drive(rt.alloc(), words) else {
         return;
     };
-    if let Some(beginning) = Beginning::on(rt.alloc(), FileDisk::to_change(rt, LOG)) {
+    if let Some(beginning) = Beginning::on(rt.alloc(), FileDisk::to_read(rt, LOG)) {
         let name = drive.name;
         say(rt, format_args!("tpdrive: site {name}, {beginning}\n"));
     }
@@ -76,10 +114,14 @@ fn main(rt: HostRuntime) -> ExitCode {
             }
         };
     }
+    let mut disk = FileDisk::to_change(&rt, LOG);
+    let guard = match guard_for(&rt, &texts, &mut disk) {
+        Ok(guard) => guard,
+        Err(barred) => return bar(&rt, &barred, disk.cause()),
+    };
     greet(&rt, &texts);
     let mut source = StdSource::new(&rt);
     let mut sink = StdSink::new(&rt);
-    let disk = FileDisk::to_change(&rt, LOG);
     let (status, disk) = run_drive(
         &rt,
         rt.alloc(),
@@ -96,8 +138,10 @@ fn main(rt: HostRuntime) -> ExitCode {
         _ => ("", None),
     };
     let code = end(&rt, &status, name, cause);
-    if let Status::Usage = &status {
-        say_usage(&rt, &texts);
+    match &status {
+        Status::Usage => say_usage(&rt, &texts),
+        Status::DiskFault { .. } | Status::LogDiffers { .. } => {}
+        _ => renew(&rt, guard, disk),
     }
     code
 }

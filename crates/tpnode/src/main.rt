@@ -25,6 +25,7 @@ use tp_outside::{
 };
 pub use tp_replay::Status;
 use tp_replay::{Participant, open_store, participants, status_of};
+use tp_seal::{Barred, Duty, Guard, Refusal, SealFault};
 use tp_words::{Command, USAGE, WordsFault, complaint, read};
 
 /// The log of a site, in the current folder.
@@ -32,6 +33,9 @@ const LOG: &str = "tp.log";
 
 /// The log of a bound store, in the current folder.
 const STORE: &str = "bound.log";
+
+/// The seals of the log, where this file is in the current folder.
+const SEALS: &str = "tp.seal";
 
 /// The node of the store that is member 3.
 const STORE_NODE: u16 = 2;
@@ -85,7 +89,7 @@ fn greet(rt: &HostRuntime, command: &Option<Command>) {
     if !is_watched(rt, rt.stderr().is_terminal()) {
         return;
     }
-    if let Some(beginning) = Beginning::on(rt.alloc(), FileDisk::to_change(rt, LOG)) {
+    if let Some(beginning) = Beginning::on(rt.alloc(), FileDisk::to_read(rt, LOG)) {
         say(rt, format_args!("tpnode: site {name}, {beginning}\n"));
     }
 }
@@ -113,6 +117,51 @@ fn members_for<'a>(
     }
 }
 
+// What a command does to a log.
+fn duty_of(command: &Option<Command>) -> Option<Duty> {
+    match command {
+        Some(Command::Node(name) | Command::Tx(name)) => Some(Duty::Grow(*name)),
+        Some(Command::Show | Command::Check) => Some(Duty::Read),
+        Some(Command::Compact | Command::Migrate) => Some(Duty::Shorten),
+        Some(Command::Format) => Some(Duty::Make),
+        _ => None,
+    }
+}
+
+// Lets a command at its log, where seals are kept.
+fn guard_for<'a>(
+    rt: &'a HostRuntime,
+    command: &Option<Command>,
+    log: &mut FileDisk<'_, HostRuntime>,
+) -> Result<Option<Guard<'a, HostRuntime>>, Barred> {
+    match duty_of(command) {
+        Some(duty) => Guard::admit(rt, SEALS, duty, log),
+        None => Ok(None),
+    }
+}
+
+// Ends a run that was not let at its log.
+fn bar(rt: &HostRuntime, barred: &Barred, log_cause: Option<Cause>) -> ExitCode {
+    let status = match barred.refusal {
+        Refusal::Fault(SealFault::NoMemory) => Status::NoMemory,
+        _ => Status::DiskFault { faults: 1 },
+    };
+    let code = end(rt, status, "", None);
+    barred.say(rt, SEALS, LOG, log_cause);
+    code
+}
+
+// Seals the log after a run.
+fn renew(rt: &HostRuntime, guard: Option<Guard<HostRuntime>>, log: FileDisk<HostRuntime>) {
+    let Some(mut guard) = guard else {
+        return;
+    };
+    let mut log = log;
+    if let Err(barred) = guard.renew(rt.alloc(), &mut log) {
+        barred.say(rt, SEALS, LOG, log.cause());
+    }
+}
+
 fn run_words(rt: &HostRuntime, words: &[&str]) -> ExitCode {
     let command = match read(rt.alloc(), words) {
         Ok(command) => Some(command),
@@ -123,10 +172,14 @@ fn run_words(rt: &HostRuntime, words: &[&str]) -> ExitCode {
         Ok(members) => members,
         Err((status, cause)) => return end(rt, status, STORE, cause),
     };
+    let mut disk = disk_for(rt, &command);
+    let guard = match guard_for(rt, &command, &mut disk) {
+        Ok(guard) => guard,
+        Err(barred) => return bar(rt, &barred, disk.cause()),
+    };
     greet(rt, &command);
     let mut source = StdSource::new(rt);
     let mut sink = StdSink::new(rt);
-    let disk = disk_for(rt, &command);
     let (status, disk) = run(rt.alloc(), words, &mut source, &mut sink, disk, members);
     let (name, cause) = match status {
         Status::ReadFault { .. } => ("standard input", source.cause()),
@@ -135,8 +188,10 @@ fn run_words(rt: &HostRuntime, words: &[&str]) -> ExitCode {
         _ => ("", None),
     };
     let code = end(rt, status, name, cause);
-    if status == Status::Usage {
-        say_usage(rt, words);
+    match status {
+        Status::Usage => say_usage(rt, words),
+        Status::DiskFault { .. } => {}
+        _ => renew(rt, guard, disk),
     }
     code
 }
