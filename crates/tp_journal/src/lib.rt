@@ -12,12 +12,14 @@ mod journal;
 mod keeper;
 mod laws;
 mod lengths;
+mod lives;
 mod log;
 mod opening;
 mod read;
 mod receipts;
 mod records;
 mod shelf;
+mod shortening;
 mod tape;
 
 pub use disorder::first_out_of_order;
