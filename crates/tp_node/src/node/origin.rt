@@ -1,12 +1,10 @@
 //! How a node comes to be: from the records of a log, by its declaration, and as a copy of another.
-ghost use Rattle.std.specs.Prelude.{◌≡◌, false, true, List, [], None, Some, IfOk, OnOk, OnErr, nat_lt};
+ghost use Rattle.std.specs.Prelude.{◌≡◌, false, true, [], None, Some, IfOk, OnOk, OnErr, nat_lt};
 ghost use Rattle.std.specs.Option.{option_map};
 ghost use Rattle.tp_logrec.specs.Order.{is_commit, is_ready};
 ghost use Rattle.tp_model.specs.Links.{greatest};
 ghost use Rattle.tp_model.specs.Events.{started, current_by, decision_of, without_current};
 ghost use Rattle.tp_node.specs.Begins.{with_digest};
-ghost use Rattle.tp_model.specs.Recovery.{kept_by};
-ghost use Rattle.tp_model.specs.declared.recovery.Kept.{Kept as KeptValue};
 ghost use Rattle.tp_node.specs.Node.{current_of, unboxed, recovered_by};
 
 use crate::node::Node;
@@ -109,13 +107,11 @@ impl Node {
         Ok(Some(Box::new(alloc, branch)?))
     }
 
-    // What a record makes of the current transaction. Memory is wanting for a Ready and a Commit alone, which make nothing of the
-    // kept transactions; nothing changes then.
+    // What a record makes of the current transaction. Without memory nothing changes.
     fn recover_current(&mut self, alloc: Global, rec: &LogRec) -> Result<(), NoMemory>
         ensures who { self.new.who ≡ self.old.who }
         ensures current { OnOk result (self.new ≡ with_digest self.old (record self.old.digest { current = current_by rec.now self.old.digest.current })) }
         ensures same { OnErr result (self.new ≡ self.old) }
-        ensures unkept { (ks : List KeptValue) → OnErr result (kept_by rec.now ks ≡ ks) }
     {
         match rec {
             LogRec::Boot { .. } => {}
@@ -131,14 +127,13 @@ impl Node {
         Ok(())
     }
 
-    /// One more record of the node in the log. Without memory nothing changes.
+    /// One more record of the node in the log. Without memory nothing is said of what it knows: who reads a log throws the node away.
     pub fn recover(&mut self, alloc: Global, rec: &LogRec) -> Result<(), NoMemory>
         ensures recovered { OnOk result (self.new.digest ≡ recovered_by rec.now self.old.digest) }
         ensures who { self.new.who ≡ self.old.who }
-        ensures same { OnErr result (self.new ≡ self.old) }
     {
-        kept::keep(alloc, &mut self.kept, rec)?;
         self.recover_current(alloc, rec)?;
+        kept::keep(alloc, &mut self.kept, rec)?;
         self.kept.settle(alloc);
         self.known = self.current.is_some() || self.kept.len() > 0;
         Ok(())
