@@ -1,37 +1,25 @@
 -- How many lines of recovery a world may still take: what each transaction, current or kept, costs, and what an event makes of it.
-use Rattle.std.proofs.Common.{if◌then◌else◌, ◌≡◌, ℕ, suc, ◌≤◌, ◌+◌, ◌*◌, Bool, true, false, refl, ap, arith, Option, Some, None, List, [], ◌∷◌, ◌||◌, ◌==◌, length}
+use Rattle.std.proofs.Common.{if◌then◌else◌, ◌≡◌, ℕ, suc, ◌≤◌, ◌+◌, ◌*◌, Bool, true, false, refl, ap, arith, Option, Some, None, List, [], ◌∷◌, ◌&&◌, ◌||◌, ◌==◌, not, length}
 use Rattle.tp_names.specs.declared.identifiers.NodeKey.{NodeKey}
 use Rattle.tp_names.specs.declared.children.Child.{Child}
 use Rattle.tp_names.specs.declared.identifiers.BranchId.{BranchId}
 use Rattle.tp_names.specs.Same.{is_key, is_branch}
 use Rattle.tp_logrec.specs.declared.record.LogRec.{LogRec}
 use Rattle.tp_model.specs.declared.recovery.Kept.{Kept}
-use Rattle.tp_model.specs.Parts.{Branch, Current, Digest}
-use Rattle.tp_model.specs.Dialogues.{is_ready}
+use Rattle.tp_model.specs.Parts.{Branch}
 use Rattle.tp_model.specs.Transactions.{Row, child_of, owed_of}
-use Rattle.tp_model.specs.Recovery.{find_owed, without_owed, put_kept, without_kept, kept_by, kept_after}
+use Rattle.tp_model.specs.Recovery.{is_commit, is_root_key, find_owed, without_owed, put_kept, without_kept, kept_by, kept_after}
 use Rattle.tp_model.specs.Node.{branches_of}
 use Rattle.tp_model.specs.World.{Node, number_of, find_node, put_node}
 use Rattle.tp_steps.proofs.lemmas.Options.{some_same}
 use Rattle.tp_finishing.specs.Doubt.{known_of}
-use Rattle.tp_finishing.specs.Finishing.{lines_of_current, lines_of_kept, lines_at, most_lines}
+use Rattle.tp_finishing.specs.Finishing.{count_open, lines_to_forget, lines_of_kept, lines_at, most_lines}
 
 -- ---- a transaction
 
--- branches that are neither done nor left
-abbrev pub count_open : List Branch → ℕ
-count_open [] = 0
-count_open (b ∷ bs) = if b.left || b.ended then count_open bs else suc (count_open bs)
-
-abbrev pub cost_of_commit : Bool → List Branch → ℕ
-cost_of_commit owes bs = (if owes then 1 else 0) + 3 + 3 * count_open bs
-
-abbrev pub cost_of_current : Option Current → ℕ
-cost_of_current None = 0
-cost_of_current (Some c) = if is_ready c.phase then 7 + 3 * length c.branches else cost_of_commit c.owes c.branches
-
-abbrev pub cost_at : Digest → ℕ
-cost_at d = cost_of_current d.current + lines_of_kept d.kept
+-- what a commitment costs that is under way, at a branch or at a root
+abbrev pub cost_of_commit : Bool → Bool → List Branch → ℕ
+cost_of_commit under owes bs = (if owes then 1 else 0) + lines_to_forget under + 3 * count_open bs
 
 pub open_less : (bs : List Branch) → count_open bs ≤ length bs
 open_less [] = omega arith
@@ -40,21 +28,6 @@ open_less (b ∷ bs) = go (b.left || b.ended) (open_less bs)
     go : (v : Bool) → count_open bs ≤ length bs → (if v then count_open bs else suc (count_open bs)) ≤ length (b ∷ bs)
     go true h = omega (arith, h)
     go false h = omega (arith, h)
-
-commit_less : (o : Bool) (bs : List Branch) → cost_of_commit o bs ≤ 4 + 3 * length bs
-commit_less true bs = omega (arith, open_less bs)
-commit_less false bs = omega (arith, open_less bs)
-
-cost_less : (d : Digest) → cost_at d ≤ lines_at d
-cost_less d = by d.current
-  where
-    by : (o : Option Current) → cost_of_current o + lines_of_kept d.kept ≤ lines_of_current o + lines_of_kept d.kept
-    by None = omega arith
-    by (Some c) = go (is_ready c.phase)
-      where
-        go : (v : Bool) → (if v then 7 + 3 * length c.branches else cost_of_commit c.owes c.branches) + lines_of_kept d.kept ≤ 7 + 3 * length c.branches + lines_of_kept d.kept
-        go true = omega arith
-        go false = omega (arith, commit_less c.owes c.branches)
 
 -- those that are owed are the open ones
 pub owed_open : (rows : List Row) → length (owed_of rows) ≡ count_open (branches_of rows)
@@ -67,14 +40,27 @@ owed_open (r ∷ rows) = go (r.branch.left || r.branch.ended) (owed_open rows)
 
 -- ---- what is kept
 
-put_less : (ks : List Kept) (k : Kept) → lines_of_kept (put_kept ks k) ≤ lines_of_kept ks + (3 + 3 * length k.owed)
-put_less [] k = omega arith
+-- one of them
+abbrev pub lines_of_one : Kept → ℕ
+lines_of_one k = lines_to_forget (is_commit k.side && not (is_root_key k.key)) + 3 * length k.owed
+
+put_less : (ks : List Kept) (k : Kept) → lines_of_kept (put_kept ks k) ≤ lines_of_kept ks + lines_of_one k
+put_less [] k = last (lines_of_one k)
+  where
+    last : (n : ℕ) → n + 0 ≤ 0 + n
+    last n = omega arith
 put_less (x ∷ ks) k = go (is_key x.key k.key) (put_less ks k)
   where
-    go : (v : Bool) → lines_of_kept (put_kept ks k) ≤ lines_of_kept ks + (3 + 3 * length k.owed)
-        → lines_of_kept (if v then record k { forgot = x.forgot } ∷ ks else x ∷ put_kept ks k) ≤ lines_of_kept (x ∷ ks) + (3 + 3 * length k.owed)
-    go true h = omega arith
-    go false h = omega (arith, h)
+    swapped : (a b c : ℕ) → a + b ≤ c + b + a
+    swapped a b c = omega arith
+
+    behind : (a b c d : ℕ) → b ≤ c + d → a + b ≤ a + c + d
+    behind a b c d h = omega (arith, h)
+
+    go : (v : Bool) → lines_of_kept (put_kept ks k) ≤ lines_of_kept ks + lines_of_one k
+        → lines_of_kept (if v then record k { forgot = x.forgot } ∷ ks else x ∷ put_kept ks k) ≤ lines_of_kept (x ∷ ks) + lines_of_one k
+    go true h = swapped (lines_of_one k) (lines_of_kept ks) (lines_of_one x)
+    go false h = behind (lines_of_one x) (lines_of_kept (put_kept ks k)) (lines_of_kept ks) (lines_of_one k) h
 
 without_less : (ks : List Kept) (k : NodeKey) → lines_of_kept (without_kept ks k) ≤ lines_of_kept ks
 without_less [] k = omega arith
@@ -86,7 +72,7 @@ without_less (x ∷ ks) k = go (is_key x.key k) (without_less ks k)
 
 -- what a record adds
 abbrev pub cost_of_rec : Option LogRec → ℕ
-cost_of_rec (Some (LogRec.Damage n k s o r cs)) = 3 + 3 * length cs
+cost_of_rec (Some (LogRec.Damage n k s o r cs)) = lines_to_forget (is_commit o && not (is_root_key k)) + 3 * length cs
 cost_of_rec _ = 0
 
 pub kept_less : (r : Option LogRec) (ks : List Kept) → lines_of_kept (kept_after r ks) ≤ lines_of_kept ks + cost_of_rec r
@@ -109,21 +95,13 @@ owed_less (x ∷ cs) b c h = go (is_branch x.branch b) h (owed_less cs b c)
 
 -- ---- a world
 
-abbrev pub cost_of : List Node → ℕ
-cost_of [] = 0
-cost_of (x ∷ xs) = cost_at (known_of x) + cost_of xs
-
-pub costs_less : (ns : List Node) → cost_of ns ≤ most_lines ns
-costs_less [] = omega arith
-costs_less (x ∷ ns) = omega (arith, cost_less (known_of x), costs_less ns)
-
 -- a node that takes the place of another one
-pub cost_put : (ns : List Node) (x y : Node) → find_node ns (number_of y) ≡ Some x → cost_of (put_node ns y) + cost_at (known_of x) ≡ cost_of ns + cost_at (known_of y)
+pub cost_put : (ns : List Node) (x y : Node) → find_node ns (number_of y) ≡ Some x → most_lines (put_node ns y) + lines_at (known_of x) ≡ most_lines ns + lines_at (known_of y)
 cost_put [] x y h = absurd (cc (h))
 cost_put (z ∷ ns) x y h = go (number_of z == number_of y) h (cost_put ns x y)
   where
     go : (v : Bool) → elim v as (λ _. Option Node) [ true ↦ Some z | false ↦ find_node ns (number_of y) ] ≡ Some x
-        → (find_node ns (number_of y) ≡ Some x → cost_of (put_node ns y) + cost_at (known_of x) ≡ cost_of ns + cost_at (known_of y))
-        → cost_of (elim v as (λ _. List Node) [ true ↦ y ∷ ns | false ↦ z ∷ put_node ns y ]) + cost_at (known_of x) ≡ cost_of (z ∷ ns) + cost_at (known_of y)
-    go true i rest = let same : cost_at (known_of z) ≡ cost_at (known_of x) = ap (λ (u : Node). cost_at (known_of u)) (some_same z x i) in omega (arith, same)
+        → (find_node ns (number_of y) ≡ Some x → most_lines (put_node ns y) + lines_at (known_of x) ≡ most_lines ns + lines_at (known_of y))
+        → most_lines (elim v as (λ _. List Node) [ true ↦ y ∷ ns | false ↦ z ∷ put_node ns y ]) + lines_at (known_of x) ≡ most_lines (z ∷ ns) + lines_at (known_of y)
+    go true i rest = let same : lines_at (known_of z) ≡ lines_at (known_of x) = ap (λ (u : Node). lines_at (known_of u)) (some_same z x i) in omega (arith, same)
     go false i rest = let r = rest i in omega (arith, r)

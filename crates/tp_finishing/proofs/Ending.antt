@@ -1,5 +1,5 @@
 -- What recovery makes of a node without associations, and what it costs after it: the superior's answer, its user's done, and a branch's.
-use Rattle.std.proofs.Common.{if◌then◌else◌, ◌≡◌, ℕ, suc, ◌≤◌, ◌+◌, ◌*◌, Bool, true, false, refl, ap, sym, subst, ◌∙◌, arith, Option, Some, None, List, [], ◌∷◌, ◌&&◌, ◌||◌, ◌==◌}
+use Rattle.std.proofs.Common.{if◌then◌else◌, ◌≡◌, ℕ, suc, ◌≤◌, ◌+◌, ◌*◌, Bool, true, false, refl, ap, sym, subst, ◌∙◌, arith, Option, Some, None, List, [], ◌∷◌, ◌&&◌, ◌||◌, ◌==◌, not, length}
 use Rattle.tp_names.specs.declared.identifiers.Aaid.{Aaid}
 use Rattle.tp_names.specs.declared.identifiers.Addr.{Addr}
 use Rattle.tp_names.specs.declared.identifiers.BranchId.{BranchId}
@@ -12,22 +12,22 @@ use Rattle.tp_records.specs.declared.peer.RecState.{RecState}
 use Rattle.tp_logrec.specs.declared.record.LogRec.{LogRec}
 use Rattle.tp_model.specs.declared.arc.Phase.{Phase}
 use Rattle.tp_model.specs.declared.transaction.TxEvent.{TxEvent}
-use Rattle.tp_model.specs.Parts.{Who, Branch, Current, Digest}
+use Rattle.tp_model.specs.Parts.{Who, Key, Root, Under, Branch, Current, Digest}
 use Rattle.tp_model.specs.Dialogues.{is_active, is_rolling}
-use Rattle.tp_model.specs.Transactions.{Row, Transaction, Turn, turn, and_then, tell_report, is_open_in_commit, find_row, find_row_by_id, put_row, with_branch, all_done, all_rolled_back, reports_of, own_damage, log_end, log_damage, rollback_rec, is_own_commit, complete_commit, complete_rollback, begin_rolling, order, end_branch, transacted}
-use Rattle.tp_model.specs.Recovery.{kept_by, kept_after}
+use Rattle.tp_model.specs.Transactions.{is_under, node_key, owed_of, Row, Transaction, Turn, turn, and_then, tell_report, is_open_in_commit, find_row, find_row_by_id, put_row, with_branch, all_done, all_rolled_back, reports_of, own_damage, log_end, log_damage, rollback_rec, is_own_commit, complete_commit, complete_rollback, begin_rolling, order, end_branch, transacted}
+use Rattle.tp_model.specs.Recovery.{is_root_key, kept_by, kept_after}
 use Rattle.tp_model.specs.Node.{seen, seen_row, seen_rows, branches_of, remaining}
-use Rattle.tp_finishing.specs.Finishing.{lines_of_kept}
+use Rattle.tp_finishing.specs.Finishing.{count_open, lines_to_forget, lines_of_current, lines_of_kept, lines_at}
 use Rattle.tp_finishing.specs.Quiet.{IsQuietAt}
 use Rattle.tp_finishing.proofs.Hearing.{doubting}
 use Rattle.tp_finishing.proofs.Retries.{seen_again}
 use Rattle.tp_finishing.proofs.Still.{left_by}
-use Rattle.tp_finishing.proofs.Costs.{count_open, open_less, cost_of_commit, cost_of_current, cost_of_rec, cost_at, kept_less, owed_open}
+use Rattle.tp_finishing.proofs.Costs.{open_less, cost_of_commit, cost_of_rec, kept_less, owed_open}
 
 -- what is left is quiet, and costs so much less
 pub record Lowers (n cost : ℕ) (e : Digest) : Type 0 where
   pub quiet : IsQuietAt e
-  pub less : cost_at e + n ≤ cost
+  pub less : lines_at e + n ≤ cost
 
 -- what stays of a transaction is neither active nor rolling
 abbrev IsCalm : Option Current → Type 0
@@ -37,7 +37,7 @@ IsCalm o = (is_active (elim o as (λ _. Phase) [ None ↦ Phase.Nil | Some c ↦
 
 record Completes (t : Transaction) (a : Turn) : Type 0 where
   calm : IsCalm (remaining a.next)
-  less : cost_of_current (remaining a.next) + cost_of_rec a.rec ≤ cost_of_commit false (branches_of t.rows)
+  less : lines_of_current (remaining a.next) + cost_of_rec a.rec ≤ cost_of_commit (is_under t.key) false (branches_of t.rows)
 
 abbrev committing : Transaction → Transaction
 committing t = record t { phase = Phase.Committing; owes = false }
@@ -49,23 +49,35 @@ completes t = go (all_done t.rows) refl (is_report_none r) refl
     r : Report
     r = join (own_damage t.decision) (reports_of t.rows)
 
-    go : (b : Bool) → all_done t.rows ≡ b → (c : Bool) → is_report_none r ≡ c → Completes t (complete_commit (committing t))
-    go true i true j = rw (i, j) (record { calm = (refl, refl); less = omega arith })
-    go true i false j = let same = owed_open t.rows in rw (i, j) (record { calm = (refl, refl); less = omega (arith, same) })
-    go false i c j = rw i (record { calm = (refl, refl); less = omega arith })
+    root : (k : Key) → lines_to_forget (not (is_root_key (node_key k))) ≡ lines_to_forget (is_under k)
+    root (Root a) = refl
+    root (Under a b s) = refl
 
-add : (a b c k n : ℕ) → a ≤ b + c → k + c ≤ n → k + a ≤ b + n
-add a b c k n h i = omega (arith, h, i)
+    clear : (n m : ℕ) → 0 + 0 ≤ 0 + n + 3 * m
+    clear n m = omega arith
+
+    kept : (n k l m : ℕ) → n ≡ k → l ≡ m → 0 + (n + 3 * l) ≤ 0 + k + 3 * m
+    kept n k l m i j = omega (arith, i, j)
+
+    waits : (n m : ℕ) → (0 + n + 3 * m) + 0 ≤ 0 + n + 3 * m
+    waits n m = omega arith
+
+    go : (b : Bool) → all_done t.rows ≡ b → (c : Bool) → is_report_none r ≡ c → Completes t (complete_commit (committing t))
+    go true i true j = rw (i, j) (record { calm = (refl, refl); less = clear (lines_to_forget (is_under t.key)) (count_open (branches_of t.rows)) })
+    go true i false j = rw (i, j) (record { calm = (refl, refl); less = kept (lines_to_forget (not (is_root_key (node_key t.key)))) (lines_to_forget (is_under t.key)) (length (owed_of t.rows)) (count_open (branches_of t.rows)) (root t.key) (owed_open t.rows) })
+    go false i c j = rw i (record { calm = (refl, refl); less = waits (lines_to_forget (is_under t.key)) (count_open (branches_of t.rows)) })
 
 -- ---- the user has finished
 
 abbrev pub ordered : Current → Current
 ordered c = record c { phase = Phase.Committing; owes = true }
 
-pub done_commits : (who : Who) (d : Digest) (c : Current) → Lowers 1 (cost_of_current (Some (ordered c)) + lines_of_kept d.kept) (left_by who (TxEvent.User Request.Done) d (ordered c))
+pub done_commits : (who : Who) (d : Digest) (c : Current) → Lowers 1 (lines_of_current (Some (ordered c)) + lines_of_kept d.kept) (left_by who (TxEvent.User Request.Done) d (ordered c))
 done_commits who d c = record {
   quiet = record { arcs = refl; active = k.calm.0; rolling = k.calm.1 };
-  less = total (lines_of_kept (kept_after a.rec d.kept)) (lines_of_kept d.kept) (cost_of_current (remaining a.next)) (cost_of_rec a.rec) (count_open (branches_of t.rows)) (count_open c.branches) (kept_less a.rec d.kept) k.less (ap count_open (seen_again [] c.branches));
+  less =
+      total (lines_of_kept (kept_after a.rec d.kept)) (lines_of_kept d.kept) (lines_of_current (remaining a.next)) (cost_of_rec a.rec) (lines_to_forget (is_under c.key)) (count_open (branches_of t.rows)) (count_open c.branches) (kept_less a.rec d.kept) k.less
+      (ap count_open (seen_again [] c.branches));
 }
   where
     t : Transaction
@@ -77,12 +89,12 @@ done_commits who d c = record {
     k : Completes t a
     k = completes t
 
-    total : (l m v w o p : ℕ) → l ≤ m + w → v + w ≤ 0 + 3 + 3 * o → o ≡ p → v + l + 1 ≤ 1 + 3 + 3 * p + m
-    total l m v w o p h i j = omega (arith, h, i, j)
+    total : (l m v w u o p : ℕ) → l ≤ m + w → v + w ≤ 0 + u + 3 * o → o ≡ p → v + l + 1 ≤ 1 + u + 3 * p + m
+    total l m v w u o p h i j = omega (arith, h, i, j)
 
 -- ---- the superior's answer
 
-pub answer_commits : (who : Who) (d : Digest) (c : Current) (t : Aaid) (b : BranchId) (a : Addr) → Lowers 3 (cost_of_current (Some (doubting c t b a)) + lines_of_kept d.kept) (left_by who (TxEvent.Reply b RecState.Commit) d (doubting c t b a))
+pub answer_commits : (who : Who) (d : Digest) (c : Current) (t : Aaid) (b : BranchId) (a : Addr) → Lowers 3 (lines_of_current (Some (doubting c t b a)) + lines_of_kept d.kept) (left_by who (TxEvent.Reply b RecState.Commit) d (doubting c t b a))
 unfolding order kept_by
 answer_commits who d c t b a = record {
   quiet = record { arcs = refl; active = refl; rolling = refl };
@@ -169,9 +181,9 @@ ended_less (x ∷ rows) r n h l e o = go (x.branch.peer.node == n.branch.peer.no
 abbrev ended_row : Row → Report → Row
 ended_row w r = record w { branch = record w.branch { ended = true; report = r } }
 
-pub reply_ends : (who : Who) (d : Digest) (c : Current) (v : Branch) (r : Report) → OpenIn c.branches v → Lowers 3 (cost_of_current (Some (waiting c)) + lines_of_kept d.kept) (left_by who (TxEvent.Reply v.id (RecState.Done r)) d (waiting c))
+pub reply_ends : (who : Who) (d : Digest) (c : Current) (v : Branch) (r : Report) → OpenIn c.branches v → Lowers 3 (lines_of_current (Some (waiting c)) + lines_of_kept d.kept) (left_by who (TxEvent.Reply v.id (RecState.Done r)) d (waiting c))
 unfolding end_branch
-reply_ends who d c v r is = subst (λ (a : Turn). Lowers 3 (cost_of_current (Some (waiting c)) + lines_of_kept d.kept) (record d { arcs = []; current = remaining a.next; kept = kept_after a.rec d.kept })) (sym turned) done
+reply_ends who d c v r is = subst (λ (a : Turn). Lowers 3 (lines_of_current (Some (waiting c)) + lines_of_kept d.kept) (record d { arcs = []; current = remaining a.next; kept = kept_after a.rec d.kept })) (sym turned) done
   where
     t : Transaction
     t = seen who [] (waiting c)
@@ -204,14 +216,14 @@ reply_ends who d c v r is = subst (λ (a : Turn). Lowers 3 (cost_of_current (Som
         go None = refl
         go (Some x) = refl
 
-    total : (l m v w o p q : ℕ) → l ≤ m + w → v + w ≤ 0 + 3 + 3 * o → suc o ≡ p → p ≡ q → v + l + 3 ≤ 0 + 3 + 3 * q + m
-    total l m v w o p q h i j z = omega (arith, h, i, j, z)
+    total : (l m v w n o p q : ℕ) → l ≤ m + w → v + w ≤ 0 + n + 3 * o → suc o ≡ p → p ≡ q → v + l + 3 ≤ 0 + n + 3 * q + m
+    total l m v w n o p q h i j z = omega (arith, h, i, j, z)
 
-    done : Lowers 3 (cost_of_current (Some (waiting c)) + lines_of_kept d.kept) (record d { arcs = []; current = remaining a.next; kept = kept_after a.rec d.kept })
+    done : Lowers 3 (lines_of_current (Some (waiting c)) + lines_of_kept d.kept) (record d { arcs = []; current = remaining a.next; kept = kept_after a.rec d.kept })
     done = record {
       quiet = record { arcs = refl; active = k.calm.0; rolling = k.calm.1 };
       less =
-          total (lines_of_kept (kept_after a.rec d.kept)) (lines_of_kept d.kept) (cost_of_current (remaining a.next)) (cost_of_rec (complete_commit u).rec) (count_open (branches_of u.rows)) (count_open (branches_of t.rows)) (count_open c.branches)
+          total (lines_of_kept (kept_after a.rec d.kept)) (lines_of_kept d.kept) (lines_of_current (remaining a.next)) (cost_of_rec (complete_commit u).rec) (lines_to_forget (is_under c.key)) (count_open (branches_of u.rows)) (count_open (branches_of t.rows)) (count_open c.branches)
           (subst (λ (o : Option LogRec). lines_of_kept (kept_after a.rec d.kept) ≤ lines_of_kept d.kept + cost_of_rec o) rec (kept_less a.rec d.kept)) k.less
           (ended_less t.rows (seen_row [] v) (ended_row (seen_row [] v) r) is.by_peer is.left is.ended refl) (ap count_open (seen_again [] c.branches));
     }

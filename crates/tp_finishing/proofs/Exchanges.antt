@@ -27,7 +27,7 @@ use Rattle.tp_histories.proofs.worlds.Good.{good_run}
 use Rattle.tp_histories.proofs.worlds.Nodes.{find_is}
 use Rattle.tp_finishing.specs.Doubt.{known_of as digest_of}
 use Rattle.tp_finishing.specs.Quiet.{IsQuietAt, IsQuiet, Each}
-use Rattle.tp_finishing.specs.Finishing.{IsRecovery, lines_of_kept}
+use Rattle.tp_finishing.specs.Finishing.{IsRecovery, lines_of_current, lines_of_kept, lines_at, most_lines}
 use Rattle.tp_finishing.proofs.Kindred.{KeyAt}
 use Rattle.tp_finishing.proofs.Numbers.{drawn_law}
 use Rattle.tp_finishing.proofs.Awake.{has_node}
@@ -35,7 +35,6 @@ use Rattle.tp_finishing.proofs.Deliveries.{Takes, does_take, task_here, taken_he
 use Rattle.tp_finishing.proofs.Answering.{decided_answer}
 use Rattle.tp_finishing.proofs.Hearing.{doubting}
 use Rattle.tp_finishing.proofs.Still.{left_by}
-use Rattle.tp_finishing.proofs.Costs.{cost_of_current, cost_at, cost_of}
 use Rattle.tp_finishing.proofs.Ending.{Lowers, ordered, done_commits, answer_commits, RollsIn, answer_rolls, rolling, done_rolls}
 use Rattle.tp_finishing.proofs.Taking.{Taken, done_taken, commit_taken, unknown_taken}
 use Rattle.tp_finishing.proofs.Rounds.{Round, round, takes_cost, IsQuietBut, quiet_with, quiet_at, round_quiet}
@@ -47,16 +46,16 @@ pub record Progress (es : List Happening) : Type 0 where
   pub more : List Happening
   pub recovers : Each (IsRecovery (length (run es).frames)) more
   pub quiet : IsQuiet (run (more ++ es))
-  pub less : cost_of (run (more ++ es)).nodes + length more ≤ cost_of (run es).nodes
+  pub less : most_lines (run (more ++ es)).nodes + length more ≤ most_lines (run es).nodes
   pub some : 1 ≤ length more
 
 -- ---- one line of a node: its user's done, or a purge
 
-pub line : (es : List Happening) (x : Node) (d : Action) (e : Event) (n : ℕ) → IsQuietBut (run es) (number_of x) → IsIn (run es) x → Takes (run es) x e (run (Does d ∷ es)) → Lowers n (cost_at (digest_of x)) (digest_of (grown_node x e))
-    → IsQuiet (run (Does d ∷ es)) × (cost_of (run (Does d ∷ es)).nodes + n ≤ cost_of (run es).nodes)
+pub line : (es : List Happening) (x : Node) (d : Action) (e : Event) (n : ℕ) → IsQuietBut (run es) (number_of x) → IsIn (run es) x → Takes (run es) x e (run (Does d ∷ es)) → Lowers n (lines_at (digest_of x)) (digest_of (grown_node x e))
+    → IsQuiet (run (Does d ∷ es)) × (most_lines (run (Does d ∷ es)).nodes + n ≤ most_lines (run es).nodes)
 line es x d e n others here t low = (
   quiet_with (run (Does d ∷ es)) (number_of x) (grown_node x e) (λ k z at off. others k z (sym (taken_there (run es) (run (Does d ∷ es)) x e k here t off) ∙ at) off) (taken_here (run es) (run (Does d ∷ es)) x e here t) low.quiet,
-  total (cost_of (run es).nodes) (cost_of (run (Does d ∷ es)).nodes) (cost_at (digest_of x)) (cost_at (digest_of (grown_node x e))) (takes_cost (run es) (run (Does d ∷ es)) x e here t) low.less,
+  total (most_lines (run es).nodes) (most_lines (run (Does d ∷ es)).nodes) (lines_at (digest_of x)) (lines_at (digest_of (grown_node x e))) (takes_cost (run es) (run (Does d ∷ es)) x e here t) low.less,
 )
   where
     total : (v w a b : ℕ) → w + a ≡ v + b → b + n ≤ a → w + n ≤ v
@@ -98,23 +97,23 @@ finishes es x c quiet here at phase owes = record {
         done_taken x.origin.who (digest_of x) (ordered c) (quiet x here).arcs now refl refl
         (has_node x.origin x.superior x.history c (good.fresh (number_of x) x here) (good.legal (number_of x) x here) at) (drawn_law x.origin x.superior x.history (good.legal (number_of x) x here))
 
-    cost : cost_of_current (Some (ordered c)) + lines_of_kept (digest_of x).kept ≡ cost_at (digest_of x)
-    cost = ap (λ (o : Option Current). cost_of_current o + lines_of_kept (digest_of x).kept) (sym now)
+    cost : lines_of_current (Some (ordered c)) + lines_of_kept (digest_of x).kept ≡ lines_at (digest_of x)
+    cost = ap (λ (o : Option Current). lines_of_current o + lines_of_kept (digest_of x).kept) (sym now)
 
-    low : Lowers 1 (cost_at (digest_of x)) (digest_of (grown_node x e))
-    low = subst (Lowers 1 (cost_at (digest_of x))) (sym took.next_is) (subst (λ (n : ℕ). Lowers 1 n (left_by x.origin.who (TxEvent.User Request.Done) (digest_of x) (ordered c))) cost (done_commits x.origin.who (digest_of x) c))
+    low : Lowers 1 (lines_at (digest_of x)) (digest_of (grown_node x e))
+    low = subst (Lowers 1 (lines_at (digest_of x))) (sym took.next_is) (subst (λ (n : ℕ). Lowers 1 n (left_by x.origin.who (TxEvent.User Request.Done) (digest_of x) (ordered c))) cost (done_commits x.origin.who (digest_of x) c))
 
-    done : IsQuiet (run (Does (Action.Do (number_of x) LineRequest.Done) ∷ es)) × (cost_of (run (Does (Action.Do (number_of x) LineRequest.Done) ∷ es)).nodes + 1 ≤ cost_of (run es).nodes)
+    done : IsQuiet (run (Does (Action.Do (number_of x) LineRequest.Done) ∷ es)) × (most_lines (run (Does (Action.Do (number_of x) LineRequest.Done) ∷ es)).nodes + 1 ≤ most_lines (run es).nodes)
     done = line es x (Action.Do (number_of x) LineRequest.Done) e 1 (quiet_but (run es) (number_of x) quiet) here (does_take (run es) (Action.Do (number_of x) LineRequest.Done) x e (task_here (run es) x e here) took.ok) low
 
 -- ---- a round of recovery
 
-pub round_progress : (es : List Happening) (x y : Node) (d1 d2 : Digest) → Round es x y d1 d2 → IsQuiet (run es) → IsQuietAt d1 → IsQuietAt d2 → cost_at d2 + cost_at d1 + 3 ≤ cost_at (digest_of x) + cost_at (digest_of y) → Progress es
+pub round_progress : (es : List Happening) (x y : Node) (d1 d2 : Digest) → Round es x y d1 d2 → IsQuiet (run es) → IsQuietAt d1 → IsQuietAt d2 → lines_at d2 + lines_at d1 + 3 ≤ lines_at (digest_of x) + lines_at (digest_of y) → Progress es
 round_progress es x y d1 d2 r quiet one two less = record {
   more = Does (Action.Again r.answers) ∷ Does (Action.Again r.asks) ∷ Does (Action.Retry (number_of x)) ∷ [];
   recovers = (r.answers_new, (r.asks_new, (tt, tt)));
   quiet = quiet_with v (number_of x) r.first (round_quiet es x y d1 d2 r quiet one) r.first_here (subst IsQuietAt (sym r.first_is) two);
-  less = total (cost_of v.nodes) (cost_of (run es).nodes) (cost_at (digest_of x)) (cost_at (digest_of y)) (cost_at d1) (cost_at d2) r.costs less;
+  less = total (most_lines v.nodes) (most_lines (run es).nodes) (lines_at (digest_of x)) (lines_at (digest_of y)) (lines_at d1) (lines_at d2) r.costs less;
   some = omega arith;
 }
   where
@@ -133,7 +132,7 @@ is_there es a h = ap (find_node (run es).nodes) (find_is (run es).nodes a.node h
 commits : (es : List Happening) (x y : Node) (c : Current) (t : Aaid) (b : BranchId) (a : Addr) → IsQuiet (run es) → IsIn (run es) x → IsIn (run es) y → a.node ≡ number_of y → (digest_of x).current ≡ Some c → is_ready c.phase ≡ true → c.key ≡ Under t b a → is_ready (phase_of (digest_of y)) ≡ false
     → recovery_answer (known_of (named_by_branch (digest_of y) t b) b) Question.RecReady ≡ Some RecState.Commit → Progress es
 commits es x y c t b a quiet here there to at ready key knows answer =
-    round_progress es x y (digest_of y) d2 (round es x y (digest_of y) d2 (doubt_asks es x y c t b a RecState.Commit d2 here there to at ready key knows answer took.ok took.next_is)) quiet (quiet y there) low.quiet (total (cost_at d2) (cost_at (digest_of y)) (cost_at (digest_of x)) low.less)
+    round_progress es x y (digest_of y) d2 (round es x y (digest_of y) d2 (doubt_asks es x y c t b a RecState.Commit d2 here there to at ready key knows answer took.ok took.next_is)) quiet (quiet y there) low.quiet (total (lines_at d2) (lines_at (digest_of y)) (lines_at (digest_of x)) low.less)
   where
     d2 : Digest
     d2 = left_by x.origin.who (TxEvent.Reply b RecState.Commit) (digest_of x) (doubting c t b a)
@@ -144,8 +143,8 @@ commits es x y c t b a quiet here there to at ready key knows answer =
     took : Taken x.origin.who (digest_of x) (Event.Arrive a (PeerRecord.RecReply t b RecState.Commit)) d2
     took = commit_taken x.origin.who (digest_of x) c t b a (quiet x here).arcs now (drawn_law x.origin x.superior x.history ((good_run es).legal (number_of x) x here))
 
-    low : Lowers 3 (cost_at (digest_of x)) d2
-    low = subst (λ (o : Option Current). Lowers 3 (cost_of_current o + lines_of_kept (digest_of x).kept) d2) (sym now) (answer_commits x.origin.who (digest_of x) c t b a)
+    low : Lowers 3 (lines_at (digest_of x)) d2
+    low = subst (λ (o : Option Current). Lowers 3 (lines_of_current o + lines_of_kept (digest_of x).kept) d2) (sym now) (answer_commits x.origin.who (digest_of x) c t b a)
 
     total : (m n k : ℕ) → m + 3 ≤ k → m + n + 3 ≤ k + n
     total m n k h = omega (arith, h)
@@ -158,8 +157,8 @@ rolls_back es x y c t b a quiet here there to at ready key knows answer = record
   recovers = (tt, (r.answers_new, (r.asks_new, (tt, tt))));
   quiet = ended.0;
   less =
-      total (cost_of (run es4).nodes) (cost_of (run es3).nodes) (cost_of (run es).nodes) (cost_at (digest_of x)) (cost_at (digest_of y)) (cost_at (digest_of r.first)) (cost_at (digest_of (grown_node r.first e))) (cost_at d2) (lines_of_kept d2.kept) (lines_of_kept (digest_of x).kept) (length c.branches)
-      (takes_cost (run es3) (run es4) r.first e here3 takes) (ap cost_at r.first_is) r.costs (subst (λ (d : Digest). cost_at d ≤ lines_of_kept d2.kept) (sym next_is) (none (cost_at (left_by x.origin.who (TxEvent.User Request.Done) d2 rc.current)) (lines_of_kept d2.kept) gone.less)) rc.less cost;
+      total (most_lines (run es4).nodes) (most_lines (run es3).nodes) (most_lines (run es).nodes) (lines_at (digest_of x)) (lines_at (digest_of y)) (lines_at (digest_of r.first)) (lines_at (digest_of (grown_node r.first e))) (lines_at d2) (lines_of_kept d2.kept) (lines_of_kept (digest_of x).kept) (length c.branches)
+      (takes_cost (run es3) (run es4) r.first e here3 takes) (ap lines_at r.first_is) r.costs (subst (λ (d : Digest). lines_at d ≤ lines_of_kept d2.kept) (sym next_is) (none (lines_at (left_by x.origin.who (TxEvent.User Request.Done) d2 rc.current)) (lines_of_kept d2.kept) gone.less)) rc.less cost;
   some = omega arith;
 }
   where
@@ -236,8 +235,8 @@ rolls_back es x y c t b a quiet here there to at ready key knows answer = record
     ended : IsQuiet (run es4) × Unit {0}
     ended = (quiet_with (run es4) (number_of r.first) (grown_node r.first e) (λ k z found off. others k z (sym (taken_there (run es3) (run es4) r.first e k here3 takes off) ∙ found) off) (taken_here (run es3) (run es4) r.first e here3 takes) (subst IsQuietAt (sym next_is) gone.quiet), tt)
 
-    cost : cost_at (digest_of x) ≡ 7 + 3 * length c.branches + lines_of_kept (digest_of x).kept
-    cost = ap (λ (o : Option Current). cost_of_current o + lines_of_kept (digest_of x).kept) now
+    cost : lines_at (digest_of x) ≡ 7 + 3 * length c.branches + lines_of_kept (digest_of x).kept
+    cost = ap (λ (o : Option Current). lines_of_current o + lines_of_kept (digest_of x).kept) now
 
     total : (v4 v3 w cx cy c3 c4 c2 k2 k n : ℕ) → v4 + c3 ≡ v3 + c4 → c3 ≡ c2 → v3 + cx + cy ≡ w + c2 + cy → c4 ≤ k2 → k2 ≤ 3 + k → cx ≡ 7 + 3 * n + k → v4 + 4 ≤ w
     total v4 v3 w cx cy c3 c4 c2 k2 k n h i j l m o = omega (arith, h, i, j, l, m, o)

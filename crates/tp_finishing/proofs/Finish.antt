@@ -26,7 +26,7 @@ use Rattle.tp_finishing.specs.Doubt.{known_of}
 use Rattle.tp_finishing.specs.Quiet.{IsQuiet, Each}
 use Rattle.tp_finishing.specs.Finishing.{IsRecovery, IsOver, most_lines, NoRunIsStuck, EveryRunEnds}
 use Rattle.tp_finishing.proofs.Kindred.{KeyAt, FitsKept, AllFit}
-use Rattle.tp_finishing.proofs.Costs.{cost_of, costs_less}
+use Rattle.tp_finishing.proofs.Closed.{over_is_closed}
 use Rattle.tp_finishing.proofs.Stops.{stops_quieten}
 use Rattle.tp_finishing.proofs.Sites.{EachNode, nodes_found}
 use Rattle.tp_finishing.proofs.Picks.{distinct_run, First, Last, pick_first, pick_last}
@@ -205,7 +205,7 @@ joined xs ys zs = simp append_assoc
 record Ends (es : List Happening) : Type 0 where
   more : List Happening
   recovers : Each (IsRecovery (length (run es).frames)) more
-  short : length more ≤ cost_of (run es).nodes
+  short : length more ≤ most_lines (run es).nodes
   over : IsOver (run (more ++ es))
 
 -- what is done after some progress
@@ -213,38 +213,35 @@ ends_after : (es : List Happening) → (p : Progress es) → Ends (p.more ++ es)
 ends_after es p e = record {
   more = e.more ++ p.more;
   recovers = each_append (IsRecovery (length (run es).frames)) e.more p.more (each_more (length (run es).frames) (length (run (p.more ++ es)).frames) e.more (all_grow (length (run es).frames) es p.more p.recovers) e.recovers) p.recovers;
-  short = total (length (e.more ++ p.more)) (length e.more) (length p.more) (cost_of (run (p.more ++ es)).nodes) (cost_of (run es).nodes) (length-append e.more p.more) e.short p.less;
+  short = total (length (e.more ++ p.more)) (length e.more) (length p.more) (most_lines (run (p.more ++ es)).nodes) (most_lines (run es).nodes) (length-append e.more p.more) e.short p.less;
   over = subst (λ (l : List Happening). IsOver (run l)) (sym (joined e.more p.more es)) e.over;
 }
   where
     total : (l a b c d : ℕ) → l ≡ a + b → a ≤ c → c + b ≤ d → l ≤ d
     total l a b c d h i j = omega (arith, h, i, j)
 
-finish : (fuel : ℕ) (es : List Happening) → IsQuiet (run es) → cost_of (run es).nodes ≤ fuel → Ends es
+finish : (fuel : ℕ) (es : List Happening) → IsQuiet (run es) → most_lines (run es).nodes ≤ fuel → Ends es
 finish zero es quiet most = go (next es quiet)
   where
-    none : (a b : ℕ) → a + b ≤ cost_of (run es).nodes → 1 ≤ b → ⊥
+    none : (a b : ℕ) → a + b ≤ most_lines (run es).nodes → 1 ≤ b → ⊥
     none a b h i = omega (arith, most, h, i)
 
     go : IsOver (run es) ⊎ Progress es → Ends es
     go (inl over) = record { more = []; recovers = tt; short = omega arith; over = over }
-    go (inr p) = absurd (none (cost_of (run (p.more ++ es)).nodes) (length p.more) p.less p.some)
+    go (inr p) = absurd (none (most_lines (run (p.more ++ es)).nodes) (length p.more) p.less p.some)
 finish (suc fuel) es quiet most = go (next es quiet) (λ p less. finish fuel (p.more ++ es) p.quiet less)
   where
-    lower : (a b : ℕ) → a + b ≤ cost_of (run es).nodes → 1 ≤ b → a ≤ fuel
+    lower : (a b : ℕ) → a + b ≤ most_lines (run es).nodes → 1 ≤ b → a ≤ fuel
     lower a b h i = omega (arith, most, h, i)
 
-    go : IsOver (run es) ⊎ Progress es → ((p : Progress es) → cost_of (run (p.more ++ es)).nodes ≤ fuel → Ends (p.more ++ es)) → Ends es
+    go : IsOver (run es) ⊎ Progress es → ((p : Progress es) → most_lines (run (p.more ++ es)).nodes ≤ fuel → Ends (p.more ++ es)) → Ends es
     go (inl over) rest = record { more = []; recovers = tt; short = omega arith; over = over }
-    go (inr p) rest = ends_after es p (rest p (lower (cost_of (run (p.more ++ es)).nodes) (length p.more) p.less p.some))
+    go (inr p) rest = ends_after es p (rest p (lower (most_lines (run (p.more ++ es)).nodes) (length p.more) p.less p.some))
 
 pub no_run_is_stuck : NoRunIsStuck
 no_run_is_stuck es quiet =
-    let f : Ends es = finish (cost_of (run es).nodes) es quiet (omega arith) in
-    (f.more, record { recovers = f.recovers; short = short (length f.more) (cost_of (run es).nodes) (most_lines (run es).nodes) f.short (costs_less (run es).nodes); over = f.over })
-  where
-    short : (a b c : ℕ) → a ≤ b → b ≤ c → a ≤ c
-    short a b c h i = omega (arith, h, i)
+    let f : Ends es = finish (most_lines (run es).nodes) es quiet (omega arith) in
+    (f.more, record { recovers = f.recovers; short = f.short; over = f.over; closed = over_is_closed (f.more ++ es) f.over })
 
 -- after a stop of each site
 pub every_run_ends : EveryRunEnds

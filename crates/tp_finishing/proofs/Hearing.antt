@@ -26,7 +26,7 @@ use Rattle.tp_finishing.proofs.Still.{past_more}
 
 -- ---- words on associations that have numbers left
 
-count_carried : List TxOut → ℕ
+pub count_carried : List TxOut → ℕ
 count_carried [] = 0
 count_carried (TxOut.Carry p r ∷ outs) = suc (count_carried outs)
 count_carried (o ∷ outs) = count_carried outs
@@ -37,11 +37,11 @@ is_word (TxOut.Tell i) = true
 is_word (TxOut.Carry p r) = true
 is_word _ = false
 
-abbrev are_words : List TxOut → Bool
+abbrev pub are_words : List TxOut → Bool
 are_words [] = true
 are_words (o ∷ outs) = is_word o && are_words outs
 
-fewer : (m n : ℕ) (arcs : List Arc) → m ≤ n → HaveNumbers n arcs → HaveNumbers m arcs
+pub fewer : (m n : ℕ) (arcs : List Arc) → m ≤ n → HaveNumbers n arcs → HaveNumbers m arcs
 fewer m n [] h i = tt
 fewer m n (a ∷ arcs) h i = (omega (arith, h, i.0), fewer m n arcs h i.1)
 
@@ -94,29 +94,29 @@ count_more (TxOut.Shut p ∷ xs) ys = count_more xs ys
 count_more (TxOut.Recovery a r ∷ xs) ys = count_more xs ys
 count_more (TxOut.Close p ∷ xs) ys = count_more xs ys
 
-words_more : (xs ys : List TxOut) → are_words xs ≡ true → are_words ys ≡ true → are_words (xs ++ ys) ≡ true
+pub words_more : (xs ys : List TxOut) → are_words xs ≡ true → are_words ys ≡ true → are_words (xs ++ ys) ≡ true
 words_more [] ys h i = i
 words_more (x ∷ xs) ys h i = let rest = words_more xs ys (grind (arith, h)) i in grind (arith, h, rest)
 
 -- words alone, and so many at most go to peers
-abbrev Words : ℕ → List TxOut → Type 0
+abbrev pub Words : ℕ → List TxOut → Type 0
 Words n outs = (are_words outs ≡ true) × (count_carried outs ≤ n)
 
 join_count : (a b c m n : ℕ) → a ≡ b + c → b ≤ m → c ≤ n → a ≤ m + n
 join_count a b c m n h i j = omega (arith, h, i, j)
 
-joined : (m n : ℕ) (xs ys : List TxOut) → Words m xs → Words n ys → Words (m + n) (xs ++ ys)
+pub joined : (m n : ℕ) (xs ys : List TxOut) → Words m xs → Words n ys → Words (m + n) (xs ++ ys)
 joined m n xs ys h i = (words_more xs ys h.0 i.0, join_count (count_carried (xs ++ ys)) (count_carried xs) (count_carried ys) m n (count_more xs ys) h.1 i.1)
 
-nothing : Words 0 []
+pub nothing : Words 0 []
 unfolding count_carried
 nothing = (refl, omega arith)
 
-told : (i : Indication) → Words 0 (TxOut.Tell i ∷ [])
+pub told : (i : Indication) → Words 0 (TxOut.Tell i ∷ [])
 unfolding count_carried
 told i = (refl, omega arith)
 
-down_words : (arcs : List Arc) (bs : List Branch) (r : DialogueRecord) → Words (length bs) (carry_down (seen_rows arcs bs) r)
+pub down_words : (arcs : List Arc) (bs : List Branch) (r : DialogueRecord) → Words (length bs) (carry_down (seen_rows arcs bs) r)
 unfolding count_carried
 down_words arcs [] r = (refl, omega arith)
 down_words arcs (b ∷ bs) r = go ((seen_row arcs b).live && not b.left) (down_words arcs bs r)
@@ -126,7 +126,7 @@ down_words arcs (b ∷ bs) r = go ((seen_row arcs b).live && not b.left) (down_w
     go true rest = (rest.0, omega (arith, rest.1))
     go false rest = (rest.0, omega (arith, rest.1))
 
-up_words : (t : Transaction) (r : DialogueRecord) → Words 1 (carry_up t r)
+pub up_words : (t : Transaction) (r : DialogueRecord) → Words 1 (carry_up t r)
 unfolding count_carried
 up_words t r = go t.key t.up
   where
@@ -135,7 +135,7 @@ up_words t r = go t.key t.up
     go (Under a b s) true = (refl, omega arith)
     go (Under a b s) false = (refl, omega arith)
 
-within_turn : (drawn n : ℕ) (arcs : List Arc) (t : Arc → Bool) (f : Arc → Dialogue) (outs : List TxOut) → drawn ≤ greatest → Words n outs → HaveNumbers n arcs
+pub within_turn : (drawn n : ℕ) (arcs : List Arc) (t : Arc → Bool) (f : Arc → Dialogue) (outs : List TxOut) → drawn ≤ greatest → Words n outs → HaveNumbers n arcs
     → (nat_lt greatest drawn || some_past_numbers (performed (with_dialogues arcs t f) outs).1) ≡ false
 within_turn drawn n arcs t f outs h w k =
     let past = words_within (with_dialogues arcs t f) outs w.0 (fewer (count_carried outs) n (with_dialogues arcs t f) w.1 (chosen_within n arcs t f k)) in

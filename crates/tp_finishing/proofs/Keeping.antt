@@ -1,5 +1,5 @@
 -- What recovery makes of the transactions that a node keeps for their damage, where it has no other and no associations.
-use Rattle.std.proofs.Common.{if◌then◌else◌, ◌≡◌, inl, ℕ, suc, ◌≤◌, ◌+◌, Bool, true, false, refl, ap, sym, subst, ◌∙◌, arith, Option, Some, None, List, [], ◌∷◌, ◌&&◌, ◌||◌, not, nat_lt, length}
+use Rattle.std.proofs.Common.{if◌then◌else◌, ◌≡◌, inl, ℕ, suc, ◌≤◌, ◌+◌, ◌*◌, Bool, true, false, refl, ap, sym, subst, ◌∙◌, arith, Option, Some, None, List, [], ◌∷◌, ◌&&◌, ◌||◌, not, nat_lt, length}
 use Rattle.std.proofs.lemmas.Bool.Decides.{nat_tests}
 use Rattle.tp_names.specs.declared.identifiers.Aaid.{Aaid}
 use Rattle.tp_names.specs.declared.identifiers.Addr.{Addr}
@@ -31,9 +31,9 @@ use Rattle.tp_model.specs.Events.{refusal, refused_plainly, needs_numbers, some_
 use Rattle.tp_steps.specs.Moves.{are_apart}
 use Rattle.tp_histories.specs.Histories.{IsSentIn}
 use Rattle.tp_steps.proofs.lemmas.Options.{some_same}
-use Rattle.tp_finishing.specs.Finishing.{lines_of_kept}
+use Rattle.tp_finishing.specs.Finishing.{lines_to_forget, lines_of_kept, lines_at}
 use Rattle.tp_finishing.proofs.Answering.{addr_self}
-use Rattle.tp_finishing.proofs.Costs.{cost_at, owed_less}
+use Rattle.tp_finishing.proofs.Costs.{lines_of_one, owed_less}
 use Rattle.tp_finishing.proofs.Ending.{Lowers}
 use Rattle.tp_finishing.proofs.Still.{none_left, none_past}
 use Rattle.tp_finishing.proofs.Taking.{Taken, taken_by}
@@ -77,33 +77,54 @@ head_gone : (k : Kept) (ks : List Kept) → without_kept (k ∷ ks) k.key ≡ ks
 head_gone k ks = rw (key_self k.key, without_kept) refl
 
 -- where a branch is taken out of what is owed
-put_fewer : (ks : List Kept) (k x : Kept) → find_kept ks x.key ≡ Some k → suc (length x.owed) ≡ length k.owed → lines_of_kept (put_kept ks x) + 3 ≡ lines_of_kept ks
-put_fewer [] k x h less = absurd (cc (h))
-put_fewer (y ∷ ks) k x h less = go (is_key y.key x.key) h (λ i. put_fewer ks k x i less)
+put_fewer : (ks : List Kept) (k x : Kept) → find_kept ks x.key ≡ Some k → (is_commit x.side && not (is_root_key x.key)) ≡ (is_commit k.side && not (is_root_key k.key)) → suc (length x.owed) ≡ length k.owed → lines_of_kept (put_kept ks x) + 3 ≡ lines_of_kept ks
+put_fewer [] k x h head less = absurd (cc (h))
+put_fewer (y ∷ ks) k x h head less = go (is_key y.key x.key) h (λ i. put_fewer ks k x i head less)
   where
+    fewer : (a b m n l : ℕ) → a ≡ b → suc m ≡ n → a + 3 * m + l + 3 ≡ b + 3 * n + l
+    fewer a b m n l i j = omega (arith, i, j)
+
+    behind : (a b c : ℕ) → b + 3 ≡ c → a + b + 3 ≡ a + c
+    behind a b c i = omega (arith, i)
+
     go : (v : Bool) → (if v then Some y else find_kept ks x.key) ≡ Some k → (find_kept ks x.key ≡ Some k → lines_of_kept (put_kept ks x) + 3 ≡ lines_of_kept ks)
         → lines_of_kept (if v then record x { forgot = y.forgot } ∷ ks else y ∷ put_kept ks x) + 3 ≡ lines_of_kept (y ∷ ks)
-    go true i rest = let same : length y.owed ≡ length k.owed = ap (λ (z : Kept). length z.owed) (some_same y k i) in omega (arith, less, same)
-    go false i rest = let r = rest i in omega (arith, r)
+    go true i rest =
+        let same : y ≡ k = some_same y k i in
+        fewer (lines_to_forget (is_commit x.side && not (is_root_key x.key))) (lines_to_forget (is_commit y.side && not (is_root_key y.key))) (length x.owed) (length y.owed) (lines_of_kept ks)
+        (ap lines_to_forget (head ∙ ap (λ (z : Kept). is_commit z.side && not (is_root_key z.key)) (sym same))) (less ∙ ap (λ (z : Kept). length z.owed) (sym same))
+    go false i rest = behind (lines_of_one y) (lines_of_kept (put_kept ks x)) (lines_of_kept ks) (rest i)
 
-gone_fewer : (ks : List Kept) (k : Kept) (j : NodeKey) → find_kept ks j ≡ Some k → lines_of_kept (without_kept ks j) + 3 ≤ lines_of_kept ks
+gone_fewer : (ks : List Kept) (k : Kept) (j : NodeKey) → find_kept ks j ≡ Some k → lines_of_kept (without_kept ks j) + lines_of_one k ≡ lines_of_kept ks
 gone_fewer [] k j h = absurd (cc (h))
 gone_fewer (y ∷ ks) k j h = go (is_key y.key j) h (gone_fewer ks k j)
   where
-    go : (v : Bool) → (if v then Some y else find_kept ks j) ≡ Some k → (find_kept ks j ≡ Some k → lines_of_kept (without_kept ks j) + 3 ≤ lines_of_kept ks) → lines_of_kept (if v then ks else y ∷ without_kept ks j) + 3 ≤ lines_of_kept (y ∷ ks)
-    go true i rest = omega arith
-    go false i rest = let r = rest i in omega (arith, r)
+    swap : (a b : ℕ) → a + b ≡ b + a
+    swap a b = omega arith
+
+    behind : (a b c d : ℕ) → b + c ≡ d → a + b + c ≡ a + d
+    behind a b c d i = omega (arith, i)
+
+    go : (v : Bool) → (if v then Some y else find_kept ks j) ≡ Some k → (find_kept ks j ≡ Some k → lines_of_kept (without_kept ks j) + lines_of_one k ≡ lines_of_kept ks) → lines_of_kept (if v then ks else y ∷ without_kept ks j) + lines_of_one k ≡ lines_of_kept (y ∷ ks)
+    go true i rest = let same : lines_of_one k ≡ lines_of_one y = ap lines_of_one (sym (some_same y k i)) in ap (λ (n : ℕ). lines_of_kept ks + n) same ∙ swap (lines_of_kept ks) (lines_of_one y)
+    go false i rest = behind (lines_of_one y) (lines_of_kept (without_kept ks j)) (lines_of_one k) (lines_of_kept ks) (rest i)
 
 -- what a branch that is done leaves of what is kept
 pub done_kept : (k : Kept) (ks : List Kept) (a : Addr) (b : BranchId) (r : Report) (c : Child) → find_kept ks k.key ≡ Some k → find_owed k.owed b ≡ Some c → lines_of_kept (kept_after (settled k (KeptEvent.Done a b r)).rec ks) + 3 ≤ lines_of_kept ks
 unfolding settled kept_by
 done_kept k ks a b r c there found = subst (λ (o : Option LogRec). lines_of_kept (kept_after o ks) + 3 ≤ lines_of_kept ks) (sym (ap (λ (o : Option Child). elim o as (λ _. Option LogRec) [ None ↦ None | Some x ↦ Some (rec_of_done k b r) ]) found)) (go (is_nothing_owed (without_owed k.owed b) && k.forgot))
   where
+    few : (a b m n l : ℕ) → suc m ≡ n → l + (a + 3 * n) ≡ b → l + 3 ≤ b
+    few a b m n l i j = omega (arith, i, j)
+
+    same : (a b : ℕ) → a ≡ b → a ≤ b
+    same a b i = omega (arith, i)
+
     go : (v : Bool) → lines_of_kept (kept_after (Some (if v then LogRec.End k.node k.key k.side else LogRec.Damage k.node k.key k.superior k.side (join k.report r) (without_owed k.owed b))) ks) + 3 ≤ lines_of_kept ks
-    go true = gone_fewer ks k k.key there
+    go true = few (lines_to_forget (is_commit k.side && not (is_root_key k.key))) (lines_of_kept ks) (length (without_owed k.owed b)) (length k.owed) (lines_of_kept (without_kept ks k.key)) (owed_less k.owed b c found) (gone_fewer ks k k.key there)
     go false =
-        let one = put_fewer ks k (record { node = k.node; key = k.key; superior = k.superior; side = k.side; report = join k.report r; owed = without_owed k.owed b; forgot = false }) there (owed_less k.owed b c found) in
-        omega (arith, one)
+        let x : Kept = record { node = k.node; key = k.key; superior = k.superior; side = k.side; report = join k.report r; owed = without_owed k.owed b; forgot = false } in
+        same (lines_of_kept (put_kept ks x) + 3) (lines_of_kept ks) (put_fewer ks k x there refl (owed_less k.owed b c found))
 
 done_apart : (k : Kept) (a : Addr) (b : BranchId) (r : Report) → are_apart (settled k (KeptEvent.Done a b r)).outs ≡ true
 unfolding settled
@@ -198,7 +219,7 @@ named_idle d ks t b = go (kept_owing ks t b) refl (kept_of ks t) refl
 -- it lets the branch forget it, and owes no more than before
 pub record HearsDone (who : Who) (d : Digest) (from : Addr) (t : Aaid) (b : BranchId) (r : Report) : Type 0 where
   pub ok : refusal who d (Event.Arrive from (PeerRecord.RecReply t b (RecState.Done r))) ≡ None
-  pub lowers : Lowers 0 (cost_at d) (action who d (Event.Arrive from (PeerRecord.RecReply t b (RecState.Done r)))).next
+  pub lowers : Lowers 0 (lines_at d) (action who d (Event.Arrive from (PeerRecord.RecReply t b (RecState.Done r)))).next
   pub says : IsSentIn (action who d (Event.Arrive from (PeerRecord.RecReply t b (RecState.Done r)))).outs from (PeerRecord.Forget t b)
   pub idle_still : (action who d (Event.Arrive from (PeerRecord.RecReply t b (RecState.Done r)))).next.current ≡ None
 
@@ -230,18 +251,18 @@ done_heard who d ks from t b r some own h = go (named_idle d ks t b)
     plain : refused_plainly who z f ≡ None
     plain = rw own refl
 
-    answered : (m : Move) → action who z f ≡ m → (e : Digest) → m.next ≡ e → needs_numbers m ≡ false → Lowers 0 (cost_at z) e → e.current ≡ None → IsSentIn m.outs from (PeerRecord.Forget t b) → HearsDone who z from t b r
+    answered : (m : Move) → action who z f ≡ m → (e : Digest) → m.next ≡ e → needs_numbers m ≡ false → Lowers 0 (lines_at z) e → e.current ≡ None → IsSentIn m.outs from (PeerRecord.Forget t b) → HearsDone who z from t b r
     answered m same e left numbers low none says =
         let took : Taken who z f e = taken_by who z f e plain (ap needs_numbers same ∙ numbers) (ap (λ (x : Move). x.next) same ∙ left) in
         record {
           ok = took.ok;
-          lowers = subst (Lowers 0 (cost_at z)) (sym took.next_is) low;
+          lowers = subst (Lowers 0 (lines_at z)) (sym took.next_is) low;
           says = subst (λ (x : Move). IsSentIn x.outs from (PeerRecord.Forget t b)) (sym same) says;
           idle_still = ap (λ (x : Digest). x.current) took.next_is ∙ none;
         }
 
     go : NamedIdle ks (named_by_branch z t b) t → HearsDone who z from t b r
-    go (Nothing_named i) = answered (perform outs z) (ap (done_at who z from t b r) i) (idle d ks) left (enough d.drawn (some_past_numbers (performed [] outs).1) h (none_past outs (forget_apart from (branch_key t b) b r))) (idle_lowers 0 (cost_at z) d ks (omega arith)) refl (forgets from (branch_key t b) t b r refl some)
+    go (Nothing_named i) = answered (perform outs z) (ap (done_at who z from t b r) i) (idle d ks) left (enough d.drawn (some_past_numbers (performed [] outs).1) h (none_past outs (forget_apart from (branch_key t b) b r))) (idle_lowers 0 (lines_at z) d ks (omega arith)) refl (forgets from (branch_key t b) t b r refl some)
       where
         outs : List TxOut
         outs = forget_to from (branch_key t b) b r
@@ -251,7 +272,7 @@ done_heard who d ks from t b r some own h = go (named_idle d ks t b)
     go (Kept_named k i tree there) =
         let s : Step = settled k (KeptEvent.Done from b r) in
         let less = settled_less k ks from b r there in
-        answered (keep s z) (ap (done_at who z from t b r) i) (idle d (kept_after s.rec ks)) (keep_next s d ks) (keep_numbers s d ks (done_apart k from b r) h) (idle_lowers 0 (cost_at z) d (kept_after s.rec ks) (omega (arith, less))) refl (forgets from k.key t b r tree some)
+        answered (keep s z) (ap (done_at who z from t b r) i) (idle d (kept_after s.rec ks)) (keep_next s d ks) (keep_numbers s d ks (done_apart k from b r) h) (idle_lowers 0 (lines_at z) d (kept_after s.rec ks) (omega (arith, less))) refl (forgets from k.key t b r tree some)
 
 -- ---- Forget is taken
 

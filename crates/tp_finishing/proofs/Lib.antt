@@ -7,9 +7,9 @@ mod Retries
 mod Kindred
 mod Answering
 mod Hearing
-mod Doubts
+pub mod Doubts
 mod Sites
-mod Stops
+pub mod Stops
 mod Still
 mod Costs
 mod Ending
@@ -20,4 +20,8 @@ mod Picks
 mod Noted
 mod Exchanges
 mod Owed
-mod Finish
+pub mod Closed
+mod Losing
+pub mod Cutting
+pub mod Again
+pub mod Finish

@@ -1,6 +1,6 @@
 -- What may be done next in a quiet world where nobody is in doubt: a branch is asked to commit, is let forget, or a kept transaction is
 -- purged.
-use Rattle.std.proofs.Common.{◌≡◌, ℕ, ◌≤◌, ◌+◌, Bool, true, false, refl, ap, sym, subst, ◌∙◌, arith, Option, Some, None, List, [], ◌∷◌, ◌==◌, ◌||◌, ◌&&◌, not}
+use Rattle.std.proofs.Common.{◌≡◌, ℕ, ◌≤◌, ◌+◌, ◌*◌, Bool, true, false, refl, ap, sym, subst, ◌∙◌, arith, Option, Some, None, List, [], ◌∷◌, ◌==◌, ◌||◌, ◌&&◌, not, length}
 use Rattle.std.proofs.lemmas.Bool.Decides.{nat_tests}
 use Rattle.tp_names.specs.declared.identifiers.Aaid.{Aaid}
 use Rattle.tp_names.specs.declared.identifiers.Addr.{Addr}
@@ -52,7 +52,7 @@ use Rattle.tp_reports.proofs.BranchMarks.{begun_mark}
 use Rattle.tp_reports.proofs.ClearedFate.{idle_never}
 use Rattle.tp_finishing.specs.Doubt.{known_of as digest_of}
 use Rattle.tp_finishing.specs.Quiet.{IsQuiet}
-use Rattle.tp_finishing.specs.Finishing.{lines_of_kept}
+use Rattle.tp_finishing.specs.Finishing.{lines_to_forget, lines_of_current, lines_of_kept, lines_at, most_lines}
 use Rattle.tp_finishing.proofs.KeptTurns.{EachChild}
 use Rattle.tp_finishing.proofs.Kindred.{KeyAt, FitsKept, AllFit, Fits}
 use Rattle.tp_finishing.proofs.BegunOnce.{HasBegun, begun_once}
@@ -62,7 +62,6 @@ use Rattle.tp_finishing.proofs.Deliveries.{does_take, task_here}
 use Rattle.tp_finishing.proofs.Retries.{asks_branches, says_of_kept, asks_owed, tells_above}
 use Rattle.tp_finishing.proofs.Answering.{FoundIn, child_known, no_other, kept_fits}
 use Rattle.tp_finishing.proofs.Still.{left_by}
-use Rattle.tp_finishing.proofs.Costs.{cost_of_current, cost_at, cost_of}
 use Rattle.tp_finishing.proofs.Ending.{Lowers, waiting, reply_ends}
 use Rattle.tp_finishing.proofs.Taking.{Taken, Orders, order_taken, reply_taken}
 use Rattle.tp_finishing.proofs.Keeping.{idle, idle_is, found_key, done_kept, owed_done, HearsDone, done_heard, forget_taken, purge_taken}
@@ -188,7 +187,7 @@ asks_branch es x c quiet here at phase owes last =
       heard = took.ok;
       last = took.next_is;
     }))
-    quiet (quiet z there) low.quiet (total (cost_at d2) (cost_at (digest_of z)) (cost_at (digest_of x)) low.less)
+    quiet (quiet z there) low.quiet (total (lines_at d2) (lines_at (digest_of z)) (lines_at (digest_of x)) low.less)
   where
     good : IsGood (run es).nodes (run es).frames
     good = good_run es
@@ -233,8 +232,8 @@ asks_branch es x c quiet here at phase owes last =
         reply_taken x.origin.who (digest_of x) c (addr_of z) t w.branch o.report (quiet x here).arcs now (aaid_self t) w.found (own_branch es x z t (child_of w.branch) here there to w.holds)
         (drawn_law x.origin x.superior x.history (good.legal (number_of x) x here))
 
-    low : Lowers 3 (cost_at (digest_of x)) d2
-    low = subst (λ (v : Option Current). Lowers 3 (cost_of_current v + lines_of_kept (digest_of x).kept) d2) (sym now) (reply_ends x.origin.who (digest_of x) c w.branch o.report w.opens)
+    low : Lowers 3 (lines_at (digest_of x)) d2
+    low = subst (λ (v : Option Current). Lowers 3 (lines_of_current v + lines_of_kept (digest_of x).kept) d2) (sym now) (reply_ends x.origin.who (digest_of x) c w.branch o.report w.opens)
 
     total : (m n k : ℕ) → m + 3 ≤ k → m + n + 3 ≤ k + n
     total m n k h = omega (arith, h)
@@ -264,7 +263,7 @@ asks_kept es x k ks ch cs quiet still here kept owes =
       heard = took.ok;
       last = took.next_is;
     }))
-    quiet (quiet z there) (record { arcs = refl; active = refl; rolling = refl }) (total (cost_at d2) (cost_at (digest_of z)) (cost_at (digest_of x)) low)
+    quiet (quiet z there) (record { arcs = refl; active = refl; rolling = refl }) (total (lines_at d2) (lines_at (digest_of z)) (lines_at (digest_of x)) low)
   where
     good : IsGood (run es).nodes (run es).frames
     good = good_run es
@@ -329,8 +328,8 @@ asks_kept es x k ks ch cs quiet still here kept owes =
         (subst (λ (d : Digest). is_other (child_addr (named_by_branch d t ch.branch) ch.branch) (addr_of z) ≡ false) same (own_branch es x z t ch here there to branch))
         (drawn_law x.origin x.superior x.history (good.legal (number_of x) x here)))
 
-    low : cost_at d2 + 3 ≤ cost_at (digest_of x)
-    low = subst (λ (d : Digest). cost_at d2 + 3 ≤ cost_at d) (sym same) (less (lines_of_kept d2.kept) (lines_of_kept (k ∷ ks)) (done_kept k (k ∷ ks) (addr_of z) ch.branch o.report ch head found))
+    low : lines_at d2 + 3 ≤ lines_at (digest_of x)
+    low = subst (λ (d : Digest). lines_at d2 + 3 ≤ lines_at d) (sym same) (less (lines_of_kept d2.kept) (lines_of_kept (k ∷ ks)) (done_kept k (k ∷ ks) (addr_of z) ch.branch o.report ch head found))
       where
         less : (m n : ℕ) → m + 3 ≤ n → 0 + m + 3 ≤ 0 + n
         less m n h = omega (arith, h)
@@ -363,7 +362,7 @@ forgets_kept es x k ks t b a quiet still here kept none side key up above =
       heard = took.ok;
       last = took.next_is;
     }))
-    quiet h.lowers.quiet (record { arcs = refl; active = refl; rolling = refl }) (total (lines_of_kept ks) (cost_at d1) (cost_at (digest_of y)) (cost_at (digest_of x)) h.lowers.less cost)
+    quiet h.lowers.quiet (record { arcs = refl; active = refl; rolling = refl }) (total (lines_of_kept ks) (lines_at d1) (lines_at (digest_of y)) (lines_at (digest_of x)) h.lowers.less cost)
   where
     good : IsGood (run es).nodes (run es).frames
     good = good_run es
@@ -431,8 +430,14 @@ forgets_kept es x k ks t b a quiet still here kept none side key up above =
         subst (λ (d : Digest). Taken x.origin.who d (Event.Arrive (addr_of y) (PeerRecord.Forget t b)) (idle (digest_of x) ks)) (sym same)
         (forget_taken x.origin.who (digest_of x) k ks (addr_of y) t b key (up ∙ ap (λ (v : Addr). Some v) address) side none (drawn_law x.origin x.superior x.history (good.legal (number_of x) x here)))
 
-    cost : lines_of_kept ks + 3 ≤ cost_at (digest_of x)
-    cost = subst (λ (d : Digest). lines_of_kept ks + 3 ≤ cost_at d) (sym same) (omega arith)
+    cost : lines_of_kept ks + 3 ≤ lines_at (digest_of x)
+    cost = subst (λ (d : Digest). lines_of_kept ks + 3 ≤ lines_at d) (sym same) (costs (lines_to_forget (is_commit k.side && not (is_root_key k.key))) (length k.owed) (lines_of_kept ks) to_forget)
+      where
+        to_forget : lines_to_forget (is_commit k.side && not (is_root_key k.key)) ≡ 3
+        to_forget = rw (side, key) refl
+
+        costs : (n m l : ℕ) → n ≡ 3 → l + 3 ≤ 0 + (n + 3 * m + l)
+        costs n m l i = omega (arith, i)
 
     total : (l m n j : ℕ) → m + 0 ≤ n → l + 3 ≤ j → 0 + l + m + 3 ≤ j + n
     total l m n j p q = omega (arith, p, q)
@@ -459,8 +464,15 @@ purges es x k ks quiet still here kept none free = record {
         subst (λ (d : Digest). Taken x.origin.who d Event.Purge (idle (digest_of x) ks)) (sym same)
         (purge_taken x.origin.who (digest_of x) k ks (keeps_node x.origin x.superior x.history k ks (good.fresh (number_of x) x here) (good.legal (number_of x) x here) kept) none free)
 
-    low : Lowers 1 (cost_at (digest_of x)) (digest_of (grown_node x Event.Purge))
-    low = subst (Lowers 1 (cost_at (digest_of x))) (sym took.next_is) (record { quiet = record { arcs = refl; active = refl; rolling = refl }; less = subst (λ (d : Digest). cost_at (idle (digest_of x) ks) + 1 ≤ cost_at d) (sym same) (omega arith) })
+    low : Lowers 1 (lines_at (digest_of x)) (digest_of (grown_node x Event.Purge))
+    low = subst (Lowers 1 (lines_at (digest_of x))) (sym took.next_is) (record { quiet = record { arcs = refl; active = refl; rolling = refl }; less = subst (λ (d : Digest). lines_at (idle (digest_of x) ks) + 1 ≤ lines_at d) (sym same) (costs (lines_to_forget (is_commit k.side && not (is_root_key k.key))) (length k.owed) (lines_of_kept ks) (one_to_forget (is_commit k.side && not (is_root_key k.key)))) })
+      where
+        one_to_forget : (b : Bool) → 1 ≤ lines_to_forget b
+        one_to_forget true = omega arith
+        one_to_forget false = omega arith
 
-    done : IsQuiet (run (Does (Action.Purge (number_of x)) ∷ es)) × (cost_of (run (Does (Action.Purge (number_of x)) ∷ es)).nodes + 1 ≤ cost_of (run es).nodes)
+        costs : (n m l : ℕ) → 1 ≤ n → 0 + l + 1 ≤ 0 + (n + 3 * m + l)
+        costs n m l i = omega (arith, i)
+
+    done : IsQuiet (run (Does (Action.Purge (number_of x)) ∷ es)) × (most_lines (run (Does (Action.Purge (number_of x)) ∷ es)).nodes + 1 ≤ most_lines (run es).nodes)
     done = line es x (Action.Purge (number_of x)) Event.Purge 1 (quiet_but (run es) (number_of x) quiet) here (does_take (run es) (Action.Purge (number_of x)) x Event.Purge (task_here (run es) x Event.Purge here) took.ok) low

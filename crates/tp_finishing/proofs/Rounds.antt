@@ -18,7 +18,8 @@ use Rattle.tp_histories.proofs.worlds.Nodes.{find_is}
 use Rattle.tp_steps.proofs.lemmas.Options.{some_same}
 use Rattle.tp_finishing.specs.Doubt.{known_of}
 use Rattle.tp_finishing.specs.Quiet.{IsQuietAt, IsQuiet}
-use Rattle.tp_finishing.proofs.Costs.{cost_at, cost_of, cost_put}
+use Rattle.tp_finishing.specs.Finishing.{lines_at, most_lines}
+use Rattle.tp_finishing.proofs.Costs.{cost_put}
 use Rattle.tp_finishing.proofs.Deliveries.{Takes, does_take, task_here, NewFrame, new_frame, task_again, taken_here, taken_there}
 use Rattle.tp_finishing.proofs.Retries.{retry_same, retry_taken}
 
@@ -27,8 +28,8 @@ use Rattle.tp_finishing.proofs.Retries.{retry_same, retry_taken}
 pub frames_grow : (w v : World) (x : Node) (e : Event) → Takes w x e v → length w.frames ≤ length v.frames
 frames_grow w v x e t = let more = length-append w.frames (frames_of (addr_of x) (entry_of x.origin x.history e).outs) in omega (arith, ap length t.frames, more)
 
-pub takes_cost : (w v : World) (x : Node) (e : Event) → IsIn w x → Takes w x e v → cost_of v.nodes + cost_at (known_of x) ≡ cost_of w.nodes + cost_at (known_of (grown_node x e))
-takes_cost w v x e here t = ap (λ (ns : List Node). cost_of ns + cost_at (known_of x)) t.nodes ∙ cost_put w.nodes x (grown_node x e) here
+pub takes_cost : (w v : World) (x : Node) (e : Event) → IsIn w x → Takes w x e v → most_lines v.nodes + lines_at (known_of x) ≡ most_lines w.nodes + lines_at (known_of (grown_node x e))
+takes_cost w v x e here t = ap (λ (ns : List Node). most_lines ns + lines_at (known_of x)) t.nodes ∙ cost_put w.nodes x (grown_node x e) here
 
 -- each node but those with these numbers is as it was
 abbrev pub AreAsBefore : World → World → ℕ → ℕ → Type 0
@@ -52,7 +53,7 @@ pub record Round (es : List Happening) (x y : Node) (d1 d2 : Digest) : Type 0 wh
   pub second_here : find_node (run (Does (Action.Again answers) ∷ Does (Action.Again asks) ∷ Does (Action.Retry (number_of x)) ∷ es)).nodes (number_of y) ≡ Some second
   pub second_is : known_of second ≡ d1
   pub others : AreAsBefore (run es) (run (Does (Action.Again answers) ∷ Does (Action.Again asks) ∷ Does (Action.Retry (number_of x)) ∷ es)) (number_of x) (number_of y)
-  pub costs : cost_of (run (Does (Action.Again answers) ∷ Does (Action.Again asks) ∷ Does (Action.Retry (number_of x)) ∷ es)).nodes + cost_at (known_of x) + cost_at (known_of y) ≡ cost_of (run es).nodes + cost_at d2 + cost_at d1
+  pub costs : most_lines (run (Does (Action.Again answers) ∷ Does (Action.Again asks) ∷ Does (Action.Retry (number_of x)) ∷ es)).nodes + lines_at (known_of x) + lines_at (known_of y) ≡ most_lines (run es).nodes + lines_at d2 + lines_at d1
 
 -- what is said, and what is answered
 pub record Asks (es : List Happening) (x y : Node) (d1 d2 : Digest) : Type 0 where
@@ -92,10 +93,10 @@ round es x y d1 d2 a = record {
   second_is = a.after;
   others = λ k i j. taken_there (run es2) (run es3) x1 heard k here2 ended i ∙ taken_there (run es1) (run es2) y asked k there1 took j ∙ taken_there (run es) (run es1) x Event.Retry k a.here retried i;
   costs =
-      total (cost_of (run es).nodes) (cost_of (run es1).nodes) (cost_of (run es2).nodes) (cost_of (run es3).nodes) (cost_at (known_of x)) (cost_at (known_of x1)) (cost_at (known_of (grown_node x1 heard))) (cost_at (known_of y)) (cost_at (known_of (grown_node y asked)))
-      (takes_cost (run es) (run es1) x Event.Retry a.here retried) (ap cost_at same) (takes_cost (run es1) (run es2) y asked there1 took) (takes_cost (run es2) (run es3) x1 heard here2 ended)
-      ∙ ap (λ (d : Digest). cost_of (run es).nodes + cost_at d + cost_at (known_of (grown_node y asked))) (ap (λ (d : Digest). (action x.origin.who d heard).next) same ∙ a.last)
-      ∙ ap (λ (d : Digest). cost_of (run es).nodes + cost_at d2 + cost_at d) a.after;
+      total (most_lines (run es).nodes) (most_lines (run es1).nodes) (most_lines (run es2).nodes) (most_lines (run es3).nodes) (lines_at (known_of x)) (lines_at (known_of x1)) (lines_at (known_of (grown_node x1 heard))) (lines_at (known_of y)) (lines_at (known_of (grown_node y asked)))
+      (takes_cost (run es) (run es1) x Event.Retry a.here retried) (ap lines_at same) (takes_cost (run es1) (run es2) y asked there1 took) (takes_cost (run es2) (run es3) x1 heard here2 ended)
+      ∙ ap (λ (d : Digest). most_lines (run es).nodes + lines_at d + lines_at (known_of (grown_node y asked))) (ap (λ (d : Digest). (action x.origin.who d heard).next) same ∙ a.last)
+      ∙ ap (λ (d : Digest). most_lines (run es).nodes + lines_at d2 + lines_at d) a.after;
 }
   where
     good : IsGood (run es).nodes (run es).frames

@@ -21,7 +21,7 @@ recovered_calm None d = (refl, refl)
 recovered_calm (Some c) d = (grind arith, grind arith)
 
 -- it is declared again
-stopped_is : (o : Origin) (h : List Entry) (s : Option Addr) → digest o (grown o (crashed h) (Event.Declare s)) ≡ record (after_crash (digest o h)) { declared = true; superior = s }
+pub stopped_is : (o : Origin) (h : List Entry) (s : Option Addr) → digest o (grown o (crashed h) (Event.Declare s)) ≡ record (after_crash (digest o h)) { declared = true; superior = s }
 unfolding verdict after_crash
 stopped_is o h s = refl
 

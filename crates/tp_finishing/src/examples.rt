@@ -1,9 +1,13 @@
 //! Worked examples of how runs are ended, computed by the prover from the definitions.
 //!
 //! Each function has an empty body; its clauses are the example.
-ghost use Rattle.std.specs.Prelude.{◌≡◌, ◌&&◌, ◌||◌, true, false, Some};
+ghost use Rattle.std.specs.Prelude.{◌≡◌, ◌+◌, ◌&&◌, ◌||◌, ◌++◌, ◌∷◌, [], true, false, length, reverse, codes, Some};
+ghost use Rattle.tp_model.specs.declared.out_line.OutLine.{OutLine};
+ghost use Rattle.tp_model.specs.Happenings.{run};
+ghost use Rattle.tp_model.specs.Trees.{closing};
+ghost use Rattle.tp_finishing.specs.Again.{tells_to_commit};
 ghost use Rattle.tp_model.specs.declared.arc.Phase.{Phase};
-ghost use Rattle.tp_finishing.specs.Examples.{unheard, heard_since, stopped, ended, phase_after, arcs_after, is_over_after, lines_after};
+ghost use Rattle.tp_finishing.specs.Examples.{unheard, heard_since, stopped, ended, in_danger, decided, cut, all_stopped, first_heard, recovery, phase_after, arcs_after, is_over_after, are_over_after, lines_after, cuts_after, said_again_after};
 
 /// The order of a root is lost while its branch is in doubt and both are up. The branch asks, and commits by the answer.
 pub fn a_lost_order_is_asked_for()
@@ -18,5 +22,25 @@ pub fn a_stopped_run_is_ended()
     ensures doubt { phase_after stopped 2 ≡ Some Phase.Ready }
     ensures ongoing { (is_over_after stopped 1 || is_over_after stopped 2) ≡ false }
     ensures over { (is_over_after ended 1 && is_over_after ended 2) ≡ true }
-    ensures most { lines_after stopped ≡ 17 }
+    ensures most { lines_after stopped ≡ 12 }
+{}
+
+/// Two branches decided to roll back, the site of the root stopped between its Commit and its Damage, and the root gave one of them up.
+/// What it may have said in vain it says again: its user is told to commit. Two cuts leave the branches without an association, as
+/// many as may be needed.
+pub fn a_tree_in_danger_is_cut()
+    ensures told { tells_to_commit (said_again_after in_danger 1) ≡ true }
+    ensures most { cuts_after decided ≡ 2 }
+    ensures quiet { arcs_after cut 2 + arcs_after cut 3 ≡ 0 }
+{}
+
+/// So do the stops of their sites. Then recovery takes exactly as many lines as it may: a branch hears the outcome by the first three
+/// of them, and after all of them nothing is left, and the tree is mixed, by the two that decided.
+pub fn a_tree_in_danger_is_ended()
+    ensures quiet { arcs_after all_stopped 2 + arcs_after all_stopped 3 ≡ 0 }
+    ensures doubt { phase_after all_stopped 2 ≡ Some Phase.Ready }
+    ensures heard { phase_after first_heard 2 ≡ Some Phase.Committing }
+    ensures most { lines_after all_stopped ≡ length recovery }
+    ensures over { are_over_after (all_stopped ++ recovery) ≡ true }
+    ensures mixed { closing (run (reverse (all_stopped ++ recovery))) ≡ OutLine.Mixed (record { owner = codes "a"; mark = record { boot = 1; node = 1; count = 3 } }) (2 ∷ 3 ∷ []) ∷ [] }
 {}
