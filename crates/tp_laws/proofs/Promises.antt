@@ -23,6 +23,8 @@ use Rattle.tp_alarms.proofs.Causes.{reports_have_causes}
 use Rattle.tp_alarms.proofs.Alarms.{no_false_alarm}
 use Rattle.tp_alarms.proofs.Commitments.{commitments_apart}
 use Rattle.tp_alarms.proofs.Rollbacks.{rollbacks_apart}
+use Rattle.tp_finishing.proofs.Closed.{over_is_closed}
+use Rattle.tp_finishing.proofs.Again.{lost_is_said_again}
 use Rattle.tp_laws.specs.Whole.{AllPromised}
 
 -- ---- the headline
@@ -66,4 +68,6 @@ all_promised es = record {
   no_false_alarm = no_false_alarm es;
   commitments_apart = commitments_apart es;
   rollbacks_apart = rollbacks_apart es;
+  over_is_closed = over_is_closed es;
+  said_again = lost_is_said_again es;
 }

@@ -14,6 +14,8 @@ use Rattle.tp_outcomes.specs.Starting.{ClosesOnce}
 use Rattle.tp_alarms.specs.Causes.{ReportsHaveCauses}
 use Rattle.tp_alarms.specs.Alarms.{NoFalseAlarm}
 use Rattle.tp_alarms.specs.Apart.{CommitmentsAreApart, RollbacksAreApart}
+use Rattle.tp_finishing.specs.Finishing.{IsOver, IsClosed}
+use Rattle.tp_finishing.specs.Again.{LostIsSaidAgain}
 
 pub record AllPromised (w : World) : Type 0 where
   -- legal histories, associations, control, the headline, what users see, a node and its branches, reports, mixed trees
@@ -49,3 +51,6 @@ pub record AllPromised (w : World) : Type 0 where
   -- and behind mix stands a decision of the other outcome, behind hazard a branch given up
   pub commitments_apart : CommitmentsAreApart w
   pub rollbacks_apart : RollbacksAreApart w
+  -- no tree is open where no node has a transaction; and what a stop may have swallowed is said again
+  pub over_is_closed : IsOver w → IsClosed w
+  pub said_again : LostIsSaidAgain w

@@ -26,6 +26,11 @@ ghost use Rattle.tp_model.specs.Expand.{played_all, IsExpanded};
 ghost use Rattle.tp_members.specs.Expansion.{LeavesItsWorld, ClosesAlike, IsWrittenOut, SpeaksOfNone, IsOfRun};
 ghost use Rattle.tp_runs.specs.RolledSeen.{RolledIsSeen};
 ghost use Rattle.tp_laws.specs.Whole.{AllPromised};
+ghost use Rattle.tp_finishing.specs.Doubt.{DoubtEnds};
+ghost use Rattle.tp_finishing.specs.Quiet.{StopsQuieten};
+ghost use Rattle.tp_finishing.specs.Cuts.{CutsQuieten};
+ghost use Rattle.tp_finishing.specs.Finishing.{OverIsClosed, NoRunIsStuck, EveryRunEnds};
+ghost use Rattle.tp_finishing.specs.Again.{LostIsSaidAgain};
 ghost use Rattle.tp_laws.specs.Deployed.{DeploymentsKeep, DeploymentsStay};
 
 /// In every run, every node's history is one that grew from an empty log by events that were accepted.
@@ -153,6 +158,29 @@ pub fn all_that_is_promised_is_kept()
 pub fn a_deployment_keeps_the_promises()
     ensures kept { DeploymentsKeep }
     ensures stays { DeploymentsStay }
+{}
+
+/// In every run, a node in doubt whose superior is neither active nor in doubt hears how its tree ended by one retry and the delivery of
+/// two frames that were sent since, with all its associations in place: it commits, or it rolls back.
+pub fn doubt_ends()
+    ensures { DoubtEnds }
+{}
+
+/// No run is stuck. Whatever happened in it, one stop of each site, or so many cuts of associations, leave no association and no node
+/// that is active or rolls back; from there, so many lines of recovery alone end every transaction; and then no tree is open.
+pub fn no_run_is_stuck()
+    ensures stops { StopsQuieten }
+    ensures cuts { CutsQuieten }
+    ensures recovery { NoRunIsStuck }
+    ensures ends { EveryRunEnds }
+    ensures closed { OverIsClosed }
+{}
+
+/// In every run, what a stop may have swallowed is said again once the node is declared and retries: to commit, to its user and its branches,
+/// where it commits; the question to its superior, where it is in doubt; and of each commitment that it keeps, the order to the branches that
+/// it owes and the report to its superior. What was active or rolled back is over.
+pub fn what_was_lost_is_said_again()
+    ensures { (es : List Happening) → LostIsSaidAgain (run es) }
 {}
 
 /// What lines leave, for every number of members and every list of answers, is what a list of happenings leaves; so is what
