@@ -92,7 +92,8 @@ def honest(draw: random.Random, above: typing.Dict[int, int]) -> typing.List[str
         for node in below:
             lines += ["do %d begin-transaction %d" % (above[node], node), "drain"]
         for node in above:
-            lines += ["do %d %s" % (node, draw.choice(["commit"] * 20 + ["rollback", "unchanged"])), draw.choice(["drain"] * 5 + ["retry %d" % node])]
+            asks = draw.choice(["commit"] * 20 + ["rollback", "unchanged"])
+            lines += ["do %d %s" % (node, asks), draw.choice(["drain"] * 5 + ["retry %d" % node])]
         lines += ["do %d done" % node for node in draw.sample(list(above), len(above)) if draw.random() < 0.8] + ["drain"]
     return lines
 
@@ -101,8 +102,9 @@ def wild(draw: random.Random, above: typing.Dict[int, int], sites: typing.Dict[i
     node = draw.choice(list(above))
     peer = draw.choice([other for other in above if above[other] == node or above[node] == other] or [node])
     site = sites[node]
+    inside = "crash %s at %d fill %s in do %d %s" % (site, draw.randint(1, 6), draw.choice(["00", "01", "ff"]), node, draw.choice(["commit", "done"]))
     return draw.choice([
-        "crash %s" % site, "crash %s at %d fill %s in do %d %s" % (site, draw.randint(1, 6), draw.choice(["00", "01", "ff"]), node, draw.choice(["commit", "done"])),
+        "crash %s" % site, inside,
         "lose %d %d" % (node, peer), "skip %d %d" % (peer, node), "skip %d %d" % (node, peer), "giveup %d %d" % (node, peer), "giveup %d %d" % (node, peer),
         "heur %d rollback" % node, "heur %d rollback" % node, "heur %d commit" % node, "retry %d" % node, "purge %d" % node, "do %d done" % node,
         "do %d begin-dialogue %d scu" % (node, peer), "do %d accept scu" % peer,
