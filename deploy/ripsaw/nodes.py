@@ -99,7 +99,7 @@ class Node:
             await asyncio.sleep(pause)
             pause = min(2 * pause, MOST_AGAIN)
 
-    # Retries.
+    # Retries, by the rules of docs/OPERATING.md: the order of nodes there comes by itself, since who is asked too early is asked again.
 
     def wants_retry(self, now: float) -> bool:
         return (self.phase in (Phase.VOTED, Phase.COMMITTING) or self.kept) and now >= self.retry_at
