@@ -109,6 +109,7 @@ run_alike s v rs qs k gs =
     let forced : (node_run (on s v rs) gs).log ≡ (node_run (on s v qs) gs).log = ap (λ (b : ℕ). LogRec.Boot b ∷ (run_from (on s v rs) [] gs).log) k.boot ∙ ap (λ (r : NodeRun). LogRec.Boot (boot_of (on s v qs)) ∷ r.log) same in
     record {
       outputs = ap (λ (r : NodeRun). r.outputs) same;
+      histories = λ n. ap (λ (r : NodeRun). history_of r.pasts n) same;
       forced = forced;
       next = subst (λ (l : List LogRec). StartAlike (on s v (rs ++ (node_run (on s v rs) gs).log)) (on s v (qs ++ l))) forced (more_alike s v rs qs (node_run (on s v rs) gs).log k);
     }

@@ -6,7 +6,7 @@ use Rattle.tp_logrec.specs.declared.record.LogRec.{LogRec}
 use Rattle.tp_logrec.specs.declared.record.LogVersion.{LogVersion}
 use Rattle.tp_logrec.specs.Order.{all_follow, brief}
 use Rattle.tp_model.specs.History.{digest}
-use Rattle.tp_model.specs.NodeRun.{Opening, boot_of, origin_at, node_run, log_after}
+use Rattle.tp_model.specs.NodeRun.{Opening, boot_of, origin_at, history_of, node_run, log_after}
 
 abbrev pub on : List ℕ → LogVersion → List LogRec → Opening
 on s version rs = record { site = s; version = version; records = rs }
@@ -27,6 +27,8 @@ log_on s version rs gs = log_after (on s version rs) gs
 
 pub record RunAlike (s : List ℕ) (version : LogVersion) (rs qs : List LogRec) (gs : List Given) : Type 0 where
   pub outputs : (node_run (on s version rs) gs).outputs ≡ (node_run (on s version qs) gs).outputs
+  -- what happens to each node
+  pub histories : (n : ℕ) → history_of (node_run (on s version rs) gs).pasts n ≡ history_of (node_run (on s version qs) gs).pasts n
   -- what is forced, from the boot on
   pub forced : (node_run (on s version rs) gs).log ≡ (node_run (on s version qs) gs).log
   -- and the next start
