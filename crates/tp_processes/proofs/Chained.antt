@@ -15,9 +15,10 @@ use Rattle.tp_briefs.proofs.Runs.{run_alike}
 use Rattle.tp_site_logs.specs.SiteLogs.{only_branches_vote, is_in_order}
 use Rattle.tp_site_logs.specs.Lives.{Life, opening_after}
 use Rattle.tp_site_logs.proofs.StaysInOrder.{stays_in_order}
-use Rattle.tp_processes.specs.Processes.{Process, IsProcess, IsShortened, AreProcesses, life_of, ProcessesLeaveTheLog, ProcessesLeaveItWhole, ProcessesActAlike}
+use Rattle.tp_processes.specs.Processes.{Process, IsProcess, IsShortened, AreProcesses, IsPartOf, life_of, ProcessesLeaveTheLog, ProcessesLeaveItWhole, ProcessesActAlike}
 use Rattle.tp_processes.proofs.Opening.{finds, opens}
 use Rattle.tp_processes.proofs.Votes.{fair_brief}
+use Rattle.tp_processes.proofs.Parts.{brief_part, longer_part}
 
 abbrev two : LogVersion
 two = LogVersion.Two
@@ -36,6 +37,7 @@ record Stands (s : List ℕ) (life : Life) (file : List ℕ) : Type 0 where
   log : IsLog file records
   order : is_in_order records ≡ true
   alike : StartAlike (on s two records) (on s two (opening_after s life).records)
+  part : IsPartOf records (opening_after s life).records
 
 short : (rs : List LogRec) → is_in_order rs ≡ true → is_in_order (brief rs) ≡ true
 short rs h =
@@ -43,7 +45,7 @@ short rs h =
     ap (λ (b : Bool). b && only_branches_vote (brief rs)) (brief_in_order rs p.0) ∙ fair_brief rs p.1
 
 fresh : (s : List ℕ) (file : List ℕ) → IsLog file [] → Stands s [] file
-fresh s file log = record { records = []; log = log; order = refl; alike = record { boot = refl; knows = λ n. refl } }
+fresh s file log = record { records = []; log = log; order = refl; alike = record { boot = refl; knows = λ n. refl }; part = λ r o own is. is }
 
 -- what the next one finds
 found_from : (s : List ℕ) (life : Life) (p q : Process) → (p.found ≡ q.left) ⊎ IsShortened p.found q.left → Stands s life q.left → Stands s life p.found
@@ -56,6 +58,7 @@ found_from s life p q (inr x) k =
       log = subst (λ (rs : List LogRec). IsLog p.found (brief rs)) same x.after;
       order = short k.records k.order;
       alike = alike_then (on s two (brief k.records)) (on s two k.records) (on s two (opening_after s life).records) (alike s two k.records follow.0) k.alike;
+      part = λ r o own is. k.part r o own (brief_part k.records r o own is);
     }
 
 -- and what it leaves
@@ -74,8 +77,9 @@ left_from s life p k i = go p.begun (subst (λ (rs : List LogRec). IsLog p.left 
       log = log;
       order = stays_in_order (on s two k.records) p.given k.order;
       alike = subst (λ (o : Opening). StartAlike (on s two (log_after (on s two k.records) p.given)) (on s two (log_after o p.given))) (opening_is s life) next.next;
+      part = longer_part k.records (opening_after s life).records (node_run (on s two k.records) p.given).log (node_run (opening_after s life) p.given).log k.part (next.forced ∙ ap (λ (o : Opening). (node_run o p.given).log) (opening_is s life));
     }
-    go false log = record { records = k.records; log = log; order = k.order; alike = k.alike }
+    go false log = record { records = k.records; log = log; order = k.order; alike = k.alike; part = k.part }
 
 left_log : (s : List ℕ) (p : Process) (ps : List Process) → AreProcesses s (p ∷ ps) → Stands s (life_of (p ∷ ps)) p.left
 left_log s p [] are = left_from s [] p (fresh s p.found are.1) are.0
@@ -96,6 +100,7 @@ leave_the_log s p ps are =
       records = k.records;
       log = k.log;
       alike = subst (StartAlike (on s two k.records)) (opening_is s life) k.alike;
+      part = k.part;
       opens = λ small. opens p.left k.records small k.log follow.0;
     }
 

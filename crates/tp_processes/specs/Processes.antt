@@ -1,11 +1,12 @@
 -- The processes of one site: each starts on the file that the one before it left, which may have been compacted between them; some events
 -- happen in it, and it stops, whenever and however that is. What it wrote, and to whom, is no matter of this file.
-use Rattle.std.specs.Prelude.{ℕ, ◌≡◌, ◌⊎◌, ◌<◌, ◌^◌, Bool, true, false, List, [], ◌∷◌, length}
+use Rattle.std.specs.Prelude.{ℕ, ◌≡◌, ◌⊎◌, ◌<◌, ◌^◌, Bool, true, false, Some, List, [], ◌∷◌, length}
 use Rattle.tp_records.specs.declared.body.Event.{Event as Given}
+use Rattle.tp_logrec.specs.declared.owner.Owner.{Owner}
 use Rattle.tp_logrec.specs.declared.record.LogRec.{LogRec}
 use Rattle.tp_logrec.specs.declared.record.LogVersion.{LogVersion}
 use Rattle.tp_logrec.specs.LogText.{Placed, recs, IsLog}
-use Rattle.tp_logrec.specs.Order.{brief}
+use Rattle.tp_logrec.specs.Order.{owner_of, brief}
 use Rattle.tp_model.specs.LogCommands.{Has, opened}
 use Rattle.tp_model.specs.NodeRun.{node_run, log_after}
 use Rattle.tp_briefs.specs.Starts.{on, StartAlike}
@@ -60,12 +61,22 @@ AreWhole (p ∷ q ∷ ps) = (p.found ≡ q.left) × AreWhole (q ∷ ps)
 
 -- ---- what holds of them
 
+abbrev pub StandsIn : List LogRec → LogRec → Type 0
+StandsIn [] r = ⊥
+StandsIn (q ∷ qs) r = (q ≡ r) ⊎ StandsIn qs r
+
+-- each record of the one that is of a node stands in the other
+abbrev pub IsPartOf : List LogRec → List LogRec → Type 0
+IsPartOf rs qs = (r : LogRec) (o : Owner) → owner_of r ≡ Some o → StandsIn rs r → StandsIn qs r
+
 -- the log of a site that has lived so, whole or not: whoever starts on it knows what a start on the whole log knows, and none of its records
 -- is foreign to it
 pub record IsLogOf (s : List ℕ) (life : Life) (file : List ℕ) : Type 0 where
   pub records : List LogRec
   pub log : IsLog file records
   pub alike : StartAlike (on s LogVersion.Two records) (opening_after s life)
+  -- and each of them that is of a node stands in the whole log
+  pub part : IsPartOf records (opening_after s life).records
   pub opens : length file < 2 ^ 64 → (version : LogVersion) × (listed : List Placed) × (opened file ≡ Has version listed) × (recs listed ≡ records)
 
 -- each process leaves the log of all that happened so far; all of it, where none was made short

@@ -4,11 +4,13 @@
 
 ghost use Rattle.tp_processes.specs.Processes.{ProcessesLeaveTheLog, ProcessesLeaveItWhole, ProcessesActAlike};
 ghost use Rattle.tp_processes.specs.Deployed.{ProcessesKeep, SentencesHold};
+ghost use Rattle.tp_processes.specs.Octets.{SaidIsReadBack, OctetsCarryRecords};
 
 /// One process of a site after the other starts on the file that the one before it left, or on a compaction of it, the first on a log without
 /// records; each finds a log of version 2, and leaves the log of the events that happened in it, or what it found, where it stopped before
 /// its boot stood. Then a start on the file that is left is a start on the log of the site over all that happened in its processes, with a
-/// stop between two of them, and nothing in it is foreign; where nothing was compacted the file is that very log.
+/// stop between two of them, and nothing in it is foreign; each record of it that is of a node stands in that log, and where nothing was
+/// compacted the file is that very log.
 pub fn processes_leave_the_log()
     ensures leaves { ProcessesLeaveTheLog }
     ensures whole { ProcessesLeaveItWhole }
@@ -32,4 +34,12 @@ pub fn processes_keep_the_promises()
 /// every node that stays.
 pub fn deployments_keep_the_sentences()
     ensures { SentencesHold }
+{}
+
+/// What is carried is octets. Whatever a deployment's nodes have said, in records whose numbers and names a program's types hold, is read
+/// back from its octets; so a carrier that brings a node only octets that a process wrote for it brings it only records that were said to
+/// it, and what is asked of a deployment holds.
+pub fn octets_carry_records()
+    ensures reads { SaidIsReadBack }
+    ensures carried { OctetsCarryRecords }
 {}
