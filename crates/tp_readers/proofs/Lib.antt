@@ -1,0 +1,6 @@
+mod Nodes
+mod Faces
+mod Placed
+mod Copies
+mod Audits
+mod Stores
