@@ -1,21 +1,24 @@
 //! What a site starts with.
+use crate::doubts::Doubts;
 use std::alloc::{AllocError, Global};
 use std::fmt::{self, Display, Formatter};
 use tp_journal::Journal;
-use tp_logrec::{LogRec, Owner};
-use tp_names::{BranchId, NodeKey};
+use tp_logrec::LogRec;
 use tp_outside::Disk;
 
-/// The number of the boot that is begun, the records that were there before it, and the transactions of which a node has voted
+/// The number of the last boot, the records that are there before the next one, and the transactions of which a node has voted
 /// and its log does not say how they end.
 #[derive(Drop)]
 pub struct Beginning {
-    boot: u64,
+    last: u64,
     records: usize,
-    in_doubt: Vec<Owner>,
+    doubts: Doubts,
 }
 
 impl Beginning {
+    ghost use Rattle.std.specs.Prelude.{IfOk};
+    ghost use Rattle.tp_greeting.specs.Beginnings.{IsOf};
+
     /// That of a site on the log of a disk, unless that does not start.
     pub fn on<D: Disk + Drop>(alloc: Global, disk: D) -> Option<Beginning> {
         match Journal::start(alloc, disk) {
@@ -24,46 +27,29 @@ impl Beginning {
         }
     }
 
-    fn after(alloc: Global, list: &[LogRec]) -> Result<Beginning, AllocError> {
+    fn after(alloc: Global, list: &[LogRec]) -> Result<Beginning, AllocError>
+        ensures { IfOk result (IsOf list.now) }
+    {
         let mut last: u64 = 0;
-        let mut in_doubt = Vec::new(alloc);
+        let mut doubts = Doubts::new(alloc);
         for rec in list {
             if let LogRec::Boot { boot } = rec {
                 last = *boot;
             }
-            note(&mut in_doubt, rec)?;
+            doubts.take(rec)?;
         }
         Ok(Beginning {
-            boot: last.saturating_add(1),
+            last,
             records: list.len(),
-            in_doubt,
+            doubts,
         })
     }
 }
 
-// What is in doubt after a record more.
-fn note(in_doubt: &mut Vec<Owner>, rec: &LogRec) -> Result<(), AllocError> {
-    // (the compiler wants the types inside an owner to be named)
-    let _branch: Option<BranchId> = None;
-    let _key: Option<NodeKey> = None;
-    let Some(owner) = rec.owner() else {
-        return Ok(());
-    };
-    if rec.is_ready() {
-        in_doubt.push(owner)?;
-    } else if !rec.is_damage() {
-        in_doubt.retain(|it| *it != owner);
-    }
-    Ok(())
-}
-
 impl Display for Beginning {
     fn fmt<W: fmt::Write>(&self, f: &mut Formatter<W>) -> fmt::Result {
-        let nodes = self.in_doubt.len();
-        write!(
-            f,
-            "boot {}, {} records, {nodes} in doubt",
-            self.boot, self.records
-        )
+        let boot = self.last.saturating_add(1);
+        let nodes = self.doubts.len();
+        write!(f, "boot {boot}, {} records, {nodes} in doubt", self.records)
     }
 }

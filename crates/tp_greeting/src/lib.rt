@@ -1,7 +1,8 @@
-//! What a site starts with, in a line for whoever watches. No clause speaks of it.
+//! What a site starts with, in a line for whoever watches. What is counted is told of the list of records; no clause speaks of the line.
 #![tactic(auto)]
 
 mod beginning;
+mod doubts;
 mod watched;
 
 pub use beginning::Beginning;
