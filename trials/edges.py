@@ -50,7 +50,8 @@ class Site:
     """A running site, whose answers are waited for."""
 
     def __init__(self, command: typing.List[str], folder: pathlib.Path):
-        self.process = subprocess.Popen(command, cwd=folder, bufsize=0, stdin=subprocess.PIPE, stdout=subprocess.PIPE, stderr=subprocess.PIPE)
+        pipes: typing.Dict[str, typing.Any] = {"stdin": subprocess.PIPE, "stdout": subprocess.PIPE, "stderr": subprocess.PIPE}
+        self.process: typing.Any = subprocess.Popen(command, cwd=folder, bufsize=0, **pipes)
 
     def feed(self, bodies: typing.List[bytes]) -> None:
         self.process.stdin.write(b"".join(wire.frame(body) for body in bodies))
@@ -99,7 +100,7 @@ class Edges:
 
     def run(self, words: typing.List[str], folder: pathlib.Path, given: bytes = b"", **more: typing.Any) -> subprocess.CompletedProcess:
         self.counts["runs"] += 1
-        streams_of = {"stdout": subprocess.PIPE, "stderr": subprocess.PIPE, **more}
+        streams_of: typing.Dict[str, typing.Any] = {"stdout": subprocess.PIPE, "stderr": subprocess.PIPE, **more}
         return subprocess.run(self.command(words), cwd=folder, input=given, **streams_of)
 
     def changing(self) -> typing.List[typing.List[str]]:
@@ -245,10 +246,10 @@ class Edges:
         self.said(self.run(["node"], other), 8, b"disk fault", b"tp.log: open: Is a directory")
         library = preload.Library(self.folder)
         for kind, call in (("statx", b"length"), ("pread", b"read"), ("pwrite", b"write"), ("fsync", b"sync")):
-            run = library.run(self.command(SITE), b"", wire.FRESH, fail="%s 1 none" % kind)
+            failed = library.run(self.command(SITE), b"", wire.FRESH, fail="%s 1 none" % kind)
             self.counts["causes"] += 1
-            lines = run.err.split(b"\n")
-            self.expect("a failing " + kind, (run.status, lines[1].split(b": ")[:2]), (8, [b"tp.log", call]))
+            lines = failed.err.split(b"\n")
+            self.expect("a failing " + kind, (failed.status, lines[1].split(b": ")[:2]), (8, [b"tp.log", call]))
         library.end()
 
     def said(self, run: subprocess.CompletedProcess, status: int, first: bytes, second: bytes) -> None:
