@@ -11,6 +11,7 @@ import collections
 import os
 import pathlib
 import re
+import resource
 import subprocess
 import sys
 import threading
@@ -49,7 +50,8 @@ def changed() -> tuple[set[str], set[str]]:
     base = git("merge-base", "HEAD", "origin/main").strip() if "origin/main" in git("branch", "-a") else "HEAD"
     all_of_them, contracts = set(), set()
     crate, is_spec = "", False
-    for line in git("diff", "--unified=0", base, "--", "crates").splitlines() + [f"+++ b/{it}" for it in git("ls-files", "-o", "--exclude-standard", "crates").split()]:
+    new = [f"+++ b/{it}" for it in git("ls-files", "-o", "--exclude-standard", "crates").split()]
+    for line in git("diff", "--unified=0", base, "--", "crates").splitlines() + new:
         file = re.match(r"\+\+\+ (?:b/)?crates/(\w+)/(\w+)/", line)
         if file:
             crate, is_spec = file[1], file[2] == "specs"
@@ -93,39 +95,66 @@ def examples() -> list[str]:
     return failed
 
 
-def used(process: str) -> float:
-    """The processor seconds of a process and of those below it that have ended."""
+def state_of(process: str) -> tuple[str, float]:
+    """The parent of a process, and the processor seconds of it and of those below it that have ended."""
     with open(f"/proc/{process}/stat", encoding="ascii", errors="replace") as it:
-        return sum(int(word) for word in it.read().rpartition(")")[2].split()[11:15]) / TICKS
+        words = it.read().rpartition(")")[2].split()
+    return words[1], sum(int(word) for word in words[11:15]) / TICKS
 
 
-def watch(over: threading.Event, spent: dict[tuple[str, str], float]) -> None:
-    """Notes what each process of the checker has used, by its number and its crate, until the gate is over."""
+def is_below(process: str, top: str) -> bool:
+    while process not in ("0", "1", top):
+        process = state_of(process)[0]
+    return process == top
+
+
+def watch(top: str, over: threading.Event, spent: dict[tuple[str, str], float]) -> None:
+    """Notes what each run of the checker below that process has used, by its number and its crate, until the gate is over."""
     while not over.wait(0.5):
         for process in filter(str.isdigit, os.listdir("/proc")):
             try:
                 words = pathlib.Path(f"/proc/{process}/cmdline").read_bytes().split(b"\0")
-                if words[0].endswith(b"/rattle") and b"--crate-name" in words:
+                if words[0].endswith(b"/rattle") and b"--crate-name" in words and is_below(process, top):
                     crate = words[words.index(b"--crate-name") + 1].decode()
-                    spent[process, crate] = max(spent[process, crate], used(process))
-            except (OSError, ValueError):
+                    spent[process, crate] = max(spent[process, crate], state_of(process)[1])
+            except (OSError, ValueError, IndexError):
                 pass
 
 
+def not_proved_here(said: list[str]) -> set[str]:
+    """The crates that this run of the gate took from an earlier one, or from another on this machine, by what it says."""
+    found = (re.match(r"rt: (\w+)(?: is kept: |: another run on this machine is proving the same)", line) for line in said)
+    return {it[1] for it in found if it}
+
+
 def gate() -> int:
+    before = resource.getrusage(resource.RUSAGE_CHILDREN)
     over, spent = threading.Event(), collections.defaultdict[tuple[str, str], float](float)
-    watcher = threading.Thread(target=watch, args=(over, spent))
-    watcher.start()
-    status = subprocess.run(["rt", "ci"], cwd=TOP).returncode
+    said = []
+    with subprocess.Popen(["rt", "ci"], cwd=TOP, stdout=subprocess.PIPE, stderr=subprocess.STDOUT, text=True, errors="replace") as ran:
+        watcher = threading.Thread(target=watch, args=(str(ran.pid), over, spent))
+        watcher.start()
+        for line in ran.stdout or []:
+            print(line, end="", flush=True)
+            said.append(line)
     over.set()
     watcher.join()
-    by_crate = collections.Counter[str]()
+    after = resource.getrusage(resource.RUSAGE_CHILDREN)
+    total = round(after.ru_utime + after.ru_stime - before.ru_utime - before.ru_stime)
+    return ran.returncode or int(told(said, spent, total))
+
+
+def told(said: list[str], spent: dict[tuple[str, str], float], total: int) -> bool:
+    """Prints what each crate cost, and whether that is above the budget, which is that of a run from nothing."""
+    by_crate: collections.Counter[str] = collections.Counter()
     for (_, crate), seconds in spent.items():
         by_crate[crate] += round(seconds)
-    for crate, total in by_crate.most_common():
-        print(f"{crate:20} {total:7}")
-    print(f"{'all':20} {by_crate.total():7} processor seconds of {BUDGET}")
-    return status or int(by_crate.total() > BUDGET)
+    taken = not_proved_here(said)
+    for crate in [*by_crate, *sorted(taken - by_crate.keys())]:
+        print(f"{crate:22}{by_crate[crate]:7}{'  kept, or proved by another run' if crate in taken else ''}")
+    print(f"{'the rest':22}{max(total - by_crate.total(), 0):7}")
+    print(f"{'all':22}{total:7} processor seconds of {BUDGET}{f'; {len(taken)} crates were not proved here' if taken else ''}")
+    return total > BUDGET
 
 
 def main(words: list[str]) -> int:

@@ -12,6 +12,7 @@ pub mod Labels
 pub mod Style
 pub mod Svg
 pub mod Mermaid
+pub mod Page
 pub mod Pictures
 pub mod Plans
 pub mod Pieces

@@ -1,17 +1,19 @@
 -- A picture as text from which Mermaid makes a sequence diagram. Lines that have no shape of their own stand in it as comments.
-use Rattle.std.specs.Prelude.{ℕ, ◌+◌, ◌-◌, if◌then◌else◌, Option, Some, None, List, [], ◌∷◌, ◌++◌, length, codes}
+use Rattle.std.specs.Prelude.{ℕ, ◌+◌, ◌-◌, Bool, true, false, ◌||◌, if◌then◌else◌, Option, Some, None, List, [], ◌∷◌, ◌++◌, length, codes}
 use Rattle.tp_model.specs.declared.out_line.OutLine.{OutLine}
 use Rattle.tp_model.specs.OutText.{out_text}
 use Rattle.tp_model.specs.Words.{decimal}
+use Rattle.tp_draw.specs.declared.band.Band.{Band}
 use Rattle.tp_draw.specs.declared.end.End.{End}
 use Rattle.tp_draw.specs.declared.lane.Lane.{Lane}
 use Rattle.tp_draw.specs.declared.news.News.{News}
 use Rattle.tp_draw.specs.declared.shape.Shape.{Shape}
+use Rattle.tp_draw.specs.declared.track.Track.{Track}
 use Rattle.tp_draw.specs.declared.view.View.{View}
 use Rattle.tp_draw.specs.Texts.{joined, plain}
 use Rattle.tp_draw.specs.Lanes.{lanes_of}
 use Rattle.tp_draw.specs.Shapes.{places_of, shape_of}
-use Rattle.tp_draw.specs.Bands.{news_of}
+use Rattle.tp_draw.specs.Bands.{news_of, first_tracks, all_moved}
 use Rattle.tp_draw.specs.Views.{is_shown}
 use Rattle.tp_draw.specs.Labels.{label}
 
@@ -87,10 +89,38 @@ event_words os _ o = []
 abbrev pub row_words : List OutLine → Shape → OutLine → List ℕ
 row_words os s o = shape_words (length (lanes_of os) - 1) s o ++ event_words os s o
 
--- Of these lines of a transcript, of which the first is in that row. Those that are not shown have no words.
-abbrev pub rows_words : View → List OutLine → ℕ → List OutLine → List ℕ
-rows_words v os r [] = []
-rows_words v os r (o ∷ more) = (if is_shown v r then row_words os (shape_of os r o) o else []) ++ rows_words v os (r + 1) more
+-- ---- the ground while some node is in doubt
+
+abbrev pub is_in_doubt : Band → Bool
+is_in_doubt Band.InDoubt = true
+is_in_doubt _ = false
+
+abbrev pub some_in_doubt : List Track → Bool
+some_in_doubt [] = false
+some_in_doubt (t ∷ ts) = is_in_doubt t.band || some_in_doubt ts
+
+unfoldable pub ground_begins : List ℕ
+ground_begins = codes "    rect rgba(128, 128, 128, 0.2)\n"
+
+unfoldable pub ground_ends : List ℕ
+ground_ends = codes "    end\n"
+
+-- between two rows, by whether some node was in doubt in the first and is in the second
+abbrev pub ground : Bool → Bool → List ℕ
+ground false false = []
+ground false true = ground_begins
+ground true false = ground_ends
+ground true true = []
+
+-- Of these lines of a transcript, of which the first is in that row, with the lanes before it, and whether some node was in
+-- doubt in the last row that is shown before it. Lines that are not shown have no words.
+abbrev pub rows_words : View → List OutLine → List Track → Bool → ℕ → List OutLine → List ℕ
+rows_words v os ts was r [] = ground was false
+rows_words v os ts was r (o ∷ more) =
+    if is_shown v r then
+    (ground was (some_in_doubt (all_moved o ts)) ++ row_words os (shape_of os r o) o)
+    ++ rows_words v os (all_moved o ts) (some_in_doubt (all_moved o ts)) (r + 1) more
+    else rows_words v os (all_moved o ts) was (r + 1) more
 
 -- ---- all of it
 
@@ -98,4 +128,4 @@ unfoldable pub first_line : List ℕ
 first_line = codes "sequenceDiagram\n"
 
 abbrev pub mermaid : View → List OutLine → List ℕ
-mermaid v os = first_line ++ (lanes_words 0 (lanes_of os) ++ rows_words v os 0 os)
+mermaid v os = first_line ++ (lanes_words 0 (lanes_of os) ++ rows_words v os (first_tracks os) false 0 os)

@@ -9,6 +9,7 @@ use Rattle.tp_draw.specs.declared.view.View.{View}
 use Rattle.tp_draw.specs.Events.{event_of}
 use Rattle.tp_draw.specs.Svg.{svg}
 use Rattle.tp_draw.specs.Mermaid.{mermaid}
+use Rattle.tp_draw.specs.Page.{page}
 
 -- ---- which lines are shown
 
@@ -52,6 +53,7 @@ view_of f os = view_from f (row_from f.from f.fold os) (length os)
 abbrev pub picture_in : Kind → View → List OutLine → List ℕ
 picture_in Kind.Svg v os = svg v os
 picture_in Kind.Mermaid v os = mermaid v os
+picture_in Kind.Html v os = page v os
 
 abbrev pub picture : Form → List OutLine → List ℕ
 picture f os = picture_in f.kind (view_of f os) os

@@ -5,6 +5,7 @@ ghost use Rattle.tp_draw.specs.Pictures.{begins, first_begin, row_from, row_to, 
 use crate::View;
 use crate::event::event_of;
 use crate::mermaid::write_mermaid;
+use crate::page::write_page;
 use crate::plan::Plan;
 use crate::svg::write_svg;
 use std::alloc::Global;
@@ -21,6 +22,8 @@ pub enum Kind {
     Svg,
     /// Text from which Mermaid makes a sequence diagram.
     Mermaid,
+    /// A page with an SVG file in it, which steps through the lines.
+    Html,
 }
 
 /// The form in which a picture is written.
@@ -61,6 +64,7 @@ fn write_picture(
     match kind {
         Kind::Svg => write_svg(alloc, view, plan, out),
         Kind::Mermaid => write_mermaid(alloc, view, plan, out),
+        Kind::Html => write_page(alloc, view, plan, out),
     }
 }
 

@@ -1,4 +1,5 @@
-//! A transcript as a picture: a sequence diagram with a lane for each node, as SVG or as Mermaid text.
+//! A transcript as a picture: a sequence diagram with a lane for each node, as SVG, as a page that steps through it, or as
+//! Mermaid text.
 //!
 //! What a picture is, is defined in `specs/`: its lanes, the shape that each line of the transcript has, and
 //! the text of both. `draw` writes that text; `laws` says what holds of every picture.
@@ -19,6 +20,7 @@ mod lanes;
 pub mod laws;
 mod mermaid;
 mod news;
+mod page;
 mod piece;
 mod places;
 mod plan;

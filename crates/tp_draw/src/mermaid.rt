@@ -1,7 +1,8 @@
 //! A picture as text from which Mermaid makes a sequence diagram.
-ghost use Rattle.std.specs.Prelude.{◌≡◌, ◌++◌, OnOk};
+ghost use Rattle.std.specs.Prelude.{◌≡◌, ◌++◌, false, OnOk};
 ghost use Rattle.tp_model.specs.OutText.{out_text};
-ghost use Rattle.tp_draw.specs.Mermaid.{first_line, site_words, lane_words, lanes_words, comment, note, stroke, message, shape_words, crash_words, event_words, row_words, rows_words, mermaid};
+ghost use Rattle.tp_draw.specs.Mermaid.{first_line, site_words, lane_words, lanes_words, comment, note, stroke, message, shape_words, crash_words, event_words, row_words, some_in_doubt, ground, rows_words, mermaid};
+ghost use Rattle.tp_draw.specs.Bands.{first_tracks};
 ghost use Rattle.tp_draw.specs.Labels.{label};
 ghost use Rattle.tp_draw.specs.Pieces.{piece_text};
 
@@ -10,7 +11,8 @@ use crate::news::news_of;
 use crate::piece::{Piece, write_pieces};
 use crate::plan::Plan;
 use crate::shape::shape_of;
-use crate::{End, Lane, News, Shape, View};
+use crate::track::{first_tracks, move_all};
+use crate::{Band, End, Lane, News, Shape, Track, View};
 use std::alloc::Global;
 use tp_model::OutLine;
 use tp_names::{NoMemory, Octets};
@@ -70,17 +72,50 @@ fn write_lane(alloc: Global, place: usize, lane: &Lane, out: &mut Octets) -> Res
 }
 
 fn write_rows(alloc: Global, view: View, plan: &Plan, out: &mut Octets) -> Result<(), NoMemory>
-    ensures { OnOk result (out.new ≡ out.old ++ rows_words view plan.now 0 plan.now) }
+    ensures { OnOk result (out.new ≡ out.old ++ rows_words view plan.now (first_tracks plan.now) false 0 plan.now) }
 {
+    let mut tracks = first_tracks(alloc, plan.lanes())?;
+    let mut was = false;
     let mut text = Octets::new(alloc);
     let lines = plan.lines();
     for (row, line) in lines.iter().enumerate() {
+        let news = news_of(alloc, line)?;
+        move_all(tracks.as_mut_slice(), &news);
         if is_shown(view, row) {
+            let is = some_in_doubt(tracks.as_slice());
+            write_ground(alloc, was, is, out)?;
             let shape = shape_of(alloc, plan, row, line)?;
             write_row(alloc, plan, shape, line, &mut text, out)?;
+            was = is;
         }
     }
-    Ok(())
+    write_ground(alloc, was, false, out)
+}
+
+fn some_in_doubt(tracks: &[Track]) -> bool
+    ensures { result ≡ some_in_doubt tracks.now }
+{
+    for track in tracks {
+        if let Band::InDoubt = track.band {
+            return true;
+        }
+    }
+    false
+}
+
+// The ground begins or ends between two rows, where some node is in doubt in one of them alone.
+#[tactic(auto, unfolding(crate::specs::Mermaid::ground_begins, crate::specs::Mermaid::ground_ends))]
+fn write_ground(alloc: Global, was: bool, is: bool, out: &mut Octets) -> Result<(), NoMemory>
+    ensures { OnOk result (out.new ≡ out.old ++ ground was is) }
+{
+    match (was, is) {
+        (false, true) => {
+            let begins = "    rect rgba(128, 128, 128, 0.2)\n";
+            out.extend_from_slice(alloc, begins.as_bytes())
+        }
+        (true, false) => out.extend_from_slice(alloc, "    end\n".as_bytes()),
+        _ => Ok(()),
+    }
 }
 
 // A row, whose text is made in `text`.

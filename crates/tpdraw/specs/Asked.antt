@@ -32,6 +32,7 @@ with_number f first w = numbered f first (read_as (number w))
 abbrev pub with_word : Form → List ℕ → Option Asking
 with_word f w =
     if is_name w (codes "--mermaid") then Some (record { form = record f { kind = Kind.Mermaid }; want = Want.Option })
+    else if is_name w (codes "--html") then Some (record { form = record f { kind = Kind.Html; lanes = true }; want = Want.Option })
     else if is_name w (codes "--lanes") then Some (record { form = record f { lanes = true }; want = Want.Option })
     else if is_name w (codes "--fold") then Some (record { form = record f { fold = true }; want = Want.Option })
     else if is_name w (codes "--from") then Some (record { form = f; want = Want.First })

@@ -79,6 +79,15 @@ fn with_word(form: Form, word: &str) -> Option<Asking>
         let form = Form { kind, ..form };
         return Some(Asking { form, want });
     }
+    if word == "--html" {
+        let kind = Kind::Html;
+        let form = Form {
+            kind,
+            lanes: true,
+            ..form
+        };
+        return Some(Asking { form, want });
+    }
     if word == "--lanes" {
         let form = Form {
             lanes: true,

@@ -20,11 +20,12 @@ use tp_outside::{
 
 /// What can be typed.
 const USAGE: &str = "\
-usage: tpdraw [--mermaid] [--lanes] [--fold] [--from N] [--to N]
+usage: tpdraw [--mermaid | --html] [--lanes] [--fold] [--from N] [--to N]
 
   reads a transcript, writes it as a picture in SVG
 
   --mermaid    writes text from which Mermaid makes the picture
+  --html       writes a page with the picture and the lines, which a slider steps through
   --lanes      leaves out the text of the lines, but for events and outcomes
   --fold       one row stands for all that comes before the first transaction
   --from N     begins with line N
