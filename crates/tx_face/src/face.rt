@@ -1,5 +1,5 @@
 //! The calls of demarcation, over a site.
-ghost use Rattle.std.specs.Prelude.{◌≡◌, ◌++◌, false, List, [], Some, None, IfErr};
+ghost use Rattle.std.specs.Prelude.{◌≡◌, ◌++◌, ℕ, Bool, false, List, [], Some, None, length, IfOk, IfErr, OnOk};
 ghost use Rattle.tp_records.specs.declared.body.Event.{Event as Given};
 ghost use Rattle.tp_records.specs.declared.request.Request.{Request as Asks};
 ghost use Rattle.tp_model.specs.Parts.{Entry};
@@ -8,6 +8,7 @@ ghost use Rattle.tp_model.specs.NodeRun.{Opening, origin_at, asked};
 ghost use Rattle.tp_model.specs.Happenings.{Happening, run};
 ghost use Rattle.tp_model.specs.Promises.{IsIn};
 ghost use Rattle.tp_model.specs.World.{Node};
+ghost use Rattle.tp_journal.specs.Settling.{SettlesTo};
 ghost use Rattle.tp_site.specs.declared.faults.SiteFault.{SiteFault as SiteFaults};
 ghost use Rattle.tp_site.specs.Site.{known_at};
 ghost use Rattle.tp_site.specs.Events.{IsAt, all_nodes, history_at};
@@ -21,7 +22,9 @@ use crate::fault::FaceFault;
 use crate::stand::Stand;
 use std::alloc::Global;
 use std::marker::Model;
-use tp_journal::Keeper;
+use tp_journal::{ForceFault, Gathering, Journal, Keeper, Settles};
+use tp_names::NoMemory;
+use tp_outside::Disk;
 use tp_records::{Event, Outputs, Request};
 use tp_site::{Site, SiteFault};
 
@@ -93,6 +96,7 @@ impl<K: Keeper> Face<K> {
     fn event(&mut self, alloc: Global, event: &Event) -> Result<Outputs, SiteFault>
         ensures plays { Plays K.standing self.old event.now result self.new }
         ensures goes { (o : Opening) (gs : List Given) (past : List Entry) → IsFaceAt K.standing o gs past self.old → Goes K.standing o gs past self.old event.now result self.new }
+        ensures lasting { (K.standing self.new.site.keeper).lasting ≡ (K.standing self.old.site.keeper).lasting }
     {
         match self.site.event(alloc, event) {
             Ok(outputs) => {
@@ -107,6 +111,7 @@ impl<K: Keeper> Face<K> {
     fn call(&mut self, alloc: Global, taken: bool, event: &Event) -> Result<Outputs, FaceFault>
         ensures calls { Calls K.standing taken self.old event.now result self.new }
         ensures goes { (o : Opening) (gs : List Given) (past : List Entry) → IsFaceAt K.standing o gs past self.old → GoesOn K.standing taken o gs past self.old event.now result self.new }
+        ensures lasting { (K.standing self.new.site.keeper).lasting ≡ (K.standing self.old.site.keeper).lasting }
     {
         if !taken {
             return Err(FaceFault::Protocol {
@@ -123,6 +128,7 @@ impl<K: Keeper> Face<K> {
     fn ask(&mut self, alloc: Global, taken: bool, request: Request) -> Result<Outputs, FaceFault>
         ensures calls { Calls K.standing taken self.old (Given.Do self.old.node request) result self.new }
         ensures goes { (o : Opening) (gs : List Given) (past : List Entry) → IsFaceAt K.standing o gs past self.old → GoesOn K.standing taken o gs past self.old (Given.Do self.old.node request) result self.new }
+        ensures lasting { (K.standing self.new.site.keeper).lasting ≡ (K.standing self.old.site.keeper).lasting }
     {
         let event = Event::Do {
             node: self.node,
@@ -135,6 +141,7 @@ impl<K: Keeper> Face<K> {
     pub fn begin(&mut self, alloc: Global, peer: u16) -> Result<Outputs, FaceFault>
         ensures calls { Calls K.standing (takes_begin (stand_at self.old)) self.old (Given.Do self.old.node (Asks.BeginTransaction peer)) result self.new }
         ensures goes { (o : Opening) (gs : List Given) (past : List Entry) → IsFaceAt K.standing o gs past self.old → GoesOn K.standing (takes_begin (stand_at self.old)) o gs past self.old (Given.Do self.old.node (Asks.BeginTransaction peer)) result self.new }
+        ensures lasting { (K.standing self.new.site.keeper).lasting ≡ (K.standing self.old.site.keeper).lasting }
     {
         let taken = self.stand().takes_begin();
         self.ask(alloc, taken, Request::BeginTransaction { peer })
@@ -144,6 +151,7 @@ impl<K: Keeper> Face<K> {
     pub fn commit(&mut self, alloc: Global) -> Result<Outputs, FaceFault>
         ensures calls { Calls K.standing (takes_commit (stand_at self.old)) self.old (Given.Do self.old.node Asks.Commit) result self.new }
         ensures goes { (o : Opening) (gs : List Given) (past : List Entry) → IsFaceAt K.standing o gs past self.old → GoesOn K.standing (takes_commit (stand_at self.old)) o gs past self.old (Given.Do self.old.node Asks.Commit) result self.new }
+        ensures lasting { (K.standing self.new.site.keeper).lasting ≡ (K.standing self.old.site.keeper).lasting }
     {
         let taken = self.stand().takes_commit();
         self.ask(alloc, taken, Request::Commit)
@@ -153,6 +161,7 @@ impl<K: Keeper> Face<K> {
     pub fn rollback(&mut self, alloc: Global) -> Result<Outputs, FaceFault>
         ensures calls { Calls K.standing (takes_rollback (stand_at self.old)) self.old (Given.Do self.old.node Asks.Rollback) result self.new }
         ensures goes { (o : Opening) (gs : List Given) (past : List Entry) → IsFaceAt K.standing o gs past self.old → GoesOn K.standing (takes_rollback (stand_at self.old)) o gs past self.old (Given.Do self.old.node Asks.Rollback) result self.new }
+        ensures lasting { (K.standing self.new.site.keeper).lasting ≡ (K.standing self.old.site.keeper).lasting }
     {
         let taken = self.stand().takes_rollback();
         self.ask(alloc, taken, Request::Rollback)
@@ -162,6 +171,7 @@ impl<K: Keeper> Face<K> {
     pub fn finish(&mut self, alloc: Global) -> Result<Outputs, FaceFault>
         ensures calls { Calls K.standing (takes_finish (stand_at self.old)) self.old (Given.Do self.old.node Asks.Done) result self.new }
         ensures goes { (o : Opening) (gs : List Given) (past : List Entry) → IsFaceAt K.standing o gs past self.old → GoesOn K.standing (takes_finish (stand_at self.old)) o gs past self.old (Given.Do self.old.node Asks.Done) result self.new }
+        ensures lasting { (K.standing self.new.site.keeper).lasting ≡ (K.standing self.old.site.keeper).lasting }
     {
         let taken = self.stand().takes_finish();
         self.ask(alloc, taken, Request::Done)
@@ -172,6 +182,7 @@ impl<K: Keeper> Face<K> {
     pub fn feed(&mut self, alloc: Global, event: &Event) -> Result<Outputs, FaceFault>
         ensures calls { Calls K.standing (is_fed self.old.node event.now) self.old event.now result self.new }
         ensures goes { (o : Opening) (gs : List Given) (past : List Entry) → IsFaceAt K.standing o gs past self.old → GoesOn K.standing (is_fed self.old.node event.now) o gs past self.old event.now result self.new }
+        ensures lasting { (K.standing self.new.site.keeper).lasting ≡ (K.standing self.old.site.keeper).lasting }
     {
         let taken = is_fed(event, self.node);
         self.call(alloc, taken, event)
@@ -200,5 +211,32 @@ impl<K: Keeper> Face<K> {
         ensures { result ≡ self.site }
     {
         self.site
+    }
+}
+
+impl<K: Settles> Face<K> {
+    /// Forces all that its site has noted. The face stands where it stood; a fault of the disk shuts the site.
+    pub fn settle_log(&mut self) -> Result<(), ForceFault>
+        ensures settles { SettlesTo (K.standing self.old.site.keeper) result (K.standing self.new.site.keeper) }
+        ensures same { self.new ≡ record self.old { site = self.new.site } }
+        ensures shut { OnOk result (self.new.site.shut ≡ self.old.site.shut) }
+        ensures site { (mine : ℕ → Bool) (o : Opening) (gs : List Given) → IsAt K.standing mine o gs self.old.site → IsAt K.standing mine o gs self.new.site }
+        ensures at { (o : Opening) (gs : List Given) (past : List Entry) → IsFaceAt K.standing o gs past self.old → IsFaceAt K.standing o gs past self.new }
+    {
+        self.site.settle_log()
+    }
+}
+
+impl<D: Disk> Face<Journal<D>> {
+    /// The same face over the same log, which notes records from now on.
+    pub fn ahead(self, alloc: Global) -> Result<Face<Gathering<D>>, (Face<Journal<D>>, NoMemory)>
+        ensures ok { IfOk result (λ face. face ≡ record { site = record { keeper = record { journal = self.site.keeper; settled = length self.site.keeper.list }; nodes = self.site.nodes; shut = self.site.shut }; node = self.node; code = self.code }) }
+        ensures err { IfErr result (λ e. e.0 ≡ self) }
+    {
+        let Face { site, node, code } = self;
+        match site.ahead(alloc) {
+            Ok(site) => Ok(Face { site, node, code }),
+            Err((site, fault)) => Err((Face { site, node, code }, fault)),
+        }
     }
 }
