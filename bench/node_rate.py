@@ -1,5 +1,6 @@
 #!/usr/bin/env python3
-"""Records forced per second by `tpnode node` on a real file, beside a C loop of the same two writes and two fdatasync.
+"""Records forced per second by `tpnode node` on a real file, with 1, 16 and 64 events under way, beside a C loop of as many
+pairs of syncs.
 
 Usage: bench/node_rate.py [FOLDER [TRANSACTIONS [ROUNDS]]]
 
@@ -9,7 +10,8 @@ two take turns, since other work on the machine disturbs both. What is printed i
 two. No proof and no test depends on it.
 
 Site b is given the frames of a node that takes part in one transaction after another: it begins, is told to prepare, votes,
-is told to commit, and is done. The loop forces the very records that the node left, and the two files are compared.
+is told to commit, and is done. A carrier gives it so many events and goes on as answers come, one new event for each. The loop
+forces the very records that the node left, as many with each pair of syncs as the node had in a batch, and the files are compared.
 
 The program is crates/tpnode/out/tpnode, which `rt run` in that crate builds, or the one that the variable TPNODE names.
 """
@@ -37,10 +39,11 @@ LOOP = r"""
 #include <stdlib.h>
 #include <unistd.h>
 
-/* Forces each body of the first log after a fresh one in the second. */
+/* Forces the bodies of the first log after a fresh one in the second, so many with each pair of syncs. */
 int main(int count, char **words) {
-    static uint8_t log[1 << 26];
-    if (count != 3) return 1;
+    static uint8_t log[1 << 26], piece[1 << 24];
+    if (count != 4) return 1;
+    long most = atol(words[3]);
     FILE *from = fopen(words[1], "rb");
     if (!from) return 1;
     size_t length = fread(log, 1, sizeof log, from);
@@ -48,14 +51,14 @@ int main(int count, char **words) {
     if (file < 0 || pwrite(file, log, 10, 0) != 10 || pwrite(file, "", 1, 10) != 1 || fdatasync(file) != 0) return 1;
     size_t gate = 10;
     while (gate < length && log[gate] == 1) {
-        size_t body = log[gate + 1] * 256 + log[gate + 2];
-        static uint8_t piece[65540];
-        for (size_t i = 0; i < body + 2; i++) piece[i] = log[gate + 1 + i];
-        piece[body + 2] = 0;
+        size_t end = gate;
+        for (long k = 0; k < most && end < length && log[end] == 1; k++) end += 3 + log[end + 1] * 256 + log[end + 2];
+        for (size_t i = gate; i < end; i++) piece[i - gate] = log[i + 1];
+        piece[end - gate - 1] = 0;
         const uint8_t open_gate = 1;
-        if (pwrite(file, piece, body + 3, gate + 1) != (ssize_t)(body + 3) || fdatasync(file) != 0) return 1;
+        if (pwrite(file, piece, end - gate, gate + 1) != (ssize_t)(end - gate) || fdatasync(file) != 0) return 1;
         if (pwrite(file, &open_gate, 1, gate) != 1 || fdatasync(file) != 0) return 1;
-        gate += body + 3;
+        gate = end;
     }
     return close(file) != 0;
 }
@@ -78,6 +81,7 @@ def mark(boot, node, count):
     return boot.to_bytes(8, "big") + short(node) + count.to_bytes(8, "big")
 
 
+OVER = b"\x13"
 OURS, THEIRS = addr(b"b", 2), addr(b"a", 1)
 PAIR = mark(1, 1, 1) + mark(1, 2, 1)
 
@@ -91,7 +95,7 @@ def ask(request):
 
 
 def frames(transactions):
-    """What node 2 of site b is given, whose superior is node 1 of site a."""
+    """The frames that node 2 of site b is given, whose superior is node 1 of site a."""
     out = [frame(b"\x01" + short(2) + b"\x01" + THEIRS), arrive(b"\x01" + mark(1, 1, 1) + b"\x2a"), ask(b"\x02\x2a")]
     count = 0
 
@@ -106,34 +110,68 @@ def frames(transactions):
         out.append(ask(b"\x11"))
         say(b"\x0f")
         out.append(ask(b"\x12"))
-    return b"".join(out)
+    return out
 
 
-def seconds(words, given, where):
+def overs(held):
+    """How many events are answered in what came out, and what is left of it."""
+    count = at = 0
+    while len(held) - at >= 2 and len(held) - at - 2 >= int.from_bytes(held[at : at + 2], "big"):
+        end = at + 2 + int.from_bytes(held[at : at + 2], "big")
+        count += held[at + 2 : end] == OVER
+        at = end
+    return count, held[at:]
+
+
+def carried(given, most, where):
+    """How many seconds a site takes that is given so many events at a time, and how many batches of answers came."""
     start = time.monotonic()
-    subprocess.run(words, input=given, stdout=subprocess.DEVNULL, cwd=where, check=True)
+    sent = done = batches = 0
+    held = b""
+    with subprocess.Popen([PROGRAM, "node", "--name", "b"], stdin=subprocess.PIPE, stdout=subprocess.PIPE, cwd=where) as site:
+        assert site.stdin and site.stdout
+        while done < len(given):
+            more = given[sent : done + most]
+            os.write(site.stdin.fileno(), b"".join(more))
+            sent += len(more)
+            answered, held = overs(held + os.read(site.stdout.fileno(), 1 << 16))
+            done += answered
+            batches += 1
+        site.stdin.close()
+    if site.returncode != 0:
+        sys.exit("the site ended with %d" % site.returncode)
+    return time.monotonic() - start, batches
+
+
+def seconds(words):
+    start = time.monotonic()
+    subprocess.run(words, check=True)
     return time.monotonic() - start
 
 
 def rows(folder=".", transactions=100, rounds=20):
     folder, transactions, rounds = pathlib.Path(folder).resolve(), int(transactions), int(rounds)
     given = frames(transactions)
-    times = {"node": [], "loop": []}
+    records = 3 * transactions + 1
     with tempfile.TemporaryDirectory() as temporary, tempfile.TemporaryDirectory(dir=folder) as where:
         loop = pathlib.Path(temporary) / "loop"
         source = pathlib.Path(temporary) / "loop.c"
         source.write_text(LOOP)
         subprocess.run(["cc", "-O2", "-o", loop, source], check=True)
         log, copy = pathlib.Path(where) / "tp.log", pathlib.Path(where) / "copy.log"
-        for _ in range(rounds):
-            log.write_bytes(FRESH)
-            times["node"].append(seconds([PROGRAM, "node", "--name", "b"], given, where))
-            times["loop"].append(seconds([loop, log, copy], b"", where))
-            if log.read_bytes() != copy.read_bytes():
-                sys.exit("the two files differ")
-    records = 3 * transactions + 1
-    node, by_loop = (records / statistics.median(times[name]) for name in ("node", "loop"))
-    yield "`node` on a real file", "records forced in a second", node, by_loop, "C with the same writes and syncs"
+        for most in (1, 16, 64):
+            by_node, by_loop = [], []
+            for _ in range(rounds):
+                log.write_bytes(FRESH)
+                taken, batches = carried(given, most, where)
+                by_node.append(taken)
+                # A node that is given one event at a time has a record in three of five batches.
+                together = 1 if most == 1 else max(1, round(records / batches))
+                by_loop.append(seconds([loop, log, copy, str(together)]))
+                if log.read_bytes() != copy.read_bytes():
+                    sys.exit("the two files differ")
+            node, beside = (records / statistics.median(times) for times in (by_node, by_loop))
+            yield "`node` on a real file", "records forced in a second, events under way: %d" % most, node, beside, "C with as many pairs of syncs"
 
 
 if __name__ == "__main__":

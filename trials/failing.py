@@ -7,7 +7,7 @@ standard output, memory): that call alone fails, a write with nothing, half or a
 that docs/SERVICE.md gives that command for that fault, standard error has its line, standard output is exactly what had been
 written before (of the failing write as much as it made), no call of the disk comes after, but that a write which failed gives back
 what the file grew by, and the disk opens to a list that some moment of the run without a fault had. After a read that failed the
-outputs of what was read are written. What workers had noted before memory failed is forced at the end. A store whose file fails
+outputs of what was read are written. What a site or its workers had noted before memory failed is forced at the end. A store whose file fails
 in a replay is no fault of the run: its transcript is that of a store that no longer votes for commitment. Where reads and writes
 are only short, and those of the disk interrupted, nothing changes. The program is started with its standard streams closed, too,
 and with words that are none.
@@ -125,8 +125,8 @@ class Failing(stops.Stops):
                  if name in preload.CHANGES or (kind != "malloc" and run.status and (kind, name) != ("read", "write"))]
         if kind == "pwrite" and after[:1] == ["ftruncate"]:
             after = after[1:]
-        # Workers that find no memory have noted records, and these are forced at the end.
-        is_batch = kind == "malloc" and case.words[0] == "drive"
+        # A site or workers that find no memory have noted records, and these are forced at the end.
+        is_batch = kind == "malloc" and case.words[0] in ("node", "tx", "drive")
         if is_batch and after == SETTLE:
             after = []
         if after:
@@ -187,8 +187,9 @@ class Failing(stops.Stops):
                 self.fault(case, "short reads and writes, seed %d: status %s, %s" % (seed, run.status, run.err))
 
 
-SHORT = ["format", "node: two transactions of a subordinate", "tx: two transactions", "compact of a log in doubt",
-         "node on a cut migrate, 2", "keys", "audit", "replay: a store binds, keeps, drops", "drive: two transactions of a subordinate"]
+SHORT = ["format", "node: two transactions of a subordinate in a batch", "node: two transactions of a root frame by frame",
+         "tx: two transactions in a batch", "compact of a log in doubt", "node on a cut migrate, 2", "keys", "audit",
+         "replay: a store binds, keeps, drops", "drive: two transactions of a subordinate"]
 
 
 def cases(trial):

@@ -11,6 +11,7 @@ TRIAL_STOP    K FILL: the program stops in the K-th call that changes the disk (
 TRIAL_FAIL    NAME K HOW: the K-th call of that name fails: read (of standard input), write (to standard output), open, statx,
               pread, pwrite, ftruncate, fsync, malloc. HOW is `none`, `half` or `all`: how much of a write is made all the same
 TRIAL_CUT     N: the first read of standard input gives at most so many bytes
+TRIAL_FRAMES  1: a read of standard input gives one frame, as to a carrier that waits for each answer
 TRIAL_SHORT   SEED: reads and writes do less than they are asked to, and those of the disk are interrupted
 TRIAL_LIES    1: a sync is answered well, and makes nothing durable
 TRIAL_SERVER  NUMBER: the program is loaded and does not begin. For each message over the socket of that number, a count N, it makes N
@@ -56,7 +57,7 @@ static uint64_t seed, short_seed;
 static uint8_t base[MOST], now[MOST], loose[MOST];
 static long base_size, loose_size;
 static size_t cut;
-static int awake, lies;
+static int awake, lies, frames;
 
 static void wake(void) {
     if (awake) return;
@@ -67,6 +68,7 @@ static void wake(void) {
     if ((it = getenv("TRIAL_FAIL"))) sscanf(it, "%15s %d %15s", fail_name, &fail_at, fail_how);
     lies = getenv("TRIAL_LIES") != 0;
     if ((it = getenv("TRIAL_CUT"))) cut = strtoul(it, 0, 10);
+    frames = getenv("TRIAL_FRAMES") != 0;
     if ((it = getenv("TRIAL_SHORT"))) short_seed = strtoull(it, 0, 10) * 2 + 1;
 }
 
@@ -205,6 +207,15 @@ int open(const char *path, int flags, ...) {
     return fd;
 }
 
+/* The two bytes of a length, and then the body: the next frame, or what there is of it. */
+static ssize_t read_frame(uint8_t *to, size_t size) {
+    ssize_t got = syscall(SYS_read, 0, to, size < 2 ? size : 2);
+    if (got < 2) return got;
+    size_t more = to[0] << 8 | to[1];
+    ssize_t rest = syscall(SYS_read, 0, to + 2, more < size - 2 ? more : size - 2);
+    return rest < 0 ? got : got + rest;
+}
+
 ssize_t read(int fd, void *to, size_t size) {
     wake();
     if (fd == 0) {
@@ -214,7 +225,7 @@ ssize_t read(int fd, void *to, size_t size) {
         if (less == 0) less = size;
         if (cut && cut < less) less = cut;
         cut = 0;
-        ssize_t got = syscall(SYS_read, fd, to, less);
+        ssize_t got = frames ? read_frame(to, less) : syscall(SYS_read, fd, to, less);
         tell("read", got, size);
         return got;
     }

@@ -26,8 +26,9 @@ BOOT_1 = b"\x01" + (1).to_bytes(8, "big")
 class Case:
     """A run of a command: its words, its input, what its disk holds at first, and how many calls of it change the disk."""
 
-    def __init__(self, name, words, start, calls, given=b"", disk="tp.log"):
+    def __init__(self, name, words, start, calls, given=b"", disk="tp.log", settings=None):
         self.name, self.words, self.start, self.calls, self.given, self.disk = name, words, start, calls, given, disk
+        self.settings = settings or {}
         self.store = disk == "bound.log"
         # While a log is made anew the file may be none.
         self.makes = words[0] == "format"
@@ -58,7 +59,7 @@ class Stops:
 
     def runs(self, case, settings):
         """Runs of a case, with each of these settings."""
-        return self.run_all(case.words, [(case.given, case.start, it) for it in settings], case.disk)
+        return self.run_all(case.words, [(case.given, case.start, {**case.settings, **it}) for it in settings], case.disk)
 
     def look(self, case, contents):
         """What those files open to: the lines of show, or of keys with the bodies of a store; None where it is no log."""
@@ -175,7 +176,8 @@ def cut_compactions(stops, words, start, steps):
 
 
 def cases(stops):
-    """Each command with the constant number of its changing calls: a start has 1 sync, a record 4 calls, a compaction 12."""
+    """Each command with the constant number of its changing calls: a start has 1 sync, a record or a batch of records 4 calls, a
+    compaction 12. What `node` and `tx` are given stands whole in their input, so it is one batch; or it comes frame by frame."""
     old = wire.FRESH[:5] + b"\x00"
     sub, damage, root = (streams.stream(it) for it in (streams.subordinate(2), streams.subordinate(1, True), streams.root(2)))
     face = streams.stream(streams.root(2, asked=False))
@@ -184,11 +186,15 @@ def cases(stops):
     yield Case("format", ["format"], ended, 3)
     yield Case("format of nothing", ["format"], b"", 3)
     yield Case("node: start", ["node", "--name", "b"], wire.FRESH, 5)
-    yield Case("node: two transactions of a subordinate", ["node", "--name", "b"], wire.FRESH, 29, sub)
-    yield Case("node: the same on a log of version 1", ["node", "--name", "b"], old, 29, sub)
-    yield Case("node: a decision and its damage", ["node", "--name", "b"], wire.FRESH, 25, damage)
-    yield Case("node: two transactions of a root", ["node", "--name", "a"], wire.FRESH, 21, root)
-    yield Case("tx: two transactions", ["tx", "--name", "a"], wire.FRESH, 21, face)
+    three = streams.stream(streams.subordinate(1))
+    yield Case("node: three records in a batch", ["node", "--name", "b"], wire.FRESH, 9, three)
+    for way, settings in (("in a batch", {}), ("frame by frame", {"frames": 1})):
+        calls = lambda records: 5 + 4 * (records if settings else 1)
+        yield Case("node: two transactions of a subordinate " + way, ["node", "--name", "b"], wire.FRESH, calls(6), sub, settings=settings)
+        yield Case("node: the same on a log of version 1 " + way, ["node", "--name", "b"], old, calls(6), sub, settings=settings)
+        yield Case("node: a decision and its damage " + way, ["node", "--name", "b"], wire.FRESH, calls(5), damage, settings=settings)
+        yield Case("node: two transactions of a root " + way, ["node", "--name", "a"], wire.FRESH, calls(4), root, settings=settings)
+        yield Case("tx: two transactions " + way, ["tx", "--name", "a"], wire.FRESH, calls(4), face, settings=settings)
     yield Case("show", ["show"], ended, 1)
     yield Case("check", ["check"], ended, 1)
     for name, log in (("a log at its end", ended), ("a log in doubt", doubt)):

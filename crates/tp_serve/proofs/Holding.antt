@@ -2,7 +2,6 @@
 use Rattle.std.proofs.Common.{◌≡◌, ◌⊎◌, inl, inr, ◌≤◌, ◌<◌, ℕ, Bool, true, false, Option, Some, None, Err, List, [], ◌∷◌, ◌++◌, length, map, refl, sym, ap, subst, ◌∙◌, arith}
 use Rattle.std.specs.List.{AllByRecursion}
 use Rattle.std.proofs.lemmas.List.{map-append}
-use Rattle.tp_outside.specs.Faults.{HasRisen}
 use Rattle.tp_outside.specs.Story.{Story}
 use Rattle.tp_outside.proofs.Stories.{weaker, joined}
 use Rattle.tp_logrec.specs.declared.record.LogRec.{LogRec}
@@ -17,6 +16,7 @@ use Rattle.tp_journal.specs.Log.{StandsFor, StandsForEither}
 use Rattle.tp_journal.specs.Records.{version_of, HasText, text, bodies_of}
 use Rattle.tp_journal.proofs.AsLogs.{is_log}
 use Rattle.tp_journal.specs.Told.{LeavesOnly, LeavesNow}
+use Rattle.tp_streams.specs.Stops.{IsFaultOf}
 use Rattle.tp_site.specs.Events.{kept_records}
 use Rattle.tp_serve.specs.Progress.{is_wide, Holds, FailsAt}
 use Rattle.tp_serve.proofs.Runs.{size_one}
@@ -74,6 +74,12 @@ module _ (P Q : List ℕ → Type 0) (ver : LogVersion) (records : List LogRec) 
   longer_is : longer (size_of ver records) old.wide r ≡ size_of ver (records ++ r ∷ [])
   longer_is = let e : length (text old.wide r) ≡ length (record_bytes ver r) = ap length text_is in omega (arith, e, size_one ver records r)
 
+  -- a fault of the disk tells the count of its faults
+  pub fault_at : (n : ℕ) (new : Standing) → Forces old r (Err (force.DiskFault n)) new → IsFaultOf n faults new.faults
+  fault_at n new f =
+      let told : n ≡ new.faults = subst (λ (l : Option ℕ). CountsAs l n new.faults) holds.size f.4 in
+      record { risen = omega (arith, holds.counted, f.1); told = told }
+
   -- the images that were, and those with the record, are allowed
   module _ (has_text : HasText old.wide r) (were : (c : List ℕ) → P c → Q c) (alone : (c : List ℕ) → IsLog c records → Q c) (more : (c : List ℕ) → IsLog c (records ++ r ∷ []) → Q c) where
     texts : AllByRecursion (HasText (is_wide ver)) (records ++ r ∷ [])
@@ -112,14 +118,8 @@ module _ (P Q : List ℕ → Type 0) (ver : LogVersion) (records : List LogRec) 
     fails_at n new f = record {
       moments = moments_with new f.5;
       last = now_weaker (λ c. StandsForEither (bodies_kept old) (bodies_with old r) c) (λ c. IsLog c records ⊎ IsLog c (records ++ r ∷ [])) new.story either (leaves_now _ old.story new.story f.5);
-      fault = record { risen = risen; told = told };
+      fault = fault_at n new f;
     }
-      where
-        told : n ≡ new.faults
-        told = subst (λ (l : Option ℕ). CountsAs l n new.faults) holds.size f.4
-
-        risen : HasRisen faults new.faults
-        risen = omega (arith, holds.counted, f.1)
 
   pub stored_room : (receipt : Receipt) (new : Standing) → Stored old r receipt new → size_of ver (records ++ r ∷ []) ≤ 268435456
   stored_room receipt new stored =

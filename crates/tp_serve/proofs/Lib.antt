@@ -3,6 +3,7 @@ pub mod Runs
 pub mod Fitting
 pub mod Holding
 pub mod Served
+pub mod Ahead
 pub mod Replies
 pub mod Inputs
 pub mod Endings

@@ -1,6 +1,6 @@
 -- One event more at a site that serves.
-use Rattle.std.proofs.Common.{◌≡◌, ◌⊎◌, inl, inr, ℕ, true, false, Option, Some, None, Result, Ok, Err, List, [], ◌∷◌, ◌++◌, length, refl, sym, ap, subst, ◌∙◌, arith}
-use Rattle.std.specs.Prelude.{nat_lt, OnOk, OnErr, IfErr}
+use Rattle.std.proofs.Common.{◌≡◌, ◌⊎◌, inl, inr, ◌+◌, ℕ, true, false, Option, Some, None, Result, Ok, Err, List, [], ◌∷◌, ◌++◌, length, refl, sym, ap, subst, ◌∙◌, arith, length-append}
+use Rattle.std.specs.Prelude.{nat_lt}
 use Rattle.std.proofs.lemmas.List.{append-nil}
 use Rattle.tp_outside.specs.Story.{Story}
 use Rattle.tp_records.specs.declared.body.Event.{Event as Given}
@@ -11,32 +11,33 @@ use Rattle.tp_model.specs.NodeTranscript.{size_of, is_past_limit}
 use Rattle.tp_journal.specs.declared.faults.ForceFault.TheVariants as force
 use Rattle.tp_journal.specs.Keeping.{Standing}
 use Rattle.tp_streams.specs.declared.stop.Stop.{Stop}
-use Rattle.tp_streams.specs.Stops.{IsWriteStop}
-use Rattle.tp_streams.specs.Written.{WritesPrefix}
 use Rattle.tp_site.specs.Site.{Site, IsForced, IsUnforced}
 use Rattle.tp_site.specs.Shaped.{HasTextOption}
 use Rattle.tp_site.specs.Events.{record_after}
 use Rattle.tp_logrec.specs.LogText.{IsLog}
 use Rattle.tp_serve.specs.Images.{IsNodeImage}
 use Rattle.tp_serve.specs.Answering.{IsAnswered, IsUnanswered, IsWithoutMemory, Answers}
-use Rattle.tp_serve.specs.Progress.{Holds, IsServing, HasFailed, ServesOne, answer_bytes}
-use Rattle.tp_serve.proofs.Lists.{taken_all, taken_front, taken_more, length_more}
+use Rattle.tp_serve.specs.Progress.{Holds, IsServing, IsShutAt, ServesOne}
+use Rattle.tp_serve.proofs.Lists.{taken_all, taken_front, taken_more}
 use Rattle.tp_serve.proofs.Runs.{rec_list, log_next}
 use Rattle.tp_serve.proofs.Fitting.{over_so, within_so}
-use Rattle.tp_serve.proofs.Holding.{holds_more, holds_still, holds_weaker, fails_at, stored_room, full_over, not_shut, now_weaker}
+use Rattle.tp_serve.proofs.Holding.{holds_more, holds_still, holds_weaker, fault_at, stored_room, full_over, not_shut}
 
--- ---- what a crash may leave, with one event more
+-- ---- what a crash may leave, with more events
 
-module _ (o : Opening) (gs : List Given) (g : Given) where
-  pub were : (c : List ℕ) → IsNodeImage o gs 0 c → IsNodeImage o (gs ++ g ∷ []) 0 c
-  were c (inl x) = inl (x.0, x.1, omega (arith, x.2, length_more gs g), subst (λ (l : List Given). IsLog c (log_after o l)) (sym (taken_more x.0 gs (g ∷ []) x.2)) x.3)
+module _ (o : Opening) (gs hs : List Given) where
+  longer : length (gs ++ hs) ≡ length gs + length hs
+  longer = length-append gs hs
+
+  pub were : (c : List ℕ) → IsNodeImage o gs 0 c → IsNodeImage o (gs ++ hs) 0 c
+  were c (inl x) = inl (x.0, x.1, omega (arith, x.2, longer), subst (λ (l : List Given). IsLog c (log_after o l)) (sym (taken_more x.0 gs hs x.2)) x.3)
   were c (inr x) = inr x
 
-  pub without_it : (c : List ℕ) → IsLog c (log_after o gs) → IsNodeImage o (gs ++ g ∷ []) (length gs) c
-  without_it c s = inl (length gs, omega arith, omega (arith, length_more gs g), subst (λ (l : List Given). IsLog c (log_after o l)) (sym (taken_front gs (g ∷ []))) s)
+  pub without_them : (c : List ℕ) → IsLog c (log_after o gs) → IsNodeImage o (gs ++ hs) (length gs) c
+  without_them c s = inl (length gs, omega arith, omega (arith, longer), subst (λ (l : List Given). IsLog c (log_after o l)) (sym (taken_front gs hs)) s)
 
-  pub with_it : (c : List ℕ) → IsLog c (log_after o (gs ++ g ∷ [])) → IsNodeImage o (gs ++ g ∷ []) (length gs) c
-  with_it c s = inl (length (gs ++ g ∷ []), omega (arith, length_more gs g), omega arith, subst (λ (l : List Given). IsLog c (log_after o l)) (sym (taken_all (gs ++ g ∷ []))) s)
+  pub with_them : (c : List ℕ) → IsLog c (log_after o (gs ++ hs)) → IsNodeImage o (gs ++ hs) (length gs) c
+  with_them c s = inl (length (gs ++ hs), omega (arith, longer), omega arith, subst (λ (l : List Given). IsLog c (log_after o l)) (sym (taken_all (gs ++ hs))) s)
 
 pub any_of_them : (o : Opening) (gs : List Given) (n : ℕ) (c : List ℕ) → IsNodeImage o gs n c → IsNodeImage o gs 0 c
 any_of_them o gs n c (inl x) = inl (x.0, omega arith, x.2, x.3)
@@ -52,7 +53,7 @@ module _ {K : Type 0} (standing : K → Standing) (o : Opening) (gs : List Given
   After = IsNodeImage o (gs ++ g ∷ []) 0
 
   alone : (c : List ℕ) → IsLog c (log_after o gs) → After c
-  alone c s = any_of_them o (gs ++ g ∷ []) (length gs) c (without_it o gs g c s)
+  alone c s = any_of_them o (gs ++ g ∷ []) (length gs) c (without_them o gs (g ∷ []) c s)
 
   next_is : (r : LogRec) → record_after o gs g ≡ Some r → log_after o gs ++ r ∷ [] ≡ log_after o (gs ++ g ∷ [])
   next_is r is = ap (λ (x : Option LogRec). log_after o gs ++ rec_list x) (sym is) ∙ sym (log_next o gs g)
@@ -61,7 +62,7 @@ module _ {K : Type 0} (standing : K → Standing) (o : Opening) (gs : List Given
   same_is is = sym (append-nil (log_after o gs)) ∙ ap (λ (x : Option LogRec). log_after o gs ++ rec_list x) (sym is) ∙ sym (log_next o gs g)
 
   with_next : (r : LogRec) → record_after o gs g ≡ Some r → (c : List ℕ) → IsLog c (log_after o gs ++ r ∷ []) → IsNodeImage o (gs ++ g ∷ []) (length gs) c
-  with_next r is c s = with_it o gs g c (subst (λ (l : List LogRec). IsLog c l) (next_is r is) s)
+  with_next r is c s = with_them o gs (g ∷ []) c (subst (λ (l : List LogRec). IsLog c l) (next_is r is) s)
 
   more : (r : LogRec) → record_after o gs g ≡ Some r → (c : List ℕ) → IsLog c (log_after o gs ++ r ∷ []) → After c
   more r is c s = any_of_them o (gs ++ g ∷ []) (length gs) c (with_next r is c s)
@@ -72,12 +73,12 @@ module _ {K : Type 0} (standing : K → Standing) (o : Opening) (gs : List Given
   logged : (new : Site K) (x : Option LogRec) → record_after o gs g ≡ x → HasTextOption (standing old.keeper).wide x → IsForced standing old.keeper x new.keeper → Logged new
   logged new None is text same =
       let kept : Holds After o.version (log_after o gs) begun faults (standing new.keeper) =
-      subst (λ (k : K). Holds After o.version (log_after o gs) begun faults (standing k)) (sym same) (holds_weaker Before o.version (log_after o gs) begun faults (standing old.keeper) serving.log After (were o gs g)) in (
+      subst (λ (k : K). Holds After o.version (log_after o gs) begun faults (standing k)) (sym same) (holds_weaker Before o.version (log_after o gs) begun faults (standing old.keeper) serving.log After (were o gs (g ∷ []))) in (
         subst (λ (l : List LogRec). Holds After o.version l begun faults (standing new.keeper)) (same_is is) kept,
         ap (λ (l : List LogRec). nat_lt 268435456 (size_of o.version l)) (sym (same_is is)) ∙ serving.room,
       )
   logged new (Some r) is text forced =
-      let kept = holds_more Before After o.version (log_after o gs) begun faults (standing old.keeper) serving.log r text (were o gs g) alone (more r is) forced.0 (standing new.keeper) forced.1 in
+      let kept = holds_more Before After o.version (log_after o gs) begun faults (standing old.keeper) serving.log r text (were o gs (g ∷ [])) alone (more r is) forced.0 (standing new.keeper) forced.1 in
       let room = stored_room Before After o.version (log_after o gs) begun faults (standing old.keeper) serving.log r forced.0 (standing new.keeper) forced.1 in (
         subst (λ (l : List LogRec). Holds After o.version l begun faults (standing new.keeper)) (next_is r is) kept,
         within_so (size_of o.version (log_after o (gs ++ g ∷ []))) (let e : size_of o.version (log_after o gs ++ r ∷ []) ≡ size_of o.version (log_after o (gs ++ g ∷ [])) = ap (size_of o.version) (next_is r is) in omega (arith, e, room)),
@@ -107,22 +108,17 @@ module _ {K : Type 0} (standing : K → Standing) (o : Opening) (gs : List Given
           )
 
   -- the disk failed
-  failed : (n : ℕ) (new : Site K) → IsUnanswered standing o gs old g (force.DiskFault n) new → HasTextOption (standing old.keeper).wide (record_after o gs g) → HasFailed standing o gs g begun faults n new
-  failed n new x text = go (record_after o gs g) refl text x.unforced
+  failed : (n : ℕ) (new : Site K) → IsUnanswered standing o gs old g (force.DiskFault n) new → IsShutAt standing o gs faults n new
+  failed n new x = go (record_after o gs g) x.unforced
     where
-      go : (r : Option LogRec) → record_after o gs g ≡ r → HasTextOption (standing old.keeper).wide r → IsUnforced standing old.keeper r (force.DiskFault n) new.keeper → HasFailed standing o gs g begun faults n new
-      go None is text u = absurd u
-      go (Some r) is text u =
-          let f = fails_at Before After o.version (log_after o gs) begun faults (standing old.keeper) serving.log r text (were o gs g) alone (more r is) n (standing new.keeper) u in
-          record {
-            at = x.at;
-            room = serving.room;
-            texts = serving.log.texts;
-            moments = f.moments;
-            last = now_weaker (λ c. IsLog c (log_after o gs) ⊎ IsLog c (log_after o gs ++ r ∷ [])) (IsNodeImage o (gs ++ g ∷ []) (length gs)) (standing new.keeper).story
-                (λ c e. elim e [ inl s ↦ without_it o gs g c s | inr s ↦ with_next r is c s ]) f.last;
-            fault = f.fault;
-          }
+      go : (r : Option LogRec) → IsUnforced standing old.keeper r (force.DiskFault n) new.keeper → IsShutAt standing o gs faults n new
+      go None u = absurd u
+      go (Some r) u = record {
+        at = x.at;
+        counted = omega (arith, serving.log.counted, u.0.faults);
+        shut = u.3;
+        fault = fault_at Before Before o.version (log_after o gs) begun faults (standing old.keeper) serving.log r n (standing new.keeper) u;
+      }
 
   never_shut : (n : ℕ) (new : Site K) → IsUnanswered standing o gs old g (force.Shut n) new → ⊥
   never_shut n new x = go (record_after o gs g) x.unforced
@@ -141,28 +137,15 @@ module _ {K : Type 0} (standing : K → Standing) (o : Opening) (gs : List Given
   })
   starved new (inr x) = inr (answered x.0 new x.1)
 
-  -- it is not answered, and nothing is written
-  pub unanswered : (at : ℕ) (stop : Stop) (new : Site K) (written : Option (List ℕ)) → Answers standing o gs at old g (Err stop) new → ServesOne standing o gs begun faults at g (Err stop) new written written
-  unanswered at (Stop.BadInput n why) new written x = x
-  unanswered at (Stop.Limit what n) new written x =
+  -- it is not answered, and no more waits
+  pub unanswered : (at : ℕ) (stop : Stop) (new : Site K) (waiting : List ℕ) → Answers standing o gs at old g (Err stop) new → ServesOne standing o gs begun faults at g (Err stop) new waiting waiting
+  unanswered at (Stop.BadInput n why) new waiting x = x
+  unanswered at (Stop.Limit what n) new waiting x =
       let y = full x.2.0 new x.3 x.2.1 in
       (y.0, x.0, x.1, y.1, refl)
-  unanswered at (Stop.Foreign n) new written x = x
-  unanswered at (Stop.ReadFault n) new written x = x
-  unanswered at (Stop.WriteFault n) new written x = absurd x
-  unanswered at (Stop.DiskFault n) new written (inl x) = (failed n new x.0 x.1, refl)
-  unanswered at (Stop.DiskFault n) new written (inr x) = absurd (never_shut n new x)
-  unanswered at Stop.NoMemory new written x = (starved new x, refl)
-
-  -- what is written of its answer
-  pub wrote_one : (at : ℕ) (r : Result (Unit {0}) Stop) (new : Site K) (old_count count : ℕ) (was now : Option (List ℕ)) (out : List ℕ) → IsServing standing o (gs ++ g ∷ []) begun faults new → out ≡ answer_bytes o gs g
-      → OnOk r ((before : List ℕ) → was ≡ Some before → now ≡ Some (before ++ out)) → OnErr r ((before : List ℕ) → was ≡ Some before → WritesPrefix before out now) → IfErr r (IsWriteStop old_count count)
-      → ServesOne standing o gs begun faults at g r new was now
-  wrote_one at (Ok u) new old_count count was now out next is whole prefix fault = (next, λ before told. whole before told ∙ ap (λ (l : List ℕ). Some (before ++ l)) is)
-  wrote_one at (Err (Stop.BadInput n why)) new old_count count was now out next is whole prefix fault = absurd fault
-  wrote_one at (Err (Stop.Limit what n)) new old_count count was now out next is whole prefix fault = absurd fault
-  wrote_one at (Err (Stop.Foreign n)) new old_count count was now out next is whole prefix fault = absurd fault
-  wrote_one at (Err (Stop.ReadFault n)) new old_count count was now out next is whole prefix fault = absurd fault
-  wrote_one at (Err (Stop.WriteFault n)) new old_count count was now out next is whole prefix fault = (next, λ before told. subst (λ (l : List ℕ). WritesPrefix before l now) is (prefix before told))
-  wrote_one at (Err (Stop.DiskFault n)) new old_count count was now out next is whole prefix fault = absurd fault
-  wrote_one at (Err Stop.NoMemory) new old_count count was now out next is whole prefix fault = absurd fault
+  unanswered at (Stop.Foreign n) new waiting x = x
+  unanswered at (Stop.ReadFault n) new waiting x = x
+  unanswered at (Stop.WriteFault n) new waiting x = absurd x
+  unanswered at (Stop.DiskFault n) new waiting (inl x) = (failed n new x.0, refl)
+  unanswered at (Stop.DiskFault n) new waiting (inr x) = absurd (never_shut n new x)
+  unanswered at Stop.NoMemory new waiting x = (starved new x, refl)

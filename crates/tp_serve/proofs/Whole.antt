@@ -7,25 +7,27 @@ use Rattle.std.proofs.lemmas.List.{append-nil}
 use Rattle.tp_outside.specs.Story.{Story, Synced, seen}
 use Rattle.tp_records.specs.declared.body.Event.{Event as Given}
 use Rattle.tp_logrec.specs.declared.record.LogRec.{LogRec}
-use Rattle.tp_logrec.specs.LogText.{IsLog}
+use Rattle.tp_logrec.specs.declared.record.LogVersion.{LogVersion}
+use Rattle.tp_logrec.specs.LogText.{Placed, IsLog}
 use Rattle.tp_model.specs.declared.verdict.What.{What}
 use Rattle.tp_model.specs.Links.{greatest}
 use Rattle.tp_model.specs.Transcript.{Ending, Done, Bad_input, At_limit}
+use Rattle.tp_model.specs.LogCommands.{Has, opened}
 use Rattle.tp_model.specs.NodeRun.{Opening, boot_of, node_run, run_from, log_after}
 use Rattle.tp_model.specs.NodeTranscript.{Input, NodeTranscript, input_of, written_of, transcript_of, limited, nothing_written, node_transcript, is_past_limit}
 use Rattle.tp_journal.specs.Keeping.{Standing}
 use Rattle.tp_journal.specs.Records.{HasText}
+use Rattle.tp_journal.specs.Settling.{story_on}
 use Rattle.tp_journal.specs.Told.{LeavesOnly, LeavesNow}
 use Rattle.tp_streams.specs.declared.stop.Stop.{Stop}
 use Rattle.tp_streams.specs.Stops.{IsFaultOf}
 use Rattle.tp_streams.specs.Events.{input_at}
-use Rattle.tp_log_tools.specs.Readings.{IsFile}
 use Rattle.tp_streams.specs.Written.{IsPrefix, WritesPrefix}
 use Rattle.tp_framing.specs.Frames.{stream}
 use Rattle.tp_site.specs.Site.{Site}
 use Rattle.tp_serve.specs.Images.{IsNodeImage}
-use Rattle.tp_serve.specs.Progress.{is_wide, IsServing}
-use Rattle.tp_serve.specs.Starting.{opening, HasStarted, IsSpent, IsLimitedBefore, FailsBefore, NotStarted, IsStartStop}
+use Rattle.tp_serve.specs.Progress.{is_wide, IsSettled}
+use Rattle.tp_serve.specs.Starting.{opening, IsSpent, IsLimitedBefore, FailsBefore, NotStarted, IsStartStop}
 use Rattle.tp_serve.specs.Serving.{GoesOn, IsCutShort, IsInput, IsLimited, HasRead, HasWritten, SiteLeft, EndsServing, IsEventsStop, IsServeStop, Ran, IsUntouched, IsTranscribed, Transcribes, RunsOn, Serves}
 use Rattle.tp_serve.proofs.Lists.{taken_all}
 use Rattle.tp_serve.proofs.Fitting.{fewer_fit, limited_whole, limited_at, limited_prefix}
@@ -170,42 +172,39 @@ module _ {K : Type 0} (standing : K → Standing) (o : Opening) (events next : L
   image_of_all : (c : List ℕ) → IsLog c (log_after o events) → IsNodeImage o events (length events) c
   image_of_all c x = inl (length events, omega arith, omega arith, subst (λ (l : List Given). IsLog c (log_after o l)) (sym (taken_all events)) x)
 
-  from_serving : (result : Result (Unit {0}) Stop) → IsServing standing o events begun faults s × (next ≡ []) → Ended o events next begun (standing s.keeper).story result
-  from_serving result x =
-      let story = (standing s.keeper).story in
+  from_settled : (result : Result (Unit {0}) Stop) → IsSettled standing o events begun s × (next ≡ []) → Ended o events next begun (story_on (standing s.keeper).lasting) result
+  from_settled result x =
+      let story = story_on (standing s.keeper).lasting in
       let same : events ≡ events ++ next = sym (append-nil events) ∙ ap (λ (l : List Given). events ++ l) (sym x.1) in
       record {
         fits = x.0.room;
-        texts = x.0.log.texts;
-        log = inl (λ u. x.0.log.last);
+        texts = x.0.texts;
+        log = inl (λ u. x.0.rests.last);
         none = inl x.1;
-        moments = subst (λ (l : List Given). LeavesOnly (IsNodeImage o l 0) begun story) same x.0.log.moments;
-        last = subst (λ (l : List Given). LeavesNow (IsNodeImage o l (length events)) story) same (now_weaker (λ c. IsLog c (log_after o events)) (IsNodeImage o events (length events)) story image_of_all x.0.log.last);
+        moments = subst (λ (l : List Given). LeavesOnly (IsNodeImage o l 0) begun story) same x.0.rests.moments;
+        last = subst (λ (l : List Given). LeavesNow (IsNodeImage o l (length events)) story) same (now_weaker (λ c. IsLog c (log_after o events)) (IsNodeImage o events (length events)) story image_of_all x.0.rests.last);
       }
 
-  pub ended_of : (result : Result (Unit {0}) Stop) → SiteLeft standing o events next begun faults s result → Ended o events next begun (standing s.keeper).story result
-  ended_of (Ok u) x = from_serving (Ok u) x
-  ended_of (Err (Stop.BadInput at why)) x = from_serving (Err (Stop.BadInput at why)) x
-  ended_of (Err (Stop.Limit what at)) x = from_serving (Err (Stop.Limit what at)) x
+  pub ended_of : (result : Result (Unit {0}) Stop) → SiteLeft standing o events next begun faults s result → Ended o events next begun (story_on (standing s.keeper).lasting) result
+  ended_of (Ok u) x = from_settled (Ok u) x
+  ended_of (Err (Stop.BadInput at why)) x = from_settled (Err (Stop.BadInput at why)) x
+  ended_of (Err (Stop.Limit what at)) x = from_settled (Err (Stop.Limit what at)) x
   ended_of (Err (Stop.Foreign at)) x = absurd x
-  ended_of (Err (Stop.ReadFault n)) x = from_serving (Err (Stop.ReadFault n)) x
-  ended_of (Err (Stop.WriteFault n)) x = from_serving (Err (Stop.WriteFault n)) x
-  ended_of (Err (Stop.DiskFault n)) x =
-      let story = (standing s.keeper).story in
-      let f = x.2 in
-      record {
-        fits = f.room;
-        texts = f.texts;
-        log = inr (n, refl);
-        none = inr (n, refl);
-        moments = subst (λ (l : List Given). LeavesOnly (IsNodeImage o (events ++ l) 0) begun story) (sym x.1) f.moments;
-        last = subst (λ (l : List Given). LeavesNow (IsNodeImage o (events ++ l) (length events)) story) (sym x.1) f.last;
-      }
-  ended_of (Err Stop.NoMemory) x = from_serving (Err Stop.NoMemory) x
+  ended_of (Err (Stop.ReadFault n)) x = from_settled (Err (Stop.ReadFault n)) x
+  ended_of (Err (Stop.WriteFault n)) x = from_settled (Err (Stop.WriteFault n)) x
+  ended_of (Err (Stop.DiskFault n)) x = record {
+    fits = x.room;
+    texts = x.texts;
+    log = inr (n, refl);
+    none = inr (n, refl);
+    moments = x.moments;
+    last = x.last;
+  }
+  ended_of (Err Stop.NoMemory) x = from_settled (Err Stop.NoMemory) x
 
-module _ {K : Type 0} (standing : K → Standing) (name : List ℕ) (r : Ran) (faults : ℕ) (first : Site K) (h : HasStarted standing name (Some r.told) faults first) (file : IsFile (seen r.told)) (s : Site K) (story_is : r.story ≡ (standing s.keeper).story) where
+module _ {K : Type 0} (standing : K → Standing) (name : List ℕ) (r : Ran) (faults : ℕ) (version : LogVersion) (listed : List Placed) (opens : opened (seen r.told) ≡ Has version listed) (s : Site K) (story_is : r.story ≡ story_on (standing s.keeper).lasting) where
   abbrev began : Opening
-  began = opening name h.version h.listed
+  began = opening name version listed
 
   module _ (result : Result (Unit {0}) Stop) (e : EndsServing standing began (Some (Synced r.told)) faults r.left r.unread r.written r.output result s) where
     ended : Ended began e.events e.next (Some (Synced r.told)) r.story result
@@ -213,9 +212,9 @@ module _ {K : Type 0} (standing : K → Standing) (name : List ℕ) (r : Ran) (f
 
     runs_on : RunsOn name r result
     runs_on = record {
-      version = h.version;
-      listed = h.listed;
-      opens = h.opens r.told refl file;
+      version = version;
+      listed = listed;
+      opens = opens;
       events = e.events;
       next = e.next;
       read = λ bytes is. goes_with began bytes e.events e.next r.unread result (e.read bytes is) ended.none;
@@ -318,7 +317,7 @@ served_stop standing o events next begun s disk left source read sink wrote (Err
 served_stop standing o events next begun s disk left source read sink wrote (Err (Stop.Foreign at)) x site same = absurd x
 served_stop standing o events next begun s disk left source read sink wrote (Err (Stop.ReadFault n)) x site same = x
 served_stop standing o events next begun s disk left source read sink wrote (Err (Stop.WriteFault n)) x site same = x
-served_stop standing o events next begun s disk left source read sink wrote (Err (Stop.DiskFault n)) x site same = subst (IsFaultOf n disk) same site.2.fault
+served_stop standing o events next begun s disk left source read sink wrote (Err (Stop.DiskFault n)) x site same = subst (IsFaultOf n disk) same site.fault
 served_stop standing o events next begun s disk left source read sink wrote (Err Stop.NoMemory) x site same = tt
 
 pub never_foreign : (result : Result (Unit {0}) Stop) (source read sink wrote at : ℕ) → IfErr result (IsEventsStop source read sink wrote) → result ≡ Err (Stop.Foreign at) → ⊥

@@ -20,7 +20,7 @@ use Rattle.tp_streams.specs.Written.{WritesPrefix}
 use Rattle.tp_log_tools.specs.Opening.{ReadsAs}
 use Rattle.tp_site.specs.Site.{Site}
 use Rattle.tp_serve.specs.Images.{IsNodeImage}
-use Rattle.tp_serve.specs.Progress.{IsServing, HasFailed, with_events}
+use Rattle.tp_serve.specs.Progress.{IsSettled, HasFailed, with_events}
 use Rattle.tp_serve.specs.Starting.{opening, IsUnopened, IsOfStart}
 
 -- ---- what was read
@@ -48,7 +48,7 @@ abbrev pub IsLimited : Opening → List ℕ → List Given → What → ℕ → 
 IsLimited o bytes events what at =
     IsInput bytes events (At_limit what at) ⊎ ((g : Given) × GoesOn bytes (events ++ g ∷ []) × (is_past_limit o (events ++ g ∷ []) ≡ true) × (what ≡ What.Log) × (at ≡ suc (length events)))
 
--- These events happened. Where the disk failed, it was with the one after them.
+-- These events happened. Where the disk failed, it was with those after them.
 abbrev pub HasRead : Opening → List ℕ → List Given → List Given → Option (List ℕ) → Result (Unit {0}) Stop → Type 0
 HasRead o bytes events next unread (Ok u) = IsInput bytes events Done × (unread ≡ Some [])
 HasRead o bytes events next unread (Err (Stop.BadInput at why)) = IsInput bytes events (Bad_input at why)
@@ -74,16 +74,16 @@ HasWritten before bytes new (Err Stop.NoMemory) = WritesPrefix before bytes new
 
 -- ---- the site
 
--- it stands where the run of these events does; or the disk failed with the one after them
+-- it stands where the run of these events does, and all of them are on the disk; or the disk failed with those after them
 abbrev pub SiteLeft : {K : Type 0} → (K → Standing) → Opening → List Given → List Given → Option Story → ℕ → Site K → Result (Unit {0}) Stop → Type 0
-SiteLeft standing o events next begun faults s (Ok u) = IsServing standing o events begun faults s × (next ≡ [])
-SiteLeft standing o events next begun faults s (Err (Stop.BadInput at why)) = IsServing standing o events begun faults s × (next ≡ [])
-SiteLeft standing o events next begun faults s (Err (Stop.Limit what at)) = IsServing standing o events begun faults s × (next ≡ [])
+SiteLeft standing o events next begun faults s (Ok u) = IsSettled standing o events begun s × (next ≡ [])
+SiteLeft standing o events next begun faults s (Err (Stop.BadInput at why)) = IsSettled standing o events begun s × (next ≡ [])
+SiteLeft standing o events next begun faults s (Err (Stop.Limit what at)) = IsSettled standing o events begun s × (next ≡ [])
 SiteLeft standing o events next begun faults s (Err (Stop.Foreign at)) = ⊥
-SiteLeft standing o events next begun faults s (Err (Stop.ReadFault n)) = IsServing standing o events begun faults s × (next ≡ [])
-SiteLeft standing o events next begun faults s (Err (Stop.WriteFault n)) = IsServing standing o events begun faults s × (next ≡ [])
-SiteLeft standing o events next begun faults s (Err (Stop.DiskFault n)) = (g : Given) × (next ≡ g ∷ []) × HasFailed standing o events g begun faults n s
-SiteLeft standing o events next begun faults s (Err Stop.NoMemory) = IsServing standing o events begun faults s × (next ≡ [])
+SiteLeft standing o events next begun faults s (Err (Stop.ReadFault n)) = IsSettled standing o events begun s × (next ≡ [])
+SiteLeft standing o events next begun faults s (Err (Stop.WriteFault n)) = IsSettled standing o events begun s × (next ≡ [])
+SiteLeft standing o events next begun faults s (Err (Stop.DiskFault n)) = HasFailed standing o events (events ++ next) begun faults n s
+SiteLeft standing o events next begun faults s (Err Stop.NoMemory) = IsSettled standing o events begun s × (next ≡ [])
 
 -- how the events of a source were served by a site that had started
 pub record EndsServing {K : Type 0} (standing : K → Standing) (o : Opening) (begun : Option Story) (faults : ℕ) (left unread written output : Option (List ℕ)) (result : Result (Unit {0}) Stop) (s : Site K) : Type 0 where
@@ -138,8 +138,8 @@ Transcribes t before r (Err (Stop.WriteFault faults)) = WritesPrefix before t.wr
 Transcribes t before r (Err (Stop.DiskFault faults)) = WritesPrefix before t.written r.output
 Transcribes t before r (Err Stop.NoMemory) = WritesPrefix before t.written r.output
 
--- The file is a log in order, on which the site began, and these events happened. Of the one after them no byte was written,
--- and its record may stand, or not, where the disk failed.
+-- The file is a log in order, on which the site began, and these events happened. Of those after them no byte was written, and
+-- their records may stand, or not, where the disk failed.
 pub record RunsOn (name : List ℕ) (r : Ran) (result : Result (Unit {0}) Stop) : Type 0 where
   pub version : LogVersion
   pub listed : List Placed

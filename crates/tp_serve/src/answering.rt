@@ -39,8 +39,8 @@ fn refusal(alloc: Global, number: u8) -> Result<Outputs, NoMemory>
     Ok(outputs)
 }
 
-/// The outputs of the event that came in the frame with that number, without Over. Its record is forced before they are
-/// given.
+/// The outputs of the event that came in the frame with that number, without Over. The keeper has taken its record before
+/// they are given.
 pub(crate) fn answer<K: Keeper>(
     alloc: Global,
     site: &mut Site<K>,
@@ -49,6 +49,7 @@ pub(crate) fn answer<K: Keeper>(
 ) -> Result<Outputs, Stop>
     ensures answers { (o : Opening) (gs : List Given) → IsAt K.standing all_nodes o gs site.old → site.old.shut ≡ None → Answers K.standing o gs at site.old event.now result site.new }
     ensures stops { IfErr result (IsAnswerStop at) }
+    ensures lasting { (K.standing site.new.keeper).lasting ≡ (K.standing site.old.keeper).lasting }
 {
     match site.event(alloc, event) {
         Ok(outputs) => Ok(outputs),

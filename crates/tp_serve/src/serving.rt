@@ -1,19 +1,21 @@
 //! A site that is given events by a stream of frames.
-ghost use Rattle.std.specs.Prelude.{◌≡◌, ◌≤◌, [], ℕ, List, Some, Option, Err, IfErr};
+ghost use Rattle.std.specs.Prelude.{◌≡◌, ◌≤◌, [], ℕ, List, Some, None, Option, Err, OnOk, IfErr};
 ghost use Rattle.tp_outside.specs.Story.{Story, seen};
 ghost use Rattle.tp_records.specs.declared.body.Event.{Event as Given};
 ghost use Rattle.tp_model.specs.declared.verdict.What.{What as Limits};
 ghost use Rattle.tp_model.specs.NodeRun.{Opening};
 ghost use Rattle.tp_streams.specs.declared.stop.Stop.{Stop as TheStop};
 ghost use Rattle.tp_log_tools.specs.Readings.{IsFile};
-ghost use Rattle.tp_serve.specs.Progress.{IsServing, ServesOne, IsServedStop};
+ghost use Rattle.tp_serve.specs.Answering.{IsAnswerStop};
+ghost use Rattle.tp_serve.specs.Writing.{WritesSettled};
+ghost use Rattle.tp_serve.specs.Progress.{IsServing, RestsOn, SettlesSite, KeepsUp, Finishes, ServesOne};
 ghost use Rattle.tp_serve.specs.Serving.{EndsServing, IsEventsStop, Serves, IsServeStop};
 
 use crate::answering::{answer, reply};
 use crate::starting::start;
 use std::alloc::Global;
-use tp_journal::{Journal, Keeper};
-use tp_names::{Octets, SiteName};
+use tp_journal::{ForceFault, Gathering, Journal, Keeper, Settles};
+use tp_names::{NoMemory, Octets, SiteName};
 use tp_outside::{Disk, Sink, Source};
 use tp_records::Event;
 use tp_site::Site;
@@ -22,33 +24,105 @@ use tp_streams::{EventIntake, Stop, write_all};
 /// The most events that are read.
 const MOST_EVENTS: u64 = 1_000_000;
 
-// Answers the event that came in the frame with that number, and writes the answer whole. `out` is memory for it.
-fn serve_event<J: Keeper, K: Sink>(
+/// Once more bytes than these wait, they are written before the next event.
+const MOST_WAITING: usize = 65_536;
+
+/// Writes the answers that wait, once the records of their events were forced; or stops with why they were not.
+pub fn write_settled<K: Sink>(
+    settled: Result<(), ForceFault>,
+    waiting: &mut Octets,
+    sink: &mut K,
+) -> Result<(), Stop>
+    ensures writes { WritesSettled settled result waiting.old (K.written sink.old) (K.written sink.new) (K.fault_count sink.old) (K.fault_count sink.new) }
+    ensures empty { OnOk result (waiting.new ≡ []) }
+    ensures kept { K.fault_count sink.old ≤ K.fault_count sink.new }
+{
+    match settled {
+        Ok(()) => {}
+        Err(ForceFault::DiskFault { faults } | ForceFault::Shut { faults }) => {
+            return Err(Stop::DiskFault { faults });
+        }
+        Err(ForceFault::Full { .. } | ForceFault::NoMemory) => return Err(Stop::NoMemory),
+    }
+    write_all(sink, waiting.as_slice())?;
+    waiting.truncate(0);
+    Ok(())
+}
+
+// Forces the records of all events that were answered, and then writes the answers, which wait.
+fn settle<J: Settles, K: Sink>(
+    site: &mut Site<J>,
+    waiting: &mut Octets,
+    sink: &mut K,
+) -> Result<(), Stop>
+    ensures settles { SettlesSite J.standing site.old site.new result waiting.old waiting.new (K.written sink.old) (K.written sink.new) (K.fault_count sink.old) (K.fault_count sink.new) }
+    ensures kept { K.fault_count sink.old ≤ K.fault_count sink.new }
+{
+    let settled = site.settle_log();
+    write_settled(settled, waiting, sink)
+}
+
+// The same before the next frame, where it is not at hand, or much waits: no answer waits while the source is read.
+fn keep_up<J: Settles, K: Sink>(
+    site: &mut Site<J>,
+    waiting: &mut Octets,
+    sink: &mut K,
+    ready: bool,
+) -> Result<(), Stop>
+    ensures keeps { KeepsUp J.standing site.old site.new result waiting.old waiting.new (K.written sink.old) (K.written sink.new) (K.fault_count sink.old) (K.fault_count sink.new) }
+    ensures kept { K.fault_count sink.old ≤ K.fault_count sink.new }
+{
+    if ready && waiting.len() <= MOST_WAITING {
+        return Ok(());
+    }
+    settle(site, waiting, sink)
+}
+
+// The same at the end, which is told where nothing else stops it.
+fn finish<J: Settles, K: Sink>(
+    site: &mut Site<J>,
+    waiting: &mut Octets,
+    sink: &mut K,
+    end: Result<(), Stop>,
+) -> Result<(), Stop>
+    ensures finishes { Finishes J.standing site.old site.new end result waiting.old (K.written sink.old) (K.written sink.new) (K.fault_count sink.old) (K.fault_count sink.new) }
+    ensures kept { K.fault_count sink.old ≤ K.fault_count sink.new }
+{
+    match settle(site, waiting, sink) {
+        Ok(()) => end,
+        Err(stop) => Err(stop),
+    }
+}
+
+// Answers the event that came in the frame with that number: the answer waits behind those before it. `out` is memory for it.
+fn serve_event<J: Keeper>(
     alloc: Global,
     site: &mut Site<J>,
     event: &Event,
     at: u64,
     out: &mut Octets,
-    sink: &mut K,
+    waiting: &mut Octets,
 ) -> Result<(), Stop>
     ensures serves { (o : Opening) (gs : List Given) (begun : Option Story) (faults : ℕ) → IsServing J.standing o gs begun faults site.old
-        → ServesOne J.standing o gs begun faults at event.now result site.new (K.written sink.old) (K.written sink.new) }
-    ensures stops { IfErr result (IsServedStop at (K.fault_count sink.old) (K.fault_count sink.new)) }
-    ensures kept { K.fault_count sink.old ≤ K.fault_count sink.new }
+        → ServesOne J.standing o gs begun faults at event.now result site.new waiting.old waiting.new }
+    ensures stops { IfErr result (IsAnswerStop at) }
+    ensures lasting { (J.standing site.new.keeper).lasting ≡ (J.standing site.old.keeper).lasting }
 {
     let outputs = answer(alloc, site, event, at)?;
     reply(alloc, &outputs, out)?;
-    write_all(sink, out.as_slice())
+    waiting.extend_from_slice(alloc, out.as_slice())?;
+    Ok(())
 }
 
-// Answers each event of the source. The limit of events comes before the loop is through.
-fn serve_events<S: Source, K: Sink, J: Keeper>(
+// Answers each event of the source. The records of all that is at hand are forced at once. The limit of events comes before
+// the loop is through.
+fn serve_events<S: Source, K: Sink, J: Settles>(
     alloc: Global,
     site: &mut Site<J>,
     source: &mut S,
     sink: &mut K,
 ) -> Result<(), Stop>
-    ensures serves { (o : Opening) (begun : Option Story) (faults : ℕ) → IsServing J.standing o [] begun faults site.old
+    ensures serves { (o : Opening) (begun : Option Story) (faults : ℕ) → IsServing J.standing o [] None faults site.old → RestsOn o [] begun (J.standing site.old.keeper).lasting
         → EndsServing J.standing o begun faults (S.left source.old) (S.left source.new) (K.written sink.old) (K.written sink.new) result site.new }
     ensures stops { IfErr result (IsEventsStop (S.fault_count source.old) (S.fault_count source.new) (K.fault_count sink.old) (K.fault_count sink.new)) }
     ensures read { S.fault_count source.old ≤ S.fault_count source.new }
@@ -56,18 +130,25 @@ fn serve_events<S: Source, K: Sink, J: Keeper>(
 {
     let mut intake = EventIntake::new(alloc, MOST_EVENTS);
     let mut out = Octets::new(alloc);
+    let mut waiting = Octets::new(alloc);
     'events: for _ in 0..u64::MAX {
-        let Some(event) = intake.next(alloc, source)? else {
-            return Ok(());
+        keep_up(site, &mut waiting, sink, intake.is_ready())?;
+        let event = match intake.next(alloc, source) {
+            Ok(Some(event)) => event,
+            Ok(None) => return finish(site, &mut waiting, sink, Ok(())),
+            Err(stop) => return finish(site, &mut waiting, sink, Err(stop)),
         };
-        serve_event(alloc, site, &event, intake.at(), &mut out, sink)?;
+        if let Err(stop) = serve_event(alloc, site, &event, intake.at(), &mut out, &mut waiting) {
+            return finish(site, &mut waiting, sink, Err(stop));
+        }
     }
-    Err(Stop::NoMemory)
+    finish(site, &mut waiting, sink, Err(Stop::NoMemory))
 }
 
 /// Starts a site of that name on the log of a disk, answers each event that the frames of the source say, and hands the
 /// disk back. The answer is the frames of the event's outputs and that of Over; a refusal is an output. The record of an
-/// event is forced before a byte of its answer is written.
+/// event is forced before a byte of its answer is written. The records of the events that are at hand are forced at once:
+/// the source is read only once every answer before is written, so who waits for an answer has it.
 ///
 /// The frame that is no frame or says no event ends it with `BadInput`, and `Limit` comes in the frame with which there
 /// would be more than 1,000,000 events or 256 nodes declared, or in which the record of the event has no room in the log.
@@ -89,9 +170,13 @@ pub fn serve<S: Source, K: Sink, D: Disk>(
     ensures read { S.fault_count source.old ≤ S.fault_count source.new }
     ensures kept { K.fault_count sink.old ≤ K.fault_count sink.new }
 {
-    let mut site = match start(alloc, disk, name) {
+    let site = match start(alloc, disk, name) {
         Ok(site) => site,
         Err((disk, stop)) => return (disk, Err(stop)),
+    };
+    let mut site = match site.ahead(alloc) {
+        Ok(site) => site,
+        Err((site, NoMemory)) => return (site.keeper().disk(), Err(Stop::NoMemory)),
     };
     let served = serve_events(alloc, &mut site, source, sink);
     (site.keeper().disk(), served)

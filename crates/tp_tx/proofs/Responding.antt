@@ -1,5 +1,5 @@
 -- How a frame is answered, by what the call that it asks for gave.
-use Rattle.std.proofs.Common.{◌≡◌, inl, inr, ℕ, refl, ap, sym, subst, ◌∙◌, Option, None, List, [], ◌∷◌, ◌++◌, Result, Ok, Err}
+use Rattle.std.proofs.Common.{◌≡◌, inl, inr, ℕ, refl, ap, sym, subst, ◌∙◌, Option, List, [], ◌∷◌, ◌++◌, Result, Ok, Err}
 use Rattle.std.specs.Prelude.{OnOk, IfErr}
 use Rattle.tp_outside.specs.Story.{Story}
 use Rattle.tp_records.specs.declared.body.Event.{Event as Given}
@@ -51,18 +51,18 @@ module _ {K : Type 0} (standing : K → Standing) (o : Opening) (gs : List Given
     -- it did not happen
     full : (at size : ℕ) (out : List ℕ) → Goes standing o gs [] old g (Err (SiteFault.Full size)) new → Stopped at (SiteFault.Full size) out
     full at size out x =
-        let y = unanswered standing o gs begun faults old.site running.serving g at (Stop.Limit What.Log at) new.site None (stops_so standing o gs at old.site g new.site (SiteFault.Full size) running.serving.is_open x.steps x.text) in
+        let y = unanswered standing o gs begun faults old.site running.serving g at (Stop.Limit What.Log at) new.site [] (stops_so standing o gs at old.site g new.site (SiteFault.Full size) running.serving.is_open x.steps x.text) in
         (record { face = x.at; node = x.node ∙ running.node; serving = y.0 }, refl, refl, y.3)
 
     failed : (at n : ℕ) (out : List ℕ) → Goes standing o gs [] old g (Err (SiteFault.DiskFault n)) new → Stopped at (SiteFault.DiskFault n) out
     failed at n out x =
-        let y = unanswered standing o gs begun faults old.site running.serving g at (Stop.DiskFault n) new.site None (stops_so standing o gs at old.site g new.site (SiteFault.DiskFault n) running.serving.is_open x.steps x.text) in
-        (g, refl, y.0)
+        let y = unanswered standing o gs begun faults old.site running.serving g at (Stop.DiskFault n) new.site [] (stops_so standing o gs at old.site g new.site (SiteFault.DiskFault n) running.serving.is_open x.steps x.text) in
+        y.0
 
     shut : (at n : ℕ) (out : List ℕ) → Goes standing o gs [] old g (Err (SiteFault.Shut n)) new → Stopped at (SiteFault.Shut n) out
     shut at n out x =
-        let y = unanswered standing o gs begun faults old.site running.serving g at (Stop.DiskFault n) new.site None (stops_so standing o gs at old.site g new.site (SiteFault.Shut n) running.serving.is_open x.steps x.text) in
-        (g, refl, y.0)
+        let y = unanswered standing o gs begun faults old.site running.serving g at (Stop.DiskFault n) new.site [] (stops_so standing o gs at old.site g new.site (SiteFault.Shut n) running.serving.is_open x.steps x.text) in
+        y.0
 
     starved : (at : ℕ) (out : List ℕ) → Goes standing o gs [] old g (Err SiteFault.NoMemory) new → Stopped at SiteFault.NoMemory out
     starved at out x =

@@ -27,11 +27,11 @@ read_stop number source old new sink wrote (Stop.WriteFault n) le x = absurd x
 read_stop number source old new sink wrote (Stop.DiskFault n) le x = absurd x
 read_stop number source old new sink wrote Stop.NoMemory le x = tt
 
-pub body_stop : (at source read sink old new : ℕ) (stop : Stop) → 0 < at → sink ≤ old → IsBodyStop at old new stop → IsEventsStop source read sink new stop
-body_stop at source read sink old new (Stop.BadInput n why) far le x = (omega (arith, far, x.0), subst IsOfEvents (sym x.1) tt)
-body_stop at source read sink old new (Stop.Limit what n) far le x = omega (arith, far, x.0)
-body_stop at source read sink old new (Stop.Foreign n) far le x = x
-body_stop at source read sink old new (Stop.ReadFault n) far le x = absurd x
-body_stop at source read sink old new (Stop.WriteFault n) far le x = risen_since n sink old new le x
-body_stop at source read sink old new (Stop.DiskFault n) far le x = tt
-body_stop at source read sink old new Stop.NoMemory far le x = tt
+pub body_stop : (at source read sink wrote : ℕ) (stop : Stop) → 0 < at → IsBodyStop at stop → IsEventsStop source read sink wrote stop
+body_stop at source read sink wrote (Stop.BadInput n why) far x = (omega (arith, far, x.0), subst IsOfEvents (sym x.1) tt)
+body_stop at source read sink wrote (Stop.Limit what n) far x = omega (arith, far, x.0)
+body_stop at source read sink wrote (Stop.Foreign n) far x = x
+body_stop at source read sink wrote (Stop.ReadFault n) far x = absurd x
+body_stop at source read sink wrote (Stop.WriteFault n) far x = absurd x
+body_stop at source read sink wrote (Stop.DiskFault n) far x = tt
+body_stop at source read sink wrote Stop.NoMemory far x = tt

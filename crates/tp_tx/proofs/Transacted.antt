@@ -4,17 +4,24 @@ use Rattle.std.specs.Prelude.{option_map}
 use Rattle.std.specs.List.{AllByRecursion}
 use Rattle.std.proofs.lemmas.List.{append-nil}
 use Rattle.tp_outside.specs.Story.{Story, Synced, seen}
+use Rattle.tp_outside.specs.FuseDisk.{Fused}
 use Rattle.tp_records.specs.declared.body.Event.{Event as Given}
 use Rattle.tp_logrec.specs.declared.record.LogRec.{LogRec}
-use Rattle.tp_logrec.specs.LogText.{IsLog}
+use Rattle.tp_logrec.specs.declared.record.LogVersion.{LogVersion}
+use Rattle.tp_logrec.specs.LogText.{Placed, IsLog}
+use Rattle.tp_framing.specs.Frames.{stream}
 use Rattle.tp_model.specs.declared.verdict.What.{What}
 use Rattle.tp_model.specs.Links.{greatest}
 use Rattle.tp_model.specs.Events.{started}
 use Rattle.tp_model.specs.Transcript.{Ending, Done, Bad_input, At_limit}
+use Rattle.tp_model.specs.LogCommands.{Has, opened}
 use Rattle.tp_model.specs.NodeRun.{Opening, boot_of, run_from, log_after}
 use Rattle.tp_model.specs.NodeTranscript.{is_past_limit}
 use Rattle.tp_journal.specs.Keeping.{Standing}
 use Rattle.tp_journal.specs.Records.{HasText}
+use Rattle.tp_journal.specs.Journals.{Kept}
+use Rattle.tp_journal.specs.Gathering.{Gathered, gathered_standing}
+use Rattle.tp_journal.specs.Settling.{story_on}
 use Rattle.tp_journal.specs.Told.{LeavesOnly, LeavesNow}
 use Rattle.tp_streams.specs.declared.stop.Stop.{Stop}
 use Rattle.tp_streams.specs.Written.{WritesPrefix}
@@ -23,16 +30,17 @@ use Rattle.tp_site.specs.declared.faults.SiteFault.{SiteFault}
 use Rattle.tp_site.specs.Site.{Site, known_at}
 use Rattle.tp_site.specs.Events.{StepsTo, all_nodes}
 use Rattle.tp_serve.specs.Images.{IsNodeImage}
-use Rattle.tp_serve.specs.Progress.{is_wide, IsServing}
+use Rattle.tp_serve.specs.Progress.{is_wide, journal_of, IsServing}
 use Rattle.tp_serve.specs.Starting.{opening, HasStarted, FailsBefore, NotStarted}
 use Rattle.tp_serve.specs.Serving.{Ran, IsUntouched, HasWritten, IsTranscribed, Transcribes}
+use Rattle.tp_serve.proofs.Ahead.{begins, serves_ahead, is_settled}
 use Rattle.tp_serve.proofs.Fitting.{fewer_fit}
 use Rattle.tp_serve.proofs.Starts.{boot_small}
 use Rattle.tp_serve.proofs.Whole.{boot_text, not_spent, Ended, ended_of}
 use Rattle.tx_face.specs.Face.{Face, undeclared, Goes}
 use Rattle.tp_tx.specs.Transcript.{TxTranscript, nothing_written, tx_transcript, first_events, after_bytes}
-use Rattle.tp_tx.specs.Progress.{IsRunning}
-use Rattle.tp_tx.specs.Running.{turns_of, IsWhole, HasRead, EndsRunning}
+use Rattle.tp_tx.specs.Progress.{IsRunning, turns_of}
+use Rattle.tp_tx.specs.Running.{IsWhole, HasRead, EndsRunning}
 use Rattle.tp_tx.specs.Transacting.{told_by, RunsOn, HasMade, NotMade, Transacts}
 use Rattle.tp_tx.proofs.Responding.{happened}
 
@@ -78,7 +86,7 @@ module _ (o : Opening) (events : List Given) (bytes : List ℕ) (r : Ran) (fits 
   transcribed next (Err (Stop.Foreign at)) read wrote log = absurd read
   transcribed next (Err (Stop.ReadFault n)) read wrote log = partly _ read.are (all_of before bytes r.output wrote)
   transcribed next (Err (Stop.WriteFault n)) read wrote log = partly _ read.are wrote
-  transcribed next (Err (Stop.DiskFault n)) read wrote log = partly _ read.2.are (all_of before bytes r.output wrote)
+  transcribed next (Err (Stop.DiskFault n)) read wrote log = partly _ read.first.are (all_of before bytes r.output wrote)
   transcribed next (Err Stop.NoMemory) read wrote log = partly _ read.are wrote
 
 -- ---- the face is made
@@ -103,39 +111,64 @@ module _ {K : Type 0} (standing : K → Standing) (o : Opening) (begun : Option 
 
 -- ---- the whole
 
-module _ {K : Type 0} (standing : K → Standing) (name : List ℕ) (r : Ran) (faults : ℕ) (first : Face K) (h : HasMade standing name (Some r.told) faults first) (file : IsFile (seen r.told)) where
+module _ {K : Type 0} (standing : K → Standing) (name : List ℕ) (r : Ran) (faults : ℕ) (version : LogVersion) (listed : List Placed) (opens : opened (seen r.told) ≡ Has version listed) (f : Face K) (story_is : r.story ≡ story_on (standing f.site.keeper).lasting) where
   abbrev began : Opening
-  began = opening name h.version h.listed
+  began = opening name version listed
 
-  module _ (f : Face K) (story_is : r.story ≡ (standing f.site.keeper).story) where
-    module _ (result : Result (Unit {0}) Stop) (e : EndsRunning standing began (Some (Synced r.told)) faults r.left r.unread r.written r.output result f) where
-      ended : Ended began e.events e.next (Some (Synced r.told)) r.story result
-      ended = subst (λ (t : Option Story). Ended began e.events e.next (Some (Synced r.told)) t result) (sym story_is) (ended_of standing began e.events e.next (Some (Synced r.told)) faults f.site result e.site)
+  module _ (result : Result (Unit {0}) Stop) (e : EndsRunning standing began (Some (Synced r.told)) faults r.left r.unread r.written r.output result f) where
+    ended : Ended began e.events e.next (Some (Synced r.told)) r.story result
+    ended = subst (λ (t : Option Story). Ended began e.events e.next (Some (Synced r.told)) t result) (sym story_is) (ended_of standing began e.events e.next (Some (Synced r.told)) faults f.site result e.site)
 
-      runs_on : RunsOn name r result
-      runs_on = record {
-        version = h.version;
-        listed = h.listed;
-        opens = h.opens r.told refl file;
-        events = e.events;
-        next = e.next;
-        bytes = e.bytes;
-        read = e.read;
-        wrote = e.wrote;
-        transcribes = λ input before is was. transcribed began e.events e.bytes r ended.fits ended.texts input before e.next result (e.read input is) (e.wrote before was) ended.log;
-        moments = ended.moments;
-        last = ended.last;
+    runs_on : RunsOn name r result
+    runs_on = record {
+      version = version;
+      listed = listed;
+      opens = opens;
+      events = e.events;
+      next = e.next;
+      bytes = e.bytes;
+      read = e.read;
+      wrote = e.wrote;
+      transcribes = λ input before is was. transcribed began e.events e.bytes r ended.fits ended.texts input before e.next result (e.read input is) (e.wrote before was) ended.log;
+      moments = ended.moments;
+      last = ended.last;
+    }
+
+  pub ran : (result : Result (Unit {0}) Stop) → EndsRunning standing began (Some (Synced r.told)) faults r.left r.unread r.written r.output result f → Transacts name r result
+  ran (Ok u) e = runs_on (Ok u) e
+  ran (Err (Stop.BadInput at why)) e = runs_on (Err (Stop.BadInput at why)) e
+  ran (Err (Stop.Limit what at)) e = inr (runs_on (Err (Stop.Limit what at)) e)
+  ran (Err (Stop.Foreign at)) e = absurd e.site
+  ran (Err (Stop.ReadFault n)) e = runs_on (Err (Stop.ReadFault n)) e
+  ran (Err (Stop.WriteFault n)) e = runs_on (Err (Stop.WriteFault n)) e
+  ran (Err (Stop.DiskFault n)) e = inr (inr (runs_on (Err (Stop.DiskFault n)) e))
+  ran (Err Stop.NoMemory) e = inr (inr (runs_on (Err Stop.NoMemory) e))
+
+-- ---- a face over a journal, whose records are noted from now on
+
+abbrev pub begins_face : {D : Type 0} → Face (Kept D) → Face (Gathered D)
+begins_face f = record { site = begins f.site; node = f.node; code = f.code }
+
+module _ {D : Type 0} (count : D → ℕ) (told : D → Option Story) (fuse : D → Option Fused) (o : Opening) (begun : Option Story) (faults : ℕ) (f : Face (Kept D)) (running : IsRunning (journal_of count told fuse) o first_events begun faults f) where
+  pub runs_ahead : IsRunning (gathered_standing count told) o first_events None faults (begins_face f)
+  runs_ahead =
+      let serving = serves_ahead count told fuse o first_events begun faults f.site running.serving in
+      record {
+        face = record { site = serving.at; since = running.face.since; history = running.face.history; code = running.face.code };
+        node = running.node;
+        serving = serving;
       }
 
-    pub ran : (result : Result (Unit {0}) Stop) → EndsRunning standing began (Some (Synced r.told)) faults r.left r.unread r.written r.output result f → Transacts name r result
-    ran (Ok u) e = runs_on (Ok u) e
-    ran (Err (Stop.BadInput at why)) e = runs_on (Err (Stop.BadInput at why)) e
-    ran (Err (Stop.Limit what at)) e = inr (runs_on (Err (Stop.Limit what at)) e)
-    ran (Err (Stop.Foreign at)) e = absurd e.site
-    ran (Err (Stop.ReadFault n)) e = runs_on (Err (Stop.ReadFault n)) e
-    ran (Err (Stop.WriteFault n)) e = runs_on (Err (Stop.WriteFault n)) e
-    ran (Err (Stop.DiskFault n)) e = inr (inr (runs_on (Err (Stop.DiskFault n)) e))
-    ran (Err Stop.NoMemory) e = inr (inr (runs_on (Err Stop.NoMemory) e))
+  -- there is no memory to go on
+  pub none_run : (left written : Option (List ℕ)) → EndsRunning (gathered_standing count told) o begun faults left left written written (Err Stop.NoMemory) (begins_face f)
+  none_run left written = record {
+    events = first_events;
+    next = [];
+    bytes = [];
+    site = (is_settled count told fuse o first_events begun faults f.site running.serving, refl);
+    read = λ input is. record { number = 0; declares = 0; more = stream input; are = refl };
+    wrote = λ before is. ([], ([], refl), is ∙ ap (λ (l : List ℕ). Some l) (sym (append-nil before)));
+  }
 
 -- there is no site
 pub not_started : (name : List ℕ) (r : Ran) → IsUntouched r → (stop : Stop) → NotStarted name r.told r.story stop → Transacts name r (Err stop)

@@ -71,7 +71,7 @@ module _ (o : Opening) (gs : List Given) (at declares : ℕ) (body : List ℕ) w
 by_room : (o : Opening) (gs : List Given) (at : ℕ) (a : Asks) (b : Bool) → is_past_limit o (events_with gs a) ≡ b → turn_by o gs at a ≡ (elim b as (λ _. Turn) [ true ↦ Stops (At_limit What.Log at) | false ↦ Goes a ])
 by_room o gs at a b is = ap (λ (x : Bool). elim x as (λ _. Turn) [ true ↦ Stops (At_limit What.Log at) | false ↦ Goes a ]) is
 
-module _ {K : Type 0} (standing : K → Standing) (o : Opening) (gs : List Given) (begun : Option Story) (faults : ℕ) (at declares : ℕ) (body : List ℕ) (f : Face K) (count : ℕ) (old new : Option (List ℕ)) where
+module _ {K : Type 0} (standing : K → Standing) (o : Opening) (gs : List Given) (begun : Option Story) (faults : ℕ) (at declares : ℕ) (body : List ℕ) (f : Face K) (count : ℕ) (old new : List ℕ) where
   abbrev Ends : Stop → Type 0
   Ends stop = AnswersBody standing o gs begun faults at declares body (Err stop) f count old new
 
@@ -100,7 +100,7 @@ module _ {K : Type 0} (standing : K → Standing) (o : Opening) (gs : List Given
           limit = ap (λ (w : What). Stop.Limit w n) y.1 ∙ ap (Stop.Limit What.Log) y.2
       go (Err (Stop.Foreign n)) y = absurd y
       go (Err (Stop.ReadFault n)) y = absurd y
-      go (Err (Stop.WriteFault n)) y = (a, goes y.0.serving.room, y.0, y.1)
-      go (Err (Stop.DiskFault n)) y = (y.0, turns_in o gs at declares body frame count lets ∙ ap (turn_by o gs at) y.1, y.2, y.3)
+      go (Err (Stop.WriteFault n)) y = absurd y
+      go (Err (Stop.DiskFault n)) y = y
       go (Err Stop.NoMemory) (inl y, same) = (inl y, same)
       go (Err Stop.NoMemory) (inr y, same) = (inr (a, goes y.serving.room, y), same)

@@ -1,22 +1,22 @@
--- How far a face has come with the frames of its source, and what it leaves where it stops.
+-- How far a face has come with the frames of its source, and what it leaves where it stops. Its site runs ahead of its log: the
+-- records of some events are noted, and their answers wait, until all of these records are forced at once.
 use Rattle.std.specs.Prelude.{ℕ, suc, ◌≡◌, ◌⊎◌, ◌+◌, true, false, Option, Some, None, option_map, List, [], ◌∷◌, ◌++◌, Result, Ok, Err}
 use Rattle.tp_outside.specs.Story.{Story}
 use Rattle.tp_records.specs.declared.body.Event.{Event as Given}
 use Rattle.tp_records.specs.declared.body.Output.{Output}
-use Rattle.tp_framing.specs.Frames.{Stream}
+use Rattle.tp_framing.specs.Frames.{Stream, stream}
 use Rattle.tp_model.specs.declared.verdict.What.{What}
 use Rattle.tp_model.specs.declared.verdict.Why.{Why}
 use Rattle.tp_model.specs.Transcript.{Bad_input, At_limit}
+use Rattle.tp_model.specs.Parts.{Entry}
 use Rattle.tp_model.specs.NodeRun.{Opening}
 use Rattle.tp_model.specs.NodeTranscript.{outputs_bytes, is_past_limit}
 use Rattle.tp_journal.specs.Keeping.{Standing}
 use Rattle.tp_streams.specs.declared.stop.Stop.{Stop}
-use Rattle.tp_streams.specs.Stops.{IsFaultOf}
 use Rattle.tp_streams.specs.Taken.{Place, frames_left}
-use Rattle.tp_streams.specs.Written.{WritesPrefix}
 use Rattle.tp_site.specs.declared.faults.SiteFault.{SiteFault}
 use Rattle.tp_serve.specs.Answering.{stopped_by}
-use Rattle.tp_serve.specs.Progress.{IsServing, HasFailed}
+use Rattle.tp_serve.specs.Progress.{IsServing, IsShutAt, RestsOn, SettlesSite}
 use Rattle.tx_face.specs.declared.fault.FaceFault.{FaceFault}
 use Rattle.tx_face.specs.Face.{Face, IsFaceAt, GoesOn}
 use Rattle.tp_tx.specs.Frames.{declared_in}
@@ -57,20 +57,19 @@ Responds standing o gs begun faults at a (Err (Stop.Limit what n)) new out = IsR
 Responds standing o gs begun faults at a (Err (Stop.Foreign n)) new out = ⊥
 Responds standing o gs begun faults at a (Err (Stop.ReadFault n)) new out = ⊥
 Responds standing o gs begun faults at a (Err (Stop.WriteFault n)) new out = ⊥
-Responds standing o gs begun faults at a (Err (Stop.DiskFault n)) new out = (g : Given) × (a ≡ An_event g) × HasFailed standing o gs g begun faults n new.site
+Responds standing o gs begun faults at a (Err (Stop.DiskFault n)) new out = IsShutAt standing o gs faults n new.site
 Responds standing o gs begun faults at a (Err Stop.NoMemory) new out = IsRunning standing o gs begun faults new ⊎ IsRunning standing o (events_with gs a) begun faults new
 
--- the same, and its answer was written, or the sink failed
-abbrev pub AnswersFrame : {K : Type 0} → (K → Standing) → Opening → List Given → Option Story → ℕ → ℕ → Asks → Result (Unit {0}) Stop → Face K → Option (List ℕ) → Option (List ℕ) → Type 0
-AnswersFrame standing o gs begun faults at a (Ok u) f old new = IsRunning standing o (events_with gs a) begun faults f × ((before : List ℕ) → old ≡ Some before → new ≡ Some (before ++ answer_bytes o gs a))
+-- the same, and its answer waits behind those before it
+abbrev pub AnswersFrame : {K : Type 0} → (K → Standing) → Opening → List Given → Option Story → ℕ → ℕ → Asks → Result (Unit {0}) Stop → Face K → List ℕ → List ℕ → Type 0
+AnswersFrame standing o gs begun faults at a (Ok u) f old new = IsRunning standing o (events_with gs a) begun faults f × (new ≡ old ++ answer_bytes o gs a)
 AnswersFrame standing o gs begun faults at a (Err (Stop.BadInput n why)) f old new = ⊥
 AnswersFrame standing o gs begun faults at a (Err (Stop.Limit what n)) f old new =
     IsRunning standing o gs begun faults f × (what ≡ What.Log) × (n ≡ at) × (is_past_limit o (events_with gs a) ≡ true) × (new ≡ old)
 AnswersFrame standing o gs begun faults at a (Err (Stop.Foreign n)) f old new = ⊥
 AnswersFrame standing o gs begun faults at a (Err (Stop.ReadFault n)) f old new = ⊥
-AnswersFrame standing o gs begun faults at a (Err (Stop.WriteFault n)) f old new =
-    IsRunning standing o (events_with gs a) begun faults f × ((before : List ℕ) → old ≡ Some before → WritesPrefix before (answer_bytes o gs a) new)
-AnswersFrame standing o gs begun faults at a (Err (Stop.DiskFault n)) f old new = (g : Given) × (a ≡ An_event g) × HasFailed standing o gs g begun faults n f.site × (new ≡ old)
+AnswersFrame standing o gs begun faults at a (Err (Stop.WriteFault n)) f old new = ⊥
+AnswersFrame standing o gs begun faults at a (Err (Stop.DiskFault n)) f old new = IsShutAt standing o gs faults n f.site × (new ≡ old)
 AnswersFrame standing o gs begun faults at a (Err Stop.NoMemory) f old new = (IsRunning standing o gs begun faults f ⊎ IsRunning standing o (events_with gs a) begun faults f) × (new ≡ old)
 
 -- what is counted of frames
@@ -84,33 +83,42 @@ IsTxLimit What.Events = Unit {0}
 IsTxLimit What.Log = Unit {0}
 IsTxLimit What.Boots = ⊥
 
--- what stops the answering of a body that was taken, by the sink's counts before and after it
-abbrev pub IsBodyStop : ℕ → ℕ → ℕ → Stop → Type 0
-IsBodyStop at old new (Stop.BadInput n why) = (n ≡ at) × (why ≡ Why.Body)
-IsBodyStop at old new (Stop.Limit what n) = (n ≡ at) × IsTxLimit what
-IsBodyStop at old new (Stop.Foreign n) = ⊥
-IsBodyStop at old new (Stop.ReadFault n) = ⊥
-IsBodyStop at old new (Stop.WriteFault n) = IsFaultOf n old new
-IsBodyStop at old new (Stop.DiskFault n) = Unit {0}
-IsBodyStop at old new Stop.NoMemory = Unit {0}
+-- what stops the answering of the body of the frame with that number
+abbrev pub IsBodyStop : ℕ → Stop → Type 0
+IsBodyStop at (Stop.BadInput n why) = (n ≡ at) × (why ≡ Why.Body)
+IsBodyStop at (Stop.Limit what n) = (n ≡ at) × IsTxLimit what
+IsBodyStop at (Stop.Foreign n) = ⊥
+IsBodyStop at (Stop.ReadFault n) = ⊥
+IsBodyStop at (Stop.WriteFault n) = ⊥
+IsBodyStop at (Stop.DiskFault n) = Unit {0}
+IsBodyStop at Stop.NoMemory = Unit {0}
 
 -- how the body of the frame with that number was answered, before which so many nodes were declared by frames; and what it left of
--- the face, of the count, and of the sink
-abbrev pub AnswersBody : {K : Type 0} → (K → Standing) → Opening → List Given → Option Story → ℕ → ℕ → ℕ → List ℕ → Result (Unit {0}) Stop → Face K → ℕ → Option (List ℕ) → Option (List ℕ) → Type 0
+-- the face, of the count, and of the answers that wait
+abbrev pub AnswersBody : {K : Type 0} → (K → Standing) → Opening → List Given → Option Story → ℕ → ℕ → ℕ → List ℕ → Result (Unit {0}) Stop → Face K → ℕ → List ℕ → List ℕ → Type 0
 AnswersBody standing o gs begun faults at declares body (Ok u) f count old new =
-    (a : Asks) × (turn o gs at declares body ≡ Goes a) × IsRunning standing o (events_with gs a) begun faults f × (count ≡ declares + declared_in body) × ((before : List ℕ) → old ≡ Some before → new ≡ Some (before ++ answer_bytes o gs a))
+    (a : Asks) × (turn o gs at declares body ≡ Goes a) × IsRunning standing o (events_with gs a) begun faults f × (count ≡ declares + declared_in body) × (new ≡ old ++ answer_bytes o gs a)
 AnswersBody standing o gs begun faults at declares body (Err (Stop.BadInput n why)) f count old new =
     IsRunning standing o gs begun faults f × (turn o gs at declares body ≡ Stops (Bad_input n why)) × (new ≡ old)
 AnswersBody standing o gs begun faults at declares body (Err (Stop.Limit what n)) f count old new =
     IsRunning standing o gs begun faults f × (turn o gs at declares body ≡ Stops (At_limit what n)) × (new ≡ old)
 AnswersBody standing o gs begun faults at declares body (Err (Stop.Foreign n)) f count old new = ⊥
 AnswersBody standing o gs begun faults at declares body (Err (Stop.ReadFault n)) f count old new = ⊥
-AnswersBody standing o gs begun faults at declares body (Err (Stop.WriteFault n)) f count old new =
-    (a : Asks) × (turn o gs at declares body ≡ Goes a) × IsRunning standing o (events_with gs a) begun faults f × ((before : List ℕ) → old ≡ Some before → WritesPrefix before (answer_bytes o gs a) new)
-AnswersBody standing o gs begun faults at declares body (Err (Stop.DiskFault n)) f count old new =
-    (g : Given) × (turn o gs at declares body ≡ turn_by o gs at (An_event g)) × HasFailed standing o gs g begun faults n f.site × (new ≡ old)
+AnswersBody standing o gs begun faults at declares body (Err (Stop.WriteFault n)) f count old new = ⊥
+AnswersBody standing o gs begun faults at declares body (Err (Stop.DiskFault n)) f count old new = IsShutAt standing o gs faults n f.site × (new ≡ old)
 AnswersBody standing o gs begun faults at declares body (Err Stop.NoMemory) f count old new =
     (IsRunning standing o gs begun faults f ⊎ ((a : Asks) × (turn o gs at declares body ≡ Goes a) × IsRunning standing o (events_with gs a) begun faults f)) × (new ≡ old)
+
+-- All that is noted is forced, and what waits is written; or not. The face stands where it stood.
+pub record SettlesFace {K : Type 0} (standing : K → Standing) (old new : Face K) (result : Result (Unit {0}) Stop) (waiting waiting_new : List ℕ) (written output : Option (List ℕ)) (before after : ℕ) : Type 0 where
+  pub settles : SettlesSite standing old.site new.site result waiting waiting_new written output before after
+  pub node : new.node ≡ old.node
+  pub at : (o : Opening) (gs : List Given) (past : List Entry) → IsFaceAt standing o gs past old → IsFaceAt standing o gs past new
+
+-- before the next frame nothing is done, or all is settled
+abbrev pub KeepsUpFace : {K : Type 0} → (K → Standing) → Face K → Face K → Result (Unit {0}) Stop → List ℕ → List ℕ → Option (List ℕ) → Option (List ℕ) → ℕ → ℕ → Type 0
+KeepsUpFace standing old new result waiting waiting_new written output before after =
+    ((result ≡ Ok tt) × (new ≡ old) × (waiting_new ≡ waiting) × (output ≡ written)) ⊎ SettlesFace standing old new result waiting waiting_new written output before after
 
 -- ---- all frames so far
 
@@ -122,10 +130,27 @@ turns_at o gs number declares s = turns_from o gs (suc number) declares s.bodies
 abbrev pub first_place : Place
 first_place = record { held = []; at = 0; stop = None }
 
--- These frames were read and answered: what is still to come of the source came after them, and their answers were written.
-pub record HasRun {K : Type 0} (standing : K → Standing) (o : Opening) (begun : Option Story) (faults : ℕ) (place : Place) (declares : ℕ) (left rest written output : Option (List ℕ)) (f : Face K) : Type 0 where
+-- what these bytes come to, from the first frame on
+abbrev pub turns_of : Opening → List ℕ → TxTranscript
+turns_of o input = turns_at o first_events 0 0 (stream input)
+
+-- the input comes to these events and these bytes first, and then to what more frames do
+pub record GoesFirst (o : Opening) (input : List ℕ) (events : List Given) (bytes : List ℕ) : Type 0 where
+  pub number : ℕ
+  pub declares : ℕ
+  pub more : Stream
+  pub are : turns_of o input ≡ after_bytes bytes (turns_at o events number declares more)
+
+-- These frames were read and answered: what is still to come of the source came after them. The first of the events are on the
+-- disk, and the answers to the frames up to them were written; the other answers wait.
+pub record HasRun {K : Type 0} (standing : K → Standing) (o : Opening) (begun : Option Story) (faults : ℕ) (place : Place) (declares : ℕ) (left rest written output : Option (List ℕ)) (waiting : List ℕ) (f : Face K) : Type 0 where
   pub events : List Given
+  pub all : List Given
+  pub ahead : List Given
+  pub are : all ≡ events ++ ahead
   pub bytes : List ℕ
-  pub running : IsRunning standing o events begun faults f
-  pub read : option_map (turns_at o first_events 0 0) (frames_left first_place left) ≡ option_map (λ s. after_bytes bytes (turns_at o events place.at declares s)) (frames_left place rest)
+  pub running : IsRunning standing o all None faults f
+  pub rests : RestsOn o events begun (standing f.site.keeper).lasting
+  pub first : (input : List ℕ) → left ≡ Some input → GoesFirst o input events bytes
+  pub read : option_map (turns_at o first_events 0 0) (frames_left first_place left) ≡ option_map (λ s. after_bytes (bytes ++ waiting) (turns_at o all place.at declares s)) (frames_left place rest)
   pub wrote : (before : List ℕ) → written ≡ Some before → output ≡ Some (before ++ bytes)

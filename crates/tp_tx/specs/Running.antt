@@ -10,24 +10,13 @@ use Rattle.tp_streams.specs.declared.stop.Stop.{Stop}
 use Rattle.tp_serve.specs.Serving.{HasWritten, SiteLeft}
 use Rattle.tx_face.specs.Face.{Face}
 use Rattle.tp_tx.specs.Transcript.{An_event, TxTranscript, turn, turn_by, ends_at, after_bytes, first_events}
-use Rattle.tp_tx.specs.Progress.{turns_at}
-
--- what these bytes come to, from the first frame on
-abbrev pub turns_of : Opening → List ℕ → TxTranscript
-turns_of o input = turns_at o first_events 0 0 (stream input)
+use Rattle.tp_tx.specs.Progress.{turns_at, turns_of, GoesFirst}
 
 -- ---- what was read
 
 -- it comes to these events and these bytes, and ends so
 abbrev pub IsWhole : Opening → List ℕ → List Given → List ℕ → Ending → Type 0
 IsWhole o input events bytes ending = turns_of o input ≡ after_bytes bytes (ends_at o events ending)
-
--- it comes to these events and these bytes first, and then to what more frames do
-pub record GoesOn (o : Opening) (input : List ℕ) (events : List Given) (bytes : List ℕ) : Type 0 where
-  pub number : ℕ
-  pub declares : ℕ
-  pub more : Stream
-  pub are : turns_of o input ≡ after_bytes bytes (turns_at o events number declares more)
 
 -- What was read holds the frames of these and a part of a frame; the rest was not read.
 pub record IsCutShort (o : Opening) (input : List ℕ) (events : List Given) (bytes : List ℕ) (unread : Option (List ℕ)) : Type 0 where
@@ -39,25 +28,22 @@ pub record IsCutShort (o : Opening) (input : List ℕ) (events : List Given) (by
   pub part : next_in held ≡ Part
   pub are : turns_of o input ≡ after_bytes bytes (turns_at o events number declares (stream (held ++ rest)))
 
--- the next frame asks for that event
-pub record AsksNext (o : Opening) (input : List ℕ) (events : List Given) (bytes : List ℕ) (g : Given) : Type 0 where
-  pub number : ℕ
-  pub declares : ℕ
-  pub body : List ℕ
-  pub more : Stream
-  pub are : turns_of o input ≡ after_bytes bytes (turns_at o events number declares (with_body body more))
-  pub asks : turn o events (suc number) declares body ≡ turn_by o events (suc number) (An_event g)
+-- It comes to these events and these bytes first, then to the events after them and to more bytes, and then to what more frames do.
+pub record IsLost (o : Opening) (input : List ℕ) (events next : List Given) (bytes : List ℕ) : Type 0 where
+  pub first : GoesFirst o input events bytes
+  pub more : List ℕ
+  pub later : GoesFirst o input (events ++ next) (bytes ++ more)
 
--- These events happened, and these bytes tell of them. Where the disk failed, it was with the event after them.
+-- These events happened, and these bytes tell of them. Where the disk failed, it was with the events after them.
 abbrev pub HasRead : Opening → List ℕ → List Given → List Given → List ℕ → Option (List ℕ) → Result (Unit {0}) Stop → Type 0
 HasRead o input events next bytes unread (Ok u) = IsWhole o input events bytes Done
 HasRead o input events next bytes unread (Err (Stop.BadInput at why)) = IsWhole o input events bytes (Bad_input at why)
 HasRead o input events next bytes unread (Err (Stop.Limit what at)) = IsWhole o input events bytes (At_limit what at)
 HasRead o input events next bytes unread (Err (Stop.Foreign at)) = ⊥
 HasRead o input events next bytes unread (Err (Stop.ReadFault faults)) = IsCutShort o input events bytes unread
-HasRead o input events next bytes unread (Err (Stop.WriteFault faults)) = GoesOn o input events bytes
-HasRead o input events next bytes unread (Err (Stop.DiskFault faults)) = (g : Given) × (next ≡ g ∷ []) × AsksNext o input events bytes g
-HasRead o input events next bytes unread (Err Stop.NoMemory) = GoesOn o input events bytes
+HasRead o input events next bytes unread (Err (Stop.WriteFault faults)) = GoesFirst o input events bytes
+HasRead o input events next bytes unread (Err (Stop.DiskFault faults)) = IsLost o input events next bytes
+HasRead o input events next bytes unread (Err Stop.NoMemory) = GoesFirst o input events bytes
 
 -- how the frames of a source were answered by a face that was made
 pub record EndsRunning {K : Type 0} (standing : K → Standing) (o : Opening) (begun : Option Story) (faults : ℕ) (left unread written output : Option (List ℕ)) (result : Result (Unit {0}) Stop) (f : Face K) : Type 0 where

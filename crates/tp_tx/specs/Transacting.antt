@@ -25,7 +25,7 @@ abbrev pub told_by : TxTranscript → NodeTranscript
 told_by t = record { written = t.written; ending = t.ending; log = t.log }
 
 -- The file is a log in order, on which the site began, and these events happened, the first of which declared the face's node. Of
--- the one after them no byte was written, and its record may stand, or not, where the disk failed.
+-- those after them no byte was written, and their records may stand, or not, where the disk failed.
 pub record RunsOn (name : List ℕ) (r : Ran) (result : Result (Unit {0}) Stop) : Type 0 where
   pub version : LogVersion
   pub listed : List Placed

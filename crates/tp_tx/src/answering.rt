@@ -64,7 +64,8 @@ fn code_byte(code: Option<Code>) -> u8
 
 // The call or the event that a frame asks for.
 fn call<K: Keeper>(alloc: Global, face: &mut Face<K>, frame: &Frame) -> Result<Outputs, FaceFault>
-    ensures { (o : Opening) (gs : List Given) → IsFaceAt K.standing o gs [] face.old → face.old.node ≡ 1 → CallsFor K.standing o gs (asks (stand_after o gs) frame.now) face.old result face.new }
+    ensures lasting { (K.standing face.new.site.keeper).lasting ≡ (K.standing face.old.site.keeper).lasting }
+    ensures calls { (o : Opening) (gs : List Given) → IsFaceAt K.standing o gs [] face.old → face.old.node ≡ 1 → CallsFor K.standing o gs (asks (stand_after o gs) frame.now) face.old result face.new }
 {
     match frame {
         Frame::Event(event) => face.feed(alloc, event),
@@ -145,6 +146,7 @@ pub(crate) fn respond<K: Keeper>(
 ) -> Result<(), Stop>
     ensures responds { (o : Opening) (gs : List Given) (begun : Option Story) (faults : ℕ) → IsRunning K.standing o gs begun faults face.old → Responds K.standing o gs begun faults at (asks (stand_after o gs) frame.now) result face.new out.new }
     ensures stops { IfErr result (IsAnswerStop at) }
+    ensures lasting { (K.standing face.new.site.keeper).lasting ≡ (K.standing face.old.site.keeper).lasting }
 {
     let given = call(alloc, face, frame);
     match put_given(alloc, given, at, out) {

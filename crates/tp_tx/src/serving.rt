@@ -1,5 +1,5 @@
 //! A face that is given calls and events by a stream of frames.
-ghost use Rattle.std.specs.Prelude.{◌≡◌, ◌≤◌, ℕ, List, [], Option, Some, Err, IfOk, IfErr};
+ghost use Rattle.std.specs.Prelude.{◌≡◌, ◌≤◌, ℕ, List, [], Option, Some, None, Err, IfOk, IfErr};
 ghost use Rattle.tp_outside.specs.Story.{Story, seen};
 ghost use Rattle.tp_records.specs.declared.body.Event.{Event as Given};
 ghost use Rattle.tp_model.specs.declared.verdict.What.{What as Limits};
@@ -8,11 +8,12 @@ ghost use Rattle.tp_journal.specs.Told.{LeavesOnly};
 ghost use Rattle.tp_streams.specs.declared.stop.Stop.{Stop as TheStop};
 ghost use Rattle.tp_log_tools.specs.Readings.{IsFile};
 ghost use Rattle.tp_serve.specs.Images.{IsNodeImage};
-ghost use Rattle.tp_serve.specs.Progress.{journal_of, IsServing};
+ghost use Rattle.tp_serve.specs.Answering.{IsAnswerStop};
+ghost use Rattle.tp_serve.specs.Progress.{journal_of, IsServing, RestsOn, Finishes};
 ghost use Rattle.tp_serve.specs.Starting.{IsStartStop};
 ghost use Rattle.tp_serve.specs.Serving.{IsEventsStop, IsServeStop};
 ghost use Rattle.tp_tx.specs.Transcript.{asks, stand_after, first_events};
-ghost use Rattle.tp_tx.specs.Progress.{IsRunning, AnswersFrame, AnswersBody, IsBodyStop};
+ghost use Rattle.tp_tx.specs.Progress.{IsRunning, SettlesFace, KeepsUpFace, AnswersFrame, AnswersBody, IsBodyStop};
 ghost use Rattle.tp_tx.specs.Running.{EndsRunning};
 ghost use Rattle.tp_tx.specs.Transacting.{HasMade, NotMade, Transacts};
 
@@ -20,66 +21,119 @@ use crate::admission::admit;
 use crate::answering::respond;
 use crate::frame::Frame;
 use std::alloc::Global;
-use tp_journal::{Journal, Keeper};
-use tp_names::{Octets, SiteName};
+use tp_journal::{Journal, Keeper, Settles};
+use tp_names::{NoMemory, Octets, SiteName};
 use tp_outside::{Disk, Sink, Source};
-use tp_serve::start;
+use tp_serve::{start, write_settled};
 use tp_site::Site;
-use tp_streams::{Intake, Stop, write_all};
+use tp_streams::{Intake, Stop};
 use tx_face::Face;
 
 /// The number of the root's node.
 const ROOT: u16 = 1;
 
-// Answers the frame with that number, and writes the answer whole. `out` is memory for it.
-fn answer_frame<J: Keeper, K: Sink>(
+/// Once more bytes than these wait, they are written before the next frame.
+const MOST_WAITING: usize = 65_536;
+
+// Forces the records of all frames that were answered, and then writes the answers, which wait.
+fn settle<J: Settles, K: Sink>(
+    face: &mut Face<J>,
+    waiting: &mut Octets,
+    sink: &mut K,
+) -> Result<(), Stop>
+    ensures settles { SettlesFace J.standing face.old face.new result waiting.old waiting.new (K.written sink.old) (K.written sink.new) (K.fault_count sink.old) (K.fault_count sink.new) }
+    ensures kept { K.fault_count sink.old ≤ K.fault_count sink.new }
+{
+    let settled = face.settle_log();
+    write_settled(settled, waiting, sink)
+}
+
+// The same before the next frame, where it is not at hand, or much waits: no answer waits while the source is read.
+fn keep_up<J: Settles, K: Sink>(
+    face: &mut Face<J>,
+    waiting: &mut Octets,
+    sink: &mut K,
+    ready: bool,
+) -> Result<(), Stop>
+    ensures keeps { KeepsUpFace J.standing face.old face.new result waiting.old waiting.new (K.written sink.old) (K.written sink.new) (K.fault_count sink.old) (K.fault_count sink.new) }
+    ensures kept { K.fault_count sink.old ≤ K.fault_count sink.new }
+{
+    if ready && waiting.len() <= MOST_WAITING {
+        return Ok(());
+    }
+    settle(face, waiting, sink)
+}
+
+// The same at the end, which is told where nothing else stops it.
+fn finish<J: Settles, K: Sink>(
+    face: &mut Face<J>,
+    waiting: &mut Octets,
+    sink: &mut K,
+    end: Result<(), Stop>,
+) -> Result<(), Stop>
+    ensures finishes { Finishes J.standing face.old.site face.new.site end result waiting.old (K.written sink.old) (K.written sink.new) (K.fault_count sink.old) (K.fault_count sink.new) }
+    ensures kept { K.fault_count sink.old ≤ K.fault_count sink.new }
+{
+    match settle(face, waiting, sink) {
+        Ok(()) => end,
+        Err(stop) => Err(stop),
+    }
+}
+
+// Answers the frame with that number: the answer waits behind those before it. `out` is memory for it.
+fn answer_frame<J: Keeper>(
     alloc: Global,
     face: &mut Face<J>,
     frame: &Frame,
     at: u64,
     out: &mut Octets,
-    sink: &mut K,
+    waiting: &mut Octets,
 ) -> Result<(), Stop>
-    ensures answers { (o : Opening) (gs : List Given) (begun : Option Story) (faults : ℕ) → IsRunning J.standing o gs begun faults face.old → AnswersFrame J.standing o gs begun faults at (asks (stand_after o gs) frame.now) result face.new (K.written sink.old) (K.written sink.new) }
-    ensures stops { IfErr result (IsBodyStop at (K.fault_count sink.old) (K.fault_count sink.new)) }
-    ensures kept { K.fault_count sink.old ≤ K.fault_count sink.new }
+    ensures answers { (o : Opening) (gs : List Given) (begun : Option Story) (faults : ℕ) → IsRunning J.standing o gs begun faults face.old → AnswersFrame J.standing o gs begun faults at (asks (stand_after o gs) frame.now) result face.new waiting.old waiting.new }
+    ensures stops { IfErr result (IsAnswerStop at) }
+    ensures lasting { (J.standing face.new.site.keeper).lasting ≡ (J.standing face.old.site.keeper).lasting }
 {
     match respond(alloc, face, frame, at, out) {
-        Ok(()) => write_all(sink, out.as_slice()),
-        Err(stop) => Err(stop),
+        Ok(()) => {}
+        Err(stop) => return Err(stop),
+    }
+    match waiting.extend_from_slice(alloc, out.as_slice()) {
+        Ok(()) => Ok(()),
+        Err(NoMemory) => Err(Stop::NoMemory),
     }
 }
 
 // The same of the body of that frame, where it is let in.
-fn answer_body<J: Keeper, K: Sink>(
+fn answer_body<J: Keeper>(
     alloc: Global,
     face: &mut Face<J>,
     body: &[u8],
     at: u64,
     declares: &mut u16,
     out: &mut Octets,
-    sink: &mut K,
+    waiting: &mut Octets,
 ) -> Result<(), Stop>
     requires { declares.old ≤ 256 }
-    ensures answers { (o : Opening) (gs : List Given) (begun : Option Story) (faults : ℕ) → IsRunning J.standing o gs begun faults face.old → AnswersBody J.standing o gs begun faults at declares.old body.now result face.new declares.new (K.written sink.old) (K.written sink.new) }
-    ensures stops { IfErr result (IsBodyStop at (K.fault_count sink.old) (K.fault_count sink.new)) }
+    ensures answers { (o : Opening) (gs : List Given) (begun : Option Story) (faults : ℕ) → IsRunning J.standing o gs begun faults face.old → AnswersBody J.standing o gs begun faults at declares.old body.now result face.new declares.new waiting.old waiting.new }
+    ensures stops { IfErr result (IsBodyStop at) }
     ensures few { declares.new ≤ 256 }
-    ensures kept { K.fault_count sink.old ≤ K.fault_count sink.new }
+    ensures lasting { (J.standing face.new.site.keeper).lasting ≡ (J.standing face.old.site.keeper).lasting }
 {
     match admit(alloc, body, at, declares) {
-        Ok(frame) => answer_frame(alloc, face, &frame, at, out, sink),
+        Ok(frame) => answer_frame(alloc, face, &frame, at, out, waiting),
         Err(stop) => Err(stop),
     }
 }
 
-// Answers each frame of the source. The limit of frames comes before the loop is through.
-fn answer_frames<S: Source, K: Sink, J: Keeper>(
+// Answers each frame of the source. The records of all that is at hand are forced at once. The limit of frames comes before the
+// loop is through.
+fn answer_frames<S: Source, K: Sink, J: Settles>(
     alloc: Global,
     face: &mut Face<J>,
     source: &mut S,
     sink: &mut K,
 ) -> Result<(), Stop>
-    ensures answers { (o : Opening) (begun : Option Story) (faults : ℕ) → IsRunning J.standing o first_events begun faults face.old
+    ensures answers { (o : Opening) (begun : Option Story) (faults : ℕ) → IsRunning J.standing o first_events None faults face.old → RestsOn o first_events begun (J.standing face.old.site.keeper).lasting
         → EndsRunning J.standing o begun faults (S.left source.old) (S.left source.new) (K.written sink.old) (K.written sink.new) result face.new }
     ensures stops { IfErr result (IsEventsStop (S.fault_count source.old) (S.fault_count source.new) (K.fault_count sink.old) (K.fault_count sink.new)) }
     ensures read { S.fault_count source.old ≤ S.fault_count source.new }
@@ -88,21 +142,27 @@ fn answer_frames<S: Source, K: Sink, J: Keeper>(
     let mut intake = Intake::new(alloc);
     let mut declares = 0;
     let mut out = Octets::new(alloc);
+    let mut waiting = Octets::new(alloc);
     'frames: for _ in 0..u64::MAX {
-        let Some(body) = intake.next(alloc, source)? else {
-            return Ok(());
+        keep_up(face, &mut waiting, sink, intake.is_ready())?;
+        let body = match intake.next(alloc, source) {
+            Ok(Some(body)) => body,
+            Ok(None) => return finish(face, &mut waiting, sink, Ok(())),
+            Err(stop) => return finish(face, &mut waiting, sink, Err(stop)),
         };
-        answer_body(
+        if let Err(stop) = answer_body(
             alloc,
             face,
             body.as_slice(),
             intake.at(),
             &mut declares,
             &mut out,
-            sink,
-        )?;
+            &mut waiting,
+        ) {
+            return finish(face, &mut waiting, sink, Err(stop));
+        }
     }
-    Err(Stop::NoMemory)
+    finish(face, &mut waiting, sink, Err(Stop::NoMemory))
 }
 
 // A face of the site's node 1, or the disk back without memory.
@@ -135,7 +195,8 @@ fn open_face<D: Disk>(alloc: Global, disk: D, name: SiteName) -> Result<Face<Jou
 /// Starts a site of that name on the log of a disk with a face of its node 1, answers each frame of the source, and hands the disk
 /// back. The answer is the frames of the outputs of what the frame asks for, a refusal among them, or the frame that says that a call
 /// is not taken; and then the frame with where the program stands and the code of the last completion. The record of an event is
-/// forced before a byte of its answer is written.
+/// forced before a byte of its answer is written. The records of the frames that are at hand are forced at once: the source is read
+/// only once every answer before is written, so who waits for an answer has it.
 ///
 /// The frame that is no frame or says nothing ends it with `BadInput`, and `Limit` comes in the frame with which there would be more
 /// than 1,000,000 frames or 256 nodes declared by frames, or in which the record of the event has no room in the log. What came before
@@ -157,9 +218,13 @@ pub fn transact<S: Source, K: Sink, D: Disk>(
     ensures read { S.fault_count source.old ≤ S.fault_count source.new }
     ensures kept { K.fault_count sink.old ≤ K.fault_count sink.new }
 {
-    let mut face = match open_face(alloc, disk, name) {
+    let face = match open_face(alloc, disk, name) {
         Ok(face) => face,
         Err((disk, stop)) => return (disk, Err(stop)),
+    };
+    let mut face = match face.ahead(alloc) {
+        Ok(face) => face,
+        Err((face, NoMemory)) => return (face.site().keeper().disk(), Err(Stop::NoMemory)),
     };
     let served = answer_frames(alloc, &mut face, source, sink);
     (face.site().keeper().disk(), served)

@@ -1,98 +1,125 @@
-use Rattle.std.proofs.Common.{◌≡◌, ◌<◌, Option, None, Result, Ok, Err, sym, subst, arith, rules, ℕ}
+use Rattle.std.proofs.Common.{◌≡◌, ◌<◌, Option, None, Result, Ok, Err, List, sym, subst, arith, rules, ℕ, refl}
 use Rattle.std.specs.Prelude.{IfErr}
 use Rattle.tp_records.specs.declared.body.Event.{Event as Given}
 use Rattle.tp_streams.specs.declared.stop.Stop.{Stop}
 use Rattle.tp_streams.specs.Events.{HandsEvent, EndsEvents, LeavesEvents, answer_event}
 use Rattle.tp_streams.specs.Taken.{IsFor, bytes_left}
-use Rattle.tp_serve.specs.Progress.{ServesOne}
+use Rattle.tp_serve.specs.Progress.{ServesOne, HasAnswered, first_place}
 use Rattle.tp_serve.specs.Serving.{EndsServing, IsEventsStop}
-use Rattle.tp_serve.proofs.Endings.{one_more_event, not_served, all_served, none_served, through, read_stop, serve_stop}
+use Rattle.tp_serve.proofs.Endings.{kept_up, not_kept_up, one_more_event, not_served, all_served, none_served, through, read_stop, answer_stop, finish_stop}
 use Rattle.tp_serve.proofs.serving.serve_events.Goals as goal
 
-pub returns-in_err-event-clause-serves : goal.returns-in_err-event-clause-serves
-returns-in_err-event-clause-serves g c =
-    let fault : c.from_residual.result ≡ Err c.in_err-event.field-0.0 = search rules in
-    λ o begun faults serving.
-    let stop = c.in_err-event.field-0.0 in
-    let left = g.S.Source.left c.args.source.now in
-    let rest = g.S.Source.left c.events.source in
-    let unread = g.S.Source.left c.next.new.source in
-    let written = g.K.Sink.written c.args.sink.now in
-    let output = g.K.Sink.written c.events.sink in
-    let said = c.in_err-event.ensures {u = tt} in
-    subst (λ (r : Result (Unit {0}) Stop). EndsServing g.J.Keeper.standing o begun faults left unread written output r c.events.site) (sym fault)
-    (none_served g.J.Keeper.standing o begun faults left written c.events.intake rest output c.events.site (c.events.invariant.served o begun faults serving) c.events.invariant.unstopped unread stop _ _ c.next.new.self.place
-    said.event (said.stops c.events.invariant.unstopped) (λ n is. said.cut_off n c.events.invariant.unstopped is))
+-- ---- nothing is read before all is settled
 
-pub returns-in_default-clause-serves : goal.returns-in_default-clause-serves
-returns-in_default-clause-serves g c o begun faults serving =
-    let left = g.S.Source.left c.args.source.now in
-    let rest = g.S.Source.left c.events.source in
-    let unread = g.S.Source.left c.next.new.source in
-    let written = g.K.Sink.written c.args.sink.now in
-    let output = g.K.Sink.written c.events.sink in
-    let said = c.in_ok-event.ensures {u = tt} in
-    let event : IsFor (answer_event c.events.intake) (bytes_left c.events.intake.place rest) (Ok None) =
-    subst (λ (x : Option Given). IsFor (answer_event c.events.intake) (bytes_left c.events.intake.place rest) (Ok x)) c.in_default.is said.event in
-    let ends : EndsEvents c.events.intake rest c.next.new.self unread = subst (λ (x : Option Given). LeavesEvents c.events.intake rest (Ok x) c.next.new.self unread) c.in_default.is said.leaves in
-    all_served g.J.Keeper.standing o begun faults left written c.events.intake rest output c.events.site (c.events.invariant.served o begun faults serving) c.events.invariant.unstopped unread c.next.new.self ends event
-
-pub returns-in_err-serve_event-clause-serves : goal.returns-in_err-serve_event-clause-serves
-returns-in_err-serve_event-clause-serves g c =
-    let fault : c.from_residual-in_err-serve_event.result ≡ Err c.in_err-serve_event.field-0.0 = search rules in
-    λ o begun faults serving.
-    let stop = c.in_err-serve_event.field-0.0 in
-    let left = g.S.Source.left c.args.source.now in
-    let rest = g.S.Source.left c.events.source in
-    let unread = g.S.Source.left c.next.new.source in
-    let written = g.K.Sink.written c.args.sink.now in
-    let output = g.K.Sink.written c.events.sink in
-    let output_new = g.K.Sink.written c.serve_event.new.sink in
-    let hands : HandsEvent c.events.intake rest c.in-Some.event c.next.new.self unread =
-    subst (λ (x : Option Given). LeavesEvents c.events.intake rest (Ok x) c.next.new.self unread) c.in-Some.is (c.in_ok-event.ensures {u = tt}).leaves in
-    let served = c.events.invariant.served o begun faults serving in
-    let one : ServesOne g.J.Keeper.standing o served.events begun faults c.next.new.self.place.at c.in-Some.event (Err stop) c.serve_event.new.site output output_new =
-    subst (λ (n : ℕ). ServesOne g.J.Keeper.standing o served.events begun faults n c.in-Some.event (Err stop) c.serve_event.new.site output output_new) c.at.ensures ((c.in_err-serve_event.ensures {u = tt}).serves o served.events begun faults served.serving) in
-    subst (λ (r : Result (Unit {0}) Stop). EndsServing g.J.Keeper.standing o begun faults left unread written output_new r c.serve_event.new.site) (sym fault)
-    (not_served g.J.Keeper.standing o begun faults left written c.events.intake rest output c.events.site served c.in-Some.event c.next.new.self unread hands stop output_new c.serve_event.new.site one)
-
-pub returns-in_err-event-clause-stops : goal.returns-in_err-event-clause-stops
-returns-in_err-event-clause-stops g c =
-    let stop = c.in_err-event.field-0.0 in
+pub returns-in_err-keep_up-clause-serves : goal.returns-in_err-keep_up-clause-serves
+returns-in_err-keep_up-clause-serves g c =
+    let stop = c.in_err-keep_up.field-0.0 in
     let fault : c.from_residual.result ≡ Err stop = search rules in
-    subst (λ (r : Result (Unit {0}) Stop). IfErr r (IsEventsStop (g.S.Source.fault_count c.args.source.now) (g.S.Source.fault_count c.next.new.source) (g.K.Sink.fault_count c.args.sink.now) (g.K.Sink.fault_count c.events.sink))) (sym fault)
-    (read_stop c.events.intake.place.at (g.S.Source.fault_count c.args.source.now) (g.S.Source.fault_count c.events.source) (g.S.Source.fault_count c.next.new.source) _ _ stop c.events.invariant.read ((c.in_err-event.ensures {u = tt}).stops c.events.invariant.unstopped))
+    λ o begun faults serving rests.
+    let rest = g.S.Source.left c.events.source in
+    let now = g.K.Sink.written c.keep_up.new.sink in
+    subst (λ (r : Result (Unit {0}) Stop). EndsServing g.J.Keeper.standing o begun faults (g.S.Source.left c.args.source.now) rest (g.K.Sink.written c.args.sink.now) now r c.keep_up.new.site) (sym fault)
+    (not_kept_up g.J.Keeper.standing o begun faults (g.S.Source.left c.args.source.now) (g.K.Sink.written c.args.sink.now) c.events.intake rest (g.K.Sink.written c.events.sink) c.events.waiting c.events.site
+    (c.events.invariant.answered o begun faults serving rests) (Err stop) stop c.keep_up.new.waiting now c.keep_up.new.site _ _ rest refl (c.in_err-keep_up.ensures {u = tt}).keeps)
 
-pub returns-in_err-serve_event-clause-stops : goal.returns-in_err-serve_event-clause-stops
-returns-in_err-serve_event-clause-stops g c =
-    let stop = c.in_err-serve_event.field-0.0 in
-    let fault : c.from_residual-in_err-serve_event.result ≡ Err stop = search rules in
-    let hands : HandsEvent c.events.intake (g.S.Source.left c.events.source) c.in-Some.event c.next.new.self (g.S.Source.left c.next.new.source) =
-    subst (λ (x : Option Given). LeavesEvents c.events.intake (g.S.Source.left c.events.source) (Ok x) c.next.new.self (g.S.Source.left c.next.new.source)) c.in-Some.is (c.in_ok-event.ensures {u = tt}).leaves in
+-- ---- no event comes
+
+pub returns-in-Ok-None-clause-serves : goal.returns-in-Ok-None-clause-serves
+returns-in-Ok-None-clause-serves g c o begun faults serving rests =
+    let standing = g.J.Keeper.standing in
+    let left = g.S.Source.left c.args.source.now in
+    let rest = g.S.Source.left c.events.source in
+    let unread = g.S.Source.left c.next.new.source in
+    let written = g.K.Sink.written c.args.sink.now in
+    let output = g.K.Sink.written c.keep_up.new.sink in
+    let answered = kept_up standing o begun faults left written c.events.intake rest (g.K.Sink.written c.events.sink) c.events.waiting c.events.site (c.events.invariant.answered o begun faults serving rests) (Ok tt) c.keep_up.new.waiting output c.keep_up.new.site _ _ refl (c.in_ok-keep_up.ensures {u = tt}).keeps in
+    let said = c.in-Ok-None.ensures {u = tt} in
+    let event : IsFor (answer_event c.events.intake) (bytes_left c.events.intake.place rest) (Ok None) =
+    subst (λ (x : Option Given). IsFor (answer_event c.events.intake) (bytes_left c.events.intake.place rest) (Ok x)) c.in-Ok-None.field-0-is said.event in
+    let ends : EndsEvents c.events.intake rest c.next.new.self unread = subst (λ (x : Option Given). LeavesEvents c.events.intake rest (Ok x) c.next.new.self unread) c.in-Ok-None.field-0-is said.leaves in
+    all_served standing o begun faults left written c.events.intake rest output c.keep_up.new.waiting c.keep_up.new.site answered c.events.invariant.unstopped unread (g.K.Sink.written c.finish.new.sink) c.finish.new.site c.finish.result _ _ c.next.new.self ends event
+    c.finish.ensures.finishes
+
+pub returns-in-Err-clause-serves : goal.returns-in-Err-clause-serves
+returns-in-Err-clause-serves g c o begun faults serving rests =
+    let standing = g.J.Keeper.standing in
+    let left = g.S.Source.left c.args.source.now in
+    let rest = g.S.Source.left c.events.source in
+    let unread = g.S.Source.left c.next.new.source in
+    let written = g.K.Sink.written c.args.sink.now in
+    let output = g.K.Sink.written c.keep_up.new.sink in
+    let answered = kept_up standing o begun faults left written c.events.intake rest (g.K.Sink.written c.events.sink) c.events.waiting c.events.site (c.events.invariant.answered o begun faults serving rests) (Ok tt) c.keep_up.new.waiting output c.keep_up.new.site _ _ refl (c.in_ok-keep_up.ensures {u = tt}).keeps in
+    let said = c.in-Err.ensures {u = tt} in
+    none_served standing o begun faults left written c.events.intake rest output c.keep_up.new.waiting c.keep_up.new.site answered c.events.invariant.unstopped unread (g.K.Sink.written c.finish-in-Err.new.sink) c.finish-in-Err.new.site c.finish-in-Err.result _ _ c.in-Err.stop _ _ c.next.new.self.place
+    said.event (said.stops c.events.invariant.unstopped) (λ n is. said.cut_off n c.events.invariant.unstopped is) c.finish-in-Err.ensures.finishes
+
+pub returns-in-Err-clause-stops : goal.returns-in-Err-clause-stops
+returns-in-Err-clause-stops g c =
+    let fin = c.finish-in-Err.ensures.finishes in
+    subst (λ (r : Result (Unit {0}) Stop). IfErr r (IsEventsStop (g.S.Source.fault_count c.args.source.now) (g.S.Source.fault_count c.next.new.source) (g.K.Sink.fault_count c.args.sink.now) (g.K.Sink.fault_count c.finish-in-Err.new.sink))) (sym fin.is)
+    (finish_stop _ _ (g.K.Sink.fault_count c.args.sink.now) (g.K.Sink.fault_count c.keep_up.new.sink) _ fin.settled (Err c.in-Err.stop) (omega (arith, c.events.invariant.kept, (c.in_ok-keep_up.ensures {u = tt}).kept)) fin.settles.stops
+    (read_stop c.events.intake.place.at (g.S.Source.fault_count c.args.source.now) (g.S.Source.fault_count c.events.source) (g.S.Source.fault_count c.next.new.source) _ _ c.in-Err.stop c.events.invariant.read ((c.in-Err.ensures {u = tt}).stops c.events.invariant.unstopped)))
+
+-- ---- an event that is not served
+
+pub returns-in-Err-serve_event-clause-serves : goal.returns-in-Err-serve_event-clause-serves
+returns-in-Err-serve_event-clause-serves g c o begun faults serving rests =
+    let standing = g.J.Keeper.standing in
+    let left = g.S.Source.left c.args.source.now in
+    let rest = g.S.Source.left c.events.source in
+    let unread = g.S.Source.left c.next.new.source in
+    let written = g.K.Sink.written c.args.sink.now in
+    let output = g.K.Sink.written c.keep_up.new.sink in
+    let waiting = c.keep_up.new.waiting in
+    let site = c.keep_up.new.site in
+    let stop = c.in-Err-serve_event.stop in
+    let answered = kept_up standing o begun faults left written c.events.intake rest (g.K.Sink.written c.events.sink) c.events.waiting c.events.site (c.events.invariant.answered o begun faults serving rests) (Ok tt) waiting output site _ _ refl (c.in_ok-keep_up.ensures {u = tt}).keeps in
+    let hands : HandsEvent c.events.intake rest c.in-Ok-Some.event c.next.new.self unread =
+    subst (λ (x : Option Given). LeavesEvents c.events.intake rest (Ok x) c.next.new.self unread) c.in-Ok-Some.field-0-is (c.in-Ok-Some.ensures {u = tt}).leaves in
+    let said = c.in-Err-serve_event.ensures {u = tt} in
+    let one : ServesOne standing o answered.all None faults c.next.new.self.place.at c.in-Ok-Some.event (Err stop) c.serve_event.new.site waiting c.serve_event.new.waiting =
+    subst (λ (n : ℕ). ServesOne standing o answered.all None faults n c.in-Ok-Some.event (Err stop) c.serve_event.new.site waiting c.serve_event.new.waiting) c.at.ensures (said.serves o answered.all None faults answered.serving) in
+    not_served standing o begun faults left written c.events.intake rest output waiting site answered c.in-Ok-Some.event c.next.new.self unread hands c.serve_event.new.waiting c.serve_event.new.site said.lasting (g.K.Sink.written c.finish-in-Err-serve_event.new.sink) c.finish-in-Err-serve_event.new.site c.finish-in-Err-serve_event.result _ _ stop one
+    c.finish-in-Err-serve_event.ensures.finishes
+
+pub returns-in-Err-serve_event-clause-stops : goal.returns-in-Err-serve_event-clause-stops
+returns-in-Err-serve_event-clause-stops g c =
+    let fin = c.finish-in-Err-serve_event.ensures.finishes in
+    let hands : HandsEvent c.events.intake (g.S.Source.left c.events.source) c.in-Ok-Some.event c.next.new.self (g.S.Source.left c.next.new.source) =
+    subst (λ (x : Option Given). LeavesEvents c.events.intake (g.S.Source.left c.events.source) (Ok x) c.next.new.self (g.S.Source.left c.next.new.source)) c.in-Ok-Some.field-0-is (c.in-Ok-Some.ensures {u = tt}).leaves in
     let far : 0 < c.at.result = omega (arith, c.at.ensures, hands.at) in
-    subst (λ (r : Result (Unit {0}) Stop). IfErr r (IsEventsStop (g.S.Source.fault_count c.args.source.now) (g.S.Source.fault_count c.next.new.source) (g.K.Sink.fault_count c.args.sink.now) (g.K.Sink.fault_count c.serve_event.new.sink))) (sym fault)
-    (serve_stop c.at.result _ _ (g.K.Sink.fault_count c.args.sink.now) (g.K.Sink.fault_count c.events.sink) (g.K.Sink.fault_count c.serve_event.new.sink) stop far c.events.invariant.kept (c.in_err-serve_event.ensures {u = tt}).stops)
+    subst (λ (r : Result (Unit {0}) Stop). IfErr r (IsEventsStop (g.S.Source.fault_count c.args.source.now) (g.S.Source.fault_count c.next.new.source) (g.K.Sink.fault_count c.args.sink.now) (g.K.Sink.fault_count c.finish-in-Err-serve_event.new.sink))) (sym fin.is)
+    (finish_stop _ _ (g.K.Sink.fault_count c.args.sink.now) (g.K.Sink.fault_count c.keep_up.new.sink) _ fin.settled (Err c.in-Err-serve_event.stop) (omega (arith, c.events.invariant.kept, (c.in_ok-keep_up.ensures {u = tt}).kept)) fin.settles.stops
+    (answer_stop c.at.result _ _ _ _ c.in-Err-serve_event.stop far (c.in-Err-serve_event.ensures {u = tt}).stops))
+
+-- ---- one event more
 
 pub events-preserved : goal.events-preserved
 events-preserved g c =
+    let standing = g.J.Keeper.standing in
     let rest = g.S.Source.left c.events.source in
     let unread = g.S.Source.left c.next.new.source in
-    let output = g.K.Sink.written c.events.sink in
-    let output_new = g.K.Sink.written c.serve_event.new.sink in
-    let hands : HandsEvent c.events.intake rest c.in-Some.event c.next.new.self unread =
-    subst (λ (x : Option Given). LeavesEvents c.events.intake rest (Ok x) c.next.new.self unread) c.in-Some.is (c.in_ok-event.ensures {u = tt}).leaves in
+    let output = g.K.Sink.written c.keep_up.new.sink in
+    let waiting = c.keep_up.new.waiting in
+    let hands : HandsEvent c.events.intake rest c.in-Ok-Some.event c.next.new.self unread =
+    subst (λ (x : Option Given). LeavesEvents c.events.intake rest (Ok x) c.next.new.self unread) c.in-Ok-Some.field-0-is (c.in-Ok-Some.ensures {u = tt}).leaves in
     record {
-      served = λ o begun faults serving.
-          let served = c.events.invariant.served o begun faults serving in
-          let one : ServesOne g.J.Keeper.standing o served.events begun faults c.next.new.self.place.at c.in-Some.event (Ok tt) c.serve_event.new.site output output_new =
-          subst (λ (n : ℕ). ServesOne g.J.Keeper.standing o served.events begun faults n c.in-Some.event (Ok tt) c.serve_event.new.site output output_new) c.at.ensures ((c.in_ok-serve_event.ensures {u = tt}).serves o served.events begun faults served.serving) in
-          one_more_event g.J.Keeper.standing o begun faults (g.S.Source.left c.args.source.now) (g.K.Sink.written c.args.sink.now) c.events.intake rest output c.events.site served c.in-Some.event c.next.new.self unread output_new c.serve_event.new.site hands one;
+      answered = λ o begun faults serving rests.
+          let left = g.S.Source.left c.args.source.now in
+          let written = g.K.Sink.written c.args.sink.now in
+          let answered = kept_up standing o begun faults left written c.events.intake rest (g.K.Sink.written c.events.sink) c.events.waiting c.events.site (c.events.invariant.answered o begun faults serving rests) (Ok tt) waiting output c.keep_up.new.site _ _ refl (c.in_ok-keep_up.ensures {u = tt}).keeps in
+          let said = c.serve_event.ensures in
+          let one : ServesOne standing o answered.all None faults c.next.new.self.place.at c.in-Ok-Some.event (Ok tt) c.serve_event.new.site waiting c.serve_event.new.waiting =
+          subst (λ (r : Result (Unit {0}) Stop). ServesOne standing o answered.all None faults c.next.new.self.place.at c.in-Ok-Some.event r c.serve_event.new.site waiting c.serve_event.new.waiting) c.in_default.is
+          (subst (λ (n : ℕ). ServesOne standing o answered.all None faults n c.in-Ok-Some.event c.serve_event.result c.serve_event.new.site waiting c.serve_event.new.waiting) c.at.ensures (said.serves o answered.all None faults answered.serving)) in
+          one_more_event standing o begun faults left written c.events.intake rest output waiting c.keep_up.new.site answered c.in-Ok-Some.event c.next.new.self unread hands c.serve_event.new.waiting c.serve_event.new.site said.lasting one;
       unstopped = hands.stop;
-      read = omega (arith, c.events.invariant.read, (c.in_ok-event.ensures {u = tt}).kept);
-      kept = omega (arith, c.events.invariant.kept, (c.in_ok-serve_event.ensures {u = tt}).kept);
+      read = omega (arith, c.events.invariant.read, (c.in-Ok-Some.ensures {u = tt}).kept);
+      kept = omega (arith, c.events.invariant.kept, (c.in_ok-keep_up.ensures {u = tt}).kept);
     }
 
 pub returns-clause-serves : goal.returns-clause-serves
-returns-clause-serves g c o begun faults serving =
-    through g.J.Keeper.standing o begun faults (g.S.Source.left c.args.source.now) (g.K.Sink.written c.args.sink.now) c.events.intake (g.S.Source.left c.events.source) (g.K.Sink.written c.events.sink) c.events.site
-    (c.events.invariant.served o begun faults serving) c.events.invariant.unstopped (g.S.Source.left c.events.source)
+returns-clause-serves g c o begun faults serving rests =
+    let rest = g.S.Source.left c.events.source in
+    through g.J.Keeper.standing o begun faults (g.S.Source.left c.args.source.now) (g.K.Sink.written c.args.sink.now) c.events.intake rest (g.K.Sink.written c.events.sink) c.events.waiting c.events.site
+    (c.events.invariant.answered o begun faults serving rests) c.events.invariant.unstopped rest (g.K.Sink.written c.finish-2.new.sink) c.finish-2.new.site c.finish-2.result _ _ c.finish-2.ensures.finishes
