@@ -36,13 +36,12 @@ KINDS = ["open", "statx", "pread", "pwrite", "ftruncate", "fsync", "read", "writ
 SETTLE = ["pwrite", "fsync", "pwrite", "fsync"]
 
 
-def is_front(found, whole):
-    """The boots are the same, and of each node the records are the first of those in `whole`."""
+def is_front(found, whole, workers):
+    """The boots are the same, and of each worker the records are the first of those that it has in `whole`."""
     if found is None or whole is None:
         return False
-    of = lambda records, key: [it for it in records if (it[0] if it[0] == "boot" else it[1]) == key]
-    keys = {it[1] for it in found if it[0] != "boot"}
-    return of(found, "boot") == of(whole, "boot") and all(of(whole, key)[: len(of(found, key))] == of(found, key) for key in keys)
+    of = lambda records, key: [it for it in records if (it[0] if it[0] == "boot" else int(it[1]) % workers) == key]
+    return of(found, "boot") == of(whole, "boot") and all(of(whole, key)[: len(of(found, key))] == of(found, key) for key in range(workers))
 
 
 class Failing(stops.Stops):
@@ -127,11 +126,12 @@ class Failing(stops.Stops):
             after = after[1:]
         # A site or workers that find no memory have noted records, and these are forced at the end.
         is_batch = kind == "malloc" and case.words[0] in ("node", "tx", "drive")
+        workers = int(case.words[case.words.index("--workers") + 1]) if "--workers" in case.words else 1
         if is_batch and after == SETTLE:
             after = []
         if after:
             self.fault(case, where + "then %s" % after[:3])
-        if found not in lists and not (found is None and case.makes) and not (is_batch and any(is_front(found, it) for it in lists)):
+        if found not in lists and not (found is None and case.makes) and not (is_batch and any(is_front(found, it, workers) for it in lists)):
             self.fault(case, where + "the disk opens to %s" % (found,))
 
     def judge_store(self, case, kind, k, where, run, whole):

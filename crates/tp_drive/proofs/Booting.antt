@@ -11,8 +11,8 @@ use Rattle.tp_model.specs.NodeRun.{Opening, boot_of}
 use Rattle.tp_journal.specs.declared.receipts.Receipt.{Receipt}
 use Rattle.tp_journal.specs.Journals.{Kept}
 use Rattle.tp_journal.specs.Keeping.{Forces, Standing}
-use Rattle.tp_journal.specs.Records.{placed, version_of}
-use Rattle.tp_site.specs.Site.{Site, IsStarted}
+use Rattle.tp_journal.specs.Records.{HasText, placed, version_of}
+use Rattle.tp_site.specs.Site.{Site, IsStarted, opening_of}
 use Rattle.tp_drive.specs.declared.driven.DriveFault.{DriveFault}
 use Rattle.tp_drive.specs.Begun.{IsBegun, recs, booted}
 use Rattle.tp_drive.specs.Drives.{Fails, HasBootText, IsShut, LeavesBooted, Stops, opening_on}
@@ -74,11 +74,11 @@ rose_before o lanes events first before faults now j le is = record { shut = is.
 pub stops_fails : {D : Type 0} (standing : Kept D → Standing) (old : Kept D) (name : List ℕ) (lanes : ℕ) (events : List Given) (o : Opening) (before : ℕ) (new : Kept D) (f : DriveFault) → o ≡ opening_on old name → (standing old).faults ≤ before
     → Stops o lanes events before new (standing new).faults f → Fails standing old name lanes events new f
 stops_fails standing old name lanes events o before new (DriveFault.Start fault) is le s = absurd s
-stops_fails standing old name lanes events o before new (DriveFault.LogDiffers place receipt kept) is le s = s
+stops_fails standing old name lanes events o before new (DriveFault.LogDiffers place receipt kept) is le s = subst (λ p. Stops p lanes events before new (standing new).faults (DriveFault.LogDiffers place receipt kept)) is s
 stops_fails standing old name lanes events o before new (DriveFault.DiskFault faults) is le s =
     subst (λ p. IsShut p lanes events (standing old).faults faults (standing new).faults new) is (rose_before o lanes events (standing old).faults before faults (standing new).faults new le s)
 stops_fails standing old name lanes events o before new (DriveFault.Full size event) is le s = subst (λ p. Stops p lanes events before new (standing new).faults (DriveFault.Full size event)) is s
-stops_fails standing old name lanes events o before new DriveFault.NoMemory is le s = tt
+stops_fails standing old name lanes events o before new DriveFault.NoMemory is le s = subst (λ p. Stops p lanes events before new (standing new).faults DriveFault.NoMemory) is s
 
 -- the boot was not refused
 pub stops_text : {D : Type 0} (standing : Kept D → Standing) (old : Kept D) (name : List ℕ) (lanes : ℕ) (events : List Given) (o : Opening) (before : ℕ) (new : Kept D) (f : DriveFault) → Stops o lanes events before new (standing new).faults f → HasBootText standing old name new f
@@ -91,13 +91,14 @@ stops_text standing old name lanes events o before new DriveFault.NoMemory s = t
 -- ---- what a crash leaves
 
 module _ {D : Type 0} (standing : Kept D → Standing) (old : Kept D) (name : List ℕ) (s : Site (Kept D)) (is : IsStarted standing old name s) (b : HasBooted old name s.nodes.boot s.keeper) where
-  pub leaves_booted : (stood : List Receipt) (told : Option Story) (new : Kept D) → stood ≡ placed s.keeper.wide s.keeper.list → new.wide ≡ s.keeper.wide → Leaves (standing s.keeper).story (length stood) new.wide new.list new.shut told → LeavesBooted standing old name told new
-  leaves_booted stood told new same wide leaves =
+  pub leaves_booted : (stood : List Receipt) (told : Option Story) (new : Kept D) → stood ≡ placed s.keeper.wide s.keeper.list → new.wide ≡ s.keeper.wide → HasText (standing old).wide (LogRec.Boot (boot_of (opening_of (standing old) name))) → Leaves (standing s.keeper).story (length stood) new.wide new.list new.shut told → LeavesBooted standing old name told new
+  leaves_booted stood told new same wide text leaves =
       let many : length stood ≡ length old.list + 1 = ap length same ∙ length-placed s.keeper.wide s.keeper.list ∙ ap length b.list ∙ length-append old.list (LogRec.Boot s.nodes.boot ∷ []) in
       record {
         order = b.order;
         wide = wide ∙ b.wide;
         receipt = is.forced.0;
+        text = subst (λ (n : ℕ). HasText (standing old).wide (LogRec.Boot n)) (sym is.boot ∙ b.number) text;
         started = standing s.keeper;
         forced = subst (λ (n : ℕ). Forces (standing old) (LogRec.Boot n) (Ok is.forced.0) (standing s.keeper)) b.number is.forced.1;
         leaves = subst (λ (n : ℕ). Leaves (standing s.keeper).story n new.wide new.list new.shut told) many leaves;

@@ -1,22 +1,27 @@
 -- What a drive answers, from how its lanes ended and how its log was closed.
-use Rattle.std.proofs.Common.{◌≡◌, ℕ, ◌<◌, Bool, Option, Some, None, List, [], ◌++◌, take, drop, map, get_or, length, ap, sym, ◌∙◌, subst, arith}
-use Rattle.std.specs.List.{All}
-use Rattle.std.proofs.lemmas.List.{take_all, map-append, get_or-map, length-map}
+use Rattle.std.proofs.Common.{◌≡◌, inl, inr, ℕ, zero, suc, ◌<◌, ◌-◌, Bool, Option, Some, None, List, [], ◌∷◌, ◌++◌, take, drop, map, get_or, length, refl, ap, sym, ◌∙◌, subst, arith}
+use Rattle.std.specs.List.{All, sum_by}
+use Rattle.std.proofs.lemmas.List.{append-nil, length-drop, take_all, map-append, get_or-map, length-map}
 use Rattle.tp_records.specs.declared.body.Event.{Event as Given}
 use Rattle.tp_records.specs.declared.body.Output.{Output}
 use Rattle.tp_logrec.specs.declared.record.LogRec.{LogRec}
 use Rattle.tp_model.specs.NodeRun.{Opening, node_run, run_from}
-use Rattle.tp_model.specs.Lanes.{lane, lane_log, outputs_in, IsInterleaving}
+use Rattle.tp_model.specs.Lanes.{AreEmpty, lane, lane_log, outputs_in, IsInterleaving}
 use Rattle.tp_runs.proofs.LaneRecords.{own_history_law}
 use Rattle.tp_journal.specs.declared.receipts.Receipt.{Receipt}
 use Rattle.tp_journal.specs.Journals.{Kept}
-use Rattle.tp_journal.specs.Records.{placed}
+use Rattle.tp_journal.specs.Log.{most_bytes, place_behind}
+use Rattle.tp_journal.specs.Records.{bodies_of, placed}
 use Rattle.tp_shared_log.specs.declared.unfit.Unfit.{Unfit}
 use Rattle.tp_shared_log.specs.Locks.{Extends, HadNoRoom, ShutRose}
+use Rattle.tp_shared_log.proofs.Placed.{length-placed, placed_same}
 use Rattle.tp_drive.specs.declared.driven.DriveFault.{DriveFault}
+use Rattle.tp_drive.specs.declared.merge.MergeFault.{MergeFault}
+use Rattle.tp_drive.specs.declared.stop.Cause.{Cause}
 use Rattle.tp_drive.specs.declared.stop.Stop.{Stop}
 use Rattle.tp_drive.specs.Begun.{recs, booted}
-use Rattle.tp_drive.specs.Drives.{IsCause, IsDriven, IsPartDriven, Stops}
+use Rattle.tp_drive.specs.Drives.{IsCause, IsDriven, IsMismatch, IsPartDriven, RunsShort, Stops}
+use Rattle.tp_drive.specs.Merging.{Differs, IsOther}
 use Rattle.tp_drive.specs.Runs.{AreRun, IsForcedBy}
 use Rattle.tp_drive.specs.Works.{EndsAt}
 use Rattle.tp_drive.proofs.Begins.{recs-placed}
@@ -59,9 +64,10 @@ module _ (o : Opening) (lanes : ℕ) (events : List Given) (outs : List (List (L
         r.answers ∙ ap (λ (gs : List Given). (run_from o [] (lane gs i lanes)).outputs) all ∙ sym (own_history_law o events i lanes).outputs
 
     pub driven : (wide : Bool) (list : List LogRec) (receipts : List Receipt) (all : List (List Output)) → all ≡ (node_run o events).outputs → list ≡ booted o ++ recs receipts
-        → placed wide list ≡ placed wide (booted o) ++ receipts → IsInterleaving receipts queues → IsDriven o lanes events all receipts wide list
-    driven wide list receipts all one_thread is places woven = record {
+        → placed wide list ≡ placed wide (booted o) ++ receipts → IsInterleaving receipts queues → (0 < length receipts → place_behind (bodies_of wide list) < most_bytes) → IsDriven o lanes events all receipts wide list
+    driven wide list receipts all one_thread is places woven fits = record {
       one_thread = one_thread;
+      fits = fits;
       records = is;
       places = places;
       woven = record {
@@ -83,6 +89,86 @@ kept_places stood wide o list many n receipts is extends here same =
 pub kept_records_are : (wide : Bool) (o : Opening) (list : List LogRec) (receipts : List Receipt) → placed wide list ≡ placed wide (booted o) ++ receipts → list ≡ booted o ++ recs receipts
 kept_records_are wide o list receipts places =
     sym (recs-placed wide list) ∙ ap recs places ∙ map-append (λ (r : Receipt). r.rec) (placed wide (booted o)) receipts ∙ ap (λ (l : List LogRec). l ++ recs receipts) (recs-placed wide (booted o))
+
+-- as many receipts are read back as were given
+pub kept_many : (stood list receipts : List Receipt) (many n : ℕ) → Extends stood many list → n ≡ length stood → receipts ≡ drop n list → length receipts ≡ many
+kept_many stood list receipts many n extends here same = omega (arith, ap length same, length-drop n list, extends.counted, here)
+
+-- ---- receipts that differ
+
+module _ (o : Opening) (lanes : ℕ) (events : List Given) (outs : List (List (List Output))) (queues : List (List Receipt)) (stops : List (Option Stop)) (run : AreRun o lanes events outs queues stops) (wide : Bool) (list : List LogRec) (stood : List Receipt) (n : ℕ) (begun : stood ≡ placed wide (booted o)) (extends : Extends stood (sum_by (λ q. length q) queues) (placed wide list)) (here : n ≡ length stood) where
+  pub mismatch : (place : ℕ) (receipt kept : Receipt) → place ≡ kept.place → IsOther (placed wide list) n queues receipt kept → IsMismatch o lanes events wide list place receipt kept
+  mismatch place receipt kept there other = record {
+    stops = stops;
+    queues = queues;
+    counted = (run.queues_counted, run.stops_counted);
+    each = λ i q s h. (run.each i [] q s h).forced;
+    extends = subst (λ (l : List Receipt). Extends l (sum_by (λ q. length q) queues) (placed wide list)) begun extends;
+    other = subst (λ (k : ℕ). IsOther (placed wide list) k queues receipt kept) (here ∙ ap length begun ∙ length-placed wide (booted o)) other;
+    there = there;
+  }
+
+  -- memory ran out when they were compared
+  pub merged_short : Differs (placed wide list) n queues MergeFault.NoMemory → RunsShort o lanes events wide list
+  merged_short (inl woven) =
+      let receipts = drop n (placed wide list) in
+      let places = kept_places stood wide o list (sum_by (λ q. length q) queues) n receipts begun extends here refl in
+      inl (stops, part_driven o lanes events outs queues stops run wide list receipts (kept_records_are wide o list receipts places) woven)
+  merged_short (inr (receipt, kept, other)) = inr (kept.place, receipt, kept, mismatch kept.place receipt kept refl other)
+
+-- ---- no worker ran
+
+abbrev so_many : {A : Type 0} → ℕ → A → List A
+so_many zero x = []
+so_many (suc n) x = x ∷ so_many n x
+
+many_counted : {A : Type 0} (n : ℕ) (x : A) → length (so_many n x) ≡ n
+many_counted zero x = refl
+many_counted (suc n) x = ap suc (many_counted n x)
+
+many_at : {A : Type 0} (n : ℕ) (x : A) (i : ℕ) (d : A) → i < n → get_or (so_many n x) i d ≡ x
+many_at zero x i d h = absurd (omega arith)
+many_at (suc n) x zero d h = refl
+many_at (suc n) x (suc i) d h = many_at n x i d (omega arith)
+
+many_empty : (A : Type 0) (n : ℕ) → AreEmpty {A = A} (so_many n [])
+many_empty A zero = tt
+many_empty A (suc n) = many_empty A n
+
+-- the log has its boot and no more
+pub none_ran : (o : Opening) (lanes : ℕ) (events : List Given) (wide : Bool) (list : List LogRec) → list ≡ booted o → RunsShort o lanes events wide list
+none_ran o lanes events wide list is = inl (
+  so_many lanes stop,
+  record {
+    more = [];
+    records = is ∙ sym (append-nil (booted o));
+    logs = so_many lanes [];
+    counted = (many_counted lanes [], many_counted lanes stop);
+    each = λ i l s h. record {
+      met = 0;
+      within = omega arith;
+      ends = subst (λ (t : Option Stop). EndsAt (length events) t 0) (sym (many_at lanes stop i s h)) refl;
+      records = many_at lanes [] i l h ∙ nothing events i;
+    };
+    woven = many_empty LogRec lanes;
+  },
+)
+  where
+    stop : Option Stop
+    stop = Some (record { event = 1; cause = Cause.Memory })
+
+    nothing : (gs : List Given) (i : ℕ) → [] ≡ lane_log o (take 0 gs) i lanes
+    nothing [] i = refl
+    nothing (g ∷ gs) i = refl
+
+pub opened_short : (o : Opening) (lanes : ℕ) (events : List Given) (stood : List Receipt) (before wide : Bool) (list : List LogRec) → stood ≡ placed before (booted o) → stood ≡ placed wide list → RunsShort o lanes events wide list
+opened_short o lanes events stood before wide list begun is = none_ran o lanes events wide list (placed_same wide before list (booted o) (sym is ∙ begun))
+
+-- and so where what stands is all that the log has
+pub stood_short : (o : Opening) (lanes : ℕ) (events : List Given) (stood : List Receipt) (before wide : Bool) (list : List LogRec) → stood ≡ placed before (booted o) → Extends stood 0 (placed wide list) → RunsShort o lanes events wide list
+stood_short o lanes events stood before wide list begun extends =
+    let same : placed wide list ≡ stood = sym (take_all (length stood) (placed wide list) (omega (arith, extends.counted))) ∙ extends.begins in
+    none_ran o lanes events wide list (placed_same wide before list (booted o) (same ∙ begun))
 
 -- ---- why lanes stopped
 
@@ -108,4 +194,4 @@ module _ {D : Type 0} (o : Opening) (lanes : ℕ) (events : List Given) (stops :
     part = part;
   }
   cause_stops unfit (DriveFault.Full size event) rose room c = full_stops unfit size event room c
-  cause_stops unfit DriveFault.NoMemory rose room c = tt
+  cause_stops unfit DriveFault.NoMemory rose room c = inl (stops, part)

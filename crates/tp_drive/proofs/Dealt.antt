@@ -19,13 +19,13 @@ abbrev dealt : ℕ → ℕ → ℕ → List LogRec → List (List LogRec)
 dealt zero i w rs = []
 dealt (suc k) i w rs = records_in i w rs ∷ dealt k (suc i) w rs
 
-rec_none : (i w : ℕ) (r : LogRec) (rs : List LogRec) → owner_of r ≡ None → records_in i w (r ∷ rs) ≡ records_in i w rs
+pub rec_none : (i w : ℕ) (r : LogRec) (rs : List LogRec) → owner_of r ≡ None → records_in i w (r ∷ rs) ≡ records_in i w rs
 rec_none i w r rs is = rw (is, records_in) refl
 
-rec_mine : (i w : ℕ) (r : LogRec) (rs : List LogRec) (o : Owner) → owner_of r ≡ Some o → (o.node % w == i) ≡ true → records_in i w (r ∷ rs) ≡ r ∷ records_in i w rs
+pub rec_mine : (i w : ℕ) (r : LogRec) (rs : List LogRec) (o : Owner) → owner_of r ≡ Some o → (o.node % w == i) ≡ true → records_in i w (r ∷ rs) ≡ r ∷ records_in i w rs
 rec_mine i w r rs o is mine = rw (is, mine, records_in) refl
 
-rec_other : (i w : ℕ) (r : LogRec) (rs : List LogRec) (o : Owner) → owner_of r ≡ Some o → (o.node % w == i) ≡ false → records_in i w (r ∷ rs) ≡ records_in i w rs
+pub rec_other : (i w : ℕ) (r : LogRec) (rs : List LogRec) (o : Owner) → owner_of r ≡ Some o → (o.node % w == i) ≡ false → records_in i w (r ∷ rs) ≡ records_in i w rs
 rec_other i w r rs o is other = rw (is, other, records_in) refl
 
 -- ---- one record more

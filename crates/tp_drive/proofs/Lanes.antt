@@ -9,7 +9,7 @@ use Rattle.tp_model.specs.Lanes.{lane, outputs_in}
 use Rattle.tp_runs.proofs.Lanes.{lane_mine, lane_other}
 use Rattle.tp_site.specs.Resume.{is_in_lane}
 
-lane-append : (i w : ℕ) (gs hs : List Given) → lane (gs ++ hs) i w ≡ lane gs i w ++ lane hs i w
+pub lane-append : (i w : ℕ) (gs hs : List Given) → lane (gs ++ hs) i w ≡ lane gs i w ++ lane hs i w
 lane-append i w [] hs = refl
 lane-append i w (g ∷ gs) hs = go (node_of g % w == i) refl (lane-append i w gs hs)
   where

@@ -1,3 +1,4 @@
+pub mod Alike
 pub mod Begins
 pub mod Booting
 pub mod Causes

@@ -15,9 +15,9 @@ use Rattle.tp_site.specs.Resume.{is_in_lane}
 use Rattle.tp_drive.specs.declared.stop.Cause.{Cause}
 use Rattle.tp_drive.specs.declared.stop.Stop.{Stop}
 use Rattle.tp_drive.specs.Begun.{recs, booted}
-use Rattle.tp_drive.specs.Works.{Did, IsBacked, IsBackedBy, Worked, Working, HasOnePart}
+use Rattle.tp_drive.specs.Works.{Did, IsBacked, IsBackedBy, IsFresh, Worked, Working, HasOnePart}
 use Rattle.tp_drive.specs.Endings.{IsLeastStop, IsLog, StoppedAt}
-use Rattle.tp_drive.specs.Crews.{outs_of, receipts_of, stop_of, stake_left}
+use Rattle.tp_drive.specs.Crews.{AreFresh, outs_of, receipts_of, stop_of, forced_by, stake_left}
 use Rattle.tp_drive.specs.Runs.{AreRun, IsRun}
 
 -- the receipts of a lane are the records of its events
@@ -66,6 +66,18 @@ are_run stood wide o lanes events ws begun counted worked = record {
 pub all_one_part : (stood : List Receipt) (wide : Bool) (o : Opening) (lanes : ℕ) (events : List Given) (ws : List Working) → length ws ≡ lanes
     → ((i : ℕ) (d : Working) → i < lanes → Worked stood wide o lanes i events (get_or ws i d)) → All HasOnePart ws
 all_one_part stood wide o lanes events ws counted worked i d h = (worked i d (omega (arith, h, counted))).one_part
+
+-- ---- lanes that have done nothing
+
+none_forced : (ws : List Working) → ((i : ℕ) (d : Working) → i < length ws → forced_by (get_or ws i d) ≡ 0) → sum_by forced_by ws ≡ 0
+none_forced [] none = refl
+none_forced (w ∷ ws) none = omega (arith, none 0 w (omega arith), none_forced ws (λ i d h. none (suc i) d (omega (arith, h))), sum_by-cons forced_by w ws)
+
+pub fresh_idle : (stood : List Receipt) (wide : Bool) (o : Opening) (lanes : ℕ) (ws : List Working) → recs stood ≡ booted o → AreFresh stood wide o lanes ws → sum_by forced_by ws ≡ 0
+fresh_idle stood wide o lanes ws begun fresh = none_forced ws (λ i d h. one (get_or ws i d) i (fresh i d h))
+  where
+    one : (w : Working) (i : ℕ) → IsFresh stood wide o lanes i w → forced_by w ≡ 0
+    one w i f = sym (length-map w.site.keeper.receipts (λ (r : Receipt). r.rec)) ∙ ap length (did_records stood wide o (is_in_lane i lanes) w [] begun f.did)
 
 -- ---- stakes
 

@@ -1,5 +1,6 @@
 -- What a drive answers: of a site of some name on a log that it was given, with events that are dealt to lanes.
-use Rattle.std.specs.Prelude.{ℕ, ◌≡◌, ◌≤◌, ◌<◌, ◌+◌, ◌++◌, Bool, true, List, length, Option, Some, None, Ok, Err, IfSome, is_some, slice_index_or}
+use Rattle.std.specs.Prelude.{ℕ, ◌≡◌, ◌≤◌, ◌<◌, ◌+◌, ◌⊎◌, ◌++◌, Bool, true, List, length, Option, Some, None, Ok, Err, IfSome, is_some, slice_index_or}
+use Rattle.std.specs.List.{sum_by}
 use Rattle.tp_outside.specs.Faults.{HasRisen}
 use Rattle.tp_outside.specs.Story.{Story}
 use Rattle.tp_records.specs.declared.body.Event.{Event as Given}
@@ -11,9 +12,10 @@ use Rattle.tp_model.specs.Lanes.{IsInterleaving}
 use Rattle.tp_journal.specs.declared.receipts.Receipt.{Receipt}
 use Rattle.tp_journal.specs.Journals.{Kept}
 use Rattle.tp_journal.specs.Keeping.{Forces, Standing}
-use Rattle.tp_journal.specs.Log.{most_bytes}
-use Rattle.tp_journal.specs.Records.{placed, version_of}
+use Rattle.tp_journal.specs.Log.{most_bytes, place_behind}
+use Rattle.tp_journal.specs.Records.{HasText, bodies_of, placed, version_of}
 use Rattle.tp_shared_log.specs.Images.{Leaves}
+use Rattle.tp_shared_log.specs.Locks.{Extends}
 use Rattle.tp_shared_log.specs.declared.unfit.Unfit.{Unfit}
 use Rattle.tp_site.specs.Shaped.{HasTextIfStarted}
 use Rattle.tp_site.specs.Site.{Site, Starts, opening_of}
@@ -30,12 +32,13 @@ abbrev pub opening_on : {D : Type 0} → Kept D → List ℕ → Opening
 opening_on j name = record { site = name; version = version_of j.wide; records = j.list }
 
 -- The outputs are those of one thread, event by event. After the boot the log has one record for each receipt, in order and at its
--- place, and these records are an interleaving of the records of each lane's own events.
+-- place, and these records are an interleaving of the records of each lane's own events. With them the log is within its limit.
 pub record IsDriven (o : Opening) (lanes : ℕ) (events : List Given) (outs : List (List Output)) (receipts : List Receipt) (wide : Bool) (list : List LogRec) : Type 0 where
   pub one_thread : outs ≡ (node_run o events).outputs
   pub records : list ≡ booted o ++ recs receipts
   pub places : placed wide list ≡ placed wide (booted o) ++ receipts
   pub woven : IsWoven o lanes events (recs receipts)
+  pub fits : 0 < length receipts → place_behind (bodies_of wide list) < most_bytes
 
 -- After the boot the log has an interleaving of prefixes of the lanes' records: of each lane those of its events before the one at
 -- which it stopped, or all of them.
@@ -64,13 +67,31 @@ pub record IsFull {D : Type 0} (o : Opening) (lanes : ℕ) (events : List Given)
   pub first : IsLeastStop stops event
   pub part : IsPartDriven o lanes events stops j.list
 
+-- A receipt that a worker was given does not tell the record that the log has at its turn, which has this place. The workers were given
+-- receipts of the records that their own events force, of all events or of those before the one at which the worker stopped, and
+-- after the boot the log has as many records.
+pub record IsMismatch (o : Opening) (lanes : ℕ) (events : List Given) (wide : Bool) (list : List LogRec) (place : ℕ) (receipt kept : Receipt) : Type 0 where
+  pub stops : List (Option Stop)
+  pub queues : List (List Receipt)
+  pub counted : (length queues ≡ lanes) × (length stops ≡ lanes)
+  pub each : (i : ℕ) (q : List Receipt) (s : Option Stop) → i < lanes → IsForcedBy o lanes i events (slice_index_or stops i s) (recs (slice_index_or queues i q))
+  pub extends : Extends (placed wide (booted o)) (sum_by (λ q. length q) queues) (placed wide list)
+  pub other : IsOther (placed wide list) (length (booted o)) queues receipt kept
+  pub there : place ≡ kept.place
+
+-- Memory ran out, and after the boot the log has what the lanes forced; or a receipt differs, and could not be shown.
+abbrev pub RunsShort : Opening → ℕ → List Given → Bool → List LogRec → Type 0
+RunsShort o lanes events wide list =
+    ((stops : List (Option Stop)) × IsPartDriven o lanes events stops list)
+    ⊎ ((place : ℕ) × (receipt : Receipt) × (kept : Receipt) × IsMismatch o lanes events wide list place receipt kept)
+
 -- why the workers did not do all events, once the site has started
 abbrev pub Stops : {D : Type 0} → Opening → ℕ → List Given → ℕ → Kept D → ℕ → DriveFault → Type 0
 Stops o lanes events before j now (DriveFault.Start fault) = ⊥
-Stops o lanes events before j now (DriveFault.LogDiffers place receipt kept) = IsOther (placed j.wide j.list) receipt kept × (place ≡ kept.place)
+Stops o lanes events before j now (DriveFault.LogDiffers place receipt kept) = IsMismatch o lanes events j.wide j.list place receipt kept
 Stops o lanes events before j now (DriveFault.DiskFault faults) = IsShut o lanes events before faults now j
 Stops o lanes events before j now (DriveFault.Full size event) = IsFull o lanes events size event j
-Stops o lanes events before j now DriveFault.NoMemory = Unit {0}
+Stops o lanes events before j now DriveFault.NoMemory = RunsShort o lanes events j.wide j.list
 
 -- why a drive failed: the site did not start, or lanes stopped
 abbrev pub Fails : {D : Type 0} → (Kept D → Standing) → Kept D → List ℕ → ℕ → List Given → Kept D → DriveFault → Type 0
@@ -93,13 +114,14 @@ HasStarted (DriveFault.DiskFault faults) = Unit {0}
 HasStarted (DriveFault.Full size event) = Unit {0}
 HasStarted DriveFault.NoMemory = Unit {0}
 
--- The records that the site started on follow one another, and the boot was forced. From then on a crash left the first of the records that the log has now, with the boot at least, and now it
+-- The records that the site started on follow one another, and the boot, which has a text, was forced. From then on a crash left the first of the records that the log has now, with the boot at least, and now it
 -- leaves all of them; of a log that is shut the first of them.
 pub record LeavesBooted {D : Type 0} (standing : Kept D → Standing) (old : Kept D) (name : List ℕ) (told : Option Story) (new : Kept D) : Type 0 where
   pub order : all_follow old.list ≡ true
   pub wide : new.wide ≡ old.wide
   pub receipt : Receipt
   pub started : Standing
+  pub text : HasText (standing old).wide (LogRec.Boot (boot_of (opening_on old name)))
   pub forced : Forces (standing old) (LogRec.Boot (boot_of (opening_on old name))) (Ok receipt) started
   pub leaves : Leaves started.story (length old.list + 1) new.wide new.list new.shut told
 

@@ -1,6 +1,7 @@
 -- One step of a merge, and its fault.
-use Rattle.std.specs.Prelude.{ℕ, ◌≡◌, ◌≢◌, List, ◌∷◌, ◌++◌, Some, slice_get}
+use Rattle.std.specs.Prelude.{ℕ, ◌≡◌, ◌≢◌, ◌+◌, ◌⊎◌, List, ◌∷◌, ◌++◌, Some, take, drop, slice_get}
 use Rattle.tp_journal.specs.declared.receipts.Receipt.{Receipt}
+use Rattle.tp_model.specs.Lanes.{IsInterleaving}
 use Rattle.tp_drive.specs.declared.merge.MergeFault.{MergeFault}
 
 -- the item was the first of some list, and the others stay
@@ -11,12 +12,16 @@ pub record Takes {A : Type 0} (old : List (List A)) (x : A) (new : List (List A)
   pub was : old ≡ before ++ (x ∷ own) ∷ behind
   pub is : new ≡ before ++ own ∷ behind
 
--- the receipt is not the record that was read back at its turn
-pub record IsOther (told : List Receipt) (receipt kept : Receipt) : Type 0 where
-  pub place : ℕ
-  pub stands : slice_get told place ≡ Some kept
+-- One of the receipts in these lists is not the record that was read back at its turn. In an order that keeps that of each list,
+-- the receipts begin with the records after those that stood, up to this turn, and then comes this one.
+pub record IsOther (told : List Receipt) (stood : ℕ) (queues : List (List Receipt)) (receipt kept : Receipt) : Type 0 where
+  pub turn : ℕ
+  pub rest : List Receipt
+  pub woven : IsInterleaving (take turn (drop stood told) ++ receipt ∷ rest) queues
+  pub stands : slice_get told (stood + turn) ≡ Some kept
   pub other : receipt ≢ kept
 
-abbrev pub Differs : List Receipt → MergeFault → Type 0
-Differs told (MergeFault.Differs receipt kept) = IsOther told receipt kept
-Differs told MergeFault.NoMemory = Unit {0}
+-- Where memory runs out, the receipts are the records after those that stood; or one is not, and could not be copied.
+abbrev pub Differs : List Receipt → ℕ → List (List Receipt) → MergeFault → Type 0
+Differs told stood queues (MergeFault.Differs receipt kept) = IsOther told stood queues receipt kept
+Differs told stood queues MergeFault.NoMemory = IsInterleaving (drop stood told) queues ⊎ ((receipt : Receipt) × (kept : Receipt) × IsOther told stood queues receipt kept)

@@ -1,6 +1,7 @@
 //! After the joins: the receipts are compared, the fault is found, and the outputs are put in order.
-ghost use Rattle.std.specs.Prelude.{◌≡◌, ◌≤◌, ◌||◌, ℕ, true, List, [], None, is_some, IfOk, IfErr, IfNone, IfSome, length, map};
+ghost use Rattle.std.specs.Prelude.{◌≡◌, ◌≤◌, ◌<◌, ◌||◌, ℕ, true, List, [], None, is_some, IfOk, IfErr, IfNone, IfSome, length, map};
 ghost use Rattle.std.specs.List.{All, sum_by};
+ghost use Rattle.tp_journal.specs.Log.{most_bytes};
 ghost use Rattle.tp_journal.specs.Records.{placed};
 ghost use Rattle.tp_shared_log.specs.Locks.{Extends, ShutRose, HadNoRoom};
 ghost use Rattle.tp_drive.specs.Begun.{booted};
@@ -40,6 +41,7 @@ pub fn finish<D: Disk, L: Begun>(
     requires cause { (event : ℕ) → IsLeastStop left.stops.items event → (is_some journal.shut || is_some unfit) ≡ true }
     requires shut { ShutRose L.faults journal.shut (D.fault_count journal.disk) }
     requires unfit { HadNoRoom journal.gate unfit }
+    requires room { 0 < sum_by (λ q. length q) left.queues.items → journal.gate < most_bytes }
     ensures done { IfOk result (λ d. IsDriven L.opening count events.now d.outs d.receipts d.journal.wide d.journal.list) }
     ensures open { IfOk result (λ d. d.journal.shut ≡ None) }
     ensures stops { IfErr result (λ e. Stops L.opening count events.now L.faults e.0 (D.fault_count e.0.disk) e.1) }

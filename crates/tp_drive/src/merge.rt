@@ -1,5 +1,5 @@
 //! The receipts of all lanes, merged by place and compared with the records read back.
-ghost use Rattle.std.specs.Prelude.{◌≡◌, ◌≢◌, ◌<◌, ◌+◌, [], true, false, drop, IfErr, IfNone, IfOk, IfSome, length, slice_index_or};
+ghost use Rattle.std.specs.Prelude.{◌≡◌, ◌≢◌, ◌<◌, ◌+◌, ◌++◌, ◌∷◌, [], true, false, drop, IfErr, IfNone, IfOk, IfSome, length, slice_index_or};
 ghost use Rattle.std.specs.List.{All, sum_by};
 ghost use Rattle.tp_model.specs.Lanes.{IsInterleaving};
 ghost use Rattle.tp_drive.specs.Merging.{Differs, Takes};
@@ -84,8 +84,8 @@ fn kept_at<K: Keeper>(alloc: Global, keeper: &K, at: usize) -> Result<Receipt, N
     })
 }
 
-/// Takes the receipts by place, each where it stands among the records that the keeper tells after so many. The queues are thrown
-/// away, whatever the answer.
+/// Takes the receipts by place, each where it stands among the records that the keeper tells after so many. All are compared,
+/// also where memory runs out before the last. The queues are thrown away, whatever the answer.
 pub fn merge<K: Keeper>(
     alloc: Global,
     keeper: &K,
@@ -95,16 +95,27 @@ pub fn merge<K: Keeper>(
     requires { stood + sum_by (λ q. length q) queues.old ≡ length (K.standing keeper.now).told }
     ensures same { IfOk result (λ r. r ≡ drop stood (K.standing keeper.now).told) }
     ensures woven { IfOk result (λ r. IsInterleaving r queues.old) }
-    ensures differs { IfErr result (Differs (K.standing keeper.now).told) }
+    ensures differs { IfErr result (Differs (K.standing keeper.now).told stood queues.old) }
 {
     let mut receipts = Receipts::new(alloc);
+    let mut short = false;
     for at in stood..keeper.count() {
         let receipt = take_first(queues);
         if !is_kept(keeper, at, &receipt) {
             let kept = kept_at(alloc, keeper, at)?;
             return Err(MergeFault::Differs { receipt, kept });
         }
-        receipts.push(alloc, receipt)?;
+        short = put(alloc, &mut receipts, receipt, short);
+    }
+    if short {
+        return Err(MergeFault::NoMemory);
     }
     Ok(receipts)
+}
+
+// Puts one receipt more behind the others, as long as there is memory. Tells whether memory has run out.
+fn put(alloc: Global, receipts: &mut Receipts, receipt: Receipt, short: bool) -> bool
+    ensures { result ≡ false → (short ≡ false) × (receipts.new ≡ receipts.old ++ receipt ∷ []) }
+{
+    short || receipts.push(alloc, receipt).is_err()
 }

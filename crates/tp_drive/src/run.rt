@@ -1,8 +1,8 @@
 //! One run of the workers over a locked log, from the two whole shares to the two whole shares.
-ghost use Rattle.std.specs.Prelude.{◌≡◌, ◌≤◌, ◌<◌, ◌+◌, ℕ, [], OnOk, length, map, vec_len, vec_capacity};
+ghost use Rattle.std.specs.Prelude.{◌≡◌, ◌≤◌, ◌<◌, ◌+◌, ℕ, [], OnErr, OnOk, length, map, vec_len, vec_capacity};
 ghost use Rattle.std.specs.List.{All, sum_by};
 ghost use Rattle.tp_drive.specs.Begun.{IsBegun, recs, booted};
-ghost use Rattle.tp_drive.specs.Crews.{AreFresh, outs_of, receipts_of, stop_of, stake_left};
+ghost use Rattle.tp_drive.specs.Crews.{AreFresh, outs_of, receipts_of, stop_of, forced_by, stake_left};
 ghost use Rattle.tp_drive.specs.Works.{HasOnePart};
 ghost use Rattle.tp_drive.specs.Endings.{IsLeastStop};
 ghost use Rattle.tp_drive.specs.Runs.{AreRun};
@@ -73,6 +73,7 @@ fn open_and_run<
     ensures one_part { All HasOnePart lanes.new.items }
     ensures few { vec_len lanes.new ≤ count }
     ensures all { OnOk result (vec_len lanes.new ≡ count) }
+    ensures idle { OnErr result (sum_by forced_by lanes.new.items ≡ 0) }
     ensures run { OnOk result (AreRun L.opening count events.now (map outs_of lanes.new.items) (map receipts_of lanes.new.items) (map stop_of lanes.new.items)) }
     ensures stopped { OnOk result ((event : ℕ) → IsLeastStop (map stop_of lanes.new.items) event → sum_by stake_left lanes.new.items < count) }
 {
@@ -109,6 +110,7 @@ pub fn run_workers<
     requires room { (count ≤ vec_capacity left.old.outs) × (count ≤ vec_capacity left.old.queues) × (count ≤ vec_capacity left.old.stops) }
     ensures parts { (part.new.parts ≡ count) × (stake.new.parts ≡ count) }
     ensures receipts { OnOk result (part.new.amount ≡ sum_by (λ q. length q) left.new.queues.items) }
+    ensures idle { OnErr result (part.new.amount ≡ 0) }
     ensures run { OnOk result (AreRun L.opening count events.now (map (λ o. o.items) left.new.outs.items) left.new.queues.items left.new.stops.items) }
     ensures stopped { OnOk result ((event : ℕ) → IsLeastStop left.new.stops.items event → stake.new.amount < count) }
 {

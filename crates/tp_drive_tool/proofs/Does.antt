@@ -24,7 +24,7 @@ input_stops d r same old new (Stop.Foreign at) disk input cause = absurd cause
 input_stops d r same old new (Stop.ReadFault faults) disk input cause = disk
 input_stops d r same old new (Stop.WriteFault faults) disk input cause = absurd cause
 input_stops d r same old new (Stop.DiskFault faults) disk input cause = absurd cause
-input_stops d r same old new Stop.NoMemory disk input cause = tt
+input_stops d r same old new Stop.NoMemory disk input cause = inl disk
 
 pub input_ending : (old new write wrote disk left : ℕ) (stop : Stop) → IsReadCause old new stop → IsEnding old new write wrote disk left (status_of stop)
 input_ending old new write wrote disk left (Stop.BadInput at why) cause = cause
@@ -81,7 +81,7 @@ module _ (d : Drive) (r : Ran) (same : Type 0) (events : List Given) (read : (by
     all_done (Status.ReadFault faults) wrote = absurd wrote
     all_done (Status.WriteFault faults) wrote = all_of_it (Status.WriteFault faults) wrote
     all_done (Status.DiskFault faults) wrote = absurd wrote
-    all_done Status.NoMemory wrote = tt
+    all_done Status.NoMemory wrote = inr (inr (all_of_it Status.NoMemory wrote))
     all_done (Status.LogDiffers place receipt kept) wrote = absurd wrote
 
   part_of_it : (status : Status) → ((story : Story) → r.told ≡ Some story → IsFile (seen story) → NotDriven d.name d.workers events story r.story status) → DoesPart d r status
@@ -96,7 +96,7 @@ module _ (d : Drive) (r : Ran) (same : Type 0) (events : List Given) (read : (by
   part_done old new (Status.ReadFault faults) cause stopped = absurd cause
   part_done old new (Status.WriteFault faults) cause stopped = absurd cause
   part_done old new (Status.DiskFault faults) cause stopped = part_of_it (Status.DiskFault faults) stopped
-  part_done old new Status.NoMemory cause stopped = tt
+  part_done old new Status.NoMemory cause stopped = inr (inl (part_of_it Status.NoMemory stopped))
   part_done old new (Status.LogDiffers place receipt kept) cause stopped = part_of_it (Status.LogDiffers place receipt kept) stopped
 
 -- what was written has its end from the sink alone

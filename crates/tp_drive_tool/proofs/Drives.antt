@@ -1,17 +1,20 @@
 -- What a drive over the log of a disk says of that disk.
-use Rattle.std.proofs.Common.{◌≡◌, inl, inr, ◌+◌, ℕ, Bool, true, Option, Some, None, Err, List, [], ◌∷◌, ◌++◌, length, refl, sym, ap, subst, ◌∙◌, arith}
+use Rattle.std.proofs.Common.{◌≡◌, inl, inr, ◌≤◌, ◌<◌, ◌+◌, ℕ, suc, Bool, true, Option, Some, None, Err, List, [], ◌∷◌, ◌++◌, length, refl, sym, ap, subst, ◌∙◌, arith}
+use Rattle.std.proofs.lemmas.List.{append-nil}
 use Rattle.tp_outside.specs.Story.{Story, Synced, seen}
 use Rattle.tp_outside.specs.FuseDisk.{Fused}
 use Rattle.tp_records.specs.declared.body.Event.{Event as Given}
 use Rattle.tp_records.specs.declared.body.Output.{Output}
 use Rattle.tp_logrec.specs.declared.record.LogRec.{LogRec}
 use Rattle.tp_logrec.specs.Order.{all_follow}
+use Rattle.tp_model.specs.Links.{greatest}
 use Rattle.tp_model.specs.NodeRun.{Opening, boot_of}
+use Rattle.tp_model.specs.NodeTranscript.{size_of}
 use Rattle.tp_journal.specs.declared.faults.StartFault.{StartFault as JournalFault}
 use Rattle.tp_journal.specs.declared.receipts.Receipt.{Receipt}
 use Rattle.tp_journal.specs.Journals.{Kept}
 use Rattle.tp_journal.specs.Keeping.{Standing}
-use Rattle.tp_journal.specs.Log.{StandsFor, StandsForEither, place_behind}
+use Rattle.tp_journal.specs.Log.{StandsFor, StandsForEither, most_bytes, place_behind}
 use Rattle.tp_journal.specs.Records.{bodies_of, first_place, placed, record_body, version_of}
 use Rattle.tp_journal.specs.Start.{RefusesStart}
 use Rattle.tp_journal.specs.Told.{LeavesOnly, LeavesNow}
@@ -22,16 +25,18 @@ use Rattle.tp_log_tools.proofs.Shortened.{records_placed}
 use Rattle.tp_site.specs.declared.faults.StartFault.{StartFault}
 use Rattle.tp_site.specs.Site.{Starts}
 use Rattle.tp_drive.specs.declared.driven.DriveFault.{DriveFault}
+use Rattle.tp_drive.specs.declared.stop.Stop.{Stop}
 use Rattle.tp_drive.specs.Begun.{booted, recs}
-use Rattle.tp_drive.specs.Drives.{Fails, HasBootText, HasStarted, IsDriven, LeavesBooted, opening_on}
-use Rattle.tp_drive.specs.Merging.{IsOther}
+use Rattle.tp_drive.specs.Drives.{Fails, HasBootText, HasStarted, IsDriven, IsMismatch, IsPartDriven, LeavesBooted, RunsShort, opening_on}
 use Rattle.tp_drive.proofs.Begins.{recs-placed}
 use Rattle.tp_serve.specs.Progress.{is_wide, journal_of}
 use Rattle.tp_serve.specs.Starting.{NotStarted, unread_by, unstarted_by}
 use Rattle.tp_serve.proofs.Holding.{goes_on, wide_so}
-use Rattle.tp_serve.proofs.Starts.{HasOpened, not_started}
+use Rattle.tp_serve.proofs.Runs.{size_one}
+use Rattle.tp_serve.proofs.Starts.{HasOpened, boot_small, not_started}
 use Rattle.tp_drive_tool.specs.Status.{driven_status, start_status, unread_status}
-use Rattle.tp_drive_tool.specs.Driving.{BeginsOn, HasDriven, IsDriveCause, IsMoment, LeavesLog, NotDriven}
+use Rattle.tp_drive_tool.specs.Driving.{BeginsOn, DrivesShort, HasDriven, HasOther, HasPart, IsDriveCause, IsMoment, LeavesLog, NotDriven}
+use Rattle.tp_drive_tool.proofs.AsNode.{as_node, behind_size}
 
 -- ---- the log that is left
 
@@ -69,7 +74,7 @@ left_log o list (Some faults) s mid told first leaves =
 pub unread_so : (name : List ℕ) (workers : ℕ) (events : List Given) (s : Story) (new : Option Story) (fault : JournalFault) → NotStarted name s new (unread_by fault) → NotDriven name workers events s new (unread_status fault)
 unread_so name workers events s new (JournalFault.Foreign at) x = x
 unread_so name workers events s new (JournalFault.DiskFault n) x = inl x
-unread_so name workers events s new JournalFault.NoMemory x = tt
+unread_so name workers events s new JournalFault.NoMemory x = inl x
 
 pub unread_cause : (old new : Option Story) (before after : ℕ) (fault : JournalFault) → RefusesStart record_body old new before after fault → IsDriveCause before after (unread_status fault)
 unread_cause old new before after (JournalFault.Foreign at) x = tt
@@ -84,7 +89,7 @@ unstarted_so name workers events s new StartFault.BootsSpent x = inl x
 unstarted_so name workers events s new (StartFault.Full size) x = inl x
 unstarted_so name workers events s new (StartFault.DiskFault n) x = inl x
 unstarted_so name workers events s new (StartFault.Shut n) x = inl x
-unstarted_so name workers events s new StartFault.NoMemory x = tt
+unstarted_so name workers events s new StartFault.NoMemory x = inl x
 
 module _ {D : Type 0} (faults : D → ℕ) (told : D → Option Story) (fuse : D → Option Fused) (disk : D) (j : Kept D) (has : HasOpened faults told disk j) (name : List ℕ) (workers : ℕ) (events : List Given) where
   abbrev st : Kept D → Standing
@@ -135,32 +140,67 @@ module _ {D : Type 0} (faults : D → ℕ) (told : D → Option Story) (fuse : D
         left_log o new.list new.shut s b.started.story (told new.disk) (begun new b)
         (subst (λ (w : Bool). Leaves b.started.story (length o.records + 1) w new.list new.shut (told new.disk)) (b.wide ∙ wide_is) b.leaves)
 
-    pub driven : (new : Kept D) (outs : List (List Output)) (receipts : List Receipt) → LeavesBooted st j name (told new.disk) new → new.shut ≡ None → IsDriven o workers events outs receipts new.wide new.list
+    -- the log with its boot is within its limit, and so is the log with all
+    fits : (new : Kept D) (outs : List (List Output)) (receipts : List Receipt) → LeavesBooted st j name (told new.disk) new → IsDriven o workers events outs receipts new.wide new.list → size_of o.version (booted o ++ recs receipts) ≤ 268435456
+    fits new outs receipts b d = go receipts refl
+      where
+        now : size_of o.version new.list ≡ size_of o.version (booted o ++ recs receipts)
+        now = ap (size_of o.version) d.records
+
+        wide : place_behind (bodies_of new.wide new.list) + 1 ≡ size_of o.version new.list
+        wide = ap (λ (w : Bool). place_behind (bodies_of w new.list) + 1) b.wide ∙ behind_size j.wide new.list
+
+        first : size_of o.version (booted o) ≤ 268435456
+        first = omega (arith, b.forced.room, has.starts.3, behind_size j.wide j.list, size_one o.version j.list (LogRec.Boot (boot_of o)))
+
+        go : (rs : List Receipt) → receipts ≡ rs → size_of o.version (booted o ++ recs receipts) ≤ 268435456
+        go [] none =
+            let same : size_of o.version (booted o ++ recs receipts) ≡ size_of o.version (booted o) = ap (λ (l : List Receipt). size_of o.version (booted o ++ recs l)) none ∙ ap (size_of o.version) (append-nil (booted o)) in
+            omega (arith, first, same)
+        go (r ∷ rs) some =
+            let under : place_behind (bodies_of new.wide new.list) < most_bytes = d.fits (omega (arith, ap length some)) in
+            omega (arith, under, wide, now)
+
+    -- the boot's number is within its range
+    boot_left : (new : Kept D) → LeavesBooted st j name (told new.disk) new → boot_of o ≡ suc greatest → ⊥
+    boot_left new b = boot_small j.wide (boot_of o) b.text
+
+    pub driven : (new : Kept D) (outs : List (List Output)) (receipts : List Receipt) → 0 < workers → LeavesBooted st j name (told new.disk) new → new.shut ≡ None → IsDriven o workers events outs receipts new.wide new.list
         → HasDriven name workers events s (told new.disk) outs
-    driven new outs receipts b unshut d = record {
+    driven new outs receipts some b unshut d = record {
       o = o;
       begins = begins b.order;
       one_thread = d.one_thread;
       more = recs receipts;
       woven = d.woven;
       leaves = subst (λ (l : List LogRec). LeavesLog o l None s (told new.disk)) d.records (subst (λ (shut : Option ℕ). LeavesLog o new.list shut s (told new.disk)) unshut (leaves new b));
+      as_node = as_node o workers events outs (recs receipts) some (boot_left new b) d.one_thread d.woven (fits new outs receipts b d);
     }
+
+    -- lanes stopped
+    parted : (new : Kept D) (stops : List (Option Stop)) → LeavesBooted st j name (told new.disk) new → IsPartDriven o workers events stops new.list → HasPart name workers events s (told new.disk) new.shut stops new.list
+    parted new stops b part = record { o = o; begins = begins b.order; part = part; leaves = leaves new b }
+
+    -- a receipt differs
+    other : (new : Kept D) (place : ℕ) (receipt kept : Receipt) → LeavesBooted st j name (told new.disk) new → IsMismatch o workers events new.wide new.list place receipt kept → HasOther name workers events s (told new.disk) place receipt kept
+    other new place receipt kept b x = record {
+      o = o;
+      begins = begins b.order;
+      shut = new.shut;
+      list = new.list;
+      leaves = leaves new b;
+      mismatch = subst (λ (w : Bool). IsMismatch o workers events w new.list place receipt kept) (b.wide ∙ wide_is) x;
+    }
+
+    short : (new : Kept D) → LeavesBooted st j name (told new.disk) new → RunsShort o workers events new.wide new.list → DrivesShort name workers events s (told new.disk)
+    short new b (inl (stops, part)) = inr (inl (new.shut, stops, new.list, parted new stops b part))
+    short new b (inr (place, receipt, kept, x)) = inr (inr (place, receipt, kept, other new place receipt kept b x))
 
     pub not_driven : (fault : DriveFault) (new : Kept D) → Fails st j name workers events new fault → HasBootText st j name new fault → (HasStarted fault → LeavesBooted st j name (told new.disk) new)
         → new.gate ≡ place_behind (bodies_of new.wide new.list) → NotDriven name workers events s (told new.disk) (driven_status fault)
     not_driven (DriveFault.Start fault) new x text started gate =
         unstarted_so name workers events s (told new.disk) fault (not_started faults told fuse disk j has name s is file fault new x text)
-    not_driven (DriveFault.LogDiffers place receipt kept) new x text started gate =
-        let b = started tt in
-        record {
-          o = o;
-          begins = begins b.order;
-          shut = new.shut;
-          list = new.list;
-          leaves = leaves new b;
-          other = subst (λ (w : Bool). IsOther (placed w new.list) receipt kept) (b.wide ∙ wide_is) x.0;
-          there = x.1;
-        }
+    not_driven (DriveFault.LogDiffers place receipt kept) new x text started gate = other new place receipt kept (started tt) x
     not_driven (DriveFault.DiskFault n) new x text started gate =
         let b = started tt in
         inr (record {
@@ -191,4 +231,4 @@ module _ {D : Type 0} (faults : D → ℕ) (told : D → Option Story) (fuse : D
             no_room = omega (arith, x.too_long, x.no_room, place);
           },
         )
-    not_driven DriveFault.NoMemory new x text started gate = tt
+    not_driven DriveFault.NoMemory new x text started gate = short new (started tt) x

@@ -1,4 +1,6 @@
+pub mod AsNode
 pub mod Readings
 pub mod Texts
 pub mod Drives
 pub mod Does
+pub mod Complete

@@ -1,5 +1,6 @@
 -- What workers do of the events of a site on the log of a disk: the outputs and the log that is left; or why not all was done.
--- What one thread puts out is said by tp_model, and how lanes part events between them by tp_drive.
+-- What one thread puts out is said by tp_model, and how lanes part events between them by tp_drive. What `node` writes of the same
+-- input, and the log that it leaves, is `node_transcript`.
 use Rattle.std.specs.Prelude.{ℕ, ◌≡◌, ◌<◌, ◌+◌, ◌⊎◌, Option, Some, None, List, [], ◌∷◌, ◌++◌, length}
 use Rattle.tp_outside.specs.Faults.{HasRisen}
 use Rattle.tp_outside.specs.Story.{Story, Synced, seen}
@@ -10,22 +11,24 @@ use Rattle.tp_logrec.specs.declared.record.LogVersion.{LogVersion}
 use Rattle.tp_logrec.specs.LogText.{Placed}
 use Rattle.tp_model.specs.declared.verdict.What.{What}
 use Rattle.tp_model.specs.LogCommands.{Has, Is_foreign, opened, start_leaves}
-use Rattle.tp_model.specs.NodeRun.{Opening, node_run}
+use Rattle.tp_model.specs.NodeRun.{Opening, node_run, records_at}
+use Rattle.tp_model.specs.NodeTranscript.{node_transcript, written_of}
+use Rattle.tp_model.specs.Transcript.{Done}
 use Rattle.tp_journal.specs.declared.receipts.Receipt.{Receipt}
 use Rattle.tp_journal.specs.Log.{StandsFor, StandsForEither, most_bytes, place_behind}
-use Rattle.tp_journal.specs.Records.{bodies_of, placed}
+use Rattle.tp_journal.specs.Records.{bodies_of}
 use Rattle.tp_journal.specs.Told.{LeavesOnly, LeavesNow}
 use Rattle.tp_shared_log.specs.Images.{StandsForFirst}
 use Rattle.tp_log_tools.specs.Opening.{ReadsAs}
 use Rattle.tp_drive.specs.declared.stop.Stop.{Stop as LaneStop}
 use Rattle.tp_drive.specs.Begun.{booted}
-use Rattle.tp_drive.specs.Drives.{IsPartDriven}
+use Rattle.tp_drive.specs.Drives.{IsMismatch, IsPartDriven}
 use Rattle.tp_drive.specs.Endings.{IsLeastStop}
-use Rattle.tp_drive.specs.Merging.{IsOther}
 use Rattle.tp_drive.specs.Woven.{IsWoven}
 use Rattle.tp_serve.specs.Progress.{is_wide}
 use Rattle.tp_serve.specs.Starting.{opening, IsUnopened, FailsBefore, IsLimitedBefore, IsOfStart}
 use Rattle.tp_drive_tool.specs.declared.status.Status.{Status}
+use Rattle.tp_drive_tool.specs.Reading.{input_of}
 
 -- ---- the site
 
@@ -54,7 +57,15 @@ LeavesLog o list (Some faults) story new =
 
 -- ---- all events
 
--- The outputs are those of one thread. After the boot the log has an interleaving of the records of each lane's own events.
+-- The bytes of the outputs are those that `node` writes of the input, which it takes to its end; and of each node the log has the
+-- records that the log of `node` has, in their order.
+pub record IsAsNode (o : Opening) (bytes : List ℕ) (outs : List (List Output)) (list : List LogRec) : Type 0 where
+  pub ends : (node_transcript o bytes).ending ≡ Done
+  pub written : written_of outs ≡ (node_transcript o bytes).written
+  pub records : (n : ℕ) → records_at n list ≡ records_at n (node_transcript o bytes).log
+
+-- The outputs are those of one thread. After the boot the log has an interleaving of the records of each lane's own events. Of an input
+-- that says these events and is then at its end, `node` writes the same.
 pub record HasDriven (name : List ℕ) (workers : ℕ) (events : List Given) (story : Story) (new : Option Story) (outs : List (List Output)) : Type 0 where
   pub o : Opening
   pub begins : BeginsOn name story o
@@ -62,6 +73,7 @@ pub record HasDriven (name : List ℕ) (workers : ℕ) (events : List Given) (st
   pub more : List LogRec
   pub woven : IsWoven o workers events more
   pub leaves : LeavesLog o (booted o ++ more) None story new
+  pub as_node : (bytes : List ℕ) → input_of bytes ≡ record { events = events; ending = Done } → IsAsNode o bytes outs (booted o ++ more)
 
 -- ---- not all events
 
@@ -87,15 +99,22 @@ pub record IsShutBy (name : List ℕ) (workers : ℕ) (events : List Given) (sto
   pub list : List LogRec
   pub part : HasPart name workers events story new (Some faults) stops list
 
--- a receipt is not the record that stands in the log at its turn, and that record stands at this place
-pub record HasOther (name : List ℕ) (story : Story) (new : Option Story) (place : ℕ) (receipt kept : Receipt) : Type 0 where
+-- a receipt that a worker was given is not the record that stands in the log at its turn, and that record stands at this place
+pub record HasOther (name : List ℕ) (workers : ℕ) (events : List Given) (story : Story) (new : Option Story) (place : ℕ) (receipt kept : Receipt) : Type 0 where
   pub o : Opening
   pub begins : BeginsOn name story o
   pub shut : Option ℕ
   pub list : List LogRec
   pub leaves : LeavesLog o list shut story new
-  pub other : IsOther (placed (is_wide o.version) list) receipt kept
-  pub there : place ≡ kept.place
+  pub mismatch : IsMismatch o workers events (is_wide o.version) list place receipt kept
+
+-- Memory ran out. The log was not opened, or the site did not start, and the log stays as it is; or after the boot the log has what the
+-- lanes forced; or a receipt is not the record that stands at its turn, and could not be shown.
+abbrev pub DrivesShort : List ℕ → ℕ → List Given → Story → Option Story → Type 0
+DrivesShort name workers events story new =
+    IsUnopened story new
+    ⊎ ((shut : Option ℕ) × (stops : List (Option LaneStop)) × (list : List LogRec) × HasPart name workers events story new shut stops list)
+    ⊎ ((place : ℕ) × (receipt : Receipt) × (kept : Receipt) × HasOther name workers events story new place receipt kept)
 
 -- why not all events were done, where the disk tells its story
 abbrev pub NotDriven : List ℕ → ℕ → List Given → Story → Option Story → Status → Type 0
@@ -109,8 +128,8 @@ NotDriven name workers events story new (Status.ReadFault faults) = ⊥
 NotDriven name workers events story new (Status.WriteFault faults) = ⊥
 NotDriven name workers events story new (Status.DiskFault faults) =
     (IsUnopened story new ⊎ FailsBefore name story new) ⊎ IsShutBy name workers events story new faults
-NotDriven name workers events story new Status.NoMemory = Unit {0}
-NotDriven name workers events story new (Status.LogDiffers place receipt kept) = HasOther name story new place receipt kept
+NotDriven name workers events story new Status.NoMemory = DrivesShort name workers events story new
+NotDriven name workers events story new (Status.LogDiffers place receipt kept) = HasOther name workers events story new place receipt kept
 
 -- before the first frame the log or the boots are spent; in a frame it is the log alone
 abbrev pub IsSpentAt : What → ℕ → Type 0

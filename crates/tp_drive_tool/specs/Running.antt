@@ -1,18 +1,25 @@
 -- A whole run: which events the input says, what workers do of them, what is written, and how it ends.
-use Rattle.std.specs.Prelude.{ℕ, ◌≡◌, ◌⊎◌, ◌<◌, ◌++◌, false, Option, Some, List}
+use Rattle.std.specs.Prelude.{ℕ, suc, ◌≡◌, ◌≤◌, ◌+◌, ◌⊎◌, ◌<◌, ◌++◌, true, false, Option, Some, List}
 use Rattle.tp_outside.specs.Faults.{HasRisen}
 use Rattle.tp_outside.specs.Story.{Story, seen}
 use Rattle.tp_records.specs.declared.body.Event.{Event as Given}
 use Rattle.tp_records.specs.declared.body.Output.{Output}
-use Rattle.tp_model.specs.Transcript.{Bad_input, At_limit}
-use Rattle.tp_model.specs.NodeTranscript.{written_of}
+use Rattle.tp_logrec.specs.LogText.{Placed}
+use Rattle.tp_logrec.specs.declared.record.LogVersion.{LogVersion}
+use Rattle.tp_model.specs.Links.{greatest}
+use Rattle.tp_model.specs.LogCommands.{Has, opened}
+use Rattle.tp_model.specs.NodeRun.{boot_of, log_after}
+use Rattle.tp_model.specs.NodeTranscript.{size_of, written_of}
+use Rattle.tp_model.specs.Transcript.{Bad_input, At_limit, Done}
+use Rattle.tp_journal.specs.Log.{most_bytes}
+use Rattle.tp_serve.specs.Starting.{opening}
 use Rattle.tp_streams.specs.Stops.{IsFaultOf, IsOfEvents}
 use Rattle.tp_streams.specs.Written.{WritesPrefix}
 use Rattle.tp_log_tools.specs.Readings.{IsFile}
 use Rattle.tp_words.specs.declared.drive.Drive.{Drive}
 use Rattle.tp_words.specs.DriveLine.{SaidDrive, is_drive, AsksDrive}
 use Rattle.tp_drive_tool.specs.declared.status.Status.{Status}
-use Rattle.tp_drive_tool.specs.Reading.{HasRead, EndsInput}
+use Rattle.tp_drive_tool.specs.Reading.{HasRead, EndsInput, input_of}
 use Rattle.tp_drive_tool.specs.Driving.{HasDriven, NotDriven, IsSpentAt}
 
 -- what the outside told before the run and after it: the story of the disk, the bytes left of the source, and those written to the sink
@@ -54,7 +61,8 @@ IsSilent (Status.LogDiffers place receipt kept) = Unit {0}
 
 -- ---- what is done
 
--- All events of the input were done by so many workers, and their outputs written: those that one thread gives.
+-- All events of the input were done by so many workers, and their outputs written, in full or not: those that one thread gives, and
+-- that `node` writes.
 pub record DoesAll (d : Drive) (r : Ran) (status : Status) : Type 0 where
   pub events : List Given
   pub read : (bytes : List ℕ) → r.left ≡ Some bytes → HasRead bytes events r.unread
@@ -79,7 +87,7 @@ Does d r same_disk (Status.Foreign at) = DoesPart d r (Status.Foreign at)
 Does d r same_disk (Status.ReadFault faults) = same_disk
 Does d r same_disk (Status.WriteFault faults) = DoesAll d r (Status.WriteFault faults)
 Does d r same_disk (Status.DiskFault faults) = DoesPart d r (Status.DiskFault faults)
-Does d r same_disk Status.NoMemory = Unit {0}
+Does d r same_disk Status.NoMemory = same_disk ⊎ DoesPart d r Status.NoMemory ⊎ DoesAll d r Status.NoMemory
 Does d r same_disk (Status.LogDiffers place receipt kept) = DoesPart d r (Status.LogDiffers place receipt kept)
 
 -- nothing is done
@@ -93,6 +101,41 @@ pub data Answers (said : Option SaidDrive) (r : Ran) (status : Status) (same_sou
   Refused : is_drive said ≡ false → status ≡ Status.Usage → Stays same_source same_sink same_disk → Answers said r status same_source same_sink same_disk
   Unread : status ≡ Status.NoMemory → Stays same_source same_sink same_disk → Answers said r status same_source same_sink same_disk
   Asked : (d : Drive) → AsksDrive said d → Does d r same_disk status → Answers said r status same_source same_sink same_disk
+
+-- ---- where nothing fails
+
+-- The input is good to its end and within the limits. The disk has a log in order, which leaves a boot number and has room for all
+-- records and one more of the greatest length.
+pub record IsProvided (d : Drive) (r : Ran) : Type 0 where
+  pub bytes : List ℕ
+  pub left : r.left ≡ Some bytes
+  pub good : (input_of bytes).ending ≡ Done
+  pub story : Story
+  pub told : r.told ≡ Some story
+  pub file : IsFile (seen story)
+  pub version : LogVersion
+  pub listed : List Placed
+  pub opens : opened (seen story) ≡ Has version listed
+  pub boot : boot_of (opening d.name version listed) ≡ suc greatest → ⊥
+  pub room : size_of version (log_after (opening d.name version listed) (input_of bytes).events) + 65538 ≤ most_bytes
+
+-- all events were done, and their outputs written; or memory ran out, or a receipt differs from the log
+abbrev pub EndsWell : Status → Type 0
+EndsWell Status.Ok = Unit {0}
+EndsWell Status.Usage = ⊥
+EndsWell (Status.BadInput at why) = ⊥
+EndsWell (Status.Limit what at) = ⊥
+EndsWell (Status.Foreign at) = ⊥
+EndsWell (Status.ReadFault faults) = ⊥
+EndsWell (Status.WriteFault faults) = ⊥
+EndsWell (Status.DiskFault faults) = ⊥
+EndsWell Status.NoMemory = Unit {0}
+EndsWell (Status.LogDiffers place receipt kept) = Unit {0}
+
+-- So a run ends, where its words are a command line and nothing outside fails: its input and its log are such, and no count rises.
+abbrev pub Completes : Option SaidDrive → Ran → ℕ → ℕ → ℕ → ℕ → ℕ → ℕ → Status → Type 0
+Completes said r read_old read_new write_old write_new disk_old disk_new status =
+    is_drive said ≡ true → ((d : Drive) → AsksDrive said d → IsProvided d r) → (HasRisen read_old read_new → ⊥) → (HasRisen write_old write_new → ⊥) → (HasRisen disk_old disk_new → ⊥) → EndsWell status
 
 -- ---- causes
 

@@ -3,7 +3,7 @@ ghost use Rattle.std.specs.Prelude.{◌≡◌, ℕ, map, false};
 ghost use Rattle.tp_model.specs.NodeTranscript.{written_of};
 ghost use Rattle.tp_words.specs.DriveLine.{drive_said, is_drive};
 ghost use Rattle.tp_drive_tool.specs.declared.status.Status.{Status as TheStatus};
-ghost use Rattle.tp_drive_tool.specs.Running.{Answers, Does, IsEnding, IsSilent, Writes};
+ghost use Rattle.tp_drive_tool.specs.Running.{Answers, Completes, Does, IsEnding, IsSilent, Writes};
 
 use crate::Status;
 use crate::driving::drive_on;
@@ -19,11 +19,12 @@ use tp_words::{Drive, WordsFault, read_drive};
 
 /// Reads all events of the source, 100,000 at most, then starts the site that the words name on the log of the disk, has as
 /// many workers as they ask for do the events, writes the outputs of all events, and hands the disk back. What is written is
-/// what one thread puts out, whatever the number of workers.
+/// what `node` writes, whatever the number of workers.
 ///
 /// An input that is bad, or that passes a limit, ends the run before the disk is touched. Then comes `Foreign`, and a `Limit` at
 /// 0 where no boot number is left or the boot has no room, and then the faults of the drive. With every status but `Ok` and
-/// `WriteFault` nothing is written.
+/// `WriteFault` nothing is written. Where nothing outside fails and there is room, it ends with `Ok`, unless memory runs out or a
+/// receipt differs from the log.
 pub fn run_drive<R: Threads + Wait + Sync, S: Source, K: Sink, D: Disk + Send, G: Gate + Sync>(
     rt: &R,
     alloc: Global,
@@ -37,6 +38,7 @@ pub fn run_drive<R: Threads + Wait + Sync, S: Source, K: Sink, D: Disk + Send, G
     ensures answers { Answers (drive_said (map (λ w. w.now) words.now)) (record { told = D.told disk; story = D.told result.1; left = S.left source.old; unread = S.left source.new; written = K.written sink.old; output = K.written sink.new }) result.0 (source.new ≡ source.old) (sink.new ≡ sink.old) (result.1 ≡ disk) }
     ensures silent { IsSilent result.0 → sink.new ≡ sink.old }
     ensures ending { IsEnding (S.fault_count source.old) (S.fault_count source.new) (K.fault_count sink.old) (K.fault_count sink.new) (D.fault_count disk) (D.fault_count result.1) result.0 }
+    ensures complete { Completes (drive_said (map (λ w. w.now) words.now)) (record { told = D.told disk; story = D.told result.1; left = S.left source.old; unread = S.left source.new; written = K.written sink.old; output = K.written sink.new }) (S.fault_count source.old) (S.fault_count source.new) (K.fault_count sink.old) (K.fault_count sink.new) (D.fault_count disk) (D.fault_count result.1) result.0 }
 {
     match read_drive(alloc, words) {
         Ok(asked) => run_asked(rt, alloc, asked, source, sink, disk, gate),

@@ -3,11 +3,16 @@ use Rattle.std.specs.List.{sum_by}
 use Rattle.tp_drive.specs.Crews.{stop_of, stake_left}
 use Rattle.tp_drive.specs.Endings.{IsLeastStop}
 use Rattle.tp_drive.proofs.Begins.{begun_records}
-use Rattle.tp_drive.proofs.Outcomes.{lent_back}
+use Rattle.tp_drive.proofs.Outcomes.{lent_back, on_err_all}
+use Rattle.tp_drive.proofs.Ran.{fresh_idle}
 use Rattle.tp_drive.proofs.run.open_and_run.Goals as goal
 
 pub run_opened-requires-clause-stood : goal.run_opened-requires-clause-stood
 run_opened-requires-clause-stood g c = λ κs h. begun_records g.L.Stood.stood g.L.Stood.wide g.L.Begun.opening c.args.name c.args.boot c.requires.begun
+
+-- lanes that were opened have forced nothing
+pub returns-in_err-open_lanes-clause-idle : goal.returns-in_err-open_lanes-clause-idle
+returns-in_err-open_lanes-clause-idle g c = on_err_all c.from_residual.result _ (fresh_idle g.L.Stood.stood g.L.Stood.wide g.L.Begun.opening c.args.count c.open_lanes.new.lanes.items (begun_records g.L.Stood.stood g.L.Stood.wide g.L.Begun.opening c.args.name c.args.boot c.requires.begun) c.open_lanes.ensures.fresh)
 
 -- the lanes are those that ran
 pub returns-clause-stopped : goal.returns-clause-stopped

@@ -1,7 +1,13 @@
 use Rattle.std.proofs.Common.{subst, arith}
 use Rattle.tp_drive.specs.Endings.{IsLeastStop}
-use Rattle.tp_drive.proofs.Outcomes.{on_both}
+use Rattle.tp_drive.proofs.Outcomes.{on_both, on_err_so}
 use Rattle.tp_drive.proofs.run.run_workers.Goals as goal
+
+-- where no worker ran, none forced anything
+pub returns-clause-idle : goal.returns-clause-idle
+returns-clause-idle g c =
+    let ran = c.open_and_run-ran in
+    on_err_so ran.result _ _ ran.ensures.idle (λ none. omega (arith, none, c.close_lanes.ensures.forced, ran.ensures.amounts.0))
 
 -- where all lanes were opened, the stakes are theirs
 pub returns-clause-stopped : goal.returns-clause-stopped

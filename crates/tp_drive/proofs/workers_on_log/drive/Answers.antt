@@ -47,7 +47,7 @@ returns-clause-images g c =
     let keeper = c.keeper-journal in
     if_oks c.on_log.result _ _ _ c.on_log.ensures.wide c.on_log.ensures.images
     (λ d wide leaves. leaves_booted (λ (j : Kept _). standing_of j (g.D.Disk.fault_count j.disk) (g.D.Disk.told j.disk) (g.D.Disk.fuse j.disk)) c.args.journal name site c.in-Ok.ensures.starts booted
-    (placed keeper.result.wide keeper.result.list) (g.D.Disk.told d.journal.disk) d.journal (ap (λ (j : Kept _). placed j.wide j.list) keeper.ensures) (wide ∙ ap (λ (j : Kept _). j.wide) keeper.ensures)
+    (placed keeper.result.wide keeper.result.list) (g.D.Disk.told d.journal.disk) d.journal (ap (λ (j : Kept _). placed j.wide j.list) keeper.ensures) (wide ∙ ap (λ (j : Kept _). j.wide) keeper.ensures) c.in-Ok.ensures.text
     (subst (λ (j : Kept _). Leaves (g.D.Disk.told j.disk) (length (placed keeper.result.wide keeper.result.list)) d.journal.wide d.journal.list d.journal.shut (g.D.Disk.told d.journal.disk)) keeper.ensures leaves))
 
 pub returns-clause-images_left : goal.returns-clause-images_left
@@ -58,7 +58,7 @@ returns-clause-images_left g c =
     let keeper = c.keeper-journal in
     if_errs c.on_log.result _ _ _ c.on_log.ensures.wide_left c.on_log.ensures.images_left
     (λ e wide leaves begun. leaves_booted (λ (j : Kept _). standing_of j (g.D.Disk.fault_count j.disk) (g.D.Disk.told j.disk) (g.D.Disk.fuse j.disk)) c.args.journal name site c.in-Ok.ensures.starts booted
-    (placed keeper.result.wide keeper.result.list) (g.D.Disk.told e.0.disk) e.0 (ap (λ (j : Kept _). placed j.wide j.list) keeper.ensures) (wide ∙ ap (λ (j : Kept _). j.wide) keeper.ensures)
+    (placed keeper.result.wide keeper.result.list) (g.D.Disk.told e.0.disk) e.0 (ap (λ (j : Kept _). placed j.wide j.list) keeper.ensures) (wide ∙ ap (λ (j : Kept _). j.wide) keeper.ensures) c.in-Ok.ensures.text
     (subst (λ (j : Kept _). Leaves (g.D.Disk.told j.disk) (length (placed keeper.result.wide keeper.result.list)) e.0.wide e.0.list e.0.shut (g.D.Disk.told e.0.disk)) keeper.ensures leaves))
 
 pub returns-clause-text : goal.returns-clause-text

@@ -1,9 +1,13 @@
-use Rattle.std.proofs.Common.{length, ap, sym, ◌∙◌, subst, arith}
+use Rattle.std.proofs.Common.{ℕ, length, ap, sym, ◌∙◌, subst, arith}
+use Rattle.tp_journal.specs.Records.{placed}
 use Rattle.tp_shared_log.specs.Images.{Leaves}
+use Rattle.tp_shared_log.specs.Locks.{Extends}
 use Rattle.tp_shared_log.proofs.Placed.{length-placed}
 use Rattle.tp_shared_log.proofs.Telling.{tells_first, leaves_then}
 use Rattle.tp_journal.specs.Journals.{Kept}
-use Rattle.tp_drive.proofs.Outcomes.{if_err, if_ok, on_ok}
+use Rattle.tp_drive.specs.Drives.{RunsShort}
+use Rattle.tp_drive.proofs.Causes.{opened_short, stood_short}
+use Rattle.tp_drive.proofs.Outcomes.{if_err, if_ok, on_err, on_ok}
 use Rattle.tp_drive.proofs.workers_on_log.on_log.Goals as goal
 
 -- where a lane stopped for another cause than memory, a stake is spent, and the log shows why
@@ -12,6 +16,24 @@ finish-requires-clause-cause g c = λ event is.
     let ran = c.run_workers-ran in
     let less = on_ok ran.result _ (sym c.if-is_err.ensures.value) ran.ensures.stopped event is in
     c.close-journal.ensures.spent (omega (arith, less, c.requires.stood.3))
+
+-- no worker ran
+pub returns-in_default-clause-stops : goal.returns-in_default-clause-stops
+returns-in_default-clause-stops g c =
+    opened_short g.L.Begun.opening c.args.count c.args.events.now g.L.Stood.stood g.L.Stood.wide c.args.journal.wide c.args.journal.list c.requires.begun.records c.requires.stood.0
+
+pub returns-in-Err-clause-stops : goal.returns-in-Err-clause-stops
+returns-in-Err-clause-stops g c =
+    subst (λ (k : Kept _). RunsShort g.L.Begun.opening c.args.count c.args.events.now k.wide k.list) (sym c.in-Err.ensures.err)
+    (opened_short g.L.Begun.opening c.args.count c.args.events.now g.L.Stood.stood g.L.Stood.wide c.args.journal.wide c.args.journal.list c.requires.begun.records c.requires.stood.0)
+
+pub returns-then-is_err-clause-stops : goal.returns-then-is_err-clause-stops
+returns-then-is_err-clause-stops g c =
+    let ran = c.run_workers-ran in
+    let j = c.close-journal.result.0 in
+    let none = on_err ran.result _ (sym c.if-is_err.ensures.value) ran.ensures.idle in
+    stood_short g.L.Begun.opening c.args.count c.args.events.now g.L.Stood.stood g.L.Stood.wide j.wide j.list c.requires.begun.records
+    (subst (λ (k : ℕ). Extends g.L.Stood.stood k (placed j.wide j.list)) none c.close-journal.ensures.list)
 
 -- the log as it was closed
 pub returns-clause-images : goal.returns-clause-images

@@ -1,4 +1,4 @@
-use Rattle.std.proofs.Common.{sym, subst}
+use Rattle.std.proofs.Common.{sym, subst, arith}
 use Rattle.tp_serve.proofs.Starts.{HasOpened, unread}
 use Rattle.tp_drive_tool.specs.Driving.{HasDriven, NotDriven}
 use Rattle.tp_drive_tool.proofs.Drives.{driven, not_driven, unread_so}
@@ -18,7 +18,7 @@ returns-in-Ok-drive-clause-driven g c s is file =
     let d = c.in-Ok-drive.driven in
     let has : HasOpened g.D.Disk.fault_count told c.args.disk c.in-Ok.journal = record { starts = first.started.0; unshut = first.started.1; texts = first.texts; counted = first.kept } in
     subst (λ disk. HasDriven c.args.name c.args.workers c.args.events.now s (told disk) d.outs) (sym c.disk.ensures)
-    (driven g.D.Disk.fault_count told g.D.Disk.fuse c.args.disk c.in-Ok.journal has c.args.name c.args.workers c.args.events.now s is file d.journal d.outs d.receipts said.images said.open said.done)
+    (driven g.D.Disk.fault_count told g.D.Disk.fuse c.args.disk c.in-Ok.journal has c.args.name c.args.workers c.args.events.now s is file d.journal d.outs d.receipts (omega (arith, c.requires.0)) said.images said.open said.done)
 
 pub returns-in-Err-drive-clause-stops : goal.returns-in-Err-drive-clause-stops
 returns-in-Err-drive-clause-stops g c s is file =
