@@ -65,5 +65,5 @@ returns-in_err-kept-clause-differs g c =
       receipt,
       kept,
       other_at told c.args.stood c.loop-at.at c.args.queues.now c.loop-at.queues c.take_first-receipt.new.queues receipt kept (omega arith) (omega arith) c.loop-at.invariant.woven c.take_first-receipt.ensures (get_or_any told c.loop-at.at receipt kept (omega arith))
-      (λ same. c.if-not-is_kept.ensures.differs refl receipt same),
+          (λ same. c.if-not-is_kept.ensures.differs refl receipt same),
     ))
