@@ -1,5 +1,5 @@
 -- Where nothing outside fails, a drive does all events; unless memory runs out, or a receipt differs from the log.
-use Rattle.std.proofs.Common.{◌≡◌, ◌≤◌, ◌<◌, ◌+◌, inl, inr, ℕ, suc, true, Option, Some, List, [], ◌++◌, refl, sym, ap, subst, ◌∙◌, arith}
+use Rattle.std.proofs.Common.{◌≡◌, ◌≤◌, ◌<◌, ◌+◌, inl, inr, ℕ, suc, true, false, Option, Some, List, [], ◌++◌, refl, sym, ap, subst, ◌∙◌, arith}
 use Rattle.tp_outside.specs.Faults.{HasRisen}
 use Rattle.tp_outside.specs.Story.{Story, seen}
 use Rattle.tp_records.specs.declared.body.Event.{Event as Given}
@@ -57,8 +57,8 @@ module _ (d : Drive) (r : Ran) (p : IsProvided d r) where
       same = same_opening d.name x.version p.version x.listed p.listed (sym x.opens ∙ p.opens)
 
       by : IsSpent (opening d.name x.version x.listed) what at → ⊥
-      by (inl boots) = p.boot (ap boot_of (sym same) ∙ boots.2)
-      by (inr full) = boot_fits (ap (λ (y : Opening). is_past_limit y []) (sym same) ∙ full.3)
+      by (inl boots) = p.boot (ap boot_of (sym same) ∙ boots.1.1)
+      by (inr full) = boot_fits (ap (λ (y : Opening). is_past_limit y []) (sym same) ∙ full.1.2)
 
   not_full : (events : List Given) (new : Option Story) (at : ℕ) → 0 < d.workers → given ≡ events → IsFullAt d.name d.workers events p.story new at → ⊥
   not_full events new at some are x =
