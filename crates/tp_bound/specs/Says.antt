@@ -1,6 +1,7 @@
--- Which answers a store may give from now on, one after the other. What its disk has, and why it failed, is no matter of
--- this file: a fault answer may come at any body that is needed, and from then on alone.
+-- Which answers a store may give from now on, one after the other. What its disk has is no matter of this file. A fault answer
+-- may come at a body that is needed, where the disk's count of faults rose, and from then on alone.
 use Rattle.std.specs.Prelude.{ℕ, ◌≡◌, ◌≢◌, ◌⊎◌, ◌+◌, Option, Some, None, List, [], ◌∷◌, length}
+use Rattle.tp_outside.specs.Faults.{HasRisen}
 use Rattle.tp_records.specs.Answers.{Answer}
 use Rattle.tp_records.specs.declared.request.Request.{Request}
 use Rattle.tp_bound.specs.declared.body.Body.{Body}
@@ -52,6 +53,11 @@ Says old a new =
     ((a.node ≡ old.node) × Speaks (wish old.store old.current old.gate a.indication) old a.request new)
     ⊎ ((a.node ≢ old.node) × (a.request ≡ None) × (new ≡ old))
 
-abbrev pub CanSay : Speaker → List Answer → Type 0
-CanSay s [] = Unit {0}
-CanSay s (a ∷ rest) = (t : Speaker) × Says s a t × CanSay t rest
+-- a store is shut only where its disk's count rose
+abbrev pub IsShutBy : {D : Type 0} → (D → ℕ) → Speaker → D → Speaker → D → Type 0
+IsShutBy faults old before new after = old.shut ≡ None → (n : ℕ) → new.shut ≡ Some n → HasRisen (faults before) (faults after)
+
+-- over a disk whose count of faults is told
+abbrev pub CanSay : {D : Type 0} → (D → ℕ) → D → Speaker → List Answer → Type 0
+CanSay faults disk s [] = Unit {0}
+CanSay {D} faults disk s (a ∷ rest) = (t : Speaker) × (left : D) × Says s a t × IsShutBy faults s disk t left × CanSay faults left t rest

@@ -1,6 +1,6 @@
 mod Places
 mod Placing
 mod Starting
-mod Given
+pub mod Given
 mod Happened
 pub mod Deployed

@@ -38,7 +38,7 @@ fn split_body(after: &[u8]) -> Option<(&[u8], &[u8])>
     Some(rest.split_at(len))
 }
 
-/// Reads bodies onto an empty shelf. Where the text ends is counted from its start.
+/// Reads bodies onto an empty shelf. Where the text ends is counted from its start. Without memory the shelf is thrown away.
 pub fn read_bodies<S: Shelf>(text: &[u8], shelf: &mut S) -> Result<End, AllocError>
     requires empty { S.bodies shelf.old ≡ [] }
     requires fits { 5 + length text.now < 2 ^ 64 }
@@ -130,7 +130,7 @@ fn read_at<S: Shelf>(
     }
 }
 
-/// Reads the bytes of a log onto an empty shelf.
+/// Reads the bytes of a log onto an empty shelf. Without memory the shelf is thrown away.
 pub fn read_log<S: Shelf>(file: &[u8], shelf: &mut S) -> Result<Reading, AllocError>
     requires empty { S.bodies shelf.old ≡ [] }
     requires fits { length file.now < 2 ^ 64 }

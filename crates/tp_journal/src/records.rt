@@ -84,7 +84,7 @@ fn write_text(alloc: Global, wide: bool, rec: &LogRec) -> Result<Octets, NoMemor
 }
 
 /// What is written for a record after the closing gate, in the place of these octets: the length of its text, which is
-/// told, the text, and a closed gate.
+/// told, the text, and a closed gate. Without memory the octets may be any: they are written anew before each use.
 #[inline(always)]
 #[tactic(auto, using(crate::proofs::Sizes::text_is_body))]
 pub fn write_piece(

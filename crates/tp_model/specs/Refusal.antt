@@ -28,12 +28,6 @@ number_of Refusal.WrongSite = 23
 number_of Refusal.OutOfPhase = 24
 number_of Refusal.BadRecord = 25
 
--- a transcript shows 21 and 22 as dropped, the others as refused
-abbrev pub is_dropped : Refusal → Bool
-is_dropped Refusal.OldAssociation = true
-is_dropped Refusal.OutOfOrder = true
-is_dropped _ = false
-
 -- the number of a refusal, where there is one
 abbrev pub number_in : Option Refusal → Option ℕ
 number_in None = None

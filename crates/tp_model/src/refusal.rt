@@ -2,7 +2,7 @@
 ghost use Rattle.std.specs.Prelude.{◌≡◌};
 ghost use Rattle.tp_model.specs.Dialogues.{first};
 ghost use Rattle.tp_model.specs.Requests.{least};
-ghost use Rattle.tp_model.specs.Refusal.{number_of, is_dropped};
+ghost use Rattle.tp_model.specs.Refusal.{number_of};
 
 use thiserror::Error;
 
@@ -86,13 +86,6 @@ impl Refusal {
             Refusal::OutOfPhase => 24,
             Refusal::BadRecord => 25,
         }
-    }
-
-    /// A transcript shows it as dropped: the record is not the next one of an association.
-    pub fn is_dropped(self) -> bool
-        ensures { result ≡ is_dropped self }
-    {
-        matches!(self, Refusal::OldAssociation | Refusal::OutOfOrder)
     }
 
     /// The refusal of the first test that holds.

@@ -9,3 +9,5 @@ pub mod Ending
 mod Alone
 pub mod Limits
 mod Tried
+pub mod One
+pub mod CertainStores

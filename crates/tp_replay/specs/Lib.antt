@@ -1,3 +1,4 @@
+pub mod Certain
 pub mod Stops
 pub mod Status
 pub mod Written

@@ -1,6 +1,8 @@
 //! The members of `replay`.
 ghost use Rattle.std.specs.Prelude.{◌≡◌, IfOk};
-ghost use Rattle.tp_replay.specs.Participants.{numbered};
+ghost use Rattle.tp_replay.specs.Certain.{AreCertain, IsWell, NeverFails};
+ghost use Rattle.tp_replay.specs.Participants.{may_answer, numbered};
+ghost use Rattle.tp_replay.specs.Transcribing.{may_of};
 
 use crate::voter::Voter;
 use std::alloc::{AllocError, Global};
@@ -19,7 +21,7 @@ pub enum Participant<D: Disk> {
 impl<D: Disk + Drop> Member for Participant<D> {
     ghost use Rattle.tp_replay.specs.Participants.{may_answer};
 
-    ghost allowed = { λ m answers. may_answer m answers };
+    ghost allowed = { λ m answers. may_answer D.fault_count m answers };
 
     fn told(
         &mut self,
@@ -34,12 +36,14 @@ impl<D: Disk + Drop> Member for Participant<D> {
     }
 }
 
-/// Member 1 is willing, member 2 unwilling, and member 3 the store, where there is one.
+/// Member 1 is willing, member 2 unwilling, and member 3 the store, where there is one. Over a disk that does not fail each has one
+/// answer to what it is told.
 pub fn participants<D: Disk + Drop>(
     alloc: Global,
     store: Option<Bound<D>>,
 ) -> Result<Vec<Participant<D>>, AllocError>
-    ensures { IfOk result (λ members. members.items ≡ numbered store) }
+    ensures numbered { IfOk result (λ members. members.items ≡ numbered store) }
+    ensures certain { NeverFails D.fault_count → IsWell store → IfOk result (λ members. AreCertain (may_of (may_answer D.fault_count) members.items)) }
 {
     let mut members = Vec::new(alloc);
     members.push(Participant::Alike(Voter::Willing(Willing)))?;

@@ -8,6 +8,7 @@ ghost use Rattle.tp_schedule.specs.LinesLeft.{lines_left};
 ghost use Rattle.tp_driven.specs.DrivenWorld.{Stands};
 ghost use Rattle.tp_streams.specs.Stops.{IsFaultOf};
 ghost use Rattle.tp_replay.specs.Stops.{IsInputStop, IsReplayStop};
+ghost use Rattle.tp_replay.specs.Certain.{AreCertain, IsOne};
 ghost use Rattle.tp_replay.specs.Playing.{PlaysNext, PlaysNextUnwritten, unheard_as};
 ghost use Rattle.tp_replay.specs.Transcribing.{may_of, replay_of, Reads, ReadsInput, Tells, TranscribesOn};
 ghost use Rattle.tp_replay.specs.Written.{Writes};
@@ -168,6 +169,8 @@ pub fn replay<S: Source, K: Sink, M: Member>(
     ensures stop { IfErr result (IsReplayStop (S.fault_count source.old) (S.fault_count source.new) (K.fault_count sink.old) (K.fault_count sink.new)) }
     ensures reads { (bytes : List ℕ) → S.left source.old ≡ Some bytes → Reads bytes result (S.left source.new) }
     ensures transcript { (bytes : List ℕ) → S.left source.old ≡ Some bytes → Writes (Tells (may_of M.allowed members.items) (length members.items) bytes result (S.left source.new)) (K.written sink.old) (K.written sink.new) }
+    // Where each member has one answer to what it is told, the transcript is one.
+    ensures one { AreCertain (may_of M.allowed members.items) → (bytes : List ℕ) → IsOne (may_of M.allowed members.items) (length members.items) bytes }
 {
     let mut out = Octets::new(alloc);
     let input = match play_all(alloc, source, sink, members, &mut out) {

@@ -24,7 +24,7 @@ pub(crate) fn put_output(alloc: Global, output: &Output, out: &mut Octets) -> Re
     Ok(())
 }
 
-/// Puts the frames of outputs at the end of `out`, in order.
+/// Puts the frames of outputs at the end of `out`, in order. Without memory some of them may be there, and `out` is thrown away.
 pub fn put_outputs(alloc: Global, outputs: &[Output], out: &mut Octets) -> Result<(), NoMemory>
     ensures { OnOk result (out.new ≡ out.old ++ outputs_bytes outputs.now) }
 {

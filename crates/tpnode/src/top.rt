@@ -6,6 +6,7 @@ ghost use Rattle.tp_laws.specs.Whole.{AllPromised};
 ghost use Rattle.tp_model.specs.Transcript.{transcript_with};
 ghost use Rattle.tp_words.specs.Asked.{is_line};
 ghost use Rattle.tp_words.specs.CommandLine.{said};
+ghost use Rattle.tp_replay.specs.Certain.{AreCertain, IsOne};
 ghost use Rattle.tp_replay.specs.Status.{IsEnding};
 ghost use Rattle.tp_replay.specs.Transcribing.{may_of, IsComplete, ReadsSo, Transcribes};
 ghost use Rattle.tpnode.specs.Commands.{Runs, Answers};
@@ -26,7 +27,7 @@ use tp_words::{Command, WordsFault, read};
 /// sink and the disk as it was, where it has no fault status for it.
 ///
 /// `replay` reads a schedule from the source and writes its transcript to the sink, for some answers that the members may
-/// give, who are numbered from 1. Where the sink fails or memory is wanting, what is written is a prefix of that; where the
+/// give, who are numbered from 1. Where each member has one answer to what it is told, a schedule has one transcript. Where the sink fails or memory is wanting, what is written is a prefix of that; where the
 /// source fails, it is the transcript of the lines whose ends were read, without closing lines. The world of each
 /// transcript keeps all promises. `make` writes the schedule that is made by the plan, and `trial` replays it and
 /// writes what it came to. `format` makes the disk hold a fresh log. `show` writes each record of the disk's log with
@@ -50,6 +51,7 @@ pub fn run<S: Source, K: Sink, D: Disk, M: Member>(
     ensures reads { map (λ w. w.now) words.now ≡ replay_words → (bytes : List ℕ) → S.left source.old ≡ Some bytes → ReadsSo bytes result.0 (S.left source.new) }
     ensures disk { map (λ w. w.now) words.now ≡ replay_words → result.1 ≡ disk }
     ensures transcript { map (λ w. w.now) words.now ≡ replay_words → (bytes : List ℕ) → S.left source.old ≡ Some bytes → Transcribes (may_of M.allowed members.items) (length members.items) bytes result.0 (S.left source.new) (K.written sink.old) (K.written sink.new) }
+    ensures one { AreCertain (may_of M.allowed members.items) → (bytes : List ℕ) → IsOne (may_of M.allowed members.items) (length members.items) bytes }
     ensures promised { (bytes : List ℕ) (answers : List (Option Request)) → AllPromised (transcript_with (length members.items) bytes answers).world }
     ensures complete { map (λ w. w.now) words.now ≡ replay_words → (bytes : List ℕ) → S.left source.old ≡ Some bytes → IsComplete (may_of M.allowed members.items) (length members.items) bytes → ¬ (HasRisen (S.fault_count source.old) (S.fault_count source.new)) → ¬ (HasRisen (K.fault_count sink.old) (K.fault_count sink.new)) → (result.0 ≡ Status.Ok) ⊎ (result.0 ≡ Status.NoMemory) }
 {

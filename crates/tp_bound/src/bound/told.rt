@@ -5,7 +5,7 @@ ghost use Rattle.tp_journal.specs.Log.{IsBody, StandsForEither};
 ghost use Rattle.tp_journal.specs.Gates.{face};
 ghost use Rattle.tp_journal.specs.Started.{IsStarted};
 ghost use Rattle.tp_journal.specs.Told.{LeavesOnly};
-ghost use Rattle.tp_bound.specs.Says.{Says, speaker};
+ghost use Rattle.tp_bound.specs.Says.{IsShutBy, Says, speaker};
 ghost use Rattle.tp_bound.specs.Told.{Answers, Appended, dropping, keeping, preparing, gathering, wish, Tells, OpensThroughout};
 
 use super::Bound;
@@ -54,6 +54,8 @@ impl<D: Disk> Bound<D> {
             → Tells (wish self.old.store self.old.current self.old.gate ind.now) self.old (D.fault_count self.old.disk) told self.new (D.fault_count self.new.disk)) }
         // So it is one of the answers that a store may give.
         ensures says { IfOk result (λ told. Says (speaker self.old) (record { node = node; indication = ind.now; request = told }) (speaker self.new)) }
+        // It is shut only where the disk failed.
+        ensures shuts { IsShutBy D.fault_count (speaker self.old) self.old.disk (speaker self.new) self.new.disk }
         ensures unchanged { OnErr result (self.new ≡ self.old) }
         // Whatever moment the machine stops at, the disk opens to the content from before the call, or to that with it.
         ensures moments { node ≡ self.old.node → OpensThroughout (wish self.old.store self.old.current self.old.gate ind.now) self.old (D.told self.old.disk) (D.told self.new.disk) }
@@ -196,7 +198,7 @@ impl<D: Disk> Bound<D> {
 impl<D: Disk + Drop> Member for Bound<D> {
     ghost use Rattle.tp_bound.specs.Says.{CanSay, speaker};
 
-    ghost allowed = { λ b answers. CanSay (speaker b) answers };
+    ghost allowed = { λ b answers. CanSay D.fault_count b.disk (speaker b) answers };
 
     fn told(
         &mut self,

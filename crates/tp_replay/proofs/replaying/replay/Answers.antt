@@ -4,6 +4,7 @@ use Rattle.tp_replay.specs.Stops.{IsReplayStop}
 use Rattle.tp_replay.specs.Transcribing.{may_of, Reads, Tells}
 use Rattle.tp_streams.specs.Written.{WritesPrefix}
 use Rattle.tp_replay.specs.Written.{Writes}
+use Rattle.tp_replay.proofs.One.{is_one}
 use Rattle.tp_replay.proofs.Ending.{finishes, fails_at_last, replay_stop, replay_reads}
 use Rattle.tp_replay.proofs.replaying.replay.Goals as goal
 
@@ -28,3 +29,12 @@ returns-clause-transcript g c = λ bytes is.
     fails_at_last _ _ bytes c.in-Ok.input _ c.play_all.new.out _ (g.K.Sink.written c.play_all.new.sink) (g.K.Sink.written c.write_all.new.sink)
     ((c.in-Ok.ensures {u = tt}).plays bytes is)
     (λ all h. subst (λ t. WritesPrefix all t (g.K.Sink.written c.write_all.new.sink)) c.as_slice.ensures ((c.in-Err-write_all.ensures {u = tt}).prefix all h))
+
+pub returns-in-Err-clause-one : goal.returns-in-Err-clause-one
+returns-in-Err-clause-one g c = λ certain bytes. is_one _ certain _ bytes
+
+pub returns-in-Ok-write_all-clause-one : goal.returns-in-Ok-write_all-clause-one
+returns-in-Ok-write_all-clause-one g c = λ certain bytes. is_one _ certain _ bytes
+
+pub returns-clause-one : goal.returns-clause-one
+returns-clause-one g c = λ certain bytes. is_one _ certain _ bytes

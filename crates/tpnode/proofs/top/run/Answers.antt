@@ -7,6 +7,7 @@ use Rattle.tp_laws.proofs.Promises.{all_promised}
 use Rattle.tpnode.specs.Commands.{Refused, Asked}
 use Rattle.tp_replay.proofs.SoFar.{tells_none}
 use Rattle.tp_replay.proofs.Ending.{completes}
+use Rattle.tp_replay.proofs.One.{is_one}
 use Rattle.tpnode.proofs.Replayed.{out_of_memory}
 use Rattle.tpnode.proofs.Asking.{never_usage, replays, plain_replay, no_usage}
 use Rattle.tpnode.proofs.top.run.Goals as goal
@@ -23,6 +24,9 @@ returns-in-Ok-clause-reads g c = λ is bytes has. (replays c.in-Ok.command _ _ _
 
 pub returns-in-Ok-clause-disk : goal.returns-in-Ok-clause-disk
 returns-in-Ok-clause-disk g c = λ is. (replays c.in-Ok.command _ _ _ _ (c.in-Ok.ensures.plain (codes "replay") [] plain_replay is) c.run_command.ensures.runs).disk
+
+pub returns-in-Ok-clause-one : goal.returns-in-Ok-clause-one
+returns-in-Ok-clause-one g c = λ certain bytes. is_one _ certain _ bytes
 
 pub returns-in-Ok-clause-promised : goal.returns-in-Ok-clause-promised
 returns-in-Ok-clause-promised g c = λ bytes answers. of_run AllPromised all_promised (transcript_with _ bytes answers).world (transcripts_leave_runs _ bytes answers)
@@ -46,6 +50,9 @@ returns-in-Err-Usage-clause-answers g c =
 pub returns-in-Err-Usage-clause-reads : goal.returns-in-Err-Usage-clause-reads
 returns-in-Err-Usage-clause-reads g c = λ is bytes has. absurd (no_usage (sym c.in-Err-Usage.field-0-is ∙ c.in-Err-Usage.ensures.plain (codes "replay") [] plain_replay is))
 
+pub returns-in-Err-Usage-clause-one : goal.returns-in-Err-Usage-clause-one
+returns-in-Err-Usage-clause-one g c = λ certain bytes. is_one _ certain _ bytes
+
 pub returns-in-Err-Usage-clause-promised : goal.returns-in-Err-Usage-clause-promised
 returns-in-Err-Usage-clause-promised g c = λ bytes answers. of_run AllPromised all_promised (transcript_with _ bytes answers).world (transcripts_leave_runs _ bytes answers)
 
@@ -54,6 +61,9 @@ returns-in-Err-Usage-clause-transcript g c = λ is bytes has. absurd (no_usage (
 
 pub returns-in-Err-Usage-clause-complete : goal.returns-in-Err-Usage-clause-complete
 returns-in-Err-Usage-clause-complete g c = λ is bytes has all read written. absurd (no_usage (sym c.in-Err-Usage.field-0-is ∙ c.in-Err-Usage.ensures.plain (codes "replay") [] plain_replay is))
+
+pub returns-clause-one : goal.returns-clause-one
+returns-clause-one g c = λ certain bytes. is_one _ certain _ bytes
 
 pub returns-clause-promised : goal.returns-clause-promised
 returns-clause-promised g c = λ bytes answers. of_run AllPromised all_promised (transcript_with _ bytes answers).world (transcripts_leave_runs _ bytes answers)
