@@ -1,6 +1,6 @@
 //! A world in which a member drives a node.
 use std::alloc::Global;
-use tp_driven::DrivenWorld;
+use tp_world_members::DrivenWorld;
 use tp_model::{OutLines, What};
 use tp_names::{NoMemory, Octets};
 use tp_records::{Indication, Member, Request, Willing};

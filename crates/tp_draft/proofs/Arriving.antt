@@ -20,7 +20,7 @@ use Rattle.tp_model.specs.Questions.{is_begin}
 use Rattle.tp_node.proofs.Arriving.{at_peer}
 use Rattle.tp_draft.specs.Taking.{arc_to, taking_on}
 use Rattle.tp_draft.proofs.Sights.{begin_side}
-use Rattle.tp_node_parts.specs.Arcs.{fits_link}
+use Rattle.tp_node_state.specs.Arcs.{fits_link}
 use Rattle.tp_model.specs.declared.refusal.Refusal.{Refusal}
 
 pub open_declared : (who : Who) (d : Digest) (from : Addr) (x : Mark) (u : ℕ) → refused_arrival who d from (PeerRecord.OpenAssoc x u) ≡ None → d.declared ≡ true

@@ -19,7 +19,7 @@ use Rattle.tp_names.specs.declared.identifiers.Aaid.{Aaid}
 use Rattle.tp_names.specs.declared.identifiers.BranchId.{BranchId}
 use Rattle.tp_records.specs.declared.dialogue.Holder.{Holder}
 use Rattle.tp_draft.proofs.Beginnings.{begin_rises, start_rises}
-use Rattle.tp_node_parts.specs.Arcs.{new_arc}
+use Rattle.tp_node_state.specs.Arcs.{new_arc}
 use Rattle.tp_draft.specs.Draft.{Draft, goes_on}
 use Rattle.tp_draft.proofs.Drafts.{perform_none}
 

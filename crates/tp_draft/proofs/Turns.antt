@@ -14,14 +14,14 @@ use Rattle.tp_model.specs.declared.transaction.TxOut.{TxOut}
 use Rattle.tp_model.specs.Node.{Move, move, followed, perform, branches_of, seen, remaining, turned, passed, transact, try_start, is_over, Passage as PassageValue, committed_arcs, grants, entered, played, Stays, Enters, Falls, Falls_at_once, Commits, Rolls_back, Leaves, perform_commit, started_next}
 use Rattle.tp_model.specs.Arcs.{performed}
 use Rattle.tp_node.specs.declared.halt.Halt.{Halt}
-use Rattle.tp_node_parts.specs.declared.arc_step.ArcStep.{ArcStep}
+use Rattle.tp_node_state.specs.declared.arc_step.ArcStep.{ArcStep}
 use Rattle.tp_node.specs.declared.passage.Passage.{Passage}
 use Rattle.tp_draft.specs.Draft.{Draft, with_current, goes_on, Plays}
-use Rattle.tp_node_parts.specs.ArcStep.{stepped_arcs}
+use Rattle.tp_node_state.specs.ArcStep.{stepped_arcs}
 use Rattle.tp_draft.specs.Passage.{giving, completing, speaking, recording, acting_by, turning, passing, turning_by, playing, said_then, place_of_completion, played_outs}
 use Rattle.tp_node.specs.Passage.{passage_of}
 use Rattle.tp_draft.proofs.Drafts.{plays_alike, plays_same_at, plays_halted_at, followed_silent, append_again}
-use Rattle.tp_node_parts.proofs.Steps.{done_arcs, rolled_arcs, gone_arcs}
+use Rattle.tp_node_state.proofs.Steps.{done_arcs, rolled_arcs, gone_arcs}
 use Rattle.tp_node.specs.Node.{current_of}
 use Rattle.tp_draft.proofs.Beginnings.{branches_seen, start_rises}
 use Rattle.tp_draft.proofs.Parted.{parted_turn}

@@ -9,8 +9,8 @@ use Rattle.tp_model.specs.declared.transaction.TxEvent.{TxEvent}
 use Rattle.tp_model.specs.Transactions.{Transaction, transacted, step_of, turn}
 use Rattle.tp_model.specs.Recovery.{kept_after}
 use Rattle.tp_model.specs.Node.{Move, move, followed, perform, remaining, entered, played, committed_arcs, grants, is_leaving, passage, Passage as PassageValue, perform_commit, Commits}
-use Rattle.tp_node_parts.specs.declared.arc_step.ArcStep.{ArcStep}
-use Rattle.tp_node_parts.specs.ArcStep.{stepped_arcs}
+use Rattle.tp_node_state.specs.declared.arc_step.ArcStep.{ArcStep}
+use Rattle.tp_node_state.specs.ArcStep.{stepped_arcs}
 use Rattle.tp_records.specs.declared.indication.Indication.{Indication}
 
 -- ---- a turn, of the transaction t

@@ -55,7 +55,7 @@ use Rattle.tp_histories.proofs.worlds.Unique.{TookOn, superior_is}
 use Rattle.tp_histories.proofs.trees.Late.{late_law}
 use Rattle.tp_histories.proofs.trees.Knowing.{Came, As_it_was, By_begin, By_crash, came_by, current_none}
 use Rattle.tp_agreement.proofs.OwingLaw.{kept_none}
-use Rattle.tp_known.proofs.links.Kin.{IsKin, kin_link, kin_moves}
+use Rattle.tp_history_state.proofs.links.Kin.{IsKin, kin_link, kin_moves}
 use Rattle.tp_finishing.proofs.Retries.{sent_first, sent_second}
 use Rattle.tp_finishing.proofs.KeptTurns.{EachChild, each_more, each_without, Keeps, IsDoubtOf, IsKeeping, keeping_turn}
 

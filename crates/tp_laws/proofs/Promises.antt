@@ -11,7 +11,7 @@ use Rattle.tp_histories.proofs.worlds.Starts.{all_legal}
 use Rattle.tp_runs.proofs.Users.{users_see}
 use Rattle.tp_reports.proofs.ReportFree.{report_free, report_free_closes}
 use Rattle.tp_reports.proofs.Reported.{reports, done_below}
-use Rattle.tp_drained.proofs.DrainedCommits.{drained_commits, settled_closes, tree_commits, tree_closes}
+use Rattle.tp_failure_free.proofs.DrainedCommits.{drained_commits, settled_closes, tree_commits, tree_closes}
 use Rattle.tp_forced.proofs.TreeLogs.{one_log}
 use Rattle.tp_forced.proofs.Forced.{ends_last, commits_force_so, rolls_unforced}
 use Rattle.tp_forced.proofs.TakenOnce.{taken_once}
@@ -19,10 +19,10 @@ use Rattle.tp_outcomes.proofs.Shown.{told_of_trees, left_untold}
 use Rattle.tp_outcomes.proofs.TreesListed.{closes_once}
 use Rattle.tp_outcomes.proofs.CountedThere.{counted_is_there}
 use Rattle.tp_outcomes.proofs.TreesAgree.{trees_agree}
-use Rattle.tp_alarms.proofs.Causes.{reports_have_causes}
-use Rattle.tp_alarms.proofs.Alarms.{no_false_alarm}
-use Rattle.tp_alarms.proofs.Commitments.{commitments_apart}
-use Rattle.tp_alarms.proofs.Rollbacks.{rollbacks_apart}
+use Rattle.tp_report_causes.proofs.Causes.{reports_have_causes}
+use Rattle.tp_report_causes.proofs.Alarms.{no_false_alarm}
+use Rattle.tp_report_causes.proofs.Commitments.{commitments_apart}
+use Rattle.tp_report_causes.proofs.Rollbacks.{rollbacks_apart}
 use Rattle.tp_finishing.proofs.Closed.{over_is_closed}
 use Rattle.tp_finishing.proofs.Again.{lost_is_said_again}
 use Rattle.tp_laws.specs.Whole.{AllPromised}

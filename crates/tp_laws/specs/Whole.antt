@@ -4,16 +4,16 @@
 use Rattle.tp_model.specs.World.{World}
 use Rattle.tp_model.specs.Promises.{Promised}
 use Rattle.tp_reports.specs.Reports.{ReportFreeCloses, DoneBelow}
-use Rattle.tp_drained.specs.DrainedTrees.{SettledCloses, SettledTreeCommits, SettledTreeCloses}
+use Rattle.tp_failure_free.specs.DrainedTrees.{SettledCloses, SettledTreeCommits, SettledTreeCloses}
 use Rattle.tp_forced.specs.Taken.{TakenOnce}
 use Rattle.tp_forced.specs.TreeLog.{OneLog, EndsLast, CommitsForceSo, RollsUnforced}
 use Rattle.tp_outcomes.specs.Agreement.{TreesAgree}
 use Rattle.tp_outcomes.specs.Counting.{CountedIsThere}
 use Rattle.tp_outcomes.specs.Shown.{ToldOfTrees, LeftIsUntold}
 use Rattle.tp_outcomes.specs.Starting.{ClosesOnce}
-use Rattle.tp_alarms.specs.Causes.{ReportsHaveCauses}
-use Rattle.tp_alarms.specs.Alarms.{NoFalseAlarm}
-use Rattle.tp_alarms.specs.Apart.{CommitmentsAreApart, RollbacksAreApart}
+use Rattle.tp_report_causes.specs.Causes.{ReportsHaveCauses}
+use Rattle.tp_report_causes.specs.Alarms.{NoFalseAlarm}
+use Rattle.tp_report_causes.specs.Apart.{CommitmentsAreApart, RollbacksAreApart}
 use Rattle.tp_finishing.specs.Finishing.{IsOver, IsClosed}
 use Rattle.tp_finishing.specs.Again.{LostIsSaidAgain}
 

@@ -15,7 +15,7 @@ ghost use Rattle.tp_model.specs.Legal.{is_start, are_in_order, RestartIsCrash, R
 ghost use Rattle.tp_histories.specs.Members.{IsUnique};
 ghost use Rattle.tp_runs.specs.Hanging.{HangsTogether};
 ghost use Rattle.tp_site_logs.specs.SiteLogs.{DisksTell, DisksStart, next_opening, stops};
-ghost use Rattle.tp_drained.specs.DrainedTrees.{SettledCloses, SettledTreeCommits, SettledTreeCloses, SettledInItsTime};
+ghost use Rattle.tp_failure_free.specs.DrainedTrees.{SettledCloses, SettledTreeCommits, SettledTreeCloses, SettledInItsTime};
 ghost use Rattle.tp_agreement.specs.Logs.{CommitsAlone, LogsAgree};
 ghost use Rattle.tp_reports.specs.Reports.{ReportFreeCommits, ReportFreeCloses, DoneBelow};
 ghost use Rattle.tp_records.specs.declared.request.Request.{Request};

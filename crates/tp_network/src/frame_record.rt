@@ -4,7 +4,7 @@ ghost use Rattle.tp_network.specs.FrameRecord.{said, record_of};
 
 use std::alloc::Global;
 use tp_names::{Mark, NoMemory, Report};
-use tp_node_parts::copies;
+use tp_node_state::copies;
 use tp_records::{DialogueRecord, PeerRecord};
 
 /// A record of a dialogue that carries neither an identifier nor octets.

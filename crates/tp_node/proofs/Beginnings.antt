@@ -12,7 +12,7 @@ use Rattle.tp_model.specs.Dialogues.{begun_by, named_holder, is_active}
 use Rattle.tp_model.specs.Links.{is_live, greatest}
 use Rattle.tp_model.specs.Transactions.{Row, Transaction, aaid_of}
 use Rattle.tp_model.specs.Node.{branches_of, is_superior, side_at, phase_of, situation_at, may_begin_on, with_mark_drawn, chained_from, chained_peers, grants}
-use Rattle.tp_node_parts.specs.SharedArcs.{has_none_chained, has_no_grant}
+use Rattle.tp_node_state.specs.SharedArcs.{has_none_chained, has_no_grant}
 use Rattle.tp_node.specs.Begins.{aaid_in, with_branch, new_branch, begun_at, begun_on}
 
 pub branches_more : (rs : List Row) (r : Row) → branches_of (rs ++ r ∷ []) ≡ branches_of rs ++ r.branch ∷ []

@@ -17,14 +17,14 @@ use Rattle.tp_model.specs.Requests.{room}
 use Rattle.tp_model.specs.Events.{some_past_numbers}
 use Rattle.tp_model.specs.Transactions.{Row, Transaction, aaid_of}
 use Rattle.tp_model.specs.Node.{branches_of, may_begin_on}
-use Rattle.tp_node_parts.specs.declared.outs.Out.{Out as CodeOut}
-use Rattle.tp_node_parts.specs.Outs.{out_of, outs_of_option}
-use Rattle.tp_node_parts.specs.declared.outs.Next.{Next}
+use Rattle.tp_node_state.specs.declared.outs.Out.{Out as CodeOut}
+use Rattle.tp_node_state.specs.Outs.{out_of, outs_of_option}
+use Rattle.tp_node_state.specs.declared.outs.Next.{Next}
 use Rattle.tp_node.specs.declared.node.Node.TheInside.{Inside}
 use Rattle.tp_node.specs.Node.{Node, node_of, arcs_in, with_arcs, current_of}
-use Rattle.tp_node_parts.specs.Arcs.{Arcs, next_on, is_spent, outs_next}
+use Rattle.tp_node_state.specs.Arcs.{Arcs, next_on, is_spent, outs_next}
 use Rattle.tp_node.specs.Begins.{aaid_in, new_branch, begun_on, begun_sent, has_place_below, can_begin}
-use Rattle.tp_node_parts.proofs.Sides.{carried_next}
+use Rattle.tp_node_state.proofs.Sides.{carried_next}
 use Rattle.tp_node.proofs.Beginnings.{peer_found, on_found}
 
 -- ---- there is memory for one branch more

@@ -12,7 +12,7 @@ use Rattle.tp_model.specs.Arcs.{find_arc}
 use Rattle.tp_model.specs.Node.{branches_of, side_at, situation_at}
 use Rattle.tp_model.specs.Requests.{room, least, refused_at, count_below}
 use Rattle.tp_model.specs.declared.arc.Side.{Side}
-use Rattle.tp_node_parts.specs.Arcs.{Arcs, has_place, count_subordinates_in}
+use Rattle.tp_node_state.specs.Arcs.{Arcs, has_place, count_subordinates_in}
 use Rattle.tp_node.specs.Node.{Node, has_place_at}
 
 pub refused_on : (v : Node) (p octets : ℕ) (kind : Asked) (others : Option Refusal) (a : Arc) → find_arc v.digest.arcs p ≡ Some a → is_live a.link ≡ true → refused_at v.who v.digest p octets kind others ≡ least (refused_on_arc (side_at v.digest p) a.dialogue (situation_at v.who v.digest p) octets kind) others

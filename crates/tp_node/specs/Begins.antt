@@ -11,7 +11,7 @@ use Rattle.tp_model.specs.Links.{greatest}
 use Rattle.tp_model.specs.Arcs.{find_arc, with_dialogue, carried}
 use Rattle.tp_model.specs.Transactions.{aaid_of, fresh_branch}
 use Rattle.tp_model.specs.Node.{next_mark, with_mark_drawn, may_begin_on, phase_of, may_root, has_none, chained_peers}
-use Rattle.tp_node_parts.specs.Arcs.{is_spent}
+use Rattle.tp_node_state.specs.Arcs.{is_spent}
 use Rattle.tp_node.specs.Node.{Node}
 
 -- the tree of the current transaction

@@ -14,7 +14,7 @@ use Rattle.tp_model.specs.Events.{current_by, is_known}
 use Rattle.tp_model.specs.Recovery.{kept_by}
 use Rattle.tp_model.specs.declared.arc.Side.{Side}
 use Rattle.tp_model.specs.Requests.{room, count_below}
-use Rattle.tp_node_parts.specs.Arcs.{Arcs}
+use Rattle.tp_node_state.specs.Arcs.{Arcs}
 use Rattle.tp_node.specs.declared.node.Node.TheInside.{Inside}
 
 pub record Node : Type 0 where

@@ -7,7 +7,7 @@ ghost use Rattle.tp_node.specs.Node.{arcs_in, current_of};
 use tp_commit::Branch;
 use tp_link::LinkState;
 use tp_model::Deferral;
-use tp_node_parts::SharedArcs;
+use tp_node_state::SharedArcs;
 
 // Whether the arc with that peer is live, and whether an end is deferred on it. The arc of a branch stands at the place of
 // the branch where all subordinates are branches, each begun in turn.

@@ -9,7 +9,7 @@ use crate::node::Node;
 use tp_model::{Known, Phase};
 use tp_names::same::{is_aaid, is_branch};
 use tp_names::{Aaid, Addr, BranchId, Child, NodeKey};
-use tp_node_parts::KeptTable;
+use tp_node_state::KeptTable;
 
 impl Node {
     /// What is known of a transaction of that key, and whether it has that branch.
@@ -135,7 +135,7 @@ impl Node {
 }
 
 // The key of the first of the tree that owes the branch.
-#[tactic(auto, using(tp_node_parts::proofs::KeptPlaces::from_place))]
+#[tactic(auto, using(tp_node_state::proofs::KeptPlaces::from_place))]
 fn kept_owing(kept: &KeptTable, aaid: &Aaid, branch: &BranchId) -> Option<NodeKey>
     ensures { result ≡ kept_owing kept.now aaid.now branch.now }
 {
@@ -149,7 +149,7 @@ fn kept_owing(kept: &KeptTable, aaid: &Aaid, branch: &BranchId) -> Option<NodeKe
 }
 
 // The key of the first of the tree.
-#[tactic(auto, using(tp_node_parts::proofs::KeptPlaces::from_place))]
+#[tactic(auto, using(tp_node_state::proofs::KeptPlaces::from_place))]
 fn kept_of(kept: &KeptTable, aaid: &Aaid) -> Option<NodeKey>
     ensures { result ≡ kept_of kept.now aaid.now }
 {

@@ -22,11 +22,11 @@ ghost use Rattle.tp_model.specs.Disposition.{sight_value};
 ghost use Rattle.tp_model.specs.Arrivals.{sight_in_tx, is_response, woken_by, current_with, current_of as current_in};
 ghost use Rattle.tp_node.specs.State.{state_of, tree_in};
 ghost use Rattle.tp_node.specs.Node.{current_of, unboxed, with_arcs, has_place_at};
-ghost use Rattle.tp_node_parts.specs.Outs.{outs_of_option, outs_with};
-ghost use Rattle.tp_node_parts.specs.ArcStep.{stepped_arcs};
+ghost use Rattle.tp_node_state.specs.Outs.{outs_of_option, outs_with};
+ghost use Rattle.tp_node_state.specs.ArcStep.{stepped_arcs};
 ghost use Rattle.tp_node.specs.Passage.{passage_of};
 ghost use Rattle.tp_dialogue.specs.Kinds.{asked_value, heard_value};
-ghost use Rattle.tp_node_parts.specs.Arcs.{fits_link, new_arc};
+ghost use Rattle.tp_node_state.specs.Arcs.{fits_link, new_arc};
 ghost use Rattle.tp_node.specs.Calls.{offer_of, offer_on, answered, begun_under};
 ghost use Rattle.tp_model.specs.Parts.{Opening, Offered, Live};
 ghost use Rattle.tp_model.specs.declared.arc.Side.{Side};
@@ -56,7 +56,7 @@ use tp_names::same::{is_aaid, is_key};
 use tp_names::{
     Aaid, Addr, BranchId, Child, Counter, Mark, NoMemory, NodeKey, NumbersSpent, Outcome, SiteName,
 };
-use tp_node_parts::{ArcStep, KeptTable, Next, Out, SharedArcs, is_granting, kept, release};
+use tp_node_state::{ArcStep, KeptTable, Next, Out, SharedArcs, is_granting, kept, release};
 use tp_records::{DialogueRecord, Holder, Request};
 use tp_recover::refused;
 use tp_tree::Tie;
@@ -776,7 +776,7 @@ impl Node {
     }
 
     /// What the transaction does to the arcs where it passes so, before anything is said.
-    #[tactic(auto, unfolding(tp_model::specs::Node::entered), using(tp_node_parts::proofs::Steps::entered_arcs, tp_node_parts::proofs::Steps::fallen_arcs))]
+    #[tactic(auto, unfolding(tp_model::specs::Node::entered), using(tp_node_state::proofs::Steps::entered_arcs, tp_node_state::proofs::Steps::fallen_arcs))]
     pub fn enter(&mut self, branch: &Branch, passage: Passage)
         ensures { self.new ≡ with_arcs self.old (entered branch.now (passage_of passage) self.old.digest.arcs) }
     {
@@ -916,7 +916,7 @@ impl Node {
     }
 
     /// The peer answers the call on that arc: it is live, with a new dialogue.
-    #[tactic(auto, using(tp_node_parts::proofs::Linked::calls_below, tp_node_parts::proofs::Linked::bound_live))]
+    #[tactic(auto, using(tp_node_state::proofs::Linked::calls_below, tp_node_state::proofs::Linked::bound_live))]
     pub fn bind(&mut self, tie: &Tie, x: Mark, y: Mark, units: Units)
         requires arc { find_arc self.old.digest.arcs (arc_of tie.now).peer.node ≡ Some (arc_of tie.now) }
         requires link { fits_link (side_at self.old.digest (arc_of tie.now).peer.node) tie.now.link ≡ true }
@@ -1046,7 +1046,7 @@ impl Node {
 
     /// A record with that pair and number is taken on the arc with that peer; any but a response ends the arc's rest.
     #[inline(always)]
-    #[tactic(auto, using(tp_node_parts::proofs::Takes::woken_so))]
+    #[tactic(auto, using(tp_node_state::proofs::Takes::woken_so))]
     pub fn take(&mut self, peer: u16, x: Mark, y: Mark, seq: u64, rec: &DialogueRecord)
         requires { dropped_by (link_with self.old.digest.arcs peer) x y seq ≡ None }
         ensures { self.new ≡ with_digest self.old (woken_by rec.now peer (record self.old.digest { arcs = with_link self.old.digest.arcs peer with_one_taken })) }

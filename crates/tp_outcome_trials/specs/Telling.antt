@@ -23,7 +23,7 @@ use Rattle.tp_histories.specs.Members.{has_taken_begin}
 use Rattle.tp_forced.specs.TreeLog.{forced_of}
 use Rattle.tp_forced.specs.Taken.{times_taken}
 use Rattle.tp_outcomes.specs.Starting.{starts, times_in, lines_of}
-use Rattle.tp_alarms.specs.Causes.{tells_committed, tells_rolled_back, is_awaited, has_met, has_heard, has_given_up}
+use Rattle.tp_report_causes.specs.Causes.{tells_committed, tells_rolled_back, is_awaited, has_met, has_heard, has_given_up}
 use Rattle.tp_trials.specs.Trials.{begun, deep_readied, told_unknown, damaged, tree, branch, lower_branch, first_mark, node_after}
 
 -- ---- more runs

@@ -12,8 +12,8 @@ use Rattle.tp_model.specs.History.{crashed}
 use Rattle.tp_model.specs.NodeRun.{Opening, Past, history_of, AskedEvent, Refuses, Is, asked, refusal_of, outputs_of, entry_outputs, NodeRun, with_entry, run_from}
 use Rattle.tp_histories.specs.Histories.{IsSentIn, HasSent}
 use Rattle.tp_runs.proofs.Lanes.{chosen, past_with, given, run_step}
-use Rattle.tp_said_texts.specs.Sizes.{AreShort}
-use Rattle.tp_said_texts.proofs.Read.{entry_short}
+use Rattle.tp_encodable.specs.Sizes.{AreShort}
+use Rattle.tp_encodable.proofs.Read.{entry_short}
 use Rattle.tp_site_logs.specs.Lives.{Life, opening_after, history_in, history_over}
 use Rattle.tp_processes.specs.Octets.{IsOneOf, IsPutIn, IsPut}
 

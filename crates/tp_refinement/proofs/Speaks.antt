@@ -14,10 +14,10 @@ use Rattle.tp_reports.specs.Reports.{ReportFreeCommits}
 use Rattle.tp_tree_commit.specs.TreeCommit.{Vote, Ending, Part, HasLeft, HasCompleted, AllCompleted, told, RestCompletes, IsUndisturbed, IsAtRest}
 use Rattle.tp_tree_commit.specs.TreeCommit.{OneOutcome as OneOutcomeOf, ReportFree as ReportFreeOf}
 use Rattle.tp_refinement.specs.Refinement.{vote_of, ending_of, part_of, part_in, tree_in, SaysOfWorlds, SettledRests}
-use Rattle.tp_drained.specs.DrainedTrees.{IsSettledTree}
+use Rattle.tp_failure_free.specs.DrainedTrees.{IsSettledTree}
 use Rattle.tp_histories.proofs.worlds.Nodes.{find_is}
 use Rattle.tp_reports.proofs.ReportFree.{clear_is_committed}
-use Rattle.tp_drained.proofs.DrainedCommits.{tree_commits}
+use Rattle.tp_failure_free.proofs.DrainedCommits.{tree_commits}
 use Rattle.tp_tree_commit.proofs.Rested.{completed_rests}
 use Rattle.tp_refinement.proofs.Happens.{runs_on_the_page}
 use Rattle.tp_refinement.proofs.Parts.{part_there, Seen, seen}

@@ -11,7 +11,7 @@ use Rattle.tp_model.specs.Trees.{stays}
 use Rattle.tp_model.specs.Promises.{is_root, IsOf, OneOutcome, ReportFree, HasCommitted}
 use Rattle.tp_histories.specs.Fates.{has_ready_in}
 use Rattle.tp_reports.specs.Reports.{ReportFreeCommits}
-use Rattle.tp_drained.specs.DrainedTrees.{IsSettledTree}
+use Rattle.tp_failure_free.specs.DrainedTrees.{IsSettledTree}
 use Rattle.tp_tree_commit.specs.TreeCommit.{Vote, Ending, Part, Tree, Reached, IsUndisturbed, IsAtRest, RestCompletes}
 use Rattle.tp_tree_commit.specs.TreeCommit.{OneOutcome as OneOutcomeOf, ReportFree as ReportFreeOf}
 use Rattle.tp_tree_commit.specs.Walks.{Walks}

@@ -10,7 +10,7 @@ use Rattle.tp_model.specs.Happenings.{WorldTurn}
 use Rattle.tp_model.specs.Lines.{Fault, Name, Over, line}
 use Rattle.tp_model.specs.Transcript.{Put, Play, RawLine, Transcript, Done, Bad_input, At_limit, raw_lines, content, echo, is_silent, puts_of, answers_of, answered, stopped, with_lines, breaks, ends, behind, fault_ending, transcript_from, transcript_with, octets_taken}
 use Rattle.tp_world.proofs.Lines.{members_same, unnamed}
-use Rattle.tp_driven.specs.Members.{slot_at, may, Gave}
+use Rattle.tp_world_members.specs.Members.{slot_at, may, Gave}
 use Rattle.tp_replay.proofs.SoFar.{may_nothing}
 
 -- ---- nobody answers

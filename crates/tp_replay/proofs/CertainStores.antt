@@ -13,7 +13,7 @@ use Rattle.tp_bound.specs.Gathered.{Gathered}
 use Rattle.tp_bound.specs.Stores.{with_body}
 use Rattle.tp_bound.specs.Told.{Wish, Answers, Adds, wish}
 use Rattle.tp_bound.specs.Says.{CanSay, Fails, Goes, IsShutBy, Says, Speaker, Speaks, gathered, speaker}
-use Rattle.tp_driven.specs.Members.{may, slot_at}
+use Rattle.tp_world_members.specs.Members.{may, slot_at}
 use Rattle.tp_replay.specs.declared.participant.Participant.{Participant}
 use Rattle.tp_replay.specs.declared.voter.Voter.{Voter}
 use Rattle.tp_replay.specs.Certain.{AreCertain, IsWell, NeverFails}

@@ -19,12 +19,12 @@ use Rattle.tp_schedule.specs.AtHand.{together}
 use Rattle.tp_schedule.specs.LinesLeft.{Place, answer, first_of, judged, most_read, unless_read, IsFor, IsAhead, lines_left}
 use Rattle.tp_schedule.specs.declared.line_fault.LineFault.{LineFault}
 use Rattle.tp_schedule.specs.declared.lines_fault.LinesFault.{LinesFault}
-use Rattle.tp_world_parts.specs.declared.fault.WorldFault.{WorldFault}
-use Rattle.tp_driven.specs.Answers.{IsEnded}
-use Rattle.tp_driven.specs.Members.{Gave}
-use Rattle.tp_driven.specs.DrivenWorld.{members_of, Stands, PlaysAfter}
-use Rattle.tp_driven.specs.declared.driven_world.DrivenWorld.{DrivenWorld}
-use Rattle.tp_driven.proofs.Gave.{gave_none}
+use Rattle.tp_world_sites.specs.declared.fault.WorldFault.{WorldFault}
+use Rattle.tp_world_members.specs.Answers.{IsEnded}
+use Rattle.tp_world_members.specs.Members.{Gave}
+use Rattle.tp_world_members.specs.DrivenWorld.{members_of, Stands, PlaysAfter}
+use Rattle.tp_world_members.specs.declared.driven_world.DrivenWorld.{DrivenWorld}
+use Rattle.tp_world_members.proofs.Gave.{gave_none}
 use Rattle.tp_replay.specs.declared.stop.LineStop.{LineStop}
 use Rattle.tp_replay.specs.declared.stop.InputStop.{InputStop}
 use Rattle.tp_replay.specs.Stops.{IsNumbered}

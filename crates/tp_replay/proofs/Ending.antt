@@ -9,8 +9,8 @@ use Rattle.tp_model.specs.Trees.{closing}
 use Rattle.tp_model.specs.World.{World}
 use Rattle.tp_model.specs.Transcript.{Put, RawLine, raw_lines, Ending, Done, Bad_input, At_limit, Transcript, transcript_from, transcript_with}
 use Rattle.tp_schedule.specs.LinesLeft.{Place, first_length}
-use Rattle.tp_driven.specs.DrivenWorld.{members_of, Stands}
-use Rattle.tp_driven.specs.declared.driven_world.DrivenWorld.{DrivenWorld}
+use Rattle.tp_world_members.specs.DrivenWorld.{members_of, Stands}
+use Rattle.tp_world_members.specs.declared.driven_world.DrivenWorld.{DrivenWorld}
 use Rattle.tp_replay.specs.declared.status.Status.{Status}
 use Rattle.tp_replay.specs.declared.stop.LineStop.{LineStop}
 use Rattle.tp_replay.specs.declared.stop.InputStop.{InputStop}

@@ -9,10 +9,10 @@ use Rattle.tp_model.specs.World.{World, empty_world}
 use Rattle.tp_model.specs.Transcript.{Put, answers_of, AreAllowed, RawLine, raw_lines, Transcript, Ending, transcript_from, transcript_with, octets_taken}
 use Rattle.tp_schedule.specs.AtHand.{together}
 use Rattle.tp_schedule.specs.LinesLeft.{Place, lines_left}
-use Rattle.tp_driven.specs.Members.{slot_at, may, Gave}
-use Rattle.tp_driven.specs.DrivenWorld.{members_of, Stands}
-use Rattle.tp_driven.specs.declared.driven_world.DrivenWorld.{DrivenWorld}
-use Rattle.tp_driven.proofs.Gave.{gave_none, gave_more, answers_joined}
+use Rattle.tp_world_members.specs.Members.{slot_at, may, Gave}
+use Rattle.tp_world_members.specs.DrivenWorld.{members_of, Stands}
+use Rattle.tp_world_members.specs.declared.driven_world.DrivenWorld.{DrivenWorld}
+use Rattle.tp_world_members.proofs.Gave.{gave_none, gave_more, answers_joined}
 use Rattle.tp_streams.specs.Written.{IsPrefix}
 use Rattle.tp_replay.specs.Written.{WroteBut}
 use Rattle.tp_replay.specs.Transcribing.{may_of, AreGiven, TellsAll, TellsSome}

@@ -9,8 +9,8 @@ use Rattle.tp_model.specs.Trees.{closing}
 use Rattle.tp_schedule.specs.LinesLeft.{Place}
 use Rattle.tp_generate.specs.declared.schedule.Schedule.{Schedule}
 use Rattle.tp_generate.specs.Making.{IsScheduleOf}
-use Rattle.tp_driven.specs.DrivenWorld.{members_of, Stands}
-use Rattle.tp_driven.specs.declared.driven_world.DrivenWorld.{DrivenWorld}
+use Rattle.tp_world_members.specs.DrivenWorld.{members_of, Stands}
+use Rattle.tp_world_members.specs.declared.driven_world.DrivenWorld.{DrivenWorld}
 use Rattle.tp_replay.specs.declared.stop.LineStop.{LineStop}
 use Rattle.tp_replay.specs.declared.stop.InputStop.{InputStop}
 use Rattle.tp_replay.specs.Stops.{IsNumbered}

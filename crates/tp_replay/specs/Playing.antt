@@ -11,10 +11,10 @@ use Rattle.tp_model.specs.Transcript.{Put, Play, RawLine, Transcript, Ending, Ba
 use Rattle.tp_schedule.specs.declared.line_fault.LineFault.{LineFault}
 use Rattle.tp_schedule.specs.declared.lines_fault.LinesFault.{LinesFault}
 use Rattle.tp_schedule.specs.LinesLeft.{Place, first_length, lines_left}
-use Rattle.tp_world_parts.specs.declared.fault.WorldFault.{WorldFault}
-use Rattle.tp_driven.specs.Members.{Gave}
-use Rattle.tp_driven.specs.DrivenWorld.{members_of, Stands}
-use Rattle.tp_driven.specs.declared.driven_world.DrivenWorld.{DrivenWorld}
+use Rattle.tp_world_sites.specs.declared.fault.WorldFault.{WorldFault}
+use Rattle.tp_world_members.specs.Members.{Gave}
+use Rattle.tp_world_members.specs.DrivenWorld.{members_of, Stands}
+use Rattle.tp_world_members.specs.declared.driven_world.DrivenWorld.{DrivenWorld}
 use Rattle.tp_replay.specs.declared.stop.LineStop.{LineStop}
 use Rattle.tp_replay.specs.declared.stop.InputStop.{InputStop}
 use Rattle.tp_replay.specs.Transcribing.{ReadsTo, past_bad, past_limit}

@@ -9,7 +9,7 @@ use Rattle.tp_model.specs.OutText.{out_texts}
 use Rattle.tp_model.specs.Trees.{closing}
 use Rattle.tp_model.specs.Transcript.{Put, answers_of, AreAllowed, RawLine, raw_lines, Ending, Done, Bad_input, At_limit, transcript_with, octets_taken}
 use Rattle.tp_schedule.specs.LinesLeft.{first_length, first_taken}
-use Rattle.tp_driven.specs.Members.{slot_at, may}
+use Rattle.tp_world_members.specs.Members.{slot_at, may}
 use Rattle.tp_replay.specs.declared.status.Status.{Status}
 use Rattle.tp_replay.specs.declared.stop.LineStop.{LineStop}
 use Rattle.tp_replay.specs.declared.stop.InputStop.{InputStop}

@@ -3,8 +3,8 @@ use Rattle.std.specs.Prelude.{ℕ, ◌≡◌, ◌<◌, Option, Some, List, [], �
 use Rattle.tp_model.specs.Transcript.{Transcript, Done, Bad_input, At_limit, transcript_with}
 use Rattle.tp_model.specs.Generator.{schedule, summary}
 use Rattle.tp_streams.specs.Written.{WritesPrefix}
-use Rattle.tp_driven.specs.DrivenWorld.{Stands}
-use Rattle.tp_driven.specs.declared.driven_world.DrivenWorld.{DrivenWorld}
+use Rattle.tp_world_members.specs.DrivenWorld.{Stands}
+use Rattle.tp_world_members.specs.declared.driven_world.DrivenWorld.{DrivenWorld}
 use Rattle.tp_replay.specs.declared.status.Status.{Status}
 use Rattle.tp_replay.specs.declared.stop.LineStop.{LineStop}
 use Rattle.tp_replay.specs.declared.stop.TrialStop.{TrialStop}

@@ -7,13 +7,13 @@ ghost use Rattle.tp_model.specs.LineText.{line_text};
 ghost use Rattle.tp_model.specs.OutText.{out_text, out_texts};
 ghost use Rattle.tp_model.specs.Transcript.{echo};
 ghost use Rattle.tp_model.specs.World.{World as WorldValue};
-ghost use Rattle.tp_driven.specs.DrivenWorld.{Stands};
+ghost use Rattle.tp_world_members.specs.DrivenWorld.{Stands};
 ghost use Rattle.tp_replay.specs.Stops.{IsNumbered};
 ghost use Rattle.tp_replay.specs.Playing.{ShowsReading, PlaysUnwritten, unread_as, unplayed_as};
 
 use crate::stop::LineStop;
 use std::alloc::Global;
-use tp_driven::{DrivenWorld, is_silent};
+use tp_world_members::{DrivenWorld, is_silent};
 use tp_model::{Line, OutLines, Why};
 use tp_names::{NoMemory, Octets};
 use tp_records::Member;

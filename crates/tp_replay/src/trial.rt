@@ -2,7 +2,7 @@
 ghost use Rattle.std.specs.Prelude.{◌≡◌, ◌≤◌, [], IfOk, IfErr, OnOk};
 ghost use Rattle.tp_model.specs.World.{World as WorldValue, empty_world};
 ghost use Rattle.tp_model.specs.Generator.{schedule, summary, summary_of};
-ghost use Rattle.tp_driven.specs.DrivenWorld.{members_of, Stands};
+ghost use Rattle.tp_world_members.specs.DrivenWorld.{members_of, Stands};
 ghost use Rattle.tp_replay.specs.declared.stop.InputStop.{InputStop as TheInputStop};
 ghost use Rattle.tp_replay.specs.Stops.{IsInputStop, IsTrialStop};
 ghost use Rattle.tp_replay.specs.Trying.{alone, IsPlayed, StopsAt, TriesSchedule};
@@ -13,7 +13,7 @@ use crate::replaying::{PAST_LINES, play_next_unwritten};
 use crate::stop::{InputStop, LineStop, TrialStop, WriteFault};
 use crate::voter::Voter;
 use std::alloc::Global;
-use tp_driven::DrivenWorld;
+use tp_world_members::DrivenWorld;
 use tp_generate::{schedule_of, write_summary};
 use tp_model::{OutLines, What};
 use tp_names::{NoMemory, Octets};

@@ -3,9 +3,9 @@ use Rattle.std.proofs.Common.{◌≡◌, ℕ, List, [], ◌∷◌, ◌++◌, map
 use Rattle.tp_records.specs.declared.body.Output.{Output}
 use Rattle.tp_model.specs.Parts.{Out as OutValue, Tell, Send}
 use Rattle.tp_model.specs.NodeRun.{outputs_of}
-use Rattle.tp_node_parts.specs.declared.outs.Out.{Out}
-use Rattle.tp_node_parts.specs.Outs.{out_of}
-use Rattle.tp_said_texts.specs.Sizes.{IsShort, AreShort}
+use Rattle.tp_node_state.specs.declared.outs.Out.{Out}
+use Rattle.tp_node_state.specs.Outs.{out_of}
+use Rattle.tp_encodable.specs.Sizes.{IsShort, AreShort}
 use Rattle.tp_site.specs.Events.{opening_at, output_of}
 
 one_out : (name : List ℕ) (n : ℕ) (x : OutValue) (xs : List OutValue) → outputs_of (opening_at name) n (x ∷ xs) ≡ output_of name n x ∷ outputs_of (opening_at name) n xs

@@ -15,13 +15,13 @@ use Rattle.tp_model.specs.Node.{Move}
 use Rattle.tp_model.specs.NodeRun.{records_at}
 use Rattle.tp_model.proofs.Verdicts.{none_if_accepted, breaks_so}
 use Rattle.tp_steps.specs.Histories.{brought}
-use Rattle.tp_said_texts.specs.Standing.{IsShapedOption, IsShapedMove}
-use Rattle.tp_said_texts.specs.Sizes.{AreShort, BringsFew, IsShortRecord}
-use Rattle.tp_said_texts.specs.Texts.{HaveTexts}
-use Rattle.tp_said_texts.proofs.Kept.{start_stands, move_stands}
-use Rattle.tp_said_texts.proofs.Running.{shaped_at}
-use Rattle.tp_said_texts.proofs.Read.{texts_shaped}
-use Rattle.tp_said_texts.proofs.Short.{outputs_short}
+use Rattle.tp_encodable.specs.Standing.{IsShapedOption, IsShapedMove}
+use Rattle.tp_encodable.specs.Sizes.{AreShort, BringsFew, IsShortRecord}
+use Rattle.tp_encodable.specs.Texts.{HaveTexts}
+use Rattle.tp_encodable.proofs.Kept.{start_stands, move_stands}
+use Rattle.tp_encodable.proofs.Running.{shaped_at}
+use Rattle.tp_encodable.proofs.Read.{texts_shaped}
+use Rattle.tp_encodable.proofs.Short.{outputs_short}
 use Rattle.tp_journal.specs.Keeping.{Standing}
 use Rattle.tp_journal.specs.Records.{version_of, HasText}
 use Rattle.tp_journal.specs.declared.receipts.Receipt.{Receipt}

@@ -1,4 +1,4 @@
-pub use Rattle.tp_node_parts.specs.Outs
+pub use Rattle.tp_node_state.specs.Outs
 pub use Rattle.tp_node.specs.State
 pub use Rattle.tp_node.specs.Node
 pub use Rattle.tp_node.specs.NodeEvent

@@ -8,7 +8,7 @@ use Rattle.tp_model.specs.Parts.{Digest}
 use Rattle.tp_model.specs.Node.{Move}
 use Rattle.tp_journal.specs.Keeping.{Standing}
 use Rattle.tp_journal.specs.Records.{version_of, HasText}
-use Rattle.tp_said_texts.specs.Standing.{StandsShaped, IsShapedOption}
+use Rattle.tp_encodable.specs.Standing.{StandsShaped, IsShapedOption}
 use Rattle.tp_site.specs.declared.faults.SiteFault.{SiteFault}
 use Rattle.tp_site.specs.declared.faults.StartFault.{StartFault}
 use Rattle.tp_site.specs.Nodes.{Nodes, digest_at}

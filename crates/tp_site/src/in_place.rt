@@ -10,7 +10,7 @@ ghost use Rattle.tp_site.specs.InPlace.{IsPlanned, run_in_place, can_run, arrive
 use tp_model::Disposition;
 use tp_names::{Addr, NoMemory, Report};
 use tp_node::{Node, NodeEvent};
-use tp_node_parts::Outs;
+use tp_node_state::Outs;
 use tp_records::{DialogueRecord, Indication, PeerRecord, Request};
 
 // A Ready or a Done that is only noted on its branch.

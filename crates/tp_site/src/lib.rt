@@ -17,4 +17,4 @@ pub use faults::{SiteFault, StartFault};
 pub use recalled::Recalled;
 pub use site::{Played, Site};
 pub use tp_node::{NodeEvent, NodeState, NodeTree};
-pub use tp_node_parts::{Out, Outs};
+pub use tp_node_state::{Out, Outs};

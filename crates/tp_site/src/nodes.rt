@@ -21,7 +21,7 @@ use tp_logrec::{LogRec, LogVersion};
 use tp_model::{Refusal, TxFault};
 use tp_names::{NoMemory, SiteName};
 use tp_node::{Node, NodeEvent, NodeTree};
-use tp_node_parts::Outs;
+use tp_node_state::Outs;
 
 /// The nodes of a site, by their numbers. One is sought first where the last one stood.
 #[derive(Debug, Drop)]

@@ -2,14 +2,14 @@
 ghost use Rattle.std.specs.Prelude.{◌≡◌, IfOk};
 ghost use Rattle.tp_model.specs.NodeRun.{refusal_of};
 ghost use Rattle.tp_model.specs.Refusal.{number_in};
-ghost use Rattle.tp_node_parts.specs.Outs.{out_of};
+ghost use Rattle.tp_node_state.specs.Outs.{out_of};
 ghost use Rattle.tp_site.specs.Events.{given_out, output_of};
-ghost use Rattle.tp_said_texts.specs.Sizes.{IsShort, AreShort};
+ghost use Rattle.tp_encodable.specs.Sizes.{IsShort, AreShort};
 
 use std::alloc::Global;
 use tp_model::Refusal;
 use tp_names::{Addr, NoMemory};
-use tp_node_parts::{Out, Outs};
+use tp_node_state::{Out, Outs};
 use tp_records::{Output, Outputs};
 use tp_texts::peer_octets;
 

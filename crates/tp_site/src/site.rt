@@ -22,8 +22,8 @@ ghost use Rattle.tp_site.specs.Faults.{fault_of, shut_by};
 ghost use Rattle.tp_site.specs.InPlace.{IsPlanned};
 ghost use Rattle.tp_site.specs.Shaped.{AreShapedNodes, IsShapedDraft, HasTextOption, HasTextIfStarted};
 ghost use Rattle.tp_texts.specs.Shapes.{IsShaped};
-ghost use Rattle.tp_said_texts.specs.Standing.{IsShapedOption};
-ghost use Rattle.tp_said_texts.specs.Sizes.{AreShort, BringsFew};
+ghost use Rattle.tp_encodable.specs.Standing.{IsShapedOption};
+ghost use Rattle.tp_encodable.specs.Sizes.{AreShort, BringsFew};
 
 use crate::faults::{LogFault, SiteFault, StartFault};
 use crate::nodes::Nodes;
@@ -35,7 +35,7 @@ use tp_logrec::{LogRec, LogVersion};
 use tp_model::{Phase, Refusal, TxFault};
 use tp_names::{NoMemory, SiteName};
 use tp_node::{NodeEvent, NodeState, NodeTree};
-use tp_node_parts::Outs;
+use tp_node_state::Outs;
 use tp_texts::shaped_has_text;
 
 /// What an event gives: its outputs, in order. With a refusal, it was refused by that, and the association that it came on

@@ -31,8 +31,8 @@ use Rattle.tp_histories.proofs.trees.Behind.{treed_rolls}
 use Rattle.tp_histories.proofs.worlds.Good.{good_run}
 use Rattle.tp_runs.proofs.Users.{users_see}
 use Rattle.tp_agreement.proofs.Agreed.{commits_alone}
-use Rattle.tp_said_texts.specs.Begins.{is_begin_told, takes_begin}
-use Rattle.tp_said_texts.proofs.Short.{begins_untold}
+use Rattle.tp_encodable.specs.Begins.{is_begin_told, takes_begin}
+use Rattle.tp_encodable.proofs.Short.{begins_untold}
 use Rattle.tp_stores.specs.Stores.{told_in, IsHeardIn, heard_of, is_none, only_under, StoresAgree}
 use Rattle.tp_stores.proofs.Hearing.{last_begun, is_of, hears, is_commit, is_rollback, or_first, or_over, hears_append, committed_heard, rolled_back_heard}
 use Rattle.tp_stores.proofs.Telling.{some, some_told, heard_some, heard_none, hears_some, hears_of, some_weaker}

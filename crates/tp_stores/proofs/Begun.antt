@@ -36,8 +36,8 @@ use Rattle.tp_steps.proofs.log.ApartLog.{logged_key}
 use Rattle.tp_steps.proofs.lemmas.Options.{some_same}
 use Rattle.tp_histories.proofs.trees.Late.{late_law}
 use Rattle.tp_histories.proofs.trees.Knowing.{Came, As_it_was, By_begin, By_crash, came_by, begin_arc, current_none}
-use Rattle.tp_said_texts.specs.Begins.{is_begin_told, takes_begin}
-use Rattle.tp_said_texts.proofs.Short.{begins_untold, chained_untold}
+use Rattle.tp_encodable.specs.Begins.{is_begin_told, takes_begin}
+use Rattle.tp_encodable.proofs.Short.{begins_untold, chained_untold}
 use Rattle.tp_stores.specs.Stores.{told_in, IsHeardOf, IsHeardIn}
 use Rattle.tp_stores.proofs.Hearing.{last_begun, last_append}
 use Rattle.tp_stores.proofs.Telling.{some, some_told, heard_none, last_quiet, begin_heard}

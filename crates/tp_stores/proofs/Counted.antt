@@ -17,7 +17,7 @@ use Rattle.tp_steps.specs.Trees.{out_tells}
 use Rattle.tp_steps.proofs.lemmas.Equality.{or_case, and_left, and_right}
 use Rattle.tp_histories.specs.Worlds.{IsGood}
 use Rattle.tp_histories.proofs.worlds.Good.{good_run}
-use Rattle.tp_said_texts.specs.Begins.{is_begin_told}
+use Rattle.tp_encodable.specs.Begins.{is_begin_told}
 use Rattle.tp_bound.specs.Kept.{Heard, Told, Reopened}
 use Rattle.tp_bound.specs.Branches.{Branch, written, is_told_commit, with_branch, committed}
 use Rattle.tp_stores.specs.Stores.{told_in, all_told, heard_of, is_none, only_under, is_among, has_committed}

@@ -33,8 +33,8 @@ use Rattle.tp_histories.proofs.trees.Knowing.{Came, As_it_was, By_begin, By_cras
 use Rattle.tp_histories.proofs.trees.Behind.{treed_rolls}
 use Rattle.tp_histories.proofs.worlds.Good.{good_run}
 use Rattle.tp_runs.proofs.Users.{users_see}
-use Rattle.tp_said_texts.specs.Begins.{is_begin_told, takes_begin}
-use Rattle.tp_said_texts.proofs.Short.{begins_untold}
+use Rattle.tp_encodable.specs.Begins.{is_begin_told, takes_begin}
+use Rattle.tp_encodable.proofs.Short.{begins_untold}
 use Rattle.tp_bound.specs.Kept.{Heard}
 use Rattle.tp_bound.specs.Branches.{FollowVotes}
 use Rattle.tp_stores.specs.Stores.{told_in, IsHeardOf, IsHeardIn, IsHeardAt, heard_of, is_none, only_under}

@@ -5,7 +5,7 @@ use Rattle.tp_records.specs.declared.indication.Indication.{Indication}
 use Rattle.tp_model.specs.Parts.{Out, Tell, Send}
 use Rattle.tp_steps.specs.Trees.{out_tells}
 use Rattle.tp_steps.proofs.lemmas.Equality.{or_case, and_left, and_right}
-use Rattle.tp_said_texts.specs.Begins.{is_begin_told}
+use Rattle.tp_encodable.specs.Begins.{is_begin_told}
 use Rattle.tp_stores.specs.Stores.{told_in, IsHeardOf}
 use Rattle.tp_stores.proofs.Hearing.{begun_by, last_begun, is_of, hears, or_first, or_over}
 

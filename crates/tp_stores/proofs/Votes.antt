@@ -4,7 +4,7 @@ use Rattle.tp_records.specs.declared.indication.Indication.{Indication}
 use Rattle.tp_records.specs.declared.request.Request.{Request}
 use Rattle.tp_bound.specs.Kept.{Heard, Told, Reopened}
 use Rattle.tp_bound.specs.Branches.{has_voted, FollowsVote, FollowVotes}
-use Rattle.tp_said_texts.specs.Begins.{is_begin_told}
+use Rattle.tp_encodable.specs.Begins.{is_begin_told}
 use Rattle.tp_stores.specs.Stores.{heard_of}
 use Rattle.tp_stores.specs.Served.{votes}
 use Rattle.tp_stores.proofs.Hearing.{is_commit, is_rollback}

@@ -7,7 +7,7 @@ use Rattle.tp_model.specs.World.{World, Node, Frame, number_of, find_node}
 use Rattle.tp_model.specs.Outcomes.{is_owed, has_failed}
 use Rattle.tp_model.specs.Happenings.{Happening}
 use Rattle.tp_model.specs.Promises.{HasTaken}
-use Rattle.tp_drained.specs.DrainedTrees.{IsSettled}
+use Rattle.tp_failure_free.specs.DrainedTrees.{IsSettled}
 use Rattle.tp_steps.proofs.lemmas.Options.{some_same}
 use Rattle.tp_steps.proofs.lemmas.Equality.{and_left, and_right}
 use Rattle.tp_trials.specs.DrainedTrials.{tree_of_four, world_after, takes_frame, taken_as, taken_at, takings, arrivals, each_node, is_each, is_unowing, is_unfailed, has_answered}

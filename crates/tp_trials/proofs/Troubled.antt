@@ -10,9 +10,9 @@ use Rattle.tp_model.specs.Outcomes.{is_now, is_owed}
 use Rattle.tp_model.specs.Happenings.{Happening}
 use Rattle.tp_model.specs.Promises.{IsOf}
 use Rattle.tp_histories.specs.Histories.{IsSentIn}
-use Rattle.tp_drained.specs.Drained.{has_failed_in}
-use Rattle.tp_drained.specs.DrainedWorlds.{HasCome, is_word_of, HasSaidIn}
-use Rattle.tp_drained.specs.DrainedTrees.{IsSettledTree}
+use Rattle.tp_failure_free.specs.Drained.{has_failed_in}
+use Rattle.tp_failure_free.specs.DrainedWorlds.{HasCome, is_word_of, HasSaidIn}
+use Rattle.tp_failure_free.specs.DrainedTrees.{IsSettledTree}
 use Rattle.tp_steps.proofs.lemmas.Options.{some_same}
 use Rattle.tp_steps.proofs.lemmas.Equality.{and_left, and_right}
 use Rattle.tp_trials.specs.DrainedTrials.{world_after, takes_frame, taken_as, taken_at, takings, arrivals}

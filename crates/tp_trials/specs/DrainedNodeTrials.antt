@@ -19,7 +19,7 @@ use Rattle.tp_steps.specs.Facts.{is_vote, is_order}
 use Rattle.tp_steps.specs.Passages.{is_commit_rec}
 use Rattle.tp_steps.specs.Heeding.{is_answer, has_answered, has_ended}
 use Rattle.tp_steps.specs.Outspoken.{is_ready_rec}
-use Rattle.tp_drained.specs.Drained.{branch_is, took_in, is_done, took_clear}
+use Rattle.tp_failure_free.specs.Drained.{branch_is, took_in, is_done, took_clear}
 use Rattle.tp_trials.specs.DrainedTrials.{tree_of_four}
 
 -- ---- questions to a node

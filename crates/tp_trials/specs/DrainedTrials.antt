@@ -21,8 +21,8 @@ use Rattle.tp_histories.specs.Traces.{sent_on, accepted_on}
 use Rattle.tp_steps.specs.Facts.{is_order}
 use Rattle.tp_histories.specs.Undone.{is_left_undone}
 use Rattle.tp_steps.specs.Heeding.{is_answer}
-use Rattle.tp_drained.specs.Drained.{took_in, is_done}
-use Rattle.tp_drained.specs.DrainedWorlds.{says}
+use Rattle.tp_failure_free.specs.Drained.{took_in, is_done}
+use Rattle.tp_failure_free.specs.DrainedWorlds.{says}
 use Rattle.tp_trials.specs.Trials.{node_after, first_mark}
 
 -- ---- the runs, oldest first

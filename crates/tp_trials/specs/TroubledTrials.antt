@@ -12,8 +12,8 @@ use Rattle.tp_model.specs.Outcomes.{is_now, is_member, decided, has_asked_or_lef
 use Rattle.tp_model.specs.Trees.{members_of, closing_line}
 use Rattle.tp_model.specs.World.{Node, Frame, addr_of}
 use Rattle.tp_model.specs.Happenings.{Happening, Declare, Does}
-use Rattle.tp_drained.specs.Drained.{has_failed_in}
-use Rattle.tp_drained.specs.DrainedWorlds.{is_word_of}
+use Rattle.tp_failure_free.specs.Drained.{has_failed_in}
+use Rattle.tp_failure_free.specs.DrainedWorlds.{is_word_of}
 use Rattle.tp_trials.specs.DrainedTrials.{world_after}
 
 -- ---- the runs, oldest first

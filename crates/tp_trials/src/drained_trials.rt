@@ -5,8 +5,8 @@ ghost use Rattle.std.specs.Prelude.{◌≡◌, ◌&&◌, ◌||◌, not, true, fa
 ghost use Rattle.tp_trials.specs.Trials.{deep, holds};
 ghost use Rattle.tp_steps.specs.Facts.{is_order};
 ghost use Rattle.tp_steps.specs.Heeding.{is_answer};
-ghost use Rattle.tp_drained.specs.Drained.{is_done};
-ghost use Rattle.tp_drained.specs.DrainedTrees.{IsSettled};
+ghost use Rattle.tp_failure_free.specs.Drained.{is_done};
+ghost use Rattle.tp_failure_free.specs.DrainedTrees.{IsSettled};
 ghost use Rattle.tp_names.specs.declared.outcome.Outcome.{Outcome};
 ghost use Rattle.tp_model.specs.declared.out_line.OutLine.{OutLine};
 ghost use Rattle.tp_trials.specs.DrainedTrials.{drained, waiting, ordering, finishing, outlasting, interrupted, tree_of_four, world_after, closing_of, is_each, is_emptied, is_inside, is_unowing, is_unfailed, has_answered, has_departed, has_completed, waits_in_active, says_to, took_answer, took_order, took_done, is_in_it, has_not_rolled, sent_by, taken_by};

@@ -12,7 +12,7 @@ ghost use Rattle.tp_model.specs.Consistency.{not_idle, peers_in};
 ghost use Rattle.tp_histories.specs.KnownTests.{agrees};
 ghost use Rattle.tp_model.specs.Questions.{declared_in, drawn_in, awaits_in, rests_in, deferral_in, link_in, holds_in, due_in};
 ghost use Rattle.tp_model.specs.Keys.{phase_in, superior_for, superior_since, branches_in, kept_in, known_in, decision_for, asked_in, told_prepare_in, owes_in, superior_rolled_in, own_in, counted_in, left_in, given_up_in, ended_in, prepared_in};
-ghost use Rattle.tp_known.specs.Named.{address_in, units_in};
+ghost use Rattle.tp_history_state.specs.Named.{address_in, units_in};
 ghost use Rattle.tp_trials.specs.KnownTrials.{middle, as_branch, as_root, as_damaged, fits, grows, linked, foretelling, forgetting, branch_key, root_key, deciding, beginning, asking, preparing, leaving, responding, speaking, polarized, shaking, answering, ordering, finishing, unknowing, own_key, above, one_child, foretold_key, deferring, rolling, committing, completing, mark_of, handing, entrusting, replying, calling, recalling, granting, readying, giving_up, leaving_below, own_child, ending_below, forking, fork_key, telling_first, losing, tells_now, below, moved, moving};
 
 /// A node is declared under its superior, and linked with it and with a subordinate: it has drawn a mark for each.

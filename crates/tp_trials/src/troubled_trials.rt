@@ -4,7 +4,7 @@
 ghost use Rattle.std.specs.Prelude.{◌≡◌, ◌&&◌, ◌||◌, not, true, false};
 ghost use Rattle.tp_names.specs.declared.outcome.Outcome.{Outcome};
 ghost use Rattle.tp_model.specs.declared.out_line.OutLine.{OutLine};
-ghost use Rattle.tp_drained.specs.DrainedTrees.{IsSettledTree};
+ghost use Rattle.tp_failure_free.specs.DrainedTrees.{IsSettledTree};
 ghost use Rattle.tp_trials.specs.Trials.{holds};
 ghost use Rattle.tp_trials.specs.DrainedTrials.{world_after, is_emptied, is_unfailed as never_failed};
 ghost use Rattle.tp_trials.specs.TroubledTrials.{troubled, broken, tree_of_three, is_inside, is_each_inside, is_unfailed, has_completed, closing_in};

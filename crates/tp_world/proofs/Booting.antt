@@ -23,14 +23,14 @@ use Rattle.tp_model.specs.NodeRun.{Opening, boot_of, origin_at}
 use Rattle.tp_model.specs.World.{World, Node, Site, number_of, site_of, find_node}
 use Rattle.tp_laws.specs.SiteLogs.{log_of, only_branches_vote, forced_by, next_opening, StartsNext, TellsItsNodes}
 use Rattle.tp_site.specs.Site.{IsForced, IsUnforced, IsStarted, IsUnstarted, told_records, opening_of, known_at}
-use Rattle.tp_world_parts.specs.declared.site_slot.SiteSlot.{SiteSlot}
-use Rattle.tp_world_parts.specs.Restarts.{IsReopened, IsStartable, stopped, turned_at, restarted_to}
-use Rattle.tp_world_parts.specs.Sites.{IsSite, IsLogged, known_by, unknown_at}
-use Rattle.tp_world_parts.specs.Slots.{standing}
-use Rattle.tp_world_parts.proofs.Found.{find_is}
-use Rattle.tp_world_parts.proofs.Known.{known_here, known_elsewhere}
-use Rattle.tp_world_parts.proofs.Logs.{recs_of, log_forced, log_over}
-use Rattle.tp_world_parts.proofs.Turned.{find_turned, turned_here, turned_there}
+use Rattle.tp_world_sites.specs.declared.site_slot.SiteSlot.{SiteSlot}
+use Rattle.tp_world_sites.specs.Restarts.{IsReopened, IsStartable, stopped, turned_at, restarted_to}
+use Rattle.tp_world_sites.specs.Sites.{IsSite, IsLogged, known_by, unknown_at}
+use Rattle.tp_world_sites.specs.Slots.{standing}
+use Rattle.tp_world_sites.proofs.Found.{find_is}
+use Rattle.tp_world_sites.proofs.Known.{known_here, known_elsewhere}
+use Rattle.tp_world_sites.proofs.Logs.{recs_of, log_forced, log_over}
+use Rattle.tp_world_sites.proofs.Turned.{find_turned, turned_here, turned_there}
 
 -- ---- records that a site may start on
 

@@ -11,18 +11,18 @@ use Rattle.tp_model.specs.World.{World, Node, Site, number_of, addr_of, addr_at,
 use Rattle.tp_model.specs.Happenings.{Declare, happens, still, with_node, new_node, new_site, declared_at, WorldTurn}
 use Rattle.tp_model.specs.Lines.{Fault, Over, if_named, node_limit, node_line, is_peer_node}
 use Rattle.tp_network.specs.Nodes.{IsDeclared, address_at}
-use Rattle.tp_world_parts.specs.Sites.{AreSites}
-use Rattle.tp_world_parts.specs.Placing.{IsDeclaredAt, boot_lines}
+use Rattle.tp_world_sites.specs.Sites.{AreSites}
+use Rattle.tp_world_sites.specs.Placing.{IsDeclaredAt, boot_lines}
 use Rattle.tp_world.specs.Declares.{superior_at, has_superior, HasCome}
-use Rattle.tp_world_parts.specs.Standing.{AreNodes, RestStands, is_free, is_placed}
+use Rattle.tp_world_sites.specs.Standing.{AreNodes, RestStands, is_free, is_placed}
 use Rattle.tp_world.specs.World.{Mirrors, Gives}
-use Rattle.tp_world_parts.specs.declared.fault.WorldFault.{WorldFault}
+use Rattle.tp_world_sites.specs.declared.fault.WorldFault.{WorldFault}
 use Rattle.tp_network.specs.declared.nodes.NodeSlot.{NodeSlot}
-use Rattle.tp_world_parts.specs.declared.site_slot.SiteSlot.{SiteSlot}
+use Rattle.tp_world_sites.specs.declared.site_slot.SiteSlot.{SiteSlot}
 use Rattle.tp_world.specs.declared.world.World.{World as CodeWorld}
 use Rattle.tp_world.proofs.Stood.{address_stood}
-use Rattle.tp_world_parts.proofs.Found.{find_self, node_there}
-use Rattle.tp_world_parts.proofs.Declared.{with_sites, rest_declared, node_behind, site_behind}
+use Rattle.tp_world_sites.proofs.Found.{find_self, node_there}
+use Rattle.tp_world_sites.proofs.Declared.{with_sites, rest_declared, node_behind, site_behind}
 use Rattle.tp_world.proofs.Limits.{gives_ok, gives_limit}
 
 -- ---- counts

@@ -22,24 +22,24 @@ use Rattle.tp_journal.specs.declared.faults.ForceFault.TheVariants as force
 use Rattle.tp_model.specs.History.{digest}
 use Rattle.tp_site.specs.Site.{IsStarted, IsUnstarted, known_at}
 use Rattle.tp_site.specs.State.{tree_in}
-use Rattle.tp_world_parts.specs.Slots.{standing}
+use Rattle.tp_world_sites.specs.Slots.{standing}
 use Rattle.tp_network.specs.declared.nodes.NodeSlot.{NodeSlot}
-use Rattle.tp_world_parts.specs.declared.fault.WorldFault.{WorldFault}
-use Rattle.tp_world_parts.specs.declared.site_slot.SiteSlot.{SiteSlot}
+use Rattle.tp_world_sites.specs.declared.fault.WorldFault.{WorldFault}
+use Rattle.tp_world_sites.specs.declared.site_slot.SiteSlot.{SiteSlot}
 use Rattle.tp_world.specs.declared.world.World.{World as CodeWorld}
-use Rattle.tp_world_parts.specs.declared.restart.LostEntry.{LostEntry}
-use Rattle.tp_world_parts.specs.Restarts.{stopped, as_it_is, turned_at, restarted_to, tree_before, IsStartable, StartsOn, IsStopped, IsRestartedTo}
-use Rattle.tp_world_parts.specs.Sites.{IsSite, AreSites, KnowNodes, find_site_slot, place_of_site, known_by, unknown_at}
-use Rattle.tp_world_parts.specs.Standing.{SitesStand, RestStands, AreNodes, are_apart, is_placed}
+use Rattle.tp_world_sites.specs.declared.restart.LostEntry.{LostEntry}
+use Rattle.tp_world_sites.specs.Restarts.{stopped, as_it_is, turned_at, restarted_to, tree_before, IsStartable, StartsOn, IsStopped, IsRestartedTo}
+use Rattle.tp_world_sites.specs.Sites.{IsSite, AreSites, KnowNodes, find_site_slot, place_of_site, known_by, unknown_at}
+use Rattle.tp_world_sites.specs.Standing.{SitesStand, RestStands, AreNodes, are_apart, is_placed}
 use Rattle.tp_world.specs.World.{Mirrors, Gives}
 use Rattle.tp_world.proofs.Booting.{startable, boot_over, site_next, knows_stopped}
-use Rattle.tp_world_parts.proofs.Found.{AreThere, placed_there, put_site_there}
-use Rattle.tp_world_parts.proofs.Known.{known_here, known_elsewhere}
+use Rattle.tp_world_sites.proofs.Found.{AreThere, placed_there, put_site_there}
+use Rattle.tp_world_sites.proofs.Known.{known_here, known_elsewhere}
 use Rattle.tp_world.proofs.Limits.{not_full, within_all, within_log, gives_ok, gives_limit}
-use Rattle.tp_world_parts.proofs.Newcomers.{some_there}
-use Rattle.tp_world_parts.proofs.SiteLists.{IsFound, both_found, are_put, full_put, site_name}
-use Rattle.tp_world_parts.proofs.SiteNames.{slot_found, slot_put}
-use Rattle.tp_world_parts.proofs.Turned.{turned_here, turned_there, apart_to, find_turned, none_turned, all_turned, all_restarted}
+use Rattle.tp_world_sites.proofs.Newcomers.{some_there}
+use Rattle.tp_world_sites.proofs.SiteLists.{IsFound, both_found, are_put, full_put, site_name}
+use Rattle.tp_world_sites.proofs.SiteNames.{slot_found, slot_put}
+use Rattle.tp_world_sites.proofs.Turned.{turned_here, turned_there, apart_to, find_turned, none_turned, all_turned, all_restarted}
 
 -- ---- the site at the place of the name
 

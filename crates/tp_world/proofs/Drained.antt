@@ -7,9 +7,9 @@ use Rattle.tp_model.specs.Happenings.{Mark, Told, happens, still, WorldTurn}
 use Rattle.tp_model.specs.Lines.{Fault, within_limits, shows, then_turn, then_result, drain_line}
 use Rattle.tp_network.specs.Frames.{is_between}
 use Rattle.tp_world.specs.Drains.{handed, Hands, IsDrainedSoFar}
-use Rattle.tp_world_parts.specs.Standing.{AreNodes, SitesStand}
+use Rattle.tp_world_sites.specs.Standing.{AreNodes, SitesStand}
 use Rattle.tp_world.specs.World.{Mirrors, Gives}
-use Rattle.tp_world_parts.specs.declared.fault.WorldFault.{WorldFault}
+use Rattle.tp_world_sites.specs.declared.fault.WorldFault.{WorldFault}
 use Rattle.tp_world.specs.declared.world.World.{World as CodeWorld}
 use Rattle.tp_world.proofs.Limits.{Given, given}
 

@@ -16,14 +16,14 @@ use Rattle.tp_site.specs.State.{tree_of}
 use Rattle.tp_network.specs.TreeSummary.{is_in}
 use Rattle.tp_world.specs.Settled.{tree_started, IsSettledEntry}
 use Rattle.tp_network.specs.Nodes.{AreChanged}
-use Rattle.tp_world_parts.specs.Standing.{SitesStand, RestStands, AreNodes, after_entry, are_apart, is_placed}
+use Rattle.tp_world_sites.specs.Standing.{SitesStand, RestStands, AreNodes, after_entry, are_apart, is_placed}
 use Rattle.tp_world.specs.World.{Mirrors}
-use Rattle.tp_world_parts.specs.declared.site_slot.Entry.{Entry}
+use Rattle.tp_world_sites.specs.declared.site_slot.Entry.{Entry}
 use Rattle.tp_world.specs.declared.world.World.{World as CodeWorld}
 use Rattle.tp_network.specs.declared.nodes.NodeSlot.{NodeSlot}
 use Rattle.tp_network.specs.declared.tree_summary.TreeChange.{TreeChange}
-use Rattle.tp_world_parts.proofs.Entered.{with_entry, change_by, nodes_entered}
-use Rattle.tp_world_parts.proofs.Found.{AreThere, apart_put, there_put, disk_there, each_placed, placed_put, placed_found}
+use Rattle.tp_world_sites.proofs.Entered.{with_entry, change_by, nodes_entered}
+use Rattle.tp_world_sites.proofs.Found.{AreThere, apart_put, there_put, disk_there, each_placed, placed_put, placed_found}
 
 -- ---- the tree that starts
 

@@ -11,18 +11,18 @@ use Rattle.tp_site.specs.State.{tree_in}
 use Rattle.tp_model.specs.declared.out_line.OutLine.{OutLine}
 use Rattle.tp_model.specs.Happenings.{WorldTurn}
 use Rattle.tp_model.specs.Lines.{Fault}
-use Rattle.tp_world_parts.specs.Restarts.{Reopens}
+use Rattle.tp_world_sites.specs.Restarts.{Reopens}
 use Rattle.tp_world.specs.Halts.{HasStoppedAs}
-use Rattle.tp_world_parts.specs.declared.fault.WorldFault.{WorldFault}
-use Rattle.tp_world_parts.specs.Sites.{IsSite, IsLogged, AreSites, KnowNodes, find_site_slot, place_of_site, known_by, unknown_at}
-use Rattle.tp_world_parts.specs.Standing.{SitesStand, RestStands}
+use Rattle.tp_world_sites.specs.declared.fault.WorldFault.{WorldFault}
+use Rattle.tp_world_sites.specs.Sites.{IsSite, IsLogged, AreSites, KnowNodes, find_site_slot, place_of_site, known_by, unknown_at}
+use Rattle.tp_world_sites.specs.Standing.{SitesStand, RestStands}
 use Rattle.tp_world.specs.World.{Mirrors, Gives}
-use Rattle.tp_world_parts.specs.declared.site_slot.SiteSlot.{SiteSlot}
+use Rattle.tp_world_sites.specs.declared.site_slot.SiteSlot.{SiteSlot}
 use Rattle.tp_world.specs.declared.world.World.{World as CodeWorld}
 use Rattle.tp_world.proofs.Booting.{slot_on, log_on}
 use Rattle.tp_world.proofs.Crashing.{IsThere, there, place_there, same_index}
-use Rattle.tp_world_parts.proofs.SiteLists.{are_put, put_self, site_name}
-use Rattle.tp_world_parts.proofs.SiteNames.{slot_found, slot_name, slot_put}
+use Rattle.tp_world_sites.proofs.SiteLists.{are_put, put_self, site_name}
+use Rattle.tp_world_sites.proofs.SiteNames.{slot_found, slot_name, slot_put}
 
 -- ---- the place of the name
 

@@ -8,8 +8,8 @@ use Rattle.tp_model.specs.Happenings.{WorldTurn}
 use Rattle.tp_model.specs.Lines.{Fault, Name, shows, image_line}
 use Rattle.tp_model.specs.World.{World, Site, find_site, is_site}
 use Rattle.tp_world.specs.World.{Mirrors, Gives}
-use Rattle.tp_world_parts.specs.declared.fault.WorldFault.{WorldFault}
-use Rattle.tp_world_parts.specs.declared.site_slot.SiteSlot.{SiteSlot}
+use Rattle.tp_world_sites.specs.declared.fault.WorldFault.{WorldFault}
+use Rattle.tp_world_sites.specs.declared.site_slot.SiteSlot.{SiteSlot}
 use Rattle.tp_world.specs.declared.world.World.{World as CodeWorld}
 use Rattle.tp_world.proofs.Crashing.{IsThere}
 use Rattle.tp_world.proofs.Limits.{gives_ok, gives_name}

@@ -9,11 +9,11 @@ use Rattle.tp_model.specs.Happenings.{WorldTurn}
 use Rattle.tp_model.specs.Lines.{Fault, Name, Over, is_full, within_limits}
 use Rattle.tp_names.specs.declared.identifiers.Aaid.{Aaid}
 use Rattle.tp_network.specs.declared.nodes.NodeSlot.{NodeSlot}
-use Rattle.tp_world_parts.specs.Sites.{AreSites}
-use Rattle.tp_world_parts.specs.Standing.{SitesStand, RestStands}
+use Rattle.tp_world_sites.specs.Sites.{AreSites}
+use Rattle.tp_world_sites.specs.Standing.{SitesStand, RestStands}
 use Rattle.tp_world.specs.World.{Mirrors, Gives}
-use Rattle.tp_world_parts.specs.declared.fault.WorldFault.{WorldFault}
-use Rattle.tp_world_parts.specs.declared.site_slot.SiteSlot.{SiteSlot}
+use Rattle.tp_world_sites.specs.declared.fault.WorldFault.{WorldFault}
+use Rattle.tp_world_sites.specs.declared.site_slot.SiteSlot.{SiteSlot}
 use Rattle.tp_world.specs.declared.world.World.{World as CodeWorld}
 
 pub not_full : (ss : List Site) (xs : List SiteSlot) → AreSites ss xs → is_full ss ≡ false

@@ -12,7 +12,7 @@ use Rattle.tp_model.specs.Transcript.{is_silent}
 use Rattle.tp_laws.specs.Expansion.{IsOfRun}
 use Rattle.tp_laws.proofs.LineRuns.{LeavesRun, run_line}
 use Rattle.tp_world.specs.World.{Gives, Plays, PlaysAfter, fault_of}
-use Rattle.tp_world_parts.specs.declared.fault.WorldFault.{WorldFault}
+use Rattle.tp_world_sites.specs.declared.fault.WorldFault.{WorldFault}
 use Rattle.tp_world.specs.declared.world.World.{World as CodeWorld}
 use Rattle.tp_world.proofs.Limits.{Given, given}
 use Rattle.tp_world.proofs.lemmas.Echoes.{echo_shown}

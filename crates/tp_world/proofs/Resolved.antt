@@ -6,7 +6,7 @@ use Rattle.tp_model.specs.World.{World, is_node, oldest_between}
 use Rattle.tp_model.specs.Happenings.{Does, Mark, happens, WorldTurn}
 use Rattle.tp_model.specs.Lines.{Fault, if_named, is_named, resolved, marked, marked_by, action_line, skip_line, shows, within_limits}
 use Rattle.tp_world.specs.World.{Mirrors, Gives}
-use Rattle.tp_world_parts.specs.declared.fault.WorldFault.{WorldFault}
+use Rattle.tp_world_sites.specs.declared.fault.WorldFault.{WorldFault}
 use Rattle.tp_world.specs.declared.world.World.{World as CodeWorld}
 use Rattle.tp_world.proofs.Limits.{gives_ok}
 

@@ -8,18 +8,18 @@ use Rattle.tp_model.specs.Lines.{within_limits}
 use Rattle.tp_model.specs.World.{World}
 use Rattle.tp_laws.specs.SiteLogs.{DisksTell, DisksStart}
 use Rattle.tp_site.specs.Site.{IsStarted}
-use Rattle.tp_world_parts.specs.Restarts.{tree_before, IsStartable, StartsOn, IsStopped, IsRestartedTo}
+use Rattle.tp_world_sites.specs.Restarts.{tree_before, IsStartable, StartsOn, IsStopped, IsRestartedTo}
 use Rattle.tp_world.specs.Halts.{HasStoppedAs}
-use Rattle.tp_world_parts.specs.Slots.{standing}
-use Rattle.tp_world_parts.specs.Sites.{place_of_site}
+use Rattle.tp_world_sites.specs.Slots.{standing}
+use Rattle.tp_world_sites.specs.Sites.{place_of_site}
 use Rattle.tp_world.specs.World.{Gives}
-use Rattle.tp_world_parts.specs.declared.fault.WorldFault.{WorldFault}
-use Rattle.tp_world_parts.specs.declared.restart.LostEntry.{LostEntry}
-use Rattle.tp_world_parts.specs.declared.site_slot.SiteSlot.{SiteSlot}
+use Rattle.tp_world_sites.specs.declared.fault.WorldFault.{WorldFault}
+use Rattle.tp_world_sites.specs.declared.restart.LostEntry.{LostEntry}
+use Rattle.tp_world_sites.specs.declared.site_slot.SiteSlot.{SiteSlot}
 use Rattle.tp_world.specs.declared.world.World.{World as CodeWorld}
 use Rattle.tp_world.proofs.Crashing.{IsThere, same_index, may_start, has_stopped, restarted_none, gives_fault}
 use Rattle.tp_world.proofs.Halted.{stood_there}
-use Rattle.tp_world_parts.proofs.SiteLists.{site_name}
+use Rattle.tp_world_sites.proofs.SiteLists.{site_name}
 
 module _ (w : World) (s : List ℕ) (v : CodeWorld) (place : ℕ) (lost : Option LostEntry) (journal : Kept MemDisk) (x slot : SiteSlot) (tells : DisksTell w) (starts : DisksStart w) (is : place ≡ place_of_site v.sites.items s) (stop : HasStoppedAs w v place lost journal x)
     (within : place < length v.sites.items) (here : slot ≡ slice_index_or v.sites.items place slot) where

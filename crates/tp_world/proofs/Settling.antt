@@ -10,17 +10,17 @@ use Rattle.tp_model.specs.Legal.{IsLegal}
 use Rattle.tp_model.specs.World.{World, Node, Frame, number_of, site_of, addr_of, find_node}
 use Rattle.tp_model.specs.Happenings.{entry_turn, logged, log_lines, log_shown, refused_lines, out_lines, frames_of, after_lines, world_with_entry, WorldTurn}
 use Rattle.tp_model.specs.Lines.{within_limits, is_full}
-use Rattle.tp_world_parts.specs.Shown.{forced_lines}
+use Rattle.tp_world_sites.specs.Shown.{forced_lines}
 use Rattle.tp_world.specs.Settled.{entry_lines, SettlesSome}
-use Rattle.tp_world_parts.specs.Standing.{SitesStand, AreNodes, IsEntry, after_entry}
+use Rattle.tp_world_sites.specs.Standing.{SitesStand, AreNodes, IsEntry, after_entry}
 use Rattle.tp_world.specs.World.{Mirrors, Gives}
-use Rattle.tp_world_parts.specs.Faults.{sending_fault}
-use Rattle.tp_world_parts.specs.declared.fault.WorldFault.{WorldFault}
+use Rattle.tp_world_sites.specs.Faults.{sending_fault}
+use Rattle.tp_world_sites.specs.declared.fault.WorldFault.{WorldFault}
 use Rattle.tp_network.specs.declared.fault.SendFault.{SendFault}
 use Rattle.tp_network.specs.declared.tree_summary.TreeChange.{TreeChange}
-use Rattle.tp_world_parts.specs.declared.site_slot.Entry.{Entry}
+use Rattle.tp_world_sites.specs.declared.site_slot.Entry.{Entry}
 use Rattle.tp_world.specs.declared.world.World.{World as CodeWorld}
-use Rattle.tp_world_parts.proofs.Entered.{change_by}
+use Rattle.tp_world_sites.proofs.Entered.{change_by}
 use Rattle.tp_world.proofs.EntryTurns.{IsBehind, turn_world, stands_behind, logged_frames}
 use Rattle.tp_world.proofs.Limits.{not_full, within_all, within_frames, within_log, gives_ok, gives_limit}
 

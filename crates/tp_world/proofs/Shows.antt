@@ -11,12 +11,12 @@ use Rattle.tp_model.specs.Lines.{Fault, Name, shows, state_line, show_line}
 use Rattle.tp_site.specs.State.{state_of}
 use Rattle.tp_node.specs.declared.state.NodeState.{NodeState}
 use Rattle.tp_network.specs.Nodes.{address_at}
-use Rattle.tp_world_parts.specs.Standing.{SitesStand, is_placed}
+use Rattle.tp_world_sites.specs.Standing.{SitesStand, is_placed}
 use Rattle.tp_world.specs.World.{Mirrors, Gives}
-use Rattle.tp_world_parts.specs.declared.fault.WorldFault.{WorldFault}
-use Rattle.tp_world_parts.specs.declared.site_slot.SiteSlot.{SiteSlot}
+use Rattle.tp_world_sites.specs.declared.fault.WorldFault.{WorldFault}
+use Rattle.tp_world_sites.specs.declared.site_slot.SiteSlot.{SiteSlot}
 use Rattle.tp_world.specs.declared.world.World.{World as CodeWorld}
-use Rattle.tp_world_parts.proofs.Found.{find_self, placed_found}
+use Rattle.tp_world_sites.proofs.Found.{find_self, placed_found}
 use Rattle.tp_world.proofs.Limits.{gives_ok, gives_name}
 use Rattle.tp_world.proofs.Stood.{address_stood}
 

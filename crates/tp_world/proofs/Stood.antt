@@ -3,7 +3,7 @@ use Rattle.std.proofs.Common.{◌≡◌, ◌==◌, ℕ, Bool, true, false, refl,
 use Rattle.std.specs.Option.{option_map, is_some}
 use Rattle.tp_model.specs.World.{World, Node, addr_of, number_of, find_node, find_frame, is_node}
 use Rattle.tp_network.specs.Nodes.{address_at}
-use Rattle.tp_world_parts.specs.Standing.{AreNodes}
+use Rattle.tp_world_sites.specs.Standing.{AreNodes}
 use Rattle.tp_world.specs.World.{Mirrors}
 use Rattle.tp_network.specs.declared.nodes.NodeSlot.{NodeSlot}
 use Rattle.tp_world.specs.declared.world.World.{World as CodeWorld}

@@ -26,30 +26,30 @@ use Rattle.tp_site.specs.Site.{known_at}
 use Rattle.tp_site.specs.State.{tree_in}
 use Rattle.tp_network.specs.Nodes.{AreChanged}
 use Rattle.tp_network.specs.declared.tree_summary.TreeChange.{TreeChange}
-use Rattle.tp_world_parts.specs.Left.{IsReadable, LeavesBy}
-use Rattle.tp_world_parts.specs.declared.left.Stop.{Stop}
+use Rattle.tp_world_sites.specs.Left.{IsReadable, LeavesBy}
+use Rattle.tp_world_sites.specs.declared.left.Stop.{Stop}
 use Rattle.tp_outside.specs.Story.{seen}
 use Rattle.tp_journal.specs.Log.{StandsFor}
-use Rattle.tp_world_parts.specs.Restarts.{tree_before, IsOpened, Opens}
+use Rattle.tp_world_sites.specs.Restarts.{tree_before, IsOpened, Opens}
 use Rattle.tp_world.specs.Halts.{HasStoppedAs}
 use Rattle.tp_world.specs.Settled.{tree_started, IsEntered}
-use Rattle.tp_world_parts.specs.Sites.{IsLogged, place_of_site}
+use Rattle.tp_world_sites.specs.Sites.{IsLogged, place_of_site}
 use Rattle.tp_world.specs.Stops.{HasPlayed}
-use Rattle.tp_world_parts.specs.Standing.{SitesStand, RestStands, after_entry}
+use Rattle.tp_world_sites.specs.Standing.{SitesStand, RestStands, after_entry}
 use Rattle.tp_world.specs.World.{Mirrors, Gives}
-use Rattle.tp_world_parts.specs.declared.fault.WorldFault.{WorldFault}
-use Rattle.tp_world_parts.specs.declared.site_slot.Entry.{Entry}
-use Rattle.tp_world_parts.specs.declared.site_slot.SiteSlot.{SiteSlot}
+use Rattle.tp_world_sites.specs.declared.fault.WorldFault.{WorldFault}
+use Rattle.tp_world_sites.specs.declared.site_slot.Entry.{Entry}
+use Rattle.tp_world_sites.specs.declared.site_slot.SiteSlot.{SiteSlot}
 use Rattle.tp_world.specs.declared.world.World.{World as CodeWorld}
 use Rattle.tp_world.proofs.Booting.{slot_on}
 use Rattle.tp_world.proofs.Crashing.{IsThere, place_there, same_index}
-use Rattle.tp_world_parts.proofs.Entered.{change_by}
+use Rattle.tp_world_sites.proofs.Entered.{change_by}
 use Rattle.tp_world.proofs.EntryTurns.{rest_entered}
-use Rattle.tp_world_parts.proofs.Found.{AreThere, each_placed, put_site_there}
+use Rattle.tp_world_sites.proofs.Found.{AreThere, each_placed, put_site_there}
 use Rattle.tp_world.proofs.Halted.{stood_there, set_again, slot_stands, stopped_as_it_is}
-use Rattle.tp_world_parts.proofs.Logs.{at_pushed}
-use Rattle.tp_world_parts.proofs.Remaining.{stands_for_records, IsKept, IsLost, kept_or_lost, place_is, texts_before, text_last, remains_readable}
-use Rattle.tp_world_parts.proofs.SiteLists.{site_name}
+use Rattle.tp_world_sites.proofs.Logs.{at_pushed}
+use Rattle.tp_world_sites.proofs.Remaining.{stands_for_records, IsKept, IsLost, kept_or_lost, place_is, texts_before, text_last, remains_readable}
+use Rattle.tp_world_sites.proofs.SiteLists.{site_name}
 use Rattle.tp_world.proofs.StopTells.{IsLike, put_tells, put_starts, find_put_site}
 
 -- ---- the journal on what is left

@@ -25,25 +25,25 @@ use Rattle.tp_laws.proofs.EveryLog.{disks_tell}
 use Rattle.tp_laws.proofs.LineRuns.{of_run}
 use Rattle.tp_laws.proofs.NextStart.{disks_start}
 use Rattle.tp_site.specs.Site.{known_at}
-use Rattle.tp_world_parts.specs.Sites.{known_by, unknown_at, place_of_site}
-use Rattle.tp_world_parts.specs.Slots.{SlotPlays, SlotAnswers, entry_told}
+use Rattle.tp_world_sites.specs.Sites.{known_by, unknown_at, place_of_site}
+use Rattle.tp_world_sites.specs.Slots.{SlotPlays, SlotAnswers, entry_told}
 use Rattle.tp_world.specs.Stops.{StopsIn, HasPlayed, forced_by, stop_by, stop_judged, stop_deed, stop_named}
-use Rattle.tp_world_parts.specs.Standing.{SitesStand, RestStands, PlaysAt, after_entry, entry_answered}
+use Rattle.tp_world_sites.specs.Standing.{SitesStand, RestStands, PlaysAt, after_entry, entry_answered}
 use Rattle.tp_world.specs.World.{Mirrors, Gives}
-use Rattle.tp_world_parts.specs.declared.fault.WorldFault.{WorldFault}
-use Rattle.tp_world_parts.specs.NodeAnswers.{Answer}
-use Rattle.tp_world_parts.specs.declared.site_slot.SiteSlot.{SiteSlot}
+use Rattle.tp_world_sites.specs.declared.fault.WorldFault.{WorldFault}
+use Rattle.tp_world_sites.specs.NodeAnswers.{Answer}
+use Rattle.tp_world_sites.specs.declared.site_slot.SiteSlot.{SiteSlot}
 use Rattle.tp_world.specs.declared.world.World.{World as CodeWorld}
 use Rattle.tp_world.proofs.Crashing.{IsThere, place_there}
-use Rattle.tp_world_parts.proofs.Entered.{legal_found}
-use Rattle.tp_world_parts.proofs.Found.{find_is, find_self, placed_found}
-use Rattle.tp_world_parts.proofs.Grown.{answered_legal}
+use Rattle.tp_world_sites.proofs.Entered.{legal_found}
+use Rattle.tp_world_sites.proofs.Found.{find_is, find_self, placed_found}
+use Rattle.tp_world_sites.proofs.Grown.{answered_legal}
 use Rattle.tp_world.proofs.Halted.{place_put}
-use Rattle.tp_world_parts.proofs.Known.{known_here}
+use Rattle.tp_world_sites.proofs.Known.{known_here}
 use Rattle.tp_world.proofs.Limits.{not_full}
-use Rattle.tp_world_parts.proofs.Placed.{plays_at}
+use Rattle.tp_world_sites.proofs.Placed.{plays_at}
 use Rattle.tp_world.proofs.Resolved.{gives_named}
-use Rattle.tp_world_parts.proofs.SiteLists.{site_name}
+use Rattle.tp_world_sites.proofs.SiteLists.{site_name}
 use Rattle.tp_network.specs.Nodes.{address_at}
 use Rattle.tp_world.proofs.Stood.{address_stood}
 use Rattle.tp_world.proofs.StopTells.{happens_on, event_tells, event_starts}

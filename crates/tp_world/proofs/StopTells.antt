@@ -19,7 +19,7 @@ use Rattle.tp_laws.specs.SiteLogs.{log_of, is_in_order, forced_by, one_to, next_
 use Rattle.tp_laws.proofs.EveryLog.{disks_tell}
 use Rattle.tp_laws.proofs.LineRuns.{of_run}
 use Rattle.tp_laws.proofs.NextStart.{disks_start}
-use Rattle.tp_world_parts.specs.Standing.{after_entry, entry_answered, number_answered}
+use Rattle.tp_world_sites.specs.Standing.{after_entry, entry_answered, number_answered}
 
 -- ---- one site
 

@@ -13,11 +13,11 @@ use Rattle.tp_model.specs.Lines.{Fault, Over, has_room, is_full, log_size, most_
 use Rattle.tp_model.specs.Parts.{Event, Entry as EntryValue}
 use Rattle.tp_model.specs.World.{World, Node, Site, find_site, put_site, site_of}
 use Rattle.tp_world.specs.Stops.{forced_in, stop_judged, stop_deed}
-use Rattle.tp_world_parts.specs.Standing.{after_entry, entry_answered}
+use Rattle.tp_world_sites.specs.Standing.{after_entry, entry_answered}
 use Rattle.tp_world.specs.World.{Gives}
-use Rattle.tp_world_parts.specs.declared.fault.WorldFault.{WorldFault}
+use Rattle.tp_world_sites.specs.declared.fault.WorldFault.{WorldFault}
 use Rattle.tp_world.specs.declared.world.World.{World as CodeWorld}
-use Rattle.tp_world_parts.proofs.SiteLists.{full_put, site_name}
+use Rattle.tp_world_sites.proofs.SiteLists.{full_put, site_name}
 
 -- ---- lines that are shown first
 

@@ -18,7 +18,7 @@ use Rattle.tp_laws.proofs.Knowing.{current_none}
 use Rattle.tp_laws.proofs.SeenRolled.{rolled_seen_law}
 use Rattle.tp_site.specs.State.{tree_of, tree_in}
 use Rattle.tp_network.specs.TreeSummary.{is_in, phase_in, is_commit_of, decision_in, is_alike, goes_on, has_rolled}
-use Rattle.tp_world_parts.specs.Summary.{change_of, summary, SummaryTells}
+use Rattle.tp_world_sites.specs.Summary.{change_of, summary, SummaryTells}
 
 -- ---- the tree that is current, as the code has it
 

@@ -11,16 +11,16 @@ use Rattle.tp_model.specs.Happenings.{Task, task_at, entry_turn, still, after_li
 use Rattle.tp_model.specs.Lines.{within_limits}
 use Rattle.tp_network.specs.Nodes.{address_at}
 use Rattle.tp_world.specs.Settled.{Settles}
-use Rattle.tp_world_parts.specs.Slots.{number_told, entry_told}
-use Rattle.tp_world_parts.specs.Standing.{SitesStand, PlaysAt, after_entry, entry_answered, number_answered}
+use Rattle.tp_world_sites.specs.Slots.{number_told, entry_told}
+use Rattle.tp_world_sites.specs.Standing.{SitesStand, PlaysAt, after_entry, entry_answered, number_answered}
 use Rattle.tp_world.specs.World.{Mirrors, Gives, task_turn}
 use Rattle.tp_network.specs.declared.fault.SendFault.{SendFault}
-use Rattle.tp_world_parts.specs.declared.fault.WorldFault.{WorldFault}
-use Rattle.tp_world_parts.specs.NodeAnswers.{Answer}
-use Rattle.tp_world_parts.specs.declared.site_slot.SiteSlot.{SiteSlot}
+use Rattle.tp_world_sites.specs.declared.fault.WorldFault.{WorldFault}
+use Rattle.tp_world_sites.specs.NodeAnswers.{Answer}
+use Rattle.tp_world_sites.specs.declared.site_slot.SiteSlot.{SiteSlot}
 use Rattle.tp_world.specs.declared.world.World.{World as CodeWorld}
-use Rattle.tp_world_parts.proofs.Entered.{legal_found}
-use Rattle.tp_world_parts.proofs.Grown.{answered_legal}
+use Rattle.tp_world_sites.proofs.Entered.{legal_found}
+use Rattle.tp_world_sites.proofs.Grown.{answered_legal}
 use Rattle.tp_world.proofs.Limits.{not_full, within_all, gives_ok}
 use Rattle.tp_world.proofs.Settling.{IsAnswered, told_by, answer_gives, log_gives}
 use Rattle.tp_world.proofs.Stood.{address_stood}

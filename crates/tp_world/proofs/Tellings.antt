@@ -8,11 +8,11 @@ use Rattle.tp_model.specs.Outcomes.{is_member, decision, decided, told}
 use Rattle.tp_model.specs.Trees.{members_of, stays, is_told, some_told, all_told, placed, deciders, closing_line, closing_from, closing}
 use Rattle.tp_model.specs.World.{World, Node, number_of}
 use Rattle.tp_network.specs.TreeSummary.{stays_in, told_by_summary}
-use Rattle.tp_world_parts.specs.Summary.{Tells}
+use Rattle.tp_world_sites.specs.Summary.{Tells}
 use Rattle.tp_network.specs.TreeSummaries.{summary_at}
 use Rattle.tp_network.specs.TreeOutcomes.{outcomes_at, with_node}
-use Rattle.tp_world_parts.specs.Told.{deciders_at, line_by, closing_at}
-use Rattle.tp_world_parts.specs.Standing.{IsNode, AreNodes}
+use Rattle.tp_world_sites.specs.Told.{deciders_at, line_by, closing_at}
+use Rattle.tp_world_sites.specs.Standing.{IsNode, AreNodes}
 use Rattle.tp_world.specs.World.{Stands}
 use Rattle.tp_network.specs.declared.tree_summary.TreeSummary.{TreeSummary}
 use Rattle.tp_network.specs.declared.nodes.NodeSlot.{NodeSlot}

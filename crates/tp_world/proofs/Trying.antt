@@ -12,14 +12,14 @@ use Rattle.tp_model.specs.Happenings as model
 use Rattle.tp_model.specs.declared.line.Action.{Action}
 use Rattle.tp_model.specs.Happenings.{Task, task_at, task_of}
 use Rattle.tp_network.specs.Nodes.{address_at}
-use Rattle.tp_world_parts.specs.Requests.{request_in}
-use Rattle.tp_world_parts.specs.Standing.{SitesStand, PlaysAt, are_apart, is_placed}
+use Rattle.tp_world_sites.specs.Requests.{request_in}
+use Rattle.tp_world_sites.specs.Standing.{SitesStand, PlaysAt, are_apart, is_placed}
 use Rattle.tp_world.specs.World.{Mirrors}
-use Rattle.tp_world_parts.specs.declared.fault.WorldFault.{WorldFault}
-use Rattle.tp_world_parts.specs.NodeAnswers.{Answer}
-use Rattle.tp_world_parts.specs.declared.site_slot.SiteSlot.{SiteSlot}
+use Rattle.tp_world_sites.specs.declared.fault.WorldFault.{WorldFault}
+use Rattle.tp_world_sites.specs.NodeAnswers.{Answer}
+use Rattle.tp_world_sites.specs.declared.site_slot.SiteSlot.{SiteSlot}
 use Rattle.tp_world.specs.declared.world.World.{World as CodeWorld}
-use Rattle.tp_world_parts.proofs.Found.{find_self, placed_found}
+use Rattle.tp_world_sites.proofs.Found.{find_self, placed_found}
 use Rattle.tp_world.proofs.Stood.{address_stood, frame_same}
 
 abbrev pub found_task : Option Node → Event → Option Task

@@ -6,7 +6,7 @@ use Rattle.tp_model.specs.World.{World, oldest_of_all}
 use Rattle.tp_model.specs.Happenings.{Does, Mark, happens, WorldTurn}
 use Rattle.tp_model.specs.Lines.{within_limits, then_result, drain_line}
 use Rattle.tp_world.specs.World.{Mirrors, Gives}
-use Rattle.tp_world_parts.specs.declared.fault.WorldFault.{WorldFault}
+use Rattle.tp_world_sites.specs.declared.fault.WorldFault.{WorldFault}
 use Rattle.tp_world.specs.declared.world.World.{World as CodeWorld}
 
 -- that frame is handed over

@@ -5,11 +5,11 @@ use Rattle.tp_journal.specs.Journals.{Kept}
 use Rattle.tp_model.specs.World.{World}
 use Rattle.tp_site.specs.Site.{known_at}
 use Rattle.tp_site.specs.State.{tree_in}
-use Rattle.tp_world_parts.specs.Standing.{SitesStand, RestStands}
-use Rattle.tp_world_parts.specs.declared.restart.LostEntry.{LostEntry}
-use Rattle.tp_world_parts.specs.declared.site_slot.SiteSlot.{SiteSlot}
+use Rattle.tp_world_sites.specs.Standing.{SitesStand, RestStands}
+use Rattle.tp_world_sites.specs.declared.restart.LostEntry.{LostEntry}
+use Rattle.tp_world_sites.specs.declared.site_slot.SiteSlot.{SiteSlot}
 use Rattle.tp_world.specs.declared.world.World.{World as CodeWorld}
-use Rattle.tp_world_parts.specs.Restarts.{tree_before}
+use Rattle.tp_world_sites.specs.Restarts.{tree_before}
 
 -- The site at this place has stopped as x, whose log is that journal. Of its nodes' trees it knows what x knows, but for the entry
 -- that is lost; all else is as it was.

@@ -10,10 +10,10 @@ use Rattle.tp_network.specs.TreeSummary.{is_in}
 use Rattle.tp_network.specs.Nodes.{AreChanged}
 use Rattle.tp_network.specs.declared.fault.SendFault.{SendFault}
 use Rattle.tp_network.specs.declared.tree_summary.TreeChange.{TreeChange}
-use Rattle.tp_world_parts.specs.Shown.{forced_lines}
-use Rattle.tp_world_parts.specs.Slots.{number_told, entry_told}
-use Rattle.tp_world_parts.specs.NodeAnswers.{Answer}
-use Rattle.tp_world_parts.specs.declared.site_slot.Entry.{Entry}
+use Rattle.tp_world_sites.specs.Shown.{forced_lines}
+use Rattle.tp_world_sites.specs.Slots.{number_told, entry_told}
+use Rattle.tp_world_sites.specs.NodeAnswers.{Answer}
+use Rattle.tp_world_sites.specs.declared.site_slot.Entry.{Entry}
 use Rattle.tp_world.specs.declared.world.World.{World as CodeWorld}
 
 -- the tree that a step starts

@@ -14,11 +14,11 @@ use Rattle.tp_model.specs.World.{World, Node, Site, find_node, find_site, number
 use Rattle.tp_laws.specs.Expansion.{IsOfRun}
 use Rattle.tp_laws.specs.SiteLogs.{DisksTell, DisksStart}
 use Rattle.tp_site.specs.Site.{known_at}
-use Rattle.tp_world_parts.specs.Sites.{place_of_site}
-use Rattle.tp_world_parts.specs.Standing.{SitesStand, RestStands, IsEntry, after_entry}
+use Rattle.tp_world_sites.specs.Sites.{place_of_site}
+use Rattle.tp_world_sites.specs.Standing.{SitesStand, RestStands, IsEntry, after_entry}
 use Rattle.tp_world.specs.World.{Mirrors}
-use Rattle.tp_world_parts.specs.declared.site_slot.Entry.{Entry}
-use Rattle.tp_world_parts.specs.declared.site_slot.SiteSlot.{SiteSlot}
+use Rattle.tp_world_sites.specs.declared.site_slot.Entry.{Entry}
+use Rattle.tp_world_sites.specs.declared.site_slot.SiteSlot.{SiteSlot}
 use Rattle.tp_world.specs.declared.world.World.{World as CodeWorld}
 
 -- ---- the event

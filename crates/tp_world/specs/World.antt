@@ -7,8 +7,8 @@ use Rattle.tp_model.specs.Lines.{Fault, Name, Over, line}
 use Rattle.tp_model.specs.declared.line.Line.{Line}
 use Rattle.tp_model.specs.Transcript.{echo, is_silent}
 use Rattle.tp_laws.specs.Expansion.{IsOfRun}
-use Rattle.tp_world_parts.specs.Standing.{SitesStand, RestStands}
-use Rattle.tp_world_parts.specs.declared.fault.WorldFault.{WorldFault}
+use Rattle.tp_world_sites.specs.Standing.{SitesStand, RestStands}
+use Rattle.tp_world_sites.specs.declared.fault.WorldFault.{WorldFault}
 use Rattle.tp_world.specs.declared.world.World.{World as CodeWorld}
 
 -- ---- the world

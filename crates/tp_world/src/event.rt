@@ -9,8 +9,8 @@ ghost use Rattle.tp_model.specs.Lines.{within_limits};
 ghost use Rattle.tp_model.specs.Parts.{Send};
 ghost use Rattle.tp_site.specs.NodeEvent.{event_of};
 ghost use Rattle.tp_site.specs.Outs.{out_of};
-ghost use Rattle.tp_world_parts.specs.NodeAnswers.{answer_told};
-ghost use Rattle.tp_world_parts.specs.Sites.{place_of_site};
+ghost use Rattle.tp_world_sites.specs.NodeAnswers.{answer_told};
+ghost use Rattle.tp_world_sites.specs.Sites.{place_of_site};
 ghost use Rattle.tp_world.specs.Settled.{tree_started, GivesOuts, IsEntered, SettlesEntry, Settles};
 ghost use Rattle.tp_world.specs.World.{Mirrors, Gives, task_turn};
 
@@ -21,7 +21,7 @@ use tp_names::{Aaid, Addr, NoMemory, SiteName};
 use tp_network::{SendFault, TreeChange, is_in};
 use tp_records::{PeerRecord, Request};
 use tp_site::{NodeEvent, Out, Outs};
-use tp_world_parts::{
+use tp_world_sites::{
     Answer, Entry, WorldFault, arrive_at, play_at, request_in, show_record, show_refusal,
     show_refused, show_sent, show_told, site_place,
 };

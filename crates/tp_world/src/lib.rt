@@ -8,5 +8,5 @@ mod restart;
 mod stop;
 mod world;
 
-pub use tp_world_parts::WorldFault;
+pub use tp_world_sites::WorldFault;
 pub use world::{World, is_silent};

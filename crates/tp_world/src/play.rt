@@ -17,7 +17,7 @@ use std::alloc::Global;
 use tp_model::{LineRequest, OutLine, OutLines, What};
 use tp_names::{Addr, NoMemory, Octets, SiteName};
 use tp_site::NodeEvent;
-use tp_world_parts::{WorldFault, declare_at, peer_of, show_boot, state_at, state_shown};
+use tp_world_sites::{WorldFault, declare_at, peer_of, show_boot, state_at, state_shown};
 
 /// The most sites and nodes.
 const MOST_SITES: usize = 16;

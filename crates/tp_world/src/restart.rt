@@ -4,8 +4,8 @@ ghost use Rattle.tp_model.specs.Happenings.{crash_turn};
 ghost use Rattle.tp_model.specs.Lines.{within_limits};
 ghost use Rattle.tp_model.specs.World.{World as WorldValue};
 ghost use Rattle.tp_laws.specs.SiteLogs.{DisksTell, DisksStart};
-ghost use Rattle.tp_world_parts.specs.Sites.{place_of_site};
-ghost use Rattle.tp_world_parts.specs.declared.site_slot.SiteSlot.{SiteSlot};
+ghost use Rattle.tp_world_sites.specs.Sites.{place_of_site};
+ghost use Rattle.tp_world_sites.specs.declared.site_slot.SiteSlot.{SiteSlot};
 ghost use Rattle.tp_world.specs.Halts.{HasStoppedAs};
 ghost use Rattle.tp_world.specs.World.{Mirrors, Gives};
 
@@ -14,7 +14,7 @@ use std::alloc::Global;
 use tp_journal::Journal;
 use tp_model::{LogWords, OutLine, OutLines};
 use tp_outside::MemDisk;
-use tp_world_parts::{LostEntry, SiteSlot, WorldFault, restart_nodes};
+use tp_world_sites::{LostEntry, SiteSlot, WorldFault, restart_nodes};
 
 impl World {
     /// The stopped site at that place starts again on that journal, and its nodes are declared again; only a lost entry is gone.

@@ -16,12 +16,12 @@ ghost use Rattle.tp_laws.specs.Expansion.{IsOfRun};
 ghost use Rattle.tp_laws.specs.SiteLogs.{DisksTell, DisksStart};
 ghost use Rattle.tp_site.specs.NodeEvent.{event_of};
 ghost use Rattle.tp_world.specs.Halts.{HasStoppedAs};
-ghost use Rattle.tp_world_parts.specs.Sites.{place_of_site};
-ghost use Rattle.tp_world_parts.specs.NodeAnswers.{answer_told};
-ghost use Rattle.tp_world_parts.specs.Slots.{entry_told};
+ghost use Rattle.tp_world_sites.specs.Sites.{place_of_site};
+ghost use Rattle.tp_world_sites.specs.NodeAnswers.{answer_told};
+ghost use Rattle.tp_world_sites.specs.Slots.{entry_told};
 ghost use Rattle.tp_world.specs.Stops.{HasPlayed, StopsIn, stop_deed, stop_named};
 ghost use Rattle.tp_world.specs.World.{Mirrors, Gives};
-ghost use Rattle.tp_world_parts.specs.declared.site_slot.SiteSlot.{SiteSlot};
+ghost use Rattle.tp_world_sites.specs.declared.site_slot.SiteSlot.{SiteSlot};
 
 use crate::world::World;
 use std::alloc::Global;
@@ -33,7 +33,7 @@ use tp_network::TreeChange;
 use tp_outside::MemDisk;
 use tp_records::{PeerRecord, Request};
 use tp_site::NodeEvent;
-use tp_world_parts::{Answer, Entry, LostEntry, Stop, WorldFault, left_by, opened, request_in};
+use tp_world_sites::{Answer, Entry, LostEntry, Stop, WorldFault, left_by, opened, request_in};
 
 impl World {
     // The site at that place has stopped, with that fate of a record, and starts again.

@@ -16,7 +16,7 @@ use tp_network::{Frames, Nodes};
 use tp_records::{PeerRecord, Request};
 use tp_schedule::write_line;
 use tp_site::NodeEvent;
-use tp_world_parts::{Entry, SiteSlot, Stop, WorldFault, closing_lines};
+use tp_world_sites::{Entry, SiteSlot, Stop, WorldFault, closing_lines};
 
 /// A world of nodes under a written schedule: its nodes, sites and frames, and its trees in the order of their starts. The entry of an
 /// event is told in the memory of the one before it.

@@ -15,7 +15,7 @@ use tp_logrec::LogRec;
 use tp_model::{Disposition, Step, TxEvent, TxOuts};
 use tp_names::{Addr, NoMemory, Outcome};
 use tp_node::{Halt, Node, NodeEvent, Spare};
-use tp_node_parts::Outs;
+use tp_node_state::Outs;
 
 impl Draft {
     /// A draft of that node, on which nothing has happened.

@@ -1,4 +1,4 @@
-use Rattle.tp_drained.proofs.DrainedCommits.{drained_commits, settled_closes}
+use Rattle.tp_failure_free.proofs.DrainedCommits.{drained_commits, settled_closes}
 use Rattle.tp_laws.proofs.a_drained_tree_has_committed.Goals as goal
 
 pub returns : goal.returns

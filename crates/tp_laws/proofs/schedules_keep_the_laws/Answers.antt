@@ -1,7 +1,7 @@
 use Rattle.tp_model.specs.Promises.{AllLegal, PrefixTaken, WhatUsersSee, OneHolder, ParentAndChild, OneOutcome, ReportFree, DrainedCommits, Reports, MixedIsNamed}
 use Rattle.tp_agreement.proofs.Agreed.{one_outcome}
 use Rattle.tp_runs.proofs.Breaks.{associations}
-use Rattle.tp_drained.proofs.DrainedCommits.{drained_commits}
+use Rattle.tp_failure_free.proofs.DrainedCommits.{drained_commits}
 use Rattle.tp_control.proofs.EndsRounds.{control_is_one}
 use Rattle.tp_members.proofs.LineRuns.{transcripts_leave_runs, of_run}
 use Rattle.tp_agreement.proofs.Mixed.{mixed_is_named}

@@ -1,11 +1,11 @@
 //! A Begin for which nothing can be wanting.
 ghost use Rattle.std.specs.Prelude.{◌≡◌, true, [], ◌∷◌, IfSome};
-ghost use Rattle.tp_node_parts.specs.Outs.{out_of};
+ghost use Rattle.tp_node_state.specs.Outs.{out_of};
 ghost use Rattle.tp_node.specs.Begins.{can_begin, begun_sent, has_place_below, with_digest};
 
 use crate::node::{Node, named_holder};
 use tp_names::{BranchId, Mark};
-use tp_node_parts::{Out, next_on, sent};
+use tp_node_state::{Out, next_on, sent};
 use tp_records::DialogueRecord;
 
 /// For so many branches a transaction has the memory from its start on.

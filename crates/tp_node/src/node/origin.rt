@@ -14,7 +14,7 @@ use tp_commit::Branch;
 use tp_logrec::{LogRec, LogVersion};
 use tp_names::same::is_key;
 use tp_names::{Addr, NoMemory, NodeKey, Outcome, SiteName};
-use tp_node_parts::{KeptTable, SharedArcs, kept};
+use tp_node_state::{KeptTable, SharedArcs, kept};
 
 impl Node {
     /// A node of which the log has no record.

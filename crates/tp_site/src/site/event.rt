@@ -13,7 +13,7 @@ ghost use Rattle.tp_site.specs.Nodes.{who_at, node_at};
 ghost use Rattle.tp_site.specs.Site.{known_at, rec_of};
 ghost use Rattle.tp_site.specs.Shaped.{HasTextIfAsked};
 ghost use Rattle.tp_node.specs.NodeEvent.{answer_at};
-ghost use Rattle.tp_said_texts.specs.Sizes.{BringsFew};
+ghost use Rattle.tp_encodable.specs.Sizes.{BringsFew};
 ghost use Rattle.tp_site.specs.Events.{Gives, PlaysAsked, IsAt, IsInOrder, StepsTo, opening_at, rec_asked, record_after};
 
 use crate::faults::SiteFault;
@@ -26,7 +26,7 @@ use tp_model::Refusal;
 use tp_names::same::is_name;
 use tp_names::{Addr, Octets};
 use tp_node::NodeEvent;
-use tp_node_parts::Outs;
+use tp_node_state::Outs;
 use tp_records::{Event, Outputs};
 use tp_texts::read_whole_peer;
 

@@ -2,7 +2,7 @@
 use Rattle.std.proofs.Common.{rules, ◌≡◌, ◌∙◌, ◌++◌, ◌∷◌, [], sym, ap, None, List}
 use Rattle.tp_model.specs.Parts.{Do, Out}
 use Rattle.tp_model.specs.Events.{refused_plainly}
-use Rattle.tp_node_parts.specs.Outs.{out_of}
+use Rattle.tp_node_state.specs.Outs.{out_of}
 use Rattle.tp_site.proofs.Begun.{planned}
 use Rattle.tp_site.proofs.in_place.plan_begin.Goals as goal
 

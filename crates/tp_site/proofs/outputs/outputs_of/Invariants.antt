@@ -2,8 +2,8 @@
 use Rattle.std.proofs.Common.{◌≡◌, length, map}
 use Rattle.std.specs.Vec.Iter.{into_iter_items, into_iter_len}
 use Rattle.tp_model.specs.Refusal.{number_in}
-use Rattle.tp_said_texts.specs.Sizes.{AreShort}
-use Rattle.tp_node_parts.specs.Outs.{out_of}
+use Rattle.tp_encodable.specs.Sizes.{AreShort}
+use Rattle.tp_node_state.specs.Outs.{out_of}
 use Rattle.tp_site.specs.Events.{given_out}
 use Rattle.tp_site.proofs.Giving.{IsGoing}
 use Rattle.tp_site.proofs.outputs.outputs_of.Given as goal

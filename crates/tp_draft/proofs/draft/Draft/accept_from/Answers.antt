@@ -3,7 +3,7 @@ use Rattle.tp_model.specs.Arcs.{find_arc}
 use Rattle.tp_model.specs.Node.{side_at}
 use Rattle.tp_tree.specs.Tie.{arc_of}
 use Rattle.tp_node.specs.Node.{Node}
-use Rattle.tp_node_parts.specs.Arcs.{fits_link}
+use Rattle.tp_node_state.specs.Arcs.{fits_link}
 use Rattle.tp_node.proofs.Arriving.{at_peer}
 use Rattle.tp_draft.proofs.Arriving.{accept_opening}
 use Rattle.tp_draft.proofs.draft.Draft.accept_from.Goals as goal

@@ -6,7 +6,7 @@ use Rattle.tp_model.specs.declared.transaction.TxOut.{TxOut}
 use Rattle.tp_model.specs.Parts.{Opening, Digest}
 use Rattle.tp_model.specs.Node.{perform, with_mark_drawn}
 use Rattle.tp_model.specs.Requests.{call}
-use Rattle.tp_node_parts.specs.Arcs.{new_arc}
+use Rattle.tp_node_state.specs.Arcs.{new_arc}
 use Rattle.tp_draft.specs.Draft.{Draft, Plays, later}
 use Rattle.tp_node.specs.Node.{Node}
 use Rattle.tp_draft.proofs.Drafts.{plays_from}

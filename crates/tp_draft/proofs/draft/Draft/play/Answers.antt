@@ -1,5 +1,5 @@
 use Rattle.tp_model.specs.Node.{perform}
-use Rattle.tp_node_parts.specs.declared.arc_step.ArcStep.{ArcStep}
+use Rattle.tp_node_state.specs.declared.arc_step.ArcStep.{ArcStep}
 use Rattle.tp_node.specs.Passage.{passage_of}
 use Rattle.tp_draft.specs.Passage.{playing, said_then}
 use Rattle.tp_draft.proofs.Drafts.{plays_same}

@@ -9,7 +9,7 @@ use Rattle.tp_model.specs.Dialogues.{named_holder}
 use Rattle.tp_model.specs.Node.{may_begin_on}
 use Rattle.tp_tree.specs.Tie.{arc_of}
 use Rattle.tp_node.specs.Node.{Node}
-use Rattle.tp_node_parts.specs.Arcs.{outs_next}
+use Rattle.tp_node_state.specs.Arcs.{outs_next}
 use Rattle.tp_node.specs.Begins.{begun_sent, new_branch}
 use Rattle.tp_node.proofs.Begun.{next_count, said_once, says}
 use Rattle.tp_node.proofs.node.Node.plan_begin.Goals as goal

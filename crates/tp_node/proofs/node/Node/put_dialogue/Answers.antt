@@ -1,5 +1,5 @@
 use Rattle.std.proofs.Common.{◌∙◌, sym, ap}
-use Rattle.tp_node_parts.specs.Arcs.{side_with}
+use Rattle.tp_node_state.specs.Arcs.{side_with}
 use Rattle.tp_node.specs.Node.{Node, superior_in}
 use Rattle.tp_node.proofs.node.Node.put_dialogue.Goals as goal
 

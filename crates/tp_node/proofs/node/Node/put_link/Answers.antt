@@ -1,6 +1,6 @@
 use Rattle.std.proofs.Common.{◌∙◌, sym, ap}
 use Rattle.tp_model.specs.declared.arc.Side.{Side}
-use Rattle.tp_node_parts.specs.Arcs.{side_with, fits_link}
+use Rattle.tp_node_state.specs.Arcs.{side_with, fits_link}
 use Rattle.tp_node.specs.Node.{Node, superior_in}
 use Rattle.tp_node.proofs.node.Node.put_link.Goals as goal
 

@@ -6,7 +6,7 @@ use Rattle.tp_model.specs.Dialogues.{fresh_dialogue}
 use Rattle.tp_dialogue.specs.Dialogue.{End}
 use Rattle.tp_tree.specs.Tie.{arc_of}
 use Rattle.tp_node.specs.Node.{Node, with_arcs}
-use Rattle.tp_node_parts.proofs.Places.{put_again}
+use Rattle.tp_node_state.proofs.Places.{put_again}
 use Rattle.tp_node.proofs.node.Node.renew.Goals as goal
 
 pub returns : goal.returns

@@ -1,7 +1,7 @@
 -- A record that is read from octets carries no more of a user's octets than fit.
 use Rattle.std.proofs.Common.{◌≡◌, Some}
 use Rattle.tp_records.specs.BodyReading.{peer_in}
-use Rattle.tp_said_texts.proofs.Read.{few_octets}
+use Rattle.tp_encodable.proofs.Read.{few_octets}
 use Rattle.tp_site.proofs.site.Site.arrive.Goals as goal
 
 pub give-requires-clause-few : goal.give-requires-clause-few

@@ -9,9 +9,9 @@ use Rattle.tp_network.specs.FrameRecord.{record_of}
 use Rattle.tp_network.specs.Frames.{frame_of}
 use Rattle.tp_world.specs.World.{Gives, task_turn}
 use Rattle.tp_world.proofs.Tasks.{played_gives, played_fault, missing_gives, none_gives}
-use Rattle.tp_world_parts.specs.Faults.{sending_fault}
-use Rattle.tp_world_parts.specs.NodeAnswers.{answer_told}
-use Rattle.tp_world_parts.proofs.Handed.{err_is}
+use Rattle.tp_world_sites.specs.Faults.{sending_fault}
+use Rattle.tp_world_sites.specs.NodeAnswers.{answer_told}
+use Rattle.tp_world_sites.proofs.Handed.{err_is}
 use Rattle.tp_world.proofs.Trying.{is_played, not_some, lent_back, lent_items, task_delivered}
 use Rattle.tp_world.proofs.world.World.deliver_with.Goals as goal
 

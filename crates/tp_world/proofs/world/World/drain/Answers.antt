@@ -3,7 +3,7 @@ use Rattle.tp_model.specs.Lines.{drain_line}
 use Rattle.tp_world.specs.Drains.{Hands}
 use Rattle.tp_world.specs.World.{Gives}
 use Rattle.tp_world.proofs.Drained.{drained_first, drained_next, drained_dry, drained_last, drained_fault}
-use Rattle.tp_world_parts.proofs.Handed.{err_is}
+use Rattle.tp_world_sites.proofs.Handed.{err_is}
 use Rattle.tp_world.proofs.world.World.drain.Goals as goal
 
 pub loop-turn-init : goal.loop-turn-init

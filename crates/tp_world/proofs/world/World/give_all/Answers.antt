@@ -3,7 +3,7 @@ use Rattle.std.proofs.lemmas.List.{drop_more}
 use Rattle.tp_site.specs.Outs.{out_of}
 use Rattle.tp_world.specs.Settled.{GivesOuts}
 use Rattle.tp_world.proofs.Outputs.{going_on, going_fault}
-use Rattle.tp_world_parts.proofs.Handed.{err_is}
+use Rattle.tp_world_sites.proofs.Handed.{err_is}
 use Rattle.tp_world.proofs.world.World.give_all.Goals as goal
 
 pub loop-out-preserved : goal.loop-out-preserved

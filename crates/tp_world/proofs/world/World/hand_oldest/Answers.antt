@@ -4,7 +4,7 @@ use Rattle.tp_world.specs.Drains.{Hands}
 use Rattle.tp_network.specs.Frames.{handed_over}
 use Rattle.tp_world.specs.declared.world.World.{World as CodeWorld}
 use Rattle.tp_world.proofs.Drained.{oldest_stood, stands_marked, stands_unmarked}
-use Rattle.tp_world_parts.proofs.Handed.{err_is}
+use Rattle.tp_world_sites.proofs.Handed.{err_is}
 use Rattle.tp_world.proofs.Trying.{not_some}
 use Rattle.tp_world.proofs.world.World.hand_oldest.Goals as goal
 

@@ -4,7 +4,7 @@ use Rattle.tp_model.specs.LineText.{line_text}
 use Rattle.tp_model.specs.Transcript.{is_silent}
 use Rattle.tp_world.specs.World.{Plays}
 use Rattle.tp_world.proofs.Lines.{echoed, faulty, speaks_of_none}
-use Rattle.tp_world_parts.proofs.Handed.{err_is}
+use Rattle.tp_world_sites.proofs.Handed.{err_is}
 use Rattle.tp_world.proofs.world.World.line.Goals as goal
 
 pub returns-then-is_silent : goal.returns-then-is_silent

@@ -4,13 +4,13 @@ use Rattle.tp_model.specs.declared.out_line.OutLine.{OutLine}
 use Rattle.tp_model.specs.Happenings.{crash_turn}
 use Rattle.tp_model.specs.Lines.{within_limits}
 use Rattle.tp_world.specs.World.{Gives}
-use Rattle.tp_world_parts.specs.declared.fault.WorldFault.{WorldFault}
+use Rattle.tp_world_sites.specs.declared.fault.WorldFault.{WorldFault}
 use Rattle.tp_world.specs.declared.world.World.{World as CodeWorld}
 use Rattle.tp_world.proofs.Crashing.{gives_crash}
 use Rattle.tp_world.proofs.Halted.{set_again}
 use Rattle.tp_world.proofs.Restarting.{at, may, unshut, fails, stopped, none, started_here}
-use Rattle.tp_world_parts.proofs.Stopping.{memory_only}
-use Rattle.tp_world_parts.proofs.Handed.{err_is}
+use Rattle.tp_world_sites.proofs.Stopping.{memory_only}
+use Rattle.tp_world_sites.proofs.Handed.{err_is}
 use Rattle.tp_world.proofs.world.World.restart.Goals as goal
 
 pub returns-in_err-next : goal.returns-in_err-next

@@ -1,8 +1,8 @@
 use Rattle.std.proofs.Common.{ap, sym, ◌∙◌, subst, Option}
 use Rattle.tp_world.specs.Stops.{HasPlayed}
-use Rattle.tp_world_parts.specs.Slots.{entry_told}
-use Rattle.tp_world_parts.specs.NodeAnswers.{answer_told}
-use Rattle.tp_world_parts.specs.declared.site_slot.Entry.{Entry}
+use Rattle.tp_world_sites.specs.Slots.{entry_told}
+use Rattle.tp_world_sites.specs.NodeAnswers.{answer_told}
+use Rattle.tp_world_sites.specs.declared.site_slot.Entry.{Entry}
 use Rattle.tp_world.proofs.StopCases.{entry_none, entry_forced, entry_plain}
 use Rattle.tp_world.proofs.world.World.stop_in_entry.Goals as goal
 

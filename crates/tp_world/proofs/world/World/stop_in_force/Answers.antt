@@ -10,13 +10,13 @@ use Rattle.tp_model.specs.Happenings.{stop_in_force, WorldTurn}
 use Rattle.tp_model.specs.Lines.{within_limits}
 use Rattle.tp_model.specs.World.{number_of}
 use Rattle.tp_world.specs.Settled.{IsEntered}
-use Rattle.tp_world_parts.specs.declared.site_slot.Entry.{Entry}
-use Rattle.tp_world_parts.specs.Sites.{place_of_site}
-use Rattle.tp_world_parts.specs.Standing.{after_entry}
+use Rattle.tp_world_sites.specs.declared.site_slot.Entry.{Entry}
+use Rattle.tp_world_sites.specs.Sites.{place_of_site}
+use Rattle.tp_world_sites.specs.Standing.{after_entry}
 use Rattle.tp_world.specs.World.{Gives}
 use Rattle.tp_world.proofs.Booting.{slot_on}
 use Rattle.tp_world.proofs.StopCases.{last_is, left_ok, opened_ok, left_fails, opens_fails, kept_here, lost_here, kept_stopped, kept_turn, lost_turn, lost_tells, lost_starts, lost_stopped}
-use Rattle.tp_world_parts.proofs.Handed.{err_is}
+use Rattle.tp_world_sites.proofs.Handed.{err_is}
 use Rattle.tp_world.proofs.Trying.{not_some}
 use Rattle.tp_world.proofs.world.World.stop_in_force.Goals as goal
 

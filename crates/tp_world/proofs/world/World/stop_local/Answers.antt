@@ -6,12 +6,12 @@ use Rattle.tp_model.specs.Happenings.{Task, task_at}
 use Rattle.tp_model.specs.Parts.{Event}
 use Rattle.tp_model.specs.World.{Node, number_of}
 use Rattle.tp_site.specs.NodeEvent.{event_of}
-use Rattle.tp_world_parts.specs.NodeAnswers.{answer_told}
-use Rattle.tp_world_parts.specs.Slots.{SlotPlays}
+use Rattle.tp_world_sites.specs.NodeAnswers.{answer_told}
+use Rattle.tp_world_sites.specs.Slots.{SlotPlays}
 use Rattle.tp_world.specs.Stops.{stop_deed}
-use Rattle.tp_world_parts.specs.Standing.{entry_answered}
+use Rattle.tp_world_sites.specs.Standing.{entry_answered}
 use Rattle.tp_world.specs.World.{Gives}
-use Rattle.tp_world_parts.specs.declared.site_slot.SiteSlot.{SiteSlot}
+use Rattle.tp_world_sites.specs.declared.site_slot.SiteSlot.{SiteSlot}
 use Rattle.tp_world.proofs.Crashing.{same_index}
 use Rattle.tp_world.proofs.StopDeeds.{IsNodeAt, node_at, has_played, disk_before, play_stops, play_fails, deed}
 use Rattle.tp_world.proofs.StopTurns.{fails_with}

@@ -5,7 +5,7 @@ use Rattle.tp_model.specs.Lines.{within_limits}
 use Rattle.tp_world.specs.World.{Gives}
 use Rattle.tp_world.proofs.Booting.{slot_on}
 use Rattle.tp_world.proofs.Halted.{reopens_fault, stopped_again}
-use Rattle.tp_world_parts.proofs.Handed.{err_is}
+use Rattle.tp_world_sites.proofs.Handed.{err_is}
 use Rattle.tp_world.proofs.world.World.stop_with_none.Goals as goal
 
 pub returns-in_err-journal : goal.returns-in_err-journal

@@ -1,5 +1,0 @@
-use Rattle.tp_alarms.proofs.Rollbacks.{rollbacks_apart}
-use Rattle.tp_alarms.proofs.a_rollback_tells_no_false_mix.Goals as goal
-
-pub returns : goal.returns
-returns c = rollbacks_apart

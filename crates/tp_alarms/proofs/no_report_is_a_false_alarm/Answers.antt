@@ -1,5 +1,0 @@
-use Rattle.tp_alarms.proofs.Alarms.{no_false_alarm}
-use Rattle.tp_alarms.proofs.no_report_is_a_false_alarm.Goals as goal
-
-pub returns : goal.returns
-returns c = no_false_alarm

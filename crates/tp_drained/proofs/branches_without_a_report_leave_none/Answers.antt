@@ -1,5 +1,0 @@
-use Rattle.tp_drained.proofs.ClearLaw.{clear_report}
-use Rattle.tp_drained.proofs.branches_without_a_report_leave_none.Goals as goal
-
-pub returns : goal.returns
-returns c = clear_report

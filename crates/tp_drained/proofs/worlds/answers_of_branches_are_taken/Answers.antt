@@ -1,5 +1,0 @@
-use Rattle.tp_drained.proofs.DrainedWords.{answers_are_taken}
-use Rattle.tp_drained.proofs.worlds.answers_of_branches_are_taken.Goals as goal
-
-pub returns : goal.returns
-returns c = answers_are_taken

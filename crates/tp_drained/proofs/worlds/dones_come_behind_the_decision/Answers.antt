@@ -1,5 +1,0 @@
-use Rattle.tp_drained.proofs.DrainedDones.{dones_run}
-use Rattle.tp_drained.proofs.worlds.dones_come_behind_the_decision.Goals as goal
-
-pub returns : goal.returns
-returns c = dones_run

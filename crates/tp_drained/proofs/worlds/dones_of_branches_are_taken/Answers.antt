@@ -1,5 +1,0 @@
-use Rattle.tp_drained.proofs.DrainedDones.{dones_are_taken}
-use Rattle.tp_drained.proofs.worlds.dones_of_branches_are_taken.Goals as goal
-
-pub returns : goal.returns
-returns c = dones_are_taken

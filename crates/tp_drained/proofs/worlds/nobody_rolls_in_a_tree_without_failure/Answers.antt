@@ -1,5 +1,0 @@
-use Rattle.tp_drained.proofs.NoRolling.{nobody_rolls}
-use Rattle.tp_drained.proofs.worlds.nobody_rolls_in_a_tree_without_failure.Goals as goal
-
-pub returns : goal.returns
-returns c = nobody_rolls

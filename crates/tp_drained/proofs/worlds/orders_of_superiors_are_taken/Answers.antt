@@ -1,5 +1,0 @@
-use Rattle.tp_drained.proofs.DrainedOrders.{orders_are_taken}
-use Rattle.tp_drained.proofs.worlds.orders_of_superiors_are_taken.Goals as goal
-
-pub returns : goal.returns
-returns c = orders_are_taken

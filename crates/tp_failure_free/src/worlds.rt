@@ -1,0 +1,55 @@
+//! Laws over every run of a drained tree without failure: what its nodes say reaches the others, and counts there.
+//!
+//! Each is the contract of a function with an empty body.
+ghost use Rattle.std.specs.Prelude.{List};
+ghost use Rattle.tp_model.specs.Happenings.{Happening, run};
+ghost use Rattle.tp_failure_free.specs.DrainedWorlds.{NobodyRolls, AllCame, AllTaken, WordsAreTaken, FramesDrain, NoFailureInTree, BranchesAreThere, AnswersAreTaken, OrdersAreTaken, DonesDecided, DonesAreTaken};
+
+/// In every run, nobody rolls in a tree in which nothing failed while it was current at its nodes.
+pub fn nobody_rolls_in_a_tree_without_failure()
+    ensures { (es : List Happening) → NobodyRolls (run es) }
+{}
+
+/// In every run, where no node of a tree ever failed and each of their frames was taken, what they sent to a node that is there came
+/// to it, and on each pair of marks the other end took just what was sent, record by record. Of a tree that is drained in its own
+/// time each word was taken at its place.
+pub fn what_a_drained_tree_says_is_taken()
+    ensures came { (es : List Happening) → AllCame (run es) }
+    ensures taken { (es : List Happening) → AllTaken (run es) }
+    ensures words { (es : List Happening) → WordsAreTaken (run es) }
+{}
+
+/// In every run, a tree whose nodes never failed, and whose frames were all taken, is drained and without failure in its own time.
+pub fn frames_that_are_taken_drain_a_tree()
+    ensures drained { (es : List Happening) → FramesDrain (run es) }
+    ensures unfailed { (es : List Happening) → NoFailureInTree (run es) }
+{}
+
+/// In every run, each branch that a node of a drained tree began is a node of the tree.
+pub fn branches_of_a_drained_tree_are_there()
+    ensures { (es : List Happening) → BranchesAreThere (run es) }
+{}
+
+/// In every run, in a drained tree a branch's answer is taken, by Ready or by leaving, while the tree is current
+/// at its superior, where it is current still.
+pub fn answers_of_branches_are_taken()
+    ensures { (es : List Happening) → AnswersAreTaken (run es) }
+{}
+
+/// In every run, in a drained tree a branch takes its superior's order to commit while the tree is current at
+/// the branch, where it is current still.
+pub fn orders_of_superiors_are_taken()
+    ensures { (es : List Happening) → OrdersAreTaken (run es) }
+{}
+
+/// In every run, a superior takes a branch's Done only where it has logged Commit itself by then, of the tree whose Begin the
+/// Done answers.
+pub fn dones_come_behind_the_decision()
+    ensures { (es : List Happening) → DonesDecided (run es).nodes }
+{}
+
+/// In every run, in a drained tree without failure a branch's Done is taken in committing, by a superior that has the branch,
+/// where the tree is current there still.
+pub fn dones_of_branches_are_taken()
+    ensures { (es : List Happening) → DonesAreTaken (run es) }
+{}

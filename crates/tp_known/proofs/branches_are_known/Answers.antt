@@ -1,5 +1,0 @@
-use Rattle.tp_runs.proofs.KnownBranches.{above_law, branches_law}
-use Rattle.tp_known.proofs.branches_are_known.Goals as goal
-
-pub returns : goal.returns
-returns c = record { superior = above_law; branches = branches_law }

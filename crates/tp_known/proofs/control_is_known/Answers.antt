@@ -1,5 +1,0 @@
-use Rattle.tp_known.proofs.control.Law.{control_law}
-use Rattle.tp_known.proofs.control_is_known.Goals as goal
-
-pub returns : goal.returns
-returns c = record { control = control_law }

@@ -1,5 +1,0 @@
-use Rattle.tp_known.proofs.links.Link.{links_law, peer_law}
-use Rattle.tp_known.proofs.links_are_known.Goals as goal
-
-pub returns : goal.returns
-returns c = record { link = links_law; peer = peer_law }

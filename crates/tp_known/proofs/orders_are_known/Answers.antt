@@ -1,7 +1,0 @@
-use Rattle.tp_known.proofs.orders.Owes.{owes_agrees_law}
-use Rattle.tp_known.proofs.orders.Own.{own_agrees_law}
-use Rattle.tp_known.proofs.orders.Rolled.{superior_rolled_agrees_law}
-use Rattle.tp_known.proofs.orders_are_known.Goals as goal
-
-pub returns : goal.returns
-returns c = record { owes = owes_agrees_law; rolled = superior_rolled_agrees_law; own = own_agrees_law }

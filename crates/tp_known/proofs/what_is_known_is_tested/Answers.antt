@@ -1,6 +1,0 @@
-use Rattle.tp_known.proofs.whole.Testing.{tests_from_known}
-use Rattle.tp_known.proofs.whole.Tested.{known_from_tests}
-use Rattle.tp_known.proofs.what_is_known_is_tested.Goals as goal
-
-pub returns : goal.returns
-returns c = record { known = tests_from_known; tested = known_from_tests }
