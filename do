@@ -29,9 +29,17 @@ def crates() -> dict[str, list[str]]:
     """Each crate, lowest first, and what it stands on."""
     lines = [it for it in (TOP / "crates.txt").read_text().splitlines() if it and not it.startswith("#")]
     named = {it.split(":")[0].split()[0]: it.split(":")[1].split() for it in lines}
-    inside = {name: [it for it in below if it in named] for name, below in named.items()}
-    # (a crate's line names all that is below it, so what is below has fewer names)
-    return dict(sorted(inside.items(), key=lambda it: len(it[1])))
+    lowest: dict[str, list[str]] = {}
+
+    def put(name: str) -> None:
+        if name in named and name not in lowest:
+            for below in named[name]:
+                put(below)
+            lowest[name] = [it for it in named[name] if it in named]
+
+    for name in named:
+        put(name)
+    return lowest
 
 
 def above(crate: str) -> list[str]:

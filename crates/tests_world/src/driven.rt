@@ -1,12 +1,12 @@
 //! A world in which a member drives a node.
 use std::alloc::Global;
-use tp_world_members::DrivenWorld;
 use tp_model::{OutLines, What};
 use tp_names::{NoMemory, Octets};
 use tp_records::{Indication, Member, Request, Willing};
 use tp_schedule::read_line;
 use tp_transcript::write_out;
 use tp_world::WorldFault;
+use tp_world_members::DrivenWorld;
 
 /// Writes the lines, each with its end.
 fn write(alloc: Global, lines: &OutLines, out: &mut Octets) -> Option<()> {

@@ -9,17 +9,20 @@ ghost use Rattle.tp_model.specs.Promises.{OneOutcome, ParentAndChild, MixedIsNam
 ghost use Rattle.tp_agreement.specs.Hanging.{ReadyDown, LeftDown, RollsUp};
 ghost use Rattle.tp_agreement.specs.Logs.{CommitsAlone, LogsAgree};
 
+// Promise 16.23: A ready branch rolls only with its superior
 /// In every run, a ready branch rolls only with its superior: where a node logged Ready for the identifier of its branch and
 /// rolled in the tree, its superior rolled in it too.
 pub fn a_ready_branch_rolls_with_its_superior()
     ensures { (es : List Happening) → RollsUp (run es) }
 {}
 
+// Promise 16.25: Where a node left a tree, each of its branches left
 /// In every run, leaving goes down: where a node left a tree, each of its branches did.
 pub fn leaving_goes_down()
     ensures { (es : List Happening) → LeftDown (run es) }
 {}
 
+// Promise 16.21: Where a node logged Ready or Commit, each of its branches logged Ready or left
 /// In every run, Ready goes down: where a node logged Ready or Commit of a tree, each of its branches logged Ready for its own
 /// identifier, or left.
 pub fn readiness_goes_down()

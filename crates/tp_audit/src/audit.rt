@@ -64,8 +64,10 @@ impl Audit {
     pub fn add(&mut self, alloc: Global, site: &SiteName, list: &[LogRec]) -> Result<(), AddFault>
         ensures ok { OnOk result ((logs : List SiteLog) → IsAuditOf logs self.old → IsAuditOf (with_log logs site.now list.now) self.new) }
         ensures ordered { OnOk result (all_follow list.now ≡ true) }
+        // Promise 9.1: A site whose log was added before is refused, and no other
         ensures twice { (logs : List SiteLog) → IsAuditOf logs self.old → (result ≡ Err TheFault.Twice) ↔ (is_added logs site.now ≡ true) }
         ensures disorder { (i : ℕ) → result ≡ Err (TheFault.Disorder i) → IsFirstOutOfOrder list.now (Some i) }
+        // Promise 9.3: After a refusal, and without memory, the logs are those from before
         ensures err { OnErr result ((logs : List SiteLog) → IsAuditOf logs self.old → IsAuditOf logs self.new) }
     {
         if self.contains(site) {
@@ -78,6 +80,7 @@ impl Audit {
         Ok(())
     }
 
+    // Promise 9.1, part 2
     /// The log of that site was added.
     pub fn contains(&self, site: &SiteName) -> bool
         ensures { (logs : List SiteLog) → IsAuditOf logs self.now → result ≡ is_added logs site.now }
@@ -94,6 +97,7 @@ impl Audit {
     ) -> Result<(), NoMemory>
         requires { all_follow list.now ≡ true }
         ensures ok { OnOk result ((logs : List SiteLog) → is_added logs site.now ≡ false → IsAuditOf logs self.old → IsAuditOf (with_log logs site.now list.now) self.new) }
+        // Promise 9.3, part 2
         ensures err { OnErr result ((logs : List SiteLog) → IsAuditOf logs self.old → IsAuditOf logs self.new) }
     {
         let keys = summaries(alloc, list)?;
@@ -119,6 +123,9 @@ impl Audit {
         Ok(())
     }
 
+    // Promise 9.4: The verdict is yes exactly where no two nodes of a tree ended apart that took no
+    //   decision of their own; else it names the first that clashes with a later one, and the first
+    //   later one with which it clashes
     /// Whether two nodes of one tree ended apart, but for such as took a decision of their own; and the first that clashes with
     /// a later one, and the first later one with which it clashes. All records count, those before an End too.
     pub fn verdict(&self) -> Verdict
@@ -127,6 +134,9 @@ impl Audit {
         self.ledger.verdict()
     }
 
+    // Promise 9.5: Each node whose last record of a key is a Ready or a Heuristic has a fate: what
+    //   the superior's node answers once its site has started on its log, or that this log was not
+    //   added
     /// What awaits each node that is in doubt, in the order of the logs and of the first records of the keys.
     pub fn fates(&self, alloc: Global) -> Result<Vec<Fate>, NoMemory>
         ensures { IfOk result (λ found. (logs : List SiteLog) → IsAuditOf logs self.now → found.items ≡ fates logs) }

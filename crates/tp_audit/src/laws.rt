@@ -8,6 +8,8 @@ ghost use Rattle.tp_audit.specs.Runs.{logs_of, AreOn};
 
 use tp_laws::{a_sites_log_tells_its_nodes, logs_agree};
 
+// Promise 9.6: **In every run the verdict over the logs of all sites is yes; so it is over the logs
+//   of some of them, over parts of the logs, and without the exception for decisions**
 /// In every run, with every fault that a world knows, no two nodes ended apart by the records that stand on the disks of the
 /// sites: the verdict is yes over the logs of all sites. It is yes too over the logs of some of them, over parts of the logs,
 /// as where one was copied before the other, and even without the exception for nodes that took a decision of their own.

@@ -9,6 +9,11 @@ ghost use Rattle.tp_batches.specs.Batches.{FirstOfABatch, WholeBatch};
 /// the workers share; so it is of each first part of the records, as a crash leaves it. Where all events were done it has them all, and the
 /// outputs for the events of each worker are those that one thread gives.
 pub fn a_batch_is_its_events_in_order()
+    // Promise 22.15 [tp_batches/specs/Batches.antt, clauses first whole]: Workers that share the
+    //   events of a site are one process: of the records that they forced, and of each first part
+    //   of them, there is a list of these events, those of each worker in their order, that leaves
+    //   just these records in just that order; where all events were done it has them all, and for
+    //   those of each worker the outputs that one thread gives
     ensures first { FirstOfABatch }
     ensures whole { WholeBatch }
 {}

@@ -13,11 +13,14 @@ ghost use Rattle.tp_bound.specs.Branches.{committed, all_written, OfBranches};
 
 use tp_journal::a_log_stands_for_one_list;
 
+// Promise 8.5: A text has one body, and what is read is one
 /// The texts of bodies: a text has one body, what is read is a text, and no text is a proper prefix of another.
 pub fn bodies_have_texts()
     ensures { IsGrammar body_grammar }
 {}
 
+// Promise 8.6: A write gives its key a value or takes it out, leaves every other key as it was, and
+//   keeps the keys in order
 /// A write gives its key a value, or takes it out, and leaves every other key as it was; the keys stay in order.
 pub fn a_write_changes_its_key_alone()
     ensures put { (c : Content) (k v : List ℕ) → value_of (put c k v) k ≡ Some v }
@@ -27,6 +30,7 @@ pub fn a_write_changes_its_key_alone()
     ensures ascends { (c : Content) (ws : List Write) → Ascends c → Ascends (made c ws) }
 {}
 
+// Promise 8.7: No file opens to two contents, nor to two stores
 /// No file opens to two contents, nor to two stores: a store that is opened again over the same bytes holds what it held.
 pub fn a_file_opens_to_one_content()
     ensures contents { (file : List ℕ) (a b : Content) → length file < 2 ^ 64 → OpensTo a file → OpensTo b file → a ≡ b }
@@ -36,12 +40,16 @@ pub fn a_file_opens_to_one_content()
     a_log_stands_for_one_list();
 }
 
+// Promise 8.12: After every list of indications without a fault the content is what was kept of
+//   them
 /// After every list of indications in which the disk did not fail, and between which the store may have been opened again,
 /// it holds what was kept of them: the writes of each transaction that was told commit after its vote for it, in order.
 pub fn the_content_is_what_was_kept()
     ensures { (first last : Speaker) (hs : List Heard) → first.store ≡ empty → first.current ≡ None → HearsAll first hs last → last.store.content ≡ kept hs }
 {}
 
+// Promise 8.13: Where each `commit` is told to a branch after its vote, the content has the writes
+//   of exactly the branches that were told `commit`, each once, in order
 /// Where a node starts no transaction of its own, its store holds the writes of exactly the branches that were told commit,
 /// each once, in the order in which they began: after every list of indications in which the disk did not fail, and between
 /// which the store may have been opened again.

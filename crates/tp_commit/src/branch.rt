@@ -85,6 +85,8 @@ fn found(
 }
 
 impl Branch {
+    // Promise 10.11: A transaction begins, and is found again in the log, as what is known of the
+    //   node says
     /// A transaction of that node begins: active, without a branch. The superior is given where the key
     /// has a branch; a root's transaction has none, whatever is given. Takes the room for its branches.
     pub fn begin(
@@ -136,6 +138,7 @@ impl Branch {
         self.own = Report::None;
     }
 
+    // Promise 10.11, part 2
     /// The transaction that a Ready or a Commit of the log tells, with the node's own decision: no arc of
     /// it is live, and where commit was ordered the user owes done. Takes the room for its branches. Where
     /// the key of a Commit has a branch, the record names the superior.
@@ -307,6 +310,7 @@ impl Branch {
         self.rows.see(place, live, ends);
     }
 
+    // Promise 10.10, part 2
     /// Adds a branch after the others, of which nothing is known but that its arc is live. It takes no memory where there are
     /// fewer than 256; without memory nothing changes.
     pub fn add(&mut self, child: &Child) -> Result<(), NoMemory>

@@ -23,6 +23,7 @@ ghost use Rattle.tp_commit.specs.Branch.{key_from, begun, found_by, tells_transa
 ghost use Rattle.tp_model.specs.AmongArcs.{are_distinct, IsAmongArcs, AreAlike, IsCut, IsPutOff, Reaches, IsTakenUp};
 ghost use Rattle.tp_commit.specs.Standing.{child_on};
 
+// Promise 10.11, part 3
 /// A `Branch` stands for what is known of the node's current transaction: it begins as one that has just
 /// begun, over a live arc on which no end is deferred; a record of the log is the transaction of the node
 /// that starts on it; and what is known, while the transaction does not roll, stands as it is. Both are in
@@ -37,12 +38,14 @@ pub fn a_branch_is_what_is_known()
         → IsAmongArcs [] (recovered k p (fresh_branches cs) o) }
 {}
 
+// Promise 10.11, part 4
 /// A Ready or a Commit that has a text in version 2 of the log tells a transaction, as `Branch::again` requires.
 pub fn a_text_tells_a_transaction()
     ensures ready { (n : ℕ) (k : NodeKey) (s : Addr) (cs : List Child) → HasText (record_grammar LogVersion.Two) (LogRec.Ready n k s cs) → tells_transaction (LogRec.Ready n k s cs) ≡ true }
     ensures commit { (n : ℕ) (k : NodeKey) (s : Option Addr) (cs : List Child) → HasText (record_grammar LogVersion.Two) (LogRec.Commit n k s cs) → tells_transaction (LogRec.Commit n k s cs) ≡ true }
 {}
 
+// Promise 10.12, part 2
 /// An event changes of a node's arcs, before it is put to the transaction, no more than its own arc: one that
 /// is lost is gone, a deferred end stands on a live arc, and a record that is counted, a dialogue that wakes or
 /// is cleared and a deferred grant leave the arcs as they look to the transaction.
@@ -57,6 +60,9 @@ pub fn an_event_changes_its_own_arc()
     ensures cleared { (arcs : List Arc) (p : ℕ) → AreAlike arcs (with_dialogue arcs p cleared) }
 {}
 
+// Promise 10.12 [tp_model/specs/AmongArcs.antt]: A transaction stands for what is known of its node
+//   after each event too, where it stood in order among the node's arcs before and the event came
+//   at arcs that it reaches
 /// A `Branch` stands after every event for what is known of the node by then, and before the node's next
 /// transaction starts. Where it stood for what was known before the event, it asks for what the event of the
 /// node asks for; where the transaction goes on, it stands for that transaction among the arcs after the

@@ -44,6 +44,8 @@ impl Branch {
         Ok(())
     }
 
+    // Promise 10.9: An event of a transaction asks for, refuses and leaves what the rules say, with
+    //   one record at most
     /// What an event asks for: at most one record of the log, and outputs in order; or the number by
     /// which it is refused. It changes nothing. What the dialogue of an arc refuses, and what a record
     /// from the wrong side comes to, is not looked at here.
@@ -72,6 +74,7 @@ impl Branch {
         Ok(step)
     }
 
+    // Promise 10.9, part 3
     /// Takes an event that is not refused: the step, in which nothing stands, becomes what it asks for, as `plan` says it, in
     /// the memory that it has, and the transaction stands as the event leaves it, as `apply` says it. Without memory nothing
     /// stands in the step, and the transaction is as the first of the rules that the event sets off leave it, or none of them.
@@ -153,6 +156,9 @@ impl Branch {
         self.rows.stand(rolls);
     }
 
+    // Promise 10.9, part 2
+    // Promise 10.10: Applying a plan and adding a branch take no memory while there are at most 256
+    //   branches; `Branch::turn`, which the programs call, may take memory
     /// Takes an event that is not refused: the transaction stands as the event leaves it, before the next
     /// one starts. It takes no memory but where there are more than 256 branches with those that the event begins; without memory
     /// nothing changes.

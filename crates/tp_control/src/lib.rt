@@ -21,6 +21,8 @@ ghost use Rattle.tp_histories.specs.Control.{answered};
 ghost use Rattle.tp_control.specs.Control.{TookBack, TookMore, returned};
 ghost use Rattle.tp_control.specs.Leading.{IsLeading, IsLed, is_in_round, takes};
 
+// Promise 16.12: A subordinate end that holds control of a polarized dialogue took more of it than
+//   it returned, in the round that it has not answered
 /// In every run, a subordinate end that holds control of a polarized dialogue took more of it than it returned, counted in
 /// the round that it has not answered: by a Grant, by a handshake that grants, or with the transaction that its superior
 /// began.
@@ -28,6 +30,8 @@ pub fn holders_below_took_more()
     ensures { (es : List Happening) → TookMore (run es) }
 {}
 
+// Promise 12.26: What a superior says to a branch on a live association stays in step with what it
+//   knows of it, where it takes the branch's words in their rounds
 /// What a superior says to a branch stays in step with what it knows of it: of every event of a transaction, and in every
 /// legal history of a node whose log was empty at first and that takes a subordinate's words in their rounds. A round is open
 /// until Prepare, Commit or Rollback closes it; the superior is a round ahead of the branch only where it told it Prepare or
@@ -39,6 +43,8 @@ pub fn branches_are_led()
         → IsLed p (digest o h) (sent_on x y p h) (answered (accepted_on x y p h)) (returned (answered (accepted_on x y p h)) (accepted_on x y p h)) }
 {}
 
+// Promise 16.13: A superior end that holds control of one took back what it gave in the round that
+//   is not answered, and gave nothing ahead of it
 /// In every run, a superior end that holds control of the polarized dialogue with a subordinate took back what it gave in the
 /// round that is not answered, and gave nothing ahead of it.
 pub fn holders_above_took_back()

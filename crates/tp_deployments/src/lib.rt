@@ -10,6 +10,10 @@ ghost use Rattle.tp_deployments.specs.RunOf.{ADeploymentIsARun, ADeploymentGoesO
 /// each with the history that the processes of its site gave it. Records may come twice, late, in any order or never, and what is
 /// refused may come from anywhere. As the deployment goes on, so does its run.
 pub fn a_deployment_is_a_run()
+    // Promise 22.2 [tp_deployments/specs/RunOf.antt]: **A deployment is a run**: there is a run of
+    //   one world whose nodes are those of the places, each with the history that the processes of
+    //   its site gave it, and in which each record that was said is a frame
     ensures is { ADeploymentIsARun }
+    // Promise 22.3 [tp_deployments/specs/RunOf.antt]: As a deployment goes on, so does its run
     ensures on { ADeploymentGoesOn }
 {}

@@ -197,6 +197,7 @@ impl Dialogue {
         is_past_work(s) || self.rests
     }
 
+    // Promise 10.3: A dialogue refuses exactly by its table
     /// Why this end refuses a request in a situation: the refusal with the least number of its row that applies. The
     /// length is that of the octets that are asked to be sent. It takes no memory.
     #[tactic(auto, unfolding(tp_model::specs::Dialogues::refused_on_arc))]
@@ -360,6 +361,7 @@ impl Dialogue {
         }
     }
 
+    // Promise 10.3, part 2
     /// The user asks. The primitive is a request that names a live arc, by its code from 4 to 16, with
     /// the length of its octets. It is refused by the least number of its row that applies in the
     /// situation, and then changes nothing.
@@ -432,6 +434,8 @@ impl Dialogue {
         }
     }
 
+    // Promise 10.4: A record on a dialogue acts, does nothing, or is out of phase exactly by the
+    //   table
     /// What comes of a record in a situation. A response on a resting arc does nothing.
     pub fn disposition(&self, s: &Situation, heard: Heard) -> Disposition
         ensures { sight_value result ≡ sight_at self.now s.now (heard_value heard) }
@@ -470,6 +474,7 @@ impl Dialogue {
         }
     }
 
+    // Promise 10.4, part 2
     /// A record arrives that the dialogue judges, by its code from 1 to 11 but the abort's, with the
     /// length of its octets. It acts, or nothing happens, or it is out of phase, which changes nothing. A
     /// response on a resting arc does nothing; any other record that is not out of phase ends the rest.

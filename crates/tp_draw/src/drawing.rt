@@ -40,6 +40,9 @@ pub struct Form {
     pub to: Option<u16>,
 }
 
+// Promise 21.1 [tp_draw/specs/Pictures.antt, tp_draw/specs/Page.antt]: The picture that is written
+//   is that of the definitions, to the byte, as SVG, as Mermaid text and as a page, of the lines
+//   and in the form that are asked for; what a browser makes of the page's script is not promised
 /// The picture of a transcript with these lines. Time goes with their number and text, and with that of the nodes for
 /// each of them; memory with the picture's text, and a megabyte for the ends of frames.
 pub fn draw(alloc: Global, lines: &[OutLine], form: Form) -> Result<Octets, NoMemory>

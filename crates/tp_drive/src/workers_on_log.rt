@@ -37,10 +37,31 @@ pub fn drive<R: Threads + Wait + Sync, D: Disk + Send, G: Gate + Sync>(
     gate: &G,
 ) -> Result<Driven<D>, (Journal<D>, DriveFault)>
     requires { (1 ≤ workers) × (workers ≤ 16) }
+    // Promise 6.1: The outputs, event by event, are those of one thread, for 1 to 16 workers
+    // Promise 6.2: After the boot the log's records are an interleaving of what each lane's own
+    //   events force, each with one receipt, in order and with its place; with them it is within
+    //   its limit
     ensures done { IfOk result (λ d. IsDriven (opening_on journal name) workers events.now d.outs d.receipts d.journal.wide d.journal.list) }
     ensures open { IfOk result (λ d. d.journal.shut ≡ None) }
+    // Promise 6.8 [clauses images images_left]: A crash since the boot left the boot and the first
+    //   of the records after it; one at the end leaves all of them, of a log that is shut the boot
+    //   and the first of the others
+    // Promise 6.9 [tp_drive/specs/Drives.antt, clauses images images_left open]: The records that
+    //   the site started on follow one another, the log stays of its version, and on Ok it is open
     ensures images { IfOk result (λ d. LeavesBooted (λ j. standing_of j (D.fault_count j.disk) (D.told j.disk) (D.fuse j.disk)) journal name (D.told d.journal.disk) d.journal) }
     ensures images_left { IfErr result (λ e. HasStarted e.1 → LeavesBooted (λ j. standing_of j (D.fault_count j.disk) (D.told j.disk) (D.fuse j.disk)) journal name (D.told e.0.disk) e.0) }
+    // Promise 6.4: A site that does not start ends the drive with its fault, as `Site::start` says
+    // Promise 6.5: `DiskFault` comes only of a log that is shut, whose disk failed in the call;
+    //   after the boot the journal's list has an interleaving of prefixes of the lanes' records
+    // Promise 6.6: `Full` comes only of a log that is not shut, in which one more record of the
+    //   greatest length would have had no room; the event is the least at which a lane stopped for
+    //   another cause than memory
+    // Promise 6.7: `LogDiffers` comes only with a receipt that a worker was given in the call, of a
+    //   record that its own events force, and with the record that the journal's list has at its
+    //   turn, which is another or has another place; the records before it are those of receipts
+    // Promise 6.10: Where memory runs out after the boot, the journal's list has after it an
+    //   interleaving of prefixes of the lanes' records; or a receipt differs, as 6.7 says, and
+    //   could not be shown
     ensures fails { IfErr result (λ e. Fails (λ j. standing_of j (D.fault_count j.disk) (D.told j.disk) (D.fuse j.disk)) journal name workers events.now e.0 e.1) }
     ensures text { IfErr result (λ e. HasBootText (λ j. standing_of j (D.fault_count j.disk) (D.told j.disk) (D.fuse j.disk)) journal name e.0 e.1) }
 {

@@ -35,9 +35,33 @@ pub fn run_drive<R: Threads + Wait + Sync, S: Source, K: Sink, D: Disk + Send, G
     gate: &G,
 ) -> (Status, D)
     ensures usage { result.0 ≡ TheStatus.Usage → is_drive (drive_said (map (λ w. w.now) words.now)) ≡ false }
+    // Promise 7.2: The whole input is read before the disk is touched: the first frame that is bad
+    //   or passes a limit ends the run exactly there, unless memory runs out before, and the disk
+    //   is as it was
+    // Promise 7.3: **On Ok what is written is, to the byte, what `node` writes of the same input on
+    //   the log that the file has**: the frames of the outputs of all events, with Over after those
+    //   of each
+    // Promise 7.4: On Ok the log has, after the boot, an interleaving of the records of each lane's
+    //   own events: of each node those that the log of `node` has, in their order. A crash then
+    //   leaves all of them
+    // Promise 7.5: A crash at any moment since the first sync left the log on which the site began,
+    //   with its boot or without, or one with the first of those records. So it is where memory
+    //   runs out: then the log has, after the boot, an interleaving of the first records of each
+    //   lane
+    // Promise 7.6 [clauses answers silent]: Where the sink fails a prefix was written and the log
+    //   is as on Ok; with every other status nothing is written
+    // Promise 7.7: Foreign comes exactly where the bytes are no log in order, and a limit at 0
+    //   exactly where no boot number is left or the boot has no room
+    // Promise 7.8: A limit of the log in a frame, a fault of the disk and a log that differs come
+    //   as `drive` says, with the log that is then left
     ensures answers { Answers (drive_said (map (λ w. w.now) words.now)) (record { told = D.told disk; story = D.told result.1; left = S.left source.old; unread = S.left source.new; written = K.written sink.old; output = K.written sink.new }) result.0 (source.new ≡ source.old) (sink.new ≡ sink.old) (result.1 ≡ disk) }
     ensures silent { IsSilent result.0 → sink.new ≡ sink.old }
+    // Promise 7.9: A fault comes only where that object's count rose in the call
     ensures ending { IsEnding (S.fault_count source.old) (S.fault_count source.new) (K.fault_count sink.old) (K.fault_count sink.new) (D.fault_count disk) (D.fault_count result.1) result.0 }
+    // Promise 7.10: Where no count rises, the words are a command line, the input is good to its
+    //   end and within the limits, and the log is in order, leaves a boot number, and has room for
+    //   all records and one more of the greatest length, a run ends with Ok; or memory runs out, or
+    //   a receipt differs from the log as 6.7 says
     ensures complete { Completes (drive_said (map (λ w. w.now) words.now)) (record { told = D.told disk; story = D.told result.1; left = S.left source.old; unread = S.left source.new; written = K.written sink.old; output = K.written sink.new }) (S.fault_count source.old) (S.fault_count source.new) (K.fault_count sink.old) (K.fault_count sink.new) (D.fault_count disk) (D.fault_count result.1) result.0 }
 {
     match read_drive(alloc, words) {

@@ -15,6 +15,8 @@ ghost use Rattle.tp_encodable.specs.Sizes.{AreShort};
 ghost use Rattle.tp_encodable.specs.Begins.{is_begin_told, takes_begin};
 ghost use Rattle.tp_encodable.specs.Standing.{StandsShaped, IsShapedMove};
 
+// Promise 12.37: Each record that a site forces is shaped as a text in its log asks, on every log
+//   whose records are so shaped, whatever the site is given
 /// Every record that a site forces is shaped as a text in its log asks: its key has a branch where it must, a superior is named
 /// exactly where the key has a branch, a damage has a report, and there are no more children than fit. So it is for every log, in
 /// order or not, whoever made it up, and every list of events that a site is given on it: where the records of the log are so
@@ -24,18 +26,23 @@ pub fn records_keep_their_shape()
     ensures texts { (o : Opening) (es : List Given) → HaveTexts o.version o.records → AreShaped o.version (log_after o es) }
 {}
 
+// Promise 12.39: No output carries more of a user's octets than fit in a record
 /// Whatever a site is given, and whatever came before, no output of its node carries more of a user's octets than fit in a record: a
 /// request with more is refused, and octets with more are no text of a record.
 pub fn outputs_carry_what_fits()
     ensures { (o : Opening) (g : Given) (n : ℕ) (e : Event) (h : List Entry) (y : Entry) → asked o g ≡ Is n e → (answer (origin_at o n) h e).entry ≡ Some y → AreShort y.outs }
 {}
 
+// Promise 12.40: A user is told that a transaction of its superior begins by the Begin that is
+//   taken, and by no other event
 /// Whatever is known of a node, its user is told that a transaction of its superior begins by the Begin that is taken, and by no
 /// other event.
 pub fn only_a_begin_is_told_as_one()
     ensures { (who : Who) (d : Digest) (e : Event) → refusal who d e ≡ None → out_tells is_begin_told (action who d e).outs ≡ true → takes_begin e ≡ true }
 {}
 
+// Promise 12.38: What keeps a node's records shaped so is true after a start on such records, and
+//   after every event
 /// What is kept true of a node, whatever its history: a start on records that are shaped as texts ask leaves it so, and every event
 /// that is not refused does, and asks for no record that is shaped otherwise.
 pub fn a_node_stays_shaped()

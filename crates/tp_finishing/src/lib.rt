@@ -13,17 +13,29 @@ ghost use Rattle.tp_finishing.specs.Again.{LostIsSaidAgain};
 ghost use Rattle.std.specs.Prelude.{List};
 ghost use Rattle.tp_model.specs.Happenings.{Happening, run};
 
+// Promise 23.1 [tp_finishing/specs/Doubt.antt]: A node in doubt whose superior is neither active
+//   nor in doubt commits or rolls back after one retry of its own and the delivery of two frames
+//   that were sent since, with all associations in place, as long as each that is live has a number
+//   left for a record to each branch and one more
 /// In every run, a node in doubt whose superior is neither active nor in doubt hears how its tree ended by one retry and the
 /// delivery of two frames that were sent since, with all its associations in place: it commits, or it rolls back.
 pub fn doubt_ends()
     ensures { DoubtEnds }
 {}
 
+// Promise 23.2 [tp_finishing/specs/Quiet.antt]: One stop of each site leaves no association
+//   anywhere, and no node that is active or rolls back
 /// From every run, one stop of each site leads to a world in which no node has an association, and none is active or rolls.
 pub fn stops_quieten()
     ensures { StopsQuieten }
 {}
 
+// Promise 23.5 [tp_finishing/specs/Cuts.antt]: Cuts do what stops do: the loss of each association,
+//   users that say that they have finished, and users of active transactions that ask for rollback;
+//   one for each association, and one for each transaction that is active or rolls back. Asked of
+//   the run: an active transaction has a number left on each live association for a record to each
+//   branch and one more, and one that rolls back, whose user has finished, waits for a peer that is
+//   still linked
 /// From every run, where each active transaction has numbers left for its rollback and each rollback waits for a peer or for its user,
 /// so many cuts lead there too: the loss of each association, users that say that they have finished, and users of active
 /// transactions that ask for rollback.
@@ -31,12 +43,21 @@ pub fn cuts_quieten()
     ensures { CutsQuieten }
 {}
 
+// Promise 23.6 [tp_finishing/specs/Finishing.antt]: Where a run is over, however it came to that,
+//   no tree is open: its closing line says that all nodes that stay agree, or that it is mixed and
+//   who decided
 /// In every run, where no node has a transaction, neither a current one nor one that it keeps, no tree is open: all its nodes that
 /// stay were told one outcome, or it is mixed and its closing line names who decided.
 pub fn what_is_over_is_closed()
     ensures { OverIsClosed }
 {}
 
+// Promise 23.3 [tp_finishing/specs/Finishing.antt]: **No run is stuck**: from every world of that
+//   kind, recovery alone ends every transaction, and no tree is open then. A transaction in doubt
+//   takes seven lines at most and three for each branch; one that commits three for each branch
+//   that is not done, one if its user has not finished, and three more, or one at a root; one that
+//   is kept three for each branch that it owes and three more, or one where it is a root's or a
+//   rollback
 /// From every run after which no node has an association and none is active or rolls, recovery alone ends every transaction:
 /// by retries, deliveries of frames that were sent since, users that say that they have finished, and purges. A transaction in doubt
 /// takes seven lines at most and three for each branch; one that commits takes three for each branch that is not done, one if its user
@@ -46,12 +67,20 @@ pub fn no_run_is_stuck()
     ensures { NoRunIsStuck }
 {}
 
+// Promise 23.4 [tp_finishing/specs/Finishing.antt]: **So every run may be ended**: by one stop of
+//   each site at most, and then by so many lines of recovery, counted in the world that the stops
+//   leave
 /// So from every run, whatever happened in it, one stop of each site and then so many lines of recovery end every transaction, and
 /// no tree is open then.
 pub fn every_run_ends()
     ensures { EveryRunEnds }
 {}
 
+// Promise 23.7 [tp_finishing/specs/Again.antt]: **What a stop may have swallowed is said again**: a
+//   node whose site stops and starts, that is declared and retries, tells its user to commit and
+//   orders its branches to, where it commits; asks its superior, where it is in doubt; of each
+//   commitment that it keeps it orders the branches that are owed, and reports to its superior.
+//   What was active or rolled back is over
 /// In every run, what a stop may have swallowed is said again: a node whose site stops and starts, which is declared and retries, tells
 /// its user to commit and orders its branches to, where it commits; asks its superior, where it is in doubt; and of each commitment that it
 /// keeps orders the branches that it owes, and reports to its superior. What was active or rolled back is over.

@@ -49,6 +49,7 @@ impl Frames {
         }
     }
 
+    // Promise 2.12, part 3
     /// Takes the next piece of the stream, of any length, where all bytes fed are fewer than 2^64.
     /// Without memory nothing changes.
     pub fn feed(&mut self, _alloc: Global, piece: &[u8]) -> Result<(), NoMemory>
@@ -61,6 +62,7 @@ impl Frames {
         Ok(())
     }
 
+    // Promise 2.12, part 2
     /// The next body, which is handed out by this; or `None` where neither a whole frame nor a
     /// bad length comes next. A bad length is answered from then on, and changes nothing.
     pub fn next(&mut self) -> Result<Option<&[u8]>, BadFrame>
@@ -83,6 +85,7 @@ impl Frames {
         }
     }
 
+    // Promise 2.40: Whether that is so is told
     /// Whether the next call of `next` hands out a body, or answers a bad length: no more bytes
     /// are needed for it.
     pub fn is_ready(&self) -> bool

@@ -3,6 +3,8 @@ ghost use Rattle.std.specs.Prelude.{◌≡◌, ◌≢◌, ℕ, List, [], ◌++�
 ghost use Rattle.tp_framing.specs.Frames.{Part, Whole, Bad, next_in, Stream, stream, frame_bytes, IsBody, AreFrames, BeginsBad, Nothing, Bad_length, with_bodies, ends_with};
 ghost use Rattle.tp_framing.specs.Fed.{Fed, fresh, Step, fed_in, bodies_in, Leads, IsSplit, HasMore, rest_of};
 
+// Promise 2.12: The bodies of a stream of frames are handed out whatever the pieces in which it
+//   comes, and a bad length is told exactly where it comes
 /// Whatever the pieces and whenever bodies are asked for: what was fed is the frames of the
 /// bodies that were handed out, and then what is pending.
 pub fn any_pieces()

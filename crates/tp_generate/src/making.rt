@@ -14,6 +14,8 @@ use tp_model::{Line, LineRequest};
 use tp_names::{NoMemory, Outcome};
 use tp_schedule::write_line;
 
+// Promise 2.35: The schedule of a number is made as the definitions make it, to the byte, and its
+//   lines are counted
 /// The schedule of this number, for a tree of `nodes` nodes, 256 at most, that ends a transaction in each of `rounds`
 /// rounds.
 pub fn schedule_of(alloc: Global, number: u64, nodes: u16, rounds: u8) -> Result<Schedule, NoMemory>

@@ -34,6 +34,7 @@ ghost use Rattle.tp_steps.specs.Undone.{IsPromptTurn};
 ghost use Rattle.tp_histories.specs.Undone.{is_left_undone};
 ghost use Rattle.tp_histories.specs.Traces.{IsTraced, sent_on, accepted_on};
 
+// Promise 12.8: A live link counts what was sent and taken, and an undrawn mark is in no record
 /// In every legal history a live link counts what was sent and taken with its pair of marks, and a mark that is not yet
 /// drawn is in no record.
 pub fn traces()
@@ -42,6 +43,7 @@ pub fn traces()
     ensures marks { (o : Origin) (up : Option Addr) (h : List Entry) → IsGrown o up h → IsTraced o.who up (digest o h) h }
 {}
 
+// Promise 12.24: Records on an association belong to the transaction of the last Begin
 /// In every legal history of a node whose log was empty at first, the records on each pair of marks are paired with the
 /// transactions that they belong to: as many Begins were taken as have ended, but for the current one, which stands at its
 /// place; a branch's key is that of the last Begin; Ready was logged for the Begin that it answers, Commit for the tree of
@@ -50,12 +52,16 @@ pub fn records_are_paired()
     ensures { (o : Origin) (up : Option Addr) (h : List Entry) → o.start.records ≡ [] → IsGrown o up h → IsPaired o up h }
 {}
 
+// Promise 12.29: A tree's phase is what was logged and what rolled, never both
 /// In every legal history that enters each tree once, the phase of a tree is what its records and its rolling say, and
 /// nothing is both committed and rolled back.
 pub fn fates_are_one()
     ensures { (o : Origin) (up : Option Addr) (h : List Entry) (t : Aaid) → o.start.records ≡ [] → IsGrown o up h → IsOnce o h → IsFated o h t }
 {}
 
+// Promise 12.28: What a subordinate says to its superior stands in order: between two ends at most
+//   one Ready and no Left after it, Done of a tree that committed, Rollback and RolledBack of one
+//   that rolled, Left of one that was left
 /// What a subordinate says to its superior stands in order, of every event and in every legal history that enters each tree
 /// once: between two ends at most one Ready and no Left after it; Done ends a tree that committed, with no report one that
 /// was complete with none, and with a report one whose damage is logged; RolledBack one that rolled, Left one that was left;
@@ -72,11 +78,20 @@ pub fn words_upward()
 /// asked to commit is active only while a branch is neither counted nor left, and one whose user has given done is
 /// committing only while a branch is neither done, left nor given up.
 pub fn nothing_is_left_undone()
+    // Promise 12.3: No event leaves a vote, an order, a completed commitment or a completed
+    //   rollback undone that was not left undone before
     ensures turn { (e : TxEvent) (s : Transaction) → IsPut e s → IsPromptTurn s (transacted e s) }
+    // Promise 12.10: A transaction whose user asked for commitment is active only while a branch is
+    //   neither counted nor left, and one whose user has given done is committing only while a
+    //   branch is neither done, left nor given up
     ensures history { (o : Origin) (up : Option Addr) (h : List Entry) (c : Current) → IsGrown o up h → (digest o h).current ≡ Some c → is_left_undone c ≡ false }
+    // Promise 16.10: Nothing is left undone at a node: no vote, no order and no completed
+    //   commitment
     ensures run { (es : List Happening) (x : Node) (c : Current) → IsIn (run es) x → (digest x.origin x.history).current ≡ Some c → is_left_undone c ≡ false }
 {}
 
+// Promise 12.25: A subordinate answers, on a live association, no more rounds than it heard its
+//   superior close by Prepare, Commit or Rollback
 /// A subordinate answers what it was asked for: in every legal history of a node whose log was empty at first, the rounds
 /// that it answered on a live association to its superior, by Ready or by its last word in a transaction, are no more than
 /// those that it heard the superior close by Prepare, Commit or Rollback; and so does every event of a transaction.
@@ -86,6 +101,8 @@ pub fn answers_are_asked_for()
         → answered (sent_on x y p h) ≤ closed (accepted_on x y p h) }
 {}
 
+// Promise 12.9: No two arcs lead to one node; the mark that stands for the node in a pair was drawn
+//   by it, and one that it drew for a subordinate is used with no other
 /// In every legal history no two arcs lead to one node and none is idle; the mark that stands for the node in a pair is one
 /// that it drew, as in each pair on which it sent; and a mark that it drew for one subordinate is offered to no other, nor
 /// was anything sent to another with it.
@@ -94,6 +111,8 @@ pub fn ends_are_told_apart()
     ensures marks { (o : Origin) (up : Option Addr) (h : List Entry) → IsGrown o up h → IsAlone o.who up (digest o h) h }
 {}
 
+// Promise 12.11: A start over the log's records finds the kept transactions, the boot number and
+//   the version that the crash leaves
 /// In every legal history, a start on the records of the log knows of the same kept transactions, each as it was but for
 /// the Forgets that were noted, as the crash leaves; its boot number is the next one and the log's version stays.
 pub fn kept_is_in_the_log()

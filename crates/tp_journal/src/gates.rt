@@ -80,10 +80,12 @@ impl<D: Disk> Gates<D> {
         tape::overwrite(disk, &EMPTY)
     }
 
+    // Promise 3.11, part 2
     /// Reads the bodies of a log, and ends a change of generation that was cut short.
     pub fn start(alloc: Global, disk: D) -> Result<Gates<D>, (D, StartFault)>
         ensures started { IfOk result (λ gates. gates.shut ≡ None) }
         ensures bodies { IfOk result (λ gates. Starts (D.told disk) (D.told gates.disk) gates.gate gates.bodies) }
+        // Promise 3.12, part 2
         ensures passes { IfOk result (λ gates. SyncsAlone (D.told disk) (D.fuse disk) (D.fuse gates.disk)) }
         ensures refused { IfErr result (λ e. RefusesStart any_body (D.told disk) (D.told e.0) (D.fault_count disk) (D.fault_count e.0) e.1) }
     {
@@ -94,6 +96,7 @@ impl<D: Disk> Gates<D> {
         Ok(Gates { log })
     }
 
+    // Promise 3.4, part 2
     pub fn append(&mut self, alloc: Global, body: &[u8]) -> Result<u64, ForceFault>
         requires { IsBody body.now }
         ensures appended { IfOk result (λ place. Appends (face self.old (D.fault_count self.old.disk)) body.now place (face self.new (D.fault_count self.new.disk))) }

@@ -126,6 +126,8 @@ impl<D: Disk> Gathering<D> {
     /// the disk is what it was. `Full` and `Shut` come as they do of a journal that forces.
     pub fn force(&mut self, alloc: Global, rec: &LogRec) -> Result<Receipt, ForceFault>
         requires { HasText self.old.journal.wide rec.now }
+        // Promise 3.20 [clauses notes disk]: A record that is noted changes nothing on the disk;
+        //   `Full` and `Shut` come as they do of a force
         ensures notes { Forces (standing_of self.old.journal (D.fault_count self.old.journal.disk) None None) rec.now result (standing_of self.new.journal (D.fault_count self.new.journal.disk) None None) }
         ensures disk { self.new.journal.disk ≡ self.old.journal.disk }
         ensures settled { self.new.settled ≡ self.old.settled }
@@ -187,6 +189,8 @@ impl<D: Disk> Gathering<D> {
     pub fn settle(&mut self) -> Result<(), ForceFault>
         ensures tells { Tells self.old.journal (D.fault_count self.old.journal.disk) self.new.journal (D.fault_count self.new.journal.disk) }
         ensures ok { OnOk result ((self.old.journal.shut ≡ None) × (self.new.journal.shut ≡ None)) }
+        // Promise 3.22 [clauses refused tells]: A settle fails by a fault of the disk alone, which
+        //   shuts the log; the list keeps what was noted
         ensures refused { IfErr result (RefusesSettle self.old.journal (D.fault_count self.old.journal.disk) self.new.journal (D.fault_count self.new.journal.disk)) }
         ensures settled { IsSettled self.new }
         ensures grows { self.old.settled ≤ self.new.settled }
@@ -194,6 +198,9 @@ impl<D: Disk> Gathering<D> {
         ensures stands { IfErr result (λ fault. self.new.settled ≡ self.old.settled) }
         ensures untouched { IfErr result (KeepsDisk self.old.journal.disk self.new.journal.disk) }
         // A crash at any moment of the call leaves the records that were on the disk, or these and all that were noted.
+        // Promise 3.21 [clauses moments last bytes]: At every moment of a settle an image is the
+        //   log without the noted records or with all of them; after Ok it is the log with all, and
+        //   the file is to the byte what it would be if each had been forced alone
         ensures moments { self.old.journal.shut ≡ None → (s : Story) → D.told self.old.journal.disk ≡ Some s
             → LeavesOnly (StandsForEither (bodies_settled self.old) (bodies_in self.old.journal)) (D.told self.old.journal.disk) (D.told self.new.journal.disk) }
         ensures untold { D.told self.old.journal.disk ≡ None → D.told self.new.journal.disk ≡ None }

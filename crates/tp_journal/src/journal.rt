@@ -30,6 +30,8 @@ const EMPTY: [u8; 11] = [79, 84, 80, 76, 1, 1, 0, 2, 7, 2, 0];
 
 /// Makes the disk hold a log of version 2 with no records alone, whatever it held.
 pub fn format<D: Disk>(disk: &mut D) -> Result<(), Failed>
+    // Promise 3.15: A log that is made, compacted or migrated has its records and nothing after its
+    //   closing gate
     ensures formatted { OnOk result ((s : Story) → D.told disk.old ≡ Some s → IsOn (D.told disk.new) (log_bytes true [])) }
     ensures untold { D.told disk.old ≡ None → D.told disk.new ≡ None }
     ensures kept { D.fault_count disk.old ≤ D.fault_count disk.new }
@@ -59,8 +61,12 @@ impl<D: Disk> Model for Journal<D> {
 impl<D: Disk> Journal<D> {
     /// Reads the records of a log, and ends a change of generation that was cut short.
     pub fn start(alloc: Global, disk: D) -> Result<Journal<D>, (D, StartFault)>
+        // Promise 3.11: A start reads what the bytes stand for, and ends what was cut short; what
+        //   it leaves is told to the byte
         ensures started { IfOk result (λ j. Starts (D.told disk) (D.told j.disk) j.gate (bodies_in j) × (j.shut ≡ None)) }
         ensures texts { IfOk result (λ j. AllByRecursion (HasText j.wide) j.list) }
+        // Promise 3.12: A start that ends Ok over a log whose records begin the file makes one
+        //   changing call, the sync, of a disk that counts its calls
         ensures passes { IfOk result (λ j. SyncsAlone (D.told disk) (D.fuse disk) (D.fuse j.disk)) }
         ensures kept { IfOk result (λ j. D.fault_count disk ≤ D.fault_count j.disk) }
         ensures refused { IfErr result (λ e. RefusesStart record_body (D.told disk) (D.told e.0) (D.fault_count disk) (D.fault_count e.0) e.1) }
@@ -77,7 +83,20 @@ impl<D: Disk> Journal<D> {
     /// `MOST_BYTES` up to its closing gate, `Full` says how many, and nothing changes.
     pub fn force(&mut self, alloc: Global, rec: &LogRec) -> Result<Receipt, ForceFault>
         requires { HasText self.old.wide rec.now }
+        // Promise 3.4: While a journal is not shut, at every moment of a force an image is the log
+        //   before it or the log with the record, and after Ok it is the log with the record alone
+        // Promise 3.6: After a force the file is what it was, but that the gate is open and the
+        //   record and the next gate stand after it
+        // Promise 3.7 [clauses forces untouched]: After `Full`, `Shut` and out of memory the disk
+        //   is as it was before the force
+        // Promise 3.8: Over a disk with a fuse, which fails at no other call, a force makes four
+        //   changing calls, or stops in one of them and leaves the fill in place of the record
+        //   (calls 1 and 2) or of the gate (3 and 4), or there was no memory for one
+        // Promise 3.9: A fault of the disk in a force carries the count right after the call that
+        //   failed, where the keeper tells a length
         ensures forces { Forces (standing_of self.old (D.fault_count self.old.disk) (D.told self.old.disk) (D.fuse self.old.disk)) rec.now result (standing_of self.new (D.fault_count self.new.disk) (D.told self.new.disk) (D.fuse self.new.disk)) }
+        // Promise 3.10: Out of memory and a fault of the disk come of a force only where there is
+        //   room for the record, and a journal that is shut answers nothing else
         ensures order { IfErr result (ComesInOrder self.old rec.now) }
         ensures untouched { IfErr result (KeepsDisk self.old.disk self.new.disk) }
     {
@@ -128,6 +147,7 @@ impl<D: Disk> Journal<D> {
         Ok(place)
     }
 
+    // Promise 3.13: At every moment of a compaction an image is the list before it or the brief
     /// Puts the brief of the list in its place, in the version that the log has. `first_out_of_order` tells whether the
     /// list is in order.
     pub fn compact(&mut self, alloc: Global) -> Result<(), CompactFault>
@@ -138,6 +158,7 @@ impl<D: Disk> Journal<D> {
         // A crash at any moment of the call leaves the records from before it, or their brief.
         ensures moments { self.old.shut ≡ None → (s : Story) → D.told self.old.disk ≡ Some s
             → LeavesOnly (StandsForEither (bodies_in self.old) (bodies_of self.old.wide (brief self.old.list))) (D.told self.old.disk) (D.told self.new.disk) }
+        // Promise 3.15, part 2
         ensures bytes { OnOk result ((s : Story) → D.told self.old.disk ≡ Some s → IsOn (D.told self.new.disk) (log_bytes self.old.wide (brief self.old.list))) }
     {
         if let Some(faults) = self.log.shut() {
@@ -150,6 +171,8 @@ impl<D: Disk> Journal<D> {
         Ok(())
     }
 
+    // Promise 3.14: At every moment of a migration an image is the list before it, or the brief in
+    //   version 2
     /// Makes the log of version 2, and puts the brief of the list in its place, which is in order as for `compact`. Where
     /// that log would have more than `MOST_BYTES` up to its closing gate, `Full` says how many, and nothing changes.
     pub fn migrate(&mut self, alloc: Global) -> Result<(), ForceFault>
@@ -161,6 +184,7 @@ impl<D: Disk> Journal<D> {
         // A crash at any moment of the call leaves the records from before it, or their brief in version 2.
         ensures moments { self.old.shut ≡ None → (s : Story) → D.told self.old.disk ≡ Some s
             → LeavesOnly (StandsForEither (bodies_in self.old) (bodies_of true (brief self.old.list))) (D.told self.old.disk) (D.told self.new.disk) }
+        // Promise 3.15, part 3
         ensures bytes { OnOk result ((s : Story) → D.told self.old.disk ≡ Some s → IsOn (D.told self.new.disk) (log_bytes true (brief self.old.list))) }
     {
         if let Some(faults) = self.log.shut() {
@@ -188,6 +212,8 @@ impl<D: Disk> Journal<D> {
         self.log.shelf().list()
     }
 
+    // Promise 3.16: The first record out of order is found, and none exactly where the list is in
+    //   order
     /// The index of the first record that may not follow those before it. There is none exactly where the list is in
     /// order, as `compact` and `migrate` ask.
     pub fn first_out_of_order(&self, alloc: Global) -> Result<Option<usize>, NoMemory>

@@ -3,6 +3,10 @@ use crate::{ForceFault, Receipt};
 use std::alloc::Global;
 use tp_logrec::LogRec;
 
+// Promise 3.5: So it is of any keeper of a log that tells a story, also to who knows of the keeper
+//   no more than the trait
+// Promise 3.23, part 2
+// Promise 5.9: What is proved over `Keeper` holds over a journal and over a share
 /// What keeps the records of a log: a journal, or a share of a log under a lock.
 pub trait Keeper {
     ghost use Rattle.std.specs.Prelude.{◌≡◌, ◌<◌, length, slice_index_or};
@@ -42,6 +46,7 @@ pub trait Keeper {
         requires { i < length (standing self.now).told }
         ensures { (d : _) → result ≡ (slice_index_or (standing self.now).told i d).place };
 
+    // Promise 3.17: Each record that a keeper tells has a text in the version of its log
     /// Each of those records has a text in the version of the log. It shows that, and answers nothing.
     fn texts(&self)
         ensures { All (λ r. HasText (standing self.now).wide r.rec) (standing self.now).told };
@@ -55,6 +60,9 @@ pub trait Keeper {
         ensures { result ≡ (standing self.now).wide };
 }
 
+// Promise 3.23 [tp_journal/specs/Settling.antt]: A keeper that notes says of a settle what 3.21 and
+//   3.22 say, also to who knows of it no more than the trait; no record that is noted changes what
+//   is on the disk
 /// A keeper that runs ahead of its disk: what it is given is noted, and all that is noted is forced at once.
 pub trait Settles: Keeper {
     ghost use Rattle.tp_journal.specs.Settling.{SettlesTo};

@@ -169,6 +169,7 @@ impl Link {
         }
     }
 
+    // Promise 10.2: An association takes exactly the next record of its pair
     /// Takes a record with this pair and number: dropped by 21 exactly where the link is not live with
     /// this pair, else by 22 exactly where the number is not the count of records taken or is the
     /// greatest; unchanged when dropped.

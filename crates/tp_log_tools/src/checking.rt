@@ -84,12 +84,19 @@ fn check_log<D: Disk, K: Sink>(
 
 /// Writes, as `show` does, each Damage of the disk's log that is its key's last record, and answers how many there are.
 pub fn check<D: Disk, K: Sink>(alloc: Global, disk: D, sink: &mut K) -> (D, Result<u64, Stop>)
+    // Promise 4.4: `check` writes each Damage that is its key's last record, to the byte, and
+    //   answers their number
+    // Promise 4.6, part 2
     ensures checks { IfOk result.1 (λ n. (s : Story) → D.told disk ≡ Some s → IsFile (seen s) → Checks (seen s) n (K.written sink.old) (K.written sink.new) (D.told result.0)) }
+    // Promise 4.2, part 2
     ensures stopped { IfErr result.1 (λ stop. (s : Story) → D.told disk ≡ Some s → IsFile (seen s)
         → StopsShow (seen s) finding_texts (K.written sink.old) (K.written sink.new) (D.told result.0) stop) }
     // A crash at any moment from the first sync on leaves a log of the records that stood.
+    // Promise 4.9, part 2
     ensures moments { (s : Story) (rs : List TheRecord) → D.told disk ≡ Some s → length (seen s) < 2 ^ 64 → IsLog (seen s) rs → HoldsThroughout (λ c. IsLog c rs) s (D.told result.0) }
+    // Promise 4.10, part 2
     ensures stops { IfErr result.1 (IsShowStop (D.fault_count disk) (D.fault_count result.0) (K.fault_count sink.old) (K.fault_count sink.new)) }
+    // Promise 4.5, part 2 [clauses foreign disk_fault stopped]
     ensures foreign { (at : ℕ) → result.1 ≡ Err (TheStop.Foreign at) → sink.new ≡ sink.old }
     ensures disk_fault { (faults : ℕ) → result.1 ≡ Err (TheStop.DiskFault faults) → sink.new ≡ sink.old }
     ensures kept { K.fault_count sink.old ≤ K.fault_count sink.new }

@@ -8,6 +8,8 @@ ghost use Rattle.tp_journal.specs.Log.{StandsFor};
 ghost use Rattle.tp_journal.specs.Records.{HasText, bodies_of, record_body};
 ghost use Rattle.tp_log_tools.specs.Readings.{IsFile, IsReadAlike};
 
+// Promise 4.1: A start finds the records that the definitions read, places them where these say,
+//   and calls a file foreign at the place that these tell
 /// The records that a start finds in a file, the places at which they stand after it, and the bytes that it leaves are those
 /// of the definitions; so is the place at which a start calls a file foreign.
 pub fn what_is_read_is_what_is_started()

@@ -34,11 +34,18 @@ fn stop_of(fault: ForceFault) -> Stop
 /// than 268,435,456 bytes, `Limit` of the log comes at 0; `Foreign` is as for `show`. In both cases nothing more is done
 /// than a start does.
 pub fn migrate<D: Disk>(alloc: Global, disk: D) -> (D, Result<(), Stop>)
+    // Promise 4.7, part 2
+    // Promise 4.8 [clauses migrates stopped stops]: A log whose brief would be longer than a log
+    //   may be in version 2 is not migrated. The limit of the log, at 0, is answered in this case
+    //   alone, and the disk then has what a start leaves
     ensures migrates { OnOk result.1 ((s : Story) → D.told disk ≡ Some s → IsFile (seen s) → Migrates (seen s) (D.told result.0)) }
+    // Promise 4.2, part 4
     ensures stopped { IfErr result.1 (λ stop. (s : Story) → D.told disk ≡ Some s → IsFile (seen s) → StopsMigrate (seen s) (D.told result.0) stop) }
     // A crash at any moment from the first sync on leaves a log of the records that stood, or of their brief.
+    // Promise 4.9, part 4
     ensures moments { (s : Story) (rs : List LogRec) → D.told disk ≡ Some s → length (seen s) < 2 ^ 64 → IsLog (seen s) rs
         → HoldsThroughout (λ c. IsLog c rs ⊎ IsLog c (brief rs)) s (D.told result.0) }
+    // Promise 4.10, part 4
     ensures stops { IfErr result.1 (IsMigrateStop (D.fault_count disk) (D.fault_count result.0)) }
 {
     let mut journal = match open_log(alloc, disk) {

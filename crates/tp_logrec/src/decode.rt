@@ -12,6 +12,7 @@ use tp_names::{
     Addr, BadBytes, BranchId, Children, Cursor, NodeKey, Outcome, ReadFault, RecordFault, Report,
 };
 
+// Promise 2.13, part 3
 /// The record whose text in that version stands at the front of the bytes, and the text's length.
 ///
 /// `BadRecord {at}` says that no text stands there; `at` is how many of the bytes, and no more,

@@ -13,6 +13,7 @@ use tp_names::{
     write_child, write_key, write_long, write_outcome, write_report, write_short,
 };
 
+// Promise 2.13, part 2
 /// Puts the record's text in that version at the end of `out`, where it has one. Without memory
 /// `out` stays as it was.
 #[inline(always)]

@@ -10,6 +10,7 @@ use crate::same::is_owner;
 use crate::{LogRec, Owner};
 use tp_names::NodeKey;
 
+// Promise 2.14, part 3
 /// The record may follow the list, which has the oldest first. This goes over the list once, and
 /// for a record that begins a key once more for each bound record of its node; where a whole log
 /// is checked record by record, use [`OrderCheck`](crate::OrderCheck).

@@ -48,6 +48,8 @@ impl OrderCheck {
         }
     }
 
+    // Promise 2.14: Which record may follow a list is told, also where the list is read record by
+    //   record
     /// The record may follow those that were taken.
     pub fn follows(&self, next: &LogRec) -> bool
         ensures { (rs : List TheRecord) → IsCheckOf rs self.now → result ≡ follows rs next.now }
@@ -55,6 +57,7 @@ impl OrderCheck {
         self.allows(next)
     }
 
+    // Promise 2.14, part 2
     /// Takes the next record, whether it may follow or not. Without memory it is still that of the records before.
     pub fn take(&mut self, alloc: Global, rec: &LogRec) -> Result<(), NoMemory>
         ensures ok { OnOk result ((rs : List TheRecord) → IsCheckOf rs self.old → IsCheckOf (rs ++ rec.now ∷ []) self.new) }

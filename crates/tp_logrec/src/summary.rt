@@ -9,6 +9,7 @@ use crate::standing::Standing;
 use std::alloc::Global;
 use tp_names::NoMemory;
 
+// Promise 2.15, part 2
 /// The brief of records that follow each other, oldest first: the greatest Boot, and then, for
 /// each key that is not at its end, in the order of the first records since its last End, its
 /// Ready, its Heuristic, its Commit and its last Damage. The brief of no records is no records.

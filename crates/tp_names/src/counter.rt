@@ -42,6 +42,7 @@ impl Counter {
         u64::MAX - self.last
     }
 
+    // Promise 2.2, part 2
     /// The next mark. It is refused exactly where the last count is the greatest there is.
     pub fn draw(&mut self) -> Result<Mark, NumbersSpent>
         ensures mark { IfOk result (λ mark. mark ≡ next_mark self.old) }
@@ -58,6 +59,8 @@ impl Counter {
     }
 }
 
+// Promise 2.2: A mark is drawn once: none comes twice, and none of two counters of different boots
+//   or nodes
 /// A counter draws no mark twice, and no mark that a counter of another boot or node draws.
 pub fn marks_are_drawn_once()
     ensures one { (d : Drawing) (j k : ℕ) → j ≢ k → drawn d j ≢ drawn d k }

@@ -21,6 +21,7 @@ pub enum Report {
 }
 
 impl Report {
+    // Promise 2.3, part 2
     /// The greater of two reports.
     pub fn join(self, other: Report) -> Report
         ensures value { result ≡ join self other }
@@ -34,6 +35,7 @@ impl Report {
     }
 }
 
+// Promise 2.3: Reports join to the greater of two, in any order
 /// Reports join in any order and grouping, a report joins itself to itself, and `None` adds nothing.
 pub fn reports_join()
     ensures commutative { (a b : Report) → join a b ≡ join b a }

@@ -33,6 +33,8 @@ impl Model for SiteName {
 }
 
 impl SiteName {
+    // Promise 2.1: A site name is made of bytes exactly where they are 1 to 16 of `a` to `z` and
+    //   `0` to `9`
     /// The name with these bytes, where they are a site name.
     pub fn new(bytes: &[u8]) -> Option<SiteName>
         ensures { result ≡ (if is_site_name bytes.now then Some bytes.now else None) }

@@ -139,6 +139,7 @@ impl Frames {
     ) -> Result<u16, SendFault>
         ensures ok { IfOk result (λ number. (number ≡ length self.old + 1) × (self.new ≡ self.old ++ record { from = from.now; to = to.now; rec = rec.now; handed = false } ∷ [])) }
         ensures err { OnErr result (self.new ≡ self.old) }
+        // Promise 15.12: `Full` comes of frames exactly where all numbers are used
         ensures full { IfErr result (IsFull (length self.old)) }
     {
         let number = self.items.len() + 1;
@@ -158,6 +159,8 @@ impl Frames {
 
     /// The oldest frame from the one node to the other that is not handed over counts as handed over from now on: its number.
     pub fn hand_between(&mut self, from: u16, to: u16) -> Option<u16>
+        // Promise 15.11 [clauses number frames]: The frames between nodes are the definitions' list
+        //   of them, and the frame that is handed over is the one that they name oldest
         ensures number { result ≡ oldest_from 0 (is_between from to) self.old }
         ensures frames { self.new ≡ handed_over self.old result }
     {
@@ -174,6 +177,7 @@ impl Frames {
     /// The oldest frame that is not handed over counts as handed over from now on: its number.
     #[tactic(auto, using(crate::proofs::Oldest::oldest_missing, crate::proofs::Oldest::oldest_first))]
     pub fn hand_oldest(&mut self) -> Option<u16>
+        // Promise 15.11, part 2 [clauses number frames]
         ensures number { result ≡ oldest_from 0 (λ f. true) self.old }
         ensures frames { self.new ≡ handed_over self.old result }
     {

@@ -89,6 +89,7 @@ impl OutcomesByTree {
         }
     }
 
+    // Promise 15.13, part 2
     /// Of these nodes, in the time of all that they did in trees.
     pub fn of(alloc: Global, nodes: &[NodeSlot]) -> Result<OutcomesByTree, NoMemory>
         ensures { IfOk result (λ all. (t : AaidValue) → outcomes_in all t ≡ outcomes_at nodes.now t) }

@@ -52,6 +52,7 @@ impl Node {
         }
     }
 
+    // Promise 10.13, part 3
     /// What comes of a record on that arc.
     #[inline(always)]
     #[tactic(auto, using(crate::proofs::Sights::sight_is))]

@@ -224,6 +224,7 @@ impl Node {
         }
     }
 
+    // Promise 10.13, part 4
     /// What is shown of it.
     pub fn state(&self) -> NodeState
         ensures { state_of result ≡ state self.now.digest }
@@ -425,6 +426,7 @@ impl Node {
         }
     }
 
+    // Promise 10.7: A node may be a root exactly where the definitions say
     fn may_root(&self) -> bool
         ensures { result ≡ may_root self.now.digest }
     {
@@ -682,6 +684,8 @@ impl Node {
         }
     }
 
+    // Promise 10.14: Each change of a node's arcs, transaction, marks and kept transactions is that
+    //   of the definitions
     /// Numbers the next record that goes out on the arc with that peer, where it is live. Where the association has no number
     /// left, nothing changes.
     #[inline(always)]
@@ -697,6 +701,7 @@ impl Node {
         arcs.number_next(peer)
     }
 
+    // Promise 10.14, part 3
     /// The next mark of the node's counter. Where it is spent, nothing changes.
     pub fn draw(&mut self) -> Result<Mark, NumbersSpent>
         ensures mark { IfOk result (λ mark. mark ≡ next_mark self.old.who self.old.digest) }
@@ -787,6 +792,7 @@ impl Node {
         }
     }
 
+    // Promise 10.14, part 2
     /// The transaction has become that one: it stays current unless it is over, and is spared then.
     #[tactic(auto, using(crate::proofs::Turns::remains))]
     pub fn settle(&mut self, next: Box<Branch>, spare: &mut Spare)
@@ -830,6 +836,7 @@ impl Node {
         kept::copies(alloc, &self.kept)
     }
 
+    // Promise 10.14, part 4
     /// What a record of the log makes of the kept transactions. Without memory nothing changes.
     pub fn keep(&mut self, alloc: Global, rec: &Option<LogRec>) -> Result<(), NoMemory>
         ensures kept { OnOk result (self.new ≡ with_digest self.old (record self.old.digest { kept = kept_after rec.now self.old.digest.kept })) }
@@ -1057,6 +1064,7 @@ impl Node {
         }
     }
 
+    // Promise 10.14, part 5
     /// A branch begins on the arc with that peer, where Begin may be sent: it has a new identifier, and control is
     /// where its holder is. Gives the record that is to go out. It takes no memory where the transaction has fewer than 256
     /// branches. Where the counter is spent nothing changes; where memory runs out a mark is drawn, and nothing else changes.

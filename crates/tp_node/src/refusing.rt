@@ -270,6 +270,8 @@ impl Node {
         self.unless_missing(self.refused_of_current(&event, Some(NothingOwed)))
     }
 
+    // Promise 10.13: By which number a node refuses an event before anything is tried, what comes
+    //   of a record, and what is shown of it are those of the definitions
     /// Why an event is refused before anything is tried; or what comes of it, where it is a record that arrives on an
     /// association. It takes no memory.
     #[inline(always)]
@@ -292,6 +294,7 @@ impl Node {
         }
     }
 
+    // Promise 10.13, part 2
     /// Why an event is refused before anything is tried. It takes no memory.
     pub fn refused_at_once(&self, event: &NodeEvent<'_>) -> Option<Refusal>
         ensures { result ≡ refused_at_once self.now.who self.now.digest event.now }

@@ -82,6 +82,7 @@ impl FuseDisk {
         self.stopped
     }
 
+    // Promise 3.3: A disk that stops at one call leaves one of these images
     /// The disk after a crash now, which leaves the fill in each range that was written since the last sync.
     pub fn image(self) -> MemDisk
         ensures { recorded result ≡ fresh (filled (fused self).fill (fused self).disk.story) [] }

@@ -1,6 +1,7 @@
 //! Where bytes go.
 use crate::Failed;
 
+// Promise 3.1, part 2
 /// A stream of bytes to write. A clause speaks of the bytes written where the sink tells them; no clause says that it does.
 pub trait Sink {
     ghost use Rattle.std.specs.Prelude.{ℕ, List, [], Option, ◌≡◌, ◌≤◌, length, IfOk, OnErr};

@@ -12,16 +12,27 @@ ghost use Rattle.tp_processes.specs.Octets.{SaidIsReadBack, OctetsCarryRecords};
 /// stop between two of them, and nothing in it is foreign; each record of it that is of a node stands in that log, and where nothing was
 /// compacted the file is that very log.
 pub fn processes_leave_the_log()
+    // Promise 22.8 [tp_processes/specs/Processes.antt]: Where each process of a site finds the file
+    //   that the one before it left, or a compaction of it, each time a log of version 2, the file
+    //   that the last one leaves is a log on which the next start knows what it would know on the
+    //   log of all that happened; none of its records is foreign, and each that is of a node stands
+    //   in that log
     ensures leaves { ProcessesLeaveTheLog }
+    // Promise 22.9 [tp_processes/specs/Processes.antt]: Where nothing was compacted, it is that log
     ensures whole { ProcessesLeaveItWhole }
 {}
 
+// Promise 22.10 [tp_processes/specs/Processes.antt]: Each process gives for the events that happen
+//   in it the outputs that the whole life of its site gives
 /// Whatever was compacted before it, a process gives for the events that happen in it the outputs that the site gives which has lived
 /// through all of them.
 pub fn processes_act_as_one()
     ensures { ProcessesActAlike }
 {}
 
+// Promise 22.11 [tp_processes/specs/Deployed.antt]: **Where the deeds of a deployment are what
+//   happened in such processes, they are a run of one world**, which keeps all that is promised;
+//   and a log that was never compacted has of each number what its node forced, in that order
 /// Where the deeds of a deployment are what happened in such processes, the deployment is a run of one world; the log that the newest
 /// process of each site left has of each number what its node forced, in that order, where it was never compacted; and of the world of that
 /// run holds all that is promised.
@@ -29,6 +40,10 @@ pub fn processes_keep_the_promises()
     ensures { ProcessesKeep }
 {}
 
+// Promise 22.12 [tp_processes/specs/Deployed.antt]: **The first two sentences, of the nodes where
+//   they stand** and of all that happened to them, with no run named: different outcomes have a
+//   decision between them, Commit stands alone, and a commitment that is complete at the root with
+//   no report is one at every node that stays
 /// In every deployment, of the nodes where they stand and of all that happened to them: no two nodes of a tree are told different outcomes
 /// but where one logged a decision of its own, Commit stands alone, and a commitment that is complete at the root with no report is one at
 /// every node that stays.
@@ -40,6 +55,12 @@ pub fn deployments_keep_the_sentences()
 /// back from its octets; so a carrier that brings a node only octets that a process wrote for it brings it only records that were said to
 /// it, and what is asked of a deployment holds.
 pub fn octets_carry_records()
+    // Promise 22.16 [tp_processes/specs/Octets.antt, clauses reads carried]: **A carrier of octets
+    //   is one of records**: whatever the nodes of a deployment said, in records whose numbers and
+    //   names the types of a program hold, is read back from its octets; so where all that was said
+    //   is of such records, and octets that a node takes are an output, from the address that they
+    //   are said to be from and for its own, of a process of that site some time before, the
+    //   carrier is as asked; all else is asked as above
     ensures reads { SaidIsReadBack }
     ensures carried { OctetsCarryRecords }
 {}

@@ -10,6 +10,8 @@ use crate::{Body, PeerRecord};
 use std::alloc::Global;
 use tp_names::{Cursor, NoMemory, Octets, ReadFault, RecordFault};
 
+// Promise 2.7: They are encoded to that text, and an output is written so at the end of what is
+//   there
 /// Appends the text of a body, which it must have. Without memory `out` is as it was.
 pub fn encode_body(alloc: Global, v: &Body, out: &mut Octets) -> Result<(), NoMemory>
     requires { HasText body_grammar v.now }
@@ -24,6 +26,7 @@ pub fn encode_body(alloc: Global, v: &Body, out: &mut Octets) -> Result<(), NoMe
     written
 }
 
+// Promise 2.7, part 2
 /// Appends the text of a peer record, which it must have. Without memory `out` is as it was.
 pub fn encode_peer(alloc: Global, v: &PeerRecord, out: &mut Octets) -> Result<(), NoMemory>
     requires { HasText peer_grammar v.now }
@@ -43,6 +46,8 @@ pub fn encode_peer(alloc: Global, v: &PeerRecord, out: &mut Octets) -> Result<()
 /// A fault is told at the length of the longest front of the bytes that some text begins with.
 pub fn decode_body(alloc: Global, bytes: &[u8]) -> Result<(Body, usize), RecordFault>
     ensures ok { IfOk result (λ found. Begins body_grammar found.0 found.1 bytes.now) }
+    // Promise 2.8: They are decoded exactly where a prefix of the bytes is a text, and else the
+    //   exact place is told where the bytes are bad
     ensures bad { IfErr result (λ fault. IsFaultOf body_grammar bytes.now fault) }
 {
     let mut from = Cursor::new(bytes);
@@ -63,6 +68,7 @@ pub fn decode_body(alloc: Global, bytes: &[u8]) -> Result<(Body, usize), RecordF
 /// A fault is told at the length of the longest front of the bytes that some text begins with.
 pub fn decode_peer(alloc: Global, bytes: &[u8]) -> Result<(PeerRecord, usize), RecordFault>
     ensures ok { IfOk result (λ found. Begins peer_grammar found.0 found.1 bytes.now) }
+    // Promise 2.8, part 2
     ensures bad { IfErr result (λ fault. IsFaultOf peer_grammar bytes.now fault) }
 {
     let mut from = Cursor::new(bytes);
@@ -78,6 +84,8 @@ pub fn decode_peer(alloc: Global, bytes: &[u8]) -> Result<(PeerRecord, usize), R
     }
 }
 
+// Promise 2.6: A body and a peer record have one text for each value that has one, the value is
+//   read back from it, and no text is a proper prefix of another
 /// A value is read back from its text, whatever follows; what is read of bytes is a text; and no
 /// text is a proper front of another.
 pub fn texts_are_grammars()

@@ -57,6 +57,7 @@ fn tell_superior(alloc: Global, kept: &Kept, outs: &mut TxOuts) -> Result<(), No
     outs.push(alloc, TxOut::Recovery { to, rec })
 }
 
+// Promise 10.8, part 2
 /// What a retry of a kept transaction says: the branches that are owed are asked again, and the
 /// superior is told again, until it forgets. One with side rollback says nothing.
 #[tactic(auto, unfolding(tp_model::specs::Recovery::owed))]
@@ -210,6 +211,7 @@ pub fn step(alloc: Global, kept: &Kept, event: &KeptEvent) -> Result<Step, NoMem
     }
 }
 
+// Promise 10.8, part 3
 /// What an event of a kept transaction asks for, or the number by which it is refused.
 pub fn settle(alloc: Global, kept: &Kept, event: &KeptEvent) -> Result<Step, TxFault>
     ensures step { IfOk result (λ step. step ≡ settled kept.now event.now) }

@@ -6,6 +6,7 @@ use tp_model::{Known, Phase, Question};
 use tp_names::{Outcome, Report};
 use tp_records::RecState;
 
+// Promise 10.8: Questions of recovery are answered, and kept transactions settled, by the rules
 /// The answer to a question, by what the node has of the transaction that it names. There is none where
 /// the order of commitment acts on a ready transaction, or is out of phase.
 #[tactic(auto, unfolding(tp_model::specs::Recovery::recovery_answer))]

@@ -43,6 +43,7 @@ pub fn participants<D: Disk + Drop>(
     store: Option<Bound<D>>,
 ) -> Result<Vec<Participant<D>>, AllocError>
     ensures numbered { IfOk result (λ members. members.items ≡ numbered store) }
+    // Promise 18.19, part 2
     ensures certain { NeverFails D.fault_count → IsWell store → IfOk result (λ members. AreCertain (may_of (may_answer D.fault_count) members.items)) }
 {
     let mut members = Vec::new(alloc);

@@ -13,13 +13,13 @@ ghost use Rattle.tp_replay.specs.Playing.{ShowsReading, PlaysUnwritten, unread_a
 
 use crate::stop::LineStop;
 use std::alloc::Global;
-use tp_world_members::{DrivenWorld, is_silent};
 use tp_model::{Line, OutLines, Why};
 use tp_names::{NoMemory, Octets};
 use tp_records::Member;
 use tp_schedule::{LineFault, read_line_into, write_line};
 use tp_transcript::append_out;
 use tp_world::WorldFault;
+use tp_world_members::{DrivenWorld, is_silent};
 
 /// Puts the text of these lines, each with its end, at the end of `out`. Without memory `out` stays as it was.
 pub fn write_texts(alloc: Global, lines: &OutLines, out: &mut Octets) -> Result<(), NoMemory>

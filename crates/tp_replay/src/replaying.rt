@@ -17,12 +17,12 @@ use crate::output::{write_all, write_long};
 use crate::playing::{play_text, play_unwritten, write_texts};
 use crate::stop::{InputStop, LineStop, ReplayStop, WriteFault};
 use std::alloc::Global;
-use tp_world_members::DrivenWorld;
 use tp_model::{OutLines, What, Why};
 use tp_names::{NoMemory, Octets};
 use tp_outside::{Sink, Source};
 use tp_records::Member;
 use tp_schedule::{Lines, LinesFault};
+use tp_world_members::DrivenWorld;
 
 /// One more than the number of the line that is after the last one in any schedule.
 pub const PAST_LINES: u64 = 1_048_578;
@@ -170,6 +170,9 @@ pub fn replay<S: Source, K: Sink, M: Member>(
     ensures reads { (bytes : List ℕ) → S.left source.old ≡ Some bytes → Reads bytes result (S.left source.new) }
     ensures transcript { (bytes : List ℕ) → S.left source.old ≡ Some bytes → Writes (Tells (may_of M.allowed members.items) (length members.items) bytes result (S.left source.new)) (K.written sink.old) (K.written sink.new) }
     // Where each member has one answer to what it is told, the transcript is one.
+    // Promise 18.19 [tp_replay/specs/Certain.antt]: Where each member has one answer to what it is
+    //   told, a schedule has one transcript: that with the answers that the members must give. So
+    //   it is of the members of the program, the store among them, over a disk that never fails
     ensures one { AreCertain (may_of M.allowed members.items) → (bytes : List ℕ) → IsOne (may_of M.allowed members.items) (length members.items) bytes }
 {
     let mut out = Octets::new(alloc);

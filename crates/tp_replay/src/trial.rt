@@ -13,12 +13,12 @@ use crate::replaying::{PAST_LINES, play_next_unwritten};
 use crate::stop::{InputStop, LineStop, TrialStop, WriteFault};
 use crate::voter::Voter;
 use std::alloc::Global;
-use tp_world_members::DrivenWorld;
 use tp_generate::{schedule_of, write_summary};
 use tp_model::{OutLines, What};
 use tp_names::{NoMemory, Octets};
 use tp_outside::Sink;
 use tp_schedule::Lines;
+use tp_world_members::DrivenWorld;
 
 /// Replays the schedule that `make_schedule` writes of these, with no members, and writes what it came to.
 #[tactic(auto, using(crate::proofs::Tried::stops_numbered))]

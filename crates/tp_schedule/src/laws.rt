@@ -7,6 +7,7 @@ ghost use Rattle.tp_model.specs.LineText.{line_text};
 ghost use Rattle.tp_model.specs.LineReading.{read_line, Says};
 ghost use Rattle.tp_schedule.specs.HasText.{line_has_text};
 
+// Promise 2.23: The text of a line of a schedule that has one reads back to the line
 /// The text of a line of a schedule reads back to that line, where the line has a text: so no two
 /// such lines have one text.
 pub fn lines_read_back()

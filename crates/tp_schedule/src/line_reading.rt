@@ -22,6 +22,8 @@ use tp_names::Outcome;
 /// The most bytes that a line may have, without its end.
 const MAX_LINE: usize = 8192;
 
+// Promise 2.22: A line of a schedule is read as the definitions read it: none at a blank line or a
+//   comment, else the line, or the first fault that applies
 /// The line whose text these bytes are, without an end: None for a line with no words and for a
 /// comment. The first fault that applies is given: more than 8,192 bytes, for a comment too; a word
 /// of a wrong form, wherever it stands; a numeral outside its range.
@@ -36,6 +38,7 @@ pub fn read_line(alloc: Global, bytes: &[u8]) -> Result<Option<Line>, LineFault>
     }
 }
 
+// Promise 2.22, part 2
 /// Reads as `read_line` does, and puts the line into `line`: true where there is one, false for a line with no words and
 /// for a comment. Where it is not true, what stands in `line` is not said.
 pub fn read_line_into(alloc: Global, bytes: &[u8], line: &mut Line) -> Result<bool, LineFault>

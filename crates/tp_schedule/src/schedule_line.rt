@@ -12,6 +12,8 @@ use std::alloc::Global;
 use tp_model::{Action, Line, LineRequest};
 use tp_names::{NoMemory, Octets, Outcome, SiteName};
 
+// Promise 2.21: A line of a schedule, a line of a transcript, a log record, a key and an identifier
+//   are written to the byte
 /// Puts the line's text at the end of `out`, without an end. Without memory `out` stays as it was.
 #[inline(always)]
 pub fn write_line(alloc: Global, l: &Line, out: &mut Octets) -> Result<(), NoMemory>

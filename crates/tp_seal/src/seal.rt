@@ -46,6 +46,9 @@ impl Seal {
 
     /// What the seal finds in a log. A log that begins with what was sealed is found to be well.
     pub fn finds(&self, log: &[u8]) -> Option<Broken>
+        // Promise 25.1 [tp_seal/specs/Seals.antt, clauses well shorter changed]: A seal finds a log
+        //   well exactly where it begins with as many bytes of that sum; it says `Shorter` only of
+        //   a shorter log, and `Changed` only of one with another sum
         ensures well { (result ≡ None) ↔ Holds self.now log.now }
         ensures shorter { result ≡ Some Broken.Shorter → length log.now < self.now.len }
         ensures changed { result ≡ Some Broken.Changed → sha256 (take self.now.len log.now) ≢ self.now.sum }

@@ -27,6 +27,7 @@ const MOST_EVENTS: u64 = 1_000_000;
 /// Once more bytes than these wait, they are written before the next event.
 const MOST_WAITING: usize = 65_536;
 
+// Promise 13.8: What waits is written only where forcing the records of its events was answered Ok
 /// Writes the answers that wait, once the records of their events were forced; or stops with why they were not.
 pub fn write_settled<K: Sink>(
     settled: Result<(), ForceFault>,
@@ -162,9 +163,24 @@ pub fn serve<S: Source, K: Sink, D: Disk>(
     sink: &mut K,
     disk: D,
 ) -> (D, Result<(), Stop>)
+    // Promise 13.1: What is written for the frames of events, how it ends and which log is left are
+    //   those of the definitions: the outputs of each event and Over, up to the first frame that is
+    //   bad or passes a limit
+    // Promise 13.2: Where the outside fails or memory runs out, a prefix of that is written
+    // Promise 13.3: A crash at any moment from the first sync on leaves the log on which the site
+    //   began, or the log of the run on the first so many events: at least those of which a byte
+    //   was written. Of a log that is foreign it says only that it reads as foreign
+    // Promise 13.4: A crash at the end, however the run ended, leaves such a log with every event
+    //   of whose outputs a byte was written
+    // Promise 13.5: Where the source fails, each frame that was read whole was answered; on Ok it
+    //   was read to its end
     ensures serves { (s : Story) → D.told disk ≡ Some s → IsFile (seen s)
         → Serves name (record { told = s; story = D.told result.0; left = S.left source.old; unread = S.left source.new; written = K.written sink.old; output = K.written sink.new }) result.1 }
+    // Promise 13.7: A fault comes only where the count of that object rose in the call, with the
+    //   count
     ensures stops { IfErr result.1 (IsServeStop (D.fault_count disk) (D.fault_count result.0) (S.fault_count source.old) (S.fault_count source.new) (K.fault_count sink.old) (K.fault_count sink.new)) }
+    // Promise 13.6 [clauses foreign before]: A log that is foreign, and a boot number or room for
+    //   the boot that is not there, come before every frame: nothing is read, and nothing written
     ensures foreign { (at : ℕ) → result.1 ≡ Err (TheStop.Foreign at) → (source.new ≡ source.old) × (sink.new ≡ sink.old) }
     ensures before { (what : Limits) → result.1 ≡ Err (TheStop.Limit what 0) → (source.new ≡ source.old) × (sink.new ≡ sink.old) }
     ensures read { S.fault_count source.old ≤ S.fault_count source.new }

@@ -10,6 +10,7 @@ use tp_journal::{ForceFault, Keeper, Receipt, Receipts};
 use tp_logrec::LogRec;
 use tp_outside::Disk;
 
+// Promise 5.7: Without memory a share tells what it told before
 /// A keeper of the records of one log, beside others. It keeps its own receipts.
 ///
 /// It counts one fault once its stake is spent, and none before.
@@ -64,7 +65,10 @@ impl<'a, D: Disk, R: Wait + Sync, L: Stood, M: Ledger> LogShare<'a, D, R, L, M> 
     /// Gives back both shares, and the receipts. The amount of the first is their number; that of the second is 0 exactly
     /// where this share answered `Full`, `DiskFault` or `Shut`, else 1.
     pub fn close(self) -> (Share<L>, Share<M>, Receipts)
+        // Promise 5.2: A share counts its receipts, and nothing else
         ensures part { (result.0.parts ≡ self.entry.parts) × (result.0.amount ≡ length self.entry.receipts) }
+        // Promise 5.3: `Full`, `DiskFault` and `Shut` come of a share only with its stake spent
+        //   under the lock, and from then on it answers so without the lock
         ensures stake { (result.1.parts ≡ self.entry.stake_parts) × (result.1.amount ≡ stake_of self.entry.spent) }
         ensures receipts { result.2 ≡ self.entry.receipts }
     {

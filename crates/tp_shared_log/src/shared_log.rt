@@ -43,6 +43,7 @@ impl<D: Disk, L: Stood, M: Ledger> SharedLog<D, L, M> {
         requires second { (second.name ≡ M.name) × (second.parts ≡ M.parts) × (0 < second.parts) }
         ensures part { IfOk result (λ made. (made.1.parts ≡ L.parts) × (made.1.amount ≡ 0)) }
         ensures stake { IfOk result (λ made. (made.2.parts ≡ M.parts) × (made.2.amount ≡ shares)) }
+        // Promise 5.8: A journal that could not be put under a lock comes back as it was
         ensures err { IfErr result (λ e. e.0 ≡ journal) }
     {
         let Ok(stood) = receipts_told(alloc, &journal) else {
@@ -63,12 +64,20 @@ impl<D: Disk, L: Stood, M: Ledger> SharedLog<D, L, M> {
     pub fn close(self, all: Share<L>, stakes: Share<M>) -> (Journal<D>, Option<Unfit>)
         requires all { all.parts ≡ L.parts }
         requires stakes { stakes.parts ≡ M.parts }
+        // Promise 5.1: The journal's list begins with the records that stood, and has as many more
+        //   as were noted through shares
         ensures list { Extends L.stood all.amount (placed result.0.wide result.0.list) }
         ensures wide { result.0.wide ≡ L.wide }
+        // Promise 5.5: A journal that is shut has counted a fault since it was put under the lock
         ensures shut { ShutRose L.faults result.0.shut (D.fault_count result.0.disk) }
+        // Promise 5.6: A crash at the close leaves the journal's records, of a shut one those that
+        //   stood and the first of the others; so did a crash at any earlier moment
         ensures images { Leaves L.story (length L.stood) result.0.wide result.0.list result.0.shut (D.told result.0.disk) }
+        // Promise 5.4 [clauses spent unfit]: A spent stake means a journal that is shut, or a
+        //   record that had no room
         ensures spent { stakes.amount < L.shares → (is_some result.0.shut || is_some result.1) ≡ true }
         ensures unfit { HadNoRoom result.0.gate result.1 }
+        // Promise 5.10: A log that has got records under its lock is within its limit
         ensures room { 0 < all.amount → result.0.gate < most_bytes }
     {
         let SharedLog {

@@ -26,6 +26,8 @@ impl Model for Recalled {
 }
 
 impl Recalled {
+    // Promise 11.13: What the records of a site's log make a node answer to a ready branch that
+    //   asks is what the definitions answer after a start on that log
     /// The nodes of the site of that name, from the records of its log, oldest first. No answer depends on the boot number of
     /// a start, so none is asked for.
     #[tactic(auto, using(crate::proofs::Recalling::recalled))]
@@ -41,6 +43,7 @@ impl Recalled {
         Ok(Recalled { nodes })
     }
 
+    // Promise 11.13, part 2
     /// What the node of that number answers to a ready branch that asks what became of its transaction, whoever asks: the
     /// outcome, that it is to ask later, or that nothing is known.
     #[tactic(auto, using(crate::proofs::Numbered::found, crate::proofs::Recalling::unfound_answer, crate::proofs::Recalling::answers_ready))]

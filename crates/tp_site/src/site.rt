@@ -46,6 +46,8 @@ pub struct Played {
     pub outs: Outs,
 }
 
+// Promise 11.7 [tp_site/specs/Shaped.antt, its invariant]: Neither a record that is forced nor one
+//   that goes out is tested for a text: each has one
 /// A site: its nodes, over a keeper of its log. An event is drawn up on the draft of the one before it, in its memory.
 #[derive(Drop)]
 pub struct Site<K: Keeper> {
@@ -191,6 +193,12 @@ impl<K: Keeper> Site<K> {
         Ok(refusal)
     }
 
+    // Promise 11.1: Whatever is known of a node, an event of it is refused, says, logs and leaves
+    //   what the definitions say, and no other node changes
+    // Promise 11.2: Its record is forced before anything of the event is so, and where it cannot
+    //   be, nothing is
+    // Promise 11.3: After a fault of the disk a site answers every event that it is shut, and shows
+    //   what it showed
     /// An event of the node of that number. Its record is forced before anything of it is so; a refusal changes nothing.
     /// After a fault of the disk every event is answered `Shut`.
     pub fn play(
@@ -206,6 +214,9 @@ impl<K: Keeper> Site<K> {
         Ok(Played { refusal, outs })
     }
 
+    // Promise 11.1, part 2
+    // Promise 11.2, part 2
+    // Promise 11.3, part 2
     /// The same; the outputs stand there then, in place of what stood there, whose memory serves for later ones. After a fault
     /// nothing is said of what stands there.
     pub fn play_into(
@@ -283,12 +294,20 @@ impl<K: Keeper> Site<K> {
         }
     }
 
+    // Promise 11.10: A site starts on a log in order with each node as the definitions find it on
+    //   its records, after the next boot number, which is forced
+    // Promise 11.11: A log out of order is foreign at the first record that may not follow those
+    //   before it
     /// Starts a site of that name on the records of a log, and forces its boot: the boot number after the last, or 1. It
     /// stands then where a run of no events does.
     #[tactic(auto, using(crate::proofs::Settled::unfound_starts, crate::proofs::Settled::opened_starts, crate::proofs::Settled::opened_at))]
     pub fn start(alloc: Global, keeper: K, name: SiteName) -> Result<Site<K>, (K, StartFault)>
         ensures starts { Starts K.standing keeper name result }
+        // Promise 11.5 [tp_site/specs/Events.antt]: From its start on, whatever events a site was
+        //   given, each node is what its history in the definitions' run of them makes of it, and
+        //   the records of its keeper are those that it started on, the boot, and those of the run
         ensures at { IfOk result (λ site. (K.standing keeper).told ≡ (K.standing keeper).kept → IsAt K.standing all_nodes (opening_of (K.standing keeper) name) [] site) }
+        // Promise 11.8, part 2
         ensures text { HasTextIfStarted (K.standing keeper).wide (TheRecord.Boot (boot_of (opening_of (K.standing keeper) name))) result }
     {
         let nodes = match found(alloc, &keeper, name) {
@@ -301,6 +320,9 @@ impl<K: Keeper> Site<K> {
         }
     }
 
+    // Promise 11.3, part 3
+    // Promise 11.14: What is shown of a node is what the definitions show: nothing exactly of one
+    //   that is neither declared nor known from the log
     /// What is shown of the node of that number: none where it is not declared since the start and not known from the
     /// log.
     #[tactic(auto, using(crate::proofs::Numbered::found, crate::proofs::Numbered::unfound_missing))]
@@ -314,6 +336,8 @@ impl<K: Keeper> Site<K> {
         Some(node.state())
     }
 
+    // Promise 11.3, part 4
+    // Promise 11.14, part 2
     /// What is shown of the node of that number, declared or not.
     #[tactic(auto, using(crate::proofs::Numbered::found, crate::proofs::Numbered::unfound_shown))]
     pub fn shown(&self, node: u16) -> NodeState
@@ -330,6 +354,7 @@ impl<K: Keeper> Site<K> {
         }
     }
 
+    // Promise 11.15: The tree of a node's current transaction is what the definitions know
     /// The tree of the current transaction of the node of that number, where it has one.
     #[tactic(auto, using(crate::proofs::Numbered::found, crate::proofs::Numbered::unfound_treeless))]
     pub fn tree(&self, node: u16) -> Option<NodeTree>

@@ -18,6 +18,9 @@ ghost use Rattle.tp_model.specs.declared.recovery.KeptEvent.{KeptEvent};
 ghost use Rattle.tp_steps.specs.Heeding.{IsHeeding};
 ghost use Rattle.tp_steps.specs.Outspoken.{IsOutspoken, SaysLeft};
 
+// Promise 12.1: What an event says to a peer, counted: votes stand after their record, orders and
+//   rollbacks under the branch's key, and there are as many ends as transactions of the superior
+//   end
 /// What every event says to a peer, counted: votes after their record, orders and rollbacks under the branch's key, as
 /// many ends as transactions of the superior end, and at most one Begin more than branches that closed.
 pub fn words_of_events()
@@ -26,6 +29,8 @@ pub fn words_of_events()
         → IsHeard p sup fall shut (prelude who d e) (prelude who d e) (action who d e) }
 {}
 
+// Promise 12.2: A branch is counted only by its Ready, has left only by its Left, and has ended
+//   only by its end or a reply
 /// What every event of a transaction, and of a node, makes of the branches: one is counted only by its Ready, in active; it
 /// has left only by its Left, in active; and it has ended only by its Done or a reply in committing, or by its RolledBack or
 /// Left in rolling. A branch that an event begins starts with none of these marks.
@@ -34,6 +39,9 @@ pub fn marks_of_branches()
     ensures node { (who : Who) (d : Digest) (e : Event) → IsLate d → refusal who d e ≡ None → IsBranched who e (prelude who d e) (prelude who d e) (action who d e) }
 {}
 
+// Promise 12.4: What a transaction takes is heeded: a vote that is in phase finds it active and is
+//   noted, an order that is in phase is carried out in ready, and a Done in committing ends its
+//   branch, where the event does not roll it back; what is noted of a branch stays
 /// What a transaction takes is heeded, by every event. Where it does not roll, a branch's Ready or Left that is not out of
 /// phase is taken in active, and the branch is counted or has left after it; the superior's order that is not out of phase
 /// is not taken in active, and in ready it is carried out; in committing a branch that says or replies that it is done has
@@ -42,6 +50,8 @@ pub fn what_is_taken_is_heeded()
     ensures { (e : TxEvent) (s : Transaction) → IsPut e s → IsHeeding e s (transacted e s) }
 {}
 
+// Promise 12.5: What a transaction decides it says on the live arcs: Ready to its superior, Commit
+//   to each branch that did not leave, Done with its report (or as a reply), and that it leaves
 /// What a transaction decides it says, by every event: one that logs Ready says so to its superior, where the superior's arc
 /// is live; one that logs Commit orders it on the live arc of each branch that did not leave; one that completes a commitment
 /// tells its user so, and says Done with the same report to its superior, over the arc or as a reply; and one that leaves says
@@ -51,6 +61,7 @@ pub fn what_is_decided_is_said()
     ensures leaves { (e : TxEvent) (s : Transaction) → SaysLeft e s (transacted e s) }
 {}
 
+// Promise 12.6: Every event of a transaction forces the record that tells what a crash leaves of it
 /// Every event of a transaction forces the record that tells what it makes of it: what of a ready or committing transaction
 /// stands in the log (its key, its phase, the branches that did not leave, its decision), with the record of the event, is
 /// what stands there after it; and of a node, what a crash would leave of

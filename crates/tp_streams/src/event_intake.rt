@@ -59,6 +59,7 @@ impl EventIntake {
         self.intake.at()
     }
 
+    // Promise 2.40, part 3
     /// Whether the next call reads nothing of the source: the next frame is at hand, or a bad length, or a stop from before.
     pub fn is_ready(&self) -> bool
         ensures { result ≡ is_at_hand self.now.place }
@@ -71,12 +72,17 @@ impl EventIntake {
     /// declaration counts whatever a site makes of it. After a stop each call answers the same stop and reads nothing.
     /// Every call is to be given the same source.
     pub fn next<S: Source>(&mut self, alloc: Global, source: &mut S) -> Result<Option<Event>, Stop>
+        // Promise 2.31 [clauses event leaves]: So are the events that the bodies say, up to the
+        //   first that says none or passes the limit of events or of 256 nodes declared
         ensures event { IsFor (answer_event self.old) (bytes_left self.old.place (S.left source.old)) result }
         ensures leaves { LeavesEvents self.old (S.left source.old) result self.new (S.left source.new) }
+        // Promise 2.32, part 2 [clauses stops cut_off again unread]
         ensures stops { self.old.place.stop ≡ None → IfErr result (IsEventStop (suc self.old.place.at) (S.fault_count source.old) (S.fault_count source.new)) }
         ensures cut_off { (n : ℕ) → self.old.place.stop ≡ None → result ≡ Err (Stop.ReadFault n) → IsCutOff self.old.place (S.left source.old) self.new.place (S.left source.new) }
         ensures again { (stop : Stop) → self.old.place.stop ≡ Some stop → result ≡ Err stop }
+        // Promise 2.39, part 2
         ensures unread { is_at_hand self.old.place ≡ true → source.new ≡ source.old }
+        // Promise 2.33, part 2
         ensures few { length self.new.place.held ≤ 10241 }
         ensures kept { S.fault_count source.old ≤ S.fault_count source.new }
     {

@@ -61,12 +61,21 @@ impl Intake {
     /// the same stop and reads nothing. Every call is to be given the same source, of which no more than 10,241 bytes are
     /// read and not handed out.
     pub fn next<S: Source>(&mut self, alloc: Global, source: &mut S) -> Result<Option<Octets>, Stop>
+        // Promise 2.30 [clauses body leaves]: The bodies of a stream of frames out of a source that
+        //   tells its bytes are handed out one by one, with none exactly where it ends between two
+        //   frames, and `Short` and `Length` where the definitions end it
         ensures body { IsFor (answer self.old) (bytes_left self.old (S.left source.old)) result }
         ensures leaves { Leaves self.old (S.left source.old) result self.new (S.left source.new) }
+        // Promise 2.32 [clauses stops cut_off again unread]: A fault of reading a frame comes only
+        //   where the source's count rose; no byte is lost then, and each frame that was read whole
+        //   was handed out
         ensures stops { self.old.stop ≡ None → IfErr result (IsFrameStop (suc self.old.at) (S.fault_count source.old) (S.fault_count source.new)) }
         ensures cut_off { (n : ℕ) → self.old.stop ≡ None → result ≡ Err (Stop.ReadFault n) → IsCutOff self.old (S.left source.old) self.new (S.left source.new) }
         ensures again { (stop : Stop) → self.old.stop ≡ Some stop → result ≡ Err stop }
+        // Promise 2.39: Where the next frame is at hand, or a bad length, or a stop came before,
+        //   the next call reads nothing of the source
         ensures unread { is_at_hand self.old ≡ true → source.new ≡ source.old }
+        // Promise 2.33: At most 10,241 bytes of frames are read and not handed out
         ensures few { length self.new.held ≤ 10241 }
         ensures kept { S.fault_count source.old ≤ S.fault_count source.new }
     {
@@ -83,6 +92,7 @@ impl Intake {
         }
     }
 
+    // Promise 2.40, part 2
     /// Whether the next call reads nothing of the source: the next frame is at hand, or a bad length, or a stop from before.
     pub fn is_ready(&self) -> bool
         ensures { result ≡ is_at_hand self.now }

@@ -6,6 +6,8 @@ ghost use Rattle.tp_streams.specs.Written.{WritesPrefix};
 use crate::Stop;
 use tp_outside::{Failed, Sink};
 
+// Promise 2.34: Bytes are written whole, or the sink's fault comes with its new count and a prefix
+//   of them is written
 /// Writes bytes to their end, or stops with the fault of the sink.
 pub fn write_all<K: Sink>(sink: &mut K, bytes: &[u8]) -> Result<(), Stop>
     ensures kept { K.fault_count sink.old ≤ K.fault_count sink.new }

@@ -11,6 +11,7 @@ use crate::parts::{aaid_reads, addr_reads, branch_reads, each_child_reads, key_r
 use tp_logrec::{LogRec, LogVersion};
 use tp_names::{Addr, BranchId, Children, NodeKey, Outcome, Report};
 
+// Promise 2.19: A record of a log is known to have a text exactly where it has one
 /// The record has a text in a log of that version: its key has a branch where it must, it names a
 /// superior exactly where its key has a branch, it has no more children than fit, and a damage has
 /// a report.

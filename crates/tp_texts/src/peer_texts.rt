@@ -13,6 +13,7 @@ use tp_names::{Aaid, BranchId, Mark};
 use tp_records::{DialogueRecord, PeerRecord, RecState};
 use tp_units::Units;
 
+// Promise 2.20, part 2
 /// A record that carries no more of a user's octets than fit has a text. It shows that, and answers nothing.
 pub fn few_has_text(rec: &PeerRecord)
     requires { CarriesFew rec.now }

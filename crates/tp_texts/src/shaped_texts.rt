@@ -14,6 +14,8 @@ use crate::parts::{aaid_reads, addr_reads, branch_reads, each_child_reads, key_r
 use tp_logrec::{LogRec, LogVersion};
 use tp_names::{Addr, BranchId, Children, NodeKey, Outcome, Report};
 
+// Promise 2.20: A record of a log that is shaped as a text asks has one, and so has a record
+//   between nodes that carries no more of a user's octets than fit
 /// A record that is shaped as a text in a log of that version asks has one.
 #[inline(always)]
 pub fn shaped_has_text(version: LogVersion, rec: &LogRec)

@@ -15,6 +15,7 @@ use tp_schedule::word::{
     write_words,
 };
 
+// Promise 2.21, part 6
 /// Puts the identifier's word at the end of `out`. Without memory `out` stays as it was.
 pub fn write_aaid(alloc: Global, a: &Aaid, out: &mut Octets) -> Result<(), NoMemory>
     ensures ok { OnOk result (out.new ≡ out.old ++ aaid_word a.now) }
@@ -28,6 +29,7 @@ pub fn write_aaid(alloc: Global, a: &Aaid, out: &mut Octets) -> Result<(), NoMem
     written
 }
 
+// Promise 2.21, part 5
 /// Puts the two words of a node's key at the end of `out`. Without memory `out` stays as it was.
 pub fn write_key(alloc: Global, k: &NodeKey, out: &mut Octets) -> Result<(), NoMemory>
     ensures ok { OnOk result (out.new ≡ out.old ++ words (key_words k.now)) }
@@ -45,6 +47,7 @@ pub fn write_key(alloc: Global, k: &NodeKey, out: &mut Octets) -> Result<(), NoM
     written
 }
 
+// Promise 2.21, part 4
 /// Puts the words of a log record at the end of `out`. Without memory `out` stays as it was.
 pub fn write_rec(alloc: Global, v: &LogRec, out: &mut Octets) -> Result<(), NoMemory>
     ensures ok { OnOk result (out.new ≡ out.old ++ words (log_words (log_shown v.now))) }

@@ -16,6 +16,7 @@ use tp_schedule::word::{
     write_outcome, write_two_between, write_words,
 };
 
+// Promise 2.21, part 2
 /// Puts the line's text at the end of `out`, without an end. Without memory `out` stays as it was.
 pub fn write_out(alloc: Global, o: &OutLine, out: &mut Octets) -> Result<(), NoMemory>
     ensures ok { OnOk result (out.new ≡ out.old ++ out_text o.now) }
@@ -29,6 +30,7 @@ pub fn write_out(alloc: Global, o: &OutLine, out: &mut Octets) -> Result<(), NoM
     written
 }
 
+// Promise 2.21, part 3
 /// Puts the line's text at the end of `out`, without an end. Without memory a part of it may stand there.
 pub fn append_out(alloc: Global, o: &OutLine, out: &mut Octets) -> Result<(), NoMemory>
     ensures ok { OnOk result (out.new ≡ out.old ++ out_text o.now) }

@@ -29,6 +29,7 @@ use tp_schedule::value::{
 };
 use tp_units::Units;
 
+// Promise 2.24: A line of a transcript is read exactly where the bytes are the text of one
 /// The line of a transcript whose text these bytes are, without an end. `Word` comes exactly where they
 /// are the text of none: in such a text one space parts two words, nodes and frames are numbered from
 /// 1 to 65535 but for any u16 in a record of a log, and octets have their digits in full.

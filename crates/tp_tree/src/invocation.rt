@@ -92,6 +92,7 @@ impl Invocation {
         self.superior
     }
 
+    // Promise 10.7, part 2
     /// Whether the node may be the root of a transaction: it has no live dialogue with Commit to its
     /// superior.
     pub fn may_root(&self) -> bool
@@ -106,6 +107,8 @@ impl Invocation {
         }
     }
 
+    // Promise 10.5: A node's arcs are found, added, changed and taken away as the definitions say,
+    //   in the order in which they were asked for, the superior's first
     /// The arc with the peer of that number.
     #[tactic(auto, using(crate::proofs::Arcs::arc_found))]
     pub fn get(&self, peer: u16) -> Option<&Tie>
@@ -118,6 +121,7 @@ impl Invocation {
         find(self.below.as_slice(), peer)
     }
 
+    // Promise 10.5, part 2
     /// The dialogue with the peer of that number.
     pub fn find(&self, peer: u16) -> Option<&Dialogue>
         ensures tie { option_copied result ≡ option_map dialogue_of (find_tie (ties_of self.now) peer) }
@@ -127,6 +131,7 @@ impl Invocation {
         Some(&tie.dialogue)
     }
 
+    // Promise 10.5, part 3
     /// The arc with the peer of that number, to be changed; none where `find` has none. What is written
     /// there takes its place.
     #[tactic(auto, using(crate::proofs::Ties::found_mut, crate::proofs::Arcs::arc_found, crate::proofs::Arcs::arcs_put, crate::proofs::Arcs::writes_dialogue, crate::proofs::Arcs::writes_link))]
@@ -255,6 +260,7 @@ impl Invocation {
         requires room { IsTrue (has_room side self.old) }
         ensures value { OnOk result (self.new ≡ with_added side (fresh_tie addr units side) self.old) }
         ensures arcs { OnOk result (arcs_of self.new ≡ with_arc side (fresh_arc addr units side) (arcs_of self.old)) }
+        // Promise 10.6: A further arc takes no memory where room for all was taken at the start
         ensures memory { self.old.reserved ≡ true → result ≡ Ok tt }
         ensures same { OnErr result (self.new ≡ self.old) }
     {
@@ -266,6 +272,7 @@ impl Invocation {
         Ok(())
     }
 
+    // Promise 10.5, part 4
     /// Takes away the arc with the peer of that number, where there is one.
     #[tactic(auto, using(crate::proofs::Arcs::arcs_without))]
     pub fn remove(&mut self, peer: u16)

@@ -8,6 +8,11 @@ ghost use Rattle.tp_tree_commit.specs.Ends.{FiveAtMost, RunsAreCounted};
 ghost use Rattle.tp_tree_commit.specs.Examples.{EndsTogether, EndsApart};
 ghost use Rattle.tp_tree_commit.specs.Walks.{Walks};
 
+// Promise 24.2 [tp_tree_commit/specs/TreeCommit.antt]: **The page keeps three sentences by
+//   itself**: of two nodes that are told different outcomes one decided on its own, since where one
+//   committed none rolled back; where the root completes with no report, so does every node that
+//   did not leave, and its user was told to commit; and where nobody rolled back or decided to, and
+//   no node can go on, every node that did not leave has completed so, and there alone
 /// In every run of the page: of two nodes that are told different outcomes one decided on its own, since where one committed none rolled
 /// back; where the root's commitment is complete with no report, so is that of every node that did not leave, and its user was told to
 /// commit; and where nothing failed and no node can go on, and there alone, every node that did not leave has completed so.
@@ -15,6 +20,8 @@ pub fn the_page_keeps_its_sentences()
     ensures { (s : Tree) → Reached s → KeepsSentences s }
 {}
 
+// Promise 24.7 [tp_tree_commit/specs/Ends.antt]: Every run of the page comes to rest: each node
+//   acts at most five times, so there are at most five times as many steps as nodes in the tree
 /// Every run of the page comes to rest: its nodes act at most five times each, so it has at most five times as many steps as the tree has nodes.
 pub fn each_node_acts_at_most_five_times()
     ensures most { FiveAtMost }
@@ -26,6 +33,9 @@ pub fn steps_stay_on_the_page()
     ensures { (s t : Tree) → Reached s → Walks s t → Reached t }
 {}
 
+// Promise 24.6 [tp_tree_commit/specs/Examples.antt]: On the page a root and its branch may both
+//   complete with no report; and one may be told commit and the other rollback, where the branch
+//   decided
 /// A root and its branch may both complete their commitment with no report; and one may be told commit and the other rollback, where the
 /// branch decided on its own: sentence 1 cannot say more.
 pub fn two_nodes_end_together_or_apart()

@@ -210,10 +210,19 @@ pub fn transact<S: Source, K: Sink, D: Disk>(
     sink: &mut K,
     disk: D,
 ) -> (D, Result<(), Stop>)
+    // Promise 14.8 [tp_tx/specs/Transcript.antt]: Over frames of a source and a sink that tell
+    //   their bytes, what is written is the transcript of the definitions, and it ends as that does
+    //   and leaves its log; where the outside fails or memory runs out, a prefix of it is written
+    // Promise 14.9: A crash at any moment from the first sync on leaves the log of the run on some
+    //   of the events, and one at the end a log with all that happened
     ensures transacts { (s : Story) → D.told disk ≡ Some s → IsFile (seen s)
         → Transacts name (record { told = s; story = D.told result.0; left = S.left source.old; unread = S.left source.new; written = K.written sink.old; output = K.written sink.new }) result.1 }
+    // Promise 14.10: A fault is told with its object's count, and comes only where that rose in the
+    //   call
     ensures stops { IfErr result.1 (IsServeStop (D.fault_count disk) (D.fault_count result.0) (S.fault_count source.old) (S.fault_count source.new) (K.fault_count sink.old) (K.fault_count sink.new)) }
     ensures foreign { (at : ℕ) → result.1 ≡ Err (TheStop.Foreign at) → (source.new ≡ source.old) × (sink.new ≡ sink.old) }
+    // Promise 14.11 [clauses before foreign]: At a limit at 0, and where the log is foreign,
+    //   nothing was read or written
     ensures before { (what : Limits) → result.1 ≡ Err (TheStop.Limit what 0) → (source.new ≡ source.old) × (sink.new ≡ sink.old) }
     ensures read { S.fault_count source.old ≤ S.fault_count source.new }
     ensures kept { K.fault_count sink.old ≤ K.fault_count sink.new }

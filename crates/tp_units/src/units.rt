@@ -50,6 +50,7 @@ pub struct BadUnits {
 }
 
 impl Units {
+    // Promise 2.5, part 2
     /// The set of these bits, or the bit by which it is refused.
     pub fn check(bits: u8) -> Result<Units, BadUnits>
         ensures value { result ≡ unless_bad (bad_bit bits) bits }
@@ -78,6 +79,7 @@ impl Units {
     }
 }
 
+// Promise 2.5, part 3
 /// The set that an answer to an offer chooses, or the bit by which the answer is refused: as a set,
 /// else its lowest bit that was not offered.
 pub fn choose(offer: Units, answer: u8) -> Result<Units, BadUnits>
@@ -90,6 +92,7 @@ pub fn choose(offer: Units, answer: u8) -> Result<Units, BadUnits>
     }
 }
 
+// Promise 2.5: A set of functional units is permitted exactly where no bit refuses it
 /// A set of bits is permitted exactly where no bit refuses it.
 pub fn refused_exactly_where_not_permitted()
     ensures { (bits : ℕ) → bits < 2 ^ 8 → IsTrue (is_permitted bits) ↔ (bad_bit bits ≡ None) }

@@ -17,6 +17,8 @@ use tp_names::SiteName;
 /// The site and the number of workers that the words after the name of `tpdrive` ask for. Plain words are always taken: options,
 /// each once at most, as its name and a value in its range.
 pub fn read_drive(alloc: Global, words: &[&str]) -> Result<Drive, WordsFault>
+    // Promise 7.1 [clauses ok usage plain]: Which site and how many workers the words ask for is
+    //   told, and usage comes only where clap refuses the words or the name is none of a site
     ensures ok { IfOk result (AsksDrive (drive_said (map (λ w. w.now) words.now))) }
     ensures usage { result ≡ Err WordsFault.Usage → is_drive (drive_said (map (λ w. w.now) words.now)) ≡ false }
 

@@ -46,6 +46,7 @@ fn echo(alloc: Global, line: &Line, lines: &mut OutLines) -> Result<(), NoMemory
 }
 
 impl World {
+    // Promise 15.10: A new world stands for the one with no node, no frame and no site
     /// The world with no node, no frame and no site.
     #[tactic(auto, using(crate::proofs::Lines::of_no_run))]
     pub fn new(alloc: Global) -> World
@@ -60,6 +61,17 @@ impl World {
         }
     }
 
+    // Promise 15.1: A line shows what the definitions show, with its echo, in a world without
+    //   members, and the world stands for the one that the line leaves
+    // Promise 15.2: A name that is taken or not there, and a limit, end a line exactly where they
+    //   do in the definitions
+    // Promise 15.3: A site that crashes is left as one that starts on the bytes of its journal, of
+    //   which none is foreign, with the next boot number, and its nodes are declared again
+    // Promise 15.4: A site that stops in a changing call of the force of an event's record loses
+    //   the record or keeps it as the definitions say, and the event with it; its outputs go out in
+    //   neither case
+    // Promise 15.6 [tp_world_sites/specs/Sites.antt]: After each line every site's disk has the
+    //   bytes of the definitions' disk, all of them, and `image` shows these
     /// What a line shows, with its echo. One that speaks of a member ends the run. After a fault nothing is said of the world.
     pub fn line(&mut self, alloc: Global, line: &Line) -> Result<OutLines, WorldFault>
         ensures { (w : WorldValue) → Stands w self.old → Plays w line.now result self.new }
@@ -73,6 +85,11 @@ impl World {
         Ok(lines)
     }
 
+    // Promise 15.1, part 2
+    // Promise 15.2, part 2
+    // Promise 15.3, part 2
+    // Promise 15.4, part 2
+    // Promise 15.6, part 2
     /// What a line shows, without its echo, after the lines that are shown. After a fault nothing is said of world or lines.
     pub fn play(
         &mut self,
@@ -88,6 +105,7 @@ impl World {
         self.shown_line(alloc, line, lines)
     }
 
+    // Promise 15.9: The lines that close a transcript are those of the definitions
     /// One line for each tree, in the order of their starts.
     #[tactic(auto, using(crate::proofs::Tellings::closing_same))]
     pub fn closing(&self, alloc: Global) -> Result<OutLines, NoMemory>

@@ -58,6 +58,10 @@ impl<M: Member> DrivenWorld<M> {
         self.world.closing(alloc)
     }
 
+    // Promise 15.7: With members, a line shows what the definitions show for some answers that they
+    //   may give, one to each indication that is put to them; no answer is skipped and none is made
+    //   up
+    // Promise 15.8: The members are changed by being told alone
     /// What a line shows, with its echo, and what the answers of members show. After a fault the run has ended, and nothing more
     /// is said of the world.
     pub fn line(&mut self, alloc: Global, line: &Line) -> Result<OutLines, WorldFault>
@@ -75,6 +79,8 @@ impl<M: Member> DrivenWorld<M> {
         }
     }
 
+    // Promise 15.7, part 2
+    // Promise 15.8, part 2
     /// What a line shows, without its echo, and what the answers of members show, after the lines that are shown. After a
     /// fault the run has ended, and nothing more is said of the world nor of the lines.
     pub fn play(

@@ -49,6 +49,9 @@ fn is_text_of(journal: &Journal<FuseDisk>, rec: &LogRec) -> bool
     has_text(version, rec)
 }
 
+// Promise 15.5 [tp_world_sites/specs/Left.antt]: What a stop leaves of a disk is made by the
+//   journal's own force over a disk that stops in that call, and is to the byte what the
+//   definitions say
 /// What is left of a disk by a stop in the force of a record, or after it. The start of the log makes one call before.
 pub fn left_by(
     alloc: Global,

@@ -24,9 +24,19 @@ pub fn run<S: Source, K: Sink>(
     source: &mut S,
     sink: &mut K,
 ) -> Status
+    // Promise 21.9 [tpdraw/specs/Asked.antt, clauses usage unread]: Its words are usage exactly
+    //   where one of them is neither `--mermaid`, `--html`, `--lanes`, `--fold`, `--from` or
+    //   `--to`, nor the number after one of the last two, from 1 to 65535; and then nothing is read
     ensures usage { (result ≡ Status.Usage) ↔ (asked (map (λ w. w.now) words.now) ≡ None) }
     ensures unread { result ≡ Status.Usage → source.new ≡ source.old }
+    // Promise 21.10 [tpdraw/specs/Runs.antt]: A fault of its source or sink comes only where the
+    //   count of faults rose, with the new count
     ensures ending { IsEnding (S.fault_count source.old) (S.fault_count source.new) (K.fault_count sink.old) (K.fault_count sink.new) result }
+    // Promise 21.7 [tpdraw/specs/Runs.antt]: `tpdraw` writes just the picture of the transcript
+    //   that its input is, in the form that its words ask for; where the sink fails a prefix of it,
+    //   and in every other case nothing
+    // Promise 21.8 [tpdraw/specs/Transcripts.antt]: Its input is bad only where a line of it is the
+    //   text of no line of a transcript, and the first such line is named
     ensures draws { Draws (asked (map (λ w. w.now) words.now)) (S.left source.old) result (K.written sink.old) (K.written sink.new) }
 {
     match asked(words) {

@@ -45,14 +45,55 @@ pub fn run<S: Source, K: Sink, D: Disk, M: Member>(
     disk: D,
     members: Vec<M>,
 ) -> (Status, D)
+    // Promise 18.1 [clauses usage answers]: Usage comes exactly where the words are no command
+    //   line, unless memory runs out; then source, sink and disk are as they were
     ensures usage { result.0 ≡ Status.Usage → is_line (said (map (λ w. w.now) words.now)) ≡ false }
+    // Promise 18.17: A fault comes only where that object's count rose in the call, with the count;
+    //   a line's number is above 0, and a limit before the first line is the log's or the boots'
     ensures ending { IsEnding (S.fault_count source.old) (S.fault_count source.new) (K.fault_count sink.old) (K.fault_count sink.new) (D.fault_count disk) (D.fault_count result.1) result.0 }
+    // Promise 18.2 [tpnode/specs/Commands.antt]: A command gives its own statuses alone, and leaves
+    //   of source, sink and disk each as it was for which it has no fault status
+    // Promise 18.9 [tp_replay/specs/Making.antt]: `make` writes the schedule of its plan, or a
+    //   prefix of it where the sink fails
+    // Promise 18.10 [tp_replay/specs/Trying.antt]: `trial` writes the summary of the replay of that
+    //   schedule, or how that replay ends
+    // Promise 18.11 [tpnode/specs/Logs.antt]: `show` and `check` write and leave what chapter 4
+    //   says, `compact` and `migrate` leave it, and an image at any moment is as said there
+    // Promise 18.12 [tpnode/specs/Sites.antt]: `node` does on the log what the loop of a site over
+    //   frames does
+    // Promise 18.13 [tpnode/specs/Faces.antt]: `tx` does on the log what the loop of a face over
+    //   frames does
+    // Promise 18.14 [tpnode/specs/Keys.antt]: `keys` writes a line for each key of the store;
+    //   nothing where there is no store or the disk fails, and a prefix where the sink fails
+    // Promise 18.15 [tpnode/specs/Auditing.antt]: `audit` writes the verdict and the fates of the
+    //   logs of its frames, or ends with what stops it
+    // Promise 18.16 [tpnode/specs/Commands.antt]: After Ok of `format` a disk holds a log of
+    //   version 2 with no records, and nothing else
     ensures answers { Answers (may_of M.allowed members.items) (length members.items) (said (map (λ w. w.now) words.now)) (record { status = result.0; left = S.left source.old; unread = S.left source.new; written = K.written sink.old; output = K.written sink.new; told = D.told disk; story = D.told result.1 }) (source.new ≡ source.old) (sink.new ≡ sink.old) (result.1 ≡ disk) }
+    // Promise 18.6: A run of `replay` that ends with Ok has read its source to the end; one that
+    //   ends at a line has read at most 12,288 bytes past that line's start, or past its end where
+    //   the line is too long or passes the schedule's limit
     ensures reads { map (λ w. w.now) words.now ≡ replay_words → (bytes : List ℕ) → S.left source.old ≡ Some bytes → ReadsSo bytes result.0 (S.left source.new) }
+    // Promise 18.18 [clauses disk answers]: `replay`, `make` and `trial` hand the disk back as it
+    //   came
     ensures disk { map (λ w. w.now) words.now ≡ replay_words → result.1 ≡ disk }
+    // Promise 18.3 [tp_replay/specs/Transcribing.antt, clauses transcript answers]: **`replay`
+    //   writes the transcript of the definitions, for every schedule and every list of members**:
+    //   there are answers, one to each indication that is put to a member and each as that member
+    //   may answer, and the run ends as the transcript for them ends
+    // Promise 18.4 [tp_replay/specs/Transcribing.antt, clauses transcript answers]: Where the
+    //   source fails, what is written is the transcript of whole lines of the schedule, without
+    //   closing lines, and of the lines after them no line's end was read
+    // Promise 18.5 [tp_replay/specs/Transcribing.antt, clauses transcript answers]: Where the sink
+    //   fails or memory runs out, a prefix of the transcript for the answers that were given
     ensures transcript { map (λ w. w.now) words.now ≡ replay_words → (bytes : List ℕ) → S.left source.old ≡ Some bytes → Transcribes (may_of M.allowed members.items) (length members.items) bytes result.0 (S.left source.new) (K.written sink.old) (K.written sink.new) }
     ensures one { AreCertain (may_of M.allowed members.items) → (bytes : List ℕ) → IsOne (may_of M.allowed members.items) (length members.items) bytes }
+    // Promise 18.8: The world of each transcript keeps all promises, the headline with them, also
+    //   where the source or the sink failed
     ensures promised { (bytes : List ℕ) (answers : List (Option Request)) → AllPromised (transcript_with (length members.items) bytes answers).world }
+    // Promise 18.7: A schedule whose transcript comes to its end, whatever the members answer of
+    //   what they may, is replayed to its end where neither source nor sink fails and memory does
+    //   not run out
     ensures complete { map (λ w. w.now) words.now ≡ replay_words → (bytes : List ℕ) → S.left source.old ≡ Some bytes → IsComplete (may_of M.allowed members.items) (length members.items) bytes → ¬ (HasRisen (S.fault_count source.old) (S.fault_count source.new)) → ¬ (HasRisen (K.fault_count sink.old) (K.fault_count sink.new)) → (result.0 ≡ Status.Ok) ⊎ (result.0 ≡ Status.NoMemory) }
 {
     match read(alloc, words) {

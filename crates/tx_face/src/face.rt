@@ -73,7 +73,11 @@ impl<K: Keeper> Face<K> {
     /// A face of the node of that number, which is declared as one without a superior: the site answers that event, and its faults
     /// are those: at a node that is not declared yet, of a site that is not shut, out of memory alone. Nothing was told yet.
     pub fn new(alloc: Global, site: Site<K>, node: u16) -> Result<Face<K>, (Site<K>, SiteFault)>
+        // Promise 14.4: A new face is the declaration of a node without a superior, which gives no
+        //   outputs
         ensures made { IsMade K.standing site node result }
+        // Promise 14.5: After any list of calls the site stands where the definitions' run of their
+        //   events does
         ensures goes { (o : Opening) (gs : List Given) → IsAt K.standing all_nodes o gs site → GoesMade K.standing o gs site node result }
         ensures fresh { (known_at site node).declared ≡ false → site.shut ≡ None → IfErr result (λ e. e.1 ≡ SiteFaults.NoMemory) }
     {
@@ -139,7 +143,13 @@ impl<K: Keeper> Face<K> {
 
     /// Begins a transaction at the dialogue with that peer, or adds it to the one that is begun. Taken at Idle and Open alone.
     pub fn begin(&mut self, alloc: Global, peer: u16) -> Result<Outputs, FaceFault>
+        // Promise 14.1 [tx_face/specs/Stands.antt]: A call of a face is taken exactly where the
+        //   node's transaction stands as it asks for; else it is answered Protocol with the stand,
+        //   and nothing has changed
+        // Promise 14.3: A call that is taken is exactly one event of the site, with its outputs and
+        //   its faults
         ensures calls { Calls K.standing (takes_begin (stand_at self.old)) self.old (Given.Do self.old.node (Asks.BeginTransaction peer)) result self.new }
+        // Promise 14.5, part 2
         ensures goes { (o : Opening) (gs : List Given) (past : List Entry) → IsFaceAt K.standing o gs past self.old → GoesOn K.standing (takes_begin (stand_at self.old)) o gs past self.old (Given.Do self.old.node (Asks.BeginTransaction peer)) result self.new }
         ensures lasting { (K.standing self.new.site.keeper).lasting ≡ (K.standing self.old.site.keeper).lasting }
     {
@@ -149,6 +159,8 @@ impl<K: Keeper> Face<K> {
 
     /// Asks for commitment. Taken at Open alone.
     pub fn commit(&mut self, alloc: Global) -> Result<Outputs, FaceFault>
+        // Promise 14.1, part 2
+        // Promise 14.3, part 2
         ensures calls { Calls K.standing (takes_commit (stand_at self.old)) self.old (Given.Do self.old.node Asks.Commit) result self.new }
         ensures goes { (o : Opening) (gs : List Given) (past : List Entry) → IsFaceAt K.standing o gs past self.old → GoesOn K.standing (takes_commit (stand_at self.old)) o gs past self.old (Given.Do self.old.node Asks.Commit) result self.new }
         ensures lasting { (K.standing self.new.site.keeper).lasting ≡ (K.standing self.old.site.keeper).lasting }
@@ -159,6 +171,8 @@ impl<K: Keeper> Face<K> {
 
     /// Rolls back. Taken at Open and Asked alone.
     pub fn rollback(&mut self, alloc: Global) -> Result<Outputs, FaceFault>
+        // Promise 14.1, part 3
+        // Promise 14.3, part 3
         ensures calls { Calls K.standing (takes_rollback (stand_at self.old)) self.old (Given.Do self.old.node Asks.Rollback) result self.new }
         ensures goes { (o : Opening) (gs : List Given) (past : List Entry) → IsFaceAt K.standing o gs past self.old → GoesOn K.standing (takes_rollback (stand_at self.old)) o gs past self.old (Given.Do self.old.node Asks.Rollback) result self.new }
         ensures lasting { (K.standing self.new.site.keeper).lasting ≡ (K.standing self.old.site.keeper).lasting }
@@ -169,6 +183,8 @@ impl<K: Keeper> Face<K> {
 
     /// Says that the program has finished its part of the commitment or rollback. Taken at Owing alone.
     pub fn finish(&mut self, alloc: Global) -> Result<Outputs, FaceFault>
+        // Promise 14.1, part 4
+        // Promise 14.3, part 4
         ensures calls { Calls K.standing (takes_finish (stand_at self.old)) self.old (Given.Do self.old.node Asks.Done) result self.new }
         ensures goes { (o : Opening) (gs : List Given) (past : List Entry) → IsFaceAt K.standing o gs past self.old → GoesOn K.standing (takes_finish (stand_at self.old)) o gs past self.old (Given.Do self.old.node Asks.Done) result self.new }
         ensures lasting { (K.standing self.new.site.keeper).lasting ≡ (K.standing self.old.site.keeper).lasting }
@@ -180,6 +196,9 @@ impl<K: Keeper> Face<K> {
     /// Any other event of the site, as its dialogues, arrivals and losses. Not taken is what the program at the face's node asks for by
     /// a call, and that it leaves the transaction unchanged.
     pub fn feed(&mut self, alloc: Global, event: &Event) -> Result<Outputs, FaceFault>
+        // Promise 14.2 [tx_face/specs/Face.antt]: `feed` refuses so exactly the requests of the
+        //   face's node that are begin-transaction, commit, done, rollback or unchanged
+        // Promise 14.3, part 5
         ensures calls { Calls K.standing (is_fed self.old.node event.now) self.old event.now result self.new }
         ensures goes { (o : Opening) (gs : List Given) (past : List Entry) → IsFaceAt K.standing o gs past self.old → GoesOn K.standing (is_fed self.old.node event.now) o gs past self.old event.now result self.new }
         ensures lasting { (K.standing self.new.site.keeper).lasting ≡ (K.standing self.old.site.keeper).lasting }
@@ -191,6 +210,8 @@ impl<K: Keeper> Face<K> {
     /// Where the program stands with its current transaction.
     pub fn stand(&self) -> Stand
         ensures stand { result ≡ stand_at self.now }
+        // Promise 14.6: The stand is that of what is known after the node's history, and the code
+        //   that of the last completion that the history told since the face was made
         ensures at { (o : Opening) (gs : List Given) (past : List Entry) → IsFaceAt K.standing o gs past self.now → result ≡ stand (digest (origin_at o self.now.node) (history_at o gs self.now.node)) }
     {
         Stand::of(self.site.shown(self.node))
@@ -200,7 +221,10 @@ impl<K: Keeper> Face<K> {
     /// means that every node of it that stays committed, in whatever run of a world this node's history stands.
     pub fn code(&self) -> Option<Code>
         ensures code { result ≡ self.now.code }
+        // Promise 14.6, part 2
         ensures at { (o : Opening) (gs : List Given) (past : List Entry) → (at : IsFaceAt K.standing o gs past self.now) → result ≡ code_of at.since }
+        // Promise 14.7: **Committed at the root of a tree means that every node of it that stays
+        //   was told commit**, in every run of a world in which a node has that history
         ensures committed { (o : Opening) (gs : List Given) (past : List Entry) → (at : IsFaceAt K.standing o gs past self.now) → (es : List Happening) (x : Node) (older : List Entry) → IsIn (run es) x → x.history ≡ at.since ++ older → result ≡ Some CodeValue.Committed → MeansAll (run es) x at.since older }
     {
         self.code
@@ -215,6 +239,7 @@ impl<K: Keeper> Face<K> {
 }
 
 impl<K: Settles> Face<K> {
+    // Promise 14.12, part 2
     /// Forces all that its site has noted. The face stands where it stood; a fault of the disk shuts the site.
     pub fn settle_log(&mut self) -> Result<(), ForceFault>
         ensures settles { SettlesTo (K.standing self.old.site.keeper) result (K.standing self.new.site.keeper) }
@@ -228,6 +253,7 @@ impl<K: Settles> Face<K> {
 }
 
 impl<D: Disk> Face<Journal<D>> {
+    // Promise 14.12: A face goes on so too, and stands where it stood
     /// The same face over the same log, which notes records from now on.
     pub fn ahead(self, alloc: Global) -> Result<Face<Gathering<D>>, (Face<Journal<D>>, NoMemory)>
         ensures ok { IfOk result (λ face. face ≡ record { site = record { keeper = record { journal = self.site.keeper; settled = length self.site.keeper.list }; nodes = self.site.nodes; shut = self.site.shut }; node = self.node; code = self.code }) }

@@ -50,14 +50,27 @@ impl<D: Disk> Bound<D> {
         // The indications of other nodes are nothing to it.
         ensures others { IfOk result (λ told. node ≢ self.old.node → (told ≡ None) × (self.new ≡ self.old)) }
         // A body that is needed is added, and the answer follows; or the disk has failed.
+        // Promise 8.8: What a store does with an indication, and what it answers, is the table of
+        //   SERVICE
+        // Promise 8.9: A body that was needed is missing only where the disk's count rose in the
+        //   call, or the log was shut before
+        // Promise 8.11 [clauses tells forced]: When a call has answered and the disk has not
+        //   failed, all bodies are on the disk: the Bind before the answer `commit`, the Keep
+        //   before the answer `done`
         ensures tells { IfOk result (λ told. node ≡ self.old.node
             → Tells (wish self.old.store self.old.current self.old.gate ind.now) self.old (D.fault_count self.old.disk) told self.new (D.fault_count self.new.disk)) }
         // So it is one of the answers that a store may give.
+        // Promise 8.17 [clauses says shuts]: In a box a store answers as it may, one answer after
+        //   the other; a fault answer comes only where its disk's count rose, or after such an
+        //   answer
         ensures says { IfOk result (λ told. Says (speaker self.old) (record { node = node; indication = ind.now; request = told }) (speaker self.new)) }
         // It is shut only where the disk failed.
         ensures shuts { IsShutBy D.fault_count (speaker self.old) self.old.disk (speaker self.new) self.new.disk }
         ensures unchanged { OnErr result (self.new ≡ self.old) }
         // Whatever moment the machine stops at, the disk opens to the content from before the call, or to that with it.
+        // Promise 8.10: While a store is not shut, whatever moment of a call the machine stops at,
+        //   a disk that tells its story opens to the content from before the call, or to that with
+        //   the writes of the Bind that it keeps
         ensures moments { node ≡ self.old.node → OpensThroughout (wish self.old.store self.old.current self.old.gate ind.now) self.old (D.told self.old.disk) (D.told self.new.disk) }
         // Where no call of the disk has failed, all bodies are on the disk, that which was added too.
         ensures forced { IsStarted (D.told self.new.disk) self.new.gate self.new.bodies self.new.shut }

@@ -164,6 +164,7 @@ fn write_event(alloc: Global, event: &Event, out: &mut Octets) -> Result<(), NoM
     }
 }
 
+// Promise 2.7, part 3
 /// Puts the text of an output at the end of `out`. Without memory a part of it may be there. Octets that are too many for a
 /// count of two bytes are answered as if there were no memory.
 pub fn write_output(alloc: Global, output: &Output, out: &mut Octets) -> Result<(), NoMemory>

@@ -13,6 +13,9 @@ use tp_names::NoMemory;
 use tp_outside::Disk;
 
 impl<D: Disk> Site<Journal<D>> {
+    // Promise 11.16: A site goes on over the same log, which notes records from then on; all that
+    //   was noted is forced at once, which leaves the site where it stood, and shuts it where the
+    //   disk fails
     /// The same site over the same log, which notes records from now on.
     pub fn ahead(self, alloc: Global) -> Result<Site<Gathering<D>>, (Site<Journal<D>>, NoMemory)>
         ensures ok { IfOk result (λ site. site ≡ record { keeper = record { journal = self.keeper; settled = length self.keeper.list }; nodes = self.nodes; shut = self.shut }) }
@@ -45,6 +48,7 @@ impl<D: Disk> Site<Journal<D>> {
 }
 
 impl<K: Settles> Site<K> {
+    // Promise 11.16, part 2
     /// Forces all that is noted. The nodes stay as they are; a fault of the disk shuts the site.
     pub fn settle_log(&mut self) -> Result<(), ForceFault>
         ensures settles { SettlesTo (K.standing self.old.keeper) result (K.standing self.new.keeper) }

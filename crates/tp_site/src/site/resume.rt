@@ -70,6 +70,8 @@ fn lane_of<K: Keeper>(
 }
 
 impl<K: Keeper> Site<K> {
+    // Promise 11.12: A site goes on over a log that was started already, for the nodes of one lane,
+    //   with nothing forced
     /// Goes on over a log that was started already with that boot number, for the nodes of one lane: those whose number is
     /// `lane` modulo `lanes`. Nothing is forced. Of other nodes' records nothing is looked at, so only events of nodes of the lane
     /// are answered as the definitions say.
