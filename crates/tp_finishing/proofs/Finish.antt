@@ -23,11 +23,13 @@ use Rattle.tp_histories.specs.Worlds.{place, Above}
 use Rattle.tp_histories.proofs.trees.Late.{late_law}
 use Rattle.tp_histories.proofs.worlds.Good.{good_run}
 use Rattle.tp_finishing.specs.Doubt.{known_of}
-use Rattle.tp_finishing.specs.Quiet.{IsQuiet, Each}
-use Rattle.tp_finishing.specs.Finishing.{IsRecovery, IsOver, most_lines, NoRunIsStuck, EveryRunEnds}
+use Rattle.tp_finishing.specs.Quiet.{IsQuiet, Each, IsStop, Quietens}
+use Rattle.tp_finishing.specs.Cuts.{IsCut, most_cuts}
+use Rattle.tp_finishing.specs.Finishing.{IsRecovery, IsOver, most_lines, NoRunIsStuck, EndsBy, EveryRunEnds, CutsEnd}
 use Rattle.tp_finishing.proofs.Kindred.{KeyAt, FitsKept, AllFit}
 use Rattle.tp_finishing.proofs.Closed.{over_is_closed}
 use Rattle.tp_finishing.proofs.Stops.{stops_quieten}
+use Rattle.tp_finishing.proofs.Cutting.{cuts_quieten}
 use Rattle.tp_finishing.proofs.Sites.{EachNode, nodes_found}
 use Rattle.tp_finishing.proofs.Picks.{distinct_run, First, Last, pick_first, pick_last}
 use Rattle.tp_finishing.proofs.Doubts.{IsSuperiorAt, IsBranchAt, fit_run}
@@ -243,9 +245,12 @@ no_run_is_stuck es quiet =
     let f : Ends es = finish (most_lines (run es).nodes) es quiet (omega arith) in
     (f.more, record { recovers = f.recovers; short = f.short; over = f.over; closed = over_is_closed (f.more ++ es) f.over })
 
--- after a stop of each site
+-- after lines that make the world quiet
+ends_after_quiet : (P : Happening → Type 0) (most : ℕ) (es : List Happening) → (first : List Happening) × Quietens P most es first → (first : List Happening) × (more : List Happening) × EndsBy P most es first more
+ends_after_quiet P most es q = let f = no_run_is_stuck (q.0 ++ es) q.1.quiet in (q.0, f.0, record { by = q.1.by; few = q.1.short; finishes = f.1 })
+
 pub every_run_ends : EveryRunEnds
-every_run_ends es =
-    let q = stops_quieten es in
-    let f = no_run_is_stuck (q.0 ++ es) q.1.quiet in
-    (q.0, f.0, record { stopped = q.1.by; few = q.1.short; finishes = f.1 })
+every_run_ends es = ends_after_quiet IsStop (length (run es).sites) es (stops_quieten es)
+
+pub cuts_end : CutsEnd
+cuts_end es may = ends_after_quiet IsCut (most_cuts (run es).nodes) es (cuts_quieten es may)
