@@ -1,8 +1,8 @@
 #!/usr/bin/env python3
 """What is done every day, each in one word.
 
-./do quick              lays out, checks what changed and what stands on it, docs/check and the examples, in five minutes
-./do above CRATE        the crates that stand on CRATE, lowest first
+./do quick              lays out, checks what changed and the crates that use its contracts, docs/check and the examples, in five minutes
+./do above CRATE        the crates above CRATE, lowest first
 ./do replay SCHEDULE    plays a schedule; ./do draw TRANSCRIPT draws one
 ./do bench [..]         bench/run; ./do trials NAME [..] is trials/run
 ./do gate               rt ci, with the processor seconds of each crate, and a fault above the budget
@@ -26,7 +26,7 @@ CONTRACT = re.compile(r"\b(pub|ensures|requires|ghost|struct|enum|trait|impl)\b"
 
 
 def crates() -> dict[str, list[str]]:
-    """Each crate, lowest first, and what it stands on."""
+    """Each crate, lowest first, and those below it that it uses."""
     lines = [it for it in (TOP / "crates.txt").read_text().splitlines() if it and not it.startswith("#")]
     named = {it.split(":")[0].split()[0]: it.split(":")[1].split() for it in lines}
     lowest: dict[str, list[str]] = {}
@@ -43,7 +43,7 @@ def crates() -> dict[str, list[str]]:
 
 
 def above(crate: str) -> list[str]:
-    """The crates that stand on one, lowest first."""
+    """The crates above one, lowest first."""
     found = {crate}
     for name, below in crates().items():
         if found & set(below):
@@ -96,7 +96,7 @@ def quick() -> int:
 
 
 def examples() -> list[str]:
-    """The examples whose transcript is not the one that stands beside them."""
+    """The examples whose transcript is not the one beside them."""
     failed = []
     for schedule in sorted((TOP / "examples").glob("*.schedule")):
         ran = subprocess.run([TOP / "replay", schedule], stdout=subprocess.PIPE, stderr=subprocess.PIPE)
