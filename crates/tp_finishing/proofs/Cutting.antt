@@ -1,5 +1,5 @@
 -- Cuts make a world quiet, where each node may be cut: one cut after the other, at the first node that is not quiet.
-use Rattle.std.proofs.Common.{if◌then◌else◌, ◌≡◌, ◌⊎◌, inl, inr, ℕ, zero, suc, ◌≤◌, ◌+◌, Bool, true, false, refl, ap, sym, subst, ◌∙◌, arith, Option, Some, None, List, [], ◌∷◌, ◌++◌, ◌&&◌, ◌||◌, ◌==◌, not, length, length-append}
+use Rattle.std.proofs.Common.{if◌then◌else◌, ◌≡◌, ◌⊎◌, inl, inr, ℕ, zero, suc, ◌≤◌, ◌+◌, Bool, true, false, refl, ap, sym, subst, ◌∙◌, arith, Option, Some, None, List, [], ◌∷◌, ◌++◌, ◌&&◌, ◌||◌, ◌==◌, not, length, length-append, append_assoc}
 use Rattle.std.proofs.lemmas.Bool.Decides.{nat_tests}
 use Rattle.tp_names.specs.declared.identifiers.Addr.{Addr}
 use Rattle.tp_names.specs.declared.outcome.Report.{Report}
@@ -281,13 +281,12 @@ step es all = go (pick_first is_busy (run es).nodes (distinct_run es))
     go (inl none) = inl (λ z there. quiet_idle z (nodes_found (λ v. is_busy v ≡ false) (run es).nodes (number_of z) z none there))
     go (inr r) = inr (of_next es r.node all r.here (next es r.node r.here (all r.node r.here) r.is))
 
-each_append : (P : Happening → Type 0) (xs ys : List Happening) → Each P xs → Each P ys → Each P (xs ++ ys)
+pub each_append : (P : Happening → Type 0) (xs ys : List Happening) → Each P xs → Each P ys → Each P (xs ++ ys)
 each_append P [] ys h i = i
 each_append P (x ∷ xs) ys h i = (h.0, each_append P xs ys h.1 i)
 
-joined : (xs : List Happening) (y : Happening) (zs : List Happening) → (xs ++ y ∷ []) ++ zs ≡ xs ++ y ∷ zs
-joined [] y zs = refl
-joined (x ∷ xs) y zs = ap (λ (l : List Happening). x ∷ l) (joined xs y zs)
+pub joined : (xs ys zs : List Happening) → (xs ++ ys) ++ zs ≡ xs ++ (ys ++ zs)
+joined xs ys zs = simp append_assoc
 
 after_one : (es : List Happening) (n : ℕ) → (p : Progress es) → (more : List Happening) × Quietens IsCut n (p.line ∷ es) more → suc n ≤ most_cuts (run es).nodes → (more : List Happening) × Quietens IsCut (most_cuts (run es).nodes) es more
 after_one es n p rest less = (
@@ -295,7 +294,7 @@ after_one es n p rest less = (
   record {
     by = each_append IsCut rest.0 (p.line ∷ []) rest.1.by (p.is, tt);
     short = short (length (rest.0 ++ p.line ∷ [])) (length rest.0) n (most_cuts (run es).nodes) (length-append rest.0 (p.line ∷ [])) rest.1.short less;
-    quiet = subst (λ (l : List Happening). IsQuiet (run l)) (sym (joined rest.0 p.line es)) rest.1.quiet;
+    quiet = subst (λ (l : List Happening). IsQuiet (run l)) (sym (joined rest.0 (p.line ∷ []) es)) rest.1.quiet;
   },
 )
   where

@@ -1,5 +1,5 @@
 -- The loss of an association at a node: its transaction rolls back, is complete, or stays as it was; and which association may be lost next.
-use Rattle.std.proofs.Common.{if◌then◌else◌, ◌≡◌, ◌⊎◌, inl, inr, ℕ, suc, ◌≤◌, ◌+◌, Bool, true, false, refl, ap, sym, subst, ◌∙◌, arith, Option, Some, None, List, [], ◌∷◌, ◌++◌, ◌&&◌, ◌||◌, ◌==◌, not, nat_lt, length}
+use Rattle.std.proofs.Common.{if◌then◌else◌, ◌≡◌, ◌⊎◌, inl, inr, ℕ, suc, ◌≤◌, ◌+◌, Bool, true, false, refl, ap, sym, subst, ◌∙◌, arith, Option, Some, None, List, [], ◌∷◌, ◌++◌, ◌&&◌, ◌||◌, ◌==◌, not, length}
 use Rattle.std.proofs.lemmas.Bool.Decides.{nat_tests}
 use Rattle.tp_records.specs.declared.dialogue.DialogueRecord.{DialogueRecord}
 use Rattle.tp_records.specs.declared.indication.Indication.{Indication}
@@ -26,7 +26,8 @@ use Rattle.tp_finishing.specs.Cuts.{MayBeCut, cuts_at}
 use Rattle.tp_finishing.proofs.Waiting.{awaited_blocks}
 use Rattle.tp_finishing.proofs.Hearing.{are_words, Words, joined, nothing, told, down_words, up_words, within_turn, fewer}
 use Rattle.tp_finishing.proofs.Retries.{remains, same_phase}
-use Rattle.tp_finishing.proofs.Still.{left_by, Turned, quiet_turn}
+use Rattle.tp_finishing.proofs.Still.{left_by, Turned, quiet_turn, enough}
+use Rattle.tp_finishing.proofs.Ending.{all_gone}
 use Rattle.tp_finishing.proofs.Taking.{taken_by}
 
 -- ---- a transaction that sees no association with the peer has nothing to lose there
@@ -209,13 +210,6 @@ falls_turn who d c p h n = record {
 
 -- ---- a node without associations
 
-all_dead : (bs : List Branch) → all_rolled_back (seen_rows [] bs) ≡ true
-all_dead [] = refl
-all_dead (b ∷ bs) = go b.ended b.left (all_dead bs)
-  where
-    go : (e l : Bool) → all_rolled_back (seen_rows [] bs) ≡ true → ((e || l || true) && all_rolled_back (seen_rows [] bs)) ≡ true
-    go e l h = grind (arith, h)
-
 up_dead : (k : Key) → is_up_live [] k ≡ false
 up_dead (Root t) = refl
 up_dead (Under t b a) = refl
@@ -229,7 +223,7 @@ gone_alone who c owes = go (not c.owes && all_rolled_back (seen_rows [] c.branch
     either b = grind arith
 
     on : (not c.owes && all_rolled_back (seen_rows [] c.branches) && (c.superior_rolled || not (is_up_live [] c.key))) ≡ true
-    on = rw (owes, all_dead c.branches, up_dead c.key) (either c.superior_rolled)
+    on = rw (owes, all_gone c.branches, up_dead c.key) (either c.superior_rolled)
 
     go : (b : Bool) → (not c.owes && all_rolled_back (seen_rows [] c.branches) && (c.superior_rolled || not (is_up_live [] c.key))) ≡ b → (complete_rollback (seen who [] c)).next.phase ≡ Phase.Nil
     go true i = rw (i, complete_rollback) refl
@@ -359,9 +353,6 @@ numbers_without n p (a ∷ arcs) h = go (a.peer.node == p) (numbers_without n p 
 lose_plain : (who : Who) (d : Digest) (p : ℕ) (x : Arc) → find_arc d.arcs p ≡ Some x → is_idle x.link ≡ false → is_no_node d ≡ false → refused_plainly who d (Event.Lose p) ≡ None
 lose_plain who d p x found idle node = let link : is_idle (link_with d.arcs p) ≡ false = ap (λ (o : Option Arc). is_idle (link_of o)) found ∙ idle in rw (node, link, refused_plainly) refl
 
-enough : (n : ℕ) → n ≤ greatest → (nat_lt greatest n || false) ≡ false
-enough n h = grind (arith, nat_tests, h)
-
 without : Digest → ℕ → Digest
 without d p = record d { arcs = without_arc d.arcs p }
 
@@ -369,7 +360,7 @@ without d p = record d { arcs = without_arc d.arcs p }
 lose_idle : (who : Who) (d : Digest) (p : ℕ) (x : Arc) → find_arc d.arcs p ≡ Some x → d.drawn ≤ greatest → d.current ≡ None → Leaves who d (perform (TxOut.Tell (Indication.PAbort p) ∷ []) (without d p))
 unfolding without
 lose_idle who d p x found h none = record {
-  numbers = enough d.drawn h;
+  numbers = enough d.drawn false h refl;
   may = none_cut (record d { arcs = without_arc d.arcs p }) none;
   less = let k = fewer_arcs d.arcs p x found in omega (arith, k);
 }
@@ -412,7 +403,7 @@ lose_held who d c p x found h at late may so = subst (Leaves who d) (sym (lost_t
     -- as it was, without that association
     stays : Leaves who d (turned_by who g c (told_lost p (turn [] t)))
     stays = subst (Leaves who d) (sym (stays_turn who g c p at late)) (record {
-      numbers = enough d.drawn h;
+      numbers = enough d.drawn false h refl;
       may = λ u i act. numbers_without (suc (length u.branches)) p d.arcs (may u i act);
       less = lower (length g.arcs) (length d.arcs) (flag d.current) few;
     })

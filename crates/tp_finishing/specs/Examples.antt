@@ -2,15 +2,19 @@
 -- by themselves and one was given up, with a stop between two records of the root; and what a rollback waits for.
 use Rattle.std.specs.Prelude.{ℕ, ◌&&◌, not, Bool, true, false, Option, Some, None, List, [], ◌∷◌, ◌++◌, reverse, codes, length}
 use Rattle.tp_names.specs.declared.outcome.Outcome.{Outcome}
+use Rattle.tp_records.specs.declared.request.Request.{Request}
+use Rattle.tp_records.specs.declared.peer.PeerRecord.{PeerRecord}
 use Rattle.tp_model.specs.declared.arc.Phase.{Phase}
 use Rattle.tp_model.specs.declared.line.Action.{Action}
 use Rattle.tp_model.specs.declared.line.LineRequest.{LineRequest}
-use Rattle.tp_model.specs.Parts.{Out, Digest}
+use Rattle.tp_model.specs.declared.refusal.Refusal.{Refusal}
+use Rattle.tp_model.specs.Parts.{Event, Out, Send, Digest}
+use Rattle.tp_model.specs.History.{refuse}
 use Rattle.tp_model.specs.Dialogues.{is_rolling}
 use Rattle.tp_model.specs.Arcs.{is_live_with_peer}
 use Rattle.tp_model.specs.Node.{phase_of}
 use Rattle.tp_model.specs.World.{Node, find_node}
-use Rattle.tp_model.specs.Happenings.{Happening, Declare, Does, Crash, run}
+use Rattle.tp_model.specs.Happenings.{Happening, Declare, Does, Crash, restarted, run}
 use Rattle.tp_finishing.specs.Doubt.{known_of}
 use Rattle.tp_finishing.specs.Waiting.{is_awaited}
 use Rattle.tp_finishing.specs.Finishing.{most_lines}
@@ -180,3 +184,13 @@ cuts_after es = most_cuts (run (reverse es)).nodes
 -- what the node would say where its site stopped then
 abbrev pub said_again_after : List Happening → ℕ → List Out
 said_again_after es n = elim (node_after es n) [ None ↦ [] | Some x ↦ says_again x ]
+
+-- it asks its superior
+abbrev pub asks_superior : List Out → Bool
+asks_superior [] = false
+asks_superior (Send a (PeerRecord.RecReady t b) ∷ outs) = true
+asks_superior (o ∷ outs) = asks_superior outs
+
+-- and what its user would be told then
+abbrev pub refused_again_after : List Happening → ℕ → Request → Option Refusal
+refused_again_after es n r = elim (node_after es n) [ None ↦ None | Some x ↦ refuse x.origin (restarted x).history (Event.Do r) ]

@@ -6,8 +6,10 @@ ghost use Rattle.tp_model.specs.declared.out_line.OutLine.{OutLine};
 ghost use Rattle.tp_model.specs.Happenings.{Crash, run};
 ghost use Rattle.tp_model.specs.Trees.{closing};
 ghost use Rattle.tp_finishing.specs.Again.{tells_to_commit};
+ghost use Rattle.tp_records.specs.declared.request.Request.{Request};
 ghost use Rattle.tp_model.specs.declared.arc.Phase.{Phase};
-ghost use Rattle.tp_finishing.specs.Examples.{rolled_back, alone, has_rolled_after, waits_after, unheard, heard_since, stopped, ended, in_danger, decided, cut, all_stopped, first_heard, recovery, phase_after, arcs_after, is_over_after, are_over_after, lines_after, cuts_after, said_again_after};
+ghost use Rattle.tp_model.specs.declared.refusal.Refusal.{Refusal};
+ghost use Rattle.tp_finishing.specs.Examples.{rolled_back, alone, has_rolled_after, waits_after, unheard, heard_since, stopped, ended, in_danger, decided, cut, all_stopped, first_heard, recovery, phase_after, arcs_after, is_over_after, are_over_after, lines_after, cuts_after, said_again_after, asks_superior, refused_again_after};
 
 /// The order of a root is lost while its branch is in doubt and both are up. The branch asks, and commits by the answer.
 pub fn a_lost_order_is_asked_for()
@@ -29,10 +31,11 @@ pub fn a_stopped_run_is_ended()
 {}
 
 /// Two branches decided to roll back, the site of the root stopped between its Commit and its Damage, and the root gave one of them up.
-/// What it may have said in vain it says again: its user is told to commit. Two cuts leave the branches without an association, as
+/// What it may have said in vain it says again: its user is told to commit, and a branch in doubt asks it. Two cuts leave the branches without an association, as
 /// many as may be needed, and then recovery takes exactly as many lines as it may.
 pub fn a_tree_in_danger_is_cut()
     ensures told { tells_to_commit (said_again_after in_danger 1) ≡ true }
+    ensures asked { asks_superior (said_again_after in_danger 2) ≡ true }
     ensures most { cuts_after decided ≡ 2 }
     ensures quiet { arcs_after cut 2 + arcs_after cut 3 ≡ 0 }
     ensures lines { lines_after cut ≡ length recovery }
@@ -57,4 +60,10 @@ pub fn a_rollback_waits_for_a_peer_or_its_user()
     ensures waits { waits_after rolled_back 1 2 ≡ true }
     ensures alone { phase_after alone 2 ≡ Some Phase.Rolling }
     ensures unlinked { arcs_after alone 2 ≡ 0 }
+{}
+
+/// The site of that root stops. Nothing is told of the rollback again, and its user is told that there is no transaction.
+pub fn a_rollback_is_not_told_again()
+    ensures silent { said_again_after rolled_back 1 ≡ [] }
+    ensures refused { refused_again_after rolled_back 1 Request.Done ≡ Some Refusal.NoTransaction }
 {}
