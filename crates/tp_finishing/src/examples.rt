@@ -31,8 +31,8 @@ pub fn a_stopped_run_is_ended()
 {}
 
 /// Two branches decided to roll back, the site of the root stopped between its Commit and its Damage, and the root gave one of them up.
-/// What it may have said in vain it says again: its user is told to commit, and a branch in doubt asks it. Two cuts leave the branches without an association, as
-/// many as may be needed, and then recovery takes exactly as many lines as it may.
+/// What may have been said in vain is said again: the user of the root is told to commit, and a branch in doubt asks the root. Two cuts
+/// leave the branches without an association, as many as may be needed, and then recovery takes exactly as many lines as it may.
 pub fn a_tree_in_danger_is_cut()
     ensures told { tells_to_commit (said_again_after in_danger 1) ≡ true }
     ensures asked { asks_superior (said_again_after in_danger 2) ≡ true }
