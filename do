@@ -12,6 +12,7 @@ import os
 import pathlib
 import re
 import resource
+import signal
 import subprocess
 import sys
 import threading
@@ -71,23 +72,34 @@ def changed() -> tuple[set[str], set[str]]:
     return all_of_them, contracts
 
 
+def checked(folder: pathlib.Path, seconds: float) -> tuple[str, str]:
+    """What became of the check of a crate in that time, and what it said."""
+    with subprocess.Popen(["rt", "check"], cwd=folder, stdout=subprocess.PIPE, stderr=subprocess.STDOUT, text=True, start_new_session=True) as ran:
+        try:
+            said = ran.communicate(timeout=seconds)[0]
+        except (subprocess.TimeoutExpired, KeyboardInterrupt) as stop:
+            os.killpg(ran.pid, signal.SIGTERM)
+            ran.communicate()
+            if isinstance(stop, KeyboardInterrupt):
+                raise
+            return "was not checked to its end: five minutes are over", ""
+    return ("is proved", "") if ran.returncode == 0 else ("is NOT proved", said[-4000:])
+
+
 def quick() -> int:
     until = time.monotonic() + 60 * MINUTES
     touched, contracts = changed()
     wanted = touched | {it for name in contracts for it in crates() if name in crates()[it]}
     failed: list[str] = []
     for crate in [it for it in crates() if it in wanted]:
-        if time.monotonic() > until:
-            print(f"do: no time for {crate}")
-            continue
         folder = TOP / "crates" / crate
         if crate in touched:
             subprocess.run(["rt", "fmt"], cwd=folder, check=False)
-        ran = subprocess.run(["rt", "check"], cwd=folder, stdout=subprocess.PIPE, stderr=subprocess.STDOUT, text=True, timeout=3600)
-        print(f"do: {crate} {'is proved' if ran.returncode == 0 else 'is NOT proved'}", flush=True)
-        if ran.returncode:
+        outcome, said = checked(folder, max(until - time.monotonic(), 1))
+        print(f"do: {crate} {outcome}", flush=True)
+        if outcome != "is proved":
             failed.append(crate)
-            print(ran.stdout[-4000:])
+            print(said, end="")
     if subprocess.run([TOP / "docs" / "check"]).returncode:
         failed.append("docs/check")
     failed += examples()
