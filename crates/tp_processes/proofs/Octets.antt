@@ -12,7 +12,7 @@ use Rattle.tp_model.specs.NodeRun.{AskedEvent, Refuses, Is, asked}
 use Rattle.tp_histories.specs.Histories.{HasSent}
 use Rattle.tp_site_logs.specs.Lives.{Life, opening_after}
 use Rattle.tp_deployments.specs.Deployments.{Deed, Starts, Takes, Place, IsCarried, IsFit, IsTaken, life_after, history_at}
-use Rattle.tp_processes.specs.Octets.{IsHeld, AreCarried, IsHeededSo, IsFitSo, IsTakenSo, SaidIsReadBack, OctetsCarryRecords}
+use Rattle.tp_processes.specs.Octets.{AreCarried, IsHeededSo, IsFitSo, IsTakenSo, SaidIsReadBack, OctetsCarryRecords}
 use Rattle.tp_processes.proofs.Held.{read_back}
 use Rattle.tp_processes.proofs.Said.{IsSaidOver, said_over, few_over, site_is}
 

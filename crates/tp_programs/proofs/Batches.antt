@@ -9,7 +9,7 @@ use Rattle.tp_logrec.specs.declared.record.LogRec.{LogRec}
 use Rattle.tp_logrec.specs.declared.record.LogVersion.{LogVersion}
 use Rattle.tp_logrec.specs.LogText.{Placed, recs, IsLog}
 use Rattle.tp_model.specs.LogCommands.{Has, opened}
-use Rattle.tp_model.specs.NodeRun.{Opening, boot_of, node_run, run_from, log_after}
+use Rattle.tp_model.specs.NodeRun.{Opening, boot_of, node_run, log_after}
 use Rattle.tp_model.specs.NodeTranscript.{written_of, taken}
 use Rattle.tp_model.specs.Lanes.{lane}
 use Rattle.tp_journal.specs.Log.{StandsFor}
@@ -19,7 +19,7 @@ use Rattle.tp_journal.proofs.AsLogs.{is_log}
 use Rattle.tp_shared_log.specs.Images.{StandsForFirst}
 use Rattle.tp_serve.specs.Progress.{is_wide}
 use Rattle.tp_serve.specs.Images.{IsNodeImage}
-use Rattle.tp_serve.specs.Starting.{opening, IsUnopened, FailsBefore, IsLimitedBefore}
+use Rattle.tp_serve.specs.Starting.{opening, FailsBefore, IsLimitedBefore}
 use Rattle.tp_serve.proofs.Holding.{leaves_now, now_weaker}
 use Rattle.tp_words.specs.declared.drive.Drive.{Drive}
 use Rattle.tp_drive.specs.declared.stop.Stop.{Stop as LaneStop}
@@ -27,9 +27,8 @@ use Rattle.tp_drive.specs.Begun.{booted}
 use Rattle.tp_drive.specs.Drives.{IsPartDriven}
 use Rattle.tp_drive.specs.Woven.{IsWoven}
 use Rattle.tp_drive_tool.specs.declared.status.Status.{Status}
-use Rattle.tp_drive_tool.specs.Reading.{HasRead}
-use Rattle.tp_drive_tool.specs.Driving.{BeginsOn, LeavesLog, HasDriven, HasPart, IsFullAt, IsShutBy, NotDriven}
-use Rattle.tp_drive_tool.specs.Running.{Ran, Writes, DoesAll, DoesPart, Does}
+use Rattle.tp_drive_tool.specs.Driving.{BeginsOn, LeavesLog, HasDriven, HasPart, IsFullAt, NotDriven}
+use Rattle.tp_drive_tool.specs.Running.{Ran, Writes, DoesAll, DoesPart}
 use Rattle.tp_batches.specs.Batches.{IsBatch as IsListed, IsWhole}
 use Rattle.tp_briefs.specs.Starts.{on}
 use Rattle.tp_processes.specs.Processes.{Process, IsProcess}

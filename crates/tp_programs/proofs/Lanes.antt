@@ -14,7 +14,7 @@ use Rattle.tp_drive.specs.Begun.{booted}
 use Rattle.tp_drive.specs.Drives.{IsPartDriven}
 use Rattle.tp_drive.specs.Runs.{IsForcedBy}
 use Rattle.tp_drive.specs.Woven.{IsWoven}
-use Rattle.tp_batches.specs.Batches.{AreForced, IsBatch, IsWhole}
+use Rattle.tp_batches.specs.Batches.{IsBatch, IsWhole}
 use Rattle.tp_batches.proofs.Batches.{first_of, whole}
 
 -- ---- lists

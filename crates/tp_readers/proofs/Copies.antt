@@ -1,5 +1,5 @@
 -- What stands in a copy of a log was forced by the node that it is of.
-use Rattle.std.proofs.Common.{◌≡◌, ◌==◌, ◌⊎◌, inl, inr, ◌<◌, ◌^◌, ℕ, suc, Bool, true, false, refl, ap, sym, ◌∙◌, subst, arith, Option, Some, None, List, [], ◌∷◌, ◌++◌, reverse, length}
+use Rattle.std.proofs.Common.{◌≡◌, ◌==◌, ◌⊎◌, inl, inr, ◌<◌, ◌^◌, ℕ, suc, Bool, true, false, refl, ap, sym, ◌∙◌, subst, arith, Option, Some, None, List, [], ◌∷◌, reverse, length}
 use Rattle.std.specs.Prelude.{Any, if◌then◌else◌}
 use Rattle.std.proofs.lemmas.Bool.Decides.{nat_tests}
 use Rattle.tp_names.specs.declared.identifiers.Addr.{Addr}
@@ -12,14 +12,14 @@ use Rattle.tp_logrec.specs.Order.{owner_of, brief}
 use Rattle.tp_logrec.proofs.Logs.{one_list}
 use Rattle.tp_model.specs.History.{records}
 use Rattle.tp_model.specs.NodeRun.{is_record_at, records_at, node_run}
-use Rattle.tp_model.specs.World.{World, Node, Site, find_node, find_site}
+use Rattle.tp_model.specs.World.{World, Node, Site, find_node}
 use Rattle.tp_site_logs.specs.Lives.{Life, opening_after, history_over, first_origin}
 use Rattle.tp_site_logs.proofs.Lives.{logged}
 use Rattle.tp_site_logs.proofs.Places.{find_name}
 use Rattle.tp_laws.specs.SiteLogs.{DisksTell, log_of, forced_by}
-use Rattle.tp_deployments.specs.Deployments.{Deed, Place, IsThere, AreArranged, IsDeployment, life_after, history_at}
+use Rattle.tp_deployments.specs.Deployments.{Deed, Place, AreArranged, IsDeployment, life_after, history_at}
 use Rattle.tp_deployments.specs.RunOf.{node_at, nodes_of, IsRunOf}
-use Rattle.tp_processes.specs.Processes.{Process, IsShortened, FindsWhatIsLeft, AreProcesses, IsLogOf, StandsIn, happened_in, life_of}
+use Rattle.tp_processes.specs.Processes.{Process, IsShortened, AreProcesses, IsLogOf, StandsIn, happened_in, life_of}
 use Rattle.tp_processes.proofs.Parts.{in_front, brief_part}
 use Rattle.tp_processes.proofs.Chained.{leave_the_log}
 use Rattle.tp_audit.specs.Runs.{records_on}

@@ -1,5 +1,5 @@
 -- Committed means in a deployment what it means in the run that it is.
-use Rattle.std.proofs.Common.{◌≡◌, ◌++◌, ℕ, refl, ap, sym, ◌∙◌, subst, append_assoc, Some, List, [], ◌∷◌}
+use Rattle.std.proofs.Common.{◌≡◌, ◌++◌, ℕ, refl, ap, sym, ◌∙◌, subst, append_assoc, List, [], ◌∷◌}
 use Rattle.tp_records.specs.declared.body.Event.{Event as Given}
 use Rattle.tp_logrec.specs.declared.record.LogVersion.{LogVersion}
 use Rattle.tp_model.specs.Parts.{Entry}
@@ -10,14 +10,14 @@ use Rattle.tp_model.specs.Promises.{IsIn}
 use Rattle.tp_briefs.specs.Starts.{on, StartAlike, RunAlike}
 use Rattle.tp_briefs.proofs.Runs.{run_alike}
 use Rattle.tp_site_logs.specs.Lives.{Life, opening_after, history_in, history_over}
-use Rattle.tp_deployments.specs.Deployments.{Deed, Place, history_at}
-use Rattle.tp_deployments.specs.RunOf.{node_at, nodes_of, IsRunOf}
+use Rattle.tp_deployments.specs.Deployments.{history_at}
+use Rattle.tp_deployments.specs.RunOf.{node_at, IsRunOf}
 use Rattle.tp_deployments.proofs.Given.{before, over_in}
 use Rattle.tp_laws.specs.Whole.{AllPromised}
 use Rattle.tp_laws.proofs.Deployed.{deployments_keep}
 use Rattle.tx_face.specs.Face.{MeansAll}
 use Rattle.tx_face.proofs.Meaning.{means_all}
-use Rattle.tp_readers.specs.Faces.{HasCommitted, CommittedMeansAll}
+use Rattle.tp_readers.specs.Faces.{CommittedMeansAll}
 use Rattle.tp_processes.specs.Versions.{happened}
 use Rattle.tp_processes.proofs.AsTwo.{acts_as_two}
 use Rattle.tp_readers.proofs.Nodes.{of_run, found_there}
