@@ -1,0 +1,27 @@
+-- It is refused, or it happens.
+use Rattle.std.proofs.Common.{◌≡◌, true, Err, subst, arith}
+use Rattle.tp_node.specs.NodeEvent.{event_of}
+use Rattle.tp_site.specs.Site.{Plays}
+use Rattle.tp_site.specs.declared.faults.SiteFault.{SiteFault}
+use Rattle.tp_weaving.specs.declared.step.Step.{Step}
+use Rattle.tp_unite.specs.Playing.{standing}
+use Rattle.tp_unite.proofs.Played.{refused, happened}
+use Rattle.tp_unite.proofs.playing.Playing.give.Goals as goal
+
+pub returns-in-Err-Refused : goal.returns-in-Err-Refused
+returns-in-Err-Refused c = λ r g is asks brings.
+    let old = c.args.self.now in
+    let event = event_of c.args.event.now in
+    let site = c.play_into.new.self in
+    let added = c.in_ok-push-in-Err-Refused.ensures in
+    let plays = subst (λ (f : SiteFault). Plays standing old.site c.args.node event (Err f) site) c.in-Err-Refused.field-0-is c.in-Err-Refused.ensures in
+    refused c.args.places.now r old is g c.args.node event c.in-Err-Refused.field-0-0 c.push.new.self site c.plain.result asks plays added.name added.taken added.steps c.plain.ensures.says
+
+pub returns : goal.returns
+returns c = λ r g is asks brings.
+    let old = c.args.self.now in
+    let event = event_of c.args.event.now in
+    let on : c.is_placed.result ≡ true = grind (arith, c.if-not-is_placed.false) in
+    let step : Step = record { at = c.args.at; needs = c.args.needs; says = c.in_ok-says.says } in
+    let added = c.in_ok-push.ensures in
+    happened c.args.places.now r old is g c.args.node event c.in-Ok._refusal c.play_into.new.outs c.push-2.new.self c.play_into.new.self step asks c.in-Ok.ensures (c.is_placed.ensures on) brings c.in_ok-says.ensures added.name added.taken added.steps

@@ -1,0 +1,5 @@
+pub mod Placing
+pub mod Said
+pub mod Playing
+pub mod Recording
+pub mod Verdicts

@@ -1,0 +1,210 @@
+//! A site that is played once more, from what its processes were given.
+ghost use Rattle.std.specs.Prelude.{ℕ, ◌≡◌, List, IfOk, OnOk};
+ghost use Rattle.tp_records.specs.declared.body.Event.{Event as Given};
+ghost use Rattle.tp_model.specs.NodeRun.{Is, Refuses, asked};
+ghost use Rattle.tp_node.specs.NodeEvent.{event_of};
+ghost use Rattle.tp_site.specs.Events.{opening_at};
+ghost use Rattle.tp_deployments.specs.Deployments.{Starts, Takes, Place as PlaceValue};
+ghost use Rattle.tp_weaving.specs.Frames.{Record, first_deed, with_deed};
+ghost use Rattle.tp_unite.specs.Playing.{IsPlaying, Brings, IsFreshLog, StartsOn};
+ghost use Rattle.tp_unite.specs.declared.playing.PlayFault.{PlayFault as TheFault};
+
+use crate::letters::letters_in;
+use crate::placing::is_placed;
+use std::alloc::Global;
+use tp_journal::{Journal, Keeper, format};
+use tp_names::same::is_name;
+use tp_names::{Addr, NoMemory, Octets, SiteName};
+use tp_outside::MemDisk;
+use tp_records::{Event, PeerRecord, Request};
+use tp_site::{NodeEvent, Outs, Site, SiteFault};
+use tp_texts::read_whole_peer;
+use tp_weaving::{Lane, Letter, Places, Step};
+
+/// Why a site does not go on.
+#[derive(Clone, Copy, Debug, PartialEq, Eq)]
+pub(crate) enum PlayFault {
+    /// The event is of a node that has no place, or declares it under another superior, or names a node that has none.
+    NotPlaced,
+    /// Its log has no room, or no boot number is left.
+    Full,
+    /// No memory could be had.
+    NoMemory,
+}
+
+impl From<NoMemory> for PlayFault {
+    ghost from_gives = { λ _ e. e ≡ TheFault.NoMemory };
+
+    fn from(_error: NoMemory) -> PlayFault {
+        PlayFault::NoMemory
+    }
+}
+
+/// A site on a log in memory, and its steps so far.
+#[derive(Drop)]
+pub(crate) struct Playing {
+    pub(crate) lane: Lane,
+    site: Site<Journal<MemDisk>>,
+}
+
+// A fresh log of version 2. A disk in memory fails for lack of memory alone, and so the log is what it is asked for here.
+fn fresh_log(alloc: Global) -> Result<Journal<MemDisk>, NoMemory>
+    ensures { IfOk result IsFreshLog }
+{
+    let mut disk = MemDisk::from(alloc, Octets::new(alloc));
+    if format(&mut disk).is_err() {
+        return Err(NoMemory);
+    }
+    match Journal::start(alloc, disk) {
+        Ok(journal) => {
+            if journal.wide() && journal.list().is_empty() {
+                Ok(journal)
+            } else {
+                Err(NoMemory)
+            }
+        }
+        Err((_disk, _fault)) => Err(NoMemory),
+    }
+}
+
+// A process starts on that log.
+fn start(
+    alloc: Global,
+    journal: Journal<MemDisk>,
+    name: SiteName,
+) -> Result<Site<Journal<MemDisk>>, PlayFault>
+    ensures { IfOk result (StartsOn journal name) }
+{
+    match Site::start(alloc, journal, name) {
+        Ok(site) => Ok(site),
+        Err((_journal, _fault)) => Err(PlayFault::Full),
+    }
+}
+
+impl Playing {
+    /// The first process of a site of that name has started.
+    pub(crate) fn new(alloc: Global, name: SiteName, at: u64) -> Result<Playing, PlayFault>
+        ensures { IfOk result (λ p. (qs : List PlaceValue) → IsPlaying qs (first_deed name) p) }
+    {
+        let site = start(alloc, fresh_log(alloc)?, name)?;
+        let mut lane = Lane::new(alloc, name);
+        lane.push(Step::plain(alloc, at))?;
+        Ok(Playing { lane, site })
+    }
+
+    /// The next process has started, on the log that the one before it left.
+    pub(crate) fn next(self, alloc: Global, at: u64) -> Result<Playing, PlayFault>
+        ensures { (qs : List PlaceValue) (r : Record) → IsPlaying qs r self → IfOk result (IsPlaying qs (with_deed r (Starts r.site))) }
+    {
+        let Playing { mut lane, site } = self;
+        let site = start(alloc, site.keeper(), lane.name)?;
+        lane.push(Step::plain(alloc, at))?;
+        Ok(Playing { lane, site })
+    }
+
+    // The site refuses the event before any node is asked.
+    fn decline(&mut self, alloc: Global, at: u64) -> Result<(), PlayFault>
+        ensures { (qs : List PlaceValue) (r : Record) (g : Given) (k : ℕ) → IsPlaying qs r self.old → asked (opening_at r.site) g ≡ Refuses k → OnOk result (IsPlaying qs (with_deed r (Takes r.site g)) self.new) }
+    {
+        self.lane.push(Step::plain(alloc, at))?;
+        Ok(())
+    }
+
+    // An event of the node of that number, with the letter that it brings.
+    fn give(
+        &mut self,
+        alloc: Global,
+        places: &Places,
+        at: u64,
+        node: u16,
+        event: &NodeEvent<'_>,
+        needs: Option<Letter>,
+    ) -> Result<(), PlayFault>
+        ensures { (r : Record) (g : Given) → IsPlaying places.now r self.old → asked (opening_at r.site) g ≡ Is node (event_of event.now) → Brings (record { site = r.site; node = node }) (event_of event.now) needs
+            → OnOk result (IsPlaying places.now (with_deed r (Takes r.site g)) self.new) }
+    {
+        let mut outs = Outs::new(alloc);
+        match self.site.play_into(alloc, node, event, &mut outs) {
+            Ok(_refusal) => {}
+            Err(SiteFault::Refused(_)) => {
+                self.lane.push(Step::plain(alloc, at))?;
+                return Ok(());
+            }
+            Err(SiteFault::Full { .. }) => return Err(PlayFault::Full),
+            Err(_) => return Err(PlayFault::NoMemory),
+        }
+        let site = self.lane.name;
+        let here = Addr { site, node };
+        if !is_placed(places, &here, event) {
+            return Err(PlayFault::NotPlaced);
+        }
+        let says = letters_in(alloc, &here, &outs)?;
+        self.lane.push(Step { at, needs, says })?;
+        Ok(())
+    }
+
+    // Octets that come from another node.
+    fn arrive(
+        &mut self,
+        alloc: Global,
+        places: &Places,
+        at: u64,
+        letter: Letter,
+    ) -> Result<(), PlayFault>
+        ensures { (r : Record) → IsPlaying places.now r self.old → OnOk result (IsPlaying places.now (with_deed r (Takes r.site (Given.Arrive letter.from letter.to letter.octets))) self.new) }
+    {
+        let Some(rec) = read_whole_peer(alloc, letter.octets.as_slice())? else {
+            return self.decline(alloc, at);
+        };
+        if !is_name(&letter.to.site, &self.lane.name) {
+            return self.decline(alloc, at);
+        }
+        let node = letter.to.node;
+        let from = letter.from;
+        let _request: Option<&Request> = None;
+        let event = NodeEvent::Arrive { from, rec: &rec };
+        self.give(alloc, places, at, node, &event, Some(letter))
+    }
+
+    /// The process is given an event.
+    pub(crate) fn take(
+        &mut self,
+        alloc: Global,
+        places: &Places,
+        at: u64,
+        event: Event,
+    ) -> Result<(), PlayFault>
+        ensures { (r : Record) → IsPlaying places.now r self.old → OnOk result (IsPlaying places.now (with_deed r (Takes r.site event)) self.new) }
+    {
+        let _rec: Option<&PeerRecord> = None;
+        let _request: Option<&Request> = None;
+        match event {
+            Event::Declare { node, superior } => {
+                let event = NodeEvent::Declare { superior };
+                self.give(alloc, places, at, node, &event, None)
+            }
+            Event::Do { node, request } => {
+                let event = NodeEvent::Do { request: &request };
+                self.give(alloc, places, at, node, &event, None)
+            }
+            Event::Arrive { from, to, octets } => {
+                let letter = Letter { from, to, octets };
+                self.arrive(alloc, places, at, letter)
+            }
+            Event::Lose { node, peer } => {
+                let event = NodeEvent::Lose { peer };
+                self.give(alloc, places, at, node, &event, None)
+            }
+            Event::Heur { node, outcome } => {
+                let event = NodeEvent::Heur { outcome };
+                self.give(alloc, places, at, node, &event, None)
+            }
+            Event::GiveUp { node, peer } => {
+                let event = NodeEvent::GiveUp { peer };
+                self.give(alloc, places, at, node, &event, None)
+            }
+            Event::Retry { node } => self.give(alloc, places, at, node, &NodeEvent::Retry, None),
+            Event::Purge { node } => self.give(alloc, places, at, node, &NodeEvent::Purge, None),
+        }
+    }
+}

@@ -1,0 +1,5 @@
+pub mod Placed
+pub mod Parts
+pub mod Grown
+pub mod Taken
+pub mod Lanes

@@ -1,0 +1,94 @@
+-- The frames of a recording, and what they tell: where nodes stand, and of each site what its processes were given, one process after
+-- the other.
+use Rattle.std.specs.Prelude.{ℕ, ◌+◌, ◌*◌, ◌==◌, ◌&&◌, Bool, true, false, Option, Some, None, option_map, List, [], ◌∷◌, length}
+use Rattle.tp_names.specs.Bytes.{is_site_name}
+use Rattle.tp_names.specs.Same.{is_name}
+use Rattle.tp_records.specs.BodyReading.{event_in}
+use Rattle.tp_deployments.specs.Deployments.{Deed, Starts, Takes, Place as APlace}
+use Rattle.tp_weaving.specs.declared.frame.Frame.{Frame}
+use Rattle.tp_weaving.specs.Places.{placed}
+
+-- ---- frames
+
+-- the name of a site after its length
+abbrev pub site_in : ℕ → List ℕ → Option (List ℕ)
+site_in n name = elim ((length name == n) && is_site_name name) [ true ↦ Some name | false ↦ None ]
+
+-- a node's number and its site; before the site the number of its superior, where it has one
+abbrev pub place_in : List ℕ → Option Frame
+place_in (high ∷ low ∷ n ∷ name) = option_map (λ s. Frame.Place (high * 256 + low) None s) (site_in n name)
+place_in _ = None
+
+abbrev pub place_under_in : List ℕ → Option Frame
+place_under_in (high ∷ low ∷ above ∷ below ∷ n ∷ name) = option_map (λ s. Frame.Place (high * 256 + low) (Some (above * 256 + below)) s) (site_in n name)
+place_under_in _ = None
+
+abbrev pub start_in : List ℕ → Option Frame
+start_in (n ∷ name) = option_map (λ s. Frame.Starts s) (site_in n name)
+start_in _ = None
+
+abbrev pub taking_in : List ℕ → Option Frame
+taking_in body = option_map (λ g. Frame.Takes g) (event_in body)
+
+abbrev pub frame_in : List ℕ → Option Frame
+frame_in [] = taking_in []
+frame_in (code ∷ rest) = elim (code == 80) [
+  | true ↦ place_in rest
+  | false ↦ elim (code == 81) [
+    | true ↦ place_under_in rest
+    | false ↦ elim (code == 82) [ true ↦ start_in rest | false ↦ taking_in (code ∷ rest) ]
+  ]
+]
+
+-- ---- what they tell
+
+-- what the processes of a site did, the newest deed first
+pub record Record : Type 0 where
+  pub site : List ℕ
+  pub deeds : List Deed
+
+-- where nodes stand, the newest first; and of each site its record, the newest first
+pub record Recording : Type 0 where
+  pub places : List APlace
+  pub records : List Record
+
+abbrev pub nothing_told : Recording
+nothing_told = record { places = []; records = [] }
+
+abbrev pub with_deed : Record → Deed → Record
+with_deed r d = record { site = r.site; deeds = d ∷ r.deeds }
+
+abbrev pub first_deed : List ℕ → Record
+first_deed s = record { site = s; deeds = Starts s ∷ [] }
+
+-- a process of the site whose process started last, or the first one of another site
+abbrev pub with_start : List Record → List ℕ → List Record
+with_start [] s = first_deed s ∷ []
+with_start (r ∷ rs) s = elim (is_name r.site s) [ true ↦ with_deed r (Starts r.site) ∷ rs | false ↦ first_deed s ∷ r ∷ rs ]
+
+-- places come before all deeds
+abbrev pub told_place : Recording → ℕ → Option ℕ → List ℕ → Option Recording
+told_place t n under s = elim t.records [
+  | [] ↦ option_map (λ qs. record { places = qs; records = [] }) (placed t.places n under s)
+  | r ∷ rs ↦ None
+]
+
+abbrev pub told_frame : Recording → Frame → Option Recording
+told_frame t (Frame.Place n under s) = told_place t n under s
+told_frame t (Frame.Starts s) = Some (record { places = t.places; records = with_start t.records s })
+told_frame t (Frame.Takes g) = elim t.records [
+  | [] ↦ None
+  | r ∷ rs ↦ Some (record { places = t.places; records = with_deed r (Takes r.site g) ∷ rs })
+]
+
+abbrev pub told_body : Recording → List ℕ → Option Recording
+told_body t body = elim (frame_in body) [ None ↦ None | Some f ↦ told_frame t f ]
+
+abbrev pub told_from : Recording → List (List ℕ) → Option Recording
+told_from t [] = Some t
+told_from t (b ∷ bs) = elim (told_body t b) [ None ↦ None | Some u ↦ told_from u bs ]
+
+-- each site has one record
+abbrev pub has_record : List Record → List ℕ → Bool
+has_record [] s = false
+has_record (r ∷ rs) s = elim (is_name r.site s) [ true ↦ true | false ↦ has_record rs s ]
