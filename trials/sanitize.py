@@ -86,7 +86,7 @@ class Sanitize:
         for log in logs:
             cases += [Input([word], b"", log) for word in ("show", "check", "compact", "migrate")]
         cases.append(Input(["audit"], wire.audit_frames([("a", logs[3]), ("b", logs[0])])))
-        for name in ("all-logs.hex", "one-log-missing.hex"):
+        for name in ("all-logs.hex", "an-older-log.hex", "one-log-missing.hex"):
             cases.append(Input(["audit"], bytes.fromhex((tools.ROOT / "examples" / name).read_text())))
         for path in sorted((tools.ROOT / "examples").glob("*.schedule")):
             cases.append(Input(["replay"], path.read_bytes()))

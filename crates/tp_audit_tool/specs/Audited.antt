@@ -6,6 +6,8 @@ use Rattle.tp_streams.specs.Written.{WritesPrefix}
 use Rattle.tp_audit.specs.Audits.{Audit, IsAuditOf}
 use Rattle.tp_audit.specs.Entries.{SiteLog}
 use Rattle.tp_audit.specs.Verdicts.{verdict}
+use Rattle.tp_audit.specs.declared.mismatch.Mismatch.{Mismatch}
+use Rattle.tp_audit.specs.Mismatches.{mismatches}
 use Rattle.tp_audit_tool.specs.AuditTranscript.{heard, audit_text, findings_of}
 
 -- ---- what was read
@@ -56,6 +58,12 @@ pub record Audits (bytes : List ℕ) (findings : ℕ) (left : Option (List ℕ))
   pub count : findings ≡ findings_of (verdict logs)
   pub written : (before : List ℕ) → old ≡ Some before → new ≡ Some (before ++ audit_text logs)
   pub whole : left ≡ Some []
+
+-- these are the mismatches of its logs
+pub record NamesMismatches (bytes : List ℕ) (found : List Mismatch) : Type 0 where
+  pub logs : List SiteLog
+  pub heard : heard bytes ≡ Ok logs
+  pub named : found ≡ mismatches logs
 
 -- a prefix of them
 pub record AuditsPart (bytes : List ℕ) (old new : Option (List ℕ)) : Type 0 where

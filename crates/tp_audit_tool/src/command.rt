@@ -1,18 +1,25 @@
 //! The audit of a stream of frames.
-ghost use Rattle.std.specs.Prelude.{◌≡◌, ◌≤◌, ℕ, List, Some, IfErr, IfOk};
-ghost use Rattle.tp_audit.specs.Audits.{IsAuditOf};
-ghost use Rattle.tp_audit.specs.Entries.{SiteLog};
-ghost use Rattle.tp_audit.specs.Verdicts.{verdict as verdict_over};
-ghost use Rattle.tp_audit_tool.specs.AuditTranscript.{audit_text};
-ghost use Rattle.tp_audit_tool.specs.Audited.{Hears, Audits, IsHearStop, StopsHearing, StopsAudit, IsAuditStop, LeavesSink};
+ghost use Rattle.std.specs.Prelude.{◌≡◌, ◌≤◌, ◌++◌, ◌∷◌, ℕ, List, Some, IfErr, IfOk};
+ghost use Rattle.tp_model.specs.Words.{words};
+ghost use Rattle.tp_audit_tool.specs.AuditTranscript.{verdict_words, fate_texts};
+ghost use Rattle.tp_audit_tool.specs.Audited.{Hears, Audits, NamesMismatches, IsHearStop, StopsHearing, StopsAudit, IsAuditStop, LeavesSink};
 
 use crate::hearing::Hearing;
 use crate::lines::{findings_of, write_fates, write_verdict};
 use std::alloc::Global;
-use tp_audit::{Audit, Verdict};
+use tp_audit::{Fate, Mismatch, Verdict};
 use tp_names::{NoMemory, Octets};
 use tp_outside::{Sink, Source};
 use tp_streams::{Intake, Stop, write_all};
+
+/// What an audit found.
+#[derive(Drop)]
+pub struct Audited {
+    /// How many findings there are: one, where two nodes of a tree ended apart, or none.
+    pub findings: u64,
+    /// The logs that do not belong together, which no line speaks of.
+    pub mismatches: Vec<Mismatch>,
+}
 
 // Reads all frames, and the logs that they hold.
 fn hear<S: Source>(alloc: Global, source: &mut S) -> Result<Hearing, Stop>
@@ -31,24 +38,29 @@ fn hear<S: Source>(alloc: Global, source: &mut S) -> Result<Hearing, Stop>
 }
 
 // What is written of the logs.
-fn text_of(alloc: Global, audit: &Audit, verdict: &Verdict) -> Result<Octets, NoMemory>
-    ensures { IfOk result (λ text. (logs : List SiteLog) → IsAuditOf logs audit.now → verdict.now ≡ verdict_over logs → text ≡ audit_text logs) }
+fn text_of(alloc: Global, verdict: &Verdict, fates: &[Fate]) -> Result<Octets, NoMemory>
+    ensures { IfOk result (λ text. text ≡ words (verdict_words verdict.now) ++ 10 ∷ fate_texts fates.now) }
 {
     let mut text = Octets::new(alloc);
     write_verdict(alloc, verdict, &mut text)?;
-    let fates = audit.fates(alloc)?;
-    write_fates(alloc, fates.as_slice(), &mut text)?;
+    write_fates(alloc, fates, &mut text)?;
     Ok(text)
 }
 
 /// Reads frames that hold the logs of several sites, and writes the verdict over them and the fate of each node that is in
-/// doubt, as lines. It answers how many findings there are: one, where two nodes of a tree ended apart, or none. Nothing is
-/// written before the whole input was read, so a stop of the sink alone leaves a prefix of the lines.
-pub fn audit<S: Source, K: Sink>(alloc: Global, source: &mut S, sink: &mut K) -> Result<u64, Stop>
+/// doubt, as lines. It answers how many findings there are, and which logs do not belong together. Nothing is written before the
+/// whole input was read, so a stop of the sink alone leaves a prefix of the lines.
+pub fn audit<S: Source, K: Sink>(
+    alloc: Global,
+    source: &mut S,
+    sink: &mut K,
+) -> Result<Audited, Stop>
     // Promise 9.7: Frames out of a source that tells its bytes are read as the definitions read
     //   them; the verdict and the fates are written as lines, to the byte, and one finding is
     //   answered where two nodes ended apart
-    ensures audits { IfOk result (λ n. (bytes : List ℕ) → S.left source.old ≡ Some bytes → Audits bytes n (S.left source.new) (K.written sink.old) (K.written sink.new)) }
+    ensures audits { IfOk result (λ found. (bytes : List ℕ) → S.left source.old ≡ Some bytes → Audits bytes found.findings (S.left source.new) (K.written sink.old) (K.written sink.new)) }
+    // Promise 9.11, part 2
+    ensures mismatches { IfOk result (λ found. (bytes : List ℕ) → S.left source.old ≡ Some bytes → NamesMismatches bytes found.mismatches.items) }
     // Promise 9.8: A bad frame, a limit or a foreign log is told exactly as the definitions tell
     //   the first that comes
     // Promise 9.9 [clauses stopped untouched]: Nothing is written before the whole input was read;
@@ -62,8 +74,15 @@ pub fn audit<S: Source, K: Sink>(alloc: Global, source: &mut S, sink: &mut K) ->
     ensures sink { K.fault_count sink.old ≤ K.fault_count sink.new }
 {
     let hearing = hear(alloc, source)?;
-    let verdict = hearing.audit().verdict();
-    let text = text_of(alloc, hearing.audit(), &verdict)?;
+    let judge = hearing.audit();
+    let verdict = judge.verdict();
+    let doubts = judge.fates(alloc)?;
+    let fates = doubts.as_slice();
+    let mismatches = judge.mismatches(alloc, fates)?;
+    let text = text_of(alloc, &verdict, fates)?;
     write_all(sink, text.as_slice())?;
-    Ok(findings_of(&verdict))
+    Ok(Audited {
+        findings: findings_of(&verdict),
+        mismatches,
+    })
 }

@@ -8,4 +8,4 @@ mod frame;
 mod hearing;
 mod lines;
 
-pub use command::audit;
+pub use command::{Audited, audit};

@@ -14,12 +14,15 @@ mod tests;
 mod top;
 mod transacting;
 
+use auditing::audit_logs;
 use std::alloc::{AllocError, Global};
 use std::io::{self, IsTerminal};
 use std::process::ExitCode;
 pub use top::run;
+use tp_audit::Mismatch;
 use tp_explain::{Remembering, explain};
 use tp_greeting::{Beginning, is_watched};
+use tp_names::Addr;
 use tp_outside::{
     About, Cause, FileDisk, HeldStreams, NULL, StdSink, StdSource, say, say_cause, say_end, tell,
     texts_of, words_given,
@@ -184,12 +187,63 @@ fn renew(rt: &HostRuntime, guard: Option<Guard<HostRuntime>>, log: FileDisk<Host
     }
 }
 
+// The stream that failed, and why.
+fn failed_stream(
+    status: Status,
+    source: &StdSource<HostRuntime>,
+    sink: &StdSink<'_, HostRuntime>,
+) -> (&'static str, Option<Cause>) {
+    match status {
+        Status::ReadFault { .. } => ("standard input", source.cause()),
+        Status::WriteFault { .. } => ("standard output", sink.cause()),
+        _ => ("", None),
+    }
+}
+
+// Says which logs do not belong together.
+fn say_mismatch(rt: &HostRuntime, mismatch: &Mismatch) {
+    let Mismatch {
+        aaid,
+        committed,
+        doubtful,
+    } = *mismatch;
+    let root = aaid.owner;
+    let Addr { site, node } = committed;
+    say(
+        rt,
+        format_args!(
+            "tpnode: the logs of {root} and {site} do not belong together: {site} {node} committed {aaid}"
+        ),
+    );
+    let Addr { site, node } = doubtful;
+    say(
+        rt,
+        format_args!(", {root} has no commit of that root, and {site} {node} is in doubt\n"),
+    );
+}
+
+// Runs `audit`, of which more is said than its status.
+fn run_audit(rt: &HostRuntime) -> ExitCode {
+    let mut source = StdSource::new(rt);
+    let mut sink = StdSink::new(rt);
+    let (status, mismatches) = audit_logs(rt.alloc(), &mut source, &mut sink);
+    let (name, cause) = failed_stream(status, &source, &sink);
+    let code = end(rt, status, name, cause);
+    for mismatch in &mismatches {
+        say_mismatch(rt, mismatch);
+    }
+    code
+}
+
 fn run_words(rt: &HostRuntime, words: &[&str]) -> ExitCode {
     let command = match read(rt.alloc(), words) {
         Ok(command) => Some(command),
         Err(WordsFault::Usage) => None,
         Err(WordsFault::NoMemory) => return end(rt, Status::NoMemory, "", None),
     };
+    if let Some(Command::Audit) = command {
+        return run_audit(rt);
+    }
     let members = match members_for(rt, &command) {
         Ok(members) => members,
         Err((status, cause)) => return end(rt, status, STORE, cause),
@@ -205,10 +259,8 @@ fn run_words(rt: &HostRuntime, words: &[&str]) -> ExitCode {
     let mut sink = StdSink::new(rt);
     let (status, disk) = run(rt.alloc(), words, &mut source, &mut sink, disk, members);
     let (name, cause) = match status {
-        Status::ReadFault { .. } => ("standard input", source.source().cause()),
-        Status::WriteFault { .. } => ("standard output", sink.cause()),
         Status::DiskFault { .. } => (file_for(&command), disk.cause()),
-        _ => ("", None),
+        _ => failed_stream(status, source.source(), &sink),
     };
     let code = end(rt, status, name, cause);
     say_why(rt, &status, source.text());

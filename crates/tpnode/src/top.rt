@@ -1,4 +1,4 @@
-//! The program's one call.
+//! The program's one call. For `audit`, of which more is said than a status, `main` calls what it calls there.
 ghost use Rattle.std.specs.Prelude.{◌≡◌, ◌⊎◌, ℕ, List, Option, Some, [], false, map, length};
 ghost use Rattle.tp_records.specs.declared.request.Request.{Request};
 ghost use Rattle.tp_outside.specs.Faults.{HasRisen};
@@ -136,7 +136,10 @@ fn run_command<S: Source, K: Sink, D: Disk, M: Member>(
         Command::Migrate => migrate_log(alloc, disk),
         Command::Keys => list_keys(alloc, disk, sink),
         Command::Node(name) => serve_site(alloc, name, source, sink, disk),
-        Command::Audit => (audit_logs(alloc, source, sink), disk),
+        Command::Audit => {
+            let (status, _mismatches) = audit_logs(alloc, source, sink);
+            (status, disk)
+        }
         Command::Tx(name) => serve_face(alloc, name, source, sink, disk),
     }
 }

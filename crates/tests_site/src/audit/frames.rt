@@ -31,6 +31,17 @@ const HEURISTIC: &[u8] = &[
     0, 0, 1, 0, 1, 0, 0, 0, 0, 0, 0, 0, 2, 2,
 ];
 
+// Node 3 of site c is ready as the child a.1.1.3 of that root, and commits.
+const READY_C: &[u8] = &[
+    2, 0, 3, 1, 97, 0, 0, 0, 0, 0, 0, 0, 1, 0, 1, 0, 0, 0, 0, 0, 0, 0, 1, 1, 1, 97, 0, 0, 0, 0, 0,
+    0, 0, 1, 0, 1, 0, 0, 0, 0, 0, 0, 0, 3, 1, 97, 0, 1, 0,
+];
+
+const COMMIT_C: &[u8] = &[
+    4, 0, 3, 1, 97, 0, 0, 0, 0, 0, 0, 0, 1, 0, 1, 0, 0, 0, 0, 0, 0, 0, 1, 1, 1, 97, 0, 0, 0, 0, 0,
+    0, 0, 1, 0, 1, 0, 0, 0, 0, 0, 0, 0, 3, 1, 97, 0, 1, 0,
+];
+
 // A frame of that kind, of bytes that are few.
 fn put_frame(alloc: Global, code: u8, head: &[u8], bytes: &[u8], text: &mut Octets) -> Option<()> {
     let len = u16::try_from(head.len().checked_add(bytes.len())?.checked_add(1)?).ok()?;
@@ -65,7 +76,10 @@ fn put_site(alloc: Global, site: u8, bodies: &[&[u8]], text: &mut Octets) -> Opt
 fn answers(alloc: Global, text: Octets, findings: Result<u64, Stop>, output: &[u8]) -> bool {
     let mut source = MemSource::new(alloc, text, Octets::new(alloc));
     let mut sink = MemSink::new(alloc, Octets::new(alloc));
-    let answer = audit(alloc, &mut source, &mut sink);
+    let answer = match audit(alloc, &mut source, &mut sink) {
+        Ok(audited) => Ok(audited.findings),
+        Err(stop) => Err(stop),
+    };
     answer == findings && sink.bytes() == output
 }
 
@@ -92,6 +106,18 @@ fn is_absent(alloc: Global) -> Option<bool> {
         Ok(0),
         b"yes\nfate b 2 a.1.1.1 a.1.1.2 absent\n",
     ))
+}
+
+// How many mismatches an audit names where a branch committed, another is in doubt, and the log of their root has these bodies.
+fn mismatches(alloc: Global, of_root: &[&[u8]]) -> Option<usize> {
+    let mut text = Octets::new(alloc);
+    put_site(alloc, b'a', of_root, &mut text)?;
+    put_site(alloc, b'b', &[BOOT, READY], &mut text)?;
+    put_site(alloc, b'c', &[BOOT, READY_C, COMMIT_C], &mut text)?;
+    let mut source = MemSource::new(alloc, text, Octets::new(alloc));
+    let mut sink = MemSink::new(alloc, Octets::new(alloc));
+    let audited = audit(alloc, &mut source, &mut sink).ok()?;
+    Some(audited.mismatches.len())
 }
 
 // A site that comes twice, and a site whose log has no bytes.
@@ -137,6 +163,13 @@ fn a_branch_that_rolled_back_is_named_unless_it_decided(rt: HostRuntime) {
             b"yes\n"
         ) == Some(true)
     );
+}
+
+#[test]
+fn a_root_without_the_commit_of_its_branch_is_named(rt: HostRuntime) {
+    let alloc = rt.alloc();
+    assert!(rt; mismatches(alloc, &[BOOT]) == Some(1));
+    assert!(rt; mismatches(alloc, &[BOOT, COMMIT]) == Some(0));
 }
 
 #[test]
