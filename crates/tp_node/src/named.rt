@@ -1,15 +1,13 @@
 //! The transaction of a node that a recovery record speaks of: the current one, a kept one, or both.
 ghost use Rattle.std.specs.Prelude.{◌≡◌};
-ghost use Rattle.std.specs.Option.{is_some, option_copied};
+ghost use Rattle.std.specs.Option.{is_some};
 ghost use Rattle.tp_node.specs.Replies.{is_current_committing};
-ghost use Rattle.tp_model.specs.Recovery.{find_owed};
-ghost use Rattle.tp_model.specs.Arrivals.{branch_key, current_with, named_by_key, named_by_branch, key_of_branch, key_of_kept, kept_owing, kept_of, kept_superior, child_addr, known_of, is_current_ready};
+ghost use Rattle.tp_model.specs.Arrivals.{branch_key, current_with, named_by_key, named_by_branch, key_of_branch, key_of_kept, kept_superior, child_addr, known_of, is_current_ready};
 
 use crate::node::Node;
 use tp_model::{Known, Phase};
-use tp_names::same::{is_aaid, is_branch};
-use tp_names::{Aaid, Addr, BranchId, Child, NodeKey};
-use tp_node_state::KeptTable;
+use tp_names::{Aaid, Addr, BranchId, NodeKey};
+use tp_node_state::kept;
 
 impl Node {
     /// What is known of a transaction of that key, and whether it has that branch.
@@ -54,7 +52,7 @@ impl Node {
             Some(current) => current.child(branch),
             None => {
                 let kept = self.kept_with(key)?;
-                let child = find_owed(kept.owed.as_slice(), branch)?;
+                let child = kept::find_owed(kept.owed.as_slice(), branch)?;
                 Some(child.addr)
             }
         }
@@ -88,14 +86,15 @@ impl Node {
     }
 
     // Of the kept transactions: the one that owes the branch, else that of the tree, unless one is current.
+    #[tactic(auto, using(tp_node_state::proofs::KeptTrees::first_owing, tp_node_state::proofs::KeptTrees::first_any))]
     fn key_of_kept(&self, aaid: &Aaid, branch: &BranchId) -> Option<NodeKey>
         ensures { result ≡ key_of_kept self.now.digest aaid.now branch.now }
     {
-        match kept_owing(self.all_kept(), aaid, branch) {
+        match self.all_kept().first_in(aaid, &Some(*branch)) {
             Some(key) => Some(key),
             None => match self.current_in(aaid) {
                 Some(current) => Some(*current.key()),
-                None => kept_of(self.all_kept(), aaid),
+                None => self.all_kept().first_in(aaid, &None),
             },
         }
     }
@@ -132,46 +131,6 @@ impl Node {
     {
         self.child_by_key(&self.key_of_branch(aaid, branch)?, branch)
     }
-}
-
-// The key of the first of the tree that owes the branch.
-#[tactic(auto, using(tp_node_state::proofs::KeptPlaces::from_place))]
-fn kept_owing(kept: &KeptTable, aaid: &Aaid, branch: &BranchId) -> Option<NodeKey>
-    ensures { result ≡ kept_owing kept.now aaid.now branch.now }
-{
-    for place in 0..kept.len() {
-        let one = kept.get(place)?;
-        if is_aaid(&one.key.aaid, aaid) && find_owed(one.owed.as_slice(), branch).is_some() {
-            return Some(one.key);
-        }
-    }
-    None
-}
-
-// The key of the first of the tree.
-#[tactic(auto, using(tp_node_state::proofs::KeptPlaces::from_place))]
-fn kept_of(kept: &KeptTable, aaid: &Aaid) -> Option<NodeKey>
-    ensures { result ≡ kept_of kept.now aaid.now }
-{
-    for place in 0..kept.len() {
-        let one = kept.get(place)?;
-        if is_aaid(&one.key.aaid, aaid) {
-            return Some(one.key);
-        }
-    }
-    None
-}
-
-// The first of the children that has the branch.
-fn find_owed<'a>(children: &'a [Child], branch: &BranchId) -> Option<&'a Child>
-    ensures { option_copied result ≡ find_owed children.now branch.now }
-{
-    for child in children {
-        if is_branch(&child.branch, branch) {
-            return Some(child);
-        }
-    }
-    None
 }
 
 /// The key of that branch of the tree.

@@ -11,7 +11,7 @@ use Rattle.tp_names.specs.Same.{is_key}
 use Rattle.tp_names.proofs.Sames.{key_same}
 use Rattle.tp_model.specs.declared.recovery.Kept.{Kept}
 use Rattle.tp_model.specs.Recovery.{find_kept}
-use Rattle.tp_node_state.specs.declared.kept_map.KeptKey.{KeptKey}
+use Rattle.tp_node_state.specs.declared.kept_key.KeptKey.{KeptKey}
 use Rattle.tp_node_state.specs.Kept.{is_same_key, key_of, listed, AreKeyed, place_of_key, with_kept}
 
 pub listed_length : (es : List (KeptKey × Kept)) → length es ≡ length (listed es)

@@ -1,5 +1,6 @@
 pub mod KeptEntries
 pub mod KeptPlaces
+pub mod KeptTrees
 pub mod Chained
 pub mod Linked
 pub mod Places

@@ -1,12 +1,15 @@
 -- The kept transactions of a node as they are found: a list in the order of age, under their keys.
-use Rattle.std.specs.Prelude.{ℕ, suc, ◌≡◌, Bool, true, false, if◌then◌else◌, List, [], ◌∷◌}
+use Rattle.std.specs.Prelude.{ℕ, suc, ◌≡◌, ◌&&◌, Bool, true, false, if◌then◌else◌, Option, Some, None, slice_get, List, [], ◌∷◌}
 use Rattle.std.specs.Cmp.{IsEquivalence}
 use Rattle.std.proofs.Common.{refl, sym, ◌∙◌, ap}
+use Rattle.tp_names.specs.declared.identifiers.Aaid.{Aaid}
+use Rattle.tp_names.specs.declared.identifiers.BranchId.{BranchId}
 use Rattle.tp_names.specs.declared.identifiers.NodeKey.{NodeKey}
-use Rattle.tp_names.specs.Same.{is_key}
+use Rattle.tp_names.specs.Same.{is_aaid, is_key}
 use Rattle.tp_names.proofs.Sames.{key_same as same_key, key_self as self_key}
 use Rattle.tp_model.specs.declared.recovery.Kept.{Kept}
-use Rattle.tp_node_state.specs.declared.kept_map.KeptKey.{KeptKey}
+use Rattle.tp_model.specs.Recovery.{find_owed}
+use Rattle.tp_node_state.specs.declared.kept_key.KeptKey.{KeptKey}
 
 -- ---- keys
 
@@ -16,6 +19,10 @@ is_same_key a b = is_key b.key a.key
 
 abbrev pub key_of : NodeKey → KeptKey
 key_of k = record { key = k }
+
+-- a tree is found by the key of its root
+abbrev pub tree_key : Aaid → KeptKey
+tree_key t = key_of (record { aaid = t; branch = None })
 
 -- their test is equality
 pub key_same : (a b : KeptKey) → is_same_key a b ≡ true → a ≡ b
@@ -55,3 +62,23 @@ place_of_key (x ∷ xs) k = if is_key x.key k then 0 else suc (place_of_key xs k
 abbrev pub with_kept : List Kept → Kept → List Kept
 with_kept [] k = k ∷ []
 with_kept (x ∷ xs) k = if is_key x.key k.key then k ∷ xs else x ∷ with_kept xs k
+
+-- ---- those of a tree
+
+abbrev pub of_tree : List Kept → Aaid → List Kept
+of_tree [] t = []
+of_tree (x ∷ xs) t = if is_aaid x.key.aaid t then x ∷ of_tree xs t else of_tree xs t
+
+-- the one at a place alone, where there is one
+abbrev pub alone : List Kept → ℕ → List Kept
+alone ks p = elim (slice_get ks p) [ None ↦ [] | Some x ↦ x ∷ [] ]
+
+-- it owes the branch, where one is asked for
+abbrev pub owes : Kept → Option BranchId → Bool
+owes k None = true
+owes k (Some b) = elim (find_owed k.owed b) [ None ↦ false | Some c ↦ true ]
+
+-- the key of the first of the tree; where a branch is asked for, of the first that owes it
+abbrev pub first_in : List Kept → Aaid → Option BranchId → Option NodeKey
+first_in [] t b = None
+first_in (x ∷ xs) t b = if is_aaid x.key.aaid t && owes x b then Some x.key else first_in xs t b

@@ -1,13 +1,15 @@
 //! The kept transactions of a node: what a record of the log makes of them.
 ghost use Rattle.std.specs.Prelude.{◌≡◌, ◌||◌, IfOk, OnOk, OnErr};
-ghost use Rattle.tp_model.specs.Recovery.{is_commit, with_forget, noted, kept_by, put_kept};
+ghost use Rattle.std.specs.Option.{option_copied};
+ghost use Rattle.tp_model.specs.Recovery.{is_commit, with_forget, noted, kept_by, put_kept, find_owed};
 ghost use Rattle.tp_model.specs.declared.recovery.KeptEvent.{KeptEvent};
 
 use crate::kept_table::KeptTable;
 use std::alloc::Global;
 use tp_logrec::LogRec;
 use tp_model::Kept;
-use tp_names::{Children, NoMemory, NodeKey, Outcome};
+use tp_names::same::is_branch;
+use tp_names::{BranchId, Child, Children, NoMemory, NodeKey, Outcome};
 
 // Takes the place of the one with its key, whose Forget stays noted, or stands after the others.
 #[tactic(auto, using(crate::proofs::KeptPlaces::put_new, crate::proofs::KeptPlaces::put_again))]
@@ -28,6 +30,18 @@ fn copied(alloc: Global, children: &Children) -> Result<Children, NoMemory>
     let mut copy = Children::new(alloc);
     copy.extend_from_slice(alloc, children.as_slice())?;
     Ok(copy)
+}
+
+/// The first of the children that has the branch.
+pub fn find_owed<'a>(children: &'a [Child], branch: &BranchId) -> Option<&'a Child>
+    ensures { option_copied result ≡ find_owed children.now branch.now }
+{
+    for child in children {
+        if is_branch(&child.branch, branch) {
+            return Some(child);
+        }
+    }
+    None
 }
 
 /// An equal one.

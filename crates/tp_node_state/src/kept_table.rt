@@ -1,8 +1,8 @@
 //! The kept transactions of a node, which its copies share.
-ghost use Rattle.std.specs.Prelude.{◌≡◌, ◌<◌, ◌^◌, length, slice_get, [], Some, IfOk, OnOk, OnErr};
+ghost use Rattle.std.specs.Prelude.{◌≡◌, ◌<◌, ◌^◌, length, slice_get, [], Some, IfSome, IfOk, OnOk, OnErr};
 ghost use Rattle.std.specs.Option.{option_copied};
 ghost use Rattle.tp_model.specs.Recovery.{find_kept, without_kept};
-ghost use Rattle.tp_node_state.specs.Kept.{with_kept, place_of_key};
+ghost use Rattle.tp_node_state.specs.Kept.{with_kept, place_of_key, of_tree, alone, owes, first_in};
 ghost use Rattle.tp_node_state.specs.KeptTable.{shared_list, changed, IsPlacedIn, AreSame};
 
 use crate::kept;
@@ -11,8 +11,8 @@ use std::alloc::Global;
 use std::marker::Model;
 use std::sync::Arc;
 use tp_model::Kept;
-use tp_names::same::is_key;
-use tp_names::{NoMemory, NodeKey};
+use tp_names::same::{is_aaid, is_key};
+use tp_names::{Aaid, BranchId, NoMemory, NodeKey};
 
 /// A change that waits, with its place among those that are shared.
 #[derive(Debug, Drop)]
@@ -135,6 +135,47 @@ impl KeptTable {
         }
     }
 
+    // The place of the only one of the tree, or one after the others where there is none; none where there may be more.
+    fn place_in(&self, aaid: &Aaid) -> Option<usize>
+        ensures { IfSome result (λ place. of_tree self.now aaid.now ≡ alone self.now place) }
+    {
+        match (&self.shared, &self.change) {
+            (None, None) => Some(0),
+            (Some(all), None) => all.place_in(aaid),
+            _ => None,
+        }
+    }
+
+    // The key of the first of the tree, or of the first that owes the branch, among those that wait too.
+    #[tactic(auto, using(crate::proofs::KeptPlaces::from_place))]
+    fn seek_in(&self, aaid: &Aaid, branch: &Option<BranchId>) -> Option<NodeKey>
+        ensures { result ≡ first_in self.now aaid.now branch.now }
+    {
+        for place in 0..self.len() {
+            let one = self.get(place)?;
+            if is_aaid(&one.key.aaid, aaid) && owes(one, branch) {
+                return Some(one.key);
+            }
+        }
+        None
+    }
+
+    /// The key of the first of the tree; where a branch is asked for, of the first that owes it.
+    #[tactic(auto, using(crate::proofs::KeptTrees::first_nobody))]
+    pub fn first_in(&self, aaid: &Aaid, branch: &Option<BranchId>) -> Option<NodeKey>
+        ensures { result ≡ first_in self.now aaid.now branch.now }
+    {
+        let Some(place) = self.place_in(aaid) else {
+            return self.seek_in(aaid, branch);
+        };
+        let one = self.get(place)?;
+        if owes(one, branch) {
+            Some(one.key)
+        } else {
+            None
+        }
+    }
+
     /// Takes the place of the one with its key, or stands after the others. Where a change of another key still waits for
     /// memory, there is none for this one.
     #[tactic(auto, using(crate::proofs::KeptPlaces::put_put))]
@@ -196,6 +237,16 @@ impl KeptTable {
         if self.change.is_some() {
             self.settle_change(alloc);
         }
+    }
+}
+
+// The branch is owed, where one is asked for.
+fn owes(kept: &Kept, branch: &Option<BranchId>) -> bool
+    ensures { result ≡ owes kept.now branch.now }
+{
+    match branch {
+        None => true,
+        Some(branch) => kept::find_owed(kept.owed.as_slice(), branch).is_some(),
     }
 }
 

@@ -10,10 +10,12 @@ mod arcs;
 pub mod copies;
 mod directory;
 pub mod kept;
+mod kept_key;
 mod kept_map;
 mod kept_table;
 mod outs;
 mod shared_arcs;
+mod trees;
 
 pub use arc_step::{ArcStep, is_granting};
 pub use kept_table::KeptTable;

@@ -1,15 +1,23 @@
-use Rattle.std.proofs.Common.{◌∙◌, sym, ap, subst, List}
-use Rattle.std.specs.List.{remove}
-use Rattle.tp_model.specs.declared.recovery.Kept.{Kept}
-use Rattle.tp_node_state.specs.Kept.{listed, AreKeyed}
-use Rattle.tp_node_state.proofs.KeptEntries.{listed_removed, keyed_removed}
+use Rattle.tp_node_state.specs.Kept.{listed}
+use Rattle.tp_node_state.proofs.KeptTrees.{kept_removed, list_removed, known_over}
 use Rattle.tp_node_state.proofs.kept_map.KeptMap.remove.Goals as goal
 
-pub invariant_of-self : goal.invariant_of-self
-invariant_of-self c = subst AreKeyed (sym c.shift_remove_index.ensures.entries) (keyed_removed c.self.inside.entries.entries c.args.place c.self.invariant)
+pub returns-in_default : goal.returns-in_default
+returns-in_default c = list_removed c.self.inside.entries.entries c.shift_remove_index.new.self.entries c.args.self.now c.args.place c.self.view_is c.shift_remove_index.ensures.entries
+
+pub invariant_of-self-2 : goal.invariant_of-self-2
+invariant_of-self-2 c = kept_removed c.self.inside.entries.entries c.shift_remove_index.new.self.entries c.self.inside.trees c.args.place c.self.invariant c.shift_remove_index.ensures.entries
+
+pub invariant_of-self-then-is_over : goal.invariant_of-self-then-is_over
+invariant_of-self-then-is_over c =
+    let left = kept_removed c.self.inside.entries.entries c.shift_remove_index.new.self.entries c.self.inside.trees c.args.place c.self.invariant c.shift_remove_index.ensures.entries in
+    (left.0, known_over c.self.inside.trees c.remove.new.self (listed c.shift_remove_index.new.self.entries) c.in-Some.kept.key.aaid left.1 (c.is_over.ensures c.if-is_over.true) c.remove.ensures)
+
+pub returns-then-is_over : goal.returns-then-is_over
+returns-then-is_over c = list_removed c.self.inside.entries.entries c.shift_remove_index.new.self.entries c.args.self.now c.args.place c.self.view_is c.shift_remove_index.ensures.entries
+
+pub invariant_of-self-else-is_over : goal.invariant_of-self-else-is_over
+invariant_of-self-else-is_over c = kept_removed c.self.inside.entries.entries c.shift_remove_index.new.self.entries c.self.inside.trees c.args.place c.self.invariant c.shift_remove_index.ensures.entries
 
 pub returns : goal.returns
-returns c =
-    ap listed c.shift_remove_index.ensures.entries
-    ∙ listed_removed c.self.inside.entries.entries c.args.place
-    ∙ ap (λ (ks : List Kept). remove ks c.args.place) c.self.view_is
+returns c = list_removed c.self.inside.entries.entries c.shift_remove_index.new.self.entries c.args.self.now c.args.place c.self.view_is c.shift_remove_index.ensures.entries
