@@ -12,6 +12,7 @@ trials/run edges [--program CMD] [--drive CMD] [--draw CMD] [--short]
 - Where seals are kept a log that was changed, cut, put back from an older copy, or that is another site's, is refused, and left as it is;
   a log that a site left is not refused, at whatever moment the site, or a compaction, was stopped.
 - A compaction that finds no room leaves the log as long as it was.
+- After a bad line of a schedule a second line says which word is wrong and what is due, or what the line names that is not there.
 - What is asked about the program is answered on standard output, and wrong words are named. With TPNODE_SAY=1 a site says what it
   starts with.
 
@@ -418,6 +419,41 @@ class Edges:
             lines = run.stderr.split(b"\n")
             self.expect("%s" % words, (run.returncode, lines[0], named in lines[1]), (2, b"tpnode: usage", True))
 
+    # Why a line of a schedule is bad.
+
+    def bad_lines(self) -> None:
+        two = b"node 1 a\nnode 2 b under 1\n"
+        wrong = {
+            b"fly": b"word 1, `fly`, is not the first word of a line",
+            b"do 70000 fly": b"word 3, `fly`, is not a request",
+            b"do 70000 commit": b"word 2, `70000`, is not a number from 1 to 65535",
+            b"do 2 data 1 AA": b"word 5, `AA`, is not octets: `-`, up to 2000 pairs of digits of 0 to 9 and a to f, or a pair, `*` and 1 to 2000",
+            b"pass 1": b"it ends where a number from 1 to 65535 is due",
+            b"drain 1": b"`1` is a word too much",
+            b"node 3 b over 1": b"word 4, `over`, is not `under`",
+            b"crash a at 100 fill 00 in retry 1": b"word 4, `100`, is not a number from 1 to 99",
+            b"crash a at 1 fill 00 in drain": b"word 7, `drain`, is not the first word of an event's line",
+            b"show \x07\xc3\xa9": b"word 2, `...`, is not a number from 1 to 65535",
+            b"# " + 8191 * b"-": b"it has more than 8192 bytes",
+            b"node 2 c": b"there is a node 2 already",
+            b"node 3 c under 4": b"there is no node 4",
+            b"do 2 commit\ndo 1 prepare 3": b"there is no node 3",
+            b"image c": b"there is no site c",
+            b"again 7": b"there is no frame 7",
+            b"auto 1 4": b"there is no member 4",
+            b"crash b at 1 fill 00 in retry 1": b"node 1 is not at site b",
+            b"crash b at 1 fill 00 in again 1": b"there is no frame 1 to a node of site b",
+        }
+        folder = self.place()
+        for line, why in wrong.items():
+            given = two + line + b"\n" + two
+            at = b"%d" % (3 + line.count(b"\n"))
+            run = self.run(["replay"], folder, given)
+            self.counts["words"] += 1
+            said = run.stderr.split(b"\n")
+            self.expect("%r" % line[:40], (run.returncode, said[0][:len(b"tpnode: bad input at ")], said[1:]),
+                        (3, b"tpnode: bad input at ", [b"line " + at + b": " + why, b""]))
+
     def greetings(self) -> None:
         events = b"".join(wire.frame(body) for body in streams.subordinate(2))
         ready = b"".join(wire.frame(body) for body in streams.subordinate(3)[:-2])
@@ -458,6 +494,7 @@ def main() -> None:
     trial.seals()
     trial.full_disks()
     trial.words()
+    trial.bad_lines()
     trial.greetings()
     shutil.rmtree(folder)
     for name in trial.left_out:

@@ -5,7 +5,8 @@ use Rattle.tp_model.specs.declared.out_line.OutLine.{OutLine}
 use Rattle.tp_draw.specs.declared.lane.Lane.{Lane}
 use Rattle.tp_draw.specs.Lanes.{placed, named, place_in, after_site, with_placed, placed_lanes, with_named, with_all_named, named_lanes, lanes_of}
 use Rattle.tp_draw.specs.Shapes.{place_of}
-use Rattle.tp_draw.specs.Laws.{item, is_placed_by, is_among, is_placed, is_mentioned, is_named, lanes_with, HasOneLane}
+use Rattle.tp_draw.specs.Chosen.{is_among}
+use Rattle.tp_draw.specs.Laws.{item, is_placed_by, is_placed, is_mentioned, is_named, lanes_with, HasOneLane}
 
 -- ---- how many lanes a node has
 
@@ -90,7 +91,7 @@ has_if m ls new false is more = present ls m (not_place _ _ is)
 
 -- ---- lanes of nodes whose site is told
 
-more_placed : (ls : List Lane) (m : ℕ) (s : List ℕ) → HasMore m ls (insert ls (after_site ls s) (record { node = m; site = Some s }))
+pub more_placed : (ls : List Lane) (m : ℕ) (s : List ℕ) → HasMore m ls (insert ls (after_site ls s) (record { node = m; site = Some s }))
 more_placed ls m s = put_between (take (after_site ls s) ls) (drop (after_site ls s) ls) (record { node = m; site = Some s }) ls (take-append-drop (after_site ls s) ls)
 
 keeps_placed : (ls : List Lane) (p : Option (ℕ × List ℕ)) → Keeps ls (with_placed ls p)
@@ -121,7 +122,7 @@ has_all_placed ls n (o ∷ os) is = either (is_placed_by n (placed o)) refl (has
 
 -- ---- lanes of the other nodes
 
-more_named : (ls : List Lane) (m : ℕ) → HasMore m ls (ls ++ record { node = m; site = None } ∷ [])
+pub more_named : (ls : List Lane) (m : ℕ) → HasMore m ls (ls ++ record { node = m; site = None } ∷ [])
 more_named ls m = put_between ls [] (record { node = m; site = None }) ls (append-nil ls)
 
 keeps_named : (ls : List Lane) (m : ℕ) → Keeps ls (with_named ls m)

@@ -11,6 +11,7 @@ use Rattle.tp_draw.specs.declared.news.News.{News}
 use Rattle.tp_draw.specs.declared.shape.Shape.{Shape}
 use Rattle.tp_draw.specs.declared.track.Track.{Track}
 use Rattle.tp_draw.specs.Lanes.{node_of, placed, named, is_of_site}
+use Rattle.tp_draw.specs.Chosen.{is_among}
 use Rattle.tp_draw.specs.Bands.{band_of, news_of, restarted}
 use Rattle.tp_draw.specs.Ends.{is_refused_after, end_of, is_in_row}
 use Rattle.tp_draw.specs.Shapes.{place_of, mark_of, shape_of}
@@ -163,10 +164,6 @@ pub record IsTrack (lines : List OutLine) (at : Option Lane) (t : Track) : Type 
 abbrev pub is_placed_by : ℕ → Option (ℕ × List ℕ) → Bool
 is_placed_by n None = false
 is_placed_by n (Some p) = p.0 == n
-
-abbrev pub is_among : ℕ → List ℕ → Bool
-is_among n [] = false
-is_among n (m ∷ ms) = (m == n) || is_among n ms
 
 -- some line tells the node's site: it declares the node, or is a record of it in the log
 abbrev pub is_placed : ℕ → List OutLine → Bool

@@ -1,6 +1,9 @@
 pub mod Texts
 pub mod Events
 pub mod Lanes
+pub mod NodeSets
+pub mod Subjects
+pub mod Chosen
 pub mod Ends
 pub mod Tones
 pub mod Flights

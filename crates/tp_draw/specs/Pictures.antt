@@ -7,6 +7,7 @@ use Rattle.tp_draw.specs.declared.drawing.Kind.{Kind}
 use Rattle.tp_draw.specs.declared.drawing.Form.{Form}
 use Rattle.tp_draw.specs.declared.view.View.{View}
 use Rattle.tp_draw.specs.Events.{event_of}
+use Rattle.tp_draw.specs.Chosen.{chosen}
 use Rattle.tp_draw.specs.Svg.{svg}
 use Rattle.tp_draw.specs.Mermaid.{mermaid}
 use Rattle.tp_draw.specs.Page.{page}
@@ -55,5 +56,6 @@ picture_in Kind.Svg v os = svg v os
 picture_in Kind.Mermaid v os = mermaid v os
 picture_in Kind.Html v os = page v os
 
+-- of the lines that speak of the chosen nodes, which are numbered anew
 abbrev pub picture : Form → List OutLine → List ℕ
-picture f os = picture_in f.kind (view_of f os) os
+picture f os = picture_in f.kind (view_of f (chosen f.nodes os)) (chosen f.nodes os)

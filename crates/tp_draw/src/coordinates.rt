@@ -1,4 +1,4 @@
-//! Where things stand in an SVG file. No coordinate passes the greatest `u64`.
+//! Where things are in an SVG file. No coordinate passes the greatest `u64`.
 ghost use Rattle.std.specs.Prelude.{◌≡◌};
 ghost use Rattle.tp_draw.specs.Views.{is_shown, seen_at, rows_seen, along, down, below};
 

@@ -2,14 +2,15 @@
 ghost use Rattle.std.specs.Prelude.{◌≡◌, ◌++◌, IfOk, OnOk};
 ghost use Rattle.tp_draw.specs.Pictures.{begins, first_begin, row_from, row_to, view_from, view_of, picture_in, picture};
 
-use crate::View;
+use crate::chosen::chosen;
 use crate::event::event_of;
 use crate::mermaid::write_mermaid;
 use crate::page::write_page;
 use crate::plan::Plan;
 use crate::svg::write_svg;
+use crate::{Nodes, View};
 use std::alloc::Global;
-use tp_model::{Line, LineRequest, OutLine};
+use tp_model::{Line, LineRequest, OutLine, OutLines};
 use tp_names::{NoMemory, Octets};
 
 /// How many lines are shown where nothing says which is the last.
@@ -27,10 +28,10 @@ pub enum Kind {
 }
 
 /// The form in which a picture is written.
-#[derive(Clone, Copy)]
+#[derive(Drop)]
 pub struct Form {
     pub kind: Kind,
-    /// The text of the lines is left out, but for the events of the schedule and the outcomes of trees.
+    /// The text of the lines is left out, except the events of the schedule and the outcomes of trees.
     pub lanes: bool,
     /// What comes before the first transaction is one row.
     pub fold: bool,
@@ -38,6 +39,8 @@ pub struct Form {
     pub from: Option<u16>,
     /// The last one. Without it at most 200 lines are shown.
     pub to: Option<u16>,
+    /// The nodes that are drawn; lines that speak of others are left out, and the rest are numbered anew.
+    pub nodes: Nodes,
 }
 
 // Promise 21.1 [tp_draw/specs/Pictures.antt, tp_draw/specs/Page.antt]: The picture that is written
@@ -45,11 +48,12 @@ pub struct Form {
 //   and in the form that are asked for; what a browser makes of the page's script is not promised
 /// The picture of a transcript with these lines. Time goes with their number and text, and with that of the nodes for
 /// each of them; memory with the picture's text, and a megabyte for the ends of frames.
-pub fn draw(alloc: Global, lines: &[OutLine], form: Form) -> Result<Octets, NoMemory>
-    ensures { IfOk result (λ text. text ≡ picture form lines.now) }
+pub fn draw(alloc: Global, lines: OutLines, form: &Form) -> Result<Octets, NoMemory>
+    ensures { IfOk result (λ text. text ≡ picture form.now lines) }
 {
-    let plan = Plan::new(alloc, lines)?;
-    let view = view_of(alloc, form, lines)?;
+    let lines = chosen(alloc, form.nodes.numbers(), lines)?;
+    let plan = Plan::new(alloc, lines.as_slice())?;
+    let view = view_of(alloc, form, lines.as_slice())?;
     let mut out = Octets::new(alloc);
     write_picture(alloc, form.kind, view, &plan, &mut out)?;
     Ok(out)
@@ -72,8 +76,8 @@ fn write_picture(
 }
 
 // The part that is shown.
-fn view_of(alloc: Global, form: Form, lines: &[OutLine]) -> Result<View, NoMemory>
-    ensures { IfOk result (λ view. view ≡ view_of form lines.now) }
+fn view_of(alloc: Global, form: &Form, lines: &[OutLine]) -> Result<View, NoMemory>
+    ensures { IfOk result (λ view. view ≡ view_of form.now lines.now) }
 {
     let from = match form.from {
         Some(number) => usize::from(number).saturating_sub(1),
@@ -83,8 +87,8 @@ fn view_of(alloc: Global, form: Form, lines: &[OutLine]) -> Result<View, NoMemor
     Ok(view_from(form, from, lines.len()))
 }
 
-fn view_from(form: Form, from: usize, lines: usize) -> View
-    ensures { result ≡ view_from form from lines }
+fn view_from(form: &Form, from: usize, lines: usize) -> View
+    ensures { result ≡ view_from form.now from lines }
 {
     let to = match form.to {
         Some(number) => usize::from(number),

@@ -1,6 +1,6 @@
 //! Which nodes have lanes, and where.
 ghost use Rattle.std.specs.Prelude.{◌≡◌, ◌≤◌, ℕ, List, length, OnOk, IfOk};
-ghost use Rattle.tp_draw.specs.Lanes.{placed, named, node_of, place_in, is_of_site, first_of, after_site, places_in, with_placed, placed_lanes, with_named, with_all_named, named_lanes, declared_by};
+ghost use Rattle.tp_draw.specs.Lanes.{placed, named, node_of, place_in, is_of_site, first_of, after_site, places_in, with_placed, placed_lanes, with_named, with_all_named, named_lanes, lanes_of, declared_by};
 
 use crate::event::event_of;
 use crate::{Lane, Places};
@@ -9,12 +9,18 @@ use tp_model::{Line, LogWords, OutLine};
 use tp_names::same::is_name;
 use tp_names::{NoMemory, SiteName};
 
-/// Gives lanes to the nodes whose site the lines tell, and that have none.
-pub(crate) fn add_placed(
-    alloc: Global,
-    lanes: &mut Vec<Lane>,
-    lines: &[OutLine],
-) -> Result<(), NoMemory>
+/// The lanes of a transcript.
+pub(crate) fn lanes_of(alloc: Global, lines: &[OutLine]) -> Result<Vec<Lane>, NoMemory>
+    ensures { IfOk result (λ lanes. lanes.items ≡ lanes_of lines.now) }
+{
+    let mut lanes = Vec::new(alloc);
+    add_placed(alloc, &mut lanes, lines)?;
+    add_named(&mut lanes, lines)?;
+    Ok(lanes)
+}
+
+// Gives lanes to the nodes whose site the lines tell, and that have none.
+fn add_placed(alloc: Global, lanes: &mut Vec<Lane>, lines: &[OutLine]) -> Result<(), NoMemory>
     ensures { OnOk result (lanes.new.items ≡ placed_lanes lanes.old.items lines.now) }
 {
     for line in lines {
@@ -25,8 +31,8 @@ pub(crate) fn add_placed(
     Ok(())
 }
 
-/// Gives lanes to the nodes that the lines name, and that have none.
-pub(crate) fn add_named(lanes: &mut Vec<Lane>, lines: &[OutLine]) -> Result<(), NoMemory>
+// Gives lanes to the nodes that the lines name, and that have none.
+fn add_named(lanes: &mut Vec<Lane>, lines: &[OutLine]) -> Result<(), NoMemory>
     ensures { OnOk result (lanes.new.items ≡ named_lanes lanes.old.items lines.now) }
 {
     for line in lines {

@@ -1,18 +1,19 @@
 //! Laws of pictures.
 //!
 //! Each function has an empty body; its clause is the law.
-ghost use Rattle.std.specs.Prelude.{◌≡◌, ℕ, Some, List, map, take, true};
+ghost use Rattle.std.specs.Prelude.{◌≡◌, ◌<◌, ℕ, Some, List, length, map, take, true, false};
 ghost use Rattle.tp_model.specs.declared.out_line.OutLine.{OutLine};
 ghost use Rattle.tp_draw.specs.Texts.{escaped};
 ghost use Rattle.tp_draw.specs.Escapes.{is_text};
 ghost use Rattle.tp_draw.specs.Lanes.{lanes_of};
+ghost use Rattle.tp_draw.specs.Chosen.{is_among, chosen};
 ghost use Rattle.tp_draw.specs.Ends.{end_of};
 ghost use Rattle.tp_draw.specs.Shapes.{place_of};
 ghost use Rattle.tp_draw.specs.declared.flight.Flight.{Flight};
 ghost use Rattle.tp_draw.specs.declared.track.Track.{Track};
 ghost use Rattle.tp_draw.specs.Flights.{flight_of};
 ghost use Rattle.tp_draw.specs.Bands.{first_tracks, tracks_after};
-ghost use Rattle.tp_draw.specs.Laws.{item, shape_of_take, IsTrack, shapes, sends, arrows, arrow_of, logs, marks, mark_of_log, Says, is_named, HasOneLane};
+ghost use Rattle.tp_draw.specs.Laws.{item, shape_of_take, IsTrack, shapes, sends, arrows, arrow_of, logs, marks, mark_of_log, Says, is_placed, is_named, lanes_with, HasOneLane};
 
 // Promise 21.2 [tp_draw/specs/Laws.antt]: Each frame that was sent is one arrow, in order, from the
 //   lane of the node that sent it to the lane of the one to which it was sent
@@ -61,9 +62,17 @@ pub fn each_node_has_one_lane()
     ensures { (os : List OutLine) (n : ℕ) → is_named n os ≡ true → HasOneLane n (lanes_of os) (place_of os n) }
 {}
 
-// Promise 21.6 [tp_draw/specs/Escapes.antt]: A text stands in an SVG file as text alone, whatever
-//   its octets are
-/// A text stands in an SVG file as text alone, whatever its octets are.
+// Promise 21.13 [tp_draw/specs/Chosen.antt, tp_draw/specs/Subjects.antt]: Where nodes are chosen,
+//   each of them whose site the transcript tells keeps its one lane, and no other node has a lane
+/// In a picture of chosen nodes each of them whose site the transcript tells has one lane, and no other node has any.
+pub fn a_chosen_node_keeps_its_lane()
+    ensures kept { (ns : List ℕ) (os : List OutLine) (n : ℕ) → is_among n ns ≡ true → is_placed n os ≡ true → HasOneLane n (lanes_of (chosen ns os)) (place_of (chosen ns os) n) }
+    ensures others { (ns : List ℕ) (os : List OutLine) (n : ℕ) → 0 < length ns → is_among n ns ≡ false → lanes_with n (lanes_of (chosen ns os)) ≡ 0 }
+{}
+
+// Promise 21.6 [tp_draw/specs/Escapes.antt]: A text is text alone in an SVG file, whatever its
+//   octets are
+/// A text is text alone in an SVG file, whatever its octets are.
 pub fn text_is_escaped()
     ensures { (xs : List ℕ) → is_text (escaped xs) ≡ true }
 {}

@@ -1,11 +1,10 @@
 //! A transcript, with what was found in it for its picture.
 ghost use Rattle.std.specs.Prelude.{◌≡◌, ◌<◌, ℕ, length, slice_index_or, IfOk};
-ghost use Rattle.tp_draw.specs.Lanes.{lanes_of};
 ghost use Rattle.tp_draw.specs.Ends.{end_of};
 ghost use Rattle.tp_draw.specs.declared.end.End.{End};
 
 use crate::ends::{no_ends, note_ends};
-use crate::lanes::{add_named, add_placed, place_in, places_in};
+use crate::lanes::{lanes_of, place_in, places_in};
 use crate::{End, Lane, Places};
 use std::alloc::Global;
 use std::marker::Model;
@@ -83,15 +82,6 @@ impl<'a> Plan<'a> {
     {
         self.ends[usize::from(frame)]
     }
-}
-
-fn lanes_of(alloc: Global, lines: &[OutLine]) -> Result<Vec<Lane>, NoMemory>
-    ensures { IfOk result (λ lanes. lanes.items ≡ lanes_of lines.now) }
-{
-    let mut lanes = Vec::new(alloc);
-    add_placed(alloc, &mut lanes, lines)?;
-    add_named(&mut lanes, lines)?;
-    Ok(lanes)
 }
 
 fn ends_of(alloc: Global, lines: &[OutLine]) -> Result<Vec<End>, NoMemory>

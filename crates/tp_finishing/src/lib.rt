@@ -89,14 +89,14 @@ pub fn every_run_ends()
 
 // Promise 23.7 [tp_finishing/specs/Again.antt]: **What a stop may have swallowed is said again**: a
 //   node whose site stops and starts, that is declared and retries, tells its user to commit and
-//   orders its branches to, where it commits; asks its superior, where it is in doubt; of each
-//   commitment that it keeps it orders the branches that are owed, and reports to its superior.
-//   What was active or rolled back is over. Where nothing is current, a user that asks to commit or
+//   orders its branches to that did not leave, where it commits; asks its superior, where it is in
+//   doubt; of each commitment that it keeps it orders the branches that are owed, and reports to its
+//   superior. What was active or rolled back is over. Where nothing is current, a user that asks to commit or
 //   to roll back, or says that it changed nothing or has finished, is refused with `NoTransaction`
 /// In every run, what a stop may have swallowed is said again: a node whose site stops and starts, which is declared and retries, tells
-/// its user to commit and orders its branches to, where it commits; asks its superior, where it is in doubt; and of each commitment that it
-/// keeps orders the branches that it owes, and reports to its superior. What was active or rolled back is over, and is not told again: a
-/// user that still speaks of it is refused with `NoTransaction`.
+/// its user to commit and orders its branches to that did not leave, where it commits; asks its superior, where it is in doubt; and of each
+/// commitment that it keeps orders the branches that it owes, and reports to its superior. What was active or rolled back is over, and is not
+/// told again: a user that still speaks of it is refused with `NoTransaction`.
 pub fn what_was_lost_is_said_again()
     ensures { (es : List Happening) → LostIsSaidAgain (run es) }
 {}

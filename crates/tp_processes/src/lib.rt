@@ -55,11 +55,11 @@ pub fn processes_keep_the_promises()
 
 // Promise 22.12 [tp_processes/specs/Deployed.antt]: **The first two sentences, of the nodes where
 //   they stand** and of all that happened to them, with no run named: different outcomes have a
-//   decision between them, Commit stands alone, and a commitment that is complete at the root with
-//   no report is one at every node that stays
+//   decision between them, Commit stands alone, and where a commitment is complete at the root with
+//   no report every node that stays was told commit
 /// In every deployment, of the nodes where they stand and of all that happened to them: no two nodes of a tree are told different outcomes
-/// but where one logged a decision of its own, Commit stands alone, and a commitment that is complete at the root with no report is one at
-/// every node that stays.
+/// but where one logged a decision of its own, Commit stands alone, and where a commitment is complete at the root with no report every node
+/// that stays was told commit.
 pub fn deployments_keep_the_sentences()
     ensures { SentencesHold }
 {}

@@ -57,11 +57,6 @@ decimal_by_pair n small large =
     ∙ ap (λ (m : ℕ). decimal m ++ (48 + n % 100 / 10) ∷ (48 + n % 100 % 10) ∷ []) front
 
 -- the digits as they are found, two and two
-pub one_found : (n : ℕ) → n < 10 → (p : ℕ × ℕ) → p ≡ (48 + n % 100 / 10, 48 + n % 100 % 10) → p.1 ∷ [] ≡ decimal n
-one_found n small p last =
-    let ones : n % 100 % 10 ≡ n = omega (arith, small) in
-    rw (last, decimal_one n small) (ap (λ (d : ℕ). (48 + d) ∷ []) ones)
-
 pub two_found : (n : ℕ) → 10 ≤ n → n < 100 → (p : ℕ × ℕ) → p ≡ (48 + n % 100 / 10, 48 + n % 100 % 10) → p.0 ∷ p.1 ∷ [] ≡ decimal n
 two_found n large small p last =
     let same : n % 100 ≡ n = omega (arith, small) in

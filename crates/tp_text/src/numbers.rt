@@ -1,5 +1,5 @@
 //! Numbers and octets as digits, and letters for units.
-ghost use Rattle.std.specs.Prelude.{◌≡◌, ◌==◌, ◌<◌, ◌+◌, ◌/◌, ◌%◌, ◌∷◌, [], if◌then◌else◌};
+ghost use Rattle.std.specs.Prelude.{◌≡◌, ◌==◌, ◌<◌, ◌≤◌, ◌+◌, ◌/◌, ◌%◌, ◌∷◌, [], if◌then◌else◌};
 ghost use Rattle.tp_text.specs.Written.{Adds};
 ghost use Rattle.tp_model.specs.Words.{decimal, hex, hex_digit, octets_word, units_word};
 ghost use Rattle.tp_model.specs.OutText.{numbers_word};
@@ -14,18 +14,13 @@ static PAIRS: [u8; 200] =
 
 impl Text {
     /// Puts a number in decimal.
-    #[inline(always)]
     pub fn number(&mut self, n: u64)
         ensures { Adds self.old (decimal n) self.new }
     {
-        if n < 10 {
-            self.byte(b'0' + n as u8);
-        } else {
-            put_number(n, self);
-        }
+        put_number(n, self);
     }
 
-    // Puts a byte and a number in decimal: a short one at once.
+    // Puts a byte and a number in decimal.
     #[inline(always)]
     pub(crate) fn led(&mut self, byte: u8, n: u64)
         ensures { Adds self.old (byte ∷ decimal n) self.new }
@@ -33,8 +28,7 @@ impl Text {
         if n < 10 {
             self.put(&[byte, b'0' + n as u8]);
         } else {
-            self.byte(byte);
-            put_number(n, self);
+            put_led(byte, n, self);
         }
     }
 
@@ -98,22 +92,33 @@ impl Text {
     }
 }
 
-// Up to four digits at once, and of a longer number those before the last two first.
+// The digits before the last, and that one.
 fn put_number(n: u64, text: &mut Text)
     ensures { Adds text.old (decimal n) text.new }
 {
-    let (tens, ones) = pair(n % 100);
     if n < 10 {
-        text.byte(ones);
-    } else if n < 100 {
-        text.put(&[tens, ones]);
+        text.byte(b'0' + n as u8);
+    } else {
+        put_number(n / 10, text);
+        text.byte(b'0' + (n % 10) as u8);
+    }
+}
+
+// A byte and up to four digits at once, and of a longer number those before the last two first.
+fn put_led(byte: u8, n: u64, text: &mut Text)
+    requires { 10 ≤ n }
+    ensures { Adds text.old (byte ∷ decimal n) text.new }
+{
+    let (tens, ones) = pair(n % 100);
+    if n < 100 {
+        text.put(&[byte, tens, ones]);
     } else if n < 1000 {
-        text.put(&[b'0' + (n / 100) as u8, tens, ones]);
+        text.put(&[byte, b'0' + (n / 100) as u8, tens, ones]);
     } else if n < 10_000 {
         let (thousands, hundreds) = pair(n / 100);
-        text.put(&[thousands, hundreds, tens, ones]);
+        text.put(&[byte, thousands, hundreds, tens, ones]);
     } else {
-        put_number(n / 100, text);
+        put_led(byte, n / 100, text);
         text.put(&[tens, ones]);
     }
 }

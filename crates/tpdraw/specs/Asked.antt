@@ -8,10 +8,11 @@ use Rattle.tp_draw.specs.declared.drawing.Kind.{Kind}
 use Rattle.tp_draw.specs.declared.drawing.Form.{Form}
 use Rattle.tpdraw.specs.declared.asking.Asking.{Asking}
 use Rattle.tpdraw.specs.declared.asking.Want.{Want}
+use Rattle.tpdraw.specs.NodeLists.{numbers_in}
 
 -- no words: an SVG file with the text of the lines
 abbrev pub plain : Form
-plain = record { kind = Kind.Svg; lanes = false; fold = false; from = None; to = None }
+plain = record { kind = Kind.Svg; lanes = false; fold = false; from = None; to = None; nodes = [] }
 
 abbrev pub start : Asking
 start = record { form = plain; want = Want.Option }
@@ -28,6 +29,14 @@ numbered f first (Ok n) = Some (record { form = given_number f first n; want = W
 abbrev pub with_number : Form → Bool → List ℕ → Option Asking
 with_number f first w = numbered f first (read_as (number w))
 
+abbrev pub with_list : Form → Option (List ℕ) → Option Asking
+with_list f None = None
+with_list f (Some ns) = Some (record { form = record f { nodes = ns }; want = Want.Option })
+
+-- none, where the word is no list of nodes, or of too many
+abbrev pub with_nodes : Form → List ℕ → Option Asking
+with_nodes f w = with_list f (numbers_in w)
+
 -- none, where the word is no option
 abbrev pub with_word : Form → List ℕ → Option Asking
 with_word f w =
@@ -37,6 +46,7 @@ with_word f w =
     else if is_name w (codes "--fold") then Some (record { form = record f { fold = true }; want = Want.Option })
     else if is_name w (codes "--from") then Some (record { form = f; want = Want.First })
     else if is_name w (codes "--to") then Some (record { form = f; want = Want.Last })
+    else if is_name w (codes "--nodes") then Some (record { form = f; want = Want.Nodes })
     else None
 
 -- what the words so far ask for, with one word more
@@ -44,20 +54,22 @@ abbrev pub after_by : Want → Form → List ℕ → Option Asking
 after_by Want.Option f w = with_word f w
 after_by Want.First f w = with_number f true w
 after_by Want.Last f w = with_number f false w
+after_by Want.Nodes f w = with_nodes f w
 
 abbrev pub after : Asking → List ℕ → Option Asking
 after a w = after_by a.want a.form w
 
--- after the last word no number is missing
+-- after the last word nothing is missing
 abbrev pub form_by : Want → Form → Option Form
 form_by Want.Option f = Some f
 form_by Want.First f = None
 form_by Want.Last f = None
+form_by Want.Nodes f = None
 
 abbrev pub asked_form : Asking → Option Form
 asked_form a = form_by a.want a.form
 
--- none, where some word stands for nothing
+-- none, where some word means nothing
 abbrev pub asked_on : Option Asking → List (List ℕ) → Option Form
 asked_on None ws = None
 asked_on (Some a) [] = asked_form a

@@ -1,4 +1,5 @@
 pub mod Transcripts
+pub mod NodeLists
 pub mod Asked
 pub mod Status
 pub mod Runs

@@ -1,8 +1,9 @@
 //! What the words after the program's name ask for.
 ghost use Rattle.std.specs.Prelude.{◌≡◌};
-ghost use Rattle.tpdraw.specs.Asked.{start, after, with_number, with_word};
+ghost use Rattle.tpdraw.specs.Asked.{start, after, with_number, with_nodes, with_word};
 
-use tp_draw::{Form, Kind};
+use crate::node_list::read_nodes;
+use tp_draw::{Form, Kind, Nodes};
 use tp_schedule::value::read_number;
 
 /// What the next word is.
@@ -14,10 +15,12 @@ pub(crate) enum Want {
     First,
     /// The number of the last line.
     Last,
+    /// The numbers of the nodes.
+    Nodes,
 }
 
 /// What the words so far ask for.
-#[derive(Clone, Copy)]
+#[derive(Drop)]
 pub(crate) struct Asking {
     pub form: Form,
     pub want: Want,
@@ -35,12 +38,13 @@ impl Asking {
                 fold: false,
                 from: None,
                 to: None,
+                nodes: Nodes::none(),
             },
             want: Want::Option,
         }
     }
 
-    /// What they ask for with this word too; None where it stands for nothing.
+    /// What they ask for with this word too; None where it means nothing.
     pub(crate) fn after(self, word: &str) -> Option<Asking>
         ensures { result ≡ after self word.now }
     {
@@ -48,6 +52,7 @@ impl Asking {
             Want::Option => with_word(self.form, word),
             Want::First => with_number(self.form, true, word),
             Want::Last => with_number(self.form, false, word),
+            Want::Nodes => with_nodes(self.form, word),
         }
     }
 }
@@ -68,6 +73,15 @@ fn with_number(form: Form, first: bool, word: &str) -> Option<Asking>
         let form = Form { to, ..form };
         Some(Asking { form, want })
     }
+}
+
+fn with_nodes(form: Form, word: &str) -> Option<Asking>
+    ensures { result ≡ with_nodes form word.now }
+{
+    let nodes = read_nodes(word.as_bytes())?;
+    let want = Want::Option;
+    let form = Form { nodes, ..form };
+    Some(Asking { form, want })
 }
 
 fn with_word(form: Form, word: &str) -> Option<Asking>
@@ -105,6 +119,10 @@ fn with_word(form: Form, word: &str) -> Option<Asking>
     }
     if word == "--to" {
         let want = Want::Last;
+        return Some(Asking { form, want });
+    }
+    if word == "--nodes" {
+        let want = Want::Nodes;
         return Some(Asking { form, want });
     }
     None

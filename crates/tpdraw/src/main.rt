@@ -5,6 +5,7 @@
 mod asking;
 mod intake;
 mod next_line;
+mod node_list;
 mod reading;
 mod status;
 mod top;
@@ -20,16 +21,17 @@ use tp_outside::{
 
 /// What can be typed.
 const USAGE: &str = "\
-usage: tpdraw [--mermaid | --html] [--lanes] [--fold] [--from N] [--to N]
+usage: tpdraw [--mermaid | --html] [--lanes] [--fold] [--from N] [--to N] [--nodes N,..]
 
   reads a transcript, writes it as a picture in SVG
 
   --mermaid    writes text from which Mermaid makes the picture
   --html       writes a page with the picture and the lines, which a slider steps through
-  --lanes      leaves out the text of the lines, but for events and outcomes
-  --fold       one row stands for all that comes before the first transaction
+  --lanes      leaves out the text of the lines, except events and outcomes
+  --fold       one row for all lines before the first transaction
   --from N     begins with line N
   --to N       ends with line N; without it at most 200 lines are shown
+  --nodes N,.. leaves out lines that speak of other nodes than these, at most 16; --from and --to count what is left
 ";
 
 // Ends a run. Why its stream failed is said where it is known.

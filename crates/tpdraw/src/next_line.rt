@@ -2,7 +2,7 @@
 ghost use Rattle.std.specs.Prelude.{◌≡◌, [], MatchOption};
 ghost use Rattle.tpdraw.specs.Transcripts.{IsNext, HasNone, IsFirstFeed};
 
-/// The first line without its end, and what stands after it; None where there are no bytes.
+/// The first line without its end, and what is after it; None where there are no bytes.
 pub(crate) fn next_line(bytes: &[u8]) -> Option<(&[u8], &[u8])>
     ensures { MatchOption result (bytes.now ≡ []) (λ p. IsNext bytes.now p.0.now p.1.now) }
 {
@@ -15,7 +15,7 @@ pub(crate) fn next_line(bytes: &[u8]) -> Option<(&[u8], &[u8])>
     }
 }
 
-// How many bytes stand before the first line feed.
+// How many bytes are before the first line feed.
 fn find_feed(bytes: &[u8]) -> Option<usize>
     ensures { MatchOption result (HasNone bytes.now) (IsFirstFeed bytes.now) }
 {

@@ -24,9 +24,11 @@ pub fn run<S: Source, K: Sink>(
     source: &mut S,
     sink: &mut K,
 ) -> Status
-    // Promise 21.9 [tpdraw/specs/Asked.antt, clauses usage unread]: Its words are usage exactly
-    //   where one of them is neither `--mermaid`, `--html`, `--lanes`, `--fold`, `--from` or
-    //   `--to`, nor the number after one of the last two, from 1 to 65535; and then nothing is read
+    // Promise 21.9 [tpdraw/specs/Asked.antt, tpdraw/specs/NodeLists.antt, clauses usage unread]: Its
+    //   words are usage exactly where one of them is neither `--mermaid`, `--html`, `--lanes`,
+    //   `--fold`, `--from`, `--to` or `--nodes`, nor what follows one of the last three: a number
+    //   from 1 to 65535, after `--nodes` 1 to 16 of them with commas between; and then nothing is
+    //   read
     ensures usage { (result ≡ Status.Usage) ↔ (asked (map (λ w. w.now) words.now) ≡ None) }
     ensures unread { result ≡ Status.Usage → source.new ≡ source.old }
     // Promise 21.10 [tpdraw/specs/Runs.antt]: A fault of its source or sink comes only where the
@@ -41,7 +43,7 @@ pub fn run<S: Source, K: Sink>(
 {
     match asked(words) {
         None => Status::Usage,
-        Some(form) => draw_input(alloc, form, source, sink),
+        Some(form) => draw_input(alloc, &form, source, sink),
     }
 }
 
@@ -59,10 +61,15 @@ fn asked(words: &[&str]) -> Option<Form>
     }
 }
 
-fn draw_input<S: Source, K: Sink>(alloc: Global, form: Form, source: &mut S, sink: &mut K) -> Status
+fn draw_input<S: Source, K: Sink>(
+    alloc: Global,
+    form: &Form,
+    source: &mut S,
+    sink: &mut K,
+) -> Status
     ensures asked { result ≢ Status.Usage }
     ensures ending { IsEnding (S.fault_count source.old) (S.fault_count source.new) (K.fault_count sink.old) (K.fault_count sink.new) result }
-    ensures draws { Draws (Some form) (S.left source.old) result (K.written sink.old) (K.written sink.new) }
+    ensures draws { Draws (Some form.now) (S.left source.old) result (K.written sink.old) (K.written sink.new) }
 {
     match picture_of(alloc, form, source) {
         Ok(picture) => write_picture(sink, picture.as_slice()),
@@ -71,20 +78,20 @@ fn draw_input<S: Source, K: Sink>(alloc: Global, form: Form, source: &mut S, sin
 }
 
 // The picture of all that the source has left.
-fn picture_of<S: Source>(alloc: Global, form: Form, source: &mut S) -> Result<Octets, Status>
-    ensures pictured { IfOk result (λ text. (bytes : List ℕ) → S.left source.old ≡ Some bytes → IsPicture form bytes text) }
+fn picture_of<S: Source>(alloc: Global, form: &Form, source: &mut S) -> Result<Octets, Status>
+    ensures pictured { IfOk result (λ text. (bytes : List ℕ) → S.left source.old ≡ Some bytes → IsPicture form.now bytes text) }
     ensures stops { IfErr result (IsInputStop (S.left source.old) (S.fault_count source.old) (S.fault_count source.new)) }
 {
     let bytes = read_all(alloc, source)?;
     picture_of_bytes(alloc, form, bytes.as_slice())
 }
 
-fn picture_of_bytes(alloc: Global, form: Form, bytes: &[u8]) -> Result<Octets, Status>
-    ensures pictured { IfOk result (IsPicture form bytes.now) }
+fn picture_of_bytes(alloc: Global, form: &Form, bytes: &[u8]) -> Result<Octets, Status>
+    ensures pictured { IfOk result (IsPicture form.now bytes.now) }
     ensures stops { IfErr result (IsUnread bytes.now) }
 {
     let lines = read_transcript(alloc, bytes)?;
-    let picture = draw(alloc, lines.as_slice(), form)?;
+    let picture = draw(alloc, lines, form)?;
     Ok(picture)
 }
 

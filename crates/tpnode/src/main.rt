@@ -18,6 +18,7 @@ use std::alloc::{AllocError, Global};
 use std::io::{self, IsTerminal};
 use std::process::ExitCode;
 pub use top::run;
+use tp_explain::{Remembering, explain};
 use tp_greeting::{Beginning, is_watched};
 use tp_outside::{
     About, Cause, FileDisk, HeldStreams, NULL, StdSink, StdSource, say, say_cause, say_end, tell,
@@ -36,6 +37,9 @@ const STORE: &str = "bound.log";
 
 /// The seals of the log, where this file is in the current folder.
 const SEALS: &str = "tp.seal";
+
+/// The most bytes of a schedule, which are remembered so that a bad line can be explained.
+const MOST_BYTES: usize = 1048576;
 
 /// The node of the store that is member 3.
 const STORE_NODE: u16 = 2;
@@ -78,6 +82,24 @@ fn disk_for<'a>(rt: &'a HostRuntime, command: &Option<Command>) -> FileDisk<'a, 
         Some(Command::Format) => FileDisk::new(rt, file),
         Some(Command::Show | Command::Check | Command::Keys) => FileDisk::to_read(rt, file),
         _ => FileDisk::to_change(rt, file),
+    }
+}
+
+// How much of what it reads is remembered.
+fn remembered_for(command: &Option<Command>) -> usize {
+    match command {
+        Some(Command::Replay) => MOST_BYTES,
+        _ => 0,
+    }
+}
+
+// Says why the line is bad that ended a replay of that text.
+fn say_why(rt: &HostRuntime, status: &Status, text: &[u8]) {
+    let Status::BadInput { at, why } = *status else {
+        return;
+    };
+    if let Some(explanation) = explain(rt.alloc(), text, at, why) {
+        say(rt, format_args!("line {at}: {explanation}\n"));
     }
 }
 
@@ -178,16 +200,18 @@ fn run_words(rt: &HostRuntime, words: &[&str]) -> ExitCode {
         Err(barred) => return bar(rt, &barred, disk.cause()),
     };
     greet(rt, &command);
-    let mut source = StdSource::new(rt);
+    let kept = remembered_for(&command);
+    let mut source = Remembering::new(rt.alloc(), StdSource::new(rt), kept);
     let mut sink = StdSink::new(rt);
     let (status, disk) = run(rt.alloc(), words, &mut source, &mut sink, disk, members);
     let (name, cause) = match status {
-        Status::ReadFault { .. } => ("standard input", source.cause()),
+        Status::ReadFault { .. } => ("standard input", source.source().cause()),
         Status::WriteFault { .. } => ("standard output", sink.cause()),
         Status::DiskFault { .. } => (file_for(&command), disk.cause()),
         _ => ("", None),
     };
     let code = end(rt, status, name, cause);
+    say_why(rt, &status, source.text());
     match status {
         Status::Usage => say_usage(rt, words),
         Status::DiskFault { .. } => {}
