@@ -116,6 +116,7 @@ class Site:
         self.face = cluster.with_face and not cluster.sites
         self.ready = False  # it has answered since its start
         self.nodes, self.process, self.up, self.starts, self.refused = [], None, False, 0, None
+        self.streams = []  # what each process was given that happened
         os.makedirs(folder)
         with open(os.path.join(folder, "tp.log"), "wb") as log:
             log.write(wire.FRESH)
@@ -131,6 +132,7 @@ class Site:
         self.ready = False
         self.up, self.waiting, self.outgoing, self.incoming, self.refused, self.ended = True, [], bytearray(), bytearray(), None, None
         self.starts += 1
+        self.found, self.taken, self.over = self.log(), bytearray(), 0
         if self.cluster.record:
             path = os.path.join(self.cluster.record, "%s-%s-%d" % (os.path.basename(self.cluster.folder), self.name, self.starts))
             shutil.copyfile(os.path.join(self.folder, "tp.log"), path + ".log")
@@ -160,6 +162,7 @@ class Site:
             return
         if self.cluster.record:
             self.given.write(self.outgoing[:size])
+        self.taken += self.outgoing[:size]
         del self.outgoing[:size]
 
     def read(self):
@@ -188,6 +191,7 @@ class Site:
         node, what = self.waiting[0]
         if code == (0x30 if self.face else 0x13) and len(body) == (3 if self.face else 1):
             self.waiting.pop(0)
+            self.over += 1
             self.judge_face(body)
             if self.refused:
                 cluster.note_down(self.name, "refused", self.refused, what and what[0], node and node.number)
@@ -230,6 +234,7 @@ class Site:
         self.ready = False
         self.close()
         cluster.counts["kills"] += 1
+        self.note_stream(True)
         if cluster.wrong and self is cluster.sites[0]:
             self.cut_back()
         self.scramble()
@@ -242,6 +247,44 @@ class Site:
                 child.closes()
                 cluster.later(draw.uniform(0, 0.02), "lose", child, node)
             node.busy = node.retrying = node.started = False
+
+    def note_stream(self, killed):
+        """What the process was given that happened: of a killed one all that was answered, and on while the log has the records."""
+        if self.cluster.unite is None:
+            return
+        bodies, _ = wire.frames_in(self.taken)
+        if killed:
+            bodies = self.happened(bodies)
+        if bodies is not None:
+            self.streams.append(b"".join(map(wire.frame, bodies)))
+
+    def happened(self, bodies):
+        """Those of the events that happened; None where the process had not started. They are given to another process on the same log."""
+        records = self.records(self.log()) - self.records(self.found)
+        if records == 0:
+            return None
+        with tempfile.TemporaryDirectory(dir=self.cluster.folder) as folder:
+            path = os.path.join(folder, "tp.log")
+            with open(path, "wb") as log:
+                log.write(self.found)
+            process = subprocess.Popen(self.cluster.program + ["node", "--name", self.name], cwd=folder, stdin=subprocess.PIPE, stdout=subprocess.PIPE)
+            for count, body in enumerate(bodies):
+                process.stdin.write(wire.frame(body))
+                process.stdin.flush()
+                while wire.read_frame(process.stdout) != b"\x13":
+                    pass
+                if count >= self.over:
+                    with open(path, "rb") as log:
+                        if self.records(log.read()) - self.records(self.found) > records:
+                            bodies = bodies[:count]
+                            break
+            process.stdin.close()
+            process.wait()
+            process.stdout.close()
+        return bodies
+
+    def records(self, log):
+        return len(wire.gates_of(log)[0])
 
     def close(self):
         if self.cluster.record:
@@ -292,7 +335,7 @@ class Site:
 
 class Cluster:
     def __init__(self, options, sites, transfers, seed, folder, wrong):
-        self.program, self.wrong, self.record = options.program, wrong, options.record
+        self.program, self.wrong, self.record, self.unite = options.program, wrong, options.record, None if options.tx or options.compact else options.unite
         self.compacting, self.heuristic, self.with_face = options.compact, options.heuristic, options.tx
         self.draw = random.Random(seed)
         self.folder, self.goal, self.kill_rate, self.slow = folder, transfers, options.kill_rate, options.slow
@@ -742,6 +785,7 @@ class Cluster:
                 site.given.close()
             rest = site.process.stdout.read()
             status = site.process.wait()
+            site.note_stream(False)
             if status != 0 or (rest and self.quiet and not self.faults):
                 self.fault("site %s ends with status %d and %d more bytes" % (site.name, status, len(rest)))
             site.process.stdout.close()
@@ -773,6 +817,46 @@ class Cluster:
                 self.fault("%d keys of %s have no end, as %s" % (len(open_keys), site.name, open_keys[0]))
             self.counts["bytes"] += len(site.log())
         self.judge_stores()
+        if self.unite is not None:
+            self.judge_streams()
+
+    def recording(self):
+        places = [wire.place(node.number, node.site.name, node.superior and node.superior.number) for tree in self.trees for node in tree.nodes]
+        streams = [wire.starts(site.name) + stream for site in self.sites for stream in site.streams]
+        return b"".join(places + streams)
+
+    def judge_streams(self):
+        """The processes were one deployment."""
+        given = self.recording()
+        if self.record:
+            with open(os.path.join(self.record, os.path.basename(self.folder) + ".recording"), "wb") as file:
+                file.write(given)
+        united = subprocess.run(self.unite, input=given, capture_output=True)
+        if (united.returncode, united.stdout) != (0, b"deployment\n"):
+            self.fault("unite: status %d, %s %s" % (united.returncode, united.stdout[:200].decode(), united.stderr[:200].decode()))
+        for name, bodies, status in self.planted(wire.frames_in(given)[0]):
+            united = subprocess.run(self.unite, input=b"".join(map(wire.frame, bodies)), capture_output=True)
+            self.counts["planted"] = self.counts.get("planted", 0) + 1
+            if united.returncode != status:
+                self.fault("unite: %s has status %d, %s" % (name, united.returncode, united.stdout[:200].decode()))
+
+    def planted(self, bodies):
+        """The recording with one fault in it, and the status with which it must be named."""
+        first = {code: next(k for k, body in enumerate(bodies) if body[0] == code) for code in (0x03, 0x52)}
+        changed = bytearray(bodies[first[0x03]])
+        changed[-2] ^= 1  # in the mark of the first association
+        yield "a record that was changed", bodies[:first[0x03]] + [bytes(changed)] + bodies[first[0x03] + 1:], 1
+        starts = [k for k, body in enumerate(bodies) if body[0] == 0x52] + [len(bodies)]
+        for one, other, end in zip(starts, starts[1:], starts[2:]):
+            if bodies[one] == bodies[other]:
+                yield "a log that was put back", bodies[:(one + other) // 2] + bodies[other:], 1
+                yield "two processes on one log", bodies[:one] + bodies[other:end] + bodies[one:other] + bodies[end:], 1
+                break
+        under = next(k for k, body in enumerate(bodies) if body[0] == 0x01 and body[3] == 1)
+        declared = bytearray(bodies[under])
+        declared[-1] ^= 1
+        yield "a superior that was changed", bodies[:under] + [bytes(declared)] + bodies[under + 1:], 1
+        yield "a number that is used twice", bodies[:1] + bodies, 3
 
     def judge_stores(self):
         total = wanted = 0
@@ -842,6 +926,7 @@ def campaign(options, sizes, transfers, wrong):
 def main():
     parser = argparse.ArgumentParser(prog="trials/run cluster")
     tools.add_program(parser)
+    tools.add_unite(parser)
     parser.add_argument("--transfers", type=int, default=10000, help="transfers that a root is told complete, over all runs")
     parser.add_argument("--sites", type=int, help="sites of each run; 3 to 9 in turn where it is not given")
     parser.add_argument("--trees", type=int, default=2, help="trees for each site, each with a transfer at a time")
@@ -861,6 +946,7 @@ def main():
     parser.add_argument("--short", action="store_true")
     options = parser.parse_args()
     tools.set_program(options)
+    tools.set_unite(options)
     sizes = [options.sites] if options.sites else [3, 6, 9] if options.short else list(range(3, 10))
     transfers = 150 if options.short else options.transfers
     status = 0

@@ -9,6 +9,7 @@ ROOT = pathlib.Path(__file__).resolve().parent.parent
 PROGRAM = ROOT / "crates" / "tpnode" / "out" / "tpnode"
 DRIVE = ROOT / "crates" / "tpdrive" / "out" / "tpdrive"
 DRAW = ROOT / "crates" / "tpdraw" / "out" / "tpdraw"
+UNITE = ROOT / "crates" / "tpunite" / "out" / "tpunite"
 
 
 def add_program(parser, workers=False):
@@ -35,6 +36,17 @@ def set_draw(options):
     if os.sep in options.draw[0] and not os.access(options.draw[0], os.X_OK):
         print("%s is not there: drawing is left out" % options.draw[0], flush=True)
         options.draw = None
+
+
+def add_unite(parser):
+    parser.add_argument("--unite", help="the command that unites the streams of sites, %s where it is not given" % UNITE.relative_to(ROOT))
+
+
+def set_unite(options):
+    options.unite = shlex.split(options.unite) if options.unite else [str(UNITE)]
+    if os.sep in options.unite[0] and not os.access(options.unite[0], os.X_OK):
+        print("%s is not there: uniting is left out" % options.unite[0], flush=True)
+        options.unite = None
 
 
 def command_of(options, words):

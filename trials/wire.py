@@ -40,6 +40,12 @@ def frames_in(stream):
     return bodies, at
 
 
+def read_frame(file):
+    """The body of the next frame of a file; empty at its end."""
+    head = file.read(2)
+    return file.read(head[0] << 8 | head[1]) if len(head) == 2 else b""
+
+
 def text_of_site(name):
     return bytes([len(name)]) + name.encode()
 
@@ -123,3 +129,14 @@ def audit_frames(logs):
             piece = log[at : at + 2000]
             out.append(frame(b"\x41" + octets(piece)))
     return b"".join(out)
+
+
+def place(number, name, under=None):
+    """A node's place in a recording, under the node of that number where one is given."""
+    head = b"\x50" + short(number) if under is None else b"\x51" + short(number) + short(under)
+    return frame(head + text_of_site(name))
+
+
+def starts(name):
+    """A process of that site starts: the events that it was given come next."""
+    return frame(b"\x52" + text_of_site(name))

@@ -1,0 +1,67 @@
+-- What a run does, by how it ends: it writes the line of its verdict, or a prefix of it where the sink fails, or nothing.
+use Rattle.std.specs.Prelude.{ℕ, ◌≡◌, Option, Some, List, [], ◌∷◌, ◌++◌, codes}
+use Rattle.tp_model.specs.Words.{decimal, words}
+use Rattle.tp_streams.specs.Written.{WritesPrefix}
+use Rattle.tp_unite.specs.declared.verdict.Verdict.{Verdict}
+use Rattle.tp_unite.specs.Verdicts.{Judges}
+use Rattle.tpunite.specs.declared.status.Status.{Status}
+
+abbrev pub verdict_words : Verdict → List (List ℕ)
+verdict_words Verdict.Deployment = codes "deployment" ∷ []
+verdict_words (Verdict.NotPlaced at) = codes "not-placed" ∷ decimal at ∷ []
+verdict_words (Verdict.NotCarried at) = codes "not-carried" ∷ decimal at ∷ []
+
+abbrev pub verdict_line : Verdict → List ℕ
+verdict_line v = words (verdict_words v) ++ 10 ∷ []
+
+abbrev pub status_after : Verdict → Status
+status_after Verdict.Deployment = Status.Ok
+status_after (Verdict.NotPlaced at) = Status.Findings
+status_after (Verdict.NotCarried at) = Status.Findings
+
+pub record IsWritten (v : Verdict) (status : Status) (old new : Option (List ℕ)) : Type 0 where
+  pub status_is : status ≡ status_after v
+  pub written : (was : List ℕ) → old ≡ Some was → new ≡ Some (was ++ verdict_line v)
+
+-- the whole line, or a prefix of it where the sink failed, or nothing where there was no memory
+abbrev pub Writes : Verdict → Status → Option (List ℕ) → Option (List ℕ) → Type 0
+Writes v (Status.WriteFault faults) old new = (was : List ℕ) → old ≡ Some was → WritesPrefix was (verdict_line v) new
+Writes v Status.NoMemory old new = new ≡ old
+Writes v Status.Ok old new = IsWritten v Status.Ok old new
+Writes v Status.Findings old new = IsWritten v Status.Findings old new
+Writes v Status.Usage old new = ⊥
+Writes v (Status.BadInput at why) old new = ⊥
+Writes v (Status.Limit what at) old new = ⊥
+Writes v (Status.ReadFault faults) old new = ⊥
+
+-- the run ends by this verdict, whose line was written
+pub record Reports (left : Option (List ℕ)) (v : Verdict) (status : Status) (old new : Option (List ℕ)) : Type 0 where
+  pub judges : (bytes : List ℕ) → left ≡ Some bytes → Judges bytes v
+  pub status_is : status ≡ status_after v
+  pub written : (was : List ℕ) → old ≡ Some was → new ≡ Some (was ++ verdict_line v)
+
+-- or a prefix of it, where the sink failed
+pub record ReportsPart (left : Option (List ℕ)) (v : Verdict) (old new : Option (List ℕ)) : Type 0 where
+  pub judges : (bytes : List ℕ) → left ≡ Some bytes → Judges bytes v
+  pub written : (was : List ℕ) → old ≡ Some was → WritesPrefix was (verdict_line v) new
+
+abbrev pub Runs : Option (List ℕ) → Status → Option (List ℕ) → Option (List ℕ) → Type 0
+Runs left Status.Ok old new = (v : Verdict) × Reports left v Status.Ok old new
+Runs left Status.Findings old new = (v : Verdict) × Reports left v Status.Findings old new
+Runs left Status.Usage old new = new ≡ old
+Runs left (Status.BadInput at why) old new = new ≡ old
+Runs left (Status.Limit what at) old new = new ≡ old
+Runs left (Status.ReadFault faults) old new = new ≡ old
+Runs left (Status.WriteFault faults) old new = (v : Verdict) × ReportsPart left v old new
+Runs left Status.NoMemory old new = new ≡ old
+
+-- a status that comes of no verdict
+abbrev pub IsStopped : Status → Type 0
+IsStopped Status.Ok = ⊥
+IsStopped Status.Findings = ⊥
+IsStopped Status.Usage = ⊥
+IsStopped (Status.BadInput at why) = Unit {0}
+IsStopped (Status.Limit what at) = Unit {0}
+IsStopped (Status.ReadFault faults) = Unit {0}
+IsStopped (Status.WriteFault faults) = ⊥
+IsStopped Status.NoMemory = Unit {0}

@@ -1,0 +1,105 @@
+//! The program's one call.
+ghost use Rattle.std.specs.Prelude.{◌≡◌, ◌≢◌, ◌↔◌, ◌++◌, IfOk, OnOk};
+ghost use Rattle.tpunite.specs.Runs.{verdict_line, status_after, Runs, IsStopped, Writes};
+ghost use Rattle.tpunite.specs.declared.status.Status.{Status as TheStatus};
+
+use crate::Status;
+use std::alloc::Global;
+use tp_names::{NoMemory, Octets};
+use tp_outside::{Sink, Source};
+use tp_schedule::word::{Word, write_alone, write_words};
+use tp_streams::{Stop, write_all};
+use tp_unite::{Verdict, unite};
+
+// How a program ends that stops so. What comes of a log on a disk does not come here.
+fn status_of(stop: Stop) -> Status
+    ensures { IsStopped result }
+{
+    match stop {
+        Stop::BadInput { at, why } => Status::BadInput { at, why },
+        Stop::Limit { what, at } => Status::Limit { what, at },
+        Stop::ReadFault { faults } => Status::ReadFault { faults },
+        _ => Status::NoMemory,
+    }
+}
+
+fn status_after(verdict: Verdict) -> Status
+    ensures { result ≡ status_after verdict }
+{
+    match verdict {
+        Verdict::Deployment => Status::Ok,
+        Verdict::NotPlaced { .. } | Verdict::NotCarried { .. } => Status::Findings,
+    }
+}
+
+// Puts the line of a verdict at the end of `out`.
+fn write_verdict(alloc: Global, verdict: Verdict, out: &mut Octets) -> Result<(), NoMemory>
+    ensures { OnOk result (out.new ≡ out.old ++ verdict_line verdict) }
+{
+    match verdict {
+        Verdict::Deployment => write_alone(alloc, "deployment", out)?,
+        Verdict::NotPlaced { at } => {
+            write_words(alloc, &[Word::Text("not-placed"), Word::Long(at)], out)?;
+        }
+        Verdict::NotCarried { at } => {
+            write_words(alloc, &[Word::Text("not-carried"), Word::Long(at)], out)?;
+        }
+    }
+    out.push(alloc, b'\n')
+}
+
+// The line of a verdict.
+fn line_of(alloc: Global, verdict: Verdict) -> Result<Octets, NoMemory>
+    ensures { IfOk result (λ line. line ≡ verdict_line verdict) }
+{
+    let mut line = Octets::new(alloc);
+    write_verdict(alloc, verdict, &mut line)?;
+    Ok(line)
+}
+
+// Writes the line of a verdict.
+fn report<K: Sink>(alloc: Global, verdict: Verdict, sink: &mut K) -> Status
+    ensures { Writes verdict result (K.written sink.old) (K.written sink.new) }
+{
+    let line = match line_of(alloc, verdict) {
+        Ok(line) => line,
+        Err(NoMemory) => return Status::NoMemory,
+    };
+    match write_all(sink, line.as_slice()) {
+        Ok(()) => status_after(verdict),
+        Err(_) => Status::WriteFault {
+            faults: sink.faults(),
+        },
+    }
+}
+
+// The verdict over what the source has left.
+fn judge<S: Source, K: Sink>(alloc: Global, source: &mut S, sink: &mut K) -> Status
+    ensures usage { result ≢ TheStatus.Usage }
+    ensures runs { Runs (S.left source.old) result (K.written sink.old) (K.written sink.new) }
+{
+    match unite(alloc, source) {
+        Ok(verdict) => report(alloc, verdict, sink),
+        Err(stop) => status_of(stop),
+    }
+}
+
+// Promise 22.22 [clauses runs unread, tpunite/specs/Runs.antt]: `tpunite` writes just the line of
+//   that verdict, or a prefix of it where its sink fails, and otherwise nothing; after any word
+//   nothing is read
+/// Reads a recording to the end of the source, and writes the verdict over it to the sink, as one line. Nothing is written before the
+/// whole input was read; where the sink fails, a prefix of the line is written. Any word is usage, and nothing is read.
+pub fn run<S: Source, K: Sink>(
+    alloc: Global,
+    words: &[&str],
+    source: &mut S,
+    sink: &mut K,
+) -> Status
+    ensures unread { result ≡ TheStatus.Usage → source.new ≡ source.old }
+    ensures runs { Runs (S.left source.old) result (K.written sink.old) (K.written sink.new) }
+{
+    if !words.is_empty() {
+        return Status::Usage;
+    }
+    judge(alloc, source, sink)
+}
