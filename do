@@ -1,8 +1,8 @@
 #!/usr/bin/env python3
 """What is done every day, each in one word.
 
-./do quick              lays out, checks what changed and what stands on it, docs/check and the examples, in five minutes
-./do above CRATE        the crates that stand on CRATE, lowest first
+./do quick              lays out, checks what changed and the crates that use its contracts, docs/check and the examples, in five minutes
+./do above CRATE        the crates above CRATE, lowest first
 ./do replay SCHEDULE    plays a schedule; ./do draw TRANSCRIPT draws one
 ./do bench [..]         bench/run; ./do trials NAME [..] is trials/run
 ./do gate               rt ci, with the processor seconds of each crate, and a fault above the budget
@@ -12,6 +12,7 @@ import os
 import pathlib
 import re
 import resource
+import signal
 import subprocess
 import sys
 import threading
@@ -26,7 +27,7 @@ CONTRACT = re.compile(r"\b(pub|ensures|requires|ghost|struct|enum|trait|impl)\b"
 
 
 def crates() -> dict[str, list[str]]:
-    """Each crate, lowest first, and what it stands on."""
+    """Each crate, lowest first, and those below it that it uses."""
     lines = [it for it in (TOP / "crates.txt").read_text().splitlines() if it and not it.startswith("#")]
     named = {it.split(":")[0].split()[0]: it.split(":")[1].split() for it in lines}
     lowest: dict[str, list[str]] = {}
@@ -43,7 +44,7 @@ def crates() -> dict[str, list[str]]:
 
 
 def above(crate: str) -> list[str]:
-    """The crates that stand on one, lowest first."""
+    """The crates above one, lowest first."""
     found = {crate}
     for name, below in crates().items():
         if found & set(below):
@@ -71,23 +72,34 @@ def changed() -> tuple[set[str], set[str]]:
     return all_of_them, contracts
 
 
+def checked(folder: pathlib.Path, seconds: float) -> tuple[str, str]:
+    """What became of the check of a crate in that time, and what it said."""
+    with subprocess.Popen(["rt", "check"], cwd=folder, stdout=subprocess.PIPE, stderr=subprocess.STDOUT, text=True, start_new_session=True) as ran:
+        try:
+            said = ran.communicate(timeout=seconds)[0]
+        except (subprocess.TimeoutExpired, KeyboardInterrupt) as stop:
+            os.killpg(ran.pid, signal.SIGTERM)
+            ran.communicate()
+            if isinstance(stop, KeyboardInterrupt):
+                raise
+            return "was not checked to its end: five minutes are over", ""
+    return ("is proved", "") if ran.returncode == 0 else ("is NOT proved", said[-4000:])
+
+
 def quick() -> int:
     until = time.monotonic() + 60 * MINUTES
     touched, contracts = changed()
     wanted = touched | {it for name in contracts for it in crates() if name in crates()[it]}
     failed: list[str] = []
     for crate in [it for it in crates() if it in wanted]:
-        if time.monotonic() > until:
-            print(f"do: no time for {crate}")
-            continue
         folder = TOP / "crates" / crate
         if crate in touched:
             subprocess.run(["rt", "fmt"], cwd=folder, check=False)
-        ran = subprocess.run(["rt", "check"], cwd=folder, stdout=subprocess.PIPE, stderr=subprocess.STDOUT, text=True, timeout=3600)
-        print(f"do: {crate} {'is proved' if ran.returncode == 0 else 'is NOT proved'}", flush=True)
-        if ran.returncode:
+        outcome, said = checked(folder, max(until - time.monotonic(), 1))
+        print(f"do: {crate} {outcome}", flush=True)
+        if outcome != "is proved":
             failed.append(crate)
-            print(ran.stdout[-4000:])
+            print(said, end="")
     if subprocess.run([TOP / "docs" / "check"]).returncode:
         failed.append("docs/check")
     failed += examples()
@@ -96,7 +108,7 @@ def quick() -> int:
 
 
 def examples() -> list[str]:
-    """The examples whose transcript is not the one that stands beside them."""
+    """The examples whose transcript is not the one beside them."""
     failed = []
     for schedule in sorted((TOP / "examples").glob("*.schedule")):
         ran = subprocess.run([TOP / "replay", schedule], stdout=subprocess.PIPE, stderr=subprocess.PIPE)

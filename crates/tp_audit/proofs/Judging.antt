@@ -10,10 +10,11 @@ use Rattle.tp_logrec.specs.declared.record.LogRec.{LogRec}
 use Rattle.tp_logrec.specs.declared.record.LogVersion.{LogVersion}
 use Rattle.tp_model.specs.History.{digest}
 use Rattle.tp_model.specs.NodeRun.{origin_at}
-use Rattle.tp_site.specs.Recalled.{Recalled, IsRecalled, log_at, answer_to_ready}
+use Rattle.tp_site.specs.Recalled.{log_at, answer_to_ready}
 use Rattle.tp_audit.specs.declared.keys.SiteKey.{SiteKey}
 use Rattle.tp_audit.specs.declared.fate.Fate.{Fate}
 use Rattle.tp_audit.specs.declared.fate.FateState.{FateState}
+use Rattle.tp_audit.specs.declared.site_told.SiteTold.{SiteTold}
 use Rattle.tp_audit.specs.declared.summary.Summary.{Summary}
 use Rattle.tp_audit.specs.Summaries.{summary_of, summaries}
 use Rattle.tp_logrec.specs.declared.owner.Owner.{Owner}
@@ -24,27 +25,27 @@ use Rattle.tp_audit.specs.Doubts.{superior_of}
 use Rattle.tp_audit.specs.Fates.{records_of_site, state_by, answered_by, state_of, fates_of, fates}
 use Rattle.tp_audit.specs.Keys.{is_site, site_key}
 use Rattle.tp_audit.specs.Ledgers.{Ledger, IsLedgerOf, verdict_of, doubts_by, doubts_of}
-use Rattle.tp_audit.specs.Audits.{Audit, IsAuditOf, TellsOf, is_added, recalled_at, state_in, fates_in, with_log}
+use Rattle.tp_audit.specs.Audits.{Audit, IsAuditOf, IsToldBy, TellsOf, is_added, told_at, state_in, fates_in, with_log}
 use Rattle.tp_audit.proofs.Clashes.{verdict_is}
 
 -- ---- what is told
 
 -- a site's log tells of a branch what the node there answers
-state_told : (s : List ℕ) (a : Addr) (k : NodeKey) (rs : Option (List LogRec)) (v : Option Recalled) → a.site ≡ s → TellsOf s rs v
-    → elim v as (λ _. FateState) [ None ↦ FateState.Absent | Some w ↦ elim k.branch as (λ _. FateState) [ None ↦ FateState.Unknown | Some b ↦ state_by (Rattle.tp_site.specs.Recalled.recalled_answer w a.node k.aaid b) ] ]
+state_told : (s : List ℕ) (a : Addr) (k : NodeKey) (rs : Option (List LogRec)) (v : Option SiteTold) → a.site ≡ s → TellsOf s rs v
+    → elim v as (λ _. FateState) [ None ↦ FateState.Absent | Some w ↦ elim k.branch as (λ _. FateState) [ None ↦ FateState.Unknown | Some b ↦ state_by (Rattle.tp_site.specs.Recalled.recalled_answer w.recalled a.node k.aaid b) ] ]
     ≡ elim rs as (λ _. FateState) [ None ↦ FateState.Absent | Some q ↦ answered_by q a k ]
 state_told s a k None None is tells = refl
 state_told s a k None (Some v) is tells = absurd tells
 state_told s a k (Some rs) None is tells = absurd tells
 state_told s a k (Some rs) (Some v) is tells = go k.branch
   where
-    go : (b : Option BranchId) → elim b as (λ _. FateState) [ None ↦ FateState.Unknown | Some c ↦ state_by (Rattle.tp_site.specs.Recalled.recalled_answer v a.node k.aaid c) ]
+    go : (b : Option BranchId) → elim b as (λ _. FateState) [ None ↦ FateState.Unknown | Some c ↦ state_by (Rattle.tp_site.specs.Recalled.recalled_answer v.recalled a.node k.aaid c) ]
         ≡ elim b as (λ _. FateState) [ None ↦ FateState.Unknown | Some c ↦ state_by (answer_to_ready (digest (origin_at (log_at a.site LogVersion.Two rs) a.node) []) k.aaid c) ]
     go None = refl
-    go (Some c) = ap state_by (tells.answers a.node k.aaid c ∙ ap (λ t. answer_to_ready (digest (origin_at (log_at t LogVersion.Two rs) a.node) []) k.aaid c) (sym is))
+    go (Some c) = ap state_by (tells.recalled.answers a.node k.aaid c ∙ ap (λ t. answer_to_ready (digest (origin_at (log_at t LogVersion.Two rs) a.node) []) k.aaid c) (sym is))
 
 state_is : (logs : List SiteLog) (a : Audit) (s : Addr) (k : NodeKey) → IsAuditOf logs a → state_in a.sites s k ≡ state_of logs s k
-state_is logs a s k is = state_told s.site s k (records_of_site logs s.site) (recalled_at a.sites s.site) refl (is.sites s.site)
+state_is logs a s k is = state_told s.site s k (records_of_site logs s.site) (told_at a.sites s.site) refl (is.sites s.site)
 
 fates_are : (logs : List SiteLog) (a : Audit) (es : List Entry) → IsAuditOf logs a → fates_in a.sites (doubts_of es) ≡ fates_of logs es
 fates_are logs a [] is = refl
@@ -132,34 +133,34 @@ records_more (l ∷ logs) s q rs = go (is_name l.site q) (records_more logs s q 
 abbrev missing_is : Option (List LogRec) → Bool
 missing_is o = elim o [ None ↦ false | Some rs ↦ true ]
 
-tells_more : (logs : List SiteLog) (s q : List ℕ) (rs : List LogRec) (v : Recalled) (old new : Option Recalled) → is_added logs s ≡ false → IsRecalled (log_at s LogVersion.Two rs) v
+tells_more : (logs : List SiteLog) (s q : List ℕ) (rs : List LogRec) (v : SiteTold) (old new : Option SiteTold) → is_added logs s ≡ false → IsToldBy s rs v
     → new ≡ cond (is_name s q) (Some v) old → TellsOf q (records_of_site logs q) old → TellsOf q (records_of_site (with_log logs s rs) q) new
-tells_more logs s q rs v old new missing recalled put tells =
+tells_more logs s q rs v old new missing told put tells =
     subst (λ o. TellsOf q o new) (sym (records_more logs s q rs)) (subst (TellsOf q (elim (records_of_site logs q) as (λ _. Option (List LogRec)) [ Some o ↦ Some o | None ↦ elim (is_name s q) as (λ _. Option (List LogRec)) [ true ↦ Some rs | false ↦ None ] ])) (sym put)
     (go (is_name s q) (records_of_site logs q) old refl refl tells))
   where
-    go : (b : Bool) (o : Option (List LogRec)) (w : Option Recalled) → is_name s q ≡ b → records_of_site logs q ≡ o → TellsOf q o w
+    go : (b : Bool) (o : Option (List LogRec)) (w : Option SiteTold) → is_name s q ≡ b → records_of_site logs q ≡ o → TellsOf q o w
         → TellsOf q (elim o as (λ _. Option (List LogRec)) [ Some p ↦ Some p | None ↦ elim b as (λ _. Option (List LogRec)) [ true ↦ Some rs | false ↦ None ] ]) (cond b (Some v) w)
-    go true None w i j t = subst (λ p. IsRecalled (log_at p LogVersion.Two rs) v) (name_same s q i) recalled
+    go true None w i j t = subst (λ p. IsToldBy p rs v) (name_same s q i) told
     go true (Some p) w i j t = absurd (let never : true ≡ false = ap missing_is (sym j) ∙ ap (λ n. missing_is (records_of_site logs n)) (sym (name_same s q i)) ∙ missing in cc)
     go false None None i j t = t
     go false None (Some x) i j t = t
     go false (Some p) None i j t = t
     go false (Some p) (Some x) i j t = t
 
-pub taken_log : (logs : List SiteLog) (s : List ℕ) (rs : List LogRec) (v : Recalled) (a b : Audit) → is_added logs s ≡ false → IsRecalled (log_at s LogVersion.Two rs) v → IsAuditOf logs a
+pub taken_log : (logs : List SiteLog) (s : List ℕ) (rs : List LogRec) (v : SiteTold) (a b : Audit) → is_added logs s ≡ false → IsToldBy s rs v → IsAuditOf logs a
     → ((q : SiteKey) → lookup (is_site q) b.sites ≡ cond (is_site (site_key s) q) (Some v) (lookup (is_site q) a.sites))
     → IsLedgerOf (entries logs ++ entries_at s (keys_of rs)) b.ledger → IsAuditOf (with_log logs s rs) b
-taken_log logs s rs v a b missing recalled is put ledger = record {
-  sites = λ q. tells_more logs s q rs v (recalled_at a.sites q) (recalled_at b.sites q) missing recalled (put (site_key q)) (is.sites q);
+taken_log logs s rs v a b missing told is put ledger = record {
+  sites = λ q. tells_more logs s q rs v (told_at a.sites q) (told_at b.sites q) missing told (put (site_key q)) (is.sites q);
   ledger = subst (λ es. IsLedgerOf es b.ledger) (sym (entries_more logs s rs)) ledger;
 }
 
 -- whether a site was added is what the table has of it
-pub added_is : (logs : List SiteLog) (a : Audit) (s : List ℕ) → IsAuditOf logs a → elim (recalled_at a.sites s) as (λ _. Bool) [ None ↦ false | Some v ↦ true ] ≡ is_added logs s
-added_is logs a s is = go (records_of_site logs s) (recalled_at a.sites s) (is.sites s)
+pub added_is : (logs : List SiteLog) (a : Audit) (s : List ℕ) → IsAuditOf logs a → elim (told_at a.sites s) as (λ _. Bool) [ None ↦ false | Some v ↦ true ] ≡ is_added logs s
+added_is logs a s is = go (records_of_site logs s) (told_at a.sites s) (is.sites s)
   where
-    go : (o : Option (List LogRec)) (v : Option Recalled) → TellsOf s o v → elim v as (λ _. Bool) [ None ↦ false | Some w ↦ true ] ≡ missing_is o
+    go : (o : Option (List LogRec)) (v : Option SiteTold) → TellsOf s o v → elim v as (λ _. Bool) [ None ↦ false | Some w ↦ true ] ≡ missing_is o
     go None None t = refl
     go None (Some w) t = absurd t
     go (Some rs) None t = absurd t

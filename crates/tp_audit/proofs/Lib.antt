@@ -4,3 +4,6 @@ pub mod Tables
 pub mod Entering
 pub mod Judging
 pub mod Runs
+pub mod Rooted
+pub mod RootCommits
+pub mod Mismatching

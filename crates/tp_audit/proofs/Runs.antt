@@ -218,7 +218,7 @@ outcome_rolls rs is = go (has_record is_commit rs) (has_record is_rollback rs) i
 weaker_forced : (w : World) (p q : LogRec → Bool) → ((r : LogRec) → p r ≡ true → q r ≡ true) → Forced w p → Forced w q
 weaker_forced w p q implies f = (f.0, f.1, has_weaker p q (records f.0.origin f.0.history) implies f.2)
 
-commits_logged : (w : World) (e : Entry) → DisksTell w → IsOn w e → outcome_of e.records ≡ Some Outcome.Commit → Forced w (is_commit_of (tree_of e))
+pub commits_logged : (w : World) (e : Entry) → DisksTell w → IsOn w e → outcome_of e.records ≡ Some Outcome.Commit → Forced w (is_commit_of (tree_of e))
 commits_logged w e tell on is =
     weaker_forced w (λ r. is_commit r && is_of e.owner r) (is_commit_of (tree_of e)) (commit_of e.owner) (forced_of w e.site e.owner is_commit tell (on is_commit (outcome_commits e.records is)))
 
@@ -288,7 +288,7 @@ verdict_yes w logs agree tell on = all_yes w settled_of (entries logs) agree tel
 
 -- ---- the whole logs
 
-stand_behind : (front rs : List LogRec) → AllByRecursion (Stands (front ++ rs)) rs
+pub stand_behind : (front rs : List LogRec) → AllByRecursion (Stands (front ++ rs)) rs
 stand_behind front [] = tt
 stand_behind front (r ∷ rs) =
     ((length front, r, within front, get_or-append_seam front r rs r, refl), subst (λ all. AllByRecursion (Stands all) rs) (append_assoc front (r ∷ []) rs) (stand_behind (front ++ r ∷ []) rs))

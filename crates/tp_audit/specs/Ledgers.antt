@@ -62,6 +62,10 @@ firsts_with f Outcome.Rollback p = record { commit = f.commit; rollback = or_pla
 abbrev pub firsts_at : List (TreeKey × Firsts) → Aaid → Firsts
 firsts_at ts t = elim (lookup (is_tree (tree_key t)) ts) [ None ↦ no_firsts | Some f ↦ f ]
 
+-- the first node that committed in the tree and took no decision of its own
+abbrev pub committed_at : List (TreeKey × Firsts) → Aaid → Option Addr
+committed_at ts t = option_map (λ (p : Place). p.node) (firsts_at ts t).commit
+
 -- ---- the first entry that clashes with a later one
 
 abbrev pub clash_at : ℕ → Entry → Addr → Clash

@@ -5,5 +5,7 @@ pub mod Fates
 pub mod Keys
 pub mod Summaries
 pub mod Ledgers
+pub mod Roots
+pub mod Mismatches
 pub mod Audits
 pub mod Runs

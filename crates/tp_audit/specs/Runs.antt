@@ -19,6 +19,10 @@ logs_on w (x ∷ xs) = record { site = x.name; records = records_on w x.name } �
 abbrev pub logs_of : World → List SiteLog
 logs_of w = logs_on w w.sites
 
+-- Each is the whole log of its site. They may be of some of the sites, in any order.
+abbrev pub AreWhole : World → List SiteLog → Type 0
+AreWhole w logs = AllByRecursion (λ (l : SiteLog). l.records ≡ records_on w l.site) logs
+
 -- Each record stands on the disk of its site. The logs may be of some of the sites, in any order, and want some of the records, as
 -- those that were copied earlier do.
 abbrev pub AreOn : World → List SiteLog → Type 0

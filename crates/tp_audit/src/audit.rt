@@ -11,6 +11,10 @@ use crate::fates::fates_in;
 use crate::faults::AddFault;
 use crate::keys::SiteKey;
 use crate::ledger::Ledger;
+use crate::mismatch::Mismatch;
+use crate::mismatches::mismatches_in;
+use crate::roots::RootCommits;
+use crate::site_told::SiteTold;
 use crate::summary::{Summary, summaries};
 use crate::verdict::Verdict;
 use indexmap::IndexMap;
@@ -26,7 +30,7 @@ use tp_site::Recalled;
 /// the first nodes that ended by commit and by rollback.
 #[derive(Drop)]
 pub struct Audit {
-    sites: HashMap<SiteKey, Recalled>,
+    sites: HashMap<SiteKey, SiteTold>,
     ledger: Ledger,
 }
 
@@ -47,6 +51,7 @@ impl Audit {
     ghost use Rattle.tp_audit.specs.Entries.{SiteLog, keys_of};
     ghost use Rattle.tp_audit.specs.Verdicts.{verdict};
     ghost use Rattle.tp_audit.specs.Fates.{fates};
+    ghost use Rattle.tp_audit.specs.Mismatches.{mismatches_of};
     ghost use Rattle.tp_audit.specs.Audits.{IsAuditOf, is_added, with_log};
 
     /// No logs.
@@ -117,8 +122,10 @@ impl Audit {
         ensures err { OnErr result ((logs : List SiteLog) → IsAuditOf logs self.old → IsAuditOf logs self.new) }
     {
         let recalled = Recalled::from_records(alloc, *site, LogVersion::Two, list)?;
+        let roots = RootCommits::in_log(alloc, list)?;
         self.ledger.reserve(keys.len())?;
-        self.sites.insert(SiteKey { name: *site }, recalled)?;
+        self.sites
+            .insert(SiteKey { name: *site }, SiteTold { recalled, roots })?;
         enter_all(&mut self.ledger, site, keys);
         Ok(())
     }
@@ -142,6 +149,17 @@ impl Audit {
         ensures { IfOk result (λ found. (logs : List SiteLog) → IsAuditOf logs self.now → found.items ≡ fates logs) }
     {
         fates_in(alloc, &self.sites, self.ledger.doubts())
+    }
+
+    // Promise 9.11 [tp_audit/specs/Mismatches.antt]: Logs that do not belong together are named
+    //   exactly where the fate of a node is `unknown`, a node committed in its tree and took no
+    //   decision of its own, and the log of the root's site was added and has no Commit of the root
+    /// The logs that do not belong together, by the fates: one mismatch for each fate that is `Unknown`, in their order, where a node
+    /// committed in its tree and the log of the root's site was added and has no Commit of the root.
+    pub fn mismatches(&self, alloc: Global, fates: &[Fate]) -> Result<Vec<Mismatch>, NoMemory>
+        ensures { IfOk result (λ found. (logs : List SiteLog) → IsAuditOf logs self.now → found.items ≡ mismatches_of logs fates.now) }
+    {
+        mismatches_in(alloc, &self.sites, &self.ledger, fates)
     }
 }
 

@@ -6,11 +6,11 @@ ghost use Rattle.tp_audit.specs.Audits.{state_in, fate_in, fates_in};
 use crate::fate::{Fate, FateState};
 use crate::keys::SiteKey;
 use crate::ledger::Doubt;
+use crate::site_told::SiteTold;
 use std::alloc::Global;
 use std::collections::HashMap;
 use tp_names::{Addr, NoMemory, NodeKey};
 use tp_records::RecState;
-use tp_site::Recalled;
 
 fn state_by(state: RecState) -> FateState
     ensures { result ≡ state_by (Some state) }
@@ -23,22 +23,22 @@ fn state_by(state: RecState) -> FateState
 }
 
 // What the superior's log tells a node that is in doubt of the key.
-fn state_in(sites: &HashMap<SiteKey, Recalled>, superior: &Addr, key: &NodeKey) -> FateState
+fn state_in(sites: &HashMap<SiteKey, SiteTold>, superior: &Addr, key: &NodeKey) -> FateState
     ensures { result ≡ state_in sites.now.entries superior.now key.now }
 {
     let site = SiteKey {
         name: superior.site,
     };
-    let Some(recalled) = sites.get(&site) else {
+    let Some(told) = sites.get(&site) else {
         return FateState::Absent;
     };
     match &key.branch {
         None => FateState::Unknown,
-        Some(branch) => state_by(recalled.answer(superior.node, &key.aaid, branch)),
+        Some(branch) => state_by(told.recalled.answer(superior.node, &key.aaid, branch)),
     }
 }
 
-fn fate_in(sites: &HashMap<SiteKey, Recalled>, doubt: &Doubt) -> Fate
+fn fate_in(sites: &HashMap<SiteKey, SiteTold>, doubt: &Doubt) -> Fate
     ensures { result ≡ fate_in sites.now.entries doubt.now }
 {
     Fate {
@@ -51,7 +51,7 @@ fn fate_in(sites: &HashMap<SiteKey, Recalled>, doubt: &Doubt) -> Fate
 /// The fate of each node in doubt, in order.
 pub(crate) fn fates_in(
     alloc: Global,
-    sites: &HashMap<SiteKey, Recalled>,
+    sites: &HashMap<SiteKey, SiteTold>,
     doubts: &[Doubt],
 ) -> Result<Vec<Fate>, NoMemory>
     ensures { IfOk result (λ fates. fates.items ≡ fates_in sites.now.entries doubts.now) }

@@ -51,7 +51,7 @@ impl Ledger {
     ghost use Rattle.std.specs.Prelude.{◌^◌, ◌≤◌, ◌≡◌, ◌+◌, ◌<◌, ◌++◌, ◌∷◌, [], List, OnOk};
     ghost use Rattle.tp_audit.specs.Entries.{Entry, addr_of};
     ghost use Rattle.tp_audit.specs.Summaries.{summary_of};
-    ghost use Rattle.tp_audit.specs.Ledgers.{IsLedgerOf, verdict_of};
+    ghost use Rattle.tp_audit.specs.Ledgers.{IsLedgerOf, committed_at, verdict_of};
 
     /// That of no entries.
     pub(crate) fn new(alloc: Global) -> Ledger
@@ -111,6 +111,18 @@ impl Ledger {
                 second: clash.second,
             },
         }
+    }
+
+    /// The first node that committed in the tree and took no decision of its own.
+    pub(crate) fn committed(&self, aaid: &Aaid) -> Option<Addr>
+        ensures { result ≡ committed_at self.now.trees aaid.now }
+    {
+        let tree = TreeKey { aaid: *aaid };
+        let Some(firsts) = self.trees.get(&tree) else {
+            return None;
+        };
+        let place = firsts.of(Outcome::Commit)?;
+        Some(place.node)
     }
 
     /// The nodes in doubt.

@@ -1,5 +1,6 @@
 -- A batch is the list of its events in the order of its records.
-use Rattle.std.proofs.Common.{◌≡◌, ◌==◌, ◌%◌, ◌<◌, ℕ, zero, suc, Bool, true, false, refl, ap, sym, ◌∙◌, subst, List, [], ◌∷◌, ◌++◌, take, drop, length, append-nil, append_assoc}
+use Rattle.std.proofs.Common.{◌≡◌, ◌==◌, ◌%◌, ◌<◌, ℕ, Bool, true, false, refl, ap, sym, ◌∙◌, subst, arith, List, [], ◌∷◌, ◌++◌, take, drop, length, append-nil, append_assoc}
+use Rattle.std.proofs.lemmas.List.{take-append-drop, take_all}
 use Rattle.tp_records.specs.declared.body.Event.{Event as Given}
 use Rattle.tp_logrec.specs.declared.record.LogRec.{LogRec}
 use Rattle.tp_model.specs.NodeRun.{Opening, node_of, run_from}
@@ -16,15 +17,6 @@ lane-append i w (g ∷ gs) hs = go (node_of g % w == i) refl (lane-append i w gs
     go : (b : Bool) → (node_of g % w == i) ≡ b → lane (gs ++ hs) i w ≡ lane gs i w ++ lane hs i w → lane ((g ∷ gs) ++ hs) i w ≡ lane (g ∷ gs) i w ++ lane hs i w
     go true h rest = lane_mine g (gs ++ hs) i w h ∙ ap (λ (l : List Given). g ∷ l) rest ∙ ap (λ (l : List Given). l ++ lane hs i w) (sym (lane_mine g gs i w h))
     go false h rest = lane_other g (gs ++ hs) i w h ∙ rest ∙ ap (λ (l : List Given). l ++ lane hs i w) (sym (lane_other g gs i w h))
-
-pub front_back : (n : ℕ) (gs : List Given) → take n gs ++ drop n gs ≡ gs
-front_back zero gs = refl
-front_back (suc n) [] = refl
-front_back (suc n) (g ∷ gs) = ap (λ (l : List Given). g ∷ l) (front_back n gs)
-
-pub all_taken : (gs : List Given) → take (length gs) gs ≡ gs
-all_taken [] = refl
-all_taken (g ∷ gs) = ap (λ (l : List Given). g ∷ l) (all_taken gs)
 
 -- before any event
 stands : (o : Opening) (w : ℕ) (events : List Given) (met : ℕ → ℕ) (logs : List (List LogRec)) → AreForced o w events met logs → Stands o w [] (λ i. lane (take (met i) events) i w) (λ i. []) logs
@@ -43,7 +35,7 @@ first_of o w events met logs records later f woven =
       log = b.log;
       each = λ i h. (
         b.rests i ++ lane (drop (met i) events) i w,
-        ap (λ (l : List Given). lane l i w) (sym (front_back (met i) events))
+        ap (λ (l : List Given). lane l i w) (sym (take-append-drop (met i) events))
             ∙ lane-append i w (take (met i) events) (drop (met i) events)
             ∙ ap (λ (l : List Given). l ++ lane (drop (met i) events) i w) (b.lanes i h)
             ∙ append_assoc (lane b.events i w) (b.rests i) (lane (drop (met i) events) i w),
@@ -55,7 +47,7 @@ whole o w events logs records f woven =
     let es : ℕ → List Given = λ i. lane (take (length events) events) i w in
     let b : Built o w [] es records true = weave o w records [] true logs (λ h. refl) (subst (λ (l : List LogRec). IsInterleaving l logs) (sym (append-nil records)) woven) [] es (λ i. []) (stands o w events (λ i. length events) logs f) in
     let same : (i : ℕ) → i < w → lane b.events i w ≡ lane events i w = λ i h.
-    sym (append-nil (lane b.events i w)) ∙ ap (λ (l : List Given). lane b.events i w ++ l) (sym (b.none refl i h)) ∙ sym (b.lanes i h) ∙ ap (λ (l : List Given). lane l i w) (all_taken events) in
+    sym (append-nil (lane b.events i w)) ∙ ap (λ (l : List Given). lane b.events i w ++ l) (sym (b.none refl i h)) ∙ sym (b.lanes i h) ∙ ap (λ (l : List Given). lane l i w) (take_all (length events) events (omega arith)) in
     record {
       given = b.events;
       log = b.log;

@@ -1,4 +1,5 @@
 -- What a drive over the log of a disk says of that disk.
+use Rattle.std.specs.List.{AllByRecursion}
 use Rattle.std.proofs.Common.{◌≡◌, inl, inr, ◌≤◌, ◌<◌, ◌+◌, ℕ, suc, Bool, true, Option, Some, None, Err, List, [], ◌∷◌, ◌++◌, length, refl, sym, ap, subst, ◌∙◌, arith}
 use Rattle.std.proofs.lemmas.List.{append-nil}
 use Rattle.tp_outside.specs.Story.{Story, Synced, seen}
@@ -15,7 +16,7 @@ use Rattle.tp_journal.specs.declared.receipts.Receipt.{Receipt}
 use Rattle.tp_journal.specs.Journals.{Kept}
 use Rattle.tp_journal.specs.Keeping.{Standing}
 use Rattle.tp_journal.specs.Log.{StandsFor, StandsForEither, most_bytes, place_behind}
-use Rattle.tp_journal.specs.Records.{bodies_of, first_place, placed, record_body, version_of}
+use Rattle.tp_journal.specs.Records.{HasText, bodies_of, first_place, placed, record_body, version_of}
 use Rattle.tp_journal.specs.Start.{RefusesStart}
 use Rattle.tp_journal.specs.Told.{LeavesOnly, LeavesNow}
 use Rattle.tp_shared_log.specs.Images.{Leaves, StandsForFirst}
@@ -35,7 +36,7 @@ use Rattle.tp_serve.proofs.Holding.{goes_on, wide_so}
 use Rattle.tp_serve.proofs.Runs.{size_one}
 use Rattle.tp_serve.proofs.Starts.{HasOpened, boot_small, not_started}
 use Rattle.tp_drive_tool.specs.Status.{driven_status, start_status, unread_status}
-use Rattle.tp_drive_tool.specs.Driving.{BeginsOn, DrivesShort, HasDriven, HasOther, HasPart, IsDriveCause, IsMoment, LeavesLog, NotDriven}
+use Rattle.tp_drive_tool.specs.Driving.{BeginsOn, DrivesShort, HasDriven, HasOther, HasPart, HaveTexts, IsDriveCause, IsMoment, LeavesLog, NotDriven}
 use Rattle.tp_drive_tool.proofs.AsNode.{as_node, behind_size}
 
 -- ---- the log that is left
@@ -53,20 +54,22 @@ moments o list s mid told first second =
     goes_on (HasBegun o) (HasFirst o list) (IsMoment o list) (Some (Synced s)) mid told (λ file x. inl x) (λ file x. inr x) first second
 
 left_log : (o : Opening) (list : List LogRec) (shut : Option ℕ) (s : Story) (mid told : Option Story) → LeavesOnly (HasBegun o) (Some (Synced s)) mid
-    → Leaves mid (length o.records + 1) (is_wide o.version) list shut told → LeavesLog o list shut s told
-left_log o list None s mid told first leaves =
+    → Leaves mid (length o.records + 1) (is_wide o.version) list shut told → HaveTexts o list → LeavesLog o list shut s told
+left_log o list None s mid told first leaves texts =
     let left : Leaves (Some first.0) (length o.records + 1) (is_wide o.version) list None told =
     subst (λ (m : Option Story). Leaves m (length o.records + 1) (is_wide o.version) list None told) first.1 leaves in
     let since : LeavesOnly (HasFirst o list) (Some first.0) told = (left.now, left.tells, left.since) in (
       moments o list s mid told first (subst (λ (m : Option Story). LeavesOnly (HasFirst o list) m told) (sym first.1) since),
       subst (LeavesNow (λ file. StandsFor file (bodies_of (is_wide o.version) list))) (sym left.tells) left.last,
+      texts,
     )
-left_log o list (Some faults) s mid told first leaves =
+left_log o list (Some faults) s mid told first leaves texts =
     let left : Leaves (Some first.0) (length o.records + 1) (is_wide o.version) list (Some faults) told =
     subst (λ (m : Option Story). Leaves m (length o.records + 1) (is_wide o.version) list (Some faults) told) first.1 leaves in
     let since : LeavesOnly (HasFirst o list) (Some first.0) told = (left.now, left.tells, left.since) in (
       moments o list s mid told first (subst (λ (m : Option Story). LeavesOnly (HasFirst o list) m told) (sym first.1) since),
       subst (LeavesNow (HasFirst o list)) (sym left.tells) left.last,
+      texts,
     )
 
 -- ---- a log that is not opened
@@ -135,10 +138,11 @@ module _ {D : Type 0} (faults : D → ℕ) (told : D → Option Story) (fuse : D
         (λ c x. subst (λ (w : Bool). StandsForEither (bodies_of w j.list) (bodies_of w (booted o)) c) wide_is (subst (λ (l : List LogRec). StandsForEither (bodies_of j.wide l) (bodies_of j.wide (l ++ LogRec.Boot (boot_of o) ∷ [])) c) kept_is x))
         (has.starts.2 s is).2 b.forced.moments
 
-    leaves : (new : Kept D) → LeavesBooted st j name (told new.disk) new → LeavesLog o new.list new.shut s (told new.disk)
-    leaves new b =
+    leaves : (new : Kept D) → LeavesBooted st j name (told new.disk) new → AllByRecursion (HasText new.wide) new.list → LeavesLog o new.list new.shut s (told new.disk)
+    leaves new b texts =
         left_log o new.list new.shut s b.started.story (told new.disk) (begun new b)
         (subst (λ (w : Bool). Leaves b.started.story (length o.records + 1) w new.list new.shut (told new.disk)) (b.wide ∙ wide_is) b.leaves)
+        (subst (λ (w : Bool). AllByRecursion (HasText w) new.list) (b.wide ∙ wide_is) texts)
 
     -- the log with its boot is within its limit, and so is the log with all
     fits : (new : Kept D) (outs : List (List Output)) (receipts : List Receipt) → LeavesBooted st j name (told new.disk) new → IsDriven o workers events outs receipts new.wide new.list → size_of o.version (booted o ++ recs receipts) ≤ 268435456
@@ -166,42 +170,42 @@ module _ {D : Type 0} (faults : D → ℕ) (told : D → Option Story) (fuse : D
     boot_left new b = boot_small j.wide (boot_of o) b.text
 
     pub driven : (new : Kept D) (outs : List (List Output)) (receipts : List Receipt) → 0 < workers → LeavesBooted st j name (told new.disk) new → new.shut ≡ None → IsDriven o workers events outs receipts new.wide new.list
-        → HasDriven name workers events s (told new.disk) outs
-    driven new outs receipts some b unshut d = record {
+        → AllByRecursion (HasText new.wide) new.list → HasDriven name workers events s (told new.disk) outs
+    driven new outs receipts some b unshut d texts = record {
       o = o;
       begins = begins b.order;
       one_thread = d.one_thread;
       more = recs receipts;
       woven = d.woven;
-      leaves = subst (λ (l : List LogRec). LeavesLog o l None s (told new.disk)) d.records (subst (λ (shut : Option ℕ). LeavesLog o new.list shut s (told new.disk)) unshut (leaves new b));
+      leaves = subst (λ (l : List LogRec). LeavesLog o l None s (told new.disk)) d.records (subst (λ (shut : Option ℕ). LeavesLog o new.list shut s (told new.disk)) unshut (leaves new b texts));
       as_node = as_node o workers events outs (recs receipts) some (boot_left new b) d.one_thread d.woven (fits new outs receipts b d);
     }
 
     -- lanes stopped
-    parted : (new : Kept D) (stops : List (Option Stop)) → LeavesBooted st j name (told new.disk) new → IsPartDriven o workers events stops new.list → HasPart name workers events s (told new.disk) new.shut stops new.list
-    parted new stops b part = record { o = o; begins = begins b.order; part = part; leaves = leaves new b }
+    parted : (new : Kept D) (stops : List (Option Stop)) → LeavesBooted st j name (told new.disk) new → AllByRecursion (HasText new.wide) new.list → IsPartDriven o workers events stops new.list → HasPart name workers events s (told new.disk) new.shut stops new.list
+    parted new stops b texts part = record { o = o; begins = begins b.order; part = part; leaves = leaves new b texts }
 
     -- a receipt differs
-    other : (new : Kept D) (place : ℕ) (receipt kept : Receipt) → LeavesBooted st j name (told new.disk) new → IsMismatch o workers events new.wide new.list place receipt kept → HasOther name workers events s (told new.disk) place receipt kept
-    other new place receipt kept b x = record {
+    other : (new : Kept D) (place : ℕ) (receipt kept : Receipt) → LeavesBooted st j name (told new.disk) new → AllByRecursion (HasText new.wide) new.list → IsMismatch o workers events new.wide new.list place receipt kept → HasOther name workers events s (told new.disk) place receipt kept
+    other new place receipt kept b texts x = record {
       o = o;
       begins = begins b.order;
       shut = new.shut;
       list = new.list;
-      leaves = leaves new b;
+      leaves = leaves new b texts;
       mismatch = subst (λ (w : Bool). IsMismatch o workers events w new.list place receipt kept) (b.wide ∙ wide_is) x;
     }
 
-    short : (new : Kept D) → LeavesBooted st j name (told new.disk) new → RunsShort o workers events new.wide new.list → DrivesShort name workers events s (told new.disk)
-    short new b (inl (stops, part)) = inr (inl (new.shut, stops, new.list, parted new stops b part))
-    short new b (inr (place, receipt, kept, x)) = inr (inr (place, receipt, kept, other new place receipt kept b x))
+    short : (new : Kept D) → LeavesBooted st j name (told new.disk) new → AllByRecursion (HasText new.wide) new.list → RunsShort o workers events new.wide new.list → DrivesShort name workers events s (told new.disk)
+    short new b texts (inl (stops, part)) = inr (inl (new.shut, stops, new.list, parted new stops b texts part))
+    short new b texts (inr (place, receipt, kept, x)) = inr (inr (place, receipt, kept, other new place receipt kept b texts x))
 
     pub not_driven : (fault : DriveFault) (new : Kept D) → Fails st j name workers events new fault → HasBootText st j name new fault → (HasStarted fault → LeavesBooted st j name (told new.disk) new)
-        → new.gate ≡ place_behind (bodies_of new.wide new.list) → NotDriven name workers events s (told new.disk) (driven_status fault)
-    not_driven (DriveFault.Start fault) new x text started gate =
+        → new.gate ≡ place_behind (bodies_of new.wide new.list) → AllByRecursion (HasText new.wide) new.list → NotDriven name workers events s (told new.disk) (driven_status fault)
+    not_driven (DriveFault.Start fault) new x text started gate texts =
         unstarted_so name workers events s (told new.disk) fault (not_started faults told fuse disk j has name s is file fault new x text)
-    not_driven (DriveFault.LogDiffers place receipt kept) new x text started gate = other new place receipt kept (started tt) x
-    not_driven (DriveFault.DiskFault n) new x text started gate =
+    not_driven (DriveFault.LogDiffers place receipt kept) new x text started gate texts = other new place receipt kept (started tt) texts x
+    not_driven (DriveFault.DiskFault n) new x text started gate texts =
         let b = started tt in
         inr (record {
           stops = x.stops;
@@ -210,10 +214,10 @@ module _ {D : Type 0} (faults : D → ℕ) (told : D → Option Story) (fuse : D
             o = o;
             begins = begins b.order;
             part = x.part;
-            leaves = subst (λ (shut : Option ℕ). LeavesLog o new.list shut s (told new.disk)) x.shut (leaves new b);
+            leaves = subst (λ (shut : Option ℕ). LeavesLog o new.list shut s (told new.disk)) x.shut (leaves new b texts);
           };
         })
-    not_driven (DriveFault.Full size event) new x text started gate =
+    not_driven (DriveFault.Full size event) new x text started gate texts =
         let b = started tt in
         let place : new.gate ≡ place_behind (bodies_of (is_wide (version_of j.wide)) new.list) = gate ∙ ap (λ (w : Bool). place_behind (bodies_of w new.list)) (b.wide ∙ wide_is) in
         inr (
@@ -225,10 +229,10 @@ module _ {D : Type 0} (faults : D → ℕ) (told : D → Option Story) (fuse : D
               o = o;
               begins = begins b.order;
               part = x.part;
-              leaves = subst (λ (shut : Option ℕ). LeavesLog o new.list shut s (told new.disk)) x.unshut (leaves new b);
+              leaves = subst (λ (shut : Option ℕ). LeavesLog o new.list shut s (told new.disk)) x.unshut (leaves new b texts);
             };
             first = x.first;
             no_room = omega (arith, x.too_long, x.no_room, place);
           },
         )
-    not_driven DriveFault.NoMemory new x text started gate = short new (started tt) x
+    not_driven DriveFault.NoMemory new x text started gate texts = short new (started tt) texts x

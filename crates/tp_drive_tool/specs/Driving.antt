@@ -1,6 +1,7 @@
 -- What workers do of the events of a site on the log of a disk: the outputs and the log that is left; or why not all was done.
 -- What one thread puts out is said by tp_model, and how lanes part events between them by tp_drive. What `node` writes of the same
 -- input, and the log that it leaves, is `node_transcript`.
+use Rattle.std.specs.List.{AllByRecursion}
 use Rattle.std.specs.Prelude.{ℕ, ◌≡◌, ◌<◌, ◌+◌, ◌⊎◌, Option, Some, None, List, [], ◌∷◌, ◌++◌, length}
 use Rattle.tp_outside.specs.Faults.{HasRisen}
 use Rattle.tp_outside.specs.Story.{Story, Synced, seen}
@@ -16,7 +17,7 @@ use Rattle.tp_model.specs.NodeTranscript.{node_transcript, written_of}
 use Rattle.tp_model.specs.Transcript.{Done}
 use Rattle.tp_journal.specs.declared.receipts.Receipt.{Receipt}
 use Rattle.tp_journal.specs.Log.{StandsFor, StandsForEither, most_bytes, place_behind}
-use Rattle.tp_journal.specs.Records.{bodies_of}
+use Rattle.tp_journal.specs.Records.{HasText, bodies_of}
 use Rattle.tp_journal.specs.Told.{LeavesOnly, LeavesNow}
 use Rattle.tp_shared_log.specs.Images.{StandsForFirst}
 use Rattle.tp_log_tools.specs.Opening.{ReadsAs}
@@ -47,13 +48,17 @@ IsMoment o list file =
     StandsForEither (bodies_of (is_wide o.version) o.records) (bodies_of (is_wide o.version) (booted o)) file
     ⊎ StandsForFirst (length o.records + 1) (is_wide o.version) list file
 
+-- each is read back from its bytes
+abbrev pub HaveTexts : Opening → List LogRec → Type 0
+HaveTexts o list = AllByRecursion (HasText (is_wide o.version)) list
+
 -- A crash at any moment since the first sync has left such a log, and one now leaves all of these records; where the log is shut,
 -- the first of them, the boot among them.
 abbrev pub LeavesLog : Opening → List LogRec → Option ℕ → Story → Option Story → Type 0
 LeavesLog o list None story new =
-    LeavesOnly (IsMoment o list) (Some (Synced story)) new × LeavesNow (λ file. StandsFor file (bodies_of (is_wide o.version) list)) new
+    LeavesOnly (IsMoment o list) (Some (Synced story)) new × LeavesNow (λ file. StandsFor file (bodies_of (is_wide o.version) list)) new × HaveTexts o list
 LeavesLog o list (Some faults) story new =
-    LeavesOnly (IsMoment o list) (Some (Synced story)) new × LeavesNow (StandsForFirst (length o.records + 1) (is_wide o.version) list) new
+    LeavesOnly (IsMoment o list) (Some (Synced story)) new × LeavesNow (StandsForFirst (length o.records + 1) (is_wide o.version) list) new × HaveTexts o list
 
 -- ---- all events
 

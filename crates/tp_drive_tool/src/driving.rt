@@ -35,9 +35,13 @@ pub(crate) fn drive_on<R: Threads + Wait + Sync, D: Disk + Send, G: Gate + Sync>
         Err((disk, fault)) => return (disk, Err(Status::of_journal(fault))),
     };
     match drive(rt, alloc, journal, name, events, workers, gate) {
-        Ok(driven) => (driven.journal.disk(), Ok(driven.outs)),
+        Ok(driven) => {
+            let _records = driven.journal.list();
+            (driven.journal.disk(), Ok(driven.outs))
+        }
         Err((journal, fault)) => {
             let _shut = journal.shut();
+            let _records = journal.list();
             (journal.disk(), Err(Status::of_drive(fault)))
         }
     }

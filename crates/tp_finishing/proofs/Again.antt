@@ -3,11 +3,13 @@ use Rattle.std.proofs.Common.{if◌then◌else◌, ◌≡◌, inl, inr, Bool, tr
 use Rattle.tp_names.specs.declared.identifiers.Aaid.{Aaid}
 use Rattle.tp_names.specs.declared.identifiers.Addr.{Addr}
 use Rattle.tp_names.specs.declared.children.Child.{Child}
+use Rattle.tp_records.specs.declared.request.Request.{Request}
 use Rattle.tp_records.specs.declared.indication.Indication.{Indication}
 use Rattle.tp_records.specs.declared.peer.PeerRecord.{PeerRecord}
 use Rattle.tp_records.specs.declared.peer.RecState.{RecState}
 use Rattle.tp_model.specs.declared.arc.Phase.{Phase}
 use Rattle.tp_model.specs.declared.recovery.Kept.{Kept}
+use Rattle.tp_model.specs.declared.refusal.Refusal.{Refusal}
 use Rattle.tp_model.specs.declared.transaction.TxEvent.{TxEvent}
 use Rattle.tp_model.specs.declared.transaction.TxOut.{TxOut}
 use Rattle.tp_model.specs.Parts.{Who, Event, Out, Branch, Current, Digest}
@@ -15,14 +17,15 @@ use Rattle.tp_model.specs.Dialogues.{is_active, is_ready, is_committing, is_roll
 use Rattle.tp_model.specs.Transactions.{aaid_of, fresh_branch, ask_each, retried}
 use Rattle.tp_model.specs.Recovery.{owed, ask_owed, tell_superior, not_forgotten}
 use Rattle.tp_model.specs.Node.{Move, perform, seen, seen_rows, transact}
-use Rattle.tp_model.specs.Events.{refusal, refused_plainly, retry, retry_each, says_nothing, is_no_node, recovered, recovered_current, named_again, after_crash}
+use Rattle.tp_model.specs.Requests.{refused_request}
+use Rattle.tp_model.specs.Events.{refusal, refusal_in, refused_plainly, retry, retry_each, says_nothing, is_no_node, recovered, recovered_current, named_again, after_crash}
 use Rattle.tp_model.specs.World.{Node}
 use Rattle.tp_model.specs.Happenings.{Happening, restarted, run}
-use Rattle.tp_model.proofs.Verdicts.{plainly_not, none_if_accepted}
+use Rattle.tp_model.proofs.Verdicts.{plainly_not, plainly_by, none_if_accepted}
 use Rattle.tp_steps.specs.Moves.{IsRecoveryIn}
 use Rattle.tp_histories.specs.Histories.{IsSentIn}
 use Rattle.tp_finishing.specs.Doubt.{known_of}
-use Rattle.tp_finishing.specs.Again.{tells_to_commit, AreOrdered, AreOwed, IsSpokenOf, AreSpokenOf, SaysAgain, LostIsSaidAgain}
+use Rattle.tp_finishing.specs.Again.{tells_to_commit, speaks_of_whole, AreOrdered, AreOwed, IsSpokenOf, AreSpokenOf, SaysAgain, LostIsSaidAgain}
 use Rattle.tp_finishing.proofs.Retries.{plain_owed, plain_sent, sent_first, sent_second, says_of_current, asks_superior, retry_turn}
 use Rattle.tp_finishing.proofs.Stops.{stopped_is}
 
@@ -145,6 +148,25 @@ retry_ok who d on says =
     let plain : refused_plainly who d Event.Retry ≡ None = rw (node, says, refused_plainly) refl in
     none_if_accepted who d Event.Retry (plainly_not who d Event.Retry plain)
 
+-- ---- a node without a transaction says that there is none
+
+hears_none : (who : Who) (d : Digest) (r : Request) → d.declared ≡ true → d.current ≡ None → speaks_of_whole r ≡ true → refusal who d (Event.Do r) ≡ Some Refusal.NoTransaction
+unfolding refusal refused_request
+hears_none who d r on none is = ap refusal_in (plainly_by who d (Event.Do r) Refusal.NoTransaction (plain r is))
+  where
+    node : is_no_node d ≡ false
+    node = rw on refl
+
+    by : (q : Request) → refused_request who d q ≡ Some Refusal.NoTransaction → refused_plainly who d (Event.Do q) ≡ Some Refusal.NoTransaction
+    by q same = rw (node, on, same, refused_plainly) refl
+
+    plain : (q : Request) → speaks_of_whole q ≡ true → refused_plainly who d (Event.Do q) ≡ Some Refusal.NoTransaction
+    plain Request.Commit h = by Request.Commit (rw none refl)
+    plain Request.Done h = by Request.Done (rw none refl)
+    plain Request.Rollback h = by Request.Rollback (rw none refl)
+    plain Request.Unchanged h = by Request.Unchanged (rw none refl)
+    plain q h = absurd (cc (h))
+
 -- ---- every node
 
 says : (x : Node) → SaysAgain x
@@ -155,6 +177,7 @@ says x = record {
   kept = on (λ (z : Digest). AreSpokenOf (retry w z).outs d.kept) (keeps w e d.kept (transact_kept w e ∙ again_kept d x.superior));
   taken = λ some. on (λ (z : Digest). says_nothing (retry w z).outs ≡ false → refusal w z Event.Retry ≡ None) (λ s. retry_ok w e refl s) some;
   gone = λ c at phase. ap (λ (z : Digest). z.current) same ∙ again_none d x.superior c at phase;
+  heard = on (λ (z : Digest). z.current ≡ None → (r : Request) → speaks_of_whole r ≡ true → refusal w z (Event.Do r) ≡ Some Refusal.NoTransaction) (λ none r is. hears_none w e r refl none is);
 }
   where
     w : Who

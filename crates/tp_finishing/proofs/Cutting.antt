@@ -1,5 +1,5 @@
 -- Cuts make a world quiet, where each node may be cut: one cut after the other, at the first node that is not quiet.
-use Rattle.std.proofs.Common.{if◌then◌else◌, ◌≡◌, ◌⊎◌, inl, inr, ℕ, zero, suc, ◌≤◌, ◌+◌, Bool, true, false, refl, ap, sym, subst, ◌∙◌, arith, Option, Some, None, List, [], ◌∷◌, ◌++◌, ◌&&◌, ◌||◌, ◌==◌, not, length, length-append}
+use Rattle.std.proofs.Common.{if◌then◌else◌, ◌≡◌, ◌⊎◌, inl, inr, ℕ, zero, suc, ◌≤◌, ◌+◌, Bool, true, false, refl, ap, sym, subst, ◌∙◌, arith, Option, Some, None, List, [], ◌∷◌, ◌++◌, ◌&&◌, ◌||◌, ◌==◌, not, length, length-append, append_assoc}
 use Rattle.std.proofs.lemmas.Bool.Decides.{nat_tests}
 use Rattle.tp_names.specs.declared.identifiers.Addr.{Addr}
 use Rattle.tp_names.specs.declared.outcome.Report.{Report}
@@ -11,7 +11,7 @@ use Rattle.tp_model.specs.declared.transaction.TxEvent.{TxEvent}
 use Rattle.tp_model.specs.Parts.{Who, Origin, Event, Arc, Current, Digest}
 use Rattle.tp_model.specs.Links.{greatest, is_idle}
 use Rattle.tp_model.specs.Dialogues.{is_nil, is_active, is_committing, is_rolling, is_late}
-use Rattle.tp_model.specs.Arcs.{find_arc, link_of, link_with}
+use Rattle.tp_model.specs.Arcs.{find_arc, link_of, link_with, is_live_with_peer}
 use Rattle.tp_model.specs.Transactions.{is_own_commit, begin_rolling, roll, transacted, refused_tx}
 use Rattle.tp_model.specs.Requests.{refused_request}
 use Rattle.tp_model.specs.Node.{phase_of, seen}
@@ -21,7 +21,6 @@ use Rattle.tp_model.specs.Happenings.{Happening, Does, task_of, run}
 use Rattle.tp_model.specs.Promises.{IsIn}
 use Rattle.tp_steps.specs.Moves.{IsPut}
 use Rattle.tp_steps.specs.Ends.{are_separate}
-use Rattle.tp_steps.specs.Undone.{may_roll_back}
 use Rattle.tp_steps.proofs.lemmas.Options.{some_same}
 use Rattle.tp_histories.specs.Worlds.{IsGood, grown_node}
 use Rattle.tp_histories.proofs.marks.Separate.{separate_law}
@@ -30,11 +29,13 @@ use Rattle.tp_histories.proofs.trees.Late.{late_law}
 use Rattle.tp_histories.proofs.worlds.Good.{good_run}
 use Rattle.tp_finishing.specs.Doubt.{known_of}
 use Rattle.tp_finishing.specs.Quiet.{IsQuietAt, IsQuiet, Each, Quietens}
+use Rattle.tp_finishing.specs.Waiting.{WaitsFor}
 use Rattle.tp_finishing.specs.Cuts.{IsCut, MayBeCut, AllMayBeCut, cuts_at, most_cuts, CutsQuieten}
 use Rattle.tp_finishing.proofs.Awake.{has_node}
 use Rattle.tp_finishing.proofs.Numbers.{drawn_law}
 use Rattle.tp_finishing.proofs.Deliveries.{Takes, does_take, task_here, taken_here, taken_there}
-use Rattle.tp_finishing.proofs.Losing.{Cut, loses_one, gone_alone, owes_alone, nil_remains, none_waits}
+use Rattle.tp_finishing.proofs.WaitingLaw.{rollbacks_wait}
+use Rattle.tp_finishing.proofs.Losing.{Cut, loses_one, gone_alone, nil_remains, none_cut}
 use Rattle.tp_finishing.proofs.Picks.{distinct_run, First, pick_first}
 use Rattle.tp_finishing.proofs.Sites.{EachNode, nodes_found}
 use Rattle.tp_finishing.proofs.Still.{left_by, Turned, quiet_turn}
@@ -89,7 +90,7 @@ done_alone who c h = ap (λ (p : Phase). (transacted (TxEvent.User Request.Done)
 ends_it : (who : Who) (d : Digest) (e : Event) (f : TxEvent) (c : Current) → d.arcs ≡ [] → d.current ≡ Some c → (is_active c.phase || is_rolling c.phase) ≡ true → Taken who d e (left_by who f d c) → (transacted f (seen who [] c)).next.phase ≡ Phase.Nil → Cut who d e
 ends_it who d e f c none at busy taken over = record {
   ok = taken.ok;
-  may = subst (MayBeCut who) (sym taken.next_is) (none_waits who (left_by who f d c) gone);
+  may = subst MayBeCut (sym taken.next_is) (none_cut (left_by who f d c) gone);
   less = subst (λ (z : Digest). suc (cuts_at z) ≤ cuts_at d) (sym taken.next_is) (lower (cuts_at (left_by who f d c)) (cuts_at d) nothing (one_more (length d.arcs) (cuts_at d) flag));
 }
   where
@@ -135,7 +136,7 @@ data Next (es : List Happening) (x : Node) : Type 0 where
 is_busy : Node → Bool
 is_busy x = elim (cuts_at (known_of x)) as (λ _. Bool) [ zero ↦ false | suc n ↦ true ]
 
-next : (es : List Happening) (x : Node) → IsIn (run es) x → MayBeCut x.origin.who (known_of x) → is_busy x ≡ true → Next es x
+next : (es : List Happening) (x : Node) → IsIn (run es) x → MayBeCut (known_of x) → is_busy x ≡ true → Next es x
 unfolding is_busy
 next es x here may busy = by (known_of x).arcs refl
   where
@@ -157,9 +158,14 @@ next es x here may busy = by (known_of x).arcs refl
     alone : (c : Current) → d.arcs ≡ [] → d.current ≡ Some c → (a b : Bool) → is_active c.phase ≡ a → is_rolling c.phase ≡ b → (a || b) ≡ true → Next es x
     alone c none at true b i j h = Rolls (ends_it x.origin.who d (Event.Do Request.Rollback) (TxEvent.User Request.Rollback) c none at (rw i refl) (rollback_taken x.origin.who d c none at i (node c at) drawn) (rolled_alone x.origin.who c))
     alone c none at false true i j h =
-        let owes : c.owes ≡ true = owes_alone x.origin.who c j (subst (λ (arcs : List Arc). may_roll_back (seen x.origin.who arcs c) ≡ false) none (may.waits c at)) in
+        let owes : c.owes ≡ true = owing c.owes refl in
         Finishes (ends_it x.origin.who d (Event.Do Request.Done) (TxEvent.User Request.Done) c none at (rw (i, j) refl) (done_taken x.origin.who d c none at owes (rw j (either (is_committing c.phase))) (node c at) drawn) (done_alone x.origin.who c (phase_is c.phase j)))
       where
+        -- nobody is linked that it could wait for
+        owing : (b : Bool) → c.owes ≡ b → b ≡ true
+        owing true k = refl
+        owing false k = absurd (let w : WaitsFor d.arcs c = rollbacks_wait es x here c at j k in let off : is_live_with_peer d.arcs w.peer ≡ false = ap (λ (arcs : List Arc). is_live_with_peer arcs w.peer) none in let on = w.linked in cc (on, off))
+
         phase_is : (p : Phase) → is_rolling p ≡ true → p ≡ Phase.Rolling
         phase_is Phase.Rolling k = refl
         phase_is p k = absurd (grind (arith, k))
@@ -188,7 +194,7 @@ next es x here may busy = by (known_of x).arcs refl
     by : (arcs : List Arc) → d.arcs ≡ arcs → Next es x
     by [] i = idle i d.current refl
     by (a ∷ arcs) i =
-        let k = loses_one x.origin.who d a arcs i (none_idle d.arcs apart) (arcs_declared x.origin x.superior x a arcs i apart (λ p off. undeclared_idle x.origin x.superior x.history (good.legal (number_of x) x here) p off)) drawn (late_law x.origin x.superior x.history (good.legal (number_of x) x here)) may in
+        let k = loses_one x.origin.who d a arcs i (none_idle d.arcs apart) (arcs_declared x.origin x.superior x a arcs i apart (λ p off. undeclared_idle x.origin x.superior x.history (good.legal (number_of x) x here) p off)) drawn (late_law x.origin x.superior x.history (good.legal (number_of x) x here)) (rollbacks_wait es x here) may in
         Loses k.0 k.1
 
 -- ---- in a world
@@ -227,11 +233,11 @@ progress es x a e all here task is cut = record { line = Does a; is = is; may = 
     may : AllMayBeCut (run (Does a ∷ es))
     may z there = go (number_of x == number_of z) refl
       where
-        go : (b : Bool) → (number_of x == number_of z) ≡ b → MayBeCut z.origin.who (known_of z)
+        go : (b : Bool) → (number_of x == number_of z) ≡ b → MayBeCut (known_of z)
         go false i = all z (sym (taken_there (run es) (run (Does a ∷ es)) x e (number_of z) here takes i) ∙ there)
         go true i =
             let same : number_of x ≡ number_of z = grind (arith, nat_tests, i) in
-            subst (λ (u : Node). MayBeCut u.origin.who (known_of u)) (some_same (grown_node x e) z (sym found ∙ ap (find_node (run (Does a ∷ es)).nodes) same ∙ there)) cut.may
+            subst (λ (u : Node). MayBeCut (known_of u)) (some_same (grown_node x e) z (sym found ∙ ap (find_node (run (Does a ∷ es)).nodes) same ∙ there)) cut.may
 
 of_next : (es : List Happening) (x : Node) → AllMayBeCut (run es) → IsIn (run es) x → Next es x → Progress es
 of_next es x all here (Loses p cut) = progress es x (Action.Lose (number_of x) p) (Event.Lose p) all here (task_here (run es) x (Event.Lose p) here) tt cut
@@ -275,13 +281,12 @@ step es all = go (pick_first is_busy (run es).nodes (distinct_run es))
     go (inl none) = inl (λ z there. quiet_idle z (nodes_found (λ v. is_busy v ≡ false) (run es).nodes (number_of z) z none there))
     go (inr r) = inr (of_next es r.node all r.here (next es r.node r.here (all r.node r.here) r.is))
 
-each_append : (P : Happening → Type 0) (xs ys : List Happening) → Each P xs → Each P ys → Each P (xs ++ ys)
+pub each_append : (P : Happening → Type 0) (xs ys : List Happening) → Each P xs → Each P ys → Each P (xs ++ ys)
 each_append P [] ys h i = i
 each_append P (x ∷ xs) ys h i = (h.0, each_append P xs ys h.1 i)
 
-joined : (xs : List Happening) (y : Happening) (zs : List Happening) → (xs ++ y ∷ []) ++ zs ≡ xs ++ y ∷ zs
-joined [] y zs = refl
-joined (x ∷ xs) y zs = ap (λ (l : List Happening). x ∷ l) (joined xs y zs)
+pub joined : (xs ys zs : List Happening) → (xs ++ ys) ++ zs ≡ xs ++ (ys ++ zs)
+joined xs ys zs = simp append_assoc
 
 after_one : (es : List Happening) (n : ℕ) → (p : Progress es) → (more : List Happening) × Quietens IsCut n (p.line ∷ es) more → suc n ≤ most_cuts (run es).nodes → (more : List Happening) × Quietens IsCut (most_cuts (run es).nodes) es more
 after_one es n p rest less = (
@@ -289,7 +294,7 @@ after_one es n p rest less = (
   record {
     by = each_append IsCut rest.0 (p.line ∷ []) rest.1.by (p.is, tt);
     short = short (length (rest.0 ++ p.line ∷ [])) (length rest.0) n (most_cuts (run es).nodes) (length-append rest.0 (p.line ∷ [])) rest.1.short less;
-    quiet = subst (λ (l : List Happening). IsQuiet (run l)) (sym (joined rest.0 p.line es)) rest.1.quiet;
+    quiet = subst (λ (l : List Happening). IsQuiet (run l)) (sym (joined rest.0 (p.line ∷ []) es)) rest.1.quiet;
   },
 )
   where

@@ -130,7 +130,7 @@ answer_rolls who d c t b a = record { current = _; at = refl; rolling = refl; ow
 abbrev pub rolling : Current → Current
 rolling c = record c { phase = Phase.Rolling; superior_rolled = true; owes = true }
 
-all_gone : (bs : List Branch) → all_rolled_back (seen_rows [] bs) ≡ true
+pub all_gone : (bs : List Branch) → all_rolled_back (seen_rows [] bs) ≡ true
 all_gone [] = refl
 all_gone (b ∷ bs) = go b.ended b.left (all_gone bs)
   where

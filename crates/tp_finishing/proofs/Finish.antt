@@ -1,5 +1,5 @@
 -- From every quiet world recovery alone ends all transactions, in so many lines.
-use Rattle.std.proofs.Common.{◌≡◌, ◌⊎◌, inl, inr, ℕ, zero, suc, ◌≤◌, ◌<◌, ◌+◌, Bool, true, false, refl, ap, sym, subst, ◌∙◌, arith, Option, Some, None, List, [], ◌∷◌, ◌++◌, ◌&&◌, not, length, append_assoc, length-append}
+use Rattle.std.proofs.Common.{◌≡◌, ◌⊎◌, inl, inr, ℕ, zero, suc, ◌≤◌, ◌<◌, ◌+◌, Bool, true, false, refl, ap, sym, subst, ◌∙◌, arith, Option, Some, None, List, [], ◌∷◌, ◌++◌, ◌&&◌, not, length, length-append}
 use Rattle.std.proofs.lemmas.Bool.Decides.{nat_tests}
 use Rattle.tp_names.specs.declared.identifiers.Addr.{Addr}
 use Rattle.tp_names.specs.declared.children.Child.{Child}
@@ -23,11 +23,13 @@ use Rattle.tp_histories.specs.Worlds.{place, Above}
 use Rattle.tp_histories.proofs.trees.Late.{late_law}
 use Rattle.tp_histories.proofs.worlds.Good.{good_run}
 use Rattle.tp_finishing.specs.Doubt.{known_of}
-use Rattle.tp_finishing.specs.Quiet.{IsQuiet, Each}
-use Rattle.tp_finishing.specs.Finishing.{IsRecovery, IsOver, most_lines, NoRunIsStuck, EveryRunEnds}
+use Rattle.tp_finishing.specs.Quiet.{IsQuiet, Each, IsStop, Quietens}
+use Rattle.tp_finishing.specs.Cuts.{IsCut, most_cuts}
+use Rattle.tp_finishing.specs.Finishing.{IsRecovery, IsOver, most_lines, NoRunIsStuck, EndsBy, EveryRunEnds, CutsEnd}
 use Rattle.tp_finishing.proofs.Kindred.{KeyAt, FitsKept, AllFit}
 use Rattle.tp_finishing.proofs.Closed.{over_is_closed}
 use Rattle.tp_finishing.proofs.Stops.{stops_quieten}
+use Rattle.tp_finishing.proofs.Cutting.{each_append, joined, cuts_quieten}
 use Rattle.tp_finishing.proofs.Sites.{EachNode, nodes_found}
 use Rattle.tp_finishing.proofs.Picks.{distinct_run, First, Last, pick_first, pick_last}
 use Rattle.tp_finishing.proofs.Doubts.{IsSuperiorAt, IsBranchAt, fit_run}
@@ -172,10 +174,6 @@ each_more m n (e ∷ es) less h = (one e h.0, each_more m n es less h.1)
     one (Does (Action.Do k LineRequest.Done)) h = tt
     one e h = absurd (grind (arith, h))
 
-each_append : (P : Happening → Type 0) (xs ys : List Happening) → Each P xs → Each P ys → Each P (xs ++ ys)
-each_append P [] ys h i = i
-each_append P (x ∷ xs) ys h i = (h.0, each_append P xs ys h.1 i)
-
 -- the frames stay
 logged_grow : (w : World) (x : Node) (number : Option ℕ) (o : Option Entry) → length w.frames ≤ length (entry_turn w x number o).world.frames
 logged_grow w x number None = omega arith
@@ -198,9 +196,6 @@ recovery_grows n w e h = absurd (grind (arith, h))
 all_grow : (n : ℕ) (es more : List Happening) → Each (IsRecovery n) more → length (run es).frames ≤ length (run (more ++ es)).frames
 all_grow n es [] h = omega arith
 all_grow n es (e ∷ more) h = let one = recovery_grows n (run (more ++ es)) e h.0 in let rest = all_grow n es more h.1 in omega (arith, one, rest)
-
-joined : (xs ys zs : List Happening) → (xs ++ ys) ++ zs ≡ xs ++ (ys ++ zs)
-joined xs ys zs = simp append_assoc
 
 record Ends (es : List Happening) : Type 0 where
   more : List Happening
@@ -243,9 +238,12 @@ no_run_is_stuck es quiet =
     let f : Ends es = finish (most_lines (run es).nodes) es quiet (omega arith) in
     (f.more, record { recovers = f.recovers; short = f.short; over = f.over; closed = over_is_closed (f.more ++ es) f.over })
 
--- after a stop of each site
+-- after lines that make the world quiet
+ends_after_quiet : (P : Happening → Type 0) (most : ℕ) (es : List Happening) → (first : List Happening) × Quietens P most es first → (first : List Happening) × (more : List Happening) × EndsBy P most es first more
+ends_after_quiet P most es q = let f = no_run_is_stuck (q.0 ++ es) q.1.quiet in (q.0, f.0, record { by = q.1.by; few = q.1.short; finishes = f.1 })
+
 pub every_run_ends : EveryRunEnds
-every_run_ends es =
-    let q = stops_quieten es in
-    let f = no_run_is_stuck (q.0 ++ es) q.1.quiet in
-    (q.0, f.0, record { stopped = q.1.by; few = q.1.short; finishes = f.1 })
+every_run_ends es = ends_after_quiet IsStop (length (run es).sites) es (stops_quieten es)
+
+pub cuts_end : CutsEnd
+cuts_end es may = ends_after_quiet IsCut (most_cuts (run es).nodes) es (cuts_quieten es may)

@@ -1,6 +1,5 @@
 -- What recovery makes of the transactions that a node keeps for their damage, where it has no other and no associations.
-use Rattle.std.proofs.Common.{if◌then◌else◌, ◌≡◌, inl, ℕ, suc, ◌≤◌, ◌+◌, ◌*◌, Bool, true, false, refl, ap, sym, subst, ◌∙◌, arith, Option, Some, None, List, [], ◌∷◌, ◌&&◌, ◌||◌, not, nat_lt, length}
-use Rattle.std.proofs.lemmas.Bool.Decides.{nat_tests}
+use Rattle.std.proofs.Common.{if◌then◌else◌, ◌≡◌, inl, ℕ, suc, ◌≤◌, ◌+◌, ◌*◌, Bool, true, false, refl, ap, sym, subst, ◌∙◌, arith, Option, Some, None, List, [], ◌∷◌, ◌&&◌, not, length}
 use Rattle.tp_names.specs.declared.identifiers.Aaid.{Aaid}
 use Rattle.tp_names.specs.declared.identifiers.Addr.{Addr}
 use Rattle.tp_names.specs.declared.identifiers.BranchId.{BranchId}
@@ -35,7 +34,7 @@ use Rattle.tp_finishing.specs.Finishing.{lines_to_forget, lines_of_kept, lines_a
 use Rattle.tp_finishing.proofs.Answering.{addr_self}
 use Rattle.tp_finishing.proofs.Costs.{lines_of_one, owed_less}
 use Rattle.tp_finishing.proofs.Ending.{Lowers}
-use Rattle.tp_finishing.proofs.Still.{none_left, none_past}
+use Rattle.tp_finishing.proofs.Still.{none_left, none_past, enough}
 use Rattle.tp_finishing.proofs.Taking.{Taken, taken_by}
 
 -- a node without associations and without a current transaction, which keeps these
@@ -47,9 +46,6 @@ idle_is d ks i j k =
     let one : ◌≡◌ {A = Digest} d (record d { arcs = [] }) = ap (λ (arcs : List Arc). let x : Digest = record d { arcs = arcs } in x) i in
     let two : ◌≡◌ {A = Digest} (record d { arcs = [] }) (record d { arcs = []; current = None }) = ap (λ (o : Option Current). let x : Digest = record d { arcs = []; current = o } in x) j in
     one ∙ two ∙ ap (λ (l : List Kept). let x : Digest = record d { arcs = []; current = None; kept = l } in x) k
-
-enough : (n : ℕ) (b : Bool) → n ≤ greatest → b ≡ false → (nat_lt greatest n || b) ≡ false
-enough n b h i = grind (arith, nat_tests, h, i)
 
 forget_apart : (a : Addr) (k : NodeKey) (b : BranchId) (r : Report) → are_apart (forget_to a k b r) ≡ true
 forget_apart a k b r = go (is_report_none r)

@@ -21,6 +21,8 @@ mod Noted
 mod Exchanges
 mod Owed
 pub mod Closed
+mod Waiting
+pub mod WaitingLaw
 mod Losing
 pub mod Cutting
 pub mod Again

@@ -1,5 +1,5 @@
 -- The loss of an association at a node: its transaction rolls back, is complete, or stays as it was; and which association may be lost next.
-use Rattle.std.proofs.Common.{if◌then◌else◌, ◌≡◌, ◌⊎◌, inl, inr, ℕ, suc, ◌≤◌, ◌+◌, Bool, true, false, refl, ap, sym, subst, ◌∙◌, arith, Option, Some, None, List, [], ◌∷◌, ◌++◌, ◌&&◌, ◌||◌, ◌==◌, not, nat_lt, length}
+use Rattle.std.proofs.Common.{if◌then◌else◌, ◌≡◌, ◌⊎◌, inl, inr, ℕ, suc, ◌≤◌, ◌+◌, Bool, true, false, refl, ap, sym, subst, ◌∙◌, arith, Option, Some, None, List, [], ◌∷◌, ◌++◌, ◌&&◌, ◌||◌, ◌==◌, not, length}
 use Rattle.std.proofs.lemmas.Bool.Decides.{nat_tests}
 use Rattle.tp_records.specs.declared.dialogue.DialogueRecord.{DialogueRecord}
 use Rattle.tp_records.specs.declared.indication.Indication.{Indication}
@@ -21,10 +21,13 @@ use Rattle.tp_steps.specs.Undone.{may_roll_back}
 use Rattle.tp_steps.proofs.lemmas.Options.{some_same}
 use Rattle.tp_steps.proofs.links.Links.{link_without}
 use Rattle.tp_finishing.specs.Doubt.{HaveNumbers}
+use Rattle.tp_finishing.specs.Waiting.{WaitsFor, Waits}
 use Rattle.tp_finishing.specs.Cuts.{MayBeCut, cuts_at}
+use Rattle.tp_finishing.proofs.Waiting.{awaited_blocks}
 use Rattle.tp_finishing.proofs.Hearing.{are_words, Words, joined, nothing, told, down_words, up_words, within_turn, fewer}
 use Rattle.tp_finishing.proofs.Retries.{remains, same_phase}
-use Rattle.tp_finishing.proofs.Still.{left_by, Turned, quiet_turn}
+use Rattle.tp_finishing.proofs.Still.{left_by, Turned, quiet_turn, enough}
+use Rattle.tp_finishing.proofs.Ending.{all_gone}
 use Rattle.tp_finishing.proofs.Taking.{taken_by}
 
 -- ---- a transaction that sees no association with the peer has nothing to lose there
@@ -207,13 +210,6 @@ falls_turn who d c p h n = record {
 
 -- ---- a node without associations
 
-all_dead : (bs : List Branch) → all_rolled_back (seen_rows [] bs) ≡ true
-all_dead [] = refl
-all_dead (b ∷ bs) = go b.ended b.left (all_dead bs)
-  where
-    go : (e l : Bool) → all_rolled_back (seen_rows [] bs) ≡ true → ((e || l || true) && all_rolled_back (seen_rows [] bs)) ≡ true
-    go e l h = grind (arith, h)
-
 up_dead : (k : Key) → is_up_live [] k ≡ false
 up_dead (Root t) = refl
 up_dead (Under t b a) = refl
@@ -227,21 +223,11 @@ gone_alone who c owes = go (not c.owes && all_rolled_back (seen_rows [] c.branch
     either b = grind arith
 
     on : (not c.owes && all_rolled_back (seen_rows [] c.branches) && (c.superior_rolled || not (is_up_live [] c.key))) ≡ true
-    on = rw (owes, all_dead c.branches, up_dead c.key) (either c.superior_rolled)
+    on = rw (owes, all_gone c.branches, up_dead c.key) (either c.superior_rolled)
 
     go : (b : Bool) → (not c.owes && all_rolled_back (seen_rows [] c.branches) && (c.superior_rolled || not (is_up_live [] c.key))) ≡ b → (complete_rollback (seen who [] c)).next.phase ≡ Phase.Nil
     go true i = rw (i, complete_rollback) refl
     go false i = absurd (cc (i, on))
-
-pub owes_alone : (who : Who) (c : Current) → is_rolling c.phase ≡ true → may_roll_back (seen who [] c) ≡ false → c.owes ≡ true
-owes_alone who c phase h = go c.owes refl
-  where
-    either : (b : Bool) → (b || true) ≡ true
-    either b = grind arith
-
-    go : (b : Bool) → c.owes ≡ b → b ≡ true
-    go true i = refl
-    go false i = absurd (let on : may_roll_back (seen who [] c) ≡ true = rw (phase, i, all_dead c.branches, up_dead c.key) (either c.superior_rolled) in cc (on, h))
 
 refused_none : (t : Transaction) (p : ℕ) → refused_tx (TxEvent.Lost p) t ≡ None
 unfolding refused_tx
@@ -251,84 +237,6 @@ pub nil_remains : (t : Transaction) → t.phase ≡ Phase.Nil → remaining t �
 nil_remains t h = rw (h, remaining) refl
 
 -- ---- which association may be lost: one whose loss leaves a rollback waiting, or the last one
-
--- where one stays live, the rollback of these branches is not complete
-record Blocked (arcs : List Arc) (bs : List Branch) : Type 0 where
-  peer : ℕ
-  live : is_live_with_peer arcs peer ≡ true
-  holds : (xs : List Arc) → is_live_with_peer xs peer ≡ true → all_rolled_back (seen_rows xs bs) ≡ false
-
-blocked : (arcs : List Arc) (bs : List Branch) → all_rolled_back (seen_rows arcs bs) ≡ false → Blocked arcs bs
-blocked arcs [] h = absurd (cc (h))
-blocked arcs (b ∷ bs) h = go (b.ended || b.left) refl (is_live_with_peer arcs b.peer.node) refl (all_rolled_back (seen_rows arcs bs)) refl (blocked arcs bs)
-  where
-    front : (e l v r : Bool) → ((e || l || not (v && not (e || l))) && r) ≡ false → (e || l) ≡ true → r ≡ false
-    front e l v r i j = grind (arith, i, j)
-
-    dead : (e l r : Bool) → ((e || l || not (false && not (e || l))) && r) ≡ false → r ≡ false
-    dead e l r i = grind (arith, i)
-
-    opened : (e l r : Bool) → (e || l) ≡ false → ((e || l || not (true && not (e || l))) && r) ≡ false
-    opened e l r i = grind (arith, i)
-
-    behind : (xs : List Arc) → all_rolled_back (seen_rows xs bs) ≡ false → all_rolled_back (seen_rows xs (b ∷ bs)) ≡ false
-    behind xs i = rw i (off (b.ended || b.left || not (seen_row xs b).live))
-      where
-        off : (v : Bool) → (v && false) ≡ false
-        off v = grind arith
-
-    later : Blocked arcs bs → Blocked arcs (b ∷ bs)
-    later r = record { peer = r.peer; live = r.live; holds = λ xs i. behind xs (r.holds xs i) }
-
-    go : (d : Bool) → (b.ended || b.left) ≡ d → (v : Bool) → is_live_with_peer arcs b.peer.node ≡ v → (r : Bool) → all_rolled_back (seen_rows arcs bs) ≡ r → (all_rolled_back (seen_rows arcs bs) ≡ false → Blocked arcs bs) → Blocked arcs (b ∷ bs)
-    go true i v j r k rest = later (rest (front b.ended b.left (is_live_with_peer arcs b.peer.node) (all_rolled_back (seen_rows arcs bs)) h i))
-    go false i false j r k rest = later (rest (dead b.ended b.left (all_rolled_back (seen_rows arcs bs)) (ap (λ (v : Bool). (b.ended || b.left || not (v && not (b.ended || b.left))) && all_rolled_back (seen_rows arcs bs)) (sym j) ∙ h)))
-    go false i true j r k rest = record {
-      peer = b.peer.node;
-      live = j;
-      holds = λ xs live. ap (λ (v : Bool). (b.ended || b.left || not (v && not (b.ended || b.left))) && all_rolled_back (seen_rows xs bs)) live ∙ opened b.ended b.left (all_rolled_back (seen_rows xs bs)) i;
-    }
-
--- whom a rollback waits for
-record WaitsFor (who : Who) (arcs : List Arc) (c : Current) : Type 0 where
-  peer : ℕ
-  live : is_live_with_peer arcs peer ≡ true
-  holds : (xs : List Arc) → is_live_with_peer xs peer ≡ true → may_roll_back (seen who xs c) ≡ false
-
-up_blocks : (who : Who) (arcs : List Arc) (c : Current) (k : Key) → c.key ≡ k → (c.superior_rolled || not (is_up_live arcs k)) ≡ false → WaitsFor who arcs c
-up_blocks who arcs c (Root t) i h = absurd (grind (arith, h))
-up_blocks who arcs c (Under t b a) i h = record {
-  peer = a.node;
-  live = live c.superior_rolled (is_live_with_peer arcs a.node) h;
-  holds = λ xs on. rw (i) (off c.superior_rolled (is_live_with_peer xs a.node) (is_rolling c.phase) (not c.owes) (all_rolled_back (seen_rows xs c.branches)) (unrolled c.superior_rolled (is_live_with_peer arcs a.node) h) on);
-}
-  where
-    live : (s v : Bool) → (s || not v) ≡ false → v ≡ true
-    live s v j = grind (arith, j)
-
-    unrolled : (s v : Bool) → (s || not v) ≡ false → s ≡ false
-    unrolled s v j = grind (arith, j)
-
-    off : (s v p o r : Bool) → s ≡ false → v ≡ true → (p && o && r && (s || not v)) ≡ false
-    off s v p o r j k = grind (arith, j, k)
-
-waits_for : (who : Who) (arcs : List Arc) (c : Current) → is_rolling c.phase ≡ true → c.owes ≡ false → may_roll_back (seen who arcs c) ≡ false → WaitsFor who arcs c
-waits_for who arcs c phase owes h = go (all_rolled_back (seen_rows arcs c.branches)) refl
-  where
-    rest : (r s : Bool) → (true && true && r && s) ≡ false → r ≡ true → s ≡ false
-    rest r s i j = grind (arith, i, j)
-
-    seen_so : (true && true && all_rolled_back (seen_rows arcs c.branches) && (c.superior_rolled || not (is_up_live arcs c.key))) ≡ false
-    seen_so = rw (phase, owes) at h
-
-    go : (b : Bool) → all_rolled_back (seen_rows arcs c.branches) ≡ b → WaitsFor who arcs c
-    go true i = up_blocks who arcs c c.key refl (rest (all_rolled_back (seen_rows arcs c.branches)) (c.superior_rolled || not (is_up_live arcs c.key)) seen_so i)
-    go false i =
-        let k : Blocked arcs c.branches = blocked arcs c.branches i in
-        record { peer = k.peer; live = k.live; holds = λ xs on. off (is_rolling c.phase) (not c.owes) (all_rolled_back (seen_rows xs c.branches)) (c.superior_rolled || not (is_up_live xs c.key)) (k.holds xs on) }
-      where
-        off : (p o r s : Bool) → r ≡ false → (p && o && r && s) ≡ false
-        off p o r s j = grind (arith, j)
 
 -- an association with another peer, where not all are with this one
 record Another (arcs : List Arc) (q : ℕ) : Type 0 where
@@ -366,8 +274,8 @@ live_found arcs q h = go (find_arc arcs q) refl
     go None i = absurd (let off : is_live_with_peer arcs q ≡ false = ap (λ (v : Option Arc). is_live (link_of v)) i in cc (off, h))
     go (Some a) i = (a, i)
 
-pub losable : (who : Who) (a : Arc) (arcs : List Arc) (c : Current) → may_roll_back (seen who (a ∷ arcs) c) ≡ false → Losable who (a ∷ arcs) c
-losable who a arcs c h = go (is_rolling c.phase) refl c.owes refl
+pub losable : (who : Who) (a : Arc) (arcs : List Arc) (c : Current) → (is_rolling c.phase ≡ true → c.owes ≡ false → WaitsFor (a ∷ arcs) c) → Losable who (a ∷ arcs) c
+losable who a arcs c waits = go (is_rolling c.phase) refl c.owes refl
   where
     self : (a.peer.node == a.peer.node) ≡ true
     self = grind (arith, nat_tests)
@@ -378,20 +286,20 @@ losable who a arcs c h = go (is_rolling c.phase) refl c.owes refl
     unless : (p o r s : Bool) → (p && not o) ≡ false → (p && not o && r && s) ≡ false
     unless p o r s i = grind (arith, i)
 
-    on : WaitsFor who (a ∷ arcs) c → Losable who (a ∷ arcs) c
+    on : WaitsFor (a ∷ arcs) c → Losable who (a ∷ arcs) c
     on k = by (another (a ∷ arcs) k.peer)
       where
         by : (without_arc (a ∷ arcs) k.peer ≡ []) ⊎ Another (a ∷ arcs) k.peer → Losable who (a ∷ arcs) c
-        by (inl none) = let x = live_found (a ∷ arcs) k.peer k.live in record { peer = k.peer; arc = x.0; found = x.1; so = inl none }
+        by (inl none) = let x = live_found (a ∷ arcs) k.peer k.linked in record { peer = k.peer; arc = x.0; found = x.1; so = inl none }
         by (inr z) = record {
           peer = z.peer;
           arc = z.arc;
           found = z.found;
-          so = inr (k.holds (without_arc (a ∷ arcs) z.peer) (ap is_live (link_without (a ∷ arcs) z.peer k.peer) ∙ ap (λ (b : Bool). is_live (if b then Link.Idle else link_with (a ∷ arcs) k.peer)) z.other ∙ k.live));
+          so = inr (awaited_blocks who (without_arc (a ∷ arcs) z.peer) c k.peer (ap is_live (link_without (a ∷ arcs) z.peer k.peer) ∙ ap (λ (b : Bool). is_live (if b then Link.Idle else link_with (a ∷ arcs) k.peer)) z.other ∙ k.linked) k.awaited);
         }
 
     go : (b : Bool) → is_rolling c.phase ≡ b → (o : Bool) → c.owes ≡ o → Losable who (a ∷ arcs) c
-    go true i false j = on (waits_for who (a ∷ arcs) c i j h)
+    go true i false j = on (waits i j)
     go true i true j = first (λ xs. unless (is_rolling c.phase) c.owes (all_rolled_back (seen_rows xs c.branches)) (c.superior_rolled || not (is_up_live xs c.key)) (rw (i, j) refl))
     go false i o j = first (λ xs. unless (is_rolling c.phase) c.owes (all_rolled_back (seen_rows xs c.branches)) (c.superior_rolled || not (is_up_live xs c.key)) (rw i refl))
 
@@ -399,24 +307,24 @@ losable who a arcs c h = go (is_rolling c.phase) refl c.owes refl
 
 pub record Cut (who : Who) (d : Digest) (e : Event) : Type 0 where
   pub ok : refusal who d e ≡ None
-  pub may : MayBeCut who (action who d e).next
+  pub may : MayBeCut (action who d e).next
   pub less : suc (cuts_at (action who d e).next) ≤ cuts_at d
 
 -- what an event leaves that is cut
 record Leaves (who : Who) (d : Digest) (m : Move) : Type 0 where
   numbers : needs_numbers m ≡ false
-  may : MayBeCut who m.next
+  may : MayBeCut m.next
   less : suc (cuts_at m.next) ≤ cuts_at d
 
 cut_by : (who : Who) (d : Digest) (e : Event) (m : Move) → action who d e ≡ m → refused_plainly who d e ≡ None → Leaves who d m → Cut who d e
 cut_by who d e m same plain k = record {
   ok = (taken_by who d e m.next plain (ap needs_numbers same ∙ k.numbers) (ap (λ (x : Move). x.next) same)).ok;
-  may = subst (λ (x : Move). MayBeCut who x.next) (sym same) k.may;
+  may = subst (λ (x : Move). MayBeCut x.next) (sym same) k.may;
   less = subst (λ (x : Move). suc (cuts_at x.next) ≤ cuts_at d) (sym same) k.less;
 }
 
-pub none_waits : (who : Who) (d : Digest) → d.current ≡ None → MayBeCut who d
-none_waits who d none = record { numbers = λ c i act. absurd (let off : None ≡ Some c = sym none ∙ i in cc (off)); waits = λ c i. absurd (let off : None ≡ Some c = sym none ∙ i in cc (off)) }
+pub none_cut : (d : Digest) → d.current ≡ None → MayBeCut d
+none_cut d none c i act = absurd (let off : None ≡ Some c = sym none ∙ i in cc (off))
 
 fewer_arcs : (arcs : List Arc) (p : ℕ) (x : Arc) → find_arc arcs p ≡ Some x → suc (length (without_arc arcs p)) ≤ length arcs
 fewer_arcs [] p x h = absurd (cc (h))
@@ -445,9 +353,6 @@ numbers_without n p (a ∷ arcs) h = go (a.peer.node == p) (numbers_without n p 
 lose_plain : (who : Who) (d : Digest) (p : ℕ) (x : Arc) → find_arc d.arcs p ≡ Some x → is_idle x.link ≡ false → is_no_node d ≡ false → refused_plainly who d (Event.Lose p) ≡ None
 lose_plain who d p x found idle node = let link : is_idle (link_with d.arcs p) ≡ false = ap (λ (o : Option Arc). is_idle (link_of o)) found ∙ idle in rw (node, link, refused_plainly) refl
 
-enough : (n : ℕ) → n ≤ greatest → (nat_lt greatest n || false) ≡ false
-enough n h = grind (arith, nat_tests, h)
-
 without : Digest → ℕ → Digest
 without d p = record d { arcs = without_arc d.arcs p }
 
@@ -455,13 +360,13 @@ without d p = record d { arcs = without_arc d.arcs p }
 lose_idle : (who : Who) (d : Digest) (p : ℕ) (x : Arc) → find_arc d.arcs p ≡ Some x → d.drawn ≤ greatest → d.current ≡ None → Leaves who d (perform (TxOut.Tell (Indication.PAbort p) ∷ []) (without d p))
 unfolding without
 lose_idle who d p x found h none = record {
-  numbers = enough d.drawn h;
-  may = none_waits who (record d { arcs = without_arc d.arcs p }) none;
+  numbers = enough d.drawn false h refl;
+  may = none_cut (record d { arcs = without_arc d.arcs p }) none;
   less = let k = fewer_arcs d.arcs p x found in omega (arith, k);
 }
 
 -- something is
-lose_held : (who : Who) (d : Digest) (c : Current) (p : ℕ) (x : Arc) → find_arc d.arcs p ≡ Some x → d.drawn ≤ greatest → d.current ≡ Some c → is_nil c.phase ≡ false → MayBeCut who d
+lose_held : (who : Who) (d : Digest) (c : Current) (p : ℕ) (x : Arc) → find_arc d.arcs p ≡ Some x → d.drawn ≤ greatest → d.current ≡ Some c → is_nil c.phase ≡ false → MayBeCut d
     → (without_arc d.arcs p ≡ []) ⊎ (may_roll_back (seen who (without_arc d.arcs p) c) ≡ false) → Leaves who d (transact who (TxEvent.Lost p) (without d p))
 unfolding without told_lost
 lose_held who d c p x found h at late may so = subst (Leaves who d) (sym (lost_turn who g c p at)) (go (loses t p same))
@@ -496,13 +401,10 @@ lose_held who d c p x found h at late may so = subst (Leaves who d) (sym (lost_t
     flag o = if is_active (elim o as (λ _. Phase) [ None ↦ Phase.Nil | Some u ↦ u.phase ]) || is_rolling (elim o as (λ _. Phase) [ None ↦ Phase.Nil | Some u ↦ u.phase ]) then 1 else 0
 
     -- as it was, without that association
-    stays : may_roll_back t ≡ false → Leaves who d (turned_by who g c (told_lost p (turn [] t)))
-    stays off = subst (Leaves who d) (sym (stays_turn who g c p at late)) (record {
-      numbers = enough d.drawn h;
-      may = record {
-        numbers = λ u i act. numbers_without (suc (length u.branches)) p d.arcs (may.numbers u i act);
-        waits = λ u i. subst (λ (v : Current). may_roll_back (seen who g.arcs v) ≡ false) (some_same c u (sym at ∙ i)) off;
-      };
+    stays : Leaves who d (turned_by who g c (told_lost p (turn [] t)))
+    stays = subst (Leaves who d) (sym (stays_turn who g c p at late)) (record {
+      numbers = enough d.drawn false h refl;
+      may = λ u i act. numbers_without (suc (length u.branches)) p d.arcs (may u i act);
       less = lower (length g.arcs) (length d.arcs) (flag d.current) few;
     })
       where
@@ -521,7 +423,7 @@ lose_held who d c p x found h at late may so = subst (Leaves who d) (sym (lost_t
         is = ap (λ (v : Phase). let u : Current = record c { phase = v } in u) (phase_is c.phase act)
 
         fallen : Falls g (turned_by who g (active c) (told_lost p (roll false (seen who g.arcs (active c)))))
-        fallen = falls_turn who g c p h (numbers_without (suc (length c.branches)) p d.arcs (may.numbers c at act))
+        fallen = falls_turn who g c p h (numbers_without (suc (length c.branches)) p d.arcs (may c at act))
 
         before_it : cuts_at d ≡ length d.arcs + 1
         before_it = ap (λ (o : Option Current). length d.arcs + flag o) (at ∙ ap (λ (u : Current). Some u) is)
@@ -529,16 +431,10 @@ lose_held who d c p x found h at late may so = subst (Leaves who d) (sym (lost_t
         made_so : {m : Move} → Falls g m → Leaves who d m
         made_so {m} f = record {
           numbers = f.numbers;
-          may = record {
-            numbers = λ u i act. absurd (let one : u ≡ f.current = some_same u f.current (sym i ∙ f.at) in let roll : u.phase ≡ Phase.Rolling = ap (λ (v : Current). v.phase) one ∙ f.rolling in let off : is_active u.phase ≡ false = ap is_active roll in cc (act, off));
-            waits = λ u i. let one : u.owes ≡ true = ap (λ (v : Current). v.owes) (some_same u f.current (sym i ∙ f.at)) ∙ f.owes in owing (is_rolling u.phase) u.owes (all_rolled_back (seen_rows m.next.arcs u.branches)) (u.superior_rolled || not (is_up_live m.next.arcs u.key)) one;
-          };
+          may = λ u i act. absurd (let one : u ≡ f.current = some_same u f.current (sym i ∙ f.at) in let roll : u.phase ≡ Phase.Rolling = ap (λ (v : Current). v.phase) one ∙ f.rolling in let off : is_active u.phase ≡ false = ap is_active roll in cc (act, off));
           less = lower (cuts_at m.next) (cuts_at d) (length m.next.arcs) (length g.arcs) (length d.arcs) (flag m.next.current) (flag_less m.next.current) f.arcs few before_it;
         }
           where
-            owing : (p o r s : Bool) → o ≡ true → (p && not o && r && s) ≡ false
-            owing p o r s i = grind (arith, i)
-
             flag_less : (o : Option Current) → flag o ≤ 1
             flag_less o = less (is_active (elim o as (λ _. Phase) [ None ↦ Phase.Nil | Some u ↦ u.phase ]) || is_rolling (elim o as (λ _. Phase) [ None ↦ Phase.Nil | Some u ↦ u.phase ]))
               where
@@ -553,7 +449,7 @@ lose_held who d c p x found h at late may so = subst (Leaves who d) (sym (lost_t
     ends : is_rolling c.phase ≡ true → may_roll_back t ≡ true → g.arcs ≡ [] → lost_arc p t ≡ complete_rollback t → Leaves who d (turned_by who g c (transacted (TxEvent.Lost p) t))
     ends phase on alone lost = subst (Leaves who d) (lost_turn who g c p at) (record {
       numbers = k.numbers h;
-      may = subst (MayBeCut who) (sym k.next) (none_waits who (left_by who (TxEvent.Lost p) g c) over);
+      may = subst MayBeCut (sym k.next) (none_cut (left_by who (TxEvent.Lost p) g c) over);
       less = subst (λ (z : Digest). suc (cuts_at z) ≤ cuts_at d) (sym k.next) (lower (length d.arcs) (flag d.current) (flag (left_by who (TxEvent.Lost p) g c).current) few (ap flag over));
     })
       where
@@ -583,11 +479,11 @@ lose_held who d c p x found h at late may so = subst (Leaves who d) (sym (lost_t
 
     go : Loses t p → Leaves who d (turned_by who g c (transacted (TxEvent.Lost p) t))
     go (Rolls_now act i) = made (roll false t) i (falls act)
-    go (Stays_so off i) = made (turn [] t) i (stays (rw off refl))
+    go (Stays_so off i) = made (turn [] t) i stays
     go (Completes_now phase i) = by (may_roll_back t) refl so
       where
         by : (b : Bool) → may_roll_back t ≡ b → (g.arcs ≡ []) ⊎ (may_roll_back t ≡ false) → Leaves who d (turned_by who g c (transacted (TxEvent.Lost p) t))
-        by false j either = made (turn [] t) (i ∙ waits_still t phase j) (stays j)
+        by false j either = made (turn [] t) (i ∙ waits_still t phase j) stays
         by true j (inl alone) = ends phase j alone i
         by true j (inr off) = absurd (cc (j, off))
 
@@ -600,9 +496,9 @@ unfolding lose without
 lose_some who d c p at = ap (λ (o : Option Current). elim o as (λ _. Move) [ None ↦ perform (TxOut.Tell (Indication.PAbort p) ∷ []) (record d { arcs = without_arc d.arcs p }) | Some c ↦ transact who (TxEvent.Lost p) (record d { arcs = without_arc d.arcs p }) ]) at
 
 -- a node that has an association may lose one
-pub loses_one : (who : Who) (d : Digest) (a : Arc) (arcs : List Arc) → d.arcs ≡ a ∷ arcs → ((p : ℕ) (x : Arc) → find_arc d.arcs p ≡ Some x → is_idle x.link ≡ false) → is_no_node d ≡ false → d.drawn ≤ greatest → IsLate d → MayBeCut who d
+pub loses_one : (who : Who) (d : Digest) (a : Arc) (arcs : List Arc) → d.arcs ≡ a ∷ arcs → ((p : ℕ) (x : Arc) → find_arc d.arcs p ≡ Some x → is_idle x.link ≡ false) → is_no_node d ≡ false → d.drawn ≤ greatest → IsLate d → Waits d → MayBeCut d
     → (p : ℕ) × Cut who d (Event.Lose p)
-loses_one who d a arcs are linked node h late may = go d.current refl
+loses_one who d a arcs are linked node h late waits may = go d.current refl
   where
     self : (a.peer.node == a.peer.node) ≡ true
     self = grind (arith, nat_tests)
@@ -615,4 +511,4 @@ loses_one who d a arcs are linked node h late may = go d.current refl
     go (Some c) i = (k.peer, cut_by who d (Event.Lose k.peer) _ (lose_some who d c k.peer i) (lose_plain who d k.peer k.arc k.found (linked k.peer k.arc k.found) node) (lose_held who d c k.peer k.arc k.found h i (late c i) may k.so))
       where
         k : Losable who d.arcs c
-        k = subst (λ (l : List Arc). Losable who l c) (sym are) (losable who a arcs c (subst (λ (l : List Arc). may_roll_back (seen who l c) ≡ false) are (may.waits c i)))
+        k = subst (λ (l : List Arc). Losable who l c) (sym are) (losable who a arcs c (λ rolls owes. subst (λ (l : List Arc). WaitsFor l c) are (waits c i rolls owes)))

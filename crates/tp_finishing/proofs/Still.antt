@@ -130,7 +130,7 @@ pub record Turned (who : Who) (f : TxEvent) (d : Digest) (c : Current) : Type 0 
   pub next : (transact who f d).next ≡ left_by who f d c
   pub numbers : d.drawn ≤ greatest → needs_numbers (transact who f d) ≡ false
 
-enough : (n : ℕ) (b : Bool) → n ≤ greatest → b ≡ false → (nat_lt greatest n || b) ≡ false
+pub enough : (n : ℕ) (b : Bool) → n ≤ greatest → b ≡ false → (nat_lt greatest n || b) ≡ false
 enough n b h i = grind (arith, nat_tests, h, i)
 
 quiet_at : (who : Who) (f : TxEvent) (d : Digest) (c : Current) → IsPut f (seen who [] c) → Turned who f (record d { arcs = []; current = Some c }) c

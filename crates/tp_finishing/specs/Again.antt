@@ -1,15 +1,18 @@
 -- What a stop may have swallowed is said again. A process stops, and of what it last gave out nobody knows how much came through. Once
 -- the site has started on its log, a node that is declared and retries says again what its users and peers have to hear of each
--- transaction that its log still has. What was active or rolled back before the stop is over, and is asked for in vain.
+-- transaction that its log still has. What was active or rolled back before the stop is over, and a user that still speaks of it is told
+-- so.
 use Rattle.std.specs.Prelude.{◌≡◌, ◌||◌, Bool, true, false, Some, None, List, [], ◌∷◌}
 use Rattle.tp_names.specs.declared.identifiers.Aaid.{Aaid}
 use Rattle.tp_names.specs.declared.identifiers.Addr.{Addr}
 use Rattle.tp_names.specs.declared.identifiers.BranchId.{BranchId}
 use Rattle.tp_names.specs.declared.children.Child.{Child}
+use Rattle.tp_records.specs.declared.request.Request.{Request}
 use Rattle.tp_records.specs.declared.indication.Indication.{Indication}
 use Rattle.tp_records.specs.declared.peer.PeerRecord.{PeerRecord}
 use Rattle.tp_records.specs.declared.peer.RecState.{RecState}
 use Rattle.tp_model.specs.declared.recovery.Kept.{Kept}
+use Rattle.tp_model.specs.declared.refusal.Refusal.{Refusal}
 use Rattle.tp_model.specs.Parts.{Event, Out, Tell, Under, Branch, Current}
 use Rattle.tp_model.specs.Dialogues.{is_active, is_ready, is_committing, is_rolling}
 use Rattle.tp_model.specs.Transactions.{aaid_of}
@@ -31,6 +34,14 @@ abbrev pub tells_to_commit : List Out → Bool
 tells_to_commit [] = false
 tells_to_commit (Tell Indication.Commit ∷ outs) = true
 tells_to_commit (_ ∷ outs) = tells_to_commit outs
+
+-- the requests that speak of the transaction as a whole
+abbrev pub speaks_of_whole : Request → Bool
+speaks_of_whole Request.Commit = true
+speaks_of_whole Request.Done = true
+speaks_of_whole Request.Rollback = true
+speaks_of_whole Request.Unchanged = true
+speaks_of_whole _ = false
 
 -- each branch that did not leave is ordered to commit; so is each that is owed
 abbrev pub AreOrdered : List Out → Aaid → List Branch → Type 0
@@ -63,6 +74,8 @@ pub record SaysAgain (x : Node) : Type 0 where
   pub taken : says_nothing (says_again x) ≡ false → refuse x.origin (restarted x).history Event.Retry ≡ None
   -- it was active or rolled back: nothing is current any more
   pub gone : (c : Current) → (known_of x).current ≡ Some c → (is_active c.phase || is_rolling c.phase) ≡ true → (known_of (restarted x)).current ≡ None
+  -- nothing is current: its user hears so by each such request
+  pub heard : (known_of (restarted x)).current ≡ None → (r : Request) → speaks_of_whole r ≡ true → refuse x.origin (restarted x).history (Event.Do r) ≡ Some Refusal.NoTransaction
 
 abbrev pub LostIsSaidAgain : World → Type 0
 LostIsSaidAgain w = (x : Node) → IsIn w x → SaysAgain x

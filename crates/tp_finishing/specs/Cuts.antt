@@ -1,15 +1,14 @@
 -- A world may be made quiet without a stop: each association is lost, users that owe it say that they have finished, and those of
 -- transactions that are still active ask for rollback.
-use Rattle.std.specs.Prelude.{ℕ, suc, ◌≡◌, ◌+◌, ◌||◌, true, false, Some, List, [], ◌∷◌, length, if◌then◌else◌}
+use Rattle.std.specs.Prelude.{ℕ, suc, ◌≡◌, ◌+◌, ◌||◌, true, Some, List, [], ◌∷◌, length, if◌then◌else◌}
 use Rattle.tp_model.specs.declared.line.LineRequest.{LineRequest}
 use Rattle.tp_model.specs.declared.line.Action.{Action}
-use Rattle.tp_model.specs.Parts.{Who, Current, Digest}
+use Rattle.tp_model.specs.Parts.{Current, Digest}
 use Rattle.tp_model.specs.Dialogues.{is_active, is_rolling}
-use Rattle.tp_model.specs.Node.{phase_of, seen}
+use Rattle.tp_model.specs.Node.{phase_of}
 use Rattle.tp_model.specs.World.{World, Node}
 use Rattle.tp_model.specs.Happenings.{Happening, Does, run}
 use Rattle.tp_model.specs.Promises.{IsIn}
-use Rattle.tp_steps.specs.Undone.{may_roll_back}
 use Rattle.tp_finishing.specs.Doubt.{known_of, HaveNumbers}
 use Rattle.tp_finishing.specs.Quiet.{Quietens}
 
@@ -24,13 +23,12 @@ IsCut _ = ⊥
 -- ---- where they do
 
 -- An active transaction has a number left on each association for a word to each branch and one to the superior: its rollback is
--- said there. One that rolls back, and whose user has finished, waits for a peer that is still linked.
-pub record MayBeCut (who : Who) (d : Digest) : Type 0 where
-  pub numbers : (c : Current) → d.current ≡ Some c → is_active c.phase ≡ true → HaveNumbers (suc (length c.branches)) d.arcs
-  pub waits : (c : Current) → d.current ≡ Some c → may_roll_back (seen who d.arcs c) ≡ false
+-- said there.
+abbrev pub MayBeCut : Digest → Type 0
+MayBeCut d = (c : Current) → d.current ≡ Some c → is_active c.phase ≡ true → HaveNumbers (suc (length c.branches)) d.arcs
 
 abbrev pub AllMayBeCut : World → Type 0
-AllMayBeCut w = (x : Node) → IsIn w x → MayBeCut x.origin.who (known_of x)
+AllMayBeCut w = (x : Node) → IsIn w x → MayBeCut (known_of x)
 
 -- ---- how many: one for each association, and one for a transaction that is active or rolls back
 

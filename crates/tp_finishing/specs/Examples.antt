@@ -1,15 +1,22 @@
 -- Runs that recovery ends: an order that was lost, with both ends up, and after a stop of both sites; and a tree in which two nodes decided
--- by themselves and one was given up, with a stop between two records of the root.
-use Rattle.std.specs.Prelude.{ℕ, ◌&&◌, Bool, true, false, Option, Some, None, List, [], ◌∷◌, ◌++◌, reverse, codes, length}
+-- by themselves and one was given up, with a stop between two records of the root; and what a rollback waits for.
+use Rattle.std.specs.Prelude.{ℕ, ◌&&◌, not, Bool, true, false, Option, Some, None, List, [], ◌∷◌, ◌++◌, reverse, codes, length}
 use Rattle.tp_names.specs.declared.outcome.Outcome.{Outcome}
+use Rattle.tp_records.specs.declared.request.Request.{Request}
+use Rattle.tp_records.specs.declared.peer.PeerRecord.{PeerRecord}
 use Rattle.tp_model.specs.declared.arc.Phase.{Phase}
 use Rattle.tp_model.specs.declared.line.Action.{Action}
 use Rattle.tp_model.specs.declared.line.LineRequest.{LineRequest}
-use Rattle.tp_model.specs.Parts.{Out, Digest}
+use Rattle.tp_model.specs.declared.refusal.Refusal.{Refusal}
+use Rattle.tp_model.specs.Parts.{Event, Out, Send, Digest}
+use Rattle.tp_model.specs.History.{refuse}
+use Rattle.tp_model.specs.Dialogues.{is_rolling}
+use Rattle.tp_model.specs.Arcs.{is_live_with_peer}
 use Rattle.tp_model.specs.Node.{phase_of}
 use Rattle.tp_model.specs.World.{Node, find_node}
-use Rattle.tp_model.specs.Happenings.{Happening, Declare, Does, Crash, run}
+use Rattle.tp_model.specs.Happenings.{Happening, Declare, Does, Crash, restarted, run}
 use Rattle.tp_finishing.specs.Doubt.{known_of}
+use Rattle.tp_finishing.specs.Waiting.{is_awaited}
 use Rattle.tp_finishing.specs.Finishing.{most_lines}
 use Rattle.tp_finishing.specs.Cuts.{most_cuts}
 use Rattle.tp_finishing.specs.Again.{says_again}
@@ -122,6 +129,24 @@ recovery =
 abbrev pub first_heard : List Happening
 first_heard = all_stopped ++ (Does (Action.Retry 2) ∷ Does (Action.Again 13) ∷ Does (Action.Again 14) ∷ [])
 
+-- a root asks for rollback: its user has finished, and it waits for its branch
+abbrev pub rolled_back : List Happening
+rolled_back =
+    Declare 1 (codes "a") None
+    ∷ Declare 2 (codes "b") (Some 1)
+    ∷ Does (Action.Do 1 (LineRequest.BeginDialogue 2 41))
+    ∷ Does (Action.Again 1)
+    ∷ Does (Action.Do 2 (LineRequest.Accept 41))
+    ∷ Does (Action.Again 2)
+    ∷ Does (Action.Do 1 (LineRequest.BeginTransaction 2))
+    ∷ Does (Action.Again 3)
+    ∷ Does (Action.Do 1 LineRequest.Rollback)
+    ∷ []
+
+-- the branch hears it, and its association is lost before its user has finished: it waits for nobody but its user
+abbrev pub alone : List Happening
+alone = rolled_back ++ (Does (Action.Again 4) ∷ Does (Action.Lose 2 1) ∷ [])
+
 -- ---- what is asked of them
 
 abbrev pub node_after : List Happening → ℕ → Option Node
@@ -129,6 +154,14 @@ node_after es n = find_node (run (reverse es)).nodes n
 
 abbrev pub phase_after : List Happening → ℕ → Option Phase
 phase_after es n = elim (node_after es n) [ None ↦ None | Some x ↦ Some (phase_of (known_of x)) ]
+
+-- the node rolls back, and its user has finished
+abbrev pub has_rolled_after : List Happening → ℕ → Bool
+has_rolled_after es n = elim (node_after es n) [ None ↦ false | Some x ↦ elim (known_of x).current [ None ↦ false | Some c ↦ is_rolling c.phase && not c.owes ] ]
+
+-- it waits for that peer, which is linked
+abbrev pub waits_after : List Happening → ℕ → ℕ → Bool
+waits_after es n p = elim (node_after es n) [ None ↦ false | Some x ↦ elim (known_of x).current [ None ↦ false | Some c ↦ is_awaited c p && is_live_with_peer (known_of x).arcs p ] ]
 
 abbrev pub arcs_after : List Happening → ℕ → ℕ
 arcs_after es n = elim (node_after es n) [ None ↦ 0 | Some x ↦ length (known_of x).arcs ]
@@ -151,3 +184,13 @@ cuts_after es = most_cuts (run (reverse es)).nodes
 -- what the node would say where its site stopped then
 abbrev pub said_again_after : List Happening → ℕ → List Out
 said_again_after es n = elim (node_after es n) [ None ↦ [] | Some x ↦ says_again x ]
+
+-- it asks its superior
+abbrev pub asks_superior : List Out → Bool
+asks_superior [] = false
+asks_superior (Send a (PeerRecord.RecReady t b) ∷ outs) = true
+asks_superior (o ∷ outs) = asks_superior outs
+
+-- and what its user would be told then
+abbrev pub refused_again_after : List Happening → ℕ → Request → Option Refusal
+refused_again_after es n r = elim (node_after es n) [ None ↦ None | Some x ↦ refuse x.origin (restarted x).history (Event.Do r) ]

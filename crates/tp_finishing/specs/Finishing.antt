@@ -16,6 +16,7 @@ use Rattle.tp_model.specs.Happenings.{Happening, Does, run}
 use Rattle.tp_model.specs.Promises.{IsIn}
 use Rattle.tp_finishing.specs.Doubt.{known_of}
 use Rattle.tp_finishing.specs.Quiet.{IsQuiet, Each, IsStop}
+use Rattle.tp_finishing.specs.Cuts.{IsCut, AllMayBeCut, most_cuts}
 
 -- ---- lines of recovery
 
@@ -83,12 +84,17 @@ pub record Finishes (es more : List Happening) : Type 0 where
 abbrev pub NoRunIsStuck : Type 0
 NoRunIsStuck = (es : List Happening) → IsQuiet (run es) → (more : List Happening) × Finishes es more
 
--- ---- from every run: each site stops once, and then recovery alone ends all
+-- ---- from every run: after some lines of another kind, at most so many, recovery alone ends all
 
-pub record EndsBy (es stops more : List Happening) : Type 0 where
-  pub stopped : Each IsStop stops
-  pub few : length stops ≤ length (run es).sites
-  pub finishes : Finishes (stops ++ es) more
+pub record EndsBy (P : Happening → Type 0) (most : ℕ) (es first more : List Happening) : Type 0 where
+  pub by : Each P first
+  pub few : length first ≤ most
+  pub finishes : Finishes (first ++ es) more
 
+-- each site stops once
 abbrev pub EveryRunEnds : Type 0
-EveryRunEnds = (es : List Happening) → (stops : List Happening) × (more : List Happening) × EndsBy es stops more
+EveryRunEnds = (es : List Happening) → (stops : List Happening) × (more : List Happening) × EndsBy IsStop (length (run es).sites) es stops more
+
+-- or each association is cut, where there are numbers left to say so
+abbrev pub CutsEnd : Type 0
+CutsEnd = (es : List Happening) → AllMayBeCut (run es) → (cuts : List Happening) × (more : List Happening) × EndsBy IsCut (most_cuts (run es).nodes) es cuts more

@@ -7,8 +7,9 @@ pub mod examples;
 
 ghost use Rattle.tp_finishing.specs.Doubt.{DoubtEnds};
 ghost use Rattle.tp_finishing.specs.Quiet.{StopsQuieten};
+ghost use Rattle.tp_finishing.specs.Waiting.{RollbacksWait};
 ghost use Rattle.tp_finishing.specs.Cuts.{CutsQuieten};
-ghost use Rattle.tp_finishing.specs.Finishing.{OverIsClosed, NoRunIsStuck, EveryRunEnds};
+ghost use Rattle.tp_finishing.specs.Finishing.{OverIsClosed, NoRunIsStuck, EveryRunEnds, CutsEnd};
 ghost use Rattle.tp_finishing.specs.Again.{LostIsSaidAgain};
 ghost use Rattle.std.specs.Prelude.{List};
 ghost use Rattle.tp_model.specs.Happenings.{Happening, run};
@@ -30,15 +31,22 @@ pub fn stops_quieten()
     ensures { StopsQuieten }
 {}
 
+// Promise 23.8 [tp_finishing/specs/Waiting.antt]: A transaction that rolls back, and whose user has
+//   finished, waits for a peer that is still linked: for a branch that has neither rolled back nor
+//   left, or for its superior, which has not said that it rolls back
+/// In every run, a transaction that rolls back, and whose user has finished, waits for a peer that is still linked: a branch that has
+/// neither rolled back nor left, or its superior, which has not said that it rolls back.
+pub fn rollbacks_wait()
+    ensures { RollbacksWait }
+{}
+
 // Promise 23.5 [tp_finishing/specs/Cuts.antt]: Cuts do what stops do: the loss of each association,
 //   users that say that they have finished, and users of active transactions that ask for rollback;
-//   one for each association, and one for each transaction that is active or rolls back. Asked of
-//   the run: an active transaction has a number left on each live association for a record to each
-//   branch and one more, and one that rolls back, whose user has finished, waits for a peer that is
-//   still linked
-/// From every run, where each active transaction has numbers left for its rollback and each rollback waits for a peer or for its user,
-/// so many cuts lead there too: the loss of each association, users that say that they have finished, and users of active
-/// transactions that ask for rollback.
+//   one for each association, and one for each transaction that is active or rolls back. Nothing is
+//   asked of the run but numbers: an active transaction has one left on each live association for a
+//   record to each branch and one more
+/// From every run, where each active transaction has numbers left for its rollback, so many cuts lead there too: the loss of each
+/// association, users that say that they have finished, and users of active transactions that ask for rollback.
 pub fn cuts_quieten()
     ensures { CutsQuieten }
 {}
@@ -67,23 +75,28 @@ pub fn no_run_is_stuck()
     ensures { NoRunIsStuck }
 {}
 
-// Promise 23.4 [tp_finishing/specs/Finishing.antt]: **So every run may be ended**: by one stop of
-//   each site at most, and then by so many lines of recovery, counted in the world that the stops
-//   leave
 /// So from every run, whatever happened in it, one stop of each site and then so many lines of recovery end every transaction, and
-/// no tree is open then.
+/// no tree is open then. So do cuts in place of the stops, where each active transaction has numbers left for its rollback.
 pub fn every_run_ends()
-    ensures { EveryRunEnds }
+    // Promise 23.4 [tp_finishing/specs/Finishing.antt]: **So every run may be ended**: by one stop
+    //   of each site at most, and then by so many lines of recovery, counted in the world that the
+    //   stops leave
+    ensures stops { EveryRunEnds }
+    // Promise 23.9 [tp_finishing/specs/Finishing.antt]: Or by so many cuts (23.5) in place of the
+    //   stops, where there are numbers left for them
+    ensures cuts { CutsEnd }
 {}
 
 // Promise 23.7 [tp_finishing/specs/Again.antt]: **What a stop may have swallowed is said again**: a
 //   node whose site stops and starts, that is declared and retries, tells its user to commit and
-//   orders its branches to, where it commits; asks its superior, where it is in doubt; of each
-//   commitment that it keeps it orders the branches that are owed, and reports to its superior.
-//   What was active or rolled back is over
+//   orders its branches to that did not leave, where it commits; asks its superior, where it is in
+//   doubt; of each commitment that it keeps it orders the branches that are owed, and reports to its
+//   superior. What was active or rolled back is over. Where nothing is current, a user that asks to commit or
+//   to roll back, or says that it changed nothing or has finished, is refused with `NoTransaction`
 /// In every run, what a stop may have swallowed is said again: a node whose site stops and starts, which is declared and retries, tells
-/// its user to commit and orders its branches to, where it commits; asks its superior, where it is in doubt; and of each commitment that it
-/// keeps orders the branches that it owes, and reports to its superior. What was active or rolled back is over.
+/// its user to commit and orders its branches to that did not leave, where it commits; asks its superior, where it is in doubt; and of each
+/// commitment that it keeps orders the branches that it owes, and reports to its superior. What was active or rolled back is over, and is not
+/// told again: a user that still speaks of it is refused with `NoTransaction`.
 pub fn what_was_lost_is_said_again()
     ensures { (es : List Happening) → LostIsSaidAgain (run es) }
 {}

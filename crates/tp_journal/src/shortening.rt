@@ -12,6 +12,7 @@ use std::alloc::Global;
 use tp_logrec::LogRec;
 use tp_names::NoMemory;
 
+// Promise 2.15, part 3
 /// The greatest Boot, and then, for each key that is not at its end, in the order of the first records since its last End, its
 /// Ready, its Heuristic, its Commit and its last Damage. The brief of no records is no records.
 #[tactic(auto, using(crate::proofs::BegunLives::brief_of_lives))]

@@ -23,6 +23,7 @@ use Rattle.tp_report_causes.proofs.Causes.{reports_have_causes}
 use Rattle.tp_report_causes.proofs.Alarms.{no_false_alarm}
 use Rattle.tp_report_causes.proofs.Commitments.{commitments_apart}
 use Rattle.tp_report_causes.proofs.Rollbacks.{rollbacks_apart}
+use Rattle.tp_finishing.proofs.WaitingLaw.{rollbacks_wait}
 use Rattle.tp_finishing.proofs.Closed.{over_is_closed}
 use Rattle.tp_finishing.proofs.Again.{lost_is_said_again}
 use Rattle.tp_laws.specs.Whole.{AllPromised}
@@ -68,6 +69,7 @@ all_promised es = record {
   no_false_alarm = no_false_alarm es;
   commitments_apart = commitments_apart es;
   rollbacks_apart = rollbacks_apart es;
+  rollbacks_wait = rollbacks_wait es;
   over_is_closed = over_is_closed es;
   said_again = lost_is_said_again es;
 }

@@ -14,6 +14,7 @@ use Rattle.tp_outcomes.specs.Starting.{ClosesOnce}
 use Rattle.tp_report_causes.specs.Causes.{ReportsHaveCauses}
 use Rattle.tp_report_causes.specs.Alarms.{NoFalseAlarm}
 use Rattle.tp_report_causes.specs.Apart.{CommitmentsAreApart, RollbacksAreApart}
+use Rattle.tp_finishing.specs.Waiting.{AllWait}
 use Rattle.tp_finishing.specs.Finishing.{IsOver, IsClosed}
 use Rattle.tp_finishing.specs.Again.{LostIsSaidAgain}
 
@@ -51,6 +52,8 @@ pub record AllPromised (w : World) : Type 0 where
   -- and behind mix stands a decision of the other outcome, behind hazard a branch given up
   pub commitments_apart : CommitmentsAreApart w
   pub rollbacks_apart : RollbacksAreApart w
-  -- no tree is open where no node has a transaction; and what a stop may have swallowed is said again
+  -- a rollback whose user has finished waits for a peer that is linked; no tree is open where no node has a transaction; and what a stop
+  -- may have swallowed is said again
+  pub rollbacks_wait : AllWait w
   pub over_is_closed : IsOver w → IsClosed w
   pub said_again : LostIsSaidAgain w

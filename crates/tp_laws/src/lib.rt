@@ -29,7 +29,7 @@ ghost use Rattle.tp_laws.specs.Whole.{AllPromised};
 ghost use Rattle.tp_finishing.specs.Doubt.{DoubtEnds};
 ghost use Rattle.tp_finishing.specs.Quiet.{StopsQuieten};
 ghost use Rattle.tp_finishing.specs.Cuts.{CutsQuieten};
-ghost use Rattle.tp_finishing.specs.Finishing.{OverIsClosed, NoRunIsStuck, EveryRunEnds};
+ghost use Rattle.tp_finishing.specs.Finishing.{OverIsClosed, NoRunIsStuck, EveryRunEnds, CutsEnd};
 ghost use Rattle.tp_finishing.specs.Again.{LostIsSaidAgain};
 ghost use Rattle.tp_laws.specs.Deployed.{DeploymentsKeep, DeploymentsStay};
 
@@ -206,12 +206,14 @@ pub fn doubt_ends()
 {}
 
 /// No run is stuck. Whatever happened in it, one stop of each site, or so many cuts of associations, leave no association and no node
-/// that is active or rolls back; from there, so many lines of recovery alone end every transaction; and then no tree is open.
+/// that is active or rolls back; from there, so many lines of recovery alone end every transaction; and then no tree is open. Cuts ask for
+/// numbers that are left, and nothing else.
 pub fn no_run_is_stuck()
     ensures stops { StopsQuieten }
     ensures cuts { CutsQuieten }
     ensures recovery { NoRunIsStuck }
     ensures ends { EveryRunEnds }
+    ensures ends_by_cuts { CutsEnd }
     ensures closed { OverIsClosed }
 {}
 

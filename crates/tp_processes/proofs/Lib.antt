@@ -1,3 +1,6 @@
+mod AnyVersion
+mod Room
+pub mod AsTwo
 mod Opening
 mod Votes
 pub mod Parts

@@ -1,5 +1,5 @@
 -- What a process writes to a node, the node that it is from has said.
-use Rattle.std.proofs.Common.{◌≡◌, ◌==◌, ◌⊎◌, inl, inr, ℕ, Bool, true, false, refl, ap, sym, ◌∙◌, subst, arith, Option, Some, None, List, [], ◌∷◌, ◌++◌, append-nil}
+use Rattle.std.proofs.Common.{◌≡◌, ◌==◌, ◌⊎◌, inl, inr, ℕ, Bool, true, false, refl, ap, sym, ◌∙◌, subst, arith, Option, Some, None, List, [], ◌∷◌, ◌++◌}
 use Rattle.std.proofs.lemmas.Bool.Decides.{nat_tests}
 use Rattle.tp_names.specs.declared.identifiers.Addr.{Addr}
 use Rattle.tp_records.specs.declared.peer.PeerRecord.{PeerRecord}
@@ -8,13 +8,13 @@ use Rattle.tp_records.specs.declared.body.Output.{Output}
 use Rattle.tp_records.specs.Bodies.{peer_bytes}
 use Rattle.tp_texts.specs.PeerTexts.{CarriesFew}
 use Rattle.tp_model.specs.Parts.{Event, Out, Tell, Send, Entry}
-use Rattle.tp_model.specs.History.{crashed}
 use Rattle.tp_model.specs.NodeRun.{Opening, Past, history_of, AskedEvent, Refuses, Is, asked, refusal_of, outputs_of, entry_outputs, NodeRun, with_entry, run_from}
 use Rattle.tp_histories.specs.Histories.{IsSentIn, HasSent}
 use Rattle.tp_runs.proofs.Lanes.{chosen, past_with, given, run_step}
 use Rattle.tp_encodable.specs.Sizes.{AreShort}
 use Rattle.tp_encodable.proofs.Read.{entry_short}
 use Rattle.tp_site_logs.specs.Lives.{Life, opening_after, history_in, history_over}
+use Rattle.tp_deployments.proofs.Given.{before, over_in}
 use Rattle.tp_processes.specs.Octets.{IsOneOf, IsPutIn, IsPut}
 
 -- ---- a history that goes on
@@ -158,15 +158,6 @@ pub site_is : (s : List ℕ) (life : Life) → (opening_after s life).site ≡ s
 site_is s [] = refl
 site_is s (gs ∷ life) = refl
 
--- the whole history, by that of the last process
-abbrev pub before : List ℕ → Life → ℕ → List Entry
-before s [] n = []
-before s (hs ∷ life) n = crashed (history_over s (hs ∷ life) n)
-
-pub over_last : (s : List ℕ) (gs : List Given) (life : Life) (n : ℕ) → history_over s (gs ∷ life) n ≡ history_in s life gs n ++ before s life n
-over_last s gs [] n = sym (append-nil (history_in s [] gs n))
-over_last s gs (hs ∷ life) n = refl
-
 pub record IsSaidOver (s : List ℕ) (life : Life) (from to : Addr) (octets : List ℕ) : Type 0 where
   pub rec : PeerRecord
   pub sent : HasSent (history_over s life from.node) to rec
@@ -178,7 +169,7 @@ said_over s (gs ∷ life) from to octets (inl now) =
     let k : IsSaid (opening_after s life) (run_from (opening_after s life) [] gs).pasts from to octets = put_is_said (opening_after s life) from to octets gs [] now in
     record {
       rec = k.rec;
-      sent = subst (λ (h : List Entry). HasSent h to k.rec) (sym (over_last s gs life from.node)) (sent_front (history_in s life gs from.node) (before s life from.node) to k.rec k.sent);
+      sent = subst (λ (h : List Entry). HasSent h to k.rec) (sym (over_in s gs life from.node)) (sent_front (history_in s life gs from.node) (before s life from.node) to k.rec k.sent);
       is = k.is;
     }
 said_over s (gs ∷ []) from to octets (inr old) = absurd old

@@ -17,9 +17,9 @@ logged_over s (gs ∷ life) n = logged s gs life n
 
 logs_tell : (by : List ℕ → List Process) (ds : List Deed) → AreDeedsOf by ds → LogsTell by ds
 logs_tell by ds k s p ps is whole =
-    let life : Life = life_of (p ∷ ps) in
+    let life : Life = life_of s (p ∷ ps) in
     let are : AreProcesses s (p ∷ ps) = subst (AreProcesses s) is (k.processes s) in
-    let same : life ≡ life_after ds s = ap life_of (sym is) ∙ sym (k.deeds s) in
+    let same : life ≡ life_after ds s = ap (life_of s) (sym is) ∙ sym (k.deeds s) in
     ((opening_after s life).records, leave_it_whole s p ps are whole, λ n. logged_over s life n ∙ ap (λ (l : Life). reverse (records (first_origin s n) (history_over s l n))) same)
 
 pub keep : ProcessesKeep

@@ -17,7 +17,7 @@ use Rattle.tp_processes.specs.Processes.{Process, AreProcesses, AreWhole, life_o
 -- at each site the deeds are what happened in its processes
 pub record AreDeedsOf (by : List ℕ → List Process) (ds : List Deed) : Type 0 where
   pub processes : (s : List ℕ) → AreProcesses s (by s)
-  pub deeds : (s : List ℕ) → life_after ds s ≡ life_of (by s)
+  pub deeds : (s : List ℕ) → life_after ds s ≡ life_of s (by s)
 
 -- The log that the newest process of a site left has of each number what its node forced in all that happened to it, in that order, where
 -- it was never made short.

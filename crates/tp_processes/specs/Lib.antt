@@ -1,3 +1,4 @@
+pub mod Versions
 pub mod Processes
 pub mod Deployed
 pub mod Octets

@@ -48,11 +48,6 @@ IsHeld (PeerRecord.RecCommit a b) = IsHeldAaid a × IsHeldBranch b
 IsHeld (PeerRecord.RecReply a b s) = IsHeldAaid a × IsHeldBranch b
 IsHeld (PeerRecord.Forget a b) = IsHeldAaid a × IsHeldBranch b
 
--- whenever it is, what was said so far is of such records
-abbrev pub AreHeld : List Deed → Type 0
-AreHeld [] = Unit {0}
-AreHeld (d ∷ ds) = ((a to : Addr) (r : PeerRecord) → HasSent (history_at ds a) to r → IsHeld r) × AreHeld ds
-
 -- ---- what processes write
 
 abbrev pub IsOneOf : Output → List Output → Type 0
@@ -70,9 +65,14 @@ IsPut x s (gs ∷ life) = IsPutIn x (node_run (opening_after s life) gs).outputs
 
 -- ---- a deployment, with a carrier of octets
 
+-- what the node has said in these octets, to that address, is of such records
+abbrev pub AreOfHeld : List Deed → Addr → Addr → List ℕ → Type 0
+AreOfHeld ds from to octets = (r : PeerRecord) → HasSent (history_at ds from) to r → octets ≡ peer_bytes r → IsHeld r
+
 -- **the carrier**: octets that arrive are an output, for that address, of a process of the site of the node that they are said to be from
 abbrev pub AreCarried : List Place → List Deed → Given → Type 0
-AreCarried qs ds (Given.Arrive from to octets) = IsThere qs from × IsPut (Output.Send from to octets) from.site (life_after ds from.site)
+AreCarried qs ds (Given.Arrive from to octets) =
+    IsThere qs from × IsPut (Output.Send from to octets) from.site (life_after ds from.site) × AreOfHeld ds from to octets
 AreCarried qs ds _ = Unit {0}
 
 -- asked, as of records, of an event that a node takes, and of nothing else
@@ -104,4 +104,4 @@ SaidIsReadBack = (ds : List Deed) (a to : Addr) (r : PeerRecord) → HasSent (hi
 
 -- so a carrier of octets is one of records
 abbrev pub OctetsCarryRecords : Type 0
-OctetsCarryRecords = (qs : List Place) (ds : List Deed) → IsDeploymentOfOctets qs ds → AreHeld ds → IsDeployment qs ds
+OctetsCarryRecords = (qs : List Place) (ds : List Deed) → IsDeploymentOfOctets qs ds → IsDeployment qs ds

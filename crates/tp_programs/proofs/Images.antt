@@ -23,62 +23,59 @@ none_given [] h = refl
 none_given (g ∷ gs) h = absurd (cc (h))
 
 -- it never began
-unbegun : (name : List ℕ) (r : Ran) (listed : List Placed) (left : List ℕ) → IsStart r listed → IsLog left (recs listed) → IsStopped name (seen r.told) [] left
-unbegun name r listed left s log = record {
+unbegun : (name : List ℕ) (r : Ran) (version : LogVersion) (listed : List Placed) (left : List ℕ) → IsStart r version listed → IsLog left (recs listed) → IsStopped name (seen r.told) [] left
+unbegun name r version listed left s log = record {
   process = record { found = seen r.told; left = left; begun = false; given = [] };
-  is = record { small = s.small; listed = listed; opens = s.opens; leaves = log };
+  is = record { small = s.small; version = version; listed = listed; opens = s.opens; leaves = log };
   from = refl;
   to = refl;
   more = [];
   given = refl;
 }
 
-begun : (name : List ℕ) (r : Ran) (listed : List Placed) (events rest : List Given) (left : List ℕ) → IsStart r listed → IsLog left (log_after (on name LogVersion.Two (recs listed)) (events ++ rest)) → IsStopped name (seen r.told) events left
-begun name r listed events rest left s log = record {
+begun : (name : List ℕ) (r : Ran) (version : LogVersion) (listed : List Placed) (events rest : List Given) (left : List ℕ) → IsStart r version listed → IsLog left (log_after (on name version (recs listed)) (events ++ rest)) → IsStopped name (seen r.told) events left
+begun name r version listed events rest left s log = record {
   process = record { found = seen r.told; left = left; begun = true; given = events ++ rest };
-  is = record { small = s.small; listed = listed; opens = s.opens; leaves = log };
+  is = record { small = s.small; version = version; listed = listed; opens = s.opens; leaves = log };
   from = refl;
   to = refl;
   more = rest;
   given = refl;
 }
 
-image : (name : List ℕ) (r : Ran) (listed : List Placed) (events next : List Given) (left : List ℕ) → IsStart r listed → IsNodeImage (on name LogVersion.Two (recs listed)) (events ++ next) (length events) left → IsStopped name (seen r.told) events left
-image name r listed events next left s (inl k) =
+image : (name : List ℕ) (r : Ran) (version : LogVersion) (listed : List Placed) (events next : List Given) (left : List ℕ) → IsStart r version listed → IsNodeImage (on name version (recs listed)) (events ++ next) (length events) left → IsStopped name (seen r.told) events left
+image name r version listed events next left s (inl k) =
     let rest : List Given = taken (k.0 - length events) next in
     let is : taken k.0 (events ++ next) ≡ events ++ rest = taken_past k.0 events next k.1 in
-    begun name r listed events rest left s (subst (λ (gs : List Given). IsLog left (log_after (on name LogVersion.Two (recs listed)) gs)) is k.3)
-image name r listed events next left s (inr k) =
-    subst (λ (gs : List Given). IsStopped name (seen r.told) gs left) (sym (none_given events k.0)) (unbegun name r listed left s k.1)
+    begun name r version listed events rest left s (subst (λ (gs : List Given). IsLog left (log_after (on name version (recs listed)) gs)) is k.3)
+image name r version listed events next left s (inr k) =
+    subst (λ (gs : List Given). IsStopped name (seen r.told) gs left) (sym (none_given events k.0)) (unbegun name r version listed left s k.1)
 
 -- the log that was opened is the one that is there
-abbrev pub IsOpening : List ℕ → LogVersion → List Placed → List Placed → Type 0
-IsOpening name version list listed = opening name version list ≡ on name LogVersion.Two (recs listed)
-
-pub one_opening : (name : List ℕ) (r : Ran) (version : LogVersion) (list listed : List Placed) → IsStart r listed → opened (seen r.told) ≡ Has version list → IsOpening name version list listed
-one_opening name r version list listed s is =
-    let same : Has version list ≡ Has LogVersion.Two listed = sym is ∙ s.opens in
-    let v : version ≡ LogVersion.Two = cc (same) in
+pub one_opening : (name : List ℕ) (file : List ℕ) (ver version : LogVersion) (list listed : List Placed) → opened file ≡ Has version listed → opened file ≡ Has ver list → opening name ver list ≡ on name version (recs listed)
+one_opening name file ver version list listed opens is =
+    let same : Has ver list ≡ Has version listed = sym is ∙ opens in
+    let v : ver ≡ version = cc (same) in
     let l : list ≡ listed = cc (same) in
-    ap (λ (ver : LogVersion). opening name ver list) v ∙ ap (λ (ps : List Placed). opening name LogVersion.Two ps) l
+    ap (λ (x : LogVersion). opening name x list) v ∙ ap (λ (ps : List Placed). opening name version ps) l
 
-pub foreign_clash : (r : Ran) (at : ℕ) (listed : List Placed) → IsStart r listed → opened (seen r.told) ≡ Is_foreign at → ⊥
-foreign_clash r at listed s is = let clash : Is_foreign at ≡ Has LogVersion.Two listed = sym is ∙ s.opens in cc (clash)
+pub foreign_clash : (file : List ℕ) (at : ℕ) (version : LogVersion) (listed : List Placed) → opened file ≡ Has version listed → opened file ≡ Is_foreign at → ⊥
+foreign_clash file at version listed opens is = let clash : Is_foreign at ≡ Has version listed = sym is ∙ opens in cc (clash)
 
-pub stops_at : (name : List ℕ) (r : Ran) (version : LogVersion) (list listed : List Placed) (events next : List Given) → IsStart r listed → opened (seen r.told) ≡ Has version list
-    → LeavesNow (IsNodeImage (opening name version list) (events ++ next) (length events)) r.story → Stops name r events
-stops_at name r version list listed events next s is last =
-    now_weaker (IsNodeImage (on name LogVersion.Two (recs listed)) (events ++ next) (length events)) (IsStopped name (seen r.told) events) r.story (λ left i. image name r listed events next left s i)
-    (subst (λ (o : Opening). LeavesNow (IsNodeImage o (events ++ next) (length events)) r.story) (one_opening name r version list listed s is) last)
+pub stops_at : (name : List ℕ) (r : Ran) (ver version : LogVersion) (list listed : List Placed) (events next : List Given) → IsStart r version listed → opened (seen r.told) ≡ Has ver list
+    → LeavesNow (IsNodeImage (opening name ver list) (events ++ next) (length events)) r.story → Stops name r events
+stops_at name r ver version list listed events next s is last =
+    now_weaker (IsNodeImage (on name version (recs listed)) (events ++ next) (length events)) (IsStopped name (seen r.told) events) r.story (λ left i. image name r version listed events next left s i)
+    (subst (λ (o : Opening). LeavesNow (IsNodeImage o (events ++ next) (length events)) r.story) (one_opening name (seen r.told) ver version list listed s.opens is) last)
 
 -- where nothing but the start was tried
-pub stops_before : (name : List ℕ) (r : Ran) (version : LogVersion) (list listed : List Placed) (from : Option Story) → IsStart r listed → opened (seen r.told) ≡ Has version list
-    → LeavesOnly (IsNodeImage (opening name version list) [] 0) from r.story → Stops name r []
-stops_before name r version list listed from s is moments = stops_at name r version list listed [] [] s is (leaves_now (IsNodeImage (opening name version list) [] 0) from r.story moments)
+pub stops_before : (name : List ℕ) (r : Ran) (ver version : LogVersion) (list listed : List Placed) (from : Option Story) → IsStart r version listed → opened (seen r.told) ≡ Has ver list
+    → LeavesOnly (IsNodeImage (opening name ver list) [] 0) from r.story → Stops name r []
+stops_before name r ver version list listed from s is moments = stops_at name r ver version list listed [] [] s is (leaves_now (IsNodeImage (opening name ver list) [] 0) from r.story moments)
 
-pub stops_unbegun : (name : List ℕ) (r : Ran) (version : LogVersion) (list listed : List Placed) (from : Option Story) → IsStart r listed → opened (seen r.told) ≡ Has version list
+pub stops_unbegun : (name : List ℕ) (r : Ran) (ver version : LogVersion) (list listed : List Placed) (from : Option Story) → IsStart r version listed → opened (seen r.told) ≡ Has ver list
     → LeavesOnly (λ c. IsLog c (recs list)) from r.story → Stops name r []
-stops_unbegun name r version list listed from s is moments =
-    let same : recs list ≡ recs listed = ap (λ (o : Opening). o.records) (one_opening name r version list listed s is) in
-    now_weaker (λ c. IsLog c (recs list)) (IsStopped name (seen r.told) []) r.story (λ left log. unbegun name r listed left s (subst (IsLog left) same log))
+stops_unbegun name r ver version list listed from s is moments =
+    let same : recs list ≡ recs listed = ap (λ (o : Opening). o.records) (one_opening name (seen r.told) ver version list listed s.opens is) in
+    now_weaker (λ c. IsLog c (recs list)) (IsStopped name (seen r.told) []) r.story (λ left log. unbegun name r version listed left s (subst (IsLog left) same log))
     (leaves_now (λ c. IsLog c (recs list)) from r.story moments)

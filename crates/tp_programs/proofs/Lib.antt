@@ -1,3 +1,5 @@
 mod Images
 mod Nodes
 mod Faces
+mod Lanes
+mod Batches

@@ -1,2 +1,3 @@
 pub mod Stopped
 pub mod Runs
+pub mod Batches

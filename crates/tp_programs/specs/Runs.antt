@@ -22,35 +22,37 @@ abbrev pub Stops : List ℕ → Ran → List Given → Type 0
 Stops name r events = LeavesNow (IsStopped name (seen r.told) events) r.story
 
 -- the file is one on which a process may start
-pub record IsStart (r : Ran) (listed : List Placed) : Type 0 where
+pub record IsStart (r : Ran) (version : LogVersion) (listed : List Placed) : Type 0 where
   pub small : length (seen r.told) < 2 ^ 64
-  pub opens : opened (seen r.told) ≡ Has LogVersion.Two listed
+  pub opens : opened (seen r.told) ≡ Has version listed
 
 -- ---- node
 
 -- all that it wrote, it wrote of events that happened in the process
-pub record IsNode (name : List ℕ) (r : Ran) (listed : List Placed) : Type 0 where
+pub record IsNode (name : List ℕ) (r : Ran) (version : LogVersion) (listed : List Placed) : Type 0 where
   pub events : List Given
-  pub wrote : (before : List ℕ) → r.written ≡ Some before → WritesPrefix before (written_of (node_run (on name LogVersion.Two (recs listed)) events).outputs) r.output
+  pub wrote : (before : List ℕ) → r.written ≡ Some before → WritesPrefix before (written_of (node_run (on name version (recs listed)) events).outputs) r.output
   pub stops : Stops name r events
 
 -- where the log was not opened nothing was read, and nothing written
 abbrev pub NodeIsAProcess : Type 0
-NodeIsAProcess = (name : List ℕ) (r : Ran) (result : Result (Unit {0}) Stop) (listed : List Placed) → Serves name r result → IsStart r listed → IsIdle r ⊎ IsNode name r listed
+NodeIsAProcess =
+    (name : List ℕ) (r : Ran) (result : Result (Unit {0}) Stop) (version : LogVersion) (listed : List Placed) → Serves name r result → IsStart r version listed
+    → IsIdle r ⊎ IsNode name r version listed
 
 -- ---- tx
 
 -- these are the answers to the frames that asked for the events
-pub record IsFace (name : List ℕ) (r : Ran) (result : Result (Unit {0}) Stop) (listed : List Placed) : Type 0 where
+pub record IsFace (name : List ℕ) (r : Ran) (result : Result (Unit {0}) Stop) (version : LogVersion) (listed : List Placed) : Type 0 where
   pub events : List Given
   pub next : List Given
   pub bytes : List ℕ
-  pub read : (input : List ℕ) → r.left ≡ Some input → HasRead (on name LogVersion.Two (recs listed)) input events next bytes r.unread result
+  pub read : (input : List ℕ) → r.left ≡ Some input → HasRead (on name version (recs listed)) input events next bytes r.unread result
   pub wrote : (before : List ℕ) → r.written ≡ Some before → HasWritten before bytes r.output result
   pub stops : Stops name r events
 
 -- where the root's node was not declared nothing was read, and nothing written
 abbrev pub FaceIsAProcess : Type 0
 FaceIsAProcess =
-    (name : List ℕ) (r : Ran) (result : Result (Unit {0}) Stop) (listed : List Placed) → Transacts name r result → IsStart r listed
-    → IsIdle r ⊎ (Stops name r [] × IsUntouched r) ⊎ IsFace name r result listed
+    (name : List ℕ) (r : Ran) (result : Result (Unit {0}) Stop) (version : LogVersion) (listed : List Placed) → Transacts name r result → IsStart r version listed
+    → IsIdle r ⊎ (Stops name r [] × IsUntouched r) ⊎ IsFace name r result version listed

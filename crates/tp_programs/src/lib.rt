@@ -3,22 +3,36 @@
 #![tactic(auto)]
 
 ghost use Rattle.tp_programs.specs.Runs.{NodeIsAProcess, FaceIsAProcess};
+ghost use Rattle.tp_programs.specs.Batches.{BatchIsAProcess};
 
 // Promise 22.13 [tp_programs/specs/Runs.antt]: **A run of `node` is such a process**, on every disk
-//   that tells its story and holds a log of version 2, whenever and however it stopped: what a
-//   crash leaves then is the log of events that happened, all that was written was written of them,
-//   and where the log was not opened nothing was read or written
-/// What `serve` says of a run makes it a process of its site, on every disk that tells its story and holds a log of version 2: whatever a
-/// crash leaves where the run has ended, however that was, is the log of the events that happened, or what was found, where its boot does
-/// not stand; and all that was written was written of events that happened. Where the log was not opened nothing was read or written.
+//   that tells its story and holds a log, whenever and however it stopped: what a crash leaves then
+//   is the log of events that it was given, all that was written was written of them, and where the
+//   log was not opened nothing was read or written
+/// What `serve` says of a run makes it a process of its site, on every disk that tells its story and holds a log: whatever a crash leaves
+/// where the run has ended, however that was, is the log of the events that it was given, or what was found, where its boot does not stand;
+/// and all that was written was written of these events. Where the log was not opened nothing was read or written.
 pub fn a_run_of_node_is_a_process()
     ensures { NodeIsAProcess }
 {}
 
 // Promise 22.14 [tp_programs/specs/Runs.antt]: **So is a run of `tx`**: what a crash leaves is the
-//   log of events that happened, all that was written was written of them, and where the log was
-//   not opened, or the root's node was not declared, nothing was read or written
+//   log of events that it was given, all that was written was written of them, and where the log
+//   was not opened, or the root's node was not declared, nothing was read or written
 /// So does what `transact` says.
 pub fn a_run_of_tx_is_a_process()
     ensures { FaceIsAProcess }
+{}
+
+// Promise 22.23 [tp_programs/specs/Batches.antt]: **So is a batch of `tpdrive`**, on every disk
+//   that tells its story and holds a log, whenever and however it stopped, also where memory ran
+//   out: what a crash leaves then is the log of one process, which was given the first of each
+//   worker's events, or all of them where the batch wrote anything, with the outputs that one
+//   thread gives; where the log was not opened it stays as it is. It is not shown of a log that
+//   does not have the records of which the workers were given receipts (6.7)
+/// And so does what `run_drive` says: its workers are one process, to which the events were given in the order of their records, those of each
+/// worker in their order. Where it wrote anything, it was given all events, and they give the outputs that one thread gives. It is so however
+/// the run ended, except where the log does not have the records of which the workers were given receipts.
+pub fn a_batch_of_tpdrive_is_a_process()
+    ensures { BatchIsAProcess }
 {}

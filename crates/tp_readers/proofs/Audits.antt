@@ -10,15 +10,14 @@ use Rattle.tp_model.specs.Happenings.{Happening, run}
 use Rattle.tp_agreement.specs.Logs.{LogsAgree}
 use Rattle.tp_site_logs.specs.Lives.{Life as SiteLife, opening_after}
 use Rattle.tp_site_logs.proofs.EveryLog.{disks_tell}
-use Rattle.tp_deployments.specs.Deployments.{Deed, Place, AreArranged, IsDeployment, life_after}
+use Rattle.tp_deployments.specs.Deployments.{Deed, Place, AreArranged, IsDeployment}
 use Rattle.tp_deployments.specs.RunOf.{IsRunOf}
 use Rattle.tp_laws.specs.Whole.{AllPromised}
 use Rattle.tp_laws.proofs.Deployed.{deployments_keep}
-use Rattle.tp_processes.specs.Processes.{Process, StandsIn, life_of}
+use Rattle.tp_processes.specs.Processes.{Process, StandsIn}
 use Rattle.tp_processes.specs.Deployed.{AreDeedsOf}
-use Rattle.tp_audit.specs.declared.verdict.Verdict.{Verdict}
 use Rattle.tp_audit.specs.Entries.{SiteLog, Entry, keys_after, keys_from, keys_of, entries_at, entries}
-use Rattle.tp_audit.specs.Verdicts.{outcome_of, settled_of, verdict_by, verdict}
+use Rattle.tp_audit.specs.Verdicts.{outcome_of, settled_of, verdict_by}
 use Rattle.tp_audit.specs.Runs.{records_on, AreOn}
 use Rattle.tp_audit.proofs.Runs.{verdict_yes, outcomes_agree}
 use Rattle.tp_readers.specs.Audits.{IsCopied, AreCopies, IsYes, AuditsAreYes}

@@ -1,5 +1,5 @@
 -- What stands in a copy of a log was forced by the node that it is of.
-use Rattle.std.proofs.Common.{◌≡◌, ◌==◌, ◌⊎◌, inl, inr, ◌<◌, ◌^◌, ℕ, suc, Bool, true, false, refl, ap, sym, ◌∙◌, subst, arith, Option, Some, None, List, [], ◌∷◌, ◌++◌, reverse, length}
+use Rattle.std.proofs.Common.{◌≡◌, ◌==◌, ◌⊎◌, inl, inr, ◌<◌, ◌^◌, ℕ, suc, Bool, true, false, refl, ap, sym, ◌∙◌, subst, arith, Option, Some, None, List, [], ◌∷◌, reverse, length}
 use Rattle.std.specs.Prelude.{Any, if◌then◌else◌}
 use Rattle.std.proofs.lemmas.Bool.Decides.{nat_tests}
 use Rattle.tp_names.specs.declared.identifiers.Addr.{Addr}
@@ -12,14 +12,14 @@ use Rattle.tp_logrec.specs.Order.{owner_of, brief}
 use Rattle.tp_logrec.proofs.Logs.{one_list}
 use Rattle.tp_model.specs.History.{records}
 use Rattle.tp_model.specs.NodeRun.{is_record_at, records_at, node_run}
-use Rattle.tp_model.specs.World.{World, Node, Site, find_node, find_site}
+use Rattle.tp_model.specs.World.{World, Node, Site, find_node}
 use Rattle.tp_site_logs.specs.Lives.{Life, opening_after, history_over, first_origin}
 use Rattle.tp_site_logs.proofs.Lives.{logged}
 use Rattle.tp_site_logs.proofs.Places.{find_name}
 use Rattle.tp_laws.specs.SiteLogs.{DisksTell, log_of, forced_by}
-use Rattle.tp_deployments.specs.Deployments.{Deed, Place, IsThere, AreArranged, IsDeployment, life_after, history_at}
+use Rattle.tp_deployments.specs.Deployments.{Deed, Place, AreArranged, IsDeployment, life_after, history_at}
 use Rattle.tp_deployments.specs.RunOf.{node_at, nodes_of, IsRunOf}
-use Rattle.tp_processes.specs.Processes.{Process, IsShortened, FindsWhatIsLeft, AreProcesses, IsLogOf, StandsIn, life_of}
+use Rattle.tp_processes.specs.Processes.{Process, IsShortened, AreProcesses, IsLogOf, StandsIn, happened_in, life_of}
 use Rattle.tp_processes.proofs.Parts.{in_front, brief_part}
 use Rattle.tp_processes.proofs.Chained.{leave_the_log}
 use Rattle.tp_audit.specs.Runs.{records_on}
@@ -39,18 +39,18 @@ one_process p file records s life r o (inr x) small log k own is =
     let short : records ≡ brief k.records = one_list file records (brief k.records) small log (subst (λ (l : List LogRec). IsLog file (brief l)) one x.after) in
     k.part r o own (brief_part k.records r o own (subst (λ (l : List LogRec). StandsIn l r) short is))
 
-goes_on : (s : List ℕ) (p : Process) (ps : List Process) (r : LogRec) → StandsIn (opening_after s (life_of ps)).records r → StandsIn (opening_after s (life_of (p ∷ ps))).records r
+goes_on : (s : List ℕ) (p : Process) (ps : List Process) (r : LogRec) → StandsIn (opening_after s (life_of s ps)).records r → StandsIn (opening_after s (life_of s (p ∷ ps))).records r
 goes_on s p ps r is = go p.begun
   where
-    go : (b : Bool) → StandsIn (opening_after s (elim b as (λ _. Life) [ true ↦ p.given ∷ life_of ps | false ↦ life_of ps ])).records r
-    go true = in_front (opening_after s (life_of ps)).records (node_run (opening_after s (life_of ps)) p.given).log r is
+    go : (b : Bool) → StandsIn (opening_after s (elim b as (λ _. Life) [ true ↦ happened_in s p ∷ life_of s ps | false ↦ life_of s ps ])).records r
+    go true = in_front (opening_after s (life_of s ps)).records (node_run (opening_after s (life_of s ps)) (happened_in s p)).log r is
     go false = is
 
 pub in_whole : (s : List ℕ) (ps : List Process) (r : LogRec) (o : Owner) → AreProcesses s ps → owner_of r ≡ Some o → (q : Process) (file : List ℕ) (records : List LogRec) → IsOneOf q ps → (file ≡ q.left) ⊎ IsShortened file q.left → length file < 2 ^ 64 → IsLog file records
-    → StandsIn records r → StandsIn (opening_after s (life_of ps)).records r
+    → StandsIn records r → StandsIn (opening_after s (life_of s ps)).records r
 in_whole s [] r o are own q file records among from small log is = absurd among
 in_whole s (p ∷ ps) r o are own q file records (inl here) from small log is =
-    one_process p file records s (life_of (p ∷ ps)) r o (subst (λ (x : Process). (file ≡ x.left) ⊎ IsShortened file x.left) (sym here) from) small log (leave_the_log s p ps are) own is
+    one_process p file records s (life_of s (p ∷ ps)) r o (subst (λ (x : Process). (file ≡ x.left) ⊎ IsShortened file x.left) (sym here) from) small log (leave_the_log s p ps are) own is
 in_whole s (p ∷ ps) r o are own q file records (inr more) from small log is = goes_on s p ps r (in_whole s ps r o are.2 own q file records more from small log is)
 
 -- ---- on the disk of the run

@@ -1,5 +1,5 @@
 -- Committed means in a deployment what it means in the run that it is.
-use Rattle.std.proofs.Common.{◌≡◌, ◌++◌, ℕ, refl, ap, sym, ◌∙◌, subst, append_assoc, Some, List, [], ◌∷◌}
+use Rattle.std.proofs.Common.{◌≡◌, ◌++◌, ℕ, refl, ap, sym, ◌∙◌, subst, append_assoc, List, [], ◌∷◌}
 use Rattle.tp_records.specs.declared.body.Event.{Event as Given}
 use Rattle.tp_logrec.specs.declared.record.LogVersion.{LogVersion}
 use Rattle.tp_model.specs.Parts.{Entry}
@@ -10,14 +10,16 @@ use Rattle.tp_model.specs.Promises.{IsIn}
 use Rattle.tp_briefs.specs.Starts.{on, StartAlike, RunAlike}
 use Rattle.tp_briefs.proofs.Runs.{run_alike}
 use Rattle.tp_site_logs.specs.Lives.{Life, opening_after, history_in, history_over}
-use Rattle.tp_deployments.specs.Deployments.{Deed, Place, history_at}
-use Rattle.tp_deployments.specs.RunOf.{node_at, nodes_of, IsRunOf}
+use Rattle.tp_deployments.specs.Deployments.{history_at}
+use Rattle.tp_deployments.specs.RunOf.{node_at, IsRunOf}
+use Rattle.tp_deployments.proofs.Given.{before, over_in}
 use Rattle.tp_laws.specs.Whole.{AllPromised}
 use Rattle.tp_laws.proofs.Deployed.{deployments_keep}
 use Rattle.tx_face.specs.Face.{MeansAll}
 use Rattle.tx_face.proofs.Meaning.{means_all}
-use Rattle.tp_readers.specs.Faces.{HasCommitted, CommittedMeansAll}
-use Rattle.tp_processes.proofs.Said.{before, over_last}
+use Rattle.tp_readers.specs.Faces.{CommittedMeansAll}
+use Rattle.tp_processes.specs.Versions.{happened}
+use Rattle.tp_processes.proofs.AsTwo.{acts_as_two}
 use Rattle.tp_readers.proofs.Nodes.{of_run, found_there}
 
 opening_is : (s : List ℕ) (life : Life) → on s LogVersion.Two (opening_after s life).records ≡ opening_after s life
@@ -42,15 +44,20 @@ committed_means qs ds q since arr dep among k = (older, history, λ t last root 
     older : List Entry
     older = k.past ++ before s k.before n
 
-    alike : RunAlike s LogVersion.Two k.records (opening_after s k.before).records k.given
-    alike = run_alike s LogVersion.Two k.records (opening_after s k.before).records (subst (StartAlike (on s LogVersion.Two k.records)) (sym (opening_is s k.before)) k.alike) k.given
+    gs : List Given
+    gs = happened (on s k.version k.records) k.given
 
-    in_process : history_in s k.before k.given n ≡ since ++ k.past
-    in_process = ap (λ (o : Opening). history_of (run_from o [] k.given).pasts n) (sym (opening_is s k.before)) ∙ sym (alike.histories n) ∙ k.history
+    alike : RunAlike s LogVersion.Two k.records (opening_after s k.before).records gs
+    alike = run_alike s LogVersion.Two k.records (opening_after s k.before).records (subst (StartAlike (on s LogVersion.Two k.records)) (sym (opening_is s k.before)) k.alike) gs
+
+    in_process : history_in s k.before gs n ≡ since ++ k.past
+    in_process =
+        ap (λ (o : Opening). history_of (run_from o [] gs).pasts n) (sym (opening_is s k.before)) ∙ sym (alike.histories n) ∙ sym ((acts_as_two s k.version k.records k.given).histories n)
+        ∙ k.history
 
     history : history_at ds q.addr ≡ since ++ older
     history =
-        ap (λ (l : Life). history_over s l n) k.runs ∙ over_last s k.given k.before n ∙ ap (λ (h : List Entry). h ++ before s k.before n) in_process
+        ap (λ (l : Life). history_over s l n) k.runs ∙ over_in s gs k.before n ∙ ap (λ (h : List Entry). h ++ before s k.before n) in_process
         ∙ append_assoc since k.past (before s k.before n)
 
     found : IsIn w (node_at ds q)

@@ -8,50 +8,28 @@ use Rattle.tp_records.specs.declared.body.Event.{Event as Given}
 use Rattle.tp_logrec.specs.declared.record.LogRec.{LogRec}
 use Rattle.tp_model.specs.Parts.{Event, Entry}
 use Rattle.tp_model.specs.History.{records}
-use Rattle.tp_model.specs.NodeRun.{Opening, AskedEvent, Refuses, Is, asked, Past, history_of, with_entry, run_from, NodeRun}
-use Rattle.tp_runs.proofs.Lanes.{given, run_asked, run_step, past_more}
+use Rattle.tp_model.specs.NodeRun.{AskedEvent, Refuses, Is, asked}
+use Rattle.tp_runs.proofs.Lanes.{chosen}
 use Rattle.tp_site_logs.specs.Lives.{Life, opening_after, history_in, history_over, first_origin}
 use Rattle.tp_deployments.specs.Deployments.{Deed, Starts, Takes, with_given, life_after, history_at, Place, IsThere, IsHeeded, answered, IsFit, IsTaken, IsDeployment}
-use Rattle.tp_processes.proofs.Said.{before, over_last}
+use Rattle.tp_deployments.proofs.Given.{in_refused, in_asked, in_taken, before, over_in}
 
 -- ---- a process is given one event more
-
-last_pasts : (o : Opening) (gs : List Given) (g : Given) (ps : List Past) → (run_from o ps (gs ++ g ∷ [])).pasts ≡ (run_asked o (run_from o ps gs).pasts (asked o g) []).pasts
-last_pasts o [] g ps = ap (λ (r : NodeRun). r.pasts) (run_step o ps g [] (asked o g) refl)
-last_pasts o (h ∷ gs) g ps = go (asked o h) refl (λ qs. last_pasts o gs g qs)
-  where
-    go : (a : AskedEvent) → asked o h ≡ a → ((qs : List Past) → (run_from o qs (gs ++ g ∷ [])).pasts ≡ (run_asked o (run_from o qs gs).pasts (asked o g) []).pasts)
-        → (run_from o ps (h ∷ (gs ++ g ∷ []))).pasts ≡ (run_asked o (run_from o ps (h ∷ gs)).pasts (asked o g) []).pasts
-    go (Refuses k) i rest =
-        ap (λ (r : NodeRun). r.pasts) (run_step o ps h (gs ++ g ∷ []) (Refuses k) i) ∙ rest ps
-        ∙ sym (ap (λ (r : NodeRun). (run_asked o r.pasts (asked o g) []).pasts) (run_step o ps h gs (Refuses k) i))
-    go (Is n e) i rest =
-        ap (λ (r : NodeRun). r.pasts) (run_step o ps h (gs ++ g ∷ []) (Is n e) i) ∙ rest (with_entry ps n (given o ps n e).entry)
-        ∙ sym (ap (λ (r : NodeRun). (run_asked o r.pasts (asked o g) []).pasts) (run_step o ps h gs (Is n e) i))
 
 -- the history of a node is as it was, or the event is its own and was taken
 abbrev Moves : List ℕ → Life → List Given → Given → ℕ → Type 0
 Moves s life gs g n = (history_in s life (gs ++ g ∷ []) n ≡ history_in s life gs n) ⊎ ((e : Event) × (y : Entry) × (asked (opening_after s life) g ≡ Is n e) × ((answered s gs life n e).entry ≡ Some y))
 
 moved : (s : List ℕ) (life : Life) (gs : List Given) (g : Given) (n : ℕ) → Moves s life gs g n
-moved s life gs g n = go (asked o g) refl (ap (λ (ps : List Past). history_of ps n) (last_pasts o gs g []))
+moved s life gs g n = go (asked (opening_after s life) g) refl
   where
-    o : Opening
-    o = opening_after s life
-
-    ps : List Past
-    ps = (run_from o [] gs).pasts
-
-    go : (a : AskedEvent) → asked o g ≡ a → history_in s life (gs ++ g ∷ []) n ≡ history_of (run_asked o ps (asked o g) []).pasts n → Moves s life gs g n
-    go (Refuses k) i is = inl (is ∙ ap (λ (a : AskedEvent). history_of (run_asked o ps a []).pasts n) i)
-    go (Is m e) i is = by (given o ps m e).entry refl (m == n) refl
+    go : (a : AskedEvent) → asked (opening_after s life) g ≡ a → Moves s life gs g n
+    go (Refuses k) i = inl (in_refused s life gs g k n i)
+    go (Is m e) i = by (answered s gs life m e).entry refl (m == n) refl
       where
-        now : history_in s life (gs ++ g ∷ []) n ≡ history_of (with_entry ps m (given o ps m e).entry) n
-        now = is ∙ ap (λ (a : AskedEvent). history_of (run_asked o ps a []).pasts n) i
-
-        by : (y : Option Entry) → (given o ps m e).entry ≡ y → (b : Bool) → (m == n) ≡ b → Moves s life gs g n
-        by None made b j = inl (now ∙ ap (λ (z : Option Entry). history_of (with_entry ps m z) n) made)
-        by (Some y) made false j = inl (now ∙ past_more ps m (given o ps m e).entry n j)
+        by : (y : Option Entry) → (answered s gs life m e).entry ≡ y → (b : Bool) → (m == n) ≡ b → Moves s life gs g n
+        by None made b j = inl (in_asked s life gs g m e None n i made)
+        by (Some y) made false j = inl (in_taken s life gs g m e y n i made ∙ ap (λ (b : Bool). chosen b (y ∷ history_in s life gs m) (history_in s life gs n)) j)
         by (Some y) made true j =
             let same : m ≡ n = grind (arith, nat_tests, j) in
             inr (e, y, i ∙ ap (λ (k : ℕ). Is k e) same, ap (λ (k : ℕ). (answered s gs life k e).entry) (sym same) ∙ made)
@@ -94,9 +72,9 @@ none_or_there qs (Takes s g ∷ ds) dep a = go (is_name s a.site) refl (none_or_
     by name [] is taken none = absurd taken
     by name (gs ∷ life) is taken none = elim (moved a.site life gs g a.node) [
       | inl same ↦ inl (
-          ap (λ (h : List Entry). records (first_origin a.site a.node) h) (over_last a.site (gs ++ g ∷ []) life a.node)
+          ap (λ (h : List Entry). records (first_origin a.site a.node) h) (over_in a.site (gs ++ g ∷ []) life a.node)
           ∙ records_over a.site a.node (history_in a.site life (gs ++ g ∷ []) a.node) (history_in a.site life gs a.node) (before a.site life a.node) same
-          ∙ ap (λ (h : List Entry). records (first_origin a.site a.node) h) (sym (over_last a.site gs life a.node))
+          ∙ ap (λ (h : List Entry). records (first_origin a.site a.node) h) (sym (over_in a.site gs life a.node))
           ∙ none
           )
       | inr own ↦

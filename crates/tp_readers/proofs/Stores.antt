@@ -4,7 +4,6 @@ use Rattle.tp_model.specs.World.{Node}
 use Rattle.tp_model.specs.Happenings.{Happening, run}
 use Rattle.tp_model.specs.Promises.{IsIn}
 use Rattle.tp_bound.proofs.Committing.{content_is_of_branches}
-use Rattle.tp_deployments.specs.Deployments.{Deed, Place, AreArranged, IsDeployment}
 use Rattle.tp_deployments.specs.RunOf.{IsRunOf}
 use Rattle.tp_deployments.proofs.Deployed.{a_deployment}
 use Rattle.tp_processes.specs.Deployed.{standing}

@@ -1,10 +1,10 @@
 //! One line of a schedule, from its bytes to the bytes that it shows.
 ghost use Rattle.std.specs.Prelude.{◌≡◌, ◌<◌, ◌++◌, ◌∷◌, [], IfErr, OnErr, OnOk};
-ghost use Rattle.tp_names.specs.Writing.{Keeps};
+ghost use Rattle.tp_text.specs.Written.{Adds};
 ghost use Rattle.tp_model.specs.LineReading.{Says, read_line};
 ghost use Rattle.tp_model.specs.declared.out_line.OutLine.{OutLine};
 ghost use Rattle.tp_model.specs.LineText.{line_text};
-ghost use Rattle.tp_model.specs.OutText.{out_text, out_texts};
+ghost use Rattle.tp_model.specs.OutText.{out_texts};
 ghost use Rattle.tp_model.specs.Transcript.{echo};
 ghost use Rattle.tp_model.specs.World.{World as WorldValue};
 ghost use Rattle.tp_world_members.specs.DrivenWorld.{Stands};
@@ -16,8 +16,9 @@ use std::alloc::Global;
 use tp_model::{Line, OutLines, Why};
 use tp_names::{NoMemory, Octets};
 use tp_records::Member;
-use tp_schedule::{LineFault, read_line_into, write_line};
-use tp_transcript::append_out;
+use tp_schedule::{LineFault, put_line, read_line_into};
+use tp_text::Text;
+use tp_transcript::put_out;
 use tp_world::WorldFault;
 use tp_world_members::{DrivenWorld, is_silent};
 
@@ -26,24 +27,18 @@ pub fn write_texts(alloc: Global, lines: &OutLines, out: &mut Octets) -> Result<
     ensures ok { OnOk result (out.new ≡ out.old ++ out_texts lines.now) }
     ensures err { OnErr result (out.new ≡ out.old) }
 {
-    let len = out.len();
-    let written = append_texts(alloc, lines, out);
-    if written.is_err() {
-        out.truncate(len);
-    }
-    written
+    let mut text = Text::after(alloc, out);
+    put_texts(lines, &mut text);
+    text.done(out)
 }
 
-#[inline(always)]
-fn append_texts(alloc: Global, lines: &OutLines, out: &mut Octets) -> Result<(), NoMemory>
-    ensures ok { OnOk result (out.new ≡ out.old ++ out_texts lines.now) }
-    ensures err { OnErr result (Keeps out.old out.new) }
+fn put_texts(lines: &OutLines, text: &mut Text)
+    ensures { Adds text.old (out_texts lines.now) text.new }
 {
     for line in lines.as_slice() {
-        append_out(alloc, line, out)?;
-        out.push(alloc, b'\n')?;
+        put_out(line, text);
+        text.byte(b'\n');
     }
-    Ok(())
 }
 
 // What stops a run in the line of that number, since it does not read.
@@ -80,35 +75,18 @@ fn write_shown(
     ensures ok { OnOk result (out.new ≡ out.old ++ out_texts (OutLine.Echo (line_text line.now) ∷ lines.now)) }
     ensures err { OnErr result (out.new ≡ out.old) }
 {
-    let len = out.len();
-    let written = append_shown(alloc, line, lines, out);
-    if written.is_err() {
-        out.truncate(len);
-    }
-    written
+    let mut text = Text::after(alloc, out);
+    put_shown(line, lines, &mut text);
+    text.done(out)
 }
 
-fn append_shown(
-    alloc: Global,
-    line: &Line,
-    lines: &OutLines,
-    out: &mut Octets,
-) -> Result<(), NoMemory>
-    ensures ok { OnOk result (out.new ≡ out.old ++ out_texts (OutLine.Echo (line_text line.now) ∷ lines.now)) }
-    ensures err { OnErr result (Keeps out.old out.new) }
+fn put_shown(line: &Line, lines: &OutLines, text: &mut Text)
+    ensures { Adds text.old (out_texts (OutLine.Echo (line_text line.now) ∷ lines.now)) text.new }
 {
-    append_echo(alloc, line, out)?;
-    append_texts(alloc, lines, out)
-}
-
-fn append_echo(alloc: Global, line: &Line, out: &mut Octets) -> Result<(), NoMemory>
-    ensures ok { OnOk result (out.new ≡ out.old ++ (out_text (OutLine.Echo (line_text line.now)) ++ 10 ∷ [])) }
-    ensures err { OnErr result (Keeps out.old out.new) }
-{
-    out.extend_from_slice(alloc, b"> ")?;
-    write_line(alloc, line, out)?;
-    out.push(alloc, b'\n')?;
-    Ok(())
+    text.word("> ");
+    put_line(line, text);
+    text.byte(b'\n');
+    put_texts(lines, text);
 }
 
 // Puts the echo of a line, where it is shown, and the text of what it shows at the end of `out`. Without memory `out` stays

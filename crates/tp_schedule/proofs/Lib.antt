@@ -1,5 +1,6 @@
 pub mod lemmas
-pub mod KitText
+mod HasWord
+mod Spaced
 pub mod Values
 pub mod LineForms
 pub mod LinesBack
@@ -8,4 +9,3 @@ pub mod Buffers
 pub mod LineSought
 pub mod LineSkipped
 pub mod LineHanded
-mod Spaced

@@ -1,4 +1,3 @@
-pub mod Joins
 pub mod Cut
 pub mod Readings
 pub mod Back

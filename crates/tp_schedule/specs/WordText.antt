@@ -1,5 +1,5 @@
 -- What each word that is to be written is as bytes. How the words of a line follow from the line is in tp_model.
-use Rattle.std.specs.Prelude.{ℕ, List, [], ◌∷◌}
+use Rattle.std.specs.Prelude.{ℕ, List, [], ◌∷◌, ◌++◌}
 use Rattle.tp_model.specs.Words.{decimal, hex, octets_word, mark_word, aaid_word, branch_word, outcome_word, report_word, holder_word, units_word}
 use Rattle.tp_model.specs.OutText.{numbers_word, phase_word, fate_word}
 use Rattle.tp_schedule.specs.declared.word.Word.{Word}
@@ -26,3 +26,8 @@ word_text (Word.Numbers ns) = numbers_word ns.now
 abbrev pub word_texts : List Word → List (List ℕ)
 word_texts [] = []
 word_texts (w ∷ ws) = word_text w ∷ word_texts ws
+
+-- words, each after a space
+abbrev pub spaced : List (List ℕ) → List ℕ
+spaced [] = []
+spaced (w ∷ ws) = 32 ∷ (w ++ spaced ws)

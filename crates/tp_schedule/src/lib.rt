@@ -6,7 +6,6 @@
 #![tactic(auto)]
 
 pub mod cutting;
-mod digits;
 pub mod keyword;
 pub mod laws;
 mod line_end;
@@ -24,4 +23,4 @@ pub use line_fault::LineFault;
 pub use line_reading::{read_line, read_line_into};
 pub use lines::Lines;
 pub use lines_fault::LinesFault;
-pub use schedule_line::write_line;
+pub use schedule_line::{put_line, write_line};

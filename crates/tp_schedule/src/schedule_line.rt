@@ -1,233 +1,199 @@
 //! Writing a line of a schedule.
-ghost use Rattle.std.specs.Prelude.{◌≡◌, ◌++◌, ◌∷◌, [], OnErr, OnOk, codes};
-ghost use Rattle.tp_names.specs.Writing.{Keeps};
-ghost use Rattle.tp_model.specs.Words.{words, decimal};
-ghost use Rattle.tp_model.specs.LineText.{request_words, action_words, line_words, line_text};
+ghost use Rattle.std.specs.Prelude.{◌≡◌, ◌++◌, ◌∷◌, [], Some, OnErr, OnOk, codes};
+ghost use Rattle.tp_text.specs.Written.{Adds};
+ghost use Rattle.tp_model.specs.Words.{words, decimal, hex};
+ghost use Rattle.tp_model.specs.LineText.{request_words, action_words, under_words, line_words, line_text};
 
-use crate::digits::digit;
-use crate::word::{
-    Word, write_alone, write_number_between, write_octets, write_one, write_two, write_words,
-};
 use std::alloc::Global;
 use tp_model::{Action, Line, LineRequest};
 use tp_names::{NoMemory, Octets, Outcome, SiteName};
+use tp_text::Text;
 
 // Promise 2.21: A line of a schedule, a line of a transcript, a log record, a key and an identifier
 //   are written to the byte
 /// Puts the line's text at the end of `out`, without an end. Without memory `out` stays as it was.
-#[inline(always)]
 pub fn write_line(alloc: Global, l: &Line, out: &mut Octets) -> Result<(), NoMemory>
     ensures ok { OnOk result (out.new ≡ out.old ++ line_text l.now) }
     ensures err { OnErr result (out.new ≡ out.old) }
 {
-    let len = out.len();
-    let written = append_line(alloc, l, out);
-    if written.is_err() {
-        out.truncate(len);
-    }
-    written
+    let mut text = Text::after(alloc, out);
+    put_line(l, &mut text);
+    text.done(out)
 }
 
-#[inline(always)]
-fn append_line(alloc: Global, l: &Line, out: &mut Octets) -> Result<(), NoMemory>
-    ensures ok { OnOk result (out.new ≡ out.old ++ words (line_words l.now)) }
-    ensures err { OnErr result (Keeps out.old out.new) }
+/// Puts the line's text at the end of a text, without an end.
+pub fn put_line(l: &Line, text: &mut Text)
+    ensures { Adds text.old (line_text l.now) text.new }
 {
     match l {
-        Line::Node { node, site, under } => append_node(alloc, *node, site, *under, out),
-        Line::Do { node, request } => append_do(alloc, *node, request, out),
-        Line::Pass { from, to } => write_two(alloc, "pass", *from, *to, out),
-        Line::Skip { from, to } => write_two(alloc, "skip", *from, *to, out),
-        Line::Again { frame } => write_one(alloc, "again", *frame, out),
-        Line::Drain => write_alone(alloc, "drain", out),
-        Line::Lose { node, peer } => write_two(alloc, "lose", *node, *peer, out),
-        Line::Heur { node, outcome } => append_heur(alloc, *node, *outcome, out),
-        Line::GiveUp { node, peer } => write_two(alloc, "giveup", *node, *peer, out),
-        Line::Retry { node } => write_one(alloc, "retry", *node, out),
-        Line::Purge { node } => write_one(alloc, "purge", *node, out),
-        Line::Crash { site } => append_crash(alloc, site, out),
+        Line::Node { node, site, under } => put_node(*node, site, *under, text),
+        Line::Do { node, request } => put_do(*node, request, text),
+        Line::Pass { from, to } => put_two("pass", *from, *to, text),
+        Line::Skip { from, to } => put_two("skip", *from, *to, text),
+        Line::Again { frame } => put_one("again", *frame, text),
+        Line::Drain => text.word("drain"),
+        Line::Lose { node, peer } => put_two("lose", *node, *peer, text),
+        Line::Heur { node, outcome } => put_heur(*node, *outcome, text),
+        Line::GiveUp { node, peer } => put_two("giveup", *node, *peer, text),
+        Line::Retry { node } => put_one("retry", *node, text),
+        Line::Purge { node } => put_one("purge", *node, text),
+        Line::Crash { site } => put_site("crash", site, text),
         Line::CrashIn {
             site,
             at,
             fill,
             action,
-        } => append_crash_in(alloc, site, *at, *fill, action, out),
-        Line::Show { node } => write_one(alloc, "show", *node, out),
-        Line::Image { site } => append_image(alloc, site, out),
-        Line::Auto { node, member } => write_two(alloc, "auto", *node, *member, out),
-        Line::Leave { member } => write_one(alloc, "leave", *member, out),
+        } => put_crash_in(site, *at, *fill, action, text),
+        Line::Show { node } => put_one("show", *node, text),
+        Line::Image { site } => put_site("image", site, text),
+        Line::Auto { node, member } => put_two("auto", *node, *member, text),
+        Line::Leave { member } => put_one("leave", *member, text),
     }
 }
 
-fn append_action(alloc: Global, action: &Action, out: &mut Octets) -> Result<(), NoMemory>
-    ensures ok { OnOk result (out.new ≡ out.old ++ words (action_words action.now)) }
-    ensures err { OnErr result (Keeps out.old out.new) }
+fn put_action(action: &Action, text: &mut Text)
+    ensures { Adds text.old (words (action_words action.now)) text.new }
 {
     match action {
-        Action::Do { node, request } => append_do(alloc, *node, request, out),
-        Action::Pass { from, to } => write_two(alloc, "pass", *from, *to, out),
-        Action::Again { frame } => write_one(alloc, "again", *frame, out),
-        Action::Lose { node, peer } => write_two(alloc, "lose", *node, *peer, out),
-        Action::Heur { node, outcome } => append_heur(alloc, *node, *outcome, out),
-        Action::GiveUp { node, peer } => write_two(alloc, "giveup", *node, *peer, out),
-        Action::Retry { node } => write_one(alloc, "retry", *node, out),
-        Action::Purge { node } => write_one(alloc, "purge", *node, out),
+        Action::Do { node, request } => put_do(*node, request, text),
+        Action::Pass { from, to } => put_two("pass", *from, *to, text),
+        Action::Again { frame } => put_one("again", *frame, text),
+        Action::Lose { node, peer } => put_two("lose", *node, *peer, text),
+        Action::Heur { node, outcome } => put_heur(*node, *outcome, text),
+        Action::GiveUp { node, peer } => put_two("giveup", *node, *peer, text),
+        Action::Retry { node } => put_one("retry", *node, text),
+        Action::Purge { node } => put_one("purge", *node, text),
     }
 }
 
-fn append_request(alloc: Global, r: &LineRequest, out: &mut Octets) -> Result<(), NoMemory>
-    ensures ok { OnOk result (out.new ≡ out.old ++ words (request_words r.now)) }
-    ensures err { OnErr result (Keeps out.old out.new) }
+fn put_request(r: &LineRequest, text: &mut Text)
+    ensures { Adds text.old (words (request_words r.now)) text.new }
 {
     match r {
-        LineRequest::BeginDialogue { peer, units } => append_begin(alloc, *peer, *units, out),
-        LineRequest::Accept { units } => append_accept(alloc, *units, out),
-        LineRequest::Reject => write_alone(alloc, "reject", out),
-        LineRequest::EndDialogue { peer } => write_one(alloc, "end-dialogue", *peer, out),
-        LineRequest::UserData { peer, octets } => append_data(alloc, *peer, octets, out),
-        LineRequest::UError { peer } => write_one(alloc, "u-error", *peer, out),
-        LineRequest::UAbort { peer } => write_one(alloc, "u-abort", *peer, out),
-        LineRequest::Grant { peer } => write_one(alloc, "grant-control", *peer, out),
-        LineRequest::AskControl { peer } => write_one(alloc, "request-control", *peer, out),
-        LineRequest::Handshake { peer } => write_one(alloc, "handshake", *peer, out),
-        LineRequest::Respond { peer } => write_one(alloc, "respond", *peer, out),
-        LineRequest::HandshakeGrant { peer } => write_one(alloc, "handshake-and-grant", *peer, out),
-        LineRequest::BeginTransaction { peer } => write_one(alloc, "begin-transaction", *peer, out),
-        LineRequest::DeferEnd { peer } => write_one(alloc, "deferred-end", *peer, out),
-        LineRequest::DeferGrant { peer } => write_one(alloc, "deferred-grant", *peer, out),
-        LineRequest::Prepare { peer } => write_one(alloc, "prepare", *peer, out),
-        LineRequest::Commit => write_alone(alloc, "commit", out),
-        LineRequest::Done => write_alone(alloc, "done", out),
-        LineRequest::Rollback => write_alone(alloc, "rollback", out),
-        LineRequest::Unchanged => write_alone(alloc, "unchanged", out),
+        LineRequest::BeginDialogue { peer, units } => put_begin(*peer, *units, text),
+        LineRequest::Accept { units } => put_accept(*units, text),
+        LineRequest::Reject => text.word("reject"),
+        LineRequest::EndDialogue { peer } => put_one("end-dialogue", *peer, text),
+        LineRequest::UserData { peer, octets } => put_data(*peer, octets, text),
+        LineRequest::UError { peer } => put_one("u-error", *peer, text),
+        LineRequest::UAbort { peer } => put_one("u-abort", *peer, text),
+        LineRequest::Grant { peer } => put_one("grant-control", *peer, text),
+        LineRequest::AskControl { peer } => put_one("request-control", *peer, text),
+        LineRequest::Handshake { peer } => put_one("handshake", *peer, text),
+        LineRequest::Respond { peer } => put_one("respond", *peer, text),
+        LineRequest::HandshakeGrant { peer } => put_one("handshake-and-grant", *peer, text),
+        LineRequest::BeginTransaction { peer } => put_one("begin-transaction", *peer, text),
+        LineRequest::DeferEnd { peer } => put_one("deferred-end", *peer, text),
+        LineRequest::DeferGrant { peer } => put_one("deferred-grant", *peer, text),
+        LineRequest::Prepare { peer } => put_one("prepare", *peer, text),
+        LineRequest::Commit => text.word("commit"),
+        LineRequest::Done => text.word("done"),
+        LineRequest::Rollback => text.word("rollback"),
+        LineRequest::Unchanged => text.word("unchanged"),
     }
 }
 
-fn append_begin(alloc: Global, peer: u16, units: u8, out: &mut Octets) -> Result<(), NoMemory>
-    ensures ok { OnOk result (out.new ≡ out.old ++ words (request_words (LineRequest.BeginDialogue peer units))) }
-    ensures err { OnErr result (Keeps out.old out.new) }
-{
-    let words = [
-        Word::Text("begin-dialogue"),
-        Word::Short(peer),
-        Word::Units(units),
-    ];
-    write_words(alloc, &words, out)
-}
-
-fn append_accept(alloc: Global, units: u8, out: &mut Octets) -> Result<(), NoMemory>
-    ensures ok { OnOk result (out.new ≡ out.old ++ words (request_words (LineRequest.Accept units))) }
-    ensures err { OnErr result (Keeps out.old out.new) }
-{
-    write_words(alloc, &[Word::Text("accept"), Word::Units(units)], out)
-}
-
-fn append_data(alloc: Global, peer: u16, octets: &Octets, out: &mut Octets) -> Result<(), NoMemory>
-    ensures ok { OnOk result (out.new ≡ out.old ++ words (request_words (LineRequest.UserData peer octets.now))) }
-    ensures err { OnErr result (Keeps out.old out.new) }
-{
-    write_one(alloc, "data", peer, out)?;
-    write_octets(alloc, octets, out)?;
-    Ok(())
-}
-
+// A word and a number.
 #[inline(always)]
-fn append_do(
-    alloc: Global,
-    node: u16,
-    request: &LineRequest,
-    out: &mut Octets,
-) -> Result<(), NoMemory>
-    ensures ok { OnOk result (out.new ≡ out.old ++ words (action_words (Action.Do node request.now))) }
-    ensures err { OnErr result (Keeps out.old out.new) }
+fn put_one(word: &str, n: u16, text: &mut Text)
+    ensures { Adds text.old (words (word.now ∷ decimal n ∷ [])) text.new }
 {
-    write_doer(alloc, node, out)?;
-    append_request(alloc, request, out)?;
-    Ok(())
+    text.word(word);
+    text.next_short(n);
 }
 
-// The words before a request, with a space after them.
-fn write_doer(alloc: Global, node: u16, out: &mut Octets) -> Result<(), NoMemory>
-    ensures ok { OnOk result (out.new ≡ (out.old ++ words (codes "do" ∷ decimal node ∷ [])) ++ 32 ∷ []) }
-    ensures err { OnErr result (Keeps out.old out.new) }
+// A word and two numbers.
+fn put_two(word: &str, m: u16, n: u16, text: &mut Text)
+    ensures { Adds text.old (words (word.now ∷ decimal m ∷ decimal n ∷ [])) text.new }
 {
-    if node < 10 {
-        let digit = digit(u64::from(node));
-        return out.extend_from_slice(alloc, &[b'd', b'o', b' ', digit, b' ']);
-    }
-    write_alone(alloc, "do", out)?;
-    write_number_between(alloc, node, out)?;
-    Ok(())
+    text.word(word);
+    text.next_short(m);
+    text.next_short(n);
 }
 
-fn append_heur(alloc: Global, node: u16, outcome: Outcome, out: &mut Octets) -> Result<(), NoMemory>
-    ensures ok { OnOk result (out.new ≡ out.old ++ words (action_words (Action.Heur node outcome))) }
-    ensures err { OnErr result (Keeps out.old out.new) }
+fn put_site(word: &str, site: &SiteName, text: &mut Text)
+    ensures { Adds text.old (words (word.now ∷ site.now ∷ [])) text.new }
 {
-    let words = [
-        Word::Text("heur"),
-        Word::Short(node),
-        Word::Outcome(outcome),
-    ];
-    write_words(alloc, &words, out)
+    text.word(word);
+    text.space();
+    text.site(site);
 }
 
-fn append_node(
-    alloc: Global,
-    node: u16,
-    site: &SiteName,
-    under: Option<u16>,
-    out: &mut Octets,
-) -> Result<(), NoMemory>
-    ensures ok { OnOk result (out.new ≡ out.old ++ words (line_words (Line.Node node site.now under))) }
-    ensures err { OnErr result (Keeps out.old out.new) }
+fn put_begin(peer: u16, units: u8, text: &mut Text)
+    ensures { Adds text.old (words (request_words (LineRequest.BeginDialogue peer units))) text.new }
 {
-    let (first, node, site) = (Word::Text("node"), Word::Short(node), Word::Site(site));
+    put_one("begin-dialogue", peer, text);
+    text.space();
+    text.units(units);
+}
+
+fn put_accept(units: u8, text: &mut Text)
+    ensures { Adds text.old (words (request_words (LineRequest.Accept units))) text.new }
+{
+    text.word("accept ");
+    text.units(units);
+}
+
+fn put_data(peer: u16, octets: &Octets, text: &mut Text)
+    ensures { Adds text.old (words (request_words (LineRequest.UserData peer octets.now))) text.new }
+{
+    put_one("data", peer, text);
+    text.space();
+    text.octets(octets);
+}
+
+fn put_do(node: u16, request: &LineRequest, text: &mut Text)
+    ensures { Adds text.old (words (action_words (Action.Do node request.now))) text.new }
+{
+    put_one("do", node, text);
+    text.space();
+    put_request(request, text);
+}
+
+fn put_heur(node: u16, outcome: Outcome, text: &mut Text)
+    ensures { Adds text.old (words (action_words (Action.Heur node outcome))) text.new }
+{
+    put_one("heur", node, text);
+    text.space();
+    text.outcome(outcome);
+}
+
+fn put_node(node: u16, site: &SiteName, under: Option<u16>, text: &mut Text)
+    ensures { Adds text.old (words (line_words (Line.Node node site.now under))) text.new }
+{
+    put_one("node", node, text);
+    text.space();
     match under {
-        None => write_words(alloc, &[first, node, site], out),
-        Some(superior) => {
-            let under = Word::Short(superior);
-            write_words(alloc, &[first, node, site, Word::Text("under"), under], out)
-        }
+        None => text.site(site),
+        Some(superior) => put_under(site, superior, text),
     }
 }
 
-fn append_crash(alloc: Global, site: &SiteName, out: &mut Octets) -> Result<(), NoMemory>
-    ensures ok { OnOk result (out.new ≡ out.old ++ words (line_words (Line.Crash site.now))) }
-    ensures err { OnErr result (Keeps out.old out.new) }
+fn put_under(site: &SiteName, superior: u16, text: &mut Text)
+    ensures { Adds text.old (words (site.now ∷ under_words (Some superior))) text.new }
 {
-    write_words(alloc, &[Word::Text("crash"), Word::Site(site)], out)
+    text.site(site);
+    text.word(" under");
+    text.next_short(superior);
 }
 
-fn append_image(alloc: Global, site: &SiteName, out: &mut Octets) -> Result<(), NoMemory>
-    ensures ok { OnOk result (out.new ≡ out.old ++ words (line_words (Line.Image site.now))) }
-    ensures err { OnErr result (Keeps out.old out.new) }
+fn put_crash_in(site: &SiteName, at: u8, fill: u8, action: &Action, text: &mut Text)
+    ensures { Adds text.old (words (line_words (Line.CrashIn site.now at fill action.now))) text.new }
 {
-    write_words(alloc, &[Word::Text("image"), Word::Site(site)], out)
+    put_stop(site, at, fill, text);
+    text.space();
+    put_action(action, text);
 }
 
-fn append_crash_in(
-    alloc: Global,
-    site: &SiteName,
-    at: u8,
-    fill: u8,
-    action: &Action,
-    out: &mut Octets,
-) -> Result<(), NoMemory>
-    ensures ok { OnOk result (out.new ≡ out.old ++ words (line_words (Line.CrashIn site.now at fill action.now))) }
-    ensures err { OnErr result (Keeps out.old out.new) }
+// Where a crash falls, and what fills the bytes that it leaves.
+fn put_stop(site: &SiteName, at: u8, fill: u8, text: &mut Text)
+    ensures { Adds text.old (words (codes "crash" ∷ site.now ∷ codes "at" ∷ decimal at ∷ codes "fill" ∷ hex (fill ∷ []) ∷ codes "in" ∷ [])) text.new }
 {
-    let words = [
-        Word::Text("crash"),
-        Word::Site(site),
-        Word::Text("at"),
-        Word::Short(u16::from(at)),
-        Word::Text("fill"),
-        Word::Octet(fill),
-        Word::Text("in"),
-    ];
-    write_words(alloc, &words, out)?;
-    out.push(alloc, b' ')?;
-    append_action(alloc, action, out)?;
-    Ok(())
+    text.word("crash ");
+    text.site(site);
+    text.word(" at");
+    text.next_short(u16::from(at));
+    text.word(" fill ");
+    text.octet(fill);
+    text.word(" in");
 }

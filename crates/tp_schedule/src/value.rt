@@ -6,10 +6,19 @@ ghost use Rattle.tp_schedule.specs.Answers.{read_as, Reads, same, both_answers, 
 
 use crate::LineFault;
 use crate::cutting::only_word;
-use crate::digits::UNIT_LETTERS;
 use hex::FromHexError;
 use std::alloc::Global;
 use tp_names::{Octets, Outcome, SiteName};
+
+/// The bit of each unit and its letter, in the order in which they are written.
+const UNIT_LETTERS: [(u8, u8); 6] = [
+    (1, b's'),
+    (2, b'p'),
+    (4, b'h'),
+    (8, b'c'),
+    (16, b'k'),
+    (32, b'u'),
+];
 
 /// The most octets that a word may have.
 const MAX_OCTETS: usize = 2000;

@@ -1,5 +1,5 @@
 -- A site that runs ahead of its log: what it comes to when all that is noted is settled.
-use Rattle.std.proofs.Common.{◌≡◌, ℕ, Bool, Result, Ok, Err, List, map, refl, ap, ◌∙◌}
+use Rattle.std.proofs.Common.{◌≡◌, ℕ, Bool, Result, Ok, Err, List, map, ap, ◌∙◌}
 use Rattle.tp_records.specs.declared.body.Event.{Event as Given}
 use Rattle.tp_model.specs.NodeRun.{Opening}
 use Rattle.tp_journal.specs.declared.faults.ForceFault.{ForceFault}

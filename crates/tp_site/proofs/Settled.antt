@@ -1,10 +1,13 @@
 -- An event that was tried, and has happened now that its record is forced.
-use Rattle.std.proofs.Common.{◌≡◌, ◌==◌, inr, ℕ, refl, ap, sym, ◌∙◌, subst, cond, Option, Some, List, [], ◌∷◌, ◌++◌, map, Ok, Err}
+use Rattle.std.proofs.Common.{◌≡◌, ◌==◌, inr, ℕ, refl, ap, sym, ◌∙◌, subst, cond, Option, Some, None, List, [], ◌∷◌, ◌++◌, map, Ok, Err}
 use Rattle.tp_logrec.specs.declared.record.LogRec.{LogRec}
 use Rattle.tp_logrec.specs.declared.record.LogVersion.{LogVersion}
 use Rattle.tp_model.specs.declared.refusal.Refusal.{Refusal}
 use Rattle.tp_model.specs.declared.transaction.TxFault.{TxFault}
-use Rattle.tp_model.specs.Parts.{Event, Digest}
+use Rattle.tp_model.specs.Parts.{Event, Digest, Out}
+use Rattle.tp_model.specs.Node.{Move}
+use Rattle.tp_node.specs.declared.event.NodeEvent.{NodeEvent}
+use Rattle.tp_node.specs.NodeEvent.{event_of}
 use Rattle.tp_model.specs.Events.{started}
 use Rattle.tp_model.specs.NodeRun.{boot_of, records_at}
 use Rattle.tp_journal.specs.declared.faults.ForceFault.{ForceFault}
@@ -14,15 +17,14 @@ use Rattle.tp_journal.specs.Records.{version_of}
 use Rattle.tp_journal.specs.declared.receipts.Receipt.{Receipt}
 use Rattle.tp_draft.specs.Draft.{Draft}
 use Rattle.tp_site.specs.declared.faults.LogFault.{LogFault}
+use Rattle.tp_site.specs.declared.faults.SiteFault.{SiteFault}
 use Rattle.tp_site.specs.Faults.{fault_of, site_fault, start_fault, unfound}
 use Rattle.tp_site.specs.Nodes.{Nodes, IsSameSite, digest_at}
 use Rattle.tp_site.specs.Events.{IsAt, all_nodes}
+use Rattle.tp_site.specs.declared.prepared.Prepared.{Prepared}
+use Rattle.tp_site.specs.Prepared.{emptied, refusal_of, Prepares, CarriesOut, HasRun}
 use Rattle.tp_site.specs.Site.{Site, IsSame, IsForced, IsUnforced, IsAttempted, IsSettled, IsPlayed, IsHalted, IsFound, IsUnfound, IsUnstarted, Attempts, Settles, Plays, Opens, Starts, told_records, opening_of, rec_of, known_at}
 use Rattle.tp_site.proofs.Stepping.{wide_forced, kept_forced}
-
--- the draft whose outputs were taken out of it
-abbrev pub emptied : Draft → Draft
-emptied a = record a { move = record a.move { outs = [] } }
 
 pub settled : {K : Type 0} (standing : K → Standing) (old mid new : Site K) (n : ℕ) (e : Event) (refusal : Option Refusal) (a b : Draft) → IsAttempted old n e refusal a mid → b ≡ emptied a
     → IsSettled standing mid n b.move.next b.move.rec new → IsPlayed standing old n e (record { refusal = refusal; outs = a.move.outs }) new a.move
@@ -40,6 +42,19 @@ settled standing old mid new n e refusal a b tried taken done = record {
   open_after = done.shut ∙ tried.open_after;
 }
 
+-- ---- what was prepared and was carried out
+
+pub carried : {K : Type 0} (standing : K → Standing) (old mid new : Site K) (n : ℕ) (e : NodeEvent) (p : Prepared) (draft : Draft) (outs : List Out) → Prepares standing old n e (Ok p) draft outs mid
+    → CarriesOut standing mid n e p draft (Ok tt) new → (m : Move) × IsPlayed standing old n (event_of e) (record { refusal = refusal_of p; outs = outs }) new m
+carried {K} standing old mid new n e Prepared.InPlace draft outs h done = subst (λ (s : Site K). HasRun standing s n e new) h.1 done outs h.0
+carried standing old mid new n e (Prepared.Drawn r) draft outs h done =
+    subst (λ (l : List Out). (m : Move) × IsPlayed standing old n (event_of e) (record { refusal = r; outs = l }) new m) (sym h.outs)
+    (h.whole.move, settled standing old mid new n (event_of e) r h.whole draft h.attempted h.rest done)
+
+pub same_site : {K : Type 0} (standing : K → Standing) (old mid : Site K) (n : ℕ) (e : NodeEvent) (p : Prepared) (draft : Draft) (outs : List Out) → Prepares standing old n e (Ok p) draft outs mid → mid.nodes.site ≡ old.nodes.site
+same_site standing old mid n e Prepared.InPlace draft outs h = ap (λ s. s.nodes.site) h.1
+same_site standing old mid n e (Prepared.Drawn r) draft outs h = h.attempted.same.site.site
+
 -- ---- what was tried and does not happen
 
 pub attempted : {K : Type 0} (standing : K → Standing) (old new : Site K) (n : ℕ) (e : Event) (f : TxFault) (a : Draft) → Attempts standing old n e (Err f) a new → Plays standing old n e (Err (fault_of f)) new
@@ -54,6 +69,10 @@ same_after : {K : Type 0} (old mid new : Site K) → IsSame old mid → new.node
 same_after old mid new same nodes =
     let both : IsSameNodes old new.nodes = subst (λ (v : Nodes). IsSameNodes old v) (sym nodes) (same.site, same.known) in
     record { site = both.0; known = both.1 }
+
+-- where memory is wanting before anything is tried, nothing changes
+pub unplanned : {K : Type 0} (standing : K → Standing) (s : Site K) (n : ℕ) (e : Event) → s.shut ≡ None → Plays standing s n e (Err SiteFault.NoMemory) s
+unplanned standing s n e is = (record { site = record { site = refl; boot = refl; version = refl }; known = λ k. refl }, refl, is, is)
 
 -- its record was not forced
 unforced : {K : Type 0} (standing : K → Standing) (old mid new : Site K) (n : ℕ) (e : Event) (refusal : Option Refusal) (a : Draft) (rec : Option LogRec) (fault : ForceFault) → IsAttempted old n e refusal a mid → rec ≡ a.move.rec

@@ -7,6 +7,7 @@ pub mod Shaped
 pub mod Faults
 pub mod InPlace
 pub mod Site
+pub mod Prepared
 pub mod Events
 pub mod Recalled
 pub mod Resume

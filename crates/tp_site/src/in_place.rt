@@ -1,6 +1,10 @@
 //! Events that are run on their node itself, and not on a draft of it: what they say is known before anything is so.
-ghost use Rattle.std.specs.Prelude.{◌≡◌, true, None, IfOk, OnOk};
+ghost use Rattle.std.specs.Prelude.{◌≡◌, true, false, None, Some, Ok, IfOk, OnOk};
+ghost use Rattle.tp_model.specs.declared.refusal.Refusal.{Refusal};
 ghost use Rattle.tp_model.specs.Arrivals.{refused_arrival};
+ghost use Rattle.tp_model.specs.Parts.{Do, Arrive};
+ghost use Rattle.tp_model.specs.Events.{refused_plainly};
+ghost use Rattle.tp_draft.specs.Answers.{IsPlain};
 ghost use Rattle.tp_node.specs.declared.event.NodeEvent.{NodeEvent};
 ghost use Rattle.tp_node.specs.Begins.{with_digest};
 ghost use Rattle.tp_node.specs.NodeEvent.{refused_at_once};
@@ -49,7 +53,8 @@ fn plan_arrival(
     rec: &PeerRecord,
     outs: &mut Outs,
 ) -> Result<bool, NoMemory>
-    ensures { IfOk result (λ planned. planned ≡ true → IsPlanned node.now (NodeEvent.Arrive from.now rec.entry) outs.new) }
+    ensures plain { (x : Refusal) → refused_plainly node.now.who node.now.digest (Arrive from.now rec.now) ≡ Some x → result ≡ Ok false }
+    ensures planned { IfOk result (λ planned. planned ≡ true → IsPlanned node.now (NodeEvent.Arrive from.now rec.entry) outs.new) }
 {
     let PeerRecord::OnAssoc { rec: said, .. } = rec else {
         return Ok(false);
@@ -68,7 +73,8 @@ fn plan_arrival(
 
 // Of a request: a Begin for which nothing can be wanting.
 fn plan_request(node: &Node, request: &Request, outs: &mut Outs) -> Result<bool, NoMemory>
-    ensures { IfOk result (λ planned. planned ≡ true → IsPlanned node.now (NodeEvent.Do request.entry) outs.new) }
+    ensures plain { (x : Refusal) → refused_plainly node.now.who node.now.digest (Do request.now) ≡ Some x → result ≡ Ok false }
+    ensures planned { IfOk result (λ planned. planned ≡ true → IsPlanned node.now (NodeEvent.Do request.entry) outs.new) }
 {
     match request {
         Request::BeginTransaction { peer } => plan_begin(node, *peer, request, outs),
@@ -79,7 +85,8 @@ fn plan_request(node: &Node, request: &Request, outs: &mut Outs) -> Result<bool,
 // Of that request, which is to begin a transaction with that peer.
 fn plan_begin(node: &Node, peer: u16, request: &Request, outs: &mut Outs) -> Result<bool, NoMemory>
     requires { request.now ≡ Asks.BeginTransaction peer }
-    ensures { IfOk result (λ planned. planned ≡ true → IsPlanned node.now (NodeEvent.Do request.entry) outs.new) }
+    ensures plain { (x : Refusal) → refused_plainly node.now.who node.now.digest (Do request.now) ≡ Some x → result ≡ Ok false }
+    ensures planned { IfOk result (λ planned. planned ≡ true → IsPlanned node.now (NodeEvent.Do request.entry) outs.new) }
 {
     let Some(out) = node.plan_begin(peer) else {
         return Ok(false);
@@ -94,7 +101,8 @@ fn plan_begin(node: &Node, peer: u16, request: &Request, outs: &mut Outs) -> Res
 
 /// Whether the event is one that is run on its node itself, and not on a draft; what it says stands there then.
 pub(crate) fn plan(node: &Node, event: &NodeEvent<'_>, outs: &mut Outs) -> Result<bool, NoMemory>
-    ensures { IfOk result (λ planned. planned ≡ true → IsPlanned node.now event.now outs.new) }
+    ensures plain { (x : Refusal) → IsPlain node.now event.now x → result ≡ Ok false }
+    ensures planned { IfOk result (λ planned. planned ≡ true → IsPlanned node.now event.now outs.new) }
 {
     match event {
         NodeEvent::Do { request } => plan_request(node, request, outs),

@@ -1,5 +1,5 @@
 //! The nodes of a site.
-ghost use Rattle.std.specs.Prelude.{ℕ, ◌≡◌, ◌==◌, ◌++◌, ◌∷◌, cond, true, List, [], None, IfOk, IfSome, OnOk};
+ghost use Rattle.std.specs.Prelude.{ℕ, ◌≡◌, ◌==◌, ◌++◌, ◌∷◌, cond, true, false, List, [], None, Ok, IfOk, IfSome, OnOk};
 ghost use Rattle.tp_logrec.specs.declared.record.LogRec.{LogRec as LogRecord};
 ghost use Rattle.std.specs.Option.{option_copied, is_some};
 ghost use Rattle.tp_model.specs.declared.refusal.Refusal.{Refusal};
@@ -217,6 +217,7 @@ impl Nodes {
         event: &NodeEvent<'_>,
         outs: &mut Outs,
     ) -> Result<bool, NoMemory>
+        ensures plain { (x : Refusal) → IsPlain (node_at self.now number) event.now x → result ≡ Ok false }
         ensures there { IfOk result (λ planned. planned ≡ true → has_node self.now number ≡ true) }
         ensures planned { IfOk result (λ planned. planned ≡ true → IsPlanned (node_at self.now number) event.now outs.new) }
     {

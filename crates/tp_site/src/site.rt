@@ -3,12 +3,13 @@ mod ahead;
 mod event;
 mod resume;
 
-ghost use Rattle.std.specs.Prelude.{◌≡◌, true, [], IfOk, IfErr, OnOk, Ok, Some, None};
+ghost use Rattle.std.specs.Prelude.{◌≡◌, true, [], List, IfOk, IfErr, OnOk, Ok, Err, Some, None};
 ghost use Rattle.std.specs.Option.{option_map};
 ghost use Rattle.tp_logrec.specs.Order.{boots, last_number};
 ghost use Rattle.tp_model.specs.declared.refusal.Refusal.{Refusal};
 ghost use Rattle.tp_model.specs.Refusal.{number_of};
 ghost use Rattle.tp_model.specs.History.{state};
+ghost use Rattle.tp_model.specs.Parts.{Out};
 ghost use Rattle.tp_logrec.specs.declared.record.LogRec.{LogRec as TheRecord};
 ghost use Rattle.tp_model.specs.NodeRun.{boot_of};
 ghost use Rattle.tp_journal.specs.Records.{version_of, HasText};
@@ -19,7 +20,7 @@ ghost use Rattle.tp_site.specs.Events.{IsAt, all_nodes};
 ghost use Rattle.tp_site.specs.Site.{Plays, PlaysInto, Attempts, Settles, Records, Opens, Starts, IsFound, IsUnfound, told_records, opening_of, state_at, known_at};
 ghost use Rattle.tp_node.specs.State.{state_of, tree_in};
 ghost use Rattle.tp_site.specs.Faults.{fault_of, shut_by};
-ghost use Rattle.tp_site.specs.InPlace.{IsPlanned};
+ghost use Rattle.tp_site.specs.Prepared.{HasRun, IsPlannedAt, IsReady, Prepares, CarriesOut, IsShapedPrepared, HasTextPrepared};
 ghost use Rattle.tp_site.specs.Shaped.{AreShapedNodes, IsShapedDraft, HasTextOption, HasTextIfStarted};
 ghost use Rattle.tp_texts.specs.Shapes.{IsShaped};
 ghost use Rattle.tp_encodable.specs.Standing.{IsShapedOption};
@@ -27,6 +28,7 @@ ghost use Rattle.tp_encodable.specs.Sizes.{AreShort, BringsFew};
 
 use crate::faults::{LogFault, SiteFault, StartFault};
 use crate::nodes::Nodes;
+use crate::prepared::Prepared;
 use std::alloc::Global;
 use std::marker::Model;
 use tp_draft::Draft;
@@ -174,8 +176,55 @@ impl<K: Keeper> Site<K> {
         Ok(Box::new(alloc, Draft::of(alloc, node))?)
     }
 
-    // An event of the node of that number, drawn up on that draft; what it says stands there then.
-    #[tactic(auto, using(crate::proofs::Settled::attempted, crate::proofs::Settled::halted))]
+    // What an event is to change and to say is worked out: the change on the draft, where it does not run on its node itself, and
+    // what it says in `outs`. Nothing of it is so yet.
+    #[tactic(auto, using(crate::proofs::Settled::attempted, crate::proofs::Settled::unplanned))]
+    fn prepare(
+        &mut self,
+        alloc: Global,
+        node: u16,
+        event: &NodeEvent<'_>,
+        draft: &mut Draft,
+        outs: &mut Outs,
+    ) -> Result<Prepared, TxFault>
+        requires { self.old.shut ≡ None }
+        ensures plain { (x : Refusal) → IsPlain (node_at self.old.nodes node) event.now x → result ≡ Err (TxFault.Refused (number_of x)) }
+        ensures prepares { Prepares K.standing self.old node event.now result draft.new outs.new self.new }
+        ensures shaped { IfOk result (λ prepared. IsShapedPrepared prepared self.new.nodes.version draft.new.move) }
+        ensures short { IfOk result (λ prepared. BringsFew (event_of event.now) → AreShort outs.new) }
+    {
+        if self.nodes.plan(node, event, outs)? {
+            return Ok(Prepared::InPlace);
+        }
+        let refusal = self.attempt(alloc, node, event, draft)?;
+        draft.take_outs(outs);
+        Ok(Prepared::Drawn(refusal))
+    }
+
+    // What was prepared happens: its record is forced, and the node changes.
+    fn carry_out(
+        &mut self,
+        alloc: Global,
+        node: u16,
+        event: &NodeEvent<'_>,
+        prepared: Prepared,
+        draft: &mut Draft,
+    ) -> Result<(), ForceFault>
+        requires open { self.old.shut ≡ None }
+        requires ready { IsReady self.old node event.now prepared draft.old }
+        ensures done { CarriesOut K.standing self.old node event.now prepared draft.old result self.new }
+        ensures text { HasTextPrepared prepared (K.standing self.old.keeper).wide draft.old.move.rec }
+    {
+        match prepared {
+            Prepared::InPlace => {
+                self.happen(node, event);
+                Ok(())
+            }
+            Prepared::Drawn(_) => self.settle(alloc, node, draft),
+        }
+    }
+
+    // An event of the node of that number, with a draft for it; what it says stands there then.
     fn play_on(
         &mut self,
         alloc: Global,
@@ -187,10 +236,9 @@ impl<K: Keeper> Site<K> {
         requires { self.old.shut ≡ None }
         ensures { PlaysInto K.standing self.old node (event_of event.now) result outs.new self.new }
     {
-        let refusal = self.attempt(alloc, node, event, draft)?;
-        self.settle(alloc, node, draft)?;
-        draft.take_outs(outs);
-        Ok(refusal)
+        let prepared = self.prepare(alloc, node, event, draft, outs)?;
+        self.carry_out(alloc, node, event, prepared, draft)?;
+        Ok(prepared.refusal())
     }
 
     // Promise 11.1: Whatever is known of a node, an event of it is refused, says, logs and leaves
@@ -231,38 +279,18 @@ impl<K: Keeper> Site<K> {
         if let Some(faults) = self.shut {
             return Err(SiteFault::Shut { faults });
         }
-        if self.nodes.plan(node, event, outs)? {
-            self.happen(node, event, outs);
-            return Ok(None);
-        }
-        self.play_drawn(alloc, node, event, outs)
-    }
-
-    // An event of the node of that number, drawn up on a draft; what it says stands there then.
-    fn play_drawn(
-        &mut self,
-        alloc: Global,
-        node: u16,
-        event: &NodeEvent<'_>,
-        outs: &mut Outs,
-    ) -> Result<Option<Refusal>, SiteFault>
-        requires { self.old.shut ≡ None }
-        ensures { PlaysInto K.standing self.old node (event_of event.now) result outs.new self.new }
-    {
         let mut draft = self.spare_draft(alloc, node, event)?;
         let played = self.play_on(alloc, node, event, &mut draft, outs);
         self.spare = Some(draft);
         played
     }
 
-    // An event that is planned, and says that, is run on its node itself.
-    fn happen(&mut self, node: u16, event: &NodeEvent<'_>, outs: &Outs)
-        requires there { has_node self.old.nodes node ≡ true }
-        requires planned { IsPlanned (node_at self.old.nodes node) event.now outs.now }
+    // An event that can run on its node itself does so.
+    fn happen(&mut self, node: u16, event: &NodeEvent<'_>)
+        requires ready { (outs : List Out) × IsPlannedAt self.old node event.now outs }
         requires open { self.old.shut ≡ None }
-        ensures { PlaysInto K.standing self.old node (event_of event.now) (Ok None) outs.now self.new }
+        ensures { HasRun K.standing self.old node event.now self.new }
     {
-        let _said = outs;
         self.nodes.apply(node, event);
     }
 

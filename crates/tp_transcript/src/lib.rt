@@ -15,5 +15,5 @@ mod sent_words;
 mod told_words;
 
 pub use log_words::{write_aaid, write_key, write_rec};
-pub use out_line::{append_out, write_out};
+pub use out_line::{put_out, write_out};
 pub use out_reading::read_out;

@@ -1,19 +1,15 @@
 //! Writing identifiers, keys and the records of a log.
 ghost use Rattle.std.specs.Prelude.{◌≡◌, ◌++◌, ◌∷◌, [], OnErr, OnOk};
-ghost use Rattle.tp_names.specs.Writing.{Keeps};
-ghost use Rattle.tp_model.specs.Words.{words, decimal, aaid_word, key_words, maybe_word, branch_word, outcome_word};
+ghost use Rattle.tp_text.specs.Written.{Adds};
+ghost use Rattle.tp_model.specs.Words.{words, decimal, aaid_word, key_words, outcome_word};
 ghost use Rattle.tp_model.specs.OutText.{log_words};
 ghost use Rattle.tp_model.specs.Happenings.{log_shown};
-ghost use Rattle.tp_schedule.specs.WordText.{word_text};
 
 use std::alloc::Global;
 use tp_logrec::LogRec;
 use tp_model::LogWords;
-use tp_names::{Aaid, BranchId, NoMemory, NodeKey, Octets, Outcome};
-use tp_schedule::word::{
-    self, Word, write_alone, write_branch, write_long, write_number, write_outcome, write_report,
-    write_words,
-};
+use tp_names::{Aaid, NoMemory, NodeKey, Octets, Outcome, Report};
+use tp_text::Text;
 
 // Promise 2.21, part 6
 /// Puts the identifier's word at the end of `out`. Without memory `out` stays as it was.
@@ -21,12 +17,9 @@ pub fn write_aaid(alloc: Global, a: &Aaid, out: &mut Octets) -> Result<(), NoMem
     ensures ok { OnOk result (out.new ≡ out.old ++ aaid_word a.now) }
     ensures err { OnErr result (out.new ≡ out.old) }
 {
-    let len = out.len();
-    let written = write_words(alloc, &[Word::Aaid(a)], out);
-    if written.is_err() {
-        out.truncate(len);
-    }
-    written
+    let mut text = Text::after(alloc, out);
+    text.aaid(a);
+    text.done(out)
 }
 
 // Promise 2.21, part 5
@@ -35,16 +28,9 @@ pub fn write_key(alloc: Global, k: &NodeKey, out: &mut Octets) -> Result<(), NoM
     ensures ok { OnOk result (out.new ≡ out.old ++ words (key_words k.now)) }
     ensures err { OnErr result (out.new ≡ out.old) }
 {
-    let len = out.len();
-    let written = write_words(
-        alloc,
-        &[Word::Aaid(&k.aaid), branch_or_none(&k.branch)],
-        out,
-    );
-    if written.is_err() {
-        out.truncate(len);
-    }
-    written
+    let mut text = Text::after(alloc, out);
+    put_key(k, &mut text);
+    text.done(out)
 }
 
 // Promise 2.21, part 4
@@ -53,12 +39,9 @@ pub fn write_rec(alloc: Global, v: &LogRec, out: &mut Octets) -> Result<(), NoMe
     ensures ok { OnOk result (out.new ≡ out.old ++ words (log_words (log_shown v.now))) }
     ensures err { OnErr result (out.new ≡ out.old) }
 {
-    let len = out.len();
-    let written = write_log(alloc, &shown(v), out);
-    if written.is_err() {
-        out.truncate(len);
-    }
-    written
+    let mut text = Text::after(alloc, out);
+    put_log(&shown(v), &mut text);
+    text.done(out)
 }
 
 fn shown(v: &LogRec) -> LogWords
@@ -99,89 +82,69 @@ fn shown(v: &LogRec) -> LogWords
     }
 }
 
-pub(crate) fn branch_or_none<'a>(branch: &'a Option<BranchId>) -> Word<'a>
-    ensures { word_text result ≡ maybe_word branch_word branch.now }
-{
-    match branch {
-        None => Word::Text("-"),
-        Some(branch) => Word::Branch(branch),
-    }
-}
-
-/// The words of a record as a line shows it.
-pub(crate) fn write_log(alloc: Global, rec: &LogWords, out: &mut Octets) -> Result<(), NoMemory>
-    ensures ok { OnOk result (out.new ≡ out.old ++ words (log_words rec.now)) }
-    ensures err { OnErr result (Keeps out.old out.new) }
+/// Puts the words of a record as a line shows it.
+pub(crate) fn put_log(rec: &LogWords, text: &mut Text)
+    ensures { Adds text.old (words (log_words rec.now)) text.new }
 {
     match rec {
-        LogWords::Boot { boot } => write_long(alloc, "boot", *boot, out),
-        LogWords::Ready { node, key } => {
-            write_alone(alloc, "ready", out)?;
-            write_keyed(alloc, *node, key, out)
-        }
+        LogWords::Boot { boot } => put_boot(*boot, text),
+        LogWords::Ready { node, key } => put_keyed("ready", *node, key, text),
         LogWords::Heuristic { node, key, outcome } => {
-            write_alone(alloc, "heuristic", out)?;
-            write_keyed_outcome(alloc, *node, key, *outcome, out)
+            put_keyed_outcome("heuristic", *node, key, *outcome, text)
         }
-        LogWords::Commit { node, key } => {
-            write_alone(alloc, "commit", out)?;
-            write_keyed(alloc, *node, key, out)
-        }
+        LogWords::Commit { node, key } => put_keyed("commit", *node, key, text),
         LogWords::Damage {
             node,
             key,
             side,
             report,
-        } => {
-            write_alone(alloc, "damage", out)?;
-            write_keyed_outcome(alloc, *node, key, *side, out)?;
-            write_report(alloc, *report, out)
-        }
+        } => put_damage(*node, key, *side, *report, text),
         LogWords::End { node, key, outcome } => {
-            write_alone(alloc, "end", out)?;
-            write_keyed_outcome(alloc, *node, key, *outcome, out)
+            put_keyed_outcome("end", *node, key, *outcome, text)
         }
     }
 }
 
-// A node and its key, after a space.
-fn write_keyed(alloc: Global, node: u16, key: &NodeKey, out: &mut Octets) -> Result<(), NoMemory>
-    ensures ok { OnOk result (out.new ≡ out.old ++ (32 ∷ words (decimal node ∷ key_words key.now))) }
-    ensures err { OnErr result (Keeps out.old out.new) }
+fn put_key(key: &NodeKey, text: &mut Text)
+    ensures { Adds text.old (words (key_words key.now)) text.new }
 {
-    write_number(alloc, node, out)?;
-    word::write_aaid(alloc, &key.aaid, out)?;
-    write_branch_or_none(alloc, &key.branch, out)?;
-    Ok(())
+    text.aaid(&key.aaid);
+    text.space();
+    text.maybe_branch(&key.branch);
 }
 
-// The identifier of a branch, or `-` for none, after a space.
-fn write_branch_or_none(
-    alloc: Global,
-    branch: &Option<BranchId>,
-    out: &mut Octets,
-) -> Result<(), NoMemory>
-    ensures ok { OnOk result (out.new ≡ out.old ++ (32 ∷ maybe_word branch_word branch.now)) }
-    ensures err { OnErr result (Keeps out.old out.new) }
+// A word, a node and its key.
+#[inline(always)]
+fn put_keyed(word: &str, node: u16, key: &NodeKey, text: &mut Text)
+    ensures { Adds text.old (words (word.now ∷ decimal node ∷ key_words key.now)) text.new }
 {
-    match branch {
-        None => write_alone(alloc, " -", out),
-        Some(branch) => write_branch(alloc, branch, out),
-    }
+    text.word(word);
+    text.next_short(node);
+    text.space();
+    put_key(key, text);
 }
 
 // The same and an outcome.
-fn write_keyed_outcome(
-    alloc: Global,
-    node: u16,
-    key: &NodeKey,
-    outcome: Outcome,
-    out: &mut Octets,
-) -> Result<(), NoMemory>
-    ensures ok { OnOk result (out.new ≡ out.old ++ (32 ∷ words (decimal node ∷ key_words key.now ++ outcome_word outcome ∷ []))) }
-    ensures err { OnErr result (Keeps out.old out.new) }
+#[inline(always)]
+fn put_keyed_outcome(word: &str, node: u16, key: &NodeKey, outcome: Outcome, text: &mut Text)
+    ensures { Adds text.old (words (word.now ∷ decimal node ∷ key_words key.now ++ outcome_word outcome ∷ [])) text.new }
 {
-    write_keyed(alloc, node, key, out)?;
-    write_outcome(alloc, outcome, out)?;
-    Ok(())
+    put_keyed(word, node, key, text);
+    text.space();
+    text.outcome(outcome);
+}
+
+fn put_boot(boot: u64, text: &mut Text)
+    ensures { Adds text.old (words (log_words (LogWords.Boot boot))) text.new }
+{
+    text.word("boot");
+    text.next_number(boot);
+}
+
+fn put_damage(node: u16, key: &NodeKey, side: Outcome, report: Report, text: &mut Text)
+    ensures { Adds text.old (words (log_words (LogWords.Damage node key.now side report))) text.new }
+{
+    put_keyed_outcome("damage", node, key, side, text);
+    text.space();
+    text.report(report);
 }

@@ -1,20 +1,17 @@
 //! Writing a line of a transcript.
-ghost use Rattle.std.specs.Prelude.{◌≡◌, ◌++◌, ◌∷◌, [], OnErr, OnOk, codes};
-ghost use Rattle.tp_names.specs.Writing.{Keeps};
+ghost use Rattle.std.specs.Prelude.{◌≡◌, ◌++◌, ◌∷◌, [], OnErr, OnOk};
+ghost use Rattle.tp_text.specs.Written.{Adds};
 ghost use Rattle.tp_model.specs.OutText.{out_text};
 ghost use Rattle.tp_model.specs.Words.{words, decimal};
 
-use crate::log_words::write_log;
-use crate::sent_words::write_sent;
-use crate::told_words::write_told;
+use crate::log_words::put_log;
+use crate::sent_words::put_sent;
+use crate::told_words::put_told;
 use std::alloc::Global;
 use tp_model::{LogWords, NodeNumbers, OutLine, PhaseWord, RecordFate, SentWords};
 use tp_names::{Aaid, NoMemory, Octets, Outcome, SiteName};
 use tp_records::Indication;
-use tp_schedule::word::{
-    Word, write_aaid, write_after_four, write_alone, write_four_before, write_logger, write_one,
-    write_outcome, write_two_between, write_words,
-};
+use tp_text::Text;
 
 // Promise 2.21, part 2
 /// Puts the line's text at the end of `out`, without an end. Without memory `out` stays as it was.
@@ -22,216 +19,135 @@ pub fn write_out(alloc: Global, o: &OutLine, out: &mut Octets) -> Result<(), NoM
     ensures ok { OnOk result (out.new ≡ out.old ++ out_text o.now) }
     ensures err { OnErr result (out.new ≡ out.old) }
 {
-    let len = out.len();
-    let written = append_out(alloc, o, out);
-    if written.is_err() {
-        out.truncate(len);
-    }
-    written
+    let mut text = Text::after(alloc, out);
+    put_out(o, &mut text);
+    text.done(out)
 }
 
 // Promise 2.21, part 3
-/// Puts the line's text at the end of `out`, without an end. Without memory a part of it may stand there.
-pub fn append_out(alloc: Global, o: &OutLine, out: &mut Octets) -> Result<(), NoMemory>
-    ensures ok { OnOk result (out.new ≡ out.old ++ out_text o.now) }
-    ensures err { OnErr result (Keeps out.old out.new) }
+/// Puts the line's text at the end of a text, without an end.
+pub fn put_out(o: &OutLine, text: &mut Text)
+    ensures { Adds text.old (out_text o.now) text.new }
 {
     match o {
-        OutLine::Echo(text) => append_echo(alloc, text, out),
-        OutLine::Log { site, rec } => append_logged(alloc, site, rec, out),
-        OutLine::Take { frame } => append_taken(alloc, *frame, out),
+        OutLine::Echo(line) => put_echo(line, text),
+        OutLine::Log { site, rec } => put_logged(site, rec, text),
+        OutLine::Take { frame } => put_one("take", *frame, text),
         OutLine::Send {
             frame,
             from,
             to,
             rec,
-        } => append_sent(alloc, *frame, (*from, *to), rec, out),
-        OutLine::Tell { node, indication } => append_told(alloc, *node, indication, out),
-        OutLine::Refused { number } => write_one(alloc, "refused", u16::from(*number), out),
-        OutLine::Dropped { number } => write_one(alloc, "dropped", u16::from(*number), out),
-        OutLine::Nothing => write_alone(alloc, "nothing", out),
-        OutLine::Lost { frame } => write_one(alloc, "lost", *frame, out),
-        OutLine::Stopped { site, fate } => append_stopped(alloc, site, *fate, out),
-        OutLine::State { node, phase, kept } => append_state(alloc, *node, *phase, *kept, out),
-        OutLine::Image { site, bytes } => append_image(alloc, site, bytes, out),
-        OutLine::Agreed { aaid, outcome } => append_agreed(alloc, aaid, *outcome, out),
-        OutLine::Mixed { aaid, by } => append_mixed(alloc, aaid, by, out),
-        OutLine::Open { aaid } => append_open(alloc, aaid, out),
+        } => put_send(*frame, *from, *to, rec, text),
+        OutLine::Tell { node, indication } => put_tell(*node, indication, text),
+        OutLine::Refused { number } => put_one("refused", u16::from(*number), text),
+        OutLine::Dropped { number } => put_one("dropped", u16::from(*number), text),
+        OutLine::Nothing => text.word("nothing"),
+        OutLine::Lost { frame } => put_one("lost", *frame, text),
+        OutLine::Stopped { site, fate } => put_stopped(site, *fate, text),
+        OutLine::State { node, phase, kept } => put_state(*node, *phase, *kept, text),
+        OutLine::Image { site, bytes } => put_image(site, bytes, text),
+        OutLine::Agreed { aaid, outcome } => put_agreed(aaid, *outcome, text),
+        OutLine::Mixed { aaid, by } => put_mixed(aaid, by, text),
+        OutLine::Open { aaid } => put_open(aaid, text),
     }
 }
 
-fn append_echo(alloc: Global, text: &Octets, out: &mut Octets) -> Result<(), NoMemory>
-    ensures ok { OnOk result (out.new ≡ out.old ++ out_text (OutLine.Echo text.now)) }
-    ensures err { OnErr result (Keeps out.old out.new) }
+/// Puts a word and a number.
+#[inline(always)]
+pub(crate) fn put_one(word: &str, n: u16, text: &mut Text)
+    ensures { Adds text.old (words (word.now ∷ decimal n ∷ [])) text.new }
 {
-    out.extend_from_slice(alloc, b"> ")?;
-    out.extend_from_slice(alloc, text.as_slice())?;
-    Ok(())
+    text.word(word);
+    text.next_short(n);
 }
 
-fn append_logged(
-    alloc: Global,
-    site: &SiteName,
-    rec: &LogWords,
-    out: &mut Octets,
-) -> Result<(), NoMemory>
-    ensures ok { OnOk result (out.new ≡ out.old ++ out_text (OutLine.Log site.now rec.now)) }
-    ensures err { OnErr result (Keeps out.old out.new) }
+fn put_echo(line: &Octets, text: &mut Text)
+    ensures { Adds text.old (out_text (OutLine.Echo line.now)) text.new }
 {
-    write_logger(alloc, site, out)?;
-    write_log(alloc, rec, out)?;
-    Ok(())
+    text.word("> ");
+    text.put(line.as_slice());
 }
 
-fn append_taken(alloc: Global, frame: u16, out: &mut Octets) -> Result<(), NoMemory>
-    ensures ok { OnOk result (out.new ≡ out.old ++ out_text (OutLine.Take frame)) }
-    ensures err { OnErr result (Keeps out.old out.new) }
+fn put_logged(site: &SiteName, rec: &LogWords, text: &mut Text)
+    ensures { Adds text.old (out_text (OutLine.Log site.now rec.now)) text.new }
 {
-    let word = (b't', b'a', b'k', b'e');
-    write_after_four(alloc, word, u64::from(frame), out)
+    text.word("log ");
+    text.site(site);
+    text.space();
+    put_log(rec, text);
 }
 
-fn append_sent(
-    alloc: Global,
-    frame: u16,
-    ends: (u16, u16),
-    rec: &SentWords,
-    out: &mut Octets,
-) -> Result<(), NoMemory>
-    ensures ok { OnOk result (out.new ≡ out.old ++ out_text (OutLine.Send frame ends.0 ends.1 rec.now)) }
-    ensures err { OnErr result (Keeps out.old out.new) }
+fn put_send(frame: u16, from: u16, to: u16, rec: &SentWords, text: &mut Text)
+    ensures { Adds text.old (out_text (OutLine.Send frame from to rec.now)) text.new }
 {
-    write_frame(alloc, frame, ends, out)?;
-    write_sent(alloc, rec, out)?;
-    Ok(())
+    text.word("send");
+    text.next_short(frame);
+    text.next_short(from);
+    text.next_short(to);
+    text.space();
+    put_sent(rec, text);
 }
 
-// The words before a record that is sent, with a space after them.
-fn write_frame(
-    alloc: Global,
-    frame: u16,
-    ends: (u16, u16),
-    out: &mut Octets,
-) -> Result<(), NoMemory>
-    ensures ok { OnOk result (out.new ≡ (out.old ++ words (codes "send" ∷ decimal frame ∷ decimal ends.0 ∷ decimal ends.1 ∷ [])) ++ 32 ∷ []) }
-    ensures err { OnErr result (Keeps out.old out.new) }
+fn put_tell(node: u16, indication: &Indication, text: &mut Text)
+    ensures { Adds text.old (out_text (OutLine.Tell node indication.now)) text.new }
 {
-    let (from, to) = ends;
-    let word = (b's', b'e', b'n', b'd');
-    write_after_four(alloc, word, u64::from(frame), out)?;
-    write_two_between(alloc, from, to, out)?;
-    Ok(())
+    put_one("tell", node, text);
+    text.space();
+    put_told(indication, text);
 }
 
-fn append_told(
-    alloc: Global,
-    node: u16,
-    indication: &Indication,
-    out: &mut Octets,
-) -> Result<(), NoMemory>
-    ensures ok { OnOk result (out.new ≡ out.old ++ out_text (OutLine.Tell node indication.now)) }
-    ensures err { OnErr result (Keeps out.old out.new) }
+fn put_stopped(site: &SiteName, fate: RecordFate, text: &mut Text)
+    ensures { Adds text.old (out_text (OutLine.Stopped site.now fate)) text.new }
 {
-    write_hearer(alloc, node, out)?;
-    write_told(alloc, indication, out)?;
-    Ok(())
+    text.word("stopped ");
+    text.site(site);
+    text.space();
+    text.fate(fate);
 }
 
-// The words before an indication, with a space after them.
-fn write_hearer(alloc: Global, node: u16, out: &mut Octets) -> Result<(), NoMemory>
-    ensures ok { OnOk result (out.new ≡ (out.old ++ words (codes "tell" ∷ decimal node ∷ [])) ++ 32 ∷ []) }
-    ensures err { OnErr result (Keeps out.old out.new) }
+fn put_state(node: u16, phase: PhaseWord, kept: u64, text: &mut Text)
+    ensures { Adds text.old (out_text (OutLine.State node phase kept)) text.new }
 {
-    let word = (b't', b'e', b'l', b'l');
-    write_four_before(alloc, word, u64::from(node), out)
+    text.word("state");
+    text.next_short(node);
+    text.space();
+    text.phase(phase);
+    text.word(" kept");
+    text.next_number(kept);
 }
 
-fn append_state(
-    alloc: Global,
-    node: u16,
-    phase: PhaseWord,
-    kept: u64,
-    out: &mut Octets,
-) -> Result<(), NoMemory>
-    ensures ok { OnOk result (out.new ≡ out.old ++ out_text (OutLine.State node phase kept)) }
-    ensures err { OnErr result (Keeps out.old out.new) }
+fn put_image(site: &SiteName, bytes: &Octets, text: &mut Text)
+    ensures { Adds text.old (out_text (OutLine.Image site.now bytes.now)) text.new }
 {
-    let (phase, kept) = (Word::Phase(phase), Word::Long(kept));
-    let words = [
-        Word::Text("state"),
-        Word::Short(node),
-        phase,
-        Word::Text("kept"),
-        kept,
-    ];
-    write_words(alloc, &words, out)
+    text.word("image ");
+    text.site(site);
+    text.space();
+    text.hex(bytes);
 }
 
-fn append_stopped(
-    alloc: Global,
-    site: &SiteName,
-    fate: RecordFate,
-    out: &mut Octets,
-) -> Result<(), NoMemory>
-    ensures ok { OnOk result (out.new ≡ out.old ++ out_text (OutLine.Stopped site.now fate)) }
-    ensures err { OnErr result (Keeps out.old out.new) }
+fn put_agreed(aaid: &Aaid, outcome: Outcome, text: &mut Text)
+    ensures { Adds text.old (out_text (OutLine.Agreed aaid.now outcome)) text.new }
 {
-    let words = [Word::Text("stopped"), Word::Site(site), Word::Fate(fate)];
-    write_words(alloc, &words, out)
+    text.word("tree ");
+    text.aaid(aaid);
+    text.word(" agreed ");
+    text.outcome(outcome);
 }
 
-fn append_image<'a>(
-    alloc: Global,
-    site: &'a SiteName,
-    bytes: &'a Octets,
-    out: &mut Octets,
-) -> Result<(), NoMemory>
-    ensures ok { OnOk result (out.new ≡ out.old ++ out_text (OutLine.Image site.now bytes.now)) }
-    ensures err { OnErr result (Keeps out.old out.new) }
+fn put_mixed(aaid: &Aaid, by: &NodeNumbers, text: &mut Text)
+    ensures { Adds text.old (out_text (OutLine.Mixed aaid.now by.now)) text.new }
 {
-    let words = [Word::Text("image"), Word::Site(site), Word::Hex(bytes)];
-    write_words(alloc, &words, out)
+    text.word("tree ");
+    text.aaid(aaid);
+    text.word(" mixed by ");
+    text.numbers(by);
 }
 
-fn append_agreed(
-    alloc: Global,
-    aaid: &Aaid,
-    outcome: Outcome,
-    out: &mut Octets,
-) -> Result<(), NoMemory>
-    ensures ok { OnOk result (out.new ≡ out.old ++ out_text (OutLine.Agreed aaid.now outcome)) }
-    ensures err { OnErr result (Keeps out.old out.new) }
+fn put_open(aaid: &Aaid, text: &mut Text)
+    ensures { Adds text.old (out_text (OutLine.Open aaid.now)) text.new }
 {
-    write_alone(alloc, "tree", out)?;
-    write_aaid(alloc, aaid, out)?;
-    write_alone(alloc, " agreed", out)?;
-    write_outcome(alloc, outcome, out)?;
-    Ok(())
-}
-
-fn append_mixed<'a>(
-    alloc: Global,
-    aaid: &'a Aaid,
-    by: &'a NodeNumbers,
-    out: &mut Octets,
-) -> Result<(), NoMemory>
-    ensures ok { OnOk result (out.new ≡ out.old ++ out_text (OutLine.Mixed aaid.now by.now)) }
-    ensures err { OnErr result (Keeps out.old out.new) }
-{
-    let words = [
-        Word::Text("tree"),
-        Word::Aaid(aaid),
-        Word::Text("mixed"),
-        Word::Text("by"),
-        Word::Numbers(by),
-    ];
-    write_words(alloc, &words, out)
-}
-
-fn append_open(alloc: Global, aaid: &Aaid, out: &mut Octets) -> Result<(), NoMemory>
-    ensures ok { OnOk result (out.new ≡ out.old ++ out_text (OutLine.Open aaid.now)) }
-    ensures err { OnErr result (Keeps out.old out.new) }
-{
-    let words = [Word::Text("tree"), Word::Aaid(aaid), Word::Text("open")];
-    write_words(alloc, &words, out)
+    text.word("tree ");
+    text.aaid(aaid);
+    text.word(" open");
 }

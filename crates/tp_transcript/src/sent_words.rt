@@ -1,207 +1,157 @@
 //! Writing the records that peers send.
-ghost use Rattle.std.specs.Prelude.{◌≡◌, ◌++◌, ◌∷◌, [], OnErr, OnOk, codes};
-ghost use Rattle.tp_names.specs.Writing.{Keeps};
-ghost use Rattle.tp_model.specs.Words.{words, decimal, aaid_word, branch_word, maybe_word, mark_word};
+ghost use Rattle.std.specs.Prelude.{◌≡◌, ◌∷◌, []};
+ghost use Rattle.tp_text.specs.Written.{Adds};
+ghost use Rattle.tp_model.specs.Words.{words, aaid_word, branch_word, report_word};
 ghost use Rattle.tp_model.specs.OutText.{dialogue_words, state_words, sent_words};
-ghost use Rattle.tp_schedule.specs.WordText.{word_text};
 
-use std::alloc::Global;
 use tp_model::SentWords;
-use tp_names::{Aaid, BranchId, Mark, NoMemory, Octets};
+use tp_names::{Aaid, BranchId, Mark, Octets, Report};
 use tp_records::{DialogueRecord, Holder, RecState};
-use tp_schedule::word::{
-    Word, write_aaid, write_alone, write_branch, write_four_before, write_holder, write_octets,
-    write_reported, write_words,
-};
+use tp_text::Text;
 use tp_units::Units;
 
 /// The words of a record that is sent.
-pub(crate) fn write_sent(alloc: Global, rec: &SentWords, out: &mut Octets) -> Result<(), NoMemory>
-    ensures ok { OnOk result (out.new ≡ out.old ++ words (sent_words rec.now)) }
-    ensures err { OnErr result (Keeps out.old out.new) }
+pub(crate) fn put_sent(rec: &SentWords, text: &mut Text)
+    ensures { Adds text.old (words (sent_words rec.now)) text.new }
 {
     match rec {
-        SentWords::OpenAssoc { x, units } => write_open(alloc, x, *units, out),
-        SentWords::AcceptAssoc { x, y, units } => write_accept(alloc, x, y, *units, out),
-        SentWords::ShutAssoc { x, y } => write_shut(alloc, x, y, out),
-        SentWords::OnAssoc { seq, rec } => write_on(alloc, *seq, rec, out),
-        SentWords::RecReady { aaid, branch } => write_kin(alloc, "rec-ready", aaid, branch, out),
-        SentWords::RecCommit { aaid, branch } => write_kin(alloc, "rec-commit", aaid, branch, out),
+        SentWords::OpenAssoc { x, units } => put_open(x, *units, text),
+        SentWords::AcceptAssoc { x, y, units } => put_accept(x, y, *units, text),
+        SentWords::ShutAssoc { x, y } => put_shut(x, y, text),
+        SentWords::OnAssoc { seq, rec } => put_on(*seq, rec, text),
+        SentWords::RecReady { aaid, branch } => put_kin("rec-ready", aaid, branch, text),
+        SentWords::RecCommit { aaid, branch } => put_kin("rec-commit", aaid, branch, text),
         SentWords::RecReply {
             aaid,
             branch,
             state,
-        } => write_reply(alloc, aaid, branch, *state, out),
-        SentWords::Forget { aaid, branch } => write_kin(alloc, "forget", aaid, branch, out),
+        } => put_reply(aaid, branch, *state, text),
+        SentWords::Forget { aaid, branch } => put_kin("forget", aaid, branch, text),
     }
 }
 
-fn write_open(alloc: Global, x: &Mark, units: Units, out: &mut Octets) -> Result<(), NoMemory>
-    ensures ok { OnOk result (out.new ≡ out.old ++ words (sent_words (SentWords.OpenAssoc x.now units))) }
-    ensures err { OnErr result (Keeps out.old out.new) }
+fn put_open(x: &Mark, units: Units, text: &mut Text)
+    ensures { Adds text.old (words (sent_words (SentWords.OpenAssoc x.now units))) text.new }
 {
-    let words = [Word::Text("open"), Word::Mark(x), Word::Units(units.bits())];
-    write_words(alloc, &words, out)
+    text.word("open ");
+    text.mark(x);
+    text.space();
+    text.units(units.bits());
 }
 
-fn write_accept<'a>(
-    alloc: Global,
-    x: &'a Mark,
-    y: &'a Mark,
-    units: Units,
-    out: &mut Octets,
-) -> Result<(), NoMemory>
-    ensures ok { OnOk result (out.new ≡ out.old ++ words (sent_words (SentWords.AcceptAssoc x.now y.now units))) }
-    ensures err { OnErr result (Keeps out.old out.new) }
+fn put_accept(x: &Mark, y: &Mark, units: Units, text: &mut Text)
+    ensures { Adds text.old (words (sent_words (SentWords.AcceptAssoc x.now y.now units))) text.new }
 {
-    let words = [
-        Word::Text("accept"),
-        Word::Mark(x),
-        Word::Mark(y),
-        Word::Units(units.bits()),
-    ];
-    write_words(alloc, &words, out)
+    text.word("accept ");
+    text.mark(x);
+    text.space();
+    text.mark(y);
+    text.space();
+    text.units(units.bits());
 }
 
-fn write_shut<'a>(
-    alloc: Global,
-    x: &'a Mark,
-    y: &'a Option<Mark>,
-    out: &mut Octets,
-) -> Result<(), NoMemory>
-    ensures ok { OnOk result (out.new ≡ out.old ++ words (sent_words (SentWords.ShutAssoc x.now y.now))) }
-    ensures err { OnErr result (Keeps out.old out.new) }
+fn put_shut(x: &Mark, y: &Option<Mark>, text: &mut Text)
+    ensures { Adds text.old (words (sent_words (SentWords.ShutAssoc x.now y.now))) text.new }
 {
-    let words = [Word::Text("shut"), Word::Mark(x), mark_or_none(y)];
-    write_words(alloc, &words, out)
-}
-
-fn mark_or_none<'a>(mark: &'a Option<Mark>) -> Word<'a>
-    ensures { word_text result ≡ maybe_word mark_word mark.now }
-{
-    match mark {
-        None => Word::Text("-"),
-        Some(mark) => Word::Mark(mark),
-    }
+    text.word("shut ");
+    text.mark(x);
+    text.space();
+    text.maybe_mark(y);
 }
 
 // A word, and the identifiers of a tree and of a branch.
-fn write_kin(
-    alloc: Global,
-    word: &str,
-    aaid: &Aaid,
-    branch: &BranchId,
-    out: &mut Octets,
-) -> Result<(), NoMemory>
-    ensures ok { OnOk result (out.new ≡ out.old ++ words (word.now ∷ aaid_word aaid.now ∷ branch_word branch.now ∷ [])) }
-    ensures err { OnErr result (Keeps out.old out.new) }
+#[inline(always)]
+fn put_kin(word: &str, aaid: &Aaid, branch: &BranchId, text: &mut Text)
+    ensures { Adds text.old (words (word.now ∷ aaid_word aaid.now ∷ branch_word branch.now ∷ [])) text.new }
 {
-    write_alone(alloc, word, out)?;
-    write_aaid(alloc, aaid, out)?;
-    write_branch(alloc, branch, out)?;
-    Ok(())
+    text.word(word);
+    text.space();
+    text.aaid(aaid);
+    text.space();
+    text.branch(branch);
 }
 
 // A record of a dialogue after its number.
-fn write_on(alloc: Global, seq: u64, rec: &DialogueRecord, out: &mut Octets) -> Result<(), NoMemory>
-    ensures ok { OnOk result (out.new ≡ out.old ++ words (sent_words (SentWords.OnAssoc seq rec.now))) }
-    ensures err { OnErr result (Keeps out.old out.new) }
+fn put_on(seq: u64, rec: &DialogueRecord, text: &mut Text)
+    ensures { Adds text.old (words (sent_words (SentWords.OnAssoc seq rec.now))) text.new }
 {
-    write_sequence(alloc, seq, out)?;
-    write_dialogue(alloc, rec, out)?;
-    Ok(())
+    text.word("data");
+    text.next_number(seq);
+    text.space();
+    put_dialogue(rec, text);
 }
 
-// The words before a record of a dialogue, with a space after them.
-fn write_sequence(alloc: Global, seq: u64, out: &mut Octets) -> Result<(), NoMemory>
-    ensures ok { OnOk result (out.new ≡ (out.old ++ words (codes "data" ∷ decimal seq ∷ [])) ++ 32 ∷ []) }
-    ensures err { OnErr result (Keeps out.old out.new) }
+fn put_reply(aaid: &Aaid, branch: &BranchId, state: RecState, text: &mut Text)
+    ensures { Adds text.old (words (sent_words (SentWords.RecReply aaid.now branch.now state))) text.new }
 {
-    write_four_before(alloc, (b'd', b'a', b't', b'a'), seq, out)
+    put_kin("rec-reply", aaid, branch, text);
+    text.space();
+    put_state(state, text);
 }
 
-fn write_reply(
-    alloc: Global,
-    aaid: &Aaid,
-    branch: &BranchId,
-    state: RecState,
-    out: &mut Octets,
-) -> Result<(), NoMemory>
-    ensures ok { OnOk result (out.new ≡ out.old ++ words (sent_words (SentWords.RecReply aaid.now branch.now state))) }
-    ensures err { OnErr result (Keeps out.old out.new) }
-{
-    write_kin(alloc, "rec-reply", aaid, branch, out)?;
-    out.push(alloc, b' ')?;
-    write_state(alloc, state, out)?;
-    Ok(())
-}
-
-fn write_state(alloc: Global, state: RecState, out: &mut Octets) -> Result<(), NoMemory>
-    ensures ok { OnOk result (out.new ≡ out.old ++ words (state_words state)) }
-    ensures err { OnErr result (Keeps out.old out.new) }
+fn put_state(state: RecState, text: &mut Text)
+    ensures { Adds text.old (words (state_words state)) text.new }
 {
     match state {
-        RecState::Commit => write_alone(alloc, "commit", out),
-        RecState::Done(report) => write_reported(alloc, "done", report, out),
-        RecState::Unknown => write_alone(alloc, "unknown", out),
-        RecState::RetryLater => write_alone(alloc, "retry-later", out),
+        RecState::Commit => text.word("commit"),
+        RecState::Done(report) => put_reported("done", report, text),
+        RecState::Unknown => text.word("unknown"),
+        RecState::RetryLater => text.word("retry-later"),
     }
 }
 
-fn write_dialogue(alloc: Global, rec: &DialogueRecord, out: &mut Octets) -> Result<(), NoMemory>
-    ensures ok { OnOk result (out.new ≡ out.old ++ words (dialogue_words rec.now)) }
-    ensures err { OnErr result (Keeps out.old out.new) }
+/// Puts a word and a report.
+#[inline(always)]
+pub(crate) fn put_reported(word: &str, report: Report, text: &mut Text)
+    ensures { Adds text.old (words (word.now ∷ report_word report ∷ [])) text.new }
+{
+    text.word(word);
+    text.space();
+    text.report(report);
+}
+
+fn put_dialogue(rec: &DialogueRecord, text: &mut Text)
+    ensures { Adds text.old (words (dialogue_words rec.now)) text.new }
 {
     match rec {
-        DialogueRecord::EndDialogue => write_alone(alloc, "end-dialogue", out),
-        DialogueRecord::UserData { octets } => write_data(alloc, octets, out),
-        DialogueRecord::UError => write_alone(alloc, "u-error", out),
-        DialogueRecord::UAbort => write_alone(alloc, "u-abort", out),
-        DialogueRecord::Grant => write_alone(alloc, "grant", out),
-        DialogueRecord::AskControl => write_alone(alloc, "request-control", out),
-        DialogueRecord::Handshake => write_alone(alloc, "handshake", out),
-        DialogueRecord::HandshakeGrant => write_alone(alloc, "handshake-grant", out),
-        DialogueRecord::Response => write_alone(alloc, "response", out),
-        DialogueRecord::DeferEnd => write_alone(alloc, "deferred-end", out),
-        DialogueRecord::DeferGrant => write_alone(alloc, "deferred-grant", out),
+        DialogueRecord::EndDialogue => text.word("end-dialogue"),
+        DialogueRecord::UserData { octets } => put_data(octets, text),
+        DialogueRecord::UError => text.word("u-error"),
+        DialogueRecord::UAbort => text.word("u-abort"),
+        DialogueRecord::Grant => text.word("grant"),
+        DialogueRecord::AskControl => text.word("request-control"),
+        DialogueRecord::Handshake => text.word("handshake"),
+        DialogueRecord::HandshakeGrant => text.word("handshake-grant"),
+        DialogueRecord::Response => text.word("response"),
+        DialogueRecord::DeferEnd => text.word("deferred-end"),
+        DialogueRecord::DeferGrant => text.word("deferred-grant"),
         DialogueRecord::Begin {
             aaid,
             branch,
             holder,
-        } => write_begin(alloc, aaid, branch, *holder, out),
-        DialogueRecord::Prepare => write_alone(alloc, "prepare", out),
-        DialogueRecord::Ready => write_alone(alloc, "ready", out),
-        DialogueRecord::Commit => write_alone(alloc, "commit", out),
-        DialogueRecord::Done { report } => write_reported(alloc, "done", *report, out),
-        DialogueRecord::Rollback => write_alone(alloc, "rollback", out),
-        DialogueRecord::RolledBack { report } => {
-            write_reported(alloc, "rolled-back", *report, out)
-        }
-        DialogueRecord::Left => write_alone(alloc, "left", out),
-        DialogueRecord::LeftEnd => write_alone(alloc, "left-end", out),
+        } => put_begin(aaid, branch, *holder, text),
+        DialogueRecord::Prepare => text.word("prepare"),
+        DialogueRecord::Ready => text.word("ready"),
+        DialogueRecord::Commit => text.word("commit"),
+        DialogueRecord::Done { report } => put_reported("done", *report, text),
+        DialogueRecord::Rollback => text.word("rollback"),
+        DialogueRecord::RolledBack { report } => put_reported("rolled-back", *report, text),
+        DialogueRecord::Left => text.word("left"),
+        DialogueRecord::LeftEnd => text.word("left-end"),
     }
 }
 
-fn write_data(alloc: Global, octets: &Octets, out: &mut Octets) -> Result<(), NoMemory>
-    ensures ok { OnOk result (out.new ≡ out.old ++ words (dialogue_words (DialogueRecord.UserData octets.now))) }
-    ensures err { OnErr result (Keeps out.old out.new) }
+fn put_data(octets: &Octets, text: &mut Text)
+    ensures { Adds text.old (words (dialogue_words (DialogueRecord.UserData octets.now))) text.new }
 {
-    write_alone(alloc, "user", out)?;
-    write_octets(alloc, octets, out)?;
-    Ok(())
+    text.word("user ");
+    text.octets(octets);
 }
 
-fn write_begin(
-    alloc: Global,
-    aaid: &Aaid,
-    branch: &BranchId,
-    holder: Holder,
-    out: &mut Octets,
-) -> Result<(), NoMemory>
-    ensures ok { OnOk result (out.new ≡ out.old ++ words (dialogue_words (DialogueRecord.Begin aaid.now branch.now holder))) }
-    ensures err { OnErr result (Keeps out.old out.new) }
+fn put_begin(aaid: &Aaid, branch: &BranchId, holder: Holder, text: &mut Text)
+    ensures { Adds text.old (words (dialogue_words (DialogueRecord.Begin aaid.now branch.now holder))) text.new }
 {
-    write_kin(alloc, "begin", aaid, branch, out)?;
-    write_holder(alloc, holder, out)?;
-    Ok(())
+    put_kin("begin", aaid, branch, text);
+    text.space();
+    text.holder(holder);
 }

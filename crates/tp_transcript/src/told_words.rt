@@ -1,115 +1,84 @@
 //! Writing what users are told.
-ghost use Rattle.std.specs.Prelude.{◌≡◌, ◌++◌, ◌∷◌, [], OnErr, OnOk};
-ghost use Rattle.tp_names.specs.Writing.{Keeps};
+ghost use Rattle.std.specs.Prelude.{◌≡◌, ◌∷◌, []};
+ghost use Rattle.tp_text.specs.Written.{Adds};
 ghost use Rattle.tp_model.specs.Words.{words, decimal, units_word};
 ghost use Rattle.tp_model.specs.OutText.{indication_words};
 ghost use Rattle.tp_records.specs.declared.indication.Indication.{Indication};
 
-use std::alloc::Global;
-use tp_names::{Aaid, NoMemory, Octets, Report};
+use crate::out_line::put_one;
+use crate::sent_words::put_reported;
+use tp_names::{Aaid, Octets, Report};
 use tp_records::Indication;
-use tp_schedule::word::{
-    Word, write_aaid, write_after_four, write_alone, write_octets, write_one, write_report,
-    write_reported, write_words,
-};
+use tp_text::Text;
 use tp_units::Units;
 
 /// The words of an indication.
-pub(crate) fn write_told(
-    alloc: Global,
-    indication: &Indication,
-    out: &mut Octets,
-) -> Result<(), NoMemory>
-    ensures ok { OnOk result (out.new ≡ out.old ++ words (indication_words indication.now)) }
-    ensures err { OnErr result (Keeps out.old out.new) }
+pub(crate) fn put_told(indication: &Indication, text: &mut Text)
+    ensures { Adds text.old (words (indication_words indication.now)) text.new }
 {
     match indication {
         Indication::BeginDialogue { peer, units } => {
-            write_offer(alloc, "begin-dialogue", *peer, *units, out)
+            put_offer("begin-dialogue", *peer, *units, text)
         }
         Indication::BegunDialogue { peer, units } => {
-            write_offer(alloc, "begun-dialogue", *peer, *units, out)
+            put_offer("begun-dialogue", *peer, *units, text)
         }
-        Indication::Rejected { peer } => write_one(alloc, "rejected", *peer, out),
-        Indication::EndDialogue { peer } => write_one(alloc, "end-dialogue", *peer, out),
-        Indication::UserData { peer, octets } => write_data(alloc, *peer, octets, out),
-        Indication::UError { peer } => write_one(alloc, "u-error", *peer, out),
-        Indication::UAbort { peer } => write_one(alloc, "u-abort", *peer, out),
-        Indication::PAbort { peer } => write_one(alloc, "p-abort", *peer, out),
-        Indication::Grant { peer } => write_one(alloc, "grant-control", *peer, out),
-        Indication::AskControl { peer } => write_one(alloc, "request-control", *peer, out),
-        Indication::Handshake { peer } => write_one(alloc, "handshake", *peer, out),
-        Indication::HandshakeConfirm { peer } => write_one(alloc, "handshake-confirm", *peer, out),
-        Indication::HandshakeGrant { peer } => write_one(alloc, "handshake-and-grant", *peer, out),
-        Indication::BeginTransaction { peer, aaid } => write_begun(alloc, *peer, aaid, out),
-        Indication::DeferEnd { peer } => write_one(alloc, "deferred-end", *peer, out),
-        Indication::DeferGrant { peer } => write_one(alloc, "deferred-grant", *peer, out),
-        Indication::Prepare => write_alone(alloc, "prepare", out),
-        Indication::Ready { peer } => write_one(alloc, "ready", *peer, out),
-        Indication::Commit => write_alone(alloc, "commit", out),
-        Indication::CommitComplete { report } => {
-            write_reported(alloc, "commit-complete", *report, out)
-        }
-        Indication::Rollback => write_alone(alloc, "rollback", out),
+        Indication::Rejected { peer } => put_one("rejected", *peer, text),
+        Indication::EndDialogue { peer } => put_one("end-dialogue", *peer, text),
+        Indication::UserData { peer, octets } => put_data(*peer, octets, text),
+        Indication::UError { peer } => put_one("u-error", *peer, text),
+        Indication::UAbort { peer } => put_one("u-abort", *peer, text),
+        Indication::PAbort { peer } => put_one("p-abort", *peer, text),
+        Indication::Grant { peer } => put_one("grant-control", *peer, text),
+        Indication::AskControl { peer } => put_one("request-control", *peer, text),
+        Indication::Handshake { peer } => put_one("handshake", *peer, text),
+        Indication::HandshakeConfirm { peer } => put_one("handshake-confirm", *peer, text),
+        Indication::HandshakeGrant { peer } => put_one("handshake-and-grant", *peer, text),
+        Indication::BeginTransaction { peer, aaid } => put_begun(*peer, aaid, text),
+        Indication::DeferEnd { peer } => put_one("deferred-end", *peer, text),
+        Indication::DeferGrant { peer } => put_one("deferred-grant", *peer, text),
+        Indication::Prepare => text.word("prepare"),
+        Indication::Ready { peer } => put_one("ready", *peer, text),
+        Indication::Commit => text.word("commit"),
+        Indication::CommitComplete { report } => { put_reported("commit-complete", *report, text) }
+        Indication::Rollback => text.word("rollback"),
         Indication::RollbackComplete { report } => {
-            write_reported(alloc, "rollback-complete", *report, out)
+            put_reported("rollback-complete", *report, text)
         }
-        Indication::HeuristicReport { peer, report } => {
-            write_heuristic(alloc, *peer, *report, out)
-        }
-        Indication::Left { peer } => write_one(alloc, "left", *peer, out),
+        Indication::HeuristicReport { peer, report } => { put_heuristic(*peer, *report, text) }
+        Indication::Left { peer } => put_one("left", *peer, text),
     }
 }
 
 // A word, a peer, and units.
-fn write_offer(
-    alloc: Global,
-    word: &str,
-    peer: u16,
-    units: Units,
-    out: &mut Octets,
-) -> Result<(), NoMemory>
-    ensures ok { OnOk result (out.new ≡ out.old ++ words (word.now ∷ decimal peer ∷ units_word units ∷ [])) }
-    ensures err { OnErr result (Keeps out.old out.new) }
+fn put_offer(word: &str, peer: u16, units: Units, text: &mut Text)
+    ensures { Adds text.old (words (word.now ∷ decimal peer ∷ units_word units ∷ [])) text.new }
 {
-    let words = [
-        Word::Text(word),
-        Word::Short(peer),
-        Word::Units(units.bits()),
-    ];
-    write_words(alloc, &words, out)?;
-    Ok(())
+    put_one(word, peer, text);
+    text.space();
+    text.units(units.bits());
 }
 
-fn write_data(alloc: Global, peer: u16, octets: &Octets, out: &mut Octets) -> Result<(), NoMemory>
-    ensures ok { OnOk result (out.new ≡ out.old ++ words (indication_words (Indication.UserData peer octets.now))) }
-    ensures err { OnErr result (Keeps out.old out.new) }
+fn put_data(peer: u16, octets: &Octets, text: &mut Text)
+    ensures { Adds text.old (words (indication_words (Indication.UserData peer octets.now))) text.new }
 {
-    let word = (b'd', b'a', b't', b'a');
-    write_after_four(alloc, word, u64::from(peer), out)?;
-    write_octets(alloc, octets, out)?;
-    Ok(())
+    put_one("data", peer, text);
+    text.space();
+    text.octets(octets);
 }
 
-fn write_begun(alloc: Global, peer: u16, aaid: &Aaid, out: &mut Octets) -> Result<(), NoMemory>
-    ensures ok { OnOk result (out.new ≡ out.old ++ words (indication_words (Indication.BeginTransaction peer aaid.now))) }
-    ensures err { OnErr result (Keeps out.old out.new) }
+fn put_begun(peer: u16, aaid: &Aaid, text: &mut Text)
+    ensures { Adds text.old (words (indication_words (Indication.BeginTransaction peer aaid.now))) text.new }
 {
-    write_one(alloc, "begin-transaction", peer, out)?;
-    write_aaid(alloc, aaid, out)?;
-    Ok(())
+    put_one("begin-transaction", peer, text);
+    text.space();
+    text.aaid(aaid);
 }
 
-fn write_heuristic(
-    alloc: Global,
-    peer: u16,
-    report: Report,
-    out: &mut Octets,
-) -> Result<(), NoMemory>
-    ensures ok { OnOk result (out.new ≡ out.old ++ words (indication_words (Indication.HeuristicReport peer report))) }
-    ensures err { OnErr result (Keeps out.old out.new) }
+fn put_heuristic(peer: u16, report: Report, text: &mut Text)
+    ensures { Adds text.old (words (indication_words (Indication.HeuristicReport peer report))) text.new }
 {
-    write_one(alloc, "heuristic-report", peer, out)?;
-    write_report(alloc, report, out)?;
-    Ok(())
+    put_one("heuristic-report", peer, text);
+    text.space();
+    text.report(report);
 }

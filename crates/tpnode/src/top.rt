@@ -27,9 +27,9 @@ use tp_words::{Command, WordsFault, read};
 /// sink and the disk as it was, where it has no fault status for it.
 ///
 /// `replay` reads a schedule from the source and writes its transcript to the sink, for some answers that the members may
-/// give, who are numbered from 1. Where each member has one answer to what it is told, a schedule has one transcript. Where the sink fails or memory is wanting, what is written is a prefix of that; where the
-/// source fails, it is the transcript of the lines whose ends were read, without closing lines. The world of each
-/// transcript keeps all promises. `make` writes the schedule that is made by the plan, and `trial` replays it and
+/// give, who are numbered from 1. Where each member has one answer to what it is told, a schedule has one transcript. Where
+/// the sink fails or memory is wanting, what is written is a prefix of that; where the source fails, it is the transcript of
+/// the lines whose ends were read, without closing lines. The world of each transcript keeps all promises. `make` writes the schedule that is made by the plan, and `trial` replays it and
 /// writes what it came to. `format` makes the disk hold a fresh log. `show` writes each record of the disk's log with
 /// its place, and `check` each Damage that is its key's last record, of which it answers the number. `compact` and
 /// `migrate` put the log's brief in its place. `keys` writes what the store on the disk holds. `node` is a site on the
@@ -87,6 +87,7 @@ pub fn run<S: Source, K: Sink, D: Disk, M: Member>(
     // Promise 18.5 [tp_replay/specs/Transcribing.antt, clauses transcript answers]: Where the sink
     //   fails or memory runs out, a prefix of the transcript for the answers that were given
     ensures transcript { map (λ w. w.now) words.now ≡ replay_words → (bytes : List ℕ) → S.left source.old ≡ Some bytes → Transcribes (may_of M.allowed members.items) (length members.items) bytes result.0 (S.left source.new) (K.written sink.old) (K.written sink.new) }
+    // Promise 18.19, part 3
     ensures one { AreCertain (may_of M.allowed members.items) → (bytes : List ℕ) → IsOne (may_of M.allowed members.items) (length members.items) bytes }
     // Promise 18.8: The world of each transcript keeps all promises, the headline with them, also
     //   where the source or the sink failed

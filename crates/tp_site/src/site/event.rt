@@ -31,8 +31,7 @@ use tp_records::{Event, Outputs};
 use tp_texts::read_whole_peer;
 
 impl<K: Keeper> Site<K> {
-    // An event of the node of that number, drawn up on that draft. All that goes out is made before the record is forced.
-    #[tactic(auto, using(crate::proofs::Settled::attempted, crate::proofs::Settled::halted))]
+    // An event of the node of that number, with a draft for it. All that goes out is made before the record is forced.
     fn give_on(
         &mut self,
         alloc: Global,
@@ -46,12 +45,11 @@ impl<K: Keeper> Site<K> {
         ensures gives { Gives K.standing self.old node (event_of event.now) result self.new }
         ensures text { HasTextIfAsked (K.standing self.old.keeper).wide (rec_of (answer_at (who_at self.old.nodes node) (known_at self.old node) (event_of event.now))) result }
     {
-        let refusal = self.attempt(alloc, node, event, draft)?;
-        let site = self.name();
         let mut outs = Outs::new(alloc);
-        draft.take_outs(&mut outs);
-        let outputs = outputs_of(alloc, &Addr { site, node }, refusal, outs)?;
-        self.settle(alloc, node, draft)?;
+        let prepared = self.prepare(alloc, node, event, draft, &mut outs)?;
+        let site = self.name();
+        let outputs = outputs_of(alloc, &Addr { site, node }, prepared.refusal(), outs)?;
+        self.carry_out(alloc, node, event, prepared, draft)?;
         Ok(outputs)
     }
 

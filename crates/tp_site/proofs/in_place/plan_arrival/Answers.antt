@@ -10,8 +10,8 @@ use Rattle.tp_site.specs.InPlace.{is_only_noted, acts_at}
 use Rattle.tp_site.proofs.Noted.{planned, acts_seen}
 use Rattle.tp_site.proofs.in_place.plan_arrival.Goals as goal
 
-pub returns : goal.returns
-returns c = λ _.
+pub returns-clause-planned : goal.returns-clause-planned
+returns-clause-planned c = λ _.
     let v = c.args.node.now in
     let from = c.args.from.now in
     let r = c.in-OnAssoc.said in

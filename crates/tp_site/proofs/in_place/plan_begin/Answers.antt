@@ -6,8 +6,8 @@ use Rattle.tp_node_state.specs.Outs.{out_of}
 use Rattle.tp_site.proofs.Begun.{planned}
 use Rattle.tp_site.proofs.in_place.plan_begin.Goals as goal
 
-pub returns : goal.returns
-returns c = λ _.
+pub returns-clause-planned : goal.returns-clause-planned
+returns-clause-planned c = λ _.
     let v = c.args.node.now in
     let ok : refused_plainly v.who v.digest (Do c.args.request.now) ≡ None = search rules in
     planned v c.args.request c.args.peer c.push.new.self c.requires ok c.in-Some.ensures.sure

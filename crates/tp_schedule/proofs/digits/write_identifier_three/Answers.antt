@@ -1,9 +1,0 @@
-use Rattle.std.proofs.Common.{◌≡◌, ℕ, List, ◌∷◌, ◌++◌, OnOk, subst}
-use Rattle.tp_schedule.proofs.KitText.{three_found}
-use Rattle.tp_schedule.proofs.digits.write_identifier_three.Goals as goal
-
-pub returns-clause-ok : goal.returns-clause-ok
-returns-clause-ok c =
-    subst (λ (t : List ℕ). OnOk c.extend_from_slice.result (c.extend_from_slice.new.self ≡ c.args.out.now ++ (32 ∷ c.args.name.0 ∷ c.args.name.1 ∷ 46 ∷ c.args.place.0 ∷ 46 ∷ c.args.place.1 ∷ 46 ∷ t)))
-    (three_found c.args.count c.requires.least c.requires.most c.digit-hundreds.result c.pair-tens.result c.digit-hundreds.ensures c.pair-tens.ensures)
-    c.extend_from_slice.ensures.ok

@@ -1,0 +1,5 @@
+use Rattle.tp_text.proofs.Added.{adds_then}
+use Rattle.tp_schedule.proofs.schedule_line.put_site.Goals as goal
+
+pub returns : goal.returns
+returns c = adds_then c.word.ensures (adds_then c.space.ensures c.site.ensures)

@@ -1,0 +1,4 @@
+pub mod Added
+pub mod Decimals
+mod Digits
+pub mod Joined
