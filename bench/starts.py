@@ -62,15 +62,21 @@ def kept_log(transactions: int) -> bytes:
     return whole(it for pair in each for it in pair)
 
 
-def doubt_log(nodes: int) -> bytes:
-    """Of so many nodes at site b: a Ready of each, in a tree of that root."""
-    key = ((tree(i) + b"\x01" + SITE_A + mark(1, 2 * i + 1), struct.pack(">H", i % 65536)) for i in range(1, nodes + 1))
+def doubt_log(trees: typing.Iterable[int]) -> bytes:
+    """Of a node of its own in each of these trees of that root: a Ready."""
+    key = ((tree(i) + b"\x01" + SITE_A + mark(1, 2 * i + 1), struct.pack(">H", i % 65536)) for i in trees)
     return whole(b"\x02" + node + text + SITE_A + b"\x00\x01\x00\x00" for text, node in key)
 
 
 def frames_of(name: bytes, log: bytes) -> bytes:
     pieces = [log[at:at + 2000] for at in range(0, len(log), 2000)]
     return audit.frame(b"\x40" + name) + b"".join(audit.frame(b"\x41" + audit.frame(it)) for it in pieces)
+
+
+def doubts(nodes: int) -> bytes:
+    """So many nodes in doubt, at as many sites as that takes, with 65,536 nodes at each."""
+    firsts = range(1, nodes + 1, 65536)
+    return b"".join(frames_of(b"\x01%c" % (98 + i), doubt_log(range(at, min(at + 65536, nodes + 1)))) for i, at in enumerate(firsts))
 
 
 def once(command: typing.List[str], given: bytes) -> Figures:
@@ -139,7 +145,7 @@ def rows(program: str, peer: typing.Optional[str], records: typing.Sequence[int]
         for count in kept:
             log = kept_log(count)
             yield from commands(program, log, f"of {count:,} kept", peer)
-            given = frames_of(SITE_B, doubt_log(count)) + frames_of(SITE_A, log)
+            given = doubts(count) + frames_of(SITE_A, log)
             yield from measured(f"`audit` of {count:,} in doubt", least([program, "audit"], None, given))
         os.chdir(there)
 

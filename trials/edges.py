@@ -432,7 +432,7 @@ class Edges:
             b"drain 1": b"`1` is a word too much",
             b"node 3 b over 1": b"word 4, `over`, is not `under`",
             b"crash a at 100 fill 00 in retry 1": b"word 4, `100`, is not a number from 1 to 99",
-            b"crash a at 1 fill 00 in drain": b"word 7, `drain`, is not the first word of an event's line",
+            b"crash a at 1 fill 00 in drain": b"word 8, `drain`, is not the first word of an event's line",
             b"show \x07\xc3\xa9": b"word 2, `...`, is not a number from 1 to 65535",
             b"# " + 8191 * b"-": b"it has more than 8192 bytes",
             b"node 2 c": b"there is a node 2 already",
