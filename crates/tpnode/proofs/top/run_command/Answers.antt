@@ -46,11 +46,11 @@ pub returns-in-Keys-clause-ending : goal.returns-in-Keys-clause-ending
 returns-in-Keys-clause-ending g c = (c.list_keys.ensures.ends _ _).cause
 
 pub returns-in-Audit-clause-ending : goal.returns-in-Audit-clause-ending
-returns-in-Audit-clause-ending g c = (c.audit_logs.ensures.ends _ _).cause
+returns-in-Audit-clause-ending g c = (c.audit_logs-status.ensures.ends _ _).cause
 
 pub returns-in-Audit-clause-runs : goal.returns-in-Audit-clause-runs
 returns-in-Audit-clause-runs g c =
-    runs_as c.args.command Command.Audit _ _ _ _ c.in-Audit.is (record { exit = (c.audit_logs.ensures.ends 0 0).exit; source = tt; sink = tt; disk = refl; does = c.audit_logs.ensures.audits })
+    runs_as c.args.command Command.Audit _ _ _ _ c.in-Audit.is (record { exit = (c.audit_logs-status.ensures.ends 0 0).exit; source = tt; sink = tt; disk = refl; does = c.audit_logs-status.ensures.audits })
 
 pub returns-in-Format-clause-runs : goal.returns-in-Format-clause-runs
 returns-in-Format-clause-runs g c =
