@@ -129,6 +129,10 @@ recovery =
 abbrev pub first_heard : List Happening
 first_heard = all_stopped ++ (Does (Action.Retry 2) ∷ Does (Action.Again 13) ∷ Does (Action.Again 14) ∷ [])
 
+-- or a branch asks with its association in place
+abbrev pub heard_in_place : List Happening
+heard_in_place = decided ++ (Does (Action.Retry 2) ∷ Does (Action.Again 13) ∷ Does (Action.Again 14) ∷ [])
+
 -- a root asks for rollback: its user has finished, and it waits for its branch
 abbrev pub rolled_back : List Happening
 rolled_back =

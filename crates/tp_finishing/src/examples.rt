@@ -9,7 +9,7 @@ ghost use Rattle.tp_finishing.specs.Again.{tells_to_commit};
 ghost use Rattle.tp_records.specs.declared.request.Request.{Request};
 ghost use Rattle.tp_model.specs.declared.arc.Phase.{Phase};
 ghost use Rattle.tp_model.specs.declared.refusal.Refusal.{Refusal};
-ghost use Rattle.tp_finishing.specs.Examples.{rolled_back, alone, has_rolled_after, waits_after, unheard, heard_since, stopped, ended, in_danger, decided, cut, all_stopped, first_heard, recovery, phase_after, arcs_after, is_over_after, are_over_after, lines_after, cuts_after, said_again_after, asks_superior, refused_again_after};
+ghost use Rattle.tp_finishing.specs.Examples.{rolled_back, alone, has_rolled_after, waits_after, unheard, heard_since, stopped, ended, in_danger, decided, cut, all_stopped, first_heard, recovery, heard_in_place, phase_after, arcs_after, is_over_after, are_over_after, lines_after, cuts_after, said_again_after, asks_superior, refused_again_after};
 
 /// The order of a root is lost while its branch is in doubt and both are up. The branch asks, and commits by the answer.
 pub fn a_lost_order_is_asked_for()
@@ -31,11 +31,15 @@ pub fn a_stopped_run_is_ended()
 {}
 
 /// Two branches decided to roll back, the site of the root stopped between its Commit and its Damage, and the root gave one of them up.
-/// What may have been said in vain is said again: the user of the root is told to commit, and a branch in doubt asks the root. Two cuts
-/// leave the branches without an association, as many as may be needed, and then recovery takes exactly as many lines as it may.
+/// What may have been said in vain is said again: before the site of the root stops, its user is told to commit; then, and after all of
+/// that, a branch in doubt asks the root. It hears the outcome by three lines with its association in place. Two cuts leave the branches
+/// without an association, as many as may be needed, and then recovery takes exactly as many lines as it may.
 pub fn a_tree_in_danger_is_cut()
     ensures told { tells_to_commit (said_again_after in_danger 1) ≡ true }
     ensures asked { asks_superior (said_again_after in_danger 2) ≡ true }
+    ensures asked_since { asks_superior (said_again_after decided 2) ≡ true }
+    ensures linked { arcs_after decided 2 ≡ 1 }
+    ensures heard { phase_after heard_in_place 2 ≡ Some Phase.Committing }
     ensures most { cuts_after decided ≡ 2 }
     ensures quiet { arcs_after cut 2 + arcs_after cut 3 ≡ 0 }
     ensures lines { lines_after cut ≡ length recovery }
