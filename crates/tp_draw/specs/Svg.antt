@@ -338,9 +338,13 @@ foot y = joined (codes "<g transform='translate(0 " ∷ decimal y ∷ codes ")'>
 abbrev pub notes : View → ℕ → List ℕ
 notes v lines = note (below 14 0) 1 v.from ++ note (below 14 (seen_at v v.to)) (suc v.to) lines
 
+-- so many lanes wide is a picture: the legend needs the room of one
+abbrev pub lanes_wide : ℕ → ℕ
+lanes_wide lanes = if lanes == 0 then 1 else lanes
+
 abbrev pub svg : View → List OutLine → List ℕ
 svg v os =
-    head (along v 100 (length (lanes_of os))) (below 180 (rows_seen v (length os))) (length (lanes_of os)) (length os)
+    head (along v 100 (lanes_wide (length (lanes_of os)))) (below 180 (rows_seen v (length os))) (length (lanes_of os)) (length os)
     ++ (style
     ++ (tips
     ++ (lanes_text v (lanes_of os) (below 0 (rows_seen v (length os))) 0 (lanes_of os)

@@ -1,6 +1,6 @@
 //! A picture as an SVG file.
 ghost use Rattle.std.specs.Prelude.{◌≡◌, ◌++◌, OnOk};
-ghost use Rattle.tp_draw.specs.Svg.{head, site_name, site_at, lane_line, lanes_text, rows_text, note_line, note, notes, foot, svg};
+ghost use Rattle.tp_draw.specs.Svg.{lanes_wide, head, site_name, site_at, lane_line, lanes_text, rows_text, note_line, note, notes, foot, svg};
 ghost use Rattle.tp_draw.specs.Bands.{first_tracks};
 
 use crate::coordinates::{along, below, rows_seen, seen_at};
@@ -28,7 +28,7 @@ pub(crate) fn write_svg(
 {
     let (lanes, lines) = (plan.lanes(), plan.lines().len());
     let rows = rows_seen(view, lines);
-    let size = (along(view, 100, lanes.len()), below(180, rows));
+    let size = (along(view, 100, lanes_wide(lanes.len())), below(180, rows));
     write_head(alloc, size, (lanes.len() as u64, lines as u64), out)?;
     write_style(alloc, out)?;
     write_tips(alloc, out)?;
@@ -36,6 +36,13 @@ pub(crate) fn write_svg(
     write_rows(alloc, view, plan, out)?;
     write_notes(alloc, view, lines, out)?;
     write_foot(alloc, below(20, rows), out)
+}
+
+// So many lanes wide is a picture: the legend needs the room of one.
+fn lanes_wide(lanes: usize) -> usize
+    ensures { result ≡ lanes_wide lanes }
+{
+    if lanes == 0 { 1 } else { lanes }
 }
 
 #[tactic(auto, unfolding(crate::specs::Svg::head))]
