@@ -44,7 +44,7 @@ use Rattle.tp_steps.specs.Upward.{Deeds, holds_at}
 use Rattle.tp_runs.specs.Heeded.{heeds_event, heeds}
 use Rattle.tp_steps.specs.Branches.{may_leave, may_end}
 use Rattle.tp_histories.specs.Members.{is_begun_by, IsOnce}
-use Rattle.tp_agreement.specs.Owing.{is_standing, RowOwes, KeptOwes, Owes, keeps_rollback}
+use Rattle.tp_agreement.specs.Owing.{is_standing, KeptOwes, Owes, keeps_rollback, OwesIn, UnmarkedRow, is_done_branch}
 use Rattle.tp_steps.proofs.lemmas.Equality.{aaids_equal, branches_equal, addrs_equal, and_left, and_right}
 use Rattle.tp_histories.proofs.trees.Late.{late_law}
 use Rattle.tp_steps.proofs.words.Leaves.{aaid_same}
@@ -488,13 +488,13 @@ find_named (x ∷ bs) p v h l = go (x.peer.node == p) refl x.left refl (find_nam
 nil_standing : (v : Phase) → is_nil v ≡ true → is_standing v ≡ true → ⊥
 nil_standing v h i = absurd (grind (arith, h, i))
 
-pub row_first : (o : Origin) (up : Option Addr) (e : Entry) (h : List Entry) (t : Aaid) (p : ℕ) (b : BranchId) → IsGrown o up (e ∷ h) → RowOwes t p b (digest o h).current → RowOwes t p b (prelude o.who (digest o h) e.event).current ⊎ (rolled o t (e ∷ h) ≡ true)
-row_first o up e h t p b legal k = go (came_by o.who d e.event legal.0)
+pub row_first : (m : Branch → Bool) → ((x : Child) → m (fresh_branch x) ≡ false) → (o : Origin) (up : Option Addr) (e : Entry) (h : List Entry) (t : Aaid) (p : ℕ) (b : BranchId) → IsGrown o up (e ∷ h) → UnmarkedRow m t p b (digest o h).current → UnmarkedRow m t p b (prelude o.who (digest o h) e.event).current ⊎ (rolled o t (e ∷ h) ≡ true)
+row_first m fresh o up e h t p b legal k = go (came_by o.who d e.event legal.0)
   where
     d : Digest
     d = digest o h
 
-    crashed : e.event ≡ Event.Crash → (v : Bool) → is_active k.current.phase ≡ v → RowOwes t p b (recovered_current d.current) ⊎ (rolled o t (e ∷ h) ≡ true)
+    crashed : e.event ≡ Event.Crash → (v : Bool) → is_active k.current.phase ≡ v → UnmarkedRow m t p b (recovered_current d.current) ⊎ (rolled o t (e ∷ h) ≡ true)
     crashed is true act =
         let n : is_now t d.current ≡ true = ap (is_now t) k.at ∙ k.tree in
         let a : is_crash_in_active d e.event ≡ true = ap (is_crash_in_active d) is ∙ ap is_active (phase_at d k.current k.at) ∙ act in
@@ -508,7 +508,7 @@ row_first o up e h t p b legal k = go (came_by o.who d e.event legal.0)
       found = find_named k.current.branches p k.branch k.found k.left;
       id = k.id;
       left = refl;
-      ended = refl;
+      off = fresh (record { addr = k.branch.peer; branch = k.branch.id });
     })
       where
         past : (v : Phase) → is_standing v ≡ true → is_active v ≡ false → (is_ready v || is_committing v) ≡ true
@@ -517,14 +517,14 @@ row_first o up e h t p b legal k = go (came_by o.who d e.event legal.0)
         bound : (is_ready k.current.phase || is_committing k.current.phase) ≡ true
         bound = past k.current.phase k.phase act
 
-    go : Came o.who d e.event → RowOwes t p b (prelude o.who d e.event).current ⊎ (rolled o t (e ∷ h) ≡ true)
-    go (As_it_was i) = inl (subst (λ (u : Option Current). RowOwes t p b u) (sym i) k)
+    go : Came o.who d e.event → UnmarkedRow m t p b (prelude o.who d e.event).current ⊎ (rolled o t (e ∷ h) ≡ true)
+    go (As_it_was i) = inl (subst (λ (u : Option Current). UnmarkedRow m t p b u) (sym i) k)
     go (By_begin from x y q v w g l is found cur nil above) = absurd (nil_standing k.current.phase (rw (k.at, phase_of) at nil) k.phase)
-    go (By_crash is cur) = elim (crashed is (is_active k.current.phase) refl) [ inl i ↦ inl (subst (λ (u : Option Current). RowOwes t p b u) (sym cur) i) | inr i ↦ inr i ]
+    go (By_crash is cur) = elim (crashed is (is_active k.current.phase) refl) [ inl i ↦ inl (subst (λ (u : Option Current). UnmarkedRow m t p b u) (sym cur) i) | inr i ↦ inr i ]
 
 kept_first : (o : Origin) (e : Entry) (h : List Entry) (t : Aaid) (p : ℕ) (b : BranchId) → KeptOwes t p b (digest o h).kept → KeptOwes t p b (prelude o.who (digest o h) e.event).kept
 kept_first o e h t p b k =
-    kept_unnoted t p b (prelude o.who (digest o h) e.event).kept (subst (λ (ks : List Kept). KeptOwes t p b ks) (sym (kept_prelude o.who (digest o h) e.event).0) (kept_noted t p b (digest o h).kept k))
+    kept_unnoted (OwesIn p b) (λ x h. h) t (prelude o.who (digest o h) e.event).kept (subst (λ (ks : List Kept). KeptOwes t p b ks) (sym (kept_prelude o.who (digest o h) e.event).0) (kept_noted (OwesIn p b) (λ x h. h) t (digest o h).kept k))
 
 -- ---- every legal history
 
@@ -537,6 +537,32 @@ pub data Owed (o : Origin) (p : ℕ) (g : Deeds) (h : List Entry) (t : Aaid) (b 
   Had_rolled : rolled o t h ≡ true → Owed o p g h t b
   Had_left : has_left o t h ≡ true → Owed o p g h t b
 
+pub rules_of : (o : Origin) (up : Option Addr) (p : ℕ) (g : Deeds) (rs : List LogRec) (e : Entry) (h : List Entry) → Below o up p g rs (e ∷ h) → Rules o up p g rs e h
+rules_of o up p g rs e h below = record {
+  empty = below.empty;
+  legal = below.legal;
+  once = below.once;
+  heeded = and_left (heeds_event g rs p h e.event) (heeds g rs p h) below.heeded;
+  never = λ j r v c. below.never j r v (commit_more j.0 e.rec (records o h) c);
+}
+
+pub tree_marked : (t : Aaid) (b : BranchId) (c : Current) (i : BranchId) → ◌≡◌ {A = BranchKey} (t, b) (aaid_of c.key, i) → is_aaid t (aaid_of c.key) ≡ true
+tree_marked t b c i same = ap (λ (k : BranchKey). is_aaid t k.0) (sym same) ∙ aaid_same t
+
+-- a branch that is marked as left has left
+pub mark_left : (o : Origin) (up : Option Addr) (p : ℕ) (g : Deeds) (rs : List LogRec) (e : Entry) (h : List Entry) (t : Aaid) (b : BranchId) → Below o up p g rs (e ∷ h)
+    → (m : MayMark o.who e.event (prelude o.who (digest o h) e.event) may_leave p (t, b)) → (m.event ≡ TxEvent.Took p DialogueRecord.Left) ⊎ (m.event ≡ TxEvent.Took p DialogueRecord.LeftEnd) → g.left t ≡ true
+mark_left o up p g rs e h t b below m (inl w) =
+    let k = took_mark o up p g rs e h (rules_of o up p g rs e h below) (accounts_of o up p g rs h (below_tail o up p g rs e h below)) DialogueRecord.Left (t, b) may_leave m (λ a x y q. refl) w in
+    left_key o p g rs e.event h DialogueRecord.Left (t, b) k (and_left (not (votes_from k.x k.y p h) && holds_at (keys_to k.x k.y p h) (ends_from k.x k.y p h) g.left) true k.heeded)
+mark_left o up p g rs e h t b below m (inr w) =
+    let k = took_mark o up p g rs e h (rules_of o up p g rs e h below) (accounts_of o up p g rs h (below_tail o up p g rs e h below)) DialogueRecord.LeftEnd (t, b) may_leave m (λ a x y q. refl) w in
+    left_key o p g rs e.event h DialogueRecord.LeftEnd (t, b) k (and_left (not (votes_from k.x k.y p h) && holds_at (keys_to k.x k.y p h) (ends_from k.x k.y p h) g.left) true k.heeded)
+
+pub unchanged_current : (who : Who) (d : Digest) (f : Event) → is_unchanged f ≡ true → (prelude who d f).current ≡ d.current
+unchanged_current who d (Event.Do Request.Unchanged) u = refl
+unchanged_current who d f u = absurd (cc (u))
+
 quit_now : (o : Origin) (up : Option Addr) (p : ℕ) (g : Deeds) (rs : List LogRec) (e : Entry) (h : List Entry) (t : Aaid) (b : BranchId) → Below o up p g rs (e ∷ h) → QuitsAt o.who e.event (rolls o.who (digest o h) e.event) (prelude o.who (digest o h) e.event) t p b → Owed o p g (e ∷ h) t b
 quit_now o up p g rs e h t b below quit = by quit
   where
@@ -547,23 +573,14 @@ quit_now o up p g rs e h t b below quit = by quit
     s = prelude o.who d e.event
 
     rules : Rules o up p g rs e h
-    rules = record {
-      empty = below.empty;
-      legal = below.legal;
-      once = below.once;
-      heeded = and_left (heeds_event g rs p h e.event) (heeds g rs p h) below.heeded;
-      never = λ j r v c. below.never j r v (commit_more j.0 e.rec (records o h) c);
-    }
+    rules = rules_of o up p g rs e h below
 
     old : Accounts o p g rs h
     old = accounts_of o up p g rs h (below_tail o up p g rs e h below)
 
-    tree : (j : BranchKey) (c : Current) (i : BranchId) → (t, b) ≡ j → j ≡ (aaid_of c.key, i) → is_aaid t (aaid_of c.key) ≡ true
-    tree j c i m n = let same : ◌≡◌ {A = BranchKey} (t, b) (aaid_of c.key, i) = m ∙ n in ap (λ (k : BranchKey). is_aaid t k.0) (sym same) ∙ aaid_same t
-
     ended : (m : MayMark o.who e.event s may_end p (t, b)) → Ending m.event (seen o.who m.arcs m.current) p → Owed o p g (e ∷ h) t b
     ended m (By_word r word committing) = Has_done (committed_word o up p g rs e h rules old (t, b) m r word committing)
-    ended m (In_rollback roll) = Had_rolled (rolling_here o up e h t below.empty below.legal below.once m.current m.at (tree (t, b) m.current m.branch.id refl m.key) roll)
+    ended m (In_rollback roll) = Had_rolled (rolling_here o up e h t below.empty below.legal below.once m.current m.at (tree_marked t b m.current m.branch.id m.key) roll)
     ended m (By_answer c r w word found at) = answered (replied_by e.event m.current c r (subst (λ (f : TxEvent). IsAsked e.event m.current f) word m.asked))
       where
         by_id : find_branch_by_id m.current.branches c ≡ Some w.branch
@@ -581,24 +598,12 @@ quit_now o up p g rs e h t b below quit = by quit
             word_is : (a : Addr) (u : Aaid) (i : BranchId) (r : Report) → t ≡ u → i ≡ b → ◌≡◌ {A = Option (Addr × PeerRecord)} (Some (a, PeerRecord.RecReply u i (RecState.Done r))) (Some (a, PeerRecord.RecReply t b (RecState.Done r)))
             word_is a u i r x y = rw (← x, y) refl
 
-    gone : (m : MayMark o.who e.event s may_leave p (t, b)) → (m.event ≡ TxEvent.Took p DialogueRecord.Left) ⊎ (m.event ≡ TxEvent.Took p DialogueRecord.LeftEnd) → g.left t ≡ true
-    gone m (inl w) =
-        let k = took_mark o up p g rs e h rules old DialogueRecord.Left (t, b) may_leave m (λ a x y q. refl) w in
-        left_key o p g rs e.event h DialogueRecord.Left (t, b) k (and_left (not (votes_from k.x k.y p h) && holds_at (keys_to k.x k.y p h) (ends_from k.x k.y p h) g.left) true k.heeded)
-    gone m (inr w) =
-        let k = took_mark o up p g rs e h rules old DialogueRecord.LeftEnd (t, b) may_leave m (λ a x y q. refl) w in
-        left_key o p g rs e.event h DialogueRecord.LeftEnd (t, b) k (and_left (not (votes_from k.x k.y p h) && holds_at (keys_to k.x k.y p h) (ends_from k.x k.y p h) g.left) true k.heeded)
-
-    unchanged_prelude : (f : Event) → is_unchanged f ≡ true → (prelude o.who d f).current ≡ d.current
-    unchanged_prelude (Event.Do Request.Unchanged) u = refl
-    unchanged_prelude f u = absurd (cc (u))
-
     by : QuitsAt o.who e.event (rolls o.who d e.event) s t p b → Owed o p g (e ∷ h) t b
     by (Done_here m) = ended m (ending m.event (seen o.who m.arcs m.current) p m.sets)
-    by (Left_here m) = Has_gone (gone m (leaves_word m.event (seen o.who m.arcs m.current) p m.sets))
+    by (Left_here m) = Has_gone (mark_left o up p g rs e h t b below m (leaves_word m.event (seen o.who m.arcs m.current) p m.sets))
     by (Done_told a r is at) = Was_told a r (inl (ap brought is)) at
     by (Rolls_here n f) = Had_rolled (rolled_here o up e h t below.legal n f)
-    by (Leaves_here n u) = let now : is_now t d.current ≡ true = ap (is_now t) (sym (unchanged_prelude e.event u)) ∙ n in Had_left (rw (now, u) refl)
+    by (Leaves_here n u) = let now : is_now t d.current ≡ true = ap (is_now t) (sym (unchanged_current o.who d e.event u)) ∙ n in Had_left (rw (now, u) refl)
     by (Rolling_here n r) = let c = now_some t s.current n in Had_rolled (rolling_here o up e h t below.empty below.legal below.once c.0 c.1 c.2 (ap is_rolling (sym (phase_at s c.0 c.1)) ∙ r))
 
 pub owed_law : (o : Origin) (up : Option Addr) (p : ℕ) (g : Deeds) (rs : List LogRec) (h : List Entry) (a : Addr) (x y : Mark) (q : ℕ) (t : Aaid) (b : BranchId) (i : Holder) → Below o up p g rs h → a.node ≡ p → HasSent h a (PeerRecord.OnAssoc x y q (DialogueRecord.Begin t b i)) → Owed o p g h t b
@@ -622,7 +627,7 @@ owed_law o up p g rs (e ∷ h) a x y q t b i below at s = go s (owed_law o up p 
     on (inr n) = quit_now o up p g rs e h t b below n
 
     later : Owed o p g h t b → Owed o p g (e ∷ h) t b
-    later (Still_owed (inl n)) = elim (row_first o up e h t p b below.legal n) [ inl j ↦ on (k.stays t p b sound (inl j)) | inr j ↦ Had_rolled j ]
+    later (Still_owed (inl n)) = elim (row_first is_done_branch (λ x. refl) o up e h t p b below.legal n) [ inl j ↦ on (k.stays t p b sound (inl j)) | inr j ↦ Had_rolled j ]
     later (Still_owed (inr n)) = on (k.stays t p b sound (inr (kept_first o e h t p b n)))
     later (Has_gone n) = Has_gone n
     later (Has_done n) = Has_done n

@@ -17,17 +17,16 @@ use Rattle.tp_records.specs.declared.peer.PeerRecord.{PeerRecord}
 use Rattle.tp_records.specs.declared.peer.RecState.{RecState}
 use Rattle.tp_logrec.specs.declared.record.LogRec.{LogRec}
 use Rattle.tp_model.specs.declared.arc.Phase.{Phase}
-use Rattle.tp_model.specs.declared.arc.Side.{Side}
 use Rattle.tp_model.specs.declared.transaction.TxEvent.{TxEvent}
 use Rattle.tp_model.specs.declared.transaction.TxOut.{TxOut}
 use Rattle.tp_model.specs.declared.recovery.Kept.{Kept}
 use Rattle.tp_model.specs.declared.recovery.KeptEvent.{KeptEvent}
 use Rattle.tp_model.specs.Parts.{Who, Event, Out, Arc, Link, Idle, Opening, Offered, Live, Key, Root, Branch, Current, Digest}
-use Rattle.tp_model.specs.Dialogues.{is_nil, is_active, is_committing, is_rolling, begun_by, named_holder}
-use Rattle.tp_model.specs.Arcs.{find_arc, link_with, with_dialogue, carried_on, carried, shut_says, shut_with, performed_one, performed}
+use Rattle.tp_model.specs.Dialogues.{is_nil, is_active, is_committing, is_rolling, named_holder}
+use Rattle.tp_model.specs.Arcs.{find_arc, link_with, carried_on, carried, shut_says, shut_with, performed_one, performed}
 use Rattle.tp_model.specs.Transactions.{Row, Transaction, Turn, aaid_of, node_key, find_row, row_holds, is_under_at, fresh_branch, situation_of, transacted}
 use Rattle.tp_model.specs.Recovery.{is_commit, find_owed, without_owed, is_nothing_owed, rec_of_done, settled, find_kept, put_kept, without_kept, kept_by, kept_after, not_forgotten}
-use Rattle.tp_model.specs.Node.{Move, move, followed, perform, next_mark, with_mark_drawn, phase_of, seen, seen_row, seen_rows, situation_at, fresh_current, remaining, branches_of, Passage, Commits, passage, is_leaving, entered, played, perform_commit, committed_arcs, grants, with_begun, may_begin_on, begin_on, keep, turned, around_grants}
+use Rattle.tp_model.specs.Node.{Move, move, followed, perform, next_mark, with_mark_drawn, phase_of, seen, seen_row, seen_rows, situation_at, fresh_current, remaining, branches_of, Passage, Commits, passage, is_leaving, entered, played, perform_commit, committed_arcs, grants, may_begin_on, begin_on, keep, turned, around_grants}
 use Rattle.tp_model.specs.Events.{refusal, action}
 use Rattle.tp_model.specs.Links.{is_live}
 use Rattle.tp_model.specs.Outcomes.{is_now, is_unchanged, rolls}
@@ -40,7 +39,7 @@ use Rattle.tp_steps.specs.Facts.{BranchKey, find_branch, words_to}
 use Rattle.tp_steps.specs.Branches.{may_leave, may_end}
 use Rattle.tp_steps.specs.Orders.{IsOwnMove}
 use Rattle.tp_steps.specs.Standing.{AreApart}
-use Rattle.tp_agreement.specs.Owing.{is_standing, IsOwedIn, rolls_back, backs_tree, StandsAt, KeepsOwed, Quits, Is_done, Has_left, Rolls, Departs, IsOwnWord, IsOwingTurn, RowOwes, KeptOwes, Owes, keeps_rollback, BeginsTo, IsNodeWord}
+use Rattle.tp_agreement.specs.Owing.{is_standing, IsOwedIn, rolls_back, backs_tree, KeepsOwed, Quits, Is_done, Has_left, Rolls, Departs, IsOwnWord, IsOwingTurn, RowOwes, KeptOwes, Owes, keeps_rollback, BeginsTo, IsNodeWord, UnmarkedAt, UnmarkedRow, KeptWith, OwesIn, is_done_branch}
 use Rattle.tp_steps.proofs.lemmas.Equality.{aaids_equal, branches_equal, addrs_equal, or_case, and_left, and_right}
 use Rattle.tp_steps.proofs.log.ApartLog.{keys_equal}
 use Rattle.tp_steps.proofs.log.TurnLog.{key_self}
@@ -63,7 +62,7 @@ use Rattle.tp_steps.proofs.log.Orders.{own_moves}
 use Rattle.tp_histories.proofs.upward.Risen.{unchanged_asked}
 use Rattle.tp_agreement.proofs.LeftDown.{no_begins}
 use Rattle.tp_agreement.proofs.OwingTurns.{owing_turn}
-use Rattle.tp_steps.proofs.every.BeginCases.{begun_over, begin_cases}
+use Rattle.tp_steps.proofs.every.BeginCases.{begun_over, begin_cases, next_child, begin_word, begin_arcs}
 use Rattle.tp_steps.proofs.lemmas.EachKept.{IsOne, HoldsBy, one_after, one_noted}
 use Rattle.tp_steps.proofs.lemmas.Options.{some_same}
 use Rattle.std.proofs.lemmas.Bool.{not-true}
@@ -271,14 +270,14 @@ IsOfOther j (Some (LogRec.Damage n k s o r cs)) = k ≡ j → ⊥
 IsOfOther j (Some (LogRec.End n k o)) = k ≡ j → ⊥
 IsOfOther j r = Unit {0}
 
-kept_found : (t : Aaid) (p : ℕ) (b : BranchId) (ks ls : List Kept) (k : KeptOwes t p b ks) → find_kept ls k.key ≡ find_kept ks k.key → KeptOwes t p b ls
-kept_found t p b ks ls k same = record { key = k.key; kept = k.kept; found = same ∙ k.found; commits = k.commits; tree = k.tree; owes = k.owes }
+kept_found : (P : Kept → Type 0) (t : Aaid) (ks ls : List Kept) (k : KeptWith P t ks) → find_kept ls k.key ≡ find_kept ks k.key → KeptWith P t ls
+kept_found P t ks ls k same = record { key = k.key; kept = k.kept; found = same ∙ k.found; commits = k.commits; tree = k.tree; holds = k.holds }
 
-kept_other : (t : Aaid) (p : ℕ) (b : BranchId) (ks : List Kept) (k : KeptOwes t p b ks) (r : Option LogRec) → IsOfOther k.key r → KeptOwes t p b (kept_after r ks)
+pub kept_other : (P : Kept → Type 0) (t : Aaid) (ks : List Kept) (k : KeptWith P t ks) (r : Option LogRec) → IsOfOther k.key r → KeptWith P t (kept_after r ks)
 unfolding kept_by
-kept_other t p b ks k (Some (LogRec.Damage n j s o r cs)) h = kept_found t p b ks _ k (put_other ks (record { node = n; key = j; superior = s; side = o; report = r; owed = cs; forgot = false }) k.key h)
-kept_other t p b ks k (Some (LogRec.End n j o)) h = kept_found t p b ks _ k (without_other ks j k.key h)
-kept_other t p b ks k _ h = k
+kept_other P t ks k (Some (LogRec.Damage n j s o r cs)) h = kept_found P t ks _ k (put_other ks (record { node = n; key = j; superior = s; side = o; report = r; owed = cs; forgot = false }) k.key h)
+kept_other P t ks k (Some (LogRec.End n j o)) h = kept_found P t ks _ k (without_other ks j k.key h)
+kept_other P t ks k _ h = k
 
 pub found_key : (ks : List Kept) (j : NodeKey) (x : Kept) → find_kept ks j ≡ Some x → x.key ≡ j
 found_key [] j x h = absurd (cc (h))
@@ -330,16 +329,16 @@ noted_find (k ∷ ks) j = go (is_key k.key j) refl (noted_find ks j)
     go true m rest = rw m refl
     go false m rest = rw m rest
 
-pub kept_noted : (t : Aaid) (p : ℕ) (b : BranchId) (ks : List Kept) → KeptOwes t p b ks → KeptOwes t p b (not_forgotten ks)
-kept_noted t p b ks k = let found = k.found in record { key = k.key; kept = record k.kept { forgot = false }; found = noted_find ks k.key ∙ rw found refl; commits = k.commits; tree = k.tree; owes = k.owes }
+pub kept_noted : (P : Kept → Type 0) → ((x : Kept) → P x → P (record x { forgot = false })) → (t : Aaid) (ks : List Kept) → KeptWith P t ks → KeptWith P t (not_forgotten ks)
+kept_noted P on t ks k = let found = k.found in record { key = k.key; kept = record k.kept { forgot = false }; found = noted_find ks k.key ∙ rw found refl; commits = k.commits; tree = k.tree; holds = on k.kept k.holds }
 
-pub kept_unnoted : (t : Aaid) (p : ℕ) (b : BranchId) (ks : List Kept) → KeptOwes t p b (not_forgotten ks) → KeptOwes t p b ks
-kept_unnoted t p b ks k = go (find_kept ks k.key) refl
+pub kept_unnoted : (P : Kept → Type 0) → ((x : Kept) → P (record x { forgot = false }) → P x) → (t : Aaid) (ks : List Kept) → KeptWith P t (not_forgotten ks) → KeptWith P t ks
+kept_unnoted P back t ks k = go (find_kept ks k.key) refl
   where
     as_noted : elim (find_kept ks k.key) as (λ _. Option Kept) [ None ↦ None | Some x ↦ Some (record x { forgot = false }) ] ≡ Some k.kept
     as_noted = sym (noted_find ks k.key) ∙ k.found
 
-    go : (o : Option Kept) → find_kept ks k.key ≡ o → KeptOwes t p b ks
+    go : (o : Option Kept) → find_kept ks k.key ≡ o → KeptWith P t ks
     go None i = let none : None ≡ Some k.kept = rw i at as_noted in absurd (cc (none))
     go (Some x) i =
         let one : ◌≡◌ {A = Option Kept} (Some (record x { forgot = false })) (Some k.kept) = rw i at as_noted in
@@ -350,7 +349,7 @@ kept_unnoted t p b ks k = go (find_kept ks k.key) refl
           found = i;
           commits = ap (λ (y : Kept). is_commit y.side) same ∙ k.commits;
           tree = ap (λ (y : Kept). is_aaid t y.key.aaid) same ∙ k.tree;
-          owes = subst (λ (y : Kept). IsOwedIn p b y.owed) (sym same) k.owes;
+          holds = back x (subst (λ (y : Kept). P y) (sym same) k.holds);
         }
 
 abbrev backs_of : Aaid → Kept → Bool
@@ -374,8 +373,8 @@ rollback_rec u r ks h = one_after (backs_of u) (keeps_rollback u) (back_one u) (
 pub late_standing : (v : Phase) → is_standing v ≡ true → is_nil v ≡ false
 late_standing v h = grind (arith, h)
 
-stands_seen : (who : Who) (arcs : List Arc) (t : Aaid) (p : ℕ) (b : BranchId) (c : Current) → (k : RowOwes t p b (Some c)) → StandsAt p b (seen who arcs c)
-stands_seen who arcs t p b c k =
+pub row_seen : (m : Branch → Bool) (who : Who) (arcs : List Arc) (t : Aaid) (p : ℕ) (b : BranchId) (c : Current) → UnmarkedRow m t p b (Some c) → UnmarkedAt m p b (seen who arcs c)
+row_seen m who arcs t p b c k =
     let one : Some c ≡ Some k.current = k.at in
     let same : k.current ≡ c = cc (one) in
     let found : find_branch c.branches p ≡ Some k.branch = ap (λ (x : Current). find_branch x.branches p) (sym same) ∙ k.found in
@@ -384,17 +383,17 @@ stands_seen who arcs t p b c k =
       found = seen_find arcs c.branches p ∙ rw found refl;
       id = k.id;
       left = k.left;
-      ended = k.ended;
+      off = k.off;
       phase = ap (λ (x : Current). is_standing x.phase) (sym same) ∙ k.phase;
     }
 
-row_remains : (t : Aaid) (p : ℕ) (b : BranchId) (u : Transaction) → is_aaid t (aaid_of u.key) ≡ true → StandsAt p b u → RowOwes t p b (remaining u)
-row_remains t p b u tree st = go (remaining u) refl
+pub row_remains : (m : Branch → Bool) (t : Aaid) (p : ℕ) (b : BranchId) (u : Transaction) → is_aaid t (aaid_of u.key) ≡ true → UnmarkedAt m p b u → UnmarkedRow m t p b (remaining u)
+row_remains m t p b u tree st = go (remaining u) refl
   where
     off : is_nil u.phase ≡ false
     off = late_standing u.phase st.phase
 
-    go : (o : Option Current) → remaining u ≡ o → RowOwes t p b o
+    go : (o : Option Current) → remaining u ≡ o → UnmarkedRow m t p b o
     go None i = absurd (grind (arith, i, off))
     go (Some c) i =
         let l = left_is u c i in
@@ -409,8 +408,29 @@ row_remains t p b u tree st = go (remaining u) refl
           found = ap (λ (bs : List Branch). find_branch bs p) (left_branches u c i) ∙ row;
           id = st.id;
           left = st.left;
-          ended = st.ended;
+          off = st.off;
         }
+
+-- what an event may set in a row, it may set at the node
+pub row_marked : (m : Branch → Bool) (who : Who) (e : Event) (s d : Digest) (c : Current) (f : TxEvent) (t : Aaid) (p : ℕ) (b : BranchId) → d.current ≡ Some c → s.current ≡ Some c → IsAsked e c f → UnmarkedRow m t p b d.current
+    → (may : TxEvent → Transaction → ℕ → Bool) → may f (seen who d.arcs c) p ≡ true → MayMark who e s may p (t, b)
+row_marked m who e s d c f t p b now at asked k may h = record {
+  current = c;
+  branch = k.branch;
+  at = at;
+  found = ap (λ (x : Current). find_branch x.branches p) (sym same) ∙ k.found;
+  key = pair t (aaid_of c.key) b k.branch.id (aaids_equal t (aaid_of c.key) (ap (λ (x : Current). is_aaid t (aaid_of x.key)) (sym same) ∙ k.tree)) (sym k.id);
+  event = f;
+  arcs = d.arcs;
+  asked = asked;
+  sets = h;
+}
+  where
+    same : k.current ≡ c
+    same = some_same k.current c (sym k.at ∙ now)
+
+    pair : (t u : Aaid) (b c : BranchId) → t ≡ u → b ≡ c → ◌≡◌ {A = BranchKey} (t, b) (u, c)
+    pair t u b c i j = rw (i, j) refl
 
 -- ---- a step of a node
 
@@ -487,18 +507,16 @@ back_rolls u r k = ap rolls_back k.is ∙ and_left (not (is_commit k.side)) (is_
 pub no_rolling : (v : Phase) → is_standing v ≡ true → is_rolling v ≡ false
 no_rolling v h = grind (arith, h)
 
-kept_damage : (t : Aaid) (p : ℕ) (b : BranchId) (ks : List Kept) (n : ℕ) (k : NodeKey) (up : Option Addr) (x : Report) (cs : List Child) → is_aaid t k.aaid ≡ true → IsOwedIn p b cs → KeptOwes t p b (kept_after (Some (LogRec.Damage n k up Outcome.Commit x cs)) ks)
+pub kept_new : (P : Kept → Type 0) (t : Aaid) (ks : List Kept) (n : ℕ) (k : NodeKey) (up : Option Addr) (o : Outcome) (x : Report) (cs : List Child) → is_commit o ≡ true → is_aaid t k.aaid ≡ true → ((y : Kept) → y.owed ≡ cs → P y)
+    → KeptWith P t (kept_after (Some (LogRec.Damage n k up o x cs)) ks)
 unfolding kept_by
-kept_damage t p b ks n k up x cs tree owes =
-    let l = put_there ks (record { node = n; key = k; superior = up; side = Outcome.Commit; report = x; owed = cs; forgot = false }) in
-    record {
-      key = k;
-      kept = l.kept;
-      found = l.found;
-      commits = ap is_commit l.side;
-      tree = ap (λ (y : NodeKey). is_aaid t y.aaid) l.key ∙ tree;
-      owes = subst (λ (ds : List Child). IsOwedIn p b ds) (sym l.owed) owes;
-    }
+kept_new P t ks n k up o x cs commits tree holds =
+    let l = put_there ks (record { node = n; key = k; superior = up; side = o; report = x; owed = cs; forgot = false }) in
+    record { key = k; kept = l.kept; found = l.found; commits = ap is_commit l.side ∙ commits; tree = ap (λ (y : NodeKey). is_aaid t y.aaid) l.key ∙ tree; holds = holds l.kept l.owed }
+
+kept_damage : (t : Aaid) (p : ℕ) (b : BranchId) (ks : List Kept) (n : ℕ) (k : NodeKey) (up : Option Addr) (x : Report) (cs : List Child) → is_aaid t k.aaid ≡ true → IsOwedIn p b cs
+    → KeptOwes t p b (kept_after (Some (LogRec.Damage n k up Outcome.Commit x cs)) ks)
+kept_damage t p b ks n k up x cs tree owes = kept_new (OwesIn p b) t ks n k up Outcome.Commit x cs refl tree (λ y same. subst (λ (ds : List Child). IsOwedIn p b ds) (sym same) owes)
 
 owing_turned : (who : Who) (e : Event) (fall : Bool) (s : Digest) (f : TxEvent) (d : Digest) (c : Current) → (falls f (seen who d.arcs c) ≡ true → fall ≡ true) → d.current ≡ Some c → s.current ≡ Some c → IsAsked e c f → IsPut f (seen who d.arcs c) → IsOwingMove who e fall s d (turned who f d c)
 owing_turned who e fall s f d c so now at asked put = record {
@@ -558,12 +576,12 @@ owing_turned who e fall s f d c so now at asked put = record {
     kept : (t : Aaid) (p : ℕ) (b : BranchId) → IsSound who d → (k : KeptOwes t p b d.kept) → KeptOwes t p b m.next.kept
     kept t p b sound k = elim own.logs [
       | inl i ↦ subst (λ (r : Option LogRec). KeptOwes t p b (kept_after r d.kept)) (sym i) k
-      | inr i ↦ kept_other t p b d.kept k a.rec (other_logged q a.rec a.next k.key own.passed.logs (λ same. found_apart d.kept (node_key c.key) k.key k.kept (sound.0 c now (no_rolling c.phase i)) k.found same))
+      | inr i ↦ kept_other (OwesIn p b) t d.kept k a.rec (other_logged q a.rec a.next k.key own.passed.logs (λ same. found_apart d.kept (node_key c.key) k.key k.kept (sound.0 c now (no_rolling c.phase i)) k.found same))
     ]
 
     row : (t : Aaid) (p : ℕ) (b : BranchId) → RowOwes t p b d.current → OwesOr who e fall s t p b m.next
-    row t p b k = elim (own.stays p b (stands_seen who d.arcs t p b c (subst (λ (o : Option Current). RowOwes t p b o) now k))) [
-      | inl i ↦ inl (inl (row_remains t p b a.next (ap (λ (j : Key). is_aaid t (aaid_of j)) own.passed.key ∙ tree) i))
+    row t p b k = elim (own.stays p b (row_seen is_done_branch who d.arcs t p b c (subst (λ (o : Option Current). RowOwes t p b o) now k))) [
+      | inl i ↦ inl (inl (row_remains is_done_branch t p b a.next (ap (λ (j : Key). is_aaid t (aaid_of j)) own.passed.key ∙ tree) i))
       | inr i ↦ elim i [ inl j ↦ inr (quits j) | inr j ↦ inl (inr (keeps j)) ]
     ]
       where
@@ -573,28 +591,12 @@ owing_turned who e fall s f d c so now at asked put = record {
         tree : is_aaid t (aaid_of c.key) ≡ true
         tree = ap (λ (x : Current). is_aaid t (aaid_of x.key)) (sym same) ∙ k.tree
 
-        marked : (may : TxEvent → Transaction → ℕ → Bool) → may f q p ≡ true → MayMark who e s may p (t, b)
-        marked may h = record {
-          current = c;
-          branch = k.branch;
-          at = at;
-          found = ap (λ (x : Current). find_branch x.branches p) (sym same) ∙ k.found;
-          key = pair t (aaid_of c.key) b k.branch.id (aaids_equal t (aaid_of c.key) tree) (sym k.id);
-          event = f;
-          arcs = d.arcs;
-          asked = asked;
-          sets = h;
-        }
-          where
-            pair : (t u : Aaid) (b c : BranchId) → t ≡ u → b ≡ c → ◌≡◌ {A = BranchKey} (t, b) (u, c)
-            pair t u b c i j = rw (i, j) refl
-
         here : is_now t s.current ≡ true
         here = ap (is_now t) at ∙ tree
 
         quits : Quits f q p → QuitsAt who e fall s t p b
-        quits (Is_done h) = Done_here (marked may_end h)
-        quits (Has_left h) = Left_here (marked may_leave h)
+        quits (Is_done h) = Done_here (row_marked is_done_branch who e s d c f t p b now at asked k may_end h)
+        quits (Has_left h) = Left_here (row_marked is_done_branch who e s d c f t p b now at asked k may_leave h)
         quits (Rolls h) = Rolls_here here (so h)
         quits (Departs h) = Leaves_here here (unchanged_asked e c (subst (λ (g : TxEvent). IsAsked e c g) h asked))
 
@@ -740,7 +742,7 @@ owing_keep who e fall s d k f found settling = record {
     quiet t p = ap (begins_of t) (spoken_words d.arcs (settled k f).outs p (settled_spoken k f))
 
     stays : (t : Aaid) (p : ℕ) (b : BranchId) → IsSound who d → (o : KeptOwes t p b d.kept) → (v : Bool) → is_key o.key k.key ≡ v → OwesOr who e fall s t p b m.next
-    stays t p b sound o false i = inl (inr (kept_other t p b d.kept o (settled k f).rec (settled_key k f o.key (λ eq. cc (i, ap (λ (j : NodeKey). is_key j k.key) (sym eq) ∙ key_self k.key)))))
+    stays t p b sound o false i = inl (inr (kept_other (OwesIn p b) t d.kept o (settled k f).rec (settled_key k f o.key (λ eq. cc (i, ap (λ (j : NodeKey). is_key j k.key) (sym eq) ∙ key_self k.key)))))
     stays t p b sound o true i = by f settling
       where
         one : Some o.kept ≡ Some found.0
@@ -750,7 +752,7 @@ owing_keep who e fall s d k f found settling = record {
         eq = let h = one in cc (h)
 
         owes : IsOwedIn p b k.owed
-        owes = subst (λ (cs : List Child). IsOwedIn p b cs) (ap (λ (y : Kept). y.owed) eq ∙ same.owed) o.owes
+        owes = subst (λ (cs : List Child). IsOwedIn p b cs) (ap (λ (y : Kept). y.owed) eq ∙ same.owed) o.holds
 
         commits : is_commit k.side ≡ true
         commits = ap is_commit (sym same.side) ∙ ap (λ (y : Kept). is_commit y.side) (sym eq) ∙ o.commits
@@ -803,13 +805,14 @@ owing_still who e fall s d = record { says = λ z r h. absurd h; rolls = λ u h.
 
 -- ---- Begin
 
-row_more : (p : ℕ) (b : BranchId) (t : Transaction) (x : Row) → StandsAt p b t → StandsAt p b (record t { rows = t.rows ++ x ∷ [] })
-row_more p b t x st = let found = st.found in record { row = st.row; found = find_last t.rows x p ∙ rw found refl; id = st.id; left = st.left; ended = st.ended; phase = st.phase }
+row_more : (m : Branch → Bool) (p : ℕ) (b : BranchId) (t : Transaction) (x : Row) → UnmarkedAt m p b t → UnmarkedAt m p b (record t { rows = t.rows ++ x ∷ [] })
+row_more m p b t x st = let found = st.found in record { row = st.row; found = find_last t.rows x p ∙ rw found refl; id = st.id; left = st.left; off = st.off; phase = st.phase }
 
-row_new : (t : Transaction) (x : Row) (p : ℕ) → find_row t.rows p ≡ None → x.branch.peer.node ≡ p → x.branch.left ≡ false → x.branch.ended ≡ false → is_standing t.phase ≡ true → StandsAt p x.branch.id (record t { rows = t.rows ++ x ∷ [] })
-row_new t x p none at left ended phase =
+row_new : (m : Branch → Bool) (t : Transaction) (x : Row) (p : ℕ) → find_row t.rows p ≡ None → x.branch.peer.node ≡ p → x.branch.left ≡ false → m x.branch ≡ false → is_standing t.phase ≡ true
+    → UnmarkedAt m p x.branch.id (record t { rows = t.rows ++ x ∷ [] })
+row_new m t x p none at left off phase =
     let eq : (x.branch.peer.node == p) ≡ true = grind (arith, nat_tests, at) in
-    record { row = x; found = find_last t.rows x p ∙ rw none (rw eq refl); id = refl; left = left; ended = ended; phase = phase }
+    record { row = x; found = find_last t.rows x p ∙ rw none (rw eq refl); id = refl; left = left; off = off; phase = phase }
 
 pub no_row : (who : Who) (d : Digest) (a : Arc) (c : Current) → d.current ≡ Some c → may_begin_on who d a ≡ true → (is_active c.phase ≡ true) × (find_row (seen_rows d.arcs c.branches) a.peer.node ≡ None)
 unfolding situation_of
@@ -828,6 +831,43 @@ no_row who d a c now may = (grind (arith, may, now), go (find_row (seen_rows d.a
 pub active_standing : (v : Phase) → is_active v ≡ true → is_standing v ≡ true
 active_standing v h = rw h refl
 
+-- the branch that a Begin adds, and those that were there
+
+abbrev begun_row : Who → Digest → Arc → Row
+begun_row who d a = record { branch = fresh_branch (next_child who d a); live = true; ends = false }
+
+abbrev begun_rows : Who → Digest → Current → Arc → Transaction
+begun_rows who d c a = let t : Transaction = seen who d.arcs c in record t { rows = t.rows ++ begun_row who d a ∷ [] }
+
+pub row_begun : (m : Branch → Bool) (who : Who) (q : ℕ) (d : Digest) (c : Current) (a : Arc) → d.current ≡ Some c → may_begin_on who d a ≡ true → (t : Aaid) (p : ℕ) (b : BranchId) → UnmarkedRow m t p b d.current
+    → UnmarkedRow m t p b (begun_over who q d c a).next.current
+row_begun m who q d c a now may t p b k =
+    let same : k.current ≡ c = some_same k.current c (sym k.at ∙ now) in
+    row_remains m t p b (begun_rows who d c a) (ap (λ (y : Current). is_aaid t (aaid_of y.key)) (sym same) ∙ k.tree)
+    (row_more m p b (seen who d.arcs c) (begun_row who d a) (row_seen m who d.arcs t p b c (subst (λ (o : Option Current). UnmarkedRow m t p b o) now k)))
+
+-- the word that goes out is this Begin
+pub row_begins : (m : Branch → Bool) → ((x : Child) → m (fresh_branch x) ≡ false) → (who : Who) (q : ℕ) (d : Digest) (c : Current) (a : Arc) → d.current ≡ Some c → find_arc d.arcs q ≡ Some a → may_begin_on who d a ≡ true
+    → (t : Aaid) (p : ℕ) (b : BranchId) → BeginsTo t p b (begun_over who q d c a).outs → UnmarkedRow m t p b (begun_over who q d c a).next.current
+row_begins m fresh who q d c a now found may t p b h =
+    let w = carried_is (begin_arcs q d a) q word h.0 (PeerRecord.OnAssoc h.1 h.2 h.3 (DialogueRecord.Begin t b h.4)) (one_sent (begin_arcs q d a) q word h.0 (PeerRecord.OnAssoc h.1 h.2 h.3 (DialogueRecord.Begin t b h.4)) h.6) in
+    let tree : t ≡ aaid_of c.key = begin_tree h.1 w.1 h.2 w.2 h.3 w.3 t (aaid_of c.key) b id h.4 (named_holder a.dialogue) w.4 in
+    let same : id ≡ b = begin_id h.1 w.1 h.2 w.2 h.3 w.3 t (aaid_of c.key) b id h.4 (named_holder a.dialogue) w.4 in
+    let here : q ≡ p = sym w.0 ∙ h.5 in
+    let free = no_row who d a c now may in
+    let st : UnmarkedAt m a.peer.node id u = row_new m (seen who d.arcs c) (begun_row who d a) a.peer.node free.1 refl refl (fresh (next_child who d a)) (active_standing c.phase free.0) in
+    row_remains m t p b u (ap (λ (y : Aaid). is_aaid y (aaid_of c.key)) tree ∙ aaid_same (aaid_of c.key))
+    (subst (λ (n : ℕ). UnmarkedAt m n b u) (find_arc_is d.arcs q a found ∙ here) (subst (λ (v : BranchId). UnmarkedAt m a.peer.node v u) same st))
+  where
+    id : BranchId
+    id = (next_child who d a).branch
+
+    word : DialogueRecord
+    word = begin_word who d c a
+
+    u : Transaction
+    u = begun_rows who d c a
+
 owing_begins : (who : Who) (e : Event) (fall : Bool) (s d : Digest) (q : ℕ) → IsOwingMove who e fall s d (begin_on who q d)
 owing_begins who e fall s d q = begin_cases (IsOwingMove who e fall s d) who q d still on
   where
@@ -835,58 +875,13 @@ owing_begins who e fall s d q = begin_cases (IsOwingMove who e fall s d) who q d
     still = owing_still who e fall s d
 
     on : (c : Current) (a : Arc) → d.current ≡ Some c → find_arc d.arcs q ≡ Some a → may_begin_on who d a ≡ true → IsOwingMove who e fall s d (begun_over who q d c a)
-    on c a now found i = record {
-      says = λ z r h. word_of e s d m z r (λ k. absurd (sent_performed arcs outs z r k h));
+    on c a now found may = record {
+      says = λ z r h. word_of e s d (begun_over who q d c a) z r (λ k. absurd (sent_performed (begin_arcs q d a) (TxOut.Carry q (begin_word who d c a) ∷ []) z r k h));
       rolls = λ u h. inl h;
       backs = λ u h. absurd (cc (h));
-      stays = λ t p b sound o. elim o [ inr j ↦ inl (inr j) | inl j ↦ inl (inl (more t p b j)) ];
-      begins = λ t p b sound h. inl (inl (new t p b h));
+      stays = λ t p b sound o. elim o [ inr j ↦ inl (inr j) | inl j ↦ inl (inl (row_begun is_done_branch who q d c a now may t p b j)) ];
+      begins = λ t p b sound h. inl (inl (row_begins is_done_branch (λ x. refl) who q d c a now found may t p b h));
     }
-      where
-        id : BranchId
-        id = record { superior = who.site; mark = next_mark who d }
-
-        word : DialogueRecord
-        word = DialogueRecord.Begin (aaid_of c.key) id (named_holder a.dialogue)
-
-        outs : List TxOut
-        outs = TxOut.Carry q word ∷ []
-
-        arcs : List Arc
-        arcs = with_dialogue d.arcs q (begun_by (named_holder a.dialogue) Side.Superior)
-
-        m : Move
-        m = perform outs (record (with_begun who (with_mark_drawn d) c (record { addr = a.peer; branch = id })) { arcs = arcs })
-
-        t0 : Transaction
-        t0 = seen who (with_mark_drawn d).arcs c
-
-        x : Row
-        x = record { branch = fresh_branch (record { addr = a.peer; branch = id }); live = true; ends = false }
-
-        u : Transaction
-        u = record t0 { rows = t0.rows ++ x ∷ [] }
-
-        may : (is_active c.phase ≡ true) × (find_row (seen_rows d.arcs c.branches) a.peer.node ≡ None)
-        may = no_row who d a c now (grind (arith, i))
-
-        more : (t : Aaid) (p : ℕ) (b : BranchId) → RowOwes t p b d.current → RowOwes t p b m.next.current
-        more t p b k =
-            let same : k.current ≡ c = some_same k.current c (sym k.at ∙ now) in
-            row_remains t p b u (ap (λ (y : Current). is_aaid t (aaid_of y.key)) (sym same) ∙ k.tree) (row_more p b t0 x (stands_seen who d.arcs t p b c (subst (λ (o : Option Current). RowOwes t p b o) now k)))
-
-        -- the word that goes out is this Begin
-        is_word : (arcs : List Arc) (z : Addr) (y : PeerRecord) → IsSentIn (carried arcs q word).1 z y → (z.node ≡ q) × (f : Mark) × (g : Mark) × (n : ℕ) × (y ≡ PeerRecord.OnAssoc f g n word)
-        is_word arcs z y h = carried_is arcs q word z y h
-
-        new : (t : Aaid) (p : ℕ) (b : BranchId) → BeginsTo t p b m.outs → RowOwes t p b m.next.current
-        new t p b h =
-            let w = is_word arcs h.0 (PeerRecord.OnAssoc h.1 h.2 h.3 (DialogueRecord.Begin t b h.4)) (one_sent arcs q word h.0 (PeerRecord.OnAssoc h.1 h.2 h.3 (DialogueRecord.Begin t b h.4)) h.6) in
-            let tree : t ≡ aaid_of c.key = begin_tree h.1 w.1 h.2 w.2 h.3 w.3 t (aaid_of c.key) b id h.4 (named_holder a.dialogue) w.4 in
-            let same : id ≡ b = begin_id h.1 w.1 h.2 w.2 h.3 w.3 t (aaid_of c.key) b id h.4 (named_holder a.dialogue) w.4 in
-            let here : q ≡ p = sym w.0 ∙ h.5 in
-            let st : StandsAt a.peer.node id u = row_new t0 x a.peer.node may.1 refl refl refl (active_standing c.phase may.0) in
-            row_remains t p b u (ap (λ (y : Aaid). is_aaid y (aaid_of c.key)) tree ∙ aaid_same (aaid_of c.key)) (subst (λ (n : ℕ). StandsAt n b u) ((find_arc_is d.arcs q a found) ∙ here) (subst (λ (v : BranchId). StandsAt a.peer.node v u) same st))
 
 -- ---- chains
 
@@ -983,7 +978,7 @@ owing_moves who e fall s so = record {
       says = λ z r h. rooted_word who e s d (record d { kept = ks }) m z r (λ v i. less v (or_case (is_now v d.current && is_committing (phase_of d)) (keeps_commit v ks) i)) (one.says z r h);
       rolls = λ u h. elim (one.rolls u h) [ inl i ↦ inl (sym (rollback_noted u d.kept) ∙ ap (keeps_rollback u) (sym held.1) ∙ rollback_noted u ks ∙ i) | inr i ↦ inr i ];
       backs = λ u h. elim (one.backs u h) [ inl i ↦ inl (sym (rollback_noted u d.kept) ∙ ap (keeps_rollback u) (sym held.1) ∙ rollback_noted u ks ∙ i) | inr i ↦ inr i ];
-      stays = λ t p b is o. one.stays t p b (sound_noted who d ks held.1 is) (elim o [ inl i ↦ inl i | inr i ↦ inr (kept_unnoted t p b ks (subst (λ (l : List Kept). KeptOwes t p b l) (sym held.1) (kept_noted t p b d.kept i))) ]);
+      stays = λ t p b is o. one.stays t p b (sound_noted who d ks held.1 is) (elim o [ inl i ↦ inl i | inr i ↦ inr (kept_unnoted (OwesIn p b) (λ x h. h) t ks (subst (λ (l : List Kept). KeptOwes t p b l) (sym held.1) (kept_noted (OwesIn p b) (λ x h. h) t d.kept i))) ]);
       begins = λ t p b is h. one.begins t p b (sound_noted who d ks held.1 is) h;
     }
       where

@@ -14,7 +14,7 @@ use Rattle.tp_logrec.specs.declared.record.LogRec.{LogRec}
 use Rattle.tp_model.specs.declared.arc.Phase.{Phase}
 use Rattle.tp_model.specs.declared.transaction.TxEvent.{TxEvent}
 use Rattle.tp_model.specs.declared.transaction.TxOut.{TxOut}
-use Rattle.tp_model.specs.Parts.{Key, Root, Under}
+use Rattle.tp_model.specs.Parts.{Key, Root, Under, Branch}
 use Rattle.tp_model.specs.Dialogues.{is_active, is_ready, is_committing, is_rolling}
 use Rattle.tp_model.specs.Transactions.{Row, Transaction, Turn, turn, and_then, before, aaid_of, node_key, superior_of, is_under_at, find_row, with_row, with_arc_lost, all_done, owed_of, child_of, report_of_branch, reports_of, own_damage, log_ready, log_end, log_damage, forgets, done_up, ends_down, end_up, retried, complete_commit, complete_rollback, begin_rolling, order, ask_commit, leave, count_branch, end_branch, branch_left, transacted, completion_of}
 use Rattle.tp_steps.specs.Turns.{Turns, vote, decide, shut_given_up, row_dead, falls}
@@ -22,7 +22,7 @@ use Rattle.tp_steps.specs.Moves.{IsPut, IsRecoveryIn}
 use Rattle.tp_steps.specs.Passages.{may_move, is_commit_rec, IsPassed}
 use Rattle.tp_steps.specs.Branches.{may_leave, may_end}
 use Rattle.tp_steps.specs.Owing.{is_damage_rec}
-use Rattle.tp_agreement.specs.Owing.{is_standing, IsOwedIn, rolls_back, StandsAt, KeepsOwed, Quits, Is_done, Has_left, Rolls, Departs, IsOwnWord, IsOwingTurn}
+use Rattle.tp_agreement.specs.Owing.{is_standing, IsOwedIn, rolls_back, StandsAt, KeepsOwed, Quits, Is_done, Has_left, Rolls, Departs, IsOwnWord, IsOwingTurn, UnmarkedAt, is_done_branch}
 use Rattle.tp_steps.proofs.every.EveryTurn.{every_turn}
 use Rattle.tp_steps.proofs.links.Saying.{recovery_append}
 use Rattle.tp_steps.proofs.words.Fair.{row_phase, row_with}
@@ -32,50 +32,51 @@ use Rattle.tp_steps.proofs.log.Passed.{passed_turns, later_rec}
 use Rattle.tp_steps.proofs.lemmas.Joined.{IsJoined, joined_up, joined_prepare, joined_forgets, joined_ask, joined_done, joined_report, joined_retried, joined_commit, joined_unrolls, joined_rolls, joined_order, joined_leaves}
 use Rattle.tp_steps.proofs.lemmas.UpwardWords.{still_kept}
 
--- ---- rows that stand
+-- ---- rows whose mark stays off
 
-stands_same : (p : ℕ) (b : BranchId) (t u : Transaction) → find_row u.rows p ≡ find_row t.rows p → is_standing u.phase ≡ true → StandsAt p b t → StandsAt p b u
-stands_same p b t u rows phase st = record { row = st.row; found = rows ∙ st.found; id = st.id; left = st.left; ended = st.ended; phase = phase }
+pub unmarked_same : (m : Branch → Bool) (p : ℕ) (b : BranchId) (t u : Transaction) → find_row u.rows p ≡ find_row t.rows p → is_standing u.phase ≡ true → UnmarkedAt m p b t → UnmarkedAt m p b u
+unmarked_same m p b t u rows phase st = record { row = st.row; found = rows ∙ st.found; id = st.id; left = st.left; off = st.off; phase = phase }
 
--- one row changes, in neither mark
-stands_row : (p : ℕ) (b : BranchId) (t : Transaction) (q : ℕ) (f : Row → Row) → ((r : Row) → (f r).branch.peer.node ≡ r.branch.peer.node) → ((r : Row) → (f r).branch.id ≡ r.branch.id)
-    → ((r : Row) → (f r).branch.left ≡ r.branch.left) → ((r : Row) → (f r).branch.ended ≡ r.branch.ended) → StandsAt p b t → StandsAt p b (with_row t q f)
-stands_row p b t q f peer id left ended st = go (q == p) refl
+-- one row changes, and the mark stays off
+pub unmarked_row : (m : Branch → Bool) (p : ℕ) (b : BranchId) (t : Transaction) (q : ℕ) (f : Row → Row) → ((r : Row) → (f r).branch.peer.node ≡ r.branch.peer.node) → ((r : Row) → (f r).branch.id ≡ r.branch.id)
+    → ((r : Row) → (f r).branch.left ≡ r.branch.left) → ((r : Row) → m r.branch ≡ false → m (f r).branch ≡ false) → UnmarkedAt m p b t → UnmarkedAt m p b (with_row t q f)
+unmarked_row m p b t q f peer id left off st = go (q == p) refl
   where
     phase : is_standing (with_row t q f).phase ≡ true
     phase = ap is_standing (row_phase t q f) ∙ st.phase
 
-    go : (v : Bool) → (q == p) ≡ v → StandsAt p b (with_row t q f)
+    go : (v : Bool) → (q == p) ≡ v → UnmarkedAt m p b (with_row t q f)
     go true i = let found = st.found in record {
       row = f st.row;
       found = row_with t q f p peer ∙ rw (i, found) refl;
       id = id st.row ∙ st.id;
       left = left st.row ∙ st.left;
-      ended = ended st.row ∙ st.ended;
+      off = off st.row st.off;
       phase = phase;
     }
-    go false i = record { row = st.row; found = row_with t q f p peer ∙ rw i st.found; id = st.id; left = st.left; ended = st.ended; phase = phase }
+    go false i = record { row = st.row; found = row_with t q f p peer ∙ rw i st.found; id = st.id; left = st.left; off = st.off; phase = phase }
 
 -- one row changes, and the event says so of the branch
-stands_or : (p : ℕ) (b : BranchId) (t : Transaction) (q : ℕ) (f : Row → Row) (Q : Type 0) → ((r : Row) → (f r).branch.peer.node ≡ r.branch.peer.node) → (q ≡ p → Q) → StandsAt p b t → StandsAt p b (with_row t q f) ⊎ Q
-stands_or p b t q f Q peer quits st = go (q == p) refl
+pub unmarked_or : (m : Branch → Bool) (p : ℕ) (b : BranchId) (t : Transaction) (q : ℕ) (f : Row → Row) (Q : Type 0) → ((r : Row) → (f r).branch.peer.node ≡ r.branch.peer.node) → (q ≡ p → Q) → UnmarkedAt m p b t
+    → UnmarkedAt m p b (with_row t q f) ⊎ Q
+unmarked_or m p b t q f Q peer quits st = go (q == p) refl
   where
-    go : (v : Bool) → (q == p) ≡ v → StandsAt p b (with_row t q f) ⊎ Q
+    go : (v : Bool) → (q == p) ≡ v → UnmarkedAt m p b (with_row t q f) ⊎ Q
     go true i = inr (quits (grind (arith, nat_tests, i)))
-    go false i = inl (record { row = st.row; found = row_with t q f p peer ∙ rw i st.found; id = st.id; left = st.left; ended = st.ended; phase = ap is_standing (row_phase t q f) ∙ st.phase })
+    go false i = inl (record { row = st.row; found = row_with t q f p peer ∙ rw i st.found; id = st.id; left = st.left; off = st.off; phase = ap is_standing (row_phase t q f) ∙ st.phase })
 
-stands_lost : (p : ℕ) (b : BranchId) (t : Transaction) (q : ℕ) → StandsAt p b t → StandsAt p b (with_arc_lost t q)
-stands_lost p b t q st = go (is_under_at t.key q) refl
+pub unmarked_lost : (m : Branch → Bool) (p : ℕ) (b : BranchId) (t : Transaction) (q : ℕ) → UnmarkedAt m p b t → UnmarkedAt m p b (with_arc_lost t q)
+unmarked_lost m p b t q st = go (is_under_at t.key q) refl
   where
-    go : (v : Bool) → is_under_at t.key q ≡ v → StandsAt p b (with_arc_lost t q)
-    go true i = rw (i, with_arc_lost) (stands_same p b t (record t { up = false; up_ends = false }) refl st.phase st)
-    go false i = rw (i, with_arc_lost) (stands_row p b t q row_dead (λ r. refl) (λ r. refl) (λ r. refl) (λ r. refl) st)
+    go : (v : Bool) → is_under_at t.key q ≡ v → UnmarkedAt m p b (with_arc_lost t q)
+    go true i = rw (i, with_arc_lost) (unmarked_same m p b t (record t { up = false; up_ends = false }) refl st.phase st)
+    go false i = rw (i, with_arc_lost) (unmarked_row m p b t q row_dead (λ r. refl) (λ r. refl) (λ r. refl) (λ r h. h) st)
 
-stands_prepared : (p : ℕ) (b : BranchId) (t : Transaction) → StandsAt p b t → StandsAt p b (ask_commit t).next
+pub unmarked_prepared : (m : Branch → Bool) → ((x : Branch) → m (record x { prepared = true }) ≡ m x) → (p : ℕ) (b : BranchId) (t : Transaction) → UnmarkedAt m p b t → UnmarkedAt m p b (ask_commit t).next
 unfolding ask_commit
-stands_prepared p b t st =
+unmarked_prepared m same p b t st =
     let found = st.found in
-    record { row = record st.row { branch = record st.row.branch { prepared = true } }; found = prepare_row p t.rows ∙ rw found refl; id = st.id; left = st.left; ended = st.ended; phase = st.phase }
+    record { row = record st.row { branch = record st.row.branch { prepared = true } }; found = prepare_row p t.rows ∙ rw found refl; id = st.id; left = st.left; off = same st.row.branch ∙ st.off; phase = st.phase }
 
 -- ---- records beside the associations, in the lists that rules write
 
@@ -196,7 +197,7 @@ owing_commit e s t passed c = go (not t.owes && all_done t.rows) refl
           says = λ z r h. says (complete_commit t) (ap (λ (a : Turn). is_report_none x || is_damage_rec a.rec) is ∙ spoilt (is_report_none x)) z r (subst (λ (a : Turn). IsRecoveryIn a.outs z r) is h);
           rolls = λ h. absurd (cc (plain (is_report_none x), ap (λ (a : Turn). rolls_back a.rec) (sym is) ∙ h));
           stays = λ p b st.
-              let k = given_up t.rows p st.row st.found st.left st.ended all in
+              let k = given_up t.rows p st.row st.found st.left st.off all in
               let off : is_report_none x ≡ false = join_right (own_damage t.decision) (reports_of t.rows) k.0 in
               inr (inr (record {
                 node = t.node;
@@ -249,7 +250,7 @@ owing_order e s t passed ok = record {
   logs = inr (open_standing t.phase ok);
   says = λ z r h. absurd (joined_order Silent silent_joined t (λ z r h. h) (λ p z r h. h) z r h);
   rolls = λ h. absurd (cc (h));
-  stays = λ p b st. inl (stands_same p b t (order t).next refl refl st);
+  stays = λ p b st. inl (unmarked_same is_done_branch p b t (order t).next refl refl st);
 }
 
 owing_vote : (e : TxEvent) (s t : Transaction) → IsPassed e s t (vote t) → is_active t.phase ≡ true → IsOwingTurn e s t (vote t)
@@ -258,7 +259,7 @@ owing_vote e s t passed act = record {
   logs = inr (open_standing t.phase (rw act refl));
   says = λ z r h. absurd (joined_up Silent silent_joined t DialogueRecord.Ready (λ p z r h. h) z r h);
   rolls = λ h. absurd (plain t.key h);
-  stays = λ p b st. inl (stands_same p b t (vote t).next refl refl st);
+  stays = λ p b st. inl (unmarked_same is_done_branch p b t (vote t).next refl refl st);
 }
   where
     plain : (k : Key) → rolls_back (log_ready (record t { key = k })) ≡ true → ⊥
@@ -271,26 +272,26 @@ owing_leave e s t passed one quits = owing_plain e s t (leave t) passed refl (jo
 
 owing_ask : (e : TxEvent) (s t : Transaction) → IsPassed e s t (ask_commit t) → IsOwingTurn e s t (ask_commit t)
 unfolding ask_commit
-owing_ask e s t passed = owing_plain e s t (ask_commit t) passed refl (joined_prepare Silent silent_joined t.rows (λ p z r h. h)) (λ p b st. inl (stands_prepared p b t st))
+owing_ask e s t passed = owing_plain e s t (ask_commit t) passed refl (joined_prepare Silent silent_joined t.rows (λ p z r h. h)) (λ p b st. inl (unmarked_prepared is_done_branch (λ x. refl) p b t st))
 
 owing_count : (e : TxEvent) (s t : Transaction) (q : ℕ) → IsPassed e s t (count_branch q t) → IsOwingTurn e s t (count_branch q t)
 unfolding count_branch
-owing_count e s t q passed = owing_plain e s t (count_branch q t) passed refl (λ z r h. h) (λ p b st. inl (stands_row p b t q (λ r. record r { branch = record r.branch { counted = true } }) (λ r. refl) (λ r. refl) (λ r. refl) (λ r. refl) st))
+owing_count e s t q passed = owing_plain e s t (count_branch q t) passed refl (λ z r h. h) (λ p b st. inl (unmarked_row is_done_branch p b t q (λ r. record r { branch = record r.branch { counted = true } }) (λ r. refl) (λ r. refl) (λ r. refl) (λ r h. h) st))
 
 owing_end : (e : TxEvent) (s t : Transaction) (q : ℕ) (x : Report) → IsPassed e s t (end_branch q x t) → may_end e s q ≡ true → IsOwingTurn e s t (end_branch q x t)
 unfolding end_branch
 owing_end e s t q x passed may =
     owing_plain e s t (end_branch q x t) passed refl (joined_report Silent silent_joined q x (λ z r h. h))
-    (λ p b st. stands_or p b t q (λ r. record r { branch = record r.branch { ended = true; report = x } }) (Quits e s p) (λ r. refl) (λ i. Is_done (subst (λ (n : ℕ). may_end e s n ≡ true) i may)) st)
+    (λ p b st. unmarked_or is_done_branch p b t q (λ r. record r { branch = record r.branch { ended = true; report = x } }) (Quits e s p) (λ r. refl) (λ i. Is_done (subst (λ (n : ℕ). may_end e s n ≡ true) i may)) st)
 
 owing_left : (e : TxEvent) (s t : Transaction) (q : ℕ) → IsPassed e s t (branch_left q t) → may_leave e s q ≡ true → IsOwingTurn e s t (branch_left q t)
 unfolding branch_left
 owing_left e s t q passed may =
     owing_plain e s t (branch_left q t) passed refl (λ z r h. h)
-    (λ p b st. stands_or p b t q (λ r. record r { branch = record r.branch { left = true } }) (Quits e s p) (λ r. refl) (λ i. Has_left (subst (λ (n : ℕ). may_leave e s n ≡ true) i may)) st)
+    (λ p b st. unmarked_or is_done_branch p b t q (λ r. record r { branch = record r.branch { left = true } }) (Quits e s p) (λ r. refl) (λ i. Has_left (subst (λ (n : ℕ). may_leave e s n ≡ true) i may)) st)
 
 owing_shut : (e : TxEvent) (s : Transaction) (q : ℕ) (r : Row) → IsPassed e s s (shut_given_up q r s) → IsOwingTurn e s s (shut_given_up q r s)
-owing_shut e s q r passed = owing_plain e s s (shut_given_up q r s) passed refl (silent r.live) (λ p b st. inl (stands_row p b s q (λ w. record w { branch = record w.branch { given_up = true }; live = false; ends = false }) (λ w. refl) (λ w. refl) (λ w. refl) (λ w. refl) st))
+owing_shut e s q r passed = owing_plain e s s (shut_given_up q r s) passed refl (silent r.live) (λ p b st. inl (unmarked_row is_done_branch p b s q (λ w. record w { branch = record w.branch { given_up = true }; live = false; ends = false }) (λ w. refl) (λ w. refl) (λ w. refl) (λ w h. h) st))
   where
     silent : (v : Bool) → Silent (if v then TxOut.Shut q ∷ [] else [])
     silent true z w h = h
@@ -374,14 +375,14 @@ owing_turns e s = record {
   first = λ t u outs a one two. owing_then e s t (turn outs u) a (before outs a) (k.first t u outs a one.passed two.passed) refl refl (inl (refl, refl)) one two;
   chain = λ t a f one two none. owing_then e s t a (f a.next) (and_then a f) (k.chain t a f one.passed two.passed none) refl refl (later_rec a.rec (f a.next).rec none) one two;
   tells = λ t i n. owing_plain e s t _ (k.tells t i n) refl (λ z r h. h) (λ p b st. inl st);
-  notes_prepare = λ cl. owing_plain e s s _ (k.notes_prepare cl) refl (λ z r h. h) (λ p b st. inl (stands_same p b s _ refl st.phase st));
-  notes_done = owing_plain e s s _ k.notes_done refl (λ z r h. h) (λ p b st. inl (stands_same p b s _ refl st.phase st));
-  notes_end = λ q. owing_plain e s s _ (k.notes_end q) refl (λ z r h. h) (λ p b st. inl (stands_same p b s _ refl st.phase st));
-  notes_rollback = λ cl. owing_plain e s s _ (k.notes_rollback cl) refl (λ z r h. h) (λ p b st. inl (stands_same p b s _ refl st.phase st));
-  defers_end = λ q. owing_plain e s s _ (k.defers_end q) refl (λ z r h. h) (λ p b st. inl (stands_row p b s q (λ r. record r { ends = true }) (λ r. refl) (λ r. refl) (λ r. refl) (λ r. refl) st));
-  defers_grant = λ q. owing_plain e s s _ (k.defers_grant q) refl (λ z r h. h) (λ p b st. inl st);
-  prepares = λ q. owing_plain e s s _ (k.prepares q) refl (λ z r h. h) (λ p b st. inl (stands_row p b s q (λ r. record r { branch = record r.branch { prepared = true } }) (λ r. refl) (λ r. refl) (λ r. refl) (λ r. refl) st));
-  asks = λ act asked told. owing_ask e s s (k.asks act asked told);
+  notes_prepare = λ pr cl. owing_plain e s s _ (k.notes_prepare pr cl) refl (λ z r h. h) (λ p b st. inl (unmarked_same is_done_branch p b s _ refl st.phase st));
+  notes_done = λ is. owing_plain e s s _ (k.notes_done is) refl (λ z r h. h) (λ p b st. inl (unmarked_same is_done_branch p b s _ refl st.phase st));
+  notes_end = λ q is. owing_plain e s s _ (k.notes_end q is) refl (λ z r h. h) (λ p b st. inl (unmarked_same is_done_branch p b s _ refl st.phase st));
+  notes_rollback = λ ro cl. owing_plain e s s _ (k.notes_rollback ro cl) refl (λ z r h. h) (λ p b st. inl (unmarked_same is_done_branch p b s _ refl st.phase st));
+  defers_end = λ q is. owing_plain e s s _ (k.defers_end q is) refl (λ z r h. h) (λ p b st. inl (unmarked_row is_done_branch p b s q (λ r. record r { ends = true }) (λ r. refl) (λ r. refl) (λ r. refl) (λ r h. h) st));
+  defers_grant = λ q is. owing_plain e s s _ (k.defers_grant q is) refl (λ z r h. h) (λ p b st. inl st);
+  prepares = λ q. owing_plain e s s _ (k.prepares q) refl (λ z r h. h) (λ p b st. inl (unmarked_row is_done_branch p b s q (λ r. record r { branch = record r.branch { prepared = true } }) (λ r. refl) (λ r. refl) (λ r. refl) (λ r h. h) st));
+  asks = λ is act asked told. owing_ask e s s (k.asks is act asked told);
   asks_again = record {
     passed = k.asks_again;
     logs = inl refl;
@@ -394,11 +395,11 @@ owing_turns e s = record {
     logs = inr (open_standing s.phase (rw ready (grind arith)));
     says = λ z r h. absurd h;
     rolls = λ h. absurd (cc (h));
-    stays = λ p b st. inl (stands_same p b s (decide o s).next refl st.phase st);
+    stays = λ p b st. inl (unmarked_same is_done_branch p b s (decide o s).next refl st.phase st);
   };
-  aborts = λ q. owing_plain e s s _ (k.aborts q) refl (λ z r h. h) (λ p b st. inl (stands_lost p b s q st));
-  loses_arc = λ q gone. owing_plain e s s _ (k.loses_arc q gone) refl (λ z r h. h) (λ p b st. inl (stands_lost p b s q st));
-  closes_left = λ q is. owing_plain e s s _ (k.closes_left q is) refl (λ z r h. h) (λ p b st. inl (stands_row p b s q row_dead (λ r. refl) (λ r. refl) (λ r. refl) (λ r. refl) st));
+  aborts = λ q is. owing_plain e s s _ (k.aborts q is) refl (λ z r h. h) (λ p b st. inl (unmarked_lost is_done_branch p b s q st));
+  loses_arc = λ q gone. owing_plain e s s _ (k.loses_arc q gone) refl (λ z r h. h) (λ p b st. inl (unmarked_lost is_done_branch p b s q st));
+  closes_left = λ q is. owing_plain e s s _ (k.closes_left q is) refl (λ z r h. h) (λ p b st. inl (unmarked_row is_done_branch p b s q row_dead (λ r. refl) (λ r. refl) (λ r. refl) (λ r h. h) st));
   gives_up = λ q r is c found. owing_shut e s q r (k.gives_up q r is c found);
   counts = λ q is act row. owing_count e s s q (k.counts q is act row);
   ends_done = λ q r is c row. owing_end e s s q r (k.ends_done q r is c row) (done_may e s q r is c);

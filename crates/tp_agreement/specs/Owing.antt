@@ -63,14 +63,21 @@ backs_tree u (Some r) = is_rollback_of u r
 
 -- ---- a transaction
 
--- the branch with the peer has the identifier, and is neither done nor left
-pub record StandsAt (p : ℕ) (b : BranchId) (t : Transaction) : Type 0 where
+-- the branch with the peer has the identifier, has not left, and lacks the mark
+pub record UnmarkedAt (mark : Branch → Bool) (p : ℕ) (b : BranchId) (t : Transaction) : Type 0 where
   pub row : Row
   pub found : find_row t.rows p ≡ Some row
   pub id : row.branch.id ≡ b
   pub left : row.branch.left ≡ false
-  pub ended : row.branch.ended ≡ false
+  pub off : mark row.branch ≡ false
   pub phase : is_standing t.phase ≡ true
+
+abbrev pub is_done_branch : Branch → Bool
+is_done_branch b = b.ended
+
+-- it is neither done nor left
+abbrev pub StandsAt : ℕ → BranchId → Transaction → Type 0
+StandsAt p b t = UnmarkedAt is_done_branch p b t
 
 -- the record keeps the commitment of the key, and names the branch
 pub record KeepsOwed (k : NodeKey) (p : ℕ) (b : BranchId) (r : Option LogRec) : Type 0 where
@@ -106,8 +113,8 @@ pub record IsOwingTurn (e : TxEvent) (s t : Transaction) (a : Turn) : Type 0 whe
 
 -- ---- a node
 
--- the tree is current and stands, and the branch is neither done nor left
-pub record RowOwes (t : Aaid) (p : ℕ) (b : BranchId) (o : Option Current) : Type 0 where
+-- the tree is current and stands, and the branch has not left and lacks the mark
+pub record UnmarkedRow (mark : Branch → Bool) (t : Aaid) (p : ℕ) (b : BranchId) (o : Option Current) : Type 0 where
   pub current : Current
   pub at : o ≡ Some current
   pub tree : is_aaid t (aaid_of current.key) ≡ true
@@ -116,16 +123,27 @@ pub record RowOwes (t : Aaid) (p : ℕ) (b : BranchId) (o : Option Current) : Ty
   pub found : find_branch current.branches p ≡ Some branch
   pub id : branch.id ≡ b
   pub left : branch.left ≡ false
-  pub ended : branch.ended ≡ false
+  pub off : mark branch ≡ false
 
--- a commitment of the tree is kept, and owes the branch
-pub record KeptOwes (t : Aaid) (p : ℕ) (b : BranchId) (ks : List Kept) : Type 0 where
+-- it is neither done nor left
+abbrev pub RowOwes : Aaid → ℕ → BranchId → Option Current → Type 0
+RowOwes t p b o = UnmarkedRow is_done_branch t p b o
+
+-- a commitment of the tree is kept, of which P holds
+pub record KeptWith (P : Kept → Type 0) (t : Aaid) (ks : List Kept) : Type 0 where
   pub key : NodeKey
   pub kept : Kept
   pub found : find_kept ks key ≡ Some kept
   pub commits : is_commit kept.side ≡ true
   pub tree : is_aaid t kept.key.aaid ≡ true
-  pub owes : IsOwedIn p b kept.owed
+  pub holds : P kept
+
+abbrev pub OwesIn : ℕ → BranchId → Kept → Type 0
+OwesIn p b k = IsOwedIn p b k.owed
+
+-- a commitment of the tree is kept, and owes the branch
+abbrev pub KeptOwes : Aaid → ℕ → BranchId → List Kept → Type 0
+KeptOwes t p b ks = KeptWith (OwesIn p b) t ks
 
 abbrev pub Owes : Aaid → ℕ → BranchId → Digest → Type 0
 Owes t p b d = RowOwes t p b d.current ⊎ KeptOwes t p b d.kept

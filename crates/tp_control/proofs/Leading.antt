@@ -387,17 +387,17 @@ leading_turns e s p f q = record {
     leads = leads_then e s p t a (k a.next) _ refl refl one two;
   };
   tells = λ t i n. leading_same e s p t _ (f.tells t i n) (q.tells t i n) refl refl refl;
-  notes_prepare = λ cl. leading_same e s p s _ (f.notes_prepare cl) (q.notes_prepare cl) refl refl refl;
-  notes_done = leading_same e s p s _ f.notes_done q.notes_done refl refl refl;
-  notes_end = λ k. leading_same e s p s _ (f.notes_end k) (q.notes_end k) refl refl refl;
-  notes_rollback = λ cl. leading_same e s p s _ (f.notes_rollback cl) (q.notes_rollback cl) refl refl refl;
-  defers_end = λ k. leading e s p s _ (f.defers_end k) (q.defers_end k) (λ saw kept down sound st. row_to (answers e s p) (some_closing (carried_to true p (TxOut.Carry k DialogueRecord.DeferEnd ∷ []))) p k s (λ r. record r { ends = true }) (λ r. refl) (λ o. grind arith) (λ i r found so. subst (λ (v : Bool). RowLeads (answers e s p) v s.phase r.branch s.phase r.branch) (sym (quiet_defer k)) (row_still (answers e s p) s.phase r.branch so)));
-  defers_grant = λ k. leading_same e s p s _ (f.defers_grant k) (q.defers_grant k) refl refl (grind arith);
+  notes_prepare = λ pr cl. leading_same e s p s _ (f.notes_prepare pr cl) (q.notes_prepare pr cl) refl refl refl;
+  notes_done = λ is. leading_same e s p s _ (f.notes_done is) (q.notes_done is) refl refl refl;
+  notes_end = λ k is. leading_same e s p s _ (f.notes_end k is) (q.notes_end k is) refl refl refl;
+  notes_rollback = λ ro cl. leading_same e s p s _ (f.notes_rollback ro cl) (q.notes_rollback ro cl) refl refl refl;
+  defers_end = λ k is. leading e s p s _ (f.defers_end k is) (q.defers_end k is) (λ saw kept down sound st. row_to (answers e s p) (some_closing (carried_to true p (TxOut.Carry k DialogueRecord.DeferEnd ∷ []))) p k s (λ r. record r { ends = true }) (λ r. refl) (λ o. grind arith) (λ i r found so. subst (λ (v : Bool). RowLeads (answers e s p) v s.phase r.branch s.phase r.branch) (sym (quiet_defer k)) (row_still (answers e s p) s.phase r.branch so)));
+  defers_grant = λ k is. leading_same e s p s _ (f.defers_grant k is) (q.defers_grant k is) refl refl (grind arith);
   prepares = λ k. leading_prepares e s p k (f.prepares k) (q.prepares k);
-  asks = λ act asked told. leading_ask e s p s (f.asks act asked told) (q.asks act asked told) act;
+  asks = λ is act asked told. leading_ask e s p s (f.asks is act asked told) (q.asks is act asked told) act;
   asks_again = leading_same e s p s _ f.asks_again q.asks_again refl refl (retried_none p s);
   decides = λ o is ready. leading_same e s p s (decide o s) (f.decides o is ready) (q.decides o is ready) refl refl refl;
-  aborts = λ k. leading_lost e s p k s _ (λ o. grind (arith, o)) (λ i kept st. grind (arith, i, st)) (f.aborts k) (q.aborts k);
+  aborts = λ k is. leading_lost e s p k s _ (λ o. grind (arith, o)) (λ i kept st. grind (arith, i, st)) (f.aborts k is) (q.aborts k is);
   loses_arc = λ k gone. leading_lost e s p k s [] (λ o. refl) (λ i kept st. let same : k ≡ p = grind (arith, nat_tests, i) in cc (kept, ap (loses e) (sym same) ∙ gone)) (f.loses_arc k gone) (q.loses_arc k gone);
   closes_left = λ k is. leading_gone e s p k s _ row_dead (λ r. refl) (λ o. refl) (λ i kept st. grind (arith, i, st)) (f.closes_left k is) (q.closes_left k is);
   gives_up = λ k r is c found. leading e s p s (shut_given_up k r s) (f.gives_up k r is c found) (q.gives_up k r is c found)

@@ -43,8 +43,9 @@ use Rattle.tp_texts.specs.Texts.{most_children}
 use Rattle.tp_texts.specs.Shapes.{IsShaped}
 use Rattle.tp_encodable.proofs.Places.{peers, has, is_up, below, gone, is_at, are_apart, count_is, gone_is, counted, gone_more, apart_more}
 use Rattle.tp_encodable.proofs.Turning.{IsShapedOption, IsFit, Logs, logs_turn}
-use Rattle.tp_encodable.proofs.Standing.{IsShapedKept, AreShapedKept, each_kept, kept_in, IsFitCurrent, HasPlaces, IsBare, Stands, Thins, thins_same, thins_without, thins_performed, thins_played, peers_dialogue, peers_link, peers_put, stands_arcs, stands_drawn, stands_kept, stands_fresh}
+use Rattle.tp_encodable.proofs.Standing.{AreShapedKept, each_kept, kept_in, IsFitCurrent, HasPlaces, Stands, Thins, thins_same, thins_without, thins_performed, thins_played, peers_dialogue, peers_link, peers_put, stands_arcs, stands_drawn, stands_kept, stands_fresh}
 use Rattle.tp_model.specs.declared.refusal.Refusal.{Refusal}
+use Rattle.tp_encodable.specs.Standing.{IsBare, IsShapedKept}
 
 pub record Keeps (d : Digest) (m : Move) : Type 0 where
   pub version : m.next.version ≡ d.version

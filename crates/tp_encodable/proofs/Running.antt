@@ -27,8 +27,9 @@ use Rattle.tp_runs.proofs.Lanes.{chosen, past_with, given, run_step}
 use Rattle.tp_texts.specs.Texts.{most_children}
 use Rattle.tp_texts.specs.Shapes.{has_branch, IsShaped, AreShaped}
 use Rattle.tp_encodable.proofs.Turning.{IsShapedOption}
-use Rattle.tp_encodable.proofs.Standing.{IsShapedKept, AreShapedKept, each_kept, IsFitCurrent, Stands}
+use Rattle.tp_encodable.proofs.Standing.{AreShapedKept, each_kept, IsFitCurrent, Stands}
 use Rattle.tp_encodable.proofs.Moving.{next_move}
+use Rattle.tp_encodable.specs.Standing.{IsShapedKept}
 
 -- ---- the start
 

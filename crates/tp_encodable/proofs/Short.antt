@@ -27,7 +27,7 @@ use Rattle.tp_model.specs.Dialogues.{Sight, Acts, Nothing_happens, Out_of_phase,
 use Rattle.tp_model.specs.Arcs.{find_arc, put_arc, without_arc, with_link, with_dialogue, carried_on, carried, shut_says, shut_with, performed_one, performed}
 use Rattle.tp_model.specs.Transactions.{Row, Transaction, Turn, turn, and_then, is_under, is_under_at, find_row, find_row_by_id, row_holds, with_row, with_arc_lost, is_waited_for, all_settled, done_up, complete_commit, complete_rollback, begin_rolling, roll, order, settle, ask_commit, leave, count_branch, end_branch, branch_left, lost_arc, complete, by_user, superior_rolls, takes_left, takes, sight_of_tx, is_open_in_commit, replied, give_up, aaid_of, transacted}
 use Rattle.tp_model.specs.Recovery.{forget_to, is_commit, settled, noted, ask_owed, tell_superior, owed, find_kept, with_forget}
-use Rattle.tp_model.specs.Node.{next_mark, with_mark_drawn, superior_arc, may_root, phase_of, has_asked, seen, situation_at, Move, move, followed, perform, Passage, Commits, grants, is_granting, perform_commit, committed_arcs, played, fresh_current, may_begin_on, begin_on, begin_each, begin_chained, chained_peers, start_root, has_none, try_start, is_over, passed, turned, transact, keep, around_grants, started_next}
+use Rattle.tp_model.specs.Node.{may_root, phase_of, has_asked, seen, situation_at, Move, move, followed, perform, Passage, Commits, grants, is_granting, perform_commit, committed_arcs, played, fresh_current, may_begin_on, begin_on, begin_each, begin_chained, chained_peers, start_root, has_none, try_start, is_over, passed, turned, transact, keep, around_grants, started_next}
 use Rattle.tp_model.specs.Requests.{refused_request, speak, call, accept, reject, abort, begin_transaction, do_request}
 use Rattle.tp_model.specs.Arrivals.{Named, branch_key, named_by_key, named_by_branch, is_current_ready, lose, take_abort, take_begin, take_record, woken_by, sight_at, take_on, take_accept, reply_to, take_order, take_forget, take_done_reply, take_ready_reply, do_arrival, broken_pair, break_off}
 use Rattle.tp_model.specs.Events.{retry_each, retry, purge, refusal, action}
@@ -40,6 +40,7 @@ use Rattle.tp_steps.specs.Trees.{out_tells}
 use Rattle.tp_encodable.specs.Sizes.{IsShort, AreShort, IsShortRecord, BringsFew}
 use Rattle.tp_encodable.specs.Begins.{is_begin_told, takes_begin}
 use Rattle.tp_steps.proofs.links.Whole.{IsWhole, whole_turn}
+use Rattle.tp_steps.proofs.every.AcceptCases.{accept_cases, reject_cases}
 
 -- ---- what is said of it
 
@@ -381,66 +382,10 @@ module _ (sized may : Bool) where
   -- ---- requests
 
   gives_accept : (who : Who) (u : ℕ) (d : Digest) → Gives (accept who u d)
-  unfolding accept
-  gives_accept who u d = go (superior_arc d)
-    where
-      on : (a : Arc) (l : Link) → Gives (elim l as (λ _. Move) [
-        | Idle ↦ move [] d
-        | Opening x ↦ move [] d
-        | Offered x ↦
-            (let y : Mark = next_mark who d in
-            perform
-            (TxOut.Recovery a.peer (PeerRecord.AcceptAssoc x y u) ∷ [])
-            (record (with_mark_drawn d) { arcs = put_arc d.arcs (record a { link = Live x y 0 0; dialogue = fresh_dialogue u Side.Subordinate }) }))
-        | Live x y sent taken ↦ move [] d
-      ])
-      on a Idle = tt
-      on a (Opening x) = tt
-      on a (Offered x) = (tt, tt)
-      on a (Live x y sent taken) = tt
-
-      go : (o : Option Arc) → Gives (elim o as (λ _. Move) [
-        | None ↦ move [] d
-        | Some a ↦ elim a.link as (λ _. Move) [
-          | Idle ↦ move [] d
-          | Opening x ↦ move [] d
-          | Offered x ↦
-              (let y : Mark = next_mark who d in
-              perform
-              (TxOut.Recovery a.peer (PeerRecord.AcceptAssoc x y u) ∷ [])
-              (record (with_mark_drawn d) { arcs = put_arc d.arcs (record a { link = Live x y 0 0; dialogue = fresh_dialogue u Side.Subordinate }) }))
-          | Live x y sent taken ↦ move [] d
-        ]
-      ])
-      go None = tt
-      go (Some a) = on a a.link
+  gives_accept who u d = accept_cases Gives who u d tt (λ a x i j. (tt, tt))
 
   gives_reject : (d : Digest) → Gives (reject d)
-  unfolding reject
-  gives_reject d = go (superior_arc d)
-    where
-      on : (a : Arc) (l : Link) → Gives (elim l as (λ _. Move) [
-        | Idle ↦ move [] d
-        | Opening x ↦ move [] d
-        | Offered x ↦ perform (TxOut.Recovery a.peer (PeerRecord.ShutAssoc x None) ∷ TxOut.Close a.peer.node ∷ []) d
-        | Live x y sent taken ↦ move [] d
-      ])
-      on a Idle = tt
-      on a (Opening x) = tt
-      on a (Offered x) = (tt, tt)
-      on a (Live x y sent taken) = tt
-
-      go : (o : Option Arc) → Gives (elim o as (λ _. Move) [
-        | None ↦ move [] d
-        | Some a ↦ elim a.link as (λ _. Move) [
-          | Idle ↦ move [] d
-          | Opening x ↦ move [] d
-          | Offered x ↦ perform (TxOut.Recovery a.peer (PeerRecord.ShutAssoc x None) ∷ TxOut.Close a.peer.node ∷ []) d
-          | Live x y sent taken ↦ move [] d
-        ]
-      ])
-      go None = tt
-      go (Some a) = on a a.link
+  gives_reject d = reject_cases Gives d tt (λ a x i j. (tt, tt))
 
   gives_call : (who : Who) (a : Addr) (u : ℕ) (d : Digest) → Gives (call who a u d)
   unfolding call

@@ -3,7 +3,6 @@ use Rattle.std.proofs.Common.{if◌then◌else◌, ◌≡◌, ◌≤◌, ◌+◌
 use Rattle.std.proofs.lemmas.Bool.Decides.{nat_tests}
 use Rattle.tp_names.specs.declared.identifiers.Addr.{Addr}
 use Rattle.tp_names.specs.declared.children.Child.{Child}
-use Rattle.tp_names.specs.Reports.{is_report_none}
 use Rattle.tp_records.specs.declared.dialogue.DialogueRecord.{DialogueRecord}
 use Rattle.tp_logrec.specs.declared.record.LogVersion.{LogVersion}
 use Rattle.tp_model.specs.declared.transaction.TxOut.{TxOut}
@@ -18,13 +17,10 @@ use Rattle.tp_steps.proofs.log.KinTurns.{kin}
 use Rattle.tp_steps.proofs.lemmas.EachKept.{IsEach}
 use Rattle.tp_histories.proofs.trees.Late.{late_fresh}
 use Rattle.tp_texts.specs.Texts.{most_children}
-use Rattle.tp_texts.specs.Shapes.{has_branch, has_superior}
 use Rattle.tp_encodable.proofs.Places.{peers, without, below, gone, are_apart, counted_without, below_less}
+use Rattle.tp_encodable.specs.Standing.{IsBare, IsShapedKept}
 
 -- ---- kept transactions
-
-abbrev pub IsShapedKept : LogVersion → Kept → Type 0
-IsShapedKept ver k = (has_superior k.superior ≡ has_branch k.key) × (is_report_none k.report ≡ false) × (length k.owed ≤ most_children ver)
 
 abbrev pub AreShapedKept : LogVersion → List Kept → Type 0
 AreShapedKept ver [] = Unit {0}
@@ -48,11 +44,6 @@ pub record IsFitCurrent (ver : LogVersion) (c : Current) : Type 0 where
 pub record HasPlaces (d : Digest) (c : Current) : Type 0 where
   pub apart : are_apart d.superior (kin c.branches) ≡ true
   pub room : below d.superior (peers d.arcs) + gone (peers d.arcs) (kin c.branches) ≤ most_children d.version
-
--- a node that is not declared has no arcs, and what is active there has no branches
-pub record IsBare (d : Digest) : Type 0 where
-  pub arcs : d.arcs ≡ []
-  pub branches : (c : Current) → d.current ≡ Some c → is_active c.phase ≡ true → c.branches ≡ []
 
 pub record Stands (d : Digest) : Type 0 where
   pub late : IsLate d

@@ -36,7 +36,7 @@ use Rattle.tp_steps.proofs.lemmas.Equality.{aaids_equal, or_case, and_left, and_
 use Rattle.tp_agreement.proofs.Accounts.{asked_took}
 use Rattle.tp_agreement.proofs.OwingLaw.{replied_by}
 use Rattle.tp_steps.proofs.words.Hushed.{settled_spoken}
-use Rattle.tp_histories.proofs.trees.Knowing.{Came, As_it_was, By_begin, By_crash, came_by, current_none, nil_now}
+use Rattle.tp_histories.proofs.trees.Knowing.{Came, As_it_was, By_begin, By_crash, came_by, current_none, nil_now, recovered_now}
 use Rattle.tp_histories.proofs.trees.Late.{late_law}
 use Rattle.tp_steps.proofs.log.Passed.{passed_turn}
 use Rattle.tp_steps.proofs.log.Sound.{left_is, left_branches}
@@ -44,7 +44,7 @@ use Rattle.tp_histories.proofs.upward.SpeaksUp.{complete_tells}
 use Rattle.tp_steps.proofs.links.Told.{told_append, told_performed, told_played}
 use Rattle.tp_failure_free.proofs.Calm.{is_given}
 use Rattle.tp_failure_free.proofs.LiveEvents.{quiet_begin, spoken_quiet}
-use Rattle.tp_failure_free.proofs.LiveLaw.{unfailed_before, mild_entry, no_crash, recovered_now}
+use Rattle.tp_failure_free.proofs.LiveLaw.{unfailed_before, mild_entry, no_crash}
 use Rattle.tp_failure_free.proofs.Said.{out_weaker}
 use Rattle.tp_failure_free.proofs.ClearTurns.{is_complete, brings_none, is_clear_branch, clear_rows, is_clear, clears}
 use Rattle.tp_steps.proofs.every.BeginCases.{begin_cases}

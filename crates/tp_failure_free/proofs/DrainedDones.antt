@@ -63,7 +63,7 @@ use Rattle.tp_control.proofs.OneHolder.{at_some}
 -- ---- Done is taken where the superior has committed
 
 -- a tree that the superior knows was not drawn below it
-not_drawn : (ns : List Node) (fs : List Frame) (x y : Node) (t : Aaid) → IsGood ns fs → IsUnique ns → find_node ns (number_of x) ≡ Some x → find_node ns (number_of y) ≡ Some y → is_at y.superior (number_of x) ≡ true → is_known x.origin t x.history ≡ true
+pub not_drawn : (ns : List Node) (fs : List Frame) (x y : Node) (t : Aaid) → IsGood ns fs → IsUnique ns → find_node ns (number_of x) ≡ Some x → find_node ns (number_of y) ≡ Some y → is_at y.superior (number_of x) ≡ true → is_known x.origin t x.history ≡ true
     → is_own y.origin.who t ≡ true → ⊥
 not_drawn ns fs x y t good unique hx hy above known own =
     let s = at_some y.superior (number_of x) above in

@@ -34,7 +34,7 @@ use Rattle.tp_failure_free.specs.Drained.{IsUnfailed}
 use Rattle.tp_failure_free.specs.DrainedWorlds.{HasBegun, says}
 use Rattle.tp_steps.proofs.lemmas.Equality.{and_left, and_right, aaids_equal}
 use Rattle.tp_histories.proofs.trees.Late.{late_law}
-use Rattle.tp_histories.proofs.trees.Knowing.{treed_event, known_more}
+use Rattle.tp_histories.proofs.trees.Knowing.{treed_event, known_more, recovered_now}
 use Rattle.tp_histories.proofs.worlds.TreeMembers.{sent_counts, sent_known, now_then}
 use Rattle.tp_histories.proofs.trees.Behind.{commit_case}
 use Rattle.tp_steps.proofs.log.KinTurns.{kin}
@@ -48,7 +48,7 @@ use Rattle.tp_runs.proofs.Bare.{bare_law}
 use Rattle.tp_agreement.proofs.ReadyDown.{bound_begins, bound_tree}
 use Rattle.tp_agreement.proofs.Bounds.{commit_bound}
 use Rattle.tp_failure_free.proofs.Said.{says_commit}
-use Rattle.tp_failure_free.proofs.LiveLaw.{unfailed_before, no_crash, recovered_now}
+use Rattle.tp_failure_free.proofs.LiveLaw.{unfailed_before, no_crash}
 use Rattle.tp_failure_free.proofs.DrainedDones.{stands_there}
 use Rattle.tp_failure_free.proofs.DrainedNode.{logs_plain, is_said, told_first, told_more}
 use Rattle.tp_steps.proofs.log.Owned.{key_aaid}

@@ -30,11 +30,11 @@ use Rattle.tp_steps.proofs.words.Treed.{now_some}
 use Rattle.tp_steps.proofs.log.Sound.{left_is}
 use Rattle.tp_steps.proofs.log.Passed.{passed_turn}
 use Rattle.tp_histories.proofs.order.InOrderLaw.{empty_apart}
-use Rattle.tp_histories.proofs.trees.Knowing.{current_none}
+use Rattle.tp_histories.proofs.trees.Knowing.{current_none, recovered_now}
 use Rattle.tp_histories.proofs.order.PutLaw.{put_law, alone_law}
 use Rattle.tp_failure_free.proofs.LiveTurned.{IsAlive, alive_start}
 use Rattle.tp_failure_free.proofs.LiveEvents.{no_transact, retry_aside, aside_event}
-use Rattle.tp_failure_free.proofs.LiveLaw.{calm_put, calm_is_put, failure_is_put, mild_put, mild_aside, alive_put, legal_of, unfailed_before, mild_entry, recovered_now, among_of, apart_of}
+use Rattle.tp_failure_free.proofs.LiveLaw.{calm_put, calm_is_put, failure_is_put, mild_put, mild_aside, alive_put, legal_of, unfailed_before, mild_entry, among_of, apart_of}
 use Rattle.tp_failure_free.proofs.AfterEvent.{over_none, remains_none, retry_current, begin_after}
 
 -- ---- a tree that begins

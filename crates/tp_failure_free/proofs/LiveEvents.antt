@@ -53,6 +53,7 @@ use Rattle.tp_failure_free.proofs.LiveTurned.{needs, IsAlive, alive_begin, alive
 use Rattle.tp_steps.proofs.every.BeginCases.{begun_over, begin_cases}
 use Rattle.tp_histories.proofs.pairs.PairedSteps.{find_none}
 use Rattle.tp_control.proofs.LedEvents.{seen_holds}
+use Rattle.tp_steps.proofs.every.AcceptCases.{accept_cases, reject_cases}
 
 pub record IsAside (d : Digest) (m : Move) : Type 0 where
   pub alive : IsAlive d → IsAlive m.next
@@ -251,41 +252,9 @@ call_aside who d a u =
     aside_says d (record (with_mark_drawn d) { arcs = d.arcs ++ (x ∷ []) }) (TxOut.Recovery a (PeerRecord.OpenAssoc (next_mark who d) u) ∷ []) refl refl refl (λ c p is need live. live_more d.arcs x p live)
 
 accept_aside : (who : Who) (d : Digest) (u : ℕ) → IsAside d (accept who u d)
-unfolding accept
-accept_aside who d u = go (superior_arc d)
-  where
-    on : (a : Arc) (l : Link) → IsAside d (elim l as (λ _. Move) [
-      | Idle ↦ move [] d
-      | Opening x ↦ move [] d
-      | Offered x ↦
-          (let y : Mark = next_mark who d in
-          perform
-          (TxOut.Recovery a.peer (PeerRecord.AcceptAssoc x y u) ∷ [])
-          (record (with_mark_drawn d) { arcs = put_arc d.arcs (record a { link = Live x y 0 0; dialogue = fresh_dialogue u Side.Subordinate }) }))
-      | Live x y sent taken ↦ move [] d
-    ])
-    on a Idle = aside_still d d refl (same_arcs d)
-    on a (Opening x) = aside_still d d refl (same_arcs d)
-    on a (Offered x) =
-        let b : Arc = record a { link = Live x (next_mark who d) 0 0; dialogue = fresh_dialogue u Side.Subordinate } in
-        aside_says d (record (with_mark_drawn d) { arcs = put_arc d.arcs b }) (TxOut.Recovery a.peer (PeerRecord.AcceptAssoc x (next_mark who d) u) ∷ []) refl refl refl (λ c p is need live. live_put d.arcs b p refl live)
-    on a (Live x y s t) = aside_still d d refl (same_arcs d)
-
-    go : (o : Option Arc) → IsAside d (elim o as (λ _. Move) [
-      | None ↦ move [] d
-      | Some a ↦ elim a.link as (λ _. Move) [
-        | Idle ↦ move [] d
-        | Opening x ↦ move [] d
-        | Offered x ↦
-            (let y : Mark = next_mark who d in
-            perform
-            (TxOut.Recovery a.peer (PeerRecord.AcceptAssoc x y u) ∷ [])
-            (record (with_mark_drawn d) { arcs = put_arc d.arcs (record a { link = Live x y 0 0; dialogue = fresh_dialogue u Side.Subordinate }) }))
-        | Live x y sent taken ↦ move [] d
-      ]
-    ])
-    go None = aside_still d d refl (same_arcs d)
-    go (Some a) = on a a.link
+accept_aside who d u = accept_cases (IsAside d) who u d (aside_still d d refl (same_arcs d)) (λ a x i j.
+    let b : Arc = record a { link = Live x (next_mark who d) 0 0; dialogue = fresh_dialogue u Side.Subordinate } in
+    aside_says d (record (with_mark_drawn d) { arcs = put_arc d.arcs b }) (TxOut.Recovery a.peer (PeerRecord.AcceptAssoc x (next_mark who d) u) ∷ []) refl refl refl (λ c p is need live. live_put d.arcs b p refl live))
 
 superior_found : (d : Digest) (a : Arc) → superior_arc d ≡ Some a → find_arc d.arcs a.peer.node ≡ Some a
 superior_found d a h = go d.superior refl
@@ -303,33 +272,9 @@ not_this arcs q p off live = go (q == p) refl
     go true i = let same : q ≡ p = grind (arith, nat_tests, i) in absurd (cc (ap (is_live_with_peer arcs) same ∙ live, off))
 
 reject_aside : (d : Digest) → IsAside d (reject d)
-unfolding reject
-reject_aside d = go (superior_arc d) refl
-  where
-    on : (a : Arc) → superior_arc d ≡ Some a → (l : Link) → a.link ≡ l → IsAside d (elim l as (λ _. Move) [
-      | Idle ↦ move [] d
-      | Opening x ↦ move [] d
-      | Offered x ↦ perform (TxOut.Recovery a.peer (PeerRecord.ShutAssoc x None) ∷ TxOut.Close a.peer.node ∷ []) d
-      | Live x y sent taken ↦ move [] d
-    ])
-    on a i Idle j = aside_still d d refl (same_arcs d)
-    on a i (Opening x) j = aside_still d d refl (same_arcs d)
-    on a i (Offered x) j =
-        let off : is_live_with_peer d.arcs a.peer.node ≡ false = ap is_live (link_is d.arcs a.peer.node a (superior_found d a i) ∙ j) in
-        aside_perform d d (TxOut.Recovery a.peer (PeerRecord.ShutAssoc x None) ∷ TxOut.Close a.peer.node ∷ []) refl refl (same_arcs d) (λ c p is need live. rw (not_this d.arcs a.peer.node p off live) refl)
-    on a i (Live x y s t) j = aside_still d d refl (same_arcs d)
-
-    go : (o : Option Arc) → superior_arc d ≡ o → IsAside d (elim o as (λ _. Move) [
-      | None ↦ move [] d
-      | Some a ↦ elim a.link as (λ _. Move) [
-        | Idle ↦ move [] d
-        | Opening x ↦ move [] d
-        | Offered x ↦ perform (TxOut.Recovery a.peer (PeerRecord.ShutAssoc x None) ∷ TxOut.Close a.peer.node ∷ []) d
-        | Live x y sent taken ↦ move [] d
-      ]
-    ])
-    go None i = aside_still d d refl (same_arcs d)
-    go (Some a) i = on a i a.link refl
+reject_aside d = reject_cases (IsAside d) d (aside_still d d refl (same_arcs d)) (λ a x i j.
+    let off : is_live_with_peer d.arcs a.peer.node ≡ false = ap is_live (link_is d.arcs a.peer.node a (superior_found d a i) ∙ j) in
+    aside_perform d d (TxOut.Recovery a.peer (PeerRecord.ShutAssoc x None) ∷ TxOut.Close a.peer.node ∷ []) refl refl (same_arcs d) (λ c p is need live. rw (not_this d.arcs a.peer.node p off live) refl))
 
 begin_aside : (who : Who) (d : Digest) (p : ℕ) → IsAside d (begin_transaction who p d)
 unfolding begin_transaction

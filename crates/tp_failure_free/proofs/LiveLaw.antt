@@ -22,7 +22,7 @@ use Rattle.tp_model.specs.AmongArcs.{IsAmongArcs, Reaches, IsTakenUp, IsPutOff, 
 use Rattle.tp_model.specs.Requests.{refused_request, abort}
 use Rattle.tp_model.specs.Node.{Move, move, followed, perform, seen_rows, seen, situation_at, transact}
 use Rattle.tp_model.specs.Arrivals.{branch_key, named_by_key, named_by_branch, is_current_ready, sight_at, broken_pair, break_off, lose, take_record, take_on, woken_by}
-use Rattle.tp_model.specs.Events.{recovered_current, action, refusal}
+use Rattle.tp_model.specs.Events.{action, refusal}
 use Rattle.tp_model.specs.History.{digest}
 use Rattle.tp_model.specs.Legal.{is_start, IsGrown, IsLegal}
 use Rattle.tp_model.specs.Outcomes.{is_now, is_failure}
@@ -463,11 +463,6 @@ pub no_crash : (t : Aaid) (o : Origin) (up : Option Addr) (e : Entry) (h : List 
 no_crash t o up e h k now is =
     let c = now_some t (digest o h).current now in
     cc (mild_entry t o up e h c.0 k c.1 c.2, ap (λ (f : Event). is_failure f && touches c.0 f) is)
-
--- what is current after a crash was so before it
-pub recovered_now : (t : Aaid) (o : Option Current) → is_now t (recovered_current o) ≡ true → is_now t o ≡ true
-recovered_now t None h = h
-recovered_now t (Some c) h = grind (arith, h)
 
 pub among_of : (o : Origin) (up : Option Addr) (h : List Entry) (c : Current) → o.start.records ≡ [] → IsGrown o up h → (digest o h).current ≡ Some c → IsAmongArcs (digest o h).arcs c
 among_of o up h c none grown i = among_law o up h c (legal_of o up h none grown) (empty_apart o none) i

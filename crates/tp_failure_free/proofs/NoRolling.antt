@@ -209,14 +209,14 @@ branch_rolled o up p g rs e h below from x y q is at j stands = by (acc.balance 
 
 -- ---- who stands below whom
 
--- who speaks to a node that is not below it stands below that node
-below_it : (ns : List Node) (fs : List Frame) (x y : Node) (m k : Mark) (s q : ℕ) (a : Addr) (i : ℕ) (r : DialogueRecord) → IsGood ns fs → find_node ns (number_of x) ≡ Some x → find_node ns (number_of y) ≡ Some y → is_at x.superior (number_of y) ≡ false
-    → link_with (digest x.origin x.history).arcs (number_of y) ≡ Live m k s q → a.node ≡ number_of x → HasSent y.history a (PeerRecord.OnAssoc m k i r) → is_at y.superior (number_of x) ≡ true
-below_it ns fs x y m k s q a i r good hx hy off live at sent = go (is_at y.superior (number_of x)) refl
+-- a node that speaks on a live association to one that is not below it stands below that one; h is what that one did by then
+pub below_it : (ns : List Node) (fs : List Frame) (x y : Node) (h : List Entry) (m k : Mark) (s q : ℕ) (a : Addr) (i : ℕ) (r : DialogueRecord) → IsGood ns fs → IsGrown x.origin x.superior h → find_node ns (number_of y) ≡ Some y → is_at x.superior (number_of y) ≡ false
+    → link_with (digest x.origin h).arcs (number_of y) ≡ Live m k s q → a.node ≡ number_of x → HasSent y.history a (PeerRecord.OnAssoc m k i r) → is_at y.superior (number_of x) ≡ true
+below_it ns fs x y h m k s q a i r good legal hy off live at sent = go (is_at y.superior (number_of x)) refl
   where
     own : m.node ≡ number_of x
     own =
-        let one = (alone_law x.origin x.superior x.history (good.legal (number_of x) x hx)).own (number_of y) in
+        let one = (alone_law x.origin x.superior h legal).own (number_of y) in
         let two : ((own_mark x.superior (number_of y) m k).node == number_of x) ≡ true = sym (ap (own_is x.origin.who x.superior (number_of y)) live) ∙ one in
         grind (arith, nat_tests, two, off)
 
@@ -233,8 +233,8 @@ below_it ns fs x y m k s q a i r good hx hy off live at sent = go (is_at y.super
       | inr drawn ↦
           (let mine : m.node ≡ number_of y = rw (i, own_mark) at drawn in
           let same : number_of y ≡ number_of x = sym mine ∙ own in
-          let idle = no_own_link x.origin x.superior x.history (good.legal (number_of x) x hx) (subst (λ (n : ℕ). is_at x.superior n ≡ false) same off) in
-          absurd (cc (sym live ∙ ap (link_with (digest x.origin x.history).arcs) same ∙ idle)))
+          let idle = no_own_link x.origin x.superior h legal (subst (λ (n : ℕ). is_at x.superior n ≡ false) same off) in
+          absurd (cc (sym live ∙ ap (link_with (digest x.origin h).arcs) same ∙ idle)))
     ]
 
 record Superior (ns : List Node) (p : ℕ) : Type 0 where
@@ -368,7 +368,7 @@ rolled_before ns fs z e told t st p n r calm = by (cause o.who d e r calm)
         not_above = off (is_at z.superior (number_of v)) refl
 
         under : is_at v.superior (number_of z) ≡ true
-        under = below_it ns fs z v x y next.sent q s.to q DialogueRecord.Rollback st.good hz hv not_above live s.at s.sent
+        under = below_it ns fs z v z.history x y next.sent q s.to q DialogueRecord.Rollback st.good (st.good.legal (number_of z) z hz) hv not_above live s.at s.sent
 
         now : List Node
         now = put_node ns (grown_node z e)

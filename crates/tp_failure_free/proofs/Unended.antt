@@ -20,12 +20,12 @@ use Rattle.tp_steps.specs.Passages.{may_move, IsPassed}
 use Rattle.tp_steps.specs.Branches.{may_end}
 use Rattle.tp_failure_free.specs.Drained.{IsUnfailed}
 use Rattle.tp_histories.proofs.trees.Late.{late_law}
-use Rattle.tp_histories.proofs.trees.Knowing.{Came, As_it_was, By_begin, By_crash, came_by, current_none}
+use Rattle.tp_histories.proofs.trees.Knowing.{Came, As_it_was, By_begin, By_crash, came_by, current_none, recovered_now}
 use Rattle.tp_agreement.proofs.Marked.{Marked, MayMark, IsMark, marking_event}
 use Rattle.tp_agreement.proofs.Accounts.{marked_back}
 use Rattle.tp_steps.proofs.log.Passed.{passed_turn}
 use Rattle.tp_steps.proofs.log.Sound.{left_is}
-use Rattle.tp_failure_free.proofs.LiveLaw.{unfailed_before, no_crash, recovered_now, among_of}
+use Rattle.tp_failure_free.proofs.LiveLaw.{unfailed_before, no_crash, among_of}
 use Rattle.tp_failure_free.proofs.AfterEvent.{IsAfter, Untouched, Was_put, after_event}
 use Rattle.tp_steps.proofs.lemmas.Options.{some_same}
 

@@ -11,19 +11,19 @@ use Rattle.tp_model.specs.declared.recovery.Kept.{Kept}
 use Rattle.tp_model.specs.Parts.{Who, Origin, Event, Entry, Arc, Current, Digest}
 use Rattle.tp_model.specs.Arcs.{find_arc}
 use Rattle.tp_model.specs.Arrivals.{refused_arrival, reply_to}
-use Rattle.tp_model.specs.Node.{begin_on}
 use Rattle.tp_model.specs.Events.{refused_plainly, action, after_crash, is_no_node, recovered_current}
 use Rattle.tp_model.specs.History.{digest}
 use Rattle.tp_model.specs.Questions.{is_crash}
 use Rattle.tp_model.specs.Legal.{IsGrown}
 use Rattle.tp_model.proofs.Verdicts.{plainly_none}
-use Rattle.tp_steps.specs.Moves.{Moves, prelude, begun_in, counted_in}
+use Rattle.tp_steps.specs.Moves.{prelude, begun_in, counted_in}
 use Rattle.tp_steps.specs.Traces.{IsLinked}
 use Rattle.tp_steps.proofs.every.EveryEvent.{every_move}
 use Rattle.tp_steps.proofs.links.Linked.{linked_moves}
 use Rattle.tp_histories.proofs.trees.Late.{late_law}
 use Rattle.tp_histories.proofs.trees.Knowing.{current_none}
 use Rattle.tp_agreement.proofs.OwingLaw.{kept_none}
+use Rattle.tp_runs.proofs.KnownForgot.{known_moves}
 
 abbrev IsNothing : Digest → Type 0
 IsNothing d = (d.current ≡ None) × (d.kept ≡ [])
@@ -32,24 +32,6 @@ abbrev IsAwake : Digest → Type 0
 IsAwake d = IsNothing d ⊎ (is_no_node d ≡ false)
 
 -- ---- what stays of a node in an event
-
-begun_known : (who : Who) (q : ℕ) (d : Digest) → (begin_on who q d).next.known ≡ d.known
-unfolding begin_on
-begun_known who q d = grind arith
-
-known_moves : (who : Who) (e : Event) (s : Digest) → Moves who e s (λ d m. m.next.known ≡ d.known)
-known_moves who e s = record {
-  still = λ d. refl;
-  chain = λ d a f one two quiet. two ∙ one;
-  speaks = λ d outs h own said. refl;
-  changes_dialogue = λ d p f m by one. one;
-  drops_arc = λ d p m at one. one;
-  notes_kept = λ d ks m held one. one;
-  keeps = λ d k f held. refl;
-  turns = λ d c f now at asked put gone. refl;
-  begins = λ d p may. begun_known who p d;
-  roots = λ d m nil may one. one;
-}
 
 abbrev is_declare : Event → Bool
 is_declare (Event.Declare s) = true

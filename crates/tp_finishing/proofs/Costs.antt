@@ -96,12 +96,23 @@ owed_less (x ∷ cs) b c h = go (is_branch x.branch b) h (owed_less cs b c)
 -- ---- a world
 
 -- a node that takes the place of another one
-pub cost_put : (ns : List Node) (x y : Node) → find_node ns (number_of y) ≡ Some x → most_lines (put_node ns y) + lines_at (known_of x) ≡ most_lines ns + lines_at (known_of y)
-cost_put [] x y h = absurd (cc (h))
-cost_put (z ∷ ns) x y h = go (number_of z == number_of y) h (cost_put ns x y)
+pub total_put : (of : Node → ℕ) (total : List Node → ℕ) → ((z : Node) (ns : List Node) → total (z ∷ ns) ≡ of z + total ns) → (ns : List Node) (x y : Node) → find_node ns (number_of y) ≡ Some x
+    → total (put_node ns y) + of x ≡ total ns + of y
+total_put of total sums [] x y h = absurd (cc (h))
+total_put of total sums (z ∷ ns) x y h = go (number_of z == number_of y) h (total_put of total sums ns x y)
   where
-    go : (v : Bool) → elim v as (λ _. Option Node) [ true ↦ Some z | false ↦ find_node ns (number_of y) ] ≡ Some x
-        → (find_node ns (number_of y) ≡ Some x → most_lines (put_node ns y) + lines_at (known_of x) ≡ most_lines ns + lines_at (known_of y))
-        → most_lines (elim v as (λ _. List Node) [ true ↦ y ∷ ns | false ↦ z ∷ put_node ns y ]) + lines_at (known_of x) ≡ most_lines (z ∷ ns) + lines_at (known_of y)
-    go true i rest = let same : lines_at (known_of z) ≡ lines_at (known_of x) = ap (λ (u : Node). lines_at (known_of u)) (some_same z x i) in omega (arith, same)
-    go false i rest = let r = rest i in omega (arith, r)
+    go : (v : Bool) → elim v as (λ _. Option Node) [ true ↦ Some z | false ↦ find_node ns (number_of y) ] ≡ Some x → (find_node ns (number_of y) ≡ Some x → total (put_node ns y) + of x ≡ total ns + of y)
+        → total (elim v as (λ _. List Node) [ true ↦ y ∷ ns | false ↦ z ∷ put_node ns y ]) + of x ≡ total (z ∷ ns) + of y
+    go true i rest =
+        let same : of z ≡ of x = ap of (some_same z x i) in
+        let new = sums y ns in
+        let old = sums z ns in
+        omega (arith, same, new, old)
+    go false i rest =
+        let r = rest i in
+        let new = sums z (put_node ns y) in
+        let old = sums z ns in
+        omega (arith, r, new, old)
+
+pub cost_put : (ns : List Node) (x y : Node) → find_node ns (number_of y) ≡ Some x → most_lines (put_node ns y) + lines_at (known_of x) ≡ most_lines ns + lines_at (known_of y)
+cost_put ns x y h = total_put (λ z. lines_at (known_of z)) most_lines (λ z ns. refl) ns x y h

@@ -40,6 +40,7 @@ use Rattle.tp_finishing.proofs.Picks.{distinct_run, First, pick_first}
 use Rattle.tp_finishing.proofs.Sites.{EachNode, nodes_found}
 use Rattle.tp_finishing.proofs.Still.{left_by, Turned, quiet_turn}
 use Rattle.tp_finishing.proofs.Taking.{Taken, taken_by, done_taken}
+use Rattle.tp_finishing.proofs.Costs.{total_put}
 
 -- ---- an arc of a node
 
@@ -200,14 +201,7 @@ next es x here may busy = by (known_of x).arcs refl
 -- ---- in a world
 
 cuts_put : (ns : List Node) (x y : Node) → find_node ns (number_of y) ≡ Some x → most_cuts (put_node ns y) + cuts_at (known_of x) ≡ most_cuts ns + cuts_at (known_of y)
-cuts_put [] x y h = absurd (cc (h))
-cuts_put (z ∷ ns) x y h = go (number_of z == number_of y) h (cuts_put ns x y)
-  where
-    go : (v : Bool) → elim v as (λ _. Option Node) [ true ↦ Some z | false ↦ find_node ns (number_of y) ] ≡ Some x
-        → (find_node ns (number_of y) ≡ Some x → most_cuts (put_node ns y) + cuts_at (known_of x) ≡ most_cuts ns + cuts_at (known_of y))
-        → most_cuts (elim v as (λ _. List Node) [ true ↦ y ∷ ns | false ↦ z ∷ put_node ns y ]) + cuts_at (known_of x) ≡ most_cuts (z ∷ ns) + cuts_at (known_of y)
-    go true i rest = let same : cuts_at (known_of z) ≡ cuts_at (known_of x) = ap (λ (u : Node). cuts_at (known_of u)) (some_same z x i) in omega (arith, same)
-    go false i rest = let r = rest i in omega (arith, r)
+cuts_put ns x y h = total_put (λ z. cuts_at (known_of z)) most_cuts (λ z ns. refl) ns x y h
 
 record Progress (es : List Happening) : Type 0 where
   line : Happening

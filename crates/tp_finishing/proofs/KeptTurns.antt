@@ -25,10 +25,6 @@ abbrev pub EachChild : (Child → Type 0) → List Child → Type 0
 EachChild Q [] = Unit {0}
 EachChild Q (c ∷ cs) = Q c × EachChild Q cs
 
-pub each_weaker : (P Q : Child → Type 0) → ((c : Child) → P c → Q c) → (cs : List Child) → EachChild P cs → EachChild Q cs
-each_weaker P Q w [] h = tt
-each_weaker P Q w (c ∷ cs) h = (w c h.0, each_weaker P Q w cs h.1)
-
 pub each_more : (Q : Child → Type 0) (cs : List Child) (c : Child) → EachChild Q cs → Q c → EachChild Q (cs ++ c ∷ [])
 each_more Q [] c h i = (i, tt)
 each_more Q (x ∷ xs) c h i = (h.0, each_more Q xs c h.1 i)
@@ -187,17 +183,17 @@ keep_turns Q e s = record {
     λ g. subst (λ (k : Key). IsDoubtOf (f a.next).next.phase k) one.1 (two.3 (subst (λ (k : Key). IsDoubtOf a.next.phase k) (sym one.1) (one.3 g))),
   );
   tells = λ t i off. (kin_of.tells t i off, refl, (λ h. tt), λ g. g);
-  notes_prepare = λ c. (kin_of.notes_prepare c, refl, (λ h. tt), λ g. g);
-  notes_done = (kin_of.notes_done, refl, (λ h. tt), λ g. g);
-  notes_end = λ q. (kin_of.notes_end q, refl, (λ h. tt), λ g. g);
-  notes_rollback = λ c. (kin_of.notes_rollback c, refl, (λ h. tt), λ g. g);
-  defers_end = λ q. (kin_of.defers_end q, key_row s q _, (λ h. tt), doubt_row s q _);
-  defers_grant = λ q. (kin_of.defers_grant q, refl, (λ h. tt), λ g. g);
+  notes_prepare = λ pr c. (kin_of.notes_prepare pr c, refl, (λ h. tt), λ g. g);
+  notes_done = λ is. ((kin_of.notes_done is), refl, (λ h. tt), λ g. g);
+  notes_end = λ q is. (kin_of.notes_end q is, refl, (λ h. tt), λ g. g);
+  notes_rollback = λ ro c. (kin_of.notes_rollback ro c, refl, (λ h. tt), λ g. g);
+  defers_end = λ q is. (kin_of.defers_end q is, key_row s q _, (λ h. tt), doubt_row s q _);
+  defers_grant = λ q is. (kin_of.defers_grant q is, refl, (λ h. tt), λ g. g);
   prepares = λ q. (kin_of.prepares q, key_row s q _, (λ h. tt), doubt_row s q _);
-  asks = λ act asked told. (kin_of.asks act asked told, refl, (λ h. tt), λ g. g);
+  asks = λ is act asked told. (kin_of.asks is act asked told, refl, (λ h. tt), λ g. g);
   asks_again = (kin_of.asks_again, refl, (λ h. tt), λ g. g);
   decides = λ o is ready. (kin_of.decides o is ready, refl, (λ h. tt), λ g. g);
-  aborts = λ q. (kin_of.aborts q, key_lost s q, (λ h. tt), doubt_lost s q);
+  aborts = λ q is. (kin_of.aborts q is, key_lost s q, (λ h. tt), doubt_lost s q);
   loses_arc = λ q gone. (kin_of.loses_arc q gone, key_lost s q, (λ h. tt), doubt_lost s q);
   closes_left = λ q is. (kin_of.closes_left q is, key_row s q _, (λ h. tt), doubt_row s q _);
   gives_up = λ q r is c found. (kin_of.gives_up q r is c found, key_row s q _, (λ h. tt), doubt_row s q _);

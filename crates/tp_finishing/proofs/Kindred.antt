@@ -55,9 +55,10 @@ use Rattle.tp_histories.proofs.worlds.Unique.{TookOn, superior_is}
 use Rattle.tp_histories.proofs.trees.Late.{late_law}
 use Rattle.tp_histories.proofs.trees.Knowing.{Came, As_it_was, By_begin, By_crash, came_by, current_none}
 use Rattle.tp_agreement.proofs.OwingLaw.{kept_none}
-use Rattle.tp_history_state.proofs.links.Kin.{IsKin, kin_link, kin_moves}
+use Rattle.tp_history_state.proofs.links.Kin.{IsKin, kin_link, kin_moves, found_without}
 use Rattle.tp_finishing.proofs.Retries.{sent_first, sent_second}
 use Rattle.tp_finishing.proofs.KeptTurns.{EachChild, each_more, each_without, Keeps, IsDoubtOf, IsKeeping, keeping_turn}
+use Rattle.tp_history_state.proofs.links.Named.{found_put}
 
 -- ---- arcs over which something was heard
 
@@ -85,14 +86,6 @@ found_end (x ∷ arcs) n p a h = go (x.peer.node == p) h (found_end arcs n p a)
     go : (b : Bool) → (if b then Some x else find_arc (arcs ++ (n ∷ [])) p) ≡ Some a → (find_arc (arcs ++ (n ∷ [])) p ≡ Some a → (find_arc arcs p ≡ Some a) ⊎ (n ≡ a)) → ((if b then Some x else find_arc arcs p) ≡ Some a) ⊎ (n ≡ a)
     go true k rest = inl k
     go false k rest = rest k
-
-found_put : (arcs : List Arc) (n x : Arc) (p : ℕ) → find_arc arcs n.peer.node ≡ Some x → find_arc (put_arc arcs n) p ≡ (if n.peer.node == p then Some n else find_arc arcs p)
-found_put [] n x p h = absurd (cc (h))
-found_put (a ∷ arcs) n x p h = grind (arith, nat_tests, found_put arcs n x p, h)
-
-found_without : (arcs : List Arc) (q p : ℕ) → find_arc (without_arc arcs q) p ≡ (if q == p then None else find_arc arcs p)
-found_without [] q p = grind arith
-found_without (a ∷ arcs) q p = grind (arith, nat_tests, found_without arcs q p)
 
 -- an arc that takes the place of another one has its peer
 heard_put : (P : Addr → Type 0) (arcs : List Arc) (n x : Arc) → find_arc arcs n.peer.node ≡ Some x → P n.peer → AreHeard P arcs → AreHeard P (put_arc arcs n)

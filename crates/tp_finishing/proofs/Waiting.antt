@@ -1,5 +1,5 @@
 -- What a rollback waits for stays linked, in every event that ends no association: by the steps of a turn, and of a node.
-use Rattle.tp_history_state.proofs.Vocabulary.{if◌then◌else◌, ◌≡◌, ℕ, Bool, true, false, refl, ap, sym, ◌∙◌, arith, Option, Some, None, List, [], ◌∷◌, ◌&&◌, ◌||◌, ◌==◌, not, and-false, nat_tests, Request, TxEvent, TxOut, Phase, Who, Event, Arc, Key, Root, Under, Branch, Current, Digest, is_nil, is_active, is_rolling, is_live, find_arc, link_with, is_live_with_peer, with_dialogue, with_mark_drawn, performed, Row, Transaction, Turn, is_under_at, find_row, put_row, with_row, with_arc_lost, all_prepared, transacted, leave, order, ask_commit, count_branch, branch_left, end_branch, begin_rolling, complete_commit, complete_rollback, settled, Move, perform, may_begin_on, fresh_current, seen, seen_row, seen_rows, branches_of, remaining, turned, keep, begin_on, try_start, entered, passage, is_leaving, Passage, Steps, IsPut, TurnSteps, are_apart, closes_at, asks_tell, count_to, left_is, left_branches, apart_spoken, apart_turn, link_dialogue, link_entered, settled_spoken, step_start, step_turn, whole_turn, row_is, row_dead}
+use Rattle.tp_history_state.proofs.Vocabulary.{if◌then◌else◌, ◌≡◌, ℕ, Bool, true, false, refl, ap, sym, ◌∙◌, arith, Option, Some, None, List, [], ◌∷◌, ◌&&◌, ◌||◌, ◌==◌, not, and-false, nat_tests, Request, TxEvent, TxOut, Phase, Who, Event, Arc, Key, Root, Under, Branch, Current, Digest, is_nil, is_active, is_rolling, is_live, find_arc, link_with, is_live_with_peer, with_dialogue, with_mark_drawn, performed, Row, Transaction, Turn, is_under_at, find_row, put_row, with_row, with_arc_lost, all_prepared, transacted, leave, order, ask_commit, count_branch, branch_left, end_branch, begin_rolling, complete_commit, complete_rollback, settled, Move, perform, may_begin_on, fresh_current, seen, seen_row, seen_rows, branches_of, remaining, turned, keep, begin_on, try_start, entered, passage, is_leaving, Passage, Steps, IsPut, Turns, are_apart, closes_at, asks_tell, count_to, left_is, left_branches, apart_spoken, apart_turn, link_dialogue, link_entered, settled_spoken, step_start, every_turn, whole_turn, row_is, row_dead}
 use Rattle.tp_model.specs.Node.{is_up_live}
 use Rattle.tp_model.specs.Transactions.{all_rolled_back}
 use Rattle.tp_steps.specs.Steps.{next_tree}
@@ -10,7 +10,7 @@ use Rattle.tp_history_state.proofs.passages.Passage.{is_committed_told, ends, pa
 use Rattle.tp_history_state.proofs.prepares.Pending.{more_live}
 use Rattle.tp_history_state.proofs.links.Shuts.{shuts_in, shuts_performed, shuts_played, ends_at, closes_by, closing_turn}
 use Rattle.tp_history_state.proofs.links.Linked.{closes_so, unshut_said, unshut_settled}
-use Rattle.tp_history_state.proofs.lemmas.Begins.{begun_child, sent_begin, begins_so}
+use Rattle.tp_history_state.proofs.lemmas.Begins.{next_child, begun_over, begins_so}
 use Rattle.tp_finishing.specs.Waiting.{has_open_at, is_awaited, WaitsFor, Waits}
 
 -- ---- a peer that is awaited, and linked, holds a rollback back
@@ -175,7 +175,7 @@ fewer_ended p r t = fewer_row t p (λ w. record w { branch = record w.branch { e
     off : (v l : Bool) → (v && not (true || l)) ≡ true → ⊥
     off v l i = absurd (grind (arith, i))
 
-fewer_turns : (e : TxEvent) (s : Transaction) → TurnSteps e s (λ t a. Fewer t a.next)
+fewer_turns : (e : TxEvent) (s : Transaction) → Turns e s (λ t a. Fewer t a.next)
 unfolding ask_commit leave count_branch branch_left
 fewer_turns e s = record {
   still = λ t. fewer_same t t refl refl refl;
@@ -218,7 +218,7 @@ fewer_turns e s = record {
     gone v e i = absurd (grind (arith, i))
 
 pub fewer_turn : (f : TxEvent) (s : Transaction) → IsPut f s → Fewer s (transacted f s).next
-fewer_turn f s put = step_turn f s (λ t a. Fewer t a.next) (fewer_turns f s) put
+fewer_turn f s put = every_turn f s (λ t a. Fewer t a.next) (fewer_turns f s) put
 
 -- ---- a turn
 
@@ -366,8 +366,8 @@ not_rolling d off c is rolls owes = absurd (let no = off c is in cc (rolls, no))
 begins_waits : (who : Who) (q : ℕ) (d : Digest) → Waits d → Waits (begin_on who q d).next
 begins_waits who q d old = begins_so (λ (m : Move). Waits m.next) who q d old on
   where
-    on : (c : Current) → d.current ≡ Some c → (a : Arc) → find_arc d.arcs q ≡ Some a → not (may_begin_on who d a) ≡ false → Waits (sent_begin who q d c a).next
-    on c now a found may = not_rolling (sent_begin who q d c a).next (λ u is. sunk u.phase (ap is_active (left_is (transacted (TxEvent.Begun (begun_child who d a ∷ [])) (seen who d.arcs c)).next u is).1 ∙ act))
+    on : (c : Current) → d.current ≡ Some c → (a : Arc) → find_arc d.arcs q ≡ Some a → not (may_begin_on who d a) ≡ false → Waits (begun_over who q d c a).next
+    on c now a found may = not_rolling (begun_over who q d c a).next (λ u is. sunk u.phase (ap is_active (left_is (transacted (TxEvent.Begun (next_child who d a ∷ [])) (seen who d.arcs c)).next u is).1 ∙ act))
       where
         act : is_active c.phase ≡ true
         act = grind (arith, may, now)

@@ -1,6 +1,6 @@
 -- In every legal history a rollback waits for a peer that is linked: an event that ends an association completes the rollback where it
 -- was the last such peer, or that association was none of the transaction's.
-use Rattle.tp_history_state.proofs.Vocabulary.{if◌then◌else◌, ◌≡◌, ℕ, Bool, true, false, refl, ap, sym, subst, ◌∙◌, arith, Option, Some, None, List, [], ◌∷◌, ◌&&◌, ◌||◌, ◌==◌, not, nat_tests, Mark, Addr, Report, Request, Indication, DialogueRecord, PeerRecord, TxEvent, TxOut, Who, Origin, Event, Entry, Link, Idle, Live, Arc, Key, Root, Under, Branch, Current, Digest, is_nil, is_active, is_rolling, is_live, with_one_taken, Sight, Acts, Nothing_happens, Out_of_phase, cleared, find_arc, link_with, is_live_with_peer, without_arc, with_dialogue, Row, Transaction, Turn, turn, and_then, is_under_at, find_row, put_row, row_holds, with_row, with_arc_lost, begin_rolling, complete_rollback, complete_commit, roll, settle, order, branch_left, end_branch, takes, transacted, sight_of_tx, situation_of, refused_tx, has_branch_at, Move, move, followed, perform, situation_at, seen, seen_row, seen_rows, turned, transact, fresh_current, refused_request, refused_on_arc, abort, reject, sight_at, sight_of, take_record, take_abort, take_on, lose, break_off, broken_pair, refused_arrival, refusal, action, after_crash, recovered_current, digest, IsGrown, IsLate, IsPut, closes_at, prelude, plain_request, plain_arrival, plain_give_up, abort_sight, abort_active, seen_branch, late_law, row_phase, row_dead, row_is, some_same, step_move, link_without, Entered, Begun, Crashed, Plain}
+use Rattle.tp_history_state.proofs.Vocabulary.{if◌then◌else◌, ◌≡◌, ℕ, Bool, true, false, refl, ap, sym, subst, ◌∙◌, arith, Option, Some, None, List, [], ◌∷◌, ◌&&◌, ◌||◌, ◌==◌, not, nat_tests, Mark, Addr, Report, Request, Indication, DialogueRecord, PeerRecord, TxEvent, TxOut, Who, Origin, Event, Entry, Link, Idle, Live, Arc, Key, Root, Under, Branch, Current, Digest, is_nil, is_active, is_rolling, is_live, with_one_taken, Sight, Acts, Nothing_happens, Out_of_phase, cleared, find_arc, link_with, is_live_with_peer, without_arc, with_dialogue, Row, Transaction, Turn, turn, and_then, is_under_at, find_row, put_row, row_holds, with_row, with_arc_lost, begin_rolling, complete_rollback, complete_commit, roll, settle, order, branch_left, end_branch, takes, transacted, sight_of_tx, situation_of, refused_tx, has_branch_at, Move, move, followed, perform, situation_at, seen, seen_row, seen_rows, turned, transact, fresh_current, refused_request, refused_on_arc, abort, reject, sight_at, take_record, take_abort, take_on, lose, break_off, broken_pair, refused_arrival, refusal, action, after_crash, recovered_current, digest, IsGrown, IsLate, IsPut, closes_at, prelude, plain_request, plain_arrival, plain_give_up, abort_sight, abort_active, seen_branch, late_law, row_phase, row_dead, row_is, some_same, step_move, link_without, Entered, Begun, Crashed, Plain}
 unfoldable use Rattle.tp_model.specs.Dialogues.{arrived}
 use Rattle.tp_model.specs.AmongArcs.{are_distinct}
 use Rattle.tp_model.specs.Legal.{is_start}
@@ -22,6 +22,7 @@ use Rattle.tp_history_state.proofs.links.LinkBy.{live_kept}
 use Rattle.tp_model.specs.World.{number_of}
 use Rattle.tp_finishing.specs.Waiting.{has_open_at, is_awaited, Waits, RollbacksWait}
 use Rattle.tp_finishing.proofs.Waiting.{is_linked, any_live, seen_live, Fewer, fewer_then, fewer_turn, fewer_rolls, fewer_unrolled, fewer_ended, IsClosed, turned_waits, linked_waits, performed_live, not_rolling, waits_steps, start_waits}
+use Rattle.tp_history_state.proofs.prepares.Closed.{offered_dead, in_phase, end_out}
 
 -- ---- a rule that completes the rollback leaves nothing to complete
 
@@ -334,10 +335,6 @@ reject_current : (d : Digest) → (reject d).next.current ≡ d.current
 unfolding reject
 reject_current d = grind arith
 
-offered_dead : (who : Who) (d : Digest) (a : Addr) → refused_request who d Request.Reject ≡ None → d.superior ≡ Some a → is_live_with_peer d.arcs a.node ≡ false
-unfolding refused_request
-offered_dead who d a ok up = grind (arith, ok, up)
-
 waits_rejected : (who : Who) (d : Digest) → refusal who d (Event.Do Request.Reject) ≡ None → Waits d → Waits (reject d).next
 waits_rejected who d ok old = linked_waits d (reject d).next (reject_current d) (λ c p is rolls wait live. stays p live (refused_link who d p ok)) old
   where
@@ -423,14 +420,6 @@ counted_live r n p d live = ap is_live (counted_link r n p d) ∙ go (n == p)
 
 waits_counted : (r : DialogueRecord) (n : ℕ) (d : Digest) → Waits d → Waits (counted r n d)
 waits_counted r n d old = linked_waits d (counted r n d) (counted_current r n d) (λ c p is rolls wait live. counted_live r n p d live) old
-
-in_phase : (who : Who) (d : Digest) (from : Addr) (x y : Mark) (q : ℕ) (r : DialogueRecord) (a : Arc) → refused_arrival who d from (PeerRecord.OnAssoc x y q r) ≡ None → find_arc d.arcs from.node ≡ Some a → sight_at who d a r ≡ Out_of_phase → ⊥
-unfolding refused_arrival
-in_phase who d from x y q r a ok found out = absurd (grind (arith, ok, found, out))
-
-end_out : (who : Who) (d : Digest) (a : Arc) → (situation_at who d a.peer.node).branch ≡ true → (situation_at who d a.peer.node).done ≡ false → (situation_at who d a.peer.node).left ≡ false → sight_at who d a DialogueRecord.EndDialogue ≡ Out_of_phase
-unfolding sight_of arrived
-end_out who d a b n l = grind (arith, b, n, l)
 
 -- the end of a dialogue is out of phase on an arc that is waited for
 waits_ended : (who : Who) (d : Digest) (a : Arc) → (sight_at who d a DialogueRecord.EndDialogue ≡ Out_of_phase → ⊥) → AreApart d → Waits d → Waits (take_on who a DialogueRecord.EndDialogue d).next

@@ -193,9 +193,6 @@ pub data Keeps (k : NodeKey) (g : Stage) (x : Kept) : Type 0 where
   Commitment : g ≡ Stage.Damaged → x.key ≡ k → x.side ≡ Outcome.Commit → Keeps k g x
   Rollback : g ≡ Stage.Backed → x.key ≡ k → x.side ≡ Outcome.Rollback → is_nothing_owed x.owed ≡ true → Keeps k g x
 
-no_rest : (s : Side) → s ∷ [] ≡ [] → ⊥
-no_rest s h = cc (h)
-
 bare : (o : Outcome) (cs : List Child) → o ≡ Outcome.Rollback → is_odd o cs ≡ false → is_nothing_owed cs ≡ true
 bare Outcome.Rollback [] i h = refl
 bare Outcome.Rollback (c ∷ cs) i h = absurd (cc (h))

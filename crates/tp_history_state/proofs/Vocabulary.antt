@@ -61,9 +61,8 @@ pub use Rattle.tp_steps.specs.Steps.{Steps, puts_off_at, is_deferring, is_deferr
 pub use Rattle.tp_steps.specs.Trees.{out_tells}
 pub use Rattle.tp_steps.specs.Facts.{find_branch}
 pub use Rattle.tp_steps.specs.Passages.{asks_tell, may_move, IsLogged}
-pub use Rattle.tp_steps.specs.Turns.{falls, is_left_word, loses, is_outcome_told, vote, row_dead, shut_given_up, decide, Turns}
+pub use Rattle.tp_steps.specs.Turns.{falls, is_left_word, loses, is_outcome_told, vote, row_dead, shut_given_up, decide, Turns, hears_rollback, hears_prepare}
 pub use Rattle.tp_steps.specs.Traces.{IsLinked, count_to, is_old}
-pub use Rattle.tp_steps.specs.TurnSteps.{TurnSteps, hears_rollback, hears_prepare}
 pub use Rattle.tp_steps.proofs.lemmas.Equality.{and_left, and_right, branches_equal, both_true}
 pub use Rattle.tp_steps.proofs.every.EveryRecord.{find_arc_is, the, on_none, begin_acts, on_live, woken_at, cleared_off, woken_off, begin_wakes, woken_on_begin, woken_on_other}
 pub use Rattle.tp_steps.proofs.branches.Staged.{is_rolled_told, staged_turn, is_some_rec, IsStaged}
@@ -79,7 +78,7 @@ pub use Rattle.tp_steps.proofs.log.Sound.{left_branches, left_is}
 pub use Rattle.tp_steps.proofs.log.KinTurns.{kids_left, kids_seen, kin, kin_turn, kids_more}
 pub use Rattle.tp_steps.proofs.log.Passed.{passed_turn}
 pub use Rattle.tp_steps.proofs.words.Hushed.{settled_spoken}
-pub use Rattle.tp_steps.proofs.every.EveryTurn.{step_turn, every_turn}
+pub use Rattle.tp_steps.proofs.every.EveryTurn.{every_turn}
 pub use Rattle.tp_steps.proofs.branches.Rolls.{rolls_so, rolls_from, phase_at, sight_rollback}
 pub use Rattle.tp_steps.proofs.words.Fair.{find_put, row_phase, row_is}
 pub use Rattle.tp_steps.proofs.links.Apart.{apart_spoken, apart_turn, apart_grants}

@@ -1,5 +1,5 @@
 -- Whose word it is that a node hears of a branch that it awaits: that of a node just below it, which is at the end of a branch.
-use Rattle.std.proofs.Common.{◌≡◌, ◌≤◌, ◌⊎◌, inl, inr, ℕ, suc, Bool, true, false, refl, ap, sym, subst, ◌∙◌, arith, Option, Some, None, List, [], ◌∷◌, ◌++◌, ◌&&◌, ◌||◌, ◌==◌, slice_get}
+use Rattle.std.proofs.Common.{◌≡◌, ◌≤◌, ◌⊎◌, inl, inr, ℕ, Bool, true, false, refl, ap, sym, subst, ◌∙◌, arith, Option, Some, None, List, [], ◌∷◌, ◌++◌, ◌&&◌, ◌||◌, ◌==◌}
 use Rattle.std.proofs.lemmas.Bool.Decides.{nat_tests}
 use Rattle.tp_names.specs.declared.identifiers.Aaid.{Aaid}
 use Rattle.tp_names.specs.declared.identifiers.Mark.{Mark}
@@ -19,7 +19,7 @@ use Rattle.tp_model.specs.Events.{refusal}
 use Rattle.tp_model.specs.History.{digest, records}
 use Rattle.tp_model.specs.Outcomes.{is_now, rolled}
 use Rattle.tp_model.specs.Questions.{is_at}
-use Rattle.tp_model.specs.World.{Node, Frame, number_of, addr_of, find_node}
+use Rattle.tp_model.specs.World.{Node, number_of, addr_of, find_node}
 use Rattle.tp_model.specs.Happenings.{Happening, run}
 use Rattle.tp_model.specs.Promises.{IsIn, IsOf, IsBranchOf, has_begun, has_told_in}
 use Rattle.tp_model.specs.Legal.{IsGrown}
@@ -28,11 +28,9 @@ use Rattle.tp_steps.specs.Facts.{BranchKey, find_branch}
 use Rattle.tp_steps.specs.Branches.{may_end}
 use Rattle.tp_steps.specs.Histories.{brought}
 use Rattle.tp_steps.specs.Upward.{Deeds}
-use Rattle.tp_histories.specs.Histories.{HasSent, HasBrought}
-use Rattle.tp_histories.specs.Traces.{sent_on, own_mark}
-use Rattle.tp_histories.specs.Ends.{own_is}
-use Rattle.tp_histories.specs.Worlds.{IsGood, place}
-use Rattle.tp_histories.specs.Members.{IsOnce, IsUnique, is_own, is_known, has_taken_begin}
+use Rattle.tp_histories.specs.Histories.{HasBrought}
+use Rattle.tp_histories.specs.Worlds.{IsGood}
+use Rattle.tp_histories.specs.Members.{IsOnce, is_own, is_known, has_taken_begin}
 use Rattle.tp_histories.specs.Upward.{deeds_of}
 use Rattle.tp_runs.specs.Heeded.{heeds_event, heeds}
 use Rattle.tp_report_causes.specs.Causes.{is_awaited, is_met, has_met}
@@ -40,11 +38,8 @@ use Rattle.tp_steps.proofs.lemmas.Equality.{or_case, and_left, and_right, both_t
 use Rattle.tp_steps.proofs.lemmas.Options.{some_same}
 use Rattle.tp_steps.proofs.lemmas.Words.{commit_more}
 use Rattle.tp_steps.proofs.every.Preludes.{Taken, takes_next}
-use Rattle.tp_steps.proofs.every.Course.{past_first}
-use Rattle.tp_histories.proofs.marks.Ends.{alone_law}
 use Rattle.tp_histories.proofs.trees.Late.{late_law}
 use Rattle.tp_histories.proofs.pairs.PairedSteps.{paired_law}
-use Rattle.tp_histories.proofs.worlds.Prefix.{sent_at}
 use Rattle.tp_histories.proofs.worlds.Good.{good_run, Sender, was_sent}
 use Rattle.tp_histories.proofs.worlds.Unique.{unique_run, TookBegin, took_begin, took_has}
 use Rattle.tp_runs.proofs.Hanging.{began_from}
@@ -54,8 +49,9 @@ use Rattle.tp_agreement.proofs.AccountSteps.{Rules}
 use Rattle.tp_agreement.proofs.LeftDown.{Below, below_tail, accounts_of}
 use Rattle.tp_agreement.proofs.OwingLaw.{rolled_more}
 use Rattle.tp_agreement.proofs.RollsUp.{below_run}
-use Rattle.tp_failure_free.proofs.NoRolling.{no_own_link}
+use Rattle.tp_failure_free.proofs.NoRolling.{below_it}
 use Rattle.tp_outcomes.proofs.Starting.{taken_member}
+use Rattle.tp_failure_free.proofs.DrainedDones.{not_drawn}
 
 -- ---- an event in a history
 
@@ -123,51 +119,6 @@ told_split f g k split o t (e ∷ h) m = go (or_case (is_now t (digest o h).curr
     go (inl i) rest =
         let n : is_now t (digest o h).current ≡ true = and_left (is_now t (digest o h).current) (f e.outs) i in
         elim (split e.outs (and_right (is_now t (digest o h).current) (f e.outs) i)) [ inl j ↦ inl (first g n j) | inr j ↦ inr (first k n j) ]
-
--- ---- who speaks is below
-
-pub at_some : (o : Option Addr) (n : ℕ) → is_at o n ≡ true → (s : Addr) × (o ≡ Some s) × (s.node ≡ n)
-at_some None n h = absurd (cc (h))
-at_some (Some s) n h = let at : s.node ≡ n = grind (arith, nat_tests, h) in (s, refl, at)
-
--- a node that speaks on a live association to one that is not below it stands below that one; h is what that one did by then
-pub below_it : (ns : List Node) (fs : List Frame) (x y : Node) (h : List Entry) (m k : Mark) (s q : ℕ) (a : Addr) (i : ℕ) (r : DialogueRecord) → IsGood ns fs → IsGrown x.origin x.superior h → find_node ns (number_of y) ≡ Some y → is_at x.superior (number_of y) ≡ false
-    → link_with (digest x.origin h).arcs (number_of y) ≡ Live m k s q → a.node ≡ number_of x → HasSent y.history a (PeerRecord.OnAssoc m k i r) → is_at y.superior (number_of x) ≡ true
-below_it ns fs x y h m k s q a i r good legal hy off live at sent = go (is_at y.superior (number_of x)) refl
-  where
-    own : m.node ≡ number_of x
-    own =
-        let one = (alone_law x.origin x.superior h legal).own (number_of y) in
-        let two : ((own_mark x.superior (number_of y) m k).node == number_of x) ≡ true = sym (ap (own_is x.origin.who x.superior (number_of y)) live) ∙ one in
-        grind (arith, nat_tests, two, off)
-
-    some_sent : sent_on m k (number_of x) y.history ≡ [] → ⊥
-    some_sent none =
-        let stands = sent_at y.origin y.superior y.history a m k i r (good.legal (number_of y) y hy) sent in
-        let one : slice_get (sent_on m k (number_of x) y.history) i ≡ Some r = subst (λ (n : ℕ). slice_get (sent_on m k n y.history) i ≡ Some r) at stands in
-        cc (sym (ap (λ (rs : List DialogueRecord). slice_get rs i) none) ∙ one)
-
-    go : (b : Bool) → is_at y.superior (number_of x) ≡ b → is_at y.superior (number_of x) ≡ true
-    go true i = i
-    go false i = elim ((alone_law y.origin y.superior y.history (good.legal (number_of y) y hy)).said (number_of x) m k) [
-      | inl none ↦ absurd (some_sent none)
-      | inr drawn ↦
-          (let mine : m.node ≡ number_of y = rw (i, own_mark) at drawn in
-          let same : number_of y ≡ number_of x = sym mine ∙ own in
-          let idle = no_own_link x.origin x.superior h legal (subst (λ (n : ℕ). is_at x.superior n ≡ false) same off) in
-          absurd (cc (sym live ∙ ap (link_with (digest x.origin h).arcs) same ∙ idle)))
-    ]
-
--- a tree that the superior knows was not drawn below it
-pub not_drawn : (ns : List Node) (fs : List Frame) (x y : Node) (t : Aaid) → IsGood ns fs → IsUnique ns → find_node ns (number_of x) ≡ Some x → find_node ns (number_of y) ≡ Some y → is_at y.superior (number_of x) ≡ true → is_known x.origin t x.history ≡ true
-    → is_own y.origin.who t ≡ true → ⊥
-not_drawn ns fs x y t good unique hx hy above known own =
-    let s = at_some y.superior (number_of x) above in
-    let drawer = unique.drawn (number_of x) x t hx known in
-    let over = good.above (number_of y) y s.0 hy s.1 in
-    let mine : t.mark.node ≡ number_of y = grind (arith, nat_tests, own) in
-    let before : suc (place ns (number_of x)) ≤ place ns (number_of y) = subst (λ (n : ℕ). suc (place ns n) ≤ place ns (number_of y)) s.2 over.before in
-    past_first (place ns t.mark.node) (place ns (number_of x)) (place ns (number_of y)) drawer.before before (ap (place ns) (sym mine))
 
 -- ---- a word that is heard on its association
 

@@ -44,6 +44,7 @@ use Rattle.tp_agreement.proofs.OwingMoves.{found_key}
 use Rattle.tp_agreement.proofs.Unknown.{key_done}
 use Rattle.tp_report_causes.proofs.VoicedTurns.{Voices, fits_reply, fits_superior, fits_kept, is_key_fit}
 use Rattle.tp_report_causes.proofs.VoicedMoves.{Brings, IsTold, kept_fit, VoicedMove, IsVoicedMove, voiced_moves, unnoted_fit, found_fit}
+use Rattle.tp_reports.proofs.ClearedReplies.{bare_none}
 
 -- a reply brought that report of the tree
 abbrev pub is_reply : Report → Aaid → Event → Bool
@@ -90,10 +91,6 @@ asked_from who d a t b ok = go (is_other (kept_superior (named_by_key d (branch_
     go false i = refl
     go true i = absurd (grind (arith, ok, i))
 
-none_kept : (k : Known) (r : Report) → k.kept ≡ None → is_report_none r ≡ false → recovery_answer k Question.RecCommit ≡ Some (RecState.Done r) → ⊥
-unfolding recovery_answer
-none_kept k r n some x = absurd (grind (arith, n, some, x))
-
 side_kept : (k : Known) (s : Outcome) (q r : Report) → k.kept ≡ Some (s, q) → recovery_answer k Question.RecCommit ≡ Some (RecState.Done r) → is_commit s ≡ true
 unfolding recovery_answer
 side_kept k s q r i x = grind (arith, i, x)
@@ -124,7 +121,7 @@ answered_fit v who d t a b r late fit ok x some = go (find_kept d.kept (branch_k
     n = known_of (named_by_key d (branch_key t b)) b
 
     go : (k : Option Kept) → find_kept d.kept (branch_key t b) ≡ k → (v.vouched r && v.above a) ≡ true
-    go None i = absurd (none_kept n r (ap (λ (o : Option Kept). elim o as (λ _. Option (Outcome × Report)) [ None ↦ None | Some y ↦ Some (y.side, y.report) ]) i) some x)
+    go None i = absurd (bare_none n r (ap (λ (o : Option Kept). elim o as (λ _. Option (Outcome × Report)) [ None ↦ None | Some y ↦ Some (y.side, y.report) ]) i) some x)
     go (Some k) i = both_true (v.vouched r) (v.above a) vouched (above k.superior refl)
       where
         kept : n.kept ≡ Some (k.side, k.report)

@@ -1,60 +1,50 @@
 -- A node whose commitment ended clear answers for each branch that it began: it left, or its commitment ended clear too.
-use Rattle.std.proofs.Common.{◌≡◌, ◌⊎◌, inl, inr, ℕ, Bool, true, false, refl, ap, sym, subst, ◌∙◌, arith, Option, Some, None, List, [], ◌∷◌, ◌&&◌, ◌||◌, not}
+use Rattle.std.proofs.Common.{◌≡◌, ◌⊎◌, inl, inr, ℕ, true, refl, ap, sym, subst, ◌∙◌, arith, Option, Some, None, List, [], ◌∷◌, ◌&&◌, ◌||◌}
 use Rattle.std.proofs.lemmas.Bool.Decides.{nat_tests}
 use Rattle.tp_names.specs.declared.identifiers.Aaid.{Aaid}
 use Rattle.tp_names.specs.declared.identifiers.Mark.{Mark}
 use Rattle.tp_names.specs.declared.identifiers.BranchId.{BranchId}
 use Rattle.tp_names.specs.declared.identifiers.Addr.{Addr}
 use Rattle.tp_names.specs.declared.outcome.Report.{Report}
-use Rattle.tp_names.specs.Same.{is_aaid}
-use Rattle.tp_records.specs.declared.request.Request.{Request}
 use Rattle.tp_records.specs.declared.dialogue.DialogueRecord.{DialogueRecord}
 use Rattle.tp_records.specs.declared.dialogue.Holder.{Holder}
 use Rattle.tp_records.specs.declared.peer.PeerRecord.{PeerRecord}
 use Rattle.tp_records.specs.declared.peer.RecState.{RecState}
 use Rattle.tp_logrec.specs.declared.record.LogRec.{LogRec}
-use Rattle.tp_model.specs.declared.arc.Phase.{Phase}
 use Rattle.tp_model.specs.declared.transaction.TxEvent.{TxEvent}
-use Rattle.tp_model.specs.Parts.{Origin, Event, Entry, Branch, Current, Digest}
-use Rattle.tp_model.specs.Dialogues.{is_nil, is_active, is_committing, is_ready, is_rolling}
-use Rattle.tp_model.specs.Transactions.{Row, Transaction, aaid_of, fresh_branch, find_row_by_id}
+use Rattle.tp_model.specs.Parts.{Origin, Event, Entry, Branch, Digest}
+use Rattle.tp_model.specs.Dialogues.{is_committing, is_rolling}
+use Rattle.tp_model.specs.Transactions.{Row, Transaction, aaid_of, find_row_by_id}
 use Rattle.tp_model.specs.Arrivals.{find_branch_by_id}
 use Rattle.tp_model.specs.Node.{phase_of, seen}
-use Rattle.tp_model.specs.Events.{action, recovered, named_again, recovered_current}
+use Rattle.tp_model.specs.Events.{action}
 use Rattle.tp_model.specs.History.{digest, records}
-use Rattle.tp_model.specs.Outcomes.{is_now, is_unchanged, rolls, is_crash_in_active, rolled, has_left}
+use Rattle.tp_model.specs.Outcomes.{is_now, rolls, rolled, has_left}
 use Rattle.tp_model.specs.Questions.{is_at}
 use Rattle.tp_model.specs.World.{Node, number_of}
 use Rattle.tp_model.specs.Happenings.{Happening, run}
 use Rattle.tp_model.specs.Promises.{IsIn, IsBranchOf}
-use Rattle.tp_model.specs.Legal.{IsGrown}
 use Rattle.tp_histories.specs.Histories.{IsSentIn, HasSent}
 use Rattle.tp_histories.specs.Worlds.{IsGood}
 use Rattle.tp_steps.specs.Moves.{IsAsked, prelude}
 use Rattle.tp_steps.specs.Facts.{BranchKey}
-use Rattle.tp_steps.specs.Upward.{Deeds, holds_at}
+use Rattle.tp_steps.specs.Upward.{Deeds}
 use Rattle.tp_histories.specs.Upward.{deeds_of}
-use Rattle.tp_runs.specs.Heeded.{heeds_event, heeds}
-use Rattle.tp_steps.specs.Branches.{may_leave}
-use Rattle.tp_agreement.specs.Owing.{is_standing}
 use Rattle.tp_histories.specs.Members.{IsOnce}
 use Rattle.tp_steps.specs.Clearing.{damages_tree, has_damage}
-use Rattle.tp_reports.specs.Clearing.{may_clear, has_cleared, OpenRow}
-use Rattle.tp_steps.proofs.lemmas.Equality.{aaids_equal, addrs_equal, and_left}
+use Rattle.tp_reports.specs.Clearing.{may_clear, has_cleared, OpenRow, is_clear_branch}
+use Rattle.tp_steps.proofs.lemmas.Equality.{aaids_equal, addrs_equal}
 use Rattle.tp_histories.proofs.trees.Late.{late_law}
-use Rattle.tp_steps.proofs.words.Leaves.{aaid_same}
 use Rattle.tp_steps.proofs.branches.Rolls.{phase_at}
-use Rattle.tp_steps.proofs.lemmas.Words.{commit_more, damage_first, damage_more}
-use Rattle.tp_histories.proofs.trees.Knowing.{Came, As_it_was, By_begin, By_crash, came_by}
+use Rattle.tp_steps.proofs.lemmas.Words.{damage_first, damage_more}
 use Rattle.tp_histories.proofs.trees.Fated.{fated_law}
 use Rattle.tp_runs.proofs.Bare.{left_is_bare}
 use Rattle.tp_agreement.proofs.Marked.{MayMark}
-use Rattle.tp_agreement.proofs.Accounts.{leaves_word, keys_to, ends_from, votes_from, Accounts}
+use Rattle.tp_agreement.proofs.Accounts.{leaves_word, Accounts}
 use Rattle.tp_agreement.proofs.AccountSteps.{Rules}
-use Rattle.tp_agreement.proofs.AccountLaw.{took_mark, left_key}
 use Rattle.tp_agreement.proofs.LeftDown.{Below, below_tail, accounts_of}
 use Rattle.tp_agreement.proofs.BelowRuns.{SentBegin, branch_above, branch_sent}
-use Rattle.tp_agreement.proofs.OwingLaw.{sent_now, rolled_here, rolled_more, rolling_here, find_named, completed_word, Replied, replied_by, same_peer, rows_by_id, id_found, spread_at}
+use Rattle.tp_agreement.proofs.OwingLaw.{sent_now, rolled_here, rolled_more, rolling_here, completed_word, Replied, replied_by, same_peer, rows_by_id, id_found, spread_at, row_first, rules_of, tree_marked, mark_left, unchanged_current}
 use Rattle.tp_agreement.proofs.Unknown.{SentTo}
 use Rattle.tp_agreement.proofs.RollsUp.{tied_run, below_run}
 use Rattle.tp_histories.proofs.worlds.Good.{good_run}
@@ -84,45 +74,6 @@ clearance (TxEvent.Reply c (RecState.Done Report.None)) q p h = go (find_row_by_
 clearance (TxEvent.Reply c (RecState.Done Report.Hazard)) q p h = absurd (cc (h))
 clearance (TxEvent.Reply c (RecState.Done Report.Mix)) q p h = absurd (cc (h))
 clearance f q p h = absurd (grind (arith, h))
-
--- ---- after the prelude
-
-open_first : (o : Origin) (up : Option Addr) (e : Entry) (h : List Entry) (t : Aaid) (p : ℕ) (b : BranchId) → IsGrown o up (e ∷ h) → OpenRow t p b (digest o h).current → OpenRow t p b (prelude o.who (digest o h) e.event).current ⊎ (rolled o t (e ∷ h) ≡ true)
-open_first o up e h t p b legal k = go (came_by o.who d e.event legal.0)
-  where
-    d : Digest
-    d = digest o h
-
-    crashed : e.event ≡ Event.Crash → (v : Bool) → is_active k.current.phase ≡ v → OpenRow t p b (recovered_current d.current) ⊎ (rolled o t (e ∷ h) ≡ true)
-    crashed is true act =
-        let n : is_now t d.current ≡ true = ap (is_now t) k.at ∙ k.tree in
-        let a : is_crash_in_active d e.event ≡ true = ap (is_crash_in_active d) is ∙ ap is_active (phase_at d k.current k.at) ∙ act in
-        inr (rw (n, a) (grind arith))
-    crashed is false act = inl (record {
-      current = recovered k.current.key k.current.phase (named_again k.current.branches) k.current.decision;
-      at = ap recovered_current k.at ∙ rw bound refl;
-      tree = k.tree;
-      phase = k.phase;
-      branch = fresh_branch (record { addr = k.branch.peer; branch = k.branch.id });
-      found = find_named k.current.branches p k.branch k.found k.left;
-      id = k.id;
-      left = refl;
-      clear = refl;
-    })
-      where
-        past : (v : Phase) → is_standing v ≡ true → is_active v ≡ false → (is_ready v || is_committing v) ≡ true
-        past v h i = grind (arith, h, i)
-
-        bound : (is_ready k.current.phase || is_committing k.current.phase) ≡ true
-        bound = past k.current.phase k.phase act
-
-    nil_off : (v : Phase) → is_nil v ≡ true → is_standing v ≡ true → ⊥
-    nil_off v h i = absurd (grind (arith, h, i))
-
-    go : Came o.who d e.event → OpenRow t p b (prelude o.who d e.event).current ⊎ (rolled o t (e ∷ h) ≡ true)
-    go (As_it_was i) = inl (subst (λ (u : Option Current). OpenRow t p b u) (sym i) k)
-    go (By_begin from x y q v w g l is found cur nil above) = absurd (nil_off k.current.phase (rw (k.at, phase_of) at nil) k.phase)
-    go (By_crash is cur) = elim (crashed is (is_active k.current.phase) refl) [ inl i ↦ inl (subst (λ (u : Option Current). OpenRow t p b u) (sym cur) i) | inr i ↦ inr i ]
 
 -- ---- every legal history
 
@@ -159,23 +110,14 @@ settle_now o up p g rs e h t b begun below settles = by settles
     s = prelude o.who d e.event
 
     rules : Rules o up p g rs e h
-    rules = record {
-      empty = below.empty;
-      legal = below.legal;
-      once = below.once;
-      heeded = and_left (heeds_event g rs p h e.event) (heeds g rs p h) below.heeded;
-      never = λ j r v c. below.never j r v (commit_more j.0 e.rec (records o h) c);
-    }
+    rules = rules_of o up p g rs e h below
 
     old : Accounts o p g rs h
     old = accounts_of o up p g rs h (below_tail o up p g rs e h below)
 
-    tree : (j : BranchKey) (c : Current) (i : BranchId) → (t, b) ≡ j → j ≡ (aaid_of c.key, i) → is_aaid t (aaid_of c.key) ≡ true
-    tree j c i m n = let same : ◌≡◌ {A = BranchKey} (t, b) (aaid_of c.key, i) = m ∙ n in ap (λ (k : BranchKey). is_aaid t k.0) (sym same) ∙ aaid_same t
-
     cleared : (m : MayMark o.who e.event s may_clear p (t, b)) → Clearance m.event (seen o.who m.arcs m.current) p → Opened o p g (e ∷ h) t b
     cleared m (By_word word committing) = Is_clear (completed_word o up p g rs e h rules old (t, b) may_clear m Report.None word committing refl)
-    cleared m (In_rollback roll) = Had_rolled (rolling_here o up e h t below.empty below.legal below.once m.current m.at (tree (t, b) m.current m.branch.id refl m.key) roll)
+    cleared m (In_rollback roll) = Had_rolled (rolling_here o up e h t below.empty below.legal below.once m.current m.at (tree_marked t b m.current m.branch.id m.key) roll)
     cleared m (By_answer c w word found at committing) = answered (replied_by e.event m.current c Report.None (subst (λ (f : TxEvent). IsAsked e.event m.current f) word m.asked))
       where
         by_id : find_branch_by_id m.current.branches c ≡ Some w.branch
@@ -188,28 +130,16 @@ settle_now o up p g rs e h t b begun below settles = by settles
             let id : c ≡ b = sym (id_found m.current.branches c w.branch by_id) ∙ ap (λ (y : Branch). y.id) (sym same) ∙ sym (ap (λ (j : BranchKey). j.1) m.key) in
             let from : w.branch.peer ≡ k.from = addrs_equal w.branch.peer k.from (k.peer w.branch by_id) in
             let one : t ≡ k.tree = ap (λ (j : BranchKey). j.0) m.key ∙ aaids_equal (aaid_of m.current.key) k.tree k.same in
-            Was_told (inl (k.from, k.is ∙ word_is k.from k.tree c one id, ap (λ (y : Addr). y.node) (sym from) ∙ at, ap (is_now t) now ∙ tree (t, b) m.current m.branch.id refl m.key, ap is_committing (phase_at d m.current now) ∙ committing, begun))
+            Was_told (inl (k.from, k.is ∙ word_is k.from k.tree c one id, ap (λ (y : Addr). y.node) (sym from) ∙ at, ap (is_now t) now ∙ tree_marked t b m.current m.branch.id m.key, ap is_committing (phase_at d m.current now) ∙ committing, begun))
           where
             word_is : (a : Addr) (u : Aaid) (i : BranchId) → t ≡ u → i ≡ b → Event.Arrive a (PeerRecord.RecReply u i (RecState.Done Report.None)) ≡ Event.Arrive a (PeerRecord.RecReply t b (RecState.Done Report.None))
             word_is a u i x y = rw (← x, y) refl
 
-    gone : (m : MayMark o.who e.event s may_leave p (t, b)) → (m.event ≡ TxEvent.Took p DialogueRecord.Left) ⊎ (m.event ≡ TxEvent.Took p DialogueRecord.LeftEnd) → g.left t ≡ true
-    gone m (inl w) =
-        let k = took_mark o up p g rs e h rules old DialogueRecord.Left (t, b) may_leave m (λ a x y q. refl) w in
-        left_key o p g rs e.event h DialogueRecord.Left (t, b) k (and_left (not (votes_from k.x k.y p h) && holds_at (keys_to k.x k.y p h) (ends_from k.x k.y p h) g.left) true k.heeded)
-    gone m (inr w) =
-        let k = took_mark o up p g rs e h rules old DialogueRecord.LeftEnd (t, b) may_leave m (λ a x y q. refl) w in
-        left_key o p g rs e.event h DialogueRecord.LeftEnd (t, b) k (and_left (not (votes_from k.x k.y p h) && holds_at (keys_to k.x k.y p h) (ends_from k.x k.y p h) g.left) true k.heeded)
-
-    unchanged_prelude : (f : Event) → is_unchanged f ≡ true → (prelude o.who d f).current ≡ d.current
-    unchanged_prelude (Event.Do Request.Unchanged) u = refl
-    unchanged_prelude f u = absurd (cc (u))
-
     by : SettlesAt o.who e.event (rolls o.who d e.event) s t p b → Opened o p g (e ∷ h) t b
     by (Clear_here m) = cleared m (clearance m.event (seen o.who m.arcs m.current) p m.sets)
-    by (Left_here m) = Is_gone (gone m (leaves_word m.event (seen o.who m.arcs m.current) p m.sets))
+    by (Left_here m) = Is_gone (mark_left o up p g rs e h t b below m (leaves_word m.event (seen o.who m.arcs m.current) p m.sets))
     by (Rolls_here n f) = Had_rolled (rolled_here o up e h t below.legal n f)
-    by (Leaves_here n u) = let now : is_now t d.current ≡ true = ap (is_now t) (sym (unchanged_prelude e.event u)) ∙ n in Had_left (rw (now, u) refl)
+    by (Leaves_here n u) = let now : is_now t d.current ≡ true = ap (is_now t) (sym (unchanged_current o.who d e.event u)) ∙ n in Had_left (rw (now, u) refl)
 
 opened_law : (o : Origin) (up : Option Addr) (p : ℕ) (g : Deeds) (rs : List LogRec) (h : List Entry) (a : Addr) (x y : Mark) (q : ℕ) (t : Aaid) (b : BranchId) (i : Holder) → Below o up p g rs h → a.node ≡ p → HasSent h a (PeerRecord.OnAssoc x y q (DialogueRecord.Begin t b i)) → Opened o p g h t b
 opened_law o up p g rs [] a x y q t b i below at s = absurd s
@@ -230,7 +160,7 @@ opened_law o up p g rs (e ∷ h) a x y q t b i below at s = go s (opened_law o u
     on (inr (inr n)) = Is_damaged (damage_first t e.rec (records o h) (ap (damages_tree t) (ap (λ (v : Entry). v.rec) (sym below.legal.1)) ∙ n))
 
     later : Opened o p g h t b → Opened o p g (e ∷ h) t b
-    later (Still_open n) = elim (open_first o up e h t p b below.legal n) [ inl j ↦ on (k.stays p b j) | inr j ↦ Had_rolled j ]
+    later (Still_open n) = elim (row_first is_clear_branch (λ x. refl) o up e h t p b below.legal n) [ inl j ↦ on (k.stays p b j) | inr j ↦ Had_rolled j ]
     later (Is_gone n) = Is_gone n
     later (Is_clear n) = Is_clear n
     later (Was_told n) = Was_told (inr n)

@@ -50,7 +50,7 @@ use Rattle.tp_histories.proofs.worlds.TreeMembers.{prelude_old}
 use Rattle.tp_histories.proofs.trees.Fated.{fated_law}
 use Rattle.tp_histories.proofs.trees.Above.{IsKeyOf, key_law}
 use Rattle.tp_runs.proofs.Bare.{kept_prelude as tree_prelude}
-use Rattle.tp_agreement.proofs.OwingMoves.{found_key}
+use Rattle.tp_agreement.proofs.OwingMoves.{found_key, kept_noted, kept_unnoted}
 use Rattle.tp_reports.proofs.KeptAbove.{found_above, kept_above}
 use Rattle.tp_histories.proofs.pairs.PairedSteps.{placed_event}
 use Rattle.tp_histories.proofs.log.KeptLog.{kept_prelude}
@@ -58,7 +58,7 @@ use Rattle.tp_steps.proofs.log.SoundMoves.{IsSound}
 use Rattle.tp_histories.proofs.log.SoundLog.{sound_first}
 use Rattle.tp_agreement.proofs.BelowRuns.{TookKey, behind_key, current_took, later_key}
 use Rattle.tp_agreement.proofs.OwingLaw.{kept_none, sound_at, rolled_here, rolled_more, rolling_here}
-use Rattle.tp_reports.proofs.ClearingMoves.{EndsAt, It_rolls, Was_rolling, It_leaves, It_clears, Is_kept, Is_gone, IsClearingMove, clearing_event, keeps_noted, keeps_unnoted, idle_noted, roots_noted}
+use Rattle.tp_reports.proofs.ClearingMoves.{EndsAt, It_rolls, Was_rolling, It_leaves, It_clears, Is_kept, Is_gone, IsClearingMove, clearing_event, idle_noted, roots_noted}
 use Rattle.tp_reports.proofs.ClearedLaw.{damage_is_known, cleared_first, cleared_more, IsCleared, cleared_law}
 
 pub clearing_at : (o : Origin) (up : Option Addr) (e : Entry) (h : List Entry) (t : Aaid) → IsGrown o up (e ∷ h) → IsClearingMove o.who e.event (rolls o.who (digest o h) e.event) (prelude o.who (digest o h) e.event) t (prelude o.who (digest o h) e.event) (action o.who (digest o h) e.event)
@@ -310,7 +310,7 @@ fate_step o up e h t b empty legal once keys before = start before
     was_now n (By_crash is cur) = crashed is cur n
 
     keeps : KeepsAt t d.kept → KeepsAt t s.kept
-    keeps w = keeps_unnoted t s.kept (subst (λ (ks : List Kept). KeepsAt t ks) (sym (kept_prelude o.who d e.event).0) (keeps_noted t d.kept w))
+    keeps w = kept_unnoted (λ x. Unit {0}) (λ x h. h) t s.kept (subst (λ (ks : List Kept). KeepsAt t ks) (sym (kept_prelude o.who d e.event).0) (kept_noted (λ x. Unit {0}) (λ x h. h) t d.kept w))
 
     start : (is_begun_by t e.event ≡ true) ⊎ Fate o up h t b → Fate o up (e ∷ h) t b
     start (inl i) = on (begun_now o.who d e.event t legal.0 i)

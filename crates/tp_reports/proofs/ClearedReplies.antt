@@ -194,7 +194,7 @@ forget_said o up (e ∷ h) z t b empty legal once (inl x) = elim ((clearing_at o
   ]
 ]
 
-bare_none : (k : Known) (r : Report) → k.kept ≡ None → is_report_none r ≡ false → recovery_answer k Question.RecCommit ≡ Some (RecState.Done r) → ⊥
+pub bare_none : (k : Known) (r : Report) → k.kept ≡ None → is_report_none r ≡ false → recovery_answer k Question.RecCommit ≡ Some (RecState.Done r) → ⊥
 unfolding recovery_answer
 bare_none k r n some x = absurd (grind (arith, n, some, x))
 

@@ -1,6 +1,5 @@
 -- How a commitment ends at a node, and what is known of its branches by then: an instance of the steps of a node.
 use Rattle.std.proofs.Common.{if◌then◌else◌, ◌≡◌, ◌≤◌, ◌⊎◌, inl, inr, ℕ, suc, Bool, true, false, refl, ap, sym, subst, ◌∙◌, arith, Option, Some, None, List, [], ◌∷◌, ◌++◌, ◌&&◌, ◌||◌, ◌==◌, not}
-use Rattle.std.proofs.lemmas.Bool.Decides.{nat_tests}
 use Rattle.tp_names.specs.declared.identifiers.Aaid.{Aaid}
 use Rattle.tp_names.specs.declared.identifiers.BranchId.{BranchId}
 use Rattle.tp_names.specs.declared.identifiers.NodeKey.{NodeKey}
@@ -12,24 +11,22 @@ use Rattle.tp_names.specs.Same.{is_aaid, is_key}
 use Rattle.tp_names.specs.Reports.{join, is_report_none}
 use Rattle.tp_records.specs.declared.request.Request.{Request}
 use Rattle.tp_records.specs.declared.indication.Indication.{Indication}
-use Rattle.tp_records.specs.declared.dialogue.DialogueRecord.{DialogueRecord}
 use Rattle.tp_records.specs.declared.peer.PeerRecord.{PeerRecord}
 use Rattle.tp_records.specs.declared.peer.RecState.{RecState}
 use Rattle.tp_logrec.specs.declared.record.LogRec.{LogRec}
 use Rattle.tp_model.specs.declared.arc.Phase.{Phase}
-use Rattle.tp_model.specs.declared.arc.Side.{Side}
 use Rattle.tp_model.specs.declared.transaction.TxEvent.{TxEvent}
 use Rattle.tp_model.specs.declared.transaction.TxOut.{TxOut}
 use Rattle.tp_model.specs.declared.recovery.Kept.{Kept}
 use Rattle.tp_model.specs.declared.recovery.KeptEvent.{KeptEvent}
 use Rattle.tp_model.specs.declared.recovery.Question.{Question}
-use Rattle.tp_model.specs.Parts.{Who, Event, Arc, Key, Root, Branch, Current, Digest}
-use Rattle.tp_model.specs.Dialogues.{is_nil, is_active, is_committing, is_rolling, begun_by, named_holder}
-use Rattle.tp_model.specs.Arcs.{find_arc, with_dialogue}
-use Rattle.tp_model.specs.Transactions.{Row, Transaction, Turn, aaid_of, node_key, find_row, fresh_branch, transacted}
+use Rattle.tp_model.specs.Parts.{Who, Event, Arc, Key, Root, Current, Digest}
+use Rattle.tp_model.specs.Dialogues.{is_nil, is_committing, is_rolling}
+use Rattle.tp_model.specs.Arcs.{find_arc}
+use Rattle.tp_model.specs.Transactions.{Row, Transaction, Turn, aaid_of, node_key, fresh_branch, transacted}
 use Rattle.tp_model.specs.Recovery.{is_commit, find_owed, without_owed, is_nothing_owed, is_root_key, rec_of_done, settled, noted, find_kept, put_kept, with_forget, kept_by, kept_after, not_forgotten, recovery_answer}
 use Rattle.tp_model.specs.Arrivals.{branch_key, named_by_key, named_by_branch, known_of}
-use Rattle.tp_model.specs.Node.{Move, move, followed, perform, next_mark, with_mark_drawn, phase_of, seen, seen_row, seen_rows, fresh_current, remaining, branches_of, Passage, passage, is_leaving, entered, with_begun, may_begin_on, begin_on, keep, turned}
+use Rattle.tp_model.specs.Node.{Move, move, followed, perform, with_mark_drawn, phase_of, seen, fresh_current, remaining, Passage, passage, is_leaving, entered, with_begun, may_begin_on, begin_on, keep, turned}
 use Rattle.tp_model.specs.Events.{refusal, action, decision_of}
 use Rattle.tp_model.specs.Outcomes.{is_now, is_unchanged, rolls}
 use Rattle.tp_histories.specs.Histories.{IsSentIn}
@@ -39,30 +36,27 @@ use Rattle.tp_steps.specs.Steps.{IsNotedBy, next_tree, Steps}
 use Rattle.tp_steps.specs.Passages.{IsLogged}
 use Rattle.tp_steps.specs.Trees.{begins_of, out_tells, IsTreed}
 use Rattle.tp_steps.specs.Traces.{is_old}
-use Rattle.tp_steps.specs.Facts.{BranchKey, find_branch, words_to}
+use Rattle.tp_steps.specs.Facts.{words_to}
 use Rattle.tp_steps.specs.Branches.{may_leave}
 use Rattle.tp_runs.specs.Bare.{keeps_tree}
-use Rattle.tp_agreement.specs.Owing.{is_standing, BeginsTo}
+use Rattle.tp_agreement.specs.Owing.{BeginsTo}
 use Rattle.tp_steps.specs.Clearing.{is_complete_none, damages_tree}
 use Rattle.tp_steps.specs.Owing.{is_damage_rec}
-use Rattle.tp_reports.specs.Clearing.{is_clear_rec, is_keeping_rec, is_idle_rec, decided_by, is_for_rollback, is_clear_branch, may_clear, OpenAt, Settles, Is_clear, Has_left, Rolls, Departs, is_ended_by, IsClearing, ends_tree, notes_forget, keeps_beside, KeepsAt, LetsGo, Forgets, Noted, Beside, Beside_here, OpenRow}
-use Rattle.tp_steps.proofs.lemmas.Equality.{aaids_equal, or_case, and_left, and_right}
+use Rattle.tp_reports.specs.Clearing.{is_clear_rec, is_keeping_rec, is_idle_rec, decided_by, is_for_rollback, is_clear_branch, may_clear, Settles, Is_clear, Has_left, Rolls, Departs, is_ended_by, IsClearing, ends_tree, notes_forget, keeps_beside, KeepsAt, LetsGo, Forgets, Noted, Beside, Beside_here, OpenRow}
+use Rattle.tp_steps.proofs.lemmas.Equality.{or_case, and_left, and_right}
 use Rattle.tp_steps.proofs.log.ApartLog.{keys_equal}
 use Rattle.tp_steps.proofs.log.TurnLog.{key_self}
 use Rattle.tp_steps.proofs.words.Leaves.{aaid_same}
 use Rattle.tp_steps.proofs.log.Owned.{key_aaid}
 use Rattle.tp_steps.proofs.every.EveryMove.{plain_steps}
 use Rattle.tp_steps.proofs.every.EveryEvent.{step_move}
-use Rattle.tp_steps.proofs.every.EveryRecord.{find_arc_is}
 use Rattle.tp_steps.proofs.words.Hushed.{settled_spoken}
 use Rattle.tp_steps.proofs.branches.Rolls.{phase_at, rolls_so}
 use Rattle.tp_steps.proofs.links.Told.{told_append, told_performed, told_played}
 use Rattle.tp_agreement.proofs.Closing.{turned_none}
 use Rattle.tp_histories.proofs.worlds.TreeMembers.{sent_counts}
 use Rattle.tp_agreement.proofs.Marked.{MayMark}
-use Rattle.tp_steps.proofs.words.Heard.{find_last}
-use Rattle.tp_steps.proofs.words.HeardTurned.{seen_find, left_find}
-use Rattle.tp_steps.proofs.log.Sound.{left_is, left_branches}
+use Rattle.tp_steps.proofs.log.Sound.{left_is}
 use Rattle.tp_steps.proofs.log.SoundMoves.{IsSound, IsSoundMove, sound_root, sound_noted, sound_moves}
 use Rattle.tp_steps.proofs.log.Passed.{later_rec}
 use Rattle.tp_histories.proofs.upward.Risen.{unchanged_asked}
@@ -74,9 +68,9 @@ use Rattle.tp_histories.proofs.trees.Late.{late_fresh}
 use Rattle.tp_histories.proofs.trees.Behind.{to_rolling}
 use Rattle.tp_runs.proofs.Bare.{is_of_tree_kept, tree_one, forgotten_tree, among_tree}
 use Rattle.tp_agreement.proofs.OwingTurns.{owing_turn}
-use Rattle.tp_agreement.proofs.OwingMoves.{sent_split, sent_performed, sent_played, carried_is, one_sent, begin_tree, begin_id, put_there, put_other, without_other, IsOfOther, other_logged, found_apart, no_rolling, late_standing, no_begin, spoken_words, no_row, active_standing, settled_silent, settled_key, Same, same_of, begins_split, noted_find}
+use Rattle.tp_agreement.proofs.OwingMoves.{sent_split, sent_performed, sent_played, other_logged, found_apart, no_rolling, late_standing, no_begin, spoken_words, settled_silent, settled_key, Same, same_of, begins_split, kept_other, kept_new, kept_noted, kept_unnoted, row_seen, row_remains, row_marked, row_begun, row_begins}
 use Rattle.tp_reports.proofs.ClearingTurns.{clearing_turn}
-use Rattle.tp_steps.proofs.every.BeginCases.{begun_over, begin_cases}
+use Rattle.tp_steps.proofs.every.BeginCases.{begun_over, begin_cases, next_child, begin_word, begin_arcs}
 use Rattle.tp_steps.proofs.lemmas.EachKept.{IsOne, one_without, one_after, one_noted}
 use Rattle.tp_steps.proofs.lemmas.Options.{some_same}
 use Rattle.tp_steps.proofs.lemmas.KeptList.{noted_key}
@@ -263,20 +257,8 @@ settled_decides k _ u = grind arith
 
 -- ---- a commitment that is kept
 
-keeps_other : (t : Aaid) (ks : List Kept) (k : KeepsAt t ks) (r : Option LogRec) → IsOfOther k.key r → KeepsAt t (kept_after r ks)
-unfolding kept_by
-keeps_other t ks k (Some (LogRec.Damage n j s o r cs)) h = record { key = k.key; kept = k.kept; found = put_other ks (record { node = n; key = j; superior = s; side = o; report = r; owed = cs; forgot = false }) k.key h ∙ k.found; commits = k.commits; tree = k.tree }
-keeps_other t ks k (Some (LogRec.End n j o)) h = record { key = k.key; kept = k.kept; found = without_other ks j k.key h ∙ k.found; commits = k.commits; tree = k.tree }
-keeps_other t ks k _ h = k
-
-keeps_new : (t : Aaid) (ks : List Kept) (n : ℕ) (k : NodeKey) (up : Option Addr) (o : Outcome) (x : Report) (cs : List Child) → is_commit o ≡ true → is_aaid t k.aaid ≡ true → KeepsAt t (kept_after (Some (LogRec.Damage n k up o x cs)) ks)
-unfolding kept_by
-keeps_new t ks n k up o x cs commits tree =
-    let l = put_there ks (record { node = n; key = k; superior = up; side = o; report = x; owed = cs; forgot = false }) in
-    record { key = k; kept = l.kept; found = l.found; commits = ap is_commit l.side ∙ commits; tree = ap (λ (y : NodeKey). is_aaid t y.aaid) l.key ∙ tree }
-
 keeps_by : (t : Aaid) (q n : Transaction) (r : Option LogRec) (ks : List Kept) → IsLogged q r n → is_aaid t (aaid_of q.key) ≡ true → is_keeping_rec r ≡ true → KeepsAt t (kept_after r ks)
-keeps_by t q n (Some (LogRec.Damage m k s o r cs)) ks l h c = keeps_new t ks m k s o r cs c (tree_of t q k l.0 h)
+keeps_by t q n (Some (LogRec.Damage m k s o r cs)) ks l h c = kept_new (λ x. Unit {0}) t ks m k s o r cs c (tree_of t q k l.0 h) (λ y same. tt)
 keeps_by t q n _ ks l h c = absurd (cc (c))
 
 roots_key : (t : Aaid) (b : BranchId) (q n : Transaction) (r : Option LogRec) → IsLogged q r n → roots_rec t b r ≡ true → (is_aaid t (aaid_of q.key) ≡ true) × (is_key (node_key q.key) (branch_key t b) ≡ false)
@@ -285,68 +267,6 @@ roots_key t b q n (Some (LogRec.Damage m k s o r cs)) l h = (tree_back t q k l.0
     not_true : (v : Bool) → not v ≡ true → v ≡ false
     not_true v h = grind (arith, h)
 roots_key t b q n _ l h = absurd (cc (h))
-
-pub keeps_noted : (t : Aaid) (ks : List Kept) → KeepsAt t ks → KeepsAt t (not_forgotten ks)
-keeps_noted t ks k = let found = k.found in record { key = k.key; kept = record k.kept { forgot = false }; found = noted_find ks k.key ∙ rw found refl; commits = k.commits; tree = k.tree }
-
-pub keeps_unnoted : (t : Aaid) (ks : List Kept) → KeepsAt t (not_forgotten ks) → KeepsAt t ks
-keeps_unnoted t ks k = go (find_kept ks k.key) refl
-  where
-    as_noted : elim (find_kept ks k.key) as (λ _. Option Kept) [ None ↦ None | Some x ↦ Some (record x { forgot = false }) ] ≡ Some k.kept
-    as_noted = sym (noted_find ks k.key) ∙ k.found
-
-    go : (o : Option Kept) → find_kept ks k.key ≡ o → KeepsAt t ks
-    go None i = let none : None ≡ Some k.kept = rw i at as_noted in absurd (cc (none))
-    go (Some x) i =
-        let one : ◌≡◌ {A = Option Kept} (Some (record x { forgot = false })) (Some k.kept) = rw i at as_noted in
-        let same : ◌≡◌ {A = Kept} (record x { forgot = false }) k.kept = cc (one) in
-        record {
-          key = k.key;
-          kept = x;
-          found = i;
-          commits = ap (λ (y : Kept). is_commit y.side) same ∙ k.commits;
-          tree = ap (λ (y : Kept). is_aaid t y.key.aaid) same ∙ k.tree;
-        }
-
--- ---- a transaction at its node
-
-open_seen : (who : Who) (arcs : List Arc) (t : Aaid) (p : ℕ) (b : BranchId) (c : Current) → OpenRow t p b (Some c) → OpenAt p b (seen who arcs c)
-open_seen who arcs t p b c k =
-    let one : Some c ≡ Some k.current = k.at in
-    let same : k.current ≡ c = cc (one) in
-    let found : find_branch c.branches p ≡ Some k.branch = ap (λ (x : Current). find_branch x.branches p) (sym same) ∙ k.found in
-    record {
-      row = seen_row arcs k.branch;
-      found = seen_find arcs c.branches p ∙ rw found refl;
-      id = k.id;
-      left = k.left;
-      clear = k.clear;
-      phase = ap (λ (x : Current). is_standing x.phase) (sym same) ∙ k.phase;
-    }
-
-open_remains : (t : Aaid) (p : ℕ) (b : BranchId) (u : Transaction) → is_aaid t (aaid_of u.key) ≡ true → OpenAt p b u → OpenRow t p b (remaining u)
-open_remains t p b u tree st = go (remaining u) refl
-  where
-    off : is_nil u.phase ≡ false
-    off = late_standing u.phase st.phase
-
-    go : (o : Option Current) → remaining u ≡ o → OpenRow t p b o
-    go None i = absurd (grind (arith, i, off))
-    go (Some c) i =
-        let l = left_is u c i in
-        let found = st.found in
-        let row : find_branch (branches_of u.rows) p ≡ Some st.row.branch = left_find u.rows p ∙ rw found refl in
-        record {
-          current = c;
-          at = refl;
-          tree = ap (λ (k : Key). is_aaid t (aaid_of k)) l.0 ∙ tree;
-          phase = ap is_standing l.1 ∙ st.phase;
-          branch = st.row.branch;
-          found = ap (λ (bs : List Branch). find_branch bs p) (left_branches u c i) ∙ row;
-          id = st.id;
-          left = st.left;
-          clear = st.clear;
-        }
 
 -- ---- a step of a node
 
@@ -560,12 +480,12 @@ clearing_turned who e fall s t f d c so now at asked put = record {
     kept : IsSound who d → (k : KeepsAt t d.kept) → KeepsAt t m.next.kept
     kept sound k = elim (owing_turn f q put).logs [
       | inl i ↦ subst (λ (r : Option LogRec). KeepsAt t (kept_after r d.kept)) (sym i) k
-      | inr i ↦ keeps_other t d.kept k a.rec (other_logged q a.rec a.next k.key own.passed.logs (λ same. found_apart d.kept (node_key c.key) k.key k.kept (sound.0 c now (no_rolling c.phase i)) k.found same))
+      | inr i ↦ kept_other (λ x. Unit {0}) t d.kept k a.rec (other_logged q a.rec a.next k.key own.passed.logs (λ same. found_apart d.kept (node_key c.key) k.key k.kept (sound.0 c now (no_rolling c.phase i)) k.found same))
     ]
 
     row : (p : ℕ) (b : BranchId) → OpenRow t p b d.current → OpenRow t p b m.next.current ⊎ SettlesAt who e fall s t p b ⊎ (damages_tree t m.rec ≡ true)
-    row p b k = elim (own.stays p b (open_seen who d.arcs t p b c (subst (λ (o : Option Current). OpenRow t p b o) now k))) [
-      | inl i ↦ inl (open_remains t p b a.next (ap (λ (j : Key). is_aaid t (aaid_of j)) own.passed.key ∙ tree) i)
+    row p b k = elim (own.stays p b (row_seen is_clear_branch who d.arcs t p b c (subst (λ (o : Option Current). OpenRow t p b o) now k))) [
+      | inl i ↦ inl (row_remains is_clear_branch t p b a.next (ap (λ (j : Key). is_aaid t (aaid_of j)) own.passed.key ∙ tree) i)
       | inr i ↦ elim i [ inl j ↦ inr (inl (quits j)) | inr j ↦ inr (inr (damage_tree t q a.next a.rec own.passed.logs tree (keeping a.rec j))) ]
     ]
       where
@@ -584,28 +504,12 @@ clearing_turned who e fall s t f d c so now at asked put = record {
         keeping (Some (LogRec.Commit n j u cs)) h = absurd (cc (h))
         keeping (Some (LogRec.End n j o)) h = absurd (cc (h))
 
-        marked : (may : TxEvent → Transaction → ℕ → Bool) → may f q p ≡ true → MayMark who e s may p (t, b)
-        marked may h = record {
-          current = c;
-          branch = k.branch;
-          at = at;
-          found = ap (λ (x : Current). find_branch x.branches p) (sym same) ∙ k.found;
-          key = pair t (aaid_of c.key) b k.branch.id (aaids_equal t (aaid_of c.key) tree) (sym k.id);
-          event = f;
-          arcs = d.arcs;
-          asked = asked;
-          sets = h;
-        }
-          where
-            pair : (t u : Aaid) (b c : BranchId) → t ≡ u → b ≡ c → ◌≡◌ {A = BranchKey} (t, b) (u, c)
-            pair t u b c i j = rw (i, j) refl
-
         here : is_now t s.current ≡ true
         here = ap (is_now t) at ∙ tree
 
         quits : Settles f q p → SettlesAt who e fall s t p b
-        quits (Is_clear h) = Clear_here (marked may_clear h)
-        quits (Has_left h) = Left_here (marked may_leave h)
+        quits (Is_clear h) = Clear_here (row_marked is_clear_branch who e s d c f t p b now at asked k may_clear h)
+        quits (Has_left h) = Left_here (row_marked is_clear_branch who e s d c f t p b now at asked k may_leave h)
         quits (Rolls h) = Rolls_here here (so h)
         quits (Departs h) = Leaves_here here (unchanged_asked e c (subst (λ (g : TxEvent). IsAsked e c g) (departs_is f h) asked))
 
@@ -641,8 +545,8 @@ done_kept e s t i ks k a b x o is commits tree other = go (find_owed k.owed b)
             noted_or : (v : Bool) → is_key k.key (branch_key t i) ≡ v → LetsGo e s t i ks
             noted_or true m = Noted (found_notes t i ks k.key k is j m)
             noted_or false m = other m
-        on true false j = inl (keeps_new t ks k.node k.key k.superior k.side (join k.report x) (without_owed k.owed b) commits tree)
-        on false w j = inl (keeps_new t ks k.node k.key k.superior k.side (join k.report x) (without_owed k.owed b) commits tree)
+        on true false j = inl (kept_new (λ x. Unit {0}) t ks k.node k.key k.superior k.side (join k.report x) (without_owed k.owed b) commits tree (λ y same. tt))
+        on false w j = inl (kept_new (λ x. Unit {0}) t ks k.node k.key k.superior k.side (join k.report x) (without_owed k.owed b) commits tree (λ y same. tt))
 
 clearing_keep : (who : Who) (e : Event) (fall : Bool) (s : Digest) (t : Aaid) (d : Digest) (k : Kept) (f : KeptEvent) → IsAmong d.kept k → StandsIn d.kept k → IsFound d.kept k → IsSettling e s d k f → IsClearingMove who e fall s t d (keep (settled k f) d)
 clearing_keep who e fall s t d k f among stands found settling = record {
@@ -675,7 +579,7 @@ clearing_keep who e fall s t d k f among stands found settling = record {
     silent z b r w = let h = w.2 in cc (h)
 
     kept : (b : BranchId) (o : KeepsAt t d.kept) (v : Bool) → is_key o.key k.key ≡ v → KeepsAt t (kept_after (settled k f).rec d.kept) ⊎ LetsGo e s t b d.kept
-    kept b o false i = inl (keeps_other t d.kept o (settled k f).rec (settled_key k f o.key (λ eq. cc (i, ap (λ (j : NodeKey). is_key j k.key) (sym eq) ∙ key_self k.key))))
+    kept b o false i = inl (kept_other (λ x. Unit {0}) t d.kept o (settled k f).rec (settled_key k f o.key (λ eq. cc (i, ap (λ (j : NodeKey). is_key j k.key) (sym eq) ∙ key_self k.key))))
     kept b o true i = by f settling
       where
         one : Some o.kept ≡ Some found.0
@@ -713,12 +617,6 @@ clearing_keep who e fall s t d k f among stands found settling = record {
 
 -- ---- Begin
 
-open_more : (p : ℕ) (b : BranchId) (t : Transaction) (x : Row) → OpenAt p b t → OpenAt p b (record t { rows = t.rows ++ x ∷ [] })
-open_more p b t x st = let found = st.found in record { row = st.row; found = find_last t.rows x p ∙ rw found refl; id = st.id; left = st.left; clear = st.clear; phase = st.phase }
-
-open_new : (t : Transaction) (x : Row) (p : ℕ) → find_row t.rows p ≡ None → (x.branch.peer.node == p) ≡ true → x.branch.left ≡ false → is_clear_branch x.branch ≡ false → is_standing t.phase ≡ true → OpenAt p x.branch.id (record t { rows = t.rows ++ x ∷ [] })
-open_new t x p none at left clear phase = record { row = x; found = find_last t.rows x p ∙ rw none (rw at refl); id = refl; left = left; clear = clear; phase = phase }
-
 begun_decision : (who : Who) (d : Digest) (c : Current) (x : Child) → decision_of (with_begun who d c x).current ≡ (if is_nil c.phase then None else c.decision)
 begun_decision who d c x = grind arith
 
@@ -729,13 +627,13 @@ clearing_begins who e fall s t d q = begin_cases (IsClearingMove who e fall s t 
     still = clearing_still who e fall s t d
 
     on : (c : Current) (a : Arc) → d.current ≡ Some c → find_arc d.arcs q ≡ Some a → may_begin_on who d a ≡ true → IsClearingMove who e fall s t d (begun_over who q d c a)
-    on c a now found i = record {
+    on c a now found may = record {
       tells = λ n h. absurd (cc (h, told_performed is_complete_none arcs outs));
       says = λ z b h. absurd (sent_performed arcs outs z (PeerRecord.RecReply t b (RecState.Done Report.None)) refl h);
       spoils = λ z b r some h. absurd (sent_performed arcs outs z (PeerRecord.RecReply t b (RecState.Done r)) refl h);
       forgets = λ z b h. absurd (sent_performed arcs outs z (PeerRecord.Forget t b) refl h);
       clears = λ h. absurd (cc (h));
-      decides = λ late old n next rolling. begun_decision who (with_mark_drawn d) c (record { addr = a.peer; branch = id }) ∙ rw (late c now) (ap decision_of (sym now));
+      decides = λ late old n next rolling. begun_decision who (with_mark_drawn d) c (next_child who d a) ∙ rw (late c now) (ap decision_of (sym now));
       damages = λ late old h k n. absurd (cc (h));
       keeps = λ h. inl h;
       idle = λ h. h;
@@ -745,30 +643,21 @@ clearing_begins who e fall s t d q = begin_cases (IsClearingMove who e fall s t 
       roots = λ b h. inl h;
       over = λ b late old sound n. inl (over (late c now) (ap (is_now t) (sym now) ∙ n));
       kept = λ b sound k. inl k;
-      stays = λ p b k. inl (more p b k);
-      begins = λ p b h. inl (new p b h);
+      stays = λ p b k. inl (row_begun is_clear_branch who q d c a now may t p b k);
+      begins = λ p b h. inl (row_begins is_clear_branch (λ x. refl) who q d c a now found may t p b h);
     }
       where
-        id : BranchId
-        id = record { superior = who.site; mark = next_mark who d }
-
-        word : DialogueRecord
-        word = DialogueRecord.Begin (aaid_of c.key) id (named_holder a.dialogue)
-
         outs : List TxOut
-        outs = TxOut.Carry q word ∷ []
+        outs = TxOut.Carry q (begin_word who d c a) ∷ []
 
         arcs : List Arc
-        arcs = with_dialogue d.arcs q (begun_by (named_holder a.dialogue) Side.Superior)
-
-        m : Move
-        m = perform outs (record (with_begun who (with_mark_drawn d) c (record { addr = a.peer; branch = id })) { arcs = arcs })
+        arcs = begin_arcs q d a
 
         t0 : Transaction
-        t0 = seen who (with_mark_drawn d).arcs c
+        t0 = seen who d.arcs c
 
         x : Row
-        x = record { branch = fresh_branch (record { addr = a.peer; branch = id }); live = true; ends = false }
+        x = record { branch = fresh_branch (next_child who d a); live = true; ends = false }
 
         u : Transaction
         u = record t0 { rows = t0.rows ++ x ∷ [] }
@@ -779,23 +668,6 @@ clearing_begins who e fall s t d q = begin_cases (IsClearingMove who e fall s t 
             go : (o : Option Current) → remaining u ≡ o → is_now t o ≡ true
             go None j = absurd (grind (arith, late, j))
             go (Some y) j = let l = left_is u y j in ap (λ (k : Key). is_aaid t (aaid_of k)) l.0 ∙ tree
-
-        may : (is_active c.phase ≡ true) × (find_row (seen_rows d.arcs c.branches) a.peer.node ≡ None)
-        may = no_row who d a c now (grind (arith, i))
-
-        more : (p : ℕ) (b : BranchId) → OpenRow t p b d.current → OpenRow t p b m.next.current
-        more p b k =
-            let same : k.current ≡ c = some_same k.current c (sym k.at ∙ now) in
-            open_remains t p b u (ap (λ (y : Current). is_aaid t (aaid_of y.key)) (sym same) ∙ k.tree) (open_more p b t0 x (open_seen who d.arcs t p b c (subst (λ (o : Option Current). OpenRow t p b o) now k)))
-
-        new : (p : ℕ) (b : BranchId) → BeginsTo t p b m.outs → OpenRow t p b m.next.current
-        new p b h =
-            let w = carried_is arcs q word h.0 (PeerRecord.OnAssoc h.1 h.2 h.3 (DialogueRecord.Begin t b h.4)) (one_sent arcs q word h.0 (PeerRecord.OnAssoc h.1 h.2 h.3 (DialogueRecord.Begin t b h.4)) h.6) in
-            let tree : t ≡ aaid_of c.key = begin_tree h.1 w.1 h.2 w.2 h.3 w.3 t (aaid_of c.key) b id h.4 (named_holder a.dialogue) w.4 in
-            let same : id ≡ b = begin_id h.1 w.1 h.2 w.2 h.3 w.3 t (aaid_of c.key) b id h.4 (named_holder a.dialogue) w.4 in
-            let here : q ≡ p = sym w.0 ∙ h.5 in
-            let st : OpenAt a.peer.node id u = open_new t0 x a.peer.node may.1 (grind (arith, nat_tests)) refl refl (active_standing c.phase may.0) in
-            open_remains t p b u (ap (λ (y : Aaid). is_aaid y (aaid_of c.key)) tree ∙ aaid_same (aaid_of c.key)) (subst (λ (n : ℕ). OpenAt n b u) ((find_arc_is d.arcs q a found) ∙ here) (subst (λ (v : BranchId). OpenAt a.peer.node v u) same st))
 
 -- ---- chains
 
@@ -1092,7 +964,7 @@ clearing_noted who e fall s t d ks m same noted one = record {
     ends b (Is_gone i) = Is_gone (goes b i)
 
     keeps : KeepsAt t d.kept → KeepsAt t ks
-    keeps k = keeps_unnoted t ks (subst (λ (l : List Kept). KeepsAt t l) (sym same) (keeps_noted t d.kept k))
+    keeps k = kept_unnoted (λ x. Unit {0}) (λ x h. h) t ks (subst (λ (l : List Kept). KeepsAt t l) (sym same) (kept_noted (λ x. Unit {0}) (λ x h. h) t d.kept k))
 
 clearing_root : (who : Who) (e : Event) (fall : Bool) (s : Digest) (t : Aaid) (d : Digest) (m : Move) → is_nil (phase_of d) ≡ true → IsClearingMove who e fall s t (record (with_mark_drawn d) { current = Some (fresh_current (Root (next_tree who d))) }) m → IsClearingMove who e fall s t d m
 clearing_root who e fall s t d m nil one = record {

@@ -17,7 +17,7 @@ use Rattle.tp_model.specs.declared.transaction.TxEvent.{TxEvent}
 use Rattle.tp_model.specs.declared.transaction.TxOut.{TxOut}
 use Rattle.tp_model.specs.Parts.{Key, Root, Under}
 use Rattle.tp_model.specs.Dialogues.{is_nil, is_committing, is_rolling}
-use Rattle.tp_model.specs.Transactions.{Row, Transaction, Turn, turn, and_then, before, aaid_of, is_under_at, is_open_in_commit, find_row, find_row_by_id, with_row, with_arc_lost, all_done, owed_of, report_of_branch, reports_of, own_damage, log_ready, log_end, log_damage, tell_report, forgets, done_up, ends_down, end_up, rollback_rec, complete_commit, complete_rollback, begin_rolling, order, ask_commit, leave, count_branch, end_branch, branch_left, transacted, completion_of}
+use Rattle.tp_model.specs.Transactions.{Row, Transaction, Turn, turn, and_then, before, aaid_of, is_open_in_commit, find_row, find_row_by_id, with_row, all_done, owed_of, report_of_branch, reports_of, own_damage, log_ready, log_end, log_damage, tell_report, forgets, done_up, ends_down, end_up, rollback_rec, complete_commit, complete_rollback, begin_rolling, order, ask_commit, leave, count_branch, end_branch, branch_left, transacted, completion_of}
 use Rattle.tp_steps.specs.Turns.{Turns, vote, decide, shut_given_up, row_dead, falls, is_outcome_told, is_left_word}
 use Rattle.tp_steps.specs.Moves.{IsPut, IsRecoveryIn}
 use Rattle.tp_steps.specs.Passages.{may_move, asks_tell, is_commit_rec, IsPassed}
@@ -30,59 +30,14 @@ use Rattle.tp_reports.specs.Clearing.{is_clear_rec, is_keeping_rec, is_idle_rec,
 use Rattle.tp_steps.proofs.every.EveryTurn.{every_turn}
 use Rattle.tp_steps.proofs.lemmas.Phases.{tell_append}
 use Rattle.tp_steps.proofs.links.Saying.{recovery_append}
-use Rattle.tp_steps.proofs.words.Fair.{row_phase, row_with}
+use Rattle.tp_steps.proofs.words.Fair.{row_phase}
 use Rattle.tp_steps.proofs.words.FairTurns.{lost_phase}
-use Rattle.tp_steps.proofs.words.Leaves.{prepare_row}
 use Rattle.tp_steps.proofs.lemmas.Equality.{or_case}
 use Rattle.tp_steps.proofs.branches.Rowed.{left_may, left_end_may}
 use Rattle.tp_steps.proofs.log.Passed.{passed_turns, later_rec}
 use Rattle.tp_steps.proofs.lemmas.Joined.{IsJoined, joined_up, joined_prepare, joined_forgets, joined_ask, joined_done, joined_report, joined_retried, joined_commit, joined_unrolls, joined_rolls, joined_order, joined_leaves}
 use Rattle.tp_steps.proofs.log.TurnLog.{row_decision, lost_decision}
-
--- ---- rows that stay open
-
-open_same : (p : ℕ) (b : BranchId) (t u : Transaction) → find_row u.rows p ≡ find_row t.rows p → is_standing u.phase ≡ true → OpenAt p b t → OpenAt p b u
-open_same p b t u rows phase st = record { row = st.row; found = rows ∙ st.found; id = st.id; left = st.left; clear = st.clear; phase = phase }
-
--- one row changes, and stays open
-open_row : (p : ℕ) (b : BranchId) (t : Transaction) (q : ℕ) (f : Row → Row) → ((r : Row) → (f r).branch.peer.node ≡ r.branch.peer.node) → ((r : Row) → (f r).branch.id ≡ r.branch.id)
-    → ((r : Row) → (f r).branch.left ≡ r.branch.left) → ((r : Row) → is_clear_branch r.branch ≡ false → is_clear_branch (f r).branch ≡ false) → OpenAt p b t → OpenAt p b (with_row t q f)
-open_row p b t q f peer id left clear st = go (q == p) refl
-  where
-    phase : is_standing (with_row t q f).phase ≡ true
-    phase = ap is_standing (row_phase t q f) ∙ st.phase
-
-    go : (v : Bool) → (q == p) ≡ v → OpenAt p b (with_row t q f)
-    go true i = let found = st.found in record {
-      row = f st.row;
-      found = row_with t q f p peer ∙ rw (i, found) refl;
-      id = id st.row ∙ st.id;
-      left = left st.row ∙ st.left;
-      clear = clear st.row st.clear;
-      phase = phase;
-    }
-    go false i = record { row = st.row; found = row_with t q f p peer ∙ rw i st.found; id = st.id; left = st.left; clear = st.clear; phase = phase }
-
--- one row changes, and the event says so of the branch
-open_or : (p : ℕ) (b : BranchId) (t : Transaction) (q : ℕ) (f : Row → Row) (Q : Type 0) → ((r : Row) → (f r).branch.peer.node ≡ r.branch.peer.node) → (q ≡ p → Q) → OpenAt p b t → OpenAt p b (with_row t q f) ⊎ Q
-open_or p b t q f Q peer quits st = go (q == p) refl
-  where
-    go : (v : Bool) → (q == p) ≡ v → OpenAt p b (with_row t q f) ⊎ Q
-    go true i = inr (quits (grind (arith, nat_tests, i)))
-    go false i = inl (record { row = st.row; found = row_with t q f p peer ∙ rw i st.found; id = st.id; left = st.left; clear = st.clear; phase = ap is_standing (row_phase t q f) ∙ st.phase })
-
-open_lost : (p : ℕ) (b : BranchId) (t : Transaction) (q : ℕ) → OpenAt p b t → OpenAt p b (with_arc_lost t q)
-open_lost p b t q st = go (is_under_at t.key q) refl
-  where
-    go : (v : Bool) → is_under_at t.key q ≡ v → OpenAt p b (with_arc_lost t q)
-    go true i = rw (i, with_arc_lost) (open_same p b t (record t { up = false; up_ends = false }) refl st.phase st)
-    go false i = rw (i, with_arc_lost) (open_row p b t q row_dead (λ r. refl) (λ r. refl) (λ r. refl) (λ r h. h) st)
-
-open_prepared : (p : ℕ) (b : BranchId) (t : Transaction) → OpenAt p b t → OpenAt p b (ask_commit t).next
-unfolding ask_commit
-open_prepared p b t st =
-    let found = st.found in
-    record { row = record st.row { branch = record st.row.branch { prepared = true } }; found = prepare_row p t.rows ∙ rw found refl; id = st.id; left = st.left; clear = st.clear; phase = st.phase }
+use Rattle.tp_agreement.proofs.OwingTurns.{unmarked_same, unmarked_row, unmarked_or, unmarked_lost, unmarked_prepared}
 
 -- ---- what says nothing of an end
 
@@ -228,7 +183,7 @@ clearing_commit e s t passed c = go (not t.owes && all_done t.rows) refl (is_rep
       over = λ late nil. grind arith;
       stays = λ p b st.
           let all : all_done t.rows ≡ true = grind (arith, i) in
-          absurd (cc (st.clear, none_open t.rows p st.row st.found st.left all (join_none (own_damage t.decision) (reports_of t.rows) j).1));
+          absurd (cc (st.off, none_open t.rows p st.row st.found st.left all (join_none (own_damage t.decision) (reports_of t.rows) j).1));
     })
       where
         none : forgets (aaid_of t.key) t.rows ≡ []
@@ -348,10 +303,10 @@ clearing_logs e s t a passed clear damage idle mute same late stays = record {
 
 clearing_order : (e : TxEvent) (s t : Transaction) → IsPassed e s t (order t) → IsClearing e s t (order t)
 unfolding order
-clearing_order e s t passed = clearing_logs e s t (order t) passed refl refl refl (joined_order AreMute mute_joined t refl (λ p. refl)) refl refl (λ p b st. open_same p b t (order t).next refl refl st)
+clearing_order e s t passed = clearing_logs e s t (order t) passed refl refl refl (joined_order AreMute mute_joined t refl (λ p. refl)) refl refl (λ p b st. unmarked_same is_clear_branch p b t (order t).next refl refl st)
 
 clearing_vote : (e : TxEvent) (s t : Transaction) → IsPassed e s t (vote t) → IsClearing e s t (vote t)
-clearing_vote e s t passed = clearing_logs e s t (vote t) passed (clear t.key) (damage t.key) (idle t.key) (joined_up AreMute mute_joined t DialogueRecord.Ready (λ p. refl)) (same t.key) refl (λ p b st. open_same p b t (vote t).next refl refl st)
+clearing_vote e s t passed = clearing_logs e s t (vote t) passed (clear t.key) (damage t.key) (idle t.key) (joined_up AreMute mute_joined t DialogueRecord.Ready (λ p. refl)) (same t.key) refl (λ p b st. unmarked_same is_clear_branch p b t (vote t).next refl refl st)
   where
     clear : (k : Key) → is_clear_rec (log_ready (record t { key = k })) ≡ false
     clear (Root a) = refl
@@ -375,31 +330,31 @@ clearing_leave e s t passed departs = clearing_plain e s t (leave t) passed refl
 
 clearing_ask : (e : TxEvent) (s t : Transaction) → IsPassed e s t (ask_commit t) → IsClearing e s t (ask_commit t)
 unfolding ask_commit
-clearing_ask e s t passed = clearing_same e s t _ _ passed (joined_prepare AreMute mute_joined t.rows (λ p. refl)) refl refl (λ p b st. inl (open_prepared p b t st))
+clearing_ask e s t passed = clearing_same e s t _ _ passed (joined_prepare AreMute mute_joined t.rows (λ p. refl)) refl refl (λ p b st. inl (unmarked_prepared is_clear_branch (λ x. refl) p b t st))
 
 clearing_row : (e : TxEvent) (s t : Transaction) (outs : List TxOut) (q : ℕ) (f : Row → Row) → IsPassed e s t (turn outs (with_row t q f)) → are_mute outs ≡ true → ((p : ℕ) (b : BranchId) → OpenAt p b t → OpenAt p b (with_row t q f) ⊎ Settles e s p) → IsClearing e s t (turn outs (with_row t q f))
 clearing_row e s t outs q f passed mute stays = clearing_same e s t outs (with_row t q f) passed mute (row_decision t q f) (row_phase t q f) stays
 
 clearing_count : (e : TxEvent) (s t : Transaction) (q : ℕ) → IsPassed e s t (count_branch q t) → IsClearing e s t (count_branch q t)
 unfolding count_branch
-clearing_count e s t q passed = clearing_row e s t _ q (λ r. record r { branch = record r.branch { counted = true } }) passed refl (λ p b st. inl (open_row p b t q (λ r. record r { branch = record r.branch { counted = true } }) (λ r. refl) (λ r. refl) (λ r. refl) (λ r h. h) st))
+clearing_count e s t q passed = clearing_row e s t _ q (λ r. record r { branch = record r.branch { counted = true } }) passed refl (λ p b st. inl (unmarked_row is_clear_branch p b t q (λ r. record r { branch = record r.branch { counted = true } }) (λ r. refl) (λ r. refl) (λ r. refl) (λ r h. h) st))
 
 clearing_end : (e : TxEvent) (s t : Transaction) (q : ℕ) (x : Report) → IsPassed e s t (end_branch q x t) → (is_report_none x ≡ true → may_clear e s q ≡ true) → IsClearing e s t (end_branch q x t)
 unfolding end_branch
 clearing_end e s t q x passed may = clearing_row e s t (tell_report q x) q (λ r. record r { branch = record r.branch { ended = true; report = x } }) passed (joined_report AreMute mute_joined q x refl) (go (is_report_none x) refl)
   where
     go : (v : Bool) → is_report_none x ≡ v → (p : ℕ) (b : BranchId) → OpenAt p b t → OpenAt p b (with_row t q (λ r. record r { branch = record r.branch { ended = true; report = x } })) ⊎ Settles e s p
-    go true i p b st = open_or p b t q (λ r. record r { branch = record r.branch { ended = true; report = x } }) (Settles e s p) (λ r. refl) (λ j. Is_clear (subst (λ (n : ℕ). may_clear e s n ≡ true) j (may i))) st
-    go false i p b st = inl (open_row p b t q (λ r. record r { branch = record r.branch { ended = true; report = x } }) (λ r. refl) (λ r. refl) (λ r. refl) (λ r h. i) st)
+    go true i p b st = unmarked_or is_clear_branch p b t q (λ r. record r { branch = record r.branch { ended = true; report = x } }) (Settles e s p) (λ r. refl) (λ j. Is_clear (subst (λ (n : ℕ). may_clear e s n ≡ true) j (may i))) st
+    go false i p b st = inl (unmarked_row is_clear_branch p b t q (λ r. record r { branch = record r.branch { ended = true; report = x } }) (λ r. refl) (λ r. refl) (λ r. refl) (λ r h. i) st)
 
 clearing_left : (e : TxEvent) (s t : Transaction) (q : ℕ) → IsPassed e s t (branch_left q t) → may_leave e s q ≡ true → IsClearing e s t (branch_left q t)
 unfolding branch_left
 clearing_left e s t q passed may =
     clearing_row e s t _ q (λ r. record r { branch = record r.branch { left = true } }) passed refl
-    (λ p b st. open_or p b t q (λ r. record r { branch = record r.branch { left = true } }) (Settles e s p) (λ r. refl) (λ i. Has_left (subst (λ (n : ℕ). may_leave e s n ≡ true) i may)) st)
+    (λ p b st. unmarked_or is_clear_branch p b t q (λ r. record r { branch = record r.branch { left = true } }) (Settles e s p) (λ r. refl) (λ i. Has_left (subst (λ (n : ℕ). may_leave e s n ≡ true) i may)) st)
 
 clearing_shut : (e : TxEvent) (s : Transaction) (q : ℕ) (r : Row) → IsPassed e s s (shut_given_up q r s) → IsClearing e s s (shut_given_up q r s)
-clearing_shut e s q r passed = clearing_row e s s _ q (λ w. record w { branch = record w.branch { given_up = true }; live = false; ends = false }) passed (mute r.live) (λ p b st. inl (open_row p b s q (λ w. record w { branch = record w.branch { given_up = true }; live = false; ends = false }) (λ w. refl) (λ w. refl) (λ w. refl) (λ w h. h) st))
+clearing_shut e s q r passed = clearing_row e s s _ q (λ w. record w { branch = record w.branch { given_up = true }; live = false; ends = false }) passed (mute r.live) (λ p b st. inl (unmarked_row is_clear_branch p b s q (λ w. record w { branch = record w.branch { given_up = true }; live = false; ends = false }) (λ w. refl) (λ w. refl) (λ w. refl) (λ w h. h) st))
   where
     mute : (v : Bool) → are_mute (if v then TxOut.Shut q ∷ [] else []) ≡ true
     mute true = refl
@@ -538,19 +493,19 @@ clearing_turns e s = record {
   first = λ t u outs a one two. clearing_then e s t (turn outs u) a (before outs a) (k.first t u outs a one.passed two.passed) refl refl (inl (refl, refl)) one two;
   chain = λ t a f one two none. clearing_then e s t a (f a.next) (and_then a f) (k.chain t a f one.passed two.passed none) refl refl (later_rec a.rec (f a.next).rec none) one two;
   tells = λ t i n. clearing_same e s t _ t (k.tells t i n) (told_mute i n) refl refl (λ p b st. inl st);
-  notes_prepare = λ cl. clearing_same e s s _ _ (k.notes_prepare cl) refl refl refl (λ p b st. inl (open_same p b s _ refl st.phase st));
-  notes_done = clearing_same e s s _ _ k.notes_done refl refl refl (λ p b st. inl (open_same p b s _ refl st.phase st));
-  notes_end = λ q. clearing_same e s s _ _ (k.notes_end q) refl refl refl (λ p b st. inl (open_same p b s _ refl st.phase st));
-  notes_rollback = λ cl. clearing_same e s s _ _ (k.notes_rollback cl) refl refl refl (λ p b st. inl (open_same p b s _ refl st.phase st));
-  defers_end = λ q. clearing_row e s s _ q _ (k.defers_end q) refl (λ p b st. inl (open_row p b s q (λ r. record r { ends = true }) (λ r. refl) (λ r. refl) (λ r. refl) (λ r h. h) st));
-  defers_grant = λ q. clearing_same e s s _ _ (k.defers_grant q) refl refl refl (λ p b st. inl st);
-  prepares = λ q. clearing_row e s s _ q _ (k.prepares q) refl (λ p b st. inl (open_row p b s q (λ r. record r { branch = record r.branch { prepared = true } }) (λ r. refl) (λ r. refl) (λ r. refl) (λ r h. h) st));
-  asks = λ act asked told. clearing_ask e s s (k.asks act asked told);
+  notes_prepare = λ pr cl. clearing_same e s s _ _ (k.notes_prepare pr cl) refl refl refl (λ p b st. inl (unmarked_same is_clear_branch p b s _ refl st.phase st));
+  notes_done = λ is. clearing_same e s s _ _ (k.notes_done is) refl refl refl (λ p b st. inl (unmarked_same is_clear_branch p b s _ refl st.phase st));
+  notes_end = λ q is. clearing_same e s s _ _ (k.notes_end q is) refl refl refl (λ p b st. inl (unmarked_same is_clear_branch p b s _ refl st.phase st));
+  notes_rollback = λ ro cl. clearing_same e s s _ _ (k.notes_rollback ro cl) refl refl refl (λ p b st. inl (unmarked_same is_clear_branch p b s _ refl st.phase st));
+  defers_end = λ q is. clearing_row e s s _ q _ (k.defers_end q is) refl (λ p b st. inl (unmarked_row is_clear_branch p b s q (λ r. record r { ends = true }) (λ r. refl) (λ r. refl) (λ r. refl) (λ r h. h) st));
+  defers_grant = λ q is. clearing_same e s s _ _ (k.defers_grant q is) refl refl refl (λ p b st. inl st);
+  prepares = λ q. clearing_row e s s _ q _ (k.prepares q) refl (λ p b st. inl (unmarked_row is_clear_branch p b s q (λ r. record r { branch = record r.branch { prepared = true } }) (λ r. refl) (λ r. refl) (λ r. refl) (λ r h. h) st));
+  asks = λ is act asked told. clearing_ask e s s (k.asks is act asked told);
   asks_again = clearing_same e s s _ _ k.asks_again (joined_retried AreMute mute_joined s refl (λ a b z i. refl) (λ c. joined_ask AreMute mute_joined (aaid_of s.key) s.rows (λ z b. refl))) refl refl (λ p b st. inl st);
-  decides = λ o is ready. clearing_logs e s s (decide o s) (k.decides o is ready) refl refl refl refl refl (grind (arith, ready)) (λ p b st. open_same p b s (decide o s).next refl st.phase st);
-  aborts = λ q. clearing_same e s s _ _ (k.aborts q) refl (lost_decision s q) (lost_phase s q) (λ p b st. inl (open_lost p b s q st));
-  loses_arc = λ q gone. clearing_same e s s _ _ (k.loses_arc q gone) refl (lost_decision s q) (lost_phase s q) (λ p b st. inl (open_lost p b s q st));
-  closes_left = λ q is. clearing_row e s s _ q row_dead (k.closes_left q is) refl (λ p b st. inl (open_row p b s q row_dead (λ r. refl) (λ r. refl) (λ r. refl) (λ r h. h) st));
+  decides = λ o is ready. clearing_logs e s s (decide o s) (k.decides o is ready) refl refl refl refl refl (grind (arith, ready)) (λ p b st. unmarked_same is_clear_branch p b s (decide o s).next refl st.phase st);
+  aborts = λ q is. clearing_same e s s _ _ (k.aborts q is) refl (lost_decision s q) (lost_phase s q) (λ p b st. inl (unmarked_lost is_clear_branch p b s q st));
+  loses_arc = λ q gone. clearing_same e s s _ _ (k.loses_arc q gone) refl (lost_decision s q) (lost_phase s q) (λ p b st. inl (unmarked_lost is_clear_branch p b s q st));
+  closes_left = λ q is. clearing_row e s s _ q row_dead (k.closes_left q is) refl (λ p b st. inl (unmarked_row is_clear_branch p b s q row_dead (λ r. refl) (λ r. refl) (λ r. refl) (λ r h. h) st));
   gives_up = λ q r is c found. clearing_shut e s q r (k.gives_up q r is c found);
   counts = λ q is act row. clearing_count e s s q (k.counts q is act row);
   ends_done = λ q r is c row. clearing_end e s s q r (k.ends_done q r is c row) (done_clear e s q r is c);

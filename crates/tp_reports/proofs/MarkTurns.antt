@@ -157,17 +157,17 @@ marked_turns e s = record {
         (marked_then n a.rec (f a.next).rec x.0 y.0, marked_more n a.outs (f a.next).outs x.1 y.1),
   );
   tells = λ t i off. (kin_of.tells t i off, λ n h. (refl, refl));
-  notes_prepare = λ c. (kin_of.notes_prepare c, λ n h. (refl, refl));
-  notes_done = (kin_of.notes_done, λ n h. (refl, refl));
-  notes_end = λ q. (kin_of.notes_end q, λ n h. (refl, refl));
-  notes_rollback = λ c. (kin_of.notes_rollback c, λ n h. (refl, refl));
-  defers_end = λ q. (kin_of.defers_end q, λ n h. (refl, refl));
-  defers_grant = λ q. (kin_of.defers_grant q, λ n h. (refl, refl));
+  notes_prepare = λ pr c. (kin_of.notes_prepare pr c, λ n h. (refl, refl));
+  notes_done = λ is. ((kin_of.notes_done is), λ n h. (refl, refl));
+  notes_end = λ q is. (kin_of.notes_end q is, λ n h. (refl, refl));
+  notes_rollback = λ ro c. (kin_of.notes_rollback ro c, λ n h. (refl, refl));
+  defers_end = λ q is. (kin_of.defers_end q is, λ n h. (refl, refl));
+  defers_grant = λ q is. (kin_of.defers_grant q is, λ n h. (refl, refl));
   prepares = λ q. (kin_of.prepares q, λ n h. (refl, refl));
-  asks = λ act asked told. (kin_of.asks act asked told, λ n h. (refl, joined_prepare (Asks n) (asks_joined n) s.rows (λ q. refl)));
+  asks = λ is act asked told. (kin_of.asks is act asked told, λ n h. (refl, joined_prepare (Asks n) (asks_joined n) s.rows (λ q. refl)));
   asks_again = (kin_of.asks_again, λ n h. (refl, joined_retried (Asks n) (asks_joined n) s refl (λ a b z k. refl) (λ c. asks_each n (aaid_of s.key) s.rows h)));
   decides = λ o is ready. (kin_of.decides o is ready, λ n h. (refl, refl));
-  aborts = λ q. (kin_of.aborts q, λ n h. (refl, refl));
+  aborts = λ q is. (kin_of.aborts q is, λ n h. (refl, refl));
   loses_arc = λ q gone. (kin_of.loses_arc q gone, λ n h. (refl, refl));
   closes_left = λ q is. (kin_of.closes_left q is, λ n h. (refl, refl));
   gives_up = λ q r is c found. (kin_of.gives_up q r is c found, λ n h. (refl, grind arith));

@@ -3,7 +3,6 @@
 use Rattle.std.specs.Prelude.{ℕ, ◌==◌, ◌≡◌, ◌⊎◌, ◌&&◌, ◌||◌, not, Bool, true, false, Option, Some, None, List, [], ◌∷◌}
 use Rattle.tp_names.specs.declared.identifiers.Aaid.{Aaid}
 use Rattle.tp_names.specs.declared.identifiers.BranchId.{BranchId}
-use Rattle.tp_names.specs.declared.identifiers.NodeKey.{NodeKey}
 use Rattle.tp_names.specs.declared.identifiers.Addr.{Addr}
 use Rattle.tp_names.specs.declared.outcome.Outcome.{Outcome}
 use Rattle.tp_names.specs.declared.outcome.Report.{Report}
@@ -17,8 +16,8 @@ use Rattle.tp_model.specs.declared.transaction.TxEvent.{TxEvent}
 use Rattle.tp_model.specs.declared.recovery.Kept.{Kept}
 use Rattle.tp_model.specs.Parts.{Event, Branch, Current, Digest}
 use Rattle.tp_model.specs.Dialogues.{is_nil, is_committing, is_rolling}
-use Rattle.tp_model.specs.Transactions.{Row, Transaction, Turn, aaid_of, node_key, find_row, find_row_by_id, is_open_in_commit}
-use Rattle.tp_model.specs.Recovery.{is_commit, find_kept}
+use Rattle.tp_model.specs.Transactions.{Transaction, Turn, aaid_of, node_key, find_row_by_id, is_open_in_commit}
+use Rattle.tp_model.specs.Recovery.{is_commit}
 use Rattle.tp_model.specs.Arrivals.{branch_key}
 use Rattle.tp_model.specs.Node.{is_leaving}
 use Rattle.tp_steps.specs.Turns.{falls}
@@ -26,8 +25,7 @@ use Rattle.tp_steps.specs.Moves.{IsRecoveryIn}
 use Rattle.tp_steps.specs.Passages.{asks_tell, IsPassed}
 use Rattle.tp_steps.specs.Branches.{may_leave}
 use Rattle.tp_steps.specs.Owing.{is_damage_rec}
-use Rattle.tp_agreement.specs.Owing.{is_standing}
-use Rattle.tp_steps.specs.Facts.{find_branch}
+use Rattle.tp_agreement.specs.Owing.{UnmarkedAt, UnmarkedRow, KeptWith}
 use Rattle.tp_steps.specs.Clearing.{is_complete_none, has_damage}
 
 -- the record ends a commitment
@@ -84,13 +82,8 @@ may_clear (TxEvent.Reply b (RecState.Done r)) s p = is_report_none r && elim (fi
 may_clear _ s p = false
 
 -- the branch with the peer has the identifier, and has neither left nor is it done with no report
-pub record OpenAt (p : ℕ) (b : BranchId) (t : Transaction) : Type 0 where
-  pub row : Row
-  pub found : find_row t.rows p ≡ Some row
-  pub id : row.branch.id ≡ b
-  pub left : row.branch.left ≡ false
-  pub clear : is_clear_branch row.branch ≡ false
-  pub phase : is_standing t.phase ≡ true
+abbrev pub OpenAt : ℕ → BranchId → Transaction → Type 0
+OpenAt p b t = UnmarkedAt is_clear_branch p b t
 
 -- what ends that: its Done with no report, or its Left; or the transaction rolls or leaves
 pub data Settles (e : TxEvent) (s : Transaction) (p : ℕ) : Type 0 where
@@ -144,12 +137,8 @@ keeps_beside t b [] = false
 keeps_beside t b (k ∷ ks) = (not (is_key k.key (branch_key t b)) && is_aaid t k.key.aaid) || keeps_beside t b ks
 
 -- a commitment of the tree is kept
-pub record KeepsAt (t : Aaid) (ks : List Kept) : Type 0 where
-  pub key : NodeKey
-  pub kept : Kept
-  pub found : find_kept ks key ≡ Some kept
-  pub commits : is_commit kept.side ≡ true
-  pub tree : is_aaid t kept.key.aaid ≡ true
+abbrev pub KeepsAt : Aaid → List Kept → Type 0
+KeepsAt t ks = KeptWith (λ k. Unit {0}) t ks
 
 -- what lets it go: a Forget of the branch that is taken or was noted, or it has another key of the tree
 pub data LetsGo (e : Event) (s : Digest) (t : Aaid) (b : BranchId) (ks : List Kept) : Type 0 where
@@ -159,13 +148,5 @@ pub data LetsGo (e : Event) (s : Digest) (t : Aaid) (b : BranchId) (ks : List Ke
   Beside_here : (c : Current) → s.current ≡ Some c → is_aaid t (aaid_of c.key) ≡ true → is_key (node_key c.key) (branch_key t b) ≡ false → LetsGo e s t b ks
 
 -- the tree is current and stands, and the branch has neither left nor is it done with no report
-pub record OpenRow (t : Aaid) (p : ℕ) (b : BranchId) (o : Option Current) : Type 0 where
-  pub current : Current
-  pub at : o ≡ Some current
-  pub tree : is_aaid t (aaid_of current.key) ≡ true
-  pub phase : is_standing current.phase ≡ true
-  pub branch : Branch
-  pub found : find_branch current.branches p ≡ Some branch
-  pub id : branch.id ≡ b
-  pub left : branch.left ≡ false
-  pub clear : is_clear_branch branch ≡ false
+abbrev pub OpenRow : Aaid → ℕ → BranchId → Option Current → Type 0
+OpenRow t p b o = UnmarkedRow is_clear_branch t p b o

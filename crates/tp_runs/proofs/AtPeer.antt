@@ -235,17 +235,6 @@ parts_none g s h = sym (none_more g s.0 s.1) ∙ h
 
 -- ---- a property that is given
 
--- all arcs to the peer get the property
-pub chosen_part : (g : Dialogue → Bool) (p : ℕ) (arcs : List Arc) (t : Arc → Bool) (f : Arc → Dialogue) → ((a : Arc) → a.peer.node ≡ p → (t a ≡ true) × (g (f a) ≡ true)) → is_live_with_peer (with_dialogues arcs t f) p ≡ true → part_at g p (with_dialogues arcs t f) ≡ true
-chosen_part g p [] t f k live = absurd cc
-chosen_part g p (a ∷ arcs) t f k live = go (a.peer.node == p) refl (t a) refl (chosen_part g p arcs t f k) live
-  where
-    go : (v : Bool) → (a.peer.node == p) ≡ v → (b : Bool) → t a ≡ b → (is_live_with_peer (with_dialogues arcs t f) p ≡ true → part_at g p (with_dialogues arcs t f) ≡ true) → is_live_with_peer ((if b then record a { dialogue = f a } else a) ∷ with_dialogues arcs t f) p ≡ true → part_at g p ((if b then record a { dialogue = f a } else a) ∷ with_dialogues arcs t f) ≡ true
-    go true i true j rest l = let at : a.peer.node ≡ p = grind (arith, nat_tests, i) in rw (i, part_at) (k a at).1
-    go true i false j rest l = let at : a.peer.node ≡ p = grind (arith, nat_tests, i) in absurd (let on : t a ≡ true = (k a at).0 in cc (on, j))
-    go false i true j rest l = let more : is_live_with_peer (with_dialogues arcs t f) p ≡ true = rw (i, is_live_with_peer) at l in rw (i, part_at) (rest more)
-    go false i false j rest l = let more : is_live_with_peer (with_dialogues arcs t f) p ≡ true = rw (i, is_live_with_peer) at l in rw (i, part_at) (rest more)
-
 -- ---- what comes first in an event: a link that becomes live has a fresh dialogue
 
 abbrev pub IsFirst : (Dialogue → Bool) → ℕ → List Arc → List Arc → Type 0

@@ -5,23 +5,21 @@ use Rattle.tp_names.specs.declared.identifiers.Mark.{Mark}
 use Rattle.tp_names.specs.declared.identifiers.Aaid.{Aaid}
 use Rattle.tp_names.specs.declared.identifiers.BranchId.{BranchId}
 use Rattle.tp_names.specs.declared.identifiers.Addr.{Addr}
-use Rattle.tp_names.specs.declared.children.Child.{Child}
 use Rattle.tp_names.specs.Same.{is_aaid, is_name}
 use Rattle.tp_records.specs.declared.dialogue.DialogueRecord.{DialogueRecord}
 use Rattle.tp_records.specs.declared.dialogue.Holder.{Holder}
 use Rattle.tp_records.specs.declared.peer.PeerRecord.{PeerRecord}
-use Rattle.tp_model.specs.declared.arc.Side.{Side}
 use Rattle.tp_model.specs.declared.transaction.TxEvent.{TxEvent}
 use Rattle.tp_model.specs.declared.transaction.TxOut.{TxOut}
 use Rattle.tp_model.specs.declared.recovery.Kept.{Kept}
 use Rattle.tp_model.specs.declared.recovery.KeptEvent.{KeptEvent}
 use Rattle.tp_model.specs.Parts.{Who, Origin, Event, Entry, Arc, Key, Root, Under, Current, Digest}
 use Rattle.tp_model.specs.Links.{is_live}
-use Rattle.tp_model.specs.Dialogues.{is_nil, begun_by, named_holder}
-use Rattle.tp_model.specs.Arcs.{find_arc, link_with, with_dialogue}
+use Rattle.tp_model.specs.Dialogues.{is_nil}
+use Rattle.tp_model.specs.Arcs.{find_arc, link_with}
 use Rattle.tp_model.specs.Transactions.{Transaction, Turn, aaid_of, transacted, sight_of_tx}
 use Rattle.tp_model.specs.Recovery.{settled}
-use Rattle.tp_model.specs.Node.{Move, move, followed, perform, next_mark, with_mark_drawn, seen, turned, fresh_current, with_begun, may_begin_on, begin_on, keep, remaining}
+use Rattle.tp_model.specs.Node.{Move, move, followed, perform, next_mark, with_mark_drawn, seen, turned, fresh_current, may_begin_on, begin_on, keep, remaining}
 use Rattle.tp_model.specs.Events.{refusal, action}
 use Rattle.tp_model.specs.History.{digest}
 use Rattle.tp_model.specs.Outcomes.{is_now, is_member}
@@ -55,7 +53,7 @@ use Rattle.tp_histories.proofs.trees.Above.{IsKeyOf, key_law, recovered_key}
 use Rattle.tp_histories.proofs.worlds.Unique.{TookOn, took_has, took_begin}
 use Rattle.tp_histories.proofs.upward.Risen.{begun_current}
 use Rattle.tp_histories.proofs.worlds.Good.{good_run, Sender, was_sent}
-use Rattle.tp_steps.proofs.every.BeginCases.{begun_over, begin_cases}
+use Rattle.tp_steps.proofs.every.BeginCases.{begun_over, begin_cases, begin_word, begin_arcs, next_child}
 use Rattle.tp_steps.proofs.lemmas.Options.{some_same}
 use Rattle.tp_steps.proofs.log.NextTurns.{addr_self}
 
@@ -135,30 +133,21 @@ staying_begins who e t p q s d = begin_cases (IsStaying e t p s d) who q d still
 
     on : (c : Current) (a : Arc) → d.current ≡ Some c → find_arc d.arcs q ≡ Some a → may_begin_on who d a ≡ true → IsStaying e t p s d (begun_over who q d c a)
     on c a now found may = record {
-      late = λ l. late_remaining (transacted (TxEvent.Begun (child ∷ [])) (seen who (with_mark_drawn d).arcs c)).next;
+      late = λ l. late_remaining (transacted (TxEvent.Begun (next_child who d a ∷ [])) (seen who (with_mark_drawn d).arcs c)).next;
       stays = λ l n w. same_tree l (ap (is_now t) (sym now) ∙ n);
-      begins = λ l b. inl (same_tree l (begun (is_live (link_with arcs p)) (subst (λ (ws : List DialogueRecord). suc 0 ≤ begins_of t ws) agrees.words b)));
+      begins = λ l b. inl (same_tree l (begun (is_live (link_with (begin_arcs q d a) p)) (subst (λ (ws : List DialogueRecord). suc 0 ≤ begins_of t ws) agrees.words b)));
     }
       where
-        child : Child
-        child = record { addr = a.peer; branch = record { superior = who.site; mark = next_mark who d } }
-
-        word : DialogueRecord
-        word = DialogueRecord.Begin (aaid_of c.key) (record { superior = who.site; mark = next_mark who d }) (named_holder a.dialogue)
-
-        arcs : List Arc
-        arcs = with_dialogue d.arcs q (begun_by (named_holder a.dialogue) Side.Superior)
-
         m : Move
-        m = perform (TxOut.Carry q word ∷ []) (record (with_begun who (with_mark_drawn d) c (record { addr = a.peer; branch = record { superior = who.site; mark = next_mark who d } })) { arcs = arcs })
+        m = begun_over who q d c a
 
-        agrees : Agrees p (is_live (link_with arcs p)) (TxOut.Carry q word ∷ []) m.outs (is_live (link_with m.next.arcs p))
-        agrees = agrees_performed arcs (TxOut.Carry q word ∷ []) p refl
+        agrees : Agrees p (is_live (link_with (begin_arcs q d a) p)) (TxOut.Carry q (begin_word who d c a) ∷ []) m.outs (is_live (link_with m.next.arcs p))
+        agrees = agrees_performed (begin_arcs q d a) (TxOut.Carry q (begin_word who d c a) ∷ []) p refl
 
-        begun : (b : Bool) → suc 0 ≤ begins_of t (spoken b p (TxOut.Carry q word ∷ [])) → is_aaid t (aaid_of c.key) ≡ true
+        begun : (b : Bool) → suc 0 ≤ begins_of t (spoken b p (TxOut.Carry q (begin_word who d c a) ∷ [])) → is_aaid t (aaid_of c.key) ≡ true
         begun b h = pick (is_aaid t (aaid_of c.key)) refl
           where
-            none_begun : is_aaid t (aaid_of c.key) ≡ false → begins_of t (spoken b p (TxOut.Carry q word ∷ [])) ≡ 0
+            none_begun : is_aaid t (aaid_of c.key) ≡ false → begins_of t (spoken b p (TxOut.Carry q (begin_word who d c a) ∷ [])) ≡ 0
             none_begun i = grind (arith, i)
 
             pick : (v : Bool) → is_aaid t (aaid_of c.key) ≡ v → is_aaid t (aaid_of c.key) ≡ true

@@ -3,7 +3,6 @@
 use Rattle.std.proofs.Common.{if◌then◌else◌, ◌≡◌, ◌≤◌, ◌⊎◌, inl, inr, ℕ, suc, Bool, true, false, refl, ap, sym, subst, ◌∙◌, arith, Option, Some, None, List, [], ◌∷◌}
 use Rattle.tp_names.specs.declared.identifiers.Addr.{Addr}
 use Rattle.tp_names.specs.declared.identifiers.NodeKey.{NodeKey}
-use Rattle.tp_names.specs.declared.outcome.Report.{Report}
 use Rattle.tp_records.specs.declared.request.Request.{Request}
 use Rattle.tp_records.specs.declared.dialogue.DialogueRecord.{DialogueRecord}
 use Rattle.tp_records.specs.declared.peer.PeerRecord.{PeerRecord}
@@ -15,7 +14,7 @@ use Rattle.tp_model.specs.Parts.{Who, Origin, Event, Entry, Arc, Key, Root, Curr
 use Rattle.tp_model.specs.Dialogues.{is_nil, begun_by, named_holder}
 use Rattle.tp_model.specs.Arcs.{find_arc, without_arc, with_dialogue}
 use Rattle.tp_model.specs.Recovery.{settled}
-use Rattle.tp_model.specs.Transactions.{Row, Transaction, Turn, aaid_of, node_key, with_row, with_arc_lost, complete_commit, complete_rollback, begin_rolling, order, settle, ask_commit, leave, count_branch, end_branch, branch_left, transacted}
+use Rattle.tp_model.specs.Transactions.{Transaction, aaid_of, node_key, order, settle, ask_commit, transacted}
 use Rattle.tp_model.specs.Node.{Move, move, followed, perform, next_mark, with_mark_drawn, seen, remaining, with_begun, may_begin_on, begin_on, is_over, is_leaving, passage, try_start, transact, fresh_current, turned, keep, started_next}
 use Rattle.tp_model.specs.Outcomes.{is_commit_request}
 use Rattle.tp_model.specs.Keys.{takes_begin, asked_in}
@@ -23,12 +22,10 @@ use Rattle.tp_model.specs.History.{digest}
 use Rattle.tp_model.specs.Events.{refusal, action}
 use Rattle.tp_histories.specs.KnownTests.{same_bool}
 use Rattle.tp_model.specs.Legal.{IsLegal}
-use Rattle.tp_steps.specs.Turns.{row_dead}
-use Rattle.tp_steps.specs.TurnSteps.{TurnSteps}
 use Rattle.tp_steps.specs.Moves.{Moves, IsPut, IsAsked, prelude}
 use Rattle.tp_steps.specs.Traces.{is_old}
 use Rattle.tp_runs.specs.Known.{asked_agrees}
-use Rattle.tp_steps.proofs.every.EveryTurn.{step_turn}
+use Rattle.tp_steps.proofs.every.EveryTurn.{every_turn}
 use Rattle.tp_steps.proofs.every.EveryMove.{plain_steps, step_start}
 use Rattle.tp_steps.proofs.every.EveryEvent.{every_move}
 use Rattle.tp_steps.proofs.links.Marks.{new_mark, Drawn, Same_boot, Later_boot, old_stays}
@@ -40,81 +37,15 @@ use Rattle.tp_histories.proofs.known.KnownPlain.{bool_self}
 use Rattle.tp_runs.proofs.KnownBranches.{no_both}
 use Rattle.tp_runs.proofs.KnownFlags.{IsNew, IsStep, IsFlag, flag_law}
 use Rattle.tp_steps.proofs.every.BeginCases.{begun_over, begin_cases}
-
--- ---- a turn: whether it was asked changes by the user's request alone
-
-abbrev IsSame : Transaction → Turn → Type 0
-IsSame t a = a.next.asked ≡ t.asked
-
-same_row : (t : Transaction) (q : ℕ) (f : Row → Row) → (with_row t q f).asked ≡ t.asked
-same_row t q f = grind arith
-
-same_lost : (t : Transaction) (q : ℕ) → (with_arc_lost t q).asked ≡ t.asked
-same_lost t q = grind (arith, same_row)
-
-same_order : (t : Transaction) → IsSame t (order t)
-unfolding order
-same_order t = refl
-
-same_rolls : (asked : Bool) (t : Transaction) → IsSame t (begin_rolling asked t)
-unfolding begin_rolling
-same_rolls asked t = refl
-
-same_completes : (t : Transaction) → IsSame t (complete_commit t)
-unfolding complete_commit
-same_completes t = grind arith
-
-same_unrolls : (t : Transaction) → IsSame t (complete_rollback t)
-unfolding complete_rollback
-same_unrolls t = grind arith
-
-same_settles : (t : Transaction) → IsSame t (settle t)
-unfolding settle
-same_settles t = grind (arith, same_order)
-
-same_turns : (e : TxEvent) (s : Transaction) → (e ≡ TxEvent.User Request.Commit → ⊥) → TurnSteps e s IsSame
-unfolding ask_commit leave count_branch end_branch branch_left
-same_turns e s off = record {
-  still = λ t. refl;
-  first = λ t u outs a one two. two ∙ one;
-  chain = λ t a f one two none. two ∙ one;
-  tells = λ t i n. refl;
-  notes_prepare = λ pr h. refl;
-  notes_done = λ is. refl;
-  notes_end = λ q is. refl;
-  notes_rollback = λ ro h. refl;
-  defers_end = λ q is. same_row s q (λ r. record r { ends = true });
-  defers_grant = λ q is. refl;
-  prepares = λ q. same_row s q (λ r. record r { branch = record r.branch { prepared = true } });
-  asks = λ is act asked told. absurd (off is);
-  asks_again = refl;
-  decides = λ o is ready. refl;
-  aborts = λ q is. same_lost s q;
-  loses_arc = λ q gone. same_lost s q;
-  closes_left = λ q is. same_row s q row_dead;
-  gives_up = λ q r is c found. same_row s q (λ w. record w { branch = record w.branch { given_up = true }; live = false; ends = false });
-  counts = λ q is act row. same_row s q (λ r. record r { branch = record r.branch { counted = true } });
-  ends_done = λ q r is c row. same_row s q (λ w. record w { branch = record w.branch { ended = true; report = r } });
-  ends_replied = λ b w r is found o. same_row s w.branch.peer.node (λ v. record v { branch = record v.branch { ended = true; report = r } });
-  ends_rolled = λ q r is c row. same_row s q (λ w. record w { branch = record w.branch { ended = true; report = r } });
-  leaves_below = λ q w t is left at act. same_row t q (λ v. record v { branch = record v.branch { left = true } });
-  leaves_rolling = λ q w t is left at c. same_row t q (λ v. record v { branch = record v.branch { ended = true; report = Report.None } });
-  votes = λ t act asked all under. refl;
-  orders_root = λ t act asked all root. same_order t;
-  orders_ready = λ ready is. same_order s;
-  rolls = λ t asked f ok. same_rolls asked t;
-  completes_commit = λ t c. same_completes t;
-  completes_rollback = λ t c. same_unrolls t;
-  leaves = λ is act under asked all. refl;
-}
+use Rattle.tp_runs.proofs.FlagTurns.{IsFlagTurn, kept_settles, flag_turns}
 
 commit_asks : (t : Transaction) → (transacted (TxEvent.User Request.Commit) t).next.asked ≡ true
 unfolding ask_commit
-commit_asks t = same_settles (ask_commit t).next
+commit_asks t = (kept_settles (ask_commit t).next).0
 
 -- ---- of what is known of a node
 
-left_asked : (t : Transaction) (u : Current) → remaining t ≡ Some u → u.asked ≡ t.asked
+pub left_asked : (t : Transaction) (u : Current) → remaining t ≡ Some u → u.asked ≡ t.asked
 left_asked t u i = go (is_nil t.phase) refl
   where
     go : (b : Bool) → is_nil t.phase ≡ b → u.asked ≡ t.asked
@@ -179,7 +110,7 @@ carried_turned who e s off f d c now asked put after = (
   on after,
   λ u is.
       let t : Transaction = seen who d.arcs c in
-      inl (c, now, (left_is (transacted f t).next u is).0 ∙ (passed_turn f t put).key, left_asked (transacted f t).next u is ∙ step_turn f t IsSame (same_turns f t (commits_so e c f off asked)) put),
+      inl (c, now, (left_is (transacted f t).next u is).0 ∙ (passed_turn f t put).key, left_asked (transacted f t).next u is ∙ (every_turn f t (IsFlagTurn f t) (flag_turns f t) put).0 (commits_so e c f off asked)),
 )
   where
     on : Drawn s d → Drawn s (turned who f d c).next

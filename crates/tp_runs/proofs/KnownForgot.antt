@@ -495,11 +495,11 @@ kept_agrees_law o up h legal =
 
 -- ---- known from the log
 
-begun_known : (who : Who) (q : ℕ) (d : Digest) → (begin_on who q d).next.known ≡ d.known
+pub begun_known : (who : Who) (q : ℕ) (d : Digest) → (begin_on who q d).next.known ≡ d.known
 unfolding begin_on
 begun_known who q d = grind arith
 
-known_moves : (who : Who) (e : Event) (s : Digest) → Moves who e s (λ d m. m.next.known ≡ d.known)
+pub known_moves : (who : Who) (e : Event) (s : Digest) → Moves who e s (λ d m. m.next.known ≡ d.known)
 known_moves who e s = record {
   still = λ d. refl;
   chain = λ d a f one two quiet. two ∙ one;

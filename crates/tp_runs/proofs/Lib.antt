@@ -15,6 +15,7 @@ pub mod RollsBy
 pub mod KnownKeys
 pub mod KnownBranches
 pub mod KnownFlags
+pub mod FlagTurns
 pub mod KnownAsked
 pub mod AtPeer
 pub mod RootTrees

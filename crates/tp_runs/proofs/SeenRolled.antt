@@ -34,7 +34,7 @@ use Rattle.std.proofs.lemmas.Bool.{or_left, or_right}
 
 -- ---- every entry
 
-rolls_stays : (who : Who) (d : Digest) (e : Event) → rolls who d e ≡ true → is_unchanged e ≡ false
+pub rolls_stays : (who : Who) (d : Digest) (e : Event) → rolls who d e ≡ true → is_unchanged e ≡ false
 rolls_stays who d (Event.Do Request.Unchanged) h = absurd (cc (h))
 rolls_stays who d e h = refl
 

@@ -34,11 +34,11 @@ use Rattle.tp_steps.proofs.lemmas.Words.{commit_more}
 use Rattle.tp_steps.proofs.lemmas.Options.{some_same}
 use Rattle.tp_steps.proofs.log.Owned.{key_aaid}
 
-commit_tells : (outs : List Out) → tells_commit outs ≡ out_tells is_commit_told outs
+pub commit_tells : (outs : List Out) → tells_commit outs ≡ out_tells is_commit_told outs
 commit_tells (o ∷ outs) = let rest = commit_tells outs in grind (arith, rest)
 commit_tells _ = refl
 
-rollback_tells : (outs : List Out) → tells_rollback outs ≡ out_tells is_rollback_told outs
+pub rollback_tells : (outs : List Out) → tells_rollback outs ≡ out_tells is_rollback_told outs
 rollback_tells (o ∷ outs) = let rest = rollback_tells outs in grind (arith, rest)
 rollback_tells _ = refl
 

@@ -1,6 +1,7 @@
 pub mod Answers
 pub mod EveryTurn
 pub mod BeginCases
+pub mod AcceptCases
 pub mod RootBegins
 pub mod EveryMove
 pub mod EveryRecord

@@ -20,4 +20,3 @@ pub mod Owing
 pub mod Clearing
 pub mod Orders
 pub mod Steps
-pub mod TurnSteps

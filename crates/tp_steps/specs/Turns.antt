@@ -64,6 +64,20 @@ hears_close (TxEvent.Reply b RecState.Unknown) t = is_ready t.phase
 hears_close (TxEvent.Reply b _) t = false
 hears_close _ t = false
 
+-- the superior asks to prepare
+abbrev pub hears_prepare : TxEvent → Bool
+hears_prepare (TxEvent.Took p DialogueRecord.Prepare) = true
+hears_prepare (TxEvent.Took p _) = false
+hears_prepare _ = false
+
+-- the superior rolls back, or knows of nothing where this node is ready
+abbrev pub hears_rollback : TxEvent → Transaction → Bool
+hears_rollback (TxEvent.Took p DialogueRecord.Rollback) t = is_under_at t.key p
+hears_rollback (TxEvent.Took p _) t = false
+hears_rollback (TxEvent.Reply b RecState.Unknown) t = is_ready t.phase
+hears_rollback (TxEvent.Reply b _) t = false
+hears_rollback _ t = false
+
 abbrev pub is_left_word : DialogueRecord → Bool
 is_left_word DialogueRecord.Left = true
 is_left_word DialogueRecord.LeftEnd = true
@@ -104,18 +118,18 @@ pub record Turns (e : TxEvent) (s : Transaction) (R : Transaction → Turn → T
   pub chain : (t : Transaction) (a : Turn) (f : Transaction → Turn) → R t a → R a.next (f a.next) → (a.rec ≡ None) ⊎ ((f a.next).rec ≡ None) → R t (and_then a f)
   -- notes
   pub tells : (t : Transaction) (i : Indication) → is_outcome_told i ≡ false → R t (turn (TxOut.Tell i ∷ []) t)
-  pub notes_prepare : hears_close e s ≡ true → R s (turn (TxOut.Tell Indication.Prepare ∷ []) (record s { told_prepare = true }))
-  pub notes_done : R s (turn [] (record s { owes = false }))
-  pub notes_end : (p : ℕ) → R s (turn (TxOut.Tell (Indication.DeferEnd p) ∷ []) (record s { up_ends = true }))
-  pub notes_rollback : hears_close e s ≡ true → R s (turn [] (record s { superior_rolled = true }))
-  pub defers_end : (p : ℕ) → R s (turn (TxOut.Carry p DialogueRecord.DeferEnd ∷ []) (with_row s p (λ r. record r { ends = true })))
-  pub defers_grant : (p : ℕ) → R s (turn (TxOut.Carry p DialogueRecord.DeferGrant ∷ []) s)
+  pub notes_prepare : hears_prepare e ≡ true → hears_close e s ≡ true → R s (turn (TxOut.Tell Indication.Prepare ∷ []) (record s { told_prepare = true }))
+  pub notes_done : e ≡ TxEvent.User Request.Done → R s (turn [] (record s { owes = false }))
+  pub notes_end : (p : ℕ) → e ≡ TxEvent.Took p DialogueRecord.DeferEnd → R s (turn (TxOut.Tell (Indication.DeferEnd p) ∷ []) (record s { up_ends = true }))
+  pub notes_rollback : hears_rollback e s ≡ true → hears_close e s ≡ true → R s (turn [] (record s { superior_rolled = true }))
+  pub defers_end : (p : ℕ) → e ≡ TxEvent.User (Request.DeferEnd p) → R s (turn (TxOut.Carry p DialogueRecord.DeferEnd ∷ []) (with_row s p (λ r. record r { ends = true })))
+  pub defers_grant : (p : ℕ) → e ≡ TxEvent.User (Request.DeferGrant p) → R s (turn (TxOut.Carry p DialogueRecord.DeferGrant ∷ []) s)
   pub prepares : (p : ℕ) → R s (turn (TxOut.Carry p DialogueRecord.Prepare ∷ []) (with_branch s p (λ b. record b { prepared = true })))
-  pub asks : is_active s.phase ≡ true → s.asked ≡ false → (is_under s.key ≡ true → s.told_prepare ≡ true) → R s (ask_commit s)
+  pub asks : e ≡ TxEvent.User Request.Commit → is_active s.phase ≡ true → s.asked ≡ false → (is_under s.key ≡ true → s.told_prepare ≡ true) → R s (ask_commit s)
   pub asks_again : R s (turn (retried s) s)
   pub decides : (o : Outcome) → e ≡ TxEvent.Heur o → is_ready s.phase ≡ true → R s (decide o s)
   -- associations that go
-  pub aborts : (p : ℕ) → R s (turn (TxOut.Carry p DialogueRecord.UAbort ∷ TxOut.Close p ∷ []) (with_arc_lost s p))
+  pub aborts : (p : ℕ) → e ≡ TxEvent.User (Request.UAbort p) → R s (turn (TxOut.Carry p DialogueRecord.UAbort ∷ TxOut.Close p ∷ []) (with_arc_lost s p))
   pub loses_arc : (p : ℕ) → loses e p ≡ true → R s (turn [] (with_arc_lost s p))
   pub closes_left : (p : ℕ) → e ≡ TxEvent.Took p DialogueRecord.LeftEnd → R s (turn (TxOut.Close p ∷ []) (with_row s p row_dead))
   pub gives_up : (p : ℕ) (r : Row) → e ≡ TxEvent.GiveUp p → is_committing s.phase ≡ true → find_row s.rows p ≡ Some r → R s (shut_given_up p r s)

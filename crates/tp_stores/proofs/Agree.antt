@@ -1,5 +1,5 @@
 -- What a store heard of an outcome its node's user was told in that tree; so no two stores of one tree disagree.
-use Rattle.std.proofs.Common.{◌≡◌, ◌&&◌, ◌||◌, Bool, true, false, refl, ap, sym, ◌∙◌, arith, Option, Some, None, List, [], ◌∷◌, inl, inr}
+use Rattle.std.proofs.Common.{◌≡◌, ◌&&◌, ◌||◌, Bool, true, false, refl, ap, sym, ◌∙◌, Option, Some, None, List, [], ◌∷◌, inl, inr}
 use Rattle.tp_names.specs.declared.identifiers.Aaid.{Aaid}
 use Rattle.tp_names.specs.declared.identifiers.Addr.{Addr}
 use Rattle.tp_names.specs.Same.{is_aaid}
@@ -29,7 +29,7 @@ use Rattle.tp_histories.proofs.trees.Knowing.{begin_seen, begin_arc}
 use Rattle.tp_histories.proofs.trees.Entered.{Entered, Crashed, Begun, Plain, entered}
 use Rattle.tp_histories.proofs.trees.Behind.{treed_rolls}
 use Rattle.tp_histories.proofs.worlds.Good.{good_run}
-use Rattle.tp_runs.proofs.Users.{users_see}
+use Rattle.tp_runs.proofs.Users.{users_see, commit_tells, rollback_tells}
 use Rattle.tp_agreement.proofs.Agreed.{commits_alone}
 use Rattle.tp_encodable.specs.Begins.{is_begin_told, takes_begin}
 use Rattle.tp_encodable.proofs.Short.{begins_untold}
@@ -171,14 +171,6 @@ commit_weaker i h = absurd (cc (h))
 pub rollback_weaker : (i : Indication) → is_rollback i ≡ true → is_rollback_told i ≡ true
 rollback_weaker Indication.Rollback h = refl
 rollback_weaker i h = absurd (cc (h))
-
-pub commit_tells : (outs : List Out) → tells_commit outs ≡ out_tells is_commit_told outs
-commit_tells (o ∷ outs) = let rest = commit_tells outs in grind (arith, rest)
-commit_tells _ = refl
-
-pub rollback_tells : (outs : List Out) → tells_rollback outs ≡ out_tells is_rollback_told outs
-rollback_tells (o ∷ outs) = let rest = rollback_tells outs in grind (arith, rest)
-rollback_tells _ = refl
 
 committing : IsOutcome is_commit is_commit_told tells_commit
 committing = record { weaker = commit_weaker; tells_so = λ outs h. commit_tells outs ∙ h; now = now_commit }

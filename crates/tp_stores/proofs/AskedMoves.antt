@@ -6,7 +6,7 @@ use Rattle.tp_model.specs.declared.transaction.TxEvent.{TxEvent}
 use Rattle.tp_model.specs.declared.recovery.Kept.{Kept}
 use Rattle.tp_model.specs.declared.recovery.KeptEvent.{KeptEvent}
 use Rattle.tp_model.specs.Parts.{Who, Event, Arc, Key, Root, Current, Digest}
-use Rattle.tp_model.specs.Dialogues.{is_nil, is_ready}
+use Rattle.tp_model.specs.Dialogues.{is_ready}
 use Rattle.tp_model.specs.Arcs.{find_arc}
 use Rattle.tp_model.specs.Recovery.{settled}
 use Rattle.tp_model.specs.Transactions.{Transaction, is_under, transacted}
@@ -20,7 +20,7 @@ use Rattle.tp_steps.proofs.every.BeginCases.{next_child, begun_over, begin_cases
 use Rattle.tp_steps.proofs.log.Sound.{left_is}
 use Rattle.tp_steps.proofs.lemmas.Equality.{or_case}
 use Rattle.tp_steps.proofs.lemmas.Options.{some_same}
-use Rattle.tp_runs.proofs.KnownAsked.{step_of}
+use Rattle.tp_runs.proofs.KnownAsked.{step_of, left_asked}
 use Rattle.tp_runs.proofs.KnownFlags.{IsStep}
 use Rattle.tp_stores.proofs.Hearing.{or_first, or_over}
 use Rattle.tp_stores.proofs.AskedTurns.{is_bound, IsAskedTurn, asked_turn}
@@ -42,13 +42,6 @@ same_move s d m same none = record {
   goes = λ u at under bound. inr (u, sym same ∙ at, refl, bound, λ h. h);
   orders = λ h. absurd (cc (h, none));
 }
-
-left_asked : (t : Transaction) (u : Current) → remaining t ≡ Some u → u.asked ≡ t.asked
-left_asked t u i = go (is_nil t.phase) refl
-  where
-    go : (b : Bool) → is_nil t.phase ≡ b → u.asked ≡ t.asked
-    go true j = let no : None ≡ Some u = rw (j, remaining) at i in absurd (cc (no))
-    go false j = grind (arith, i, j)
 
 turned_move : (who : Who) (s : Digest) (f : TxEvent) (d : Digest) (c : Current) → d.current ≡ Some c → s.current ≡ Some c → IsPut f (seen who d.arcs c) → IsAskedMove s d (turned who f d c)
 turned_move who s f d c now at put = record { goes = goes; orders = λ h. (c, at, λ u. a.orders h u) }

@@ -19,7 +19,7 @@ use Rattle.tp_model.specs.Arcs.{find_arc, with_dialogue, with_link}
 use Rattle.tp_model.specs.Transactions.{aaid_of, transacted}
 use Rattle.tp_model.specs.Node.{Move, move, perform, seen, may_begin_on, begin_on, begin_each, chained_peers, begin_chained, fresh_current}
 use Rattle.tp_model.specs.Arrivals.{sight_at, take_begin, take_record, woken_by, take_on, refused_arrival}
-use Rattle.tp_model.specs.Events.{refusal, action, recovered_current, after_crash}
+use Rattle.tp_model.specs.Events.{refusal, action, recovered_current}
 use Rattle.tp_model.specs.History.{digest}
 use Rattle.tp_model.specs.Questions.{is_crash}
 use Rattle.tp_model.specs.Outcomes.{root_of}
@@ -41,6 +41,7 @@ use Rattle.tp_encodable.proofs.Short.{begins_untold, chained_untold}
 use Rattle.tp_stores.specs.Stores.{told_in, IsHeardOf, IsHeardIn}
 use Rattle.tp_stores.proofs.Hearing.{last_begun, last_append}
 use Rattle.tp_stores.proofs.Telling.{some, some_told, heard_none, last_quiet, begin_heard}
+use Rattle.tp_histories.proofs.trees.Behind.{crash_current}
 
 -- ---- a Begin that is taken
 
@@ -121,10 +122,6 @@ is_begin (Event.Arrive from (PeerRecord.OnAssoc x y q (DialogueRecord.Begin t b 
 is_begin e i = absurd (cc (i))
 
 -- ---- a crash
-
-crash_prelude : (who : Who) (d : Digest) → (prelude who d Event.Crash).current ≡ recovered_current d.current
-unfolding after_crash
-crash_prelude who d = refl
 
 -- what is current after it was not active
 passive : (v c : Current) → recovered_current (Some v) ≡ Some c → is_active v.phase ≡ false
@@ -233,6 +230,6 @@ begun_law o up (e ∷ h) stops is u empty legal heard now under lasts =
         by false j (inl k) = goes_on q k.0 (came (came_by o.who d e.event legal.0) j k.0 k.1) k.2 (λ y. absurd (cc (y, j))) was
         by true j (inl k) =
             let is : e.event ≡ Event.Crash = crash_is e.event j in
-            let left : recovered_current d.current ≡ Some k.0 = sym (ap (λ (v : Event). (prelude o.who d v).current) is ∙ crash_prelude o.who d) ∙ k.1 in
+            let left : recovered_current d.current ≡ Some k.0 = sym (ap (λ (v : Event). (prelude o.who d v).current) is ∙ crash_current o.who d) ∙ k.1 in
             let l = logged_key d.current k.0 left in
             goes_on q l.0 l.1 (k.2 ∙ l.2) (λ y. passive l.0 k.0 (ap recovered_current (sym l.1) ∙ left)) was

@@ -32,7 +32,7 @@ use Rattle.tp_histories.proofs.trees.Late.{late_law}
 use Rattle.tp_histories.proofs.trees.Knowing.{Came, As_it_was, By_begin, By_crash, came_by, begin_seen, begin_arc, current_none}
 use Rattle.tp_histories.proofs.trees.Behind.{treed_rolls}
 use Rattle.tp_histories.proofs.worlds.Good.{good_run}
-use Rattle.tp_runs.proofs.Users.{users_see}
+use Rattle.tp_runs.proofs.Users.{users_see, commit_tells, rollback_tells}
 use Rattle.tp_encodable.specs.Begins.{is_begin_told, takes_begin}
 use Rattle.tp_encodable.proofs.Short.{begins_untold}
 use Rattle.tp_bound.specs.Kept.{Heard}
@@ -42,7 +42,7 @@ use Rattle.tp_stores.specs.Served.{votes, IsServedIn, IsServedAt, AreOfBranches}
 use Rattle.tp_stores.proofs.Hearing.{is_commit, is_rollback, or_first, or_over}
 use Rattle.tp_stores.proofs.Telling.{some, some_told, heard_some, heard_none, some_weaker}
 use Rattle.tp_stores.proofs.Begun.{IsBegin, is_begin}
-use Rattle.tp_stores.proofs.Agree.{crash_tells, commit_weaker, rollback_weaker, commit_tells, rollback_tells, none_is}
+use Rattle.tp_stores.proofs.Agree.{crash_tells, commit_weaker, rollback_weaker, none_is}
 use Rattle.tp_stores.proofs.AskedTurns.{is_bound}
 use Rattle.tp_stores.proofs.AskedMoves.{is_asked, IsAskedFrom, ready_commits, asked_before}
 use Rattle.tp_stores.proofs.Votes.{heard_append, votes_append, follow_append, votes_on, follow_on, follow_none}

@@ -87,7 +87,7 @@ nil_now d t late nil = go (is_now t d.current) refl
         let old : is_nil c.0.phase ≡ true = rw (c.1, phase_of) at nil in
         absurd (cc (young, old))
 
-recovered_now : (t : Aaid) (o : Option Current) → is_now t (recovered_current o) ≡ true → is_now t o ≡ true
+pub recovered_now : (t : Aaid) (o : Option Current) → is_now t (recovered_current o) ≡ true → is_now t o ≡ true
 recovered_now t None h = h
 recovered_now t (Some c) h = grind (arith, h)
 

@@ -28,7 +28,7 @@ use Rattle.tp_steps.proofs.lemmas.Equality.{aaids_equal}
 use Rattle.tp_steps.proofs.links.Told.{told_performed}
 use Rattle.tp_steps.proofs.words.Treed.{up_one, none_and, no_one, now_some, now_left, phase_left, not_branch, one_branch, key_now, old_kept, drawn_old, drawn_wider, hush}
 use Rattle.tp_histories.proofs.trees.TreedTurned.{key_turned}
-use Rattle.tp_steps.proofs.every.BeginCases.{begun_over, begin_cases}
+use Rattle.tp_steps.proofs.every.BeginCases.{begun_over, begin_cases, begin_word, begin_arcs}
 use Rattle.std.proofs.Math.Nat.{le_refl}
 use Rattle.tp_steps.proofs.lemmas.Options.{some_same}
 use Rattle.tp_steps.proofs.words.Fair.{at_most_then}
@@ -72,17 +72,14 @@ treed_begins who s d fall t p q = begin_cases (IsTreed who s fall t p d) who q d
         u : Transaction
         u = record k { rows = k.rows ++ row_fresh a.peer id ∷ [] }
 
-        word : DialogueRecord
-        word = DialogueRecord.Begin (aaid_of c.key) id (named_holder a.dialogue)
-
         outs : List TxOut
-        outs = TxOut.Carry q word ∷ []
+        outs = TxOut.Carry q (begin_word who d c a) ∷ []
 
         arcs : List Arc
-        arcs = with_dialogue d.arcs q (begun_by (named_holder a.dialogue) Side.Superior)
+        arcs = begin_arcs q d a
 
         m : Move
-        m = perform outs (record (with_begun who (with_mark_drawn d) c (record { addr = a.peer; branch = id })) { arcs = arcs })
+        m = begun_over who q d c a
 
         may : may_begin_on who d a ≡ true
         may = grind (arith, i)
@@ -163,7 +160,7 @@ treed_begins who s d fall t p q = begin_cases (IsTreed who s fall t p d) who q d
         ids b (inl h) true j = (on_peer j).1 ∙ new_word (is_live (link_with arcs p)) (subst (λ (ws : List DialogueRecord). IsBegunIn t b ws) agrees.words h)
           where
             spoken_one : Bool → Bool → List DialogueRecord
-            spoken_one v w = if v && w then word ∷ [] else []
+            spoken_one v w = if v && w then begin_word who d c a ∷ [] else []
 
             is : (v : Bool) → spoken v p outs ≡ spoken_one v (q == p)
             is v = grind arith

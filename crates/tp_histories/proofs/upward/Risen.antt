@@ -49,7 +49,7 @@ use Rattle.tp_steps.proofs.words.Leaves.{aaid_same}
 use Rattle.tp_steps.proofs.lemmas.Equality.{and_left, and_right, both_true}
 use Rattle.tp_steps.proofs.lemmas.UpwardWords.{up_append, voting_append, is_telling, none_telling, none_up, none_voting}
 use Rattle.tp_steps.proofs.upward.Rising.{rising_turn}
-use Rattle.tp_steps.proofs.every.BeginCases.{begun_over, begin_cases}
+use Rattle.tp_steps.proofs.every.BeginCases.{begun_over, begin_cases, begin_word, begin_arcs}
 use Rattle.tp_steps.proofs.lemmas.Options.{some_same}
 use Rattle.tp_steps.proofs.log.Owned.{key_aaid}
 use Rattle.tp_steps.proofs.links.Whole.{whole_turn}
@@ -251,23 +251,17 @@ risen_begins who e p q fall s d = begin_cases (IsRisen e p fall s d) who q d sti
     on : (c : Current) (a : Arc) → d.current ≡ Some c → find_arc d.arcs q ≡ Some a → may_begin_on who d a ≡ true → IsRisen e p fall s d (begun_over who q d c a)
     on c a now found may = risen_none e p fall s d m quiet votes
       where
-        word : DialogueRecord
-        word = DialogueRecord.Begin (aaid_of c.key) (record { superior = who.site; mark = next_mark who d }) (named_holder a.dialogue)
-
-        arcs : List Arc
-        arcs = with_dialogue d.arcs q (begun_by (named_holder a.dialogue) Side.Superior)
-
         m : Move
-        m = perform (TxOut.Carry q word ∷ []) (record (with_begun who (with_mark_drawn d) c (record { addr = a.peer; branch = record { superior = who.site; mark = next_mark who d } })) { arcs = arcs })
+        m = begun_over who q d c a
 
-        agrees : Agrees p (is_live (link_with arcs p)) (TxOut.Carry q word ∷ []) m.outs (is_live (link_with m.next.arcs p))
-        agrees = agrees_performed arcs (TxOut.Carry q word ∷ []) p refl
+        agrees : Agrees p (is_live (link_with (begin_arcs q d a) p)) (TxOut.Carry q (begin_word who d c a) ∷ []) m.outs (is_live (link_with m.next.arcs p))
+        agrees = agrees_performed (begin_arcs q d a) (TxOut.Carry q (begin_word who d c a) ∷ []) p refl
 
-        one : (b : Bool) → none_of is_telling (spoken b p (TxOut.Carry q word ∷ [])) ≡ true
+        one : (b : Bool) → none_of is_telling (spoken b p (TxOut.Carry q (begin_word who d c a) ∷ [])) ≡ true
         one b = grind arith
 
         quiet : none_of is_telling (words_to p m.outs) ≡ true
-        quiet = rw (agrees.words) (one (is_live (link_with arcs p)))
+        quiet = rw (agrees.words) (one (is_live (link_with (begin_arcs q d a) p)))
 
         votes : (v : Bool) → VotesAt v d.current p → VotesAt v m.next.current p
         votes v w h =

@@ -4,7 +4,7 @@ use Rattle.tp_history_state.proofs.Vocabulary.{Bool, List, None, Option, Some, [
 use Rattle.tp_history_state.proofs.control.Arcs.{Same, control_at, control_from, dialogue_gets, is_ruled, same_dialogue, same_performed, same_then}
 use Rattle.tp_history_state.proofs.control.Signs.{Signs, effect, is_sign, no_signs, plus, plus_none, signs, signs_none, signs_of}
 use Rattle.tp_history_state.proofs.orders.OverTold.{is_over_told}
-use Rattle.tp_history_state.proofs.lemmas.Begins.{begun_child, begin_word, sent_begin, begins_so}
+use Rattle.tp_history_state.proofs.lemmas.Begins.{next_child, begin_word, begun_over, begins_so}
 use Rattle.tp_history_state.proofs.lemmas.Spoken.{said_not, spoken_untold}
 use Rattle.tp_history_state.proofs.rests.Foreign.{carries_none_to, said_none_to}
 
@@ -122,13 +122,13 @@ stands_begins up p branch fall old s x who q d well st =
     begins_so (λ m. Stands up p branch fall old s (plus x (signs p m)) m.next) who q d (stands_quiet up p branch fall old s x (move [] d) refl st) (λ c now a found may. on c a now found may)
   where
     child : Arc → Child
-    child = begun_child who d
+    child = next_child who d
 
     word : Current → Arc → DialogueRecord
     word = begin_word who d
 
     sent : Current → Arc → Move
-    sent = sent_begin who q d
+    sent = begun_over who q d
 
     on : (c : Current) (a : Arc) → d.current ≡ Some c → find_arc d.arcs q ≡ Some a → not (may_begin_on who d a) ≡ false → Stands up p branch fall old s (plus x (signs p (sent c a))) (sent c a).next
     on c a now found may = at_peer (q == p) refl

@@ -1,6 +1,6 @@
 -- What an event of a transaction shows: a record or a rollback where it leaves active or ready, and an outcome told where it
 -- ends.
-use Rattle.tp_history_state.proofs.Vocabulary.{◌≡◌, ◌⊎◌, inl, inr, Bool, true, false, refl, sym, ◌∙◌, ◌&&◌, ◌||◌, or-true, Phase, TxEvent, is_nil, is_rolling, is_late, Transaction, Turn, transacted, is_leaving, Passage, passage, is_over, logs_ready_or_commit, IsPut, falls, asks_tell, step_turn, passed_turn, is_rolled_told, staged_turn, down_turn}
+use Rattle.tp_history_state.proofs.Vocabulary.{◌≡◌, ◌⊎◌, inl, inr, Bool, true, false, refl, sym, ◌∙◌, ◌&&◌, ◌||◌, or-true, Phase, TxEvent, is_nil, is_rolling, is_late, Transaction, Turn, transacted, is_leaving, Passage, passage, is_over, logs_ready_or_commit, IsPut, falls, asks_tell, every_turn, passed_turn, is_rolled_told, staged_turn, down_turn}
 use Rattle.tp_history_state.proofs.passages.Shown.{is_early, IsShown, shown_turns, clears, clears_early, clears_down, logs_clear}
 use Rattle.tp_history_state.proofs.lemmas.Passages.{over_is}
 use Rattle.tp_history_state.proofs.orders.OverTold.{is_over_told, over_turn}
@@ -52,7 +52,7 @@ passes f t fall put off early so = record { clear = same (clears w) (logs_ready_
     shown : clears w ≡ true → (logs_ready_or_commit a.rec || fall && (is_rolling a.next.phase || asks_tell is_rolled_told a.outs)) ≡ true
     shown h =
         let moved = clears_early t.phase a.next.phase h in
-        elim (step_turn f t (IsShown f t) (shown_turns f t) put moved.0) [
+        elim (every_turn f t (IsShown f t) (shown_turns f t) put moved.0) [
           | inl same ↦ absurd (moved.1 same)
           | inr k ↦ some (logs_ready_or_commit a.rec) (falls f t) (is_leaving f) fall (is_rolling a.next.phase || asks_tell is_rolled_told a.outs) k off (λ i. (so i, (down_turn f t i).2))
         ]

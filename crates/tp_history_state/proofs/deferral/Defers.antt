@@ -2,8 +2,7 @@
 use Rattle.tp_history_state.proofs.Vocabulary.{if◌then◌else◌, ◌≡◌, ◌⊎◌, inl, inr, ℕ, Bool, true, false, refl, ap, sym, subst, ◌∙◌, arith, Option, Some, None, List, [], ◌∷◌, ◌++◌, ◌&&◌, ◌||◌, ◌==◌, not, or-true, nat_tests, Outcome, has_bit, Indication, DialogueRecord, Holder, PeerRecord, Phase, Side, Deferral, TxEvent, TxOut, Kept, KeptEvent, Who, Event, Out, Dialogue, Arc, Current, Digest, is_live, is_rolling, Asked, Ask_end, Ask_defer_end, Ask_defer_grant, Heard, Hear_end, Hear_defer_end, Hear_defer_grant, said, heard, begun_by, cleared, woken, completed, named_holder, find_arc, is_live_with_peer, without_arc, with_dialogue, with_dialogues, carried, performed, Transaction, Turn, is_under_at, row_holds, transacted, has_branch_at, settled, Move, move, followed, perform, phase_of, seen, begin_on, is_leaving, Passage, Stays, Enters, Falls, Falls_at_once, Commits, Rolls_back, Leaves, side_at, passage, entered, played, without_deferral, is_arc_of, committed_dialogue, committed_arcs, grants, turned, keep, said_to, has_said, is_begin, is_defer_end_record, is_defer_grant_record, is_unchanged, falls, is_outcome_told, IsPut, IsAsked, IsChange, By_waking, By_saying, By_hearing, By_beginning, By_leaving, begun_by_record, is_spoken, are_spoken, closes_at, is_said, are_said, Moves, is_deferring, is_deferred_by, puts_off_at, first_begin, asks_tell, out_tells, IsLinked, part_at, Keeps, keeps_self, keeps_then, part_dialogue, part_none, part_same, keeps_dialogues, keeps_without, keeps_performed, said_both, carries_none, said_carried, said_none, live_back, seen_branch, find_arc_is, leaves_so, first_performed, first_played, spoken_none, apart_spoken, apart_turn, passed_turn, phase_at, settled_spoken, link_dialogue, link_dialogues, linked_moves, row_phase, is_rolled_told, told_append, told_performed, told_played, and_right, around_grants, whole_turn}
 use Rattle.tp_history_state.proofs.deferral.Silent.{defer_peer, silent_turned, still_turned}
 use Rattle.tp_history_state.proofs.passages.Passage.{is_committed_told, drops, ends, IsPassage, passage_turn}
-use Rattle.tp_history_state.proofs.lemmas.Begins.{begun_child, begin_word, begin_arcs, sent_begin, begins_so}
-use Rattle.tp_history_state.proofs.lemmas.Rare.{IsRare}
+use Rattle.tp_history_state.proofs.lemmas.Begins.{next_child, begin_word, begin_arcs, begun_over, begins_so}
 use Rattle.tp_history_state.proofs.passages.Shown.{rolling_left}
 use Rattle.tp_history_state.proofs.lemmas.Spoken.{spoken_untold}
 
@@ -444,7 +443,7 @@ deferring_begins k none who p branch fall q d =
     begins_so (λ m. is_live_with_peer m.next.arcs p ≡ true → IsDeferring k p branch fall d m) who q d
     (deferring_same k p branch fall d (move [] d) (keeps_self (put k) p d.arcs) (keeps_self loose p d.arcs) refl refl refl refl) (λ c now a found may. on c now a)
   where
-    on : (c : Current) → d.current ≡ Some c → (a : Arc) → is_live_with_peer (sent_begin who q d c a).next.arcs p ≡ true → IsDeferring k p branch fall d (sent_begin who q d c a)
+    on : (c : Current) → d.current ≡ Some c → (a : Arc) → is_live_with_peer (begun_over who q d c a).next.arcs p ≡ true → IsDeferring k p branch fall d (begun_over who q d c a)
     on c i a live = there (q == p) refl
       where
         h : Holder
@@ -460,18 +459,18 @@ deferring_begins k none who p branch fall q d =
         outs = TxOut.Carry q r ∷ []
 
         t : Transaction
-        t = (transacted (TxEvent.Begun (begun_child who d a ∷ [])) (seen who d.arcs c)).next
+        t = (transacted (TxEvent.Begun (next_child who d a ∷ [])) (seen who d.arcs c)).next
 
         units : Keeps loose p d.arcs (performed xs outs).0
         units l = let u = keeps_performed loose p xs outs l in (sym (live_dialogue d.arcs q (begun_by h Side.Superior) p) ∙ u.0, u.1 ∙ same_part loose p q (begun_by h Side.Superior) d.arcs (λ at. loose_begun h Side.Superior))
 
-        phase : is_rolling (phase_of (sent_begin who q d c a).next) ≡ is_rolling (phase_of d)
+        phase : is_rolling (phase_of (begun_over who q d c a).next) ≡ is_rolling (phase_of d)
         phase = rolling_left t ∙ sym (ap is_rolling (phase_at d c i))
 
-        there : (v : Bool) → (q == p) ≡ v → IsDeferring k p branch fall d (sent_begin who q d c a)
+        there : (v : Bool) → (q == p) ≡ v → IsDeferring k p branch fall d (begun_over who q d c a)
         there false at =
             let same : part_at (put k) p xs ≡ part_at (put k) p d.arcs = same_part (put k) p q (begun_by h Side.Superior) d.arcs (λ on. absurd (cc (on, at))) in
-            deferring_same k p branch fall d (sent_begin who q d c a) (λ l. let u = keeps_performed (put k) p xs outs l in (sym (live_dialogue d.arcs q (begun_by h Side.Superior) p) ∙ u.0, u.1 ∙ same)) units phase
+            deferring_same k p branch fall d (begun_over who q d c a) (λ l. let u = keeps_performed (put k) p xs outs l in (sym (live_dialogue d.arcs q (begun_by h Side.Superior) p) ∙ u.0, u.1 ∙ same)) units phase
             (told_performed is_rolled_told xs outs) (told_performed is_committed_told xs outs) (said_both is_begin p (carried xs q r).1 [] ∙ rw (said_carried p xs q r, at) refl) live
         there true at =
             let node : q ≡ p = grind (arith, nat_tests, at) in
@@ -482,7 +481,7 @@ deferring_begins k none who p branch fall q d =
             record {
               live = up.0;
               units = up.1;
-              kept = inr (off, rw here (or-true (branch && (fall || told_rolled (sent_begin who q d c a).outs || (told_committed (sent_begin who q d c a).outs && part_at loose p d.arcs)))));
+              kept = inr (off, rw here (or-true (branch && (fall || told_rolled (begun_over who q d c a).outs || (told_committed (begun_over who q d c a).outs && part_at loose p d.arcs)))));
               begun = λ z. off;
               unrolled = λ b z. off;
               committed = λ b z u. off;
@@ -548,9 +547,6 @@ defers_moves k none who p branch fall e s given aside = record {
 
 abbrev pub is_defer : DialogueRecord → Bool
 is_defer r = is_defer_end_record r || is_defer_grant_record r
-
-rare_defer : IsRare is_defer
-rare_defer = record { prepare = refl; ready = refl; commit = refl; done = λ r. refl; rollback = refl; rolled = λ r. refl; abort = refl }
 
 undeferred_spoken : (e : Event) (outs : List TxOut) → are_spoken outs ≡ true → are_said e outs ≡ true → carries_none is_defer outs ≡ true
 undeferred_spoken e [] h i = refl

@@ -1,19 +1,16 @@
 -- What an accepted event makes of the dialogue with one peer, and when it clears control and handshakes there.
-use Rattle.tp_history_state.proofs.Vocabulary.{if◌then◌else◌, ◌≡◌, inl, inr, ℕ, Bool, true, false, refl, ap, sym, subst, ◌∙◌, arith, Option, Some, None, List, [], ◌∷◌, ◌&&◌, ◌||◌, ◌==◌, or-true, and_parts, or_right, nat_tests, Mark, Addr, Request, DialogueRecord, PeerRecord, LogRec, Phase, TxEvent, Who, Origin, Event, Entry, Idle, Arc, Branch, Current, Digest, with_one_taken, Sight, Acts, Nothing_happens, Out_of_phase, is_active, is_ready, is_rolling, cleared, woken, find_arc, link_with, is_live_with_peer, with_dialogue, with_link, Row, situation_of, sight_of_tx, acts, row_holds, Move, move, is_superior, phase_of, transact, sight_of, sight_at, refused_arrival, take_record, woken_by, take_on, refusal, action, after_crash, digest, rolls, is_unchanged, acting_from, is_record, is_left_record, logs_ready_or_commit, enters, was_branch, clears_handshakes, is_at, IsGrown, loses, IsLate, prelude, counted_in, left_by, wakes, plain_steps, ends_dialogue, step_transact, seen_branch, the, find_arc_is, on_none, woken_at, cleared_off, woken_off, every_move, plain_arrival, tells_rolled, Entered, Crashed, Begun, Plain, rolls_so, rolls_from, IsDownMove, down_event, IsPlaced, IsHeaded, headed_first, headed_law, superior_at, under_headed, live_back, IsLinked, linked_moves, late_law}
+use Rattle.tp_history_state.proofs.Vocabulary.{if◌then◌else◌, ◌≡◌, inl, inr, ℕ, Bool, true, false, refl, ap, sym, subst, ◌∙◌, arith, Option, Some, None, List, [], ◌∷◌, ◌&&◌, ◌||◌, ◌==◌, or-true, and_parts, or_right, nat_tests, Mark, Addr, DialogueRecord, PeerRecord, LogRec, Phase, TxEvent, Who, Origin, Event, Entry, Idle, Arc, Branch, Current, Digest, with_one_taken, Sight, Acts, Nothing_happens, Out_of_phase, is_active, is_ready, is_rolling, cleared, woken, find_arc, link_with, is_live_with_peer, with_dialogue, with_link, Row, situation_of, sight_of_tx, acts, row_holds, Move, move, is_superior, phase_of, transact, sight_of, sight_at, refused_arrival, take_record, woken_by, take_on, refusal, action, after_crash, digest, rolls, acting_from, is_record, is_left_record, logs_ready_or_commit, enters, was_branch, clears_handshakes, is_at, IsGrown, loses, IsLate, prelude, counted_in, left_by, wakes, plain_steps, ends_dialogue, step_transact, seen_branch, the, find_arc_is, on_none, woken_at, cleared_off, woken_off, every_move, plain_arrival, tells_rolled, Entered, Crashed, Begun, Plain, rolls_so, rolls_from, IsDownMove, down_event, IsPlaced, IsHeaded, headed_first, headed_law, superior_at, under_headed, live_back, IsLinked, linked_moves, late_law}
 use Rattle.tp_histories.proofs.trees.Entered.{entered}
 use Rattle.tp_history_state.proofs.passages.Shown.{is_early}
 use Rattle.tp_history_state.proofs.handshakes.Touches.{Touch, Waking, Taking_left, Entering, Falling, Resting, some_touch, is_passing, is_resting, FitTouches, IsMade, made_dialogue}
 use Rattle.tp_history_state.proofs.handshakes.TouchedMoves.{IsTouched, Touched, IsGiven, is_arc_in, touched_first_so, touched_moves, said_left, IsLed}
+use Rattle.tp_runs.proofs.SeenRolled.{rolls_stays}
 
 -- ---- an event that rolls
 
 pub rolls_current : (who : Who) (d : Digest) (e : Event) → rolls who d e ≡ true → (prelude who d e).current ≡ d.current
 unfolding after_crash
 rolls_current who d e h1 = grind arith
-
-rolls_stays : (who : Who) (d : Digest) (e : Event) → rolls who d e ≡ true → is_unchanged e ≡ false
-rolls_stays who d (Event.Do Request.Unchanged) h = absurd (cc (h))
-rolls_stays who d e h = refl
 
 pub given_of : (who : Who) (d : Digest) (e : Event) (p : ℕ) → refusal who d e ≡ None → IsLed (prelude who d e) p → IsGiven who e (prelude who d e) p (rolls who d e)
 given_of who d e p ok led = record {

@@ -1,11 +1,11 @@
 -- What every step of a node makes of the dialogue with one peer, by what it logs and says: an instance of the steps of a node.
-use Rattle.tp_history_state.proofs.Vocabulary.{if◌then◌else◌, ◌≡◌, ◌⊎◌, inl, inr, ℕ, Bool, true, false, refl, ap, sym, subst, ◌∙◌, arith, Option, Some, None, List, [], ◌∷◌, ◌++◌, ◌&&◌, ◌||◌, ◌==◌, not, or-true, and_parts, or_parts, or_right, nat_tests, Aaid, BranchId, Addr, Outcome, Request, Indication, DialogueRecord, Holder, Phase, Side, TxEvent, TxOut, Who, Event, Out, Dialogue, Arc, Key, Root, Under, Current, Digest, is_live, is_nil, is_active, is_rolling, is_unchained, is_grant_deferred, begun_by, named_holder, is_live_with_peer, without_arc, with_dialogue, carried, performed, find_arc, Transaction, Turn, is_under_at, row_holds, leave, transacted, has_branch_at, settled, is_end_deferred_at, Move, move, followed, perform, is_superior, seen, seen_rows, phase_of, begin_on, is_leaving, Passage, Stays, Leaves, passage, is_over, is_arc_of, is_granting, entered, played, left_arcs, turned, keep, may_begin_on, said_to, has_said, is_begin, is_left_record, is_grant_record, logs_ready_or_commit, is_left_end, is_unchanged, falls, asks_tell, out_tells, IsLinked, IsPut, IsAsked, are_spoken, is_said, is_word, grants_to, hands_to, shakes_with, responds_to, Moves, part_at, part_same, keeps_performed, said_both, carries_none, said_carried, said_none, live_back, step_turn, seen_branch, leaves_so, tells_rolled, settled_spoken, linked_moves, link_left, passed_turn, is_rolled_told, staged_turn, told_append, told_performed, told_played, find_arc_is, whole_turn}
+use Rattle.tp_history_state.proofs.Vocabulary.{if◌then◌else◌, ◌≡◌, ◌⊎◌, inl, inr, ℕ, Bool, true, false, refl, ap, sym, subst, ◌∙◌, arith, Option, Some, None, List, [], ◌∷◌, ◌++◌, ◌&&◌, ◌||◌, ◌==◌, not, or-true, and_parts, or_parts, or_right, nat_tests, Aaid, BranchId, Addr, Outcome, Request, Indication, DialogueRecord, Holder, Phase, Side, TxEvent, TxOut, Who, Event, Out, Dialogue, Arc, Key, Root, Under, Current, Digest, is_live, is_nil, is_active, is_rolling, is_unchained, is_grant_deferred, begun_by, named_holder, is_live_with_peer, without_arc, with_dialogue, carried, performed, find_arc, Transaction, Turn, is_under_at, row_holds, leave, transacted, has_branch_at, settled, is_end_deferred_at, Move, move, followed, perform, is_superior, seen, seen_rows, phase_of, begin_on, is_leaving, Passage, Stays, Leaves, passage, is_over, is_arc_of, is_granting, entered, played, left_arcs, turned, keep, may_begin_on, said_to, has_said, is_begin, is_left_record, is_grant_record, logs_ready_or_commit, is_left_end, is_unchanged, falls, asks_tell, out_tells, IsLinked, IsPut, IsAsked, are_spoken, is_said, is_word, grants_to, hands_to, shakes_with, responds_to, Moves, part_at, part_same, keeps_performed, said_both, carries_none, said_carried, said_none, live_back, every_turn, seen_branch, leaves_so, tells_rolled, settled_spoken, linked_moves, link_left, passed_turn, is_rolled_told, staged_turn, told_append, told_performed, told_played, find_arc_is, whole_turn}
 use Rattle.tp_model.specs.AmongArcs.{is_peer}
 use Rattle.tp_history_state.proofs.rests.Foreign.{is_foreign, IsForeign, none_narrow, foreign_turn, foreign_settled, said_played, granted_played, ungranted_played, said_none_to}
 use Rattle.tp_history_state.proofs.orders.OverTold.{is_over_told, over_turn}
 use Rattle.tp_history_state.proofs.passages.Shown.{is_early, IsShown, shown_turns, clears, clears_early, clears_down, rolling_left, logs_clear, logs_joined}
 use Rattle.tp_history_state.proofs.handshakes.Touches.{Touch, Ending, Resting, Beginning, run, some_touch, is_passing, is_ending, is_resting, is_beginning, FitsTouch, FitTouches, some_more, fit_more, run_more, IsMade, made_keeps, made_then, made_after, made_performed, made_without, made_dialogue, when, passing_by, ending_by, made_entered, made_played, made_left, touch_of}
-use Rattle.tp_history_state.proofs.lemmas.Begins.{begun_child, begin_word, begin_arcs, sent_begin, begins_so}
+use Rattle.tp_history_state.proofs.lemmas.Begins.{next_child, begin_word, begin_arcs, begun_over, begins_so}
 use Rattle.tp_history_state.proofs.lemmas.Passages.{no_leaving, over_is}
 use Rattle.tp_history_state.proofs.lemmas.Spoken.{spoken_none, said_not, spoken_untold, quiet_settled}
 use Rattle.tp_history_state.proofs.lemmas.Leaving.{gone, says_of, active_put, leaving_is}
@@ -268,9 +268,9 @@ touched_begins who p branch fall up e q d side =
     (touched_bare p branch fall up e d (move [] d) [] (made_keeps p d.arcs d.arcs (λ g l. (l, refl))) tt refl refl refl refl (record { quiet = refl; phase = refl; untold = refl; open_yet = refl; left = refl; grants = λ k. refl; words = λ k. refl }))
     (λ c now a found may. on c now a found may)
   where
-    on : (c : Current) → d.current ≡ Some c → (a : Arc) → find_arc d.arcs q ≡ Some a → not (may_begin_on who d a) ≡ false → is_live_with_peer (sent_begin who q d c a).next.arcs p ≡ true → IsTouched p branch fall up e d (sent_begin who q d c a)
+    on : (c : Current) → d.current ≡ Some c → (a : Arc) → find_arc d.arcs q ≡ Some a → not (may_begin_on who d a) ≡ false → is_live_with_peer (begun_over who q d c a).next.arcs p ≡ true → IsTouched p branch fall up e d (begun_over who q d c a)
     on c i a found may live =
-        touched_bare p branch fall up e d (sent_begin who q d c a) ts
+        touched_bare p branch fall up e d (begun_over who q d c a) ts
         (made_after p d.arcs xs (performed xs outs).0 ts (made_dialogue p d.arcs q (begun_by h Side.Superior) (Beginning h) (λ x. refl)) (made_performed p xs outs))
         (fits (q == p) refl) (plain is_passing refl (q == p)) (plain is_ending refl (q == p)) (plain is_resting refl (q == p))
         (begins (q == p) refl)
@@ -301,7 +301,7 @@ touched_begins who p branch fall up e q d side =
         ts = if q == p then Beginning h ∷ [] else []
 
         t : Transaction
-        t = (transacted (TxEvent.Begun (begun_child who d a ∷ [])) (seen who d.arcs c)).next
+        t = (transacted (TxEvent.Begun (next_child who d a ∷ [])) (seen who d.arcs c)).next
 
         was : is_rolling (phase_of d) ≡ is_rolling c.phase
         was = ap (λ (o : Option Current). is_rolling (elim o as (λ _. Phase) [ None ↦ Phase.Nil | Some x ↦ x.phase ])) i
@@ -399,7 +399,7 @@ plain_turned who p branch fall up e s d c f given at branch_is side asked put of
   live = made.0;
   made = made.1;
   fits = fit_more e p up ts us (passing_fits e p up branch w) (ending_fits e p up branch d t w a xs side);
-  passing = λ h. let k = and_parts branch (clears w) (sym passes ∙ h) in cause k.0 (why k.1 (step_turn f t (IsShown f t) (shown_turns f t) put (clears_early t.phase a.next.phase (plain k.1)).0));
+  passing = λ h. let k = and_parts branch (clears w) (sym passes ∙ h) in cause k.0 (why k.1 (every_turn f t (IsShown f t) (shown_turns f t) put (clears_early t.phase a.next.phase (plain k.1)).0));
   logged = λ b l. passes ∙ rw (b, clear (logs_clear t a.next a.rec l (passed_turn f t put).logs)) refl;
   rolled = λ b fa nr h. passes ∙ rw (b, clear (clears_down c.phase a.next.phase (given.early fa c at) (ends (is_rolling (phase_of m.next)) (tells_rolled m) h (λ i. sym (rolling_left a.next) ∙ i) (λ i. (staged_turn f t put).ended (sym told ∙ i))))) refl;
   ends_so = λ h. let k = and_parts branch (is_over w) (sym finishes ∙ h) in rw (k.0, over ∙ sym over_w ∙ k.1) (or-true (is_unchanged e));

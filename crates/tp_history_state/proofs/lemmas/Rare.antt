@@ -1,5 +1,5 @@
 -- Words that no event of a transaction carries but its user's leaving, or what defers something.
-use Rattle.tp_history_state.proofs.Vocabulary.{if◌then◌else◌, ◌≡◌, ℕ, Bool, true, false, refl, ap, ◌∙◌, arith, List, [], ◌∷◌, ◌++◌, ◌&&◌, not, Aaid, Report, Request, Indication, DialogueRecord, TxEvent, TxOut, Row, Transaction, Turn, aaid_of, carry_up, carry_down, prepare_each, forgets, done_up, ends_down, end_up, ask_each, retried, ask_commit, order, count_branch, end_branch, branch_left, complete_commit, complete_rollback, begin_rolling, transacted, is_leaving, TurnSteps, IsPut, carries_none, none_more, step_turn}
+use Rattle.tp_history_state.proofs.Vocabulary.{if◌then◌else◌, ◌≡◌, ℕ, Bool, true, false, refl, ap, ◌∙◌, arith, List, [], ◌∷◌, ◌++◌, ◌&&◌, not, Aaid, Report, Request, Indication, DialogueRecord, TxEvent, TxOut, Row, Transaction, Turn, aaid_of, carry_up, carry_down, prepare_each, forgets, done_up, ends_down, end_up, ask_each, retried, ask_commit, order, count_branch, end_branch, branch_left, complete_commit, complete_rollback, begin_rolling, transacted, is_leaving, Turns, IsPut, carries_none, none_more, every_turn}
 
 -- a question to records that none of a transaction's own words answers
 pub record IsRare (g : DialogueRecord → Bool) : Type 0 where
@@ -77,7 +77,7 @@ alone : (g : DialogueRecord → Bool) (r : DialogueRecord) → g r ≡ false →
 alone g r h = rw h refl
 
 silent_turns : (g : DialogueRecord → Bool) → IsRare g → (e : TxEvent) (s : Transaction) → is_leaving e ≡ false → ((q : ℕ) → e ≡ TxEvent.User (Request.DeferEnd q) → g DialogueRecord.DeferEnd ≡ false)
-    → ((q : ℕ) → e ≡ TxEvent.User (Request.DeferGrant q) → g DialogueRecord.DeferGrant ≡ false) → TurnSteps e s (IsSilent g)
+    → ((q : ℕ) → e ≡ TxEvent.User (Request.DeferGrant q) → g DialogueRecord.DeferGrant ≡ false) → Turns e s (IsSilent g)
 unfolding ask_commit count_branch end_branch branch_left
 silent_turns g rare e s off no_end no_grant = record {
   still = λ t. refl;
@@ -115,4 +115,4 @@ silent_turns g rare e s off no_end no_grant = record {
 
 pub silent_turn : (g : DialogueRecord → Bool) → IsRare g → (e : TxEvent) (s : Transaction) → is_leaving e ≡ false → ((q : ℕ) → e ≡ TxEvent.User (Request.DeferEnd q) → g DialogueRecord.DeferEnd ≡ false)
     → ((q : ℕ) → e ≡ TxEvent.User (Request.DeferGrant q) → g DialogueRecord.DeferGrant ≡ false) → IsPut e s → carries_none g (transacted e s).outs ≡ true
-silent_turn g rare e s off no_end no_grant put = step_turn e s (IsSilent g) (silent_turns g rare e s off no_end no_grant) put
+silent_turn g rare e s off no_end no_grant put = every_turn e s (IsSilent g) (silent_turns g rare e s off no_end no_grant) put

@@ -60,7 +60,7 @@ kin_link p q f (a ∷ arcs) = go (a.peer.node == q) (kin_link p q f arcs)
     go true rest = kin_head p a (record a { link = f a.link }) arcs arcs refl refl (kin_self p arcs)
     go false rest = kin_head p a a arcs (with_link arcs q f) refl refl rest
 
-found_without : (arcs : List Arc) (q p : ℕ) → find_arc (without_arc arcs q) p ≡ (if q == p then None else find_arc arcs p)
+pub found_without : (arcs : List Arc) (q p : ℕ) → find_arc (without_arc arcs q) p ≡ (if q == p then None else find_arc arcs p)
 found_without [] q p = grind arith
 found_without (a ∷ arcs) q p = grind (arith, nat_tests, found_without arcs q p)
 

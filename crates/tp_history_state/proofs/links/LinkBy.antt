@@ -4,7 +4,8 @@ use Rattle.tp_model.specs.Questions as asks
 use Rattle.tp_history_state.proofs.deferral.Defers.{put, told_committed}
 use Rattle.tp_history_state.proofs.deferral.Deferral.{committed_tells, acting_plain, answer_dead, known_law}
 use Rattle.tp_history_state.proofs.links.Shuts.{over_link}
-use Rattle.tp_history_state.proofs.links.Linked.{IsOver, over_steps, begun_arcs, on_prelude, on_law}
+use Rattle.tp_history_state.proofs.links.Linked.{IsOver, over_steps, on_prelude, on_law}
+use Rattle.tp_steps.proofs.every.Preludes.{begun_arcs}
 
 -- ---- what an accepted event opens
 

@@ -1,14 +1,15 @@
 -- What becomes in an event of the link with a peer that the event does not end by itself, and that an end is deferred on live
 -- arcs alone: instances of the steps of a node.
-use Rattle.tp_history_state.proofs.Vocabulary.{◌≡◌, ℕ, Bool, true, false, refl, ap, sym, subst, ◌∙◌, arith, Option, Some, None, List, [], ◌∷◌, ◌&&◌, ◌||◌, ◌==◌, nat_tests, Mark, Aaid, BranchId, Addr, Request, DialogueRecord, PeerRecord, Side, TxEvent, TxOut, Kept, KeptEvent, Who, Origin, Event, Entry, Out, Link, Opening, Offered, Live, Dialogue, Arc, Current, Digest, Asked, Ask_defer_end, Heard, Hear_defer_end, said, heard, begun_by, cleared, woken, named_holder, fresh_dialogue, find_arc, link_with, is_live_with_peer, without_arc, with_dialogue, performed, Transaction, Turn, is_under_at, transacted, has_branch_at, settled, Move, move, followed, perform, next_mark, superior_arc, is_end_deferred_at, seen, begin_on, is_leaving, Passage, passage, entered, turned, keep, try_start, begin_chained, after_crash, started, digest, sent_more, is_unchanged, IsGrown, IsPut, IsAsked, IsChange, By_waking, By_saying, By_hearing, By_beginning, By_leaving, closes_at, is_said, are_said, are_spoken, may_put_off, prelude, accepted_by, accepted_on, linked, begun_in, counted_in, Moves, puts_off_at, AreAlike, Steps, asks_tell, count_to, apart_spoken, apart_turn, leaves_so, and_left, and_right, step_start, step_chained, every_move, settled_spoken, late_law, count_append, more_none, link_dialogue, link_without, link_entered, told_append, told_performed, told_played, whole_turn}
+use Rattle.tp_history_state.proofs.Vocabulary.{◌≡◌, ℕ, Bool, true, false, refl, ap, sym, subst, ◌∙◌, arith, Option, Some, None, List, [], ◌∷◌, ◌&&◌, ◌||◌, ◌==◌, nat_tests, Mark, Addr, Request, DialogueRecord, PeerRecord, Side, TxEvent, TxOut, Kept, KeptEvent, Who, Origin, Event, Entry, Out, Link, Opening, Offered, Live, Dialogue, Arc, Current, Digest, Asked, Ask_defer_end, Heard, Hear_defer_end, said, heard, begun_by, cleared, woken, named_holder, fresh_dialogue, find_arc, link_with, is_live_with_peer, without_arc, with_dialogue, performed, Transaction, Turn, is_under_at, transacted, has_branch_at, settled, Move, move, followed, perform, next_mark, superior_arc, is_end_deferred_at, seen, begin_on, is_leaving, Passage, passage, entered, turned, keep, try_start, begin_chained, after_crash, started, digest, sent_more, is_unchanged, IsGrown, IsPut, IsAsked, IsChange, By_waking, By_saying, By_hearing, By_beginning, By_leaving, closes_at, is_said, are_said, are_spoken, may_put_off, prelude, accepted_by, accepted_on, linked, counted_in, Moves, puts_off_at, AreAlike, Steps, asks_tell, count_to, apart_spoken, apart_turn, leaves_so, and_left, and_right, step_start, step_chained, every_move, settled_spoken, late_law, count_append, more_none, link_dialogue, link_without, link_entered, told_append, told_performed, told_played, whole_turn}
 use Rattle.tp_steps.proofs.lemmas.Alike.{ends_other, live_same}
 use Rattle.tp_steps.proofs.links.Fading.{Keeps, Fades, fades_self, fades_then, fades_dialogue, fades_taken, fades_put, fades_front, fades_back, fades_without, fades_performed, keeps_said, keeps_heard, keeps_woken, keeps_cleared, keeps_begun}
 use Rattle.tp_steps.proofs.order.InOrder.{live_stays, fades_turned}
 use Rattle.tp_history_state.proofs.passages.Passage.{is_committed_told}
 use Rattle.tp_history_state.proofs.deferral.Defers.{told_committed, plain_committed}
 use Rattle.tp_history_state.proofs.links.Shuts.{shuts_in, over_link, over_then, shuts_performed, shuts_played, ends_at, closes_by, closing_turn, seen_ends}
-use Rattle.tp_history_state.proofs.lemmas.Begins.{begin_word, begin_arcs, sent_begin, begins_so}
+use Rattle.tp_history_state.proofs.lemmas.Begins.{begin_word, begin_arcs, begun_over, begins_so}
 use Rattle.tp_history_state.proofs.lemmas.Spoken.{spoken_untold}
+use Rattle.tp_steps.proofs.every.Preludes.{begun_arcs}
 
 -- ---- the link with a peer, from d on; `b`: it is a branch whose end is deferred at first
 
@@ -105,7 +106,7 @@ over_begins who p q b d =
     (λ c i a found may.
     let xs : List Arc = begin_arcs q d a in
     let outs : List TxOut = TxOut.Carry q (begin_word who d c a) ∷ [] in
-    over_quiet p b d (sent_begin who q d c a) (told_performed is_committed_told xs outs)
+    over_quiet p b d (begun_over who q d c a) (told_performed is_committed_told xs outs)
     (shuts_performed xs outs p refl ∙ ap (sent_more (count_to p (performed xs outs).1)) (link_dialogue d.arcs q (begun_by (named_holder a.dialogue) Side.Superior) p)))
 
 pub over_steps : (who : Who) (e : Event) (s : Digest) (p : ℕ) (branch : Bool) → ((c : Current) → s.current ≡ Some c → (is_under_at c.key p || has_branch_at c.branches p) ≡ branch) → closes_at e p ≡ false → is_unchanged e ≡ false → Steps who e s (IsOver p (branch && is_end_deferred_at s.arcs p))
@@ -205,7 +206,7 @@ on_change e d p f by on = go by
 fades_begins : (who : Who) (q : ℕ) (d : Digest) → Fades d.arcs (begin_on who q d).next.arcs
 fades_begins who q d =
     begins_so (λ m. Fades d.arcs m.next.arcs) who q d (fades_self d.arcs)
-    (λ c i a found may. fades_then d.arcs (begin_arcs q d a) (sent_begin who q d c a).next.arcs (fades_dialogue d.arcs q (begun_by (named_holder a.dialogue) Side.Superior) (keeps_begun (named_holder a.dialogue) Side.Superior)) (fades_performed (begin_arcs q d a) (TxOut.Carry q (begin_word who d c a) ∷ [])))
+    (λ c i a found may. fades_then d.arcs (begin_arcs q d a) (begun_over who q d c a).next.arcs (fades_dialogue d.arcs q (begun_by (named_holder a.dialogue) Side.Superior) (keeps_begun (named_holder a.dialogue) Side.Superior)) (fades_performed (begin_arcs q d a) (TxOut.Carry q (begin_word who d c a) ∷ [])))
 
 on_moves : (who : Who) (e : Event) (s : Digest) → Moves who e s (λ d m. AreOn d.arcs → AreOn m.next.arcs)
 on_moves who e s = record {
@@ -232,10 +233,6 @@ fades_accepted who d u (Some a) = on a.link
 fades_confirmed : (d : Digest) (o : Option Arc) (x y : Mark) (u : ℕ) → Fades d.arcs (linked o x y u d).arcs
 fades_confirmed d None x y u = fades_self d.arcs
 fades_confirmed d (Some a) x y u = fades_put d.arcs (record a { link = Live x y 0 0; dialogue = fresh_dialogue u Side.Superior }) refl
-
-pub begun_arcs : (o : Option Arc) (t : Aaid) (b : BranchId) (d : Digest) → (begun_in o t b d).arcs ≡ d.arcs
-begun_arcs None t b d = refl
-begun_arcs (Some a) t b d = refl
 
 pub on_prelude : (who : Who) (d : Digest) (e : Event) → AreOn d.arcs → AreOn (prelude who d e).arcs
 unfolding after_crash

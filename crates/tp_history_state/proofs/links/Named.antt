@@ -4,7 +4,7 @@ use Rattle.tp_steps.proofs.lemmas.Options.{some_same}
 use Rattle.tp_history_state.specs.Named.{address_in, address_then, units_in, units_then}
 use Rattle.tp_history_state.proofs.links.Kin.{IsKin, kin_link, kin_moves}
 use Rattle.tp_history_state.proofs.links.LinkBy.{call_free}
-use Rattle.tp_history_state.proofs.links.Linked.{begun_arcs}
+use Rattle.tp_steps.proofs.every.Preludes.{begun_arcs}
 
 -- ---- arcs in lists
 
@@ -17,7 +17,7 @@ found_end (a ∷ arcs) n p = go (a.peer.node == p) (found_end arcs n p)
     go true rest = refl
     go false rest = rest
 
-found_put : (arcs : List Arc) (n x : Arc) (p : ℕ) → find_arc arcs n.peer.node ≡ Some x → find_arc (put_arc arcs n) p ≡ (if n.peer.node == p then Some n else find_arc arcs p)
+pub found_put : (arcs : List Arc) (n x : Arc) (p : ℕ) → find_arc arcs n.peer.node ≡ Some x → find_arc (put_arc arcs n) p ≡ (if n.peer.node == p then Some n else find_arc arcs p)
 found_put [] n x p h = absurd (cc (h))
 found_put (a ∷ arcs) n x p h = grind (arith, nat_tests, found_put arcs n x p, h)
 

@@ -1,6 +1,6 @@
 -- Which associations an event of a transaction ends: those whose end is deferred, where the user is told that a commitment is
 -- complete, and the one that the event itself ends. An instance of the steps of a turn.
-use Rattle.tp_history_state.proofs.Vocabulary.{if◌then◌else◌, ◌≡◌, ◌+◌, ◌⊎◌, inl, inr, ℕ, Bool, true, false, refl, ap, sym, ◌∙◌, arith, Option, Some, List, [], ◌∷◌, ◌++◌, ◌&&◌, ◌||◌, ◌==◌, nat_tests, Aaid, Report, Request, Indication, DialogueRecord, LogRec, TxEvent, TxOut, Who, Link, Idle, Arc, Key, Root, Under, Branch, Current, Digest, Sight, Acts, Nothing_happens, Out_of_phase, link_with, performed_one, performed, Row, Transaction, Turn, turn, and_then, aaid_of, is_under_at, find_row, put_row, with_row, with_arc_lost, all_prepared, all_done, carry_up, carry_down, forgets, done_up, ends_down, end_up, ask_each, retried, prepare_each, complete_commit, complete_rollback, begin_rolling, order, ask_commit, count_branch, end_branch, branch_left, sight_of_tx, takes, transacted, has_branch_at, is_end_deferred_at, is_leaving, seen, seen_rows, is_up_ending, committed_arcs, grants, perform_commit, Passage, played, sent_more, TurnSteps, loses, is_outcome_told, vote, row_dead, shut_given_up, IsPut, are_apart, asks_tell, count_to, apart_grants, step_turn, and_left, and_right, row_is, count_append, more_none, more_more, link_dialogues, link_without, carried_elsewhere, link_elsewhere, link_here, recovery_silent, shut_silent, tell_append, still_up, still_prepare, around_grants, parts_apart, IsWhole, link_left, Falls_at_once, Rolls_back, Leaves, Commits, part_by_part}
+use Rattle.tp_history_state.proofs.Vocabulary.{if◌then◌else◌, ◌≡◌, ◌+◌, ◌⊎◌, inl, inr, ℕ, Bool, true, false, refl, ap, sym, ◌∙◌, arith, Option, Some, List, [], ◌∷◌, ◌++◌, ◌&&◌, ◌||◌, ◌==◌, nat_tests, Aaid, Report, Request, Indication, DialogueRecord, LogRec, TxEvent, TxOut, Who, Link, Idle, Arc, Key, Root, Under, Branch, Current, Digest, Sight, Acts, Nothing_happens, Out_of_phase, link_with, performed_one, performed, Row, Transaction, Turn, turn, and_then, aaid_of, is_under_at, find_row, put_row, with_row, with_arc_lost, all_prepared, all_done, carry_up, carry_down, forgets, done_up, ends_down, end_up, ask_each, retried, prepare_each, complete_commit, complete_rollback, begin_rolling, order, ask_commit, count_branch, end_branch, branch_left, sight_of_tx, takes, transacted, has_branch_at, is_end_deferred_at, is_leaving, seen, seen_rows, is_up_ending, committed_arcs, grants, perform_commit, Passage, played, sent_more, Turns, loses, is_outcome_told, vote, row_dead, shut_given_up, IsPut, are_apart, asks_tell, count_to, apart_grants, every_turn, and_left, and_right, row_is, count_append, more_none, more_more, link_dialogues, link_without, carried_elsewhere, link_elsewhere, link_here, recovery_silent, shut_silent, tell_append, still_up, still_prepare, around_grants, parts_apart, IsWhole, link_left, Falls_at_once, Rolls_back, Leaves, Commits, part_by_part}
 use Rattle.tp_steps.specs.Moves.{is_apart}
 use Rattle.tp_history_state.proofs.passages.Passage.{is_committed_told}
 use Rattle.tp_history_state.proofs.lemmas.Tells.{ordering_tells, rolls_untold, completion_tells, unrolling_tells, retried_tells}
@@ -209,7 +209,7 @@ puts_off_end (TxEvent.User (Request.DeferEnd q)) = true
 puts_off_end (TxEvent.Took q DialogueRecord.DeferEnd) = true
 puts_off_end _ = false
 
-closing_turns : (p : ℕ) (e : TxEvent) (s : Transaction) → is_leaving e ≡ false → closes_by e p ≡ false → puts_off_end e ≡ false → TurnSteps e s (IsClosing p)
+closing_turns : (p : ℕ) (e : TxEvent) (s : Transaction) → is_leaving e ≡ false → closes_by e p ≡ false → puts_off_end e ≡ false → Turns e s (IsClosing p)
 unfolding ask_commit count_branch branch_left
 closing_turns p e s off other plain = record {
   still = λ t. closing_quiet p t (turn [] t) refl refl refl;
@@ -263,7 +263,7 @@ pub closing_turn : (p : ℕ) (e : TxEvent) (s : Transaction) → is_leaving e �
 closing_turn p e s off other put = go (puts_off_end e) refl
   where
     go : (b : Bool) → puts_off_end e ≡ b → shuts_in p (transacted e s).outs ≡ (ends_at p s && asks_tell is_committed_told (transacted e s).outs)
-    go false i = (step_turn e s (IsClosing p) (closing_turns p e s off other i) put).shuts
+    go false i = (every_turn e s (IsClosing p) (closing_turns p e s off other i) put).shuts
     go true i = let n = quiet_defer e s i in n.0 ∙ none_and (ends_at p s) ∙ ap (λ (v : Bool). ends_at p s && v) (sym n.1)
       where
         quiet_defer : (e : TxEvent) (s : Transaction) → puts_off_end e ≡ true → (shuts_in p (transacted e s).outs ≡ false) × (asks_tell is_committed_told (transacted e s).outs ≡ false)

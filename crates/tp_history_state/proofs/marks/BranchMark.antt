@@ -1,5 +1,5 @@
 -- A mark of the branch with a peer: false where the branch is new, and touched by some events of the transaction alone.
-use Rattle.tp_history_state.proofs.Vocabulary.{Bool, List, None, Option, Some, [], ap, arith, false, if◌then◌else◌, refl, sym, true, ℕ, ◌++◌, ◌==◌, ◌||◌, ◌∙◌, ◌∷◌, ◌≡◌, nat_tests, BranchId, Child, Report, DialogueRecord, PeerRecord, RecState, Arc, Branch, Current, Event, Who, Row, Transaction, Turn, all_prepared, ask_commit, begin_rolling, branch_left, complete_commit, complete_rollback, count_branch, end_branch, find_row, fresh_branch, fresh_rows, leave, order, put_row, row_holds, settle, transacted, with_arc_lost, with_row, TxEvent, TxOut, remaining, seen, seen_rows, named_again, IsAsked, TurnSteps, asks_tell, find_branch, is_left_word, row_dead, find_put, row_is, step_turn}
+use Rattle.tp_history_state.proofs.Vocabulary.{Bool, List, None, Option, Some, [], ap, arith, false, if◌then◌else◌, refl, sym, true, ℕ, ◌++◌, ◌==◌, ◌||◌, ◌∙◌, ◌∷◌, ◌≡◌, nat_tests, BranchId, Child, Report, DialogueRecord, PeerRecord, RecState, Arc, Branch, Current, Event, Who, Row, Transaction, Turn, all_prepared, ask_commit, begin_rolling, branch_left, complete_commit, complete_rollback, count_branch, end_branch, find_row, fresh_branch, fresh_rows, leave, order, put_row, row_holds, settle, transacted, with_arc_lost, with_row, TxEvent, TxOut, remaining, seen, seen_rows, named_again, IsAsked, Turns, asks_tell, find_branch, is_left_word, row_dead, find_put, row_is, every_turn}
 use Rattle.tp_history_state.specs.Reaching.{marked}
 use Rattle.tp_history_state.proofs.orders.Told.{IsRaised, always, none_told}
 use Rattle.tp_steps.proofs.words.HeardTurned.{left_find}
@@ -81,7 +81,7 @@ pub rows_settled : (t : Transaction) → (settle t).next.rows ≡ t.rows
 unfolding settle order
 rows_settled t = grind arith
 
-same_turns : (w : Branch → Bool) (p : ℕ) (hits : TxEvent → Bool) → IsMarking w p hits → (e : TxEvent) (s : Transaction) → hits e ≡ false → TurnSteps e s (IsSame w p)
+same_turns : (w : Branch → Bool) (p : ℕ) (hits : TxEvent → Bool) → IsMarking w p hits → (e : TxEvent) (s : Transaction) → hits e ≡ false → Turns e s (IsSame w p)
 unfolding ask_commit leave count_branch end_branch branch_left
 same_turns w p hits k e s off = record {
   still = λ t. refl;
@@ -186,7 +186,7 @@ unmarked w p hits k e off = record {
   begun = λ who arcs c u child inv is. (left_marked w p (transacted (TxEvent.Begun (child ∷ [])) (seen who arcs c)).next u is ∙ more_same w p k.fresh (seen_rows arcs c.branches) child ∙ seen_marked w p who arcs c, tt);
   turn = λ who arcs c u f inv asked put is.
       let t : Transaction = seen who arcs c in
-      (left_marked w p (transacted f t).next u is ∙ step_turn f t (IsSame w p) (same_turns w p hits k f t (hits_so hits e c f asked off)) put ∙ seen_marked w p who arcs c ∙ sym (ap (λ (b : Bool). b || marked w p c) (silent (transacted f t).outs)), tt);
+      (left_marked w p (transacted f t).next u is ∙ every_turn f t (IsSame w p) (same_turns w p hits k f t (hits_so hits e c f asked off)) put ∙ seen_marked w p who arcs c ∙ sym (ap (λ (b : Bool). b || marked w p c) (silent (transacted f t).outs)), tt);
   tells = λ who arcs c f inv asked put told. refl;
   spoken = λ i h. refl;
 }

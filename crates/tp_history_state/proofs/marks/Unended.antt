@@ -1,5 +1,5 @@
 -- In every legal history a branch of the current transaction that has not ended has no report.
-use Rattle.tp_history_state.proofs.Vocabulary.{Bool, List, None, Option, Some, [], ap, arith, false, if◌then◌else◌, not, refl, subst, sym, true, ℕ, ◌&&◌, ◌==◌, ◌||◌, ◌∙◌, ◌∷◌, ◌≡◌, Addr, Report, rank, Branch, Current, Digest, Entry, Event, Origin, Under, IsLegal, Row, Transaction, Turn, ask_commit, begin_rolling, branch_left, count_branch, end_branch, find_row, leave, order, put_row, row_holds, turn, transacted, with_row, TxEvent, TxOut, digest, fresh_current, seen, seen_rows, is_crash, TurnSteps, asks_tell, prelude, row_dead, Entered, Begun, Crashed, Plain, before_it, crash_next, late_law, some_same, started_again, step_turn}
+use Rattle.tp_history_state.proofs.Vocabulary.{Bool, List, None, Option, Some, [], ap, arith, false, if◌then◌else◌, not, refl, subst, sym, true, ℕ, ◌&&◌, ◌==◌, ◌||◌, ◌∙◌, ◌∷◌, ◌≡◌, Addr, Report, rank, Branch, Current, Digest, Entry, Event, Origin, Under, IsLegal, Row, Transaction, Turn, ask_commit, begin_rolling, branch_left, count_branch, end_branch, find_row, leave, order, put_row, row_holds, turn, transacted, with_row, TxEvent, TxOut, digest, fresh_current, seen, seen_rows, is_crash, Turns, asks_tell, prelude, row_dead, Entered, Begun, Crashed, Plain, before_it, crash_next, late_law, some_same, started_again, every_turn}
 use Rattle.tp_histories.proofs.trees.Entered.{entered}
 use Rattle.tp_history_state.proofs.orders.Told.{IsRaised, none_told, raised_event}
 use Rattle.tp_history_state.proofs.marks.Marked.{again_marked}
@@ -29,7 +29,7 @@ clean_put t q f outs peer k p h = go (find_row t.rows q) refl
         on true = k r
         on false = h
 
-clean_turns : (e : TxEvent) (s : Transaction) → TurnSteps e s IsCleanTurn
+clean_turns : (e : TxEvent) (s : Transaction) → Turns e s IsCleanTurn
 unfolding IsCleanTurn ask_commit leave count_branch end_branch branch_left order begin_rolling
 clean_turns e s = record {
   still = λ t p h. h;
@@ -77,7 +77,7 @@ clean_event e = record {
   begun = λ who arcs c u child inv is. (refl, λ p. left_marked is_unclean p (transacted (TxEvent.Begun (child ∷ [])) (seen who arcs c)).next u is ∙ more_same is_unclean p (λ x. refl) (seen_rows arcs c.branches) child ∙ seen_marked is_unclean p who arcs c ∙ inv p);
   turn = λ who arcs c u f inv asked put is.
       let t : Transaction = seen who arcs c in
-      (sym (flat (asks_tell none_told (transacted f t).outs) (silent (transacted f t).outs)), λ p. left_marked is_unclean p (transacted f t).next u is ∙ step_turn f t IsCleanTurn (clean_turns f t) put p (seen_marked is_unclean p who arcs c ∙ inv p));
+      (sym (flat (asks_tell none_told (transacted f t).outs) (silent (transacted f t).outs)), λ p. left_marked is_unclean p (transacted f t).next u is ∙ every_turn f t IsCleanTurn (clean_turns f t) put p (seen_marked is_unclean p who arcs c ∙ inv p));
   tells = λ who arcs c f inv asked put told. refl;
   spoken = λ i h. refl;
 }

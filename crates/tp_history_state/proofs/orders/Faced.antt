@@ -2,7 +2,7 @@
 -- the superior; or it is one that a start gave, and no arc of the node is or becomes live before it is over.
 use Rattle.tp_history_state.proofs.Vocabulary.{if◌then◌else◌, ◌≡◌, ◌⊎◌, inl, inr, ℕ, Bool, true, false, refl, ap, sym, subst, ◌∙◌, arith, Option, Some, None, List, [], ◌∷◌, ◌++◌, ◌==◌, not, nat_tests, Addr, Child, Request, Phase, TxEvent, Who, Origin, Event, Entry, Link, Idle, Opening, Offered, Live, Arc, Key, Root, Under, Current, Digest, is_nil, is_active, is_late, is_live, find_arc, link_with, is_live_with_peer, without_arc, with_dialogue, Transaction, is_under_at, transacted, has_branch_at, refused_request, Move, perform, next_mark, is_superior, phase_of, seen_rows, seen, may_begin_on, begin_on, fresh_current, turned, refusal, verdict, after_crash, started, action, digest, is_at, sent_more, IsGrown, Moves, IsPut, prelude, IsLinked, every_move, root_in, Came, As_it_was, By_begin, By_crash, came_by, kin, kids_seen, kids_left, kids_more, kin_turn, is_headed_by, are_below, kin_below, below_is, below_end, none_below, under_headed, IsPlaced, placed_then, placed_arcs, dead_without, not_above, superior_at, placed_law, headed_first, headed_law, late_law, linked_moves, link_dialogue, link_without, passed_turn, Prelinked, As_before, Now_idle, Now_called, Now_offered, Now_accepted, Now_confirmed, Took_one, called_at, prelinked, left_is, left_branches, traced_law}
 use Rattle.tp_histories.proofs.worlds.Unique.{superior_is}
-use Rattle.tp_history_state.proofs.lemmas.Begins.{begun_child, sent_begin, begins_so}
+use Rattle.tp_history_state.proofs.lemmas.Begins.{next_child, begun_over, begins_so}
 
 -- neither live nor opening
 abbrev is_waiting : Link → Bool
@@ -57,19 +57,19 @@ faced_turned up who f d c now put k h u is = elim (h c now) [
 faced_begins : (up : Option Addr) (who : Who) (q : ℕ) (d : Digest) → ((p : ℕ) → IsLinked p d (begin_on who q d)) → IsPlaced up d → IsFaced up d → IsFaced up (begin_on who q d).next
 faced_begins up who q d k placed h = begins_so (λ m. ((p : ℕ) → IsLinked p d m) → IsFaced up m.next) who q d (λ l. h) sent k
   where
-    sent : (c : Current) → d.current ≡ Some c → (a : Arc) → find_arc d.arcs q ≡ Some a → not (may_begin_on who d a) ≡ false → ((p : ℕ) → IsLinked p d (sent_begin who q d c a)) → IsFaced up (sent_begin who q d c a).next
+    sent : (c : Current) → d.current ≡ Some c → (a : Arc) → find_arc d.arcs q ≡ Some a → not (may_begin_on who d a) ≡ false → ((p : ℕ) → IsLinked p d (begun_over who q d c a)) → IsFaced up (begun_over who q d c a).next
     sent c i a found j l = λ u is. elim (h c i) [
       | inl x ↦ inl (ap (is_headed_by up) (left_is next u is).0 ∙ x.0, below_is up u.branches ∙ ap (kin_below up) (same u is) ∙ below_end up (kin c.branches) child (sym (below_is up c.branches) ∙ x.1) (not_above up who d q a found j placed))
-      | inr w ↦ inr (waits_then d (sent_begin who q d c a) l w)
+      | inr w ↦ inr (waits_then d (begun_over who q d c a) l w)
     ]
       where
         child : Child
-        child = begun_child who d a
+        child = next_child who d a
 
         next : Transaction
         next = (transacted (TxEvent.Begun (child ∷ [])) (seen who d.arcs c)).next
 
-        same : (u : Current) → (sent_begin who q d c a).next.current ≡ Some u → kin u.branches ≡ kin c.branches ++ child ∷ []
+        same : (u : Current) → (begun_over who q d c a).next.current ≡ Some u → kin u.branches ≡ kin c.branches ++ child ∷ []
         same u is = ap kin (left_branches next u is) ∙ kids_left next.rows ∙ kids_more (seen_rows d.arcs c.branches) child ∙ ap (λ cs. cs ++ child ∷ []) (kids_seen d.arcs c.branches)
 
 faced_fresh : (up : Option Addr) (k : Key) (d : Digest) → is_headed_by up k ≡ true → d.current ≡ Some (fresh_current k) → IsFaced up d

@@ -1,6 +1,6 @@
 -- An event of a transaction ends it where it tells that it is complete, or where its user leaves: an instance of the steps
 -- of a turn.
-use Rattle.tp_history_state.proofs.Vocabulary.{◌≡◌, Bool, true, false, refl, ap, sym, ◌∙◌, arith, List, [], ◌++◌, ◌||◌, Report, Indication, DialogueRecord, Phase, TxEvent, TxOut, is_nil, is_active, is_ready, is_committing, is_rolling, Transaction, Turn, turn, and_then, all_done, complete_commit, complete_rollback, begin_rolling, order, ask_commit, leave, count_branch, end_branch, branch_left, retried, transacted, is_leaving, row_dead, TurnSteps, IsPut, asks_tell, step_turn, row_phase, tell_append, still_up, still_prepare}
+use Rattle.tp_history_state.proofs.Vocabulary.{◌≡◌, Bool, true, false, refl, ap, sym, ◌∙◌, arith, List, [], ◌++◌, ◌||◌, Report, Indication, DialogueRecord, Phase, TxEvent, TxOut, is_nil, is_active, is_ready, is_committing, is_rolling, Transaction, Turn, turn, and_then, all_done, complete_commit, complete_rollback, begin_rolling, order, ask_commit, leave, count_branch, end_branch, branch_left, retried, transacted, is_leaving, row_dead, Turns, IsPut, asks_tell, every_turn, row_phase, tell_append, still_up, still_prepare}
 use Rattle.tp_steps.proofs.words.FairTurns.{lost_phase}
 use Rattle.tp_history_state.proofs.lemmas.Tells.{ordering_tells, rolls_untold, completion_tells, unrolling_tells, retried_tells}
 
@@ -52,7 +52,7 @@ ending_rollback : (e : TxEvent) (t : Transaction) → is_rolling t.phase ≡ tru
 unfolding complete_rollback
 ending_rollback e t c = grind (arith, unrolling_tells)
 
-ending_turns : (e : TxEvent) (s : Transaction) → TurnSteps e s (IsEnding e)
+ending_turns : (e : TxEvent) (s : Transaction) → Turns e s (IsEnding e)
 unfolding ask_commit leave count_branch end_branch branch_left
 ending_turns e s = record {
   still = λ t. ending_same e t (turn [] t) refl refl;
@@ -90,4 +90,4 @@ ending_turns e s = record {
 
 -- every event of a transaction but a leaving
 pub over_turn : (e : TxEvent) (s : Transaction) → IsPut e s → is_leaving e ≡ false → is_nil (transacted e s).next.phase ≡ asks_tell is_over_told (transacted e s).outs
-over_turn e s put off = (step_turn e s (IsEnding e) (ending_turns e s) put).told put.late off
+over_turn e s put off = (every_turn e s (IsEnding e) (ending_turns e s) put).told put.late off

@@ -1,6 +1,6 @@
 -- In every legal history the user owes its done of the current transaction if it was told to commit or to roll back since the
 -- key was begun, and has not given it since; and where the transaction commits by the log, since the last crash.
-use Rattle.tp_history_state.proofs.Vocabulary.{if◌then◌else◌, ◌≡◌, inl, inr, ℕ, Bool, true, false, refl, ap, sym, subst, ◌∙◌, arith, Option, Some, None, List, [], ◌∷◌, ◌++◌, ◌||◌, Addr, NodeKey, Report, Request, Indication, DialogueRecord, LogRec, Phase, TxEvent, TxOut, Who, Origin, Event, Entry, Out, Current, Digest, is_active, is_committing, Row, Transaction, Turn, turn, aaid_of, node_key, with_row, with_branch, with_arc_lost, all_done, complete_commit, complete_rollback, begin_rolling, order, ask_commit, leave, count_branch, end_branch, branch_left, retried, transacted, Move, move, followed, seen, remaining, is_over, is_leaving, passage, try_start, transact, turned, is_crash, takes_begin, begins, tells_order, is_done_request, phase_in, owes_in, digest, refusal, action, recovered_current, same_bool, IsLegal, decide, row_dead, shut_given_up, is_outcome_told, TurnSteps, IsAsked, begun_by_record, prelude, asks_tell, out_tells, owes_agrees, tell_append, still_up, still_prepare, still_ask, told_append, told_played, step_turn, left_is, late_law, some_same, key_self, no_begin, bool_self, before_it, crash_next, phase_law, IsStepTo, IsMark, mark_law, recovered_is, started_again, whole_turn, started_next}
+use Rattle.tp_history_state.proofs.Vocabulary.{if◌then◌else◌, ◌≡◌, inl, inr, ℕ, Bool, true, false, refl, ap, sym, subst, ◌∙◌, arith, Option, Some, None, List, [], ◌∷◌, ◌++◌, ◌||◌, Addr, NodeKey, Report, Request, Indication, DialogueRecord, LogRec, Phase, TxEvent, TxOut, Who, Origin, Event, Entry, Out, Current, Digest, is_active, is_committing, Row, Transaction, Turn, turn, aaid_of, node_key, with_row, with_branch, with_arc_lost, all_done, complete_commit, complete_rollback, begin_rolling, order, ask_commit, leave, count_branch, end_branch, branch_left, retried, transacted, Move, move, followed, seen, remaining, is_over, is_leaving, passage, try_start, transact, turned, is_crash, takes_begin, begins, tells_order, is_done_request, phase_in, owes_in, digest, refusal, action, recovered_current, same_bool, IsLegal, decide, row_dead, shut_given_up, is_outcome_told, Turns, IsAsked, begun_by_record, prelude, asks_tell, out_tells, owes_agrees, tell_append, still_up, still_prepare, still_ask, told_append, told_played, every_turn, left_is, late_law, some_same, key_self, no_begin, bool_self, before_it, crash_next, phase_law, IsStepTo, IsMark, mark_law, recovered_is, started_again, whole_turn, started_next}
 use Rattle.tp_history_state.proofs.orders.Told.{IsRaised, IsFrom, IsHeld, least, raised_event, raised_step, raised_start}
 use Rattle.tp_history_state.proofs.lemmas.Tells.{ordering_tells, rolls_tell, completion_tells, unrolling_tells, leave_tells}
 use Rattle.tp_history_state.proofs.passages.Shown.{is_early}
@@ -107,7 +107,7 @@ not_order i h = grind (arith, h)
 active_early : (p : Phase) → is_active p ≡ true → is_early p ≡ true
 active_early p h = rw h refl
 
-owing_turns : (e : TxEvent) (s : Transaction) → (e ≡ TxEvent.User Request.Done → ⊥) → TurnSteps e s IsOwing
+owing_turns : (e : TxEvent) (s : Transaction) → (e ≡ TxEvent.User Request.Done → ⊥) → Turns e s IsOwing
 owing_turns e s off = record {
   still = λ t. owing_same t (turn [] t) refl refl refl;
   first = λ t u outs a one two. owing_then t u a.next outs a.outs one two;
@@ -163,7 +163,7 @@ raised e ok off may = record {
   begun = λ who arcs c u child calm is. let l = left_owes (transacted (TxEvent.Begun (child ∷ [])) (seen who arcs c)).next u is in (l.0, calm_left (transacted (TxEvent.Begun (child ∷ [])) (seen who arcs c)).next u is calm);
   turn = λ who arcs c u f calm asked put is.
       let t : Transaction = seen who arcs c in
-      let k = step_turn f t IsOwing (owing_turns f t (done_so e c f off asked)) put calm in
+      let k = every_turn f t IsOwing (owing_turns f t (done_so e c f off asked)) put calm in
       ((left_owes (transacted f t).next u is).0 ∙ k.0, calm_left (transacted f t).next u is k.1);
   tells = λ who arcs c f calm asked put told. may c f (seen who arcs c) asked told;
   spoken = not_order;

@@ -1,9 +1,9 @@
 -- What an accepted event makes of the node's own report of the current transaction.
-use Rattle.tp_history_state.proofs.Vocabulary.{◌≡◌, ◌≤◌, ◌⊎◌, inl, inr, ℕ, suc, Bool, true, false, refl, ap, sym, subst, ◌∙◌, arith, Option, Some, None, List, [], ◌∷◌, ◌||◌, Aaid, BranchId, Addr, Report, PeerRecord, RecState, LogRec, TxEvent, Kept, KeptEvent, Who, Event, Arc, Key, Root, Current, Digest, is_nil, is_rolling, without_arc, with_dialogue, settled, Transaction, Turn, transacted, Move, move, followed, perform, next_mark, seen, begin_on, fresh_current, turned, keep, rolls, refusal, action, falls, Steps, IsPut, IsAsked, IsLate, IsSettling, prelude, is_old, step_turn, step_move, rolls_so, passed_turn, left_is, some_same, root_in, next_new, IsNew}
+use Rattle.tp_history_state.proofs.Vocabulary.{◌≡◌, ◌≤◌, ◌⊎◌, inl, inr, ℕ, suc, Bool, true, false, refl, ap, sym, subst, ◌∙◌, arith, Option, Some, None, List, [], ◌∷◌, ◌||◌, Aaid, BranchId, Addr, Report, PeerRecord, RecState, LogRec, TxEvent, Kept, KeptEvent, Who, Event, Arc, Key, Root, Current, Digest, is_nil, is_rolling, without_arc, with_dialogue, settled, Transaction, Turn, transacted, Move, move, followed, perform, next_mark, seen, begin_on, fresh_current, turned, keep, rolls, refusal, action, falls, Steps, IsPut, IsAsked, IsLate, IsSettling, prelude, is_old, every_turn, step_move, rolls_so, passed_turn, left_is, some_same, root_in, next_new, IsNew}
 use Rattle.tp_steps.proofs.links.Marks.{Same_boot}
 use Rattle.tp_history_state.proofs.orders.Told.{over_drawn, through, between, least}
 use Rattle.tp_history_state.proofs.orders.OwnTurns.{damages, IsPass, pass_then, damages_then, IsOwn, own_turns, left_own}
-use Rattle.tp_history_state.proofs.lemmas.Begins.{begun_child, begins_so}
+use Rattle.tp_history_state.proofs.lemmas.Begins.{next_child, begins_so}
 
 -- ---- the steps of an event
 
@@ -83,7 +83,7 @@ held_turned fall who s d f c now so put like after = record {
     a = transacted f t
 
     one : IsOwn fall t a
-    one = step_turn f t (IsOwn fall) (own_turns fall f t so) put
+    one = every_turn f t (IsOwn fall) (own_turns fall f t so) put
 
     go : (u : Current) → (u.own ≡ a.next.own) × (u.phase ≡ a.next.phase) × (is_nil a.next.phase ≡ false) → IsPass (Unit {0}) fall t.own (is_rolling t.phase) a.next.own (is_rolling a.next.phase) (damages a.rec) → IsNext fall s d a.rec c u
     go u l (inl m) = inl (l.0 ∙ m.0, ap is_rolling l.1 ∙ m.1, m.2)
@@ -96,7 +96,7 @@ held_begins fall who s q d after =
       boot = refl;
       drawn = omega arith;
       from = λ u is.
-          let t : Transaction = (transacted (TxEvent.Begun (begun_child who d a ∷ [])) (seen who d.arcs c)).next in
+          let t : Transaction = (transacted (TxEvent.Begun (next_child who d a ∷ [])) (seen who d.arcs c)).next in
           let l = left_own t u is in
           inl (c, i, (left_is t u is).0, inl (l.0, ap is_rolling l.1, λ h. refl));
     })

@@ -1,6 +1,6 @@
 -- What an event of a transaction makes of the node's own report: it stays, and so does whether the transaction rolls; or it
 -- rolls from now on, and the report is damage if the turn logs one.
-use Rattle.tp_history_state.proofs.Vocabulary.{if◌then◌else◌, ◌≡◌, ◌⊎◌, inl, ℕ, Bool, true, false, refl, ap, sym, subst, ◌∙◌, arith, Option, Some, None, List, [], ◌∷◌, ◌||◌, false_from_ne_true, Report, Indication, DialogueRecord, LogRec, Phase, TxEvent, TxOut, Current, is_nil, is_active, is_ready, is_rolling, Row, Transaction, Turn, turn, and_then, before, with_row, with_branch, with_arc_lost, all_done, complete_commit, complete_rollback, begin_rolling, order, ask_commit, leave, count_branch, end_branch, branch_left, retried, remaining, falls, vote, decide, row_dead, shut_given_up, TurnSteps, is_damage}
+use Rattle.tp_history_state.proofs.Vocabulary.{if◌then◌else◌, ◌≡◌, ◌⊎◌, inl, ℕ, Bool, true, false, refl, ap, sym, subst, ◌∙◌, arith, Option, Some, None, List, [], ◌∷◌, ◌||◌, false_from_ne_true, Report, Indication, DialogueRecord, LogRec, Phase, TxEvent, TxOut, Current, is_nil, is_active, is_ready, is_rolling, Row, Transaction, Turn, turn, and_then, before, with_row, with_branch, with_arc_lost, all_done, complete_commit, complete_rollback, begin_rolling, order, ask_commit, leave, count_branch, end_branch, branch_left, retried, remaining, falls, vote, decide, row_dead, shut_given_up, Turns, is_damage}
 
 abbrev pub damages : Option LogRec → Bool
 damages r = elim r as (λ _. Bool) [ None ↦ false | Some x ↦ is_damage x ]
@@ -109,7 +109,7 @@ own_first fall t u outs a one two = (
       pass_then (Unit {0}) (Unit {0}) (λ x. x) fall t.own u.own a.next.own (is_rolling t.phase) (is_rolling u.phase) (is_rolling a.next.phase) false (damages a.rec) (one.1 mid) (two.1 h),
 )
 
-pub own_turns : (fall : Bool) (e : TxEvent) (s : Transaction) → (falls e s ≡ true → fall ≡ true) → TurnSteps e s (IsOwn fall)
+pub own_turns : (fall : Bool) (e : TxEvent) (s : Transaction) → (falls e s ≡ true → fall ≡ true) → Turns e s (IsOwn fall)
 own_turns fall e s so = record {
   still = λ t. steady fall t (turn [] t) refl refl refl;
   first = λ t u outs a one two. own_first fall t u outs a one two;

@@ -1,75 +1,13 @@
 -- In every legal history the superior has rolled the current transaction if its Rollback was taken since the key was begun, or
 -- the reply that it knows of nothing, at the ready key, and since the last crash.
-use Rattle.tp_history_state.proofs.Vocabulary.{if◌then◌else◌, ◌≡◌, ◌⊎◌, inl, inr, ℕ, Bool, true, false, refl, ap, sym, subst, ◌∙◌, arith, Option, Some, None, List, [], ◌∷◌, ◌||◌, ◌&&◌, ◌==◌, and-false, and-true, nat_tests, Mark, Aaid, BranchId, Addr, NodeKey, Report, is_key, DialogueRecord, PeerRecord, RecState, LogRec, TxEvent, TxOut, Who, Origin, Event, Entry, Out, Arc, Key, Current, Digest, is_rolling, Sight, Acts, Nothing_happens, Out_of_phase, with_one_taken, find_arc, is_live_with_peer, with_link, Row, Transaction, Turn, node_key, is_under_at, find_row, row_holds, with_row, with_arc_lost, acts, sight_of_tx, complete_commit, complete_rollback, begin_rolling, order, roll, turn, superior_rolls, ask_commit, leave, count_branch, end_branch, branch_left, transacted, has_branch_at, Move, move, is_superior, seen, seen_rows, remaining, passed, transact, turned, branch_key, named_by_key, is_current_ready, sight_of, sight_at, take_record, woken_by, take_on, acting_from, is_record, is_up, takes_begin, is_rollback_record, is_current_key, superior_rolled_by, superior_rolled_in, digest, refusal, action, same_bool, IsGrown, IsLegal, row_dead, hears_rollback, TurnSteps, IsAsked, prelude, asks_tell, out_tells, superior_rolled_agrees, step_turn, seen_branch, the, find_arc_is, on_none, on_live, plain_arrival, ready_named, no_begin, sight_rollback, late_law, left_is, key_self, IsNew, IsStep, IsFlag, flag_law, bool_self, started_next}
+use Rattle.tp_history_state.proofs.Vocabulary.{if◌then◌else◌, ◌≡◌, ◌⊎◌, inl, inr, ℕ, Bool, true, false, refl, ap, sym, subst, ◌∙◌, arith, Option, Some, None, List, [], ◌∷◌, ◌||◌, ◌&&◌, ◌==◌, and-false, and-true, nat_tests, Mark, Aaid, BranchId, Addr, NodeKey, is_key, DialogueRecord, PeerRecord, RecState, LogRec, TxEvent, TxOut, Who, Origin, Event, Entry, Out, Arc, Key, Current, Digest, is_rolling, Sight, Acts, Nothing_happens, Out_of_phase, with_one_taken, find_arc, is_live_with_peer, with_link, Row, Transaction, Turn, node_key, is_under_at, find_row, row_holds, acts, sight_of_tx, complete_rollback, begin_rolling, roll, turn, superior_rolls, transacted, has_branch_at, Move, move, is_superior, seen, seen_rows, remaining, passed, transact, turned, branch_key, named_by_key, is_current_ready, sight_of, sight_at, take_record, woken_by, take_on, acting_from, is_record, is_up, takes_begin, is_rollback_record, is_current_key, superior_rolled_by, superior_rolled_in, digest, refusal, action, same_bool, IsGrown, IsLegal, hears_rollback, IsAsked, prelude, asks_tell, out_tells, superior_rolled_agrees, every_turn, seen_branch, the, find_arc_is, on_none, on_live, plain_arrival, ready_named, no_begin, sight_rollback, late_law, left_is, key_self, IsNew, IsStep, IsFlag, flag_law, bool_self, started_next}
 use Rattle.tp_history_state.proofs.orders.Faced.{faced_live}
 use Rattle.tp_history_state.proofs.orders.Told.{none_told, always, least, IsRaised, raised_event, raised_step, started_from}
 use Rattle.tp_history_state.proofs.handshakes.TouchedEntry.{acting_is}
+use Rattle.tp_runs.proofs.FlagTurns.{IsFlagTurn, flag_turns, kept_rolls, kept_unrolls}
 
 abbrev rolled_up : Current → Bool
 rolled_up c = c.superior_rolled
-
--- ---- a turn: that the superior rolled is noted where it is heard
-
-abbrev IsSame : Transaction → Turn → Type 0
-IsSame t a = a.next.superior_rolled ≡ t.superior_rolled
-
-same_row : (t : Transaction) (q : ℕ) (f : Row → Row) → (with_row t q f).superior_rolled ≡ t.superior_rolled
-same_row t q f = grind arith
-
-same_lost : (t : Transaction) (q : ℕ) → (with_arc_lost t q).superior_rolled ≡ t.superior_rolled
-same_lost t q = grind (arith, same_row)
-
-same_order : (t : Transaction) → IsSame t (order t)
-unfolding order
-same_order t = refl
-
-same_rolls : (asked : Bool) (t : Transaction) → IsSame t (begin_rolling asked t)
-unfolding begin_rolling
-same_rolls asked t = refl
-
-same_completes : (t : Transaction) → IsSame t (complete_commit t)
-unfolding complete_commit
-same_completes t = grind arith
-
-same_unrolls : (t : Transaction) → IsSame t (complete_rollback t)
-unfolding complete_rollback
-same_unrolls t = grind arith
-
-same_turns : (e : TxEvent) (s : Transaction) → (hears_rollback e s ≡ false) → TurnSteps e s IsSame
-unfolding ask_commit leave count_branch end_branch branch_left
-same_turns e s off = record {
-  still = λ t. refl;
-  first = λ t u outs a one two. two ∙ one;
-  chain = λ t a f one two none. two ∙ one;
-  tells = λ t i n. refl;
-  notes_prepare = λ pr h. refl;
-  notes_done = λ is. refl;
-  notes_end = λ q is. refl;
-  notes_rollback = λ ro h. absurd (cc (ro, off));
-  defers_end = λ q is. same_row s q (λ r. record r { ends = true });
-  defers_grant = λ q is. refl;
-  prepares = λ q. same_row s q (λ r. record r { branch = record r.branch { prepared = true } });
-  asks = λ is act asked told. refl;
-  asks_again = refl;
-  decides = λ o is ready. refl;
-  aborts = λ q is. same_lost s q;
-  loses_arc = λ q gone. same_lost s q;
-  closes_left = λ q is. same_row s q row_dead;
-  gives_up = λ q r is c found. same_row s q (λ w. record w { branch = record w.branch { given_up = true }; live = false; ends = false });
-  counts = λ q is act row. same_row s q (λ r. record r { branch = record r.branch { counted = true } });
-  ends_done = λ q r is c row. same_row s q (λ w. record w { branch = record w.branch { ended = true; report = r } });
-  ends_replied = λ b w r is found o. same_row s w.branch.peer.node (λ v. record v { branch = record v.branch { ended = true; report = r } });
-  ends_rolled = λ q r is c row. same_row s q (λ w. record w { branch = record w.branch { ended = true; report = r } });
-  leaves_below = λ q w t is left at act. same_row t q (λ v. record v { branch = record v.branch { left = true } });
-  leaves_rolling = λ q w t is left at c. same_row t q (λ v. record v { branch = record v.branch { ended = true; report = Report.None } });
-  votes = λ t act asked all under. refl;
-  orders_root = λ t act asked all root. same_order t;
-  orders_ready = λ ready is. same_order s;
-  rolls = λ t asked f ok. same_rolls asked t;
-  completes_commit = λ t c. same_completes t;
-  completes_rollback = λ t c. same_unrolls t;
-  leaves = λ is act under asked all. refl;
-}
 
 left_rolled : (t : Transaction) (u : Current) → remaining t ≡ Some u → u.superior_rolled ≡ t.superior_rolled
 left_rolled t u i = grind arith
@@ -95,7 +33,7 @@ raised e off = record {
   begun = λ who arcs c u child inv is. (left_rolled (transacted (TxEvent.Begun (child ∷ [])) (seen who arcs c)).next u is, tt);
   turn = λ who arcs c u f inv asked put is.
       let t : Transaction = seen who arcs c in
-      (left_rolled (transacted f t).next u is ∙ step_turn f t IsSame (same_turns f t (quiet f t c asked (hears_rollback f t) refl)) put ∙ sym (ap (λ (b : Bool). b || c.superior_rolled) (silent (transacted f t).outs)), tt);
+      (left_rolled (transacted f t).next u is ∙ (every_turn f t (IsFlagTurn f t) (flag_turns f t) put).1 (quiet f t c asked (hears_rollback f t) refl) ∙ sym (ap (λ (b : Bool). b || c.superior_rolled) (silent (transacted f t).outs)), tt);
   tells = λ who arcs c f inv asked put told. refl;
   spoken = λ i h. refl;
 }
@@ -112,7 +50,7 @@ raised e off = record {
 
 rolls_noted : (t : Transaction) (asked : Bool) → ((roll asked t).next.superior_rolled ≡ t.superior_rolled) × ((roll asked t).next.key ≡ t.key)
 unfolding begin_rolling complete_rollback
-rolls_noted t asked = (same_unrolls (begin_rolling asked t).next ∙ same_rolls asked t, grind arith)
+rolls_noted t asked = ((kept_unrolls (begin_rolling asked t).next).1 ∙ (kept_rolls asked t).1, grind arith)
 
 unrolled_key : (t : Transaction) → (complete_rollback t).next.key ≡ t.key
 unfolding complete_rollback
@@ -125,7 +63,7 @@ superior_noted t = go (is_rolling t.phase)
     u = record t { superior_rolled = true }
 
     go : (b : Bool) → ((if b then complete_rollback u else roll false u).next.superior_rolled ≡ true) × ((if b then complete_rollback u else roll false u).next.key ≡ t.key)
-    go true = (same_unrolls u, unrolled_key u)
+    go true = ((kept_unrolls u).1, unrolled_key u)
     go false = rolls_noted u false
 
 -- the superior's Rollback notes it, and a branch's does not

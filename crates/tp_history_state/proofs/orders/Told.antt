@@ -2,7 +2,7 @@
 -- of the steps of a node.
 use Rattle.tp_history_state.proofs.Vocabulary.{if◌then◌else◌, ◌≡◌, ◌≤◌, ◌⊎◌, inl, inr, ℕ, suc, Bool, true, false, refl, ap, sym, subst, ◌∙◌, arith, Option, Some, None, List, [], ◌∷◌, ◌++◌, ◌||◌, Child, Indication, TxEvent, TxOut, Who, Event, Out, Tell, Send, Arc, Key, Root, Current, Digest, without_arc, with_dialogue, Transaction, Turn, transacted, settled, Move, move, followed, perform, next_mark, seen, remaining, begin_on, try_start, is_over, passed, transact, fresh_current, turned, keep, refusal, action, is_outcome_told, Steps, IsPut, IsAsked, IsLate, prelude, asks_tell, out_tells, is_old, told_append, told_performed, told_played, step_start, step_move, left_is, passed_turn, settled_spoken, some_same, IsNew, IsStep, root_in, next_new, whole_turn, started_next}
 use Rattle.tp_steps.proofs.links.Marks.{Same_boot}
-use Rattle.tp_history_state.proofs.lemmas.Begins.{begun_child, begin_word, begin_arcs, sent_begin, begins_so}
+use Rattle.tp_history_state.proofs.lemmas.Begins.{next_child, begin_word, begin_arcs, begun_over, begins_so}
 use Rattle.tp_history_state.proofs.lemmas.Spoken.{spoken_untold}
 
 -- in an event e: the flag g is raised by what the test tells of, which `ok` allows; inv holds of what is current
@@ -117,14 +117,14 @@ held_begins : (tell : Indication → Bool) (g : Current → Bool) (inv : Current
 held_begins tell g inv e ok k who s q d after =
     begins_so (IsHeld tell g inv ok who s d) who q d (held_same tell g inv ok who s d (move [] d) refl refl refl refl after)
     (λ c i a found may.
-    let none : out_tells tell (sent_begin who q d c a).outs ≡ false = told_performed tell (begin_arcs q d a) (TxOut.Carry q (begin_word who d c a) ∷ []) in
+    let none : out_tells tell (begun_over who q d c a).outs ≡ false = told_performed tell (begin_arcs q d a) (TxOut.Carry q (begin_word who d c a) ∷ []) in
     record {
       boot = refl;
       drawn = omega arith;
       early = λ h. absurd (cc (none, h));
       from = λ u is.
-          let z = k.begun who d.arcs c u (begun_child who d a) (after.2 c i) is in
-          (inl (c, i, (left_is (transacted (TxEvent.Begun (begun_child who d a ∷ [])) (seen who d.arcs c)).next u is).0, z.0 ∙ sym (ap (λ (x : Bool). x || g c) none)), z.1);
+          let z = k.begun who d.arcs c u (next_child who d a) (after.2 c i) is in
+          (inl (c, i, (left_is (transacted (TxEvent.Begun (next_child who d a ∷ [])) (seen who d.arcs c)).next u is).0, z.0 ∙ sym (ap (λ (x : Bool). x || g c) none)), z.1);
     })
 
 held_roots : (tell : Indication → Bool) (g : Current → Bool) (inv : Current → Type 0) (e : Event) (ok : Bool) → IsRaised tell g inv e ok → (who : Who) (s d : Digest) (m : Move) → IsHolding tell g inv ok who s (root_in who d) m → IsHolding tell g inv ok who s d m

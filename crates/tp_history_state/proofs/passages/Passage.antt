@@ -1,6 +1,6 @@
 -- Which passage an event of a transaction makes, by what is logged, by a rollback, and by what the user is told: an instance
 -- of the steps of a turn.
-use Rattle.tp_history_state.proofs.Vocabulary.{◌≡◌, ◌⊎◌, inl, inr, ℕ, Bool, true, false, refl, ap, sym, subst, ◌∙◌, arith, Option, Some, None, List, [], ◌∷◌, ◌++◌, ◌&&◌, ◌||◌, or-true, or_parts, or_right, Report, Request, Indication, DialogueRecord, LogRec, Phase, TxEvent, TxOut, is_nil, is_active, is_ready, is_committing, is_rolling, Transaction, Turn, turn, and_then, is_under, all_done, done_up, rollback_rec, complete_commit, complete_rollback, begin_rolling, order, prepare_each, ask_commit, leave, count_branch, end_branch, branch_left, transacted, is_leaving, Passage, Stays, Enters, Falls, Falls_at_once, Commits, Rolls_back, Leaves, passage, logs_ready_or_commit, TurnSteps, falls, is_outcome_told, vote, shut_given_up, row_dead, IsPut, asks_tell, step_turn, row_phase, tell_append, still_up, still_prepare, is_rolled_told, is_some_rec, IsStaged, staged_turn, part_by_part}
+use Rattle.tp_history_state.proofs.Vocabulary.{◌≡◌, ◌⊎◌, inl, inr, ℕ, Bool, true, false, refl, ap, sym, subst, ◌∙◌, arith, Option, Some, None, List, [], ◌∷◌, ◌++◌, ◌&&◌, ◌||◌, or-true, or_parts, or_right, Report, Request, Indication, DialogueRecord, LogRec, Phase, TxEvent, TxOut, is_nil, is_active, is_ready, is_committing, is_rolling, Transaction, Turn, turn, and_then, is_under, all_done, done_up, rollback_rec, complete_commit, complete_rollback, begin_rolling, order, prepare_each, ask_commit, leave, count_branch, end_branch, branch_left, transacted, is_leaving, Passage, Stays, Enters, Falls, Falls_at_once, Commits, Rolls_back, Leaves, passage, logs_ready_or_commit, Turns, falls, is_outcome_told, vote, shut_given_up, row_dead, IsPut, asks_tell, every_turn, row_phase, tell_append, still_up, still_prepare, is_rolled_told, is_some_rec, IsStaged, staged_turn, part_by_part}
 use Rattle.tp_steps.proofs.words.FairTurns.{lost_phase}
 use Rattle.tp_history_state.proofs.lemmas.Passages.{no_leaving}
 use Rattle.tp_history_state.proofs.lemmas.Tells.{ordering_tells, rolls_untold, completion_tells, unrolling_tells, leave_tells, retried_tells}
@@ -188,7 +188,7 @@ going_report : (e : TxEvent) (s t : Transaction) (q : ℕ) (x : Report) → IsGo
 unfolding end_branch
 going_report e s t q x = going_same e s t (end_branch q x t) (row_phase t q (λ r. record r { branch = record r.branch { ended = true; report = x } })) refl (grind arith, grind arith)
 
-going_turns : (e : TxEvent) (s : Transaction) → TurnSteps e s (IsGoing e s)
+going_turns : (e : TxEvent) (s : Transaction) → Turns e s (IsGoing e s)
 unfolding ask_commit count_branch branch_left
 going_turns e s = record {
   still = λ t. going_same e s t (turn [] t) refl refl (refl, refl);
@@ -254,7 +254,7 @@ ends Rolls_back = false
 ends Leaves = false
 
 going_turn : (e : TxEvent) (s : Transaction) → IsPut e s → IsGoing e s s (transacted e s)
-going_turn e s put = step_turn e s (IsGoing e s) (going_turns e s) put
+going_turn e s put = every_turn e s (IsGoing e s) (going_turns e s) put
 
 dropped_from : (p q : Phase) → drops (passage false p q) ≡ true → ((is_early p ≡ true) × ((is_rolling q || is_nil q) ≡ true)) ⊎ ((is_rolling p ≡ true) × (is_nil q ≡ true))
 dropped_from p q h1 = grind arith
@@ -315,7 +315,7 @@ passage_turn e s off put = subst (λ (b : Bool). IsPassage e s (passage b s.phas
     middle x y z h i j = grind (arith, h, i, j)
 
     fallen : is_early s.phase ≡ true → (is_rolling a.next.phase || is_nil a.next.phase) ≡ true → falls e s ≡ true
-    fallen h i = elim (step_turn e s (IsShown e s) (shown_turns e s) put h) [
+    fallen h i = elim (every_turn e s (IsShown e s) (shown_turns e s) put h) [
       | inl j ↦ absurd (apart a.next.phase (ap is_early j ∙ h) i)
       | inr j ↦ middle (logs_ready_or_commit a.rec) (falls e s) (is_leaving e) j (unlogged (logs_ready_or_commit a.rec) refl) off
     ]

@@ -1,6 +1,6 @@
 -- How an event of a transaction leaves active and ready: it logs Ready or Commit, rolls, or its user leaves; and which of its
 -- passages clear control and handshakes.
-use Rattle.tp_history_state.proofs.Vocabulary.{◌≡◌, ◌⊎◌, inl, inr, ℕ, Bool, true, false, refl, ap, arith, Option, Some, None, List, ◌||◌, Report, Request, LogRec, Phase, TxEvent, TxOut, is_nil, is_active, is_ready, is_committing, is_rolling, Row, Transaction, Turn, turn, and_then, before, is_under, with_row, with_arc_lost, log_ready, ask_commit, leave, order, begin_rolling, count_branch, end_branch, branch_left, remaining, is_leaving, Passage, Stays, Enters, Falls, Falls_at_once, Commits, Rolls_back, Leaves, passage, logs_ready_or_commit, falls, row_dead, TurnSteps, may_move, IsLogged}
+use Rattle.tp_history_state.proofs.Vocabulary.{◌≡◌, ◌⊎◌, inl, inr, ℕ, Bool, true, false, refl, ap, arith, Option, Some, None, List, ◌||◌, Report, Request, LogRec, Phase, TxEvent, TxOut, is_nil, is_active, is_ready, is_committing, is_rolling, Row, Transaction, Turn, turn, and_then, before, is_under, with_row, with_arc_lost, log_ready, ask_commit, leave, order, begin_rolling, count_branch, end_branch, branch_left, remaining, is_leaving, Passage, Stays, Enters, Falls, Falls_at_once, Commits, Rolls_back, Leaves, passage, logs_ready_or_commit, falls, row_dead, Turns, may_move, IsLogged}
 
 abbrev pub is_early : Phase → Bool
 is_early p = is_active p || is_ready p
@@ -34,7 +34,7 @@ late_early p h i = grind (arith, h, i)
 rolling_early : (p : Phase) → is_rolling p ≡ true → is_early p ≡ true → ⊥
 rolling_early p h i = grind (arith, h, i)
 
-pub shown_turns : (e : TxEvent) (s : Transaction) → TurnSteps e s (IsShown e s)
+pub shown_turns : (e : TxEvent) (s : Transaction) → Turns e s (IsShown e s)
 unfolding ask_commit leave order begin_rolling count_branch end_branch branch_left
 shown_turns e s = record {
   still = λ t h. inl refl;

@@ -159,7 +159,7 @@ reject_current : (d : Digest) → (reject d).next.current ≡ d.current
 unfolding reject
 reject_current d = grind arith
 
-offered_dead : (who : Who) (d : Digest) (a : Addr) → refused_request who d Request.Reject ≡ None → d.superior ≡ Some a → is_live_with_peer d.arcs a.node ≡ false
+pub offered_dead : (who : Who) (d : Digest) (a : Addr) → refused_request who d Request.Reject ≡ None → d.superior ≡ Some a → is_live_with_peer d.arcs a.node ≡ false
 unfolding refused_request
 offered_dead who d a ok up = grind (arith, ok, up)
 
@@ -207,11 +207,11 @@ reached_counted r n p d old u is act wait = ap is_live (counted_link r n p d) �
     go true h = live_taken (link_with d.arcs p) h
     go false h = h
 
-in_phase : (who : Who) (d : Digest) (from : Addr) (x y : Mark) (q : ℕ) (r : DialogueRecord) (a : Arc) → refused_arrival who d from (PeerRecord.OnAssoc x y q r) ≡ None → find_arc d.arcs from.node ≡ Some a → sight_at who d a r ≡ Out_of_phase → ⊥
+pub in_phase : (who : Who) (d : Digest) (from : Addr) (x y : Mark) (q : ℕ) (r : DialogueRecord) (a : Arc) → refused_arrival who d from (PeerRecord.OnAssoc x y q r) ≡ None → find_arc d.arcs from.node ≡ Some a → sight_at who d a r ≡ Out_of_phase → ⊥
 unfolding refused_arrival
 in_phase who d from x y q r a ok found out = absurd (grind (arith, ok, found, out))
 
-end_out : (who : Who) (d : Digest) (a : Arc) → (situation_at who d a.peer.node).branch ≡ true → (situation_at who d a.peer.node).done ≡ false → (situation_at who d a.peer.node).left ≡ false → sight_at who d a DialogueRecord.EndDialogue ≡ Out_of_phase
+pub end_out : (who : Who) (d : Digest) (a : Arc) → (situation_at who d a.peer.node).branch ≡ true → (situation_at who d a.peer.node).done ≡ false → (situation_at who d a.peer.node).left ≡ false → sight_at who d a DialogueRecord.EndDialogue ≡ Out_of_phase
 unfolding sight_of arrived
 end_out who d a b n l = grind (arith, b, n, l)
 

@@ -10,7 +10,7 @@ use Rattle.tp_history_state.proofs.marks.BranchMark.{left_marked, seen_marked}
 use Rattle.tp_history_state.proofs.passages.Passage.{is_committed_told, ends, passage_turn}
 use Rattle.tp_history_state.proofs.links.Shuts.{shuts_in, over_link, shuts_performed, shuts_played, ends_at, closes_by, closing_turn}
 use Rattle.tp_history_state.proofs.links.Linked.{closes_so, unshut_said, unshut_settled}
-use Rattle.tp_history_state.proofs.lemmas.Begins.{begin_word, begin_arcs, begun_child, sent_begin, begins_so}
+use Rattle.tp_history_state.proofs.lemmas.Begins.{begin_word, begin_arcs, next_child, begun_over, begins_so}
 
 pub more_live : (n : ℕ) (l : Link) → is_live l ≡ true → is_live (sent_more n l) ≡ true
 more_live n Idle h = h
@@ -110,7 +110,7 @@ more_pending (r ∷ rows) c p h = go (r.branch.peer.node == p) h (more_pending r
 reached_begins : (who : Who) (p q : ℕ) (d : Digest) → IsReached p d → IsReached p (begin_on who q d).next
 reached_begins who p q d old = begins_so (λ (m : Move). IsReached p m.next) who q d old on
   where
-    on : (c : Current) → d.current ≡ Some c → (a : Arc) → find_arc d.arcs q ≡ Some a → not (may_begin_on who d a) ≡ false → IsReached p (sent_begin who q d c a).next
+    on : (c : Current) → d.current ≡ Some c → (a : Arc) → find_arc d.arcs q ≡ Some a → not (may_begin_on who d a) ≡ false → IsReached p (begun_over who q d c a).next
     on c now a found may u is act wait =
         ap is_live (shuts_performed xs outs p refl ∙ ap (over_link false (count_to p (performed xs outs).1)) (link_dialogue d.arcs q (begun_by (named_holder a.dialogue) Side.Superior) p))
         ∙ more_live (count_to p (performed xs outs).1) (link_with d.arcs p) (before (marked is_pending p c) refl)
@@ -122,7 +122,7 @@ reached_begins who p q d old = begins_so (λ (m : Move). IsReached p m.next) who
         outs = TxOut.Carry q (begin_word who d c a) ∷ []
 
         t : Transaction
-        t = (transacted (TxEvent.Begun (begun_child who d a ∷ [])) (seen who d.arcs c)).next
+        t = (transacted (TxEvent.Begun (next_child who d a ∷ [])) (seen who d.arcs c)).next
 
         phase : is_active c.phase ≡ true
         phase = ap is_active (sym (left_is t u is).1) ∙ act
@@ -134,7 +134,7 @@ reached_begins who p q d old = begins_so (λ (m : Move). IsReached p m.next) who
         live = grind (arith, may)
 
         either : (marked is_pending p c || (a.peer.node == p)) ≡ true
-        either = ap (λ (v : Bool). v || (a.peer.node == p)) (sym (seen_marked is_pending p who d.arcs c)) ∙ more_pending (seen_rows d.arcs c.branches) (begun_child who d a) p (sym (left_marked is_pending p t u is) ∙ wait)
+        either = ap (λ (v : Bool). v || (a.peer.node == p)) (sym (seen_marked is_pending p who d.arcs c)) ∙ more_pending (seen_rows d.arcs c.branches) (next_child who d a) p (sym (left_marked is_pending p t u is) ∙ wait)
 
         before : (v : Bool) → marked is_pending p c ≡ v → is_live_with_peer d.arcs p ≡ true
         before true i = old c now phase i

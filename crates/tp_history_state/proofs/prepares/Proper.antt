@@ -1,5 +1,5 @@
 -- In every legal history a branch of an active transaction that has answered was told to prepare, and none has ended.
-use Rattle.tp_history_state.proofs.Vocabulary.{if◌then◌else◌, ◌≡◌, ◌⊎◌, inl, inr, ℕ, Bool, true, false, refl, ap, sym, subst, ◌∙◌, arith, Option, Some, None, List, [], ◌∷◌, ◌&&◌, ◌||◌, ◌==◌, not, Addr, Report, Indication, DialogueRecord, TxEvent, TxOut, Origin, Event, Entry, Branch, Current, Digest, Under, Sight, Acts, Nothing_happens, Out_of_phase, is_active, is_committing, is_rolling, Row, Transaction, Turn, turn, find_row, put_row, row_holds, with_row, with_arc_lost, all_prepared, takes, transacted, sight_of_tx, ask_commit, begin_rolling, branch_left, complete_commit, complete_rollback, count_branch, end_branch, leave, order, digest, fresh_current, seen, seen_rows, is_crash, TurnSteps, IsPut, asks_tell, is_left_word, row_dead, shut_given_up, prelude, IsLegal, Entered, Begun, Crashed, Plain, before_it, crash_next, late_law, left_is, row_phase, some_same, started_again, step_turn}
+use Rattle.tp_history_state.proofs.Vocabulary.{if◌then◌else◌, ◌≡◌, ◌⊎◌, inl, inr, ℕ, Bool, true, false, refl, ap, sym, subst, ◌∙◌, arith, Option, Some, None, List, [], ◌∷◌, ◌&&◌, ◌||◌, ◌==◌, not, Addr, Report, Indication, DialogueRecord, TxEvent, TxOut, Origin, Event, Entry, Branch, Current, Digest, Under, Sight, Acts, Nothing_happens, Out_of_phase, is_active, is_committing, is_rolling, Row, Transaction, Turn, turn, find_row, put_row, row_holds, with_row, with_arc_lost, all_prepared, takes, transacted, sight_of_tx, ask_commit, begin_rolling, branch_left, complete_commit, complete_rollback, count_branch, end_branch, leave, order, digest, fresh_current, seen, seen_rows, is_crash, Turns, IsPut, asks_tell, is_left_word, row_dead, shut_given_up, prelude, IsLegal, Entered, Begun, Crashed, Plain, before_it, crash_next, late_law, left_is, row_phase, some_same, started_again, every_turn}
 use Rattle.tp_histories.proofs.trees.Entered.{entered}
 use Rattle.tp_history_state.proofs.orders.Told.{IsRaised, none_told, raised_event}
 use Rattle.tp_history_state.proofs.marks.Marked.{again_marked}
@@ -75,7 +75,7 @@ row_so t q w r found h = sym (ap (λ (v : Option Row). elim v as (λ _. Bool) [ 
 abbrev IsLeavingTold : TxEvent → Transaction → Type 0
 IsLeavingTold e s = (p : ℕ) (w : DialogueRecord) → e ≡ TxEvent.Took p w → is_left_word w ≡ true → is_active s.phase ≡ true → row_holds s.rows p (λ b. b.prepared) ≡ true
 
-proper_turns : (e : TxEvent) (s : Transaction) → IsLeavingTold e s → TurnSteps e s IsProperTurn
+proper_turns : (e : TxEvent) (s : Transaction) → IsLeavingTold e s → Turns e s IsProperTurn
 unfolding IsProperTurn ask_commit leave count_branch branch_left order begin_rolling
 proper_turns e s told = record {
   still = λ t act. (act, λ p h. h);
@@ -148,7 +148,7 @@ proper_turn (TxEvent.Took p r) s put = go (sight_of_tx s p r) refl
     same v i = ap a i
 
     go : (v : Sight) → sight_of_tx s p r ≡ v → IsProperTurn s (transacted (TxEvent.Took p r) s)
-    go Acts i = step_turn (TxEvent.Took p r) s IsProperTurn (proper_turns (TxEvent.Took p r) s (λ q w is word act. told q w is word act)) put
+    go Acts i = every_turn (TxEvent.Took p r) s IsProperTurn (proper_turns (TxEvent.Took p r) s (λ q w is word act. told q w is word act)) put
       where
         told : (q : ℕ) (w : DialogueRecord) → TxEvent.Took p r ≡ TxEvent.Took q w → is_left_word w ≡ true → is_active s.phase ≡ true → row_holds s.rows q (λ b. b.prepared) ≡ true
         told q w is word act =
@@ -157,7 +157,7 @@ proper_turn (TxEvent.Took p r) s put = go (sight_of_tx s p r) refl
             left_told s q w word (ap (λ (n : ℕ). sight_of_tx s n w) (sym at) ∙ ap (sight_of_tx s p) (sym one) ∙ i) act
     go Nothing_happens i = subst (IsProperTurn s) (sym (same Nothing_happens i)) (proper_same s (turn [] s) refl (λ p. refl))
     go Out_of_phase i = subst (IsProperTurn s) (sym (same Out_of_phase i)) (proper_same s (turn [] s) refl (λ p. refl))
-proper_turn e s put = step_turn e s IsProperTurn (proper_turns e s (λ p w is word act. absurd (cc (is)))) put
+proper_turn e s put = every_turn e s IsProperTurn (proper_turns e s (λ p w is word act. absurd (cc (is)))) put
 
 -- ---- an event
 

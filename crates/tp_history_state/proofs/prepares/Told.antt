@@ -1,6 +1,6 @@
 -- In every legal history Prepare was said to a branch of the current transaction if an entry said it since its key was begun,
 -- and since the last crash.
-use Rattle.tp_history_state.proofs.Vocabulary.{if◌then◌else◌, ◌≡◌, inl, inr, ℕ, Bool, true, false, refl, ap, sym, subst, ◌∙◌, arith, Option, Some, None, List, [], ◌∷◌, ◌++◌, ◌&&◌, ◌||◌, ◌==◌, not, or-true, nat_tests, Addr, NodeKey, Report, Request, DialogueRecord, PeerRecord, Phase, TxEvent, TxOut, Who, Origin, Event, Entry, Arc, Branch, Current, Digest, is_active, is_late, is_nil, is_rolling, is_live, find_arc, link_with, is_live_with_peer, carried, performed, Row, Transaction, Turn, is_under_at, find_row, row_holds, with_row, all_prepared, prepare_each, ask_commit, begin_rolling, branch_left, count_branch, end_branch, leave, order, settle, transacted, refused_tx, Move, move, followed, try_start, is_superior, situation_at, seen, turned, passed, passage, Passage, is_over, entered, played, transact, refused_request, refused_on_arc, refusal, action, digest, some_since, said_to, has_said, IsLegal, IsLate, IsPut, TurnSteps, asks_tell, row_dead, prelude, carries_none, none_more, said_both, said_carried, plain_request, step_move, step_turn, late_law, left_is, link_entered, passed_turn, row_phase, before_it, IsStep, IsMark, mark_law, started_again, crash_next, placed_law, headed_law, under_headed, superior_at, IsPlaced, is_at, prepared_agrees, started_next}
+use Rattle.tp_history_state.proofs.Vocabulary.{if◌then◌else◌, ◌≡◌, inl, inr, ℕ, Bool, true, false, refl, ap, sym, subst, ◌∙◌, arith, Option, Some, None, List, [], ◌∷◌, ◌++◌, ◌&&◌, ◌||◌, ◌==◌, not, or-true, nat_tests, Addr, NodeKey, Report, Request, DialogueRecord, PeerRecord, Phase, TxEvent, TxOut, Who, Origin, Event, Entry, Arc, Branch, Current, Digest, is_active, is_late, is_nil, is_rolling, is_live, find_arc, link_with, is_live_with_peer, carried, performed, Row, Transaction, Turn, is_under_at, find_row, row_holds, with_row, all_prepared, prepare_each, ask_commit, begin_rolling, branch_left, count_branch, end_branch, leave, order, settle, transacted, refused_tx, Move, move, followed, try_start, is_superior, situation_at, seen, turned, passed, passage, Passage, is_over, entered, played, transact, refused_request, refused_on_arc, refusal, action, digest, some_since, said_to, has_said, IsLegal, IsLate, IsPut, Turns, asks_tell, row_dead, prelude, carries_none, none_more, said_both, said_carried, plain_request, step_move, every_turn, late_law, left_is, link_entered, passed_turn, row_phase, before_it, IsStep, IsMark, mark_law, started_again, crash_next, placed_law, headed_law, under_headed, superior_at, IsPlaced, is_at, prepared_agrees, started_next}
 unfoldable use Rattle.tp_model.specs.Transactions.{situation_of}
 use Rattle.tp_model.specs.Keys.{is_prepare_record}
 use Rattle.tp_steps.proofs.lemmas.Equality.{and_left, and_right}
@@ -48,7 +48,7 @@ steady_then p t u xs ys v one two none =
     let both : (carries_none is_prepare_record xs && carries_none is_prepare_record ys) ≡ true = sym (none_more is_prepare_record xs ys) ∙ none in
     two (and_right (carries_none is_prepare_record xs) (carries_none is_prepare_record ys) both) ∙ one (and_left (carries_none is_prepare_record xs) (carries_none is_prepare_record ys) both)
 
-steady_turns : (p : ℕ) (e : TxEvent) (s : Transaction) → TurnSteps e s (IsSteady p)
+steady_turns : (p : ℕ) (e : TxEvent) (s : Transaction) → Turns e s (IsSteady p)
 unfolding ask_commit leave count_branch end_branch branch_left order begin_rolling
 steady_turns p e s = record {
   still = λ t none. refl;
@@ -92,7 +92,7 @@ untold p e off = record {
   begun = λ who arcs c u child inv is. (left_marked is_told p (transacted (TxEvent.Begun (child ∷ [])) (seen who arcs c)).next u is ∙ more_same is_told p (λ x. refl) (seen who arcs c).rows child ∙ seen_marked is_told p who arcs c, tt);
   turn = λ who arcs c u f inv asked put is.
       let t : Transaction = seen who arcs c in
-      (left_marked is_told p (transacted f t).next u is ∙ step_turn f t (IsSteady p) (steady_turns p f t) put (unsaid_turn f t (hits_so asks_prepare e c f asked off)) ∙ seen_marked is_told p who arcs c ∙ sym (ap (λ (b : Bool). b || marked is_told p c) (silent (transacted f t).outs)), tt);
+      (left_marked is_told p (transacted f t).next u is ∙ every_turn f t (IsSteady p) (steady_turns p f t) put (unsaid_turn f t (hits_so asks_prepare e c f asked off)) ∙ seen_marked is_told p who arcs c ∙ sym (ap (λ (b : Bool). b || marked is_told p c) (silent (transacted f t).outs)), tt);
   tells = λ who arcs c f inv asked put told. refl;
   spoken = λ i h. refl;
 }

@@ -15,7 +15,7 @@ use Rattle.tp_histories.proofs.log.StandingKeys.{Place, New, There, Here, place,
 use Rattle.tp_histories.proofs.known.KnownKept.{IsLogTold, log_told}
 use Rattle.tp_histories.proofs.known.KnownPhase.{phase_at as phase_of_key}
 use Rattle.tp_histories.proofs.trees.Entered.{entered}
-use Rattle.tp_history_state.proofs.lemmas.Begins.{begun_child, begins_so}
+use Rattle.tp_history_state.proofs.lemmas.Begins.{next_child, begins_so}
 
 -- ---- what is decided by the records of a log
 
@@ -176,17 +176,17 @@ firm_turns e s = record {
   first = λ t u outs a one two firm. two (one firm);
   chain = λ t a f one two none firm. two (one firm);
   tells = λ t i n firm. firm;
-  notes_prepare = λ h firm. firm;
-  notes_done = λ firm. firm;
-  notes_end = λ q firm. firm;
-  notes_rollback = λ h firm. firm;
-  defers_end = λ q. firm_row s q (λ r. record r { ends = true });
-  defers_grant = λ q firm. firm;
+  notes_prepare = λ pr h firm. firm;
+  notes_done = λ is firm. firm;
+  notes_end = λ q is firm. firm;
+  notes_rollback = λ ro h firm. firm;
+  defers_end = λ q is. firm_row s q (λ r. record r { ends = true });
+  defers_grant = λ q is firm. firm;
   prepares = λ q. firm_row s q (λ r. record r { branch = record r.branch { prepared = true } });
-  asks = λ act asked told firm. firm;
+  asks = λ is act asked told firm. firm;
   asks_again = λ firm. firm;
   decides = λ o is ready firm h. absurd (ready_flat s.phase ready h);
-  aborts = λ q. firm_lost s q;
+  aborts = λ q is. firm_lost s q;
   loses_arc = λ q gone. firm_lost s q;
   closes_left = λ q is. firm_row s q row_dead;
   gives_up = λ q r is c found. firm_row s q (λ w. record w { branch = record w.branch { given_up = true }; live = false; ends = false });
@@ -225,7 +225,7 @@ firm_begins : (who : Who) (q : ℕ) (d : Digest) → IsFirmMove d (begin_on who 
 firm_begins who q d firm =
     begins_so (λ m. IsFirmNow m.next.current) who q d firm
     (λ c i a found may u is h.
-    let v : Transaction = (transacted (TxEvent.Begun (begun_child who d a ∷ [])) (seen who d.arcs c)).next in
+    let v : Transaction = (transacted (TxEvent.Begun (next_child who d a ∷ [])) (seen who d.arcs c)).next in
     let l = left_is v u is in
     l.2 ∙ firm c i (ap is_rolling (sym l.1) ∙ h))
 

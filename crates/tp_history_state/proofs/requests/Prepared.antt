@@ -1,6 +1,6 @@
 -- In every legal history Prepare was told of the current transaction if an entry told it since its key was begun, and since
 -- the last crash.
-use Rattle.tp_history_state.proofs.Vocabulary.{◌≡◌, ℕ, Bool, true, false, refl, ap, sym, subst, ◌∙◌, arith, Option, Some, None, List, [], ◌∷◌, ◌++◌, ◌||◌, Mark, Addr, NodeKey, Report, Indication, DialogueRecord, PeerRecord, LogRec, TxEvent, TxOut, Origin, Event, Entry, Out, Current, Row, Transaction, Turn, turn, node_key, with_row, with_branch, with_arc_lost, all_done, complete_commit, complete_rollback, begin_rolling, order, ask_commit, leave, count_branch, end_branch, branch_left, retried, transacted, seen, remaining, takes_begin, tells_prepare, told_prepare_in, digest, action, same_bool, IsLegal, vote, decide, row_dead, shut_given_up, is_outcome_told, hears_prepare, TurnSteps, IsPut, IsAsked, prelude, asks_tell, out_tells, told_prepare_agrees, tell_append, still_up, still_prepare, step_turn, late_law, bool_self, IsStep, IsFlag, flag_law, no_begin}
+use Rattle.tp_history_state.proofs.Vocabulary.{◌≡◌, ℕ, Bool, true, false, refl, ap, sym, subst, ◌∙◌, arith, Option, Some, None, List, [], ◌∷◌, ◌++◌, ◌||◌, Mark, Addr, NodeKey, Report, Indication, DialogueRecord, PeerRecord, LogRec, TxEvent, TxOut, Origin, Event, Entry, Out, Current, Row, Transaction, Turn, turn, node_key, with_row, with_branch, with_arc_lost, all_done, complete_commit, complete_rollback, begin_rolling, order, ask_commit, leave, count_branch, end_branch, branch_left, retried, transacted, seen, remaining, takes_begin, tells_prepare, told_prepare_in, digest, action, same_bool, IsLegal, vote, decide, row_dead, shut_given_up, is_outcome_told, hears_prepare, Turns, IsPut, IsAsked, prelude, asks_tell, out_tells, told_prepare_agrees, tell_append, still_up, still_prepare, every_turn, late_law, bool_self, IsStep, IsFlag, flag_law, no_begin}
 use Rattle.tp_history_state.proofs.orders.Told.{always, IsRaised, IsHeld, raised_event, raised_step}
 use Rattle.tp_history_state.proofs.lemmas.Tells.{ordering_tells, rolls_untold, completion_tells, unrolling_tells, leave_tells, retried_tells}
 
@@ -69,7 +69,7 @@ noting_left e t q = noting_same e t (branch_left q t) (told_row t q (λ r. recor
 not_prepare : (i : Indication) → is_outcome_told i ≡ false → is_prepare_told i ≡ false
 not_prepare i h = grind (arith, h)
 
-noting_turns : (e : TxEvent) (s : Transaction) → TurnSteps e s (IsNoting e)
+noting_turns : (e : TxEvent) (s : Transaction) → Turns e s (IsNoting e)
 noting_turns e s = record {
   still = λ t. noting_same e t (turn [] t) refl refl;
   first = λ t u outs a one two. noting_then e t outs a.outs u.told_prepare a.next.told_prepare one two;
@@ -130,7 +130,7 @@ raised e = record {
 }
   where
     noted : (f : TxEvent) (t : Transaction) → IsPut f t → IsNoting f t (transacted f t)
-    noted f t put = step_turn f t (IsNoting f) (noting_turns f t) put
+    noted f t put = every_turn f t (IsNoting f) (noting_turns f t) put
 
 -- ---- every legal history
 

@@ -42,7 +42,7 @@ every_arc o h (a ∷ arcs) i =
 
 -- ---- many tests that hold
 
-six : (a b c d e f : Bool) → (a && b && c && d && e && f) ≡ true → (a ≡ true) × (b ≡ true) × (c ≡ true) × (d ≡ true) × (e ≡ true) × (f ≡ true)
+pub six : (a b c d e f : Bool) → (a && b && c && d && e && f) ≡ true → (a ≡ true) × (b ≡ true) × (c ≡ true) × (d ≡ true) × (e ≡ true) × (f ≡ true)
 six a b c d e f h = (grind (arith, h), grind (arith, h), grind (arith, h), grind (arith, h), grind (arith, h), grind (arith, h))
 
 seven : (a b c d e f g : Bool) → (a && b && c && d && e && f && g) ≡ true → (b ≡ true) × ((a && c && d && e && f && g) ≡ true)
@@ -51,10 +51,10 @@ seven a b c d e f g h = (grind (arith, h), grind (arith, h))
 eleven : (a b c d e f g p q r s : Bool) → (a && b && c && d && e && f && g && p && q && r && s) ≡ true → ((a && c && d && e && f && g) ≡ true) × ((b && p && q && r && s) ≡ true)
 eleven a b c d e f g p q r s h = (grind (arith, h), grind (arith, h))
 
-five : (a b c d e : Bool) → (a && b && c && d && e) ≡ true → (a ≡ true) × (b ≡ true) × (c ≡ true) × (d ≡ true) × (e ≡ true)
+pub five : (a b c d e : Bool) → (a && b && c && d && e) ≡ true → (a ≡ true) × (b ≡ true) × (c ≡ true) × (d ≡ true) × (e ≡ true)
 five a b c d e h = (grind (arith, h), grind (arith, h), grind (arith, h), grind (arith, h), grind (arith, h))
 
-three : (a b c : Bool) → (a && b && c) ≡ true → (a ≡ true) × (b ≡ true) × (c ≡ true)
+pub three : (a b c : Bool) → (a && b && c) ≡ true → (a ≡ true) × (b ≡ true) × (c ≡ true)
 three a b c h = (grind (arith, h), grind (arith, h), grind (arith, h))
 
 abbrev agrees_now : Origin → List Entry → Option Current → Bool

@@ -1,6 +1,6 @@
 -- The tests of what is known say that it is equal to what the questions answer, part by part.
 use Rattle.std.specs.Prelude.{ℕ, ◌==◌, ◌&&◌, ◌||◌, ◌≡◌, not, Bool, true, false, Option, Some, None, is_some, List, [], ◌∷◌, All}
-use Rattle.std.proofs.Common.{refl, ap, sym, ◌∙◌, subst, arith}
+use Rattle.std.proofs.Common.{refl, ap, sym, ◌∙◌, arith}
 use Rattle.std.proofs.lemmas.Bool.Decides.{nat_tests}
 use Rattle.std.proofs.lemmas.List.Elements.{All-nil, All-cons}
 use Rattle.tp_names.specs.declared.identifiers.NodeKey.{NodeKey}
@@ -15,7 +15,6 @@ use Rattle.tp_units.specs.Units.{has_bit}
 use Rattle.tp_model.specs.declared.arc.Phase.{Phase}
 use Rattle.tp_model.specs.declared.arc.Deferral.{Deferral}
 use Rattle.tp_model.specs.declared.recovery.Kept.{Kept}
-use Rattle.tp_model.specs.Dialogues.{is_polarized}
 use Rattle.tp_model.specs.Parts.{Origin, Entry, Link, Idle, Opening, Offered, Live, Due, No_response, Response_due, Response_with_control, Arc, Branch, Current}
 use Rattle.tp_model.specs.Links.{is_live, is_idle}
 use Rattle.tp_model.specs.Arcs.{find_arc}
@@ -29,6 +28,7 @@ use Rattle.tp_logrec.specs.Order.{is_child}
 use Rattle.tp_steps.proofs.lemmas.Equality.{and_left, and_right, addrs_equal, branches_equal}
 use Rattle.tp_steps.proofs.every.Preludes.{marks_same}
 use Rattle.tp_steps.proofs.log.ApartLog.{keys_equal}
+use Rattle.tp_history_state.proofs.whole.Parts.{six, five, three}
 
 -- ---- each test of equality
 
@@ -130,16 +130,6 @@ kept_equal a b h =
     (list_equal is_child child_equal a.owed b.owed p.5) (bool_equal a.forgot b.forgot p.6)
 
 -- ---- arcs
-
--- what tests that hold together say
-three : (a b c : Bool) → (a && b && c) ≡ true → (a ≡ true) × (b ≡ true) × (c ≡ true)
-three a b c h = (grind (arith, h), grind (arith, h), grind (arith, h))
-
-five : (a b c d e : Bool) → (a && b && c && d && e) ≡ true → (a ≡ true) × (b ≡ true) × (c ≡ true) × (d ≡ true) × (e ≡ true)
-five a b c d e h = (grind (arith, h), grind (arith, h), grind (arith, h), grind (arith, h), grind (arith, h))
-
-six : (a b c d e f : Bool) → (a && b && c && d && e && f) ≡ true → (a ≡ true) × (b ≡ true) × (c ≡ true) × (d ≡ true) × (e ≡ true) × (f ≡ true)
-six a b c d e f h = (grind (arith, h), grind (arith, h), grind (arith, h), grind (arith, h), grind (arith, h), grind (arith, h))
 
 turned : (b : Bool) → not b ≡ true → b ≡ false
 turned true h = absurd (cc (h))

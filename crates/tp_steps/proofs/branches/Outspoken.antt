@@ -364,14 +364,14 @@ outspoken_turns e s = record {
   first = λ t u outs a one two. joined t (turn outs u) a (before outs a) refl refl (inl (refl, refl)) one two;
   chain = λ t a f one two none. joined t a (f a.next) (and_then a f) refl refl (later_rec a.rec (f a.next).rec none) one two;
   tells = λ t i n. plain_still t (TxOut.Tell i ∷ []);
-  notes_prepare = λ c. plain s _ refl refl refl (λ h. h) (λ p h. h);
-  notes_done = plain s _ refl refl refl (λ h. h) (λ p h. h);
-  notes_end = λ q. plain s _ refl refl refl (λ h. h) (λ p h. h);
-  notes_rollback = λ c. plain s _ refl refl refl (λ h. h) (λ p h. h);
-  defers_end = λ q. plain_row s _ q (λ r. record r { ends = true }) (λ r. refl) (λ r h. h);
-  defers_grant = λ q. plain_still s _;
+  notes_prepare = λ pr c. plain s _ refl refl refl (λ h. h) (λ p h. h);
+  notes_done = λ is. plain s _ refl refl refl (λ h. h) (λ p h. h);
+  notes_end = λ q is. plain s _ refl refl refl (λ h. h) (λ p h. h);
+  notes_rollback = λ ro c. plain s _ refl refl refl (λ h. h) (λ p h. h);
+  defers_end = λ q is. plain_row s _ q (λ r. record r { ends = true }) (λ r. refl) (λ r h. h);
+  defers_grant = λ q is. plain_still s _;
   prepares = λ q. plain_row s _ q (λ r. record r { branch = record r.branch { prepared = true } }) (λ r. refl) (λ r h. h);
-  asks = λ act n told. plain_ask s;
+  asks = λ is act n told. plain_ask s;
   asks_again = plain_still s _;
   decides = λ o is ready. record {
     key = refl;
@@ -383,7 +383,7 @@ outspoken_turns e s = record {
     orders = λ h p is. absurd (cc (h));
     completes = λ c n. absurd (clash s.phase c n);
   };
-  aborts = λ q. plain_lost s _ q;
+  aborts = λ q is. plain_lost s _ q;
   loses_arc = λ q l. plain_lost s [] q;
   closes_left = λ q is. plain_row s _ q row_dead (λ r. refl) (λ r h. absurd (cc (h)));
   gives_up = λ q r is c found. plain_row s _ q (λ w. record w { branch = record w.branch { given_up = true }; live = false; ends = false }) (λ w. refl) (λ w h. absurd (cc (h)));

@@ -28,6 +28,7 @@ use Rattle.tp_model.specs.Node.{turned}
 use Rattle.tp_model.specs.AmongArcs.{is_peer}
 use Rattle.tp_steps.specs.Moves.{IsLate, prelude, called, accepted_by, accepted_on, IsAsked, IsPut, is_took, are_spoken, are_said, closes_at, said_by, may_put_off, By_saying, may_begin, some_leads, Moves}
 use Rattle.tp_steps.proofs.links.Saying.{one_said}
+use Rattle.tp_steps.proofs.every.AcceptCases.{reject_cases}
 
 -- ---- starts log nothing
 
@@ -231,31 +232,7 @@ step_accept who e s d u R k (Some a) i = rw (i, accept) (go a.link)
     go (Live x y v w) = k.still d
 
 step_reject : (who : Who) (s d : Digest) (R : Digest → Move → Type 0) → Steps who (Event.Do Request.Reject) s R → R d (reject d)
-unfolding reject
-step_reject who s d R k = go (superior_arc d)
-  where
-    on : (a : Arc) (l : Link) → R d (elim l as (λ _. Move) [
-      | Idle ↦ move [] d
-      | Opening x ↦ move [] d
-      | Offered x ↦ perform (TxOut.Recovery a.peer (PeerRecord.ShutAssoc x None) ∷ TxOut.Close a.peer.node ∷ []) d
-      | Live x y sent taken ↦ move [] d
-    ])
-    on a Idle = k.still d
-    on a (Opening x) = k.still d
-    on a (Offered x) = k.speaks d (TxOut.Recovery a.peer (PeerRecord.ShutAssoc x None) ∷ TxOut.Close a.peer.node ∷ []) refl (λ u h. absurd (cc (h)), one_said (Event.Do Request.Reject) s d a.peer (PeerRecord.ShutAssoc x None) tt) refl refl
-    on a (Live x y v w) = k.still d
-
-    go : (o : Option Arc) → R d (elim o as (λ _. Move) [
-      | None ↦ move [] d
-      | Some a ↦ elim a.link [
-        | Idle ↦ move [] d
-        | Opening x ↦ move [] d
-        | Offered x ↦ perform (TxOut.Recovery a.peer (PeerRecord.ShutAssoc x None) ∷ TxOut.Close a.peer.node ∷ []) d
-        | Live x y sent taken ↦ move [] d
-      ]
-    ])
-    go None = k.still d
-    go (Some a) = on a a.link
+step_reject who s d R k = reject_cases (R d) d (k.still d) (λ a x i j. k.speaks d (TxOut.Recovery a.peer (PeerRecord.ShutAssoc x None) ∷ TxOut.Close a.peer.node ∷ []) refl (λ u h. absurd (cc (h)), one_said (Event.Do Request.Reject) s d a.peer (PeerRecord.ShutAssoc x None) tt) refl refl)
 
 pub said_itself : (p : ℕ) → ((p == p) && true) ≡ true
 said_itself p = grind (arith, nat_tests)

@@ -32,6 +32,7 @@ use Rattle.tp_steps.specs.Moves.{IsLate}
 use Rattle.tp_steps.specs.Steps.{carries_last, carry_last, is_deferred_by, puts_off_at, IsLike, Steps}
 use Rattle.tp_steps.proofs.every.EveryMove.{apart, ends_elsewhere, ends_dialogue, step_chained, step_transact}
 use Rattle.tp_steps.proofs.lemmas.Alike.{counted_alike}
+pub use Rattle.tp_steps.proofs.every.RootBegins.{find_arc_is}
 
 -- ---- what is said in recovery
 
@@ -81,10 +82,6 @@ pub spoken_forget : (to : Addr) (k : NodeKey) (b : BranchId) (r : Report) → ar
 spoken_forget to k b r = grind arith
 
 -- ---- records on an association
-
-pub find_arc_is : (arcs : List Arc) (p : ℕ) (a : Arc) → find_arc arcs p ≡ Some a → a.peer.node ≡ p
-find_arc_is [] p a h = absurd cc
-find_arc_is (b ∷ arcs) p a h = grind (arith, nat_tests, find_arc_is arcs p a)
 
 -- the record that arrives, and the event that it is
 abbrev pub the : Addr → Mark → Mark → ℕ → DialogueRecord → Event

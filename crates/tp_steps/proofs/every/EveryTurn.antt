@@ -13,8 +13,7 @@ use Rattle.tp_model.specs.declared.transaction.TxOut.{TxOut}
 use Rattle.tp_model.specs.Dialogues.{Sight, Acts, Nothing_happens, Out_of_phase, is_nil, is_active, is_ready, is_committing, is_rolling}
 use Rattle.tp_model.specs.Transactions.{Row, Transaction, Turn, turn, and_then, is_under, is_under_at, find_row, find_row_by_id, row_holds, with_row, with_arc_lost, all_settled, complete_commit, complete_rollback, begin_rolling, roll, order, settle, ask_commit, count_branch, end_branch, branch_left, lost_arc, complete, by_user, superior_rolls, takes_left, takes, sight_of_tx, replied, give_up, transacted, refused_user, refused_tx, may_give_up, is_open_in_commit}
 use Rattle.tp_steps.specs.Moves.{IsPut}
-use Rattle.tp_steps.specs.Turns.{hears_close, Turns, falls, is_fatal_at, loses, is_left_word, vote, row_dead}
-use Rattle.tp_steps.specs.TurnSteps.{hears_rollback, TurnSteps}
+use Rattle.tp_steps.specs.Turns.{hears_close, Turns, falls, is_fatal_at, loses, is_left_word, vote, row_dead, hears_rollback}
 use Rattle.tp_steps.proofs.words.Fair.{row_phase}
 
 -- ---- what no rule logs
@@ -56,7 +55,7 @@ not_nil _ a b c d = absurd cc
 
 -- ---- the rules that several events share
 
-every_settle : (e : TxEvent) (s : Transaction) (R : Transaction → Turn → Type 0) → TurnSteps e s R → (t : Transaction) → R t (settle t)
+every_settle : (e : TxEvent) (s : Transaction) (R : Transaction → Turn → Type 0) → Turns e s R → (t : Transaction) → R t (settle t)
 unfolding settle
 every_settle e s R k t = go (is_active t.phase && t.asked && all_settled t.rows) (is_under t.key) refl refl
   where
@@ -65,29 +64,29 @@ every_settle e s R k t = go (is_active t.phase && t.asked && all_settled t.rows)
     go true true i j = k.votes t (grind arith) (grind arith) (grind arith) j
     go true false i j = k.orders_root t (grind arith) (grind arith) (grind arith) j
 
-every_roll : (e : TxEvent) (s : Transaction) (R : Transaction → Turn → Type 0) → TurnSteps e s R → (asked : Bool) (t : Transaction) → falls e s ≡ true → (is_active t.phase || is_ready t.phase) ≡ true
+every_roll : (e : TxEvent) (s : Transaction) (R : Transaction → Turn → Type 0) → Turns e s R → (asked : Bool) (t : Transaction) → falls e s ≡ true → (is_active t.phase || is_ready t.phase) ≡ true
     → R t (roll asked t)
 every_roll e s R k asked t f ok =
     let u : Transaction = (begin_rolling asked t).next in
     k.chain t (begin_rolling asked t) complete_rollback (k.rolls t asked f ok) (k.completes_rollback u (rolling_now asked t)) (inr (quiet_rollback u))
 
 -- after a step that logs nothing
-then_settle : (e : TxEvent) (s : Transaction) (R : Transaction → Turn → Type 0) → TurnSteps e s R → (t : Transaction) (a : Turn) → R t a → a.rec ≡ None → R t (and_then a settle)
+then_settle : (e : TxEvent) (s : Transaction) (R : Transaction → Turn → Type 0) → Turns e s R → (t : Transaction) (a : Turn) → R t a → a.rec ≡ None → R t (and_then a settle)
 then_settle e s R k t a one quiet = k.chain t a settle one (every_settle e s R k a.next) (inl quiet)
 
-then_commit : (e : TxEvent) (s : Transaction) (R : Transaction → Turn → Type 0) → TurnSteps e s R → (t : Transaction) (a : Turn) → R t a → a.rec ≡ None → is_committing a.next.phase ≡ true → R t (and_then a complete_commit)
+then_commit : (e : TxEvent) (s : Transaction) (R : Transaction → Turn → Type 0) → Turns e s R → (t : Transaction) (a : Turn) → R t a → a.rec ≡ None → is_committing a.next.phase ≡ true → R t (and_then a complete_commit)
 then_commit e s R k t a one quiet c = k.chain t a complete_commit one (k.completes_commit a.next c) (inl quiet)
 
-then_rollback : (e : TxEvent) (s : Transaction) (R : Transaction → Turn → Type 0) → TurnSteps e s R → (t : Transaction) (a : Turn) → R t a → is_rolling a.next.phase ≡ true → R t (and_then a complete_rollback)
+then_rollback : (e : TxEvent) (s : Transaction) (R : Transaction → Turn → Type 0) → Turns e s R → (t : Transaction) (a : Turn) → R t a → is_rolling a.next.phase ≡ true → R t (and_then a complete_rollback)
 then_rollback e s R k t a one c = k.chain t a complete_rollback one (k.completes_rollback a.next c) (inr (quiet_rollback a.next))
 
-every_complete : (e : TxEvent) (s : Transaction) (R : Transaction → Turn → Type 0) → TurnSteps e s R → (t : Transaction) (p : Phase) → t.phase ≡ p
+every_complete : (e : TxEvent) (s : Transaction) (R : Transaction → Turn → Type 0) → Turns e s R → (t : Transaction) (p : Phase) → t.phase ≡ p
     → R t (elim p [ Phase.Nil ↦ turn [] t | Phase.Active ↦ turn [] t | Phase.Ready ↦ turn [] t | Phase.Committing ↦ complete_commit t | Phase.Rolling ↦ complete_rollback t ])
 every_complete e s R k t Phase.Committing i = k.completes_commit t (ap is_committing i)
 every_complete e s R k t Phase.Rolling i = k.completes_rollback t (ap is_rolling i)
 every_complete e s R k t _ i = k.still t
 
-every_lost : (e : TxEvent) (s : Transaction) (R : Transaction → Turn → Type 0) → TurnSteps e s R → (p : ℕ) → loses e p ≡ true → (is_fatal_at s p ≡ true → falls e s ≡ true) → R s (lost_arc p s)
+every_lost : (e : TxEvent) (s : Transaction) (R : Transaction → Turn → Type 0) → Turns e s R → (p : ℕ) → loses e p ≡ true → (is_fatal_at s p ≡ true → falls e s ≡ true) → R s (lost_arc p s)
 unfolding lost_arc
 every_lost e s R k p gone fatal = go (is_fatal_at s p) (is_rolling s.phase) refl refl
   where
@@ -104,7 +103,7 @@ every_lost e s R k p gone fatal = go (is_fatal_at s p) (is_rolling s.phase) refl
 
 -- ---- requests
 
-every_user : (s : Transaction) (r : Request) (R : Transaction → Turn → Type 0) → TurnSteps (TxEvent.User r) s R → is_nil s.phase ≡ false → refused_user s r ≡ None
+every_user : (s : Transaction) (r : Request) (R : Transaction → Turn → Type 0) → Turns (TxEvent.User r) s R → is_nil s.phase ≡ false → refused_user s r ≡ None
     → ((p : ℕ) → r ≡ Request.UAbort p → is_active s.phase ≡ true) → R s (by_user r s)
 every_user s (Request.UAbort p) R k n ok abort =
     let t : Transaction = with_arc_lost s p in
@@ -127,7 +126,7 @@ every_user s _ R k n ok abort = k.still s
 
 -- ---- records taken
 
-rolls_up : (e : TxEvent) (s : Transaction) (R : Transaction → Turn → Type 0) → TurnSteps e s R → (b : Bool) → is_rolling s.phase ≡ b → (b ≡ false → falls e s ≡ true)
+rolls_up : (e : TxEvent) (s : Transaction) (R : Transaction → Turn → Type 0) → Turns e s R → (b : Bool) → is_rolling s.phase ≡ b → (b ≡ false → falls e s ≡ true)
     → (b ≡ false → (is_active s.phase || is_ready s.phase) ≡ true) → hears_rollback e s ≡ true → hears_close e s ≡ true
     → R s (if b then complete_rollback (record s { superior_rolled = true }) else roll false (record s { superior_rolled = true }))
 rolls_up e s R k true i f ok ro cl =
@@ -137,7 +136,7 @@ rolls_up e s R k false i f ok ro cl =
     let t : Transaction = record s { superior_rolled = true } in
     k.first s t [] (roll false t) (k.notes_rollback ro cl) (every_roll e s R k false t (f refl) (ok refl))
 
-every_left : (e : TxEvent) (s : Transaction) (R : Transaction → Turn → Type 0) → TurnSteps e s R → (p : ℕ) (w : DialogueRecord) (t : Transaction) → e ≡ TxEvent.Took p w → is_left_word w ≡ true
+every_left : (e : TxEvent) (s : Transaction) (R : Transaction → Turn → Type 0) → Turns e s R → (p : ℕ) (w : DialogueRecord) (t : Transaction) → e ≡ TxEvent.Took p w → is_left_word w ≡ true
     → (t ≡ s) ⊎ (t ≡ with_row s p row_dead) → (b : Bool) → is_active t.phase ≡ b → (b ≡ false → is_rolling t.phase ≡ true)
     → R t (if b then and_then (branch_left p t) settle else and_then (end_branch p Report.None t) complete_rollback)
 every_left e s R k p w t is left at true i r = then_settle e s R k t (branch_left p t) (k.leaves_below p w t is left at i) (quiet_left p t)
@@ -148,7 +147,7 @@ sees_left : (s : Transaction) (p : ℕ) → is_active s.phase ≡ false → row_
     → is_rolling s.phase ≡ true
 sees_left s p i h = grind arith
 
-every_take : (s : Transaction) (p : ℕ) (r : DialogueRecord) (R : Transaction → Turn → Type 0) → TurnSteps (TxEvent.Took p r) s R → is_nil s.phase ≡ false → sight_of_tx s p r ≡ Acts
+every_take : (s : Transaction) (p : ℕ) (r : DialogueRecord) (R : Transaction → Turn → Type 0) → Turns (TxEvent.Took p r) s R → is_nil s.phase ≡ false → sight_of_tx s p r ≡ Acts
     → R s (takes p r s)
 unfolding sight_of_tx
 every_take s p DialogueRecord.UAbort R k n ok =
@@ -185,7 +184,7 @@ every_take s p _ R k n ok = k.still s
 
 -- ---- replies, and local events
 
-every_reply : (s : Transaction) (b : BranchId) (r : RecState) (R : Transaction → Turn → Type 0) → TurnSteps (TxEvent.Reply b r) s R → R s (replied s b r)
+every_reply : (s : Transaction) (b : BranchId) (r : RecState) (R : Transaction → Turn → Type 0) → Turns (TxEvent.Reply b r) s R → R s (replied s b r)
 every_reply s b RecState.Commit R k = go (is_ready s.phase) refl
   where
     go : (c : Bool) → is_ready s.phase ≡ c → R s (if c then order s else turn [] s)
@@ -221,7 +220,7 @@ every_reply s b RecState.Unknown R k = go (is_ready s.phase) refl
     go false i = k.still s
 every_reply s b RecState.RetryLater R k = k.still s
 
-every_give_up : (s : Transaction) (p : ℕ) (R : Transaction → Turn → Type 0) → TurnSteps (TxEvent.GiveUp p) s R → may_give_up s p ≡ true → R s (give_up p s)
+every_give_up : (s : Transaction) (p : ℕ) (R : Transaction → Turn → Type 0) → Turns (TxEvent.GiveUp p) s R → may_give_up s p ≡ true → R s (give_up p s)
 every_give_up s p R k ok = go (find_row s.rows p) refl
   where
     dead : Row → Row
@@ -239,59 +238,20 @@ every_give_up s p R k ok = go (find_row s.rows p) refl
 
 -- ---- every event
 
-pub step_turn : (e : TxEvent) (s : Transaction) (R : Transaction → Turn → Type 0) → TurnSteps e s R → IsPut e s → R s (transacted e s)
+pub every_turn : (e : TxEvent) (s : Transaction) (R : Transaction → Turn → Type 0) → Turns e s R → IsPut e s → R s (transacted e s)
 unfolding refused_tx
-step_turn (TxEvent.Begun arcs) s R k put = absurd (put.not_begun arcs refl)
-step_turn (TxEvent.User r) s R k put = every_user s r R k put.late (put.ok refl) (λ p i. put.abort p (ap (λ (q : Request). TxEvent.User q) i))
-step_turn (TxEvent.Took p r) s R k put = go (sight_of_tx s p r) refl
+every_turn (TxEvent.Begun arcs) s R k put = absurd (put.not_begun arcs refl)
+every_turn (TxEvent.User r) s R k put = every_user s r R k put.late (put.ok refl) (λ p i. put.abort p (ap (λ (q : Request). TxEvent.User q) i))
+every_turn (TxEvent.Took p r) s R k put = go (sight_of_tx s p r) refl
   where
     go : (g : Sight) → sight_of_tx s p r ≡ g → R s (elim g as (λ _. Turn) [ Acts ↦ takes p r s | Nothing_happens ↦ turn [] s | Out_of_phase ↦ turn [] s ])
     go Acts i = every_take s p r R k put.late i
     go Nothing_happens i = k.still s
     go Out_of_phase i = k.still s
-step_turn (TxEvent.Lost p) s R k put =
+every_turn (TxEvent.Lost p) s R k put =
     k.first s s (TxOut.Tell (Indication.PAbort p) ∷ []) (lost_arc p s) (k.tells s (Indication.PAbort p) refl) (every_lost (TxEvent.Lost p) s R k p (grind (arith, nat_tests)) (λ f. f))
-step_turn (TxEvent.Heur o) s R k put = k.decides o refl (grind (arith, put.ok refl))
-step_turn (TxEvent.GiveUp p) s R k put = every_give_up s p R k (grind (arith, put.ok refl))
-step_turn TxEvent.Ordered s R k put = k.orders_ready (put.ordered refl) refl
-step_turn (TxEvent.Reply b r) s R k put = every_reply s b r R k
-step_turn TxEvent.Retry s R k put = k.asks_again
-
--- where no more is asked
-pub plain_turns : (e : TxEvent) (s : Transaction) (R : Transaction → Turn → Type 0) → Turns e s R → TurnSteps e s R
-plain_turns e s R k = record {
-  still = k.still;
-  first = k.first;
-  chain = k.chain;
-  tells = k.tells;
-  notes_prepare = λ hears. k.notes_prepare;
-  notes_done = λ is. k.notes_done;
-  notes_end = λ p is. k.notes_end p;
-  notes_rollback = λ rolled. k.notes_rollback;
-  defers_end = λ p is. k.defers_end p;
-  defers_grant = λ p is. k.defers_grant p;
-  prepares = k.prepares;
-  asks = λ is. k.asks;
-  asks_again = k.asks_again;
-  decides = k.decides;
-  aborts = λ p is. k.aborts p;
-  loses_arc = k.loses_arc;
-  closes_left = k.closes_left;
-  gives_up = k.gives_up;
-  counts = k.counts;
-  ends_done = k.ends_done;
-  ends_replied = k.ends_replied;
-  ends_rolled = k.ends_rolled;
-  leaves_below = k.leaves_below;
-  leaves_rolling = k.leaves_rolling;
-  votes = k.votes;
-  orders_root = k.orders_root;
-  orders_ready = k.orders_ready;
-  rolls = k.rolls;
-  completes_commit = k.completes_commit;
-  completes_rollback = k.completes_rollback;
-  leaves = k.leaves;
-}
-
-pub every_turn : (e : TxEvent) (s : Transaction) (R : Transaction → Turn → Type 0) → Turns e s R → IsPut e s → R s (transacted e s)
-every_turn e s R k put = step_turn e s R (plain_turns e s R k) put
+every_turn (TxEvent.Heur o) s R k put = k.decides o refl (grind (arith, put.ok refl))
+every_turn (TxEvent.GiveUp p) s R k put = every_give_up s p R k (grind (arith, put.ok refl))
+every_turn TxEvent.Ordered s R k put = k.orders_ready (put.ordered refl) refl
+every_turn (TxEvent.Reply b r) s R k put = every_reply s b r R k
+every_turn TxEvent.Retry s R k put = k.asks_again

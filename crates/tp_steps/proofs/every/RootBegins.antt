@@ -73,9 +73,9 @@ root_says who d p a found live down = begin_says who p (rooted who d) (fresh_cur
 
 -- ---- on an arc that is named
 
-pub arc_is : (arcs : List Arc) (p : ℕ) (a : Arc) → find_arc arcs p ≡ Some a → a.peer.node ≡ p
-arc_is [] p a h = absurd cc
-arc_is (b ∷ arcs) p a h = grind (arith, nat_tests, arc_is arcs p a)
+pub find_arc_is : (arcs : List Arc) (p : ℕ) (a : Arc) → find_arc arcs p ≡ Some a → a.peer.node ≡ p
+find_arc_is [] p a h = absurd cc
+find_arc_is (b ∷ arcs) p a h = grind (arith, nat_tests, find_arc_is arcs p a)
 
 pub named_says : (who : Who) (d : Digest) (p : ℕ) → refused_request who d (Request.BeginTransaction p) ≡ None → first_begin (start_root who (p ∷ []) d).outs ≡ Some (next_tree who d, next_branch who d)
 unfolding refused_request refused_on_arc situation_of start_root
@@ -86,7 +86,7 @@ named_says who d p ok = go (find_arc d.arcs p) refl
     go (Some a) i =
         let live : is_live a.link ≡ true = grind (arith, i, ok) in
         let down : is_superior d p ≡ false = grind (arith, i, ok) in
-        let here : is_superior d a.peer.node ≡ false = ap (is_superior d) (arc_is d.arcs p a i) ∙ down in
+        let here : is_superior d a.peer.node ≡ false = ap (is_superior d) (find_arc_is d.arcs p a i) ∙ down in
         let one : first_begin (begin_on who p (rooted who d)).outs ≡ Some (next_tree who d, next_branch who d) = root_says who d p a i live here in
         let two = first_append (begin_on who p (rooted who d)).outs [] (next_tree who d, next_branch who d) one in
         first_append ((begin_on who p (rooted who d)).outs ++ []) _ (next_tree who d, next_branch who d) two

@@ -162,17 +162,17 @@ next_turns e s fresh under = record {
   chain = λ t a f one two none.
       (own.chain t a f one.0 two.0 none, passed.chain t a f one.1 two.1 none, λ un. let x = one.2 un in let y = two.2 x.0.undecided in (told.chain t a f (λ v. (one.2 v).0) (λ v. (two.2 v).0) none un, next_then t a.next a.rec (f a.next).rec one.0.0 one.1.key x.0.log none x.1 y.1));
   tells = λ t i n. (own.tells t i n, passed.tells t i n, λ un. (told.tells t i n un, λ r h. absurd (cc (h))));
-  notes_prepare = λ n. (own.notes_prepare n, passed.notes_prepare n, λ un. (told.notes_prepare n un, λ r h. absurd (cc (h))));
-  notes_done = (own.notes_done, passed.notes_done, λ un. (told.notes_done un, λ r h. absurd (cc (h))));
-  notes_end = λ q. (own.notes_end q, passed.notes_end q, λ un. (told.notes_end q un, λ r h. absurd (cc (h))));
-  notes_rollback = λ n. (own.notes_rollback n, passed.notes_rollback n, λ un. (told.notes_rollback n un, λ r h. absurd (cc (h))));
-  defers_end = λ q. (own.defers_end q, passed.defers_end q, λ un. (told.defers_end q un, λ r h. absurd (cc (h))));
-  defers_grant = λ q. (own.defers_grant q, passed.defers_grant q, λ un. (told.defers_grant q un, λ r h. absurd (cc (h))));
+  notes_prepare = λ pr n. (own.notes_prepare pr n, passed.notes_prepare pr n, λ un. (told.notes_prepare pr n un, λ r h. absurd (cc (h))));
+  notes_done = λ is. ((own.notes_done is), (passed.notes_done is), λ un. ((told.notes_done is) un, λ r h. absurd (cc (h))));
+  notes_end = λ q is. (own.notes_end q is, passed.notes_end q is, λ un. (told.notes_end q is un, λ r h. absurd (cc (h))));
+  notes_rollback = λ ro n. (own.notes_rollback ro n, passed.notes_rollback ro n, λ un. (told.notes_rollback ro n un, λ r h. absurd (cc (h))));
+  defers_end = λ q is. (own.defers_end q is, passed.defers_end q is, λ un. (told.defers_end q is un, λ r h. absurd (cc (h))));
+  defers_grant = λ q is. (own.defers_grant q is, passed.defers_grant q is, λ un. (told.defers_grant q is un, λ r h. absurd (cc (h))));
   prepares = λ q. (own.prepares q, passed.prepares q, λ un. (told.prepares q un, λ r h. absurd (cc (h))));
-  asks = λ act asked up. (own.asks act asked up, passed.asks act asked up, λ un. (told.asks act asked up un, λ r h. absurd (cc (h))));
+  asks = λ is act asked up. (own.asks is act asked up, passed.asks is act asked up, λ un. (told.asks is act asked up un, λ r h. absurd (cc (h))));
   asks_again = (own.asks_again, passed.asks_again, λ un. (told.asks_again un, λ r h. absurd (cc (h))));
   decides = λ o is ready. (own.decides o is ready, passed.decides o is ready, λ un. (told.decides o is ready un, λ r h. let same : LogRec.Heuristic s.node (node_key s.key) o ≡ r = cc (h) in subst (IsNext s.node s.key (in_log s)) same (refl, refl, (children_of s.rows, ready_log s.key s.phase (children_of s.rows) s.decision ready ∙ ap (λ (x : Option Outcome). Some (recovered s.key Phase.Ready (fresh_branches (children_of s.rows)) x)) (fresh o is)))));
-  aborts = λ q. (own.aborts q, passed.aborts q, λ un. (told.aborts q un, λ r h. absurd (cc (h))));
+  aborts = λ q is. (own.aborts q is, passed.aborts q is, λ un. (told.aborts q is un, λ r h. absurd (cc (h))));
   loses_arc = λ q gone. (own.loses_arc q gone, passed.loses_arc q gone, λ un. (told.loses_arc q gone un, λ r h. absurd (cc (h))));
   closes_left = λ q is. (own.closes_left q is, passed.closes_left q is, λ un. (told.closes_left q is un, λ r h. absurd (cc (h))));
   gives_up = λ q r is c found. (own.gives_up q r is c found, passed.gives_up q r is c found, λ un. (told.gives_up q r is c found un, λ r h. absurd (cc (h))));

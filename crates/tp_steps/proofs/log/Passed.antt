@@ -121,14 +121,14 @@ passed_turns e s = record {
   first = λ t u outs a one two. passed_then e s t (turn outs u) a a.rec (inl (refl, refl)) one two;
   chain = λ t a f one two none. passed_then e s t a (f a.next) (after_rec a.rec (f a.next).rec) (later_rec a.rec (f a.next).rec none) one two;
   tells = λ t i n. tell_one e s t i (grind (arith, n)) (grind (arith, n));
-  notes_prepare = λ cl. quiet e s s (TxOut.Tell Indication.Prepare ∷ []) (record s { told_prepare = true }) refl refl (λ h. refl) refl refl refl;
-  notes_done = quiet e s s [] (record s { owes = false }) refl refl (λ h. refl) refl refl refl;
-  notes_end = λ q. quiet e s s (TxOut.Tell (Indication.DeferEnd q) ∷ []) (record s { up_ends = true }) refl refl (λ h. refl) refl refl refl;
-  notes_rollback = λ cl. quiet e s s [] (record s { superior_rolled = true }) refl refl (λ h. refl) refl refl refl;
-  defers_end = λ q. quiet_row e s s (TxOut.Carry q DialogueRecord.DeferEnd ∷ []) q (λ r. record r { ends = true }) (λ r. refl) (λ r. refl) refl refl refl;
-  defers_grant = λ q. quiet e s s (TxOut.Carry q DialogueRecord.DeferGrant ∷ []) s refl refl (λ h. refl) refl refl refl;
+  notes_prepare = λ pr cl. quiet e s s (TxOut.Tell Indication.Prepare ∷ []) (record s { told_prepare = true }) refl refl (λ h. refl) refl refl refl;
+  notes_done = λ is. quiet e s s [] (record s { owes = false }) refl refl (λ h. refl) refl refl refl;
+  notes_end = λ q is. quiet e s s (TxOut.Tell (Indication.DeferEnd q) ∷ []) (record s { up_ends = true }) refl refl (λ h. refl) refl refl refl;
+  notes_rollback = λ ro cl. quiet e s s [] (record s { superior_rolled = true }) refl refl (λ h. refl) refl refl refl;
+  defers_end = λ q is. quiet_row e s s (TxOut.Carry q DialogueRecord.DeferEnd ∷ []) q (λ r. record r { ends = true }) (λ r. refl) (λ r. refl) refl refl refl;
+  defers_grant = λ q is. quiet e s s (TxOut.Carry q DialogueRecord.DeferGrant ∷ []) s refl refl (λ h. refl) refl refl refl;
   prepares = λ q. quiet_row e s s (TxOut.Carry q DialogueRecord.Prepare ∷ []) q (λ r. record r { branch = record r.branch { prepared = true } }) (λ r. refl) (λ r. refl) refl refl refl;
-  asks = λ act asked told. passed_ask e s s act;
+  asks = λ is act asked told. passed_ask e s s act;
   asks_again = passed_retried e s s;
   decides = λ o is ready. record {
     key = refl;
@@ -142,7 +142,7 @@ passed_turns e s = record {
     tells_commit = λ h. absurd (cc (h));
     tells_rollback = λ h. absurd (cc (h));
   };
-  aborts = λ q. quiet e s s (TxOut.Carry q DialogueRecord.UAbort ∷ TxOut.Close q ∷ []) (with_arc_lost s q) (lost_key s q) (lost_phase s q) (λ h. lost_children s q) refl refl refl;
+  aborts = λ q is. quiet e s s (TxOut.Carry q DialogueRecord.UAbort ∷ TxOut.Close q ∷ []) (with_arc_lost s q) (lost_key s q) (lost_phase s q) (λ h. lost_children s q) refl refl refl;
   loses_arc = λ q gone. quiet e s s [] (with_arc_lost s q) (lost_key s q) (lost_phase s q) (λ h. lost_children s q) refl refl refl;
   closes_left = λ q is. quiet_row e s s (TxOut.Close q ∷ []) q row_dead (λ r. refl) (λ r. refl) refl refl refl;
   gives_up = λ q r is c found. passed_shut e s q r;

@@ -32,7 +32,7 @@ use Rattle.tp_steps.proofs.words.HeardTurned.{seen_sees}
 use Rattle.tp_steps.proofs.words.Heard.{heard_moves, dropped_live}
 use Rattle.tp_steps.proofs.lemmas.UpwardWords.{is_upward}
 use Rattle.tp_steps.proofs.upward.Answering.{rounds_append, flag_append, none_rounds, answering_turn, same_rounds}
-use Rattle.tp_steps.proofs.every.BeginCases.{begun_over, begin_cases}
+use Rattle.tp_steps.proofs.every.BeginCases.{begun_over, begin_cases, begin_word, begin_arcs}
 use Rattle.tp_steps.proofs.links.Whole.{whole_turn}
 
 -- ---- moves that answer nothing
@@ -134,23 +134,17 @@ answered_begins who p q cl d = begin_cases (IsAnswered p cl d) who q d still on
     on : (c : Current) (a : Arc) → d.current ≡ Some c → find_arc d.arcs q ≡ Some a → may_begin_on who d a ≡ true → IsAnswered p cl d (begun_over who q d c a)
     on c a now found may = answered_none p cl d m quiet keeps
       where
-        word : DialogueRecord
-        word = DialogueRecord.Begin (aaid_of c.key) (record { superior = who.site; mark = next_mark who d }) (named_holder a.dialogue)
-
-        arcs : List Arc
-        arcs = with_dialogue d.arcs q (begun_by (named_holder a.dialogue) Side.Superior)
-
         m : Move
-        m = perform (TxOut.Carry q word ∷ []) (record (with_begun who (with_mark_drawn d) c (record { addr = a.peer; branch = record { superior = who.site; mark = next_mark who d } })) { arcs = arcs })
+        m = begun_over who q d c a
 
-        agrees : Agrees p (is_live (link_with arcs p)) (TxOut.Carry q word ∷ []) m.outs (is_live (link_with m.next.arcs p))
-        agrees = agrees_performed arcs (TxOut.Carry q word ∷ []) p refl
+        agrees : Agrees p (is_live (link_with (begin_arcs q d a) p)) (TxOut.Carry q (begin_word who d c a) ∷ []) m.outs (is_live (link_with m.next.arcs p))
+        agrees = agrees_performed (begin_arcs q d a) (TxOut.Carry q (begin_word who d c a) ∷ []) p refl
 
-        one : (b : Bool) → none_of is_upward (spoken b p (TxOut.Carry q word ∷ [])) ≡ true
+        one : (b : Bool) → none_of is_upward (spoken b p (TxOut.Carry q (begin_word who d c a) ∷ [])) ≡ true
         one b = grind arith
 
         quiet : none_of is_upward (words_to p m.outs) ≡ true
-        quiet = rw (agrees.words) (one (is_live (link_with arcs p)))
+        quiet = rw (agrees.words) (one (is_live (link_with (begin_arcs q d a) p)))
 
         begun : Transaction
         begun = (transacted (TxEvent.Begun (record { addr = a.peer; branch = record { superior = who.site; mark = next_mark who d } } ∷ [])) (seen who d.arcs c)).next

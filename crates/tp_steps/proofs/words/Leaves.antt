@@ -53,10 +53,6 @@ pub down_kind : (f : DialogueRecord → Bool) (p : ℕ) (rows : List Row) (r : D
 down_kind f p [] r h = refl
 down_kind f p (w ∷ rows) r h = grind (arith, down_kind f p rows r h)
 
-pub down_stays : (p : ℕ) (rows : List Row) (r : DialogueRecord) → stays true p (carry_down rows r) ≡ true
-down_stays p [] r = refl
-down_stays p (w ∷ rows) r = grind (arith, down_stays p rows r)
-
 -- only to a branch
 pub down_none : (p : ℕ) (rows : List Row) (r : DialogueRecord) → row_id (find_row rows p) ≡ None → spoken true p (carry_down rows r) ≡ []
 down_none p [] r h = refl

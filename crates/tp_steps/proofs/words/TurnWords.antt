@@ -14,10 +14,9 @@ use Rattle.tp_model.specs.declared.transaction.TxEvent.{TxEvent}
 use Rattle.tp_model.specs.declared.transaction.TxOut.{TxOut}
 use Rattle.tp_model.specs.Dialogues.{is_committing}
 use Rattle.tp_model.specs.Transactions.{Transaction, aaid_of, carry_up, done_up, tell_report, order, ask_commit, count_branch, end_branch, branch_left, transacted}
-use Rattle.tp_steps.specs.TurnSteps.{TurnSteps}
-use Rattle.tp_steps.specs.Turns.{is_left_word}
+use Rattle.tp_steps.specs.Turns.{Turns, is_left_word}
 use Rattle.tp_steps.specs.Moves.{IsPut}
-use Rattle.tp_steps.proofs.every.EveryTurn.{step_turn}
+use Rattle.tp_steps.proofs.every.EveryTurn.{every_turn}
 use Rattle.tp_steps.proofs.lemmas.Joined.{IsJoined, joined_up, joined_prepare, joined_ask, joined_done, joined_report, joined_retried, joined_completes, joined_unrolls, joined_rolls, joined_order, joined_leaves}
 
 -- the words of a transaction's protocol, but those of a node that leaves
@@ -56,7 +55,7 @@ pub record AreTurnWords (e : TxEvent) (s : Transaction) (P : List TxOut → Type
   pub replies : (z : Addr) (t : Aaid) (b : BranchId) (r : Report) → P (TxOut.Recovery z (PeerRecord.RecReply t b (RecState.Done r)) ∷ [])
   pub forgets : (z : Addr) (t : Aaid) (b : BranchId) → P (TxOut.Recovery z (PeerRecord.Forget t b) ∷ [])
 
-word_turns : (e : TxEvent) (s : Transaction) (P : List TxOut → Type 0) → AreTurnWords e s P → TurnSteps e s (λ t a. P a.outs)
+word_turns : (e : TxEvent) (s : Transaction) (P : List TxOut → Type 0) → AreTurnWords e s P → Turns e s (λ t a. P a.outs)
 unfolding ask_commit count_branch end_branch branch_left
 word_turns e s P k = record {
   still = λ t. k.joined.none;
@@ -109,4 +108,4 @@ word_turns e s P k = record {
     done t r = joined_done P k.joined t r (λ p. k.carries p (DialogueRecord.Done r) refl) (λ a b z i. k.replies z a b r)
 
 pub turn_words : (e : TxEvent) (s : Transaction) (P : List TxOut → Type 0) → AreTurnWords e s P → IsPut e s → P (transacted e s).outs
-turn_words e s P k put = step_turn e s (λ t a. P a.outs) (word_turns e s P k) put
+turn_words e s P k put = every_turn e s (λ t a. P a.outs) (word_turns e s P k) put
