@@ -1,6 +1,6 @@
 //! The words of a line, which one space parts.
 ghost use Rattle.std.specs.Prelude.{◌≡◌, ◌++◌, ◌∷◌, [], OnErr, OnOk};
-ghost use Rattle.tp_text.specs.Written.{Adds};
+ghost use Rattle.tp_text_builder.specs.Written.{Adds};
 ghost use Rattle.tp_model.specs.Words.{words};
 ghost use Rattle.tp_schedule.specs.WordText.{word_text, word_texts, spaced};
 
@@ -8,7 +8,7 @@ use std::alloc::Global;
 use tp_model::{NodeNumbers, PhaseWord, RecordFate};
 use tp_names::{Aaid, BranchId, Mark, NoMemory, Octets, Outcome, Report, SiteName};
 use tp_records::Holder;
-use tp_text::Text;
+use tp_text_builder::Text;
 
 /// What a word is written for.
 #[derive(Clone, Copy)]

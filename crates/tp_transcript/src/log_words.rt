@@ -1,6 +1,6 @@
 //! Writing identifiers, keys and the records of a log.
 ghost use Rattle.std.specs.Prelude.{◌≡◌, ◌++◌, ◌∷◌, [], OnErr, OnOk};
-ghost use Rattle.tp_text.specs.Written.{Adds};
+ghost use Rattle.tp_text_builder.specs.Written.{Adds};
 ghost use Rattle.tp_model.specs.Words.{words, decimal, aaid_word, key_words, outcome_word};
 ghost use Rattle.tp_model.specs.OutText.{log_words};
 ghost use Rattle.tp_model.specs.Happenings.{log_shown};
@@ -9,7 +9,7 @@ use std::alloc::Global;
 use tp_logrec::LogRec;
 use tp_model::LogWords;
 use tp_names::{Aaid, NoMemory, NodeKey, Octets, Outcome, Report};
-use tp_text::Text;
+use tp_text_builder::Text;
 
 // Promise 2.21, part 6
 /// Puts the identifier's word at the end of `out`. Without memory `out` stays as it was.

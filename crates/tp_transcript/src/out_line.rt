@@ -1,6 +1,6 @@
 //! Writing a line of a transcript.
 ghost use Rattle.std.specs.Prelude.{◌≡◌, ◌++◌, ◌∷◌, [], OnErr, OnOk};
-ghost use Rattle.tp_text.specs.Written.{Adds};
+ghost use Rattle.tp_text_builder.specs.Written.{Adds};
 ghost use Rattle.tp_model.specs.OutText.{out_text};
 ghost use Rattle.tp_model.specs.Words.{words, decimal};
 
@@ -11,7 +11,7 @@ use std::alloc::Global;
 use tp_model::{LogWords, NodeNumbers, OutLine, PhaseWord, RecordFate, SentWords};
 use tp_names::{Aaid, NoMemory, Octets, Outcome, SiteName};
 use tp_records::Indication;
-use tp_text::Text;
+use tp_text_builder::Text;
 
 // Promise 2.21, part 2
 /// Puts the line's text at the end of `out`, without an end. Without memory `out` stays as it was.

@@ -1,13 +1,13 @@
 //! Writing the records that peers send.
 ghost use Rattle.std.specs.Prelude.{◌≡◌, ◌∷◌, []};
-ghost use Rattle.tp_text.specs.Written.{Adds};
+ghost use Rattle.tp_text_builder.specs.Written.{Adds};
 ghost use Rattle.tp_model.specs.Words.{words, aaid_word, branch_word, report_word};
 ghost use Rattle.tp_model.specs.OutText.{dialogue_words, state_words, sent_words};
 
 use tp_model::SentWords;
 use tp_names::{Aaid, BranchId, Mark, Octets, Report};
 use tp_records::{DialogueRecord, Holder, RecState};
-use tp_text::Text;
+use tp_text_builder::Text;
 use tp_units::Units;
 
 /// The words of a record that is sent.

@@ -1,6 +1,6 @@
 //! Writing what users are told.
 ghost use Rattle.std.specs.Prelude.{◌≡◌, ◌∷◌, []};
-ghost use Rattle.tp_text.specs.Written.{Adds};
+ghost use Rattle.tp_text_builder.specs.Written.{Adds};
 ghost use Rattle.tp_model.specs.Words.{words, decimal, units_word};
 ghost use Rattle.tp_model.specs.OutText.{indication_words};
 ghost use Rattle.tp_records.specs.declared.indication.Indication.{Indication};
@@ -9,7 +9,7 @@ use crate::out_line::put_one;
 use crate::sent_words::put_reported;
 use tp_names::{Aaid, Octets, Report};
 use tp_records::Indication;
-use tp_text::Text;
+use tp_text_builder::Text;
 use tp_units::Units;
 
 /// The words of an indication.

@@ -1,4 +1,4 @@
-use Rattle.tp_text.proofs.Added.{adds_then, adds_same, adds_nothing}
+use Rattle.tp_text_builder.proofs.Added.{adds_then, adds_same, adds_nothing}
 use Rattle.tp_schedule.proofs.Spaced.{spaced_next, spaced_over}
 use Rattle.tp_schedule.proofs.word.put_spaced.Goals as goal
 

@@ -1,5 +1,5 @@
 use Rattle.std.proofs.Common.{drop}
-use Rattle.tp_text.specs.Written.{Written, Adds}
+use Rattle.tp_text_builder.specs.Written.{Written, Adds}
 use Rattle.tp_schedule.specs.WordText.{word_texts, spaced}
 use Rattle.tp_schedule.proofs.word.put_spaced.Given as goal
 

@@ -1,4 +1,4 @@
-use Rattle.tp_text.proofs.Added.{adds_then, adds_same, adds_nothing}
+use Rattle.tp_text_builder.proofs.Added.{adds_then, adds_same, adds_nothing}
 use Rattle.tp_schedule.proofs.Spaced.{no_words, first_and_rest}
 use Rattle.tp_schedule.proofs.word.put_words.Goals as goal
 

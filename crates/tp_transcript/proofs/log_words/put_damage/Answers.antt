@@ -1,6 +1,6 @@
 use Rattle.std.proofs.Common.{◌∷◌, [], ◌++◌, codes, refl}
 use Rattle.tp_model.specs.Words.{decimal, key_words, outcome_word, report_word}
-use Rattle.tp_text.proofs.Joined.{joined}
+use Rattle.tp_text_builder.proofs.Joined.{joined}
 use Rattle.tp_transcript.proofs.log_words.put_damage.Goals as goal
 
 pub returns : goal.returns

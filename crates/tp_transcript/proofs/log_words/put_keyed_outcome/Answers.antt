@@ -1,6 +1,6 @@
 use Rattle.std.proofs.Common.{◌∷◌, [], refl}
 use Rattle.tp_model.specs.Words.{decimal, key_words, outcome_word}
-use Rattle.tp_text.proofs.Joined.{joined}
+use Rattle.tp_text_builder.proofs.Joined.{joined}
 use Rattle.tp_transcript.proofs.log_words.put_keyed_outcome.Goals as goal
 
 pub returns : goal.returns

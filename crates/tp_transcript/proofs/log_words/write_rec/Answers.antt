@@ -2,7 +2,7 @@ use Rattle.std.proofs.Common.{ap}
 use Rattle.tp_model.specs.declared.out_line.LogWords.{LogWords}
 use Rattle.tp_model.specs.Words.{words}
 use Rattle.tp_model.specs.OutText.{log_words}
-use Rattle.tp_text.proofs.Added.{adds_same, done_ok, done_err}
+use Rattle.tp_text_builder.proofs.Added.{adds_same, done_ok, done_err}
 use Rattle.tp_transcript.proofs.log_words.write_rec.Goals as goal
 
 pub returns-clause-ok : goal.returns-clause-ok

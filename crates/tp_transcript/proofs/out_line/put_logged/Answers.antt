@@ -1,7 +1,7 @@
 use Rattle.std.proofs.Common.{◌∷◌, [], codes}
 use Rattle.tp_model.specs.OutText.{log_words}
-use Rattle.tp_text.proofs.Added.{adds_then}
-use Rattle.tp_text.proofs.Joined.{joined}
+use Rattle.tp_text_builder.proofs.Added.{adds_then}
+use Rattle.tp_text_builder.proofs.Joined.{joined}
 use Rattle.tp_transcript.proofs.HasWord.{log_has}
 use Rattle.tp_transcript.proofs.out_line.put_logged.Goals as goal
 

@@ -1,7 +1,7 @@
 use Rattle.std.proofs.Common.{◌∷◌, [], codes}
 use Rattle.tp_model.specs.Words.{decimal}
 use Rattle.tp_model.specs.OutText.{indication_words}
-use Rattle.tp_text.proofs.Joined.{joined}
+use Rattle.tp_text_builder.proofs.Joined.{joined}
 use Rattle.tp_transcript.proofs.HasWord.{indication_has}
 use Rattle.tp_transcript.proofs.out_line.put_tell.Goals as goal
 

@@ -1,6 +1,6 @@
 use Rattle.std.proofs.Common.{ap}
 use Rattle.tp_model.specs.Words.{units_word}
-use Rattle.tp_text.proofs.Added.{adds_then, adds_same}
+use Rattle.tp_text_builder.proofs.Added.{adds_then, adds_same}
 use Rattle.tp_transcript.proofs.sent_words.put_accept.Goals as goal
 
 pub returns : goal.returns

@@ -1,6 +1,6 @@
 use Rattle.std.proofs.Common.{◌∷◌, [], codes, refl}
 use Rattle.tp_model.specs.Words.{aaid_word, branch_word, holder_word}
-use Rattle.tp_text.proofs.Joined.{joined}
+use Rattle.tp_text_builder.proofs.Joined.{joined}
 use Rattle.tp_transcript.proofs.sent_words.put_begin.Goals as goal
 
 pub returns : goal.returns

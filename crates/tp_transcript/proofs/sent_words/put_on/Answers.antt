@@ -1,8 +1,8 @@
 use Rattle.std.proofs.Common.{◌∷◌, [], codes}
 use Rattle.tp_model.specs.Words.{decimal}
 use Rattle.tp_model.specs.OutText.{dialogue_words}
-use Rattle.tp_text.proofs.Added.{adds_then}
-use Rattle.tp_text.proofs.Joined.{joined}
+use Rattle.tp_text_builder.proofs.Added.{adds_then}
+use Rattle.tp_text_builder.proofs.Joined.{joined}
 use Rattle.tp_transcript.proofs.HasWord.{dialogue_has}
 use Rattle.tp_transcript.proofs.sent_words.put_on.Goals as goal
 

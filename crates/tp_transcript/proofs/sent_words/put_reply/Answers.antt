@@ -1,7 +1,7 @@
 use Rattle.std.proofs.Common.{◌∷◌, [], codes}
 use Rattle.tp_model.specs.Words.{aaid_word, branch_word}
 use Rattle.tp_model.specs.OutText.{state_words}
-use Rattle.tp_text.proofs.Joined.{joined}
+use Rattle.tp_text_builder.proofs.Joined.{joined}
 use Rattle.tp_transcript.proofs.HasWord.{state_has}
 use Rattle.tp_transcript.proofs.sent_words.put_reply.Goals as goal
 

@@ -1,7 +1,7 @@
 use Rattle.std.proofs.Common.{◌∷◌, [], refl, ap}
 use Rattle.tp_model.specs.Words.{decimal, units_word}
-use Rattle.tp_text.proofs.Added.{adds_same}
-use Rattle.tp_text.proofs.Joined.{joined}
+use Rattle.tp_text_builder.proofs.Added.{adds_same}
+use Rattle.tp_text_builder.proofs.Joined.{joined}
 use Rattle.tp_transcript.proofs.told_words.put_offer.Goals as goal
 
 pub returns : goal.returns
