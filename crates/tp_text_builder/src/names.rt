@@ -1,7 +1,7 @@
 //! Names of sites, marks and identifiers, and the words for outcomes, reports and the like.
-ghost use Rattle.std.specs.Prelude.{◌∷◌};
+ghost use Rattle.std.specs.Prelude.{◌++◌, ◌∷◌};
 ghost use Rattle.tp_text_builder.specs.Written.{Adds};
-ghost use Rattle.tp_model.specs.Words.{mark_word, aaid_word, branch_word, maybe_word, outcome_word, report_word, holder_word};
+ghost use Rattle.tp_model.specs.Words.{decimal, mark_word, aaid_word, branch_word, maybe_word, outcome_word, report_word, holder_word};
 ghost use Rattle.tp_model.specs.OutText.{phase_word, fate_word};
 
 use crate::Text;
@@ -36,9 +36,21 @@ impl Text {
     fn dotted(&mut self, mark: &Mark)
         ensures { Adds self.old (46 ∷ mark_word mark.now) self.new }
     {
-        self.led(b'.', mark.boot);
-        self.led(b'.', u64::from(mark.node));
+        self.two_dotted(mark.boot, u64::from(mark.node));
         self.led(b'.', mark.count);
+    }
+
+    // Puts two numbers, each after a dot: short ones at once.
+    #[inline(always)]
+    fn two_dotted(&mut self, m: u64, n: u64)
+        ensures { Adds self.old ((46 ∷ decimal m) ++ (46 ∷ decimal n)) self.new }
+    {
+        if m < 10 && n < 10 {
+            self.put(&[b'.', b'0' + m as u8, b'.', b'0' + n as u8]);
+        } else {
+            self.led(b'.', m);
+            self.led(b'.', n);
+        }
     }
 
     /// Puts a mark, or `-` for none.

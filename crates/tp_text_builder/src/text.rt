@@ -64,7 +64,11 @@ impl Text {
     pub fn byte(&mut self, byte: u8)
         ensures { Adds self.old (byte ∷ []) self.new }
     {
-        self.put(&[byte]);
+        if self.bytes.len() < self.bytes.capacity() {
+            self.bytes.push_reserved(byte);
+        } else {
+            self.put(&[byte]);
+        }
     }
 
     /// Puts a space at the end, which parts two words.
