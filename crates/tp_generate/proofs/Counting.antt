@@ -5,7 +5,7 @@ use Rattle.std.specs.Fmt.{decimal as std_decimal}
 use Rattle.tp_model.specs.Words.{decimal}
 use Rattle.tp_model.specs.declared.out_line.OutLine.{OutLine}
 use Rattle.tp_model.specs.Generator.{counted, is_agreed_commit, is_agreed_rollback, is_mixed, is_open, summary_line}
-use Rattle.tp_text.proofs.Decimals.{decimal_same}
+use Rattle.tp_text_builder.proofs.Decimals.{decimal_same}
 use Rattle.tp_generate.specs.declared.summary.Endings.{Endings}
 use Rattle.tp_generate.specs.Counts.{and_one, with_line, AreCounts, IsUpTo}
 

@@ -4,7 +4,7 @@ use Rattle.std.proofs.lemmas.Bool.{agree_below_at}
 use Rattle.tp_names.specs.Bytes.{is_site_name}
 use Rattle.tp_model.specs.Words.{decimal}
 use Rattle.tp_model.specs.Generator.{site_name}
-use Rattle.tp_text.proofs.Decimals.{decimal_one, decimal_more}
+use Rattle.tp_text_builder.proofs.Decimals.{decimal_one, decimal_more}
 
 abbrev place_of : ℕ → ℕ
 place_of i = 1 + (i - 1) % 16

@@ -8,9 +8,9 @@ use std::alloc::Global;
 use tp_logrec::LogRec;
 use tp_names::{NoMemory, Octets};
 use tp_outside::Sink;
-use tp_schedule::word::{Word, write_words};
 use tp_streams::{Stop, write_all};
-use tp_transcript::write_rec;
+use tp_text_builder::Text;
+use tp_transcript::put_rec;
 
 /// The length from which a text is written.
 const FULL: usize = 65_536;
@@ -19,10 +19,12 @@ const FULL: usize = 65_536;
 fn write_line(alloc: Global, place: u64, rec: &LogRec, out: &mut Octets) -> Result<(), NoMemory>
     ensures line { OnOk result (out.new ≡ out.old ++ placed_text (record { place = place; rec = rec.now })) }
 {
-    write_words(alloc, &[Word::Long(place)], out)?;
-    out.push(alloc, b' ')?;
-    write_rec(alloc, rec, out)?;
-    out.push(alloc, b'\n')
+    let mut text = Text::after(alloc, out);
+    text.number(place);
+    text.space();
+    put_rec(rec, &mut text);
+    text.byte(b'\n');
+    text.done(out)
 }
 
 // Writes the text and empties it, if it is long.

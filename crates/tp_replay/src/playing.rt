@@ -1,6 +1,6 @@
 //! One line of a schedule, from its bytes to the bytes that it shows.
 ghost use Rattle.std.specs.Prelude.{◌≡◌, ◌<◌, ◌++◌, ◌∷◌, [], IfErr, OnErr, OnOk};
-ghost use Rattle.tp_text.specs.Written.{Adds};
+ghost use Rattle.tp_text_builder.specs.Written.{Adds};
 ghost use Rattle.tp_model.specs.LineReading.{Says, read_line};
 ghost use Rattle.tp_model.specs.declared.out_line.OutLine.{OutLine};
 ghost use Rattle.tp_model.specs.LineText.{line_text};
@@ -17,7 +17,7 @@ use tp_model::{Line, OutLines, Why};
 use tp_names::{NoMemory, Octets};
 use tp_records::Member;
 use tp_schedule::{LineFault, put_line, read_line_into};
-use tp_text::Text;
+use tp_text_builder::Text;
 use tp_transcript::put_out;
 use tp_world::WorldFault;
 use tp_world_members::{DrivenWorld, is_silent};

@@ -1,6 +1,5 @@
 pub mod lemmas
 mod HasWord
-mod Spaced
 pub mod Values
 pub mod LineForms
 pub mod LinesBack

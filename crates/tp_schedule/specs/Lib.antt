@@ -1,4 +1,3 @@
-pub mod WordText
 pub mod Answers
 pub mod Keywords
 pub mod HasText

@@ -1,8 +1,8 @@
-//! The lines of schedules as text, and the words that all lines are made of.
+//! The lines of schedules as text.
 //!
 //! Lines are written here and read, to the byte as tp_model defines them, and a schedule is cut into its
-//! lines as a stream gives it. `cutting`, `value`, `keyword` and `word` read and write words, for
-//! transcripts too. What a line does is no matter of this crate.
+//! lines as a stream gives it. `cutting`, `value` and `keyword` read words, for transcripts too. What a line
+//! does is no matter of this crate.
 #![tactic(auto)]
 
 pub mod cutting;
@@ -17,7 +17,6 @@ mod schedule_line;
 mod schedule_words;
 pub mod value;
 mod window;
-pub mod word;
 
 pub use line_fault::LineFault;
 pub use line_reading::{read_line, read_line_into};

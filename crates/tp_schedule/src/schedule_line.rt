@@ -1,13 +1,13 @@
 //! Writing a line of a schedule.
 ghost use Rattle.std.specs.Prelude.{◌≡◌, ◌++◌, ◌∷◌, [], Some, OnErr, OnOk, codes};
-ghost use Rattle.tp_text.specs.Written.{Adds};
+ghost use Rattle.tp_text_builder.specs.Written.{Adds};
 ghost use Rattle.tp_model.specs.Words.{words, decimal, hex};
 ghost use Rattle.tp_model.specs.LineText.{request_words, action_words, under_words, line_words, line_text};
 
 use std::alloc::Global;
 use tp_model::{Action, Line, LineRequest};
 use tp_names::{NoMemory, Octets, Outcome, SiteName};
-use tp_text::Text;
+use tp_text_builder::Text;
 
 // Promise 2.21: A line of a schedule, a line of a transcript, a log record, a key and an identifier
 //   are written to the byte

@@ -6,7 +6,7 @@ use Rattle.tp_records.specs.declared.peer.RecState.{RecState}
 use Rattle.tp_model.specs.declared.out_line.LogWords.{LogWords}
 use Rattle.tp_model.specs.declared.out_line.SentWords.{SentWords}
 use Rattle.tp_model.specs.OutText.{log_words, dialogue_words, state_words, sent_words, indication_words}
-use Rattle.tp_text.proofs.Joined.{has_word}
+use Rattle.tp_text_builder.proofs.Joined.{has_word}
 
 pub log_has : (r : LogWords) → has_word (log_words r) ≡ true
 log_has (LogWords.Boot n) = refl

@@ -1,4 +1,5 @@
 pub mod HasWord
+mod Parts
 pub mod OutCut
 pub mod OutForms
 pub mod OutNumbers

@@ -14,6 +14,6 @@ mod out_values;
 mod sent_words;
 mod told_words;
 
-pub use log_words::{write_aaid, write_key, write_rec};
+pub use log_words::{put_key, put_rec, write_aaid, write_key, write_rec};
 pub use out_line::{put_out, write_out};
 pub use out_reading::read_out;

@@ -1,15 +1,15 @@
 //! Writing identifiers, keys and the records of a log.
-ghost use Rattle.std.specs.Prelude.{◌≡◌, ◌++◌, ◌∷◌, [], OnErr, OnOk};
-ghost use Rattle.tp_text.specs.Written.{Adds};
-ghost use Rattle.tp_model.specs.Words.{words, decimal, aaid_word, key_words, outcome_word};
+ghost use Rattle.std.specs.Prelude.{◌≡◌, ◌++◌, ◌∷◌, OnErr, OnOk};
+ghost use Rattle.tp_text_builder.specs.Written.{Adds};
+ghost use Rattle.tp_model.specs.Words.{words, decimal, aaid_word, key_words};
 ghost use Rattle.tp_model.specs.OutText.{log_words};
 ghost use Rattle.tp_model.specs.Happenings.{log_shown};
 
 use std::alloc::Global;
 use tp_logrec::LogRec;
 use tp_model::LogWords;
-use tp_names::{Aaid, NoMemory, NodeKey, Octets, Outcome, Report};
-use tp_text::Text;
+use tp_names::{Aaid, NoMemory, NodeKey, Octets};
+use tp_text_builder::Text;
 
 // Promise 2.21, part 6
 /// Puts the identifier's word at the end of `out`. Without memory `out` stays as it was.
@@ -40,8 +40,16 @@ pub fn write_rec(alloc: Global, v: &LogRec, out: &mut Octets) -> Result<(), NoMe
     ensures err { OnErr result (out.new ≡ out.old) }
 {
     let mut text = Text::after(alloc, out);
-    put_log(&shown(v), &mut text);
+    put_rec(v, &mut text);
     text.done(out)
+}
+
+// Promise 2.21, part 7
+/// Puts the words of a log record at the end of a text.
+pub fn put_rec(v: &LogRec, text: &mut Text)
+    ensures { Adds text.old (words (log_words (log_shown v.now))) text.new }
+{
+    put_log(&shown(v), text);
 }
 
 fn shown(v: &LogRec) -> LogWords
@@ -87,10 +95,15 @@ pub(crate) fn put_log(rec: &LogWords, text: &mut Text)
     ensures { Adds text.old (words (log_words rec.now)) text.new }
 {
     match rec {
-        LogWords::Boot { boot } => put_boot(*boot, text),
+        LogWords::Boot { boot } => {
+            text.word("boot");
+            text.next_number(*boot);
+        }
         LogWords::Ready { node, key } => put_keyed("ready", *node, key, text),
         LogWords::Heuristic { node, key, outcome } => {
-            put_keyed_outcome("heuristic", *node, key, *outcome, text)
+            put_keyed("heuristic", *node, key, text);
+            text.space();
+            text.outcome(*outcome);
         }
         LogWords::Commit { node, key } => put_keyed("commit", *node, key, text),
         LogWords::Damage {
@@ -98,14 +111,24 @@ pub(crate) fn put_log(rec: &LogWords, text: &mut Text)
             key,
             side,
             report,
-        } => put_damage(*node, key, *side, *report, text),
+        } => {
+            put_keyed("damage", *node, key, text);
+            text.space();
+            text.outcome(*side);
+            text.space();
+            text.report(*report);
+        }
         LogWords::End { node, key, outcome } => {
-            put_keyed_outcome("end", *node, key, *outcome, text)
+            put_keyed("end", *node, key, text);
+            text.space();
+            text.outcome(*outcome);
         }
     }
 }
 
-fn put_key(key: &NodeKey, text: &mut Text)
+// Promise 2.21, part 8
+/// Puts the two words of a node's key at the end of a text.
+pub fn put_key(key: &NodeKey, text: &mut Text)
     ensures { Adds text.old (words (key_words key.now)) text.new }
 {
     text.aaid(&key.aaid);
@@ -122,29 +145,4 @@ fn put_keyed(word: &str, node: u16, key: &NodeKey, text: &mut Text)
     text.next_short(node);
     text.space();
     put_key(key, text);
-}
-
-// The same and an outcome.
-#[inline(always)]
-fn put_keyed_outcome(word: &str, node: u16, key: &NodeKey, outcome: Outcome, text: &mut Text)
-    ensures { Adds text.old (words (word.now ∷ decimal node ∷ key_words key.now ++ outcome_word outcome ∷ [])) text.new }
-{
-    put_keyed(word, node, key, text);
-    text.space();
-    text.outcome(outcome);
-}
-
-fn put_boot(boot: u64, text: &mut Text)
-    ensures { Adds text.old (words (log_words (LogWords.Boot boot))) text.new }
-{
-    text.word("boot");
-    text.next_number(boot);
-}
-
-fn put_damage(node: u16, key: &NodeKey, side: Outcome, report: Report, text: &mut Text)
-    ensures { Adds text.old (words (log_words (LogWords.Damage node key.now side report))) text.new }
-{
-    put_keyed_outcome("damage", node, key, side, text);
-    text.space();
-    text.report(report);
 }

@@ -1,17 +1,16 @@
 //! Writing a line of a transcript.
-ghost use Rattle.std.specs.Prelude.{◌≡◌, ◌++◌, ◌∷◌, [], OnErr, OnOk};
-ghost use Rattle.tp_text.specs.Written.{Adds};
+ghost use Rattle.std.specs.Prelude.{◌≡◌, ◌++◌, ◌∷◌, [], OnErr, OnOk, codes};
+ghost use Rattle.tp_text_builder.specs.Written.{Adds};
 ghost use Rattle.tp_model.specs.OutText.{out_text};
-ghost use Rattle.tp_model.specs.Words.{words, decimal};
+ghost use Rattle.tp_model.specs.Words.{words, decimal, aaid_word};
 
 use crate::log_words::put_log;
 use crate::sent_words::put_sent;
 use crate::told_words::put_told;
 use std::alloc::Global;
-use tp_model::{LogWords, NodeNumbers, OutLine, PhaseWord, RecordFate, SentWords};
-use tp_names::{Aaid, NoMemory, Octets, Outcome, SiteName};
-use tp_records::Indication;
-use tp_text::Text;
+use tp_model::{OutLine, PhaseWord, SentWords};
+use tp_names::{Aaid, NoMemory, Octets, SiteName};
+use tp_text_builder::Text;
 
 // Promise 2.21, part 2
 /// Puts the line's text at the end of `out`, without an end. Without memory `out` stays as it was.
@@ -30,8 +29,14 @@ pub fn put_out(o: &OutLine, text: &mut Text)
     ensures { Adds text.old (out_text o.now) text.new }
 {
     match o {
-        OutLine::Echo(line) => put_echo(line, text),
-        OutLine::Log { site, rec } => put_logged(site, rec, text),
+        OutLine::Echo(line) => {
+            text.word("> ");
+            text.put(line.as_slice());
+        }
+        OutLine::Log { site, rec } => {
+            put_named("log ", site, text);
+            put_log(rec, text);
+        }
         OutLine::Take { frame } => put_one("take", *frame, text),
         OutLine::Send {
             frame,
@@ -39,17 +44,33 @@ pub fn put_out(o: &OutLine, text: &mut Text)
             to,
             rec,
         } => put_send(*frame, *from, *to, rec, text),
-        OutLine::Tell { node, indication } => put_tell(*node, indication, text),
+        OutLine::Tell { node, indication } => {
+            put_one("tell", *node, text);
+            text.space();
+            put_told(indication, text);
+        }
         OutLine::Refused { number } => put_one("refused", u16::from(*number), text),
         OutLine::Dropped { number } => put_one("dropped", u16::from(*number), text),
         OutLine::Nothing => text.word("nothing"),
         OutLine::Lost { frame } => put_one("lost", *frame, text),
-        OutLine::Stopped { site, fate } => put_stopped(site, *fate, text),
+        OutLine::Stopped { site, fate } => {
+            put_named("stopped ", site, text);
+            text.fate(*fate);
+        }
         OutLine::State { node, phase, kept } => put_state(*node, *phase, *kept, text),
-        OutLine::Image { site, bytes } => put_image(site, bytes, text),
-        OutLine::Agreed { aaid, outcome } => put_agreed(aaid, *outcome, text),
-        OutLine::Mixed { aaid, by } => put_mixed(aaid, by, text),
-        OutLine::Open { aaid } => put_open(aaid, text),
+        OutLine::Image { site, bytes } => {
+            put_named("image ", site, text);
+            text.hex(bytes);
+        }
+        OutLine::Agreed { aaid, outcome } => {
+            put_tree(aaid, " agreed ", text);
+            text.outcome(*outcome);
+        }
+        OutLine::Mixed { aaid, by } => {
+            put_tree(aaid, " mixed by ", text);
+            text.numbers(by);
+        }
+        OutLine::Open { aaid } => put_tree(aaid, " open", text),
     }
 }
 
@@ -62,20 +83,23 @@ pub(crate) fn put_one(word: &str, n: u16, text: &mut Text)
     text.next_short(n);
 }
 
-fn put_echo(line: &Octets, text: &mut Text)
-    ensures { Adds text.old (out_text (OutLine.Echo line.now)) text.new }
+// A word with a space at its end, the name of a site and a space.
+#[inline(always)]
+fn put_named(word: &str, site: &SiteName, text: &mut Text)
+    ensures { Adds text.old (word.now ++ site.now ++ 32 ∷ []) text.new }
 {
-    text.word("> ");
-    text.put(line.as_slice());
-}
-
-fn put_logged(site: &SiteName, rec: &LogWords, text: &mut Text)
-    ensures { Adds text.old (out_text (OutLine.Log site.now rec.now)) text.new }
-{
-    text.word("log ");
+    text.word(word);
     text.site(site);
     text.space();
-    put_log(rec, text);
+}
+
+// The identifier of a tree, and what is told of it.
+fn put_tree(aaid: &Aaid, told: &str, text: &mut Text)
+    ensures { Adds text.old (codes "tree " ++ aaid_word aaid.now ++ told.now) text.new }
+{
+    text.word("tree ");
+    text.aaid(aaid);
+    text.word(told);
 }
 
 fn put_send(frame: u16, from: u16, to: u16, rec: &SentWords, text: &mut Text)
@@ -89,23 +113,6 @@ fn put_send(frame: u16, from: u16, to: u16, rec: &SentWords, text: &mut Text)
     put_sent(rec, text);
 }
 
-fn put_tell(node: u16, indication: &Indication, text: &mut Text)
-    ensures { Adds text.old (out_text (OutLine.Tell node indication.now)) text.new }
-{
-    put_one("tell", node, text);
-    text.space();
-    put_told(indication, text);
-}
-
-fn put_stopped(site: &SiteName, fate: RecordFate, text: &mut Text)
-    ensures { Adds text.old (out_text (OutLine.Stopped site.now fate)) text.new }
-{
-    text.word("stopped ");
-    text.site(site);
-    text.space();
-    text.fate(fate);
-}
-
 fn put_state(node: u16, phase: PhaseWord, kept: u64, text: &mut Text)
     ensures { Adds text.old (out_text (OutLine.State node phase kept)) text.new }
 {
@@ -115,39 +122,4 @@ fn put_state(node: u16, phase: PhaseWord, kept: u64, text: &mut Text)
     text.phase(phase);
     text.word(" kept");
     text.next_number(kept);
-}
-
-fn put_image(site: &SiteName, bytes: &Octets, text: &mut Text)
-    ensures { Adds text.old (out_text (OutLine.Image site.now bytes.now)) text.new }
-{
-    text.word("image ");
-    text.site(site);
-    text.space();
-    text.hex(bytes);
-}
-
-fn put_agreed(aaid: &Aaid, outcome: Outcome, text: &mut Text)
-    ensures { Adds text.old (out_text (OutLine.Agreed aaid.now outcome)) text.new }
-{
-    text.word("tree ");
-    text.aaid(aaid);
-    text.word(" agreed ");
-    text.outcome(outcome);
-}
-
-fn put_mixed(aaid: &Aaid, by: &NodeNumbers, text: &mut Text)
-    ensures { Adds text.old (out_text (OutLine.Mixed aaid.now by.now)) text.new }
-{
-    text.word("tree ");
-    text.aaid(aaid);
-    text.word(" mixed by ");
-    text.numbers(by);
-}
-
-fn put_open(aaid: &Aaid, text: &mut Text)
-    ensures { Adds text.old (out_text (OutLine.Open aaid.now)) text.new }
-{
-    text.word("tree ");
-    text.aaid(aaid);
-    text.word(" open");
 }

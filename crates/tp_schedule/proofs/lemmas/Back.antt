@@ -9,7 +9,7 @@ use Rattle.std.proofs.lemmas.Fmt.{decimal_by_steps, decimal_nonempty, length-dec
 use Rattle.tp_names.specs.Bytes.{all_bytes, is_site_byte, is_site_name}
 use Rattle.tp_model.specs.Words.{decimal, hex, hex_digit, octets_word, units_word, words}
 use Rattle.tp_model.specs.LineReading.{Form, Wrong, Outside, Well, pieces, onto_first, not_empty, words_in, is_digit, value_from, numeral, within, number_in, hex_value, pair_value, octet_before, hex_octets, octets, units, site, few, run_octets, fill, one_octet}
-use Rattle.tp_text.proofs.Decimals.{decimal_same}
+use Rattle.tp_text_builder.proofs.Decimals.{decimal_same}
 
 -- ---- words
 

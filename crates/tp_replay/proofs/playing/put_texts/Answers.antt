@@ -1,7 +1,7 @@
 use Rattle.std.proofs.Common.{ap, sym, ◌∙◌}
 use Rattle.std.proofs.lemmas.List.{take_all}
 use Rattle.tp_model.specs.OutText.{out_text, out_texts}
-use Rattle.tp_text.proofs.Added.{adds_then, adds_same, adds_nothing}
+use Rattle.tp_text_builder.proofs.Added.{adds_then, adds_same, adds_nothing}
 use Rattle.tp_replay.proofs.Texts.{texts_more}
 use Rattle.tp_replay.proofs.playing.put_texts.Goals as goal
 

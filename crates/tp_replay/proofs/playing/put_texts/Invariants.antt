@@ -1,5 +1,5 @@
 use Rattle.std.proofs.Common.{take}
-use Rattle.tp_text.specs.Written.{Adds}
+use Rattle.tp_text_builder.specs.Written.{Adds}
 use Rattle.tp_model.specs.OutText.{out_texts}
 use Rattle.tp_replay.proofs.playing.put_texts.Given as goal
 

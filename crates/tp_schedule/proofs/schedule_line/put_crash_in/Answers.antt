@@ -1,7 +1,7 @@
 use Rattle.std.proofs.Common.{◌∷◌, [], codes}
 use Rattle.tp_model.specs.Words.{decimal, hex}
 use Rattle.tp_model.specs.LineText.{action_words}
-use Rattle.tp_text.proofs.Joined.{joined}
+use Rattle.tp_text_builder.proofs.Joined.{joined}
 use Rattle.tp_schedule.proofs.HasWord.{action_has}
 use Rattle.tp_schedule.proofs.schedule_line.put_crash_in.Goals as goal
 

@@ -1,6 +1,6 @@
 use Rattle.std.proofs.Common.{◌∷◌, [], codes, refl}
 use Rattle.tp_model.specs.Words.{decimal, octets_word}
-use Rattle.tp_text.proofs.Joined.{joined}
+use Rattle.tp_text_builder.proofs.Joined.{joined}
 use Rattle.tp_schedule.proofs.schedule_line.put_data.Goals as goal
 
 pub returns : goal.returns

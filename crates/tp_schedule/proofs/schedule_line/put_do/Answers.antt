@@ -1,7 +1,7 @@
 use Rattle.std.proofs.Common.{◌∷◌, [], codes}
 use Rattle.tp_model.specs.Words.{decimal}
 use Rattle.tp_model.specs.LineText.{request_words}
-use Rattle.tp_text.proofs.Joined.{joined}
+use Rattle.tp_text_builder.proofs.Joined.{joined}
 use Rattle.tp_schedule.proofs.HasWord.{request_has}
 use Rattle.tp_schedule.proofs.schedule_line.put_do.Goals as goal
 

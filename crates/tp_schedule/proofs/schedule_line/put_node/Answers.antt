@@ -1,6 +1,6 @@
 use Rattle.std.proofs.Common.{ℕ, Option, Some, ◌∷◌, [], codes, refl, sym, subst}
-use Rattle.tp_text.specs.Written.{Adds}
-use Rattle.tp_text.proofs.Joined.{joined}
+use Rattle.tp_text_builder.specs.Written.{Adds}
+use Rattle.tp_text_builder.proofs.Joined.{joined}
 use Rattle.tp_model.specs.declared.line.Line.{Line}
 use Rattle.tp_model.specs.Words.{words, decimal}
 use Rattle.tp_model.specs.LineText.{under_words, line_words}

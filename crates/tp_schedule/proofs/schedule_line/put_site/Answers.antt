@@ -1,4 +1,4 @@
-use Rattle.tp_text.proofs.Added.{adds_then}
+use Rattle.tp_text_builder.proofs.Added.{adds_then}
 use Rattle.tp_schedule.proofs.schedule_line.put_site.Goals as goal
 
 pub returns : goal.returns

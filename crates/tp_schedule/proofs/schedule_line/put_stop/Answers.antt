@@ -1,6 +1,6 @@
 use Rattle.std.proofs.Common.{ℕ, ◌∷◌, ap}
 use Rattle.tp_model.specs.Words.{decimal}
-use Rattle.tp_text.proofs.Added.{adds_then, adds_same}
+use Rattle.tp_text_builder.proofs.Added.{adds_then, adds_same}
 use Rattle.tp_schedule.proofs.schedule_line.put_stop.Goals as goal
 
 pub returns : goal.returns

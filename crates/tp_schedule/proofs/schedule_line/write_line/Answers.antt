@@ -1,4 +1,4 @@
-use Rattle.tp_text.proofs.Added.{done_ok, done_err}
+use Rattle.tp_text_builder.proofs.Added.{done_ok, done_err}
 use Rattle.tp_schedule.proofs.schedule_line.write_line.Goals as goal
 
 pub returns-clause-ok : goal.returns-clause-ok

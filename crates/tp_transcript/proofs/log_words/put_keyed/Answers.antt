@@ -1,4 +1,4 @@
-use Rattle.tp_text.proofs.Added.{adds_then}
+use Rattle.tp_text_builder.proofs.Added.{adds_then}
 use Rattle.tp_transcript.proofs.log_words.put_keyed.Goals as goal
 
 pub returns : goal.returns

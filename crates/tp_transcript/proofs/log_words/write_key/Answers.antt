@@ -1,4 +1,4 @@
-use Rattle.tp_text.proofs.Added.{done_ok, done_err}
+use Rattle.tp_text_builder.proofs.Added.{done_ok, done_err}
 use Rattle.tp_transcript.proofs.log_words.write_key.Goals as goal
 
 pub returns-clause-ok : goal.returns-clause-ok

@@ -1,8 +1,8 @@
 use Rattle.std.proofs.Common.{◌∷◌, [], codes}
 use Rattle.tp_model.specs.Words.{decimal}
 use Rattle.tp_model.specs.OutText.{sent_words}
-use Rattle.tp_text.proofs.Added.{adds_then}
-use Rattle.tp_text.proofs.Joined.{joined}
+use Rattle.tp_text_builder.proofs.Added.{adds_then}
+use Rattle.tp_text_builder.proofs.Joined.{joined}
 use Rattle.tp_transcript.proofs.HasWord.{sent_has}
 use Rattle.tp_transcript.proofs.out_line.put_send.Goals as goal
 

@@ -1,8 +1,0 @@
-use Rattle.tp_text.proofs.Added.{done_ok, done_err}
-use Rattle.tp_schedule.proofs.word.write_words.Goals as goal
-
-pub returns-clause-ok : goal.returns-clause-ok
-returns-clause-ok c = done_ok c.done.result c.args.out.now c.done.new.out _ _ _ c.after-text.ensures c.put_words.ensures c.done.ensures.ok
-
-pub returns-clause-err : goal.returns-clause-err
-returns-clause-err c = done_err c.done.result c.args.out.now c.done.new.out _ _ _ c.after-text.ensures c.put_words.ensures c.done.ensures.err

@@ -1,5 +1,0 @@
-use Rattle.tp_text.proofs.Added.{adds_then}
-use Rattle.tp_text.proofs.text.Text.branch.Goals as goal
-
-pub returns : goal.returns
-returns c = adds_then c.site.ensures c.dotted.ensures

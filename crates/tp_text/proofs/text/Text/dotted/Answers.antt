@@ -1,7 +1,0 @@
-use Rattle.std.proofs.Common.{ℕ, ◌∷◌, ap}
-use Rattle.tp_model.specs.Words.{decimal}
-use Rattle.tp_text.proofs.Added.{adds_then, adds_same}
-use Rattle.tp_text.proofs.text.Text.dotted.Goals as goal
-
-pub returns : goal.returns
-returns c = adds_then (adds_then c.led.ensures (adds_same c.led-2.ensures (ap (λ (n : ℕ). 46 ∷ decimal n) c.from.ensures))) c.led-3.ensures

@@ -1,5 +1,0 @@
-use Rattle.tp_text.proofs.Added.{adds_then}
-use Rattle.tp_transcript.proofs.log_words.put_boot.Goals as goal
-
-pub returns : goal.returns
-returns c = adds_then c.word.ensures c.next_number.ensures

@@ -1,5 +1,0 @@
-use Rattle.tp_text.proofs.Added.{adds_then}
-use Rattle.tp_transcript.proofs.out_line.put_stopped.Goals as goal
-
-pub returns : goal.returns
-returns c = adds_then c.word.ensures (adds_then c.site.ensures (adds_then c.space.ensures c.fate.ensures))

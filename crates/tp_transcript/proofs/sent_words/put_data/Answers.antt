@@ -1,5 +1,0 @@
-use Rattle.tp_text.proofs.Added.{adds_then}
-use Rattle.tp_transcript.proofs.sent_words.put_data.Goals as goal
-
-pub returns : goal.returns
-returns c = adds_then c.word.ensures c.octets.ensures

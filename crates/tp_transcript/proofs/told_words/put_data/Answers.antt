@@ -1,7 +1,0 @@
-use Rattle.std.proofs.Common.{◌∷◌, [], codes, refl}
-use Rattle.tp_model.specs.Words.{decimal, octets_word}
-use Rattle.tp_text.proofs.Joined.{joined}
-use Rattle.tp_transcript.proofs.told_words.put_data.Goals as goal
-
-pub returns : goal.returns
-returns c = joined (codes "data") (decimal c.args.peer ∷ []) (octets_word c.args.octets.now ∷ []) refl c.put_one.ensures c.space.ensures c.octets.ensures
