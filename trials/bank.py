@@ -1,6 +1,7 @@
 """A bound store that a script plays: what docs/SERVICE.md says of bound data, kept in a file `bound.log` of docs/FORMATS.md.
 
-Each answer is given after the file has it, and where it is asked for after the disk has it. A store that is opened again knows what stands in its file, and nothing else.
+Each answer is given after the file has it, and where it is asked for after the disk has it. A store that is opened again knows what its
+file has, and nothing else.
 """
 import os
 
@@ -19,7 +20,7 @@ def read_put(data):
     length = data[2 + size] << 8 | data[3 + size]
     if data[0] != 1 or 4 + size + length != len(data):
         raise ValueError(data.hex())
-    return data[2 : 2 + size], data[4 + size :]
+    return data[2:2 + size], data[4 + size:]
 
 
 class Store:

@@ -38,7 +38,7 @@ def bodies(content):
 
 
 def tree_of(body):
-    return body[1 : wire.end_of_identifier(body, 1)]
+    return body[1:wire.end_of_identifier(body, 1)]
 
 
 def is_in_doubt(bodies):
@@ -51,7 +51,7 @@ def content_words(bodies):
     content = {}
     for one, two in zip(bodies, bodies[1:]):
         if one[0] == bank.BIND and two[0] == bank.KEEP:
-            for write in bank.Store.read_writes(one[wire.end_of_identifier(one, 1) :]):
+            for write in bank.Store.read_writes(one[wire.end_of_identifier(one, 1):]):
                 key, value = bank.read_put(write)
                 content[key] = value
     return [(key.hex(), content[key].hex()) for key in sorted(content)]
@@ -129,7 +129,7 @@ def transcript(replay, kept, script):
     def add(line):
         said.append(line)
         out = [it for it in replay(text_of(said)).decode().splitlines() if not it.startswith("tree ")]
-        now = [it.split()[2:] for it in out[add.seen :] if it.startswith("tell 2 ")]
+        now = [it.split()[2:] for it in out[add.seen:] if it.startswith("tell 2 ")]
         add.seen = len(out)
         told.extend(now)
 

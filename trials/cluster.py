@@ -1,6 +1,6 @@
 """Money is moved between stores by transactions over real processes that are killed.
 
-trials/run cluster [--program CMD] [--short] [--transfers N] [--sites N] [--seed N] [--wrong | --right] [--compact] [--tx] ..
+trials/run cluster [--program CMD] [--short] [--transfers N] [--sites N] [--seed N] [--wild | --wrong | --right] [--compact] [--tx] ..
 
 Each site is a process `node` with a folder and a `tp.log` of its own. The sites speak through relays in this script, which
 delay, repeat, reorder and drop what they carry, and lose associations, by a seed. Several trees stand over the sites, each
@@ -8,8 +8,9 @@ with a root, nodes between, stores at its leaves, and a witness that leaves each
 every tenth transfer a site is killed by SIGKILL, at any moment, its stores forget what they held in memory, and it is started
 again on its files. A run ends when no node has anything to do. Then the logs and the stores are judged.
 
-Then the same with one wrong site: each kill of it takes the last record off its log, as though it had answered before it forced.
-Such a run must end with faults, or the trial shows nothing (--wrong does this alone, --right leaves it out).
+Before that users who ask anything, as wild.py says, over dialogues of all units, and a run that is ended by recovery alone (--wild does this
+alone). After it the same with one wrong site: each kill of it takes the last record off its log, as though it had answered before it forced.
+Such a run must end with faults, or the trial shows nothing (--wrong does this alone, --right leaves both out).
 
 With --compact a log is compacted before every third start, at times by a process that is killed too. With --heuristic ready nodes
 decide by themselves at times, committing ones give branches up, and kept transactions are purged: then a commitment may be complete
@@ -29,6 +30,7 @@ import time
 
 import bank
 import tools
+import wild
 import wire
 
 UNITS = [0x29, 0x29, 0x2A, 0x2D, 0x2E]  # commit and unchained: shared or polarized, with handshakes or without
@@ -91,8 +93,12 @@ class Tree:
     def __init__(self, index, cluster):
         self.index, self.cluster, self.current = index, cluster, None
         sites, draw = cluster.sites, cluster.draw
-        take = lambda k: sites[(index + k) % len(sites)]
-        number = lambda: cluster.new_number()
+
+        def take(k):
+            return sites[(index + k) % len(sites)]
+
+        def number():
+            return cluster.new_number()
         self.root = Node(number(), take(0), None, self, "root")
         between = [Node(number(), take(1), self.root, self, "between")]
         # A face begins on one branch.
@@ -122,6 +128,7 @@ class Site:
             log.write(wire.FRESH)
 
     def start(self):
+        self.found = self.log()
         self.errors = open(os.path.join(self.folder, "errors"), "ab")
         self.process = subprocess.Popen(
             self.cluster.program + ["tx" if self.face else "node", "--name", self.name], cwd=self.folder, bufsize=0,
@@ -132,10 +139,11 @@ class Site:
         self.ready = False
         self.up, self.waiting, self.outgoing, self.incoming, self.refused, self.ended = True, [], bytearray(), bytearray(), None, None
         self.starts += 1
-        self.found, self.taken, self.over = self.log(), bytearray(), 0
+        self.taken, self.over = bytearray(), 0
         if self.cluster.record:
             path = os.path.join(self.cluster.record, "%s-%s-%d" % (os.path.basename(self.cluster.folder), self.name, self.starts))
-            shutil.copyfile(os.path.join(self.folder, "tp.log"), path + ".log")
+            with open(path + ".log", "wb") as log:
+                log.write(self.found)
             self.given = open(path + ".frames", "wb")
         for node in self.nodes:
             self.give(wire.declare(node.number, node.superior.address if node.superior else None))
@@ -207,7 +215,7 @@ class Site:
         elif code == 0x11:
             sender, _, at = wire.read_address(body, 1)
             target, number, at = wire.read_address(body, at)
-            cluster.send(sender, target, number, body[at + 2 :], node, what)
+            cluster.send(sender, target, number, body[at + 2:], node, what)
         elif code == 0x10:
             cluster.told(cluster.nodes[body[1] << 8 | body[2]], body[3], body[4:])
         else:
@@ -284,7 +292,7 @@ class Site:
         return bodies
 
     def records(self, log):
-        return len(wire.gates_of(log)[0])
+        return len(wire.records_of(log))
 
     def close(self):
         if self.cluster.record:
@@ -334,8 +342,10 @@ class Site:
 
 
 class Cluster:
+    wild = False
+
     def __init__(self, options, sites, transfers, seed, folder, wrong):
-        self.program, self.wrong, self.record, self.unite = options.program, wrong, options.record, None if options.tx or options.compact else options.unite
+        self.program, self.wrong, self.record, self.unite = options.program, wrong, options.record, None if options.tx else options.unite
         self.compacting, self.heuristic, self.with_face = options.compact, options.heuristic, options.tx
         self.draw = random.Random(seed)
         self.folder, self.goal, self.kill_rate, self.slow = folder, transfers, options.kill_rate, options.slow
@@ -433,7 +443,7 @@ class Cluster:
     def learn(self, record, transfer):
         """The identifier of a transfer's tree, from the first Begin that its root sends (it stands after two marks and a number)."""
         if record[45] == 0x0C and transfer.identifier is None:
-            transfer.identifier = bytes(record[46 : wire.end_of_identifier(record, 46)])
+            transfer.identifier = bytes(record[46:wire.end_of_identifier(record, 46)])
             self.by_identifier[transfer.identifier] = transfer
 
     def lose_both(self, one, other):
@@ -804,6 +814,8 @@ class Cluster:
         self.counts["records"] = self.counts["bytes"] = 0
         for site in self.sites:
             shown, checked = (self.command([word], site.folder) for word in ("show", "check"))
+            if (shown.returncode, shown.stdout) != wire.shown(site.log()):
+                self.fault("show of %s writes other records than wire.py reads" % site.name)
             if shown.returncode or checked.returncode != (1 if checked.stdout else 0) or (checked.stdout and not self.heuristic):
                 self.fault("show and check of %s: %d, %d" % (site.name, shown.returncode, checked.returncode))
             last = {}
@@ -812,7 +824,7 @@ class Cluster:
                 self.counts["records"] += 1
                 if words[1] != "boot":
                     last[tuple(words[2:5])] = words[1]
-            open_keys = [key for key, word in last.items() if word != "end" and not (word == "damage" and self.heuristic)]
+            open_keys = [key for key, word in last.items() if word != "end" and not (word == "damage" and self.heuristic and not self.wild)]
             if open_keys:
                 self.fault("%d keys of %s have no end, as %s" % (len(open_keys), site.name, open_keys[0]))
             self.counts["bytes"] += len(site.log())
@@ -889,9 +901,23 @@ class Cluster:
                 self.counts["unheard and kept"] += 1
 
 
+class WildCluster(wild.Users, Cluster):
+    """Nodes with any numbers, dialogues with any units, users who ask anything."""
+
+    wild = True
+
+    def __init__(self, options, sites, transfers, seed, folder, wrong):
+        super().__init__(options, sites, transfers, seed, folder, wrong)
+        for site in self.sites[::2]:
+            open(os.path.join(site.folder, "tp.seal"), "wb").close()
+
+    def make_tree(self, index):
+        return wild.Tree(index, self, Node)
+
+
 def one_run(options, sites, transfers, seed, wrong):
     folder = tempfile.mkdtemp(prefix="cluster-", dir=options.folder)
-    cluster = Cluster(options, sites, transfers, seed, folder, wrong)
+    cluster = (WildCluster if options.wild else Cluster)(options, sites, transfers, seed, folder, wrong)
     cluster.trace = open(options.trace, "w", buffering=1) if options.trace else None
     try:
         cluster.run(options.patience)
@@ -941,6 +967,7 @@ def main():
     parser.add_argument("--compact", action="store_true")
     parser.add_argument("--heuristic", action="store_true")
     parser.add_argument("--tx", action="store_true", help="the first site is a process tx")
+    parser.add_argument("--wild", action="store_true", help="the runs with users who ask anything alone, a tenth of the transfers")
     parser.add_argument("--trace", help="a file for what the users ask and are told")
     parser.add_argument("--record", help="a folder for what each process found as its log, and for the frames that it was given")
     parser.add_argument("--short", action="store_true")
@@ -950,6 +977,13 @@ def main():
     sizes = [options.sites] if options.sites else [3, 6, 9] if options.short else list(range(3, 10))
     transfers = 150 if options.short else options.transfers
     status = 0
+    if options.wild or not (options.wrong or options.right):
+        wilder = argparse.Namespace(**{**vars(options), "wild": True, "compact": True, "heuristic": True, "tx": False, "patience": 200})
+        totals, faults, _ = campaign(wilder, sizes[:2] if options.short else sizes, 100 if options.short else max(150, transfers // 10), False)
+        status |= bool(faults)
+        print("cluster: with users who ask anything %d faults, %s" % (len(faults), tools.counted(totals)), flush=True)
+    if options.wild:
+        sys.exit(status)
     if not options.wrong:
         totals, faults, _ = campaign(options, sizes, transfers, False)
         status |= bool(faults)

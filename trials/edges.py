@@ -11,6 +11,7 @@ trials/run edges [--program CMD] [--drive CMD] [--draw CMD] [--short]
   failed, a second line says which call and why.
 - Where seals are kept a log that was changed, cut, put back from an older copy, or that is another site's, is refused, and left as it is;
   a log that a site left is not refused, at whatever moment the site, or a compaction, was stopped.
+- Of answers that are more than a pipe holds none comes before the records of the events before it are in the log, wherever the reader stops.
 - A compaction that finds no room leaves the log as long as it was.
 - After a bad line of a schedule a second line says which word is wrong and what is due, or what the line names that is not there.
 - What is asked about the program is answered on standard output, and wrong words are named. With TPNODE_SAY=1 a site says what it
@@ -25,6 +26,7 @@ import shutil
 import subprocess
 import sys
 import tempfile
+import time
 import typing
 
 import bound
@@ -33,7 +35,9 @@ import streams
 import tools
 import wire
 
+BOOT_1 = b"\x01" + (1).to_bytes(8, "big")
 OVER = b"\x13"
+PIPE = 65536
 NOBODY = 65534
 BUSY = b"tp.log: lock: another process works on it\n"
 SITE = ["node", "--name", "b"]
@@ -74,7 +78,7 @@ class Edges:
     def __init__(self, options: argparse.Namespace, folder: str):
         self.options, self.folder = options, pathlib.Path(folder)
         names = ["runs", "beside a site", "without a file", "not to be written", "broken standard errors", "causes", "sealed logs",
-                 "spoilt logs", "sealed stops", "full disks", "words"]
+                 "spoilt logs", "sealed stops", "slow readers", "full disks", "words"]
         self.counts = dict.fromkeys(names, 0)
         self.faults: typing.List[str] = []
         self.left_out: typing.List[str] = []
@@ -99,8 +103,11 @@ class Edges:
     def command(self, words: typing.List[str]) -> typing.List[str]:
         return tools.command_of(self.options, words)
 
-    def run(self, words: typing.List[str], folder: pathlib.Path, given: bytes = b"", **more: typing.Any) -> subprocess.CompletedProcess:
+    def run(self, words: typing.List[str], folder: pathlib.Path, given: bytes = b"", log: typing.Optional[bytes] = None,
+            **more: typing.Any) -> subprocess.CompletedProcess:
         self.counts["runs"] += 1
+        if log is not None:
+            (folder / "tp.log").write_bytes(log)
         streams_of: typing.Dict[str, typing.Any] = {"stdout": subprocess.PIPE, "stderr": subprocess.PIPE, **more}
         return subprocess.run(self.command(words), cwd=folder, input=given, **streams_of)
 
@@ -234,7 +241,7 @@ class Edges:
 
     def causes(self) -> None:
         folder = self.place()
-        (folder / "tp.log").write_bytes(wire.log_of([b"\x01" + (1).to_bytes(8, "big")]))
+        (folder / "tp.log").write_bytes(wire.log_of([BOOT_1]))
         with open("/dev/full", "wb") as full:
             run = self.run(["show"], folder, stdout=full)
         self.said(run, 7, b"write fault", b"standard output: write: No space left on device")
@@ -319,6 +326,7 @@ class Edges:
         folder = self.place()
         path = folder / "tp.log"
         path.write_bytes(log)
+        bare = self.place()
         (folder / "tp.seal").write_bytes(seal)
         whole = self.run(["show"], folder).stdout
         front = len(log) - 1
@@ -330,6 +338,8 @@ class Edges:
             run = self.run(["show"], folder)
             self.counts["spoilt logs"] += 1
             what = "bit %d of %d bytes" % (at, len(spoilt))
+            unsealed = self.run(["show"], bare, log=spoilt)
+            self.expect(what + ", without a seal", (unsealed.returncode, unsealed.stdout), wire.shown(spoilt))
             if at < 8 * front:
                 self.expect(what, (run.returncode, run.stdout, run.stderr.split(b"\n")[1][:17]), (8, b"", b"tp.seal: the log "))
                 self.expect(what + ", the log", path.read_bytes(), spoilt)
@@ -366,16 +376,55 @@ class Edges:
         shutil.rmtree(folder)
         return run.returncode == preload.STOPPED
 
+    # Readers that stop.
+
+    def readers(self) -> None:
+        """In one write: events with records between events whose answers are 20 KB each. A site forces and writes where 64 KiB wait."""
+        log = wire.log_of([BOOT_1] + streams.kept(1, 300, True) + streams.kept(5, 6, False))
+        bodies = (streams.purges(5, 1) + [wire.retry(1)] * 2) * 6
+        folder = self.place()
+        site = ["node", "--name", "a"]
+        whole = self.run(site, folder, streams.stream(bodies), log=log)
+        self.expect("a reader that reads all", (whole.returncode, len(whole.stdout) > 150000), (0, True))
+        all_records = self.shown(folder)
+        for size in (0, 1, 1000, 65536, 65537, 80000, 140000, len(whole.stdout) - 1):
+            for end in ("waits", "goes", "is killed"):
+                self.reader(site, log, bodies, whole.stdout, all_records, size, end)
+
+    def reader(self, words: typing.List[str], log: bytes, bodies: typing.List[bytes], whole: bytes, records: typing.List[bytes], size: int, end: str) -> None:
+        """A reader takes so many bytes and none for a while. Then it takes the rest, goes away, or the site is killed."""
+        folder = self.place()
+        (folder / "tp.log").write_bytes(log)
+        self.counts["slow readers"] += 1
+        process: typing.Any = subprocess.Popen(self.command(words), cwd=folder, bufsize=0, stdin=subprocess.PIPE, stdout=subprocess.PIPE,
+                                               stderr=subprocess.PIPE)
+        process.stdin.write(streams.stream(bodies))
+        process.stdin.close()
+        said = b""
+        while len(said) < size:
+            said += process.stdout.read(size - len(said))
+        time.sleep(0.05)
+        if end == "is killed":
+            process.kill()
+        said += process.stdout.read() if end == "waits" else b""
+        process.stdout.close()
+        status = process.wait()
+        process.stderr.close()
+        what = "a reader that %s after %d bytes" % (end, size)
+        # What a pipe holds is written, though nobody reads it.
+        ended = [0] if len(whole) - size <= PIPE else []
+        self.expect(what, status in {"waits": [0], "goes": [7] + ended, "is killed": [-9] + ended}[end], True)
+        self.expect(what + ", what was said", said == (whole if end == "waits" else whole[:size]), True)
+        found = self.shown(folder)
+        self.expect(what + ", the records", found, records[:len(found)])
+        answered = wire.frames_in(said)[0].count(OVER)
+        due = len(records) - 6 + sum(body[0] == 8 for body in bodies[:answered])
+        self.expect(what + ", what was answered", len(found) >= (due if said else 0), True)
+
     # A full disk.
 
     def full_disks(self) -> None:
-        kept = [b"\x01" + (1).to_bytes(8, "big")]
-        branch = wire.address("b", 7)
-        for k in range(300):
-            tree = b"\x01a" + wire.mark(1, 1, 2 * k + 2)
-            child = branch + b"\x01a" + wire.mark(1, 1, 2 * k + 3)
-            kept += [b"\x04\x00\x01" + tree + b"\x00\x00\x01" + child, b"\x05\x00\x01" + tree + b"\x00\x01\x02\x00\x01" + child]
-        log = wire.log_of(kept)
+        log = wire.log_of([BOOT_1] + streams.kept(1, 300, True))
         if os.geteuid() or not shutil.which("mount"):
             self.left_out.append("a full disk")
             return
@@ -492,6 +541,7 @@ def main() -> None:
     trial.broken_standard_error()
     trial.causes()
     trial.seals()
+    trial.readers()
     trial.full_disks()
     trial.words()
     trial.bad_lines()

@@ -40,7 +40,9 @@ def is_front(found, whole, workers):
     """The boots are the same, and of each worker the records are the first of those that it has in `whole`."""
     if found is None or whole is None:
         return False
-    of = lambda records, key: [it for it in records if (it[0] if it[0] == "boot" else int(it[1]) % workers) == key]
+
+    def of(records, key):
+        return [it for it in records if (it[0] if it[0] == "boot" else int(it[1]) % workers) == key]
     return of(found, "boot") == of(whole, "boot") and all(of(whole, key)[: len(of(found, key))] == of(found, key) for key in range(workers))
 
 
@@ -68,7 +70,7 @@ class Failing(stops.Stops):
                 hows = ("none", "half", "all") if kind in ("pwrite", "write") else ("none", "all") if kind == "ftruncate" else ("none",)
                 tried += [(kind, k, how) for how in hows]
         for at in range(0, len(tried), 256):
-            some = tried[at : at + 256]
+            some = tried[at:at + 256]
             runs = self.runs(case, [{"trace": "trace", "fail": "%s %d %s" % it} for it in some])
             found = self.look(case, [run.disk for run in runs])
             for (kind, k, how), run, it in zip(some, runs, found):
@@ -120,7 +122,7 @@ class Failing(stops.Stops):
         # Nothing after the call that failed, but that a write gives back what the file grew by. Where a store, memory or the
         # input failed outputs may be written still.
         at = [i for i, call in enumerate(run.calls) if call[0] == kind][0 if kind == "malloc" else k - 1]
-        after = [name for name, _, _ in run.calls[at + 1 :]
+        after = [name for name, _, _ in run.calls[at + 1:]
                  if name in preload.CHANGES or (kind != "malloc" and run.status and (kind, name) != ("read", "write"))]
         if kind == "pwrite" and after[:1] == ["ftruncate"]:
             after = after[1:]
@@ -143,7 +145,8 @@ class Failing(stops.Stops):
         room = (at - (1 if case.start else 4)) // 4
         key = case.name, room
         if key not in self.said:
-            replay = lambda text: self.run_all(["replay"], [(text, wire.FRESH_STORE, {})], case.disk)[0].out
+            def replay(text):
+                return self.run_all(["replay"], [(text, wire.FRESH_STORE, {})], case.disk)[0].out
             in_doubt = bound.is_in_doubt(bound.bodies(case.start) or ())
             self.said[key] = bound.transcript(replay, case.transactions, bound.Script(room, in_doubt))
         if run.out != self.said[key]:
@@ -155,7 +158,9 @@ class Failing(stops.Stops):
             for given in (case.given, case.given + b"\x00\x00"):
                 path = os.path.join(self.folder, case.disk)
                 preload.put(path, case.start)
-                close = lambda: [os.close(number) for number in streams_closed]
+
+                def close():
+                    return [os.close(number) for number in streams_closed]
                 run = subprocess.run(tools.command_of(self.options, case.words), cwd=self.folder, input=given, stdout=subprocess.DEVNULL,
                                      stderr=subprocess.DEVNULL, preexec_fn=close)
                 self.counts["closed streams"] += 1
@@ -187,9 +192,9 @@ class Failing(stops.Stops):
                 self.fault(case, "short reads and writes, seed %d: status %s, %s" % (seed, run.status, run.err))
 
 
-SHORT = ["format", "node: two transactions of a subordinate in a batch", "node: two transactions of a root frame by frame",
-         "tx: two transactions in a batch", "compact of a log in doubt", "node on a cut migrate, 2", "keys", "audit",
-         "replay: a store binds, keeps, drops", "drive: two transactions of a subordinate"]
+SHORT = ["format", "show", "node: a batch of 2 records", "node: two transactions of a subordinate in a batch",
+         "node: two transactions of a root frame by frame", "tx: two transactions in a batch", "compact of a log in doubt",
+         "node on a cut migrate, 2", "keys", "audit", "replay: a store binds, keeps, drops", "drive: two transactions of a subordinate"]
 
 
 def cases(trial):
@@ -217,7 +222,7 @@ def main():
         if options.short and case.name not in SHORT or options.only not in case.name or case.order_open:
             continue
         print("%s: %d failing calls" % (case.name, trial.try_case(case)), flush=True)
-        if case.name in ("node: two transactions of a subordinate", "tx: two transactions", "show"):
+        if case.name in ("node: two transactions of a subordinate in a batch", "tx: two transactions in a batch", "show"):
             trial.closed(case)
     trial.words()
     trial.library.end()

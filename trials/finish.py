@@ -17,6 +17,7 @@ import tempfile
 import typing
 
 import tools
+import wire
 
 UNITS = ["scu", "pcu", "sck", "pck", "shcu", "phcu"]
 
@@ -72,6 +73,13 @@ class Schedule:
         new = list(range(self.sent + 1, sent + 1))
         self.sent = sent
         return View(states, new), [line for line in shown if line.startswith("tree ")]
+
+    def images(self, sites: typing.Dict[int, str]) -> typing.Dict[str, bytes]:
+        """The log of each site at the end."""
+        text = "".join(line + "\n" for line in self.lines + ["image " + site for site in sorted(set(sites.values()))])
+        run = subprocess.run(self.command + ["replay"], cwd=self.folder, input=text.encode(), stdout=subprocess.PIPE, check=True)
+        words = [line.split(" ") for line in run.stdout.decode().splitlines() if line.startswith("image ")]
+        return {site: bytes.fromhex(log) for _, site, log in words}
 
     def add(self, lines: typing.List[str]) -> View:
         self.lines += lines
@@ -134,7 +142,7 @@ def quieten(schedule: Schedule, sites: typing.Dict[int, str], cut: bool) -> View
     return view
 
 
-def finish(schedule: Schedule, view: View) -> typing.Tuple[typing.List[str], int]:
+def finish(schedule: Schedule, view: View, sites: typing.Dict[int, str]) -> typing.Tuple[typing.List[str], int]:
     """Recovery to its end: what is wrong, and how many lines it took."""
     first = len(schedule.lines)
     faults = ["node %d is %s without associations" % (node, phase) for node, (phase, _) in view.states.items() if phase in ("active", "asked", "rolling")]
@@ -151,6 +159,10 @@ def finish(schedule: Schedule, view: View) -> typing.Tuple[typing.List[str], int
             faults.append("nothing comes of %s" % line)
         else:
             waiting.add(node)
+    logs = schedule.images(sites)
+    for site, log in logs.items():
+        last = {(record.number, record.key): record.kind for _, record in wire.records_of(log) if record.kind != "boot"}
+        faults += ["site %s has a key whose last record is %s" % (site, kind) for kind in last.values() if kind != "end"]
     view, closing = schedule.play()
     faults += ["node %d is %s and keeps %d" % (node, *state) for node, state in view.states.items() if state != ("nil", 0)]
     faults += [line for line in closing if line.endswith(" open")]
@@ -175,7 +187,7 @@ def main() -> int:
             lines, above, sites = made(random.Random(seed))
             schedule = Schedule(tools.command_of(options, []), folder, lines, above)
             schedule.play()
-            faults, took = finish(schedule, quieten(schedule, sites, seed % 2 == 0))
+            faults, took = finish(schedule, quieten(schedule, sites, seed % 2 == 0), sites)
             closing = schedule.play()[1]
             counts["schedules"] += 1
             counts["cut" if seed % 2 == 0 else "stopped"] += 1

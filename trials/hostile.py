@@ -102,6 +102,8 @@ class Hostile:
             self.fault(words, given, log, "does not end")
         elif not is_due(words, run):
             self.fault(words, given, log, "status %d, %r" % (run.status, run.err[-200:]))
+        if words[0] == "show" and (run.status, run.out) != wire.shown(log):
+            self.fault(words, given, log, "show writes other records than wire.py reads")
         if run.status == 5 and run.out or words[0] == "drive" and run.status and (run.out or run.status == 3 and run.disk != log):
             self.fault(words, given, log, "status %d, and %d bytes of output" % (run.status, len(run.out)))
 
@@ -133,7 +135,7 @@ class Hostile:
     def answers(self, words, bodies, log):
         """What each frame of a stream is answered with."""
         out = self.run(words, streams.stream(bodies), log)[2]
-        pieces, at, last = [], 0, 0x30 if words[0] == "tx" else 0x13
+        pieces, last = [], 0x30 if words[0] == "tx" else 0x13
         for body in wire.frames_in(out)[0]:
             if not pieces or pieces[-1][1]:
                 pieces.append([b"", False])
@@ -164,7 +166,7 @@ class Hostile:
     def changed(self, words, stream, log, step, answers=None, ends=None):
         """Each byte changed in four ways; what comes before is answered as it was, where that is told."""
         changes = [(at, new) for at in range(0, len(stream), step) for new in sorted({0, 255, stream[at] ^ 1, stream[at] ^ 255} - {stream[at]})]
-        cases = [(stream[:at] + bytes([new]) + stream[at + 1 :], log) for at, new in changes]
+        cases = [(stream[:at] + bytes([new]) + stream[at + 1:], log) for at, new in changes]
         for (at, _), case, (_, _, out, _) in zip(changes, cases, self.run_all(words, cases)):
             if answers is not None:
                 whole = max(k for k, end in enumerate(ends) if end <= at)
@@ -174,7 +176,7 @@ class Hostile:
 
     def changed_log(self, log, words, step):
         places = range(0, len(log), step)
-        self.run_all(words, [(b"", log[:at] + bytes([new]) + log[at + 1 :]) for at in places for new in sorted({0, 1, 255, log[at] ^ 1} - {log[at]})])
+        self.run_all(words, [(b"", log[:at] + bytes([new]) + log[at + 1:]) for at in places for new in sorted({0, 1, 255, log[at] ^ 1} - {log[at]})])
         self.run_all(words, [(b"", log[:size]) for size in places])
 
     def worked(self):
@@ -316,7 +318,7 @@ class Hostile:
             return given
         at = draw.randrange(len(given))
         return draw.choice([
-            given[:at], given[:at] + bytes([draw.randrange(256)]) + given[at + 1 :], given + b"\x00\x00", given + b"\x08\x01",
+            given[:at], given[:at] + bytes([draw.randrange(256)]) + given[at + 1:], given + b"\x00\x00", given + b"\x08\x01",
             given + wire.frame(draw.randbytes(draw.randint(1, 40))), given[:at] + draw.randbytes(draw.randint(1, 8)) + given[at:]])
 
     # Limits.
@@ -350,7 +352,9 @@ class Hostile:
         self.limit(["node"], wire.frame(b"\x03" + wire.address("z" * 16, 1) * 2 + wire.octets(bytes(2000))), (0, ""))
         self.limit(["node"], wire.short(2049) + bytes(2049), (3, "bad input at 1: length"))
         self.limit(["node"], b"\x00\x00", (3, "bad input at 1: length"))
-        line = lambda k, site: b"node %d %s\n" % (k, site)
+
+        def line(k, site):
+            return b"node %d %s\n" % (k, site)
         nodes = b"".join(line(k, b"a") for k in range(1, 257))
         self.limit(["replay"], nodes, (0, ""))
         self.limit(["replay"], nodes + line(257, b"a"), (4, "limit nodes at 257"))
@@ -405,13 +409,14 @@ class Hostile:
         out += ["do 1 handshake %d" % k for k in arcs] + ["do 1 begin-transaction %d" % k for k in arcs]
         out += ["do 1 prepare %d" % k for k in arcs] + ["do 1 rollback", "drain"]
         said = self.limit(["replay"], bound.text_of(out), (0, "")).decode()
-        self.counts["answers in a line"] = said[said.rindex("> drain") :].count("> do ")
+        self.counts["answers in a line"] = said[said.rindex("> drain"):].count("> do ")
         if self.counts["answers in a line"] != 3 * 255:
             self.fault(["replay"], bound.text_of(out), b"", "%d answers in a line" % self.counts["answers in a line"])
 
     def bound_data(self):
         """A key has 1 to 64 bytes, a value 0 to 900, the writes of a transaction 60,000 bytes: else the store votes for rollback."""
-        put = lambda key, value: b"\x01" + bytes([key]) + bytes(key) + wire.short(value) + bytes(value)
+        def put(key, value):
+            return b"\x01" + bytes([key]) + bytes(key) + wire.short(value) + bytes(value)
         full = [put(64, 900)] * 61
         for writes, keeps in (([put(1, 0)], True), ([put(64, 900)], True), ([put(65, 0)], False), ([put(0, 0)], False), ([put(1, 901)], False),
                               (full + [put(64, 884)], True), (full + [put(64, 885)], False)):
@@ -421,7 +426,8 @@ class Hostile:
                 self.fault(["replay"], bound.text_of(lines), b"", "%d writes, the last of %d bytes" % (len(writes), len(writes[-1])))
 
     def boots(self):
-        spent = lambda boot: wire.log_of([b"\x01" + boot.to_bytes(8, "big")])
+        def spent(boot):
+            return wire.log_of([b"\x01" + boot.to_bytes(8, "big")])
         self.limit(["node"], one_frame(), (0, ""), spent(2**64 - 2))
         self.limit(["node"], one_frame(), (4, "limit boots at 0"), spent(2**64 - 1))
         self.limit(["tx"], b"", (4, "limit boots at 0"), spent(2**64 - 1))
@@ -435,9 +441,14 @@ class Hostile:
         children = b"".join(wire.address(name, k) + wire.text_of_site(name) + wire.mark(1, 1, 10 + k) for k in range(1, 257))
         bodies, size, k = [b"\x07\x02", stops.BOOT_1], 5 + 5 + 12, 1
         goal = LIMIT - 13  # the closing gate's place before Boot
-        pair = lambda k, some: (b"\x04\x00\x01\x01a" + wire.mark(1, 1, 1000 + k) + b"\x00" + wire.short(some) + children[: 54 * some],
-                                b"\x06\x00\x01\x01a" + wire.mark(1, 1, 1000 + k) + b"\x00\x01")
-        cost = lambda two: sum(3 + len(body) for body in two)
+        self.across_full()
+
+        def pair(k, some):
+            head = b"\x00\x01\x01a" + wire.mark(1, 1, 1000 + k) + b"\x00"
+            return b"\x04" + head + wire.short(some) + children[:54 * some], b"\x06" + head + b"\x01"
+
+        def cost(two):
+            return sum(3 + len(body) for body in two)
         while size + cost(pair(k, 256)) <= goal - 20000:
             two = pair(k, 256)
             bodies += two
@@ -473,19 +484,64 @@ class Hostile:
         frames = wire.frame(b"\x40\x01a") + wire.frame(b"\x41" + wire.octets(wire.FRESH))
         pieces, rest = divmod(LIMIT - len(wire.FRESH), 2000)
         frames += wire.frame(b"\x41" + wire.octets(bytes(2000))) * pieces
-        last = lambda size: wire.frame(b"\x41" + wire.octets(bytes(size)))
+
+        def last(size):
+            return wire.frame(b"\x41" + wire.octets(bytes(size)))
         self.limit(["audit"], frames + last(rest), (0, ""))
         self.limit(["audit"], frames + last(rest + 1), (4, "limit log at %d" % (3 + pieces)))
         self.say("audit of %d bytes" % LIMIT)
+
+    def across_full(self):
+        """A batch of which two records have room: five purges that come together. The two are forced and answered, and no byte of a third is there."""
+        kept = streams.kept(1, 5, False)
+        end = b"\x06\x00\x01" + b"\x01a" + wire.mark(1, 1, 2) + b"\x00\x01"
+        size, pair = 10 + sum(3 + len(body) for body in [stops.BOOT_1] + kept), pair_cost(256, 16)
+        # The last byte of the limit is that of the closing gate behind Boot and two records.
+        goal = LIMIT - 13 - 2 * (3 + len(end))
+        rest = goal - size
+        bodies = [stops.BOOT_1] + kept
+
+        def tree(k, long):
+            return wire.text_of_site("t" * long) + wire.mark(1, 1, 1000 + k)
+        children = b"".join(wire.address("n" * 16, k) + wire.text_of_site("n" * 16) + wire.mark(1, 1, 10 + k) for k in range(1, 257))
+
+        def two(k, some, long):
+            head = tree(k, long) + b"\x00"
+            return [b"\x04\x00\x02" + head + wire.short(some) + children[:54 * some], b"\x06\x00\x02" + head + b"\x01"]
+
+        whole, k = rest // pair - 1, 0
+        for k in range(whole):
+            bodies += two(k, 256, 16)
+        left = rest - whole * pair
+        sizes = {pair_cost(some, long): (some, long) for some in range(257) for long in range(1, 17)}
+        first = next(it for it in sizes if left - it in sizes)
+        for extra in (first, left - first):
+            k += 1
+            bodies += two(k, *sizes[extra])
+        log = wire.log_of(bodies)
+        assert len(log) == goal + 1, (len(log), goal)
+        status, text, out, after = self.run(["node", "--name", "a"], streams.stream(streams.purges(1, 5)), log, compare=False)
+        self.counts["limits"] = self.counts.get("limits", 0) + 1
+        if (status, text, out) != (4, "limit log at 3", 2 * wire.frame(b"\x13")):
+            self.fault(["node"], b"", b"", "a batch that passes the limit of the log: %d, %s, %s" % (status, text, out.hex()))
+        if len(after) != LIMIT or after[len(log) - 1 + 12:] != wire.block(end) + wire.block(end.replace(wire.mark(1, 1, 2), wire.mark(1, 1, 4))) + b"\x00":
+            self.fault(["node"], b"", b"", "a batch that passes the limit of the log leaves %d bytes" % len(after))
+        self.say("a batch across the limit of the log")
 
     def big_store(self):
         """A store in whose file a Bind has just room, with 256 bytes to spare, and one byte less."""
         drop = bytes([bound.bank.DROP]) + bound.tree(1)
         new = bound.bind(1)
         goal = LIMIT - 1 - 256 - len(new) - 3  # the closing gate's place before the Bind
-        key = lambda size: bound.bank.put(bytes([size]) * 8, bytes(size))
-        pair = lambda sizes: [bytes([bound.bank.BIND]) + bound.tree(1) + wire.short(len(sizes)) + b"".join(key(it) for it in sizes), drop]
-        cost = lambda two: sum(3 + len(body) for body in two)
+
+        def key(size):
+            return bound.bank.put(bytes([size]) * 8, bytes(size))
+
+        def pair(sizes):
+            return [bytes([bound.bank.BIND]) + bound.tree(1) + wire.short(len(sizes)) + b"".join(key(it) for it in sizes), drop]
+
+        def cost(two):
+            return sum(3 + len(body) for body in two)
         whole = pair([200] * 280)
         bodies, size = [], 5
         while size + cost(whole) <= goal - 2000:
@@ -539,7 +595,7 @@ class Mutant:
         if body[0] == 3:
             sender, _, at = wire.read_address(body, 1)
             target, _, at = wire.read_address(body, at)
-            record = body[at + 2 :]
+            record = body[at + 2:]
             self.senders.append((sender, target))
             if record[0] == 4:
                 self.marks.append((sender, target, bytes(record[1:37])))
@@ -550,17 +606,17 @@ class Mutant:
 
     def learn_key(self, record, at):
         middle = wire.end_of_identifier(record, at)
-        self.keys.append(bytes(record[at : wire.end_of_identifier(record, middle)]))
+        self.keys.append(bytes(record[at:wire.end_of_identifier(record, middle)]))
 
     def add(self, body):
         """The frame, with the count of its association in step with what was left out and put in."""
         place = self.place_of_count(body)
         if place is not None:
-            pair = body[place - 36 : place]
-            count = int.from_bytes(body[place : place + 8], "big") + self.shift.get(pair, 0)
+            pair = body[place - 36:place]
+            count = int.from_bytes(body[place:place + 8], "big") + self.shift.get(pair, 0)
             self.sent[pair] = count + 1
             if 0 <= count < 2**64:
-                body = body[:place] + count.to_bytes(8, "big") + body[place + 8 :]
+                body = body[:place] + count.to_bytes(8, "big") + body[place + 8:]
         self.bodies.append(body)
 
     @staticmethod
@@ -577,7 +633,7 @@ class Mutant:
         if x < 0.15:
             place = self.place_of_count(body)
             if place is not None:
-                pair = body[place - 36 : place]
+                pair = body[place - 36:place]
                 self.shift[pair] = self.shift.get(pair, 0) - 1
             return
         if x < 0.25:
@@ -585,7 +641,7 @@ class Mutant:
             return
         if x < 0.33:
             at = draw.randrange(len(body))
-            self.bodies.append(body[:at] + bytes([draw.choice([0, 1, 255, body[at] ^ 1, draw.randrange(256)])]) + body[at + 1 :])
+            self.bodies.append(body[:at] + bytes([draw.choice([0, 1, 255, body[at] ^ 1, draw.randrange(256)])]) + body[at + 1:])
             return
         if x < 0.60 and self.marks:
             self.say_on(*draw.choice(self.marks[-8:] if draw.random() < 0.5 else self.marks))

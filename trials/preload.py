@@ -365,7 +365,7 @@ class Library:
             loaded = self.loaded[tuple(command)] = Loaded(self.path, command, self.folder)
         results = []
         for at in range(0, len(runs), MOST_AT_ONCE):
-            results += loaded.run_all(runs[at : at + MOST_AT_ONCE], disk, seconds)
+            results += loaded.run_all(runs[at:at + MOST_AT_ONCE], disk, seconds)
         return results
 
     def end(self):
@@ -406,7 +406,7 @@ class Loaded:
         answer = self.socket.recv(4 * len(runs))
         if len(answer) != 4 * len(runs):
             raise RuntimeError("%s can be run no more" % self.command)
-        statuses = [int.from_bytes(answer[at : at + 4], "little") for at in range(0, len(answer), 4)]
+        statuses = [int.from_bytes(answer[at:at + 4], "little") for at in range(0, len(answer), 4)]
         return [self.result(place, disk, status, run[2]) for place, status, run in zip(self.places, statuses, runs)]
 
     @staticmethod

@@ -70,7 +70,8 @@ class Sanitize:
         print("  %s: %s (%s)" % (" ".join(case.words), text, at), flush=True)
 
     def worked(self):
-        node = lambda words, bodies, log=wire.FRESH: Input(words, streams.stream(bodies), log)
+        def node(words, bodies, log=wire.FRESH):
+            return Input(words, streams.stream(bodies), log)
         cases = [
             node(["node", "--name", "b"], streams.subordinate(3)), node(["node", "--name", "b"], streams.subordinate(2, True)),
             node(["node", "--name", "b"], streams.subordinate(2), wire.FRESH[:5] + b"\x00"),
@@ -158,17 +159,17 @@ class Sanitize:
         elif x == 2 and text:
             text[at] = draw.randrange(256)
         elif x == 3:
-            del text[at : at + draw.choice([1, 2, 4, 20, len(text)])]
+            del text[at:at + draw.choice([1, 2, 4, 20, len(text)])]
         elif x == 4:
             text[at:at] = draw.randbytes(draw.choice([1, 2, 8, 40]))
         elif x == 5:
-            text[at:at] = text[at : at + draw.choice([1, 8, 64, 300])]
+            text[at:at] = text[at:at + draw.choice([1, 8, 64, 300])]
         elif x == 6 and other:
             start = draw.randrange(len(other))
             text[at:] = other[start:]
         elif x == 7 and text:
             size = draw.choice([2, 8])
-            text[at : at + size] = draw.choice([0, 1, 255, 256, 2047, 2048, 2**63, 2**64 - 1, len(text)]).to_bytes(8, "big")[-size:]
+            text[at:at + size] = draw.choice([0, 1, 255, 256, 2047, 2048, 2**63, 2**64 - 1, len(text)]).to_bytes(8, "big")[-size:]
 
 
 def main():

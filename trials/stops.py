@@ -5,7 +5,8 @@ trials/run stops [--program CMD] [--drive CMD] [--short] [--full] [--only WORD]
 For each command that has a disk, and each of its changing calls: the process stops in that call, and every byte that was not
 synced is 00, 01 or ff, or as it was, or as it was to be, or some of each, or anything. Then: what had been written to standard
 output is exactly what was written before that call in a run without a stop; the file opens to the list of records before or
-after, which of the two as docs/FORMATS.md says; and a site, or a store, that starts on it goes on. The number of changing calls of
+after, which of the two as docs/FORMATS.md says, with the record of each event of whose answer a byte was written; `show` writes what wire.py
+reads; and a site, or a store, that starts on it goes on. The number of changing calls of
 each run is a constant of this file. --full tries all 256 values of the byte.
 """
 import argparse
@@ -45,7 +46,7 @@ class Stops:
         self.fills = FILLS[1:4] if options.short else FILLS
         if options.full:
             self.fills = ["%02x" % k for k in range(256)] + FILLS[3:]
-        self.counts = dict.fromkeys(["runs", "calls", "stops", "lists before", "lists after", "no log", "files", "starts"], 0)
+        self.counts = dict.fromkeys(["runs", "calls", "stops", "lists before", "lists after", "no log", "files", "starts", "answered"], 0)
         self.looked, self.started = {}, set()
         self.faults = []
 
@@ -68,6 +69,8 @@ class Stops:
         self.counts["files"] += len(new)
         for content, run in zip(new, shown):
             found = None
+            if not case.store and (run.status, run.out) != wire.shown(content):
+                self.fault(case, "show and wire.py read different records in a file that it leaves: status %s" % run.status)
             if run.status not in (0, 5):
                 self.fault(case, "what it leaves cannot be shown: status %s" % run.status)
             if run.status == 0:
@@ -94,6 +97,7 @@ class Stops:
         # What the file holds at each sync: a stop in it, with all that was written.
         syncs = [k for k, (name, _) in enumerate(changes, 1) if name == "fsync"]
         lists = self.look(case, [case.start] + [it.disk for it in self.runs(case, [{"stop": "%d new" % k} for k in syncs])])
+        due = self.due(case, lists)
         whole_list = self.look(case, [whole.disk])[0]
         for k, (_, out) in enumerate(changes, 1):
             done = sum(it < k for it in syncs)
@@ -102,10 +106,30 @@ class Stops:
             view = (lambda it: without_order(it, whole_list)) if case.order_open else (lambda it: it)
             for fill, run, it in zip(self.fills, runs, found):
                 self.judge(case, "call %d, fill %s: " % (k, fill), fill, run, view(it), whole.out[:out], view(lists[done]), view(lists[done + 1]))
+                answered = answers_in(case, run.out)
+                self.counts["answered"] += answered
+                if due and answered and (it is None or len(it) < due[answered]):
+                    self.fault(case, "call %d, fill %s: %d events are answered, and their records are not there" % (k, fill, answered))
             self.start_all(case, [(run.disk, it) for run, it in zip(runs, found)], "call %d: " % k)
         self.looked.clear()
         self.started.clear()
         return changes
+
+    def due(self, case, lists):
+        """How many records there are once each event is answered: in a run in which each event is forced before the next is read."""
+        if case.words[0] not in ("node", "tx"):
+            return []
+        alone = self.runs(case, [{"trace": "trace", "frames": 1}])[0]
+        first = len(lists[0]) if lists[0] is not None else 0
+        due, out, syncs = [first], 0, 0
+        for name, one, _ in alone.calls:
+            if name == "fsync":
+                syncs += 1
+            if name == "write":
+                # The first sync is the start's, and each record has two.
+                out += one
+                due += [first + (syncs - 1) // 2] * (answers_in(case, alone.out[:out]) + 1 - len(due))
+        return due
 
     def judge(self, case, where, fill, run, found, written, before, after):
         self.counts["stops"] += 1
@@ -145,12 +169,20 @@ class Stops:
 
 def without_order(found, whole):
     """How many records there are, where each node has its first ones of the whole list; else the list itself."""
-    of_node = lambda records: lambda node: [it for it in records if (it[1] if it[0] != "boot" else None) == node]
+    def of_node(records):
+        return lambda node: [it for it in records if (it[1] if it[0] != "boot" else None) == node]
     for node in {it[1] if it[0] != "boot" else None for it in found or []}:
         mine = of_node(found)(node)
         if mine != of_node(whole)(node)[: len(mine)]:
             return found
     return len(found) if found is not None else None
+
+
+def answers_in(case, out):
+    """How many events are answered, whole or in part."""
+    bodies, size = wire.frames_in(out)
+    whole = sum(body[0] == (0x30 if case.words[0] == "tx" else 0x13) for body in bodies)
+    return whole + (size < len(out) or bool(bodies) and bodies[-1][0] != (0x30 if case.words[0] == "tx" else 0x13))
 
 
 def is_byte(fill):
@@ -189,12 +221,20 @@ def cases(stops):
     three = streams.stream(streams.subordinate(1))
     yield Case("node: three records in a batch", ["node", "--name", "b"], wire.FRESH, 9, three)
     for way, settings in (("in a batch", {}), ("frame by frame", {"frames": 1})):
-        calls = lambda records: 5 + 4 * (records if settings else 1)
+        def calls(records):
+            return 5 + 4 * (records if settings else 1)
         yield Case("node: two transactions of a subordinate " + way, ["node", "--name", "b"], wire.FRESH, calls(6), sub, settings=settings)
         yield Case("node: the same on a log of version 1 " + way, ["node", "--name", "b"], old, calls(6), sub, settings=settings)
         yield Case("node: a decision and its damage " + way, ["node", "--name", "b"], wire.FRESH, calls(5), damage, settings=settings)
         yield Case("node: two transactions of a root " + way, ["node", "--name", "a"], wire.FRESH, calls(4), root, settings=settings)
         yield Case("tx: two transactions " + way, ["tx", "--name", "a"], wire.FRESH, calls(4), face, settings=settings)
+    for records in (1, 2, 200) if stops.options.short else (1, 2, 3, 10, 50, 100, 200):
+        log = wire.log_of([BOOT_1] + streams.kept(1, records, False))
+        yield Case("node: a batch of %d records" % records, ["node", "--name", "a"], log, 9, streams.stream(streams.purges(1, records)))
+    # The first batch ends where more than 64 KiB of answers wait.
+    much = wire.log_of([BOOT_1] + streams.kept(1, 300, True) + streams.kept(5, 20, False))
+    bodies = (streams.purges(5, 2) + [wire.retry(1)] * 2) * 8
+    yield Case("node: batches of 64 KiB of answers", ["node", "--name", "a"], much, 17, streams.stream(bodies))
     yield Case("show", ["show"], ended, 1)
     yield Case("check", ["check"], ended, 1)
     for name, log in (("a log at its end", ended), ("a log in doubt", doubt)):

@@ -52,14 +52,29 @@ def root(transactions, asked=True):
     out = [declare(1)] if asked else []
     out += [do(1, wire.BEGIN_DIALOGUE, LEAF + UNITS), arrive(LEAF, ROOT, b"\x02" + x + y + UNITS)]
     leaf = Association(LEAF, ROOT, x, y)
-    for _ in range(transactions):
+    for k in range(transactions):
         out.append(do(1, wire.BEGIN_TRANSACTION, short(2)) if asked else b"\x20" + short(2))
-        out.append(do(1, wire.DATA, short(2) + octets(b"work")))
+        out.append(do(1, wire.DATA, short(2) + octets(b"work %d" % k)))
         out.append(do(1, wire.COMMIT) if asked else b"\x21")
         out.append(leaf.says(b"\x0e"))
         out.append(do(1, wire.DONE) if asked else b"\x23")
         out.append(leaf.says(b"\x10\x00"))
     return out
+
+
+def kept(node, count, owed):
+    """The records of so many transactions that node of site a keeps as their root, each with a branch that is owed, or with none."""
+    out, branch = [], address("b", 7)
+    for k in range(count):
+        tree = b"\x01a" + mark(1, node, 2 * k + 2)
+        child = branch + b"\x01a" + mark(1, node, 2 * k + 3)
+        out.append(b"\x04" + short(node) + tree + b"\x00\x00\x01" + child)
+        out.append(b"\x05" + short(node) + tree + b"\x00\x01\x02" + (b"\x00\x01" + child if owed else b"\x00\x00"))
+    return out
+
+
+def purges(node, count):
+    return [b"\x08" + short(node)] * count
 
 
 def stream(bodies):
