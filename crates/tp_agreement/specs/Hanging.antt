@@ -9,7 +9,8 @@ use Rattle.tp_model.specs.Promises.{IsBranchOf, has_logged, is_bound_of, is_read
 -- ---- what agreement rests on, between a node and its branch
 
 abbrev pub ReadyDown : World → Type 0
-ReadyDown w = (t : Aaid) (b : BranchId) (x y : Node) → IsBranchOf w t b x y → has_logged (is_bound_of t) x ≡ true → (has_left y.origin t y.history ≡ true) ⊎ (has_logged (is_ready_of_branch t b) y ≡ true)
+ReadyDown w = (t : Aaid) (b : BranchId) (x y : Node) → IsBranchOf w t b x y → has_logged (is_bound_of t) x ≡ true
+    → (has_left y.origin t y.history ≡ true) ⊎ (has_logged (is_ready_of_branch t b) y ≡ true)
 
 abbrev pub LeftDown : World → Type 0
 LeftDown w = (t : Aaid) (b : BranchId) (x y : Node) → IsBranchOf w t b x y → has_left x.origin t x.history ≡ true → has_left y.origin t y.history ≡ true

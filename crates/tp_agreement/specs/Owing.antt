@@ -99,7 +99,8 @@ pub data Quits (e : TxEvent) (s : Transaction) (p : ℕ) : Type 0 where
 -- logs its damage
 abbrev pub IsOwnWord : Transaction → Turn → Addr → PeerRecord → Type 0
 IsOwnWord t a z (PeerRecord.RecReady u c) = t.key ≡ Under u c z
-IsOwnWord t a z (PeerRecord.RecReply u c (RecState.Done x)) = (u ≡ aaid_of t.key) × ((is_committing t.phase || is_commit_rec a.rec) ≡ true) × ((is_report_none x || is_damage_rec a.rec) ≡ true)
+IsOwnWord t a z (PeerRecord.RecReply u c (RecState.Done x)) = (u ≡ aaid_of t.key) × ((is_committing t.phase || is_commit_rec a.rec) ≡ true)
+    × ((is_report_none x || is_damage_rec a.rec) ≡ true)
 IsOwnWord t a z (PeerRecord.RecReply u c RecState.Unknown) = ⊥
 IsOwnWord t a z r = Unit {0}
 
@@ -155,7 +156,8 @@ keeps_rollback u (k ∷ ks) = (not (is_commit k.side) && is_aaid u k.key.aaid) |
 
 -- Begin of the branch goes to the node
 abbrev pub BeginsTo : Aaid → ℕ → BranchId → List Out → Type 0
-BeginsTo t p b outs = (a : Addr) × (x : Mark) × (y : Mark) × (q : ℕ) × (i : Holder) × (a.node ≡ p) × IsSentIn outs a (PeerRecord.OnAssoc x y q (DialogueRecord.Begin t b i))
+BeginsTo t p b outs = (a : Addr) × (x : Mark) × (y : Mark) × (q : ℕ) × (i : Holder) × (a.node ≡ p)
+    × IsSentIn outs a (PeerRecord.OnAssoc x y q (DialogueRecord.Begin t b i))
 
 -- what a node says beside its associations, in an event e whose prelude left s, from d on. It asks its superior in ready; says
 -- Done of a tree that it commits, or as an answer; and says that it knows of nothing as an answer alone
@@ -163,7 +165,8 @@ abbrev pub IsNodeWord : Event → Digest → Digest → Move → Addr → PeerRe
 IsNodeWord e s d m z (PeerRecord.RecReady u c) = (x : Current) × (s.current ≡ Some x) × (x.key ≡ Under u c z)
 IsNodeWord e s d m z (PeerRecord.RecReply u c (RecState.Done r)) =
     (g : Aaid → Bool) → ((v : Aaid) → is_committed_in v d ≡ true → g v ≡ true) → ((v : Aaid) → commits_tree v m.rec ≡ true → g v ≡ true)
-    → (g u ≡ true) ⊎ (e ≡ Event.Arrive z (PeerRecord.RecCommit u c)) × (recovery_answer (known_of (named_by_key s (branch_key u c)) c) Question.RecCommit ≡ Some (RecState.Done r))
+    → (g u ≡ true) ⊎ (e ≡ Event.Arrive z (PeerRecord.RecCommit u c))
+    × (recovery_answer (known_of (named_by_key s (branch_key u c)) c) Question.RecCommit ≡ Some (RecState.Done r))
 IsNodeWord e s d m z (PeerRecord.RecReply u c RecState.Unknown) =
     (e ≡ Event.Arrive z (PeerRecord.RecReady u c)) × (recovery_answer (known_of (named_by_branch s u c) c) Question.RecReady ≡ Some RecState.Unknown)
 IsNodeWord e s d m z r = Unit {0}

@@ -55,8 +55,10 @@ holds_with x y p n = some_leads (holds_on x y) p (digest n.origin n.history).arc
 -- answered, and gave nothing ahead of it
 abbrev pub TookBack : World → Type 0
 TookBack w =
-    (n m : Node) (x y : Mark) → IsIn w n → IsIn w m → is_at m.superior (number_of n) ≡ true → is_at n.superior (number_of m) ≡ false → holds_with x y (number_of m) n ≡ true
-    → (given (answered (taken_on x y (number_of m) n.history)) (sent_on x y (number_of m) n.history) ≤ returned (answered (taken_on x y (number_of m) n.history)) (taken_on x y (number_of m) n.history))
+    (n m : Node) (x y : Mark) → IsIn w n → IsIn w m → is_at m.superior (number_of n) ≡ true → is_at n.superior (number_of m) ≡ false
+    → holds_with x y (number_of m) n ≡ true
+    → (given (answered (taken_on x y (number_of m) n.history)) (sent_on x y (number_of m) n.history)
+    ≤ returned (answered (taken_on x y (number_of m) n.history)) (taken_on x y (number_of m) n.history))
     × (given (suc (answered (taken_on x y (number_of m) n.history))) (sent_on x y (number_of m) n.history) ≡ 0)
 
 -- a subordinate end that holds control took more than it returned, in the round that it has not answered

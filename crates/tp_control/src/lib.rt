@@ -39,7 +39,8 @@ pub fn holders_below_took_more()
 /// holds control.
 pub fn branches_are_led()
     ensures turn { (e : TxEvent) (s : Transaction) (p : ℕ) → IsPut e s → IsLeading e s p s (transacted e s) }
-    ensures history { (o : Origin) (up : Option Addr) (h : List Entry) (p : ℕ) (x y : Mark) (s k : ℕ) → o.start.records ≡ [] → IsGrown o up h → is_at up p ≡ false → takes is_in_round p h ≡ true → link_with (digest o h).arcs p ≡ Live x y s k
+    ensures history { (o : Origin) (up : Option Addr) (h : List Entry) (p : ℕ) (x y : Mark) (s k : ℕ) → o.start.records ≡ []
+        → IsGrown o up h → is_at up p ≡ false → takes is_in_round p h ≡ true → link_with (digest o h).arcs p ≡ Live x y s k
         → IsLed p (digest o h) (sent_on x y p h) (answered (accepted_on x y p h)) (returned (answered (accepted_on x y p h)) (accepted_on x y p h)) }
 {}
 

@@ -30,7 +30,8 @@ pub fn records_keep_their_shape()
 /// Whatever a site is given, and whatever came before, no output of its node carries more of a user's octets than fit in a record: a
 /// request with more is refused, and octets with more are no text of a record.
 pub fn outputs_carry_what_fits()
-    ensures { (o : Opening) (g : Given) (n : ℕ) (e : Event) (h : List Entry) (y : Entry) → asked o g ≡ Is n e → (answer (origin_at o n) h e).entry ≡ Some y → AreShort y.outs }
+    ensures { (o : Opening) (g : Given) (n : ℕ) (e : Event) (h : List Entry) (y : Entry) → asked o g ≡ Is n e
+        → (answer (origin_at o n) h e).entry ≡ Some y → AreShort y.outs }
 {}
 
 // Promise 12.40: A user is told that a transaction of its superior begins by the Begin that is

@@ -81,13 +81,15 @@ pub record IsUnfailed (t : Aaid) (o : Origin) (up : Option Addr) (h : List Entry
 -- a branch of the tree that has neither ended nor left is on a live arc
 abbrev pub BranchLive : Aaid → Origin → List Entry → Type 0
 BranchLive t o h =
-    (c : Current) (b : Branch) (p : ℕ) → (digest o h).current ≡ Some c → is_aaid t (aaid_of c.key) ≡ true → find_branch c.branches p ≡ Some b → has_ended b ≡ false
+    (c : Current) (b : Branch) (p : ℕ) → (digest o h).current ≡ Some c → is_aaid t (aaid_of c.key) ≡ true
+    → find_branch c.branches p ≡ Some b → has_ended b ≡ false
     → is_live_with_peer (digest o h).arcs p ≡ true
 
 -- and so is the superior in the tree
 abbrev pub SuperiorLive : Aaid → Origin → List Entry → Type 0
 SuperiorLive t o h =
-    (c : Current) (p : ℕ) → (digest o h).current ≡ Some c → is_aaid t (aaid_of c.key) ≡ true → is_under_at c.key p ≡ true → is_live_with_peer (digest o h).arcs p ≡ true
+    (c : Current) (p : ℕ) → (digest o h).current ≡ Some c → is_aaid t (aaid_of c.key) ≡ true → is_under_at c.key p ≡ true
+    → is_live_with_peer (digest o h).arcs p ≡ true
 
 -- ---- what an entry e after the history h says, where the tree is current before it
 
@@ -111,12 +113,14 @@ pub record IsSaid (o : Origin) (h : List Entry) (e : Entry) (p : ℕ) (r : Dialo
 
 -- one that logs Ready says so to its superior
 abbrev pub SaysReady : Aaid → Origin → List Entry → Entry → Type 0
-SaysReady t o h e = is_ready_rec e.rec ≡ true → (c : Current) (p : ℕ) → (digest o h).current ≡ Some c → is_aaid t (aaid_of c.key) ≡ true → is_under_at c.key p ≡ true → IsSaid o h e p DialogueRecord.Ready
+SaysReady t o h e = is_ready_rec e.rec ≡ true → (c : Current) (p : ℕ) → (digest o h).current ≡ Some c → is_aaid t (aaid_of c.key) ≡ true
+    → is_under_at c.key p ≡ true → IsSaid o h e p DialogueRecord.Ready
 
 -- one that logs Commit orders it to each branch that has not left after it
 abbrev pub SaysCommit : Aaid → Origin → List Entry → Entry → Type 0
 SaysCommit t o h e =
-    is_commit_rec e.rec ≡ true → is_now t (digest o h).current ≡ true → (c : Current) (b : Branch) (p : ℕ) → (digest o (e ∷ h)).current ≡ Some c → find_branch c.branches p ≡ Some b → b.left ≡ false
+    is_commit_rec e.rec ≡ true → is_now t (digest o h).current ≡ true → (c : Current) (b : Branch) (p : ℕ)
+    → (digest o (e ∷ h)).current ≡ Some c → find_branch c.branches p ≡ Some b → b.left ≡ false
     → IsSaid o h e p DialogueRecord.Commit
 
 -- one that tells commit-complete with no report says Done with no report to the superior
@@ -150,7 +154,8 @@ HeedsReady t o h =
 
 -- where the superior's Commit was taken, Commit is logged
 abbrev pub HeedsCommit : Aaid → Origin → List Entry → Type 0
-HeedsCommit t o h = (p : ℕ) → rolled o t h ≡ false → took_in (λ d. is_aaid t (aaid_of d.key) && is_under_at d.key p) is_order o p h ≡ true → decided o t h ≡ true
+HeedsCommit t o h = (p : ℕ) → rolled o t h ≡ false → took_in (λ d. is_aaid t (aaid_of d.key) && is_under_at d.key p) is_order o p h ≡ true
+    → decided o t h ≡ true
 
 -- a branch whose Done was taken in committing has ended, while the tree is current
 abbrev pub HeedsDone : Aaid → Origin → List Entry → Type 0
@@ -163,7 +168,8 @@ HeedsDone t o h =
 -- after the entry e, while the tree is current
 abbrev pub Keeps : (Branch → Bool) → Aaid → Origin → List Entry → Entry → Type 0
 Keeps f t o h e =
-    (c d : Current) (p : ℕ) → (digest o h).current ≡ Some c → (digest o (e ∷ h)).current ≡ Some d → is_aaid t (aaid_of c.key) ≡ true → is_aaid t (aaid_of d.key) ≡ true
+    (c d : Current) (p : ℕ) → (digest o h).current ≡ Some c → (digest o (e ∷ h)).current ≡ Some d → is_aaid t (aaid_of c.key) ≡ true
+    → is_aaid t (aaid_of d.key) ≡ true
     → branch_is f c p ≡ true → branch_is f d p ≡ true
 
 abbrev pub StaysCounted : Aaid → Origin → List Entry → Entry → Type 0

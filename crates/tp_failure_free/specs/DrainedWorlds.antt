@@ -77,7 +77,8 @@ HasSaidIn o t (e ∷ h) a r = (is_word_of t (is_now t (digest o h).current) r �
 
 -- each word of the tree that a node of it sent to a node that is there came to it, and no node of the tree owes its done
 pub record IsDrainedTree (w : World) (t : Aaid) : Type 0 where
-  pub taken : (x z : Node) (a : Addr) (r : PeerRecord) → IsOf w t x → HasSaidIn x.origin t x.history a r → find_node w.nodes a.node ≡ Some z → HasCome z.history (addr_of x) r
+  pub taken : (x z : Node) (a : Addr) (r : PeerRecord) → IsOf w t x → HasSaidIn x.origin t x.history a r → find_node w.nodes a.node ≡ Some z
+      → HasCome z.history (addr_of x) r
   pub settled : (x : Node) → IsOf w t x → is_owed x.origin t x.history ≡ false
 
 -- where no node of a tree ever failed, what they sent went out: once every frame of them is taken, the tree is drained
@@ -92,14 +93,16 @@ NoFailureInTree w = (t : Aaid) → IsFailureFree w t → IsUnfailedTree w t
 abbrev pub WordsAreTaken : World → Type 0
 WordsAreTaken w =
     (t : Aaid) → IsDrainedTree w t
-    → (x z : Node) (a : Addr) (m k : Mark) (q : ℕ) (r : DialogueRecord) → IsOf w t x → IsIn w z → a.node ≡ number_of z → HasSaidIn x.origin t x.history a (PeerRecord.OnAssoc m k q r)
+    → (x z : Node) (a : Addr) (m k : Mark) (q : ℕ) (r : DialogueRecord) → IsOf w t x → IsIn w z → a.node ≡ number_of z
+    → HasSaidIn x.origin t x.history a (PeerRecord.OnAssoc m k q r)
     → suc q ≤ length (accepted_on m k (number_of x) z.history)
 
 -- ---- branches
 
 -- the peer was sent the Begin of the branch
 abbrev pub HasBegun : List Entry → ℕ → Aaid → BranchId → Type 0
-HasBegun h p t b = (a : Addr) × (m : Mark) × (k : Mark) × (q : ℕ) × (i : Holder) × (a.node ≡ p) × HasSent h a (PeerRecord.OnAssoc m k q (DialogueRecord.Begin t b i))
+HasBegun h p t b = (a : Addr) × (m : Mark) × (k : Mark) × (q : ℕ) × (i : Holder) × (a.node ≡ p)
+    × HasSent h a (PeerRecord.OnAssoc m k q (DialogueRecord.Begin t b i))
 
 -- each branch that a node of the tree began is a node of the tree
 abbrev pub BranchesAreThere : World → Type 0
@@ -150,4 +153,5 @@ abbrev pub DonesAreTaken : World → Type 0
 DonesAreTaken w =
     (t : Aaid) → IsDrainedTree w t → IsUnfailedTree w t → (b : BranchId) (x z : Node) → IsBranchOf w t b x z
     → has_told_in (says (number_of x) is_done) z.origin t z.history ≡ true → is_now t (digest x.origin x.history).current ≡ true
-    → took_in (λ d. is_aaid t (aaid_of d.key) && is_committing d.phase && has_branch_at d.branches (number_of z)) is_done x.origin (number_of z) x.history ≡ true
+    → took_in (λ d. is_aaid t (aaid_of d.key) && is_committing d.phase && has_branch_at d.branches (number_of z)) is_done x.origin
+    (number_of z) x.history ≡ true

@@ -56,7 +56,9 @@ AreOwed outs t (c ∷ cs) = IsSentIn outs c.addr (PeerRecord.RecCommit t c.branc
 abbrev pub IsSpokenOf : List Out → Kept → Type 0
 IsSpokenOf outs k =
     is_commit k.side ≡ true
-    → AreOwed outs k.key.aaid k.owed × ((b : BranchId) (a : Addr) → k.key.branch ≡ Some b → k.superior ≡ Some a → IsSentIn outs a (PeerRecord.RecReply k.key.aaid b (RecState.Done k.report)))
+    → AreOwed outs k.key.aaid k.owed
+    × ((b : BranchId) (a : Addr) → k.key.branch ≡ Some b → k.superior ≡ Some a
+    → IsSentIn outs a (PeerRecord.RecReply k.key.aaid b (RecState.Done k.report)))
 
 abbrev pub AreSpokenOf : List Out → List Kept → Type 0
 AreSpokenOf outs [] = Unit {0}
@@ -68,14 +70,16 @@ pub record SaysAgain (x : Node) : Type 0 where
   pub told : (c : Current) → (known_of x).current ≡ Some c → is_committing c.phase ≡ true → tells_to_commit (says_again x) ≡ true
   pub ordered : (c : Current) → (known_of x).current ≡ Some c → is_committing c.phase ≡ true → AreOrdered (says_again x) (aaid_of c.key) c.branches
   -- it is in doubt: its superior is asked
-  pub asked : (c : Current) (t : Aaid) (b : BranchId) (a : Addr) → (known_of x).current ≡ Some c → is_ready c.phase ≡ true → c.key ≡ Under t b a → IsSentIn (says_again x) a (PeerRecord.RecReady t b)
+  pub asked : (c : Current) (t : Aaid) (b : BranchId) (a : Addr) → (known_of x).current ≡ Some c → is_ready c.phase ≡ true
+      → c.key ≡ Under t b a → IsSentIn (says_again x) a (PeerRecord.RecReady t b)
   pub kept : AreSpokenOf (says_again x) (known_of x).kept
   -- the retry is taken where it says anything
   pub taken : says_nothing (says_again x) ≡ false → refuse x.origin (restarted x).history Event.Retry ≡ None
   -- it was active or rolled back: nothing is current any more
   pub gone : (c : Current) → (known_of x).current ≡ Some c → (is_active c.phase || is_rolling c.phase) ≡ true → (known_of (restarted x)).current ≡ None
   -- nothing is current: its user hears so by each such request
-  pub heard : (known_of (restarted x)).current ≡ None → (r : Request) → speaks_of_whole r ≡ true → refuse x.origin (restarted x).history (Event.Do r) ≡ Some Refusal.NoTransaction
+  pub heard : (known_of (restarted x)).current ≡ None → (r : Request) → speaks_of_whole r ≡ true
+      → refuse x.origin (restarted x).history (Event.Do r) ≡ Some Refusal.NoTransaction
 
 abbrev pub LostIsSaidAgain : World → Type 0
 LostIsSaidAgain w = (x : Node) → IsIn w x → SaysAgain x

@@ -161,11 +161,13 @@ phase_after es n = elim (node_after es n) [ None ↦ None | Some x ↦ Some (pha
 
 -- the node rolls back, and its user has finished
 abbrev pub has_rolled_after : List Happening → ℕ → Bool
-has_rolled_after es n = elim (node_after es n) [ None ↦ false | Some x ↦ elim (known_of x).current [ None ↦ false | Some c ↦ is_rolling c.phase && not c.owes ] ]
+has_rolled_after es n = elim (node_after es n)
+    [ None ↦ false | Some x ↦ elim (known_of x).current [ None ↦ false | Some c ↦ is_rolling c.phase && not c.owes ] ]
 
 -- it waits for that peer, which is linked
 abbrev pub waits_after : List Happening → ℕ → ℕ → Bool
-waits_after es n p = elim (node_after es n) [ None ↦ false | Some x ↦ elim (known_of x).current [ None ↦ false | Some c ↦ is_awaited c p && is_live_with_peer (known_of x).arcs p ] ]
+waits_after es n p = elim (node_after es n)
+    [ None ↦ false | Some x ↦ elim (known_of x).current [ None ↦ false | Some c ↦ is_awaited c p && is_live_with_peer (known_of x).arcs p ] ]
 
 abbrev pub arcs_after : List Happening → ℕ → ℕ
 arcs_after es n = elim (node_after es n) [ None ↦ 0 | Some x ↦ length (known_of x).arcs ]

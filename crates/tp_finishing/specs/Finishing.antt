@@ -97,4 +97,5 @@ EveryRunEnds = (es : List Happening) → (stops : List Happening) × (more : Lis
 
 -- or each association is cut, where there are numbers left to say so
 abbrev pub CutsEnd : Type 0
-CutsEnd = (es : List Happening) → AllMayBeCut (run es) → (cuts : List Happening) × (more : List Happening) × EndsBy IsCut (most_cuts (run es).nodes) es cuts more
+CutsEnd = (es : List Happening) → AllMayBeCut (run es)
+    → (cuts : List Happening) × (more : List Happening) × EndsBy IsCut (most_cuts (run es).nodes) es cuts more

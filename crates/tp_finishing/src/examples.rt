@@ -54,7 +54,8 @@ pub fn a_tree_in_danger_is_ended()
     ensures heard { phase_after first_heard 2 ≡ Some Phase.Committing }
     ensures most { lines_after all_stopped ≡ length recovery }
     ensures over { are_over_after (all_stopped ++ recovery) ≡ true }
-    ensures mixed { closing (run (reverse (all_stopped ++ recovery))) ≡ OutLine.Mixed (record { owner = codes "a"; mark = record { boot = 1; node = 1; count = 3 } }) (2 ∷ 3 ∷ []) ∷ [] }
+    ensures mixed { closing (run (reverse (all_stopped ++ recovery)))
+        ≡ OutLine.Mixed (record { owner = codes "a"; mark = record { boot = 1; node = 1; count = 3 } }) (2 ∷ 3 ∷ []) ∷ [] }
 {}
 
 /// A root that asked for rollback waits for its branch, which is linked. The branch hears it, and its association is lost: it rolls back

@@ -152,15 +152,19 @@ EndsLast w = (t : Aaid) (x : Node) (newer older : List LogRec) (r : LogRec) → 
 -- a commitment that was complete with no report, of a node that decided nothing by itself: a branch forced Ready, Commit and End,
 -- a root Commit and End
 pub data CommitsIn (k : NodeKey) (rs : List LogRec) : Type 0 where
-  Of_branch : (m n l : ℕ) (a : Option Addr) (b : Addr) (cs ds : List Child) → is_root_key k ≡ false → rs ≡ LogRec.End l k Outcome.Commit ∷ LogRec.Commit n k a cs ∷ LogRec.Ready m k b ds ∷ [] → CommitsIn k rs
-  Of_root : (n l : ℕ) (a : Option Addr) (cs : List Child) → is_root_key k ≡ true → rs ≡ LogRec.End l k Outcome.Commit ∷ LogRec.Commit n k a cs ∷ [] → CommitsIn k rs
+  Of_branch : (m n l : ℕ) (a : Option Addr) (b : Addr) (cs ds : List Child) → is_root_key k ≡ false
+      → rs ≡ LogRec.End l k Outcome.Commit ∷ LogRec.Commit n k a cs ∷ LogRec.Ready m k b ds ∷ [] → CommitsIn k rs
+  Of_root : (n l : ℕ) (a : Option Addr) (cs : List Child) → is_root_key k ≡ true
+      → rs ≡ LogRec.End l k Outcome.Commit ∷ LogRec.Commit n k a cs ∷ [] → CommitsIn k rs
 
 abbrev pub CommitsForceSo : World → Type 0
 CommitsForceSo w =
-    (t : Aaid) (x : Node) → IsIn w x → completed_none x.origin t x.history ≡ true → decision x.origin t x.history ≡ None → (k : NodeKey) × CommitsIn k (forced_of t x)
+    (t : Aaid) (x : Node) → IsIn w x → completed_none x.origin t x.history ≡ true → decision x.origin t x.history ≡ None
+    → (k : NodeKey) × CommitsIn k (forced_of t x)
 
 -- a node that left, or that rolled and gave no Ready, forced nothing
 abbrev pub RollsUnforced : World → Type 0
 RollsUnforced w =
-    (t : Aaid) (x : Node) → IsIn w x → (has_left x.origin t x.history ≡ true) ⊎ (rolled x.origin t x.history ≡ true) × (has_ready_in t (records x.origin x.history) ≡ false)
+    (t : Aaid) (x : Node) → IsIn w x
+    → (has_left x.origin t x.history ≡ true) ⊎ (rolled x.origin t x.history ≡ true) × (has_ready_in t (records x.origin x.history) ≡ false)
     → forced_of t x ≡ []

@@ -25,7 +25,8 @@ pub fn make<K: Sink>(
     // Promise 2.36 [clauses whole prefix fault]: It is written whole, or the sink's fault comes
     //   with its new count and a prefix of it is written
     ensures whole { OnOk result ((before : List ℕ) → K.written sink.old ≡ Some before → K.written sink.new ≡ Some (before ++ schedule number nodes rounds)) }
-    ensures prefix { OnErr result ((before : List ℕ) → K.written sink.old ≡ Some before → WritesPrefix before (schedule number nodes rounds) (K.written sink.new)) }
+    ensures prefix { OnErr result ((before : List ℕ) → K.written sink.old ≡ Some before
+        → WritesPrefix before (schedule number nodes rounds) (K.written sink.new)) }
     ensures unwritten { result ≡ Err Stop.NoMemory → sink.new ≡ sink.old }
     ensures fault { IfErr result (IsMakeStop (K.fault_count sink.old) (K.fault_count sink.new)) }
 {

@@ -27,5 +27,6 @@ pub record IsAlone (who : Who) (up : Option Addr) (d : Digest) (h : List Entry) 
   -- what was sent on a pair went out with a mark of the node
   pub said : (p : ℕ) (x y : Mark) → (sent_on x y p h ≡ []) ⊎ ((own_mark up p x y).node ≡ who.node)
   -- two subordinates are never offered one mark, and nothing went to the one with the mark of the other
-  pub apart : (p q : ℕ) (x : Mark) → is_at up p ≡ false → is_at up q ≡ false → opened (link_with d.arcs p) ≡ Some x → opened (link_with d.arcs q) ≡ Some x → p ≡ q
+  pub apart : (p q : ℕ) (x : Mark) → is_at up p ≡ false → is_at up q ≡ false → opened (link_with d.arcs p) ≡ Some x
+      → opened (link_with d.arcs q) ≡ Some x → p ≡ q
   pub quiet : (p q : ℕ) (x y : Mark) → is_at up p ≡ false → is_at up q ≡ false → opened (link_with d.arcs p) ≡ Some x → (sent_on x y q h ≡ []) ⊎ (p ≡ q)

@@ -39,15 +39,24 @@ pub record TellsAt (g : Deeds) (e : Event) (fall : Bool) (s : Digest) (m : Move)
   pub tells : (c : Current) → s.current ≡ Some c → (u : Outcome) (r : Report) → out_tells (is_complete u r) m.outs ≡ true → g.told u r (aaid_of c.key) ≡ true
 
 pub record IsRisen (e : Event) (p : ℕ) (fall : Bool) (s d : Digest) (m : Move) : Type 0 where
-  pub words : (ks : List BranchKey) (g : Deeds) (n : ℕ) (v : Bool) → key_at d.current p ≡ None → none_of is_begin (words_to p m.outs) ≡ true → HasPlaceAt ks n d.current p → VotesAt v d.current p → TellsAt g e fall s m → each_up (may_say ks g) n v (words_to p m.outs) ≡ true
+  pub words : (ks : List BranchKey) (g : Deeds) (n : ℕ) (v : Bool) → key_at d.current p ≡ None → none_of is_begin (words_to p m.outs) ≡ true
+      → HasPlaceAt ks n d.current p → VotesAt v d.current p → TellsAt g e fall s m → each_up (may_say ks g) n v (words_to p m.outs) ≡ true
   pub votes : (v : Bool) → is_live (link_with m.next.arcs p) ≡ true → VotesAt v d.current p → VotesAt (voting_from v (words_to p m.outs)) m.next.current p
 
 -- ---- of a history
 
 abbrev pub deeds_of : Origin → List Entry → Deeds
-deeds_of o h = record { committed = λ t. decided o t h; rolled = λ t. rolled o t h; left = λ t. has_left o t h; completed = λ t. completed_none o t h; damaged = λ t. has_damage t (records o h); told = λ u r t. has_told_in (out_tells (is_complete u r)) o t h }
+deeds_of o h = record {
+  committed = λ t. decided o t h;
+  rolled = λ t. rolled o t h;
+  left = λ t. has_left o t h;
+  completed = λ t. completed_none o t h;
+  damaged = λ t. has_damage t (records o h);
+  told = λ u r t. has_told_in (out_tells (is_complete u r)) o t h;
+}
 
 -- to the superior, on each pair
 pub record SpeaksUp (o : Origin) (up : Option Addr) (h : List Entry) : Type 0 where
   pub words : (p : ℕ) (x y : Mark) → is_at up p ≡ true → each_up (may_say (begun_keys (accepted_on x y p h)) (deeds_of o h)) 0 false (sent_on x y p h) ≡ true
-  pub votes : (p : ℕ) (x y : Mark) (s k : ℕ) → is_at up p ≡ true → link_with (digest o h).arcs p ≡ Live x y s k → VotesAt (voting_from false (sent_on x y p h)) (digest o h).current p
+  pub votes : (p : ℕ) (x y : Mark) (s k : ℕ) → is_at up p ≡ true → link_with (digest o h).arcs p ≡ Live x y s k
+      → VotesAt (voting_from false (sent_on x y p h)) (digest o h).current p

@@ -22,12 +22,14 @@ pub fn a_transaction_stands_among_its_arcs()
     // Promise 12.15 [clauses history again empty]: The current transaction stands in order among
     //   the node's arcs, in a history whose start finds in the log no transaction with its superior
     //   as a branch; the next start is such a one again, and so is one on an empty log
-    ensures history { (o : Origin) (up : Option Addr) (h : List Entry) (c : Current) → IsLegal o up h → finds_apart o ≡ true → (digest o h).current ≡ Some c → IsAmongArcs (digest o h).arcs c }
+    ensures history { (o : Origin) (up : Option Addr) (h : List Entry) (c : Current) → IsLegal o up h → finds_apart o ≡ true
+        → (digest o h).current ≡ Some c → IsAmongArcs (digest o h).arcs c }
     ensures again { (o : Origin) (up : Option Addr) (h : List Entry) → IsLegal o up h → finds_apart o ≡ true → finds_apart (again o h) ≡ true }
     ensures empty { (o : Origin) → o.start.records ≡ [] → finds_apart o ≡ true }
     // Promise 16.9: A node's current transaction stands in order among its arcs, and an event that
     //   is put to it comes at arcs that it reaches
-    ensures run { (es : List Happening) (x : Node) (c : Current) → IsIn (run es) x → (digest x.origin x.history).current ≡ Some c → IsAmongArcs (digest x.origin x.history).arcs c }
+    ensures run { (es : List Happening) (x : Node) (c : Current) → IsIn (run es) x → (digest x.origin x.history).current ≡ Some c
+        → IsAmongArcs (digest x.origin x.history).arcs c }
 {}
 
 /// An event of a node puts one event to its current transaction at most, before the next transaction starts. In every legal
@@ -37,11 +39,14 @@ pub fn a_transaction_stands_among_its_arcs()
 pub fn an_event_reaches_the_transaction()
     // Promise 12.16 [clauses reaches alone]: In such a history an event of the node puts one event
     //   to the current transaction at most, at arcs that it reaches, and it is taken up
-    ensures reaches { (o : Origin) (up : Option Addr) (h : List Entry) (e : Event) (c : Current) (x : Put) → IsLegal o up h → finds_apart o ≡ true → refuse o h e ≡ None → (digest o h).current ≡ Some c → put_by o.who (digest o h) e ≡ Some x
+    ensures reaches { (o : Origin) (up : Option Addr) (h : List Entry) (e : Event) (c : Current) (x : Put) → IsLegal o up h
+        → finds_apart o ≡ true → refuse o h e ≡ None → (digest o h).current ≡ Some c → put_by o.who (digest o h) e ≡ Some x
         → IsPutTo o.who (digest o h) e c x }
-    ensures alone { (o : Origin) (up : Option Addr) (h : List Entry) (e : Event) (c : Current) → IsGrown o up h → refuse o h e ≡ None → (digest o h).current ≡ Some c → put_by o.who (digest o h) e ≡ None
+    ensures alone { (o : Origin) (up : Option Addr) (h : List Entry) (e : Event) (c : Current) → IsGrown o up h → refuse o h e ≡ None
+        → (digest o h).current ≡ Some c → put_by o.who (digest o h) e ≡ None
         → IsLeftAlone o.who (digest o h) e c }
     // Promise 16.9, part 2
-    ensures run { (es : List Happening) (x : Node) (e : Event) (c : Current) (y : Put) → IsIn (run es) x → refuse x.origin x.history e ≡ None → (digest x.origin x.history).current ≡ Some c
+    ensures run { (es : List Happening) (x : Node) (e : Event) (c : Current) (y : Put) → IsIn (run es) x
+        → refuse x.origin x.history e ≡ None → (digest x.origin x.history).current ≡ Some c
         → put_by x.origin.who (digest x.origin x.history) e ≡ Some y → IsPutTo x.origin.who (digest x.origin x.history) e c y }
 {}

@@ -38,7 +38,8 @@ ghost use Rattle.tp_histories.specs.Traces.{IsTraced, sent_on, accepted_on};
 /// In every legal history a live link counts what was sent and taken with its pair of marks, and a mark that is not yet
 /// drawn is in no record.
 pub fn traces()
-    ensures counts { (o : Origin) (up : Option Addr) (h : List Entry) (p : ℕ) (x y : Mark) (s t : ℕ) → IsGrown o up h → link_with (digest o h).arcs p ≡ Live x y s t
+    ensures counts { (o : Origin) (up : Option Addr) (h : List Entry) (p : ℕ) (x y : Mark) (s t : ℕ) → IsGrown o up h
+        → link_with (digest o h).arcs p ≡ Live x y s t
         → (length (sent_on x y p h) ≡ s) × (length (accepted_on x y p h) ≡ t) }
     ensures marks { (o : Origin) (up : Option Addr) (h : List Entry) → IsGrown o up h → IsTraced o.who up (digest o h) h }
 {}
@@ -68,7 +69,8 @@ pub fn fates_are_one()
 /// and Rollback is of one that rolled.
 pub fn words_upward()
     ensures turn { (e : TxEvent) (s : Transaction) (p : ℕ) → IsPut e s → IsRising e s p s (transacted e s) }
-    ensures node { (who : Who) (d : Digest) (e : Event) (p : ℕ) (sup fall : Bool) (shut : ℕ) → IsLate d → refusal who d e ≡ None → Reads who e p sup fall shut (prelude who d e)
+    ensures node { (who : Who) (d : Digest) (e : Event) (p : ℕ) (sup fall : Bool) (shut : ℕ) → IsLate d → refusal who d e ≡ None
+        → Reads who e p sup fall shut (prelude who d e)
         → IsRisen e p fall (prelude who d e) (prelude who d e) (action who d e) }
     ensures history { (o : Origin) (up : Option Addr) (h : List Entry) → o.start.records ≡ [] → IsGrown o up h → IsOnce o h → SpeaksUp o up h }
 {}
@@ -84,7 +86,8 @@ pub fn nothing_is_left_undone()
     // Promise 12.10: A transaction whose user asked for commitment is active only while a branch is
     //   neither counted nor left, and one whose user has given done is committing only while a
     //   branch is neither done, left nor given up
-    ensures history { (o : Origin) (up : Option Addr) (h : List Entry) (c : Current) → IsGrown o up h → (digest o h).current ≡ Some c → is_left_undone c ≡ false }
+    ensures history { (o : Origin) (up : Option Addr) (h : List Entry) (c : Current) → IsGrown o up h → (digest o h).current ≡ Some c
+        → is_left_undone c ≡ false }
     // Promise 16.10: Nothing is left undone at a node: no vote, no order and no completed
     //   commitment
     ensures run { (es : List Happening) (x : Node) (c : Current) → IsIn (run es) x → (digest x.origin x.history).current ≡ Some c → is_left_undone c ≡ false }
@@ -97,7 +100,8 @@ pub fn nothing_is_left_undone()
 /// those that it heard the superior close by Prepare, Commit or Rollback; and so does every event of a transaction.
 pub fn answers_are_asked_for()
     ensures turn { (e : TxEvent) (s : Transaction) (p : ℕ) → IsPut e s → IsAnswering e s p s (transacted e s) }
-    ensures history { (o : Origin) (up : Option Addr) (h : List Entry) (p : ℕ) (x y : Mark) (s k : ℕ) → o.start.records ≡ [] → IsGrown o up h → is_at up p ≡ true → link_with (digest o h).arcs p ≡ Live x y s k
+    ensures history { (o : Origin) (up : Option Addr) (h : List Entry) (p : ℕ) (x y : Mark) (s k : ℕ) → o.start.records ≡ []
+        → IsGrown o up h → is_at up p ≡ true → link_with (digest o h).arcs p ≡ Live x y s k
         → answered (sent_on x y p h) ≤ closed (accepted_on x y p h) }
 {}
 

@@ -69,7 +69,9 @@ given_up_agrees o h = now_agrees o h (λ k c. each_branch (λ b. same_bool b.giv
 
 -- that it has ended, and with which report
 abbrev pub ended_agrees : Origin → List Entry → Bool
-ended_agrees o h = now_agrees o h (λ k c. each_branch (λ b. same_bool b.ended (is_some (ended_in o k (child_of b) h)) && (rank b.report == rank (report_of (ended_in o k (child_of b) h)))) c.branches)
+ended_agrees o h = now_agrees o h
+    (λ k c. each_branch (λ b. same_bool b.ended (is_some (ended_in o k (child_of b) h))
+    && (rank b.report == rank (report_of (ended_in o k (child_of b) h)))) c.branches)
 
 -- all of them
 abbrev pub marks_agree : Origin → List Entry → Bool

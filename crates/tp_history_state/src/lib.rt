@@ -142,8 +142,10 @@ pub fn links_are_known()
 /// In every legal history an arc has the address at which its peer was last asked for a dialogue, or offered one, and the
 /// functional units that were last proposed or agreed on it.
 pub fn arcs_are_named()
-    ensures address { (o : Origin) (up : Option Addr) (h : List Entry) (p : ℕ) (a : Arc) → IsLegal o up h → find_arc (digest o h).arcs p ≡ Some a → address_in p h ≡ Some a.peer }
-    ensures units { (o : Origin) (up : Option Addr) (h : List Entry) (p : ℕ) (a : Arc) → IsLegal o up h → find_arc (digest o h).arcs p ≡ Some a → units_in p h ≡ a.dialogue.units }
+    ensures address { (o : Origin) (up : Option Addr) (h : List Entry) (p : ℕ) (a : Arc) → IsLegal o up h
+        → find_arc (digest o h).arcs p ≡ Some a → address_in p h ≡ Some a.peer }
+    ensures units { (o : Origin) (up : Option Addr) (h : List Entry) (p : ℕ) (a : Arc) → IsLegal o up h
+        → find_arc (digest o h).arcs p ≡ Some a → units_in p h ≡ a.dialogue.units }
 {}
 
 // Promise 12.22: Of each branch: whether it was told to prepare, was counted, has left, was given
@@ -171,7 +173,8 @@ pub fn the_whole_is_known()
 pub fn what_is_known_is_tested()
     // Promise 12.23, part 3 [clauses known tested]
     ensures known { (o : Origin) (h : List Entry) → IsKnown o h → agrees o h ≡ true }
-    ensures tested { (o : Origin) (h : List Entry) → agrees o h ≡ true → ((k : NodeKey) → is_quiet o h (Some k) ≡ true) → (digest o h).version ≡ o.start.version → IsKnown o h }
+    ensures tested { (o : Origin) (h : List Entry) → agrees o h ≡ true → ((k : NodeKey) → is_quiet o h (Some k) ≡ true)
+        → (digest o h).version ≡ o.start.version → IsKnown o h }
 {}
 
 /// A branch whose word is still awaited can be reached: in every legal history, while the current transaction is active, the

@@ -9,7 +9,8 @@ use Rattle.tp_laws.specs.Whole.{AllPromised}
 
 -- all that is promised of the world that a run leaves
 abbrev pub DeploymentsKeep : Type 0
-DeploymentsKeep = (qs : List Place) (ds : List Deed) → AreArranged qs → IsDeployment qs ds → (es : List Happening) × IsRunOf qs ds (run es) × AllPromised (run es)
+DeploymentsKeep = (qs : List Place) (ds : List Deed) → AreArranged qs → IsDeployment qs ds
+    → (es : List Happening) × IsRunOf qs ds (run es) × AllPromised (run es)
 
 -- and what was so of a node in a tree stays so, whatever happens after it
 abbrev pub DeploymentsStay : Type 0

@@ -11,7 +11,8 @@ use Rattle.tp_model.specs.Promises.{IsIn, tells_commit, tells_rollback, has_told
 -- the same tree; what nodes decided by themselves is no matter
 abbrev pub OneIsShown : World → Type 0
 OneIsShown w =
-    (t : Aaid) (x y : Node) → IsIn w x → IsIn w y → has_told_in tells_commit x.origin t x.history ≡ true → has_told_in tells_rollback y.origin t y.history ≡ true → ⊥
+    (t : Aaid) (x y : Node) → IsIn w x → IsIn w y → has_told_in tells_commit x.origin t x.history ≡ true
+    → has_told_in tells_rollback y.origin t y.history ≡ true → ⊥
 
 -- one of the four is told
 abbrev pub tells_outcome : List Out → Bool

@@ -26,7 +26,8 @@ times_in t (u ∷ us) = elim (is_aaid t u) [ true ↦ suc (times_in t us) | fals
 
 abbrev pub BelongsSo : World → Type 0
 BelongsSo w =
-    (t : Aaid) (x : Node) → IsIn w x → (is_member x.origin t x.history ≡ true → (suc 0 ≤ times_in t (starts x.origin x.history)) ⊎ (has_taken_begin t x.history ≡ true))
+    (t : Aaid) (x : Node) → IsIn w x
+    → (is_member x.origin t x.history ≡ true → (suc 0 ≤ times_in t (starts x.origin x.history)) ⊎ (has_taken_begin t x.history ≡ true))
     × (suc 0 ≤ times_in t (starts x.origin x.history) → is_member x.origin t x.history ≡ true)
     × (has_taken_begin t x.history ≡ true → is_member x.origin t x.history ≡ true)
 

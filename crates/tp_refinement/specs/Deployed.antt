@@ -13,7 +13,8 @@ tree_at qs ds t = tree_among (nodes_of qs ds) t
 
 -- whatever more the processes do is steps of the page, in every tree
 abbrev pub DeploymentsRefine : Type 0
-DeploymentsRefine = (qs : List Place) (more ds : List Deed) → AreArranged qs → IsDeployment qs (more ++ ds) → (t : Aaid) → Walks (tree_at qs ds t) (tree_at qs (more ++ ds) t)
+DeploymentsRefine = (qs : List Place) (more ds : List Deed) → AreArranged qs → IsDeployment qs (more ++ ds) → (t : Aaid)
+    → Walks (tree_at qs ds t) (tree_at qs (more ++ ds) t)
 
 abbrev pub DeploymentsAreOnThePage : Type 0
 DeploymentsAreOnThePage = (qs : List Place) (ds : List Deed) → AreArranged qs → IsDeployment qs ds → (t : Aaid) → Reached (tree_at qs ds t)

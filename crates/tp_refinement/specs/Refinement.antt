@@ -78,7 +78,8 @@ pub record SaysOfWorlds (w : World) : Type 0 where
   pub one_outcome : ((t : Aaid) → OneOutcomeOf (tree_in w t)) → OneOutcome w
   pub report_free : ((t : Aaid) → ReportFreeOf (tree_in w t)) → ReportFree w
   pub report_free_commits : ((t : Aaid) → ReportFreeOf (tree_in w t)) → ReportFreeCommits w
-  pub rest_completes : (t : Aaid) → RestCompletes (tree_in w t) → IsUndisturbed (tree_in w t) → IsAtRest (tree_in w t) → (y : Node) → IsOf w t y → stays t y ≡ true → HasCommitted t y
+  pub rest_completes : (t : Aaid) → RestCompletes (tree_in w t) → IsUndisturbed (tree_in w t) → IsAtRest (tree_in w t) → (y : Node)
+      → IsOf w t y → stays t y ≡ true → HasCommitted t y
 
 -- ---- where the service's third sentence speaks
 

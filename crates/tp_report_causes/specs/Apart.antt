@@ -22,10 +22,13 @@ pub record Beneath (f : Node → Type 0) (w : World) (t : Aaid) (x : Node) : Typ
 
 -- of a rollback: mix comes from a decision to commit, and hazard is never told
 pub record RollbacksAreApart (w : World) : Type 0 where
-  pub mixed : (t : Aaid) (x : Node) → IsIn w x → has_told_in (tells_rolled_back Report.Mix) x.origin t x.history ≡ true → Beneath (HasOpposed Outcome.Rollback t) w t x
+  pub mixed : (t : Aaid) (x : Node) → IsIn w x → has_told_in (tells_rolled_back Report.Mix) x.origin t x.history ≡ true
+      → Beneath (HasOpposed Outcome.Rollback t) w t x
   pub hazardous : (t : Aaid) (x : Node) → IsIn w x → has_told_in (tells_rolled_back Report.Hazard) x.origin t x.history ≡ true → ⊥
 
 -- of a commitment: mix comes from a decision to roll back, and hazard from a branch that was given up
 pub record CommitmentsAreApart (w : World) : Type 0 where
-  pub mixed : (t : Aaid) (x : Node) → IsIn w x → has_told_in (tells_committed Report.Mix) x.origin t x.history ≡ true → Beneath (HasOpposed Outcome.Commit t) w t x
-  pub hazardous : (t : Aaid) (x : Node) → IsIn w x → has_told_in (tells_committed Report.Hazard) x.origin t x.history ≡ true → Beneath (λ z. has_given_up t z ≡ true) w t x
+  pub mixed : (t : Aaid) (x : Node) → IsIn w x → has_told_in (tells_committed Report.Mix) x.origin t x.history ≡ true
+      → Beneath (HasOpposed Outcome.Commit t) w t x
+  pub hazardous : (t : Aaid) (x : Node) → IsIn w x → has_told_in (tells_committed Report.Hazard) x.origin t x.history ≡ true
+      → Beneath (λ z. has_given_up t z ≡ true) w t x

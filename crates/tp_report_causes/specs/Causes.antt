@@ -42,9 +42,12 @@ is_awaited (Some b) = not b.ended && not b.left
 -- the event takes the word of such a branch, with that report: Done in a commitment, over an association or as a reply, or
 -- RolledBack in a rollback
 abbrev pub hears : Report → Current → Event → Bool
-hears r c (Event.Arrive a (PeerRecord.OnAssoc x y q (DialogueRecord.Done s))) = is_committing c.phase && is_awaited (find_branch c.branches a.node) && same_report r s
-hears r c (Event.Arrive a (PeerRecord.OnAssoc x y q (DialogueRecord.RolledBack s))) = is_rolling c.phase && is_awaited (find_branch c.branches a.node) && same_report r s
-hears r c (Event.Arrive a (PeerRecord.RecReply u b (RecState.Done s))) = is_committing c.phase && is_awaited (find_branch_by_id c.branches b) && is_aaid (aaid_of c.key) u && same_report r s
+hears r c (Event.Arrive a (PeerRecord.OnAssoc x y q (DialogueRecord.Done s))) = is_committing c.phase
+    && is_awaited (find_branch c.branches a.node) && same_report r s
+hears r c (Event.Arrive a (PeerRecord.OnAssoc x y q (DialogueRecord.RolledBack s))) = is_rolling c.phase
+    && is_awaited (find_branch c.branches a.node) && same_report r s
+hears r c (Event.Arrive a (PeerRecord.RecReply u b (RecState.Done s))) = is_committing c.phase
+    && is_awaited (find_branch_by_id c.branches b) && is_aaid (aaid_of c.key) u && same_report r s
 hears r c _ = false
 
 abbrev pub gives_up : Current → Event → Bool

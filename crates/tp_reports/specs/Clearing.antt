@@ -78,7 +78,8 @@ may_clear (TxEvent.Took q (DialogueRecord.Done r)) s p = (q == p) && is_committi
 may_clear (TxEvent.Took q (DialogueRecord.RolledBack r)) s p = (q == p) && is_rolling s.phase
 may_clear (TxEvent.Took q DialogueRecord.Left) s p = (q == p) && is_rolling s.phase
 may_clear (TxEvent.Took q DialogueRecord.LeftEnd) s p = (q == p) && is_rolling s.phase
-may_clear (TxEvent.Reply b (RecState.Done r)) s p = is_report_none r && elim (find_row_by_id s.rows b) [ None ↦ false | Some w ↦ (w.branch.peer.node == p) && is_open_in_commit s w.branch ]
+may_clear (TxEvent.Reply b (RecState.Done r)) s p = is_report_none r
+    && elim (find_row_by_id s.rows b) [ None ↦ false | Some w ↦ (w.branch.peer.node == p) && is_open_in_commit s w.branch ]
 may_clear _ s p = false
 
 -- the branch with the peer has the identifier, and has neither left nor is it done with no report

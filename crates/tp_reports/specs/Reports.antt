@@ -23,7 +23,8 @@ ClearIsCommitted w = (t : Aaid) (x : Node) → IsOf w t x → completed_none x.o
 
 -- where a node completed with no report each of its branches left, or completed with no report
 abbrev pub ClearBelow : World → Type 0
-ClearBelow w = (t : Aaid) (b : BranchId) (x y : Node) → IsBranchOf w t b x y → completed_none x.origin t x.history ≡ true → (has_left y.origin t y.history ≡ true) ⊎ (completed_none y.origin t y.history ≡ true)
+ClearBelow w = (t : Aaid) (b : BranchId) (x y : Node) → IsBranchOf w t b x y → completed_none x.origin t x.history ≡ true
+    → (has_left y.origin t y.history ≡ true) ⊎ (completed_none y.origin t y.history ≡ true)
 
 -- the root's user was told that the commitment of the tree is complete with no report
 pub record IsReportFree (w : World) (t : Aaid) : Type 0 where
@@ -43,7 +44,8 @@ ReportFreeCloses w = (t : Aaid) → IsReportFree w t → closing_line t (members
 -- a Done with no report means, while the superior has not completed, that every staying node at and below the branch has committed
 abbrev pub DoneBelow : World → Type 0
 DoneBelow w =
-    (t : Aaid) (b : BranchId) (x y z : Node) → IsBranchOf w t b x y → has_told_in tells_commit_complete x.origin t x.history ≡ false → has_sent_done_none y.origin t b y.history ≡ true → IsBelow w t y z → stays t z ≡ true
+    (t : Aaid) (b : BranchId) (x y z : Node) → IsBranchOf w t b x y → has_told_in tells_commit_complete x.origin t x.history ≡ false
+    → has_sent_done_none y.origin t b y.history ≡ true → IsBelow w t y z → stays t z ≡ true
     → HasCommitted t z
 
 -- ---- what became of a tree at a node that took the Begin of its branch

@@ -30,7 +30,8 @@ pub record IsLoggedMove (who : Who) (t : Aaid) (s d : Digest) (m : Move) : Type 
   -- what is kept was kept, or is logged
   pub keeps : keeps_tree t m.next.kept ≡ true → (keeps_tree t d.kept ≡ true) ⊎ (rec_of_tree t m.rec ≡ true)
   -- after a record of what is current that is no longer active
-  pub past : IsLate d → is_old who d t.mark ≡ true → rec_of_tree t m.rec ≡ true → keeps_tree t d.kept ≡ false → is_now t m.next.current ≡ true → is_active (phase_of m.next) ≡ false
+  pub past : IsLate d → is_old who d t.mark ≡ true → rec_of_tree t m.rec ≡ true → keeps_tree t d.kept ≡ false
+      → is_now t m.next.current ≡ true → is_active (phase_of m.next) ≡ false
 
 -- of a history and a tree
 pub record IsBare (o : Origin) (h : List Entry) (t : Aaid) : Type 0 where

@@ -68,7 +68,8 @@ pub fn users_see()
 /// In every run, Commit goes up: a branch that logged Commit has a superior that logged it in the same tree, whether the
 /// order came over an association, as a question of recovery or as a reply.
 pub fn commits_go_up()
-    ensures { (es : List Happening) (t : Aaid) (b : BranchId) (x y : Node) → IsBranchOf (run es) t b x y → decided y.origin t y.history ≡ true → decided x.origin t x.history ≡ true }
+    ensures { (es : List Happening) (t : Aaid) (b : BranchId) (x y : Node) → IsBranchOf (run es) t b x y
+        → decided y.origin t y.history ≡ true → decided x.origin t x.history ≡ true }
 {}
 
 // Promise 16.24: A node that left a tree did not roll in it, and logged nothing of it

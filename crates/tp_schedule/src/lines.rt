@@ -88,7 +88,8 @@ impl Lines {
         //   where the source's count rose, with the count; after a fault comes the same one, and
         //   nothing is read
         ensures count { (n : ℕ) → self.old.fault ≡ None → result ≡ Err (LinesFault.ReadFault n) → n ≡ S.fault_count source.new }
-        ensures risen { (n : ℕ) → self.old.fault ≡ None → result ≡ Err (LinesFault.ReadFault n) → HasRisen (S.fault_count source.old) (S.fault_count source.new) }
+        ensures risen { (n : ℕ) → self.old.fault ≡ None → result ≡ Err (LinesFault.ReadFault n)
+            → HasRisen (S.fault_count source.old) (S.fault_count source.new) }
         ensures kept { S.fault_count source.old ≤ S.fault_count source.new }
         // Promise 2.29: At most 12,288 bytes are read past the start of a line that is handed out,
         //   or past the end of one that is too long or passes the limit; of one in which the source
@@ -245,7 +246,8 @@ fn line_len(line: &[u8]) -> usize
 // How many bytes stand before the first line feed.
 #[tactic(auto, using(crate::proofs::LineCuts::feed_found))]
 fn find_feed(bytes: &[u8]) -> Option<usize>
-    ensures { MatchOption result (no_feed bytes.now ≡ true) (λ at. (at < length bytes.now) × (no_feed (take at bytes.now) ≡ true) × (slice_index bytes.now at ≡ 10)) }
+    ensures { MatchOption result (no_feed bytes.now ≡ true)
+        (λ at. (at < length bytes.now) × (no_feed (take at bytes.now) ≡ true) × (slice_index bytes.now at ≡ 10)) }
 {
     memchr(b'\n', bytes)
 }

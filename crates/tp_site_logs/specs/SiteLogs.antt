@@ -85,8 +85,10 @@ pub record StartsNext (w : World) (x : Site) : Type 0 where
   pub boot : boot_of (next_opening x) ≡ suc x.boot
   pub most : x.boot ≤ length (log_of x)
   -- of each node of the site it knows what a crash leaves, and of every other number nothing
-  pub nodes : (n : Node) → IsIn w n → is_name (site_of n) x.name ≡ true → digest (origin_at (next_opening x) (number_of n)) [] ≡ digest n.origin (crashed n.history)
-  pub others : (k : ℕ) → records_at k (log_of x) ≡ [] → digest (origin_at (next_opening x) k) [] ≡ started (record { boot = suc x.boot; version = LogVersion.Two; records = [] })
+  pub nodes : (n : Node) → IsIn w n → is_name (site_of n) x.name ≡ true
+      → digest (origin_at (next_opening x) (number_of n)) [] ≡ digest n.origin (crashed n.history)
+  pub others : (k : ℕ) → records_at k (log_of x) ≡ []
+      → digest (origin_at (next_opening x) k) [] ≡ started (record { boot = suc x.boot; version = LogVersion.Two; records = [] })
 
 abbrev pub DisksStart : World → Type 0
 DisksStart w = (s : List ℕ) (x : Site) → find_site w.sites s ≡ Some x → StartsNext w x

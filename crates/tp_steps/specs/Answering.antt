@@ -28,15 +28,19 @@ Answers cl c b v f t p = is_nil t.phase ≡ false → is_under_at t.key p ≡ tr
 pub record IsAnswering (e : TxEvent) (s : Transaction) (p : ℕ) (t : Transaction) (a : Turn) : Type 0 where
   pub fair : IsFair e s p t a
   pub passed : IsPassed e s t a
-  pub answers : sees t p ≡ true → loses e p ≡ false → (cl : Bool) → (is_under_at s.key p ≡ true → hears_close e s ≡ true → cl ≡ true) → (c b : ℕ) (v f : Bool) → c ≤ b → Answers cl c b v f t p → stays true p a.outs ≡ true
-      → (d : ℕ) (w : Bool) → d ≡ c + rounds closes_up voted_behind v (spoken true p a.outs) → w ≡ flag_from voted_behind v (spoken true p a.outs) → (d ≤ b) × Answers cl d b w f a.next p
+  pub answers : sees t p ≡ true → loses e p ≡ false → (cl : Bool) → (is_under_at s.key p ≡ true → hears_close e s ≡ true → cl ≡ true)
+      → (c b : ℕ) (v f : Bool) → c ≤ b → Answers cl c b v f t p → stays true p a.outs ≡ true
+      → (d : ℕ) (w : Bool) → d ≡ c + rounds closes_up voted_behind v (spoken true p a.outs)
+      → w ≡ flag_from voted_behind v (spoken true p a.outs) → (d ≤ b) × Answers cl d b w f a.next p
 
 -- ---- at a node
 
 abbrev pub AnswersAt : Bool → ℕ → ℕ → Bool → Bool → Option Current → ℕ → Type 0
-AnswersAt cl c b v f o p = (x : Current) → o ≡ Some x → is_nil x.phase ≡ false → is_under_at x.key p ≡ true → MayAnswer cl c b v f x.asked x.phase x.told_prepare x.superior_rolled
+AnswersAt cl c b v f o p = (x : Current) → o ≡ Some x → is_nil x.phase ≡ false → is_under_at x.key p ≡ true
+    → MayAnswer cl c b v f x.asked x.phase x.told_prepare x.superior_rolled
 
 -- from d on
 pub record IsAnswered (p : ℕ) (cl : Bool) (d : Digest) (m : Move) : Type 0 where
   pub answers : (c b : ℕ) (v f : Bool) → c ≤ b → AnswersAt cl c b v f d.current p → is_live (link_with m.next.arcs p) ≡ true
-      → (n : ℕ) (w : Bool) → n ≡ c + rounds closes_up voted_behind v (words_to p m.outs) → w ≡ flag_from voted_behind v (words_to p m.outs) → (n ≤ b) × AnswersAt cl n b w f m.next.current p
+      → (n : ℕ) (w : Bool) → n ≡ c + rounds closes_up voted_behind v (words_to p m.outs) → w ≡ flag_from voted_behind v (words_to p m.outs)
+      → (n ≤ b) × AnswersAt cl n b w f m.next.current p

@@ -26,7 +26,8 @@ may_end (TxEvent.Took q (DialogueRecord.Done r)) s p = (q == p) && is_committing
 may_end (TxEvent.Took q (DialogueRecord.RolledBack r)) s p = (q == p) && is_rolling s.phase
 may_end (TxEvent.Took q DialogueRecord.Left) s p = (q == p) && is_rolling s.phase
 may_end (TxEvent.Took q DialogueRecord.LeftEnd) s p = (q == p) && is_rolling s.phase
-may_end (TxEvent.Reply b (RecState.Done r)) s p = elim (find_row_by_id s.rows b) [ None ↦ false | Some w ↦ (w.branch.peer.node == p) && is_open_in_commit s w.branch ]
+may_end (TxEvent.Reply b (RecState.Done r)) s p = elim (find_row_by_id s.rows b)
+    [ None ↦ false | Some w ↦ (w.branch.peer.node == p) && is_open_in_commit s w.branch ]
 may_end _ s p = false
 
 -- a branch before, and after

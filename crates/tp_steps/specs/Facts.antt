@@ -166,7 +166,8 @@ ends_in_phase _ p = false
 -- how many branches with the peer the event may end
 abbrev pub closes : TxEvent → Transaction → ℕ → ℕ
 closes (TxEvent.Took q r) s p = if (q == p) && ends_in_phase r s.phase then 1 else 0
-closes (TxEvent.Reply b (RecState.Done r)) s p = elim (find_row_by_id s.rows b) [ None ↦ 0 | Some w ↦ if (w.branch.peer.node == p) && is_committing s.phase then 1 else 0 ]
+closes (TxEvent.Reply b (RecState.Done r)) s p = elim (find_row_by_id s.rows b)
+    [ None ↦ 0 | Some w ↦ if (w.branch.peer.node == p) && is_committing s.phase then 1 else 0 ]
 closes _ s p = 0
 
 -- the key stands at its place among those that were taken, while the transaction is current
@@ -191,7 +192,8 @@ pub record Facts (e : TxEvent) (s : Transaction) (p : ℕ) (t : Transaction) (a 
   pub opens : closes e s p ≡ 0 → stays true p a.outs ≡ true → open_now t p ≤ open_now a.next p
   pub votes : (ks : List BranchKey) (rs : List LogRec) (n : ℕ) → HasPlace ks n t p → each_vote (is_voted ks (with_rec a.rec rs)) n (spoken true p a.outs) ≡ true
   pub orders : (k : Option BranchKey) (rs : List LogRec) → Knows k t p → each_under is_order (is_ordered (with_rec a.rec rs)) k (spoken true p a.outs) ≡ true
-  pub rollbacks : (k : Option BranchKey) (g : Aaid → Bool) → Knows k t p → (is_under_at t.key p ≡ true → k ≡ None) → (falls e s ≡ true → g (aaid_of t.key) ≡ true)
+  pub rollbacks : (k : Option BranchKey) (g : Aaid → Bool) → Knows k t p → (is_under_at t.key p ≡ true → k ≡ None)
+      → (falls e s ≡ true → g (aaid_of t.key) ≡ true)
       → each_under is_rollback (is_rolled g) k (spoken true p a.outs) ≡ true
 
 -- the facts hold where the association is seen as live, and is not lost by the event
@@ -218,7 +220,8 @@ key_at None p = None
 key_at (Some c) p = if is_nil c.phase then None else elim (find_branch c.branches p) [ None ↦ None | Some b ↦ Some (aaid_of c.key, b.id) ]
 
 abbrev pub HasPlaceAt : List BranchKey → ℕ → Option Current → ℕ → Type 0
-HasPlaceAt ks n o p = (c : Current) (a : Aaid) (b : BranchId) (s : _) → o ≡ Some c → is_nil c.phase ≡ false → c.key ≡ Under a b s → is_under_at c.key p ≡ true → slice_get ks n ≡ Some (a, b)
+HasPlaceAt ks n o p = (c : Current) (a : Aaid) (b : BranchId) (s : _) → o ≡ Some c → is_nil c.phase ≡ false → c.key ≡ Under a b s
+    → is_under_at c.key p ≡ true → slice_get ks n ≡ Some (a, b)
 
 abbrev pub KnowsAt : Option BranchKey → Option Current → ℕ → Type 0
 KnowsAt k o p = (v : BranchKey) → key_at o p ≡ Some v → k ≡ Some v
@@ -236,12 +239,17 @@ pub record IsHeard (p : ℕ) (sup fall : Bool) (shut : ℕ) (s d : Digest) (m : 
   pub dead_rows : is_live (link_with d.arcs p) ≡ false → key_at d.current p ≡ None → key_at m.next.current p ≡ None
   pub upward : sup ≡ true → none_of is_begin (words_to p m.outs) ≡ true
   pub balance : is_live (link_with m.next.arcs p) ≡ true → ends_in (words_to p m.outs) + under_at m.next.current p ≡ under_at d.current p
-  pub places : (ks : List BranchKey) (n : ℕ) → is_live (link_with m.next.arcs p) ≡ true → HasPlaceAt ks n d.current p → HasPlaceAt ks (ends_in (words_to p m.outs) + n) m.next.current p
+  pub places : (ks : List BranchKey) (n : ℕ) → is_live (link_with m.next.arcs p) ≡ true → HasPlaceAt ks n d.current p
+      → HasPlaceAt ks (ends_in (words_to p m.outs) + n) m.next.current p
   pub opens : shut ≡ 0 → is_live (link_with m.next.arcs p) ≡ true → length (begun_keys (words_to p m.outs)) + open_at d.current p ≤ open_at m.next.current p
-  pub votes : (ks : List BranchKey) (rs : List LogRec) (n : ℕ) → HasPlaceAt ks n d.current p → each_vote (is_voted ks (with_rec m.rec rs)) n (words_to p m.outs) ≡ true
-  pub orders : (k : Option BranchKey) (rs : List LogRec) → KnowsAt k d.current p → each_under is_order (is_ordered (with_rec m.rec rs)) k (words_to p m.outs) ≡ true
-  pub knows : (k : Option BranchKey) → is_live (link_with m.next.arcs p) ≡ true → KnowsAt k d.current p → KnowsAt (last_from k (words_to p m.outs)) m.next.current p
-  pub rollbacks : (k : Option BranchKey) (g : Aaid → Bool) → KnowsAt k d.current p → (sup ≡ true → k ≡ None) → (fall ≡ true → (c : Current) → s.current ≡ Some c → g (aaid_of c.key) ≡ true)
+  pub votes : (ks : List BranchKey) (rs : List LogRec) (n : ℕ) → HasPlaceAt ks n d.current p
+      → each_vote (is_voted ks (with_rec m.rec rs)) n (words_to p m.outs) ≡ true
+  pub orders : (k : Option BranchKey) (rs : List LogRec) → KnowsAt k d.current p
+      → each_under is_order (is_ordered (with_rec m.rec rs)) k (words_to p m.outs) ≡ true
+  pub knows : (k : Option BranchKey) → is_live (link_with m.next.arcs p) ≡ true → KnowsAt k d.current p
+      → KnowsAt (last_from k (words_to p m.outs)) m.next.current p
+  pub rollbacks : (k : Option BranchKey) (g : Aaid → Bool) → KnowsAt k d.current p → (sup ≡ true → k ≡ None)
+      → (fall ≡ true → (c : Current) → s.current ≡ Some c → g (aaid_of c.key) ≡ true)
       → each_under is_rollback (is_rolled g) k (words_to p m.outs) ≡ true
 
 -- which event of the node is at work: whether it rolls, what it closes, and where the superior is

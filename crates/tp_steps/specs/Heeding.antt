@@ -29,10 +29,12 @@ pub record IsHeeding (e : TxEvent) (s : Transaction) (a : Turn) : Type 0 where
   pub answers : (p : ℕ) (w : DialogueRecord) → e ≡ TxEvent.Took p w → is_answer w ≡ true → refused_tx e s ≡ None → is_rolling s.phase ≡ false
       → (is_active s.phase ≡ true) × (row_holds a.next.rows p has_answered ≡ true)
   -- an order of the superior that is not out of phase is not taken in active, and in ready it is carried out
-  pub orders : (p : ℕ) → e ≡ TxEvent.Took p DialogueRecord.Commit → refused_tx e s ≡ None → is_under_at s.key p ≡ true → (is_active s.phase || is_ready s.phase) ≡ true
+  pub orders : (p : ℕ) → e ≡ TxEvent.Took p DialogueRecord.Commit → refused_tx e s ≡ None → is_under_at s.key p ≡ true
+      → (is_active s.phase || is_ready s.phase) ≡ true
       → (is_ready s.phase ≡ true) × (is_committing a.next.phase ≡ true)
   -- in committing a branch that says that it is done has ended after it, or had left; so does one that replies so
-  pub ends : (p : ℕ) (r : Report) → e ≡ TxEvent.Took p (DialogueRecord.Done r) → is_committing s.phase ≡ true → row_holds s.rows p (λ b. true) ≡ true → row_holds a.next.rows p has_ended ≡ true
+  pub ends : (p : ℕ) (r : Report) → e ≡ TxEvent.Took p (DialogueRecord.Done r) → is_committing s.phase ≡ true
+      → row_holds s.rows p (λ b. true) ≡ true → row_holds a.next.rows p has_ended ≡ true
   pub replies : (b : BranchId) (r : Report) (w : Row) → e ≡ TxEvent.Reply b (RecState.Done r) → is_committing s.phase ≡ true → find_row_by_id s.rows b ≡ Some w
       → find_row s.rows w.branch.peer.node ≡ Some w → row_holds a.next.rows w.branch.peer.node has_ended ≡ true
   -- a branch that has answered, or has ended, stays so

@@ -11,7 +11,8 @@ use Rattle.tp_steps.specs.Passages.{is_commit_rec}
 
 -- what is current goes on, or the node roots a tree of its own
 abbrev pub HasKeyFrom : Who → Digest → Current → Type 0
-HasKeyFrom who d u = ((c : Current) × (d.current ≡ Some c) × (u.key ≡ c.key)) ⊎ ((t : Aaid) × (u.key ≡ Root t) × (t.owner ≡ who.site) × (t.mark.node ≡ who.node))
+HasKeyFrom who d u = ((c : Current) × (d.current ≡ Some c) × (u.key ≡ c.key))
+    ⊎ ((t : Aaid) × (u.key ≡ Root t) × (t.owner ≡ who.site) × (t.mark.node ≡ who.node))
 
 -- the superior orders what is current
 abbrev pub IsOrdered : Who → Event → Current → Type 0

@@ -38,12 +38,14 @@ use Rattle.tp_steps.specs.Turns.{loses, is_outcome_told}
 -- ---- the prelude
 
 abbrev pub called : Who → Addr → ℕ → Digest → Digest
-called who a u d = record (with_mark_drawn d) { arcs = d.arcs ++ (record { peer = a; link = Opening (next_mark who d); dialogue = fresh_dialogue u Side.Superior } ∷ []) }
+called who a u d = record (with_mark_drawn d)
+    { arcs = d.arcs ++ (record { peer = a; link = Opening (next_mark who d); dialogue = fresh_dialogue u Side.Superior } ∷ []) }
 
 abbrev pub accepted_on : Who → ℕ → Arc → Link → Digest → Digest
 accepted_on who u a Idle d = d
 accepted_on who u a (Opening x) d = d
-accepted_on who u a (Offered x) d = record (with_mark_drawn d) { arcs = put_arc d.arcs (record a { link = Live x (next_mark who d) 0 0; dialogue = fresh_dialogue u Side.Subordinate }) }
+accepted_on who u a (Offered x) d = record (with_mark_drawn d)
+    { arcs = put_arc d.arcs (record a { link = Live x (next_mark who d) 0 0; dialogue = fresh_dialogue u Side.Subordinate }) }
 accepted_on who u a (Live x y s t) d = d
 
 abbrev pub accepted_by : Who → ℕ → Option Arc → Digest → Digest
@@ -68,7 +70,8 @@ abbrev pub counted_in : Digest → Addr → Digest
 counted_in d from = record d { arcs = with_link d.arcs from.node with_one_taken }
 
 abbrev pub prelude_of_record : Digest → Addr → PeerRecord → Digest
-prelude_of_record d from (PeerRecord.OpenAssoc x u) = record d { arcs = record { peer = from; link = Offered x; dialogue = fresh_dialogue u Side.Subordinate } ∷ d.arcs }
+prelude_of_record d from (PeerRecord.OpenAssoc x u) = record d
+    { arcs = record { peer = from; link = Offered x; dialogue = fresh_dialogue u Side.Subordinate } ∷ d.arcs }
 prelude_of_record d from (PeerRecord.AcceptAssoc x y u) = linked (find_arc d.arcs from.node) x y u d
 prelude_of_record d from (PeerRecord.OnAssoc x y q (DialogueRecord.Begin t b h)) = begun_in (find_arc d.arcs from.node) t b (counted_in d from)
 prelude_of_record d from (PeerRecord.OnAssoc x y q _) = counted_in d from
@@ -97,12 +100,16 @@ IsAskedByRecord from (PeerRecord.ShutAssoc x (Some y)) c f = f ≡ TxEvent.Lost 
 IsAskedByRecord from (PeerRecord.OnAssoc x y q r) c f = f ≡ TxEvent.Took from.node r
 IsAskedByRecord from (PeerRecord.RecReady t b) c f = ⊥
 IsAskedByRecord from (PeerRecord.RecCommit t b) c f = (f ≡ TxEvent.Ordered) × (is_key (node_key c.key) (record { aaid = t; branch = Some b }) ≡ true)
-IsAskedByRecord from (PeerRecord.RecReply t b RecState.Commit) c f = (f ≡ TxEvent.Reply b RecState.Commit) × (is_key (node_key c.key) (record { aaid = t; branch = Some b }) ≡ true)
+IsAskedByRecord from (PeerRecord.RecReply t b RecState.Commit) c f = (f ≡ TxEvent.Reply b RecState.Commit)
+    × (is_key (node_key c.key) (record { aaid = t; branch = Some b }) ≡ true)
 -- of a branch of its tree, from where that branch is
 IsAskedByRecord from (PeerRecord.RecReply t b (RecState.Done r)) c f =
-    (f ≡ TxEvent.Reply b (RecState.Done r)) × (is_aaid (aaid_of c.key) t ≡ true) × ((x : Branch) → find_branch_by_id c.branches b ≡ Some x → is_addr x.peer from ≡ true)
-IsAskedByRecord from (PeerRecord.RecReply t b RecState.Unknown) c f = (f ≡ TxEvent.Reply b RecState.Unknown) × (is_key (node_key c.key) (record { aaid = t; branch = Some b }) ≡ true)
-IsAskedByRecord from (PeerRecord.RecReply t b RecState.RetryLater) c f = (f ≡ TxEvent.Reply b RecState.RetryLater) × (is_key (node_key c.key) (record { aaid = t; branch = Some b }) ≡ true)
+    (f ≡ TxEvent.Reply b (RecState.Done r)) × (is_aaid (aaid_of c.key) t ≡ true)
+    × ((x : Branch) → find_branch_by_id c.branches b ≡ Some x → is_addr x.peer from ≡ true)
+IsAskedByRecord from (PeerRecord.RecReply t b RecState.Unknown) c f = (f ≡ TxEvent.Reply b RecState.Unknown)
+    × (is_key (node_key c.key) (record { aaid = t; branch = Some b }) ≡ true)
+IsAskedByRecord from (PeerRecord.RecReply t b RecState.RetryLater) c f = (f ≡ TxEvent.Reply b RecState.RetryLater)
+    × (is_key (node_key c.key) (record { aaid = t; branch = Some b }) ≡ true)
 IsAskedByRecord from (PeerRecord.Forget t b) c f = ⊥
 
 abbrev pub IsAskedByRequest : Request → Current → TxEvent → Type 0
@@ -284,11 +291,13 @@ IsSaid e s d a (PeerRecord.RecCommit t b) = owes_branch b d.kept ≡ true
 IsSaid e s d a (PeerRecord.RecReply t b RecState.Commit) = Unit {0}
 IsSaid e s d a (PeerRecord.RecReply t b (RecState.Done r)) =
     (is_committed_in t d ≡ true) × (is_report_none r ≡ true → keeps_idle d.kept ≡ true) × (keeps_commit t d.kept ≡ true) × KeepsFor d.kept a t r
-    ⊎ (e ≡ Event.Arrive a (PeerRecord.RecCommit t b)) × (recovery_answer (known_of (named_by_key s (branch_key t b)) b) Question.RecCommit ≡ Some (RecState.Done r))
+    ⊎ (e ≡ Event.Arrive a (PeerRecord.RecCommit t b))
+    × (recovery_answer (known_of (named_by_key s (branch_key t b)) b) Question.RecCommit ≡ Some (RecState.Done r))
 IsSaid e s d a (PeerRecord.RecReply t b RecState.Unknown) =
     (e ≡ Event.Arrive a (PeerRecord.RecReady t b)) × (recovery_answer (known_of (named_by_branch s t b) b) Question.RecReady ≡ Some RecState.Unknown)
 IsSaid e s d a (PeerRecord.RecReply t b RecState.RetryLater) = Unit {0}
-IsSaid e s d a (PeerRecord.Forget t b) = (r : Report) × (e ≡ Event.Arrive a (PeerRecord.RecReply t b (RecState.Done r))) × (is_report_none r ≡ false) × ((named_by_branch s t b).current ≡ None)
+IsSaid e s d a (PeerRecord.Forget t b) = (r : Report) × (e ≡ Event.Arrive a (PeerRecord.RecReply t b (RecState.Done r)))
+    × (is_report_none r ≡ false) × ((named_by_branch s t b).current ≡ None)
 
 abbrev pub AreSaid : Event → Digest → Digest → List TxOut → Type 0
 AreSaid e s d outs = (a : Addr) (r : PeerRecord) → IsRecoveryIn outs a r → IsSaid e s d a r
@@ -442,12 +451,18 @@ pub record Moves (who : Who) (e : Event) (s : Digest) (R : Digest → Move → T
   pub chain : (d : Digest) (a : Move) (f : Digest → Move) → R d a → R a.next (f a.next) → (a.rec ≡ None) ⊎ ((f a.next).rec ≡ None) → R d (followed a f)
   -- outputs, and changes that are no matter of transactions
   pub speaks : (d : Digest) (outs : List TxOut) → are_spoken outs ≡ true → IsOwned d outs × AreSaid e s d outs → are_said e outs ≡ true → R d (perform outs d)
-  pub changes_dialogue : (d : Digest) (p : ℕ) (f : Dialogue → Dialogue) (m : Move) → IsChange e d p f → R (record d { arcs = with_dialogue d.arcs p f }) m → R d m
+  pub changes_dialogue : (d : Digest) (p : ℕ) (f : Dialogue → Dialogue) (m : Move) → IsChange e d p f
+      → R (record d { arcs = with_dialogue d.arcs p f }) m → R d m
   pub drops_arc : (d : Digest) (p : ℕ) (m : Move) → closes_at e p ≡ true → R (record d { arcs = without_arc d.arcs p }) m → R d m
-  pub notes_kept : (d : Digest) (ks : List Kept) (m : Move) → ((u : Aaid) → keeps_commit u ks ≡ true → keeps_commit u d.kept ≡ true) × (not_forgotten ks ≡ not_forgotten d.kept) → R (record d { kept = ks }) m → R d m
-  pub keeps : (d : Digest) (k : Kept) (f : KeptEvent) → ((u : Aaid) → (is_commit k.side && is_aaid u k.key.aaid) ≡ true → keeps_commit u d.kept ≡ true) × IsAmong d.kept k × StandsIn d.kept k × IsFound d.kept k × IsSettling e s d k f → R d (keep (settled k f) d)
+  pub notes_kept : (d : Digest) (ks : List Kept) (m : Move)
+      → ((u : Aaid) → keeps_commit u ks ≡ true → keeps_commit u d.kept ≡ true) × (not_forgotten ks ≡ not_forgotten d.kept)
+      → R (record d { kept = ks }) m → R d m
+  pub keeps : (d : Digest) (k : Kept) (f : KeptEvent)
+      → ((u : Aaid) → (is_commit k.side && is_aaid u k.key.aaid) ≡ true → keeps_commit u d.kept ≡ true) × IsAmong d.kept k
+      × StandsIn d.kept k × IsFound d.kept k × IsSettling e s d k f → R d (keep (settled k f) d)
   -- the current transaction
-  pub turns : (d : Digest) (c : Current) (f : TxEvent) → d.current ≡ Some c → s.current ≡ Some c → IsAsked e c f → IsPut f (seen who d.arcs c) → ((p : ℕ) → loses f p ≡ true → link_with d.arcs p ≡ Idle) → R d (turned who f d c)
+  pub turns : (d : Digest) (c : Current) (f : TxEvent) → d.current ≡ Some c → s.current ≡ Some c → IsAsked e c f
+      → IsPut f (seen who d.arcs c) → ((p : ℕ) → loses f p ≡ true → link_with d.arcs p ≡ Idle) → R d (turned who f d c)
   -- transactions begin
   pub begins : (d : Digest) (p : ℕ) → some_leads may_begin p d.arcs ≡ true → R d (begin_on who p d)
   pub roots : (d : Digest) (m : Move) → is_nil (phase_of d) ≡ true → may_root d ≡ true

@@ -71,7 +71,8 @@ is_deferred_by _ = false
 
 abbrev pub puts_off_at : Event → ℕ → Bool
 puts_off_at e p =
-    elim (said_by e) [ None ↦ false | Some v ↦ (v.0 == p) && is_deferring v.1 ] || elim (heard_by e) [ None ↦ false | Some v ↦ (v.0 == p) && is_deferred_by v.1 ]
+    elim (said_by e) [ None ↦ false | Some v ↦ (v.0 == p) && is_deferring v.1 ]
+    || elim (heard_by e) [ None ↦ false | Some v ↦ (v.0 == p) && is_deferred_by v.1 ]
 
 -- an end is deferred where it was at first, but where the event defers one, or ends the association
 abbrev pub AreAlike : Event → Digest → Digest → Type 0
@@ -86,13 +87,20 @@ pub record Steps (who : Who) (e : Event) (s : Digest) (R : Digest → Move → T
   pub still : (d : Digest) → R d (move [] d)
   pub chain : (d : Digest) (a : Move) (f : Digest → Move) → R d a → R a.next (f a.next) → (a.rec ≡ None) ⊎ ((f a.next).rec ≡ None) → R d (followed a f)
   -- outputs, and changes that are no matter of transactions
-  pub speaks : (d : Digest) (outs : List TxOut) → are_spoken outs ≡ true → IsOwned d outs × AreSaid e s d outs → are_said e outs ≡ true → carry_last who d outs ≡ true → R d (perform outs d)
-  pub changes_dialogue : (d : Digest) (p : ℕ) (f : Dialogue → Dialogue) (m : Move) → IsChange e d p f → R (record d { arcs = with_dialogue d.arcs p f }) m → R d m
+  pub speaks : (d : Digest) (outs : List TxOut) → are_spoken outs ≡ true → IsOwned d outs × AreSaid e s d outs → are_said e outs ≡ true
+      → carry_last who d outs ≡ true → R d (perform outs d)
+  pub changes_dialogue : (d : Digest) (p : ℕ) (f : Dialogue → Dialogue) (m : Move) → IsChange e d p f
+      → R (record d { arcs = with_dialogue d.arcs p f }) m → R d m
   pub drops_arc : (d : Digest) (p : ℕ) (m : Move) → closes_at e p ≡ true → R (record d { arcs = without_arc d.arcs p }) m → R d m
-  pub notes_kept : (d : Digest) (ks : List Kept) (m : Move) → ((u : Aaid) → keeps_commit u ks ≡ true → keeps_commit u d.kept ≡ true) × (not_forgotten ks ≡ not_forgotten d.kept) → IsNotedBy e d ks → R (record d { kept = ks }) m → R d m
-  pub keeps : (d : Digest) (k : Kept) (f : KeptEvent) → ((u : Aaid) → (is_commit k.side && is_aaid u k.key.aaid) ≡ true → keeps_commit u d.kept ≡ true) × IsAmong d.kept k × StandsIn d.kept k × IsFound d.kept k × IsSettling e s d k f → R d (keep (settled k f) d)
+  pub notes_kept : (d : Digest) (ks : List Kept) (m : Move)
+      → ((u : Aaid) → keeps_commit u ks ≡ true → keeps_commit u d.kept ≡ true) × (not_forgotten ks ≡ not_forgotten d.kept)
+      → IsNotedBy e d ks → R (record d { kept = ks }) m → R d m
+  pub keeps : (d : Digest) (k : Kept) (f : KeptEvent)
+      → ((u : Aaid) → (is_commit k.side && is_aaid u k.key.aaid) ≡ true → keeps_commit u d.kept ≡ true) × IsAmong d.kept k
+      × StandsIn d.kept k × IsFound d.kept k × IsSettling e s d k f → R d (keep (settled k f) d)
   -- the current transaction
-  pub turns : (d : Digest) (c : Current) (f : TxEvent) → d.current ≡ Some c → s.current ≡ Some c → IsAsked e c f → IsPut f (seen who d.arcs c) → ((p : ℕ) → loses f p ≡ true → link_with d.arcs p ≡ Idle) → d.drawn ≡ s.drawn → AreAlike e d s → R d (turned who f d c)
+  pub turns : (d : Digest) (c : Current) (f : TxEvent) → d.current ≡ Some c → s.current ≡ Some c → IsAsked e c f
+      → IsPut f (seen who d.arcs c) → ((p : ℕ) → loses f p ≡ true → link_with d.arcs p ≡ Idle) → d.drawn ≡ s.drawn → AreAlike e d s → R d (turned who f d c)
   -- transactions begin
   pub begins : (d : Digest) (p : ℕ) → some_leads may_begin p d.arcs ≡ true → R d (begin_on who p d)
   pub roots : (d : Digest) (m : Move) → is_nil (phase_of d) ≡ true → may_root d ≡ true

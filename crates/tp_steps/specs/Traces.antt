@@ -51,7 +51,8 @@ pub record IsLinked (p : ℕ) (d : Digest) (m : Move) : Type 0 where
 abbrev pub sent_of : Mark → Mark → ℕ → List Out → List DialogueRecord
 sent_of x y p [] = []
 sent_of x y p (Out.Tell i ∷ outs) = sent_of x y p outs
-sent_of x y p (Out.Send a (PeerRecord.OnAssoc z w s r) ∷ outs) = if (a.node == p) && is_mark x z && is_mark y w then r ∷ sent_of x y p outs else sent_of x y p outs
+sent_of x y p (Out.Send a (PeerRecord.OnAssoc z w s r) ∷ outs) = if (a.node == p) && is_mark x z
+    && is_mark y w then r ∷ sent_of x y p outs else sent_of x y p outs
 sent_of x y p (Out.Send a _ ∷ outs) = sent_of x y p outs
 
 abbrev pub took_of : Mark → Mark → ℕ → Event → List DialogueRecord

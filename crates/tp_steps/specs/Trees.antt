@@ -68,9 +68,12 @@ IsBoundAs t q cs o = is_now t o ≡ true → (u : Current) → o ≡ Some u → 
 abbrev pub IsLoggedIn : Aaid → Digest → Option LogRec → Type 0
 IsLoggedIn t s None = Unit {0}
 IsLoggedIn t s (Some (LogRec.Boot n)) = ⊥
-IsLoggedIn t s (Some (LogRec.Ready n k a cs)) = is_aaid t k.aaid ≡ true → (c : Current) × (s.current ≡ Some c) × (k ≡ node_key c.key) × (superior_of c.key ≡ Some a) × (is_active c.phase ≡ true)
-IsLoggedIn t s (Some (LogRec.Heuristic n k u)) = is_aaid t k.aaid ≡ true → (c : Current) × (s.current ≡ Some c) × (k ≡ node_key c.key) × ((is_active c.phase || is_ready c.phase) ≡ true)
-IsLoggedIn t s (Some (LogRec.Commit n k a cs)) = is_aaid t k.aaid ≡ true → (c : Current) × (s.current ≡ Some c) × (k ≡ node_key c.key) × ((is_active c.phase || is_ready c.phase) ≡ true)
+IsLoggedIn t s (Some (LogRec.Ready n k a cs)) = is_aaid t k.aaid ≡ true
+    → (c : Current) × (s.current ≡ Some c) × (k ≡ node_key c.key) × (superior_of c.key ≡ Some a) × (is_active c.phase ≡ true)
+IsLoggedIn t s (Some (LogRec.Heuristic n k u)) = is_aaid t k.aaid ≡ true
+    → (c : Current) × (s.current ≡ Some c) × (k ≡ node_key c.key) × ((is_active c.phase || is_ready c.phase) ≡ true)
+IsLoggedIn t s (Some (LogRec.Commit n k a cs)) = is_aaid t k.aaid ≡ true
+    → (c : Current) × (s.current ≡ Some c) × (k ≡ node_key c.key) × ((is_active c.phase || is_ready c.phase) ≡ true)
 IsLoggedIn t s (Some (LogRec.Damage n k a u r cs)) = Unit {0}
 IsLoggedIn t s (Some (LogRec.End n k u)) = Unit {0}
 
@@ -103,17 +106,21 @@ pub record IsTreed (who : Who) (s : Digest) (fall : Bool) (t : Aaid) (p : ℕ) (
       → begins_of t (words_to p m.outs) + branch_of_tree t (key_at d.current p) ≤ branch_of_tree t (key_at m.next.current p)
   pub once : IsLate d → IsOld who t d → begins_of t (words_to p m.outs) + branch_of_tree t (key_at d.current p) ≤ 1
   -- the branch that is begun, or was with the peer, is with it as long as the tree is current
-  pub ids : (b : BranchId) → IsLate d → IsOld who t d → is_now t m.next.current ≡ true → IsBegunIn t b (words_to p m.outs) ⊎ (key_at d.current p ≡ Some (t, b)) → key_at m.next.current p ≡ Some (t, b)
+  pub ids : (b : BranchId) → IsLate d → IsOld who t d → is_now t m.next.current ≡ true
+      → IsBegunIn t b (words_to p m.outs) ⊎ (key_at d.current p ≡ Some (t, b)) → key_at m.next.current p ≡ Some (t, b)
   pub active : IsLate d → IsOld who t d → suc 0 ≤ begins_of t (words_to p m.outs) → is_now t d.current ≡ true → is_active (phase_of d) ≡ true
   -- the transaction of the tree
-  pub key : IsLate d → IsOld who t d → (c u : Current) → d.current ≡ Some c → m.next.current ≡ Some u → is_now t d.current ≡ true → is_now t m.next.current ≡ true → u.key ≡ c.key
+  pub key : IsLate d → IsOld who t d → (c u : Current) → d.current ≡ Some c → m.next.current ≡ Some u → is_now t d.current ≡ true
+      → is_now t m.next.current ≡ true → u.key ≡ c.key
   pub moves : IsLate d → IsOld who t d → is_now t d.current ≡ true → is_now t m.next.current ≡ true → may_move (phase_of d) (phase_of m.next) ≡ true
   pub children : IsLate d → IsOld who t d → is_now t d.current ≡ true → is_now t m.next.current ≡ true → is_active (phase_of d) ≡ false
       → children_in (branches_now m.next.current) ≡ children_in (branches_now d.current)
   pub logs : IsLoggedIn t s m.rec
   pub binds : IsLate d → is_old who d t.mark ≡ true → IsBoundIn t m.rec m.next.current
-  pub commits : IsLate d → is_now t m.next.current ≡ true → is_committing (phase_of m.next) ≡ true → ((is_now t d.current && is_committing (phase_of d)) || commits_tree t m.rec) ≡ true
-  pub rolling : IsLate d → is_now t m.next.current ≡ true → is_rolling (phase_of m.next) ≡ true → ((is_now t d.current && is_rolling (phase_of d)) || (is_now t s.current && fall)) ≡ true
+  pub commits : IsLate d → is_now t m.next.current ≡ true → is_committing (phase_of m.next) ≡ true
+      → ((is_now t d.current && is_committing (phase_of d)) || commits_tree t m.rec) ≡ true
+  pub rolling : IsLate d → is_now t m.next.current ≡ true → is_rolling (phase_of m.next) ≡ true
+      → ((is_now t d.current && is_rolling (phase_of d)) || (is_now t s.current && fall)) ≡ true
   -- what the user is told
   pub tells_commit : out_tells is_commit_told m.outs ≡ true → (c : Current) × (s.current ≡ Some c) × ((is_committing c.phase || is_commit_rec m.rec) ≡ true)
   pub tells_rollback : out_tells is_rollback_told m.outs ≡ true → (c : Current) × (s.current ≡ Some c) × ((is_rolling c.phase || fall) ≡ true)

@@ -115,14 +115,16 @@ pub record Turns (e : TxEvent) (s : Transaction) (R : Transaction → Turn → T
   -- chains
   pub still : (t : Transaction) → R t (turn [] t)
   pub first : (t u : Transaction) (outs : List TxOut) (a : Turn) → R t (turn outs u) → R u a → R t (before outs a)
-  pub chain : (t : Transaction) (a : Turn) (f : Transaction → Turn) → R t a → R a.next (f a.next) → (a.rec ≡ None) ⊎ ((f a.next).rec ≡ None) → R t (and_then a f)
+  pub chain : (t : Transaction) (a : Turn) (f : Transaction → Turn) → R t a → R a.next (f a.next) → (a.rec ≡ None) ⊎ ((f a.next).rec ≡ None)
+      → R t (and_then a f)
   -- notes
   pub tells : (t : Transaction) (i : Indication) → is_outcome_told i ≡ false → R t (turn (TxOut.Tell i ∷ []) t)
   pub notes_prepare : hears_prepare e ≡ true → hears_close e s ≡ true → R s (turn (TxOut.Tell Indication.Prepare ∷ []) (record s { told_prepare = true }))
   pub notes_done : e ≡ TxEvent.User Request.Done → R s (turn [] (record s { owes = false }))
   pub notes_end : (p : ℕ) → e ≡ TxEvent.Took p DialogueRecord.DeferEnd → R s (turn (TxOut.Tell (Indication.DeferEnd p) ∷ []) (record s { up_ends = true }))
   pub notes_rollback : hears_rollback e s ≡ true → hears_close e s ≡ true → R s (turn [] (record s { superior_rolled = true }))
-  pub defers_end : (p : ℕ) → e ≡ TxEvent.User (Request.DeferEnd p) → R s (turn (TxOut.Carry p DialogueRecord.DeferEnd ∷ []) (with_row s p (λ r. record r { ends = true })))
+  pub defers_end : (p : ℕ) → e ≡ TxEvent.User (Request.DeferEnd p)
+      → R s (turn (TxOut.Carry p DialogueRecord.DeferEnd ∷ []) (with_row s p (λ r. record r { ends = true })))
   pub defers_grant : (p : ℕ) → e ≡ TxEvent.User (Request.DeferGrant p) → R s (turn (TxOut.Carry p DialogueRecord.DeferGrant ∷ []) s)
   pub prepares : (p : ℕ) → R s (turn (TxOut.Carry p DialogueRecord.Prepare ∷ []) (with_branch s p (λ b. record b { prepared = true })))
   pub asks : e ≡ TxEvent.User Request.Commit → is_active s.phase ≡ true → s.asked ≡ false → (is_under s.key ≡ true → s.told_prepare ≡ true) → R s (ask_commit s)
@@ -134,11 +136,15 @@ pub record Turns (e : TxEvent) (s : Transaction) (R : Transaction → Turn → T
   pub closes_left : (p : ℕ) → e ≡ TxEvent.Took p DialogueRecord.LeftEnd → R s (turn (TxOut.Close p ∷ []) (with_row s p row_dead))
   pub gives_up : (p : ℕ) (r : Row) → e ≡ TxEvent.GiveUp p → is_committing s.phase ≡ true → find_row s.rows p ≡ Some r → R s (shut_given_up p r s)
   -- branches; a leaving branch may have lost its association just before
-  pub counts : (p : ℕ) → e ≡ TxEvent.Took p DialogueRecord.Ready → is_active s.phase ≡ true → row_holds s.rows p (λ b. b.prepared && not b.counted) ≡ true → R s (count_branch p s)
-  pub ends_done : (p : ℕ) (r : Report) → e ≡ TxEvent.Took p (DialogueRecord.Done r) → is_committing s.phase ≡ true → row_holds s.rows p (λ b. not b.ended && not b.left) ≡ true → R s (end_branch p r s)
-  pub ends_replied : (b : BranchId) (w : Row) (r : Report) → e ≡ TxEvent.Reply b (RecState.Done r) → find_row_by_id s.rows b ≡ Some w → is_open_in_commit s w.branch ≡ true
+  pub counts : (p : ℕ) → e ≡ TxEvent.Took p DialogueRecord.Ready → is_active s.phase ≡ true
+      → row_holds s.rows p (λ b. b.prepared && not b.counted) ≡ true → R s (count_branch p s)
+  pub ends_done : (p : ℕ) (r : Report) → e ≡ TxEvent.Took p (DialogueRecord.Done r) → is_committing s.phase ≡ true
+      → row_holds s.rows p (λ b. not b.ended && not b.left) ≡ true → R s (end_branch p r s)
+  pub ends_replied : (b : BranchId) (w : Row) (r : Report) → e ≡ TxEvent.Reply b (RecState.Done r) → find_row_by_id s.rows b ≡ Some w
+      → is_open_in_commit s w.branch ≡ true
       → R s (end_branch w.branch.peer.node r s)
-  pub ends_rolled : (p : ℕ) (r : Report) → e ≡ TxEvent.Took p (DialogueRecord.RolledBack r) → is_rolling s.phase ≡ true → row_holds s.rows p (λ b. not b.ended && not b.left) ≡ true → R s (end_branch p r s)
+  pub ends_rolled : (p : ℕ) (r : Report) → e ≡ TxEvent.Took p (DialogueRecord.RolledBack r) → is_rolling s.phase ≡ true
+      → row_holds s.rows p (λ b. not b.ended && not b.left) ≡ true → R s (end_branch p r s)
   pub leaves_below : (p : ℕ) (w : DialogueRecord) (t : Transaction) → e ≡ TxEvent.Took p w → is_left_word w ≡ true → (t ≡ s) ⊎ (t ≡ with_row s p row_dead)
       → is_active t.phase ≡ true → R t (branch_left p t)
   pub leaves_rolling : (p : ℕ) (w : DialogueRecord) (t : Transaction) → e ≡ TxEvent.Took p w → is_left_word w ≡ true → (t ≡ s) ⊎ (t ≡ with_row s p row_dead)

@@ -50,7 +50,8 @@ holds_at ks n g = elim (slice_get ks n) [ None ↦ false | Some k ↦ g k.0 ]
 
 abbrev pub may_say : List BranchKey → Deeds → ℕ → Bool → DialogueRecord → Bool
 may_say ks g n v DialogueRecord.Ready = not v
-may_say ks g n v (DialogueRecord.Done r) = holds_at ks n g.committed && (not (is_report_none r) || holds_at ks n g.completed) && (is_report_none r || holds_at ks n g.damaged) && holds_at ks n (g.told Outcome.Commit r)
+may_say ks g n v (DialogueRecord.Done r) = holds_at ks n g.committed && (not (is_report_none r) || holds_at ks n g.completed)
+    && (is_report_none r || holds_at ks n g.damaged) && holds_at ks n (g.told Outcome.Commit r)
 may_say ks g n v DialogueRecord.Rollback = holds_at ks n g.rolled
 may_say ks g n v (DialogueRecord.RolledBack r) = holds_at ks n g.rolled && holds_at ks n (g.told Outcome.Rollback r)
 may_say ks g n v DialogueRecord.Left = not v && holds_at ks n g.left
@@ -75,7 +76,8 @@ pub record Tells (g : Deeds) (e : TxEvent) (s t : Transaction) (a : Turn) : Type
   pub tells : (u : Outcome) (r : Report) → asks_tell (is_complete u r) a.outs ≡ true → g.told u r (aaid_of t.key) ≡ true
 
 pub record Rises (e : TxEvent) (s : Transaction) (p : ℕ) (t : Transaction) (a : Turn) : Type 0 where
-  pub words : (ks : List BranchKey) (g : Deeds) (n : ℕ) (v : Bool) → id_at t p ≡ None → HasPlace ks n t p → Votes v t p → Tells g e s t a → each_up (may_say ks g) n v (spoken true p a.outs) ≡ true
+  pub words : (ks : List BranchKey) (g : Deeds) (n : ℕ) (v : Bool) → id_at t p ≡ None → HasPlace ks n t p → Votes v t p → Tells g e s t a
+      → each_up (may_say ks g) n v (spoken true p a.outs) ≡ true
   pub votes : (v : Bool) → Votes v t p → stays true p a.outs ≡ true → Votes (voting_from v (spoken true p a.outs)) a.next p
 
 pub record IsRising (e : TxEvent) (s : Transaction) (p : ℕ) (t : Transaction) (a : Turn) : Type 0 where

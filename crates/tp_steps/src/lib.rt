@@ -25,7 +25,8 @@ ghost use Rattle.tp_steps.specs.Outspoken.{IsOutspoken, SaysLeft};
 /// many ends as transactions of the superior end, and at most one Begin more than branches that closed.
 pub fn words_of_events()
     ensures turn { (e : TxEvent) (s : Transaction) (p : ℕ) → IsPut e s → IsFair e s p s (transacted e s) }
-    ensures node { (who : Who) (d : Digest) (e : Event) (p : ℕ) (sup fall : Bool) (shut : ℕ) → IsLate d → refusal who d e ≡ None → Reads who e p sup fall shut (prelude who d e)
+    ensures node { (who : Who) (d : Digest) (e : Event) (p : ℕ) (sup fall : Bool) (shut : ℕ) → IsLate d → refusal who d e ≡ None
+        → Reads who e p sup fall shut (prelude who d e)
         → IsHeard p sup fall shut (prelude who d e) (prelude who d e) (action who d e) }
 {}
 
@@ -36,7 +37,8 @@ pub fn words_of_events()
 /// Left in rolling. A branch that an event begins starts with none of these marks.
 pub fn marks_of_branches()
     ensures turn { (e : TxEvent) (s : Transaction) → IsPut e s → IsRowed e s s (transacted e s) }
-    ensures node { (who : Who) (d : Digest) (e : Event) → IsLate d → refusal who d e ≡ None → IsBranched who e (prelude who d e) (prelude who d e) (action who d e) }
+    ensures node { (who : Who) (d : Digest) (e : Event) → IsLate d → refusal who d e ≡ None
+        → IsBranched who e (prelude who d e) (prelude who d e) (action who d e) }
 {}
 
 // Promise 12.4: What a transaction takes is heeded: a vote that is in phase finds it active and is
@@ -72,7 +74,8 @@ pub fn turns_are_in_the_log()
     ensures turn { (e : TxEvent) (s : Transaction) → IsPut e s → IsUndecided s → IsTold s (transacted e s) }
     ensures node { (who : Who) (f : TxEvent) (d : Digest) (c : Current) → d.current ≡ Some c → IsPut f (seen who d.arcs c) → IsUndecided (seen who d.arcs c)
         → current_after (turned who f d c).rec (recovered_current d.current) ≡ recovered_current (turned who f d c).next.current }
-    ensures apart { (who : Who) (f : TxEvent) (d : Digest) (c : Current) → d.current ≡ Some c → IsPut f (seen who d.arcs c) → IsUndecided (seen who d.arcs c) → IsApart d → IsApart (turned who f d c).next }
+    ensures apart { (who : Who) (f : TxEvent) (d : Digest) (c : Current) → d.current ≡ Some c → IsPut f (seen who d.arcs c)
+        → IsUndecided (seen who d.arcs c) → IsApart d → IsApart (turned who f d c).next }
     ensures kept { (d : Digest) (k : Kept) (f : KeptEvent) → IsApart d → IsAmong d.kept k
         → current_after (keep (settled k f) d).rec (recovered_current d.current) ≡ recovered_current (keep (settled k f) d).next.current }
 {}

@@ -43,10 +43,13 @@ keyed more (n ∷ a ∷ b ∷ ws) = both pair (both pair (any_short n) (key a b)
 abbrev pub log_reader : LogKind → List (List ℕ) → Form LogWords
 log_reader LogKind.Boot = one_word LogWords.Boot long
 log_reader LogKind.Ready = λ ws. with (λ (p : (ℕ × (Aaid × Option BranchId)) × Unit {0}). LogWords.Ready p.0.0 (made_key p.0.1)) (keyed (no_words tt) ws)
-log_reader LogKind.Heuristic = λ ws. with (λ (p : (ℕ × (Aaid × Option BranchId)) × Outcome). LogWords.Heuristic p.0.0 (made_key p.0.1) p.1) (keyed (one_word same outcome) ws)
+log_reader LogKind.Heuristic = λ ws. with (λ (p : (ℕ × (Aaid × Option BranchId)) × Outcome). LogWords.Heuristic p.0.0 (made_key p.0.1) p.1)
+    (keyed (one_word same outcome) ws)
 log_reader LogKind.Commit = λ ws. with (λ (p : (ℕ × (Aaid × Option BranchId)) × Unit {0}). LogWords.Commit p.0.0 (made_key p.0.1)) (keyed (no_words tt) ws)
-log_reader LogKind.Damage = λ ws. with (λ (p : (ℕ × (Aaid × Option BranchId)) × (Outcome × Report)). LogWords.Damage p.0.0 (made_key p.0.1) p.1.0 p.1.1) (keyed (two_words pair outcome report) ws)
-log_reader LogKind.End = λ ws. with (λ (p : (ℕ × (Aaid × Option BranchId)) × Outcome). LogWords.End p.0.0 (made_key p.0.1) p.1) (keyed (one_word same outcome) ws)
+log_reader LogKind.Damage = λ ws. with
+    (λ (p : (ℕ × (Aaid × Option BranchId)) × (Outcome × Report)). LogWords.Damage p.0.0 (made_key p.0.1) p.1.0 p.1.1) (keyed (two_words pair outcome report) ws)
+log_reader LogKind.End = λ ws. with (λ (p : (ℕ × (Aaid × Option BranchId)) × Outcome). LogWords.End p.0.0 (made_key p.0.1) p.1)
+    (keyed (one_word same outcome) ws)
 
 abbrev pub read_log : List (List ℕ) → Form LogWords
 read_log ws = by_kind log_kind_text log_kind_list log_reader ws
@@ -175,7 +178,8 @@ read_state_line (n ∷ p ∷ k ∷ c ∷ []) = elim (is_name (codes "kept") k) [
 read_state_line _ = Wrong
 
 abbrev pub read_send : List (List ℕ) → Form OutLine
-read_send (k ∷ a ∷ b ∷ ws) = both (λ (q : (ℕ × ℕ) × ℕ) r. OutLine.Send q.0.0 q.0.1 q.1 r) (both pair (both pair (number k) (number a)) (number b)) (read_sent ws)
+read_send (k ∷ a ∷ b ∷ ws) = both (λ (q : (ℕ × ℕ) × ℕ) r. OutLine.Send q.0.0 q.0.1 q.1 r)
+    (both pair (both pair (number k) (number a)) (number b)) (read_sent ws)
 read_send _ = Wrong
 
 abbrev pub out_reader : OutKind → List (List ℕ) → Form OutLine
