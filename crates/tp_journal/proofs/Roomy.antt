@@ -1,7 +1,5 @@
 -- A gathering as a keeper that writes and cuts after its closing gate: what it says of a settle.
 use Rattle.std.proofs.Common.{◌≡◌, inl, inr, ◌+◌, ℕ, Option, Some, None, Result, Ok, Err, List, length, map, take, refl, sym, ap, ◌∙◌, subst, arith}
-use Rattle.std.specs.Prelude.{OnOk, OnErr}
-use Rattle.tp_outside.specs.Faults.{HasRisen}
 use Rattle.tp_outside.specs.Story.{Story}
 use Rattle.tp_journal.specs.declared.faults.ForceFault.{ForceFault}
 use Rattle.tp_journal.specs.declared.receipts.Receipt.{Receipt}

@@ -1,9 +1,9 @@
-use Rattle.std.proofs.Common.{◌≡◌, ◌≤◌, ◌+◌, ◌-◌, ℕ, List, None, Some, rules, arith, refl, sym, ap, ◌∙◌, subst}
+use Rattle.std.proofs.Common.{◌≡◌, ◌+◌, ◌-◌, ℕ, None, Some, rules, arith, refl, sym, ap, ◌∙◌, subst}
 use Rattle.tp_outside.specs.Faults.{HasRisen}
 use Rattle.tp_journal.specs.Log.{place_behind}
 use Rattle.tp_journal.specs.Told.{LeavesFront}
 use Rattle.tp_journal.specs.Started.{Started}
-use Rattle.tp_journal.specs.Gathering.{Gathered, IsGathered, Stays, gathered_of, bodies_settled}
+use Rattle.tp_journal.specs.Gathering.{Gathered, Stays, gathered_of, bodies_settled}
 use Rattle.tp_journal.proofs.Gathered.{stays_still, stays_on, goes_on, waits_fit, gate_here}
 use Rattle.tp_journal.proofs.gathering.Gathering.make_room.Goals as goal
 
