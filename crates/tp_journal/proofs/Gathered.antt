@@ -8,13 +8,14 @@ use Rattle.tp_journal.specs.Log.{IsBody, counted, blocks, place_behind, settled_
 use Rattle.tp_journal.specs.Records.{HasText, text, texts, marks, bodies_of, wide_of, recs_of, AreRecords}
 use Rattle.tp_journal.specs.Stops.{body_piece, with_gate}
 use Rattle.tp_journal.specs.Started.{Started, IsStarted, IsKept}
-use Rattle.tp_journal.specs.Told.{IsOn, LeavesOnly, LeavesNow, RestsAt}
+use Rattle.tp_journal.specs.Told.{IsOn, LeavesOnly, LeavesNow, LeavesFront, RestsAt}
 use Rattle.tp_journal.specs.Journals.{bodies_in}
-use Rattle.tp_journal.specs.Gathering.{Gathered, IsGathered, bodies_settled, bodies_noted, gathered_of}
+use Rattle.tp_journal.specs.Gathering.{Gathered, IsGathered, Stays, bodies_settled, bodies_noted, gathered_of}
 use Rattle.tp_journal.proofs.Appending.{blocks-append, blocks-push}
 use Rattle.tp_journal.proofs.Exactly.{has_gate}
 use Rattle.tp_journal.proofs.Forcing.{last_at_rest}
-use Rattle.tp_journal.proofs.Kept.{at_rest, kept_on}
+use Rattle.tp_journal.proofs.Fronts.{front_still, still_rests}
+use Rattle.tp_journal.proofs.Kept.{at_rest, kept_on, kept_leaves}
 use Rattle.tp_journal.proofs.SettledBytes.{opened_all}
 use Rattle.tp_journal.proofs.Sizes.{texts_are}
 use Rattle.tp_journal.proofs.Unmoved.{still}
@@ -218,3 +219,38 @@ module _ {D : Type 0} (told told_now : Option Story) (g : Gathered D) (waits : L
   -- the disk has failed
   pub failed_now : (disk : D) (faults : ℕ) → IsGathered told_now (record { journal = record (g.journal) { disk = disk; shut = Some faults }; settled = g.settled }) waits
   failed_now disk faults = record { small = is.small; place = is.place; each = is.each; within = is.within; kept = tt; text = is.text }
+
+-- ---- what is after the closing gate changes
+
+module _ {D : Type 0} (told : D → Option Story) (faults : D → ℕ) (g : Gathered D) (waits : List ℕ) (is : IsGathered (told g.journal.disk) g waits) where
+  -- nothing does
+  pub stays_still : (now : Gathered D) → now ≡ g → Stays told faults g now
+  stays_still now same = subst (Stays told faults g) (sym same) record {
+    tells = record { wide = refl; list = refl; gate = refl; faults = omega arith };
+    settled = refl;
+    moments = λ open_now. kept_leaves (told g.journal.disk) (told g.journal.disk) (place_behind (bodies_settled g)) (bodies_settled g) g.journal.shut open_now is.kept (λ none. none) (front_still _ _ _ refl);
+    front = front_still _ _ _ refl;
+    idle = λ n shut. refl;
+  }
+
+  module _ (open_now : g.journal.shut ≡ None) (disk : D) (front : LeavesFront (place_behind (bodies_settled g) + 1) (told g.journal.disk) (told disk)) (untold : told g.journal.disk ≡ None → told disk ≡ None)
+      (more : faults g.journal.disk ≤ faults disk) where
+    pub stays_on : (shut : Option ℕ) → Stays told faults g (record { journal = record (g.journal) { disk = disk; shut = shut }; settled = g.settled })
+    stays_on shut = record {
+      tells = record { wide = refl; list = refl; gate = refl; faults = more };
+      settled = refl;
+      moments = λ open_now. kept_leaves (told g.journal.disk) (told disk) (place_behind (bodies_settled g)) (bodies_settled g) g.journal.shut open_now is.kept untold front;
+      front = front;
+      idle = λ n shut. absurd (cc (open_now, shut));
+    }
+
+    pub goes_on : ((file : List ℕ) → IsOn (told g.journal.disk) file → (now : List ℕ) × IsOn (told disk) now) → IsGathered (told disk) (record { journal = record (g.journal) { disk = disk }; settled = g.settled }) waits
+    goes_on on = record {
+      small = is.small;
+      place = is.place;
+      each = is.each;
+      within = is.within;
+      kept = kept_on (told g.journal.disk) (told disk) (place_behind (bodies_settled g)) (place_behind (bodies_settled g)) (bodies_settled g) (bodies_settled g) g.journal.shut is.kept open_now untold
+          (λ rests. let now = on rests.file rests.on in still_rests (told g.journal.disk) (told disk) (place_behind (bodies_settled g)) (bodies_settled g) front rests now.0 now.1);
+      text = is.text;
+    }

@@ -11,6 +11,7 @@ pub mod Exactly
 pub mod Exclusion
 pub mod Finishing
 pub mod Forcing
+pub mod Fronts
 pub mod Formats
 pub mod Gathered
 pub mod Generated
@@ -19,6 +20,7 @@ pub mod Kept
 pub mod Noting
 pub mod OneMore
 pub mod RecordBodies
+pub mod Roomy
 pub mod Openings
 pub mod SettledBytes
 pub mod Settling

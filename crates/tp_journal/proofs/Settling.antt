@@ -58,10 +58,10 @@ module _ {D : Type 0} (faults : D → ℕ) (told : D → Option Story) (old new 
 
   -- ---- all that is noted is settled
 
-  on_is : bodies_on (gathered_standing faults told old) ≡ bodies_settled old
+  pub on_is : bodies_on (gathered_standing faults told old) ≡ bodies_settled old
   on_is = ap (λ l. bodies_of old.journal.wide (take old.settled l)) (recs_told old.journal.wide old.journal.list)
 
-  kept_is : bodies_kept (gathered_standing faults told old) ≡ bodies_in old.journal
+  pub kept_is : bodies_kept (gathered_standing faults told old) ≡ bodies_in old.journal
   kept_is = ap (bodies_of old.journal.wide) (recs_told old.journal.wide old.journal.list)
 
   module _ (tells : Tells old.journal (faults old.journal.disk) new.journal (faults new.journal.disk)) (untold : told old.journal.disk ≡ None → told new.journal.disk ≡ None)

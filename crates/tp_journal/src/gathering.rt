@@ -2,13 +2,14 @@
 ghost use Rattle.std.specs.Prelude.{◌≡◌, ◌≤◌, ◌<◌, ◌++◌, ◌+◌, ◌∷◌, [], ℕ, List, length, vec_len, Some, None, IfOk, IfErr, OnOk, OnErr};
 ghost use Rattle.tp_outside.specs.Story.{Story};
 ghost use Rattle.tp_journal.specs.Log.{blocks, place_behind, settled_bytes, StandsFor, StandsForEither};
-ghost use Rattle.tp_journal.specs.Told.{IsOn, LeavesOnly, LeavesNow};
+ghost use Rattle.tp_journal.specs.Told.{IsOn, LeavesOnly, LeavesNow, LeavesFront};
 ghost use Rattle.tp_journal.specs.Started.{IsKept, KeepsDisk};
 ghost use Rattle.tp_journal.specs.Stops.{body_piece};
 ghost use Rattle.tp_journal.specs.Records.{HasText, text, wide_of};
 ghost use Rattle.tp_journal.specs.Journals.{bodies_in, standing_of, ComesInOrder, Tells};
 ghost use Rattle.tp_journal.specs.Keeping.{Forces, receipt_of};
-ghost use Rattle.tp_journal.specs.Gathering.{bodies_settled, bodies_noted, IsSettled, RefusesSettle};
+ghost use Rattle.tp_journal.specs.Settling.{SettlesTo};
+ghost use Rattle.tp_journal.specs.Gathering.{bodies_settled, bodies_noted, gathered_standing, IsSettled, IsShutBy, RefusesSettle, Stays};
 
 use crate::lengths::text_len;
 use crate::log::{Log, MOST_BYTES};
@@ -19,7 +20,13 @@ use std::alloc::{AllocError, Global};
 use std::marker::Model;
 use tp_logrec::LogRec;
 use tp_names::{NoMemory, Octets};
-use tp_outside::Disk;
+use tp_outside::{Disk, Failed};
+
+// As many zeros are written after the closing gate, where the file has no room for what comes.
+const AHEAD: usize = 65_536;
+
+// A log that grows by less than this needs no zeros.
+const LITTLE: u64 = 4_096;
 
 /// A journal whose records are noted, and the memory in which a record is written before it waits.
 #[derive(Drop)]
@@ -34,6 +41,10 @@ pub struct Gathering<D: Disk> {
     // The log from the closing gate on the disk on: the noted records, each after an open gate, and a closed gate.
     waits: Vec<u8>,
     piece: Octets,
+    // Once the closing gate is at this place, room is made for what comes.
+    room: u64,
+    // Are there zeros after the log?
+    ahead: bool,
 }
 
 impl<D: Disk> Model for Gathering<D> {
@@ -74,6 +85,11 @@ fn put_behind(
     Ok(())
 }
 
+// What is written after the closing gate.
+fn zeros_ahead(alloc: Global) -> Result<Vec<u8>, AllocError> {
+    vec![in alloc; 0u8; AHEAD]
+}
+
 impl<D: Disk> Gathering<D> {
     /// A journal that notes from now on.
     pub fn new(alloc: Global, journal: Journal<D>) -> Result<Gathering<D>, (Journal<D>, NoMemory)>
@@ -94,6 +110,8 @@ impl<D: Disk> Gathering<D> {
             settled,
             waits: waits.into_vec(),
             piece,
+            room: gate + LITTLE,
+            ahead: false,
         })
     }
 
@@ -110,6 +128,8 @@ impl<D: Disk> Gathering<D> {
             settled: _,
             waits: _,
             piece,
+            room: _,
+            ahead: _,
         } = self;
         Journal::of_log(Log::of_parts(disk, shelf, gate, shut), piece)
     }
@@ -209,6 +229,8 @@ impl<D: Disk> Gathering<D> {
             → IsOn (D.told self.new.journal.disk) (settled_bytes (place_behind (bodies_settled self.old)) (bodies_noted self.old) file)) }
         // A crash after `Ok` leaves all records.
         ensures last { OnOk result (LeavesNow (λ file. StandsFor file (bodies_in self.old.journal)) (D.told self.new.journal.disk)) }
+        // Promise 25.5, part 2
+        ensures front { LeavesFront (place_behind (bodies_settled self.old)) (D.told self.old.journal.disk) (D.told self.new.journal.disk) }
     {
         if let Some(faults) = self.shut {
             return Err(ForceFault::Shut { faults });
@@ -228,11 +250,89 @@ impl<D: Disk> Gathering<D> {
         self.waits[0] = 0;
         Ok(())
     }
+
+    // Promise 3.24: Where zeros are written after the closing gate, and where they are cut off, an
+    //   image at every moment is the log with the records that were forced, and its bytes up to
+    //   the closing gate are as they were
+    /// Where the log has come to the end of what is written of the file, writes zeros after its closing gate, so that the file does
+    /// not grow with each settle that follows. Without memory for them it does nothing.
+    pub fn make_room(&mut self) -> Result<(), Failed>
+        ensures stays { Stays D.told D.fault_count self.old self.new }
+        ensures ok { OnOk result (self.new.journal.shut ≡ self.old.journal.shut) }
+        ensures fails { OnErr result (IsShutBy self.old.journal (D.fault_count self.old.journal.disk) self.new.journal (D.fault_count self.new.journal.disk)) }
+    {
+        if self.shut.is_some() || self.gate < self.room {
+            return Ok(());
+        }
+        self.room = self.gate + 1;
+        let long = self.waits.len() - 1;
+        if long >= AHEAD {
+            return Ok(());
+        }
+        let place = self.gate - long as u64;
+        let alloc = *self.waits.allocator();
+        let Ok(zeros) = zeros_ahead(alloc) else {
+            return Ok(());
+        };
+        let Ok(()) = tape::widen(&mut self.disk, place, &zeros) else {
+            self.shut = Some(self.disk.faults());
+            return Err(Failed);
+        };
+        self.room = place + AHEAD as u64;
+        self.ahead = true;
+        Ok(())
+    }
+
+    // Promise 3.24, part 2
+    /// Cuts off what was written after the closing gate.
+    pub fn trim(&mut self) -> Result<(), Failed>
+        ensures stays { Stays D.told D.fault_count self.old self.new }
+        ensures ok { OnOk result (self.new.journal.shut ≡ self.old.journal.shut) }
+        ensures fails { OnErr result (IsShutBy self.old.journal (D.fault_count self.old.journal.disk) self.new.journal (D.fault_count self.new.journal.disk)) }
+    {
+        if self.shut.is_some() || !self.ahead {
+            return Ok(());
+        }
+        self.ahead = false;
+        let place = self.gate - (self.waits.len() - 1) as u64;
+        let Ok(()) = tape::trim(&mut self.disk, place) else {
+            self.shut = Some(self.disk.faults());
+            return Err(Failed);
+        };
+        Ok(())
+    }
+
+    // Settles once there is room.
+    fn settle_ahead(&mut self) -> Result<(), ForceFault>
+        ensures { SettlesTo (gathered_standing D.fault_count D.told self.old) result (gathered_standing D.fault_count D.told self.new) }
+    {
+        let Ok(()) = self.make_room() else {
+            let faults = self.disk.faults();
+            return Err(ForceFault::DiskFault { faults });
+        };
+        Gathering::settle(self)
+    }
+
+    // Settles, and cuts off what was written after the log.
+    fn settle_last(&mut self) -> Result<(), ForceFault>
+        ensures { SettlesTo (gathered_standing D.fault_count D.told self.old) result (gathered_standing D.fault_count D.told self.new) }
+    {
+        Gathering::settle(self)?;
+        let Ok(()) = self.trim() else {
+            let faults = self.disk.faults();
+            return Err(ForceFault::DiskFault { faults });
+        };
+        Ok(())
+    }
 }
 
 impl<D: Disk> Settles for Gathering<D> {
-    fn settle(&mut self) -> Result<(), ForceFault> {
-        Gathering::settle(self)
+    fn settle(&mut self, last: bool) -> Result<(), ForceFault> {
+        if last {
+            self.settle_last()
+        } else {
+            self.settle_ahead()
+        }
     }
 }
 

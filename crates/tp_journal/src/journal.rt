@@ -4,7 +4,7 @@ ghost use Rattle.std.specs.List.{AllByRecursion};
 ghost use Rattle.tp_outside.specs.Faults.{HasRisen};
 ghost use Rattle.tp_outside.specs.Story.{Story};
 ghost use Rattle.tp_journal.specs.Log.{most_bytes, StandsForEither};
-ghost use Rattle.tp_journal.specs.Told.{IsOn, LeavesOnly};
+ghost use Rattle.tp_journal.specs.Told.{IsOn, LeavesOnly, LeavesFront};
 ghost use Rattle.tp_journal.specs.Start.{Starts, RefusesStart, SyncsAlone};
 ghost use Rattle.tp_journal.specs.Started.{IsStarted, KeepsDisk, KeepsDiskInReplace};
 ghost use Rattle.tp_logrec.specs.Order.{all_follow, brief};
@@ -99,6 +99,9 @@ impl<D: Disk> Journal<D> {
         //   room for the record, and a journal that is shut answers nothing else
         ensures order { IfErr result (ComesInOrder self.old rec.now) }
         ensures untouched { IfErr result (KeepsDisk self.old.disk self.new.disk) }
+        // Promise 25.5: At every moment of a force, and of a settle, an image has the bytes before
+        //   the log's closing gate as they were
+        ensures front { LeavesFront self.old.gate (D.told self.old.disk) (D.told self.new.disk) }
     {
         self.check(rec)?;
         let copy = rec.copy(alloc)?;
@@ -131,6 +134,7 @@ impl<D: Disk> Journal<D> {
         ensures forces { Forces (standing_of self.old (D.fault_count self.old.disk) (D.told self.old.disk) (D.fuse self.old.disk)) rec.now (receipt_of rec.now result) (standing_of self.new (D.fault_count self.new.disk) (D.told self.new.disk) (D.fuse self.new.disk)) }
         ensures order { IfErr result (ComesInOrder self.old rec.now) }
         ensures untouched { IfErr result (KeepsDisk self.old.disk self.new.disk) }
+        ensures front { LeavesFront self.old.gate (D.told self.old.disk) (D.told self.new.disk) }
     {
         if let Some(faults) = self.log.shut() {
             return Err(ForceFault::Shut { faults });

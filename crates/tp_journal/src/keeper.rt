@@ -60,14 +60,15 @@ pub trait Keeper {
         ensures { result ≡ (standing self.now).wide };
 }
 
-// Promise 3.23 [tp_journal/specs/Settling.antt]: A keeper that notes says of a settle what 3.21 and
-//   3.22 say, also to who knows of it no more than the trait; no record that is noted changes what
-//   is on the disk
+// Promise 3.23 [tp_journal/specs/Settling.antt]: A keeper that notes says of the images of a settle
+//   and of its faults what 3.21 and 3.22 say, also to who knows of it no more than the trait; no
+//   record that is noted changes what is on the disk
 /// A keeper that runs ahead of its disk: what it is given is noted, and all that is noted is forced at once.
 pub trait Settles: Keeper {
     ghost use Rattle.tp_journal.specs.Settling.{SettlesTo};
 
     /// Forces all that is noted, and wants no memory for it. Where the disk fails the keeper is shut, and tells what was noted.
-    fn settle(&mut self) -> Result<(), ForceFault>
+    /// What it has written after its log it cuts off where this is the last settle.
+    fn settle(&mut self, last: bool) -> Result<(), ForceFault>
         ensures { SettlesTo (Self.standing self.old) result (Self.standing self.new) };
 }

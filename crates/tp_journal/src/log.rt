@@ -7,7 +7,7 @@ ghost use Rattle.tp_journal.specs.Start.{Starts, RefusesStart, SyncsAlone};
 ghost use Rattle.tp_journal.specs.Started.{IsStarted, Appends, RefusesAppend, Replaces, RefusesReplace, KeepsDisk, KeepsDiskInReplace};
 ghost use Rattle.tp_outside.specs.FuseDisk.{OnFuse};
 ghost use Rattle.tp_journal.specs.Stops.{body_piece, Opens, StopsForcing};
-ghost use Rattle.tp_journal.specs.Told.{IsOn, LeavesOnly, IsTextOf};
+ghost use Rattle.tp_journal.specs.Told.{IsOn, LeavesOnly, LeavesFront, IsTextOf};
 
 use crate::opening::open;
 use crate::shelf::Shelf;
@@ -70,6 +70,7 @@ impl<D: Disk, S: Shelf + Drop> Log<D, S> {
         ensures passes { OnOk result (OnFuse (Opens self.old.gate (body_piece body.now)) (D.fuse self.old.disk) (D.fuse self.new.disk)) }
         ensures stops { IfErr result (StopsForcing self.old.gate body.now (D.fuse self.old.disk) (D.fuse self.new.disk)) }
         ensures bytes { OnOk result ((file : List ℕ) → IsOn (D.told self.old.disk) file → IsOn (D.told self.new.disk) (forced_bytes self.old.gate body.now file)) }
+        ensures front { LeavesFront self.old.gate (D.told self.old.disk) (D.told self.new.disk) }
     {
         if let Some(faults) = self.shut {
             return Err(ForceFault::Shut { faults });
@@ -110,6 +111,7 @@ impl<D: Disk, S: Shelf + Drop> Log<D, S> {
         ensures passes { OnOk result (OnFuse (Opens self.old.gate (body_piece body.now)) (D.fuse self.old.disk) (D.fuse self.new.disk)) }
         ensures stops { IfErr result (StopsForcing self.old.gate body.now (D.fuse self.old.disk) (D.fuse self.new.disk)) }
         ensures bytes { OnOk result ((file : List ℕ) → IsOn (D.told self.old.disk) file → IsOn (D.told self.new.disk) (forced_bytes self.old.gate body.now file)) }
+        ensures front { LeavesFront self.old.gate (D.told self.old.disk) (D.told self.new.disk) }
     {
         let place = self.gate;
         self.shelf.put(place, body, item)?;

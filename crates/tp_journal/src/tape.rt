@@ -7,7 +7,7 @@ ghost use Rattle.tp_outside.specs.Story.{Story, Torn, Clipped};
 ghost use Rattle.tp_journal.specs.Log.{IsBody, blocks, head, StandsBehind, StandsFor, StandsForEither};
 ghost use Rattle.tp_outside.specs.FuseDisk.{OnFuse};
 ghost use Rattle.tp_journal.specs.Stops.{Stores, StopsStoring, with_gate, Opens, StopsOpening};
-ghost use Rattle.tp_journal.specs.Told.{IsOn, LeavesOnly, HasStored, HasResized, RestsAt, IsTextOf, IsStaged};
+ghost use Rattle.tp_journal.specs.Told.{IsOn, LeavesOnly, LeavesFront, HasStored, HasResized, RestsAt, IsTextOf, IsStaged};
 
 use tp_outside::{Disk, Failed};
 
@@ -51,6 +51,8 @@ pub fn append<D: Disk>(disk: &mut D, gate: u64, piece: &[u8]) -> Result<(), Fail
         → RestsAt (D.told disk.new) (gate + length piece.now) (bodies ++ more)) }
     ensures bytes { OnOk result ((file : List ℕ) → IsOn (D.told disk.old) file → gate < length file
         → IsOn (D.told disk.new) (with_gate gate piece.now file)) }
+    // What was before the closing gate stays as it was, at each moment.
+    ensures front { LeavesFront gate (D.told disk.old) (D.told disk.new) }
     ensures untold { D.told disk.old ≡ None → D.told disk.new ≡ None }
     ensures passes { OnOk result (OnFuse (Opens gate piece.now) (D.fuse disk.old) (D.fuse disk.new)) }
     ensures stops { OnErr result (OnFuse (StopsOpening gate piece.now) (D.fuse disk.old) (D.fuse disk.new)) }
@@ -60,6 +62,30 @@ pub fn append<D: Disk>(disk: &mut D, gate: u64, piece: &[u8]) -> Result<(), Fail
     store(disk, gate + 1, piece)?;
     store(disk, gate, &[1])?;
     Ok(())
+}
+
+/// Writes bytes after the closing gate, where nothing is read.
+pub fn widen<D: Disk>(disk: &mut D, gate: u64, bytes: &[u8]) -> Result<(), Failed>
+    requires { gate + 1 < 2 ^ 64 }
+    ensures front { LeavesFront (gate + 1) (D.told disk.old) (D.told disk.new) }
+    ensures on { OnOk result ((file : List ℕ) → IsOn (D.told disk.old) file → HasStored (gate + 1) bytes.now file (D.told disk.new)) }
+    ensures untold { D.told disk.old ≡ None → D.told disk.new ≡ None }
+    ensures kept { D.fault_count disk.old ≤ D.fault_count disk.new }
+    ensures risen { OnErr result (HasRisen (D.fault_count disk.old) (D.fault_count disk.new)) }
+{
+    store(disk, gate + 1, bytes)
+}
+
+/// Cuts off what is after the closing gate.
+pub fn trim<D: Disk>(disk: &mut D, gate: u64) -> Result<(), Failed>
+    requires { gate + 1 < 2 ^ 64 }
+    ensures front { LeavesFront (gate + 1) (D.told disk.old) (D.told disk.new) }
+    ensures on { OnOk result ((file : List ℕ) → IsOn (D.told disk.old) file → HasResized (gate + 1) file (D.told disk.new)) }
+    ensures untold { D.told disk.old ≡ None → D.told disk.new ≡ None }
+    ensures kept { D.fault_count disk.old ≤ D.fault_count disk.new }
+    ensures risen { OnErr result (HasRisen (D.fault_count disk.old) (D.fault_count disk.new)) }
+{
+    shorten(disk, gate + 1)
 }
 
 /// Ends a change of generation: bodies that stand further back are written to the front too, the selector turns to

@@ -55,11 +55,12 @@ fn settle<J: Settles, K: Sink>(
     site: &mut Site<J>,
     waiting: &mut Octets,
     sink: &mut K,
+    last: bool,
 ) -> Result<(), Stop>
     ensures settles { SettlesSite J.standing site.old site.new result waiting.old waiting.new (K.written sink.old) (K.written sink.new) (K.fault_count sink.old) (K.fault_count sink.new) }
     ensures kept { K.fault_count sink.old ≤ K.fault_count sink.new }
 {
-    let settled = site.settle_log();
+    let settled = site.settle_log(last);
     write_settled(settled, waiting, sink)
 }
 
@@ -76,7 +77,7 @@ fn keep_up<J: Settles, K: Sink>(
     if ready && waiting.len() <= MOST_WAITING {
         return Ok(());
     }
-    settle(site, waiting, sink)
+    settle(site, waiting, sink, false)
 }
 
 // The same at the end, which is told where nothing else stops it.
@@ -89,7 +90,7 @@ fn finish<J: Settles, K: Sink>(
     ensures finishes { Finishes J.standing site.old site.new end result waiting.old (K.written sink.old) (K.written sink.new) (K.fault_count sink.old) (K.fault_count sink.new) }
     ensures kept { K.fault_count sink.old ≤ K.fault_count sink.new }
 {
-    match settle(site, waiting, sink) {
+    match settle(site, waiting, sink, true) {
         Ok(()) => end,
         Err(stop) => Err(stop),
     }

@@ -40,11 +40,12 @@ fn settle<J: Settles, K: Sink>(
     face: &mut Face<J>,
     waiting: &mut Octets,
     sink: &mut K,
+    last: bool,
 ) -> Result<(), Stop>
     ensures settles { SettlesFace J.standing face.old face.new result waiting.old waiting.new (K.written sink.old) (K.written sink.new) (K.fault_count sink.old) (K.fault_count sink.new) }
     ensures kept { K.fault_count sink.old ≤ K.fault_count sink.new }
 {
-    let settled = face.settle_log();
+    let settled = face.settle_log(last);
     write_settled(settled, waiting, sink)
 }
 
@@ -61,7 +62,7 @@ fn keep_up<J: Settles, K: Sink>(
     if ready && waiting.len() <= MOST_WAITING {
         return Ok(());
     }
-    settle(face, waiting, sink)
+    settle(face, waiting, sink, false)
 }
 
 // The same at the end, which is told where nothing else stops it.
@@ -74,7 +75,7 @@ fn finish<J: Settles, K: Sink>(
     ensures finishes { Finishes J.standing face.old.site face.new.site end result waiting.old (K.written sink.old) (K.written sink.new) (K.fault_count sink.old) (K.fault_count sink.new) }
     ensures kept { K.fault_count sink.old ≤ K.fault_count sink.new }
 {
-    match settle(face, waiting, sink) {
+    match settle(face, waiting, sink, true) {
         Ok(()) => end,
         Err(stop) => Err(stop),
     }

@@ -2,7 +2,7 @@ use Rattle.std.proofs.Common.{◌≡◌, ◌<◌, ◌-◌, ℕ, List, None, Some
 use Rattle.std.proofs.lemmas.List.{take_rest}
 use Rattle.tp_outside.specs.Story.{Story}
 use Rattle.tp_journal.specs.Log.{place_behind, settled_bytes, StandsFor, StandsForEither}
-use Rattle.tp_journal.specs.Told.{IsOn, LeavesOnly, LeavesNow}
+use Rattle.tp_journal.specs.Told.{IsOn, LeavesOnly, LeavesNow, LeavesFront}
 use Rattle.tp_journal.specs.Started.{Started, IsKept}
 use Rattle.tp_journal.specs.Journals.{bodies_in}
 use Rattle.tp_journal.specs.Gathering.{Gathered, IsGathered, gathered_of, bodies_settled, bodies_noted}
@@ -99,3 +99,23 @@ returns-clause-last g c =
     let kept : IsKept (told c.append.new.disk) log.gate (bodies_in here.journal) log.shut =
     settle_rests (told log.disk) (told c.append.new.disk) here waits is some (log.gate - (c.len.result - 1)) place (take (length waits - 1) (drop 1 waits)) (take_rest waits 1) (c.in-Ok.ensures {u = tt}).rests open_now c.append.ensures.untold in
     subst (λ (v : Gathered _). LeavesNow (λ file. StandsFor file (bodies_in v.journal)) (told c.append.new.disk)) c.self.view_is (last_at_rest (told c.append.new.disk) log.gate (bodies_in here.journal) log.shut open_now kept)
+
+pub returns-in_default-append-clause-front : goal.returns-in_default-append-clause-front
+returns-in_default-append-clause-front g c =
+    let told = g.D.Disk.told in
+    let log = c.self.inside in
+    let raw : Started _ _ = record { disk = log.disk; shelf = log.shelf; gate = log.gate; shut = log.shut } in
+    let here : Gathered _ = gathered_of raw log.settled in
+    let place : log.gate - (c.len.result - 1) ≡ place_behind (bodies_settled here) = gate_here (told log.disk) (told c.append.new.disk) here log.waits.items c.self.invariant.1 _ (omega (arith, c.len.ensures, log.waits.ok.0)) in
+    subst (λ (v : Gathered _). LeavesFront (place_behind (bodies_settled v)) (told v.journal.disk) (told c.append.new.disk)) c.self.view_is
+    (subst (λ (n : ℕ). LeavesFront n (told log.disk) (told c.append.new.disk)) place c.append.ensures.front)
+
+pub returns-clause-front : goal.returns-clause-front
+returns-clause-front g c =
+    let told = g.D.Disk.told in
+    let log = c.self.inside in
+    let raw : Started _ _ = record { disk = log.disk; shelf = log.shelf; gate = log.gate; shut = log.shut } in
+    let here : Gathered _ = gathered_of raw log.settled in
+    let place : log.gate - (c.len.result - 1) ≡ place_behind (bodies_settled here) = gate_here (told log.disk) (told c.append.new.disk) here log.waits.items c.self.invariant.1 _ (omega (arith, c.len.ensures, log.waits.ok.0)) in
+    subst (λ (v : Gathered _). LeavesFront (place_behind (bodies_settled v)) (told v.journal.disk) (told c.append.new.disk)) c.self.view_is
+    (subst (λ (n : ℕ). LeavesFront n (told log.disk) (told c.append.new.disk)) place c.append.ensures.front)

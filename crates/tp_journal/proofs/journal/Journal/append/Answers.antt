@@ -8,6 +8,7 @@ use Rattle.tp_journal.specs.Records.{HasText, text, wide_of, AreRecords}
 use Rattle.tp_journal.specs.Journals.{Kept, kept_of, standing_of}
 use Rattle.tp_journal.specs.Keeping.{Forces, Stored}
 use Rattle.tp_journal.proofs.Forcing.{face_of, refused_stays, told_on, stored, refused, records_now}
+use Rattle.tp_journal.proofs.Fronts.{front_still}
 use Rattle.tp_journal.proofs.Sizes.{text_is_body}
 use Rattle.tp_journal.proofs.OneMore.{body_in_piece}
 use Rattle.tp_journal.proofs.journal.Journal.append.Goals as goal
@@ -91,3 +92,6 @@ returns-clause-forces g c =
     let passes : OnFuse (Opens log.gate (body_piece (text (wide_of log.shelf) rec))) (fuse log.disk) (fuse new.disk) = subst (λ b. OnFuse (Opens log.gate (body_piece b)) (fuse log.disk) (fuse new.disk)) body appended.passes in
     let stores = stored faults told fuse log new rec c.self.invariant has leaves place c.shut.ensures.started.place appends appended.started.kept bytes passes in
     subst (λ (v : Kept _). Stored (standing_of v (faults v.disk) (told v.disk) (fuse v.disk)) rec (record { place = place; rec = rec }) (standing_of (kept_of new) (faults new.disk) (told new.disk) (fuse new.disk))) c.self.view_is stores
+
+pub returns-in_err-write_piece-clause-front : goal.returns-in_err-write_piece-clause-front
+returns-in_err-write_piece-clause-front g c = front_still c.args.self.now.gate _ _ (ap (λ (v : Kept _). g.D.Disk.told v.disk) c.self.view_is)
