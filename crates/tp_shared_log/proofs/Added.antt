@@ -1,10 +1,11 @@
 -- What came after the records that stood.
-use Rattle.std.proofs.Common.{◌≡◌, ◌≤◌, ◌<◌, ◌+◌, ℕ, zero, suc, List, [], ◌∷◌, ◌++◌, map, length, drop, refl, sym, ap, ◌∙◌, arith, append-nil, Result, Ok, Err, IfOk, OnErr}
+use Rattle.std.proofs.Common.{◌≡◌, ◌≤◌, ◌<◌, ◌+◌, ℕ, zero, suc, List, [], ◌∷◌, ◌++◌, map, length, drop, refl, sym, ap, subst, ◌∙◌, arith, append-nil, Result, Ok, Err, IfOk, OnErr}
 use Rattle.std.specs.List.{sum_by}
 use Rattle.std.proofs.lemmas.List.Sums.{sum_by-cons}
 use Rattle.tp_journal.specs.declared.receipts.Receipt.{Receipt}
 use Rattle.tp_journal.specs.declared.faults.ForceFault.{ForceFault}
 use Rattle.tp_journal.specs.Gathering.{Gathered}
+use Rattle.tp_model.specs.Lanes.{IsInterleaving}
 use Rattle.tp_turns.specs.declared.knows.Claim.{Claim}
 use Rattle.tp_turns.specs.Turns.{counted, lists_of}
 use Rattle.tp_shared_log.specs.Locks.{told_by, added}
@@ -55,3 +56,12 @@ drop_front (x ∷ xs) ys = drop_front xs ys
 pub lists_both : (xs ys : List (Claim Receipt)) → lists_of (xs ++ ys) ≡ lists_of xs ++ lists_of ys
 lists_both [] ys = refl
 lists_both (x ∷ xs) ys = ap (λ l. x.list ∷ l) (lists_both xs ys)
+
+-- a list with no items can go
+pub without_none : (xs : List Receipt) (ls : List (List Receipt)) → IsInterleaving xs ([] ∷ ls) → IsInterleaving xs ls
+without_none [] ls h = h
+without_none (x ∷ xs) ls ([], own, behind, is, rest) = absurd (cc is)
+without_none (x ∷ xs) ls (b ∷ before, own, behind, is, rest) =
+    let none : b ≡ [] = cc is in
+    let same : ls ≡ before ++ (x ∷ own) ∷ behind = cc is in
+    (before, own, behind, same, without_none xs (before ++ own ∷ behind) (subst (λ (l : List Receipt). IsInterleaving xs (l ∷ (before ++ own ∷ behind))) none rest))

@@ -1,12 +1,12 @@
 //! How a log is closed with the slips of its shares.
-ghost use Rattle.std.specs.Prelude.{◌≡◌, ◌<◌, ◌||◌, true, [], length, drop, map, is_some};
+ghost use Rattle.std.specs.Prelude.{◌≡◌, ◌<◌, ◌++◌, ◌||◌, true, [], length, drop, map, is_some};
 ghost use Rattle.std.specs.List.{All, sum_by};
 ghost use Rattle.tp_journal.specs.Log.{most_bytes};
 ghost use Rattle.tp_journal.specs.Records.{placed};
 ghost use Rattle.tp_model.specs.Lanes.{IsInterleaving};
 ghost use Rattle.tp_shared_log.specs.Images.{Leaves};
 ghost use Rattle.tp_shared_log.specs.Locks.{Extends, ShutRose, HadNoRoom};
-ghost use Rattle.tp_turns.specs.Turns.{idle, lists_of};
+ghost use Rattle.tp_turns.specs.Turns.{lists_of};
 
 use crate::locked::Locked;
 use crate::slip::Slip;
@@ -46,24 +46,24 @@ impl<D: Disk, L: Stood, M: Ledger> SharedLog<D, L, M> {
             stood: _,
             wide: _,
             turns,
-            mut root,
         } = self;
+        let mut root = turns.enter();
         join_slips(&turns, &mut root, slips);
         turns.into_claimed(rt, root).close(all, stakes)
     }
 }
 
-// Puts the claims of all slips together.
+// Puts the claims of all slips behind those of a pass.
 fn join_slips<D: Disk, L: Stood, M: Ledger>(
     turns: &Turns<Locked<D, L, M>, Receipt>,
     root: &mut Pass<Locked<D, L, M>, Receipt>,
     slips: Vec<Slip<D, L, M>>,
 )
-    requires root { (root.old.table_id ≡ turns.now.table.shared.table_id) × (root.old.me ≡ (idle [], [])) }
+    requires root { (root.old.table_id ≡ turns.now.table.shared.table_id) × (root.old.me.1 ≡ []) }
     requires slips { All (λ s. s.of ≡ turns.now.table.shared.table_id) slips.items }
     ensures id { root.new.table_id ≡ root.old.table_id }
     ensures none { root.new.me.1 ≡ [] }
-    ensures lists { lists_of root.new.me.0.claims ≡ map (λ s. s.receipts) slips.items }
+    ensures lists { lists_of root.new.me.0.claims ≡ lists_of root.old.me.0.claims ++ map (λ s. s.receipts) slips.items }
 {
     for slip in slips {
         turns.join(root, slip.into_pass());

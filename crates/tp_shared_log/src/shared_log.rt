@@ -13,7 +13,7 @@ use std::sync::ledger::{Blank, Ledger, Share};
 use tp_journal::{Gathering, Journal, Keeper, Receipt};
 use tp_names::NoMemory;
 use tp_outside::Disk;
-use tp_turns::{Pass, Turns};
+use tp_turns::Turns;
 
 /// A journal under a lock. The records that stood when it was put there are kept beside the lock and never change; each has a
 /// text.
@@ -22,24 +22,20 @@ pub struct SharedLog<D: Disk, L: Stood, M: Ledger> {
     pub(crate) stood: Vec<Receipt>,
     pub(crate) wide: bool,
     pub(crate) turns: Turns<Locked<D, L, M>, Receipt>,
-    // It stands for all slips, when the log is closed.
-    pub(crate) root: Pass<Locked<D, L, M>, Receipt>,
 }
 
 // Contracts see which log it is.
 impl<D: Disk, L: Stood, M: Ledger> Model for SharedLog<D, L, M> {
     ghost use Rattle.atomic_table.specs.Seated.{TableId};
-    ghost use Rattle.std.specs.Prelude.{◌≡◌, []};
+    ghost use Rattle.std.specs.Prelude.{◌≡◌};
     ghost use Rattle.std.specs.List.{All};
     ghost use Rattle.tp_journal.specs.Records.{HasText};
-    ghost use Rattle.tp_turns.specs.Turns.{idle};
 
     ghost Value = { TableId };
 
     ghost view = { λ s. s.turns.table.shared.table_id };
 
-    ghost invariant = { λ s. (s.stood.items ≡ L.stood) × (s.wide ≡ L.wide) × All (λ r. HasText L.wide r.rec) L.stood
-        × (s.root.table_id ≡ s.turns.table.shared.table_id) × (s.root.me ≡ (idle [], [])) };
+    ghost invariant = { λ s. (s.stood.items ≡ L.stood) × (s.wide ≡ L.wide) × All (λ r. HasText L.wide r.rec) L.stood };
 }
 
 impl<D: Disk, L: Stood, M: Ledger> SharedLog<D, L, M> {
@@ -68,16 +64,11 @@ impl<D: Disk, L: Stood, M: Ledger> SharedLog<D, L, M> {
         let wide = journal.wide();
         let journal = Gathering::new(alloc, journal)?;
         let (locked, part, stake) = Locked::<D, L, M>::new(journal, first, second, shares);
-        let (turns, root) = match Turns::new(alloc, locked) {
-            Ok(made) => made,
+        let turns = match Turns::new(alloc, locked) {
+            Ok(turns) => turns,
             Err(locked) => return Err((locked.into_journal(), NoMemory)),
         };
-        let log = SharedLog {
-            stood,
-            wide,
-            turns,
-            root,
-        };
+        let log = SharedLog { stood, wide, turns };
         Ok((log, part, stake))
     }
 
@@ -108,7 +99,6 @@ impl<D: Disk, L: Stood, M: Ledger> SharedLog<D, L, M> {
             stood: _,
             wide: _,
             turns,
-            root: _,
         } = self;
         turns.into_value().close(all, stakes)
     }

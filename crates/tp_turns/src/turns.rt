@@ -1,5 +1,5 @@
 //! The value, the rule that it is kept by, and its passes.
-ghost use Rattle.std.specs.Prelude.{ℕ, ◌≡◌, ◌++◌, ◌∷◌, [], List, IfOk, IfErr};
+ghost use Rattle.std.specs.Prelude.{ℕ, ◌≡◌, ◌++◌, ◌∷◌, [], List, IfErr};
 ghost use Rattle.tp_turns.specs.Turns.{Has, Covers, claim, idle, gave, grown, knows, lists_of, more_in, both_of};
 ghost use Rattle.tp_turns.specs.declared.knows.Claim.{Claim as Claimed};
 
@@ -87,11 +87,10 @@ pub struct Turns<T: Lists<I>, I> {
 }
 
 impl<T: Lists<I>, I> Turns<T, I> {
-    /// A value that lists nothing, and a pass with no claim.
-    pub fn new(alloc: Global, value: T) -> Result<(Turns<T, I>, Pass<T, I>), T>
+    /// A value that lists nothing. Without memory it comes back.
+    pub fn new(alloc: Global, value: T) -> Result<Turns<T, I>, T>
         requires { T.list value ≡ [] }
-        ensures ok { IfOk result (λ r. (r.1.table_id ≡ r.0.table.shared.table_id) × (r.1.me ≡ (idle [], []))) }
-        ensures err { IfErr result (λ x. x ≡ value) }
+        ensures { IfErr result (λ x. x ≡ value) }
     {
         let mut slots = Vec::new(alloc);
         if let Err(failed) = slots.push(value) {
@@ -100,13 +99,10 @@ impl<T: Lists<I>, I> Turns<T, I> {
             return Err(value);
         }
         match Table::new(alloc, &[0], slots, &()) {
-            Ok((table, pass)) => Ok((
-                Turns {
-                    waiting: Mutex::new(()),
-                    table,
-                },
-                pass,
-            )),
+            Ok((table, _)) => Ok(Turns {
+                waiting: Mutex::new(()),
+                table,
+            }),
             Err(Refused { mut slots }) => {
                 let Some(value) = slots.pop() else {
                     unreachable!();
