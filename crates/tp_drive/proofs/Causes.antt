@@ -1,7 +1,7 @@
 -- What a drive answers, from how its lanes ended and how its log was closed.
-use Rattle.std.proofs.Common.{◌≡◌, inl, inr, ℕ, zero, suc, ◌<◌, ◌-◌, Bool, Option, Some, None, List, [], ◌∷◌, ◌++◌, take, drop, map, get_or, length, refl, ap, sym, ◌∙◌, subst, arith}
-use Rattle.std.specs.List.{All, sum_by}
-use Rattle.std.proofs.lemmas.List.{append-nil, length-drop, take_all, map-append, get_or-map, length-map}
+use Rattle.std.proofs.Common.{◌≡◌, ℕ, zero, suc, ◌<◌, ◌-◌, Bool, Option, Some, None, List, [], ◌∷◌, ◌++◌, take, drop, map, get_or, length, refl, ap, sym, ◌∙◌, subst, arith}
+use Rattle.std.specs.List.{All}
+use Rattle.std.proofs.lemmas.List.{append-nil, length-drop, take-append-drop, take_all, map-append, get_or-map, length-map}
 use Rattle.tp_records.specs.declared.body.Event.{Event as Given}
 use Rattle.tp_records.specs.declared.body.Output.{Output}
 use Rattle.tp_logrec.specs.declared.record.LogRec.{LogRec}
@@ -14,19 +14,16 @@ use Rattle.tp_journal.specs.Log.{most_bytes, place_behind}
 use Rattle.tp_journal.specs.Records.{bodies_of, placed}
 use Rattle.tp_shared_log.specs.declared.unfit.Unfit.{Unfit}
 use Rattle.tp_shared_log.specs.Locks.{Extends, HadNoRoom, ShutRose}
-use Rattle.tp_shared_log.proofs.Placed.{length-placed, placed_same}
+use Rattle.tp_shared_log.proofs.Placed.{placed_same}
 use Rattle.tp_drive.specs.declared.driven.DriveFault.{DriveFault}
-use Rattle.tp_drive.specs.declared.merge.MergeFault.{MergeFault}
 use Rattle.tp_drive.specs.declared.stop.Cause.{Cause}
 use Rattle.tp_drive.specs.declared.stop.Stop.{Stop}
 use Rattle.tp_drive.specs.Begun.{recs, booted}
-use Rattle.tp_drive.specs.Drives.{IsCause, IsDriven, IsMismatch, IsPartDriven, RunsShort, Stops}
-use Rattle.tp_drive.specs.Merging.{Differs, IsOther}
+use Rattle.tp_drive.specs.Drives.{IsCause, IsDriven, IsPartDriven, RunsShort, Stops}
 use Rattle.tp_drive.specs.Runs.{AreRun, IsForcedBy}
 use Rattle.tp_drive.specs.Works.{EndsAt}
 use Rattle.tp_drive.proofs.Begins.{recs-placed}
 use Rattle.tp_drive.proofs.Interleavings.{interleaving_map}
-use Rattle.tp_drive.proofs.ReadBack.{read_after}
 
 module _ (o : Opening) (lanes : ℕ) (events : List Given) (outs : List (List (List Output))) (queues : List (List Receipt)) (stops : List (Option Stop)) (run : AreRun o lanes events outs queues stops) where
   -- what a lane forced
@@ -81,40 +78,28 @@ module _ (o : Opening) (lanes : ℕ) (events : List Given) (outs : List (List (L
 -- ---- what is read back
 
 -- the list of a closed log, each record at its place
-pub kept_places : (stood : List Receipt) (wide : Bool) (o : Opening) (list : List LogRec) (many n : ℕ) (receipts : List Receipt) → stood ≡ placed wide (booted o) → Extends stood many (placed wide list) → n ≡ length stood
-    → receipts ≡ drop n (placed wide list) → placed wide list ≡ placed wide (booted o) ++ receipts
-kept_places stood wide o list many n receipts is extends here same =
-    read_after stood (placed wide list) receipts n here extends.begins same ∙ ap (λ (l : List Receipt). l ++ receipts) is
+pub kept_places : (stood : List Receipt) (wide : Bool) (o : Opening) (list : List LogRec) (many : ℕ) (receipts : List Receipt) → stood ≡ placed wide (booted o) → Extends stood many (placed wide list)
+    → receipts ≡ drop (length stood) (placed wide list) → placed wide list ≡ placed wide (booted o) ++ receipts
+kept_places stood wide o list many receipts is extends same =
+    sym (take-append-drop (length stood) (placed wide list)) ∙ ap (λ (l : List Receipt). l ++ drop (length stood) (placed wide list)) (extends.begins ∙ is) ∙ ap (λ (l : List Receipt). placed wide (booted o) ++ l) (sym same)
 
 pub kept_records_are : (wide : Bool) (o : Opening) (list : List LogRec) (receipts : List Receipt) → placed wide list ≡ placed wide (booted o) ++ receipts → list ≡ booted o ++ recs receipts
 kept_records_are wide o list receipts places =
     sym (recs-placed wide list) ∙ ap recs places ∙ map-append (λ (r : Receipt). r.rec) (placed wide (booted o)) receipts ∙ ap (λ (l : List LogRec). l ++ recs receipts) (recs-placed wide (booted o))
 
 -- as many receipts are read back as were given
-pub kept_many : (stood list receipts : List Receipt) (many n : ℕ) → Extends stood many list → n ≡ length stood → receipts ≡ drop n list → length receipts ≡ many
-kept_many stood list receipts many n extends here same = omega (arith, ap length same, length-drop n list, extends.counted, here)
+pub kept_many : (stood list receipts : List Receipt) (many : ℕ) → Extends stood many list → receipts ≡ drop (length stood) list → length receipts ≡ many
+kept_many stood list receipts many extends same = omega (arith, ap length same, length-drop (length stood) list, extends.counted)
 
--- ---- receipts that differ
+-- ---- a log that is closed
 
-module _ (o : Opening) (lanes : ℕ) (events : List Given) (outs : List (List (List Output))) (queues : List (List Receipt)) (stops : List (Option Stop)) (run : AreRun o lanes events outs queues stops) (wide : Bool) (list : List LogRec) (stood : List Receipt) (n : ℕ) (begun : stood ≡ placed wide (booted o)) (extends : Extends stood (sum_by (λ q. length q) queues) (placed wide list)) (here : n ≡ length stood) where
-  pub mismatch : (place : ℕ) (receipt kept : Receipt) → place ≡ kept.place → IsOther (placed wide list) n queues receipt kept → IsMismatch o lanes events wide list place receipt kept
-  mismatch place receipt kept there other = record {
-    stops = stops;
-    queues = queues;
-    counted = (run.queues_counted, run.stops_counted);
-    each = λ i q s h. (run.each i [] q s h).forced;
-    extends = subst (λ (l : List Receipt). Extends l (sum_by (λ q. length q) queues) (placed wide list)) begun extends;
-    other = subst (λ (k : ℕ). IsOther (placed wide list) k queues receipt kept) (here ∙ ap length begun ∙ length-placed wide (booted o)) other;
-    there = there;
-  }
-
-  -- memory ran out when they were compared
-  pub merged_short : Differs (placed wide list) n queues MergeFault.NoMemory → RunsShort o lanes events wide list
-  merged_short (inl woven) =
-      let receipts = drop n (placed wide list) in
-      let places = kept_places stood wide o list (sum_by (λ q. length q) queues) n receipts begun extends here refl in
-      inl (stops, part_driven o lanes events outs queues stops run wide list receipts (kept_records_are wide o list receipts places) woven)
-  merged_short (inr (receipt, kept, other)) = inr (kept.place, receipt, kept, mismatch kept.place receipt kept refl other)
+module _ (o : Opening) (lanes : ℕ) (events : List Given) (outs : List (List (List Output))) (queues : List (List Receipt)) (stops : List (Option Stop)) (run : AreRun o lanes events outs queues stops) (wide : Bool) (list : List LogRec) (stood : List Receipt) (many : ℕ) (begun : stood ≡ placed wide (booted o)) (extends : Extends stood many (placed wide list)) (woven : IsInterleaving (drop (length stood) (placed wide list)) queues) where
+  -- it has what the lanes forced
+  pub closed_part : IsPartDriven o lanes events stops list
+  closed_part =
+      let receipts = drop (length stood) (placed wide list) in
+      let places = kept_places stood wide o list many receipts begun extends refl in
+      part_driven o lanes events outs queues stops run wide list receipts (kept_records_are wide o list receipts places) woven
 
 -- ---- no worker ran
 
@@ -136,8 +121,8 @@ many_empty A zero = tt
 many_empty A (suc n) = many_empty A n
 
 -- the log has its boot and no more
-pub none_ran : (o : Opening) (lanes : ℕ) (events : List Given) (wide : Bool) (list : List LogRec) → list ≡ booted o → RunsShort o lanes events wide list
-none_ran o lanes events wide list is = inl (
+pub none_ran : (o : Opening) (lanes : ℕ) (events : List Given) (list : List LogRec) → list ≡ booted o → RunsShort o lanes events list
+none_ran o lanes events list is = (
   so_many lanes stop,
   record {
     more = [];
@@ -161,14 +146,14 @@ none_ran o lanes events wide list is = inl (
     nothing [] i = refl
     nothing (g ∷ gs) i = refl
 
-pub opened_short : (o : Opening) (lanes : ℕ) (events : List Given) (stood : List Receipt) (before wide : Bool) (list : List LogRec) → stood ≡ placed before (booted o) → stood ≡ placed wide list → RunsShort o lanes events wide list
-opened_short o lanes events stood before wide list begun is = none_ran o lanes events wide list (placed_same wide before list (booted o) (sym is ∙ begun))
+pub opened_short : (o : Opening) (lanes : ℕ) (events : List Given) (stood : List Receipt) (before wide : Bool) (list : List LogRec) → stood ≡ placed before (booted o) → stood ≡ placed wide list → RunsShort o lanes events list
+opened_short o lanes events stood before wide list begun is = none_ran o lanes events list (placed_same wide before list (booted o) (sym is ∙ begun))
 
 -- and so where what stands is all that the log has
-pub stood_short : (o : Opening) (lanes : ℕ) (events : List Given) (stood : List Receipt) (before wide : Bool) (list : List LogRec) → stood ≡ placed before (booted o) → Extends stood 0 (placed wide list) → RunsShort o lanes events wide list
+pub stood_short : (o : Opening) (lanes : ℕ) (events : List Given) (stood : List Receipt) (before wide : Bool) (list : List LogRec) → stood ≡ placed before (booted o) → Extends stood 0 (placed wide list) → RunsShort o lanes events list
 stood_short o lanes events stood before wide list begun extends =
     let same : placed wide list ≡ stood = sym (take_all (length stood) (placed wide list) (omega (arith, extends.counted))) ∙ extends.begins in
-    none_ran o lanes events wide list (placed_same wide before list (booted o) (same ∙ begun))
+    none_ran o lanes events list (placed_same wide before list (booted o) (same ∙ begun))
 
 -- ---- why lanes stopped
 
@@ -194,4 +179,4 @@ module _ {D : Type 0} (o : Opening) (lanes : ℕ) (events : List Given) (stops :
     part = part;
   }
   cause_stops unfit (DriveFault.Full size event) rose room c = full_stops unfit size event room c
-  cause_stops unfit DriveFault.NoMemory rose room c = inl (stops, part)
+  cause_stops unfit DriveFault.NoMemory rose room c = (stops, part)

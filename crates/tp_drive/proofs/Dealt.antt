@@ -10,9 +10,8 @@ use Rattle.tp_model.specs.NodeRun.{Opening, node_of, run_from}
 use Rattle.tp_model.specs.Lanes.{lane, records_in, AreEmpty, IsInterleaving}
 use Rattle.tp_runs.proofs.Lanes.{lane_mine}
 use Rattle.tp_runs.proofs.LaneRecords.{own_history_law}
-use Rattle.tp_drive.specs.Merging.{Takes}
 use Rattle.tp_drive.specs.Woven.{IsMadeOfLanes}
-use Rattle.tp_drive.proofs.Interleavings.{interleaves_step}
+use Rattle.tp_drive.proofs.Interleavings.{Takes, interleaves_step}
 
 -- the records of so many lanes, from one on
 abbrev dealt : ℕ → ℕ → ℕ → List LogRec → List (List LogRec)

@@ -7,9 +7,9 @@ pub mod Ends
 pub mod Fresh
 pub mod Interleavings
 pub mod Lanes
+pub mod Merging
 pub mod Outcomes
 pub mod Ran
-pub mod ReadBack
 pub mod Runs
-pub mod Sames
+pub mod Slips
 pub mod Stepped

@@ -1,26 +1,10 @@
 -- What is said of a result on either side, and of a slice that was lent.
-use Rattle.std.proofs.Common.{◌≡◌, ℕ, true, false, Result, Ok, Err, IfErr, IfOk, OnErr, OnOk, is_err, List, ◌++◌, take, drop, length, ap, ◌∙◌, arith}
+use Rattle.std.proofs.Common.{◌≡◌, ℕ, Result, Ok, Err, IfErr, IfOk, OnErr, List, ◌++◌, take, drop, length, ap, ◌∙◌, arith}
 use Rattle.std.proofs.lemmas.List.{append-nil, drop_all, take_all}
-
-pub on_both : {A E : Type 0} (r : Result A E) (P Q R : Type 0) → OnOk r P → OnOk r Q → (P → Q → R) → OnOk r R
-on_both (Ok a) P Q R p q f = f p q
-on_both (Err e) P Q R p q f = tt
-
-pub on_ok : {A E : Type 0} (r : Result A E) (P : Type 0) → is_err r ≡ false → OnOk r P → P
-on_ok (Ok a) P is p = p
-on_ok (Err e) P is p = absurd (cc is)
-
-pub on_err_so : {A E : Type 0} (r : Result A E) (P Q : Type 0) → OnErr r P → (P → Q) → OnErr r Q
-on_err_so (Ok a) P Q p f = tt
-on_err_so (Err e) P Q p f = f p
 
 pub on_err_all : {A E : Type 0} (r : Result A E) (P : Type 0) → P → OnErr r P
 on_err_all (Ok a) P p = tt
 on_err_all (Err e) P p = p
-
-pub on_err : {A E : Type 0} (r : Result A E) (P : Type 0) → is_err r ≡ true → OnErr r P → P
-on_err (Ok a) P is p = absurd (cc is)
-on_err (Err e) P is p = p
 
 pub if_err : {A E : Type 0} (r : Result A E) (P Q : E → Type 0) → IfErr r P → ((e : E) → P e → Q e) → IfErr r Q
 if_err (Ok a) P Q p f = tt

@@ -66,6 +66,3 @@ module _ (standing : Shared → Standing) (mine : ℕ → Bool) (o : Opening) (g
   -- a refusal is the one output
   pub refused_outputs : (k : ℕ) (outs : List Output) → outs ≡ Output.Refused k ∷ [] → StepsTo standing mine o gs old g (Err (SiteFault.Refused k)) new → outs ≡ outputs_after o gs g
   refused_outputs k outs is s = rw (is, outputs_after, s.1) refl
-
-pub same_parts : (old new : Shared) → new.parts ∷ new.stake_parts ∷ [] ≡ old.parts ∷ old.stake_parts ∷ [] → (new.parts ≡ old.parts) × (new.stake_parts ≡ old.stake_parts)
-same_parts old new h = (cc h, cc h)

@@ -1,9 +1,10 @@
 -- What is read off the lanes when they are taken apart.
-use Rattle.std.specs.Prelude.{ℕ, Bool, ◌<◌, List, length, slice_index_or, Option}
+use Rattle.std.specs.Prelude.{ℕ, Bool, ◌≡◌, ◌<◌, List, length, slice_index_or, Option}
 use Rattle.tp_records.specs.declared.body.Output.{Output}
 use Rattle.tp_model.specs.NodeRun.{Opening}
 use Rattle.tp_journal.specs.declared.receipts.Receipt.{Receipt}
-use Rattle.tp_shared_log.specs.Shares.{stake_of}
+use Rattle.atomic_table.specs.Seated.{TableId}
+use Rattle.tp_shared_log.specs.Shares.{Noted, stake_of}
 use Rattle.tp_drive.specs.declared.stop.Stop.{Stop}
 use Rattle.tp_drive.specs.Works.{Working, IsFresh}
 
@@ -12,6 +13,14 @@ outs_of w = w.outs
 
 abbrev pub receipts_of : Working → List Receipt
 receipts_of w = w.site.keeper.receipts
+
+-- what its share shows the log
+abbrev pub slip_of : Working → Noted
+slip_of w = record { of = w.site.keeper.of; receipts = w.site.keeper.receipts }
+
+-- its share is one of this log
+abbrev pub IsOf : TableId → Working → Type 0
+IsOf log w = w.site.keeper.of ≡ log
 
 abbrev pub stop_of : Working → Option Stop
 stop_of w = w.stop

@@ -1,6 +1,5 @@
 -- What a drive answers: of a site of some name on a log that it was given, with events that are dealt to lanes.
-use Rattle.std.specs.Prelude.{ℕ, ◌≡◌, ◌≤◌, ◌<◌, ◌+◌, ◌⊎◌, ◌++◌, Bool, true, List, length, Option, Some, None, Ok, Err, IfSome, is_some, slice_index_or}
-use Rattle.std.specs.List.{sum_by}
+use Rattle.std.specs.Prelude.{ℕ, ◌≡◌, ◌≤◌, ◌<◌, ◌+◌, ◌++◌, Bool, true, List, length, Option, Some, None, Ok, Err, IfSome, is_some, slice_index_or}
 use Rattle.tp_outside.specs.Faults.{HasRisen}
 use Rattle.tp_outside.specs.Story.{Story}
 use Rattle.tp_records.specs.declared.body.Event.{Event as Given}
@@ -15,7 +14,6 @@ use Rattle.tp_journal.specs.Keeping.{Forces, Standing}
 use Rattle.tp_journal.specs.Log.{most_bytes, place_behind}
 use Rattle.tp_journal.specs.Records.{HasText, bodies_of, placed, version_of}
 use Rattle.tp_shared_log.specs.Images.{Leaves}
-use Rattle.tp_shared_log.specs.Locks.{Extends}
 use Rattle.tp_shared_log.specs.declared.unfit.Unfit.{Unfit}
 use Rattle.tp_site.specs.Shaped.{HasTextIfStarted}
 use Rattle.tp_site.specs.Site.{Site, Starts, opening_of}
@@ -23,7 +21,6 @@ use Rattle.tp_drive.specs.declared.driven.DriveFault.{DriveFault}
 use Rattle.tp_drive.specs.declared.stop.Stop.{Stop}
 use Rattle.tp_drive.specs.Begun.{recs, booted}
 use Rattle.tp_drive.specs.Endings.{IsLeastStop}
-use Rattle.tp_drive.specs.Merging.{IsOther}
 use Rattle.tp_drive.specs.Runs.{IsForcedBy}
 use Rattle.tp_drive.specs.Woven.{IsWoven}
 
@@ -67,31 +64,17 @@ pub record IsFull {D : Type 0} (o : Opening) (lanes : ℕ) (events : List Given)
   pub first : IsLeastStop stops event
   pub part : IsPartDriven o lanes events stops j.list
 
--- A receipt that a worker was given does not tell the record that the log has at its turn, which has this place. The workers were given
--- receipts of the records that their own events force, of all events or of those before the one at which the worker stopped, and
--- after the boot the log has as many records.
-pub record IsMismatch (o : Opening) (lanes : ℕ) (events : List Given) (wide : Bool) (list : List LogRec) (place : ℕ) (receipt kept : Receipt) : Type 0 where
-  pub stops : List (Option Stop)
-  pub queues : List (List Receipt)
-  pub counted : (length queues ≡ lanes) × (length stops ≡ lanes)
-  pub each : (i : ℕ) (q : List Receipt) (s : Option Stop) → i < lanes → IsForcedBy o lanes i events (slice_index_or stops i s) (recs (slice_index_or queues i q))
-  pub extends : Extends (placed wide (booted o)) (sum_by (λ q. length q) queues) (placed wide list)
-  pub other : IsOther (placed wide list) (length (booted o)) queues receipt kept
-  pub there : place ≡ kept.place
-
--- Memory ran out, and after the boot the log has what the lanes forced; or a receipt differs, and could not be shown.
-abbrev pub RunsShort : Opening → ℕ → List Given → Bool → List LogRec → Type 0
-RunsShort o lanes events wide list =
-    ((stops : List (Option Stop)) × IsPartDriven o lanes events stops list)
-    ⊎ ((place : ℕ) × (receipt : Receipt) × (kept : Receipt) × IsMismatch o lanes events wide list place receipt kept)
+-- memory ran out, and after the boot the log has what the lanes forced
+abbrev pub RunsShort : Opening → ℕ → List Given → List LogRec → Type 0
+RunsShort o lanes events list = (stops : List (Option Stop)) × IsPartDriven o lanes events stops list
 
 -- why the workers did not do all events, once the site has started
 abbrev pub Stops : {D : Type 0} → Opening → ℕ → List Given → ℕ → Kept D → ℕ → DriveFault → Type 0
 Stops o lanes events before j now (DriveFault.Start fault) = ⊥
-Stops o lanes events before j now (DriveFault.LogDiffers place receipt kept) = IsMismatch o lanes events j.wide j.list place receipt kept
+Stops o lanes events before j now (DriveFault.LogDiffers place receipt kept) = ⊥
 Stops o lanes events before j now (DriveFault.DiskFault faults) = IsShut o lanes events before faults now j
 Stops o lanes events before j now (DriveFault.Full size event) = IsFull o lanes events size event j
-Stops o lanes events before j now DriveFault.NoMemory = RunsShort o lanes events j.wide j.list
+Stops o lanes events before j now DriveFault.NoMemory = RunsShort o lanes events j.list
 
 -- why a drive failed: the site did not start, or lanes stopped
 abbrev pub Fails : {D : Type 0} → (Kept D → Standing) → Kept D → List ℕ → ℕ → List Given → Kept D → DriveFault → Type 0

@@ -41,6 +41,7 @@ pub fn answer<'a, D: Disk, R: Wait + Sync, L: Begun, M: Ledger>(
     ensures backed { IfErr result (λ cause. IsBackedBy cause site.new.keeper) }
     ensures open { OnOk result (site.new.shut ≡ None) }
     ensures parts { (site.new.keeper.parts ≡ site.old.keeper.parts) × (site.new.keeper.stake_parts ≡ site.old.keeper.stake_parts) }
+    ensures of { site.new.keeper.of ≡ site.old.keeper.of }
 {
     match site.event(alloc, event) {
         Ok(outs) => Ok(outs),

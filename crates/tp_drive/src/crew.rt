@@ -3,7 +3,7 @@ ghost use Rattle.std.specs.Prelude.{◌≡◌, ◌≤◌, ◌<◌, ◌+◌, ℕ,
 ghost use Rattle.std.specs.List.{All, sum_by};
 ghost use Rattle.tp_drive.specs.Begun.{IsBegun};
 ghost use Rattle.tp_drive.specs.Works.{Working, IsFresh, HasOnePart};
-ghost use Rattle.tp_drive.specs.Crews.{AreFresh, outs_of, receipts_of, stop_of, forced_by, stake_left};
+ghost use Rattle.tp_drive.specs.Crews.{AreFresh, IsOf, outs_of, receipts_of, slip_of, stop_of, forced_by, stake_left};
 
 use crate::begun::Begun;
 use crate::lane::Lane;
@@ -16,7 +16,7 @@ use std::sync::ledger::{Ledger, Share};
 use tp_names::{NoMemory, SiteName};
 use tp_outside::Disk;
 use tp_records::Outputs;
-use tp_shared_log::SharedLog;
+use tp_shared_log::{SharedLog, Slip};
 
 /// What the lanes leave, lane by lane.
 #[derive(Drop)]
@@ -58,6 +58,7 @@ fn open_lane<'a, D: Disk, R: Wait + Sync, L: Begun, M: Ledger>(
     requires part { (1 ≤ part.old.parts) × (part.old.amount ≡ 0) }
     requires stake { (1 ≤ stake.old.parts) × (stake.old.amount ≡ stake.old.parts) }
     ensures fresh { IfOk result (λ l. IsFresh L.stood L.wide L.opening lanes own l) }
+    ensures of { IfOk result (λ l. l.site.keeper.of ≡ log.now) }
     ensures ok { OnOk result ((part.new.parts + 1 ≡ part.old.parts) × (stake.new.parts + 1 ≡ stake.old.parts)) }
     ensures err { OnErr result ((part.new.parts ≡ part.old.parts) × (stake.new.parts ≡ stake.old.parts)) }
     ensures amounts { (part.new.amount ≡ 0) × (stake.new.amount ≡ stake.new.parts) }
@@ -92,6 +93,7 @@ pub fn open_lanes<'a, D: Disk, R: Wait + Sync, L: Begun, M: Ledger>(
     requires part { (part.old.parts ≡ count) × (part.old.amount ≡ 0) }
     requires stake { (stake.old.parts ≡ count) × (stake.old.amount ≡ count) }
     ensures fresh { AreFresh L.stood L.wide L.opening count lanes.new.items }
+    ensures of { All (IsOf log.now) lanes.new.items }
     ensures ok { OnOk result (vec_len lanes.new ≡ count) }
     ensures parts { (part.new.parts + vec_len lanes.new ≡ count) × (stake.new.parts + vec_len lanes.new ≡ count) }
     ensures amounts { (part.new.amount ≡ 0) × (stake.new.amount ≡ stake.new.parts) }
@@ -103,29 +105,34 @@ pub fn open_lanes<'a, D: Disk, R: Wait + Sync, L: Begun, M: Ledger>(
     Ok(())
 }
 
-/// Takes the lanes apart: what each leaves, and both shares together.
+/// Takes the lanes apart: what each leaves, its slip, and both shares together.
 pub fn close_lanes<'a, D: Disk, R: Wait + Sync, L: Begun, M: Ledger>(
     lanes: Vec<Lane<'a, D, R, L, M>>,
     part: &mut Share<L>,
     stake: &mut Share<M>,
     left: &mut Left,
+    slips: &mut Vec<Slip<D, L, M>>,
 )
     requires parts { All HasOnePart lanes.items }
     requires empty { (left.old.outs.items ≡ []) × (left.old.queues.items ≡ []) × (left.old.stops.items ≡ []) }
     requires room { (vec_len lanes ≤ vec_capacity left.old.outs) × (vec_len lanes ≤ vec_capacity left.old.queues) × (vec_len lanes ≤ vec_capacity left.old.stops) }
+    requires slips { (slips.old.items ≡ []) × (vec_len lanes ≤ vec_capacity slips.old) }
     ensures outs { map (λ o. o.items) left.new.outs.items ≡ map outs_of lanes.entry.items }
     ensures receipts { left.new.queues.items ≡ map receipts_of lanes.entry.items }
     ensures stops { left.new.stops.items ≡ map stop_of lanes.entry.items }
+    ensures slips { slips.new.items ≡ map slip_of lanes.entry.items }
     ensures parts { (part.new.parts ≡ part.old.parts + vec_len lanes.entry) × (stake.new.parts ≡ stake.old.parts + vec_len lanes.entry) }
     ensures forced { part.new.amount ≡ part.old.amount + sum_by forced_by lanes.entry.items }
     ensures stakes { stake.new.amount ≡ stake.old.amount + sum_by stake_left lanes.entry.items }
 {
     for lane in lanes {
-        let (out, receipts, stop, one, other) = lane.close();
+        let (out, stop, share) = lane.close();
+        let (one, other, receipts, slip) = share.leave();
         part.merge(one);
         stake.merge(other);
         left.outs.push_reserved(out);
         left.queues.push_reserved(Queue::new(receipts));
         left.stops.push_reserved(stop);
+        slips.push_reserved(slip);
     }
 }

@@ -22,7 +22,8 @@ pub enum DriveFault {
     Start {
         fault: StartFault,
     },
-    /// The record that was read back, at that place, is not that of the receipt.
+    /// The log has another record at that place than the receipt tells. `drive` never answers so: its log has each record at the
+    /// place that its receipt tells.
     LogDiffers {
         place: u64,
         receipt: Receipt,

@@ -1,8 +1,9 @@
-//! After the joins: the receipts are compared, the fault is found, and the outputs are put in order.
-ghost use Rattle.std.specs.Prelude.{◌≡◌, ◌≤◌, ◌<◌, ◌||◌, ℕ, true, List, [], None, is_some, IfOk, IfErr, IfNone, IfSome, length, map};
+//! After the joins: the fault is found, and the receipts and the outputs are put in order.
+ghost use Rattle.std.specs.Prelude.{◌≡◌, ◌≤◌, ◌<◌, ◌||◌, ℕ, true, List, [], None, drop, is_some, IfOk, IfErr, IfNone, IfSome, length, map};
 ghost use Rattle.std.specs.List.{All, sum_by};
 ghost use Rattle.tp_journal.specs.Log.{most_bytes};
 ghost use Rattle.tp_journal.specs.Records.{placed};
+ghost use Rattle.tp_model.specs.Lanes.{IsInterleaving};
 ghost use Rattle.tp_shared_log.specs.Locks.{Extends, ShutRose, HadNoRoom};
 ghost use Rattle.tp_drive.specs.Begun.{booted};
 ghost use Rattle.tp_drive.specs.Endings.{IsLeastStop};
@@ -13,7 +14,7 @@ use crate::begun::Begun;
 use crate::crew::Left;
 use crate::driven::{DriveFault, Driven};
 use crate::ending::{Ended, ending_of};
-use crate::merge::{MergeFault, merge};
+use crate::merge::merge;
 use crate::outputs::by_event;
 use crate::stop::Stop;
 use std::alloc::Global;
@@ -27,7 +28,6 @@ pub fn finish<D: Disk, L: Begun>(
     alloc: Global,
     journal: Journal<D>,
     unfit: Option<Unfit>,
-    stood: usize,
     count: u16,
     events: &[Event],
     left: Left,
@@ -35,8 +35,8 @@ pub fn finish<D: Disk, L: Begun>(
     requires some { 1 ≤ count }
     requires begun { L.stood ≡ placed L.wide (booted L.opening) }
     requires wide { journal.wide ≡ L.wide }
-    requires stood { stood ≡ length L.stood }
     requires list { Extends L.stood (sum_by (λ q. length q) left.queues.items) (placed journal.wide journal.list) }
+    requires woven { IsInterleaving (drop (length L.stood) (placed journal.wide journal.list)) left.queues.items }
     requires run { AreRun L.opening count events.now (map (λ o. o.items) left.outs.items) left.queues.items left.stops.items }
     requires cause { (event : ℕ) → IsLeastStop left.stops.items event → (is_some journal.shut || is_some unfit) ≡ true }
     requires shut { ShutRose L.faults journal.shut (D.fault_count journal.disk) }
@@ -52,24 +52,12 @@ pub fn finish<D: Disk, L: Begun>(
         mut queues,
         stops,
     } = left;
-    let receipts = match merge(alloc, &journal, stood, queues.as_mut_slice()) {
-        Ok(receipts) => receipts,
-        Err(MergeFault::NoMemory) => return Err((journal, DriveFault::NoMemory)),
-        Err(MergeFault::Differs { receipt, kept }) => {
-            let place = kept.place;
-            return Err((
-                journal,
-                DriveFault::LogDiffers {
-                    place,
-                    receipt,
-                    kept,
-                },
-            ));
-        }
-    };
     if let Some(fault) = fault_of(stops.as_slice(), journal.shut(), unfit) {
         return Err((journal, fault));
     }
+    let Ok(receipts) = merge(alloc, queues.as_mut_slice()) else {
+        return Err((journal, DriveFault::NoMemory));
+    };
     let Ok(outs) = by_event(alloc, events, outs.as_mut_slice()) else {
         return Err((journal, DriveFault::NoMemory));
     };

@@ -2,7 +2,6 @@
 ghost use Rattle.std.specs.Prelude.{ℕ, Bool, ◌≡◌, ◌<◌, ◌∷◌, ◌++◌, [], true, None, List, IfOk, IfErr, OnErr, OnOk, length};
 ghost use Rattle.tp_records.specs.declared.body.Event.{Event as Given};
 ghost use Rattle.tp_model.specs.NodeRun.{node_of};
-ghost use Rattle.tp_shared_log.specs.Shares.{stake_of};
 ghost use Rattle.tp_drive.specs.Begun.{IsBegun};
 ghost use Rattle.tp_drive.specs.Works.{Did, HasOnePart, IsBackedBy, IsFresh, Worked};
 
@@ -15,8 +14,7 @@ use std::alloc::Global;
 use std::collections::VecDeque;
 use std::marker::Model;
 use std::sync::Wait;
-use std::sync::ledger::{Ledger, Share};
-use tp_journal::Receipts;
+use std::sync::ledger::Ledger;
 use tp_names::{NoMemory, SiteName};
 use tp_outside::Disk;
 use tp_records::{Event, Outputs};
@@ -54,6 +52,7 @@ impl<'a, D: Disk, R: Wait + Sync, L: Begun, M: Ledger> Lane<'a, D, R, L, M> {
         requires begun { IsBegun L.stood L.wide L.opening name boot }
         requires share { (share.receipts ≡ []) × (share.parts ≡ 1) × (share.stake_parts ≡ 1) }
         ensures fresh { IfOk result (λ l. IsFresh L.stood L.wide L.opening lanes own l) }
+        ensures of { IfOk result (λ l. l.site.keeper.of ≡ share.entry.of) }
         ensures err { IfErr result (λ e. e.0 ≡ share.entry) }
     {
         Ok(Lane {
@@ -78,6 +77,7 @@ impl<'a, D: Disk, R: Wait + Sync, L: Begun, M: Ledger> Lane<'a, D, R, L, M> {
         ensures open { OnOk result (self.new.site.shut ≡ None) }
         ensures stop { self.new.stop ≡ self.old.stop }
         ensures parts { HasOnePart self.old → HasOnePart self.new }
+        ensures of { self.new.site.keeper.of ≡ self.old.site.keeper.of }
     {
         if self.outs.reserve(1).is_err() {
             return Err(Cause::Memory);
@@ -104,7 +104,8 @@ impl<'a, D: Disk, R: Wait + Sync, L: Begun, M: Ledger> Lane<'a, D, R, L, M> {
     )
         requires lanes { 0 < lanes }
         requires fresh { IsFresh L.stood L.wide L.opening lanes own self.old }
-        ensures { Worked L.stood L.wide L.opening lanes own events.now self.new }
+        ensures worked { Worked L.stood L.wide L.opening lanes own events.now self.new }
+        ensures of { self.new.site.keeper.of ≡ self.old.site.keeper.of }
     {
         for i in 0..events.len() {
             if lane_of(&events[i], lanes) != own {
@@ -121,24 +122,13 @@ impl<'a, D: Disk, R: Wait + Sync, L: Begun, M: Ledger> Lane<'a, D, R, L, M> {
         }
     }
 
-    /// What it put out, its receipts, where it stopped, and its shares of the two ledgers.
-    pub fn close(
-        self,
-    ) -> (
-        VecDeque<Outputs>,
-        Receipts,
-        Option<Stop>,
-        Share<L>,
-        Share<M>,
-    )
+    /// What it put out, where it stopped, and its share of the log.
+    pub fn close(self) -> (VecDeque<Outputs>, Option<Stop>, LogShare<'a, D, R, L, M>)
         ensures outs { result.0.items ≡ self.entry.outs }
-        ensures receipts { result.1 ≡ self.entry.site.keeper.receipts }
-        ensures stop { result.2 ≡ self.entry.stop }
-        ensures part { (result.3.parts ≡ self.entry.site.keeper.parts) × (result.3.amount ≡ length self.entry.site.keeper.receipts) }
-        ensures stake { (result.4.parts ≡ self.entry.site.keeper.stake_parts) × (result.4.amount ≡ stake_of self.entry.site.keeper.spent) }
+        ensures stop { result.1 ≡ self.entry.stop }
+        ensures share { result.2 ≡ self.entry.site.keeper }
     {
         let Lane { site, outs, stop } = self;
-        let (part, stake, receipts) = site.keeper().close();
-        (outs, receipts, stop, part, stake)
+        (outs, stop, site.keeper())
     }
 }

@@ -3,7 +3,6 @@
 
 mod answering;
 mod begun;
-mod comparing;
 mod crew;
 mod driven;
 mod ending;

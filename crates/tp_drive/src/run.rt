@@ -1,8 +1,9 @@
 //! One run of the workers over a locked log, from the two whole shares to the two whole shares.
-ghost use Rattle.std.specs.Prelude.{◌≡◌, ◌≤◌, ◌<◌, ◌+◌, ℕ, [], OnErr, OnOk, length, map, vec_len, vec_capacity};
+ghost use Rattle.std.specs.Prelude.{◌≡◌, ◌≤◌, ◌<◌, ◌+◌, ℕ, [], IfOk, OnErr, OnOk, length, map, vec_len, vec_capacity};
 ghost use Rattle.std.specs.List.{All, sum_by};
+ghost use Rattle.atomic_table.specs.Seated.{TableId};
 ghost use Rattle.tp_drive.specs.Begun.{IsBegun, recs, booted};
-ghost use Rattle.tp_drive.specs.Crews.{AreFresh, outs_of, receipts_of, stop_of, forced_by, stake_left};
+ghost use Rattle.tp_drive.specs.Crews.{AreFresh, IsOf, outs_of, receipts_of, stop_of, forced_by, stake_left};
 ghost use Rattle.tp_drive.specs.Works.{HasOnePart};
 ghost use Rattle.tp_drive.specs.Endings.{IsLeastStop};
 ghost use Rattle.tp_drive.specs.Runs.{AreRun};
@@ -19,7 +20,7 @@ use std::thread::Threads;
 use tp_names::{NoMemory, SiteName};
 use tp_outside::Disk;
 use tp_records::Event;
-use tp_shared_log::SharedLog;
+use tp_shared_log::{SharedLog, Slip};
 
 // Runs a worker for each of these lanes.
 fn run_opened<
@@ -35,6 +36,7 @@ fn run_opened<
     requires fresh { AreFresh L.stood L.wide L.opening (length lanes.old) lanes.old }
     ensures counted { length lanes.new ≡ length lanes.old }
     ensures one_part { All HasOnePart lanes.new }
+    ensures of { (log : TableId) → All (IsOf log) lanes.old → All (IsOf log) lanes.new }
     ensures run { AreRun L.opening (length lanes.old) events.now (map outs_of lanes.new) (map receipts_of lanes.new) (map stop_of lanes.new) }
     ensures stopped { (event : ℕ) → IsLeastStop (map stop_of lanes.new) event → sum_by stake_left lanes.new < length lanes.old }
 {
@@ -71,6 +73,7 @@ fn open_and_run<
     ensures parts { (part.new.parts + vec_len lanes.new ≡ count) × (stake.new.parts + vec_len lanes.new ≡ count) }
     ensures amounts { (part.new.amount ≡ 0) × (stake.new.amount ≡ stake.new.parts) }
     ensures one_part { All HasOnePart lanes.new.items }
+    ensures of { All (IsOf log.now) lanes.new.items }
     ensures few { vec_len lanes.new ≤ count }
     ensures all { OnOk result (vec_len lanes.new ≡ count) }
     ensures idle { OnErr result (sum_by forced_by lanes.new.items ≡ 0) }
@@ -82,7 +85,8 @@ fn open_and_run<
     Ok(())
 }
 
-/// Runs so many workers, and leaves what each put out, its receipts, and where it stopped. Where memory runs out no worker runs.
+/// Runs so many workers, and leaves what each put out, its receipts, and where it stopped. It returns their slips. Where memory runs
+/// out no worker runs.
 pub fn run_workers<
     D: Disk + Send,
     R: Threads + Wait + Sync,
@@ -101,7 +105,7 @@ pub fn run_workers<
     part: &mut Share<L>,
     stake: &mut Share<M>,
     left: &mut Left,
-) -> Result<(), NoMemory>
+) -> Result<Vec<Slip<D, L, M>>, NoMemory>
     requires begun { IsBegun L.stood L.wide L.opening name boot }
     requires some { 1 ≤ count }
     requires part { (part.old.parts ≡ count) × (part.old.amount ≡ 0) }
@@ -111,13 +115,17 @@ pub fn run_workers<
     ensures parts { (part.new.parts ≡ count) × (stake.new.parts ≡ count) }
     ensures receipts { OnOk result (part.new.amount ≡ sum_by (λ q. length q) left.new.queues.items) }
     ensures idle { OnErr result (part.new.amount ≡ 0) }
+    ensures of { IfOk result (λ slips. All (λ s. s.of ≡ log.now) slips.items) }
+    ensures slips { IfOk result (λ slips. map (λ s. s.receipts) slips.items ≡ left.new.queues.items) }
     ensures run { OnOk result (AreRun L.opening count events.now (map (λ o. o.items) left.new.outs.items) left.new.queues.items left.new.stops.items) }
     ensures stopped { OnOk result ((event : ℕ) → IsLeastStop left.new.stops.items event → stake.new.amount < count) }
 {
     let mut lanes = Vec::with_capacity(alloc, usize::from(count))?;
+    let mut slips = Vec::with_capacity(alloc, usize::from(count))?;
     let ran = open_and_run(
         rt, alloc, log, name, boot, events, count, gate, part, stake, &mut lanes,
     );
-    close_lanes(lanes, part, stake, left);
-    ran
+    close_lanes(lanes, part, stake, left, &mut slips);
+    ran?;
+    Ok(slips)
 }

@@ -1,4 +1,4 @@
-//! Workers on one log: the boot, the lock, the workers, the comparison.
+//! Workers on one log: the boot, the workers, and their receipts.
 ghost use Rattle.std.specs.Prelude.{◌≡◌, ◌≤◌, None, IfOk, IfErr, length};
 ghost use Rattle.tp_journal.specs.Records.{placed};
 ghost use Rattle.tp_journal.specs.Journals.{standing_of};
@@ -56,12 +56,10 @@ pub fn drive<R: Threads + Wait + Sync, D: Disk + Send, G: Gate + Sync>(
     // Promise 6.6: `Full` comes only of a log that is not shut, in which one more record of the
     //   greatest length would have had no room; the event is the least at which a lane stopped for
     //   another cause than memory
-    // Promise 6.7: `LogDiffers` comes only with a receipt that a worker was given in the call, of a
-    //   record that its own events force, and with the record that the journal's list has at its
-    //   turn, which is another or has another place; the records before it are those of receipts
+    // Promise 6.7: `LogDiffers` never comes: each receipt that a worker was given tells its record,
+    //   and the place that this has in the journal's list
     // Promise 6.10: Where memory runs out after the boot, the journal's list has after it an
-    //   interleaving of prefixes of the lanes' records; or a receipt differs, as 6.7 says, and
-    //   could not be shown
+    //   interleaving of prefixes of the lanes' records
     ensures fails { IfErr result (λ e. Fails (λ j. standing_of j (D.fault_count j.disk) (D.told j.disk) (D.fuse j.disk)) journal name workers events.now e.0 e.1) }
     ensures text { IfErr result (λ e. HasBootText (λ j. standing_of j (D.fault_count j.disk) (D.told j.disk) (D.fuse j.disk)) journal name e.0 e.1) }
 {
@@ -116,7 +114,6 @@ fn on_log<
     let Ok(mut left) = Left::with_room(alloc, count) else {
         return Err((journal, DriveFault::NoMemory));
     };
-    let stood = journal.count();
     let (log, mut part, mut stake) = match SharedLog::<D, L, M>::new(
         alloc, journal, first, second, count,
     ) {
@@ -126,9 +123,10 @@ fn on_log<
     let ran = run_workers(
         rt, alloc, &log, name, boot, events, count, gate, &mut part, &mut stake, &mut left,
     );
-    let (journal, unfit) = log.close(part, stake);
-    if ran.is_err() {
+    let Ok(slips) = ran else {
+        let (journal, _) = log.close(part, stake);
         return Err((journal, DriveFault::NoMemory));
-    }
-    finish::<D, L>(alloc, journal, unfit, stood, count, events, left)
+    };
+    let (journal, unfit) = log.close_with(rt, part, stake, slips);
+    finish::<D, L>(alloc, journal, unfit, count, events, left)
 }

@@ -1,5 +1,5 @@
 -- What holds of a log under its lock whenever the lock is free.
-use Rattle.std.specs.Prelude.{ℕ, ◌≡◌, ◌+◌, ◌<◌, ◌≤◌, ◌||◌, Bool, true, List, length, take, Option, Some, None, is_some}
+use Rattle.std.specs.Prelude.{ℕ, ◌≡◌, ◌+◌, ◌<◌, ◌≤◌, ◌||◌, Bool, true, List, length, take, drop, Option, Some, None, is_some}
 use Rattle.tp_outside.specs.Faults.{HasRisen}
 use Rattle.tp_outside.specs.Story.{Story}
 use Rattle.tp_logrec.specs.declared.record.LogRec.{LogRec}
@@ -26,6 +26,13 @@ stood_as stood faults wide shares story = record { stood = stood; faults = fault
 pub record Extends (stood : List Receipt) (more : ℕ) (list : List Receipt) : Type 0 where
   pub begins : take (length stood) list ≡ stood
   pub counted : length list ≡ length stood + more
+
+-- what a log tells with all that is noted, and what of it came after the records that stood
+abbrev pub told_by : {D : Type 0} → Gathered D → List Receipt
+told_by g = placed g.journal.wide g.journal.list
+
+abbrev pub added : {D : Type 0} → List Receipt → Gathered D → List Receipt
+added stood g = drop (length stood) (told_by g)
 
 -- a log that is shut has counted a fault since its count was this
 abbrev pub ShutRose : ℕ → Option ℕ → ℕ → Type 0

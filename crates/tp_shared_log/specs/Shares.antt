@@ -2,6 +2,8 @@
 use Rattle.std.specs.Prelude.{ℕ, Bool, List, [], ◌∷◌, ◌++◌, Option, Some, None}
 use Rattle.tp_journal.specs.declared.receipts.Receipt.{Receipt}
 use Rattle.tp_journal.specs.Keeping.{Standing, Numbers}
+use Rattle.tp_turns.specs.declared.knows.Claim.{Claim}
+use Rattle.atomic_table.specs.Seated.{TableId}
 use Rattle.tp_shared_log.specs.declared.spent.Spent.{Spent}
 
 pub record Shared : Type 0 where
@@ -12,6 +14,17 @@ pub record Shared : Type 0 where
   -- how many parts it has of the ledger of records, and of that of stakes
   pub parts : ℕ
   pub stake_parts : ℕ
+  -- which log it is a share of
+  pub of : TableId
+
+-- What a share hands out when it is closed: which log it was a share of, and its receipts.
+pub record Noted : Type 0 where
+  pub of : TableId
+  pub receipts : List Receipt
+
+abbrev pub first_list : List (Claim Receipt) → List Receipt
+first_list [] = []
+first_list (c ∷ cs) = c.list
 
 -- the amount of its stake
 abbrev pub stake_of : Option Spent → ℕ
@@ -30,7 +43,8 @@ shut_of (Some (Spent.Full size)) = None
 shut_of (Some (Spent.Shut n)) = Some n
 
 -- It tells the records that stood when the log was put under its lock. Its own are these and its receipts. It tells no
--- length and no story, since others force records beside it. No call changes how many parts it has.
+-- length and no story, since others force records beside it. No call changes how many parts it has, and of
+-- which log it is.
 abbrev pub share_standing : List Receipt → Bool → Shared → Standing
 share_standing stood wide s = record {
   told = stood;
@@ -41,5 +55,5 @@ share_standing stood wide s = record {
   story = None;
   fuse = None;
   wide = wide;
-  lasting = Numbers (s.parts ∷ s.stake_parts ∷ []);
+  lasting = Numbers (s.parts ∷ s.stake_parts ∷ s.of.words ∷ s.of.slots ∷ s.of.views_name ∷ s.of.atom ∷ s.of.block ∷ s.of.offset ∷ s.of.slot_names);
 }

@@ -1,11 +1,11 @@
-//! The value behind the lock: a journal that notes, the books of two ledgers, and the first record that had no room.
+//! What shares take in turn: a journal that notes, the books of two ledgers, and the first record that had no room.
 //!
-//! Nobody is answered before the log is closed, so a record is noted under the lock, and settled with those after it: where
+//! Nobody is answered before the log is closed, so a record is noted in turn, and settled with those after it: where
 //! much waits, and at the end.
-ghost use Rattle.std.specs.Prelude.{◌≡◌, ◌<◌, ◌≤◌, ◌+◌, ◌||◌, true, length, is_some, None, Some, IfOk, IfErr, OnOk, OnErr};
+ghost use Rattle.std.specs.Prelude.{◌≡◌, ◌<◌, ◌≤◌, ◌+◌, ◌∷◌, ◌++◌, [], ◌||◌, true, length, is_some, None, Some, IfOk, IfErr, OnOk, OnErr};
 ghost use Rattle.tp_journal.specs.Log.{most_bytes};
 ghost use Rattle.tp_journal.specs.Records.{HasText, placed};
-ghost use Rattle.tp_shared_log.specs.Locks.{Extends, ShutRose, HadNoRoom};
+ghost use Rattle.tp_shared_log.specs.Locks.{Extends, ShutRose, HadNoRoom, told_by, added};
 ghost use Rattle.tp_shared_log.specs.Images.{Leaves};
 ghost use Rattle.tp_shared_log.specs.Spends.{spends};
 
@@ -17,6 +17,7 @@ use std::sync::ledger::{Blank, Book, Ledger, Share};
 use tp_journal::{ForceFault, Gathering, Journal, Keeper, Receipt};
 use tp_logrec::LogRec;
 use tp_outside::Disk;
+use tp_turns::Lists;
 
 /// How many bytes may wait when a record is noted.
 const MOST_WAITING: usize = 65_536;
@@ -44,6 +45,10 @@ impl<D: Disk, L: Stood, M: Ledger> Model for Locked<D, L, M> {
         s.forced.total s.stakes.total s.unfit };
 }
 
+impl<D: Disk, L: Stood, M: Ledger> Lists<Receipt> for Locked<D, L, M> {
+    ghost list = { added L.stood };
+}
+
 impl<D: Disk, L: Stood, M: Ledger> Locked<D, L, M> {
     /// Puts a journal beside two new ledgers. Each share has every part.
     pub fn new(
@@ -57,6 +62,7 @@ impl<D: Disk, L: Stood, M: Ledger> Locked<D, L, M> {
         requires stood { (L.stood ≡ placed journal.journal.wide journal.journal.list) × (L.faults ≡ D.fault_count journal.journal.disk) × (L.wide ≡ journal.journal.wide) × (L.shares ≡ shares) × (L.story ≡ D.told journal.journal.disk) }
         requires first { (first.name ≡ L.name) × (first.parts ≡ L.parts) }
         requires second { (second.name ≡ M.name) × (second.parts ≡ M.parts) × (0 < second.parts) }
+        ensures same { result.0 ≡ journal }
         ensures part { (result.1.parts ≡ L.parts) × (result.1.amount ≡ 0) }
         ensures stake { (result.2.parts ≡ M.parts) × (result.2.amount ≡ shares) }
     {
@@ -80,6 +86,8 @@ impl<D: Disk, L: Stood, M: Ledger> Locked<D, L, M> {
         ensures stake_stays { OnOk result (stake.new.amount ≡ stake.old.amount) }
         ensures stake_spent { IfErr result (λ fault. stake.new.amount + spends fault ≡ stake.old.amount) }
         ensures parts { stake.new.parts ≡ stake.old.parts }
+        ensures begins { length L.stood ≤ length (told_by self.old) }
+        ensures told { told_by self.new ≡ told_by self.old }
     {
         let Locked {
             journal,
@@ -113,6 +121,9 @@ impl<D: Disk, L: Stood, M: Ledger> Locked<D, L, M> {
         requires part { 0 < part.old.parts }
         requires stake { 1 ≤ stake.old.amount }
         ensures receipt { IfOk result (λ r. r.rec ≡ rec.now) }
+        ensures begins { length L.stood ≤ length (told_by self.old) }
+        ensures adds { IfOk result (λ r. told_by self.new ≡ told_by self.old ++ r ∷ []) }
+        ensures stays { OnErr result (told_by self.new ≡ told_by self.old) }
         ensures part_counts { OnOk result (part.new.amount ≡ part.old.amount + 1) }
         ensures part_stays { OnErr result (part.new.amount ≡ part.old.amount) }
         ensures stake_stays { OnOk result (stake.new.amount ≡ stake.old.amount) }
@@ -135,6 +146,9 @@ impl<D: Disk, L: Stood, M: Ledger> Locked<D, L, M> {
         requires part { 0 < part.old.parts }
         requires stake { 1 ≤ stake.old.amount }
         ensures receipt { IfOk result (λ r. r.rec ≡ rec.now) }
+        ensures begins { length L.stood ≤ length (told_by self.old) }
+        ensures adds { IfOk result (λ r. told_by self.new ≡ told_by self.old ++ r ∷ []) }
+        ensures stays { OnErr result (told_by self.new ≡ told_by self.old) }
         ensures part_counts { OnOk result (part.new.amount ≡ part.old.amount + 1) }
         ensures part_stays { OnErr result (part.new.amount ≡ part.old.amount) }
         ensures stake_stays { OnOk result (stake.new.amount ≡ stake.old.amount) }
@@ -169,11 +183,26 @@ impl<D: Disk, L: Stood, M: Ledger> Locked<D, L, M> {
         }
     }
 
+    /// The journal, to which nothing was added.
+    pub fn into_journal(self) -> Journal<D>
+        requires { self.settled ≡ length self.journal.list }
+        ensures { result ≡ self.journal }
+    {
+        let Locked {
+            journal,
+            forced: _,
+            stakes: _,
+            unfit: _,
+        } = self;
+        journal.into_journal()
+    }
+
     /// Settles what is noted. The journal, and the first record that had no room, go to whoever has all parts again.
     pub fn close(self, all: Share<L>, stakes: Share<M>) -> (Journal<D>, Option<Unfit>)
         requires all { all.parts ≡ L.parts }
         requires stakes { stakes.parts ≡ M.parts }
         ensures list { Extends L.stood all.amount (placed result.0.wide result.0.list) }
+        ensures same { placed result.0.wide result.0.list ≡ told_by self }
         ensures wide { result.0.wide ≡ L.wide }
         ensures shut { ShutRose L.faults result.0.shut (D.fault_count result.0.disk) }
         ensures images { Leaves L.story (length L.stood) result.0.wide result.0.list result.0.shut (D.told result.0.disk) }

@@ -1,19 +1,19 @@
 //! A journal under a lock, with the records that stood when it was put there.
 ghost use Rattle.std.specs.Prelude.{◌≡◌, ◌<◌, ◌≤◌, ◌||◌, true, length, is_some, None, IfOk, IfErr};
-ghost use Rattle.std.specs.List.{All};
 ghost use Rattle.tp_journal.specs.Log.{most_bytes};
-ghost use Rattle.tp_journal.specs.Records.{HasText, placed};
+ghost use Rattle.tp_journal.specs.Records.{placed};
 ghost use Rattle.tp_shared_log.specs.Locks.{Extends, ShutRose, HadNoRoom};
 ghost use Rattle.tp_shared_log.specs.Images.{Leaves};
 
 use crate::locked::Locked;
 use crate::{Stood, Unfit};
 use std::alloc::Global;
-use std::sync::Mutex;
+use std::marker::Model;
 use std::sync::ledger::{Blank, Ledger, Share};
 use tp_journal::{Gathering, Journal, Keeper, Receipt};
 use tp_names::NoMemory;
 use tp_outside::Disk;
+use tp_turns::Turns;
 
 /// A journal under a lock. The records that stood when it was put there are kept beside the lock and never change; each has a
 /// text.
@@ -21,10 +21,21 @@ use tp_outside::Disk;
 pub struct SharedLog<D: Disk, L: Stood, M: Ledger> {
     pub(crate) stood: Vec<Receipt>,
     pub(crate) wide: bool,
-    pub(crate) lock: Mutex<Locked<D, L, M>>,
-    pub ghost stood_is: { stood.items ≡ L.stood },
-    pub ghost wide_is: { wide ≡ L.wide },
-    pub ghost texts: { All (λ r. HasText L.wide r.rec) L.stood },
+    pub(crate) turns: Turns<Locked<D, L, M>, Receipt>,
+}
+
+// Contracts see which log it is.
+impl<D: Disk, L: Stood, M: Ledger> Model for SharedLog<D, L, M> {
+    ghost use Rattle.atomic_table.specs.Seated.{TableId};
+    ghost use Rattle.std.specs.Prelude.{◌≡◌};
+    ghost use Rattle.std.specs.List.{All};
+    ghost use Rattle.tp_journal.specs.Records.{HasText};
+
+    ghost Value = { TableId };
+
+    ghost view = { λ s. s.turns.table.shared.table_id };
+
+    ghost invariant = { λ s. (s.stood.items ≡ L.stood) × (s.wide ≡ L.wide) × All (λ r. HasText L.wide r.rec) L.stood };
 }
 
 impl<D: Disk, L: Stood, M: Ledger> SharedLog<D, L, M> {
@@ -53,8 +64,12 @@ impl<D: Disk, L: Stood, M: Ledger> SharedLog<D, L, M> {
         let wide = journal.wide();
         let journal = Gathering::new(alloc, journal)?;
         let (locked, part, stake) = Locked::<D, L, M>::new(journal, first, second, shares);
-        let lock = Mutex::new(locked);
-        Ok((SharedLog { stood, wide, lock }, part, stake))
+        let turns = match Turns::new(alloc, locked) {
+            Ok(turns) => turns,
+            Err(locked) => return Err((locked.into_journal(), NoMemory)),
+        };
+        let log = SharedLog { stood, wide, turns };
+        Ok((log, part, stake))
     }
 
     /// Settles what is noted. The journal, and the first record that had no room, go to whoever has all parts again. The
@@ -83,9 +98,9 @@ impl<D: Disk, L: Stood, M: Ledger> SharedLog<D, L, M> {
         let SharedLog {
             stood: _,
             wide: _,
-            lock,
+            turns,
         } = self;
-        lock.into_inner().close(all, stakes)
+        turns.into_value().close(all, stakes)
     }
 }
 

@@ -1,4 +1,4 @@
-use Rattle.std.proofs.Common.{◌≡◌, inl, refl, ◌||◌, ◌<◌, true, None, length, get_or, is_some, ap, sym, ◌∙◌, subst, arith}
+use Rattle.std.proofs.Common.{◌≡◌, ◌||◌, ◌<◌, true, None, drop, length, get_or, is_some, ap, sym, ◌∙◌, subst, arith}
 use Rattle.std.specs.List.{All}
 use Rattle.std.proofs.lemmas.List.{get_or-map, length-map}
 use Rattle.tp_model.specs.NodeRun.{node_run}
@@ -8,9 +8,8 @@ use Rattle.tp_journal.specs.Records.{bodies_of, placed}
 use Rattle.tp_drive.specs.Begun.{booted}
 use Rattle.tp_drive.specs.Drives.{IsCause}
 use Rattle.tp_drive.specs.Endings.{IsLeastStop}
-use Rattle.tp_drive.specs.Merging.{Differs, IsOther}
-use Rattle.tp_drive.specs.declared.merge.MergeFault.{MergeFault}
-use Rattle.tp_drive.proofs.Causes.{cause_stops, driven, kept_many, kept_places, kept_records_are, lane_answers, merged_short, mismatch, part_driven}
+use Rattle.tp_drive.proofs.Causes.{cause_stops, closed_part, driven, kept_many, kept_places, kept_records_are, lane_answers}
+use Rattle.tp_drive.proofs.Merging.{placed_rise}
 use Rattle.tp_drive.proofs.Runs.{run_length}
 use Rattle.tp_drive.proofs.finish.finish.Goals as goal
 
@@ -25,13 +24,19 @@ returns-in-Some-clause-stops g c =
     let o = g.L.Begun.opening in
     let j = c.args.journal in
     let stops = c.args.left.stops.items in
-    let queues = c.args.left.queues.items in
-    let receipts = c.in-Ok.receipts in
-    let places = kept_places g.L.Stood.stood j.wide o j.list _ c.args.stood receipts (c.requires.begun ∙ ap (λ w. placed w (booted o)) (sym c.requires.wide)) c.requires.list c.requires.stood c.in-Ok.ensures.same in
-    let woven = subst (IsInterleaving receipts) c.as_mut_slice.ensures.value c.in-Ok.ensures.woven in
-    let part = part_driven o c.args.count c.args.events.now _ queues stops c.requires.run j.wide j.list receipts (kept_records_are j.wide o j.list receipts places) woven in
+    let begun = c.requires.begun ∙ ap (λ w. placed w (booted o)) (sym c.requires.wide) in
+    let part = closed_part o c.args.count c.args.events.now _ c.args.left.queues.items stops c.requires.run j.wide j.list g.L.Stood.stood _ begun c.requires.list c.requires.woven in
     let cause = subst (λ l. IsCause l j.shut c.args.unfit c.in-Some.fault) c.as_slice.ensures.value (subst (λ s. IsCause c.as_slice.result.now s c.args.unfit c.in-Some.fault) c.shut.ensures.is c.in-Some.ensures.some) in
     cause_stops o c.args.count c.args.events.now stops g.L.Stood.faults j (g.D.Disk.fault_count j.disk) part c.args.unfit c.in-Some.fault c.requires.shut c.requires.unfit cause
+
+-- memory ran out when the receipts were merged
+pub returns-in_default-merge-clause-stops : goal.returns-in_default-merge-clause-stops
+returns-in_default-merge-clause-stops g c =
+    let o = g.L.Begun.opening in
+    let j = c.args.journal in
+    let stops = c.args.left.stops.items in
+    let begun = c.requires.begun ∙ ap (λ w. placed w (booted o)) (sym c.requires.wide) in
+    (stops, closed_part o c.args.count c.args.events.now _ c.args.left.queues.items stops c.requires.run j.wide j.list g.L.Stood.stood _ begun c.requires.list c.requires.woven)
 
 -- no lane stopped, so each put out what one thread does for its events
 pub by_event-requires : goal.by_event-requires
@@ -59,41 +64,23 @@ pub returns-clause-done : goal.returns-clause-done
 returns-clause-done g c =
     let o = g.L.Begun.opening in
     let j = c.args.journal in
+    let stood = g.L.Stood.stood in
     let receipts = c.in-Ok.receipts in
-    let places = kept_places g.L.Stood.stood j.wide o j.list _ c.args.stood receipts (c.requires.begun ∙ ap (λ w. placed w (booted o)) (sym c.requires.wide)) c.requires.list c.requires.stood c.in-Ok.ensures.same in
-    let woven = subst (IsInterleaving receipts) c.as_mut_slice.ensures.value c.in-Ok.ensures.woven in
+    let whole = drop (length stood) (placed j.wide j.list) in
+    let begun = c.requires.begun ∙ ap (λ w. placed w (booted o)) (sym c.requires.wide) in
+    let same : receipts ≡ whole = c.in-Ok.ensures whole (placed_rise (length stood) j.wide j.list) (subst (IsInterleaving whole) (sym c.as_mut_slice.ensures.value) c.requires.woven) in
+    let places = kept_places stood j.wide o j.list _ receipts begun c.requires.list same in
+    let woven = subst (λ l. IsInterleaving l c.args.left.queues.items) (sym same) c.requires.woven in
     let going = subst (All (λ s. s ≡ None)) c.as_slice.ensures.value c.in_default.ensures.none in
-    let many = kept_many g.L.Stood.stood (placed j.wide j.list) receipts _ c.args.stood c.requires.list c.requires.stood c.in-Ok.ensures.same in
+    let many = kept_many stood (placed j.wide j.list) receipts _ c.requires.list same in
     let fits : 0 < length receipts → place_behind (bodies_of j.wide j.list) < most_bytes = λ some. omega (arith, c.requires.room (omega (arith, some, many)), c.shut.ensures.started.place) in
     driven o c.args.count c.args.events.now _ c.args.left.queues.items c.args.left.stops.items c.requires.run going j.wide j.list receipts c.in-Ok-by_event.outs c.in-Ok-by_event.ensures (kept_records_are j.wide o j.list receipts places) places woven fits
-
--- memory ran out when the receipts were compared
-pub returns-in-Err-NoMemory-clause-stops : goal.returns-in-Err-NoMemory-clause-stops
-returns-in-Err-NoMemory-clause-stops g c =
-    let j = c.args.journal in
-    let queues = c.args.left.queues.items in
-    let told = placed j.wide j.list in
-    merged_short g.L.Begun.opening c.args.count c.args.events.now _ queues c.args.left.stops.items c.requires.run j.wide j.list g.L.Stood.stood c.args.stood (c.requires.begun ∙ ap (λ w. placed w (booted g.L.Begun.opening)) (sym c.requires.wide)) c.requires.list c.requires.stood
-    (subst (λ l. Differs told c.args.stood l MergeFault.NoMemory) c.as_mut_slice.ensures.value (subst (λ f. Differs told c.args.stood c.as_mut_slice.result.now f) c.in-Err-NoMemory.field-0-is c.in-Err-NoMemory.ensures.differs))
-
--- a receipt differs
-pub returns-in-Err-Differs-clause-stops : goal.returns-in-Err-Differs-clause-stops
-returns-in-Err-Differs-clause-stops g c =
-    let j = c.args.journal in
-    let queues = c.args.left.queues.items in
-    let told = placed j.wide j.list in
-    rw c.in-Err-Differs.field-0-is
-    (mismatch g.L.Begun.opening c.args.count c.args.events.now _ queues c.args.left.stops.items c.requires.run j.wide j.list g.L.Stood.stood c.args.stood (c.requires.begun ∙ ap (λ w. placed w (booted g.L.Begun.opening)) (sym c.requires.wide)) c.requires.list c.requires.stood
-    c.in-Err-Differs.kept.place c.in-Err-Differs.receipt c.in-Err-Differs.kept refl
-    (subst (λ l. IsOther told c.args.stood l c.in-Err-Differs.receipt c.in-Err-Differs.kept) c.as_mut_slice.ensures.value (subst (λ f. Differs told c.args.stood c.as_mut_slice.result.now f) c.in-Err-Differs.field-0-is c.in-Err-Differs.ensures.differs)))
 
 -- memory ran out when the outputs were put in order
 pub returns-in_default-by_event-clause-stops : goal.returns-in_default-by_event-clause-stops
 returns-in_default-by_event-clause-stops g c =
     let o = g.L.Begun.opening in
     let j = c.args.journal in
-    let receipts = c.in-Ok.receipts in
     let stops = c.args.left.stops.items in
-    let places = kept_places g.L.Stood.stood j.wide o j.list _ c.args.stood receipts (c.requires.begun ∙ ap (λ w. placed w (booted o)) (sym c.requires.wide)) c.requires.list c.requires.stood c.in-Ok.ensures.same in
-    let woven = subst (IsInterleaving receipts) c.as_mut_slice.ensures.value c.in-Ok.ensures.woven in
-    inl (stops, part_driven o c.args.count c.args.events.now _ c.args.left.queues.items stops c.requires.run j.wide j.list receipts (kept_records_are j.wide o j.list receipts places) woven)
+    let begun = c.requires.begun ∙ ap (λ w. placed w (booted o)) (sym c.requires.wide) in
+    (stops, closed_part o c.args.count c.args.events.now _ c.args.left.queues.items stops c.requires.run j.wide j.list g.L.Stood.stood _ begun c.requires.list c.requires.woven)

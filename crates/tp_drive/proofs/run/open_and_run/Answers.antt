@@ -1,6 +1,6 @@
-use Rattle.std.proofs.Common.{◌≡◌, length, map, ap, subst, arith, rules}
-use Rattle.std.specs.List.{sum_by}
-use Rattle.tp_drive.specs.Crews.{stop_of, stake_left}
+use Rattle.std.proofs.Common.{◌≡◌, length, map, sym, ap, subst, arith, rules}
+use Rattle.std.specs.List.{All, sum_by}
+use Rattle.tp_drive.specs.Crews.{IsOf, stop_of, stake_left}
 use Rattle.tp_drive.specs.Endings.{IsLeastStop}
 use Rattle.tp_drive.proofs.Begins.{begun_records}
 use Rattle.tp_drive.proofs.Outcomes.{lent_back, on_err_all}
@@ -26,3 +26,13 @@ returns-clause-stopped g c = λ event is.
     let counted : lanes.len ≡ c.args.count = c.in_ok-open_lanes.ensures.ok in
     let given : length c.as_mut_slice.result.now ≡ lanes.len = search rules in
     omega (arith, ap (sum_by stake_left) same, spent, counted, given)
+
+-- and are lanes of the log
+pub returns-clause-of : goal.returns-clause-of
+returns-clause-of g c =
+    let lanes = c.open_lanes.new.lanes in
+    let ran = c.run_opened.new.lanes in
+    let long : length ran ≡ lanes.len = search rules in
+    let all : length lanes.items ≡ lanes.len = search rules in
+    let same = lent_back ran lanes.items lanes.len long all in
+    subst (All (IsOf c.args.log.now)) (sym same) (c.run_opened.ensures.of c.args.log.now (subst (All (IsOf c.args.log.now)) (search rules) c.in_ok-open_lanes.ensures.of))

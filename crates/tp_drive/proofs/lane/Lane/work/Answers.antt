@@ -18,6 +18,7 @@ loop-i-preserved-then-lane_of-own g c =
       going = before.going;
       unshut = before.unshut;
       one_part = before.one_part;
+      of = before.of;
     }
 
 -- an event of its own is done
@@ -37,11 +38,12 @@ loop-i-preserved g c =
       going = c.in_default.ensures.stop ∙ before.going;
       unshut = c.in_default.ensures.open;
       one_part = c.in_default.ensures.parts before.one_part;
+      of = c.in_default.ensures.of ∙ before.of;
     }
 
 -- it stopped there, and has done its events before
-pub returns-in-Err : goal.returns-in-Err
-returns-in-Err g c =
+pub returns-in-Err-clause-worked : goal.returns-in-Err-clause-worked
+returns-in-Err-clause-worked g c =
     let before = c.loop-i.invariant in
     let events = c.args.events.now in
     let own = c.args.own in

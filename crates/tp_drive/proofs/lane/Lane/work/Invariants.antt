@@ -10,4 +10,5 @@ invariant-loop-i g l = record {
   going : l.self.stop ≡ None;
   unshut : l.self.site.shut ≡ None;
   one_part : HasOnePart l.self;
+  of : l.self.site.keeper.of ≡ l.initial.self.site.keeper.of;
 }

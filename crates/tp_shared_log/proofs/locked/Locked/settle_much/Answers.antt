@@ -1,6 +1,6 @@
-use Rattle.std.proofs.Common.{◌≡◌, ◌≤◌, length, sym, ◌∙◌, ap, arith}
+use Rattle.std.proofs.Common.{◌≤◌, length, sym, ◌∙◌, ap, arith}
 use Rattle.tp_shared_log.specs.Locks.{StillTells, stood_as, IsKept}
-use Rattle.tp_shared_log.proofs.Keeping.{kept_failed, kept_unmoved, tells_refused, spends_one}
+use Rattle.tp_shared_log.proofs.Keeping.{kept_failed, kept_unmoved, tells_refused}
 use Rattle.tp_shared_log.proofs.Telling.{settle_tells}
 use Rattle.tp_shared_log.proofs.locked.Locked.settle_much.Goals as goal
 use Rattle.tp_shared_log.proofs.locked.Locked.settle_much.Goals.{in-Ok, in-Err}
