@@ -126,9 +126,11 @@ OpensToEither before after file = OpensTo before file ⊎ OpensTo after file
 -- at every moment of the call, of a log that was not shut
 abbrev pub OpensThroughout : {D : Type 0} → Wish → Standing D → Option Story → Option Story → Type 0
 OpensThroughout w old before after =
-    old.shut ≡ None → (s : Story) → before ≡ Some s → LeavesOnly (OpensToEither old.store.content (content_with old.store.content old.store.undecided w)) before after
+    old.shut ≡ None → (s : Story) → before ≡ Some s
+    → LeavesOnly (OpensToEither old.store.content (content_with old.store.content old.store.undecided w)) before after
 
 -- the answer to one more body: it stands, or the disk failed in this call or before
 abbrev pub Appended : Face → List ℕ → Face → Bool → Type 0
 Appended old body new true = Appends old body old.gate new
-Appended old body new false = Stays old new × (((old.shut ≡ None) × HasRisen old.faults new.faults × ((n : ℕ) × (new.shut ≡ Some n))) ⊎ ((n : ℕ) × (old.shut ≡ Some n) × (new.shut ≡ Some n)))
+Appended old body new false = Stays old new
+    × (((old.shut ≡ None) × HasRisen old.faults new.faults × ((n : ℕ) × (new.shut ≡ Some n))) ⊎ ((n : ℕ) × (old.shut ≡ Some n) × (new.shut ≡ Some n)))

@@ -35,7 +35,15 @@ impl<D: Disk> Model for Bound<D> {
 
     ghost Value = { Standing D };
 
-    ghost view = { λ b. record { node = b.node; disk = b.gates.disk; bodies = b.gates.bodies; gate = b.gates.gate; shut = b.gates.shut; store = b.store; current = b.current } };
+    ghost view = { λ b. record {
+      node = b.node;
+      disk = b.gates.disk;
+      bodies = b.gates.bodies;
+      gate = b.gates.gate;
+      shut = b.gates.shut;
+      store = b.store;
+      current = b.current;
+    } };
 
     // What is read of the log is the store, and no transaction goes on while another is undecided.
     ghost invariant = { λ b. (opened b.gates.bodies ≡ Stands b.store) × ((p : Pending) → b.store.undecided ≡ Some p → b.current ≡ None) };

@@ -54,5 +54,6 @@ pub fn the_content_is_what_was_kept()
 /// each once, in the order in which they began: after every list of indications in which the disk did not fail, and between
 /// which the store may have been opened again.
 pub fn the_content_is_of_the_committed_branches()
-    ensures { (first last : Speaker) (hs : List Heard) → first.store ≡ empty → first.current ≡ None → HearsAll first hs last → OfBranches hs → last.store.content ≡ made [] (all_written (committed hs)) }
+    ensures { (first last : Speaker) (hs : List Heard) → first.store ≡ empty → first.current ≡ None → HearsAll first hs last → OfBranches hs
+        → last.store.content ≡ made [] (all_written (committed hs)) }
 {}

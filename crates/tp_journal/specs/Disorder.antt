@@ -6,4 +6,5 @@ use Rattle.tp_logrec.specs.Order.{follows, all_follow}
 -- the first record that may not follow those before it: none exactly where the list is in order
 abbrev pub IsFirstOutOfOrder : List LogRec → Option ℕ → Type 0
 IsFirstOutOfOrder rs None = all_follow rs ≡ true
-IsFirstOutOfOrder rs (Some i) = (all_follow rs ≡ false) × (i < length rs) × (all_follow (take i rs) ≡ true) × ((d : LogRec) → follows (take i rs) (slice_index_or rs i d) ≡ false)
+IsFirstOutOfOrder rs (Some i) = (all_follow rs ≡ false) × (i < length rs) × (all_follow (take i rs) ≡ true)
+    × ((d : LogRec) → follows (take i rs) (slice_index_or rs i d) ≡ false)

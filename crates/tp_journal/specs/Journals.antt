@@ -72,7 +72,8 @@ pub record Tells {D : Type 0} (old : Kept D) (before : ℕ) (new : Kept D) (afte
   pub faults : before ≤ after
 
 abbrev pub RefusesCompact : {D : Type 0} → Kept D → ℕ → Kept D → ℕ → CompactFault → Type 0
-RefusesCompact old before new after (compact.DiskFault faults) = Tells old before new after × (old.shut ≡ None) × (new.shut ≡ Some faults) × (faults ≡ after) × HasRisen before after
+RefusesCompact old before new after (compact.DiskFault faults) = Tells old before new after × (old.shut ≡ None) × (new.shut ≡ Some faults)
+    × (faults ≡ after) × HasRisen before after
 RefusesCompact old before new after (compact.Shut faults) = Tells old before new after × (old.shut ≡ Some faults) × (new.shut ≡ Some faults)
 RefusesCompact old before new after compact.NoMemory = Tells old before new after × (old.shut ≡ None) × (new.shut ≡ None)
 
@@ -82,8 +83,10 @@ size_of version records = place_behind (bodies_of version records) + 1
 
 -- Full comes exactly where the brief has no room as a log of version 2, and before a fault of the disk
 abbrev pub RefusesMigrate : {D : Type 0} → Kept D → ℕ → Kept D → ℕ → ForceFault → Type 0
-RefusesMigrate old before new after (force.Full size) = Tells old before new after × (old.shut ≡ None) × (new.shut ≡ None) × (size ≡ size_of true (brief old.list)) × (most_bytes < size)
+RefusesMigrate old before new after (force.Full size) = Tells old before new after × (old.shut ≡ None) × (new.shut ≡ None)
+    × (size ≡ size_of true (brief old.list)) × (most_bytes < size)
 RefusesMigrate old before new after (force.DiskFault faults) =
-    Tells old before new after × (old.shut ≡ None) × (new.shut ≡ Some faults) × (faults ≡ after) × HasRisen before after × (size_of true (brief old.list) ≤ most_bytes)
+    Tells old before new after × (old.shut ≡ None) × (new.shut ≡ Some faults) × (faults ≡ after) × HasRisen before after
+    × (size_of true (brief old.list) ≤ most_bytes)
 RefusesMigrate old before new after (force.Shut faults) = Tells old before new after × (old.shut ≡ Some faults) × (new.shut ≡ Some faults)
 RefusesMigrate old before new after force.NoMemory = Tells old before new after × (old.shut ≡ None) × (new.shut ≡ None)

@@ -129,10 +129,13 @@ pub record Refused (old new : Standing) : Type 0 where
 -- what an answer says
 abbrev pub Forces : Standing → LogRec → Result Receipt ForceFault → Standing → Type 0
 Forces old rec (Ok r) new = Stored old rec r new
-Forces old rec (Err (force.Full size)) new = Refused old new × IsFull old.length_told old.wide rec size new.faults × (old.shut ≡ None) × (new.shut ≡ None) × (new.story ≡ old.story) × (new.fuse ≡ old.fuse)
+Forces old rec (Err (force.Full size)) new = Refused old new × IsFull old.length_told old.wide rec size new.faults × (old.shut ≡ None)
+    × (new.shut ≡ None) × (new.story ≡ old.story) × (new.fuse ≡ old.fuse)
 Forces old rec (Err (force.DiskFault n)) new =
-    Refused old new × HasRisen old.faults new.faults × (old.shut ≡ None) × (new.shut ≡ Some n) × CountsAs old.length_told n new.faults × LeavesEither old rec new × StopsAtFuse old.length_told (text old.wide rec) old.fuse new.fuse
-Forces old rec (Err (force.Shut n)) new = Refused old new × IsShut old.length_told old.shut n new.faults × (new.shut ≡ Some n) × (new.story ≡ old.story) × (new.fuse ≡ old.fuse)
+    Refused old new × HasRisen old.faults new.faults × (old.shut ≡ None) × (new.shut ≡ Some n) × CountsAs old.length_told n new.faults
+    × LeavesEither old rec new × StopsAtFuse old.length_told (text old.wide rec) old.fuse new.fuse
+Forces old rec (Err (force.Shut n)) new = Refused old new × IsShut old.length_told old.shut n new.faults × (new.shut ≡ Some n)
+    × (new.story ≡ old.story) × (new.fuse ≡ old.fuse)
 Forces old rec (Err force.NoMemory) new = new ≡ old
 
 -- the receipt of a record that was forced, by its place

@@ -22,7 +22,8 @@ started_bytes file bodies (inr behind) = head 1 ++ (blocks bodies ++ behind.gate
 abbrev pub Starts : Option Story → Option Story → ℕ → List (List ℕ) → Type 0
 Starts old new gate bodies =
     (gate < 2 ^ 63) × (old ≡ None → new ≡ None) ×
-    ((s : Story) → old ≡ Some s → (stands : StandsFor (seen s) bodies) × RestsAt new gate bodies × LeavesOnly (λ c. StandsFor c bodies) (Some (Synced s)) new × IsOn new (started_bytes (seen s) bodies stands)) ×
+    ((s : Story) → old ≡ Some s → (stands : StandsFor (seen s) bodies) × RestsAt new gate bodies
+    × LeavesOnly (λ c. StandsFor c bodies) (Some (Synced s)) new × IsOn new (started_bytes (seen s) bodies stands)) ×
     (gate ≡ place_behind bodies)
 
 -- nothing but the sync was done, or not even that
@@ -31,7 +32,9 @@ StaysSynced old new = (s : Story) → old ≡ Some s → (new ≡ Some s) ⊎ (n
 
 -- or bodies that stood further back were being written to the front
 abbrev pub StaysReadable : Option Story → Option Story → Type 0
-StaysReadable old new = (s : Story) → old ≡ Some s → (new ≡ Some s) ⊎ (new ≡ Some (Synced s)) ⊎ ((bodies : List (List ℕ)) × StandsFor (seen s) bodies × LeavesOnly (λ c. StandsFor c bodies) (Some (Synced s)) new)
+StaysReadable old new = (s : Story) → old ≡ Some s
+    → (new ≡ Some s) ⊎ (new ≡ Some (Synced s))
+    ⊎ ((bodies : List (List ℕ)) × StandsFor (seen s) bodies × LeavesOnly (λ c. StandsFor c bodies) (Some (Synced s)) new)
 
 abbrev pub RefusesStart : Grammar → Option Story → Option Story → ℕ → ℕ → StartFault → Type 0
 RefusesStart accepts old new before after (Foreign at) = StaysSynced old new × ((s : Story) → old ≡ Some s → IsForeign accepts (seen s) at)

@@ -68,7 +68,8 @@ pub record Replaces (old : Face) (bodies : List (List ℕ)) (size : ℕ) (new : 
   pub faults : old.faults ≤ new.faults
 
 abbrev pub RefusesReplace : Face → Face → CompactFault → Type 0
-RefusesReplace old new (compact.DiskFault faults) = Stays old new × (old.shut ≡ None) × (new.shut ≡ Some faults) × (faults ≡ new.faults) × HasRisen old.faults new.faults
+RefusesReplace old new (compact.DiskFault faults) = Stays old new × (old.shut ≡ None) × (new.shut ≡ Some faults) × (faults ≡ new.faults)
+    × HasRisen old.faults new.faults
 RefusesReplace old new (compact.Shut faults) = Stays old new × (old.shut ≡ Some faults) × (new.shut ≡ Some faults)
 RefusesReplace old new compact.NoMemory = Stays old new × (old.shut ≡ None) × (new.shut ≡ None)
 

@@ -15,7 +15,8 @@ Stores at piece f g = (file : List ℕ) → IsReady f file → f.calls + 2 < 2 ^
 
 -- the range is the fill, or there was no memory
 abbrev pub StopsStoring : ℕ → List ℕ → Fused → Fused → Type 0
-StopsStoring at piece f g = (file : List ℕ) → IsReady f file → f.calls + 2 < 2 ^ 64 → StopsAfter 0 2 f g (filled_range f.fill at (length piece) file) ⊎ Starves f g
+StopsStoring at piece f g = (file : List ℕ) → IsReady f file → f.calls + 2 < 2 ^ 64
+    → StopsAfter 0 2 f g (filled_range f.fill at (length piece) file) ⊎ Starves f g
 
 -- ---- a piece after the closing gate at this place, and then the gate
 
@@ -33,7 +34,8 @@ Opens gate piece f g = (file : List ℕ) → IsReady f file → gate < length fi
 abbrev pub StopsOpening : ℕ → List ℕ → Fused → Fused → Type 0
 StopsOpening gate piece f g =
     (file : List ℕ) → IsReady f file → gate < length file → f.calls + 4 < 2 ^ 64
-    → StopsAfter 0 2 f g (filled_range f.fill (gate + 1) (length piece) file) ⊎ StopsAfter 2 4 f g (filled_range f.fill gate 1 (with_piece gate piece file)) ⊎ Starves f g
+    → StopsAfter 0 2 f g (filled_range f.fill (gate + 1) (length piece) file)
+    ⊎ StopsAfter 2 4 f g (filled_range f.fill gate 1 (with_piece gate piece file)) ⊎ Starves f g
 
 -- ---- a body is forced
 

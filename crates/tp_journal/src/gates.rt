@@ -99,7 +99,8 @@ impl<D: Disk> Gates<D> {
     // Promise 3.4, part 2
     pub fn append(&mut self, alloc: Global, body: &[u8]) -> Result<u64, ForceFault>
         requires { IsBody body.now }
-        ensures appended { IfOk result (λ place. Appends (face self.old (D.fault_count self.old.disk)) body.now place (face self.new (D.fault_count self.new.disk))) }
+        ensures appended { IfOk result
+            (λ place. Appends (face self.old (D.fault_count self.old.disk)) body.now place (face self.new (D.fault_count self.new.disk))) }
         ensures refused { IfErr result (RefusesAppend (face self.old (D.fault_count self.old.disk)) body.now (face self.new (D.fault_count self.new.disk))) }
         ensures untouched { IfErr result (KeepsDisk self.old.disk self.new.disk) }
         ensures moments { self.old.shut ≡ None → (s : Story) → D.told self.old.disk ≡ Some s

@@ -55,7 +55,8 @@ impl<D: Disk> Model for Gathering<D> {
 
     ghost view = { λ g. gathered_of (record { disk = g.disk; shelf = g.shelf; gate = g.gate; shut = g.shut }) g.settled };
 
-    ghost invariant = { λ g. AreRecords g.shelf × IsGathered (D.told g.disk) (gathered_of (record { disk = g.disk; shelf = g.shelf; gate = g.gate; shut = g.shut }) g.settled) g.waits.items };
+    ghost invariant = { λ g. AreRecords g.shelf
+        × IsGathered (D.told g.disk) (gathered_of (record { disk = g.disk; shelf = g.shelf; gate = g.gate; shut = g.shut }) g.settled) g.waits.items };
 }
 
 // Puts a piece behind what waits, whose last gate opens, and the record on the shelf; or changes nothing.
@@ -148,7 +149,8 @@ impl<D: Disk> Gathering<D> {
         requires { HasText self.old.journal.wide rec.now }
         // Promise 3.20 [clauses notes disk]: A record that is noted changes nothing on the disk;
         //   `Full` and `Shut` come as they do of a force
-        ensures notes { Forces (standing_of self.old.journal (D.fault_count self.old.journal.disk) None None) rec.now result (standing_of self.new.journal (D.fault_count self.new.journal.disk) None None) }
+        ensures notes { Forces (standing_of self.old.journal (D.fault_count self.old.journal.disk) None None) rec.now result
+            (standing_of self.new.journal (D.fault_count self.new.journal.disk) None None) }
         ensures disk { self.new.journal.disk ≡ self.old.journal.disk }
         ensures settled { self.new.settled ≡ self.old.settled }
     {
@@ -160,7 +162,8 @@ impl<D: Disk> Gathering<D> {
     /// Notes one record as `force` does, and answers the place of its gate alone.
     pub fn append(&mut self, alloc: Global, rec: &LogRec) -> Result<u64, ForceFault>
         requires { HasText self.old.journal.wide rec.now }
-        ensures notes { Forces (standing_of self.old.journal (D.fault_count self.old.journal.disk) None None) rec.now (receipt_of rec.now result) (standing_of self.new.journal (D.fault_count self.new.journal.disk) None None) }
+        ensures notes { Forces (standing_of self.old.journal (D.fault_count self.old.journal.disk) None None) rec.now
+            (receipt_of rec.now result) (standing_of self.new.journal (D.fault_count self.new.journal.disk) None None) }
         ensures order { IfErr result (ComesInOrder self.old.journal rec.now) }
         ensures disk { self.new.journal.disk ≡ self.old.journal.disk }
         ensures settled { self.new.settled ≡ self.old.settled }
@@ -211,7 +214,8 @@ impl<D: Disk> Gathering<D> {
         ensures ok { OnOk result ((self.old.journal.shut ≡ None) × (self.new.journal.shut ≡ None)) }
         // Promise 3.22 [clauses refused tells]: A settle fails by a fault of the disk alone, which
         //   shuts the log; the list keeps what was noted
-        ensures refused { IfErr result (RefusesSettle self.old.journal (D.fault_count self.old.journal.disk) self.new.journal (D.fault_count self.new.journal.disk)) }
+        ensures refused { IfErr result
+            (RefusesSettle self.old.journal (D.fault_count self.old.journal.disk) self.new.journal (D.fault_count self.new.journal.disk)) }
         ensures settled { IsSettled self.new }
         ensures grows { self.old.settled ≤ self.new.settled }
         ensures within { self.new.settled ≤ length self.new.journal.list }
@@ -222,7 +226,8 @@ impl<D: Disk> Gathering<D> {
         //   log without the noted records or with all of them; after Ok it is the log with all, and
         //   the file is to the byte what it would be if each had been forced alone
         ensures moments { self.old.journal.shut ≡ None → (s : Story) → D.told self.old.journal.disk ≡ Some s
-            → LeavesOnly (StandsForEither (bodies_settled self.old) (bodies_in self.old.journal)) (D.told self.old.journal.disk) (D.told self.new.journal.disk) }
+            → LeavesOnly (StandsForEither (bodies_settled self.old) (bodies_in self.old.journal)) (D.told self.old.journal.disk)
+            (D.told self.new.journal.disk) }
         ensures untold { D.told self.old.journal.disk ≡ None → D.told self.new.journal.disk ≡ None }
         // To the byte the file is what it would be if each record had been forced alone.
         ensures bytes { OnOk result ((file : List ℕ) → IsOn (D.told self.old.journal.disk) file

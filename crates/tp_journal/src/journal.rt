@@ -94,7 +94,8 @@ impl<D: Disk> Journal<D> {
         //   (calls 1 and 2) or of the gate (3 and 4), or there was no memory for one
         // Promise 3.9: A fault of the disk in a force carries the count right after the call that
         //   failed, where the keeper tells a length
-        ensures forces { Forces (standing_of self.old (D.fault_count self.old.disk) (D.told self.old.disk) (D.fuse self.old.disk)) rec.now result (standing_of self.new (D.fault_count self.new.disk) (D.told self.new.disk) (D.fuse self.new.disk)) }
+        ensures forces { Forces (standing_of self.old (D.fault_count self.old.disk) (D.told self.old.disk) (D.fuse self.old.disk)) rec.now
+            result (standing_of self.new (D.fault_count self.new.disk) (D.told self.new.disk) (D.fuse self.new.disk)) }
         // Promise 3.10: Out of memory and a fault of the disk come of a force only where there is
         //   room for the record, and a journal that is shut answers nothing else
         ensures order { IfErr result (ComesInOrder self.old rec.now) }
@@ -112,7 +113,9 @@ impl<D: Disk> Journal<D> {
     // Is the log open, and has it room for the record? A fault says what it is not.
     fn check(&self, rec: &LogRec) -> Result<(), ForceFault>
         requires { HasText self.now.wide rec.now }
-        ensures refused { IfErr result (λ fault. Forces (standing_of self.now (D.fault_count self.now.disk) (D.told self.now.disk) (D.fuse self.now.disk)) rec.now (Err fault) (standing_of self.now (D.fault_count self.now.disk) (D.told self.now.disk) (D.fuse self.now.disk))) }
+        ensures refused { IfErr result
+            (λ fault. Forces (standing_of self.now (D.fault_count self.now.disk) (D.told self.now.disk) (D.fuse self.now.disk)) rec.now
+            (Err fault) (standing_of self.now (D.fault_count self.now.disk) (D.told self.now.disk) (D.fuse self.now.disk))) }
         ensures order { IfErr result (ComesInOrder self.now rec.now) }
         ensures untouched { IfErr result (KeepsDisk self.now.disk self.now.disk) }
         ensures memory { OnOk result (ComesInOrder self.now rec.now ForceFault.NoMemory) }
@@ -131,7 +134,8 @@ impl<D: Disk> Journal<D> {
     /// Forces one record as `force` does, and answers the place of its gate alone.
     pub fn append(&mut self, alloc: Global, rec: &LogRec) -> Result<u64, ForceFault>
         requires { HasText self.old.wide rec.now }
-        ensures forces { Forces (standing_of self.old (D.fault_count self.old.disk) (D.told self.old.disk) (D.fuse self.old.disk)) rec.now (receipt_of rec.now result) (standing_of self.new (D.fault_count self.new.disk) (D.told self.new.disk) (D.fuse self.new.disk)) }
+        ensures forces { Forces (standing_of self.old (D.fault_count self.old.disk) (D.told self.old.disk) (D.fuse self.old.disk)) rec.now
+            (receipt_of rec.now result) (standing_of self.new (D.fault_count self.new.disk) (D.told self.new.disk) (D.fuse self.new.disk)) }
         ensures order { IfErr result (ComesInOrder self.old rec.now) }
         ensures untouched { IfErr result (KeepsDisk self.old.disk self.new.disk) }
         ensures front { LeavesFront self.old.gate (D.told self.old.disk) (D.told self.new.disk) }
@@ -156,14 +160,16 @@ impl<D: Disk> Journal<D> {
     /// list is in order.
     pub fn compact(&mut self, alloc: Global) -> Result<(), CompactFault>
         requires { all_follow self.old.list ≡ true }
-        ensures compacted { OnOk result (Becomes self.old.wide (brief self.old.list) self.old (D.fault_count self.old.disk) self.new (D.fault_count self.new.disk)) }
+        ensures compacted { OnOk result
+            (Becomes self.old.wide (brief self.old.list) self.old (D.fault_count self.old.disk) self.new (D.fault_count self.new.disk)) }
         ensures refused { IfErr result (RefusesCompact self.old (D.fault_count self.old.disk) self.new (D.fault_count self.new.disk)) }
         ensures untouched { IfErr result (KeepsDiskInReplace self.old.disk self.new.disk) }
         // A crash at any moment of the call leaves the records from before it, or their brief.
         ensures moments { self.old.shut ≡ None → (s : Story) → D.told self.old.disk ≡ Some s
             → LeavesOnly (StandsForEither (bodies_in self.old) (bodies_of self.old.wide (brief self.old.list))) (D.told self.old.disk) (D.told self.new.disk) }
         // Promise 3.15, part 2
-        ensures bytes { OnOk result ((s : Story) → D.told self.old.disk ≡ Some s → IsOn (D.told self.new.disk) (log_bytes self.old.wide (brief self.old.list))) }
+        ensures bytes { OnOk result ((s : Story) → D.told self.old.disk ≡ Some s
+            → IsOn (D.told self.new.disk) (log_bytes self.old.wide (brief self.old.list))) }
     {
         if let Some(faults) = self.log.shut() {
             return Err(CompactFault::Shut { faults });

@@ -86,7 +86,8 @@ impl Lives {
 
     // Takes the key's next record, which is no End.
     fn put(&mut self, alloc: Global, i: usize, owner: &Owner, rec: &LogRec) -> Result<(), NoMemory>
-        ensures { OnOk result ((o : TheOwner) → begun self.new o ≡ cond (is_owner owner.now o) (Some (with_more i (begun self.old owner.now) rec.now)) (begun self.old o)) }
+        ensures { OnOk result ((o : TheOwner)
+            → begun self.new o ≡ cond (is_owner owner.now o) (Some (with_more i (begun self.old owner.now) rec.now)) (begun self.old o)) }
     {
         if let Some(begun) = self.keys.get_mut(owner) {
             begun.push(alloc, rec)?;

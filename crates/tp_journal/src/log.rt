@@ -69,7 +69,8 @@ impl<D: Disk, S: Shelf + Drop> Log<D, S> {
         ensures started { OnOk result (IsStarted (D.told self.new.disk) self.new.gate (S.bodies self.new.shelf) self.new.shut) }
         ensures passes { OnOk result (OnFuse (Opens self.old.gate (body_piece body.now)) (D.fuse self.old.disk) (D.fuse self.new.disk)) }
         ensures stops { IfErr result (StopsForcing self.old.gate body.now (D.fuse self.old.disk) (D.fuse self.new.disk)) }
-        ensures bytes { OnOk result ((file : List ℕ) → IsOn (D.told self.old.disk) file → IsOn (D.told self.new.disk) (forced_bytes self.old.gate body.now file)) }
+        ensures bytes { OnOk result ((file : List ℕ) → IsOn (D.told self.old.disk) file
+            → IsOn (D.told self.new.disk) (forced_bytes self.old.gate body.now file)) }
         ensures front { LeavesFront self.old.gate (D.told self.old.disk) (D.told self.new.disk) }
     {
         if let Some(faults) = self.shut {
@@ -110,7 +111,8 @@ impl<D: Disk, S: Shelf + Drop> Log<D, S> {
         ensures started { OnOk result (IsStarted (D.told self.new.disk) self.new.gate (S.bodies self.new.shelf) self.new.shut) }
         ensures passes { OnOk result (OnFuse (Opens self.old.gate (body_piece body.now)) (D.fuse self.old.disk) (D.fuse self.new.disk)) }
         ensures stops { IfErr result (StopsForcing self.old.gate body.now (D.fuse self.old.disk) (D.fuse self.new.disk)) }
-        ensures bytes { OnOk result ((file : List ℕ) → IsOn (D.told self.old.disk) file → IsOn (D.told self.new.disk) (forced_bytes self.old.gate body.now file)) }
+        ensures bytes { OnOk result ((file : List ℕ) → IsOn (D.told self.old.disk) file
+            → IsOn (D.told self.new.disk) (forced_bytes self.old.gate body.now file)) }
         ensures front { LeavesFront self.old.gate (D.told self.old.disk) (D.told self.new.disk) }
     {
         let place = self.gate;

@@ -47,7 +47,8 @@ pub fn append<D: Disk>(disk: &mut D, gate: u64, piece: &[u8]) -> Result<(), Fail
     requires { gate + 1 < 2 ^ 64 }
     ensures moments { (bodies more : List (List ℕ)) → RestsAt (D.told disk.old) gate bodies → AllByRecursion IsBody more → 1 ∷ piece.now ≡ blocks more ++ 0 ∷ []
         → LeavesOnly (StandsForEither bodies (bodies ++ more)) (D.told disk.old) (D.told disk.new) }
-    ensures rests { OnOk result ((bodies more : List (List ℕ)) → RestsAt (D.told disk.old) gate bodies → AllByRecursion IsBody more → 1 ∷ piece.now ≡ blocks more ++ 0 ∷ []
+    ensures rests { OnOk result ((bodies more : List (List ℕ)) → RestsAt (D.told disk.old) gate bodies → AllByRecursion IsBody more
+        → 1 ∷ piece.now ≡ blocks more ++ 0 ∷ []
         → RestsAt (D.told disk.new) (gate + length piece.now) (bodies ++ more)) }
     ensures bytes { OnOk result ((file : List ℕ) → IsOn (D.told disk.old) file → gate < length file
         → IsOn (D.told disk.new) (with_gate gate piece.now file)) }
@@ -111,8 +112,10 @@ pub fn finish<D: Disk>(disk: &mut D, text: &[u8]) -> Result<(), Failed>
 // Puts bytes and a place after the closing gate, which ends at `end`. The log stays what it is.
 fn stage<D: Disk>(disk: &mut D, end: u64, behind: &[u8], place: u64) -> Result<(), Failed>
     requires { end + length behind.now < 2 ^ 64 }
-    ensures moments { (bodies : List (List ℕ)) (gate : ℕ) → end ≡ gate + 1 → RestsAt (D.told disk.old) gate bodies → LeavesOnly (λ c. StandsFor c bodies) (D.told disk.old) (D.told disk.new) }
-    ensures staged { OnOk result ((bodies : List (List ℕ)) (gate : ℕ) → end ≡ gate + 1 → RestsAt (D.told disk.old) gate bodies → IsStaged (D.told disk.new) bodies behind.now place) }
+    ensures moments { (bodies : List (List ℕ)) (gate : ℕ) → end ≡ gate + 1 → RestsAt (D.told disk.old) gate bodies
+        → LeavesOnly (λ c. StandsFor c bodies) (D.told disk.old) (D.told disk.new) }
+    ensures staged { OnOk result ((bodies : List (List ℕ)) (gate : ℕ) → end ≡ gate + 1 → RestsAt (D.told disk.old) gate bodies
+        → IsStaged (D.told disk.new) bodies behind.now place) }
     ensures untold { D.told disk.old ≡ None → D.told disk.new ≡ None }
     ensures kept { D.fault_count disk.old ≤ D.fault_count disk.new }
     ensures risen { OnErr result (HasRisen (D.fault_count disk.old) (D.fault_count disk.new)) }
@@ -129,11 +132,14 @@ fn stage<D: Disk>(disk: &mut D, end: u64, behind: &[u8], place: u64) -> Result<(
 pub fn replace<D: Disk>(disk: &mut D, gate: u64, padded: &[u8], zeros: usize) -> Result<(), Failed>
     requires zeros { zeros ≤ length padded.now }
     requires fits { gate + 14 + length padded.now < 2 ^ 64 }
-    ensures moments { (before after : List (List ℕ)) → RestsAt (D.told disk.old) gate before → IsTextOf after (drop zeros padded.now) → length padded.now ≤ gate + zeros + zeros - 4
+    ensures moments { (before after : List (List ℕ)) → RestsAt (D.told disk.old) gate before → IsTextOf after (drop zeros padded.now)
+        → length padded.now ≤ gate + zeros + zeros - 4
         → LeavesOnly (StandsForEither before after) (D.told disk.old) (D.told disk.new) }
-    ensures rests { OnOk result ((before after : List (List ℕ)) → RestsAt (D.told disk.old) gate before → IsTextOf after (drop zeros padded.now) → length padded.now ≤ gate + zeros + zeros - 4
+    ensures rests { OnOk result ((before after : List (List ℕ)) → RestsAt (D.told disk.old) gate before
+        → IsTextOf after (drop zeros padded.now) → length padded.now ≤ gate + zeros + zeros - 4
         → RestsAt (D.told disk.new) (4 + length padded.now - zeros) after) }
-    ensures bytes { OnOk result ((before after : List (List ℕ)) → RestsAt (D.told disk.old) gate before → IsTextOf after (drop zeros padded.now) → length padded.now ≤ gate + zeros + zeros - 4
+    ensures bytes { OnOk result ((before after : List (List ℕ)) → RestsAt (D.told disk.old) gate before
+        → IsTextOf after (drop zeros padded.now) → length padded.now ≤ gate + zeros + zeros - 4
         → IsOn (D.told disk.new) (head 1 ++ drop zeros padded.now)) }
     ensures untold { D.told disk.old ≡ None → D.told disk.new ≡ None }
     ensures kept { D.fault_count disk.old ≤ D.fault_count disk.new }

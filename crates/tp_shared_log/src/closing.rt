@@ -34,7 +34,8 @@ impl<D: Disk, L: Stood, M: Ledger> SharedLog<D, L, M> {
         // Promise 5.11: Where the slips of shares note as many records as were noted, the records after
         //   those that stood are an interleaving of the shares' receipts: each tells its record, and the
         //   place that this has in the journal's list
-        ensures woven { sum_by (λ s. length s.receipts) slips.items ≡ all.amount → IsInterleaving (drop (length L.stood) (placed result.0.wide result.0.list)) (map (λ s. s.receipts) slips.items) }
+        ensures woven { sum_by (λ s. length s.receipts) slips.items ≡ all.amount
+            → IsInterleaving (drop (length L.stood) (placed result.0.wide result.0.list)) (map (λ s. s.receipts) slips.items) }
         ensures wide { result.0.wide ≡ L.wide }
         ensures shut { ShutRose L.faults result.0.shut (D.fault_count result.0.disk) }
         ensures images { Leaves L.story (length L.stood) result.0.wide result.0.list result.0.shut (D.told result.0.disk) }

@@ -59,7 +59,8 @@ impl<D: Disk, L: Stood, M: Ledger> Locked<D, L, M> {
     ) -> (Locked<D, L, M>, Share<L>, Share<M>)
         requires open { journal.journal.shut ≡ None }
         requires settled { journal.settled ≡ length journal.journal.list }
-        requires stood { (L.stood ≡ placed journal.journal.wide journal.journal.list) × (L.faults ≡ D.fault_count journal.journal.disk) × (L.wide ≡ journal.journal.wide) × (L.shares ≡ shares) × (L.story ≡ D.told journal.journal.disk) }
+        requires stood { (L.stood ≡ placed journal.journal.wide journal.journal.list) × (L.faults ≡ D.fault_count journal.journal.disk)
+            × (L.wide ≡ journal.journal.wide) × (L.shares ≡ shares) × (L.story ≡ D.told journal.journal.disk) }
         requires first { (first.name ≡ L.name) × (first.parts ≡ L.parts) }
         requires second { (second.name ≡ M.name) × (second.parts ≡ M.parts) × (0 < second.parts) }
         ensures same { result.0 ≡ journal }

@@ -49,7 +49,8 @@ impl<D: Disk, L: Stood, M: Ledger> SharedLog<D, L, M> {
     ) -> Result<(SharedLog<D, L, M>, Share<L>, Share<M>), (Journal<D>, NoMemory)>
         requires open { journal.shut ≡ None }
         requires shares { (1 ≤ shares) × (shares ≤ 16) }
-        requires stood { (L.stood ≡ placed journal.wide journal.list) × (L.faults ≡ D.fault_count journal.disk) × (L.wide ≡ journal.wide) × (L.shares ≡ shares) × (L.story ≡ D.told journal.disk) }
+        requires stood { (L.stood ≡ placed journal.wide journal.list) × (L.faults ≡ D.fault_count journal.disk) × (L.wide ≡ journal.wide)
+            × (L.shares ≡ shares) × (L.story ≡ D.told journal.disk) }
         requires first { (first.name ≡ L.name) × (first.parts ≡ L.parts) }
         requires second { (second.name ≡ M.name) × (second.parts ≡ M.parts) × (0 < second.parts) }
         ensures part { IfOk result (λ made. (made.1.parts ≡ L.parts) × (made.1.amount ≡ 0)) }

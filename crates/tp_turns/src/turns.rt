@@ -139,7 +139,8 @@ impl<T: Lists<I>, I> Turns<T, I> {
     /// Gives the value back. What is new in it stands under the pass's first claim.
     pub fn give(&self, pass: &mut Pass<T, I>, _turn: MutexGuard<'_, ()>)
         requires id { pass.old.table_id ≡ self.now.table.shared.table_id }
-        requires has { (seen : List I) × (more : List I) × (c : Claimed I) × (cs : List (Claimed I)) × (x : T) × (T.list x ≡ seen ++ more) × (pass.old.me ≡ (knows 1 seen (c ∷ cs), (0, x) ∷ [])) }
+        requires has { (seen : List I) × (more : List I) × (c : Claimed I) × (cs : List (Claimed I)) × (x : T) × (T.list x ≡ seen ++ more)
+            × (pass.old.me ≡ (knows 1 seen (c ∷ cs), (0, x) ∷ [])) }
         ensures id { pass.new.table_id ≡ pass.old.table_id }
         ensures gave { (x : T) → pass.old.me.1 ≡ (0, x) ∷ [] → pass.new.me ≡ (idle (grown pass.old.me.0.claims (more_in T.list pass.old.me.0 x)), []) }
     {

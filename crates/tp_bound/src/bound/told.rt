@@ -58,7 +58,8 @@ impl<D: Disk> Bound<D> {
         //   failed, all bodies are on the disk: the Bind before the answer `commit`, the Keep
         //   before the answer `done`
         ensures tells { IfOk result (λ told. node ≡ self.old.node
-            → Tells (wish self.old.store self.old.current self.old.gate ind.now) self.old (D.fault_count self.old.disk) told self.new (D.fault_count self.new.disk)) }
+            → Tells (wish self.old.store self.old.current self.old.gate ind.now) self.old (D.fault_count self.old.disk) told self.new
+            (D.fault_count self.new.disk)) }
         // So it is one of the answers that a store may give.
         // Promise 8.17 [clauses says shuts]: In a box a store answers as it may, one answer after
         //   the other; a fault answer comes only where its disk's count rose, or after such an
@@ -71,7 +72,8 @@ impl<D: Disk> Bound<D> {
         // Promise 8.10: While a store is not shut, whatever moment of a call the machine stops at,
         //   a disk that tells its story opens to the content from before the call, or to that with
         //   the writes of the Bind that it keeps
-        ensures moments { node ≡ self.old.node → OpensThroughout (wish self.old.store self.old.current self.old.gate ind.now) self.old (D.told self.old.disk) (D.told self.new.disk) }
+        ensures moments { node ≡ self.old.node
+            → OpensThroughout (wish self.old.store self.old.current self.old.gate ind.now) self.old (D.told self.old.disk) (D.told self.new.disk) }
         // Where no call of the disk has failed, all bodies are on the disk, that which was added too.
         ensures forced { IsStarted (D.told self.new.disk) self.new.gate self.new.bodies self.new.shut }
     {
@@ -86,9 +88,11 @@ impl<D: Disk> Bound<D> {
 
     // What its own node is told.
     fn hear(&mut self, alloc: Global, ind: &Indication) -> Result<Option<Request>, NoMemory>
-        ensures tells { IfOk result (λ told. Tells (wish self.old.store self.old.current self.old.gate ind.now) self.old (D.fault_count self.old.disk) told self.new (D.fault_count self.new.disk)) }
+        ensures tells { IfOk result (λ told. Tells (wish self.old.store self.old.current self.old.gate ind.now) self.old
+            (D.fault_count self.old.disk) told self.new (D.fault_count self.new.disk)) }
         ensures unchanged { OnErr result (self.new ≡ self.old) }
-        ensures moments { (self.new.disk ≡ self.old.disk) ⊎ OpensThroughout (wish self.old.store self.old.current self.old.gate ind.now) self.old (D.told self.old.disk) (D.told self.new.disk) }
+        ensures moments { (self.new.disk ≡ self.old.disk)
+            ⊎ OpensThroughout (wish self.old.store self.old.current self.old.gate ind.now) self.old (D.told self.old.disk) (D.told self.new.disk) }
     {
         match ind {
             Indication::BeginDialogue { units, .. } => Ok(Some(Request::Accept {
@@ -130,9 +134,11 @@ impl<D: Disk> Bound<D> {
         answer: Option<Request>,
         current: Option<Current>,
     ) -> Result<Option<Request>, NoMemory>
-        ensures tells { IfOk result (λ told. Tells (dropping self.old.store.undecided answer current) self.old (D.fault_count self.old.disk) told self.new (D.fault_count self.new.disk)) }
+        ensures tells { IfOk result (λ told. Tells (dropping self.old.store.undecided answer current) self.old (D.fault_count self.old.disk)
+            told self.new (D.fault_count self.new.disk)) }
         ensures unchanged { OnErr result (self.new ≡ self.old) }
-        ensures moments { (self.new.disk ≡ self.old.disk) ⊎ OpensThroughout (dropping self.old.store.undecided answer current) self.old (D.told self.old.disk) (D.told self.new.disk) }
+        ensures moments { (self.new.disk ≡ self.old.disk)
+            ⊎ OpensThroughout (dropping self.old.store.undecided answer current) self.old (D.told self.old.disk) (D.told self.new.disk) }
     {
         let _count = self.gates.count();
         let Some(pending) = &self.store.undecided else {
@@ -149,7 +155,8 @@ impl<D: Disk> Bound<D> {
     }
 
     fn add(&mut self, alloc: Global, octets: &[u8]) -> Result<Option<Request>, NoMemory>
-        ensures tells { IfOk result (λ told. Tells (Answers None (gathering self.old.current octets.now)) self.old (D.fault_count self.old.disk) told self.new (D.fault_count self.new.disk)) }
+        ensures tells { IfOk result (λ told. Tells (Answers None (gathering self.old.current octets.now)) self.old
+            (D.fault_count self.old.disk) told self.new (D.fault_count self.new.disk)) }
         ensures unchanged { OnErr result (self.new ≡ self.old) }
         ensures same { self.new.disk ≡ self.old.disk }
     {
@@ -160,9 +167,11 @@ impl<D: Disk> Bound<D> {
     }
 
     fn prepare(&mut self, alloc: Global) -> Result<Option<Request>, NoMemory>
-        ensures tells { IfOk result (λ told. Tells (preparing self.old.gate self.old.current) self.old (D.fault_count self.old.disk) told self.new (D.fault_count self.new.disk)) }
+        ensures tells { IfOk result (λ told. Tells (preparing self.old.gate self.old.current) self.old (D.fault_count self.old.disk) told
+            self.new (D.fault_count self.new.disk)) }
         ensures unchanged { OnErr result (self.new ≡ self.old) }
-        ensures moments { (self.new.disk ≡ self.old.disk) ⊎ OpensThroughout (preparing self.old.gate self.old.current) self.old (D.told self.old.disk) (D.told self.new.disk) }
+        ensures moments { (self.new.disk ≡ self.old.disk)
+            ⊎ OpensThroughout (preparing self.old.gate self.old.current) self.old (D.told self.old.disk) (D.told self.new.disk) }
     {
         let _count = self.gates.count();
         let Some(current) = &self.current else {
@@ -186,9 +195,11 @@ impl<D: Disk> Bound<D> {
     }
 
     fn commit(&mut self, alloc: Global) -> Result<Option<Request>, NoMemory>
-        ensures tells { IfOk result (λ told. Tells (keeping self.old.store.undecided self.old.current) self.old (D.fault_count self.old.disk) told self.new (D.fault_count self.new.disk)) }
+        ensures tells { IfOk result (λ told. Tells (keeping self.old.store.undecided self.old.current) self.old
+            (D.fault_count self.old.disk) told self.new (D.fault_count self.new.disk)) }
         ensures unchanged { OnErr result (self.new ≡ self.old) }
-        ensures moments { (self.new.disk ≡ self.old.disk) ⊎ OpensThroughout (keeping self.old.store.undecided self.old.current) self.old (D.told self.old.disk) (D.told self.new.disk) }
+        ensures moments { (self.new.disk ≡ self.old.disk)
+            ⊎ OpensThroughout (keeping self.old.store.undecided self.old.current) self.old (D.told self.old.disk) (D.told self.new.disk) }
     {
         let _count = self.gates.count();
         let Some(pending) = &self.store.undecided else {
