@@ -65,7 +65,8 @@ abbrev pub lacks_in : List (SiteKey × SiteTold) → Aaid → Bool
 lacks_in sites t = elim (told_at sites t.owner) [ None ↦ false | Some v ↦ not (has_tree v.roots t) ]
 
 abbrev pub mismatch_in : List (SiteKey × SiteTold) → Ledger → Fate → Option Mismatch
-mismatch_in sites l f = elim (is_unknown f.state && lacks_in sites f.key.aaid) [ true ↦ option_map (mismatch_at f) (committed_at l.trees f.key.aaid) | false ↦ None ]
+mismatch_in sites l f = elim (is_unknown f.state && lacks_in sites f.key.aaid)
+    [ true ↦ option_map (mismatch_at f) (committed_at l.trees f.key.aaid) | false ↦ None ]
 
 abbrev pub mismatches_in : List (SiteKey × SiteTold) → Ledger → List Fate → List Mismatch
 mismatches_in sites l [] = []

@@ -34,7 +34,8 @@ abbrev pub mismatch_at : Fate → Addr → Mismatch
 mismatch_at f a = record { aaid = f.key.aaid; committed = a; doubtful = f.node }
 
 abbrev pub mismatch_of : List SiteLog → Fate → Option Mismatch
-mismatch_of logs f = elim (is_unknown f.state && lacks_root_commit logs f.key.aaid) [ true ↦ option_map (mismatch_at f) (first_committed f.key.aaid (entries logs)) | false ↦ None ]
+mismatch_of logs f = elim (is_unknown f.state && lacks_root_commit logs f.key.aaid)
+    [ true ↦ option_map (mismatch_at f) (first_committed f.key.aaid (entries logs)) | false ↦ None ]
 
 abbrev pub mismatches_of : List SiteLog → List Fate → List Mismatch
 mismatches_of logs [] = []

@@ -101,7 +101,8 @@ impl Audit {
         list: &[LogRec],
     ) -> Result<(), NoMemory>
         requires { all_follow list.now ≡ true }
-        ensures ok { OnOk result ((logs : List SiteLog) → is_added logs site.now ≡ false → IsAuditOf logs self.old → IsAuditOf (with_log logs site.now list.now) self.new) }
+        ensures ok { OnOk result ((logs : List SiteLog) → is_added logs site.now ≡ false → IsAuditOf logs self.old
+            → IsAuditOf (with_log logs site.now list.now) self.new) }
         // Promise 9.3, part 2
         ensures err { OnErr result ((logs : List SiteLog) → IsAuditOf logs self.old → IsAuditOf logs self.new) }
     {
@@ -118,7 +119,8 @@ impl Audit {
         keys: &IndexMap<Owner, Summary>,
     ) -> Result<(), NoMemory>
         requires { keys.now.entries ≡ summaries (keys_of list.now) }
-        ensures ok { OnOk result ((logs : List SiteLog) → is_added logs site.now ≡ false → IsAuditOf logs self.old → IsAuditOf (with_log logs site.now list.now) self.new) }
+        ensures ok { OnOk result ((logs : List SiteLog) → is_added logs site.now ≡ false → IsAuditOf logs self.old
+            → IsAuditOf (with_log logs site.now list.now) self.new) }
         ensures err { OnErr result ((logs : List SiteLog) → IsAuditOf logs self.old → IsAuditOf logs self.new) }
     {
         let recalled = Recalled::from_records(alloc, *site, LogVersion::Two, list)?;
@@ -167,7 +169,8 @@ impl Audit {
 fn enter_all(ledger: &mut Ledger, site: &SiteName, keys: &IndexMap<Owner, Summary>)
     requires room { index_map_len keys.now ≤ ledger.old.room }
     requires numbers { ledger.old.count + index_map_len keys.now < 2 ^ 64 }
-    ensures { (es : List Entry) (ls : List Life) → IsLedgerOf es ledger.old → keys.now.entries ≡ summaries ls → IsLedgerOf (es ++ entries_at site.now ls) ledger.new }
+    ensures { (es : List Entry) (ls : List Life) → IsLedgerOf es ledger.old → keys.now.entries ≡ summaries ls
+        → IsLedgerOf (es ++ entries_at site.now ls) ledger.new }
 {
     for (owner, summary) in keys.iter() {
         let node = Addr {

@@ -79,7 +79,8 @@ pub(crate) fn note(
 ) -> Firsts
     requires { 0 < spare trees.old }
     ensures before { result ≡ firsts_at trees.old.entries aaid.now }
-    ensures after { (t : AaidValue) → firsts_at trees.new.entries t ≡ cond (is_aaid aaid.now t) (firsts_with result outcome place) (firsts_at trees.old.entries t) }
+    ensures after { (t : AaidValue)
+        → firsts_at trees.new.entries t ≡ cond (is_aaid aaid.now t) (firsts_with result outcome place) (firsts_at trees.old.entries t) }
     ensures room { spare trees.old ≤ spare trees.new + 1 }
 {
     let tree = TreeKey { aaid: *aaid };

@@ -44,7 +44,13 @@ impl Model for Ledger {
 
     ghost Value = { LedgerValue };
 
-    ghost view = { λ l. record { count = l.count; trees = l.trees.entries; clash = l.clash; doubts = l.doubts.items; room = min (spare l.trees) (vec_capacity l.doubts - vec_len l.doubts) } };
+    ghost view = { λ l. record {
+      count = l.count;
+      trees = l.trees.entries;
+      clash = l.clash;
+      doubts = l.doubts.items;
+      room = min (spare l.trees) (vec_capacity l.doubts - vec_len l.doubts);
+    } };
 }
 
 impl Ledger {
@@ -83,7 +89,8 @@ impl Ledger {
     pub(crate) fn enter(&mut self, node: &Addr, key: &NodeKey, summary: &Summary)
         requires room { 0 < self.old.room }
         requires number { self.old.count + 1 < 2 ^ 64 }
-        ensures entered { (es : List Entry) (e : Entry) → IsLedgerOf es self.old → addr_of e ≡ node.now → e.owner.key ≡ key.now → summary_of e.records ≡ summary.now → IsLedgerOf (es ++ e ∷ []) self.new }
+        ensures entered { (es : List Entry) (e : Entry) → IsLedgerOf es self.old → addr_of e ≡ node.now → e.owner.key ≡ key.now
+            → summary_of e.records ≡ summary.now → IsLedgerOf (es ++ e ∷ []) self.new }
         ensures count { self.new.count ≡ self.old.count + 1 }
         ensures room { self.old.room ≤ self.new.room + 1 }
     {

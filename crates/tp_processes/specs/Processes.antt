@@ -90,7 +90,8 @@ abbrev pub ProcessesLeaveTheLog : Type 0
 ProcessesLeaveTheLog = (s : List ℕ) (p : Process) (ps : List Process) → AreProcesses s (p ∷ ps) → IsLogOf s (life_of s (p ∷ ps)) p.left
 
 abbrev pub ProcessesLeaveItWhole : Type 0
-ProcessesLeaveItWhole = (s : List ℕ) (p : Process) (ps : List Process) → AreProcesses s (p ∷ ps) → AreWhole (p ∷ ps) → IsLog p.left (opening_after s (life_of s (p ∷ ps))).records
+ProcessesLeaveItWhole = (s : List ℕ) (p : Process) (ps : List Process) → AreProcesses s (p ∷ ps) → AreWhole (p ∷ ps)
+    → IsLog p.left (opening_after s (life_of s (p ∷ ps))).records
 
 -- what a process gives for the events that happened in it is what one on the whole log gives
 abbrev pub ProcessesActAlike : Type 0

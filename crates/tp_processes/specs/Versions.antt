@@ -37,7 +37,8 @@ answers o gs = elim o.version [ LogVersion.One ↦ answers_with_room (node_run o
 -- what happened is what happens on a log of version 2
 pub record ActsAsTwo (s : List ℕ) (version : LogVersion) (rs : List LogRec) (gs : List Given) : Type 0 where
   pub outputs : answers (on s version rs) gs ≡ (node_run (on s LogVersion.Two rs) (happened (on s version rs) gs)).outputs
-  pub histories : (n : ℕ) → history_of (node_run (on s version rs) gs).pasts n ≡ history_of (node_run (on s LogVersion.Two rs) (happened (on s version rs) gs)).pasts n
+  pub histories : (n : ℕ) → history_of (node_run (on s version rs) gs).pasts n
+      ≡ history_of (node_run (on s LogVersion.Two rs) (happened (on s version rs) gs)).pasts n
   pub log : log_after (on s version rs) gs ≡ log_after (on s LogVersion.Two rs) (happened (on s version rs) gs)
 
 abbrev pub VersionsActAlike : Type 0

@@ -40,7 +40,8 @@ pub record IsWholeLeft (name : List ℕ) (workers : ℕ) (events : List Given) (
   pub begun : process.begun ≡ true
   pub lanes : (i : ℕ) → i < workers → lane process.given i workers ≡ lane events i workers
   pub outputs : (i : ℕ) → i < workers
-      → outputs_in i workers process.given (node_run (on name version (recs listed)) process.given).outputs ≡ outputs_in i workers events (node_run (on name version (recs listed)) events).outputs
+      → outputs_in i workers process.given (node_run (on name version (recs listed)) process.given).outputs
+      ≡ outputs_in i workers events (node_run (on name version (recs listed)) events).outputs
 
 -- ---- a run
 
@@ -69,18 +70,21 @@ IsIdleBatch r story = (r.story ≡ r.told) ⊎ IsUnopened story r.story
 
 -- the log does not have the records of which its workers were given receipts
 abbrev pub IsMismatched : Drive → Ran → Story → Type 0
-IsMismatched d r story = (events : List Given) × (place : ℕ) × (receipt : Receipt) × (kept : Receipt) × HasOther d.name d.workers events story r.story place receipt kept
+IsMismatched d r story = (events : List Given) × (place : ℕ) × (receipt : Receipt) × (kept : Receipt)
+    × HasOther d.name d.workers events story r.story place receipt kept
 
 -- where memory runs out, it may be so after all events have happened
 abbrev pub IsBatch : Drive → Ran → Status → Story → LogVersion → List Placed → Type 0
 IsBatch d r Status.Ok story version listed = IsWholeBatch d r Status.Ok story version listed
 IsBatch d r (Status.WriteFault faults) story version listed = IsWholeBatch d r (Status.WriteFault faults) story version listed
-IsBatch d r Status.NoMemory story version listed = IsIdleBatch r story ⊎ IsPartBatch d r story ⊎ IsWholeBatch d r Status.NoMemory story version listed ⊎ IsMismatched d r story
+IsBatch d r Status.NoMemory story version listed = IsIdleBatch r story ⊎ IsPartBatch d r story
+    ⊎ IsWholeBatch d r Status.NoMemory story version listed ⊎ IsMismatched d r story
 IsBatch d r (Status.LogDiffers place receipt kept) story version listed = IsMismatched d r story
 IsBatch d r status story version listed = IsIdleBatch r story ⊎ IsPartBatch d r story
 
 -- by what `run_drive` does where its disk is as it was, or else
 abbrev pub BatchIsAProcess : Type 0
 BatchIsAProcess =
-    (d : Drive) (r : Ran) (status : Status) (story : Story) (version : LogVersion) (listed : List Placed) → Does d r (r.story ≡ r.told) status → IsBatchStart r story version listed
+    (d : Drive) (r : Ran) (status : Status) (story : Story) (version : LogVersion) (listed : List Placed)
+    → Does d r (r.story ≡ r.told) status → IsBatchStart r story version listed
     → IsBatch d r status story version listed

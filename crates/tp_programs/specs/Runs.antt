@@ -54,5 +54,6 @@ pub record IsFace (name : List ℕ) (r : Ran) (result : Result (Unit {0}) Stop) 
 -- where the root's node was not declared nothing was read, and nothing written
 abbrev pub FaceIsAProcess : Type 0
 FaceIsAProcess =
-    (name : List ℕ) (r : Ran) (result : Result (Unit {0}) Stop) (version : LogVersion) (listed : List Placed) → Transacts name r result → IsStart r version listed
+    (name : List ℕ) (r : Ran) (result : Result (Unit {0}) Stop) (version : LogVersion) (listed : List Placed) → Transacts name r result
+    → IsStart r version listed
     → IsIdle r ⊎ (Stops name r [] × IsUntouched r) ⊎ IsFace name r result version listed

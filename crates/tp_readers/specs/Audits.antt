@@ -35,4 +35,5 @@ pub record IsYes (logs : List SiteLog) : Type 0 where
   pub decided_too : verdict_by outcome_of (entries logs) ≡ Verdict.Yes
 
 abbrev pub AuditsAreYes : Type 0
-AuditsAreYes = (by : List ℕ → List Process) (qs : List Place) (ds : List Deed) (logs : List SiteLog) → AreDeedsOf by ds → AreArranged qs → IsDeployment qs ds → AreCopies by logs → IsYes logs
+AuditsAreYes = (by : List ℕ → List Process) (qs : List Place) (ds : List Deed) (logs : List SiteLog) → AreDeedsOf by ds → AreArranged qs
+    → IsDeployment qs ds → AreCopies by logs → IsYes logs

@@ -9,4 +9,5 @@ abbrev pub StoresAgreeThere : Type 0
 StoresAgreeThere = (qs : List Place) (ds : List Deed) → AreArranged qs → IsDeployment qs ds → StoresAgree (standing qs ds)
 
 abbrev pub StoresHoldTheirBranches : Type 0
-StoresHoldTheirBranches = (qs : List Place) (ds : List Deed) → AreArranged qs → IsDeployment qs ds → AreOfBranches (standing qs ds) × HoldsItsBranches (standing qs ds) × CountsCommits (standing qs ds)
+StoresHoldTheirBranches = (qs : List Place) (ds : List Deed) → AreArranged qs → IsDeployment qs ds
+    → AreOfBranches (standing qs ds) × HoldsItsBranches (standing qs ds) × CountsCommits (standing qs ds)

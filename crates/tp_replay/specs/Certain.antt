@@ -9,12 +9,14 @@ use Rattle.tp_bound.specs.Bounds.{Standing}
 -- after the same answers a member that is told the same has one answer
 abbrev pub AreCertain : (ℕ → List Answer → Type 0) → Type 0
 AreCertain may =
-    (k : ℕ) (before : List Answer) (a b : Answer) (xs ys : List Answer) → may k (before ++ a ∷ xs) → may k (before ++ b ∷ ys) → a.node ≡ b.node → a.indication ≡ b.indication → a.request ≡ b.request
+    (k : ℕ) (before : List Answer) (a b : Answer) (xs ys : List Answer) → may k (before ++ a ∷ xs) → may k (before ++ b ∷ ys)
+    → a.node ≡ b.node → a.indication ≡ b.indication → a.request ≡ b.request
 
 -- Of all answers that the members may give, to each indication that is put to them, there is one list. So the transcript with them is one.
 abbrev pub IsOne : (ℕ → List Answer → Type 0) → ℕ → List ℕ → Type 0
 IsOne may members bytes =
-    (xs ys : List (Option Request)) → AreAllowed may (transcript_with members bytes xs).puts xs → AreAllowed may (transcript_with members bytes ys).puts ys → xs ≡ ys
+    (xs ys : List (Option Request)) → AreAllowed may (transcript_with members bytes xs).puts xs
+    → AreAllowed may (transcript_with members bytes ys).puts ys → xs ≡ ys
 
 -- no call of a disk of that type fails: no count is one that has risen since another
 abbrev pub NeverFails : {D : Type 0} → (D → ℕ) → Type 0

@@ -44,7 +44,8 @@ abbrev pub after_text : List ℕ → List Put → Transcript → Transcript
 after_text text puts t = record { written = text ++ t.written; ending = t.ending; world = t.world; puts = puts ++ t.puts }
 
 -- whatever comes after them: as the second transcript goes on, so does the first after these bytes
-pub record Leads {M R : Type 0} (allowed : M → List Answer → Type 0) (old new : List (Option M)) (all : R → List (Option Request) → Transcript) (text : List ℕ) (rest : R → List (Option Request) → Transcript) : Type 0 where
+pub record Leads {M R : Type 0} (allowed : M → List Answer → Type 0) (old new : List (Option M))
+    (all : R → List (Option Request) → Transcript) (text : List ℕ) (rest : R → List (Option Request) → Transcript) : Type 0 where
   pub put : List Put
   pub given : List (Option Request)
   pub each : length given ≡ length put
@@ -53,7 +54,8 @@ pub record Leads {M R : Type 0} (allowed : M → List Answer → Type 0) (old ne
   pub count : length new ≡ length old
 
 -- it ends so, and shows no more
-pub record Stops {M : Type 0} (allowed : M → List Answer → Type 0) (old new : List (Option M)) (all : List (Option Request) → Transcript) (e : Ending) : Type 0 where
+pub record Stops {M : Type 0} (allowed : M → List Answer → Type 0) (old new : List (Option M)) (all : List (Option Request) → Transcript)
+    (e : Ending) : Type 0 where
   pub put : List Put
   pub given : List (Option Request)
   pub world : World
@@ -72,41 +74,49 @@ from_reading members at w (Says x) rest answers =
     elim p.fault [ Some f ↦ breaks at f p | None ↦ behind p (rest p.left p.world) ])
 
 -- it shows that text at the end of the output, and leaves that world
-pub record Shows {M : Type 0} (allowed : M → List Answer → Type 0) (at : ℕ) (w : World) (r : Reading) (out shown : List ℕ) (old new : DrivenWorld M) : Type 0 where
+pub record Shows {M : Type 0} (allowed : M → List Answer → Type 0) (at : ℕ) (w : World) (r : Reading) (out shown : List ℕ)
+    (old new : DrivenWorld M) : Type 0 where
   pub text : List ℕ
   pub world : World
   pub is : shown ≡ out ++ text
-  pub leads : Leads allowed (members_of old) (members_of new) (from_reading (length (members_of old)) at w r) text (λ (rest : List (Option Request) → World → Transcript) later. rest later world)
+  pub leads : Leads allowed (members_of old) (members_of new) (from_reading (length (members_of old)) at w r) text
+      (λ (rest : List (Option Request) → World → Transcript) later. rest later world)
   pub stands : Stands world new
 
 abbrev pub EndsIn : {M : Type 0} → (M → List Answer → Type 0) → ℕ → World → Reading → Ending → DrivenWorld M → DrivenWorld M → Type 0
-EndsIn allowed at w r e old new = (rest : List (Option Request) → World → Transcript) → Stops allowed (members_of old) (members_of new) (from_reading (length (members_of old)) at w r rest) e
+EndsIn allowed at w r e old new = (rest : List (Option Request) → World → Transcript)
+    → Stops allowed (members_of old) (members_of new) (from_reading (length (members_of old)) at w r rest) e
 
 abbrev pub EndsReading : {M : Type 0} → (M → List Answer → Type 0) → ℕ → World → Reading → LineStop → DrivenWorld M → DrivenWorld M → Type 0
 EndsReading allowed at w r (LineStop.BadInput n why) old new = (n ≡ at) × EndsIn allowed at w r (Bad_input n why) old new
 EndsReading allowed at w r (LineStop.Limit what n) old new = (n ≡ at) × EndsIn allowed at w r (At_limit what n) old new
 EndsReading allowed at w r LineStop.NoMemory old new = Unit {0}
 
-abbrev pub ShowsReading : {M : Type 0} → DrivenWorld M → DrivenWorld M → (M → List Answer → Type 0) → ℕ → World → Reading → Result (Unit {0}) LineStop → List ℕ → List ℕ → Type 0
+abbrev pub ShowsReading : {M : Type 0} → DrivenWorld M → DrivenWorld M → (M → List Answer → Type 0) → ℕ → World → Reading
+    → Result (Unit {0}) LineStop → List ℕ → List ℕ → Type 0
 ShowsReading old new allowed at w r (Ok u) out shown = Shows allowed at w r out shown old new
 ShowsReading old new allowed at w r (Err stop) out shown = EndsReading allowed at w r stop old new
 
 -- the same of a line that is played, where what it shows is some text that is written nowhere
-abbrev pub PlaysUnwritten : {M : Type 0} → DrivenWorld M → DrivenWorld M → (M → List Answer → Type 0) → ℕ → World → Reading → Result (Unit {0}) LineStop → Type 0
+abbrev pub PlaysUnwritten : {M : Type 0} → DrivenWorld M → DrivenWorld M → (M → List Answer → Type 0) → ℕ → World → Reading
+    → Result (Unit {0}) LineStop → Type 0
 PlaysUnwritten old new allowed at w r (Ok u) = (text : List ℕ) × Shows allowed at w r [] text old new
 PlaysUnwritten old new allowed at w r (Err stop) = EndsReading allowed at w r stop old new
 
 -- ---- the next line of a source
 
 -- it was played, and the others are left; whatever lines come after it, it shows that text
-pub record ShowsNext {M : Type 0} (allowed : M → List Answer → Type 0) (at before : ℕ) (w : World) (ls : List RawLine) (out shown : List ℕ) (place : Place) (unread : Option (List ℕ)) (old new : DrivenWorld M) : Type 0 where
+pub record ShowsNext {M : Type 0} (allowed : M → List Answer → Type 0) (at before : ℕ) (w : World) (ls : List RawLine) (out shown : List ℕ)
+    (place : Place) (unread : Option (List ℕ)) (old new : DrivenWorld M) : Type 0 where
   pub text : List ℕ
   pub world : World
   pub first : RawLine
   pub rest : List RawLine
   pub is : ls ≡ first ∷ rest
   pub shows : shown ≡ out ++ text
-  pub leads : Leads allowed (members_of old) (members_of new) (λ (more : List RawLine) answers. transcript_from (length (members_of old)) at before answers w (first ∷ more)) text (λ more later. transcript_from (length (members_of old)) (suc at) place.before later world more)
+  pub leads : Leads allowed (members_of old) (members_of new)
+      (λ (more : List RawLine) answers. transcript_from (length (members_of old)) at before answers w (first ∷ more)) text
+      (λ more later. transcript_from (length (members_of old)) (suc at) place.before later world more)
   pub stands : Stands world new
   pub within : nat_lt 1048576 (before + octets_taken first) ≡ false
   pub passed : place.before ≡ before + octets_taken first
@@ -114,18 +124,21 @@ pub record ShowsNext {M : Type 0} (allowed : M → List Answer → Type 0) (at b
   pub left : lines_left place unread ≡ Some rest
 
 -- the run ends at the first of these lines, past whose start at most so many bytes were read
-pub record EndsAt {M : Type 0} (allowed : M → List Answer → Type 0) (at before : ℕ) (w : World) (ls : List RawLine) (n : ℕ) (e : Ending) (most : ℕ) (unread : Option (List ℕ)) (old new : DrivenWorld M) : Type 0 where
+pub record EndsAt {M : Type 0} (allowed : M → List Answer → Type 0) (at before : ℕ) (w : World) (ls : List RawLine) (n : ℕ) (e : Ending)
+    (most : ℕ) (unread : Option (List ℕ)) (old new : DrivenWorld M) : Type 0 where
   pub number : n ≡ at
   pub stops : Stops allowed (members_of old) (members_of new) (λ answers. transcript_from (length (members_of old)) at before answers w ls) e
   pub reads : ReadsTo most ls unread
 
-abbrev pub EndsFirst : {M : Type 0} → (M → List Answer → Type 0) → ℕ → ℕ → World → List RawLine → LineStop → Option (List ℕ) → DrivenWorld M → DrivenWorld M → Type 0
+abbrev pub EndsFirst : {M : Type 0} → (M → List Answer → Type 0) → ℕ → ℕ → World → List RawLine → LineStop → Option (List ℕ) → DrivenWorld M
+    → DrivenWorld M → Type 0
 EndsFirst allowed at before w ls (LineStop.BadInput n why) unread old new = EndsAt allowed at before w ls n (Bad_input n why) (past_bad why ls) unread old new
 EndsFirst allowed at before w ls (LineStop.Limit what n) unread old new = EndsAt allowed at before w ls n (At_limit what n) (past_limit what ls) unread old new
 EndsFirst allowed at before w ls LineStop.NoMemory unread old new = Unit {0}
 
 -- or the source failed, before the end of the first of them was read
-abbrev pub EndsNext : {M : Type 0} → (M → List Answer → Type 0) → ℕ → ℕ → World → List RawLine → InputStop → Option (List ℕ) → DrivenWorld M → DrivenWorld M → Type 0
+abbrev pub EndsNext : {M : Type 0} → (M → List Answer → Type 0) → ℕ → ℕ → World → List RawLine → InputStop → Option (List ℕ) → DrivenWorld M
+    → DrivenWorld M → Type 0
 EndsNext allowed at before w ls (InputStop.Line stop) unread old new = EndsFirst allowed at before w ls stop unread old new
 EndsNext allowed at before w ls (InputStop.ReadFault faults) unread old new = ReadsTo (first_length ls) ls unread
 
@@ -135,13 +148,15 @@ pub record IsLast {M : Type 0} (ls : List RawLine) (unread : Option (List ℕ)) 
   pub ended : unread ≡ Some []
   pub same : new ≡ old
 
-abbrev pub PlaysNext : {M : Type 0} → DrivenWorld M → DrivenWorld M → (M → List Answer → Type 0) → ℕ → ℕ → World → List RawLine → Result Bool InputStop → List ℕ → List ℕ → Place → Option (List ℕ) → Type 0
+abbrev pub PlaysNext : {M : Type 0} → DrivenWorld M → DrivenWorld M → (M → List Answer → Type 0) → ℕ → ℕ → World → List RawLine
+    → Result Bool InputStop → List ℕ → List ℕ → Place → Option (List ℕ) → Type 0
 PlaysNext old new allowed at before w ls (Ok true) out shown place unread = ShowsNext allowed at before w ls out shown place unread old new
 PlaysNext old new allowed at before w ls (Ok false) out shown place unread = IsLast ls unread old new
 PlaysNext old new allowed at before w ls (Err stop) out shown place unread = EndsNext allowed at before w ls stop unread old new
 
 -- the same where what it shows is some text that is written nowhere
-abbrev pub PlaysNextUnwritten : {M : Type 0} → DrivenWorld M → DrivenWorld M → (M → List Answer → Type 0) → ℕ → ℕ → World → List RawLine → Result Bool InputStop → Place → Option (List ℕ) → Type 0
+abbrev pub PlaysNextUnwritten : {M : Type 0} → DrivenWorld M → DrivenWorld M → (M → List Answer → Type 0) → ℕ → ℕ → World → List RawLine
+    → Result Bool InputStop → Place → Option (List ℕ) → Type 0
 PlaysNextUnwritten old new allowed at before w ls (Ok true) place unread = (text : List ℕ) × ShowsNext allowed at before w ls [] text place unread old new
 PlaysNextUnwritten old new allowed at before w ls (Ok false) place unread = IsLast ls unread old new
 PlaysNextUnwritten old new allowed at before w ls (Err stop) place unread = EndsNext allowed at before w ls stop unread old new

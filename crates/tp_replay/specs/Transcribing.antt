@@ -130,8 +130,10 @@ Tells may members bytes (Err (ReplayStop.WriteFault faults)) unread text = Tells
 -- ---- what is written
 
 -- before the last bytes are written, which may be cut short
-abbrev pub TranscribesOn : (ℕ → List Answer → Type 0) → ℕ → List ℕ → Result (Result (Unit {0}) InputStop) WriteFault → Option (List ℕ) → List ℕ → Option (List ℕ) → Option (List ℕ) → Type 0
-TranscribesOn may members bytes (Ok input) unread pending old new = WritesBut (λ text. TellsInput may members bytes input unread text × TellsSome may members bytes text) pending old new
+abbrev pub TranscribesOn : (ℕ → List Answer → Type 0) → ℕ → List ℕ → Result (Result (Unit {0}) InputStop) WriteFault → Option (List ℕ)
+    → List ℕ → Option (List ℕ) → Option (List ℕ) → Type 0
+TranscribesOn may members bytes (Ok input) unread pending old new = WritesBut
+    (λ text. TellsInput may members bytes input unread text × TellsSome may members bytes text) pending old new
 -- the sink failed
 TranscribesOn may members bytes (Err fault) unread pending old new = Writes (TellsSome may members bytes) old new
 
@@ -158,4 +160,5 @@ pub record Transcribes (may : ℕ → List Answer → Type 0) (members : ℕ) (b
 -- every transcript of these bytes comes to its end, whatever the members answer of what they may
 abbrev pub IsComplete : (ℕ → List Answer → Type 0) → ℕ → List ℕ → Type 0
 IsComplete may members bytes =
-    (answers : List (Option Request)) → AreAllowed may (transcript_with members bytes answers).puts answers → (transcript_with members bytes answers).ending ≡ Done
+    (answers : List (Option Request)) → AreAllowed may (transcript_with members bytes answers).puts answers
+    → (transcript_with members bytes answers).ending ≡ Done

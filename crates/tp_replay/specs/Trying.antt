@@ -30,9 +30,11 @@ StopsAt t LineStop.NoMemory = Unit {0}
 
 -- On Ok the summary is written after the bytes from before, and where the sink fails a prefix of it; else nothing is.
 abbrev pub TriesSchedule : ℕ → ℕ → ℕ → Option (List ℕ) → Option (List ℕ) → Type 0 → Result (Unit {0}) TrialStop → Type 0
-TriesSchedule number nodes rounds written output same_sink (Ok u) = (before : List ℕ) → written ≡ Some before → output ≡ Some (before ++ summary number nodes rounds)
+TriesSchedule number nodes rounds written output same_sink (Ok u) = (before : List ℕ) → written ≡ Some before
+    → output ≡ Some (before ++ summary number nodes rounds)
 TriesSchedule number nodes rounds written output same_sink (Err (TrialStop.Line stop)) = same_sink × StopsAt (alone (schedule number nodes rounds)) stop
-TriesSchedule number nodes rounds written output same_sink (Err (TrialStop.WriteFault faults)) = (before : List ℕ) → written ≡ Some before → WritesPrefix before (summary number nodes rounds) output
+TriesSchedule number nodes rounds written output same_sink (Err (TrialStop.WriteFault faults)) = (before : List ℕ) → written ≡ Some before
+    → WritesPrefix before (summary number nodes rounds) output
 
 -- a run ends as the trial answers
 pub record Tries (number nodes rounds : ℕ) (written output : Option (List ℕ)) (same_sink : Type 0) (status : Status) : Type 0 where

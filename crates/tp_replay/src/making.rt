@@ -18,7 +18,8 @@ pub fn make_schedule<K: Sink>(
     sink: &mut K,
 ) -> Status
     requires { nodes ≤ 256 }
-    ensures ends { (read_old read_new disk_old disk_new : ℕ) → Ends make_exits read_old read_new (K.fault_count sink.old) (K.fault_count sink.new) disk_old disk_new result }
+    ensures ends { (read_old read_new disk_old disk_new : ℕ)
+        → Ends make_exits read_old read_new (K.fault_count sink.old) (K.fault_count sink.new) disk_old disk_new result }
     ensures makes { Makes number nodes rounds result (K.written sink.old) (K.written sink.new) (sink.new ≡ sink.old) }
 {
     Status::of_answer(make(alloc, number, nodes, rounds, sink))

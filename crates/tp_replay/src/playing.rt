@@ -119,7 +119,8 @@ fn run_line<M: Member>(
 ) -> Result<(), LineStop>
     requires numbered { 0 < at }
     ensures ending { IfErr result IsNumbered }
-    ensures shows { (w : WorldValue) → Stands w world.old → ShowsReading world.old world.new M.allowed at w (Says line.now) result [] (out_texts (echo line.now ++ lines.new)) }
+    ensures shows { (w : WorldValue) → Stands w world.old
+        → ShowsReading world.old world.new M.allowed at w (Says line.now) result [] (out_texts (echo line.now ++ lines.new)) }
 {
     lines.clear();
     match world.play(alloc, line, lines) {

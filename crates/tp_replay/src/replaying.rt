@@ -59,7 +59,8 @@ pub fn play_next<S: Source, M: Member>(
     ensures unfaulted { result ≡ Ok true → lines.new.fault ≡ None }
     ensures same { OnErr result (out.new ≡ out.old) }
     ensures ended { result ≡ Ok false → out.new ≡ out.old }
-    ensures plays { (w : WorldValue) (ls : List RawLine) → Stands w world.old → lines_left lines.old (S.left source.old) ≡ Some ls → PlaysNext world.old world.new M.allowed at lines.old.before w ls result out.old out.new lines.new (S.left source.new) }
+    ensures plays { (w : WorldValue) (ls : List RawLine) → Stands w world.old → lines_left lines.old (S.left source.old) ≡ Some ls
+        → PlaysNext world.old world.new M.allowed at lines.old.before w ls result out.old out.new lines.new (S.left source.new) }
 {
     match lines.next(source) {
         Ok(None) => Ok(false),
@@ -85,7 +86,8 @@ pub fn play_next_unwritten<S: Source, M: Member>(
     requires unfaulted { lines.old.fault ≡ None }
     ensures ending { IfErr result (IsInputStop (S.fault_count source.old) (S.fault_count source.new)) }
     ensures unfaulted { result ≡ Ok true → lines.new.fault ≡ None }
-    ensures plays { (w : WorldValue) (ls : List RawLine) → Stands w world.old → lines_left lines.old (S.left source.old) ≡ Some ls → PlaysNextUnwritten world.old world.new M.allowed at lines.old.before w ls result lines.new (S.left source.new) }
+    ensures plays { (w : WorldValue) (ls : List RawLine) → Stands w world.old → lines_left lines.old (S.left source.old) ≡ Some ls
+        → PlaysNextUnwritten world.old world.new M.allowed at lines.old.before w ls result lines.new (S.left source.new) }
 {
     match lines.next(source) {
         Ok(None) => Ok(false),
@@ -120,7 +122,9 @@ fn play_all<S: Source, K: Sink, M: Member>(
     ensures ending { IfOk result (λ input. IfErr input (IsInputStop (S.fault_count source.old) (S.fault_count source.new))) }
     ensures fault { IfErr result (λ f. IsFaultOf f.faults (K.fault_count sink.old) (K.fault_count sink.new)) }
     ensures reads { (bytes : List ℕ) → S.left source.old ≡ Some bytes → IfOk result (λ input. ReadsInput bytes input (S.left source.new)) }
-    ensures plays { (bytes : List ℕ) → S.left source.old ≡ Some bytes → TranscribesOn (may_of M.allowed members.items) (length members.items) bytes result (S.left source.new) out.new (K.written sink.old) (K.written sink.new) }
+    ensures plays { (bytes : List ℕ) → S.left source.old ≡ Some bytes
+        → TranscribesOn (may_of M.allowed members.items) (length members.items) bytes result (S.left source.new) out.new
+        (K.written sink.old) (K.written sink.new) }
 {
     let Ok(mut world) = DrivenWorld::new(alloc, members) else {
         return Ok(Err(InputStop::Line(LineStop::NoMemory)));
@@ -168,7 +172,8 @@ pub fn replay<S: Source, K: Sink, M: Member>(
 ) -> Result<(), ReplayStop>
     ensures stop { IfErr result (IsReplayStop (S.fault_count source.old) (S.fault_count source.new) (K.fault_count sink.old) (K.fault_count sink.new)) }
     ensures reads { (bytes : List ℕ) → S.left source.old ≡ Some bytes → Reads bytes result (S.left source.new) }
-    ensures transcript { (bytes : List ℕ) → S.left source.old ≡ Some bytes → Writes (Tells (may_of M.allowed members.items) (length members.items) bytes result (S.left source.new)) (K.written sink.old) (K.written sink.new) }
+    ensures transcript { (bytes : List ℕ) → S.left source.old ≡ Some bytes
+        → Writes (Tells (may_of M.allowed members.items) (length members.items) bytes result (S.left source.new)) (K.written sink.old) (K.written sink.new) }
     // Where each member has one answer to what it is told, the transcript is one.
     // Promise 18.19 [tp_replay/specs/Certain.antt]: Where each member has one answer to what it is
     //   told, a schedule has one transcript: that with the answers that the members must give. So

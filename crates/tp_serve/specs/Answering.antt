@@ -22,7 +22,8 @@ stopped_by at (SiteFault.Shut faults) = Stop.DiskFault faults
 stopped_by at SiteFault.NoMemory = Stop.NoMemory
 
 -- it is one event more, with its outputs; its record was forced, where it has one
-pub record IsAnswered {K : Type 0} (standing : K → Standing) (o : Opening) (gs : List Given) (old : Site K) (g : Given) (outputs : List Output) (new : Site K) : Type 0 where
+pub record IsAnswered {K : Type 0} (standing : K → Standing) (o : Opening) (gs : List Given) (old : Site K) (g : Given)
+    (outputs : List Output) (new : Site K) : Type 0 where
   pub at : IsAt standing all_nodes o (gs ++ g ∷ []) new
   pub given : outputs ≡ outputs_after o gs g
   pub forced : IsForced standing old.keeper (record_after o gs g) new.keeper
@@ -30,14 +31,16 @@ pub record IsAnswered {K : Type 0} (standing : K → Standing) (o : Opening) (gs
   pub is_open : new.shut ≡ None
 
 -- its record was not forced, and nothing of it is so
-pub record IsUnanswered {K : Type 0} (standing : K → Standing) (o : Opening) (gs : List Given) (old : Site K) (g : Given) (fault : ForceFault) (new : Site K) : Type 0 where
+pub record IsUnanswered {K : Type 0} (standing : K → Standing) (o : Opening) (gs : List Given) (old : Site K) (g : Given)
+    (fault : ForceFault) (new : Site K) : Type 0 where
   pub at : IsAt standing all_nodes o gs new
   pub unforced : IsUnforced standing old.keeper (record_after o gs g) fault new.keeper
 
 -- nothing was done for it, or it is one event more and there was no memory for its outputs
 abbrev pub IsWithoutMemory : {K : Type 0} → (K → Standing) → Opening → List Given → Site K → Given → Site K → Type 0
 IsWithoutMemory standing o gs old g new =
-    (IsAt standing all_nodes o gs new × (standing new.keeper ≡ standing old.keeper) × (new.shut ≡ None)) ⊎ ((outputs : List Output) × IsAnswered standing o gs old g outputs new)
+    (IsAt standing all_nodes o gs new × (standing new.keeper ≡ standing old.keeper) × (new.shut ≡ None))
+    ⊎ ((outputs : List Output) × IsAnswered standing o gs old g outputs new)
 
 abbrev pub Answers : {K : Type 0} → (K → Standing) → Opening → List Given → ℕ → Site K → Given → Result (List Output) Stop → Site K → Type 0
 Answers standing o gs at old g (Ok outputs) new = IsAnswered standing o gs old g outputs new
@@ -48,7 +51,8 @@ Answers standing o gs at old g (Err (Stop.Foreign n)) new = ⊥
 Answers standing o gs at old g (Err (Stop.ReadFault faults)) new = ⊥
 Answers standing o gs at old g (Err (Stop.WriteFault faults)) new = ⊥
 Answers standing o gs at old g (Err (Stop.DiskFault faults)) new =
-    (IsUnanswered standing o gs old g (force.DiskFault faults) new × HasTextOption (standing old.keeper).wide (record_after o gs g)) ⊎ IsUnanswered standing o gs old g (force.Shut faults) new
+    (IsUnanswered standing o gs old g (force.DiskFault faults) new × HasTextOption (standing old.keeper).wide (record_after o gs g))
+    ⊎ IsUnanswered standing o gs old g (force.Shut faults) new
 Answers standing o gs at old g (Err Stop.NoMemory) new = IsWithoutMemory standing o gs old g new
 
 -- why there is none, whatever the site had come to

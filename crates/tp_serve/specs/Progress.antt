@@ -48,7 +48,8 @@ pub record Holds (P : List ℕ → Type 0) (ver : LogVersion) (records : List Lo
   pub counted : faults ≤ s.faults
 
 -- The disk failed when one more record was forced, which may stand or not.
-pub record FailsAt (P : List ℕ → Type 0) (ver : LogVersion) (records : List LogRec) (more : LogRec) (begun : Option Story) (faults count : ℕ) (s : Standing) : Type 0 where
+pub record FailsAt (P : List ℕ → Type 0) (ver : LogVersion) (records : List LogRec) (more : LogRec) (begun : Option Story)
+    (faults count : ℕ) (s : Standing) : Type 0 where
   pub moments : LeavesOnly P begun s.story
   pub last : LeavesNow (λ c. IsLog c records ⊎ IsLog c (records ++ more ∷ [])) s.story
   pub fault : IsFaultOf count faults s.faults
@@ -91,7 +92,8 @@ pub record IsSettled {K : Type 0} (standing : K → Standing) (o : Opening) (gs 
   pub room : is_past_limit o gs ≡ false
 
 -- the disk failed when the records of the events after the first were forced
-pub record HasFailed {K : Type 0} (standing : K → Standing) (o : Opening) (gs all : List Given) (begun : Option Story) (faults count : ℕ) (s : Site K) : Type 0 where
+pub record HasFailed {K : Type 0} (standing : K → Standing) (o : Opening) (gs all : List Given) (begun : Option Story) (faults count : ℕ)
+    (s : Site K) : Type 0 where
   pub at : IsAt standing all_nodes o all s
   pub room : is_past_limit o gs ≡ false
   pub texts : AllByRecursion (HasText (is_wide o.version)) (log_after o gs)
@@ -107,7 +109,8 @@ pub record IsShutAt {K : Type 0} (standing : K → Standing) (o : Opening) (gs :
   pub fault : IsFaultOf count faults (standing s.keeper).faults
 
 -- what comes of forcing all that is noted, and then writing the answers that wait
-abbrev pub SettlesAll : {K : Type 0} → (K → Standing) → Opening → List Given → List Given → Option Story → ℕ → Result (Unit {0}) Stop → Site K → List ℕ → Option (List ℕ) → Option (List ℕ) → Type 0
+abbrev pub SettlesAll : {K : Type 0} → (K → Standing) → Opening → List Given → List Given → Option Story → ℕ → Result (Unit {0}) Stop
+    → Site K → List ℕ → Option (List ℕ) → Option (List ℕ) → Type 0
 SettlesAll standing o gs all begun faults (Ok u) s waiting old new =
     IsSettled standing o all begun s × ((before : List ℕ) → old ≡ Some before → new ≡ Some (before ++ waiting))
 SettlesAll standing o gs all begun faults (Err (Stop.BadInput n why)) s waiting old new = ⊥
@@ -130,8 +133,10 @@ IsSettleStop sink now (Stop.DiskFault n) = Unit {0}
 IsSettleStop sink now Stop.NoMemory = ⊥
 
 -- All that is noted is forced, and what waits is written; or not. The site is open after it, and nothing waits.
-pub record SettlesSite {K : Type 0} (standing : K → Standing) (old new : Site K) (result : Result (Unit {0}) Stop) (waiting waiting_new : List ℕ) (written output : Option (List ℕ)) (before after : ℕ) : Type 0 where
-  pub all : (o : Opening) (gs all : List Given) (begun : Option Story) (faults : ℕ) → IsAhead standing o gs all begun faults old → SettlesAll standing o gs all begun faults result new waiting written output
+pub record SettlesSite {K : Type 0} (standing : K → Standing) (old new : Site K) (result : Result (Unit {0}) Stop)
+    (waiting waiting_new : List ℕ) (written output : Option (List ℕ)) (before after : ℕ) : Type 0 where
+  pub all : (o : Opening) (gs all : List Given) (begun : Option Story) (faults : ℕ) → IsAhead standing o gs all begun faults old
+      → SettlesAll standing o gs all begun faults result new waiting written output
   pub serves : OnOk result ((o : Opening) (gs : List Given) (faults : ℕ) → IsServing standing o gs None faults old → IsServing standing o gs None faults new)
   pub was_open : OnOk result ((standing old.keeper).shut ≡ None)
   pub empty : OnOk result (waiting_new ≡ [])
@@ -143,16 +148,19 @@ finished (Ok u) end = end
 finished (Err stop) end = Err stop
 
 -- the end of a run: all is settled first
-pub record Finishes {K : Type 0} (standing : K → Standing) (old new : Site K) (end result : Result (Unit {0}) Stop) (waiting : List ℕ) (written output : Option (List ℕ)) (before after : ℕ) : Type 0 where
+pub record Finishes {K : Type 0} (standing : K → Standing) (old new : Site K) (end result : Result (Unit {0}) Stop) (waiting : List ℕ)
+    (written output : Option (List ℕ)) (before after : ℕ) : Type 0 where
   pub settled : Result (Unit {0}) Stop
   pub waiting_new : List ℕ
   pub settles : SettlesSite standing old new settled waiting waiting_new written output before after
   pub is : result ≡ finished settled end
 
 -- before the next frame nothing is done, or all is settled
-abbrev pub KeepsUp : {K : Type 0} → (K → Standing) → Site K → Site K → Result (Unit {0}) Stop → List ℕ → List ℕ → Option (List ℕ) → Option (List ℕ) → ℕ → ℕ → Type 0
+abbrev pub KeepsUp : {K : Type 0} → (K → Standing) → Site K → Site K → Result (Unit {0}) Stop → List ℕ → List ℕ → Option (List ℕ)
+    → Option (List ℕ) → ℕ → ℕ → Type 0
 KeepsUp standing old new result waiting waiting_new written output before after =
-    ((result ≡ Ok tt) × (new ≡ old) × (waiting_new ≡ waiting) × (output ≡ written)) ⊎ SettlesSite standing old new result waiting waiting_new written output before after
+    ((result ≡ Ok tt) × (new ≡ old) × (waiting_new ≡ waiting) × (output ≡ written))
+    ⊎ SettlesSite standing old new result waiting waiting_new written output before after
 
 -- ---- one event more
 
@@ -161,7 +169,8 @@ abbrev pub answer_bytes : Opening → List Given → Given → List ℕ
 answer_bytes o gs g = outputs_bytes (outputs_after o gs g ++ Output.Over ∷ [])
 
 -- how the event in the frame with that number ended, and what it left of the site, and of the answers that wait
-abbrev pub ServesOne : {K : Type 0} → (K → Standing) → Opening → List Given → Option Story → ℕ → ℕ → Given → Result (Unit {0}) Stop → Site K → List ℕ → List ℕ → Type 0
+abbrev pub ServesOne : {K : Type 0} → (K → Standing) → Opening → List Given → Option Story → ℕ → ℕ → Given → Result (Unit {0}) Stop → Site K
+    → List ℕ → List ℕ → Type 0
 ServesOne standing o gs begun faults at g (Ok u) s old new = IsServing standing o (gs ++ g ∷ []) begun faults s × (new ≡ old ++ answer_bytes o gs g)
 ServesOne standing o gs begun faults at g (Err (Stop.BadInput n why)) s old new = ⊥
 ServesOne standing o gs begun faults at g (Err (Stop.Limit what n)) s old new =
@@ -184,7 +193,8 @@ with_events gs i = record { events = gs ++ i.events; ending = i.ending }
 
 -- These events were read and answered: what is still to come of the source came after them. The first of them are on the disk,
 -- and their outputs were written; the outputs of the others wait.
-pub record HasAnswered {K : Type 0} (standing : K → Standing) (o : Opening) (begun : Option Story) (faults : ℕ) (first place : EventPlace) (left rest written output : Option (List ℕ)) (waiting : List ℕ) (s : Site K) : Type 0 where
+pub record HasAnswered {K : Type 0} (standing : K → Standing) (o : Opening) (begun : Option Story) (faults : ℕ) (first place : EventPlace)
+    (left rest written output : Option (List ℕ)) (waiting : List ℕ) (s : Site K) : Type 0 where
   pub events : List Given
   pub all : List Given
   pub ahead : List Given

@@ -46,7 +46,8 @@ IsInput bytes events ending = input_of bytes ≡ record { events = events; endin
 -- the record of the event after them has no room; or the input ends so
 abbrev pub IsLimited : Opening → List ℕ → List Given → What → ℕ → Type 0
 IsLimited o bytes events what at =
-    IsInput bytes events (At_limit what at) ⊎ ((g : Given) × GoesOn bytes (events ++ g ∷ []) × (is_past_limit o (events ++ g ∷ []) ≡ true) × (what ≡ What.Log) × (at ≡ suc (length events)))
+    IsInput bytes events (At_limit what at)
+    ⊎ ((g : Given) × GoesOn bytes (events ++ g ∷ []) × (is_past_limit o (events ++ g ∷ []) ≡ true) × (what ≡ What.Log) × (at ≡ suc (length events)))
 
 -- These events happened. Where the disk failed, it was with those after them.
 abbrev pub HasRead : Opening → List ℕ → List Given → List Given → Option (List ℕ) → Result (Unit {0}) Stop → Type 0
@@ -86,7 +87,8 @@ SiteLeft standing o events next begun faults s (Err (Stop.DiskFault n)) = HasFai
 SiteLeft standing o events next begun faults s (Err Stop.NoMemory) = IsSettled standing o events begun s × (next ≡ [])
 
 -- how the events of a source were served by a site that had started
-pub record EndsServing {K : Type 0} (standing : K → Standing) (o : Opening) (begun : Option Story) (faults : ℕ) (left unread written output : Option (List ℕ)) (result : Result (Unit {0}) Stop) (s : Site K) : Type 0 where
+pub record EndsServing {K : Type 0} (standing : K → Standing) (o : Opening) (begun : Option Story) (faults : ℕ)
+    (left unread written output : Option (List ℕ)) (result : Result (Unit {0}) Stop) (s : Site K) : Type 0 where
   pub events : List Given
   pub next : List Given
   pub site : SiteLeft standing o events next begun faults s result
@@ -155,7 +157,8 @@ pub record RunsOn (name : List ℕ) (r : Ran) (result : Result (Unit {0}) Stop) 
   -- what was written is written of them
   pub wrote : (before : List ℕ) → r.written ≡ Some before → WritesPrefix before (written_of (node_run (opening name version listed) events).outputs) r.output
   -- as the definitions say
-  pub transcribes : (bytes before : List ℕ) → r.left ≡ Some bytes → r.written ≡ Some before → Transcribes (node_transcript (opening name version listed) bytes) before r result
+  pub transcribes : (bytes before : List ℕ) → r.left ≡ Some bytes → r.written ≡ Some before
+      → Transcribes (node_transcript (opening name version listed) bytes) before r result
   -- A crash at any moment since the first sync leaves the log of the run on some of the events, or the one on which the site
   -- began; and one at the end leaves one with all that happened, whatever a byte was written of.
   pub moments : LeavesOnly (IsNodeImage (opening name version listed) (events ++ next) 0) (Some (Synced r.told)) r.story

@@ -53,7 +53,8 @@ pub record HasStarted {K : Type 0} (standing : K → Standing) (name : List ℕ)
 
 -- no boot number is left, or else the boot has no room
 abbrev pub IsSpent : Opening → What → ℕ → Type 0
-IsSpent o what at = (at ≡ 0) × ((what ≡ What.Boots) × (boot_of o ≡ suc greatest)) ⊎ (at ≡ 0) × ((what ≡ What.Log) × (boot_of o ≡ suc greatest → ⊥) × (is_past_limit o [] ≡ true))
+IsSpent o what at = (at ≡ 0) × ((what ≡ What.Boots) × (boot_of o ≡ suc greatest)) ⊎ (at ≡ 0)
+    × ((what ≡ What.Log) × (boot_of o ≡ suc greatest → ⊥) × (is_past_limit o [] ≡ true))
 
 -- and the log stays as it is
 pub record IsLimitedBefore (name : List ℕ) (story : Story) (new : Option Story) (what : What) (at : ℕ) : Type 0 where

@@ -47,7 +47,8 @@ pub(crate) fn answer<K: Keeper>(
     event: &Event,
     at: u64,
 ) -> Result<Outputs, Stop>
-    ensures answers { (o : Opening) (gs : List Given) → IsAt K.standing all_nodes o gs site.old → site.old.shut ≡ None → Answers K.standing o gs at site.old event.now result site.new }
+    ensures answers { (o : Opening) (gs : List Given) → IsAt K.standing all_nodes o gs site.old → site.old.shut ≡ None
+        → Answers K.standing o gs at site.old event.now result site.new }
     ensures stops { IfErr result (IsAnswerStop at) }
     ensures lasting { (K.standing site.new.keeper).lasting ≡ (K.standing site.old.keeper).lasting }
 {

@@ -57,7 +57,8 @@ fn settle<J: Settles, K: Sink>(
     sink: &mut K,
     last: bool,
 ) -> Result<(), Stop>
-    ensures settles { SettlesSite J.standing site.old site.new result waiting.old waiting.new (K.written sink.old) (K.written sink.new) (K.fault_count sink.old) (K.fault_count sink.new) }
+    ensures settles { SettlesSite J.standing site.old site.new result waiting.old waiting.new (K.written sink.old) (K.written sink.new)
+        (K.fault_count sink.old) (K.fault_count sink.new) }
     ensures kept { K.fault_count sink.old ≤ K.fault_count sink.new }
 {
     let settled = site.settle_log(last);
@@ -71,7 +72,8 @@ fn keep_up<J: Settles, K: Sink>(
     sink: &mut K,
     ready: bool,
 ) -> Result<(), Stop>
-    ensures keeps { KeepsUp J.standing site.old site.new result waiting.old waiting.new (K.written sink.old) (K.written sink.new) (K.fault_count sink.old) (K.fault_count sink.new) }
+    ensures keeps { KeepsUp J.standing site.old site.new result waiting.old waiting.new (K.written sink.old) (K.written sink.new)
+        (K.fault_count sink.old) (K.fault_count sink.new) }
     ensures kept { K.fault_count sink.old ≤ K.fault_count sink.new }
 {
     if ready && waiting.len() <= MOST_WAITING {
@@ -87,7 +89,8 @@ fn finish<J: Settles, K: Sink>(
     sink: &mut K,
     end: Result<(), Stop>,
 ) -> Result<(), Stop>
-    ensures finishes { Finishes J.standing site.old site.new end result waiting.old (K.written sink.old) (K.written sink.new) (K.fault_count sink.old) (K.fault_count sink.new) }
+    ensures finishes { Finishes J.standing site.old site.new end result waiting.old (K.written sink.old) (K.written sink.new)
+        (K.fault_count sink.old) (K.fault_count sink.new) }
     ensures kept { K.fault_count sink.old ≤ K.fault_count sink.new }
 {
     match settle(site, waiting, sink, true) {
@@ -124,7 +127,8 @@ fn serve_events<S: Source, K: Sink, J: Settles>(
     source: &mut S,
     sink: &mut K,
 ) -> Result<(), Stop>
-    ensures serves { (o : Opening) (begun : Option Story) (faults : ℕ) → IsServing J.standing o [] None faults site.old → RestsOn o [] begun (J.standing site.old.keeper).lasting
+    ensures serves { (o : Opening) (begun : Option Story) (faults : ℕ) → IsServing J.standing o [] None faults site.old
+        → RestsOn o [] begun (J.standing site.old.keeper).lasting
         → EndsServing J.standing o begun faults (S.left source.old) (S.left source.new) (K.written sink.old) (K.written sink.new) result site.new }
     ensures stops { IfErr result (IsEventsStop (S.fault_count source.old) (S.fault_count source.new) (K.fault_count sink.old) (K.fault_count sink.new)) }
     ensures read { S.fault_count source.old ≤ S.fault_count source.new }
@@ -176,10 +180,19 @@ pub fn serve<S: Source, K: Sink, D: Disk>(
     // Promise 13.5: Where the source fails, each frame that was read whole was answered; on Ok it
     //   was read to its end
     ensures serves { (s : Story) → D.told disk ≡ Some s → IsFile (seen s)
-        → Serves name (record { told = s; story = D.told result.0; left = S.left source.old; unread = S.left source.new; written = K.written sink.old; output = K.written sink.new }) result.1 }
+        → Serves name (record {
+          told = s;
+          story = D.told result.0;
+          left = S.left source.old;
+          unread = S.left source.new;
+          written = K.written sink.old;
+          output = K.written sink.new;
+        }) result.1 }
     // Promise 13.7: A fault comes only where the count of that object rose in the call, with the
     //   count
-    ensures stops { IfErr result.1 (IsServeStop (D.fault_count disk) (D.fault_count result.0) (S.fault_count source.old) (S.fault_count source.new) (K.fault_count sink.old) (K.fault_count sink.new)) }
+    ensures stops { IfErr result.1
+        (IsServeStop (D.fault_count disk) (D.fault_count result.0) (S.fault_count source.old) (S.fault_count source.new)
+        (K.fault_count sink.old) (K.fault_count sink.new)) }
     // Promise 13.6 [clauses foreign before]: A log that is foreign, and a boot number or room for
     //   the boot that is not there, come before every frame: nothing is read, and nothing written
     ensures foreign { (at : ℕ) → result.1 ≡ Err (TheStop.Foreign at) → (source.new ≡ source.old) × (sink.new ≡ sink.old) }

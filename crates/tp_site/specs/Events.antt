@@ -111,7 +111,8 @@ abbrev pub record_after : Opening → List Given → Given → Option LogRec
 record_after o gs g = record_of (answer_after o gs g).entry
 
 -- it happens: its record was forced, its outputs are given, and it is one event more
-pub record IsStepped {K : Type 0} (standing : K → Standing) (mine : ℕ → Bool) (o : Opening) (gs : List Given) (old : Site K) (g : Given) (outputs : List Output) (new : Site K) : Type 0 where
+pub record IsStepped {K : Type 0} (standing : K → Standing) (mine : ℕ → Bool) (o : Opening) (gs : List Given) (old : Site K) (g : Given)
+    (outputs : List Output) (new : Site K) : Type 0 where
   pub at : IsAt standing mine o (gs ++ g ∷ []) new
   pub entry : Entry
   pub happens : (answer_after o gs g).entry ≡ Some entry
@@ -121,7 +122,8 @@ pub record IsStepped {K : Type 0} (standing : K → Standing) (mine : ℕ → Bo
   pub open_after : new.shut ≡ None
 
 -- its record was not forced, for that fault, and nothing of it is so
-pub record IsStopped {K : Type 0} (standing : K → Standing) (mine : ℕ → Bool) (o : Opening) (gs : List Given) (old : Site K) (g : Given) (fault : ForceFault) (new : Site K) : Type 0 where
+pub record IsStopped {K : Type 0} (standing : K → Standing) (mine : ℕ → Bool) (o : Opening) (gs : List Given) (old : Site K) (g : Given)
+    (fault : ForceFault) (new : Site K) : Type 0 where
   pub at : IsAt standing mine o gs new
   pub unforced : IsUnforced standing old.keeper (record_after o gs g) fault new.keeper
   pub open_before : old.shut ≡ None
@@ -133,9 +135,11 @@ StepsTo standing mine o gs old g (Ok outputs) new = IsStepped standing mine o gs
 StepsTo standing mine o gs old g (Err (SiteFault.Refused k)) new =
     IsAt standing mine o (gs ++ g ∷ []) new × (answer_after o gs g ≡ record { number = Some k; entry = None }) × (old.shut ≡ None) × (new ≡ old)
 StepsTo standing mine o gs old g (Err (SiteFault.Full size)) new = IsStopped standing mine o gs old g (force.Full size) new × (new.shut ≡ None)
-StepsTo standing mine o gs old g (Err (SiteFault.DiskFault faults)) new = IsStopped standing mine o gs old g (force.DiskFault faults) new × (new.shut ≡ Some faults)
+StepsTo standing mine o gs old g (Err (SiteFault.DiskFault faults)) new = IsStopped standing mine o gs old g (force.DiskFault faults) new
+    × (new.shut ≡ Some faults)
 -- it was shut, or the keeper is
 StepsTo standing mine o gs old g (Err (SiteFault.Shut faults)) new =
     (IsAt standing mine o gs new × (old.shut ≡ Some faults) × (new ≡ old)) ⊎ (IsStopped standing mine o gs old g (force.Shut faults) new × (new.shut ≡ None))
 -- the free answer
-StepsTo standing mine o gs old g (Err SiteFault.NoMemory) new = IsAt standing mine o gs new × (standing new.keeper ≡ standing old.keeper) × (old.shut ≡ None) × (new.shut ≡ None)
+StepsTo standing mine o gs old g (Err SiteFault.NoMemory) new = IsAt standing mine o gs new × (standing new.keeper ≡ standing old.keeper)
+    × (old.shut ≡ None) × (new.shut ≡ None)

@@ -61,7 +61,8 @@ IsReady s n e (Prepared.Drawn refusal) draft = (has_node s.nodes n ≡ true) × 
 
 -- it has run on its node itself
 abbrev pub HasRun : {K : Type 0} → (K → Standing) → Site K → ℕ → NodeEvent → Site K → Type 0
-HasRun standing old n e new = (outs : List Out) → IsPlannedAt old n e outs → (m : Move) × IsPlayed standing old n (event_of e) (record { refusal = None; outs = outs }) new m
+HasRun standing old n e new = (outs : List Out) → IsPlannedAt old n e outs
+    → (m : Move) × IsPlayed standing old n (event_of e) (record { refusal = None; outs = outs }) new m
 
 abbrev pub CarriesOut : {K : Type 0} → (K → Standing) → Site K → ℕ → NodeEvent → Prepared → Draft → Result (Unit {0}) ForceFault → Site K → Type 0
 CarriesOut standing old n e Prepared.InPlace draft (Ok u) new = HasRun standing old n e new

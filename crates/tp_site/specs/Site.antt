@@ -133,7 +133,8 @@ pub record IsSettled {K : Type 0} (standing : K → Standing) (old : Site K) (n 
 -- without it, the nodes are as before; a fault of the disk shuts the site
 abbrev pub Settles : {K : Type 0} → (K → Standing) → Site K → ℕ → Digest → Option LogRec → Result (Unit {0}) ForceFault → Site K → Type 0
 Settles standing old n d rec (Ok u) new = IsSettled standing old n d rec new
-Settles standing old n d rec (Err fault) new = Records standing old.keeper rec (Err fault) new.keeper × (new.nodes ≡ old.nodes) × (new.shut ≡ shut_by fault old.shut)
+Settles standing old n d rec (Err fault) new = Records standing old.keeper rec (Err fault) new.keeper × (new.nodes ≡ old.nodes)
+    × (new.shut ≡ shut_by fault old.shut)
 
 -- ---- the start
 

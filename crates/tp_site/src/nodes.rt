@@ -232,7 +232,8 @@ impl Nodes {
         requires there { has_node self.old number ≡ true }
         requires refused { refused_at_once (who_at self.old number) (digest_at self.old number) event.now ≡ None }
         requires sure { can_run (who_at self.old number) event.now (digest_at self.old number) ≡ true }
-        ensures put { (n : ℕ) → digest_at self.new n ≡ cond (number == n) (run_in_place (who_at self.old number) event.now (digest_at self.old number)) (digest_at self.old n) }
+        ensures put { (n : ℕ) → digest_at self.new n
+            ≡ cond (number == n) (run_in_place (who_at self.old number) event.now (digest_at self.old number)) (digest_at self.old n) }
         ensures site { IsSameSite self.old self.new }
     {
         let Some(place) = self.place_of(number) else {
@@ -279,7 +280,8 @@ impl Nodes {
     // One more record of the node of that number.
     fn recover_at(&mut self, alloc: Global, number: u16, rec: &LogRec) -> Result<(), NoMemory>
         requires { has_node self.old number ≡ true }
-        ensures recovered { OnOk result ((n : ℕ) → digest_at self.new n ≡ cond (number == n) (recovered_by rec.now (digest_at self.old n)) (digest_at self.old n)) }
+        ensures recovered { OnOk result
+            ((n : ℕ) → digest_at self.new n ≡ cond (number == n) (recovered_by rec.now (digest_at self.old n)) (digest_at self.old n)) }
         ensures site { IsSameSite self.old self.new }
     {
         let Some(place) = self.nodes.get_mut(&number) else {

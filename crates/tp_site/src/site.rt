@@ -334,7 +334,8 @@ impl<K: Keeper> Site<K> {
         // Promise 11.5 [tp_site/specs/Events.antt]: From its start on, whatever events a site was
         //   given, each node is what its history in the definitions' run of them makes of it, and
         //   the records of its keeper are those that it started on, the boot, and those of the run
-        ensures at { IfOk result (λ site. (K.standing keeper).told ≡ (K.standing keeper).kept → IsAt K.standing all_nodes (opening_of (K.standing keeper) name) [] site) }
+        ensures at { IfOk result (λ site. (K.standing keeper).told ≡ (K.standing keeper).kept
+            → IsAt K.standing all_nodes (opening_of (K.standing keeper) name) [] site) }
         // Promise 11.8, part 2
         ensures text { HasTextIfStarted (K.standing keeper).wide (TheRecord.Boot (boot_of (opening_of (K.standing keeper) name))) result }
     {

@@ -42,7 +42,8 @@ AreOfBranches w = (x : Node) (hs : List Heard) → IsIn w x → is_branch_alone 
 -- so a store whose disk does not fail holds the writes of exactly the branches that it counts as committed, each once, in order
 abbrev pub HoldsItsBranches : World → Type 0
 HoldsItsBranches w =
-    (x : Node) (first last : Speaker) (hs : List Heard) → IsIn w x → is_branch_alone x ≡ true → IsServedAt x hs → first.store ≡ empty → first.current ≡ None → HearsAll first hs last
+    (x : Node) (first last : Speaker) (hs : List Heard) → IsIn w x → is_branch_alone x ≡ true → IsServedAt x hs → first.store ≡ empty
+    → first.current ≡ None → HearsAll first hs last
     → last.store.content ≡ made [] (all_written (committed hs))
 
 abbrev pub tells_to_commit : List Out → Bool

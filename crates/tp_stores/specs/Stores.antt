@@ -38,7 +38,8 @@ IsHeardOf true told heard = (lost : List Indication) × (told ≡ heard ++ lost)
 abbrev pub IsHeardIn : Bool → List Entry → List Indication → Type 0
 IsHeardIn stops [] is = is ≡ []
 IsHeardIn stops (e ∷ h) is =
-    (before : List Indication) × (heard : List Indication) × (is ≡ before ++ heard) × IsHeardOf stops (told_in e.outs) heard × IsHeardIn (is_crash e.event) h before
+    (before : List Indication) × (heard : List Indication) × (is ≡ before ++ heard) × IsHeardOf stops (told_in e.outs) heard
+    × IsHeardIn (is_crash e.event) h before
 
 -- the indications that a store heard, without its answers, and without its being opened again
 abbrev pub heard_of : List Heard → List Indication

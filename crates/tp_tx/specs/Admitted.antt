@@ -17,7 +17,8 @@ pub record LetsIn (at declares : ℕ) (body : List ℕ) (frame : Frame) (new : �
 pub record IsPast (at declares : ℕ) (body : List ℕ) (stop : Stop) : Type 0 where
   pub frame : Frame
   pub says : frame_in body ≡ Some frame
-  pub past : ((1000000 < at) × (stop ≡ Stop.Limit What.Events at)) ⊎ ((at ≤ 1000000) × (256 < declares + declared_by_frame frame) × (stop ≡ Stop.Limit What.Nodes at))
+  pub past : ((1000000 < at) × (stop ≡ Stop.Limit What.Events at))
+      ⊎ ((at ≤ 1000000) × (256 < declares + declared_by_frame frame) × (stop ≡ Stop.Limit What.Nodes at))
 
 abbrev pub Admits : ℕ → ℕ → List ℕ → Result Frame Stop → ℕ → Type 0
 Admits at declares body (Ok frame) new = LetsIn at declares body frame new

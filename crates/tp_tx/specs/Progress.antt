@@ -51,17 +51,21 @@ PutsGiven at (Err (FaceFault.Site fault)) (Err stop) out = stop ≡ stopped_by a
 
 -- how the frame with that number was answered, and what it left of the face
 abbrev pub Responds : {K : Type 0} → (K → Standing) → Opening → List Given → Option Story → ℕ → ℕ → Asks → Result (Unit {0}) Stop → Face K → List ℕ → Type 0
-Responds standing o gs begun faults at a (Ok u) new out = IsRunning standing o (events_with gs a) begun faults new × (is_past_limit o (events_with gs a) ≡ false) × (out ≡ answer_bytes o gs a)
+Responds standing o gs begun faults at a (Ok u) new out = IsRunning standing o (events_with gs a) begun faults new
+    × (is_past_limit o (events_with gs a) ≡ false) × (out ≡ answer_bytes o gs a)
 Responds standing o gs begun faults at a (Err (Stop.BadInput n why)) new out = ⊥
-Responds standing o gs begun faults at a (Err (Stop.Limit what n)) new out = IsRunning standing o gs begun faults new × (what ≡ What.Log) × (n ≡ at) × (is_past_limit o (events_with gs a) ≡ true)
+Responds standing o gs begun faults at a (Err (Stop.Limit what n)) new out = IsRunning standing o gs begun faults new × (what ≡ What.Log)
+    × (n ≡ at) × (is_past_limit o (events_with gs a) ≡ true)
 Responds standing o gs begun faults at a (Err (Stop.Foreign n)) new out = ⊥
 Responds standing o gs begun faults at a (Err (Stop.ReadFault n)) new out = ⊥
 Responds standing o gs begun faults at a (Err (Stop.WriteFault n)) new out = ⊥
 Responds standing o gs begun faults at a (Err (Stop.DiskFault n)) new out = IsShutAt standing o gs faults n new.site
-Responds standing o gs begun faults at a (Err Stop.NoMemory) new out = IsRunning standing o gs begun faults new ⊎ IsRunning standing o (events_with gs a) begun faults new
+Responds standing o gs begun faults at a (Err Stop.NoMemory) new out = IsRunning standing o gs begun faults new
+    ⊎ IsRunning standing o (events_with gs a) begun faults new
 
 -- the same, and its answer waits behind those before it
-abbrev pub AnswersFrame : {K : Type 0} → (K → Standing) → Opening → List Given → Option Story → ℕ → ℕ → Asks → Result (Unit {0}) Stop → Face K → List ℕ → List ℕ → Type 0
+abbrev pub AnswersFrame : {K : Type 0} → (K → Standing) → Opening → List Given → Option Story → ℕ → ℕ → Asks → Result (Unit {0}) Stop
+    → Face K → List ℕ → List ℕ → Type 0
 AnswersFrame standing o gs begun faults at a (Ok u) f old new = IsRunning standing o (events_with gs a) begun faults f × (new ≡ old ++ answer_bytes o gs a)
 AnswersFrame standing o gs begun faults at a (Err (Stop.BadInput n why)) f old new = ⊥
 AnswersFrame standing o gs begun faults at a (Err (Stop.Limit what n)) f old new =
@@ -70,7 +74,8 @@ AnswersFrame standing o gs begun faults at a (Err (Stop.Foreign n)) f old new = 
 AnswersFrame standing o gs begun faults at a (Err (Stop.ReadFault n)) f old new = ⊥
 AnswersFrame standing o gs begun faults at a (Err (Stop.WriteFault n)) f old new = ⊥
 AnswersFrame standing o gs begun faults at a (Err (Stop.DiskFault n)) f old new = IsShutAt standing o gs faults n f.site × (new ≡ old)
-AnswersFrame standing o gs begun faults at a (Err Stop.NoMemory) f old new = (IsRunning standing o gs begun faults f ⊎ IsRunning standing o (events_with gs a) begun faults f) × (new ≡ old)
+AnswersFrame standing o gs begun faults at a (Err Stop.NoMemory) f old
+    new = (IsRunning standing o gs begun faults f ⊎ IsRunning standing o (events_with gs a) begun faults f) × (new ≡ old)
 
 -- what is counted of frames
 abbrev pub IsTxLimit : What → Type 0
@@ -95,9 +100,11 @@ IsBodyStop at Stop.NoMemory = Unit {0}
 
 -- how the body of the frame with that number was answered, before which so many nodes were declared by frames; and what it left of
 -- the face, of the count, and of the answers that wait
-abbrev pub AnswersBody : {K : Type 0} → (K → Standing) → Opening → List Given → Option Story → ℕ → ℕ → ℕ → List ℕ → Result (Unit {0}) Stop → Face K → ℕ → List ℕ → List ℕ → Type 0
+abbrev pub AnswersBody : {K : Type 0} → (K → Standing) → Opening → List Given → Option Story → ℕ → ℕ → ℕ → List ℕ → Result (Unit {0}) Stop
+    → Face K → ℕ → List ℕ → List ℕ → Type 0
 AnswersBody standing o gs begun faults at declares body (Ok u) f count old new =
-    (a : Asks) × (turn o gs at declares body ≡ Goes a) × IsRunning standing o (events_with gs a) begun faults f × (count ≡ declares + declared_in body) × (new ≡ old ++ answer_bytes o gs a)
+    (a : Asks) × (turn o gs at declares body ≡ Goes a) × IsRunning standing o (events_with gs a) begun faults f
+    × (count ≡ declares + declared_in body) × (new ≡ old ++ answer_bytes o gs a)
 AnswersBody standing o gs begun faults at declares body (Err (Stop.BadInput n why)) f count old new =
     IsRunning standing o gs begun faults f × (turn o gs at declares body ≡ Stops (Bad_input n why)) × (new ≡ old)
 AnswersBody standing o gs begun faults at declares body (Err (Stop.Limit what n)) f count old new =
@@ -107,18 +114,22 @@ AnswersBody standing o gs begun faults at declares body (Err (Stop.ReadFault n))
 AnswersBody standing o gs begun faults at declares body (Err (Stop.WriteFault n)) f count old new = ⊥
 AnswersBody standing o gs begun faults at declares body (Err (Stop.DiskFault n)) f count old new = IsShutAt standing o gs faults n f.site × (new ≡ old)
 AnswersBody standing o gs begun faults at declares body (Err Stop.NoMemory) f count old new =
-    (IsRunning standing o gs begun faults f ⊎ ((a : Asks) × (turn o gs at declares body ≡ Goes a) × IsRunning standing o (events_with gs a) begun faults f)) × (new ≡ old)
+    (IsRunning standing o gs begun faults f
+    ⊎ ((a : Asks) × (turn o gs at declares body ≡ Goes a) × IsRunning standing o (events_with gs a) begun faults f)) × (new ≡ old)
 
 -- All that is noted is forced, and what waits is written; or not. The face stands where it stood.
-pub record SettlesFace {K : Type 0} (standing : K → Standing) (old new : Face K) (result : Result (Unit {0}) Stop) (waiting waiting_new : List ℕ) (written output : Option (List ℕ)) (before after : ℕ) : Type 0 where
+pub record SettlesFace {K : Type 0} (standing : K → Standing) (old new : Face K) (result : Result (Unit {0}) Stop)
+    (waiting waiting_new : List ℕ) (written output : Option (List ℕ)) (before after : ℕ) : Type 0 where
   pub settles : SettlesSite standing old.site new.site result waiting waiting_new written output before after
   pub node : new.node ≡ old.node
   pub at : (o : Opening) (gs : List Given) (past : List Entry) → IsFaceAt standing o gs past old → IsFaceAt standing o gs past new
 
 -- before the next frame nothing is done, or all is settled
-abbrev pub KeepsUpFace : {K : Type 0} → (K → Standing) → Face K → Face K → Result (Unit {0}) Stop → List ℕ → List ℕ → Option (List ℕ) → Option (List ℕ) → ℕ → ℕ → Type 0
+abbrev pub KeepsUpFace : {K : Type 0} → (K → Standing) → Face K → Face K → Result (Unit {0}) Stop → List ℕ → List ℕ → Option (List ℕ)
+    → Option (List ℕ) → ℕ → ℕ → Type 0
 KeepsUpFace standing old new result waiting waiting_new written output before after =
-    ((result ≡ Ok tt) × (new ≡ old) × (waiting_new ≡ waiting) × (output ≡ written)) ⊎ SettlesFace standing old new result waiting waiting_new written output before after
+    ((result ≡ Ok tt) × (new ≡ old) × (waiting_new ≡ waiting) × (output ≡ written))
+    ⊎ SettlesFace standing old new result waiting waiting_new written output before after
 
 -- ---- all frames so far
 
@@ -143,7 +154,8 @@ pub record GoesFirst (o : Opening) (input : List ℕ) (events : List Given) (byt
 
 -- These frames were read and answered: what is still to come of the source came after them. The first of the events are on the
 -- disk, and the answers to the frames up to them were written; the other answers wait.
-pub record HasRun {K : Type 0} (standing : K → Standing) (o : Opening) (begun : Option Story) (faults : ℕ) (place : Place) (declares : ℕ) (left rest written output : Option (List ℕ)) (waiting : List ℕ) (f : Face K) : Type 0 where
+pub record HasRun {K : Type 0} (standing : K → Standing) (o : Opening) (begun : Option Story) (faults : ℕ) (place : Place) (declares : ℕ)
+    (left rest written output : Option (List ℕ)) (waiting : List ℕ) (f : Face K) : Type 0 where
   pub events : List Given
   pub all : List Given
   pub ahead : List Given
@@ -152,5 +164,6 @@ pub record HasRun {K : Type 0} (standing : K → Standing) (o : Opening) (begun 
   pub running : IsRunning standing o all None faults f
   pub rests : RestsOn o events begun (standing f.site.keeper).lasting
   pub first : (input : List ℕ) → left ≡ Some input → GoesFirst o input events bytes
-  pub read : option_map (turns_at o first_events 0 0) (frames_left first_place left) ≡ option_map (λ s. after_bytes (bytes ++ waiting) (turns_at o all place.at declares s)) (frames_left place rest)
+  pub read : option_map (turns_at o first_events 0 0) (frames_left first_place left)
+      ≡ option_map (λ s. after_bytes (bytes ++ waiting) (turns_at o all place.at declares s)) (frames_left place rest)
   pub wrote : (before : List ℕ) → written ≡ Some before → output ≡ Some (before ++ bytes)

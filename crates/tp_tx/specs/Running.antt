@@ -46,7 +46,8 @@ HasRead o input events next bytes unread (Err (Stop.DiskFault faults)) = IsLost 
 HasRead o input events next bytes unread (Err Stop.NoMemory) = GoesFirst o input events bytes
 
 -- how the frames of a source were answered by a face that was made
-pub record EndsRunning {K : Type 0} (standing : K → Standing) (o : Opening) (begun : Option Story) (faults : ℕ) (left unread written output : Option (List ℕ)) (result : Result (Unit {0}) Stop) (f : Face K) : Type 0 where
+pub record EndsRunning {K : Type 0} (standing : K → Standing) (o : Opening) (begun : Option Story) (faults : ℕ)
+    (left unread written output : Option (List ℕ)) (result : Result (Unit {0}) Stop) (f : Face K) : Type 0 where
   pub events : List Given
   pub next : List Given
   pub bytes : List ℕ

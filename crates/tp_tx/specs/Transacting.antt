@@ -37,7 +37,8 @@ pub record RunsOn (name : List ℕ) (r : Ran) (result : Result (Unit {0}) Stop) 
   pub read : (input : List ℕ) → r.left ≡ Some input → HasRead (opening name version listed) input events next bytes r.unread result
   pub wrote : (before : List ℕ) → r.written ≡ Some before → HasWritten before bytes r.output result
   -- as the definitions say
-  pub transcribes : (input before : List ℕ) → r.left ≡ Some input → r.written ≡ Some before → Transcribes (told_by (tx_transcript (opening name version listed) input)) before r result
+  pub transcribes : (input before : List ℕ) → r.left ≡ Some input → r.written ≡ Some before
+      → Transcribes (told_by (tx_transcript (opening name version listed) input)) before r result
   -- A crash at any moment since the first sync leaves the log of the run on some of the events, or the one on which the site
   -- began; and one at the end leaves one with all that happened, whatever a byte was written of.
   pub moments : LeavesOnly (IsNodeImage (opening name version listed) (events ++ next) 0) (Some (Synced r.told)) r.story

@@ -65,7 +65,8 @@ fn code_byte(code: Option<Code>) -> u8
 // The call or the event that a frame asks for.
 fn call<K: Keeper>(alloc: Global, face: &mut Face<K>, frame: &Frame) -> Result<Outputs, FaceFault>
     ensures lasting { (K.standing face.new.site.keeper).lasting ≡ (K.standing face.old.site.keeper).lasting }
-    ensures calls { (o : Opening) (gs : List Given) → IsFaceAt K.standing o gs [] face.old → face.old.node ≡ 1 → CallsFor K.standing o gs (asks (stand_after o gs) frame.now) face.old result face.new }
+    ensures calls { (o : Opening) (gs : List Given) → IsFaceAt K.standing o gs [] face.old → face.old.node ≡ 1
+        → CallsFor K.standing o gs (asks (stand_after o gs) frame.now) face.old result face.new }
 {
     match frame {
         Frame::Event(event) => face.feed(alloc, event),
@@ -125,7 +126,8 @@ fn put_given(
 
 // The frame that says where the program stands now.
 fn put_end<K: Keeper>(alloc: Global, face: &Face<K>, out: &mut Octets) -> Result<(), Stop>
-    ensures end { OnOk result ((o : Opening) (gs : List Given) → IsFaceAt K.standing o gs [] face.now → face.now.node ≡ 1 → out.new ≡ out.old ++ standing_frame (stand_after o gs) (code_after o gs)) }
+    ensures end { OnOk result ((o : Opening) (gs : List Given) → IsFaceAt K.standing o gs [] face.now → face.now.node ≡ 1
+        → out.new ≡ out.old ++ standing_frame (stand_after o gs) (code_after o gs)) }
     ensures memory { IfErr result (λ stop. stop ≡ TheStop.NoMemory) }
 {
     let stand = face.stand();
@@ -144,7 +146,8 @@ pub(crate) fn respond<K: Keeper>(
     at: u64,
     out: &mut Octets,
 ) -> Result<(), Stop>
-    ensures responds { (o : Opening) (gs : List Given) (begun : Option Story) (faults : ℕ) → IsRunning K.standing o gs begun faults face.old → Responds K.standing o gs begun faults at (asks (stand_after o gs) frame.now) result face.new out.new }
+    ensures responds { (o : Opening) (gs : List Given) (begun : Option Story) (faults : ℕ) → IsRunning K.standing o gs begun faults face.old
+        → Responds K.standing o gs begun faults at (asks (stand_after o gs) frame.now) result face.new out.new }
     ensures stops { IfErr result (IsAnswerStop at) }
     ensures lasting { (K.standing face.new.site.keeper).lasting ≡ (K.standing face.old.site.keeper).lasting }
 {

@@ -42,7 +42,8 @@ fn settle<J: Settles, K: Sink>(
     sink: &mut K,
     last: bool,
 ) -> Result<(), Stop>
-    ensures settles { SettlesFace J.standing face.old face.new result waiting.old waiting.new (K.written sink.old) (K.written sink.new) (K.fault_count sink.old) (K.fault_count sink.new) }
+    ensures settles { SettlesFace J.standing face.old face.new result waiting.old waiting.new (K.written sink.old) (K.written sink.new)
+        (K.fault_count sink.old) (K.fault_count sink.new) }
     ensures kept { K.fault_count sink.old ≤ K.fault_count sink.new }
 {
     let settled = face.settle_log(last);
@@ -56,7 +57,8 @@ fn keep_up<J: Settles, K: Sink>(
     sink: &mut K,
     ready: bool,
 ) -> Result<(), Stop>
-    ensures keeps { KeepsUpFace J.standing face.old face.new result waiting.old waiting.new (K.written sink.old) (K.written sink.new) (K.fault_count sink.old) (K.fault_count sink.new) }
+    ensures keeps { KeepsUpFace J.standing face.old face.new result waiting.old waiting.new (K.written sink.old) (K.written sink.new)
+        (K.fault_count sink.old) (K.fault_count sink.new) }
     ensures kept { K.fault_count sink.old ≤ K.fault_count sink.new }
 {
     if ready && waiting.len() <= MOST_WAITING {
@@ -72,7 +74,8 @@ fn finish<J: Settles, K: Sink>(
     sink: &mut K,
     end: Result<(), Stop>,
 ) -> Result<(), Stop>
-    ensures finishes { Finishes J.standing face.old.site face.new.site end result waiting.old (K.written sink.old) (K.written sink.new) (K.fault_count sink.old) (K.fault_count sink.new) }
+    ensures finishes { Finishes J.standing face.old.site face.new.site end result waiting.old (K.written sink.old) (K.written sink.new)
+        (K.fault_count sink.old) (K.fault_count sink.new) }
     ensures kept { K.fault_count sink.old ≤ K.fault_count sink.new }
 {
     match settle(face, waiting, sink, true) {
@@ -90,7 +93,8 @@ fn answer_frame<J: Keeper>(
     out: &mut Octets,
     waiting: &mut Octets,
 ) -> Result<(), Stop>
-    ensures answers { (o : Opening) (gs : List Given) (begun : Option Story) (faults : ℕ) → IsRunning J.standing o gs begun faults face.old → AnswersFrame J.standing o gs begun faults at (asks (stand_after o gs) frame.now) result face.new waiting.old waiting.new }
+    ensures answers { (o : Opening) (gs : List Given) (begun : Option Story) (faults : ℕ) → IsRunning J.standing o gs begun faults face.old
+        → AnswersFrame J.standing o gs begun faults at (asks (stand_after o gs) frame.now) result face.new waiting.old waiting.new }
     ensures stops { IfErr result (IsAnswerStop at) }
     ensures lasting { (J.standing face.new.site.keeper).lasting ≡ (J.standing face.old.site.keeper).lasting }
 {
@@ -115,7 +119,8 @@ fn answer_body<J: Keeper>(
     waiting: &mut Octets,
 ) -> Result<(), Stop>
     requires { declares.old ≤ 256 }
-    ensures answers { (o : Opening) (gs : List Given) (begun : Option Story) (faults : ℕ) → IsRunning J.standing o gs begun faults face.old → AnswersBody J.standing o gs begun faults at declares.old body.now result face.new declares.new waiting.old waiting.new }
+    ensures answers { (o : Opening) (gs : List Given) (begun : Option Story) (faults : ℕ) → IsRunning J.standing o gs begun faults face.old
+        → AnswersBody J.standing o gs begun faults at declares.old body.now result face.new declares.new waiting.old waiting.new }
     ensures stops { IfErr result (IsBodyStop at) }
     ensures few { declares.new ≤ 256 }
     ensures lasting { (J.standing face.new.site.keeper).lasting ≡ (J.standing face.old.site.keeper).lasting }
@@ -134,7 +139,8 @@ fn answer_frames<S: Source, K: Sink, J: Settles>(
     source: &mut S,
     sink: &mut K,
 ) -> Result<(), Stop>
-    ensures answers { (o : Opening) (begun : Option Story) (faults : ℕ) → IsRunning J.standing o first_events None faults face.old → RestsOn o first_events begun (J.standing face.old.site.keeper).lasting
+    ensures answers { (o : Opening) (begun : Option Story) (faults : ℕ) → IsRunning J.standing o first_events None faults face.old
+        → RestsOn o first_events begun (J.standing face.old.site.keeper).lasting
         → EndsRunning J.standing o begun faults (S.left source.old) (S.left source.new) (K.written sink.old) (K.written sink.new) result face.new }
     ensures stops { IfErr result (IsEventsStop (S.fault_count source.old) (S.fault_count source.new) (K.fault_count sink.old) (K.fault_count sink.new)) }
     ensures read { S.fault_count source.old ≤ S.fault_count source.new }
@@ -168,8 +174,11 @@ fn answer_frames<S: Source, K: Sink, J: Settles>(
 
 // A face of the site's node 1, or the disk back without memory.
 fn make_face<D: Disk>(alloc: Global, site: Site<Journal<D>>) -> Result<Face<Journal<D>>, D>
-    ensures made { IfOk result (λ f. (o : Opening) (begun : Option Story) (faults : ℕ) → IsServing (journal_of D.fault_count D.told D.fuse) o [] begun faults site → IsRunning (journal_of D.fault_count D.told D.fuse) o first_events begun faults f) }
-    ensures unmade { IfErr result (λ disk. (o : Opening) (begun : Option Story) (faults : ℕ) → IsServing (journal_of D.fault_count D.told D.fuse) o [] begun faults site → LeavesOnly (IsNodeImage o [] 0) begun (D.told disk)) }
+    ensures made { IfOk result (λ f. (o : Opening) (begun : Option Story) (faults : ℕ)
+        → IsServing (journal_of D.fault_count D.told D.fuse) o [] begun faults site
+        → IsRunning (journal_of D.fault_count D.told D.fuse) o first_events begun faults f) }
+    ensures unmade { IfErr result (λ disk. (o : Opening) (begun : Option Story) (faults : ℕ)
+        → IsServing (journal_of D.fault_count D.told D.fuse) o [] begun faults site → LeavesOnly (IsNodeImage o [] 0) begun (D.told disk)) }
 {
     match Face::new(alloc, site, ROOT) {
         Ok(face) => Ok(face),
@@ -217,10 +226,19 @@ pub fn transact<S: Source, K: Sink, D: Disk>(
     // Promise 14.9: A crash at any moment from the first sync on leaves the log of the run on some
     //   of the events, and one at the end a log with all that happened
     ensures transacts { (s : Story) → D.told disk ≡ Some s → IsFile (seen s)
-        → Transacts name (record { told = s; story = D.told result.0; left = S.left source.old; unread = S.left source.new; written = K.written sink.old; output = K.written sink.new }) result.1 }
+        → Transacts name (record {
+          told = s;
+          story = D.told result.0;
+          left = S.left source.old;
+          unread = S.left source.new;
+          written = K.written sink.old;
+          output = K.written sink.new;
+        }) result.1 }
     // Promise 14.10: A fault is told with its object's count, and comes only where that rose in the
     //   call
-    ensures stops { IfErr result.1 (IsServeStop (D.fault_count disk) (D.fault_count result.0) (S.fault_count source.old) (S.fault_count source.new) (K.fault_count sink.old) (K.fault_count sink.new)) }
+    ensures stops { IfErr result.1
+        (IsServeStop (D.fault_count disk) (D.fault_count result.0) (S.fault_count source.old) (S.fault_count source.new)
+        (K.fault_count sink.old) (K.fault_count sink.new)) }
     ensures foreign { (at : ℕ) → result.1 ≡ Err (TheStop.Foreign at) → (source.new ≡ source.old) × (sink.new ≡ sink.old) }
     // Promise 14.11 [clauses before foreign]: At a limit at 0, and where the log is foreign,
     //   nothing was read or written

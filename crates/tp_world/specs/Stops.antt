@@ -32,7 +32,8 @@ pub record StopsIn (w : World) (s : List ℕ) (z : Site) (place : ℕ) (v : Code
 
 -- The node has answered the event, and its site, which was x and stands at this place, has played it. All else of the world is as
 -- it was.
-pub record HasPlayed (w : World) (s : List ℕ) (z : Site) (n : Node) (ent : Option EntryValue) (x : SiteSlot) (place : ℕ) (gained : Option Entry) (v : CodeWorld) : Type 0 where
+pub record HasPlayed (w : World) (s : List ℕ) (z : Site) (n : Node) (ent : Option EntryValue) (x : SiteSlot) (place : ℕ)
+    (gained : Option Entry) (v : CodeWorld) : Type 0 where
   pub found : find_node w.nodes (number_of n) ≡ Some n
   pub here : is_name (site_of n) s ≡ true
   pub legal : (e : EntryValue) → ent ≡ Some e → IsLegal n.origin n.superior (e ∷ n.history)

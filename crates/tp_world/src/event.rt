@@ -70,7 +70,8 @@ impl World {
         event: &NodeEvent<'_>,
         lines: &mut OutLines,
     ) -> Result<(), WorldFault>
-        ensures { (w : WorldValue) → Mirrors w self.old → ((up : Option AddrValue) → IsUnder up (event_of event.now)) → Gives (within_limits (task_turn w [] (task_at w node (event_of event.now)))) lines.old result lines.new self.new }
+        ensures { (w : WorldValue) → Mirrors w self.old → ((up : Option AddrValue) → IsUnder up (event_of event.now))
+            → Gives (within_limits (task_turn w [] (task_at w node (event_of event.now)))) lines.old result lines.new self.new }
     {
         let mut entry = self.take_entry(alloc)?;
         let done = self.local_with(alloc, node, event, &mut entry, lines);
@@ -87,7 +88,8 @@ impl World {
         entry: &mut Entry,
         lines: &mut OutLines,
     ) -> Result<(), WorldFault>
-        ensures { (w : WorldValue) → Mirrors w self.old → ((up : Option AddrValue) → IsUnder up (event_of event.now)) → Gives (within_limits (task_turn w [] (task_at w node (event_of event.now)))) lines.old result lines.new self.new }
+        ensures { (w : WorldValue) → Mirrors w self.old → ((up : Option AddrValue) → IsUnder up (event_of event.now))
+            → Gives (within_limits (task_turn w [] (task_at w node (event_of event.now)))) lines.old result lines.new self.new }
     {
         let Some(at) = self.nodes.addr(node) else {
             return Ok(());
@@ -105,7 +107,8 @@ impl World {
         request: &LineRequest,
         lines: &mut OutLines,
     ) -> Result<(), WorldFault>
-        ensures { (w : WorldValue) → Mirrors w self.old → Gives (within_limits (happens w (Does (Action.Do node request.now)))) lines.old result lines.new self.new }
+        ensures { (w : WorldValue) → Mirrors w self.old
+            → Gives (within_limits (happens w (Does (Action.Do node request.now)))) lines.old result lines.new self.new }
     {
         match request_in(alloc, &self.nodes, request)? {
             None => Ok(()),

@@ -102,7 +102,8 @@ impl World {
         superior: Option<Addr>,
         lines: &mut OutLines,
     ) -> Result<(), NoMemory>
-        ensures { (w : WorldValue) → Mirrors w self.old → is_node w at.node ≡ false → has_superior w superior ≡ true → OnOk result (HasCome w at superior lines.old lines.new self.new) }
+        ensures { (w : WorldValue) → Mirrors w self.old → is_node w at.node ≡ false → has_superior w superior ≡ true
+            → OnOk result (HasCome w at superior lines.old lines.new self.new) }
     {
         let site = at.site;
         let boot = declare_at(alloc, &mut self.sites, &at, &superior)?;
@@ -193,7 +194,8 @@ impl World {
         event: &NodeEvent<'_>,
         lines: &mut OutLines,
     ) -> Result<(), WorldFault>
-        ensures { (w : WorldValue) → Mirrors w self.old → ((up : Option AddrValue) → IsUnder up (event_of event.now)) → Gives (if_named (is_node w node) (within_limits (task_turn w [] (task_at w node (event_of event.now))))) lines.old result lines.new self.new }
+        ensures { (w : WorldValue) → Mirrors w self.old → ((up : Option AddrValue) → IsUnder up (event_of event.now))
+            → Gives (if_named (is_node w node) (within_limits (task_turn w [] (task_at w node (event_of event.now))))) lines.old result lines.new self.new }
     {
         if !self.is_node(node) {
             return Err(WorldFault::Name);
@@ -210,7 +212,9 @@ impl World {
         event: &NodeEvent<'_>,
         lines: &mut OutLines,
     ) -> Result<(), WorldFault>
-        ensures { (w : WorldValue) → Mirrors w self.old → ((up : Option AddrValue) → IsUnder up (event_of event.now)) → Gives (if_named (is_node w node && is_node w peer) (within_limits (task_turn w [] (task_at w node (event_of event.now))))) lines.old result lines.new self.new }
+        ensures { (w : WorldValue) → Mirrors w self.old → ((up : Option AddrValue) → IsUnder up (event_of event.now))
+            → Gives (if_named (is_node w node && is_node w peer) (within_limits (task_turn w [] (task_at w node (event_of event.now)))))
+            lines.old result lines.new self.new }
     {
         if !self.is_node(node) || !self.is_node(peer) {
             return Err(WorldFault::Name);
@@ -226,7 +230,8 @@ impl World {
         to: u16,
         lines: &mut OutLines,
     ) -> Result<(), WorldFault>
-        ensures { (w : WorldValue) → Mirrors w self.old → Gives (if_named (is_node w from && is_node w to) (Ok (skip_line w from to))) lines.old result lines.new self.new }
+        ensures { (w : WorldValue) → Mirrors w self.old
+            → Gives (if_named (is_node w from && is_node w to) (Ok (skip_line w from to))) lines.old result lines.new self.new }
     {
         if !self.is_node(from) || !self.is_node(to) {
             return Err(WorldFault::Name);
@@ -284,7 +289,8 @@ impl World {
         site: &SiteName,
         lines: &mut OutLines,
     ) -> Result<(), WorldFault>
-        ensures { (w : WorldValue) → IsOfRun w → Mirrors w self.old → Gives (if_named (is_site w site.now) (within_limits (happens w (Crash site.now)))) lines.old result lines.new self.new }
+        ensures { (w : WorldValue) → IsOfRun w → Mirrors w self.old
+            → Gives (if_named (is_site w site.now) (within_limits (happens w (Crash site.now)))) lines.old result lines.new self.new }
     {
         match self.site(site) {
             None => Err(WorldFault::Name),

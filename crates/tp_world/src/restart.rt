@@ -27,7 +27,8 @@ impl World {
         lines: &mut OutLines,
     ) -> Result<(), WorldFault>
         requires { place < length self.old.sites.items }
-        ensures { (w : WorldValue) (s : List ℕ) (x : SiteSlot) → DisksTell w → DisksStart w → place ≡ place_of_site self.old.sites.items s → HasStoppedAs w self.old place lost.now journal x → Gives (within_limits (crash_turn w s)) lines.old result lines.new self.new }
+        ensures { (w : WorldValue) (s : List ℕ) (x : SiteSlot) → DisksTell w → DisksStart w → place ≡ place_of_site self.old.sites.items s
+            → HasStoppedAs w self.old place lost.now journal x → Gives (within_limits (crash_turn w s)) lines.old result lines.new self.new }
     {
         let mut next = self.sites[place].started_on(alloc, journal)?;
         let site = next.name();
@@ -46,7 +47,8 @@ impl World {
         lines: &mut OutLines,
     ) -> Result<(), WorldFault>
         requires { place < length self.old.sites.items }
-        ensures { (w : WorldValue) (s : List ℕ) → DisksTell w → DisksStart w → Mirrors w self.old → place ≡ place_of_site self.old.sites.items s → Gives (within_limits (crash_turn w s)) lines.old result lines.new self.new }
+        ensures { (w : WorldValue) (s : List ℕ) → DisksTell w → DisksStart w → Mirrors w self.old
+            → place ≡ place_of_site self.old.sites.items s → Gives (within_limits (crash_turn w s)) lines.old result lines.new self.new }
     {
         let journal = self.sites[place].reopened(alloc)?;
         self.restart(alloc, place, journal, &None, lines)

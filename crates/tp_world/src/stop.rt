@@ -47,7 +47,8 @@ impl World {
         lines: &mut OutLines,
     ) -> Result<(), WorldFault>
         requires { place < length self.old.sites.items }
-        ensures { (w : WorldValue) (s : List ℕ) (x : SiteSlot) → DisksTell w → DisksStart w → place ≡ place_of_site self.old.sites.items s → HasStoppedAs w self.old place lost.now journal x → Gives (within_limits (after_stop w s fate)) lines.old result lines.new self.new }
+        ensures { (w : WorldValue) (s : List ℕ) (x : SiteSlot) → DisksTell w → DisksStart w → place ≡ place_of_site self.old.sites.items s
+            → HasStoppedAs w self.old place lost.now journal x → Gives (within_limits (after_stop w s fate)) lines.old result lines.new self.new }
     {
         let site = self.sites[place].name();
         lines.push(alloc, OutLine::Stopped { site, fate })?;
@@ -62,7 +63,8 @@ impl World {
         lines: &mut OutLines,
     ) -> Result<(), WorldFault>
         requires { place < length self.old.sites.items }
-        ensures { (w : WorldValue) (s : List ℕ) → DisksTell w → DisksStart w → place ≡ place_of_site self.old.sites.items s → Mirrors w self.old → Gives (within_limits (after_stop w s RecordFate.None)) lines.old result lines.new self.new }
+        ensures { (w : WorldValue) (s : List ℕ) → DisksTell w → DisksStart w → place ≡ place_of_site self.old.sites.items s
+            → Mirrors w self.old → Gives (within_limits (after_stop w s RecordFate.None)) lines.old result lines.new self.new }
     {
         let journal = self.sites[place].reopened(alloc)?;
         self.stopped(alloc, place, journal, RecordFate::None, &None, lines)
@@ -80,7 +82,9 @@ impl World {
         lines: &mut OutLines,
     ) -> Result<(), WorldFault>
         requires { place < length self.old.sites.items }
-        ensures { (w : WorldValue) (s : List ℕ) (z : SiteValue) (n : NodeValue) (e : EntryValue) (r : LogRec) (x : SiteSlot) (outs : List Out) → HasPlayed w s z n (Some e) x place (Some (record { outs = outs; change = change.now })) self.old → e.rec ≡ Some r → node ≡ number_of n → recorded disk ≡ fresh (disk_bytes z.disk) []
+        ensures { (w : WorldValue) (s : List ℕ) (z : SiteValue) (n : NodeValue) (e : EntryValue) (r : LogRec) (x : SiteSlot)
+            (outs : List Out) → HasPlayed w s z n (Some e) x place (Some (record { outs = outs; change = change.now })) self.old
+            → e.rec ≡ Some r → node ≡ number_of n → recorded disk ≡ fresh (disk_bytes z.disk) []
             → Gives (within_limits (stop_in_force w n z e (remains stop.now.call stop.now.fill r z.disk))) lines.old result lines.new self.new }
     {
         let records = self.sites[place].log().list();
@@ -113,7 +117,9 @@ impl World {
         lines: &mut OutLines,
     ) -> Result<(), WorldFault>
         requires { place < length self.old.sites.items }
-        ensures { (w : WorldValue) (s : List ℕ) (z : SiteValue) (n : NodeValue) (ent : Option EntryValue) (x : SiteSlot) → HasPlayed w s z n ent x place (entry_told (answer_told answer entry.now)) self.old → node ≡ number_of n → recorded disk ≡ fresh (disk_bytes z.disk) []
+        ensures { (w : WorldValue) (s : List ℕ) (z : SiteValue) (n : NodeValue) (ent : Option EntryValue) (x : SiteSlot)
+            → HasPlayed w s z n ent x place (entry_told (answer_told answer entry.now)) self.old → node ≡ number_of n
+            → recorded disk ≡ fresh (disk_bytes z.disk) []
             → Gives (within_limits (stop_in_entry w n z stop.now.call stop.now.fill ent)) lines.old result lines.new self.new }
     {
         match answer {
@@ -138,7 +144,8 @@ impl World {
         lines: &mut OutLines,
     ) -> Result<(), WorldFault>
         requires { place < length self.old.sites.items }
-        ensures { (w : WorldValue) (s : List ℕ) (z : SiteValue) (d : Action) → StopsIn w s z place self.old → stands_at w s (Some node) ≡ true → task_of w d ≡ task_at w node (event_of event.now) → ((up : Option AddrValue) → IsUnder up (event_of event.now))
+        ensures { (w : WorldValue) (s : List ℕ) (z : SiteValue) (d : Action) → StopsIn w s z place self.old
+            → stands_at w s (Some node) ≡ true → task_of w d ≡ task_at w node (event_of event.now) → ((up : Option AddrValue) → IsUnder up (event_of event.now))
             → Gives (stop_deed w s z stop.now.call stop.now.fill [] (task_at w node (event_of event.now))) lines.old result lines.new self.new }
     {
         let disk = self.sites[place].copied(alloc)?;
@@ -158,7 +165,8 @@ impl World {
         lines: &mut OutLines,
     ) -> Result<(), WorldFault>
         requires { place < length self.old.sites.items }
-        ensures { (w : WorldValue) (s : List ℕ) (z : SiteValue) → StopsIn w s z place self.old → stands_at w s (Some node) ≡ true → Gives (stop_deed w s z stop.now.call stop.now.fill [] (task_of w (Action.Do node request.now))) lines.old result lines.new self.new }
+        ensures { (w : WorldValue) (s : List ℕ) (z : SiteValue) → StopsIn w s z place self.old → stands_at w s (Some node) ≡ true
+            → Gives (stop_deed w s z stop.now.call stop.now.fill [] (task_of w (Action.Do node request.now))) lines.old result lines.new self.new }
     {
         match request_in(alloc, &self.nodes, request)? {
             None => Ok(()),
@@ -180,7 +188,10 @@ impl World {
         lines: &mut OutLines,
     ) -> Result<(), WorldFault>
         requires { place < length self.old.sites.items }
-        ensures { (w : WorldValue) (s : List ℕ) (z : SiteValue) → StopsIn w s z place self.old → stands_at w s (node_of_action w (Action.Again number)) ≡ true → Gives (stop_deed w s z stop.now.call stop.now.fill (OutLine.Take number ∷ []) (task_of w (Action.Again number))) lines.old result lines.new self.new }
+        ensures { (w : WorldValue) (s : List ℕ) (z : SiteValue) → StopsIn w s z place self.old
+            → stands_at w s (node_of_action w (Action.Again number)) ≡ true
+            → Gives (stop_deed w s z stop.now.call stop.now.fill (OutLine.Take number ∷ []) (task_of w (Action.Again number))) lines.old
+            result lines.new self.new }
     {
         let Some(frame) = self.frames.find(number) else {
             return Err(WorldFault::Name);
@@ -204,7 +215,8 @@ impl World {
         lines: &mut OutLines,
     ) -> Result<(), WorldFault>
         requires { place < length self.old.sites.items }
-        ensures { (w : WorldValue) (s : List ℕ) (z : SiteValue) → StopsIn w s z place self.old → stands_at w s (Some to) ≡ true → Gives (stop_named w s stop.now.call stop.now.fill (Action.Pass from to)) lines.old result lines.new self.new }
+        ensures { (w : WorldValue) (s : List ℕ) (z : SiteValue) → StopsIn w s z place self.old → stands_at w s (Some to) ≡ true
+            → Gives (stop_named w s stop.now.call stop.now.fill (Action.Pass from to)) lines.old result lines.new self.new }
     {
         match self.frames.hand_between(from, to) {
             None => {
@@ -225,7 +237,9 @@ impl World {
         lines: &mut OutLines,
     ) -> Result<(), WorldFault>
         requires { place < length self.old.sites.items }
-        ensures { (w : WorldValue) (s : List ℕ) (z : SiteValue) → StopsIn w s z place self.old → stands_at w s (node_of_action w action.now) ≡ true → Gives (stop_named w s stop.now.call stop.now.fill action.now) lines.old result lines.new self.new }
+        ensures { (w : WorldValue) (s : List ℕ) (z : SiteValue) → StopsIn w s z place self.old
+            → stands_at w s (node_of_action w action.now) ≡ true
+            → Gives (stop_named w s stop.now.call stop.now.fill action.now) lines.old result lines.new self.new }
     {
         let _rec: Option<&PeerRecord> = None;
         let _request: Option<&Request> = None;
@@ -315,7 +329,8 @@ impl World {
         action: &Action,
         lines: &mut OutLines,
     ) -> Result<(), WorldFault>
-        ensures { (w : WorldValue) → IsOfRun w → Mirrors w self.old → Gives (crash_in_line w site.now stop.now.call stop.now.fill action.now) lines.old result lines.new self.new }
+        ensures { (w : WorldValue) → IsOfRun w → Mirrors w self.old
+            → Gives (crash_in_line w site.now stop.now.call stop.now.fill action.now) lines.old result lines.new self.new }
     {
         let Some(place) = self.site(site) else {
             return Err(WorldFault::Name);

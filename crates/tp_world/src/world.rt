@@ -128,7 +128,8 @@ impl World {
         line: &Line,
         lines: &mut OutLines,
     ) -> Result<(), WorldFault>
-        ensures { (w : WorldValue) → IsOfRun w → Mirrors w self.old → is_silent line.now ≡ false → Gives (line_value 0 w line.now) lines.old result lines.new self.new }
+        ensures { (w : WorldValue) → IsOfRun w → Mirrors w self.old → is_silent line.now ≡ false
+            → Gives (line_value 0 w line.now) lines.old result lines.new self.new }
     {
         match line {
             Line::Node { node, site, under } => self.node_line(alloc, *node, *site, *under, lines),

@@ -14,7 +14,8 @@ abbrev pub with_puts : List Put → Play → Play
 with_puts qs p = record p { puts = qs ++ p.puts }
 
 -- some of what waits was put, and the answers were run: the lines show that, and the rest waits in the world that they leave
-pub record HaveRun {M : Type 0} (allowed : M → List Answer → Type 0) (old new : List (Option M)) (before : ℕ) (w : World) (queue : List Put) (shown : List OutLine) (after : ℕ) (v : World) (rest : List Put) : Type 0 where
+pub record HaveRun {M : Type 0} (allowed : M → List Answer → Type 0) (old new : List (Option M)) (before : ℕ) (w : World) (queue : List Put)
+    (shown : List OutLine) (after : ℕ) (v : World) (rest : List Put) : Type 0 where
   pub put : List Put
   pub given : List (Option Request)
   pub each : length given ≡ length put
@@ -23,7 +24,8 @@ pub record HaveRun {M : Type 0} (allowed : M → List Answer → Type 0) (old ne
   pub count : length new ≡ length old
 
 -- the last of them ends the run by that fault
-pub record HaveEnded {M : Type 0} (allowed : M → List Answer → Type 0) (old new : List (Option M)) (before : ℕ) (w : World) (queue : List Put) (f : Fault) : Type 0 where
+pub record HaveEnded {M : Type 0} (allowed : M → List Answer → Type 0) (old new : List (Option M)) (before : ℕ) (w : World)
+    (queue : List Put) (f : Fault) : Type 0 where
   pub given : List (Option Request)
   pub play : Play
   pub each : length given ≡ length play.puts
@@ -34,11 +36,13 @@ pub record HaveEnded {M : Type 0} (allowed : M → List Answer → Type 0) (old 
 -- ---- a whole line, where so many members were handed in
 
 -- it was played to its end, and showed these lines after its echo
-pub record IsPlayed {M : Type 0} (allowed : M → List Answer → Type 0) (old new : List (Option M)) (members : ℕ) (w : World) (l : Line) (shown : List OutLine) (v : World) : Type 0 where
+pub record IsPlayed {M : Type 0} (allowed : M → List Answer → Type 0) (old new : List (Option M)) (members : ℕ) (w : World) (l : Line)
+    (shown : List OutLine) (v : World) : Type 0 where
   pub put : List Put
   pub given : List (Option Request)
   pub each : length given ≡ length put
-  pub plays : (later : List (Option Request)) → line_played members (given ++ later) w l ≡ record { world = v; lines = echo l ++ shown; puts = put; left = later; fault = None }
+  pub plays : (later : List (Option Request))
+      → line_played members (given ++ later) w l ≡ record { world = v; lines = echo l ++ shown; puts = put; left = later; fault = None }
   pub gave : Gave allowed old new put given
   pub count : length new ≡ length old
 

@@ -24,7 +24,8 @@ abbrev pub Stands : {M : Type 0} → World → DrivenWorld M → Type 0
 Stands w v = StandsWith w v.world v.members.slots.items v.members.drivers.entries
 
 -- it was played to its end: it shows, after the lines that stood before, what the definitions show after its echo
-pub record PlaysOut {M : Type 0} (allowed : M → List Answer → Type 0) (w : World) (l : Line) (before after : List OutLine) (old new : DrivenWorld M) : Type 0 where
+pub record PlaysOut {M : Type 0} (allowed : M → List Answer → Type 0) (w : World) (l : Line) (before after : List OutLine)
+    (old new : DrivenWorld M) : Type 0 where
   pub world : World
   pub shown : List OutLine
   pub is : after ≡ before ++ shown
@@ -32,14 +33,17 @@ pub record PlaysOut {M : Type 0} (allowed : M → List Answer → Type 0) (w : W
   pub stands : Stands world new
 
 -- for some answers that the members may give: one for each indication that was put to them. Out of memory is the free answer
-abbrev pub PlaysAfter : {M : Type 0} → (M → List Answer → Type 0) → World → Line → List OutLine → Result (Unit {0}) WorldFault → List OutLine → DrivenWorld M → DrivenWorld M → Type 0
+abbrev pub PlaysAfter : {M : Type 0} → (M → List Answer → Type 0) → World → Line → List OutLine → Result (Unit {0}) WorldFault
+    → List OutLine → DrivenWorld M → DrivenWorld M → Type 0
 PlaysAfter allowed w l before (Ok u) after old new = PlaysOut allowed w l before after old new
 PlaysAfter allowed w l before (Err WorldFault.Name) after old new = IsEnded allowed (members_of old) (members_of new) (length (members_of old)) w l Name
-PlaysAfter allowed w l before (Err (WorldFault.Limit what)) after old new = IsEnded allowed (members_of old) (members_of new) (length (members_of old)) w l (Over what)
+PlaysAfter allowed w l before (Err (WorldFault.Limit what)) after old new = IsEnded allowed (members_of old) (members_of new)
+    (length (members_of old)) w l (Over what)
 PlaysAfter allowed w l before (Err WorldFault.NoMemory) after old new = Unit {0}
 
 -- it shows its echo first
-abbrev pub PlaysEchoed : {M : Type 0} → (M → List Answer → Type 0) → World → Line → Result (Unit {0}) WorldFault → List OutLine → DrivenWorld M → DrivenWorld M → Type 0
+abbrev pub PlaysEchoed : {M : Type 0} → (M → List Answer → Type 0) → World → Line → Result (Unit {0}) WorldFault → List OutLine
+    → DrivenWorld M → DrivenWorld M → Type 0
 PlaysEchoed allowed w l r after old new = PlaysAfter allowed w l (echo l) r after old new
 
 abbrev pub Plays : {M : Type 0} → (M → List Answer → Type 0) → World → Line → Result (List OutLine) WorldFault → DrivenWorld M → DrivenWorld M → Type 0

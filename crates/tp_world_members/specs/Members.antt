@@ -46,7 +46,8 @@ may allowed (Some m) answers = (answers ≡ []) ⊎ allowed m answers
 
 -- these answers were given to what was put: whatever a member may answer from now on, it might answer after its own among them
 abbrev pub Gave : {M : Type 0} → (M → List Answer → Type 0) → List (Option M) → List (Option M) → List Put → List (Option Request) → Type 0
-Gave allowed old new puts answers = (k : ℕ) (rest : List Answer) → may allowed (slot_at new k) rest → may allowed (slot_at old k) (answers_of k puts answers ++ rest)
+Gave allowed old new puts answers = (k : ℕ) (rest : List Answer) → may allowed (slot_at new k) rest
+    → may allowed (slot_at old k) (answers_of k puts answers ++ rest)
 
 -- ---- what is asked for next
 
@@ -68,6 +69,8 @@ Asks allowed old new queue None = Gave allowed old new queue (silent queue)
 Asks allowed old new queue (Some a) = AsksFor allowed old new queue a []
 
 -- of what these lines tell from that place on; the rest begins at the place that is handed out
-abbrev pub AsksFrom : {M : Type 0} → (M → List Answer → Type 0) → List (Option M) → List (Option M) → (ℕ → Option ℕ) → List OutLine → ℕ → Option (Asked × ℕ) → Type 0
+abbrev pub AsksFrom : {M : Type 0} → (M → List Answer → Type 0) → List (Option M) → List (Option M) → (ℕ → Option ℕ) → List OutLine → ℕ
+    → Option (Asked × ℕ) → Type 0
 AsksFrom allowed old new driver lines from None = let queue : List Put = puts_in driver (drop from lines) in Gave allowed old new queue (silent queue)
-AsksFrom allowed old new driver lines from (Some x) = (x.1 ≤ length lines) × AsksFor allowed old new (puts_in driver (drop from lines)) x.0 (puts_in driver (drop x.1 lines))
+AsksFrom allowed old new driver lines from (Some x) = (x.1 ≤ length lines)
+    × AsksFor allowed old new (puts_in driver (drop from lines)) x.0 (puts_in driver (drop x.1 lines))

@@ -35,7 +35,8 @@ pub record StandsWith {M : Type 0} (w : World) (new : CodeWorld) (xs : List (Opt
   pub members : MembersStand w xs es
 
 -- some answers were run, and these lines are shown; the rest waits from that place on
-pub record RunsOn {M : Type 0} (allowed : M → List Answer → Type 0) (before : ℕ) (w : World) (from : ℕ) (lines : List OutLine) (after next : ℕ) (shown : List OutLine) (new : CodeWorld) (xs ys : List (Option M)) (fs : List (ℕ × ℕ)) : Type 0 where
+pub record RunsOn {M : Type 0} (allowed : M → List Answer → Type 0) (before : ℕ) (w : World) (from : ℕ) (lines : List OutLine)
+    (after next : ℕ) (shown : List OutLine) (new : CodeWorld) (xs ys : List (Option M)) (fs : List (ℕ × ℕ)) : Type 0 where
   pub world : World
   pub more : List OutLine
   pub is : shown ≡ lines ++ more
@@ -43,7 +44,8 @@ pub record RunsOn {M : Type 0} (allowed : M → List Answer → Type 0) (before 
   pub stands : StandsWith world new ys fs
 
 -- all were run
-pub record RunsOut {M : Type 0} (allowed : M → List Answer → Type 0) (before : ℕ) (w : World) (from : ℕ) (lines : List OutLine) (shown : List OutLine) (new : CodeWorld) (xs ys : List (Option M)) (fs : List (ℕ × ℕ)) : Type 0 where
+pub record RunsOut {M : Type 0} (allowed : M → List Answer → Type 0) (before : ℕ) (w : World) (from : ℕ) (lines : List OutLine)
+    (shown : List OutLine) (new : CodeWorld) (xs ys : List (Option M)) (fs : List (ℕ × ℕ)) : Type 0 where
   pub after : ℕ
   pub world : World
   pub more : List OutLine
@@ -51,14 +53,17 @@ pub record RunsOut {M : Type 0} (allowed : M → List Answer → Type 0) (before
   pub run : HaveRun allowed xs ys before w (waits w lines from) more after world []
   pub stands : StandsWith world new ys fs
 
-abbrev pub RunsNext : {M : Type 0} → (M → List Answer → Type 0) → ℕ → World → ℕ → List OutLine → Result (Option ℕ) WorldFault → List OutLine → CodeWorld → List (Option M) → List (Option M) → List (ℕ × ℕ) → Type 0
+abbrev pub RunsNext : {M : Type 0} → (M → List Answer → Type 0) → ℕ → World → ℕ → List OutLine → Result (Option ℕ) WorldFault → List OutLine
+    → CodeWorld → List (Option M) → List (Option M) → List (ℕ × ℕ) → Type 0
 RunsNext allowed before w from lines (Ok None) shown new xs ys fs = RunsOut allowed before w from lines shown new xs ys fs
-RunsNext allowed before w from lines (Ok (Some next)) shown new xs ys fs = (before < 4096) × RunsOn allowed before w from lines (suc before) next shown new xs ys fs
+RunsNext allowed before w from lines (Ok (Some next)) shown new xs ys fs = (before < 4096)
+    × RunsOn allowed before w from lines (suc before) next shown new xs ys fs
 RunsNext allowed before w from lines (Err WorldFault.Name) shown new xs ys fs = HaveEnded allowed xs ys before w (waits w lines from) Name
 RunsNext allowed before w from lines (Err (WorldFault.Limit what)) shown new xs ys fs = HaveEnded allowed xs ys before w (waits w lines from) (Over what)
 RunsNext allowed before w from lines (Err WorldFault.NoMemory) shown new xs ys fs = Unit {0}
 
-abbrev pub RunsAll : {M : Type 0} → (M → List Answer → Type 0) → World → ℕ → List OutLine → Result (Unit {0}) WorldFault → List OutLine → CodeWorld → List (Option M) → List (Option M) → List (ℕ × ℕ) → Type 0
+abbrev pub RunsAll : {M : Type 0} → (M → List Answer → Type 0) → World → ℕ → List OutLine → Result (Unit {0}) WorldFault → List OutLine
+    → CodeWorld → List (Option M) → List (Option M) → List (ℕ × ℕ) → Type 0
 RunsAll allowed w from lines (Ok u) shown new xs ys fs = RunsOut allowed 0 w from lines shown new xs ys fs
 RunsAll allowed w from lines (Err WorldFault.Name) shown new xs ys fs = HaveEnded allowed xs ys 0 w (waits w lines from) Name
 RunsAll allowed w from lines (Err (WorldFault.Limit what)) shown new xs ys fs = HaveEnded allowed xs ys 0 w (waits w lines from) (Over what)

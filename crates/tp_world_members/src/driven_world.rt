@@ -142,7 +142,8 @@ impl<M: Member> DrivenWorld<M> {
         line: &Line,
         lines: &mut OutLines,
     ) -> Result<(), WorldFault>
-        ensures plays { (w : WorldValue) → Stands w self.old → is_silent line.now ≡ false → PlaysAfter M.allowed w line.now lines.old result lines.new self.old self.new }
+        ensures plays { (w : WorldValue) → Stands w self.old → is_silent line.now ≡ false
+            → PlaysAfter M.allowed w line.now lines.old result lines.new self.old self.new }
         ensures same { has_ended self.new ≡ has_ended self.old }
     {
         let from = lines.as_slice().len();
@@ -152,7 +153,8 @@ impl<M: Member> DrivenWorld<M> {
 
     // A member drives a node.
     fn auto_line(&mut self, node: u16, member: u16) -> Result<(), WorldFault>
-        ensures plays { (w : WorldValue) (lines : List OutLine) → Stands w self.old → PlaysAfter M.allowed w (Line.Auto node member) lines result lines self.old self.new }
+        ensures plays { (w : WorldValue) (lines : List OutLine) → Stands w self.old
+            → PlaysAfter M.allowed w (Line.Auto node member) lines result lines self.old self.new }
         ensures same { has_ended self.new ≡ has_ended self.old }
     {
         if !self.world.is_node(node) {
@@ -167,7 +169,8 @@ impl<M: Member> DrivenWorld<M> {
 
     // A member is dropped.
     fn leave_line(&mut self, member: u16) -> Result<(), WorldFault>
-        ensures plays { (w : WorldValue) (lines : List OutLine) → Stands w self.old → PlaysAfter M.allowed w (Line.Leave member) lines result lines self.old self.new }
+        ensures plays { (w : WorldValue) (lines : List OutLine) → Stands w self.old
+            → PlaysAfter M.allowed w (Line.Leave member) lines result lines self.old self.new }
         ensures same { has_ended self.new ≡ has_ended self.old }
     {
         if !self.members.is_there(member) {

@@ -33,7 +33,9 @@ fn tell<M: Member>(
     indication: &Indication,
 ) -> Result<Option<Request>, NoMemory>
     ensures there { IfOk result (λ a. is_there slot.new ≡ is_there slot.old) }
-    ensures may { is_there slot.old ≡ true → IfOk result (λ a. (rest : List Answer) → may M.allowed slot.new rest → may M.allowed slot.old (record { node = node; indication = indication.now; request = a } ∷ rest)) }
+    ensures may { is_there slot.old ≡ true
+        → IfOk result (λ a. (rest : List Answer) → may M.allowed slot.new rest
+        → may M.allowed slot.old (record { node = node; indication = indication.now; request = a } ∷ rest)) }
 {
     match slot {
         None => Ok(None),
@@ -84,7 +86,8 @@ impl<M: Member> Members<M> {
     /// The member drives the node from now on.
     pub(crate) fn drive(&mut self, node: u16, member: u16) -> Result<(), NoMemory>
         ensures slots { self.new.slots.items ≡ self.old.slots.items }
-        ensures drives { OnOk result ((n : ℕ) → lookup (nat_eq n) self.new.drivers.entries ≡ now_driven (nat_eq node n) member (lookup (nat_eq n) self.old.drivers.entries)) }
+        ensures drives { OnOk result ((n : ℕ)
+            → lookup (nat_eq n) self.new.drivers.entries ≡ now_driven (nat_eq node n) member (lookup (nat_eq n) self.old.drivers.entries)) }
     {
         self.drivers.insert(node, member)?;
         Ok(())
@@ -111,7 +114,9 @@ impl<M: Member> Members<M> {
         indication: &Indication,
     ) -> Result<Option<Request>, NoMemory>
         ensures same { OnOk result (AreSame self.old.slots.items self.new.slots.items × (self.new.drivers ≡ self.old.drivers)) }
-        ensures gave { is_there (slot_at self.old.slots.items member) ≡ true → IfOk result (λ a. Gave M.allowed self.old.slots.items self.new.slots.items (record { member = member; node = node; indication = indication.now } ∷ []) (a ∷ [])) }
+        ensures gave { is_there (slot_at self.old.slots.items member) ≡ true
+            → IfOk result (λ a. Gave M.allowed self.old.slots.items self.new.slots.items
+            (record { member = member; node = node; indication = indication.now } ∷ []) (a ∷ [])) }
     {
         let place = member as usize;
         if place == 0 || place > self.slots.len() {
@@ -123,7 +128,8 @@ impl<M: Member> Members<M> {
     // What a line tells a user is put to the member that drives the node, if one does.
     fn ask(&mut self, alloc: Global, line: &OutLine) -> Result<Option<Asked>, NoMemory>
         ensures same { OnOk result (AreSame self.old.slots.items self.new.slots.items × (self.new.drivers ≡ self.old.drivers)) }
-        ensures asks { IfOk result (λ a. Asks M.allowed self.old.slots.items self.new.slots.items (puts_in (driver_in self.old.slots.items self.old.drivers.entries) (line.now ∷ [])) a) }
+        ensures asks { IfOk result (λ a. Asks M.allowed self.old.slots.items self.new.slots.items
+            (puts_in (driver_in self.old.slots.items self.old.drivers.entries) (line.now ∷ [])) a) }
     {
         let OutLine::Tell { node, indication } = line else {
             return Ok(None);
@@ -150,7 +156,8 @@ pub(crate) fn next_request<M: Member>(
     from: usize,
 ) -> Result<Option<(Asked, usize)>, NoMemory>
     ensures same { OnOk result (AreSame members.old.slots.items members.new.slots.items × (members.new.drivers ≡ members.old.drivers)) }
-    ensures asks { IfOk result (λ a. AsksFrom M.allowed members.old.slots.items members.new.slots.items (driver_in members.old.slots.items members.old.drivers.entries) lines.now from a) }
+    ensures asks { IfOk result (λ a. AsksFrom M.allowed members.old.slots.items members.new.slots.items
+        (driver_in members.old.slots.items members.old.drivers.entries) lines.now from a) }
 {
     for place in from..lines.len() {
         if let Some(asked) = members.ask(alloc, &lines[place])? {

@@ -70,7 +70,8 @@ pub record IsStartable (rs : List LogRec) : Type 0 where
 abbrev pub StartsOn : Kept MemDisk → List ℕ → Result SiteSlot WorldFault → Type 0
 StartsOn journal name (Ok new) = IsStarted standing journal name new.site
 StartsOn journal name (Err WorldFault.Name) = ⊥
-StartsOn journal name (Err (WorldFault.Limit what)) = (what ≡ What.Log) × (size : ℕ) × (left : Kept MemDisk) × IsUnstarted standing journal name (force.Full size) left
+StartsOn journal name (Err (WorldFault.Limit what)) = (what ≡ What.Log) × (size : ℕ) × (left : Kept MemDisk)
+    × IsUnstarted standing journal name (force.Full size) left
 StartsOn journal name (Err WorldFault.NoMemory) = Unit {0}
 
 -- ---- the nodes
@@ -100,8 +101,10 @@ tree_before x (Some e) k = elim (e.node == k) [ true ↦ e.tree | false ↦ tree
 -- a stop leaves
 pub record IsStopped (ns : List Node) (old : SiteSlot) (lost : Option LostEntry) (first : SiteSlot) : Type 0 where
   pub apart : are_apart ns ≡ true
-  pub trees : (n : Node) → find_node ns (number_of n) ≡ Some n → is_name (site_of n) first.site.nodes.site ≡ true → tree_before old lost (number_of n) ≡ tree_in (digest n.origin n.history)
-  pub found : (k : ℕ) → known_at first.site k ≡ known_by first.site.nodes.site (unknown_at first) (find_node (restarted_to stopped first.site.nodes.site 0 ns) k)
+  pub trees : (n : Node) → find_node ns (number_of n) ≡ Some n → is_name (site_of n) first.site.nodes.site ≡ true
+      → tree_before old lost (number_of n) ≡ tree_in (digest n.origin n.history)
+  pub found : (k : ℕ) → known_at first.site k
+      ≡ known_by first.site.nodes.site (unknown_at first) (find_node (restarted_to stopped first.site.nodes.site 0 ns) k)
 
 -- so many nodes are declared again at the site: their facts of trees are those of their histories, and the site knows them
 pub record IsRestartedTo (ns : List Node) (i : ℕ) (first : SiteSlot) (xs : List NodeSlot) (next : SiteSlot) : Type 0 where

@@ -89,7 +89,8 @@ entry_told (Answer.Happened refusal x) = Some x
 
 -- the log has no room for the event's record
 abbrev pub IsOver : SiteSlot → ℕ → Event → SiteSlot → Type 0
-IsOver old n e new = (size : ℕ) × IsUnforced standing old.site.keeper (rec_of (answer_at (who_at old.site.nodes n) (known_at old.site n) e)) (force.Full size) new.site.keeper
+IsOver old n e new = (size : ℕ)
+    × IsUnforced standing old.site.keeper (rec_of (answer_at (who_at old.site.nodes n) (known_at old.site n) e)) (force.Full size) new.site.keeper
 
 abbrev pub SlotPlays : SiteSlot → ℕ → Event → Result Answer WorldFault → SiteSlot → Type 0
 SlotPlays old n e (Ok a) new = SlotAnswers old n e a new

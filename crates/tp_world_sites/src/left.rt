@@ -28,7 +28,8 @@ pub struct Stop {
 
 // A journal on a disk that stops. Only a lack of memory keeps it from its start.
 fn start_fused(alloc: Global, disk: FuseDisk) -> Result<Journal<FuseDisk>, WorldFault>
-    ensures { (rs : List LogRec) → StandsInFront (seen (fused disk).disk.story) (bodies_of true rs) → length (seen (fused disk).disk.story) < 2 ^ 64 → AllByRecursion (HasText true) rs → FuseStarts disk rs result }
+    ensures { (rs : List LogRec) → StandsInFront (seen (fused disk).disk.story) (bodies_of true rs)
+        → length (seen (fused disk).disk.story) < 2 ^ 64 → AllByRecursion (HasText true) rs → FuseStarts disk rs result }
 {
     match Journal::start(alloc, disk) {
         Ok(journal) => Ok(journal),
@@ -59,7 +60,8 @@ pub fn left_by(
     rec: &LogRec,
     stop: &Stop,
 ) -> Result<MemDisk, WorldFault>
-    ensures { (d : Disk) → recorded disk ≡ fresh (disk_bytes d) [] → IsReadable d → HasText true rec.now → log_size (rec.now ∷ d.records) ≤ most_bytes → LeavesBy stop.now rec.now d result }
+    ensures { (d : Disk) → recorded disk ≡ fresh (disk_bytes d) [] → IsReadable d → HasText true rec.now
+        → log_size (rec.now ∷ d.records) ≤ most_bytes → LeavesBy stop.now rec.now d result }
 {
     let _bytes = disk.bytes();
     let last = u64::from(stop.call) + 1;

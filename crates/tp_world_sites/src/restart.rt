@@ -39,7 +39,8 @@ fn restart_node(
     lost: &Option<LostEntry>,
     next: &mut SiteSlot,
 ) -> Result<(), WorldFault>
-    ensures { (ns : List NodeValue) (first : SiteSlot) → IsStopped ns old.now lost.now first → place < length ns → IsRestartedTo ns place first nodes.old next.old → RestartsTo ns (suc place) first result nodes.new next.new }
+    ensures { (ns : List NodeValue) (first : SiteSlot) → IsStopped ns old.now lost.now first → place < length ns
+        → IsRestartedTo ns place first nodes.old next.old → RestartsTo ns (suc place) first result nodes.new next.new }
 {
     if place >= nodes.count() {
         return Err(WorldFault::Name);
@@ -78,7 +79,8 @@ pub fn restart_nodes(
     lost: &Option<LostEntry>,
     next: &mut SiteSlot,
 ) -> Result<(), WorldFault>
-    ensures { (ns : List NodeValue) → IsStopped ns old.now lost.now next.old → IsRestartedTo ns 0 next.old nodes.old next.old → RestartsTo ns (length ns) next.old result nodes.new next.new }
+    ensures { (ns : List NodeValue) → IsStopped ns old.now lost.now next.old → IsRestartedTo ns 0 next.old nodes.old next.old
+        → RestartsTo ns (length ns) next.old result nodes.new next.new }
 {
     for place in 0..nodes.count() {
         restart_node(alloc, nodes, place, old, lost, next)?;

@@ -110,7 +110,8 @@ fn blank(alloc: Global, disk: MemDisk) -> Result<Journal<MemDisk>, NoMemory>
 
 /// A journal on that disk. A disk in memory fails for lack of memory alone.
 pub fn opened(alloc: Global, disk: MemDisk) -> Result<Journal<MemDisk>, WorldFault>
-    ensures { (rs : List LogRec) → StandsFor (seen (recorded disk).story) (bodies_of true rs) → AllByRecursion (HasText true) rs → Opens (seen (recorded disk).story) rs result }
+    ensures { (rs : List LogRec) → StandsFor (seen (recorded disk).story) (bodies_of true rs) → AllByRecursion (HasText true) rs
+        → Opens (seen (recorded disk).story) rs result }
 {
     let _bytes = disk.bytes();
     match Journal::start(alloc, disk) {
@@ -229,7 +230,12 @@ impl SiteSlot {
 
     // What an event of that node has shown of trees, before which the log had so many records; the tree before it stays as it is.
     fn fill(&self, node: u16, leaves: bool, count: usize, change: &mut TreeChange)
-        ensures { change.new ≡ record { before = change.old.before; after = tree_in (known_at self.now.site node); leaves = leaves; rec = shown_behind self.now.site.keeper.list count } }
+        ensures { change.new ≡ record {
+          before = change.old.before;
+          after = tree_in (known_at self.now.site node);
+          leaves = leaves;
+          rec = shown_behind self.now.site.keeper.list count;
+        } }
     {
         self.put_tree(node, &mut change.after);
         change.leaves = leaves;

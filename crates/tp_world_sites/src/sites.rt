@@ -57,7 +57,9 @@ pub fn play_at(
     event: &NodeEvent<'_>,
     entry: &mut Entry,
 ) -> Result<Answer, WorldFault>
-    ensures { (w : WorldValue) (n : NodeValue) → SitesStand w sites.old → are_apart w.nodes ≡ true → find_node w.nodes (number_of n) ≡ Some n → is_placed w n ≡ true → at.now ≡ addr_of n → PlaysAt w n (event_of event.now) (result_told result entry.new) sites.new }
+    ensures { (w : WorldValue) (n : NodeValue) → SitesStand w sites.old → are_apart w.nodes ≡ true
+        → find_node w.nodes (number_of n) ≡ Some n → is_placed w n ≡ true → at.now ≡ addr_of n
+        → PlaysAt w n (event_of event.now) (result_told result entry.new) sites.new }
 {
     let place = place_of(sites, &at.site);
     if place >= sites.len() {
@@ -75,7 +77,9 @@ pub fn arrive_at(
     frame: &Frame,
     entry: &mut Entry,
 ) -> Result<Answer, WorldFault>
-    ensures { (w : WorldValue) (n : NodeValue) → SitesStand w sites.old → are_apart w.nodes ≡ true → find_node w.nodes (number_of n) ≡ Some n → is_placed w n ≡ true → at.now ≡ addr_of n → PlaysAt w n (Arrive frame.now.from (record_of frame.now.rec)) (result_told result entry.new) sites.new }
+    ensures { (w : WorldValue) (n : NodeValue) → SitesStand w sites.old → are_apart w.nodes ≡ true
+        → find_node w.nodes (number_of n) ≡ Some n → is_placed w n ≡ true → at.now ≡ addr_of n
+        → PlaysAt w n (Arrive frame.now.from (record_of frame.now.rec)) (result_told result entry.new) sites.new }
 {
     let place = place_of(sites, &at.site);
     if place >= sites.len() {
@@ -91,7 +95,8 @@ fn site_or_new(
     name: &SiteName,
 ) -> Result<(usize, Option<u64>), NoMemory>
     ensures at { IfOk result (λ p. IsAt sites.new.items name.now p.0) }
-    ensures there { IfOk result (λ p. (w : WorldValue) → SitesStand w sites.old.items → AllByRecursion (λ n. is_placed w n ≡ true) w.nodes → IsSiteThere w name.now p.1 sites.new.items) }
+    ensures there { IfOk result (λ p. (w : WorldValue) → SitesStand w sites.old.items → AllByRecursion (λ n. is_placed w n ≡ true) w.nodes
+        → IsSiteThere w name.now p.1 sites.new.items) }
 {
     let place = place_of(sites.as_slice(), name);
     if place < sites.len() {
@@ -111,7 +116,8 @@ pub fn declare_at(
     at: &Addr,
     superior: &Option<Addr>,
 ) -> Result<Option<u64>, NoMemory>
-    ensures { IfOk result (λ boot. (w : WorldValue) → SitesStand w sites.old.items → AllByRecursion (λ n. is_placed w n ≡ true) w.nodes → is_free at.now.node w.nodes ≡ true → IsDeclaredAt w at.now superior.now boot sites.new.items) }
+    ensures { IfOk result (λ boot. (w : WorldValue) → SitesStand w sites.old.items → AllByRecursion (λ n. is_placed w n ≡ true) w.nodes
+        → is_free at.now.node w.nodes ≡ true → IsDeclaredAt w at.now superior.now boot sites.new.items) }
 {
     let (place, boot) = site_or_new(alloc, sites, &at.site)?;
     sites[place].declare(alloc, at.node, superior)?;

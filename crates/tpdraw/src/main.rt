@@ -11,13 +11,10 @@ mod status;
 mod top;
 
 pub use status::Status;
-use std::alloc::AllocError;
-use std::io;
 use std::process::ExitCode;
 pub use top::run;
-use tp_outside::{
-    About, Cause, StdSink, StdSource, say, say_cause, say_end, tell, texts_of, words_given,
-};
+use tp_outside::{StdSink, StdSource, say};
+use tp_program::Program;
 
 /// What can be typed.
 const USAGE: &str = "\
@@ -34,20 +31,10 @@ usage: tpdraw [--mermaid | --html] [--lanes] [--fold] [--from N] [--to N] [--nod
   --nodes N,.. leaves out lines that speak of other nodes than these, at most 16; --from and --to count what is left
 ";
 
-// Ends a run. Why its stream failed is said where it is known.
-fn end(rt: &HostRuntime, status: Status, name: &str, cause: Option<Cause>) -> ExitCode {
-    let code = say_end(rt, "tpdraw", &status, status.code());
-    say_cause(rt, name, cause);
-    code
-}
-
-// How a run ends that has no words: they are no text, or memory is wanting for them.
-fn wordless(fault: &io::Error) -> Status {
-    match fault.kind() {
-        io::ErrorKind::InvalidData => Status::Usage,
-        _ => Status::NoMemory,
-    }
-}
+const TPDRAW: Program = Program {
+    name: "tpdraw",
+    usage: USAGE,
+};
 
 fn run_words(rt: &HostRuntime, words: &[&str]) -> ExitCode {
     let mut source = StdSource::new(rt);
@@ -58,7 +45,7 @@ fn run_words(rt: &HostRuntime, words: &[&str]) -> ExitCode {
         Status::WriteFault { .. } => ("standard output", sink.cause()),
         _ => ("", None),
     };
-    let code = end(rt, status, name, cause);
+    let code = TPDRAW.end(rt, &status, status.code(), name, cause);
     if status == Status::Usage {
         say(rt, USAGE);
     }
@@ -66,22 +53,5 @@ fn run_words(rt: &HostRuntime, words: &[&str]) -> ExitCode {
 }
 
 fn main(rt: HostRuntime) -> ExitCode {
-    let words = match words_given(&rt) {
-        Ok(words) => words,
-        Err(fault) => return end(&rt, wordless(&fault), "", None),
-    };
-    let texts = match texts_of(rt.alloc(), &words) {
-        Ok(texts) => texts,
-        Err(AllocError) => return end(&rt, Status::NoMemory, "", None),
-    };
-    let Some(about) = About::asked(&texts) else {
-        return run_words(&rt, &texts);
-    };
-    match tell(&rt, about, "tpdraw", USAGE) {
-        Ok(()) => ExitCode::SUCCESS,
-        Err(cause) => {
-            let status = Status::WriteFault { faults: 1 };
-            end(&rt, status, "standard output", Some(cause))
-        }
-    }
+    TPDRAW.start(&rt, |words| run_words(&rt, words))
 }

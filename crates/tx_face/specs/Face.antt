@@ -86,7 +86,8 @@ Calls standing false old g result new = (result ≡ Err (FaceFault.Protocol (sta
 
 -- the node is declared, which gives no outputs, or the site answers that fault
 abbrev pub IsMade : {K : Type 0} → (K → Standing) → Site K → ℕ → Result (Face K) (Site K × SiteFault) → Type 0
-IsMade standing site n (Ok face) = PlaysAsked standing site (asked (opening_at site.nodes.site) (Given.Declare n None)) (Ok []) face.site × (face.node ≡ n) × (face.code ≡ None)
+IsMade standing site n (Ok face) = PlaysAsked standing site (asked (opening_at site.nodes.site) (Given.Declare n None)) (Ok []) face.site
+    × (face.node ≡ n) × (face.code ≡ None)
 IsMade standing site n (Err (new, fault)) = PlaysAsked standing site (asked (opening_at site.nodes.site) (Given.Declare n None)) (Err fault) new
 
 -- ---- a list of events
@@ -110,7 +111,8 @@ events_by gs g (Err (SiteFault.Shut faults)) = gs
 events_by gs g (Err SiteFault.NoMemory) = gs
 
 -- one event after these
-pub record Goes {K : Type 0} (standing : K → Standing) (o : Opening) (gs : List Given) (past : List Entry) (old : Face K) (g : Given) (result : Result (List Output) SiteFault) (new : Face K) : Type 0 where
+pub record Goes {K : Type 0} (standing : K → Standing) (o : Opening) (gs : List Given) (past : List Entry) (old : Face K) (g : Given)
+    (result : Result (List Output) SiteFault) (new : Face K) : Type 0 where
   pub steps : StepsTo standing all_nodes o gs old.site g result new.site
   -- the record for which the keeper was asked has a text
   pub text : HasTextIfAsked (standing old.site.keeper).wide (record_after o gs g) result
@@ -124,7 +126,8 @@ undeclared site n = record { site = site; node = n; code = None }
 -- the declaration after these events
 abbrev pub GoesMade : {K : Type 0} → (K → Standing) → Opening → List Given → Site K → ℕ → Result (Face K) (Site K × SiteFault) → Type 0
 GoesMade standing o gs site n (Ok face) = Goes standing o gs (history_at o gs n) (undeclared site n) (Given.Declare n None) (Ok []) face
-GoesMade standing o gs site n (Err (new, fault)) = Goes standing o gs (history_at o gs n) (undeclared site n) (Given.Declare n None) (Err fault) (undeclared new n)
+GoesMade standing o gs site n (Err (new, fault)) = Goes standing o gs (history_at o gs n) (undeclared site n) (Given.Declare n None)
+    (Err fault) (undeclared new n)
 
 -- one call after these events
 abbrev pub GoesOn : {K : Type 0} → (K → Standing) → Bool → Opening → List Given → List Entry → Face K → Given → Result (List Output) FaceFault → Face K → Type 0

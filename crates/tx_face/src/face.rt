@@ -99,7 +99,8 @@ impl<K: Keeper> Face<K> {
     // That event of the site.
     fn event(&mut self, alloc: Global, event: &Event) -> Result<Outputs, SiteFault>
         ensures plays { Plays K.standing self.old event.now result self.new }
-        ensures goes { (o : Opening) (gs : List Given) (past : List Entry) → IsFaceAt K.standing o gs past self.old → Goes K.standing o gs past self.old event.now result self.new }
+        ensures goes { (o : Opening) (gs : List Given) (past : List Entry) → IsFaceAt K.standing o gs past self.old
+            → Goes K.standing o gs past self.old event.now result self.new }
         ensures lasting { (K.standing self.new.site.keeper).lasting ≡ (K.standing self.old.site.keeper).lasting }
     {
         match self.site.event(alloc, event) {
@@ -114,7 +115,8 @@ impl<K: Keeper> Face<K> {
     // A call: that event, where it is taken.
     fn call(&mut self, alloc: Global, taken: bool, event: &Event) -> Result<Outputs, FaceFault>
         ensures calls { Calls K.standing taken self.old event.now result self.new }
-        ensures goes { (o : Opening) (gs : List Given) (past : List Entry) → IsFaceAt K.standing o gs past self.old → GoesOn K.standing taken o gs past self.old event.now result self.new }
+        ensures goes { (o : Opening) (gs : List Given) (past : List Entry) → IsFaceAt K.standing o gs past self.old
+            → GoesOn K.standing taken o gs past self.old event.now result self.new }
         ensures lasting { (K.standing self.new.site.keeper).lasting ≡ (K.standing self.old.site.keeper).lasting }
     {
         if !taken {
@@ -131,7 +133,8 @@ impl<K: Keeper> Face<K> {
     // A request of the program, where it is taken.
     fn ask(&mut self, alloc: Global, taken: bool, request: Request) -> Result<Outputs, FaceFault>
         ensures calls { Calls K.standing taken self.old (Given.Do self.old.node request) result self.new }
-        ensures goes { (o : Opening) (gs : List Given) (past : List Entry) → IsFaceAt K.standing o gs past self.old → GoesOn K.standing taken o gs past self.old (Given.Do self.old.node request) result self.new }
+        ensures goes { (o : Opening) (gs : List Given) (past : List Entry) → IsFaceAt K.standing o gs past self.old
+            → GoesOn K.standing taken o gs past self.old (Given.Do self.old.node request) result self.new }
         ensures lasting { (K.standing self.new.site.keeper).lasting ≡ (K.standing self.old.site.keeper).lasting }
     {
         let event = Event::Do {
@@ -150,7 +153,8 @@ impl<K: Keeper> Face<K> {
         //   its faults
         ensures calls { Calls K.standing (takes_begin (stand_at self.old)) self.old (Given.Do self.old.node (Asks.BeginTransaction peer)) result self.new }
         // Promise 14.5, part 2
-        ensures goes { (o : Opening) (gs : List Given) (past : List Entry) → IsFaceAt K.standing o gs past self.old → GoesOn K.standing (takes_begin (stand_at self.old)) o gs past self.old (Given.Do self.old.node (Asks.BeginTransaction peer)) result self.new }
+        ensures goes { (o : Opening) (gs : List Given) (past : List Entry) → IsFaceAt K.standing o gs past self.old
+            → GoesOn K.standing (takes_begin (stand_at self.old)) o gs past self.old (Given.Do self.old.node (Asks.BeginTransaction peer)) result self.new }
         ensures lasting { (K.standing self.new.site.keeper).lasting ≡ (K.standing self.old.site.keeper).lasting }
     {
         let taken = self.stand().takes_begin();
@@ -162,7 +166,8 @@ impl<K: Keeper> Face<K> {
         // Promise 14.1, part 2
         // Promise 14.3, part 2
         ensures calls { Calls K.standing (takes_commit (stand_at self.old)) self.old (Given.Do self.old.node Asks.Commit) result self.new }
-        ensures goes { (o : Opening) (gs : List Given) (past : List Entry) → IsFaceAt K.standing o gs past self.old → GoesOn K.standing (takes_commit (stand_at self.old)) o gs past self.old (Given.Do self.old.node Asks.Commit) result self.new }
+        ensures goes { (o : Opening) (gs : List Given) (past : List Entry) → IsFaceAt K.standing o gs past self.old
+            → GoesOn K.standing (takes_commit (stand_at self.old)) o gs past self.old (Given.Do self.old.node Asks.Commit) result self.new }
         ensures lasting { (K.standing self.new.site.keeper).lasting ≡ (K.standing self.old.site.keeper).lasting }
     {
         let taken = self.stand().takes_commit();
@@ -174,7 +179,8 @@ impl<K: Keeper> Face<K> {
         // Promise 14.1, part 3
         // Promise 14.3, part 3
         ensures calls { Calls K.standing (takes_rollback (stand_at self.old)) self.old (Given.Do self.old.node Asks.Rollback) result self.new }
-        ensures goes { (o : Opening) (gs : List Given) (past : List Entry) → IsFaceAt K.standing o gs past self.old → GoesOn K.standing (takes_rollback (stand_at self.old)) o gs past self.old (Given.Do self.old.node Asks.Rollback) result self.new }
+        ensures goes { (o : Opening) (gs : List Given) (past : List Entry) → IsFaceAt K.standing o gs past self.old
+            → GoesOn K.standing (takes_rollback (stand_at self.old)) o gs past self.old (Given.Do self.old.node Asks.Rollback) result self.new }
         ensures lasting { (K.standing self.new.site.keeper).lasting ≡ (K.standing self.old.site.keeper).lasting }
     {
         let taken = self.stand().takes_rollback();
@@ -186,7 +192,8 @@ impl<K: Keeper> Face<K> {
         // Promise 14.1, part 4
         // Promise 14.3, part 4
         ensures calls { Calls K.standing (takes_finish (stand_at self.old)) self.old (Given.Do self.old.node Asks.Done) result self.new }
-        ensures goes { (o : Opening) (gs : List Given) (past : List Entry) → IsFaceAt K.standing o gs past self.old → GoesOn K.standing (takes_finish (stand_at self.old)) o gs past self.old (Given.Do self.old.node Asks.Done) result self.new }
+        ensures goes { (o : Opening) (gs : List Given) (past : List Entry) → IsFaceAt K.standing o gs past self.old
+            → GoesOn K.standing (takes_finish (stand_at self.old)) o gs past self.old (Given.Do self.old.node Asks.Done) result self.new }
         ensures lasting { (K.standing self.new.site.keeper).lasting ≡ (K.standing self.old.site.keeper).lasting }
     {
         let taken = self.stand().takes_finish();
@@ -200,7 +207,8 @@ impl<K: Keeper> Face<K> {
         //   face's node that are begin-transaction, commit, done, rollback or unchanged
         // Promise 14.3, part 5
         ensures calls { Calls K.standing (is_fed self.old.node event.now) self.old event.now result self.new }
-        ensures goes { (o : Opening) (gs : List Given) (past : List Entry) → IsFaceAt K.standing o gs past self.old → GoesOn K.standing (is_fed self.old.node event.now) o gs past self.old event.now result self.new }
+        ensures goes { (o : Opening) (gs : List Given) (past : List Entry) → IsFaceAt K.standing o gs past self.old
+            → GoesOn K.standing (is_fed self.old.node event.now) o gs past self.old event.now result self.new }
         ensures lasting { (K.standing self.new.site.keeper).lasting ≡ (K.standing self.old.site.keeper).lasting }
     {
         let taken = is_fed(event, self.node);
@@ -212,7 +220,8 @@ impl<K: Keeper> Face<K> {
         ensures stand { result ≡ stand_at self.now }
         // Promise 14.6: The stand is that of what is known after the node's history, and the code
         //   that of the last completion that the history told since the face was made
-        ensures at { (o : Opening) (gs : List Given) (past : List Entry) → IsFaceAt K.standing o gs past self.now → result ≡ stand (digest (origin_at o self.now.node) (history_at o gs self.now.node)) }
+        ensures at { (o : Opening) (gs : List Given) (past : List Entry) → IsFaceAt K.standing o gs past self.now
+            → result ≡ stand (digest (origin_at o self.now.node) (history_at o gs self.now.node)) }
     {
         Stand::of(self.site.shown(self.node))
     }
@@ -225,7 +234,9 @@ impl<K: Keeper> Face<K> {
         ensures at { (o : Opening) (gs : List Given) (past : List Entry) → (at : IsFaceAt K.standing o gs past self.now) → result ≡ code_of at.since }
         // Promise 14.7: **Committed at the root of a tree means that every node of it that stays
         //   was told commit**, in every run of a world in which a node has that history
-        ensures committed { (o : Opening) (gs : List Given) (past : List Entry) → (at : IsFaceAt K.standing o gs past self.now) → (es : List Happening) (x : Node) (older : List Entry) → IsIn (run es) x → x.history ≡ at.since ++ older → result ≡ Some CodeValue.Committed → MeansAll (run es) x at.since older }
+        ensures committed { (o : Opening) (gs : List Given) (past : List Entry) → (at : IsFaceAt K.standing o gs past self.now)
+            → (es : List Happening) (x : Node) (older : List Entry) → IsIn (run es) x → x.history ≡ at.since ++ older
+            → result ≡ Some CodeValue.Committed → MeansAll (run es) x at.since older }
     {
         self.code
     }
@@ -256,7 +267,16 @@ impl<D: Disk> Face<Journal<D>> {
     // Promise 14.12: A face goes on so too, and stands where it stood
     /// The same face over the same log, which notes records from now on.
     pub fn ahead(self, alloc: Global) -> Result<Face<Gathering<D>>, (Face<Journal<D>>, NoMemory)>
-        ensures ok { IfOk result (λ face. face ≡ record { site = record { keeper = record { journal = self.site.keeper; settled = length self.site.keeper.list }; nodes = self.site.nodes; shut = self.site.shut }; node = self.node; code = self.code }) }
+        ensures ok { IfOk result (λ face. face
+            ≡ record {
+              site = record {
+                keeper = record { journal = self.site.keeper; settled = length self.site.keeper.list };
+                nodes = self.site.nodes;
+                shut = self.site.shut;
+              };
+              node = self.node;
+              code = self.code;
+            }) }
         ensures err { IfErr result (λ e. e.0 ≡ self) }
     {
         let Face { site, node, code } = self;

@@ -18,7 +18,8 @@ impl<D: Disk> Site<Journal<D>> {
     //   disk fails
     /// The same site over the same log, which notes records from now on.
     pub fn ahead(self, alloc: Global) -> Result<Site<Gathering<D>>, (Site<Journal<D>>, NoMemory)>
-        ensures ok { IfOk result (λ site. site ≡ record { keeper = record { journal = self.keeper; settled = length self.keeper.list }; nodes = self.nodes; shut = self.shut }) }
+        ensures ok { IfOk result (λ site. site
+            ≡ record { keeper = record { journal = self.keeper; settled = length self.keeper.list }; nodes = self.nodes; shut = self.shut }) }
         ensures err { IfErr result (λ e. e.0 ≡ self) }
     {
         let Site {

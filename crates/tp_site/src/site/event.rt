@@ -43,7 +43,8 @@ impl<K: Keeper> Site<K> {
         requires few { BringsFew (event_of event.now) }
         ensures plain { (x : Refusal) → IsPlain (node_at self.old.nodes node) event.now x → result ≡ Err (SiteFault.Refused (number_of x)) }
         ensures gives { Gives K.standing self.old node (event_of event.now) result self.new }
-        ensures text { HasTextIfAsked (K.standing self.old.keeper).wide (rec_of (answer_at (who_at self.old.nodes node) (known_at self.old node) (event_of event.now))) result }
+        ensures text { HasTextIfAsked (K.standing self.old.keeper).wide
+            (rec_of (answer_at (who_at self.old.nodes node) (known_at self.old node) (event_of event.now))) result }
     {
         let mut outs = Outs::new(alloc);
         let prepared = self.prepare(alloc, node, event, draft, &mut outs)?;
@@ -64,7 +65,8 @@ impl<K: Keeper> Site<K> {
         requires few { BringsFew (event_of event.now) }
         ensures plain { (x : Refusal) → IsPlain (node_at self.old.nodes node) event.now x → result ≡ Err (SiteFault.Refused (number_of x)) }
         ensures gives { Gives K.standing self.old node (event_of event.now) result self.new }
-        ensures text { HasTextIfAsked (K.standing self.old.keeper).wide (rec_of (answer_at (who_at self.old.nodes node) (known_at self.old node) (event_of event.now))) result }
+        ensures text { HasTextIfAsked (K.standing self.old.keeper).wide
+            (rec_of (answer_at (who_at self.old.nodes node) (known_at self.old node) (event_of event.now))) result }
     {
         let mut draft = self.spare_draft(alloc, node, event)?;
         let outputs = self.give_on(alloc, node, event, &mut draft);
@@ -82,7 +84,8 @@ impl<K: Keeper> Site<K> {
     ) -> Result<Outputs, SiteFault>
         requires { self.old.shut ≡ None }
         ensures plays { PlaysAsked K.standing self.old (asked (opening_at self.old.nodes.site) (Event.Arrive from to octets.now)) result self.new }
-        ensures text { HasTextIfAsked (K.standing self.old.keeper).wide (rec_asked self.old (asked (opening_at self.old.nodes.site) (Event.Arrive from to octets.now))) result }
+        ensures text { HasTextIfAsked (K.standing self.old.keeper).wide
+            (rec_asked self.old (asked (opening_at self.old.nodes.site) (Event.Arrive from to octets.now))) result }
     {
         let Some(rec) = read_whole_peer(alloc, octets.as_slice())? else {
             return Err(SiteFault::Refused(Refusal::BadRecord.number()));
@@ -97,7 +100,8 @@ impl<K: Keeper> Site<K> {
     // What the event asks for, of a site that is not shut.
     fn take(&mut self, alloc: Global, event: &Event) -> Result<Outputs, SiteFault>
         requires { self.old.shut ≡ None }
-        ensures plain { (n : ℕ) (r : Asks) (x : Refusal) → event.now ≡ Given.Do n r → refused_plainly (who_at self.old.nodes n) (known_at self.old n) (Do r) ≡ Some x → result ≡ Err (SiteFault.Refused (number_of x)) }
+        ensures plain { (n : ℕ) (r : Asks) (x : Refusal) → event.now ≡ Given.Do n r
+            → refused_plainly (who_at self.old.nodes n) (known_at self.old n) (Do r) ≡ Some x → result ≡ Err (SiteFault.Refused (number_of x)) }
         ensures plays { PlaysAsked K.standing self.old (asked (opening_at self.old.nodes.site) event.now) result self.new }
         ensures text { HasTextIfAsked (K.standing self.old.keeper).wide (rec_asked self.old (asked (opening_at self.old.nodes.site) event.now)) result }
     {
@@ -131,15 +135,19 @@ impl<K: Keeper> Site<K> {
         //   event of the node
         ensures plays { PlaysAsked K.standing self.old (asked (opening_at self.old.nodes.site) event.now) result self.new }
         // Promise 11.5, part 2
-        ensures steps { (mine : ℕ → Bool) (o : Opening) (gs : List Given) → IsAt K.standing mine o gs self.old → mine (node_of event.now) ≡ true → StepsTo K.standing mine o gs self.old event.now result self.new }
+        ensures steps { (mine : ℕ → Bool) (o : Opening) (gs : List Given) → IsAt K.standing mine o gs self.old
+            → mine (node_of event.now) ≡ true → StepsTo K.standing mine o gs self.old event.now result self.new }
         // Promise 11.6: Where the records of its keeper follow each other before an event, and only
         //   branches have voted, so it is after it
-        ensures order { (mine : ℕ → Bool) (o : Opening) (gs : List Given) → IsAt K.standing mine o gs self.old → mine (node_of event.now) ≡ true → IsInOrder (K.standing self.old.keeper) → IsInOrder (K.standing self.new.keeper) }
+        ensures order { (mine : ℕ → Bool) (o : Opening) (gs : List Given) → IsAt K.standing mine o gs self.old
+            → mine (node_of event.now) ≡ true → IsInOrder (K.standing self.old.keeper) → IsInOrder (K.standing self.new.keeper) }
         // Promise 11.8: The record for which a keeper was asked has a text, whatever it answered
-        ensures text { (mine : ℕ → Bool) (o : Opening) (gs : List Given) → IsAt K.standing mine o gs self.old → mine (node_of event.now) ≡ true → HasTextIfAsked (K.standing self.old.keeper).wide (record_after o gs event.now) result }
+        ensures text { (mine : ℕ → Bool) (o : Opening) (gs : List Given) → IsAt K.standing mine o gs self.old
+            → mine (node_of event.now) ≡ true → HasTextIfAsked (K.standing self.old.keeper).wide (record_after o gs event.now) result }
         ensures lasting { (K.standing self.new.keeper).lasting ≡ (K.standing self.old.keeper).lasting }
         // Promise 11.9: A user's request that is refused at once takes no memory
-        ensures plain { (n : ℕ) (r : Asks) (x : Refusal) → event.now ≡ Given.Do n r → self.old.shut ≡ None → refused_plainly (who_at self.old.nodes n) (known_at self.old n) (Do r) ≡ Some x → result ≡ Err (SiteFault.Refused (number_of x)) }
+        ensures plain { (n : ℕ) (r : Asks) (x : Refusal) → event.now ≡ Given.Do n r → self.old.shut ≡ None
+            → refused_plainly (who_at self.old.nodes n) (known_at self.old n) (Do r) ≡ Some x → result ≡ Err (SiteFault.Refused (number_of x)) }
         ensures shut { (faults : ℕ) → self.old.shut ≡ Some faults → result ≡ Err (SiteFault.Shut faults) }
     {
         if let Some(faults) = self.shut {

@@ -36,7 +36,8 @@ fn recover(
     lanes: u16,
 ) -> Result<(), NoMemory>
     requires { lane < lanes }
-    ensures recovered { OnOk result ((rs : List LogRecord) → AreFrom (records_in lane lanes rs) nodes.old → AreFrom (records_in lane lanes (rs ++ rec.now ∷ [])) nodes.new) }
+    ensures recovered { OnOk result
+        ((rs : List LogRecord) → AreFrom (records_in lane lanes rs) nodes.old → AreFrom (records_in lane lanes (rs ++ rec.now ∷ [])) nodes.new) }
     ensures site { IsSameSite nodes.old nodes.new }
 {
     if !is_in_lane(rec, lane, lanes) {
