@@ -28,7 +28,7 @@ FORCES = """what is forced for one transfer, with n subordinates:
   ours    root Commit and End, at each subordinate Ready, Commit and End: 2 + 3n records, each with two syncs; 16 syncs for two.
           A store that is forced adds a Bind and a Keep at each: 8 syncs for two
   theirs  at each server PREPARE TRANSACTION and COMMIT PREPARED, at the coordinator its decision: 2n + 1 syncs; 5 for two.
-          Servers may force the records of several transactions in one sync; our sites force each by itself"""
+          Servers force the records of several transactions in one sync, and so do our sites, where events come together"""
 
 
 class PlainTree(cluster.Tree):
@@ -195,6 +195,7 @@ def main():
     options.transfers = options.transfers or (200 if options.short else 2000)
     rounds = options.rounds or (1 if options.short else 5)
     options.compact, options.heuristic, options.tx, options.record, options.kill_rate, options.slow = False, False, False, None, 0, 5
+    options.unite = None
     if not os.path.isdir("/usr/lib/postgresql"):
         print("beside: not run, PostgreSQL is not installed")
         return

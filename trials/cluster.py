@@ -8,9 +8,10 @@ with a root, nodes between, stores at its leaves, and a witness that leaves each
 every tenth transfer a site is killed by SIGKILL, at any moment, its stores forget what they held in memory, and it is started
 again on its files. A run ends when no node has anything to do. Then the logs and the stores are judged.
 
-Before that users who ask anything, as wild.py says, over dialogues of all units, and a run that is ended by recovery alone (--wild does this
-alone). After it the same with one wrong site: each kill of it takes the last record off its log, as though it had answered before it forced.
-Such a run must end with faults, or the trial shows nothing (--wrong does this alone, --right leaves both out).
+Before that come runs with users who ask anything, as wild.py says, over dialogues of all units, each of which is ended by recovery alone (--wild
+does this alone, with a wrong site where --wrong is given, too). After it the same with one wrong site: each kill of it takes the last record off
+its log, as though it had answered before it forced. Such a run must end with faults, or the trial shows nothing (--wrong does this alone,
+--right leaves both out).
 
 With --compact a log is compacted before every third start, at times by a process that is killed too. With --heuristic ready nodes
 decide by themselves at times, committing ones give branches up, and kept transactions are purged: then a commitment may be complete
@@ -979,9 +980,11 @@ def main():
     status = 0
     if options.wild or not (options.wrong or options.right):
         wilder = argparse.Namespace(**{**vars(options), "wild": True, "compact": True, "heuristic": True, "tx": False, "patience": 200})
-        totals, faults, _ = campaign(wilder, sizes[:2] if options.short else sizes, 100 if options.short else max(150, transfers // 10), False)
-        status |= bool(faults)
-        print("cluster: with users who ask anything %d faults, %s" % (len(faults), tools.counted(totals)), flush=True)
+        wild_sizes = sizes[:2] if options.short else sizes
+        totals, faults, caught = campaign(wilder, wild_sizes, 100 if options.short else max(150, transfers // 10), options.wrong)
+        status |= caught == 0 if options.wrong else bool(faults)
+        print("cluster: with users who ask anything%s %d of %d runs with a fault, %s" % (
+            " and a wrong site" if options.wrong else "", caught, len(wild_sizes), tools.counted(totals)), flush=True)
     if options.wild:
         sys.exit(status)
     if not options.wrong:

@@ -5,9 +5,9 @@ trials/run growth [--program CMD] [--drive CMD] [--draw CMD] [--unite CMD] [--sh
 Each command runs on inputs of one kind in four sizes, each twice as large as the one before: logs, transcripts, schedules, frames, nodes, kept
 transactions, transactions in doubt. Of each run its processor time and its peak of memory are taken, the least of three. The table has, for
 each command and kind, the largest size, what it took, and the exponent: by how many doublings time and memory grow when the size doubles, over
-the last two doublings, without what the smallest input takes. An exponent is left out where less than 50 ms, or 2 MB, were added.
-A row is a fault where an exponent is above 1.3 (--most), since processor time of a busy machine is not exact; but that purges of many kept
-transactions of one node take their square is known. --scale multiplies all sizes but those of nodes and rounds.
+the last two doublings, without what the smallest input takes. An exponent is left out where less than 100 ms, or 2 MB, were added.
+A row is a fault where an exponent is above 1.3 (--most) each time that it is measured, since processor time of a busy machine is not exact; but
+that purges of many kept transactions of one node take their square is known. --scale multiplies all sizes but those of nodes and rounds.
 """
 import argparse
 import math
@@ -44,7 +44,8 @@ int main(int count, char **words) {
 }
 """
 BOOT_1 = b"\x01" + (1).to_bytes(8, "big")
-FEWEST_SECONDS, FEWEST_MB = 0.05, 2.0
+FEWEST_SECONDS, FEWEST_MB = 0.1, 2.0
+MOST_ATTEMPTS = 4  # how often a row is measured that seems to grow too fast
 LEAF = wire.address("b", 7)
 
 
@@ -190,7 +191,7 @@ def cases(transcript: typing.Callable[[int], bytes]) -> typing.Iterator[Case]:
     yield Case(["unite"], "frames", 15000, recording)
     yield Case(["node"], "declared nodes", 32, declared)
     yield Case(["node"], "kept, and a retry of all", 5000, log_of(lambda count: kept(count, True), streams.stream([wire.retry(1)])))
-    yield Case(["node"], "kept, and purged", 5000, lambda count: frames(streams.purges(1, count), kept(count)), known=2.3)
+    yield Case(["node"], "kept, and purged", 2500, lambda count: frames(streams.purges(1, count), kept(count)), known=2.3)
     for how in ("ended", "kept"):
         yield Case(["replay"], "lines of transactions that %s" % ("end" if how == "ended" else "are kept"), 2000, schedule(how))
     yield Case(["replay"], "nodes", 32, wide)
@@ -264,19 +265,23 @@ class Growth:
         sizes = [max(2, case.size // 100)] + [case.size << k for k in range(4)]
         if "nodes" in case.over or "rounds" in case.over:
             sizes = [2 if "nodes" in case.over else 1] + [min(size, 256 if "nodes" in case.over else 30) for size in sizes[1:]]
-        found = []
-        for size in sizes:
-            given = case.make(size)
-            found.append([min(it) for it in zip(*(self.run(case, size, given) for _ in range(self.options.times)))])
-        seconds, megabytes = ([it[k] for it in found] for k in (0, 1))
-        exponents = self.exponent(seconds, FEWEST_SECONDS), self.exponent(megabytes, FEWEST_MB)
+        inputs = [(size, case.make(size)) for size in sizes]
+        runs: typing.List[typing.List[typing.Tuple[float, float]]] = [[] for _ in sizes]
+        most = max(self.options.most, case.known)
+        for attempt in range(MOST_ATTEMPTS):
+            for (size, given), found in zip(inputs, runs):
+                found += [self.run(case, size, given) for _ in range(self.options.times)]
+            seconds, megabytes = ([min(it[k] for it in found) for found in runs] for k in (0, 1))
+            exponents = self.exponent(seconds, FEWEST_SECONDS), self.exponent(megabytes, FEWEST_MB)
+            if all(it is None or it <= most for it in exponents):
+                break
         said = ["" if it is None else "%.2f" % it for it in exponents]
         words = " ".join(case.words).replace("drive", "tpdrive").replace("draw", "tpdraw").replace("unite", "tpunite")
         print("| `%s` | %s | %d | %.2f | %s | %.0f | %s |" % (words.replace(" %d", ""), case.over, sizes[-1], seconds[-1], said[0], megabytes[-1], said[1]),
               flush=True)
         self.rows += 1
         for what, it in zip(("time", "memory"), exponents):
-            if it is not None and it > max(self.options.most, case.known):
+            if it is not None and it > most:
                 self.fault("%s: %s over %s grows by %.2f" % (words, what, case.over, it))
 
 
