@@ -9,4 +9,3 @@ mod watched;
 
 pub use beginning::Beginning;
 pub use log_files::{LOG, SEALS, bar, greet, renew};
-pub use watched::is_watched;

@@ -5,41 +5,29 @@
 //! In a schedule, member 1 is willing, member 2 unwilling, and member 3 the store of node 2 on `bound.log`.
 #![tactic(auto)]
 
-mod auditing;
-mod listing;
-mod logs;
-mod serving;
-#[cfg(test)]
-mod tests;
-mod top;
-mod transacting;
-
-use auditing::audit_logs;
-use std::alloc::{AllocError, Global};
-use std::io::{self, IsTerminal};
+use std::alloc::AllocError;
+use std::io::IsTerminal;
 use std::process::ExitCode;
-pub use top::run;
 use tp_audit::Mismatch;
+use tp_commands::audit_logs;
+pub use tp_commands::run;
 use tp_explain::{Remembering, explain};
-use tp_greeting::{Beginning, is_watched};
-use tp_names::Addr;
-use tp_outside::{
-    About, Cause, FileDisk, HeldStreams, NULL, StdSink, StdSource, say, say_cause, say_end, tell,
-    texts_of, words_given,
-};
+use tp_greeting::{LOG, SEALS, bar, greet, renew};
+use tp_names::{Addr, SiteName};
+use tp_outside::{Cause, FileDisk, HeldStreams, NULL, StdSink, StdSource, say};
+use tp_program::{NoRun, Program};
 pub use tp_replay::Status;
 use tp_replay::{Participant, open_store, participants, status_of};
-use tp_seal::{Barred, Duty, Guard, Refusal, SealFault};
+use tp_seal::{Barred, Duty, Guard};
 use tp_words::{Command, USAGE, WordsFault, complaint, read};
 
-/// The log of a site, in the current folder.
-const LOG: &str = "tp.log";
+const TPNODE: Program = Program {
+    name: "tpnode",
+    usage: USAGE,
+};
 
 /// The log of a bound store, in the current folder.
 const STORE: &str = "bound.log";
-
-/// The seals of the log, where this file is in the current folder.
-const SEALS: &str = "tp.seal";
 
 /// The most bytes of a schedule, which are remembered so that a bad line can be explained.
 const MOST_BYTES: usize = 1048576;
@@ -49,17 +37,7 @@ const STORE_NODE: u16 = 2;
 
 // Ends a run. Why its file or stream failed is said where it is known.
 fn end(rt: &HostRuntime, status: Status, name: &str, cause: Option<Cause>) -> ExitCode {
-    let code = say_end(rt, "tpnode", &status, status.code());
-    say_cause(rt, name, cause);
-    code
-}
-
-// How a run ends that has no words: they are no text, or memory is wanting for them.
-fn wordless(fault: &io::Error) -> Status {
-    match fault.kind() {
-        io::ErrorKind::InvalidData => Status::Usage,
-        _ => Status::NoMemory,
-    }
+    TPNODE.end(rt, &status, status.code(), name, cause)
 }
 
 // What is wrong with the words, and what can be typed.
@@ -106,16 +84,11 @@ fn say_why(rt: &HostRuntime, status: &Status, text: &[u8]) {
     }
 }
 
-// Says what a site starts with, where somebody watches.
-fn greet(rt: &HostRuntime, command: &Option<Command>) {
-    let (Some(Command::Node(name)) | Some(Command::Tx(name))) = command else {
-        return;
-    };
-    if !is_watched(rt, rt.stderr().is_terminal()) {
-        return;
-    }
-    if let Some(beginning) = Beginning::on(rt.alloc(), FileDisk::to_read(rt, LOG)) {
-        say(rt, format_args!("tpnode: site {name}, {beginning}\n"));
+// The site that a command runs.
+fn site_of(command: &Option<Command>) -> Option<SiteName> {
+    match command {
+        Some(Command::Node(name) | Command::Tx(name)) => Some(*name),
+        _ => None,
     }
 }
 
@@ -162,28 +135,6 @@ fn guard_for<'a>(
     match duty_of(command) {
         Some(duty) => Guard::admit(rt, SEALS, duty, log),
         None => Ok(None),
-    }
-}
-
-// Ends a run that was not let at its log.
-fn bar(rt: &HostRuntime, barred: &Barred, log_cause: Option<Cause>) -> ExitCode {
-    let status = match barred.refusal {
-        Refusal::Fault(SealFault::NoMemory) => Status::NoMemory,
-        _ => Status::DiskFault { faults: 1 },
-    };
-    let code = end(rt, status, "", None);
-    barred.say(rt, SEALS, LOG, log_cause);
-    code
-}
-
-// Seals the log after a run.
-fn renew(rt: &HostRuntime, guard: Option<Guard<HostRuntime>>, log: FileDisk<HostRuntime>) {
-    let Some(mut guard) = guard else {
-        return;
-    };
-    let mut log = log;
-    if let Err(barred) = guard.renew(rt.alloc(), &mut log) {
-        barred.say(rt, SEALS, LOG, log.cause());
     }
 }
 
@@ -251,9 +202,11 @@ fn run_words(rt: &HostRuntime, words: &[&str]) -> ExitCode {
     let mut disk = disk_for(rt, &command);
     let guard = match guard_for(rt, &command, &mut disk) {
         Ok(guard) => guard,
-        Err(barred) => return bar(rt, &barred, disk.cause()),
+        Err(barred) => return bar(rt, TPNODE, &barred, disk.cause()),
     };
-    greet(rt, &command);
+    if let Some(name) = site_of(&command) {
+        greet(rt, TPNODE, name, rt.stderr().is_terminal());
+    }
     let kept = remembered_for(&command);
     let mut source = Remembering::new(rt.alloc(), StdSource::new(rt), kept);
     let mut sink = StdSink::new(rt);
@@ -276,24 +229,7 @@ fn main(rt: HostRuntime) -> ExitCode {
     // (to the end: a log that is opened meanwhile has no stream's number)
     let _streams = match HeldStreams::hold(&rt) {
         Ok(streams) => streams,
-        Err(cause) => return end(&rt, Status::DiskFault { faults: 1 }, NULL, Some(cause)),
+        Err(cause) => return TPNODE.no_run(&rt, NoRun::DiskFault, NULL, Some(cause)),
     };
-    let words = match words_given(&rt) {
-        Ok(words) => words,
-        Err(fault) => return end(&rt, wordless(&fault), "", None),
-    };
-    let texts = match texts_of(rt.alloc(), &words) {
-        Ok(texts) => texts,
-        Err(AllocError) => return end(&rt, Status::NoMemory, "", None),
-    };
-    let Some(about) = About::asked(&texts) else {
-        return run_words(&rt, &texts);
-    };
-    match tell(&rt, about, "tpnode", USAGE) {
-        Ok(()) => ExitCode::SUCCESS,
-        Err(cause) => {
-            let status = Status::WriteFault { faults: 1 };
-            end(&rt, status, "standard output", Some(cause))
-        }
-    }
+    TPNODE.start(&rt, |words| run_words(&rt, words))
 }

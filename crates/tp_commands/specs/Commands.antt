@@ -12,11 +12,11 @@ use Rattle.tp_replay.specs.Status.{ok, findings, bad_input, limit, foreign, read
 use Rattle.tp_replay.specs.Transcribing.{ReadsSo, Transcribes}
 use Rattle.tp_replay.specs.Making.{Makes}
 use Rattle.tp_replay.specs.Trying.{Tries}
-use Rattle.tpnode.specs.Logs.{Formats, ShowsLog, ChecksLog, CompactsLog, MigratesLog}
-use Rattle.tpnode.specs.Keys.{ListsKeys}
-use Rattle.tpnode.specs.Sites.{ServesSite}
-use Rattle.tpnode.specs.Faces.{ServesFace}
-use Rattle.tpnode.specs.Auditing.{AuditsLogs}
+use Rattle.tp_commands.specs.Logs.{Formats, ShowsLog, ChecksLog, CompactsLog, MigratesLog}
+use Rattle.tp_commands.specs.Keys.{ListsKeys}
+use Rattle.tp_commands.specs.Sites.{ServesSite}
+use Rattle.tp_commands.specs.Faces.{ServesFace}
+use Rattle.tp_commands.specs.Auditing.{AuditsLogs}
 
 -- ---- how each command may end
 

@@ -2,8 +2,8 @@
 ghost use Rattle.std.specs.Prelude.{◌≡◌, ℕ, List, Some};
 ghost use Rattle.tp_words.specs.declared.command.Command.{Command};
 ghost use Rattle.tp_replay.specs.Status.{Ends};
-ghost use Rattle.tpnode.specs.Commands.{exits};
-ghost use Rattle.tpnode.specs.Auditing.{AuditsLogs, TellsMismatches};
+ghost use Rattle.tp_commands.specs.Commands.{exits};
+ghost use Rattle.tp_commands.specs.Auditing.{AuditsLogs, TellsMismatches};
 
 use std::alloc::Global;
 use tp_audit::Mismatch;

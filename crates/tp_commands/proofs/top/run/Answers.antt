@@ -4,13 +4,13 @@ use Rattle.tp_laws.specs.Whole.{AllPromised}
 use Rattle.tp_model.specs.Transcript.{transcript_with}
 use Rattle.tp_laws.proofs.LineRuns.{transcripts_leave_runs, of_run}
 use Rattle.tp_laws.proofs.Promises.{all_promised}
-use Rattle.tpnode.specs.Commands.{Refused, Asked}
+use Rattle.tp_commands.specs.Commands.{Refused, Asked}
 use Rattle.tp_replay.proofs.SoFar.{tells_none}
 use Rattle.tp_replay.proofs.Ending.{completes}
 use Rattle.tp_replay.proofs.One.{is_one}
-use Rattle.tpnode.proofs.Replayed.{out_of_memory}
-use Rattle.tpnode.proofs.Asking.{never_usage, replays, plain_replay, no_usage}
-use Rattle.tpnode.proofs.top.run.Goals as goal
+use Rattle.tp_commands.proofs.Replayed.{out_of_memory}
+use Rattle.tp_commands.proofs.Asking.{never_usage, replays, plain_replay, no_usage}
+use Rattle.tp_commands.proofs.top.run.Goals as goal
 
 pub returns-in-Ok-clause-usage : goal.returns-in-Ok-clause-usage
 returns-in-Ok-clause-usage g c = λ e.

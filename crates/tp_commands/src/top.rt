@@ -1,4 +1,4 @@
-//! The program's one call. For `audit`, of which more is said than a status, `main` calls what it calls there.
+//! The one call of the program `tpnode`. For `audit`, of which more is said than a status, `main` calls what it calls there.
 ghost use Rattle.std.specs.Prelude.{◌≡◌, ◌⊎◌, ℕ, List, Option, Some, [], false, map, length};
 ghost use Rattle.tp_records.specs.declared.request.Request.{Request};
 ghost use Rattle.tp_outside.specs.Faults.{HasRisen};
@@ -9,8 +9,8 @@ ghost use Rattle.tp_words.specs.CommandLine.{said};
 ghost use Rattle.tp_replay.specs.Certain.{AreCertain, IsOne};
 ghost use Rattle.tp_replay.specs.Status.{IsEnding};
 ghost use Rattle.tp_replay.specs.Transcribing.{may_of, IsComplete, ReadsSo, Transcribes};
-ghost use Rattle.tpnode.specs.Commands.{Runs, Answers};
-ghost use Rattle.tpnode.specs.Words.{replay_words};
+ghost use Rattle.tp_commands.specs.Commands.{Runs, Answers};
+ghost use Rattle.tp_commands.specs.Words.{replay_words};
 
 use crate::auditing::audit_logs;
 use crate::listing::list_keys;
@@ -51,23 +51,23 @@ pub fn run<S: Source, K: Sink, D: Disk, M: Member>(
     // Promise 18.17: A fault comes only where that object's count rose in the call, with the count;
     //   a line's number is above 0, and a limit before the first line is the log's or the boots'
     ensures ending { IsEnding (S.fault_count source.old) (S.fault_count source.new) (K.fault_count sink.old) (K.fault_count sink.new) (D.fault_count disk) (D.fault_count result.1) result.0 }
-    // Promise 18.2 [tpnode/specs/Commands.antt]: A command gives its own statuses alone, and leaves
+    // Promise 18.2 [tp_commands/specs/Commands.antt]: A command gives its own statuses alone, and leaves
     //   of source, sink and disk each as it was for which it has no fault status
     // Promise 18.9 [tp_replay/specs/Making.antt]: `make` writes the schedule of its plan, or a
     //   prefix of it where the sink fails
     // Promise 18.10 [tp_replay/specs/Trying.antt]: `trial` writes the summary of the replay of that
     //   schedule, or how that replay ends
-    // Promise 18.11 [tpnode/specs/Logs.antt]: `show` and `check` write and leave what chapter 4
+    // Promise 18.11 [tp_commands/specs/Logs.antt]: `show` and `check` write and leave what chapter 4
     //   says, `compact` and `migrate` leave it, and an image at any moment is as said there
-    // Promise 18.12 [tpnode/specs/Sites.antt]: `node` does on the log what the loop of a site over
+    // Promise 18.12 [tp_commands/specs/Sites.antt]: `node` does on the log what the loop of a site over
     //   frames does
-    // Promise 18.13 [tpnode/specs/Faces.antt]: `tx` does on the log what the loop of a face over
+    // Promise 18.13 [tp_commands/specs/Faces.antt]: `tx` does on the log what the loop of a face over
     //   frames does
-    // Promise 18.14 [tpnode/specs/Keys.antt]: `keys` writes a line for each key of the store;
+    // Promise 18.14 [tp_commands/specs/Keys.antt]: `keys` writes a line for each key of the store;
     //   nothing where there is no store or the disk fails, and a prefix where the sink fails
-    // Promise 18.15 [tpnode/specs/Auditing.antt]: `audit` writes the verdict and the fates of the
+    // Promise 18.15 [tp_commands/specs/Auditing.antt]: `audit` writes the verdict and the fates of the
     //   logs of its frames, or ends with what stops it
-    // Promise 18.16 [tpnode/specs/Commands.antt]: After Ok of `format` a disk holds a log of
+    // Promise 18.16 [tp_commands/specs/Commands.antt]: After Ok of `format` a disk holds a log of
     //   version 2 with no records, and nothing else
     ensures answers { Answers (may_of M.allowed members.items) (length members.items) (said (map (λ w. w.now) words.now)) (record { status = result.0; left = S.left source.old; unread = S.left source.new; written = K.written sink.old; output = K.written sink.new; told = D.told disk; story = D.told result.1 }) (source.new ≡ source.old) (sink.new ≡ sink.old) (result.1 ≡ disk) }
     // Promise 18.6: A run of `replay` that ends with Ok has read its source to the end; one that

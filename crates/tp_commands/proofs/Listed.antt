@@ -6,7 +6,7 @@ use Rattle.tp_bound.specs.Bounds.{Standing, Opens}
 use Rattle.tp_keys.specs.Printing.{Prints, PrintsSome, RefusesKeys}
 use Rattle.tp_replay.specs.declared.status.Status.{Status}
 use Rattle.tp_replay.specs.Status.{status_of}
-use Rattle.tpnode.specs.Keys.{OpensStore, ListsPart, StopsKeys, ListsKeys}
+use Rattle.tp_commands.specs.Keys.{OpensStore, ListsPart, StopsKeys, ListsKeys}
 
 module _ (D : Type 0) (told story : Option Story) (written output : Option (List ℕ)) where
   abbrev opens_store : (b : Standing D) → Opens told story 0 b → OpensStore told story

@@ -7,8 +7,8 @@ use Rattle.tp_audit.specs.declared.mismatch.Mismatch.{Mismatch}
 use Rattle.tp_audit_tool.specs.Audited.{NamesMismatches, IsAuditStop}
 use Rattle.tp_replay.specs.Status.{Ends, ended_with}
 use Rattle.tp_replay.proofs.Limits.{limit_at}
-use Rattle.tpnode.specs.Commands.{exits}
-use Rattle.tpnode.specs.Auditing.{TellsMismatches}
+use Rattle.tp_commands.specs.Commands.{exits}
+use Rattle.tp_commands.specs.Auditing.{TellsMismatches}
 
 -- the ending, by the counts of the source and of the sink
 pub judged : (read_old read_new write_old write_new disk_old disk_new : ℕ) (answer : Result ℕ Stop) → IfErr answer (IsAuditStop read_old read_new write_old write_new)

@@ -2,8 +2,8 @@
 ghost use Rattle.std.specs.Prelude.{ℕ};
 ghost use Rattle.tp_words.specs.declared.command.Command.{Command};
 ghost use Rattle.tp_replay.specs.Status.{Ends};
-ghost use Rattle.tpnode.specs.Commands.{exits};
-ghost use Rattle.tpnode.specs.Keys.{ListsKeys};
+ghost use Rattle.tp_commands.specs.Commands.{exits};
+ghost use Rattle.tp_commands.specs.Keys.{ListsKeys};
 
 use std::alloc::Global;
 use tp_keys::keys;

@@ -1,10 +1,14 @@
-//! What no clause says: whole runs, with expected bytes from outside, and the texts of endings.
-use super::*;
+//! Whole runs of commands, with expected bytes from outside, and the texts of endings.
 use std::alloc::Global;
+use tp_commands::run;
 use tp_journal::StartFault;
 use tp_model::{What, Why};
 use tp_names::Octets;
 use tp_outside::{MemDisk, MemSink, MemSource};
+use tp_replay::{Status, open_store, participants};
+
+/// The node of the store that is member 3.
+const STORE_NODE: u16 = 2;
 
 const SCHEDULE: &str =
     "node 1 a\nnode 2 b under 1\ndo 1 begin-dialogue 2 scu\ndrain\n# the answer\n\ndo 2 accept scu\npass 2 1\npass 2 1\n";

@@ -9,7 +9,7 @@ use Rattle.tp_words.specs.declared.command.Command.{Command}
 use Rattle.tp_words.specs.declared.fault.WordsFault.{WordsFault}
 use Rattle.tp_replay.specs.declared.status.Status.{Status}
 use Rattle.tp_replay.specs.Status.{usage, code_of, has}
-use Rattle.tpnode.specs.Commands.{exits, Ran, Runs}
+use Rattle.tp_commands.specs.Commands.{exits, Ran, Runs}
 
 -- no run of a command ends with usage
 no_exit : (c : Command) → has usage (exits c) ≡ false

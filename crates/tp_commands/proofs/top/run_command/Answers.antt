@@ -1,8 +1,8 @@
 use Rattle.std.proofs.Common.{refl}
 use Rattle.tp_words.specs.declared.command.Command.{Command}
-use Rattle.tpnode.proofs.Dispatched.{runs_as}
-use Rattle.tpnode.proofs.Replayed.{replay_ends, replay_limits, trial_ends}
-use Rattle.tpnode.proofs.top.run_command.Goals as goal
+use Rattle.tp_commands.proofs.Dispatched.{runs_as}
+use Rattle.tp_commands.proofs.Replayed.{replay_ends, replay_limits, trial_ends}
+use Rattle.tp_commands.proofs.top.run_command.Goals as goal
 
 pub returns-in-Replay-clause-ending : goal.returns-in-Replay-clause-ending
 returns-in-Replay-clause-ending g c = (replay_ends _ _ _ _ _ _ c.replay-answer.result _ c.of_replay.ensures c.replay-answer.ensures.stop).cause

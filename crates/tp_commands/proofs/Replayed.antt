@@ -11,7 +11,7 @@ use Rattle.tp_replay.specs.declared.stop.TrialStop.{TrialStop}
 use Rattle.tp_replay.specs.Stops.{IsReplayStop, IsTrialStop}
 use Rattle.tp_replay.specs.Status.{Ends, replay_status, trial_status}
 use Rattle.tp_replay.proofs.Limits.{limit_at}
-use Rattle.tpnode.specs.Commands.{exits, EndsInLine}
+use Rattle.tp_commands.specs.Commands.{exits, EndsInLine}
 
 abbrev pub out_of_memory : Result (Unit {0}) ReplayStop
 out_of_memory = Err (ReplayStop.Input (InputStop.Line LineStop.NoMemory))
